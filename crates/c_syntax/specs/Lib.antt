@@ -1,0 +1,5 @@
+pub mod Ctypes
+pub mod Expressions
+pub mod Annotations
+pub mod Statements
+pub mod Programs

@@ -1,0 +1,86 @@
+-- The plain form of declarations and statements (C99 6.7, 6.8): without boxes and vectors.
+use Rattle.std.specs.Prelude.{ℕ, Bool, List, [], ◌∷◌, map, Option, option_map}
+use Rattle.c_syntax.specs.declared.place.Place.{Place}
+use Rattle.c_syntax.specs.declared.statement.Decl.{Decl}
+use Rattle.c_syntax.specs.declared.statement.Init.{Init}
+use Rattle.c_syntax.specs.declared.statement.Init.TheVariants as init
+use Rattle.c_syntax.specs.declared.statement.Item.{Item}
+use Rattle.c_syntax.specs.declared.statement.Item as item
+use Rattle.c_syntax.specs.declared.statement.Stmt.{Stmt}
+use Rattle.c_syntax.specs.declared.statement.StmtKind.{StmtKind, Held-StmtKind-If-2, None', Some', Row_of-Item, end_of-Item, more_of-Item}
+use Rattle.c_syntax.specs.declared.statement.StmtKind as code
+use Rattle.c_syntax.specs.Ctypes.{PlainType, plain_type}
+use Rattle.c_syntax.specs.Expressions.{Expression, plain_expr}
+use Rattle.c_syntax.specs.Annotations.{Annotation, plain_annot}
+
+pub data Initialiser : Type 0 where
+  One : Expression → Initialiser
+
+pub record Declaration : Type 0 where
+  pub place : Place
+  pub name : ℕ
+  pub named : Bool
+  pub ctype : PlainType
+  -- the place of its `=`, and what stands behind it
+  pub init : Option (Place × Initialiser)
+
+mutual
+  pub data Statement : Type 0 where
+    Eval : Place → Expression → Statement
+    Block : Place → BlockItems → Statement
+    If : Place → Expression → Statement → ElsePart → Statement
+    While : Place → List Annotation → Expression → Statement → Statement
+    Return : Place → Option Expression → Statement
+
+  pub data ElsePart : Type 0 where
+    NoElse : ElsePart
+    Else : Statement → ElsePart
+
+  pub data BlockItem : Type 0 where
+    Declare : List Declaration → BlockItem
+    Run : Statement → BlockItem
+    Asserts : List Annotation → BlockItem
+
+  pub data BlockItems : Type 0 where
+    NoItem : BlockItems
+    Then : BlockItem → BlockItems → BlockItems
+
+abbrev pub plain_init : Init → Initialiser
+plain_init (init.One e) = One (plain_expr e)
+
+abbrev pub plain_decl : Decl → Declaration
+plain_decl d = record {
+  place = d.place;
+  name = d.name;
+  named = d.named;
+  ctype = plain_type d.ctype;
+  init = option_map (λ i. (i.0, plain_init i.1)) d.init;
+}
+
+abbrev mutual
+  pub plain_stmt_kind : Place → StmtKind → Statement
+  plain_stmt_kind at (code.Eval e) = Eval at (plain_expr e)
+  plain_stmt_kind at (code.Block' shape row) = Block at (plain_item_row row)
+  plain_stmt_kind at (code.If' e p pa a b) = If at (plain_expr e) (plain_stmt_kind pa a) (plain_else b)
+  plain_stmt_kind at (code.While' annots e p pa a) = While at (map plain_annot annots.items) (plain_expr e) (plain_stmt_kind pa a)
+  plain_stmt_kind at (code.Return e) = Return at (option_map plain_expr e)
+
+  pub plain_else : Held-StmtKind-If-2 → ElsePart
+  plain_else None' = NoElse
+  plain_else (Some' p pa a) = Else (plain_stmt_kind pa a)
+
+  pub plain_item : Item → BlockItem
+  plain_item (item.Declare decls) = Declare (map plain_decl decls.items)
+  plain_item (item.Run' at s) = Run (plain_stmt_kind at s)
+  plain_item (item.Asserts annots) = Asserts (map plain_annot annots.items)
+
+  pub plain_item_row : {m : _} → Row_of-Item m → BlockItems
+  plain_item_row end_of-Item = NoItem
+  plain_item_row (more_of-Item i rest) = Then (plain_item i) (plain_item_row rest)
+
+abbrev pub plain_stmt : Stmt → Statement
+plain_stmt s = plain_stmt_kind s.place s.kind
+
+abbrev pub plain_items : List Item → BlockItems
+plain_items [] = NoItem
+plain_items (i ∷ is) = Then (plain_item i) (plain_items is)

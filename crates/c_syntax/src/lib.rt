@@ -1,0 +1,22 @@
+//! The syntax of annotated C (ISO/IEC 9899:1999 6.4 to 6.9, and ACSL): places, types and trees.
+//!
+//! A tree of a text has the text's places. Parts that a later phase fills in are said at their field.
+#![tactic(auto)]
+
+pub mod annotation;
+pub mod expression;
+pub mod name;
+pub mod place;
+pub mod program;
+pub mod refusal;
+pub mod statement;
+pub mod types;
+
+pub use annotation::{Annot, Body, Kind, Link, Pred, PredKind, Range, Relation, Term, TermKind};
+pub use expression::{BinOp, Expr, ExprKind, Use};
+pub use name::Name;
+pub use place::Place;
+pub use program::{Behavior, Contract, EnumDef, Enumerator, Func, Layout, Member, Program};
+pub use refusal::{FrontFault, Refusal};
+pub use statement::{Decl, Init, Item, Stmt, StmtKind};
+pub use types::{BlockKind, CInt, CType, How, Segment};

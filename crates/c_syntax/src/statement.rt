@@ -1,0 +1,54 @@
+//! Declarations and statements (C99 6.7, 6.8).
+
+use crate::annotation::Annot;
+use crate::expression::Expr;
+use crate::place::Place;
+use crate::types::CType;
+
+/// An initialiser (C99 6.7.8).
+#[derive(Drop)]
+pub enum Init {
+    One(Expr),
+}
+
+/// The declaration of one object. Its number is the offset of its place.
+#[derive(Drop)]
+pub struct Decl {
+    /// The place of its name, or of its first token where it has no name.
+    pub place: Place,
+    pub name: u32,
+    /// Whether it has a name.
+    pub named: bool,
+    pub ctype: CType,
+    /// The place of its `=`, and what stands behind it.
+    pub init: Option<(Place, Init)>,
+}
+
+/// An item of a block.
+#[derive(Drop)]
+#[cycle(stmt)]
+pub enum Item {
+    Declare(Vec<Decl>),
+    Run(Stmt),
+    Asserts(Vec<Annot>),
+}
+
+/// A statement, at its first token.
+#[derive(Drop)]
+#[cycle(stmt)]
+pub struct Stmt {
+    pub place: Place,
+    pub kind: StmtKind,
+}
+
+#[derive(Drop)]
+#[cycle(stmt)]
+pub enum StmtKind {
+    /// `e;`
+    Eval(Expr),
+    Block(Vec<Item>),
+    If(Expr, Box<Stmt>, Option<Box<Stmt>>),
+    /// A loop with its annotations, its condition and its body.
+    While(Vec<Annot>, Expr, Box<Stmt>),
+    Return(Option<Expr>),
+}
