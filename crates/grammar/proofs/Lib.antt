@@ -2,3 +2,4 @@ pub mod Sets
 pub mod Parts
 pub mod Bounds
 pub mod Productions
+pub mod Theorem
