@@ -1,0 +1,5 @@
+pub mod Sets
+pub mod Parts
+pub mod Bounds
+pub mod Productions
+pub mod Theorem

@@ -1,0 +1,449 @@
+-- The parts of a grammar are read exactly.
+use Rattle.std.proofs.Common.{◌≡◌, ℕ, zero, suc, Bool, true, false, cond, eqb, List, [], ◌∷◌, ◌++◌, length, Result, Ok, Err, Option, Some, None, refl, sym, ◌∙◌, ap, subst, ◌⊎◌, inl, inr, append_assoc, ◌≤◌, ◌<◌, arith, length-append}
+use Rattle.grammar.specs.Syntax.{Syntax, among, sees, none, gives, one, one_at, ◌then◌, choice, ◌>>=◌, Fault, At, Over}
+use Rattle.grammar.specs.Exact.{SameHead, Takes, Fails, Overs, Late, RunsOut, IsExact}
+use Rattle.grammar.proofs.Sets.{within, apart, not_both, within_among, apart_among, sees_within, sees_same, same_head}
+
+pub bind_ok : {A B : Type 0} (r : Result A Fault) (f : A → Result B Fault) (y : B) → (r >>= f) ≡ Ok y → (x : A) × (r ≡ Ok x) × (f x ≡ Ok y)
+bind_ok (Ok x) f y e = (x, refl, e)
+bind_ok (Err d) f y e = absurd cc
+
+pub bind_err : {A B : Type 0} (r : Result A Fault) (f : A → Result B Fault) (n : Fault) → (r >>= f) ≡ Err n → (r ≡ Err n) ⊎ ((x : A) × (r ≡ Ok x) × (f x ≡ Err n))
+bind_err (Ok x) f n e = inr (x, refl, e)
+bind_err (Err d) f n e = inl cc
+
+abbrev done : {A : Type 0} → A → Result A Fault
+done x = Ok x
+
+pub ok_is : {A : Type 0} (x y : A) → done x ≡ done y → x ≡ y
+ok_is x y e = cc
+
+pub chosen : {A : Type 0} (b : Bool) (x y z : A) → cond b x y ≡ z → ((b ≡ true) × (x ≡ z)) ⊎ ((b ≡ false) × (y ≡ z))
+chosen true x y z e = inl (refl, e)
+chosen false x y z e = inr (refl, e)
+
+
+pub nil_front : {T : Type 0} (a b : List T) → a ++ b ≡ [] → a ≡ []
+nil_front [] b e = refl
+nil_front (t ∷ a) b e = absurd cc
+
+-- of two ways to part the same text, the one parts it no later than the other
+pub front_parts : {T : Type 0} (a b c d : List T) → a ++ b ≡ c ++ d → ((e : List T) × (c ≡ a ++ e)) ⊎ ((e : List T) × (a ≡ c ++ e) × (d ≡ e ++ b))
+front_parts [] b c d e = inl (c, refl)
+front_parts (t ∷ a) b [] d e = inr (t ∷ a, refl, sym e)
+front_parts (t ∷ a) b (u ∷ c) d e =
+    let same : t ≡ u = cc in
+    let rest : a ++ b ≡ c ++ d = cc in
+    behind (front_parts a b c d rest) same
+  where
+    behind : ((e : List _) × (c ≡ a ++ e)) ⊎ ((e : List _) × (a ≡ c ++ e) × (d ≡ e ++ b)) → t ≡ u → ((e : List _) × (u ∷ c ≡ t ∷ a ++ e)) ⊎ ((e : List _) × (t ∷ a ≡ u ∷ c ++ e) × (d ≡ e ++ b))
+    behind (inl p) same = inl (p.0, rw (same, p.1) refl)
+    behind (inr p) same = inr (p.0, rw (same, p.1) refl, p.2)
+
+-- What a sequence asks of its parts, whose values are in R where the second part is empty.
+pub record ThenFits (A B : Type 0) (R : A → B → Type 0) (n1 : Bool) (f1 : List ℕ) (m1 : A → List ℕ) (n2 : Bool) (f2 : A → List ℕ) (m2 : A → B → List ℕ) (null : Bool) (first : List ℕ) (more : B → List ℕ) : Type 0 where
+  pub clash : (x : A) → apart (f2 x) (m1 x) ≡ true
+  pub late : (x : A) (y : B) → within (m2 x y) (more y) ≡ true
+  pub over : (x : A) (y : B) → n2 ≡ true → R x y → within (m1 x) (more y) ≡ true
+  pub begin : within f1 first ≡ true
+  pub next : (x : A) → n1 ≡ true → within (f2 x) first ≡ true
+  pub empty : n1 ≡ true → n2 ≡ true → null ≡ true
+
+-- What alternatives ask of their parts; the values of an empty second one are in R.
+pub record ChoiceFits (A : Type 0) (R : A → Type 0) (ks : List ℕ) (n1 : Bool) (f1 : List ℕ) (m1 : A → List ℕ) (n2 : Bool) (f2 : List ℕ) (m2 : A → List ℕ) (null : Bool) (first : List ℕ) (more : A → List ℕ) : Type 0 where
+  pub solid : n1 ≡ false
+  pub taken : within f1 ks ≡ true
+  pub clash : apart f2 ks ≡ true
+  pub over1 : (x : A) → within (m1 x) (more x) ≡ true
+  pub over2 : (x : A) → within (m2 x) (more x) ≡ true
+  pub greedy : (x : A) → n2 ≡ true → R x → within ks (more x) ≡ true
+  pub begin1 : within f1 first ≡ true
+  pub begin2 : within f2 first ≡ true
+  pub empty : n2 ≡ true → null ≡ true
+
+module _ {T : Type 0} (K : T → ℕ) where
+  pub none_exact : {A : Type 0} → IsExact K (none {A = A}) false [] (λ x. [])
+  none_exact = record {
+    takes = λ ts x rest e. absurd cc;
+    fails = λ ts n e. record { front = []; rest = ts; parts = refl; left = cc; is = refl; local = λ u h. refl };
+    overs = λ ts n e. absurd cc;
+    again = λ a x b h s. absurd h;
+    lates = λ a t u h. absurd h;
+    late_begins = λ a t h. absurd h;
+    runs = λ a h. rw h refl;
+    begins = λ a x h. absurd h;
+    fronts = nil_front;
+    empty = refl;
+    starts = λ t ts h. absurd cc;
+    filled = λ x h. absurd h;
+  }
+
+  pub gives_exact : {A : Type 0} (x : A) → IsExact K (gives x) true [] (λ y. [])
+  gives_exact {A} x = record {
+    takes = λ ts y rest e.
+      let p = ok_is (x, ts) (y, rest) e in
+      let xy : x ≡ y = ap (λ (q : A × List T). q.0) p in
+      let tr : ts ≡ rest = ap (λ (q : A × List T). q.1) p in
+      record { front = []; parts = tr; is = (refl, xy); local = λ u h. rw xy refl };
+    fails = λ ts n e. absurd cc;
+    overs = λ ts n e. absurd cc;
+    again = λ a y b h s. inl (rw (h.0, h.1) refl);
+    lates = λ a t u h. absurd h;
+    late_begins = λ a t h. absurd h;
+    runs = λ a h. h;
+    begins = λ a y h. h.0;
+    fronts = nil_front;
+    empty = refl;
+    starts = λ t ts h. absurd cc;
+    filled = λ y h. refl;
+  }
+
+  -- ---- one token
+
+  some_is : {A : Type 0} (f : T → Option A) (t : T) (x : A) (ts : List T) → f t ≡ Some x → one_at f (t ∷ ts) ≡ Ok (x, ts)
+  some_is f t x ts e = rw (e, one_at) refl
+
+  none_is : {A : Type 0} (f : T → Option A) (t : T) (ts : List T) → f t ≡ None → one_at f (t ∷ ts) ≡ Err (At (suc (length ts)))
+  none_is f t ts e = rw (e, one_at) refl
+
+  one_takes : {A : Type 0} (f : T → Option A) (t : T) (o : Option A) (ts : List T) (x : A) (rest : List T) → f t ≡ o → one_at f (t ∷ ts) ≡ Ok (x, rest) → (ts ≡ rest) × (f t ≡ Some x)
+  one_takes {A} f t (Some y) ts x rest fo e =
+      let p = ok_is (y, ts) (x, rest) (sym (some_is f t y ts fo) ∙ e) in
+      (ap (λ (q : A × List T). q.1) p, fo ∙ ap (λ (q : A × List T). Some q.0) p)
+  one_takes f t None ts x rest fo e = absurd (let n : one_at f (t ∷ ts) ≡ Err (At (suc (length ts))) = rw (fo, one_at) refl in cc)
+
+  one_fails : {A : Type 0} (f : T → Option A) (t : T) (o : Option A) (ts : List T) (n : ℕ) → f t ≡ o → one_at f (t ∷ ts) ≡ Err (At n) → (n ≡ suc (length ts)) × (f t ≡ None)
+  one_fails {A} f t (Some y) ts n fo e = absurd (let n : one_at f (t ∷ ts) ≡ Ok (y, ts) = rw (fo, one_at) refl in cc)
+  one_fails f t None ts n fo e = (let n : one_at f (t ∷ ts) ≡ Err (At (suc (length ts))) = rw (fo, one_at) refl in cc, fo)
+
+  one_ok : {A : Type 0} (f : T → Option A) (ts : List T) (x : A) (rest : List T) → one_at f ts ≡ Ok (x, rest) → Takes (one_at f) (one f).reads ts x rest
+  one_ok f [] x rest e = absurd cc
+  one_ok f (t ∷ ts) x rest e =
+      let p = one_takes f t (f t) ts x rest refl e in
+      record { front = t ∷ []; parts = ap (λ (w : List T). t ∷ w) p.0; is = (t, refl, p.1); local = λ u h. some_is f t x u p.1 }
+
+  one_err : {A : Type 0} (f : T → Option A) (ts : List T) (n : ℕ) → one_at f ts ≡ Err (At n) → Fails (one_at f) (one f).begun ts n
+  one_err f [] n e = record { front = []; rest = []; parts = refl; left = cc; is = inl refl; local = elim [ [] ↦ λ h. refl | (u ∷ us) ↦ λ h. absurd h ] }
+  one_err {A} f (t ∷ ts) n e =
+      let p = one_fails f t (f t) ts n refl e in
+      let l : (u : List T) → SameHead (t ∷ ts) u → one_at f u ≡ Err (At (length u)) = elim [ [] ↦ λ h. absurd h | (v ∷ vs) ↦ λ h. rw (← h) (none_is f t vs p.1) ] in
+      record { front = []; rest = t ∷ ts; parts = refl; left = p.0; is = inl refl; local = l }
+
+  over_takes : {A : Type 0} (f : T → Option A) (t : T) (o : Option A) (ts : List T) (n : ℕ) → f t ≡ o → one_at f (t ∷ ts) ≡ Err (Over n) → ⊥
+  over_takes {A} f t (Some y) ts n fo e = let k : one_at f (t ∷ ts) ≡ Ok (y, ts) = rw (fo, one_at) refl in cc
+  over_takes f t None ts n fo e = let k : one_at f (t ∷ ts) ≡ Err (At (suc (length ts))) = rw (fo, one_at) refl in cc
+
+  one_over : {A : Type 0} (f : T → Option A) (ts : List T) (n : ℕ) → one_at f ts ≡ Err (Over n) → Overs (one_at f) (one f).late ts n
+  one_over f [] n e = absurd cc
+  one_over f (t ∷ ts) n e = absurd (over_takes f t (f t) ts n refl e)
+
+  one_starts : {A : Type 0} (f : T → Option A) (ks : List ℕ) → ((t : T) (x : A) → f t ≡ Some x → among (K t) ks ≡ true) → (t : T) (ts : List T) → (one f).begun (t ∷ ts) → among (K t) ks ≡ true
+  one_starts f ks h t ts (inl e) = absurd cc
+  one_starts f ks h t ts (inr w) = let e : t ≡ w.0 = cc in rw e (h w.0 w.1 w.3)
+
+  one_runs : {A : Type 0} (f : T → Option A) (a : List T) → (one f).begun a → RunsOut (one_at f a)
+  one_runs f a (inl e) = rw e refl
+  one_runs f a (inr w) = rw (w.2, some_is f w.0 w.1 [] w.3) refl
+
+  one_fronts : {A : Type 0} (f : T → Option A) (a b : List T) → (one f).begun (a ++ b) → (one f).begun a
+  one_fronts f [] b h = inl refl
+  one_fronts f (t ∷ a) b (inl e) = absurd cc
+  one_fronts f (t ∷ a) b (inr w) = let e = w.2 in let z : a ≡ [] = nil_front a b cc in let same : t ≡ w.0 = cc in inr (w.0, w.1, rw (same, z) refl, w.3)
+
+  pub one_exact : {A : Type 0} (f : T → Option A) (ks : List ℕ) → ((t : T) (x : A) → f t ≡ Some x → among (K t) ks ≡ true) → IsExact K (one f) false ks (λ x. [])
+  one_exact f ks h = record {
+    takes = one_ok f;
+    fails = one_err f;
+    overs = one_over f;
+    again = λ a x b r s. inl (rw (r.1, r.2) refl);
+    lates = λ a t u h. absurd h;
+    late_begins = λ a t h. absurd h;
+    runs = one_runs f;
+    begins = λ a x r. inr (r.0, x, r.1, r.2);
+    fronts = one_fronts f;
+    empty = inl refl;
+    starts = one_starts f ks h;
+    filled = λ x r. absurd (let e = r.1 in cc);
+  }
+
+  -- ---- a sequence
+
+  clear : (c b : List T) (m : List ℕ) → (c ≡ [] → sees K m b ≡ false) → ((t : T) (ts : List T) → c ≡ t ∷ ts → among (K t) m ≡ false) → sees K m (c ++ b) ≡ false
+  clear [] b m h k = h refl
+  clear (t ∷ ts) b m h k = k t ts refl
+
+  runs_then : {A B : Type 0} (r : Result (A × List T) Fault) (f : A × List T → Result (B × List T) Fault) → RunsOut r → ((x : A) → RunsOut (f (x, []))) → RunsOut (r >>= f)
+  runs_then {A} {B} (Ok x) f h k = let e : f (x.0, []) ≡ f x = ap (λ (w : List T). f (x.0, w)) (sym h) in subst (λ (q : Result (B × List T) Fault). RunsOut q) e (k x.0)
+  runs_then (Err (At n)) f h k = h
+  runs_then (Err (Over n)) f h k = tt
+
+  module _ {A B : Type 0} (G : Syntax T A) (H : A → Syntax T B) (n1 : Bool) (f1 : List ℕ) (m1 : A → List ℕ) (n2 : Bool) (f2 : A → List ℕ) (m2 : A → B → List ℕ) (null : Bool) (first : List ℕ) (more : B → List ℕ) (g : IsExact K G n1 f1 m1) (h : (x : A) → IsExact K (H x) n2 (f2 x) (m2 x)) (R : A → B → Type 0) (ends : (x : A) (y : B) → (H x).reads [] y → R x y) (fit : ThenFits A B R n1 f1 m1 n2 f2 m2 null first more) where
+    then_takes : (ts : List T) (y : B) (rest : List T) → (G then H).parse ts ≡ Ok (y, rest) → Takes (G then H).parse (G then H).reads ts y rest
+    then_takes ts y rest e =
+        let b = bind_ok (G.parse ts) (λ x. (H x.0).parse x.1) (y, rest) e in
+        let x = b.0 in
+        let t1 = g.takes ts x.0 x.1 b.1 in
+        let t2 = (h x.0).takes x.1 y rest b.2 in
+        record {
+          front = t1.front ++ t2.front;
+          parts = t1.parts ∙ ap (λ (w : List T). t1.front ++ w) t2.parts ∙ sym (append_assoc t1.front t2.front rest);
+          is = (t1.front, t2.front, x.0, refl, t1.is, t2.is);
+          local = λ u s.
+            let same : SameHead x.1 (t2.front ++ u) = subst (λ (w : List T). SameHead w (t2.front ++ u)) (sym t2.parts) (same_head t2.front rest u s) in
+            let l1 = t1.local (t2.front ++ u) same in
+            rw (append_assoc t1.front t2.front u, l1) (t2.local u s);
+        }
+
+    then_fails : (ts : List T) (n : ℕ) → (G then H).parse ts ≡ Err (At n) → Fails (G then H).parse (G then H).begun ts n
+    then_fails ts n e =
+        elim (bind_err (G.parse ts) (λ x. (H x.0).parse x.1) (At n) e) [
+          | inl e1 ↦
+            let f = g.fails ts n e1 in
+            record { front = f.front; rest = f.rest; parts = f.parts; left = f.left; is = inl f.is; local = λ u s. rw (f.local u s) refl }
+          | inr b ↦
+            let x = b.0 in
+            let t1 = g.takes ts x.0 x.1 b.1 in
+            let f = (h x.0).fails x.1 n b.2 in
+            record {
+              front = t1.front ++ f.front;
+              rest = f.rest;
+              parts = t1.parts ∙ ap (λ (w : List T). t1.front ++ w) f.parts ∙ sym (append_assoc t1.front f.front f.rest);
+              left = f.left;
+              is = inr (t1.front, f.front, x.0, refl, t1.is, f.is);
+              local = λ u s.
+                let same : SameHead x.1 (f.front ++ u) = subst (λ (w : List T). SameHead w (f.front ++ u)) (sym f.parts) (same_head f.front f.rest u s) in
+                let l1 = t1.local (f.front ++ u) same in
+                rw (append_assoc t1.front f.front u, l1) (f.local u s);
+            }
+        ]
+
+    begins_apart : (x : A) (t : T) (ts : List T) → (H x).begun (t ∷ ts) → among (K t) (m1 x) ≡ false
+    begins_apart x t ts b = not_both (among (K t) (m1 x)) (λ e. apart_among (f2 x) (m1 x) (K t) (fit.clash x) ((h x).starts t ts b) e)
+
+    null_stops : (x : A) (y : B) (c b : List T) → (H x).reads c y → sees K (more y) b ≡ false → c ≡ [] → sees K (m1 x) b ≡ false
+    null_stops x y c b r s e = let r0 = subst (λ (w : List T). (H x).reads w y) e r in sees_within K (m1 x) (more y) b (fit.over x y ((h x).filled y r0) (ends x y r0)) s
+
+    again_ok : (a : List T) (y : B) (b a1 a2 : List T) (x : A) → a ≡ a1 ++ a2 → (H x).reads a2 y → sees K (m2 x y) b ≡ false → (G.parse (a1 ++ (a2 ++ b)) ≡ Ok (x, a2 ++ b)) ⊎ Late (G.parse (a1 ++ (a2 ++ b))) (suc (length (a2 ++ b))) → ((G then H).parse (a ++ b) ≡ Ok (y, b)) ⊎ Late ((G then H).parse (a ++ b)) (suc (length b))
+    again_ok a y b a1 a2 x e r s (inl l1) = rw (e, append_assoc a1 a2 b, l1) ((h x).again a2 y b r s)
+    again_ok a y b a1 a2 x e r s (inr w) = let q = w.is in inr (record { left = w.left; enough = let k = w.enough in omega (arith, length-append a2 b); is = rw (e, append_assoc a1 a2 b, q) refl })
+
+    then_again : (a : List T) (y : B) (b : List T) → (G then H).reads a y → sees K (more y) b ≡ false → ((G then H).parse (a ++ b) ≡ Ok (y, b)) ⊎ Late ((G then H).parse (a ++ b)) (suc (length b))
+    then_again a y b r s =
+        let x = r.2 in
+        let clean : sees K (m1 x) (r.1 ++ b) ≡ false = clear r.1 b (m1 x) (null_stops x y r.1 b r.5 s) (λ t ts e. begins_apart x t ts (subst (λ (w : List T). (H x).begun w) e ((h x).begins r.1 y r.5))) in
+        again_ok a y b r.0 r.1 x r.3 r.5 (sees_within K (m2 x y) (more y) b (fit.late x y) s) (g.again r.0 x (r.1 ++ b) r.4 clean)
+
+    late_clear : (x : A) (c : List T) (t : T) (u : List T) → (H x).begun (c ++ (t ∷ [])) → sees K (m1 x) (c ++ (t ∷ u)) ≡ false
+    late_clear x [] t u b = begins_apart x t [] b
+    late_clear x (v ∷ c) t u b = begins_apart x v (c ++ (t ∷ [])) b
+
+    lates_ok : (a : List T) (t : T) (u a1 a2 : List T) (x : A) → a ≡ a1 ++ a2 → (H x).late a2 t → (G.parse (a1 ++ (a2 ++ (t ∷ u))) ≡ Ok (x, a2 ++ (t ∷ u))) ⊎ Late (G.parse (a1 ++ (a2 ++ (t ∷ u)))) (suc (length (a2 ++ (t ∷ u)))) → Late ((G then H).parse (a ++ (t ∷ u))) (suc (length u))
+    lates_ok a t u a1 a2 x e l (inl l1) = rw (e, append_assoc a1 a2 (t ∷ u), l1) ((h x).lates a2 t u l)
+    lates_ok a t u a1 a2 x e l (inr w) = let q = w.is in record { left = w.left; enough = let k = w.enough in omega (arith, length-append a2 (t ∷ u)); is = rw (e, append_assoc a1 a2 (t ∷ u), q) refl }
+
+    then_lates : (a : List T) (t : T) (u : List T) → (G then H).late a t → Late ((G then H).parse (a ++ (t ∷ u))) (suc (length u))
+    then_lates a t u (inl l) = let w = g.lates a t u l in let q = w.is in record { left = w.left; enough = w.enough; is = rw q refl }
+    then_lates a t u (inr r) = lates_ok a t u r.0 r.1 r.2 r.3 r.5 (g.again r.0 r.2 (r.1 ++ (t ∷ u)) r.4 (late_clear r.2 r.1 t u ((h r.2).late_begins r.1 t r.5)))
+
+    then_late_begins : (a : List T) (t : T) → (G then H).late a t → (G then H).begun (a ++ (t ∷ []))
+    then_late_begins a t (inl l) = inl (g.late_begins a t l)
+    then_late_begins a t (inr r) = inr (r.0, r.1 ++ (t ∷ []), r.2, ap (λ (w : List T). w ++ (t ∷ [])) r.3 ∙ append_assoc r.0 r.1 (t ∷ []), r.4, (h r.2).late_begins r.1 t r.5)
+
+    then_overs : (ts : List T) (n : ℕ) → (G then H).parse ts ≡ Err (Over n) → Overs (G then H).parse (G then H).late ts n
+    then_overs ts n e =
+        elim (bind_err (G.parse ts) (λ x. (H x.0).parse x.1) (Over n) e) [
+          | inl e1 ↦
+            let f = g.overs ts n e1 in
+            record { front = f.front; token = f.token; rest = f.rest; parts = f.parts; left = f.left; is = inl f.is; local = λ u. rw (f.local u) refl }
+          | inr b ↦
+            let x = b.0 in
+            let t1 = g.takes ts x.0 x.1 b.1 in
+            let f = (h x.0).overs x.1 n b.2 in
+            record {
+              front = t1.front ++ f.front;
+              token = f.token;
+              rest = f.rest;
+              parts = t1.parts ∙ ap (λ (w : List T). t1.front ++ w) f.parts ∙ sym (append_assoc t1.front f.front (f.token ∷ f.rest));
+              left = f.left;
+              is = inr (t1.front, f.front, x.0, refl, t1.is, f.is);
+              local = λ u.
+                let same : SameHead x.1 (f.front ++ (f.token ∷ u)) = subst (λ (w : List T). SameHead w (f.front ++ (f.token ∷ u))) (sym f.parts) (same_head f.front (f.token ∷ f.rest) (f.token ∷ u) refl) in
+                let l1 = t1.local (f.front ++ (f.token ∷ u)) same in
+                rw (append_assoc t1.front f.front (f.token ∷ u), l1) (f.local u);
+            }
+        ]
+
+    begun_clear : (x : A) (c : List T) → (H x).begun c → sees K (m1 x) c ≡ false
+    begun_clear x [] b = refl
+    begun_clear x (t ∷ ts) b = begins_apart x t ts b
+
+    runs_second : (a a1 a2 : List T) (x : A) → a ≡ a1 ++ a2 → (H x).begun a2 → (G.parse (a1 ++ a2) ≡ Ok (x, a2)) ⊎ Late (G.parse (a1 ++ a2)) (suc (length a2)) → RunsOut ((G then H).parse a)
+    runs_second a a1 a2 x e b (inl l1) = rw (e, l1) ((h x).runs a2 b)
+    runs_second a a1 a2 x e b (inr w) = let q = w.is in rw (e, q) tt
+
+    then_runs : (a : List T) → (G then H).begun a → RunsOut ((G then H).parse a)
+    then_runs a (inl b) = runs_then (G.parse a) (λ x. (H x.0).parse x.1) (g.runs a b) (λ x. (h x).runs [] (h x).empty)
+    then_runs a (inr r) =
+        runs_second a r.0 r.1 r.2 r.3 r.5 (g.again r.0 r.2 r.1 r.4 (begun_clear r.2 r.1 r.5))
+
+    starts_second : (x : A) (b c : List T) (t : T) (ts : List T) → t ∷ ts ≡ b ++ c → G.reads b x → (H x).begun c → among (K t) first ≡ true
+    starts_second x [] c t ts e r bg = within_among (f2 x) first (K t) (fit.next x (g.filled x r)) ((h x).starts t ts (rw e bg))
+    starts_second x (u ∷ us) c t ts e r bg = let same : t ≡ u = cc in rw same (within_among f1 first (K u) fit.begin (g.starts u us (g.begins (u ∷ us) x r)))
+
+    then_starts : (t : T) (ts : List T) → (G then H).begun (t ∷ ts) → among (K t) first ≡ true
+    then_starts t ts (inl b) = within_among f1 first (K t) fit.begin (g.starts t ts b)
+    then_starts t ts (inr r) = starts_second r.2 r.0 r.1 t ts r.3 r.4 r.5
+
+    filled_both : (x : A) (y : B) (b c : List T) → [] ≡ b ++ c → G.reads b x → (H x).reads c y → null ≡ true
+    filled_both x y [] [] e r1 r2 = fit.empty (g.filled x r1) ((h x).filled y r2)
+    filled_both x y [] (u ∷ us) e r1 r2 = absurd cc
+    filled_both x y (u ∷ us) c e r1 r2 = absurd cc
+
+    fronts_second : (a b b0 c0 : List T) (x : A) → G.reads b0 x → (H x).begun c0 → ((d : List T) × (b0 ≡ a ++ d)) ⊎ ((d : List T) × (a ≡ b0 ++ d) × (c0 ≡ d ++ b)) → (G then H).begun a
+    fronts_second a b b0 c0 x r bg (inl s) = inl (g.fronts a s.0 (subst (λ (w : List T). G.begun w) s.1 (g.begins b0 x r)))
+    fronts_second a b b0 c0 x r bg (inr s) = inr (b0, s.0, x, s.1, r, (h x).fronts s.0 b (subst (λ (w : List T). (H x).begun w) s.2 bg))
+
+    then_fronts : (a b : List T) → (G then H).begun (a ++ b) → (G then H).begun a
+    then_fronts a b (inl s) = inl (g.fronts a b s)
+    then_fronts a b (inr r) = fronts_second a b r.0 r.1 r.2 r.4 r.5 (front_parts a b r.0 r.1 r.3)
+
+    pub then_exact : IsExact K (G then H) null first more
+    then_exact = record {
+      takes = then_takes;
+      fails = then_fails;
+      overs = then_overs;
+      again = then_again;
+      lates = then_lates;
+      late_begins = then_late_begins;
+      runs = then_runs;
+      begins = λ a y r. inr (r.0, r.1, r.2, r.3, r.4, (h r.2).begins r.1 y r.5);
+      fronts = then_fronts;
+      empty = inl g.empty;
+      starts = then_starts;
+      filled = λ y r. filled_both r.2 y r.0 r.1 r.3 r.4 r.5;
+    }
+
+  -- ---- alternatives
+
+  module _ {A : Type 0} (ks : List ℕ) (G H : Syntax T A) (n1 : Bool) (f1 : List ℕ) (m1 : A → List ℕ) (n2 : Bool) (f2 : List ℕ) (m2 : A → List ℕ) (null : Bool) (first : List ℕ) (more : A → List ℕ) (g : IsExact K G n1 f1 m1) (h : IsExact K H n2 f2 m2) (R : A → Type 0) (ends : (x : A) → H.reads [] x → R x) (fit : ChoiceFits A R ks n1 f1 m1 n2 f2 m2 null first more) where
+    same_sight : (ts front rest u : List T) → ts ≡ front ++ rest → SameHead rest u → sees K ks (front ++ u) ≡ sees K ks ts
+    same_sight ts front rest u e s = rw e (sym (sees_same K ks (front ++ rest) (front ++ u) (same_head front rest u s)))
+
+    choice_takes : (ts : List T) (x : A) (rest : List T) → (choice K ks G H).parse ts ≡ Ok (x, rest) → Takes (choice K ks G H).parse (choice K ks G H).reads ts x rest
+    choice_takes ts x rest e =
+        elim (chosen (sees K ks ts) (G.parse ts) (H.parse ts) (Ok (x, rest)) e) [
+          | inl p ↦
+            let t = g.takes ts x rest p.1 in
+            record { front = t.front; parts = t.parts; is = inl t.is; local = λ u s. rw (same_sight ts t.front rest u t.parts s, p.0) (t.local u s) }
+          | inr p ↦
+            let t = h.takes ts x rest p.1 in
+            record { front = t.front; parts = t.parts; is = inr t.is; local = λ u s. rw (same_sight ts t.front rest u t.parts s, p.0) (t.local u s) }
+        ]
+
+    choice_fails : (ts : List T) (n : ℕ) → (choice K ks G H).parse ts ≡ Err (At n) → Fails (choice K ks G H).parse (choice K ks G H).begun ts n
+    choice_fails ts n e =
+        elim (chosen (sees K ks ts) (G.parse ts) (H.parse ts) (Err (At n)) e) [
+          | inl p ↦
+            let t = g.fails ts n p.1 in
+            record { front = t.front; rest = t.rest; parts = t.parts; left = t.left; is = inl t.is; local = λ u s. rw (same_sight ts t.front t.rest u t.parts s, p.0) (t.local u s) }
+          | inr p ↦
+            let t = h.fails ts n p.1 in
+            record { front = t.front; rest = t.rest; parts = t.parts; left = t.left; is = inr t.is; local = λ u s. rw (same_sight ts t.front t.rest u t.parts s, p.0) (t.local u s) }
+        ]
+
+    sees_first : (a b : List T) (x : A) → G.reads a x → sees K ks (a ++ b) ≡ true
+    sees_first [] b x r = absurd (let e = g.filled x r in let f = fit.solid in cc)
+    sees_first (t ∷ ts) b x r = within_among f1 ks (K t) fit.taken (g.starts t ts (g.begins (t ∷ ts) x r))
+
+    not_first : (t : T) (ts : List T) → H.begun (t ∷ ts) → among (K t) ks ≡ false
+    not_first t ts b = not_both (among (K t) ks) (λ e. apart_among f2 ks (K t) fit.clash (h.starts t ts b) e)
+
+    sees_second : (a b : List T) (x : A) → H.reads a x → sees K (more x) b ≡ false → sees K ks (a ++ b) ≡ false
+    sees_second [] b x r s = sees_within K ks (more x) b (fit.greedy x (h.filled x r) (ends x r)) s
+    sees_second (t ∷ ts) b x r s = not_first t ts (h.begins (t ∷ ts) x r)
+
+    choice_again : (a : List T) (x : A) (b : List T) → (choice K ks G H).reads a x → sees K (more x) b ≡ false → ((choice K ks G H).parse (a ++ b) ≡ Ok (x, b)) ⊎ Late ((choice K ks G H).parse (a ++ b)) (suc (length b))
+    choice_again a x b (inl r) s = rw (sees_first a b x r) (g.again a x b r (sees_within K (m1 x) (more x) b (fit.over1 x) s))
+    choice_again a x b (inr r) s = rw (sees_second a b x r s) (h.again a x b r (sees_within K (m2 x) (more x) b (fit.over2 x) s))
+
+    late_first : (a : List T) (t : T) (u : List T) → G.begun (a ++ (t ∷ [])) → sees K ks (a ++ (t ∷ u)) ≡ true
+    late_first [] t u b = within_among f1 ks (K t) fit.taken (g.starts t [] b)
+    late_first (v ∷ a) t u b = within_among f1 ks (K v) fit.taken (g.starts v (a ++ (t ∷ [])) b)
+
+    late_second : (a : List T) (t : T) (u : List T) → H.begun (a ++ (t ∷ [])) → sees K ks (a ++ (t ∷ u)) ≡ false
+    late_second [] t u b = not_first t [] b
+    late_second (v ∷ a) t u b = not_first v (a ++ (t ∷ [])) b
+
+    choice_lates : (a : List T) (t : T) (u : List T) → (choice K ks G H).late a t → Late ((choice K ks G H).parse (a ++ (t ∷ u))) (suc (length u))
+    choice_lates a t u (inl l) = rw (late_first a t u (g.late_begins a t l)) (g.lates a t u l)
+    choice_lates a t u (inr l) = rw (late_second a t u (h.late_begins a t l)) (h.lates a t u l)
+
+    choice_late_begins : (a : List T) (t : T) → (choice K ks G H).late a t → (choice K ks G H).begun (a ++ (t ∷ []))
+    choice_late_begins a t (inl l) = inl (g.late_begins a t l)
+    choice_late_begins a t (inr l) = inr (h.late_begins a t l)
+
+    choice_overs : (ts : List T) (n : ℕ) → (choice K ks G H).parse ts ≡ Err (Over n) → Overs (choice K ks G H).parse (choice K ks G H).late ts n
+    choice_overs ts n e =
+        elim (chosen (sees K ks ts) (G.parse ts) (H.parse ts) (Err (Over n)) e) [
+          | inl p ↦
+            let t = g.overs ts n p.1 in
+            record { front = t.front; token = t.token; rest = t.rest; parts = t.parts; left = t.left; is = inl t.is; local = λ u. rw (same_sight ts t.front (t.token ∷ t.rest) (t.token ∷ u) t.parts refl, p.0) (t.local u) }
+          | inr p ↦
+            let t = h.overs ts n p.1 in
+            record { front = t.front; token = t.token; rest = t.rest; parts = t.parts; left = t.left; is = inr t.is; local = λ u. rw (same_sight ts t.front (t.token ∷ t.rest) (t.token ∷ u) t.parts refl, p.0) (t.local u) }
+        ]
+
+    choice_runs : (a : List T) → (choice K ks G H).begun a → RunsOut ((choice K ks G H).parse a)
+    choice_runs [] b = h.runs [] h.empty
+    choice_runs (t ∷ ts) (inl b) = rw (within_among f1 ks (K t) fit.taken (g.starts t ts b)) (g.runs (t ∷ ts) b)
+    choice_runs (t ∷ ts) (inr b) = rw (not_first t ts b) (h.runs (t ∷ ts) b)
+
+    choice_begins : (a : List T) (x : A) → (choice K ks G H).reads a x → (choice K ks G H).begun a
+    choice_begins a x (inl r) = inl (g.begins a x r)
+    choice_begins a x (inr r) = inr (h.begins a x r)
+
+    choice_fronts : (a b : List T) → (choice K ks G H).begun (a ++ b) → (choice K ks G H).begun a
+    choice_fronts a b (inl s) = inl (g.fronts a b s)
+    choice_fronts a b (inr s) = inr (h.fronts a b s)
+
+    choice_starts : (t : T) (ts : List T) → (choice K ks G H).begun (t ∷ ts) → among (K t) first ≡ true
+    choice_starts t ts (inl b) = within_among f1 first (K t) fit.begin1 (g.starts t ts b)
+    choice_starts t ts (inr b) = within_among f2 first (K t) fit.begin2 (h.starts t ts b)
+
+    choice_filled : (x : A) → (choice K ks G H).reads [] x → null ≡ true
+    choice_filled x (inl r) = absurd (let e = g.filled x r in let f = fit.solid in cc)
+    choice_filled x (inr r) = fit.empty (h.filled x r)
+
+    pub choice_exact : IsExact K (choice K ks G H) null first more
+    choice_exact = record {
+      takes = choice_takes;
+      fails = choice_fails;
+      overs = choice_overs;
+      again = choice_again;
+      lates = choice_lates;
+      late_begins = choice_late_begins;
+      runs = choice_runs;
+      begins = choice_begins;
+      fronts = choice_fronts;
+      empty = inr h.empty;
+      starts = choice_starts;
+      filled = choice_filled;
+    }
+
+  -- ---- larger sets do no harm
+
+  pub widen : {A : Type 0} (G : Syntax T A) (n1 : Bool) (f1 : List ℕ) (m1 : A → List ℕ) (null : Bool) (first : List ℕ) (more : A → List ℕ) → IsExact K G n1 f1 m1 → (n1 ≡ true → null ≡ true) → within f1 first ≡ true → ((x : A) → within (m1 x) (more x) ≡ true) → IsExact K G null first more
+  widen G n1 f1 m1 null first more g n f m = record {
+    takes = g.takes;
+    fails = g.fails;
+    overs = g.overs;
+    again = λ a x b r s. g.again a x b r (sees_within K (m1 x) (more x) b (m x) s);
+    lates = g.lates;
+    late_begins = g.late_begins;
+    runs = g.runs;
+    begins = g.begins;
+    fronts = g.fronts;
+    empty = g.empty;
+    starts = λ t ts b. within_among f1 first (K t) f (g.starts t ts b);
+    filled = λ x r. n (g.filled x r);
+  }

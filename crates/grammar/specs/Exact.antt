@@ -1,0 +1,148 @@
+-- What it means that a production is read exactly, and what follows for its answers.
+use Rattle.std.specs.Prelude.{◌≡◌, ℕ, suc, List, [], ◌∷◌, ◌++◌, length, Result, Ok, Err, ◌<◌, ◌≤◌, ◌⊎◌, Bool, true, false}
+use Rattle.grammar.specs.Syntax.{Syntax, Fault, At, Over, among, sees}
+
+-- both are at their end, or go on with the same token
+abbrev pub SameHead : {T : Type 0} → List T → List T → Type 0
+SameHead [] [] = Unit {0}
+SameHead [] (u ∷ us) = ⊥
+SameHead (t ∷ ts) [] = ⊥
+SameHead (t ∷ ts) (u ∷ us) = t ≡ u
+
+-- p read x and left rest: its tokens are a reading, and p saw no more than one token behind them
+pub record Takes {T A : Type 0} (p : List T → Result (A × List T) Fault) (R : List T → A → Type 0) (ts : List T) (x : A) (rest : List T) : Type 0 where
+  pub front : List T
+  pub parts : ts ≡ front ++ rest
+  pub is : R front x
+  pub local : (u : List T) → SameHead rest u → p (front ++ u) ≡ Ok (x, u)
+
+-- p stopped with n tokens left: those before are begun, and p saw no more than one token behind them
+pub record Fails {T A : Type 0} (p : List T → Result (A × List T) Fault) (B : List T → Type 0) (ts : List T) (n : ℕ) : Type 0 where
+  pub front : List T
+  pub rest : List T
+  pub parts : ts ≡ front ++ rest
+  pub left : n ≡ length rest
+  pub is : B front
+  pub local : (u : List T) → SameHead rest u → p (front ++ u) ≡ Err (At (length u))
+
+-- p stopped at a limit with n tokens left: the first of them is late, whatever comes behind it
+pub record Overs {T A : Type 0} (p : List T → Result (A × List T) Fault) (L : List T → T → Type 0) (ts : List T) (n : ℕ) : Type 0 where
+  pub front : List T
+  pub token : T
+  pub rest : List T
+  pub parts : ts ≡ front ++ (token ∷ rest)
+  pub left : n ≡ suc (length rest)
+  pub is : L front token
+  pub local : (u : List T) → p (front ++ (token ∷ u)) ≡ Err (Over (suc (length u)))
+
+-- all tokens were taken, more were wanted, or a limit was passed
+abbrev pub RunsOut : {T A : Type 0} → Result (A × List T) Fault → Type 0
+RunsOut (Ok x) = x.1 ≡ []
+RunsOut (Err (At n)) = n ≡ 0
+RunsOut (Err (Over n)) = Unit {0}
+
+-- a limit is passed with at least m tokens left
+pub record Late {T A : Type 0} (r : Result (A × List T) Fault) (m : ℕ) : Type 0 where
+  pub left : ℕ
+  pub enough : m ≤ left
+  pub is : r ≡ Err (Over left)
+
+-- G is read exactly, where K is the kind of a token.
+-- null: no token can be a reading; first: the kinds that can begin a reading (the first set);
+-- more x: the kinds with which a complete reading of the value x can go on (against the follow set)
+pub record IsExact {T : Type 0} (K : T → ℕ) {A : Type 0} (G : Syntax T A) (null : Bool) (first : List ℕ) (more : A → List ℕ) : Type 0 where
+  pub takes : (ts : List T) (x : A) (rest : List T) → G.parse ts ≡ Ok (x, rest) → Takes G.parse G.reads ts x rest
+  pub fails : (ts : List T) (n : ℕ) → G.parse ts ≡ Err (At n) → Fails G.parse G.begun ts n
+  pub overs : (ts : List T) (n : ℕ) → G.parse ts ≡ Err (Over n) → Overs G.parse G.late ts n
+  -- a reading is read again, whatever follows that can't go on with it
+  pub again : (a : List T) (x : A) (b : List T) → G.reads a x → sees K (more x) b ≡ false → (G.parse (a ++ b) ≡ Ok (x, b)) ⊎ Late (G.parse (a ++ b)) (suc (length b))
+  -- no late token is read over
+  pub lates : (a : List T) (t : T) (u : List T) → G.late a t → Late (G.parse (a ++ (t ∷ u))) (suc (length u))
+  -- a late token can follow
+  pub late_begins : (a : List T) (t : T) → G.late a t → G.begun (a ++ (t ∷ []))
+  pub runs : (a : List T) → G.begun a → RunsOut (G.parse a)
+  pub begins : (a : List T) (x : A) → G.reads a x → G.begun a
+  pub fronts : (a b : List T) → G.begun (a ++ b) → G.begun a
+  pub empty : G.begun []
+  pub starts : (t : T) (ts : List T) → G.begun (t ∷ ts) → among (K t) first ≡ true
+  pub filled : (x : A) → G.reads [] x → null ≡ true
+
+-- Both are exact, H reads, begins and limits what G does, and on texts below n tokens they are read alike.
+pub record IsGood {T : Type 0} (K : T → ℕ) {A : Type 0} (n : ℕ) (G H : Syntax T A) (null : Bool) (first : List ℕ) (more : A → List ℕ) : Type 0 where
+  pub here : IsExact K G null first more
+  pub there : IsExact K H null first more
+  pub reads : (a : List T) (x : A) → G.reads a x → H.reads a x
+  pub begun : (a : List T) → G.begun a → H.begun a
+  pub late : (a : List T) (t : T) → G.late a t → H.late a t
+  pub agree : (ts : List T) → length ts < n → G.parse ts ≡ H.parse ts
+
+-- ---- what answers mean, in the words of the grammar
+
+-- no token of the text passes a limit
+abbrev pub WithinLimits : {T A : Type 0} → Syntax T A → List T → Type 0
+WithinLimits {T} G ts = (front : List T) (t : T) (rest : List T) → ts ≡ front ++ (t ∷ rest) → G.late front t → ⊥
+
+-- The whole text is a reading with the value x, and passes no limit.
+pub record Accepts {T A : Type 0} (G : Syntax T A) (ts : List T) (x : A) : Type 0 where
+  pub reading : G.reads ts x
+  pub within : (front : List T) (t : T) (rest : List T) → ts ≡ front ++ (t ∷ rest) → G.late front t → ⊥
+
+-- The tokens before the place begin the production, and with the token at the place they don't.
+pub record StopsAt {T A : Type 0} (G : Syntax T A) (text front rest : List T) : Type 0 where
+  pub parts : text ≡ front ++ rest
+  pub begun : G.begun front
+  pub ended : (t : T) (ts : List T) → rest ≡ t ∷ ts → G.begun (front ++ (t ∷ [])) → ⊥
+
+-- The longest run of tokens that begins the production is this reading of it, and no limit is passed.
+pub record Found {T A : Type 0} (G : Syntax T A) (text : List T) (x : A) (rest : List T) : Type 0 where
+  pub front : List T
+  pub reading : G.reads front x
+  pub longest : StopsAt G text front rest
+  pub within : WithinLimits G text
+
+-- The token with left tokens from it on can't follow those before it, and no limit is passed.
+pub record RefusedAt {T A : Type 0} (G : Syntax T A) (text : List T) (left : ℕ) : Type 0 where
+  pub front : List T
+  pub rest : List T
+  pub longest : StopsAt G text front rest
+  pub place : left ≡ length rest
+  pub within : WithinLimits G text
+
+-- The token with left tokens from it on can follow those before it, and is the first that passes a limit.
+pub record RefusedOver {T A : Type 0} (G : Syntax T A) (text : List T) (left : ℕ) : Type 0 where
+  pub front : List T
+  pub token : T
+  pub rest : List T
+  pub parts : text ≡ front ++ (token ∷ rest)
+  pub place : left ≡ suc (length rest)
+  pub late : G.late front token
+  pub begun : G.begun (front ++ (token ∷ []))
+  pub first : (a : List T) (t : T) (u : List T) → text ≡ a ++ (t ∷ u) → G.late a t → length front ≤ length a
+
+abbrev pub Refused : {T A : Type 0} → Syntax T A → List T → Fault → Type 0
+Refused G text (At n) = RefusedAt G text n
+Refused G text (Over n) = RefusedOver G text n
+
+-- a text is accepted with one value at most
+abbrev pub AtMostOne : {T A : Type 0} → Syntax T A → Type 0
+AtMostOne {T} {A} G = (ts : List T) (x y : A) → Accepts G ts x → Accepts G ts y → x ≡ y
+
+-- what begins a run that begins the production begins it too
+abbrev pub FrontsBegin : {T A : Type 0} → Syntax T A → Type 0
+FrontsBegin {T} G = (a b : List T) → G.begun (a ++ b) → G.begun a
+
+-- what is accepted is what is read to the end
+abbrev pub ReadsAccepted : {T A : Type 0} → Syntax T A → Type 0
+ReadsAccepted {T} {A} G = (ts : List T) (x : A) → Accepts G ts x → G.parse ts ≡ Ok (x, [])
+
+abbrev pub AcceptsRead : {T A : Type 0} → Syntax T A → Type 0
+AcceptsRead {T} {A} G = (ts : List T) (x : A) → G.parse ts ≡ Ok (x, []) → Accepts G ts x
+
+-- The same readings, begun by the same tokens and with the same limits, however they are read.
+pub record Same {T A : Type 0} (G H : Syntax T A) : Type 0 where
+  pub reads : (a : List T) (x : A) → G.reads a x → H.reads a x
+  pub reads_back : (a : List T) (x : A) → H.reads a x → G.reads a x
+  pub begun : (a : List T) → G.begun a → H.begun a
+  pub begun_back : (a : List T) → H.begun a → G.begun a
+  pub late : (a : List T) (t : T) → G.late a t → H.late a t
+  pub late_back : (a : List T) (t : T) → H.late a t → G.late a t
