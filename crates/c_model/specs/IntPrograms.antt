@@ -1,0 +1,168 @@
+-- Programs whose `main` computes with variables of type `int` alone, each a block of its own whose number is its name.
+use Rattle.std.specs.Prelude.{◌≡◌, ℕ, ◌+◌, ◌<◌, ◌≤◌, ℤ, pos, ◌≤ℤ◌, List, [], ◌∷◌, All, Option, Some, None, codes, slice_get}
+use Rattle.c_syntax.specs.declared.place.Place.{Place}
+use Rattle.c_syntax.specs.declared.expression.Use.{Use}
+use Rattle.c_syntax.specs.declared.expression.BinOp.{BinOp}
+use Rattle.c_syntax.specs.declared.expression.BinOp.TheVariants.{Add, Sub, Eq, Ne, Lt, Le, Gt, Ge}
+use Rattle.c_syntax.specs.Ctypes.{PlainType, int_type}
+use Rattle.c_syntax.specs.Expressions.{Expression, Number, Letter, Variable, Binary, Assign, Call, Expressions, NoExpression, Following}
+use Rattle.c_syntax.specs.Annotations.{LogicTerm, Predicate, Chain, Links, NoLink, Linked, ClauseBody, Truth, Annotation}
+use Rattle.c_syntax.specs.Annotations as logic
+use Rattle.c_syntax.specs.Statements.{Initialiser, One, Declaration, Statement, Eval, Block, If, While, Return, ElsePart, NoElse, Else, BlockItem, Declare, Run, Asserts, BlockItems, NoItem, Then}
+use Rattle.c_syntax.specs.Programs.{Function, TranslationUnit}
+
+-- a value that a literal of type `int` may have (C99 6.4.4.1)
+pub record IsIntLiteral (z : ℤ) : Type 0 where
+  pub not_negative : pos 0 ≤ℤ z
+  pub fits : z ≤ℤ pos 2147483647
+
+-- one of the variables 1 to n
+pub record IsVariable (n : ℕ) (x : Use) : Type 0 where
+  pub declared : 0 < x.name
+  pub in_sight : x.name ≤ n
+
+-- an expression of type `int` over the variables 1 to n, without side effects
+abbrev pub IsPure : ℕ → Expression → Type 0
+IsPure n (Number at t z k) = (t ≡ int_type) × IsIntLiteral z
+IsPure n (Letter at t z) = t ≡ int_type
+IsPure n (Variable at t x) = (t ≡ int_type) × IsVariable n x
+IsPure n (Binary at t op a b) = (t ≡ int_type) × IsPure n a × IsPure n b
+IsPure n (Assign at t op a b) = ⊥
+IsPure n (Call at t f args) = ⊥
+
+-- the left side of an assignment: a variable
+abbrev pub IsTarget : ℕ → Expression → Type 0
+IsTarget n (Variable at t x) = (t ≡ int_type) × IsVariable n x
+IsTarget n (Number at t z k) = ⊥
+IsTarget n (Letter at t z) = ⊥
+IsTarget n (Binary at t op a b) = ⊥
+IsTarget n (Assign at t op a b) = ⊥
+IsTarget n (Call at t f args) = ⊥
+
+-- one argument
+abbrev pub IsArgument : ℕ → Expressions → Type 0
+IsArgument n NoExpression = ⊥
+IsArgument n (Following e NoExpression) = IsPure n e
+IsArgument n (Following e (Following f more)) = ⊥
+
+-- `x = e`, or `putchar(e)`, whose name has the number behind the variables'
+abbrev pub IsEffect : ℕ → Expression → Type 0
+IsEffect n (Assign at t None a b) = (t ≡ int_type) × IsTarget n a × IsPure n b
+IsEffect n (Assign at t (Some op) a b) = ⊥
+IsEffect n (Call at t f args) = (t ≡ int_type) × (f.decl ≡ 4294967295) × (f.name ≡ n + 1) × IsArgument n args
+IsEffect n (Number at t z k) = ⊥
+IsEffect n (Letter at t z) = ⊥
+IsEffect n (Variable at t x) = ⊥
+IsEffect n (Binary at t op a b) = ⊥
+
+-- `+` or `-`
+abbrev pub IsSum : BinOp → Type 0
+IsSum Add = Unit {0}
+IsSum Sub = Unit {0}
+IsSum Eq = ⊥
+IsSum Ne = ⊥
+IsSum Lt = ⊥
+IsSum Le = ⊥
+IsSum Gt = ⊥
+IsSum Ge = ⊥
+
+-- a term of sums over the variables 1 to n
+abbrev pub IsIntTerm : ℕ → LogicTerm → Type 0
+IsIntTerm n (logic.Number at c r z) = IsIntLiteral z
+IsIntTerm n (logic.Letter at c r z) = Unit {0}
+IsIntTerm n (logic.Variable at c r x) = (c ≡ Some int_type) × IsVariable n x
+IsIntTerm n (logic.Binary at c r op a b) = IsSum op × IsIntTerm n a × IsIntTerm n b
+
+-- how many literals and variables a term has
+abbrev pub leaves : LogicTerm → ℕ
+leaves (logic.Number at c r z) = 1
+leaves (logic.Letter at c r z) = 1
+leaves (logic.Variable at c r x) = 1
+leaves (logic.Binary at c r op a b) = leaves a + leaves b
+
+-- such a term, small enough for 64 bits
+pub record IsShortTerm (n : ℕ) (t : LogicTerm) : Type 0 where
+  pub is : IsIntTerm n t
+  pub short : leaves t ≤ 400
+
+abbrev pub AreShortLinks : ℕ → Links → Type 0
+AreShortLinks n NoLink = Unit {0}
+AreShortLinks n (Linked at r t rest) = IsShortTerm n t × AreShortLinks n rest
+
+abbrev pub IsIntPredicate : ℕ → Predicate → Type 0
+IsIntPredicate n (Chain at t links) = IsShortTerm n t × AreShortLinks n links
+
+abbrev pub IsIntBody : ℕ → ClauseBody → Type 0
+IsIntBody n (Truth p) = IsIntPredicate n p
+
+abbrev pub AreIntAnnotations : ℕ → List Annotation → Type 0
+AreIntAnnotations n [] = Unit {0}
+AreIntAnnotations n (a ∷ as) = IsIntBody n a.body × AreIntAnnotations n as
+
+-- a statement over the variables 1 to n that declares none
+abbrev mutual
+  pub IsIntStatement : ℕ → Statement → Type 0
+  IsIntStatement n (Eval at e) = IsEffect n e
+  IsIntStatement n (Block at items) = AreIntItems n items
+  IsIntStatement n (If at e a b) = IsPure n e × IsIntStatement n a × IsIntElse n b
+  IsIntStatement n (While at annots e a) = (annots ≡ []) × IsPure n e × IsIntStatement n a
+  IsIntStatement n (Return at None) = ⊥
+  IsIntStatement n (Return at (Some e)) = IsPure n e
+
+  pub IsIntElse : ℕ → ElsePart → Type 0
+  IsIntElse n NoElse = Unit {0}
+  IsIntElse n (Else a) = IsIntStatement n a
+
+  pub AreIntItems : ℕ → BlockItems → Type 0
+  AreIntItems n NoItem = Unit {0}
+  AreIntItems n (Then i rest) = IsIntItem n i × AreIntItems n rest
+
+  pub IsIntItem : ℕ → BlockItem → Type 0
+  IsIntItem n (Declare decls) = ⊥
+  IsIntItem n (Run a) = IsIntStatement n a
+  IsIntItem n (Asserts annots) = AreIntAnnotations n annots
+
+abbrev pub IsIntInit : ℕ → Option (Place × Initialiser) → Type 0
+IsIntInit n None = ⊥
+IsIntInit n (Some (at, One e)) = IsPure n e
+
+-- the declaration of the variable k, with an initialiser over the variables 1 to n
+pub record IsIntDeclaration (n k : ℕ) (d : Declaration) : Type 0 where
+  pub name : d.name ≡ k
+  pub ctype : d.ctype ≡ int_type
+  pub init : IsIntInit n d.init
+
+-- the body of main, where k variables are declared already: the others come one a declaration, in order, up to n
+abbrev pub AreMainItems : ℕ → ℕ → BlockItems → Type 0
+AreMainItems n k NoItem = k ≡ n
+AreMainItems n k (Then (Declare []) rest) = ⊥
+AreMainItems n k (Then (Declare (d ∷ [])) rest) = IsIntDeclaration n (k + 1) d × AreMainItems n (k + 1) rest
+AreMainItems n k (Then (Declare (d ∷ e ∷ more)) rest) = ⊥
+AreMainItems n k (Then (Run a) rest) = IsIntStatement n a × AreMainItems n k rest
+AreMainItems n k (Then (Asserts annots) rest) = AreIntAnnotations n annots × AreMainItems n k rest
+
+abbrev pub IsMainBody : ℕ → Option Statement → Type 0
+IsMainBody n None = ⊥
+IsMainBody n (Some (Block at items)) = AreMainItems n 0 items
+IsMainBody n (Some (Eval at e)) = ⊥
+IsMainBody n (Some (If at e a b)) = ⊥
+IsMainBody n (Some (While at annots e a)) = ⊥
+IsMainBody n (Some (Return at e)) = ⊥
+
+-- the function `main`, whose name is 0, with n variables
+pub record IsIntMain (n : ℕ) (f : Function) : Type 0 where
+  pub name : f.name ≡ 0
+  pub params : f.params ≡ []
+  pub no_contract : f.contract ≡ None
+  pub body : IsMainBody n f.body
+
+-- one function, `main`, with at most 1,000 variables, and nothing else at file scope
+pub record IsIntProgram (p : TranslationUnit) : Type 0 where
+  pub variables : ℕ
+  pub few : variables ≤ 1000
+  pub main : Function
+  pub funcs : p.funcs ≡ main ∷ []
+  pub is_main : IsIntMain variables main
+  pub globals : p.globals ≡ []
+  pub main_name : slice_get p.names 0 ≡ Some (codes "main")
+  pub putchar_name : slice_get p.names (variables + 1) ≡ Some (codes "putchar")
