@@ -3,3 +3,4 @@ pub mod Parts
 pub mod Bounds
 pub mod Productions
 pub mod Theorem
+pub mod Limits
