@@ -1,1 +1,2 @@
 pub mod IntPrograms
+pub mod FirstTokens
