@@ -1,2 +1,4 @@
 pub mod IntPrograms
 pub mod FirstTokens
+pub mod FirstForm
+pub mod Accepted
