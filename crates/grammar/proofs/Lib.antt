@@ -3,3 +3,5 @@ pub mod Parts
 pub mod Bounds
 pub mod Productions
 pub mod Theorem
+pub mod Limits
+pub mod Solid

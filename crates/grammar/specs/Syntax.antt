@@ -116,12 +116,12 @@ module _ {T : Type 0} where
   abbrev pub knot : {S A : Type 0} → ((S → Syntax T A) → S → Syntax T A) → S → Syntax T A
   knot F s = limit (λ n. knot_at F n s)
 
-  -- G stands here one deeper than a limit allows: a token of these kinds, which begins it, passes the limit
+  -- G stands here one deeper than a limit allows: a token that begins it, which is one of these kinds, passes the limit
   abbrev pub deep : {A : Type 0} → (T → ℕ) → List ℕ → Syntax T A → Syntax T A
   deep K ks G = record {
     reads = G.reads;
     begun = G.begun;
-    late = λ a t. (a ≡ []) × (among (K t) ks ≡ true);
+    late = λ a t. (a ≡ []) × G.begun (t ∷ []);
     parse = λ ts. cond (sees K ks ts) (Err (Over (length ts))) (Err (At (length ts)));
   }
 
