@@ -1,10 +1,10 @@
 -- Programs whose `main` computes with variables of type `int` alone, each a block of its own whose number is its name.
-use Rattle.std.specs.Prelude.{◌≡◌, ℕ, ◌+◌, ◌<◌, ◌≤◌, ℤ, pos, ◌≤ℤ◌, List, [], ◌∷◌, All, Option, Some, None, codes, slice_get}
+use Rattle.std.specs.Prelude.{◌≡◌, ℕ, ◌+◌, ◌<◌, ◌≤◌, ℤ, pos, ◌≤ℤ◌, List, [], ◌∷◌, Option, Some, None, codes, slice_get}
 use Rattle.c_syntax.specs.declared.place.Place.{Place}
 use Rattle.c_syntax.specs.declared.expression.Use.{Use}
 use Rattle.c_syntax.specs.declared.expression.BinOp.{BinOp}
 use Rattle.c_syntax.specs.declared.expression.BinOp.TheVariants.{Add, Sub, Eq, Ne, Lt, Le, Gt, Ge}
-use Rattle.c_syntax.specs.Ctypes.{PlainType, int_type}
+use Rattle.c_syntax.specs.Ctypes.{int_type}
 use Rattle.c_syntax.specs.Expressions.{Expression, Number, Letter, Variable, Binary, Assign, Call, Expressions, NoExpression, Following}
 use Rattle.c_syntax.specs.Annotations.{LogicTerm, Predicate, Chain, Links, NoLink, Linked, ClauseBody, Truth, Annotation}
 use Rattle.c_syntax.specs.Annotations as logic
@@ -97,7 +97,7 @@ IsIntBody n (Truth p) = IsIntPredicate n p
 
 abbrev pub AreIntAnnotations : ℕ → List Annotation → Type 0
 AreIntAnnotations n [] = Unit {0}
-AreIntAnnotations n (a ∷ as) = IsIntBody n a.body × AreIntAnnotations n as
+AreIntAnnotations n (a ∷ rest) = IsIntBody n a.body × AreIntAnnotations n rest
 
 -- a statement over the variables 1 to n that declares none
 abbrev mutual

@@ -12,17 +12,41 @@ pub record LoopFits (A : Type 0) (ks f : A → List ℕ) (m : A → A → List �
   pub over : (x y : A) → within (m x y) (more y) ≡ true
   pub greedy : (x : A) → within (ks x) (more x) ≡ true
 
+bind_same : {A B : Type 0} (r : Result A Fault) (f g : A → Result B Fault) → ((x : A) → r ≡ Ok x → f x ≡ g x) → (r >>= f) ≡ (r >>= g)
+bind_same (Ok x) f g h = h x refl
+bind_same (Err n) f g h = refl
+
+pub rest_within : {T : Type 0} (ts front rest : List T) → ts ≡ front ++ rest → length rest ≤ length ts
+rest_within ts front rest e = omega (arith, ap length e, length-append front rest)
+
+pub split_same : {A : Type 0} (a b r s : List A) → a ++ r ≡ b ++ s → length r ≡ length s → (a ≡ b) × (r ≡ s)
+split_same [] [] r s e l = (refl, e)
+split_same [] (y ∷ b) r s e l = absurd (omega (arith, ap length e, length-append b s))
+split_same (x ∷ a) [] r s e l = absurd (omega (arith, ap length e, length-append a r))
+split_same (x ∷ a) (y ∷ b) r s e l =
+    let same : x ≡ y = cc in
+    let rest : a ++ r ≡ b ++ s = cc in
+    let p = split_same a b r s rest l in
+    (rw (same, p.0) refl, p.1)
+
+abbrev up : ℕ → ℕ → ℕ
+up zero j = j
+up (suc d) j = suc (up d j)
+
+up_is : (d j : ℕ) → up d j ≡ d + j
+up_is zero j = omega arith
+up_is (suc d) j = omega (arith, up_is d j)
+
+split_front : {A : Type 0} (ts a b r s : List A) → ts ≡ a ++ r → ts ≡ b ++ s → length r ≡ length s → a ≡ b
+split_front ts a b r s p q l = (split_same a b r s (sym p ∙ q) l).0
+
+split_rest : {A : Type 0} (ts a b r s : List A) → ts ≡ a ++ r → ts ≡ b ++ s → length r ≡ length s → r ≡ s
+split_rest ts a b r s p q l = (split_same a b r s (sym p ∙ q) l).1
+
 module _ {T : Type 0} (K : T → ℕ) where
 
   pub same_good : {A : Type 0} (n : ℕ) (G : Syntax T A) (null : Bool) (first : List ℕ) (more : A → List ℕ) → IsExact K G null first more → IsGood K n G G null first more
   same_good n G null first more g = record { here = g; there = g; reads = λ a x r. r; begun = λ a b. b; late = λ a t l. l; agree = λ ts h. refl }
-
-  bind_same : {A B : Type 0} (r : Result A Fault) (f g : A → Result B Fault) → ((x : A) → r ≡ Ok x → f x ≡ g x) → (r >>= f) ≡ (r >>= g)
-  bind_same (Ok x) f g h = h x refl
-  bind_same (Err n) f g h = refl
-
-  pub rest_within : (ts front rest : List T) → ts ≡ front ++ rest → length rest ≤ length ts
-  rest_within ts front rest e = omega (arith, ap length e, length-append front rest)
 
   pub rest_below : {A : Type 0} (G : Syntax T A) (first : List ℕ) (more : A → List ℕ) → IsExact K G false first more → (ts : List T) (x : A) (front rest : List T) → ts ≡ front ++ rest → G.reads front x → length rest < length ts
   rest_below G first more g ts x [] rest e r = absurd (let f = g.filled x r in cc)
@@ -92,30 +116,6 @@ module _ {T : Type 0} (K : T → ℕ) where
     }
 
   -- ---- any bound
-
-  pub split_same : {A : Type 0} (a b r s : List A) → a ++ r ≡ b ++ s → length r ≡ length s → (a ≡ b) × (r ≡ s)
-  split_same [] [] r s e l = (refl, e)
-  split_same [] (y ∷ b) r s e l = absurd (omega (arith, ap length e, length-append b s))
-  split_same (x ∷ a) [] r s e l = absurd (omega (arith, ap length e, length-append a r))
-  split_same (x ∷ a) (y ∷ b) r s e l =
-      let same : x ≡ y = cc in
-      let rest : a ++ r ≡ b ++ s = cc in
-      let p = split_same a b r s rest l in
-      (rw (same, p.0) refl, p.1)
-
-  abbrev up : ℕ → ℕ → ℕ
-  up zero j = j
-  up (suc d) j = suc (up d j)
-
-  up_is : (d j : ℕ) → up d j ≡ d + j
-  up_is zero j = omega arith
-  up_is (suc d) j = omega (arith, up_is d j)
-
-  split_front : {A : Type 0} (ts a b r s : List A) → ts ≡ a ++ r → ts ≡ b ++ s → length r ≡ length s → a ≡ b
-  split_front ts a b r s p q l = (split_same a b r s (sym p ∙ q) l).0
-
-  split_rest : {A : Type 0} (ts a b r s : List A) → ts ≡ a ++ r → ts ≡ b ++ s → length r ≡ length s → r ≡ s
-  split_rest ts a b r s p q l = (split_same a b r s (sym p ∙ q) l).1
 
   module _ {A : Type 0} (F : ℕ → Syntax T A) (null : Bool) (first : List ℕ) (more : A → List ℕ) (good : (k : ℕ) → IsGood K k (F k) (F (suc k)) null first more) where
     reads_up : (d j : ℕ) (a : List T) (x : A) → (F j).reads a x → (F (up d j)).reads a x

@@ -4,3 +4,4 @@ pub mod Bounds
 pub mod Productions
 pub mod Theorem
 pub mod Limits
+pub mod Solid

@@ -1,5 +1,6 @@
 -- Limits: a production that stands one too deep, and at most n tokens of a production.
 use Rattle.std.proofs.Common.{◌≡◌, ℕ, zero, suc, ◌+◌, ◌-◌, ◌<◌, ◌≤◌, Bool, true, false, cond, ltb, List, [], ◌∷◌, ◌++◌, length, Result, Ok, Err, refl, sym, ◌∙◌, ap, subst, ◌⊎◌, inl, inr, append_assoc, arith, length-append}
+use Rattle.std.proofs.lemmas.List.{append-nil}
 use Rattle.std.proofs.lemmas.Bool.{lt-ltb, le-ltb, ltb-true, ltb-false}
 use Rattle.grammar.specs.Syntax.{Syntax, Fault, At, Over, among, sees, deep, at_most, capped}
 use Rattle.grammar.specs.Exact.{SameHead, Takes, Fails, Overs, Late, RunsOut, IsExact, IsGood}
@@ -111,3 +112,209 @@ parted_at : {T : Type 0} (n : ℕ) (ts : List T) → n < length ts → (f : List
 parted_at n [] lt = absurd (omega arith)
 parted_at zero (t ∷ ts) lt = ([], t, ts, refl, refl)
 parted_at (suc n) (t ∷ ts) lt = let p = parted_at n ts (omega arith) in (t ∷ p.0, p.1, p.2, ap (λ w. t ∷ w) p.3, ap suc p.4)
+
+-- a text parted behind f and t, and elsewhere
+same_parting : {T : Type 0} (f : List T) (t : T) (u front rest : List T) → f ++ (t ∷ u) ≡ front ++ rest → (f ++ (t ∷ [])) ++ u ≡ front ++ rest
+same_parting f t u front rest e = append_assoc f (t ∷ []) u ∙ e
+
+place_is : {T A : Type 0} (r s : Result (A × List T) Fault) → r ≡ s → place r ≡ place s
+place_is r s e = ap place e
+
+above : (a b : ℕ) → (b ≤ a) ⊎ (a < b)
+above a b = decided (ltb a b) refl
+  where
+    decided : (c : Bool) → ltb a b ≡ c → (b ≤ a) ⊎ (a < b)
+    decided true e = inr (ltb-true a b e)
+    decided false e = inl (ltb-false a b e)
+
+module _ {T : Type 0} (K : T → ℕ) {A : Type 0} (n : ℕ) (G : Syntax T A) (null : Bool) (first : List ℕ) (more : A → List ℕ) (g : IsExact K G null first more) where
+  -- where f and t are begun, reading goes past t, or a limit is passed at t or before
+  far_ok : (f : List T) (t : T) (u : List T) (x : A) (front rest : List T) → G.begun (f ++ (t ∷ [])) → ((v : List T) → SameHead rest v → G.parse (front ++ v) ≡ Ok (x, v)) → ((e : List T) × (front ≡ (f ++ (t ∷ [])) ++ e)) ⊎ ((e : List T) × (f ++ (t ∷ []) ≡ front ++ e) × (rest ≡ e ++ u)) → f ++ (t ∷ u) ≡ front ++ rest → length rest ≤ length u
+  far_ok f t u x front rest b l (inl p) e = omega (arith, ap length e, ap length p.1, length-append front rest, length-append (f ++ (t ∷ [])) p.0, length-append f (t ∷ []), length-append f (t ∷ u))
+  far_ok f t u x front rest b l (inr ([], p, q)) e = omega (arith, ap length q)
+  far_ok f t u x front rest b l (inr (v ∷ vs, p, q)) e =
+      let stops : G.parse (front ++ (v ∷ vs)) ≡ Ok (x, v ∷ vs) = l (v ∷ vs) (rw q refl) in
+      let out = subst (λ (w : List T). RunsOut (G.parse w)) p (g.runs (f ++ (t ∷ [])) b) in
+      let none : v ∷ vs ≡ [] = subst (λ (r : Result (A × List T) Fault). RunsOut r) stops out in
+      absurd cc
+
+  far_at : (f : List T) (t : T) (u : List T) (front rest : List T) → G.begun (f ++ (t ∷ [])) → ((v : List T) → SameHead rest v → G.parse (front ++ v) ≡ Err (At (length v))) → ((e : List T) × (front ≡ (f ++ (t ∷ [])) ++ e)) ⊎ ((e : List T) × (f ++ (t ∷ []) ≡ front ++ e) × (rest ≡ e ++ u)) → f ++ (t ∷ u) ≡ front ++ rest → length rest ≤ length u
+  far_at f t u front rest b l (inl p) e = omega (arith, ap length e, ap length p.1, length-append front rest, length-append (f ++ (t ∷ [])) p.0, length-append f (t ∷ []), length-append f (t ∷ u))
+  far_at f t u front rest b l (inr ([], p, q)) e = omega (arith, ap length q)
+  far_at f t u front rest b l (inr (v ∷ vs, p, q)) e =
+      let stops : G.parse (front ++ (v ∷ vs)) ≡ Err (At (suc (length vs))) = l (v ∷ vs) (rw q refl) in
+      let out = subst (λ (w : List T). RunsOut (G.parse w)) p (g.runs (f ++ (t ∷ [])) b) in
+      let none : suc (length vs) ≡ 0 = subst (λ (r : Result (A × List T) Fault). RunsOut r) stops out in
+      absurd (omega (arith, none))
+
+  far : (f : List T) (t : T) (u : List T) (r : Result (A × List T) Fault) → G.begun (f ++ (t ∷ [])) → G.parse (f ++ (t ∷ u)) ≡ r → (place r ≤ length u) ⊎ Late r (suc (length u))
+  far f t u (Ok x) b e =
+      let w = g.takes (f ++ (t ∷ u)) x.0 x.1 e in
+      inl (far_ok f t u x.0 w.front x.1 b w.local (front_parts (f ++ (t ∷ [])) u w.front x.1 (same_parting f t u w.front x.1 w.parts)) w.parts)
+  far f t u (Err (At m)) b e =
+      let w = g.fails (f ++ (t ∷ u)) m e in
+      let l = w.left in
+      let k = far_at f t u w.front w.rest b w.local (front_parts (f ++ (t ∷ [])) u w.front w.rest (same_parting f t u w.front w.rest w.parts)) w.parts in
+      inl (omega arith)
+  far f t u (Err (Over m)) b e = elim (above (length u) m) [ inl le ↦ inl le | inr lt ↦ inr (record { left = m; enough = lt; is = refl }) ]
+
+  -- what reading went past is begun
+  past_begun : (f : List T) (t : T) (r front rest : List T) → G.begun front → length rest ≤ length r → ((e : List T) × (front ≡ (f ++ (t ∷ [])) ++ e)) ⊎ ((e : List T) × (f ++ (t ∷ []) ≡ front ++ e) × (rest ≡ e ++ r)) → G.begun (f ++ (t ∷ []))
+  past_begun f t r front rest b le (inl p) = g.fronts (f ++ (t ∷ [])) p.0 (subst (λ (w : List T). G.begun w) p.1 b)
+  past_begun f t r front rest b le (inr ([], p, q)) = rw (p, append-nil front) b
+  past_begun f t r front rest b le (inr (v ∷ vs, p, q)) = absurd (omega (arith, ap length q, length-append vs r))
+
+  past : (f : List T) (t : T) (r : List T) (p : Result (A × List T) Fault) → G.parse (f ++ (t ∷ r)) ≡ p → place p ≤ length r → G.begun (f ++ (t ∷ []))
+  past f t r (Ok x) e le =
+      let w = g.takes (f ++ (t ∷ r)) x.0 x.1 e in
+      past_begun f t r w.front x.1 (g.begins w.front x.0 w.is) le (front_parts (f ++ (t ∷ [])) r w.front x.1 (same_parting f t r w.front x.1 w.parts))
+  past f t r (Err (At m)) e le =
+      let w = g.fails (f ++ (t ∷ r)) m e in
+      past_begun f t r w.front w.rest w.is (let l = w.left in omega arith) (front_parts (f ++ (t ∷ [])) r w.front w.rest (same_parting f t r w.front w.rest w.parts))
+  past f t r (Err (Over m)) e le =
+      let w = g.overs (f ++ (t ∷ r)) m e in
+      let l = w.left in
+      past_begun f t r w.front (w.token ∷ w.rest) (g.fronts w.front (w.token ∷ []) (g.late_begins w.front w.token w.is)) (omega arith) (front_parts (f ++ (t ∷ [])) r w.front (w.token ∷ w.rest) (same_parting f t r w.front (w.token ∷ w.rest) w.parts))
+
+  below : (a b : List T) → length a ≤ n → ltb (n + length b) (length (a ++ b)) ≡ false
+  below a b le = le-ltb (n + length b) (length (a ++ b)) (omega (arith, length-append a b))
+
+  beyond : (f : List T) (t : T) (u : List T) (p : ℕ) → length f ≡ n → p ≤ length u → ltb (n + p) (length (f ++ (t ∷ u))) ≡ true
+  beyond f t u p e le = lt-ltb (n + p) (length (f ++ (t ∷ u))) (omega (arith, e, length-append f (t ∷ u)))
+
+  behind_n : (f : List T) (t : T) (u : List T) → length f ≡ n → length (f ++ (t ∷ u)) - n ≡ suc (length u)
+  behind_n f t u e = omega (arith, e, length-append f (t ∷ u))
+
+  answer : (ts : List T) → ((ltb (n + place (G.parse ts)) (length ts) ≡ false) × ((at_most n G).parse ts ≡ G.parse ts)) ⊎ ((ltb (n + place (G.parse ts)) (length ts) ≡ true) × ((at_most n G).parse ts ≡ Err (Over (length ts - n))))
+  answer ts = elim (uncut n (length ts) (G.parse ts) (ltb (n + place (G.parse ts)) (length ts)) refl) [ inl p ↦ inl p | inr p ↦ inr p ]
+
+  front_short : (ts front rest : List T) (p : ℕ) → ts ≡ front ++ rest → p ≡ length rest → ltb (n + p) (length ts) ≡ false → length front ≤ n
+  front_short ts front rest p e l h = omega (arith, ltb-false (n + p) (length ts) h, l, ap length e, length-append front rest)
+
+  at_most_takes : (ts : List T) (x : A) (rest : List T) → (at_most n G).parse ts ≡ Ok (x, rest) → Takes (at_most n G).parse (at_most n G).reads ts x rest
+  at_most_takes ts x rest e =
+      elim (answer ts) [
+        | inl p ↦
+          let q : G.parse ts ≡ Ok (x, rest) = sym p.1 ∙ e in
+          let w = g.takes ts x rest q in
+          let short = front_short ts w.front rest (place (G.parse ts)) w.parts (ap place q) p.0 in
+          record {
+            front = w.front;
+            parts = w.parts;
+            is = (w.is, short);
+            local = λ u s. let l = w.local u s in ap (capped n (length (w.front ++ u))) l ∙ capped_in n (length (w.front ++ u)) (Ok (x, u)) (below w.front u short);
+          }
+        | inr p ↦ absurd (let q : Err (Over (length ts - n)) ≡ Ok (x, rest) = sym p.1 ∙ e in cc)
+      ]
+
+  at_most_fails : (ts : List T) (m : ℕ) → (at_most n G).parse ts ≡ Err (At m) → Fails (at_most n G).parse (at_most n G).begun ts m
+  at_most_fails ts m e =
+      elim (answer ts) [
+        | inl p ↦
+          let q : G.parse ts ≡ Err (At m) = sym p.1 ∙ e in
+          let w = g.fails ts m q in
+          let short = front_short ts w.front w.rest (place (G.parse ts)) w.parts (ap place q ∙ w.left) p.0 in
+          record {
+            front = w.front;
+            rest = w.rest;
+            parts = w.parts;
+            left = w.left;
+            is = w.is;
+            local = λ u s. let l = w.local u s in ap (capped n (length (w.front ++ u))) l ∙ capped_in n (length (w.front ++ u)) (Err (At (length u))) (below w.front u short);
+          }
+        | inr p ↦ absurd (let q : Err (Over (length ts - n)) ≡ Err (At m) = sym p.1 ∙ e in cc)
+      ]
+
+  -- where reading goes past t, no limit is passed at t or before, whatever follows
+  no_late : (f : List T) (t : T) (r front rest : List T) (v : T) → place (G.parse (f ++ (t ∷ r))) ≤ length r → G.late front v → (e : List T) → f ++ (t ∷ []) ≡ (front ++ (v ∷ [])) ++ e → ⊥
+  no_late f t r front rest v le l e p =
+      let w = g.lates front v (e ++ r) l in
+      let k = w.enough in
+      let whole : f ++ (t ∷ r) ≡ front ++ (v ∷ (e ++ r)) = sym (append_assoc f (t ∷ []) r) ∙ ap (λ (z : List T). z ++ r) p ∙ append_assoc (front ++ (v ∷ [])) e r ∙ append_assoc front (v ∷ []) (e ++ r) in
+      let q : place (G.parse (f ++ (t ∷ r))) ≡ w.left = ap (λ (z : List T). place (G.parse z)) whole ∙ ap place w.is in
+      omega (arith, q, length-append e r)
+
+  late_before : (f : List T) (t : T) (r u front rest : List T) (v : T) → place (G.parse (f ++ (t ∷ r))) ≤ length r → G.late front v → length u ≤ length rest → ((e : List T) × (f ++ (t ∷ []) ≡ (front ++ (v ∷ [])) ++ e)) ⊎ ((e : List T) × (front ++ (v ∷ []) ≡ (f ++ (t ∷ [])) ++ e) × (u ≡ e ++ rest)) → ⊥
+  late_before f t r u front rest v le l k (inl p) = no_late f t r front rest v le l p.0 p.1
+  late_before f t r u front rest v le l k (inr ([], p, q)) = no_late f t r front rest v le l [] (sym (p ∙ append-nil (f ++ (t ∷ []))) ∙ sym (append-nil (front ++ (v ∷ []))))
+  late_before f t r u front rest v le l k (inr (x ∷ e, p, q)) = omega (arith, ap length q, length-append e rest, k)
+
+  far_anyway : (f : List T) (t : T) (r u : List T) → place (G.parse (f ++ (t ∷ r))) ≤ length r → (place (G.parse (f ++ (t ∷ u))) ≤ length u) ⊎ Late (G.parse (f ++ (t ∷ u))) (suc (length u)) → place (G.parse (f ++ (t ∷ u))) ≤ length u
+  far_anyway f t r u le (inl h) = h
+  far_anyway f t r u le (inr w) =
+      let o = g.overs (f ++ (t ∷ u)) w.left w.is in
+      let k = w.enough in
+      let l = o.left in
+      absurd (late_before f t r u o.front o.rest o.token le o.is (omega arith) (front_parts (o.front ++ (o.token ∷ [])) o.rest (f ++ (t ∷ [])) u (append_assoc o.front (o.token ∷ []) o.rest ∙ sym o.parts ∙ sym (append_assoc f (t ∷ []) u))))
+
+  -- the answer behind the n-th token does not depend on what follows
+  over_at : (f : List T) (t : T) (u : List T) → length f ≡ n → place (G.parse (f ++ (t ∷ u))) ≤ length u → (at_most n G).parse (f ++ (t ∷ u)) ≡ Err (Over (suc (length u)))
+  over_at f t u e le = capped_out n (length (f ++ (t ∷ u))) (G.parse (f ++ (t ∷ u))) (beyond f t u (place (G.parse (f ++ (t ∷ u)))) e le) ∙ ap (λ (k : ℕ). Err (Over k)) (behind_n f t u e)
+
+  at_most_over : (ts : List T) (m : ℕ) (f : List T) (t : T) (r : List T) → ts ≡ f ++ (t ∷ r) → length f ≡ n → m ≡ length ts - n → ltb (n + place (G.parse ts)) (length ts) ≡ true → Overs (at_most n G).parse (at_most n G).late ts m
+  at_most_over ts m f t r e l k h =
+      let le : place (G.parse (f ++ (t ∷ r))) ≤ length r = omega (arith, ltb-true (n + place (G.parse ts)) (length ts) h, ap (λ (z : List T). place (G.parse z)) e, ap length e, length-append f (t ∷ r), l) in
+      let b = past f t r (G.parse (f ++ (t ∷ r))) refl le in
+      record {
+        front = f;
+        token = t;
+        rest = r;
+        parts = e;
+        left = k ∙ ap (λ (z : List T). length z - n) e ∙ behind_n f t r l;
+        is = inr (l, b);
+        local = λ u. over_at f t u l (far_anyway f t r u le (far f t u (G.parse (f ++ (t ∷ u))) b refl));
+      }
+
+  at_most_overs : (ts : List T) (m : ℕ) → (at_most n G).parse ts ≡ Err (Over m) → Overs (at_most n G).parse (at_most n G).late ts m
+  at_most_overs ts m e =
+      elim (answer ts) [
+        | inl p ↦
+          let q : G.parse ts ≡ Err (Over m) = sym p.1 ∙ e in
+          let w = g.overs ts m q in
+          let short = front_short ts w.front (w.token ∷ w.rest) (place (G.parse ts)) w.parts (ap place q ∙ w.left) p.0 in
+          record {
+            front = w.front;
+            token = w.token;
+            rest = w.rest;
+            parts = w.parts;
+            left = w.left;
+            is = inl w.is;
+            local = λ u. let l = w.local u in ap (capped n (length (w.front ++ (w.token ∷ u)))) l ∙ capped_in n (length (w.front ++ (w.token ∷ u))) (Err (Over (suc (length u)))) (below w.front (w.token ∷ u) short);
+          }
+        | inr p ↦
+          let q : Err (Over (length ts - n)) ≡ Err (Over m) = sym p.1 ∙ e in
+          let c = parted_at n ts (omega (arith, ltb-true (n + place (G.parse ts)) (length ts) p.0)) in
+          at_most_over ts m c.0 c.1 c.2 c.3 c.4 (cc) p.0
+      ]
+
+  kept : (a : List T) (x : A) (b : List T) → length a ≤ n → (G.parse (a ++ b) ≡ Ok (x, b)) ⊎ Late (G.parse (a ++ b)) (suc (length b)) → ((at_most n G).parse (a ++ b) ≡ Ok (x, b)) ⊎ Late ((at_most n G).parse (a ++ b)) (suc (length b))
+  kept a x b le (inl e) = inl (ap (capped n (length (a ++ b))) e ∙ capped_in n (length (a ++ b)) (Ok (x, b)) (below a b le))
+  kept a x b le (inr w) = inr (late_capped n (length (a ++ b)) (G.parse (a ++ b)) (ltb (n + place (G.parse (a ++ b))) (length (a ++ b))) (suc (length b)) refl w)
+
+  late_there : (a : List T) (t : T) (u : List T) → length a ≡ n → (place (G.parse (a ++ (t ∷ u))) ≤ length u) ⊎ Late (G.parse (a ++ (t ∷ u))) (suc (length u)) → Late ((at_most n G).parse (a ++ (t ∷ u))) (suc (length u))
+  late_there a t u e (inl le) = record { left = suc (length u); enough = omega arith; is = over_at a t u e le }
+  late_there a t u e (inr w) = late_capped n (length (a ++ (t ∷ u))) (G.parse (a ++ (t ∷ u))) (ltb (n + place (G.parse (a ++ (t ∷ u)))) (length (a ++ (t ∷ u)))) (suc (length u)) refl w
+
+  at_most_lates : (a : List T) (t : T) (u : List T) → (at_most n G).late a t → Late ((at_most n G).parse (a ++ (t ∷ u))) (suc (length u))
+  at_most_lates a t u (inl l) = late_capped n (length (a ++ (t ∷ u))) (G.parse (a ++ (t ∷ u))) (ltb (n + place (G.parse (a ++ (t ∷ u)))) (length (a ++ (t ∷ u)))) (suc (length u)) refl (g.lates a t u l)
+  at_most_lates a t u (inr l) = late_there a t u l.0 (far a t u (G.parse (a ++ (t ∷ u))) l.1 refl)
+
+  at_most_late_begins : (a : List T) (t : T) → (at_most n G).late a t → G.begun (a ++ (t ∷ []))
+  at_most_late_begins a t (inl l) = g.late_begins a t l
+  at_most_late_begins a t (inr l) = l.1
+
+  pub at_most_exact : IsExact K (at_most n G) null first more
+  at_most_exact = record {
+    takes = at_most_takes;
+    fails = at_most_fails;
+    overs = at_most_overs;
+    again = λ a x b r s. kept a x b r.1 (g.again a x b r.0 s);
+    lates = at_most_lates;
+    late_begins = at_most_late_begins;
+    runs = λ a b. runs_capped n (length a) (G.parse a) (ltb (n + place (G.parse a)) (length a)) refl (g.runs a b);
+    begins = λ a x r. g.begins a x r.0;
+    fronts = g.fronts;
+    empty = g.empty;
+    starts = g.starts;
+    filled = λ x r. g.filled x r.0;
+  }

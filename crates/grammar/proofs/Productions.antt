@@ -21,7 +21,7 @@ implied false c e h = absurd cc
 abbrev pub empties : Bool → List ℕ → List ℕ
 empties b xs = cond b xs []
 
-turns_fit : {A : Type 0} (ks f m : List ℕ) → and (apart ks m) (within f ks) ≡ true → LoopFits A (λ _. ks) (λ _. f) (λ _ _. m) (λ _. ks ++ m)
+pub turns_fit : {A : Type 0} (ks f m : List ℕ) → and (apart ks m) (within f ks) ≡ true → LoopFits A (λ _. ks) (λ _. f) (λ _ _. m) (λ _. ks ++ m)
 turns_fit ks f m e =
     let p = cond_true (apart ks m) (within f ks) e in
     record { clash = λ x y. p.0; taken = λ x. p.1; over = λ x y. within_right ks m; greedy = λ x. within_left ks m }

@@ -1,0 +1,196 @@
+-- What expressions, statements and whole programs do (C99 6.5, 6.8, 5.1.2.2.3; evaluation goes from left to right).
+use Rattle.std.specs.Prelude.{ℕ, zero, suc, pos, Bool, cond, if◌then◌else◌, nat_eq, List, [], ◌∷◌, ◌++◌, Option, Some, None, slice_get, codes, bytes_eq}
+use Rattle.std.specs.Ordering.{int_eq}
+use Rattle.c_syntax.specs.declared.place.Place.{Place}
+use Rattle.c_syntax.specs.declared.expression.Use.{Use}
+use Rattle.c_syntax.specs.declared.expression.BinOp.{BinOp}
+use Rattle.c_syntax.specs.Ctypes.{PlainType}
+use Rattle.c_syntax.specs.Expressions.{Expression, Number, Letter, Variable, Binary, Assign, Call, Expressions, NoExpression, Following}
+use Rattle.c_syntax.specs.Statements.{Initialiser, One, Declaration, Statement, Eval, Block, If, While, Return, ElsePart, NoElse, Else, BlockItem, Declare, Run, Asserts, BlockItems, NoItem, Then}
+use Rattle.c_syntax.specs.Programs.{Function, TranslationUnit}
+use Rattle.c_model.specs.Integers.{operate, byte_of}
+use Rattle.c_model.specs.Memory.{Pointer, Value, Integer}
+use Rattle.c_model.specs.State.{Input, State, Breaks, Continues, Returns, Final, Exits, Undefined, Fault, Spent, Leaves, Over, Outcome, Normal, Stop, Evaluation, ◌>>=◌, ◌>>◌, give, done, stop, defined, step, print, object, read, write, births, frame, mark, within}
+use Rattle.c_model.specs.Logic.{checks}
+
+-- what a call of a name does with these values
+abbrev pub Callee : Type 0
+Callee = Place → Use → List Value → Evaluation Value
+
+-- an operator on two values
+abbrev pub operate_values : PlainType → BinOp → Value → Value → Option Value
+operate_values t op (Integer x) (Integer y) = elim (operate t op x y) [ None ↦ None | Some z ↦ Some (Integer z) ]
+
+-- what an expression gives, and where the object of one stands that designates an object (C99 6.3.2.1)
+abbrev mutual
+  pub eval_with : Expression → Callee → Evaluation Value
+  eval_with (Number at t n k) call = give (Integer n)
+  eval_with (Letter at t n) call = give (Integer n)
+  eval_with (Variable at t x) call = do
+    p ← object at x.name
+    read at p t
+  eval_with (Binary at t op a b) call = do
+    x ← eval_with a call
+    y ← eval_with b call
+    defined at (operate_values t op x y)
+  eval_with (Assign at t None a b) call = do
+    p ← place_with a call
+    v ← eval_with b call
+    write at p t v >> give v
+  eval_with (Assign at t (Some op) a b) call = do
+    p ← place_with a call
+    x ← read at p t
+    y ← eval_with b call
+    v ← defined at (operate_values t op x y)
+    write at p t v >> give v
+  eval_with (Call at t f args) call = do
+    vs ← evals_with args call
+    call at f vs
+
+  pub place_with : Expression → Callee → Evaluation Pointer
+  place_with (Variable at t x) call = object at x.name
+  place_with (Number at t n k) call = stop (Over (Undefined at))
+  place_with (Letter at t n) call = stop (Over (Undefined at))
+  place_with (Binary at t op a b) call = stop (Over (Undefined at))
+  place_with (Assign at t op a b) call = stop (Over (Undefined at))
+  place_with (Call at t f args) call = stop (Over (Undefined at))
+
+  -- arguments, from left to right
+  pub evals_with : Expressions → Callee → Evaluation (List Value)
+  evals_with NoExpression call = give []
+  evals_with (Following e es) call = do
+    v ← eval_with e call
+    vs ← evals_with es call
+    give (v ∷ vs)
+
+abbrev pub is_zero : Value → Bool
+is_zero (Integer z) = int_eq z (pos 0)
+
+-- 0 chooses the second (C99 6.8.4.1, 6.8.5)
+abbrev pub choose : {A : Type 0} → Value → Evaluation A → Evaluation A → Evaluation A
+choose v a b = cond (is_zero v) b a
+
+-- a loop's body, and then its other turns (C99 6.8.6.2, 6.8.6.3)
+abbrev pub after_body : Outcome (Unit {0}) → Evaluation (Unit {0}) → Outcome (Unit {0})
+after_body (Normal u s) again = again s
+after_body (Stop (Leaves Continues) s) again = again s
+after_body (Stop (Leaves Breaks) s) again = Normal tt s
+after_body (Stop (Leaves (Returns v)) s) again = Stop (Leaves (Returns v)) s
+after_body (Stop (Over e) s) again = Stop (Over e) s
+
+-- at most n turns of a loop: the condition, a step, the body
+abbrev pub turns : ℕ → Evaluation Value → Evaluation (Unit {0}) → Evaluation (Unit {0})
+turns zero test body = stop (Over Spent)
+turns (suc n) test body = do
+  v ← test
+  choose v (step >> λ s. after_body (body s) (turns n test body)) done
+
+-- the declarations that stand directly in a block
+abbrev pub declared_in : BlockItems → List Declaration
+declared_in NoItem = []
+declared_in (Then (Declare ds) rest) = ds ++ declared_in rest
+declared_in (Then (Run a) rest) = declared_in rest
+declared_in (Then (Asserts annots) rest) = declared_in rest
+
+-- the initialisation of a declared object, in its place of the order (C99 6.7.8, 6.8 p3)
+abbrev pub initialise : Declaration → Option (Place × Initialiser) → Callee → Evaluation (Unit {0})
+initialise d None call = done
+initialise d (Some (at, One e)) call = do
+  p ← object at d.name
+  v ← eval_with e call
+  write at p d.ctype v
+
+abbrev pub initialise_all : List Declaration → Callee → Evaluation (Unit {0})
+initialise_all [] call = done
+initialise_all (d ∷ ds) call = initialise d d.init call >> initialise_all ds call
+
+-- what a statement does, where calls do this and each loop makes at most n turns
+abbrev mutual
+  pub exec_with : Statement → Callee → ℕ → Evaluation (Unit {0})
+  exec_with (Eval at e) call n = eval_with e call >> done
+  exec_with (Block at items) call n = within (births (declared_in items) >> items_with items call n)
+  exec_with (If at e a b) call n = do
+    v ← eval_with e call
+    choose v (exec_with a call n) (else_with b call n)
+  exec_with (While at annots e a) call n = turns n (eval_with e call) (exec_with a call n)
+  exec_with (Return at None) call n = stop (Leaves (Returns None))
+  exec_with (Return at (Some e)) call n = do
+    v ← eval_with e call
+    stop (Leaves (Returns (Some v)))
+
+  pub else_with : ElsePart → Callee → ℕ → Evaluation (Unit {0})
+  else_with NoElse call n = done
+  else_with (Else a) call n = exec_with a call n
+
+  pub item_with : BlockItem → Callee → ℕ → Evaluation (Unit {0})
+  item_with (Declare ds) call n = initialise_all ds call
+  item_with (Run a) call n = exec_with a call n
+  item_with (Asserts annots) call n = checks annots
+
+  pub items_with : BlockItems → Callee → ℕ → Evaluation (Unit {0})
+  items_with NoItem call n = done
+  items_with (Then i rest) call n = item_with i call n >> items_with rest call n
+
+-- putchar gives the byte that it wrote (C99 7.19.7.3)
+abbrev pub put_char : Place → List Value → Evaluation Value
+put_char at [] = stop (Over (Undefined at))
+put_char at (Integer z ∷ []) = print (byte_of z) >> give (Integer (pos (byte_of z)))
+put_char at (v ∷ w ∷ vs) = stop (Over (Undefined at))
+
+-- a call of a library function, by its name
+abbrev pub library_call : Place → Option (List ℕ) → List Value → Evaluation Value
+library_call at None vs = stop (Over (Undefined at))
+library_call at (Some name) vs = if bytes_eq name (codes "putchar") then put_char at vs else stop (Over (Undefined at))
+
+-- what calls do in a program, at most n deep
+abbrev pub call_of : TranslationUnit → ℕ → Callee
+call_of p n at f vs = if nat_eq f.decl 4294967295 then library_call at (slice_get p.names f.name) vs else stop (Over (Undefined at))
+
+abbrev pub eval : TranslationUnit → ℕ → Expression → Evaluation Value
+eval p n e = eval_with e (call_of p n)
+
+abbrev pub exec : TranslationUnit → ℕ → Statement → Evaluation (Unit {0})
+exec p n a = exec_with a (call_of p n) n
+
+-- the function of a name
+abbrev pub function_named : TranslationUnit → List ℕ → List Function → Option Function
+function_named p name [] = None
+function_named p name (f ∷ fs) = elim (slice_get p.names f.name) [
+  | None ↦ function_named p name fs
+  | Some bytes ↦ if bytes_eq bytes name then Some f else function_named p name fs
+]
+
+abbrev pub body_with : Option Statement → Callee → ℕ → Evaluation (Unit {0})
+body_with None call n = stop (Over Fault)
+body_with (Some a) call n = exec_with a call n
+
+-- a call of main: the frame, the parameters, the mark `Pre`, the body
+abbrev pub main_with : Option Function → Callee → ℕ → Evaluation (Unit {0})
+main_with None call n = stop (Over Fault)
+main_with (Some f) call n = within (frame >> births f.params >> mark None >> body_with f.body call n)
+
+-- the state in which a run begins
+abbrev pub start : Input → ℕ → State
+start input n = record { store = []; scope = []; marks = []; calls = 0; steps = n; input = input; output = [] }
+
+-- a run: its end, what it printed, and the steps left
+pub record Ran : Type 0 where
+  pub final : Final
+  pub output : List ℕ
+  pub left : ℕ
+
+abbrev pub ran_to : Final → State → Ran
+ran_to e s = record { final = e; output = s.output; left = s.steps }
+
+-- main returns 0 at its closing brace (C99 5.1.2.2.3)
+abbrev pub ran : Outcome (Unit {0}) → Ran
+ran (Normal u s) = ran_to (Exits (pos 0)) s
+ran (Stop (Leaves Breaks) s) = ran_to Fault s
+ran (Stop (Leaves Continues) s) = ran_to Fault s
+ran (Stop (Leaves (Returns None)) s) = ran_to (Exits (pos 0)) s
+ran (Stop (Leaves (Returns (Some (Integer z)))) s) = ran_to (Exits z) s
+ran (Stop (Over e) s) = ran_to e s
+
+-- the run of a program on an input with n steps
+abbrev pub run : TranslationUnit → Input → ℕ → Ran
+run p input n = ran (main_with (function_named p (codes "main") p.funcs) (call_of p (suc n)) (suc n) (start input n))

@@ -1,0 +1,78 @@
+-- What the program reports of a run, and when two runs agree.
+use Rattle.std.specs.Prelude.{◌≡◌, ℕ, List, [], ◌∷◌, ◌++◌, Option, Some, None, codes}
+use Rattle.std.specs.Fmt.{decimal, signed_decimal}
+use Rattle.c_syntax.specs.declared.annotation.Kind.{Kind}
+use Rattle.c_syntax.specs.declared.annotation.Kind.TheVariants.{Assert, Requires, Assumes, Ensures, Complete, Disjoint, Invariant, Variant, Rte}
+use Rattle.c_syntax.specs.declared.types.How.{How}
+use Rattle.c_syntax.specs.declared.types.How.TheVariants as how
+use Rattle.c_syntax.specs.declared.types.Segment.{Segment}
+use Rattle.c_syntax.specs.declared.types.Segment.TheVariants.{Heap, Stack, Frames, Numbers}
+use Rattle.c_syntax.specs.Programs.{PlainRefusal}
+use Rattle.c_model.specs.State.{Final, Exits, Broken, Undefined, Fault, Spent, Full, ReadFault}
+use Rattle.c_model.specs.Meaning.{Ran}
+
+-- an exit status, and the line on the error output that goes with it
+pub record Report : Type 0 where
+  pub status : ℕ
+  pub line : List ℕ
+
+-- a line of the program, with its end
+abbrev pub line_of : List ℕ → List ℕ
+line_of words = codes "eacsl: " ++ (words ++ 10 ∷ [])
+
+abbrev pub kind_word : Kind → List ℕ
+kind_word Assert = codes "assert"
+kind_word Requires = codes "requires"
+kind_word Assumes = codes "assumes"
+kind_word Ensures = codes "ensures"
+kind_word Complete = codes "complete"
+kind_word Disjoint = codes "disjoint"
+kind_word Invariant = codes "invariant"
+kind_word Variant = codes "variant"
+kind_word Rte = codes "rte"
+
+abbrev pub how_word : How → List ℕ
+how_word how.False = codes "false"
+how_word how.Undefined = codes "undefined"
+
+abbrev pub segment_word : Segment → List ℕ
+segment_word Heap = codes "heap"
+segment_word Stack = codes "stack"
+segment_word Frames = codes "frames"
+segment_word Numbers = codes "numbers"
+
+-- annotation A, line L: KIND is HOW
+abbrev pub broken_words : ℕ → ℕ → Kind → How → List ℕ
+broken_words number line kind how = codes "annotation " ++ (decimal number ++ (codes ", line " ++ (decimal line ++ (codes ": " ++ (kind_word kind ++ (codes " is " ++ how_word how))))))
+
+-- refused EC at L:C: WORD
+abbrev pub refused_words : PlainRefusal → List ℕ
+refused_words r = codes "refused E" ++ (decimal r.code ++ (codes " at " ++ (decimal r.place.line ++ (codes ":" ++ (decimal r.place.column ++ (codes ": " ++ r.construct))))))
+
+-- the report of an end; an undefined operation has none
+abbrev pub report : Final → Option Report
+report (Exits k) = Some (record { status = 0; line = line_of (codes "exit " ++ signed_decimal k) })
+report (Broken number line kind how) = Some (record { status = 1; line = line_of (broken_words number line kind how) })
+report (Undefined at) = None
+report Fault = Some (record { status = 6; line = line_of (codes "fault") })
+report Spent = Some (record { status = 5; line = line_of (codes "steps spent") })
+report (Full segment) = Some (record { status = 4; line = line_of (codes "full " ++ segment_word segment) })
+report ReadFault = Some (record { status = 7; line = line_of (codes "read fault") })
+
+-- b goes on from what a printed
+pub record Extends (a b : List ℕ) : Type 0 where
+  pub rest : List ℕ
+  pub is : b ≡ a ++ rest
+
+abbrev pub agrees_at : Final → Ran → Ran → Type 0
+agrees_at (Undefined at) a b = Extends a.output b.output
+agrees_at Fault a b = Extends a.output b.output
+agrees_at (Exits k) a b = b ≡ a
+agrees_at (Broken number line kind how) a b = b ≡ a
+agrees_at Spent a b = b ≡ a
+agrees_at (Full segment) a b = b ≡ a
+agrees_at ReadFault a b = b ≡ a
+
+-- b is as a: the same end, output and steps left; or, where a ends undefined, a's output begins b's
+abbrev pub Agrees : Ran → Ran → Type 0
+Agrees a b = agrees_at a.final a b

@@ -1,0 +1,171 @@
+-- States of a run, how it ends, and how evaluations go on from one another (C99 5.1.2.3, 6.2.1, 6.8.6).
+use Rattle.std.specs.Prelude.{ℕ, zero, suc, ◌+◌, ℤ, cond, nat_eq, nat_lt, List, [], ◌∷◌, ◌++◌, length, Option, Some, None}
+use Rattle.c_syntax.specs.declared.place.Place.{Place}
+use Rattle.c_syntax.specs.declared.annotation.Kind.{Kind}
+use Rattle.c_syntax.specs.declared.types.How.{How}
+use Rattle.c_syntax.specs.declared.types.Segment.{Segment}
+use Rattle.c_syntax.specs.declared.types.Segment.TheVariants.{Frames}
+use Rattle.c_syntax.specs.declared.types.BlockKind.TheVariants as block
+use Rattle.c_syntax.specs.Ctypes.{PlainType}
+use Rattle.c_syntax.specs.Statements.{Declaration}
+use Rattle.c_model.specs.Integers.{size_of}
+use Rattle.c_model.specs.Memory.{Pointer, Into, Value, new_block, Store, load, save, kill_from, standard_sizes, full_at_stack_birth}
+
+-- the number of the block of each visible name, the innermost first (C99 6.2.1)
+abbrev pub Scope : Type 0
+Scope = List (ℕ × ℕ)
+
+-- what a label of annotations stands for (ACSL 2.4.3): the scope and the store at its last passage in this call; no name is `Pre`
+pub record Mark : Type 0 where
+  pub label : Option ℕ
+  pub scope : Scope
+  pub store : Store
+
+-- what comes behind the bytes of an input
+pub data InputTail : Type 0 where
+  EndOfInput : InputTail
+  InputFault : InputTail
+
+pub record Input : Type 0 where
+  pub bytes : List ℕ
+  pub tail : InputTail
+
+pub record State : Type 0 where
+  pub store : Store
+  pub scope : Scope
+  pub marks : List Mark
+  -- active calls
+  pub calls : ℕ
+  pub steps : ℕ
+  pub input : Input
+  pub output : List ℕ
+
+-- jumps (C99 6.8.6), with the value that is returned
+pub data Leave : Type 0 where
+  Breaks : Leave
+  Continues : Leave
+  Returns : Option Value → Leave
+
+-- how a run ends
+pub data Final : Type 0 where
+  Exits : ℤ → Final
+  -- the annotation's number, its line, its kind, and how it is broken
+  Broken : ℕ → ℕ → Kind → How → Final
+  -- an undefined operation of the source, at its place
+  Undefined : Place → Final
+  -- a fault of the machine
+  Fault : Final
+  Spent : Final
+  Full : Segment → Final
+  ReadFault : Final
+
+pub data End : Type 0 where
+  Leaves : Leave → End
+  Over : Final → End
+
+-- a value and the state after it, or an end and the state there
+pub data Outcome (A : Type 0) : Type 0 where
+  Normal : A → State → Outcome A
+  Stop : End → State → Outcome A
+
+-- an evaluation: what happens from a state
+abbrev pub Evaluation : Type 0 → Type 0
+Evaluation A = State → Outcome A
+
+abbrev pub on_outcome : {A B : Type 0} → Outcome A → (A → Evaluation B) → Outcome B
+on_outcome (Normal a s) k = k a s
+on_outcome (Stop e s) k = Stop e s
+
+infixl 10 ◌>>=◌
+abbrev pub ◌>>=◌ : {A B : Type 0} → Evaluation A → (A → Evaluation B) → Evaluation B
+m >>= k = λ s. on_outcome (m s) k
+
+infixl 10 ◌>>◌
+abbrev pub ◌>>◌ : {A B : Type 0} → Evaluation A → Evaluation B → Evaluation B
+m >> k = λ s. on_outcome (m s) (λ _. k)
+
+abbrev pub give : {A : Type 0} → A → Evaluation A
+give a = λ s. Normal a s
+
+abbrev pub done : Evaluation (Unit {0})
+done = λ s. Normal tt s
+
+abbrev pub stop : {A : Type 0} → End → Evaluation A
+stop e = λ s. Stop e s
+
+-- a value, or an undefined operation at the place
+abbrev pub defined : {A : Type 0} → Place → Option A → Evaluation A
+defined at None = stop (Over (Undefined at))
+defined at (Some a) = give a
+
+-- one step, where one is left
+abbrev pub step_from : ℕ → State → Outcome (Unit {0})
+step_from zero s = Stop (Over Spent) s
+step_from (suc n) s = Normal tt (record s { steps = n })
+
+abbrev pub step : Evaluation (Unit {0})
+step = λ s. step_from s.steps s
+
+-- one byte of output (C99 7.19.7.3)
+abbrev pub print : ℕ → Evaluation (Unit {0})
+print byte = λ s. Normal tt (record s { output = s.output ++ byte ∷ [] })
+
+-- the block of a name
+abbrev pub find : ℕ → Scope → Option ℕ
+find x [] = None
+find x (entry ∷ rest) = cond (nat_eq entry.0 x) (Some entry.1) (find x rest)
+
+-- a pointer to the start of a block
+abbrev pub start_of : Option ℕ → Option Pointer
+start_of None = None
+start_of (Some n) = Some (Into n 0)
+
+-- where the object of a name stands
+abbrev pub object : Place → ℕ → Evaluation Pointer
+object at x = λ s. defined at (start_of (find x s.scope)) s
+
+-- the value of an object (C99 6.3.2.1 p2)
+abbrev pub read : Place → Pointer → PlainType → Evaluation Value
+read at p t = λ s. defined at (load s.store p t) s
+
+abbrev pub put_store : Store → Evaluation (Unit {0})
+put_store store = λ s. Normal tt (record s { store = store })
+
+-- the value of an object becomes this one (C99 6.5.16)
+abbrev pub write : Place → Pointer → PlainType → Value → Evaluation (Unit {0})
+write at p t v = λ s. (defined at (save s.store p t v) >>= put_store) s
+
+-- the birth of a variable, where there is room
+abbrev pub birth_of : Option Segment → Declaration → Evaluation (Unit {0})
+birth_of (Some full) d = stop (Over (Full full))
+birth_of None d = λ s. Normal tt (record s {
+  store = s.store ++ new_block block.Stack (size_of d.ctype) ∷ [];
+  scope = (d.name, length s.store + 1) ∷ s.scope;
+})
+
+abbrev pub birth : Declaration → Evaluation (Unit {0})
+birth d = λ s. birth_of (full_at_stack_birth standard_sizes s.store (size_of d.ctype)) d s
+
+abbrev pub births : List Declaration → Evaluation (Unit {0})
+births [] = done
+births (d ∷ ds) = birth d >> births ds
+
+-- one more call is active, 65,536 at most
+abbrev pub frame : Evaluation (Unit {0})
+frame = λ s. cond (nat_lt s.calls 65536) (Normal tt (record s { calls = s.calls + 1 })) (Stop (Over (Full Frames)) s)
+
+-- a passage of a label
+abbrev pub mark : Option ℕ → Evaluation (Unit {0})
+mark label = λ s. Normal tt (record s { marks = record { label = label; scope = s.scope; store = s.store } ∷ s.marks })
+
+-- the state behind a block or a call: what was born inside is dead, and the names, marks and calls from before are back
+abbrev pub back_to : State → State → State
+back_to old s = record s { store = kill_from (length old.store) s.store; scope = old.scope; marks = old.marks; calls = old.calls }
+
+abbrev pub restored : {A : Type 0} → State → Outcome A → Outcome A
+restored old (Normal a s) = Normal a (back_to old s)
+restored old (Stop e s) = Stop e (back_to old s)
+
+-- a block or a call, whichever way it is left
+abbrev pub within : {A : Type 0} → Evaluation A → Evaluation A
+within m = λ s. restored s (m s)
