@@ -52,13 +52,14 @@ begins_with text bs = starts_with nat_eq bs text
 abbrev pub int_max : ℕ
 int_max = 2147483647
 
--- the value of the digits behind digits of value v; nothing where another byte stands among them, or the value isn't one of `int`
+-- the value with one more digit; nothing where `int` doesn't hold it
+abbrev pub more_digits : ℕ → ℕ → Option ℕ
+more_digits v d = if nat_le (10 * v + d) int_max then Some (10 * v + d) else None
+
+-- the value of digits behind digits of value v; nothing where another byte stands among them, or `int` doesn't hold it
 unfoldable pub digits_from : ℕ → List ℕ → Option ℕ
 digits_from v [] = Some v
-digits_from v (b ∷ bs) =
-    if is_digit b && nat_le (10 * v + (b - 48)) int_max
-    then digits_from (10 * v + (b - 48)) bs
-    else None
+digits_from v (b ∷ bs) = if is_digit b then elim (more_digits v (b - 48)) [ None ↦ None | Some w ↦ digits_from w bs ] else None
 
 -- a decimal literal (C99 6.4.4.1) is `0`, or begins with another digit
 unfoldable pub literal_of : List ℕ → Option ℕ
@@ -136,9 +137,13 @@ word_at m bs =
       | Some p ↦ found p (prefix_len is_part bs - 1)
     ]
 
--- punctuators (C99 6.4.6), a longer one before each that begins it
-unfoldable pub punctuators : List (List ℕ × Lexeme)
-punctuators = (codes "==", Equal) ∷ (codes "!=", NotEqual) ∷ (codes "<=", LessEqual) ∷ (codes ">=", GreaterEqual) ∷ (codes "<", Less) ∷ (codes ">", Greater) ∷ (codes "=", Assign) ∷ (codes "+", Plus) ∷ (codes "-", Minus) ∷ (codes "(", LeftParen) ∷ (codes ")", RightParen) ∷ (codes "{", LeftBrace) ∷ (codes "}", RightBrace) ∷ (codes ";", Semicolon) ∷ []
+-- punctuators of one byte (C99 6.4.6)
+abbrev pub short_punctuators : List (List ℕ × Lexeme)
+short_punctuators = (codes "<", Less) ∷ (codes ">", Greater) ∷ (codes "=", Assign) ∷ (codes "+", Plus) ∷ (codes "-", Minus) ∷ (codes "(", LeftParen) ∷ (codes ")", RightParen) ∷ (codes "{", LeftBrace) ∷ (codes "}", RightBrace) ∷ (codes ";", Semicolon) ∷ []
+
+-- punctuators, the longer ones first
+abbrev pub punctuators : List (List ℕ × Lexeme)
+punctuators = (codes "==", Equal) ∷ (codes "!=", NotEqual) ∷ (codes "<=", LessEqual) ∷ (codes ">=", GreaterEqual) ∷ short_punctuators
 
 -- the first of the table that begins bs
 abbrev pub punctuator_of : List (List ℕ × Lexeme) → List ℕ → Option Found

@@ -1,0 +1,12 @@
+//! From the text of a C file to its tree (C99 5.1.1.2, phases of translation).
+//!
+//! A text is cut into tokens first, and a function for each production of the grammar reads them.
+#![tactic(auto)]
+
+mod fault;
+
+mod pieces;
+
+
+pub use fault::ReadFault;
+
