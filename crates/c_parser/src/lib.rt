@@ -4,9 +4,9 @@
 #![tactic(auto)]
 
 mod fault;
-
+mod names;
 mod pieces;
-
+mod lexer;
 
 pub use fault::ReadFault;
-
+pub use lexer::{tokens, TokenList};
