@@ -318,3 +318,18 @@ module _ {T : Type 0} (K : T → ℕ) {A : Type 0} (n : ℕ) (G : Syntax T A) (n
     starts = g.starts;
     filled = λ x r. g.filled x r.0;
   }
+
+module _ {T : Type 0} (K : T → ℕ) {A : Type 0} (most n : ℕ) (G H : Syntax T A) (null : Bool) (first : List ℕ) (more : A → List ℕ) where
+  at_most_late : ((a : List T) → G.begun a → H.begun a) → ((a : List T) (t : T) → G.late a t → H.late a t) → (a : List T) (t : T) → (at_most most G).late a t → (at_most most H).late a t
+  at_most_late b l a t (inl h) = inl (l a t h)
+  at_most_late b l a t (inr h) = inr (h.0, b (a ++ (t ∷ [])) h.1)
+
+  pub at_most_good : IsGood K n G H null first more → IsGood K n (at_most most G) (at_most most H) null first more
+  at_most_good g = record {
+    here = at_most_exact K most G null first more g.here;
+    there = at_most_exact K most H null first more g.there;
+    reads = λ a x r. (g.reads a x r.0, r.1);
+    begun = g.begun;
+    late = at_most_late g.begun g.late;
+    agree = λ ts lt. ap (capped most (length ts)) (g.agree ts lt);
+  }

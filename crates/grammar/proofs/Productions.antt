@@ -1,11 +1,12 @@
 -- The exactness of a production from that of its parts, a line for each production. The sets follow from
 -- those of the parts, and each side condition is a test by computation.
-use Rattle.std.proofs.Common.{◌≡◌, ℕ, zero, suc, ◌<◌, Bool, true, false, cond, List, [], ◌∷◌, ◌++◌, length, Ok, Err, refl, sym, ap, subst, ◌∙◌, arith}
-use Rattle.grammar.specs.Syntax.{Syntax, Fault, among, sees, none, gives, one, ◌then◌, choice, many, limit, knot_at, knot}
-use Rattle.grammar.specs.Exact.{IsExact, IsGood}
+use Rattle.std.proofs.Common.{◌≡◌, ℕ, zero, suc, ◌<◌, Bool, true, false, cond, List, [], ◌∷◌, ◌++◌, length, Ok, Err, refl, sym, ap, subst, ◌∙◌, arith, Option, Some}
+use Rattle.grammar.specs.Syntax.{Syntax, Fault, among, sees, none, gives, one, ◌then◌, choice, many, limit, knot_at, knot, deep, at_most}
+use Rattle.grammar.specs.Exact.{SameHead, IsExact, IsGood}
 use Rattle.grammar.proofs.Sets.{within, apart, cond_true, within_self, within_joined, within_joined_right, within_left, within_right}
 use Rattle.grammar.proofs.Parts.{ThenFits, ChoiceFits, none_exact, gives_exact, one_exact, widen}
 use Rattle.grammar.proofs.Bounds.{LoopFits, same_good, then_good, after_good, choice_good, many_good, many_is, agree_of, limit_exact, limit_good}
+use Rattle.grammar.proofs.Limits.{deep_exact, at_most_good}
 
 abbrev pub and : Bool → Bool → Bool
 and b c = cond b c false
@@ -94,6 +95,18 @@ module _ {T : Type 0} {K : T → ℕ} where
 
   pub same : {A : Type 0} {n : ℕ} {G : Syntax T A} {null : Bool} {first : List ℕ} {more : A → List ℕ} → IsExact K G null first more → IsGood K n G G null first more
   same {A} {n} {G} {null} {first} {more} g = same_good K n G null first more g
+
+  -- one token of which f makes a value, if its kind is in the set
+  pub token : {A : Type 0} {n : ℕ} (f : T → Option A) (ks : List ℕ) → ((t : T) (x : A) → f t ≡ Some x → among (K t) ks ≡ true) → IsGood K n (one f) (one f) false ks (λ _. [])
+  token {A} {n} f ks h = same_good K n (one f) false ks (λ _. []) (one_exact K f ks h)
+
+  -- a production that stands one too deep, each of whose first tokens begins it
+  pub too_deep : {A : Type 0} {n : ℕ} (ks : List ℕ) {G : Syntax T A} {m1 more : A → List ℕ} → IsExact K G false ks m1 → ((t : T) → among (K t) ks ≡ true → G.begun (t ∷ [])) → IsGood K n (deep K ks G) (deep K ks G) false ks more
+  too_deep {A} {n} ks {G} {m1} {more} g o = same_good K n (deep K ks G) false ks more (deep_exact K ks G m1 more g o)
+
+  -- at most so many tokens
+  pub counted : {A : Type 0} {n : ℕ} (most : ℕ) {G H : Syntax T A} {null : Bool} {first : List ℕ} {more : A → List ℕ} → IsGood K n G H null first more → IsGood K n (at_most most G) (at_most most H) null first more
+  counted {A} {n} most {G} {H} {null} {first} {more} g = at_most_good K most n G H null first more g
 
   -- at the bound 0 nothing is read
   pub none_good : {A : Type 0} (H : Syntax T A) (null : Bool) (first : List ℕ) (more : A → List ℕ) → IsExact K H null first more → IsGood K 0 none H null first more
@@ -224,3 +237,24 @@ module _ {T : Type 0} {K : T → ℕ} where
         late = g.late;
         agree = g.agree;
       }
+
+-- What ends by a token of its own is exact for other kinds too.
+pub recast : {T A : Type 0} {K J : T → ℕ} {G : Syntax T A} {null : Bool} {first : List ℕ} (first' : List ℕ) → ((t : T) → among (K t) first ≡ true → among (J t) first' ≡ true) → IsExact K G null first (λ _. []) → IsExact J G null first' (λ _. [])
+recast {T} {A} {K} {J} {G} {null} {first} first' f g = record {
+  takes = g.takes;
+  fails = g.fails;
+  overs = g.overs;
+  again = λ a x b r s. g.again a x b r (blind b);
+  lates = g.lates;
+  late_begins = g.late_begins;
+  runs = g.runs;
+  begins = g.begins;
+  fronts = g.fronts;
+  empty = g.empty;
+  starts = λ t ts b. f t (g.starts t ts b);
+  filled = g.filled;
+}
+  where
+    blind : (b : List T) → sees K [] b ≡ false
+    blind [] = refl
+    blind (t ∷ ts) = refl
