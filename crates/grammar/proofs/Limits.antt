@@ -324,6 +324,10 @@ module _ {T : Type 0} (K : T → ℕ) {A : Type 0} (most n : ℕ) (G H : Syntax 
   at_most_late b l a t (inl h) = inl (l a t h)
   at_most_late b l a t (inr h) = inr (h.0, b (a ++ (t ∷ [])) h.1)
 
+  at_most_late_back : ((a : List T) → length a < n → H.begun a → G.begun a) → ((a : List T) (t : T) → suc (length a) < n → H.late a t → G.late a t) → (a : List T) (t : T) → suc (length a) < n → (at_most most H).late a t → (at_most most G).late a t
+  at_most_late_back b l a t lt (inl h) = inl (l a t lt h)
+  at_most_late_back b l a t lt (inr h) = inr (h.0, b (a ++ (t ∷ [])) (omega (arith, length-append a (t ∷ []))) h.1)
+
   pub at_most_good : IsGood K n G H null first more → IsGood K n (at_most most G) (at_most most H) null first more
   at_most_good g = record {
     here = at_most_exact K most G null first more g.here;
@@ -332,4 +336,7 @@ module _ {T : Type 0} (K : T → ℕ) {A : Type 0} (most n : ℕ) (G H : Syntax 
     begun = g.begun;
     late = at_most_late g.begun g.late;
     agree = λ ts lt. ap (capped most (length ts)) (g.agree ts lt);
+    reads_back = λ a x lt r. (g.reads_back a x lt r.0, r.1);
+    begun_back = g.begun_back;
+    late_back = λ a t lt. at_most_late_back (λ b l. g.begun_back b l) (λ b v l. g.late_back b v l) a t lt;
   }

@@ -88,6 +88,9 @@ module _ {T : Type 0} {K : T → ℕ} where
         begun = g.begun;
         late = g.late;
         agree = g.agree;
+        reads_back = g.reads_back;
+        begun_back = g.begun_back;
+        late_back = g.late_back;
       }
 
   pub given : {A : Type 0} {n : ℕ} (x : A) → IsGood K n (gives x) (gives x) true [] (λ _. [])
@@ -118,6 +121,9 @@ module _ {T : Type 0} {K : T → ℕ} where
         begun = λ a e. rw e h.empty;
         late = λ a t l. absurd l;
         agree = λ ts lt. absurd (omega arith);
+        reads_back = λ a x lt. absurd (omega arith);
+        begun_back = λ a lt. absurd (omega arith);
+        late_back = λ a t lt. absurd (omega arith);
       }
 
   -- ---- recursion
@@ -236,6 +242,9 @@ module _ {T : Type 0} {K : T → ℕ} where
         begun = g.begun;
         late = g.late;
         agree = g.agree;
+        reads_back = g.reads_back;
+        begun_back = g.begun_back;
+        late_back = g.late_back;
       }
 
 -- What ends by a token of its own is exact for other kinds too.
