@@ -1,7 +1,7 @@
 -- Recursion by a bound: two neighbouring bounds agree on short texts, and so any bound that is large enough does.
-use Rattle.std.proofs.Common.{◌≡◌, ℕ, zero, suc, ◌+◌, ◌-◌, ◌<◌, ◌≤◌, Bool, true, false, cond, List, [], ◌∷◌, ◌++◌, length, Result, Ok, Err, refl, sym, ◌∙◌, ap, subst, ◌⊎◌, inl, inr, append_assoc, arith, length-append}
-use Rattle.grammar.specs.Syntax.{Syntax, Fault, At, Over, among, sees, none, gives, one, ◌then◌, choice, loop, limit, many, ◌>>=◌}
-use Rattle.grammar.specs.Exact.{SameHead, Takes, Fails, Overs, Late, RunsOut, IsExact, IsGood}
+use Rattle.std.proofs.Common.{◌≡◌, ℕ, zero, suc, ◌+◌, ◌-◌, ◌<◌, ◌≤◌, Bool, true, false, List, [], ◌∷◌, ◌++◌, length, Result, Ok, Err, refl, sym, ◌∙◌, ap, subst, ◌⊎◌, inl, inr, arith, length-append}
+use Rattle.grammar.specs.Syntax.{Syntax, Fault, At, Over, sees, none, gives, ◌then◌, choice, loop, limit, many, ◌>>=◌}
+use Rattle.grammar.specs.Exact.{Takes, Fails, Overs, Late, RunsOut, IsExact, IsGood}
 use Rattle.grammar.proofs.Sets.{within, apart, within_self}
 use Rattle.grammar.proofs.Parts.{ThenFits, ChoiceFits, nil_front, none_exact, gives_exact, then_exact, choice_exact}
 
@@ -48,7 +48,6 @@ split_rest : {A : Type 0} (ts a b r s : List A) → ts ≡ a ++ r → ts ≡ b +
 split_rest ts a b r s p q l = (split_same a b r s (sym p ∙ q) l).1
 
 module _ {T : Type 0} (K : T → ℕ) where
-
   pub same_good : {A : Type 0} (n : ℕ) (G : Syntax T A) (null : Bool) (first : List ℕ) (more : A → List ℕ) → IsExact K G null first more → IsGood K n G G null first more
   same_good n G null first more g = record { here = g; there = g; reads = λ a x r. r; begun = λ a b. b; late = λ a t l. l; agree = λ ts h. refl; reads_back = λ a x lt r. r; begun_back = λ a lt b. b; late_back = λ a t lt l. l }
 
@@ -87,9 +86,9 @@ module _ {T : Type 0} (K : T → ℕ) where
       begun = then_begun g.reads g.begun (λ x. (h x).begun);
       late = then_late g.reads g.late (λ x. (h x).late);
       agree = λ ts lt. rw (g.agree ts lt) (bind_same (G'.parse ts) (λ x. (H x.0).parse x.1) (λ x. (H' x.0).parse x.1) (λ x e.
-        let t = g.there.takes ts x.0 x.1 e in
-        let le = rest_within ts t.front x.1 t.parts in
-        (h x.0).agree x.1 (omega arith)));
+          let t = g.there.takes ts x.0 x.1 e in
+          let le = rest_within ts t.front x.1 t.parts in
+          (h x.0).agree x.1 (omega arith)));
       reads_back = λ a y lt. then_reads_back n n g.reads_back (λ x. (h x).reads_back) a y (λ b c x e r. let l = front_within a b c e in (omega arith, omega arith));
       begun_back = λ a lt. then_begun_back n n g.reads_back g.begun_back (λ x. (h x).begun_back) a lt (λ b c x e r. let l = front_within a b c e in (omega arith, omega arith));
       late_back = λ a t lt. then_late_back n n g.reads_back g.late_back (λ x. (h x).late_back) a t lt (λ b c x e r. let l = front_within a b c e in (omega arith, omega arith));
@@ -105,9 +104,9 @@ module _ {T : Type 0} (K : T → ℕ) where
       begun = then_begun n G G' H H' false f1 m1 n2 f2 m2 false first more R ends ends' fit g.reads g.begun (λ x. (h x).begun);
       late = then_late n G G' H H' false f1 m1 n2 f2 m2 false first more R ends ends' fit g.reads g.late (λ x. (h x).late);
       agree = λ ts lt. rw (g.agree ts lt) (bind_same (G'.parse ts) (λ x. (H x.0).parse x.1) (λ x. (H' x.0).parse x.1) (λ x e.
-        let t = g.there.takes ts x.0 x.1 e in
-        let less = rest_below G' f1 m1 g.there ts x.0 t.front x.1 t.parts t.is in
-        (h x.0).agree x.1 (omega arith)));
+          let t = g.there.takes ts x.0 x.1 e in
+          let less = rest_below G' f1 m1 g.there ts x.0 t.front x.1 t.parts t.is in
+          (h x.0).agree x.1 (omega arith)));
       reads_back = λ a y lt. then_reads_back n G G' H H' false f1 m1 n2 f2 m2 false first more R ends ends' fit (suc n) n g.reads_back (λ x. (h x).reads_back) a y (λ b c x e r. let less = rest_below G' f1 m1 g.there a x b c e r in let l = front_within a b c e in (omega arith, omega arith));
       begun_back = λ a lt. then_begun_back n G G' H H' false f1 m1 n2 f2 m2 false first more R ends ends' fit (suc n) n g.reads_back g.begun_back (λ x. (h x).begun_back) a lt (λ b c x e r. let less = rest_below G' f1 m1 g.there a x b c e r in let l = front_within a b c e in (omega arith, omega arith));
       late_back = λ a t lt. then_late_back n G G' H H' false f1 m1 n2 f2 m2 false first more R ends ends' fit (suc n) n g.reads_back g.late_back (λ x. (h x).late_back) a t lt (λ b c x e r. let less = rest_below G' f1 m1 g.there a x b c e r in let l = front_within a b c e in (omega arith, omega arith));
@@ -219,10 +218,10 @@ module _ {T : Type 0} (K : T → ℕ) where
           parts = t.parts;
           is = (suc (length ts), t.is);
           local = λ u s.
-            let m = suc (length ts) + suc (length (t.front ++ u)) in
-            let t2 = (good m).here.takes ts x rest (sym (agree_of m ts (omega arith)) ∙ e) in
-            let same : t2.front ≡ t.front = split_front ts t2.front t.front rest rest t2.parts t.parts refl in
-            agree_of m (t.front ++ u) (omega arith) ∙ subst (λ (w : List T). (F m).parse (w ++ u) ≡ Ok (x, u)) same (t2.local u s);
+              let m = suc (length ts) + suc (length (t.front ++ u)) in
+              let t2 = (good m).here.takes ts x rest (sym (agree_of m ts (omega arith)) ∙ e) in
+              let same : t2.front ≡ t.front = split_front ts t2.front t.front rest rest t2.parts t.parts refl in
+              agree_of m (t.front ++ u) (omega arith) ∙ subst (λ (w : List T). (F m).parse (w ++ u) ≡ Ok (x, u)) same (t2.local u s);
         }
 
     limit_fails : (ts : List T) (n : ℕ) → (limit F).parse ts ≡ Err (At n) → Fails (limit F).parse (limit F).begun ts n
@@ -235,11 +234,11 @@ module _ {T : Type 0} (K : T → ℕ) where
           left = t.left;
           is = (suc (length ts), t.is);
           local = λ u s.
-            let m = suc (length ts) + suc (length (t.front ++ u)) in
-            let t2 = (good m).here.fails ts n (sym (agree_of m ts (omega arith)) ∙ e) in
-            let same : t2.front ≡ t.front = split_front ts t2.front t.front t2.rest t.rest t2.parts t.parts (sym t2.left ∙ t.left) in
-            let rest : t2.rest ≡ t.rest = split_rest ts t2.front t.front t2.rest t.rest t2.parts t.parts (sym t2.left ∙ t.left) in
-            agree_of m (t.front ++ u) (omega arith) ∙ subst (λ (w : List T). (F m).parse (w ++ u) ≡ Err (At (length u))) same (t2.local u (rw rest s));
+              let m = suc (length ts) + suc (length (t.front ++ u)) in
+              let t2 = (good m).here.fails ts n (sym (agree_of m ts (omega arith)) ∙ e) in
+              let same : t2.front ≡ t.front = split_front ts t2.front t.front t2.rest t.rest t2.parts t.parts (sym t2.left ∙ t.left) in
+              let rest : t2.rest ≡ t.rest = split_rest ts t2.front t.front t2.rest t.rest t2.parts t.parts (sym t2.left ∙ t.left) in
+              agree_of m (t.front ++ u) (omega arith) ∙ subst (λ (w : List T). (F m).parse (w ++ u) ≡ Err (At (length u))) same (t2.local u (rw rest s));
         }
 
     limit_overs : (ts : List T) (n : ℕ) → (limit F).parse ts ≡ Err (Over n) → Overs (limit F).parse (limit F).late ts n
@@ -253,12 +252,12 @@ module _ {T : Type 0} (K : T → ℕ) where
           left = t.left;
           is = (suc (length ts), t.is);
           local = λ u.
-            let m = suc (length ts) + suc (length (t.front ++ (t.token ∷ u))) in
-            let t2 = (good m).here.overs ts n (sym (agree_of m ts (omega arith)) ∙ e) in
-            let same : t2.front ≡ t.front = split_front ts t2.front t.front (t2.token ∷ t2.rest) (t.token ∷ t.rest) t2.parts t.parts (sym t2.left ∙ t.left) in
-            let rest : t2.token ∷ t2.rest ≡ t.token ∷ t.rest = split_rest ts t2.front t.front (t2.token ∷ t2.rest) (t.token ∷ t.rest) t2.parts t.parts (sym t2.left ∙ t.left) in
-            let token : t2.token ≡ t.token = cc in
-            agree_of m (t.front ++ (t.token ∷ u)) (omega arith) ∙ subst (λ (w : List T). (F m).parse (w ++ (t.token ∷ u)) ≡ Err (Over (suc (length u)))) same (subst (λ (v : T). (F m).parse (t2.front ++ (v ∷ u)) ≡ Err (Over (suc (length u)))) token (t2.local u));
+              let m = suc (length ts) + suc (length (t.front ++ (t.token ∷ u))) in
+              let t2 = (good m).here.overs ts n (sym (agree_of m ts (omega arith)) ∙ e) in
+              let same : t2.front ≡ t.front = split_front ts t2.front t.front (t2.token ∷ t2.rest) (t.token ∷ t.rest) t2.parts t.parts (sym t2.left ∙ t.left) in
+              let rest : t2.token ∷ t2.rest ≡ t.token ∷ t.rest = split_rest ts t2.front t.front (t2.token ∷ t2.rest) (t.token ∷ t.rest) t2.parts t.parts (sym t2.left ∙ t.left) in
+              let token : t2.token ≡ t.token = cc in
+              agree_of m (t.front ++ (t.token ∷ u)) (omega arith) ∙ subst (λ (w : List T). (F m).parse (w ++ (t.token ∷ u)) ≡ Err (Over (suc (length u)))) same (subst (λ (v : T). (F m).parse (t2.front ++ (v ∷ u)) ≡ Err (Over (suc (length u)))) token (t2.local u));
         }
 
     limit_again : (a : List T) (x : A) (b : List T) → (limit F).reads a x → sees K (more x) b ≡ false → ((limit F).parse (a ++ b) ≡ Ok (x, b)) ⊎ Late ((limit F).parse (a ++ b)) (suc (length b))
@@ -341,9 +340,11 @@ module _ {T : Type 0} (K : T → ℕ) where
         r : (a : List T) (y : A) → (loop K zero ks step x).reads a y → (loop K (suc zero) ks step x).reads a y
         r a y (inl h) = absurd h
         r a y (inr h) = inr h
+
         b : (a : List T) → (loop K zero ks step x).begun a → (loop K (suc zero) ks step x).begun a
         b a (inl h) = inr h
         b a (inr h) = inr h
+
         l : (a : List T) (t : T) → (loop K zero ks step x).late a t → (loop K (suc zero) ks step x).late a t
         l a t (inl h) = absurd h
         l a t (inr h) = inr h

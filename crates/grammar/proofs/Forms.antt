@@ -1,7 +1,9 @@
 -- What is read once, where alternatives begin alike: the same production in the form that the standard gives.
-use Rattle.std.proofs.Common.{◌≡◌, ℕ, List, [], ◌∷◌, ◌++◌, refl, sym, ap, ◌∙◌, ◌⊎◌, inl, inr, append_assoc}
-use Rattle.grammar.specs.Syntax.{Syntax, ◌then◌, choice}
-use Rattle.grammar.specs.Exact.{Same}
+use Rattle.std.proofs.Common.{ℕ, zero, suc, Bool, List, ◌++◌, length, refl, sym, ap, ◌∙◌, inl, inr, append_assoc, arith}
+use Rattle.grammar.specs.Syntax.{Syntax, gives, ◌then◌, choice, loop, many, knot_at, knot}
+use Rattle.grammar.specs.Exact.{IsGood, Same}
+use Rattle.grammar.proofs.Bounds.{limit_good}
+use Rattle.grammar.proofs.Productions.{knot_grows}
 
 -- (U then X) | (U then Y) is U then (X | Y)
 module _ {T : Type 0} (K : T → ℕ) {A B : Type 0} (ks js : List ℕ) (U : Syntax T A) (X Y : A → Syntax T B) where
@@ -126,4 +128,82 @@ module _ {T A B : Type 0} where
     begun_back = sequence_begun G' G H' H g.reads_back g.begun_back (λ x. (h x).begun_back);
     late = sequence_late G G' H H' g.reads g.late (λ x. (h x).late);
     late_back = sequence_late G' G H' H g.reads_back g.late_back (λ x. (h x).late_back);
+  }
+
+-- ---- a repetition is no turn, or a turn and the repetition behind it
+
+module _ {T : Type 0} (K : T → ℕ) {A : Type 0} (ks : A → List ℕ) (step : A → Syntax T A) where
+  abbrev turned : A → Syntax T A
+  turned x = choice K (ks x) (step x then λ y. many K ks step y) (gives x)
+
+  many_reads : (k : ℕ) (x : A) (a : List T) (z : A) → (loop K k ks step x).reads a z → (turned x).reads a z
+  many_reads zero x a z (inl r) = absurd r
+  many_reads zero x a z (inr r) = inr r
+  many_reads (suc k) x a z (inl (b, c, y, e, r, s)) = inl (b, c, y, e, r, (k, s))
+  many_reads (suc k) x a z (inr r) = inr r
+
+  many_reads_back : (x : A) (a : List T) (z : A) → (turned x).reads a z → (many K ks step x).reads a z
+  many_reads_back x a z (inl (b, c, y, e, r, (k, s))) = (suc k, inl (b, c, y, e, r, s))
+  many_reads_back x a z (inr r) = (0, inr r)
+
+  many_begun : (k : ℕ) (x : A) (a : List T) → (loop K k ks step x).begun a → (turned x).begun a
+  many_begun zero x a (inl r) = inr r
+  many_begun zero x a (inr r) = inr r
+  many_begun (suc k) x a (inl (inl s)) = inl (inl s)
+  many_begun (suc k) x a (inl (inr (b, c, y, e, r, s))) = inl (inr (b, c, y, e, r, (k, s)))
+  many_begun (suc k) x a (inr r) = inr r
+
+  many_begun_back : (x : A) (a : List T) → (turned x).begun a → (many K ks step x).begun a
+  many_begun_back x a (inl (inl s)) = (1, inl (inl s))
+  many_begun_back x a (inl (inr (b, c, y, e, r, (k, s)))) = (suc k, inl (inr (b, c, y, e, r, s)))
+  many_begun_back x a (inr r) = (0, inr r)
+
+  many_late : (k : ℕ) (x : A) (a : List T) (t : T) → (loop K k ks step x).late a t → (turned x).late a t
+  many_late zero x a t (inl r) = absurd r
+  many_late zero x a t (inr r) = absurd r
+  many_late (suc k) x a t (inl (inl s)) = inl (inl s)
+  many_late (suc k) x a t (inl (inr (b, c, y, e, r, s))) = inl (inr (b, c, y, e, r, (k, s)))
+  many_late (suc k) x a t (inr r) = absurd r
+
+  many_late_back : (x : A) (a : List T) (t : T) → (turned x).late a t → (many K ks step x).late a t
+  many_late_back x a t (inl (inl s)) = (1, inl (inl s))
+  many_late_back x a t (inl (inr (b, c, y, e, r, (k, s)))) = (suc k, inl (inr (b, c, y, e, r, s)))
+  many_late_back x a t (inr r) = absurd r
+
+  pub many_form : (x : A) → Same (many K ks step x) (choice K (ks x) (step x then λ y. many K ks step y) (gives x))
+  many_form x = record {
+    reads = λ a z r. many_reads r.0 x a z r.1;
+    reads_back = many_reads_back x;
+    begun = λ a r. many_begun r.0 x a r.1;
+    begun_back = many_begun_back x;
+    late = λ a t r. many_late r.0 x a t r.1;
+    late_back = many_late_back x;
+  }
+
+-- ---- what stands in itself is the same as its production
+
+module _ {T : Type 0} {K : T → ℕ} {S A : Type 0} (null : Bool) (first : List ℕ) (more : A → List ℕ) (F : (S → Syntax T A) → S → Syntax T A) (step : (k : ℕ) (U U' : S → Syntax T A) → ((s : S) → IsGood K k (U s) (U' s) null first more) → (s : S) → IsGood K (suc k) (F U s) (F U' s) null first more) where
+  turn_good : (k : ℕ) (s : S) → IsGood K (suc k) (F (knot_at F k) s) (F (knot F) s) null first more
+  turn_good k s = step k (knot_at F k) (knot F) (λ u. limit_good K (λ n. knot_at F n u) null first more (λ n. knot_grows null first more F step n u) k) s
+
+  knot_reads : (k : ℕ) (s : S) (a : List T) (x : A) → (knot_at F k s).reads a x → (F (knot F) s).reads a x
+  knot_reads zero s a x r = absurd r
+  knot_reads (suc k) s a x r = (turn_good k s).reads a x r
+
+  knot_begun : (k : ℕ) (s : S) (a : List T) → (knot_at F k s).begun a → (F (knot F) s).begun a
+  knot_begun zero s a b = rw b (turn_good 0 s).there.empty
+  knot_begun (suc k) s a b = (turn_good k s).begun a b
+
+  knot_late : (k : ℕ) (s : S) (a : List T) (t : T) → (knot_at F k s).late a t → (F (knot F) s).late a t
+  knot_late zero s a t l = absurd l
+  knot_late (suc k) s a t l = (turn_good k s).late a t l
+
+  pub knot_form : (s : S) → Same (knot F s) (F (knot F) s)
+  knot_form s = record {
+    reads = λ a x r. knot_reads r.0 s a x r.1;
+    reads_back = λ a x r. (suc (length a), (turn_good (length a) s).reads_back a x (omega arith) r);
+    begun = λ a b. knot_begun b.0 s a b.1;
+    begun_back = λ a b. (suc (length a), (turn_good (length a) s).begun_back a (omega arith) b);
+    late = λ a t l. knot_late l.0 s a t l.1;
+    late_back = λ a t l. (suc (suc (length a)), (turn_good (suc (length a)) s).late_back a t (omega arith) l);
   }

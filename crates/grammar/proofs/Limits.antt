@@ -1,12 +1,11 @@
 -- Limits: a production that stands one too deep, and at most n tokens of a production.
-use Rattle.std.proofs.Common.{◌≡◌, ℕ, zero, suc, ◌+◌, ◌-◌, ◌<◌, ◌≤◌, Bool, true, false, cond, ltb, List, [], ◌∷◌, ◌++◌, length, Result, Ok, Err, refl, sym, ◌∙◌, ap, subst, ◌⊎◌, inl, inr, append_assoc, arith, length-append}
+use Rattle.std.proofs.Common.{◌≡◌, ℕ, zero, suc, ◌+◌, ◌-◌, ◌<◌, ◌≤◌, Bool, true, false, ltb, List, [], ◌∷◌, ◌++◌, length, Result, Ok, Err, refl, sym, ◌∙◌, ap, subst, ◌⊎◌, inl, inr, append_assoc, arith, length-append}
 use Rattle.std.proofs.lemmas.List.{append-nil}
 use Rattle.std.proofs.lemmas.Bool.{lt-ltb, le-ltb, ltb-true, ltb-false}
 use Rattle.grammar.specs.Syntax.{Syntax, Fault, At, Over, among, sees, deep, at_most, capped}
 use Rattle.grammar.specs.Exact.{SameHead, Takes, Fails, Overs, Late, RunsOut, IsExact, IsGood}
 use Rattle.grammar.proofs.Sets.{sees_same}
-use Rattle.grammar.proofs.Parts.{nil_front, front_parts, ok_is}
-use Rattle.grammar.proofs.Bounds.{split_same, same_good}
+use Rattle.grammar.proofs.Parts.{nil_front, front_parts}
 
 module _ {T : Type 0} (K : T → ℕ) where
   deep_fails : {A : Type 0} (ks : List ℕ) (G : Syntax T A) → G.begun [] → (b : Bool) (ts : List T) (n : ℕ) → sees K ks ts ≡ b → (deep K ks G).parse ts ≡ Err (At n) → Fails (deep K ks G).parse (deep K ks G).begun ts n
@@ -62,12 +61,15 @@ module _ {T : Type 0} (K : T → ℕ) where
       read_one : (x : A) (front rest : List T) → t ∷ [] ≡ front ++ rest → G.reads front x → G.begun (t ∷ [])
       read_one x [] rest e r = absurd (let f = g.filled x r in cc)
       read_one x (u ∷ us) rest e r = let same : t ≡ u = cc in let z : us ≡ [] = nil_front us rest cc in rw (same, ← z) (g.begins (u ∷ us) x r)
+
       stopped : (front rest : List T) → t ∷ [] ≡ front ++ rest → (length rest ≡ 1 → ⊥) → G.begun front → G.begun (t ∷ [])
       stopped [] rest e k b = absurd (k (sym (ap length e)))
       stopped (u ∷ us) rest e k b = let same : t ≡ u = cc in let z : us ≡ [] = nil_front us rest cc in rw (same, ← z) b
+
       late_one : (front rest : List T) (v : T) → t ∷ [] ≡ front ++ (v ∷ rest) → G.begun (front ++ (v ∷ [])) → G.begun (t ∷ [])
       late_one [] rest v e b = let same : t ≡ v = cc in rw same b
       late_one (u ∷ us) rest v e b = absurd (let l = ap length e in omega (arith, l, length-append us (v ∷ rest)))
+
       by_answer : (r : Result (A × List T) Fault) → G.parse (t ∷ []) ≡ r → G.begun (t ∷ [])
       by_answer (Ok x) e = let w = g.takes (t ∷ []) x.0 x.1 e in read_one x.0 w.front x.1 w.parts w.is
       by_answer (Err (At n)) e = let w = g.fails (t ∷ []) n e in stopped w.front w.rest w.parts (λ l. h (e ∙ ap (λ (k : ℕ). Err (At k)) (w.left ∙ l))) w.is
@@ -195,15 +197,15 @@ module _ {T : Type 0} (K : T → ℕ) {A : Type 0} (n : ℕ) (G : Syntax T A) (n
   at_most_takes ts x rest e =
       elim (answer ts) [
         | inl p ↦
-          let q : G.parse ts ≡ Ok (x, rest) = sym p.1 ∙ e in
-          let w = g.takes ts x rest q in
-          let short = front_short ts w.front rest (place (G.parse ts)) w.parts (ap place q) p.0 in
-          record {
-            front = w.front;
-            parts = w.parts;
-            is = (w.is, short);
-            local = λ u s. let l = w.local u s in ap (capped n (length (w.front ++ u))) l ∙ capped_in n (length (w.front ++ u)) (Ok (x, u)) (below w.front u short);
-          }
+            let q : G.parse ts ≡ Ok (x, rest) = sym p.1 ∙ e in
+            let w = g.takes ts x rest q in
+            let short = front_short ts w.front rest (place (G.parse ts)) w.parts (ap place q) p.0 in
+            record {
+              front = w.front;
+              parts = w.parts;
+              is = (w.is, short);
+              local = λ u s. let l = w.local u s in ap (capped n (length (w.front ++ u))) l ∙ capped_in n (length (w.front ++ u)) (Ok (x, u)) (below w.front u short);
+            }
         | inr p ↦ absurd (let q : Err (Over (length ts - n)) ≡ Ok (x, rest) = sym p.1 ∙ e in cc)
       ]
 
@@ -211,17 +213,17 @@ module _ {T : Type 0} (K : T → ℕ) {A : Type 0} (n : ℕ) (G : Syntax T A) (n
   at_most_fails ts m e =
       elim (answer ts) [
         | inl p ↦
-          let q : G.parse ts ≡ Err (At m) = sym p.1 ∙ e in
-          let w = g.fails ts m q in
-          let short = front_short ts w.front w.rest (place (G.parse ts)) w.parts (ap place q ∙ w.left) p.0 in
-          record {
-            front = w.front;
-            rest = w.rest;
-            parts = w.parts;
-            left = w.left;
-            is = w.is;
-            local = λ u s. let l = w.local u s in ap (capped n (length (w.front ++ u))) l ∙ capped_in n (length (w.front ++ u)) (Err (At (length u))) (below w.front u short);
-          }
+            let q : G.parse ts ≡ Err (At m) = sym p.1 ∙ e in
+            let w = g.fails ts m q in
+            let short = front_short ts w.front w.rest (place (G.parse ts)) w.parts (ap place q ∙ w.left) p.0 in
+            record {
+              front = w.front;
+              rest = w.rest;
+              parts = w.parts;
+              left = w.left;
+              is = w.is;
+              local = λ u s. let l = w.local u s in ap (capped n (length (w.front ++ u))) l ∙ capped_in n (length (w.front ++ u)) (Err (At (length u))) (below w.front u short);
+            }
         | inr p ↦ absurd (let q : Err (Over (length ts - n)) ≡ Err (At m) = sym p.1 ∙ e in cc)
       ]
 
@@ -269,22 +271,22 @@ module _ {T : Type 0} (K : T → ℕ) {A : Type 0} (n : ℕ) (G : Syntax T A) (n
   at_most_overs ts m e =
       elim (answer ts) [
         | inl p ↦
-          let q : G.parse ts ≡ Err (Over m) = sym p.1 ∙ e in
-          let w = g.overs ts m q in
-          let short = front_short ts w.front (w.token ∷ w.rest) (place (G.parse ts)) w.parts (ap place q ∙ w.left) p.0 in
-          record {
-            front = w.front;
-            token = w.token;
-            rest = w.rest;
-            parts = w.parts;
-            left = w.left;
-            is = inl w.is;
-            local = λ u. let l = w.local u in ap (capped n (length (w.front ++ (w.token ∷ u)))) l ∙ capped_in n (length (w.front ++ (w.token ∷ u))) (Err (Over (suc (length u)))) (below w.front (w.token ∷ u) short);
-          }
+            let q : G.parse ts ≡ Err (Over m) = sym p.1 ∙ e in
+            let w = g.overs ts m q in
+            let short = front_short ts w.front (w.token ∷ w.rest) (place (G.parse ts)) w.parts (ap place q ∙ w.left) p.0 in
+            record {
+              front = w.front;
+              token = w.token;
+              rest = w.rest;
+              parts = w.parts;
+              left = w.left;
+              is = inl w.is;
+              local = λ u. let l = w.local u in ap (capped n (length (w.front ++ (w.token ∷ u)))) l ∙ capped_in n (length (w.front ++ (w.token ∷ u))) (Err (Over (suc (length u)))) (below w.front (w.token ∷ u) short);
+            }
         | inr p ↦
-          let q : Err (Over (length ts - n)) ≡ Err (Over m) = sym p.1 ∙ e in
-          let c = parted_at n ts (omega (arith, ltb-true (n + place (G.parse ts)) (length ts) p.0)) in
-          at_most_over ts m c.0 c.1 c.2 c.3 c.4 (cc) p.0
+            let q : Err (Over (length ts - n)) ≡ Err (Over m) = sym p.1 ∙ e in
+            let c = parted_at n ts (omega (arith, ltb-true (n + place (G.parse ts)) (length ts) p.0)) in
+            at_most_over ts m c.0 c.1 c.2 c.3 c.4 (cc) p.0
       ]
 
   kept : (a : List T) (x : A) (b : List T) → length a ≤ n → (G.parse (a ++ b) ≡ Ok (x, b)) ⊎ Late (G.parse (a ++ b)) (suc (length b)) → ((at_most n G).parse (a ++ b) ≡ Ok (x, b)) ⊎ Late ((at_most n G).parse (a ++ b)) (suc (length b))

@@ -1,11 +1,11 @@
 -- The exactness of a production from that of its parts, a line for each production. The sets follow from
 -- those of the parts, and each side condition is a test by computation.
-use Rattle.std.proofs.Common.{◌≡◌, ℕ, zero, suc, ◌<◌, Bool, true, false, cond, List, [], ◌∷◌, ◌++◌, length, Ok, Err, refl, sym, ap, subst, ◌∙◌, arith, Option, Some}
-use Rattle.grammar.specs.Syntax.{Syntax, Fault, among, sees, none, gives, one, ◌then◌, choice, many, limit, knot_at, knot, deep, at_most}
-use Rattle.grammar.specs.Exact.{SameHead, IsExact, IsGood}
-use Rattle.grammar.proofs.Sets.{within, apart, cond_true, within_self, within_joined, within_joined_right, within_left, within_right}
-use Rattle.grammar.proofs.Parts.{ThenFits, ChoiceFits, none_exact, gives_exact, one_exact, widen}
-use Rattle.grammar.proofs.Bounds.{LoopFits, same_good, then_good, after_good, choice_good, many_good, many_is, agree_of, limit_exact, limit_good}
+use Rattle.std.proofs.Common.{◌≡◌, ℕ, zero, suc, Bool, true, false, cond, List, [], ◌∷◌, ◌++◌, length, Ok, Err, refl, ◌∙◌, arith, Option, Some}
+use Rattle.grammar.specs.Syntax.{Syntax, Fault, among, sees, none, gives, one, ◌then◌, choice, many, knot_at, knot, deep, at_most}
+use Rattle.grammar.specs.Exact.{IsExact, IsGood}
+use Rattle.grammar.proofs.Sets.{within, apart, cond_true, within_self, within_joined_right, within_left, within_right}
+use Rattle.grammar.proofs.Parts.{none_exact, gives_exact, one_exact, widen}
+use Rattle.grammar.proofs.Bounds.{LoopFits, same_good, then_good, after_good, choice_good, many_good, many_is, limit_exact, limit_good}
 use Rattle.grammar.proofs.Limits.{deep_exact, at_most_good}
 
 abbrev pub and : Bool → Bool → Bool
@@ -28,7 +28,6 @@ turns_fit ks f m e =
     record { clash = λ x y. p.0; taken = λ x. p.1; over = λ x y. within_right ks m; greedy = λ x. within_left ks m }
 
 module _ {T : Type 0} {K : T → ℕ} where
-
   pub seq : {A B : Type 0} {n : ℕ} {G G' : Syntax T A} {H H' : A → Syntax T B} {n1 n2 : Bool} {f1 m1 f2 m2 : List ℕ} → IsGood K n G G' n1 f1 (λ _. m1) → ((x : A) → IsGood K n (H x) (H' x) n2 f2 (λ _. m2)) → apart f2 m1 ≡ true → IsGood K n (G then H) (G' then H') (and n1 n2) (f1 ++ empties n1 f2) (λ _. m2 ++ empties n2 m1)
   seq {A} {B} {n} {G} {G'} {H} {H'} {n1} {n2} {f1} {m1} {f2} {m2} g h e =
       then_good K n G G' H H' n1 f1 (λ _. m1) n2 (λ _. f2) (λ _ _. m2) (and n1 n2) (f1 ++ empties n1 f2) (λ _. m2 ++ empties n2 m1) (λ _ _. Unit {0}) (λ _ _ _. tt) (λ _ _ _. tt) (record {

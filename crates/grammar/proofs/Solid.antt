@@ -1,11 +1,11 @@
 -- Where a token can't follow, the tokens before it are no reading: cut there, the text is too short.
-use Rattle.std.proofs.Common.{◌≡◌, ℕ, zero, suc, ◌+◌, ◌<◌, ◌≤◌, Bool, true, false, cond, List, [], ◌∷◌, ◌++◌, length, Result, Ok, Err, Option, Some, None, refl, sym, ◌∙◌, ap, subst, ◌⊎◌, inl, inr, append_assoc, arith, length-append}
+use Rattle.std.proofs.Common.{◌≡◌, ℕ, zero, suc, ◌<◌, ◌≤◌, Bool, true, false, List, [], ◌∷◌, ◌++◌, length, Result, Ok, Err, Option, Some, None, refl, sym, ◌∙◌, ap, subst, ◌⊎◌, inl, inr, append_assoc, arith, length-append}
 use Rattle.std.proofs.lemmas.List.{append-nil}
-use Rattle.grammar.specs.Syntax.{Syntax, Fault, At, Over, among, sees, gives, one, one_at, ◌then◌, choice, many, ◌>>=◌}
-use Rattle.grammar.specs.Exact.{SameHead, Takes, Fails, Late, RunsOut, IsExact}
+use Rattle.grammar.specs.Syntax.{Syntax, Fault, At, Over, among, sees, gives, one, one_at, ◌then◌, choice, many}
+use Rattle.grammar.specs.Exact.{SameHead, Late, IsExact}
 use Rattle.grammar.proofs.Sets.{within, apart, within_among, apart_among, cond_true, within_self, within_left, within_right, within_both, within_joined, among_either}
-use Rattle.grammar.proofs.Parts.{bind_ok, bind_err, chosen, ChoiceFits, gives_exact, choice_exact, widen}
-use Rattle.grammar.proofs.Bounds.{LoopFits, same_good, many_exact, many_is, rest_below, rest_within, split_same}
+use Rattle.grammar.proofs.Parts.{bind_err, chosen, ChoiceFits, gives_exact, choice_exact, widen}
+use Rattle.grammar.proofs.Bounds.{LoopFits, many_is, rest_below, rest_within, split_same}
 use Rattle.grammar.proofs.Productions.{and, empties, turns_fit, seq, either, again_and_again, same}
 
 pub record IsSolid {T : Type 0} (K : T → ℕ) {A : Type 0} (n : ℕ) (G : Syntax T A) (lead null : Bool) (first : List ℕ) (more : A → List ℕ) : Type 0 where
@@ -64,11 +64,14 @@ module _ {T : Type 0} {K : T → ℕ} where
     where
       ok : (t : T) (x : A) (ts : List T) → g t ≡ Some x → one_at g (t ∷ ts) ≡ Ok (x, ts)
       ok t x ts p = rw (p, one_at) refl
+
       o : true ≡ true → (t : T) (ts : List T) → length (t ∷ ts) < n → among (K t) ks ≡ true → one_at g (t ∷ ts) ≡ Err (At (suc (length ts))) → ⊥
       o u t ts lt a q = let p = h t a in let k = ok t p.0 ts p.1 in cc
+
       at : (t : T) (ts : List T) (m : ℕ) (v : Option A) → g t ≡ v → one_at g (t ∷ ts) ≡ Err (At m) → m ≡ suc (length ts)
       at t ts m (Some x) p q = absurd (let k = ok t x ts p in cc)
       at t ts m None p q = let k : one_at g (t ∷ ts) ≡ Err (At (suc (length ts))) = rw (p, one_at) refl in cc
+
       c : (ts : List T) (m : ℕ) (f r : List T) → length ts < n → one_at g ts ≡ Err (At m) → ts ≡ f ++ r → m ≡ length r → one_at g f ≡ Err (At 0)
       c [] m f r lt q s l = let z = front_empty [] f r s (let k : m ≡ 0 = cc in omega arith) in rw z refl
       c (t ∷ ts) m f r lt q s l = let z = front_empty (t ∷ ts) f r s (let k = at t ts m (g t) refl q in omega arith) in rw z refl
@@ -94,14 +97,14 @@ module _ {T : Type 0} {K : T → ℕ} where
         elim (bind_err (G.parse ts) (λ x. (H x.0).parse x.1) (At m) q) [
           | inl e1 ↦ rw (g.cut ts m f r lt e1 s l) refl
           | inr b ↦
-            let x = b.0 in
-            let t1 = g.exact.takes ts x.0 x.1 b.1 in
-            let w = (h x.0).exact.fails x.1 m b.2 in
-            let small = below x.0 t1.front x.1 t1.parts t1.is in
-            let c2 = (h x.0).cut x.1 m w.front w.rest small b.2 w.parts w.left in
-            let f-is = second_front ts t1.front x.1 f r w.front w.rest t1.parts w.parts s (sym w.left ∙ l) in
-            let c1 = seq_cut G n1 f1 m1 x.0 t1.front x.1 w.front w.rest g.exact t1.is t1.local w.parts in
-            rw (f-is, c1) c2
+              let x = b.0 in
+              let t1 = g.exact.takes ts x.0 x.1 b.1 in
+              let w = (h x.0).exact.fails x.1 m b.2 in
+              let small = below x.0 t1.front x.1 t1.parts t1.is in
+              let c2 = (h x.0).cut x.1 m w.front w.rest small b.2 w.parts w.left in
+              let f-is = second_front ts t1.front x.1 f r w.front w.rest t1.parts w.parts s (sym w.left ∙ l) in
+              let c1 = seq_cut G n1 f1 m1 x.0 t1.front x.1 w.front w.rest g.exact t1.is t1.local w.parts in
+              rw (f-is, c1) c2
         ]
 
     then_opens : (n k : ℕ) → IsSolid K n G l1 n1 f1 m1 → ((x : A) → IsSolid K k (H x) l2 n2 f2 (m2 x)) → l1 ≡ true → (t : T) (ts : List T) → length (t ∷ ts) < n → among (K t) first ≡ true → (G then H).parse (t ∷ ts) ≡ Err (At (suc (length ts))) → ⊥
@@ -109,14 +112,14 @@ module _ {T : Type 0} {K : T → ℕ} where
         elim (bind_err (G.parse (t ∷ ts)) (λ x. (H x.0).parse x.1) (At (suc (length ts))) q) [
           | inl e1 ↦ g.opens ld t ts lt (within_among first f1 (K t) (same_first ld) a) e1
           | inr b ↦
-            let x = b.0 in
-            let t1 = g.exact.takes (t ∷ ts) x.0 x.1 b.1 in
-            let w = (h x.0).exact.fails x.1 (suc (length ts)) b.2 in
-            let le = rest_within x.1 w.front w.rest w.parts in
-            let solid : IsExact K G false f1 m1 = subst (λ (v : Bool). IsExact K G v f1 m1) (g.led ld) g.exact in
-            let less = rest_below K G f1 m1 solid (t ∷ ts) x.0 t1.front x.1 t1.parts t1.is in
-            let wl = w.left in
-            omega arith
+              let x = b.0 in
+              let t1 = g.exact.takes (t ∷ ts) x.0 x.1 b.1 in
+              let w = (h x.0).exact.fails x.1 (suc (length ts)) b.2 in
+              let le = rest_within x.1 w.front w.rest w.parts in
+              let solid : IsExact K G false f1 m1 = subst (λ (v : Bool). IsExact K G v f1 m1) (g.led ld) g.exact in
+              let less = rest_below K G f1 m1 solid (t ∷ ts) x.0 t1.front x.1 t1.parts t1.is in
+              let wl = w.left in
+              omega arith
         ]
 
     pub then_solid : (n : ℕ) → IsSolid K n G l1 n1 f1 m1 → ((x : A) → IsSolid K n (H x) l2 n2 f2 (m2 x)) → IsSolid K n (G then H) l1 null first more
@@ -161,15 +164,15 @@ module _ {T : Type 0} {K : T → ℕ} where
       exact = e;
       led = led;
       opens = λ ld t ts lt a q.
-        elim (among_either (K t) f1 f2 (within_among first (f1 ++ f2) (K t) same_first a)) [
-          | inl a1 ↦ let b = within_among f1 ks (K t) taken a1 in g.opens refl t ts lt a1 (rw b at q)
-          | inr a2 ↦ let b : among (K t) ks ≡ false = open_second t (among (K t) ks) a2 refl in h.opens ld t ts lt a2 (rw b at q)
-        ];
+          elim (among_either (K t) f1 f2 (within_among first (f1 ++ f2) (K t) same_first a)) [
+            | inl a1 ↦ let b = within_among f1 ks (K t) taken a1 in g.opens refl t ts lt a1 (rw b at q)
+            | inr a2 ↦ let b : among (K t) ks ≡ false = open_second t (among (K t) ks) a2 refl in h.opens ld t ts lt a2 (rw b at q)
+          ];
       cut = λ ts m f r lt q s l.
-        elim (chosen (sees K ks ts) (G.parse ts) (H.parse ts) (Err (At m)) q) [
-          | inl p ↦ cut_first ts m f r lt p.0 p.1 s l
-          | inr p ↦ cut_second ts m f r lt p.0 p.1 s l
-        ];
+          elim (chosen (sees K ks ts) (G.parse ts) (H.parse ts) (Err (At m)) q) [
+            | inl p ↦ cut_first ts m f r lt p.0 p.1 s l
+            | inr p ↦ cut_second ts m f r lt p.0 p.1 s l
+          ];
     }
 
   -- ---- with sets that follow from the parts

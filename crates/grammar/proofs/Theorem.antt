@@ -1,8 +1,8 @@
 -- From exactness to what the answers mean.
-use Rattle.std.proofs.Common.{◌≡◌, ℕ, zero, suc, ◌<◌, ◌≤◌, Bool, List, [], ◌∷◌, ◌++◌, length, Result, Ok, Err, refl, sym, ap, subst, ◌∙◌, ◌⊎◌, inl, inr, append_assoc, arith, length-append}
+use Rattle.std.proofs.Common.{◌≡◌, ℕ, suc, ◌≤◌, Bool, List, [], ◌∷◌, ◌++◌, length, Result, Ok, Err, refl, sym, ap, subst, ◌∙◌, ◌⊎◌, inl, inr, arith, length-append}
 use Rattle.std.proofs.lemmas.List.{append-nil}
-use Rattle.grammar.specs.Syntax.{Syntax, Fault, At, Over, sees}
-use Rattle.grammar.specs.Exact.{SameHead, Takes, Fails, Overs, Late, RunsOut, IsExact, WithinLimits, Accepts, StopsAt, Found, RefusedAt, RefusedOver, Refused, AtMostOne, FrontsBegin, ReadsAccepted, AcceptsRead}
+use Rattle.grammar.specs.Syntax.{Syntax, Fault, At, Over}
+use Rattle.grammar.specs.Exact.{SameHead, Late, RunsOut, IsExact, WithinLimits, Found, RefusedAt, RefusedOver, Refused, AtMostOne, FrontsBegin, ReadsAccepted, AcceptsRead}
 use Rattle.grammar.proofs.Parts.{ok_is}
 
 head_only : {T : Type 0} (t : T) (ts r : List T) → r ≡ t ∷ ts → SameHead r (t ∷ [])
@@ -37,9 +37,9 @@ module _ {T : Type 0} {K : T → ℕ} {A : Type 0} (G : Syntax T A) (null : Bool
           parts = t.parts;
           begun = g.begins t.front x t.is;
           ended = λ u us r b.
-            let stops : G.parse (t.front ++ (u ∷ [])) ≡ Ok (x, u ∷ []) = t.local (u ∷ []) (head_only u us rest r) in
-            let none : u ∷ [] ≡ [] = runs_ok (G.parse (t.front ++ (u ∷ []))) x (u ∷ []) stops (g.runs (t.front ++ (u ∷ [])) b) in
-            cc;
+              let stops : G.parse (t.front ++ (u ∷ [])) ≡ Ok (x, u ∷ []) = t.local (u ∷ []) (head_only u us rest r) in
+              let none : u ∷ [] ≡ [] = runs_ok (G.parse (t.front ++ (u ∷ []))) x (u ∷ []) stops (g.runs (t.front ++ (u ∷ [])) b) in
+              cc;
         };
         within = within_ok text (x, rest) e;
       }
@@ -54,9 +54,9 @@ module _ {T : Type 0} {K : T → ℕ} {A : Type 0} (G : Syntax T A) (null : Bool
           parts = t.parts;
           begun = t.is;
           ended = λ u us r b.
-            let stops : G.parse (t.front ++ (u ∷ [])) ≡ Err (At 1) = t.local (u ∷ []) (head_only u us t.rest r) in
-            let none : 1 ≡ 0 = runs_at (G.parse (t.front ++ (u ∷ []))) 1 stops (g.runs (t.front ++ (u ∷ [])) b) in
-            absurd (omega (arith, none));
+              let stops : G.parse (t.front ++ (u ∷ [])) ≡ Err (At 1) = t.local (u ∷ []) (head_only u us t.rest r) in
+              let none : 1 ≡ 0 = runs_at (G.parse (t.front ++ (u ∷ []))) 1 stops (g.runs (t.front ++ (u ∷ [])) b) in
+              absurd (omega (arith, none));
         };
         place = t.left;
         within = within_at text n e;
