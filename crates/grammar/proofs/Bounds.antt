@@ -363,6 +363,13 @@ module _ {T : Type 0} (K : T → ℕ) where
     pub many_exact : (step : A → Syntax T A) → ((x : A) → IsExact K (step x) false (f x) (m x)) → (x : A) → IsExact K (many K ks step x) true (ks x) more
     many_exact step g x = limit_exact (λ n. loop K n ks step x) true (ks x) more (λ n. loop_grows step g n x)
 
+    -- a turn and the repetition behind it, or no turn
+    pub turn_exact : (step : A → Syntax T A) → ((x : A) → IsExact K (step x) false (f x) (m x)) → (x : A) → IsExact K (step x then λ y. many K ks step y) false (f x) more
+    turn_exact step g x = then_exact K (step x) (λ y. many K ks step y) false (f x) (m x) true ks (λ _ z. more z) false (f x) more (g x) (λ y. many_exact step g y) (λ y z. y ≡ z) (λ y z r. turns ks f m step g r.0 y z r.1) (loop_once ks f m more x fit)
+
+    pub turned_exact : (step : A → Syntax T A) → ((x : A) → IsExact K (step x) false (f x) (m x)) → (x : A) → IsExact K (choice K (ks x) (step x then λ y. many K ks step y) (gives x)) true (ks x) more
+    turned_exact step g x = choice_exact K (ks x) (step x then λ y. many K ks step y) (gives x) false (f x) more true [] (λ y. []) true (ks x) more (turn_exact step g x) (gives_exact K x) (λ y. x ≡ y) (λ y r. r.1) (loop_more ks f m more x fit)
+
     pub many_good : (step step' : A → Syntax T A) (k : ℕ) → ((x : A) → IsGood K k (step x) (step' x) false (f x) (m x)) → (x : A) → IsGood K k (many K ks step x) (many K ks step' x) true (ks x) more
     many_good step step' k g x =
         record {

@@ -2,11 +2,12 @@
 use Rattle.std.proofs.Common.{◌≡◌, ℕ, zero, suc, ◌<◌, ◌≤◌, Bool, true, false, List, [], ◌∷◌, ◌++◌, length, Result, Ok, Err, Option, Some, None, refl, sym, ◌∙◌, ap, subst, ◌⊎◌, inl, inr, append_assoc, arith, length-append}
 use Rattle.std.proofs.lemmas.List.{append-nil}
 use Rattle.grammar.specs.Syntax.{Syntax, Fault, At, Over, among, sees, gives, one, one_at, ◌then◌, choice, many}
-use Rattle.grammar.specs.Exact.{SameHead, Late, IsExact}
+use Rattle.grammar.specs.Exact.{SameHead, Late, IsExact, RefusedAt, Unread}
 use Rattle.grammar.proofs.Sets.{within, apart, within_among, apart_among, cond_true, within_self, within_left, within_right, within_both, within_joined, among_either}
 use Rattle.grammar.proofs.Parts.{bind_err, chosen, ChoiceFits, gives_exact, choice_exact, widen}
-use Rattle.grammar.proofs.Bounds.{LoopFits, many_is, rest_below, rest_within, split_same}
-use Rattle.grammar.proofs.Productions.{and, empties, turns_fit, seq, either, again_and_again, same}
+use Rattle.grammar.proofs.Bounds.{LoopFits, many_exact, turn_exact, turned_exact, many_is, rest_below, rest_within, split_same}
+use Rattle.grammar.proofs.Productions.{and, empties, turns_fit, seq, either, again_and_again, same, seq_to, made, either_to, maybe_to, to_constant}
+use Rattle.grammar.proofs.Theorem.{refused_at}
 
 pub record IsSolid {T : Type 0} (K : T → ℕ) {A : Type 0} (n : ℕ) (G : Syntax T A) (lead null : Bool) (first : List ℕ) (more : A → List ℕ) : Type 0 where
   pub exact : IsExact K G null first more
@@ -91,8 +92,8 @@ module _ {T : Type 0} {K : T → ℕ} where
   seq_cut G n1 f1 m1 x front r1 [] r g is local e = alone G n1 f1 m1 front r1 x (x, r1) g (local r1 (same_self r1)) (g.again front x [] is refl)
   seq_cut G n1 f1 m1 x front r1 (t ∷ f2) r g is local e = local (t ∷ f2) (rw e refl)
 
-  module _ {A B : Type 0} (G : Syntax T A) (H : A → Syntax T B) (l1 l2 n1 n2 : Bool) (f1 f2 : List ℕ) (m1 : A → List ℕ) (m2 : A → B → List ℕ) (null : Bool) (first : List ℕ) (more : B → List ℕ) (e : IsExact K (G then H) null first more) (same_first : l1 ≡ true → within first f1 ≡ true) (same_null : n1 ≡ false → null ≡ false) where
-    then_cut : (n k : ℕ) → IsSolid K n G l1 n1 f1 m1 → ((x : A) → IsSolid K k (H x) l2 n2 f2 (m2 x)) → (ts : List T) (m : ℕ) (f r : List T) → length ts < n → ((x : A) (front rest : List T) → ts ≡ front ++ rest → G.reads front x → length rest < k) → (G then H).parse ts ≡ Err (At m) → ts ≡ f ++ r → m ≡ length r → (G then H).parse f ≡ Err (At 0)
+  module _ {A B : Type 0} (G : Syntax T A) (H : A → Syntax T B) (l1 l2 n1 n2 : Bool) (f1 : List ℕ) (f2 : A → List ℕ) (m1 : A → List ℕ) (m2 : A → B → List ℕ) (null : Bool) (first : List ℕ) (more : B → List ℕ) (e : IsExact K (G then H) null first more) (same_first : l1 ≡ true → within first f1 ≡ true) (same_null : n1 ≡ false → null ≡ false) where
+    then_cut : (n k : ℕ) → IsSolid K n G l1 n1 f1 m1 → ((x : A) → IsSolid K k (H x) l2 n2 (f2 x) (m2 x)) → (ts : List T) (m : ℕ) (f r : List T) → length ts < n → ((x : A) (front rest : List T) → ts ≡ front ++ rest → G.reads front x → length rest < k) → (G then H).parse ts ≡ Err (At m) → ts ≡ f ++ r → m ≡ length r → (G then H).parse f ≡ Err (At 0)
     then_cut n k g h ts m f r lt below q s l =
         elim (bind_err (G.parse ts) (λ x. (H x.0).parse x.1) (At m) q) [
           | inl e1 ↦ rw (g.cut ts m f r lt e1 s l) refl
@@ -107,7 +108,7 @@ module _ {T : Type 0} {K : T → ℕ} where
               rw (f-is, c1) c2
         ]
 
-    then_opens : (n k : ℕ) → IsSolid K n G l1 n1 f1 m1 → ((x : A) → IsSolid K k (H x) l2 n2 f2 (m2 x)) → l1 ≡ true → (t : T) (ts : List T) → length (t ∷ ts) < n → among (K t) first ≡ true → (G then H).parse (t ∷ ts) ≡ Err (At (suc (length ts))) → ⊥
+    then_opens : (n k : ℕ) → IsSolid K n G l1 n1 f1 m1 → ((x : A) → IsSolid K k (H x) l2 n2 (f2 x) (m2 x)) → l1 ≡ true → (t : T) (ts : List T) → length (t ∷ ts) < n → among (K t) first ≡ true → (G then H).parse (t ∷ ts) ≡ Err (At (suc (length ts))) → ⊥
     then_opens n k g h ld t ts lt a q =
         elim (bind_err (G.parse (t ∷ ts)) (λ x. (H x.0).parse x.1) (At (suc (length ts))) q) [
           | inl e1 ↦ g.opens ld t ts lt (within_among first f1 (K t) (same_first ld) a) e1
@@ -122,7 +123,7 @@ module _ {T : Type 0} {K : T → ℕ} where
               omega arith
         ]
 
-    pub then_solid : (n : ℕ) → IsSolid K n G l1 n1 f1 m1 → ((x : A) → IsSolid K n (H x) l2 n2 f2 (m2 x)) → IsSolid K n (G then H) l1 null first more
+    pub then_solid : (n : ℕ) → IsSolid K n G l1 n1 f1 m1 → ((x : A) → IsSolid K n (H x) l2 n2 (f2 x) (m2 x)) → IsSolid K n (G then H) l1 null first more
     then_solid n g h = record {
       exact = e;
       led = λ ld. same_null (g.led ld);
@@ -130,7 +131,7 @@ module _ {T : Type 0} {K : T → ℕ} where
       cut = λ ts m f r lt. then_cut n n g h ts m f r lt (λ x front rest p i. let le = rest_within ts front rest p in omega arith);
     }
 
-    pub after_solid : (n : ℕ) → n1 ≡ false → IsSolid K (suc n) G l1 n1 f1 m1 → ((x : A) → IsSolid K n (H x) l2 n2 f2 (m2 x)) → IsSolid K (suc n) (G then H) l1 null first more
+    pub after_solid : (n : ℕ) → n1 ≡ false → IsSolid K (suc n) G l1 n1 f1 m1 → ((x : A) → IsSolid K n (H x) l2 n2 (f2 x) (m2 x)) → IsSolid K (suc n) (G then H) l1 null first more
     after_solid n led g h = record {
       exact = e;
       led = λ ld. same_null (g.led ld);
@@ -179,11 +180,11 @@ module _ {T : Type 0} {K : T → ℕ} where
 
   pub seq_solid : {A B : Type 0} {n : ℕ} {G : Syntax T A} {H : A → Syntax T B} {l1 l2 n1 n2 : Bool} {f1 m1 f2 m2 : List ℕ} → IsSolid K n G l1 n1 f1 (λ _. m1) → ((x : A) → IsSolid K n (H x) l2 n2 f2 (λ _. m2)) → apart f2 m1 ≡ true → IsSolid K n (G then H) l1 (and n1 n2) (f1 ++ empties n1 f2) (λ _. m2 ++ empties n2 m1)
   seq_solid {A} {B} {n} {G} {H} {l1} {l2} {n1} {n2} {f1} {m1} {f2} {m2} g h c =
-      then_solid G H l1 l2 n1 n2 f1 f2 (λ _. m1) (λ _ _. m2) (and n1 n2) (f1 ++ empties n1 f2) (λ _. m2 ++ empties n2 m1) (seq {n = 0} (same g.exact) (λ x. same (h x).exact) c).here (λ ld. first_of_led f1 f2 n1 (g.led ld)) (and_false n1 n2) n g h
+      then_solid G H l1 l2 n1 n2 f1 (λ _. f2) (λ _. m1) (λ _ _. m2) (and n1 n2) (f1 ++ empties n1 f2) (λ _. m2 ++ empties n2 m1) (seq {n = 0} (same g.exact) (λ x. same (h x).exact) c).here (λ ld. first_of_led f1 f2 n1 (g.led ld)) (and_false n1 n2) n g h
 
   pub behind : {A B : Type 0} {n : ℕ} {G : Syntax T A} {H : A → Syntax T B} {l2 n2 : Bool} {f1 m1 f2 m2 : List ℕ} → IsSolid K (suc n) G true false f1 (λ _. m1) → ((x : A) → IsSolid K n (H x) l2 n2 f2 (λ _. m2)) → apart f2 m1 ≡ true → IsSolid K (suc n) (G then H) true false (f1 ++ []) (λ _. m2 ++ empties n2 m1)
   behind {A} {B} {n} {G} {H} {l2} {n2} {f1} {m1} {f2} {m2} g h c =
-      after_solid G H true l2 false n2 f1 f2 (λ _. m1) (λ _ _. m2) false (f1 ++ []) (λ _. m2 ++ empties n2 m1) (seq {n = 0} (same g.exact) (λ x. same (h x).exact) c).here (λ ld. first_of_led f1 f2 false refl) (and_false false n2) n refl g h
+      after_solid G H true l2 false n2 f1 (λ _. f2) (λ _. m1) (λ _ _. m2) false (f1 ++ []) (λ _. m2 ++ empties n2 m1) (seq {n = 0} (same g.exact) (λ x. same (h x).exact) c).here (λ ld. first_of_led f1 f2 false refl) (and_false false n2) n refl g h
 
   pub either_solid : {A : Type 0} {n : ℕ} (ks : List ℕ) {G H : Syntax T A} {l2 n2 : Bool} {f1 m1 f2 m2 : List ℕ} → IsSolid K n G true false f1 (λ _. m1) → IsSolid K n H l2 n2 f2 (λ _. m2) → and (within f1 ks) (apart f2 ks) ≡ true → within ks f1 ≡ true → IsSolid K n (choice K ks G H) l2 n2 (f1 ++ f2) (λ _. m1 ++ (m2 ++ empties n2 ks))
   either_solid {A} {n} ks {G} {H} {l2} {n2} {f1} {m1} {f2} {m2} g h c x =
@@ -224,14 +225,46 @@ module _ {T : Type 0} {K : T → ℕ} where
   -- ---- recursion
 
   -- what is read as its production says, if that is solid one token further wherever it is itself
-  pub knot_solid : {A : Type 0} {G : Syntax T A} {F : Syntax T A} {null : Bool} {first : List ℕ} {more : A → List ℕ} → null ≡ false → IsExact K G null first more → ((ts : List T) → G.parse ts ≡ F.parse ts) → ((n : ℕ) → IsSolid K n G true null first more → IsSolid K (suc n) F true null first more) → (n : ℕ) → IsSolid K n G true null first more
-  knot_solid nn e p step zero = solid_zero true (λ _. nn) e
-  knot_solid nn e p step (suc n) = as_parsed p e (step n (knot_solid nn e p step n))
+  pub knot_solid : {S A : Type 0} {G F : S → Syntax T A} {null : Bool} {first : List ℕ} {more : A → List ℕ} → null ≡ false → ((s : S) → IsExact K (G s) null first more) → ((s : S) (ts : List T) → (G s).parse ts ≡ (F s).parse ts) → ((n : ℕ) → ((s : S) → IsSolid K n (G s) true null first more) → (s : S) → IsSolid K (suc n) (F s) true null first more) → (n : ℕ) (s : S) → IsSolid K n (G s) true null first more
+  knot_solid nn e p step zero s = solid_zero true (λ _. nn) (e s)
+  knot_solid nn e p step (suc n) s = as_parsed (p s) (e s) (step n (λ u. knot_solid nn e p step n u) s)
 
-  -- the same, up to a bound
-  pub knot_solid_to : {A : Type 0} {G : Syntax T A} {F : Syntax T A} {null : Bool} {first : List ℕ} {more : A → List ℕ} (top : ℕ) → null ≡ false → IsExact K G null first more → ((ts : List T) → G.parse ts ≡ F.parse ts) → ((n : ℕ) → n < top → IsSolid K n G true null first more → IsSolid K (suc n) F true null first more) → (n : ℕ) → n ≤ top → IsSolid K n G true null first more
-  knot_solid_to top nn e p step zero le = solid_zero true (λ _. nn) e
-  knot_solid_to top nn e p step (suc n) le = as_parsed p e (step n (omega arith) (knot_solid_to top nn e p step n (omega arith)))
+  -- ---- sets that depend on what was read
+
+  pub seq_solid_to : {A B : Type 0} {n : ℕ} {G : Syntax T A} {H : A → Syntax T B} {l1 l2 : Bool} {f1 m1 f2 : List ℕ} {more : B → List ℕ} → IsSolid K n G l1 false f1 (λ _. m1) → ((x : A) → IsSolid K n (H x) l2 false f2 more) → apart f2 m1 ≡ true → IsSolid K n (G then H) l1 false f1 more
+  seq_solid_to {A} {B} {n} {G} {H} {l1} {l2} {f1} {m1} {f2} {more} g h c =
+      then_solid G H l1 l2 false false f1 (λ _. f2) (λ _. m1) (λ _. more) false f1 more (seq_to {n = 0} (same g.exact) (λ x. same (h x).exact) c).here (λ ld. within_self f1) (λ e. e) n g h
+
+  pub behind_to : {A B : Type 0} {n : ℕ} {G : Syntax T A} {H : A → Syntax T B} {l2 : Bool} {f1 m1 f2 : List ℕ} {more : B → List ℕ} → IsSolid K (suc n) G true false f1 (λ _. m1) → ((x : A) → IsSolid K n (H x) l2 false f2 more) → apart f2 m1 ≡ true → IsSolid K (suc n) (G then H) true false f1 more
+  behind_to {A} {B} {n} {G} {H} {l2} {f1} {m1} {f2} {more} g h c =
+      after_solid G H true l2 false false f1 (λ _. f2) (λ _. m1) (λ _. more) false f1 more (seq_to {n = 0} (same g.exact) (λ x. same (h x).exact) c).here (λ ld. within_self f1) (λ e. e) n refl g h
+
+  pub made_solid : {A B : Type 0} {n : ℕ} {G : Syntax T A} {l1 : Bool} {f1 : List ℕ} {m1 : A → List ℕ} {more : B → List ℕ} (f : A → B) → IsSolid K n G l1 false f1 m1 → ((x : A) → within (m1 x) (more (f x)) ≡ true) → IsSolid K n (G then λ x. gives (f x)) l1 false f1 more
+  made_solid {A} {B} {n} {G} {l1} {f1} {m1} {more} f g e =
+      then_solid G (λ x. gives (f x)) l1 false false true f1 (λ _. []) m1 (λ _ _. []) false f1 more (made {n = 0} f (same g.exact) e).here (λ ld. within_self f1) (λ h. h) n g (λ x. gives_solid (f x))
+
+  pub either_solid_to : {A : Type 0} {n : ℕ} (ks : List ℕ) {G H : Syntax T A} {l2 : Bool} {f1 f2 : List ℕ} {m1 m2 : A → List ℕ} {first : List ℕ} {more : A → List ℕ} → IsSolid K n G true false f1 m1 → IsSolid K n H l2 false f2 m2 → and (within f1 ks) (and (apart f2 ks) (and (within f1 first) (within f2 first))) ≡ true → and (within ks f1) (within first (f1 ++ f2)) ≡ true → ((x : A) → within (m1 x) (more x) ≡ true) → ((x : A) → within (m2 x) (more x) ≡ true) → IsSolid K n (choice K ks G H) l2 false first more
+  either_solid_to {A} {n} ks {G} {H} {l2} {f1} {f2} {m1} {m2} {first} {more} g h c d o1 o2 =
+      let p = cond_true (within f1 ks) _ c in
+      let q = cond_true (apart f2 ks) _ p.1 in
+      let r = cond_true (within ks f1) (within first (f1 ++ f2)) d in
+      choice_solid ks G H l2 false f1 f2 m1 m2 false first more (either_to {n = 0} ks (same g.exact) (same h.exact) c o1 o2).here p.0 r.0 q.0 r.1 (λ _. refl) n g h
+
+  pub maybe_solid_to : {A : Type 0} {n : ℕ} (ks : List ℕ) {G : Syntax T A} {f1 : List ℕ} {m1 : A → List ℕ} {more : A → List ℕ} (x : A) → IsSolid K n G true false f1 m1 → within f1 ks ≡ true → within ks f1 ≡ true → ((y : A) → within (m1 y) (more y) ≡ true) → within ks (more x) ≡ true → IsSolid K n (choice K ks G (gives x)) false true f1 more
+  maybe_solid_to {A} {n} ks {G} {f1} {m1} {more} x g c d o k =
+      choice_solid ks G (gives x) false true f1 [] m1 (λ _. []) true f1 more (maybe_to {n = 0} ks x (same g.exact) c o k).here c d refl (within_left f1 []) (λ h. absurd cc) n g (gives_solid x)
+
+  -- a repetition, where the kinds depend on the value before each turn
+  pub many_solid_to : {A : Type 0} (ks : A → List ℕ) {f : A → List ℕ} {m : A → A → List ℕ} {more : A → List ℕ} {step : A → Syntax T A} → LoopFits A ks f m more → ((x : A) → within (ks x) (f x) ≡ true) → (n : ℕ) → ((x : A) → IsSolid K n (step x) true false (f x) (m x)) → (x : A) → IsSolid K n (many K ks step x) false true (ks x) more
+  many_solid_to {A} ks {f} {m} {more} {step} fit o zero g x = solid_zero false (λ h. absurd cc) (many_exact K ks f m more fit step (λ y. (g y).exact) x)
+  many_solid_to {A} ks {f} {m} {more} {step} fit o (suc n) g x =
+      let rest : (y : A) → IsSolid K n (many K ks step y) false true (ks y) more = λ y. many_solid_to ks fit o n (λ z. lower n (omega arith) (g z)) y in
+      let once = after_solid (step x) (λ y. many K ks step y) true false false true (f x) ks (m x) (λ _. more) false (f x) more (turn_exact K ks f m more fit step (λ y. (g y).exact) x) (λ _. within_self (f x)) (λ e. e) n refl (g x) rest in
+      as_parsed (many_is K ks f m more fit step (λ y. (g y).exact) x) (many_exact K ks f m more fit step (λ y. (g y).exact) x)
+        (choice_solid (ks x) (step x then λ y. many K ks step y) (gives x) false true (f x) [] more (λ _. []) true (ks x) more (turned_exact K ks f m more fit step (λ y. (g y).exact) x) (fit.taken x) (o x) refl (within_joined (ks x) (f x) [] (o x)) (λ h. absurd cc) (suc n) once (gives_solid x))
+
+  pub to_constant_solid : {A : Type 0} {n : ℕ} {G : Syntax T A} {lead null : Bool} {first : List ℕ} {m : A → List ℕ} (more : List ℕ) → IsSolid K n G lead null first m → ((x : A) → within (m x) more ≡ true) → IsSolid K n G lead null first (λ _. more)
+  to_constant_solid {A} {n} {G} {lead} {null} {first} {m} more g e = record { exact = (to_constant {n = 0} more (same g.exact) e).here; led = g.led; opens = g.opens; cut = g.cut }
 
   -- where a token can't follow, what stands before it is no reading
   pub no_reading : {A : Type 0} (G : Syntax T A) (lead null : Bool) (first : List ℕ) (more : A → List ℕ) → ((n : ℕ) → IsSolid K n G lead null first more) → (ts : List T) (m : ℕ) (f r : List T) → G.parse ts ≡ Err (At m) → ts ≡ f ++ r → m ≡ length r → (x : A) → G.reads f x → ⊥
@@ -240,3 +273,9 @@ module _ {T : Type 0} {K : T → ℕ} where
       let c = w.cut ts m f r (omega arith) e s l in
       let a : (G.parse f ≡ Ok (x, [])) ⊎ Late (G.parse f) 1 = subst (λ (v : List T). (G.parse v ≡ Ok (x, [])) ⊎ Late (G.parse v) 1) (append-nil f) (w.exact.again f x [] is refl) in
       not_read (G.parse f) x 1 c a
+
+  -- where a token can't follow, the tokens before it are no reading
+  pub unread : {A : Type 0} (G : Syntax T A) (lead null : Bool) (first : List ℕ) (more : A → List ℕ) → ((n : ℕ) → IsSolid K n G lead null first more) → (text : List T) (n : ℕ) → G.parse text ≡ Err (At n) → Unread G text n
+  unread G lead null first more g text n e =
+      let w = refused_at G null first more (g 0).exact text n e in
+      record { refused = w; unread = no_reading G lead null first more g text n w.front w.rest e w.longest.parts w.place }

@@ -111,6 +111,11 @@ pub record RefusedAt {T A : Type 0} (G : Syntax T A) (text : List T) (left : ℕ
   pub place : left ≡ length rest
   pub within : WithinLimits G text
 
+-- The same, and the tokens before that one are no reading.
+pub record Unread {T A : Type 0} (G : Syntax T A) (text : List T) (left : ℕ) : Type 0 where
+  pub refused : RefusedAt G text left
+  pub unread : (x : A) → G.reads refused.front x → ⊥
+
 -- The token with left tokens from it on can follow those before it, and is the first that passes a limit.
 pub record RefusedOver {T A : Type 0} (G : Syntax T A) (text : List T) (left : ℕ) : Type 0 where
   pub front : List T
