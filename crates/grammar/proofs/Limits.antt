@@ -2,7 +2,7 @@
 use Rattle.std.proofs.Common.{◌≡◌, ℕ, zero, suc, ◌+◌, ◌-◌, ◌<◌, ◌≤◌, Bool, true, false, ltb, List, [], ◌∷◌, ◌++◌, length, Result, Ok, Err, refl, sym, ◌∙◌, ap, subst, ◌⊎◌, inl, inr, append_assoc, arith, length-append}
 use Rattle.std.proofs.lemmas.List.{append-nil}
 use Rattle.std.proofs.lemmas.Bool.{lt-ltb, le-ltb, ltb-true, ltb-false}
-use Rattle.grammar.specs.Syntax.{Syntax, Fault, At, Over, among, sees, deep, at_most, capped}
+use Rattle.grammar.specs.Syntax.{Syntax, Fault, At, Over, among, sees, deep, at_most, capped, resumed}
 use Rattle.grammar.specs.Exact.{SameHead, Takes, Fails, Overs, Late, RunsOut, IsExact, IsGood}
 use Rattle.grammar.proofs.Sets.{sees_same}
 use Rattle.grammar.proofs.Parts.{nil_front, front_parts}
@@ -108,6 +108,12 @@ late_capped n l r true m e w =
     let out : n + w.left < l = ltb-true (n + w.left) l (sym (ap (λ r. ltb (n + place r) l) w.is) ∙ e) in
     let k = w.enough in
     record { left = l - n; enough = omega arith; is = capped_out n l r e }
+
+-- a text that isn't empty has a last token
+last_of : {T : Type 0} (p : List T) → 0 < length p → (f : List T) × (t : T) × (p ≡ f ++ (t ∷ []))
+last_of [] lt = absurd (omega arith)
+last_of (t ∷ []) lt = ([], t, refl)
+last_of (t ∷ u ∷ p) lt = let w = last_of (u ∷ p) (omega arith) in (t ∷ w.0, w.1, ap (λ z. t ∷ z) w.2)
 
 -- the text parts at its token n
 parted_at : {T : Type 0} (n : ℕ) (ts : List T) → n < length ts → (f : List T) × (t : T) × (r : List T) × (ts ≡ f ++ (t ∷ r)) × (length f ≡ n)
@@ -320,6 +326,71 @@ module _ {T : Type 0} (K : T → ℕ) {A : Type 0} (n : ℕ) (G : Syntax T A) (n
     starts = g.starts;
     filled = λ x r. g.filled x r.0;
   }
+
+  -- ---- no more than n + 1 tokens need be read
+
+  pub at_most_short : (ts : List T) → length ts ≤ n → (at_most n G).parse ts ≡ G.parse ts
+  at_most_short ts le = capped_in n (length ts) (G.parse ts) (le-ltb (n + place (G.parse ts)) (length ts) (omega arith))
+
+  -- a place that is not at the end of the front is the same, whatever follows the front
+  kept_ok : (p s : List T) (x : A) (rest : List T) → length p ≤ suc n → Takes G.parse G.reads p x rest → (rest ≡ [] → ⊥) → (at_most n G).parse (p ++ s) ≡ Ok (x, rest ++ s)
+  kept_ok p s x [] le w h = absurd (h refl)
+  kept_ok p s x (v ∷ vs) le w h =
+      let whole : p ++ s ≡ w.front ++ (v ∷ vs ++ s) = ap (λ (z : List T). z ++ s) w.parts ∙ append_assoc w.front (v ∷ vs) s in
+      let short : length w.front ≤ n = omega (arith, ap length w.parts, length-append w.front (v ∷ vs)) in
+      ap (at_most n G).parse whole ∙ ap (capped n (length (w.front ++ (v ∷ vs ++ s)))) (w.local (v ∷ vs ++ s) refl) ∙ capped_in n (length (w.front ++ (v ∷ vs ++ s))) (Ok (x, v ∷ vs ++ s)) (below w.front (v ∷ vs ++ s) short)
+
+  kept_at : (p s front rest : List T) → length p ≤ suc n → p ≡ front ++ rest → (rest ≡ [] → ⊥) → ((u : List T) → SameHead rest u → G.parse (front ++ u) ≡ Err (At (length u))) → (at_most n G).parse (p ++ s) ≡ Err (At (length rest + length s))
+  kept_at p s front [] le e h l = absurd (h refl)
+  kept_at p s front (v ∷ vs) le e h l =
+      let whole : p ++ s ≡ front ++ (v ∷ vs ++ s) = ap (λ (z : List T). z ++ s) e ∙ append_assoc front (v ∷ vs) s in
+      let short : length front ≤ n = omega (arith, ap length e, length-append front (v ∷ vs)) in
+      ap (at_most n G).parse whole ∙ ap (capped n (length (front ++ (v ∷ vs ++ s)))) (l (v ∷ vs ++ s) refl) ∙ capped_in n (length (front ++ (v ∷ vs ++ s))) (Err (At (length (v ∷ vs ++ s)))) (below front (v ∷ vs ++ s) short) ∙ ap (λ (m : ℕ). Err (At m)) (length-append (v ∷ vs) s)
+
+  kept_over : (p s : List T) (m : ℕ) → length p ≤ suc n → Overs G.parse G.late p m → (at_most n G).parse (p ++ s) ≡ Err (Over (m + length s))
+  kept_over p s m le w =
+      let whole : p ++ s ≡ w.front ++ (w.token ∷ (w.rest ++ s)) = ap (λ (z : List T). z ++ s) w.parts ∙ append_assoc w.front (w.token ∷ w.rest) s in
+      let short : length w.front ≤ n = omega (arith, ap length w.parts, length-append w.front (w.token ∷ w.rest)) in
+      let l = w.left in
+      ap (at_most n G).parse whole ∙ ap (capped n (length (w.front ++ (w.token ∷ (w.rest ++ s))))) (w.local (w.rest ++ s)) ∙ capped_in n (length (w.front ++ (w.token ∷ (w.rest ++ s)))) (Err (Over (suc (length (w.rest ++ s))))) (below w.front (w.token ∷ (w.rest ++ s)) short) ∙ ap (λ (k : ℕ). Err (Over k)) (omega (arith, length-append w.rest s))
+
+  -- what took n + 1 tokens, or wants more behind them, passes the limit
+  ran_out : (p s : List T) → length p ≡ suc n → G.begun p → place (G.parse p) ≡ 0 → (at_most n G).parse (p ++ s) ≡ Err (Over (suc (length s)))
+  ran_out p s e b z =
+      let c = last_of p (omega (arith, e)) in
+      let f = c.0 in
+      let t = c.1 in
+      let q : p ≡ f ++ (t ∷ []) = c.2 in
+      let l : length f ≡ n = omega (arith, e, ap length q, length-append f (t ∷ [])) in
+      let zero : place (G.parse (f ++ (t ∷ []))) ≤ length {A = T} [] = omega (arith, z, ap (λ (w : List T). place (G.parse w)) q) in
+      ap (λ (w : List T). (at_most n G).parse (w ++ s)) q ∙ ap (at_most n G).parse (append_assoc f (t ∷ []) s) ∙ over_at f t s l (far_anyway f t [] s zero (far f t s (G.parse (f ++ (t ∷ s))) (subst (λ (w : List T). G.begun w) q b) refl))
+
+  cut_ok : (p s : List T) (x : A) (rest : List T) → length p ≡ suc n → G.parse p ≡ Ok (x, rest) → (at_most n G).parse (p ++ s) ≡ resumed s (Ok (x, rest))
+  cut_ok p s x [] e q = let w = g.takes p x [] q in ran_out p s e (rw (w.parts, append-nil w.front) (g.begins w.front x w.is)) (ap place q)
+  cut_ok p s x (v ∷ vs) e q = kept_ok p s x (v ∷ vs) (omega (arith, e)) (g.takes p x (v ∷ vs) q) (λ h. cc)
+
+  cut_at : (p s : List T) (m : ℕ) → length p ≡ suc n → G.parse p ≡ Err (At m) → (at_most n G).parse (p ++ s) ≡ resumed s (Err (At m))
+  cut_at p s zero e q =
+      let w = g.fails p 0 q in
+      let l = w.left in
+      ran_out p s e (rw (w.parts, none_left w.rest l, append-nil w.front) w.is) (ap place q)
+    where
+      none_left : (r : List T) → 0 ≡ length r → r ≡ []
+      none_left [] h = refl
+      none_left (v ∷ vs) h = absurd (omega (arith, h))
+  cut_at p s (suc m) e q =
+      let w = g.fails p (suc m) q in
+      let l = w.left in
+      kept_at p s w.front w.rest (omega (arith, e)) w.parts (λ h. omega (arith, l, ap length h)) w.local ∙ ap (λ (k : ℕ). Err (At (k + length s))) (sym l)
+
+  -- of a longer text its first n + 1 tokens tell the answer
+  pub at_most_cut : (p s : List T) → length p ≡ suc n → (at_most n G).parse (p ++ s) ≡ resumed s (G.parse p)
+  at_most_cut p s e = by_answer (G.parse p) refl
+    where
+      by_answer : (r : Result (A × List T) Fault) → G.parse p ≡ r → (at_most n G).parse (p ++ s) ≡ resumed s r
+      by_answer (Ok x) q = cut_ok p s x.0 x.1 e q
+      by_answer (Err (At m)) q = cut_at p s m e q
+      by_answer (Err (Over m)) q = kept_over p s m (omega (arith, e)) (g.overs p m q)
 
 module _ {T : Type 0} (K : T → ℕ) {A : Type 0} (most n : ℕ) (G H : Syntax T A) (null : Bool) (first : List ℕ) (more : A → List ℕ) where
   at_most_late : ((a : List T) → G.begun a → H.begun a) → ((a : List T) (t : T) → G.late a t → H.late a t) → (a : List T) (t : T) → (at_most most G).late a t → (at_most most H).late a t
