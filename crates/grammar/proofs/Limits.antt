@@ -78,12 +78,12 @@ module _ {T : Type 0} (K : T → ℕ) where
 -- ---- at most n tokens
 
 -- so many tokens are left at the place of an answer
-abbrev place : {T A : Type 0} → Result (A × List T) Fault → ℕ
+abbrev pub place : {T A : Type 0} → Result (A × List T) Fault → ℕ
 place (Ok x) = length x.1
 place (Err (At m)) = m
 place (Err (Over m)) = m
 
-capped_in : {T A : Type 0} (n l : ℕ) (r : Result (A × List T) Fault) → ltb (n + place r) l ≡ false → capped n l r ≡ r
+pub capped_in : {T A : Type 0} (n l : ℕ) (r : Result (A × List T) Fault) → ltb (n + place r) l ≡ false → capped n l r ≡ r
 capped_in n l (Ok x) e = rw e refl
 capped_in n l (Err (At m)) e = rw e refl
 capped_in n l (Err (Over m)) e = rw e refl
@@ -184,7 +184,7 @@ module _ {T : Type 0} (K : T → ℕ) {A : Type 0} (n : ℕ) (G : Syntax T A) (n
       let l = w.left in
       past_begun f t r w.front (w.token ∷ w.rest) (g.fronts w.front (w.token ∷ []) (g.late_begins w.front w.token w.is)) (omega arith) (front_parts (f ++ (t ∷ [])) r w.front (w.token ∷ w.rest) (same_parting f t r w.front (w.token ∷ w.rest) w.parts))
 
-  below : (a b : List T) → length a ≤ n → ltb (n + length b) (length (a ++ b)) ≡ false
+  pub below : (a b : List T) → length a ≤ n → ltb (n + length b) (length (a ++ b)) ≡ false
   below a b le = le-ltb (n + length b) (length (a ++ b)) (omega (arith, length-append a b))
 
   beyond : (f : List T) (t : T) (u : List T) (p : ℕ) → length f ≡ n → p ≤ length u → ltb (n + p) (length (f ++ (t ∷ u))) ≡ true
@@ -193,15 +193,15 @@ module _ {T : Type 0} (K : T → ℕ) {A : Type 0} (n : ℕ) (G : Syntax T A) (n
   behind_n : (f : List T) (t : T) (u : List T) → length f ≡ n → length (f ++ (t ∷ u)) - n ≡ suc (length u)
   behind_n f t u e = omega (arith, e, length-append f (t ∷ u))
 
-  answer : (ts : List T) → ((ltb (n + place (G.parse ts)) (length ts) ≡ false) × ((at_most n G).parse ts ≡ G.parse ts)) ⊎ ((ltb (n + place (G.parse ts)) (length ts) ≡ true) × ((at_most n G).parse ts ≡ Err (Over (length ts - n))))
-  answer ts = elim (uncut n (length ts) (G.parse ts) (ltb (n + place (G.parse ts)) (length ts)) refl) [ inl p ↦ inl p | inr p ↦ inr p ]
+  pub at_most_answer : (ts : List T) → ((ltb (n + place (G.parse ts)) (length ts) ≡ false) × ((at_most n G).parse ts ≡ G.parse ts)) ⊎ ((ltb (n + place (G.parse ts)) (length ts) ≡ true) × ((at_most n G).parse ts ≡ Err (Over (length ts - n))))
+  at_most_answer ts = elim (uncut n (length ts) (G.parse ts) (ltb (n + place (G.parse ts)) (length ts)) refl) [ inl p ↦ inl p | inr p ↦ inr p ]
 
-  front_short : (ts front rest : List T) (p : ℕ) → ts ≡ front ++ rest → p ≡ length rest → ltb (n + p) (length ts) ≡ false → length front ≤ n
+  pub front_short : (ts front rest : List T) (p : ℕ) → ts ≡ front ++ rest → p ≡ length rest → ltb (n + p) (length ts) ≡ false → length front ≤ n
   front_short ts front rest p e l h = omega (arith, ltb-false (n + p) (length ts) h, l, ap length e, length-append front rest)
 
   at_most_takes : (ts : List T) (x : A) (rest : List T) → (at_most n G).parse ts ≡ Ok (x, rest) → Takes (at_most n G).parse (at_most n G).reads ts x rest
   at_most_takes ts x rest e =
-      elim (answer ts) [
+      elim (at_most_answer ts) [
         | inl p ↦
             let q : G.parse ts ≡ Ok (x, rest) = sym p.1 ∙ e in
             let w = g.takes ts x rest q in
@@ -217,7 +217,7 @@ module _ {T : Type 0} (K : T → ℕ) {A : Type 0} (n : ℕ) (G : Syntax T A) (n
 
   at_most_fails : (ts : List T) (m : ℕ) → (at_most n G).parse ts ≡ Err (At m) → Fails (at_most n G).parse (at_most n G).begun ts m
   at_most_fails ts m e =
-      elim (answer ts) [
+      elim (at_most_answer ts) [
         | inl p ↦
             let q : G.parse ts ≡ Err (At m) = sym p.1 ∙ e in
             let w = g.fails ts m q in
@@ -275,7 +275,7 @@ module _ {T : Type 0} (K : T → ℕ) {A : Type 0} (n : ℕ) (G : Syntax T A) (n
 
   at_most_overs : (ts : List T) (m : ℕ) → (at_most n G).parse ts ≡ Err (Over m) → Overs (at_most n G).parse (at_most n G).late ts m
   at_most_overs ts m e =
-      elim (answer ts) [
+      elim (at_most_answer ts) [
         | inl p ↦
             let q : G.parse ts ≡ Err (Over m) = sym p.1 ∙ e in
             let w = g.overs ts m q in

@@ -1,11 +1,12 @@
 -- Where a token can't follow, the tokens before it are no reading: cut there, the text is too short.
-use Rattle.std.proofs.Common.{◌≡◌, ℕ, zero, suc, ◌<◌, ◌≤◌, Bool, true, false, List, [], ◌∷◌, ◌++◌, length, Result, Ok, Err, Option, Some, None, refl, sym, ◌∙◌, ap, subst, ◌⊎◌, inl, inr, append_assoc, arith, length-append}
+use Rattle.std.proofs.Common.{◌≡◌, ℕ, zero, suc, ◌+◌, ◌-◌, ◌<◌, ◌≤◌, Bool, true, false, cond, ltb, List, [], ◌∷◌, ◌++◌, length, Result, Ok, Err, Option, Some, None, refl, sym, ◌∙◌, ap, subst, ◌⊎◌, inl, inr, append_assoc, arith, length-append}
 use Rattle.std.proofs.lemmas.List.{append-nil}
-use Rattle.grammar.specs.Syntax.{Syntax, Fault, At, Over, among, sees, gives, one, one_at, ◌then◌, choice, many}
+use Rattle.grammar.specs.Syntax.{Syntax, Fault, At, Over, among, sees, gives, one, one_at, ◌then◌, choice, many, ◌>>=◌, deep, at_most, capped}
 use Rattle.grammar.specs.Exact.{SameHead, Late, IsExact, RefusedAt, Unread}
 use Rattle.grammar.proofs.Sets.{within, apart, within_among, apart_among, cond_true, within_self, within_left, within_right, within_both, within_joined, among_either}
 use Rattle.grammar.proofs.Parts.{bind_err, chosen, ChoiceFits, gives_exact, choice_exact, widen}
 use Rattle.grammar.proofs.Bounds.{LoopFits, many_exact, turn_exact, turned_exact, many_is, rest_below, rest_within, split_same}
+use Rattle.grammar.proofs.Limits.{place, at_most_exact, at_most_answer, front_short, below, capped_in}
 use Rattle.grammar.proofs.Productions.{and, empties, turns_fit, seq, either, again_and_again, same, seq_to, made, either_to, maybe_to, to_constant}
 use Rattle.grammar.proofs.Theorem.{refused_at}
 
@@ -228,6 +229,36 @@ module _ {T : Type 0} {K : T → ℕ} where
   pub knot_solid : {S A : Type 0} {G F : S → Syntax T A} {null : Bool} {first : List ℕ} {more : A → List ℕ} → null ≡ false → ((s : S) → IsExact K (G s) null first more) → ((s : S) (ts : List T) → (G s).parse ts ≡ (F s).parse ts) → ((n : ℕ) → ((s : S) → IsSolid K n (G s) true null first more) → (s : S) → IsSolid K (suc n) (F s) true null first more) → (n : ℕ) (s : S) → IsSolid K n (G s) true null first more
   knot_solid nn e p step zero s = solid_zero true (λ _. nn) (e s)
   knot_solid nn e p step (suc n) s = as_parsed (p s) (e s) (step n (λ u. knot_solid nn e p step n u) s)
+
+  -- ---- limits
+
+  pub deep_solid : {A : Type 0} {n : ℕ} (ks : List ℕ) (G : Syntax T A) {more : A → List ℕ} → IsExact K (deep K ks G) false ks more → IsSolid K n (deep K ks G) true false ks more
+  deep_solid {A} {n} ks G {more} e = record { exact = e; led = λ _. refl; opens = o; cut = λ ts m f r lt q s l. c ts m f r (sees K ks ts) refl q s l }
+    where
+      o : true ≡ true → (t : T) (ts : List T) → length (t ∷ ts) < n → among (K t) ks ≡ true → (deep K ks G).parse (t ∷ ts) ≡ Err (At (suc (length ts))) → ⊥
+      o h t ts lt a q = let k : (deep K ks G).parse (t ∷ ts) ≡ Err (Over (suc (length ts))) = rw a refl in cc
+      c : (ts : List T) (m : ℕ) (f r : List T) (b : Bool) → sees K ks ts ≡ b → (deep K ks G).parse ts ≡ Err (At m) → ts ≡ f ++ r → m ≡ length r → (deep K ks G).parse f ≡ Err (At 0)
+      c ts m f r true b q s l = absurd (let k : (deep K ks G).parse ts ≡ Err (Over (length ts)) = rw b refl in cc)
+      c ts m f r false b q s l =
+          let k : (deep K ks G).parse ts ≡ Err (At (length ts)) = rw b refl in
+          let same : m ≡ length ts = cc in
+          rw (front_empty ts f r s (sym same ∙ l)) refl
+
+  pub at_most_solid : {A : Type 0} {n : ℕ} (most : ℕ) {G : Syntax T A} {lead null : Bool} {first : List ℕ} {more : A → List ℕ} → IsSolid K n G lead null first more → IsSolid K n (at_most most G) lead null first more
+  at_most_solid {A} {n} most {G} {lead} {null} {first} {more} g = record {
+    exact = at_most_exact K most G null first more g.exact;
+    led = g.led;
+    opens = λ ld t ts lt a q. elim (at_most_answer K most G null first more g.exact (t ∷ ts)) [ inl p ↦ g.opens ld t ts lt a (sym p.1 ∙ q) | inr p ↦ let z : Err (Over (length (t ∷ ts) - most)) ≡ Err (At (suc (length ts))) = sym p.1 ∙ q in cc ];
+    cut = λ ts m f r lt q s l.
+      elim (at_most_answer K most G null first more g.exact ts) [
+        | inl p ↦
+          let e : G.parse ts ≡ Err (At m) = sym p.1 ∙ q in
+          let c = g.cut ts m f r lt e s l in
+          let short = front_short K most G null first more g.exact ts f r (place (G.parse ts)) s (ap place e ∙ l) p.0 in
+          ap (capped most (length f)) c ∙ capped_in most (length f) (Err (At 0)) (let k = below K most G null first more g.exact f [] short in ap (λ (z : List T). ltb (most + 0) (length z)) (sym (append-nil f)) ∙ k)
+        | inr p ↦ absurd (let z : Err (Over (length ts - most)) ≡ Err (At m) = sym p.1 ∙ q in cc)
+      ];
+  }
 
   -- ---- sets that depend on what was read
 
