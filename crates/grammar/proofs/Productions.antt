@@ -142,6 +142,25 @@ module _ {T : Type 0} {K : T → ℕ} where
     pub knot_is : (s : S) (ts : List T) → (knot F s).parse ts ≡ (F (knot F) s).parse ts
     knot_is s ts = (step (length ts) (knot_at F (length ts)) (knot F) (λ u. limit_good K (λ n. knot_at F n u) null first more (λ n. knot_grows n u) (length ts)) s).agree ts (omega arith)
 
+  -- recursion inside a production that itself depends on one still open
+  module _ {S A : Type 0} (n : ℕ) (null : Bool) (first : List ℕ) (more : A → List ℕ) (F F' : (S → Syntax T A) → S → Syntax T A) (step : (k : ℕ) (U U' : S → Syntax T A) → ((s : S) → IsGood K k (U s) (U' s) null first more) → (s : S) → IsGood K (suc k) (F U s) (F U' s) null first more) (step' : (k : ℕ) (U U' : S → Syntax T A) → ((s : S) → IsGood K k (U s) (U' s) null first more) → (s : S) → IsGood K (suc k) (F' U s) (F' U' s) null first more) (both : (U U' : S → Syntax T A) → ((s : S) → IsGood K n (U s) (U' s) null first more) → (s : S) → IsGood K n (F U s) (F' U' s) null first more) where
+    at_both : (k : ℕ) (s : S) → IsGood K n (knot_at F k s) (knot_at F' k s) null first more
+    at_both zero s = nothing null first more F step n
+    at_both (suc k) s = both (knot_at F k) (knot_at F' k) (at_both k) s
+
+    pub knot_both : (s : S) → IsGood K n (knot F s) (knot F' s) null first more
+    knot_both s = record {
+      here = knot_exact null first more F step s;
+      there = knot_exact null first more F' step' s;
+      reads = λ a x r. (r.0, (at_both r.0 s).reads a x r.1);
+      begun = λ a b. (b.0, (at_both b.0 s).begun a b.1);
+      late = λ a t l. (l.0, (at_both l.0 s).late a t l.1);
+      agree = λ ts lt. (at_both (suc (length ts)) s).agree ts lt;
+      reads_back = λ a x lt r. (r.0, (at_both r.0 s).reads_back a x lt r.1);
+      begun_back = λ a lt b. (b.0, (at_both b.0 s).begun_back a lt b.1);
+      late_back = λ a t lt l. (l.0, (at_both l.0 s).late_back a t lt l.1);
+    }
+
   -- ---- one turn of a repetition
 
   pub turn : {A : Type 0} (ks : List ℕ) {f m : List ℕ} (step : A → Syntax T A) → ((x : A) → IsExact K (step x) false f (λ _. m)) → and (apart ks m) (within f ks) ≡ true → (x y : A) (ts rest : List T) → sees K ks ts ≡ true → (step x).parse ts ≡ Ok (y, rest) → (many K (λ _. ks) step x).parse ts ≡ (many K (λ _. ks) step y).parse rest

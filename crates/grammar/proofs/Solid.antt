@@ -6,7 +6,7 @@ use Rattle.grammar.specs.Exact.{SameHead, Late, IsExact, RefusedAt, Unread}
 use Rattle.grammar.proofs.Sets.{within, apart, within_among, apart_among, cond_true, within_self, within_left, within_right, within_both, within_joined, among_either}
 use Rattle.grammar.proofs.Parts.{bind_err, chosen, ChoiceFits, gives_exact, choice_exact, widen}
 use Rattle.grammar.proofs.Bounds.{LoopFits, many_exact, turn_exact, turned_exact, many_is, rest_below, rest_within, split_same}
-use Rattle.grammar.proofs.Limits.{place, at_most_exact, at_most_answer, front_short, below, capped_in}
+use Rattle.grammar.proofs.Limits.{place, at_most_exact, at_most_answer, front_short, below, capped_in, opened}
 use Rattle.grammar.proofs.Productions.{and, empties, turns_fit, seq, either, again_and_again, same, seq_to, made, either_to, maybe_to, to_constant}
 use Rattle.grammar.proofs.Theorem.{refused_at}
 
@@ -229,6 +229,15 @@ module _ {T : Type 0} {K : T → ℕ} where
   pub knot_solid : {S A : Type 0} {G F : S → Syntax T A} {null : Bool} {first : List ℕ} {more : A → List ℕ} → null ≡ false → ((s : S) → IsExact K (G s) null first more) → ((s : S) (ts : List T) → (G s).parse ts ≡ (F s).parse ts) → ((n : ℕ) → ((s : S) → IsSolid K n (G s) true null first more) → (s : S) → IsSolid K (suc n) (F s) true null first more) → (n : ℕ) (s : S) → IsSolid K n (G s) true null first more
   knot_solid nn e p step zero s = solid_zero true (λ _. nn) (e s)
   knot_solid nn e p step (suc n) s = as_parsed (p s) (e s) (step n (λ u. knot_solid nn e p step n u) s)
+
+  -- the same, up to a bound
+  pub knot_solid_to : {S A : Type 0} {G F : S → Syntax T A} {null : Bool} {first : List ℕ} {more : A → List ℕ} (top : ℕ) → null ≡ false → ((s : S) → IsExact K (G s) null first more) → ((s : S) (ts : List T) → (G s).parse ts ≡ (F s).parse ts) → ((n : ℕ) → n < top → ((s : S) → IsSolid K n (G s) true null first more) → (s : S) → IsSolid K (suc n) (F s) true null first more) → (n : ℕ) → n ≤ top → (s : S) → IsSolid K n (G s) true null first more
+  knot_solid_to top nn e p step zero le s = solid_zero true (λ _. nn) (e s)
+  knot_solid_to top nn e p step (suc n) le s = as_parsed (p s) (e s) (step n (omega arith) (λ u. knot_solid_to top nn e p step n (omega arith) u) s)
+
+  -- a token of the first set begins the production
+  pub solid_opens : {A : Type 0} {G : Syntax T A} {first : List ℕ} {more : A → List ℕ} → ((n : ℕ) → IsSolid K n G true false first more) → (t : T) → among (K t) first ≡ true → G.begun (t ∷ [])
+  solid_opens {A} {G} {first} {more} g t a = opened K G first more (g 0).exact t (λ e. (g 2).opens refl t [] (omega arith) a e)
 
   -- ---- limits
 
