@@ -1,6 +1,6 @@
 -- The exactness of a production from that of its parts, a line for each production. The sets follow from
 -- those of the parts, and each side condition is a test by computation.
-use Rattle.std.proofs.Common.{◌≡◌, ℕ, zero, suc, Bool, true, false, cond, List, [], ◌∷◌, ◌++◌, length, Ok, Err, refl, ◌∙◌, arith, Option, Some}
+use Rattle.std.proofs.Common.{◌≡◌, ◌≤◌, ℕ, zero, suc, Bool, true, false, cond, List, [], ◌∷◌, ◌++◌, length, Ok, Err, refl, ◌∙◌, arith, Option, Some}
 use Rattle.grammar.specs.Syntax.{Syntax, Fault, among, sees, none, gives, one, ◌then◌, choice, many, knot_at, knot, deep, at_most}
 use Rattle.grammar.specs.Exact.{IsExact, IsGood}
 use Rattle.grammar.proofs.Sets.{within, apart, cond_true, within_self, within_joined_right, within_left, within_right}
@@ -97,6 +97,24 @@ module _ {T : Type 0} {K : T → ℕ} where
 
   pub same : {A : Type 0} {n : ℕ} {G : Syntax T A} {null : Bool} {first : List ℕ} {more : A → List ℕ} → IsExact K G null first more → IsGood K n G G null first more
   same {A} {n} {G} {null} {first} {more} g = same_good K n G null first more g
+
+  -- what holds on longer texts holds on shorter ones
+  pub lowered : {A : Type 0} {n : ℕ} {G H : Syntax T A} {null : Bool} {first : List ℕ} {more : A → List ℕ} (k : ℕ) → k ≤ n → IsGood K n G H null first more → IsGood K k G H null first more
+  lowered {A} {n} {G} {H} k le g = record {
+    here = g.here;
+    there = g.there;
+    reads = g.reads;
+    begun = g.begun;
+    late = g.late;
+    agree = λ ts lt. g.agree ts (omega arith);
+    reads_back = λ a x lt. g.reads_back a x (omega arith);
+    begun_back = λ a lt. g.begun_back a (omega arith);
+    late_back = λ a t lt. g.late_back a t (omega arith);
+  }
+
+  -- the same, for the parts of what stands behind a token
+  pub one_lower : {A : Type 0} {n : ℕ} {G H : Syntax T A} {null : Bool} {first : List ℕ} {more : A → List ℕ} → IsGood K (suc n) G H null first more → IsGood K n G H null first more
+  one_lower {A} {n} g = lowered n (omega arith) g
 
   -- one token of which f makes a value, if its kind is in the set
   pub token : {A : Type 0} {n : ℕ} (f : T → Option A) (ks : List ℕ) → ((t : T) (x : A) → f t ≡ Some x → among (K t) ks ≡ true) → IsGood K n (one f) (one f) false ks (λ _. [])
