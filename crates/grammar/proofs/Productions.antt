@@ -269,6 +269,18 @@ module _ {T : Type 0} {K : T → ℕ} where
         empty = λ t. refl;
       }) g (same_good K n (gives x) true [] (λ _. []) (gives_exact K x))
 
+  -- what follows may be empty, and then gives f of the value before it
+  pub tail_to : {A B : Type 0} {n : ℕ} {G G' : Syntax T A} {H H' : A → Syntax T B} {f1 : List ℕ} {m1 : A → List ℕ} {f2 : A → List ℕ} {more : B → List ℕ} (f : A → B) → IsGood K n G G' false f1 m1 → ((x : A) → IsGood K n (H x) (H' x) true (f2 x) more) → ((x : A) (y : B) → (H x).reads [] y → f x ≡ y) → ((x : A) (y : B) → (H' x).reads [] y → f x ≡ y) → ((x : A) → apart (f2 x) (m1 x) ≡ true) → ((x : A) → within (m1 x) (more (f x)) ≡ true) → IsGood K n (G then H) (G' then H') false f1 more
+  tail_to {A} {B} {n} {G} {G'} {H} {H'} {f1} {m1} {f2} {more} f g h ends ends' c o =
+      then_good K n G G' H H' false f1 m1 true f2 (λ _. more) false f1 more (λ x y. f x ≡ y) ends ends' (record {
+        clash = c;
+        late = λ x y. within_self (more y);
+        over = λ x y t same. rw (← same) (o x);
+        begin = within_self f1;
+        next = λ x t. absurd cc;
+        empty = λ t u. absurd cc;
+      }) g h
+
   pub to_constant : {A : Type 0} {n : ℕ} {G H : Syntax T A} {null : Bool} {first : List ℕ} {m : A → List ℕ} (more : List ℕ) → IsGood K n G H null first m → ((x : A) → within (m x) more ≡ true) → IsGood K n G H null first (λ _. more)
   to_constant {A} {n} {G} {H} {null} {first} {m} more g e =
       record {

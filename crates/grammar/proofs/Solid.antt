@@ -7,7 +7,7 @@ use Rattle.grammar.proofs.Sets.{within, apart, within_among, apart_among, cond_t
 use Rattle.grammar.proofs.Parts.{bind_err, chosen, ChoiceFits, gives_exact, choice_exact, widen}
 use Rattle.grammar.proofs.Bounds.{LoopFits, many_exact, turn_exact, turned_exact, many_is, rest_below, rest_within, split_same}
 use Rattle.grammar.proofs.Limits.{place, at_most_exact, at_most_answer, front_short, below, capped_in, opened}
-use Rattle.grammar.proofs.Productions.{and, empties, turns_fit, seq, either, again_and_again, same, seq_to, made, either_to, maybe_to, to_constant}
+use Rattle.grammar.proofs.Productions.{and, empties, turns_fit, seq, either, again_and_again, same, seq_to, made, either_to, maybe_to, tail_to, to_constant}
 use Rattle.grammar.proofs.Theorem.{refused_at}
 
 pub record IsSolid {T : Type 0} (K : T → ℕ) {A : Type 0} (n : ℕ) (G : Syntax T A) (lead null : Bool) (first : List ℕ) (more : A → List ℕ) : Type 0 where
@@ -293,6 +293,10 @@ module _ {T : Type 0} {K : T → ℕ} where
   pub maybe_solid_to : {A : Type 0} {n : ℕ} (ks : List ℕ) {G : Syntax T A} {f1 : List ℕ} {m1 : A → List ℕ} {more : A → List ℕ} (x : A) → IsSolid K n G true false f1 m1 → within f1 ks ≡ true → within ks f1 ≡ true → ((y : A) → within (m1 y) (more y) ≡ true) → within ks (more x) ≡ true → IsSolid K n (choice K ks G (gives x)) false true f1 more
   maybe_solid_to {A} {n} ks {G} {f1} {m1} {more} x g c d o k =
       choice_solid ks G (gives x) false true f1 [] m1 (λ _. []) true f1 more (maybe_to {n = 0} ks x (same g.exact) c o k).here c d refl (within_left f1 []) (λ h. absurd cc) n g (gives_solid x)
+
+  pub tail_solid_to : {A B : Type 0} {n : ℕ} {G : Syntax T A} {H : A → Syntax T B} {l1 l2 : Bool} {f1 : List ℕ} {m1 : A → List ℕ} {f2 : A → List ℕ} {more : B → List ℕ} (f : A → B) → IsSolid K n G l1 false f1 m1 → ((x : A) → IsSolid K n (H x) l2 true (f2 x) more) → ((x : A) (y : B) → (H x).reads [] y → f x ≡ y) → ((x : A) → apart (f2 x) (m1 x) ≡ true) → ((x : A) → within (m1 x) (more (f x)) ≡ true) → IsSolid K n (G then H) l1 false f1 more
+  tail_solid_to {A} {B} {n} {G} {H} {l1} {l2} {f1} {m1} {f2} {more} f g h ends c o =
+      then_solid G H l1 l2 false true f1 f2 m1 (λ _. more) false f1 more (tail_to {n = 0} f (same g.exact) (λ x. same (h x).exact) ends ends c o).here (λ ld. within_self f1) (λ e. e) n g h
 
   -- a repetition, where the kinds depend on the value before each turn
   pub many_solid_to : {A : Type 0} (ks : A → List ℕ) {f : A → List ℕ} {m : A → A → List ℕ} {more : A → List ℕ} {step : A → Syntax T A} → LoopFits A ks f m more → ((x : A) → within (ks x) (f x) ≡ true) → (n : ℕ) → ((x : A) → IsSolid K n (step x) true false (f x) (m x)) → (x : A) → IsSolid K n (many K ks step x) false true (ks x) more
