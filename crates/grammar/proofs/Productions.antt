@@ -281,11 +281,12 @@ module _ {T : Type 0} {K : T → ℕ} where
         empty = λ t u. absurd cc;
       }) g h
 
-  pub to_constant : {A : Type 0} {n : ℕ} {G H : Syntax T A} {null : Bool} {first : List ℕ} {m : A → List ℕ} (more : List ℕ) → IsGood K n G H null first m → ((x : A) → within (m x) more ≡ true) → IsGood K n G H null first (λ _. more)
-  to_constant {A} {n} {G} {H} {null} {first} {m} more g e =
+  -- a larger set of what can follow does no harm
+  pub widened : {A : Type 0} {n : ℕ} {G H : Syntax T A} {null : Bool} {first : List ℕ} {m more : A → List ℕ} → IsGood K n G H null first m → ((x : A) → within (m x) (more x) ≡ true) → IsGood K n G H null first more
+  widened {A} {n} {G} {H} {null} {first} {m} {more} g e =
       record {
-        here = widen K G null first m null first (λ _. more) g.here (λ h. h) (within_self first) e;
-        there = widen K H null first m null first (λ _. more) g.there (λ h. h) (within_self first) e;
+        here = widen K G null first m null first more g.here (λ h. h) (within_self first) e;
+        there = widen K H null first m null first more g.there (λ h. h) (within_self first) e;
         reads = g.reads;
         begun = g.begun;
         late = g.late;
@@ -294,6 +295,9 @@ module _ {T : Type 0} {K : T → ℕ} where
         begun_back = g.begun_back;
         late_back = g.late_back;
       }
+
+  pub to_constant : {A : Type 0} {n : ℕ} {G H : Syntax T A} {null : Bool} {first : List ℕ} {m : A → List ℕ} (more : List ℕ) → IsGood K n G H null first m → ((x : A) → within (m x) more ≡ true) → IsGood K n G H null first (λ _. more)
+  to_constant more g e = widened g e
 
 -- What ends by a token of its own is exact for other kinds too.
 pub recast : {T A : Type 0} {K J : T → ℕ} {G : Syntax T A} {null : Bool} {first : List ℕ} (first' : List ℕ) → ((t : T) → among (K t) first ≡ true → among (J t) first' ≡ true) → IsExact K G null first (λ _. []) → IsExact J G null first' (λ _. [])

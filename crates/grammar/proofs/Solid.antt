@@ -7,7 +7,7 @@ use Rattle.grammar.proofs.Sets.{within, apart, within_among, apart_among, cond_t
 use Rattle.grammar.proofs.Parts.{bind_err, chosen, ChoiceFits, gives_exact, choice_exact, widen}
 use Rattle.grammar.proofs.Bounds.{LoopFits, many_exact, turn_exact, turned_exact, many_is, rest_below, rest_within, split_same}
 use Rattle.grammar.proofs.Limits.{place, at_most_exact, at_most_answer, front_short, below, capped_in, opened}
-use Rattle.grammar.proofs.Productions.{and, empties, turns_fit, seq, either, again_and_again, same, seq_to, made, either_to, maybe_to, tail_to, to_constant}
+use Rattle.grammar.proofs.Productions.{and, empties, turns_fit, seq, either, again_and_again, same, seq_to, made, either_to, maybe_to, tail_to, widened}
 use Rattle.grammar.proofs.Theorem.{refused_at}
 
 pub record IsSolid {T : Type 0} (K : T → ℕ) {A : Type 0} (n : ℕ) (G : Syntax T A) (lead null : Bool) (first : List ℕ) (more : A → List ℕ) : Type 0 where
@@ -307,8 +307,8 @@ module _ {T : Type 0} {K : T → ℕ} where
       as_parsed (many_is K ks f m more fit step (λ y. (g y).exact) x) (many_exact K ks f m more fit step (λ y. (g y).exact) x)
         (choice_solid (ks x) (step x then λ y. many K ks step y) (gives x) false true (f x) [] more (λ _. []) true (ks x) more (turned_exact K ks f m more fit step (λ y. (g y).exact) x) (fit.taken x) (o x) refl (within_joined (ks x) (f x) [] (o x)) (λ h. absurd cc) (suc n) once (gives_solid x))
 
-  pub to_constant_solid : {A : Type 0} {n : ℕ} {G : Syntax T A} {lead null : Bool} {first : List ℕ} {m : A → List ℕ} (more : List ℕ) → IsSolid K n G lead null first m → ((x : A) → within (m x) more ≡ true) → IsSolid K n G lead null first (λ _. more)
-  to_constant_solid {A} {n} {G} {lead} {null} {first} {m} more g e = record { exact = (to_constant {n = 0} more (same g.exact) e).here; led = g.led; opens = g.opens; cut = g.cut }
+  pub widened_solid : {A : Type 0} {n : ℕ} {G : Syntax T A} {lead null : Bool} {first : List ℕ} {m more : A → List ℕ} → IsSolid K n G lead null first m → ((x : A) → within (m x) (more x) ≡ true) → IsSolid K n G lead null first more
+  widened_solid {A} {n} {G} {lead} {null} {first} {m} {more} g e = record { exact = (widened {n = 0} (same g.exact) e).here; led = g.led; opens = g.opens; cut = g.cut }
 
   -- where a token can't follow, what stands before it is no reading
   pub no_reading : {A : Type 0} (G : Syntax T A) (lead null : Bool) (first : List ℕ) (more : A → List ℕ) → ((n : ℕ) → IsSolid K n G lead null first more) → (ts : List T) (m : ℕ) (f r : List T) → G.parse ts ≡ Err (At m) → ts ≡ f ++ r → m ≡ length r → (x : A) → G.reads f x → ⊥
