@@ -1,6 +1,7 @@
 -- From exactness to what the answers mean.
-use Rattle.std.proofs.Common.{◌≡◌, ℕ, suc, ◌≤◌, Bool, List, [], ◌∷◌, ◌++◌, length, Result, Ok, Err, refl, sym, ap, subst, ◌∙◌, ◌⊎◌, inl, inr, arith, length-append}
+use Rattle.std.proofs.Common.{◌≡◌, ℕ, suc, ◌≤◌, Bool, List, [], ◌∷◌, ◌++◌, length, drop, ◌-◌, Result, Ok, Err, refl, sym, ap, subst, ◌∙◌, ◌⊎◌, inl, inr, arith, length-append}
 use Rattle.std.proofs.lemmas.List.{append-nil}
+use Rattle.std.proofs.Math.Seq.{drop-append_seam}
 use Rattle.grammar.specs.Syntax.{Syntax, Fault, At, Over}
 use Rattle.grammar.specs.Exact.{SameHead, Late, RunsOut, IsExact, WithinLimits, Found, RefusedAt, RefusedOver, Refused, AtMostOne, FrontsBegin, ReadsAccepted, AcceptsRead}
 use Rattle.grammar.proofs.Parts.{ok_is}
@@ -19,6 +20,11 @@ refusal f = Err f
 
 over_is : {T A : Type 0} (n m : ℕ) → refusal {T = T} {A = A} (Over n) ≡ refusal (Over m) → n ≡ m
 over_is n m e = cc
+
+dropped : {T : Type 0} (front rest ts : List T) → ts ≡ front ++ rest → rest ≡ drop (length ts - length rest) ts
+dropped front rest ts e =
+    let l : length ts - length rest ≡ length front = omega (arith, ap length e, length-append front rest) in
+    rw (l, e) (sym (drop-append_seam front rest))
 
 module _ {T : Type 0} {K : T → ℕ} {A : Type 0} (G : Syntax T A) (null : Bool) (first : List ℕ) (more : A → List ℕ) (g : IsExact K G null first more) where
   within_ok : (text : List T) (x : A × List T) → G.parse text ≡ Ok x → WithinLimits G text
@@ -117,3 +123,18 @@ module _ {T : Type 0} {K : T → ℕ} {A : Type 0} (G : Syntax T A) (null : Bool
   -- where no limit is passed, a reading of tokens is the only one
   pub one_reading : (ts : List T) (x y : A) → WithinLimits G ts → G.reads ts x → G.reads ts y → x ≡ y
   one_reading ts x y w r s = at_most_one ts x y (record { reading = r; within = w }) (record { reading = s; within = w })
+
+  -- ---- where the places lie
+
+  -- what is left is the end of the text
+  pub rest_is : (ts : List T) (x : A) (rest : List T) → G.parse ts ≡ Ok (x, rest) → rest ≡ drop (length ts - length rest) ts
+  rest_is ts x rest e = let t = g.takes ts x rest e in dropped t.front rest ts t.parts
+
+  pub rest_within_text : (ts : List T) (x : A) (rest : List T) → G.parse ts ≡ Ok (x, rest) → length rest ≤ length ts
+  rest_within_text ts x rest e = let t = g.takes ts x rest e in omega (arith, ap length t.parts, length-append t.front rest)
+
+  pub at_within : (ts : List T) (n : ℕ) → G.parse ts ≡ Err (At n) → n ≤ length ts
+  at_within ts n e = let t = g.fails ts n e in let l = t.left in omega (arith, ap length t.parts, length-append t.front t.rest)
+
+  pub over_within : (ts : List T) (n : ℕ) → G.parse ts ≡ Err (Over n) → n ≤ length ts
+  over_within ts n e = let t = g.overs ts n e in let l = t.left in omega (arith, ap length t.parts, length-append t.front (t.token ∷ t.rest))
