@@ -1,6 +1,7 @@
 -- Limits: a production that stands one too deep, and at most n tokens of a production.
-use Rattle.std.proofs.Common.{◌≡◌, ℕ, zero, suc, ◌+◌, ◌-◌, ◌<◌, ◌≤◌, Bool, true, false, ltb, List, [], ◌∷◌, ◌++◌, length, Result, Ok, Err, refl, sym, ◌∙◌, ap, subst, ◌⊎◌, inl, inr, append_assoc, arith, length-append}
+use Rattle.std.proofs.Common.{◌≡◌, ℕ, zero, suc, ◌+◌, ◌-◌, ◌<◌, ◌≤◌, Bool, true, false, ltb, List, [], ◌∷◌, ◌++◌, length, drop, Result, Ok, Err, refl, sym, ◌∙◌, ap, subst, ◌⊎◌, inl, inr, append_assoc, arith, length-append}
 use Rattle.std.proofs.lemmas.List.{append-nil}
+use Rattle.std.proofs.Math.Seq.{drop-append_seam}
 use Rattle.std.proofs.lemmas.Bool.{lt-ltb, le-ltb, ltb-true, ltb-false}
 use Rattle.grammar.specs.Syntax.{Syntax, Fault, At, Over, among, sees, deep, at_most, capped, resumed}
 use Rattle.grammar.specs.Exact.{SameHead, Takes, Fails, Overs, Late, RunsOut, IsExact, IsGood}
@@ -391,6 +392,34 @@ module _ {T : Type 0} (K : T → ℕ) {A : Type 0} (n : ℕ) (G : Syntax T A) (n
       by_answer (Ok x) q = cut_ok p s x.0 x.1 e q
       by_answer (Err (At m)) q = cut_at p s m e q
       by_answer (Err (Over m)) q = kept_over p s m (omega (arith, e)) (g.overs p m q)
+
+  -- the same by its cases, for a text that is near and then far
+  module _ (ts near far : List T) (parts : ts ≡ near ++ far) (long : length near ≡ suc n) where
+    cut_answer : (r : Result (A × List T) Fault) → G.parse near ≡ r → (at_most n G).parse ts ≡ resumed far r
+    cut_answer r e = ap (at_most n G).parse parts ∙ at_most_cut near far long ∙ ap (resumed far) e
+
+    pub near_ok_ends : (x : A) (rest : List T) → G.parse near ≡ Ok (x, rest) → length rest ≡ 0 → (at_most n G).parse ts ≡ Err (Over (length far + 1))
+    near_ok_ends x [] e z = cut_answer (Ok (x, [])) e ∙ ap (λ (k : ℕ). Err (Over k)) (omega arith)
+    near_ok_ends x (t ∷ rest) e z = absurd (omega (arith, z))
+
+    pub near_ok : (x : A) (rest : List T) → G.parse near ≡ Ok (x, rest) → (length rest ≡ 0 → ⊥) → (at_most n G).parse ts ≡ Ok (x, drop (length ts - (length rest + length far)) ts)
+    near_ok x [] e z = absurd (z refl)
+    near_ok x (t ∷ rest) e z =
+        let w = g.takes near x (t ∷ rest) e in
+        let whole : ts ≡ w.front ++ (t ∷ rest ++ far) = parts ∙ ap (λ (v : List T). v ++ far) w.parts ∙ append_assoc w.front (t ∷ rest) far in
+        let l : length ts - (length (t ∷ rest) + length far) ≡ length w.front = omega (arith, ap length whole, length-append w.front (t ∷ rest ++ far), length-append (t ∷ rest) far) in
+        let d : drop (length ts - (length (t ∷ rest) + length far)) ts ≡ t ∷ rest ++ far = ap (λ (k : ℕ). drop k ts) l ∙ ap (drop (length w.front)) whole ∙ drop-append_seam w.front (t ∷ rest ++ far) in
+        cut_answer (Ok (x, t ∷ rest)) e ∙ ap (λ (v : List T). Ok (x, v)) (sym d)
+
+    pub near_at_ends : G.parse near ≡ Err (At 0) → (at_most n G).parse ts ≡ Err (Over (length far + 1))
+    near_at_ends e = cut_answer (Err (At 0)) e ∙ ap (λ (k : ℕ). Err (Over k)) (omega arith)
+
+    pub near_at : (m : ℕ) → G.parse near ≡ Err (At m) → (m ≡ 0 → ⊥) → (at_most n G).parse ts ≡ Err (At (m + length far))
+    near_at zero e z = absurd (z refl)
+    near_at (suc m) e z = cut_answer (Err (At (suc m))) e
+
+    pub near_over : (m : ℕ) → G.parse near ≡ Err (Over m) → (at_most n G).parse ts ≡ Err (Over (m + length far))
+    near_over m e = cut_answer (Err (Over m)) e
 
 module _ {T : Type 0} (K : T → ℕ) {A : Type 0} (most n : ℕ) (G H : Syntax T A) (null : Bool) (first : List ℕ) (more : A → List ℕ) where
   at_most_late : ((a : List T) → G.begun a → H.begun a) → ((a : List T) (t : T) → G.late a t → H.late a t) → (a : List T) (t : T) → (at_most most G).late a t → (at_most most H).late a t
