@@ -122,20 +122,23 @@ variable_of s (Number n) = None
 variable_of s (Letter z) = None
 variable_of s (Fixed k) = None
 
--- the name n
-abbrev pub is_name : ℕ → TokenKind → Option (Unit {0})
-is_name n (Name k) = cond (eqb k n) (Some tt) None
-is_name n (Number k) = None
-is_name n (Letter z) = None
-is_name n (Fixed k) = None
+abbrev pub is_name : ℕ → TokenKind → Bool
+is_name n (Name k) = eqb k n
+is_name n (Number k) = false
+is_name n (Letter z) = false
+is_name n (Fixed k) = false
+
+-- the name n, by its place
+abbrev pub named : ℕ → Token → Option Place
+named n t = cond (is_name n t.kind) (Some t.place) None
 
 -- the limit of declarations (this profile)
 abbrev pub most_variables : ℕ
 most_variables = 1000
 
 -- NAME, where it is declared: it wasn't used before, so it has the next number
-abbrev pub new_name : Scope → TokenKind → Option (Unit {0})
-new_name s k = cond (ltb (length s) most_variables) (is_name (length s + 1) k) None
+abbrev pub new_name : Scope → Token → Option Place
+new_name s t = cond (ltb (length s) most_variables) (named (length s + 1) t) None
 
 -- `+` and `-` (C99 6.5.6)
 abbrev pub additive : TokenKind → Option BinOp
@@ -390,7 +393,7 @@ declare d at equals e = (d.0 ++ (at.offset ∷ []), d.1 ++ (statement.Declare (i
 
 -- "int" NAME "=" expr ";"
 unfoldable pub declaration : Declared → Syntax Token Declared
-declaration d = fixed Int then λ _. one (placed (new_name d.0)) then λ x. fixed Assign then λ equals. full_expr d.0 then λ e. fixed Semicolon then λ _. gives (declare d x.1 equals e)
+declaration d = fixed Int then λ _. one (new_name d.0) then λ at. fixed Assign then λ equals. full_expr d.0 then λ e. fixed Semicolon then λ _. gives (declare d at equals e)
 
 unfoldable pub declarations : Declared → Syntax Token Declared
 declarations d = many kind (λ _. lexeme_kind Int ∷ []) declaration d
@@ -424,7 +427,7 @@ most_nested = 200
 
 -- "int" "main" "(" "void" ")"
 unfoldable pub main_head : Syntax Token Place
-main_head = fixed Int then λ _. one (placed (is_name 0)) then λ x. fixed LeftParen then λ _. fixed Void then λ _. fixed RightParen then λ _. gives x.1
+main_head = fixed Int then λ _. one (named 0) then λ at. fixed LeftParen then λ _. fixed Void then λ _. fixed RightParen then λ _. gives at
 
 -- each name of the text but `main` is declared
 abbrev pub all_declared : List (List ℕ) → Scope → Bool

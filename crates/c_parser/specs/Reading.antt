@@ -34,3 +34,17 @@ plain_tokens t = record { names = t.names.items; list = t.list.items }
 -- what is read so far
 abbrev pub read_of : Reading → Tokens
 read_of r = record { names = seen r.names; list = r.list.items }
+
+-- ---- a production
+
+abbrev pub is_fault : {Y : Type 0} → Result Y Fault → Bool
+is_fault (Ok x) = false
+is_fault (Err d) = true
+
+abbrev pub Fails : {Y : Type 0} → ReadFault → Result Y Fault → Type 0
+Fails Form read = is_fault read ≡ true
+Fails Memory read = Unit {0}
+
+abbrev pub Gives : {X Y : Type 0} → (X → Y) → Result X ReadFault → Result Y Fault → Type 0
+Gives view (Ok x) read = read ≡ Ok (view x)
+Gives view (Err e) read = Fails e read

@@ -3,10 +3,14 @@
 //! A text is cut into tokens first, and a function for each production of the grammar reads them.
 #![tactic(auto)]
 
+mod annotation;
+mod expression;
 mod fault;
+mod lexer;
 mod names;
 mod pieces;
-mod lexer;
+mod terminals;
+mod window;
 
 pub use fault::ReadFault;
 pub use lexer::{tokens, TokenList};
