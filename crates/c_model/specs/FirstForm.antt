@@ -9,7 +9,7 @@
 --
 -- In an assert a parenthesis holds a sum. Each name is declared earlier, once, and an initialiser doesn't mention its own variable.
 use Rattle.std.specs.Prelude.{◌≡◌, ℕ, zero, suc, ◌+◌, ◌-◌, ℤ, pos, List, [], ◌∷◌, ◌++◌, length, Option, Some, None, option_map, Bool, true, false, cond, eqb, leb, ltb, codes, slice_get}
-use Rattle.grammar.specs.Syntax.{Syntax, none, gives, one, ◌then◌, choice, many, knot, deep, at_most}
+use Rattle.grammar.specs.Syntax.{Syntax, none, gives, one, ◌then◌, choice, many, knot, at_most}
 use Rattle.c_syntax.specs.declared.place.Place.{Place}
 use Rattle.c_syntax.specs.declared.types.CInt.{CInt}
 use Rattle.c_syntax.specs.declared.types.CInt.TheVariants.{I32}
@@ -370,13 +370,9 @@ statement_of s S n =
     (choice kind (lexeme_kind Return ∷ []) (return_statement s n)
     (choice kind (lexeme_kind Putchar ∷ []) (output s n) (assignment s n)))))
 
--- a statement of any depth
-unfoldable pub any_statement : Scope → Numbered
-any_statement s = knot (statement_of s)
-
--- a statement in which statements stand at most d deep, itself included; one deeper passes the limit
-abbrev pub statement_in : Scope → ℕ → Numbered
-statement_in s zero n = deep kind first_statement (any_statement s n)
+-- a statement in which statements stand at most d deep, itself included
+unfoldable pub statement_in : Scope → ℕ → Numbered
+statement_in s zero n = none
 statement_in s (suc d) n = statement_of s (statement_in s d) n
 
 -- ---- main (C99 6.7, 6.9.1)

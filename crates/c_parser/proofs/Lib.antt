@@ -5,3 +5,5 @@ pub mod Expressions
 pub mod Terms
 pub mod Turns
 pub mod Windows
+pub mod Bodies
+pub mod StatementSteps

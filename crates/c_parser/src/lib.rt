@@ -9,6 +9,7 @@ mod fault;
 mod lexer;
 mod names;
 mod pieces;
+mod statement;
 mod terminals;
 mod window;
 
