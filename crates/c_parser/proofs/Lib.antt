@@ -7,3 +7,4 @@ pub mod Turns
 pub mod Windows
 pub mod Bodies
 pub mod StatementSteps
+pub mod ProgramSteps

@@ -161,7 +161,8 @@ const MOST_TOKENS: usize = 200_000;
 /// The tokens of a text, where each of its pieces is one of the form and they are few enough.
 pub fn tokens(alloc: Global, text: &[u8]) -> Result<TokenList, ReadFault>
     requires { length text.now < 4294967295 }
-    ensures { GivesSome plain_tokens result (tokens_of text.now) }
+    ensures exact { GivesSome plain_tokens result (tokens_of text.now) }
+    ensures few { IfOk result (λ t. length t.list.items ≤ most_tokens) }
 {
     let mut reading = nothing_read(alloc)?;
     let mut place = Place {
@@ -192,7 +193,8 @@ pub fn tokens(alloc: Global, text: &[u8]) -> Result<TokenList, ReadFault>
 
 #[tactic(auto, unfolding(c_model::specs::FirstTokens::build))]
 fn finish(alloc: Global, reading: Reading, end: Place, mode: Mode) -> Result<TokenList, ReadFault>
-    ensures { GivesSome plain_tokens result (build (read_of reading) (Ended end mode)) }
+    ensures exact { GivesSome plain_tokens result (build (read_of reading) (Ended end mode)) }
+    ensures few { IfOk result (λ t. length t.list.items ≤ most_tokens) }
 {
     let reading = close(reading, end, mode)?;
     if reading.list.len() > MOST_TOKENS {

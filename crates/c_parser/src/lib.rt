@@ -9,9 +9,10 @@ mod fault;
 mod lexer;
 mod names;
 mod pieces;
+mod program;
+mod read;
 mod statement;
 mod terminals;
 mod window;
 
-pub use fault::ReadFault;
-pub use lexer::{tokens, TokenList};
+pub use read::{about_acceptance, read_first};

@@ -22,14 +22,14 @@ turn-init c =
       room = omega arith;
     }
 
-pub returns-in-None : goal.returns-in-None
-returns-in-None c =
+pub returns-in-None-clause-exact : goal.returns-in-None-clause-exact
+returns-in-None-clause-exact c =
     let left = ap length c.behind-rest.ensures in
     let len = length-drop c.turn.pos c.args.text.now in
     breaks (read_of c.turn.reading) c.turn.place c.turn.mode c.args.text.now c.behind-rest.result.now c.turn.pos _ c.behind-rest.ensures (omega arith) (sym c.in-None.ensures.value) c.turn.invariant.same
 
-pub returns-then-len-gt-MOST_TOKENS : goal.returns-then-len-gt-MOST_TOKENS
-returns-then-len-gt-MOST_TOKENS c =
+pub returns-then-len-gt-MOST_TOKENS-clause-exact : goal.returns-then-len-gt-MOST_TOKENS-clause-exact
+returns-then-len-gt-MOST_TOKENS-clause-exact c =
     too_many (read_of c.turn.reading) (read_of c.add.new.reading) c.turn.place c.turn.mode c.args.text.now c.behind-rest.result.now c.front-bytes.result.now c.turn.pos c.in-Some.field-0.more c.in-Some.field-0.piece _ c.behind-rest.ensures c.in-Some.ensures.within (sym c.in-Some.ensures.value) c.front-bytes.ensures c.in_ok-add-in-Some.ensures.ok (lt-ltb _ _ (omega (arith, c.len.ensures))) c.turn.invariant.same
 
 pub turn-preserved : goal.turn-preserved
@@ -50,5 +50,5 @@ turn-preserved c =
       room = omega (arith, c.len.ensures);
     }
 
-pub returns : goal.returns
-returns c = gives _ _ c.finish.result (ends (read_of c.turn.reading) c.turn.place c.turn.mode c.args.text.now c.turn.pos _ (omega (arith, length-drop c.turn.pos c.args.text.now)) c.turn.invariant.same) c.finish.ensures
+pub returns-clause-exact : goal.returns-clause-exact
+returns-clause-exact c = gives _ _ c.finish.result (ends (read_of c.turn.reading) c.turn.place c.turn.mode c.args.text.now c.turn.pos _ (omega (arith, length-drop c.turn.pos c.args.text.now)) c.turn.invariant.same) c.finish.ensures.exact
