@@ -8,3 +8,4 @@ pub mod Windows
 pub mod Bodies
 pub mod StatementSteps
 pub mod ProgramSteps
+pub mod Acceptance

@@ -17,7 +17,14 @@ use std::alloc::Global;
 fn is_blank_text(text: &[u8]) -> bool
     ensures { result ≡ blank_text text.now }
 {
-    text.iter().all(|b| is_blank(*b))
+    let mut rest = text;
+    'turn: while let [b, after @ ..] = rest {
+        if !is_blank(*b) {
+            return false;
+        }
+        rest = after;
+    }
+    true
 }
 
 /// The tree of a text of the form.
@@ -27,11 +34,15 @@ fn read_form(alloc: Global, text: &[u8]) -> Result<Program, ReadFault>
     ensures int_program { IfOk result (λ p. IsIntProgram (plain_program p)) }
 {
     let TokenList { list, names } = tokens(alloc, text)?;
-    let (program, rest) = form(alloc, names, &list)?;
-    if rest.is_empty() {
-        Ok(program)
-    } else {
-        Err(ReadFault::Form)
+    match form(alloc, names, list.as_slice()) {
+        Ok((program, rest)) => {
+            if rest.is_empty() {
+                Ok(program)
+            } else {
+                Err(ReadFault::Form)
+            }
+        }
+        Err(fault) => Err(fault),
     }
 }
 
