@@ -1,2 +1,5 @@
 pub mod Port
 pub mod Files
+pub mod Calls
+pub mod Memory
+pub mod Host
