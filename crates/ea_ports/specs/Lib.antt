@@ -3,3 +3,4 @@ pub mod Files
 pub mod Calls
 pub mod Memory
 pub mod Host
+pub mod HostFiles
