@@ -6,3 +6,4 @@ pub mod Meaning
 pub mod Reports
 pub mod IntPrograms
 pub mod Growth
+pub mod Steps
