@@ -1,0 +1,4 @@
+pub mod Growth
+pub mod Cells
+pub mod Fit
+mod WorkedRuns
