@@ -5,3 +5,4 @@ mod WorkedRuns
 pub mod Blocks
 pub mod Results
 pub mod Agreement
+pub mod Whole

@@ -3,14 +3,15 @@ use Rattle.std.specs.Prelude.{◌≡◌, ℕ, ◌+◌, ◌%◌, ◌^◌, ◌<◌
 use Rattle.c_syntax.specs.declared.place.Place.{Place}
 use Rattle.c_syntax.specs.declared.types.CInt.{CInt}
 use Rattle.c_syntax.specs.Ctypes.{PlainType, Int}
+use Rattle.c_syntax.specs.declared.expression.Use.{Use}
 use Rattle.c_syntax.specs.Expressions.{Expression}
 use Rattle.c_syntax.specs.Annotations.{Annotation}
 use Rattle.c_syntax.specs.Statements.{Statement, While}
 use Rattle.c_syntax.specs.Programs.{Function, TranslationUnit}
 use Rattle.c_model.specs.Integers.{size_of, fits, is_signed, value_bits, bits_of, value_of_bits, result_in}
 use Rattle.c_model.specs.Memory.{Pointer, Into, Value, Integer, Block, Store, block_at, load, save}
-use Rattle.c_model.specs.State.{Input, State, ◌>>=◌, ◌>>◌, done, step}
-use Rattle.c_model.specs.Meaning.{choose, after_body, call_of, eval, exec, function_named, main_with, start, ran, run, Ran}
+use Rattle.c_model.specs.State.{Input, State, Outcome, Normal, Stop, Evaluation, ◌>>=◌, ◌>>◌, done, step}
+use Rattle.c_model.specs.Meaning.{Callee, choose, after_body, call_of, eval, exec, function_named, main_with, start, ran, run, Ran}
 use Rattle.c_model.specs.Reports.{Agrees}
 use Rattle.c_model.specs.Growth.{Grows}
 use Rattle.c_model.specs.Steps.{steps_after}
@@ -68,6 +69,22 @@ SavesKeepBytes = (store saved : Store) (n offset : ℕ) (t : PlainType) (v : Val
 -- a save leaves each block its number of bytes
 abbrev pub SavesKeepWhole : Type 0
 SavesKeepWhole = (store saved : Store) (p : Pointer) (t : PlainType) (v : Value) → AreWhole store → save store p t v ≡ Some saved → AreWhole saved
+
+-- the store at an outcome
+abbrev pub store_after : {A : Type 0} → Outcome A → Store
+store_after (Normal a s) = s.store
+store_after (Stop e s) = s.store
+
+-- from every state the blocks stay whole
+pub record KeepsWhole {A : Type 0} (m : Evaluation A) : Type 0 where
+  pub at : (s : State) → AreWhole s.store → AreWhole (store_after (m s))
+
+abbrev pub CalleeKeepsWhole : Callee → Type 0
+CalleeKeepsWhole call = (at : Place) (f : Use) (vs : List Value) → KeepsWhole (call at f vs)
+
+-- a statement leaves each block its number of bytes
+abbrev pub StatementsKeepWhole : Type 0
+StatementsKeepWhole = (p : TranslationUnit) (a : Statement) (n : ℕ) → KeepsWhole (exec p n a)
 
 -- ---- runs
 

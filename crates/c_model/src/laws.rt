@@ -1,7 +1,7 @@
 //! The laws that the definitions meet, one function for each subject. None of them has anything to do.
 
 ghost use Rattle.c_model.specs.Laws.{BitsHoldValues, FittingResultsStand, SignedResultsFit, UnsignedResultsWrap, ResultsFit};
-ghost use Rattle.c_model.specs.Laws.{SavedValuesLoad, SavesKeepBlocks, SavesKeepBytes, SavesKeepWhole};
+ghost use Rattle.c_model.specs.Laws.{SavedValuesLoad, SavesKeepBlocks, SavesKeepBytes, SavesKeepWhole, StatementsKeepWhole};
 ghost use Rattle.c_model.specs.Laws.{FuelIsEnough, StepsFall, LoopsTurn, RunsNeedNoFuel, RunsSpendSteps, OutputGrows};
 ghost use Rattle.c_model.specs.Laws.{AgreementIsReflexive, AgreementIsTransitive};
 
@@ -21,6 +21,7 @@ pub fn memory()
     ensures blocks { SavesKeepBlocks }
     ensures bytes { SavesKeepBytes }
     ensures whole { SavesKeepWhole }
+    ensures statements { StatementsKeepWhole }
 {}
 
 /// Runs: more turns and deeper calls than steps change nothing, no step is gained, and the output only grows.
