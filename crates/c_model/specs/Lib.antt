@@ -7,3 +7,4 @@ pub mod Reports
 pub mod IntPrograms
 pub mod Growth
 pub mod Steps
+pub mod Laws

@@ -1,2 +1,4 @@
 //! The meaning of annotated C (ISO/IEC 9899:1999, ACSL): memory, expressions, statements, terms, predicates and whole runs.
 #![tactic(auto)]
+
+pub mod laws;
