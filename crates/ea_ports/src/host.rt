@@ -1,16 +1,15 @@
 // Adapters over the host. They tell no content, and count the errors of the host.
-ghost use Rattle.std.specs.Prelude.{◌≡◌, ◌<◌, ◌≤◌, None, length, IfOk, OnErr};
+ghost use Rattle.std.specs.Prelude.{◌≡◌, ◌+◌, ◌<◌, ◌≤◌, None, length, IfOk, IfErr, OnErr};
 ghost use Rattle.std.specs.Io.KnownBytes.{WriteAppends};
 ghost use Rattle.std.specs.IoError.{error_kind};
 ghost use Rattle.ea_ports.specs.Port.{Puts, FailsOnBytes, SinkCount, Takes, SourceCount};
-ghost use Rattle.ea_ports.specs.HostFiles.{fault_of, ReadsWithin, ReadsPart, Reads, Writes};
+ghost use Rattle.ea_ports.specs.HostFiles.{fault_of, ReadsWithin, LosesAtMost, ReadsPiece, Reads, Writes};
 
 use crate::{Failed, FetchFault, Folder, Sink, SinkFault, Source};
 use std::alloc::Global;
-use std::fs;
-use std::io;
 use std::io::{ErrorKind, Read, Write};
 use std::rt::Files;
+use std::{fs, io};
 
 // The most bytes that one read of a file asks for.
 const PIECE: usize = 4096;
@@ -39,7 +38,7 @@ impl<R: Files + Clone + Drop> Folder for FileFolder<R> {
     ghost faults = { λ folder. folder.faults };
 
     fn fetch(&mut self, alloc: Global, name: &str, limit: usize) -> Result<Vec<u8>, FetchFault> {
-        match fetch_file(&self.rt, alloc, name, limit) {
+        match content_of_opened(fs::open(&self.rt, name), alloc, limit) {
             Ok(bytes) => Ok(bytes),
             Err(FetchFault::Memory) => Err(FetchFault::Memory),
             Err(fault) => {
@@ -61,27 +60,27 @@ fn fault_of_error(error: &io::Error) -> FetchFault
     }
 }
 
-// The whole content of a file of at most `limit` bytes.
-fn fetch_file<R: Files>(
-    rt: &R,
+// The whole content of an opened file, where it has at most `limit` bytes.
+fn content_of_opened<F: Read + Drop>(
+    opened: io::Result<F>,
     alloc: Global,
-    name: &str,
     limit: usize,
 ) -> Result<Vec<u8>, FetchFault>
     requires { limit ≤ 67108864 }
-    ensures { IfOk result (λ bytes. length bytes.items ≤ limit) }
+    ensures refused { IfErr opened (λ error. result ≡ Err (fault_of (error_kind error))) }
+    ensures read { IfOk opened (λ file. ReadsWithin (F.remaining file) limit result) }
 {
-    let mut file = match fs::open(rt, name) {
-        Ok(file) => file,
-        Err(error) => return Err(fault_of_error(&error)),
-    };
-    read_within(&mut file, alloc, limit)
+    match opened {
+        Ok(mut file) => read_within(&mut file, alloc, limit),
+        Err(error) => Err(fault_of_error(&error)),
+    }
 }
 
 // All that a reader has left, where that is at most `limit` bytes. It reads at most one byte more.
 fn read_within<F: Read>(file: &mut F, alloc: Global, limit: usize) -> Result<Vec<u8>, FetchFault>
     requires { limit ≤ 67108864 }
-    ensures { ReadsWithin (F.remaining file.old) limit result }
+    ensures content { ReadsWithin (F.remaining file.old) limit result }
+    ensures limited { LosesAtMost (F.remaining file.old) (F.remaining file.new) (limit + 1) }
 {
     let mut bytes: Vec<u8> = Vec::new(alloc);
     while bytes.len() <= limit {
@@ -94,14 +93,12 @@ fn read_within<F: Read>(file: &mut F, alloc: Global, limit: usize) -> Result<Vec
 }
 
 // One read of at most `room` bytes, put behind those that are there. It gives their number, 0 at the end.
-fn read_piece<F: Read>(
-    file: &mut F,
-    bytes: &mut Vec<u8>,
-    room: usize,
-) -> Result<usize, FetchFault>
+fn read_piece<F: Read>(file: &mut F, bytes: &mut Vec<u8>, room: usize) -> Result<usize, FetchFault>
     requires some { 0 < room }
     requires most { room ≤ PIECE }
-    ensures { ReadsPart (F.remaining file.old) (F.remaining file.new) bytes.old.items bytes.new.items room result }
+    ensures content { ReadsPiece (F.remaining file.old) (F.remaining file.new) bytes.old.items bytes.new.items result }
+    ensures limited { LosesAtMost (F.remaining file.old) (F.remaining file.new) room }
+    ensures room { IfOk result (λ n. n ≤ room) }
 {
     let mut piece = [0u8; PIECE];
     match file.read(&mut piece[..room]) {
