@@ -1,6 +1,8 @@
 -- What reads and writes of the host do to the bytes that a reader is known to have left and a writer to hold.
 use Rattle.std.specs.Prelude.{◌≡◌, ℕ, ◌<◌, ◌≤◌, ⊤, List, [], ◌∷◌, ◌++◌, take, length, Vec, Option, Some, None, IfSome, Result, Ok, Err}
 use Rattle.std.specs.Io.KnownBytes.{Keeps, Appends, Consumes, IsAtEnd}
+use Rattle.std.specs.IoError.{error_kind}
+use Rattle.std.specs.declared.io.Error.{Error}
 use Rattle.std.specs.declared.io.ErrorKind.{ErrorKind}
 use Rattle.std.specs.declared.io.ErrorKind.TheVariants.{NotFound, OutOfMemory}
 use Rattle.ea_ports.specs.declared.FetchFault.{FetchFault}
@@ -18,6 +20,11 @@ abbrev pub ReadsWithin : {A : Type 0} → Option (List ℕ) → ℕ → Result (
 ReadsWithin known limit (Ok bytes) = (length bytes.items ≤ limit) × IfSome known (λ xs. bytes.items ≡ xs)
 ReadsWithin known limit (Err TooLong) = IfSome known (λ xs. limit < length xs)
 ReadsWithin known limit (Err _) = ⊤
+
+-- a fetch follows from what opening a file gave: its error's fault, or the file's bytes
+abbrev pub FollowsOpened : {F A : Type 0} → (F → Option (List ℕ)) → ℕ → Result F Error → Result (Vec ℕ A) FetchFault → Type 0
+FollowsOpened remaining limit (Ok file) result = ReadsWithin (remaining file) limit result
+FollowsOpened remaining limit (Err error) result = result ≡ Err (fault_of (error_kind error))
 
 -- known bytes lose at most this many
 abbrev pub LosesAtMost : Option (List ℕ) → Option (List ℕ) → ℕ → Type 0

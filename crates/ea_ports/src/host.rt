@@ -1,9 +1,10 @@
 // Adapters over the host. They tell no content, and count the errors of the host.
-ghost use Rattle.std.specs.Prelude.{◌≡◌, ◌+◌, ◌<◌, ◌≤◌, None, length, IfOk, IfErr, OnErr};
+ghost use Rattle.std.specs.Prelude.{◌≡◌, ◌+◌, ◌<◌, ◌≤◌, None, Result, length, IfOk, OnErr, IsErrOf};
 ghost use Rattle.std.specs.Io.KnownBytes.{WriteAppends};
 ghost use Rattle.std.specs.IoError.{error_kind};
-ghost use Rattle.ea_ports.specs.Port.{Puts, FailsOnBytes, SinkCount, Takes, SourceCount};
-ghost use Rattle.ea_ports.specs.HostFiles.{fault_of, ReadsWithin, LosesAtMost, ReadsPiece, Reads, Writes};
+ghost use Rattle.std.specs.declared.io.Error.{Error};
+ghost use Rattle.ea_ports.specs.Port.{Fetches, FolderCount, Puts, FailsOnBytes, SinkCount, Takes, SourceCount};
+ghost use Rattle.ea_ports.specs.HostFiles.{fault_of, FollowsOpened, ReadsWithin, LosesAtMost, ReadsPiece, Reads, Writes};
 
 use crate::{Failed, FetchFault, Folder, Sink, SinkFault, Source};
 use std::alloc::Global;
@@ -33,11 +34,20 @@ impl<R: Files + Clone + Drop> FileFolder<R> {
 }
 
 impl<R: Files + Clone + Drop> Folder for FileFolder<R> {
+    ghost use Rattle.ea_ports.specs.Host.{folder_faults};
+
     ghost content = { λ _. None };
 
-    ghost faults = { λ folder. folder.faults };
+    ghost faults = { folder_faults };
 
-    fn fetch(&mut self, alloc: Global, name: &str, limit: usize) -> Result<Vec<u8>, FetchFault> {
+    fn fetch(&mut self, alloc: Global, name: &str, limit: usize) -> Result<Vec<u8>, FetchFault>
+        requires { limit ≤ 67108864 }
+        ensures bytes { Fetches None name.now limit result }
+        ensures count { FolderCount None (folder_faults self.old) (folder_faults self.new) result }
+
+        // What opening a file of the host gave decides the answer.
+        ensures opened { (opened : Result R.File Error) × FollowsOpened R.File.remaining limit opened result }
+    {
         match content_of_opened(fs::open(&self.rt, name), alloc, limit) {
             Ok(bytes) => Ok(bytes),
             Err(FetchFault::Memory) => Err(FetchFault::Memory),
@@ -67,8 +77,7 @@ fn content_of_opened<F: Read + Drop>(
     limit: usize,
 ) -> Result<Vec<u8>, FetchFault>
     requires { limit ≤ 67108864 }
-    ensures refused { IfErr opened (λ error. result ≡ Err (fault_of (error_kind error))) }
-    ensures read { IfOk opened (λ file. ReadsWithin (F.remaining file) limit result) }
+    ensures { FollowsOpened F.remaining limit opened result }
 {
     match opened {
         Ok(mut file) => read_within(&mut file, alloc, limit),
@@ -133,7 +142,7 @@ impl<R: Read + Drop> Source for ReadSource<R> {
 
     ghost left = { λ _. None };
 
-    ghost faults = { λ source. source.faults };
+    ghost faults = { source_faults };
 
     fn next(&mut self) -> Result<Option<u8>, Failed>
         ensures bytes { Takes None None result }
@@ -176,13 +185,14 @@ impl<W: Write + Drop> Sink for WriteSink<W> {
 
     ghost told = { λ _. None };
 
-    ghost faults = { λ sink. sink.faults };
+    ghost faults = { sink_faults };
 
     fn put(&mut self, bytes: &[u8]) -> Result<(), SinkFault>
         ensures bytes { Puts None None bytes.now result }
         ensures empty { FailsOnBytes bytes.now result }
         ensures count { SinkCount (sink_faults self.old) (sink_faults self.new) result }
 
+        ensures takes_no_memory { ¬ IsErrOf result SinkFault.Memory }
         ensures written { Writes (W.contents (sink_writer self.old)) (W.contents (sink_writer self.new)) bytes.now result }
     {
         match write_whole(&mut self.writer, bytes) {
