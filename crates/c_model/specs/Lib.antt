@@ -5,3 +5,5 @@ pub mod Logic
 pub mod Meaning
 pub mod Reports
 pub mod IntPrograms
+pub mod Words
+pub mod Arguments

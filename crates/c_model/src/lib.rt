@@ -1,2 +1,8 @@
 //! The meaning of annotated C (ISO/IEC 9899:1999, ACSL): memory, expressions, statements, terms, predicates and whole runs.
 #![tactic(auto)]
+
+pub mod job;
+pub mod words;
+
+pub use job::{FileName, Job};
+pub use words::read_words;
