@@ -32,13 +32,13 @@ strips_front front text (Some x) (k, (is, split, boundary), rest, len) =
     let e : text ≡ front ++ x.now = split ∙ ap (λ xs. front ++ xs) (sym rest) in
     sym (ap (without_front front) e ∙ without_front-append front x.now)
 
-own : IsNumeralModel (λ text. all_ascii_digits text ≡ true) (digits_value 10)
+pub own : IsNumeralModel (λ text. all_ascii_digits text ≡ true) (digits_value 10)
 own = numerals_by_value (λ text. all_ascii_digits text ≡ true) tells_all_ascii_digits
 
-within : (n : ℕ) → n ≤ 1000000000000 → n < 2 ^ 64
+pub within : (n : ℕ) → n ≤ 1000000000000 → n < 2 ^ 64
 within n small = omega arith
 
-number_ok : (text : List ℕ) (n : ℕ) → all_ascii_digits text ≡ true → 0 < length text → n ≡ digits_value 10 text → step_number text ≡ (if nat_le n 1000000000000 then Some n else None)
+pub number_ok : (text : List ℕ) (n : ℕ) → all_ascii_digits text ≡ true → 0 < length text → n ≡ digits_value 10 text → step_number text ≡ (if nat_le n 1000000000000 then Some n else None)
 number_ok [] n digits some is = absurd (omega arith)
 number_ok (c ∷ text) n digits some is = rw (digits, ← is) refl
 

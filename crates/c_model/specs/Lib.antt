@@ -7,3 +7,4 @@ pub mod Reports
 pub mod IntPrograms
 pub mod Words
 pub mod Arguments
+pub mod WordLaws

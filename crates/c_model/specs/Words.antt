@@ -12,7 +12,6 @@ pub data Argument : Type 0 where
   Steps : List ℕ → Argument
 
 infixl 10 ◌>>=◌
-
 -- there is no value where a part has none
 abbrev pub ◌>>=◌ : {A B : Type 0} → Option A → (A → Option B) → Option B
 None >>= next = None
@@ -42,8 +41,8 @@ operand word = elim (without_front (codes "-") word) [ Some rest ↦ None | None
 abbrev pub argument : List ℕ → Option Argument
 argument word = elim (without_front (codes "--steps=") word) [ Some value ↦ Some (Steps value) | None ↦ operand word ]
 
--- The arguments in front of `--`. The value of `--steps` is the next word, whatever it is, and there is no value
--- where no word comes next.
+-- The arguments of the words in front of `--`. The value of `--steps` is the next word, whatever it looks like. Where
+-- none comes next, as directly in front of `--`, there are no arguments.
 abbrev mutual
   pub arguments : List (List ℕ) → Option (List Argument)
   arguments [] = Some []

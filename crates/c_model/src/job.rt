@@ -35,5 +35,9 @@ impl FileName {
 #[derive(Drop)]
 pub enum Job {
     /// Instruments the file and runs it with at most this many steps; `rte` asks for run-time error annotations.
-    Run { file: FileName, steps: u64, rte: bool },
+    Run {
+        file: FileName,
+        steps: u64,
+        rte: bool,
+    },
 }

@@ -5,6 +5,8 @@ ghost use Rattle.c_model.specs.declared.job.Job.TheVariants.{Run};
 ghost use Rattle.c_model.specs.Words.{argument, before_dashes, behind_dashes, file_of, job_of, run_of, step_number, steps_of, without_front};
 ghost use Rattle.c_model.specs.Arguments.{found_in, found_with, plain_found, plain_given};
 
+pub mod laws;
+
 use crate::job::{FileName, Job};
 use std::alloc::{AllocError, Global};
 
@@ -45,7 +47,11 @@ fn read_run(alloc: Global, words: &[String]) -> Result<Option<Job>, AllocError>
     match run_parts(words) {
         Some((file, steps)) => {
             let file = FileName::new(String::from_str(alloc, file)?);
-            Ok(Some(Job::Run { file, steps, rte: false }))
+            Ok(Some(Job::Run {
+                file,
+                steps,
+                rte: false,
+            }))
         }
         None => Ok(None),
     }
@@ -79,7 +85,10 @@ fn split_at_dashes(words: &[String]) -> (&[String], &[String])
 fn read_arguments(words: &[String]) -> Option<Found<'_>>
     ensures { option_map plain_found result ≡ found_in (record { file = None; steps = None }) (map string_bytes words.now) }
 {
-    let mut found = Found { file: None, steps: None };
+    let mut found = Found {
+        file: None,
+        steps: None,
+    };
     let mut rest = words;
     while let Some((word, more)) = rest.split_first() {
         rest = more;
@@ -100,8 +109,14 @@ impl<'a> Found<'a> {
         ensures { option_map plain_found result ≡ found_with (plain_found self.entry) (plain_given given.entry ∷ []) }
     {
         match (given, self) {
-            (Given::Operand(word), Found { file: None, steps }) => Some(Found { file: Some(word), steps }),
-            (Given::Steps(value), Found { file, steps: None }) => Some(Found { file, steps: Some(value) }),
+            (Given::Operand(word), Found { file: None, steps }) => Some(Found {
+                file: Some(word),
+                steps,
+            }),
+            (Given::Steps(value), Found { file, steps: None }) => Some(Found {
+                file,
+                steps: Some(value),
+            }),
             _ => None,
         }
     }
@@ -114,7 +129,11 @@ fn given_alone(word: &str) -> Option<Given<'_>>
     if let Some(value) = behind_front(word, "--steps=") {
         return Some(Given::Steps(value));
     }
-    if behind_front(word, "-").is_some() { None } else { Some(Given::Operand(word)) }
+    if behind_front(word, "-").is_some() {
+        None
+    } else {
+        Some(Given::Operand(word))
+    }
 }
 
 // What follows this front in a text that begins with it.
@@ -133,7 +152,11 @@ fn only_file<'a>(file: Option<&'a str>, behind: &'a [String]) -> Option<&'a str>
         (None, [only]) => only.as_str(),
         _ => return None,
     };
-    if only.is_empty() || only == "-" { None } else { Some(only) }
+    if only.is_empty() || only == "-" {
+        None
+    } else {
+        Some(only)
+    }
 }
 
 // The number of steps that the option's value gives, or the default.
@@ -154,5 +177,12 @@ fn read_steps(text: &str) -> Option<u64>
         return None;
     }
     let steps = text.parse::<u64>().ok()?;
-    if steps <= MOST_STEPS { Some(steps) } else { None }
+    if steps <= MOST_STEPS {
+        Some(steps)
+    } else {
+        None
+    }
 }
+
+#[cfg(test)]
+mod tests;
