@@ -8,3 +8,5 @@ pub mod IntPrograms
 pub mod Words
 pub mod Arguments
 pub mod WordLaws
+pub mod Growth
+pub mod Steps
