@@ -292,6 +292,23 @@ pub steps_fall : (p : TranslationUnit) (a : Statement) (n : ℕ) (s : State) →
 steps_fall p a n s l =
     (fit_exec a s.steps n n (call_of p n) (call_of p n) l l (fit_call_of p n n s.steps l l)).spends s (omega arith)
 
+left-ran : (r : Outcome (Unit {0})) → (ran r).left ≡ steps_after r
+left-ran (Normal u s) = refl
+left-ran (Stop (Leaves Breaks) s) = refl
+left-ran (Stop (Leaves Continues) s) = refl
+left-ran (Stop (Leaves (Returns None)) s) = refl
+left-ran (Stop (Leaves (Returns (Some (Integer z)))) s) = refl
+left-ran (Stop (Over e) s) = refl
+
+-- a run leaves no more steps than it had
+pub run_spends : (p : TranslationUnit) (input : Input) (n : ℕ) → (run p input n).left ≤ n
+run_spends p input n =
+    let f = function_named p (codes "main") p.funcs in
+    let call = call_of p (suc n) in
+    let s = start input n in
+    let fit = fit_main f n (suc n) (suc n) call call (omega arith) (omega arith) (fit_call_of p (suc n) (suc n) n (omega arith) (omega arith)) in
+    omega (arith, left-ran (main_with f call (suc n) s), fit.spends s (omega arith))
+
 -- a run is the same with any number of turns above its steps
 pub run_at : (p : TranslationUnit) (input : Input) (n m : ℕ) → n < m → run p input n ≡ ran (main_with (function_named p (codes "main") p.funcs) (call_of p m) m (start input n))
 run_at p input n m l = ap ran (fuel_main p (function_named p (codes "main") p.funcs) (suc n) m (start input n) (omega arith) l)

@@ -5,3 +5,7 @@ pub mod Growth
 pub mod Cells
 pub mod Fit
 mod WorkedRuns
+pub mod Blocks
+pub mod Results
+pub mod Agreement
+pub mod Whole

@@ -1,4 +1,4 @@
--- The output of an evaluation only grows (C99 7.19.3: what was written to a stream stays written).
+-- The output of an evaluation only grows.
 use Rattle.std.specs.Prelude.{◌≡◌, ℕ, List, ◌++◌}
 use Rattle.c_syntax.specs.declared.place.Place.{Place}
 use Rattle.c_syntax.specs.declared.expression.Use.{Use}

@@ -10,3 +10,4 @@ pub mod Arguments
 pub mod WordLaws
 pub mod Growth
 pub mod Steps
+pub mod Laws

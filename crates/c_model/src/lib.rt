@@ -2,6 +2,7 @@
 #![tactic(auto)]
 
 pub mod job;
+pub mod laws;
 pub mod words;
 
 pub use job::{FileName, Job};

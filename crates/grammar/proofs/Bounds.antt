@@ -1,7 +1,7 @@
 -- Recursion by a bound: two neighbouring bounds agree on short texts, and so any bound that is large enough does.
-use Rattle.std.proofs.Common.{◌≡◌, ℕ, zero, suc, ◌+◌, ◌-◌, ◌<◌, ◌≤◌, Bool, true, false, cond, List, [], ◌∷◌, ◌++◌, length, Result, Ok, Err, refl, sym, ◌∙◌, ap, subst, ◌⊎◌, inl, inr, append_assoc, arith, length-append}
-use Rattle.grammar.specs.Syntax.{Syntax, Fault, At, Over, among, sees, none, gives, one, ◌then◌, choice, loop, limit, many, ◌>>=◌}
-use Rattle.grammar.specs.Exact.{SameHead, Takes, Fails, Overs, Late, RunsOut, IsExact, IsGood}
+use Rattle.std.proofs.Common.{◌≡◌, ℕ, zero, suc, ◌+◌, ◌-◌, ◌<◌, ◌≤◌, Bool, true, false, List, [], ◌∷◌, ◌++◌, length, Result, Ok, Err, refl, sym, ◌∙◌, ap, subst, ◌⊎◌, inl, inr, arith, length-append}
+use Rattle.grammar.specs.Syntax.{Syntax, Fault, At, Over, sees, none, gives, ◌then◌, choice, loop, limit, many, ◌>>=◌}
+use Rattle.grammar.specs.Exact.{Takes, Fails, Overs, Late, RunsOut, IsExact, IsGood}
 use Rattle.grammar.proofs.Sets.{within, apart, within_self}
 use Rattle.grammar.proofs.Parts.{ThenFits, ChoiceFits, nil_front, none_exact, gives_exact, then_exact, choice_exact}
 
@@ -15,6 +15,10 @@ pub record LoopFits (A : Type 0) (ks f : A → List ℕ) (m : A → A → List �
 bind_same : {A B : Type 0} (r : Result A Fault) (f g : A → Result B Fault) → ((x : A) → r ≡ Ok x → f x ≡ g x) → (r >>= f) ≡ (r >>= g)
 bind_same (Ok x) f g h = h x refl
 bind_same (Err n) f g h = refl
+
+-- the parts of a text are no longer than it is
+front_within : {T : Type 0} (ts front rest : List T) → ts ≡ front ++ rest → (length front ≤ length ts) × (length rest ≤ length ts)
+front_within ts front rest e = let l = length-append front rest in let k = ap length e in (omega (arith, l, k), omega (arith, l, k))
 
 pub rest_within : {T : Type 0} (ts front rest : List T) → ts ≡ front ++ rest → length rest ≤ length ts
 rest_within ts front rest e = omega (arith, ap length e, length-append front rest)
@@ -44,15 +48,25 @@ split_rest : {A : Type 0} (ts a b r s : List A) → ts ≡ a ++ r → ts ≡ b +
 split_rest ts a b r s p q l = (split_same a b r s (sym p ∙ q) l).1
 
 module _ {T : Type 0} (K : T → ℕ) where
-
   pub same_good : {A : Type 0} (n : ℕ) (G : Syntax T A) (null : Bool) (first : List ℕ) (more : A → List ℕ) → IsExact K G null first more → IsGood K n G G null first more
-  same_good n G null first more g = record { here = g; there = g; reads = λ a x r. r; begun = λ a b. b; late = λ a t l. l; agree = λ ts h. refl }
+  same_good n G null first more g = record { here = g; there = g; reads = λ a x r. r; begun = λ a b. b; late = λ a t l. l; agree = λ ts h. refl; reads_back = λ a x lt r. r; begun_back = λ a lt b. b; late_back = λ a t lt l. l }
 
   pub rest_below : {A : Type 0} (G : Syntax T A) (first : List ℕ) (more : A → List ℕ) → IsExact K G false first more → (ts : List T) (x : A) (front rest : List T) → ts ≡ front ++ rest → G.reads front x → length rest < length ts
   rest_below G first more g ts x [] rest e r = absurd (let f = g.filled x r in cc)
   rest_below G first more g ts x (t ∷ front) rest e r = omega (arith, ap length e, length-append front rest)
 
   module _ {A B : Type 0} (n : ℕ) (G G' : Syntax T A) (H H' : A → Syntax T B) (n1 : Bool) (f1 : List ℕ) (m1 : A → List ℕ) (n2 : Bool) (f2 : A → List ℕ) (m2 : A → B → List ℕ) (null : Bool) (first : List ℕ) (more : B → List ℕ) (R : A → B → Type 0) (ends : (x : A) (y : B) → (H x).reads [] y → R x y) (ends' : (x : A) (y : B) → (H' x).reads [] y → R x y) (fit : ThenFits A B R n1 f1 m1 n2 f2 m2 null first more) where
+    then_reads_back : (m k : ℕ) → ((a : List T) (x : A) → length a < m → G'.reads a x → G.reads a x) → ((x : A) (a : List T) (y : B) → length a < k → (H' x).reads a y → (H x).reads a y) → (a : List T) (y : B) → ((b c : List T) (x : A) → a ≡ b ++ c → G'.reads b x → (length b < m) × (length c < k)) → (G' then H').reads a y → (G then H).reads a y
+    then_reads_back m k p q a y w r = let l = w r.0 r.1 r.2 r.3 r.4 in (r.0, r.1, r.2, r.3, p r.0 r.2 l.0 r.4, q r.2 r.1 y l.1 r.5)
+
+    then_begun_back : (m k : ℕ) → ((a : List T) (x : A) → length a < m → G'.reads a x → G.reads a x) → ((a : List T) → length a < m → G'.begun a → G.begun a) → ((x : A) (a : List T) → length a < k → (H' x).begun a → (H x).begun a) → (a : List T) → length a < m → ((b c : List T) (x : A) → a ≡ b ++ c → G'.reads b x → (length b < m) × (length c < k)) → (G' then H').begun a → (G then H).begun a
+    then_begun_back m k p q s a lt w (inl b) = inl (q a lt b)
+    then_begun_back m k p q s a lt w (inr r) = let l = w r.0 r.1 r.2 r.3 r.4 in inr (r.0, r.1, r.2, r.3, p r.0 r.2 l.0 r.4, s r.2 r.1 l.1 r.5)
+
+    then_late_back : (m k : ℕ) → ((a : List T) (x : A) → length a < m → G'.reads a x → G.reads a x) → ((a : List T) (t : T) → suc (length a) < m → G'.late a t → G.late a t) → ((x : A) (a : List T) (t : T) → suc (length a) < k → (H' x).late a t → (H x).late a t) → (a : List T) (t : T) → suc (length a) < m → ((b c : List T) (x : A) → a ≡ b ++ c → G'.reads b x → (length b < m) × (suc (length c) < k)) → (G' then H').late a t → (G then H).late a t
+    then_late_back m k p q s a t lt w (inl b) = inl (q a t lt b)
+    then_late_back m k p q s a t lt w (inr r) = let l = w r.0 r.1 r.2 r.3 r.4 in inr (r.0, r.1, r.2, r.3, p r.0 r.2 l.0 r.4, s r.2 r.1 t l.1 r.5)
+
     then_reads : ((a : List T) (x : A) → G.reads a x → G'.reads a x) → ((x : A) (a : List T) (y : B) → (H x).reads a y → (H' x).reads a y) → (a : List T) (y : B) → (G then H).reads a y → (G' then H').reads a y
     then_reads p q a y r = (r.0, r.1, r.2, r.3, p r.0 r.2 r.4, q r.2 r.1 y r.5)
 
@@ -72,9 +86,12 @@ module _ {T : Type 0} (K : T → ℕ) where
       begun = then_begun g.reads g.begun (λ x. (h x).begun);
       late = then_late g.reads g.late (λ x. (h x).late);
       agree = λ ts lt. rw (g.agree ts lt) (bind_same (G'.parse ts) (λ x. (H x.0).parse x.1) (λ x. (H' x.0).parse x.1) (λ x e.
-        let t = g.there.takes ts x.0 x.1 e in
-        let le = rest_within ts t.front x.1 t.parts in
-        (h x.0).agree x.1 (omega arith)));
+          let t = g.there.takes ts x.0 x.1 e in
+          let le = rest_within ts t.front x.1 t.parts in
+          (h x.0).agree x.1 (omega arith)));
+      reads_back = λ a y lt. then_reads_back n n g.reads_back (λ x. (h x).reads_back) a y (λ b c x e r. let l = front_within a b c e in (omega arith, omega arith));
+      begun_back = λ a lt. then_begun_back n n g.reads_back g.begun_back (λ x. (h x).begun_back) a lt (λ b c x e r. let l = front_within a b c e in (omega arith, omega arith));
+      late_back = λ a t lt. then_late_back n n g.reads_back g.late_back (λ x. (h x).late_back) a t lt (λ b c x e r. let l = front_within a b c e in (omega arith, omega arith));
     }
 
   -- behind at least one token the bound is one less
@@ -87,12 +104,27 @@ module _ {T : Type 0} (K : T → ℕ) where
       begun = then_begun n G G' H H' false f1 m1 n2 f2 m2 false first more R ends ends' fit g.reads g.begun (λ x. (h x).begun);
       late = then_late n G G' H H' false f1 m1 n2 f2 m2 false first more R ends ends' fit g.reads g.late (λ x. (h x).late);
       agree = λ ts lt. rw (g.agree ts lt) (bind_same (G'.parse ts) (λ x. (H x.0).parse x.1) (λ x. (H' x.0).parse x.1) (λ x e.
-        let t = g.there.takes ts x.0 x.1 e in
-        let less = rest_below G' f1 m1 g.there ts x.0 t.front x.1 t.parts t.is in
-        (h x.0).agree x.1 (omega arith)));
+          let t = g.there.takes ts x.0 x.1 e in
+          let less = rest_below G' f1 m1 g.there ts x.0 t.front x.1 t.parts t.is in
+          (h x.0).agree x.1 (omega arith)));
+      reads_back = λ a y lt. then_reads_back n G G' H H' false f1 m1 n2 f2 m2 false first more R ends ends' fit (suc n) n g.reads_back (λ x. (h x).reads_back) a y (λ b c x e r. let less = rest_below G' f1 m1 g.there a x b c e r in let l = front_within a b c e in (omega arith, omega arith));
+      begun_back = λ a lt. then_begun_back n G G' H H' false f1 m1 n2 f2 m2 false first more R ends ends' fit (suc n) n g.reads_back g.begun_back (λ x. (h x).begun_back) a lt (λ b c x e r. let less = rest_below G' f1 m1 g.there a x b c e r in let l = front_within a b c e in (omega arith, omega arith));
+      late_back = λ a t lt. then_late_back n G G' H H' false f1 m1 n2 f2 m2 false first more R ends ends' fit (suc n) n g.reads_back g.late_back (λ x. (h x).late_back) a t lt (λ b c x e r. let less = rest_below G' f1 m1 g.there a x b c e r in let l = front_within a b c e in (omega arith, omega arith));
     }
 
   module _ {A : Type 0} (n : ℕ) (ks : List ℕ) (G G' H H' : Syntax T A) (n1 : Bool) (f1 : List ℕ) (m1 : A → List ℕ) (n2 : Bool) (f2 : List ℕ) (m2 : A → List ℕ) (null : Bool) (first : List ℕ) (more : A → List ℕ) (R : A → Type 0) (ends : (x : A) → H.reads [] x → R x) (ends' : (x : A) → H'.reads [] x → R x) (fit : ChoiceFits A R ks n1 f1 m1 n2 f2 m2 null first more) where
+    choice_reads_back : ((a : List T) (x : A) → length a < n → G'.reads a x → G.reads a x) → ((a : List T) (x : A) → length a < n → H'.reads a x → H.reads a x) → (a : List T) (x : A) → length a < n → (choice K ks G' H').reads a x → (choice K ks G H).reads a x
+    choice_reads_back p q a x lt (inl r) = inl (p a x lt r)
+    choice_reads_back p q a x lt (inr r) = inr (q a x lt r)
+
+    choice_begun_back : ((a : List T) → length a < n → G'.begun a → G.begun a) → ((a : List T) → length a < n → H'.begun a → H.begun a) → (a : List T) → length a < n → (choice K ks G' H').begun a → (choice K ks G H).begun a
+    choice_begun_back p q a lt (inl r) = inl (p a lt r)
+    choice_begun_back p q a lt (inr r) = inr (q a lt r)
+
+    choice_late_back : ((a : List T) (t : T) → suc (length a) < n → G'.late a t → G.late a t) → ((a : List T) (t : T) → suc (length a) < n → H'.late a t → H.late a t) → (a : List T) (t : T) → suc (length a) < n → (choice K ks G' H').late a t → (choice K ks G H).late a t
+    choice_late_back p q a t lt (inl r) = inl (p a t lt r)
+    choice_late_back p q a t lt (inr r) = inr (q a t lt r)
+
     choice_reads : ((a : List T) (x : A) → G.reads a x → G'.reads a x) → ((a : List T) (x : A) → H.reads a x → H'.reads a x) → (a : List T) (x : A) → (choice K ks G H).reads a x → (choice K ks G' H').reads a x
     choice_reads p q a x (inl r) = inl (p a x r)
     choice_reads p q a x (inr r) = inr (q a x r)
@@ -113,6 +145,9 @@ module _ {T : Type 0} (K : T → ℕ) where
       begun = choice_begun g.begun h.begun;
       late = choice_late g.late h.late;
       agree = λ ts lt. rw (g.agree ts lt, h.agree ts lt) refl;
+      reads_back = choice_reads_back g.reads_back h.reads_back;
+      begun_back = choice_begun_back g.begun_back h.begun_back;
+      late_back = choice_late_back g.late_back h.late_back;
     }
 
   -- ---- any bound
@@ -149,6 +184,28 @@ module _ {T : Type 0} (K : T → ℕ) where
     pub agree_le : (j k : ℕ) (ts : List T) → length ts < j → j ≤ k → (F j).parse ts ≡ (F k).parse ts
     agree_le j k ts lt le = agree_up (k - j) j ts lt ∙ ap (λ (m : ℕ). (F m).parse ts) (up_to j k le)
 
+    reads_down : (d j : ℕ) (a : List T) (x : A) → length a < j → (F (up d j)).reads a x → (F j).reads a x
+    reads_down zero j a x lt r = r
+    reads_down (suc d) j a x lt r = reads_down d j a x lt ((good (up d j)).reads_back a x (omega (arith, up_is d j)) r)
+
+    begun_down : (d j : ℕ) (a : List T) → length a < j → (F (up d j)).begun a → (F j).begun a
+    begun_down zero j a lt r = r
+    begun_down (suc d) j a lt r = begun_down d j a lt ((good (up d j)).begun_back a (omega (arith, up_is d j)) r)
+
+    late_down : (d j : ℕ) (a : List T) (t : T) → suc (length a) < j → (F (up d j)).late a t → (F j).late a t
+    late_down zero j a t lt r = r
+    late_down (suc d) j a t lt r = late_down d j a t lt ((good (up d j)).late_back a t (omega (arith, up_is d j)) r)
+
+    -- what is read at any bound is read at one above its number of tokens
+    reads_of : (k : ℕ) (a : List T) (x : A) → length a < k → (limit F).reads a x → (F k).reads a x
+    reads_of k a x lt r = reads_down r.0 k a x lt (subst (λ (m : ℕ). (F m).reads a x) (sym (up_is r.0 k)) (reads_le r.0 (r.0 + k) a x (omega arith) r.1))
+
+    begun_of : (k : ℕ) (a : List T) → length a < k → (limit F).begun a → (F k).begun a
+    begun_of k a lt r = begun_down r.0 k a lt (subst (λ (m : ℕ). (F m).begun a) (sym (up_is r.0 k)) (begun_le r.0 (r.0 + k) a (omega arith) r.1))
+
+    late_of : (k : ℕ) (a : List T) (t : T) → suc (length a) < k → (limit F).late a t → (F k).late a t
+    late_of k a t lt r = late_down r.0 k a t lt (subst (λ (m : ℕ). (F m).late a t) (sym (up_is r.0 k)) (late_le r.0 (r.0 + k) a t (omega arith) r.1))
+
     -- the bound of a text, and a larger one
     pub agree_of : (k : ℕ) (ts : List T) → length ts < k → (limit F).parse ts ≡ (F k).parse ts
     agree_of k ts lt = agree_le (suc (length ts)) k ts (omega arith) (omega arith)
@@ -161,10 +218,10 @@ module _ {T : Type 0} (K : T → ℕ) where
           parts = t.parts;
           is = (suc (length ts), t.is);
           local = λ u s.
-            let m = suc (length ts) + suc (length (t.front ++ u)) in
-            let t2 = (good m).here.takes ts x rest (sym (agree_of m ts (omega arith)) ∙ e) in
-            let same : t2.front ≡ t.front = split_front ts t2.front t.front rest rest t2.parts t.parts refl in
-            agree_of m (t.front ++ u) (omega arith) ∙ subst (λ (w : List T). (F m).parse (w ++ u) ≡ Ok (x, u)) same (t2.local u s);
+              let m = suc (length ts) + suc (length (t.front ++ u)) in
+              let t2 = (good m).here.takes ts x rest (sym (agree_of m ts (omega arith)) ∙ e) in
+              let same : t2.front ≡ t.front = split_front ts t2.front t.front rest rest t2.parts t.parts refl in
+              agree_of m (t.front ++ u) (omega arith) ∙ subst (λ (w : List T). (F m).parse (w ++ u) ≡ Ok (x, u)) same (t2.local u s);
         }
 
     limit_fails : (ts : List T) (n : ℕ) → (limit F).parse ts ≡ Err (At n) → Fails (limit F).parse (limit F).begun ts n
@@ -177,11 +234,11 @@ module _ {T : Type 0} (K : T → ℕ) where
           left = t.left;
           is = (suc (length ts), t.is);
           local = λ u s.
-            let m = suc (length ts) + suc (length (t.front ++ u)) in
-            let t2 = (good m).here.fails ts n (sym (agree_of m ts (omega arith)) ∙ e) in
-            let same : t2.front ≡ t.front = split_front ts t2.front t.front t2.rest t.rest t2.parts t.parts (sym t2.left ∙ t.left) in
-            let rest : t2.rest ≡ t.rest = split_rest ts t2.front t.front t2.rest t.rest t2.parts t.parts (sym t2.left ∙ t.left) in
-            agree_of m (t.front ++ u) (omega arith) ∙ subst (λ (w : List T). (F m).parse (w ++ u) ≡ Err (At (length u))) same (t2.local u (rw rest s));
+              let m = suc (length ts) + suc (length (t.front ++ u)) in
+              let t2 = (good m).here.fails ts n (sym (agree_of m ts (omega arith)) ∙ e) in
+              let same : t2.front ≡ t.front = split_front ts t2.front t.front t2.rest t.rest t2.parts t.parts (sym t2.left ∙ t.left) in
+              let rest : t2.rest ≡ t.rest = split_rest ts t2.front t.front t2.rest t.rest t2.parts t.parts (sym t2.left ∙ t.left) in
+              agree_of m (t.front ++ u) (omega arith) ∙ subst (λ (w : List T). (F m).parse (w ++ u) ≡ Err (At (length u))) same (t2.local u (rw rest s));
         }
 
     limit_overs : (ts : List T) (n : ℕ) → (limit F).parse ts ≡ Err (Over n) → Overs (limit F).parse (limit F).late ts n
@@ -195,12 +252,12 @@ module _ {T : Type 0} (K : T → ℕ) where
           left = t.left;
           is = (suc (length ts), t.is);
           local = λ u.
-            let m = suc (length ts) + suc (length (t.front ++ (t.token ∷ u))) in
-            let t2 = (good m).here.overs ts n (sym (agree_of m ts (omega arith)) ∙ e) in
-            let same : t2.front ≡ t.front = split_front ts t2.front t.front (t2.token ∷ t2.rest) (t.token ∷ t.rest) t2.parts t.parts (sym t2.left ∙ t.left) in
-            let rest : t2.token ∷ t2.rest ≡ t.token ∷ t.rest = split_rest ts t2.front t.front (t2.token ∷ t2.rest) (t.token ∷ t.rest) t2.parts t.parts (sym t2.left ∙ t.left) in
-            let token : t2.token ≡ t.token = cc in
-            agree_of m (t.front ++ (t.token ∷ u)) (omega arith) ∙ subst (λ (w : List T). (F m).parse (w ++ (t.token ∷ u)) ≡ Err (Over (suc (length u)))) same (subst (λ (v : T). (F m).parse (t2.front ++ (v ∷ u)) ≡ Err (Over (suc (length u)))) token (t2.local u));
+              let m = suc (length ts) + suc (length (t.front ++ (t.token ∷ u))) in
+              let t2 = (good m).here.overs ts n (sym (agree_of m ts (omega arith)) ∙ e) in
+              let same : t2.front ≡ t.front = split_front ts t2.front t.front (t2.token ∷ t2.rest) (t.token ∷ t.rest) t2.parts t.parts (sym t2.left ∙ t.left) in
+              let rest : t2.token ∷ t2.rest ≡ t.token ∷ t.rest = split_rest ts t2.front t.front (t2.token ∷ t2.rest) (t.token ∷ t.rest) t2.parts t.parts (sym t2.left ∙ t.left) in
+              let token : t2.token ≡ t.token = cc in
+              agree_of m (t.front ++ (t.token ∷ u)) (omega arith) ∙ subst (λ (w : List T). (F m).parse (w ++ (t.token ∷ u)) ≡ Err (Over (suc (length u)))) same (subst (λ (v : T). (F m).parse (t2.front ++ (v ∷ u)) ≡ Err (Over (suc (length u)))) token (t2.local u));
         }
 
     limit_again : (a : List T) (x : A) (b : List T) → (limit F).reads a x → sees K (more x) b ≡ false → ((limit F).parse (a ++ b) ≡ Ok (x, b)) ⊎ Late ((limit F).parse (a ++ b)) (suc (length b))
@@ -243,6 +300,9 @@ module _ {T : Type 0} (K : T → ℕ) where
     begun = λ a b. (k, b);
     late = λ a t l. (k, l);
     agree = λ ts lt. sym (agree_of F null first more good k ts lt);
+    reads_back = reads_of F null first more good k;
+    begun_back = begun_of F null first more good k;
+    late_back = late_of F null first more good k;
   }
 
   -- ---- a repetition
@@ -275,14 +335,16 @@ module _ {T : Type 0} (K : T → ℕ) where
     -- one more turn
     loop_grows : (step : A → Syntax T A) → ((x : A) → IsExact K (step x) false (f x) (m x)) → (n : ℕ) (x : A) → IsGood K n (loop K n ks step x) (loop K (suc n) ks step x) true (ks x) more
     loop_grows step g zero x =
-        record { here = loop_exact ks f m more step g fit zero x; there = loop_exact ks f m more step g fit (suc zero) x; reads = r; begun = b; late = l; agree = λ ts lt. absurd (omega arith) }
+        record { here = loop_exact ks f m more step g fit zero x; there = loop_exact ks f m more step g fit (suc zero) x; reads = r; begun = b; late = l; agree = λ ts lt. absurd (omega arith); reads_back = λ a y lt. absurd (omega arith); begun_back = λ a lt. absurd (omega arith); late_back = λ a t lt. absurd (omega arith) }
       where
         r : (a : List T) (y : A) → (loop K zero ks step x).reads a y → (loop K (suc zero) ks step x).reads a y
         r a y (inl h) = absurd h
         r a y (inr h) = inr h
+
         b : (a : List T) → (loop K zero ks step x).begun a → (loop K (suc zero) ks step x).begun a
         b a (inl h) = inr h
         b a (inr h) = inr h
+
         l : (a : List T) (t : T) → (loop K zero ks step x).late a t → (loop K (suc zero) ks step x).late a t
         l a t (inl h) = absurd h
         l a t (inr h) = inr h
@@ -301,6 +363,13 @@ module _ {T : Type 0} (K : T → ℕ) where
     pub many_exact : (step : A → Syntax T A) → ((x : A) → IsExact K (step x) false (f x) (m x)) → (x : A) → IsExact K (many K ks step x) true (ks x) more
     many_exact step g x = limit_exact (λ n. loop K n ks step x) true (ks x) more (λ n. loop_grows step g n x)
 
+    -- a turn and the repetition behind it, or no turn
+    pub turn_exact : (step : A → Syntax T A) → ((x : A) → IsExact K (step x) false (f x) (m x)) → (x : A) → IsExact K (step x then λ y. many K ks step y) false (f x) more
+    turn_exact step g x = then_exact K (step x) (λ y. many K ks step y) false (f x) (m x) true ks (λ _ z. more z) false (f x) more (g x) (λ y. many_exact step g y) (λ y z. y ≡ z) (λ y z r. turns ks f m step g r.0 y z r.1) (loop_once ks f m more x fit)
+
+    pub turned_exact : (step : A → Syntax T A) → ((x : A) → IsExact K (step x) false (f x) (m x)) → (x : A) → IsExact K (choice K (ks x) (step x then λ y. many K ks step y) (gives x)) true (ks x) more
+    turned_exact step g x = choice_exact K (ks x) (step x then λ y. many K ks step y) (gives x) false (f x) more true [] (λ y. []) true (ks x) more (turn_exact step g x) (gives_exact K x) (λ y. x ≡ y) (λ y r. r.1) (loop_more ks f m more x fit)
+
     pub many_good : (step step' : A → Syntax T A) (k : ℕ) → ((x : A) → IsGood K k (step x) (step' x) false (f x) (m x)) → (x : A) → IsGood K k (many K ks step x) (many K ks step' x) true (ks x) more
     many_good step step' k g x =
         record {
@@ -310,6 +379,9 @@ module _ {T : Type 0} (K : T → ℕ) where
           begun = λ a r. (r.0, (loop_good step step' k g r.0 x).begun a r.1);
           late = λ a t r. (r.0, (loop_good step step' k g r.0 x).late a t r.1);
           agree = λ ts lt. (loop_good step step' k g (suc (length ts)) x).agree ts lt;
+          reads_back = λ a y lt r. (r.0, (loop_good step step' k g r.0 x).reads_back a y lt r.1);
+          begun_back = λ a lt r. (r.0, (loop_good step step' k g r.0 x).begun_back a lt r.1);
+          late_back = λ a t lt r. (r.0, (loop_good step step' k g r.0 x).late_back a t lt r.1);
         }
 
     -- a repetition goes on as its first turn says

@@ -1,7 +1,8 @@
 pub mod Sets
 pub mod Parts
 pub mod Bounds
+pub mod Limits
 pub mod Productions
 pub mod Theorem
-pub mod Limits
 pub mod Solid
+pub mod Forms

@@ -1,12 +1,12 @@
 -- Limits: a production that stands one too deep, and at most n tokens of a production.
-use Rattle.std.proofs.Common.{◌≡◌, ℕ, zero, suc, ◌+◌, ◌-◌, ◌<◌, ◌≤◌, Bool, true, false, cond, ltb, List, [], ◌∷◌, ◌++◌, length, Result, Ok, Err, refl, sym, ◌∙◌, ap, subst, ◌⊎◌, inl, inr, append_assoc, arith, length-append}
+use Rattle.std.proofs.Common.{◌≡◌, ℕ, zero, suc, ◌+◌, ◌-◌, ◌<◌, ◌≤◌, Bool, true, false, ltb, List, [], ◌∷◌, ◌++◌, length, drop, Result, Ok, Err, refl, sym, ◌∙◌, ap, subst, ◌⊎◌, inl, inr, append_assoc, arith, length-append}
 use Rattle.std.proofs.lemmas.List.{append-nil}
+use Rattle.std.proofs.Math.Seq.{drop-append_seam}
 use Rattle.std.proofs.lemmas.Bool.{lt-ltb, le-ltb, ltb-true, ltb-false}
-use Rattle.grammar.specs.Syntax.{Syntax, Fault, At, Over, among, sees, deep, at_most, capped}
+use Rattle.grammar.specs.Syntax.{Syntax, Fault, At, Over, among, sees, deep, at_most, capped, resumed}
 use Rattle.grammar.specs.Exact.{SameHead, Takes, Fails, Overs, Late, RunsOut, IsExact, IsGood}
 use Rattle.grammar.proofs.Sets.{sees_same}
-use Rattle.grammar.proofs.Parts.{nil_front, front_parts, ok_is}
-use Rattle.grammar.proofs.Bounds.{split_same, same_good}
+use Rattle.grammar.proofs.Parts.{nil_front, front_parts}
 
 module _ {T : Type 0} (K : T → ℕ) where
   deep_fails : {A : Type 0} (ks : List ℕ) (G : Syntax T A) → G.begun [] → (b : Bool) (ts : List T) (n : ℕ) → sees K ks ts ≡ b → (deep K ks G).parse ts ≡ Err (At n) → Fails (deep K ks G).parse (deep K ks G).begun ts n
@@ -62,12 +62,15 @@ module _ {T : Type 0} (K : T → ℕ) where
       read_one : (x : A) (front rest : List T) → t ∷ [] ≡ front ++ rest → G.reads front x → G.begun (t ∷ [])
       read_one x [] rest e r = absurd (let f = g.filled x r in cc)
       read_one x (u ∷ us) rest e r = let same : t ≡ u = cc in let z : us ≡ [] = nil_front us rest cc in rw (same, ← z) (g.begins (u ∷ us) x r)
+
       stopped : (front rest : List T) → t ∷ [] ≡ front ++ rest → (length rest ≡ 1 → ⊥) → G.begun front → G.begun (t ∷ [])
       stopped [] rest e k b = absurd (k (sym (ap length e)))
       stopped (u ∷ us) rest e k b = let same : t ≡ u = cc in let z : us ≡ [] = nil_front us rest cc in rw (same, ← z) b
+
       late_one : (front rest : List T) (v : T) → t ∷ [] ≡ front ++ (v ∷ rest) → G.begun (front ++ (v ∷ [])) → G.begun (t ∷ [])
       late_one [] rest v e b = let same : t ≡ v = cc in rw same b
       late_one (u ∷ us) rest v e b = absurd (let l = ap length e in omega (arith, l, length-append us (v ∷ rest)))
+
       by_answer : (r : Result (A × List T) Fault) → G.parse (t ∷ []) ≡ r → G.begun (t ∷ [])
       by_answer (Ok x) e = let w = g.takes (t ∷ []) x.0 x.1 e in read_one x.0 w.front x.1 w.parts w.is
       by_answer (Err (At n)) e = let w = g.fails (t ∷ []) n e in stopped w.front w.rest w.parts (λ l. h (e ∙ ap (λ (k : ℕ). Err (At k)) (w.left ∙ l))) w.is
@@ -76,12 +79,12 @@ module _ {T : Type 0} (K : T → ℕ) where
 -- ---- at most n tokens
 
 -- so many tokens are left at the place of an answer
-abbrev place : {T A : Type 0} → Result (A × List T) Fault → ℕ
+abbrev pub place : {T A : Type 0} → Result (A × List T) Fault → ℕ
 place (Ok x) = length x.1
 place (Err (At m)) = m
 place (Err (Over m)) = m
 
-capped_in : {T A : Type 0} (n l : ℕ) (r : Result (A × List T) Fault) → ltb (n + place r) l ≡ false → capped n l r ≡ r
+pub capped_in : {T A : Type 0} (n l : ℕ) (r : Result (A × List T) Fault) → ltb (n + place r) l ≡ false → capped n l r ≡ r
 capped_in n l (Ok x) e = rw e refl
 capped_in n l (Err (At m)) e = rw e refl
 capped_in n l (Err (Over m)) e = rw e refl
@@ -106,6 +109,12 @@ late_capped n l r true m e w =
     let out : n + w.left < l = ltb-true (n + w.left) l (sym (ap (λ r. ltb (n + place r) l) w.is) ∙ e) in
     let k = w.enough in
     record { left = l - n; enough = omega arith; is = capped_out n l r e }
+
+-- a text that isn't empty has a last token
+last_of : {T : Type 0} (p : List T) → 0 < length p → (f : List T) × (t : T) × (p ≡ f ++ (t ∷ []))
+last_of [] lt = absurd (omega arith)
+last_of (t ∷ []) lt = ([], t, refl)
+last_of (t ∷ u ∷ p) lt = let w = last_of (u ∷ p) (omega arith) in (t ∷ w.0, w.1, ap (λ z. t ∷ z) w.2)
 
 -- the text parts at its token n
 parted_at : {T : Type 0} (n : ℕ) (ts : List T) → n < length ts → (f : List T) × (t : T) × (r : List T) × (ts ≡ f ++ (t ∷ r)) × (length f ≡ n)
@@ -176,7 +185,7 @@ module _ {T : Type 0} (K : T → ℕ) {A : Type 0} (n : ℕ) (G : Syntax T A) (n
       let l = w.left in
       past_begun f t r w.front (w.token ∷ w.rest) (g.fronts w.front (w.token ∷ []) (g.late_begins w.front w.token w.is)) (omega arith) (front_parts (f ++ (t ∷ [])) r w.front (w.token ∷ w.rest) (same_parting f t r w.front (w.token ∷ w.rest) w.parts))
 
-  below : (a b : List T) → length a ≤ n → ltb (n + length b) (length (a ++ b)) ≡ false
+  pub below : (a b : List T) → length a ≤ n → ltb (n + length b) (length (a ++ b)) ≡ false
   below a b le = le-ltb (n + length b) (length (a ++ b)) (omega (arith, length-append a b))
 
   beyond : (f : List T) (t : T) (u : List T) (p : ℕ) → length f ≡ n → p ≤ length u → ltb (n + p) (length (f ++ (t ∷ u))) ≡ true
@@ -185,43 +194,43 @@ module _ {T : Type 0} (K : T → ℕ) {A : Type 0} (n : ℕ) (G : Syntax T A) (n
   behind_n : (f : List T) (t : T) (u : List T) → length f ≡ n → length (f ++ (t ∷ u)) - n ≡ suc (length u)
   behind_n f t u e = omega (arith, e, length-append f (t ∷ u))
 
-  answer : (ts : List T) → ((ltb (n + place (G.parse ts)) (length ts) ≡ false) × ((at_most n G).parse ts ≡ G.parse ts)) ⊎ ((ltb (n + place (G.parse ts)) (length ts) ≡ true) × ((at_most n G).parse ts ≡ Err (Over (length ts - n))))
-  answer ts = elim (uncut n (length ts) (G.parse ts) (ltb (n + place (G.parse ts)) (length ts)) refl) [ inl p ↦ inl p | inr p ↦ inr p ]
+  pub at_most_answer : (ts : List T) → ((ltb (n + place (G.parse ts)) (length ts) ≡ false) × ((at_most n G).parse ts ≡ G.parse ts)) ⊎ ((ltb (n + place (G.parse ts)) (length ts) ≡ true) × ((at_most n G).parse ts ≡ Err (Over (length ts - n))))
+  at_most_answer ts = elim (uncut n (length ts) (G.parse ts) (ltb (n + place (G.parse ts)) (length ts)) refl) [ inl p ↦ inl p | inr p ↦ inr p ]
 
-  front_short : (ts front rest : List T) (p : ℕ) → ts ≡ front ++ rest → p ≡ length rest → ltb (n + p) (length ts) ≡ false → length front ≤ n
+  pub front_short : (ts front rest : List T) (p : ℕ) → ts ≡ front ++ rest → p ≡ length rest → ltb (n + p) (length ts) ≡ false → length front ≤ n
   front_short ts front rest p e l h = omega (arith, ltb-false (n + p) (length ts) h, l, ap length e, length-append front rest)
 
   at_most_takes : (ts : List T) (x : A) (rest : List T) → (at_most n G).parse ts ≡ Ok (x, rest) → Takes (at_most n G).parse (at_most n G).reads ts x rest
   at_most_takes ts x rest e =
-      elim (answer ts) [
+      elim (at_most_answer ts) [
         | inl p ↦
-          let q : G.parse ts ≡ Ok (x, rest) = sym p.1 ∙ e in
-          let w = g.takes ts x rest q in
-          let short = front_short ts w.front rest (place (G.parse ts)) w.parts (ap place q) p.0 in
-          record {
-            front = w.front;
-            parts = w.parts;
-            is = (w.is, short);
-            local = λ u s. let l = w.local u s in ap (capped n (length (w.front ++ u))) l ∙ capped_in n (length (w.front ++ u)) (Ok (x, u)) (below w.front u short);
-          }
+            let q : G.parse ts ≡ Ok (x, rest) = sym p.1 ∙ e in
+            let w = g.takes ts x rest q in
+            let short = front_short ts w.front rest (place (G.parse ts)) w.parts (ap place q) p.0 in
+            record {
+              front = w.front;
+              parts = w.parts;
+              is = (w.is, short);
+              local = λ u s. let l = w.local u s in ap (capped n (length (w.front ++ u))) l ∙ capped_in n (length (w.front ++ u)) (Ok (x, u)) (below w.front u short);
+            }
         | inr p ↦ absurd (let q : Err (Over (length ts - n)) ≡ Ok (x, rest) = sym p.1 ∙ e in cc)
       ]
 
   at_most_fails : (ts : List T) (m : ℕ) → (at_most n G).parse ts ≡ Err (At m) → Fails (at_most n G).parse (at_most n G).begun ts m
   at_most_fails ts m e =
-      elim (answer ts) [
+      elim (at_most_answer ts) [
         | inl p ↦
-          let q : G.parse ts ≡ Err (At m) = sym p.1 ∙ e in
-          let w = g.fails ts m q in
-          let short = front_short ts w.front w.rest (place (G.parse ts)) w.parts (ap place q ∙ w.left) p.0 in
-          record {
-            front = w.front;
-            rest = w.rest;
-            parts = w.parts;
-            left = w.left;
-            is = w.is;
-            local = λ u s. let l = w.local u s in ap (capped n (length (w.front ++ u))) l ∙ capped_in n (length (w.front ++ u)) (Err (At (length u))) (below w.front u short);
-          }
+            let q : G.parse ts ≡ Err (At m) = sym p.1 ∙ e in
+            let w = g.fails ts m q in
+            let short = front_short ts w.front w.rest (place (G.parse ts)) w.parts (ap place q ∙ w.left) p.0 in
+            record {
+              front = w.front;
+              rest = w.rest;
+              parts = w.parts;
+              left = w.left;
+              is = w.is;
+              local = λ u s. let l = w.local u s in ap (capped n (length (w.front ++ u))) l ∙ capped_in n (length (w.front ++ u)) (Err (At (length u))) (below w.front u short);
+            }
         | inr p ↦ absurd (let q : Err (Over (length ts - n)) ≡ Err (At m) = sym p.1 ∙ e in cc)
       ]
 
@@ -267,24 +276,24 @@ module _ {T : Type 0} (K : T → ℕ) {A : Type 0} (n : ℕ) (G : Syntax T A) (n
 
   at_most_overs : (ts : List T) (m : ℕ) → (at_most n G).parse ts ≡ Err (Over m) → Overs (at_most n G).parse (at_most n G).late ts m
   at_most_overs ts m e =
-      elim (answer ts) [
+      elim (at_most_answer ts) [
         | inl p ↦
-          let q : G.parse ts ≡ Err (Over m) = sym p.1 ∙ e in
-          let w = g.overs ts m q in
-          let short = front_short ts w.front (w.token ∷ w.rest) (place (G.parse ts)) w.parts (ap place q ∙ w.left) p.0 in
-          record {
-            front = w.front;
-            token = w.token;
-            rest = w.rest;
-            parts = w.parts;
-            left = w.left;
-            is = inl w.is;
-            local = λ u. let l = w.local u in ap (capped n (length (w.front ++ (w.token ∷ u)))) l ∙ capped_in n (length (w.front ++ (w.token ∷ u))) (Err (Over (suc (length u)))) (below w.front (w.token ∷ u) short);
-          }
+            let q : G.parse ts ≡ Err (Over m) = sym p.1 ∙ e in
+            let w = g.overs ts m q in
+            let short = front_short ts w.front (w.token ∷ w.rest) (place (G.parse ts)) w.parts (ap place q ∙ w.left) p.0 in
+            record {
+              front = w.front;
+              token = w.token;
+              rest = w.rest;
+              parts = w.parts;
+              left = w.left;
+              is = inl w.is;
+              local = λ u. let l = w.local u in ap (capped n (length (w.front ++ (w.token ∷ u)))) l ∙ capped_in n (length (w.front ++ (w.token ∷ u))) (Err (Over (suc (length u)))) (below w.front (w.token ∷ u) short);
+            }
         | inr p ↦
-          let q : Err (Over (length ts - n)) ≡ Err (Over m) = sym p.1 ∙ e in
-          let c = parted_at n ts (omega (arith, ltb-true (n + place (G.parse ts)) (length ts) p.0)) in
-          at_most_over ts m c.0 c.1 c.2 c.3 c.4 (cc) p.0
+            let q : Err (Over (length ts - n)) ≡ Err (Over m) = sym p.1 ∙ e in
+            let c = parted_at n ts (omega (arith, ltb-true (n + place (G.parse ts)) (length ts) p.0)) in
+            at_most_over ts m c.0 c.1 c.2 c.3 c.4 (cc) p.0
       ]
 
   kept : (a : List T) (x : A) (b : List T) → length a ≤ n → (G.parse (a ++ b) ≡ Ok (x, b)) ⊎ Late (G.parse (a ++ b)) (suc (length b)) → ((at_most n G).parse (a ++ b) ≡ Ok (x, b)) ⊎ Late ((at_most n G).parse (a ++ b)) (suc (length b))
@@ -317,4 +326,119 @@ module _ {T : Type 0} (K : T → ℕ) {A : Type 0} (n : ℕ) (G : Syntax T A) (n
     empty = g.empty;
     starts = g.starts;
     filled = λ x r. g.filled x r.0;
+  }
+
+  -- ---- no more than n + 1 tokens need be read
+
+  pub at_most_short : (ts : List T) → length ts ≤ n → (at_most n G).parse ts ≡ G.parse ts
+  at_most_short ts le = capped_in n (length ts) (G.parse ts) (le-ltb (n + place (G.parse ts)) (length ts) (omega arith))
+
+  -- a place that is not at the end of the front is the same, whatever follows the front
+  kept_ok : (p s : List T) (x : A) (rest : List T) → length p ≤ suc n → Takes G.parse G.reads p x rest → (rest ≡ [] → ⊥) → (at_most n G).parse (p ++ s) ≡ Ok (x, rest ++ s)
+  kept_ok p s x [] le w h = absurd (h refl)
+  kept_ok p s x (v ∷ vs) le w h =
+      let whole : p ++ s ≡ w.front ++ (v ∷ vs ++ s) = ap (λ (z : List T). z ++ s) w.parts ∙ append_assoc w.front (v ∷ vs) s in
+      let short : length w.front ≤ n = omega (arith, ap length w.parts, length-append w.front (v ∷ vs)) in
+      ap (at_most n G).parse whole ∙ ap (capped n (length (w.front ++ (v ∷ vs ++ s)))) (w.local (v ∷ vs ++ s) refl) ∙ capped_in n (length (w.front ++ (v ∷ vs ++ s))) (Ok (x, v ∷ vs ++ s)) (below w.front (v ∷ vs ++ s) short)
+
+  kept_at : (p s front rest : List T) → length p ≤ suc n → p ≡ front ++ rest → (rest ≡ [] → ⊥) → ((u : List T) → SameHead rest u → G.parse (front ++ u) ≡ Err (At (length u))) → (at_most n G).parse (p ++ s) ≡ Err (At (length rest + length s))
+  kept_at p s front [] le e h l = absurd (h refl)
+  kept_at p s front (v ∷ vs) le e h l =
+      let whole : p ++ s ≡ front ++ (v ∷ vs ++ s) = ap (λ (z : List T). z ++ s) e ∙ append_assoc front (v ∷ vs) s in
+      let short : length front ≤ n = omega (arith, ap length e, length-append front (v ∷ vs)) in
+      ap (at_most n G).parse whole ∙ ap (capped n (length (front ++ (v ∷ vs ++ s)))) (l (v ∷ vs ++ s) refl) ∙ capped_in n (length (front ++ (v ∷ vs ++ s))) (Err (At (length (v ∷ vs ++ s)))) (below front (v ∷ vs ++ s) short) ∙ ap (λ (m : ℕ). Err (At m)) (length-append (v ∷ vs) s)
+
+  kept_over : (p s : List T) (m : ℕ) → length p ≤ suc n → Overs G.parse G.late p m → (at_most n G).parse (p ++ s) ≡ Err (Over (m + length s))
+  kept_over p s m le w =
+      let whole : p ++ s ≡ w.front ++ (w.token ∷ (w.rest ++ s)) = ap (λ (z : List T). z ++ s) w.parts ∙ append_assoc w.front (w.token ∷ w.rest) s in
+      let short : length w.front ≤ n = omega (arith, ap length w.parts, length-append w.front (w.token ∷ w.rest)) in
+      let l = w.left in
+      ap (at_most n G).parse whole ∙ ap (capped n (length (w.front ++ (w.token ∷ (w.rest ++ s))))) (w.local (w.rest ++ s)) ∙ capped_in n (length (w.front ++ (w.token ∷ (w.rest ++ s)))) (Err (Over (suc (length (w.rest ++ s))))) (below w.front (w.token ∷ (w.rest ++ s)) short) ∙ ap (λ (k : ℕ). Err (Over k)) (omega (arith, length-append w.rest s))
+
+  -- what took n + 1 tokens, or wants more behind them, passes the limit
+  ran_out : (p s : List T) → length p ≡ suc n → G.begun p → place (G.parse p) ≡ 0 → (at_most n G).parse (p ++ s) ≡ Err (Over (suc (length s)))
+  ran_out p s e b z =
+      let c = last_of p (omega (arith, e)) in
+      let f = c.0 in
+      let t = c.1 in
+      let q : p ≡ f ++ (t ∷ []) = c.2 in
+      let l : length f ≡ n = omega (arith, e, ap length q, length-append f (t ∷ [])) in
+      let zero : place (G.parse (f ++ (t ∷ []))) ≤ length {A = T} [] = omega (arith, z, ap (λ (w : List T). place (G.parse w)) q) in
+      ap (λ (w : List T). (at_most n G).parse (w ++ s)) q ∙ ap (at_most n G).parse (append_assoc f (t ∷ []) s) ∙ over_at f t s l (far_anyway f t [] s zero (far f t s (G.parse (f ++ (t ∷ s))) (subst (λ (w : List T). G.begun w) q b) refl))
+
+  cut_ok : (p s : List T) (x : A) (rest : List T) → length p ≡ suc n → G.parse p ≡ Ok (x, rest) → (at_most n G).parse (p ++ s) ≡ resumed s (Ok (x, rest))
+  cut_ok p s x [] e q = let w = g.takes p x [] q in ran_out p s e (rw (w.parts, append-nil w.front) (g.begins w.front x w.is)) (ap place q)
+  cut_ok p s x (v ∷ vs) e q = kept_ok p s x (v ∷ vs) (omega (arith, e)) (g.takes p x (v ∷ vs) q) (λ h. cc)
+
+  cut_at : (p s : List T) (m : ℕ) → length p ≡ suc n → G.parse p ≡ Err (At m) → (at_most n G).parse (p ++ s) ≡ resumed s (Err (At m))
+  cut_at p s zero e q =
+      let w = g.fails p 0 q in
+      let l = w.left in
+      ran_out p s e (rw (w.parts, none_left w.rest l, append-nil w.front) w.is) (ap place q)
+    where
+      none_left : (r : List T) → 0 ≡ length r → r ≡ []
+      none_left [] h = refl
+      none_left (v ∷ vs) h = absurd (omega (arith, h))
+  cut_at p s (suc m) e q =
+      let w = g.fails p (suc m) q in
+      let l = w.left in
+      kept_at p s w.front w.rest (omega (arith, e)) w.parts (λ h. omega (arith, l, ap length h)) w.local ∙ ap (λ (k : ℕ). Err (At (k + length s))) (sym l)
+
+  -- of a longer text its first n + 1 tokens tell the answer
+  pub at_most_cut : (p s : List T) → length p ≡ suc n → (at_most n G).parse (p ++ s) ≡ resumed s (G.parse p)
+  at_most_cut p s e = by_answer (G.parse p) refl
+    where
+      by_answer : (r : Result (A × List T) Fault) → G.parse p ≡ r → (at_most n G).parse (p ++ s) ≡ resumed s r
+      by_answer (Ok x) q = cut_ok p s x.0 x.1 e q
+      by_answer (Err (At m)) q = cut_at p s m e q
+      by_answer (Err (Over m)) q = kept_over p s m (omega (arith, e)) (g.overs p m q)
+
+  -- the same by its cases, for a text that is near and then far
+  module _ (ts near far : List T) (parts : ts ≡ near ++ far) (long : length near ≡ suc n) where
+    cut_answer : (r : Result (A × List T) Fault) → G.parse near ≡ r → (at_most n G).parse ts ≡ resumed far r
+    cut_answer r e = ap (at_most n G).parse parts ∙ at_most_cut near far long ∙ ap (resumed far) e
+
+    pub near_ok_ends : (x : A) (rest : List T) → G.parse near ≡ Ok (x, rest) → length rest ≡ 0 → (at_most n G).parse ts ≡ Err (Over (length far + 1))
+    near_ok_ends x [] e z = cut_answer (Ok (x, [])) e ∙ ap (λ (k : ℕ). Err (Over k)) (omega arith)
+    near_ok_ends x (t ∷ rest) e z = absurd (omega (arith, z))
+
+    pub near_ok : (x : A) (rest : List T) → G.parse near ≡ Ok (x, rest) → (length rest ≡ 0 → ⊥) → (at_most n G).parse ts ≡ Ok (x, drop (length ts - (length rest + length far)) ts)
+    near_ok x [] e z = absurd (z refl)
+    near_ok x (t ∷ rest) e z =
+        let w = g.takes near x (t ∷ rest) e in
+        let whole : ts ≡ w.front ++ (t ∷ rest ++ far) = parts ∙ ap (λ (v : List T). v ++ far) w.parts ∙ append_assoc w.front (t ∷ rest) far in
+        let l : length ts - (length (t ∷ rest) + length far) ≡ length w.front = omega (arith, ap length whole, length-append w.front (t ∷ rest ++ far), length-append (t ∷ rest) far) in
+        let d : drop (length ts - (length (t ∷ rest) + length far)) ts ≡ t ∷ rest ++ far = ap (λ (k : ℕ). drop k ts) l ∙ ap (drop (length w.front)) whole ∙ drop-append_seam w.front (t ∷ rest ++ far) in
+        cut_answer (Ok (x, t ∷ rest)) e ∙ ap (λ (v : List T). Ok (x, v)) (sym d)
+
+    pub near_at_ends : G.parse near ≡ Err (At 0) → (at_most n G).parse ts ≡ Err (Over (length far + 1))
+    near_at_ends e = cut_answer (Err (At 0)) e ∙ ap (λ (k : ℕ). Err (Over k)) (omega arith)
+
+    pub near_at : (m : ℕ) → G.parse near ≡ Err (At m) → (m ≡ 0 → ⊥) → (at_most n G).parse ts ≡ Err (At (m + length far))
+    near_at zero e z = absurd (z refl)
+    near_at (suc m) e z = cut_answer (Err (At (suc m))) e
+
+    pub near_over : (m : ℕ) → G.parse near ≡ Err (Over m) → (at_most n G).parse ts ≡ Err (Over (m + length far))
+    near_over m e = cut_answer (Err (Over m)) e
+
+module _ {T : Type 0} (K : T → ℕ) {A : Type 0} (most n : ℕ) (G H : Syntax T A) (null : Bool) (first : List ℕ) (more : A → List ℕ) where
+  at_most_late : ((a : List T) → G.begun a → H.begun a) → ((a : List T) (t : T) → G.late a t → H.late a t) → (a : List T) (t : T) → (at_most most G).late a t → (at_most most H).late a t
+  at_most_late b l a t (inl h) = inl (l a t h)
+  at_most_late b l a t (inr h) = inr (h.0, b (a ++ (t ∷ [])) h.1)
+
+  at_most_late_back : ((a : List T) → length a < n → H.begun a → G.begun a) → ((a : List T) (t : T) → suc (length a) < n → H.late a t → G.late a t) → (a : List T) (t : T) → suc (length a) < n → (at_most most H).late a t → (at_most most G).late a t
+  at_most_late_back b l a t lt (inl h) = inl (l a t lt h)
+  at_most_late_back b l a t lt (inr h) = inr (h.0, b (a ++ (t ∷ [])) (omega (arith, length-append a (t ∷ []))) h.1)
+
+  pub at_most_good : IsGood K n G H null first more → IsGood K n (at_most most G) (at_most most H) null first more
+  at_most_good g = record {
+    here = at_most_exact K most G null first more g.here;
+    there = at_most_exact K most H null first more g.there;
+    reads = λ a x r. (g.reads a x r.0, r.1);
+    begun = g.begun;
+    late = at_most_late g.begun g.late;
+    agree = λ ts lt. ap (capped most (length ts)) (g.agree ts lt);
+    reads_back = λ a x lt r. (g.reads_back a x lt r.0, r.1);
+    begun_back = g.begun_back;
+    late_back = λ a t lt. at_most_late_back (λ b l. g.begun_back b l) (λ b v l. g.late_back b v l) a t lt;
   }

@@ -1,5 +1,5 @@
 -- The parts of a grammar are read exactly.
-use Rattle.std.proofs.Common.{◌≡◌, ℕ, zero, suc, Bool, true, false, cond, eqb, List, [], ◌∷◌, ◌++◌, length, Result, Ok, Err, Option, Some, None, refl, sym, ◌∙◌, ap, subst, ◌⊎◌, inl, inr, append_assoc, ◌≤◌, ◌<◌, arith, length-append}
+use Rattle.std.proofs.Common.{◌≡◌, ℕ, suc, Bool, true, false, cond, List, [], ◌∷◌, ◌++◌, length, Result, Ok, Err, Option, Some, None, refl, sym, ◌∙◌, ap, subst, ◌⊎◌, inl, inr, append_assoc, arith, length-append}
 use Rattle.grammar.specs.Syntax.{Syntax, among, sees, none, gives, one, one_at, ◌then◌, choice, ◌>>=◌, Fault, At, Over}
 use Rattle.grammar.specs.Exact.{SameHead, Takes, Fails, Overs, Late, RunsOut, IsExact}
 use Rattle.grammar.proofs.Sets.{within, apart, not_both, within_among, apart_among, sees_within, sees_same, same_head}
@@ -21,7 +21,6 @@ ok_is x y e = cc
 pub chosen : {A : Type 0} (b : Bool) (x y z : A) → cond b x y ≡ z → ((b ≡ true) × (x ≡ z)) ⊎ ((b ≡ false) × (y ≡ z))
 chosen true x y z e = inl (refl, e)
 chosen false x y z e = inr (refl, e)
-
 
 pub nil_front : {T : Type 0} (a b : List T) → a ++ b ≡ [] → a ≡ []
 nil_front [] b e = refl
@@ -81,10 +80,10 @@ module _ {T : Type 0} (K : T → ℕ) where
   pub gives_exact : {A : Type 0} (x : A) → IsExact K (gives x) true [] (λ y. [])
   gives_exact {A} x = record {
     takes = λ ts y rest e.
-      let p = ok_is (x, ts) (y, rest) e in
-      let xy : x ≡ y = ap (λ (q : A × List T). q.0) p in
-      let tr : ts ≡ rest = ap (λ (q : A × List T). q.1) p in
-      record { front = []; parts = tr; is = (refl, xy); local = λ u h. rw xy refl };
+        let p = ok_is (x, ts) (y, rest) e in
+        let xy : x ≡ y = ap (λ (q : A × List T). q.0) p in
+        let tr : ts ≡ rest = ap (λ (q : A × List T). q.1) p in
+        record { front = []; parts = tr; is = (refl, xy); local = λ u h. rw xy refl };
     fails = λ ts n e. absurd cc;
     overs = λ ts n e. absurd cc;
     again = λ a y b h s. inl (rw (h.0, h.1) refl);
@@ -189,32 +188,32 @@ module _ {T : Type 0} (K : T → ℕ) where
           parts = t1.parts ∙ ap (λ (w : List T). t1.front ++ w) t2.parts ∙ sym (append_assoc t1.front t2.front rest);
           is = (t1.front, t2.front, x.0, refl, t1.is, t2.is);
           local = λ u s.
-            let same : SameHead x.1 (t2.front ++ u) = subst (λ (w : List T). SameHead w (t2.front ++ u)) (sym t2.parts) (same_head t2.front rest u s) in
-            let l1 = t1.local (t2.front ++ u) same in
-            rw (append_assoc t1.front t2.front u, l1) (t2.local u s);
+              let same : SameHead x.1 (t2.front ++ u) = subst (λ (w : List T). SameHead w (t2.front ++ u)) (sym t2.parts) (same_head t2.front rest u s) in
+              let l1 = t1.local (t2.front ++ u) same in
+              rw (append_assoc t1.front t2.front u, l1) (t2.local u s);
         }
 
     then_fails : (ts : List T) (n : ℕ) → (G then H).parse ts ≡ Err (At n) → Fails (G then H).parse (G then H).begun ts n
     then_fails ts n e =
         elim (bind_err (G.parse ts) (λ x. (H x.0).parse x.1) (At n) e) [
           | inl e1 ↦
-            let f = g.fails ts n e1 in
-            record { front = f.front; rest = f.rest; parts = f.parts; left = f.left; is = inl f.is; local = λ u s. rw (f.local u s) refl }
+              let f = g.fails ts n e1 in
+              record { front = f.front; rest = f.rest; parts = f.parts; left = f.left; is = inl f.is; local = λ u s. rw (f.local u s) refl }
           | inr b ↦
-            let x = b.0 in
-            let t1 = g.takes ts x.0 x.1 b.1 in
-            let f = (h x.0).fails x.1 n b.2 in
-            record {
-              front = t1.front ++ f.front;
-              rest = f.rest;
-              parts = t1.parts ∙ ap (λ (w : List T). t1.front ++ w) f.parts ∙ sym (append_assoc t1.front f.front f.rest);
-              left = f.left;
-              is = inr (t1.front, f.front, x.0, refl, t1.is, f.is);
-              local = λ u s.
-                let same : SameHead x.1 (f.front ++ u) = subst (λ (w : List T). SameHead w (f.front ++ u)) (sym f.parts) (same_head f.front f.rest u s) in
-                let l1 = t1.local (f.front ++ u) same in
-                rw (append_assoc t1.front f.front u, l1) (f.local u s);
-            }
+              let x = b.0 in
+              let t1 = g.takes ts x.0 x.1 b.1 in
+              let f = (h x.0).fails x.1 n b.2 in
+              record {
+                front = t1.front ++ f.front;
+                rest = f.rest;
+                parts = t1.parts ∙ ap (λ (w : List T). t1.front ++ w) f.parts ∙ sym (append_assoc t1.front f.front f.rest);
+                left = f.left;
+                is = inr (t1.front, f.front, x.0, refl, t1.is, f.is);
+                local = λ u s.
+                    let same : SameHead x.1 (f.front ++ u) = subst (λ (w : List T). SameHead w (f.front ++ u)) (sym f.parts) (same_head f.front f.rest u s) in
+                    let l1 = t1.local (f.front ++ u) same in
+                    rw (append_assoc t1.front f.front u, l1) (f.local u s);
+              }
         ]
 
     begins_apart : (x : A) (t : T) (ts : List T) → (H x).begun (t ∷ ts) → among (K t) (m1 x) ≡ false
@@ -253,24 +252,24 @@ module _ {T : Type 0} (K : T → ℕ) where
     then_overs ts n e =
         elim (bind_err (G.parse ts) (λ x. (H x.0).parse x.1) (Over n) e) [
           | inl e1 ↦
-            let f = g.overs ts n e1 in
-            record { front = f.front; token = f.token; rest = f.rest; parts = f.parts; left = f.left; is = inl f.is; local = λ u. rw (f.local u) refl }
+              let f = g.overs ts n e1 in
+              record { front = f.front; token = f.token; rest = f.rest; parts = f.parts; left = f.left; is = inl f.is; local = λ u. rw (f.local u) refl }
           | inr b ↦
-            let x = b.0 in
-            let t1 = g.takes ts x.0 x.1 b.1 in
-            let f = (h x.0).overs x.1 n b.2 in
-            record {
-              front = t1.front ++ f.front;
-              token = f.token;
-              rest = f.rest;
-              parts = t1.parts ∙ ap (λ (w : List T). t1.front ++ w) f.parts ∙ sym (append_assoc t1.front f.front (f.token ∷ f.rest));
-              left = f.left;
-              is = inr (t1.front, f.front, x.0, refl, t1.is, f.is);
-              local = λ u.
-                let same : SameHead x.1 (f.front ++ (f.token ∷ u)) = subst (λ (w : List T). SameHead w (f.front ++ (f.token ∷ u))) (sym f.parts) (same_head f.front (f.token ∷ f.rest) (f.token ∷ u) refl) in
-                let l1 = t1.local (f.front ++ (f.token ∷ u)) same in
-                rw (append_assoc t1.front f.front (f.token ∷ u), l1) (f.local u);
-            }
+              let x = b.0 in
+              let t1 = g.takes ts x.0 x.1 b.1 in
+              let f = (h x.0).overs x.1 n b.2 in
+              record {
+                front = t1.front ++ f.front;
+                token = f.token;
+                rest = f.rest;
+                parts = t1.parts ∙ ap (λ (w : List T). t1.front ++ w) f.parts ∙ sym (append_assoc t1.front f.front (f.token ∷ f.rest));
+                left = f.left;
+                is = inr (t1.front, f.front, x.0, refl, t1.is, f.is);
+                local = λ u.
+                    let same : SameHead x.1 (f.front ++ (f.token ∷ u)) = subst (λ (w : List T). SameHead w (f.front ++ (f.token ∷ u))) (sym f.parts) (same_head f.front (f.token ∷ f.rest) (f.token ∷ u) refl) in
+                    let l1 = t1.local (f.front ++ (f.token ∷ u)) same in
+                    rw (append_assoc t1.front f.front (f.token ∷ u), l1) (f.local u);
+              }
         ]
 
     begun_clear : (x : A) (c : List T) → (H x).begun c → sees K (m1 x) c ≡ false
@@ -333,22 +332,22 @@ module _ {T : Type 0} (K : T → ℕ) where
     choice_takes ts x rest e =
         elim (chosen (sees K ks ts) (G.parse ts) (H.parse ts) (Ok (x, rest)) e) [
           | inl p ↦
-            let t = g.takes ts x rest p.1 in
-            record { front = t.front; parts = t.parts; is = inl t.is; local = λ u s. rw (same_sight ts t.front rest u t.parts s, p.0) (t.local u s) }
+              let t = g.takes ts x rest p.1 in
+              record { front = t.front; parts = t.parts; is = inl t.is; local = λ u s. rw (same_sight ts t.front rest u t.parts s, p.0) (t.local u s) }
           | inr p ↦
-            let t = h.takes ts x rest p.1 in
-            record { front = t.front; parts = t.parts; is = inr t.is; local = λ u s. rw (same_sight ts t.front rest u t.parts s, p.0) (t.local u s) }
+              let t = h.takes ts x rest p.1 in
+              record { front = t.front; parts = t.parts; is = inr t.is; local = λ u s. rw (same_sight ts t.front rest u t.parts s, p.0) (t.local u s) }
         ]
 
     choice_fails : (ts : List T) (n : ℕ) → (choice K ks G H).parse ts ≡ Err (At n) → Fails (choice K ks G H).parse (choice K ks G H).begun ts n
     choice_fails ts n e =
         elim (chosen (sees K ks ts) (G.parse ts) (H.parse ts) (Err (At n)) e) [
           | inl p ↦
-            let t = g.fails ts n p.1 in
-            record { front = t.front; rest = t.rest; parts = t.parts; left = t.left; is = inl t.is; local = λ u s. rw (same_sight ts t.front t.rest u t.parts s, p.0) (t.local u s) }
+              let t = g.fails ts n p.1 in
+              record { front = t.front; rest = t.rest; parts = t.parts; left = t.left; is = inl t.is; local = λ u s. rw (same_sight ts t.front t.rest u t.parts s, p.0) (t.local u s) }
           | inr p ↦
-            let t = h.fails ts n p.1 in
-            record { front = t.front; rest = t.rest; parts = t.parts; left = t.left; is = inr t.is; local = λ u s. rw (same_sight ts t.front t.rest u t.parts s, p.0) (t.local u s) }
+              let t = h.fails ts n p.1 in
+              record { front = t.front; rest = t.rest; parts = t.parts; left = t.left; is = inr t.is; local = λ u s. rw (same_sight ts t.front t.rest u t.parts s, p.0) (t.local u s) }
         ]
 
     sees_first : (a b : List T) (x : A) → G.reads a x → sees K ks (a ++ b) ≡ true
@@ -386,11 +385,11 @@ module _ {T : Type 0} (K : T → ℕ) where
     choice_overs ts n e =
         elim (chosen (sees K ks ts) (G.parse ts) (H.parse ts) (Err (Over n)) e) [
           | inl p ↦
-            let t = g.overs ts n p.1 in
-            record { front = t.front; token = t.token; rest = t.rest; parts = t.parts; left = t.left; is = inl t.is; local = λ u. rw (same_sight ts t.front (t.token ∷ t.rest) (t.token ∷ u) t.parts refl, p.0) (t.local u) }
+              let t = g.overs ts n p.1 in
+              record { front = t.front; token = t.token; rest = t.rest; parts = t.parts; left = t.left; is = inl t.is; local = λ u. rw (same_sight ts t.front (t.token ∷ t.rest) (t.token ∷ u) t.parts refl, p.0) (t.local u) }
           | inr p ↦
-            let t = h.overs ts n p.1 in
-            record { front = t.front; token = t.token; rest = t.rest; parts = t.parts; left = t.left; is = inr t.is; local = λ u. rw (same_sight ts t.front (t.token ∷ t.rest) (t.token ∷ u) t.parts refl, p.0) (t.local u) }
+              let t = h.overs ts n p.1 in
+              record { front = t.front; token = t.token; rest = t.rest; parts = t.parts; left = t.left; is = inr t.is; local = λ u. rw (same_sight ts t.front (t.token ∷ t.rest) (t.token ∷ u) t.parts refl, p.0) (t.local u) }
         ]
 
     choice_runs : (a : List T) → (choice K ks G H).begun a → RunsOut ((choice K ks G H).parse a)

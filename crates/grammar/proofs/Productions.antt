@@ -1,11 +1,12 @@
 -- The exactness of a production from that of its parts, a line for each production. The sets follow from
 -- those of the parts, and each side condition is a test by computation.
-use Rattle.std.proofs.Common.{◌≡◌, ℕ, zero, suc, ◌<◌, Bool, true, false, cond, List, [], ◌∷◌, ◌++◌, length, Ok, Err, refl, sym, ap, subst, ◌∙◌, arith}
-use Rattle.grammar.specs.Syntax.{Syntax, Fault, among, sees, none, gives, one, ◌then◌, choice, many, limit, knot_at, knot}
+use Rattle.std.proofs.Common.{◌≡◌, ◌≤◌, ℕ, zero, suc, Bool, true, false, cond, List, [], ◌∷◌, ◌++◌, length, Ok, Err, refl, ◌∙◌, arith, Option, Some}
+use Rattle.grammar.specs.Syntax.{Syntax, Fault, among, sees, none, gives, one, ◌then◌, choice, many, knot_at, knot, deep, at_most}
 use Rattle.grammar.specs.Exact.{IsExact, IsGood}
-use Rattle.grammar.proofs.Sets.{within, apart, cond_true, within_self, within_joined, within_joined_right, within_left, within_right}
-use Rattle.grammar.proofs.Parts.{ThenFits, ChoiceFits, none_exact, gives_exact, one_exact, widen}
-use Rattle.grammar.proofs.Bounds.{LoopFits, same_good, then_good, after_good, choice_good, many_good, many_is, agree_of, limit_exact, limit_good}
+use Rattle.grammar.proofs.Sets.{within, apart, cond_true, within_self, within_joined_right, within_left, within_right}
+use Rattle.grammar.proofs.Parts.{none_exact, gives_exact, one_exact, widen}
+use Rattle.grammar.proofs.Bounds.{LoopFits, same_good, then_good, after_good, choice_good, many_good, many_is, limit_exact, limit_good}
+use Rattle.grammar.proofs.Limits.{deep_exact, at_most_good}
 
 abbrev pub and : Bool → Bool → Bool
 and b c = cond b c false
@@ -27,7 +28,6 @@ turns_fit ks f m e =
     record { clash = λ x y. p.0; taken = λ x. p.1; over = λ x y. within_right ks m; greedy = λ x. within_left ks m }
 
 module _ {T : Type 0} {K : T → ℕ} where
-
   pub seq : {A B : Type 0} {n : ℕ} {G G' : Syntax T A} {H H' : A → Syntax T B} {n1 n2 : Bool} {f1 m1 f2 m2 : List ℕ} → IsGood K n G G' n1 f1 (λ _. m1) → ((x : A) → IsGood K n (H x) (H' x) n2 f2 (λ _. m2)) → apart f2 m1 ≡ true → IsGood K n (G then H) (G' then H') (and n1 n2) (f1 ++ empties n1 f2) (λ _. m2 ++ empties n2 m1)
   seq {A} {B} {n} {G} {G'} {H} {H'} {n1} {n2} {f1} {m1} {f2} {m2} g h e =
       then_good K n G G' H H' n1 f1 (λ _. m1) n2 (λ _. f2) (λ _ _. m2) (and n1 n2) (f1 ++ empties n1 f2) (λ _. m2 ++ empties n2 m1) (λ _ _. Unit {0}) (λ _ _ _. tt) (λ _ _ _. tt) (record {
@@ -87,6 +87,9 @@ module _ {T : Type 0} {K : T → ℕ} where
         begun = g.begun;
         late = g.late;
         agree = g.agree;
+        reads_back = g.reads_back;
+        begun_back = g.begun_back;
+        late_back = g.late_back;
       }
 
   pub given : {A : Type 0} {n : ℕ} (x : A) → IsGood K n (gives x) (gives x) true [] (λ _. [])
@@ -94,6 +97,36 @@ module _ {T : Type 0} {K : T → ℕ} where
 
   pub same : {A : Type 0} {n : ℕ} {G : Syntax T A} {null : Bool} {first : List ℕ} {more : A → List ℕ} → IsExact K G null first more → IsGood K n G G null first more
   same {A} {n} {G} {null} {first} {more} g = same_good K n G null first more g
+
+  -- what holds on longer texts holds on shorter ones
+  pub lowered : {A : Type 0} {n : ℕ} {G H : Syntax T A} {null : Bool} {first : List ℕ} {more : A → List ℕ} (k : ℕ) → k ≤ n → IsGood K n G H null first more → IsGood K k G H null first more
+  lowered {A} {n} {G} {H} k le g = record {
+    here = g.here;
+    there = g.there;
+    reads = g.reads;
+    begun = g.begun;
+    late = g.late;
+    agree = λ ts lt. g.agree ts (omega arith);
+    reads_back = λ a x lt. g.reads_back a x (omega arith);
+    begun_back = λ a lt. g.begun_back a (omega arith);
+    late_back = λ a t lt. g.late_back a t (omega arith);
+  }
+
+  -- the same, for the parts of what stands behind a token
+  pub one_lower : {A : Type 0} {n : ℕ} {G H : Syntax T A} {null : Bool} {first : List ℕ} {more : A → List ℕ} → IsGood K (suc n) G H null first more → IsGood K n G H null first more
+  one_lower {A} {n} g = lowered n (omega arith) g
+
+  -- one token of which f makes a value, if its kind is in the set
+  pub token : {A : Type 0} {n : ℕ} (f : T → Option A) (ks : List ℕ) → ((t : T) (x : A) → f t ≡ Some x → among (K t) ks ≡ true) → IsGood K n (one f) (one f) false ks (λ _. [])
+  token {A} {n} f ks h = same_good K n (one f) false ks (λ _. []) (one_exact K f ks h)
+
+  -- a production that stands one too deep, each of whose first tokens begins it
+  pub too_deep : {A : Type 0} {n : ℕ} (ks : List ℕ) {G : Syntax T A} {m1 more : A → List ℕ} → IsExact K G false ks m1 → ((t : T) → among (K t) ks ≡ true → G.begun (t ∷ [])) → IsGood K n (deep K ks G) (deep K ks G) false ks more
+  too_deep {A} {n} ks {G} {m1} {more} g o = same_good K n (deep K ks G) false ks more (deep_exact K ks G m1 more g o)
+
+  -- at most so many tokens
+  pub counted : {A : Type 0} {n : ℕ} (most : ℕ) {G H : Syntax T A} {null : Bool} {first : List ℕ} {more : A → List ℕ} → IsGood K n G H null first more → IsGood K n (at_most most G) (at_most most H) null first more
+  counted {A} {n} most {G} {H} {null} {first} {more} g = at_most_good K most n G H null first more g
 
   -- at the bound 0 nothing is read
   pub none_good : {A : Type 0} (H : Syntax T A) (null : Bool) (first : List ℕ) (more : A → List ℕ) → IsExact K H null first more → IsGood K 0 none H null first more
@@ -105,6 +138,9 @@ module _ {T : Type 0} {K : T → ℕ} where
         begun = λ a e. rw e h.empty;
         late = λ a t l. absurd l;
         agree = λ ts lt. absurd (omega arith);
+        reads_back = λ a x lt. absurd (omega arith);
+        begun_back = λ a lt. absurd (omega arith);
+        late_back = λ a t lt. absurd (omega arith);
       }
 
   -- ---- recursion
@@ -123,6 +159,25 @@ module _ {T : Type 0} {K : T → ℕ} where
     -- what stands for itself is read as its production says
     pub knot_is : (s : S) (ts : List T) → (knot F s).parse ts ≡ (F (knot F) s).parse ts
     knot_is s ts = (step (length ts) (knot_at F (length ts)) (knot F) (λ u. limit_good K (λ n. knot_at F n u) null first more (λ n. knot_grows n u) (length ts)) s).agree ts (omega arith)
+
+  -- recursion inside a production that itself depends on one still open
+  module _ {S A : Type 0} (n : ℕ) (null : Bool) (first : List ℕ) (more : A → List ℕ) (F F' : (S → Syntax T A) → S → Syntax T A) (step : (k : ℕ) (U U' : S → Syntax T A) → ((s : S) → IsGood K k (U s) (U' s) null first more) → (s : S) → IsGood K (suc k) (F U s) (F U' s) null first more) (step' : (k : ℕ) (U U' : S → Syntax T A) → ((s : S) → IsGood K k (U s) (U' s) null first more) → (s : S) → IsGood K (suc k) (F' U s) (F' U' s) null first more) (both : (U U' : S → Syntax T A) → ((s : S) → IsGood K n (U s) (U' s) null first more) → (s : S) → IsGood K n (F U s) (F' U' s) null first more) where
+    at_both : (k : ℕ) (s : S) → IsGood K n (knot_at F k s) (knot_at F' k s) null first more
+    at_both zero s = nothing null first more F step n
+    at_both (suc k) s = both (knot_at F k) (knot_at F' k) (at_both k) s
+
+    pub knot_both : (s : S) → IsGood K n (knot F s) (knot F' s) null first more
+    knot_both s = record {
+      here = knot_exact null first more F step s;
+      there = knot_exact null first more F' step' s;
+      reads = λ a x r. (r.0, (at_both r.0 s).reads a x r.1);
+      begun = λ a b. (b.0, (at_both b.0 s).begun a b.1);
+      late = λ a t l. (l.0, (at_both l.0 s).late a t l.1);
+      agree = λ ts lt. (at_both (suc (length ts)) s).agree ts lt;
+      reads_back = λ a x lt r. (r.0, (at_both r.0 s).reads_back a x lt r.1);
+      begun_back = λ a lt b. (b.0, (at_both b.0 s).begun_back a lt b.1);
+      late_back = λ a t lt l. (l.0, (at_both l.0 s).late_back a t lt l.1);
+    }
 
   -- ---- one turn of a repetition
 
@@ -214,13 +269,53 @@ module _ {T : Type 0} {K : T → ℕ} where
         empty = λ t. refl;
       }) g (same_good K n (gives x) true [] (λ _. []) (gives_exact K x))
 
-  pub to_constant : {A : Type 0} {n : ℕ} {G H : Syntax T A} {null : Bool} {first : List ℕ} {m : A → List ℕ} (more : List ℕ) → IsGood K n G H null first m → ((x : A) → within (m x) more ≡ true) → IsGood K n G H null first (λ _. more)
-  to_constant {A} {n} {G} {H} {null} {first} {m} more g e =
+  -- what follows may be empty, and then gives f of the value before it
+  pub tail_to : {A B : Type 0} {n : ℕ} {G G' : Syntax T A} {H H' : A → Syntax T B} {f1 : List ℕ} {m1 : A → List ℕ} {f2 : A → List ℕ} {more : B → List ℕ} (f : A → B) → IsGood K n G G' false f1 m1 → ((x : A) → IsGood K n (H x) (H' x) true (f2 x) more) → ((x : A) (y : B) → (H x).reads [] y → f x ≡ y) → ((x : A) (y : B) → (H' x).reads [] y → f x ≡ y) → ((x : A) → apart (f2 x) (m1 x) ≡ true) → ((x : A) → within (m1 x) (more (f x)) ≡ true) → IsGood K n (G then H) (G' then H') false f1 more
+  tail_to {A} {B} {n} {G} {G'} {H} {H'} {f1} {m1} {f2} {more} f g h ends ends' c o =
+      then_good K n G G' H H' false f1 m1 true f2 (λ _. more) false f1 more (λ x y. f x ≡ y) ends ends' (record {
+        clash = c;
+        late = λ x y. within_self (more y);
+        over = λ x y t same. rw (← same) (o x);
+        begin = within_self f1;
+        next = λ x t. absurd cc;
+        empty = λ t u. absurd cc;
+      }) g h
+
+  -- a larger set of what can follow does no harm
+  pub widened : {A : Type 0} {n : ℕ} {G H : Syntax T A} {null : Bool} {first : List ℕ} {m more : A → List ℕ} → IsGood K n G H null first m → ((x : A) → within (m x) (more x) ≡ true) → IsGood K n G H null first more
+  widened {A} {n} {G} {H} {null} {first} {m} {more} g e =
       record {
-        here = widen K G null first m null first (λ _. more) g.here (λ h. h) (within_self first) e;
-        there = widen K H null first m null first (λ _. more) g.there (λ h. h) (within_self first) e;
+        here = widen K G null first m null first more g.here (λ h. h) (within_self first) e;
+        there = widen K H null first m null first more g.there (λ h. h) (within_self first) e;
         reads = g.reads;
         begun = g.begun;
         late = g.late;
         agree = g.agree;
+        reads_back = g.reads_back;
+        begun_back = g.begun_back;
+        late_back = g.late_back;
       }
+
+  pub to_constant : {A : Type 0} {n : ℕ} {G H : Syntax T A} {null : Bool} {first : List ℕ} {m : A → List ℕ} (more : List ℕ) → IsGood K n G H null first m → ((x : A) → within (m x) more ≡ true) → IsGood K n G H null first (λ _. more)
+  to_constant more g e = widened g e
+
+-- What ends by a token of its own is exact for other kinds too.
+pub recast : {T A : Type 0} {K J : T → ℕ} {G : Syntax T A} {null : Bool} {first : List ℕ} (first' : List ℕ) → ((t : T) → among (K t) first ≡ true → among (J t) first' ≡ true) → IsExact K G null first (λ _. []) → IsExact J G null first' (λ _. [])
+recast {T} {A} {K} {J} {G} {null} {first} first' f g = record {
+  takes = g.takes;
+  fails = g.fails;
+  overs = g.overs;
+  again = λ a x b r s. g.again a x b r (blind b);
+  lates = g.lates;
+  late_begins = g.late_begins;
+  runs = g.runs;
+  begins = g.begins;
+  fronts = g.fronts;
+  empty = g.empty;
+  starts = λ t ts b. f t (g.starts t ts b);
+  filled = g.filled;
+}
+  where
+    blind : (b : List T) → sees K [] b ≡ false
+    blind [] = refl
+    blind (t ∷ ts) = refl

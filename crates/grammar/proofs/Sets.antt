@@ -104,9 +104,9 @@ within_right ys zs = within_joined_right zs ys zs (within_self zs)
 pub among_either : (k : ℕ) (xs ys : List ℕ) → among k (xs ++ ys) ≡ true → (among k xs ≡ true) ⊎ (among k ys ≡ true)
 among_either k [] ys h = inr h
 among_either k (x ∷ xs) ys h = elim (cond_or (eqb k x) (among k (xs ++ ys)) h) [
-    | inl e ↦ inl (rw e refl)
-    | inr e ↦ elim (among_either k xs ys e) [ inl f ↦ inl (rw f (or_true (eqb k x))) | inr f ↦ inr f ]
-  ]
+  | inl e ↦ inl (rw e refl)
+  | inr e ↦ elim (among_either k xs ys e) [ inl f ↦ inl (rw f (or_true (eqb k x))) | inr f ↦ inr f ]
+]
   where
     or_true : (b : Bool) → cond b true true ≡ true
     or_true true = refl

@@ -1,12 +1,14 @@
 -- Where a token can't follow, the tokens before it are no reading: cut there, the text is too short.
-use Rattle.std.proofs.Common.{◌≡◌, ℕ, zero, suc, ◌+◌, ◌<◌, ◌≤◌, Bool, true, false, cond, List, [], ◌∷◌, ◌++◌, length, Result, Ok, Err, Option, Some, None, refl, sym, ◌∙◌, ap, subst, ◌⊎◌, inl, inr, append_assoc, arith, length-append}
+use Rattle.std.proofs.Common.{◌≡◌, ℕ, zero, suc, ◌+◌, ◌-◌, ◌<◌, ◌≤◌, Bool, true, false, cond, ltb, List, [], ◌∷◌, ◌++◌, length, Result, Ok, Err, Option, Some, None, refl, sym, ◌∙◌, ap, subst, ◌⊎◌, inl, inr, append_assoc, arith, length-append}
 use Rattle.std.proofs.lemmas.List.{append-nil}
-use Rattle.grammar.specs.Syntax.{Syntax, Fault, At, Over, among, sees, gives, one, one_at, ◌then◌, choice, many, ◌>>=◌}
-use Rattle.grammar.specs.Exact.{SameHead, Takes, Fails, Late, RunsOut, IsExact}
+use Rattle.grammar.specs.Syntax.{Syntax, Fault, At, Over, among, sees, gives, one, one_at, ◌then◌, choice, many, ◌>>=◌, deep, at_most, capped}
+use Rattle.grammar.specs.Exact.{SameHead, Late, IsExact, RefusedAt, Unread}
 use Rattle.grammar.proofs.Sets.{within, apart, within_among, apart_among, cond_true, within_self, within_left, within_right, within_both, within_joined, among_either}
-use Rattle.grammar.proofs.Parts.{bind_ok, bind_err, chosen, ChoiceFits, gives_exact, choice_exact, widen}
-use Rattle.grammar.proofs.Bounds.{LoopFits, same_good, many_exact, many_is, rest_below, rest_within, split_same}
-use Rattle.grammar.proofs.Productions.{and, empties, turns_fit, seq, either, again_and_again, same}
+use Rattle.grammar.proofs.Parts.{bind_err, chosen, ChoiceFits, gives_exact, choice_exact, widen}
+use Rattle.grammar.proofs.Bounds.{LoopFits, many_exact, turn_exact, turned_exact, many_is, rest_below, rest_within, split_same}
+use Rattle.grammar.proofs.Limits.{place, at_most_exact, at_most_answer, front_short, below, capped_in, opened}
+use Rattle.grammar.proofs.Productions.{and, empties, turns_fit, seq, either, again_and_again, same, seq_to, made, either_to, maybe_to, tail_to, widened}
+use Rattle.grammar.proofs.Theorem.{refused_at}
 
 pub record IsSolid {T : Type 0} (K : T → ℕ) {A : Type 0} (n : ℕ) (G : Syntax T A) (lead null : Bool) (first : List ℕ) (more : A → List ℕ) : Type 0 where
   pub exact : IsExact K G null first more
@@ -64,11 +66,14 @@ module _ {T : Type 0} {K : T → ℕ} where
     where
       ok : (t : T) (x : A) (ts : List T) → g t ≡ Some x → one_at g (t ∷ ts) ≡ Ok (x, ts)
       ok t x ts p = rw (p, one_at) refl
+
       o : true ≡ true → (t : T) (ts : List T) → length (t ∷ ts) < n → among (K t) ks ≡ true → one_at g (t ∷ ts) ≡ Err (At (suc (length ts))) → ⊥
       o u t ts lt a q = let p = h t a in let k = ok t p.0 ts p.1 in cc
+
       at : (t : T) (ts : List T) (m : ℕ) (v : Option A) → g t ≡ v → one_at g (t ∷ ts) ≡ Err (At m) → m ≡ suc (length ts)
       at t ts m (Some x) p q = absurd (let k = ok t x ts p in cc)
       at t ts m None p q = let k : one_at g (t ∷ ts) ≡ Err (At (suc (length ts))) = rw (p, one_at) refl in cc
+
       c : (ts : List T) (m : ℕ) (f r : List T) → length ts < n → one_at g ts ≡ Err (At m) → ts ≡ f ++ r → m ≡ length r → one_at g f ≡ Err (At 0)
       c [] m f r lt q s l = let z = front_empty [] f r s (let k : m ≡ 0 = cc in omega arith) in rw z refl
       c (t ∷ ts) m f r lt q s l = let z = front_empty (t ∷ ts) f r s (let k = at t ts m (g t) refl q in omega arith) in rw z refl
@@ -88,38 +93,38 @@ module _ {T : Type 0} {K : T → ℕ} where
   seq_cut G n1 f1 m1 x front r1 [] r g is local e = alone G n1 f1 m1 front r1 x (x, r1) g (local r1 (same_self r1)) (g.again front x [] is refl)
   seq_cut G n1 f1 m1 x front r1 (t ∷ f2) r g is local e = local (t ∷ f2) (rw e refl)
 
-  module _ {A B : Type 0} (G : Syntax T A) (H : A → Syntax T B) (l1 l2 n1 n2 : Bool) (f1 f2 : List ℕ) (m1 : A → List ℕ) (m2 : A → B → List ℕ) (null : Bool) (first : List ℕ) (more : B → List ℕ) (e : IsExact K (G then H) null first more) (same_first : l1 ≡ true → within first f1 ≡ true) (same_null : n1 ≡ false → null ≡ false) where
-    then_cut : (n k : ℕ) → IsSolid K n G l1 n1 f1 m1 → ((x : A) → IsSolid K k (H x) l2 n2 f2 (m2 x)) → (ts : List T) (m : ℕ) (f r : List T) → length ts < n → ((x : A) (front rest : List T) → ts ≡ front ++ rest → G.reads front x → length rest < k) → (G then H).parse ts ≡ Err (At m) → ts ≡ f ++ r → m ≡ length r → (G then H).parse f ≡ Err (At 0)
+  module _ {A B : Type 0} (G : Syntax T A) (H : A → Syntax T B) (l1 l2 n1 n2 : Bool) (f1 : List ℕ) (f2 : A → List ℕ) (m1 : A → List ℕ) (m2 : A → B → List ℕ) (null : Bool) (first : List ℕ) (more : B → List ℕ) (e : IsExact K (G then H) null first more) (same_first : l1 ≡ true → within first f1 ≡ true) (same_null : n1 ≡ false → null ≡ false) where
+    then_cut : (n k : ℕ) → IsSolid K n G l1 n1 f1 m1 → ((x : A) → IsSolid K k (H x) l2 n2 (f2 x) (m2 x)) → (ts : List T) (m : ℕ) (f r : List T) → length ts < n → ((x : A) (front rest : List T) → ts ≡ front ++ rest → G.reads front x → length rest < k) → (G then H).parse ts ≡ Err (At m) → ts ≡ f ++ r → m ≡ length r → (G then H).parse f ≡ Err (At 0)
     then_cut n k g h ts m f r lt below q s l =
         elim (bind_err (G.parse ts) (λ x. (H x.0).parse x.1) (At m) q) [
           | inl e1 ↦ rw (g.cut ts m f r lt e1 s l) refl
           | inr b ↦
-            let x = b.0 in
-            let t1 = g.exact.takes ts x.0 x.1 b.1 in
-            let w = (h x.0).exact.fails x.1 m b.2 in
-            let small = below x.0 t1.front x.1 t1.parts t1.is in
-            let c2 = (h x.0).cut x.1 m w.front w.rest small b.2 w.parts w.left in
-            let f-is = second_front ts t1.front x.1 f r w.front w.rest t1.parts w.parts s (sym w.left ∙ l) in
-            let c1 = seq_cut G n1 f1 m1 x.0 t1.front x.1 w.front w.rest g.exact t1.is t1.local w.parts in
-            rw (f-is, c1) c2
+              let x = b.0 in
+              let t1 = g.exact.takes ts x.0 x.1 b.1 in
+              let w = (h x.0).exact.fails x.1 m b.2 in
+              let small = below x.0 t1.front x.1 t1.parts t1.is in
+              let c2 = (h x.0).cut x.1 m w.front w.rest small b.2 w.parts w.left in
+              let f-is = second_front ts t1.front x.1 f r w.front w.rest t1.parts w.parts s (sym w.left ∙ l) in
+              let c1 = seq_cut G n1 f1 m1 x.0 t1.front x.1 w.front w.rest g.exact t1.is t1.local w.parts in
+              rw (f-is, c1) c2
         ]
 
-    then_opens : (n k : ℕ) → IsSolid K n G l1 n1 f1 m1 → ((x : A) → IsSolid K k (H x) l2 n2 f2 (m2 x)) → l1 ≡ true → (t : T) (ts : List T) → length (t ∷ ts) < n → among (K t) first ≡ true → (G then H).parse (t ∷ ts) ≡ Err (At (suc (length ts))) → ⊥
+    then_opens : (n k : ℕ) → IsSolid K n G l1 n1 f1 m1 → ((x : A) → IsSolid K k (H x) l2 n2 (f2 x) (m2 x)) → l1 ≡ true → (t : T) (ts : List T) → length (t ∷ ts) < n → among (K t) first ≡ true → (G then H).parse (t ∷ ts) ≡ Err (At (suc (length ts))) → ⊥
     then_opens n k g h ld t ts lt a q =
         elim (bind_err (G.parse (t ∷ ts)) (λ x. (H x.0).parse x.1) (At (suc (length ts))) q) [
           | inl e1 ↦ g.opens ld t ts lt (within_among first f1 (K t) (same_first ld) a) e1
           | inr b ↦
-            let x = b.0 in
-            let t1 = g.exact.takes (t ∷ ts) x.0 x.1 b.1 in
-            let w = (h x.0).exact.fails x.1 (suc (length ts)) b.2 in
-            let le = rest_within x.1 w.front w.rest w.parts in
-            let solid : IsExact K G false f1 m1 = subst (λ (v : Bool). IsExact K G v f1 m1) (g.led ld) g.exact in
-            let less = rest_below K G f1 m1 solid (t ∷ ts) x.0 t1.front x.1 t1.parts t1.is in
-            let wl = w.left in
-            omega arith
+              let x = b.0 in
+              let t1 = g.exact.takes (t ∷ ts) x.0 x.1 b.1 in
+              let w = (h x.0).exact.fails x.1 (suc (length ts)) b.2 in
+              let le = rest_within x.1 w.front w.rest w.parts in
+              let solid : IsExact K G false f1 m1 = subst (λ (v : Bool). IsExact K G v f1 m1) (g.led ld) g.exact in
+              let less = rest_below K G f1 m1 solid (t ∷ ts) x.0 t1.front x.1 t1.parts t1.is in
+              let wl = w.left in
+              omega arith
         ]
 
-    pub then_solid : (n : ℕ) → IsSolid K n G l1 n1 f1 m1 → ((x : A) → IsSolid K n (H x) l2 n2 f2 (m2 x)) → IsSolid K n (G then H) l1 null first more
+    pub then_solid : (n : ℕ) → IsSolid K n G l1 n1 f1 m1 → ((x : A) → IsSolid K n (H x) l2 n2 (f2 x) (m2 x)) → IsSolid K n (G then H) l1 null first more
     then_solid n g h = record {
       exact = e;
       led = λ ld. same_null (g.led ld);
@@ -127,7 +132,7 @@ module _ {T : Type 0} {K : T → ℕ} where
       cut = λ ts m f r lt. then_cut n n g h ts m f r lt (λ x front rest p i. let le = rest_within ts front rest p in omega arith);
     }
 
-    pub after_solid : (n : ℕ) → n1 ≡ false → IsSolid K (suc n) G l1 n1 f1 m1 → ((x : A) → IsSolid K n (H x) l2 n2 f2 (m2 x)) → IsSolid K (suc n) (G then H) l1 null first more
+    pub after_solid : (n : ℕ) → n1 ≡ false → IsSolid K (suc n) G l1 n1 f1 m1 → ((x : A) → IsSolid K n (H x) l2 n2 (f2 x) (m2 x)) → IsSolid K (suc n) (G then H) l1 null first more
     after_solid n led g h = record {
       exact = e;
       led = λ ld. same_null (g.led ld);
@@ -161,26 +166,26 @@ module _ {T : Type 0} {K : T → ℕ} where
       exact = e;
       led = led;
       opens = λ ld t ts lt a q.
-        elim (among_either (K t) f1 f2 (within_among first (f1 ++ f2) (K t) same_first a)) [
-          | inl a1 ↦ let b = within_among f1 ks (K t) taken a1 in g.opens refl t ts lt a1 (rw b at q)
-          | inr a2 ↦ let b : among (K t) ks ≡ false = open_second t (among (K t) ks) a2 refl in h.opens ld t ts lt a2 (rw b at q)
-        ];
+          elim (among_either (K t) f1 f2 (within_among first (f1 ++ f2) (K t) same_first a)) [
+            | inl a1 ↦ let b = within_among f1 ks (K t) taken a1 in g.opens refl t ts lt a1 (rw b at q)
+            | inr a2 ↦ let b : among (K t) ks ≡ false = open_second t (among (K t) ks) a2 refl in h.opens ld t ts lt a2 (rw b at q)
+          ];
       cut = λ ts m f r lt q s l.
-        elim (chosen (sees K ks ts) (G.parse ts) (H.parse ts) (Err (At m)) q) [
-          | inl p ↦ cut_first ts m f r lt p.0 p.1 s l
-          | inr p ↦ cut_second ts m f r lt p.0 p.1 s l
-        ];
+          elim (chosen (sees K ks ts) (G.parse ts) (H.parse ts) (Err (At m)) q) [
+            | inl p ↦ cut_first ts m f r lt p.0 p.1 s l
+            | inr p ↦ cut_second ts m f r lt p.0 p.1 s l
+          ];
     }
 
   -- ---- with sets that follow from the parts
 
   pub seq_solid : {A B : Type 0} {n : ℕ} {G : Syntax T A} {H : A → Syntax T B} {l1 l2 n1 n2 : Bool} {f1 m1 f2 m2 : List ℕ} → IsSolid K n G l1 n1 f1 (λ _. m1) → ((x : A) → IsSolid K n (H x) l2 n2 f2 (λ _. m2)) → apart f2 m1 ≡ true → IsSolid K n (G then H) l1 (and n1 n2) (f1 ++ empties n1 f2) (λ _. m2 ++ empties n2 m1)
   seq_solid {A} {B} {n} {G} {H} {l1} {l2} {n1} {n2} {f1} {m1} {f2} {m2} g h c =
-      then_solid G H l1 l2 n1 n2 f1 f2 (λ _. m1) (λ _ _. m2) (and n1 n2) (f1 ++ empties n1 f2) (λ _. m2 ++ empties n2 m1) (seq {n = 0} (same g.exact) (λ x. same (h x).exact) c).here (λ ld. first_of_led f1 f2 n1 (g.led ld)) (and_false n1 n2) n g h
+      then_solid G H l1 l2 n1 n2 f1 (λ _. f2) (λ _. m1) (λ _ _. m2) (and n1 n2) (f1 ++ empties n1 f2) (λ _. m2 ++ empties n2 m1) (seq {n = 0} (same g.exact) (λ x. same (h x).exact) c).here (λ ld. first_of_led f1 f2 n1 (g.led ld)) (and_false n1 n2) n g h
 
   pub behind : {A B : Type 0} {n : ℕ} {G : Syntax T A} {H : A → Syntax T B} {l2 n2 : Bool} {f1 m1 f2 m2 : List ℕ} → IsSolid K (suc n) G true false f1 (λ _. m1) → ((x : A) → IsSolid K n (H x) l2 n2 f2 (λ _. m2)) → apart f2 m1 ≡ true → IsSolid K (suc n) (G then H) true false (f1 ++ []) (λ _. m2 ++ empties n2 m1)
   behind {A} {B} {n} {G} {H} {l2} {n2} {f1} {m1} {f2} {m2} g h c =
-      after_solid G H true l2 false n2 f1 f2 (λ _. m1) (λ _ _. m2) false (f1 ++ []) (λ _. m2 ++ empties n2 m1) (seq {n = 0} (same g.exact) (λ x. same (h x).exact) c).here (λ ld. first_of_led f1 f2 false refl) (and_false false n2) n refl g h
+      after_solid G H true l2 false n2 f1 (λ _. f2) (λ _. m1) (λ _ _. m2) false (f1 ++ []) (λ _. m2 ++ empties n2 m1) (seq {n = 0} (same g.exact) (λ x. same (h x).exact) c).here (λ ld. first_of_led f1 f2 false refl) (and_false false n2) n refl g h
 
   pub either_solid : {A : Type 0} {n : ℕ} (ks : List ℕ) {G H : Syntax T A} {l2 n2 : Bool} {f1 m1 f2 m2 : List ℕ} → IsSolid K n G true false f1 (λ _. m1) → IsSolid K n H l2 n2 f2 (λ _. m2) → and (within f1 ks) (apart f2 ks) ≡ true → within ks f1 ≡ true → IsSolid K n (choice K ks G H) l2 n2 (f1 ++ f2) (λ _. m1 ++ (m2 ++ empties n2 ks))
   either_solid {A} {n} ks {G} {H} {l2} {n2} {f1} {m1} {f2} {m2} g h c x =
@@ -221,14 +226,89 @@ module _ {T : Type 0} {K : T → ℕ} where
   -- ---- recursion
 
   -- what is read as its production says, if that is solid one token further wherever it is itself
-  pub knot_solid : {A : Type 0} {G : Syntax T A} {F : Syntax T A} {null : Bool} {first : List ℕ} {more : A → List ℕ} → null ≡ false → IsExact K G null first more → ((ts : List T) → G.parse ts ≡ F.parse ts) → ((n : ℕ) → IsSolid K n G true null first more → IsSolid K (suc n) F true null first more) → (n : ℕ) → IsSolid K n G true null first more
-  knot_solid nn e p step zero = solid_zero true (λ _. nn) e
-  knot_solid nn e p step (suc n) = as_parsed p e (step n (knot_solid nn e p step n))
+  pub knot_solid : {S A : Type 0} {G F : S → Syntax T A} {null : Bool} {first : List ℕ} {more : A → List ℕ} → null ≡ false → ((s : S) → IsExact K (G s) null first more) → ((s : S) (ts : List T) → (G s).parse ts ≡ (F s).parse ts) → ((n : ℕ) → ((s : S) → IsSolid K n (G s) true null first more) → (s : S) → IsSolid K (suc n) (F s) true null first more) → (n : ℕ) (s : S) → IsSolid K n (G s) true null first more
+  knot_solid nn e p step zero s = solid_zero true (λ _. nn) (e s)
+  knot_solid nn e p step (suc n) s = as_parsed (p s) (e s) (step n (λ u. knot_solid nn e p step n u) s)
 
   -- the same, up to a bound
-  pub knot_solid_to : {A : Type 0} {G : Syntax T A} {F : Syntax T A} {null : Bool} {first : List ℕ} {more : A → List ℕ} (top : ℕ) → null ≡ false → IsExact K G null first more → ((ts : List T) → G.parse ts ≡ F.parse ts) → ((n : ℕ) → n < top → IsSolid K n G true null first more → IsSolid K (suc n) F true null first more) → (n : ℕ) → n ≤ top → IsSolid K n G true null first more
-  knot_solid_to top nn e p step zero le = solid_zero true (λ _. nn) e
-  knot_solid_to top nn e p step (suc n) le = as_parsed p e (step n (omega arith) (knot_solid_to top nn e p step n (omega arith)))
+  pub knot_solid_to : {S A : Type 0} {G F : S → Syntax T A} {null : Bool} {first : List ℕ} {more : A → List ℕ} (top : ℕ) → null ≡ false → ((s : S) → IsExact K (G s) null first more) → ((s : S) (ts : List T) → (G s).parse ts ≡ (F s).parse ts) → ((n : ℕ) → n < top → ((s : S) → IsSolid K n (G s) true null first more) → (s : S) → IsSolid K (suc n) (F s) true null first more) → (n : ℕ) → n ≤ top → (s : S) → IsSolid K n (G s) true null first more
+  knot_solid_to top nn e p step zero le s = solid_zero true (λ _. nn) (e s)
+  knot_solid_to top nn e p step (suc n) le s = as_parsed (p s) (e s) (step n (omega arith) (λ u. knot_solid_to top nn e p step n (omega arith) u) s)
+
+  -- a token of the first set begins the production
+  pub solid_opens : {A : Type 0} {G : Syntax T A} {first : List ℕ} {more : A → List ℕ} → ((n : ℕ) → IsSolid K n G true false first more) → (t : T) → among (K t) first ≡ true → G.begun (t ∷ [])
+  solid_opens {A} {G} {first} {more} g t a = opened K G first more (g 0).exact t (λ e. (g 2).opens refl t [] (omega arith) a e)
+
+  -- ---- limits
+
+  pub deep_solid : {A : Type 0} {n : ℕ} (ks : List ℕ) (G : Syntax T A) {more : A → List ℕ} → IsExact K (deep K ks G) false ks more → IsSolid K n (deep K ks G) true false ks more
+  deep_solid {A} {n} ks G {more} e = record { exact = e; led = λ _. refl; opens = o; cut = λ ts m f r lt q s l. c ts m f r (sees K ks ts) refl q s l }
+    where
+      o : true ≡ true → (t : T) (ts : List T) → length (t ∷ ts) < n → among (K t) ks ≡ true → (deep K ks G).parse (t ∷ ts) ≡ Err (At (suc (length ts))) → ⊥
+      o h t ts lt a q = let k : (deep K ks G).parse (t ∷ ts) ≡ Err (Over (suc (length ts))) = rw a refl in cc
+      c : (ts : List T) (m : ℕ) (f r : List T) (b : Bool) → sees K ks ts ≡ b → (deep K ks G).parse ts ≡ Err (At m) → ts ≡ f ++ r → m ≡ length r → (deep K ks G).parse f ≡ Err (At 0)
+      c ts m f r true b q s l = absurd (let k : (deep K ks G).parse ts ≡ Err (Over (length ts)) = rw b refl in cc)
+      c ts m f r false b q s l =
+          let k : (deep K ks G).parse ts ≡ Err (At (length ts)) = rw b refl in
+          let same : m ≡ length ts = cc in
+          rw (front_empty ts f r s (sym same ∙ l)) refl
+
+  pub at_most_solid : {A : Type 0} {n : ℕ} (most : ℕ) {G : Syntax T A} {lead null : Bool} {first : List ℕ} {more : A → List ℕ} → IsSolid K n G lead null first more → IsSolid K n (at_most most G) lead null first more
+  at_most_solid {A} {n} most {G} {lead} {null} {first} {more} g = record {
+    exact = at_most_exact K most G null first more g.exact;
+    led = g.led;
+    opens = λ ld t ts lt a q. elim (at_most_answer K most G null first more g.exact (t ∷ ts)) [ inl p ↦ g.opens ld t ts lt a (sym p.1 ∙ q) | inr p ↦ let z : Err (Over (length (t ∷ ts) - most)) ≡ Err (At (suc (length ts))) = sym p.1 ∙ q in cc ];
+    cut = λ ts m f r lt q s l.
+      elim (at_most_answer K most G null first more g.exact ts) [
+        | inl p ↦
+          let e : G.parse ts ≡ Err (At m) = sym p.1 ∙ q in
+          let c = g.cut ts m f r lt e s l in
+          let short = front_short K most G null first more g.exact ts f r (place (G.parse ts)) s (ap place e ∙ l) p.0 in
+          ap (capped most (length f)) c ∙ capped_in most (length f) (Err (At 0)) (let k = below K most G null first more g.exact f [] short in ap (λ (z : List T). ltb (most + 0) (length z)) (sym (append-nil f)) ∙ k)
+        | inr p ↦ absurd (let z : Err (Over (length ts - most)) ≡ Err (At m) = sym p.1 ∙ q in cc)
+      ];
+  }
+
+  -- ---- sets that depend on what was read
+
+  pub seq_solid_to : {A B : Type 0} {n : ℕ} {G : Syntax T A} {H : A → Syntax T B} {l1 l2 : Bool} {f1 m1 f2 : List ℕ} {more : B → List ℕ} → IsSolid K n G l1 false f1 (λ _. m1) → ((x : A) → IsSolid K n (H x) l2 false f2 more) → apart f2 m1 ≡ true → IsSolid K n (G then H) l1 false f1 more
+  seq_solid_to {A} {B} {n} {G} {H} {l1} {l2} {f1} {m1} {f2} {more} g h c =
+      then_solid G H l1 l2 false false f1 (λ _. f2) (λ _. m1) (λ _. more) false f1 more (seq_to {n = 0} (same g.exact) (λ x. same (h x).exact) c).here (λ ld. within_self f1) (λ e. e) n g h
+
+  pub behind_to : {A B : Type 0} {n : ℕ} {G : Syntax T A} {H : A → Syntax T B} {l2 : Bool} {f1 m1 f2 : List ℕ} {more : B → List ℕ} → IsSolid K (suc n) G true false f1 (λ _. m1) → ((x : A) → IsSolid K n (H x) l2 false f2 more) → apart f2 m1 ≡ true → IsSolid K (suc n) (G then H) true false f1 more
+  behind_to {A} {B} {n} {G} {H} {l2} {f1} {m1} {f2} {more} g h c =
+      after_solid G H true l2 false false f1 (λ _. f2) (λ _. m1) (λ _. more) false f1 more (seq_to {n = 0} (same g.exact) (λ x. same (h x).exact) c).here (λ ld. within_self f1) (λ e. e) n refl g h
+
+  pub made_solid : {A B : Type 0} {n : ℕ} {G : Syntax T A} {l1 : Bool} {f1 : List ℕ} {m1 : A → List ℕ} {more : B → List ℕ} (f : A → B) → IsSolid K n G l1 false f1 m1 → ((x : A) → within (m1 x) (more (f x)) ≡ true) → IsSolid K n (G then λ x. gives (f x)) l1 false f1 more
+  made_solid {A} {B} {n} {G} {l1} {f1} {m1} {more} f g e =
+      then_solid G (λ x. gives (f x)) l1 false false true f1 (λ _. []) m1 (λ _ _. []) false f1 more (made {n = 0} f (same g.exact) e).here (λ ld. within_self f1) (λ h. h) n g (λ x. gives_solid (f x))
+
+  pub either_solid_to : {A : Type 0} {n : ℕ} (ks : List ℕ) {G H : Syntax T A} {l2 : Bool} {f1 f2 : List ℕ} {m1 m2 : A → List ℕ} {first : List ℕ} {more : A → List ℕ} → IsSolid K n G true false f1 m1 → IsSolid K n H l2 false f2 m2 → and (within f1 ks) (and (apart f2 ks) (and (within f1 first) (within f2 first))) ≡ true → and (within ks f1) (within first (f1 ++ f2)) ≡ true → ((x : A) → within (m1 x) (more x) ≡ true) → ((x : A) → within (m2 x) (more x) ≡ true) → IsSolid K n (choice K ks G H) l2 false first more
+  either_solid_to {A} {n} ks {G} {H} {l2} {f1} {f2} {m1} {m2} {first} {more} g h c d o1 o2 =
+      let p = cond_true (within f1 ks) _ c in
+      let q = cond_true (apart f2 ks) _ p.1 in
+      let r = cond_true (within ks f1) (within first (f1 ++ f2)) d in
+      choice_solid ks G H l2 false f1 f2 m1 m2 false first more (either_to {n = 0} ks (same g.exact) (same h.exact) c o1 o2).here p.0 r.0 q.0 r.1 (λ _. refl) n g h
+
+  pub maybe_solid_to : {A : Type 0} {n : ℕ} (ks : List ℕ) {G : Syntax T A} {f1 : List ℕ} {m1 : A → List ℕ} {more : A → List ℕ} (x : A) → IsSolid K n G true false f1 m1 → within f1 ks ≡ true → within ks f1 ≡ true → ((y : A) → within (m1 y) (more y) ≡ true) → within ks (more x) ≡ true → IsSolid K n (choice K ks G (gives x)) false true f1 more
+  maybe_solid_to {A} {n} ks {G} {f1} {m1} {more} x g c d o k =
+      choice_solid ks G (gives x) false true f1 [] m1 (λ _. []) true f1 more (maybe_to {n = 0} ks x (same g.exact) c o k).here c d refl (within_left f1 []) (λ h. absurd cc) n g (gives_solid x)
+
+  pub tail_solid_to : {A B : Type 0} {n : ℕ} {G : Syntax T A} {H : A → Syntax T B} {l1 l2 : Bool} {f1 : List ℕ} {m1 : A → List ℕ} {f2 : A → List ℕ} {more : B → List ℕ} (f : A → B) → IsSolid K n G l1 false f1 m1 → ((x : A) → IsSolid K n (H x) l2 true (f2 x) more) → ((x : A) (y : B) → (H x).reads [] y → f x ≡ y) → ((x : A) → apart (f2 x) (m1 x) ≡ true) → ((x : A) → within (m1 x) (more (f x)) ≡ true) → IsSolid K n (G then H) l1 false f1 more
+  tail_solid_to {A} {B} {n} {G} {H} {l1} {l2} {f1} {m1} {f2} {more} f g h ends c o =
+      then_solid G H l1 l2 false true f1 f2 m1 (λ _. more) false f1 more (tail_to {n = 0} f (same g.exact) (λ x. same (h x).exact) ends ends c o).here (λ ld. within_self f1) (λ e. e) n g h
+
+  -- a repetition, where the kinds depend on the value before each turn
+  pub many_solid_to : {A : Type 0} (ks : A → List ℕ) {f : A → List ℕ} {m : A → A → List ℕ} {more : A → List ℕ} {step : A → Syntax T A} → LoopFits A ks f m more → ((x : A) → within (ks x) (f x) ≡ true) → (n : ℕ) → ((x : A) → IsSolid K n (step x) true false (f x) (m x)) → (x : A) → IsSolid K n (many K ks step x) false true (ks x) more
+  many_solid_to {A} ks {f} {m} {more} {step} fit o zero g x = solid_zero false (λ h. absurd cc) (many_exact K ks f m more fit step (λ y. (g y).exact) x)
+  many_solid_to {A} ks {f} {m} {more} {step} fit o (suc n) g x =
+      let rest : (y : A) → IsSolid K n (many K ks step y) false true (ks y) more = λ y. many_solid_to ks fit o n (λ z. lower n (omega arith) (g z)) y in
+      let once = after_solid (step x) (λ y. many K ks step y) true false false true (f x) ks (m x) (λ _. more) false (f x) more (turn_exact K ks f m more fit step (λ y. (g y).exact) x) (λ _. within_self (f x)) (λ e. e) n refl (g x) rest in
+      as_parsed (many_is K ks f m more fit step (λ y. (g y).exact) x) (many_exact K ks f m more fit step (λ y. (g y).exact) x)
+        (choice_solid (ks x) (step x then λ y. many K ks step y) (gives x) false true (f x) [] more (λ _. []) true (ks x) more (turned_exact K ks f m more fit step (λ y. (g y).exact) x) (fit.taken x) (o x) refl (within_joined (ks x) (f x) [] (o x)) (λ h. absurd cc) (suc n) once (gives_solid x))
+
+  pub widened_solid : {A : Type 0} {n : ℕ} {G : Syntax T A} {lead null : Bool} {first : List ℕ} {m more : A → List ℕ} → IsSolid K n G lead null first m → ((x : A) → within (m x) (more x) ≡ true) → IsSolid K n G lead null first more
+  widened_solid {A} {n} {G} {lead} {null} {first} {m} {more} g e = record { exact = (widened {n = 0} (same g.exact) e).here; led = g.led; opens = g.opens; cut = g.cut }
 
   -- where a token can't follow, what stands before it is no reading
   pub no_reading : {A : Type 0} (G : Syntax T A) (lead null : Bool) (first : List ℕ) (more : A → List ℕ) → ((n : ℕ) → IsSolid K n G lead null first more) → (ts : List T) (m : ℕ) (f r : List T) → G.parse ts ≡ Err (At m) → ts ≡ f ++ r → m ≡ length r → (x : A) → G.reads f x → ⊥
@@ -237,3 +317,9 @@ module _ {T : Type 0} {K : T → ℕ} where
       let c = w.cut ts m f r (omega arith) e s l in
       let a : (G.parse f ≡ Ok (x, [])) ⊎ Late (G.parse f) 1 = subst (λ (v : List T). (G.parse v ≡ Ok (x, [])) ⊎ Late (G.parse v) 1) (append-nil f) (w.exact.again f x [] is refl) in
       not_read (G.parse f) x 1 c a
+
+  -- where a token can't follow, the tokens before it are no reading
+  pub unread : {A : Type 0} (G : Syntax T A) (lead null : Bool) (first : List ℕ) (more : A → List ℕ) → ((n : ℕ) → IsSolid K n G lead null first more) → (text : List T) (n : ℕ) → G.parse text ≡ Err (At n) → Unread G text n
+  unread G lead null first more g text n e =
+      let w = refused_at G null first more (g 0).exact text n e in
+      record { refused = w; unread = no_reading G lead null first more g text n w.front w.rest e w.longest.parts w.place }

@@ -1,8 +1,9 @@
 -- From exactness to what the answers mean.
-use Rattle.std.proofs.Common.{◌≡◌, ℕ, zero, suc, ◌<◌, ◌≤◌, Bool, List, [], ◌∷◌, ◌++◌, length, Result, Ok, Err, refl, sym, ap, subst, ◌∙◌, ◌⊎◌, inl, inr, append_assoc, arith, length-append}
+use Rattle.std.proofs.Common.{◌≡◌, ℕ, suc, ◌≤◌, Bool, List, [], ◌∷◌, ◌++◌, length, drop, ◌-◌, Result, Ok, Err, refl, sym, ap, subst, ◌∙◌, ◌⊎◌, inl, inr, arith, length-append}
 use Rattle.std.proofs.lemmas.List.{append-nil}
-use Rattle.grammar.specs.Syntax.{Syntax, Fault, At, Over, sees}
-use Rattle.grammar.specs.Exact.{SameHead, Takes, Fails, Overs, Late, RunsOut, IsExact, WithinLimits, Accepts, StopsAt, Found, RefusedAt, RefusedOver, Refused, AtMostOne, FrontsBegin, ReadsAccepted, AcceptsRead}
+use Rattle.std.proofs.Math.Seq.{drop-append_seam}
+use Rattle.grammar.specs.Syntax.{Syntax, Fault, At, Over}
+use Rattle.grammar.specs.Exact.{SameHead, Late, RunsOut, IsExact, WithinLimits, Found, RefusedAt, RefusedOver, Refused, AtMostOne, FrontsBegin, ReadsAccepted, AcceptsRead}
 use Rattle.grammar.proofs.Parts.{ok_is}
 
 head_only : {T : Type 0} (t : T) (ts r : List T) → r ≡ t ∷ ts → SameHead r (t ∷ [])
@@ -19,6 +20,11 @@ refusal f = Err f
 
 over_is : {T A : Type 0} (n m : ℕ) → refusal {T = T} {A = A} (Over n) ≡ refusal (Over m) → n ≡ m
 over_is n m e = cc
+
+dropped : {T : Type 0} (front rest ts : List T) → ts ≡ front ++ rest → rest ≡ drop (length ts - length rest) ts
+dropped front rest ts e =
+    let l : length ts - length rest ≡ length front = omega (arith, ap length e, length-append front rest) in
+    rw (l, e) (sym (drop-append_seam front rest))
 
 module _ {T : Type 0} {K : T → ℕ} {A : Type 0} (G : Syntax T A) (null : Bool) (first : List ℕ) (more : A → List ℕ) (g : IsExact K G null first more) where
   within_ok : (text : List T) (x : A × List T) → G.parse text ≡ Ok x → WithinLimits G text
@@ -37,9 +43,9 @@ module _ {T : Type 0} {K : T → ℕ} {A : Type 0} (G : Syntax T A) (null : Bool
           parts = t.parts;
           begun = g.begins t.front x t.is;
           ended = λ u us r b.
-            let stops : G.parse (t.front ++ (u ∷ [])) ≡ Ok (x, u ∷ []) = t.local (u ∷ []) (head_only u us rest r) in
-            let none : u ∷ [] ≡ [] = runs_ok (G.parse (t.front ++ (u ∷ []))) x (u ∷ []) stops (g.runs (t.front ++ (u ∷ [])) b) in
-            cc;
+              let stops : G.parse (t.front ++ (u ∷ [])) ≡ Ok (x, u ∷ []) = t.local (u ∷ []) (head_only u us rest r) in
+              let none : u ∷ [] ≡ [] = runs_ok (G.parse (t.front ++ (u ∷ []))) x (u ∷ []) stops (g.runs (t.front ++ (u ∷ [])) b) in
+              cc;
         };
         within = within_ok text (x, rest) e;
       }
@@ -54,9 +60,9 @@ module _ {T : Type 0} {K : T → ℕ} {A : Type 0} (G : Syntax T A) (null : Bool
           parts = t.parts;
           begun = t.is;
           ended = λ u us r b.
-            let stops : G.parse (t.front ++ (u ∷ [])) ≡ Err (At 1) = t.local (u ∷ []) (head_only u us t.rest r) in
-            let none : 1 ≡ 0 = runs_at (G.parse (t.front ++ (u ∷ []))) 1 stops (g.runs (t.front ++ (u ∷ [])) b) in
-            absurd (omega (arith, none));
+              let stops : G.parse (t.front ++ (u ∷ [])) ≡ Err (At 1) = t.local (u ∷ []) (head_only u us t.rest r) in
+              let none : 1 ≡ 0 = runs_at (G.parse (t.front ++ (u ∷ []))) 1 stops (g.runs (t.front ++ (u ∷ [])) b) in
+              absurd (omega (arith, none));
         };
         place = t.left;
         within = within_at text n e;
@@ -117,3 +123,18 @@ module _ {T : Type 0} {K : T → ℕ} {A : Type 0} (G : Syntax T A) (null : Bool
   -- where no limit is passed, a reading of tokens is the only one
   pub one_reading : (ts : List T) (x y : A) → WithinLimits G ts → G.reads ts x → G.reads ts y → x ≡ y
   one_reading ts x y w r s = at_most_one ts x y (record { reading = r; within = w }) (record { reading = s; within = w })
+
+  -- ---- where the places lie
+
+  -- what is left is the end of the text
+  pub rest_is : (ts : List T) (x : A) (rest : List T) → G.parse ts ≡ Ok (x, rest) → rest ≡ drop (length ts - length rest) ts
+  rest_is ts x rest e = let t = g.takes ts x rest e in dropped t.front rest ts t.parts
+
+  pub rest_within_text : (ts : List T) (x : A) (rest : List T) → G.parse ts ≡ Ok (x, rest) → length rest ≤ length ts
+  rest_within_text ts x rest e = let t = g.takes ts x rest e in omega (arith, ap length t.parts, length-append t.front rest)
+
+  pub at_within : (ts : List T) (n : ℕ) → G.parse ts ≡ Err (At n) → n ≤ length ts
+  at_within ts n e = let t = g.fails ts n e in let l = t.left in omega (arith, ap length t.parts, length-append t.front t.rest)
+
+  pub over_within : (ts : List T) (n : ℕ) → G.parse ts ≡ Err (Over n) → n ≤ length ts
+  over_within ts n e = let t = g.overs ts n e in let l = t.left in omega (arith, ap length t.parts, length-append t.front (t.token ∷ t.rest))

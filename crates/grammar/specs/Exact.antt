@@ -67,7 +67,7 @@ pub record IsExact {T : Type 0} (K : T → ℕ) {A : Type 0} (G : Syntax T A) (n
   pub starts : (t : T) (ts : List T) → G.begun (t ∷ ts) → among (K t) first ≡ true
   pub filled : (x : A) → G.reads [] x → null ≡ true
 
--- Both are exact, H reads, begins and limits what G does, and on texts below n tokens they are read alike.
+-- Both are exact, H reads, begins and limits what G does, and on texts below n tokens they are the same.
 pub record IsGood {T : Type 0} (K : T → ℕ) {A : Type 0} (n : ℕ) (G H : Syntax T A) (null : Bool) (first : List ℕ) (more : A → List ℕ) : Type 0 where
   pub here : IsExact K G null first more
   pub there : IsExact K H null first more
@@ -75,6 +75,9 @@ pub record IsGood {T : Type 0} (K : T → ℕ) {A : Type 0} (n : ℕ) (G H : Syn
   pub begun : (a : List T) → G.begun a → H.begun a
   pub late : (a : List T) (t : T) → G.late a t → H.late a t
   pub agree : (ts : List T) → length ts < n → G.parse ts ≡ H.parse ts
+  pub reads_back : (a : List T) (x : A) → length a < n → H.reads a x → G.reads a x
+  pub begun_back : (a : List T) → length a < n → H.begun a → G.begun a
+  pub late_back : (a : List T) (t : T) → suc (length a) < n → H.late a t → G.late a t
 
 -- ---- what answers mean, in the words of the grammar
 
@@ -107,6 +110,11 @@ pub record RefusedAt {T A : Type 0} (G : Syntax T A) (text : List T) (left : ℕ
   pub longest : StopsAt G text front rest
   pub place : left ≡ length rest
   pub within : WithinLimits G text
+
+-- The same, and the tokens before that one are no reading.
+pub record Unread {T A : Type 0} (G : Syntax T A) (text : List T) (left : ℕ) : Type 0 where
+  pub refused : RefusedAt G text left
+  pub unread : (x : A) → G.reads refused.front x → ⊥
 
 -- The token with left tokens from it on can follow those before it, and is the first that passes a limit.
 pub record RefusedOver {T A : Type 0} (G : Syntax T A) (text : List T) (left : ℕ) : Type 0 where

@@ -36,11 +36,22 @@ abbrev pub one_at : {T A : Type 0} → (T → Option A) → List T → Result (A
 one_at f [] = Err (At 0)
 one_at f (t ∷ ts) = elim (f t) [ Some x ↦ Ok (x, ts) | None ↦ Err (At (suc (length ts))) ]
 
+abbrev is_empty : {T : Type 0} → List T → Bool
+is_empty [] = true
+is_empty (t ∷ ts) = false
+
 -- an answer that took more than n of the tokens passes the limit at the token behind n
 abbrev pub capped : {T A : Type 0} → ℕ → ℕ → Result (A × List T) Fault → Result (A × List T) Fault
 capped n l (Ok x) = cond (ltb (n + length x.1) l) (Err (Over (l - n))) (Ok x)
 capped n l (Err (At m)) = cond (ltb (n + m) l) (Err (Over (l - n))) (Err (At m))
 capped n l (Err (Over m)) = cond (ltb (n + m) l) (Err (Over (l - n))) (Err (Over m))
+
+-- the answer for a text of which s is the rest behind the one token too many that was read
+abbrev pub resumed : {T A : Type 0} → List T → Result (A × List T) Fault → Result (A × List T) Fault
+resumed s (Ok x) = cond (is_empty x.1) (Err (Over (suc (length s)))) (Ok (x.0, x.1 ++ s))
+resumed s (Err (At zero)) = Err (Over (suc (length s)))
+resumed s (Err (At (suc m))) = Err (At (suc m + length s))
+resumed s (Err (Over m)) = Err (Over (m + length s))
 
 module _ {T : Type 0} where
   -- nothing is a reading

@@ -1,0 +1,209 @@
+-- What is read once, where alternatives begin alike: the same production in the form that the standard gives.
+use Rattle.std.proofs.Common.{ℕ, zero, suc, Bool, List, ◌++◌, length, refl, sym, ap, ◌∙◌, inl, inr, append_assoc, arith}
+use Rattle.grammar.specs.Syntax.{Syntax, gives, ◌then◌, choice, loop, many, knot_at, knot}
+use Rattle.grammar.specs.Exact.{IsGood, Same}
+use Rattle.grammar.proofs.Bounds.{limit_good}
+use Rattle.grammar.proofs.Productions.{knot_grows}
+
+-- (U then X) | (U then Y) is U then (X | Y)
+module _ {T : Type 0} (K : T → ℕ) {A B : Type 0} (ks js : List ℕ) (U : Syntax T A) (X Y : A → Syntax T B) where
+  apart_reads : (a : List T) (y : B) → (U then λ u. choice K ks (X u) (Y u)).reads a y → (choice K js (U then X) (U then Y)).reads a y
+  apart_reads a y (b, c, x, e, r, inl s) = inl (b, c, x, e, r, s)
+  apart_reads a y (b, c, x, e, r, inr s) = inr (b, c, x, e, r, s)
+
+  apart_reads_back : (a : List T) (y : B) → (choice K js (U then X) (U then Y)).reads a y → (U then λ u. choice K ks (X u) (Y u)).reads a y
+  apart_reads_back a y (inl (b, c, x, e, r, s)) = (b, c, x, e, r, inl s)
+  apart_reads_back a y (inr (b, c, x, e, r, s)) = (b, c, x, e, r, inr s)
+
+  apart_begun : (a : List T) → (U then λ u. choice K ks (X u) (Y u)).begun a → (choice K js (U then X) (U then Y)).begun a
+  apart_begun a (inl s) = inl (inl s)
+  apart_begun a (inr (b, c, x, e, r, inl s)) = inl (inr (b, c, x, e, r, s))
+  apart_begun a (inr (b, c, x, e, r, inr s)) = inr (inr (b, c, x, e, r, s))
+
+  apart_begun_back : (a : List T) → (choice K js (U then X) (U then Y)).begun a → (U then λ u. choice K ks (X u) (Y u)).begun a
+  apart_begun_back a (inl (inl s)) = inl s
+  apart_begun_back a (inl (inr (b, c, x, e, r, s))) = inr (b, c, x, e, r, inl s)
+  apart_begun_back a (inr (inl s)) = inl s
+  apart_begun_back a (inr (inr (b, c, x, e, r, s))) = inr (b, c, x, e, r, inr s)
+
+  apart_late : (a : List T) (t : T) → (U then λ u. choice K ks (X u) (Y u)).late a t → (choice K js (U then X) (U then Y)).late a t
+  apart_late a t (inl s) = inl (inl s)
+  apart_late a t (inr (b, c, x, e, r, inl s)) = inl (inr (b, c, x, e, r, s))
+  apart_late a t (inr (b, c, x, e, r, inr s)) = inr (inr (b, c, x, e, r, s))
+
+  apart_late_back : (a : List T) (t : T) → (choice K js (U then X) (U then Y)).late a t → (U then λ u. choice K ks (X u) (Y u)).late a t
+  apart_late_back a t (inl (inl s)) = inl s
+  apart_late_back a t (inl (inr (b, c, x, e, r, s))) = inr (b, c, x, e, r, inl s)
+  apart_late_back a t (inr (inl s)) = inl s
+  apart_late_back a t (inr (inr (b, c, x, e, r, s))) = inr (b, c, x, e, r, inr s)
+
+  pub said_apart : Same (U then λ u. choice K ks (X u) (Y u)) (choice K js (U then X) (U then Y))
+  said_apart = record { reads = apart_reads; reads_back = apart_reads_back; begun = apart_begun; begun_back = apart_begun_back; late = apart_late; late_back = apart_late_back }
+
+-- U then (P then Q) is (U then P) then Q
+module _ {T : Type 0} {A B C : Type 0} (U : Syntax T A) (P : A → Syntax T B) (Q : B → Syntax T C) where
+  left_reads : (a : List T) (z : C) → (U then λ u. P u then Q).reads a z → ((U then P) then Q).reads a z
+  left_reads a z (b, c, x, e, r, (d, f, y, e2, s, t)) = (b ++ d, f, y, e ∙ ap (λ (w : List T). b ++ w) e2 ∙ sym (append_assoc b d f), (b, d, x, refl, r, s), t)
+
+  left_reads_back : (a : List T) (z : C) → ((U then P) then Q).reads a z → (U then λ u. P u then Q).reads a z
+  left_reads_back a z (b, c, y, e, (d, f, x, e2, r, s), t) = (d, f ++ c, x, e ∙ ap (λ (w : List T). w ++ c) e2 ∙ append_assoc d f c, r, (f, c, y, refl, s, t))
+
+  left_begun : (a : List T) → (U then λ u. P u then Q).begun a → ((U then P) then Q).begun a
+  left_begun a (inl s) = inl (inl s)
+  left_begun a (inr (b, c, x, e, r, inl s)) = inl (inr (b, c, x, e, r, s))
+  left_begun a (inr (b, c, x, e, r, inr (d, f, y, e2, s, t))) = inr (b ++ d, f, y, e ∙ ap (λ (w : List T). b ++ w) e2 ∙ sym (append_assoc b d f), (b, d, x, refl, r, s), t)
+
+  left_begun_back : (a : List T) → ((U then P) then Q).begun a → (U then λ u. P u then Q).begun a
+  left_begun_back a (inl (inl s)) = inl s
+  left_begun_back a (inl (inr (b, c, x, e, r, s))) = inr (b, c, x, e, r, inl s)
+  left_begun_back a (inr (b, c, y, e, (d, f, x, e2, r, s), t)) = inr (d, f ++ c, x, e ∙ ap (λ (w : List T). w ++ c) e2 ∙ append_assoc d f c, r, inr (f, c, y, refl, s, t))
+
+  left_late : (a : List T) (t : T) → (U then λ u. P u then Q).late a t → ((U then P) then Q).late a t
+  left_late a t (inl s) = inl (inl s)
+  left_late a t (inr (b, c, x, e, r, inl s)) = inl (inr (b, c, x, e, r, s))
+  left_late a t (inr (b, c, x, e, r, inr (d, f, y, e2, s, l))) = inr (b ++ d, f, y, e ∙ ap (λ (w : List T). b ++ w) e2 ∙ sym (append_assoc b d f), (b, d, x, refl, r, s), l)
+
+  left_late_back : (a : List T) (t : T) → ((U then P) then Q).late a t → (U then λ u. P u then Q).late a t
+  left_late_back a t (inl (inl s)) = inl s
+  left_late_back a t (inl (inr (b, c, x, e, r, s))) = inr (b, c, x, e, r, inl s)
+  left_late_back a t (inr (b, c, y, e, (d, f, x, e2, r, s), l)) = inr (d, f ++ c, x, e ∙ ap (λ (w : List T). w ++ c) e2 ∙ append_assoc d f c, r, inr (f, c, y, refl, s, l))
+
+  pub to_left : Same (U then λ u. P u then Q) ((U then P) then Q)
+  to_left = record { reads = left_reads; reads_back = left_reads_back; begun = left_begun; begun_back = left_begun_back; late = left_late; late_back = left_late_back }
+
+module _ {T : Type 0} (K : T → ℕ) {A : Type 0} (ks js : List ℕ) where
+  parts_read : (G G' H H' : Syntax T A) → ((a : List T) (x : A) → G.reads a x → G'.reads a x) → ((a : List T) (x : A) → H.reads a x → H'.reads a x) → (a : List T) (x : A) → (choice K ks G H).reads a x → (choice K js G' H').reads a x
+  parts_read G G' H H' f g a x (inl r) = inl (f a x r)
+  parts_read G G' H H' f g a x (inr r) = inr (g a x r)
+
+  parts_begun : (G G' H H' : Syntax T A) → ((a : List T) → G.begun a → G'.begun a) → ((a : List T) → H.begun a → H'.begun a) → (a : List T) → (choice K ks G H).begun a → (choice K js G' H').begun a
+  parts_begun G G' H H' f g a (inl r) = inl (f a r)
+  parts_begun G G' H H' f g a (inr r) = inr (g a r)
+
+  parts_late : (G G' H H' : Syntax T A) → ((a : List T) (t : T) → G.late a t → G'.late a t) → ((a : List T) (t : T) → H.late a t → H'.late a t) → (a : List T) (t : T) → (choice K ks G H).late a t → (choice K js G' H').late a t
+  parts_late G G' H H' f g a t (inl r) = inl (f a t r)
+  parts_late G G' H H' f g a t (inr r) = inr (g a t r)
+
+-- alternatives are the same where their parts are, whatever the kinds that decide
+pub both_parts : {T : Type 0} (K : T → ℕ) {A : Type 0} (ks js : List ℕ) {G G' H H' : Syntax T A} → Same G G' → Same H H' → Same (choice K ks G H) (choice K js G' H')
+both_parts K ks js {G} {G'} {H} {H'} g h = record {
+  reads = parts_read K ks js G G' H H' g.reads h.reads;
+  reads_back = parts_read K js ks G' G H' H g.reads_back h.reads_back;
+  begun = parts_begun K ks js G G' H H' g.begun h.begun;
+  begun_back = parts_begun K js ks G' G H' H g.begun_back h.begun_back;
+  late = parts_late K ks js G G' H H' g.late h.late;
+  late_back = parts_late K js ks G' G H' H g.late_back h.late_back;
+}
+
+pub unchanged : {T A : Type 0} (G : Syntax T A) → Same G G
+unchanged G = record { reads = λ a x r. r; reads_back = λ a x r. r; begun = λ a b. b; begun_back = λ a b. b; late = λ a t l. l; late_back = λ a t l. l }
+
+pub other_part : {T : Type 0} (K : T → ℕ) {A : Type 0} (ks js : List ℕ) (G : Syntax T A) {H H' : Syntax T A} → Same H H' → Same (choice K ks G H) (choice K js G H')
+other_part K ks js G h = both_parts K ks js (unchanged G) h
+
+pub joined : {T A : Type 0} {F G H : Syntax T A} → Same F G → Same G H → Same F H
+joined s t = record { reads = λ a x r. t.reads a x (s.reads a x r); reads_back = λ a x r. s.reads_back a x (t.reads_back a x r); begun = λ a b. t.begun a (s.begun a b); begun_back = λ a b. s.begun_back a (t.begun_back a b); late = λ a v l. t.late a v (s.late a v l); late_back = λ a v l. s.late_back a v (t.late_back a v l) }
+
+pub reversed : {T A : Type 0} {G H : Syntax T A} → Same G H → Same H G
+reversed s = record { reads = s.reads_back; reads_back = s.reads; begun = s.begun_back; begun_back = s.begun; late = s.late_back; late_back = s.late }
+
+-- sequences are the same where their parts are
+module _ {T A B : Type 0} where
+  sequence_reads : (G G' : Syntax T A) (H H' : A → Syntax T B) → ((a : List T) (x : A) → G.reads a x → G'.reads a x) → ((x : A) (a : List T) (y : B) → (H x).reads a y → (H' x).reads a y) → (a : List T) (y : B) → (G then H).reads a y → (G' then H').reads a y
+  sequence_reads G G' H H' f g a y (b, c, x, e, r, s) = (b, c, x, e, f b x r, g x c y s)
+
+  sequence_begun : (G G' : Syntax T A) (H H' : A → Syntax T B) → ((a : List T) (x : A) → G.reads a x → G'.reads a x) → ((a : List T) → G.begun a → G'.begun a) → ((x : A) (a : List T) → (H x).begun a → (H' x).begun a) → (a : List T) → (G then H).begun a → (G' then H').begun a
+  sequence_begun G G' H H' f g h a (inl b) = inl (g a b)
+  sequence_begun G G' H H' f g h a (inr (b, c, x, e, r, s)) = inr (b, c, x, e, f b x r, h x c s)
+
+  sequence_late : (G G' : Syntax T A) (H H' : A → Syntax T B) → ((a : List T) (x : A) → G.reads a x → G'.reads a x) → ((a : List T) (t : T) → G.late a t → G'.late a t) → ((x : A) (a : List T) (t : T) → (H x).late a t → (H' x).late a t) → (a : List T) (t : T) → (G then H).late a t → (G' then H').late a t
+  sequence_late G G' H H' f g h a t (inl b) = inl (g a t b)
+  sequence_late G G' H H' f g h a t (inr (b, c, x, e, r, s)) = inr (b, c, x, e, f b x r, h x c t s)
+
+  pub in_sequence : {G G' : Syntax T A} {H H' : A → Syntax T B} → Same G G' → ((x : A) → Same (H x) (H' x)) → Same (G then H) (G' then H')
+  in_sequence {G} {G'} {H} {H'} g h = record {
+    reads = sequence_reads G G' H H' g.reads (λ x. (h x).reads);
+    reads_back = sequence_reads G' G H' H g.reads_back (λ x. (h x).reads_back);
+    begun = sequence_begun G G' H H' g.reads g.begun (λ x. (h x).begun);
+    begun_back = sequence_begun G' G H' H g.reads_back g.begun_back (λ x. (h x).begun_back);
+    late = sequence_late G G' H H' g.reads g.late (λ x. (h x).late);
+    late_back = sequence_late G' G H' H g.reads_back g.late_back (λ x. (h x).late_back);
+  }
+
+-- ---- a repetition is no turn, or a turn and the repetition behind it
+
+module _ {T : Type 0} (K : T → ℕ) {A : Type 0} (ks : A → List ℕ) (step : A → Syntax T A) where
+  abbrev turned : A → Syntax T A
+  turned x = choice K (ks x) (step x then λ y. many K ks step y) (gives x)
+
+  many_reads : (k : ℕ) (x : A) (a : List T) (z : A) → (loop K k ks step x).reads a z → (turned x).reads a z
+  many_reads zero x a z (inl r) = absurd r
+  many_reads zero x a z (inr r) = inr r
+  many_reads (suc k) x a z (inl (b, c, y, e, r, s)) = inl (b, c, y, e, r, (k, s))
+  many_reads (suc k) x a z (inr r) = inr r
+
+  many_reads_back : (x : A) (a : List T) (z : A) → (turned x).reads a z → (many K ks step x).reads a z
+  many_reads_back x a z (inl (b, c, y, e, r, (k, s))) = (suc k, inl (b, c, y, e, r, s))
+  many_reads_back x a z (inr r) = (0, inr r)
+
+  many_begun : (k : ℕ) (x : A) (a : List T) → (loop K k ks step x).begun a → (turned x).begun a
+  many_begun zero x a (inl r) = inr r
+  many_begun zero x a (inr r) = inr r
+  many_begun (suc k) x a (inl (inl s)) = inl (inl s)
+  many_begun (suc k) x a (inl (inr (b, c, y, e, r, s))) = inl (inr (b, c, y, e, r, (k, s)))
+  many_begun (suc k) x a (inr r) = inr r
+
+  many_begun_back : (x : A) (a : List T) → (turned x).begun a → (many K ks step x).begun a
+  many_begun_back x a (inl (inl s)) = (1, inl (inl s))
+  many_begun_back x a (inl (inr (b, c, y, e, r, (k, s)))) = (suc k, inl (inr (b, c, y, e, r, s)))
+  many_begun_back x a (inr r) = (0, inr r)
+
+  many_late : (k : ℕ) (x : A) (a : List T) (t : T) → (loop K k ks step x).late a t → (turned x).late a t
+  many_late zero x a t (inl r) = absurd r
+  many_late zero x a t (inr r) = absurd r
+  many_late (suc k) x a t (inl (inl s)) = inl (inl s)
+  many_late (suc k) x a t (inl (inr (b, c, y, e, r, s))) = inl (inr (b, c, y, e, r, (k, s)))
+  many_late (suc k) x a t (inr r) = absurd r
+
+  many_late_back : (x : A) (a : List T) (t : T) → (turned x).late a t → (many K ks step x).late a t
+  many_late_back x a t (inl (inl s)) = (1, inl (inl s))
+  many_late_back x a t (inl (inr (b, c, y, e, r, (k, s)))) = (suc k, inl (inr (b, c, y, e, r, s)))
+  many_late_back x a t (inr r) = absurd r
+
+  pub many_form : (x : A) → Same (many K ks step x) (choice K (ks x) (step x then λ y. many K ks step y) (gives x))
+  many_form x = record {
+    reads = λ a z r. many_reads r.0 x a z r.1;
+    reads_back = many_reads_back x;
+    begun = λ a r. many_begun r.0 x a r.1;
+    begun_back = many_begun_back x;
+    late = λ a t r. many_late r.0 x a t r.1;
+    late_back = many_late_back x;
+  }
+
+-- ---- what stands in itself is the same as its production
+
+module _ {T : Type 0} {K : T → ℕ} {S A : Type 0} (null : Bool) (first : List ℕ) (more : A → List ℕ) (F : (S → Syntax T A) → S → Syntax T A) (step : (k : ℕ) (U U' : S → Syntax T A) → ((s : S) → IsGood K k (U s) (U' s) null first more) → (s : S) → IsGood K (suc k) (F U s) (F U' s) null first more) where
+  turn_good : (k : ℕ) (s : S) → IsGood K (suc k) (F (knot_at F k) s) (F (knot F) s) null first more
+  turn_good k s = step k (knot_at F k) (knot F) (λ u. limit_good K (λ n. knot_at F n u) null first more (λ n. knot_grows null first more F step n u) k) s
+
+  knot_reads : (k : ℕ) (s : S) (a : List T) (x : A) → (knot_at F k s).reads a x → (F (knot F) s).reads a x
+  knot_reads zero s a x r = absurd r
+  knot_reads (suc k) s a x r = (turn_good k s).reads a x r
+
+  knot_begun : (k : ℕ) (s : S) (a : List T) → (knot_at F k s).begun a → (F (knot F) s).begun a
+  knot_begun zero s a b = rw b (turn_good 0 s).there.empty
+  knot_begun (suc k) s a b = (turn_good k s).begun a b
+
+  knot_late : (k : ℕ) (s : S) (a : List T) (t : T) → (knot_at F k s).late a t → (F (knot F) s).late a t
+  knot_late zero s a t l = absurd l
+  knot_late (suc k) s a t l = (turn_good k s).late a t l
+
+  pub knot_form : (s : S) → Same (knot F s) (F (knot F) s)
+  knot_form s = record {
+    reads = λ a x r. knot_reads r.0 s a x r.1;
+    reads_back = λ a x r. (suc (length a), (turn_good (length a) s).reads_back a x (omega arith) r);
+    begun = λ a b. knot_begun b.0 s a b.1;
+    begun_back = λ a b. (suc (length a), (turn_good (length a) s).begun_back a (omega arith) b);
+    late = λ a t l. knot_late l.0 s a t l.1;
+    late_back = λ a t l. (suc (suc (length a)), (turn_good (suc (length a)) s).late_back a t (omega arith) l);
+  }
