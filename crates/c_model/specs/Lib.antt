@@ -5,6 +5,9 @@ pub mod Logic
 pub mod Meaning
 pub mod Reports
 pub mod IntPrograms
+pub mod Words
+pub mod Arguments
+pub mod WordLaws
 pub mod Growth
 pub mod Steps
 pub mod Laws
