@@ -9,3 +9,4 @@ pub mod Blocks
 pub mod Results
 pub mod Agreement
 pub mod Whole
+pub mod FirstRows

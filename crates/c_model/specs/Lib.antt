@@ -11,3 +11,6 @@ pub mod WordLaws
 pub mod Growth
 pub mod Steps
 pub mod Laws
+pub mod FirstTokens
+pub mod FirstForm
+pub mod Accepted
