@@ -5,6 +5,12 @@ pub mod Logic
 pub mod Meaning
 pub mod Reports
 pub mod IntPrograms
+pub mod Words
+pub mod Arguments
+pub mod WordLaws
+pub mod Growth
+pub mod Steps
+pub mod Laws
 pub mod FirstTokens
 pub mod FirstForm
 pub mod Accepted

@@ -2,3 +2,9 @@
 #![tactic(auto)]
 
 pub mod first_tokens;
+pub mod job;
+pub mod laws;
+pub mod words;
+
+pub use job::{FileName, Job};
+pub use words::read_words;

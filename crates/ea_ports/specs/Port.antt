@@ -6,9 +6,13 @@ use Rattle.ea_ports.specs.declared.SinkFault.{SinkFault}
 use Rattle.ea_ports.specs.declared.SinkFault.TheVariants.{Failed as sink_failed, Memory as sink_memory}
 use Rattle.ea_ports.specs.declared.Failed.{Failed}
 
+-- one more, up to the last value of a `u64`
+abbrev pub raised : ℕ → ℕ
+raised count = min (count + 1) (2 ^ 64 - 1)
+
 -- the count rose, or stands at its last value
 abbrev pub Rose : ℕ → ℕ → Type 0
-Rose before now = (before ≤ now) × (min (before + 1) (2 ^ 64 - 1) ≤ now)
+Rose before now = (before ≤ now) × (raised before ≤ now)
 
 -- these bytes behind what is told; what isn't told stays so
 abbrev pub more : Option (List ℕ) → List ℕ → Option (List ℕ)

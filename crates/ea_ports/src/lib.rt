@@ -8,9 +8,16 @@ ghost use Rattle.ea_ports.specs.Port.{Puts, FailsOnBytes, SinkCount, Takes, Sour
 use std::alloc::Global;
 use thiserror::Error;
 
+mod calls;
 mod files;
+mod host;
+mod memory;
 mod sure;
+#[cfg(test)]
+mod tests;
 
+pub use host::{FileFolder, ReadSource, WriteSink};
+pub use memory::{MemFolder, MemSink, MemSource};
 pub use sure::{SureFolder, SureSink, SureSource};
 
 /// Why a folder gives no content.

@@ -1,0 +1,227 @@
+-- From every state the output of an evaluation only grows.
+use Rattle.std.proofs.Common.{◌≡◌, ℕ, zero, suc, pos, Bool, true, false, cond, if◌then◌else◌, nat_eq, nat_lt, List, [], ◌∷◌, ◌++◌, Option, Some, None, slice_get, codes, bytes_eq, refl, sym, ap, ◌∙◌, append_assoc}
+use Rattle.std.proofs.lemmas.List.{append-nil}
+use Rattle.c_syntax.specs.declared.place.Place.{Place}
+use Rattle.c_syntax.specs.declared.types.Segment.{Segment}
+use Rattle.c_syntax.specs.Ctypes.{PlainType}
+use Rattle.c_syntax.specs.Annotations.{Annotation}
+use Rattle.c_syntax.specs.Expressions.{Expression, Number, Letter, Variable, Binary, Assign, Call, Expressions, NoExpression, Following}
+use Rattle.c_syntax.specs.Statements.{Initialiser, One, Declaration, Statement, Eval, Block, If, While, Return, ElsePart, NoElse, Else, BlockItem, Declare, Run, Asserts, BlockItems, NoItem, Then}
+use Rattle.c_syntax.specs.Programs.{Function, TranslationUnit}
+use Rattle.c_model.specs.Integers.{size_of, byte_of}
+use Rattle.c_model.specs.Memory.{Pointer, Value, Integer, Store, load, save, standard_sizes, full_at_stack_birth}
+use Rattle.c_model.specs.State.{State, Breaks, Continues, Returns, End, Leaves, Over, Undefined, Fault, Spent, Outcome, Normal, Stop, Evaluation, on_outcome, ◌>>=◌, ◌>>◌, give, stop, defined, step_from, step, print, find, start_of, object, read, put_store, write, birth_of, birth, births, frame, restored, within}
+use Rattle.c_model.specs.Logic.{Answer, Says, SaysNothing, OutOfSteps, clause, judged, check, checks}
+use Rattle.c_model.specs.Meaning.{Callee, operate_values, eval_with, place_with, evals_with, is_zero, choose, after_body, turns, declared_in, initialise, initialise_all, exec_with, else_with, item_with, items_with, put_char, library_call, call_of, body_with, main_with}
+use Rattle.c_model.specs.Growth.{output_after, Grown, Grows, CalleeGrows}
+
+pub grown_same : {A : Type 0} (o : List ℕ) (r : Outcome A) → output_after r ≡ o → Grown o r
+grown_same o r e = record { rest = []; is = e ∙ sym (append-nil o) }
+
+pub grown_onward : {A : Type 0} {o : List ℕ} (p : List ℕ) (r : Outcome A) (q : List ℕ) → p ≡ o ++ q → Grown p r → Grown o r
+grown_onward {o = o} p r q e g = record { rest = q ++ g.rest; is = g.is ∙ ap (λ l. l ++ g.rest) e ∙ append_assoc o q g.rest }
+
+pub bind_run : {A B : Type 0} (o : List ℕ) (r : Outcome A) (f : A → Evaluation B) → Grown o r → ((a : A) → Grows (f a)) → Grown o (on_outcome r f)
+bind_run o (Normal a s) f g h = grown_onward s.output (f a s) g.rest g.is ((h a).at s)
+bind_run o (Stop e s) f g h = record { rest = g.rest; is = g.is }
+
+pub grows_bind : {A B : Type 0} (m : Evaluation A) (f : A → Evaluation B) → Grows m → ((a : A) → Grows (f a)) → Grows (m >>= f)
+grows_bind m f g h = record { at = λ s. bind_run s.output (m s) f (g.at s) h }
+
+pub grows_then : {A B : Type 0} (m : Evaluation A) (f : Evaluation B) → Grows m → Grows f → Grows (m >> f)
+grows_then m f g h = grows_bind m (λ _. f) g (λ _. h)
+
+pub grows_stop : {A : Type 0} (e : End) → Grows {A = A} (stop e)
+grows_stop e = record { at = λ s. grown_same s.output _ refl }
+
+pub grows_give : {A : Type 0} (a : A) → Grows (give a)
+grows_give a = record { at = λ s. grown_same s.output _ refl }
+
+-- ---- accesses
+
+output_defined : {A : Type 0} (at : Place) (o : Option A) (s : State) → output_after (defined at o s) ≡ s.output
+output_defined at None s = refl
+output_defined at (Some a) s = refl
+
+output_written : (at : Place) (o : Option Store) (s : State) → output_after ((defined at o >>= put_store) s) ≡ s.output
+output_written at None s = refl
+output_written at (Some store) s = refl
+
+pub grows_defined : {A : Type 0} (at : Place) (o : Option A) → Grows (defined at o)
+grows_defined at o = record { at = λ s. grown_same s.output _ (output_defined at o s) }
+
+pub grows_object : (at : Place) (x : ℕ) → Grows (object at x)
+grows_object at x = record { at = λ s. grown_same s.output _ (output_defined at (start_of (find x s.scope)) s) }
+
+pub grows_read : (at : Place) (p : Pointer) (t : PlainType) → Grows (read at p t)
+grows_read at p t = record { at = λ s. grown_same s.output _ (output_defined at (load s.store p t) s) }
+
+pub grows_write : (at : Place) (p : Pointer) (t : PlainType) (v : Value) → Grows (write at p t v)
+grows_write at p t v = record { at = λ s. grown_same s.output _ (output_written at (save s.store p t v) s) }
+
+-- ---- births, calls and blocks
+
+output_birth_of : (o : Option Segment) (d : Declaration) (s : State) → output_after (birth_of o d s) ≡ s.output
+output_birth_of None d s = refl
+output_birth_of (Some full) d s = refl
+
+pub grows_births : (ds : List Declaration) → Grows (births ds)
+grows_births [] = grows_give tt
+grows_births (d ∷ ds) =
+    grows_then (birth d) (births ds) (record { at = λ s. grown_same s.output _ (output_birth_of (full_at_stack_birth standard_sizes s.store (size_of d.ctype)) d s) }) (grows_births ds)
+
+output_cond : {A : Type 0} (t : Bool) (r r' : Outcome A) (o : List ℕ) → output_after r ≡ o → output_after r' ≡ o → output_after (cond t r r') ≡ o
+output_cond true r r' o h h' = h
+output_cond false r r' o h h' = h'
+
+pub grows_frame : Grows frame
+grows_frame = record { at = λ s. grown_same s.output _ (output_cond (nat_lt s.calls 65536) _ _ s.output refl refl) }
+
+pub output_restored : {A : Type 0} (old : State) (r : Outcome A) → output_after (restored old r) ≡ output_after r
+output_restored old (Normal a s) = refl
+output_restored old (Stop e s) = refl
+
+pub grown_restored : {A : Type 0} (old : State) (o : List ℕ) (r : Outcome A) → Grown o r → Grown o (restored old r)
+grown_restored old o r g = record { rest = g.rest; is = output_restored old r ∙ g.is }
+
+pub grows_within : {A : Type 0} (m : Evaluation A) → Grows m → Grows (within m)
+grows_within m g = record { at = λ s. grown_restored s s.output (m s) (g.at s) }
+
+-- ---- annotations
+
+pub output_judged : (a : Annotation) (answer : Answer) (s : State) → output_after (judged a answer s) ≡ s.output
+output_judged a (Says true n) s = refl
+output_judged a (Says false n) s = refl
+output_judged a (SaysNothing n) s = refl
+output_judged a OutOfSteps s = refl
+
+pub grows_check : (a : Annotation) → Grows (check a)
+grows_check a = record { at = λ s. grown_same s.output _ (output_judged a (clause a.body s s.steps) s) }
+
+pub grows_checks : (annots : List Annotation) → Grows (checks annots)
+grows_checks [] = grows_give tt
+grows_checks (a ∷ rest) = grows_then (check a) (checks rest) (grows_check a) (grows_checks rest)
+
+-- ---- choices and loops
+
+pub grows_choose : {A : Type 0} (v : Value) (a b : Evaluation A) → Grows a → Grows b → Grows (choose v a b)
+grows_choose v a b f g = by (is_zero v)
+  where
+    by : (t : Bool) → Grows (cond t b a)
+    by true = g
+    by false = f
+
+output_step_from : (n : ℕ) (s : State) → output_after (step_from n s) ≡ s.output
+output_step_from zero s = refl
+output_step_from (suc n) s = refl
+
+pub grows_step : Grows step
+grows_step = record { at = λ s. grown_same s.output _ (output_step_from s.steps s) }
+
+pub body_run : (o : List ℕ) (r : Outcome (Unit {0})) (again : Evaluation (Unit {0})) → Grown o r → Grows again → Grown o (after_body r again)
+body_run o (Normal u s) again g h = grown_onward s.output (again s) g.rest g.is (h.at s)
+body_run o (Stop (Leaves Continues) s) again g h = grown_onward s.output (again s) g.rest g.is (h.at s)
+body_run o (Stop (Leaves Breaks) s) again g h = record { rest = g.rest; is = g.is }
+body_run o (Stop (Leaves (Returns v)) s) again g h = record { rest = g.rest; is = g.is }
+body_run o (Stop (Over e) s) again g h = record { rest = g.rest; is = g.is }
+
+pub grows_turns : (n : ℕ) (test : Evaluation Value) (body : Evaluation (Unit {0})) → Grows test → Grows body → Grows (turns n test body)
+grows_turns zero test body t b = grows_stop (Over Spent)
+grows_turns (suc n) test body t b =
+    grows_bind test _ t (λ v. grows_choose v _ _ (grows_bind step (λ _ s. after_body (body s) (turns n test body)) grows_step (λ _. record { at = λ s. body_run s.output (body s) (turns n test body) (b.at s) (grows_turns n test body t b) })) (grows_give tt))
+
+-- ---- expressions
+
+pub grows_place : (e : Expression) (call : Callee) → Grows (place_with e call)
+grows_place (Variable at t x) call = grows_object at x.name
+grows_place (Number at t n k) call = grows_stop (Over (Undefined at))
+grows_place (Letter at t n) call = grows_stop (Over (Undefined at))
+grows_place (Binary at t op a b) call = grows_stop (Over (Undefined at))
+grows_place (Assign at t op a b) call = grows_stop (Over (Undefined at))
+grows_place (Call at t f args) call = grows_stop (Over (Undefined at))
+
+grows_write_give : (at : Place) (p : Pointer) (t : PlainType) (v : Value) → Grows (write at p t v >> give v)
+grows_write_give at p t v = grows_then (write at p t v) (give v) (grows_write at p t v) (grows_give v)
+
+mutual
+  pub grows_eval : (e : Expression) (call : Callee) → CalleeGrows call → Grows (eval_with e call)
+  grows_eval (Number at t n k) call h = grows_give (Integer n)
+  grows_eval (Letter at t n) call h = grows_give (Integer n)
+  grows_eval (Variable at t x) call h = grows_bind _ _ (grows_object at x.name) (λ p. grows_read at p t)
+  grows_eval (Binary at t op a b) call h =
+      grows_bind _ _ (grows_eval a call h) (λ x. grows_bind _ _ (grows_eval b call h) (λ y. grows_defined at (operate_values t op x y)))
+  grows_eval (Assign at t None a b) call h =
+      grows_bind _ _ (grows_place a call) (λ p. grows_bind _ _ (grows_eval b call h) (λ v. grows_write_give at p t v))
+  grows_eval (Assign at t (Some op) a b) call h =
+      grows_bind _ _ (grows_place a call) (λ p. grows_bind _ _ (grows_read at p t) (λ x. grows_bind _ _ (grows_eval b call h) (λ y. grows_bind _ _ (grows_defined at (operate_values t op x y)) (λ v. grows_write_give at p t v))))
+  grows_eval (Call at t f args) call h = grows_bind _ _ (grows_evals args call h) (λ vs. h at f vs)
+
+  pub grows_evals : (es : Expressions) (call : Callee) → CalleeGrows call → Grows (evals_with es call)
+  grows_evals NoExpression call h = grows_give []
+  grows_evals (Following e es) call h =
+      grows_bind _ _ (grows_eval e call h) (λ v. grows_bind _ _ (grows_evals es call h) (λ vs. grows_give (v ∷ vs)))
+
+-- ---- statements
+
+pub grows_initialise : (d : Declaration) (i : Option (Place × Initialiser)) (call : Callee) → CalleeGrows call → Grows (initialise d i call)
+grows_initialise d None call h = grows_give tt
+grows_initialise d (Some (at, One e)) call h =
+    grows_bind _ _ (grows_object at d.name) (λ p. grows_bind _ _ (grows_eval e call h) (λ v. grows_write at p d.ctype v))
+
+pub grows_initialise_all : (ds : List Declaration) (call : Callee) → CalleeGrows call → Grows (initialise_all ds call)
+grows_initialise_all [] call h = grows_give tt
+grows_initialise_all (d ∷ ds) call h = grows_then _ _ (grows_initialise d d.init call h) (grows_initialise_all ds call h)
+
+mutual
+  pub grows_exec : (a : Statement) (call : Callee) (n : ℕ) → CalleeGrows call → Grows (exec_with a call n)
+  grows_exec (Eval at e) call n h = grows_then _ _ (grows_eval e call h) (grows_give tt)
+  grows_exec (Block at items) call n h = grows_within _ (grows_then _ _ (grows_births (declared_in items)) (grows_items items call n h))
+  grows_exec (If at e a b) call n h = grows_bind _ _ (grows_eval e call h) (λ v. grows_choose v _ _ (grows_exec a call n h) (grows_else b call n h))
+  grows_exec (While at annots e a) call n h = grows_turns n _ _ (grows_eval e call h) (grows_exec a call n h)
+  grows_exec (Return at None) call n h = grows_stop (Leaves (Returns None))
+  grows_exec (Return at (Some e)) call n h = grows_bind _ _ (grows_eval e call h) (λ v. grows_stop (Leaves (Returns (Some v))))
+
+  pub grows_else : (b : ElsePart) (call : Callee) (n : ℕ) → CalleeGrows call → Grows (else_with b call n)
+  grows_else NoElse call n h = grows_give tt
+  grows_else (Else a) call n h = grows_exec a call n h
+
+  pub grows_item : (i : BlockItem) (call : Callee) (n : ℕ) → CalleeGrows call → Grows (item_with i call n)
+  grows_item (Declare ds) call n h = grows_initialise_all ds call h
+  grows_item (Run a) call n h = grows_exec a call n h
+  grows_item (Asserts annots) call n h = grows_checks annots
+
+  pub grows_items : (items : BlockItems) (call : Callee) (n : ℕ) → CalleeGrows call → Grows (items_with items call n)
+  grows_items NoItem call n h = grows_give tt
+  grows_items (Then i rest) call n h = grows_then _ _ (grows_item i call n h) (grows_items rest call n h)
+
+-- ---- programs
+
+pub grows_put_char : (at : Place) (vs : List Value) → Grows (put_char at vs)
+grows_put_char at [] = grows_stop (Over (Undefined at))
+grows_put_char at (Integer z ∷ []) =
+    grows_then (print (byte_of z)) (give (Integer (pos (byte_of z)))) (record { at = λ s. record { rest = byte_of z ∷ []; is = refl } }) (grows_give _)
+grows_put_char at (v ∷ w ∷ vs) = grows_stop (Over (Undefined at))
+
+pub grows_library_call : (at : Place) (name : Option (List ℕ)) (vs : List Value) → Grows (library_call at name vs)
+grows_library_call at None vs = grows_stop (Over (Undefined at))
+grows_library_call at (Some name) vs = by (bytes_eq name (codes "putchar"))
+  where
+    by : (t : Bool) → Grows (if t then put_char at vs else stop (Over (Undefined at)))
+    by true = grows_put_char at vs
+    by false = grows_stop (Over (Undefined at))
+
+pub grows_call_of : (p : TranslationUnit) (n : ℕ) → CalleeGrows (call_of p n)
+grows_call_of p n at f vs = by (nat_eq f.decl 4294967295)
+  where
+    by : (t : Bool) → Grows (if t then library_call at (slice_get p.names f.name) vs else stop (Over (Undefined at)))
+    by true = grows_library_call at (slice_get p.names f.name) vs
+    by false = grows_stop (Over (Undefined at))
+
+pub grows_body : (body : Option Statement) (call : Callee) (n : ℕ) → CalleeGrows call → Grows (body_with body call n)
+grows_body None call n h = grows_stop (Over Fault)
+grows_body (Some a) call n h = grows_exec a call n h
+
+pub grows_main : (f : Option Function) (call : Callee) (n : ℕ) → CalleeGrows call → Grows (main_with f call n)
+grows_main None call n h = grows_stop (Over Fault)
+grows_main (Some f) call n h =
+    grows_within _ (grows_then _ _ (grows_then _ _ (grows_then _ _ grows_frame (grows_births f.params)) (record { at = λ s. grown_same s.output _ refl })) (grows_body f.body call n h))

@@ -1,0 +1,232 @@
+-- Whole runs of small programs, by computation: their ends, what they print, the steps left and the lines of their reports.
+use Rattle.std.proofs.Common.{◌≡◌, ℕ, pos, negsuc, true, List, [], ◌∷◌, ◌++◌, Some, None, codes, refl}
+use Rattle.std.specs.Fmt.{digits}
+use Rattle.c_syntax.specs.declared.place.Place.{Place}
+use Rattle.c_syntax.specs.declared.types.CInt.TheVariants.{I32}
+use Rattle.c_syntax.specs.declared.types.How.TheVariants as how
+use Rattle.c_syntax.specs.declared.expression.BinOp.{BinOp}
+use Rattle.c_syntax.specs.declared.expression.BinOp.TheVariants.{Add, Sub, Eq, Lt, Gt}
+use Rattle.c_syntax.specs.declared.annotation.Kind.TheVariants.{Assert}
+use Rattle.c_syntax.specs.declared.annotation.Range.{Range}
+use Rattle.c_syntax.specs.declared.annotation.Relation.TheVariants as relation
+use Rattle.c_syntax.specs.Ctypes.{int_type}
+use Rattle.c_syntax.specs.Expressions.{Expression, Number, Letter, Variable, Binary, Assign, Call, NoExpression, Following}
+use Rattle.c_syntax.specs.Annotations.{LogicTerm, Predicate, Chain, NoLink, Linked, Truth, Annotation}
+use Rattle.c_syntax.specs.Annotations as logic
+use Rattle.c_syntax.specs.Statements.{One, Declaration, Eval, Block, If, While, Return, Else, BlockItem, Declare, Run, Asserts, BlockItems, NoItem, Then}
+use Rattle.c_syntax.specs.Programs.{TranslationUnit}
+use Rattle.c_model.specs.State.{Input, EndOfInput, Exits, Broken, Undefined, Spent}
+use Rattle.c_model.specs.Meaning.{run}
+use Rattle.c_model.specs.Reports.{report}
+
+-- ---- trees
+
+abbrev place : ℕ → ℕ → ℕ → Place
+place line column offset = record { line = line; column = column; offset = offset }
+
+abbrev literal : Place → ℕ → Expression
+literal at n = Number at int_type (pos n) (Some I32)
+
+abbrev letter : Place → ℕ → Expression
+letter at n = Letter at int_type (pos n)
+
+-- a variable, with the number of its declaration
+abbrev variable : Place → ℕ → ℕ → Expression
+variable at name decl = Variable at int_type (record { name = name; decl = decl })
+
+abbrev binary : Place → BinOp → Expression → Expression → Expression
+binary at op a b = Binary at int_type op a b
+
+abbrev assignment : Place → Expression → Expression → Expression
+assignment at a b = Assign at int_type None a b
+
+abbrev putchar_call : Place → ℕ → Expression → Expression
+putchar_call at name e = Call at int_type (record { name = name; decl = 4294967295 }) (Following e NoExpression)
+
+abbrev int_variable : Place → ℕ → Place → Expression → Declaration
+int_variable at name equals e = record { place = at; name = name; named = true; ctype = int_type; init = Some (equals, One e) }
+
+abbrev no_range : Range
+no_range = record { lo = pos 0; hi = pos 0 }
+
+abbrev literal_term : Place → ℕ → LogicTerm
+literal_term at n = logic.Number at None no_range (pos n)
+
+abbrev variable_term : Place → ℕ → ℕ → LogicTerm
+variable_term at name decl = logic.Variable at (Some int_type) no_range (record { name = name; decl = decl })
+
+abbrev binary_term : Place → BinOp → LogicTerm → LogicTerm → LogicTerm
+binary_term at op a b = logic.Binary at None no_range op a b
+
+abbrev assertion : ℕ → Place → Predicate → Annotation
+assertion number at p = record { number = number; kind = Assert; place = at; body = Truth p }
+
+abbrev items_of : List BlockItem → BlockItems
+items_of [] = NoItem
+items_of (i ∷ rest) = Then i (items_of rest)
+
+-- a file of `main` alone: the names, the places of `main` and of its braces, and its items
+abbrev main_alone : List (List ℕ) → Place → Place → Place → List BlockItem → TranslationUnit
+main_alone names at opening closing items = record {
+  names = names;
+  texts = [];
+  structs = [];
+  enums = [];
+  typedefs = [];
+  globals = [];
+  funcs = record {
+    place = at;
+    name = 0;
+    result = int_type;
+    params = [];
+    contract = None;
+    body = Some (Block opening (items_of items));
+    close = closing;
+  } ∷ [];
+  strays = [];
+}
+
+abbrev no_input : Input
+no_input = record { bytes = []; tail = EndOfInput }
+
+-- ---- programs
+
+-- one assertion, which holds
+--     int main(void) {
+--       int x = 2;
+--       //@ assert x + 1 == 3;
+--       putchar('A');
+--       return 0;
+--     }
+abbrev adds_and_asserts : TranslationUnit
+adds_and_asserts = main_alone (codes "main" ∷ codes "x" ∷ codes "putchar" ∷ []) (place 1 5 4) (place 1 16 15) (place 6 1 83) (
+    Declare (int_variable (place 2 7 23) 1 (place 2 9 25) (literal (place 2 11 27) 2) ∷ []) ∷
+    Asserts (assertion 1 (place 3 7 36) (Chain (place 3 20 49) (binary_term (place 3 16 45) Add (variable_term (place 3 14 43) 1 23) (literal_term (place 3 18 47) 1)) (Linked (place 3 20 49) relation.Eq (literal_term (place 3 23 52) 3) NoLink)) ∷ []) ∷
+    Run (Eval (place 4 3 57) (putchar_call (place 4 10 64) 2 (letter (place 4 11 65) 65))) ∷
+    Run (Return (place 5 3 73) (Some (literal (place 5 10 80) 0))) ∷
+    [])
+
+-- two assertions, the second false
+--     int main(void) {
+--       int x = 2;
+--       putchar('A');
+--       //@ assert x == 2;
+--       //@ assert x > 2;
+--       putchar('B');
+--       return 0;
+--     }
+abbrev breaks_an_assertion : TranslationUnit
+breaks_an_assertion = main_alone (codes "main" ∷ codes "x" ∷ codes "putchar" ∷ []) (place 1 5 4) (place 1 16 15) (place 8 1 115) (
+    Declare (int_variable (place 2 7 23) 1 (place 2 9 25) (literal (place 2 11 27) 2) ∷ []) ∷
+    Run (Eval (place 3 3 32) (putchar_call (place 3 10 39) 2 (letter (place 3 11 40) 65))) ∷
+    Asserts (assertion 1 (place 4 7 52) (Chain (place 4 16 61) (variable_term (place 4 14 59) 1 23) (Linked (place 4 16 61) relation.Eq (literal_term (place 4 19 64) 2) NoLink)) ∷ []) ∷
+    Asserts (assertion 2 (place 5 7 73) (Chain (place 5 16 82) (variable_term (place 5 14 80) 1 23) (Linked (place 5 16 82) relation.Gt (literal_term (place 5 18 84) 2) NoLink)) ∷ []) ∷
+    Run (Eval (place 6 3 89) (putchar_call (place 6 10 96) 2 (letter (place 6 11 97) 66))) ∷
+    Run (Return (place 7 3 105) (Some (literal (place 7 10 112) 0))) ∷
+    [])
+
+-- a loop without end
+--     int main(void) { while (1) putchar('x'); }
+abbrev prints_for_ever : TranslationUnit
+prints_for_ever = main_alone (codes "main" ∷ codes "putchar" ∷ []) (place 1 5 4) (place 1 16 15) (place 1 42 41) (
+    Run (While (place 1 18 17) [] (literal (place 1 25 24) 1) (Eval (place 1 28 27) (putchar_call (place 1 35 34) 1 (letter (place 1 36 35) 120)))) ∷
+    [])
+
+-- an overflow of int (C99 6.5 p5)
+--     int main(void) {
+--       int x = 2147483647;
+--       putchar('A');
+--       x = x + 1;
+--       putchar('B');
+--       return 0;
+--     }
+abbrev overflows : TranslationUnit
+overflows = main_alone (codes "main" ∷ codes "x" ∷ codes "putchar" ∷ []) (place 1 5 4) (place 1 16 15) (place 7 1 96) (
+    Declare (int_variable (place 2 7 23) 1 (place 2 9 25) (literal (place 2 11 27) 2147483647) ∷ []) ∷
+    Run (Eval (place 3 3 41) (putchar_call (place 3 10 48) 2 (letter (place 3 11 49) 65))) ∷
+    Run (Eval (place 4 3 57) (assignment (place 4 5 59) (variable (place 4 3 57) 1 23) (binary (place 4 9 63) Add (variable (place 4 7 61) 1 23) (literal (place 4 11 65) 1)))) ∷
+    Run (Eval (place 5 3 70) (putchar_call (place 5 10 77) 2 (letter (place 5 11 78) 66))) ∷
+    Run (Return (place 6 3 86) (Some (literal (place 6 10 93) 0))) ∷
+    [])
+
+-- choices inside a loop, a chain of relations, and a negative exit value
+--     int main(void) {
+--       int n = 3;
+--       int s = 0;
+--       while (n > 0) {
+--         if (n == 2) {
+--           putchar('b');
+--         } else {
+--           if (n < 2) putchar('c'); else putchar('a');
+--         }
+--         s = s - n;
+--         n = n - 1;
+--       }
+--       //@ assert 0 - 7 < s <= 0 - 6 < n;
+--       return s;
+--     }
+abbrev counts_down : TranslationUnit
+counts_down = main_alone (codes "main" ∷ codes "n" ∷ codes "s" ∷ codes "putchar" ∷ []) (place 1 5 4) (place 1 16 15) (place 15 1 251) (
+    Declare (int_variable (place 2 7 23) 1 (place 2 9 25) (literal (place 2 11 27) 3) ∷ []) ∷
+    Declare (int_variable (place 3 7 36) 2 (place 3 9 38) (literal (place 3 11 40) 0) ∷ []) ∷
+    Run (While (place 4 3 45) [] (binary (place 4 12 54) Gt (variable (place 4 10 52) 1 23) (literal (place 4 14 56) 0)) (Block (place 4 17 59) (items_of (
+    Run (If (place 5 5 65) (binary (place 5 11 71) Eq (variable (place 5 9 69) 1 23) (literal (place 5 14 74) 2)) (Block (place 5 17 77) (items_of (
+    Run (Eval (place 6 7 85) (putchar_call (place 6 14 92) 3 (letter (place 6 15 93) 98))) ∷
+    []))) (Else (Block (place 7 12 110) (items_of (
+    Run (If (place 8 7 118) (binary (place 8 13 124) Lt (variable (place 8 11 122) 1 23) (literal (place 8 15 126) 2)) (Eval (place 8 18 129) (putchar_call (place 8 25 136) 3 (letter (place 8 26 137) 99))) (Else (Eval (place 8 37 148) (putchar_call (place 8 44 155) 3 (letter (place 8 45 156) 97))))) ∷
+    []))))) ∷
+    Run (Eval (place 10 5 172) (assignment (place 10 7 174) (variable (place 10 5 172) 2 36) (binary (place 10 11 178) Sub (variable (place 10 9 176) 2 36) (variable (place 10 13 180) 1 23)))) ∷
+    Run (Eval (place 11 5 187) (assignment (place 11 7 189) (variable (place 11 5 187) 1 23) (binary (place 11 11 193) Sub (variable (place 11 9 191) 1 23) (literal (place 11 13 195) 1)))) ∷
+    [])))) ∷
+    Asserts (assertion 1 (place 13 7 208) (Chain (place 13 20 221) (binary_term (place 13 16 217) Sub (literal_term (place 13 14 215) 0) (literal_term (place 13 18 219) 7)) (Linked (place 13 20 221) relation.Lt (variable_term (place 13 22 223) 2 36) (Linked (place 13 24 225) relation.Le (binary_term (place 13 29 230) Sub (literal_term (place 13 27 228) 0) (literal_term (place 13 31 232) 6)) (Linked (place 13 33 234) relation.Lt (variable_term (place 13 35 236) 1 23) NoLink)))) ∷ []) ∷
+    Run (Return (place 14 3 241) (Some (variable (place 14 10 248) 2 36))) ∷
+    [])
+
+-- ---- runs
+
+run-adds_and_asserts : run adds_and_asserts no_input 10000000 ≡ record { final = Exits (pos 0); output = codes "A"; left = 10000000 }
+run-adds_and_asserts = refl
+
+run-adds_and_asserts-longer : run adds_and_asserts no_input 1000000000000 ≡ record { final = Exits (pos 0); output = codes "A"; left = 1000000000000 }
+run-adds_and_asserts-longer = refl
+
+run-breaks_an_assertion : run breaks_an_assertion no_input 10000000 ≡ record { final = Broken 2 5 Assert how.False; output = codes "A"; left = 10000000 }
+run-breaks_an_assertion = refl
+
+run-breaks_an_assertion-longer : run breaks_an_assertion no_input 1000000000000 ≡ record { final = Broken 2 5 Assert how.False; output = codes "A"; left = 1000000000000 }
+run-breaks_an_assertion-longer = refl
+
+run-overflows : run overflows no_input 10000000 ≡ record { final = Undefined (place 4 9 63); output = codes "A"; left = 10000000 }
+run-overflows = refl
+
+run-overflows-longer : run overflows no_input 1000000000000 ≡ record { final = Undefined (place 4 9 63); output = codes "A"; left = 1000000000000 }
+run-overflows-longer = refl
+
+run-counts_down : run counts_down no_input 10000000 ≡ record { final = Exits (negsuc 5); output = codes "abc"; left = 9999997 }
+run-counts_down = refl
+
+run-counts_down-longer : run counts_down no_input 1000000000000 ≡ record { final = Exits (negsuc 5); output = codes "abc"; left = 999999999997 }
+run-counts_down-longer = refl
+
+run-prints_for_ever : run prints_for_ever no_input 5 ≡ record { final = Spent; output = codes "xxxxx"; left = 0 }
+run-prints_for_ever = refl
+
+-- ---- reports
+
+report-adds_and_asserts : report (run adds_and_asserts no_input 10000000).final ≡ Some (record { status = 0; line = codes "eacsl: exit 0" ++ 10 ∷ [] })
+unfolding digits
+report-adds_and_asserts = refl
+
+report-breaks_an_assertion : report (run breaks_an_assertion no_input 10000000).final ≡ Some (record { status = 1; line = codes "eacsl: annotation 2, line 5: assert is false" ++ 10 ∷ [] })
+unfolding digits
+report-breaks_an_assertion = refl
+
+report-prints_for_ever : report (run prints_for_ever no_input 5).final ≡ Some (record { status = 5; line = codes "eacsl: steps spent" ++ 10 ∷ [] })
+report-prints_for_ever = refl
+
+report-overflows : report (run overflows no_input 10000000).final ≡ None
+report-overflows = refl
+
+report-counts_down : report (run counts_down no_input 10000000).final ≡ Some (record { status = 0; line = codes "eacsl: exit -6" ++ 10 ∷ [] })
+unfolding digits
+report-counts_down = refl

@@ -1,0 +1,18 @@
+use Rattle.c_model.proofs.Cells.{value_of_bits-bits_of}
+use Rattle.c_model.proofs.Results.{result_in-fitting, result_in-overflow, result_in-unsigned, fits-result_in}
+use Rattle.c_model.proofs.laws.integers.Goals as goal
+
+pub returns-clause-bits : goal.returns-clause-bits
+returns-clause-bits c = value_of_bits-bits_of
+
+pub returns-clause-fitting : goal.returns-clause-fitting
+returns-clause-fitting c = result_in-fitting
+
+pub returns-clause-signed : goal.returns-clause-signed
+returns-clause-signed c = result_in-overflow
+
+pub returns-clause-unsigned : goal.returns-clause-unsigned
+returns-clause-unsigned c = result_in-unsigned
+
+pub returns-clause-fits : goal.returns-clause-fits
+returns-clause-fits c = fits-result_in

@@ -1,0 +1,123 @@
+-- Laws that the definitions meet: of integers and memory, of runs, and of the order of runs.
+use Rattle.std.specs.Prelude.{◌≡◌, ℕ, ◌+◌, ◌%◌, ◌^◌, ◌<◌, ◌≤◌, ◌≢◌, ℤ, pos, true, false, List, [], ◌∷◌, length, take, drop, Option, Some, None, codes}
+use Rattle.c_syntax.specs.declared.place.Place.{Place}
+use Rattle.c_syntax.specs.declared.types.CInt.{CInt}
+use Rattle.c_syntax.specs.Ctypes.{PlainType, Int}
+use Rattle.c_syntax.specs.declared.expression.Use.{Use}
+use Rattle.c_syntax.specs.Expressions.{Expression}
+use Rattle.c_syntax.specs.Annotations.{Annotation}
+use Rattle.c_syntax.specs.Statements.{Statement, While}
+use Rattle.c_syntax.specs.Programs.{Function, TranslationUnit}
+use Rattle.c_model.specs.Integers.{size_of, fits, is_signed, value_bits, bits_of, value_of_bits, result_in}
+use Rattle.c_model.specs.Memory.{Pointer, Into, Value, Integer, Block, Store, block_at, load, save}
+use Rattle.c_model.specs.State.{Input, State, Outcome, Normal, Stop, Evaluation, ◌>>=◌, ◌>>◌, done, step}
+use Rattle.c_model.specs.Meaning.{Callee, choose, after_body, call_of, eval, exec, function_named, main_with, start, ran, run, Ran}
+use Rattle.c_model.specs.Reports.{Agrees}
+use Rattle.c_model.specs.Growth.{Grows}
+use Rattle.c_model.specs.Steps.{steps_after}
+
+-- ---- integers
+
+-- a value of a type is the value of its bits (C99 6.2.6.2)
+abbrev pub BitsHoldValues : Type 0
+BitsHoldValues = (k : CInt) (z : ℤ) → fits k z ≡ true → value_of_bits k (bits_of k z) ≡ z
+
+-- a result that the type has is the result (C99 6.5)
+abbrev pub FittingResultsStand : Type 0
+FittingResultsStand = (k : CInt) (z : ℤ) → fits k z ≡ true → result_in k z ≡ Some z
+
+-- a result that a signed type does not have is undefined (C99 6.5 p5)
+abbrev pub SignedResultsFit : Type 0
+SignedResultsFit = (k : CInt) (z : ℤ) → is_signed k ≡ true → fits k z ≡ false → result_in k z ≡ None
+
+-- an unsigned result wraps (C99 6.2.5 p9)
+abbrev pub UnsignedResultsWrap : Type 0
+UnsignedResultsWrap = (k : CInt) (n : ℕ) → is_signed k ≡ false → result_in k (pos n) ≡ Some (pos (n % 2 ^ value_bits k))
+
+-- a defined result is a value of the type
+abbrev pub ResultsFit : Type 0
+ResultsFit = (k : CInt) (z w : ℤ) → result_in k z ≡ Some w → fits k w ≡ true
+
+-- ---- memory
+
+-- each block has as many bytes as its size says
+abbrev pub AreWhole : Store → Type 0
+AreWhole [] = Unit {0}
+AreWhole (b ∷ bs) = (length b.bytes ≡ b.size) × AreWhole bs
+
+-- what is saved is loaded again (C99 6.5.16)
+abbrev pub SavedValuesLoad : Type 0
+SavedValuesLoad = (store saved : Store) (p : Pointer) (k : CInt) (z : ℤ) → AreWhole store → fits k z ≡ true → save store p (Int k) (Integer z) ≡ Some saved → load saved p (Int k) ≡ Some (Integer z)
+
+-- a save changes no other block
+abbrev pub SavesKeepBlocks : Type 0
+SavesKeepBlocks = (store saved : Store) (n offset : ℕ) (t : PlainType) (v : Value) → save store (Into n offset) t v ≡ Some saved → (m : ℕ) → m ≢ n → block_at saved m ≡ block_at store m
+
+-- the same block but for so many bytes at the offset
+pub record SameButAt (offset size : ℕ) (b written : Block) : Type 0 where
+  pub kind : written.kind ≡ b.kind
+  pub size_is : written.size ≡ b.size
+  pub live : written.live ≡ b.live
+  pub place : written.place ≡ b.place
+  pub before : take offset written.bytes ≡ take offset b.bytes
+  pub behind : drop (offset + size) written.bytes ≡ drop (offset + size) b.bytes
+
+-- a save changes no byte of its block outside the object
+abbrev pub SavesKeepBytes : Type 0
+SavesKeepBytes = (store saved : Store) (n offset : ℕ) (t : PlainType) (v : Value) → AreWhole store → save store (Into n offset) t v ≡ Some saved → (b written : Block) → block_at store n ≡ Some b → block_at saved n ≡ Some written → SameButAt offset (size_of t) b written
+
+-- a save leaves each block its number of bytes
+abbrev pub SavesKeepWhole : Type 0
+SavesKeepWhole = (store saved : Store) (p : Pointer) (t : PlainType) (v : Value) → AreWhole store → save store p t v ≡ Some saved → AreWhole saved
+
+-- the store at an outcome
+abbrev pub store_after : {A : Type 0} → Outcome A → Store
+store_after (Normal a s) = s.store
+store_after (Stop e s) = s.store
+
+-- from every state the blocks stay whole
+pub record KeepsWhole {A : Type 0} (m : Evaluation A) : Type 0 where
+  pub at : (s : State) → AreWhole s.store → AreWhole (store_after (m s))
+
+abbrev pub CalleeKeepsWhole : Callee → Type 0
+CalleeKeepsWhole call = (at : Place) (f : Use) (vs : List Value) → KeepsWhole (call at f vs)
+
+-- a statement leaves each block its number of bytes
+abbrev pub StatementsKeepWhole : Type 0
+StatementsKeepWhole = (p : TranslationUnit) (a : Statement) (n : ℕ) → KeepsWhole (exec p n a)
+
+-- ---- runs
+
+-- more turns and deeper calls than steps change nothing
+abbrev pub FuelIsEnough : Type 0
+FuelIsEnough = (p : TranslationUnit) (a : Statement) (m n : ℕ) (s : State) → s.steps < m → s.steps < n → exec p m a s ≡ exec p n a s
+
+-- no step is gained
+abbrev pub StepsFall : Type 0
+StepsFall = (p : TranslationUnit) (a : Statement) (n : ℕ) (s : State) → s.steps < n → steps_after (exec p n a s) ≤ s.steps
+
+-- a loop is one turn and then the loop again (C99 6.8.5)
+abbrev pub LoopsTurn : Type 0
+LoopsTurn = (p : TranslationUnit) (at : Place) (annots : List Annotation) (e : Expression) (a : Statement) (n : ℕ) (s : State) → s.steps < n → exec p n (While at annots e a) s ≡ (eval p n e >>= λ v. choose v (step >> λ t. after_body (exec p n a t) (exec p n (While at annots e a))) done) s
+
+-- a run is the same with any number of turns above its steps
+abbrev pub RunsNeedNoFuel : Type 0
+RunsNeedNoFuel = (p : TranslationUnit) (input : Input) (n m : ℕ) → n < m → run p input n ≡ ran (main_with (function_named p (codes "main") p.funcs) (call_of p m) m (start input n))
+
+-- the output of a call of main only grows
+abbrev pub OutputGrows : Type 0
+OutputGrows = (p : TranslationUnit) (f : Option Function) (n : ℕ) → Grows (main_with f (call_of p n) n)
+
+-- a run leaves no more steps than it had
+abbrev pub RunsSpendSteps : Type 0
+RunsSpendSteps = (p : TranslationUnit) (input : Input) (n : ℕ) → (run p input n).left ≤ n
+
+-- ---- agreement
+
+-- each run agrees with itself
+abbrev pub AgreementIsReflexive : Type 0
+AgreementIsReflexive = (a : Ran) → Agrees a a
+
+-- what agrees with a run in two steps agrees with it
+abbrev pub AgreementIsTransitive : Type 0
+AgreementIsTransitive = (a b c : Ran) → Agrees a b → Agrees b c → Agrees a c

@@ -1,0 +1,41 @@
+//! The laws that the definitions meet, one function for each subject. None of them has anything to do.
+
+ghost use Rattle.c_model.specs.Laws.{BitsHoldValues, FittingResultsStand, SignedResultsFit, UnsignedResultsWrap, ResultsFit};
+ghost use Rattle.c_model.specs.Laws.{SavedValuesLoad, SavesKeepBlocks, SavesKeepBytes, SavesKeepWhole, StatementsKeepWhole};
+ghost use Rattle.c_model.specs.Laws.{FuelIsEnough, StepsFall, LoopsTurn, RunsNeedNoFuel, RunsSpendSteps, OutputGrows};
+ghost use Rattle.c_model.specs.Laws.{AgreementIsReflexive, AgreementIsTransitive};
+
+/// Integers: a value is the value of its bits, a result that fits stands, one that does not is undefined in a signed
+/// type and wraps in an unsigned one.
+pub fn integers()
+    ensures bits { BitsHoldValues }
+    ensures fitting { FittingResultsStand }
+    ensures signed { SignedResultsFit }
+    ensures unsigned { UnsignedResultsWrap }
+    ensures fits { ResultsFit }
+{}
+
+/// Memory: what is saved is loaded again, and a save changes nothing else.
+pub fn memory()
+    ensures loads { SavedValuesLoad }
+    ensures blocks { SavesKeepBlocks }
+    ensures bytes { SavesKeepBytes }
+    ensures whole { SavesKeepWhole }
+    ensures statements { StatementsKeepWhole }
+{}
+
+/// Runs: more turns and deeper calls than steps change nothing, no step is gained, and the output only grows.
+pub fn runs()
+    ensures fuel { FuelIsEnough }
+    ensures steps { StepsFall }
+    ensures loops { LoopsTurn }
+    ensures run { RunsNeedNoFuel }
+    ensures left { RunsSpendSteps }
+    ensures output { OutputGrows }
+{}
+
+/// Agreement of runs: each agrees with itself, and what agrees with a run in two steps agrees with it.
+pub fn agreement()
+    ensures reflexive { AgreementIsReflexive }
+    ensures transitive { AgreementIsTransitive }
+{}
