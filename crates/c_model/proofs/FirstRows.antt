@@ -13,9 +13,9 @@ at line column offset = record { line = line; column = column; offset = offset }
 
 -- names by first use behind `main`, numbers, characters, and the two ends of an annotation
 small_text : tokens_of (codes "x1 <= 10;//@assert x1") ≡ Some (record {
-    names = codes "main" ∷ codes "x1" ∷ [];
-    list = token (at 1 1 0) (Name 1) ∷ token (at 1 4 3) (Fixed LessEqual) ∷ token (at 1 7 6) (Number 10) ∷ token (at 1 9 8) (Fixed Semicolon)
+  names = codes "main" ∷ codes "x1" ∷ [];
+  list = token (at 1 1 0) (Name 1) ∷ token (at 1 4 3) (Fixed LessEqual) ∷ token (at 1 7 6) (Number 10) ∷ token (at 1 9 8) (Fixed Semicolon)
       ∷ token (at 1 10 9) (Fixed AnnotOpen) ∷ token (at 1 13 12) (Fixed Assert) ∷ token (at 1 20 19) (Name 1) ∷ token (at 1 22 21) (Fixed AnnotClose) ∷ [];
-  })
+})
 unfolding tokens_of build cut add piece_at word_at word_of number_at literal_of digits_from letter_at keywords reserved_words reserved_prefixes
 small_text = refl
