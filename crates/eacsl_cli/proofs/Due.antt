@@ -34,7 +34,7 @@ reported said status line bytes sent final left b e =
     let h : said ≡ record { status = status; line = line } = cc in
     rw (h, b) refl
 
-status_of : (said : Report) (status : ℕ) (line : List ℕ) → Some said ≡ Some (record { status = status; line = line }) → said.status ≡ status
+pub status_of : (said : Report) (status : ℕ) (line : List ℕ) → Some said ≡ Some (record { status = status; line = line }) → said.status ≡ status
 status_of said status line e =
     let h : said ≡ record { status = status; line = line } = cc in
     ap (λ x. x.status) h
