@@ -31,23 +31,23 @@ no_job e f = absurd cc
 -- what the folder tells of the one file
 told_text : {files : List ℕ → Option (List ℕ)} {content : Option (List ℕ → Option (List ℕ))} {file file' text text' : List ℕ} → content ≡ Some files → files file ≡ Some text → file' ≡ file → IfSome content (λ f. f file' ≡ Some text') → text' ≡ text
 told_text {files} {file = file} {file'} {text} {text'} c h e i =
-  let j : IfSome (Some files) (λ f. f file' ≡ Some text') = subst (λ o. IfSome o (λ f. f file' ≡ Some text')) c i in
-  let k : files file ≡ Some text' = subst (λ x. files x ≡ Some text') e j in
-  cc
+    let j : IfSome (Some files) (λ f. f file' ≡ Some text') = subst (λ o. IfSome o (λ f. f file' ≡ Some text')) c i in
+    let k : files file ≡ Some text' = subst (λ x. files x ≡ Some text') e j in
+    cc
 
 told_none : {files : List ℕ → Option (List ℕ)} {content : Option (List ℕ → Option (List ℕ))} {file file' text : List ℕ} → content ≡ Some files → files file ≡ Some text → file' ≡ file → IfSome content (λ f. f file' ≡ None) → ⊥
 told_none {files} {file = file} {file'} {text} c h e i =
-  let j : IfSome (Some files) (λ f. f file' ≡ None) = subst (λ o. IfSome o (λ f. f file' ≡ None)) c i in
-  let k : files file ≡ None = subst (λ x. files x ≡ None) e j in
-  absurd cc
+    let j : IfSome (Some files) (λ f. f file' ≡ None) = subst (λ o. IfSome o (λ f. f file' ≡ None)) c i in
+    let k : files file ≡ None = subst (λ x. files x ≡ None) e j in
+    absurd cc
 
 told_long : {files : List ℕ → Option (List ℕ)} {content : Option (List ℕ → Option (List ℕ))} {file file' text : List ℕ} → content ≡ Some files → files file ≡ Some text → length text ≤ file_limit → file' ≡ file → IfSome content (λ f. (bytes : List ℕ) × (f file' ≡ Some bytes) × (file_limit < length bytes)) → ⊥
 told_long {files} {file = file} {file'} {text} c h l e i =
-  let j : IfSome (Some files) (λ f. (bytes : List ℕ) × (f file' ≡ Some bytes) × (file_limit < length bytes)) = subst (λ o. IfSome o (λ f. (bytes : List ℕ) × (f file' ≡ Some bytes) × (file_limit < length bytes))) c i in
-  let k : files file ≡ Some j.0 = subst (λ x. files x ≡ Some j.0) e j.1 in
-  let t : text ≡ j.0 = cc in
-  let m : file_limit < length text = subst (λ x. file_limit < length x) (sym t) j.2 in
-  absurd (omega (arith, l, m))
+    let j : IfSome (Some files) (λ f. (bytes : List ℕ) × (f file' ≡ Some bytes) × (file_limit < length bytes)) = subst (λ o. IfSome o (λ f. (bytes : List ℕ) × (f file' ≡ Some bytes) × (file_limit < length bytes))) c i in
+    let k : files file ≡ Some j.0 = subst (λ x. files x ≡ Some j.0) e j.1 in
+    let t : text ≡ j.0 = cc in
+    let m : file_limit < length text = subst (λ x. file_limit < length x) (sym t) j.2 in
+    absurd (omega (arith, l, m))
 
 module _ {words : List (List ℕ)} {content : Option (List ℕ → Option (List ℕ))} {before now : ℕ} {left : Option (List ℕ)} where
   due_run : (files : List ℕ → Option (List ℕ)) (file : List ℕ) (steps : ℕ) (text : List ℕ) (p : TranslationUnit) (input : Input) → content ≡ Some files → job_of words ≡ Some (Run file steps false) → files file ≡ Some text → length text ≤ file_limit → Accepted text p → Steady before now → IsInput left input → (a : Answer) → IsDue words content before now left a → AnswersRun (run p input steps) a
@@ -57,8 +57,8 @@ module _ {words : List (List ℕ)} {content : Option (List ℕ → Option (List 
   due_run files file steps text p input c j h l x s i a (FolderFault file' steps' j' n e) = absurd (s n)
   due_run files file steps text p input c j h l x s i a (Refused file' steps' text' r j' h' l' n y e) = absurd (accepted_apart text p r x (subst (λ t. IsRefusal t r) (told_text c h (same_file j j') h') y))
   due_run files file steps text p input c j h l x s i a (Runs file' steps' text' q j' h' l' n y f) =
-    let same : q ≡ p = one_program text q p (subst (λ t. Accepted t q) (told_text c h (same_file j j') h') y) x in
-    subst (λ u. AnswersRun (run u input steps) a) same (subst (λ k. AnswersRun (run q input k) a) (same_steps j j') (f input i))
+      let same : q ≡ p = one_program text q p (subst (λ t. Accepted t q) (told_text c h (same_file j j') h') y) x in
+      subst (λ u. AnswersRun (run u input steps) a) same (subst (λ k. AnswersRun (run q input k) a) (same_steps j j') (f input i))
 
   due_refusal : (files : List ℕ → Option (List ℕ)) (file : List ℕ) (steps : ℕ) (text : List ℕ) (r : PlainRefusal) → content ≡ Some files → job_of words ≡ Some (Run file steps false) → files file ≡ Some text → length text ≤ file_limit → IsRefusal text r → Steady before now → (a : Answer) → IsDue words content before now left a → a ≡ refused_answer r
   due_refusal files file steps text r c j h l x s a (Usage j' n e) = absurd (no_job j j')
