@@ -1,5 +1,5 @@
 -- Of the answers due, one is left where no port failed.
-use Rattle.std.proofs.Common.{◌≡◌, ◌⊎◌, ℕ, ◌≤◌, ◌<◌, List, length, false, Option, Some, None, refl, sym, ap, ◌∙◌, subst, arith, inl, inr}
+use Rattle.std.proofs.Common.{◌≡◌, ◌⊎◌, ℕ, ◌≤◌, ◌<◌, List, length, false, Option, Some, None, sym, ap, ◌∙◌, subst, arith, inl, inr}
 use Rattle.std.specs.Prelude.{IfSome}
 use Rattle.c_syntax.specs.Programs.{TranslationUnit, PlainRefusal}
 use Rattle.c_model.specs.declared.job.Job.{Job}
@@ -7,10 +7,9 @@ use Rattle.c_model.specs.declared.job.Job.TheVariants.{Run}
 use Rattle.c_model.specs.Words.{job_of}
 use Rattle.c_model.specs.Accepted.{Accepted, IsRefusal}
 use Rattle.c_model.specs.State.{Input}
-use Rattle.c_model.specs.Meaning.{Ran, run}
-use Rattle.c_model.specs.Reports.{Report, report}
+use Rattle.c_model.specs.Meaning.{run}
+use Rattle.c_model.specs.Reports.{report}
 use Rattle.c_parser.proofs.Acceptance.{one_program, accepted_apart, one_refusal}
-use Rattle.ea_ports.specs.Port.{more, Rose, RefusalCount}
 use Rattle.eacsl_cli.specs.declared.walk.ended.Ended.{Ended}
 use Rattle.eacsl_cli.specs.declared.walk.ended.Ended.TheVariants as ended
 use Rattle.eacsl_cli.specs.Answers.{Answer, AnswersRun, refused_answer, memory_line, file_limit, IsInput, Change, IsDue, Usage, NoFile, TooLong, FolderFault, Refused, Runs, Begins, Answered, Given, OutputFault, LineFault, NoMemory, IsSaid, Whole, Failed, Wanting}

@@ -138,7 +138,11 @@ fn a_run_stops_where_arithmetic_is_undefined(rt: HostRuntime) -> Result<(), Allo
         "run a.c",
         b"int main(void) {\n  int x = 2147483647;\n  //@ assert x + 1 > x;\n  putchar('A');\n  x = x + 1;\n  putchar('B');\n}",
         &NONE,
-        &Wanted { status: 5, output: b"A", line: b"eacsl: steps spent\n" },
+        &Wanted {
+            status: 5,
+            output: b"A",
+            line: b"eacsl: steps spent\n",
+        },
     )
 }
 

@@ -1,4 +1,4 @@
-use Rattle.std.proofs.Common.{◌≡◌, refl, map, Option, Some, None, ◌∙◌, string_bytes}
+use Rattle.std.proofs.Common.{◌≡◌, refl, map, Some, None, ◌∙◌, string_bytes}
 use Rattle.c_model.specs.Words.{job_of}
 use Rattle.eacsl_cli.proofs.Jobs.{memory_said, usage_said, missing_said, too_long_said, fault_said, file_answered}
 use Rattle.eacsl_cli.proofs.Soundness.{sound}
