@@ -8,3 +8,5 @@ pub mod IntPrograms
 pub mod Growth
 pub mod Steps
 pub mod Laws
+pub mod Operators
+pub mod Ranges

@@ -1,0 +1,53 @@
+-- Laws of ranges: for operands in their ranges, the operator's value lies in its range.
+use Rattle.std.specs.Prelude.{◌≡◌, ℕ, ◌^◌, ℤ, pos, negsuc, neg_ℤ, ◌+ℤ◌, ◌-ℤ◌, ◌*ℤ◌, ◌≤ℤ◌, true, Option, Some, FitsSigned}
+use Rattle.std.specs.Int as int
+use Rattle.c_syntax.specs.declared.annotation.Range.{Range}
+use Rattle.c_syntax.specs.declared.types.CInt.{CInt}
+use Rattle.c_syntax.specs.declared.types.Width.{Width}
+use Rattle.c_syntax.specs.declared.types.Width.TheVariants.{W32, W64, W128}
+use Rattle.c_model.specs.Integers.{int_size, fits}
+use Rattle.c_model.specs.Operators.{complement}
+use Rattle.c_model.specs.Ranges.{LiesIn, IsWithin128, sum_range, difference_range, negation_range, complement_range, width_of_range, wrapped}
+
+-- ---- sums and complements
+
+abbrev pub SumsLie : Type 0
+SumsLie = (a b r : Range) (x y : ℤ) → sum_range a b ≡ Some r → LiesIn a x → LiesIn b y → LiesIn r (x +ℤ y)
+
+abbrev pub DifferencesLie : Type 0
+DifferencesLie = (a b r : Range) (x y : ℤ) → difference_range a b ≡ Some r → LiesIn a x → LiesIn b y → LiesIn r (x -ℤ y)
+
+abbrev pub NegationsLie : Type 0
+NegationsLie = (a r : Range) (x : ℤ) → negation_range a ≡ Some r → LiesIn a x → LiesIn r (neg_ℤ x)
+
+abbrev pub ComplementsLie : Type 0
+ComplementsLie = (a r : Range) (x : ℤ) → complement_range a ≡ Some r → LiesIn a x → LiesIn r (complement x)
+
+-- ---- widths and conversions
+
+-- the width of the signed type of so many bits
+abbrev pub machine_width : Width → int.Width
+machine_width W32 = int.w32
+machine_width W64 = int.w64
+machine_width W128 = int.w128
+
+-- a number of a range is a value of the type of the range's width
+abbrev pub WidthsFit : Type 0
+WidthsFit = (r : Range) (x : ℤ) → IsWithin128 r → LiesIn r x → FitsSigned (machine_width (width_of_range r)) x
+
+-- a converted number is a value of the type
+abbrev pub ConversionsFit : Type 0
+ConversionsFit = (k : CInt) (x : ℤ) → fits k (wrapped k x) ≡ true
+
+-- a multiple of the number of the type's values away
+pub record IsCongruent (k : CInt) (x y : ℤ) : Type 0 where
+  pub turns : ℤ
+  pub is : x ≡ y +ℤ turns *ℤ pos (256 ^ int_size k)
+
+-- a converted number is congruent to the number (C99 6.3.1.3 p2)
+abbrev pub ConversionsAreCongruent : Type 0
+ConversionsAreCongruent = (k : CInt) (x : ℤ) → IsCongruent k x (wrapped k x)
+
+-- a value of the type is left as it is (C99 6.3.1.3 p1)
+abbrev pub ConversionsKeepValues : Type 0
+ConversionsKeepValues = (k : CInt) (x : ℤ) → fits k x ≡ true → wrapped k x ≡ x

@@ -1,0 +1,22 @@
+//! The laws that the ranges meet, one function for each subject: for operands in their ranges the operator's value lies in
+//! its range, for all unbounded integers. None of them has anything to do.
+
+ghost use Rattle.ea_num.specs.Laws.{SumsLie, DifferencesLie, NegationsLie, ComplementsLie};
+ghost use Rattle.ea_num.specs.Laws.{WidthsFit, ConversionsFit, ConversionsAreCongruent, ConversionsKeepValues};
+
+/// Sums, differences, opposites and complements.
+pub fn arithmetic()
+    ensures sums { SumsLie }
+    ensures differences { DifferencesLie }
+    ensures negations { NegationsLie }
+    ensures complements { ComplementsLie }
+{}
+
+/// Widths and conversions: a number of a range is a value of its width's type; a conversion gives the one value of the
+/// type that is congruent.
+pub fn conversions()
+    ensures widths { WidthsFit }
+    ensures fit { ConversionsFit }
+    ensures congruent { ConversionsAreCongruent }
+    ensures kept { ConversionsKeepValues }
+{}
