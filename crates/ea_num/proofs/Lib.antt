@@ -1,3 +1,5 @@
 pub mod Bounded
 pub mod Linear
 pub mod Converted
+pub mod Hull
+pub mod Multiplied

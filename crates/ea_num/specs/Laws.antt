@@ -1,13 +1,13 @@
 -- Laws of ranges: for operands in their ranges, the operator's value lies in its range.
-use Rattle.std.specs.Prelude.{◌≡◌, ℕ, ◌^◌, ℤ, pos, negsuc, neg_ℤ, ◌+ℤ◌, ◌-ℤ◌, ◌*ℤ◌, ◌≤ℤ◌, true, Option, Some, FitsSigned}
+use Rattle.std.specs.Prelude.{◌≡◌, ℕ, ◌<◌, ◌≤◌, unsigned_abs, ◌^◌, ℤ, pos, negsuc, neg_ℤ, ◌+ℤ◌, ◌-ℤ◌, ◌*ℤ◌, ◌≤ℤ◌, true, Option, Some, FitsSigned}
 use Rattle.std.specs.Int as int
 use Rattle.c_syntax.specs.declared.annotation.Range.{Range}
 use Rattle.c_syntax.specs.declared.types.CInt.{CInt}
 use Rattle.c_syntax.specs.declared.types.Width.{Width}
 use Rattle.c_syntax.specs.declared.types.Width.TheVariants.{W32, W64, W128}
 use Rattle.c_model.specs.Integers.{int_size, fits}
-use Rattle.c_model.specs.Operators.{complement}
-use Rattle.c_model.specs.Ranges.{LiesIn, IsWithin128, sum_range, difference_range, negation_range, complement_range, width_of_range, wrapped}
+use Rattle.c_model.specs.Operators.{complement, quotient, remainder}
+use Rattle.c_model.specs.Ranges.{LiesIn, IsWithin128, sum_range, difference_range, negation_range, complement_range, product_range, quotient_range, remainder_range, width_of_range, wrapped}
 
 -- ---- sums and complements
 
@@ -22,6 +22,26 @@ NegationsLie = (a r : Range) (x : ℤ) → negation_range a ≡ Some r → LiesI
 
 abbrev pub ComplementsLie : Type 0
 ComplementsLie = (a r : Range) (x : ℤ) → complement_range a ≡ Some r → LiesIn a x → LiesIn r (complement x)
+
+-- ---- products, quotients and remainders
+
+abbrev pub ProductsLie : Type 0
+ProductsLie = (a b r : Range) (x y : ℤ) → product_range a b ≡ Some r → LiesIn a x → LiesIn b y → LiesIn r (x *ℤ y)
+
+abbrev pub QuotientsLie : Type 0
+QuotientsLie = (a b r : Range) (x y z : ℤ) → quotient_range a b ≡ Some r → LiesIn a x → LiesIn b y → quotient x y ≡ Some z → LiesIn r z
+
+abbrev pub RemaindersLie : Type 0
+RemaindersLie = (a b r : Range) (x y z : ℤ) → remainder_range a b ≡ Some r → LiesIn a x → LiesIn b y → remainder x y ≡ Some z → LiesIn r z
+
+-- a quotient and its remainder make up the dividend, and the quotient is the nearest one on the side of 0 (C99 6.5.5 p6)
+pub record IsTruncated (x y q r : ℤ) : Type 0 where
+  pub whole : q *ℤ y +ℤ r ≡ x
+  pub near : unsigned_abs r < unsigned_abs y
+  pub toward_zero : unsigned_abs (q *ℤ y) ≤ unsigned_abs x
+
+abbrev pub DivisionTruncates : Type 0
+DivisionTruncates = (x y q r : ℤ) → quotient x y ≡ Some q → remainder x y ≡ Some r → IsTruncated x y q r
 
 -- ---- widths and conversions
 

@@ -2,6 +2,7 @@
 //! its range, for all unbounded integers. None of them has anything to do.
 
 ghost use Rattle.ea_num.specs.Laws.{SumsLie, DifferencesLie, NegationsLie, ComplementsLie};
+ghost use Rattle.ea_num.specs.Laws.{ProductsLie, QuotientsLie, RemaindersLie, DivisionTruncates};
 ghost use Rattle.ea_num.specs.Laws.{WidthsFit, ConversionsFit, ConversionsAreCongruent, ConversionsKeepValues};
 
 /// Sums, differences, opposites and complements.
@@ -10,6 +11,14 @@ pub fn arithmetic()
     ensures differences { DifferencesLie }
     ensures negations { NegationsLie }
     ensures complements { ComplementsLie }
+{}
+
+/// Products, quotients and remainders; division rounds toward zero.
+pub fn products()
+    ensures products { ProductsLie }
+    ensures quotients { QuotientsLie }
+    ensures remainders { RemaindersLie }
+    ensures truncates { DivisionTruncates }
 {}
 
 /// Widths and conversions: a number of a range is a value of its width's type; a conversion gives the one value of the

@@ -6,8 +6,14 @@
 #![tactic(auto)]
 
 mod arithmetic;
+mod bits;
 mod conversions;
 pub mod laws;
+mod products;
+mod shifts;
 
 pub use arithmetic::{add, flip, neg, sub};
+pub use bits::{bit_and, bit_or, bit_xor};
 pub use conversions::{width_of, wrap};
+pub use products::{div, mul, rem};
+pub use shifts::{shl, shr};
