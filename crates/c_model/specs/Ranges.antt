@@ -85,13 +85,17 @@ quotients a b =
 abbrev pub quotient_range : Range → Range → Option Range
 quotient_range a b = if int_eq a.lo least_i128 then None else bounded (quotients a b)
 
--- a remainder has the sign of the dividend, is no farther from 0 than it, and nearer to 0 than the divisor: at most d away
-abbrev pub remainders : Range → ℕ → Range
-remainders a d =
-    from_to
-    (if int_lt a.lo (pos 0) then int_max a.lo (neg_ℤ (pos d)) else pos 0)
-    (if int_lt (pos 0) a.hi then int_min a.hi (pos d) else pos 0)
+-- a remainder has the sign of the dividend, is no farther from 0 than it, and at most d away from 0
+abbrev pub least_remainder : ℤ → ℕ → ℤ
+least_remainder lo d = if int_lt lo (pos 0) then int_max lo (neg_ℤ (pos d)) else pos 0
 
+abbrev pub greatest_remainder : ℤ → ℕ → ℤ
+greatest_remainder hi d = if int_lt (pos 0) hi then int_min hi (pos d) else pos 0
+
+abbrev pub remainders : Range → ℕ → Range
+remainders a d = from_to (least_remainder a.lo d) (greatest_remainder a.hi d)
+
+-- a remainder is nearer to 0 than the divisor
 abbrev pub remainder_range : Range → Range → Option Range
 remainder_range a b = if int_eq a.lo least_i128 then None else bounded (remainders a (greatest_abs b - 1))
 
@@ -99,7 +103,7 @@ remainder_range a b = if int_eq a.lo least_i128 then None else bounded (remainde
 
 -- 2 to the power of a count, a negative one raised to 0
 abbrev pub power_of_count : ℤ → ℤ
-power_of_count k = pos (2 ^ unsigned_abs (int_max (pos 0) k))
+power_of_count k = pos (2 ^ unsigned_abs (int_max k (pos 0)))
 
 -- the products with the powers of the bounds of a count, which is at most 126
 abbrev pub shift_left_range : Range → Range → Option Range

@@ -3,3 +3,5 @@ pub mod Linear
 pub mod Converted
 pub mod Hull
 pub mod Multiplied
+pub mod Shifted
+pub mod Masked

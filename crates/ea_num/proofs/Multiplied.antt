@@ -1,16 +1,17 @@
 -- Products, quotients and remainders lie in their ranges.
-use Rattle.std.proofs.Common.{◌≡◌, ℕ, zero, suc, ◌+◌, ◌-◌, ◌*◌, ◌/◌, ◌%◌, ◌<◌, ◌≤◌, ◌^◌, ℤ, pos, negsuc, neg_ℤ, ◌+ℤ◌, ◌-ℤ◌, ◌*ℤ◌, ◌≤ℤ◌, ◌<ℤ◌, Bool, true, false, cond, max, refl, arith, ◌⊎◌, inl, inr, ◌&&◌, Option, Some, None, int_div, int_rem, unsigned_abs}
+use Rattle.std.proofs.Common.{◌≡◌, ℕ, zero, suc, ◌+◌, ◌-◌, ◌*◌, ◌/◌, ◌%◌, ◌<◌, ◌≤◌, ◌^◌, ℤ, pos, negsuc, neg_ℤ, ◌+ℤ◌, ◌-ℤ◌, ◌*ℤ◌, ◌≤ℤ◌, ◌<ℤ◌, Bool, true, false, cond, max, refl, arith, ◌⊎◌, inl, inr, ◌&&◌, Option, Some, None, int_div, int_rem, unsigned_abs, FitsSigned, to_z, of_z, sym, ap}
 use Rattle.std.specs.Prelude.{int_lt, int_le}
 use Rattle.std.specs.Ordering.{int_eq}
-use Rattle.std.specs.Int.{int_min, int_max}
-use Rattle.std.proofs.lemmas.Int.{ints, clamps, quot-rem, rem_below, unsigned_abs-mul}
+use Rattle.std.specs.Int.{w128, int_min, int_max}
+use Rattle.std.proofs.lemmas.Bool.Decides.{Decides-int_eq}
+use Rattle.std.proofs.lemmas.Int.{ints, clamps, quot-rem, rem_below, unsigned_abs-mul, to_z-of_z}
 use Rattle.std.proofs.Math.Nat.{mul-le-mul_right, div-le_self, mod-lt, mod-le, mod-add-div}
 use Rattle.std.proofs.Math.IntN.{*ℤ_comm}
 use Rattle.c_syntax.specs.declared.annotation.Range.{Range}
 use Rattle.c_model.specs.Operators.{quotient, remainder}
-use Rattle.c_model.specs.Ranges.{LiesIn, from_to, hull_of_four, product_range, quotients, quotient_range, remainders, remainder_range, greatest_abs, bounded, least_i128}
+use Rattle.c_model.specs.Ranges.{LiesIn, from_to, hull_of_four, product_range, quotients, quotient_range, least_remainder, greatest_remainder, remainders, remainder_range, greatest_abs, bounded, least_i128}
 use Rattle.ea_num.specs.Laws.{ProductsLie, QuotientsLie, RemaindersLie, IsTruncated, DivisionTruncates}
-use Rattle.ea_num.proofs.Bounded.{lies_in_bounded}
+use Rattle.ea_num.proofs.Bounded.{lies_in_bounded, bounded-within}
 use Rattle.ea_num.proofs.Hull.{Between, between_in_hull, le_trans}
 
 -- ---- products
@@ -168,3 +169,15 @@ division_truncates x y q r d e =
     let p = defined_unless_zero y (int_div x y) q d in
     let s = defined_unless_zero y (int_rem x y) r e in
     rw (← p.same, ← s.same) (record { whole = quot-rem x y; near = rem_below x y p.nonzero; toward_zero = abs-product_of_quotient x y })
+
+-- what the code of a remainder gives
+pub remainder_of_code : (a b : Range) (lo hi : ℤ) (d : ℕ) → FitsSigned w128 lo → FitsSigned w128 hi → (of_z w128 a.lo ≡ 2 ^ 127 → ⊥) → d ≡ greatest_abs b - 1 → lo ≡ least_remainder a.lo d → hi ≡ greatest_remainder a.hi d → Some (from_to (to_z w128 (of_z w128 lo)) (to_z w128 (of_z w128 hi))) ≡ remainder_range a b
+remainder_of_code a b lo hi d p q out e f g =
+    rw (to_z-of_z w128 lo p, to_z-of_z w128 hi q, not_least a.lo out, ← e, ← f, ← g) (sym (bounded-within (from_to lo hi) p q))
+  where
+    not_least : (z : ℤ) → (of_z w128 z ≡ 2 ^ 127 → ⊥) → int_eq z least_i128 ≡ false
+    not_least z far = by (int_eq z least_i128) refl
+      where
+        by : (t : Bool) → int_eq z least_i128 ≡ t → int_eq z least_i128 ≡ false
+        by true m = absurd (far (ap (of_z w128) ((Decides-int_eq z least_i128).0 m)))
+        by false m = m

@@ -1,13 +1,13 @@
 -- Laws of ranges: for operands in their ranges, the operator's value lies in its range.
-use Rattle.std.specs.Prelude.{◌≡◌, ℕ, ◌<◌, ◌≤◌, unsigned_abs, ◌^◌, ℤ, pos, negsuc, neg_ℤ, ◌+ℤ◌, ◌-ℤ◌, ◌*ℤ◌, ◌≤ℤ◌, true, Option, Some, FitsSigned}
+use Rattle.std.specs.Prelude.{◌≡◌, ℕ, ◌+◌, ◌-◌, ◌%◌, min, max, ◌<ℤ◌, ◌<◌, ◌≤◌, unsigned_abs, ◌^◌, ℤ, pos, negsuc, neg_ℤ, ◌+ℤ◌, ◌-ℤ◌, ◌*ℤ◌, ◌≤ℤ◌, true, Option, Some, FitsSigned}
 use Rattle.std.specs.Int as int
 use Rattle.c_syntax.specs.declared.annotation.Range.{Range}
 use Rattle.c_syntax.specs.declared.types.CInt.{CInt}
 use Rattle.c_syntax.specs.declared.types.Width.{Width}
 use Rattle.c_syntax.specs.declared.types.Width.TheVariants.{W32, W64, W128}
 use Rattle.c_model.specs.Integers.{int_size, fits}
-use Rattle.c_model.specs.Operators.{complement, quotient, remainder}
-use Rattle.c_model.specs.Ranges.{LiesIn, IsWithin128, sum_range, difference_range, negation_range, complement_range, product_range, quotient_range, remainder_range, width_of_range, wrapped}
+use Rattle.c_model.specs.Operators.{complement, quotient, remainder, shift_left, shift_right, bit_of, bitwise_and, bitwise_or, bitwise_xor}
+use Rattle.c_model.specs.Ranges.{LiesIn, IsWithin128, sum_range, difference_range, negation_range, complement_range, product_range, quotient_range, remainder_range, shift_left_range, shift_right_range, bitwise_and_range, bitwise_or_range, bitwise_xor_range, width_of_range, wrapped}
 
 -- ---- sums and complements
 
@@ -42,6 +42,44 @@ pub record IsTruncated (x y q r : ℤ) : Type 0 where
 
 abbrev pub DivisionTruncates : Type 0
 DivisionTruncates = (x y q r : ℤ) → quotient x y ≡ Some q → remainder x y ≡ Some r → IsTruncated x y q r
+
+-- ---- shifts
+
+abbrev pub ShiftsLeftLie : Type 0
+ShiftsLeftLie = (a k r : Range) (x y z : ℤ) → shift_left_range a k ≡ Some r → LiesIn a x → LiesIn k y → shift_left x y ≡ Some z → LiesIn r z
+
+abbrev pub ShiftsRightLie : Type 0
+ShiftsRightLie = (a k r : Range) (x y z : ℤ) → IsWithin128 a → shift_right_range a k ≡ Some r → LiesIn a x → LiesIn k y → shift_right x y ≡ Some z → LiesIn r z
+
+-- q is the greatest integer of which d times is at most x
+pub record IsFloor (x : ℤ) (d : ℕ) (q : ℤ) : Type 0 where
+  pub at_most : (q *ℤ pos d) ≤ℤ x
+  pub next_above : x <ℤ (q *ℤ pos d +ℤ pos d)
+
+-- a shift to the right rounds down
+abbrev pub ShiftsRoundDown : Type 0
+ShiftsRoundDown = (x z : ℤ) (k : ℕ) → shift_right x (pos k) ≡ Some z → IsFloor x (2 ^ k) z
+
+-- ---- bits
+
+abbrev pub AndsLie : Type 0
+AndsLie = (a b r : Range) (x y : ℤ) → IsWithin128 a → IsWithin128 b → bitwise_and_range a b ≡ Some r → LiesIn a x → LiesIn b y → LiesIn r (bitwise_and x y)
+
+abbrev pub OrsLie : Type 0
+OrsLie = (a b r : Range) (x y : ℤ) → IsWithin128 a → IsWithin128 b → bitwise_or_range a b ≡ Some r → LiesIn a x → LiesIn b y → LiesIn r (bitwise_or x y)
+
+abbrev pub XorsLie : Type 0
+XorsLie = (a b r : Range) (x y : ℤ) → IsWithin128 a → IsWithin128 b → bitwise_xor_range a b ≡ Some r → LiesIn a x → LiesIn b y → LiesIn r (bitwise_xor x y)
+
+-- an operator on bits is its operator on each bit: both, one of the two, exactly one, and not
+pub record ActOnEachBit (x y : ℤ) (i : ℕ) : Type 0 where
+  pub both : bit_of (bitwise_and x y) i ≡ min (bit_of x i) (bit_of y i)
+  pub either : bit_of (bitwise_or x y) i ≡ max (bit_of x i) (bit_of y i)
+  pub exactly_one : bit_of (bitwise_xor x y) i ≡ (bit_of x i + bit_of y i) % 2
+  pub turned : bit_of (complement x) i ≡ 1 - bit_of x i
+
+abbrev pub OperatorsActOnEachBit : Type 0
+OperatorsActOnEachBit = (x y : ℤ) (i : ℕ) → ActOnEachBit x y i
 
 -- ---- widths and conversions
 

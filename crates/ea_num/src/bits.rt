@@ -1,9 +1,10 @@
 //! Bitwise operators on infinite two's complement.
 
-ghost use Rattle.std.specs.Prelude.{◌≡◌, ℕ, ◌≤◌};
+ghost use Rattle.std.specs.Prelude.{◌≡◌, ◌-◌, ◌^◌, ◌≤◌, pos};
 ghost use Rattle.std.specs.Int.Signed.{mag};
 ghost use Rattle.c_model.specs.Ranges.{IsRange, bits_range, bits_of_both, bitwise_and_range, bitwise_or_range, bitwise_xor_range};
 
+use crate::products::is_nonnegative;
 use c_syntax::Range;
 
 /// The range of `a & b`.
@@ -12,15 +13,12 @@ pub fn bit_and(a: Range, b: Range) -> Option<Range>
     requires right { IsRange b }
     ensures { result ≡ bitwise_and_range a b }
 {
-    if a.lo >= 0 && b.lo >= 0 {
-        Some(Range { lo: 0, hi: a.hi.min(b.hi) })
-    } else if a.lo >= 0 {
-        Some(Range { lo: 0, hi: a.hi })
-    } else if b.lo >= 0 {
-        Some(Range { lo: 0, hi: b.hi })
-    } else {
-        Some(of_bits(a, b, bits_of_both(a, b)))
-    }
+    Some(match (is_nonnegative(a), is_nonnegative(b)) {
+        (true, true) => Range { lo: 0, hi: a.hi.min(b.hi) },
+        (true, false) => Range { lo: 0, hi: a.hi },
+        (false, true) => Range { lo: 0, hi: b.hi },
+        (false, false) => of_bits(a, b, bits_of_both(a, b)),
+    })
 }
 
 /// The range of `a | b`.
@@ -46,12 +44,20 @@ fn of_bits(a: Range, b: Range, bits: u32) -> Range
     requires { bits ≤ 127 }
     ensures { result ≡ bits_range a b bits }
 {
-    let hi = ((1u128 << bits) - 1) as i128;
-    if a.lo >= 0 && b.lo >= 0 {
+    let hi = greatest_of_bits(bits);
+    if is_nonnegative(a) && is_nonnegative(b) {
         Range { lo: 0, hi }
     } else {
         Range { lo: -hi - 1, hi }
     }
+}
+
+// The greatest number of so many bits.
+fn greatest_of_bits(bits: u32) -> i128
+    requires { bits ≤ 127 }
+    ensures { result ≡ pos (2 ^ bits - 1) }
+{
+    ((1u128 << bits) - 1) as i128
 }
 
 // The least number of bits that hold both ranges, without the sign bit.

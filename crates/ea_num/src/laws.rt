@@ -3,6 +3,8 @@
 
 ghost use Rattle.ea_num.specs.Laws.{SumsLie, DifferencesLie, NegationsLie, ComplementsLie};
 ghost use Rattle.ea_num.specs.Laws.{ProductsLie, QuotientsLie, RemaindersLie, DivisionTruncates};
+ghost use Rattle.ea_num.specs.Laws.{ShiftsLeftLie, ShiftsRightLie, ShiftsRoundDown};
+ghost use Rattle.ea_num.specs.Laws.{AndsLie, OrsLie, XorsLie, OperatorsActOnEachBit};
 ghost use Rattle.ea_num.specs.Laws.{WidthsFit, ConversionsFit, ConversionsAreCongruent, ConversionsKeepValues};
 
 /// Sums, differences, opposites and complements.
@@ -19,6 +21,21 @@ pub fn products()
     ensures quotients { QuotientsLie }
     ensures remainders { RemaindersLie }
     ensures truncates { DivisionTruncates }
+{}
+
+/// Shifts; a shift to the right rounds down.
+pub fn shifts()
+    ensures left { ShiftsLeftLie }
+    ensures right { ShiftsRightLie }
+    ensures rounds_down { ShiftsRoundDown }
+{}
+
+/// Operators on bits; each is its operator on each bit of infinite two's complement.
+pub fn bits()
+    ensures and { AndsLie }
+    ensures or { OrsLie }
+    ensures xor { XorsLie }
+    ensures each_bit { OperatorsActOnEachBit }
 {}
 
 /// Widths and conversions: a number of a range is a value of its width's type; a conversion gives the one value of the

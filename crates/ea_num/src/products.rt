@@ -1,7 +1,7 @@
 //! Products, quotients and remainders.
 
-ghost use Rattle.std.specs.Prelude.{◌≡◌};
-ghost use Rattle.c_model.specs.Ranges.{IsRange, product_range, quotient_range, remainder_range, greatest_abs};
+ghost use Rattle.std.specs.Prelude.{◌≡◌, ◌<◌, ◌^◌, pos, neg_ℤ, ◌≤ℤ◌, unsigned_abs};
+ghost use Rattle.c_model.specs.Ranges.{IsRange, product_range, quotient_range, remainder_range, greatest_abs, from_to};
 ghost use Rattle.c_model.specs.Ranges as ranges;
 
 use c_syntax::Range;
@@ -28,11 +28,11 @@ pub fn div(a: Range, b: Range) -> Option<Range>
     if a.lo == i128::MIN {
         return None;
     }
-    if a.lo >= 0 && b.lo >= 0 {
-        return Some(Range { lo: 0, hi: a.hi });
+    if is_nonnegative(a) && is_nonnegative(b) {
+        Some(Range { lo: 0, hi: a.hi })
+    } else {
+        Some(around_zero(greatest_abs(a)))
     }
-    let most = greatest_abs(a) as i128;
-    Some(Range { lo: -most, hi: most })
 }
 
 /// The range of `a % b`, which has the sign of `a`; none where `a` has the least number of signed 128 bits.
@@ -45,9 +45,42 @@ pub fn rem(a: Range, b: Range) -> Option<Range>
         return None;
     }
     let most = greatest_abs(b).saturating_sub(1) as i128;
-    let lo = if a.lo < 0 { a.lo.max(-most) } else { 0 };
-    let hi = if a.hi > 0 { a.hi.min(most) } else { 0 };
-    Some(Range { lo, hi })
+    Some(Range {
+        lo: least_remainder(a.lo, most),
+        hi: greatest_remainder(a.hi, most),
+    })
+}
+
+// The least remainder of dividends from `lo` on, where none is more than `most` away from 0.
+fn least_remainder(lo: i128, most: i128) -> i128
+    requires { pos 0 ≤ℤ most }
+    ensures { result ≡ ranges.least_remainder lo (unsigned_abs most) }
+{
+    if lo < 0 { lo.max(-most) } else { 0 }
+}
+
+// The greatest remainder of dividends up to `hi`, where none is more than `most` away from 0.
+fn greatest_remainder(hi: i128, most: i128) -> i128
+    requires { pos 0 ≤ℤ most }
+    ensures { result ≡ ranges.greatest_remainder hi (unsigned_abs most) }
+{
+    if hi > 0 { hi.min(most) } else { 0 }
+}
+
+// The numbers that are at most so far from 0.
+fn around_zero(most: u128) -> Range
+    requires { most < 2 ^ 127 }
+    ensures { result ≡ from_to (neg_ℤ (pos most)) (pos most) }
+{
+    let hi = most as i128;
+    Range { lo: -hi, hi }
+}
+
+// Whether the range has no negative number.
+pub(crate) fn is_nonnegative(r: Range) -> bool
+    ensures { result ≡ ranges.is_nonnegative r }
+{
+    r.lo >= 0
 }
 
 // The greatest absolute value of the range.
