@@ -24,14 +24,15 @@ use Rattle.ea_num.proofs.Hull.{le_trans}
 pub least_from-is : (test : ℕ → Bool) (more j m : ℕ) → j ≤ m → m ≤ j + more → ((i : ℕ) → j ≤ i → i < m → test i ≡ false) → test m ≡ true → least_from test more j ≡ m
 unfolding least_from
 least_from-is test zero j m l u below here = omega arith
-least_from-is test (suc more) j m l u below here = by (nat_lt j m) (test j) refl refl
+least_from-is test (suc more) j m l u below here =
+    by (λ (q : suc j ≤ m) (r : m ≤ suc j + more). least_from-is test more (suc j) m q r (λ i v w. below i (omega arith) w) here) (nat_lt j m) (test j) refl refl
   where
-    by : (s t : Bool) → nat_lt j m ≡ s → test j ≡ t → cond t j (least_from test more (suc j)) ≡ m
-    by true true p e = let q : test j ≡ false = below j (omega arith) (ltb-true j m p) in absurd cc
-    by true false p e =
+    by : (suc j ≤ m → m ≤ suc j + more → least_from test more (suc j) ≡ m) → (s t : Bool) → nat_lt j m ≡ s → test j ≡ t → cond t j (least_from test more (suc j)) ≡ m
+    by next true true p e = let q : test j ≡ false = below j (omega arith) (ltb-true j m p) in absurd cc
+    by next true false p e =
         let q : j < m = ltb-true j m p in
-        least_from-is test more (suc j) m q (omega arith) (λ i v w. below i (omega arith) w) here
-    by false t p e =
+        next q (omega arith)
+    by next false t p e =
         let q : j ≡ m = grind (arith, nat_tests) in
         let r : t ≡ true = sym e ∙ ap test q ∙ here in
         rw r q
@@ -39,11 +40,13 @@ least_from-is test (suc more) j m l u below here = by (nat_lt j m) (test j) refl
 pub least_from-holds : (test : ℕ → Bool) (more j : ℕ) → test (j + more) ≡ true → test (least_from test more j) ≡ true
 unfolding least_from
 least_from-holds test zero j here = let e : j + 0 ≡ j = omega arith in ap test (sym e) ∙ here
-least_from-holds test (suc more) j here = by (test j) refl
+least_from-holds test (suc more) j here =
+    let q : suc j + more ≡ j + suc more = omega arith in
+    by (least_from-holds test more (suc j) (ap test q ∙ here)) (test j) refl
   where
-    by : (t : Bool) → test j ≡ t → test (cond t j (least_from test more (suc j))) ≡ true
-    by true e = e
-    by false e = let q : suc j + more ≡ j + suc more = omega arith in least_from-holds test more (suc j) (ap test q ∙ here)
+    by : test (least_from test more (suc j)) ≡ true → (t : Bool) → test j ≡ t → test (cond t j (least_from test more (suc j))) ≡ true
+    by next true e = e
+    by next false e = next
 
 -- both ranges are in so many bits
 pub record BothInBits (h : ℕ) (a b : Range) : Type 0 where
