@@ -1,12 +1,12 @@
 -- Operators on bits lie in their ranges, and act on each bit.
-use Rattle.std.proofs.Common.{◌≡◌, ℕ, zero, suc, ◌+◌, ◌-◌, ◌*◌, ◌/◌, ◌%◌, ◌<◌, ◌≤◌, ◌^◌, ℤ, pos, negsuc, neg_ℤ, ◌≤ℤ◌, Bool, true, false, cond, nat_lt, min, max, refl, sym, ap, ◌∙◌, subst, arith, ◌⊎◌, inl, inr, ◌&&◌, Option, Some, None, FitsSigned, bit_and, bit_or, bit_xor}
+use Rattle.std.proofs.Common.{◌≡◌, ℕ, zero, suc, ◌+◌, ◌-◌, ◌*◌, ◌/◌, ◌%◌, ◌<◌, ◌≤◌, ◌^◌, ℤ, pos, negsuc, neg_ℤ, ◌≤ℤ◌, Bool, true, false, cond, nat_lt, min, max, refl, sym, ap, ◌∙◌, subst, arith, ◌⊎◌, inl, inr, ◌&&◌, Option, Some, None, FitsSigned, to_z, of_z, ◌-ℤ◌, bit_and, bit_or, bit_xor}
 use Rattle.std.specs.Prelude.{int_lt, int_le}
 use Rattle.std.specs.Int.{w128, int_min, int_max, bit_at}
 use Rattle.std.specs.Int.Signed.{mag}
-use Rattle.std.proofs.lemmas.Int.{ints, clamps}
+use Rattle.std.proofs.lemmas.Int.{ints, clamps, to_z_pos}
 use Rattle.std.proofs.lemmas.Bool.{ltb-true}
 use Rattle.std.proofs.lemmas.Bool.Decides.{nat_tests}
-use Rattle.std.proofs.lemmas.Nat.{pow_pos, and_le_l, and_le_r, or_lt, xor_lt, or_disjoint, leading_length}
+use Rattle.std.proofs.lemmas.Nat.{pow_pos, and_le_l, and_le_r, or_lt, xor_lt, or_disjoint, leading_length, one_shl}
 use Rattle.std.proofs.lemmas.Nat.Bits.{bit_at_and, bit_at_or, bit_at_xor, bit_at-lt, bit_at-zero, same_from_bits}
 use Rattle.std.proofs.Math.Pow.{pow_mono}
 use Rattle.std.proofs.Math.Nat.{pow-suc}
@@ -276,3 +276,39 @@ operators_act_on_each_bit (negsuc a) (negsuc b) i =
       exactly_one = omega (arith, bit_at_xor a b i);
       turned = omega arith;
     }
+
+-- ---- what the code gives
+
+power_of_code : (n : ℕ) → n ≤ 127 → (1 * 2 ^ n % 2 ^ 128 ≡ 2 ^ n) × (2 ^ n ≤ 2 ^ 127)
+power_of_code n h = (one_shl n 128 (omega arith), pow_mono h)
+
+pub greatest-fits : (n : ℕ) → n ≤ 127 → FitsSigned w128 (pos (1 * 2 ^ n % 2 ^ 128 - 1))
+greatest-fits n h = let p = power_of_code n h in record { sfits = omega (arith, p.0, p.1, pow_pos n) }
+
+pub greatest_of_code : (n : ℕ) → n ≤ 127 → to_z w128 (1 * 2 ^ n % 2 ^ 128 - 1) ≡ pos (2 ^ n - 1)
+greatest_of_code n h = let p = power_of_code n h in rw p.0 (to_z_pos w128 (2 ^ n - 1) (omega (arith, p.1, pow_pos n)))
+
+-- the numbers of so many bits, with a sign
+pub signed_bits_of_code : (a b : Range) (n : ℕ) (hi : ℤ) → n ≤ 127 → hi ≡ pos (2 ^ n - 1) → (is_nonnegative a && is_nonnegative b) ≡ false → from_to (to_z w128 (of_z w128 (to_z w128 (of_z w128 (pos 0 -ℤ to_z w128 (of_z w128 hi))) -ℤ pos 1))) (to_z w128 (of_z w128 hi)) ≡ bits_range a b n
+signed_bits_of_code a b n hi h f t =
+    let p = power_of_code n h in
+    let q = pow_pos n in
+    let e : to_z w128 (of_z w128 (to_z w128 (of_z w128 (pos 0 -ℤ to_z w128 (of_z w128 hi))) -ℤ pos 1)) ≡ neg_ℤ (pos (2 ^ n)) = omega (arith, ints, p.1) in
+    let g : to_z w128 (of_z w128 hi) ≡ pos (2 ^ n - 1) = omega (arith, ints, p.1) in
+    rw (e, g, t) refl
+
+bits_range-within : (a b : Range) (n : ℕ) → n ≤ 127 → bounded (bits_range a b n) ≡ Some (bits_range a b n)
+bits_range-within a b n h = by (is_nonnegative a && is_nonnegative b)
+  where
+    hi_fits : FitsSigned w128 (pos (2 ^ n - 1))
+    hi_fits = let p = power_of_code n h in record { sfits = omega (arith, p.1, pow_pos n) }
+
+    lo_fits : FitsSigned w128 (neg_ℤ (pos (2 ^ n)))
+    lo_fits = let p = power_of_code n h in let q : neg_ℤ (pos (2 ^ n)) ≡ negsuc (2 ^ n - 1) = omega (arith, ints, pow_pos n) in rw q (record { sfits = omega (arith, p.1, pow_pos n) })
+
+    by : (t : Bool) → bounded (cond t (from_to (pos 0) (pos (2 ^ n - 1))) (from_to (neg_ℤ (pos (2 ^ n))) (pos (2 ^ n - 1)))) ≡ Some (cond t (from_to (pos 0) (pos (2 ^ n - 1))) (from_to (neg_ℤ (pos (2 ^ n))) (pos (2 ^ n - 1))))
+    by true = bounded-within (from_to (pos 0) (pos (2 ^ n - 1))) (record { sfits = omega arith }) hi_fits
+    by false = bounded-within (from_to (neg_ℤ (pos (2 ^ n))) (pos (2 ^ n - 1))) lo_fits hi_fits
+
+pub bits_range_of_code : (a b r : Range) (n : ℕ) → n ≡ bits_of_both a b → n ≤ 127 → r ≡ bits_range a b n → Some r ≡ bounded (bits_range a b (bits_of_both a b))
+bits_range_of_code a b r n e h f = rw (← e, f) (sym (bits_range-within a b n h))

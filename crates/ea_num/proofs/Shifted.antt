@@ -3,13 +3,13 @@ use Rattle.std.proofs.Common.{◌≡◌, ℕ, zero, suc, ◌+◌, ◌-◌, ◌*�
 use Rattle.std.specs.Prelude.{int_lt, int_le}
 use Rattle.std.specs.Int.{w128, int_min, int_max}
 use Rattle.std.specs.Int.Signed.{mag}
-use Rattle.std.proofs.lemmas.Int.{ints, clamps, to_z_pos}
+use Rattle.std.proofs.lemmas.Int.{ints, clamps, to_z_pos, to_z-of_z}
 use Rattle.std.proofs.lemmas.Nat.{pow_pos, shr-shr, shr_le, le-div, one_shl}
 use Rattle.std.proofs.Math.Nat.{div-mul-le_self, div-eq_of_lt, mod-add-div, mod-lt}
 use Rattle.std.proofs.Math.Pow.{pow_mono}
 use Rattle.c_syntax.specs.declared.annotation.Range.{Range}
 use Rattle.c_model.specs.Operators.{floor_quotient, shift_left, shift_right}
-use Rattle.c_model.specs.Ranges.{LiesIn, IsWithin128, from_to, hull_of_four, product_range, power_of_count, shift_left_range, shifted_by_count, shift_right_range}
+use Rattle.c_model.specs.Ranges.{LiesIn, IsRange, IsWithin128, from_to, hull_of_four, product_range, power_of_count, shift_left_range, shifted_by_count, shift_right_range}
 use Rattle.ea_num.specs.Laws.{ShiftsLeftLie, ShiftsRightLie, IsFloor, ShiftsRoundDown}
 use Rattle.ea_num.proofs.Bounded.{lies_in_bounded}
 use Rattle.ea_num.proofs.Converted.{mag_between}
@@ -130,3 +130,13 @@ shifts_round_down x z k e = subst (IsFloor x (2 ^ k)) (some_same (floor_quotient
   where
     some_same : (u v : ℤ) → Some u ≡ Some v → u ≡ v
     some_same u v f = cc
+
+-- ---- what the code gives
+
+pub powers_of_code : (k : Range) (lo hi : ℤ) → IsRange k → FitsSigned w128 lo → FitsSigned w128 hi → lo ≡ power_of_count k.lo → hi ≡ power_of_count k.hi → IsRange (from_to (to_z w128 (of_z w128 lo)) (to_z w128 (of_z w128 hi)))
+powers_of_code k lo hi h p q e f = rw (to_z-of_z w128 lo p, to_z-of_z w128 hi q, e, f) (record { ordered = power_of_count-monotone k.lo k.hi h.ordered })
+
+pub shift_left_of_code : (a k : Range) (lo hi : ℤ) (r : Option Range) → FitsSigned w128 lo → FitsSigned w128 hi → int_lt (pos 126) k.hi ≡ false → lo ≡ power_of_count k.lo → hi ≡ power_of_count k.hi → r ≡ product_range a (from_to (to_z w128 (of_z w128 lo)) (to_z w128 (of_z w128 hi))) → r ≡ shift_left_range a k
+shift_left_of_code a k lo hi r p q small e f is =
+    let t : int_le k.hi (pos 126) ≡ true = grind (arith, ints) in
+    rw (is, to_z-of_z w128 lo p, to_z-of_z w128 hi q, e, f, t) refl

@@ -4,7 +4,7 @@ ghost use Rattle.std.specs.Prelude.{◌≡◌, ◌-◌, ◌^◌, ◌≤◌, pos}
 ghost use Rattle.std.specs.Int.Signed.{mag};
 ghost use Rattle.c_model.specs.Ranges.{IsRange, bits_range, bits_of_both, bitwise_and_range, bitwise_or_range, bitwise_xor_range};
 
-use crate::products::is_nonnegative;
+use crate::products::{are_nonnegative, is_nonnegative};
 use c_syntax::Range;
 
 /// The range of `a & b`.
@@ -45,7 +45,7 @@ fn of_bits(a: Range, b: Range, bits: u32) -> Range
     ensures { result ≡ bits_range a b bits }
 {
     let hi = greatest_of_bits(bits);
-    if is_nonnegative(a) && is_nonnegative(b) {
+    if are_nonnegative(a, b) {
         Range { lo: 0, hi }
     } else {
         Range { lo: -hi - 1, hi }

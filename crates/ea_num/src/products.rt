@@ -1,6 +1,6 @@
 //! Products, quotients and remainders.
 
-ghost use Rattle.std.specs.Prelude.{◌≡◌, ◌<◌, ◌^◌, pos, neg_ℤ, ◌≤ℤ◌, unsigned_abs};
+ghost use Rattle.std.specs.Prelude.{◌≡◌, ◌&&◌, ◌<◌, ◌^◌, pos, neg_ℤ, ◌≤ℤ◌, unsigned_abs};
 ghost use Rattle.c_model.specs.Ranges.{IsRange, product_range, quotient_range, remainder_range, greatest_abs, from_to};
 ghost use Rattle.c_model.specs.Ranges as ranges;
 
@@ -28,7 +28,7 @@ pub fn div(a: Range, b: Range) -> Option<Range>
     if a.lo == i128::MIN {
         return None;
     }
-    if is_nonnegative(a) && is_nonnegative(b) {
+    if are_nonnegative(a, b) {
         Some(Range { lo: 0, hi: a.hi })
     } else {
         Some(around_zero(greatest_abs(a)))
@@ -98,4 +98,11 @@ pub(crate) fn hull_of_four(a: i128, b: i128, c: i128, d: i128) -> Range
         lo: a.min(b).min(c.min(d)),
         hi: a.max(b).max(c.max(d)),
     }
+}
+
+// Whether neither range has a negative number.
+pub(crate) fn are_nonnegative(a: Range, b: Range) -> bool
+    ensures { result ≡ (ranges.is_nonnegative a && ranges.is_nonnegative b) }
+{
+    is_nonnegative(a) && is_nonnegative(b)
 }
