@@ -1,5 +1,5 @@
 -- Operators on unbounded integers: where each is defined, and its value (ACSL, integer terms; C99 6.5.3.3, 6.5.5, 6.5.7, 6.5.10 to 6.5.12).
-use Rattle.std.specs.Prelude.{ℕ, ◌+◌, ◌-◌, ◌/◌, ◌^◌, ℤ, pos, negsuc, ◌*ℤ◌, int_div, int_rem, if◌then◌else◌, Option, Some, None, bit_and, bit_or, bit_xor}
+use Rattle.std.specs.Prelude.{ℕ, ◌-◌, ◌/◌, ◌^◌, ℤ, pos, negsuc, ◌*ℤ◌, int_div, int_rem, if◌then◌else◌, Option, Some, None, bit_and, bit_or, bit_xor}
 use Rattle.std.specs.Ordering.{int_eq}
 use Rattle.std.specs.Int.{bit_at}
 

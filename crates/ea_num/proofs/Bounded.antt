@@ -1,10 +1,9 @@
 -- Where a range lies within signed 128 bits, and where it does not.
-use Rattle.std.proofs.Common.{◌≡◌, ℕ, ◌<◌, ◌^◌, ℤ, pos, negsuc, Bool, true, false, cond, ◌&&◌, nat_lt, Option, Some, None, FitsSigned, to_z, of_z, refl, subst, arith}
+use Rattle.std.proofs.Common.{◌≡◌, ℕ, ◌<◌, ◌^◌, ℤ, Bool, true, false, cond, ◌&&◌, Some, None, FitsSigned, to_z, of_z, refl, subst}
 use Rattle.std.specs.Int.{w128}
 use Rattle.std.specs.Int.Signed.{mag}
 use Rattle.std.proofs.lemmas.Int.{to_z-of_z}
 use Rattle.std.proofs.lemmas.Bool.{ltb-true, lt-ltb}
-use Rattle.std.proofs.lemmas.Bool.Decides.{nat_tests}
 use Rattle.c_syntax.specs.declared.annotation.Range.{Range}
 use Rattle.c_model.specs.Ranges.{from_to, LiesIn, IsWithin128, is_in_bits, range_in_bits, bounded}
 

@@ -1,17 +1,17 @@
 -- A number of a range is a value of the range's width; a converted number is the congruent value of the type.
-use Rattle.std.proofs.Common.{◌≡◌, ℕ, zero, suc, ◌+◌, ◌&&◌, ◌+ℤ◌, ◌*ℤ◌, ◌∙◌, ◌-◌, ◌*◌, ◌/◌, ◌%◌, ◌<◌, ◌≤◌, ◌^◌, ℤ, pos, negsuc, ◌≤ℤ◌, Bool, true, false, cond, if◌then◌else◌, nat_lt, nat_le, FitsSigned, refl, arith}
+use Rattle.std.proofs.Common.{◌≡◌, ℕ, zero, suc, ◌+◌, ◌&&◌, ◌+ℤ◌, ◌*ℤ◌, ◌∙◌, ◌-◌, ◌/◌, ◌%◌, ◌<◌, ◌≤◌, ◌^◌, ℤ, pos, negsuc, ◌≤ℤ◌, Bool, true, false, if◌then◌else◌, nat_lt, nat_le, FitsSigned, refl, arith}
 use Rattle.std.specs.Int.Signed.{mag}
 use Rattle.std.proofs.Math.Nat.{mod-add-div, mod-lt}
 use Rattle.std.proofs.lemmas.Int.{ints}
-use Rattle.std.proofs.lemmas.Bool.{ltb-true, lt-ltb}
+use Rattle.std.proofs.lemmas.Bool.{lt-ltb}
 use Rattle.std.proofs.lemmas.Bool.Decides.{nat_tests}
 use Rattle.c_syntax.specs.declared.annotation.Range.{Range}
 use Rattle.c_syntax.specs.declared.types.CInt.{CInt}
 use Rattle.c_syntax.specs.declared.types.CInt.TheVariants.{I8, U8, I16, U16, I32, U32, I64, U64}
 use Rattle.c_model.specs.Integers.{int_size, is_signed, value_bits, fits, bits_of, value_of_bits}
-use Rattle.c_model.specs.Ranges.{LiesIn, IsWithin128, range_in_bits, width_of_range, wrapped}
+use Rattle.c_model.specs.Ranges.{LiesIn, range_in_bits, width_of_range}
 use Rattle.c_model.proofs.Cells.{value_of_bits-bits_of, bits_of-below}
-use Rattle.ea_num.specs.Laws.{WidthsFit, machine_width, IsCongruent, ConversionsFit, ConversionsAreCongruent, ConversionsKeepValues}
+use Rattle.ea_num.specs.Laws.{WidthsFit, machine_width, ConversionsFit, ConversionsAreCongruent, ConversionsKeepValues}
 use Rattle.ea_num.proofs.Bounded.{InBits, in_bits_from_test}
 
 -- ---- widths

@@ -1,10 +1,10 @@
 -- What lies between two numbers, in one order or the other, and in the hull of four.
-use Rattle.std.proofs.Common.{◌≡◌, ℕ, suc, ◌*◌, ◌<◌, ◌≤◌, ◌^◌, ℤ, pos, negsuc, ◌*ℤ◌, ◌≤ℤ◌, Bool, true, false, cond, ◌⊎◌, inl, inr, Option, Some, None, FitsSigned, to_z, of_z, refl, arith}
+use Rattle.std.proofs.Common.{◌≡◌, ◌^◌, ℤ, ◌≤ℤ◌, Bool, true, false, cond, ◌⊎◌, inl, inr, Some, None, FitsSigned, to_z, of_z, refl, arith}
 use Rattle.std.specs.Prelude.{int_lt}
 use Rattle.std.specs.Int.{w128, int_min, int_max}
 use Rattle.std.proofs.lemmas.Int.{ints, clamps, to_z-of_z}
 use Rattle.c_syntax.specs.declared.annotation.Range.{Range}
-use Rattle.c_model.specs.Ranges.{from_to, LiesIn, IsWithin128, bounded, hull_of_four, range_in_bits}
+use Rattle.c_model.specs.Ranges.{from_to, LiesIn, bounded, hull_of_four, range_in_bits}
 use Rattle.ea_num.proofs.Bounded.{bounded-within, in_bits_from_test}
 use Rattle.ea_num.proofs.Converted.{mag_between}
 

@@ -5,3 +5,4 @@ pub mod Hull
 pub mod Multiplied
 pub mod Shifted
 pub mod Masked
+pub mod Ordered

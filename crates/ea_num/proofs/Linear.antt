@@ -1,9 +1,8 @@
 -- Sums, differences, opposites and complements lie in their ranges.
-use Rattle.std.proofs.Common.{◌≡◌, ℕ, ℤ, pos, negsuc, neg_ℤ, ◌+ℤ◌, ◌-ℤ◌, ◌≤ℤ◌, Some, arith}
+use Rattle.std.proofs.Common.{ℤ, pos, negsuc, neg_ℤ, ◌+ℤ◌, ◌-ℤ◌, ◌≤ℤ◌, arith}
 use Rattle.std.proofs.lemmas.Int.{ints}
-use Rattle.c_syntax.specs.declared.annotation.Range.{Range}
 use Rattle.c_model.specs.Operators.{complement}
-use Rattle.c_model.specs.Ranges.{from_to, LiesIn, sum_range, difference_range, negation_range, complement_range}
+use Rattle.c_model.specs.Ranges.{from_to}
 use Rattle.ea_num.specs.Laws.{SumsLie, DifferencesLie, NegationsLie, ComplementsLie}
 use Rattle.ea_num.proofs.Bounded.{lies_in_bounded}
 

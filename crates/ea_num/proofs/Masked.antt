@@ -1,7 +1,7 @@
 -- Operators on bits lie in their ranges, and act on each bit.
-use Rattle.std.proofs.Common.{◌≡◌, ℕ, zero, suc, ◌+◌, ◌-◌, ◌*◌, ◌/◌, ◌%◌, ◌<◌, ◌≤◌, ◌^◌, ℤ, pos, negsuc, neg_ℤ, ◌≤ℤ◌, Bool, true, false, cond, nat_lt, min, max, refl, sym, ap, ◌∙◌, subst, arith, ◌⊎◌, inl, inr, ◌&&◌, Option, Some, None, FitsSigned, to_z, of_z, ◌-ℤ◌, bit_and, bit_or, bit_xor}
-use Rattle.std.specs.Prelude.{int_lt, int_le}
-use Rattle.std.specs.Int.{w128, int_min, int_max, bit_at}
+use Rattle.std.proofs.Common.{◌≡◌, ℕ, zero, suc, ◌+◌, ◌-◌, ◌*◌, ◌%◌, ◌<◌, ◌≤◌, ◌^◌, ℤ, pos, negsuc, neg_ℤ, ◌≤ℤ◌, Bool, true, false, cond, nat_lt, min, max, refl, sym, ap, ◌∙◌, subst, arith, ◌&&◌, Some, FitsSigned, to_z, of_z, ◌-ℤ◌, bit_and, bit_or, bit_xor}
+use Rattle.std.specs.Prelude.{int_le}
+use Rattle.std.specs.Int.{w128, int_min, bit_at}
 use Rattle.std.specs.Int.Signed.{mag}
 use Rattle.std.proofs.lemmas.Int.{ints, clamps, to_z_pos}
 use Rattle.std.proofs.lemmas.Bool.{ltb-true}
@@ -12,9 +12,9 @@ use Rattle.std.proofs.Math.Pow.{pow_mono}
 use Rattle.std.proofs.Math.Nat.{pow-suc}
 use lib.Count.{count_leading_zeros}
 use Rattle.c_syntax.specs.declared.annotation.Range.{Range}
-use Rattle.c_model.specs.Operators.{bit_of, complement, bits_without, bitwise_and, bitwise_or, bitwise_xor}
-use Rattle.c_model.specs.Ranges.{LiesIn, IsWithin128, from_to, bounded, range_in_bits, is_nonnegative, least_from, bits_of_both, bits_range, common_bits, bitwise_and_range, bitwise_or_range, bitwise_xor_range}
-use Rattle.ea_num.specs.Laws.{AndsLie, OrsLie, XorsLie, ActOnEachBit, OperatorsActOnEachBit}
+use Rattle.c_model.specs.Operators.{bits_without, bitwise_and, bitwise_or, bitwise_xor}
+use Rattle.c_model.specs.Ranges.{LiesIn, IsWithin128, from_to, bounded, range_in_bits, is_nonnegative, least_from, bits_of_both, bits_range, common_bits}
+use Rattle.ea_num.specs.Laws.{AndsLie, OrsLie, XorsLie, OperatorsActOnEachBit}
 use Rattle.ea_num.proofs.Bounded.{InBits, in_bits_from_test, range_in_bits-true, bounded-within, lies_in_bounded}
 use Rattle.ea_num.proofs.Converted.{lies_in_bits}
 use Rattle.ea_num.proofs.Hull.{le_trans}
@@ -183,16 +183,16 @@ ors_lie a b r x y v w e p q =
     let i = in_bits_of_both a b v w in
     lies_in_bounded (bits_range a b (bits_of_both a b)) r (bitwise_or x y) e
     (bits_lie a b (bits_of_both a b) x y (bitwise_or x y) p q
-      (mag-bitwise_or (bits_of_both a b) x y (lies_in_bits (bits_of_both a b) a x i.left p) (lies_in_bits (bits_of_both a b) b y i.right q))
-      (bitwise_or-nonnegative x y))
+    (mag-bitwise_or (bits_of_both a b) x y (lies_in_bits (bits_of_both a b) a x i.left p) (lies_in_bits (bits_of_both a b) b y i.right q))
+    (bitwise_or-nonnegative x y))
 
 pub xors_lie : XorsLie
 xors_lie a b r x y v w e p q =
     let i = in_bits_of_both a b v w in
     lies_in_bounded (bits_range a b (bits_of_both a b)) r (bitwise_xor x y) e
     (bits_lie a b (bits_of_both a b) x y (bitwise_xor x y) p q
-      (mag-bitwise_xor (bits_of_both a b) x y (lies_in_bits (bits_of_both a b) a x i.left p) (lies_in_bits (bits_of_both a b) b y i.right q))
-      (bitwise_xor-nonnegative x y))
+    (mag-bitwise_xor (bits_of_both a b) x y (lies_in_bits (bits_of_both a b) a x i.left p) (lies_in_bits (bits_of_both a b) b y i.right q))
+    (bitwise_xor-nonnegative x y))
 
 pub ands_lie : AndsLie
 ands_lie a b r x y v w e p q = lies_in_bounded (common_bits a b) r (bitwise_and x y) e (by (int_le (pos 0) a.lo) (int_le (pos 0) b.lo) refl refl)

@@ -1,5 +1,5 @@
 -- Products, quotients and remainders lie in their ranges.
-use Rattle.std.proofs.Common.{◌≡◌, ℕ, zero, suc, ◌+◌, ◌-◌, ◌*◌, ◌/◌, ◌%◌, ◌<◌, ◌≤◌, ◌^◌, ℤ, pos, negsuc, neg_ℤ, ◌+ℤ◌, ◌-ℤ◌, ◌*ℤ◌, ◌≤ℤ◌, ◌<ℤ◌, Bool, true, false, cond, max, refl, arith, ◌⊎◌, inl, inr, ◌&&◌, Option, Some, None, int_div, int_rem, unsigned_abs, FitsSigned, to_z, of_z, sym, ap}
+use Rattle.std.proofs.Common.{◌≡◌, ℕ, zero, suc, ◌-◌, ◌/◌, ◌%◌, ◌<◌, ◌≤◌, ◌^◌, ℤ, pos, negsuc, neg_ℤ, ◌*ℤ◌, ◌≤ℤ◌, ◌<ℤ◌, Bool, true, false, cond, refl, arith, ◌⊎◌, inl, inr, ◌&&◌, Some, None, int_div, int_rem, unsigned_abs, FitsSigned, to_z, of_z, sym, ap}
 use Rattle.std.specs.Prelude.{int_lt, int_le}
 use Rattle.std.specs.Ordering.{int_eq}
 use Rattle.std.specs.Int.{w128, int_min, int_max}
@@ -8,9 +8,8 @@ use Rattle.std.proofs.lemmas.Int.{ints, clamps, quot-rem, rem_below, unsigned_ab
 use Rattle.std.proofs.Math.Nat.{mul-le-mul_right, div-le_self, mod-lt, mod-le, mod-add-div}
 use Rattle.std.proofs.Math.IntN.{*ℤ_comm}
 use Rattle.c_syntax.specs.declared.annotation.Range.{Range}
-use Rattle.c_model.specs.Operators.{quotient, remainder}
-use Rattle.c_model.specs.Ranges.{LiesIn, from_to, hull_of_four, product_range, quotients, quotient_range, least_remainder, greatest_remainder, remainders, remainder_range, greatest_abs, bounded, least_i128}
-use Rattle.ea_num.specs.Laws.{ProductsLie, QuotientsLie, RemaindersLie, IsTruncated, DivisionTruncates}
+use Rattle.c_model.specs.Ranges.{LiesIn, from_to, hull_of_four, quotients, least_remainder, greatest_remainder, remainders, remainder_range, greatest_abs, bounded, least_i128}
+use Rattle.ea_num.specs.Laws.{ProductsLie, QuotientsLie, RemaindersLie, DivisionTruncates}
 use Rattle.ea_num.proofs.Bounded.{lies_in_bounded, bounded-within}
 use Rattle.ea_num.proofs.Hull.{Between, between_in_hull, le_trans}
 
@@ -40,9 +39,9 @@ pub products_lie : ProductsLie
 products_lie a b r x y e h k =
     lies_in_bounded (hull_of_four (a.lo *ℤ b.lo) (a.lo *ℤ b.hi) (a.hi *ℤ b.lo) (a.hi *ℤ b.hi)) r (x *ℤ y) e
     (between_in_hull (a.lo *ℤ b.lo) (a.lo *ℤ b.hi) (a.hi *ℤ b.lo) (a.hi *ℤ b.hi) (a.lo *ℤ y) (a.hi *ℤ y) (x *ℤ y)
-      (times_between b.lo y b.hi a.lo k.above k.below)
-      (times_between b.lo y b.hi a.hi k.above k.below)
-      (between_times a.lo x a.hi y h.above h.below))
+    (times_between b.lo y b.hi a.lo k.above k.below)
+    (times_between b.lo y b.hi a.hi k.above k.below)
+    (between_times a.lo x a.hi y h.above h.below))
 
 -- ---- quotients
 

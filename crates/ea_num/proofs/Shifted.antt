@@ -1,5 +1,5 @@
 -- Shifts lie in their ranges.
-use Rattle.std.proofs.Common.{◌≡◌, ℕ, zero, suc, ◌+◌, ◌-◌, ◌*◌, ◌/◌, ◌%◌, ◌<◌, ◌≤◌, ◌^◌, ℤ, pos, negsuc, ◌+ℤ◌, ◌*ℤ◌, ◌≤ℤ◌, ◌<ℤ◌, Bool, true, false, cond, min, max, refl, sym, ap, ◌∙◌, subst, arith, inl, inr, Option, Some, None, unsigned_abs, FitsSigned, to_z, of_z}
+use Rattle.std.proofs.Common.{◌≡◌, ℕ, ◌+◌, ◌-◌, ◌*◌, ◌/◌, ◌%◌, ◌<◌, ◌≤◌, ◌^◌, ℤ, pos, negsuc, ◌*ℤ◌, ◌≤ℤ◌, Bool, true, false, cond, min, refl, sym, ap, ◌∙◌, subst, arith, inl, inr, Option, Some, None, unsigned_abs, FitsSigned, to_z, of_z}
 use Rattle.std.specs.Prelude.{int_lt, int_le}
 use Rattle.std.specs.Int.{w128, int_min, int_max}
 use Rattle.std.specs.Int.Signed.{mag}
@@ -8,8 +8,8 @@ use Rattle.std.proofs.lemmas.Nat.{pow_pos, shr-shr, shr_le, le-div, one_shl}
 use Rattle.std.proofs.Math.Nat.{div-mul-le_self, div-eq_of_lt, mod-add-div, mod-lt}
 use Rattle.std.proofs.Math.Pow.{pow_mono}
 use Rattle.c_syntax.specs.declared.annotation.Range.{Range}
-use Rattle.c_model.specs.Operators.{floor_quotient, shift_left, shift_right}
-use Rattle.c_model.specs.Ranges.{LiesIn, IsRange, IsWithin128, from_to, hull_of_four, product_range, power_of_count, shift_left_range, shifted_by_count, shift_right_range}
+use Rattle.c_model.specs.Operators.{floor_quotient}
+use Rattle.c_model.specs.Ranges.{LiesIn, IsRange, from_to, hull_of_four, product_range, power_of_count, shift_left_range, shifted_by_count}
 use Rattle.ea_num.specs.Laws.{ShiftsLeftLie, ShiftsRightLie, IsFloor, ShiftsRoundDown}
 use Rattle.ea_num.proofs.Bounded.{lies_in_bounded}
 use Rattle.ea_num.proofs.Converted.{mag_between}
@@ -106,11 +106,11 @@ shifts_right_lie a k r x (pos n) z w e h m d =
     let same : shifted_by_count x (pos n) ≡ z = ap (λ (i : ℕ). floor_quotient x (2 ^ i)) (count_within_of_pos n) ∙ shift_by_least x n small ∙ some_same (floor_quotient x (2 ^ n)) z d in
     subst (LiesIn r) same
     (lies_in_bounded (hull_of_four (shifted_by_count a.lo k.lo) (shifted_by_count a.lo k.hi) (shifted_by_count a.hi k.lo) (shifted_by_count a.hi k.hi)) r (shifted_by_count x (pos n)) e
-      (between_in_hull (shifted_by_count a.lo k.lo) (shifted_by_count a.lo k.hi) (shifted_by_count a.hi k.lo) (shifted_by_count a.hi k.hi)
-        (shifted_by_count a.lo (pos n)) (shifted_by_count a.hi (pos n)) (shifted_by_count x (pos n))
-        (counts a.lo)
-        (counts a.hi)
-        (record { order = inl (numbers a.lo x h.above, numbers x a.hi h.below) })))
+    (between_in_hull (shifted_by_count a.lo k.lo) (shifted_by_count a.lo k.hi) (shifted_by_count a.hi k.lo) (shifted_by_count a.hi k.hi)
+    (shifted_by_count a.lo (pos n)) (shifted_by_count a.hi (pos n)) (shifted_by_count x (pos n))
+    (counts a.lo)
+    (counts a.hi)
+    (record { order = inl (numbers a.lo x h.above, numbers x a.hi h.below) })))
   where
     some_same : (u v : ℤ) → Some u ≡ Some v → u ≡ v
     some_same u v f = cc

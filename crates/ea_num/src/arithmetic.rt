@@ -43,5 +43,8 @@ pub fn flip(a: Range) -> Option<Range>
     requires operand { IsRange a }
     ensures { result ≡ complement_range a }
 {
-    Some(Range { lo: !a.hi, hi: !a.lo })
+    Some(Range {
+        lo: !a.hi,
+        hi: !a.lo,
+    })
 }

@@ -14,7 +14,10 @@ pub fn bit_and(a: Range, b: Range) -> Option<Range>
     ensures { result ≡ bitwise_and_range a b }
 {
     Some(match (is_nonnegative(a), is_nonnegative(b)) {
-        (true, true) => Range { lo: 0, hi: a.hi.min(b.hi) },
+        (true, true) => Range {
+            lo: 0,
+            hi: a.hi.min(b.hi),
+        },
         (true, false) => Range { lo: 0, hi: a.hi },
         (false, true) => Range { lo: 0, hi: b.hi },
         (false, false) => of_bits(a, b, bits_of_both(a, b)),
@@ -65,7 +68,9 @@ fn bits_of_both(a: Range, b: Range) -> u32
     ensures value { result ≡ bits_of_both a b }
     ensures bound { result ≤ 127 }
 {
-    let most = magnitude(a.lo).max(magnitude(a.hi)).max(magnitude(b.lo).max(magnitude(b.hi)));
+    let most = magnitude(a.lo)
+        .max(magnitude(a.hi))
+        .max(magnitude(b.lo).max(magnitude(b.hi)));
     128 - most.leading_zeros()
 }
 

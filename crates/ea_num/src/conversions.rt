@@ -27,7 +27,11 @@ pub fn wrap(to: CInt, v: i128) -> i128
 {
     let count = value_count(to);
     let bits = v.rem_euclid(count);
-    if is_signed(to) && count / 2 <= bits { bits - count } else { bits }
+    if is_signed(to) && count / 2 <= bits {
+        bits - count
+    } else {
+        bits
+    }
 }
 
 // The number of values of the type.

@@ -6,6 +6,9 @@ ghost use Rattle.c_model.specs.Ranges as ranges;
 
 use c_syntax::Range;
 
+// The least number of signed 128 bits, whose quotient by -1 has no such bits.
+const LEAST: i128 = i128::MIN;
+
 /// The range of `a * b`.
 pub fn mul(a: Range, b: Range) -> Option<Range>
     requires left { IsRange a }
@@ -25,7 +28,7 @@ pub fn div(a: Range, b: Range) -> Option<Range>
     requires right { IsRange b }
     ensures { result ≡ quotient_range a b }
 {
-    if a.lo == i128::MIN {
+    if a.lo == LEAST {
         return None;
     }
     if are_nonnegative(a, b) {
@@ -41,7 +44,7 @@ pub fn rem(a: Range, b: Range) -> Option<Range>
     requires right { IsRange b }
     ensures { result ≡ remainder_range a b }
 {
-    if a.lo == i128::MIN {
+    if a.lo == LEAST {
         return None;
     }
     let most = greatest_abs(b).saturating_sub(1) as i128;

@@ -7,13 +7,16 @@ ghost use Rattle.c_model.specs.Ranges as ranges;
 use crate::products::{hull_of_four, mul};
 use c_syntax::Range;
 
+// The largest count of a shift to the left whose power of 2 has signed 128 bits.
+const LARGEST_COUNT: i128 = 126;
+
 /// The range of `a << k`, for the counts of `k` that are not negative; none where `k` has a count above 126.
 pub fn shl(a: Range, k: Range) -> Option<Range>
     requires left { IsRange a }
     requires count { IsRange k }
     ensures { result ≡ shift_left_range a k }
 {
-    if k.hi > 126 {
+    if k.hi > LARGEST_COUNT {
         return None;
     }
     let powers = Range {

@@ -1,4 +1,4 @@
-use Rattle.std.proofs.Common.{◌≡◌, rules, FitsSigned, ◌-ℤ◌, sym, ◌∙◌}
+use Rattle.std.proofs.Common.{rules, FitsSigned, ◌-ℤ◌, sym, ◌∙◌}
 use Rattle.std.specs.Int.{w128}
 use Rattle.std.proofs.lemmas.Int.{to_z-of_z}
 use Rattle.c_model.specs.Ranges.{from_to}

@@ -1,4 +1,4 @@
-use Rattle.std.proofs.Common.{◌≡◌, ◌-◌, ◌<◌, ◌^◌, max, rules, FitsSigned, arith}
+use Rattle.std.proofs.Common.{◌≡◌, ◌-◌, max, rules, FitsSigned, arith}
 use lib.Count.{count_leading_zeros}
 use Rattle.std.specs.Int.{w128}
 use Rattle.std.specs.Int.Signed.{mag}

@@ -1,5 +1,5 @@
-use Rattle.std.proofs.Common.{◌≡◌, rules, FitsSigned, sym, ◌∙◌}
-use Rattle.std.specs.Int.{w128, int_min, int_max}
+use Rattle.std.proofs.Common.{rules, FitsSigned}
+use Rattle.std.specs.Int.{w128}
 use Rattle.std.proofs.lemmas.Int.{to_z-of_z}
 use Rattle.ea_num.proofs.Hull.{hull_of_code}
 use Rattle.ea_num.proofs.products.hull_of_four.Goals as goal

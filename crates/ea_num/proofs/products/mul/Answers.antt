@@ -1,7 +1,6 @@
-use Rattle.std.proofs.Common.{◌≡◌, rules, FitsSigned, ◌*ℤ◌, sym, ◌∙◌}
+use Rattle.std.proofs.Common.{rules, FitsSigned, ◌*ℤ◌, sym, ◌∙◌}
 use Rattle.std.specs.Int.{w128}
 use Rattle.std.proofs.lemmas.Int.{to_z-of_z}
-use Rattle.c_model.specs.Ranges.{hull_of_four}
 use Rattle.ea_num.proofs.Hull.{first_in_hull, second_in_hull, third_in_hull, fourth_in_hull, bounded-beyond, hull_of_some}
 use Rattle.ea_num.proofs.products.mul.Goals as goal
 

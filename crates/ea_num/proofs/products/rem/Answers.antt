@@ -1,4 +1,4 @@
-use Rattle.std.proofs.Common.{◌≡◌, rules, FitsSigned, ◌-◌, ◌<◌, ◌^◌, ℕ, ap, ◌∙◌, arith}
+use Rattle.std.proofs.Common.{rules, FitsSigned, ◌-◌, ◌<◌, ◌^◌, ℕ, ap, ◌∙◌, arith}
 use Rattle.std.specs.Int.{w128}
 use Rattle.std.proofs.lemmas.Int.{ints, to_z-of_z, to_z_pos}
 use Rattle.ea_num.proofs.Multiplied.{remainder_of_code}
@@ -18,4 +18,4 @@ returns c =
     let l = simp (to_z-of_z, to_z_pos) at c.least_remainder.ensures in
     let g = simp (to_z-of_z, to_z_pos) at c.greatest_remainder.ensures in
     remainder_of_code c.args.a c.args.b c.least_remainder.result c.greatest_remainder.result c.saturating_sub-most.result
-    x y c.if-a-eq170141183460469231731687303715884105728.false (m ∙ ap (λ (k : ℕ). k - 1) n) l g
+    x y c.if-a-eq-LEAST.false (m ∙ ap (λ (k : ℕ). k - 1) n) l g

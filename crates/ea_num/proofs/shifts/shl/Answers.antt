@@ -1,4 +1,4 @@
-use Rattle.std.proofs.Common.{◌≡◌, rules, FitsSigned}
+use Rattle.std.proofs.Common.{rules, FitsSigned}
 use Rattle.std.specs.Int.{w128}
 use Rattle.std.proofs.lemmas.Int.{to_z-of_z}
 use Rattle.ea_num.proofs.Shifted.{powers_of_code, shift_left_of_code}
@@ -20,4 +20,4 @@ returns c =
     let p : FitsSigned w128 c.power_of_count.result = search rules in
     let q : FitsSigned w128 c.power_of_count-2.result = search rules in
     shift_left_of_code c.args.a c.args.k c.power_of_count.result c.power_of_count-2.result c.mul.result p q
-    (simp to_z-of_z at c.if-k-gt126.false) (simp to_z-of_z at c.power_of_count.ensures) (simp to_z-of_z at c.power_of_count-2.ensures) c.mul.ensures
+    (simp to_z-of_z at c.if-k-gt-LARGEST_COUNT.false) (simp to_z-of_z at c.power_of_count.ensures) (simp to_z-of_z at c.power_of_count-2.ensures) c.mul.ensures
