@@ -1,3 +1,6 @@
+pub mod CommandLine
+pub mod WordOrder
+pub mod WordFiles
 pub mod Growth
 pub mod Cells
 pub mod Fit
@@ -6,3 +9,4 @@ pub mod Blocks
 pub mod Results
 pub mod Agreement
 pub mod Whole
+pub mod FirstRows

@@ -5,8 +5,14 @@ pub mod Logic
 pub mod Meaning
 pub mod Reports
 pub mod IntPrograms
+pub mod Words
+pub mod Arguments
+pub mod WordLaws
 pub mod Growth
 pub mod Steps
 pub mod Laws
+pub mod FirstTokens
+pub mod FirstForm
+pub mod Accepted
 pub mod Operators
 pub mod Ranges

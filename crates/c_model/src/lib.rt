@@ -1,4 +1,10 @@
 //! The meaning of annotated C (ISO/IEC 9899:1999, ACSL): memory, expressions, statements, terms, predicates and whole runs.
 #![tactic(auto)]
 
+pub mod first_tokens;
+pub mod job;
 pub mod laws;
+pub mod words;
+
+pub use job::{FileName, Job};
+pub use words::read_words;

@@ -1,5 +1,5 @@
 -- No count of faults falls.
-use Rattle.std.proofs.Common.{◌≡◌, ℕ, ◌≤◌, List, Option, Some, None, Result, Ok, Err, arith}
+use Rattle.std.proofs.Common.{ℕ, ◌≤◌, List, Option, Some, None, Result, Ok, Err, arith}
 use Rattle.ea_ports.specs.declared.FetchFault.{FetchFault}
 use Rattle.ea_ports.specs.declared.FetchFault.TheVariants.{Missing, TooLong, Failed as fetch_failed, Memory as fetch_memory}
 use Rattle.ea_ports.specs.declared.SinkFault.{SinkFault}

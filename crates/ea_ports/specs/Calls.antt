@@ -22,5 +22,5 @@ abbrev pub after_call : Bool → Calls → Calls
 after_call fails calls = record {
   failing = calls.failing;
   made = raised calls.made;
-  failed = if fails then raised calls.failed else calls.failed
+  failed = if fails then raised calls.failed else calls.failed;
 }

@@ -1,6 +1,8 @@
 -- What reads and writes of the host do to the bytes that a reader is known to have left and a writer to hold.
 use Rattle.std.specs.Prelude.{◌≡◌, ℕ, ◌<◌, ◌≤◌, ⊤, List, [], ◌∷◌, ◌++◌, take, length, Vec, Option, Some, None, IfSome, Result, Ok, Err}
 use Rattle.std.specs.Io.KnownBytes.{Keeps, Appends, Consumes, IsAtEnd}
+use Rattle.std.specs.IoError.{error_kind}
+use Rattle.std.specs.declared.io.Error.{Error}
 use Rattle.std.specs.declared.io.ErrorKind.{ErrorKind}
 use Rattle.std.specs.declared.io.ErrorKind.TheVariants.{NotFound, OutOfMemory}
 use Rattle.ea_ports.specs.declared.FetchFault.{FetchFault}
@@ -19,12 +21,21 @@ ReadsWithin known limit (Ok bytes) = (length bytes.items ≤ limit) × IfSome kn
 ReadsWithin known limit (Err TooLong) = IfSome known (λ xs. limit < length xs)
 ReadsWithin known limit (Err _) = ⊤
 
--- one read puts at most `room` bytes behind those that are there, and none only at the end
-abbrev pub ReadsPart : Option (List ℕ) → Option (List ℕ) → List ℕ → List ℕ → ℕ → Result ℕ FetchFault → Type 0
-ReadsPart left rest old new room (Ok n) =
-    (part : List ℕ) × (new ≡ old ++ part) × (length part ≡ n) × (n ≤ room) × Consumes left rest part × (n ≡ 0 → IsAtEnd rest)
-ReadsPart left rest old new room (Err TooLong) = ⊥
-ReadsPart left rest old new room (Err _) = ⊤
+-- a fetch follows from what opening a file gave: its error's fault, or the file's bytes
+abbrev pub FollowsOpened : {F A : Type 0} → (F → Option (List ℕ)) → ℕ → Result F Error → Result (Vec ℕ A) FetchFault → Type 0
+FollowsOpened remaining limit (Ok file) result = ReadsWithin (remaining file) limit result
+FollowsOpened remaining limit (Err error) result = result ≡ Err (fault_of (error_kind error))
+
+-- known bytes lose at most this many
+abbrev pub LosesAtMost : Option (List ℕ) → Option (List ℕ) → ℕ → Type 0
+LosesAtMost left rest most = (lost : List ℕ) × Consumes left rest lost × (length lost ≤ most)
+
+-- one read puts its piece behind the bytes that are there, and is empty only at the end
+abbrev pub ReadsPiece : Option (List ℕ) → Option (List ℕ) → List ℕ → List ℕ → Result ℕ FetchFault → Type 0
+ReadsPiece left rest old new (Ok n) =
+    (piece : List ℕ) × (new ≡ old ++ piece) × (length piece ≡ n) × Consumes left rest piece × (n ≡ 0 → IsAtEnd rest)
+ReadsPiece left rest old new (Err TooLong) = ⊥
+ReadsPiece left rest old new (Err _) = ⊤
 
 -- a source takes one byte of those that its reader is known to have left, and none at the end or where it fails
 abbrev pub Reads : Option (List ℕ) → Option (List ℕ) → Result (Option ℕ) SourceFailed → Type 0

@@ -36,7 +36,9 @@ impl CallLog {
         ensures { result ≡ next_is_listed self.now }
     {
         let number = self.made.saturating_add(1);
-        self.failing.iter().any(|listed| u64::from(*listed) == number)
+        self.failing
+            .iter()
+            .any(|listed| u64::from(*listed) == number)
     }
 
     // Counts a call, and says whether it fails: where it can fail and its number is listed.

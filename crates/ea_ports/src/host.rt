@@ -1,16 +1,16 @@
 // Adapters over the host. They tell no content, and count the errors of the host.
-ghost use Rattle.std.specs.Prelude.{◌≡◌, ◌<◌, ◌≤◌, None, length, IfOk, OnErr};
+ghost use Rattle.std.specs.Prelude.{◌≡◌, ◌+◌, ◌<◌, ◌≤◌, None, Result, length, IfOk, OnErr, IsErrOf};
 ghost use Rattle.std.specs.Io.KnownBytes.{WriteAppends};
 ghost use Rattle.std.specs.IoError.{error_kind};
-ghost use Rattle.ea_ports.specs.Port.{Puts, FailsOnBytes, SinkCount, Takes, SourceCount};
-ghost use Rattle.ea_ports.specs.HostFiles.{fault_of, ReadsWithin, ReadsPart, Reads, Writes};
+ghost use Rattle.std.specs.declared.io.Error.{Error};
+ghost use Rattle.ea_ports.specs.Port.{Fetches, FolderCount, Puts, FailsOnBytes, SinkCount, Takes, SourceCount};
+ghost use Rattle.ea_ports.specs.HostFiles.{fault_of, FollowsOpened, ReadsWithin, LosesAtMost, ReadsPiece, Reads, Writes};
 
 use crate::{Failed, FetchFault, Folder, Sink, SinkFault, Source};
 use std::alloc::Global;
-use std::fs;
-use std::io;
 use std::io::{ErrorKind, Read, Write};
 use std::rt::Files;
+use std::{fs, io};
 
 // The most bytes that one read of a file asks for.
 const PIECE: usize = 4096;
@@ -34,12 +34,21 @@ impl<R: Files + Clone + Drop> FileFolder<R> {
 }
 
 impl<R: Files + Clone + Drop> Folder for FileFolder<R> {
+    ghost use Rattle.ea_ports.specs.Host.{folder_faults};
+
     ghost content = { λ _. None };
 
-    ghost faults = { λ folder. folder.faults };
+    ghost faults = { folder_faults };
 
-    fn fetch(&mut self, alloc: Global, name: &str, limit: usize) -> Result<Vec<u8>, FetchFault> {
-        match fetch_file(&self.rt, alloc, name, limit) {
+    fn fetch(&mut self, alloc: Global, name: &str, limit: usize) -> Result<Vec<u8>, FetchFault>
+        requires { limit ≤ 67108864 }
+        ensures bytes { Fetches None name.now limit result }
+        ensures count { FolderCount None (folder_faults self.old) (folder_faults self.new) result }
+
+        // What opening a file of the host gave decides the answer.
+        ensures opened { (opened : Result R.File Error) × FollowsOpened R.File.remaining limit opened result }
+    {
+        match content_of_opened(fs::open(&self.rt, name), alloc, limit) {
             Ok(bytes) => Ok(bytes),
             Err(FetchFault::Memory) => Err(FetchFault::Memory),
             Err(fault) => {
@@ -61,27 +70,26 @@ fn fault_of_error(error: &io::Error) -> FetchFault
     }
 }
 
-// The whole content of a file of at most `limit` bytes.
-fn fetch_file<R: Files>(
-    rt: &R,
+// The whole content of an opened file, where it has at most `limit` bytes.
+fn content_of_opened<F: Read + Drop>(
+    opened: io::Result<F>,
     alloc: Global,
-    name: &str,
     limit: usize,
 ) -> Result<Vec<u8>, FetchFault>
     requires { limit ≤ 67108864 }
-    ensures { IfOk result (λ bytes. length bytes.items ≤ limit) }
+    ensures { FollowsOpened F.remaining limit opened result }
 {
-    let mut file = match fs::open(rt, name) {
-        Ok(file) => file,
-        Err(error) => return Err(fault_of_error(&error)),
-    };
-    read_within(&mut file, alloc, limit)
+    match opened {
+        Ok(mut file) => read_within(&mut file, alloc, limit),
+        Err(error) => Err(fault_of_error(&error)),
+    }
 }
 
 // All that a reader has left, where that is at most `limit` bytes. It reads at most one byte more.
 fn read_within<F: Read>(file: &mut F, alloc: Global, limit: usize) -> Result<Vec<u8>, FetchFault>
     requires { limit ≤ 67108864 }
-    ensures { ReadsWithin (F.remaining file.old) limit result }
+    ensures content { ReadsWithin (F.remaining file.old) limit result }
+    ensures limited { LosesAtMost (F.remaining file.old) (F.remaining file.new) (limit + 1) }
 {
     let mut bytes: Vec<u8> = Vec::new(alloc);
     while bytes.len() <= limit {
@@ -94,14 +102,12 @@ fn read_within<F: Read>(file: &mut F, alloc: Global, limit: usize) -> Result<Vec
 }
 
 // One read of at most `room` bytes, put behind those that are there. It gives their number, 0 at the end.
-fn read_piece<F: Read>(
-    file: &mut F,
-    bytes: &mut Vec<u8>,
-    room: usize,
-) -> Result<usize, FetchFault>
+fn read_piece<F: Read>(file: &mut F, bytes: &mut Vec<u8>, room: usize) -> Result<usize, FetchFault>
     requires some { 0 < room }
     requires most { room ≤ PIECE }
-    ensures { ReadsPart (F.remaining file.old) (F.remaining file.new) bytes.old.items bytes.new.items room result }
+    ensures content { ReadsPiece (F.remaining file.old) (F.remaining file.new) bytes.old.items bytes.new.items result }
+    ensures limited { LosesAtMost (F.remaining file.old) (F.remaining file.new) room }
+    ensures room { IfOk result (λ n. n ≤ room) }
 {
     let mut piece = [0u8; PIECE];
     match file.read(&mut piece[..room]) {
@@ -136,7 +142,7 @@ impl<R: Read + Drop> Source for ReadSource<R> {
 
     ghost left = { λ _. None };
 
-    ghost faults = { λ source. source.faults };
+    ghost faults = { source_faults };
 
     fn next(&mut self) -> Result<Option<u8>, Failed>
         ensures bytes { Takes None None result }
@@ -179,13 +185,14 @@ impl<W: Write + Drop> Sink for WriteSink<W> {
 
     ghost told = { λ _. None };
 
-    ghost faults = { λ sink. sink.faults };
+    ghost faults = { sink_faults };
 
     fn put(&mut self, bytes: &[u8]) -> Result<(), SinkFault>
         ensures bytes { Puts None None bytes.now result }
         ensures empty { FailsOnBytes bytes.now result }
         ensures count { SinkCount (sink_faults self.old) (sink_faults self.new) result }
 
+        ensures takes_no_memory { ¬ IsErrOf result SinkFault.Memory }
         ensures written { Writes (W.contents (sink_writer self.old)) (W.contents (sink_writer self.new)) bytes.now result }
     {
         match write_whole(&mut self.writer, bytes) {

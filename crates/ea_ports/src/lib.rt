@@ -13,6 +13,8 @@ mod files;
 mod host;
 mod memory;
 mod sure;
+#[cfg(test)]
+mod tests;
 
 pub use host::{FileFolder, ReadSource, WriteSink};
 pub use memory::{MemFolder, MemSink, MemSource};

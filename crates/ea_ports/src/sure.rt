@@ -1,5 +1,6 @@
 // Ports in memory that never fail, save for want of memory: their counts are the constant 0.
-ghost use Rattle.std.specs.Prelude.{◌≡◌, [], Some};
+ghost use Rattle.std.specs.Prelude.{◌≡◌, ◌≤◌, [], Some, OnErr};
+ghost use Rattle.ea_ports.specs.Port.{Puts, FailsOnBytes, SinkCount, Fetches, FolderCount};
 ghost use Rattle.ea_ports.specs.Files.{content_of, named_contents};
 
 use crate::files::fetch_from;
@@ -23,6 +24,7 @@ impl Model for SureFolder {
 }
 
 impl SureFolder {
+    /// The first entry of a name counts.
     pub fn new(files: Vec<(String, Vec<u8>)>) -> SureFolder
         ensures { result ≡ named_contents files.items }
     {
@@ -35,7 +37,13 @@ impl Folder for SureFolder {
 
     ghost faults = { λ _. 0 };
 
-    fn fetch(&mut self, alloc: Global, name: &str, limit: usize) -> Result<Vec<u8>, FetchFault> {
+    fn fetch(&mut self, alloc: Global, name: &str, limit: usize) -> Result<Vec<u8>, FetchFault>
+        requires { limit ≤ 67108864 }
+        ensures bytes { Fetches (Some (content_of self.old)) name.now limit result }
+        ensures count { FolderCount (Some (content_of self.old)) 0 0 result }
+
+        ensures files { self.new ≡ self.old }
+    {
         fetch_from(&self.files, alloc, name, limit)
     }
 }
@@ -117,7 +125,13 @@ impl Sink for SureSink {
 
     ghost faults = { λ _. 0 };
 
-    fn put(&mut self, bytes: &[u8]) -> Result<(), SinkFault> {
+    fn put(&mut self, bytes: &[u8]) -> Result<(), SinkFault>
+        ensures bytes { Puts (Some self.old) (Some self.new) bytes.now result }
+        ensures empty { FailsOnBytes bytes.now result }
+        ensures count { SinkCount 0 0 result }
+
+        ensures nothing { OnErr result (self.new ≡ self.old) }
+    {
         match self.bytes.extend_from_slice(bytes) {
             Ok(()) => Ok(()),
             Err(_) => Err(SinkFault::Memory),

@@ -1,8 +1,8 @@
 -- Where a token can't follow, the tokens before it are no reading: cut there, the text is too short.
-use Rattle.std.proofs.Common.{◌≡◌, ℕ, zero, suc, ◌+◌, ◌-◌, ◌<◌, ◌≤◌, Bool, true, false, cond, ltb, List, [], ◌∷◌, ◌++◌, length, Result, Ok, Err, Option, Some, None, refl, sym, ◌∙◌, ap, subst, ◌⊎◌, inl, inr, append_assoc, arith, length-append}
+use Rattle.std.proofs.Common.{◌≡◌, ℕ, zero, suc, ◌+◌, ◌-◌, ◌<◌, ◌≤◌, Bool, true, false, ltb, List, [], ◌∷◌, ◌++◌, length, Result, Ok, Err, Option, Some, None, refl, sym, ◌∙◌, ap, subst, ◌⊎◌, inl, inr, append_assoc, arith, length-append}
 use Rattle.std.proofs.lemmas.List.{append-nil}
-use Rattle.grammar.specs.Syntax.{Syntax, Fault, At, Over, among, sees, gives, one, one_at, ◌then◌, choice, many, ◌>>=◌, deep, at_most, capped}
-use Rattle.grammar.specs.Exact.{SameHead, Late, IsExact, RefusedAt, Unread}
+use Rattle.grammar.specs.Syntax.{Syntax, Fault, At, Over, among, sees, gives, one, one_at, ◌then◌, choice, many, deep, at_most, capped}
+use Rattle.grammar.specs.Exact.{SameHead, Late, IsExact, Unread}
 use Rattle.grammar.proofs.Sets.{within, apart, within_among, apart_among, cond_true, within_self, within_left, within_right, within_both, within_joined, among_either}
 use Rattle.grammar.proofs.Parts.{bind_err, chosen, ChoiceFits, gives_exact, choice_exact, widen}
 use Rattle.grammar.proofs.Bounds.{LoopFits, many_exact, turn_exact, turned_exact, many_is, rest_below, rest_within, split_same}
@@ -246,6 +246,7 @@ module _ {T : Type 0} {K : T → ℕ} where
     where
       o : true ≡ true → (t : T) (ts : List T) → length (t ∷ ts) < n → among (K t) ks ≡ true → (deep K ks G).parse (t ∷ ts) ≡ Err (At (suc (length ts))) → ⊥
       o h t ts lt a q = let k : (deep K ks G).parse (t ∷ ts) ≡ Err (Over (suc (length ts))) = rw a refl in cc
+
       c : (ts : List T) (m : ℕ) (f r : List T) (b : Bool) → sees K ks ts ≡ b → (deep K ks G).parse ts ≡ Err (At m) → ts ≡ f ++ r → m ≡ length r → (deep K ks G).parse f ≡ Err (At 0)
       c ts m f r true b q s l = absurd (let k : (deep K ks G).parse ts ≡ Err (Over (length ts)) = rw b refl in cc)
       c ts m f r false b q s l =
@@ -259,14 +260,14 @@ module _ {T : Type 0} {K : T → ℕ} where
     led = g.led;
     opens = λ ld t ts lt a q. elim (at_most_answer K most G null first more g.exact (t ∷ ts)) [ inl p ↦ g.opens ld t ts lt a (sym p.1 ∙ q) | inr p ↦ let z : Err (Over (length (t ∷ ts) - most)) ≡ Err (At (suc (length ts))) = sym p.1 ∙ q in cc ];
     cut = λ ts m f r lt q s l.
-      elim (at_most_answer K most G null first more g.exact ts) [
-        | inl p ↦
-          let e : G.parse ts ≡ Err (At m) = sym p.1 ∙ q in
-          let c = g.cut ts m f r lt e s l in
-          let short = front_short K most G null first more g.exact ts f r (place (G.parse ts)) s (ap place e ∙ l) p.0 in
-          ap (capped most (length f)) c ∙ capped_in most (length f) (Err (At 0)) (let k = below K most G null first more g.exact f [] short in ap (λ (z : List T). ltb (most + 0) (length z)) (sym (append-nil f)) ∙ k)
-        | inr p ↦ absurd (let z : Err (Over (length ts - most)) ≡ Err (At m) = sym p.1 ∙ q in cc)
-      ];
+        elim (at_most_answer K most G null first more g.exact ts) [
+          | inl p ↦
+              let e : G.parse ts ≡ Err (At m) = sym p.1 ∙ q in
+              let c = g.cut ts m f r lt e s l in
+              let short = front_short K most G null first more g.exact ts f r (place (G.parse ts)) s (ap place e ∙ l) p.0 in
+              ap (capped most (length f)) c ∙ capped_in most (length f) (Err (At 0)) (let k = below K most G null first more g.exact f [] short in ap (λ (z : List T). ltb (most + 0) (length z)) (sym (append-nil f)) ∙ k)
+          | inr p ↦ absurd (let z : Err (Over (length ts - most)) ≡ Err (At m) = sym p.1 ∙ q in cc)
+        ];
   }
 
   -- ---- sets that depend on what was read
@@ -305,7 +306,7 @@ module _ {T : Type 0} {K : T → ℕ} where
       let rest : (y : A) → IsSolid K n (many K ks step y) false true (ks y) more = λ y. many_solid_to ks fit o n (λ z. lower n (omega arith) (g z)) y in
       let once = after_solid (step x) (λ y. many K ks step y) true false false true (f x) ks (m x) (λ _. more) false (f x) more (turn_exact K ks f m more fit step (λ y. (g y).exact) x) (λ _. within_self (f x)) (λ e. e) n refl (g x) rest in
       as_parsed (many_is K ks f m more fit step (λ y. (g y).exact) x) (many_exact K ks f m more fit step (λ y. (g y).exact) x)
-        (choice_solid (ks x) (step x then λ y. many K ks step y) (gives x) false true (f x) [] more (λ _. []) true (ks x) more (turned_exact K ks f m more fit step (λ y. (g y).exact) x) (fit.taken x) (o x) refl (within_joined (ks x) (f x) [] (o x)) (λ h. absurd cc) (suc n) once (gives_solid x))
+      (choice_solid (ks x) (step x then λ y. many K ks step y) (gives x) false true (f x) [] more (λ _. []) true (ks x) more (turned_exact K ks f m more fit step (λ y. (g y).exact) x) (fit.taken x) (o x) refl (within_joined (ks x) (f x) [] (o x)) (λ h. absurd cc) (suc n) once (gives_solid x))
 
   pub widened_solid : {A : Type 0} {n : ℕ} {G : Syntax T A} {lead null : Bool} {first : List ℕ} {m more : A → List ℕ} → IsSolid K n G lead null first m → ((x : A) → within (m x) (more x) ≡ true) → IsSolid K n G lead null first more
   widened_solid {A} {n} {G} {lead} {null} {first} {m} {more} g e = record { exact = (widened {n = 0} (same g.exact) e).here; led = g.led; opens = g.opens; cut = g.cut }

@@ -1,0 +1,11 @@
+pub mod NameSteps
+pub mod Cut
+pub mod Terminal
+pub mod Expressions
+pub mod Terms
+pub mod Turns
+pub mod Windows
+pub mod Bodies
+pub mod StatementSteps
+pub mod ProgramSteps
+pub mod Acceptance

@@ -1,0 +1,6 @@
+pub mod Tokens
+pub mod Expressions
+pub mod Statements
+pub mod Refusals
+pub mod Short
+pub mod Answers

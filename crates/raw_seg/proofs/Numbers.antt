@@ -1,0 +1,127 @@
+-- Bytes of numbers.
+use Rattle.std.proofs.Common.{rules, ◌≡◌, ℕ, zero, suc, ◌+◌, ◌*◌, ◌/◌, ◌%◌, ◌^◌, ◌<◌, ◌≤◌, ◌⊎◌, inl, inr, ⊎_elim, List, [], ◌∷◌, ◌++◌, length, take, drop, get_or, replicate, refl, sym, ap, ◌∙◌, arith, length-drop, length-take, pow-suc}
+use Rattle.std.proofs.Math.Nat.{div-div-eq-div-mul, div-add-mod, mod-lt, mod-eq_of_lt}
+use Rattle.std.proofs.lemmas.Nat.{mod-mul-add}
+use Rattle.std.proofs.lemmas.List.{places, same_lists, drop-drop, drop-take, take-append-drop, take-take, take_at, drop_at, length-take-le, length-replicate, replicate-append-replicate, ext_get_or, get_or-take, get_or-drop}
+use Rattle.std.specs.Int.{w128, byte_at, bytes_low_first, to_le_bytes}
+use Rattle.raw_seg.specs.Bytes.{number_of, bytes_of, bytes_at, with_bytes}
+
+pub number_of-append : (xs ys : List ℕ) → number_of (xs ++ ys) ≡ number_of xs + 256 ^ length xs * number_of ys
+number_of-append [] ys = omega arith
+number_of-append (x ∷ xs) ys =
+    let rest = number_of-append xs ys in
+    let power : 256 ^ suc (length xs) * number_of ys ≡ 256 * (256 ^ length xs * number_of ys) = ap (λ n. n * number_of ys) (pow-suc 256 (length xs)) ∙ moved (256 ^ length xs) (number_of ys) in
+    omega (arith, rest, power)
+  where
+    moved : (p n : ℕ) → p * 256 * n ≡ 256 * (p * n)
+    moved p n = omega arith
+
+-- some bytes are their first half and their second
+pub bytes_at-add : (bytes : List ℕ) (at n m : ℕ) → bytes_at bytes at (n + m) ≡ bytes_at bytes at n ++ bytes_at bytes (at + n) m
+bytes_at-add bytes at n m =
+    let rest = take (n + m) (drop at bytes) in
+    let le : n ≤ n + m = omega arith in
+    sym (take-append-drop n rest) ∙ ap (λ front. front ++ drop n rest) (take-take n (n + m) (drop at bytes) le) ∙ ap (λ back. take n (drop at bytes) ++ back) (drop-take n m (drop at bytes) ∙ ap (take m) (drop-drop n at bytes))
+
+pub halves : (bytes : List ℕ) (at n m power : ℕ) → power ≡ 256 ^ n → at + n ≤ length bytes → number_of (bytes_at bytes at n) + number_of (bytes_at bytes (at + n) m) * power ≡ number_of (bytes_at bytes at (n + m))
+halves bytes at n m power is le =
+    let size : length (bytes_at bytes at n) ≡ n = length-take-le n (drop at bytes) (omega (arith, length-drop at bytes, le)) in
+    let whole = ap number_of (bytes_at-add bytes at n m) ∙ number_of-append (bytes_at bytes at n) (bytes_at bytes (at + n) m) in
+    let factor : 256 ^ length (bytes_at bytes at n) * number_of (bytes_at bytes (at + n) m) ≡ power * number_of (bytes_at bytes (at + n) m) = ap (λ k. 256 ^ k * number_of (bytes_at bytes (at + n) m)) size ∙ ap (λ p. p * number_of (bytes_at bytes (at + n) m)) (sym is) in
+    omega (arith, whole, factor)
+
+-- the bytes that `to_le_bytes` gives, from byte i on
+low_first : (i k n : ℕ) → bytes_low_first i k n ≡ bytes_of k (n / 256 ^ i)
+low_first i zero n = refl
+low_first i (suc k) n =
+    let next : n / 256 ^ suc i ≡ n / 256 ^ i / 256 = ap (λ p. n / p) (pow-suc 256 i) ∙ sym (div-div-eq-div-mul n (256 ^ i) 256) in
+    ap (λ b. b ∷ bytes_low_first (suc i) k n) (first i n) ∙ ap (λ bs. (n / 256 ^ i % 256) ∷ bs) (low_first (suc i) k n ∙ ap (bytes_of k) next)
+  where
+    first : (i n : ℕ) → byte_at i n ≡ n / 256 ^ i % 256
+    first zero n = let whole : n / 1 ≡ n = omega arith in ap (λ m. m % 256) (sym whole)
+    first (suc i) n = refl
+
+pub le_bytes_16 : (n : ℕ) → to_le_bytes w128 n ≡ bytes_of 16 n
+le_bytes_16 n = let whole : n / 1 ≡ n = omega arith in low_first 0 16 n ∙ ap (bytes_of 16) whole
+
+-- bytes written behind bytes just written
+pub with_bytes-with_bytes : (bytes : List ℕ) (at : ℕ) (first second : List ℕ) → at + length first + length second ≤ length bytes → with_bytes (with_bytes bytes at first) (at + length first) second ≡ with_bytes bytes at (first ++ second)
+with_bytes-with_bytes bytes at first second le = same_lists _ _ (search (rules, places)) (λ k d h. grind (arith, places))
+
+-- a fill goes on where one ended
+pub fill_more : (bytes : List ℕ) (from at n m byte : ℕ) → from + n ≡ at → from + n + m ≤ length bytes → with_bytes (with_bytes bytes from (replicate n byte)) at (replicate m byte) ≡ with_bytes bytes from (replicate (n + m) byte)
+fill_more bytes from at n m byte is le =
+    let done = replicate n byte in
+    let size : length done ≡ n = length-replicate n byte in
+    let more : length (replicate m byte) ≡ m = length-replicate m byte in
+    let here : from + length done ≡ at = omega (arith, size, is) in
+    let room : from + length done + length (replicate m byte) ≤ length bytes = omega (arith, size, more, le) in
+    ap (λ i. with_bytes (with_bytes bytes from done) i (replicate m byte)) (sym here)
+    ∙ with_bytes-with_bytes bytes from done (replicate m byte) room
+    ∙ ap (with_bytes bytes from) (replicate-append-replicate n m byte)
+
+pub length-with_bytes : (bytes : List ℕ) (at : ℕ) (new : List ℕ) → at + length new ≤ length bytes → length (with_bytes bytes at new) ≡ length bytes
+length-with_bytes bytes at new le = grind (arith, places)
+
+-- what was copied byte by byte
+pub copied : (bytes into : List ℕ) (from size : ℕ) → length into ≡ size → from + size ≤ length bytes → ((k : ℕ) → k < size → get_or into k 0 ≡ get_or bytes (from + k) 0) → into ≡ bytes_at bytes from size
+copied bytes into from size is le each =
+    let long : length (bytes_at bytes from size) ≡ size = length-take-le size (drop from bytes) (omega (arith, length-drop from bytes, le)) in
+    ext_get_or 0 into (bytes_at bytes from size) (is ∙ sym long)
+    (λ k lt. let below : k < size = omega (arith, lt, is) in each k below ∙ sym (get_or-take size (drop from bytes) k 0 below ∙ get_or-drop from bytes k 0))
+
+pub length-bytes_of : (width n : ℕ) → length (bytes_of width n) ≡ width
+length-bytes_of zero n = refl
+length-bytes_of (suc width) n = ap suc (length-bytes_of width (n / 256))
+
+-- the number that some of a number's lowest bytes make
+pub number_of-bytes_of : (width n : ℕ) → number_of (bytes_of width n) ≡ n % 256 ^ width
+number_of-bytes_of zero n = let none : n % 1 ≡ 0 = omega arith in sym none
+number_of-bytes_of (suc width) n =
+    let rest = number_of-bytes_of width (n / 256) in
+    let power = pow-suc 256 width in
+    ap (λ r. n % 256 + 256 * r) rest ∙ split (256 ^ width) n (some width) ∙ ap (λ p. n % p) (sym power)
+  where
+    some : (width : ℕ) → 0 < 256 ^ width
+    some zero = omega arith
+    some (suc width) = let before = some width in omega (arith, before, pow-suc 256 width)
+
+    split : (q n : ℕ) → 0 < q → n % 256 + 256 * ((n / 256) % q) ≡ n % (q * 256)
+    split q n some =
+        let low : (n / 256) % q < q = mod-lt (n / 256) some in
+        let parts = div-add-mod (n / 256) q in
+        let whole : n ≡ n / 256 / q * (q * 256) + (n % 256 + 256 * ((n / 256) % q)) = omega (arith, parts) in
+        let small : n % 256 + 256 * ((n / 256) % q) < q * 256 = omega (arith, low) in
+        sym (ap (λ m. m % (q * 256)) whole ∙ mod-mul-add (n / 256 / q) (q * 256) (n % 256 + 256 * ((n / 256) % q)) small)
+
+-- what was written is read again
+pub bytes_at-with_bytes : (bytes : List ℕ) (at : ℕ) (new : List ℕ) → at ≤ length bytes → bytes_at (with_bytes bytes at new) at (length new) ≡ new
+bytes_at-with_bytes bytes at new le =
+    let rest = drop (at + length new) bytes in
+    ap (take (length new)) (drop_at (take at bytes) (new ++ rest) at (length-take-le at bytes le)) ∙ take_at new rest (length new) refl
+
+-- and each other byte stays
+pub get_or-with_bytes_outside : (bytes : List ℕ) (at : ℕ) (new : List ℕ) (k d : ℕ) → at + length new ≤ length bytes → (k < at) ⊎ (at + length new ≤ k) → get_or (with_bytes bytes at new) k d ≡ get_or bytes k d
+get_or-with_bytes_outside bytes at new k d le outside = ⊎_elim (λ below. grind (arith, places)) (λ above. grind (arith, places)) outside
+
+pub number_at-stored : (bytes : List ℕ) (at width n : ℕ) → at + width ≤ length bytes → number_of (bytes_at (with_bytes bytes at (bytes_of width n)) at width) ≡ n % 256 ^ width
+number_at-stored bytes at width n le =
+    let size = length-bytes_of width n in
+    ap (λ w. number_of (bytes_at (with_bytes bytes at (bytes_of width n)) at w)) (sym size) ∙ ap number_of (bytes_at-with_bytes bytes at (bytes_of width n) (omega (arith, le))) ∙ number_of-bytes_of width n
+
+-- bytes that lie apart from those written stay
+pub bytes_at-with_bytes_apart : (bytes : List ℕ) (at : ℕ) (new : List ℕ) (other width : ℕ) → at + length new ≤ length bytes → (other + width ≤ at) ⊎ (at + length new ≤ other) → bytes_at (with_bytes bytes at new) other width ≡ bytes_at bytes other width
+bytes_at-with_bytes_apart bytes at new other width le apart =
+    let long = length-with_bytes bytes at new le in
+    same_lists _ _ (omega (arith, long, length-take width (drop other (with_bytes bytes at new)), length-take width (drop other bytes), length-drop other (with_bytes bytes at new), length-drop other bytes))
+    (λ k d lt.
+    let below : k < width = omega (arith, lt, length-take width (drop other (with_bytes bytes at new))) in
+    let away : (other + k < at) ⊎ (at + length new ≤ other + k) = ⊎_elim (λ before. inl (omega (arith, before, below))) (λ behind. inr (omega (arith, behind))) apart in
+    get_or-take width (drop other (with_bytes bytes at new)) k d below
+    ∙ get_or-drop other (with_bytes bytes at new) k d
+    ∙ get_or-with_bytes_outside bytes at new (other + k) d le away
+    ∙ sym (get_or-take width (drop other bytes) k d below ∙ get_or-drop other bytes k d))
+
+-- a word that was written is read again
+pub word_at-stored : (bytes : List ℕ) (at n : ℕ) → at + 8 ≤ length bytes → n < 2 ^ 64 → number_of (bytes_at (with_bytes bytes at (bytes_of 8 n)) at 8) ≡ n
+word_at-stored bytes at n le small = number_at-stored bytes at 8 n le ∙ mod-eq_of_lt small

@@ -1,0 +1,281 @@
+// Raw bytes behind one type.
+#![tactic(auto)]
+
+ghost use Rattle.std.specs.Prelude.{◌≡◌, ℕ, ◌+◌, ◌-◌, ◌*◌, ◌%◌, ◌^◌, ◌<◌, ◌≤◌, ◌⊎◌, length, replicate, slice_index, IfOk};
+ghost use Rattle.raw_seg.specs.Bytes.{number_of, bytes_of, bytes_at, with_bytes, IsWidth};
+
+use core::slots::{Lease, Slots, release, reserve};
+use std::alloc::{AllocError, Global};
+use std::marker::Model;
+use std::sync::ledger::Ledger;
+
+pub mod steps;
+
+use steps::Steps;
+
+// So many bytes are filled at once.
+const BLOCK: usize = 32;
+
+/// A region of memory, seen as a list of bytes. It is freed when the value is dropped.
+pub struct Seg {
+    slots: Slots<u8>,
+    lease: Lease<u8, Global>,
+    alloc: Global,
+}
+
+impl Model for Seg {
+    ghost use Rattle.std.specs.Prelude.{◌≡◌, ℕ, List};
+    ghost use Rattle.core.specs.Mem.Slots.{slots_items, slots_ptr, slots_len, lease_ptr, lease_len, lease_heap, IsFull};
+
+    ghost Value = { List ℕ };
+
+    ghost view = { λ s. slots_items s.slots };
+
+    ghost invariant = { λ s. IsFull s.slots × (lease_ptr s.lease ≡ slots_ptr s.slots) × (lease_len s.lease ≡ slots_len s.slots) × (lease_heap s.lease ≡ s.alloc) };
+}
+
+impl Seg {
+    /// So many zeros.
+    pub fn new(alloc: Global, len: usize) -> Result<Seg, AllocError>
+        ensures { IfOk result (λ seg. seg ≡ replicate len 0) }
+    {
+        let zeros = vec![in alloc; 0u8; len]?;
+        let (mut slots, lease) = unsafe { reserve(&alloc, &zeros)? };
+        slots.copy_in(0, &zeros);
+        Ok(Seg {
+            slots,
+            lease,
+            alloc,
+        })
+    }
+
+    pub fn len(&self) -> usize
+        ensures { result ≡ length self.now }
+    {
+        self.slots.len()
+    }
+
+    /// The number in `width` bytes, the lowest first.
+    #[inline(always)]
+    pub fn load(&self, at: usize, width: usize) -> u128
+        requires width { IsWidth width }
+        requires aligned { at % width ≡ 0 }
+        requires inside { at + width ≤ length self.now }
+        ensures value { result ≡ number_of (bytes_at self.now at width) }
+        ensures fits { result < 256 ^ width }
+    {
+        match width {
+            1 => u128::from(self.byte(at)),
+            2 => u128::from(self.load_2(at)),
+            4 => u128::from(self.load_4(at)),
+            8 => u128::from(self.load_8(at)),
+            _ => self.load_16(at),
+        }
+    }
+
+    /// Writes the lowest `width` bytes of a number, the lowest first, and no other byte.
+    #[inline(always)]
+    pub fn store(&mut self, at: usize, width: usize, value: u128)
+        requires width { IsWidth width }
+        requires aligned { at % width ≡ 0 }
+        requires inside { at + width ≤ length self.old }
+        ensures bytes { self.new ≡ with_bytes self.old at (bytes_of width value) }
+        ensures stored { number_of (bytes_at self.new at width) ≡ value % 256 ^ width }
+        ensures others { (k : ℕ) → (k < at) ⊎ (at + width ≤ k) → slice_index self.new k ≡ slice_index self.old k }
+        ensures len { length self.new ≡ length self.old }
+    {
+        match width {
+            1 => self.put(at, &[(value % 256) as u8]),
+            2 => self.put(at, &((value % 65536) as u16).to_le_bytes()),
+            4 => self.put(at, &((value % 4294967296) as u32).to_le_bytes()),
+            8 => self.put(at, &((value % 18446744073709551616) as u64).to_le_bytes()),
+            _ => self.put(at, &value.to_le_bytes()),
+        }
+    }
+
+    /// Writes one byte over those from `from` up to `to`, and no other byte.
+    pub fn fill(&mut self, from: usize, to: usize, byte: u8)
+        requires order { from ≤ to }
+        requires inside { to ≤ length self.old }
+        ensures bytes { self.new ≡ with_bytes self.old from (replicate (to - from) byte) }
+        ensures len { length self.new ≡ length self.old }
+    {
+        let blocks = (to - from) / BLOCK;
+        self.fill_blocks(from, blocks, byte);
+        self.fill_bytes(from + BLOCK * blocks, to, byte);
+    }
+
+    /// Copies the bytes from `from` on, as many as there is room for.
+    pub fn copy_out(&self, from: usize, into: &mut [u8])
+        requires { from + length into.old ≤ length self.now }
+        ensures { into.new ≡ bytes_at self.now from (length into.old) }
+    {
+        // A use of a field tells the check that the region is shorter than 2^64 bytes.
+        let _ = &self.slots;
+        for (i, byte) in into.iter_mut().enumerate() {
+            *byte = self.byte(from + i);
+        }
+    }
+
+    /// The eight bytes from a place on as a number, which is one step of work.
+    #[inline(always)]
+    pub fn word<L: Ledger>(&self, at: usize, steps: &mut Steps<L>) -> u64
+        requires aligned { at % 8 ≡ 0 }
+        requires inside { at + 8 ≤ length self.now }
+        ensures value { result ≡ number_of (bytes_at self.now at 8) }
+        ensures step { steps.new ≡ steps.old + 1 }
+    {
+        steps.tick();
+        self.load_8(at)
+    }
+
+    /// Writes a number over the eight bytes from a place on.
+    #[inline(always)]
+    pub fn set_word(&mut self, at: usize, value: u64)
+        requires aligned { at % 8 ≡ 0 }
+        requires inside { at + 8 ≤ length self.old }
+        ensures bytes { self.new ≡ with_bytes self.old at (bytes_of 8 value) }
+        ensures len { length self.new ≡ length self.old }
+    {
+        self.put(at, &value.to_le_bytes());
+    }
+
+    fn fill_blocks(&mut self, from: usize, blocks: usize, byte: u8)
+        requires inside { from + BLOCK * blocks ≤ length self.old }
+        requires small { from + BLOCK * blocks < 2 ^ 64 }
+        ensures bytes { self.new ≡ with_bytes self.old from (replicate (BLOCK * blocks) byte) }
+        ensures len { length self.new ≡ length self.old }
+    {
+        for i in 0..blocks {
+            self.put(from + BLOCK * i, &[byte; BLOCK]);
+        }
+    }
+
+    fn fill_bytes(&mut self, from: usize, to: usize, byte: u8)
+        requires order { from ≤ to }
+        requires inside { to ≤ length self.old }
+        ensures bytes { self.new ≡ with_bytes self.old from (replicate (to - from) byte) }
+        ensures len { length self.new ≡ length self.old }
+    {
+        for at in from..to {
+            self.put(at, &[byte]);
+        }
+    }
+
+    #[inline(always)]
+    fn byte(&self, at: usize) -> u8
+        requires { at < length self.now }
+        ensures { result ≡ slice_index self.now at }
+    {
+        *self.slots.get(at)
+    }
+
+    #[inline(always)]
+    fn load_2(&self, at: usize) -> u16
+        requires { at + 2 ≤ length self.now }
+        ensures { result ≡ number_of (bytes_at self.now at 2) }
+    {
+        let _ = &self.slots;
+        u16::from_le_bytes([self.byte(at), self.byte(at + 1)])
+    }
+
+    #[inline(always)]
+    fn load_4(&self, at: usize) -> u32
+        requires { at + 4 ≤ length self.now }
+        ensures { result ≡ number_of (bytes_at self.now at 4) }
+    {
+        let _ = &self.slots;
+        u32::from(self.load_2(at)) + u32::from(self.load_2(at + 2)) * 65536
+    }
+
+    #[inline(always)]
+    fn load_8(&self, at: usize) -> u64
+        requires { at + 8 ≤ length self.now }
+        ensures { result ≡ number_of (bytes_at self.now at 8) }
+    {
+        let _ = &self.slots;
+        u64::from(self.load_4(at)) + u64::from(self.load_4(at + 4)) * 4294967296
+    }
+
+    #[inline(always)]
+    fn load_16(&self, at: usize) -> u128
+        requires { at + 16 ≤ length self.now }
+        ensures { result ≡ number_of (bytes_at self.now at 16) }
+    {
+        let _ = &self.slots;
+        u128::from(self.load_8(at)) + u128::from(self.load_8(at + 8)) * 18446744073709551616
+    }
+
+    #[inline(always)]
+    fn put(&mut self, at: usize, bytes: &[u8])
+        requires { at + length bytes.now ≤ length self.old }
+        ensures bytes { self.new ≡ with_bytes self.old at bytes.now }
+        ensures len { length self.new ≡ length self.old }
+    {
+        self.slots.copy_in(at, bytes);
+    }
+}
+
+impl Drop for Seg {
+    fn drop(self) {
+        let Seg {
+            slots,
+            lease,
+            alloc,
+        } = self;
+        release(&alloc, slots, lease);
+    }
+}
+
+#[cfg(test)]
+mod tests {
+    use super::*;
+    use std::marker::Brand;
+    use std::sync::ledger::Blank;
+    use std::test::Fail;
+
+    #[test]
+    fn stores_its_own_bytes(rt: HostRuntime) -> Result<(), Fail> {
+        let mut seg = Seg::new(rt.alloc(), 32)?;
+        assert_eq!(rt; seg.len(), 32);
+        seg.store(8, 4, 0x01020304);
+        assert_eq!(rt; seg.load(8, 1), 4);
+        assert_eq!(rt; seg.load(10, 2), 0x0102);
+        assert_eq!(rt; seg.load(0, 8), 0);
+        seg.store(16, 16, 0x0102030405060708090a0b0c0d0e0f10);
+        assert_eq!(rt; seg.load(16, 16), 0x0102030405060708090a0b0c0d0e0f10);
+        assert_eq!(rt; seg.load(24, 8), 0x0102030405060708);
+        seg.store(12, 2, 0x12345);
+        assert_eq!(rt; seg.load(8, 8), 0x2345_0102_0304);
+        Ok(())
+    }
+
+    /// The word from a place on, for a caller that counts nothing.
+    fn word_of<L: Ledger>(seg: &Seg, at: usize, blank: Blank) -> u64
+        requires aligned { at % 8 ≡ 0 }
+        requires inside { at + 8 ≤ length seg.now }
+        requires name { blank.name ≡ L.name }
+        requires parts { blank.parts ≡ L.parts }
+        requires some { 0 < blank.parts }
+    {
+        let mut steps = Steps::<L>::new(blank);
+        seg.word(at, &mut steps)
+    }
+
+    #[test]
+    fn fills_and_copies(rt: HostRuntime) -> Result<(), Fail> {
+        let mut seg = Seg::new(rt.alloc(), 80)?;
+        seg.fill(3, 75, 7);
+        seg.set_word(8, 0x0807060504030201);
+        assert_eq!(rt;
+            word_of::<Brand>(&seg, 8, Blank::new(1)),
+            0x0807060504030201
+        );
+        assert_eq!(rt; seg.load(0, 8), 0x0707070707000000);
+        assert_eq!(rt; seg.load(72, 8), 0x070707);
+        let mut copy = [0; 6];
+        seg.copy_out(12, &mut copy);
+        assert_eq!(rt; copy, [5, 6, 7, 8, 7, 7]);
+        Ok(())
+    }
+}
