@@ -1,5 +1,5 @@
 -- Which texts are accepted, with which program, and which are refused, why.
-use Rattle.std.specs.Prelude.{◌≡◌, ◌⊎◌, ℕ, List, Option, Some, Bool, true, codes}
+use Rattle.std.specs.Prelude.{◌≡◌, ◌⊎◌, ℕ, List, Some, true, codes}
 use Rattle.std.specs.List.{AllByRecursion}
 use Rattle.grammar.specs.Exact.{Accepts}
 use Rattle.c_syntax.specs.Programs.{TranslationUnit, PlainRefusal}

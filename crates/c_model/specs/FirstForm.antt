@@ -8,20 +8,18 @@
 --   atom = NAME | NUMBER | CHAR | "(" expr ")"
 --
 -- In an assert a parenthesis holds a sum. Each name is declared earlier, once, and an initialiser doesn't mention its own variable.
-use Rattle.std.specs.Prelude.{◌≡◌, ℕ, zero, suc, ◌+◌, ◌-◌, ℤ, pos, List, [], ◌∷◌, ◌++◌, length, Option, Some, None, option_map, Bool, true, false, cond, eqb, leb, ltb, codes, slice_get}
+use Rattle.std.specs.Prelude.{ℕ, zero, suc, ◌+◌, ◌-◌, ℤ, pos, List, [], ◌∷◌, ◌++◌, length, Option, Some, None, option_map, Bool, true, false, cond, eqb, leb, ltb, codes, slice_get}
 use Rattle.grammar.specs.Syntax.{Syntax, none, gives, one, ◌then◌, choice, many, knot, at_most}
 use Rattle.c_syntax.specs.declared.place.Place.{Place}
-use Rattle.c_syntax.specs.declared.types.CInt.{CInt}
 use Rattle.c_syntax.specs.declared.types.CInt.TheVariants.{I32}
 use Rattle.c_syntax.specs.declared.expression.Use.{Use}
 use Rattle.c_syntax.specs.declared.expression.BinOp.{BinOp}
 use Rattle.c_syntax.specs.declared.expression.BinOp.TheVariants as operator
-use Rattle.c_syntax.specs.declared.annotation.Kind.{Kind}
 use Rattle.c_syntax.specs.declared.annotation.Kind.TheVariants as clause
 use Rattle.c_syntax.specs.declared.annotation.Range.{Range}
 use Rattle.c_syntax.specs.declared.annotation.Relation.{Relation}
 use Rattle.c_syntax.specs.declared.annotation.Relation.TheVariants as relation
-use Rattle.c_syntax.specs.Ctypes.{PlainType, int_type}
+use Rattle.c_syntax.specs.Ctypes.{int_type}
 use Rattle.c_syntax.specs.Expressions as expression
 use Rattle.c_syntax.specs.Expressions.{Expression, Expressions, NoExpression, Following}
 use Rattle.c_syntax.specs.Annotations as logic

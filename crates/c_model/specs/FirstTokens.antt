@@ -1,6 +1,6 @@
 -- The token list of a text that is one `main` over variables of type `int` (C99 6.4, and ACSL for annotations):
 -- the text is cut into pieces with their places, and the pieces make tokens. A text with a piece of another form has none.
-use Rattle.std.specs.Prelude.{◌≡◌, ℕ, zero, suc, ◌+◌, ◌-◌, ◌*◌, ◌≤◌, ℤ, pos, List, [], ◌∷◌, ◌++◌, length, take, Option, Some, None, option_map, Bool, true, false, not, ◌||◌, ◌&&◌, nat_le, nat_lt, nat_eq, if◌then◌else◌, codes, bytes_eq}
+use Rattle.std.specs.Prelude.{ℕ, zero, suc, ◌+◌, ◌-◌, ◌*◌, pos, List, [], ◌∷◌, ◌++◌, length, take, Option, Some, None, Bool, true, false, not, ◌||◌, ◌&&◌, nat_le, nat_lt, nat_eq, if◌then◌else◌, codes, bytes_eq}
 use Rattle.std.specs.List.{prefix_len, starts_with, list_any, position_or_len}
 use Rattle.c_syntax.specs.declared.place.Place.{Place}
 use Rattle.c_model.specs.declared.first_tokens.Lexeme.{Lexeme}

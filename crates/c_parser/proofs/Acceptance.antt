@@ -1,24 +1,23 @@
 -- What the parts' answers mean for a whole text.
-use Rattle.std.proofs.Common.{◌≡◌, ℕ, zero, suc, ◌+◌, ◌<◌, Bool, true, false, cond, ltb, eqb, List, [], ◌∷◌, ◌++◌, length, take, Option, Some, None, Result, Ok, Err, refl, sym, ap, subst, ◌∙◌, arith, ◌&&◌, ◌⊎◌, inl, inr}
+use Rattle.std.proofs.Common.{◌≡◌, ℕ, ◌<◌, Bool, true, false, cond, ltb, List, [], ◌∷◌, ◌++◌, length, Option, Some, None, Result, Ok, refl, sym, ap, subst, ◌∙◌, arith, ◌&&◌, inl, inr}
 use Rattle.std.specs.Prelude.{codes, slice_get, bytes_eq}
-use Rattle.std.specs.List.{list_any, AllByRecursion}
+use Rattle.std.specs.List.{list_any}
 use Rattle.grammar.specs.Syntax.{Fault}
-use Rattle.grammar.specs.Exact.{Accepts}
 use Rattle.grammar.proofs.Parts.{ok_is}
-use Rattle.grammar.proofs.Theorem.{accepts, accepts_back, at_most_one}
+use Rattle.grammar.proofs.Theorem.{accepts, accepts_back}
 use Rattle.c_syntax.specs.declared.place.Place.{Place}
 use Rattle.c_syntax.specs.declared.refusal.FrontFault.{FrontFault}
 use Rattle.c_syntax.specs.declared.refusal.FrontFault.TheVariants as front
-use Rattle.c_syntax.specs.Programs.{TranslationUnit, PlainRefusal, plain_refusal}
+use Rattle.c_syntax.specs.Programs.{TranslationUnit, PlainRefusal}
 use Rattle.c_model.specs.declared.first_tokens.Token.{Token}
 use Rattle.c_model.specs.declared.first_tokens.Mode.{Mode}
 use Rattle.c_model.specs.declared.first_tokens.Mode.TheVariants.{Code, Opened, Annotation}
 use Rattle.c_model.specs.declared.first_tokens.Piece.{Piece}
 use Rattle.c_model.specs.declared.first_tokens.Piece.TheVariants as piece
 use Rattle.c_model.specs.declared.first_tokens.Lexeme.TheVariants as lexeme
-use Rattle.c_model.specs.FirstTokens.{Pieces, Ended, Broken, Cut, Tokens, is_blank, next, cut, piece_at, with_name, add, closed, limited, most_tokens, build, first_place, nothing_read, tokens_of}
-use Rattle.c_model.specs.FirstForm.{kind, lexeme_kind, main_head, form}
-use Rattle.c_model.specs.Accepted.{Accepted, IsBlankText, IsFormless, IsRefusal, no_main, no_form}
+use Rattle.c_model.specs.FirstTokens.{Pieces, Ended, Broken, Cut, Tokens, is_blank, next, cut, piece_at, with_name, add, closed, most_tokens, build, first_place, nothing_read, tokens_of}
+use Rattle.c_model.specs.FirstForm.{lexeme_kind, main_head, form}
+use Rattle.c_model.specs.Accepted.{Accepted, IsBlankText, IsRefusal, no_main, no_form}
 use Rattle.c_parser.specs.Reading.{is_fault, Fails}
 use Rattle.c_parser.specs.declared.fault.ReadFault.{ReadFault}
 use Rattle.c_parser.specs.declared.fault.ReadFault.TheVariants.{Form, Memory}
@@ -36,6 +35,7 @@ named_first names w x e = by (list_any (bytes_eq x) names)
     behind : (ns : List (List ℕ)) → slice_get ns 0 ≡ Some w → slice_get (ns ++ (x ∷ [])) 0 ≡ Some w
     behind [] e = absurd cc
     behind (y ∷ ns) e = e
+
     by : (b : Bool) → slice_get (cond b names (names ++ x ∷ [])) 0 ≡ Some w
     by true = e
     by false = behind names e

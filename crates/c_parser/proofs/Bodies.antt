@@ -3,16 +3,14 @@ use Rattle.std.proofs.Common.{◌≡◌, ℕ, zero, suc, ◌+◌, ◌≤◌, Lis
 use Rattle.std.specs.Prelude.{Vec, codes, slice_get}
 use Rattle.std.specs.declared.alloc.Global.{Global}
 use Rattle.c_syntax.specs.declared.place.Place.{Place}
-use Rattle.c_syntax.specs.declared.expression.Use.{Use}
-use Rattle.c_syntax.specs.declared.expression.BinOp.{BinOp}
 use Rattle.c_syntax.specs.declared.statement.Item.{Item}
 use Rattle.c_syntax.specs.declared.statement.StmtKind as code
 use Rattle.c_syntax.specs.Expressions as expression
 use Rattle.c_syntax.specs.Expressions.{Expression}
-use Rattle.c_syntax.specs.Statements.{Declaration, Initialiser, One, Statement, Block, BlockItem, Declare, Run, Asserts, BlockItems, NoItem, Then, plain_item, plain_items, plain_stmt_kind}
-use Rattle.c_syntax.proofs.Rows.{block_is, call_is}
+use Rattle.c_syntax.specs.Statements.{Declaration, Initialiser, One, Block, BlockItem, Declare, Run, Asserts, NoItem, Then, plain_item, plain_items, plain_stmt_kind}
+use Rattle.c_syntax.proofs.Rows.{block_is}
 use Rattle.c_model.specs.FirstForm.{Scope, block_items, int_declaration, most_variables, main_function, one_function}
-use Rattle.c_model.specs.IntPrograms.{IsPure, IsVariable, IsIntItem, IsIntInit, IsIntDeclaration, AreIntItems, AreMainItems, IsIntProgram}
+use Rattle.c_model.specs.IntPrograms.{IsPure, IsIntItem, IsIntInit, IsIntDeclaration, AreIntItems, AreMainItems, IsIntProgram}
 use Rattle.c_parser.specs.Bodies.{AreDeclared}
 
 items_are : (all : List Item) → plain_items all ≡ block_items (map plain_item all)

@@ -1,13 +1,13 @@
 -- One turn of the loop over the pieces of a text.
 use Rattle.std.proofs.lemmas.List.{drop-drop}
-use Rattle.std.proofs.Common.{◌≡◌, ℕ, zero, suc, ◌+◌, ◌<◌, ◌≤◌, Bool, true, false, cond, ltb, List, [], ◌∷◌, ◌++◌, length, take, drop, Option, Some, None, Result, refl, sym, ap, subst, ◌∙◌, arith, add-one}
+use Rattle.std.proofs.Common.{◌≡◌, ℕ, zero, suc, ◌+◌, ◌<◌, true, false, ltb, List, [], ◌∷◌, length, take, drop, Option, Some, None, Result, refl, sym, ap, subst, ◌∙◌, arith, add-one}
 use Rattle.c_syntax.specs.declared.place.Place.{Place}
 use Rattle.c_parser.specs.declared.fault.ReadFault.{ReadFault}
 use Rattle.c_parser.specs.declared.lexer.TokenList.{TokenList}
 use Rattle.c_parser.specs.Reading.{GivesSome, plain_tokens}
 use Rattle.c_model.specs.declared.first_tokens.Mode.{Mode}
 use Rattle.c_model.specs.declared.first_tokens.Piece.{Piece}
-use Rattle.c_model.specs.FirstTokens.{Pieces, Ended, Broken, Cut, next, walk, mode_after, cut, piece_at, Tokens, add, build, limited, most_tokens}
+use Rattle.c_model.specs.FirstTokens.{Ended, Broken, Cut, next, walk, mode_after, cut, piece_at, Tokens, add, build, most_tokens}
 
 pub cut_skip : (k : ℕ) (at : Place) (m : Mode) (bs : List ℕ) → cut k at m bs ≡ cut 0 (walk at (take k bs)) m (drop k bs)
 unfolding cut

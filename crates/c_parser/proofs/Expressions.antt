@@ -1,17 +1,13 @@
 -- Expressions are read exactly.
-use Rattle.std.proofs.Common.{◌≡◌, ℕ, zero, suc, ◌+◌, ◌<◌, Bool, true, false, cond, eqb, ltb, List, [], ◌∷◌, ◌++◌, length, refl, sym, ap, subst, Option, Some, None, arith}
-use Rattle.grammar.specs.Syntax.{Syntax, among, one, gives, ◌then◌, choice, many, knot}
+use Rattle.std.proofs.Common.{◌≡◌, ℕ, suc, true, false, List, [], ◌∷◌, ◌++◌, refl}
+use Rattle.grammar.specs.Syntax.{Syntax}
 use Rattle.grammar.specs.Exact.{IsExact, IsGood}
 use Rattle.grammar.proofs.Sets.{apart}
-use Rattle.grammar.proofs.Productions.{seq, after, either, again_and_again, declared, given, same, knot_exact, knot_is}
-use Rattle.c_syntax.specs.declared.place.Place.{Place}
+use Rattle.grammar.proofs.Productions.{seq, after, either, again_and_again, declared, given, knot_exact, knot_is}
 use Rattle.c_syntax.specs.Expressions.{Expression}
 use Rattle.c_model.specs.declared.first_tokens.Token.{Token}
-use Rattle.c_model.specs.declared.first_tokens.TokenKind.{TokenKind}
-use Rattle.c_model.specs.declared.first_tokens.TokenKind.TheVariants.{Fixed, Name, Number, Letter}
-use Rattle.c_model.specs.declared.first_tokens.Lexeme.{Lexeme}
 use Rattle.c_model.specs.declared.first_tokens.Lexeme.TheVariants.{LeftParen, RightParen}
-use Rattle.c_model.specs.FirstForm.{Scope, kind, token_kind, lexeme_kind, name_kind, number_kind, letter_kind, is_fixed, fixed, placed, number_of, letter_of, variable_of, additive, relational, first_additive, first_relational, parenthesised, variable_used, integer_literal, character_literal, primary, sum_once, sum_more, sum, comparison, compared, expr_of, expr}
+use Rattle.c_model.specs.FirstForm.{Scope, kind, lexeme_kind, name_kind, number_kind, letter_kind, first_additive, first_relational, parenthesised, variable_used, integer_literal, character_literal, primary, sum_once, sum_more, sum, comparison, compared, expr_of, expr}
 use Rattle.c_parser.proofs.Terminal.{fixed_good, variable_good, number_good, letter_good, additive_good, relational_good}
 
 -- what an expression begins with

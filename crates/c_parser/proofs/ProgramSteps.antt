@@ -1,15 +1,14 @@
 -- The whole text is read exactly.
-use Rattle.std.proofs.Common.{◌≡◌, ℕ, zero, suc, ◌+◌, ◌-◌, Bool, true, false, cond, List, [], ◌∷◌, ◌++◌, length, Result, Ok, Err, refl, sym, ap}
-use Rattle.grammar.specs.Syntax.{Syntax, sees, none, one, gives, ◌then◌, many}
+use Rattle.std.proofs.Common.{◌≡◌, ℕ, ◌-◌, Bool, true, false, cond, List, [], ◌∷◌, Ok, refl}
+use Rattle.grammar.specs.Syntax.{sees, none, gives}
 use Rattle.grammar.specs.Exact.{IsExact, IsGood}
 use Rattle.grammar.proofs.Parts.{widen, none_exact}
 use Rattle.grammar.proofs.Productions.{seq, again_and_again, declared, given, same, turn, turn_fails, turn_ends}
 use Rattle.c_syntax.specs.declared.place.Place.{Place}
 use Rattle.c_syntax.specs.Statements.{BlockItem}
-use Rattle.c_syntax.specs.Programs.{TranslationUnit}
 use Rattle.c_model.specs.declared.first_tokens.Token.{Token}
 use Rattle.c_model.specs.declared.first_tokens.Lexeme.TheVariants as lexeme
-use Rattle.c_model.specs.FirstForm.{Scope, Declared, kind, lexeme_kind, name_kind, first_statement, first_item, declaration, declarations, main_head, main_end, all_declared, one_function, main_function, most_nested, items, statement_in, form}
+use Rattle.c_model.specs.FirstForm.{Scope, Declared, kind, lexeme_kind, first_item, declaration, declarations, main_head, main_end, all_declared, one_function, main_function, most_nested, items, statement_in, form}
 use Rattle.c_parser.specs.Reading.{is_fault}
 use Rattle.c_parser.proofs.Terminal.{fixed_good, named_good, new_good}
 use Rattle.c_parser.proofs.Turns.{fault_is}

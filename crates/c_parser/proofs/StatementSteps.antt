@@ -1,6 +1,6 @@
 -- Statements are read exactly.
-use Rattle.std.proofs.Common.{◌≡◌, ℕ, zero, suc, ◌+◌, ◌-◌, ◌<◌, Bool, true, false, cond, List, [], ◌∷◌, ◌++◌, length, Result, Ok, Err, refl, sym, ap, subst, ◌∙◌, arith, ◌⊎◌, inl, inr}
-use Rattle.grammar.specs.Syntax.{Syntax, Fault, sees, none, one, gives, ◌then◌, choice, many, at_most}
+use Rattle.std.proofs.Common.{◌≡◌, ℕ, zero, suc, ◌-◌, ◌<◌, Bool, true, false, cond, List, [], ◌∷◌, Ok, refl, arith, inl, inr}
+use Rattle.grammar.specs.Syntax.{sees, none, gives, ◌then◌, choice}
 use Rattle.grammar.specs.Exact.{IsExact, IsGood}
 use Rattle.grammar.proofs.Sets.{within, apart}
 use Rattle.grammar.proofs.Parts.{widen, none_exact, gives_exact}

@@ -1,7 +1,7 @@
 -- Single tokens are read exactly.
-use Rattle.std.proofs.Common.{◌≡◌, ℕ, suc, ◌+◌, Bool, true, false, cond, eqb, leb, ltb, List, [], ◌∷◌, length, refl, sym, ap, Option, Some, None}
-use Rattle.grammar.specs.Syntax.{Syntax, among, one}
-use Rattle.grammar.specs.Exact.{IsExact, IsGood}
+use Rattle.std.proofs.Common.{◌≡◌, ℕ, ◌+◌, Bool, true, false, cond, eqb, ltb, List, [], ◌∷◌, length, refl, Option, Some, None}
+use Rattle.grammar.specs.Syntax.{among, one}
+use Rattle.grammar.specs.Exact.{IsGood}
 use Rattle.grammar.proofs.Parts.{one_exact}
 use Rattle.grammar.proofs.Productions.{same}
 use Rattle.c_syntax.specs.declared.place.Place.{Place}
@@ -12,7 +12,7 @@ use Rattle.c_model.specs.declared.first_tokens.Token.{Token}
 use Rattle.c_model.specs.declared.first_tokens.TokenKind.{TokenKind}
 use Rattle.c_model.specs.declared.first_tokens.TokenKind.TheVariants.{Fixed, Name, Number, Letter}
 use Rattle.c_model.specs.declared.first_tokens.Lexeme.{Lexeme}
-use Rattle.c_model.specs.declared.first_tokens.Lexeme.TheVariants.{Int, Void, If, Else, While, Return, Putchar, Assert, LeftParen, RightParen, LeftBrace, RightBrace, Semicolon, Assign, Plus, Minus, Equal, NotEqual, Less, LessEqual, Greater, GreaterEqual, AnnotOpen, AnnotClose}
+use Rattle.c_model.specs.declared.first_tokens.Lexeme.TheVariants.{Plus, Minus, Equal, NotEqual, Less, LessEqual, Greater, GreaterEqual}
 use Rattle.c_model.specs.FirstForm.{Scope, kind, token_kind, lexeme_kind, name_kind, number_kind, letter_kind, is_fixed, fixed, placed, number_of, letter_of, variable_of, is_name, named, new_name, most_variables, additive, relational, relation_of, first_additive, first_relational}
 
 fixed_kind : (k : Lexeme) (t : Token) (p : Place) → is_fixed k t ≡ Some p → among (kind t) (lexeme_kind k ∷ []) ≡ true

@@ -1,12 +1,12 @@
 -- Terms and asserts are read exactly.
-use Rattle.std.proofs.Common.{◌≡◌, ℕ, suc, ◌+◌, Bool, true, false, cond, List, [], ◌∷◌, ◌++◌, length, refl}
-use Rattle.grammar.specs.Syntax.{Syntax, one, gives, ◌then◌, choice, many, knot}
+use Rattle.std.proofs.Common.{◌≡◌, ℕ, suc, true, false, List, [], ◌∷◌, refl}
+use Rattle.grammar.specs.Syntax.{Syntax, ◌then◌}
 use Rattle.grammar.specs.Exact.{IsExact, IsGood}
-use Rattle.grammar.proofs.Productions.{seq, after, either, again_and_again, declared, given, same, knot_exact, knot_is}
+use Rattle.grammar.proofs.Productions.{seq, either, again_and_again, declared, given, same, knot_exact, knot_is}
 use Rattle.c_syntax.specs.Annotations.{LogicTerm}
 use Rattle.c_model.specs.declared.first_tokens.Token.{Token}
-use Rattle.c_model.specs.declared.first_tokens.Lexeme.TheVariants.{LeftParen, Assert, Semicolon}
-use Rattle.c_model.specs.FirstForm.{Scope, kind, lexeme_kind, name_kind, number_kind, letter_kind, first_additive, first_relational, parenthesised, term_variable, term_integer, term_character, term_primary, term_once, term_more, term_of, term, assert_clause}
+use Rattle.c_model.specs.declared.first_tokens.Lexeme.TheVariants.{Assert, Semicolon}
+use Rattle.c_model.specs.FirstForm.{Scope, kind, lexeme_kind, name_kind, number_kind, letter_kind, first_additive, term_variable, term_integer, term_character, term_primary, term_once, term_more, term_of, term, assert_clause}
 use Rattle.c_parser.proofs.Terminal.{fixed_good, variable_good, number_good, letter_good, additive_good, relation_good}
 use Rattle.c_parser.proofs.Expressions.{first_expr, parenthesised_good}
 

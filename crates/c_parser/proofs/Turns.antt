@@ -1,6 +1,6 @@
 -- One turn of a repetition.
-use Rattle.std.proofs.Common.{◌≡◌, ℕ, suc, Bool, true, false, cond, List, [], ◌∷◌, Result, Ok, Err, refl}
-use Rattle.grammar.specs.Syntax.{Syntax, Fault, sees}
+use Rattle.std.proofs.Common.{◌≡◌, true, false, List, Result, Ok, Err, refl}
+use Rattle.grammar.specs.Syntax.{Fault, sees}
 use Rattle.grammar.proofs.Productions.{same, turn, turn_fails, turn_ends}
 use Rattle.c_syntax.specs.Expressions.{Expression}
 use Rattle.c_model.specs.declared.first_tokens.Token.{Token}

@@ -1,12 +1,12 @@
 -- What is read within a limit of tokens is what is read in a window of one token more.
-use Rattle.std.proofs.Common.{◌≡◌, ℕ, zero, suc, ◌+◌, ◌-◌, ◌<◌, ◌≤◌, Bool, true, false, cond, ltb, List, [], ◌∷◌, ◌++◌, length, take, drop, Result, Ok, Err, refl, sym, ap, subst, ◌∙◌, append_assoc, arith, length-append, length-take, length-drop}
-use Rattle.std.proofs.lemmas.Bool.{lt-ltb, le-ltb, ltb-true, ltb-false}
+use Rattle.std.proofs.Common.{◌≡◌, ℕ, zero, suc, ◌+◌, ◌-◌, ◌<◌, ◌≤◌, Bool, true, false, cond, ltb, List, [], ◌∷◌, ◌++◌, length, take, drop, Result, Ok, Err, refl, sym, ap, subst, ◌∙◌, append_assoc, arith, length-append}
+use Rattle.std.proofs.lemmas.Bool.{le-ltb, ltb-false}
 use Rattle.grammar.specs.Syntax.{Syntax, Fault, At, Over, capped, at_most}
-use Rattle.grammar.specs.Exact.{IsExact, Takes, SameHead}
+use Rattle.grammar.specs.Exact.{IsExact, SameHead}
 use Rattle.c_syntax.specs.Expressions.{Expression}
 use Rattle.c_syntax.specs.Annotations.{Annotation}
 use Rattle.c_model.specs.declared.first_tokens.Token.{Token}
-use Rattle.c_model.specs.FirstForm.{Scope, kind, most_in_expression, expr, full_expr, assert_clause, full_clause}
+use Rattle.c_model.specs.FirstForm.{Scope, most_in_expression, expr, full_expr, assert_clause, full_clause}
 use Rattle.c_parser.specs.Reading.{is_fault}
 use Rattle.c_parser.proofs.Expressions.{expr_exact}
 use Rattle.c_parser.proofs.Terms.{assert_clause_exact}
@@ -66,7 +66,7 @@ module _ {T A : Type 0} {K : T → ℕ} {G : Syntax T A} {null : Bool} {first : 
       let read : G.parse ts ≡ Ok (x, r ++ behind) = ap G.parse parts ∙ t.local (r ++ behind) next in
       let all : length ts ≡ length front + length (r ++ behind) = ap length parts ∙ length-append front (r ++ behind) in
       let rest : r ++ behind ≡ drop (length (take (suc n) ts) - length r) ts =
-          sym (drop_front front (r ++ behind)) ∙ ap (drop (length front)) (sym parts) ∙ ap (λ (k : ℕ). drop k ts) (let k : length front ≡ length (take (suc n) ts) - length r = omega arith in k) in
+      sym (drop_front front (r ++ behind)) ∙ ap (drop (length front)) (sym parts) ∙ ap (λ (k : ℕ). drop k ts) (let k : length front ≡ length (take (suc n) ts) - length r = omega arith in k) in
       ap (capped n (length ts)) read ∙ uncapped (length ts) x (r ++ behind) (omega arith) ∙ ap (λ (w : List T). Ok (x, w)) rest
 
   -- read within the limit is read in the window

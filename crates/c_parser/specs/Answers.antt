@@ -1,5 +1,5 @@
 -- What the answers on a whole text mean.
-use Rattle.std.specs.Prelude.{◌≡◌, ℕ, List, [], ◌∷◌, Bool, true, false, ◌&&◌}
+use Rattle.std.specs.Prelude.{◌≡◌, ℕ, List, [], ◌∷◌, Bool, true, ◌&&◌}
 use Rattle.c_syntax.specs.declared.refusal.FrontFault.{FrontFault}
 use Rattle.c_syntax.specs.declared.refusal.FrontFault.TheVariants as front
 use Rattle.c_syntax.specs.Programs.{TranslationUnit, PlainRefusal, plain_refusal}

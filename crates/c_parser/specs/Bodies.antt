@@ -1,6 +1,6 @@
 -- What is known of the items of main's body while they are read.
 use Rattle.std.specs.Prelude.{◌≡◌, ℕ, ◌+◌, List, [], ◌∷◌}
-use Rattle.c_syntax.specs.Statements.{Declaration, BlockItem, Declare, Run, Asserts}
+use Rattle.c_syntax.specs.Statements.{BlockItem, Declare, Run, Asserts}
 use Rattle.c_model.specs.IntPrograms.{IsIntDeclaration}
 
 -- Declarations of one variable each, from the variable k + 1 to the variable n, in order; each initialiser is over those before.

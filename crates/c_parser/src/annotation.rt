@@ -15,8 +15,8 @@ use crate::terminals::{
 use crate::window::{behind_window, window};
 use c_model::first_tokens::{Lexeme, Token};
 use c_syntax::{
-    Annot, BinOp, Body, CInt, CType, Item, Kind, Link, Place, Pred, PredKind, Range, Relation, Term,
-    TermKind,
+    Annot, BinOp, Body, CInt, CType, Item, Kind, Link, Place, Pred, PredKind, Range, Relation,
+    Term, TermKind,
 };
 use std::alloc::{AllocError, Global};
 
@@ -89,7 +89,11 @@ fn character_literal(tokens: &[Token]) -> Result<(Term, &[Token]), ReadFault>
 /// `( sum )`
 #[tactic(auto, unfolding(c_model::specs::FirstForm::parenthesised))]
 #[cycle(term)]
-fn parenthesised<'a>(alloc: Global, scope: &[u32], tokens: &'a [Token]) -> Result<(Term, &'a [Token]), ReadFault>
+fn parenthesised<'a>(
+    alloc: Global,
+    scope: &[u32],
+    tokens: &'a [Token],
+) -> Result<(Term, &'a [Token]), ReadFault>
     ensures read { Gives (λ x. (plain_term x.0, x.1.now)) result ((parenthesised (term scope.now)).parse tokens.now) }
     ensures shorter { IfOk result (λ x. (leaves (plain_term x.0) + length x.1.now ≤ length tokens.now) × (length x.1.now < length tokens.now)) }
     ensures is { IfOk result (λ x. IsIntTerm (length scope.now) (plain_term x.0)) }
@@ -102,7 +106,11 @@ fn parenthesised<'a>(alloc: Global, scope: &[u32], tokens: &'a [Token]) -> Resul
 
 #[tactic(auto, unfolding(c_model::specs::FirstForm::term_primary))]
 #[cycle(term)]
-fn primary<'a>(alloc: Global, scope: &[u32], tokens: &'a [Token]) -> Result<(Term, &'a [Token]), ReadFault>
+fn primary<'a>(
+    alloc: Global,
+    scope: &[u32],
+    tokens: &'a [Token],
+) -> Result<(Term, &'a [Token]), ReadFault>
     ensures read { Gives (λ x. (plain_term x.0, x.1.now)) result ((term_primary scope.now (term scope.now)).parse tokens.now) }
     ensures shorter { IfOk result (λ x. (leaves (plain_term x.0) + length x.1.now ≤ length tokens.now) × (length x.1.now < length tokens.now)) }
     ensures is { IfOk result (λ x. IsIntTerm (length scope.now) (plain_term x.0)) }
@@ -120,7 +128,12 @@ fn primary<'a>(alloc: Global, scope: &[u32], tokens: &'a [Token]) -> Result<(Ter
 
 #[tactic(auto, unfolding(c_model::specs::FirstForm::term_once))]
 #[cycle(term)]
-fn term_once<'a>(alloc: Global, scope: &[u32], left: Term, tokens: &'a [Token]) -> Result<(Term, &'a [Token]), ReadFault>
+fn term_once<'a>(
+    alloc: Global,
+    scope: &[u32],
+    left: Term,
+    tokens: &'a [Token],
+) -> Result<(Term, &'a [Token]), ReadFault>
     requires is { IsIntTerm (length scope.now) (plain_term left) }
     ensures read { Gives (λ x. (plain_term x.0, x.1.now)) result ((term_once scope.now (term scope.now) (plain_term left)).parse tokens.now) }
     ensures shorter { IfOk result (λ x. (leaves (plain_term x.0) + length x.1.now ≤ leaves (plain_term left) + length tokens.now) × (length x.1.now < length tokens.now)) }
@@ -133,7 +146,12 @@ fn term_once<'a>(alloc: Global, scope: &[u32], left: Term, tokens: &'a [Token]) 
 
 #[tactic(auto, using(crate::proofs::Turns::term_turn, crate::proofs::Turns::term_fails, crate::proofs::Turns::term_ends))]
 #[cycle(term)]
-fn term_more<'a>(alloc: Global, scope: &[u32], left: Term, tokens: &'a [Token]) -> Result<(Term, &'a [Token]), ReadFault>
+fn term_more<'a>(
+    alloc: Global,
+    scope: &[u32],
+    left: Term,
+    tokens: &'a [Token],
+) -> Result<(Term, &'a [Token]), ReadFault>
     requires is { IsIntTerm (length scope.now) (plain_term left) }
     ensures read { Gives (λ x. (plain_term x.0, x.1.now)) result ((term_more scope.now (term scope.now) (plain_term left)).parse tokens.now) }
     ensures shorter { IfOk result (λ x. (leaves (plain_term x.0) + length x.1.now ≤ leaves (plain_term left) + length tokens.now) × (length x.1.now ≤ length tokens.now)) }
@@ -152,7 +170,11 @@ fn term_more<'a>(alloc: Global, scope: &[u32], left: Term, tokens: &'a [Token]) 
 /// A sum.
 #[tactic(auto, using(crate::proofs::Terms::term_is), unfolding(c_model::specs::FirstForm::term_of))]
 #[cycle(term)]
-fn term<'a>(alloc: Global, scope: &[u32], tokens: &'a [Token]) -> Result<(Term, &'a [Token]), ReadFault>
+fn term<'a>(
+    alloc: Global,
+    scope: &[u32],
+    tokens: &'a [Token],
+) -> Result<(Term, &'a [Token]), ReadFault>
     ensures read { Gives (λ x. (plain_term x.0, x.1.now)) result ((term scope.now).parse tokens.now) }
     ensures shorter { IfOk result (λ x. (leaves (plain_term x.0) + length x.1.now ≤ length tokens.now) × (length x.1.now < length tokens.now)) }
     ensures is { IfOk result (λ x. IsIntTerm (length scope.now) (plain_term x.0)) }

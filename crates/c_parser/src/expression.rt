@@ -36,7 +36,10 @@ fn binary(
 
 /// A variable in sight.
 #[tactic(auto, unfolding(c_model::specs::FirstForm::variable_used))]
-pub fn variable_used<'a>(scope: &[u32], tokens: &'a [Token]) -> Result<(Expr, &'a [Token]), ReadFault>
+pub fn variable_used<'a>(
+    scope: &[u32],
+    tokens: &'a [Token],
+) -> Result<(Expr, &'a [Token]), ReadFault>
     ensures read { Gives (λ x. (plain_expr x.0, x.1.now)) result ((variable_used scope.now).parse tokens.now) }
     ensures shorter { IfOk result (λ x. length x.1.now < length tokens.now) }
     ensures pure { IfOk result (λ x. IsPure (length scope.now) (plain_expr x.0)) }
@@ -83,7 +86,11 @@ fn character_literal(tokens: &[Token]) -> Result<(Expr, &[Token]), ReadFault>
 /// `( expr )`
 #[tactic(auto, unfolding(c_model::specs::FirstForm::parenthesised))]
 #[cycle(expr)]
-fn parenthesised<'a>(alloc: Global, scope: &[u32], tokens: &'a [Token]) -> Result<(Expr, &'a [Token]), ReadFault>
+fn parenthesised<'a>(
+    alloc: Global,
+    scope: &[u32],
+    tokens: &'a [Token],
+) -> Result<(Expr, &'a [Token]), ReadFault>
     ensures read { Gives (λ x. (plain_expr x.0, x.1.now)) result ((parenthesised (expr scope.now)).parse tokens.now) }
     ensures shorter { IfOk result (λ x. length x.1.now < length tokens.now) }
     ensures pure { IfOk result (λ x. IsPure (length scope.now) (plain_expr x.0)) }
@@ -97,7 +104,11 @@ fn parenthesised<'a>(alloc: Global, scope: &[u32], tokens: &'a [Token]) -> Resul
 /// A primary expression (C99 6.5.1).
 #[tactic(auto, unfolding(c_model::specs::FirstForm::primary))]
 #[cycle(expr)]
-fn primary<'a>(alloc: Global, scope: &[u32], tokens: &'a [Token]) -> Result<(Expr, &'a [Token]), ReadFault>
+fn primary<'a>(
+    alloc: Global,
+    scope: &[u32],
+    tokens: &'a [Token],
+) -> Result<(Expr, &'a [Token]), ReadFault>
     ensures read { Gives (λ x. (plain_expr x.0, x.1.now)) result ((primary scope.now (expr scope.now)).parse tokens.now) }
     ensures shorter { IfOk result (λ x. length x.1.now < length tokens.now) }
     ensures pure { IfOk result (λ x. IsPure (length scope.now) (plain_expr x.0)) }
@@ -115,7 +126,12 @@ fn primary<'a>(alloc: Global, scope: &[u32], tokens: &'a [Token]) -> Result<(Exp
 
 #[tactic(auto, unfolding(c_model::specs::FirstForm::sum_once))]
 #[cycle(expr)]
-fn sum_once<'a>(alloc: Global, scope: &[u32], left: Expr, tokens: &'a [Token]) -> Result<(Expr, &'a [Token]), ReadFault>
+fn sum_once<'a>(
+    alloc: Global,
+    scope: &[u32],
+    left: Expr,
+    tokens: &'a [Token],
+) -> Result<(Expr, &'a [Token]), ReadFault>
     requires pure { IsPure (length scope.now) (plain_expr left) }
     ensures read { Gives (λ x. (plain_expr x.0, x.1.now)) result ((sum_once scope.now (expr scope.now) (plain_expr left)).parse tokens.now) }
     ensures shorter { IfOk result (λ x. length x.1.now < length tokens.now) }
@@ -128,7 +144,12 @@ fn sum_once<'a>(alloc: Global, scope: &[u32], left: Expr, tokens: &'a [Token]) -
 
 #[tactic(auto, using(crate::proofs::Turns::sum_turn, crate::proofs::Turns::sum_fails, crate::proofs::Turns::sum_ends))]
 #[cycle(expr)]
-fn sum_more<'a>(alloc: Global, scope: &[u32], left: Expr, tokens: &'a [Token]) -> Result<(Expr, &'a [Token]), ReadFault>
+fn sum_more<'a>(
+    alloc: Global,
+    scope: &[u32],
+    left: Expr,
+    tokens: &'a [Token],
+) -> Result<(Expr, &'a [Token]), ReadFault>
     requires pure { IsPure (length scope.now) (plain_expr left) }
     ensures read { Gives (λ x. (plain_expr x.0, x.1.now)) result ((sum_more scope.now (expr scope.now) (plain_expr left)).parse tokens.now) }
     ensures shorter { IfOk result (λ x. length x.1.now ≤ length tokens.now) }
@@ -147,7 +168,11 @@ fn sum_more<'a>(alloc: Global, scope: &[u32], left: Expr, tokens: &'a [Token]) -
 /// An additive expression (C99 6.5.6).
 #[tactic(auto, unfolding(c_model::specs::FirstForm::sum))]
 #[cycle(expr)]
-fn sum<'a>(alloc: Global, scope: &[u32], tokens: &'a [Token]) -> Result<(Expr, &'a [Token]), ReadFault>
+fn sum<'a>(
+    alloc: Global,
+    scope: &[u32],
+    tokens: &'a [Token],
+) -> Result<(Expr, &'a [Token]), ReadFault>
     ensures read { Gives (λ x. (plain_expr x.0, x.1.now)) result ((sum scope.now (expr scope.now)).parse tokens.now) }
     ensures shorter { IfOk result (λ x. length x.1.now < length tokens.now) }
     ensures pure { IfOk result (λ x. IsPure (length scope.now) (plain_expr x.0)) }
@@ -158,7 +183,12 @@ fn sum<'a>(alloc: Global, scope: &[u32], tokens: &'a [Token]) -> Result<(Expr, &
 
 #[tactic(auto, unfolding(c_model::specs::FirstForm::comparison))]
 #[cycle(expr)]
-fn comparison<'a>(alloc: Global, scope: &[u32], left: Expr, tokens: &'a [Token]) -> Result<(Expr, &'a [Token]), ReadFault>
+fn comparison<'a>(
+    alloc: Global,
+    scope: &[u32],
+    left: Expr,
+    tokens: &'a [Token],
+) -> Result<(Expr, &'a [Token]), ReadFault>
     requires pure { IsPure (length scope.now) (plain_expr left) }
     ensures read { Gives (λ x. (plain_expr x.0, x.1.now)) result ((comparison scope.now (expr scope.now) (plain_expr left)).parse tokens.now) }
     ensures shorter { IfOk result (λ x. length x.1.now < length tokens.now) }
@@ -171,7 +201,12 @@ fn comparison<'a>(alloc: Global, scope: &[u32], left: Expr, tokens: &'a [Token])
 
 #[tactic(auto, unfolding(c_model::specs::FirstForm::compared))]
 #[cycle(expr)]
-fn compared<'a>(alloc: Global, scope: &[u32], left: Expr, tokens: &'a [Token]) -> Result<(Expr, &'a [Token]), ReadFault>
+fn compared<'a>(
+    alloc: Global,
+    scope: &[u32],
+    left: Expr,
+    tokens: &'a [Token],
+) -> Result<(Expr, &'a [Token]), ReadFault>
     requires pure { IsPure (length scope.now) (plain_expr left) }
     ensures read { Gives (λ x. (plain_expr x.0, x.1.now)) result ((compared scope.now (expr scope.now) (plain_expr left)).parse tokens.now) }
     ensures shorter { IfOk result (λ x. length x.1.now ≤ length tokens.now) }
@@ -187,7 +222,11 @@ fn compared<'a>(alloc: Global, scope: &[u32], left: Expr, tokens: &'a [Token]) -
 /// An expression of any length.
 #[tactic(auto, using(crate::proofs::Expressions::expr_is), unfolding(c_model::specs::FirstForm::expr_of))]
 #[cycle(expr)]
-fn expression<'a>(alloc: Global, scope: &[u32], tokens: &'a [Token]) -> Result<(Expr, &'a [Token]), ReadFault>
+fn expression<'a>(
+    alloc: Global,
+    scope: &[u32],
+    tokens: &'a [Token],
+) -> Result<(Expr, &'a [Token]), ReadFault>
     ensures read { Gives (λ x. (plain_expr x.0, x.1.now)) result ((expr scope.now).parse tokens.now) }
     ensures shorter { IfOk result (λ x. length x.1.now < length tokens.now) }
     ensures pure { IfOk result (λ x. IsPure (length scope.now) (plain_expr x.0)) }
@@ -198,7 +237,11 @@ fn expression<'a>(alloc: Global, scope: &[u32], tokens: &'a [Token]) -> Result<(
 
 /// An expression that stands in no other, within the limit of its tokens.
 #[tactic(auto, using(crate::proofs::Windows::expr_within, crate::proofs::Windows::expr_over, crate::proofs::Windows::expr_fails))]
-pub fn full_expression<'a>(alloc: Global, scope: &[u32], tokens: &'a [Token]) -> Result<(Expr, &'a [Token]), ReadFault>
+pub fn full_expression<'a>(
+    alloc: Global,
+    scope: &[u32],
+    tokens: &'a [Token],
+) -> Result<(Expr, &'a [Token]), ReadFault>
     ensures read { Gives (λ x. (plain_expr x.0, x.1.now)) result ((full_expr scope.now).parse tokens.now) }
     ensures shorter { IfOk result (λ x. length x.1.now ≤ length tokens.now) }
     ensures pure { IfOk result (λ x. IsPure (length scope.now) (plain_expr x.0)) }

@@ -16,3 +16,6 @@ mod terminals;
 mod window;
 
 pub use read::{about_acceptance, read_first};
+
+#[cfg(test)]
+mod tests;

@@ -107,13 +107,7 @@ fn literal_of(bytes: &[u8]) -> Option<u32>
     match bytes {
         [] => None,
         [_] => digits(bytes),
-        [a, _, ..] => {
-            if *a == 48 {
-                None
-            } else {
-                digits(bytes)
-            }
-        }
+        [a, _, ..] => { if *a == 48 { None } else { digits(bytes) } }
     }
 }
 
@@ -210,15 +204,67 @@ fn is_reserved(word: &[u8]) -> bool
 {
     is_word(
         &[
-            b"auto", b"break", b"case", b"char", b"const", b"continue", b"default", b"do",
-            b"double", b"enum", b"extern", b"float", b"for", b"goto", b"inline", b"long",
-            b"register", b"restrict", b"short", b"signed", b"sizeof", b"static", b"struct",
-            b"switch", b"typedef", b"union", b"unsigned", b"volatile", b"_Bool", b"_Complex",
-            b"_Imaginary", b"size_t", b"ptrdiff_t", b"NULL", b"EOF", b"EXIT_SUCCESS",
-            b"EXIT_FAILURE", b"CHAR_BIT", b"CHAR_MIN", b"CHAR_MAX", b"SCHAR_MIN", b"SCHAR_MAX",
-            b"UCHAR_MAX", b"SHRT_MIN", b"SHRT_MAX", b"USHRT_MAX", b"INT_MIN", b"INT_MAX",
-            b"UINT_MAX", b"LONG_MIN", b"LONG_MAX", b"ULONG_MAX", b"LLONG_MIN", b"LLONG_MAX",
-            b"ULLONG_MAX", b"getchar", b"printf", b"exit", b"malloc", b"calloc", b"free",
+            b"auto",
+            b"break",
+            b"case",
+            b"char",
+            b"const",
+            b"continue",
+            b"default",
+            b"do",
+            b"double",
+            b"enum",
+            b"extern",
+            b"float",
+            b"for",
+            b"goto",
+            b"inline",
+            b"long",
+            b"register",
+            b"restrict",
+            b"short",
+            b"signed",
+            b"sizeof",
+            b"static",
+            b"struct",
+            b"switch",
+            b"typedef",
+            b"union",
+            b"unsigned",
+            b"volatile",
+            b"_Bool",
+            b"_Complex",
+            b"_Imaginary",
+            b"size_t",
+            b"ptrdiff_t",
+            b"NULL",
+            b"EOF",
+            b"EXIT_SUCCESS",
+            b"EXIT_FAILURE",
+            b"CHAR_BIT",
+            b"CHAR_MIN",
+            b"CHAR_MAX",
+            b"SCHAR_MIN",
+            b"SCHAR_MAX",
+            b"UCHAR_MAX",
+            b"SHRT_MIN",
+            b"SHRT_MAX",
+            b"USHRT_MAX",
+            b"INT_MIN",
+            b"INT_MAX",
+            b"UINT_MAX",
+            b"LONG_MIN",
+            b"LONG_MAX",
+            b"ULONG_MAX",
+            b"LLONG_MIN",
+            b"LLONG_MAX",
+            b"ULLONG_MAX",
+            b"getchar",
+            b"printf",
+            b"exit",
+            b"malloc",
+            b"calloc",
+            b"free",
         ],
         word,
     )

@@ -8,7 +8,7 @@ ghost use Rattle.c_model.specs.Accepted.{Accepted, IsBlankText, IsRefusal, no_ma
 ghost use Rattle.c_parser.specs.Answers.{blank_text, NotAccepted, Refuses, RefusesWith};
 
 use crate::fault::ReadFault;
-use crate::lexer::{tokens, TokenList};
+use crate::lexer::{TokenList, tokens};
 use crate::pieces::is_blank;
 use crate::program::form;
 use c_syntax::{FrontFault, Name, Place, Program, Refusal};
@@ -88,5 +88,4 @@ pub fn about_acceptance()
     ensures one { (text : List ℕ) (p q : TranslationUnit) → Accepted text p → Accepted text q → p ≡ q }
     ensures apart { (text : List ℕ) (p : TranslationUnit) (r : PlainRefusal) → Accepted text p → IsRefusal text r → ⊥ }
     ensures single { (text : List ℕ) (r s : PlainRefusal) → IsRefusal text r → IsRefusal text s → r ≡ s }
-{
-}
+{}

@@ -132,7 +132,11 @@ fn return_statement<'a>(
 
 /// `( e )`
 #[tactic(auto, unfolding(c_model::specs::FirstForm::condition))]
-fn condition<'a>(alloc: Global, scope: &[u32], tokens: &'a [Token]) -> Result<(Expr, &'a [Token]), ReadFault>
+fn condition<'a>(
+    alloc: Global,
+    scope: &[u32],
+    tokens: &'a [Token],
+) -> Result<(Expr, &'a [Token]), ReadFault>
     ensures read { Gives (λ x. (plain_expr x.0, x.1.now)) result ((condition scope.now).parse tokens.now) }
     ensures shorter { IfOk result (λ x. length x.1.now < length tokens.now) }
     ensures pure { IfOk result (λ x. IsPure (length scope.now) (plain_expr x.0)) }
@@ -181,7 +185,6 @@ fn make_while(alloc: Global, place: Place, e: Expr, s: Stmt) -> Result<Stmt, All
         kind: StmtKind::While(Vec::new(alloc), e, Box::new(alloc, s)?),
     })
 }
-
 
 pub fn make_block(place: Place, all: Vec<Item>) -> Stmt
     ensures { plain_stmt result ≡ statement.Block place (block_items (map plain_item all.items)) }

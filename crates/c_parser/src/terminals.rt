@@ -147,13 +147,7 @@ fn number_of(kind: TokenKind) -> Option<u32>
     ensures fits { IfSome result (λ n. n ≤ 2147483647) }
 {
     match kind {
-        TokenKind::Number(n) => {
-            if n <= 2_147_483_647 {
-                Some(n)
-            } else {
-                None
-            }
-        }
+        TokenKind::Number(n) => { if n <= 2_147_483_647 { Some(n) } else { None } }
         TokenKind::Name(_) | TokenKind::Letter(_) | TokenKind::Fixed(_) => None,
     }
 }

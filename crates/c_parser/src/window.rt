@@ -24,7 +24,7 @@ pub fn window(tokens: &[Token]) -> &[Token]
     ensures few { length result.now ≤ most_in_expression + 1 }
     ensures within { length result.now ≤ length tokens.now }
 {
-    first(tokens, 401)
+    first(tokens, MOST_IN_EXPRESSION + 1)
 }
 
 /// What stands behind so many tokens, where the limit allows them.

@@ -2,7 +2,7 @@ use Rattle.std.proofs.Common.{◌≡◌, ◌+◌, length, drop, sym, ap, ◌∙�
 use Rattle.std.proofs.lemmas.Bool.{le-ltb, lt-ltb}
 use Rattle.c_model.specs.FirstTokens.{Tokens, first_place, nothing_read, tokens_of, build, cut}
 use Rattle.c_model.specs.declared.first_tokens.Mode.TheVariants.{Code}
-use Rattle.c_parser.specs.Reading.{seen, read_of, GivesSome, plain_tokens}
+use Rattle.c_parser.specs.Reading.{seen, read_of}
 use Rattle.c_parser.proofs.Cut.{goes_on, too_many, breaks, ends, gives}
 use Rattle.c_parser.proofs.lexer.tokens.Goals as goal
 

@@ -1,4 +1,4 @@
-use Rattle.std.proofs.Common.{◌≡◌, ◌≤◌, ◌+◌, length, drop}
+use Rattle.std.proofs.Common.{◌≡◌, ◌≤◌, ◌+◌, drop}
 use Rattle.c_model.specs.FirstTokens.{walk}
 use Rattle.c_parser.proofs.lexer.walk.Given as goal
 

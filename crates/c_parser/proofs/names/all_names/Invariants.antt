@@ -1,4 +1,4 @@
-use Rattle.std.proofs.Common.{◌≡◌, take, map}
+use Rattle.std.proofs.Common.{◌≡◌, take}
 use Rattle.c_parser.specs.Reading.{spelled}
 use Rattle.c_parser.proofs.names.all_names.Given as goal
 

@@ -1,4 +1,4 @@
-use Rattle.std.proofs.Common.{sym, ap, ◌∙◌}
+use Rattle.std.proofs.Common.{ap, ◌∙◌}
 use Rattle.c_parser.specs.Reading.{spelled, seen}
 use Rattle.c_model.specs.FirstTokens.{with_name, name_number}
 use Rattle.c_parser.proofs.NameSteps.{number_spelled, keys_spelled, found_name, known_name}

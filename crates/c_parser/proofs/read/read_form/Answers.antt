@@ -1,4 +1,4 @@
-use Rattle.std.proofs.Common.{◌≡◌, ℕ, length, sym, true, false}
+use Rattle.std.proofs.Common.{length, sym}
 use Rattle.std.proofs.lemmas.Bool.{eqb-true, eq-eqb}
 use Rattle.c_parser.proofs.Acceptance.{main_first, whole_read, part_read, none_read}
 use Rattle.c_parser.specs.Reading.{plain_tokens}

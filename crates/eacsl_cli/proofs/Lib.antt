@@ -1,0 +1,11 @@
+pub mod Ports
+pub mod Variables
+pub mod Parts
+pub mod Terms
+pub mod Trees
+pub mod Start
+pub mod Runs
+pub mod Sayings
+pub mod Joined
+pub mod Due
+pub mod Jobs
