@@ -1,20 +1,18 @@
 -- The answers to a text, from how its run went and how its line was said.
-use Rattle.std.proofs.Common.{◌≡◌, ◌⊎◌, ℕ, ℤ, pos, List, [], ◌∷◌, ◌++◌, Option, Some, None, refl, sym, ap, ◌∙◌, subst, inl, inr, append_assoc}
+use Rattle.std.proofs.Common.{◌≡◌, ℕ, pos, List, [], ◌++◌, Option, Some, refl, sym, ap, ◌∙◌, subst, inl, inr, append_assoc}
 use Rattle.std.proofs.lemmas.List.{append-nil}
 use Rattle.c_syntax.specs.Programs.{TranslationUnit, PlainRefusal}
 use Rattle.c_model.specs.Accepted.{Accepted, IsRefusal}
-use Rattle.c_model.specs.State.{Input, Final, Spent}
-use Rattle.c_model.specs.Meaning.{Ran, run}
+use Rattle.c_model.specs.State.{Final, Spent}
 use Rattle.c_model.specs.Reports.{Report, report, line_of, refused_words, Extends}
-use Rattle.ea_ports.specs.Port.{more}
 use Rattle.ea_ports.specs.declared.SinkFault.{SinkFault}
 use Rattle.ea_ports.specs.declared.SinkFault.TheVariants.{Failed, Memory}
 use Rattle.ea_ports.proofs.Told.{more-nil}
-use Rattle.eacsl_cli.specs.Outside.{port_of, FaultCount, Lost}
+use Rattle.eacsl_cli.specs.Outside.{port_of, FaultCount}
 use Rattle.eacsl_cli.specs.declared.walk.ended.Ended.{Ended}
 use Rattle.eacsl_cli.specs.declared.walk.ended.Ended.TheVariants as ended
 use Rattle.eacsl_cli.specs.declared.walk.run.RunFault.TheVariants as fault
-use Rattle.eacsl_cli.specs.Answers.{Answer, AfterUndefined, answers_report, AnswersRun, refused_answer, memory_line, Change, change, IsSaid, Answered, OutputFault, TextDue, TextBegin}
+use Rattle.eacsl_cli.specs.Answers.{answers_report, AnswersRun, refused_answer, memory_line, Change, change, IsSaid, Answered, OutputFault, TextDue, TextBegin}
 use Rattle.eacsl_cli.specs.Settled.{IsReported, Said, Wanting, reported_final}
 use Rattle.eacsl_cli.specs.Whole.{final_of, RanAs, RunCut, RunFails}
 use Rattle.eacsl_cli.proofs.Sayings.{said_answer, said_memory}
@@ -34,7 +32,7 @@ reported said status line bytes sent final left b e =
     let h : said ≡ record { status = status; line = line } = cc in
     rw (h, b) refl
 
-status_of : (said : Report) (status : ℕ) (line : List ℕ) → Some said ≡ Some (record { status = status; line = line }) → said.status ≡ status
+pub status_of : (said : Report) (status : ℕ) (line : List ℕ) → Some said ≡ Some (record { status = status; line = line }) → said.status ≡ status
 status_of said status line e =
     let h : said ≡ record { status = status; line = line } = cc in
     ap (λ x. x.status) h

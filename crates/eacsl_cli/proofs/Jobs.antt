@@ -1,13 +1,13 @@
 -- The answers to the words of a command line.
-use Rattle.std.proofs.Common.{◌≡◌, ℕ, ◌≤◌, ◌<◌, Bool, true, false, if◌then◌else◌, List, [], ◌∷◌, ◌++◌, length, codes, bytes_eq, Option, Some, None, refl, sym, ap, ◌∙◌, subst, inl, inr}
+use Rattle.std.proofs.Common.{◌≡◌, ℕ, ◌≤◌, ◌<◌, Bool, true, false, if◌then◌else◌, List, [], ◌∷◌, ◌++◌, length, codes, bytes_eq, Option, Some, None, refl, sym, subst, inl, inr}
 use Rattle.std.specs.Prelude.{IfSome}
 use Rattle.c_model.specs.declared.job.Job.{Job}
 use Rattle.c_model.specs.declared.job.Job.TheVariants.{Run}
 use Rattle.c_model.specs.Words.{Argument, arguments, before_dashes, behind_dashes, operands, step_values, file_of, steps_of, run_of, job_of, ◌>>=◌}
 use Rattle.c_model.specs.Reports.{line_of}
-use Rattle.ea_ports.specs.Port.{more, RefusalCount, Rose}
+use Rattle.ea_ports.specs.Port.{RefusalCount, Rose}
 use Rattle.ea_ports.proofs.Told.{more-nil}
-use Rattle.eacsl_cli.specs.Answers.{Answer, silent, usage_answer, memory_line, file_limit, Change, change, IsSaid, Answered, IsDue, Usage, NoFile, TooLong, FolderFault, Refused, Runs, Begins, Nothing, Part, TextDue, TextBegin}
+use Rattle.eacsl_cli.specs.Answers.{Answer, silent, memory_line, file_limit, Change, change, IsSaid, Answered, IsDue, Usage, NoFile, TooLong, FolderFault, Refused, Runs, Begins, Nothing, Part, TextDue, TextBegin}
 use Rattle.eacsl_cli.specs.Jobs.{file_of_job, steps_of_job}
 use Rattle.eacsl_cli.proofs.Sayings.{said_answer, said_memory, answered_by}
 

@@ -1,5 +1,5 @@
 -- The lines that are put together by pieces.
-use Rattle.std.proofs.Common.{◌≡◌, ℕ, List, [], ◌∷◌, ◌++◌, refl, ap, ◌∙◌, append_assoc, codes}
+use Rattle.std.proofs.Common.{◌≡◌, ℕ, List, [], ◌∷◌, ◌++◌, ap, ◌∙◌, append_assoc, codes}
 use Rattle.c_model.specs.Reports.{line_of}
 
 pub refused_joined : (code line column word : List ℕ) {text front front' all all' : List ℕ} → text ≡ codes "eacsl: refused E" ++ (code ++ (codes " at " ++ (line ++ (codes ":" ++ (column ++ codes ": "))))) → front ≡ text → front' ≡ front → all ≡ front' ++ word → all' ≡ all ++ 10 ∷ [] → all' ≡ line_of (codes "refused E" ++ (code ++ (codes " at " ++ (line ++ (codes ":" ++ (column ++ (codes ": " ++ word)))))))

@@ -9,3 +9,4 @@ pub mod Sayings
 pub mod Joined
 pub mod Due
 pub mod Jobs
+pub mod Soundness

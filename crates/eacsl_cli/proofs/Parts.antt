@@ -1,10 +1,7 @@
 -- What each form of statement does, from what its parts do.
-use Rattle.std.proofs.Common.{◌≡◌, ◌≢◌, ℕ, zero, suc, ◌+◌, ◌-◌, ◌<◌, ◌≤◌, ℤ, pos, negsuc, true, false, cond, List, [], ◌∷◌, ◌++◌, length, map, set, length-set, drop, take, get_or, Option, Some, None, Ok, Err, FitsSigned, of_z, refl, sym, ap, ◌∙◌, subst, arith, append_assoc}
+use Rattle.std.proofs.Common.{◌≡◌, ◌≢◌, ℕ, zero, suc, ◌+◌, ◌-◌, ◌<◌, ◌≤◌, ℤ, pos, true, false, cond, List, [], ◌∷◌, ◌++◌, length, length-set, get_or, Option, Some, None, Ok, Err, refl, sym, ap, ◌∙◌, subst, arith, append_assoc}
 use Rattle.std.proofs.lemmas.List.{append-nil}
-use Rattle.std.specs.Int.{w32}
 use Rattle.std.specs.Ordering.{int_eq}
-use Rattle.std.proofs.lemmas.Int.{ints}
-use Rattle.std.proofs.lemmas.Bool.Decides.{nat_tests}
 use Rattle.c_syntax.specs.declared.place.Place.{Place}
 use Rattle.c_syntax.specs.declared.expression.Use.{Use}
 use Rattle.c_syntax.specs.Ctypes.{int_type, plain_type}
@@ -13,19 +10,19 @@ use Rattle.c_syntax.specs.declared.expression.ExprKind.{ExprKind}
 use Rattle.c_syntax.specs.declared.expression.ExprKind as code
 use Rattle.c_syntax.specs.Expressions.{Expression, Variable, Assign, Call, NoExpression, Following, plain_expr, plain_exprs, plain_expr_kind}
 use Rattle.c_syntax.specs.Annotations.{Annotation}
-use Rattle.c_syntax.specs.Statements.{Statement, While, BlockItem, BlockItems, NoItem, Then, Declaration, Initialiser, One, Declare}
+use Rattle.c_syntax.specs.Statements.{Statement, While, BlockItem, BlockItems, NoItem, Then, Declaration, One, Declare}
 use Rattle.c_model.specs.IntPrograms.{IsArgument, IsPure, IsTarget, IsVariable}
 use Rattle.c_model.specs.Integers.{byte_of}
 use Rattle.c_model.specs.Memory.{Value, Integer, Into}
-use Rattle.c_model.specs.State.{State, Leaves, Over, Broken, Undefined, Spent, Outcome, Normal, Stop, Evaluation, on_outcome, ◌>>=◌, ◌>>◌, give, done, stop, step, step_from, print, defined, object, write, start_of, restored, back_to}
-use Rattle.c_model.specs.Meaning.{Callee, choose, after_body, turns, eval_with, evals_with, exec_with, items_with, item_with, place_with, initialise}
-use Rattle.c_model.specs.Growth.{Grown, CalleeGrows}
+use Rattle.c_model.specs.State.{State, Outcome, Normal, Evaluation, on_outcome, ◌>>=◌, ◌>>◌, give, done, step, step_from, object, write}
+use Rattle.c_model.specs.Meaning.{Callee, choose, after_body, turns, eval_with, evals_with, exec_with, items_with, item_with, initialise}
+use Rattle.c_model.specs.Growth.{Grown}
 use Rattle.c_model.proofs.Growth.{grown_same, bind_run, body_run, grows_turns, grows_eval, grows_exec, grows_items}
 use Rattle.ea_ports.specs.declared.SinkFault.{SinkFault}
 use Rattle.eacsl_cli.specs.declared.walk.ended.Ended.{Ended}
 use Rattle.eacsl_cli.specs.declared.walk.ended.Ended.TheVariants as ended
 use Rattle.eacsl_cli.specs.Outside.{Port, Wrote, Lost}
-use Rattle.eacsl_cli.specs.Stands.{cell, stands, Ready, Gives, outcome, Doing, Does, Cut, Quiet, Turned, Itemed, In, IsSet, Prints, PrintCut, Assigns, effect_of}
+use Rattle.eacsl_cli.specs.Stands.{stands, Ready, Gives, outcome, Doing, Does, Cut, Quiet, Turned, Itemed, In, IsSet, Prints, PrintCut, Assigns, effect_of}
 use Rattle.eacsl_cli.proofs.Variables.{object_is, write_is}
 use Rattle.eacsl_cli.proofs.Ports.{wrote_none, wrote_wrote, wrote_lost}
 

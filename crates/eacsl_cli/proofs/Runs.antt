@@ -1,5 +1,5 @@
 -- A run in the program's own data: main's body, its one declarations, and the last put.
-use Rattle.std.proofs.Common.{◌≡◌, ℕ, ◌+◌, ◌≤◌, ℤ, List, [], ◌∷◌, ◌++◌, length, map, take, drop, get_or, replicate, Option, Some, None, refl, sym, ap, ◌∙◌, subst, arith, append_assoc}
+use Rattle.std.proofs.Common.{◌≡◌, ℕ, ◌+◌, ℤ, List, [], ◌∷◌, ◌++◌, length, map, take, drop, get_or, replicate, Option, Some, None, sym, ap, ◌∙◌, subst, arith, append_assoc}
 use Rattle.std.proofs.lemmas.List.{append-nil, take-append-drop, length-replicate}
 use Rattle.std.specs.Prelude.{Vec, option_map}
 use Rattle.std.specs.declared.alloc.Global.{Global}
@@ -17,7 +17,7 @@ use Rattle.ea_ports.specs.Port.{more}
 use Rattle.ea_ports.proofs.Told.{more-more}
 use Rattle.ea_ports.specs.declared.SinkFault.{SinkFault}
 use Rattle.eacsl_cli.specs.declared.walk.ended.Ended.{Ended}
-use Rattle.eacsl_cli.specs.Outside.{Port, port_of, Wrote, FaultCount, Lost}
+use Rattle.eacsl_cli.specs.Outside.{Port, port_of, FaultCount}
 use Rattle.eacsl_cli.specs.Stands.{Quiet}
 use Rattle.eacsl_cli.specs.Whole.{IsBodyOf, IsOneDeclaration, count_declared, RanAs, RunCut}
 use Rattle.eacsl_cli.proofs.Trees.{whole_block}

@@ -1,8 +1,7 @@
 -- What is answered, from how its line was said.
-use Rattle.std.proofs.Common.{◌≡◌, ℕ, List, [], ◌∷◌, ◌++◌, length, take, Option, Some, None, refl, sym, ap, ◌∙◌, subst, arith, inl, inr}
+use Rattle.std.proofs.Common.{◌≡◌, ℕ, List, length, refl, sym, ap, ◌∙◌, arith, inl, inr}
 use Rattle.std.proofs.lemmas.List.{take_all}
-use Rattle.ea_ports.specs.Port.{more, Rose}
-use Rattle.ea_ports.proofs.Told.{more-nil}
+use Rattle.ea_ports.specs.Port.{more}
 use Rattle.eacsl_cli.specs.Answers.{Answer, Change, IsLine, Answered, Given, OutputFault, LineFault, NoMemory, IsSaid, Whole, Failed, Wanting, memory_line}
 
 module _ {Due : Answer → Type 0} {Begin : List ℕ → Type 0} {out err : Change} {result : ℕ} where

@@ -1,23 +1,21 @@
 -- The births of main's variables, and a whole run.
-use Rattle.std.proofs.Common.{◌≡◌, ◌≢◌, ℕ, zero, suc, ◌+◌, ◌*◌, ◌<◌, ◌≤◌, ℤ, pos, Bool, true, false, cond, nat_eq, nat_lt, nat_le, List, [], ◌∷◌, ◌++◌, length, length-append, map, drop, get_or, replicate, Option, Some, None, refl, sym, ap, ◌∙◌, subst, arith, append_assoc}
-use Rattle.std.proofs.lemmas.List.{append-nil, length-replicate, length-map}
+use Rattle.std.proofs.Common.{◌≡◌, ◌≢◌, ℕ, zero, suc, ◌+◌, ◌*◌, ◌<◌, ◌≤◌, ℤ, pos, Bool, true, false, cond, nat_eq, nat_lt, nat_le, List, [], ◌∷◌, ◌++◌, length, map, replicate, Option, Some, None, refl, sym, ap, ◌∙◌, subst, arith}
+use Rattle.std.proofs.lemmas.List.{length-replicate, length-map}
 use Rattle.std.proofs.lemmas.Bool.Decides.{nat_tests}
-use Rattle.std.specs.Prelude.{slice_get, codes, bytes_eq, option_map}
+use Rattle.std.specs.Prelude.{slice_get, codes, bytes_eq}
 use Rattle.c_syntax.specs.declared.place.Place.{Place}
 use Rattle.c_syntax.specs.declared.expression.Use.{Use}
-use Rattle.c_syntax.specs.declared.types.Segment.{Segment}
 use Rattle.c_syntax.specs.declared.types.BlockKind.TheVariants.{Stack}
-use Rattle.c_syntax.specs.Ctypes.{PlainType, int_type}
+use Rattle.c_syntax.specs.Ctypes.{int_type}
 use Rattle.c_syntax.specs.Annotations.{Annotation}
 use Rattle.c_syntax.specs.Statements.{Declaration, Statement, Block, BlockItems, NoItem, Then, Declare, Run, Asserts}
 use Rattle.c_syntax.specs.Programs.{Function, TranslationUnit}
 use Rattle.c_model.specs.IntPrograms.{AreMainItems, IsIntDeclaration, IsIntProgram, IsMainBody}
 use Rattle.c_model.specs.Integers.{size_of, byte_of}
-use Rattle.c_model.specs.Memory.{Integer, Store, new_block, stack_taken, full_at_stack_birth, standard_sizes, greatest_number}
-use Rattle.c_model.specs.State.{Input, State, Scope, Mark, Leave, Breaks, Continues, Leaves, Over, Exits, Returns, Undefined, Broken, Spent, Outcome, Normal, Stop, Evaluation, on_outcome, ◌>>◌, give, print, find, birth, birth_of, births, frame, mark, restored, back_to, within}
-use Rattle.c_model.specs.Meaning.{Callee, declared_in, items_with, exec_with, body_with, main_with, function_named, call_of, library_call, put_char, start, Ran, ran, ran_to, run}
-use Rattle.c_model.specs.Growth.{Grown, output_after, CalleeGrows}
-use Rattle.c_model.specs.Reports.{Extends}
+use Rattle.c_model.specs.Memory.{Integer, new_block, stack_taken, full_at_stack_birth, standard_sizes, greatest_number}
+use Rattle.c_model.specs.State.{Input, State, Scope, Breaks, Continues, Leaves, Over, Returns, Undefined, Outcome, Normal, Stop, on_outcome, ◌>>◌, give, print, find, birth, birth_of, births, frame, mark, restored}
+use Rattle.c_model.specs.Meaning.{declared_in, items_with, body_with, main_with, function_named, call_of, library_call, start, ran}
+use Rattle.c_model.specs.Growth.{output_after}
 use Rattle.c_model.proofs.Growth.{grows_call_of, output_restored}
 use Rattle.ea_ports.specs.declared.SinkFault.{SinkFault}
 use Rattle.eacsl_cli.specs.declared.walk.ended.Ended.{Ended}

@@ -1,5 +1,5 @@
 -- What variables, terms, chains and annotations give, from what their parts do.
-use Rattle.std.proofs.Common.{◌≡◌, ℕ, zero, suc, ◌+◌, ◌*◌, ◌<◌, ◌≤◌, ◌^◌, ℤ, pos, negsuc, ◌-◌, ◌+ℤ◌, ◌-ℤ◌, Bool, true, false, cond, List, [], ◌∷◌, length, length-drop, map, drop, get_or, Option, Some, None, Ok, Err, FitsSigned, refl, sym, ap, ◌∙◌, subst, arith}
+use Rattle.std.proofs.Common.{◌≡◌, ℕ, suc, ◌+◌, ◌*◌, ◌<◌, ◌≤◌, ◌^◌, ℤ, pos, negsuc, ◌+ℤ◌, ◌-ℤ◌, Bool, true, false, cond, List, [], ◌∷◌, length, length-drop, map, drop, get_or, Option, Some, None, Ok, Err, FitsSigned, refl, sym, ap, ◌∙◌, subst, arith}
 use Rattle.std.proofs.lemmas.Int.{ints}
 use Rattle.std.proofs.Math.Seq.{drop-cons}
 use Rattle.std.proofs.lemmas.List.{nil_from_length}
@@ -20,19 +20,18 @@ use Rattle.c_syntax.specs.declared.annotation.TermKind.{TermKind}
 use Rattle.c_syntax.specs.declared.annotation.TermKind as term_code
 use Rattle.c_syntax.specs.declared.annotation.Range.{Range}
 use Rattle.c_syntax.specs.declared.types.How.TheVariants as how
-use Rattle.c_syntax.specs.Ctypes.{PlainType, int_type, plain_type}
+use Rattle.c_syntax.specs.Ctypes.{int_type, plain_type}
 use Rattle.c_syntax.specs.Expressions.{Variable, plain_expr, plain_expr_kind}
 use Rattle.c_syntax.specs.Annotations.{LogicTerm, Predicate, Chain, Links, NoLink, Linked, ClauseBody, Truth, Annotation, plain_term, plain_term_kind, plain_links, plain_annot, plain_body}
 use Rattle.c_syntax.specs.Annotations as logic
 use Rattle.c_model.specs.IntPrograms.{IsPure, IsIntTerm, leaves}
-use Rattle.c_model.specs.State.{State, on_outcome, start_of, read, find, Normal, Stop}
-use Rattle.c_model.specs.Logic.{TermValue, Mathematical, Answer, Says, SaysNothing, lazily, both, compute, read_object, of_value, term, related, relates, chain, clause, judged, check, checks}
+use Rattle.c_model.specs.State.{State, on_outcome, start_of, read}
+use Rattle.c_model.specs.Logic.{Mathematical, Says, lazily, both, compute, read_object, of_value, term, related, relates, chain, clause, judged, checks}
 use Rattle.c_model.specs.Meaning.{Callee}
-use Rattle.eacsl_cli.specs.declared.walk.ended.Ended.{Ended}
 use Rattle.eacsl_cli.specs.declared.walk.ended.Ended.TheVariants as ended
 use Rattle.eacsl_cli.specs.declared.walk.terms.Verdict.{Verdict}
 use Rattle.eacsl_cli.specs.declared.walk.terms.Verdict.TheVariants as verdict
-use Rattle.eacsl_cli.specs.Stands.{cell, stands, Ready, Gives, HasValue, Held, In, Within, says_of, answer_of, outcome, ChainSays, ClauseSays, Chained, Checked, Quiet}
+use Rattle.eacsl_cli.specs.Stands.{stands, Ready, Gives, HasValue, Held, Within, says_of, answer_of, ChainSays, ClauseSays, Chained, Checked, Quiet}
 use Rattle.eacsl_cli.proofs.Variables.{load_variable, load_some, load_none, object_is, read_some, read_none}
 
 -- ---- variables

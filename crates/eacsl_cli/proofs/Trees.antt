@@ -1,12 +1,12 @@
 -- What the statements of a tree do, from what their parts do.
-use Rattle.std.proofs.Common.{◌≡◌, ◌≢◌, ℕ, zero, suc, ◌+◌, ◌<◌, ◌≤◌, ℤ, pos, negsuc, true, false, cond, List, [], ◌∷◌, ◌++◌, length, length-drop, map, drop, get_or, Option, Some, None, Ok, Err, FitsSigned, of_z, refl, sym, ap, ◌∙◌, subst, arith}
+use Rattle.std.proofs.Common.{◌≡◌, ℕ, zero, suc, ◌+◌, ◌<◌, ◌≤◌, ℤ, pos, negsuc, true, false, List, [], ◌∷◌, ◌++◌, length, length-drop, map, drop, get_or, Option, Some, None, Ok, FitsSigned, of_z, refl, sym, ap, ◌∙◌, subst, arith}
 use Rattle.std.proofs.lemmas.List.{length-map, nil_from_length}
 use Rattle.std.proofs.Math.Seq.{drop-cons}
 use Rattle.std.proofs.lemmas.Int.{ints}
 use Rattle.std.proofs.lemmas.Bool.Decides.{nat_tests}
 use Rattle.std.specs.Int.{w32}
 use Rattle.std.specs.Ordering.{int_eq}
-use Rattle.std.specs.Prelude.{Vec, Box, option_map}
+use Rattle.std.specs.Prelude.{Vec, Box}
 use Rattle.std.specs.declared.alloc.Global.{Global}
 use Rattle.c_syntax.specs.declared.place.Place.{Place}
 use Rattle.c_syntax.specs.declared.expression.Use.{Use}
@@ -19,21 +19,21 @@ use Rattle.c_syntax.specs.declared.statement.Item.TheBlock.{back-StmtKind-If-2}
 use Rattle.c_syntax.specs.declared.statement.Stmt.{Stmt}
 use Rattle.c_syntax.specs.declared.statement.StmtKind.{StmtKind}
 use Rattle.c_syntax.specs.declared.statement.StmtKind as code
-use Rattle.c_syntax.specs.Ctypes.{PlainType, int_type, plain_type}
+use Rattle.c_syntax.specs.Ctypes.{int_type, plain_type}
 use Rattle.c_syntax.specs.Expressions.{Expression, Assign, Call, plain_expr, plain_exprs, plain_expr_kind}
-use Rattle.c_syntax.specs.Statements.{Statement, Block, BlockItems, NoItem, Then, Declare, Run, Asserts, plain_stmt, plain_stmt_kind, plain_else, plain_item, plain_items}
+use Rattle.c_syntax.specs.Statements.{Block, BlockItems, NoItem, Then, Declare, Run, Asserts, plain_stmt, plain_stmt_kind, plain_else, plain_item, plain_items}
 use Rattle.c_syntax.proofs.Rows.{call_is, block_is}
-use Rattle.c_model.specs.IntPrograms.{IsEffect, IsArgument, IsTarget, IsPure, IsIntStatement, AreIntItems}
-use Rattle.c_model.specs.Memory.{Value, Integer, Store, kill_from}
-use Rattle.c_model.specs.State.{State, Leaves, Over, Returns, Undefined, Broken, Spent, Outcome, Normal, Stop, Evaluation, ◌>>◌, done, births, restored, back_to}
-use Rattle.c_model.specs.Meaning.{Callee, choose, declared_in, exec_with, else_with, items_with}
+use Rattle.c_model.specs.IntPrograms.{IsEffect, IsArgument, IsIntStatement, AreIntItems}
+use Rattle.c_model.specs.Memory.{Integer, Store, kill_from}
+use Rattle.c_model.specs.State.{State, Leaves, Over, Returns, Undefined, Broken, Spent, Normal, Stop, ◌>>◌, done, births, restored, back_to}
+use Rattle.c_model.specs.Meaning.{choose, declared_in, exec_with, else_with, items_with}
 use Rattle.c_model.specs.Growth.{Grown}
 use Rattle.c_model.proofs.Growth.{output_restored}
 use Rattle.ea_ports.specs.declared.SinkFault.{SinkFault}
 use Rattle.eacsl_cli.specs.declared.walk.ended.Ended.{Ended}
 use Rattle.eacsl_cli.specs.declared.walk.ended.Ended.TheVariants as ended
 use Rattle.eacsl_cli.specs.Outside.{Port}
-use Rattle.eacsl_cli.specs.Stands.{cell, stands, Ready, Gives, outcome, Doing, Does, Cut, Quiet, Assigns, Prints, PrintCut, effect_of}
+use Rattle.eacsl_cli.specs.Stands.{cell, stands, Gives, outcome, Doing, Does, Cut, Assigns, Prints, PrintCut, effect_of}
 use Rattle.eacsl_cli.proofs.Parts.{quiet_does, bind_ok, first_of_two, second_of_two, at_once, cut_bind, cut_first, cut_second}
 
 -- ---- effects

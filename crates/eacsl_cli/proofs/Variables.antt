@@ -1,15 +1,14 @@
 -- The blocks of variables: what is read from them and written to them.
-use Rattle.std.proofs.Common.{◌≡◌, ℕ, zero, suc, ◌+◌, ◌<◌, ◌≤◌, ℤ, pos, List, [], ◌∷◌, length, map, set, get_or, Option, Some, None, FitsSigned, refl, sym, ap, ◌∙◌, subst, arith}
+use Rattle.std.proofs.Common.{◌≡◌, ℕ, zero, suc, ◌<◌, ℤ, List, [], ◌∷◌, length, map, set, get_or, Option, Some, None, FitsSigned, refl, sym, ap, ◌∙◌, arith}
 use Rattle.std.proofs.lemmas.List.{map-set}
 use Rattle.std.specs.Int.{w32}
-use Rattle.std.specs.Prelude.{slice_get, slice_set, option_map}
+use Rattle.std.specs.Prelude.{slice_get, option_map}
 use Rattle.c_syntax.specs.declared.place.Place.{Place}
-use Rattle.c_syntax.specs.declared.expression.Use.{Use}
 use Rattle.c_syntax.specs.declared.types.CInt.TheVariants.{I32}
 use Rattle.c_syntax.specs.Ctypes.{int_type}
 use Rattle.c_model.specs.Integers.{bits_of, value_of_bits}
-use Rattle.c_model.specs.Memory.{Value, Integer, Into, Block, load, load_block, block_at, save, saved_block, with_block, number_of, bytes_of}
-use Rattle.c_model.specs.State.{State, Scope, Normal, Stop, Over, Undefined, Outcome, on_outcome, defined, object, read, write, put_store, start_of, find}
+use Rattle.c_model.specs.Memory.{Integer, Into, load, load_block, save, saved_block, with_block}
+use Rattle.c_model.specs.State.{State, Scope, Normal, Stop, Over, Undefined, on_outcome, defined, object, read, write, put_store, start_of, find}
 use Rattle.c_model.proofs.Cells.{value_of_bits-int, number_of-int, bits_of-below}
 use Rattle.c_model.specs.Meaning.{Callee}
 use Rattle.eacsl_cli.specs.Stands.{cell, stands, Ready, In}

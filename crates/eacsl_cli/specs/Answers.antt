@@ -1,7 +1,6 @@
 -- What the program answers: a status, the bytes on its output and a line on its error output, and what is due for its words.
-use Rattle.std.specs.Prelude.{◌≡◌, ◌⊎◌, ℕ, ◌≤◌, ◌<◌, Bool, true, false, List, [], ◌∷◌, ◌++◌, length, take, Option, Some, None, IfSome, codes}
+use Rattle.std.specs.Prelude.{◌≡◌, ◌⊎◌, ℕ, ◌≤◌, ◌<◌, false, List, [], length, take, Option, Some, None, IfSome, codes}
 use Rattle.c_syntax.specs.Programs.{TranslationUnit, PlainRefusal}
-use Rattle.c_model.specs.declared.job.Job.{Job}
 use Rattle.c_model.specs.declared.job.Job.TheVariants.{Run}
 use Rattle.c_model.specs.Words.{job_of}
 use Rattle.c_model.specs.Accepted.{Accepted, IsRefusal}

@@ -4,3 +4,4 @@ pub mod Whole
 pub mod Answers
 pub mod Settled
 pub mod Jobs
+pub mod Sound

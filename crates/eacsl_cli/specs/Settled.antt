@@ -1,5 +1,5 @@
 -- What is reported of a statement's end, where main's body ended so.
-use Rattle.std.specs.Prelude.{◌≡◌, ℕ, ◌⊎◌, ◌++◌, List, Option, Some}
+use Rattle.std.specs.Prelude.{◌≡◌, ℕ, List, Some}
 use Rattle.c_model.specs.State.{Final, Spent}
 use Rattle.c_model.specs.Reports.{report}
 use Rattle.eacsl_cli.specs.declared.walk.ended.Ended.{Ended}

@@ -5,15 +5,14 @@ use Rattle.c_syntax.specs.declared.expression.Use.{Use}
 use Rattle.c_syntax.specs.declared.annotation.Relation.{Relation}
 use Rattle.c_syntax.specs.declared.types.BlockKind.TheVariants.{Stack}
 use Rattle.c_syntax.specs.declared.types.CInt.TheVariants.{I32}
-use Rattle.c_syntax.specs.declared.types.How.TheVariants as how
 use Rattle.c_syntax.specs.Ctypes.{int_type}
 use Rattle.c_syntax.specs.Expressions.{Expression, Expressions, Assign, Call}
 use Rattle.c_syntax.specs.Annotations.{LogicTerm, Links, ClauseBody, Annotation}
 use Rattle.c_syntax.specs.Statements.{Statement, BlockItems}
 use Rattle.c_model.specs.Integers.{byte_of, bits_of}
 use Rattle.c_model.specs.Memory.{Value, Integer, Block, new_block, bytes_of}
-use Rattle.c_model.specs.State.{State, Scope, Final, Exits, Broken, Undefined, Spent, Returns, Leaves, Over, Outcome, Normal, Stop, Evaluation, ◌>>◌, give, done, print, find}
-use Rattle.c_model.specs.Logic.{TermValue, Mathematical, Answer, Says, SaysNothing, term, relates, chain, clause, checks}
+use Rattle.c_model.specs.State.{State, Scope, Broken, Undefined, Spent, Returns, Leaves, Over, Outcome, Normal, Stop, Evaluation, ◌>>◌, give, done, print, find}
+use Rattle.c_model.specs.Logic.{Mathematical, Answer, Says, SaysNothing, term, relates, chain, clause, checks}
 use Rattle.c_model.specs.Meaning.{Callee, eval_with, exec_with, items_with, turns}
 use Rattle.c_model.specs.Growth.{Grown, CalleeGrows}
 use Rattle.ea_ports.specs.declared.SinkFault.{SinkFault}

@@ -1,7 +1,7 @@
 -- A whole run.
-use Rattle.std.specs.Prelude.{◌≡◌, ℕ, ◌+◌, ◌<◌, ◌≤◌, ℤ, pos, List, [], ◌∷◌, ◌++◌, Option, Some}
+use Rattle.std.specs.Prelude.{◌≡◌, ℕ, ◌+◌, ◌<◌, ◌≤◌, pos, List, [], ◌∷◌, Option, Some}
 use Rattle.c_syntax.specs.declared.place.Place.{Place}
-use Rattle.c_syntax.specs.Statements.{Declaration, Statement, Block, BlockItem, BlockItems, NoItem, Then, Declare, Run, Asserts}
+use Rattle.c_syntax.specs.Statements.{Declaration, Block, BlockItems, NoItem, Then, Declare, Run, Asserts}
 use Rattle.c_syntax.specs.Programs.{Function, TranslationUnit}
 use Rattle.c_model.specs.IntPrograms.{IsIntDeclaration, AreMainItems}
 use Rattle.c_model.specs.State.{Input, Final, Exits, Broken, Undefined, Spent}

@@ -7,6 +7,7 @@ ghost use Rattle.c_model.specs.Accepted.{IsRefusal};
 ghost use Rattle.c_model.specs.Words.{job_of};
 ghost use Rattle.eacsl_cli.specs.Answers.{Answered, Begins, IsDue, IsSaid, TextBegin, TextDue, change, memory_line};
 ghost use Rattle.eacsl_cli.specs.Jobs.{file_of_job, steps_of_job};
+ghost use Rattle.eacsl_cli.specs.Sound.{IsStatus, Sound};
 ghost use Rattle.eacsl_cli.specs.Settled.{IsReported};
 
 use crate::lines::{broken_line, exit_line, refused_line, say};
@@ -64,7 +65,8 @@ fn refuse<O: Sink, E: Sink>(
     err: &mut E,
 ) -> u8
     requires { IsRefusal text.now (plain_refusal refusal.now) }
-    ensures { Answered (TextDue text.now steps) (TextBegin text.now steps) (change (O.told out.now) (O.told out.now) (O.faults out.now) (O.faults out.now)) (change (E.told err.old) (E.told err.new) (E.faults err.old) (E.faults err.new)) result }
+    ensures answered { Answered (TextDue text.now steps) (TextBegin text.now steps) (change (O.told out.now) (O.told out.now) (O.faults out.now) (O.faults out.now)) (change (E.told err.old) (E.told err.new) (E.faults err.old) (E.faults err.new)) result }
+    ensures status { IsStatus result }
 {
     match refused_line(alloc, refusal) {
         Ok(line) => say(err, &line, 2),
@@ -81,7 +83,8 @@ pub fn run_text<O: Sink, E: Sink>(
     err: &mut E,
 ) -> u8
     requires { length text.now ≤ 1048576 }
-    ensures { Answered (TextDue text.now steps) (TextBegin text.now steps) (change (O.told out.old) (O.told out.new) (O.faults out.old) (O.faults out.new)) (change (E.told err.old) (E.told err.new) (E.faults err.old) (E.faults err.new)) result }
+    ensures answered { Answered (TextDue text.now steps) (TextBegin text.now steps) (change (O.told out.old) (O.told out.new) (O.faults out.old) (O.faults out.new)) (change (E.told err.old) (E.told err.new) (E.faults err.old) (E.faults err.new)) result }
+    ensures status { IsStatus result }
 {
     let program = match read_first(alloc, text) {
         Ok(program) => program,
@@ -149,6 +152,11 @@ pub fn eacsl<F: Folder, I: Source, O: Sink, E: Sink>(
         (change (O.told out.old) (O.told out.new) (O.faults out.old) (O.faults out.new))
         (change (E.told err.old) (E.told err.new) (E.faults err.old) (E.faults err.new))
         result }
+    ensures sound { Sound (map string_bytes words.items) (F.content files.old) (F.faults files.old) (F.faults files.new) (I.left input.old)
+        (change (O.told out.old) (O.told out.new) (O.faults out.old) (O.faults out.new))
+        (change (E.told err.old) (E.told err.new) (E.faults err.old) (E.faults err.new))
+        result }
+    ensures status { IsStatus result }
     ensures kept { F.content files.new ≡ F.content files.old }
     ensures unread { I.left input.new ≡ I.left input.old }
     ensures input_sound { I.faults input.new ≡ I.faults input.old }

@@ -3,6 +3,8 @@
 
 mod answer;
 mod lines;
+#[cfg(test)]
+mod tests;
 mod walk;
 
 use answer::eacsl;

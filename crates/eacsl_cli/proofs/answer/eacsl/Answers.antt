@@ -1,6 +1,7 @@
-use Rattle.std.proofs.Common.{◌≡◌, refl, map, Option, Some, None, ◌∙◌, string_bytes}
+use Rattle.std.proofs.Common.{◌≡◌, refl, map, Some, None, ◌∙◌, string_bytes}
 use Rattle.c_model.specs.Words.{job_of}
 use Rattle.eacsl_cli.proofs.Jobs.{memory_said, usage_said, missing_said, too_long_said, fault_said, file_answered}
+use Rattle.eacsl_cli.proofs.Soundness.{sound}
 use Rattle.eacsl_cli.proofs.answer.eacsl.Goals as goal
 
 pub returns-in-Ok-None-clause-answered : goal.returns-in-Ok-None-clause-answered
@@ -14,7 +15,7 @@ returns-in-Err-clause-answered g c = memory_said c.out_of_memory.ensures
 pub returns-in-Ok-clause-answered : goal.returns-in-Ok-clause-answered
 returns-in-Ok-clause-answered g c =
     let e : Some c.in-Ok-Some.job ≡ job_of (map string_bytes c.args.words.items) = rw (c.in-Ok-Some.field-0-is, c.deref.ensures.value) at c.in-Ok-Some.ensures in
-    file_answered c.in-Ok-Some.job c.text.result.now c.in-Ok.text.items c.deref-in-Ok.result.now c.step_count.result e (c.text.ensures ∙ c.file_name.ensures) c.step_count.ensures c.deref-in-Ok.ensures.value c.in-Ok.ensures.bytes c.in-Ok.ensures.count c.run_text.ensures
+    file_answered c.in-Ok-Some.job c.text.result.now c.in-Ok.text.items c.deref-in-Ok.result.now c.step_count.result e (c.text.ensures ∙ c.file_name.ensures) c.step_count.ensures c.deref-in-Ok.ensures.value c.in-Ok.ensures.bytes c.in-Ok.ensures.count c.run_text.ensures.answered
 
 pub returns-in-Err-Missing-clause-answered : goal.returns-in-Err-Missing-clause-answered
 returns-in-Err-Missing-clause-answered g c =
@@ -33,3 +34,24 @@ returns-in-Err-Failed-clause-answered g c =
 
 pub returns-clause-answered : goal.returns-clause-answered
 returns-clause-answered g c = memory_said c.out_of_memory-in-Err-Memory.ensures
+
+pub returns-in-Ok-None-clause-sound : goal.returns-in-Ok-None-clause-sound
+returns-in-Ok-None-clause-sound g c = sound (returns-in-Ok-None-clause-answered g c)
+
+pub returns-in-Err-clause-sound : goal.returns-in-Err-clause-sound
+returns-in-Err-clause-sound g c = sound (returns-in-Err-clause-answered g c)
+
+pub returns-in-Ok-clause-sound : goal.returns-in-Ok-clause-sound
+returns-in-Ok-clause-sound g c = sound (returns-in-Ok-clause-answered g c)
+
+pub returns-in-Err-Missing-clause-sound : goal.returns-in-Err-Missing-clause-sound
+returns-in-Err-Missing-clause-sound g c = sound (returns-in-Err-Missing-clause-answered g c)
+
+pub returns-in-Err-TooLong-clause-sound : goal.returns-in-Err-TooLong-clause-sound
+returns-in-Err-TooLong-clause-sound g c = sound (returns-in-Err-TooLong-clause-answered g c)
+
+pub returns-in-Err-Failed-clause-sound : goal.returns-in-Err-Failed-clause-sound
+returns-in-Err-Failed-clause-sound g c = sound (returns-in-Err-Failed-clause-answered g c)
+
+pub returns-clause-sound : goal.returns-clause-sound
+returns-clause-sound g c = sound (returns-clause-answered g c)

@@ -1,4 +1,4 @@
-use Rattle.std.proofs.Common.{◌≡◌, ◌++◌, ◌∷◌, [], ◌∙◌, ap}
+use Rattle.std.proofs.Common.{◌++◌, ◌∙◌, ap}
 use Rattle.eacsl_cli.proofs.Joined.{refused_joined}
 use Rattle.eacsl_cli.proofs.lines.refused_line.Goals as goal
 

@@ -1,6 +1,6 @@
 use Rattle.std.proofs.Common.{◌≡◌, ◌<◌, ◌++◌, ◌∷◌, [], ◌∙◌, ap, arith, cond}
 use Rattle.std.specs.Vec.{vec_len, vec_capacity}
-use Rattle.eacsl_cli.proofs.Ports.{lost_put, refused_count}
+use Rattle.eacsl_cli.proofs.Ports.{lost_put}
 use Rattle.eacsl_cli.proofs.walk.buffer.emit.Goals as goal
 
 pub returns-in-Err : goal.returns-in-Err

@@ -1,4 +1,4 @@
-use Rattle.std.proofs.Common.{◌≡◌, ◌+◌, length, drop, map, sym, subst}
+use Rattle.std.proofs.Common.{◌+◌, length, drop, sym, subst}
 use Rattle.c_syntax.specs.Statements.{plain_items}
 use Rattle.eacsl_cli.specs.Whole.{AreLeft}
 use Rattle.eacsl_cli.proofs.Start.{left_run, left_asserts, left_declare, left_one}

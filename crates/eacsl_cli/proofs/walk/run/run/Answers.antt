@@ -1,9 +1,5 @@
-use Rattle.std.proofs.Common.{◌≡◌, [], replicate, None, subst}
 use Rattle.c_syntax.specs.Statements.{plain_items}
 use Rattle.c_syntax.specs.Programs.{plain_program}
-use Rattle.c_model.specs.Meaning.{items_with}
-use Rattle.eacsl_cli.specs.Outside.{port_of}
-use Rattle.eacsl_cli.specs.Stands.{Does, Cut}
 use Rattle.eacsl_cli.proofs.Start.{whole_run, whole_cut}
 use Rattle.eacsl_cli.proofs.Runs.{unset_vars, unset_items, run_put, run_not_put}
 use Rattle.eacsl_cli.proofs.walk.run.run.Goals as goal

@@ -1,7 +1,7 @@
 use Rattle.std.proofs.Common.{drop, length}
 use Rattle.c_syntax.specs.Expressions.{plain_expr}
 use Rattle.c_syntax.specs.Statements.{plain_stmt, plain_items}
-use Rattle.c_model.specs.IntPrograms.{AreIntItems, IsIntStatement, IsPure}
+use Rattle.c_model.specs.IntPrograms.{AreIntItems}
 use Rattle.eacsl_cli.specs.Outside.{port_of}
 use Rattle.eacsl_cli.specs.Stands.{Turned, Itemed}
 use Rattle.eacsl_cli.proofs.walk.statements.+exec.Given as goal

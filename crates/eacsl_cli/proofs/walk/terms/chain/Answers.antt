@@ -1,6 +1,6 @@
 use Rattle.std.proofs.Common.{sym, subst, length}
 use Rattle.c_model.specs.IntPrograms.{AreShortLinks}
-use Rattle.eacsl_cli.proofs.Terms.{links_left, no_links_left, chain_start, chain_more, chain_fails, chain_nothing, chain_end}
+use Rattle.eacsl_cli.proofs.Terms.{links_left, no_links_left, chain_more, chain_fails, chain_nothing, chain_end}
 use Rattle.eacsl_cli.proofs.walk.terms.chain.Goals as goal
 
 pub returns-in-Fails : goal.returns-in-Fails

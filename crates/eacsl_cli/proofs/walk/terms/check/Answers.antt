@@ -1,7 +1,7 @@
-use Rattle.std.proofs.Common.{sym, subst, length}
+use Rattle.std.proofs.Common.{subst, length}
 use Rattle.c_syntax.specs.Annotations.{plain_annot}
 use Rattle.c_model.specs.IntPrograms.{AreIntAnnotations}
-use Rattle.eacsl_cli.proofs.Terms.{annots_left, no_annots_left, checked_start, check_more, check_fails, check_nothing, check_end}
+use Rattle.eacsl_cli.proofs.Terms.{annots_left, no_annots_left, check_more, check_fails, check_nothing, check_end}
 use Rattle.eacsl_cli.proofs.walk.terms.check.Goals as goal
 
 pub returns-in-Fails : goal.returns-in-Fails
