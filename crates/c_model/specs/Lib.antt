@@ -14,3 +14,5 @@ pub mod Laws
 pub mod FirstTokens
 pub mod FirstForm
 pub mod Accepted
+pub mod Operators
+pub mod Ranges

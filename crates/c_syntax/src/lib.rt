@@ -19,4 +19,4 @@ pub use place::Place;
 pub use program::{Behavior, Contract, EnumDef, Enumerator, Func, Layout, Member, Program};
 pub use refusal::{FrontFault, Refusal};
 pub use statement::{Decl, Init, Item, Stmt, StmtKind};
-pub use types::{BlockKind, CInt, CType, How, Segment};
+pub use types::{BlockKind, CInt, CType, How, Segment, Width};

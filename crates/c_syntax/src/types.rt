@@ -44,3 +44,11 @@ pub enum How {
     False,
     Undefined,
 }
+
+/// The width of a signed integer type of an annotation's code, in bits.
+#[derive(Clone, Copy, PartialEq, Eq, Debug)]
+pub enum Width {
+    W32,
+    W64,
+    W128,
+}
