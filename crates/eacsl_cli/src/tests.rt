@@ -13,7 +13,7 @@ const ROW_3: &[u8] =
 const ENDLESS: &[u8] = b"int main(void) { while (1) putchar('x'); }\n";
 
 const LONG: &[u8] =
-    b"int main(void) { int i = 0; while (i < 9000) { putchar('x'); i = i + 1; } return i; }";
+    b"int main(void) { int i = 0; while (i < 5000) { putchar('x'); i = i + 1; } return i; }";
 
 /// The numbers of the calls that fail.
 #[derive(Drop)]
@@ -256,7 +256,7 @@ fn a_file_has_at_most_a_mebibyte(rt: HostRuntime) -> Result<(), AllocError> {
 #[test]
 fn output_is_put_by_4096_bytes(rt: HostRuntime) -> Result<(), AllocError> {
     let alloc = rt.alloc();
-    let all = filled(alloc, b'x', 9000)?;
+    let all = filled(alloc, b'x', 5000)?;
     gives(
         &rt,
         "run a.c",
@@ -265,10 +265,10 @@ fn output_is_put_by_4096_bytes(rt: HostRuntime) -> Result<(), AllocError> {
         &Wanted {
             status: 0,
             output: &all,
-            line: b"eacsl: exit 9000\n",
+            line: b"eacsl: exit 5000\n",
         },
     )?;
-    for (call, length) in [(1, 0), (2, 4096), (3, 8192)] {
+    for (call, length) in [(1, 0), (2, 4096)] {
         let failing = Failing {
             out: &[call],
             ..NONE
