@@ -4,10 +4,10 @@ use std::alloc::{AllocError, Global};
 use std::process::Abort;
 use std::test::*;
 
-const ROW_2: &[u8] =
+const TRUE_ASSERT: &[u8] =
     b"int main(void) {\n  int x = 2;\n  //@ assert x + 1 == 3;\n  putchar('A');\n  return 0;\n}\n";
 
-const ROW_3: &[u8] =
+const FALSE_ASSERT: &[u8] =
     b"int main(void) {\n  int x = 2;\n  putchar('A');\n  //@ assert x == 2;\n  //@ assert x > 2;\n  putchar('B');\n  return 0;\n}\n";
 
 const ENDLESS: &[u8] = b"int main(void) { while (1) putchar('x'); }\n";
@@ -106,7 +106,7 @@ fn a_program_with_a_true_annotation_runs(rt: HostRuntime) -> Result<(), AllocErr
     gives(
         &rt,
         "run a.c",
-        ROW_2,
+        TRUE_ASSERT,
         &NONE,
         &Wanted {
             status: 0,
@@ -121,7 +121,7 @@ fn the_first_false_annotation_is_named(rt: HostRuntime) -> Result<(), AllocError
     gives(
         &rt,
         "run a.c",
-        ROW_3,
+        FALSE_ASSERT,
         &NONE,
         &Wanted {
             status: 1,
@@ -182,7 +182,7 @@ fn words_without_a_job_are_answered_by_the_usage(rt: HostRuntime) -> Result<(), 
         gives(
             &rt,
             words,
-            ROW_2,
+            TRUE_ASSERT,
             &NONE,
             &Wanted {
                 status: 3,
@@ -199,7 +199,7 @@ fn files_that_are_not_there_are_named_so(rt: HostRuntime) -> Result<(), AllocErr
     gives(
         &rt,
         "run b.c",
-        ROW_2,
+        TRUE_ASSERT,
         &NONE,
         &Wanted {
             status: 10,
@@ -214,7 +214,7 @@ fn files_that_are_not_there_are_named_so(rt: HostRuntime) -> Result<(), AllocErr
     gives(
         &rt,
         "run a.c",
-        ROW_2,
+        TRUE_ASSERT,
         &failing,
         &Wanted {
             status: 7,
@@ -226,8 +226,8 @@ fn files_that_are_not_there_are_named_so(rt: HostRuntime) -> Result<(), AllocErr
 
 #[test]
 fn a_file_has_at_most_a_mebibyte(rt: HostRuntime) -> Result<(), AllocError> {
-    let mut text = ROW_2.to_vec(rt.alloc())?;
-    text.extend_from_slice(&filled(rt.alloc(), b' ', 1_048_576 - ROW_2.len())?)?;
+    let mut text = TRUE_ASSERT.to_vec(rt.alloc())?;
+    text.extend_from_slice(&filled(rt.alloc(), b' ', 1_048_576 - TRUE_ASSERT.len())?)?;
     gives(
         &rt,
         "run a.c",
@@ -294,7 +294,7 @@ fn an_error_output_that_fails_is_said_by_the_status(rt: HostRuntime) -> Result<(
     gives(
         &rt,
         "run a.c",
-        ROW_3,
+        FALSE_ASSERT,
         &failing,
         &Wanted {
             status: 8,
@@ -305,7 +305,7 @@ fn an_error_output_that_fails_is_said_by_the_status(rt: HostRuntime) -> Result<(
     gives(
         &rt,
         "walk",
-        ROW_3,
+        FALSE_ASSERT,
         &failing,
         &Wanted {
             status: 8,
