@@ -5,8 +5,18 @@ pub mod Growth
 pub mod Cells
 pub mod Fit
 mod WorkedRuns
+mod MonitoredTexts
+pub mod Spelling
+pub mod BrokenPieces
+pub mod PieceLaws
+pub mod RefusalLaws
+pub mod NameLaws
 pub mod Blocks
 pub mod Results
 pub mod Agreement
 pub mod Whole
 pub mod FirstRows
+mod FormExpressions
+mod FormStatements
+mod FormNames
+pub mod FormPrograms

@@ -1,5 +1,5 @@
 -- Where the file and the number of steps of a job come from.
-use Rattle.std.proofs.Common.{◌≡◌, ◌≢◌, ℕ, suc, ◌≤◌, zero, ◌⊎◌, inl, inr, nat_le, not, ◌&&◌, Bool, true, false, List, [], ◌∷◌, ◌++◌, Option, Some, None, refl, sym, ◌∙◌, arith, if◌then◌else◌, lit≤, codes, bytes_eq, subst}
+use Rattle.std.proofs.Common.{◌≡◌, ◌≢◌, ℕ, suc, ◌≤◌, zero, ◌⊎◌, inl, inr, nat_le, not, ◌&&◌, Bool, true, false, List, [], ◌∷◌, ◌++◌, Option, Some, None, option_map, refl, ap, sym, ◌∙◌, arith, if◌then◌else◌, lit≤, codes, bytes_eq, subst}
 use Rattle.std.specs.List.{Contains}
 use Rattle.std.specs.Fmt.{decimal}
 use Rattle.std.specs.Str.{all_ascii_digits}
@@ -8,18 +8,37 @@ use Rattle.std.proofs.lemmas.List.Elements.{Contains-append_right, Contains-appe
 use Rattle.std.proofs.lemmas.Slice.Eq.{bytes_eq-Decides}
 use Rattle.std.proofs.lemmas.Bool.{leb-true, le-leb}
 use Rattle.std.proofs.lemmas.Fmt.{digits_decimal, digits_value-decimal, decimal_nonempty}
-use Rattle.c_model.specs.declared.job.Job.TheVariants.{Run}
-use Rattle.c_model.specs.Words.{Argument, Operand, Steps, ◌>>=◌, before_dashes, behind_dashes, without_front, argument, arguments, with_value, operands, step_values, is_empty, step_number, steps_of, file_of, run_of, job_of}
-use Rattle.c_model.specs.WordLaws.{IsFromWords}
+use Rattle.c_model.specs.declared.job.Job.{Job}
+use Rattle.c_model.specs.declared.job.Job.TheVariants.{Run, Instrument, Exec}
+use Rattle.c_model.specs.Words.{Argument, Operand, Steps, ◌>>=◌, before_dashes, behind_dashes, without_front, argument, arguments, with_value, operands, step_values, is_empty, step_number, steps_of, file_of, run_of, exec_of, without_options, instrument_of, job_of}
+use Rattle.c_model.specs.WordLaws.{file_named, steps_asked, IsFromWords}
 use Rattle.c_model.proofs.CommandLine.{own, within, number_ok}
-use Rattle.c_model.proofs.WordOrder.{job_with}
 
 -- the file
 
-parts_of : (file : Option (List ℕ)) (steps : Option ℕ) (f : List ℕ) (n : ℕ) (rte : Bool) → (file >>= λ word. steps >>= λ count. Some (Run word count false)) ≡ Some (Run f n rte) → (file ≡ Some f) × (steps ≡ Some n)
-parts_of None steps f n rte e = cc
-parts_of (Some word) None f n rte e = cc
-parts_of (Some word) (Some count) f n rte e = (cc, cc)
+-- the parts of a job that is made of both
+record Parts (make : List ℕ → ℕ → Job) (file : Option (List ℕ)) (steps : Option ℕ) (job : Job) : Type 0 where
+  name : List ℕ
+  count : ℕ
+  file_is : file ≡ Some name
+  steps_is : steps ≡ Some count
+  job_is : make name count ≡ job
+
+parts_of : (make : List ℕ → ℕ → Job) (file : Option (List ℕ)) (steps : Option ℕ) (job : Job) → (file >>= λ word. steps >>= λ count. Some (make word count)) ≡ Some job → Parts make file steps job
+parts_of make None steps job e = absurd cc
+parts_of make (Some word) None job e = absurd cc
+parts_of make (Some word) (Some count) job e = record { name = word; count = count; file_is = refl; steps_is = refl; job_is = cc }
+
+-- the file of a job without options
+record File (file : Option (List ℕ)) (job : Job) : Type 0 where
+  name : List ℕ
+  file_is : file ≡ Some name
+  job_is : Instrument name false ≡ job
+
+file_without : (file : Option (List ℕ)) (values : List (List ℕ)) (job : Job) → (file >>= λ word. without_options values (Instrument word false)) ≡ Some job → File file job
+file_without None values job e = absurd cc
+file_without (Some word) [] job e = record { name = word; file_is = refl; job_is = cc }
+file_without (Some word) (v ∷ more) job e = absurd cc
 
 record IsOnly (words : List (List ℕ)) (file : List ℕ) : Type 0 where
   only : words ≡ file ∷ []
@@ -132,31 +151,74 @@ behind_among (word ∷ words) x k = behind_test (bytes_eq word (codes "--")) wor
 
 -- the job
 
-run_from : (m : Option (List Argument)) (behind words : List (List ℕ)) → ((found : List Argument) (x : List ℕ) → m ≡ Some found → Contains (operands found) x → Contains words x) → ((x : List ℕ) → Contains behind x → Contains words x) → (file : List ℕ) (steps : ℕ) (rte : Bool) → (m >>= λ found. job_with found behind) ≡ Some (Run file steps rte) → IsFromWords words file steps
-run_from None behind words h k file steps rte e = cc
-run_from (Some found) behind words h k file steps rte e =
-    let p = parts_of (file_of (operands found ++ behind)) (steps_of (step_values found)) file steps rte e in
-    let only = file_of-only (operands found ++ behind) file p.0 in
+abbrev FoundAmong : Option (List Argument) → List (List ℕ) → Type 0
+FoundAmong m words = (found : List Argument) (x : List ℕ) → m ≡ Some found → Contains (operands found) x → Contains words x
+
+-- the only operand stands among the words
+from_operand : (found : List Argument) (behind words : List (List ℕ)) → FoundAmong (Some found) words → ((x : List ℕ) → Contains behind x → Contains words x) → (file : List ℕ) (steps : ℕ) → file_of (operands found ++ behind) ≡ Some file → steps ≤ 1000000000000 → IsFromWords words file steps
+from_operand found behind words h k file steps e small =
+    let only = file_of-only (operands found ++ behind) file e in
     let among : Contains (operands found ++ behind) file = subst (λ ws. Contains ws file) (sym only.only) (first file []) in
     record {
-      small = steps_of-small (step_values found) steps p.1;
+      small = small;
       word = elim (Contains-append_cases (operands found) behind file among) [ inl i ↦ h found file refl i | inr j ↦ k file j ];
       not_empty = only.not_empty;
       not_dash = only.not_dash;
     }
 
-run_of-words : (words : List (List ℕ)) (file : List ℕ) (steps : ℕ) (rte : Bool) → run_of words ≡ Some (Run file steps rte) → IsFromWords words file steps
-run_of-words words file steps rte e = run_from (arguments (before_dashes words)) (behind_dashes words) words (λ found x is k. before_among words x (arguments-finds (before_dashes words) found x is k)) (behind_among words) file steps rte e
+timed_from : (make : List ℕ → ℕ → Job) → ((f : List ℕ) (n : ℕ) → (file_named (make f n) ≡ f) × (steps_asked (make f n) ≡ n)) → (m : Option (List Argument)) (behind words : List (List ℕ)) → FoundAmong m words → ((x : List ℕ) → Contains behind x → Contains words x) → (job : Job) → (m >>= λ found. file_of (operands found ++ behind) >>= λ file. steps_of (step_values found) >>= λ steps. Some (make file steps)) ≡ Some job → IsFromWords words (file_named job) (steps_asked job)
+timed_from make is None behind words h k job e = absurd cc
+timed_from make is (Some found) behind words h k job e =
+    let p = parts_of make (file_of (operands found ++ behind)) (steps_of (step_values found)) job e in
+    let q = from_operand found behind words h k p.name p.count p.file_is (steps_of-small (step_values found) p.count p.steps_is) in
+    let named : file_named job ≡ p.name = ap file_named (sym p.job_is) ∙ (is p.name p.count).0 in
+    let asked : steps_asked job ≡ p.count = ap steps_asked (sym p.job_is) ∙ (is p.name p.count).1 in
+    rw (named, asked) q
 
-job_test : (t : Bool) (command : List ℕ) (words : List (List ℕ)) (file : List ℕ) (steps : ℕ) (rte : Bool) → (if t then run_of words else None) ≡ Some (Run file steps rte) → IsFromWords (command ∷ words) file steps
-job_test false command words file steps rte e = cc
-job_test true command words file steps rte e =
-    let is = run_of-words words file steps rte e in
-    record { small = is.small; word = later command words file is.word; not_empty = is.not_empty; not_dash = is.not_dash }
+untimed_from : (m : Option (List Argument)) (behind words : List (List ℕ)) → FoundAmong m words → ((x : List ℕ) → Contains behind x → Contains words x) → (job : Job) → (m >>= λ found. file_of (operands found ++ behind) >>= λ file. without_options (step_values found) (Instrument file false)) ≡ Some job → IsFromWords words (file_named job) (steps_asked job)
+untimed_from None behind words h k job e = absurd cc
+untimed_from (Some found) behind words h k job e =
+    let p = file_without (file_of (operands found ++ behind)) (step_values found) job e in
+    let q = from_operand found behind words h k p.name 0 p.file_is (omega arith) in
+    rw (ap file_named (sym p.job_is), ap steps_asked (sym p.job_is)) q
 
-pub jobs_are_from_words : (words : List (List ℕ)) (file : List ℕ) (steps : ℕ) (rte : Bool) → job_of words ≡ Some (Run file steps rte) → IsFromWords words file steps
-jobs_are_from_words [] file steps rte e = cc
-jobs_are_from_words (command ∷ words) file steps rte e = job_test (bytes_eq command (codes "run")) command words file steps rte e
+found_among : (words : List (List ℕ)) → FoundAmong (arguments (before_dashes words)) words
+found_among words found x is k = before_among words x (arguments-finds (before_dashes words) found x is k)
+
+behind : (command : List ℕ) (words : List (List ℕ)) (job : Job) → IsFromWords words (file_named job) (steps_asked job) → IsFromWords (command ∷ words) (file_named job) (steps_asked job)
+behind command words job is = record { small = is.small; word = later command words (file_named job) is.word; not_empty = is.not_empty; not_dash = is.not_dash }
+
+run_from : (words : List (List ℕ)) (job : Job) → run_of words ≡ Some job → IsFromWords words (file_named job) (steps_asked job)
+run_from words job e = timed_from (λ f n. Run f n false) (λ f n. (refl, refl)) (arguments (before_dashes words)) (behind_dashes words) words (found_among words) (behind_among words) job e
+
+exec_from : (words : List (List ℕ)) (job : Job) → exec_of words ≡ Some job → IsFromWords words (file_named job) (steps_asked job)
+exec_from words job e = timed_from Exec (λ f n. (refl, refl)) (arguments (before_dashes words)) (behind_dashes words) words (found_among words) (behind_among words) job e
+
+instrument_from : (words : List (List ℕ)) (job : Job) → instrument_of words ≡ Some job → IsFromWords words (file_named job) (steps_asked job)
+instrument_from words job e = untimed_from (arguments (before_dashes words)) (behind_dashes words) words (found_among words) (behind_among words) job e
+
+command_test : (a b c : Bool) (command : List ℕ) (words : List (List ℕ)) (job : Job) → (if a then run_of words else (if b then instrument_of words else (if c then exec_of words else None))) ≡ Some job → IsFromWords (command ∷ words) (file_named job) (steps_asked job)
+command_test true b c command words job e = behind command words job (run_from words job e)
+command_test false true c command words job e = behind command words job (instrument_from words job e)
+command_test false false true command words job e = behind command words job (exec_from words job e)
+command_test false false false command words job e = absurd cc
+
+pub jobs_are_from_words : (words : List (List ℕ)) (job : Job) → job_of words ≡ Some job → IsFromWords words (file_named job) (steps_asked job)
+jobs_are_from_words [] job e = absurd cc
+jobs_are_from_words (command ∷ words) job e = command_test (bytes_eq command (codes "run")) (bytes_eq command (codes "instrument")) (bytes_eq command (codes "exec")) command words job e
+
+-- `exec` takes what `run` takes
+exec_at : (file : Option (List ℕ)) (steps : Option ℕ) → (file >>= λ f. steps >>= λ n. Some (Exec f n)) ≡ option_map (λ job. Exec (file_named job) (steps_asked job)) (file >>= λ f. steps >>= λ n. Some (Run f n false))
+exec_at None steps = refl
+exec_at (Some f) None = refl
+exec_at (Some f) (Some n) = refl
+
+exec_with : (m : Option (List Argument)) (behind : List (List ℕ)) → (m >>= λ found. file_of (operands found ++ behind) >>= λ file. steps_of (step_values found) >>= λ steps. Some (Exec file steps)) ≡ option_map (λ job. Exec (file_named job) (steps_asked job)) (m >>= λ found. file_of (operands found ++ behind) >>= λ file. steps_of (step_values found) >>= λ steps. Some (Run file steps false))
+exec_with None behind = refl
+exec_with (Some found) behind = exec_at (file_of (operands found ++ behind)) (steps_of (step_values found))
+
+pub exec_takes_words_of_run : (words : List (List ℕ)) → exec_of words ≡ option_map (λ job. Exec (file_named job) (steps_asked job)) (run_of words)
+exec_takes_words_of_run words = exec_with (arguments (before_dashes words)) (behind_dashes words)
 
 -- numbers
 

@@ -1,20 +1,29 @@
 -- Programs whose `main` computes with variables of type `int` alone, each a block of its own whose number is its name.
-use Rattle.std.specs.Prelude.{◌≡◌, ℕ, ◌+◌, ◌<◌, ◌≤◌, ℤ, pos, ◌≤ℤ◌, List, [], ◌∷◌, Option, Some, None, codes, slice_get}
+-- Their expressions, terms, statements and names are within this profile's limits.
+use Rattle.std.specs.Prelude.{◌≡◌, ℕ, ◌+◌, max, ◌<◌, ◌≤◌, ℤ, pos, ◌≤ℤ◌, true, List, [], ◌∷◌, length, Option, Some, None, codes, slice_get}
+use Rattle.std.specs.List.{AllByRecursion}
 use Rattle.c_syntax.specs.declared.place.Place.{Place}
 use Rattle.c_syntax.specs.declared.expression.Use.{Use}
 use Rattle.c_syntax.specs.declared.expression.BinOp.{BinOp}
 use Rattle.c_syntax.specs.declared.expression.BinOp.TheVariants.{Add, Sub, Eq, Ne, Lt, Le, Gt, Ge}
+use Rattle.c_syntax.specs.declared.annotation.Kind.TheVariants.{Assert}
 use Rattle.c_syntax.specs.Ctypes.{int_type}
 use Rattle.c_syntax.specs.Expressions.{Expression, Number, Letter, Variable, Binary, Assign, Call, Expressions, NoExpression, Following}
 use Rattle.c_syntax.specs.Annotations.{LogicTerm, Predicate, Chain, Links, NoLink, Linked, ClauseBody, Truth, Annotation}
 use Rattle.c_syntax.specs.Annotations as logic
 use Rattle.c_syntax.specs.Statements.{Initialiser, One, Declaration, Statement, Eval, Block, If, While, Return, ElsePart, NoElse, Else, BlockItem, Declare, Run, Asserts, BlockItems, NoItem, Then}
 use Rattle.c_syntax.specs.Programs.{Function, TranslationUnit}
+use Rattle.c_model.specs.FirstTokens.{is_part}
 
 -- a value that a literal of type `int` may have (C99 6.4.4.1)
 pub record IsIntLiteral (z : ℤ) : Type 0 where
   pub not_negative : pos 0 ≤ℤ z
   pub fits : z ≤ℤ pos 2147483647
+
+-- the value of a letter (C99 6.4.4.4)
+pub record IsLetter (z : ℤ) : Type 0 where
+  pub not_negative : pos 0 ≤ℤ z
+  pub small : z ≤ℤ pos 127
 
 -- one of the variables 1 to n
 pub record IsVariable (n : ℕ) (x : Use) : Type 0 where
@@ -24,11 +33,30 @@ pub record IsVariable (n : ℕ) (x : Use) : Type 0 where
 -- an expression of type `int` over the variables 1 to n, without side effects
 abbrev pub IsPure : ℕ → Expression → Type 0
 IsPure n (Number at t z k) = (t ≡ int_type) × IsIntLiteral z
-IsPure n (Letter at t z) = t ≡ int_type
+IsPure n (Letter at t z) = (t ≡ int_type) × IsLetter z
 IsPure n (Variable at t x) = (t ≡ int_type) × IsVariable n x
 IsPure n (Binary at t op a b) = (t ≡ int_type) × IsPure n a × IsPure n b
 IsPure n (Assign at t op a b) = ⊥
 IsPure n (Call at t f args) = ⊥
+
+-- how many literals and variables an expression has
+abbrev mutual
+  pub leaves_of : Expression → ℕ
+  leaves_of (Number at t z k) = 1
+  leaves_of (Letter at t z) = 1
+  leaves_of (Variable at t x) = 1
+  leaves_of (Binary at t op a b) = leaves_of a + leaves_of b
+  leaves_of (Assign at t op a b) = leaves_of a + leaves_of b
+  leaves_of (Call at t f args) = leaves_of_all args
+
+  pub leaves_of_all : Expressions → ℕ
+  leaves_of_all NoExpression = 0
+  leaves_of_all (Following e rest) = leaves_of e + leaves_of_all rest
+
+-- such an expression where it stands in no other (C99 6.8, a full expression)
+pub record IsFullExpression (n : ℕ) (e : Expression) : Type 0 where
+  pub is : IsPure n e
+  pub short : leaves_of e ≤ 400
 
 -- the left side of an assignment: a variable
 abbrev pub IsTarget : ℕ → Expression → Type 0
@@ -42,12 +70,12 @@ IsTarget n (Call at t f args) = ⊥
 -- one argument
 abbrev pub IsArgument : ℕ → Expressions → Type 0
 IsArgument n NoExpression = ⊥
-IsArgument n (Following e NoExpression) = IsPure n e
+IsArgument n (Following e NoExpression) = IsFullExpression n e
 IsArgument n (Following e (Following f more)) = ⊥
 
 -- `x = e`, or `putchar(e)`, whose name has the number behind the variables'
 abbrev pub IsEffect : ℕ → Expression → Type 0
-IsEffect n (Assign at t None a b) = (t ≡ int_type) × IsTarget n a × IsPure n b
+IsEffect n (Assign at t None a b) = (t ≡ int_type) × IsTarget n a × IsFullExpression n b
 IsEffect n (Assign at t (Some op) a b) = ⊥
 IsEffect n (Call at t f args) = (t ≡ int_type) × (f.decl ≡ 4294967295) × (f.name ≡ n + 1) × IsArgument n args
 IsEffect n (Number at t z k) = ⊥
@@ -69,7 +97,7 @@ IsSum Ge = ⊥
 -- a term of sums over the variables 1 to n
 abbrev pub IsIntTerm : ℕ → LogicTerm → Type 0
 IsIntTerm n (logic.Number at c r z) = IsIntLiteral z
-IsIntTerm n (logic.Letter at c r z) = Unit {0}
+IsIntTerm n (logic.Letter at c r z) = IsLetter z
 IsIntTerm n (logic.Variable at c r x) = (c ≡ Some int_type) × IsVariable n x
 IsIntTerm n (logic.Binary at c r op a b) = IsSum op × IsIntTerm n a × IsIntTerm n b
 
@@ -85,29 +113,33 @@ pub record IsShortTerm (n : ℕ) (t : LogicTerm) : Type 0 where
   pub is : IsIntTerm n t
   pub short : leaves t ≤ 400
 
-abbrev pub AreShortLinks : ℕ → Links → Type 0
-AreShortLinks n NoLink = Unit {0}
-AreShortLinks n (Linked at r t rest) = IsShortTerm n t × AreShortLinks n rest
-
+-- one relation between two terms
 abbrev pub IsIntPredicate : ℕ → Predicate → Type 0
-IsIntPredicate n (Chain at t links) = IsShortTerm n t × AreShortLinks n links
+IsIntPredicate n (Chain at t NoLink) = ⊥
+IsIntPredicate n (Chain at t (Linked at2 r u NoLink)) = IsShortTerm n t × IsShortTerm n u
+IsIntPredicate n (Chain at t (Linked at2 r u (Linked at3 r3 v rest))) = ⊥
 
 abbrev pub IsIntBody : ℕ → ClauseBody → Type 0
 IsIntBody n (Truth p) = IsIntPredicate n p
 
+-- an assert of such a predicate
+pub record IsIntAssert (n : ℕ) (a : Annotation) : Type 0 where
+  pub kind : a.kind ≡ Assert
+  pub body : IsIntBody n a.body
+
 abbrev pub AreIntAnnotations : ℕ → List Annotation → Type 0
 AreIntAnnotations n [] = Unit {0}
-AreIntAnnotations n (a ∷ rest) = IsIntBody n a.body × AreIntAnnotations n rest
+AreIntAnnotations n (a ∷ rest) = IsIntAssert n a × AreIntAnnotations n rest
 
 -- a statement over the variables 1 to n that declares none
 abbrev mutual
   pub IsIntStatement : ℕ → Statement → Type 0
   IsIntStatement n (Eval at e) = IsEffect n e
   IsIntStatement n (Block at items) = AreIntItems n items
-  IsIntStatement n (If at e a b) = IsPure n e × IsIntStatement n a × IsIntElse n b
-  IsIntStatement n (While at annots e a) = (annots ≡ []) × IsPure n e × IsIntStatement n a
+  IsIntStatement n (If at e a b) = IsFullExpression n e × IsIntStatement n a × IsIntElse n b
+  IsIntStatement n (While at annots e a) = (annots ≡ []) × IsFullExpression n e × IsIntStatement n a
   IsIntStatement n (Return at None) = ⊥
-  IsIntStatement n (Return at (Some e)) = IsPure n e
+  IsIntStatement n (Return at (Some e)) = IsFullExpression n e
 
   pub IsIntElse : ℕ → ElsePart → Type 0
   IsIntElse n NoElse = Unit {0}
@@ -122,9 +154,31 @@ abbrev mutual
   IsIntItem n (Run a) = IsIntStatement n a
   IsIntItem n (Asserts annots) = AreIntAnnotations n annots
 
+-- how deep statements stand in a statement, itself included: one that is directly inside another is one deeper
+abbrev mutual
+  pub depth : Statement → ℕ
+  depth (Eval at e) = 1
+  depth (Block at items) = 1 + depth_of_items items
+  depth (If at e a b) = 1 + max (depth a) (depth_of_else b)
+  depth (While at annots e a) = 1 + depth a
+  depth (Return at e) = 1
+
+  pub depth_of_else : ElsePart → ℕ
+  depth_of_else NoElse = 0
+  depth_of_else (Else a) = depth a
+
+  pub depth_of_items : BlockItems → ℕ
+  depth_of_items NoItem = 0
+  depth_of_items (Then i rest) = max (depth_of_item i) (depth_of_items rest)
+
+  pub depth_of_item : BlockItem → ℕ
+  depth_of_item (Declare decls) = 0
+  depth_of_item (Run a) = depth a
+  depth_of_item (Asserts annots) = 0
+
 abbrev pub IsIntInit : ℕ → Option (Place × Initialiser) → Type 0
 IsIntInit n None = ⊥
-IsIntInit n (Some (at, One e)) = IsPure n e
+IsIntInit n (Some (at, One e)) = IsFullExpression n e
 
 -- the declaration of the variable k, with an initialiser over the variables 1 to n
 pub record IsIntDeclaration (n k : ℕ) (d : Declaration) : Type 0 where
@@ -132,18 +186,20 @@ pub record IsIntDeclaration (n k : ℕ) (d : Declaration) : Type 0 where
   pub ctype : d.ctype ≡ int_type
   pub init : IsIntInit n d.init
 
--- the body of main, where k variables are declared already: the others come one a declaration, in order, up to n
+-- The items of main's body, where k of its n variables are declared already: the others are declared first, in order, one a
+-- declaration and by the variables before it alone, and nothing is declared behind them.
 abbrev pub AreMainItems : ℕ → ℕ → BlockItems → Type 0
-AreMainItems n k NoItem = k ≡ n
 AreMainItems n k (Then (Declare []) rest) = ⊥
-AreMainItems n k (Then (Declare (d ∷ [])) rest) = IsIntDeclaration n (k + 1) d × AreMainItems n (k + 1) rest
+AreMainItems n k (Then (Declare (d ∷ [])) rest) = IsIntDeclaration k (k + 1) d × AreMainItems n (k + 1) rest
 AreMainItems n k (Then (Declare (d ∷ e ∷ more)) rest) = ⊥
-AreMainItems n k (Then (Run a) rest) = IsIntStatement n a × AreMainItems n k rest
-AreMainItems n k (Then (Asserts annots) rest) = AreIntAnnotations n annots × AreMainItems n k rest
+AreMainItems n k (Then (Run a) rest) = (k ≡ n) × AreIntItems n (Then (Run a) rest)
+AreMainItems n k (Then (Asserts annots) rest) = (k ≡ n) × AreIntItems n (Then (Asserts annots) rest)
+AreMainItems n k NoItem = k ≡ n
 
+-- main's body, which is 1 deep
 abbrev pub IsMainBody : ℕ → Option Statement → Type 0
 IsMainBody n None = ⊥
-IsMainBody n (Some (Block at items)) = AreMainItems n 0 items
+IsMainBody n (Some (Block at items)) = AreMainItems n 0 items × (depth (Block at items) ≤ 200)
 IsMainBody n (Some (Eval at e)) = ⊥
 IsMainBody n (Some (If at e a b)) = ⊥
 IsMainBody n (Some (While at annots e a)) = ⊥
@@ -156,6 +212,12 @@ pub record IsIntMain (n : ℕ) (f : Function) : Type 0 where
   pub no_contract : f.contract ≡ None
   pub body : IsMainBody n f.body
 
+-- a name: letters, digits and `_` (C99 6.4.2.1), at most 255 of them
+pub record IsName (w : List ℕ) : Type 0 where
+  pub parts : AllByRecursion (λ b. is_part b ≡ true) w
+  pub not_empty : 0 < length w
+  pub short : length w ≤ 255
+
 -- one function, `main`, with at most 1,000 variables, and nothing else at file scope
 pub record IsIntProgram (p : TranslationUnit) : Type 0 where
   pub variables : ℕ
@@ -164,5 +226,6 @@ pub record IsIntProgram (p : TranslationUnit) : Type 0 where
   pub funcs : p.funcs ≡ main ∷ []
   pub is_main : IsIntMain variables main
   pub globals : p.globals ≡ []
+  pub names : AllByRecursion IsName p.names
   pub main_name : slice_get p.names 0 ≡ Some (codes "main")
   pub putchar_name : slice_get p.names (variables + 1) ≡ Some (codes "putchar")

@@ -13,6 +13,8 @@ pub mod Steps
 pub mod Laws
 pub mod FirstTokens
 pub mod FirstForm
+pub mod MonitoredTokens
+pub mod MonitoredTokenLaws
 pub mod Accepted
 pub mod Operators
 pub mod Ranges

@@ -1,9 +1,10 @@
 -- What holds of every list of words.
-use Rattle.std.specs.Prelude.{◌≡◌, ◌≢◌, ℕ, ◌≤◌, ◌<◌, List, [], ◌∷◌, ◌++◌, length, Some, None, codes, false, Bool}
+use Rattle.std.specs.Prelude.{◌≡◌, ◌≢◌, ℕ, ◌≤◌, ◌<◌, List, [], ◌∷◌, ◌++◌, length, Some, None, option_map, codes, false}
 use Rattle.std.specs.List.{Contains}
 use Rattle.std.specs.Fmt.{decimal}
-use Rattle.c_model.specs.declared.job.Job.TheVariants.{Run}
-use Rattle.c_model.specs.Words.{Argument, before_dashes, arguments, step_number, run_of, job_of}
+use Rattle.c_model.specs.declared.job.Job.{Job}
+use Rattle.c_model.specs.declared.job.Job.TheVariants.{Run, Instrument, Exec}
+use Rattle.c_model.specs.Words.{Argument, before_dashes, arguments, step_number, run_of, exec_of, job_of}
 
 -- the words are whole arguments, and none of them is `--`
 pub record AreArguments (words : List (List ℕ)) : Type 0 where
@@ -33,6 +34,17 @@ DashesEndOptions = (word : List ℕ) → word ≢ [] → word ≢ codes "-" → 
 abbrev pub OneFileBehindDashes : Type 0
 OneFileBehindDashes = (a b : List ℕ) (more : List (List ℕ)) → run_of (codes "--" ∷ (a ∷ (b ∷ more))) ≡ None
 
+-- the file of a job, and the steps that it asks for
+abbrev pub file_named : Job → List ℕ
+file_named (Run file steps rte) = file
+file_named (Instrument file rte) = file
+file_named (Exec file steps) = file
+
+abbrev pub steps_asked : Job → ℕ
+steps_asked (Run file steps rte) = steps
+steps_asked (Instrument file rte) = 0
+steps_asked (Exec file steps) = steps
+
 -- a job has at most 10^12 steps, and its file is one of the words, not empty and not `-`
 pub record IsFromWords (words : List (List ℕ)) (file : List ℕ) (steps : ℕ) : Type 0 where
   pub small : steps ≤ 1000000000000
@@ -41,7 +53,11 @@ pub record IsFromWords (words : List (List ℕ)) (file : List ℕ) (steps : ℕ)
   pub not_dash : file ≢ codes "-"
 
 abbrev pub JobsAreFromWords : Type 0
-JobsAreFromWords = (words : List (List ℕ)) (file : List ℕ) (steps : ℕ) (rte : Bool) → job_of words ≡ Some (Run file steps rte) → IsFromWords words file steps
+JobsAreFromWords = (words : List (List ℕ)) (job : Job) → job_of words ≡ Some job → IsFromWords words (file_named job) (steps_asked job)
+
+-- `exec` takes the words that `run` takes
+abbrev pub ExecTakesWordsOfRun : Type 0
+ExecTakesWordsOfRun = (words : List (List ℕ)) → exec_of words ≡ option_map (λ job. Exec (file_named job) (steps_asked job)) (run_of words)
 
 -- the number that is written is the one that is read, and a leading zero changes nothing
 abbrev pub NumbersAreRead : Type 0

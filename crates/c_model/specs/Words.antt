@@ -4,7 +4,7 @@ use Rattle.std.specs.Prelude.{ℕ, nat_le, Bool, true, false, ◌&&◌, not, if�
 use Rattle.std.specs.Str.{all_ascii_digits}
 use Rattle.std.specs.Str.Parse.{digits_value}
 use Rattle.c_model.specs.declared.job.Job.{Job}
-use Rattle.c_model.specs.declared.job.Job.TheVariants.{Run}
+use Rattle.c_model.specs.declared.job.Job.TheVariants.{Run, Instrument, Exec}
 
 -- what stands behind a command: an operand, or the option `--steps` with its value
 pub data Argument : Type 0 where
@@ -83,15 +83,39 @@ file_of [] = None
 file_of (word ∷ []) = if is_empty word then None else (if bytes_eq word (codes "-") then None else Some word)
 file_of (word ∷ again ∷ more) = None
 
--- the job of the words behind `run`
-abbrev pub run_of : List (List ℕ) → Option Job
-run_of words = do
+-- the job of the words behind a command with the option `--steps`
+abbrev pub timed : (List ℕ → ℕ → Job) → List (List ℕ) → Option Job
+timed job words = do
   found ← arguments (before_dashes words)
   file ← file_of (operands found ++ behind_dashes words)
   steps ← steps_of (step_values found)
-  Some (Run file steps false)
+  Some (job file steps)
+
+abbrev pub run_of : List (List ℕ) → Option Job
+run_of words = timed (λ file steps. Run file steps false) words
+
+abbrev pub exec_of : List (List ℕ) → Option Job
+exec_of words = timed Exec words
+
+-- there is a job where no option is given
+abbrev pub without_options : List (List ℕ) → Job → Option Job
+without_options [] job = Some job
+without_options (value ∷ more) job = None
+
+-- the job of the words behind `instrument`, which has no option
+abbrev pub instrument_of : List (List ℕ) → Option Job
+instrument_of words = do
+  found ← arguments (before_dashes words)
+  file ← file_of (operands found ++ behind_dashes words)
+  without_options (step_values found) (Instrument file false)
+
+abbrev pub command_of : List ℕ → List (List ℕ) → Option Job
+command_of command words =
+    if bytes_eq command (codes "run") then run_of words
+    else (if bytes_eq command (codes "instrument") then instrument_of words
+    else (if bytes_eq command (codes "exec") then exec_of words else None))
 
 -- the job of a list of words, without the program's name
 abbrev pub job_of : List (List ℕ) → Option Job
 job_of [] = None
-job_of (command ∷ words) = if bytes_eq command (codes "run") then run_of words else None
+job_of (command ∷ words) = command_of command words

@@ -40,4 +40,14 @@ pub enum Job {
         steps: u64,
         rte: bool,
     },
+    /// Instruments the file; `rte` asks for run-time error annotations.
+    Instrument {
+        file: FileName,
+        rte: bool,
+    },
+    /// Runs the monitored text of the file with at most this many steps.
+    Exec {
+        file: FileName,
+        steps: u64,
+    },
 }

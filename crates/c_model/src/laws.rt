@@ -4,6 +4,7 @@ ghost use Rattle.c_model.specs.Laws.{BitsHoldValues, FittingResultsStand, Signed
 ghost use Rattle.c_model.specs.Laws.{SavedValuesLoad, SavesKeepBlocks, SavesKeepBytes, SavesKeepWhole, StatementsKeepWhole};
 ghost use Rattle.c_model.specs.Laws.{FuelIsEnough, StepsFall, LoopsTurn, RunsNeedNoFuel, RunsSpendSteps, OutputGrows};
 ghost use Rattle.c_model.specs.Laws.{AgreementIsReflexive, AgreementIsTransitive};
+ghost use Rattle.c_model.specs.Laws.{AcceptedAreInt};
 
 /// Integers: a value is the value of its bits, a result that fits stands, one that does not is undefined in a signed
 /// type and wraps in an unsigned one.
@@ -38,4 +39,9 @@ pub fn runs()
 pub fn agreement()
     ensures reflexive { AgreementIsReflexive }
     ensures transitive { AgreementIsTransitive }
+{}
+
+/// Accepted texts: `main` declares its variables first and computes with them alone, within the limits.
+pub fn acceptance()
+    ensures { AcceptedAreInt }
 {}

@@ -1,8 +1,8 @@
 //! Reads the words of a command line.
 
 ghost use Rattle.std.specs.Prelude.{◌≡◌, ◌++◌, [], ◌∷◌, None, Some, map, IfOk, option_map, option_copied, option_to_list, string_bytes, codes, false};
-ghost use Rattle.c_model.specs.declared.job.Job.TheVariants.{Run};
-ghost use Rattle.c_model.specs.Words.{argument, before_dashes, behind_dashes, file_of, job_of, run_of, step_number, steps_of, without_front};
+ghost use Rattle.c_model.specs.declared.job.Job.TheVariants.{Run, Instrument, Exec};
+ghost use Rattle.c_model.specs.Words.{argument, before_dashes, behind_dashes, exec_of, file_of, instrument_of, job_of, run_of, step_number, steps_of, without_front};
 ghost use Rattle.c_model.specs.Arguments.{found_in, found_with, plain_found, plain_given};
 
 pub mod laws;
@@ -36,6 +36,8 @@ pub fn read_words(alloc: Global, words: &[String]) -> Result<Option<Job>, AllocE
 {
     match words {
         [command, rest @ ..] if command.as_str() == "run" => read_run(alloc, rest),
+        [command, rest @ ..] if command.as_str() == "instrument" => read_instrument(alloc, rest),
+        [command, rest @ ..] if command.as_str() == "exec" => read_exec(alloc, rest),
         _ => Ok(None),
     }
 }
@@ -44,7 +46,7 @@ pub fn read_words(alloc: Global, words: &[String]) -> Result<Option<Job>, AllocE
 fn read_run(alloc: Global, words: &[String]) -> Result<Option<Job>, AllocError>
     ensures { IfOk result (λ job. job ≡ run_of (map string_bytes words.now)) }
 {
-    match run_parts(words) {
+    match timed_parts(words) {
         Some((file, steps)) => {
             let file = FileName::new(String::from_str(alloc, file)?);
             Ok(Some(Job::Run {
@@ -57,15 +59,55 @@ fn read_run(alloc: Global, words: &[String]) -> Result<Option<Job>, AllocError>
     }
 }
 
-// The file and the number of steps of the words behind `run`.
-fn run_parts(words: &[String]) -> Option<(&str, u64)>
-    ensures { option_map (λ parts. Run parts.0.now parts.1 false) result ≡ run_of (map string_bytes words.now) }
+// The job of the words behind `exec`.
+fn read_exec(alloc: Global, words: &[String]) -> Result<Option<Job>, AllocError>
+    ensures { IfOk result (λ job. job ≡ exec_of (map string_bytes words.now)) }
+{
+    match timed_parts(words) {
+        Some((file, steps)) => {
+            let file = FileName::new(String::from_str(alloc, file)?);
+            Ok(Some(Job::Exec { file, steps }))
+        }
+        None => Ok(None),
+    }
+}
+
+// The job of the words behind `instrument`.
+fn read_instrument(alloc: Global, words: &[String]) -> Result<Option<Job>, AllocError>
+    ensures { IfOk result (λ job. job ≡ instrument_of (map string_bytes words.now)) }
+{
+    match untimed_part(words) {
+        Some(file) => {
+            let file = FileName::new(String::from_str(alloc, file)?);
+            Ok(Some(Job::Instrument { file, rte: false }))
+        }
+        None => Ok(None),
+    }
+}
+
+// The file and the number of steps of the words behind a command with the option `--steps`.
+fn timed_parts(words: &[String]) -> Option<(&str, u64)>
+    ensures run { option_map (λ parts. Run parts.0.now parts.1 false) result ≡ run_of (map string_bytes words.now) }
+    ensures exec { option_map (λ parts. Exec parts.0.now parts.1) result ≡ exec_of (map string_bytes words.now) }
 {
     let (before, behind) = split_at_dashes(words);
     let found = read_arguments(before)?;
     let file = only_file(found.file, behind)?;
     let steps = steps_or_default(found.steps)?;
     Some((file, steps))
+}
+
+// The file of the words behind a command without options.
+fn untimed_part(words: &[String]) -> Option<&str>
+    ensures { option_map (λ file. Instrument file.now false) result ≡ instrument_of (map string_bytes words.now) }
+{
+    let (before, behind) = split_at_dashes(words);
+    let found = read_arguments(before)?;
+    let file = only_file(found.file, behind)?;
+    match found.steps {
+        Some(_) => None,
+        None => Some(file),
+    }
 }
 
 // The words in front of the first `--` and those behind it.

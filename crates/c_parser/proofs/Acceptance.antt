@@ -1,7 +1,5 @@
 -- What the parts' answers mean for a whole text.
-use Rattle.std.proofs.Common.{◌≡◌, ℕ, ◌<◌, Bool, true, false, cond, ltb, List, [], ◌∷◌, ◌++◌, length, Option, Some, None, Result, Ok, refl, sym, ap, subst, ◌∙◌, arith, ◌&&◌, inl, inr}
-use Rattle.std.specs.Prelude.{codes, slice_get, bytes_eq}
-use Rattle.std.specs.List.{list_any}
+use Rattle.std.proofs.Common.{◌≡◌, ℕ, ◌<◌, Bool, true, false, List, [], ◌∷◌, length, Some, None, Result, Ok, refl, sym, ap, subst, ◌∙◌, arith, ◌&&◌, inl, inr}
 use Rattle.grammar.specs.Syntax.{Fault}
 use Rattle.grammar.proofs.Parts.{ok_is}
 use Rattle.grammar.proofs.Theorem.{accepts, accepts_back}
@@ -10,12 +8,10 @@ use Rattle.c_syntax.specs.declared.refusal.FrontFault.{FrontFault}
 use Rattle.c_syntax.specs.declared.refusal.FrontFault.TheVariants as front
 use Rattle.c_syntax.specs.Programs.{TranslationUnit, PlainRefusal}
 use Rattle.c_model.specs.declared.first_tokens.Token.{Token}
-use Rattle.c_model.specs.declared.first_tokens.Mode.{Mode}
-use Rattle.c_model.specs.declared.first_tokens.Mode.TheVariants.{Code, Opened, Annotation}
-use Rattle.c_model.specs.declared.first_tokens.Piece.{Piece}
+use Rattle.c_model.specs.declared.first_tokens.Mode.TheVariants.{Code}
 use Rattle.c_model.specs.declared.first_tokens.Piece.TheVariants as piece
 use Rattle.c_model.specs.declared.first_tokens.Lexeme.TheVariants as lexeme
-use Rattle.c_model.specs.FirstTokens.{Pieces, Ended, Broken, Cut, Tokens, is_blank, next, cut, piece_at, with_name, add, closed, most_tokens, build, first_place, nothing_read, tokens_of}
+use Rattle.c_model.specs.FirstTokens.{Tokens, is_blank, next, cut, piece_at, add, build, first_place, nothing_read, tokens_of}
 use Rattle.c_model.specs.FirstForm.{lexeme_kind, main_head, form}
 use Rattle.c_model.specs.Accepted.{Accepted, IsBlankText, IsRefusal, no_main, no_form}
 use Rattle.c_parser.specs.Reading.{is_fault, Fails}
@@ -23,53 +19,6 @@ use Rattle.c_parser.specs.declared.fault.ReadFault.{ReadFault}
 use Rattle.c_parser.specs.declared.fault.ReadFault.TheVariants.{Form, Memory}
 use Rattle.c_parser.specs.Answers.{blank_text, NotAccepted, RefusesWith, Refuses}
 use Rattle.c_parser.proofs.ProgramSteps.{form_exact}
-
--- ---- the name 0 is `main`
-
-abbrev has_first : List ℕ → Tokens → Type 0
-has_first w r = slice_get r.names 0 ≡ Some w
-
-named_first : (names : List (List ℕ)) (w x : List ℕ) → slice_get names 0 ≡ Some w → slice_get (with_name names x) 0 ≡ Some w
-named_first names w x e = by (list_any (bytes_eq x) names)
-  where
-    behind : (ns : List (List ℕ)) → slice_get ns 0 ≡ Some w → slice_get (ns ++ (x ∷ [])) 0 ≡ Some w
-    behind [] e = absurd cc
-    behind (y ∷ ns) e = e
-
-    by : (b : Bool) → slice_get (cond b names (names ++ x ∷ [])) 0 ≡ Some w
-    by true = e
-    by false = behind names e
-
-add_first : (r : Tokens) (at : Place) (p : Piece) (bs w : List ℕ) → has_first w r → has_first w (add r at p bs)
-unfolding add
-add_first r at piece.Blank bs w e = e
-add_first r at (piece.Fixed k) bs w e = e
-add_first r at piece.Name bs w e = named_first r.names w bs e
-add_first r at (piece.Number v) bs w e = e
-add_first r at (piece.Letter v) bs w e = e
-
-closed_first : (r : Tokens) (at : Place) (m : Mode) (w : List ℕ) → has_first w r → has_first w (closed r at m)
-closed_first r at Code w e = e
-closed_first r at Opened w e = e
-closed_first r at Annotation w e = e
-
-unlimited : (b : Bool) (o : Option Tokens) (t : Tokens) → cond b None o ≡ Some t → o ≡ Some t
-unlimited true o t e = absurd cc
-unlimited false o t e = e
-
-build_first : (r : Tokens) (ps : Pieces) (t : Tokens) (w : List ℕ) → has_first w r → build r ps ≡ Some t → has_first w t
-unfolding build
-build_first r (Ended at m) t w h e =
-    let q = unlimited (ltb most_tokens (length (closed r at m).list)) (Some (closed r at m)) t e in
-    let same : closed r at m ≡ t = cc in
-    subst (has_first w) same (closed_first r at m w h)
-build_first r Broken t w h e = absurd cc
-build_first r (Cut at p bs more) t w h e =
-    build_first (add r at p bs) more t w (add_first r at p bs w h) (unlimited (ltb most_tokens (length (add r at p bs).list)) (build (add r at p bs) more) t e)
-
-pub main_first : (text : List ℕ) (t : Tokens) → tokens_of text ≡ Some t → slice_get t.names 0 ≡ Some (codes "main")
-unfolding tokens_of
-main_first text t e = build_first nothing_read (cut 0 first_place Code text) t (codes "main") refl e
 
 -- ---- accepted or not
 

@@ -4,7 +4,6 @@ ghost use Rattle.std.specs.Prelude.{ℕ, ◌≡◌, ◌≤◌, ◌<◌, ◌+◌,
 ghost use Rattle.c_syntax.specs.Annotations.{plain_term, plain_annot};
 ghost use Rattle.c_syntax.specs.Statements.{plain_item};
 ghost use Rattle.c_model.specs.FirstForm.{parenthesised, term_binary, term_variable, term_integer, term_character, term_primary, term_once, term_more, term, assertion, assert_clause, full_clause, annotation, most_in_expression};
-ghost use Rattle.c_model.specs.IntPrograms.{IsIntTerm, leaves, IsIntBody, IsIntItem};
 ghost use Rattle.c_parser.specs.Reading.{Gives};
 
 use crate::fault::ReadFault;
@@ -41,8 +40,7 @@ fn binary(
 #[tactic(auto, unfolding(c_model::specs::FirstForm::term_variable))]
 fn variable<'a>(scope: &[u32], tokens: &'a [Token]) -> Result<(Term, &'a [Token]), ReadFault>
     ensures read { Gives (λ x. (plain_term x.0, x.1.now)) result ((term_variable scope.now).parse tokens.now) }
-    ensures shorter { IfOk result (λ x. (leaves (plain_term x.0) + length x.1.now ≤ length tokens.now) × (length x.1.now < length tokens.now)) }
-    ensures is { IfOk result (λ x. IsIntTerm (length scope.now) (plain_term x.0)) }
+    ensures shorter { IfOk result (λ x. length x.1.now < length tokens.now) }
 {
     let (x, place, rest) = used(scope, tokens)?;
     let variable = Term {
@@ -57,8 +55,7 @@ fn variable<'a>(scope: &[u32], tokens: &'a [Token]) -> Result<(Term, &'a [Token]
 #[tactic(auto, unfolding(c_model::specs::FirstForm::term_integer))]
 fn integer_literal(tokens: &[Token]) -> Result<(Term, &[Token]), ReadFault>
     ensures read { Gives (λ x. (plain_term x.0, x.1.now)) result (term_integer.parse tokens.now) }
-    ensures shorter { IfOk result (λ x. (leaves (plain_term x.0) + length x.1.now ≤ length tokens.now) × (length x.1.now < length tokens.now)) }
-    ensures is { (n : ℕ) → IfOk result (λ x. IsIntTerm n (plain_term x.0)) }
+    ensures shorter { IfOk result (λ x. length x.1.now < length tokens.now) }
 {
     let (value, place, rest) = number(tokens)?;
     let literal = Term {
@@ -73,8 +70,7 @@ fn integer_literal(tokens: &[Token]) -> Result<(Term, &[Token]), ReadFault>
 #[tactic(auto, unfolding(c_model::specs::FirstForm::term_character))]
 fn character_literal(tokens: &[Token]) -> Result<(Term, &[Token]), ReadFault>
     ensures read { Gives (λ x. (plain_term x.0, x.1.now)) result (term_character.parse tokens.now) }
-    ensures shorter { IfOk result (λ x. (leaves (plain_term x.0) + length x.1.now ≤ length tokens.now) × (length x.1.now < length tokens.now)) }
-    ensures is { (n : ℕ) → IfOk result (λ x. IsIntTerm n (plain_term x.0)) }
+    ensures shorter { IfOk result (λ x. length x.1.now < length tokens.now) }
 {
     let (value, place, rest) = letter(tokens)?;
     let literal = Term {
@@ -95,8 +91,7 @@ fn parenthesised<'a>(
     tokens: &'a [Token],
 ) -> Result<(Term, &'a [Token]), ReadFault>
     ensures read { Gives (λ x. (plain_term x.0, x.1.now)) result ((parenthesised (term scope.now)).parse tokens.now) }
-    ensures shorter { IfOk result (λ x. (leaves (plain_term x.0) + length x.1.now ≤ length tokens.now) × (length x.1.now < length tokens.now)) }
-    ensures is { IfOk result (λ x. IsIntTerm (length scope.now) (plain_term x.0)) }
+    ensures shorter { IfOk result (λ x. length x.1.now < length tokens.now) }
 {
     let (_, rest) = skip(Lexeme::LeftParen, tokens)?;
     let (inner, rest) = term(alloc, scope, rest)?;
@@ -112,8 +107,7 @@ fn primary<'a>(
     tokens: &'a [Token],
 ) -> Result<(Term, &'a [Token]), ReadFault>
     ensures read { Gives (λ x. (plain_term x.0, x.1.now)) result ((term_primary scope.now (term scope.now)).parse tokens.now) }
-    ensures shorter { IfOk result (λ x. (leaves (plain_term x.0) + length x.1.now ≤ length tokens.now) × (length x.1.now < length tokens.now)) }
-    ensures is { IfOk result (λ x. IsIntTerm (length scope.now) (plain_term x.0)) }
+    ensures shorter { IfOk result (λ x. length x.1.now < length tokens.now) }
 {
     if next_is_name(tokens) {
         variable(scope, tokens)
@@ -134,10 +128,8 @@ fn term_once<'a>(
     left: Term,
     tokens: &'a [Token],
 ) -> Result<(Term, &'a [Token]), ReadFault>
-    requires is { IsIntTerm (length scope.now) (plain_term left) }
     ensures read { Gives (λ x. (plain_term x.0, x.1.now)) result ((term_once scope.now (term scope.now) (plain_term left)).parse tokens.now) }
-    ensures shorter { IfOk result (λ x. (leaves (plain_term x.0) + length x.1.now ≤ leaves (plain_term left) + length tokens.now) × (length x.1.now < length tokens.now)) }
-    ensures is { IfOk result (λ x. IsIntTerm (length scope.now) (plain_term x.0)) }
+    ensures shorter { IfOk result (λ x. length x.1.now < length tokens.now) }
 {
     let (op, place, rest) = sign(tokens)?;
     let (right, rest) = primary(alloc, scope, rest)?;
@@ -152,10 +144,8 @@ fn term_more<'a>(
     left: Term,
     tokens: &'a [Token],
 ) -> Result<(Term, &'a [Token]), ReadFault>
-    requires is { IsIntTerm (length scope.now) (plain_term left) }
     ensures read { Gives (λ x. (plain_term x.0, x.1.now)) result ((term_more scope.now (term scope.now) (plain_term left)).parse tokens.now) }
-    ensures shorter { IfOk result (λ x. (leaves (plain_term x.0) + length x.1.now ≤ leaves (plain_term left) + length tokens.now) × (length x.1.now ≤ length tokens.now)) }
-    ensures is { IfOk result (λ x. IsIntTerm (length scope.now) (plain_term x.0)) }
+    ensures shorter { IfOk result (λ x. length x.1.now ≤ length tokens.now) }
 {
     let mut left = left;
     let mut rest = tokens;
@@ -176,8 +166,7 @@ fn term<'a>(
     tokens: &'a [Token],
 ) -> Result<(Term, &'a [Token]), ReadFault>
     ensures read { Gives (λ x. (plain_term x.0, x.1.now)) result ((term scope.now).parse tokens.now) }
-    ensures shorter { IfOk result (λ x. (leaves (plain_term x.0) + length x.1.now ≤ length tokens.now) × (length x.1.now < length tokens.now)) }
-    ensures is { IfOk result (λ x. IsIntTerm (length scope.now) (plain_term x.0)) }
+    ensures shorter { IfOk result (λ x. length x.1.now < length tokens.now) }
 {
     let (left, rest) = primary(alloc, scope, tokens)?;
     term_more(alloc, scope, left, rest)
@@ -219,10 +208,8 @@ fn assert_clause<'a>(
     number: u32,
     tokens: &'a [Token],
 ) -> Result<(Annot, &'a [Token]), ReadFault>
-    requires few { length tokens.now ≤ most_in_expression + 1 }
     ensures read { Gives (λ x. (plain_annot x.0, x.1.now)) result ((assert_clause scope.now number).parse tokens.now) }
     ensures shorter { IfOk result (λ x. length x.1.now ≤ length tokens.now) }
-    ensures is { IfOk result (λ x. IsIntBody (length scope.now) (plain_annot x.0).body) }
 {
     let (place, rest) = skip(Lexeme::Assert, tokens)?;
     let (left, rest) = term(alloc, scope, rest)?;
@@ -242,7 +229,6 @@ fn full_clause<'a>(
 ) -> Result<(Annot, &'a [Token]), ReadFault>
     ensures read { Gives (λ x. (plain_annot x.0, x.1.now)) result ((full_clause scope.now number).parse tokens.now) }
     ensures shorter { IfOk result (λ x. length x.1.now ≤ length tokens.now) }
-    ensures is { IfOk result (λ x. IsIntBody (length scope.now) (plain_annot x.0).body) }
 {
     let few = window(tokens);
     let (clause, rest) = assert_clause(alloc, scope, number, few)?;
@@ -261,7 +247,6 @@ pub fn annotation<'a>(
     requires room { number + length tokens.now < 2 ^ 32 }
     ensures read { Gives (λ x. ((plain_item x.0, x.1), x.2.now)) result ((annotation scope.now number).parse tokens.now) }
     ensures shorter { IfOk result (λ x. length x.2.now < length tokens.now) }
-    ensures is { IfOk result (λ x. IsIntItem (length scope.now) (plain_item x.0)) }
     ensures numbered { IfOk result (λ x. x.1 + length x.2.now ≤ number + length tokens.now) }
 {
     let (_, rest) = skip(Lexeme::AnnotOpen, tokens)?;

@@ -5,7 +5,6 @@ ghost use Rattle.c_syntax.specs.declared.types.CInt.TheVariants.{I32};
 ghost use Rattle.c_syntax.specs.Ctypes.{int_type};
 ghost use Rattle.c_syntax.specs.Expressions.{plain_expr};
 ghost use Rattle.c_model.specs.FirstForm.{binary, parenthesised, variable_used, integer_literal, character_literal, primary, sum_once, sum_more, sum, comparison, compared, expr, full_expr};
-ghost use Rattle.c_model.specs.IntPrograms.{IsPure};
 ghost use Rattle.c_parser.specs.Reading.{Gives};
 
 use crate::fault::ReadFault;
@@ -42,7 +41,6 @@ pub fn variable_used<'a>(
 ) -> Result<(Expr, &'a [Token]), ReadFault>
     ensures read { Gives (λ x. (plain_expr x.0, x.1.now)) result ((variable_used scope.now).parse tokens.now) }
     ensures shorter { IfOk result (λ x. length x.1.now < length tokens.now) }
-    ensures pure { IfOk result (λ x. IsPure (length scope.now) (plain_expr x.0)) }
 {
     let (x, place, rest) = used(scope, tokens)?;
     let variable = Expr {
@@ -57,7 +55,6 @@ pub fn variable_used<'a>(
 fn integer_literal(tokens: &[Token]) -> Result<(Expr, &[Token]), ReadFault>
     ensures read { Gives (λ x. (plain_expr x.0, x.1.now)) result (integer_literal.parse tokens.now) }
     ensures shorter { IfOk result (λ x. length x.1.now < length tokens.now) }
-    ensures pure { (n : ℕ) → IfOk result (λ x. IsPure n (plain_expr x.0)) }
 {
     let (value, place, rest) = number(tokens)?;
     let literal = Expr {
@@ -72,7 +69,6 @@ fn integer_literal(tokens: &[Token]) -> Result<(Expr, &[Token]), ReadFault>
 fn character_literal(tokens: &[Token]) -> Result<(Expr, &[Token]), ReadFault>
     ensures read { Gives (λ x. (plain_expr x.0, x.1.now)) result (character_literal.parse tokens.now) }
     ensures shorter { IfOk result (λ x. length x.1.now < length tokens.now) }
-    ensures pure { (n : ℕ) → IfOk result (λ x. IsPure n (plain_expr x.0)) }
 {
     let (value, place, rest) = letter(tokens)?;
     let literal = Expr {
@@ -93,7 +89,6 @@ fn parenthesised<'a>(
 ) -> Result<(Expr, &'a [Token]), ReadFault>
     ensures read { Gives (λ x. (plain_expr x.0, x.1.now)) result ((parenthesised (expr scope.now)).parse tokens.now) }
     ensures shorter { IfOk result (λ x. length x.1.now < length tokens.now) }
-    ensures pure { IfOk result (λ x. IsPure (length scope.now) (plain_expr x.0)) }
 {
     let (_, rest) = skip(Lexeme::LeftParen, tokens)?;
     let (inner, rest) = expression(alloc, scope, rest)?;
@@ -111,7 +106,6 @@ fn primary<'a>(
 ) -> Result<(Expr, &'a [Token]), ReadFault>
     ensures read { Gives (λ x. (plain_expr x.0, x.1.now)) result ((primary scope.now (expr scope.now)).parse tokens.now) }
     ensures shorter { IfOk result (λ x. length x.1.now < length tokens.now) }
-    ensures pure { IfOk result (λ x. IsPure (length scope.now) (plain_expr x.0)) }
 {
     if next_is_name(tokens) {
         variable_used(scope, tokens)
@@ -132,10 +126,8 @@ fn sum_once<'a>(
     left: Expr,
     tokens: &'a [Token],
 ) -> Result<(Expr, &'a [Token]), ReadFault>
-    requires pure { IsPure (length scope.now) (plain_expr left) }
     ensures read { Gives (λ x. (plain_expr x.0, x.1.now)) result ((sum_once scope.now (expr scope.now) (plain_expr left)).parse tokens.now) }
     ensures shorter { IfOk result (λ x. length x.1.now < length tokens.now) }
-    ensures pure { IfOk result (λ x. IsPure (length scope.now) (plain_expr x.0)) }
 {
     let (op, place, rest) = sign(tokens)?;
     let (right, rest) = primary(alloc, scope, rest)?;
@@ -150,10 +142,8 @@ fn sum_more<'a>(
     left: Expr,
     tokens: &'a [Token],
 ) -> Result<(Expr, &'a [Token]), ReadFault>
-    requires pure { IsPure (length scope.now) (plain_expr left) }
     ensures read { Gives (λ x. (plain_expr x.0, x.1.now)) result ((sum_more scope.now (expr scope.now) (plain_expr left)).parse tokens.now) }
     ensures shorter { IfOk result (λ x. length x.1.now ≤ length tokens.now) }
-    ensures pure { IfOk result (λ x. IsPure (length scope.now) (plain_expr x.0)) }
 {
     let mut left = left;
     let mut rest = tokens;
@@ -175,7 +165,6 @@ fn sum<'a>(
 ) -> Result<(Expr, &'a [Token]), ReadFault>
     ensures read { Gives (λ x. (plain_expr x.0, x.1.now)) result ((sum scope.now (expr scope.now)).parse tokens.now) }
     ensures shorter { IfOk result (λ x. length x.1.now < length tokens.now) }
-    ensures pure { IfOk result (λ x. IsPure (length scope.now) (plain_expr x.0)) }
 {
     let (first, rest) = primary(alloc, scope, tokens)?;
     sum_more(alloc, scope, first, rest)
@@ -189,10 +178,8 @@ fn comparison<'a>(
     left: Expr,
     tokens: &'a [Token],
 ) -> Result<(Expr, &'a [Token]), ReadFault>
-    requires pure { IsPure (length scope.now) (plain_expr left) }
     ensures read { Gives (λ x. (plain_expr x.0, x.1.now)) result ((comparison scope.now (expr scope.now) (plain_expr left)).parse tokens.now) }
     ensures shorter { IfOk result (λ x. length x.1.now < length tokens.now) }
-    ensures pure { IfOk result (λ x. IsPure (length scope.now) (plain_expr x.0)) }
 {
     let (op, place, rest) = comparison_sign(tokens)?;
     let (right, rest) = sum(alloc, scope, rest)?;
@@ -207,10 +194,8 @@ fn compared<'a>(
     left: Expr,
     tokens: &'a [Token],
 ) -> Result<(Expr, &'a [Token]), ReadFault>
-    requires pure { IsPure (length scope.now) (plain_expr left) }
     ensures read { Gives (λ x. (plain_expr x.0, x.1.now)) result ((compared scope.now (expr scope.now) (plain_expr left)).parse tokens.now) }
     ensures shorter { IfOk result (λ x. length x.1.now ≤ length tokens.now) }
-    ensures pure { IfOk result (λ x. IsPure (length scope.now) (plain_expr x.0)) }
 {
     if next_is_relational(tokens) {
         comparison(alloc, scope, left, tokens)
@@ -229,7 +214,6 @@ fn expression<'a>(
 ) -> Result<(Expr, &'a [Token]), ReadFault>
     ensures read { Gives (λ x. (plain_expr x.0, x.1.now)) result ((expr scope.now).parse tokens.now) }
     ensures shorter { IfOk result (λ x. length x.1.now < length tokens.now) }
-    ensures pure { IfOk result (λ x. IsPure (length scope.now) (plain_expr x.0)) }
 {
     let (left, rest) = sum(alloc, scope, tokens)?;
     compared(alloc, scope, left, rest)
@@ -244,7 +228,6 @@ pub fn full_expression<'a>(
 ) -> Result<(Expr, &'a [Token]), ReadFault>
     ensures read { Gives (λ x. (plain_expr x.0, x.1.now)) result ((full_expr scope.now).parse tokens.now) }
     ensures shorter { IfOk result (λ x. length x.1.now ≤ length tokens.now) }
-    ensures pure { IfOk result (λ x. IsPure (length scope.now) (plain_expr x.0)) }
 {
     let few = window(tokens);
     let (e, rest) = expression(alloc, scope, few)?;

@@ -6,8 +6,6 @@ ghost use Rattle.c_syntax.specs.Statements.{plain_item};
 ghost use Rattle.c_syntax.specs.Statements as statement;
 ghost use Rattle.c_syntax.specs.Programs.{TranslationUnit, plain_program};
 ghost use Rattle.c_model.specs.FirstForm.{most_variables, int_declaration, declaration, declarations, main_head, main_end, main_function, one_function, form, block_items};
-ghost use Rattle.c_model.specs.IntPrograms.{IsPure, AreMainItems, IsIntProgram};
-ghost use Rattle.c_parser.specs.Bodies.{AreDeclared};
 ghost use Rattle.c_parser.specs.Reading.{Gives};
 
 use crate::expression::full_expression;
@@ -40,17 +38,15 @@ fn int_declaration(
     Ok(Item::Declare(one))
 }
 
-#[tactic(auto, using(crate::proofs::Bodies::int_declared), unfolding(c_model::specs::FirstForm::declaration))]
+#[tactic(auto, unfolding(c_model::specs::FirstForm::declaration))]
 fn declaration<'a>(
     alloc: Global,
     scope: Vec<u32>,
     all: Vec<Item>,
     tokens: &'a [Token],
 ) -> Result<(Vec<u32>, Vec<Item>, &'a [Token]), ReadFault>
-    requires declared { AreDeclared 0 (length scope.items) (map plain_item all.items) }
     ensures read { Gives (λ x. ((x.0.items, map plain_item x.1.items), x.2.now)) result ((declaration (scope.items, map plain_item all.items)).parse tokens.now) }
     ensures shorter { IfOk result (λ x. length x.2.now < length tokens.now) }
-    ensures declared { IfOk result (λ x. AreDeclared 0 (length x.0.items) (map plain_item x.1.items)) }
     ensures few { IfOk result (λ x. length x.0.items ≤ most_variables) }
 {
     let mut scope = scope;
@@ -74,11 +70,9 @@ fn declarations<'a>(
     all: Vec<Item>,
     tokens: &'a [Token],
 ) -> Result<(Vec<u32>, Vec<Item>, &'a [Token]), ReadFault>
-    requires declared { AreDeclared 0 (length scope.items) (map plain_item all.items) }
     requires few { length scope.items ≤ most_variables }
     ensures read { Gives (λ x. ((x.0.items, map plain_item x.1.items), x.2.now)) result ((declarations (scope.items, map plain_item all.items)).parse tokens.now) }
     ensures shorter { IfOk result (λ x. length x.2.now ≤ length tokens.now) }
-    ensures declared { IfOk result (λ x. AreDeclared 0 (length x.0.items) (map plain_item x.1.items)) }
     ensures few { IfOk result (λ x. length x.0.items ≤ most_variables) }
 {
     let mut scope = scope;
@@ -143,7 +137,7 @@ fn one_function(
 }
 
 /// The end of `main`, where the names of the text are declared.
-#[tactic(auto, using(crate::proofs::Bodies::int_program), unfolding(c_model::specs::FirstForm::main_end))]
+#[tactic(auto, unfolding(c_model::specs::FirstForm::main_end))]
 fn main_end<'a>(
     alloc: Global,
     names: Vec<Name>,
@@ -153,11 +147,7 @@ fn main_end<'a>(
     all: Vec<Item>,
     tokens: &'a [Token],
 ) -> Result<(Program, &'a [Token]), ReadFault>
-    requires few { length scope.now ≤ most_variables }
-    requires main { AreMainItems (length scope.now) 0 (block_items (map plain_item all.items)) }
-    requires first { slice_get names.items 0 ≡ Some (codes "main") }
-    ensures read { Gives (λ x. (plain_program x.0, x.1.now)) result ((main_end names.items place start scope.now (map plain_item all.items)).parse tokens.now) }
-    ensures int_program { IfOk result (λ x. IsIntProgram (plain_program x.0)) }
+    ensures { Gives (λ x. (plain_program x.0, x.1.now)) result ((main_end names.items place start scope.now (map plain_item all.items)).parse tokens.now) }
 {
     let (close, rest) = skip(Lexeme::RightBrace, tokens)?;
     if names.len() == scope.len() + 1 {
@@ -170,16 +160,14 @@ fn main_end<'a>(
 const MOST_NESTED: usize = 200;
 
 /// The whole text, given its names.
-#[tactic(auto, using(crate::proofs::Bodies::declared_main), unfolding(c_model::specs::FirstForm::form))]
+#[tactic(auto, unfolding(c_model::specs::FirstForm::form))]
 pub fn form<'a>(
     alloc: Global,
     names: Vec<Name>,
     tokens: &'a [Token],
 ) -> Result<(Program, &'a [Token]), ReadFault>
-    requires few { length tokens.now < 2 ^ 32 - 1 }
-    requires first { slice_get names.items 0 ≡ Some (codes "main") }
-    ensures read { Gives (λ x. (plain_program x.0, x.1.now)) result ((form names.items).parse tokens.now) }
-    ensures int_program { IfOk result (λ x. IsIntProgram (plain_program x.0)) }
+    requires { length tokens.now < 2 ^ 32 - 1 }
+    ensures { Gives (λ x. (plain_program x.0, x.1.now)) result ((form names.items).parse tokens.now) }
 {
     let (place, rest) = main_head(tokens)?;
     let (start, rest) = skip(Lexeme::LeftBrace, rest)?;

@@ -30,8 +30,7 @@ fn is_blank_text(text: &[u8]) -> bool
 /// The tree of a text of the form.
 fn read_form(alloc: Global, text: &[u8]) -> Result<Program, ReadFault>
     requires { length text.now < 4294967295 }
-    ensures read { MatchResult result (λ p. Accepted text.now (plain_program p)) (λ e. NotAccepted e text.now) }
-    ensures int_program { IfOk result (λ p. IsIntProgram (plain_program p)) }
+    ensures { MatchResult result (λ p. Accepted text.now (plain_program p)) (λ e. NotAccepted e text.now) }
 {
     let TokenList { list, names } = tokens(alloc, text)?;
     match form(alloc, names, list.as_slice()) {

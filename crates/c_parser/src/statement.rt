@@ -7,7 +7,6 @@ ghost use Rattle.c_syntax.specs.Expressions as expression;
 ghost use Rattle.c_syntax.specs.Statements.{plain_stmt, plain_item};
 ghost use Rattle.c_syntax.specs.Statements as statement;
 ghost use Rattle.c_model.specs.FirstForm.{most_variables, assignment, putchar_use, output, return_statement, condition, is_open, block_items, else_branch, else_part, selection, iteration, item, items_once, items, block, statement_in};
-ghost use Rattle.c_model.specs.IntPrograms.{IsPure, IsEffect, IsIntStatement, IsIntItem, AreIntItems, AreMainItems};
 ghost use Rattle.c_parser.specs.Reading.{Gives};
 
 use crate::annotation::annotation;
@@ -38,7 +37,6 @@ fn assignment<'a>(
 ) -> Result<(Stmt, u32, &'a [Token]), ReadFault>
     ensures read { Gives (λ x. ((plain_stmt x.0, x.1), x.2.now)) result ((assignment scope.now next).parse tokens.now) }
     ensures shorter { IfOk result (λ x. length x.2.now < length tokens.now) }
-    ensures is { IfOk result (λ x. IsIntStatement (length scope.now) (plain_stmt x.0)) }
     ensures numbered { IfOk result (λ x. x.1 ≡ next) }
 {
     let (x, at, rest) = used(scope, tokens)?;
@@ -92,7 +90,6 @@ fn output<'a>(
     requires few { length scope.now ≤ most_variables }
     ensures read { Gives (λ x. ((plain_stmt x.0, x.1), x.2.now)) result ((output scope.now next).parse tokens.now) }
     ensures shorter { IfOk result (λ x. length x.2.now < length tokens.now) }
-    ensures is { IfOk result (λ x. IsIntStatement (length scope.now) (plain_stmt x.0)) }
     ensures numbered { IfOk result (λ x. x.1 ≡ next) }
 {
     let (at, rest) = skip(Lexeme::Putchar, tokens)?;
@@ -117,7 +114,6 @@ fn return_statement<'a>(
 ) -> Result<(Stmt, u32, &'a [Token]), ReadFault>
     ensures read { Gives (λ x. ((plain_stmt x.0, x.1), x.2.now)) result ((return_statement scope.now next).parse tokens.now) }
     ensures shorter { IfOk result (λ x. length x.2.now < length tokens.now) }
-    ensures is { IfOk result (λ x. IsIntStatement (length scope.now) (plain_stmt x.0)) }
     ensures numbered { IfOk result (λ x. x.1 ≡ next) }
 {
     let (place, rest) = skip(Lexeme::Return, tokens)?;
@@ -139,7 +135,6 @@ fn condition<'a>(
 ) -> Result<(Expr, &'a [Token]), ReadFault>
     ensures read { Gives (λ x. (plain_expr x.0, x.1.now)) result ((condition scope.now).parse tokens.now) }
     ensures shorter { IfOk result (λ x. length x.1.now < length tokens.now) }
-    ensures pure { IfOk result (λ x. IsPure (length scope.now) (plain_expr x.0)) }
 {
     let (_, rest) = skip(Lexeme::LeftParen, tokens)?;
     let (e, rest) = full_expression(alloc, scope, rest)?;
@@ -215,11 +210,8 @@ fn else_branch<'a>(
 ) -> Result<(Stmt, u32, &'a [Token]), ReadFault>
     requires few { length scope.now ≤ most_variables }
     requires room { next + length tokens.now < 2 ^ 32 }
-    requires pure { IsPure (length scope.now) (plain_expr e) }
-    requires is { IsIntStatement (length scope.now) (plain_stmt s) }
     ensures read { Gives (λ x. ((plain_stmt x.0, x.1), x.2.now)) result ((else_branch (statement_in scope.now levels) place (plain_expr e) (plain_stmt s, next)).parse tokens.now) }
     ensures shorter { IfOk result (λ x. length x.2.now ≤ length tokens.now) }
-    ensures is { IfOk result (λ x. IsIntStatement (length scope.now) (plain_stmt x.0)) }
     ensures numbered { IfOk result (λ x. x.1 + length x.2.now ≤ next + length tokens.now) }
 {
     let (_, rest) = skip(Lexeme::Else, tokens)?;
@@ -241,11 +233,8 @@ fn else_part<'a>(
 ) -> Result<(Stmt, u32, &'a [Token]), ReadFault>
     requires few { length scope.now ≤ most_variables }
     requires room { next + length tokens.now < 2 ^ 32 }
-    requires pure { IsPure (length scope.now) (plain_expr e) }
-    requires is { IsIntStatement (length scope.now) (plain_stmt s) }
     ensures read { Gives (λ x. ((plain_stmt x.0, x.1), x.2.now)) result ((else_part (statement_in scope.now levels) place (plain_expr e) (plain_stmt s, next)).parse tokens.now) }
     ensures shorter { IfOk result (λ x. length x.2.now ≤ length tokens.now) }
-    ensures is { IfOk result (λ x. IsIntStatement (length scope.now) (plain_stmt x.0)) }
     ensures numbered { IfOk result (λ x. x.1 + length x.2.now ≤ next + length tokens.now) }
 {
     if is_open(&s) {
@@ -271,7 +260,6 @@ fn selection<'a>(
     requires room { next + length tokens.now < 2 ^ 32 }
     ensures read { Gives (λ x. ((plain_stmt x.0, x.1), x.2.now)) result ((selection scope.now (statement_in scope.now levels) next).parse tokens.now) }
     ensures shorter { IfOk result (λ x. length x.2.now < length tokens.now) }
-    ensures is { IfOk result (λ x. IsIntStatement (length scope.now) (plain_stmt x.0)) }
     ensures numbered { IfOk result (λ x. x.1 + length x.2.now ≤ next + length tokens.now) }
 {
     let (place, rest) = skip(Lexeme::If, tokens)?;
@@ -294,7 +282,6 @@ fn iteration<'a>(
     requires room { next + length tokens.now < 2 ^ 32 }
     ensures read { Gives (λ x. ((plain_stmt x.0, x.1), x.2.now)) result ((iteration scope.now (statement_in scope.now levels) next).parse tokens.now) }
     ensures shorter { IfOk result (λ x. length x.2.now < length tokens.now) }
-    ensures is { IfOk result (λ x. IsIntStatement (length scope.now) (plain_stmt x.0)) }
     ensures numbered { IfOk result (λ x. x.1 + length x.2.now ≤ next + length tokens.now) }
 {
     let (place, rest) = skip(Lexeme::While, tokens)?;
@@ -316,7 +303,6 @@ fn item<'a>(
     requires room { next + length tokens.now < 2 ^ 32 }
     ensures read { Gives (λ x. ((plain_item x.0, x.1), x.2.now)) result ((item scope.now (statement_in scope.now levels) next).parse tokens.now) }
     ensures shorter { IfOk result (λ x. length x.2.now < length tokens.now) }
-    ensures is { IfOk result (λ x. IsIntItem (length scope.now) (plain_item x.0)) }
     ensures numbered { IfOk result (λ x. x.1 + length x.2.now ≤ next + length tokens.now) }
 {
     if next_is(Lexeme::AnnotOpen, tokens) {
@@ -327,7 +313,7 @@ fn item<'a>(
     }
 }
 
-#[tactic(auto, using(crate::proofs::Bodies::int_pushed, crate::proofs::Bodies::main_pushed), unfolding(c_model::specs::FirstForm::items_once))]
+#[tactic(auto, unfolding(c_model::specs::FirstForm::items_once))]
 #[cycle(stmt)]
 fn items_once<'a>(
     alloc: Global,
@@ -341,8 +327,6 @@ fn items_once<'a>(
     requires room { next + length tokens.now < 2 ^ 32 }
     ensures read { Gives (λ x. ((map plain_item x.0.items, x.1), x.2.now)) result ((items_once scope.now (statement_in scope.now levels) (map plain_item all.items, next)).parse tokens.now) }
     ensures shorter { IfOk result (λ x. length x.2.now < length tokens.now) }
-    ensures ints { AreIntItems (length scope.now) (block_items (map plain_item all.items)) → IfOk result (λ x. AreIntItems (length scope.now) (block_items (map plain_item x.0.items))) }
-    ensures main { AreMainItems (length scope.now) 0 (block_items (map plain_item all.items)) → IfOk result (λ x. AreMainItems (length scope.now) 0 (block_items (map plain_item x.0.items))) }
     ensures numbered { IfOk result (λ x. x.1 + length x.2.now ≤ next + length tokens.now) }
 {
     let mut all = all;
@@ -366,8 +350,6 @@ pub fn items<'a>(
     requires room { next + length tokens.now < 2 ^ 32 }
     ensures read { Gives (λ x. ((map plain_item x.0.items, x.1), x.2.now)) result ((items scope.now (statement_in scope.now levels) (map plain_item all.items, next)).parse tokens.now) }
     ensures shorter { IfOk result (λ x. length x.2.now ≤ length tokens.now) }
-    ensures ints { AreIntItems (length scope.now) (block_items (map plain_item all.items)) → IfOk result (λ x. AreIntItems (length scope.now) (block_items (map plain_item x.0.items))) }
-    ensures main { AreMainItems (length scope.now) 0 (block_items (map plain_item all.items)) → IfOk result (λ x. AreMainItems (length scope.now) 0 (block_items (map plain_item x.0.items))) }
     ensures numbered { IfOk result (λ x. x.1 + length x.2.now ≤ next + length tokens.now) }
 {
     let mut all = all;
@@ -396,7 +378,6 @@ fn block<'a>(
     requires room { next + length tokens.now < 2 ^ 32 }
     ensures read { Gives (λ x. ((plain_stmt x.0, x.1), x.2.now)) result ((block scope.now (statement_in scope.now levels) next).parse tokens.now) }
     ensures shorter { IfOk result (λ x. length x.2.now < length tokens.now) }
-    ensures is { IfOk result (λ x. IsIntStatement (length scope.now) (plain_stmt x.0)) }
     ensures numbered { IfOk result (λ x. x.1 + length x.2.now ≤ next + length tokens.now) }
 {
     let (place, rest) = skip(Lexeme::LeftBrace, tokens)?;
@@ -419,7 +400,6 @@ fn statement<'a>(
     requires room { next + length tokens.now < 2 ^ 32 }
     ensures read { Gives (λ x. ((plain_stmt x.0, x.1), x.2.now)) result ((statement_in scope.now levels next).parse tokens.now) }
     ensures shorter { IfOk result (λ x. length x.2.now < length tokens.now) }
-    ensures is { IfOk result (λ x. IsIntStatement (length scope.now) (plain_stmt x.0)) }
     ensures numbered { IfOk result (λ x. x.1 + length x.2.now ≤ next + length tokens.now) }
 {
     if levels == 0 {

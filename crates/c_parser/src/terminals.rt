@@ -3,7 +3,6 @@
 ghost use Rattle.std.specs.Prelude.{◌≡◌, ◌≤◌, ◌<◌, ◌+◌, length, IfOk, IfSome, [], ◌∷◌};
 ghost use Rattle.grammar.specs.Syntax.{sees, one};
 ghost use Rattle.c_model.specs.FirstForm.{kind, lexeme_kind, name_kind, number_kind, letter_kind, first_additive, first_relational, first_statement, first_item, fixed, placed, number_of, letter_of, variable, variable_of, is_name, named, new_name, most_variables, additive, relational, relation_of};
-ghost use Rattle.c_model.specs.IntPrograms.{IsVariable, IsSum};
 ghost use Rattle.c_parser.specs.Reading.{Gives};
 
 use crate::fault::ReadFault;
@@ -143,8 +142,7 @@ pub fn skip(lexeme: Lexeme, tokens: &[Token]) -> Result<(Place, &[Token]), ReadF
 }
 
 fn number_of(kind: TokenKind) -> Option<u32>
-    ensures value { result ≡ number_of kind }
-    ensures fits { IfSome result (λ n. n ≤ 2147483647) }
+    ensures { result ≡ number_of kind }
 {
     match kind {
         TokenKind::Number(n) => { if n <= 2_147_483_647 { Some(n) } else { None } }
@@ -155,7 +153,6 @@ fn number_of(kind: TokenKind) -> Option<u32>
 pub fn number(tokens: &[Token]) -> Result<(u32, Place, &[Token]), ReadFault>
     ensures read { Gives (λ x. ((x.0, x.1), x.2.now)) result ((one (placed number_of)).parse tokens.now) }
     ensures shorter { IfOk result (λ x. length x.2.now + 1 ≡ length tokens.now) }
-    ensures fits { IfOk result (λ x. x.0 ≤ 2147483647) }
 {
     match tokens {
         [] => Err(ReadFault::Form),
@@ -189,8 +186,7 @@ pub fn letter(tokens: &[Token]) -> Result<(i8, Place, &[Token]), ReadFault>
 }
 
 fn variable(scope: &[u32], k: u32) -> Option<Use>
-    ensures value { result ≡ variable scope.now k }
-    ensures seen { IfSome result (λ x. IsVariable (length scope.now) x) }
+    ensures { result ≡ variable scope.now k }
 {
     if k == 0 {
         return None;
@@ -205,8 +201,7 @@ fn variable(scope: &[u32], k: u32) -> Option<Use>
 }
 
 fn variable_of(scope: &[u32], kind: TokenKind) -> Option<Use>
-    ensures value { result ≡ variable_of scope.now kind }
-    ensures seen { IfSome result (λ x. IsVariable (length scope.now) x) }
+    ensures { result ≡ variable_of scope.now kind }
 {
     match kind {
         TokenKind::Name(k) => variable(scope, k),
@@ -218,7 +213,6 @@ fn variable_of(scope: &[u32], kind: TokenKind) -> Option<Use>
 pub fn used<'a>(scope: &[u32], tokens: &'a [Token]) -> Result<(Use, Place, &'a [Token]), ReadFault>
     ensures read { Gives (λ x. ((x.0, x.1), x.2.now)) result ((one (placed (variable_of scope.now))).parse tokens.now) }
     ensures shorter { IfOk result (λ x. length x.2.now + 1 ≡ length tokens.now) }
-    ensures seen { IfOk result (λ x. IsVariable (length scope.now) x.0) }
 {
     match tokens {
         [] => Err(ReadFault::Form),
@@ -230,8 +224,7 @@ pub fn used<'a>(scope: &[u32], tokens: &'a [Token]) -> Result<(Use, Place, &'a [
 }
 
 fn additive(kind: TokenKind) -> Option<BinOp>
-    ensures value { result ≡ additive kind }
-    ensures sum { IfSome result (λ op. IsSum op) }
+    ensures { result ≡ additive kind }
 {
     match kind {
         TokenKind::Fixed(Lexeme::Plus) => Some(BinOp::Add),
@@ -243,7 +236,6 @@ fn additive(kind: TokenKind) -> Option<BinOp>
 pub fn sign(tokens: &[Token]) -> Result<(BinOp, Place, &[Token]), ReadFault>
     ensures read { Gives (λ x. ((x.0, x.1), x.2.now)) result ((one (placed additive)).parse tokens.now) }
     ensures shorter { IfOk result (λ x. length x.2.now + 1 ≡ length tokens.now) }
-    ensures sum { IfOk result (λ x. IsSum x.0) }
 {
     match tokens {
         [] => Err(ReadFault::Form),

@@ -3,3 +3,4 @@ pub mod Expressions
 pub mod Annotations
 pub mod Statements
 pub mod Programs
+pub mod Tokens

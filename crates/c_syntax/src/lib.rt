@@ -10,6 +10,7 @@ pub mod place;
 pub mod program;
 pub mod refusal;
 pub mod statement;
+pub mod token;
 pub mod types;
 
 pub use annotation::{Annot, Body, Kind, Link, Pred, PredKind, Range, Relation, Term, TermKind};
@@ -19,4 +20,5 @@ pub use place::Place;
 pub use program::{Behavior, Contract, EnumDef, Enumerator, Func, Layout, Member, Program};
 pub use refusal::{FrontFault, Refusal};
 pub use statement::{Decl, Init, Item, Stmt, StmtKind};
+pub use token::{Token, TokenKind, Tokens};
 pub use types::{BlockKind, CInt, CType, How, Segment, Width};

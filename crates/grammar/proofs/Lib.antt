@@ -3,6 +3,7 @@ pub mod Parts
 pub mod Bounds
 pub mod Limits
 pub mod Productions
+pub mod Readings
 pub mod Theorem
 pub mod Solid
 pub mod Forms

@@ -1,6 +1,6 @@
 //! What holds of every command line, whatever reads it.
 
-ghost use Rattle.c_model.specs.WordLaws.{DashesEndOptions, FormsAgree, JobsAreFromWords, LeadingZeros, NumbersAreRead, OneFileBehindDashes, OptionOnce, OrderIsFree};
+ghost use Rattle.c_model.specs.WordLaws.{DashesEndOptions, ExecTakesWordsOfRun, FormsAgree, JobsAreFromWords, LeadingZeros, NumbersAreRead, OneFileBehindDashes, OptionOnce, OrderIsFree};
 
 /// The order of options and operands doesn't matter, and the two forms of an option are the same.
 pub fn arguments_in_any_order()
@@ -24,4 +24,9 @@ pub fn jobs_are_from_words()
 pub fn numbers_are_read()
     ensures printed { NumbersAreRead }
     ensures leading_zeros { LeadingZeros }
+{}
+
+/// `exec` takes the words that `run` takes.
+pub fn exec_takes_words_of_run()
+    ensures { ExecTakesWordsOfRun }
 {}

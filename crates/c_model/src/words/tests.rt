@@ -13,6 +13,30 @@ fn words_of(alloc: Global, line: &str) -> Result<Vec<String>, AllocError> {
     Ok(words)
 }
 
+fn is_run(job: &Job, wanted: &str, count: u64) -> bool {
+    match job {
+        Job::Run { file, steps, rte } => file.text() == wanted && *steps == count && !*rte,
+        Job::Instrument { .. } => false,
+        Job::Exec { .. } => false,
+    }
+}
+
+fn is_instrument(job: &Job, wanted: &str) -> bool {
+    match job {
+        Job::Run { .. } => false,
+        Job::Instrument { file, rte } => file.text() == wanted && !*rte,
+        Job::Exec { .. } => false,
+    }
+}
+
+fn is_exec(job: &Job, wanted: &str, count: u64) -> bool {
+    match job {
+        Job::Run { .. } => false,
+        Job::Instrument { .. } => false,
+        Job::Exec { file, steps } => file.text() == wanted && *steps == count,
+    }
+}
+
 #[test]
 fn reads_the_words_of_run(rt: HostRuntime) -> Result<(), Fail> {
     let table = [
@@ -35,19 +59,38 @@ fn reads_the_words_of_run(rt: HostRuntime) -> Result<(), Fail> {
     ];
     for (line, file, steps) in table {
         let words = words_of(rt.alloc(), line)?;
-        let job = read_words(rt.alloc(), words.as_slice())?;
-        assert!(rt; job.is_some(), "{line}");
-        if let Some(
-            Job::Run {
-                file: name,
-                steps: count,
-                rte,
-            },
-        ) = job
-        {
-            assert_eq!(rt; name.text(), file, "{line}");
-            assert_eq!(rt; count, steps, "{line}");
-            assert_eq!(rt; rte, false, "{line}");
+        match read_words(rt.alloc(), words.as_slice())? {
+            Some(job) => assert!(rt; is_run(&job, file, steps), "{line}"),
+            None => assert!(rt; false, "{line}"),
+        }
+    }
+    Ok(())
+}
+
+#[test]
+fn reads_the_words_of_exec(rt: HostRuntime) -> Result<(), Fail> {
+    let table = [
+        ("exec a", "a", 10_000_000),
+        ("exec --steps=5 -- a.c", "a.c", 5),
+        ("exec a --steps 1000000000000", "a", 1_000_000_000_000),
+    ];
+    for (line, file, steps) in table {
+        let words = words_of(rt.alloc(), line)?;
+        match read_words(rt.alloc(), words.as_slice())? {
+            Some(job) => assert!(rt; is_exec(&job, file, steps), "{line}"),
+            None => assert!(rt; false, "{line}"),
+        }
+    }
+    Ok(())
+}
+
+#[test]
+fn reads_the_words_of_instrument(rt: HostRuntime) -> Result<(), Fail> {
+    for (line, file) in [("instrument a", "a"), ("instrument -- -a", "-a")] {
+        let words = words_of(rt.alloc(), line)?;
+        match read_words(rt.alloc(), words.as_slice())? {
+            Some(job) => assert!(rt; is_instrument(&job, file), "{line}"),
+            None => assert!(rt; false, "{line}"),
         }
     }
     Ok(())
@@ -66,6 +109,11 @@ fn refuses_words_without_a_job(rt: HostRuntime) -> Result<(), Fail> {
         "run --rte a",
         "run -",
         "exec",
+        "instrument",
+        "instrument a --steps 5",
+        "instrument a --steps=5",
+        "exec a b",
+        "exec a --steps 5x",
         "run --help",
         "run --version",
         "sample 1001",

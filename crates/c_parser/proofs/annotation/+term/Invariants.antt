@@ -1,7 +1,6 @@
 use Rattle.std.proofs.Common.{◌≡◌, ◌+◌, ◌*◌, ◌≤◌, length}
 use Rattle.c_syntax.specs.Annotations.{plain_term}
 use Rattle.c_model.specs.FirstForm.{term_more, term}
-use Rattle.c_model.specs.IntPrograms.{IsIntTerm, leaves}
 use Rattle.c_parser.proofs.annotation.+term.Given as goal
 
 abbrev pub decreases-parenthesised : goal.decreases-parenthesised
@@ -20,8 +19,6 @@ abbrev pub invariant-term_more-turn : goal.invariant-term_more-turn
 invariant-term_more-turn l = record {
   same : (term_more l.scope (term l.scope) (plain_term l.left)).parse l.rest ≡ (term_more l.scope (term l.scope) (plain_term l.fn.left)).parse l.fn.tokens;
   shorter : length l.rest ≤ length l.fn.tokens;
-  short : leaves (plain_term l.left) + length l.rest ≤ leaves (plain_term l.fn.left) + length l.fn.tokens;
-  is : IsIntTerm (length l.scope) (plain_term l.left);
 }
 
 abbrev pub decreases-term_more-turn : goal.decreases-term_more-turn

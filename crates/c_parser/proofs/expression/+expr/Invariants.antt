@@ -1,7 +1,6 @@
 use Rattle.std.proofs.Common.{◌≡◌, ◌+◌, ◌*◌, ◌≤◌, length}
 use Rattle.c_syntax.specs.Expressions.{plain_expr}
 use Rattle.c_model.specs.FirstForm.{sum_more, expr}
-use Rattle.c_model.specs.IntPrograms.{IsPure}
 use Rattle.c_parser.proofs.expression.+expr.Given as goal
 
 abbrev pub decreases-parenthesised : goal.decreases-parenthesised
@@ -20,7 +19,6 @@ abbrev pub invariant-sum_more-turn : goal.invariant-sum_more-turn
 invariant-sum_more-turn l = record {
   same : (sum_more l.scope (expr l.scope) (plain_expr l.left)).parse l.rest ≡ (sum_more l.scope (expr l.scope) (plain_expr l.fn.left)).parse l.fn.tokens;
   shorter : length l.rest ≤ length l.fn.tokens;
-  pure : IsPure (length l.scope) (plain_expr l.left);
 }
 
 abbrev pub decreases-sum_more-turn : goal.decreases-sum_more-turn

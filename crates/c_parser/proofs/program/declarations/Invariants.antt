@@ -1,14 +1,12 @@
 use Rattle.std.proofs.Common.{◌≡◌, ◌≤◌, length, map}
 use Rattle.c_syntax.specs.Statements.{plain_item}
 use Rattle.c_model.specs.FirstForm.{declarations, most_variables}
-use Rattle.c_parser.specs.Bodies.{AreDeclared}
 use Rattle.c_parser.proofs.program.declarations.Given as goal
 
 abbrev pub invariant-turn : goal.invariant-turn
 invariant-turn l = record {
   same : (declarations (l.scope.items, map plain_item l.all.items)).parse l.rest ≡ (declarations (l.fn.scope.items, map plain_item l.fn.all.items)).parse l.fn.tokens;
   shorter : length l.rest ≤ length l.fn.tokens;
-  declared : AreDeclared 0 (length l.scope.items) (map plain_item l.all.items);
   few : length l.scope.items ≤ most_variables;
 }
 

@@ -1,7 +1,6 @@
 use Rattle.std.proofs.Common.{◌≡◌, ◌+◌, ◌*◌, ◌≤◌, length, map}
 use Rattle.c_syntax.specs.Statements.{plain_item}
-use Rattle.c_model.specs.FirstForm.{items, block_items, statement_in}
-use Rattle.c_model.specs.IntPrograms.{AreIntItems, AreMainItems}
+use Rattle.c_model.specs.FirstForm.{items, statement_in}
 use Rattle.c_parser.proofs.statement.+stmt.Given as goal
 
 abbrev pub decreases-statement : goal.decreases-statement
@@ -35,8 +34,6 @@ abbrev pub invariant-items-turn : goal.invariant-items-turn
 invariant-items-turn l = record {
   same : (items l.scope (statement_in l.scope l.levels) (map plain_item l.all.items, l.next)).parse l.rest ≡ (items l.scope (statement_in l.scope l.levels) (map plain_item l.fn.all.items, l.fn.next)).parse l.fn.tokens;
   shorter : length l.rest ≤ length l.fn.tokens;
-  ints : AreIntItems (length l.scope) (block_items (map plain_item l.fn.all.items)) → AreIntItems (length l.scope) (block_items (map plain_item l.all.items));
-  main : AreMainItems (length l.scope) 0 (block_items (map plain_item l.fn.all.items)) → AreMainItems (length l.scope) 0 (block_items (map plain_item l.all.items));
   numbered : l.next + length l.rest ≤ l.fn.next + length l.fn.tokens;
 }
 
