@@ -1,3 +1,4 @@
 pub mod Told
 pub mod Counts
 pub mod Known
+pub mod Buffered

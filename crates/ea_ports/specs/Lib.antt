@@ -4,3 +4,4 @@ pub mod Calls
 pub mod Memory
 pub mod Host
 pub mod HostFiles
+pub mod Buffered

@@ -8,6 +8,7 @@ ghost use Rattle.ea_ports.specs.Port.{Puts, FailsOnBytes, SinkCount, Takes, Sour
 use std::alloc::Global;
 use thiserror::Error;
 
+mod buffer;
 mod calls;
 mod files;
 mod host;
@@ -16,6 +17,7 @@ mod sure;
 #[cfg(test)]
 mod tests;
 
+pub use buffer::Buffer;
 pub use host::{FileFolder, ReadSource, WriteSink};
 pub use memory::{MemFolder, MemSink, MemSource};
 pub use sure::{SureFolder, SureSink, SureSource};

@@ -121,6 +121,23 @@ fn sinks_in_memory_keep_what_was_put(rt: HostRuntime) -> Result<(), Fail> {
 }
 
 #[test]
+fn a_buffer_puts_whole_pieces_and_the_rest(rt: HostRuntime) -> Result<(), Fail> {
+    let mut sink = MemSink::new(rt.alloc(), [2].to_vec(rt.alloc())?);
+    let mut buffer = Buffer::new();
+    for _i in 0..4095 {
+        assert_eq!(rt; buffer.byte(&mut sink, b'a'), Ok(()));
+    }
+    assert_eq!(rt; sink.bytes().len(), 0);
+    assert_eq!(rt; buffer.bytes(&mut sink, b"bc"), Ok(()));
+    assert_eq!(rt; sink.bytes().len(), 4096);
+    assert_eq!(rt; buffer.flush(&mut sink), Err(SinkFault::Failed));
+    assert_eq!(rt; buffer.bytes(&mut sink, b"d"), Ok(()));
+    assert_eq!(rt; buffer.flush(&mut sink), Ok(()));
+    assert_eq!(rt; sink.bytes().len(), 4097);
+    Ok(())
+}
+
+#[test]
 fn files_of_the_host_are_fetched(rt: HostRuntime) {
     let mut folder = FileFolder::new(rt);
     fetch_each(
