@@ -1,0 +1,20 @@
+pub mod Rows
+pub mod Agreement
+pub mod FlatAgreement
+pub mod Fuel
+pub mod Wrapping
+pub mod ExactTokens
+pub mod ExactExpressions
+pub mod ExactStatements
+pub mod ExactTexts
+pub mod PrintedPieces
+pub mod PrintedForms
+pub mod PrintedAlone
+pub mod PrintedSteps
+pub mod PrintedExpressions
+pub mod PrintedCalls
+pub mod PrintedBodies
+pub mod PrintedSimple
+pub mod PrintedStatements
+pub mod PrintedTexts
+mod WorkedRuns

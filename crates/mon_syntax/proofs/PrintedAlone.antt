@@ -1,0 +1,456 @@
+-- Each piece of a valid program's text stands alone.
+use Rattle.std.proofs.Common.{◌≡◌, ℕ, zero, suc, ◌+◌, ◌*◌, ◌^◌, ◌<◌, ◌≤◌, Bool, true, false, not, ◌&&◌, ◌||◌, eqb, leb, List, [], ◌∷◌, ◌++◌, length, replicate, slice_get, codes, ℤ, pos, negsuc, neg_ℤ, int_le, Option, Some, None, refl, sym, ap, subst, ◌∙◌, append_assoc, arith, true≢false}
+use Rattle.std.specs.Prelude.{bytes_eq}
+use Rattle.std.specs.Ordering.{int_eq}
+use Rattle.std.specs.Fmt.{decimal}
+use Rattle.std.specs.Str.Parse.{AllDigits}
+use Rattle.std.proofs.lemmas.Fmt.{decimal_is_IsNumeral_wide}
+use Rattle.std.proofs.lemmas.Str.Parse.{digit_from_value}
+use Rattle.std.specs.List.{list_all, AllByRecursion}
+use Rattle.std.proofs.lemmas.Bool.{eqb-true, le-leb}
+use Rattle.std.proofs.lemmas.Bool.Decides.{nat_tests}
+use Rattle.std.proofs.lemmas.Int.{ints}
+use Rattle.c_syntax.specs.declared.annotation.Kind.{Kind}
+use Rattle.c_syntax.specs.declared.annotation.Kind.TheVariants as the_kind
+use Rattle.c_model.specs.Reports.{kind_word}
+use Rattle.c_model.specs.FirstTokens.{is_blank, is_nondigit, is_part, in_literal}
+use Rattle.c_model.specs.MonitoredTokens.{greatest_literal, marks, piece_at}
+use Rattle.c_model.specs.MonitoredTokenLaws.{Stops}
+use Rattle.c_model.proofs.Spelling.{and_true}
+use Rattle.mon_syntax.specs.declared.tree.MonType.{MonType}
+use Rattle.mon_syntax.specs.declared.tree.MonType.TheVariants.{I8, U8, I16, U16, I32, U32, I64, U64, I128}
+use Rattle.mon_syntax.specs.declared.tree.MonOp.{MonOp}
+use Rattle.mon_syntax.specs.declared.tree.MonOp.TheVariants.{Add, Sub, Mul, Div, Rem, Shl, Shr, And, Or, Xor, Eq, Ne, Lt, Le, Gt, Ge}
+use Rattle.mon_syntax.specs.Names.{type_word, constant_word, IsFreeName}
+use Rattle.mon_syntax.specs.Arithmetic.{least, greatest, fits}
+use Rattle.mon_syntax.specs.Trees.{MonExpression, Register, Constant, Binary, Minus, Flip, Cast, MonStatement, Set, Step, Assert, PutChar, Exit, PrintText, PrintSigned, PrintUnsigned, If, Loop, Labelled, Goto, Return, MonStatements, NoStatement, Then, MonRegister, MonFunction}
+use Rattle.mon_syntax.specs.Text.{Word, Quoted, Mark, spelled, blank, new_line, left_paren, right_paren, semicolon, operator_mark, Registers, name_of, call_pieces, expression_pieces, body_pieces, statement_pieces, statements_pieces, registers_pieces, function_pieces}
+use Rattle.mon_syntax.specs.Valid.{Types, has_constant, HasType, Labels, has_label, IsExpression, ReturnsResult, IsStatement, AreStatements, AreRegisters, types_of}
+use Rattle.mon_syntax.proofs.PrintedPieces.{is_word, IsAlone, AreAlone}
+use Rattle.mon_syntax.proofs.PrintedForms.{Pieces, binary_is, closed_is, ended_is, arguments_are, assert_is, if_is, loop_is, labelled_is, body_is, then_is}
+
+-- ---- words
+
+all_parts : (w : List ℕ) → AllByRecursion (λ b. is_part b ≡ true) w → list_all is_part w ≡ true
+all_parts [] h = refl
+all_parts (c ∷ cs) h = rw (h.0) (all_parts cs h.1)
+
+pub free_word : (w : List ℕ) → IsFreeName w → is_word w ≡ true
+free_word w h =
+    let parts = all_parts w h.parts in
+    let short = le-leb (length w) 255 h.short in
+    (λ i. h.begins i && (parts i && short i))
+
+pub same_bytes : (a b : List ℕ) → bytes_eq a b ≡ true → a ≡ b
+same_bytes [] [] e = refl
+same_bytes [] (y ∷ ys) e = absurd cc
+same_bytes (x ∷ xs) [] e = absurd cc
+same_bytes (x ∷ xs) (y ∷ ys) e =
+    let h = and_true (eqb x y) (bytes_eq xs ys) e in
+    (λ i. eqb-true x y h.0 i ∷ same_bytes xs ys h.1 i)
+
+type_is_word : (t : MonType) → is_word (type_word t) ≡ true
+type_is_word I8 = refl
+type_is_word U8 = refl
+type_is_word I16 = refl
+type_is_word U16 = refl
+type_is_word I32 = refl
+type_is_word U32 = refl
+type_is_word I64 = refl
+type_is_word U64 = refl
+type_is_word I128 = refl
+
+constant_is_word : (t : MonType) → is_word (constant_word t) ≡ true
+constant_is_word I8 = refl
+constant_is_word U8 = refl
+constant_is_word I16 = refl
+constant_is_word U16 = refl
+constant_is_word I32 = refl
+constant_is_word U32 = refl
+constant_is_word I64 = refl
+constant_is_word U64 = refl
+constant_is_word I128 = refl
+
+kind_bytes : (k : Kind) → AllByRecursion (λ b. b < 256) (kind_word k)
+kind_bytes the_kind.Assert = omega arith
+kind_bytes the_kind.Requires = omega arith
+kind_bytes the_kind.Assumes = omega arith
+kind_bytes the_kind.Ensures = omega arith
+kind_bytes the_kind.Complete = omega arith
+kind_bytes the_kind.Disjoint = omega arith
+kind_bytes the_kind.Invariant = omega arith
+kind_bytes the_kind.Variant = omega arith
+kind_bytes the_kind.Rte = omega arith
+
+stops_part : (bs : List ℕ) → Stops in_literal bs → Stops is_part bs
+stops_part [] h = tt
+stops_part (b ∷ bs) h = by (is_part b) h
+  where
+    by : (t : Bool) → t || eqb b 46 ≡ false → t ≡ false
+    by true e = absurd (true≢false e)
+    by false e = refl
+
+-- ---- punctuators
+
+blanks_all : (n : ℕ) → list_all is_blank (replicate n 32) ≡ true
+blanks_all zero = refl
+blanks_all (suc n) = blanks_all n
+
+line_blank : (depth : ℕ) → list_all is_blank (10 ∷ replicate (2 * depth) 32) ≡ true
+line_blank depth = blanks_all (2 * depth)
+
+both : (P : Bool → Type 0) → P true → P false → (b : Bool) → P b
+both P t f true = t
+both P t f false = f
+
+module _ (bs : List ℕ) where
+  alone_left_paren : IsAlone left_paren bs
+  unfolding piece_at marks
+  alone_left_paren = (omega arith, both _ refl refl)
+
+  alone_right_paren : IsAlone right_paren bs
+  unfolding piece_at marks
+  alone_right_paren = (omega arith, both _ refl refl)
+
+  alone_semicolon : IsAlone semicolon bs
+  unfolding piece_at marks
+  alone_semicolon = (omega arith, both _ refl refl)
+
+  alone_comma : IsAlone (Mark (codes ",")) bs
+  unfolding piece_at marks
+  alone_comma = (omega arith, both _ refl refl)
+
+  alone_colon : IsAlone (Mark (codes ":")) bs
+  unfolding piece_at marks
+  alone_colon = (omega arith, both _ refl refl)
+
+  alone_tilde : IsAlone (Mark (codes "~")) bs
+  unfolding piece_at marks
+  alone_tilde = (omega arith, both _ refl refl)
+
+  alone_left_brace : IsAlone (Mark (codes "{")) bs
+  unfolding piece_at marks
+  alone_left_brace = (omega arith, both _ refl refl)
+
+  alone_right_brace : IsAlone (Mark (codes "}")) bs
+  unfolding piece_at marks
+  alone_right_brace = (omega arith, both _ refl refl)
+
+  -- in front of a blank
+  alone_assign : IsAlone (Mark (codes "=")) (32 ∷ bs)
+  unfolding piece_at marks
+  alone_assign = (omega arith, both _ refl refl)
+
+  alone_operator : (op : MonOp) → IsAlone (Mark (operator_mark op)) (32 ∷ bs)
+  unfolding piece_at marks
+  alone_operator Add = (omega arith, both _ refl refl)
+  alone_operator Sub = (omega arith, both _ refl refl)
+  alone_operator Mul = (omega arith, both _ refl refl)
+  alone_operator Div = (omega arith, both _ refl refl)
+  alone_operator Rem = (omega arith, both _ refl refl)
+  alone_operator Shl = (omega arith, both _ refl refl)
+  alone_operator Shr = (omega arith, both _ refl refl)
+  alone_operator And = (omega arith, both _ refl refl)
+  alone_operator Or = (omega arith, both _ refl refl)
+  alone_operator Xor = (omega arith, both _ refl refl)
+  alone_operator Eq = (omega arith, both _ refl refl)
+  alone_operator Ne = (omega arith, both _ refl refl)
+  alone_operator Lt = (omega arith, both _ refl refl)
+  alone_operator Le = (omega arith, both _ refl refl)
+  alone_operator Gt = (omega arith, both _ refl refl)
+  alone_operator Ge = (omega arith, both _ refl refl)
+
+  -- a minus in front of a byte with which it makes no longer punctuator
+  alone_minus : (b : ℕ) → eqb 45 b ≡ false → eqb 62 b ≡ false → eqb 61 b ≡ false → IsAlone (Mark (codes "-")) (b ∷ bs)
+  unfolding piece_at marks
+  alone_minus b m g e = (omega arith, both _ (rw (m, g, e) refl) (rw (m, g, e) refl))
+
+-- what a minus stands alone in front of
+record IsClear (bs : List ℕ) : Type 0 where
+  first : ℕ
+  others : List ℕ
+  is : bs ≡ first ∷ others
+  no_minus : eqb 45 first ≡ false
+  no_greater : eqb 62 first ≡ false
+  no_equal : eqb 61 first ≡ false
+
+minus_alone : (bs : List ℕ) → IsClear bs → IsAlone (Mark (codes "-")) bs
+minus_alone bs h = subst (λ (l : List ℕ). IsAlone (Mark (codes "-")) l) (sym h.is) (alone_minus h.others h.first h.no_minus h.no_greater h.no_equal)
+
+word_clear : (w bs : List ℕ) → is_word w ≡ true → IsClear (w ++ bs)
+word_clear [] bs h = absurd cc
+word_clear (c ∷ cs) bs h =
+    let letter = (and_true (is_nondigit c) (list_all is_part (c ∷ cs) && leb (length (c ∷ cs)) 255) h).0 in
+    record { first = c; others = cs ++ bs; is = refl; no_minus = grind (arith, nat_tests); no_greater = grind (arith, nat_tests); no_equal = grind (arith, nat_tests) }
+
+digits_clear : (n : ℕ) (bs : List ℕ) → n ≤ greatest_literal → IsClear (decimal n ++ bs)
+digits_clear n bs small = by (decimal n) (decimal_is_IsNumeral_wide n (omega arith)).0.0 (decimal_is_IsNumeral_wide n (omega arith)).0.1
+  where
+    by : (ds : List ℕ) → 0 < length ds → AllDigits 10 ds → IsClear (ds ++ bs)
+    by [] some all = absurd (omega arith)
+    by (c ∷ cs) some all =
+        let digit = digit_from_value c all.0 in
+        record { first = c; others = cs ++ bs; is = refl; no_minus = grind (arith, nat_tests); no_greater = grind (arith, nat_tests); no_equal = grind (arith, nat_tests) }
+
+-- ---- constants
+
+below : (n g : ℕ) → int_le (pos n) (pos g) ≡ true → n ≤ g
+below n g h = grind (arith, ints)
+
+above : (n g : ℕ) → int_le (negsuc g) (negsuc n) ≡ true → n ≤ g
+above n g h = grind (arith, ints)
+
+other : (n g : ℕ) → not (int_eq (negsuc n) (negsuc g)) ≡ true → n ≤ g → suc n ≤ g
+other n g h l = grind (arith, ints)
+
+-- the digits of a constant make a number that may stand in a text
+abbrev digits_of : ℤ → ℕ
+digits_of (pos n) = n
+digits_of (negsuc n) = suc n
+
+small_constant : (t : MonType) (z : ℤ) → has_constant t z ≡ true → digits_of z ≤ greatest_literal
+small_constant t (pos n) h = by t (and_true (int_le (least t) (pos n)) (int_le (pos n) (greatest t)) (and_true (fits t (pos n)) _ h).0).1
+  where
+    by : (t : MonType) → int_le (pos n) (greatest t) ≡ true → n ≤ greatest_literal
+    by I8 e = omega (arith, below n 127 e)
+    by U8 e = omega (arith, below n 255 e)
+    by I16 e = omega (arith, below n 32767 e)
+    by U16 e = omega (arith, below n 65535 e)
+    by I32 e = omega (arith, below n 2147483647 e)
+    by U32 e = omega (arith, below n 4294967295 e)
+    by I64 e = omega (arith, below n 9223372036854775807 e)
+    by U64 e = omega (arith, below n 18446744073709551615 e)
+    by I128 e = below n 170141183460469231731687303715884105727 e
+small_constant t (negsuc n) h = let a = and_true (fits t (negsuc n)) _ h in by t (and_true (int_le (least t) (negsuc n)) (int_le (negsuc n) (greatest t)) a.0).0 a.1
+  where
+    by : (t : MonType) → int_le (least t) (negsuc n) ≡ true → not (int_eq (negsuc n) (neg_ℤ (pos (2 ^ 127)))) ≡ true → suc n ≤ greatest_literal
+    by I8 e o = omega (arith, above n 127 e)
+    by U8 e o = absurd cc
+    by I16 e o = omega (arith, above n 32767 e)
+    by U16 e o = absurd cc
+    by I32 e o = omega (arith, above n 2147483647 e)
+    by U32 e o = absurd cc
+    by I64 e o = omega (arith, above n 9223372036854775807 e)
+    by U64 e o = absurd cc
+    by I128 e o = other n 170141183460469231731687303715884105727 o (above n 170141183460469231731687303715884105727 e)
+
+-- ---- expressions
+
+-- each register of a type has a name
+abbrev pub AreNamed : Types → Registers → Type 0
+AreNamed ts rs = (r : ℕ) (t : MonType) → slice_get ts r ≡ Some t → is_word (name_of rs r) ≡ true
+
+module _ (ts : Types) (rs : Registers) (named : AreNamed ts rs) where
+  constant_alone : (t : MonType) (z : ℤ) (more : Pieces) → has_constant t z ≡ true → AreAlone more → AreAlone (expression_pieces rs (Constant t z) ++ more)
+  constant_alone t (pos n) more h m = ((constant_is_word t, refl), (alone_left_paren _, ((small_constant t (pos n) h, refl), (alone_right_paren _, m))))
+  constant_alone t (negsuc n) more h m =
+      let small = small_constant t (negsuc n) h in
+      ((constant_is_word t, refl), (alone_left_paren _, (minus_alone _ (digits_clear (suc n) _ small), ((small, refl), (alone_right_paren _, m)))))
+
+  -- what an expression begins with
+  expression_clear : (e : MonExpression) (t : MonType) → HasType ts e t → (more : Pieces) → IsClear (spelled (expression_pieces rs e ++ more))
+  expression_clear (Register r) t h more = word_clear (name_of rs r) (spelled more) (named r t h)
+  expression_clear (Constant k z) t h more = word_clear (constant_word k) _ (constant_is_word k)
+  expression_clear (Binary op k a b) t h more = record { first = 40; others = _; is = refl; no_minus = refl; no_greater = refl; no_equal = refl }
+  expression_clear (Minus k a) t h more = record { first = 40; others = _; is = refl; no_minus = refl; no_greater = refl; no_equal = refl }
+  expression_clear (Flip k a) t h more = record { first = 40; others = _; is = refl; no_minus = refl; no_greater = refl; no_equal = refl }
+  expression_clear (Cast k a) t h more = record { first = 40; others = _; is = refl; no_minus = refl; no_greater = refl; no_equal = refl }
+
+  pub expression_alone : (e : MonExpression) (t : MonType) → HasType ts e t → (more : Pieces) → Stops in_literal (spelled more) → AreAlone more → AreAlone (expression_pieces rs e ++ more)
+  expression_alone (Register r) t h more stop m = ((named r t h, stops_part (spelled more) stop), m)
+  expression_alone (Constant k z) t h more stop m = constant_alone k z more h.1 m
+  expression_alone (Binary op k a b) t h more stop m =
+      subst AreAlone (sym (binary_is rs more op k a b))
+      (alone_left_paren _, expression_alone a k h.2 _ refl (refl, (alone_operator _ op, (refl, expression_alone b k h.3 (right_paren ∷ more) refl (alone_right_paren _, m)))))
+  expression_alone (Minus k a) t h more stop m =
+      subst (λ (l : Pieces). AreAlone (left_paren ∷ Mark (codes "-") ∷ l)) (sym (closed_is rs more a))
+      (alone_left_paren _, (minus_alone _ (expression_clear a k h.2 (right_paren ∷ more)), expression_alone a k h.2 (right_paren ∷ more) refl (alone_right_paren _, m)))
+  expression_alone (Flip k a) t h more stop m =
+      subst (λ (l : Pieces). AreAlone (left_paren ∷ Mark (codes "~") ∷ l)) (sym (closed_is rs more a))
+      (alone_left_paren _, (alone_tilde _, expression_alone a k h.2 (right_paren ∷ more) refl (alone_right_paren _, m)))
+  expression_alone (Cast k a) t h more stop m =
+      subst (λ (l : Pieces). AreAlone (left_paren ∷ left_paren ∷ Word (type_word k) ∷ right_paren ∷ l)) (sym (closed_is rs more a))
+      (alone_left_paren _, (alone_left_paren _, ((type_is_word k, refl), (alone_right_paren _, expression_alone a h.1.0 h.1.1 (right_paren ∷ more) refl (alone_right_paren _, m)))))
+
+  -- ---- statements
+
+  call_alone : (name : List ℕ) (arguments more : Pieces) → is_word name ≡ true → AreAlone (arguments ++ (right_paren ∷ semicolon ∷ more)) → AreAlone (call_pieces name arguments ++ more)
+  call_alone name arguments more w h = subst (λ (l : Pieces). AreAlone (Word name ∷ left_paren ∷ l)) (sym (arguments_are rs more arguments)) ((w, refl), (alone_left_paren _, h))
+
+  -- a call with a value
+  value_alone : (name : List ℕ) (e : MonExpression) (t : MonType) (more : Pieces) → is_word name ≡ true → IsExpression ts e t → AreAlone more → AreAlone (call_pieces name (expression_pieces rs e) ++ more)
+  value_alone name e t more w h m = call_alone name (expression_pieces rs e) more w (expression_alone e t h.typed (right_paren ∷ semicolon ∷ more) refl (alone_right_paren _, (alone_semicolon _, m)))
+
+  -- a register and `=`
+  set_alone : (r : ℕ) (t : MonType) (more : Pieces) → slice_get ts r ≡ Some t → AreAlone more → AreAlone (Word (name_of rs r) ∷ blank ∷ Mark (codes "=") ∷ blank ∷ more)
+  set_alone r t more h m = ((named r t h, refl), (refl, (alone_assign _, (refl, m))))
+
+  ended_alone : (e : MonExpression) (t : MonType) (more : Pieces) → IsExpression ts e t → AreAlone more → AreAlone ((expression_pieces rs e ++ (semicolon ∷ [])) ++ more)
+  ended_alone e t more h m = subst AreAlone (sym (ended_is rs more e)) (expression_alone e t h.typed (semicolon ∷ more) refl (alone_semicolon _, m))
+
+  assert_alone : (d v : MonExpression) (number line : ℕ) (kind : Kind) (result : Option MonType) (ls : Labels) (depth : ℕ) (more : Pieces) → IsStatement ts result ls (Assert d v number line kind) → AreAlone more → AreAlone (statement_pieces rs depth (Assert d v number line kind) ++ more)
+  assert_alone d v number line kind result ls depth more h m =
+      let first : number ≤ greatest_literal = omega (arith, h.2) in
+      let second : line ≤ greatest_literal = omega (arith, h.3) in
+      subst (λ (l : Pieces). AreAlone (Word (codes "__e_acsl_assert") ∷ left_paren ∷ l)) (sym (assert_is rs more d v number line (kind_word kind))) (
+        (refl, refl),
+        (
+          alone_left_paren _,
+          expression_alone d I32 h.0.typed _ refl (
+            alone_comma _,
+            (
+              refl,
+              expression_alone v I32 h.1.typed _ refl
+                  (alone_comma _, (refl, ((first, refl), (alone_comma _, (refl, ((second, refl), (alone_comma _, (refl, (kind_bytes kind, (alone_right_paren _, (alone_semicolon _, m))))))))))),
+            ),
+          ),
+        ),
+      )
+
+  -- a body, given its statements
+  body_alone : (s : MonStatements) (depth : ℕ) (more : Pieces) → ((end : Pieces) → AreAlone end → AreAlone (statements_pieces rs (depth + 1) s ++ end)) → AreAlone more → AreAlone (body_pieces rs depth s ++ more)
+  body_alone NoStatement depth more inner m = (alone_left_brace _, (refl, (alone_right_brace _, m)))
+  body_alone (Then a rest) depth more inner m = subst AreAlone (sym (body_is rs more depth a rest)) (alone_left_brace _, inner (new_line depth ∷ Mark (codes "}") ∷ more) (line_blank depth, (alone_right_brace _, m)))
+
+  -- each label is a word
+  AreLabels : Labels → Type 0
+  AreLabels ls = (w : List ℕ) → has_label ls w ≡ true → is_word w ≡ true
+
+  more_labels : (l : List ℕ) (ls : Labels) → IsFreeName l → AreLabels ls → AreLabels (l ∷ ls)
+  unfolding AreLabels
+  more_labels l ls free old w h = by (bytes_eq w l) refl h
+    where
+      by : (t : Bool) → bytes_eq w l ≡ t → t || has_label ls w ≡ true → is_word w ≡ true
+      by true e g = ap is_word (same_bytes w l e) ∙ free_word l free
+      by false e g = old w g
+
+  returned_typed : (result : Option MonType) (e : MonExpression) → ReturnsResult ts result (Some e) → (t : MonType) × IsExpression ts e t
+  returned_typed None e h = absurd h
+  returned_typed (Some t) e h = (t, h)
+
+  mutual
+    unfolding AreLabels
+
+    statement_alone : (a : MonStatement) (result : Option MonType) (ls : Labels) (depth : ℕ) (more : Pieces) → AreLabels ls → IsStatement ts result ls a → AreAlone more → AreAlone (statement_pieces rs depth a ++ more)
+    statement_alone (Set r e) result ls depth more labels h m = set_alone r h.0 ((expression_pieces rs e ++ (semicolon ∷ [])) ++ more) h.1 (ended_alone e h.0 more h.2 m)
+    statement_alone Step result ls depth more labels h m = call_alone (codes "__e_acsl_step") [] more refl (alone_right_paren _, (alone_semicolon _, m))
+    statement_alone (Assert d v number line kind) result ls depth more labels h m = assert_alone d v number line kind result ls depth more h m
+    statement_alone (PutChar None e) result ls depth more labels h m = value_alone (codes "putchar") e I32 more refl h.1 m
+    statement_alone (PutChar (Some r) e) result ls depth more labels h m = set_alone r I32 (call_pieces (codes "putchar") (expression_pieces rs e) ++ more) h.0 (value_alone (codes "putchar") e I32 more refl h.1 m)
+    statement_alone (Exit e) result ls depth more labels h m = value_alone (codes "exit") e I32 more refl h m
+    statement_alone (PrintText bytes) result ls depth more labels h m = call_alone (codes "__e_acsl_print_text") (Quoted bytes ∷ []) more refl (h, (alone_right_paren _, (alone_semicolon _, m)))
+    statement_alone (PrintSigned e) result ls depth more labels h m = value_alone (codes "__e_acsl_print_i64") e I64 more refl h m
+    statement_alone (PrintUnsigned e) result ls depth more labels h m = value_alone (codes "__e_acsl_print_u64") e U64 more refl h m
+    statement_alone (If e a b) result ls depth more labels h m =
+        subst AreAlone (sym (if_is rs more depth e a b)) (
+          (refl, refl),
+          (
+            refl,
+            (
+              alone_left_paren _,
+              expression_alone e I32 h.0.typed _ refl (
+                alone_right_paren _,
+                (
+                  refl,
+                  body_alone a depth _ (λ end g. statements_alone a result ls (depth + 1) end labels h.1 g)
+                      (refl, ((refl, refl), (refl, body_alone b depth more (λ end g. statements_alone b result ls (depth + 1) end labels h.2 g) m))),
+                ),
+              ),
+            ),
+          ),
+        )
+    statement_alone (Loop a b) result ls depth more labels h m =
+        subst AreAlone (sym (loop_is rs more depth a b)) (
+          (refl, refl),
+          (
+            refl,
+            (
+              alone_left_paren _,
+              (
+                (omega arith, refl),
+                (
+                  alone_right_paren _,
+                  (
+                    refl,
+                    (
+                      alone_left_brace _,
+                      statements_alone a result ls (depth + 1) _ labels h.2
+                          (line_blank (depth + 1), ((refl, refl), (alone_left_paren _, (alone_right_paren _, (alone_semicolon _, statements_alone b result ls (depth + 1) _ labels h.3 (line_blank depth, (alone_right_brace _, m))))))),
+                    ),
+                  ),
+                ),
+              ),
+            ),
+          ),
+        )
+    statement_alone (Labelled a l) result ls depth more labels h m =
+        subst AreAlone (sym (labelled_is rs more depth a l))
+        (body_alone a depth _ (λ end g. statements_alone a result (l ∷ ls) (depth + 1) end (more_labels l ls h.0 labels) h.2 g) (refl, ((free_word l h.0, refl), (alone_colon _, (refl, (alone_semicolon _, m))))))
+    statement_alone (Goto l) result ls depth more labels h m = ((refl, refl), (refl, ((labels l h, refl), (alone_semicolon _, m))))
+    statement_alone (Return None) result ls depth more labels h m = ((refl, refl), (alone_semicolon _, m))
+    statement_alone (Return (Some e)) result ls depth more labels h m = let g = returned_typed result e h in ((refl, refl), (refl, ended_alone e g.0 more g.1 m))
+
+    statements_alone : (s : MonStatements) (result : Option MonType) (ls : Labels) (depth : ℕ) (more : Pieces) → AreLabels ls → AreStatements ts result ls s → AreAlone more → AreAlone (statements_pieces rs depth s ++ more)
+    statements_alone NoStatement result ls depth more labels h m = m
+    statements_alone (Then a rest) result ls depth more labels h m =
+        subst AreAlone (sym (then_is rs more depth a rest)) (line_blank depth, statement_alone a result ls depth _ labels h.0 (statements_alone rest result ls depth more labels h.1 m))
+
+  pub body_is_alone : (s : MonStatements) (result : Option MonType) (more : Pieces) → AreStatements ts result [] s → AreAlone more → AreAlone (statements_pieces rs 1 s ++ more)
+  unfolding AreLabels
+  body_is_alone s result more h m = statements_alone s result [] 1 more (λ w e. absurd cc) h m
+
+-- ---- functions
+
+pub registers_alone : (rs : List MonRegister) (before : List (List ℕ)) (more : Pieces) → AreRegisters before rs → AreAlone more → AreAlone (registers_pieces rs ++ more)
+registers_alone [] before more h m = m
+registers_alone (r ∷ rs) before more h m = (line_blank 1, ((type_is_word r.kind, refl), (refl, ((free_word r.name h.0, refl), (alone_semicolon _, registers_alone rs (r.name ∷ before) more h.2 m)))))
+
+-- `i32 main(void)`, with these registers and this body
+abbrev pub main_of : Registers → MonStatements → MonFunction
+main_of rs body = record { result = Some I32; name = codes "main"; parameters = []; registers = rs; body = body }
+
+pub main_is : (rs : Registers) (body : MonStatements) (more : Pieces)
+    → function_pieces (main_of rs body) ++ more
+    ≡ Word (type_word I32) ∷ blank ∷ Word (codes "main") ∷ left_paren ∷ Word (codes "void") ∷ right_paren ∷ blank ∷ Mark (codes "{") ∷ (registers_pieces rs ++ (statements_pieces rs 1 body ++ (new_line 0 ∷ Mark (codes "}") ∷ new_line 0 ∷ more)))
+main_is rs body more =
+    let end : Pieces → Pieces = λ l. new_line 0 ∷ Mark (codes "}") ∷ new_line 0 ∷ l in
+    ap (λ (l : Pieces). Word (type_word I32) ∷ blank ∷ Word (codes "main") ∷ left_paren ∷ Word (codes "void") ∷ right_paren ∷ blank ∷ Mark (codes "{") ∷ l)
+    (append_assoc (registers_pieces rs) (statements_pieces rs 1 body ++ end []) more ∙ ap (λ (l : Pieces). registers_pieces rs ++ l) (append_assoc (statements_pieces rs 1 body) (end []) more))
+
+-- ---- registers
+
+name_found : (before : List (List ℕ)) (rs : Registers) (r : ℕ) (t : MonType) → AreRegisters before rs → slice_get (types_of rs) r ≡ Some t → is_word (name_of rs r) ≡ true
+name_found before [] r t h e = absurd cc
+name_found before (x ∷ rs) zero t h e = free_word x.name h.0
+name_found before (x ∷ rs) (suc r) t h e = name_found (x.name ∷ before) rs r t h.2 e
+
+pub registers_named : (rs : Registers) → AreRegisters [] rs → AreNamed (types_of rs) rs
+registers_named rs h r t e = name_found [] rs r t h e
+
+pub main_alone : (rs : Registers) (body : MonStatements) → AreRegisters [] rs → AreStatements (types_of rs) (Some I32) [] body → AreAlone (function_pieces (main_of rs body) ++ [])
+main_alone rs body registers statements =
+    subst AreAlone (sym (main_is rs body [])) (
+      (refl, refl),
+      (
+        refl,
+        (
+          (refl, refl),
+          (
+            alone_left_paren _,
+            (
+              (refl, refl),
+              (
+                alone_right_paren _,
+                (
+                  refl,
+                  (
+                    alone_left_brace _,
+                    registers_alone rs [] _ registers (body_is_alone (types_of rs) rs (registers_named rs registers) body (Some I32) _ statements (line_blank 0, (alone_right_brace _, (line_blank 0, tt)))),
+                  ),
+                ),
+              ),
+            ),
+          ),
+        ),
+      ),
+    )

@@ -1,0 +1,326 @@
+-- Names and types of a monitored text (E5, E6), with the program that it spells. A part's own demand is asked where none of its
+-- parts has a fault, and the first fault in text order counts.
+use Rattle.std.specs.Prelude.{ℕ, suc, pos, unsigned_abs, List, [], ◌∷◌, ◌++◌, map, Option, Some, None, Result, Ok, Err, Bool, true, false, not, ◌&&◌, if◌then◌else◌, nat_eq, nat_le, slice_get, codes, bytes_eq}
+use Rattle.std.specs.List.{list_any}
+use Rattle.c_syntax.specs.declared.place.Place.{Place}
+use Rattle.c_syntax.specs.declared.annotation.Kind.{Kind}
+use Rattle.c_syntax.specs.declared.annotation.Kind.TheVariants.{Assert, Requires, Assumes, Ensures, Complete, Disjoint, Invariant, Variant, Rte}
+use Rattle.mon_syntax.specs.declared.tree.MonType.{MonType}
+use Rattle.mon_syntax.specs.declared.tree.MonType.TheVariants.{I8, U8, I16, U16, I32, U32, I64, U64, I128}
+use Rattle.mon_syntax.specs.declared.word.Runtime.{Runtime}
+use Rattle.mon_syntax.specs.declared.word.Runtime.TheVariants as runtime
+use Rattle.mon_syntax.specs.declared.word.Word.{Word}
+use Rattle.mon_syntax.specs.declared.word.Word.TheVariants as word
+use Rattle.mon_syntax.specs.Trees as tree
+use Rattle.mon_syntax.specs.Trees.{MonExpression, MonStatement, MonStatements, MonRegister, MonFunction, MonitoredProgram}
+use Rattle.mon_syntax.specs.Parsed.{NameUse, ParsedExpression, Name, Constant, Binary, Minus, Flip, Cast, ParsedArgument, Value, Number, Text, ParsedCall, ParsedStatement, Set, Take, Call, If, Loop, Labelled, Goto, Return, ParsedStatements, NoStatement, Then, ParsedRegister, ParsedFunction, ParsedProgram}
+use Rattle.mon_syntax.specs.Valid.{is_arithmetic, result_type, has_constant, greatest_number}
+use Rattle.mon_syntax.specs.Grammar.{Vocabulary, word_at}
+
+-- the code of a fault and its place
+pub record Fault : Type 0 where
+  pub code : ℕ
+  pub place : Place
+
+abbrev pub Checked : Type 0 → Type 0
+Checked A = Result A Fault
+
+abbrev pub name_fault : {A : Type 0} → Place → Checked A
+name_fault at = Err (record { code = 5; place = at })
+
+abbrev pub type_fault : {A : Type 0} → Place → Checked A
+type_fault at = Err (record { code = 6; place = at })
+
+infixl 10 ◌>>=◌
+abbrev pub ◌>>=◌ : {A B : Type 0} → Checked A → (A → Checked B) → Checked B
+(Ok a) >>= f = f a
+(Err e) >>= f = Err e
+
+infixl 10 ◌>>◌
+abbrev pub ◌>>◌ : {A B : Type 0} → Checked A → Checked B → Checked B
+a >> b = a >>= λ _. b
+
+-- nothing is demanded, or E6 comes at the place
+abbrev pub demanded : Bool → Place → Checked (Unit {0})
+demanded b at = if b then Ok tt else type_fault at
+
+abbrev pub same_type : MonType → MonType → Bool
+same_type I8 I8 = true
+same_type U8 U8 = true
+same_type I16 I16 = true
+same_type U16 U16 = true
+same_type I32 I32 = true
+same_type U32 U32 = true
+same_type I64 I64 = true
+same_type U64 U64 = true
+same_type I128 I128 = true
+same_type _ _ = false
+
+-- ---- names
+
+-- the names of the text and what they are, and the registers by their names' numbers
+pub record Scope : Type 0 where
+  pub names : List (List ℕ)
+  pub words : Vocabulary
+  pub registers : List (ℕ × MonType)
+
+-- a register by its number in the function, with its type
+abbrev pub find_register : ℕ → List (ℕ × MonType) → ℕ → Option (ℕ × MonType)
+find_register k [] x = None
+find_register k (r ∷ rs) x = if nat_eq r.0 x then Some (k, r.1) else find_register (suc k) rs x
+
+abbrev pub or_fault : {A : Type 0} → Option A → Place → Checked A
+or_fault None at = name_fault at
+or_fault (Some a) at = Ok a
+
+abbrev pub register_of : Scope → NameUse → Checked (ℕ × MonType)
+register_of s x = or_fault (find_register 0 s.registers x.number) x.place
+
+abbrev pub bytes_of : Scope → ℕ → List ℕ
+bytes_of s n = elim (slice_get s.names n) [ None ↦ [] | Some w ↦ w ]
+
+abbrev pub is_free : Word → Bool
+is_free word.Name = true
+is_free _ = false
+
+-- ---- expressions, each with its type
+
+abbrev pub Typed : Type 0
+Typed = MonExpression × MonType
+
+abbrev pub place_of : ParsedExpression → Place
+place_of (Name x) = x.place
+place_of (Constant at t z) = at
+place_of (Binary at op a b) = at
+place_of (Minus at a) = at
+place_of (Flip at a) = at
+place_of (Cast at t a) = at
+
+abbrev pub checked_expression : Scope → ParsedExpression → Checked Typed
+checked_expression s (Name x) = register_of s x >>= λ r. Ok (tree.Register r.0, r.1)
+checked_expression s (Constant at t z) = demanded (has_constant t z) at >> Ok (tree.Constant t z, t)
+checked_expression s (Binary at op a b) = do
+  x ← checked_expression s a
+  y ← checked_expression s b
+  demanded (same_type x.1 y.1 && is_arithmetic x.1) at >> Ok (tree.Binary op x.1 x.0 y.0, result_type op x.1)
+checked_expression s (Minus at a) = checked_expression s a >>= λ x. demanded (is_arithmetic x.1) at >> Ok (tree.Minus x.1 x.0, x.1)
+checked_expression s (Flip at a) = checked_expression s a >>= λ x. demanded (is_arithmetic x.1) at >> Ok (tree.Flip x.1 x.0, x.1)
+checked_expression s (Cast at t a) = checked_expression s a >>= λ x. Ok (tree.Cast t x.0, t)
+
+-- an expression of a type, which is demanded at the place
+abbrev pub of_type : Scope → MonType → Place → ParsedExpression → Checked MonExpression
+of_type s t at e = checked_expression s e >>= λ x. demanded (same_type x.1 t) at >> Ok x.0
+
+-- a condition is an i32
+abbrev pub condition : Scope → ParsedExpression → Checked MonExpression
+condition s e = of_type s I32 (place_of e) e
+
+-- ---- arguments
+
+abbrev pub argument_place : ParsedArgument → Place
+argument_place (Value e) = place_of e
+argument_place (Number at z) = at
+argument_place (Text at bytes) = at
+
+abbrev pub value_of_type : Scope → MonType → ParsedArgument → Checked MonExpression
+value_of_type s t (Value e) = of_type s t (place_of e) e
+value_of_type s t (Number at z) = type_fault at
+value_of_type s t (Text at bytes) = type_fault at
+
+-- a NUMBER of at most 4,294,967,295
+abbrev pub small_number : Scope → ParsedArgument → Checked ℕ
+small_number s (Value e) = checked_expression s e >>= λ x. type_fault (place_of e)
+small_number s (Number at z) = demanded (nat_le (unsigned_abs z) greatest_number) at >> Ok (unsigned_abs z)
+small_number s (Text at bytes) = type_fault at
+
+abbrev pub string : Scope → ParsedArgument → Checked (List ℕ × Place)
+string s (Value e) = checked_expression s e >>= λ x. type_fault (place_of e)
+string s (Number at z) = type_fault at
+string s (Text at bytes) = Ok (bytes, at)
+
+-- the kinds of annotations, by the words that name them
+abbrev pub kind_words : List (List ℕ × Kind)
+kind_words =
+    (codes "assert", Assert) ∷ (codes "requires", Requires) ∷ (codes "assumes", Assumes) ∷ (codes "ensures", Ensures) ∷ (codes "complete", Complete)
+    ∷ (codes "disjoint", Disjoint) ∷ (codes "invariant", Invariant) ∷ (codes "variant", Variant) ∷ (codes "rte", Rte) ∷ []
+
+abbrev pub kind_of : List (List ℕ × Kind) → List ℕ → Option Kind
+kind_of [] w = None
+kind_of (k ∷ ks) w = if bytes_eq k.0 w then Some k.1 else kind_of ks w
+
+abbrev pub kind_named : Scope → ParsedArgument → Checked Kind
+kind_named s a = string s a >>= λ w. elim (kind_of kind_words w.0) [ None ↦ type_fault w.1 | Some k ↦ Ok k ]
+
+-- arguments beyond those that are wanted, each by itself
+abbrev pub others : Scope → List ParsedArgument → Checked (Unit {0})
+others s [] = Ok tt
+others s (Value e ∷ more) = checked_expression s e >> others s more
+others s (Number at z ∷ more) = others s more
+others s (Text at bytes ∷ more) = others s more
+
+-- the wrong number of arguments, E6 at the call's `(`
+abbrev pub wrong_number : {A : Type 0} → Scope → Place → List ParsedArgument → Checked A
+wrong_number s at more = others s more >> type_fault at
+
+-- no more arguments
+abbrev pub no_more : {A : Type 0} → Scope → Place → List ParsedArgument → A → Checked A
+no_more s at [] a = Ok a
+no_more s at (b ∷ more) a = wrong_number s at (b ∷ more)
+
+-- one argument more, and then the others
+abbrev pub next : {A B : Type 0} → Scope → Place → (ParsedArgument → Checked A) → List ParsedArgument → (A → List ParsedArgument → Checked B) → Checked B
+next s at f [] go = type_fault at
+next s at f (a ∷ more) go = f a >>= λ x. go x more
+
+-- ---- calls
+
+abbrev pub assert_call : Scope → Place → List ParsedArgument → Checked MonStatement
+assert_call s at xs =
+    next s at (value_of_type s I32) xs (λ d xs1. next s at (value_of_type s I32) xs1 (λ v xs2. next s at (small_number s) xs2 (λ n xs3.
+    next s at (small_number s) xs3 (λ line xs4. next s at (kind_named s) xs4 (λ k xs5. no_more s at xs5 (tree.Assert d v n line k))))))
+
+-- a call with one argument of the type
+abbrev pub one_value : Scope → Place → MonType → List ParsedArgument → (MonExpression → MonStatement) → Checked MonStatement
+one_value s at t xs f = next s at (value_of_type s t) xs (λ e more. no_more s at more (f e))
+
+-- a call of the runtime, whose value is not taken
+abbrev pub runtime_call : Scope → NameUse → Place → List ParsedArgument → Runtime → Checked MonStatement
+runtime_call s f at xs runtime.Step = no_more s at xs tree.Step
+runtime_call s f at xs runtime.Assert = assert_call s at xs
+runtime_call s f at xs runtime.PutChar = one_value s at I32 xs (tree.PutChar None)
+runtime_call s f at xs runtime.Exit = one_value s at I32 xs tree.Exit
+runtime_call s f at xs runtime.PrintText = next s at (string s) xs (λ w more. no_more s at more (tree.PrintText w.0))
+runtime_call s f at xs runtime.PrintSigned = one_value s at I64 xs tree.PrintSigned
+runtime_call s f at xs runtime.PrintUnsigned = one_value s at U64 xs tree.PrintUnsigned
+runtime_call s f at xs runtime.Kept = name_fault f.place
+
+-- `main` isn't called, and there is no other function
+abbrev pub named_call : Scope → NameUse → Place → List ParsedArgument → Checked MonStatement
+named_call s f at xs = if bytes_eq (bytes_of s f.number) (codes "main") then wrong_number s at xs else name_fault f.place
+
+abbrev pub call_of_word : Scope → ParsedCall → Word → Checked MonStatement
+call_of_word s c (word.Runtime r) = runtime_call s c.callee c.place c.arguments r
+call_of_word s c _ = named_call s c.callee c.place c.arguments
+
+abbrev pub checked_call : Scope → ParsedCall → Checked MonStatement
+checked_call s c = call_of_word s c (word_at s.words c.callee.number)
+
+-- ---- statements, in a function of the result, inside bodies of these labels
+
+-- the type of the value that a call gives
+abbrev pub value_type : MonStatement → Option MonType
+value_type (tree.PutChar r e) = Some I32
+value_type _ = None
+
+abbrev pub with_target : ℕ → MonStatement → MonStatement
+with_target r (tree.PutChar x e) = tree.PutChar (Some r) e
+with_target r a = a
+
+-- the register takes the value: E6 at the `=` where there is none, or one of another type
+abbrev pub taken : ℕ × MonType → Place → MonStatement → Checked MonStatement
+taken r at a = elim (value_type a) [ None ↦ type_fault at | Some t ↦ demanded (same_type t r.1) at >> Ok (with_target r.0 a) ]
+
+abbrev pub returned : Scope → Option MonType → Place → Option ParsedExpression → Checked MonStatement
+returned s None at None = Ok (tree.Return None)
+returned s None at (Some e) = checked_expression s e >> type_fault at
+returned s (Some t) at None = type_fault at
+returned s (Some t) at (Some e) = of_type s t at e >>= λ x. Ok (tree.Return (Some x))
+
+-- E5 at a label's name, where it isn't one of these, and where it is
+abbrev pub known_label : List ℕ → NameUse → Checked (Unit {0})
+known_label ls l = if list_any (nat_eq l.number) ls then Ok tt else name_fault l.place
+
+abbrev pub new_label : Scope → List ℕ → NameUse → Checked (Unit {0})
+new_label s ls l = if is_free (word_at s.words l.number) && not (list_any (nat_eq l.number) ls) then Ok tt else name_fault l.place
+
+-- the labels of the bodies in statements
+abbrev mutual
+  pub labels_in : ParsedStatement → List ℕ
+  labels_in (Set x at e) = []
+  labels_in (Take x at c) = []
+  labels_in (Call c) = []
+  labels_in (If e a b) = labels_in_all a ++ labels_in_all b
+  labels_in (Loop a b) = labels_in_all a ++ labels_in_all b
+  labels_in (Labelled a l) = labels_in_all a ++ (l.number ∷ [])
+  labels_in (Goto l) = []
+  labels_in (Return at e) = []
+
+  pub labels_in_all : ParsedStatements → List ℕ
+  labels_in_all NoStatement = []
+  labels_in_all (Then a rest) = labels_in a ++ labels_in_all rest
+
+-- a label is free, and no body inside its own has the same
+abbrev mutual
+  pub checked_statement : Scope → Option MonType → List ℕ → ParsedStatement → Checked MonStatement
+  checked_statement s t ls (Set x at e) = do
+    r ← register_of s x
+    v ← of_type s r.1 at e
+    Ok (tree.Set r.0 v)
+  checked_statement s t ls (Take x at c) = do
+    r ← register_of s x
+    a ← checked_call s c
+    taken r at a
+  checked_statement s t ls (Call c) = checked_call s c
+  checked_statement s t ls (If e a b) = do
+    c ← condition s e
+    x ← checked_statements s t ls a
+    y ← checked_statements s t ls b
+    Ok (tree.If c x y)
+  checked_statement s t ls (Loop a b) = do
+    x ← checked_statements s t ls a
+    y ← checked_statements s t ls b
+    Ok (tree.Loop x y)
+  checked_statement s t ls (Labelled a l) = do
+    x ← checked_statements s t (l.number ∷ ls) a
+    new_label s (labels_in_all a) l >> Ok (tree.Labelled x (bytes_of s l.number))
+  checked_statement s t ls (Goto l) = known_label ls l >> Ok (tree.Goto (bytes_of s l.number))
+  checked_statement s t ls (Return at e) = returned s t at e
+
+  pub checked_statements : Scope → Option MonType → List ℕ → ParsedStatements → Checked MonStatements
+  checked_statements s t ls NoStatement = Ok tree.NoStatement
+  checked_statements s t ls (Then a rest) = do
+    x ← checked_statement s t ls a
+    xs ← checked_statements s t ls rest
+    Ok (tree.Then x xs)
+
+-- ---- functions
+
+-- each register has a free name of its own: E5 at the name of another
+abbrev pub checked_registers : Vocabulary → List (ℕ × MonType) → List ParsedRegister → Checked (List (ℕ × MonType))
+checked_registers ws known [] = Ok known
+checked_registers ws known (r ∷ rs) =
+    if is_free (word_at ws r.name.number) && not (list_any (λ (x : ℕ × MonType). nat_eq x.0 r.name.number) known)
+    then checked_registers ws (known ++ (r.name.number, r.kind) ∷ []) rs
+    else name_fault r.name.place
+
+abbrev pub named_register : List (List ℕ) → ℕ × MonType → MonRegister
+named_register names r = record { kind = r.1; name = elim (slice_get names r.0) [ None ↦ [] | Some w ↦ w ] }
+
+abbrev pub free_name : Vocabulary → NameUse → Checked (Unit {0})
+free_name ws x = if is_free (word_at ws x.number) then Ok tt else name_fault x.place
+
+abbrev pub word_bytes : List (List ℕ) → ℕ → List ℕ
+word_bytes names n = elim (slice_get names n) [ None ↦ [] | Some w ↦ w ]
+
+abbrev pub scope_of : List (List ℕ) → Vocabulary → List (ℕ × MonType) → Scope
+scope_of names ws rs = record { names = names; words = ws; registers = rs }
+
+abbrev pub function_of : List (List ℕ) → ParsedFunction → List (ℕ × MonType) → MonStatements → MonFunction
+function_of names f rs body = record {
+  result = f.result;
+  name = word_bytes names f.name.number;
+  parameters = [];
+  registers = map (named_register names) rs;
+  body = body;
+}
+
+abbrev pub checked_function : List (List ℕ) → Vocabulary → ParsedFunction → Checked MonFunction
+checked_function names ws f = do
+  _ ← free_name ws f.name
+  rs ← checked_registers ws [] f.registers
+  body ← checked_statements (scope_of names ws rs) f.result [] f.body
+  Ok (function_of names f rs body)
+
+abbrev pub checked_program : List (List ℕ) → Vocabulary → ParsedProgram → Checked MonitoredProgram
+checked_program names ws None = Ok (record { functions = [] })
+checked_program names ws (Some f) = checked_function names ws f >>= λ g. Ok (record { functions = g ∷ [] })

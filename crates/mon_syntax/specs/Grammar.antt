@@ -1,0 +1,536 @@
+-- The grammar of monitored texts, with the trees that are read:
+--
+--   text      = head [ function ]
+--   function  = ( type | "void" ) NAME "(" "void" ")" "{" { type NAME ";" } { statement } "}"
+--   statement = NAME "=" expr ";" | NAME "=" call ";" | call ";"
+--             | "if" "(" expr ")" body "else" body
+--             | "while" "(" "1" ")" body
+--             | body NAME ":" ";" | "goto" NAME ";" | "return" [ expr ] ";"
+--   body      = "{" { statement } "}"
+--   call      = NAME "(" [ argument { "," argument } ] ")"          argument = expr | NUMBER | STRING
+--   expr      = NAME | CONSTANT "(" [ "-" ] NUMBER ")" | "(" expr operator expr ")" | "(" "-" expr ")" | "(" "~" expr ")"
+--             | "(" "(" type ")" expr ")"
+--
+-- The head stands on the first line. The body of `while` has exactly one statement `__e_acsl_step();` directly in it. Statements are
+-- at most 2,000 deep, the function's body being 1 deep, and at most 2,000 parentheses are open at once in an expression.
+use Rattle.std.specs.Prelude.{ℕ, zero, suc, ◌+◌, ◌-◌, ℤ, pos, neg_ℤ, List, [], ◌∷◌, ◌++◌, Option, Some, None, Bool, true, false, ◌&&◌, cond, eqb, if◌then◌else◌, slice_get}
+use Rattle.std.specs.Ordering.{int_eq}
+use Rattle.grammar.specs.Syntax.{Syntax, none, gives, one, ◌then◌, choice, many, deep}
+use Rattle.c_syntax.specs.declared.place.Place.{Place}
+use Rattle.c_syntax.specs.Tokens as token
+use Rattle.c_syntax.specs.Tokens.{PlainTokenKind, PlainToken}
+use Rattle.mon_syntax.specs.declared.tree.MonType.{MonType}
+use Rattle.mon_syntax.specs.declared.tree.MonOp.{MonOp}
+use Rattle.mon_syntax.specs.declared.tree.MonOp.TheVariants.{Add, Sub, Mul, Div, Rem, Shl, Shr, And, Or, Xor, Eq, Ne, Lt, Le, Gt, Ge}
+use Rattle.mon_syntax.specs.declared.word.Runtime.TheVariants as runtime
+use Rattle.mon_syntax.specs.declared.word.Word.{Word}
+use Rattle.mon_syntax.specs.declared.word.Word.TheVariants as word
+use Rattle.mon_syntax.specs.Parsed.{NameUse, ParsedExpression, Name, Constant, Binary, Minus, Flip, Cast, ParsedArgument, Value, Number, Text, ParsedCall, ParsedStatement, Set, Take, Call, If, Loop, Labelled, Goto, Return, ParsedStatements, NoStatement, Then, ParsedRegister, ParsedFunction, ParsedProgram}
+
+-- ---- tokens
+
+-- the punctuators that stand in a form, by their places in the list of all
+abbrev pub shift_left : ℕ
+shift_left = 5
+
+abbrev pub shift_right : ℕ
+shift_right = 6
+
+abbrev pub less_equal : ℕ
+less_equal = 7
+
+abbrev pub greater_equal : ℕ
+greater_equal = 8
+
+abbrev pub equal : ℕ
+equal = 9
+
+abbrev pub not_equal : ℕ
+not_equal = 10
+
+abbrev pub plus : ℕ
+plus = 21
+
+abbrev pub minus : ℕ
+minus = 22
+
+abbrev pub times : ℕ
+times = 23
+
+abbrev pub divide : ℕ
+divide = 24
+
+abbrev pub percent : ℕ
+percent = 25
+
+abbrev pub less : ℕ
+less = 26
+
+abbrev pub greater : ℕ
+greater = 27
+
+abbrev pub assign : ℕ
+assign = 28
+
+abbrev pub tilde : ℕ
+tilde = 30
+
+abbrev pub ampersand : ℕ
+ampersand = 31
+
+abbrev pub bar : ℕ
+bar = 32
+
+abbrev pub caret : ℕ
+caret = 33
+
+abbrev pub colon : ℕ
+colon = 35
+
+abbrev pub semicolon : ℕ
+semicolon = 36
+
+abbrev pub comma : ℕ
+comma = 37
+
+abbrev pub left_paren : ℕ
+left_paren = 39
+
+abbrev pub right_paren : ℕ
+right_paren = 40
+
+abbrev pub left_brace : ℕ
+left_brace = 43
+
+abbrev pub right_brace : ℕ
+right_brace = 44
+
+-- kinds of tokens, by which alternatives are told apart; a name of the runtime is a name
+abbrev pub name_kind : ℕ
+name_kind = 0
+
+abbrev pub type_kind : ℕ
+type_kind = 1
+
+abbrev pub constant_kind : ℕ
+constant_kind = 2
+
+abbrev pub void_kind : ℕ
+void_kind = 3
+
+abbrev pub if_kind : ℕ
+if_kind = 4
+
+abbrev pub else_kind : ℕ
+else_kind = 5
+
+abbrev pub while_kind : ℕ
+while_kind = 6
+
+abbrev pub goto_kind : ℕ
+goto_kind = 7
+
+abbrev pub return_kind : ℕ
+return_kind = 8
+
+abbrev pub kept_kind : ℕ
+kept_kind = 9
+
+abbrev pub number_kind : ℕ
+number_kind = 10
+
+abbrev pub text_kind : ℕ
+text_kind = 11
+
+abbrev pub head_kind : ℕ
+head_kind = 12
+
+abbrev pub mark_kind : ℕ → ℕ
+mark_kind m = 20 + m
+
+abbrev pub word_kind : Word → ℕ
+word_kind (word.TypeName t) = type_kind
+word_kind (word.Constant t) = constant_kind
+word_kind word.Void = void_kind
+word_kind word.If = if_kind
+word_kind word.Else = else_kind
+word_kind word.While = while_kind
+word_kind word.Goto = goto_kind
+word_kind word.Return = return_kind
+word_kind word.Kept = kept_kind
+word_kind (word.Runtime r) = name_kind
+word_kind word.Name = name_kind
+
+-- what the words of a text are, by number
+abbrev pub Vocabulary : Type 0
+Vocabulary = List Word
+
+abbrev pub word_at : Vocabulary → ℕ → Word
+word_at ws n = elim (slice_get ws n) [ None ↦ word.Name | Some w ↦ w ]
+
+abbrev pub token_kind : Vocabulary → PlainTokenKind → ℕ
+token_kind ws (token.Word n) = word_kind (word_at ws n)
+token_kind ws (token.Number z t) = number_kind
+token_kind ws (token.Chars bytes) = text_kind
+token_kind ws (token.Mark m) = mark_kind m
+token_kind ws (token.Head k n) = head_kind
+
+abbrev pub kind : Vocabulary → PlainToken → ℕ
+kind ws t = token_kind ws t.kind
+
+-- a token whose kind has a value, with its place
+abbrev pub placed : {A : Type 0} → (PlainTokenKind → Option A) → PlainToken → Option (A × Place)
+placed f t = elim (f t.kind) [ Some x ↦ Some (x, t.place) | None ↦ None ]
+
+abbrev pub number_of : PlainTokenKind → Option ℤ
+number_of (token.Number z t) = Some z
+number_of (token.Word n) = None
+number_of (token.Chars bytes) = None
+number_of (token.Mark m) = None
+number_of (token.Head k n) = None
+
+-- the number 1
+abbrev pub is_one : PlainTokenKind → Option (Unit {0})
+is_one (token.Number z t) = cond (int_eq z (pos 1)) (Some tt) None
+is_one (token.Word n) = None
+is_one (token.Chars bytes) = None
+is_one (token.Mark m) = None
+is_one (token.Head k n) = None
+
+abbrev pub text_of : PlainTokenKind → Option (List ℕ)
+text_of (token.Chars bytes) = Some bytes
+text_of (token.Word n) = None
+text_of (token.Number z t) = None
+text_of (token.Mark m) = None
+text_of (token.Head k n) = None
+
+abbrev pub type_of_word : Word → Option MonType
+type_of_word (word.TypeName t) = Some t
+type_of_word _ = None
+
+abbrev pub constant_of_word : Word → Option MonType
+constant_of_word (word.Constant t) = Some t
+constant_of_word _ = None
+
+abbrev pub type_of : Vocabulary → PlainTokenKind → Option MonType
+type_of ws (token.Word n) = type_of_word (word_at ws n)
+type_of ws (token.Number z t) = None
+type_of ws (token.Chars bytes) = None
+type_of ws (token.Mark m) = None
+type_of ws (token.Head k n) = None
+
+abbrev pub constant_of : Vocabulary → PlainTokenKind → Option MonType
+constant_of ws (token.Word n) = constant_of_word (word_at ws n)
+constant_of ws (token.Number z t) = None
+constant_of ws (token.Chars bytes) = None
+constant_of ws (token.Mark m) = None
+constant_of ws (token.Head k n) = None
+
+abbrev pub operator_mark : ℕ → Option MonOp
+operator_mark m =
+    if eqb m plus then Some Add else (if eqb m minus then Some Sub else (if eqb m times then Some Mul else (if eqb m divide then Some Div
+    else (if eqb m percent then Some Rem else (if eqb m shift_left then Some Shl else (if eqb m shift_right then Some Shr
+    else (if eqb m ampersand then Some And else (if eqb m bar then Some Or else (if eqb m caret then Some Xor
+    else (if eqb m equal then Some Eq else (if eqb m not_equal then Some Ne else (if eqb m less then Some Lt
+    else (if eqb m less_equal then Some Le else (if eqb m greater then Some Gt else (if eqb m greater_equal then Some Ge else None)))))))))))))))
+
+abbrev pub operator_of : PlainTokenKind → Option MonOp
+operator_of (token.Mark m) = operator_mark m
+operator_of (token.Word n) = None
+operator_of (token.Number z t) = None
+operator_of (token.Chars bytes) = None
+operator_of (token.Head k n) = None
+
+-- ---- what begins what
+
+abbrev pub first_operator : List ℕ
+first_operator =
+    mark_kind plus ∷ mark_kind minus ∷ mark_kind times ∷ mark_kind divide ∷ mark_kind percent ∷ mark_kind shift_left ∷ mark_kind shift_right
+    ∷ mark_kind ampersand ∷ mark_kind bar ∷ mark_kind caret ∷ mark_kind equal ∷ mark_kind not_equal ∷ mark_kind less ∷ mark_kind less_equal
+    ∷ mark_kind greater ∷ mark_kind greater_equal ∷ []
+
+abbrev pub first_expression : List ℕ
+first_expression = name_kind ∷ constant_kind ∷ mark_kind left_paren ∷ []
+
+abbrev pub first_argument : List ℕ
+first_argument = number_kind ∷ text_kind ∷ first_expression
+
+abbrev pub first_statement : List ℕ
+first_statement = name_kind ∷ mark_kind left_brace ∷ if_kind ∷ while_kind ∷ goto_kind ∷ return_kind ∷ []
+
+abbrev pub first_function : List ℕ
+first_function = type_kind ∷ void_kind ∷ []
+
+-- ---- trees
+
+abbrev pub parsed_list : List ParsedStatement → ParsedStatements
+parsed_list [] = NoStatement
+parsed_list (a ∷ rest) = Then a (parsed_list rest)
+
+-- the statements of a loop that are read so far: those before its step, and those behind it where it is read
+pub record LoopRead : Type 0 where
+  pub before : List ParsedStatement
+  pub behind : Option (List ParsedStatement)
+
+abbrev pub nothing_read : LoopRead
+nothing_read = record { before = []; behind = None }
+
+abbrev pub has_step : LoopRead → Bool
+has_step x = elim x.behind [ None ↦ false | Some b ↦ true ]
+
+abbrev pub behind_step : LoopRead → List ParsedStatement
+behind_step x = elim x.behind [ None ↦ [] | Some b ↦ b ]
+
+abbrev pub is_step_word : Word → Bool
+is_step_word (word.Runtime runtime.Step) = true
+is_step_word _ = false
+
+abbrev pub has_no_argument : List ParsedArgument → Bool
+has_no_argument [] = true
+has_no_argument (a ∷ more) = false
+
+-- the statement is `__e_acsl_step();`
+abbrev pub is_step : Vocabulary → ParsedStatement → Bool
+is_step ws (Call c) = is_step_word (word_at ws c.callee.number) && has_no_argument c.arguments
+is_step ws (Set x at e) = false
+is_step ws (Take x at c) = false
+is_step ws (If e a b) = false
+is_step ws (Loop a b) = false
+is_step ws (Labelled a l) = false
+is_step ws (Goto l) = false
+is_step ws (Return at e) = false
+
+abbrev pub with_statement : Vocabulary → LoopRead → ParsedStatement → LoopRead
+with_statement ws x a = elim x.behind [
+  | None ↦ if is_step ws a then record { before = x.before; behind = Some [] } else record { before = x.before ++ a ∷ []; behind = None }
+  | Some b ↦ record { before = x.before; behind = Some (b ++ a ∷ []) }
+]
+
+module _ (ws : Vocabulary) where
+  -- a token of this kind, by its place
+  abbrev pub fixed : ℕ → Syntax PlainToken Place
+  fixed k = one (λ t. cond (eqb (kind ws t) k) (Some t.place) None)
+
+  abbrev pub mark : ℕ → Syntax PlainToken Place
+  mark m = fixed (mark_kind m)
+
+  abbrev pub name_of : PlainTokenKind → Option ℕ
+  name_of (token.Word n) = cond (eqb (word_kind (word_at ws n)) name_kind) (Some n) None
+  name_of (token.Number z t) = None
+  name_of (token.Chars bytes) = None
+  name_of (token.Mark m) = None
+  name_of (token.Head k n) = None
+
+  -- NAME
+  unfoldable pub name : Syntax PlainToken NameUse
+  name = one (placed name_of) then λ x. gives (record { place = x.1; number = x.0 })
+
+  -- ---- expressions; O stands for a parenthesis that is opened, B for what stands behind it, up to its end
+
+  -- [ "-" ] NUMBER
+  unfoldable pub signed_number : Syntax PlainToken ℤ
+  signed_number =
+      choice (kind ws) (mark_kind minus ∷ []) (mark minus then λ _. one (placed number_of) then λ z. gives (neg_ℤ z.0))
+      (one (placed number_of) then λ z. gives z.0)
+
+  -- CONSTANT "(" [ "-" ] NUMBER ")"
+  unfoldable pub constant : Syntax PlainToken Place → Syntax PlainToken ParsedExpression
+  constant O = one (placed (constant_of ws)) then λ t. O then λ _. signed_number then λ z. mark right_paren then λ _. gives (Constant t.1 t.0 z)
+
+  -- an expression that is no NAME
+  unfoldable pub other_expression : Syntax PlainToken Place → Syntax PlainToken ParsedExpression → Syntax PlainToken ParsedExpression
+  other_expression O B = choice (kind ws) (constant_kind ∷ []) (constant O) (O then λ _. B)
+
+  unfoldable pub expression_with : Syntax PlainToken Place → Syntax PlainToken ParsedExpression → Syntax PlainToken ParsedExpression
+  expression_with O B = choice (kind ws) (name_kind ∷ []) (name then λ x. gives (Name x)) (other_expression O B)
+
+  -- operator expr ")"
+  unfoldable pub second_operand : Syntax PlainToken ParsedExpression → ParsedExpression → Syntax PlainToken ParsedExpression
+  second_operand E left = one (placed operator_of) then λ op. E then λ right. mark right_paren then λ _. gives (Binary op.1 op.0 left right)
+
+  -- "-" expr ")"
+  unfoldable pub negation : Syntax PlainToken ParsedExpression → Syntax PlainToken ParsedExpression
+  negation E = mark minus then λ at. E then λ e. mark right_paren then λ _. gives (Minus at e)
+
+  -- "~" expr ")"
+  unfoldable pub complement : Syntax PlainToken ParsedExpression → Syntax PlainToken ParsedExpression
+  complement E = mark tilde then λ at. E then λ e. mark right_paren then λ _. gives (Flip at e)
+
+  -- type ")" expr ")"
+  unfoldable pub cast : Syntax PlainToken ParsedExpression → Place → Syntax PlainToken ParsedExpression
+  cast E at = one (placed (type_of ws)) then λ t. mark right_paren then λ _. E then λ e. mark right_paren then λ _. gives (Cast at t.0 e)
+
+  -- what stands behind two parentheses: a cast, or a first operand that begins with the second of them
+  unfoldable pub behind_two : Syntax PlainToken ParsedExpression → Syntax PlainToken ParsedExpression → Place → Syntax PlainToken ParsedExpression
+  behind_two E B at = choice (kind ws) (type_kind ∷ []) (cast E at) (B then λ left. second_operand E left)
+
+  -- a first operand that begins with no parenthesis
+  unfoldable pub plain_operand : Syntax PlainToken Place → Syntax PlainToken ParsedExpression
+  plain_operand O = choice (kind ws) (name_kind ∷ []) (name then λ x. gives (Name x)) (constant O)
+
+  -- what stands behind a parenthesis, up to its end
+  unfoldable pub behind_paren : Syntax PlainToken Place → Syntax PlainToken ParsedExpression → Syntax PlainToken ParsedExpression
+  behind_paren O B =
+      choice (kind ws) (mark_kind minus ∷ []) (negation (expression_with O B))
+      (choice (kind ws) (mark_kind tilde ∷ []) (complement (expression_with O B))
+      (choice (kind ws) (mark_kind left_paren ∷ []) (O then λ at. behind_two (expression_with O B) B at)
+      (plain_operand O then λ left. second_operand (expression_with O B) left)))
+
+  -- a parenthesis, where n more may be opened
+  unfoldable pub opened : ℕ → Syntax PlainToken Place
+  opened zero = deep (kind ws) (mark_kind left_paren ∷ []) (mark left_paren)
+  opened (suc n) = mark left_paren
+
+  -- what stands behind a parenthesis that was opened where n more might be
+  unfoldable pub behind_opened : ℕ → Syntax PlainToken ParsedExpression
+  behind_opened zero = none
+  behind_opened (suc n) = behind_paren (opened n) (behind_opened n)
+
+  -- an expression in which n parentheses may be open at once
+  unfoldable pub expression_in : ℕ → Syntax PlainToken ParsedExpression
+  expression_in n = expression_with (opened n) (behind_opened n)
+
+  -- the limit of parentheses (this profile)
+  abbrev pub most_open_parens : ℕ
+  most_open_parens = 2000
+
+  unfoldable pub expression : Syntax PlainToken ParsedExpression
+  expression = expression_in most_open_parens
+
+  unfoldable pub expression_but_name : Syntax PlainToken ParsedExpression
+  expression_but_name = other_expression (opened most_open_parens) (behind_opened most_open_parens)
+
+  -- ---- calls
+
+  -- expr | NUMBER | STRING
+  unfoldable pub argument : Syntax PlainToken ParsedArgument
+  argument =
+      choice (kind ws) (number_kind ∷ []) (one (placed number_of) then λ z. gives (Number z.1 z.0))
+      (choice (kind ws) (text_kind ∷ []) (one (placed text_of) then λ s. gives (Text s.1 s.0)) (expression then λ e. gives (Value e)))
+
+  unfoldable pub next_argument : List ParsedArgument → Syntax PlainToken (List ParsedArgument)
+  next_argument xs = mark comma then λ _. argument then λ x. gives (xs ++ x ∷ [])
+
+  -- argument { "," argument }
+  unfoldable pub some_arguments : Syntax PlainToken (List ParsedArgument)
+  some_arguments = argument then λ x. many (kind ws) (λ _. mark_kind comma ∷ []) next_argument (x ∷ [])
+
+  -- [ argument { "," argument } ], at least one where it is asked for
+  unfoldable pub arguments : Bool → Syntax PlainToken (List ParsedArgument)
+  arguments some = cond some some_arguments (choice (kind ws) first_argument some_arguments (gives []))
+
+  -- "(" .. ")", of the name before it
+  unfoldable pub call_of : Bool → NameUse → Syntax PlainToken ParsedCall
+  call_of some f = mark left_paren then λ at. arguments some then λ xs. mark right_paren then λ _. gives (record { callee = f; place = at; arguments = xs })
+
+  -- ---- statements; S stands for a statement in a body, which is no `__e_acsl_step();` where it may be none
+
+  abbrev pub InBody : Type 1
+  InBody = Bool → Syntax PlainToken ParsedStatement
+
+  -- ";", behind a statement
+  unfoldable pub ended : ParsedStatement → Syntax PlainToken ParsedStatement
+  ended a = mark semicolon then λ _. gives a
+
+  unfoldable pub set_to_call : NameUse → Place → NameUse → Syntax PlainToken ParsedStatement
+  set_to_call x at f = call_of false f then λ c. ended (Take x at c)
+
+  -- behind NAME "=" NAME
+  unfoldable pub set_to_name : NameUse → Place → NameUse → Syntax PlainToken ParsedStatement
+  set_to_name x at y = choice (kind ws) (mark_kind left_paren ∷ []) (set_to_call x at y) (ended (Set x at (Name y)))
+
+  -- behind NAME "="
+  unfoldable pub set_to : NameUse → Place → Syntax PlainToken ParsedStatement
+  set_to x at = choice (kind ws) (name_kind ∷ []) (name then λ y. set_to_name x at y) (expression_but_name then λ e. ended (Set x at e))
+
+  -- behind a NAME
+  unfoldable pub behind_name : Bool → NameUse → Syntax PlainToken ParsedStatement
+  behind_name no_step x =
+      choice (kind ws) (mark_kind assign ∷ []) (mark assign then λ at. set_to x at)
+      (call_of (no_step && is_step_word (word_at ws x.number)) x then λ c. ended (Call c))
+
+  unfoldable pub one_more : InBody → List ParsedStatement → Syntax PlainToken (List ParsedStatement)
+  one_more S xs = S false then λ a. gives (xs ++ a ∷ [])
+
+  -- { statement }
+  unfoldable pub statements : InBody → Syntax PlainToken (List ParsedStatement)
+  statements S = many (kind ws) (λ _. first_statement) (one_more S) []
+
+  unfoldable pub body : InBody → Syntax PlainToken ParsedStatements
+  body S = mark left_brace then λ _. statements S then λ xs. mark right_brace then λ _. gives (parsed_list xs)
+
+  unfoldable pub selection : InBody → Syntax PlainToken ParsedStatement
+  selection S =
+      fixed if_kind then λ _. mark left_paren then λ _. expression then λ e. mark right_paren then λ _. body S then λ a. fixed else_kind then λ _. body S then λ b.
+      gives (If e a b)
+
+  unfoldable pub one_more_in_loop : InBody → LoopRead → Syntax PlainToken LoopRead
+  one_more_in_loop S x = S (has_step x) then λ a. gives (with_statement ws x a)
+
+  -- the end of a loop's body, which has its step
+  unfoldable pub loop_end : LoopRead → Syntax PlainToken ParsedStatement
+  loop_end x = cond (has_step x) (mark right_brace then λ _. gives (Loop (parsed_list x.before) (parsed_list (behind_step x)))) none
+
+  unfoldable pub iteration : InBody → Syntax PlainToken ParsedStatement
+  iteration S =
+      fixed while_kind then λ _. mark left_paren then λ _. one (placed is_one) then λ _. mark right_paren then λ _. mark left_brace then λ _.
+      many (kind ws) (λ _. first_statement) (one_more_in_loop S) nothing_read then λ x. loop_end x
+
+  -- body NAME ":" ";"
+  unfoldable pub labelled : InBody → Syntax PlainToken ParsedStatement
+  labelled S = body S then λ a. name then λ l. mark colon then λ _. ended (Labelled a l)
+
+  unfoldable pub jump : Syntax PlainToken ParsedStatement
+  jump = fixed goto_kind then λ _. name then λ l. ended (Goto l)
+
+  -- [ expr ] ";"
+  unfoldable pub returned : Place → Syntax PlainToken ParsedStatement
+  returned at = choice (kind ws) first_expression (expression then λ e. ended (Return at (Some e))) (ended (Return at None))
+
+  unfoldable pub return_statement : Syntax PlainToken ParsedStatement
+  return_statement = fixed return_kind then λ at. returned at
+
+  unfoldable pub statement_with : InBody → InBody
+  statement_with S no_step =
+      choice (kind ws) (name_kind ∷ []) (name then λ x. behind_name no_step x)
+      (choice (kind ws) (mark_kind left_brace ∷ []) (labelled S)
+      (choice (kind ws) (if_kind ∷ []) (selection S)
+      (choice (kind ws) (while_kind ∷ []) (iteration S)
+      (choice (kind ws) (goto_kind ∷ []) jump return_statement))))
+
+  -- a statement in which statements stand at most n deep, itself included
+  unfoldable pub statement_in : ℕ → InBody
+  statement_in zero no_step = deep (kind ws) first_statement (statement_with (λ _. none) no_step)
+  statement_in (suc n) no_step = statement_with (statement_in n) no_step
+
+  -- ---- functions and texts
+
+  -- the limit of depth, the function's body being 1 deep (this profile)
+  abbrev pub most_nested : ℕ
+  most_nested = 2000
+
+  -- type NAME ";"
+  unfoldable pub register : List ParsedRegister → Syntax PlainToken (List ParsedRegister)
+  register rs = one (placed (type_of ws)) then λ t. name then λ x. mark semicolon then λ _. gives (rs ++ record { kind = t.0; name = x } ∷ [])
+
+  unfoldable pub registers : Syntax PlainToken (List ParsedRegister)
+  registers = many (kind ws) (λ _. type_kind ∷ []) register []
+
+  -- type | "void"
+  unfoldable pub result : Syntax PlainToken (Option MonType)
+  result = choice (kind ws) (type_kind ∷ []) (one (placed (type_of ws)) then λ t. gives (Some t.0)) (fixed void_kind then λ _. gives None)
+
+  unfoldable pub function_body : Option MonType → NameUse → Syntax PlainToken ParsedFunction
+  function_body r f =
+      mark left_brace then λ _. registers then λ rs. statements (statement_in (most_nested - 1)) then λ xs. mark right_brace then λ _.
+      gives (record { result = r; name = f; registers = rs; body = parsed_list xs })
+
+  unfoldable pub function : Syntax PlainToken ParsedFunction
+  function = result then λ r. name then λ f. mark left_paren then λ _. fixed void_kind then λ _. mark right_paren then λ _. function_body r f
+
+  -- the head, on the first line
+  abbrev pub is_head : PlainToken → Option (Unit {0})
+  is_head t = cond (eqb (kind ws t) head_kind && eqb t.place.line 1) (Some tt) None
+
+  unfoldable pub text : Syntax PlainToken ParsedProgram
+  text = one is_head then λ _. choice (kind ws) first_function (function then λ f. gives (Some f)) (gives None)

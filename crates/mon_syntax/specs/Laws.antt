@@ -1,0 +1,75 @@
+-- Laws that the definitions meet: of arithmetic, of runs over one memory, and of runs over two.
+use Rattle.std.specs.Prelude.{◌≡◌, ℕ, ◌*◌, ◌^◌, ◌≤◌, ℤ, pos, ◌+ℤ◌, true, List, [], codes}
+use Rattle.c_syntax.specs.Programs.{TranslationUnit}
+use Rattle.c_model.specs.State.{Input}
+use Rattle.c_model.specs.Meaning as source
+use Rattle.c_model.specs.Reports.{Agrees}
+use Rattle.mon_syntax.specs.Trees.{MonStatement, Loop, MonStatements, MonFunction, MonitoredProgram}
+use Rattle.mon_syntax.specs.declared.tree.MonType.{MonType}
+use Rattle.mon_syntax.specs.Arithmetic.{bit_count, fits, wrap}
+use Rattle.mon_syntax.specs.Memory.{Memory}
+use Rattle.mon_syntax.specs.Meaning.{State, then_do, at_next, step_from, exec, exec_all, body_runs, level, ran, function_named, run}
+use Rattle.mon_syntax.specs.Memories.{block_run, flat_run}
+use Rattle.mon_syntax.specs.Valid.{IsValid}
+use Rattle.mon_syntax.specs.Text.{text_of}
+use Rattle.mon_syntax.specs.Spelled.{Spells}
+use Rattle.mon_syntax.specs.Translates.{Translates}
+use Rattle.mon_syntax.specs.Steps.{steps_after}
+
+-- ---- arithmetic
+
+-- a and b differ by a multiple of n
+pub record AreCongruent (n : ℕ) (a b : ℤ) : Type 0 where
+  pub first : ℕ
+  pub second : ℕ
+  pub is : a +ℤ pos (first * n) ≡ b +ℤ pos (second * n)
+
+-- a wrapped value is one of the type
+abbrev pub WrappedValuesFit : Type 0
+WrappedValuesFit = (t : MonType) (z : ℤ) → fits t (wrap t z) ≡ true
+
+-- it is congruent to what was wrapped, modulo 2 to the bits of the type
+abbrev pub WrappedValuesAreCongruent : Type 0
+WrappedValuesAreCongruent = (t : MonType) (z : ℤ) → AreCongruent (2 ^ bit_count t) (wrap t z) z
+
+-- a value of the type stays
+abbrev pub FittingValuesStand : Type 0
+FittingValuesStand = (t : MonType) (z : ℤ) → fits t z ≡ true → wrap t z ≡ z
+
+-- ---- runs over one memory
+
+-- more turns and deeper calls than steps change nothing
+abbrev pub FuelIsEnough : Memory → Type 0
+FuelIsEnough M = (fs : List MonFunction) (a : MonStatement) (k n : ℕ) (regs : List M.Val) (s : State M.Mem) → s.steps ≤ k → s.steps ≤ n → exec M a (level M fs k) k regs s ≡ exec M a (level M fs n) n regs s
+
+-- no step is gained
+abbrev pub StepsFall : Memory → Type 0
+StepsFall M = (fs : List MonFunction) (a : MonStatement) (n : ℕ) (regs : List M.Val) (s : State M.Mem) → s.steps ≤ n → steps_after (exec M a (level M fs n) n regs s) ≤ s.steps
+
+-- a loop is one turn and then the loop again: what stands before the step, the step, what stands behind it
+abbrev pub LoopsTurn : Memory → Type 0
+LoopsTurn M = (fs : List MonFunction) (a b : MonStatements) (n : ℕ) (regs : List M.Val) (s : State M.Mem) → s.steps ≤ n → exec M (Loop a b) (level M fs n) n regs s ≡ then_do (exec_all M a (level M fs n) n regs s) (at_next (λ r t. step_from t.steps (λ k. then_do (exec_all M b (level M fs n) n r (record t { steps = k })) (at_next (exec M (Loop a b) (level M fs n) n)))))
+
+-- a run is the same with any number of turns and calls from its steps on
+abbrev pub RunsNeedNoFuel : Memory → Type 0
+RunsNeedNoFuel M = (m : MonitoredProgram) (mem : M.Mem) (input : Input) (n k : ℕ) → n ≤ k → run M m mem input n ≡ ran M (body_runs M (function_named M (codes "main") m.functions) (level M m.functions k) k [] (record { mem = mem; steps = n; input = input }))
+
+-- a run leaves no more steps than it had
+abbrev pub RunsSpendSteps : Memory → Type 0
+RunsSpendSteps M = (m : MonitoredProgram) (mem : M.Mem) (input : Input) (n : ℕ) → (run M m mem input n).left ≤ n
+
+-- ---- runs over two memories
+
+-- a run over flat memory does what the run over blocks does, up to its first fault
+abbrev pub BlocksAgreeWithFlat : Type 0
+BlocksAgreeWithFlat = (m : MonitoredProgram) (input : Input) (n : ℕ) → Agrees (block_run m input n) (flat_run m input n)
+
+-- a valid program that does over blocks what the source does is a translation of it
+abbrev pub AgreementTranslates : Type 0
+AgreementTranslates = (p : TranslationUnit) (m : MonitoredProgram) → IsValid m → ((input : Input) (n : ℕ) → Agrees (source.run p input n) (block_run m input n)) → Translates p m
+
+-- ---- texts
+
+-- the text of a valid program spells it
+abbrev pub PrintedProgramsAreRead : Type 0
+PrintedProgramsAreRead = (m : MonitoredProgram) → IsValid m → Spells (text_of m) m

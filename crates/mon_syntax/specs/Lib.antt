@@ -1,0 +1,17 @@
+pub mod Trees
+pub mod Arithmetic
+pub mod Memory
+pub mod Meaning
+pub mod Memories
+pub mod Names
+pub mod Text
+pub mod Valid
+pub mod Words
+pub mod Parsed
+pub mod Grammar
+pub mod Checking
+pub mod Spelled
+pub mod Following
+pub mod Translates
+pub mod Steps
+pub mod Laws

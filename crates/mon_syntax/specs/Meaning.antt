@@ -1,0 +1,189 @@
+-- What a program in monitored C does, over any memory.
+use Rattle.std.specs.Prelude.{ℕ, zero, suc, ◌+◌, ◌-◌, ℤ, pos, List, [], ◌∷◌, ◌++◌, length, replicate, Option, Some, None, if◌then◌else◌, slice_get, slice_set, bytes_eq, codes}
+use Rattle.std.specs.Ordering.{int_eq}
+use Rattle.std.specs.Fmt.{signed_decimal}
+use Rattle.c_syntax.specs.declared.types.How.TheVariants as how
+use Rattle.c_model.specs.Integers.{byte_of}
+use Rattle.c_model.specs.State.{Input, Final, Exits, Broken, Fault, Spent, Full}
+use Rattle.c_model.specs.Meaning.{Ran}
+use Rattle.mon_syntax.specs.Trees.{MonExpression, Register, Constant, Binary, Minus, Flip, Cast, MonStatement, Set, Step, Assert, PutChar, Exit, PrintText, PrintSigned, PrintUnsigned, If, Loop, Labelled, Goto, Return, MonStatements, NoStatement, Then, MonFunction, MonitoredProgram}
+use Rattle.mon_syntax.specs.Arithmetic.{wrap, operate, minus, flipped}
+use Rattle.mon_syntax.specs.Memory.{Memory, Reply, Gives, IsFull, Faults}
+
+-- the memory, the steps that are left, and the input
+pub record State (Mem : Type 0) : Type 0 where
+  pub mem : Mem
+  pub steps : ℕ
+  pub input : Input
+
+-- what a part does: it gives a value, with the state after it and the bytes that it wrote, or the run ends there, with the
+-- steps left and the bytes written
+pub data Result (S A : Type 0) : Type 0 where
+  Done : A → S → List ℕ → Result S A
+  Stops : Final → ℕ → List ℕ → Result S A
+
+-- where control goes from a statement, with the registers: to the next one, to the end of a labelled body, out of the call
+pub data Flow (V : Type 0) : Type 0 where
+  Next : List V → Flow V
+  Goes : List ℕ → List V → Flow V
+  Returns : Option V → Flow V
+
+-- these bytes are written first
+abbrev pub writes : {S A : Type 0} → List ℕ → Result S A → Result S A
+writes o (Done a s p) = Done a s (o ++ p)
+writes o (Stops e n p) = Stops e n (o ++ p)
+
+-- one part and then another
+abbrev pub then_do : {S A B : Type 0} → Result S A → (A → S → Result S B) → Result S B
+then_do (Done a s o) go = writes o (go a s)
+then_do (Stops e n o) go = Stops e n o
+
+-- goes on where control comes to the next statement
+abbrev pub at_next : {S V : Type 0} → (List V → S → Result S (Flow V)) → Flow V → S → Result S (Flow V)
+at_next go (Next r) s = go r s
+at_next go (Goes l r) s = Done (Goes l r) s []
+at_next go (Returns v) s = Done (Returns v) s []
+
+-- a jump to this label ends here
+abbrev pub at_label : {S V : Type 0} → List ℕ → Flow V → S → Result S (Flow V)
+at_label l (Next r) s = Done (Next r) s []
+at_label l (Goes k r) s = if bytes_eq l k then Done (Next r) s [] else Done (Goes k r) s []
+at_label l (Returns v) s = Done (Returns v) s []
+
+infixl 10 ◌>>=◌
+-- there is no value where a part has none
+abbrev pub ◌>>=◌ : {A B : Type 0} → Option A → (A → Option B) → Option B
+None >>= go = None
+(Some a) >>= go = go a
+
+-- goes on with a value; without one the machine faults, with so many steps left
+abbrev pub with_value : {S A B : Type 0} → Option A → ℕ → (A → Result S B) → Result S B
+with_value None n go = Stops Fault n []
+with_value (Some a) n go = go a
+
+-- 0 chooses the second
+abbrev pub choose : {A : Type 0} → ℤ → A → A → A
+choose z a b = if int_eq z (pos 0) then b else a
+
+-- one step, where one is left
+abbrev pub step_from : {S A : Type 0} → ℕ → (ℕ → Result S A) → Result S A
+step_from zero go = Stops Spent 0 []
+step_from (suc n) go = go n
+
+-- the registers of a call: the arguments, and then 0 in each
+abbrev pub registers : {V : Type 0} → V → ℕ → List V → List V
+registers z n args = args ++ replicate (n - length args) z
+
+-- the value that a register is given, where one is named
+abbrev pub given_to : {V : Type 0} → Option ℕ → V → List V → List V
+given_to None v regs = regs
+given_to (Some r) v regs = slice_set regs r v
+
+module _ (M : Memory) where
+  abbrev pub number_or_none : Option ℤ → Option M.Val
+  number_or_none None = None
+  number_or_none (Some z) = Some (M.number z)
+
+  -- the value of an expression; there is none at a zero divisor, and where a number is wanted and there is none
+  abbrev pub eval : MonExpression → List M.Val → Option M.Val
+  eval (Register r) regs = slice_get regs r
+  eval (Constant t z) regs = Some (M.number z)
+  eval (Binary op t a b) regs = do
+    x ← eval a regs
+    y ← eval b regs
+    i ← M.number_of x
+    j ← M.number_of y
+    number_or_none (operate op t i j)
+  eval (Minus t a) regs = eval a regs >>= λ x. M.number_of x >>= λ i. Some (M.number (minus t i))
+  eval (Flip t a) regs = eval a regs >>= λ x. M.number_of x >>= λ i. Some (M.number (flipped t i))
+  eval (Cast t a) regs = eval a regs >>= λ x. M.number_of x >>= λ i. Some (M.number (wrap t i))
+
+  abbrev pub eval_number : MonExpression → List M.Val → Option ℤ
+  eval_number e regs = eval e regs >>= M.number_of
+
+  -- what a change of memory does
+  abbrev pub replied : Reply M.Mem M.Val → State M.Mem → Result (State M.Mem) M.Val
+  replied (Gives v m) s = Done v (record s { mem = m }) []
+  replied (IsFull g) s = Stops (Full g) s.steps []
+  replied Faults s = Stops Fault s.steps []
+
+  -- what a call of each function does
+  abbrev pub Calls : Type 0
+  Calls = ℕ → List M.Val → State M.Mem → Result (State M.Mem) M.Val
+
+  -- what statements do
+  abbrev pub Does : Type 0
+  Does = List M.Val → State M.Mem → Result (State M.Mem) (Flow M.Val)
+
+  -- an assertion stops where it is undefined (0), else where it is false (0)
+  abbrev pub judged : ℤ → ℤ → Final → Final → Result (State M.Mem) (Flow M.Val) → ℕ → Result (State M.Mem) (Flow M.Val)
+  judged d v undefined false_ go n = choose d (choose v go (Stops false_ n [])) (Stops undefined n [])
+
+  -- at most n turns of a loop: what stands before its step, the step, what stands behind it
+  abbrev pub turns : ℕ → Does → Does → Does
+  turns zero before behind regs s = then_do (before regs s) (at_next (λ r t. Stops Spent 0 []))
+  turns (suc n) before behind regs s =
+      then_do (before regs s) (at_next (λ r t. step_from t.steps (λ k. then_do (behind r (record t { steps = k })) (at_next (turns n before behind)))))
+
+  abbrev mutual
+    pub exec : MonStatement → Calls → ℕ → Does
+    exec (Set x e) calls n regs s = with_value (eval e regs) s.steps (λ v. Done (Next (slice_set regs x v)) s [])
+    exec Step calls n regs s = step_from s.steps (λ k. Done (Next regs) (record s { steps = k }) [])
+    exec (Assert d v number line kind) calls n regs s =
+        with_value (eval_number d regs) s.steps (λ i. with_value (eval_number v regs) s.steps (λ j.
+        judged i j (Broken number line kind how.Undefined) (Broken number line kind how.False) (Done (Next regs) s []) s.steps))
+    exec (PutChar x e) calls n regs s =
+        with_value (eval_number e regs) s.steps (λ i. Done (Next (given_to x (M.number (pos (byte_of i))) regs)) s (byte_of i ∷ []))
+    exec (Exit e) calls n regs s = with_value (eval_number e regs) s.steps (λ i. Stops (Exits i) s.steps [])
+    exec (PrintText bytes) calls n regs s = Done (Next regs) s bytes
+    exec (PrintSigned e) calls n regs s = with_value (eval_number e regs) s.steps (λ i. Done (Next regs) s (signed_decimal i))
+    exec (PrintUnsigned e) calls n regs s = with_value (eval_number e regs) s.steps (λ i. Done (Next regs) s (signed_decimal i))
+    exec (If e a b) calls n regs s = with_value (eval_number e regs) s.steps (λ i. choose i (exec_all a calls n regs s) (exec_all b calls n regs s))
+    exec (Loop a b) calls n regs s = turns n (exec_all a calls n) (exec_all b calls n) regs s
+    exec (Labelled a l) calls n regs s = then_do (exec_all a calls n regs s) (at_label l)
+    exec (Goto l) calls n regs s = Done (Goes l regs) s []
+    exec (Return None) calls n regs s = Done (Returns None) s []
+    exec (Return (Some e)) calls n regs s = with_value (eval e regs) s.steps (λ v. Done (Returns (Some v)) s [])
+
+    pub exec_all : MonStatements → Calls → ℕ → Does
+    exec_all NoStatement calls n regs s = Done (Next regs) s []
+    exec_all (Then a rest) calls n regs s = then_do (exec a calls n regs s) (at_next (exec_all rest calls n))
+
+  abbrev pub left_frame : State M.Mem → State M.Mem
+  left_frame s = record s { mem = M.leave s.mem }
+
+  -- what a body's end gives its caller: 0 where it comes to its end
+  abbrev pub at_return : Flow M.Val → State M.Mem → Result (State M.Mem) M.Val
+  at_return (Next r) s = Done (M.number (pos 0)) (left_frame s) []
+  at_return (Goes l r) s = Stops Fault s.steps []
+  at_return (Returns None) s = Done (M.number (pos 0)) (left_frame s) []
+  at_return (Returns (Some v)) s = Done v (left_frame s) []
+
+  -- a frame, and the body of a function
+  abbrev pub body_runs : Option MonFunction → Calls → ℕ → List M.Val → State M.Mem → Result (State M.Mem) M.Val
+  body_runs None calls n args s = Stops Fault s.steps []
+  body_runs (Some f) calls n args s =
+      then_do (replied (M.enter s.mem) s) (λ v t. then_do (exec_all f.body calls n (registers (M.number (pos 0)) (length f.parameters + length f.registers) args) t) at_return)
+
+  -- a call, where calls go at most n deep and each loop makes at most n turns
+  abbrev pub level : List MonFunction → ℕ → Calls
+  level fs zero f args s = Stops Spent 0 []
+  level fs (suc n) f args s = step_from s.steps (λ k. body_runs (slice_get fs f) (level fs n) n args (record s { steps = k }))
+
+  abbrev pub exit_of : Option ℤ → ℕ → List ℕ → Ran
+  exit_of None n o = record { final = Fault; output = o; left = n }
+  exit_of (Some z) n o = record { final = Exits z; output = o; left = n }
+
+  -- the end of the whole run
+  abbrev pub ran : Result (State M.Mem) M.Val → Ran
+  ran (Done v s o) = exit_of (M.number_of v) s.steps o
+  ran (Stops e n o) = record { final = e; output = o; left = n }
+
+  -- the function of a name
+  abbrev pub function_named : List ℕ → List MonFunction → Option MonFunction
+  function_named name [] = None
+  function_named name (f ∷ fs) = if bytes_eq f.name name then Some f else function_named name fs
+
+  -- the run of a program from a memory, on an input with n steps
+  abbrev pub run : MonitoredProgram → M.Mem → Input → ℕ → Ran
+  run m mem input n = ran (body_runs (function_named (codes "main") m.functions) (level m.functions n) n [] (record { mem = mem; steps = n; input = input }))

@@ -1,0 +1,20 @@
+-- What a memory is to a monitored program: its values, its numbers, and the frames of its calls.
+use Rattle.std.specs.Prelude.{ℤ, Option}
+use Rattle.c_syntax.specs.declared.types.Segment.{Segment}
+
+-- what a change of memory answers: a value and the memory after it, or that a segment is full, or a fault
+pub data Reply (Mem Val : Type 0) : Type 0 where
+  Gives : Val → Mem → Reply Mem Val
+  IsFull : Segment → Reply Mem Val
+  Faults : Reply Mem Val
+
+pub record Memory : Type 1 where
+  pub Mem : Type 0
+  -- what a register holds
+  pub Val : Type 0
+  -- a number as a value, and the number of a value that is one
+  pub number : ℤ → Val
+  pub number_of : Val → Option ℤ
+  -- the frame of a call, and its end
+  pub enter : Mem → Reply Mem Val
+  pub leave : Mem → Mem

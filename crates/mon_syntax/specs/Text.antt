@@ -1,0 +1,202 @@
+-- The text of a program in monitored C: one statement a line, indented by two blanks for each body around it.
+use Rattle.std.specs.Prelude.{ℕ, suc, ◌+◌, ◌*◌, ◌/◌, ◌%◌, ℤ, pos, negsuc, List, [], ◌∷◌, ◌++◌, replicate, Option, Some, None, Bool, not, ◌&&◌, if◌then◌else◌, nat_le, nat_eq, slice_get, codes}
+use Rattle.std.specs.Fmt.{decimal}
+use Rattle.c_model.specs.Reports.{kind_word}
+use Rattle.mon_syntax.specs.declared.tree.MonType.{MonType}
+use Rattle.mon_syntax.specs.declared.tree.MonOp.{MonOp}
+use Rattle.mon_syntax.specs.declared.tree.MonOp.TheVariants.{Add, Sub, Mul, Div, Rem, Shl, Shr, And, Or, Xor, Eq, Ne, Lt, Le, Gt, Ge}
+use Rattle.mon_syntax.specs.Trees.{MonExpression, Register, Constant, Binary, Minus, Flip, Cast, MonStatement, Set, Step, Assert, PutChar, Exit, PrintText, PrintSigned, PrintUnsigned, If, Loop, Labelled, Goto, Return, MonStatements, NoStatement, Then, MonRegister, MonFunction, MonitoredProgram}
+use Rattle.mon_syntax.specs.Names.{type_word, constant_word}
+
+-- ---- pieces of a text
+
+pub data Piece : Type 0 where
+  -- the first line
+  Head : Piece
+  Word : List ℕ → Piece
+  Number : ℕ → Piece
+  -- a string of these bytes
+  Quoted : List ℕ → Piece
+  Mark : List ℕ → Piece
+  Blanks : List ℕ → Piece
+
+-- a byte that stands for itself in a string: 32 to 126, without `"` and `\`
+abbrev pub is_plain : ℕ → Bool
+is_plain b = nat_le 32 b && nat_le b 126 && not (nat_eq b 34) && not (nat_eq b 92)
+
+-- another is `\` and three octal digits
+abbrev pub escaped : ℕ → List ℕ
+escaped b = if is_plain b then b ∷ [] else 92 ∷ (48 + b / 64) ∷ (48 + b / 8 % 8) ∷ (48 + b % 8) ∷ []
+
+abbrev pub quoted : List ℕ → List ℕ
+quoted [] = 34 ∷ []
+quoted (b ∷ bs) = escaped b ++ quoted bs
+
+abbrev pub spelled_piece : Piece → List ℕ
+spelled_piece Head = codes "#include <e_acsl.h>"
+spelled_piece (Word w) = w
+spelled_piece (Number n) = decimal n
+spelled_piece (Quoted bytes) = 34 ∷ quoted bytes
+spelled_piece (Mark m) = m
+spelled_piece (Blanks b) = b
+
+abbrev pub spelled : List Piece → List ℕ
+spelled [] = []
+spelled (p ∷ ps) = spelled_piece p ++ spelled ps
+
+abbrev pub blank : Piece
+blank = Blanks (32 ∷ [])
+
+-- the end of a line, and the blanks in front of the next one, inside so many bodies
+abbrev pub new_line : ℕ → Piece
+new_line depth = Blanks (10 ∷ replicate (2 * depth) 32)
+
+abbrev pub left_paren : Piece
+left_paren = Mark (codes "(")
+
+abbrev pub right_paren : Piece
+right_paren = Mark (codes ")")
+
+abbrev pub comma : List Piece
+comma = Mark (codes ",") ∷ blank ∷ []
+
+abbrev pub semicolon : Piece
+semicolon = Mark (codes ";")
+
+-- ---- expressions
+
+abbrev pub operator_mark : MonOp → List ℕ
+operator_mark Add = codes "+"
+operator_mark Sub = codes "-"
+operator_mark Mul = codes "*"
+operator_mark Div = codes "/"
+operator_mark Rem = codes "%"
+operator_mark Shl = codes "<<"
+operator_mark Shr = codes ">>"
+operator_mark And = codes "&"
+operator_mark Or = codes "|"
+operator_mark Xor = codes "^"
+operator_mark Eq = codes "=="
+operator_mark Ne = codes "!="
+operator_mark Lt = codes "<"
+operator_mark Le = codes "<="
+operator_mark Gt = codes ">"
+operator_mark Ge = codes ">="
+
+-- the names of registers, by number
+abbrev pub Registers : Type 0
+Registers = List MonRegister
+
+abbrev pub name_or_none : Option MonRegister → List ℕ
+name_or_none None = []
+name_or_none (Some r) = r.name
+
+abbrev pub name_of : Registers → ℕ → List ℕ
+name_of rs r = name_or_none (slice_get rs r)
+
+abbrev pub number_pieces : ℤ → List Piece
+number_pieces (pos n) = Number n ∷ []
+number_pieces (negsuc n) = Mark (codes "-") ∷ Number (suc n) ∷ []
+
+abbrev pub expression_pieces : Registers → MonExpression → List Piece
+expression_pieces rs (Register r) = Word (name_of rs r) ∷ []
+expression_pieces rs (Constant t z) = Word (constant_word t) ∷ left_paren ∷ (number_pieces z ++ (right_paren ∷ []))
+expression_pieces rs (Binary op t a b) =
+    left_paren ∷ (expression_pieces rs a ++ (blank ∷ Mark (operator_mark op) ∷ blank ∷ (expression_pieces rs b ++ (right_paren ∷ []))))
+expression_pieces rs (Minus t a) = left_paren ∷ Mark (codes "-") ∷ (expression_pieces rs a ++ (right_paren ∷ []))
+expression_pieces rs (Flip t a) = left_paren ∷ Mark (codes "~") ∷ (expression_pieces rs a ++ (right_paren ∷ []))
+expression_pieces rs (Cast t a) =
+    left_paren ∷ left_paren ∷ Word (type_word t) ∷ right_paren ∷ (expression_pieces rs a ++ (right_paren ∷ []))
+
+-- ---- statements
+
+-- NAME(..);
+abbrev pub call_pieces : List ℕ → List Piece → List Piece
+call_pieces name arguments = Word name ∷ left_paren ∷ (arguments ++ (right_paren ∷ semicolon ∷ []))
+
+-- R =
+abbrev pub set_pieces : List ℕ → List Piece
+set_pieces name = Word name ∷ blank ∷ Mark (codes "=") ∷ blank ∷ []
+
+abbrev pub set_or_none : Registers → Option ℕ → List Piece
+set_or_none rs None = []
+set_or_none rs (Some r) = set_pieces (name_of rs r)
+
+abbrev pub assert_arguments : Registers → MonExpression → MonExpression → ℕ → ℕ → List ℕ → List Piece
+assert_arguments rs d v number line kind =
+    expression_pieces rs d ++ (comma ++ (expression_pieces rs v ++ (comma ++ (Number number ∷ (comma ++ (Number line ∷ (comma ++ (Quoted kind ∷ []))))))))
+
+-- (e)
+abbrev pub in_parens : List Piece → List Piece
+in_parens inner = left_paren ∷ (inner ++ (right_paren ∷ []))
+
+abbrev pub word_statement : List ℕ → List Piece → List Piece
+word_statement word rest = Word word ∷ blank ∷ (rest ++ (semicolon ∷ []))
+
+abbrev mutual
+  pub statement_pieces : Registers → ℕ → MonStatement → List Piece
+  statement_pieces rs depth (Set r e) = set_pieces (name_of rs r) ++ (expression_pieces rs e ++ (semicolon ∷ []))
+  statement_pieces rs depth Step = call_pieces (codes "__e_acsl_step") []
+  statement_pieces rs depth (Assert d v number line kind) = call_pieces (codes "__e_acsl_assert") (assert_arguments rs d v number line (kind_word kind))
+  statement_pieces rs depth (PutChar r e) = set_or_none rs r ++ call_pieces (codes "putchar") (expression_pieces rs e)
+  statement_pieces rs depth (Exit e) = call_pieces (codes "exit") (expression_pieces rs e)
+  statement_pieces rs depth (PrintText bytes) = call_pieces (codes "__e_acsl_print_text") (Quoted bytes ∷ [])
+  statement_pieces rs depth (PrintSigned e) = call_pieces (codes "__e_acsl_print_i64") (expression_pieces rs e)
+  statement_pieces rs depth (PrintUnsigned e) = call_pieces (codes "__e_acsl_print_u64") (expression_pieces rs e)
+  statement_pieces rs depth (If e a b) =
+      Word (codes "if") ∷ blank ∷ (in_parens (expression_pieces rs e) ++ (blank ∷ (body_pieces rs depth a ++ (blank ∷ Word (codes "else") ∷ blank ∷ body_pieces rs depth b))))
+  statement_pieces rs depth (Loop a b) =
+      Word (codes "while") ∷ blank ∷ (in_parens (Number 1 ∷ []) ++ (blank ∷ Mark (codes "{") ∷ (statements_pieces rs (depth + 1) a
+      ++ (new_line (depth + 1) ∷ (call_pieces (codes "__e_acsl_step") [] ++ (statements_pieces rs (depth + 1) b ++ (new_line depth ∷ Mark (codes "}") ∷ [])))))))
+  statement_pieces rs depth (Labelled a l) = body_pieces rs depth a ++ (blank ∷ Word l ∷ Mark (codes ":") ∷ blank ∷ semicolon ∷ [])
+  statement_pieces rs depth (Goto l) = word_statement (codes "goto") (Word l ∷ [])
+  statement_pieces rs depth (Return None) = Word (codes "return") ∷ semicolon ∷ []
+  statement_pieces rs depth (Return (Some e)) = word_statement (codes "return") (expression_pieces rs e)
+
+  -- { .. }, with its end on a line of its own where statements stand in it
+  pub body_pieces : Registers → ℕ → MonStatements → List Piece
+  body_pieces rs depth NoStatement = Mark (codes "{") ∷ blank ∷ Mark (codes "}") ∷ []
+  body_pieces rs depth (Then a rest) =
+      Mark (codes "{") ∷ new_line (depth + 1) ∷ (statement_pieces rs (depth + 1) a ++ (statements_pieces rs (depth + 1) rest ++ (new_line depth ∷ Mark (codes "}") ∷ [])))
+
+  -- each statement on a line of its own
+  pub statements_pieces : Registers → ℕ → MonStatements → List Piece
+  statements_pieces rs depth NoStatement = []
+  statements_pieces rs depth (Then a rest) = new_line depth ∷ (statement_pieces rs depth a ++ statements_pieces rs depth rest)
+
+-- ---- functions
+
+abbrev pub result_word : Option MonType → List ℕ
+result_word None = codes "void"
+result_word (Some t) = type_word t
+
+abbrev pub parameter_pieces : MonRegister → List Piece
+parameter_pieces r = Word (type_word r.kind) ∷ blank ∷ Word r.name ∷ []
+
+abbrev pub more_parameters : Registers → List Piece
+more_parameters [] = []
+more_parameters (r ∷ rs) = comma ++ (parameter_pieces r ++ more_parameters rs)
+
+abbrev pub parameters_pieces : Registers → List Piece
+parameters_pieces [] = Word (codes "void") ∷ []
+parameters_pieces (r ∷ rs) = parameter_pieces r ++ more_parameters rs
+
+abbrev pub registers_pieces : Registers → List Piece
+registers_pieces [] = []
+registers_pieces (r ∷ rs) = new_line 1 ∷ Word (type_word r.kind) ∷ blank ∷ Word r.name ∷ semicolon ∷ registers_pieces rs
+
+abbrev pub function_pieces : MonFunction → List Piece
+function_pieces f =
+    Word (result_word f.result) ∷ blank ∷ Word f.name ∷ (in_parens (parameters_pieces f.parameters) ++ (blank ∷ Mark (codes "{")
+    ∷ (registers_pieces f.registers ++ (statements_pieces (f.parameters ++ f.registers) 1 f.body ++ (new_line 0 ∷ Mark (codes "}") ∷ new_line 0 ∷ [])))))
+
+abbrev pub functions_pieces : List MonFunction → List Piece
+functions_pieces [] = []
+functions_pieces (f ∷ fs) = function_pieces f ++ functions_pieces fs
+
+abbrev pub program_pieces : MonitoredProgram → List Piece
+program_pieces m = Head ∷ new_line 0 ∷ functions_pieces m.functions
+
+-- the text of a program
+abbrev pub text_of : MonitoredProgram → List ℕ
+text_of m = spelled (program_pieces m)

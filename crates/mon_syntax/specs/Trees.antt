@@ -1,0 +1,104 @@
+-- The plain form of programs in monitored C: without boxes and vectors.
+use Rattle.std.specs.Prelude.{ℕ, ℤ, List, [], ◌∷◌, map, Option, option_map}
+use Rattle.c_syntax.specs.declared.annotation.Kind.{Kind}
+use Rattle.mon_syntax.specs.declared.tree.MonType.{MonType}
+use Rattle.mon_syntax.specs.declared.tree.MonOp.{MonOp}
+use Rattle.mon_syntax.specs.declared.tree.MonExpr.{MonExpr}
+use Rattle.mon_syntax.specs.declared.tree.MonExpr as code
+use Rattle.mon_syntax.specs.declared.tree.MonStmt.{MonStmt, Row_of-MonStmt, end_of-MonStmt, more_of-MonStmt}
+use Rattle.mon_syntax.specs.declared.tree.MonStmt as stmt
+use Rattle.mon_syntax.specs.declared.tree.Register as code_register
+use Rattle.mon_syntax.specs.declared.tree.MonFunc.{MonFunc}
+use Rattle.mon_syntax.specs.declared.tree.MonProgram.{MonProgram}
+
+pub data MonExpression : Type 0 where
+  Register : ℕ → MonExpression
+  Constant : MonType → ℤ → MonExpression
+  Binary : MonOp → MonType → MonExpression → MonExpression → MonExpression
+  Minus : MonType → MonExpression → MonExpression
+  Flip : MonType → MonExpression → MonExpression
+  Cast : MonType → MonExpression → MonExpression
+
+mutual
+  pub data MonStatement : Type 0 where
+    Set : ℕ → MonExpression → MonStatement
+    Step : MonStatement
+    -- whether the annotation is defined, whether it is true, its number, its line and its kind
+    Assert : MonExpression → MonExpression → ℕ → ℕ → Kind → MonStatement
+    PutChar : Option ℕ → MonExpression → MonStatement
+    Exit : MonExpression → MonStatement
+    PrintText : List ℕ → MonStatement
+    PrintSigned : MonExpression → MonStatement
+    PrintUnsigned : MonExpression → MonStatement
+    If : MonExpression → MonStatements → MonStatements → MonStatement
+    -- what stands before the loop's step, and what behind it
+    Loop : MonStatements → MonStatements → MonStatement
+    Labelled : MonStatements → List ℕ → MonStatement
+    Goto : List ℕ → MonStatement
+    Return : Option MonExpression → MonStatement
+
+  pub data MonStatements : Type 0 where
+    NoStatement : MonStatements
+    Then : MonStatement → MonStatements → MonStatements
+
+pub record MonRegister : Type 0 where
+  pub kind : MonType
+  pub name : List ℕ
+
+pub record MonFunction : Type 0 where
+  -- none for `void`
+  pub result : Option MonType
+  pub name : List ℕ
+  pub parameters : List MonRegister
+  pub registers : List MonRegister
+  pub body : MonStatements
+
+pub record MonitoredProgram : Type 0 where
+  pub functions : List MonFunction
+
+abbrev pub plain_expr : MonExpr → MonExpression
+plain_expr (code.Register r) = Register r
+plain_expr (code.Constant t z) = Constant t z
+plain_expr (code.Binary' op t p a q b) = Binary op t (plain_expr a) (plain_expr b)
+plain_expr (code.Minus' t p a) = Minus t (plain_expr a)
+plain_expr (code.Flip' t p a) = Flip t (plain_expr a)
+plain_expr (code.Cast' t p a) = Cast t (plain_expr a)
+
+abbrev mutual
+  pub plain_stmt : MonStmt → MonStatement
+  plain_stmt (stmt.Set r e) = Set r (plain_expr e)
+  plain_stmt stmt.Step = Step
+  plain_stmt (stmt.Assert d v number line kind) = Assert (plain_expr d) (plain_expr v) number line kind
+  plain_stmt (stmt.PutChar r e) = PutChar r (plain_expr e)
+  plain_stmt (stmt.Exit e) = Exit (plain_expr e)
+  plain_stmt (stmt.PrintText bytes) = PrintText bytes
+  plain_stmt (stmt.PrintSigned e) = PrintSigned (plain_expr e)
+  plain_stmt (stmt.PrintUnsigned e) = PrintUnsigned (plain_expr e)
+  plain_stmt (stmt.If' e p a q b) = If (plain_expr e) (plain_stmt_row a) (plain_stmt_row b)
+  plain_stmt (stmt.Loop' p a q b) = Loop (plain_stmt_row a) (plain_stmt_row b)
+  plain_stmt (stmt.Labelled' p a label) = Labelled (plain_stmt_row a) label
+  plain_stmt (stmt.Goto label) = Goto label
+  plain_stmt (stmt.Return e) = Return (option_map plain_expr e)
+
+  pub plain_stmt_row : {m : _} → Row_of-MonStmt m → MonStatements
+  plain_stmt_row end_of-MonStmt = NoStatement
+  plain_stmt_row (more_of-MonStmt a rest) = Then (plain_stmt a) (plain_stmt_row rest)
+
+abbrev pub plain_stmts : List MonStmt → MonStatements
+plain_stmts [] = NoStatement
+plain_stmts (a ∷ rest) = Then (plain_stmt a) (plain_stmts rest)
+
+abbrev pub plain_register : code_register.Register → MonRegister
+plain_register r = record { kind = r.kind; name = r.name }
+
+abbrev pub plain_func : MonFunc → MonFunction
+plain_func f = record {
+  result = f.result;
+  name = f.name;
+  parameters = map plain_register f.parameters.items;
+  registers = map plain_register f.registers.items;
+  body = plain_stmts f.body.items;
+}
+
+abbrev pub plain_program : MonProgram → MonitoredProgram
+plain_program m = record { functions = map plain_func m.functions.items }

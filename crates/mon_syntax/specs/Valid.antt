@@ -1,0 +1,203 @@
+-- Which programs in monitored C are valid: names, types, labels, the step of each loop, and limits.
+use Rattle.std.specs.Prelude.{◌≡◌, ℕ, suc, ◌≤◌, ◌<◌, max, ℤ, neg_ℤ, pos, ◌^◌, Bool, true, false, not, ◌&&◌, if◌then◌else◌, List, [], ◌∷◌, ◌++◌, map, Option, Some, None, slice_get, codes, bytes_eq}
+use Rattle.std.specs.Ordering.{int_eq}
+use Rattle.std.specs.List.{list_any, AllByRecursion}
+use Rattle.mon_syntax.specs.declared.tree.MonType.{MonType}
+use Rattle.mon_syntax.specs.declared.tree.MonType.TheVariants.{I8, U8, I16, U16, I32, U32, I64, U64, I128}
+use Rattle.mon_syntax.specs.declared.tree.MonOp.{MonOp}
+use Rattle.mon_syntax.specs.declared.tree.MonOp.TheVariants.{Add, Sub, Mul, Div, Rem, Shl, Shr, And, Or, Xor, Eq, Ne, Lt, Le, Gt, Ge}
+use Rattle.mon_syntax.specs.Trees.{MonExpression, Register, Constant, Binary, Minus, Flip, Cast, MonStatement, Set, Step, Assert, PutChar, Exit, PrintText, PrintSigned, PrintUnsigned, If, Loop, Labelled, Goto, Return, MonStatements, NoStatement, Then, MonRegister, MonFunction, MonitoredProgram}
+use Rattle.mon_syntax.specs.Arithmetic.{fits}
+use Rattle.mon_syntax.specs.Names.{IsFreeName}
+
+-- ---- types of expressions
+
+-- the types that operators work on
+abbrev pub is_arithmetic : MonType → Bool
+is_arithmetic I8 = false
+is_arithmetic U8 = false
+is_arithmetic I16 = false
+is_arithmetic U16 = false
+is_arithmetic I32 = true
+is_arithmetic U32 = true
+is_arithmetic I64 = true
+is_arithmetic U64 = true
+is_arithmetic I128 = true
+
+abbrev pub is_relation : MonOp → Bool
+is_relation Add = false
+is_relation Sub = false
+is_relation Mul = false
+is_relation Div = false
+is_relation Rem = false
+is_relation Shl = false
+is_relation Shr = false
+is_relation And = false
+is_relation Or = false
+is_relation Xor = false
+is_relation Eq = true
+is_relation Ne = true
+is_relation Lt = true
+is_relation Le = true
+is_relation Gt = true
+is_relation Ge = true
+
+-- a relation gives an i32, another operator its operands' type
+abbrev pub result_type : MonOp → MonType → MonType
+result_type op t = if is_relation op then I32 else t
+
+-- a constant has a value of its type, which is not the least one of i128
+abbrev pub has_constant : MonType → ℤ → Bool
+has_constant t z = fits t z && not (int_eq z (neg_ℤ (pos (2 ^ 127))))
+
+-- the types of a function's registers, by number
+abbrev pub Types : Type 0
+Types = List MonType
+
+-- the expression has this type
+abbrev pub HasType : Types → MonExpression → MonType → Type 0
+HasType ts (Register r) t = slice_get ts r ≡ Some t
+HasType ts (Constant k z) t = (k ≡ t) × (has_constant k z ≡ true)
+HasType ts (Binary op k a b) t = (result_type op k ≡ t) × (is_arithmetic k ≡ true) × HasType ts a k × HasType ts b k
+HasType ts (Minus k a) t = (k ≡ t) × (is_arithmetic k ≡ true) × HasType ts a k
+HasType ts (Flip k a) t = (k ≡ t) × (is_arithmetic k ≡ true) × HasType ts a k
+HasType ts (Cast k a) t = (k ≡ t) × ((from : MonType) × HasType ts a from)
+
+-- how many parentheses are open at once in the text of an expression
+abbrev pub open_parens : MonExpression → ℕ
+open_parens (Register r) = 0
+open_parens (Constant t z) = 1
+open_parens (Binary op t a b) = suc (max (open_parens a) (open_parens b))
+open_parens (Minus t a) = suc (open_parens a)
+open_parens (Flip t a) = suc (open_parens a)
+open_parens (Cast t a) = suc (max 1 (open_parens a))
+
+-- the limits of this profile: parentheses open at once in an expression, and the depth of statements
+abbrev pub most_open_parens : ℕ
+most_open_parens = 2000
+
+abbrev pub most_nested : ℕ
+most_nested = 2000
+
+-- an expression of the type, within the limit
+pub record IsExpression (ts : Types) (e : MonExpression) (t : MonType) : Type 0 where
+  pub typed : HasType ts e t
+  pub within : open_parens e ≤ most_open_parens
+
+-- ---- statements
+
+-- the labels of the bodies around a statement
+abbrev pub Labels : Type 0
+Labels = List (List ℕ)
+
+abbrev pub has_label : Labels → List ℕ → Bool
+has_label ls l = list_any (bytes_eq l) ls
+
+-- a number that stands as an argument
+abbrev pub greatest_number : ℕ
+greatest_number = 4294967295
+
+-- the register that takes the result of a call has its type
+abbrev pub TakesResult : Types → Option ℕ → MonType → Type 0
+TakesResult ts None t = Unit {0}
+TakesResult ts (Some r) t = slice_get ts r ≡ Some t
+
+abbrev pub is_step : MonStatement → Bool
+is_step (Set r e) = false
+is_step Step = true
+is_step (Assert d v number line kind) = false
+is_step (PutChar r e) = false
+is_step (Exit e) = false
+is_step (PrintText bytes) = false
+is_step (PrintSigned e) = false
+is_step (PrintUnsigned e) = false
+is_step (If e a b) = false
+is_step (Loop a b) = false
+is_step (Labelled a l) = false
+is_step (Goto l) = false
+is_step (Return e) = false
+
+-- no step stands directly in these statements
+abbrev pub has_no_step : MonStatements → Bool
+has_no_step NoStatement = true
+has_no_step (Then a rest) = not (is_step a) && has_no_step rest
+
+abbrev pub ReturnsResult : Types → Option MonType → Option MonExpression → Type 0
+ReturnsResult ts None None = Unit {0}
+ReturnsResult ts None (Some e) = ⊥
+ReturnsResult ts (Some t) None = ⊥
+ReturnsResult ts (Some t) (Some e) = IsExpression ts e t
+
+-- the statement is valid in a function of the result, inside bodies of these labels
+abbrev mutual
+  pub IsStatement : Types → Option MonType → Labels → MonStatement → Type 0
+  IsStatement ts result ls (Set r e) = (t : MonType) × (slice_get ts r ≡ Some t) × IsExpression ts e t
+  IsStatement ts result ls Step = Unit {0}
+  IsStatement ts result ls (Assert d v number line kind) = IsExpression ts d I32 × IsExpression ts v I32 × (number ≤ greatest_number) × (line ≤ greatest_number)
+  IsStatement ts result ls (PutChar r e) = TakesResult ts r I32 × IsExpression ts e I32
+  IsStatement ts result ls (Exit e) = IsExpression ts e I32
+  IsStatement ts result ls (PrintText bytes) = AllByRecursion (λ b. b < 256) bytes
+  IsStatement ts result ls (PrintSigned e) = IsExpression ts e I64
+  IsStatement ts result ls (PrintUnsigned e) = IsExpression ts e U64
+  IsStatement ts result ls (If e a b) = IsExpression ts e I32 × AreStatements ts result ls a × AreStatements ts result ls b
+  IsStatement ts result ls (Loop a b) = (has_no_step a ≡ true) × (has_no_step b ≡ true) × AreStatements ts result ls a × AreStatements ts result ls b
+  IsStatement ts result ls (Labelled a l) = IsFreeName l × (has_label ls l ≡ false) × AreStatements ts result (l ∷ ls) a
+  IsStatement ts result ls (Goto l) = has_label ls l ≡ true
+  IsStatement ts result ls (Return e) = ReturnsResult ts result e
+
+  pub AreStatements : Types → Option MonType → Labels → MonStatements → Type 0
+  AreStatements ts result ls NoStatement = Unit {0}
+  AreStatements ts result ls (Then a rest) = IsStatement ts result ls a × AreStatements ts result ls rest
+
+-- how deep statements stand in one another: one in a body is one deeper than the statement of the body
+abbrev mutual
+  pub depth : MonStatement → ℕ
+  depth (Set r e) = 1
+  depth Step = 1
+  depth (Assert d v number line kind) = 1
+  depth (PutChar r e) = 1
+  depth (Exit e) = 1
+  depth (PrintText bytes) = 1
+  depth (PrintSigned e) = 1
+  depth (PrintUnsigned e) = 1
+  depth (If e a b) = suc (max (depth_of_all a) (depth_of_all b))
+  -- the step of a loop is a statement in its body
+  depth (Loop a b) = suc (max 1 (max (depth_of_all a) (depth_of_all b)))
+  depth (Labelled a l) = suc (depth_of_all a)
+  depth (Goto l) = 1
+  depth (Return e) = 1
+
+  pub depth_of_all : MonStatements → ℕ
+  depth_of_all NoStatement = 0
+  depth_of_all (Then a rest) = max (depth a) (depth_of_all rest)
+
+-- ---- programs
+
+-- each register has a free name of its own
+abbrev pub AreRegisters : List (List ℕ) → List MonRegister → Type 0
+AreRegisters before [] = Unit {0}
+AreRegisters before (r ∷ rs) = IsFreeName r.name × (has_label before r.name ≡ false) × AreRegisters (r.name ∷ before) rs
+
+abbrev pub types_of : List MonRegister → Types
+types_of rs = map (λ (r : MonRegister). r.kind) rs
+
+-- a function
+pub record IsFunction (f : MonFunction) : Type 0 where
+  pub name : IsFreeName f.name
+  pub registers : AreRegisters [] (f.parameters ++ f.registers)
+  pub body : AreStatements (types_of (f.parameters ++ f.registers)) f.result [] f.body
+  -- the body itself is 1 deep
+  pub within : suc (depth_of_all f.body) ≤ most_nested
+
+-- `i32 main(void)`
+pub record IsMain (f : MonFunction) : Type 0 where
+  pub name : f.name ≡ codes "main"
+  pub result : f.result ≡ Some I32
+  pub no_parameters : f.parameters ≡ []
+
+-- one function, which is `main`
+pub record IsValid (m : MonitoredProgram) : Type 0 where
+  pub main : MonFunction
+  pub functions : m.functions ≡ main ∷ []
+  pub is_function : IsFunction main
+  pub is_main : IsMain main

@@ -1,0 +1,44 @@
+//! The laws that the definitions meet, one function for each subject. None of them has anything to do.
+
+ghost use Rattle.mon_syntax.specs.Memories.{over_blocks, over_flat};
+ghost use Rattle.mon_syntax.specs.Laws.{WrappedValuesFit, WrappedValuesAreCongruent, FittingValuesStand};
+ghost use Rattle.mon_syntax.specs.Laws.{FuelIsEnough, StepsFall, LoopsTurn, RunsNeedNoFuel, RunsSpendSteps};
+ghost use Rattle.mon_syntax.specs.Laws.{BlocksAgreeWithFlat, AgreementTranslates};
+ghost use Rattle.mon_syntax.specs.Laws.{PrintedProgramsAreRead};
+
+/// Arithmetic: a result wraps to the one value of its type that is congruent to it, modulo 2 to the bits of the type.
+pub fn arithmetic()
+    ensures fits { WrappedValuesFit }
+    ensures congruent { WrappedValuesAreCongruent }
+    ensures stands { FittingValuesStand }
+{}
+
+/// Runs over numbered blocks: more turns and deeper calls than steps change nothing, and no step is gained.
+pub fn block_runs()
+    ensures fuel { FuelIsEnough over_blocks }
+    ensures steps { StepsFall over_blocks }
+    ensures loops { LoopsTurn over_blocks }
+    ensures run { RunsNeedNoFuel over_blocks }
+    ensures left { RunsSpendSteps over_blocks }
+{}
+
+/// Runs over flat memory meet the same laws.
+pub fn flat_runs()
+    ensures fuel { FuelIsEnough over_flat }
+    ensures steps { StepsFall over_flat }
+    ensures loops { LoopsTurn over_flat }
+    ensures run { RunsNeedNoFuel over_flat }
+    ensures left { RunsSpendSteps over_flat }
+{}
+
+/// Runs over two memories: flat memory does what numbered blocks do, and so a valid program that does over blocks what
+/// its source does is a translation of it.
+pub fn agreement()
+    ensures flat { BlocksAgreeWithFlat }
+    ensures translates { AgreementTranslates }
+{}
+
+/// Texts: the text of a valid program spells that program.
+pub fn printed_texts()
+    ensures { PrintedProgramsAreRead }
+{}

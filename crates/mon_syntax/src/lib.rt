@@ -1,0 +1,9 @@
+//! Programs in monitored C, the language into which annotated C is translated: their tree, their text, and what they do.
+#![tactic(auto)]
+
+pub mod laws;
+pub mod tree;
+pub mod word;
+
+pub use tree::{MonExpr, MonFunc, MonOp, MonProgram, MonStmt, MonType, Register};
+pub use word::{Runtime, Word};

@@ -1,0 +1,108 @@
+//! The tree of a program in monitored C.
+
+use c_syntax::{Kind, Name};
+
+/// A type of registers: a whole-number type by its width in bits and its sign.
+#[derive(Clone, Copy, PartialEq, Eq, Debug)]
+pub enum MonType {
+    I8,
+    U8,
+    I16,
+    U16,
+    I32,
+    U32,
+    I64,
+    U64,
+    I128,
+}
+
+/// An operator of two operands.
+#[derive(Clone, Copy, PartialEq, Eq, Debug)]
+pub enum MonOp {
+    Add,
+    Sub,
+    Mul,
+    Div,
+    Rem,
+    Shl,
+    Shr,
+    And,
+    Or,
+    Xor,
+    Eq,
+    Ne,
+    Lt,
+    Le,
+    Gt,
+    Ge,
+}
+
+/// An expression. It has no side effect.
+#[derive(Drop)]
+pub enum MonExpr {
+    /// A register, by its number in its function: the parameters come first.
+    Register(u32),
+    /// A value of a type, `I32(-1)`.
+    Constant(MonType, i128),
+    /// An operator on two operands of the type.
+    Binary(MonOp, MonType, Box<MonExpr>, Box<MonExpr>),
+    /// `(-e)`, of an operand of the type.
+    Minus(MonType, Box<MonExpr>),
+    /// `(~e)`, of an operand of the type.
+    Flip(MonType, Box<MonExpr>),
+    /// `((t)e)`, the value of the type that is congruent to the operand's.
+    Cast(MonType, Box<MonExpr>),
+}
+
+/// A statement.
+#[derive(Drop)]
+pub enum MonStmt {
+    /// `R = e;`
+    Set(u32, MonExpr),
+    /// `__e_acsl_step();` where it isn't the step of a loop.
+    Step,
+    /// `__e_acsl_assert(d, v, A, L, "kind");`: whether the annotation is defined, whether it is true, its number and its
+    /// line.
+    Assert(MonExpr, MonExpr, u32, u32, Kind),
+    /// `putchar(e);`, or `R = putchar(e);`
+    PutChar(Option<u32>, MonExpr),
+    /// `exit(e);`
+    Exit(MonExpr),
+    /// `__e_acsl_print_text("..");`
+    PrintText(Name),
+    /// `__e_acsl_print_i64(e);`
+    PrintSigned(MonExpr),
+    /// `__e_acsl_print_u64(e);`
+    PrintUnsigned(MonExpr),
+    If(MonExpr, Vec<MonStmt>, Vec<MonStmt>),
+    /// `while (1) { .. __e_acsl_step(); .. }`: what stands before the loop's step, and what behind it.
+    Loop(Vec<MonStmt>, Vec<MonStmt>),
+    /// `{ .. } LABEL: ;`
+    Labelled(Vec<MonStmt>, Name),
+    /// `goto LABEL;`: to the end of the body of that label, in which it stands.
+    Goto(Name),
+    Return(Option<MonExpr>),
+}
+
+/// A register: its type and its name.
+#[derive(Drop)]
+pub struct Register {
+    pub kind: MonType,
+    pub name: Name,
+}
+
+/// A function. Its registers are numbered from 0, the parameters first.
+#[derive(Drop)]
+pub struct MonFunc {
+    /// None for `void`.
+    pub result: Option<MonType>,
+    pub name: Name,
+    pub parameters: Vec<Register>,
+    pub registers: Vec<Register>,
+    pub body: Vec<MonStmt>,
+}
+
+#[derive(Drop)]
+pub struct MonProgram {
+    pub functions: Vec<MonFunc>,
+}
