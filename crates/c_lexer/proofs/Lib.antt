@@ -1,0 +1,4 @@
+pub mod NameSteps
+pub mod Digits
+pub mod Characters
+pub mod Turns
