@@ -1,0 +1,4 @@
+pub mod Rows
+pub mod Steps
+pub mod Refusals
+pub mod Answers

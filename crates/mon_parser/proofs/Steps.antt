@@ -1,0 +1,141 @@
+-- What a production gives, step by step.
+use Rattle.std.proofs.Common.{◌≡◌, ℕ, zero, suc, ◌-◌, ◌<◌, Bool, true, false, List, [], ◌∷◌, ◌++◌, length, map, length-append, Result, Ok, Err, refl, sym, ap, subst, arith}
+use Rattle.std.proofs.lemmas.List.{length-map}
+use Rattle.grammar.specs.Syntax.{Syntax, Fault, At, Over, sees}
+use Rattle.grammar.proofs.Productions.{turn, turn_fails, turn_ends}
+use Rattle.c_syntax.specs.declared.token.Token.{Token}
+use Rattle.c_syntax.specs.Tokens.{PlainToken, plain_token}
+use Rattle.mon_syntax.specs.Parsed.{ParsedArgument, ParsedStatement, ParsedRegister}
+use Rattle.mon_syntax.specs.Grammar.{Vocabulary, InBody, LoopRead, left_paren, comma, type_kind, mark_kind, kind, first_statement, mark, opened, behind_paren, behind_opened, next_argument, one_more, one_more_in_loop, statement_with, statement_in, register}
+use Rattle.mon_parser.specs.declared.fault.ReadFault.{ReadFault}
+use Rattle.mon_parser.specs.declared.fault.ReadFault.TheVariants as fault
+use Rattle.mon_parser.specs.Reading.{plain_list, Fails, more_arguments, more_statements, more_in_loop, more_registers}
+use Rattle.mon_syntax.proofs.ExactTokens.{IsRead}
+use Rattle.mon_syntax.proofs.ExactExpressions.{paren, next_argument_good}
+use Rattle.mon_syntax.proofs.ExactStatements.{one_more_good, one_more_in_loop_good, statement_good}
+use Rattle.mon_syntax.proofs.ExactTexts.{register_good}
+
+-- ---- limits
+
+module _ (ws : Vocabulary) where
+  pub opened_is : (n : ℕ) (ts : List PlainToken) → 0 < n → (opened ws n).parse ts ≡ (mark ws left_paren).parse ts
+  unfolding opened
+  opened_is zero ts h = absurd (omega arith)
+  opened_is (suc n) ts h = refl
+
+  pub opened_over : (n : ℕ) (ts : List PlainToken) → n ≡ 0 → sees (kind ws) (mark_kind left_paren ∷ []) ts ≡ true → (opened ws n).parse ts ≡ Err (Over (length ts))
+  unfolding opened
+  opened_over zero ts h s = rw s refl
+  opened_over (suc n) ts h s = absurd (omega arith)
+
+  pub opened_at : (n : ℕ) (ts : List PlainToken) → n ≡ 0 → sees (kind ws) (mark_kind left_paren ∷ []) ts ≡ false → (opened ws n).parse ts ≡ Err (At (length ts))
+  unfolding opened
+  opened_at zero ts h s = rw s refl
+  opened_at (suc n) ts h s = absurd (omega arith)
+
+  pub behind_is : (n : ℕ) (ts : List PlainToken) → 0 < n → (behind_opened ws n).parse ts ≡ (behind_paren ws (opened ws (n - 1)) (behind_opened ws (n - 1))).parse ts
+  unfolding behind_opened
+  behind_is zero ts h = absurd (omega arith)
+  behind_is (suc n) ts h = let e : suc n - 1 ≡ n = omega arith in rw e refl
+
+  pub behind_none : (n : ℕ) (ts : List PlainToken) → n ≡ 0 → (behind_opened ws n).parse ts ≡ Err (At (length ts))
+  unfolding behind_opened
+  behind_none zero ts h = refl
+  behind_none (suc n) ts h = absurd (omega arith)
+
+  pub statement_is : (n : ℕ) (no_step : Bool) (ts : List PlainToken) → 0 < n → (statement_in ws n no_step).parse ts ≡ (statement_with ws (statement_in ws (n - 1)) no_step).parse ts
+  unfolding statement_in
+  statement_is zero no_step ts h = absurd (omega arith)
+  statement_is (suc n) no_step ts h = let e : suc n - 1 ≡ n = omega arith in rw e refl
+
+  pub statement_over : (n : ℕ) (no_step : Bool) (ts : List PlainToken) → n ≡ 0 → sees (kind ws) first_statement ts ≡ true → (statement_in ws n no_step).parse ts ≡ Err (Over (length ts))
+  unfolding statement_in
+  statement_over zero no_step ts h s = rw s refl
+  statement_over (suc n) no_step ts h s = absurd (omega arith)
+
+  pub statement_at : (n : ℕ) (no_step : Bool) (ts : List PlainToken) → n ≡ 0 → sees (kind ws) first_statement ts ≡ false → (statement_in ws n no_step).parse ts ≡ Err (At (length ts))
+  unfolding statement_in
+  statement_at zero no_step ts h s = rw s refl
+  statement_at (suc n) no_step ts h s = absurd (omega arith)
+
+-- ---- what is read is shorter
+
+filled : {T : Type 0} (front ts rest : List T) → ts ≡ front ++ rest → (front ≡ [] → ⊥) → length rest < length ts
+filled [] ts rest e h = absurd (h refl)
+filled (t ∷ front) ts rest e h = omega (arith, ap length e, length-append (t ∷ front) rest)
+
+shorter : {A : Type 0} (ws : Vocabulary) (G : Syntax PlainToken A) {first more : List ℕ} → IsRead ws G false first more → (ts rest : List Token) (x : A) → G.parse (plain_list ts) ≡ Ok (x, plain_list rest) → length rest < length ts
+shorter ws G g ts rest x e =
+    let t = g.here.takes (plain_list ts) x (plain_list rest) e in
+    let is = t.is in
+    let k : length (plain_list rest) < length (plain_list ts) = filled t.front (plain_list ts) (plain_list rest) t.parts (λ z. let r = g.here.filled x (subst (λ (w : List PlainToken). G.reads w x) z is) in cc) in
+    omega (arith, length-map ts plain_token, length-map rest plain_token)
+
+-- ---- a turn of a repetition: one more, a fault, and none
+
+again : {Y : Type 0} {r s : Result Y Fault} (e : ReadFault) → ((d : Fault) → r ≡ Err d → s ≡ Err d) → Fails e r → Fails e s
+again (fault.At n) f h = f (At n) h
+again (fault.Over n) f h = f (Over n) h
+again fault.Memory f h = tt
+
+module _ (ws : Vocabulary) where
+  pub arguments_turn : (x y : List ParsedArgument) (ts rest : List PlainToken) → sees (kind ws) (mark_kind comma ∷ []) ts ≡ true → (next_argument ws x).parse ts ≡ Ok (y, rest) → (more_arguments ws x).parse ts ≡ (more_arguments ws y).parse rest
+  unfolding more_arguments
+  arguments_turn x y ts rest s e = turn (mark_kind comma ∷ []) (next_argument ws) (λ z. (next_argument_good ws z).here) refl x y ts rest s e
+
+  pub arguments_fails : (x : List ParsedArgument) (ts : List PlainToken) (e : ReadFault) → sees (kind ws) (mark_kind comma ∷ []) ts ≡ true → Fails e ((next_argument ws x).parse ts) → Fails e ((more_arguments ws x).parse ts)
+  unfolding more_arguments
+  arguments_fails x ts e s = again e (λ d. turn_fails (mark_kind comma ∷ []) (next_argument ws) (λ z. (next_argument_good ws z).here) refl x ts d s)
+
+  pub arguments_ends : (x : List ParsedArgument) (ts : List PlainToken) → sees (kind ws) (mark_kind comma ∷ []) ts ≡ false → (more_arguments ws x).parse ts ≡ Ok (x, ts)
+  unfolding more_arguments
+  arguments_ends x ts s = turn_ends (mark_kind comma ∷ []) (next_argument ws) (λ z. (next_argument_good ws z).here) refl x ts s
+
+  pub arguments_shorter : (x y : List ParsedArgument) (ts rest : List Token) → (next_argument ws x).parse (plain_list ts) ≡ Ok (y, plain_list rest) → length rest < length ts
+  arguments_shorter x y ts rest e = shorter ws (next_argument ws x) (next_argument_good ws x) ts rest y e
+
+  pub registers_turn : (x y : List ParsedRegister) (ts rest : List PlainToken) → sees (kind ws) (type_kind ∷ []) ts ≡ true → (register ws x).parse ts ≡ Ok (y, rest) → (more_registers ws x).parse ts ≡ (more_registers ws y).parse rest
+  unfolding more_registers
+  registers_turn x y ts rest s e = turn (type_kind ∷ []) (register ws) (λ z. (register_good ws z).here) refl x y ts rest s e
+
+  pub registers_fails : (x : List ParsedRegister) (ts : List PlainToken) (e : ReadFault) → sees (kind ws) (type_kind ∷ []) ts ≡ true → Fails e ((register ws x).parse ts) → Fails e ((more_registers ws x).parse ts)
+  unfolding more_registers
+  registers_fails x ts e s = again e (λ d. turn_fails (type_kind ∷ []) (register ws) (λ z. (register_good ws z).here) refl x ts d s)
+
+  pub registers_ends : (x : List ParsedRegister) (ts : List PlainToken) → sees (kind ws) (type_kind ∷ []) ts ≡ false → (more_registers ws x).parse ts ≡ Ok (x, ts)
+  unfolding more_registers
+  registers_ends x ts s = turn_ends (type_kind ∷ []) (register ws) (λ z. (register_good ws z).here) refl x ts s
+
+  pub registers_shorter : (x y : List ParsedRegister) (ts rest : List Token) → (register ws x).parse (plain_list ts) ≡ Ok (y, plain_list rest) → length rest < length ts
+  registers_shorter x y ts rest e = shorter ws (register ws x) (register_good ws x) ts rest y e
+
+  module _ (n : ℕ) where
+    pub statements_turn : (x y : List ParsedStatement) (ts rest : List PlainToken) → sees (kind ws) first_statement ts ≡ true → (one_more ws (statement_in ws n) x).parse ts ≡ Ok (y, rest) → (more_statements ws (statement_in ws n) x).parse ts ≡ (more_statements ws (statement_in ws n) y).parse rest
+    unfolding more_statements
+    statements_turn x y ts rest s e = turn first_statement (one_more ws (statement_in ws n)) (λ z. (one_more_good ws (statement_good ws n) z).here) refl x y ts rest s e
+
+    pub statements_fails : (x : List ParsedStatement) (ts : List PlainToken) (e : ReadFault) → sees (kind ws) first_statement ts ≡ true → Fails e ((one_more ws (statement_in ws n) x).parse ts) → Fails e ((more_statements ws (statement_in ws n) x).parse ts)
+    unfolding more_statements
+    statements_fails x ts e s = again e (λ d. turn_fails first_statement (one_more ws (statement_in ws n)) (λ z. (one_more_good ws (statement_good ws n) z).here) refl x ts d s)
+
+    pub statements_ends : (x : List ParsedStatement) (ts : List PlainToken) → sees (kind ws) first_statement ts ≡ false → (more_statements ws (statement_in ws n) x).parse ts ≡ Ok (x, ts)
+    unfolding more_statements
+    statements_ends x ts s = turn_ends first_statement (one_more ws (statement_in ws n)) (λ z. (one_more_good ws (statement_good ws n) z).here) refl x ts s
+
+    pub statements_shorter : (x y : List ParsedStatement) (ts rest : List Token) → (one_more ws (statement_in ws n) x).parse (plain_list ts) ≡ Ok (y, plain_list rest) → length rest < length ts
+    statements_shorter x y ts rest e = shorter ws (one_more ws (statement_in ws n) x) (one_more_good ws (statement_good ws n) x) ts rest y e
+
+    pub loop_turn : (x y : LoopRead) (ts rest : List PlainToken) → sees (kind ws) first_statement ts ≡ true → (one_more_in_loop ws (statement_in ws n) x).parse ts ≡ Ok (y, rest) → (more_in_loop ws (statement_in ws n) x).parse ts ≡ (more_in_loop ws (statement_in ws n) y).parse rest
+    unfolding more_in_loop
+    loop_turn x y ts rest s e = turn first_statement (one_more_in_loop ws (statement_in ws n)) (λ z. (one_more_in_loop_good ws (statement_good ws n) z).here) refl x y ts rest s e
+
+    pub loop_fails : (x : LoopRead) (ts : List PlainToken) (e : ReadFault) → sees (kind ws) first_statement ts ≡ true → Fails e ((one_more_in_loop ws (statement_in ws n) x).parse ts) → Fails e ((more_in_loop ws (statement_in ws n) x).parse ts)
+    unfolding more_in_loop
+    loop_fails x ts e s = again e (λ d. turn_fails first_statement (one_more_in_loop ws (statement_in ws n)) (λ z. (one_more_in_loop_good ws (statement_good ws n) z).here) refl x ts d s)
+
+    pub loop_ends : (x : LoopRead) (ts : List PlainToken) → sees (kind ws) first_statement ts ≡ false → (more_in_loop ws (statement_in ws n) x).parse ts ≡ Ok (x, ts)
+    unfolding more_in_loop
+    loop_ends x ts s = turn_ends first_statement (one_more_in_loop ws (statement_in ws n)) (λ z. (one_more_in_loop_good ws (statement_good ws n) z).here) refl x ts s
+
+    pub loop_shorter : (x y : LoopRead) (ts rest : List Token) → (one_more_in_loop ws (statement_in ws n) x).parse (plain_list ts) ≡ Ok (y, plain_list rest) → length rest < length ts
+    loop_shorter x y ts rest e = shorter ws (one_more_in_loop ws (statement_in ws n) x) (one_more_in_loop_good ws (statement_good ws n) x) ts rest y e

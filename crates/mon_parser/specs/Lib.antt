@@ -1,0 +1,4 @@
+pub mod ParsedTrees
+pub mod Reading
+pub mod Words
+pub mod Answers

@@ -1,0 +1,275 @@
+//! Expressions.
+
+ghost use Rattle.std.specs.Prelude.{◌≡◌};
+ghost use Rattle.mon_syntax.specs.Grammar.{signed_number, opened, constant, plain_operand, second_operand, negation, complement, cast, behind_two, behind_opened, other_expression, expression_in, expression, expression_but_name};
+ghost use Rattle.mon_parser.specs.ParsedTrees.{plain_literal, plain_expr};
+ghost use Rattle.mon_parser.specs.Reading.{Gives, plain_list};
+
+use crate::fault::ReadFault;
+use crate::kinds::{CONSTANT, LEFT_PAREN, MINUS, NAME, RIGHT_PAREN, TILDE, TYPE};
+use crate::parsed::{Literal, ParsedExpr};
+use crate::terminals::{constant_word, left, name, next_is, number, operator, skip, type_name};
+use c_syntax::{Place, Token};
+use mon_syntax::Word;
+use std::alloc::Global;
+
+/// How many parentheses may be open at once in an expression.
+const MOST_OPEN_PARENS: u32 = 2000;
+
+/// A parenthesis, where so many more may be opened.
+#[tactic(auto, using(crate::proofs::Steps::opened_is, crate::proofs::Steps::opened_over, crate::proofs::Steps::opened_at))]
+fn opened<'a>(
+    words: &[Word],
+    room: u32,
+    tokens: &'a [Token],
+) -> Result<(Place, &'a [Token]), ReadFault>
+    ensures { Gives (λ x. (x.0, plain_list x.1.now)) result ((opened words.now room).parse (plain_list tokens.now)) }
+{
+    if room > 0 {
+        skip(words, LEFT_PAREN, tokens)
+    } else if next_is(words, LEFT_PAREN, tokens) {
+        Err(ReadFault::Over(left(tokens)))
+    } else {
+        Err(ReadFault::At(left(tokens)))
+    }
+}
+
+/// `[ "-" ] NUMBER`
+#[tactic(auto, unfolding(mon_syntax::specs::Grammar::signed_number))]
+fn signed_number<'a>(
+    words: &[Word],
+    tokens: &'a [Token],
+) -> Result<(Literal, &'a [Token]), ReadFault>
+    ensures { Gives (λ x. (plain_literal x.0, plain_list x.1.now)) result ((signed_number words.now).parse (plain_list tokens.now)) }
+{
+    if next_is(words, MINUS, tokens) {
+        let (_, rest) = skip(words, MINUS, tokens)?;
+        let (number, _, rest) = number(rest)?;
+        let negative = true;
+        Ok((Literal { negative, number }, rest))
+    } else {
+        let (number, _, rest) = number(tokens)?;
+        let negative = false;
+        Ok((Literal { negative, number }, rest))
+    }
+}
+
+/// `CONSTANT "(" [ "-" ] NUMBER ")"`
+#[tactic(auto, unfolding(mon_syntax::specs::Grammar::constant))]
+#[inline(never)]
+fn constant<'a>(
+    words: &[Word],
+    room: u32,
+    tokens: &'a [Token],
+) -> Result<(ParsedExpr, &'a [Token]), ReadFault>
+    ensures { Gives (λ x. (plain_expr x.0, plain_list x.1.now)) result ((constant words.now (opened words.now room)).parse (plain_list tokens.now)) }
+{
+    let (t, place, rest) = constant_word(words, tokens)?;
+    let (_, rest) = opened(words, room, rest)?;
+    let (literal, rest) = signed_number(words, rest)?;
+    let (_, rest) = skip(words, RIGHT_PAREN, rest)?;
+    Ok((ParsedExpr::Constant(place, t, literal), rest))
+}
+
+/// A first operand that begins with no parenthesis.
+#[tactic(auto, unfolding(mon_syntax::specs::Grammar::plain_operand))]
+fn plain_operand<'a>(
+    words: &[Word],
+    room: u32,
+    tokens: &'a [Token],
+) -> Result<(ParsedExpr, &'a [Token]), ReadFault>
+    ensures { Gives (λ x. (plain_expr x.0, plain_list x.1.now)) result ((plain_operand words.now (opened words.now room)).parse (plain_list tokens.now)) }
+{
+    if next_is(words, NAME, tokens) {
+        let (x, rest) = name(words, tokens)?;
+        Ok((ParsedExpr::Name(x), rest))
+    } else {
+        constant(words, room, tokens)
+    }
+}
+
+/// `operator expr ")"`
+#[tactic(auto, unfolding(mon_syntax::specs::Grammar::second_operand))]
+#[cycle(expression)]
+#[inline(never)]
+fn second_operand<'a>(
+    alloc: Global,
+    words: &[Word],
+    room: u32,
+    left: ParsedExpr,
+    tokens: &'a [Token],
+) -> Result<(ParsedExpr, &'a [Token]), ReadFault>
+    ensures { Gives (λ x. (plain_expr x.0, plain_list x.1.now)) result ((second_operand words.now (expression_in words.now room) (plain_expr left)).parse (plain_list tokens.now)) }
+{
+    let (op, place, rest) = operator(tokens)?;
+    let (right, rest) = expression_in(alloc, words, room, rest)?;
+    let (_, rest) = skip(words, RIGHT_PAREN, rest)?;
+    let (left, right) = (Box::new(alloc, left)?, Box::new(alloc, right)?);
+    Ok((ParsedExpr::Binary(place, op, left, right), rest))
+}
+
+/// `"-" expr ")"`
+#[tactic(auto, unfolding(mon_syntax::specs::Grammar::negation))]
+#[cycle(expression)]
+#[inline(never)]
+fn negation<'a>(
+    alloc: Global,
+    words: &[Word],
+    room: u32,
+    tokens: &'a [Token],
+) -> Result<(ParsedExpr, &'a [Token]), ReadFault>
+    ensures { Gives (λ x. (plain_expr x.0, plain_list x.1.now)) result ((negation words.now (expression_in words.now room)).parse (plain_list tokens.now)) }
+{
+    let (place, rest) = skip(words, MINUS, tokens)?;
+    let (operand, rest) = expression_in(alloc, words, room, rest)?;
+    let (_, rest) = skip(words, RIGHT_PAREN, rest)?;
+    Ok((ParsedExpr::Minus(place, Box::new(alloc, operand)?), rest))
+}
+
+/// `"~" expr ")"`
+#[tactic(auto, unfolding(mon_syntax::specs::Grammar::complement))]
+#[cycle(expression)]
+#[inline(never)]
+fn complement<'a>(
+    alloc: Global,
+    words: &[Word],
+    room: u32,
+    tokens: &'a [Token],
+) -> Result<(ParsedExpr, &'a [Token]), ReadFault>
+    ensures { Gives (λ x. (plain_expr x.0, plain_list x.1.now)) result ((complement words.now (expression_in words.now room)).parse (plain_list tokens.now)) }
+{
+    let (place, rest) = skip(words, TILDE, tokens)?;
+    let (operand, rest) = expression_in(alloc, words, room, rest)?;
+    let (_, rest) = skip(words, RIGHT_PAREN, rest)?;
+    Ok((ParsedExpr::Flip(place, Box::new(alloc, operand)?), rest))
+}
+
+/// `type ")" expr ")"`, by the place of the parenthesis before it.
+#[tactic(auto, unfolding(mon_syntax::specs::Grammar::cast))]
+#[cycle(expression)]
+fn cast<'a>(
+    alloc: Global,
+    words: &[Word],
+    room: u32,
+    place: Place,
+    tokens: &'a [Token],
+) -> Result<(ParsedExpr, &'a [Token]), ReadFault>
+    ensures { Gives (λ x. (plain_expr x.0, plain_list x.1.now)) result ((cast words.now (expression_in words.now room) place).parse (plain_list tokens.now)) }
+{
+    let (t, _, rest) = type_name(words, tokens)?;
+    let (_, rest) = skip(words, RIGHT_PAREN, rest)?;
+    let (operand, rest) = expression_in(alloc, words, room, rest)?;
+    let (_, rest) = skip(words, RIGHT_PAREN, rest)?;
+    Ok((ParsedExpr::Cast(place, t, Box::new(alloc, operand)?), rest))
+}
+
+/// What stands behind two parentheses: a cast, or a first operand that begins with the second of them.
+#[tactic(auto, unfolding(mon_syntax::specs::Grammar::behind_two))]
+#[cycle(expression)]
+#[inline(never)]
+fn behind_two<'a>(
+    alloc: Global,
+    words: &[Word],
+    room: u32,
+    place: Place,
+    tokens: &'a [Token],
+) -> Result<(ParsedExpr, &'a [Token]), ReadFault>
+    ensures { Gives (λ x. (plain_expr x.0, plain_list x.1.now)) result ((behind_two words.now (expression_in words.now room) (behind_opened words.now room) place).parse (plain_list tokens.now)) }
+{
+    if next_is(words, TYPE, tokens) {
+        cast(alloc, words, room, place, tokens)
+    } else {
+        let (left, rest) = behind_opened(alloc, words, room, tokens)?;
+        second_operand(alloc, words, room, left, rest)
+    }
+}
+
+/// What stands behind a parenthesis that was opened where so many more might be, up to its end.
+#[tactic(auto, using(crate::proofs::Steps::behind_is, crate::proofs::Steps::behind_none), unfolding(mon_syntax::specs::Grammar::behind_paren, mon_syntax::specs::Grammar::expression_in))]
+#[cycle(expression)]
+fn behind_opened<'a>(
+    alloc: Global,
+    words: &[Word],
+    room: u32,
+    tokens: &'a [Token],
+) -> Result<(ParsedExpr, &'a [Token]), ReadFault>
+    ensures { Gives (λ x. (plain_expr x.0, plain_list x.1.now)) result ((behind_opened words.now room).parse (plain_list tokens.now)) }
+{
+    if room == 0 {
+        return Err(ReadFault::At(left(tokens)));
+    }
+    let room = room - 1;
+    if next_is(words, MINUS, tokens) {
+        negation(alloc, words, room, tokens)
+    } else if next_is(words, TILDE, tokens) {
+        complement(alloc, words, room, tokens)
+    } else if next_is(words, LEFT_PAREN, tokens) {
+        let (place, rest) = opened(words, room, tokens)?;
+        behind_two(alloc, words, room, place, rest)
+    } else {
+        let (left, rest) = plain_operand(words, room, tokens)?;
+        second_operand(alloc, words, room, left, rest)
+    }
+}
+
+/// An expression that is no name, in which so many parentheses may be open at once.
+#[tactic(auto, unfolding(mon_syntax::specs::Grammar::other_expression))]
+#[cycle(expression)]
+fn other_expression<'a>(
+    alloc: Global,
+    words: &[Word],
+    room: u32,
+    tokens: &'a [Token],
+) -> Result<(ParsedExpr, &'a [Token]), ReadFault>
+    ensures { Gives (λ x. (plain_expr x.0, plain_list x.1.now)) result ((other_expression words.now (opened words.now room) (behind_opened words.now room)).parse (plain_list tokens.now)) }
+{
+    if next_is(words, CONSTANT, tokens) {
+        constant(words, room, tokens)
+    } else {
+        let (_, rest) = opened(words, room, tokens)?;
+        behind_opened(alloc, words, room, rest)
+    }
+}
+
+/// An expression in which so many parentheses may be open at once.
+#[tactic(auto, unfolding(mon_syntax::specs::Grammar::expression_in, mon_syntax::specs::Grammar::expression_with))]
+#[cycle(expression)]
+fn expression_in<'a>(
+    alloc: Global,
+    words: &[Word],
+    room: u32,
+    tokens: &'a [Token],
+) -> Result<(ParsedExpr, &'a [Token]), ReadFault>
+    ensures { Gives (λ x. (plain_expr x.0, plain_list x.1.now)) result ((expression_in words.now room).parse (plain_list tokens.now)) }
+{
+    if next_is(words, NAME, tokens) {
+        let (x, rest) = name(words, tokens)?;
+        Ok((ParsedExpr::Name(x), rest))
+    } else {
+        other_expression(alloc, words, room, tokens)
+    }
+}
+
+/// An expression.
+#[tactic(auto, unfolding(mon_syntax::specs::Grammar::expression))]
+pub fn expression<'a>(
+    alloc: Global,
+    words: &[Word],
+    tokens: &'a [Token],
+) -> Result<(ParsedExpr, &'a [Token]), ReadFault>
+    ensures { Gives (λ x. (plain_expr x.0, plain_list x.1.now)) result ((expression words.now).parse (plain_list tokens.now)) }
+{
+    expression_in(alloc, words, MOST_OPEN_PARENS, tokens)
+}
+
+/// An expression that is no name.
+#[tactic(auto, unfolding(mon_syntax::specs::Grammar::expression_but_name))]
+pub fn expression_but_name<'a>(
+    alloc: Global,
+    words: &[Word],
+    tokens: &'a [Token],
+) -> Result<(ParsedExpr, &'a [Token]), ReadFault>
+    ensures { Gives (λ x. (plain_expr x.0, plain_list x.1.now)) result ((expression_but_name words.now).parse (plain_list tokens.now)) }
+{
+    other_expression(alloc, words, MOST_OPEN_PARENS, tokens)
+}

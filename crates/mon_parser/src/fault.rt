@@ -1,0 +1,32 @@
+//! Why a run of tokens isn't read.
+
+ghost use Rattle.std.specs.Prelude.{◌≡◌};
+ghost use Rattle.mon_parser.specs.declared.fault.ReadFault.TheVariants.{Memory};
+
+use std::alloc::{AllocError, AllocFailed};
+
+#[derive(Clone, Copy, PartialEq, Eq, Debug, Drop)]
+pub enum ReadFault {
+    /// The first of so many tokens that are left can't follow, or one was wanting behind the last.
+    At(usize),
+    /// The first of so many tokens that are left passes a limit.
+    Over(usize),
+    /// Memory was wanting.
+    Memory,
+}
+
+impl From<AllocError> for ReadFault {
+    ghost from_gives = { λ _ e. e ≡ Memory };
+
+    fn from(_e: AllocError) -> ReadFault {
+        ReadFault::Memory
+    }
+}
+
+impl<T: Drop> From<AllocFailed<T>> for ReadFault {
+    ghost from_gives = { λ _ e. e ≡ Memory };
+
+    fn from(_e: AllocFailed<T>) -> ReadFault {
+        ReadFault::Memory
+    }
+}

@@ -1,0 +1,26 @@
+//! From the tokens of a monitored text to its tree.
+//!
+//! A function for each production of the grammar reads the tokens.
+#![tactic(auto)]
+
+mod call;
+mod expression;
+mod fault;
+mod kinds;
+pub mod parsed;
+mod program;
+mod read;
+mod refusal;
+mod statement;
+mod terminals;
+pub mod vocabulary;
+
+pub use parsed::{
+    Literal, NameUse, ParsedArg, ParsedCall, ParsedExpr, ParsedFunc, ParsedProgram, ParsedRegister,
+    ParsedStmt,
+};
+pub use read::{one_reading, read_tokens};
+pub use refusal::word_at;
+
+#[cfg(test)]
+mod tests;

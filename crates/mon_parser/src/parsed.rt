@@ -1,0 +1,105 @@
+//! The tree of a monitored text as it is read, with its places.
+
+ghost use Rattle.std.specs.Prelude.{◌≡◌, MatchOption};
+ghost use Rattle.mon_parser.specs.ParsedTrees.{plain_literal, past_i128};
+
+use c_syntax::{Name, Place};
+use mon_syntax::{MonOp, MonType};
+
+/// A name where it stands.
+#[derive(Clone, Copy, PartialEq, Eq, Debug)]
+pub struct NameUse {
+    pub place: Place,
+    /// Its number among the names of the text.
+    pub number: u32,
+}
+
+/// A number with its sign. Its value is `i128::MAX + 1` where the least number has the sign `-`.
+#[derive(Clone, Copy, PartialEq, Eq, Debug)]
+pub struct Literal {
+    pub negative: bool,
+    pub number: i128,
+}
+
+impl Literal {
+    /// Its value, where an `i128` has it.
+    pub fn value(self) -> Option<i128>
+        ensures { MatchOption result (plain_literal self ≡ past_i128) (λ z. z ≡ plain_literal self) }
+    {
+        if self.negative {
+            self.number.checked_neg()
+        } else {
+            Some(self.number)
+        }
+    }
+}
+
+/// An expression. Its place is its operator's token for a binary one, the token behind its first parenthesis for a unary
+/// operator and a cast, and else its first token.
+#[derive(Drop)]
+pub enum ParsedExpr {
+    Name(NameUse),
+    Constant(Place, MonType, Literal),
+    Binary(Place, MonOp, Box<ParsedExpr>, Box<ParsedExpr>),
+    Minus(Place, Box<ParsedExpr>),
+    Flip(Place, Box<ParsedExpr>),
+    Cast(Place, MonType, Box<ParsedExpr>),
+}
+
+/// An argument of a call.
+#[derive(Drop)]
+pub enum ParsedArg {
+    Value(ParsedExpr),
+    /// A number that is no constant.
+    Number(Place, i128),
+    /// A string by its bytes.
+    Text(Place, Name),
+}
+
+/// A call, by the place of its `(`.
+#[derive(Drop)]
+pub struct ParsedCall {
+    pub callee: NameUse,
+    pub place: Place,
+    pub arguments: Vec<ParsedArg>,
+}
+
+/// A statement.
+#[derive(Drop)]
+pub enum ParsedStmt {
+    /// `R = e;` with the place of its `=`.
+    Set(NameUse, Place, ParsedExpr),
+    /// `R = f(..);` with the place of its `=`.
+    Take(NameUse, Place, ParsedCall),
+    Call(ParsedCall),
+    If(ParsedExpr, Vec<ParsedStmt>, Vec<ParsedStmt>),
+    /// What stands before the loop's step, and what behind it.
+    Loop(Vec<ParsedStmt>, Vec<ParsedStmt>),
+    Labelled(Vec<ParsedStmt>, NameUse),
+    Goto(NameUse),
+    /// The place of `return`, and its expression where there is one.
+    Return(Place, Option<ParsedExpr>),
+}
+
+/// A register: its type and its name.
+#[derive(Clone, Copy, PartialEq, Eq, Debug)]
+pub struct ParsedRegister {
+    pub kind: MonType,
+    pub name: NameUse,
+}
+
+/// A function.
+#[derive(Drop)]
+pub struct ParsedFunc {
+    /// None for `void`.
+    pub result: Option<MonType>,
+    pub name: NameUse,
+    pub registers: Vec<ParsedRegister>,
+    pub body: Vec<ParsedStmt>,
+}
+
+/// A text: at most one function.
+#[derive(Drop)]
+pub struct ParsedProgram {
+    pub function: Option<ParsedFunc>,
+}

@@ -1,0 +1,145 @@
+//! Functions, and the whole text.
+
+ghost use Rattle.std.specs.Prelude.{◌≡◌, map};
+ghost use Rattle.mon_syntax.specs.Parsed.{ParsedFunction};
+ghost use Rattle.mon_syntax.specs.Grammar.{parsed_list, register, function_body, function, text};
+ghost use Rattle.mon_syntax.specs.Grammar as form;
+ghost use Rattle.mon_parser.specs.ParsedTrees.{plain_name, plain_stmt, plain_register, plain_func, plain_program};
+ghost use Rattle.mon_parser.specs.Reading.{Gives, plain_list, more_registers};
+
+use crate::fault::ReadFault;
+use crate::kinds::{LEFT_BRACE, LEFT_PAREN, RIGHT_BRACE, RIGHT_PAREN, SEMICOLON, TYPE, VOID};
+use crate::parsed::{NameUse, ParsedFunc, ParsedProgram, ParsedRegister, ParsedStmt};
+use crate::statement::more_statements;
+use crate::terminals::{head, name, next_begins_function, next_is, skip, type_name};
+use c_syntax::Token;
+use mon_syntax::{MonType, Word};
+use std::alloc::Global;
+
+/// How deep statements may stand in one another, the function's body being 1 deep.
+const MOST_NESTED: u32 = 2000;
+
+/// `type NAME ";"`, behind those that are read.
+#[tactic(auto, unfolding(mon_syntax::specs::Grammar::register))]
+fn register<'a>(
+    words: &[Word],
+    all: Vec<ParsedRegister>,
+    tokens: &'a [Token],
+) -> Result<(Vec<ParsedRegister>, &'a [Token]), ReadFault>
+    ensures { Gives (λ x. (map plain_register x.0.items, plain_list x.1.now)) result ((register words.now (map plain_register all.items)).parse (plain_list tokens.now)) }
+{
+    let mut all = all;
+    let (kind, _, rest) = type_name(words, tokens)?;
+    let (name, rest) = name(words, rest)?;
+    let (_, rest) = skip(words, SEMICOLON, rest)?;
+    all.push(ParsedRegister { kind, name })?;
+    Ok((all, rest))
+}
+
+/// The registers behind those that are read.
+#[tactic(auto, using(crate::proofs::Steps::registers_turn, crate::proofs::Steps::registers_fails, crate::proofs::Steps::registers_ends, crate::proofs::Steps::registers_shorter))]
+fn more_registers<'a>(
+    words: &[Word],
+    all: Vec<ParsedRegister>,
+    tokens: &'a [Token],
+) -> Result<(Vec<ParsedRegister>, &'a [Token]), ReadFault>
+    ensures { Gives (λ x. (map plain_register x.0.items, plain_list x.1.now)) result ((more_registers words.now (map plain_register all.items)).parse (plain_list tokens.now)) }
+{
+    let mut all = all;
+    let mut rest = tokens;
+    'turn: while next_is(words, TYPE, rest) {
+        let (more, after) = register(words, all, rest)?;
+        all = more;
+        rest = after;
+    }
+    Ok((all, rest))
+}
+
+/// `type | "void"`
+#[tactic(auto, unfolding(mon_syntax::specs::Grammar::result))]
+fn result_type<'a>(
+    words: &[Word],
+    tokens: &'a [Token],
+) -> Result<(Option<MonType>, &'a [Token]), ReadFault>
+    ensures { Gives (λ x. (x.0, plain_list x.1.now)) result ((form.result words.now).parse (plain_list tokens.now)) }
+{
+    if next_is(words, TYPE, tokens) {
+        let (t, _, rest) = type_name(words, tokens)?;
+        Ok((Some(t), rest))
+    } else {
+        let (_, rest) = skip(words, VOID, tokens)?;
+        Ok((None, rest))
+    }
+}
+
+#[tactic(auto, using(crate::proofs::Rows::list_is))]
+fn make_function(
+    returned: Option<MonType>,
+    name: NameUse,
+    registers: Vec<ParsedRegister>,
+    body: Vec<ParsedStmt>,
+) -> ParsedFunc
+    ensures { plain_func result ≡ record { result = returned; name = plain_name name; registers = map plain_register registers.items; body = parsed_list (map plain_stmt body.items) } }
+{
+    ParsedFunc {
+        result: returned,
+        name,
+        registers,
+        body,
+    }
+}
+
+/// The body of a function with this result and name.
+#[tactic(auto, unfolding(mon_syntax::specs::Grammar::function_body, mon_syntax::specs::Grammar::registers, mon_syntax::specs::Grammar::statements, crate::specs::Reading::more_registers, crate::specs::Reading::more_statements))]
+fn function_body<'a>(
+    alloc: Global,
+    words: &[Word],
+    returned: Option<MonType>,
+    name: NameUse,
+    tokens: &'a [Token],
+) -> Result<(ParsedFunc, &'a [Token]), ReadFault>
+    ensures { Gives (λ x. (plain_func x.0, plain_list x.1.now)) result ((function_body words.now returned (plain_name name)).parse (plain_list tokens.now)) }
+{
+    let (_, rest) = skip(words, LEFT_BRACE, tokens)?;
+    let (registers, rest) = more_registers(words, Vec::new(alloc), rest)?;
+    let (body, rest) = more_statements(alloc, words, MOST_NESTED - 1, Vec::new(alloc), rest)?;
+    let (_, rest) = skip(words, RIGHT_BRACE, rest)?;
+    Ok((make_function(returned, name, registers, body), rest))
+}
+
+/// A function without parameters.
+#[tactic(auto, unfolding(mon_syntax::specs::Grammar::function))]
+fn function<'a>(
+    alloc: Global,
+    words: &[Word],
+    tokens: &'a [Token],
+) -> Result<(ParsedFunc, &'a [Token]), ReadFault>
+    ensures { Gives (λ x. (plain_func x.0, plain_list x.1.now)) result ((function words.now).parse (plain_list tokens.now)) }
+{
+    let (returned, rest) = result_type(words, tokens)?;
+    let (name, rest) = name(words, rest)?;
+    let (_, rest) = skip(words, LEFT_PAREN, rest)?;
+    let (_, rest) = skip(words, VOID, rest)?;
+    let (_, rest) = skip(words, RIGHT_PAREN, rest)?;
+    function_body(alloc, words, returned, name, rest)
+}
+
+/// The head and at most one function, as far as they go.
+#[tactic(auto, unfolding(mon_syntax::specs::Grammar::text))]
+pub fn text<'a>(
+    alloc: Global,
+    words: &[Word],
+    tokens: &'a [Token],
+) -> Result<(ParsedProgram, &'a [Token]), ReadFault>
+    ensures { Gives (λ x. (plain_program x.0, plain_list x.1.now)) result ((text words.now).parse (plain_list tokens.now)) }
+{
+    let rest = head(words, tokens)?;
+    if next_begins_function(words, rest) {
+        let (function, rest) = function(alloc, words, rest)?;
+        let function = Some(function);
+        Ok((ParsedProgram { function }, rest))
+    } else {
+        let function = None;
+        Ok((ParsedProgram { function }, rest))
+    }
+}

@@ -1,0 +1,143 @@
+//! The refusal of tokens that aren't read.
+
+ghost use Rattle.std.specs.Prelude.{◌≡◌, map, slice_get, unsigned_abs, IfOk};
+ghost use Rattle.std.specs.Fmt.{decimal};
+ghost use Rattle.c_syntax.specs.Tokens.{plain_token_kind, plain_tokens};
+ghost use Rattle.c_model.specs.MonitoredTokens.{marks};
+ghost use Rattle.mon_syntax.specs.Spelled as form;
+ghost use Rattle.mon_syntax.specs.Spelled.{or_nothing, token_word, word_at, place_at, limit_word};
+ghost use Rattle.mon_parser.specs.Reading.{plain_list};
+ghost use Rattle.mon_parser.specs.Answers.{RefusesFault, RefusesWord};
+
+use crate::fault::ReadFault;
+use c_syntax::{FrontFault, Name, Place, Refusal, Token, TokenKind, Tokens};
+use std::alloc::{AllocError, Global};
+
+/// The text of this number in the table, or nothing.
+fn entry<'a>(table: &[&'a [u8]], number: u8) -> &'a [u8]
+    ensures { result.now ≡ or_nothing (slice_get (map (λ w. w.now) table.now) number) }
+{
+    match table.get(number as usize) {
+        Some(text) => *text,
+        None => b"",
+    }
+}
+
+/// A punctuator by its number (C99 6.4.6).
+#[tactic(auto, unfolding(c_model::specs::MonitoredTokens::marks))]
+pub fn spelling(mark: u8) -> &'static [u8]
+    ensures { result.now ≡ or_nothing (slice_get marks mark) }
+{
+    entry(
+        &[
+            b"<<=", b">>=", b"++", b"--", b"->", b"<<", b">>", b"<=", b">=", b"==", b"!=", b"&&",
+            b"||", b"+=", b"-=", b"*=", b"/=", b"%=", b"&=", b"|=", b"^=", b"+", b"-", b"*", b"/",
+            b"%", b"<", b">", b"=", b"!", b"~", b"&", b"|", b"^", b"?", b":", b";", b",", b".",
+            b"(", b")", b"[", b"]", b"{", b"}",
+        ],
+        mark,
+    )
+}
+
+fn decimal(alloc: Global, value: i128) -> Result<Vec<u8>, AllocError>
+    ensures { IfOk result (λ v. v.items ≡ decimal (unsigned_abs value)) }
+{
+    let magnitude = value.unsigned_abs();
+    let text = format!(in alloc; "{magnitude}")?;
+    Vec::from_slice(alloc, text.as_bytes())
+}
+
+/// How a token is named where it is refused.
+#[tactic(auto, unfolding(c_model::specs::MonitoredTokens::head_line))]
+fn token_word(alloc: Global, names: &[Name], kind: &TokenKind) -> Result<Vec<u8>, AllocError>
+    ensures { IfOk result (λ v. v.items ≡ token_word names.now (plain_token_kind kind.now)) }
+{
+    match kind {
+        TokenKind::Word(number) => match names.get(*number as usize) {
+            Some(name) => Vec::from_slice(alloc, name.bytes()),
+            None => Ok(Vec::new(alloc)),
+        },
+        TokenKind::Number(value, _) => decimal(alloc, *value),
+        TokenKind::Chars(_) => Vec::from_slice(alloc, b"string"),
+        TokenKind::Mark(mark) => Vec::from_slice(alloc, spelling(*mark)),
+        TokenKind::Head(_, _) => Vec::from_slice(alloc, b"#include <e_acsl.h>"),
+    }
+}
+
+/// How the first of tokens is named where it is refused, or the end of the text.
+pub fn word_at(alloc: Global, names: &[Name], tokens: &[Token]) -> Result<Vec<u8>, AllocError>
+    ensures { IfOk result (λ v. v.items ≡ word_at names.now (plain_list tokens.now)) }
+{
+    match tokens {
+        [] => Vec::from_slice(alloc, b"end of file"),
+        [token, ..] => token_word(alloc, names, &token.kind),
+    }
+}
+
+fn place_at(end: Place, tokens: &[Token]) -> Place
+    ensures { result ≡ place_at end (plain_list tokens.now) }
+{
+    match tokens {
+        [] => end,
+        [token, ..] => token.place,
+    }
+}
+
+/// The last n tokens; none where there aren't so many.
+#[tactic(auto, using(crate::proofs::Refusals::last_is, crate::proofs::Refusals::last_none))]
+fn last(n: usize, tokens: &[Token]) -> &[Token]
+    ensures { plain_list result.now ≡ form.last n (plain_list tokens.now) }
+{
+    if n <= tokens.len() {
+        let (_, rest) = tokens.split_at(tokens.len() - n);
+        rest
+    } else {
+        &[]
+    }
+}
+
+/// What passes a limit: `expression` for a parenthesis, and else `nesting`.
+fn limit_word(tokens: &[Token]) -> &'static [u8]
+    ensures { result.now ≡ limit_word (plain_list tokens.now) }
+{
+    match tokens {
+        [] => b"",
+        [token, ..] => match token.kind {
+            TokenKind::Mark(39) => b"expression",
+            _ => b"nesting",
+        },
+    }
+}
+
+/// A refusal, or want of memory where its word is wanting.
+fn refused(code: u8, place: Place, word: Result<Vec<u8>, AllocError>) -> FrontFault
+    ensures { RefusesWord code place word result }
+{
+    match word {
+        Ok(word) => FrontFault::Refused(Refusal {
+            code,
+            place,
+            construct: Name::new(word),
+        }),
+        Err(_) => FrontFault::Memory,
+    }
+}
+
+/// The refusal for a fault.
+pub fn refuse(alloc: Global, tokens: &Tokens, fault: ReadFault) -> FrontFault
+    ensures { RefusesFault (plain_tokens tokens.now) fault result }
+{
+    match fault {
+        ReadFault::At(n) => {
+            let rest = last(n, tokens.list.as_slice());
+            let word = word_at(alloc, tokens.names.as_slice(), rest);
+            refused(4, place_at(tokens.end, rest), word)
+        }
+        ReadFault::Over(n) => {
+            let rest = last(n, tokens.list.as_slice());
+            let word = Vec::from_slice(alloc, limit_word(rest));
+            refused(11, place_at(tokens.end, rest), word)
+        }
+        ReadFault::Memory => FrontFault::Memory,
+    }
+}

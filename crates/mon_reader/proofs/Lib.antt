@@ -1,0 +1,3 @@
+pub mod OneFault
+pub mod Phases
+pub mod Texts

@@ -1,0 +1,49 @@
+-- From a phase's refusal to the refusal of the text.
+use Rattle.std.proofs.Common.{◌≡◌, ℕ, List, Some, Ok, Err, sym, ap, subst, ◌∙◌}
+use Rattle.c_syntax.specs.declared.place.Place.{Place}
+use Rattle.c_syntax.specs.declared.refusal.FrontFault.{FrontFault}
+use Rattle.c_syntax.specs.declared.refusal.FrontFault.TheVariants as front
+use Rattle.c_syntax.specs.Tokens.{PlainTokens}
+use Rattle.c_model.specs.MonitoredTokens.{monitored_tokens}
+use Rattle.mon_syntax.specs.Trees.{MonitoredProgram}
+use Rattle.mon_syntax.specs.Parsed.{ParsedProgram}
+use Rattle.mon_syntax.specs.Grammar.{Vocabulary}
+use Rattle.mon_syntax.specs.Checking.{Fault, Checked, checked_program}
+use Rattle.mon_syntax.specs.Spelled.{vocabulary, IsRead, checked, check_refusal, no_main, main_refusal, ByGrammar, ByNamesAndTypes, ForMain}
+use Rattle.mon_parser.specs.Answers as parser
+use Rattle.mon_typing.specs.declared.fault.CheckFault.{CheckFault}
+use Rattle.mon_typing.specs.declared.fault.CheckFault.TheVariants.{BadName, BadType, Memory}
+use Rattle.mon_typing.specs.Answers.{Fails}
+use Rattle.mon_reader.specs.Answers.{Refuses, HasFault, RefusesWith, RefusesFault}
+
+-- ---- names and types
+
+module _ (ts : PlainTokens) (p : ParsedProgram) where
+  fault_found : (f : Fault) (e : FrontFault) → checked ts p ≡ Err f → RefusesWith (check_refusal ts f) e → HasFault e ts p
+  fault_found f front.Memory k g = tt
+  fault_found f (front.Refused x) k g = record { fault = f; found = k; is = g }
+
+  faulty : (f : CheckFault) (e : FrontFault) → Fails f (checked ts p) → RefusesFault ts f e → HasFault e ts p
+  faulty (BadName at) e k g = fault_found (record { code = 5; place = at }) e k g
+  faulty (BadType at) e k g = fault_found (record { code = 6; place = at }) e k g
+  faulty Memory e k g = subst (λ (x : FrontFault). HasFault x ts p) (sym g) tt
+
+  -- the same of the names and words that were read
+  pub check_fails : (names : List (List ℕ)) (ws : Vocabulary) (f : CheckFault) (e : FrontFault) → names ≡ ts.names → ws ≡ vocabulary ts → Fails f (checked_program names ws p) → RefusesFault ts f e → HasFault e ts p
+  check_fails names ws f e q r k g = faulty f e (subst (λ (c : Checked MonitoredProgram). Fails f c) (λ i. checked_program (q i) (r i) p) k) g
+
+-- ---- the text
+
+module _ (text : List ℕ) (ts : PlainTokens) (has : monitored_tokens text ≡ Ok ts) where
+  pub refused_by_grammar : (e : FrontFault) → parser.Refuses e ts → Refuses e text
+  refused_by_grammar front.Memory g = tt
+  refused_by_grammar (front.Refused x) g = ByGrammar ts g.fault has g.refused g.unread g.is
+
+  module _ (p : ParsedProgram) (read : IsRead ts p) where
+    pub refused_by_check : (e : FrontFault) → HasFault e ts p → Refuses e text
+    refused_by_check front.Memory g = tt
+    refused_by_check (front.Refused x) g = ByNamesAndTypes ts p g.fault has read g.found g.is
+
+    pub refused_for_main : (m : MonitoredProgram) (names : List (List ℕ)) (at : Place) (e : FrontFault) → checked ts p ≡ Ok m → names ≡ ts.names → Some (no_main at) ≡ main_refusal names p → RefusesWith (no_main at) e → Refuses e text
+    refused_for_main m names at front.Memory k q f g = tt
+    refused_for_main m names at (front.Refused x) k q f g = ForMain ts p m has read k (ap (λ (ns : List (List ℕ)). main_refusal ns p) (sym q) ∙ sym f ∙ ap Some (sym g))

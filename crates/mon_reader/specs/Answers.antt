@@ -1,0 +1,43 @@
+-- What the answers on a monitored text mean.
+use Rattle.std.specs.Prelude.{◌≡◌, ℕ, List, Result, Ok, Err, Vec}
+use Rattle.std.specs.declared.alloc.Global.{Global}
+use Rattle.c_syntax.specs.declared.place.Place.{Place}
+use Rattle.c_syntax.specs.declared.refusal.FrontFault.{FrontFault}
+use Rattle.c_syntax.specs.declared.refusal.FrontFault.TheVariants as front
+use Rattle.c_syntax.specs.Tokens.{PlainTokens}
+use Rattle.c_syntax.specs.Programs.{PlainRefusal, plain_refusal}
+use Rattle.mon_syntax.specs.Parsed.{ParsedProgram}
+use Rattle.mon_syntax.specs.Checking.{Fault}
+use Rattle.mon_syntax.specs.Spelled.{checked, check_refusal, IsMonitoredRefusal}
+use Rattle.mon_typing.specs.declared.fault.CheckFault.{CheckFault}
+use Rattle.mon_typing.specs.declared.fault.CheckFault.TheVariants.{BadName, BadType, Memory}
+
+-- a refusal is the text's; nothing is said where memory was wanting
+abbrev pub Refuses : FrontFault → List ℕ → Type 0
+Refuses front.Memory text = Unit {0}
+Refuses (front.Refused r) text = IsMonitoredRefusal text (plain_refusal r)
+
+-- The refusal is that of the tree's first fault in names and types (E5, E6).
+pub record IsCheckRefusal (ts : PlainTokens) (p : ParsedProgram) (r : PlainRefusal) : Type 0 where
+  pub fault : Fault
+  pub found : checked ts p ≡ Err fault
+  pub is : r ≡ check_refusal ts fault
+
+abbrev pub HasFault : FrontFault → PlainTokens → ParsedProgram → Type 0
+HasFault front.Memory ts p = Unit {0}
+HasFault (front.Refused r) ts p = IsCheckRefusal ts p (plain_refusal r)
+
+abbrev pub RefusesWith : PlainRefusal → FrontFault → Type 0
+RefusesWith r front.Memory = Unit {0}
+RefusesWith r (front.Refused x) = plain_refusal x ≡ r
+
+-- the refusal with this code, place and word, where there is a word
+abbrev pub RefusesWord : {E : Type 0} → ℕ → Place → Result (Vec ℕ Global) E → FrontFault → Type 0
+RefusesWord code at (Ok word) e = RefusesWith (record { code = code; place = at; construct = word.items }) e
+RefusesWord code at (Err f) e = e ≡ front.Memory
+
+-- the refusal for a fault in names and types
+abbrev pub RefusesFault : PlainTokens → CheckFault → FrontFault → Type 0
+RefusesFault ts (BadName at) e = RefusesWith (check_refusal ts (record { code = 5; place = at })) e
+RefusesFault ts (BadType at) e = RefusesWith (check_refusal ts (record { code = 6; place = at })) e
+RefusesFault ts Memory e = e ≡ front.Memory

@@ -1,0 +1,66 @@
+//! The refusals of a tree.
+
+ghost use Rattle.std.specs.Prelude.{◌≡◌, codes};
+ghost use Rattle.c_syntax.specs.Tokens.{plain_tokens};
+ghost use Rattle.mon_syntax.specs.Spelled.{from_place, check_refusal, no_main};
+ghost use Rattle.mon_parser.specs.Reading.{plain_list};
+ghost use Rattle.mon_reader.specs.Answers.{RefusesWith, RefusesWord, RefusesFault};
+
+use c_syntax::{FrontFault, Name, Place, Refusal, Token, Tokens};
+use mon_parser::word_at;
+use mon_typing::CheckFault;
+use std::alloc::{AllocError, Global};
+
+/// The tokens from a place on.
+fn from_place(at: Place, tokens: &[Token]) -> &[Token]
+    ensures { plain_list result.now ≡ from_place at (plain_list tokens.now) }
+{
+    let mut rest = tokens;
+    'turn: while let [token, after @ ..] = rest {
+        if token.place.offset == at.offset {
+            return rest;
+        }
+        rest = after;
+    }
+    rest
+}
+
+/// A refusal, or want of memory where its word is wanting.
+fn refused(code: u8, place: Place, word: Result<Vec<u8>, AllocError>) -> FrontFault
+    ensures { RefusesWord code place word result }
+{
+    match word {
+        Ok(word) => FrontFault::Refused(Refusal {
+            code,
+            place,
+            construct: Name::new(word),
+        }),
+        Err(_) => FrontFault::Memory,
+    }
+}
+
+/// A refusal with the word of the token at its place.
+fn refused_at(alloc: Global, tokens: &Tokens, code: u8, place: Place) -> FrontFault
+    ensures { RefusesWith (check_refusal (plain_tokens tokens.now) (record { code = code; place = place })) result }
+{
+    let rest = from_place(place, tokens.list.as_slice());
+    refused(code, place, word_at(alloc, tokens.names.as_slice(), rest))
+}
+
+/// The refusal of a tree for a fault in its names and types.
+pub fn refuse(alloc: Global, tokens: &Tokens, fault: CheckFault) -> FrontFault
+    ensures { RefusesFault (plain_tokens tokens.now) fault result }
+{
+    match fault {
+        CheckFault::BadName(place) => refused_at(alloc, tokens, 5, place),
+        CheckFault::BadType(place) => refused_at(alloc, tokens, 6, place),
+        CheckFault::Memory => FrontFault::Memory,
+    }
+}
+
+/// The refusal of a text for want of `main`.
+pub fn no_main(alloc: Global, place: Place) -> FrontFault
+    ensures { RefusesWith (no_main place) result }
+{
+    refused(13, place, Vec::from_slice(alloc, b"main"))
+}

@@ -1,0 +1,12 @@
+pub mod Registers
+pub mod Parts
+pub mod Calls
+pub mod Labels
+pub mod Lists
+pub mod Statements
+pub mod Functions
+pub mod Holds
+pub mod Names
+pub mod Validity
+pub mod Typed
+pub mod Words

@@ -1,0 +1,192 @@
+-- Checked expressions and calls are valid.
+use Rattle.std.proofs.Common.{◌≡◌, ℕ, suc, ◌+◌, ◌<◌, ◌≤◌, max, Bool, true, false, ◌&&◌, cond, List, [], ◌∷◌, map, Option, Some, None, slice_get, Ok, Err, eqb, leb, leb-true, codes, unsigned_abs, bytes_eq, refl, sym, ap, subst, ◌∙◌, arith}
+use Rattle.std.specs.List.{AllByRecursion}
+use Rattle.c_syntax.specs.declared.place.Place.{Place}
+use Rattle.mon_syntax.specs.declared.tree.MonType.{MonType}
+use Rattle.mon_syntax.specs.declared.tree.MonType.TheVariants.{I8, U8, I16, U16, I32, U32, I64, U64, I128}
+use Rattle.mon_syntax.specs.declared.word.Runtime.{Runtime}
+use Rattle.mon_syntax.specs.declared.word.Runtime.TheVariants as runtime
+use Rattle.mon_syntax.specs.declared.word.Word.{Word}
+use Rattle.mon_syntax.specs.declared.word.Word.TheVariants as word
+use Rattle.mon_syntax.specs.Trees as tree
+use Rattle.mon_syntax.specs.Trees.{MonExpression, MonStatement}
+use Rattle.mon_syntax.specs.Parsed.{NameUse, ParsedExpression, Name, Constant, Binary, Minus, Flip, Cast, ParsedArgument, Value, Number, Text, ParsedCall}
+use Rattle.mon_syntax.specs.Grammar.{word_at, is_step_word, has_no_argument}
+use Rattle.mon_syntax.specs.Valid as valid
+use Rattle.mon_syntax.specs.Valid.{Types, HasType, IsExpression, Labels, TakesResult, IsStatement, is_arithmetic, result_type, has_constant, greatest_number}
+use Rattle.mon_syntax.specs.Checking.{Scope, Typed, Checked, ◌>>=◌, ◌>>◌, same_type, name_fault, type_fault, find_register, or_fault, register_of, bytes_of, place_of, checked_expression, of_type, value_of_type, small_number, string, kind_named, others, wrong_number, no_more, next, assert_call, one_value, runtime_call, call_of_word, checked_call, taken, returned}
+use Rattle.mon_typing.specs.Within.{open_parens, HasFewParens, IsArgumentWithin, HasFewParensWhereAny}
+use Rattle.mon_typing.proofs.Holds.{Holds, holds_behind, holds_where, holds_all, first_true, second_true}
+
+pub same : (a b : MonType) → same_type a b ≡ true → a ≡ b
+same I8 I8 h = refl
+same U8 U8 h = refl
+same I16 I16 h = refl
+same U16 U16 h = refl
+same I32 I32 h = refl
+same U32 U32 h = refl
+same I64 I64 h = refl
+same U64 U64 h = refl
+same I128 I128 h = refl
+same a b h = absurd cc
+
+-- ---- registers
+
+abbrev pub kinds : List (ℕ × MonType) → Types
+kinds rs = map (λ (r : ℕ × MonType). r.1) rs
+
+abbrev Found : ℕ → List (ℕ × MonType) → Option (ℕ × MonType) → Type 0
+Found n rs None = Unit {0}
+Found n rs (Some r) = (i : ℕ) × (r.0 ≡ n + i) × (slice_get (kinds rs) i ≡ Some r.1)
+
+found_later : (n : ℕ) (x : ℕ × MonType) (rs : List (ℕ × MonType)) (o : Option (ℕ × MonType)) → Found (suc n) rs o → Found n (x ∷ rs) o
+found_later n x rs None h = tt
+found_later n x rs (Some r) h = let e : r.0 ≡ n + suc h.0 = omega (arith, h.1) in (suc h.0, e, h.2)
+
+found_at : (n : ℕ) (x : ℕ × MonType) (rs : List (ℕ × MonType)) (o : Option (ℕ × MonType)) (b : Bool) → Found (suc n) rs o → Found n (x ∷ rs) (cond b (Some (n, x.1)) o)
+found_at n x rs o true h = let e : n ≡ n + 0 = omega arith in (0, e, refl)
+found_at n x rs o false h = found_later n x rs o h
+
+found : (n : ℕ) (rs : List (ℕ × MonType)) (x : ℕ) → Found n rs (find_register n rs x)
+found n [] x = tt
+found n (r ∷ rs) x = found_at n r rs (find_register (suc n) rs x) (eqb r.0 x) (found (suc n) rs x)
+
+holds_found : (rs : List (ℕ × MonType)) (o : Option (ℕ × MonType)) (at : Place) → Found 0 rs o → Holds (λ r. slice_get (kinds rs) r.0 ≡ Some r.1) (or_fault o at)
+holds_found rs None at h = tt
+holds_found rs (Some r) at h = let e : r.0 ≡ h.0 = omega (arith, h.1) in ap (slice_get (kinds rs)) e ∙ h.2
+
+module _ (s : Scope) where
+  abbrev types : Types
+  types = kinds s.registers
+
+  pub register_typed : (x : NameUse) → Holds (λ r. slice_get types r.0 ≡ Some r.1) (register_of s x)
+  register_typed x = holds_found s.registers (find_register 0 s.registers x.number) x.place (found 0 s.registers x.number)
+
+  -- ---- expressions
+
+  abbrev IsTyped : ParsedExpression → Typed → Type 0
+  IsTyped e x = HasType types x.0 x.1 × (valid.open_parens x.0 ≡ open_parens e)
+
+  pub typed : (e : ParsedExpression) → Holds (IsTyped e) (checked_expression s e)
+  typed (Name x) = holds_behind (λ r. slice_get types r.0 ≡ Some r.1) (IsTyped (Name x)) (register_of s x) (λ r. Ok (tree.Register r.0, r.1)) (register_typed x) (λ r h. (h, refl))
+  typed (Constant at t z) = holds_where (IsTyped (Constant at t z)) (has_constant t z) at (Ok (tree.Constant t z, t)) (λ h. ((refl, h), refl))
+  typed (Binary at op a b) =
+      holds_behind (IsTyped a) (IsTyped (Binary at op a b)) (checked_expression s a) _ (typed a) (λ x p.
+      holds_behind (IsTyped b) (IsTyped (Binary at op a b)) (checked_expression s b) _ (typed b) (λ y q.
+      holds_where (IsTyped (Binary at op a b)) (same_type x.1 y.1 && is_arithmetic x.1) at (Ok (tree.Binary op x.1 x.0 y.0, result_type op x.1)) (λ h. (
+        (
+          refl,
+          second_true (same_type x.1 y.1) (is_arithmetic x.1) h,
+          p.0,
+          subst (HasType types y.0) (sym (same x.1 y.1 (first_true (same_type x.1 y.1) (is_arithmetic x.1) h))) q.0,
+        ),
+        λ i. suc (max (p.1 i) (q.1 i)),
+      ))))
+  typed (Minus at a) =
+      holds_behind (IsTyped a) (IsTyped (Minus at a)) (checked_expression s a) _ (typed a) (λ x p.
+      holds_where (IsTyped (Minus at a)) (is_arithmetic x.1) at (Ok (tree.Minus x.1 x.0, x.1)) (λ h. ((refl, h, p.0), λ i. suc (p.1 i))))
+  typed (Flip at a) =
+      holds_behind (IsTyped a) (IsTyped (Flip at a)) (checked_expression s a) _ (typed a) (λ x p.
+      holds_where (IsTyped (Flip at a)) (is_arithmetic x.1) at (Ok (tree.Flip x.1 x.0, x.1)) (λ h. ((refl, h, p.0), λ i. suc (p.1 i))))
+  typed (Cast at t a) =
+      holds_behind (IsTyped a) (IsTyped (Cast at t a)) (checked_expression s a) (λ x. Ok (tree.Cast t x.0, t)) (typed a) (λ x p. ((refl, (x.1, p.0)), λ i. suc (max 1 (p.1 i))))
+
+  pub is_expression : (t : MonType) (at : Place) (e : ParsedExpression) → HasFewParens e → Holds (λ v. IsExpression types v t) (of_type s t at e)
+  is_expression t at e few =
+      holds_behind (IsTyped e) (λ v. IsExpression types v t) (checked_expression s e) _ (typed e) (λ x p.
+      holds_where (λ v. IsExpression types v t) (same_type x.1 t) at (Ok x.0) (λ h.
+      record { typed = subst (HasType types x.0) (same x.1 t h) p.0; within = subst (λ (n : ℕ). n ≤ valid.most_open_parens) (sym p.1) few }))
+
+  -- ---- arguments
+
+  value_valid : (t : MonType) (a : ParsedArgument) → IsArgumentWithin a → Holds (λ v. IsExpression types v t) (value_of_type s t a)
+  value_valid t (Value e) few = is_expression t (place_of e) e few
+  value_valid t (Number at z) w = tt
+  value_valid t (Text at bytes) w = tt
+
+  faulty : {A : Type 0} (P : A → Type 0) (c : Checked Typed) (at : Place) → Holds P (c >>= λ x. type_fault at)
+  faulty P (Ok x) at = tt
+  faulty P (Err e) at = tt
+
+  number_valid : (a : ParsedArgument) → IsArgumentWithin a → Holds (λ n. n ≤ greatest_number) (small_number s a)
+  number_valid (Value e) w = faulty (λ n. n ≤ greatest_number) (checked_expression s e) (place_of e)
+  number_valid (Number at z) w = holds_where (λ n. n ≤ greatest_number) (leb (unsigned_abs z) greatest_number) at (Ok (unsigned_abs z)) (leb-true (unsigned_abs z) greatest_number)
+  number_valid (Text at bytes) w = tt
+
+  string_valid : (a : ParsedArgument) → IsArgumentWithin a → Holds (λ w. AllByRecursion (λ b. b < 256) w.0) (string s a)
+  string_valid (Value e) w = faulty (λ (w : List ℕ × Place). AllByRecursion (λ b. b < 256) w.0) (checked_expression s e) (place_of e)
+  string_valid (Number at z) w = tt
+  string_valid (Text at bytes) w = w
+
+  kind_valid : (a : ParsedArgument) → IsArgumentWithin a → Holds (λ k. Unit {0}) (kind_named s a)
+  kind_valid a w = holds_all (kind_named s a)
+
+  abbrev Within : List ParsedArgument → Type 0
+  Within xs = AllByRecursion IsArgumentWithin xs
+
+  next_valid : {A B : Type 0} (P : A → Type 0) (Q : B → Type 0) (at : Place) (f : ParsedArgument → Checked A) (xs : List ParsedArgument) (go : A → List ParsedArgument → Checked B) → Within xs
+      → ((a : ParsedArgument) → IsArgumentWithin a → Holds P (f a)) → ((x : A) (more : List ParsedArgument) → P x → Within more → Holds Q (go x more)) → Holds Q (next s at f xs go)
+  next_valid P Q at f [] go w p h = tt
+  next_valid P Q at f (a ∷ more) go w p h = holds_behind P Q (f a) (λ x. go x more) (p a w.0) (λ x q. h x more q w.1)
+
+  wrong : {A : Type 0} (Q : A → Type 0) (c : Checked (Unit {0})) (at : Place) → Holds Q (c >> type_fault at)
+  wrong Q (Ok u) at = tt
+  wrong Q (Err e) at = tt
+
+  more_valid : {A : Type 0} (Q : A → Type 0) (at : Place) (xs : List ParsedArgument) (a : A) → Q a → Holds Q (no_more s at xs a)
+  more_valid Q at [] a q = q
+  more_valid Q at (x ∷ xs) a q = wrong Q (others s (x ∷ xs)) at
+
+  -- ---- calls
+
+  module _ (t : Option MonType) (ls : Labels) where
+    -- a call's statement, which is a step or not
+    abbrev IsCall : Bool → MonStatement → Type 0
+    IsCall b m = IsStatement types t ls m × (valid.depth m ≡ 1) × (valid.is_step m ≡ b)
+
+    one_valid : (at : Place) (k : MonType) (xs : List ParsedArgument) (f : MonExpression → MonStatement) → Within xs → ((e : MonExpression) → IsExpression types e k → IsCall false (f e)) → Holds (IsCall false) (one_value s at k xs f)
+    one_valid at k xs f w h = next_valid (λ e. IsExpression types e k) (IsCall false) at (value_of_type s k) xs (λ e more. no_more s at more (f e)) w (value_valid k) (λ e more p v. more_valid (IsCall false) at more (f e) (h e p))
+
+    assert_valid : (at : Place) (xs : List ParsedArgument) → Within xs → Holds (IsCall false) (assert_call s at xs)
+    assert_valid at xs w =
+        next_valid (λ e. IsExpression types e I32) (IsCall false) at (value_of_type s I32) xs _ w (value_valid I32) (λ d xs1 p w1.
+        next_valid (λ e. IsExpression types e I32) (IsCall false) at (value_of_type s I32) xs1 _ w1 (value_valid I32) (λ v xs2 q w2.
+        next_valid (λ n. n ≤ greatest_number) (IsCall false) at (small_number s) xs2 _ w2 number_valid (λ n xs3 r w3.
+        next_valid (λ n. n ≤ greatest_number) (IsCall false) at (small_number s) xs3 _ w3 number_valid (λ line xs4 l w4.
+        next_valid (λ k. Unit {0}) (IsCall false) at (kind_named s) xs4 (λ k xs5. no_more s at xs5 (tree.Assert d v n line k)) w4 kind_valid (λ k xs5 u w5.
+        more_valid (IsCall false) at xs5 (tree.Assert d v n line k) ((p, q, r, l), refl, refl))))))
+
+    step_valid : (at : Place) (xs : List ParsedArgument) → Holds (IsCall (has_no_argument xs)) (no_more s at xs tree.Step)
+    step_valid at [] = (tt, refl, refl)
+    step_valid at (x ∷ xs) = wrong (IsCall false) (others s (x ∷ xs)) at
+
+    runtime_valid : (f : NameUse) (at : Place) (xs : List ParsedArgument) (r : Runtime) → Within xs → Holds (IsCall (is_step_word (word.Runtime r) && has_no_argument xs)) (runtime_call s f at xs r)
+    runtime_valid f at xs runtime.Step w = step_valid at xs
+    runtime_valid f at xs runtime.Assert w = assert_valid at xs w
+    runtime_valid f at xs runtime.PutChar w = one_valid at I32 xs (tree.PutChar None) w (λ e p. ((tt, p), refl, refl))
+    runtime_valid f at xs runtime.Exit w = one_valid at I32 xs tree.Exit w (λ e p. (p, refl, refl))
+    runtime_valid f at xs runtime.PrintText w = next_valid (λ v. AllByRecursion (λ b. b < 256) v.0) (IsCall false) at (string s) xs (λ v more. no_more s at more (tree.PrintText v.0)) w string_valid (λ v more p u. more_valid (IsCall false) at more (tree.PrintText v.0) (p, refl, refl))
+    runtime_valid f at xs runtime.PrintSigned w = one_valid at I64 xs tree.PrintSigned w (λ e p. (p, refl, refl))
+    runtime_valid f at xs runtime.PrintUnsigned w = one_valid at U64 xs tree.PrintUnsigned w (λ e p. (p, refl, refl))
+    runtime_valid f at xs runtime.Kept w = tt
+
+    named_at : (P : MonStatement → Type 0) (f : NameUse) (at : Place) (xs : List ParsedArgument) (b : Bool) → Holds P (cond b (wrong_number s at xs) (name_fault f.place))
+    named_at P f at xs true = wrong P (others s xs) at
+    named_at P f at xs false = tt
+
+    word_valid : (c : ParsedCall) (w : Word) → Within c.arguments → Holds (IsCall (is_step_word w && has_no_argument c.arguments)) (call_of_word s c w)
+    word_valid c (word.Runtime r) v = runtime_valid c.callee c.place c.arguments r v
+    word_valid c w v = named_at (IsCall (is_step_word w && has_no_argument c.arguments)) c.callee c.place c.arguments (bytes_eq (bytes_of s c.callee.number) (codes "main"))
+
+    pub call_valid : (c : ParsedCall) → Within c.arguments → Holds (IsCall (is_step_word (word_at s.words c.callee.number) && has_no_argument c.arguments)) (checked_call s c)
+    call_valid c w = word_valid c (word_at s.words c.callee.number) w
+
+    pub taken_valid : (b : Bool) (r : ℕ × MonType) (at : Place) (m : MonStatement) → slice_get types r.0 ≡ Some r.1 → IsCall b m → Holds (IsCall false) (taken r at m)
+    taken_valid b r at (tree.PutChar x e) h p = holds_where (IsCall false) (same_type I32 r.1) at (Ok (tree.PutChar (Some r.0) e)) (λ k. ((h ∙ ap Some (sym (same I32 r.1 k)), p.0.1), refl, refl))
+    taken_valid b r at m h p = tt
+
+  pub returned_valid : (t : Option MonType) (ls : Labels) (at : Place) (e : Option ParsedExpression) → HasFewParensWhereAny e → Holds (IsCall t ls false) (returned s t at e)
+  returned_valid None ls at None few = (tt, refl, refl)
+  returned_valid None ls at (Some e) few = faulty (IsCall None ls false) (checked_expression s e) at
+  returned_valid (Some t) ls at None few = tt
+  returned_valid (Some t) ls at (Some e) few = holds_behind (λ v. IsExpression types v t) (IsCall (Some t) ls false) (of_type s t at e) (λ x. Ok (tree.Return (Some x))) (is_expression t at e few) (λ x p. (p, refl, refl))

@@ -1,0 +1,6 @@
+pub mod Answers
+pub mod Scopes
+pub mod Operators
+pub mod Arguments
+pub mod Within
+pub mod Laws

@@ -1,0 +1,20 @@
+-- Operators on operands that have no fault.
+use Rattle.std.specs.Prelude.{ℤ, Ok, ◌&&◌}
+use Rattle.c_syntax.specs.declared.place.Place.{Place}
+use Rattle.mon_syntax.specs.declared.tree.MonType.{MonType}
+use Rattle.mon_syntax.specs.declared.tree.MonOp.{MonOp}
+use Rattle.mon_syntax.specs.Trees as tree
+use Rattle.mon_syntax.specs.Valid.{is_arithmetic, result_type, has_constant}
+use Rattle.mon_syntax.specs.Checking.{Checked, Typed, ◌>>◌, demanded, same_type}
+
+abbrev pub constant : Place → MonType → ℤ → Checked Typed
+constant at t z = demanded (has_constant t z) at >> Ok (tree.Constant t z, t)
+
+abbrev pub binary : Place → MonOp → Typed → Typed → Checked Typed
+binary at op x y = demanded (same_type x.1 y.1 && is_arithmetic x.1) at >> Ok (tree.Binary op x.1 x.0 y.0, result_type op x.1)
+
+abbrev pub minus : Place → Typed → Checked Typed
+minus at x = demanded (is_arithmetic x.1) at >> Ok (tree.Minus x.1 x.0, x.1)
+
+abbrev pub flip : Place → Typed → Checked Typed
+flip at x = demanded (is_arithmetic x.1) at >> Ok (tree.Flip x.1 x.0, x.1)

@@ -1,0 +1,20 @@
+-- What is known of a text's names, without references.
+use Rattle.std.specs.Prelude.{ℕ, List, map, Bool, not, ◌&&◌, nat_eq}
+use Rattle.std.specs.List.{list_any}
+use Rattle.mon_syntax.specs.declared.tree.MonType.{MonType}
+use Rattle.mon_syntax.specs.Parsed.{ParsedRegister}
+use Rattle.mon_syntax.specs.Grammar.{Vocabulary, word_at}
+use Rattle.mon_syntax.specs.Checking.{is_free}
+use Rattle.mon_syntax.specs.Checking as plain
+use Rattle.mon_typing.specs.declared.scope.Scope.{Scope}
+
+abbrev pub plain_scope : Scope → plain.Scope
+plain_scope s = record { names = s.names.now; words = s.words.now; registers = s.registers.now.entries }
+
+-- registers by their names' numbers
+abbrev pub numbered : List ParsedRegister → List (ℕ × MonType)
+numbered rs = map (λ (r : ParsedRegister). (r.name.number, r.kind)) rs
+
+-- a name of this number is free, and no register that is known has it
+abbrev pub is_new : Vocabulary → List (ℕ × MonType) → ℕ → Bool
+is_new ws known n = is_free (word_at ws n) && not (list_any (λ (x : ℕ × MonType). nat_eq x.0 n) known)

@@ -1,0 +1,237 @@
+//! Arguments of calls, in order. A wrong number of them is a fault at the call's `(`.
+
+ghost use Rattle.std.specs.Prelude.{◌≡◌, ℕ, List, map, bytes_eq};
+ghost use Rattle.c_syntax.specs.declared.annotation.Kind.{Kind};
+ghost use Rattle.mon_syntax.specs.Trees.{plain_expr, MonExpression, MonStatement};
+ghost use Rattle.mon_syntax.specs.Parsed.{ParsedArgument};
+ghost use Rattle.mon_syntax.specs.Checking.{value_of_type, small_number, string, kind_words, kind_of, kind_named, others, wrong_number, no_more};
+ghost use Rattle.mon_parser.specs.ParsedTrees as read;
+ghost use Rattle.mon_typing.specs.Answers.{Fails, Gives};
+ghost use Rattle.mon_typing.specs.Arguments.{first_of, only_value, only_string};
+ghost use Rattle.mon_typing.specs.Scopes.{plain_scope};
+
+use crate::expression::{checked_expression, of_type, place_of};
+use crate::fault::CheckFault;
+use crate::scope::Scope;
+use c_syntax::{Kind, Name, Place};
+use mon_parser::parsed::ParsedArg;
+use mon_syntax::{MonExpr, MonType};
+use std::alloc::Global;
+
+fn value_of_type(
+    alloc: Global,
+    scope: &Scope,
+    kind: MonType,
+    argument: &ParsedArg,
+) -> Result<MonExpr, CheckFault>
+    ensures { Gives plain_expr result (value_of_type (plain_scope scope.now) kind (read.plain_arg argument.now)) }
+{
+    match argument {
+        ParsedArg::Value(e) => of_type(alloc, scope, kind, place_of(e), e),
+        ParsedArg::Number(place, _) => Err(CheckFault::BadType(*place)),
+        ParsedArg::Text(place, _) => Err(CheckFault::BadType(*place)),
+    }
+}
+
+/// A number of at most 4,294,967,295.
+fn small_number(alloc: Global, scope: &Scope, argument: &ParsedArg) -> Result<u32, CheckFault>
+    ensures { Gives (λ n. n) result (small_number (plain_scope scope.now) (read.plain_arg argument.now)) }
+{
+    match argument {
+        ParsedArg::Value(e) => {
+            checked_expression(alloc, scope, e)?;
+            Err(CheckFault::BadType(place_of(e)))
+        }
+        ParsedArg::Number(place, value) => match u32::try_from(value.unsigned_abs()) {
+            Ok(number) => Ok(number),
+            Err(_) => Err(CheckFault::BadType(*place)),
+        },
+        ParsedArg::Text(place, _) => Err(CheckFault::BadType(*place)),
+    }
+}
+
+fn string<'a>(
+    alloc: Global,
+    scope: &Scope,
+    argument: &'a ParsedArg,
+) -> Result<(&'a Name, Place), CheckFault>
+    ensures { Gives (λ w. (w.0.now, w.1)) result (string (plain_scope scope.now) (read.plain_arg argument.now)) }
+{
+    match argument {
+        ParsedArg::Value(e) => {
+            checked_expression(alloc, scope, e)?;
+            Err(CheckFault::BadType(place_of(e)))
+        }
+        ParsedArg::Number(place, _) => Err(CheckFault::BadType(*place)),
+        ParsedArg::Text(place, text) => Ok((text, *place)),
+    }
+}
+
+fn is_word(word: &[u8], text: &[u8]) -> bool
+    ensures { result ≡ bytes_eq text.now word.now }
+{
+    text == word
+}
+
+/// The kind of annotation that the word names.
+fn kind_of(word: &[u8]) -> Option<Kind>
+    ensures { result ≡ kind_of kind_words word.now }
+{
+    if is_word(word, b"assert") {
+        Some(Kind::Assert)
+    } else if is_word(word, b"requires") {
+        Some(Kind::Requires)
+    } else if is_word(word, b"assumes") {
+        Some(Kind::Assumes)
+    } else if is_word(word, b"ensures") {
+        Some(Kind::Ensures)
+    } else if is_word(word, b"complete") {
+        Some(Kind::Complete)
+    } else if is_word(word, b"disjoint") {
+        Some(Kind::Disjoint)
+    } else if is_word(word, b"invariant") {
+        Some(Kind::Invariant)
+    } else if is_word(word, b"variant") {
+        Some(Kind::Variant)
+    } else if is_word(word, b"rte") {
+        Some(Kind::Rte)
+    } else {
+        None
+    }
+}
+
+fn kind_named(alloc: Global, scope: &Scope, argument: &ParsedArg) -> Result<Kind, CheckFault>
+    ensures { Gives (λ k. k) result (kind_named (plain_scope scope.now) (read.plain_arg argument.now)) }
+{
+    let (word, place) = string(alloc, scope, argument)?;
+    match kind_of(word.bytes()) {
+        Some(kind) => Ok(kind),
+        None => Err(CheckFault::BadType(place)),
+    }
+}
+
+/// Arguments of which nothing is demanded, each by itself.
+fn others(alloc: Global, scope: &Scope, arguments: &[ParsedArg]) -> Result<(), CheckFault>
+    ensures { Gives (λ u. tt) result (others (plain_scope scope.now) (map read.plain_arg arguments.now)) }
+{
+    'each: for argument in arguments {
+        match argument {
+            ParsedArg::Value(e) => {
+                checked_expression(alloc, scope, e)?;
+            }
+            ParsedArg::Number(_, _) | ParsedArg::Text(_, _) => {}
+        }
+    }
+    Ok(())
+}
+
+/// The fault of arguments of which there are too many.
+pub fn wrong_number(
+    alloc: Global,
+    scope: &Scope,
+    place: Place,
+    arguments: &[ParsedArg],
+) -> CheckFault
+    ensures { Fails result (wrong_number {A = MonStatement} (plain_scope scope.now) place (map read.plain_arg arguments.now)) }
+{
+    match others(alloc, scope, arguments) {
+        Ok(()) => CheckFault::BadType(place),
+        Err(fault) => fault,
+    }
+}
+
+/// No more arguments.
+pub fn no_more(
+    alloc: Global,
+    scope: &Scope,
+    place: Place,
+    arguments: &[ParsedArg],
+) -> Result<(), CheckFault>
+    ensures { Gives (λ u. tt) result (no_more {A = Unit {0}} (plain_scope scope.now) place (map read.plain_arg arguments.now) tt) }
+{
+    if arguments.is_empty() {
+        return Ok(());
+    }
+    others(alloc, scope, arguments)?;
+    Err(CheckFault::BadType(place))
+}
+
+/// The first argument, a value of the type, and the others.
+pub fn next_value<'a>(
+    alloc: Global,
+    scope: &Scope,
+    place: Place,
+    kind: MonType,
+    arguments: &'a [ParsedArg],
+) -> Result<(MonExpr, &'a [ParsedArg]), CheckFault>
+    ensures { let s = plain_scope scope.now in Gives {A = MonExpression × List ParsedArgument} (λ x. (plain_expr x.0, map read.plain_arg x.1.now)) result (first_of s place (value_of_type s kind) (map read.plain_arg arguments.now)) }
+{
+    match arguments {
+        [] => Err(CheckFault::BadType(place)),
+        [first, more @ ..] => Ok((value_of_type(alloc, scope, kind, first)?, more)),
+    }
+}
+
+/// The first argument, a number, and the others.
+pub fn next_number<'a>(
+    alloc: Global,
+    scope: &Scope,
+    place: Place,
+    arguments: &'a [ParsedArg],
+) -> Result<(u32, &'a [ParsedArg]), CheckFault>
+    ensures { let s = plain_scope scope.now in Gives {A = ℕ × List ParsedArgument} (λ x. (x.0, map read.plain_arg x.1.now)) result (first_of s place (small_number s) (map read.plain_arg arguments.now)) }
+{
+    match arguments {
+        [] => Err(CheckFault::BadType(place)),
+        [first, more @ ..] => Ok((small_number(alloc, scope, first)?, more)),
+    }
+}
+
+/// The first argument, the kind of an annotation, and the others.
+pub fn next_kind<'a>(
+    alloc: Global,
+    scope: &Scope,
+    place: Place,
+    arguments: &'a [ParsedArg],
+) -> Result<(Kind, &'a [ParsedArg]), CheckFault>
+    ensures { let s = plain_scope scope.now in Gives {A = Kind × List ParsedArgument} (λ x. (x.0, map read.plain_arg x.1.now)) result (first_of s place (kind_named s) (map read.plain_arg arguments.now)) }
+{
+    match arguments {
+        [] => Err(CheckFault::BadType(place)),
+        [first, more @ ..] => Ok((kind_named(alloc, scope, first)?, more)),
+    }
+}
+
+/// One argument, a value of the type, and no others.
+pub fn only_value(
+    alloc: Global,
+    scope: &Scope,
+    place: Place,
+    kind: MonType,
+    arguments: &[ParsedArg],
+) -> Result<MonExpr, CheckFault>
+    ensures { Gives plain_expr result (only_value (plain_scope scope.now) place kind (map read.plain_arg arguments.now)) }
+{
+    let (value, more) = next_value(alloc, scope, place, kind, arguments)?;
+    no_more(alloc, scope, place, more)?;
+    Ok(value)
+}
+
+/// One argument, a string, and no others.
+pub fn only_string<'a>(
+    alloc: Global,
+    scope: &Scope,
+    place: Place,
+    arguments: &'a [ParsedArg],
+) -> Result<&'a Name, CheckFault>
+    ensures { Gives (λ w. w.now) result (only_string (plain_scope scope.now) place (map read.plain_arg arguments.now)) }
+{
+    match arguments {
+        [] => Err(CheckFault::BadType(place)),
+        [first, more @ ..] => {
+            let (text, _) = string(alloc, scope, first)?;
+            no_more(alloc, scope, place, more)?;
+            Ok(text)
+        }
+    }
+}

@@ -1,0 +1,63 @@
+//! What is known of a text's names.
+
+ghost use Rattle.std.specs.Prelude.{◌≡◌, IfOk};
+ghost use Rattle.mon_syntax.specs.Grammar.{word_at};
+ghost use Rattle.mon_syntax.specs.Checking.{word_bytes, register_of, is_free};
+ghost use Rattle.mon_parser.specs.ParsedTrees.{plain_name};
+ghost use Rattle.mon_typing.specs.Answers.{Gives};
+ghost use Rattle.mon_typing.specs.Scopes.{plain_scope};
+
+use crate::fault::CheckFault;
+use c_syntax::Name;
+use indexmap::IndexMap;
+use mon_parser::parsed::NameUse;
+use mon_syntax::{MonType, Word};
+use std::alloc::{AllocError, Global};
+
+/// The names of the text and what they are, and the registers by their names' numbers.
+#[derive(Clone, Copy, Drop)]
+pub struct Scope<'a> {
+    pub names: &'a [Name],
+    pub words: &'a [Word],
+    pub registers: &'a IndexMap<u32, MonType>,
+}
+
+/// What the name of a number is.
+pub fn word_at(words: &[Word], number: u32) -> Word
+    ensures { result ≡ word_at words.now number }
+{
+    match words.get(number as usize) {
+        Some(word) => *word,
+        None => Word::Name,
+    }
+}
+
+/// Whether a register, a label or a function may be called so.
+pub fn is_free(word: Word) -> bool
+    ensures { result ≡ is_free word }
+{
+    matches!(word, Word::Name)
+}
+
+/// A copy of the name of a number, or an empty one where there is none.
+pub fn name_at(alloc: Global, names: &[Name], number: u32) -> Result<Name, AllocError>
+    ensures { IfOk result (λ name. name ≡ word_bytes names.now number) }
+{
+    match names.get(number as usize) {
+        Some(name) => Ok(Name::new(Vec::from_slice(alloc, name.bytes())?)),
+        None => Ok(Name::new(Vec::new(alloc))),
+    }
+}
+
+/// A register by its number in the function, with its type.
+pub fn register_of(scope: &Scope, name: NameUse) -> Result<(u32, MonType), CheckFault>
+    ensures { Gives (λ r. r) result (register_of (plain_scope scope.now) (plain_name name)) }
+{
+    match scope.registers.get_full(&name.number) {
+        Some((index, _, kind)) => match u32::try_from(index) {
+            Ok(number) => Ok((number, *kind)),
+            Err(_) => Err(CheckFault::Memory),
+        },
+        None => Err(CheckFault::BadName(name.place)),
+    }
+}

@@ -1,0 +1,57 @@
+//! Types of registers.
+
+ghost use Rattle.std.specs.Prelude.{◌≡◌, IsTrue};
+ghost use Rattle.mon_syntax.specs.Checking.{same_type};
+ghost use Rattle.mon_syntax.specs.Valid.{is_arithmetic, is_relation, result_type, has_constant};
+
+use mon_syntax::{MonOp, MonType};
+
+pub fn same_type(first: MonType, second: MonType) -> bool
+    ensures { result ≡ same_type first second }
+{
+    first == second
+}
+
+/// Whether operators work on the type.
+pub fn is_arithmetic(kind: MonType) -> bool
+    ensures { result ≡ is_arithmetic kind }
+{
+    match kind {
+        MonType::I8 | MonType::U8 | MonType::I16 | MonType::U16 => false,
+        MonType::I32 | MonType::U32 | MonType::I64 | MonType::U64 | MonType::I128 => true,
+    }
+}
+
+fn is_relation(op: MonOp) -> bool
+    ensures { result ≡ is_relation op }
+{
+    match op {
+        MonOp::Eq | MonOp::Ne | MonOp::Lt | MonOp::Le | MonOp::Gt | MonOp::Ge => true,
+        MonOp::Add | MonOp::Sub | MonOp::Mul | MonOp::Div | MonOp::Rem => false,
+        MonOp::Shl | MonOp::Shr | MonOp::And | MonOp::Or | MonOp::Xor => false,
+    }
+}
+
+/// The type that an operator gives on operands of a type.
+pub fn result_type(op: MonOp, kind: MonType) -> MonType
+    ensures { result ≡ result_type op kind }
+{
+    if is_relation(op) { MonType::I32 } else { kind }
+}
+
+/// Whether a constant of the type has the value: one of the type, but not the least `i128`.
+pub fn has_constant(kind: MonType, value: i128) -> bool
+    ensures { result ≡ has_constant kind value }
+{
+    match kind {
+        MonType::I8 => -128 <= value && value <= 127,
+        MonType::U8 => 0 <= value && value <= 255,
+        MonType::I16 => -32_768 <= value && value <= 32_767,
+        MonType::U16 => 0 <= value && value <= 65_535,
+        MonType::I32 => -2_147_483_648 <= value && value <= 2_147_483_647,
+        MonType::U32 => 0 <= value && value <= 4_294_967_295,
+        MonType::I64 => -9_223_372_036_854_775_808 <= value && value <= 9_223_372_036_854_775_807,
+        MonType::U64 => 0 <= value && value <= 18_446_744_073_709_551_615,
+        MonType::I128 => value != i128::MIN,
+    }
+}
