@@ -1,0 +1,4 @@
+pub mod Behind
+pub mod Names
+pub mod Sent
+pub mod Texts

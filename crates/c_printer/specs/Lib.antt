@@ -1,0 +1,3 @@
+pub mod Registers
+pub mod Heads
+pub mod Printing

@@ -1,0 +1,13 @@
+//! Prints programs in monitored C.
+#![tactic(auto)]
+
+mod expression;
+mod function;
+mod program;
+mod statement;
+mod strings;
+#[cfg(test)]
+mod tests;
+mod words;
+
+pub use program::print;

@@ -1,0 +1,110 @@
+use crate::print;
+use c_syntax::{Kind, Name};
+use ea_ports::{MemSink, SinkFault};
+use mon_syntax::{MonExpr, MonFunc, MonOp, MonProgram, MonStmt, MonType, Register};
+use std::alloc::{AllocError, Global};
+use std::process::Abort;
+use std::test::*;
+
+fn name(alloc: Global, text: &[u8]) -> Result<Name, AllocError> {
+    Ok(Name::new(text.to_vec(alloc)?))
+}
+
+fn register(alloc: Global, kind: MonType, text: &[u8]) -> Result<Register, AllocError> {
+    Ok(Register {
+        kind,
+        name: name(alloc, text)?,
+    })
+}
+
+fn one<T: Drop>(alloc: Global, value: T) -> Result<Vec<T>, AllocError> {
+    let mut list = Vec::new(alloc);
+    list.push(value)?;
+    Ok(list)
+}
+
+/// `i32 main(void)`, with an expression of each form.
+fn expressions(alloc: Global) -> Result<MonProgram, AllocError> {
+    let five = Box::new(alloc, MonExpr::Constant(MonType::I32, -5))?;
+    let left = Box::new(alloc, MonExpr::Register(1))?;
+    let right = Box::new(alloc, MonExpr::Minus(MonType::I32, five))?;
+    let flipped = MonExpr::Flip(MonType::I32, Box::new(alloc, MonExpr::Register(0))?);
+    let result = MonExpr::Cast(MonType::I32, Box::new(alloc, flipped)?);
+    let mut registers = one(alloc, register(alloc, MonType::I32, b"x")?)?;
+    registers.push(register(alloc, MonType::I32, b"y")?)?;
+    let mut body = Vec::new(alloc);
+    body.push(MonStmt::Set(0, MonExpr::Binary(MonOp::Sub, MonType::I32, left, right)))?;
+    body.push(MonStmt::Return(Some(result)))?;
+    let main = MonFunc {
+        result: Some(MonType::I32),
+        name: name(alloc, b"main")?,
+        parameters: Vec::new(alloc),
+        registers,
+        body,
+    };
+    Ok(MonProgram {
+        functions: one(alloc, main)?,
+    })
+}
+
+/// `void f(i32 a, u8 b)`, with bodies, labels and strings.
+fn statements(alloc: Global) -> Result<MonProgram, AllocError> {
+    let mut parameters = one(alloc, register(alloc, MonType::I32, b"a")?)?;
+    parameters.push(register(alloc, MonType::U8, b"b")?)?;
+    let put = one(alloc, MonStmt::PutChar(Some(2), MonExpr::Register(1)))?;
+    let leave = one(alloc, MonStmt::Goto(name(alloc, b"end_1")?))?;
+    let back = one(alloc, MonStmt::Return(None))?;
+    let turns = one(alloc, MonStmt::Loop(leave, back))?;
+    let holds = MonExpr::Constant(MonType::U8, 1);
+    let mut body = Vec::new(alloc);
+    body.push(MonStmt::If(MonExpr::Register(0), put, Vec::new(alloc)))?;
+    body.push(MonStmt::Labelled(turns, name(alloc, b"end_1")?))?;
+    body.push(MonStmt::Assert(holds, MonExpr::Register(1), 7, 12, Kind::Requires))?;
+    body.push(MonStmt::PrintText(name(alloc, b"a\"\n")?))?;
+    let f = MonFunc {
+        result: None,
+        name: name(alloc, b"f")?,
+        parameters,
+        registers: one(alloc, register(alloc, MonType::I64, b"c")?)?,
+        body,
+    };
+    Ok(MonProgram {
+        functions: one(alloc, f)?,
+    })
+}
+
+/// Prints a program, and compares what the sink got.
+fn prints(rt: &(impl Abort + AllocGlobal), m: &MonProgram, text: &[u8]) {
+    let mut out = MemSink::new(rt.alloc(), Vec::new(rt.alloc()));
+    assert_eq!(rt; print(rt.alloc(), m, &mut out), Ok(()));
+    assert_eq!(rt; out.bytes(), text);
+}
+
+#[test]
+fn expressions_stand_in_parentheses(rt: HostRuntime) -> Result<(), AllocError> {
+    prints(
+        &rt,
+        &expressions(rt.alloc())?,
+        b"#include <e_acsl.h>\ni32 main(void) {\n  i32 x;\n  i32 y;\n  x = (y - (-I32(-5)));\n  return ((i32)(~x));\n}\n",
+    );
+    Ok(())
+}
+
+#[test]
+fn each_statement_stands_on_a_line(rt: HostRuntime) -> Result<(), AllocError> {
+    prints(
+        &rt,
+        &statements(rt.alloc())?,
+        b"#include <e_acsl.h>\nvoid f(i32 a, u8 b) {\n  i64 c;\n  if (a) {\n    c = putchar(b);\n  } else { }\n  {\n    while (1) {\n      goto end_1;\n      __e_acsl_step();\n      return;\n    }\n  } end_1: ;\n  __e_acsl_assert(U8(1), b, 7, 12, \"requires\");\n  __e_acsl_print_text(\"a\\042\\012\");\n}\n",
+    );
+    Ok(())
+}
+
+#[test]
+fn a_sink_that_fails_gets_nothing_more(rt: HostRuntime) -> Result<(), AllocError> {
+    let mut out = MemSink::new(rt.alloc(), one(rt.alloc(), 1)?);
+    let m = expressions(rt.alloc())?;
+    assert_eq!(rt; print(rt.alloc(), &m, &mut out), Err(SinkFault::Failed));
+    assert_eq!(rt; out.bytes(), b"".as_slice());
+    Ok(())
+}

@@ -1,0 +1,90 @@
+//! Words and marks.
+
+ghost use Rattle.std.specs.Prelude.{◌≡◌};
+ghost use Rattle.c_model.specs.Reports.{kind_word};
+ghost use Rattle.mon_syntax.specs.Names.{constant_word, type_word};
+ghost use Rattle.mon_syntax.specs.Text.{operator_mark, result_word};
+
+use c_syntax::Kind;
+use mon_syntax::{MonOp, MonType};
+
+pub fn type_word(t: MonType) -> &'static str
+    ensures { result.now ≡ type_word t }
+{
+    match t {
+        MonType::I8 => "i8",
+        MonType::U8 => "u8",
+        MonType::I16 => "i16",
+        MonType::U16 => "u16",
+        MonType::I32 => "i32",
+        MonType::U32 => "u32",
+        MonType::I64 => "i64",
+        MonType::U64 => "u64",
+        MonType::I128 => "i128",
+    }
+}
+
+/// The word of a function's result.
+pub fn result_word(kind: Option<MonType>) -> &'static str
+    ensures { result.now ≡ result_word kind }
+{
+    match kind {
+        Some(t) => type_word(t),
+        None => "void",
+    }
+}
+
+pub fn constant_word(t: MonType) -> &'static str
+    ensures { result.now ≡ constant_word t }
+{
+    match t {
+        MonType::I8 => "I8",
+        MonType::U8 => "U8",
+        MonType::I16 => "I16",
+        MonType::U16 => "U16",
+        MonType::I32 => "I32",
+        MonType::U32 => "U32",
+        MonType::I64 => "I64",
+        MonType::U64 => "U64",
+        MonType::I128 => "I128",
+    }
+}
+
+pub fn operator_mark(op: MonOp) -> &'static str
+    ensures { result.now ≡ operator_mark op }
+{
+    match op {
+        MonOp::Add => "+",
+        MonOp::Sub => "-",
+        MonOp::Mul => "*",
+        MonOp::Div => "/",
+        MonOp::Rem => "%",
+        MonOp::Shl => "<<",
+        MonOp::Shr => ">>",
+        MonOp::And => "&",
+        MonOp::Or => "|",
+        MonOp::Xor => "^",
+        MonOp::Eq => "==",
+        MonOp::Ne => "!=",
+        MonOp::Lt => "<",
+        MonOp::Le => "<=",
+        MonOp::Gt => ">",
+        MonOp::Ge => ">=",
+    }
+}
+
+pub fn kind_word(kind: Kind) -> &'static str
+    ensures { result.now ≡ kind_word kind }
+{
+    match kind {
+        Kind::Assert => "assert",
+        Kind::Requires => "requires",
+        Kind::Assumes => "assumes",
+        Kind::Ensures => "ensures",
+        Kind::Complete => "complete",
+        Kind::Disjoint => "disjoint",
+        Kind::Invariant => "invariant",
+        Kind::Variant => "variant",
+        Kind::Rte => "rte",
+    }
+}
