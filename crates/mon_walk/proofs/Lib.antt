@@ -1,0 +1,6 @@
+pub mod Wrapped
+pub mod Bitwise
+pub mod Composed
+pub mod Single
+pub mod Nested
+pub mod Runs
