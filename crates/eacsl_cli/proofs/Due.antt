@@ -1,76 +1,113 @@
--- The answers to a text, from how its run went and how its line was said.
-use Rattle.std.proofs.Common.{◌≡◌, ℕ, pos, List, [], ◌++◌, Option, Some, refl, sym, ap, ◌∙◌, subst, inl, inr, append_assoc}
+-- The answers to a text, from how its program was run or written and how the line was said.
+use Rattle.std.proofs.Common.{◌≡◌, ℕ, List, [], ◌++◌, Option, Some, None, refl, sym, ap, ◌∙◌, subst, append_assoc, inl, inr}
 use Rattle.std.proofs.lemmas.List.{append-nil}
 use Rattle.c_syntax.specs.Programs.{TranslationUnit, PlainRefusal}
 use Rattle.c_model.specs.Accepted.{Accepted, IsRefusal}
-use Rattle.c_model.specs.State.{Final, Spent}
+use Rattle.c_model.specs.Meaning.{Ran}
 use Rattle.c_model.specs.Reports.{Report, report, line_of, refused_words, Extends}
+use Rattle.mon_syntax.specs.Trees.{MonitoredProgram}
+use Rattle.mon_syntax.specs.Memories.{flat_run}
+use Rattle.mon_syntax.specs.Text.{text_of}
+use Rattle.mon_syntax.specs.Translates.{Translates}
+use Rattle.mon_syntax.specs.Spelled.{Spells, IsMonitoredRefusal}
 use Rattle.ea_ports.specs.declared.SinkFault.{SinkFault}
 use Rattle.ea_ports.specs.declared.SinkFault.TheVariants.{Failed, Memory}
+use Rattle.ea_ports.specs.Port.{more, Rose}
 use Rattle.ea_ports.proofs.Told.{more-nil}
-use Rattle.eacsl_cli.specs.Outside.{port_of, FaultCount}
-use Rattle.eacsl_cli.specs.declared.walk.ended.Ended.{Ended}
-use Rattle.eacsl_cli.specs.declared.walk.ended.Ended.TheVariants as ended
-use Rattle.eacsl_cli.specs.declared.walk.run.RunFault.TheVariants as fault
-use Rattle.eacsl_cli.specs.Answers.{answers_report, AnswersRun, refused_answer, memory_line, Change, change, IsSaid, Answered, OutputFault, TextDue, TextBegin}
-use Rattle.eacsl_cli.specs.Settled.{IsReported, Said, Wanting, reported_final}
-use Rattle.eacsl_cli.specs.Whole.{final_of, RanAs, RunCut, RunFails}
-use Rattle.eacsl_cli.proofs.Sayings.{said_answer, said_memory}
+use Rattle.ea_ports.specs.Buffered.{port_of, FaultCount}
+use Rattle.mon_walk.specs.declared.leave.Stop.{Stop}
+use Rattle.mon_walk.specs.declared.run.WalkFault.TheVariants as fault
+use Rattle.mon_walk.specs.Parts.{final_of}
+use Rattle.mon_walk.specs.Whole.{RanAs, RunCut, RunFails}
+use Rattle.eacsl_cli.specs.Answers.{Answer, AnswersRun, refused_answer, written_answer, memory_line, Change, change, IsSaid, Answered, Given, OutputFault, ReportDue, ReportBegins, RunDue, RunRefused, Runs, RunBegins, InstrumentDue, InstrumentRefused, Writes, InstrumentBegins, ExecDue, ExecRefused, Executes, ExecBegins}
+use Rattle.eacsl_cli.specs.Settled.{IsSettled, Said, Wanting, IsReported}
+use Rattle.eacsl_cli.proofs.Sayings.{said_answer, said_memory, answered_by}
 
-module _ {text : List ℕ} {steps : ℕ} {told : Option (List ℕ)} {faults : ℕ} {err : Change} {result : ℕ} where
-  -- the text is refused
-  pub refused_said : (r : PlainRefusal) {line line' : List ℕ} → IsRefusal text r → line ≡ line_of (refused_words r) → line' ≡ line → IsSaid line' 2 err result → Answered (TextDue text steps) (TextBegin text steps) (change told told faults faults) err result
-  refused_said r h e e' s = said_answer (refused_answer r) (inl (r, h, refl)) (inl refl) (sym (more-nil told)) refl (subst (λ l. IsSaid l 2 err result) (e' ∙ e) s)
+-- the line of an answer that is due was said, or there was no memory for it
+settled_answer : {Due : Answer → Type 0} {Begin : List ℕ → Type 0} {out err : Change} {result : ℕ} (a : Answer) → Due a → Begin a.output → out.told' ≡ more out.told a.output → out.faults' ≡ out.faults → IsSettled a.line a.status err result → Answered Due Begin out err result
+settled_answer a d b t f (Said s) = said_answer a d b t f s
+settled_answer a d b t f (Wanting s) = said_memory a.output b t f s
 
-  -- nothing was put, for want of memory
-  pub wanting_said : {told' : Option (List ℕ)} {faults' : ℕ} → told' ≡ told → faults' ≡ faults → IsSaid memory_line 9 err result → Answered (TextDue text steps) (TextBegin text steps) (change told told' faults faults') err result
-  wanting_said e f s = said_memory [] (inl refl) (e ∙ sym (more-nil told)) f s
-
--- how a report answers an end
-reported : (said : Report) (status : ℕ) (line bytes sent : List ℕ) (final : Final) (left : ℕ) → bytes ≡ sent → Some said ≡ Some (record { status = status; line = line }) → answers_report (Some said) (record { final = final; output = bytes; left = left }) (record { status = status; output = sent; line = line })
-reported said status line bytes sent final left b e =
-    let h : said ≡ record { status = status; line = line } = cc in
-    rw (h, b) refl
-
-pub status_of : (said : Report) (status : ℕ) (line : List ℕ) → Some said ≡ Some (record { status = status; line = line }) → said.status ≡ status
-status_of said status line e =
-    let h : said ≡ record { status = status; line = line } = cc in
-    ap (λ x. x.status) h
-
-answers_end : (r : Ended) (status left : ℕ) (line bytes sent : List ℕ) → bytes ≡ sent → report (reported_final r) ≡ Some (record { status = status; line = line }) → answers_report (report (final_of r)) (record { final = final_of r; output = bytes; left = left }) (record { status = status; output = sent; line = line })
-answers_end ended.Normal status left line bytes sent b e = reported _ status line bytes sent (final_of ended.Normal) left b e
-answers_end (ended.Returns z) status left line bytes sent b e = reported _ status line bytes sent (final_of (ended.Returns z)) left b e
-answers_end (ended.Broken n l kind how) status left line bytes sent b e = reported _ status line bytes sent (final_of (ended.Broken n l kind how)) left b e
-answers_end (ended.Undefined at) status left line bytes sent b e = record {
-  final = Spent;
-  reported = e;
-  status = inr (inr (sym (status_of _ status line e)));
-  begins = record { rest = []; is = sym b ∙ sym (append-nil bytes) };
-}
-answers_end ended.Spent status left line bytes sent b e = reported _ status line bytes sent Spent left b e
-
--- all that the run prints begins with what was sent
+-- all that a run prints begins with what was sent
 begins_with : (all bytes sent lost rest : List ℕ) → all ≡ bytes ++ rest → bytes ≡ sent ++ lost → Extends sent all
 begins_with all bytes sent lost rest e b = record { rest = lost ++ rest; is = e ∙ ap (λ l. l ++ rest) b ∙ append_assoc sent lost rest }
 
--- main's body fell off its end, which is an exit with 0 (C99 5.1.2.2.3)
-pub normal_reported : {err : Change} {result : ℕ} → IsReported (ended.Returns (pos 0)) err result → IsReported ended.Normal err result
-normal_reported (Said status line e s) = Said status line e s
-normal_reported (Wanting s) = Wanting s
+-- ---- runs
 
-cut_begins : {text : List ℕ} {steps : ℕ} (p : TranslationUnit) (a : Accepted text p) {told told' : Option (List ℕ)} {faults faults' : ℕ} {f : SinkFault} → (cut : RunCut p steps (port_of told [] faults) told' faults' f) → TextBegin text steps cut.lost.sent
-cut_begins p a cut = inr (p, a, λ input. begins_with _ cut.bytes cut.lost.sent cut.lost.lost (cut.begins input).rest (cut.begins input).is cut.lost.bytes_are)
+abbrev answer_of : Report → List ℕ → Answer
+answer_of said sent = record { status = said.status; output = sent; line = said.line }
+
+module _ {m : MonitoredProgram} {steps : ℕ} {told told' : Option (List ℕ)} {faults faults' : ℕ} where
+  answers : {left : ℕ} {stop : Stop} (ran : RanAs m steps left (port_of told [] faults) (port_of told' [] faults') stop) (said : Report) → report (final_of stop) ≡ Some said → ReportDue m steps (answer_of said ran.wrote.sent)
+  answers {left} {stop} ran said e input = record {
+    said = said;
+    reported = ap (λ (r : Ran). report r.final) (ran.is input) ∙ e;
+    is = ap (λ l. answer_of said l) (sym (ap (λ (r : Ran). r.output) (ran.is input) ∙ ran.wrote.bytes_are ∙ append-nil ran.wrote.sent));
+  }
+
+  sent_begins : {left : ℕ} {stop : Stop} (ran : RanAs m steps left (port_of told [] faults) (port_of told' [] faults') stop) → ReportBegins m steps ran.wrote.sent
+  sent_begins ran input = begins_with _ ran.bytes ran.wrote.sent [] [] (ap (λ (r : Ran). r.output) (ran.is input) ∙ sym (append-nil ran.bytes)) ran.wrote.bytes_are
+
+  cut_begins : {f : SinkFault} (cut : RunCut m steps (port_of told [] faults) told' faults' f) → ReportBegins m steps cut.lost.sent
+  cut_begins cut input = begins_with _ cut.bytes cut.lost.sent cut.lost.lost (cut.begins input).rest (cut.begins input).is cut.lost.bytes_are
+
+  module _ {err : Change} {result : ℕ} where
+    -- the run came to an end, and that was reported
+    pub run_said : {left : ℕ} {stop : Stop} → RanAs m steps left (port_of told [] faults) (port_of told' [] faults') stop → IsReported stop err result → Answered (ReportDue m steps) (ReportBegins m steps) (change told told' faults faults') err result
+    run_said ran r = settled_answer (answer_of r.said ran.wrote.sent) (answers ran r.said r.is) (sent_begins ran) ran.wrote.told_is ran.wrote.faults_is r.settled
+
+    -- the output was short of memory
+    pub run_wanting : {f : SinkFault} → f ≡ Memory → RunFails m steps (port_of told [] faults) told' faults' (fault.Sink f) → IsSaid memory_line 9 err result → Answered (ReportDue m steps) (ReportBegins m steps) (change told told' faults faults') err result
+    run_wanting e cut s = said_memory cut.lost.sent (cut_begins cut) cut.lost.told_is (subst (λ x. FaultCount faults faults' x) e cut.lost.count) s
+
+-- there was no memory to begin
+pub run_not_begun : (m : MonitoredProgram) (steps : ℕ) {told told' : Option (List ℕ)} {faults faults' : ℕ} {err : Change} {result : ℕ} → told' ≡ told → faults' ≡ faults → IsSaid memory_line 9 err result → Answered (ReportDue m steps) (ReportBegins m steps) (change told told' faults faults') err result
+run_not_begun m steps {told = told} e f s = said_memory [] (λ input. record { rest = (flat_run m input steps).output; is = refl }) (e ∙ sym (more-nil told)) f s
 
 -- the output failed
-pub run_failed : {text : List ℕ} {steps : ℕ} (p : TranslationUnit) (a : Accepted text p) {told told' t : Option (List ℕ)} {faults faults' n : ℕ} {f : SinkFault} → f ≡ Failed → RunFails p steps (port_of told [] faults) told' faults' (fault.Sink f) → Answered (TextDue text steps) (TextBegin text steps) (change told told' faults faults') (change t t n n) 8
-run_failed p a {faults = faults} {faults'} e cut = OutputFault cut.lost.sent refl (cut_begins p a cut) cut.lost.told_is (subst (λ x. FaultCount faults faults' x) e cut.lost.count) refl refl
+pub run_failed : {m : MonitoredProgram} {steps : ℕ} {told told' t : Option (List ℕ)} {faults faults' n : ℕ} {f : SinkFault} → f ≡ Failed → RunFails m steps (port_of told [] faults) told' faults' (fault.Sink f) → Answered (ReportDue m steps) (ReportBegins m steps) (change told told' faults faults') (change t t n n) 8
+run_failed {faults = faults} {faults'} e cut = OutputFault cut.lost.sent refl (cut_begins cut) cut.lost.told_is (subst (λ x. FaultCount faults faults' x) e cut.lost.count) refl refl
 
-module _ {text : List ℕ} {steps : ℕ} (p : TranslationUnit) (a : Accepted text p) {told told' : Option (List ℕ)} {faults faults' : ℕ} {err : Change} {result : ℕ} where
-  -- the run came to an end, and that was reported
-  pub run_said : {left : ℕ} {r : Ended} → RanAs p steps left (port_of told [] faults) (port_of told' [] faults') r → IsReported r err result → Answered (TextDue text steps) (TextBegin text steps) (change told told' faults faults') err result
-  run_said {left} {r} ran (Said status line e s) = said_answer (record { status = status; output = ran.wrote.sent; line = line }) (inr (p, a, λ input. subst (λ x. AnswersRun x (record { status = status; output = ran.wrote.sent; line = line })) (sym (ran.is input)) (answers_end r status left line ran.bytes ran.wrote.sent (ran.wrote.bytes_are ∙ append-nil ran.wrote.sent) e))) (inr (p, a, λ input. begins_with _ ran.bytes ran.wrote.sent [] [] (ap (λ x. x.output) (ran.is input) ∙ sym (append-nil ran.bytes)) ran.wrote.bytes_are)) ran.wrote.told_is ran.wrote.faults_is s
-  run_said {left} {r} ran (Wanting s) = said_memory ran.wrote.sent (inr (p, a, λ input. begins_with _ ran.bytes ran.wrote.sent [] [] (ap (λ x. x.output) (ran.is input) ∙ sym (append-nil ran.bytes)) ran.wrote.bytes_are)) ran.wrote.told_is ran.wrote.faults_is s
+-- ---- texts
 
-  -- the output was short of memory
-  pub run_wanting : {f : SinkFault} → f ≡ Memory → RunFails p steps (port_of told [] faults) told' faults' (fault.Sink f) → IsSaid memory_line 9 err result → Answered (TextDue text steps) (TextBegin text steps) (change told told' faults faults') err result
-  run_wanting e cut s = said_memory cut.lost.sent (cut_begins p a cut) cut.lost.told_is (subst (λ x. FaultCount faults faults' x) e cut.lost.count) s
+module _ {text : List ℕ} {err : Change} {result : ℕ} where
+  module _ {steps : ℕ} {told : Option (List ℕ)} {faults : ℕ} where
+    pub run_refused : (r : PlainRefusal) → IsRefusal text r → IsSettled (line_of (refused_words r)) 2 err result → Answered (RunDue None text steps) (RunBegins None text steps) (change told told faults faults) err result
+    run_refused r h s = settled_answer (refused_answer r) (RunRefused r h refl) (inl refl) (sym (more-nil told)) refl s
+
+    -- nothing was put, for want of memory
+    pub run_unread : IsSaid memory_line 9 err result → Answered (RunDue None text steps) (RunBegins None text steps) (change told told faults faults) err result
+    run_unread s = said_memory [] (inl refl) (sym (more-nil told)) refl s
+
+    pub exec_refused : (r : PlainRefusal) → IsMonitoredRefusal text r → IsSettled (line_of (refused_words r)) 2 err result → Answered (ExecDue None text steps) (ExecBegins None text steps) (change told told faults faults) err result
+    exec_refused r h s = settled_answer (refused_answer r) (ExecRefused r h refl) (inl refl) (sym (more-nil told)) refl s
+
+    pub exec_unread : IsSaid memory_line 9 err result → Answered (ExecDue None text steps) (ExecBegins None text steps) (change told told faults faults) err result
+    exec_unread s = said_memory [] (inl refl) (sym (more-nil told)) refl s
+
+  module _ {told : Option (List ℕ)} {faults : ℕ} where
+    pub instrument_refused : (r : PlainRefusal) → IsRefusal text r → IsSettled (line_of (refused_words r)) 2 err result → Answered (InstrumentDue text) (InstrumentBegins text) (change told told faults faults) err result
+    instrument_refused r h s = settled_answer (refused_answer r) (InstrumentRefused r h refl) (inl refl) (sym (more-nil told)) refl s
+
+    pub instrument_unread : IsSaid memory_line 9 err result → Answered (InstrumentDue text) (InstrumentBegins text) (change told told faults faults) err result
+    instrument_unread s = said_memory [] (inl refl) (sym (more-nil told)) refl s
+
+  module _ {told told' : Option (List ℕ)} {faults faults' : ℕ} where
+    pub run_executed : {steps : ℕ} (p : TranslationUnit) (m : MonitoredProgram) → Accepted text p → Translates p m → Answered (ReportDue m steps) (ReportBegins m steps) (change told told' faults faults') err result → Answered (RunDue None text steps) (RunBegins None text steps) (change told told' faults faults') err result
+    run_executed p m a t x = answered_by (λ _ d. Runs p m a t (λ input _. d input)) (λ _ b. inr (p, m, a, t, λ input _. b input)) x
+
+    pub exec_executed : {steps : ℕ} (m : MonitoredProgram) → Spells text m → Answered (ReportDue m steps) (ReportBegins m steps) (change told told' faults faults') err result → Answered (ExecDue None text steps) (ExecBegins None text steps) (change told told' faults faults') err result
+    exec_executed m t x = answered_by (λ _ d. Executes m t (λ input _. d input)) (λ _ b. inr (m, t, λ input _. b input)) x
+
+    -- a beginning of the text was put, and memory was wanting
+    pub write_wanting : (p : TranslationUnit) (m : MonitoredProgram) → Accepted text p → Translates p m → (sent : List ℕ) → Extends sent (text_of m) → told' ≡ more told sent → faults' ≡ faults → IsSaid memory_line 9 err result → Answered (InstrumentDue text) (InstrumentBegins text) (change told told' faults faults') err result
+    write_wanting p m a t sent b w f s = said_memory sent (inr (p, m, a, t, b)) w f s
+
+module _ {text : List ℕ} {told told' t' : Option (List ℕ)} {faults faults' n : ℕ} (p : TranslationUnit) (m : MonitoredProgram) (a : Accepted text p) (t : Translates p m) where
+  -- the whole text was put
+  pub written : told' ≡ more told (text_of m) → faults' ≡ faults → Answered (InstrumentDue text) (InstrumentBegins text) (change told told' faults faults') (change t' t' n n) 0
+  written w f = Given (written_answer m) (Writes p m a t refl) refl w f (sym (more-nil t')) refl
+
+  -- the output failed
+  pub write_failed : (sent : List ℕ) → Extends sent (text_of m) → told' ≡ more told sent → Rose faults faults' → Answered (InstrumentDue text) (InstrumentBegins text) (change told told' faults faults') (change t' t' n n) 8
+  write_failed sent b w f = OutputFault sent refl (inr (p, m, a, t, b)) w f refl refl

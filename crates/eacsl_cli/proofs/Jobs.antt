@@ -1,73 +1,79 @@
 -- The answers to the words of a command line.
-use Rattle.std.proofs.Common.{◌≡◌, ℕ, ◌≤◌, ◌<◌, Bool, true, false, if◌then◌else◌, List, [], ◌∷◌, ◌++◌, length, codes, bytes_eq, Option, Some, None, refl, sym, subst, inl, inr}
+use Rattle.std.proofs.Common.{◌≡◌, ℕ, ◌≤◌, ◌<◌, List, [], length, codes, Option, Some, None, refl, sym, subst, inl, inr}
 use Rattle.std.specs.Prelude.{IfSome}
 use Rattle.c_model.specs.declared.job.Job.{Job}
-use Rattle.c_model.specs.declared.job.Job.TheVariants.{Run}
-use Rattle.c_model.specs.Words.{Argument, arguments, before_dashes, behind_dashes, operands, step_values, file_of, steps_of, run_of, job_of, ◌>>=◌}
+use Rattle.c_model.specs.declared.job.Job.TheVariants.{Run, Instrument, Exec}
+use Rattle.c_model.specs.Words.{job_of}
+use Rattle.c_model.specs.WordLaws.{file_named}
 use Rattle.c_model.specs.Reports.{line_of}
 use Rattle.ea_ports.specs.Port.{RefusalCount, Rose}
 use Rattle.ea_ports.proofs.Told.{more-nil}
-use Rattle.eacsl_cli.specs.Answers.{Answer, silent, memory_line, file_limit, Change, change, IsSaid, Answered, IsDue, Usage, NoFile, TooLong, FolderFault, Refused, Runs, Begins, Nothing, Part, TextDue, TextBegin}
-use Rattle.eacsl_cli.specs.Jobs.{file_of_job, steps_of_job}
+use Rattle.eacsl_cli.specs.Answers.{Answer, silent, memory_line, file_limit, Change, change, IsSaid, Answered, IsDue, Usage, NoFile, TooLong, FolderFault, OfText, Begins, Nothing, BeginsText, RunDue, RunRefused, Runs, RunBegins, ExecDue, ExecRefused, Executes, ExecBegins, TextDue, TextBegins}
 use Rattle.eacsl_cli.proofs.Sayings.{said_answer, said_memory, answered_by}
 
--- a job of the words asks for no run-time error annotations
-abbrev IsPlain : Option Job → Job → Type 0
-IsPlain o j = o ≡ Some j → o ≡ Some (Run (file_of_job j) (steps_of_job j) false)
+-- what is due on every input is due on the one that is left
+module _ (left : Option (List ℕ)) (text : List ℕ) where
+  run_due : {steps : ℕ} {a : Answer} → RunDue None text steps a → RunDue left text steps a
+  run_due (RunRefused r h e) = RunRefused r h e
+  run_due (Runs p m x t f) = Runs p m x t (λ input _. f input tt)
 
-plain_parts : (file : Option (List ℕ)) (steps : Option ℕ) (j : Job) → IsPlain (file >>= λ f. steps >>= λ n. Some (Run f n false)) j
-plain_parts None steps j e = absurd cc
-plain_parts (Some f) None j e = absurd cc
-plain_parts (Some f) (Some n) j e =
-    let h : Run f n false ≡ j = cc in
-    subst (λ x. Some (Run f n false) ≡ Some (Run (file_of_job x) (steps_of_job x) false)) h refl
+  exec_due : {steps : ℕ} {a : Answer} → ExecDue None text steps a → ExecDue left text steps a
+  exec_due (ExecRefused r h e) = ExecRefused r h e
+  exec_due (Executes m x f) = Executes m x (λ input _. f input tt)
 
-plain_run : (behind : List (List ℕ)) (found : Option (List Argument)) (j : Job) → IsPlain (found >>= λ l. file_of (operands l ++ behind) >>= λ f. steps_of (step_values l) >>= λ n. Some (Run f n false)) j
-plain_run behind None j e = absurd cc
-plain_run behind (Some l) j e = plain_parts (file_of (operands l ++ behind)) (steps_of (step_values l)) j e
+  text_due : (job : Job) (a : Answer) → TextDue None job text a → TextDue left job text a
+  text_due (Run file steps rte) a d = run_due d
+  text_due (Instrument file rte) a d = d
+  text_due (Exec file steps) a d = exec_due d
 
-plain_if : (b : Bool) (words : List (List ℕ)) (j : Job) → IsPlain (if b then run_of words else None) j
-plain_if true words j e = plain_run (behind_dashes words) (arguments (before_dashes words)) j e
-plain_if false words j e = absurd cc
+  run_begins : (steps : ℕ) (sent : List ℕ) → RunBegins None text steps sent → RunBegins left text steps sent
+  run_begins steps sent (inl e) = inl e
+  run_begins steps sent (inr (p, m, x, t, f)) = inr (p, m, x, t, λ input _. f input tt)
 
-pub plain_job : (words : List (List ℕ)) (j : Job) → Some j ≡ job_of words → job_of words ≡ Some (Run (file_of_job j) (steps_of_job j) false)
-plain_job [] j e = absurd cc
-plain_job (command ∷ words) j e = plain_if (bytes_eq command (codes "run")) words j (sym e)
+  exec_begins : (steps : ℕ) (sent : List ℕ) → ExecBegins None text steps sent → ExecBegins left text steps sent
+  exec_begins steps sent (inl e) = inl e
+  exec_begins steps sent (inr (m, x, f)) = inr (m, x, λ input _. f input tt)
+
+  text_begins : (job : Job) (sent : List ℕ) → TextBegins None job text sent → TextBegins left job text sent
+  text_begins (Run file steps rte) sent b = run_begins steps sent b
+  text_begins (Instrument file rte) sent b = b
+  text_begins (Exec file steps) sent b = exec_begins steps sent b
 
 module _ {words : List (List ℕ)} {content : Option (List ℕ → Option (List ℕ))} {before now : ℕ} {left : Option (List ℕ)} {told : Option (List ℕ)} {faults : ℕ} {err : Change} {result : ℕ} where
   -- an answer without output was said
-  pub silent_said : (status : ℕ) (line : List ℕ) → IsDue words content before now left (silent status line) → IsSaid (line_of line) status err result → Answered (IsDue words content before now left) (Begins words content before now left) (change told told faults faults) err result
+  silent_said : (status : ℕ) (line : List ℕ) → IsDue words content before now left (silent status line) → IsSaid (line_of line) status err result → Answered (IsDue words content before now left) (Begins words content before now left) (change told told faults faults) err result
   silent_said status line d s = said_answer (silent status line) d (Nothing refl) (sym (more-nil told)) refl s
 
   -- nothing was put, for want of memory
   pub memory_said : IsSaid memory_line 9 err result → Answered (IsDue words content before now left) (Begins words content before now left) (change told told faults faults) err result
   memory_said s = said_memory [] (Nothing refl) (sym (more-nil told)) refl s
 
--- what is due for the text of the file is due for the words
-pub text_answered : {words : List (List ℕ)} {content : Option (List ℕ → Option (List ℕ))} {before now : ℕ} {left : Option (List ℕ)} {out err : Change} {result : ℕ} (file : List ℕ) (steps : ℕ) (text : List ℕ) → job_of words ≡ Some (Run file steps false) → IfSome content (λ files. files file ≡ Some text) → length text ≤ file_limit → now ≡ before → Answered (TextDue text steps) (TextBegin text steps) out err result → Answered (IsDue words content before now left) (Begins words content before now left) out err result
-text_answered {words} {content} {before} {now} {left} file steps text j h l n = answered_by due begin
-  where
-    due : (a : Answer) → TextDue text steps a → IsDue words content before now left a
-    due a (inl (r, x, e)) = Refused file steps text r j h l n x e
-    due a (inr (p, x, f)) = Runs file steps text p j h l n x (λ input _. f input)
-
-    begin : (sent : List ℕ) → TextBegin text steps sent → Begins words content before now left sent
-    begin sent (inl e) = Nothing e
-    begin sent (inr (p, x, f)) = Part file steps text p j h l n x (λ input _. f input)
-
-module _ {words : List (List ℕ)} {content : Option (List ℕ → Option (List ℕ))} {before now : ℕ} {left : Option (List ℕ)} {told : Option (List ℕ)} {faults : ℕ} {err : Change} {result : ℕ} where
   pub usage_said : None ≡ job_of words → now ≡ before → IsSaid (line_of (codes "usage")) 3 err result → Answered (IsDue words content before now left) (Begins words content before now left) (change told told faults faults) err result
   usage_said e n s = silent_said 3 (codes "usage") (Usage (sym e) n refl) s
 
-  module _ (j : Job) (name : List ℕ) (e : Some j ≡ job_of words) (m : name ≡ file_of_job j) where
+  module _ (j : Job) (name : List ℕ) (limit : ℕ) (e : Some j ≡ job_of words) (m : name ≡ file_named j) (k : limit ≡ file_limit j) where
     pub missing_said : IfSome content (λ files. files name ≡ None) → RefusalCount content before now → IsSaid (line_of (codes "no file")) 10 err result → Answered (IsDue words content before now left) (Begins words content before now left) (change told told faults faults) err result
-    missing_said h n s = silent_said 10 (codes "no file") (NoFile (file_of_job j) (steps_of_job j) (plain_job words j e) (subst (λ x. IfSome content (λ files. files x ≡ None)) m h) n refl) s
+    missing_said h n s = silent_said 10 (codes "no file") (NoFile j (sym e) (subst (λ x. IfSome content (λ files. files x ≡ None)) m h) n refl) s
 
-    pub too_long_said : IfSome content (λ files. (bytes : List ℕ) × (files name ≡ Some bytes) × (file_limit < length bytes)) → RefusalCount content before now → IsSaid (line_of (codes "file too long")) 11 err result → Answered (IsDue words content before now left) (Begins words content before now left) (change told told faults faults) err result
-    too_long_said h n s = silent_said 11 (codes "file too long") (TooLong (file_of_job j) (steps_of_job j) (plain_job words j e) (subst (λ x. IfSome content (λ files. (bytes : List ℕ) × (files x ≡ Some bytes) × (file_limit < length bytes))) m h) n refl) s
+    pub too_long_said : IfSome content (λ files. (bytes : List ℕ) × (files name ≡ Some bytes) × (limit < length bytes)) → RefusalCount content before now → IsSaid (line_of (codes "file too long")) 11 err result → Answered (IsDue words content before now left) (Begins words content before now left) (change told told faults faults) err result
+    too_long_said h n s =
+        silent_said 11 (codes "file too long") (TooLong j (sym e) (subst (λ x. IfSome content (λ files. (bytes : List ℕ) × (files (file_named j) ≡ Some bytes) × (x < length bytes))) k (subst (λ x. IfSome content (λ files. (bytes : List ℕ) × (files x ≡ Some bytes) × (limit < length bytes))) m h)) n refl) s
 
     pub fault_said : Rose before now → IsSaid (line_of (codes "read fault")) 7 err result → Answered (IsDue words content before now left) (Begins words content before now left) (change told told faults faults) err result
-    fault_said n s = silent_said 7 (codes "read fault") (FolderFault (file_of_job j) (steps_of_job j) (plain_job words j e) n refl) s
+    fault_said n s = silent_said 7 (codes "read fault") (FolderFault j (sym e) n refl) s
 
-pub file_answered : {words : List (List ℕ)} {content : Option (List ℕ → Option (List ℕ))} {before now : ℕ} {left : Option (List ℕ)} {out err : Change} {result : ℕ} (j : Job) (name text text' : List ℕ) (steps : ℕ) → Some j ≡ job_of words → name ≡ file_of_job j → steps ≡ steps_of_job j → text' ≡ text → (length text ≤ file_limit) × IfSome content (λ files. files name ≡ Some text) → now ≡ before → Answered (TextDue text' steps) (TextBegin text' steps) out err result → Answered (IsDue words content before now left) (Begins words content before now left) out err result
-file_answered {words} {content} {before} {now} {left} {out} {err} {result} j name text text' steps e m k t h n a = text_answered (file_of_job j) (steps_of_job j) text (plain_job words j e) (subst (λ x. IfSome content (λ files. files x ≡ Some text)) m h.1) h.0 n (rw (t, k) at a)
+-- what is due for the text of the file is due for the words
+pub file_answered : {words : List (List ℕ)} {content : Option (List ℕ → Option (List ℕ))} {before now : ℕ} {left : Option (List ℕ)} {out err : Change} {result : ℕ} (j : Job) (name text text' : List ℕ) (limit : ℕ) → Some j ≡ job_of words → name ≡ file_named j → limit ≡ file_limit j → text' ≡ text → (length text ≤ limit) × IfSome content (λ files. files name ≡ Some text) → now ≡ before → Answered (TextDue None j text') (TextBegins None j text') out err result → Answered (IsDue words content before now left) (Begins words content before now left) out err result
+file_answered {words} {content} {before} {now} {left} j name text text' limit e m k t h n a = answered_by due begin (rw t at a)
+  where
+    told : IfSome content (λ files. files (file_named j) ≡ Some text)
+    told = subst (λ x. IfSome content (λ files. files x ≡ Some text)) m h.1
+
+    short : length text ≤ file_limit j
+    short = subst (λ x. length text ≤ x) k h.0
+
+    due : (a : Answer) → TextDue None j text a → IsDue words content before now left a
+    due a d = OfText j text (sym e) told short n (text_due left text j a d)
+
+    begin : (sent : List ℕ) → TextBegins None j text sent → Begins words content before now left sent
+    begin sent b = BeginsText j text (sym e) told short n (text_begins left text j sent b)

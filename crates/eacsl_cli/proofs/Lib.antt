@@ -1,12 +1,6 @@
-pub mod Ports
-pub mod Variables
-pub mod Parts
-pub mod Terms
-pub mod Trees
-pub mod Start
-pub mod Runs
-pub mod Sayings
 pub mod Joined
+pub mod Sayings
 pub mod Due
 pub mod Jobs
 pub mod Soundness
+pub mod Statuses

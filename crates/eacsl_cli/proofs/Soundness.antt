@@ -1,28 +1,55 @@
 -- Of the answers due, one is left where no port failed.
-use Rattle.std.proofs.Common.{◌≡◌, ◌⊎◌, ℕ, ◌≤◌, ◌<◌, List, length, false, Option, Some, None, sym, ap, ◌∙◌, subst, arith, inl, inr}
+use Rattle.std.proofs.Common.{◌≡◌, ◌⊎◌, ℕ, ◌≤◌, ◌<◌, List, length, false, Option, Some, None, refl, sym, ap, ◌∙◌, subst, arith, inl, inr}
 use Rattle.std.specs.Prelude.{IfSome}
 use Rattle.c_syntax.specs.Programs.{TranslationUnit, PlainRefusal}
 use Rattle.c_model.specs.declared.job.Job.{Job}
-use Rattle.c_model.specs.declared.job.Job.TheVariants.{Run}
+use Rattle.c_model.specs.declared.job.Job.TheVariants.{Run, Instrument, Exec}
 use Rattle.c_model.specs.Words.{job_of}
+use Rattle.c_model.specs.WordLaws.{file_named}
 use Rattle.c_model.specs.Accepted.{Accepted, IsRefusal}
-use Rattle.c_model.specs.State.{Input}
-use Rattle.c_model.specs.Meaning.{run}
-use Rattle.c_model.specs.Reports.{report}
+use Rattle.c_model.specs.State.{Input, Final, Exits, Broken, Undefined, Fault, Spent, Full, ReadFault}
+use Rattle.c_model.specs.Meaning.{Ran, run}
+use Rattle.c_model.specs.Reports.{Report, report, agrees_at}
+use Rattle.c_model.proofs.FormPrograms.{accepted_is_int}
 use Rattle.c_parser.proofs.Acceptance.{one_program, accepted_apart, one_refusal}
-use Rattle.eacsl_cli.specs.declared.walk.ended.Ended.{Ended}
-use Rattle.eacsl_cli.specs.declared.walk.ended.Ended.TheVariants as ended
-use Rattle.eacsl_cli.specs.Answers.{Answer, AnswersRun, refused_answer, memory_line, file_limit, IsInput, Change, IsDue, Usage, NoFile, TooLong, FolderFault, Refused, Runs, Begins, Answered, Given, OutputFault, LineFault, NoMemory, IsSaid, Whole, Failed, Wanting}
-use Rattle.eacsl_cli.specs.Settled.{IsReported, Said, Wanting as no_memory, reported_final}
-use Rattle.eacsl_cli.proofs.Due.{status_of}
-use Rattle.eacsl_cli.specs.Sound.{Steady, IsGiven, Sound, IsStatus}
+use Rattle.mon_syntax.specs.Trees.{MonitoredProgram}
+use Rattle.mon_syntax.specs.Memories.{flat_run}
+use Rattle.mon_syntax.specs.Translates.{Translates}
+use Rattle.mon_syntax.specs.Spelled.{Spells, IsMonitoredRefusal}
+use Rattle.instrument.proofs.Runs.{never_faults}
+use Rattle.mon_reader.proofs.Texts.{one_spelled, spelled_apart, one_monitored_refusal}
+use Rattle.eacsl_cli.specs.Answers.{Answer, AnswersRun, refused_answer, written_answer, file_limit, IsInput, Change, IsDue, Usage, NoFile, TooLong, FolderFault, OfText, Begins, RunDue, RunRefused, Runs, InstrumentDue, InstrumentRefused, Writes, ExecDue, ExecRefused, Executes, TextDue, Answered, Given, OutputFault, LineFault, NoMemory}
+use Rattle.eacsl_cli.specs.Sound.{Steady, IsGiven, answers_source, AnswersSource, IsAsked, Sound}
 
--- the file and the steps of the words' one job
-same_file : {file file' : List ℕ} {steps steps' : ℕ} {o : Option Job} → o ≡ Some (Run file steps false) → o ≡ Some (Run file' steps' false) → file' ≡ file
-same_file e f = cc
+-- ---- the answer to a translation is the answer to its source
 
-same_steps : {file file' : List ℕ} {steps steps' : ℕ} {o : Option Job} → o ≡ Some (Run file steps false) → o ≡ Some (Run file' steps' false) → steps' ≡ steps
-same_steps e f = cc
+said_once : (o : Option Report) (a b : Report) → o ≡ Some a → o ≡ Some b → a ≡ b
+said_once o a b e f = cc
+
+module _ (p : TranslationUnit) (m : MonitoredProgram) (t : Translates p m) (input : Input) (steps : ℕ) (a : Answer) (d : AnswersRun (flat_run m input steps) a) where
+  -- the two runs are the same, and the report of the source's end is this
+  same_answer : (said : Report) → report (run p input steps).final ≡ Some said → flat_run m input steps ≡ run p input steps → a ≡ record { status = said.status; output = (run p input steps).output; line = said.line }
+  same_answer said r same =
+      let h : report (flat_run m input steps).final ≡ Some said = ap (λ (x : Ran). report x.final) same ∙ r in
+      let k : d.said ≡ said = said_once (report (flat_run m input steps).final) d.said said d.reported h in
+      d.is ∙ (λ i. record { status = (k i).status; output = (same i).output; line = (k i).line })
+
+  by_final : (f : Final) → (run p input steps).final ≡ f → (f ≡ Fault → ⊥) → agrees_at f (run p input steps) (flat_run m input steps) → answers_source (report f) p input steps a
+  by_final (Exits k) e n g = same_answer _ (ap report e) g
+  by_final (Broken number line kind how) e n g = same_answer _ (ap report e) g
+  by_final (Undefined at) e n g = (m, t, d)
+  by_final Fault e n g = absurd (n refl)
+  by_final Spent e n g = same_answer _ (ap report e) g
+  by_final (Full segment) e n g = same_answer _ (ap report e) g
+  by_final ReadFault e n g = same_answer _ (ap report e) g
+
+  source_answer : (text : List ℕ) → Accepted text p → AnswersSource p input steps a
+  source_answer text x = by_final (run p input steps).final refl (never_faults p (accepted_is_int text p x) input steps) (t.agrees input steps)
+
+-- ---- what is due for a text that is asked for
+
+same_job : {job job' : Job} {o : Option Job} → o ≡ Some job → o ≡ Some job' → job' ≡ job
+same_job e f = cc
 
 no_job : {job : Job} {o : Option Job} → o ≡ Some job → o ≡ None → ⊥
 no_job e f = absurd cc
@@ -40,32 +67,25 @@ told_none {files} {file = file} {file'} {text} c h e i =
     let k : files file ≡ None = subst (λ x. files x ≡ None) e j in
     absurd cc
 
-told_long : {files : List ℕ → Option (List ℕ)} {content : Option (List ℕ → Option (List ℕ))} {file file' text : List ℕ} → content ≡ Some files → files file ≡ Some text → length text ≤ file_limit → file' ≡ file → IfSome content (λ f. (bytes : List ℕ) × (f file' ≡ Some bytes) × (file_limit < length bytes)) → ⊥
-told_long {files} {file = file} {file'} {text} c h l e i =
-    let j : IfSome (Some files) (λ f. (bytes : List ℕ) × (f file' ≡ Some bytes) × (file_limit < length bytes)) = subst (λ o. IfSome o (λ f. (bytes : List ℕ) × (f file' ≡ Some bytes) × (file_limit < length bytes))) c i in
+told_long : {files : List ℕ → Option (List ℕ)} {content : Option (List ℕ → Option (List ℕ))} {file file' text : List ℕ} {limit limit' : ℕ} → content ≡ Some files → files file ≡ Some text → length text ≤ limit → file' ≡ file → limit' ≡ limit → IfSome content (λ f. (bytes : List ℕ) × (f file' ≡ Some bytes) × (limit' < length bytes)) → ⊥
+told_long {files} {file = file} {file'} {text} {limit} {limit'} c h l e n i =
+    let j : IfSome (Some files) (λ f. (bytes : List ℕ) × (f file' ≡ Some bytes) × (limit' < length bytes)) = subst (λ o. IfSome o (λ f. (bytes : List ℕ) × (f file' ≡ Some bytes) × (limit' < length bytes))) c i in
     let k : files file ≡ Some j.0 = subst (λ x. files x ≡ Some j.0) e j.1 in
     let t : text ≡ j.0 = cc in
-    let m : file_limit < length text = subst (λ x. file_limit < length x) (sym t) j.2 in
-    absurd (omega (arith, l, m))
+    let m : limit' < length text = subst (λ x. limit' < length x) (sym t) j.2 in
+    absurd (omega (arith, l, m, n))
 
-module _ {words : List (List ℕ)} {content : Option (List ℕ → Option (List ℕ))} {before now : ℕ} {left : Option (List ℕ)} where
-  due_run : (files : List ℕ → Option (List ℕ)) (file : List ℕ) (steps : ℕ) (text : List ℕ) (p : TranslationUnit) (input : Input) → content ≡ Some files → job_of words ≡ Some (Run file steps false) → files file ≡ Some text → length text ≤ file_limit → Accepted text p → Steady before now → IsInput left input → (a : Answer) → IsDue words content before now left a → AnswersRun (run p input steps) a
-  due_run files file steps text p input c j h l x s i a (Usage j' n e) = absurd (no_job j j')
-  due_run files file steps text p input c j h l x s i a (NoFile file' steps' j' h' n e) = absurd (told_none c h (same_file j j') h')
-  due_run files file steps text p input c j h l x s i a (TooLong file' steps' j' h' n e) = absurd (told_long c h l (same_file j j') h')
-  due_run files file steps text p input c j h l x s i a (FolderFault file' steps' j' n e) = absurd (s n)
-  due_run files file steps text p input c j h l x s i a (Refused file' steps' text' r j' h' l' n y e) = absurd (accepted_apart text p r x (subst (λ t. IsRefusal t r) (told_text c h (same_file j j') h') y))
-  due_run files file steps text p input c j h l x s i a (Runs file' steps' text' q j' h' l' n y f) =
-      let same : q ≡ p = one_program text q p (subst (λ t. Accepted t q) (told_text c h (same_file j j') h') y) x in
-      subst (λ u. AnswersRun (run u input steps) a) same (subst (λ k. AnswersRun (run q input k) a) (same_steps j j') (f input i))
-
-  due_refusal : (files : List ℕ → Option (List ℕ)) (file : List ℕ) (steps : ℕ) (text : List ℕ) (r : PlainRefusal) → content ≡ Some files → job_of words ≡ Some (Run file steps false) → files file ≡ Some text → length text ≤ file_limit → IsRefusal text r → Steady before now → (a : Answer) → IsDue words content before now left a → a ≡ refused_answer r
-  due_refusal files file steps text r c j h l x s a (Usage j' n e) = absurd (no_job j j')
-  due_refusal files file steps text r c j h l x s a (NoFile file' steps' j' h' n e) = absurd (told_none c h (same_file j j') h')
-  due_refusal files file steps text r c j h l x s a (TooLong file' steps' j' h' n e) = absurd (told_long c h l (same_file j j') h')
-  due_refusal files file steps text r c j h l x s a (FolderFault file' steps' j' n e) = absurd (s n)
-  due_refusal files file steps text r c j h l x s a (Refused file' steps' text' r' j' h' l' n y e) = e ∙ ap refused_answer (one_refusal text r' r (subst (λ t. IsRefusal t r') (told_text c h (same_file j j') h') y) x)
-  due_refusal files file steps text r c j h l x s a (Runs file' steps' text' q j' h' l' n y f) = absurd (accepted_apart text q r (subst (λ t. Accepted t q) (told_text c h (same_file j j') h') y) x)
+module _ {words : List (List ℕ)} {content : Option (List ℕ → Option (List ℕ))} {before now : ℕ} {left : Option (List ℕ)} {out err : Change} {job : Job} {text : List ℕ} (asked : IsAsked words content before now out err job text) where
+  -- what is due is due for that text
+  due_of_text : (a : Answer) → IsDue words content before now left a → TextDue left job text a
+  due_of_text a (Usage j n e) = absurd (no_job asked.job_is j)
+  due_of_text a (NoFile job' j h n e) = absurd (told_none asked.tells asked.holds (ap file_named (same_job asked.job_is j)) h)
+  due_of_text a (TooLong job' j h n e) = absurd (told_long asked.tells asked.holds asked.short (ap file_named (same_job asked.job_is j)) (ap file_limit (same_job asked.job_is j)) h)
+  due_of_text a (FolderFault job' j n e) = absurd (asked.folder n)
+  due_of_text a (OfText job' text' j h l n d) =
+      let same = same_job asked.job_is j in
+      let told : text' ≡ text = told_text asked.tells asked.holds (ap file_named same) h in
+      subst (λ x. TextDue left x text a) same (subst (λ x. TextDue left job' x a) told d)
 
 -- where no count rose, an answer that is due was given, or memory was wanting
 settled : {Due : Answer → Type 0} {Begin : List ℕ → Type 0} {out err : Change} {status : ℕ} → Steady out.faults out.faults' → Steady err.faults err.faults' → Answered Due Begin out err status → (status ≡ 9) ⊎ ((a : Answer) × Due a × IsGiven a out err status)
@@ -74,40 +94,46 @@ settled o e (OutputFault sent s b t f t' f') = absurd (o f)
 settled o e (LineFault sent line k s b t f l t' f') = absurd (e f')
 settled o e (NoMemory sent line k s b t f l t' f') = inl s
 
+-- ---- of what is due for a text
+
+run_answer : {left : Option (List ℕ)} {text : List ℕ} {steps : ℕ} {a : Answer} (p : TranslationUnit) (input : Input) → Accepted text p → IsInput left input → RunDue left text steps a → AnswersSource p input steps a
+run_answer {text = text} p input x i (RunRefused r h e) = absurd (accepted_apart text p r x h)
+run_answer {text = text} {steps} {a} p input x i (Runs q m y t f) =
+    let same : q ≡ p = one_program text q p y x in
+    subst (λ u. AnswersSource u input steps a) same (source_answer q m t input steps a (f input i) text y)
+
+run_refusal : {left : Option (List ℕ)} {text : List ℕ} {steps : ℕ} {a : Answer} (r : PlainRefusal) → IsRefusal text r → RunDue left text steps a → a ≡ refused_answer r
+run_refusal {text = text} r h (RunRefused s k e) = e ∙ ap refused_answer (one_refusal text s r k h)
+run_refusal {text = text} r h (Runs q m y t f) = absurd (accepted_apart text q r y h)
+
+instrument_answer : {text : List ℕ} {a : Answer} (p : TranslationUnit) → Accepted text p → InstrumentDue text a → (m : MonitoredProgram) × Translates p m × (a ≡ written_answer m)
+instrument_answer {text} p x (InstrumentRefused r h e) = absurd (accepted_apart text p r x h)
+instrument_answer {text} p x (Writes q m y t e) = (m, subst (λ u. Translates u m) (one_program text q p y x) t, e)
+
+instrument_refusal : {text : List ℕ} {a : Answer} (r : PlainRefusal) → IsRefusal text r → InstrumentDue text a → a ≡ refused_answer r
+instrument_refusal {text} r h (InstrumentRefused s k e) = e ∙ ap refused_answer (one_refusal text s r k h)
+instrument_refusal {text} r h (Writes q m y t e) = absurd (accepted_apart text q r y h)
+
+exec_answer : {left : Option (List ℕ)} {text : List ℕ} {steps : ℕ} {a : Answer} (m : MonitoredProgram) (input : Input) → Spells text m → IsInput left input → ExecDue left text steps a → AnswersRun (flat_run m input steps) a
+exec_answer {text = text} m input x i (ExecRefused r h e) = absurd (spelled_apart text m r x h)
+exec_answer {text = text} {steps} {a} m input x i (Executes n y f) = subst (λ u. AnswersRun (flat_run u input steps) a) (one_spelled text n m y x) (f input i)
+
+exec_refusal : {left : Option (List ℕ)} {text : List ℕ} {steps : ℕ} {a : Answer} (r : PlainRefusal) → IsMonitoredRefusal text r → ExecDue left text steps a → a ≡ refused_answer r
+exec_refusal {text = text} r h (ExecRefused s k e) = e ∙ ap refused_answer (one_monitored_refusal text s r k h)
+exec_refusal {text = text} r h (Executes m y f) = absurd (spelled_apart text m r y h)
+
+given_as : {a b : Answer} {out err : Change} {status : ℕ} → a ≡ b → IsGiven a out err status → IsGiven b out err status
+given_as {out = out} {err} {status} e g = subst (λ x. IsGiven x out err status) e g
+
 pub sound : {words : List (List ℕ)} {content : Option (List ℕ → Option (List ℕ))} {before now : ℕ} {left : Option (List ℕ)} {out err : Change} {status : ℕ} → Answered (IsDue words content before now left) (Begins words content before now left) out err status → Sound words content before now left out err status
 sound {words} {content} {before} {now} {left} {out} {err} {status} answered = record {
-  runs = λ files file steps text p input c j h l x s o e i. by_run files file steps text p input c j h l x s i (settled o e answered);
-  refuses = λ files file steps text r c j h l x s o e. by_refusal files file steps text r c j h l x s (settled o e answered);
+  runs = λ file steps text p input q x i. elim (of_text q) [ inl n ↦ inl n | inr (a, d, g) ↦ inr (a, run_answer p input x i d, g) ];
+  instruments = λ file text p q x. elim (of_text q) [ inl n ↦ inl n | inr (a, d, g) ↦ let w = instrument_answer p x d in inr (w.0, w.1, given_as w.2 g) ];
+  executes = λ file steps text m input q x i. elim (of_text q) [ inl n ↦ inl n | inr (a, d, g) ↦ inr (a, exec_answer m input x i d, g) ];
+  run_refuses = λ file steps text r q h. elim (of_text q) [ inl n ↦ inl n | inr (a, d, g) ↦ inr (given_as (run_refusal r h d) g) ];
+  instrument_refuses = λ file text r q h. elim (of_text q) [ inl n ↦ inl n | inr (a, d, g) ↦ inr (given_as (instrument_refusal r h d) g) ];
+  exec_refuses = λ file steps text r q h. elim (of_text q) [ inl n ↦ inl n | inr (a, d, g) ↦ inr (given_as (exec_refusal r h d) g) ];
 }
   where
-    by_run : (files : List ℕ → Option (List ℕ)) (file : List ℕ) (steps : ℕ) (text : List ℕ) (p : TranslationUnit) (input : Input) → content ≡ Some files → job_of words ≡ Some (Run file steps false) → files file ≡ Some text → length text ≤ file_limit → Accepted text p → Steady before now → IsInput left input → (status ≡ 9) ⊎ ((a : Answer) × IsDue words content before now left a × IsGiven a out err status) → (status ≡ 9) ⊎ ((a : Answer) × AnswersRun (run p input steps) a × IsGiven a out err status)
-    by_run files file steps text p input c j h l x s i (inl n) = inl n
-    by_run files file steps text p input c j h l x s i (inr (a, d, g)) = inr (a, due_run files file steps text p input c j h l x s i a d, g)
-
-    by_refusal : (files : List ℕ → Option (List ℕ)) (file : List ℕ) (steps : ℕ) (text : List ℕ) (r : PlainRefusal) → content ≡ Some files → job_of words ≡ Some (Run file steps false) → files file ≡ Some text → length text ≤ file_limit → IsRefusal text r → Steady before now → (status ≡ 9) ⊎ ((a : Answer) × IsDue words content before now left a × IsGiven a out err status) → (status ≡ 9) ⊎ IsGiven (refused_answer r) out err status
-    by_refusal files file steps text r c j h l x s (inl n) = inl n
-    by_refusal files file steps text r c j h l x s (inr (a, d, g)) = inr (subst (λ b. IsGiven b out err status) (due_refusal files file steps text r c j h l x s a d) g)
-
--- the status of a line that was said, where the one given is one
-pub said_status : {line : List ℕ} {status : ℕ} {err : Change} {result : ℕ} → IsStatus status → IsSaid line status err result → IsStatus result
-said_status i (Whole e t f) = subst IsStatus (sym e) i
-said_status i (Failed k e t f) = subst IsStatus (sym e) (record { most = omega arith; not_full = λ h. absurd cc; not_fault = λ h. absurd cc })
-said_status i (Wanting k e t f) = subst IsStatus (sym e) (record { most = omega arith; not_full = λ h. absurd cc; not_fault = λ h. absurd cc })
-
--- the report of an end has status 0, 1 or 5
-report_status : (r : Ended) (status : ℕ) (line : List ℕ) → report (reported_final r) ≡ Some (record { status = status; line = line }) → IsStatus status
-report_status ended.Normal status line e = subst IsStatus (status_of _ status line e) (record { most = omega arith; not_full = λ h. absurd cc; not_fault = λ h. absurd cc })
-report_status (ended.Returns z) status line e = subst IsStatus (status_of _ status line e) (record { most = omega arith; not_full = λ h. absurd cc; not_fault = λ h. absurd cc })
-report_status (ended.Broken n l kind how) status line e = subst IsStatus (status_of _ status line e) (record { most = omega arith; not_full = λ h. absurd cc; not_fault = λ h. absurd cc })
-report_status (ended.Undefined at) status line e = subst IsStatus (status_of _ status line e) (record { most = omega arith; not_full = λ h. absurd cc; not_fault = λ h. absurd cc })
-report_status ended.Spent status line e = subst IsStatus (status_of _ status line e) (record { most = omega arith; not_full = λ h. absurd cc; not_fault = λ h. absurd cc })
-
-pub literal_status : (status : ℕ) → status ≤ 11 → (status ≡ 4 → ⊥) → (status ≡ 6 → ⊥) → IsStatus status
-literal_status status m f g = record { most = m; not_full = f; not_fault = g }
-
-pub memory_status : {err : Change} {result : ℕ} → IsSaid memory_line 9 err result → IsStatus result
-memory_status s = said_status (record { most = omega arith; not_full = λ h. absurd cc; not_fault = λ h. absurd cc }) s
-
-pub reported_status : {r : Ended} {err : Change} {result : ℕ} → IsReported r err result → IsStatus result
-reported_status {r} (Said status line e s) = said_status (report_status r status line e) s
-reported_status (no_memory s) = memory_status s
+    of_text : {job : Job} {text : List ℕ} → IsAsked words content before now out err job text → (status ≡ 9) ⊎ ((a : Answer) × TextDue left job text a × IsGiven a out err status)
+    of_text q = elim (settled q.output q.lines answered) [ inl n ↦ inl n | inr (a, d, g) ↦ inr (a, due_of_text q a d, g) ]

@@ -1,12 +1,19 @@
 -- What the program answers: a status, the bytes on its output and a line on its error output, and what is due for its words.
-use Rattle.std.specs.Prelude.{◌≡◌, ◌⊎◌, ℕ, ◌≤◌, ◌<◌, false, List, [], length, take, Option, Some, None, IfSome, codes}
+use Rattle.std.specs.Prelude.{◌≡◌, ◌⊎◌, ℕ, ◌≤◌, ◌<◌, List, [], length, take, Option, Some, None, IfSome, codes}
 use Rattle.c_syntax.specs.Programs.{TranslationUnit, PlainRefusal}
-use Rattle.c_model.specs.declared.job.Job.TheVariants.{Run}
+use Rattle.c_model.specs.declared.job.Job.{Job}
+use Rattle.c_model.specs.declared.job.Job.TheVariants.{Run, Instrument, Exec}
 use Rattle.c_model.specs.Words.{job_of}
+use Rattle.c_model.specs.WordLaws.{file_named}
 use Rattle.c_model.specs.Accepted.{Accepted, IsRefusal}
-use Rattle.c_model.specs.State.{Input, EndOfInput, Final}
-use Rattle.c_model.specs.Meaning.{Ran, run}
+use Rattle.c_model.specs.State.{Input, EndOfInput}
+use Rattle.c_model.specs.Meaning.{Ran}
 use Rattle.c_model.specs.Reports.{Report, report, line_of, refused_words, Extends}
+use Rattle.mon_syntax.specs.Trees.{MonitoredProgram}
+use Rattle.mon_syntax.specs.Memories.{flat_run}
+use Rattle.mon_syntax.specs.Text.{text_of}
+use Rattle.mon_syntax.specs.Translates.{Translates}
+use Rattle.mon_syntax.specs.Spelled.{Spells, IsMonitoredRefusal}
 use Rattle.ea_ports.specs.Port.{more, Rose, RefusalCount}
 
 pub record Answer : Type 0 where
@@ -37,49 +44,88 @@ refused_answer r = silent 2 (refused_words r)
 abbrev pub memory_line : List ℕ
 memory_line = line_of (codes "out of memory")
 
--- a file has at most 1 MiB
-abbrev pub file_limit : ℕ
-file_limit = 1048576
+-- an annotated file has at most 1 MiB, a monitored one at most 64 MiB
+abbrev pub file_limit : Job → ℕ
+file_limit (Run file steps rte) = 1048576
+file_limit (Instrument file rte) = 1048576
+file_limit (Exec file steps) = 67108864
 
--- behind an undefined operation: a report of an exit, a broken annotation or spent steps, and the output goes on from the run's
-pub record AfterUndefined (r : Ran) (a : Answer) : Type 0 where
-  pub final : Final
-  pub reported : report final ≡ Some (record { status = a.status; line = a.line })
-  pub status : (a.status ≡ 0) ⊎ (a.status ≡ 1) ⊎ (a.status ≡ 5)
-  pub begins : Extends r.output a.output
+-- the answer to a run: its report, and all that it printed
+pub record AnswersRun (r : Ran) (a : Answer) : Type 0 where
+  pub said : Report
+  pub reported : report r.final ≡ Some said
+  pub is : a ≡ record { status = said.status; output = r.output; line = said.line }
 
-abbrev pub answers_report : Option Report → Ran → Answer → Type 0
-answers_report (Some said) r a = a ≡ record { status = said.status; output = r.output; line = said.line }
-answers_report None r a = AfterUndefined r a
-
--- the answer to a run: its report and all that it printed, up to an undefined operation
-abbrev pub AnswersRun : Ran → Answer → Type 0
-AnswersRun r a = answers_report (report r.final) r a
+-- the answer that a monitored program was written: its text, and no line
+abbrev pub written_answer : MonitoredProgram → Answer
+written_answer m = record { status = 0; output = text_of m; line = [] }
 
 -- the input that a source stands for: the bytes that it has left, and then the end; any, where it doesn't tell
 abbrev pub IsInput : Option (List ℕ) → Input → Type 0
 IsInput None input = Unit {0}
 IsInput (Some bytes) input = input ≡ record { bytes = bytes; tail = EndOfInput }
 
+-- ---- what is due for a text
+
+-- `run`: the text is refused, or it is accepted, and the run of a program in monitored C that translates it is reported. Up
+-- to the source's first undefined operation this is the source's own run.
+pub data RunDue (left : Option (List ℕ)) (text : List ℕ) (steps : ℕ) (a : Answer) : Type 0 where
+  RunRefused : (r : PlainRefusal) → IsRefusal text r → a ≡ refused_answer r → RunDue left text steps a
+  Runs : (p : TranslationUnit) (m : MonitoredProgram) → Accepted text p → Translates p m → ((input : Input) → IsInput left input → AnswersRun (flat_run m input steps) a) → RunDue left text steps a
+
+-- `instrument`: the text is refused, or it is accepted, and a program in monitored C that translates it is written
+pub data InstrumentDue (text : List ℕ) (a : Answer) : Type 0 where
+  InstrumentRefused : (r : PlainRefusal) → IsRefusal text r → a ≡ refused_answer r → InstrumentDue text a
+  Writes : (p : TranslationUnit) (m : MonitoredProgram) → Accepted text p → Translates p m → a ≡ written_answer m → InstrumentDue text a
+
+-- `exec`: the text is refused, or it spells a program in monitored C, whose run is reported
+pub data ExecDue (left : Option (List ℕ)) (text : List ℕ) (steps : ℕ) (a : Answer) : Type 0 where
+  ExecRefused : (r : PlainRefusal) → IsMonitoredRefusal text r → a ≡ refused_answer r → ExecDue left text steps a
+  Executes : (m : MonitoredProgram) → Spells text m → ((input : Input) → IsInput left input → AnswersRun (flat_run m input steps) a) → ExecDue left text steps a
+
+abbrev pub TextDue : Option (List ℕ) → Job → List ℕ → Answer → Type 0
+TextDue left (Run file steps rte) text a = RunDue left text steps a
+TextDue left (Instrument file rte) text a = InstrumentDue text a
+TextDue left (Exec file steps) text a = ExecDue left text steps a
+
+-- ---- bytes that begin the output due: none, or a beginning of what is printed or written
+
+abbrev pub RunBegins : Option (List ℕ) → List ℕ → ℕ → List ℕ → Type 0
+RunBegins left text steps sent =
+    (sent ≡ []) ⊎ ((p : TranslationUnit) × (m : MonitoredProgram) × Accepted text p × Translates p m × ((input : Input) → IsInput left input → Extends sent (flat_run m input steps).output))
+
+abbrev pub InstrumentBegins : List ℕ → List ℕ → Type 0
+InstrumentBegins text sent = (sent ≡ []) ⊎ ((p : TranslationUnit) × (m : MonitoredProgram) × Accepted text p × Translates p m × Extends sent (text_of m))
+
+abbrev pub ExecBegins : Option (List ℕ) → List ℕ → ℕ → List ℕ → Type 0
+ExecBegins left text steps sent =
+    (sent ≡ []) ⊎ ((m : MonitoredProgram) × Spells text m × ((input : Input) → IsInput left input → Extends sent (flat_run m input steps).output))
+
+abbrev pub TextBegins : Option (List ℕ) → Job → List ℕ → List ℕ → Type 0
+TextBegins left (Run file steps rte) text sent = RunBegins left text steps sent
+TextBegins left (Instrument file rte) text sent = InstrumentBegins text sent
+TextBegins left (Exec file steps) text sent = ExecBegins left text steps sent
+
+-- ---- what is due for the words of a command line
+
 -- Which answer is due: by the words, the content of the folder with its count of faults before and after, and the input.
 pub data IsDue (words : List (List ℕ)) (content : Option (List ℕ → Option (List ℕ))) (before now : ℕ) (left : Option (List ℕ)) (a : Answer) : Type 0 where
   -- the words have no job
   Usage : job_of words ≡ None → now ≡ before → a ≡ usage_answer → IsDue words content before now left a
   -- nothing stands under the name
-  NoFile : (file : List ℕ) (steps : ℕ) → job_of words ≡ Some (Run file steps false) → IfSome content (λ files. files file ≡ None) → RefusalCount content before now → a ≡ no_file_answer → IsDue words content before now left a
+  NoFile : (job : Job) → job_of words ≡ Some job → IfSome content (λ files. files (file_named job) ≡ None) → RefusalCount content before now → a ≡ no_file_answer → IsDue words content before now left a
   -- the file is longer than the limit
-  TooLong : (file : List ℕ) (steps : ℕ) → job_of words ≡ Some (Run file steps false) → IfSome content (λ files. (bytes : List ℕ) × (files file ≡ Some bytes) × (file_limit < length bytes)) → RefusalCount content before now → a ≡ too_long_answer → IsDue words content before now left a
+  TooLong : (job : Job) → job_of words ≡ Some job → IfSome content (λ files. (bytes : List ℕ) × (files (file_named job) ≡ Some bytes) × (file_limit job < length bytes)) → RefusalCount content before now → a ≡ too_long_answer → IsDue words content before now left a
   -- the folder failed
-  FolderFault : (file : List ℕ) (steps : ℕ) → job_of words ≡ Some (Run file steps false) → Rose before now → a ≡ read_fault_answer → IsDue words content before now left a
-  -- the text is refused
-  Refused : (file : List ℕ) (steps : ℕ) (text : List ℕ) (r : PlainRefusal) → job_of words ≡ Some (Run file steps false) → IfSome content (λ files. files file ≡ Some text) → length text ≤ file_limit → now ≡ before → IsRefusal text r → a ≡ refused_answer r → IsDue words content before now left a
-  -- the text is accepted, and its program runs
-  Runs : (file : List ℕ) (steps : ℕ) (text : List ℕ) (p : TranslationUnit) → job_of words ≡ Some (Run file steps false) → IfSome content (λ files. files file ≡ Some text) → length text ≤ file_limit → now ≡ before → Accepted text p → ((input : Input) → IsInput left input → AnswersRun (run p input steps) a) → IsDue words content before now left a
+  FolderFault : (job : Job) → job_of words ≡ Some job → Rose before now → a ≡ read_fault_answer → IsDue words content before now left a
+  -- what is due for the text of the file
+  OfText : (job : Job) (text : List ℕ) → job_of words ≡ Some job → IfSome content (λ files. files (file_named job) ≡ Some text) → length text ≤ file_limit job → now ≡ before → TextDue left job text a → IsDue words content before now left a
 
--- bytes that begin the output due: none, or a beginning of what the accepted program prints
 pub data Begins (words : List (List ℕ)) (content : Option (List ℕ → Option (List ℕ))) (before now : ℕ) (left : Option (List ℕ)) (sent : List ℕ) : Type 0 where
   Nothing : sent ≡ [] → Begins words content before now left sent
-  Part : (file : List ℕ) (steps : ℕ) (text : List ℕ) (p : TranslationUnit) → job_of words ≡ Some (Run file steps false) → IfSome content (λ files. files file ≡ Some text) → length text ≤ file_limit → now ≡ before → Accepted text p → ((input : Input) → IsInput left input → Extends sent (run p input steps).output) → Begins words content before now left sent
+  BeginsText : (job : Job) (text : List ℕ) → job_of words ≡ Some job → IfSome content (λ files. files (file_named job) ≡ Some text) → length text ≤ file_limit job → now ≡ before → TextBegins left job text sent → Begins words content before now left sent
+
+-- ---- answers
 
 -- a sink before and after: what it tells, and its count of faults
 pub record Change : Type 0 where
@@ -104,14 +150,12 @@ pub data Answered (Due : Answer → Type 0) (Begin : List ℕ → Type 0) (out e
   LineFault : (sent line : List ℕ) (k : ℕ) → status ≡ 8 → Begin sent → out.told' ≡ more out.told sent → out.faults' ≡ out.faults → IsLine Due line → err.told' ≡ more err.told (take k line) → Rose err.faults err.faults' → Answered Due Begin out err status
   NoMemory : (sent line : List ℕ) (k : ℕ) → status ≡ 9 → Begin sent → out.told' ≡ more out.told sent → out.faults' ≡ out.faults → IsLine Due line → err.told' ≡ more err.told (take k line) → err.faults' ≡ err.faults → Answered Due Begin out err status
 
--- the answers due for a text, and the bytes that begin their output
-abbrev pub TextDue : List ℕ → ℕ → Answer → Type 0
-TextDue text steps a =
-    ((r : PlainRefusal) × IsRefusal text r × (a ≡ refused_answer r))
-    ⊎ ((p : TranslationUnit) × Accepted text p × ((input : Input) → AnswersRun (run p input steps) a))
+-- the report of a run of the program is due, and what begins its output
+abbrev pub ReportDue : MonitoredProgram → ℕ → Answer → Type 0
+ReportDue m steps a = (input : Input) → AnswersRun (flat_run m input steps) a
 
-abbrev pub TextBegin : List ℕ → ℕ → List ℕ → Type 0
-TextBegin text steps sent = (sent ≡ []) ⊎ ((p : TranslationUnit) × Accepted text p × ((input : Input) → Extends sent (run p input steps).output))
+abbrev pub ReportBegins : MonitoredProgram → ℕ → List ℕ → Type 0
+ReportBegins m steps sent = (input : Input) → Extends sent (flat_run m input steps).output
 
 -- How one line is put with a status: wholly, or the sink failed (8), or memory was wanting (9), with a beginning of the line.
 pub data IsSaid (line : List ℕ) (status : ℕ) (err : Change) (result : ℕ) : Type 0 where

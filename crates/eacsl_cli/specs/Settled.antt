@@ -1,21 +1,17 @@
--- What is reported of a statement's end, where main's body ended so.
+-- How a line was said, where there may be no memory for it, and what the end of a run reports.
 use Rattle.std.specs.Prelude.{◌≡◌, ℕ, List, Some}
-use Rattle.c_model.specs.State.{Final, Spent}
-use Rattle.c_model.specs.Reports.{report}
-use Rattle.eacsl_cli.specs.declared.walk.ended.Ended.{Ended}
-use Rattle.eacsl_cli.specs.declared.walk.ended.Ended.TheVariants as ended
+use Rattle.c_model.specs.Reports.{Report, report}
+use Rattle.mon_walk.specs.declared.leave.Stop.{Stop}
+use Rattle.mon_walk.specs.Parts.{final_of}
 use Rattle.eacsl_cli.specs.Answers.{Change, IsSaid, memory_line}
-use Rattle.eacsl_cli.specs.Whole.{final_of}
 
--- behind an undefined operation nothing is claimed of an end: the run stops there, as one whose steps are spent
-abbrev pub reported_final : Ended → Final
-reported_final ended.Normal = final_of ended.Normal
-reported_final (ended.Returns z) = final_of (ended.Returns z)
-reported_final (ended.Broken n line kind how) = final_of (ended.Broken n line kind how)
-reported_final (ended.Undefined at) = Spent
-reported_final ended.Spent = Spent
+-- the line was said with the status, or there was no memory for it, and that was said
+pub data IsSettled (line : List ℕ) (status : ℕ) (err : Change) (result : ℕ) : Type 0 where
+  Said : IsSaid line status err result → IsSettled line status err result
+  Wanting : IsSaid memory_line 9 err result → IsSettled line status err result
 
--- the report of the end was said, or there was no memory for its line and that was said
-pub data IsReported (r : Ended) (err : Change) (result : ℕ) : Type 0 where
-  Said : (status : ℕ) (line : List ℕ) → report (reported_final r) ≡ Some (record { status = status; line = line }) → IsSaid line status err result → IsReported r err result
-  Wanting : IsSaid memory_line 9 err result → IsReported r err result
+-- the report of the end was said, or there was no memory for its line
+pub record IsReported (stop : Stop) (err : Change) (result : ℕ) : Type 0 where
+  pub said : Report
+  pub is : report (final_of stop) ≡ Some said
+  pub settled : IsSettled said.line said.status err result

@@ -1,13 +1,20 @@
 -- What a call answers in which no port failed, and which statuses there are.
-use Rattle.std.specs.Prelude.{◌≡◌, ◌⊎◌, ℕ, ◌≤◌, false, List, length, Option, Some}
+use Rattle.std.specs.Prelude.{◌≡◌, ◌⊎◌, ℕ, ◌≤◌, false, List, length, Option, Some, None}
 use Rattle.c_syntax.specs.Programs.{TranslationUnit, PlainRefusal}
-use Rattle.c_model.specs.declared.job.Job.TheVariants.{Run}
+use Rattle.c_model.specs.declared.job.Job.{Job}
+use Rattle.c_model.specs.declared.job.Job.TheVariants.{Run, Instrument, Exec}
 use Rattle.c_model.specs.Words.{job_of}
+use Rattle.c_model.specs.WordLaws.{file_named}
 use Rattle.c_model.specs.Accepted.{Accepted, IsRefusal}
 use Rattle.c_model.specs.State.{Input}
-use Rattle.c_model.specs.Meaning.{run}
+use Rattle.c_model.specs.Meaning.{Ran, run}
+use Rattle.c_model.specs.Reports.{Report, report}
+use Rattle.mon_syntax.specs.Trees.{MonitoredProgram}
+use Rattle.mon_syntax.specs.Memories.{flat_run}
+use Rattle.mon_syntax.specs.Translates.{Translates}
+use Rattle.mon_syntax.specs.Spelled.{Spells, IsMonitoredRefusal}
 use Rattle.ea_ports.specs.Port.{more, Rose}
-use Rattle.eacsl_cli.specs.Answers.{Answer, AnswersRun, refused_answer, file_limit, IsInput, Change}
+use Rattle.eacsl_cli.specs.Answers.{Answer, AnswersRun, refused_answer, written_answer, file_limit, IsInput, Change}
 
 -- no fault was counted
 abbrev pub Steady : ℕ → ℕ → Type 0
@@ -19,14 +26,40 @@ pub record IsGiven (a : Answer) (out err : Change) (status : ℕ) : Type 0 where
   pub output_is : out.told' ≡ more out.told a.output
   pub line_is : err.told' ≡ more err.told a.line
 
--- The words name a file that the folder tells, of at most the limit, and no port failed: an accepted text is answered
--- by the run of its one program, any other by its one refusal, or else memory was wanting.
-pub record Sound (words : List (List ℕ)) (content : Option (List ℕ → Option (List ℕ))) (before now : ℕ) (left : Option (List ℕ)) (out err : Change) (status : ℕ) : Type 0 where
-  pub runs : (files : List ℕ → Option (List ℕ)) (file : List ℕ) (steps : ℕ) (text : List ℕ) (p : TranslationUnit) (input : Input) → content ≡ Some files → job_of words ≡ Some (Run file steps false) → files file ≡ Some text → length text ≤ file_limit → Accepted text p → Steady before now → Steady out.faults out.faults' → Steady err.faults err.faults' → IsInput left input → (status ≡ 9) ⊎ ((a : Answer) × AnswersRun (run p input steps) a × IsGiven a out err status)
-  pub refuses : (files : List ℕ → Option (List ℕ)) (file : List ℕ) (steps : ℕ) (text : List ℕ) (r : PlainRefusal) → content ≡ Some files → job_of words ≡ Some (Run file steps false) → files file ≡ Some text → length text ≤ file_limit → IsRefusal text r → Steady before now → Steady out.faults out.faults' → Steady err.faults err.faults' → (status ≡ 9) ⊎ IsGiven (refused_answer r) out err status
+-- The answer to an accepted program. Where its run has a report, which it has unless it ends undefined: that report, and all
+-- that it printed. Else, those of a program in monitored C that translates it; its output goes on from the run's.
+abbrev pub answers_source : Option Report → TranslationUnit → Input → ℕ → Answer → Type 0
+answers_source (Some said) p input steps a = a ≡ record { status = said.status; output = (run p input steps).output; line = said.line }
+answers_source None p input steps a = (m : MonitoredProgram) × Translates p m × AnswersRun (flat_run m input steps) a
 
--- a status of the program: 4 and 6, for a full segment and a fault of the machine, are never given
+abbrev pub AnswersSource : TranslationUnit → Input → ℕ → Answer → Type 0
+AnswersSource p input steps a = answers_source (report (run p input steps).final) p input steps a
+
+-- The words have a job on a file that the folder tells, and no port failed.
+pub record IsAsked (words : List (List ℕ)) (content : Option (List ℕ → Option (List ℕ))) (before now : ℕ) (out err : Change) (job : Job) (text : List ℕ) : Type 0 where
+  pub files : List ℕ → Option (List ℕ)
+  pub tells : content ≡ Some files
+  pub job_is : job_of words ≡ Some job
+  pub holds : files (file_named job) ≡ Some text
+  pub short : length text ≤ file_limit job
+  pub folder : Steady before now
+  pub output : Steady out.faults out.faults'
+  pub lines : Steady err.faults err.faults'
+
+-- Of each job and text the answer that is due is given, or else memory was wanting.
+pub record Sound (words : List (List ℕ)) (content : Option (List ℕ → Option (List ℕ))) (before now : ℕ) (left : Option (List ℕ)) (out err : Change) (status : ℕ) : Type 0 where
+  -- `run` of an accepted text: its one program's run
+  pub runs : (file : List ℕ) (steps : ℕ) (text : List ℕ) (p : TranslationUnit) (input : Input) → IsAsked words content before now out err (Run file steps false) text → Accepted text p → IsInput left input → (status ≡ 9) ⊎ ((a : Answer) × AnswersSource p input steps a × IsGiven a out err status)
+  -- `instrument` of an accepted text: the text of a program that translates its one program
+  pub instruments : (file : List ℕ) (text : List ℕ) (p : TranslationUnit) → IsAsked words content before now out err (Instrument file false) text → Accepted text p → (status ≡ 9) ⊎ ((m : MonitoredProgram) × Translates p m × IsGiven (written_answer m) out err status)
+  -- `exec` of a text that spells a program: its run
+  pub executes : (file : List ℕ) (steps : ℕ) (text : List ℕ) (m : MonitoredProgram) (input : Input) → IsAsked words content before now out err (Exec file steps) text → Spells text m → IsInput left input → (status ≡ 9) ⊎ ((a : Answer) × AnswersRun (flat_run m input steps) a × IsGiven a out err status)
+  -- any other text: its one refusal
+  pub run_refuses : (file : List ℕ) (steps : ℕ) (text : List ℕ) (r : PlainRefusal) → IsAsked words content before now out err (Run file steps false) text → IsRefusal text r → (status ≡ 9) ⊎ IsGiven (refused_answer r) out err status
+  pub instrument_refuses : (file : List ℕ) (text : List ℕ) (r : PlainRefusal) → IsAsked words content before now out err (Instrument file false) text → IsRefusal text r → (status ≡ 9) ⊎ IsGiven (refused_answer r) out err status
+  pub exec_refuses : (file : List ℕ) (steps : ℕ) (text : List ℕ) (r : PlainRefusal) → IsAsked words content before now out err (Exec file steps) text → IsMonitoredRefusal text r → (status ≡ 9) ⊎ IsGiven (refused_answer r) out err status
+
+-- a status of the program: 4, for a full segment, is never given
 pub record IsStatus (status : ℕ) : Type 0 where
   pub most : status ≤ 11
   pub not_full : status ≡ 4 → ⊥
-  pub not_fault : status ≡ 6 → ⊥

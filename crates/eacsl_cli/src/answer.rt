@@ -1,25 +1,30 @@
 //! The top call.
 
-ghost use Rattle.std.specs.Prelude.{◌≡◌, ◌≤◌, ℕ, List, length, map, Option, string_bytes};
+ghost use Rattle.std.specs.Prelude.{◌≡◌, ◌≤◌, List, length, map, string_bytes};
 ghost use Rattle.c_syntax.specs.Programs.{plain_refusal};
-ghost use Rattle.c_model.specs.declared.job.Job.TheVariants.{Run};
-ghost use Rattle.c_model.specs.Accepted.{IsRefusal};
-ghost use Rattle.c_model.specs.Words.{job_of};
-ghost use Rattle.eacsl_cli.specs.Answers.{Answered, Begins, IsDue, IsSaid, TextBegin, TextDue, change, memory_line};
-ghost use Rattle.eacsl_cli.specs.Jobs.{file_of_job, steps_of_job};
+ghost use Rattle.c_model.specs.Reports.{line_of, refused_words};
+ghost use Rattle.c_model.specs.WordLaws.{file_named};
+ghost use Rattle.mon_syntax.specs.Trees.{plain_program};
+ghost use Rattle.eacsl_cli.specs.Answers.{Answered, Begins, ExecBegins, ExecDue, InstrumentBegins, InstrumentDue, IsDue, IsSaid, ReportBegins, ReportDue, RunBegins, RunDue, TextBegins, TextDue, change, file_limit, memory_line};
+ghost use Rattle.eacsl_cli.specs.Settled.{IsReported, IsSettled};
 ghost use Rattle.eacsl_cli.specs.Sound.{IsStatus, Sound};
-ghost use Rattle.eacsl_cli.specs.Settled.{IsReported};
 
 use crate::lines::{broken_line, exit_line, refused_line, say};
-use crate::walk::ended::Ended;
-use crate::walk::run::{RunFault, run};
 use c_model::{FileName, Job, read_words};
 use c_parser::read_first;
-use c_syntax::{FrontFault, Refusal};
+use c_printer::print;
+use c_syntax::{FrontFault, How, Kind, Refusal};
 use ea_ports::{FetchFault, Folder, Sink, SinkFault, Source};
-use std::alloc::Global;
+use instrument::instrument;
+use mon_reader::read_monitored;
+use mon_syntax::MonProgram;
+use mon_walk::{Stop, WalkFault, walk};
+use std::alloc::{AllocError, Global};
 
-const FILE_LIMIT: usize = 1_048_576;
+// The most bytes of an annotated file, and of a monitored one.
+const ANNOTATED_LIMIT: usize = 1_048_576;
+
+const MONITORED_LIMIT: usize = 67_108_864;
 
 // Says that memory is wanting.
 fn out_of_memory<E: Sink>(err: &mut E) -> u8
@@ -28,8 +33,8 @@ fn out_of_memory<E: Sink>(err: &mut E) -> u8
     say(err, b"eacsl: out of memory\n", 9)
 }
 
-fn report_exit<E: Sink>(alloc: Global, value: i32, err: &mut E) -> u8
-    ensures { IsReported (Ended.Returns value) (change (E.told err.old) (E.told err.new) (E.faults err.old) (E.faults err.new)) result }
+fn report_exit<E: Sink>(alloc: Global, value: i128, err: &mut E) -> u8
+    ensures { IsReported (Stop.Exit value) (change (E.told err.old) (E.told err.new) (E.faults err.old) (E.faults err.new)) result }
 {
     match exit_line(alloc, value) {
         Ok(line) => say(err, line.as_bytes(), 0),
@@ -37,36 +42,37 @@ fn report_exit<E: Sink>(alloc: Global, value: i32, err: &mut E) -> u8
     }
 }
 
-// Says how main's body ended.
-fn report_end<E: Sink>(alloc: Global, ended: Ended, err: &mut E) -> u8
-    ensures { IsReported ended (change (E.told err.old) (E.told err.new) (E.faults err.old) (E.faults err.new)) result }
+fn report_broken<E: Sink>(
+    alloc: Global,
+    number: u32,
+    line: u32,
+    kind: Kind,
+    how: How,
+    err: &mut E,
+) -> u8
+    ensures { IsReported (Stop.Broken number line kind how) (change (E.told err.old) (E.told err.new) (E.faults err.old) (E.faults err.new)) result }
 {
-    match ended {
-        Ended::Normal => report_exit(alloc, 0, err),
-        Ended::Returns(value) => report_exit(alloc, value, err),
-        Ended::Broken(number, line, kind, how) => {
-            match broken_line(alloc, number, line, kind, how) {
-                Ok(line) => say(err, &line, 1),
-                Err(_) => out_of_memory(err),
-            }
-        }
-        Ended::Undefined(_) => say(err, b"eacsl: steps spent\n", 5),
-        Ended::Spent => say(err, b"eacsl: steps spent\n", 5),
+    match broken_line(alloc, number, line, kind, how) {
+        Ok(line) => say(err, &line, 1),
+        Err(_) => out_of_memory(err),
+    }
+}
+
+// Says how a run ended.
+fn report_stop<E: Sink>(alloc: Global, stop: Stop, err: &mut E) -> u8
+    ensures { IsReported stop (change (E.told err.old) (E.told err.new) (E.faults err.old) (E.faults err.new)) result }
+{
+    match stop {
+        Stop::Exit(value) => report_exit(alloc, value, err),
+        Stop::Broken(number, line, kind, how) => report_broken(alloc, number, line, kind, how, err),
+        Stop::Spent => say(err, b"eacsl: steps spent\n", 5),
+        Stop::Fault => say(err, b"eacsl: fault\n", 6),
     }
 }
 
 // Says why a text is refused.
-fn refuse<O: Sink, E: Sink>(
-    alloc: Global,
-    text: &[u8],
-    steps: u64,
-    refusal: &Refusal,
-    out: &O,
-    err: &mut E,
-) -> u8
-    requires { IsRefusal text.now (plain_refusal refusal.now) }
-    ensures answered { Answered (TextDue text.now steps) (TextBegin text.now steps) (change (O.told out.now) (O.told out.now) (O.faults out.now) (O.faults out.now)) (change (E.told err.old) (E.told err.new) (E.faults err.old) (E.faults err.new)) result }
-    ensures status { IsStatus result }
+fn refuse<E: Sink>(alloc: Global, refusal: &Refusal, err: &mut E) -> u8
+    ensures { IsSettled (line_of (refused_words (plain_refusal refusal.now))) 2 (change (E.told err.old) (E.told err.new) (E.faults err.old) (E.faults err.new)) result }
 {
     match refused_line(alloc, refusal) {
         Ok(line) => say(err, &line, 2),
@@ -74,7 +80,28 @@ fn refuse<O: Sink, E: Sink>(
     }
 }
 
-/// Runs the program that a text spells with so many steps, or says why the text is refused.
+// Runs a program in monitored C with so many steps, and says how it ended.
+fn execute<O: Sink, E: Sink>(
+    alloc: Global,
+    m: &MonProgram,
+    steps: u64,
+    out: &mut O,
+    err: &mut E,
+) -> u8
+    ensures answered { Answered (ReportDue (plain_program m.now) steps) (ReportBegins (plain_program m.now) steps) (change (O.told out.old) (O.told out.new) (O.faults out.old) (O.faults out.new)) (change (E.told err.old) (E.told err.new) (E.faults err.old) (E.faults err.new)) result }
+    ensures status { IsStatus result }
+{
+    match walk(alloc, m, steps, out) {
+        Ok(ran) => report_stop(alloc, ran.stop, err),
+        Err(WalkFault::Memory) => out_of_memory(err),
+        Err(WalkFault::Sink(fault)) => match fault {
+            SinkFault::Failed => 8,
+            SinkFault::Memory => out_of_memory(err),
+        },
+    }
+}
+
+/// Runs the annotated program that a text spells with so many steps, or says why the text is refused.
 pub fn run_text<O: Sink, E: Sink>(
     alloc: Global,
     text: &[u8],
@@ -83,54 +110,111 @@ pub fn run_text<O: Sink, E: Sink>(
     err: &mut E,
 ) -> u8
     requires { length text.now ≤ 1048576 }
-    ensures answered { Answered (TextDue text.now steps) (TextBegin text.now steps) (change (O.told out.old) (O.told out.new) (O.faults out.old) (O.faults out.new)) (change (E.told err.old) (E.told err.new) (E.faults err.old) (E.faults err.new)) result }
+    ensures answered { Answered (RunDue None text.now steps) (RunBegins None text.now steps) (change (O.told out.old) (O.told out.new) (O.faults out.old) (O.faults out.new)) (change (E.told err.old) (E.told err.new) (E.faults err.old) (E.faults err.new)) result }
     ensures status { IsStatus result }
 {
     let program = match read_first(alloc, text) {
         Ok(program) => program,
-        Err(FrontFault::Refused(refusal)) => return refuse(alloc, text, steps, &refusal, out, err),
+        Err(FrontFault::Refused(refusal)) => return refuse(alloc, &refusal, err),
         Err(FrontFault::Memory) => return out_of_memory(err),
     };
-    match run(alloc, &program, steps, out) {
-        Ok(ran) => report_end(alloc, ran.ended, err),
-        Err(RunFault::Memory) => out_of_memory(err),
-        Err(RunFault::Sink(fault)) => match fault {
-            SinkFault::Failed => 8,
-            SinkFault::Memory => out_of_memory(err),
-        },
+    match instrument(alloc, &program) {
+        Ok(m) => execute(alloc, &m, steps, out, err),
+        Err(_) => out_of_memory(err),
     }
 }
 
-// The name of the file that a job runs.
+/// Writes the monitored text of the annotated program that a text spells, or says why the text is refused.
+pub fn instrument_text<O: Sink, E: Sink>(alloc: Global, text: &[u8], out: &mut O, err: &mut E) -> u8
+    requires { length text.now ≤ 1048576 }
+    ensures answered { Answered (InstrumentDue text.now) (InstrumentBegins text.now) (change (O.told out.old) (O.told out.new) (O.faults out.old) (O.faults out.new)) (change (E.told err.old) (E.told err.new) (E.faults err.old) (E.faults err.new)) result }
+    ensures status { IsStatus result }
+{
+    let program = match read_first(alloc, text) {
+        Ok(program) => program,
+        Err(FrontFault::Refused(refusal)) => return refuse(alloc, &refusal, err),
+        Err(FrontFault::Memory) => return out_of_memory(err),
+    };
+    let m = match instrument(alloc, &program) {
+        Ok(m) => m,
+        Err(_) => return out_of_memory(err),
+    };
+    match print(alloc, &m, out) {
+        Ok(()) => 0,
+        Err(SinkFault::Failed) => 8,
+        Err(SinkFault::Memory) => out_of_memory(err),
+    }
+}
+
+/// Runs the program in monitored C that a text spells with so many steps, or says why the text is refused.
+pub fn exec_text<O: Sink, E: Sink>(
+    alloc: Global,
+    text: &[u8],
+    steps: u64,
+    out: &mut O,
+    err: &mut E,
+) -> u8
+    requires { length text.now ≤ 67108864 }
+    ensures answered { Answered (ExecDue None text.now steps) (ExecBegins None text.now steps) (change (O.told out.old) (O.told out.new) (O.faults out.old) (O.faults out.new)) (change (E.told err.old) (E.told err.new) (E.faults err.old) (E.faults err.new)) result }
+    ensures status { IsStatus result }
+{
+    match read_monitored(alloc, text) {
+        Ok(m) => execute(alloc, &m, steps, out, err),
+        Err(FrontFault::Refused(refusal)) => refuse(alloc, &refusal, err),
+        Err(FrontFault::Memory) => out_of_memory(err),
+    }
+}
+
+// Does a job on the text of its file.
+fn do_job<O: Sink, E: Sink>(alloc: Global, job: &Job, text: &[u8], out: &mut O, err: &mut E) -> u8
+    requires { length text.now ≤ file_limit job.now }
+    ensures answered { Answered (TextDue None job.now text.now) (TextBegins None job.now text.now) (change (O.told out.old) (O.told out.new) (O.faults out.old) (O.faults out.new)) (change (E.told err.old) (E.told err.new) (E.faults err.old) (E.faults err.new)) result }
+    ensures status { IsStatus result }
+{
+    match job {
+        Job::Run { steps, .. } => run_text(alloc, text, *steps, out, err),
+        Job::Instrument { .. } => instrument_text(alloc, text, out, err),
+        Job::Exec { steps, .. } => exec_text(alloc, text, *steps, out, err),
+    }
+}
+
+// The name of the file of a job.
 fn file_name(job: &Job) -> &FileName
-    ensures { result.now ≡ file_of_job job.now }
+    ensures { result.now ≡ file_named job.now }
 {
     match job {
         Job::Run { file, .. } => file,
+        Job::Instrument { file, .. } => file,
+        Job::Exec { file, .. } => file,
     }
 }
 
-// With how many steps a job runs.
-fn step_count(job: &Job) -> u64
-    ensures { result ≡ steps_of_job job.now }
+// The most bytes that the file of a job may have.
+fn limit_of(job: &Job) -> usize
+    ensures { result ≡ file_limit job.now }
 {
     match job {
-        Job::Run { steps, .. } => *steps,
+        Job::Run { .. } => ANNOTATED_LIMIT,
+        Job::Instrument { .. } => ANNOTATED_LIMIT,
+        Job::Exec { .. } => MONITORED_LIMIT,
     }
 }
 
 /// Does what the words of a command line ask for, without the program's name, and returns the exit status.
 ///
-/// `run FILE [--steps N]` reads the annotated C text of at most 1 MiB that `files` has under the name, and runs its
-/// program: what it prints goes to `out`, and one line to `err` says how it ended.
+/// `run FILE [--steps N]` reads the annotated C text of at most 1 MiB that `files` has under the name, translates its
+/// program into monitored C and runs that: what it prints goes to `out`, and one line to `err` says how it ended.
+/// `instrument FILE` writes the translation to `out` instead. `exec FILE [--steps N]` runs a text in monitored C, of at
+/// most 64 MiB.
 ///
 /// | Status | Line |
 /// |---|---|
-/// | 0 | `exit K`: the program ended with the value `K` |
+/// | 0 | `exit K`: the program ended with the value `K`; none for `instrument` |
 /// | 1 | `annotation A, line L: KIND is HOW`: the first annotation that is false or undefined |
 /// | 2 | `refused EC at L:C: WORD`: the text is outside the language |
 /// | 3 | `usage`: the words have no job |
 /// | 5 | `steps spent` |
+/// | 6 | `fault`: the machine faulted; for `run` only behind an undefined operation of the source |
 /// | 7 | `read fault`: the folder failed |
 /// | 8 | none, or a part of a line: `out` or `err` failed |
 /// | 9 | `out of memory`, or a part of a line |
@@ -166,8 +250,8 @@ pub fn eacsl<F: Folder, I: Source, O: Sink, E: Sink>(
         Ok(None) => return say(err, b"eacsl: usage\n", 3),
         Err(_) => return out_of_memory(err),
     };
-    match files.fetch(alloc, file_name(&job).text(), FILE_LIMIT) {
-        Ok(text) => run_text(alloc, &text, step_count(&job), out, err),
+    match files.fetch(alloc, file_name(&job).text(), limit_of(&job)) {
+        Ok(text) => do_job(alloc, &job, &text, out, err),
         Err(FetchFault::Missing) => say(err, b"eacsl: no file\n", 10),
         Err(FetchFault::TooLong) => say(err, b"eacsl: file too long\n", 11),
         Err(FetchFault::Failed) => say(err, b"eacsl: read fault\n", 7),

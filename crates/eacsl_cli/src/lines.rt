@@ -36,7 +36,7 @@ fn how_word(how: How) -> &'static str
 }
 
 /// The line of an exit with a value.
-pub fn exit_line(alloc: Global, value: i32) -> Result<String, AllocError>
+pub fn exit_line(alloc: Global, value: i128) -> Result<String, AllocError>
     ensures { IfOk result (λ line. string_bytes line ≡ line_of (codes "exit " ++ signed_decimal value)) }
 {
     format!(in alloc; "eacsl: exit {value}\n")

@@ -5,7 +5,6 @@ mod answer;
 mod lines;
 #[cfg(test)]
 mod tests;
-mod walk;
 
 use answer::eacsl;
 use ea_ports::{FileFolder, ReadSource, WriteSink};

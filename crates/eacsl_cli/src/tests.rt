@@ -37,18 +37,25 @@ struct Wanted<'a> {
     line: &'a [u8],
 }
 
-/// Calls `eacsl` with the words on a folder in which `a.c` has this text, and compares what it gives.
-fn gives(
+/// What a call gave.
+#[derive(Drop)]
+struct Given {
+    status: u8,
+    output: Vec<u8>,
+    line: Vec<u8>,
+}
+
+/// Calls `eacsl` with the words on a folder in which `a.c` has this text.
+fn answer_of(
     rt: &(impl Abort + AllocGlobal),
     words: &str,
     text: &[u8],
     failing: &Failing,
-    wanted: &Wanted,
-) -> Result<(), AllocError> {
+) -> Result<Given, AllocError> {
     let alloc = rt.alloc();
-    let mut given = Vec::new(alloc);
+    let mut list = Vec::new(alloc);
     for word in words.split_whitespace() {
-        given.push(String::from_str(alloc, word)?)?;
+        list.push(String::from_str(alloc, word)?)?;
     }
     let mut files = Vec::new(alloc);
     files.push((String::from_str(alloc, "a.c")?, text.to_vec(alloc)?))?;
@@ -56,10 +63,26 @@ fn gives(
     let mut input = MemSource::new(Vec::new(alloc), Vec::new(alloc));
     let mut out = MemSink::new(alloc, failing.out.to_vec(alloc)?);
     let mut err = MemSink::new(alloc, failing.err.to_vec(alloc)?);
-    let status = eacsl(alloc, given, &mut folder, &mut input, &mut out, &mut err);
-    assert_eq!(rt; status, wanted.status);
-    assert_eq!(rt; out.bytes(), wanted.output);
-    assert_eq!(rt; err.bytes(), wanted.line);
+    let status = eacsl(alloc, list, &mut folder, &mut input, &mut out, &mut err);
+    Ok(Given {
+        status,
+        output: out.bytes().to_vec(alloc)?,
+        line: err.bytes().to_vec(alloc)?,
+    })
+}
+
+/// Compares what a call gives with what is wanted.
+fn gives(
+    rt: &(impl Abort + AllocGlobal),
+    words: &str,
+    text: &[u8],
+    failing: &Failing,
+    wanted: &Wanted,
+) -> Result<(), AllocError> {
+    let given = answer_of(rt, words, text, failing)?;
+    assert_eq!(rt; given.status, wanted.status);
+    assert_eq!(rt; given.output.as_slice(), wanted.output);
+    assert_eq!(rt; given.line.as_slice(), wanted.line);
     Ok(())
 }
 
@@ -132,16 +155,42 @@ fn the_first_false_annotation_is_named(rt: HostRuntime) -> Result<(), AllocError
 }
 
 #[test]
-fn a_run_stops_where_arithmetic_is_undefined(rt: HostRuntime) -> Result<(), AllocError> {
+fn values_wrap_behind_an_undefined_operation(rt: HostRuntime) -> Result<(), AllocError> {
     gives(
         &rt,
         "run a.c",
-        b"int main(void) {\n  int x = 2147483647;\n  //@ assert x + 1 > x;\n  putchar('A');\n  x = x + 1;\n  putchar('B');\n}",
+        b"int main(void) {\n  int x = 2147483647;\n  //@ assert x + 1 > x;\n  putchar('A');\n  x = x + 1;\n  putchar('B');\n  return x;\n}",
         &NONE,
         &Wanted {
-            status: 5,
-            output: b"A",
-            line: b"eacsl: steps spent\n",
+            status: 0,
+            output: b"AB",
+            line: b"eacsl: exit -2147483648\n",
+        },
+    )
+}
+
+#[test]
+fn a_program_is_written_in_monitored_c(rt: HostRuntime) -> Result<(), AllocError> {
+    gives(
+        &rt,
+        "instrument a.c",
+        TRUE_ASSERT,
+        &NONE,
+        &Wanted {
+            status: 0,
+            output: b"#include <e_acsl.h>\ni32 main(void) {\n  i32 v0_x;\n  v0_x = I32(2);\n  __e_acsl_assert(I32(1), ((((i64)v0_x) + I64(1)) == I64(3)), 1, 3, \"assert\");\n  putchar(I32(65));\n  return I32(0);\n}\n",
+            line: b"",
+        },
+    )?;
+    gives(
+        &rt,
+        "instrument a.c",
+        ENDLESS,
+        &NONE,
+        &Wanted {
+            status: 0,
+            output: b"#include <e_acsl.h>\ni32 main(void) {\n  {\n    while (1) {\n      if (I32(1)) { } else {\n        goto end_1;\n      }\n      __e_acsl_step();\n      putchar(I32(120));\n    }\n  } end_1: ;\n}\n",
+            line: b"",
         },
     )
 }
@@ -178,6 +227,9 @@ fn words_without_a_job_are_answered_by_the_usage(rt: HostRuntime) -> Result<(), 
         "run a.c --steps",
         "run a.c --steps=1000000000001",
         "run a.c --fast",
+        "instrument",
+        "instrument a.c --steps 5",
+        "exec a.c b.c",
     ] {
         gives(
             &rt,
@@ -313,4 +365,102 @@ fn an_error_output_that_fails_is_said_by_the_status(rt: HostRuntime) -> Result<(
             line: b"",
         },
     )
+}
+
+const COUNTS: &[u8] =
+    b"#include <e_acsl.h>\ni32 main(void) {\n  i32 x;\n  x = I32(65);\n  while (1) {\n    __e_acsl_step();\n    putchar(x);\n    x = (x + I32(1));\n    if ((x > I32(66))) { return I32(0); } else { }\n  }\n}\n";
+
+#[test]
+fn a_monitored_program_runs(rt: HostRuntime) -> Result<(), AllocError> {
+    gives(
+        &rt,
+        "exec a.c",
+        COUNTS,
+        &NONE,
+        &Wanted {
+            status: 0,
+            output: b"AB",
+            line: b"eacsl: exit 0\n",
+        },
+    )?;
+    gives(
+        &rt,
+        "exec a.c --steps 1",
+        COUNTS,
+        &NONE,
+        &Wanted {
+            status: 5,
+            output: b"A",
+            line: b"eacsl: steps spent\n",
+        },
+    )?;
+    gives(
+        &rt,
+        "exec a.c",
+        b"#include <e_acsl.h>\ni32 main(void) { return (I32(1) / I32(0)); }",
+        &NONE,
+        &Wanted {
+            status: 6,
+            output: b"",
+            line: b"eacsl: fault\n",
+        },
+    )
+}
+
+#[test]
+fn monitored_texts_are_refused_at_their_first_fault(rt: HostRuntime) -> Result<(), AllocError> {
+    for (text, line) in [
+        (
+            b"#include <e_acsl.h>\ni32 main(void) { ' }".as_slice(),
+            b"eacsl: refused E1 at 2:18: 27\n".as_slice(),
+        ),
+        (
+            b"#include <stdio.h>\n",
+            b"eacsl: refused E2 at 1:1: directive\n",
+        ),
+        (b"i32 main(void) { }", b"eacsl: refused E4 at 1:1: i32\n"),
+        (
+            b"#include <e_acsl.h>\ni32 main(void) { x = I32(1); }",
+            b"eacsl: refused E5 at 2:18: x\n",
+        ),
+        (
+            b"#include <e_acsl.h>\ni32 main(void) { return I64(1); }",
+            b"eacsl: refused E6 at 2:18: return\n",
+        ),
+        (
+            b"#include <e_acsl.h>\n",
+            b"eacsl: refused E13 at 1:1: main\n",
+        ),
+        (b"", b"eacsl: refused E4 at 1:1: end of file\n"),
+    ] {
+        gives(
+            &rt,
+            "exec a.c",
+            text,
+            &NONE,
+            &Wanted {
+                status: 2,
+                output: b"",
+                line,
+            },
+        )?;
+    }
+    Ok(())
+}
+
+#[test]
+fn what_is_written_runs_as_its_source(rt: HostRuntime) -> Result<(), AllocError> {
+    for (text, run, exec) in [
+        (TRUE_ASSERT, "run a.c", "exec a.c"),
+        (FALSE_ASSERT, "run a.c", "exec a.c"),
+        (ENDLESS, "run a.c --steps 5", "exec a.c --steps 5"),
+    ] {
+        let written = answer_of(&rt, "instrument a.c", text, &NONE)?;
+        let source = answer_of(&rt, run, text, &NONE)?;
+        let target = answer_of(&rt, exec, &written.output, &NONE)?;
+        assert_eq!(rt; target.status, source.status);
+        assert_eq!(rt; target.output.as_slice(), source.output.as_slice());
+        assert_eq!(rt; target.line.as_slice(), source.line.as_slice());
+    }
+    Ok(())
 }

@@ -1,23 +1,21 @@
-use Rattle.std.proofs.Common.{refl}
-use Rattle.c_syntax.specs.Programs.{plain_program}
-use Rattle.eacsl_cli.proofs.Due.{wanting_said, run_said, run_failed, run_wanting}
+use Rattle.c_syntax.specs.Programs as source
+use Rattle.c_syntax.specs.Programs.{plain_refusal}
+use Rattle.mon_syntax.specs.Trees.{plain_program}
+use Rattle.mon_syntax.proofs.FlatAgreement.{agreement_translates}
+use Rattle.eacsl_cli.proofs.Due.{run_refused, run_unread, run_executed}
 use Rattle.eacsl_cli.proofs.answer.run_text.Goals as goal
 
+pub returns-in-Err-Refused-clause-answered : goal.returns-in-Err-Refused-clause-answered
+returns-in-Err-Refused-clause-answered g c = run_refused (plain_refusal c.in-Err-Refused.refusal) (rw c.in-Err-Refused.field-0-is at c.in-Err-Refused.ensures.refused) c.refuse.ensures
+
 pub returns-in-Err-Memory-clause-answered : goal.returns-in-Err-Memory-clause-answered
-returns-in-Err-Memory-clause-answered g c = wanting_said refl refl c.out_of_memory.ensures
+returns-in-Err-Memory-clause-answered g c = run_unread c.out_of_memory.ensures
 
-pub returns-in-Ok-run-clause-answered : goal.returns-in-Ok-run-clause-answered
-returns-in-Ok-run-clause-answered g c = run_said (plain_program c.in-Ok.program) c.in-Ok.ensures.accepted c.in-Ok-run.ensures c.report_end.ensures
-
-pub returns-in-Err-Memory-run-clause-answered : goal.returns-in-Err-Memory-run-clause-answered
-returns-in-Err-Memory-run-clause-answered g c =
-    let h = rw c.in-Err-Memory-run.field-0-is at c.in-Err-Memory-run.ensures in
-    wanting_said h.0 h.1 c.out_of_memory-in-Err-Memory-run.ensures
-
-pub returns-in-Failed-clause-answered : goal.returns-in-Failed-clause-answered
-returns-in-Failed-clause-answered g c =
-    run_failed (plain_program c.in-Ok.program) c.in-Ok.ensures.accepted (rw c.in-Err-Sink.field-0-is at c.in-Failed.is) (rw c.in-Err-Sink.field-0-is at c.in-Err-Sink.ensures)
+pub returns-in-Ok-instrument-clause-answered : goal.returns-in-Ok-instrument-clause-answered
+returns-in-Ok-instrument-clause-answered g c =
+    run_executed (source.plain_program c.in-Ok.program) (plain_program c.in-Ok-instrument.m) c.in-Ok.ensures.accepted
+    (agreement_translates (source.plain_program c.in-Ok.program) (plain_program c.in-Ok-instrument.m) c.in-Ok-instrument.ensures.valid c.in-Ok-instrument.ensures.agrees)
+    c.execute.ensures.answered
 
 pub returns-clause-answered : goal.returns-clause-answered
-returns-clause-answered g c =
-    run_wanting (plain_program c.in-Ok.program) c.in-Ok.ensures.accepted (rw c.in-Err-Sink.field-0-is at c.in-Memory.is) (rw c.in-Err-Sink.field-0-is at c.in-Err-Sink.ensures) c.out_of_memory-in-Memory.ensures
+returns-clause-answered g c = run_unread c.out_of_memory-in-Err.ensures
