@@ -1,5 +1,5 @@
 -- What parts do one after the other, and turn by turn.
-use Rattle.std.proofs.Common.{◌≡◌, ℕ, zero, suc, ◌≤◌, ℤ, List, [], ◌++◌, Ok, Err, Result, refl, sym, ap, ◌∙◌, subst, arith, append_assoc, le_trans}
+use Rattle.std.proofs.Common.{◌≡◌, ℕ, zero, suc, ◌≤◌, ℤ, false, List, [], ◌++◌, Ok, Err, Result, refl, sym, ap, ◌∙◌, subst, arith, append_assoc, le_trans}
 use Rattle.ea_ports.specs.Buffered.{Port, Wrote}
 use Rattle.ea_ports.proofs.Buffered.{wrote_none, wrote_wrote, wrote_lost}
 use Rattle.c_model.specs.State.{Input, Spent}
@@ -9,7 +9,7 @@ use Rattle.mon_syntax.specs.Meaning.{Flow, Next, Calls, Does, Done, Stops, write
 use Rattle.mon_syntax.specs.Meaning as meaning
 use Rattle.mon_walk.specs.declared.leave.Leave.{Leave}
 use Rattle.mon_walk.specs.declared.leave.Leave.TheVariants as leave
-use Rattle.mon_walk.specs.Parts.{Part, FlatState, flat_state, FlatResult, written, Ended, Did}
+use Rattle.mon_walk.specs.Parts.{Part, FlatState, flat_state, FlatResult, written, Ended, Did, Stepped}
 
 -- ---- bytes that are written first
 
@@ -172,9 +172,12 @@ module _ (m : Part) (a b : Part) {regs r1 : List ℤ} {steps s1 : ℕ} {port p1 
       by calls n mem input (suc k) l h = (k, omega arith, h ∙ ap (λ x. writes w.bytes (step_from x (λ i. then_do (b calls n r1 (flat_state mem input i)) (at_next (turns over_flat k (a calls n) (b calls n)))))) e)
 
   -- no step is left
-  pub turn_spent : Comes m (rest_of a b) regs r1 steps s1 port p1 → s1 ≡ 0 → Ended m regs steps s1 port p1 (λ s. Stops Spent s.steps [])
-  turn_spent w e = comes_end w (λ calls n k mem input le. by calls n k mem input)
+  pub turn_spent : Comes m (rest_of a b) regs r1 steps s1 port p1 → (s2 : ℕ) (how : Leave) → Stepped s1 s2 false how → Did m regs r1 steps s2 port p1 (Err how)
+  turn_spent w s2 how h = subst (λ l. Did m regs r1 steps s2 port p1 (Err l)) (sym h.2) (subst (λ k. Ended m regs steps k port p1 (λ s. Stops Spent s.steps [])) (h.0 ∙ sym h.1) (spent w h.0))
     where
-      by : (calls : Calls over_flat) (n k : ℕ) (mem : Flat) (input : Input) → rest_of a b calls n k r1 (flat_state mem input s1) ≡ Stops Spent s1 []
-      by calls n zero mem input = ap (λ x. Stops Spent x []) (sym e)
-      by calls n (suc k) mem input = ap (λ x. step_from x (λ i. then_do (b calls n r1 (flat_state mem input i)) (at_next (turns over_flat k (a calls n) (b calls n))))) e ∙ ap (λ x. Stops Spent x []) (sym e)
+      spent : Comes m (rest_of a b) regs r1 steps s1 port p1 → s1 ≡ 0 → Ended m regs steps s1 port p1 (λ s. Stops Spent s.steps [])
+      spent w e = comes_end w (λ calls n k mem input le. by calls n k mem input)
+        where
+          by : (calls : Calls over_flat) (n k : ℕ) (mem : Flat) (input : Input) → rest_of a b calls n k r1 (flat_state mem input s1) ≡ Stops Spent s1 []
+          by calls n zero mem input = ap (λ x. Stops Spent x []) (sym e)
+          by calls n (suc k) mem input = ap (λ x. step_from x (λ i. then_do (b calls n r1 (flat_state mem input i)) (at_next (turns over_flat k (a calls n) (b calls n))))) e ∙ ap (λ x. Stops Spent x []) (sym e)

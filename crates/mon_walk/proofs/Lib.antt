@@ -4,3 +4,4 @@ pub mod Composed
 pub mod Single
 pub mod Nested
 pub mod Runs
+mod Reading

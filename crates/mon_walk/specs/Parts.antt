@@ -1,5 +1,5 @@
 -- What a part of a program did over flat memory: to the registers, to the steps that are left, and to the port.
-use Rattle.std.specs.Prelude.{◌≡◌, ℕ, ◌≤◌, ℤ, List, [], Option, Result, Ok, Err}
+use Rattle.std.specs.Prelude.{◌≡◌, ℕ, suc, ◌≤◌, ℤ, Bool, true, false, List, [], Option, Some, None, Result, Ok, Err}
 use Rattle.ea_ports.specs.declared.SinkFault.{SinkFault}
 use Rattle.ea_ports.specs.Buffered.{Port, Wrote, Lost}
 use Rattle.c_model.specs.State.{Input, Final, Exits, Broken, Fault, Spent}
@@ -56,3 +56,18 @@ Did m regs regs' steps steps' port port' (Err (leave.Goes label)) = Ended m regs
 Did m regs regs' steps steps' port port' (Err (leave.Returns v)) = Ended m regs steps steps' port port' (λ s. Done (Returns v) s [])
 Did m regs regs' steps steps' port port' (Err (leave.Ends e)) = Ended m regs steps steps' port port' (λ s. Stops (final_of e) s.steps [])
 Did m regs regs' steps steps' port port' (Err (leave.Refused fault)) = Cut m regs steps port port'.told port'.faults fault
+
+-- a part comes to its end, or it leaves so
+abbrev pub ended_by : Bool → Leave → Result (Unit {0}) Leave
+ended_by true how = Ok tt
+ended_by false how = Err how
+
+-- a step was taken, or none was left
+abbrev pub Stepped : ℕ → ℕ → Bool → Leave → Type 0
+Stepped steps steps' true how = steps ≡ suc steps'
+Stepped steps steps' false how = (steps ≡ 0) × (steps' ≡ 0) × (how ≡ leave.Ends stop.Spent)
+
+-- the value was read, and whether there was a fault is as before, or there is no value, which is a fault
+abbrev pub Reads : Option ℤ → ℤ → Bool → Bool → Type 0
+Reads (Some v) z fault fault' = (z ≡ v) × (fault' ≡ fault)
+Reads None z fault fault' = fault' ≡ true

@@ -1,27 +1,80 @@
 //! Values of expressions.
 
-ghost use Rattle.std.specs.Prelude.{◌≡◌};
+ghost use Rattle.std.specs.Prelude.{◌≡◌, IfSome, Some};
 ghost use Rattle.mon_syntax.specs.Meaning.{eval};
 ghost use Rattle.mon_syntax.specs.Memories.{over_flat};
 ghost use Rattle.mon_syntax.specs.Trees.{plain_expr};
+ghost use Rattle.mon_walk.specs.Parts.{Reads};
 
 use crate::arithmetic::{flip, minus, operate, wrap};
 use mon_syntax::MonExpr;
 
-/// The value of an expression; there is none at a zero divisor and at a register that the function hasn't.
-pub fn value(e: &MonExpr, regs: &[i128]) -> Option<i128>
-    ensures { result ≡ eval over_flat (plain_expr e.now) regs.now }
+// The value of a register or a constant, which takes no call; else none.
+#[inline(always)]
+fn leaf(e: &MonExpr, regs: &[i128]) -> Option<i128>
+    ensures { IfSome result (λ z. eval over_flat (plain_expr e.now) regs.now ≡ Some z) }
 {
     match e {
         MonExpr::Register(r) => regs.get(*r as usize).copied(),
         MonExpr::Constant(_, z) => Some(*z),
-        MonExpr::Binary(op, t, a, b) => {
-            let x = value(a, regs)?;
-            let y = value(b, regs)?;
-            operate(*op, *t, x, y)
-        }
-        MonExpr::Minus(t, a) => Some(minus(*t, value(a, regs)?)),
-        MonExpr::Flip(t, a) => Some(flip(*t, value(a, regs)?)),
-        MonExpr::Cast(t, a) => Some(wrap(*t, value(a, regs)?)),
+        MonExpr::Binary(_, _, _, _) => None,
+        MonExpr::Minus(_, _) => None,
+        MonExpr::Flip(_, _) => None,
+        MonExpr::Cast(_, _) => None,
     }
+}
+
+// The value of an expression. Where there is none, that is noted as a fault, and any number is given: a number and a note take
+// fewer instructions than an `Option` at each operand.
+fn read(e: &MonExpr, regs: &[i128], fault: &mut bool) -> i128
+    ensures { Reads (eval over_flat (plain_expr e.now) regs.now) result fault.old fault.new }
+{
+    match e {
+        MonExpr::Register(r) => given(regs.get(*r as usize).copied(), fault),
+        MonExpr::Constant(_, z) => *z,
+        MonExpr::Binary(op, t, a, b) => {
+            let x = match leaf(a, regs) {
+                Some(x) => x,
+                None => read(a, regs, fault),
+            };
+            let y = match leaf(b, regs) {
+                Some(y) => y,
+                None => read(b, regs, fault),
+            };
+            given(operate(*op, *t, x, y), fault)
+        }
+        MonExpr::Minus(t, a) => minus(*t, read(a, regs, fault)),
+        MonExpr::Flip(t, a) => flip(*t, read(a, regs, fault)),
+        MonExpr::Cast(t, a) => match leaf(a, regs) {
+            Some(x) => wrap(*t, x),
+            None => wrap(*t, read(a, regs, fault)),
+        },
+    }
+}
+
+// A number, or a fault where there is none.
+#[inline(always)]
+fn given(z: Option<i128>, fault: &mut bool) -> i128
+    ensures { Reads z result fault.old fault.new }
+{
+    match z {
+        Some(z) => z,
+        None => {
+            *fault = true;
+            0
+        }
+    }
+}
+
+/// The value of an expression; there is none at a zero divisor and at a register that the function hasn't.
+#[inline(always)]
+pub fn value(e: &MonExpr, regs: &[i128]) -> Option<i128>
+    ensures { result ≡ eval over_flat (plain_expr e.now) regs.now }
+{
+    if let Some(z) = leaf(e, regs) {
+        return Some(z);
+    }
+    let mut fault = false;
+    let z = read(e, regs, &mut fault);
+    if fault { None } else { Some(z) }
 }

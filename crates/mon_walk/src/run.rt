@@ -5,7 +5,7 @@ ghost use Rattle.ea_ports.specs.Buffered.{Port, port_of};
 ghost use Rattle.mon_syntax.specs.Meaning.{exec_all, function_named};
 ghost use Rattle.mon_syntax.specs.Memories.{over_flat};
 ghost use Rattle.mon_syntax.specs.Trees.{MonFunction, MonitoredProgram, plain_func, plain_program};
-ghost use Rattle.mon_walk.specs.Parts.{Did};
+ghost use Rattle.mon_walk.specs.Parts.{Did, ended_by};
 ghost use Rattle.mon_walk.specs.Whole.{RanAs, RunCut, RunFails};
 
 use crate::leave::{Leave, Stop};
@@ -54,20 +54,20 @@ fn zeros(alloc: Global, count: usize) -> Result<Vec<i128>, AllocError>
 }
 
 // How a run ends, from how the statements of `main` ended.
-fn stop_of(ended: Result<(), Leave<'_>>) -> Result<Stop, SinkFault>
-    ensures { (p : MonitoredProgram) (f : MonFunction) (regs : List ℤ) (n left : ℕ) (port port' : Port) → function_named over_flat (codes "main") p.functions ≡ Some f → Did (exec_all over_flat f.body) (replicate (length f.parameters + length f.registers) (pos 0)) regs n left port port' ended.entry → MatchResult result (λ stop. RanAs p n left port port' stop) (λ fault. RunCut p n port port'.told port'.faults fault) }
+fn stop_of(came: bool, leave: Leave<'_>) -> Result<Stop, SinkFault>
+    ensures { (p : MonitoredProgram) (f : MonFunction) (regs : List ℤ) (n left : ℕ) (port port' : Port) → function_named over_flat (codes "main") p.functions ≡ Some f → Did (exec_all over_flat f.body) (replicate (length f.parameters + length f.registers) (pos 0)) regs n left port port' (ended_by came leave.entry) → MatchResult result (λ stop. RanAs p n left port port' stop) (λ fault. RunCut p n port port'.told port'.faults fault) }
 {
-    match ended {
-        Ok(()) => Ok(Stop::Exit(0)),
-        Err(leave) => match leave {
-            Leave::Goes(_) => Ok(Stop::Fault),
-            Leave::Returns(value) => match value {
-                None => Ok(Stop::Exit(0)),
-                Some(z) => Ok(Stop::Exit(z)),
-            },
-            Leave::Ends(stop) => Ok(stop),
-            Leave::Refused(fault) => Err(fault),
+    if came {
+        return Ok(Stop::Exit(0));
+    }
+    match leave {
+        Leave::Goes(_) => Ok(Stop::Fault),
+        Leave::Returns(value) => match value {
+            None => Ok(Stop::Exit(0)),
+            Some(z) => Ok(Stop::Exit(z)),
         },
+        Leave::Ends(stop) => Ok(stop),
+        Leave::Refused(fault) => Err(fault),
     }
 }
 
@@ -95,7 +95,9 @@ pub fn walk<O: Sink>(
     };
     let mut waiting = Buffer::new();
     let mut left = steps;
-    let stop = match stop_of(do_all(&f.body, &mut regs, &mut left, &mut waiting, out)) {
+    let mut leave = Leave::Returns(None);
+    let came = do_all(&f.body, &mut regs, &mut left, &mut waiting, out, &mut leave);
+    let stop = match stop_of(came, leave) {
         Ok(stop) => stop,
         Err(fault) => return Err(WalkFault::Sink(fault)),
     };

@@ -5,22 +5,22 @@ use Rattle.mon_walk.specs.declared.leave.Leave.TheVariants.{Returns}
 use Rattle.mon_walk.proofs.Runs
 use Rattle.mon_walk.proofs.run.stop_of.Goals as goal
 
-pub returns-in-Ok : goal.returns-in-Ok
-returns-in-Ok c p f regs n left port port' h d = Runs.ran_to_end p f n h regs (rw c.in-Ok.is at d)
+pub returns-then-came : goal.returns-then-came
+returns-then-came c p f regs n left port port' h d = Runs.ran_to_end p f n h regs (rw c.if-came.true at d)
 
 pub returns-in-Goes : goal.returns-in-Goes
-returns-in-Goes c p f regs n left port port' h d = Runs.ran_astray p f n h c.in-Goes.field-0.now regs (rw (c.in-Err.is ∙ ap Err c.in-Goes.is) at d)
+returns-in-Goes c p f regs n left port port' h d = Runs.ran_astray p f n h c.in-Goes.field-0.now regs (rw (c.if-came.false, c.in-Goes.is) at d)
 
 pub returns-in-Ends : goal.returns-in-Ends
-returns-in-Ends c p f regs n left port port' h d = Runs.ran_to_stop p f n h c.in-Ends.stop (rw (c.in-Err.is ∙ ap Err c.in-Ends.is) at d)
+returns-in-Ends c p f regs n left port port' h d = Runs.ran_to_stop p f n h c.in-Ends.stop (rw (c.if-came.false, c.in-Ends.is) at d)
 
 pub returns-in-Refused : goal.returns-in-Refused
-returns-in-Refused c p f regs n left port port' h d = Runs.run_cut p f n h (rw (c.in-Err.is ∙ ap Err c.in-Refused.is) at d)
+returns-in-Refused c p f regs n left port port' h d = Runs.run_cut p f n h (rw (c.if-came.false, c.in-Refused.is) at d)
 
 pub returns-in-None : goal.returns-in-None
-returns-in-None c p f regs n left port port' h d = Runs.ran_to_return p f n h (rw (c.in-Err.is ∙ ap Err c.in-Returns.is ∙ ap (λ v. Err (Returns v)) c.in-None.is) at d)
+returns-in-None c p f regs n left port port' h d = Runs.ran_to_return p f n h (rw (c.if-came.false, c.in-Returns.is, c.in-None.is) at d)
 
 pub returns-in-Some : goal.returns-in-Some
 returns-in-Some c p f regs n left port port' h d =
     let fits : FitsSigned w128 c.in-Some.z = search rules in
-    rw (to_z-of_z w128 c.in-Some.z fits) (Runs.ran_to_value p f n h c.in-Some.z (rw (c.in-Err.is ∙ ap Err c.in-Returns.is ∙ ap (λ v. Err (Returns v)) c.in-Some.is) at d))
+    rw (to_z-of_z w128 c.in-Some.z fits) (Runs.ran_to_value p f n h c.in-Some.z (rw (c.if-came.false, c.in-Returns.is, c.in-Some.is) at d))

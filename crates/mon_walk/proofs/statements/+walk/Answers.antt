@@ -15,7 +15,7 @@ pub do_stmt-returns-in-Set : goal.do_stmt-returns-in-Set
 do_stmt-returns-in-Set g t c = Nested.at c.args.s.now _ _ _ _ _ _ _ _ c.in-Set.is (c.assign.ensures c.args.steps.now _)
 
 pub do_stmt-returns-in-Step : goal.do_stmt-returns-in-Step
-do_stmt-returns-in-Step g t c = Nested.at c.args.s.now _ _ _ _ _ _ _ _ c.in-Step.is (c.take_step.ensures c.args.regs.now _)
+do_stmt-returns-in-Step g t c = Nested.at c.args.s.now _ _ _ _ _ _ _ _ c.in-Step.is (c.take_step.ensures.did c.args.regs.now _)
 
 pub do_stmt-returns-in-Assert : goal.do_stmt-returns-in-Assert
 do_stmt-returns-in-Assert g t c = Nested.at c.args.s.now _ _ _ _ _ _ _ _ c.in-Assert.is (c.judge.ensures c.args.steps.now _)
@@ -42,19 +42,19 @@ do_stmt-returns-in-Return g t c = Nested.at c.args.s.now _ _ _ _ _ _ _ _ c.in-Re
 pub do_all-statements-init : goal.do_all-statements-init
 do_all-statements-init g t c = comes_start (λ calls n k. exec_all over_flat (plain_stmts c.args.body.now) calls n) c.args.regs.now c.args.steps.now _
 
-pub do_all-returns-in-Err : goal.do_all-returns-in-Err
-do_all-returns-in-Err g t c =
+pub do_all-returns-then-not-do_stmt : goal.do_all-returns-then-not-do_stmt
+do_all-returns-then-not-do_stmt g t c =
     let left = Nested.left_at c.args.body.now c.statements.s-index c.s-item.result c.statements-test.true c.s-item.is in
     let one = exec over_flat (plain_stmt c.s-item.result) in
     let rest = plain_stmts (drop (c.statements.s-index + 1) c.args.body.now) in
-    comes_out one (λ calls n k. exec_all over_flat rest calls n) (rw left at c.statements.invariant) _ _ _ c.in-Err.leave (rw c.in-Err.is at c.do_stmt.ensures)
+    comes_out one (λ calls n k. exec_all over_flat rest calls n) (rw left at c.statements.invariant) _ _ _ c.do_stmt.new.leave (rw c.if-not-do_stmt.true at c.do_stmt.ensures)
 
 pub do_all-statements-preserved : goal.do_all-statements-preserved
 do_all-statements-preserved g t c =
     let left = Nested.left_at c.args.body.now c.statements.s-index c.s-item.result c.statements-test.true c.s-item.is in
     let one = exec over_flat (plain_stmt c.s-item.result) in
     let rest = plain_stmts (drop (c.statements.s-index + 1) c.args.body.now) in
-    comes_on one (λ calls n k. exec_all over_flat rest calls n) (rw left at c.statements.invariant) _ _ _ (rw c.in-Ok.is at c.do_stmt.ensures)
+    comes_on one (λ calls n k. exec_all over_flat rest calls n) (rw left at c.statements.invariant) _ _ _ (rw c.if-not-do_stmt.false at c.do_stmt.ensures)
 
 pub do_all-returns : goal.do_all-returns
 do_all-returns g t c =
@@ -82,42 +82,44 @@ do_stmt-turns-preserved g t c =
     let b = exec_all over_flat (plain_stmts c.in-Loop.behind.items) in
     let m = exec over_flat (Loop (plain_stmts c.in-Loop.before.items) (plain_stmts c.in-Loop.behind.items)) in
     let begun = turn_begins m a b c.turns.invariant in
-    let passed = comes_on a (rest_of a b) begun _ _ _ (rw (c.deref-in-turns.ensures.value, c.in-Ok.is) at c.do_all-in-turns.ensures) in
-    let q : c.do_all-in-turns.new.steps ≡ suc (c.do_all-in-turns.new.steps - 1) = omega (arith, c.if-steps-eq0.false) in
-    let stepped = turn_steps m a b (c.do_all-in-turns.new.steps - 1) passed q in
-    comes_on b (turns_of a b) stepped _ _ _ (rw (c.deref-in-turns-2.ensures.value, c.in-Ok-do_all.is) at c.do_all-in-turns-2.ensures)
+    let passed = comes_on a (rest_of a b) begun _ _ _ (rw (c.deref-in-turns.ensures.value, c.if-not-do_all.false) at c.do_all-in-turns.ensures) in
+    let stepped = turn_steps m a b c.take_step-in-turns.new.steps passed (rw c.if-not-take_step.false at c.take_step-in-turns.ensures.exact) in
+    comes_on b (turns_of a b) stepped _ _ _ (rw (c.deref-in-turns-2.ensures.value, c.if-not-do_all-2.false) at c.do_all-in-turns-2.ensures)
 
-pub do_stmt-returns-in-Err : goal.do_stmt-returns-in-Err
-do_stmt-returns-in-Err g t c =
+pub do_stmt-returns-then-not-do_all : goal.do_stmt-returns-then-not-do_all
+do_stmt-returns-then-not-do_all g t c =
     let a = exec_all over_flat (plain_stmts c.in-Loop.before.items) in
     let b = exec_all over_flat (plain_stmts c.in-Loop.behind.items) in
     let m = exec over_flat (Loop (plain_stmts c.in-Loop.before.items) (plain_stmts c.in-Loop.behind.items)) in
     let begun = turn_begins m a b c.turns.invariant in
     let port = port_of (g.O.Sink.told c.args.out.now) c.args.waiting.now (g.O.Sink.faults c.args.out.now) in
     let port' = port_of (g.O.Sink.told c.do_all-in-turns.new.out) c.do_all-in-turns.new.waiting (g.O.Sink.faults c.do_all-in-turns.new.out) in
-    Nested.at_plain c.args.s.now _ c.args.regs.now c.do_all-in-turns.new.regs c.args.steps.now c.do_all-in-turns.new.steps port port' (Err c.in-Err.leave) _ c.in-Loop.is (loop_is c.in-Loop.before c.in-Loop.behind) (comes_out a (rest_of a b) begun _ _ _ c.in-Err.leave (rw (c.deref-in-turns.ensures.value, c.in-Err.is) at c.do_all-in-turns.ensures))
+    Nested.at_plain c.args.s.now _ c.args.regs.now c.do_all-in-turns.new.regs c.args.steps.now c.do_all-in-turns.new.steps port port' (Err c.do_all-in-turns.new.leave) _ c.in-Loop.is (loop_is c.in-Loop.before c.in-Loop.behind) (comes_out a (rest_of a b) begun _ _ _ c.do_all-in-turns.new.leave (rw (c.deref-in-turns.ensures.value, c.if-not-do_all.true) at c.do_all-in-turns.ensures))
 
-pub do_stmt-returns-then-steps-eq0 : goal.do_stmt-returns-then-steps-eq0
-do_stmt-returns-then-steps-eq0 g t c =
+pub do_stmt-returns-then-not-take_step : goal.do_stmt-returns-then-not-take_step
+do_stmt-returns-then-not-take_step g t c =
     let a = exec_all over_flat (plain_stmts c.in-Loop.before.items) in
     let b = exec_all over_flat (plain_stmts c.in-Loop.behind.items) in
     let m = exec over_flat (Loop (plain_stmts c.in-Loop.before.items) (plain_stmts c.in-Loop.behind.items)) in
     let begun = turn_begins m a b c.turns.invariant in
-    let passed = comes_on a (rest_of a b) begun _ _ _ (rw (c.deref-in-turns.ensures.value, c.in-Ok.is) at c.do_all-in-turns.ensures) in
-    rw (ap plain_stmt c.in-Loop.is ∙ loop_is c.in-Loop.before c.in-Loop.behind) (turn_spent m a b passed c.if-steps-eq0.true)
+    let passed = comes_on a (rest_of a b) begun _ _ _ (rw (c.deref-in-turns.ensures.value, c.if-not-do_all.false) at c.do_all-in-turns.ensures) in
+    let port = port_of (g.O.Sink.told c.args.out.now) c.args.waiting.now (g.O.Sink.faults c.args.out.now) in
+    let port' = port_of (g.O.Sink.told c.do_all-in-turns.new.out) c.do_all-in-turns.new.waiting (g.O.Sink.faults c.do_all-in-turns.new.out) in
+    let how = c.take_step-in-turns.new.leave in
+    let left = c.take_step-in-turns.new.steps in
+    Nested.at_plain c.args.s.now _ c.args.regs.now c.do_all-in-turns.new.regs c.args.steps.now left port port' (Err how) _ c.in-Loop.is (loop_is c.in-Loop.before c.in-Loop.behind) (turn_spent m a b passed left how (rw c.if-not-take_step.true at c.take_step-in-turns.ensures.exact))
 
-pub do_stmt-returns-in-Err-do_all : goal.do_stmt-returns-in-Err-do_all
-do_stmt-returns-in-Err-do_all g t c =
+pub do_stmt-returns-then-not-do_all-2 : goal.do_stmt-returns-then-not-do_all-2
+do_stmt-returns-then-not-do_all-2 g t c =
     let a = exec_all over_flat (plain_stmts c.in-Loop.before.items) in
     let b = exec_all over_flat (plain_stmts c.in-Loop.behind.items) in
     let m = exec over_flat (Loop (plain_stmts c.in-Loop.before.items) (plain_stmts c.in-Loop.behind.items)) in
     let begun = turn_begins m a b c.turns.invariant in
-    let passed = comes_on a (rest_of a b) begun _ _ _ (rw (c.deref-in-turns.ensures.value, c.in-Ok.is) at c.do_all-in-turns.ensures) in
-    let q : c.do_all-in-turns.new.steps ≡ suc (c.do_all-in-turns.new.steps - 1) = omega (arith, c.if-steps-eq0.false) in
-    let stepped = turn_steps m a b (c.do_all-in-turns.new.steps - 1) passed q in
+    let passed = comes_on a (rest_of a b) begun _ _ _ (rw (c.deref-in-turns.ensures.value, c.if-not-do_all.false) at c.do_all-in-turns.ensures) in
+    let stepped = turn_steps m a b c.take_step-in-turns.new.steps passed (rw c.if-not-take_step.false at c.take_step-in-turns.ensures.exact) in
     let port = port_of (g.O.Sink.told c.args.out.now) c.args.waiting.now (g.O.Sink.faults c.args.out.now) in
     let port' = port_of (g.O.Sink.told c.do_all-in-turns-2.new.out) c.do_all-in-turns-2.new.waiting (g.O.Sink.faults c.do_all-in-turns-2.new.out) in
-    Nested.at_plain c.args.s.now _ c.args.regs.now c.do_all-in-turns-2.new.regs c.args.steps.now c.do_all-in-turns-2.new.steps port port' (Err c.in-Err-do_all.leave) _ c.in-Loop.is (loop_is c.in-Loop.before c.in-Loop.behind) (comes_out b (turns_of a b) stepped _ _ _ c.in-Err-do_all.leave (rw (c.deref-in-turns-2.ensures.value, c.in-Err-do_all.is) at c.do_all-in-turns-2.ensures))
+    Nested.at_plain c.args.s.now _ c.args.regs.now c.do_all-in-turns-2.new.regs c.args.steps.now c.do_all-in-turns-2.new.steps port port' (Err c.do_all-in-turns-2.new.leave) _ c.in-Loop.is (loop_is c.in-Loop.before c.in-Loop.behind) (comes_out b (turns_of a b) stepped _ _ _ c.do_all-in-turns-2.new.leave (rw (c.deref-in-turns-2.ensures.value, c.if-not-do_all-2.true) at c.do_all-in-turns-2.ensures))
 
 pub do_stmt-returns-in-None : goal.do_stmt-returns-in-None
 do_stmt-returns-in-None g t c =
@@ -125,7 +127,7 @@ do_stmt-returns-in-None g t c =
 
 pub do_stmt-returns-in-Labelled : goal.do_stmt-returns-in-Labelled
 do_stmt-returns-in-Labelled g t c =
-    Nested.at_plain c.args.s.now _ _ _ _ _ _ _ _ _ c.in-Labelled.is (labelled_is c.in-Labelled.body c.in-Labelled.label) (rw c.bytes-in-Labelled.ensures at c.at_label.ensures (plain_stmts c.in-Labelled.body.items) _ _ _ _ _ _ (rw c.deref-in-Labelled.ensures.value at c.do_all-in-Labelled.ensures))
+    Nested.at_plain c.args.s.now _ _ _ _ _ _ _ _ _ c.in-Labelled.is (labelled_is c.in-Labelled.body c.in-Labelled.label) (rw c.bytes-in-Labelled.ensures at c.at_label.ensures (plain_stmts c.in-Labelled.body.items) _ _ _ _ _ _ (rw c.deref-in-Labelled.ensures.value at c.do_all-came.ensures))
 
 pub do_stmt-returns-then-z-eq0 : goal.do_stmt-returns-then-z-eq0
 do_stmt-returns-then-z-eq0 g t c =
