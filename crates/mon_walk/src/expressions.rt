@@ -9,7 +9,7 @@ ghost use Rattle.mon_walk.specs.Parts.{Reads};
 use crate::arithmetic::{flip, minus, operate, wrap};
 use mon_syntax::MonExpr;
 
-// The value of a register or a constant, which takes no call; else none.
+// The value of a register or a constant; none of any other expression.
 #[inline(always)]
 fn leaf(e: &MonExpr, regs: &[i128]) -> Option<i128>
     ensures { IfSome result (λ z. eval over_flat (plain_expr e.now) regs.now ≡ Some z) }
@@ -24,6 +24,20 @@ fn leaf(e: &MonExpr, regs: &[i128]) -> Option<i128>
     }
 }
 
+// The value of a register, of a constant, or of a cast of one, which takes no call; none of any other expression.
+#[inline(always)]
+fn operand(e: &MonExpr, regs: &[i128]) -> Option<i128>
+    ensures { IfSome result (λ z. eval over_flat (plain_expr e.now) regs.now ≡ Some z) }
+{
+    match e {
+        MonExpr::Cast(t, a) => match leaf(a, regs) {
+            Some(z) => Some(wrap(*t, z)),
+            None => None,
+        },
+        _ => leaf(e, regs),
+    }
+}
+
 // The value of an expression. Where there is none, that is noted as a fault, and any number is given: a number and a note take
 // fewer instructions than an `Option` at each operand.
 fn read(e: &MonExpr, regs: &[i128], fault: &mut bool) -> i128
@@ -33,11 +47,11 @@ fn read(e: &MonExpr, regs: &[i128], fault: &mut bool) -> i128
         MonExpr::Register(r) => given(regs.get(*r as usize).copied(), fault),
         MonExpr::Constant(_, z) => *z,
         MonExpr::Binary(op, t, a, b) => {
-            let x = match leaf(a, regs) {
+            let x = match operand(a, regs) {
                 Some(x) => x,
                 None => read(a, regs, fault),
             };
-            let y = match leaf(b, regs) {
+            let y = match operand(b, regs) {
                 Some(y) => y,
                 None => read(b, regs, fault),
             };
@@ -45,10 +59,7 @@ fn read(e: &MonExpr, regs: &[i128], fault: &mut bool) -> i128
         }
         MonExpr::Minus(t, a) => minus(*t, read(a, regs, fault)),
         MonExpr::Flip(t, a) => flip(*t, read(a, regs, fault)),
-        MonExpr::Cast(t, a) => match leaf(a, regs) {
-            Some(x) => wrap(*t, x),
-            None => wrap(*t, read(a, regs, fault)),
-        },
+        MonExpr::Cast(t, a) => wrap(*t, read(a, regs, fault)),
     }
 }
 
@@ -71,7 +82,7 @@ fn given(z: Option<i128>, fault: &mut bool) -> i128
 pub fn value(e: &MonExpr, regs: &[i128]) -> Option<i128>
     ensures { result ≡ eval over_flat (plain_expr e.now) regs.now }
 {
-    if let Some(z) = leaf(e, regs) {
+    if let Some(z) = operand(e, regs) {
         return Some(z);
     }
     let mut fault = false;

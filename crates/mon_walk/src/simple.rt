@@ -40,7 +40,7 @@ pub fn assign<'a>(r: u32, e: &MonExpr, regs: &mut [i128], leave: &mut Leave<'a>)
 }
 
 /// `__e_acsl_assert(d, v, number, line, kind);`
-#[inline(never)]
+#[inline]
 pub fn judge<'a>(
     d: &MonExpr,
     v: &MonExpr,
