@@ -1,4 +1,4 @@
-use Rattle.std.proofs.Common.{◌≡◌, sym, ap, ◌∙◌, FitsSigned, rules, to_z}
+use Rattle.std.proofs.Common.{FitsSigned, rules, to_z}
 use Rattle.std.specs.Int.{w128}
 use Rattle.std.proofs.lemmas.Int.{to_z-of_z}
 use Rattle.mon_syntax.specs.Meaning.{eval}

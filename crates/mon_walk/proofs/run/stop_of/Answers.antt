@@ -1,7 +1,6 @@
-use Rattle.std.proofs.Common.{◌∙◌, ap, Err, FitsSigned, rules}
+use Rattle.std.proofs.Common.{FitsSigned, rules}
 use Rattle.std.specs.Int.{w128}
 use Rattle.std.proofs.lemmas.Int.{to_z-of_z}
-use Rattle.mon_walk.specs.declared.leave.Leave.TheVariants.{Returns}
 use Rattle.mon_walk.proofs.Runs
 use Rattle.mon_walk.proofs.run.stop_of.Goals as goal
 

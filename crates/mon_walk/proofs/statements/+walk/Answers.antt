@@ -1,4 +1,4 @@
-use Rattle.std.proofs.Common.{◌≡◌, suc, ◌+◌, ◌-◌, drop, Err, sym, ap, ◌∙◌, arith, rules}
+use Rattle.std.proofs.Common.{◌+◌, drop, Err, sym, ap, ◌∙◌, rules}
 use Rattle.std.proofs.Common.{refl, FitsSigned}
 use Rattle.std.specs.Int.{w128}
 use Rattle.ea_ports.specs.Buffered.{port_of}
