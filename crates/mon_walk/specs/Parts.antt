@@ -57,7 +57,7 @@ Did m regs regs' steps steps' port port' (Err (leave.Returns v)) = Ended m regs 
 Did m regs regs' steps steps' port port' (Err (leave.Ends e)) = Ended m regs steps steps' port port' (λ s. Stops (final_of e) s.steps [])
 Did m regs regs' steps steps' port port' (Err (leave.Refused fault)) = Cut m regs steps port port'.told port'.faults fault
 
--- a part comes to its end, or it leaves so
+-- how a part ends: it comes to the next one, or it leaves so
 abbrev pub ended_by : Bool → Leave → Result (Unit {0}) Leave
 ended_by true how = Ok tt
 ended_by false how = Err how
@@ -67,7 +67,7 @@ abbrev pub Stepped : ℕ → ℕ → Bool → Leave → Type 0
 Stepped steps steps' true how = steps ≡ suc steps'
 Stepped steps steps' false how = (steps ≡ 0) × (steps' ≡ 0) × (how ≡ leave.Ends stop.Spent)
 
--- the value was read, and whether there was a fault is as before, or there is no value, which is a fault
+-- where there is a value it was read, and faults are noted as before; where there is none a fault is noted
 abbrev pub Reads : Option ℤ → ℤ → Bool → Bool → Type 0
 Reads (Some v) z fault fault' = (z ≡ v) × (fault' ≡ fault)
 Reads None z fault fault' = fault' ≡ true

@@ -38,8 +38,8 @@ fn operand(e: &MonExpr, regs: &[i128]) -> Option<i128>
     }
 }
 
-// The value of an expression. Where there is none, that is noted as a fault, and any number is given: a number and a note take
-// fewer instructions than an `Option` at each operand.
+// The value of an expression. Where there is none a fault is noted, and the result is of no use: so a value takes two registers,
+// where an `Option` of it would go through memory at each operand.
 fn read(e: &MonExpr, regs: &[i128], fault: &mut bool) -> i128
     ensures { Reads (eval over_flat (plain_expr e.now) regs.now) result fault.old fault.new }
 {
@@ -63,7 +63,7 @@ fn read(e: &MonExpr, regs: &[i128], fault: &mut bool) -> i128
     }
 }
 
-// A number, or a fault where there is none.
+// A number; where there is none a fault is noted.
 #[inline(always)]
 fn given(z: Option<i128>, fault: &mut bool) -> i128
     ensures { Reads z result fault.old fault.new }

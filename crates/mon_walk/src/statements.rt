@@ -14,7 +14,7 @@ use crate::simple::{assign, exit, give_back, judge, print_number, print_text, pu
 use ea_ports::{Buffer, Sink};
 use mon_syntax::MonStmt;
 
-// Whether control goes on behind a labelled body, from how its statements ended.
+// Whether control comes behind a labelled body, from how its statements ended.
 #[inline(never)]
 fn at_label<'a>(came: bool, leave: &Leave<'a>, label: &[u8]) -> bool
     ensures { (body : MonStatements) (regs regs' : List ℤ) (steps steps' : ℕ) (port port' : Port) → Did (exec_all over_flat body) regs regs' steps steps' port port' (ended_by came leave.now) → Did (exec over_flat (Labelled body label.now)) regs regs' steps steps' port port' (ended_by result leave.now) }
@@ -30,7 +30,7 @@ fn at_label<'a>(came: bool, leave: &Leave<'a>, label: &[u8]) -> bool
     }
 }
 
-// One step, where one is left.
+// One step, where one is left; tells whether there was one.
 fn take_step<'a>(steps: &mut u64, leave: &mut Leave<'a>) -> bool
     ensures did { (regs : List ℤ) (port : Port) → Did (exec over_flat Step) regs regs steps.old steps.new port port (ended_by result leave.new) }
     ensures exact { Stepped steps.old steps.new result leave.new }
@@ -101,7 +101,8 @@ fn do_stmt<'a, O: Sink>(
     }
 }
 
-/// Does statements one after the other.
+/// Does statements one after the other, and tells whether control comes behind them; where it doesn't, `leave` says how it left.
+/// The answer is apart from that, so that it takes a register and nothing is copied at each statement.
 #[cycle(walk)]
 pub fn do_all<'a, O: Sink>(
     body: &'a [MonStmt],
