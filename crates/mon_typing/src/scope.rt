@@ -1,6 +1,6 @@
 //! What is known of a text's names.
 
-ghost use Rattle.std.specs.Prelude.{◌≡◌, IfOk};
+ghost use Rattle.std.specs.Prelude.{◌≡◌, IfOk, bytes_eq, codes};
 ghost use Rattle.mon_syntax.specs.Grammar.{word_at};
 ghost use Rattle.mon_syntax.specs.Checking.{word_bytes, register_of, is_free};
 ghost use Rattle.mon_parser.specs.ParsedTrees.{plain_name};
@@ -29,6 +29,16 @@ pub fn word_at(words: &[Word], number: u32) -> Word
     match words.get(number as usize) {
         Some(word) => *word,
         None => Word::Name,
+    }
+}
+
+/// Whether the name of a number is `main`.
+pub fn is_main(names: &[Name], number: u32) -> bool
+    ensures { result ≡ bytes_eq (word_bytes names.now number) (codes "main") }
+{
+    match names.get(number as usize) {
+        Some(name) => name.bytes() == b"main".as_slice(),
+        None => false,
     }
 }
 
