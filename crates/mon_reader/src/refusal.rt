@@ -7,7 +7,7 @@ ghost use Rattle.mon_parser.specs.Reading.{plain_list};
 ghost use Rattle.mon_reader.specs.Answers.{RefusesWith, RefusesWord, RefusesFault};
 
 use c_syntax::{FrontFault, Name, Place, Refusal, Token, Tokens};
-use mon_parser::word_at;
+use mon_parser::refused_word;
 use mon_typing::CheckFault;
 use std::alloc::{AllocError, Global};
 
@@ -44,7 +44,8 @@ fn refused_at(alloc: Global, tokens: &Tokens, code: u8, place: Place) -> FrontFa
     ensures { RefusesWith (check_refusal (plain_tokens tokens.now) (record { code = code; place = place })) result }
 {
     let rest = from_place(place, tokens.list.as_slice());
-    refused(code, place, word_at(alloc, tokens.names.as_slice(), rest))
+    let word = refused_word(alloc, tokens.names.as_slice(), rest);
+    refused(code, place, word)
 }
 
 /// The refusal of a tree for a fault in its names and types.

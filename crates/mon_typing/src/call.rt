@@ -11,9 +11,10 @@ use crate::argument::{
     next_kind, next_number, next_value, no_more, only_string, only_value, wrong_number,
 };
 use crate::fault::CheckFault;
-use crate::scope::{Scope, is_main, word_at};
+use crate::scope::{Scope, is_main};
 use c_syntax::{Name, Place};
 use mon_parser::parsed::{NameUse, ParsedArg, ParsedCall};
+use mon_parser::word_at;
 use mon_syntax::{MonStmt, MonType, Runtime, Word};
 use std::alloc::Global;
 

@@ -1,7 +1,6 @@
 //! What is known of a text's names.
 
 ghost use Rattle.std.specs.Prelude.{◌≡◌, IfOk, bytes_eq, codes};
-ghost use Rattle.mon_syntax.specs.Grammar.{word_at};
 ghost use Rattle.mon_syntax.specs.Checking.{word_bytes, register_of, is_free};
 ghost use Rattle.mon_parser.specs.ParsedTrees.{plain_name};
 ghost use Rattle.mon_typing.specs.Answers.{Gives};
@@ -20,16 +19,6 @@ pub struct Scope<'a> {
     pub names: &'a [Name],
     pub words: &'a [Word],
     pub registers: &'a IndexMap<u32, MonType>,
-}
-
-/// What the name of a number is.
-pub fn word_at(words: &[Word], number: u32) -> Word
-    ensures { result ≡ word_at words.now number }
-{
-    match words.get(number as usize) {
-        Some(word) => *word,
-        None => Word::Name,
-    }
 }
 
 /// Whether the name of a number is `main`.
