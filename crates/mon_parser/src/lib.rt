@@ -21,7 +21,7 @@ pub use parsed::{
     ParsedStmt,
 };
 pub use read::{one_reading, read_tokens};
-pub use refusal::refused_word;
+pub use refusal::{refused, refused_word};
 
 #[cfg(test)]
 mod tests;

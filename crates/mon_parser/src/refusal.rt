@@ -110,7 +110,7 @@ fn limit_word(tokens: &[Token]) -> &'static [u8]
 }
 
 /// A refusal, or want of memory where its word is wanting.
-fn refused(code: u8, place: Place, word: Result<Vec<u8>, AllocError>) -> FrontFault
+pub fn refused(code: u8, place: Place, word: Result<Vec<u8>, AllocError>) -> FrontFault
     ensures { RefusesWord code place word result }
 {
     match word {
