@@ -1,5 +1,6 @@
 #!/bin/bash
-# Prints the time of reading texts of 10,000 to 200,000 tokens, in all and for each token. A text returns before its
+# Prints the time of reading annotated texts of 10,000 to 200,000 tokens, in all and for each token, and that of reading
+# texts in monitored C of 0.5 to 4 MiB, in all and for each byte, with the peak memory. A text returns before its
 # statements, so that they are read and not run. It measures through ./eacsl.
 set -euo pipefail
 
@@ -18,35 +19,52 @@ program, scratch = sys.argv[1:]
 RUNS = 3
 
 
-def seconds(text):
-    """The processor time of reading a text, the best of some runs."""
+def figures(command, text):
+    """The processor time of reading a text, the best of some runs, and the peak memory in KiB."""
     path = os.path.join(scratch, "text.c")
     with open(path, "w") as file:
         file.write(text)
     best = None
     for _ in range(RUNS):
-        run = subprocess.Popen([program, "run", path], stdin=subprocess.DEVNULL, stdout=subprocess.DEVNULL, stderr=subprocess.PIPE)
+        run = subprocess.Popen([program, command, path], stdin=subprocess.DEVNULL, stdout=subprocess.DEVNULL, stderr=subprocess.PIPE)
         said = run.stderr.read()
         _, status, usage = os.wait4(run.pid, 0)
         if status != 0 or said != b"eacsl: exit 0\n":
             sys.exit(f"a text of {len(text)} bytes: {said.decode()}")
         time = usage.ru_utime + usage.ru_stime
         best = time if best is None else min(best, time)
-    return best
+        memory = usage.ru_maxrss
+    return best, memory
 
 
-def text_of(tokens):
+def table(command, least, unit, texts):
+    """A row of figures for each text, by its name, with the time for each of its units."""
+    start, _ = figures(command, least)
+    print(f"{command:<13} {'bytes':>8} {'seconds':>9} {'ns a ' + unit:>11} {'peak (KiB)':>11}")
+    for name, units, text in texts:
+        time, memory = figures(command, text)
+        print(f"{name:<13} {len(text):>8} {time:>9.3f} {(time - start) / units * 1e9:>11.0f} {memory:>11}")
+    print(f"the start of the program takes {start:.3f} s, which each figure a {unit} leaves out")
+
+
+def annotated(tokens):
     """A text of so many tokens, a multiple of 4 and at least 24."""
-    statements = (tokens - 24) // 4
     head = "int main(void) {\n  int x = 0;\n  //@ assert x == 0;\n  return 0;\n  { }\n"
-    return head + "  x = 1;\n" * statements + "}\n"
+    text = head + "  x = 1;\n" * ((tokens - 24) // 4) + "}\n"
+    return f"{tokens} tokens", tokens, text
 
 
-start = seconds("int main(void) { return 0; }\n")
-print(f"{'tokens':>8} {'bytes':>9} {'seconds':>9} {'ns a token':>11}")
-for tokens in (10_000, 20_000, 50_000, 100_000, 200_000):
-    text = text_of(tokens)
-    time = seconds(text)
-    print(f"{tokens:>8} {len(text):>9} {time:>9.3f} {(time - start) / tokens * 1e9:>11.0f}")
-print(f"the start of the program takes {start:.3f} s, which each last figure leaves out")
+HEAD = "#include <e_acsl.h>\ni32 main(void) {\n  i32 x;\n  return I32(0);\n"
+LINE = "  x = (x + I32(1));\n"
+
+
+def monitored(size):
+    """A text of at most so many bytes, and nearly as many."""
+    text = HEAD + LINE * ((size - len(HEAD) - 2) // len(LINE)) + "}\n"
+    return f"{size >> 10} KiB", len(text), text
+
+
+table("run", "int main(void) { return 0; }\n", "token", map(annotated, (10_000, 20_000, 50_000, 100_000, 200_000)))
+print()
+table("exec", HEAD + "}\n", "byte", map(monitored, (1 << 19, 1 << 20, 1 << 21, 1 << 22)))
 P

@@ -11,3 +11,4 @@ mod tests;
 mod words;
 
 pub use program::print;
+pub use words::kind_word;

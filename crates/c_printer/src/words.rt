@@ -73,6 +73,7 @@ pub fn operator_mark(op: MonOp) -> &'static str
     }
 }
 
+/// The word of a kind of annotation.
 pub fn kind_word(kind: Kind) -> &'static str
     ensures { result.now ≡ kind_word kind }
 {

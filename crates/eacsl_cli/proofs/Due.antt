@@ -1,14 +1,13 @@
 -- The answers to a text, from how its program was run or written and how the line was said.
 use Rattle.std.proofs.Common.{◌≡◌, ℕ, List, [], ◌++◌, Option, Some, None, refl, sym, ap, ◌∙◌, subst, append_assoc, inl, inr}
 use Rattle.std.proofs.lemmas.List.{append-nil}
-use Rattle.c_syntax.specs.Programs.{TranslationUnit, PlainRefusal}
-use Rattle.c_model.specs.Accepted.{Accepted, IsRefusal}
+use Rattle.c_syntax.specs.Programs.{PlainRefusal}
+use Rattle.c_model.specs.Accepted.{IsRefusal}
 use Rattle.c_model.specs.Meaning.{Ran}
 use Rattle.c_model.specs.Reports.{Report, report, line_of, refused_words, Extends}
 use Rattle.mon_syntax.specs.Trees.{MonitoredProgram}
 use Rattle.mon_syntax.specs.Memories.{flat_run}
 use Rattle.mon_syntax.specs.Text.{text_of}
-use Rattle.mon_syntax.specs.Translates.{Translates}
 use Rattle.mon_syntax.specs.Spelled.{Spells, IsMonitoredRefusal}
 use Rattle.ea_ports.specs.declared.SinkFault.{SinkFault}
 use Rattle.ea_ports.specs.declared.SinkFault.TheVariants.{Failed, Memory}
@@ -19,7 +18,7 @@ use Rattle.mon_walk.specs.declared.leave.Stop.{Stop}
 use Rattle.mon_walk.specs.declared.run.WalkFault.TheVariants as fault
 use Rattle.mon_walk.specs.Parts.{final_of}
 use Rattle.mon_walk.specs.Whole.{RanAs, RunCut, RunFails}
-use Rattle.eacsl_cli.specs.Answers.{Answer, AnswersRun, refused_answer, written_answer, memory_line, Change, change, IsSaid, Answered, Given, OutputFault, ReportDue, ReportBegins, RunDue, RunRefused, Runs, RunBegins, InstrumentDue, InstrumentRefused, Writes, InstrumentBegins, ExecDue, ExecRefused, Executes, ExecBegins}
+use Rattle.eacsl_cli.specs.Answers.{Answer, AnswersRun, refused_answer, written_answer, memory_line, Change, change, IsSaid, Answered, Given, OutputFault, ReportDue, ReportBegins, IsTranslated, RunDue, RunRefused, Runs, RunBegins, InstrumentDue, InstrumentRefused, Writes, InstrumentBegins, ExecDue, ExecRefused, Executes, ExecBegins}
 use Rattle.eacsl_cli.specs.Settled.{IsSettled, Said, Wanting, IsReported}
 use Rattle.eacsl_cli.proofs.Sayings.{said_answer, said_memory, answered_by}
 
@@ -93,21 +92,21 @@ module _ {text : List ℕ} {err : Change} {result : ℕ} where
     instrument_unread s = said_memory [] (inl refl) (sym (more-nil told)) refl s
 
   module _ {told told' : Option (List ℕ)} {faults faults' : ℕ} where
-    pub run_executed : {steps : ℕ} (p : TranslationUnit) (m : MonitoredProgram) → Accepted text p → Translates p m → Answered (ReportDue m steps) (ReportBegins m steps) (change told told' faults faults') err result → Answered (RunDue None text steps) (RunBegins None text steps) (change told told' faults faults') err result
-    run_executed p m a t x = answered_by (λ _ d. Runs p m a t (λ input _. d input)) (λ _ b. inr (p, m, a, t, λ input _. b input)) x
+    pub run_executed : {steps : ℕ} (m : MonitoredProgram) → IsTranslated text m → Answered (ReportDue m steps) (ReportBegins m steps) (change told told' faults faults') err result → Answered (RunDue None text steps) (RunBegins None text steps) (change told told' faults faults') err result
+    run_executed m t x = answered_by (λ _ d. Runs t.program m t.accepted t.translates (λ input _. d input)) (λ _ b. inr (t.program, m, t.accepted, t.translates, λ input _. b input)) x
 
     pub exec_executed : {steps : ℕ} (m : MonitoredProgram) → Spells text m → Answered (ReportDue m steps) (ReportBegins m steps) (change told told' faults faults') err result → Answered (ExecDue None text steps) (ExecBegins None text steps) (change told told' faults faults') err result
     exec_executed m t x = answered_by (λ _ d. Executes m t (λ input _. d input)) (λ _ b. inr (m, t, λ input _. b input)) x
 
     -- a beginning of the text was put, and memory was wanting
-    pub write_wanting : (p : TranslationUnit) (m : MonitoredProgram) → Accepted text p → Translates p m → (sent : List ℕ) → Extends sent (text_of m) → told' ≡ more told sent → faults' ≡ faults → IsSaid memory_line 9 err result → Answered (InstrumentDue text) (InstrumentBegins text) (change told told' faults faults') err result
-    write_wanting p m a t sent b w f s = said_memory sent (inr (p, m, a, t, b)) w f s
+    pub write_wanting : (m : MonitoredProgram) → IsTranslated text m → (sent : List ℕ) → Extends sent (text_of m) → told' ≡ more told sent → faults' ≡ faults → IsSaid memory_line 9 err result → Answered (InstrumentDue text) (InstrumentBegins text) (change told told' faults faults') err result
+    write_wanting m t sent b w f s = said_memory sent (inr (t.program, m, t.accepted, t.translates, b)) w f s
 
-module _ {text : List ℕ} {told told' t' : Option (List ℕ)} {faults faults' n : ℕ} (p : TranslationUnit) (m : MonitoredProgram) (a : Accepted text p) (t : Translates p m) where
+module _ {text : List ℕ} {told told' t' : Option (List ℕ)} {faults faults' n : ℕ} (m : MonitoredProgram) (t : IsTranslated text m) where
   -- the whole text was put
   pub written : told' ≡ more told (text_of m) → faults' ≡ faults → Answered (InstrumentDue text) (InstrumentBegins text) (change told told' faults faults') (change t' t' n n) 0
-  written w f = Given (written_answer m) (Writes p m a t refl) refl w f (sym (more-nil t')) refl
+  written w f = Given (written_answer m) (Writes t.program m t.accepted t.translates refl) refl w f (sym (more-nil t')) refl
 
   -- the output failed
   pub write_failed : (sent : List ℕ) → Extends sent (text_of m) → told' ≡ more told sent → Rose faults faults' → Answered (InstrumentDue text) (InstrumentBegins text) (change told told' faults faults') (change t' t' n n) 8
-  write_failed sent b w f = OutputFault sent refl (inr (p, m, a, t, b)) w f refl refl
+  write_failed sent b w f = OutputFault sent refl (inr (t.program, m, t.accepted, t.translates, b)) w f refl refl

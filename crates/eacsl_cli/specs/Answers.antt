@@ -150,6 +150,12 @@ pub data Answered (Due : Answer → Type 0) (Begin : List ℕ → Type 0) (out e
   LineFault : (sent line : List ℕ) (k : ℕ) → status ≡ 8 → Begin sent → out.told' ≡ more out.told sent → out.faults' ≡ out.faults → IsLine Due line → err.told' ≡ more err.told (take k line) → Rose err.faults err.faults' → Answered Due Begin out err status
   NoMemory : (sent line : List ℕ) (k : ℕ) → status ≡ 9 → Begin sent → out.told' ≡ more out.told sent → out.faults' ≡ out.faults → IsLine Due line → err.told' ≡ more err.told (take k line) → err.faults' ≡ err.faults → Answered Due Begin out err status
 
+-- the program translates that of an accepted text
+pub record IsTranslated (text : List ℕ) (m : MonitoredProgram) : Type 0 where
+  pub program : TranslationUnit
+  pub accepted : Accepted text program
+  pub translates : Translates program m
+
 -- the report of a run of the program is due, and what begins its output
 abbrev pub ReportDue : MonitoredProgram → ℕ → Answer → Type 0
 ReportDue m steps a = (input : Input) → AnswersRun (flat_run m input steps) a

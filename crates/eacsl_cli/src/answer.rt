@@ -1,11 +1,12 @@
 //! The top call.
 
-ghost use Rattle.std.specs.Prelude.{◌≡◌, ◌≤◌, List, length, map, string_bytes};
+ghost use Rattle.std.specs.Prelude.{◌≡◌, ◌≤◌, List, MatchResult, length, map, string_bytes};
 ghost use Rattle.c_syntax.specs.Programs.{plain_refusal};
 ghost use Rattle.c_model.specs.Reports.{line_of, refused_words};
 ghost use Rattle.c_model.specs.WordLaws.{file_named};
 ghost use Rattle.mon_syntax.specs.Trees.{plain_program};
-ghost use Rattle.eacsl_cli.specs.Answers.{Answered, Begins, ExecBegins, ExecDue, InstrumentBegins, InstrumentDue, IsDue, IsSaid, ReportBegins, ReportDue, RunBegins, RunDue, TextBegins, TextDue, change, file_limit, memory_line};
+ghost use Rattle.c_parser.specs.Answers.{Refuses};
+ghost use Rattle.eacsl_cli.specs.Answers.{Answered, Begins, ExecBegins, ExecDue, InstrumentBegins, InstrumentDue, IsDue, IsSaid, IsTranslated, ReportBegins, ReportDue, RunBegins, RunDue, TextBegins, TextDue, change, file_limit, memory_line};
 ghost use Rattle.eacsl_cli.specs.Settled.{IsReported, IsSettled};
 ghost use Rattle.eacsl_cli.specs.Sound.{IsStatus, Sound};
 
@@ -101,6 +102,19 @@ fn execute<O: Sink, E: Sink>(
     }
 }
 
+// Translates the annotated program that a text spells into monitored C.
+fn translated(alloc: Global, text: &[u8]) -> Result<MonProgram, FrontFault>
+    requires { length text.now ≤ 1048576 }
+    ensures { MatchResult result (λ m. IsTranslated text.now (plain_program m)) (λ fault. Refuses fault text.now) }
+{
+    let program = match read_first(alloc, text) {
+        Ok(program) => program,
+        Err(fault) => return Err(fault),
+    };
+    let m = instrument(alloc, &program)?;
+    Ok(m)
+}
+
 /// Runs the annotated program that a text spells with so many steps, or says why the text is refused.
 pub fn run_text<O: Sink, E: Sink>(
     alloc: Global,
@@ -113,14 +127,10 @@ pub fn run_text<O: Sink, E: Sink>(
     ensures answered { Answered (RunDue None text.now steps) (RunBegins None text.now steps) (change (O.told out.old) (O.told out.new) (O.faults out.old) (O.faults out.new)) (change (E.told err.old) (E.told err.new) (E.faults err.old) (E.faults err.new)) result }
     ensures status { IsStatus result }
 {
-    let program = match read_first(alloc, text) {
-        Ok(program) => program,
-        Err(FrontFault::Refused(refusal)) => return refuse(alloc, &refusal, err),
-        Err(FrontFault::Memory) => return out_of_memory(err),
-    };
-    match instrument(alloc, &program) {
+    match translated(alloc, text) {
         Ok(m) => execute(alloc, &m, steps, out, err),
-        Err(_) => out_of_memory(err),
+        Err(FrontFault::Refused(refusal)) => refuse(alloc, &refusal, err),
+        Err(FrontFault::Memory) => out_of_memory(err),
     }
 }
 
@@ -130,14 +140,10 @@ pub fn instrument_text<O: Sink, E: Sink>(alloc: Global, text: &[u8], out: &mut O
     ensures answered { Answered (InstrumentDue text.now) (InstrumentBegins text.now) (change (O.told out.old) (O.told out.new) (O.faults out.old) (O.faults out.new)) (change (E.told err.old) (E.told err.new) (E.faults err.old) (E.faults err.new)) result }
     ensures status { IsStatus result }
 {
-    let program = match read_first(alloc, text) {
-        Ok(program) => program,
+    let m = match translated(alloc, text) {
+        Ok(m) => m,
         Err(FrontFault::Refused(refusal)) => return refuse(alloc, &refusal, err),
         Err(FrontFault::Memory) => return out_of_memory(err),
-    };
-    let m = match instrument(alloc, &program) {
-        Ok(m) => m,
-        Err(_) => return out_of_memory(err),
     };
     match print(alloc, &m, out) {
         Ok(()) => 0,

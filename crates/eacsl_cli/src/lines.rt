@@ -3,28 +3,13 @@
 ghost use Rattle.std.specs.Prelude.{◌≡◌, ◌∷◌, [], ◌++◌, IfOk, codes, string_bytes};
 ghost use Rattle.std.specs.Fmt.{signed_decimal};
 ghost use Rattle.c_syntax.specs.Programs.{plain_refusal};
-ghost use Rattle.c_model.specs.Reports.{broken_words, how_word, kind_word, line_of, refused_words};
+ghost use Rattle.c_model.specs.Reports.{broken_words, how_word, line_of, refused_words};
 ghost use Rattle.eacsl_cli.specs.Answers.{IsSaid, change};
 
+use c_printer::kind_word;
 use c_syntax::{How, Kind, Refusal};
 use ea_ports::{Sink, SinkFault};
 use std::alloc::{AllocError, Global};
-
-fn kind_word(kind: Kind) -> &'static str
-    ensures { result.now ≡ kind_word kind }
-{
-    match kind {
-        Kind::Assert => "assert",
-        Kind::Requires => "requires",
-        Kind::Assumes => "assumes",
-        Kind::Ensures => "ensures",
-        Kind::Complete => "complete",
-        Kind::Disjoint => "disjoint",
-        Kind::Invariant => "invariant",
-        Kind::Variant => "variant",
-        Kind::Rte => "rte",
-    }
-}
 
 fn how_word(how: How) -> &'static str
     ensures { result.now ≡ how_word how }

@@ -15,12 +15,13 @@ mod statement;
 mod terminals;
 pub mod vocabulary;
 
+pub use kinds::word_at;
 pub use parsed::{
     Literal, NameUse, ParsedArg, ParsedCall, ParsedExpr, ParsedFunc, ParsedProgram, ParsedRegister,
     ParsedStmt,
 };
 pub use read::{one_reading, read_tokens};
-pub use refusal::word_at;
+pub use refusal::{refused, refused_word};
 
 #[cfg(test)]
 mod tests;

@@ -65,7 +65,7 @@ fn token_word(alloc: Global, names: &[Name], kind: &TokenKind) -> Result<Vec<u8>
 }
 
 /// How the first of tokens is named where it is refused, or the end of the text.
-pub fn word_at(alloc: Global, names: &[Name], tokens: &[Token]) -> Result<Vec<u8>, AllocError>
+pub fn refused_word(alloc: Global, names: &[Name], tokens: &[Token]) -> Result<Vec<u8>, AllocError>
     ensures { IfOk result (λ v. v.items ≡ word_at names.now (plain_list tokens.now)) }
 {
     match tokens {
@@ -110,7 +110,7 @@ fn limit_word(tokens: &[Token]) -> &'static [u8]
 }
 
 /// A refusal, or want of memory where its word is wanting.
-fn refused(code: u8, place: Place, word: Result<Vec<u8>, AllocError>) -> FrontFault
+pub fn refused(code: u8, place: Place, word: Result<Vec<u8>, AllocError>) -> FrontFault
     ensures { RefusesWord code place word result }
 {
     match word {
@@ -130,7 +130,7 @@ pub fn refuse(alloc: Global, tokens: &Tokens, fault: ReadFault) -> FrontFault
     match fault {
         ReadFault::At(n) => {
             let rest = last(n, tokens.list.as_slice());
-            let word = word_at(alloc, tokens.names.as_slice(), rest);
+            let word = refused_word(alloc, tokens.names.as_slice(), rest);
             refused(4, place_at(tokens.end, rest), word)
         }
         ReadFault::Over(n) => {

@@ -1,7 +1,5 @@
 -- What the answers on a monitored text mean.
-use Rattle.std.specs.Prelude.{◌≡◌, ℕ, List, Result, Ok, Err, Vec}
-use Rattle.std.specs.declared.alloc.Global.{Global}
-use Rattle.c_syntax.specs.declared.place.Place.{Place}
+use Rattle.std.specs.Prelude.{◌≡◌, ℕ, List, Err}
 use Rattle.c_syntax.specs.declared.refusal.FrontFault.{FrontFault}
 use Rattle.c_syntax.specs.declared.refusal.FrontFault.TheVariants as front
 use Rattle.c_syntax.specs.Tokens.{PlainTokens}
@@ -9,6 +7,7 @@ use Rattle.c_syntax.specs.Programs.{PlainRefusal, plain_refusal}
 use Rattle.mon_syntax.specs.Parsed.{ParsedProgram}
 use Rattle.mon_syntax.specs.Checking.{Fault}
 use Rattle.mon_syntax.specs.Spelled.{checked, check_refusal, IsMonitoredRefusal}
+use Rattle.mon_parser.specs.Answers.{RefusesWith}
 use Rattle.mon_typing.specs.declared.fault.CheckFault.{CheckFault}
 use Rattle.mon_typing.specs.declared.fault.CheckFault.TheVariants.{BadName, BadType, Memory}
 
@@ -26,15 +25,6 @@ pub record IsCheckRefusal (ts : PlainTokens) (p : ParsedProgram) (r : PlainRefus
 abbrev pub HasFault : FrontFault → PlainTokens → ParsedProgram → Type 0
 HasFault front.Memory ts p = Unit {0}
 HasFault (front.Refused r) ts p = IsCheckRefusal ts p (plain_refusal r)
-
-abbrev pub RefusesWith : PlainRefusal → FrontFault → Type 0
-RefusesWith r front.Memory = Unit {0}
-RefusesWith r (front.Refused x) = plain_refusal x ≡ r
-
--- the refusal with this code, place and word, where there is a word
-abbrev pub RefusesWord : {E : Type 0} → ℕ → Place → Result (Vec ℕ Global) E → FrontFault → Type 0
-RefusesWord code at (Ok word) e = RefusesWith (record { code = code; place = at; construct = word.items }) e
-RefusesWord code at (Err f) e = e ≡ front.Memory
 
 -- the refusal for a fault in names and types
 abbrev pub RefusesFault : PlainTokens → CheckFault → FrontFault → Type 0

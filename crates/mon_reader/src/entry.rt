@@ -1,7 +1,6 @@
 //! The function that a run begins with: `i32 main(void)` (C99 5.1.2.2.1).
 
-ghost use Rattle.std.specs.Prelude.{◌≡◌, codes, bytes_eq, option_map, Some};
-ghost use Rattle.mon_syntax.specs.Checking.{word_bytes};
+ghost use Rattle.std.specs.Prelude.{◌≡◌, option_map, Some};
 ghost use Rattle.mon_syntax.specs.Spelled.{no_main, is_i32, main_refusal};
 ghost use Rattle.c_model.specs.FirstTokens.{first_place};
 ghost use Rattle.mon_parser.specs.ParsedTrees.{plain_func, plain_program};
@@ -9,6 +8,7 @@ ghost use Rattle.mon_parser.specs.ParsedTrees.{plain_func, plain_program};
 use c_syntax::{Name, Place};
 use mon_parser::{ParsedFunc, ParsedProgram};
 use mon_syntax::MonType;
+use mon_typing::is_main;
 
 fn first_place() -> Place
     ensures { result ≡ first_place }
@@ -17,15 +17,6 @@ fn first_place() -> Place
         line: 1,
         column: 1,
         offset: 0,
-    }
-}
-
-fn is_main(names: &[Name], number: u32) -> bool
-    ensures { result ≡ bytes_eq (word_bytes names.now number) (codes "main") }
-{
-    match names.get(number as usize) {
-        Some(name) => name.bytes() == b"main".as_slice(),
-        None => false,
     }
 }
 

@@ -4,12 +4,13 @@ ghost use Rattle.std.specs.Prelude.{◌≡◌, codes};
 ghost use Rattle.c_syntax.specs.Tokens.{plain_tokens};
 ghost use Rattle.mon_syntax.specs.Spelled.{from_place, check_refusal, no_main};
 ghost use Rattle.mon_parser.specs.Reading.{plain_list};
-ghost use Rattle.mon_reader.specs.Answers.{RefusesWith, RefusesWord, RefusesFault};
+ghost use Rattle.mon_parser.specs.Answers.{RefusesWith};
+ghost use Rattle.mon_reader.specs.Answers.{RefusesFault};
 
-use c_syntax::{FrontFault, Name, Place, Refusal, Token, Tokens};
-use mon_parser::word_at;
+use c_syntax::{FrontFault, Place, Token, Tokens};
+use mon_parser::{refused, refused_word};
 use mon_typing::CheckFault;
-use std::alloc::{AllocError, Global};
+use std::alloc::Global;
 
 /// The tokens from a place on.
 fn from_place(at: Place, tokens: &[Token]) -> &[Token]
@@ -25,26 +26,13 @@ fn from_place(at: Place, tokens: &[Token]) -> &[Token]
     rest
 }
 
-/// A refusal, or want of memory where its word is wanting.
-fn refused(code: u8, place: Place, word: Result<Vec<u8>, AllocError>) -> FrontFault
-    ensures { RefusesWord code place word result }
-{
-    match word {
-        Ok(word) => FrontFault::Refused(Refusal {
-            code,
-            place,
-            construct: Name::new(word),
-        }),
-        Err(_) => FrontFault::Memory,
-    }
-}
-
 /// A refusal with the word of the token at its place.
 fn refused_at(alloc: Global, tokens: &Tokens, code: u8, place: Place) -> FrontFault
     ensures { RefusesWith (check_refusal (plain_tokens tokens.now) (record { code = code; place = place })) result }
 {
     let rest = from_place(place, tokens.list.as_slice());
-    refused(code, place, word_at(alloc, tokens.names.as_slice(), rest))
+    let word = refused_word(alloc, tokens.names.as_slice(), rest);
+    refused(code, place, word)
 }
 
 /// The refusal of a tree for a fault in its names and types.

@@ -1,8 +1,8 @@
 //! Calls: of the runtime, and of no other function.
 
-ghost use Rattle.std.specs.Prelude.{◌≡◌, map, bytes_eq, codes};
+ghost use Rattle.std.specs.Prelude.{map};
 ghost use Rattle.mon_syntax.specs.Trees.{plain_stmt};
-ghost use Rattle.mon_syntax.specs.Checking.{word_bytes, assert_call, runtime_call, named_call, call_of_word, checked_call};
+ghost use Rattle.mon_syntax.specs.Checking.{assert_call, runtime_call, named_call, call_of_word, checked_call};
 ghost use Rattle.mon_parser.specs.ParsedTrees as read;
 ghost use Rattle.mon_typing.specs.Answers.{Gives};
 ghost use Rattle.mon_typing.specs.Scopes.{plain_scope};
@@ -11,9 +11,10 @@ use crate::argument::{
     next_kind, next_number, next_value, no_more, only_string, only_value, wrong_number,
 };
 use crate::fault::CheckFault;
-use crate::scope::{Scope, name_at, word_at};
+use crate::scope::{Scope, is_main};
 use c_syntax::{Name, Place};
 use mon_parser::parsed::{NameUse, ParsedArg, ParsedCall};
+use mon_parser::word_at;
 use mon_syntax::{MonStmt, MonType, Runtime, Word};
 use std::alloc::Global;
 
@@ -73,15 +74,6 @@ fn runtime_call(
             Ok(MonStmt::PrintUnsigned(value))
         }
         Runtime::Kept => Err(CheckFault::BadName(callee.place)),
-    }
-}
-
-fn is_main(names: &[Name], number: u32) -> bool
-    ensures { result ≡ bytes_eq (word_bytes names.now number) (codes "main") }
-{
-    match names.get(number as usize) {
-        Some(name) => name.bytes() == b"main".as_slice(),
-        None => false,
     }
 }
 

@@ -8,11 +8,12 @@ ghost use Rattle.mon_typing.specs.Answers.{Gives};
 ghost use Rattle.mon_typing.specs.Scopes.{numbered, is_new};
 
 use crate::fault::CheckFault;
-use crate::scope::{Scope, is_free, name_at, word_at};
+use crate::scope::{Scope, is_free, name_at};
 use crate::statement::{Labels, checked_statements};
 use c_syntax::Name;
 use indexmap::IndexMap;
 use mon_parser::parsed::{ParsedFunc, ParsedProgram, ParsedRegister};
+use mon_parser::word_at;
 use mon_syntax::{MonFunc, MonProgram, MonType, Register, Word};
 use std::alloc::{AllocError, Global};
 

@@ -17,3 +17,4 @@ pub mod types;
 
 pub use fault::CheckFault;
 pub use function::checked_program;
+pub use scope::is_main;

@@ -1,7 +1,6 @@
 //! What is known of a text's names.
 
-ghost use Rattle.std.specs.Prelude.{◌≡◌, IfOk};
-ghost use Rattle.mon_syntax.specs.Grammar.{word_at};
+ghost use Rattle.std.specs.Prelude.{◌≡◌, IfOk, bytes_eq, codes};
 ghost use Rattle.mon_syntax.specs.Checking.{word_bytes, register_of, is_free};
 ghost use Rattle.mon_parser.specs.ParsedTrees.{plain_name};
 ghost use Rattle.mon_typing.specs.Answers.{Gives};
@@ -22,13 +21,13 @@ pub struct Scope<'a> {
     pub registers: &'a IndexMap<u32, MonType>,
 }
 
-/// What the name of a number is.
-pub fn word_at(words: &[Word], number: u32) -> Word
-    ensures { result ≡ word_at words.now number }
+/// Whether the name of a number is `main`.
+pub fn is_main(names: &[Name], number: u32) -> bool
+    ensures { result ≡ bytes_eq (word_bytes names.now number) (codes "main") }
 {
-    match words.get(number as usize) {
-        Some(word) => *word,
-        None => Word::Name,
+    match names.get(number as usize) {
+        Some(name) => name.bytes() == b"main".as_slice(),
+        None => false,
     }
 }
 

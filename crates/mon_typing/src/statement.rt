@@ -12,10 +12,11 @@ ghost use Rattle.mon_typing.specs.Scopes.{plain_scope};
 use crate::call::checked_call;
 use crate::expression::{checked_expression, condition, of_type};
 use crate::fault::CheckFault;
-use crate::scope::{Scope, is_free, name_at, register_of, word_at};
+use crate::scope::{Scope, is_free, name_at, register_of};
 use crate::types::same_type;
 use c_syntax::Place;
 use mon_parser::parsed::{NameUse, ParsedExpr, ParsedStmt};
+use mon_parser::word_at;
 use mon_syntax::{MonStmt, MonType};
 use std::alloc::Global;
 
