@@ -3,11 +3,13 @@
 
 mod expression;
 mod function;
+mod line;
 mod program;
 mod statement;
 mod strings;
 #[cfg(test)]
 mod tests;
 mod words;
+mod writer;
 
 pub use program::print;

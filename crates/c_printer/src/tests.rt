@@ -76,7 +76,7 @@ fn statements(alloc: Global) -> Result<MonProgram, AllocError> {
 /// Prints a program, and compares what the sink got.
 fn prints(rt: &(impl Abort + AllocGlobal), m: &MonProgram, text: &[u8]) {
     let mut out = MemSink::new(rt.alloc(), Vec::new(rt.alloc()));
-    assert_eq!(rt; print(rt.alloc(), m, &mut out), Ok(()));
+    assert_eq!(rt; print(m, &mut out), Ok(()));
     assert_eq!(rt; out.bytes(), text);
 }
 
@@ -104,7 +104,7 @@ fn each_statement_stands_on_a_line(rt: HostRuntime) -> Result<(), AllocError> {
 fn a_sink_that_fails_gets_nothing_more(rt: HostRuntime) -> Result<(), AllocError> {
     let mut out = MemSink::new(rt.alloc(), one(rt.alloc(), 1)?);
     let m = expressions(rt.alloc())?;
-    assert_eq!(rt; print(rt.alloc(), &m, &mut out), Err(SinkFault::Failed));
+    assert_eq!(rt; print(&m, &mut out), Err(SinkFault::Failed));
     assert_eq!(rt; out.bytes(), b"".as_slice());
     Ok(())
 }
