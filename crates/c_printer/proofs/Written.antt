@@ -3,11 +3,11 @@ use Rattle.std.proofs.Common.{◌≡◌, ℕ, List, [], ◌++◌, Option, Some, 
 use Rattle.std.proofs.lemmas.List.{append-nil}
 use Rattle.std.proofs.lemmas.Option.{none-some}
 use Rattle.std.specs.Option.{is_some}
-use Rattle.std.specs.Prelude.{Bool, true, false, Result, MatchResult}
+use Rattle.std.specs.Prelude.{true, false, Result, MatchResult}
 use Rattle.std.proofs.lemmas.Result.{MatchResult-weaker}
 use Rattle.ea_ports.specs.declared.SinkFault.{SinkFault}
 use Rattle.ea_ports.specs.Port.{more}
-use Rattle.ea_ports.specs.Buffered.{Port, port_of, Wrote, Lost}
+use Rattle.ea_ports.specs.Buffered.{port_of, Wrote, Lost}
 use Rattle.ea_ports.proofs.Buffered.{wrote_none, wrote_wrote, wrote_lost, lost_more}
 use Rattle.c_printer.specs.Printing.{Pipe, Printed, Whole, Cut, Shut, PrintCut, begun, pipe_of}
 
@@ -88,6 +88,10 @@ up_all none up = shown (up.is ∙ ap (λ l. up.before ++ l) none ∙ append-nil 
 -- and then the rest is written
 pub up_behind : {p q r : Pipe} {rest all end : List ℕ} → rest ≡ end → UpTo p q rest all → Printed q r end → Printed p r all
 up_behind same up w = shown (up.is ∙ ap (λ l. up.before ++ l) same) (then up.written w)
+
+-- the sink refused before, so that the rest makes no difference
+pub up_shut : {p q : Pipe} {rest all : List ℕ} → is_some q.refusal ≡ true → UpTo p q rest all → Printed p q all
+up_shut {q = q} {rest} some up = shown up.is (then up.written (still_shut q rest some))
 
 -- ---- the end of a text
 

@@ -162,6 +162,9 @@ pub fn statements<O: Sink>(
     ensures { Printed (pipe_of (O.told out.old) to.old (O.faults out.old)) (pipe_of (O.told out.new) to.new (O.faults out.new)) (spelled (statements_pieces (registers_of named.now) (depth_of depth.now) (plain_stmts stmts.now))) }
 {
     'stmts: for s in stmts {
+        if to.is_shut() {
+            return;
+        }
         line(depth, to, out);
         statement(s, depth, named, to, out);
     }

@@ -1,6 +1,7 @@
 //! What a text is written to.
 
 ghost use Rattle.std.specs.Prelude.{◌≡◌, ℕ, List, Option, MatchResult};
+ghost use Rattle.std.specs.Option.{is_some};
 ghost use Rattle.ea_ports.specs.Port.{more};
 ghost use Rattle.c_printer.specs.Printing.{PrintCut, Printed, begun, pipe_of};
 
@@ -34,6 +35,13 @@ impl Writer {
                 Err(fault) => self.refusal = Some(fault),
             }
         }
+    }
+
+    /// Whether the sink refused.
+    pub fn is_shut(&self) -> bool
+        ensures { result ≡ is_some self.now.refusal }
+    {
+        self.refusal.is_some()
     }
 
     /// Puts the bytes that wait, unless the sink refused.

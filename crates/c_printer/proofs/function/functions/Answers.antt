@@ -1,8 +1,8 @@
-use Rattle.std.proofs.Common.{◌+◌, ◌∙◌, ◌++◌, drop, map, codes}
+use Rattle.std.proofs.Common.{◌+◌, ◌∙◌, drop, map}
 use Rattle.mon_syntax.specs.Trees.{plain_func}
 use Rattle.mon_syntax.specs.Text.{function_pieces, functions_pieces, spelled}
 use Rattle.c_printer.proofs.Behind.{left_at, none_left}
-use Rattle.c_printer.proofs.Written.{then, up_none, up_more, up_all}
+use Rattle.c_printer.proofs.Written.{up_none, up_more, up_all}
 use Rattle.c_printer.proofs.Texts.{functions_each}
 use Rattle.c_printer.proofs.function.functions.Goals as goal
 

@@ -1,11 +1,11 @@
-use Rattle.std.proofs.Common.{ℕ, ◌+◌, ◌<◌, ◌++◌, ◌∙◌, ap, sym, length, option_map, drop, rules}
-use Rattle.mon_syntax.specs.Trees.{plain_expr, plain_stmt, plain_stmts}
-use Rattle.mon_syntax.specs.Text.{new_line, spelled, spelled_piece, statement_pieces, statements_pieces}
+use Rattle.std.proofs.Common.{◌+◌, ◌<◌, ◌++◌, ◌∙◌, ap, sym, length, option_map, drop, rules}
+use Rattle.mon_syntax.specs.Trees.{plain_expr, plain_stmts}
+use Rattle.mon_syntax.specs.Text.{new_line, spelled, spelled_piece, statements_pieces}
 use Rattle.c_printer.specs.Depths.{depth_of}
 use Rattle.c_printer.specs.Registers.{registers_of}
 use Rattle.c_printer.proofs.Behind.{left_at, none_left}
 use Rattle.c_printer.proofs.Deeper.{if_deeper, loop_deeper, falls}
-use Rattle.c_printer.proofs.Written.{then, shown, up_none, up_more, up_all}
+use Rattle.c_printer.proofs.Written.{then, shown, up_none, up_more, up_shut, up_all}
 use Rattle.c_printer.proofs.Texts.{statement_text, at_assert, return_anywhere, at_if, at_loop, at_labelled, body_text, no_body_text, statements_each}
 use Rattle.c_printer.proofs.statement.+statement.Goals as goal
 
@@ -87,6 +87,9 @@ statements-stmts-preserved g t c =
     (left_at (λ l. spelled (statements_pieces rs depth (plain_stmts l))) c.args.stmts.now c.stmts.s-index s c.stmts-test.true c.s-item.is ∙ statements_each rs depth s rest)
     c.stmts.invariant
     (then c.line.ensures c.statement.ensures)
+
+pub statements-returns-then-is_shut : goal.statements-returns-then-is_shut
+statements-returns-then-is_shut g t c = up_shut (sym c.is_shut.ensures ∙ c.if-is_shut.true) c.stmts.invariant
 
 pub statements-returns : goal.statements-returns
 statements-returns g t c =
