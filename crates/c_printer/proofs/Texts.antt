@@ -158,17 +158,20 @@ pub return_anywhere : (rs : Registers) (depth : ℕ) (value : Option MonExpressi
 return_anywhere rs depth None = refl
 return_anywhere rs depth (Some e) = refl
 
-pub at_if : (rs : Registers) (depth : ℕ) (s : MonStmt) (e : MonExpr) (a b : Vec MonStmt Global) → s ≡ code.If e a b → statement_text rs depth s ≡ codes "if (" ++ (text rs (plain_expr e) ++ (codes ") " ++ (body_of rs depth a ++ (codes " else " ++ body_of rs depth b))))
+pub at_if : (rs : Registers) (depth : ℕ) (s : MonStmt) (e : MonExpr) (a b : Vec MonStmt Global) → s ≡ code.If e a b → statement_text rs depth s ≡ (codes "if (" ++ (text rs (plain_expr e) ++ codes ") ")) ++ (body_of rs depth a ++ (codes " else " ++ body_of rs depth b))
 at_if rs depth s e a b same =
     ap (λ x. statement_text rs depth x) same
     ∙ ap (λ x. spelled (statement_pieces rs depth x)) (if_is e a b)
     ∙ if_text rs depth (plain_expr e) (plain_stmts a.items) (plain_stmts b.items)
+    ∙ ap (λ l. codes "if (" ++ l) (sym (append_assoc (text rs (plain_expr e)) (codes ") ") (body_of rs depth a ++ (codes " else " ++ body_of rs depth b))))
 
-pub at_loop : (rs : Registers) (depth : ℕ) (s : MonStmt) (a b : Vec MonStmt Global) → s ≡ code.Loop a b → statement_text rs depth s ≡ codes "while (1) {" ++ (lines_of rs (depth + 1) a ++ (spelled_piece (new_line (depth + 1)) ++ (codes "__e_acsl_step();" ++ (lines_of rs (depth + 1) b ++ (spelled_piece (new_line depth) ++ codes "}")))))
+pub at_loop : (rs : Registers) (depth : ℕ) (s : MonStmt) (a b : Vec MonStmt Global) → s ≡ code.Loop a b → statement_text rs depth s ≡ codes "while (1) {" ++ (lines_of rs (depth + 1) a ++ ((spelled_piece (new_line (depth + 1)) ++ codes "__e_acsl_step();") ++ (lines_of rs (depth + 1) b ++ (spelled_piece (new_line depth) ++ codes "}"))))
 at_loop rs depth s a b same =
+    let step = append_assoc (spelled_piece (new_line (depth + 1))) (codes "__e_acsl_step();") (lines_of rs (depth + 1) b ++ (spelled_piece (new_line depth) ++ codes "}")) in
     ap (λ x. statement_text rs depth x) same
     ∙ ap (λ x. spelled (statement_pieces rs depth x)) (loop_is a b)
     ∙ loop_text rs depth (plain_stmts a.items) (plain_stmts b.items)
+    ∙ ap (λ l. codes "while (1) {" ++ (lines_of rs (depth + 1) a ++ l)) (sym step)
 
 pub at_labelled : (rs : Registers) (depth : ℕ) (s : MonStmt) (a : Vec MonStmt Global) (label : List ℕ) → s ≡ code.Labelled a label → statement_text rs depth s ≡ body_of rs depth a ++ (codes " " ++ (label ++ codes ": ;"))
 at_labelled rs depth s a label same =
@@ -203,7 +206,7 @@ pub head_text : (f : MonFunction) → spelled (head_pieces f) ≡ result_word f.
 head_text f =
     ap (λ l. result_word f.result ++ (32 ∷ (f.name ++ (40 ∷ l)))) (in_parens_text (parameters_pieces f.parameters) (blank ∷ Mark (codes "{") ∷ registers_pieces f.registers))
 
-pub function_text : (f : MonFunction) → spelled (function_pieces f) ≡ spelled (head_pieces f) ++ (spelled (statements_pieces (f.parameters ++ f.registers) 1 f.body) ++ (spelled_piece (new_line 0) ++ (codes "}" ++ spelled_piece (new_line 0))))
+pub function_text : (f : MonFunction) → spelled (function_pieces f) ≡ spelled (head_pieces f) ++ (spelled (statements_pieces (f.parameters ++ f.registers) 1 f.body) ++ ((spelled_piece (new_line 0) ++ codes "}") ++ spelled_piece (new_line 0)))
 function_text f =
     let end : List Piece = new_line 0 ∷ Mark (codes "}") ∷ new_line 0 ∷ [] in
     let code : List Piece = statements_pieces (f.parameters ++ f.registers) 1 f.body in

@@ -7,7 +7,7 @@ ghost use Rattle.c_printer.specs.Heads.{head_pieces};
 ghost use Rattle.c_printer.specs.Printing.{Printed, pipe_of};
 
 use crate::expression::Named;
-use crate::line::{Depth, line};
+use crate::line::{Depth, closing, line};
 use crate::statement::statements;
 use crate::words::{result_word, type_word};
 use crate::writer::Writer;
@@ -82,8 +82,7 @@ fn function<O: Sink>(f: &MonFunc, to: &mut Writer, out: &mut O)
     let depth = Depth::Inside(&Depth::Top);
     head(f, to, out);
     statements(&f.body, &depth, &named, to, out);
-    line(&Depth::Top, to, out);
-    to.write(out, b"}");
+    closing(&Depth::Top, to, out);
     line(&Depth::Top, to, out);
 }
 

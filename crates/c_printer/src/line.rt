@@ -1,6 +1,6 @@
 //! The ends of lines, and the blanks in front of the next.
 
-ghost use Rattle.std.specs.Prelude.{◌*◌, replicate};
+ghost use Rattle.std.specs.Prelude.{◌*◌, ◌++◌, replicate, codes};
 ghost use Rattle.mon_syntax.specs.Text.{new_line, spelled_piece};
 ghost use Rattle.c_printer.specs.Depths.{depth_of};
 ghost use Rattle.c_printer.specs.Printing.{Printed, pipe_of};
@@ -8,7 +8,7 @@ ghost use Rattle.c_printer.specs.Printing.{Printed, pipe_of};
 use crate::writer::Writer;
 use ea_ports::Sink;
 
-/// How many bodies are around a line. It stands on the stack, so that it counts what no number of a fixed size would.
+/// How many bodies are around a line: a chain on the stack, which no depth overflows as it would a number.
 #[derive(Clone, Copy)]
 pub enum Depth<'a> {
     Top,
@@ -34,4 +34,12 @@ pub fn line<O: Sink>(depth: &Depth<'_>, to: &mut Writer, out: &mut O)
 {
     to.write(out, b"\n");
     indent(depth, to, out);
+}
+
+/// The line that ends a body, up to its brace.
+pub fn closing<O: Sink>(depth: &Depth<'_>, to: &mut Writer, out: &mut O)
+    ensures { Printed (pipe_of (O.told out.old) to.old (O.faults out.old)) (pipe_of (O.told out.new) to.new (O.faults out.new)) (spelled_piece (new_line (depth_of depth.now)) ++ codes "}") }
+{
+    line(depth, to, out);
+    to.write(out, b"}");
 }

@@ -4,13 +4,13 @@ ghost use Rattle.std.specs.Prelude.{[], ◌++◌, option_map, codes};
 ghost use Rattle.std.specs.Fmt.{decimal};
 ghost use Rattle.c_model.specs.Reports.{kind_word};
 ghost use Rattle.mon_syntax.specs.Trees.{Goto, PrintText, PutChar, Return, Set, plain_expr, plain_stmt, plain_stmts};
-ghost use Rattle.mon_syntax.specs.Text.{Quoted, body_pieces, call_pieces, expression_pieces, name_of, set_pieces, spelled, spelled_piece, statement_pieces, statements_pieces};
+ghost use Rattle.mon_syntax.specs.Text.{Quoted, body_pieces, call_pieces, expression_pieces, name_of, new_line, set_pieces, spelled, spelled_piece, statement_pieces, statements_pieces};
 ghost use Rattle.c_printer.specs.Depths.{depth_of};
 ghost use Rattle.c_printer.specs.Printing.{Printed, pipe_of};
 ghost use Rattle.c_printer.specs.Registers.{registers_of};
 
 use crate::expression::{Named, expression, name};
-use crate::line::{Depth, line};
+use crate::line::{Depth, closing, line};
 use crate::strings::{number, string};
 use crate::words::kind_word;
 use crate::writer::Writer;
@@ -128,6 +128,23 @@ fn give_back<O: Sink>(value: &Option<MonExpr>, named: &Named<'_>, to: &mut Write
     }
 }
 
+// `if (e) `
+fn condition<O: Sink>(e: &MonExpr, named: &Named<'_>, to: &mut Writer, out: &mut O)
+    ensures { Printed (pipe_of (O.told out.old) to.old (O.faults out.old)) (pipe_of (O.told out.new) to.new (O.faults out.new)) (codes "if (" ++ (spelled (expression_pieces (registers_of named.now) (plain_expr e.now)) ++ codes ") ")) }
+{
+    to.write(out, b"if (");
+    expression(e, named, to, out);
+    to.write(out, b") ");
+}
+
+// The step of a loop, on a line of its own.
+fn step_line<O: Sink>(depth: &Depth<'_>, to: &mut Writer, out: &mut O)
+    ensures { Printed (pipe_of (O.told out.old) to.old (O.faults out.old)) (pipe_of (O.told out.new) to.new (O.faults out.new)) (spelled_piece (new_line (depth_of depth.now)) ++ codes "__e_acsl_step();") }
+{
+    line(depth, to, out);
+    to.write(out, b"__e_acsl_step();");
+}
+
 // Statements in braces.
 #[cycle(statement)]
 fn body<O: Sink>(
@@ -145,8 +162,7 @@ fn body<O: Sink>(
         let inner = Depth::Inside(&*depth);
         to.write(out, b"{");
         statements(stmts, &inner, named, to, out);
-        line(depth, to, out);
-        to.write(out, b"}");
+        closing(depth, to, out);
     }
 }
 
@@ -194,9 +210,7 @@ fn statement<O: Sink>(
         MonStmt::PrintSigned(e) => call(b"__e_acsl_print_i64", e, named, to, out),
         MonStmt::PrintUnsigned(e) => call(b"__e_acsl_print_u64", e, named, to, out),
         MonStmt::If(e, a, b) => {
-            to.write(out, b"if (");
-            expression(e, named, to, out);
-            to.write(out, b") ");
+            condition(e, named, to, out);
             body(a, depth, named, to, out);
             to.write(out, b" else ");
             body(b, depth, named, to, out);
@@ -205,11 +219,9 @@ fn statement<O: Sink>(
             let inner = Depth::Inside(&*depth);
             to.write(out, b"while (1) {");
             statements(a, &inner, named, to, out);
-            line(&inner, to, out);
-            to.write(out, b"__e_acsl_step();");
+            step_line(&inner, to, out);
             statements(b, &inner, named, to, out);
-            line(depth, to, out);
-            to.write(out, b"}");
+            closing(depth, to, out);
         }
         MonStmt::Labelled(a, label) => {
             body(a, depth, named, to, out);

@@ -7,7 +7,8 @@ ghost use Rattle.c_printer.specs.Printing.{PrintCut, Printed, begun, pipe_of};
 
 use ea_ports::{Buffer, Sink, SinkFault};
 
-/// Holds back bytes for a sink, and takes no memory. Where the sink refused it keeps the refusal, and the sink gets nothing more.
+/// Holds back bytes for a sink, and takes no memory. Where the sink refused it keeps the refusal, and the sink gets nothing
+/// more, so that what prints needs no answer of each write.
 #[derive(Drop)]
 pub struct Writer {
     waiting: Buffer,
@@ -30,9 +31,8 @@ impl Writer {
         ensures { Printed (pipe_of (O.told out.old) self.old (O.faults out.old)) (pipe_of (O.told out.new) self.new (O.faults out.new)) bytes.now }
     {
         if self.refusal.is_none() {
-            match self.waiting.bytes(out, bytes) {
-                Ok(()) => {}
-                Err(fault) => self.refusal = Some(fault),
+            if let Err(fault) = self.waiting.bytes(out, bytes) {
+                self.refusal = Some(fault);
             }
         }
     }

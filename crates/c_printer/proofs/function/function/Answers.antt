@@ -8,4 +8,4 @@ pub returns : goal.returns
 returns g c =
     let f = c.args.f.now in
     let body = rw (c.deref-3.ensures.value, c.deref.ensures.value, c.deref-2.ensures.value, map-append plain_register f.parameters.items f.registers.items) at c.statements.ensures in
-    shown (function_text (plain_func f)) (then c.head.ensures (then body (then c.line.ensures (then c.write.ensures c.line-2.ensures))))
+    shown (function_text (plain_func f)) (then c.head.ensures (then body (then c.closing.ensures c.line.ensures)))

@@ -16,7 +16,7 @@ pub body-returns-else-is_empty : goal.body-returns-else-is_empty
 body-returns-else-is_empty g t c =
     let some : 0 < length c.args.stmts.now = search rules in
     shown (body_text (registers_of c.args.named.now) (depth_of c.args.depth.now) c.args.stmts.now some)
-    (then c.write-else-is_empty.ensures (then c.statements.ensures (then c.line.ensures c.write-else-is_empty-2.ensures)))
+    (then c.write-else-is_empty.ensures (then c.statements.ensures c.closing.ensures))
 
 pub statement-body-requires : goal.statement-body-requires
 statement-body-requires g t c κs within = ((falls c.args.s.now _ c.deref.result.now c.in-If.a.items t c.decreases c.in-If.is c.deref.ensures.value (if_deeper c.in-If.e c.in-If.a c.in-If.b).0).1, search rules)
@@ -53,14 +53,14 @@ statement-returns-in-If g t c =
     let first = rw c.deref.ensures.value at c.body.ensures in
     let second = rw c.deref-in-If.ensures.value at c.body-in-If.ensures in
     shown (at_if (registers_of c.args.named.now) (depth_of c.args.depth.now) c.args.s.now c.in-If.e c.in-If.a c.in-If.b c.in-If.is)
-    (then c.write-in-If.ensures (then c.expression.ensures (then c.write-in-If-2.ensures (then first (then c.write-in-If-3.ensures second)))))
+    (then c.condition.ensures (then first (then c.write-in-If.ensures second)))
 
 pub statement-returns-in-Loop : goal.statement-returns-in-Loop
 statement-returns-in-Loop g t c =
     let before = rw c.deref-in-Loop.ensures.value at c.statements.ensures in
     let behind = rw c.deref-in-Loop-2.ensures.value at c.statements-in-Loop.ensures in
     shown (at_loop (registers_of c.args.named.now) (depth_of c.args.depth.now) c.args.s.now c.in-Loop.a c.in-Loop.b c.in-Loop.is)
-    (then c.write-in-Loop.ensures (then before (then c.line.ensures (then c.write-in-Loop-2.ensures (then behind (then c.line-in-Loop.ensures c.write-in-Loop-3.ensures))))))
+    (then c.write-in-Loop.ensures (then before (then c.step_line.ensures (then behind c.closing.ensures))))
 
 pub statement-returns-in-Labelled : goal.statement-returns-in-Labelled
 statement-returns-in-Labelled g t c =
