@@ -1,4 +1,5 @@
 pub mod Behind
+pub mod Deeper
 pub mod Names
-pub mod Sent
 pub mod Texts
+pub mod Written

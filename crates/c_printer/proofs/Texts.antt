@@ -1,7 +1,9 @@
 -- The text of each construct, piece after piece.
-use Rattle.std.proofs.Common.{◌≡◌, refl, ℕ, ◌+◌, ◌<◌, length, ℤ, Some, map, sym, arith, List, [], ◌∷◌, ◌++◌, ap, ◌∙◌, append_assoc}
+use Rattle.std.proofs.Common.{◌≡◌, refl, ℕ, ◌+◌, ◌-◌, ◌<◌, ◌≤◌, length, get_or, take, drop, ℤ, None, Some, map, sym, arith, List, [], ◌∷◌, ◌++◌, ap, ◌∙◌, append_assoc}
 use Rattle.std.proofs.lemmas.List.{append-nil}
-use Rattle.std.specs.Fmt.{decimal}
+use Rattle.std.proofs.Math.Seq.{take-length}
+use Rattle.std.specs.Fmt.{decimal, signed_decimal}
+use Rattle.std.specs.Prelude.{suc, pos, negsuc, false, ◌/◌, ◌%◌, if◌then◌else◌}
 use Rattle.std.proofs.lemmas.Fmt.{decimal_digit}
 use Rattle.mon_syntax.specs.declared.tree.MonFunc.{MonFunc}
 use Rattle.mon_syntax.specs.declared.tree.MonStmt.{MonStmt}
@@ -14,7 +16,7 @@ use Rattle.mon_syntax.specs.declared.tree.MonType.{MonType}
 use Rattle.mon_syntax.specs.declared.tree.MonOp.{MonOp}
 use Rattle.mon_syntax.specs.Names.{constant_word, type_word}
 use Rattle.mon_syntax.specs.Trees.{MonExpression, Constant, Binary, Minus, Flip, Cast, Set, Assert, Return, PutChar, If, Loop, Labelled, MonStatements, MonRegister, MonFunction, plain_expr, plain_stmt, plain_stmts, plain_register, plain_func}
-use Rattle.mon_syntax.specs.Text.{Piece, Word, Mark, Registers, Quoted, blank, body_pieces, new_line, right_paren, statements_pieces, registers_pieces, more_parameters, function_pieces, functions_pieces, assert_arguments, call_pieces, expression_pieces, name_of, number_pieces, operator_mark, parameter_pieces, parameters_pieces, result_word, in_parens, semicolon, set_pieces, spelled, spelled_piece, statement_pieces}
+use Rattle.mon_syntax.specs.Text.{Piece, Word, Mark, escaped, is_plain, Registers, Quoted, blank, body_pieces, new_line, right_paren, statements_pieces, registers_pieces, more_parameters, function_pieces, functions_pieces, assert_arguments, call_pieces, expression_pieces, name_of, number_pieces, operator_mark, parameter_pieces, parameters_pieces, result_word, in_parens, semicolon, set_pieces, spelled, spelled_piece, statement_pieces}
 use Rattle.std.specs.Prelude.{Vec, Option, option_map}
 use Rattle.std.specs.declared.alloc.Global.{Global}
 use Rattle.mon_syntax.specs.declared.tree.MonStmt as code
@@ -25,11 +27,19 @@ pub spelled_append : (a b : List Piece) → spelled (a ++ b) ≡ spelled a ++ sp
 spelled_append [] b = refl
 spelled_append (p ∷ a) b = ap (λ l. spelled_piece p ++ l) (spelled_append a b) ∙ sym (append_assoc (spelled_piece p) (spelled a) (spelled b))
 
-abbrev text : Registers → MonExpression → List ℕ
+abbrev pub text : Registers → MonExpression → List ℕ
 text rs e = spelled (expression_pieces rs e)
 
 pub constant_text : (t : MonType) (z : ℤ) → text [] (Constant t z) ≡ constant_word t ++ (codes "(" ++ (spelled (number_pieces z) ++ codes ")"))
 constant_text t z = ap (λ l. constant_word t ++ (40 ∷ l)) (spelled_append (number_pieces z) _)
+
+-- an integer in decimal
+pub number_text : (z : ℤ) → spelled (number_pieces z) ≡ signed_decimal z
+number_text (pos n) = append-nil (decimal n)
+number_text (negsuc n) = ap (λ l. 45 ∷ l) (append-nil (decimal (suc n)))
+
+pub escaped_text : (b : ℕ) → is_plain b ≡ false → escaped b ≡ 92 ∷ (48 + b / 64) ∷ (48 + b / 8 % 8) ∷ (48 + b % 8) ∷ []
+escaped_text b other = ap (λ is. if is then b ∷ [] else 92 ∷ (48 + b / 64) ∷ (48 + b / 8 % 8) ∷ (48 + b % 8) ∷ []) other
 
 pub binary_text : (rs : Registers) (op : MonOp) (t : MonType) (a b : MonExpression) → text rs (Binary op t a b) ≡ codes "(" ++ (text rs a ++ (codes " " ++ (operator_mark op ++ (codes " " ++ (text rs b ++ codes ")")))))
 binary_text rs op t a b =
@@ -78,8 +88,11 @@ return_text rs e = ap (λ l. codes "return " ++ l) (spelled_append (expression_p
 pub at_return : (rs : Registers) (value : Option MonExpr) (e : MonExpr) → value ≡ Some e → spelled (statement_pieces rs 0 (Return (option_map plain_expr value))) ≡ codes "return " ++ (text rs (plain_expr e) ++ codes ";")
 at_return rs value e same = ap (λ v. spelled (statement_pieces rs 0 (Return (option_map plain_expr v)))) same ∙ return_text rs (plain_expr e)
 
-pub put_text : (rs : Registers) (r : ℕ) (e : MonExpression) → spelled (statement_pieces rs 0 (PutChar (Some r) e)) ≡ spelled (set_pieces (name_of rs r)) ++ spelled (call_pieces (codes "putchar") (expression_pieces rs e))
+put_text : (rs : Registers) (r : ℕ) (e : MonExpression) → spelled (statement_pieces rs 0 (PutChar (Some r) e)) ≡ spelled (set_pieces (name_of rs r)) ++ spelled (call_pieces (codes "putchar") (expression_pieces rs e))
 put_text rs r e = spelled_append (set_pieces (name_of rs r)) (call_pieces (codes "putchar") (expression_pieces rs e))
+
+pub at_put : (rs : Registers) (o : Option ℕ) (r : ℕ) (e : MonExpression) → o ≡ Some r → spelled (statement_pieces rs 0 (PutChar o e)) ≡ spelled (set_pieces (name_of rs r)) ++ spelled (call_pieces (codes "putchar") (expression_pieces rs e))
+at_put rs o r e same = ap (λ x. spelled (statement_pieces rs 0 (PutChar x e))) same ∙ put_text rs r e
 
 in_parens_text : (inner behind : List Piece) → spelled ((inner ++ (right_paren ∷ [])) ++ behind) ≡ spelled inner ++ (41 ∷ spelled behind)
 in_parens_text inner behind =
@@ -114,9 +127,13 @@ pub body_text : (rs : Registers) (depth : ℕ) (l : List MonStmt) → 0 < length
 body_text rs depth [] some = absurd (omega (arith, some))
 body_text rs depth (s ∷ rest) some = body_cons_text rs depth s rest
 
+pub no_body_text : (rs : Registers) (depth : ℕ) (l : List MonStmt) → length l ≡ 0 → spelled (body_pieces rs depth (plain_stmts l)) ≡ codes "{ }"
+no_body_text rs depth [] none = refl
+no_body_text rs depth (s ∷ rest) none = absurd (omega (arith, none))
+
 -- ---- the text of a statement that is known
 
-abbrev statement_text : Registers → ℕ → MonStmt → List ℕ
+abbrev pub statement_text : Registers → ℕ → MonStmt → List ℕ
 statement_text rs depth s = spelled (statement_pieces rs depth (plain_stmt s))
 
 abbrev body_of : Registers → ℕ → Vec MonStmt Global → List ℕ
@@ -125,17 +142,36 @@ body_of rs depth a = spelled (body_pieces rs depth (plain_stmts a.items))
 abbrev lines_of : Registers → ℕ → Vec MonStmt Global → List ℕ
 lines_of rs depth a = spelled (statements_pieces rs depth (plain_stmts a.items))
 
-pub at_if : (rs : Registers) (depth : ℕ) (s : MonStmt) (e : MonExpr) (a b : Vec MonStmt Global) → s ≡ code.If e a b → statement_text rs depth s ≡ codes "if (" ++ (text rs (plain_expr e) ++ (codes ") " ++ (body_of rs depth a ++ (codes " else " ++ body_of rs depth b))))
+-- the first two arguments of an assertion
+abbrev start_text : Registers → MonExpression → MonExpression → List ℕ
+start_text rs d v = codes "__e_acsl_assert(" ++ (text rs d ++ (codes ", " ++ (text rs v ++ codes ", ")))
+
+pub at_assert : (rs : Registers) (depth : ℕ) (s : MonStmt) (d v : MonExpr) (number line : ℕ) (kind : Kind) → s ≡ code.Assert d v number line kind → statement_text rs depth s ≡ start_text rs (plain_expr d) (plain_expr v) ++ end_text number line kind
+at_assert rs depth s d v number line kind same =
+    ap (λ x. statement_text rs depth x) same ∙ assertion_text rs (plain_expr d) (plain_expr v) number line kind ∙ regrouped
+  where
+    regrouped : codes "__e_acsl_assert(" ++ (text rs (plain_expr d) ++ (codes ", " ++ (text rs (plain_expr v) ++ (codes ", " ++ end_text number line kind)))) ≡ start_text rs (plain_expr d) (plain_expr v) ++ end_text number line kind
+    regrouped = simp append_assoc
+
+-- a body around it changes nothing
+pub return_anywhere : (rs : Registers) (depth : ℕ) (value : Option MonExpression) → spelled (statement_pieces rs depth (Return value)) ≡ spelled (statement_pieces rs 0 (Return value))
+return_anywhere rs depth None = refl
+return_anywhere rs depth (Some e) = refl
+
+pub at_if : (rs : Registers) (depth : ℕ) (s : MonStmt) (e : MonExpr) (a b : Vec MonStmt Global) → s ≡ code.If e a b → statement_text rs depth s ≡ (codes "if (" ++ (text rs (plain_expr e) ++ codes ") ")) ++ (body_of rs depth a ++ (codes " else " ++ body_of rs depth b))
 at_if rs depth s e a b same =
     ap (λ x. statement_text rs depth x) same
     ∙ ap (λ x. spelled (statement_pieces rs depth x)) (if_is e a b)
     ∙ if_text rs depth (plain_expr e) (plain_stmts a.items) (plain_stmts b.items)
+    ∙ ap (λ l. codes "if (" ++ l) (sym (append_assoc (text rs (plain_expr e)) (codes ") ") (body_of rs depth a ++ (codes " else " ++ body_of rs depth b))))
 
-pub at_loop : (rs : Registers) (depth : ℕ) (s : MonStmt) (a b : Vec MonStmt Global) → s ≡ code.Loop a b → statement_text rs depth s ≡ codes "while (1) {" ++ (lines_of rs (depth + 1) a ++ (spelled_piece (new_line (depth + 1)) ++ (codes "__e_acsl_step();" ++ (lines_of rs (depth + 1) b ++ (spelled_piece (new_line depth) ++ codes "}")))))
+pub at_loop : (rs : Registers) (depth : ℕ) (s : MonStmt) (a b : Vec MonStmt Global) → s ≡ code.Loop a b → statement_text rs depth s ≡ codes "while (1) {" ++ (lines_of rs (depth + 1) a ++ ((spelled_piece (new_line (depth + 1)) ++ codes "__e_acsl_step();") ++ (lines_of rs (depth + 1) b ++ (spelled_piece (new_line depth) ++ codes "}"))))
 at_loop rs depth s a b same =
+    let step = append_assoc (spelled_piece (new_line (depth + 1))) (codes "__e_acsl_step();") (lines_of rs (depth + 1) b ++ (spelled_piece (new_line depth) ++ codes "}")) in
     ap (λ x. statement_text rs depth x) same
     ∙ ap (λ x. spelled (statement_pieces rs depth x)) (loop_is a b)
     ∙ loop_text rs depth (plain_stmts a.items) (plain_stmts b.items)
+    ∙ ap (λ l. codes "while (1) {" ++ (lines_of rs (depth + 1) a ++ l)) (sym step)
 
 pub at_labelled : (rs : Registers) (depth : ℕ) (s : MonStmt) (a : Vec MonStmt Global) (label : List ℕ) → s ≡ code.Labelled a label → statement_text rs depth s ≡ body_of rs depth a ++ (codes " " ++ (label ++ codes ": ;"))
 at_labelled rs depth s a label same =
@@ -152,14 +188,25 @@ statements_each rs depth s rest =
 
 -- ---- functions
 
-pub parameters_text : (r : Register) (rest : List Register) → spelled (parameters_pieces (map plain_register (r ∷ rest))) ≡ spelled (parameter_pieces (plain_register r)) ++ spelled (more_parameters (map plain_register rest))
-parameters_text r rest = spelled_append (parameter_pieces (plain_register r)) (more_parameters (map plain_register rest))
+pub no_parameters_text : (l : List Register) → length l < 1 → spelled (parameters_pieces (map plain_register l)) ≡ codes "void"
+no_parameters_text [] none = refl
+no_parameters_text (r ∷ rest) none = absurd (omega (arith, none))
+
+-- the first parameter and the others
+pub parameters_text : (l : List Register) (first : Register) → 1 ≤ length l → first ≡ get_or l 0 first → spelled (parameters_pieces (map plain_register l)) ≡ spelled (parameter_pieces (plain_register first)) ++ spelled (more_parameters (map plain_register (take (length l - 1) (drop 1 l))))
+parameters_text [] first some same = absurd (omega (arith, some))
+parameters_text (r ∷ rest) first some same =
+    let count : length (r ∷ rest) - 1 ≡ length rest = omega arith in
+    let others : take (length (r ∷ rest) - 1) rest ≡ rest = ap (λ n. take n rest) count ∙ take-length rest in
+    spelled_append (parameter_pieces (plain_register r)) (more_parameters (map plain_register rest))
+    ∙ ap (λ x. spelled (parameter_pieces (plain_register x)) ++ spelled (more_parameters (map plain_register rest))) (sym same)
+    ∙ ap (λ x. spelled (parameter_pieces (plain_register first)) ++ spelled (more_parameters (map plain_register x))) (sym others)
 
 pub head_text : (f : MonFunction) → spelled (head_pieces f) ≡ result_word f.result ++ (codes " " ++ (f.name ++ (codes "(" ++ (spelled (parameters_pieces f.parameters) ++ (codes ") {" ++ spelled (registers_pieces f.registers))))))
 head_text f =
     ap (λ l. result_word f.result ++ (32 ∷ (f.name ++ (40 ∷ l)))) (in_parens_text (parameters_pieces f.parameters) (blank ∷ Mark (codes "{") ∷ registers_pieces f.registers))
 
-pub function_text : (f : MonFunction) → spelled (function_pieces f) ≡ spelled (head_pieces f) ++ (spelled (statements_pieces (f.parameters ++ f.registers) 1 f.body) ++ (spelled_piece (new_line 0) ++ (codes "}" ++ spelled_piece (new_line 0))))
+pub function_text : (f : MonFunction) → spelled (function_pieces f) ≡ spelled (head_pieces f) ++ (spelled (statements_pieces (f.parameters ++ f.registers) 1 f.body) ++ ((spelled_piece (new_line 0) ++ codes "}") ++ spelled_piece (new_line 0)))
 function_text f =
     let end : List Piece = new_line 0 ∷ Mark (codes "}") ∷ new_line 0 ∷ [] in
     let code : List Piece = statements_pieces (f.parameters ++ f.registers) 1 f.body in

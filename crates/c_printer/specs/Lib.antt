@@ -1,3 +1,4 @@
 pub mod Registers
 pub mod Heads
+pub mod Depths
 pub mod Printing

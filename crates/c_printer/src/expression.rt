@@ -1,14 +1,16 @@
 //! Expressions.
 
-ghost use Rattle.std.specs.Prelude.{◌≡◌, [], ◌++◌, OnOk};
+ghost use Rattle.std.specs.Prelude.{◌≡◌, []};
 ghost use Rattle.mon_syntax.specs.Trees.{Constant, plain_expr};
 ghost use Rattle.mon_syntax.specs.Text.{expression_pieces, name_of, spelled};
+ghost use Rattle.c_printer.specs.Printing.{Printed, pipe_of};
 ghost use Rattle.c_printer.specs.Registers.{registers_of};
 
 use crate::strings::signed_number;
 use crate::words::{constant_word, operator_mark, type_word};
+use crate::writer::Writer;
+use ea_ports::Sink;
 use mon_syntax::{MonExpr, MonType, Register};
-use std::alloc::AllocError;
 
 /// The registers of a function, of which the parameters have the first numbers.
 #[derive(Clone, Copy)]
@@ -32,53 +34,47 @@ pub fn name<'a>(named: &Named<'a>, r: u32) -> &'a [u8]
 }
 
 // `I32(-1)`
-#[tactic(auto, using(crate::proofs::Texts::constant_text))]
-fn constant(t: MonType, z: i128, to: &mut Vec<u8>) -> Result<(), AllocError>
-    ensures { OnOk result (to.new.items ≡ to.old.items ++ spelled (expression_pieces [] (Constant t z))) }
+fn constant<O: Sink>(t: MonType, z: i128, to: &mut Writer, out: &mut O)
+    ensures { Printed (pipe_of (O.told out.old) to.old (O.faults out.old)) (pipe_of (O.told out.new) to.new (O.faults out.new)) (spelled (expression_pieces [] (Constant t z))) }
 {
-    to.extend_from_slice(constant_word(t).as_bytes())?;
-    to.push(b'(')?;
-    signed_number(z, to)?;
-    to.push(b')')?;
-    Ok(())
+    to.write(out, constant_word(t).as_bytes());
+    to.write(out, b"(");
+    signed_number(z, to, out);
+    to.write(out, b")");
 }
 
 /// An expression, in parentheses where it isn't a register or a constant.
-pub fn expression(e: &MonExpr, named: &Named<'_>, to: &mut Vec<u8>) -> Result<(), AllocError>
-    ensures { OnOk result (to.new.items ≡ to.old.items ++ spelled (expression_pieces (registers_of named.now) (plain_expr e.now))) }
+pub fn expression<O: Sink>(e: &MonExpr, named: &Named<'_>, to: &mut Writer, out: &mut O)
+    ensures { Printed (pipe_of (O.told out.old) to.old (O.faults out.old)) (pipe_of (O.told out.new) to.new (O.faults out.new)) (spelled (expression_pieces (registers_of named.now) (plain_expr e.now))) }
 {
     match e {
-        MonExpr::Register(r) => to.extend_from_slice(name(named, *r)),
-        MonExpr::Constant(t, z) => constant(*t, *z, to),
+        MonExpr::Register(r) => to.write(out, name(named, *r)),
+        MonExpr::Constant(t, z) => constant(*t, *z, to, out),
         MonExpr::Binary(op, _, a, b) => {
-            to.push(b'(')?;
-            expression(a, named, to)?;
-            to.push(b' ')?;
-            to.extend_from_slice(operator_mark(*op).as_bytes())?;
-            to.push(b' ')?;
-            expression(b, named, to)?;
-            to.push(b')')?;
-            Ok(())
+            to.write(out, b"(");
+            expression(a, named, to, out);
+            to.write(out, b" ");
+            to.write(out, operator_mark(*op).as_bytes());
+            to.write(out, b" ");
+            expression(b, named, to, out);
+            to.write(out, b")");
         }
         MonExpr::Minus(_, a) => {
-            to.extend_from_slice(b"(-")?;
-            expression(a, named, to)?;
-            to.push(b')')?;
-            Ok(())
+            to.write(out, b"(-");
+            expression(a, named, to, out);
+            to.write(out, b")");
         }
         MonExpr::Flip(_, a) => {
-            to.extend_from_slice(b"(~")?;
-            expression(a, named, to)?;
-            to.push(b')')?;
-            Ok(())
+            to.write(out, b"(~");
+            expression(a, named, to, out);
+            to.write(out, b")");
         }
         MonExpr::Cast(t, a) => {
-            to.extend_from_slice(b"((")?;
-            to.extend_from_slice(type_word(*t).as_bytes())?;
-            to.push(b')')?;
-            expression(a, named, to)?;
-            to.push(b')')?;
-            Ok(())
+            to.write(out, b"((");
+            to.write(out, type_word(*t).as_bytes());
+            to.write(out, b")");
+            expression(a, named, to, out);
+            to.write(out, b")");
         }
     }
 }

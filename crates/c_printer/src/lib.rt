@@ -3,12 +3,14 @@
 
 mod expression;
 mod function;
+mod line;
 mod program;
 mod statement;
 mod strings;
 #[cfg(test)]
 mod tests;
 mod words;
+mod writer;
 
 pub use program::print;
 pub use words::kind_word;

@@ -1,242 +1,233 @@
 //! Statements.
 
-ghost use Rattle.std.specs.Prelude.{◌≡◌, ◌+◌, ◌*◌, [], ◌++◌, replicate, option_map, IfOk, OnOk, codes};
+ghost use Rattle.std.specs.Prelude.{[], ◌++◌, option_map, codes};
 ghost use Rattle.std.specs.Fmt.{decimal};
 ghost use Rattle.c_model.specs.Reports.{kind_word};
-ghost use Rattle.mon_syntax.specs.Trees.{Assert, Goto, PrintText, PutChar, Return, Set, plain_expr, plain_stmt, plain_stmts};
+ghost use Rattle.mon_syntax.specs.Trees.{Goto, PrintText, PutChar, Return, Set, plain_expr, plain_stmt, plain_stmts};
 ghost use Rattle.mon_syntax.specs.Text.{Quoted, body_pieces, call_pieces, expression_pieces, name_of, new_line, set_pieces, spelled, spelled_piece, statement_pieces, statements_pieces};
+ghost use Rattle.c_printer.specs.Depths.{depth_of};
+ghost use Rattle.c_printer.specs.Printing.{Printed, pipe_of};
 ghost use Rattle.c_printer.specs.Registers.{registers_of};
 
 use crate::expression::{Named, expression, name};
+use crate::line::{Depth, closing, line};
 use crate::strings::{number, string};
 use crate::words::kind_word;
+use crate::writer::Writer;
 use c_syntax::Kind;
+use ea_ports::Sink;
 use mon_syntax::{MonExpr, MonStmt};
-use std::alloc::AllocError;
-
-// Two blanks for each body around a line.
-fn indent(depth: usize, to: &mut Vec<u8>) -> Result<(), AllocError>
-    ensures { OnOk result (to.new.items ≡ to.old.items ++ replicate (2 * depth) 32) }
-{
-    'bodies: for _i in 0..depth {
-        to.extend_from_slice(b"  ")?;
-    }
-    Ok(())
-}
-
-/// The end of a line, and the blanks in front of the next one.
-pub fn line(depth: usize, to: &mut Vec<u8>) -> Result<(), AllocError>
-    ensures { OnOk result (to.new.items ≡ to.old.items ++ spelled_piece (new_line depth)) }
-{
-    to.push(b'\n')?;
-    indent(depth, to)
-}
-
-// One body further in. No memory holds a tree of more bodies in one another than a `usize` counts.
-fn deeper(depth: usize) -> Result<usize, AllocError>
-    ensures { IfOk result (λ inner. inner ≡ depth + 1) }
-{
-    depth.checked_add(1).ok_or(AllocError)
-}
 
 // `R = `
-fn set(r: u32, named: &Named<'_>, to: &mut Vec<u8>) -> Result<(), AllocError>
-    ensures { OnOk result (to.new.items ≡ to.old.items ++ spelled (set_pieces (name_of (registers_of named.now) r))) }
+fn set<O: Sink>(r: u32, named: &Named<'_>, to: &mut Writer, out: &mut O)
+    ensures { Printed (pipe_of (O.told out.old) to.old (O.faults out.old)) (pipe_of (O.told out.new) to.new (O.faults out.new)) (spelled (set_pieces (name_of (registers_of named.now) r))) }
 {
-    to.extend_from_slice(name(named, r))?;
-    to.extend_from_slice(b" = ")
+    to.write(out, name(named, r));
+    to.write(out, b" = ");
 }
 
 // `R = e;`
-fn assignment(r: u32, e: &MonExpr, named: &Named<'_>, to: &mut Vec<u8>) -> Result<(), AllocError>
-    ensures { OnOk result (to.new.items ≡ to.old.items ++ spelled (statement_pieces (registers_of named.now) 0 (Set r (plain_expr e.now)))) }
+fn assignment<O: Sink>(r: u32, e: &MonExpr, named: &Named<'_>, to: &mut Writer, out: &mut O)
+    ensures { Printed (pipe_of (O.told out.old) to.old (O.faults out.old)) (pipe_of (O.told out.new) to.new (O.faults out.new)) (spelled (statement_pieces (registers_of named.now) 0 (Set r (plain_expr e.now)))) }
 {
-    set(r, named, to)?;
-    expression(e, named, to)?;
-    to.push(b';')?;
-    Ok(())
+    set(r, named, to, out);
+    expression(e, named, to, out);
+    to.write(out, b";");
 }
 
 // `NAME(e);`
-fn call(callee: &[u8], e: &MonExpr, named: &Named<'_>, to: &mut Vec<u8>) -> Result<(), AllocError>
-    ensures { OnOk result (to.new.items ≡ to.old.items ++ spelled (call_pieces callee.now (expression_pieces (registers_of named.now) (plain_expr e.now)))) }
+fn call<O: Sink>(callee: &[u8], e: &MonExpr, named: &Named<'_>, to: &mut Writer, out: &mut O)
+    ensures { Printed (pipe_of (O.told out.old) to.old (O.faults out.old)) (pipe_of (O.told out.new) to.new (O.faults out.new)) (spelled (call_pieces callee.now (expression_pieces (registers_of named.now) (plain_expr e.now)))) }
 {
-    to.extend_from_slice(callee)?;
-    to.push(b'(')?;
-    expression(e, named, to)?;
-    to.extend_from_slice(b");")
+    to.write(out, callee);
+    to.write(out, b"(");
+    expression(e, named, to, out);
+    to.write(out, b");");
 }
 
 // `putchar(e);`, or `R = putchar(e);`
-#[tactic(auto, using(crate::proofs::Texts::put_text))]
-fn put_char(
-    r: Option<u32>,
-    e: &MonExpr,
-    named: &Named<'_>,
-    to: &mut Vec<u8>,
-) -> Result<(), AllocError>
-    ensures { OnOk result (to.new.items ≡ to.old.items ++ spelled (statement_pieces (registers_of named.now) 0 (PutChar r (plain_expr e.now)))) }
+fn put_char<O: Sink>(r: Option<u32>, e: &MonExpr, named: &Named<'_>, to: &mut Writer, out: &mut O)
+    ensures { Printed (pipe_of (O.told out.old) to.old (O.faults out.old)) (pipe_of (O.told out.new) to.new (O.faults out.new)) (spelled (statement_pieces (registers_of named.now) 0 (PutChar r (plain_expr e.now)))) }
 {
     match r {
-        None => call(b"putchar", e, named, to),
+        None => call(b"putchar", e, named, to, out),
         Some(r) => {
-            set(r, named, to)?;
-            call(b"putchar", e, named, to)
+            set(r, named, to, out);
+            call(b"putchar", e, named, to, out);
         }
     }
 }
 
-// A number, a line and a kind, the last arguments of an assertion.
-fn assertion_end(annotation: u32, line: u32, kind: Kind, to: &mut Vec<u8>) -> Result<(), AllocError>
-    ensures { OnOk result (to.new.items ≡ to.old.items ++ (decimal annotation ++ (codes ", " ++ (decimal line ++ (codes ", " ++ spelled_piece (Quoted (kind_word kind)) ++ codes ");"))))) }
-{
-    number(annotation, to)?;
-    to.extend_from_slice(b", ")?;
-    number(line, to)?;
-    to.extend_from_slice(b", ")?;
-    string(kind_word(kind).as_bytes(), to)?;
-    to.extend_from_slice(b");")
-}
-
-// `__e_acsl_assert(d, v, A, L, "kind");`
-fn assertion(
+// `__e_acsl_assert(d, v, `
+fn assertion_start<O: Sink>(
     d: &MonExpr,
     v: &MonExpr,
-    number: u32,
-    line: u32,
-    kind: Kind,
     named: &Named<'_>,
-    to: &mut Vec<u8>,
-) -> Result<(), AllocError>
-    ensures { OnOk result (to.new.items ≡ to.old.items ++ spelled (statement_pieces (registers_of named.now) 0 (Assert (plain_expr d.now) (plain_expr v.now) number line kind))) }
+    to: &mut Writer,
+    out: &mut O,
+)
+    ensures { Printed (pipe_of (O.told out.old) to.old (O.faults out.old)) (pipe_of (O.told out.new) to.new (O.faults out.new)) (codes "__e_acsl_assert(" ++ (spelled (expression_pieces (registers_of named.now) (plain_expr d.now)) ++ (codes ", " ++ (spelled (expression_pieces (registers_of named.now) (plain_expr v.now)) ++ codes ", ")))) }
 {
-    to.extend_from_slice(b"__e_acsl_assert(")?;
-    expression(d, named, to)?;
-    to.extend_from_slice(b", ")?;
-    expression(v, named, to)?;
-    to.extend_from_slice(b", ")?;
-    assertion_end(number, line, kind, to)
+    to.write(out, b"__e_acsl_assert(");
+    expression(d, named, to, out);
+    to.write(out, b", ");
+    expression(v, named, to, out);
+    to.write(out, b", ");
+}
+
+// `A, L, "kind");`
+fn assertion_end<O: Sink>(annotation: u32, line: u32, kind: Kind, to: &mut Writer, out: &mut O)
+    ensures { Printed (pipe_of (O.told out.old) to.old (O.faults out.old)) (pipe_of (O.told out.new) to.new (O.faults out.new)) (decimal annotation ++ (codes ", " ++ (decimal line ++ (codes ", " ++ (spelled_piece (Quoted (kind_word kind)) ++ codes ");"))))) }
+{
+    number(annotation, to, out);
+    to.write(out, b", ");
+    number(line, to, out);
+    to.write(out, b", ");
+    string(kind_word(kind).as_bytes(), to, out);
+    to.write(out, b");");
 }
 
 // `__e_acsl_print_text("..");`
-fn print_text(bytes: &[u8], to: &mut Vec<u8>) -> Result<(), AllocError>
-    ensures { OnOk result (to.new.items ≡ to.old.items ++ spelled (statement_pieces [] 0 (PrintText bytes.now))) }
+fn print_text<O: Sink>(bytes: &[u8], to: &mut Writer, out: &mut O)
+    ensures { Printed (pipe_of (O.told out.old) to.old (O.faults out.old)) (pipe_of (O.told out.new) to.new (O.faults out.new)) (spelled (statement_pieces [] 0 (PrintText bytes.now))) }
 {
-    to.extend_from_slice(b"__e_acsl_print_text(")?;
-    string(bytes, to)?;
-    to.extend_from_slice(b");")
+    to.write(out, b"__e_acsl_print_text(");
+    string(bytes, to, out);
+    to.write(out, b");");
+}
+
+// ` LABEL: ;`
+fn label_end<O: Sink>(label: &[u8], to: &mut Writer, out: &mut O)
+    ensures { Printed (pipe_of (O.told out.old) to.old (O.faults out.old)) (pipe_of (O.told out.new) to.new (O.faults out.new)) (codes " " ++ (label.now ++ codes ": ;")) }
+{
+    to.write(out, b" ");
+    to.write(out, label);
+    to.write(out, b": ;");
 }
 
 // `goto LABEL;`
-fn goto(label: &[u8], to: &mut Vec<u8>) -> Result<(), AllocError>
-    ensures { OnOk result (to.new.items ≡ to.old.items ++ spelled (statement_pieces [] 0 (Goto label.now))) }
+fn goto<O: Sink>(label: &[u8], to: &mut Writer, out: &mut O)
+    ensures { Printed (pipe_of (O.told out.old) to.old (O.faults out.old)) (pipe_of (O.told out.new) to.new (O.faults out.new)) (spelled (statement_pieces [] 0 (Goto label.now))) }
 {
-    to.extend_from_slice(b"goto ")?;
-    to.extend_from_slice(label)?;
-    to.push(b';')?;
-    Ok(())
+    to.write(out, b"goto ");
+    to.write(out, label);
+    to.write(out, b";");
 }
 
 // `return e;`, or `return;`
-fn give_back(value: &Option<MonExpr>, named: &Named<'_>, to: &mut Vec<u8>) -> Result<(), AllocError>
-    ensures { OnOk result (to.new.items ≡ to.old.items ++ spelled (statement_pieces (registers_of named.now) 0 (Return (option_map plain_expr value.now)))) }
+fn give_back<O: Sink>(value: &Option<MonExpr>, named: &Named<'_>, to: &mut Writer, out: &mut O)
+    ensures { Printed (pipe_of (O.told out.old) to.old (O.faults out.old)) (pipe_of (O.told out.new) to.new (O.faults out.new)) (spelled (statement_pieces (registers_of named.now) 0 (Return (option_map plain_expr value.now)))) }
 {
     match value {
-        None => to.extend_from_slice(b"return;"),
+        None => to.write(out, b"return;"),
         Some(e) => {
-            to.extend_from_slice(b"return ")?;
-            expression(e, named, to)?;
-            to.push(b';')?;
-            Ok(())
+            to.write(out, b"return ");
+            expression(e, named, to, out);
+            to.write(out, b";");
         }
     }
+}
+
+// `if (e) `
+fn condition<O: Sink>(e: &MonExpr, named: &Named<'_>, to: &mut Writer, out: &mut O)
+    ensures { Printed (pipe_of (O.told out.old) to.old (O.faults out.old)) (pipe_of (O.told out.new) to.new (O.faults out.new)) (codes "if (" ++ (spelled (expression_pieces (registers_of named.now) (plain_expr e.now)) ++ codes ") ")) }
+{
+    to.write(out, b"if (");
+    expression(e, named, to, out);
+    to.write(out, b") ");
+}
+
+// The step of a loop, on a line of its own.
+fn step_line<O: Sink>(depth: &Depth<'_>, to: &mut Writer, out: &mut O)
+    ensures { Printed (pipe_of (O.told out.old) to.old (O.faults out.old)) (pipe_of (O.told out.new) to.new (O.faults out.new)) (spelled_piece (new_line (depth_of depth.now)) ++ codes "__e_acsl_step();") }
+{
+    line(depth, to, out);
+    to.write(out, b"__e_acsl_step();");
 }
 
 // Statements in braces.
 #[cycle(statement)]
-fn body(
+fn body<O: Sink>(
     stmts: &[MonStmt],
-    depth: usize,
+    depth: &Depth<'_>,
     named: &Named<'_>,
-    to: &mut Vec<u8>,
-) -> Result<(), AllocError>
-    ensures { OnOk result (to.new.items ≡ to.old.items ++ spelled (body_pieces (registers_of named.now) depth (plain_stmts stmts.now))) }
+    to: &mut Writer,
+    out: &mut O,
+)
+    ensures { Printed (pipe_of (O.told out.old) to.old (O.faults out.old)) (pipe_of (O.told out.new) to.new (O.faults out.new)) (spelled (body_pieces (registers_of named.now) (depth_of depth.now) (plain_stmts stmts.now))) }
 {
     if stmts.is_empty() {
-        return to.extend_from_slice(b"{ }");
+        to.write(out, b"{ }");
+    } else {
+        let inner = Depth::Inside(&*depth);
+        to.write(out, b"{");
+        statements(stmts, &inner, named, to, out);
+        closing(depth, to, out);
     }
-    let inner = deeper(depth)?;
-    to.push(b'{')?;
-    statements(stmts, inner, named, to)?;
-    line(depth, to)?;
-    to.push(b'}')?;
-    Ok(())
 }
 
 /// Statements, each on a line of its own.
 #[cycle(statement)]
-pub fn statements(
+pub fn statements<O: Sink>(
     stmts: &[MonStmt],
-    depth: usize,
+    depth: &Depth<'_>,
     named: &Named<'_>,
-    to: &mut Vec<u8>,
-) -> Result<(), AllocError>
-    ensures { OnOk result (to.new.items ≡ to.old.items ++ spelled (statements_pieces (registers_of named.now) depth (plain_stmts stmts.now))) }
+    to: &mut Writer,
+    out: &mut O,
+)
+    ensures { Printed (pipe_of (O.told out.old) to.old (O.faults out.old)) (pipe_of (O.told out.new) to.new (O.faults out.new)) (spelled (statements_pieces (registers_of named.now) (depth_of depth.now) (plain_stmts stmts.now))) }
 {
     'stmts: for s in stmts {
-        line(depth, to)?;
-        statement(s, depth, named, to)?;
+        if to.is_shut() {
+            return;
+        }
+        line(depth, to, out);
+        statement(s, depth, named, to, out);
     }
-    Ok(())
 }
 
 // A statement.
 #[cycle(statement)]
-fn statement(
+fn statement<O: Sink>(
     s: &MonStmt,
-    depth: usize,
+    depth: &Depth<'_>,
     named: &Named<'_>,
-    to: &mut Vec<u8>,
-) -> Result<(), AllocError>
-    ensures { OnOk result (to.new.items ≡ to.old.items ++ spelled (statement_pieces (registers_of named.now) depth (plain_stmt s.now))) }
+    to: &mut Writer,
+    out: &mut O,
+)
+    ensures { Printed (pipe_of (O.told out.old) to.old (O.faults out.old)) (pipe_of (O.told out.new) to.new (O.faults out.new)) (spelled (statement_pieces (registers_of named.now) (depth_of depth.now) (plain_stmt s.now))) }
 {
     match s {
-        MonStmt::Set(r, e) => assignment(*r, e, named, to),
-        MonStmt::Step => to.extend_from_slice(b"__e_acsl_step();"),
+        MonStmt::Set(r, e) => assignment(*r, e, named, to, out),
+        MonStmt::Step => to.write(out, b"__e_acsl_step();"),
         MonStmt::Assert(d, v, number, line, kind) => {
-            assertion(d, v, *number, *line, *kind, named, to)
+            assertion_start(d, v, named, to, out);
+            assertion_end(*number, *line, *kind, to, out);
         }
-        MonStmt::PutChar(r, e) => put_char(*r, e, named, to),
-        MonStmt::Exit(e) => call(b"exit", e, named, to),
-        MonStmt::PrintText(bytes) => print_text(bytes.bytes(), to),
-        MonStmt::PrintSigned(e) => call(b"__e_acsl_print_i64", e, named, to),
-        MonStmt::PrintUnsigned(e) => call(b"__e_acsl_print_u64", e, named, to),
+        MonStmt::PutChar(r, e) => put_char(*r, e, named, to, out),
+        MonStmt::Exit(e) => call(b"exit", e, named, to, out),
+        MonStmt::PrintText(bytes) => print_text(bytes.bytes(), to, out),
+        MonStmt::PrintSigned(e) => call(b"__e_acsl_print_i64", e, named, to, out),
+        MonStmt::PrintUnsigned(e) => call(b"__e_acsl_print_u64", e, named, to, out),
         MonStmt::If(e, a, b) => {
-            to.extend_from_slice(b"if (")?;
-            expression(e, named, to)?;
-            to.extend_from_slice(b") ")?;
-            body(a, depth, named, to)?;
-            to.extend_from_slice(b" else ")?;
-            body(b, depth, named, to)
+            condition(e, named, to, out);
+            body(a, depth, named, to, out);
+            to.write(out, b" else ");
+            body(b, depth, named, to, out);
         }
         MonStmt::Loop(a, b) => {
-            let inner = deeper(depth)?;
-            to.extend_from_slice(b"while (1) {")?;
-            statements(a, inner, named, to)?;
-            line(inner, to)?;
-            to.extend_from_slice(b"__e_acsl_step();")?;
-            statements(b, inner, named, to)?;
-            line(depth, to)?;
-            to.push(b'}')?;
-            Ok(())
+            let inner = Depth::Inside(&*depth);
+            to.write(out, b"while (1) {");
+            statements(a, &inner, named, to, out);
+            step_line(&inner, to, out);
+            statements(b, &inner, named, to, out);
+            closing(depth, to, out);
         }
         MonStmt::Labelled(a, label) => {
-            body(a, depth, named, to)?;
-            to.push(b' ')?;
-            to.extend_from_slice(label.bytes())?;
-            to.extend_from_slice(b": ;")
+            body(a, depth, named, to, out);
+            label_end(label.bytes(), to, out);
         }
-        MonStmt::Goto(label) => goto(label.bytes(), to),
-        MonStmt::Return(value) => give_back(value, named, to),
+        MonStmt::Goto(label) => goto(label.bytes(), to, out),
+        MonStmt::Return(value) => give_back(value, named, to, out),
     }
 }

@@ -1,10 +1,12 @@
 //! Strings and numbers.
 
-ghost use Rattle.std.specs.Prelude.{◌≡◌, ◌++◌, OnOk};
+ghost use Rattle.std.specs.Prelude.{◌≡◌};
 ghost use Rattle.std.specs.Fmt.{decimal};
 ghost use Rattle.mon_syntax.specs.Text.{escaped, is_plain, number_pieces, Quoted, spelled, spelled_piece};
+ghost use Rattle.c_printer.specs.Printing.{Printed, pipe_of};
 
-use std::alloc::AllocError;
+use crate::writer::Writer;
+use ea_ports::Sink;
 
 // Whether a byte stands for itself in a string.
 fn is_plain(byte: u8) -> bool
@@ -14,42 +16,39 @@ fn is_plain(byte: u8) -> bool
 }
 
 // A byte of a string: itself, or its three octal digits.
-fn string_byte(byte: u8, to: &mut Vec<u8>) -> Result<(), AllocError>
-    ensures { OnOk result (to.new.items ≡ to.old.items ++ escaped byte) }
+fn string_byte<O: Sink>(byte: u8, to: &mut Writer, out: &mut O)
+    ensures { Printed (pipe_of (O.told out.old) to.old (O.faults out.old)) (pipe_of (O.told out.new) to.new (O.faults out.new)) (escaped byte) }
 {
     if is_plain(byte) {
-        to.push(byte)?;
-        return Ok(());
+        to.write(out, &[byte]);
+    } else {
+        let digits = [b'0' + byte / 64, b'0' + byte / 8 % 8, b'0' + byte % 8];
+        to.write(out, b"\\");
+        to.write(out, &digits);
     }
-    to.push(b'\\')?;
-    to.push(b'0' + byte / 64)?;
-    to.push(b'0' + byte / 8 % 8)?;
-    to.push(b'0' + byte % 8)?;
-    Ok(())
 }
 
 /// A string with these bytes, in its quotes.
-pub fn string(bytes: &[u8], to: &mut Vec<u8>) -> Result<(), AllocError>
-    ensures { OnOk result (to.new.items ≡ to.old.items ++ spelled_piece (Quoted bytes.now)) }
+pub fn string<O: Sink>(bytes: &[u8], to: &mut Writer, out: &mut O)
+    ensures { Printed (pipe_of (O.told out.old) to.old (O.faults out.old)) (pipe_of (O.told out.new) to.new (O.faults out.new)) (spelled_piece (Quoted bytes.now)) }
 {
-    to.push(b'"')?;
+    to.write(out, b"\"");
     'bytes: for byte in bytes {
-        string_byte(*byte, to)?;
+        string_byte(*byte, to, out);
     }
-    to.push(b'"')?;
-    Ok(())
+    to.write(out, b"\"");
 }
 
 /// A number in decimal.
-pub fn number(n: u32, to: &mut Vec<u8>) -> Result<(), AllocError>
-    ensures { OnOk result (to.new.items ≡ to.old.items ++ decimal n) }
+pub fn number<O: Sink>(n: u32, to: &mut Writer, out: &mut O)
+    ensures { Printed (pipe_of (O.told out.old) to.old (O.faults out.old)) (pipe_of (O.told out.new) to.new (O.faults out.new)) (decimal n) }
 {
-    to.extend_from_slice(itoa::Buffer::new().format(n).as_bytes())
+    to.write(out, itoa::Buffer::new().format(n).as_bytes());
 }
 
 /// A number in decimal, behind a `-` where it is below 0.
-pub fn signed_number(z: i128, to: &mut Vec<u8>) -> Result<(), AllocError>
-    ensures { OnOk result (to.new.items ≡ to.old.items ++ spelled (number_pieces z)) }
+pub fn signed_number<O: Sink>(z: i128, to: &mut Writer, out: &mut O)
+    ensures { Printed (pipe_of (O.told out.old) to.old (O.faults out.old)) (pipe_of (O.told out.new) to.new (O.faults out.new)) (spelled (number_pieces z)) }
 {
-    to.extend_from_slice(itoa::Buffer::new().format(z).as_bytes())
+    to.write(out, itoa::Buffer::new().format(z).as_bytes());
 }

@@ -73,10 +73,28 @@ fn statements(alloc: Global) -> Result<MonProgram, AllocError> {
     })
 }
 
+/// `void f(void)`, with that many steps.
+fn steps(alloc: Global, count: usize) -> Result<MonProgram, AllocError> {
+    let mut body = Vec::new(alloc);
+    for _step in 0..count {
+        body.push(MonStmt::Step)?;
+    }
+    let f = MonFunc {
+        result: None,
+        name: name(alloc, b"f")?,
+        parameters: Vec::new(alloc),
+        registers: Vec::new(alloc),
+        body,
+    };
+    Ok(MonProgram {
+        functions: one(alloc, f)?,
+    })
+}
+
 /// Prints a program, and compares what the sink got.
 fn prints(rt: &(impl Abort + AllocGlobal), m: &MonProgram, text: &[u8]) {
     let mut out = MemSink::new(rt.alloc(), Vec::new(rt.alloc()));
-    assert_eq!(rt; print(rt.alloc(), m, &mut out), Ok(()));
+    assert_eq!(rt; print(m, &mut out), Ok(()));
     assert_eq!(rt; out.bytes(), text);
 }
 
@@ -104,7 +122,21 @@ fn each_statement_stands_on_a_line(rt: HostRuntime) -> Result<(), AllocError> {
 fn a_sink_that_fails_gets_nothing_more(rt: HostRuntime) -> Result<(), AllocError> {
     let mut out = MemSink::new(rt.alloc(), one(rt.alloc(), 1)?);
     let m = expressions(rt.alloc())?;
-    assert_eq!(rt; print(rt.alloc(), &m, &mut out), Err(SinkFault::Failed));
+    assert_eq!(rt; print(&m, &mut out), Err(SinkFault::Failed));
     assert_eq!(rt; out.bytes(), b"".as_slice());
+    Ok(())
+}
+
+#[test]
+fn a_sink_that_fails_later_has_the_pieces_before(rt: HostRuntime) -> Result<(), AllocError> {
+    let mut out = MemSink::new(rt.alloc(), one(rt.alloc(), 2)?);
+    let m = steps(rt.alloc(), 300)?;
+    assert_eq!(rt; print(&m, &mut out), Err(SinkFault::Failed));
+    let mut piece = Vec::from_slice(rt.alloc(), b"#include <e_acsl.h>\nvoid f(void) {")?;
+    for _step in 0..300 {
+        piece.extend_from_slice(b"\n  __e_acsl_step();")?;
+    }
+    piece.truncate(4096);
+    assert_eq!(rt; out.bytes(), piece.as_slice());
     Ok(())
 }

@@ -145,7 +145,7 @@ pub fn instrument_text<O: Sink, E: Sink>(alloc: Global, text: &[u8], out: &mut O
         Err(FrontFault::Refused(refusal)) => return refuse(alloc, &refusal, err),
         Err(FrontFault::Memory) => return out_of_memory(err),
     };
-    match print(alloc, &m, out) {
+    match print(&m, out) {
         Ok(()) => 0,
         Err(SinkFault::Failed) => 8,
         Err(SinkFault::Memory) => out_of_memory(err),

@@ -1,7 +1,13 @@
-use Rattle.std.proofs.Common.{◌≡◌, ◌++◌, drop, map}
+use Rattle.std.proofs.Common.{drop, map}
 use Rattle.mon_syntax.specs.Trees.{plain_func}
-use Rattle.mon_syntax.specs.Text.{spelled, functions_pieces}
+use Rattle.mon_syntax.specs.Text.{functions_pieces, spelled}
+use Rattle.c_printer.specs.Printing.{pipe_of}
+use Rattle.c_printer.proofs.Written.{UpTo}
 use Rattle.c_printer.proofs.function.functions.Given as goal
 
+-- what stands before the index is written
 abbrev pub invariant-list : goal.invariant-list
-invariant-list l = l.to.items ++ spelled (functions_pieces (map plain_func (drop l.f-index l.list))) ≡ l.initial.to.items ++ spelled (functions_pieces (map plain_func l.list))
+invariant-list g l =
+    UpTo (pipe_of (g.O.Sink.told l.initial.out) l.initial.to (g.O.Sink.faults l.initial.out)) (pipe_of (g.O.Sink.told l.out) l.to (g.O.Sink.faults l.out))
+    (spelled (functions_pieces (map plain_func (drop l.f-index l.list))))
+    (spelled (functions_pieces (map plain_func l.list)))

@@ -1,14 +1,13 @@
-use Rattle.std.proofs.Common.{append_assoc}
 use Rattle.mon_syntax.specs.Trees.{plain_func}
-use Rattle.c_printer.proofs.Behind.{shown, last}
+use Rattle.c_printer.proofs.Written.{then, shown}
 use Rattle.c_printer.proofs.Texts.{head_text}
 use Rattle.c_printer.proofs.function.head.Goals as goal
 
 pub returns : goal.returns
-returns c =
-    let word = rw (c.as_bytes.ensures.value, c.result_word.ensures) at c.in_ok-extend_from_slice.ensures.items in
-    let name = rw c.bytes.ensures at c.in_ok-extend_from_slice-2.ensures.items in
-    let parameters = rw c.deref.ensures.value at c.in_ok-parameters.ensures in
-    last c.registers.result (rw c.deref-2.ensures.value at c.registers.ensures) (λ end.
-    shown c.args.to.now.items (head_text (plain_func c.args.f.now))
-    (rw (end, c.in_ok-extend_from_slice-3.ensures.items, parameters, c.in_ok-push-2.ensures.items, name, c.in_ok-push.ensures.items, word) (simp append_assoc)))
+returns g c =
+    let word = rw (c.as_bytes.ensures.value, c.result_word.ensures) at c.write.ensures in
+    let name = rw c.bytes.ensures at c.write-3.ensures in
+    let parameters = rw c.deref.ensures.value at c.parameters.ensures in
+    let registers = rw c.deref-2.ensures.value at c.registers.ensures in
+    shown (head_text (plain_func c.args.f.now))
+    (then word (then c.write-2.ensures (then name (then c.write-4.ensures (then parameters (then c.write-5.ensures registers))))))

@@ -1,54 +1,96 @@
-use Rattle.std.proofs.Common.{ℕ, List, codes, ◌+◌, ◌<◌, ◌++◌, ◌∙◌, length, drop, append_assoc, rules}
-use Rattle.mon_syntax.specs.declared.tree.MonStmt.{MonStmt}
-use Rattle.mon_syntax.specs.Trees.{plain_stmt, plain_stmts}
-use Rattle.mon_syntax.specs.Text.{new_line, spelled, spelled_piece, statement_pieces, statements_pieces}
+use Rattle.std.proofs.Common.{◌+◌, ◌<◌, ◌++◌, ◌∙◌, ap, sym, length, option_map, drop, rules}
+use Rattle.mon_syntax.specs.Trees.{plain_expr, plain_stmts}
+use Rattle.mon_syntax.specs.Text.{new_line, spelled, spelled_piece, statements_pieces}
+use Rattle.c_printer.specs.Depths.{depth_of}
 use Rattle.c_printer.specs.Registers.{registers_of}
-use Rattle.c_printer.proofs.Behind.{shown, seven, last, where_ok, left_at, more}
-use Rattle.c_printer.proofs.Texts.{at_if, at_loop, at_labelled, body_text, statements_each}
+use Rattle.c_printer.proofs.Behind.{left_at, none_left}
+use Rattle.c_printer.proofs.Deeper.{if_deeper, loop_deeper, falls}
+use Rattle.c_printer.proofs.Written.{then, shown, up_none, up_more, up_shut, up_all}
+use Rattle.c_printer.proofs.Texts.{statement_text, at_assert, return_anywhere, at_if, at_loop, at_labelled, body_text, no_body_text, statements_each}
 use Rattle.c_printer.proofs.statement.+statement.Goals as goal
 
-pub body-returns : goal.body-returns
-body-returns t c =
+pub body-returns-then-is_empty : goal.body-returns-then-is_empty
+body-returns-then-is_empty g t c = shown (no_body_text (registers_of c.args.named.now) (depth_of c.args.depth.now) c.args.stmts.now (search rules)) c.write.ensures
+
+pub body-returns-else-is_empty : goal.body-returns-else-is_empty
+body-returns-else-is_empty g t c =
     let some : 0 < length c.args.stmts.now = search rules in
-    let inside = rw c.in_ok-inner.ensures at c.in_ok-statements.ensures in
-    shown c.args.to.now.items (body_text (registers_of c.args.named.now) c.args.depth c.args.stmts.now some)
-    (rw (c.in_ok-push-2.ensures.items, c.in_ok-line.ensures, inside, c.in_ok-push.ensures.items) (simp append_assoc))
+    shown (body_text (registers_of c.args.named.now) (depth_of c.args.depth.now) c.args.stmts.now some)
+    (then c.write-else-is_empty.ensures (then c.statements.ensures c.closing.ensures))
 
-pub statement-returns-in_ok-extend_from_slice-in-If-3 : goal.statement-returns-in_ok-extend_from_slice-in-If-3
-statement-returns-in_ok-extend_from_slice-in-If-3 t c =
-    let first = rw c.deref.ensures.value at c.in_ok-body-in-If.ensures in
-    last c.body-in-If.result (rw c.deref-in-If.ensures.value at c.body-in-If.ensures) (λ end.
-    shown c.args.to.now.items (at_if (registers_of c.args.named.now) c.args.depth c.args.s.now c.in-If.e c.in-If.a c.in-If.b c.in-If.is)
-    (rw (end, c.in_ok-extend_from_slice-in-If-3.ensures.items, first, c.in_ok-extend_from_slice-in-If-2.ensures.items, c.in_ok-expression-in-If.ensures, c.in_ok-extend_from_slice-in-If.ensures.items) (simp append_assoc)))
+pub statement-body-requires : goal.statement-body-requires
+statement-body-requires g t c κs within = ((falls c.args.s.now _ c.deref.result.now c.in-If.a.items t c.decreases c.in-If.is c.deref.ensures.value (if_deeper c.in-If.e c.in-If.a c.in-If.b).0).1, search rules)
 
-pub statement-returns-in_ok-push-in-Loop : goal.statement-returns-in_ok-push-in-Loop
-statement-returns-in_ok-push-in-Loop t c =
-    let inner = c.in_ok-inner-in-Loop.ensures in
-    let before = rw (c.deref-in-Loop.ensures.value, inner) at c.in_ok-statements-in-Loop.ensures in
-    let line = rw inner at c.in_ok-line-in-Loop.ensures in
-    let behind = rw (c.deref-in-Loop-2.ensures.value, inner) at c.in_ok-statements-in-Loop-2.ensures in
+pub statement-body-requires-in-If : goal.statement-body-requires-in-If
+statement-body-requires-in-If g t c κs within = ((falls c.args.s.now _ c.deref-in-If.result.now c.in-If.b.items t c.decreases c.in-If.is c.deref-in-If.ensures.value (if_deeper c.in-If.e c.in-If.a c.in-If.b).1).1, search rules)
+
+pub statement-statements-requires : goal.statement-statements-requires
+statement-statements-requires g t c κs within = ((falls c.args.s.now _ c.deref-in-Loop.result.now c.in-Loop.a.items t c.decreases c.in-Loop.is c.deref-in-Loop.ensures.value (loop_deeper c.in-Loop.a c.in-Loop.b).0).0, search rules)
+
+pub statement-statements-requires-in-Loop : goal.statement-statements-requires-in-Loop
+statement-statements-requires-in-Loop g t c κs within = ((falls c.args.s.now _ c.deref-in-Loop-2.result.now c.in-Loop.b.items t c.decreases c.in-Loop.is c.deref-in-Loop-2.ensures.value (loop_deeper c.in-Loop.a c.in-Loop.b).1).0, search rules)
+
+pub statement-returns-in-Step : goal.statement-returns-in-Step
+statement-returns-in-Step g t c = shown (ap (statement_text (registers_of c.args.named.now) (depth_of c.args.depth.now)) c.in-Step.is) c.write.ensures
+
+pub statement-returns-in-Assert : goal.statement-returns-in-Assert
+statement-returns-in-Assert g t c =
+    shown (at_assert (registers_of c.args.named.now) (depth_of c.args.depth.now) c.args.s.now c.in-Assert.d c.in-Assert.v c.in-Assert.number c.in-Assert.line c.in-Assert.kind c.in-Assert.is)
+    (then c.assertion_start.ensures c.assertion_end.ensures)
+
+pub statement-returns-in-PrintText : goal.statement-returns-in-PrintText
+statement-returns-in-PrintText g t c =
+    shown (ap (statement_text (registers_of c.args.named.now) (depth_of c.args.depth.now)) c.in-PrintText.is) (rw c.bytes.ensures at c.print_text.ensures)
+
+pub statement-returns-in-PrintSigned : goal.statement-returns-in-PrintSigned
+statement-returns-in-PrintSigned g t c = shown (ap (statement_text (registers_of c.args.named.now) (depth_of c.args.depth.now)) c.in-PrintSigned.is) c.call-in-PrintSigned.ensures
+
+pub statement-returns-in-PrintUnsigned : goal.statement-returns-in-PrintUnsigned
+statement-returns-in-PrintUnsigned g t c = shown (ap (statement_text (registers_of c.args.named.now) (depth_of c.args.depth.now)) c.in-PrintUnsigned.is) c.call-in-PrintUnsigned.ensures
+
+pub statement-returns-in-If : goal.statement-returns-in-If
+statement-returns-in-If g t c =
+    let first = rw c.deref.ensures.value at c.body.ensures in
+    let second = rw c.deref-in-If.ensures.value at c.body-in-If.ensures in
+    shown (at_if (registers_of c.args.named.now) (depth_of c.args.depth.now) c.args.s.now c.in-If.e c.in-If.a c.in-If.b c.in-If.is)
+    (then c.condition.ensures (then first (then c.write-in-If.ensures second)))
+
+pub statement-returns-in-Loop : goal.statement-returns-in-Loop
+statement-returns-in-Loop g t c =
+    let before = rw c.deref-in-Loop.ensures.value at c.statements.ensures in
+    let behind = rw c.deref-in-Loop-2.ensures.value at c.statements-in-Loop.ensures in
+    shown (at_loop (registers_of c.args.named.now) (depth_of c.args.depth.now) c.args.s.now c.in-Loop.a c.in-Loop.b c.in-Loop.is)
+    (then c.write-in-Loop.ensures (then before (then c.step_line.ensures (then behind c.closing.ensures))))
+
+pub statement-returns-in-Labelled : goal.statement-returns-in-Labelled
+statement-returns-in-Labelled g t c =
+    let inside = rw c.deref-in-Labelled.ensures.value at c.body-in-Labelled.ensures in
+    let end = rw c.bytes-in-Labelled.ensures at c.label_end.ensures in
+    shown (at_labelled (registers_of c.args.named.now) (depth_of c.args.depth.now) c.args.s.now c.in-Labelled.a c.in-Labelled.label c.in-Labelled.is) (then inside end)
+
+pub statement-returns-in-Return : goal.statement-returns-in-Return
+statement-returns-in-Return g t c =
     let rs = registers_of c.args.named.now in
-    let depth = c.args.depth in
-    let lines : List MonStmt → List ℕ = λ l. spelled (statements_pieces rs (depth + 1) (plain_stmts l)) in
-    shown c.args.to.now.items (at_loop rs depth c.args.s.now c.in-Loop.a c.in-Loop.b c.in-Loop.is)
-    (rw (c.in_ok-push-in-Loop.ensures.items, c.in_ok-line-in-Loop-2.ensures, behind, c.in_ok-extend_from_slice-in-Loop-2.ensures.items, line, before, c.in_ok-extend_from_slice-in-Loop.ensures.items)
-    (seven c.args.to.now.items (codes "while (1) {") (lines c.in-Loop.a.items) (spelled_piece (new_line (depth + 1))) (codes "__e_acsl_step();") (lines c.in-Loop.b.items) (spelled_piece (new_line depth)) (codes "}")))
+    let depth = depth_of c.args.depth.now in
+    shown (ap (statement_text rs depth) c.in-Return.is ∙ return_anywhere rs depth (option_map plain_expr c.in-Return.value)) c.give_back.ensures
 
-pub statement-returns-in_ok-extend_from_slice-in-Labelled : goal.statement-returns-in_ok-extend_from_slice-in-Labelled
-statement-returns-in_ok-extend_from_slice-in-Labelled t c =
-    let body = rw c.deref-in-Labelled.ensures.value at c.in_ok-body-in-Labelled.ensures in
-    let label = rw c.bytes-in-Labelled.ensures at c.in_ok-extend_from_slice-in-Labelled.ensures.items in
-    last c.extend_from_slice-in-Labelled-2.result (where_ok c.extend_from_slice-in-Labelled-2.result _ _ c.extend_from_slice-in-Labelled-2.ensures.items) (λ end.
-    shown c.args.to.now.items (at_labelled (registers_of c.args.named.now) c.args.depth c.args.s.now c.in-Labelled.a c.in-Labelled.label c.in-Labelled.is)
-    (rw (end, label, c.in_ok-push-in-Labelled.ensures.items, body) (simp append_assoc)))
+pub statements-stmts-init : goal.statements-stmts-init
+statements-stmts-init g t c = up_none _ (spelled (statements_pieces (registers_of c.args.named.now) (depth_of c.args.depth.now) (plain_stmts c.args.stmts.now)))
 
 pub statements-stmts-preserved : goal.statements-stmts-preserved
-statements-stmts-preserved t c =
+statements-stmts-preserved g t c =
     let rs = registers_of c.args.named.now in
-    let depth = c.args.depth in
+    let depth = depth_of c.args.depth.now in
     let rest = drop (c.stmts.s-index + 1) c.args.stmts.now in
     let s = c.s-item.result in
-    more c.stmts.to.items (spelled_piece (new_line depth) ++ spelled (statement_pieces rs depth (plain_stmt s))) (spelled (statements_pieces rs depth (plain_stmts rest)))
+    up_more (spelled_piece (new_line depth) ++ statement_text rs depth s) (spelled (statements_pieces rs depth (plain_stmts rest)))
     (left_at (λ l. spelled (statements_pieces rs depth (plain_stmts l))) c.args.stmts.now c.stmts.s-index s c.stmts-test.true c.s-item.is ∙ statements_each rs depth s rest)
-    (rw (c.in_ok-statement.ensures, c.in_ok-line.ensures) (append_assoc c.stmts.to.items (spelled_piece (new_line depth)) (spelled (statement_pieces rs depth (plain_stmt s)))))
     c.stmts.invariant
+    (then c.line.ensures c.statement.ensures)
+
+pub statements-returns-then-is_shut : goal.statements-returns-then-is_shut
+statements-returns-then-is_shut g t c = up_shut (sym c.is_shut.ensures ∙ c.if-is_shut.true) c.stmts.invariant
+
+pub statements-returns : goal.statements-returns
+statements-returns g t c =
+    up_all (none_left (λ l. spelled (statements_pieces (registers_of c.args.named.now) (depth_of c.args.depth.now) (plain_stmts l))) c.args.stmts.now c.stmts.s-index c.stmts-test.false) c.stmts.invariant
