@@ -137,18 +137,18 @@ pub record Change : Type 0 where
 abbrev pub change : Option (List ℕ) → Option (List ℕ) → ℕ → ℕ → Change
 change told told' faults faults' = record { told = told; told' = told'; faults = faults; faults' = faults' }
 
--- a line that may be put: that of an answer due, or that of status 9
-abbrev pub IsLine : (Answer → Type 0) → List ℕ → Type 0
-IsLine Due line = ((a : Answer) × Due a × (line ≡ a.line)) ⊎ (line ≡ memory_line)
+-- a line that may be put behind an output: that of an answer due, whose output this is, or that of status 9
+abbrev pub IsLine : (Answer → Type 0) → List ℕ → List ℕ → Type 0
+IsLine Due sent line = ((a : Answer) × Due a × (sent ≡ a.output) × (line ≡ a.line)) ⊎ (line ≡ memory_line)
 
 -- How the program answers where these answers are due and these bytes begin the output due: an answer that is due is given,
 -- or a sink failed (8), or memory was wanting (9). At 8 and 9 the output has a beginning of what is due, and the error
--- output a beginning of a line, none where the output failed.
+-- output a beginning of a line: none where the output failed, and that of an answer only behind the answer's whole output.
 pub data Answered (Due : Answer → Type 0) (Begin : List ℕ → Type 0) (out err : Change) (status : ℕ) : Type 0 where
   Given : (a : Answer) → Due a → status ≡ a.status → out.told' ≡ more out.told a.output → out.faults' ≡ out.faults → err.told' ≡ more err.told a.line → err.faults' ≡ err.faults → Answered Due Begin out err status
   OutputFault : (sent : List ℕ) → status ≡ 8 → Begin sent → out.told' ≡ more out.told sent → Rose out.faults out.faults' → err.told' ≡ err.told → err.faults' ≡ err.faults → Answered Due Begin out err status
-  LineFault : (sent line : List ℕ) (k : ℕ) → status ≡ 8 → Begin sent → out.told' ≡ more out.told sent → out.faults' ≡ out.faults → IsLine Due line → err.told' ≡ more err.told (take k line) → Rose err.faults err.faults' → Answered Due Begin out err status
-  NoMemory : (sent line : List ℕ) (k : ℕ) → status ≡ 9 → Begin sent → out.told' ≡ more out.told sent → out.faults' ≡ out.faults → IsLine Due line → err.told' ≡ more err.told (take k line) → err.faults' ≡ err.faults → Answered Due Begin out err status
+  LineFault : (sent line : List ℕ) (k : ℕ) → status ≡ 8 → Begin sent → out.told' ≡ more out.told sent → out.faults' ≡ out.faults → IsLine Due sent line → err.told' ≡ more err.told (take k line) → Rose err.faults err.faults' → Answered Due Begin out err status
+  NoMemory : (sent line : List ℕ) (k : ℕ) → status ≡ 9 → Begin sent → out.told' ≡ more out.told sent → out.faults' ≡ out.faults → IsLine Due sent line → err.told' ≡ more err.told (take k line) → err.faults' ≡ err.faults → Answered Due Begin out err status
 
 -- the program translates that of an accepted text
 pub record IsTranslated (text : List ℕ) (m : MonitoredProgram) : Type 0 where
