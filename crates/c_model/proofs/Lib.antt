@@ -6,6 +6,7 @@ pub mod Cells
 pub mod Fit
 mod WorkedRuns
 mod MonitoredTexts
+mod CTexts
 pub mod Spelling
 pub mod BrokenPieces
 pub mod PieceLaws
