@@ -10,8 +10,15 @@ mod CTexts
 pub mod Spelling
 pub mod BrokenPieces
 pub mod PieceLaws
+pub mod CMarks
+pub mod CStrings
+pub mod CSpelling
+pub mod CPieceLaws
 pub mod RefusalLaws
+pub mod CRefusalLaws
 pub mod NameLaws
+pub mod CNameLaws
+pub mod CIntegers
 pub mod Blocks
 pub mod Results
 pub mod Agreement

@@ -20,6 +20,7 @@ pub mod Literals
 pub mod Directives
 pub mod Pieces
 pub mod CTokens
+pub mod CTokenLaws
 pub mod Accepted
 pub mod Operators
 pub mod Ranges

@@ -2,6 +2,8 @@
 
 use c_syntax::CInt;
 
+pub mod laws;
+
 /// Where a byte stands: in C, in an annotation that `/*@` began, or in one that `//@` began.
 #[derive(Clone, Copy, PartialEq, Eq, Debug)]
 pub enum Mode {
