@@ -10,7 +10,7 @@ use Rattle.c_syntax.specs.Programs.{PlainRefusal, plain_refusal}
 use Rattle.c_model.specs.declared.monitored_tokens.Piece.{Piece}
 use Rattle.c_model.specs.declared.monitored_tokens.Piece.TheVariants as piece
 use Rattle.c_model.specs.MonitoredTokens.{Read, greatest_literal}
-use Rattle.c_lexer.specs.declared.monitored.Reading.{Reading}
+use Rattle.c_lexer.specs.declared.reading.Reading.{Reading}
 
 -- a fault is this refusal, unless memory was wanting
 abbrev pub IsRefusal : FrontFault → PlainRefusal → Type 0

@@ -3,6 +3,7 @@
 ghost use Rattle.std.specs.Prelude.{◌≡◌, ◌≤◌, length, take, drop, IsTrue};
 ghost use Rattle.std.specs.List.{prefix_len};
 ghost use Rattle.c_model.specs.FirstTokens.{is_blank, is_digit, is_nondigit, is_part, in_literal, begins_with};
+ghost use Rattle.c_model.specs.Comments.{in_line};
 ghost use Rattle.c_model.specs.MonitoredTokens.{is_plain, is_octal, in_string, ends_line};
 
 pub fn is_blank(b: u8) -> bool
@@ -53,6 +54,12 @@ fn in_string(b: u8) -> bool
     b != 34
 }
 
+pub fn in_line(b: u8) -> bool
+    ensures { result ≡ in_line b }
+{
+    b != 10
+}
+
 /// How many bytes of a name stand at the front.
 pub fn word_len(bytes: &[u8]) -> usize
     ensures run { result ≡ prefix_len is_part bytes.now }
@@ -67,6 +74,14 @@ pub fn literal_len(bytes: &[u8]) -> usize
     ensures within { result ≤ length bytes.now }
 {
     bytes.iter().take_while(|b| in_literal(**b)).count()
+}
+
+/// How many bytes stand up to the line's end.
+pub fn line_len(bytes: &[u8]) -> usize
+    ensures run { result ≡ prefix_len in_line bytes.now }
+    ensures within { result ≤ length bytes.now }
+{
+    bytes.iter().take_while(|b| in_line(**b)).count()
 }
 
 /// How many bytes stand in front of a quote.

@@ -1,4 +1,4 @@
-//! The tokens of texts (C99 6.4): of a monitored text, whose tokens are names, numbers, strings, marks and one directive.
+//! The tokens of texts (C99 6.4, ACSL): of a C text with annotations, and of a monitored text.
 #![tactic(auto)]
 
 mod bytes;
@@ -8,9 +8,12 @@ mod names;
 mod numbers;
 mod pieces;
 mod places;
+mod reading;
 mod refusals;
+mod source;
 
 pub use monitored::mon_tokens;
+pub use source::tokens;
 
 #[cfg(test)]
 mod tests;

@@ -1,8 +1,8 @@
 //! The tokens of a monitored text.
 
 ghost use Rattle.std.specs.Prelude.{◌≡◌, ◌≤◌, ◌<◌, ◌+◌, length, Ok, IfOk, OnOk, MatchResult};
-ghost use Rattle.c_syntax.specs.Tokens.{plain_token_kind, plain_tokens};
-ghost use Rattle.c_model.specs.MonitoredTokens.{inside, put, add, build, Ended, monitored_tokens};
+ghost use Rattle.c_syntax.specs.Tokens.{plain_tokens};
+ghost use Rattle.c_model.specs.MonitoredTokens.{inside, add, build, Ended, monitored_tokens};
 ghost use Rattle.c_lexer.specs.Reading.{FitsPiece, seen, read_of, Refuses, Gives};
 
 use crate::bytes::{behind, front, string_len};
@@ -10,26 +10,12 @@ use crate::chars::chars_of;
 use crate::names::{all_names, number_name};
 use crate::pieces::piece_at;
 use crate::places::{fresh_after, walk};
+use crate::reading::{Reading, put};
 use crate::refusals::refuse;
 use c_model::monitored_tokens::{Found, Piece};
-use c_syntax::{FrontFault, Name, Place, Token, TokenKind, Tokens};
+use c_syntax::{FrontFault, Name, Place, TokenKind, Tokens};
 use indexmap::IndexSet;
 use std::alloc::{AllocError, Global};
-
-/// What is read so far.
-#[derive(Drop)]
-struct Reading {
-    list: Vec<Token>,
-    names: IndexSet<Vec<u8>>,
-}
-
-fn put(reading: &mut Reading, place: Place, kind: TokenKind) -> Result<(), AllocError>
-    ensures ok { OnOk result (read_of reading.new ≡ put (read_of reading.old) place (plain_token_kind kind)) }
-    ensures names { OnOk result (seen reading.new.names ≡ seen reading.old.names) }
-{
-    reading.list.push(Token { place, kind })?;
-    Ok(())
-}
 
 /// What stands between the quotes of a string.
 fn inside(bytes: &[u8]) -> &[u8]

@@ -1,5 +1,5 @@
 use super::*;
-use c_syntax::{FrontFault, TokenKind};
+use c_syntax::{FrontFault, TokenKind, Tokens};
 use std::alloc::{AllocError, Global};
 use std::test::*;
 
@@ -7,23 +7,24 @@ use std::test::*;
 fn kind_text(alloc: Global, kind: &TokenKind) -> Result<String, AllocError> {
     match kind {
         TokenKind::Word(n) => format!(in alloc; "word {n}"),
-        TokenKind::Number(value, _) => format!(in alloc; "number {value}"),
+        TokenKind::Number(value, None) => format!(in alloc; "number {value}"),
+        TokenKind::Number(value, Some(t)) => format!(in alloc; "number {value} {t:?}"),
         TokenKind::Chars(name) => {
             let bytes = name.bytes();
             format!(in alloc; "chars {bytes:?}")
         }
         TokenKind::Mark(n) => format!(in alloc; "mark {n}"),
+        TokenKind::Letter(value) => format!(in alloc; "letter {value}"),
+        TokenKind::AnnotOpen => format!(in alloc; "open"),
+        TokenKind::AnnotClose => format!(in alloc; "close"),
         TokenKind::Head(kind, n) => format!(in alloc; "head {kind} {n}"),
     }
 }
 
-/// The tokens of a text with their lines and columns, or the code, place and word of its refusal.
-fn answer(alloc: Global, text: &[u8]) -> Result<String, AllocError> {
+/// Tokens with their lines and columns, or the code, place and word of a refusal.
+fn shown(alloc: Global, read: Result<Tokens, FrontFault>) -> Result<String, AllocError> {
     let mut all = String::new(alloc);
-    if text.len() >= 4_294_967_295 {
-        return Ok(all);
-    }
-    match mon_tokens(alloc, text) {
+    match read {
         Ok(tokens) => {
             for token in tokens.list.as_slice() {
                 let kind = kind_text(alloc, &token.kind)?;
@@ -47,6 +48,22 @@ fn answer(alloc: Global, text: &[u8]) -> Result<String, AllocError> {
         }
         Err(FrontFault::Memory) => Ok(all),
     }
+}
+
+/// What a monitored text is read as.
+fn answer(alloc: Global, text: &[u8]) -> Result<String, AllocError> {
+    if text.len() >= 4_294_967_295 {
+        return Ok(String::new(alloc));
+    }
+    shown(alloc, mon_tokens(alloc, text))
+}
+
+/// What a C text with annotations is read as.
+fn c_answer(alloc: Global, text: &[u8]) -> Result<String, AllocError> {
+    if text.len() >= 4_294_967_295 {
+        return Ok(String::new(alloc));
+    }
+    shown(alloc, tokens(alloc, text))
 }
 
 #[test]
@@ -137,5 +154,101 @@ fn lengths_of_names(rt: HostRuntime) -> Result<(), Fail> {
     );
     name.push(b'_')?;
     assert_eq!(rt; answer(rt.alloc(), &name)?.as_str(), "E2 at 1:1: name");
+    Ok(())
+}
+
+#[test]
+fn tokens_of_c_texts(rt: HostRuntime) -> Result<(), Fail> {
+    for (text, wanted) in [
+        (b"".as_slice(), "0 names, 0 bytes"),
+        (
+            b"#include <stdio.h>\n# 1 \"a.c\" 2\n#line 7\n#\nint x;",
+            "5:1 word 0; 5:5 word 1; 5:6 mark 36; 2 names, 47 bytes",
+        ),
+        (
+            b"x<<=2147483648/* // */-0xFFFFFFFF // y",
+            "1:1 word 0; 1:2 mark 0; 1:5 number 2147483648 I64; 1:23 mark 22; 1:24 number 4294967295 U32; 1 names, 38 bytes",
+        ),
+        (
+            b"0 017 1u 1lU 9223372036854775808",
+            "1:1 number 0 I32; 1:3 number 15 I32; 1:7 number 1 U32; 1:10 number 1 U64; 1:14 number 9223372036854775808; 0 names, 32 bytes",
+        ),
+        (
+            b"'a' '\\377' '\\x00041' '\\''",
+            "1:1 letter 97; 1:5 letter -1; 1:12 letter 65; 1:22 letter 39; 0 names, 25 bytes",
+        ),
+        (
+            b"\"a\\n\" /* */\n\"\\1014\"",
+            "1:1 chars [97, 10, 65, 52]; 0 names, 19 bytes",
+        ),
+        (
+            b"/*@ assert @ 0..n <==> \\true ^^ a ==> b; */ y",
+            "1:1 open; 1:5 word 0; 1:14 number 0 I32; 1:15 mark 48; 1:17 word 1; 1:19 mark 45; 1:24 word 2; 1:30 mark 47; 1:33 word 3; 1:35 mark 46; 1:39 word 4; 1:40 mark 36; 1:42 close; 1:45 word 5; 6 names, 45 bytes",
+        ),
+        (
+            b"//@ float // z\n;//@ a",
+            "1:1 open; 1:5 word 0; 1:15 close; 2:1 mark 36; 2:2 open; 2:6 word 1; 2:7 close; 2 names, 21 bytes",
+        ),
+        (b"/*@ @ // a\n */ //@ // b", "0 names, 23 bytes"),
+    ] {
+        assert_eq!(rt; c_answer(rt.alloc(), text)?.as_str(), wanted);
+    }
+    Ok(())
+}
+
+#[test]
+fn refusals_of_c_texts(rt: HostRuntime) -> Result<(), Fail> {
+    for (text, wanted) in [
+        (
+            b"int main(void) { return 0; } $".as_slice(),
+            "E1 at 1:30: 24",
+        ),
+        (b"a #", "E1 at 1:3: 23"),
+        (b"//@ \\ a", "E1 at 1:5: 5c"),
+        (
+            b"int main(void) { return 0; } /* end",
+            "E2 at 1:30: comment",
+        ),
+        (b";/*@ a *", "E2 at 1:2: comment"),
+        (b"x \"a\n\"", "E2 at 1:3: string"),
+        (b"/*@ \"*/\" ", "E2 at 1:5: string"),
+        (b"''", "E2 at 1:1: character"),
+        (b"'\\400'", "E2 at 1:1: character"),
+        (b"08", "E2 at 1:1: number"),
+        (b"0..1", "E2 at 1:1: number"),
+        (b"1lL", "E2 at 1:1: number"),
+        (
+            b"170141183460469231731687303715884105728",
+            "E2 at 1:1: number",
+        ),
+        (b"#include <stdio.h> // x", "E2 at 1:1: directive"),
+        (b"#line", "E2 at 1:1: directive"),
+        (b"float x;", "E3 at 1:1: float"),
+        (b"//@ ghost", "E3 at 1:5: ghost"),
+        (b"//@ \\sum", "E3 at 1:5: \\sum"),
+        (b"x __gen_e_acsl_x", "E3 at 1:3: __gen_e_acsl_x"),
+        (b"\n # define X", "E3 at 2:2: #define"),
+        (b"#include <string.h>", "E3 at 1:1: #include"),
+    ] {
+        assert_eq!(rt; c_answer(rt.alloc(), text)?.as_str(), wanted);
+    }
+    Ok(())
+}
+
+#[test]
+fn lengths_of_c_texts(rt: HostRuntime) -> Result<(), Fail> {
+    let mut name = Vec::new(rt.alloc());
+    for _ in 0..256 {
+        name.push(b'_')?;
+    }
+    assert_eq!(rt; c_answer(rt.alloc(), &name)?.as_str(), "E2 at 1:1: name");
+    let mut text = Vec::new(rt.alloc());
+    for _ in 0..200_001 {
+        text.push(b';')?;
+    }
+    assert_eq!(rt;
+        c_answer(rt.alloc(), &text)?.as_str(),
+        "E11 at 1:200001: tokens"
+    );
     Ok(())
 }

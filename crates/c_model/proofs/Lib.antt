@@ -6,11 +6,19 @@ pub mod Cells
 pub mod Fit
 mod WorkedRuns
 mod MonitoredTexts
+mod CTexts
 pub mod Spelling
 pub mod BrokenPieces
 pub mod PieceLaws
+pub mod CMarks
+pub mod CStrings
+pub mod CSpelling
+pub mod CPieceLaws
 pub mod RefusalLaws
+pub mod CRefusalLaws
 pub mod NameLaws
+pub mod CNameLaws
+pub mod CIntegers
 pub mod Blocks
 pub mod Results
 pub mod Agreement

@@ -57,7 +57,7 @@ with_name_distinct ws w d = by (list_any (bytes_eq w) ws) refl
     by true e = d
     by false e = push_distinct ws w d e
 
-with_names_distinct : (ws vs : List (List ℕ)) → AreDistinct ws → AreDistinct (with_names ws vs)
+pub with_names_distinct : (ws vs : List (List ℕ)) → AreDistinct ws → AreDistinct (with_names ws vs)
 with_names_distinct ws [] d = d
 with_names_distinct ws (v ∷ vs) d = with_names_distinct (with_name ws v) vs (with_name_distinct ws v d)
 

@@ -12,11 +12,11 @@ use Rattle.c_model.specs.MonitoredTokenLaws.{bytes_of, in_line, place_of, starts
 use Rattle.c_model.proofs.Spelling.{piece_spells}
 use Rattle.c_model.proofs.BrokenPieces.{piece_breaks}
 
-drop_nil : (k : ℕ) → [] ≡ drop k (let e : List ℕ = [] in e)
+pub drop_nil : (k : ℕ) → [] ≡ drop k (let e : List ℕ = [] in e)
 drop_nil zero = refl
 drop_nil (suc k) = refl
 
-take_nil : (k : ℕ) → take k (let e : List ℕ = [] in e) ≡ []
+pub take_nil : (k : ℕ) → take k (let e : List ℕ = [] in e) ≡ []
 take_nil zero = refl
 take_nil (suc k) = refl
 
@@ -83,7 +83,7 @@ walk_place xs =
 
 -- ---- beginnings of lines
 
-fresh-append : (fresh : Bool) (xs ys : List ℕ) → fresh_after fresh (xs ++ ys) ≡ fresh_after (fresh_after fresh xs) ys
+pub fresh-append : (fresh : Bool) (xs ys : List ℕ) → fresh_after fresh (xs ++ ys) ≡ fresh_after (fresh_after fresh xs) ys
 fresh-append fresh [] ys = refl
 fresh-append fresh (x ∷ xs) ys = fresh-append (fresh_behind fresh x) xs ys
 

@@ -29,7 +29,7 @@ SpelledAs before bs x = Spells before x.piece (take (suc x.more) bs) (drop (suc 
 
 -- ---- runs
 
-run_passes : (p : ℕ → Bool) (bs : List ℕ) → list_all p (take (prefix_len p bs) bs) ≡ true
+pub run_passes : (p : ℕ → Bool) (bs : List ℕ) → list_all p (take (prefix_len p bs) bs) ≡ true
 run_passes p [] = refl
 run_passes p (b ∷ bs) = by (p b) refl (run_passes p bs)
   where
@@ -37,7 +37,7 @@ run_passes p (b ∷ bs) = by (p b) refl (run_passes p bs)
     by true e rest = rw (← suc_is (prefix_len p bs), e) rest
     by false e rest = refl
 
-run_stops : (p : ℕ → Bool) (bs : List ℕ) → Stops p (drop (prefix_len p bs) bs)
+pub run_stops : (p : ℕ → Bool) (bs : List ℕ) → Stops p (drop (prefix_len p bs) bs)
 run_stops p [] = tt
 run_stops p (b ∷ bs) = by (p b) refl (run_stops p bs)
   where
@@ -45,10 +45,10 @@ run_stops p (b ∷ bs) = by (p b) refl (run_stops p bs)
     by true e rest = rw (← suc_is (prefix_len p bs)) rest
     by false e rest = e
 
-some_run : (p : ℕ → Bool) (b : ℕ) (bs : List ℕ) → p b ≡ true → 0 < prefix_len p (b ∷ bs)
+pub some_run : (p : ℕ → Bool) (b : ℕ) (bs : List ℕ) → p b ≡ true → 0 < prefix_len p (b ∷ bs)
 some_run p b bs e = rw e (omega arith)
 
-run_within : (p : ℕ → Bool) (bs : List ℕ) → prefix_len p bs ≤ length bs
+pub run_within : (p : ℕ → Bool) (bs : List ℕ) → prefix_len p bs ≤ length bs
 run_within p [] = omega arith
 run_within p (b ∷ bs) = by (p b) (run_within p bs)
   where
@@ -162,7 +162,7 @@ string_spells before b bs x quote e =
 -- ---- fronts
 
 -- the front of bs is the word
-begins_is : (w bs : List ℕ) → begins_with w bs ≡ true → bs ≡ w ++ drop (length w) bs
+pub begins_is : (w bs : List ℕ) → begins_with w bs ≡ true → bs ≡ w ++ drop (length w) bs
 begins_is [] bs f = refl
 begins_is (o ∷ os) [] f = absurd (true≢false (sym f))
 begins_is (o ∷ os) (b ∷ bs) f =
@@ -177,7 +177,7 @@ pub front_is : (w rest : List ℕ) → take (length w) (w ++ rest) ≡ w
 front_is [] rest = refl
 front_is (o ∷ os) rest = ap (λ (t : List ℕ). o ∷ t) (front_is os rest)
 
-begun_front : (w bs : List ℕ) → begins_with w bs ≡ true → take (length w) bs ≡ w
+pub begun_front : (w bs : List ℕ) → begins_with w bs ≡ true → take (length w) bs ≡ w
 begun_front w bs f = ap (take (length w)) (begins_is w bs f) ∙ front_is w (drop (length w) bs)
 
 -- ---- the directive
@@ -196,7 +196,7 @@ head_spells before bs x fresh e = elim (chosen (begins_with head_line bs && ends
 -- ---- marks
 
 -- where both begin bs and the first doesn't begin the second, the second is no longer
-both_begin : (m q bs : List ℕ) → begins_with m bs ≡ true → begins_with q bs ≡ true → begins_with m q ≡ false → length q ≤ length m
+pub both_begin : (m q bs : List ℕ) → begins_with m bs ≡ true → begins_with q bs ≡ true → begins_with m q ≡ false → length q ≤ length m
 both_begin [] q bs f g h = absurd (true≢false h)
 both_begin (o ∷ os) [] bs f g h = omega arith
 both_begin (o ∷ os) (r ∷ rs) [] f g h = absurd (true≢false (sym f))
@@ -209,19 +209,19 @@ both_begin (o ∷ os) (r ∷ rs) (b ∷ bs) f g h =
     omega arith
 
 -- none begins a later one
-none_begun : List ℕ → List (List ℕ) → Bool
+unfoldable pub none_begun : List ℕ → List (List ℕ) → Bool
 none_begun m [] = true
 none_begun m (q ∷ qs) = not (begins_with m q) && none_begun m qs
 
-longest_first : List (List ℕ) → Bool
+unfoldable pub longest_first : List (List ℕ) → Bool
 longest_first [] = true
 longest_first (m ∷ ms) = ltb 0 (length m) && (none_begun m ms && longest_first ms)
 
-not_true : (b : Bool) → not b ≡ true → b ≡ false
+pub not_true : (b : Bool) → not b ≡ true → b ≡ false
 not_true true e = absurd (true≢false (sym e))
 not_true false e = refl
 
-later : (m : List ℕ) (ms : List (List ℕ)) (q : List ℕ) → none_begun m ms ≡ true → IsIn ms q → begins_with m q ≡ false
+pub later : (m : List ℕ) (ms : List (List ℕ)) (q : List ℕ) → none_begun m ms ≡ true → IsIn ms q → begins_with m q ≡ false
 unfolding none_begun
 later m [] q all h = elim h [ ]
 later m (r ∷ rs) q all (inl e) = subst (λ (t : List ℕ). begins_with m t ≡ false) e (not_true (begins_with m r) (and_true (not (begins_with m r)) (none_begun m rs) all).0)

@@ -15,6 +15,12 @@ pub mod FirstTokens
 pub mod FirstForm
 pub mod MonitoredTokens
 pub mod MonitoredTokenLaws
+pub mod Comments
+pub mod Literals
+pub mod Directives
+pub mod Pieces
+pub mod CTokens
+pub mod CTokenLaws
 pub mod Accepted
 pub mod Operators
 pub mod Ranges

@@ -1,6 +1,7 @@
 //! The meaning of annotated C (ISO/IEC 9899:1999, ACSL): memory, expressions, statements, terms, predicates and whole runs.
 #![tactic(auto)]
 
+pub mod c_tokens;
 pub mod first_tokens;
 pub mod job;
 pub mod laws;

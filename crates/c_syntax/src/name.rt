@@ -29,4 +29,12 @@ impl Name {
     {
         self.bytes.as_slice()
     }
+
+    /// Gives the bytes back, and takes no memory.
+    pub fn into_bytes(self) -> Vec<u8>
+        ensures { result.items ≡ self }
+    {
+        let Name { bytes } = self;
+        bytes
+    }
 }

@@ -32,6 +32,8 @@ pub const NUMBER: u32 = 10;
 pub const TEXT: u32 = 11;
 
 pub const HEAD: u32 = 12;
+/// The kind of what no monitored text has.
+pub const FOREIGN: u32 = 13;
 
 // The kind of the first punctuator in the list of all; the others follow.
 const FIRST_MARK: u32 = 20;
@@ -93,5 +95,6 @@ pub fn kind(words: &[Word], token: &Token) -> u32
         TokenKind::Chars(_) => TEXT,
         TokenKind::Mark(mark) => FIRST_MARK + *mark as u32,
         TokenKind::Head(_, _) => HEAD,
+        TokenKind::Letter(_) | TokenKind::AnnotOpen | TokenKind::AnnotClose => FOREIGN,
     }
 }

@@ -61,6 +61,9 @@ fn token_word(alloc: Global, names: &[Name], kind: &TokenKind) -> Result<Vec<u8>
         TokenKind::Chars(_) => Vec::from_slice(alloc, b"string"),
         TokenKind::Mark(mark) => Vec::from_slice(alloc, spelling(*mark)),
         TokenKind::Head(_, _) => Vec::from_slice(alloc, b"#include <e_acsl.h>"),
+        TokenKind::Letter(_) => Vec::from_slice(alloc, b"character"),
+        TokenKind::AnnotOpen => Vec::from_slice(alloc, b"annotation"),
+        TokenKind::AnnotClose => Vec::from_slice(alloc, b"end of annotation"),
     }
 }
 

@@ -110,6 +110,9 @@ module _ (ws : Vocabulary) where
       by (tokens.Chars b) at h = absurd cc
       by (tokens.Mark m) at h = absurd (let e = eqb-true (mark_kind m) name_kind h in omega (arith, e))
       by (tokens.Head k n) at h = absurd cc
+      by (tokens.Letter v) at h = absurd cc
+      by tokens.AnnotOpen at h = absurd cc
+      by tokens.AnnotClose at h = absurd cc
 
   first_or : (P : Type 0) (K k : ℕ) (b : Bool) → (eqb K k ≡ true → P) → (b ≡ true → P) → cond (eqb K k) true b ≡ true → P
   first_or P K k b here there h = tested (eqb K k) refl h

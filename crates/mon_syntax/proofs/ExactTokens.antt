@@ -118,10 +118,7 @@ module _ (ws : Vocabulary) where
       (operator_step m percent Rem _ refl (operator_step m shift_left Shl _ refl (operator_step m shift_right Shr _ refl (operator_step m ampersand And _ refl
       (operator_step m bar Or _ refl (operator_step m caret Xor _ refl (operator_step m equal Eq _ refl (operator_step m not_equal Ne _ refl
       (operator_step m less Lt _ refl (operator_step m less_equal Le _ refl (operator_step m greater Gt _ refl (operator_step m greater_equal Ge _ refl (λ e. absurd cc))))))))))))))))
-  operator_among (tokens.Word n) op = λ e. absurd cc
-  operator_among (tokens.Number z c) op = λ e. absurd cc
-  operator_among (tokens.Chars b) op = λ e. absurd cc
-  operator_among (tokens.Head k n) op = λ e. absurd cc
+  operator_among _ op = λ e. absurd cc
 
   pub operator_good : IsRead ws (one (placed operator_of)) false first_operator []
   operator_good = placed_good operator_of first_operator operator_among

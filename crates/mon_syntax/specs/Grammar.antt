@@ -145,6 +145,10 @@ text_kind = 11
 abbrev pub head_kind : ℕ
 head_kind = 12
 
+-- what no monitored text has: a character literal, and the ends of an annotation
+abbrev pub foreign_kind : ℕ
+foreign_kind = 13
+
 abbrev pub mark_kind : ℕ → ℕ
 mark_kind m = 20 + m
 
@@ -174,6 +178,9 @@ token_kind ws (token.Number z t) = number_kind
 token_kind ws (token.Chars bytes) = text_kind
 token_kind ws (token.Mark m) = mark_kind m
 token_kind ws (token.Head k n) = head_kind
+token_kind ws (token.Letter v) = foreign_kind
+token_kind ws token.AnnotOpen = foreign_kind
+token_kind ws token.AnnotClose = foreign_kind
 
 abbrev pub kind : Vocabulary → PlainToken → ℕ
 kind ws t = token_kind ws t.kind
@@ -184,25 +191,16 @@ placed f t = elim (f t.kind) [ Some x ↦ Some (x, t.place) | None ↦ None ]
 
 abbrev pub number_of : PlainTokenKind → Option ℤ
 number_of (token.Number z t) = Some z
-number_of (token.Word n) = None
-number_of (token.Chars bytes) = None
-number_of (token.Mark m) = None
-number_of (token.Head k n) = None
+number_of _ = None
 
 -- the number 1
 abbrev pub is_one : PlainTokenKind → Option (Unit {0})
 is_one (token.Number z t) = cond (int_eq z (pos 1)) (Some tt) None
-is_one (token.Word n) = None
-is_one (token.Chars bytes) = None
-is_one (token.Mark m) = None
-is_one (token.Head k n) = None
+is_one _ = None
 
 abbrev pub text_of : PlainTokenKind → Option (List ℕ)
 text_of (token.Chars bytes) = Some bytes
-text_of (token.Word n) = None
-text_of (token.Number z t) = None
-text_of (token.Mark m) = None
-text_of (token.Head k n) = None
+text_of _ = None
 
 abbrev pub type_of_word : Word → Option MonType
 type_of_word (word.TypeName t) = Some t
@@ -214,17 +212,11 @@ constant_of_word _ = None
 
 abbrev pub type_of : Vocabulary → PlainTokenKind → Option MonType
 type_of ws (token.Word n) = type_of_word (word_at ws n)
-type_of ws (token.Number z t) = None
-type_of ws (token.Chars bytes) = None
-type_of ws (token.Mark m) = None
-type_of ws (token.Head k n) = None
+type_of ws _ = None
 
 abbrev pub constant_of : Vocabulary → PlainTokenKind → Option MonType
 constant_of ws (token.Word n) = constant_of_word (word_at ws n)
-constant_of ws (token.Number z t) = None
-constant_of ws (token.Chars bytes) = None
-constant_of ws (token.Mark m) = None
-constant_of ws (token.Head k n) = None
+constant_of ws _ = None
 
 abbrev pub operator_mark : ℕ → Option MonOp
 operator_mark m =
@@ -236,10 +228,7 @@ operator_mark m =
 
 abbrev pub operator_of : PlainTokenKind → Option MonOp
 operator_of (token.Mark m) = operator_mark m
-operator_of (token.Word n) = None
-operator_of (token.Number z t) = None
-operator_of (token.Chars bytes) = None
-operator_of (token.Head k n) = None
+operator_of _ = None
 
 -- ---- what begins what
 
@@ -316,10 +305,7 @@ module _ (ws : Vocabulary) where
 
   abbrev pub name_of : PlainTokenKind → Option ℕ
   name_of (token.Word n) = cond (eqb (word_kind (word_at ws n)) name_kind) (Some n) None
-  name_of (token.Number z t) = None
-  name_of (token.Chars bytes) = None
-  name_of (token.Mark m) = None
-  name_of (token.Head k n) = None
+  name_of _ = None
 
   -- NAME
   unfoldable pub name : Syntax PlainToken NameUse

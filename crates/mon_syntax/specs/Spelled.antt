@@ -31,6 +31,9 @@ token_word names (token.Number z t) = decimal (unsigned_abs z)
 token_word names (token.Chars bytes) = codes "string"
 token_word names (token.Mark m) = or_nothing (slice_get marks m)
 token_word names (token.Head k n) = head_line
+token_word names (token.Letter v) = codes "character"
+token_word names token.AnnotOpen = codes "annotation"
+token_word names token.AnnotClose = codes "end of annotation"
 
 -- the first of tokens, or the end of the text
 abbrev pub place_at : Place → List PlainToken → Place
@@ -58,10 +61,7 @@ last n (t ∷ ts) = if eqb n (suc (length ts)) then t ∷ ts else last n ts
 
 abbrev pub is_paren : PlainTokenKind → Bool
 is_paren (token.Mark m) = eqb m left_paren
-is_paren (token.Word n) = false
-is_paren (token.Number z t) = false
-is_paren (token.Chars bytes) = false
-is_paren (token.Head k n) = false
+is_paren _ = false
 
 abbrev pub limit_word : List PlainToken → List ℕ
 limit_word [] = []

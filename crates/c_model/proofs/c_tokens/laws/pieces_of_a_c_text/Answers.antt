@@ -1,0 +1,11 @@
+use Rattle.c_model.proofs.CPieceLaws.{pieces_joined, pieces_placed, pieces_spelled}
+use Rattle.c_model.proofs.c_tokens.laws.pieces_of_a_c_text.Goals as goal
+
+pub returns-clause-joined : goal.returns-clause-joined
+returns-clause-joined c = pieces_joined
+
+pub returns-clause-placed : goal.returns-clause-placed
+returns-clause-placed c = pieces_placed
+
+pub returns-clause-spelled : goal.returns-clause-spelled
+returns-clause-spelled c = pieces_spelled

@@ -1,0 +1,270 @@
+-- What holds of every C text with annotations, in the text's own words.
+use Rattle.std.specs.Prelude.{◌≡◌, ◌↔◌, ◌≤◌, ◌<◌, ◌⊎◌, ℕ, ◌-◌, List, [], ◌∷◌, ◌++◌, length, nat_eq, ◌||◌, Bool, true, false, Option, Some, None, is_some, Ok, Err, slice_get, codes}
+use Rattle.std.specs.List.{list_all}
+use Rattle.std.specs.Str.Parse.{digits_value}
+use Rattle.c_syntax.specs.declared.types.CInt.{CInt}
+use Rattle.c_syntax.specs.Programs.{PlainRefusal}
+use Rattle.c_syntax.specs.Tokens.{PlainTokens}
+use Rattle.c_model.specs.declared.c_tokens.Mode.{Mode}
+use Rattle.c_model.specs.declared.c_tokens.Mode.TheVariants.{Code, Block, Line}
+use Rattle.c_model.specs.declared.c_tokens.Piece.{Piece}
+use Rattle.c_model.specs.declared.c_tokens.Piece.TheVariants as piece
+use Rattle.c_model.specs.declared.c_tokens.Fault.TheVariants as fault
+use Rattle.c_model.specs.FirstTokens.{is_part, begins_with}
+use Rattle.c_model.specs.MonitoredTokens.{Read, greatest_literal, marks, nothing_read}
+use Rattle.c_model.specs.MonitoredTokenLaws.{place_of, starts_line, Stops, IsIn, with_names, AreDistinct}
+use Rattle.c_model.specs.Comments.{is_gap, ends_block, in_line, block_len, blank_block, is_blank_line}
+use Rattle.c_model.specs.Literals.{is_digit_of, suffix_of, types_of, first_fitting, literal_of, unit_at, unit_in}
+use Rattle.c_model.specs.Directives.{directive_line, directive_fault}
+use Rattle.c_model.specs.Pieces.{begins_name, is_outside, is_dotted, annotation_marks, mode_after, Pieces, Ended, Broken, Cut, pieces_of}
+use Rattle.c_model.specs.CTokens.{add, refused, closed, most_tokens, tokens_of}
+
+-- ---- pieces and places
+
+-- the bytes of the pieces, and those from something broken on
+abbrev pub bytes_of : Pieces → List ℕ
+bytes_of (Ended at m) = []
+bytes_of (Broken at f rest) = rest
+bytes_of (Cut at p bytes more) = bytes ++ bytes_of more
+
+-- each piece is at the place behind the bytes before it
+abbrev pub ArePlaced : List ℕ → Pieces → Type 0
+ArePlaced before (Ended at m) = at ≡ place_of before
+ArePlaced before (Broken at f rest) = at ≡ place_of before
+ArePlaced before (Cut at p bytes more) = (at ≡ place_of before) × ArePlaced (before ++ bytes) more
+
+-- the pieces joined are the text
+abbrev pub CPiecesAreTheText : Type 0
+CPiecesAreTheText = (text : List ℕ) → bytes_of (pieces_of text) ≡ text
+
+abbrev pub CPiecesArePlaced : Type 0
+CPiecesArePlaced = (text : List ℕ) → ArePlaced [] (pieces_of text)
+
+-- ---- spelling: names, literals and operators
+
+-- a name (C99 6.4.2.1, and `\` in ACSL) goes as far as it can, and the profile has it
+pub record IsName (m : Mode) (bytes behind : List ℕ) : Type 0 where
+  pub first : ℕ
+  pub others : List ℕ
+  pub joined : bytes ≡ first ∷ others
+  pub begins : begins_name m (bytes ++ behind) ≡ true
+  pub parts : list_all is_part others ≡ true
+  pub ends : Stops is_part behind
+  pub short : length bytes ≤ 255
+  pub inside : is_outside m bytes ≡ false
+
+-- an integer literal with its value and type, which no letter, digit, `_` or `.` follows, save `..` in an annotation
+pub record IsLiteral (m : Mode) (v : ℕ) (t : Option CInt) (bytes behind : List ℕ) : Type 0 where
+  pub literal : literal_of bytes ≡ Some (v, t)
+  pub ends : Stops is_part behind
+  pub undotted : is_dotted m behind ≡ false
+
+-- a character literal is quotes round one byte or escape
+pub record IsLetter (c : ℕ) (bytes behind : List ℕ) : Type 0 where
+  pub unit : List ℕ
+  pub quoted : bytes ≡ 39 ∷ unit ++ 39 ∷ []
+  pub other : begins_with (codes "'") (unit ++ 39 ∷ behind) ≡ false
+  pub one : unit_at (unit ++ 39 ∷ behind) ≡ Some (c, length unit - 1)
+
+-- bytes and escapes, each with the byte that it stands for
+abbrev pub spelling_of : List (List ℕ × ℕ) → List ℕ
+spelling_of [] = []
+spelling_of (u ∷ us) = u.0 ++ spelling_of us
+
+abbrev pub AreUnits : Mode → List (List ℕ × ℕ) → List ℕ → Type 0
+AreUnits m [] behind = Unit {0}
+AreUnits m (u ∷ us) behind =
+    (0 < length u.0) × (unit_in m (u.0 ++ (spelling_of us ++ behind)) ≡ Some (u.1, length u.0 - 1))
+    × (begins_with (codes "\"") (u.0 ++ (spelling_of us ++ behind)) ≡ false) × AreUnits m us behind
+
+-- a string literal is quotes round bytes and escapes
+pub record IsString (m : Mode) (bytes behind : List ℕ) : Type 0 where
+  pub units : List (List ℕ × ℕ)
+  pub quoted : bytes ≡ 34 ∷ spelling_of units ++ 34 ∷ []
+  pub are : AreUnits m units (34 ∷ behind)
+
+-- the operators of C, and those of annotations behind them
+abbrev pub marks_of : Mode → List (List ℕ)
+marks_of Code = marks
+marks_of Block = marks ++ annotation_marks
+marks_of Line = marks ++ annotation_marks
+
+-- the operator at that place of the list, and no longer one begins there (C99 6.4 p4)
+pub record IsMark (m : Mode) (k : ℕ) (bytes behind : List ℕ) : Type 0 where
+  pub at : slice_get (marks_of m) k ≡ Some bytes
+  pub longest : (q rest : List ℕ) → IsIn (marks_of m) q → bytes ++ behind ≡ q ++ rest → length q ≤ length bytes
+
+-- ---- spelling: blanks and annotations
+
+-- no byte of these begins `*/`
+abbrev pub HaveNoEnd : List ℕ → List ℕ → Type 0
+HaveNoEnd [] behind = Unit {0}
+HaveNoEnd (b ∷ bs) behind = (begins_with (codes "*/") (b ∷ (bs ++ behind)) ≡ false) × HaveNoEnd bs behind
+
+-- a comment ends at the first `*/` (C99 6.4.9)
+pub record IsComment (bytes behind : List ℕ) : Type 0 where
+  pub inside : List ℕ
+  pub joined : bytes ≡ codes "/*" ++ (inside ++ codes "*/")
+  pub first : HaveNoEnd inside (codes "*/" ++ behind)
+
+-- behind a comment with `//` the line ends, or the annotation
+abbrev pub EndsComment : Mode → List ℕ → Type 0
+EndsComment m [] = Unit {0}
+EndsComment m (b ∷ bs) = (nat_eq b 10 || ends_block m (b ∷ bs)) ≡ true
+
+pub record IsLineComment (m : Mode) (bytes behind : List ℕ) : Type 0 where
+  pub inside : List ℕ
+  pub joined : bytes ≡ codes "//" ++ inside
+  pub line : list_all in_line bytes ≡ true
+  pub ends : EndsComment m behind
+
+-- a `/*@` annotation without a token
+pub record IsBlankBlock (bytes behind : List ℕ) : Type 0 where
+  pub inside : List ℕ
+  pub joined : bytes ≡ codes "/*@" ++ inside
+  pub blank : blank_block false (inside ++ behind) ≡ Some (length inside)
+
+-- a `//@` annotation without a token, up to the line's end
+pub record IsBlankLine (bytes behind : List ℕ) : Type 0 where
+  pub inside : List ℕ
+  pub joined : bytes ≡ codes "//@" ++ inside
+  pub blank : is_blank_line (inside ++ behind) ≡ true
+  pub line : list_all in_line inside ≡ true
+  pub ends : Stops in_line behind
+
+-- a directive that is read as a blank line
+pub record IsDirective (before bytes behind : List ℕ) : Type 0 where
+  pub first : starts_line before ≡ true
+  pub line : List ℕ
+  pub joined : bytes ≡ 35 ∷ line
+  pub alone : list_all in_line line ≡ true
+  pub ends : Stops in_line behind
+  pub sound : directive_fault (directive_line (line ++ behind)) ≡ None
+
+-- a blank byte
+pub record IsBlankByte (m : Mode) (bytes : List ℕ) : Type 0 where
+  pub byte : ℕ
+  pub alone : bytes ≡ byte ∷ []
+  pub blank : is_gap m byte ≡ true
+
+-- what the lexer passes over
+abbrev pub IsBlank : List ℕ → Mode → List ℕ → List ℕ → Type 0
+IsBlank before m bytes behind =
+    IsBlankByte m bytes ⊎ (IsLineComment m bytes behind
+    ⊎ ((m ≡ Code) × (IsComment bytes behind ⊎ (IsBlankBlock bytes behind ⊎ (IsBlankLine bytes behind ⊎ IsDirective before bytes behind)))))
+
+-- an annotation begins in C; one with `/*@` has its end
+abbrev pub IsOpen : Mode → Mode → List ℕ → List ℕ → Type 0
+IsOpen m Code bytes behind = ⊥
+IsOpen m Block bytes behind = (m ≡ Code) × (bytes ≡ codes "/*@") × (is_some (block_len behind) ≡ true)
+IsOpen m Line bytes behind = (m ≡ Code) × (bytes ≡ codes "//@")
+
+-- and ends at `*/`, or at the line's end
+abbrev pub IsClose : Mode → List ℕ → Type 0
+IsClose Code bytes = ⊥
+IsClose Block bytes = bytes ≡ codes "*/"
+IsClose Line bytes = bytes ≡ 10 ∷ []
+
+-- what a piece of each kind is, given what stands before and behind it
+abbrev pub Spells : List ℕ → Mode → Piece → List ℕ → List ℕ → Type 0
+Spells before m piece.Blank bytes behind = IsBlank before m bytes behind
+Spells before m (piece.Open n) bytes behind = IsOpen m n bytes behind
+Spells before m piece.Close bytes behind = IsClose m bytes
+Spells before m piece.Word bytes behind = IsName m bytes behind
+Spells before m (piece.Number v t) bytes behind = IsLiteral m v t bytes behind
+Spells before m (piece.Letter c) bytes behind = IsLetter c bytes behind
+Spells before m piece.Chars bytes behind = IsString m bytes behind
+Spells before m (piece.Mark k) bytes behind = IsMark m k bytes behind
+
+abbrev pub AreSpelled : List ℕ → Mode → Pieces → Type 0
+AreSpelled before m (Ended at n) = Unit {0}
+AreSpelled before m (Broken at f rest) = Unit {0}
+AreSpelled before m (Cut at p bytes more) = Spells before m p bytes (bytes_of more) × AreSpelled (before ++ bytes) (mode_after m p) more
+
+-- each piece is spelled as its kind is
+abbrev pub CPiecesAreSpelled : Type 0
+CPiecesAreSpelled = (text : List ℕ) → AreSpelled [] Code (pieces_of text)
+
+-- ---- integer literals
+
+-- the base of a literal is told by its front (C99 6.4.4.1); the `0` of an octal one is a digit of it
+abbrev pub HaveBase : ℕ → List ℕ → List ℕ → Type 0
+HaveBase base prefix digits =
+    ((base ≡ 16) × ((prefix ≡ codes "0x") ⊎ (prefix ≡ codes "0X")))
+    ⊎ (((base ≡ 8) × (prefix ≡ []) × (begins_with (codes "0") digits ≡ true))
+    ⊎ ((base ≡ 10) × (prefix ≡ []) × (begins_with (codes "0") digits ≡ false)))
+
+-- a literal is a prefix, digits of the base and a suffix; its value is what the digits write, and its type the first of its list that
+-- has the value
+pub record IsInteger (v : ℕ) (t : Option CInt) (bytes : List ℕ) : Type 0 where
+  pub base : ℕ
+  pub prefix : List ℕ
+  pub digits : List ℕ
+  pub suffix : List ℕ
+  pub unsigned : Bool
+  pub long : Bool
+  pub joined : bytes ≡ prefix ++ (digits ++ suffix)
+  pub based : HaveBase base prefix digits
+  pub some : 0 < length digits
+  pub are : list_all (is_digit_of base) digits ≡ true
+  pub value : digits_value base digits ≡ v
+  pub small : v ≤ greatest_literal
+  pub ends : suffix_of suffix ≡ Some (unsigned, long)
+  pub first : t ≡ first_fitting (types_of (nat_eq base 10) unsigned long) v
+
+abbrev pub LiteralsAreIntegers : Type 0
+LiteralsAreIntegers = (bytes : List ℕ) (v : ℕ) (t : Option CInt) → literal_of bytes ≡ Some (v, t) → IsInteger v t bytes
+
+-- ---- refusals
+
+-- r is read from the pieces that make up front, each within the limit, and ps are those behind them
+abbrev pub ReadUpTo : Read → Pieces → List ℕ → Read → Pieces → Type 0
+ReadUpTo start (Ended at m) front r ps = (front ≡ []) × (r ≡ start) × (ps ≡ Ended at m)
+ReadUpTo start (Broken at f rest) front r ps = (front ≡ []) × (r ≡ start) × (ps ≡ Broken at f rest)
+ReadUpTo start (Cut at p bytes more) front r ps =
+    ((front ≡ []) × (r ≡ start) × (ps ≡ Cut at p bytes more))
+    ⊎ ((after : List ℕ) × (front ≡ bytes ++ after) × (length (add start at p bytes).list ≤ most_tokens) × ReadUpTo (add start at p bytes) more after r ps)
+
+-- what stands there is broken, or one token too many
+abbrev pub IsFaulty : Read → Pieces → PlainRefusal → Type 0
+IsFaulty r (Broken at f rest) x = x ≡ refused at f rest
+IsFaulty r (Cut at p bytes more) x = (x ≡ refused at fault.Limit []) × (most_tokens < length (add r at p bytes).list)
+IsFaulty r (Ended at m) x = (x ≡ refused at fault.Limit []) × (most_tokens < length (closed r at m).list)
+
+-- the text is read up to a place where it is faulty, and is refused there
+pub record IsRefused (text : List ℕ) (x : PlainRefusal) : Type 0 where
+  pub front : List ℕ
+  pub read : Read
+  pub behind : Pieces
+  pub parts : text ≡ front ++ bytes_of behind
+  pub sound : ReadUpTo nothing_read (pieces_of text) front read behind
+  pub faulty : IsFaulty read behind x
+  pub place : x.place ≡ place_of front
+
+-- a text is refused exactly at its first fault
+abbrev pub CRefusedAtFirstFault : Type 0
+CRefusedAtFirstFault = (text : List ℕ) (x : PlainRefusal) → (tokens_of text ≡ Err x) ↔ IsRefused text x
+
+-- ---- names
+
+abbrev pub word_then : Piece → List ℕ → List (List ℕ) → List (List ℕ)
+word_then piece.Word bytes ws = bytes ∷ ws
+word_then piece.Blank bytes ws = ws
+word_then (piece.Open m) bytes ws = ws
+word_then piece.Close bytes ws = ws
+word_then (piece.Number v t) bytes ws = ws
+word_then (piece.Letter c) bytes ws = ws
+word_then piece.Chars bytes ws = ws
+word_then (piece.Mark k) bytes ws = ws
+
+-- the words of the text, in order
+abbrev pub words_of : Pieces → List (List ℕ)
+words_of (Ended at m) = []
+words_of (Broken at f rest) = []
+words_of (Cut at p bytes more) = word_then p bytes (words_of more)
+
+abbrev pub CNamesInOrder : Type 0
+CNamesInOrder = (text : List ℕ) (tokens : PlainTokens) → tokens_of text ≡ Ok tokens → tokens.names ≡ with_names [] (words_of (pieces_of text))
+
+abbrev pub CNamesDiffer : Type 0
+CNamesDiffer = (text : List ℕ) (tokens : PlainTokens) → tokens_of text ≡ Ok tokens → AreDistinct tokens.names

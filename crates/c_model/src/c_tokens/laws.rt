@@ -1,0 +1,26 @@
+//! What holds of every C text with annotations. No function here has anything to do.
+
+ghost use Rattle.c_model.specs.CTokenLaws.{CPiecesAreTheText, CPiecesArePlaced, CPiecesAreSpelled, LiteralsAreIntegers, CRefusedAtFirstFault, CNamesInOrder, CNamesDiffer};
+
+/// The pieces joined are the text, and each is at its place and spelled as its kind is.
+pub fn pieces_of_a_c_text()
+    ensures joined { CPiecesAreTheText }
+    ensures placed { CPiecesArePlaced }
+    ensures spelled { CPiecesAreSpelled }
+{}
+
+/// A literal has the value of its digits, and the first of C99's types that has this value.
+pub fn integer_literals()
+    ensures { LiteralsAreIntegers }
+{}
+
+/// A text is refused exactly at its first fault, or at one token too many.
+pub fn refusals_of_a_c_text()
+    ensures { CRefusedAtFirstFault }
+{}
+
+/// The names are the words in order of first use, none twice.
+pub fn names_of_a_c_text()
+    ensures order { CNamesInOrder }
+    ensures distinct { CNamesDiffer }
+{}
