@@ -1,4 +1,6 @@
+pub mod Operators
 pub mod Integers
+pub mod Conversions
 pub mod Memory
 pub mod State
 pub mod Logic
@@ -16,5 +18,4 @@ pub mod FirstForm
 pub mod MonitoredTokens
 pub mod MonitoredTokenLaws
 pub mod Accepted
-pub mod Operators
 pub mod Ranges
