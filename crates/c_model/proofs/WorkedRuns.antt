@@ -10,7 +10,7 @@ use Rattle.c_syntax.specs.declared.annotation.Kind.TheVariants.{Assert}
 use Rattle.c_syntax.specs.declared.annotation.Range.{Range}
 use Rattle.c_syntax.specs.declared.annotation.Relation.TheVariants as relation
 use Rattle.c_syntax.specs.Ctypes.{int_type}
-use Rattle.c_syntax.specs.Expressions.{Expression, Number, Letter, Variable, Binary, Assign, Call, NoExpression, Following}
+use Rattle.c_syntax.specs.Expressions.{Expression, Node, Number, Letter, Variable, Binary, Assign, Call, NoExpression, Following}
 use Rattle.c_syntax.specs.Annotations.{LogicTerm, Predicate, Chain, NoLink, Linked, Truth, Annotation}
 use Rattle.c_syntax.specs.Annotations as logic
 use Rattle.c_syntax.specs.Statements.{One, Declaration, Eval, Block, If, While, Return, Else, BlockItem, Declare, Run, Asserts, BlockItems, NoItem, Then}
@@ -25,23 +25,23 @@ abbrev place : ℕ → ℕ → ℕ → Place
 place line column offset = record { line = line; column = column; offset = offset }
 
 abbrev literal : Place → ℕ → Expression
-literal at n = Number at int_type (pos n) (Some I32)
+literal at n = Node at int_type (Number (pos n) (Some I32))
 
 abbrev letter : Place → ℕ → Expression
-letter at n = Letter at int_type (pos n)
+letter at n = Node at int_type (Letter (pos n))
 
 -- a variable, with the number of its declaration
 abbrev variable : Place → ℕ → ℕ → Expression
-variable at name decl = Variable at int_type (record { name = name; decl = decl })
+variable at name decl = Node at int_type (Variable (record { name = name; decl = decl }))
 
 abbrev binary : Place → BinOp → Expression → Expression → Expression
-binary at op a b = Binary at int_type op a b
+binary at op a b = Node at int_type (Binary op a b)
 
 abbrev assignment : Place → Expression → Expression → Expression
-assignment at a b = Assign at int_type None a b
+assignment at a b = Node at int_type (Assign None a b)
 
 abbrev putchar_call : Place → ℕ → Expression → Expression
-putchar_call at name e = Call at int_type (record { name = name; decl = 4294967295 }) (Following e NoExpression)
+putchar_call at name e = Node at int_type (Call (record { name = name; decl = 4294967295 }) (Following e NoExpression))
 
 abbrev int_variable : Place → ℕ → Place → Expression → Declaration
 int_variable at name equals e = record { place = at; name = name; named = true; ctype = int_type; init = Some (equals, One e) }

@@ -6,12 +6,12 @@ use Rattle.c_syntax.specs.Ctypes.{PlainType, Int}
 use Rattle.c_syntax.specs.declared.expression.Use.{Use}
 use Rattle.c_syntax.specs.Expressions.{Expression}
 use Rattle.c_syntax.specs.Annotations.{Annotation}
-use Rattle.c_syntax.specs.Statements.{Statement, While}
+use Rattle.c_syntax.specs.Statements.{Statement, While, Do}
 use Rattle.c_syntax.specs.Programs.{Function, TranslationUnit}
 use Rattle.c_model.specs.Integers.{size_of, fits, is_signed, value_bits, bits_of, value_of_bits, result_in}
 use Rattle.c_model.specs.Memory.{Pointer, Into, Value, Integer, Block, Store, block_at, load, save}
 use Rattle.c_model.specs.State.{Input, State, Outcome, Normal, Stop, Evaluation, ◌>>=◌, ◌>>◌, done, step}
-use Rattle.c_model.specs.Meaning.{Callee, choose, after_body, call_of, eval, exec, function_named, main_with, start, ran, run, Ran}
+use Rattle.c_model.specs.Meaning.{Callee, choose, after_body, turns, condition_with, effect_with, call_of, eval, exec, function_named, main_with, start, ran, run, Ran}
 use Rattle.c_model.specs.Reports.{Agrees}
 use Rattle.c_model.specs.Accepted.{Accepted}
 use Rattle.c_model.specs.IntPrograms.{IsIntProgram}
@@ -98,9 +98,21 @@ FuelIsEnough = (p : TranslationUnit) (a : Statement) (m n : ℕ) (s : State) →
 abbrev pub StepsFall : Type 0
 StepsFall = (p : TranslationUnit) (a : Statement) (n : ℕ) (s : State) → s.steps < n → steps_after (exec p n a s) ≤ s.steps
 
--- a loop is one turn and then the loop again (C99 6.8.5)
+-- a `while` is one turn and then the loop again (C99 6.8.5.1)
 abbrev pub LoopsTurn : Type 0
 LoopsTurn = (p : TranslationUnit) (at : Place) (annots : List Annotation) (e : Expression) (a : Statement) (n : ℕ) (s : State) → s.steps < n → exec p n (While at annots e a) s ≡ (eval p n e >>= λ v. choose v (step >> λ t. after_body (exec p n a t) (exec p n (While at annots e a))) done) s
+
+-- a `do` is a step, its body and its condition, and then the loop again where that isn't 0 (C99 6.8.5.2)
+abbrev pub DoLoopsTurn : Type 0
+DoLoopsTurn = (p : TranslationUnit) (at : Place) (a : Statement) (e : Expression) (n : ℕ) (s : State) → s.steps < n → exec p n (Do at a e) s ≡ (step >> λ t. after_body (exec p n a t) (eval p n e >>= λ v. choose v (exec p n (Do at a e)) done)) s
+
+-- the turns of a `for`
+abbrev pub for_turns : TranslationUnit → ℕ → Option Expression → Option Expression → Statement → Evaluation (Unit {0})
+for_turns p n e behind a = turns n (condition_with e (call_of p n)) (exec p n a) (effect_with behind (call_of p n))
+
+-- they are one turn, what stands behind the body, and then the turns again (C99 6.8.5.3)
+abbrev pub ForLoopsTurn : Type 0
+ForLoopsTurn = (p : TranslationUnit) (e behind : Option Expression) (a : Statement) (n : ℕ) (s : State) → s.steps < n → for_turns p n e behind a s ≡ (condition_with e (call_of p n) >>= λ v. choose v (step >> λ t. after_body (exec p n a t) (effect_with behind (call_of p n) >> for_turns p n e behind a)) done) s
 
 -- a run is the same with any number of turns above its steps
 abbrev pub RunsNeedNoFuel : Type 0

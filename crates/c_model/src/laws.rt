@@ -2,7 +2,7 @@
 
 ghost use Rattle.c_model.specs.Laws.{BitsHoldValues, FittingResultsStand, SignedResultsFit, UnsignedResultsWrap, ResultsFit};
 ghost use Rattle.c_model.specs.Laws.{SavedValuesLoad, SavesKeepBlocks, SavesKeepBytes, SavesKeepWhole, StatementsKeepWhole};
-ghost use Rattle.c_model.specs.Laws.{FuelIsEnough, StepsFall, LoopsTurn, RunsNeedNoFuel, RunsSpendSteps, OutputGrows};
+ghost use Rattle.c_model.specs.Laws.{FuelIsEnough, StepsFall, LoopsTurn, DoLoopsTurn, ForLoopsTurn, RunsNeedNoFuel, RunsSpendSteps, OutputGrows};
 ghost use Rattle.c_model.specs.Laws.{AgreementIsReflexive, AgreementIsTransitive};
 ghost use Rattle.c_model.specs.Laws.{AcceptedAreInt};
 
@@ -30,6 +30,8 @@ pub fn runs()
     ensures fuel { FuelIsEnough }
     ensures steps { StepsFall }
     ensures loops { LoopsTurn }
+    ensures do_loops { DoLoopsTurn }
+    ensures for_loops { ForLoopsTurn }
     ensures run { RunsNeedNoFuel }
     ensures left { RunsSpendSteps }
     ensures output { OutputGrows }
