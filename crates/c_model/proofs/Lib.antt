@@ -5,6 +5,7 @@ pub mod Growth
 pub mod Cells
 pub mod Fit
 mod WorkedRuns
+mod WorkedOperators
 mod MonitoredTexts
 pub mod Spelling
 pub mod BrokenPieces
@@ -13,6 +14,8 @@ pub mod RefusalLaws
 pub mod NameLaws
 pub mod Blocks
 pub mod Results
+pub mod Conversions
+pub mod OperatorResults
 pub mod Agreement
 pub mod Whole
 pub mod FirstRows

@@ -1,14 +1,19 @@
 -- Laws that the definitions meet: of integers and memory, of runs, of the order of runs, and of accepted texts.
-use Rattle.std.specs.Prelude.{◌≡◌, ℕ, ◌+◌, ◌%◌, ◌^◌, ◌<◌, ◌≤◌, ◌≢◌, ℤ, pos, true, false, List, [], ◌∷◌, length, take, drop, Option, Some, None, codes}
+use Rattle.std.specs.Prelude.{◌≡◌, ℕ, ◌+◌, ◌%◌, ◌^◌, ◌<◌, ◌≤◌, ◌≢◌, ℤ, pos, true, false, if◌then◌else◌, List, [], ◌∷◌, length, take, drop, Option, Some, None, codes}
 use Rattle.c_syntax.specs.declared.place.Place.{Place}
 use Rattle.c_syntax.specs.declared.types.CInt.{CInt}
 use Rattle.c_syntax.specs.Ctypes.{PlainType, Int}
+use Rattle.c_syntax.specs.declared.types.CInt.TheVariants.{I32}
 use Rattle.c_syntax.specs.declared.expression.Use.{Use}
+use Rattle.c_syntax.specs.declared.expression.UnOp.{UnOp}
+use Rattle.c_syntax.specs.declared.expression.UnOp.TheVariants.{Not}
+use Rattle.c_syntax.specs.declared.expression.BinOp.{BinOp}
 use Rattle.c_syntax.specs.Expressions.{Expression}
 use Rattle.c_syntax.specs.Annotations.{Annotation}
 use Rattle.c_syntax.specs.Statements.{Statement, While, Do}
 use Rattle.c_syntax.specs.Programs.{Function, TranslationUnit}
-use Rattle.c_model.specs.Integers.{size_of, fits, is_signed, value_bits, bits_of, value_of_bits, result_in}
+use Rattle.c_model.specs.Integers.{size_of, fits, is_signed, value_bits, bits_of, value_of_bits, convert, result_in, operate_in, operate_one_in}
+use Rattle.c_model.specs.Conversions.{is_shift, is_relation}
 use Rattle.c_model.specs.Memory.{Pointer, Into, Value, Integer, Block, Store, block_at, load, save}
 use Rattle.c_model.specs.State.{Input, State, Outcome, Normal, Stop, Evaluation, ◌>>=◌, ◌>>◌, done, step}
 use Rattle.c_model.specs.Meaning.{Callee, choose, after_body, turns, condition_with, effect_with, call_of, eval, exec, function_named, main_with, start, ran, run, Ran}
@@ -39,6 +44,30 @@ UnsignedResultsWrap = (k : CInt) (n : ℕ) → is_signed k ≡ false → result_
 -- a defined result is a value of the type
 abbrev pub ResultsFit : Type 0
 ResultsFit = (k : CInt) (z w : ℤ) → result_in k z ≡ Some w → fits k w ≡ true
+
+-- a converted number is a value of the type (C99 6.3.1.3)
+abbrev pub ConversionsFit : Type 0
+ConversionsFit = (k : CInt) (z : ℤ) → fits k (convert k z) ≡ true
+
+-- a value of the type is converted to itself (C99 6.3.1.3 p1)
+abbrev pub ConversionsKeepValues : Type 0
+ConversionsKeepValues = (k : CInt) (z : ℤ) → fits k z ≡ true → convert k z ≡ z
+
+-- the type of an operator's result on operands of a type: `int` for a relation and for `!` (C99 6.5.3.3 p5, 6.5.8 p6, 6.5.9 p3)
+abbrev pub type_of_result : BinOp → CInt → CInt
+type_of_result op k = if is_relation op then I32 else k
+
+abbrev pub type_of_one : UnOp → CInt → CInt
+type_of_one Not k = I32
+type_of_one _ k = k
+
+-- a defined result on values of a type is a value of the result's type; a count of bits may be any number
+abbrev pub OperatorsFit : Type 0
+OperatorsFit = (k : CInt) (op : BinOp) (x y w : ℤ) → fits k x ≡ true → (is_shift op ≡ false → fits k y ≡ true) → operate_in k op x y ≡ Some w → fits (type_of_result op k) w ≡ true
+
+-- the same of operators of one operand
+abbrev pub OperatorsOfOneFit : Type 0
+OperatorsOfOneFit = (k : CInt) (op : UnOp) (x w : ℤ) → fits k x ≡ true → operate_one_in k op x ≡ Some w → fits (type_of_one op k) w ≡ true
 
 -- ---- memory
 
