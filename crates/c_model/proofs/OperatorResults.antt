@@ -1,8 +1,7 @@
 -- Operators on values of a type: a defined result is a value of the result's type (C99 6.5.3.3, 6.5.5 to 6.5.12).
-use Rattle.std.proofs.Common.{◌≡◌, ℕ, zero, suc, ◌/◌, ◌%◌, ◌<◌, ◌≤◌, ◌^◌, ℤ, pos, negsuc, neg_ℤ, Bool, true, false, cond, not, if◌then◌else◌, ◌&&◌, ◌||◌, int_rem, unsigned_abs, Option, Some, None, refl, subst, arith}
+use Rattle.std.proofs.Common.{◌≡◌, ℕ, zero, suc, ◌/◌, ◌%◌, ◌<◌, ◌≤◌, ◌^◌, ℤ, pos, negsuc, neg_ℤ, Bool, true, false, not, if◌then◌else◌, ◌&&◌, ◌||◌, int_rem, unsigned_abs, Option, Some, None, refl, subst, arith}
 use Rattle.std.specs.Ordering.{int_eq}
 use Rattle.std.specs.Int.Signed.{mag}
-use Rattle.std.proofs.lemmas.Int.{ints}
 use Rattle.std.proofs.lemmas.Bool.{ltb-true, lt-ltb}
 use Rattle.std.proofs.lemmas.Nat.{and_le_l, or_lt, xor_lt}
 use Rattle.std.proofs.Math.Nat.{div-le_self, mod-le}
@@ -13,7 +12,7 @@ use Rattle.c_syntax.specs.declared.expression.UnOp.TheVariants.{Plus, Minus, Not
 use Rattle.c_syntax.specs.declared.expression.BinOp.{BinOp}
 use Rattle.c_syntax.specs.declared.expression.BinOp.TheVariants.{Add, Sub, Mul, Div, Rem, Shl, Shr, BitAnd, BitOr, BitXor, Eq, Ne, Lt, Le, Gt, Ge}
 use Rattle.c_model.specs.Operators.{quotient, remainder, floor_quotient, shift_left, shift_right, bitwise_and, bitwise_or, bitwise_xor}
-use Rattle.c_model.specs.Integers.{is_signed, value_bits, fits, result_in, result_of, truth, remainder_in, is_negative, is_count, operate_in, operate_one_in}
+use Rattle.c_model.specs.Integers.{is_signed, value_bits, fits, result_of, truth, remainder_in, is_negative, is_count, operate_in, operate_one_in}
 use Rattle.c_model.specs.Conversions.{is_shift}
 use Rattle.c_model.specs.Laws.{type_of_result, type_of_one}
 use Rattle.c_model.proofs.Results.{fits-result_in}

@@ -3,7 +3,7 @@ use Rattle.std.specs.Prelude.{Bool, true, false, if◌then◌else◌, nat_lt}
 use Rattle.c_syntax.specs.declared.types.CInt.{CInt}
 use Rattle.c_syntax.specs.declared.types.CInt.TheVariants.{I8, U8, I16, U16, I32, U32, I64, U64}
 use Rattle.c_syntax.specs.declared.expression.BinOp.{BinOp}
-use Rattle.c_syntax.specs.declared.expression.BinOp.TheVariants.{Add, Sub, Mul, Div, Rem, Shl, Shr, BitAnd, BitOr, BitXor, Eq, Ne, Lt, Le, Gt, Ge}
+use Rattle.c_syntax.specs.declared.expression.BinOp.TheVariants.{Shl, Shr, Eq, Ne, Lt, Le, Gt, Ge}
 use Rattle.c_model.specs.Integers.{width, is_signed}
 
 -- the integer promotions (C99 6.3.1.1 p2): `int` holds each narrower type
