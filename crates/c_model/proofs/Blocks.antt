@@ -1,7 +1,7 @@
 -- Saves and loads: what is saved is loaded again, and all else stands.
-use Rattle.std.proofs.Common.{◌≡◌, ℕ, zero, suc, ◌+◌, ◌≤◌, ◌≢◌, ℤ, Bool, true, false, not, ◌&&◌, if◌then◌else◌, nat_le, List, [], ◌∷◌, ◌++◌, length, take, drop, Option, Some, None, slice_get, slice_set, refl, sym, ap, ◌∙◌, subst, arith, append_assoc}
+use Rattle.std.proofs.Common.{◌≡◌, ℕ, zero, suc, ◌+◌, ◌-◌, ◌≤◌, ◌≢◌, ℤ, Bool, true, false, not, ◌&&◌, if◌then◌else◌, nat_le, List, [], ◌∷◌, ◌++◌, length, take, drop, Option, Some, None, slice_get, slice_set, refl, sym, ap, ◌∙◌, subst, arith, append_assoc}
 use Rattle.std.proofs.lemmas.Bool.{leb-true}
-use Rattle.std.proofs.lemmas.List.{take_at, length-take-le, length-append, length-drop, length-replicate}
+use Rattle.std.proofs.lemmas.List.{take_at, length-take-le, length-append, length-drop, drop-drop, length-replicate}
 use Rattle.std.proofs.Math.Seq.{drop-append_seam}
 use Rattle.c_syntax.specs.declared.types.CInt.{CInt}
 use Rattle.c_syntax.specs.declared.types.BlockKind.{BlockKind}
@@ -9,7 +9,7 @@ use Rattle.c_syntax.specs.Ctypes.{PlainType, Int}
 use Rattle.c_model.specs.Integers.{size_of, fits}
 use Rattle.c_model.specs.Memory.{Pointer, Null, Into, Value, Integer, Byte, Unwritten, Block, Store, block_at, new_block, value_from, bytes_from, is_accessible, is_literal, load_block, load, with_bytes, saved_block, with_block, save, kill_from}
 use Rattle.c_model.specs.Laws.{AreWhole, SameButAt}
-use Rattle.c_model.proofs.Cells.{value_from-bytes_from, length-bytes_from}
+use Rattle.c_model.proofs.Cells.{value_from-bytes_from, length-integer_bytes, length-bytes_from}
 
 -- ---- lists
 
@@ -88,7 +88,7 @@ load-saved store saved (Into (suc n) offset) k z w f e =
     let whole = whole_at store n s.b w s.found in
     let inside = within_block s.b offset (Int k) s.accessible in
     let found : slice_get saved n ≡ Some (with_bytes s.b offset bytes) = ap (λ x. slice_get x n) s.is ∙ slice_get-slice_set_same store n s.b _ s.found in
-    ap (λ o. load_block o offset (Int k)) found ∙ load_with_bytes s.b offset (Int k) bytes s.accessible (omega (arith, whole, inside)) (length-bytes_from (Int k) (Integer z)) ∙ value_from-bytes_from k z f
+    ap (λ o. load_block o offset (Int k)) found ∙ load_with_bytes s.b offset (Int k) bytes s.accessible (omega (arith, whole, inside)) (length-integer_bytes k z) ∙ value_from-bytes_from k z f
 
 pub other_blocks-saved : (store saved : Store) (n offset : ℕ) (t : PlainType) (v : Value) → save store (Into n offset) t v ≡ Some saved → (m : ℕ) → m ≢ n → block_at saved m ≡ block_at store m
 other_blocks-saved store saved zero offset t v e m d = absurd cc
@@ -97,8 +97,8 @@ other_blocks-saved store saved (suc n) offset t v e (suc m) d =
     let s = saved_parts store saved n offset t v e in
     ap (λ x. slice_get x m) s.is ∙ slice_get-slice_set_other store n m (with_bytes s.b offset (bytes_from t v)) (λ q. d (ap suc q))
 
-same_but_at : (b : Block) (offset n : ℕ) (bytes : List Byte) → length bytes ≡ n → offset + n ≤ length b.bytes → SameButAt offset n b (with_bytes b offset bytes)
-same_but_at b offset n bytes e le = record {
+same_but_at : (b : Block) (offset n : ℕ) (bytes : List Byte) → length bytes ≤ n → offset + n ≤ length b.bytes → SameButAt offset n b (with_bytes b offset bytes)
+same_but_at b offset n bytes few le = record {
   kind = refl;
   size_is = refl;
   live = refl;
@@ -110,11 +110,18 @@ same_but_at b offset n bytes e le = record {
     first : List Byte
     first = take offset b.bytes ++ bytes
 
-    long : length first ≡ offset + n
-    long = length-append (take offset b.bytes) bytes ∙ ap (λ x. x + length bytes) (length-take-le offset b.bytes (omega (arith, le))) ∙ ap (λ x. offset + x) e
+    long : length first ≡ offset + length bytes
+    long = length-append (take offset b.bytes) bytes ∙ ap (λ x. x + length bytes) (length-take-le offset b.bytes (omega (arith, le)))
+
+    -- behind the bytes that were written
+    rest : drop (offset + length bytes) (take offset b.bytes ++ (bytes ++ drop (offset + length bytes) b.bytes)) ≡ drop (offset + length bytes) b.bytes
+    rest = rw (sym (append_assoc (take offset b.bytes) bytes (drop (offset + length bytes) b.bytes))) (subst (λ x. drop x (first ++ drop (offset + length bytes) b.bytes) ≡ drop (offset + length bytes) b.bytes) long (drop-append_seam first (drop (offset + length bytes) b.bytes)))
+
+    farther : (xs : List Byte) → drop (n - length bytes) (drop (offset + length bytes) xs) ≡ drop (offset + n) xs
+    farther xs = drop-drop (n - length bytes) (offset + length bytes) xs ∙ (let e : offset + length bytes + (n - length bytes) ≡ offset + n = omega (arith, few) in ap (λ x. drop x xs) e)
 
     behind : drop (offset + n) (take offset b.bytes ++ (bytes ++ drop (offset + length bytes) b.bytes)) ≡ drop (offset + n) b.bytes
-    behind = rw e (rw (sym (append_assoc (take offset b.bytes) bytes (drop (offset + n) b.bytes))) (subst (λ x. drop x (first ++ drop (offset + n) b.bytes) ≡ drop (offset + n) b.bytes) long (drop-append_seam first (drop (offset + n) b.bytes))))
+    behind = sym (farther _) ∙ ap (drop (n - length bytes)) rest ∙ farther b.bytes
 
 pub other_bytes-saved : (store saved : Store) (n offset : ℕ) (t : PlainType) (v : Value) → AreWhole store → save store (Into n offset) t v ≡ Some saved → (b written : Block) → block_at store n ≡ Some b → block_at saved n ≡ Some written → SameButAt offset (size_of t) b written
 other_bytes-saved store saved zero offset t v w e b written found found' = absurd cc

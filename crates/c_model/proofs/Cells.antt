@@ -6,8 +6,8 @@ use Rattle.std.specs.Int.{w32}
 use Rattle.c_syntax.specs.declared.types.CInt.{CInt}
 use Rattle.c_syntax.specs.declared.types.CInt.TheVariants.{I8, U8, I16, U16, I32, U32, I64, U64}
 use Rattle.c_model.specs.Integers.{int_size, size_of, fits, bits_of, value_of_bits}
-use Rattle.c_syntax.specs.Ctypes.{PlainType, Int}
-use Rattle.c_model.specs.Memory.{Value, Integer, number_of, bytes_of, with_low_byte, value_from, bytes_from}
+use Rattle.c_syntax.specs.Ctypes.{PlainType, Void, Int}
+use Rattle.c_model.specs.Memory.{Value, Integer, NoValue, number_of, bytes_of, with_low_byte, value_from, bytes_from}
 
 -- two's complement, where h is the half of m
 not_negative_of_bits : (h m n : ℕ) → n < h → m ≡ h + h → (if nat_le h (n % m) then negsuc (m - suc (n % m)) else pos (n % m)) ≡ pos n
@@ -85,5 +85,11 @@ pub length-bytes_of : (w n : ℕ) → length (bytes_of w n) ≡ w
 length-bytes_of zero n = refl
 length-bytes_of (suc w) n = ap suc (length-bytes_of w (n / 256))
 
-pub length-bytes_from : (t : PlainType) (v : Value) → length (bytes_from t v) ≡ size_of t
-length-bytes_from (Int k) (Integer z) = length-bytes_of (int_size k) (bits_of k z)
+pub length-integer_bytes : (k : CInt) (z : ℤ) → length (bytes_from (Int k) (Integer z)) ≡ int_size k
+length-integer_bytes k z = length-bytes_of (int_size k) (bits_of k z)
+
+-- what is no integer has no bytes
+pub length-bytes_from : (t : PlainType) (v : Value) → length (bytes_from t v) ≤ size_of t
+length-bytes_from Void v = omega arith
+length-bytes_from (Int k) NoValue = omega arith
+length-bytes_from (Int k) (Integer z) = omega (arith, length-integer_bytes k z)

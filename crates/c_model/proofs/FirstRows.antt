@@ -9,7 +9,7 @@ use Rattle.c_syntax.specs.declared.annotation.Kind.TheVariants as clause
 use Rattle.c_syntax.specs.declared.annotation.Relation.TheVariants as relation
 use Rattle.c_syntax.specs.Ctypes.{int_type}
 use Rattle.c_syntax.specs.Expressions as expression
-use Rattle.c_syntax.specs.Expressions.{NoExpression, Following}
+use Rattle.c_syntax.specs.Expressions.{Node, NoExpression, Following}
 use Rattle.c_syntax.specs.Annotations as logic
 use Rattle.c_syntax.specs.Annotations.{Truth, Chain, Linked, NoLink}
 use Rattle.c_syntax.specs.Statements.{One, Eval, Block, Return, Declare, Run, Asserts, NoItem, Then}
@@ -46,7 +46,7 @@ printing_program : read_as (codes "int main(void) {\n  int x = 2;\n  //@ assert 
     params = [];
     contract = None;
     body = Some (Block (at 1 16 15) (
-        Then (Declare (record { place = at 2 7 23; name = 1; named = true; ctype = int_type; init = Some (at 2 9 25, One (expression.Number (at 2 11 27) int_type (pos 2) (Some I32))) } ∷ []))
+        Then (Declare (record { place = at 2 7 23; name = 1; named = true; ctype = int_type; init = Some (at 2 9 25, One (Node (at 2 11 27) int_type (expression.Number (pos 2) (Some I32)))) } ∷ []))
         (Then (Asserts (record {
           number = 1;
           kind = clause.Assert;
@@ -55,8 +55,8 @@ printing_program : read_as (codes "int main(void) {\n  int x = 2;\n  //@ assert 
               (logic.Binary (at 3 16 45) None no_range operator.Add (logic.Variable (at 3 14 43) (Some int_type) no_range x) (logic.Number (at 3 18 47) None no_range (pos 1)))
               (Linked (at 3 20 49) relation.Eq (logic.Number (at 3 23 52) None no_range (pos 3)) NoLink));
         } ∷ []))
-        (Then (Run (Eval (at 4 3 57) (expression.Call (at 4 10 64) int_type (record { name = 2; decl = 4294967295 }) (Following (expression.Letter (at 4 11 65) int_type (pos 65)) NoExpression))))
-        (Then (Run (Return (at 5 3 73) (Some (expression.Number (at 5 10 80) int_type (pos 0) (Some I32))))) NoItem)))));
+        (Then (Run (Eval (at 4 3 57) (Node (at 4 10 64) int_type (expression.Call (record { name = 2; decl = 4294967295 }) (Following (Node (at 4 11 65) int_type (expression.Letter (pos 65))) NoExpression)))))
+        (Then (Run (Return (at 5 3 73) (Some (Node (at 5 10 80) int_type (expression.Number (pos 0) (Some I32)))))) NoItem)))));
     close = at 6 1 83;
   } ∷ [];
   strays = [];
@@ -78,11 +78,11 @@ looping_program : read_as (codes "int main(void) { while (1) if (1) if (0) retur
     result = int_type;
     params = [];
     contract = None;
-    body = Some (Block (at 1 16 15) (Then (Run (While (at 1 18 17) [] (expression.Number (at 1 25 24) int_type (pos 1) (Some I32))
-        (If (at 1 28 27) (expression.Number (at 1 32 31) int_type (pos 1) (Some I32))
-        (If (at 1 35 34) (expression.Number (at 1 39 38) int_type (pos 0) (Some I32))
-        (Return (at 1 42 41) (Some (expression.Number (at 1 49 48) int_type (pos 1) (Some I32))))
-        (Else (Eval (at 1 57 56) (expression.Call (at 1 64 63) int_type (record { name = 1; decl = 4294967295 }) (Following (expression.Letter (at 1 65 64) int_type (pos 120)) NoExpression)))))
+    body = Some (Block (at 1 16 15) (Then (Run (While (at 1 18 17) [] (Node (at 1 25 24) int_type (expression.Number (pos 1) (Some I32)))
+        (If (at 1 28 27) (Node (at 1 32 31) int_type (expression.Number (pos 1) (Some I32)))
+        (If (at 1 35 34) (Node (at 1 39 38) int_type (expression.Number (pos 0) (Some I32)))
+        (Return (at 1 42 41) (Some (Node (at 1 49 48) int_type (expression.Number (pos 1) (Some I32)))))
+        (Else (Eval (at 1 57 56) (Node (at 1 64 63) int_type (expression.Call (record { name = 1; decl = 4294967295 }) (Following (Node (at 1 65 64) int_type (expression.Letter (pos 120))) NoExpression))))))
         NoElse))) NoItem));
     close = at 1 71 70;
   } ∷ [];

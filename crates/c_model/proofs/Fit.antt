@@ -2,17 +2,18 @@
 use Rattle.std.proofs.Common.{◌≡◌, ℕ, zero, suc, ◌<◌, ◌≤◌, pos, Bool, true, false, cond, if◌then◌else◌, nat_eq, nat_lt, List, [], ◌∷◌, Option, Some, None, slice_get, codes, bytes_eq, refl, ap, ◌∙◌, arith}
 use Rattle.c_syntax.specs.declared.place.Place.{Place}
 use Rattle.c_syntax.specs.declared.types.Segment.{Segment}
-use Rattle.c_syntax.specs.Ctypes.{PlainType}
+use Rattle.c_syntax.specs.Ctypes.{PlainType, int_type}
 use Rattle.c_syntax.specs.Annotations.{Annotation, ClauseBody, Truth, Chain, Links, NoLink, Linked}
 use Rattle.c_syntax.specs.declared.annotation.Relation.{Relation}
-use Rattle.c_syntax.specs.Expressions.{Expression, Number, Letter, Variable, Binary, Assign, Call, Expressions, NoExpression, Following}
-use Rattle.c_syntax.specs.Statements.{Initialiser, One, Declaration, Statement, Eval, Block, If, While, Return, ElsePart, NoElse, Else, BlockItem, Declare, Run, Asserts, BlockItems, NoItem, Then}
+use Rattle.c_syntax.specs.Expressions.{Expression, Node, Number, Letter, Variable, Unary, Binary, Both, Either, Choice, Assign, Bump, Call, Cast, SizeOfType, SizeOfExpr, Expressions, NoExpression, Following, type_of}
+use Rattle.c_syntax.specs.Statements.{Initialiser, One, Declaration, Statement, Empty, Eval, Block, If, While, Do, For, Break, Continue, Return, ElsePart, NoElse, Else, ForFirst, NoFirst, First, BlockItem, Declare, Run, Asserts, BlockItems, NoItem, Then}
 use Rattle.c_syntax.specs.Programs.{Function, TranslationUnit}
 use Rattle.c_model.specs.Integers.{size_of, byte_of}
-use Rattle.c_model.specs.Memory.{Pointer, Value, Integer, Store, load, save, standard_sizes, full_at_stack_birth}
+use Rattle.c_model.specs.Memory.{Pointer, Value, Integer, NoValue, Store, load, save, standard_sizes, full_at_stack_birth}
 use Rattle.c_model.specs.State.{Input, State, Breaks, Continues, Returns, End, Leaves, Over, Undefined, Fault, Outcome, Normal, Stop, Evaluation, on_outcome, ◌>>=◌, ◌>>◌, give, done, stop, defined, step_from, step, print, find, start_of, object, read, put_store, write, birth_of, birth, births, frame, mark, restored, within}
 use Rattle.c_model.specs.Logic.{TermValue, Mathematical, Answer, Says, SaysNothing, OutOfSteps, lazily, related, term, chain, clause, judged, check, checks}
-use Rattle.c_model.specs.Meaning.{Callee, operate_values, eval_with, place_with, evals_with, is_zero, choose, after_body, turns, declared_in, initialise, initialise_all, exec_with, else_with, item_with, items_with, put_char, library_call, call_of, eval, exec, body_with, main_with, function_named, start, ran, run}
+use Rattle.c_model.specs.Meaning.{Callee, operate_value, operate_values, converted, compound, bump_operator, bump_value, is_zero, choose, truth_value, size_value, eval_with, place_with, evals_with, after_body, turns, do_turns, declared_in, declared_first, initialise, initialise_all, condition_with, effect_with, exec_with, else_with, first_with, item_with, items_with, put_char, library_call, call_of, eval, exec, body_with, main_with, function_named, start, ran, run}
+use Rattle.c_model.specs.Laws.{for_turns}
 use Rattle.c_model.specs.Steps.{steps_after, Fit, CalleesFit}
 
 pub fit_less : {A : Type 0} {m m' : Evaluation A} (j k : ℕ) → j ≤ k → Fit k m m' → Fit j m m'
@@ -174,36 +175,69 @@ fit_after_body k m m' f f' h g = record {
   spends = λ s le. (fit_body_outcome k s.steps (m s) f f' le (h.spends s le) g).1;
 }
 
-pub fit_turns : (m n k : ℕ) (test test' : Evaluation Value) (body body' : Evaluation (Unit {0})) → k < m → k < n → Fit k test test' → Fit k body body' → Fit k (turns m test body) (turns n test' body')
-fit_turns zero n k test test' body body' lm ln ft fb = absurd (omega arith)
-fit_turns (suc m) zero k test test' body body' lm ln ft fb = absurd (omega arith)
-fit_turns (suc m) (suc n) k test test' body body' lm ln ft fb =
+pub fit_turns : (m n k : ℕ) (test test' : Evaluation Value) (body body' behind behind' : Evaluation (Unit {0})) → k < m → k < n → Fit k test test' → Fit k body body' → Fit k behind behind' → Fit k (turns m test body behind) (turns n test' body' behind')
+fit_turns zero n k test test' body body' behind behind' lm ln ft fb fs = absurd (omega arith)
+fit_turns (suc m) zero k test test' body body' behind behind' lm ln ft fb fs = absurd (omega arith)
+fit_turns (suc m) (suc n) k test test' body body' behind behind' lm ln ft fb fs =
     fit_bind k test test' _ _ ft (λ v. fit_choose k v _ _ done done (fit_step k _ _ (λ j lt.
-    fit_after_body j body body' (turns m test body) (turns n test' body') (fit_less j k (omega (arith, lt)) fb)
-    (fit_turns m n j test test' body body' (omega (arith, lt)) (omega (arith, lt)) (fit_less j k (omega (arith, lt)) ft) (fit_less j k (omega (arith, lt)) fb)))) (fit_give k tt))
+    fit_after_body j body body' (behind >> turns m test body behind) (behind' >> turns n test' body' behind') (fit_less j k (omega (arith, lt)) fb)
+    (fit_then j behind behind' _ _ (fit_less j k (omega (arith, lt)) fs)
+    (fit_turns m n j test test' body body' behind behind' (omega (arith, lt)) (omega (arith, lt)) (fit_less j k (omega (arith, lt)) ft) (fit_less j k (omega (arith, lt)) fb) (fit_less j k (omega (arith, lt)) fs))))) (fit_give k tt))
+
+pub fit_do_turns : (m n k : ℕ) (test test' : Evaluation Value) (body body' : Evaluation (Unit {0})) → k < m → k < n → Fit k test test' → Fit k body body' → Fit k (do_turns m test body) (do_turns n test' body')
+fit_do_turns zero n k test test' body body' lm ln ft fb = absurd (omega arith)
+fit_do_turns (suc m) zero k test test' body body' lm ln ft fb = absurd (omega arith)
+fit_do_turns (suc m) (suc n) k test test' body body' lm ln ft fb =
+    fit_step k _ _ (λ j lt.
+    fit_after_body j body body' _ _ (fit_less j k (omega (arith, lt)) fb)
+    (fit_bind j test test' _ _ (fit_less j k (omega (arith, lt)) ft) (λ v. fit_choose j v _ _ done done
+    (fit_do_turns m n j test test' body body' (omega (arith, lt)) (omega (arith, lt)) (fit_less j k (omega (arith, lt)) ft) (fit_less j k (omega (arith, lt)) fb)) (fit_give j tt))))
 
 -- ---- expressions
 
 fit_place : (e : Expression) (k : ℕ) (call call' : Callee) → Fit k (place_with e call) (place_with e call')
-fit_place (Variable at t x) k call call' = fit_object k at x.name
-fit_place (Number at t n i) k call call' = fit_stop k (Over (Undefined at))
-fit_place (Letter at t n) k call call' = fit_stop k (Over (Undefined at))
-fit_place (Binary at t op a b) k call call' = fit_stop k (Over (Undefined at))
-fit_place (Assign at t op a b) k call call' = fit_stop k (Over (Undefined at))
-fit_place (Call at t f args) k call call' = fit_stop k (Over (Undefined at))
+fit_place (Node at t (Variable x)) k call call' = fit_object k at x.name
+fit_place (Node at t (Number n i)) k call call' = fit_stop k (Over (Undefined at))
+fit_place (Node at t (Letter n)) k call call' = fit_stop k (Over (Undefined at))
+fit_place (Node at t (Unary op a)) k call call' = fit_stop k (Over (Undefined at))
+fit_place (Node at t (Binary op a b)) k call call' = fit_stop k (Over (Undefined at))
+fit_place (Node at t (Both a b)) k call call' = fit_stop k (Over (Undefined at))
+fit_place (Node at t (Either a b)) k call call' = fit_stop k (Over (Undefined at))
+fit_place (Node at t (Choice a b c)) k call call' = fit_stop k (Over (Undefined at))
+fit_place (Node at t (Assign op a b)) k call call' = fit_stop k (Over (Undefined at))
+fit_place (Node at t (Bump op a)) k call call' = fit_stop k (Over (Undefined at))
+fit_place (Node at t (Call f args)) k call call' = fit_stop k (Over (Undefined at))
+fit_place (Node at t (Cast to a)) k call call' = fit_stop k (Over (Undefined at))
+fit_place (Node at t (SizeOfType u)) k call call' = fit_stop k (Over (Undefined at))
+fit_place (Node at t (SizeOfExpr a)) k call call' = fit_stop k (Over (Undefined at))
+
+fit_truth : (e : Expression) (k : ℕ) (call call' : Callee) → Fit k (eval_with e call) (eval_with e call') → Fit k (eval_with e call >>= λ y. give (truth_value y)) (eval_with e call' >>= λ y. give (truth_value y))
+fit_truth e k call call' f = fit_bind k _ _ _ _ f (λ y. fit_give k (truth_value y))
 
 mutual
   pub fit_eval : (e : Expression) (k : ℕ) (call call' : Callee) → CalleesFit k call call' → Fit k (eval_with e call) (eval_with e call')
-  fit_eval (Number at t n i) k call call' h = fit_give k (Integer n)
-  fit_eval (Letter at t n) k call call' h = fit_give k (Integer n)
-  fit_eval (Variable at t x) k call call' h = fit_bind k _ _ _ _ (fit_object k at x.name) (λ p. fit_read k at p t)
-  fit_eval (Binary at t op a b) k call call' h =
+  fit_eval (Node at t (Number n i)) k call call' h = fit_give k (Integer n)
+  fit_eval (Node at t (Letter n)) k call call' h = fit_give k (Integer n)
+  fit_eval (Node at t (Variable x)) k call call' h = fit_bind k _ _ _ _ (fit_object k at x.name) (λ p. fit_read k at p t)
+  fit_eval (Node at t (Unary op a)) k call call' h = fit_bind k _ _ _ _ (fit_eval a k call call' h) (λ x. fit_defined k at (operate_value t op x))
+  fit_eval (Node at t (Binary op a b)) k call call' h =
       fit_bind k _ _ _ _ (fit_eval a k call call' h) (λ x. fit_bind k _ _ _ _ (fit_eval b k call call' h) (λ y. fit_defined k at (operate_values t op x y)))
-  fit_eval (Assign at t None a b) k call call' h =
+  fit_eval (Node at t (Both a b)) k call call' h =
+      fit_bind k _ _ _ _ (fit_eval a k call call' h) (λ x. fit_choose k x _ _ _ _ (fit_truth b k call call' (fit_eval b k call call' h)) (fit_give k (Integer (pos 0))))
+  fit_eval (Node at t (Either a b)) k call call' h =
+      fit_bind k _ _ _ _ (fit_eval a k call call' h) (λ x. fit_choose k x _ _ _ _ (fit_give k (Integer (pos 1))) (fit_truth b k call call' (fit_eval b k call call' h)))
+  fit_eval (Node at t (Choice a b c)) k call call' h =
+      fit_bind k _ _ _ _ (fit_eval a k call call' h) (λ x. fit_choose k x _ _ _ _ (fit_eval b k call call' h) (fit_eval c k call call' h))
+  fit_eval (Node at t (Assign None a b)) k call call' h =
       fit_bind k _ _ _ _ (fit_place a k call call') (λ p. fit_bind k _ _ _ _ (fit_eval b k call call' h) (λ v. fit_write_give k at p t v))
-  fit_eval (Assign at t (Some op) a b) k call call' h =
-      fit_bind k _ _ _ _ (fit_place a k call call') (λ p. fit_bind k _ _ _ _ (fit_read k at p t) (λ x. fit_bind k _ _ _ _ (fit_eval b k call call' h) (λ y. fit_bind k _ _ _ _ (fit_defined k at (operate_values t op x y)) (λ v. fit_write_give k at p t v))))
-  fit_eval (Call at t f args) k call call' h = fit_bind k _ _ _ _ (fit_evals args k call call' h) (λ vs. h at f vs)
+  fit_eval (Node at t (Assign (Some op) a b)) k call call' h =
+      fit_bind k _ _ _ _ (fit_place a k call call') (λ p. fit_bind k _ _ _ _ (fit_read k at p t) (λ x. fit_bind k _ _ _ _ (fit_eval b k call call' h) (λ y. fit_bind k _ _ _ _ (fit_defined k at (compound t op x (type_of b) y)) (λ v. fit_write_give k at p t v))))
+  fit_eval (Node at t (Bump op a)) k call call' h =
+      fit_bind k _ _ _ _ (fit_place a k call call') (λ p. fit_bind k _ _ _ _ (fit_read k at p t) (λ x. fit_bind k _ _ _ _ (fit_defined k at (compound t (bump_operator op) x int_type (Integer (pos 1)))) (λ v. fit_then k _ _ _ _ (fit_write k at p t v) (fit_give k (bump_value op x v)))))
+  fit_eval (Node at t (Call f args)) k call call' h = fit_bind k _ _ _ _ (fit_evals args k call call' h) (λ vs. h at f vs)
+  fit_eval (Node at t (Cast to a)) k call call' h = fit_bind k _ _ _ _ (fit_eval a k call call' h) (λ x. fit_give k (converted to x))
+  fit_eval (Node at t (SizeOfType u)) k call call' h = fit_give k (size_value u)
+  fit_eval (Node at t (SizeOfExpr a)) k call call' h = fit_give k (size_value (type_of a))
 
   pub fit_evals : (es : Expressions) (k : ℕ) (call call' : Callee) → CalleesFit k call call' → Fit k (evals_with es call) (evals_with es call')
   fit_evals NoExpression k call call' h = fit_give k []
@@ -221,20 +255,39 @@ fit_initialise_all : (ds : List Declaration) (k : ℕ) (call call' : Callee) →
 fit_initialise_all [] k call call' h = fit_give k tt
 fit_initialise_all (d ∷ ds) k call call' h = fit_then k _ _ _ _ (fit_initialise d d.init k call call' h) (fit_initialise_all ds k call call' h)
 
+fit_condition : (e : Option Expression) (k : ℕ) (call call' : Callee) → CalleesFit k call call' → Fit k (condition_with e call) (condition_with e call')
+fit_condition None k call call' h = fit_give k (Integer (pos 1))
+fit_condition (Some e) k call call' h = fit_eval e k call call' h
+
+fit_effect : (e : Option Expression) (k : ℕ) (call call' : Callee) → CalleesFit k call call' → Fit k (effect_with e call) (effect_with e call')
+fit_effect None k call call' h = fit_give k tt
+fit_effect (Some e) k call call' h = fit_then k _ _ _ _ (fit_eval e k call call' h) (fit_give k tt)
+
 mutual
   pub fit_exec : (a : Statement) (k m n : ℕ) (call call' : Callee) → k < m → k < n → CalleesFit k call call' → Fit k (exec_with a call m) (exec_with a call' n)
+  fit_exec (Empty at) k m n call call' lm ln h = fit_give k tt
   fit_exec (Eval at e) k m n call call' lm ln h = fit_then k _ _ _ _ (fit_eval e k call call' h) (fit_give k tt)
   fit_exec (Block at items) k m n call call' lm ln h =
       fit_within k _ _ (fit_then k _ _ _ _ (fit_births k (declared_in items)) (fit_items items k m n call call' lm ln h))
   fit_exec (If at e a b) k m n call call' lm ln h =
       fit_bind k _ _ _ _ (fit_eval e k call call' h) (λ v. fit_choose k v _ _ _ _ (fit_exec a k m n call call' lm ln h) (fit_else b k m n call call' lm ln h))
-  fit_exec (While at annots e a) k m n call call' lm ln h = fit_turns m n k _ _ _ _ lm ln (fit_eval e k call call' h) (fit_exec a k m n call call' lm ln h)
+  fit_exec (While at annots e a) k m n call call' lm ln h = fit_turns m n k _ _ _ _ _ _ lm ln (fit_eval e k call call' h) (fit_exec a k m n call call' lm ln h) (fit_give k tt)
+  fit_exec (Do at a e) k m n call call' lm ln h = fit_do_turns m n k _ _ _ _ lm ln (fit_eval e k call call' h) (fit_exec a k m n call call' lm ln h)
+  fit_exec (For at annots first e behind a) k m n call call' lm ln h =
+      fit_within k _ _ (fit_then k _ _ _ _ (fit_then k _ _ _ _ (fit_births k (declared_first first)) (fit_first first k m n call call' lm ln h))
+      (fit_turns m n k _ _ _ _ _ _ lm ln (fit_condition e k call call' h) (fit_exec a k m n call call' lm ln h) (fit_effect behind k call call' h)))
+  fit_exec (Break at) k m n call call' lm ln h = fit_stop k (Leaves Breaks)
+  fit_exec (Continue at) k m n call call' lm ln h = fit_stop k (Leaves Continues)
   fit_exec (Return at None) k m n call call' lm ln h = fit_stop k (Leaves (Returns None))
   fit_exec (Return at (Some e)) k m n call call' lm ln h = fit_bind k _ _ _ _ (fit_eval e k call call' h) (λ v. fit_stop k (Leaves (Returns (Some v))))
 
   pub fit_else : (b : ElsePart) (k m n : ℕ) (call call' : Callee) → k < m → k < n → CalleesFit k call call' → Fit k (else_with b call m) (else_with b call' n)
   fit_else NoElse k m n call call' lm ln h = fit_give k tt
   fit_else (Else a) k m n call call' lm ln h = fit_exec a k m n call call' lm ln h
+
+  pub fit_first : (first : ForFirst) (k m n : ℕ) (call call' : Callee) → k < m → k < n → CalleesFit k call call' → Fit k (first_with first call m) (first_with first call' n)
+  fit_first NoFirst k m n call call' lm ln h = fit_give k tt
+  fit_first (First i) k m n call call' lm ln h = fit_item i k m n call call' lm ln h
 
   pub fit_item : (i : BlockItem) (k m n : ℕ) (call call' : Callee) → k < m → k < n → CalleesFit k call call' → Fit k (item_with i call m) (item_with i call' n)
   fit_item (Declare ds) k m n call call' lm ln h = fit_initialise_all ds k call call' h
@@ -249,6 +302,7 @@ mutual
 
 fit_put_char : (k : ℕ) (at : Place) (vs : List Value) → Fit k (put_char at vs) (put_char at vs)
 fit_put_char k at [] = fit_stop k (Over (Undefined at))
+fit_put_char k at (NoValue ∷ []) = fit_stop k (Over (Undefined at))
 fit_put_char k at (Integer z ∷ []) = fit_then k _ _ _ _ (fit_same k (print (byte_of z)) (λ s. omega arith)) (fit_give k (Integer (pos (byte_of z))))
 fit_put_char k at (v ∷ w ∷ vs) = fit_stop k (Over (Undefined at))
 
@@ -297,6 +351,7 @@ left-ran (Normal u s) = refl
 left-ran (Stop (Leaves Breaks) s) = refl
 left-ran (Stop (Leaves Continues) s) = refl
 left-ran (Stop (Leaves (Returns None)) s) = refl
+left-ran (Stop (Leaves (Returns (Some NoValue))) s) = refl
 left-ran (Stop (Leaves (Returns (Some (Integer z)))) s) = refl
 left-ran (Stop (Over e) s) = refl
 
@@ -313,10 +368,29 @@ run_spends p input n =
 pub run_at : (p : TranslationUnit) (input : Input) (n m : ℕ) → n < m → run p input n ≡ ran (main_with (function_named p (codes "main") p.funcs) (call_of p m) m (start input n))
 run_at p input n m l = ap ran (fuel_main p (function_named p (codes "main") p.funcs) (suc n) m (start input n) (omega arith) l)
 
--- a loop is one turn and then the loop again
+-- ---- loops
+
+-- turns with less and with more fuel are the same from few enough steps
+turn_again : (k n : ℕ) (test : Evaluation Value) (body behind : Evaluation (Unit {0})) → k ≤ n → Fit k test test → Fit k body body → Fit k behind behind → Fit k (turns (suc n) test body behind) (test >>= λ v. choose v (step >> λ t. after_body (body t) (behind >> turns (suc n) test body behind)) done)
+turn_again k n test body behind l ft fb fs =
+    fit_bind k test test _ _ ft (λ v. fit_choose k v _ _ done done (fit_step k _ _ (λ j lt.
+    fit_after_body j body body (behind >> turns n test body behind) (behind >> turns (suc n) test body behind) (fit_less j k (omega (arith, lt)) fb)
+    (fit_then j behind behind _ _ (fit_less j k (omega (arith, lt)) fs)
+    (fit_turns n (suc n) j test test body body behind behind (omega (arith, lt)) (omega (arith, lt)) (fit_less j k (omega (arith, lt)) ft) (fit_less j k (omega (arith, lt)) fb) (fit_less j k (omega (arith, lt)) fs))))) (fit_give k tt))
+
+-- a `while` is one turn and then the loop again
 pub one_turn : (p : TranslationUnit) (at : Place) (annots : List Annotation) (e : Expression) (a : Statement) (n : ℕ) (s : State) → s.steps < n → exec p n (While at annots e a) s ≡ (eval p n e >>= λ v. choose v (step >> λ t. after_body (exec p n a t) (exec p n (While at annots e a))) done) s
 one_turn p at annots e a zero s l = absurd (omega arith)
 one_turn p at annots e a (suc n) s l =
+    let k = s.steps in
+    let c = call_of p (suc n) in
+    let fc = fit_call_of p (suc n) (suc n) k l l in
+    (turn_again k n (eval p (suc n) e) (exec p (suc n) a) done (omega arith) (fit_eval e k c c fc) (fit_exec a k (suc n) (suc n) c c l l fc) (fit_give k tt)).same s (omega arith)
+
+-- a `do` is one turn and then, as its condition says, the loop again
+pub one_do_turn : (p : TranslationUnit) (at : Place) (a : Statement) (e : Expression) (n : ℕ) (s : State) → s.steps < n → exec p n (Do at a e) s ≡ (step >> λ t. after_body (exec p n a t) (eval p n e >>= λ v. choose v (exec p n (Do at a e)) done)) s
+one_do_turn p at a e zero s l = absurd (omega arith)
+one_do_turn p at a e (suc n) s l =
     let k = s.steps in
     let c = call_of p (suc n) in
     let test = eval p (suc n) e in
@@ -324,7 +398,16 @@ one_turn p at annots e a (suc n) s l =
     let fc = fit_call_of p (suc n) (suc n) k l l in
     let ft : Fit k test test = fit_eval e k c c fc in
     let fb : Fit k body body = fit_exec a k (suc n) (suc n) c c l l fc in
-    (fit_bind k test test (λ v. choose v (step >> λ t. after_body (body t) (turns n test body)) done) (λ v. choose v (step >> λ t. after_body (body t) (turns (suc n) test body)) done) ft
-    (λ v. fit_choose k v _ _ done done (fit_step k _ _ (λ j lt.
-    fit_after_body j body body (turns n test body) (turns (suc n) test body) (fit_less j k (omega (arith, lt)) fb)
-    (fit_turns n (suc n) j test test body body (omega (arith, lt)) (omega (arith, lt)) (fit_less j k (omega (arith, lt)) ft) (fit_less j k (omega (arith, lt)) fb)))) (fit_give k tt))).same s (omega arith)
+    (fit_step k (λ t. after_body (body t) (test >>= λ v. choose v (do_turns n test body) done)) (λ t. after_body (body t) (test >>= λ v. choose v (do_turns (suc n) test body) done)) (λ j lt.
+    fit_after_body j body body _ _ (fit_less j k (omega (arith, lt)) fb)
+    (fit_bind j test test _ _ (fit_less j k (omega (arith, lt)) ft) (λ v. fit_choose j v _ _ done done
+    (fit_do_turns n (suc n) j test test body body (omega (arith, lt)) (omega (arith, lt)) (fit_less j k (omega (arith, lt)) ft) (fit_less j k (omega (arith, lt)) fb)) (fit_give j tt))))).same s (omega arith)
+
+-- the turns of a `for` are one turn, what stands behind the body, and then the turns again
+pub one_for_turn : (p : TranslationUnit) (e behind : Option Expression) (a : Statement) (n : ℕ) (s : State) → s.steps < n → for_turns p n e behind a s ≡ (condition_with e (call_of p n) >>= λ v. choose v (step >> λ t. after_body (exec p n a t) (effect_with behind (call_of p n) >> for_turns p n e behind a)) done) s
+one_for_turn p e behind a zero s l = absurd (omega arith)
+one_for_turn p e behind a (suc n) s l =
+    let k = s.steps in
+    let c = call_of p (suc n) in
+    let fc = fit_call_of p (suc n) (suc n) k l l in
+    (turn_again k n (condition_with e c) (exec p (suc n) a) (effect_with behind c) (omega arith) (fit_condition e k c c fc) (fit_exec a k (suc n) (suc n) c c l l fc) (fit_effect behind k c c fc)).same s (omega arith)

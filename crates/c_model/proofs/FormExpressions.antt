@@ -8,16 +8,16 @@ use Rattle.grammar.proofs.Readings.{EachOf, each_more, each_gives, each_one, eac
 use Rattle.c_syntax.specs.declared.place.Place.{Place}
 use Rattle.c_syntax.specs.declared.expression.Use.{Use}
 use Rattle.c_syntax.specs.declared.expression.BinOp.{BinOp}
-use Rattle.c_syntax.specs.declared.expression.BinOp.TheVariants.{Add, Sub}
+use Rattle.c_syntax.specs.declared.expression.BinOp.TheVariants.{Add, Sub, Eq, Ne, Lt, Le, Gt, Ge}
 use Rattle.c_syntax.specs.Expressions.{Expression}
 use Rattle.c_syntax.specs.Annotations.{LogicTerm}
 use Rattle.c_model.specs.declared.first_tokens.Token.{Token}
 use Rattle.c_model.specs.declared.first_tokens.TokenKind.{TokenKind}
 use Rattle.c_model.specs.declared.first_tokens.TokenKind.TheVariants.{Fixed, Name, Number, Letter}
-use Rattle.c_model.specs.declared.first_tokens.Lexeme.TheVariants.{LeftParen, RightParen, Semicolon, Plus, Minus, Assert}
+use Rattle.c_model.specs.declared.first_tokens.Lexeme.TheVariants.{LeftParen, RightParen, Semicolon, Plus, Minus, Equal, NotEqual, Less, LessEqual, Greater, GreaterEqual, Assert}
 use Rattle.c_model.specs.declared.first_tokens.Lexeme.{Lexeme}
 use Rattle.c_model.specs.FirstForm.{Scope, kind, name_kind, number_kind, letter_kind, first_additive, first_relational, is_fixed, fixed, placed, number_of, letter_of, variable, variable_of, additive, relational, relation_of, binary, parenthesised, variable_used, integer_literal, character_literal, primary, sum_once, sum_more, sum, comparison, compared, expr_of, expr, full_expr, term_binary, term_variable, term_integer, term_character, term_primary, term_once, term_more, term_of, term, assertion, assert_clause, full_clause}
-use Rattle.c_model.specs.IntPrograms.{IsIntLiteral, IsLetter, IsVariable, IsPure, leaves_of, IsFullExpression, IsSum, IsIntTerm, leaves, IsShortTerm, IsIntAssert}
+use Rattle.c_model.specs.IntPrograms.{IsIntLiteral, IsLetter, IsVariable, IsPure, leaves_of, IsFullExpression, IsSum, IsIntOperator, IsIntTerm, leaves, IsShortTerm, IsIntAssert}
 
 -- ---- tokens
 
@@ -90,6 +90,20 @@ is_sum (Fixed Plus) op e = let same : Add ≡ op = cc in subst IsSum same tt
 is_sum (Fixed Minus) op e = let same : Sub ≡ op = cc in subst IsSum same tt
 is_sum _ op e = absurd cc
 
+is_relation : (t : TokenKind) (op : BinOp) → relational t ≡ Some op → IsIntOperator op
+is_relation (Fixed Equal) op e = let same : Eq ≡ op = cc in subst IsIntOperator same tt
+is_relation (Fixed NotEqual) op e = let same : Ne ≡ op = cc in subst IsIntOperator same tt
+is_relation (Fixed Less) op e = let same : Lt ≡ op = cc in subst IsIntOperator same tt
+is_relation (Fixed LessEqual) op e = let same : Le ≡ op = cc in subst IsIntOperator same tt
+is_relation (Fixed Greater) op e = let same : Gt ≡ op = cc in subst IsIntOperator same tt
+is_relation (Fixed GreaterEqual) op e = let same : Ge ≡ op = cc in subst IsIntOperator same tt
+is_relation _ op e = absurd cc
+
+sum_operator : (op : BinOp) → IsSum op → IsIntOperator op
+sum_operator Add p = tt
+sum_operator Sub p = tt
+sum_operator _ p = absurd p
+
 pub each_variable : (s : Scope) → Each (one (placed (variable_of s))) (λ k x. (k ≡ 1) × IsVariable (length s) x.0)
 each_variable s = each_one (placed (variable_of s)) (λ t x _ e. (refl, is_variable_of s t.kind x.0 (placed_is (variable_of s) t x e)))
 
@@ -107,6 +121,9 @@ each_fixed k = each_token (is_fixed k)
 
 each_sign : Each (one (placed additive)) (λ k x. IsSum x.0)
 each_sign = each_one (placed additive) (λ t x _ e. is_sum t.kind x.0 (placed_is additive t x e))
+
+each_relational : Each (one (placed relational)) (λ k x. IsIntOperator x.0)
+each_relational = each_one (placed relational) (λ t x _ e. is_relation t.kind x.0 (placed_is relational t x e))
 
 -- what E reads in parentheses, where more tokens do no harm
 parenthesised_each : {A : Type 0} {E : Syntax Token A} {P : ℕ → A → Type 0} → ((k l : ℕ) (x : A) → k ≤ l → P k x → P l x) → Each E P → Each (parenthesised E) P
@@ -134,8 +151,8 @@ character_each : (n : ℕ) → Each character_literal (IsPart n)
 unfolding character_literal
 character_each n = each_then each_letter (λ k x p. each_gives _ (record { is = (refl, p.1); few = omega (arith, p.0) }))
 
-binary_part : (n k l : ℕ) (op : BinOp × Place) (left right : Expression) → IsPart n k left → IsPart n l right → IsPart n (k + l) (binary op left right)
-binary_part n k l op left right p q = record { is = (refl, p.is, q.is); few = omega (arith, p.few, q.few) }
+binary_part : (n k l : ℕ) (op : BinOp × Place) (left right : Expression) → IsIntOperator op.0 → IsPart n k left → IsPart n l right → IsPart n (k + l) (binary op left right)
+binary_part n k l op left right o p q = record { is = (refl, o, p.is, q.is); few = omega (arith, p.few, q.few) }
 
 module _ (s : Scope) {E : Syntax Token Expression} (e : Each E (IsPart (length s))) where
   primary_each : Each (primary s E) (IsPart (length s))
@@ -144,7 +161,7 @@ module _ (s : Scope) {E : Syntax Token Expression} (e : Each E (IsPart (length s
 
   sum_once_each : (k : ℕ) (left : Expression) → IsPart (length s) k left → Each (sum_once s E left) (λ l y. IsPart (length s) (k + l) y)
   unfolding sum_once
-  sum_once_each k left p = each_then (each_token (placed additive)) (λ j op _. each_then primary_each (λ m right q. each_gives (binary op left right) (part_more (length s) (k + m) (k + (j + (m + 0))) _ (omega arith) (binary_part (length s) k m op left right p q))))
+  sum_once_each k left p = each_then each_sign (λ j op o. each_then primary_each (λ m right q. each_gives (binary op left right) (part_more (length s) (k + m) (k + (j + (m + 0))) _ (omega arith) (binary_part (length s) k m op left right (sum_operator op.0 o) p q))))
 
   sum_more_each : (k : ℕ) (left : Expression) → IsPart (length s) k left → Each (sum_more s E left) (λ l y. IsPart (length s) (k + l) y)
   unfolding sum_more
@@ -156,7 +173,7 @@ module _ (s : Scope) {E : Syntax Token Expression} (e : Each E (IsPart (length s
 
   comparison_each : (k : ℕ) (left : Expression) → IsPart (length s) k left → Each (comparison s E left) (λ l y. IsPart (length s) (k + l) y)
   unfolding comparison
-  comparison_each k left p = each_then (each_token (placed relational)) (λ j op _. each_then sum_each (λ m right q. each_gives (binary op left right) (part_more (length s) (k + m) (k + (j + (m + 0))) _ (omega arith) (binary_part (length s) k m op left right p q))))
+  comparison_each k left p = each_then each_relational (λ j op o. each_then sum_each (λ m right q. each_gives (binary op left right) (part_more (length s) (k + m) (k + (j + (m + 0))) _ (omega arith) (binary_part (length s) k m op left right o p q))))
 
   compared_each : (k : ℕ) (left : Expression) → IsPart (length s) k left → Each (compared s E left) (λ l y. IsPart (length s) (k + l) y)
   unfolding compared

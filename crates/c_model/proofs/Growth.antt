@@ -3,16 +3,16 @@ use Rattle.std.proofs.Common.{◌≡◌, ℕ, zero, suc, pos, Bool, true, false,
 use Rattle.std.proofs.lemmas.List.{append-nil}
 use Rattle.c_syntax.specs.declared.place.Place.{Place}
 use Rattle.c_syntax.specs.declared.types.Segment.{Segment}
-use Rattle.c_syntax.specs.Ctypes.{PlainType}
+use Rattle.c_syntax.specs.Ctypes.{PlainType, int_type}
 use Rattle.c_syntax.specs.Annotations.{Annotation}
-use Rattle.c_syntax.specs.Expressions.{Expression, Number, Letter, Variable, Binary, Assign, Call, Expressions, NoExpression, Following}
-use Rattle.c_syntax.specs.Statements.{Initialiser, One, Declaration, Statement, Eval, Block, If, While, Return, ElsePart, NoElse, Else, BlockItem, Declare, Run, Asserts, BlockItems, NoItem, Then}
+use Rattle.c_syntax.specs.Expressions.{Expression, Node, Number, Letter, Variable, Unary, Binary, Both, Either, Choice, Assign, Bump, Call, Cast, SizeOfType, SizeOfExpr, Expressions, NoExpression, Following, type_of}
+use Rattle.c_syntax.specs.Statements.{Initialiser, One, Declaration, Statement, Empty, Eval, Block, If, While, Do, For, Break, Continue, Return, ElsePart, NoElse, Else, ForFirst, NoFirst, First, BlockItem, Declare, Run, Asserts, BlockItems, NoItem, Then}
 use Rattle.c_syntax.specs.Programs.{Function, TranslationUnit}
 use Rattle.c_model.specs.Integers.{size_of, byte_of}
-use Rattle.c_model.specs.Memory.{Pointer, Value, Integer, Store, load, save, standard_sizes, full_at_stack_birth}
-use Rattle.c_model.specs.State.{State, Breaks, Continues, Returns, End, Leaves, Over, Undefined, Fault, Spent, Outcome, Normal, Stop, Evaluation, on_outcome, ◌>>=◌, ◌>>◌, give, stop, defined, step_from, step, print, find, start_of, object, read, put_store, write, birth_of, birth, births, frame, restored, within}
+use Rattle.c_model.specs.Memory.{Pointer, Value, Integer, NoValue, Store, load, save, standard_sizes, full_at_stack_birth}
+use Rattle.c_model.specs.State.{State, Breaks, Continues, Returns, End, Leaves, Over, Undefined, Fault, Spent, Outcome, Normal, Stop, Evaluation, on_outcome, ◌>>=◌, ◌>>◌, give, done, stop, defined, step_from, step, print, find, start_of, object, read, put_store, write, birth_of, birth, births, frame, restored, within}
 use Rattle.c_model.specs.Logic.{Answer, Says, SaysNothing, OutOfSteps, clause, judged, check, checks}
-use Rattle.c_model.specs.Meaning.{Callee, operate_values, eval_with, place_with, evals_with, is_zero, choose, after_body, turns, declared_in, initialise, initialise_all, exec_with, else_with, item_with, items_with, put_char, library_call, call_of, body_with, main_with}
+use Rattle.c_model.specs.Meaning.{Callee, operate_value, operate_values, converted, compound, bump_operator, bump_value, is_zero, choose, truth_value, size_value, eval_with, place_with, evals_with, after_body, turns, do_turns, declared_in, declared_first, initialise, initialise_all, condition_with, effect_with, exec_with, else_with, first_with, item_with, items_with, put_char, library_call, call_of, body_with, main_with}
 use Rattle.c_model.specs.Growth.{output_after, Grown, Grows, CalleeGrows}
 
 pub grown_same : {A : Type 0} (o : List ℕ) (r : Outcome A) → output_after r ≡ o → Grown o r
@@ -125,36 +125,61 @@ body_run o (Stop (Leaves Breaks) s) again g h = record { rest = g.rest; is = g.i
 body_run o (Stop (Leaves (Returns v)) s) again g h = record { rest = g.rest; is = g.is }
 body_run o (Stop (Over e) s) again g h = record { rest = g.rest; is = g.is }
 
-pub grows_turns : (n : ℕ) (test : Evaluation Value) (body : Evaluation (Unit {0})) → Grows test → Grows body → Grows (turns n test body)
-grows_turns zero test body t b = grows_stop (Over Spent)
-grows_turns (suc n) test body t b =
-    grows_bind test _ t (λ v. grows_choose v _ _ (grows_bind step (λ _ s. after_body (body s) (turns n test body)) grows_step (λ _. record { at = λ s. body_run s.output (body s) (turns n test body) (b.at s) (grows_turns n test body t b) })) (grows_give tt))
+pub grows_turns : (n : ℕ) (test : Evaluation Value) (body behind : Evaluation (Unit {0})) → Grows test → Grows body → Grows behind → Grows (turns n test body behind)
+grows_turns zero test body behind t b h = grows_stop (Over Spent)
+grows_turns (suc n) test body behind t b h =
+    grows_bind test _ t (λ v. grows_choose v _ _ (grows_bind step (λ _ s. after_body (body s) (behind >> turns n test body behind)) grows_step (λ _. record { at = λ s. body_run s.output (body s) (behind >> turns n test body behind) (b.at s) (grows_then behind _ h (grows_turns n test body behind t b h)) })) (grows_give tt))
+
+pub grows_do_turns : (n : ℕ) (test : Evaluation Value) (body : Evaluation (Unit {0})) → Grows test → Grows body → Grows (do_turns n test body)
+grows_do_turns zero test body t b = grows_stop (Over Spent)
+grows_do_turns (suc n) test body t b =
+    grows_bind step (λ _ s. after_body (body s) (test >>= λ v. choose v (do_turns n test body) done)) grows_step (λ _. record { at = λ s. body_run s.output (body s) (test >>= λ v. choose v (do_turns n test body) done) (b.at s) (grows_bind test _ t (λ v. grows_choose v _ _ (grows_do_turns n test body t b) (grows_give tt))) })
 
 -- ---- expressions
 
 pub grows_place : (e : Expression) (call : Callee) → Grows (place_with e call)
-grows_place (Variable at t x) call = grows_object at x.name
-grows_place (Number at t n k) call = grows_stop (Over (Undefined at))
-grows_place (Letter at t n) call = grows_stop (Over (Undefined at))
-grows_place (Binary at t op a b) call = grows_stop (Over (Undefined at))
-grows_place (Assign at t op a b) call = grows_stop (Over (Undefined at))
-grows_place (Call at t f args) call = grows_stop (Over (Undefined at))
+grows_place (Node at t (Variable x)) call = grows_object at x.name
+grows_place (Node at t (Number n k)) call = grows_stop (Over (Undefined at))
+grows_place (Node at t (Letter n)) call = grows_stop (Over (Undefined at))
+grows_place (Node at t (Unary op a)) call = grows_stop (Over (Undefined at))
+grows_place (Node at t (Binary op a b)) call = grows_stop (Over (Undefined at))
+grows_place (Node at t (Both a b)) call = grows_stop (Over (Undefined at))
+grows_place (Node at t (Either a b)) call = grows_stop (Over (Undefined at))
+grows_place (Node at t (Choice a b c)) call = grows_stop (Over (Undefined at))
+grows_place (Node at t (Assign op a b)) call = grows_stop (Over (Undefined at))
+grows_place (Node at t (Bump op a)) call = grows_stop (Over (Undefined at))
+grows_place (Node at t (Call f args)) call = grows_stop (Over (Undefined at))
+grows_place (Node at t (Cast to a)) call = grows_stop (Over (Undefined at))
+grows_place (Node at t (SizeOfType u)) call = grows_stop (Over (Undefined at))
+grows_place (Node at t (SizeOfExpr a)) call = grows_stop (Over (Undefined at))
 
 grows_write_give : (at : Place) (p : Pointer) (t : PlainType) (v : Value) → Grows (write at p t v >> give v)
 grows_write_give at p t v = grows_then (write at p t v) (give v) (grows_write at p t v) (grows_give v)
 
+grows_truth : (e : Expression) (call : Callee) → Grows (eval_with e call) → Grows (eval_with e call >>= λ y. give (truth_value y))
+grows_truth e call f = grows_bind _ _ f (λ y. grows_give (truth_value y))
+
 mutual
   pub grows_eval : (e : Expression) (call : Callee) → CalleeGrows call → Grows (eval_with e call)
-  grows_eval (Number at t n k) call h = grows_give (Integer n)
-  grows_eval (Letter at t n) call h = grows_give (Integer n)
-  grows_eval (Variable at t x) call h = grows_bind _ _ (grows_object at x.name) (λ p. grows_read at p t)
-  grows_eval (Binary at t op a b) call h =
+  grows_eval (Node at t (Number n k)) call h = grows_give (Integer n)
+  grows_eval (Node at t (Letter n)) call h = grows_give (Integer n)
+  grows_eval (Node at t (Variable x)) call h = grows_bind _ _ (grows_object at x.name) (λ p. grows_read at p t)
+  grows_eval (Node at t (Unary op a)) call h = grows_bind _ _ (grows_eval a call h) (λ x. grows_defined at (operate_value t op x))
+  grows_eval (Node at t (Binary op a b)) call h =
       grows_bind _ _ (grows_eval a call h) (λ x. grows_bind _ _ (grows_eval b call h) (λ y. grows_defined at (operate_values t op x y)))
-  grows_eval (Assign at t None a b) call h =
+  grows_eval (Node at t (Both a b)) call h = grows_bind _ _ (grows_eval a call h) (λ x. grows_choose x _ _ (grows_truth b call (grows_eval b call h)) (grows_give (Integer (pos 0))))
+  grows_eval (Node at t (Either a b)) call h = grows_bind _ _ (grows_eval a call h) (λ x. grows_choose x _ _ (grows_give (Integer (pos 1))) (grows_truth b call (grows_eval b call h)))
+  grows_eval (Node at t (Choice a b c)) call h = grows_bind _ _ (grows_eval a call h) (λ x. grows_choose x _ _ (grows_eval b call h) (grows_eval c call h))
+  grows_eval (Node at t (Assign None a b)) call h =
       grows_bind _ _ (grows_place a call) (λ p. grows_bind _ _ (grows_eval b call h) (λ v. grows_write_give at p t v))
-  grows_eval (Assign at t (Some op) a b) call h =
-      grows_bind _ _ (grows_place a call) (λ p. grows_bind _ _ (grows_read at p t) (λ x. grows_bind _ _ (grows_eval b call h) (λ y. grows_bind _ _ (grows_defined at (operate_values t op x y)) (λ v. grows_write_give at p t v))))
-  grows_eval (Call at t f args) call h = grows_bind _ _ (grows_evals args call h) (λ vs. h at f vs)
+  grows_eval (Node at t (Assign (Some op) a b)) call h =
+      grows_bind _ _ (grows_place a call) (λ p. grows_bind _ _ (grows_read at p t) (λ x. grows_bind _ _ (grows_eval b call h) (λ y. grows_bind _ _ (grows_defined at (compound t op x (type_of b) y)) (λ v. grows_write_give at p t v))))
+  grows_eval (Node at t (Bump op a)) call h =
+      grows_bind _ _ (grows_place a call) (λ p. grows_bind _ _ (grows_read at p t) (λ x. grows_bind _ _ (grows_defined at (compound t (bump_operator op) x int_type (Integer (pos 1)))) (λ v. grows_then _ _ (grows_write at p t v) (grows_give (bump_value op x v)))))
+  grows_eval (Node at t (Call f args)) call h = grows_bind _ _ (grows_evals args call h) (λ vs. h at f vs)
+  grows_eval (Node at t (Cast to a)) call h = grows_bind _ _ (grows_eval a call h) (λ x. grows_give (converted to x))
+  grows_eval (Node at t (SizeOfType u)) call h = grows_give (size_value u)
+  grows_eval (Node at t (SizeOfExpr a)) call h = grows_give (size_value (type_of a))
 
   pub grows_evals : (es : Expressions) (call : Callee) → CalleeGrows call → Grows (evals_with es call)
   grows_evals NoExpression call h = grows_give []
@@ -172,18 +197,36 @@ pub grows_initialise_all : (ds : List Declaration) (call : Callee) → CalleeGro
 grows_initialise_all [] call h = grows_give tt
 grows_initialise_all (d ∷ ds) call h = grows_then _ _ (grows_initialise d d.init call h) (grows_initialise_all ds call h)
 
+pub grows_condition : (e : Option Expression) (call : Callee) → CalleeGrows call → Grows (condition_with e call)
+grows_condition None call h = grows_give (Integer (pos 1))
+grows_condition (Some e) call h = grows_eval e call h
+
+pub grows_effect : (e : Option Expression) (call : Callee) → CalleeGrows call → Grows (effect_with e call)
+grows_effect None call h = grows_give tt
+grows_effect (Some e) call h = grows_then _ _ (grows_eval e call h) (grows_give tt)
+
 mutual
   pub grows_exec : (a : Statement) (call : Callee) (n : ℕ) → CalleeGrows call → Grows (exec_with a call n)
+  grows_exec (Empty at) call n h = grows_give tt
   grows_exec (Eval at e) call n h = grows_then _ _ (grows_eval e call h) (grows_give tt)
   grows_exec (Block at items) call n h = grows_within _ (grows_then _ _ (grows_births (declared_in items)) (grows_items items call n h))
   grows_exec (If at e a b) call n h = grows_bind _ _ (grows_eval e call h) (λ v. grows_choose v _ _ (grows_exec a call n h) (grows_else b call n h))
-  grows_exec (While at annots e a) call n h = grows_turns n _ _ (grows_eval e call h) (grows_exec a call n h)
+  grows_exec (While at annots e a) call n h = grows_turns n _ _ _ (grows_eval e call h) (grows_exec a call n h) (grows_give tt)
+  grows_exec (Do at a e) call n h = grows_do_turns n _ _ (grows_eval e call h) (grows_exec a call n h)
+  grows_exec (For at annots first e behind a) call n h =
+      grows_within _ (grows_then _ _ (grows_then _ _ (grows_births (declared_first first)) (grows_first first call n h)) (grows_turns n _ _ _ (grows_condition e call h) (grows_exec a call n h) (grows_effect behind call h)))
+  grows_exec (Break at) call n h = grows_stop (Leaves Breaks)
+  grows_exec (Continue at) call n h = grows_stop (Leaves Continues)
   grows_exec (Return at None) call n h = grows_stop (Leaves (Returns None))
   grows_exec (Return at (Some e)) call n h = grows_bind _ _ (grows_eval e call h) (λ v. grows_stop (Leaves (Returns (Some v))))
 
   pub grows_else : (b : ElsePart) (call : Callee) (n : ℕ) → CalleeGrows call → Grows (else_with b call n)
   grows_else NoElse call n h = grows_give tt
   grows_else (Else a) call n h = grows_exec a call n h
+
+  pub grows_first : (first : ForFirst) (call : Callee) (n : ℕ) → CalleeGrows call → Grows (first_with first call n)
+  grows_first NoFirst call n h = grows_give tt
+  grows_first (First i) call n h = grows_item i call n h
 
   pub grows_item : (i : BlockItem) (call : Callee) (n : ℕ) → CalleeGrows call → Grows (item_with i call n)
   grows_item (Declare ds) call n h = grows_initialise_all ds call h
@@ -198,6 +241,7 @@ mutual
 
 pub grows_put_char : (at : Place) (vs : List Value) → Grows (put_char at vs)
 grows_put_char at [] = grows_stop (Over (Undefined at))
+grows_put_char at (NoValue ∷ []) = grows_stop (Over (Undefined at))
 grows_put_char at (Integer z ∷ []) =
     grows_then (print (byte_of z)) (give (Integer (pos (byte_of z)))) (record { at = λ s. record { rest = byte_of z ∷ []; is = refl } }) (grows_give _)
 grows_put_char at (v ∷ w ∷ vs) = grows_stop (Over (Undefined at))

@@ -5,6 +5,7 @@ pub mod Growth
 pub mod Cells
 pub mod Fit
 mod WorkedRuns
+mod WorkedOperators
 mod MonitoredTexts
 mod CTexts
 pub mod Spelling
@@ -21,6 +22,8 @@ pub mod CNameLaws
 pub mod CIntegers
 pub mod Blocks
 pub mod Results
+pub mod Conversions
+pub mod OperatorResults
 pub mod Agreement
 pub mod Whole
 pub mod FirstRows

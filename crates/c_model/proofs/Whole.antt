@@ -2,16 +2,16 @@
 use Rattle.std.proofs.Common.{◌≡◌, ℕ, zero, suc, pos, Bool, true, false, cond, if◌then◌else◌, nat_eq, nat_lt, List, [], ◌∷◌, length, Option, Some, None, slice_get, codes, bytes_eq, refl}
 use Rattle.c_syntax.specs.declared.place.Place.{Place}
 use Rattle.c_syntax.specs.declared.types.Segment.{Segment}
-use Rattle.c_syntax.specs.Ctypes.{PlainType}
+use Rattle.c_syntax.specs.Ctypes.{PlainType, int_type}
 use Rattle.c_syntax.specs.Annotations.{Annotation}
-use Rattle.c_syntax.specs.Expressions.{Expression, Number, Letter, Variable, Binary, Assign, Call, Expressions, NoExpression, Following}
-use Rattle.c_syntax.specs.Statements.{Initialiser, One, Declaration, Statement, Eval, Block, If, While, Return, ElsePart, NoElse, Else, BlockItem, Declare, Run, Asserts, BlockItems, NoItem, Then}
+use Rattle.c_syntax.specs.Expressions.{Expression, Node, Number, Letter, Variable, Unary, Binary, Both, Either, Choice, Assign, Bump, Call, Cast, SizeOfType, SizeOfExpr, Expressions, NoExpression, Following, type_of}
+use Rattle.c_syntax.specs.Statements.{Initialiser, One, Declaration, Statement, Empty, Eval, Block, If, While, Do, For, Break, Continue, Return, ElsePart, NoElse, Else, ForFirst, NoFirst, First, BlockItem, Declare, Run, Asserts, BlockItems, NoItem, Then}
 use Rattle.c_syntax.specs.Programs.{Function, TranslationUnit}
 use Rattle.c_model.specs.Integers.{size_of, byte_of}
-use Rattle.c_model.specs.Memory.{Pointer, Value, Integer, Store, load, save, standard_sizes, full_at_stack_birth}
-use Rattle.c_model.specs.State.{State, Breaks, Continues, Returns, End, Leaves, Over, Undefined, Fault, Spent, Outcome, Normal, Stop, Evaluation, on_outcome, ◌>>=◌, ◌>>◌, give, stop, defined, step_from, step, print, find, start_of, object, read, put_store, write, birth_of, birth, births, frame, restored, within}
+use Rattle.c_model.specs.Memory.{Pointer, Value, Integer, NoValue, Store, load, save, standard_sizes, full_at_stack_birth}
+use Rattle.c_model.specs.State.{State, Breaks, Continues, Returns, End, Leaves, Over, Undefined, Fault, Spent, Outcome, Normal, Stop, Evaluation, on_outcome, ◌>>=◌, ◌>>◌, give, done, stop, defined, step_from, step, print, find, start_of, object, read, put_store, write, birth_of, birth, births, frame, restored, within}
 use Rattle.c_model.specs.Logic.{Answer, Says, SaysNothing, OutOfSteps, clause, judged, check, checks}
-use Rattle.c_model.specs.Meaning.{Callee, operate_values, eval_with, place_with, evals_with, is_zero, choose, after_body, turns, declared_in, initialise, initialise_all, exec_with, else_with, item_with, items_with, put_char, library_call, call_of, body_with, main_with}
+use Rattle.c_model.specs.Meaning.{Callee, operate_value, operate_values, converted, compound, bump_operator, bump_value, is_zero, choose, truth_value, size_value, eval_with, place_with, evals_with, after_body, turns, do_turns, declared_in, declared_first, initialise, initialise_all, condition_with, effect_with, exec_with, else_with, first_with, item_with, items_with, put_char, library_call, call_of, body_with, main_with}
 use Rattle.c_model.specs.Laws.{AreWhole, store_after, KeepsWhole, CalleeKeepsWhole}
 use Rattle.c_model.proofs.Blocks.{whole-saved, whole-append, whole-new_block, whole-kill_from}
 use Rattle.c_syntax.specs.declared.types.BlockKind.TheVariants as block
@@ -114,36 +114,61 @@ body_whole (Stop (Leaves Breaks) s) again w h = w
 body_whole (Stop (Leaves (Returns v)) s) again w h = w
 body_whole (Stop (Over e) s) again w h = w
 
-pub whole_turns : (n : ℕ) (test : Evaluation Value) (body : Evaluation (Unit {0})) → KeepsWhole test → KeepsWhole body → KeepsWhole (turns n test body)
-whole_turns zero test body t b = whole_stop (Over Spent)
-whole_turns (suc n) test body t b =
-    whole_bind test _ t (λ v. whole_choose v _ _ (whole_bind step (λ _ s. after_body (body s) (turns n test body)) whole_step (λ _. record { at = λ s w. body_whole (body s) (turns n test body) (b.at s w) (whole_turns n test body t b) })) (whole_give tt))
+pub whole_turns : (n : ℕ) (test : Evaluation Value) (body behind : Evaluation (Unit {0})) → KeepsWhole test → KeepsWhole body → KeepsWhole behind → KeepsWhole (turns n test body behind)
+whole_turns zero test body behind t b h = whole_stop (Over Spent)
+whole_turns (suc n) test body behind t b h =
+    whole_bind test _ t (λ v. whole_choose v _ _ (whole_bind step (λ _ s. after_body (body s) (behind >> turns n test body behind)) whole_step (λ _. record { at = λ s w. body_whole (body s) (behind >> turns n test body behind) (b.at s w) (whole_then behind _ h (whole_turns n test body behind t b h)) })) (whole_give tt))
+
+pub whole_do_turns : (n : ℕ) (test : Evaluation Value) (body : Evaluation (Unit {0})) → KeepsWhole test → KeepsWhole body → KeepsWhole (do_turns n test body)
+whole_do_turns zero test body t b = whole_stop (Over Spent)
+whole_do_turns (suc n) test body t b =
+    whole_bind step (λ _ s. after_body (body s) (test >>= λ v. choose v (do_turns n test body) done)) whole_step (λ _. record { at = λ s w. body_whole (body s) (test >>= λ v. choose v (do_turns n test body) done) (b.at s w) (whole_bind test _ t (λ v. whole_choose v _ _ (whole_do_turns n test body t b) (whole_give tt))) })
 
 -- ---- expressions
 
 pub whole_place : (e : Expression) (call : Callee) → KeepsWhole (place_with e call)
-whole_place (Variable at t x) call = whole_object at x.name
-whole_place (Number at t n k) call = whole_stop (Over (Undefined at))
-whole_place (Letter at t n) call = whole_stop (Over (Undefined at))
-whole_place (Binary at t op a b) call = whole_stop (Over (Undefined at))
-whole_place (Assign at t op a b) call = whole_stop (Over (Undefined at))
-whole_place (Call at t f args) call = whole_stop (Over (Undefined at))
+whole_place (Node at t (Variable x)) call = whole_object at x.name
+whole_place (Node at t (Number n k)) call = whole_stop (Over (Undefined at))
+whole_place (Node at t (Letter n)) call = whole_stop (Over (Undefined at))
+whole_place (Node at t (Unary op a)) call = whole_stop (Over (Undefined at))
+whole_place (Node at t (Binary op a b)) call = whole_stop (Over (Undefined at))
+whole_place (Node at t (Both a b)) call = whole_stop (Over (Undefined at))
+whole_place (Node at t (Either a b)) call = whole_stop (Over (Undefined at))
+whole_place (Node at t (Choice a b c)) call = whole_stop (Over (Undefined at))
+whole_place (Node at t (Assign op a b)) call = whole_stop (Over (Undefined at))
+whole_place (Node at t (Bump op a)) call = whole_stop (Over (Undefined at))
+whole_place (Node at t (Call f args)) call = whole_stop (Over (Undefined at))
+whole_place (Node at t (Cast to a)) call = whole_stop (Over (Undefined at))
+whole_place (Node at t (SizeOfType u)) call = whole_stop (Over (Undefined at))
+whole_place (Node at t (SizeOfExpr a)) call = whole_stop (Over (Undefined at))
 
 whole_write_give : (at : Place) (p : Pointer) (t : PlainType) (v : Value) → KeepsWhole (write at p t v >> give v)
 whole_write_give at p t v = whole_then (write at p t v) (give v) (whole_write at p t v) (whole_give v)
 
+whole_truth : (e : Expression) (call : Callee) → KeepsWhole (eval_with e call) → KeepsWhole (eval_with e call >>= λ y. give (truth_value y))
+whole_truth e call f = whole_bind _ _ f (λ y. whole_give (truth_value y))
+
 mutual
   pub whole_eval : (e : Expression) (call : Callee) → CalleeKeepsWhole call → KeepsWhole (eval_with e call)
-  whole_eval (Number at t n k) call h = whole_give (Integer n)
-  whole_eval (Letter at t n) call h = whole_give (Integer n)
-  whole_eval (Variable at t x) call h = whole_bind _ _ (whole_object at x.name) (λ p. whole_read at p t)
-  whole_eval (Binary at t op a b) call h =
+  whole_eval (Node at t (Number n k)) call h = whole_give (Integer n)
+  whole_eval (Node at t (Letter n)) call h = whole_give (Integer n)
+  whole_eval (Node at t (Variable x)) call h = whole_bind _ _ (whole_object at x.name) (λ p. whole_read at p t)
+  whole_eval (Node at t (Unary op a)) call h = whole_bind _ _ (whole_eval a call h) (λ x. whole_defined at (operate_value t op x))
+  whole_eval (Node at t (Binary op a b)) call h =
       whole_bind _ _ (whole_eval a call h) (λ x. whole_bind _ _ (whole_eval b call h) (λ y. whole_defined at (operate_values t op x y)))
-  whole_eval (Assign at t None a b) call h =
+  whole_eval (Node at t (Both a b)) call h = whole_bind _ _ (whole_eval a call h) (λ x. whole_choose x _ _ (whole_truth b call (whole_eval b call h)) (whole_give (Integer (pos 0))))
+  whole_eval (Node at t (Either a b)) call h = whole_bind _ _ (whole_eval a call h) (λ x. whole_choose x _ _ (whole_give (Integer (pos 1))) (whole_truth b call (whole_eval b call h)))
+  whole_eval (Node at t (Choice a b c)) call h = whole_bind _ _ (whole_eval a call h) (λ x. whole_choose x _ _ (whole_eval b call h) (whole_eval c call h))
+  whole_eval (Node at t (Assign None a b)) call h =
       whole_bind _ _ (whole_place a call) (λ p. whole_bind _ _ (whole_eval b call h) (λ v. whole_write_give at p t v))
-  whole_eval (Assign at t (Some op) a b) call h =
-      whole_bind _ _ (whole_place a call) (λ p. whole_bind _ _ (whole_read at p t) (λ x. whole_bind _ _ (whole_eval b call h) (λ y. whole_bind _ _ (whole_defined at (operate_values t op x y)) (λ v. whole_write_give at p t v))))
-  whole_eval (Call at t f args) call h = whole_bind _ _ (whole_evals args call h) (λ vs. h at f vs)
+  whole_eval (Node at t (Assign (Some op) a b)) call h =
+      whole_bind _ _ (whole_place a call) (λ p. whole_bind _ _ (whole_read at p t) (λ x. whole_bind _ _ (whole_eval b call h) (λ y. whole_bind _ _ (whole_defined at (compound t op x (type_of b) y)) (λ v. whole_write_give at p t v))))
+  whole_eval (Node at t (Bump op a)) call h =
+      whole_bind _ _ (whole_place a call) (λ p. whole_bind _ _ (whole_read at p t) (λ x. whole_bind _ _ (whole_defined at (compound t (bump_operator op) x int_type (Integer (pos 1)))) (λ v. whole_then _ _ (whole_write at p t v) (whole_give (bump_value op x v)))))
+  whole_eval (Node at t (Call f args)) call h = whole_bind _ _ (whole_evals args call h) (λ vs. h at f vs)
+  whole_eval (Node at t (Cast to a)) call h = whole_bind _ _ (whole_eval a call h) (λ x. whole_give (converted to x))
+  whole_eval (Node at t (SizeOfType u)) call h = whole_give (size_value u)
+  whole_eval (Node at t (SizeOfExpr a)) call h = whole_give (size_value (type_of a))
 
   pub whole_evals : (es : Expressions) (call : Callee) → CalleeKeepsWhole call → KeepsWhole (evals_with es call)
   whole_evals NoExpression call h = whole_give []
@@ -161,18 +186,36 @@ pub whole_initialise_all : (ds : List Declaration) (call : Callee) → CalleeKee
 whole_initialise_all [] call h = whole_give tt
 whole_initialise_all (d ∷ ds) call h = whole_then _ _ (whole_initialise d d.init call h) (whole_initialise_all ds call h)
 
+pub whole_condition : (e : Option Expression) (call : Callee) → CalleeKeepsWhole call → KeepsWhole (condition_with e call)
+whole_condition None call h = whole_give (Integer (pos 1))
+whole_condition (Some e) call h = whole_eval e call h
+
+pub whole_effect : (e : Option Expression) (call : Callee) → CalleeKeepsWhole call → KeepsWhole (effect_with e call)
+whole_effect None call h = whole_give tt
+whole_effect (Some e) call h = whole_then _ _ (whole_eval e call h) (whole_give tt)
+
 mutual
   pub whole_exec : (a : Statement) (call : Callee) (n : ℕ) → CalleeKeepsWhole call → KeepsWhole (exec_with a call n)
+  whole_exec (Empty at) call n h = whole_give tt
   whole_exec (Eval at e) call n h = whole_then _ _ (whole_eval e call h) (whole_give tt)
   whole_exec (Block at items) call n h = whole_within _ (whole_then _ _ (whole_births (declared_in items)) (whole_items items call n h))
   whole_exec (If at e a b) call n h = whole_bind _ _ (whole_eval e call h) (λ v. whole_choose v _ _ (whole_exec a call n h) (whole_else b call n h))
-  whole_exec (While at annots e a) call n h = whole_turns n _ _ (whole_eval e call h) (whole_exec a call n h)
+  whole_exec (While at annots e a) call n h = whole_turns n _ _ _ (whole_eval e call h) (whole_exec a call n h) (whole_give tt)
+  whole_exec (Do at a e) call n h = whole_do_turns n _ _ (whole_eval e call h) (whole_exec a call n h)
+  whole_exec (For at annots first e behind a) call n h =
+      whole_within _ (whole_then _ _ (whole_then _ _ (whole_births (declared_first first)) (whole_first first call n h)) (whole_turns n _ _ _ (whole_condition e call h) (whole_exec a call n h) (whole_effect behind call h)))
+  whole_exec (Break at) call n h = whole_stop (Leaves Breaks)
+  whole_exec (Continue at) call n h = whole_stop (Leaves Continues)
   whole_exec (Return at None) call n h = whole_stop (Leaves (Returns None))
   whole_exec (Return at (Some e)) call n h = whole_bind _ _ (whole_eval e call h) (λ v. whole_stop (Leaves (Returns (Some v))))
 
   pub whole_else : (b : ElsePart) (call : Callee) (n : ℕ) → CalleeKeepsWhole call → KeepsWhole (else_with b call n)
   whole_else NoElse call n h = whole_give tt
   whole_else (Else a) call n h = whole_exec a call n h
+
+  pub whole_first : (first : ForFirst) (call : Callee) (n : ℕ) → CalleeKeepsWhole call → KeepsWhole (first_with first call n)
+  whole_first NoFirst call n h = whole_give tt
+  whole_first (First i) call n h = whole_item i call n h
 
   pub whole_item : (i : BlockItem) (call : Callee) (n : ℕ) → CalleeKeepsWhole call → KeepsWhole (item_with i call n)
   whole_item (Declare ds) call n h = whole_initialise_all ds call h
@@ -187,6 +230,7 @@ mutual
 
 pub whole_put_char : (at : Place) (vs : List Value) → KeepsWhole (put_char at vs)
 whole_put_char at [] = whole_stop (Over (Undefined at))
+whole_put_char at (NoValue ∷ []) = whole_stop (Over (Undefined at))
 whole_put_char at (Integer z ∷ []) =
     whole_then (print (byte_of z)) (give (Integer (pos (byte_of z)))) (record { at = λ s w. w }) (whole_give _)
 whole_put_char at (v ∷ w ∷ vs) = whole_stop (Over (Undefined at))

@@ -2,18 +2,22 @@
 use Rattle.std.proofs.Common.{◌≡◌, ℕ, pos, negsuc, true, List, [], ◌∷◌, ◌++◌, Some, None, codes, refl}
 use Rattle.std.specs.Fmt.{digits}
 use Rattle.c_syntax.specs.declared.place.Place.{Place}
-use Rattle.c_syntax.specs.declared.types.CInt.TheVariants.{I32}
+use Rattle.c_syntax.specs.declared.types.CInt.{CInt}
+use Rattle.c_syntax.specs.declared.types.CInt.TheVariants.{U8, I32, U32, I64, U64}
 use Rattle.c_syntax.specs.declared.types.How.TheVariants as how
 use Rattle.c_syntax.specs.declared.expression.BinOp.{BinOp}
-use Rattle.c_syntax.specs.declared.expression.BinOp.TheVariants.{Add, Sub, Eq, Lt, Gt}
+use Rattle.c_syntax.specs.declared.expression.BinOp.TheVariants.{Add, Sub, Div, Eq, Lt, Gt}
+use Rattle.c_syntax.specs.declared.expression.UnOp.TheVariants.{Flip}
+use Rattle.c_syntax.specs.declared.expression.BumpOp.{BumpOp}
+use Rattle.c_syntax.specs.declared.expression.BumpOp.TheVariants.{PostUp, PostDown}
 use Rattle.c_syntax.specs.declared.annotation.Kind.TheVariants.{Assert}
 use Rattle.c_syntax.specs.declared.annotation.Range.{Range}
 use Rattle.c_syntax.specs.declared.annotation.Relation.TheVariants as relation
-use Rattle.c_syntax.specs.Ctypes.{int_type}
-use Rattle.c_syntax.specs.Expressions.{Expression, Number, Letter, Variable, Binary, Assign, Call, NoExpression, Following}
+use Rattle.c_syntax.specs.Ctypes.{PlainType, Int, int_type}
+use Rattle.c_syntax.specs.Expressions.{Expression, Node, Number, Letter, Variable, Unary, Binary, Both, Choice, Assign, Bump, Call, Cast, SizeOfType, SizeOfExpr, NoExpression, Following, place_of}
 use Rattle.c_syntax.specs.Annotations.{LogicTerm, Predicate, Chain, NoLink, Linked, Truth, Annotation}
 use Rattle.c_syntax.specs.Annotations as logic
-use Rattle.c_syntax.specs.Statements.{One, Declaration, Eval, Block, If, While, Return, Else, BlockItem, Declare, Run, Asserts, BlockItems, NoItem, Then}
+use Rattle.c_syntax.specs.Statements.{One, Declaration, Eval, Block, If, While, Do, For, Break, Continue, Return, NoElse, Else, First, BlockItem, Declare, Run, Asserts, BlockItems, NoItem, Then}
 use Rattle.c_syntax.specs.Programs.{TranslationUnit}
 use Rattle.c_model.specs.State.{Input, EndOfInput, Exits, Broken, Undefined, Spent}
 use Rattle.c_model.specs.Meaning.{run}
@@ -25,26 +29,42 @@ abbrev place : ℕ → ℕ → ℕ → Place
 place line column offset = record { line = line; column = column; offset = offset }
 
 abbrev literal : Place → ℕ → Expression
-literal at n = Number at int_type (pos n) (Some I32)
+literal at n = Node at int_type (Number (pos n) (Some I32))
 
 abbrev letter : Place → ℕ → Expression
-letter at n = Letter at int_type (pos n)
+letter at n = Node at int_type (Letter (pos n))
 
 -- a variable, with the number of its declaration
 abbrev variable : Place → ℕ → ℕ → Expression
-variable at name decl = Variable at int_type (record { name = name; decl = decl })
+variable at name decl = Node at int_type (Variable (record { name = name; decl = decl }))
 
 abbrev binary : Place → BinOp → Expression → Expression → Expression
-binary at op a b = Binary at int_type op a b
+binary at op a b = Node at int_type (Binary op a b)
 
 abbrev assignment : Place → Expression → Expression → Expression
-assignment at a b = Assign at int_type None a b
+assignment at a b = Node at int_type (Assign None a b)
+
+abbrev compound_assignment : Place → BinOp → Expression → Expression → Expression
+compound_assignment at op a b = Node at int_type (Assign (Some op) a b)
+
+abbrev bump : Place → BumpOp → Expression → Expression
+bump at op a = Node at int_type (Bump op a)
+
+-- the conversion that typing puts around an operand, at the operand's place
+abbrev cast : CInt → Expression → Expression
+cast k e = Node (place_of e) (Int k) (Cast (Int k) e)
+
+abbrev typed_variable : Place → CInt → ℕ → ℕ → Expression
+typed_variable at k name decl = Node at (Int k) (Variable (record { name = name; decl = decl }))
 
 abbrev putchar_call : Place → ℕ → Expression → Expression
-putchar_call at name e = Call at int_type (record { name = name; decl = 4294967295 }) (Following e NoExpression)
+putchar_call at name e = Node at int_type (Call (record { name = name; decl = 4294967295 }) (Following e NoExpression))
+
+abbrev object_of : PlainType → Place → ℕ → Place → Expression → Declaration
+object_of t at name equals e = record { place = at; name = name; named = true; ctype = t; init = Some (equals, One e) }
 
 abbrev int_variable : Place → ℕ → Place → Expression → Declaration
-int_variable at name equals e = record { place = at; name = name; named = true; ctype = int_type; init = Some (equals, One e) }
+int_variable = object_of int_type
 
 abbrev no_range : Range
 no_range = record { lo = pos 0; hi = pos 0 }
@@ -182,6 +202,57 @@ counts_down = main_alone (codes "main" ∷ codes "n" ∷ codes "s" ∷ codes "pu
     Run (Return (place 14 3 241) (Some (variable (place 14 10 248) 2 36))) ∷
     [])
 
+-- loops that are continued and left
+--     int main(void) {
+--       int n = 0;
+--       for (int i = 0; i < 9; i++) {
+--         if (i == 1) continue;
+--         if (i == 4) break;
+--         putchar('0' + i);
+--         n += i;
+--       }
+--       do {
+--         n--;
+--         putchar('d');
+--       } while (n > 3);
+--       return n;
+--     }
+abbrev leaves_loops : TranslationUnit
+leaves_loops = main_alone (codes "main" ∷ codes "n" ∷ codes "i" ∷ codes "putchar" ∷ []) (place 1 5 4) (place 1 16 15) (place 14 1 214) (
+    Declare (int_variable (place 2 7 23) 1 (place 2 9 25) (literal (place 2 11 27) 0) ∷ []) ∷
+    Run (For (place 3 3 32) [] (First (Declare (int_variable (place 3 12 41) 2 (place 3 14 43) (literal (place 3 16 45) 0) ∷ []))) (Some (binary (place 3 21 50) Lt (variable (place 3 19 48) 2 41) (literal (place 3 23 52) 9))) (Some (bump (place 3 27 56) PostUp (variable (place 3 26 55) 2 41))) (Block (place 3 31 60) (items_of (
+    Run (If (place 4 5 66) (binary (place 4 11 72) Eq (variable (place 4 9 70) 2 41) (literal (place 4 14 75) 1)) (Continue (place 4 17 78)) NoElse) ∷
+    Run (If (place 5 5 92) (binary (place 5 11 98) Eq (variable (place 5 9 96) 2 41) (literal (place 5 14 101) 4)) (Break (place 5 17 104)) NoElse) ∷
+    Run (Eval (place 6 5 115) (putchar_call (place 6 12 122) 3 (binary (place 6 17 127) Add (letter (place 6 13 123) 48) (variable (place 6 19 129) 2 41)))) ∷
+    Run (Eval (place 7 5 137) (compound_assignment (place 7 7 139) Add (variable (place 7 5 137) 1 23) (variable (place 7 10 142) 2 41))) ∷
+    [])))) ∷
+    Run (Do (place 9 3 151) (Block (place 9 6 154) (items_of (
+    Run (Eval (place 10 5 160) (bump (place 10 6 161) PostDown (variable (place 10 5 160) 1 23))) ∷
+    Run (Eval (place 11 5 169) (putchar_call (place 11 12 176) 3 (letter (place 11 13 177) 100))) ∷
+    []))) (binary (place 12 14 196) Gt (variable (place 12 12 194) 1 23) (literal (place 12 16 198) 3))) ∷
+    Run (Return (place 13 3 204) (Some (variable (place 13 10 211) 1 23))) ∷
+    [])
+
+-- conversions of operands and results, and a division that is not evaluated
+--     int main(void) {
+--       unsigned char c = 200;
+--       unsigned long u = sizeof c + sizeof(long);
+--       c += 100;
+--       return c == 44 && ~0u > 5 ? u : 1 / 0;
+--     }
+abbrev computes_in_types : TranslationUnit
+computes_in_types = main_alone (codes "main" ∷ codes "c" ∷ codes "u" ∷ []) (place 1 5 4) (place 1 16 15) (place 6 1 140) (
+    Declare (object_of (Int U8) (place 2 17 33) 1 (place 2 19 35) (cast U8 (literal (place 2 21 37) 200)) ∷ []) ∷
+    Declare (object_of (Int U64) (place 3 17 58) 2 (place 3 19 60) (Node (place 3 30 71) (Int U64) (Binary Add (Node (place 3 21 62) (Int U64) (SizeOfExpr (typed_variable (place 3 28 69) U8 1 33))) (Node (place 3 32 73) (Int U64) (SizeOfType (Int I64))))) ∷ []) ∷
+    Run (Eval (place 4 3 89) (Node (place 4 5 91) (Int U8) (Assign (Some Add) (typed_variable (place 4 3 89) U8 1 33) (literal (place 4 8 94) 100)))) ∷
+    Run (Return (place 5 3 101) (Some (cast I32 (Node (place 5 29 127) (Int U64) (Choice
+    (Node (place 5 18 116) int_type (Both
+    (binary (place 5 12 110) Eq (cast I32 (typed_variable (place 5 10 108) U8 1 33)) (literal (place 5 15 113) 44))
+    (binary (place 5 25 123) Gt (Node (place 5 21 119) (Int U32) (Unary Flip (Node (place 5 22 120) (Int U32) (Number (pos 0) (Some U32))))) (cast U32 (literal (place 5 27 125) 5)))))
+    (typed_variable (place 5 31 129) U64 2 58)
+    (cast U64 (binary (place 5 37 135) Div (literal (place 5 35 133) 1) (literal (place 5 39 137) 0)))))))) ∷
+    [])
+
 -- ---- runs
 
 run-adds_and_asserts : run adds_and_asserts no_input 10000000 ≡ record { final = Exits (pos 0); output = codes "A"; left = 10000000 }
@@ -210,6 +281,15 @@ run-counts_down-longer = refl
 
 run-prints_for_ever : run prints_for_ever no_input 5 ≡ record { final = Spent; output = codes "xxxxx"; left = 0 }
 run-prints_for_ever = refl
+
+run-leaves_loops : run leaves_loops no_input 10000000 ≡ record { final = Exits (pos 3); output = codes "023dd"; left = 9999993 }
+run-leaves_loops = refl
+
+run-leaves_loops-spent : run leaves_loops no_input 6 ≡ record { final = Spent; output = codes "023d"; left = 0 }
+run-leaves_loops-spent = refl
+
+run-computes_in_types : run computes_in_types no_input 10000000 ≡ record { final = Exits (pos 9); output = []; left = 10000000 }
+run-computes_in_types = refl
 
 -- ---- reports
 

@@ -21,7 +21,7 @@ use Rattle.c_syntax.specs.declared.annotation.Relation.{Relation}
 use Rattle.c_syntax.specs.declared.annotation.Relation.TheVariants as relation
 use Rattle.c_syntax.specs.Ctypes.{int_type}
 use Rattle.c_syntax.specs.Expressions as expression
-use Rattle.c_syntax.specs.Expressions.{Expression, Expressions, NoExpression, Following}
+use Rattle.c_syntax.specs.Expressions.{Expression, Node, Expressions, NoExpression, Following}
 use Rattle.c_syntax.specs.Annotations as logic
 use Rattle.c_syntax.specs.Annotations.{LogicTerm, Predicate, Chain, Links, NoLink, Linked, ClauseBody, Truth, Annotation}
 use Rattle.c_syntax.specs.Statements as statement
@@ -181,20 +181,20 @@ first_item = lexeme_kind AnnotOpen ∷ first_statement
 -- ---- expressions; E stands for an expression, which is closed at the end
 
 abbrev pub binary : BinOp × Place → Expression → Expression → Expression
-binary op left right = expression.Binary op.1 int_type op.0 left right
+binary op left right = Node op.1 int_type (expression.Binary op.0 left right)
 
 -- "(" expr ")"
 unfoldable pub parenthesised : {A : Type 0} → Syntax Token A → Syntax Token A
 parenthesised E = fixed LeftParen then λ _. E then λ e. fixed RightParen then λ _. gives e
 
 unfoldable pub variable_used : Scope → Syntax Token Expression
-variable_used s = one (placed (variable_of s)) then λ x. gives (expression.Variable x.1 int_type x.0)
+variable_used s = one (placed (variable_of s)) then λ x. gives (Node x.1 int_type (expression.Variable x.0))
 
 unfoldable pub integer_literal : Syntax Token Expression
-integer_literal = one (placed number_of) then λ n. gives (expression.Number n.1 int_type (pos n.0) (Some I32))
+integer_literal = one (placed number_of) then λ n. gives (Node n.1 int_type (expression.Number (pos n.0) (Some I32)))
 
 unfoldable pub character_literal : Syntax Token Expression
-character_literal = one (placed letter_of) then λ z. gives (expression.Letter z.1 int_type z.0)
+character_literal = one (placed letter_of) then λ z. gives (Node z.1 int_type (expression.Letter z.0))
 
 -- atom
 unfoldable pub primary : Scope → Syntax Token Expression → Syntax Token Expression
@@ -299,8 +299,13 @@ abbrev mutual
   pub is_open : Statement → Bool
   is_open (statement.If at e a b) = is_open_else b
   is_open (statement.While at annots e a) = is_open a
+  is_open (statement.For at annots first e behind a) = is_open a
+  is_open (statement.Do at a e) = false
+  is_open (statement.Empty at) = false
   is_open (statement.Eval at e) = false
   is_open (statement.Block at items) = false
+  is_open (statement.Break at) = false
+  is_open (statement.Continue at) = false
   is_open (statement.Return at e) = false
 
   pub is_open_else : ElsePart → Bool
@@ -313,7 +318,7 @@ block_items (i ∷ is) = Then i (block_items is)
 
 -- NAME "=" expr ";"
 unfoldable pub assignment : Scope → Numbered
-assignment s n = one (placed (variable_of s)) then λ x. fixed Assign then λ at. full_expr s then λ e. fixed Semicolon then λ _. gives (statement.Eval x.1 (expression.Assign at int_type None (expression.Variable x.1 int_type x.0) e), n)
+assignment s n = one (placed (variable_of s)) then λ x. fixed Assign then λ at. full_expr s then λ e. fixed Semicolon then λ _. gives (statement.Eval x.1 (Node at int_type (expression.Assign None (Node x.1 int_type (expression.Variable x.0)) e)), n)
 
 -- the function `putchar`, whose name goes behind the variables'
 abbrev pub putchar_use : Scope → Use
@@ -321,7 +326,7 @@ putchar_use s = record { name = length s + 1; decl = 4294967295 }
 
 -- "putchar" "(" expr ")" ";"
 unfoldable pub output : Scope → Numbered
-output s n = fixed Putchar then λ at. fixed LeftParen then λ call. full_expr s then λ e. fixed RightParen then λ _. fixed Semicolon then λ _. gives (statement.Eval at (expression.Call call int_type (putchar_use s) (Following e NoExpression)), n)
+output s n = fixed Putchar then λ at. fixed LeftParen then λ call. full_expr s then λ e. fixed RightParen then λ _. fixed Semicolon then λ _. gives (statement.Eval at (Node call int_type (expression.Call (putchar_use s) (Following e NoExpression))), n)
 
 -- "return" expr ";"
 unfoldable pub return_statement : Scope → Numbered

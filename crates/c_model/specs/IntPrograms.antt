@@ -8,10 +8,10 @@ use Rattle.c_syntax.specs.declared.expression.BinOp.{BinOp}
 use Rattle.c_syntax.specs.declared.expression.BinOp.TheVariants.{Add, Sub, Eq, Ne, Lt, Le, Gt, Ge}
 use Rattle.c_syntax.specs.declared.annotation.Kind.TheVariants.{Assert}
 use Rattle.c_syntax.specs.Ctypes.{int_type}
-use Rattle.c_syntax.specs.Expressions.{Expression, Number, Letter, Variable, Binary, Assign, Call, Expressions, NoExpression, Following}
+use Rattle.c_syntax.specs.Expressions.{Expression, Node, Number, Letter, Variable, Unary, Binary, Both, Either, Choice, Assign, Bump, Call, Cast, SizeOfType, SizeOfExpr, Expressions, NoExpression, Following}
 use Rattle.c_syntax.specs.Annotations.{LogicTerm, Predicate, Chain, Links, NoLink, Linked, ClauseBody, Truth, Annotation}
 use Rattle.c_syntax.specs.Annotations as logic
-use Rattle.c_syntax.specs.Statements.{Initialiser, One, Declaration, Statement, Eval, Block, If, While, Return, ElsePart, NoElse, Else, BlockItem, Declare, Run, Asserts, BlockItems, NoItem, Then}
+use Rattle.c_syntax.specs.Statements.{Initialiser, One, Declaration, Statement, Empty, Eval, Block, If, While, Do, For, Break, Continue, Return, ElsePart, NoElse, Else, BlockItem, Declare, Run, Asserts, BlockItems, NoItem, Then}
 use Rattle.c_syntax.specs.Programs.{Function, TranslationUnit}
 use Rattle.c_model.specs.FirstTokens.{is_part}
 
@@ -30,24 +30,49 @@ pub record IsVariable (n : ℕ) (x : Use) : Type 0 where
   pub declared : 0 < x.name
   pub in_sight : x.name ≤ n
 
+-- `+` and `-`
+abbrev pub IsSum : BinOp → Type 0
+IsSum Add = Unit {0}
+IsSum Sub = Unit {0}
+IsSum _ = ⊥
+
+-- `+`, `-` and the relations
+abbrev pub IsIntOperator : BinOp → Type 0
+IsIntOperator Add = Unit {0}
+IsIntOperator Sub = Unit {0}
+IsIntOperator Eq = Unit {0}
+IsIntOperator Ne = Unit {0}
+IsIntOperator Lt = Unit {0}
+IsIntOperator Le = Unit {0}
+IsIntOperator Gt = Unit {0}
+IsIntOperator Ge = Unit {0}
+IsIntOperator _ = ⊥
+
 -- an expression of type `int` over the variables 1 to n, without side effects
 abbrev pub IsPure : ℕ → Expression → Type 0
-IsPure n (Number at t z k) = (t ≡ int_type) × IsIntLiteral z
-IsPure n (Letter at t z) = (t ≡ int_type) × IsLetter z
-IsPure n (Variable at t x) = (t ≡ int_type) × IsVariable n x
-IsPure n (Binary at t op a b) = (t ≡ int_type) × IsPure n a × IsPure n b
-IsPure n (Assign at t op a b) = ⊥
-IsPure n (Call at t f args) = ⊥
+IsPure n (Node at t (Number z k)) = (t ≡ int_type) × IsIntLiteral z
+IsPure n (Node at t (Letter z)) = (t ≡ int_type) × IsLetter z
+IsPure n (Node at t (Variable x)) = (t ≡ int_type) × IsVariable n x
+IsPure n (Node at t (Binary op a b)) = (t ≡ int_type) × IsIntOperator op × IsPure n a × IsPure n b
+IsPure n _ = ⊥
 
 -- how many literals and variables an expression has
 abbrev mutual
   pub leaves_of : Expression → ℕ
-  leaves_of (Number at t z k) = 1
-  leaves_of (Letter at t z) = 1
-  leaves_of (Variable at t x) = 1
-  leaves_of (Binary at t op a b) = leaves_of a + leaves_of b
-  leaves_of (Assign at t op a b) = leaves_of a + leaves_of b
-  leaves_of (Call at t f args) = leaves_of_all args
+  leaves_of (Node at t (Number z k)) = 1
+  leaves_of (Node at t (Letter z)) = 1
+  leaves_of (Node at t (Variable x)) = 1
+  leaves_of (Node at t (Unary op a)) = leaves_of a
+  leaves_of (Node at t (Binary op a b)) = leaves_of a + leaves_of b
+  leaves_of (Node at t (Both a b)) = leaves_of a + leaves_of b
+  leaves_of (Node at t (Either a b)) = leaves_of a + leaves_of b
+  leaves_of (Node at t (Choice a b c)) = leaves_of a + (leaves_of b + leaves_of c)
+  leaves_of (Node at t (Assign op a b)) = leaves_of a + leaves_of b
+  leaves_of (Node at t (Bump op a)) = leaves_of a
+  leaves_of (Node at t (Call f args)) = leaves_of_all args
+  leaves_of (Node at t (Cast to a)) = leaves_of a
+  leaves_of (Node at t (SizeOfType u)) = 1
+  leaves_of (Node at t (SizeOfExpr a)) = leaves_of a
 
   pub leaves_of_all : Expressions → ℕ
   leaves_of_all NoExpression = 0
@@ -60,12 +85,8 @@ pub record IsFullExpression (n : ℕ) (e : Expression) : Type 0 where
 
 -- the left side of an assignment: a variable
 abbrev pub IsTarget : ℕ → Expression → Type 0
-IsTarget n (Variable at t x) = (t ≡ int_type) × IsVariable n x
-IsTarget n (Number at t z k) = ⊥
-IsTarget n (Letter at t z) = ⊥
-IsTarget n (Binary at t op a b) = ⊥
-IsTarget n (Assign at t op a b) = ⊥
-IsTarget n (Call at t f args) = ⊥
+IsTarget n (Node at t (Variable x)) = (t ≡ int_type) × IsVariable n x
+IsTarget n _ = ⊥
 
 -- one argument
 abbrev pub IsArgument : ℕ → Expressions → Type 0
@@ -75,24 +96,9 @@ IsArgument n (Following e (Following f more)) = ⊥
 
 -- `x = e`, or `putchar(e)`, whose name has the number behind the variables'
 abbrev pub IsEffect : ℕ → Expression → Type 0
-IsEffect n (Assign at t None a b) = (t ≡ int_type) × IsTarget n a × IsFullExpression n b
-IsEffect n (Assign at t (Some op) a b) = ⊥
-IsEffect n (Call at t f args) = (t ≡ int_type) × (f.decl ≡ 4294967295) × (f.name ≡ n + 1) × IsArgument n args
-IsEffect n (Number at t z k) = ⊥
-IsEffect n (Letter at t z) = ⊥
-IsEffect n (Variable at t x) = ⊥
-IsEffect n (Binary at t op a b) = ⊥
-
--- `+` or `-`
-abbrev pub IsSum : BinOp → Type 0
-IsSum Add = Unit {0}
-IsSum Sub = Unit {0}
-IsSum Eq = ⊥
-IsSum Ne = ⊥
-IsSum Lt = ⊥
-IsSum Le = ⊥
-IsSum Gt = ⊥
-IsSum Ge = ⊥
+IsEffect n (Node at t (Assign None a b)) = (t ≡ int_type) × IsTarget n a × IsFullExpression n b
+IsEffect n (Node at t (Call f args)) = (t ≡ int_type) × (f.decl ≡ 4294967295) × (f.name ≡ n + 1) × IsArgument n args
+IsEffect n _ = ⊥
 
 -- a term of sums over the variables 1 to n
 abbrev pub IsIntTerm : ℕ → LogicTerm → Type 0
@@ -138,8 +144,8 @@ abbrev mutual
   IsIntStatement n (Block at items) = AreIntItems n items
   IsIntStatement n (If at e a b) = IsFullExpression n e × IsIntStatement n a × IsIntElse n b
   IsIntStatement n (While at annots e a) = (annots ≡ []) × IsFullExpression n e × IsIntStatement n a
-  IsIntStatement n (Return at None) = ⊥
   IsIntStatement n (Return at (Some e)) = IsFullExpression n e
+  IsIntStatement n _ = ⊥
 
   pub IsIntElse : ℕ → ElsePart → Type 0
   IsIntElse n NoElse = Unit {0}
@@ -157,10 +163,15 @@ abbrev mutual
 -- how deep statements stand in a statement, itself included: one that is directly inside another is one deeper
 abbrev mutual
   pub depth : Statement → ℕ
+  depth (Empty at) = 1
   depth (Eval at e) = 1
   depth (Block at items) = 1 + depth_of_items items
   depth (If at e a b) = 1 + max (depth a) (depth_of_else b)
   depth (While at annots e a) = 1 + depth a
+  depth (Do at a e) = 1 + depth a
+  depth (For at annots first e behind a) = 1 + depth a
+  depth (Break at) = 1
+  depth (Continue at) = 1
   depth (Return at e) = 1
 
   pub depth_of_else : ElsePart → ℕ
@@ -198,12 +209,8 @@ AreMainItems n k NoItem = k ≡ n
 
 -- main's body, which is 1 deep
 abbrev pub IsMainBody : ℕ → Option Statement → Type 0
-IsMainBody n None = ⊥
 IsMainBody n (Some (Block at items)) = AreMainItems n 0 items × (depth (Block at items) ≤ 200)
-IsMainBody n (Some (Eval at e)) = ⊥
-IsMainBody n (Some (If at e a b)) = ⊥
-IsMainBody n (Some (While at annots e a)) = ⊥
-IsMainBody n (Some (Return at e)) = ⊥
+IsMainBody n _ = ⊥
 
 -- the function `main`, whose name is 0, with n variables
 pub record IsIntMain (n : ℕ) (f : Function) : Type 0 where

@@ -1,17 +1,22 @@
 -- Laws that the definitions meet: of integers and memory, of runs, of the order of runs, and of accepted texts.
-use Rattle.std.specs.Prelude.{◌≡◌, ℕ, ◌+◌, ◌%◌, ◌^◌, ◌<◌, ◌≤◌, ◌≢◌, ℤ, pos, true, false, List, [], ◌∷◌, length, take, drop, Option, Some, None, codes}
+use Rattle.std.specs.Prelude.{◌≡◌, ℕ, ◌+◌, ◌%◌, ◌^◌, ◌<◌, ◌≤◌, ◌≢◌, ℤ, pos, true, false, if◌then◌else◌, List, [], ◌∷◌, length, take, drop, Option, Some, None, codes}
 use Rattle.c_syntax.specs.declared.place.Place.{Place}
 use Rattle.c_syntax.specs.declared.types.CInt.{CInt}
 use Rattle.c_syntax.specs.Ctypes.{PlainType, Int}
+use Rattle.c_syntax.specs.declared.types.CInt.TheVariants.{I32}
 use Rattle.c_syntax.specs.declared.expression.Use.{Use}
+use Rattle.c_syntax.specs.declared.expression.UnOp.{UnOp}
+use Rattle.c_syntax.specs.declared.expression.UnOp.TheVariants.{Not}
+use Rattle.c_syntax.specs.declared.expression.BinOp.{BinOp}
 use Rattle.c_syntax.specs.Expressions.{Expression}
 use Rattle.c_syntax.specs.Annotations.{Annotation}
-use Rattle.c_syntax.specs.Statements.{Statement, While}
+use Rattle.c_syntax.specs.Statements.{Statement, While, Do}
 use Rattle.c_syntax.specs.Programs.{Function, TranslationUnit}
-use Rattle.c_model.specs.Integers.{size_of, fits, is_signed, value_bits, bits_of, value_of_bits, result_in}
+use Rattle.c_model.specs.Integers.{size_of, fits, is_signed, value_bits, bits_of, value_of_bits, convert, result_in, operate_in, operate_one_in}
+use Rattle.c_model.specs.Conversions.{is_shift, is_relation}
 use Rattle.c_model.specs.Memory.{Pointer, Into, Value, Integer, Block, Store, block_at, load, save}
 use Rattle.c_model.specs.State.{Input, State, Outcome, Normal, Stop, Evaluation, ◌>>=◌, ◌>>◌, done, step}
-use Rattle.c_model.specs.Meaning.{Callee, choose, after_body, call_of, eval, exec, function_named, main_with, start, ran, run, Ran}
+use Rattle.c_model.specs.Meaning.{Callee, choose, after_body, turns, condition_with, effect_with, call_of, eval, exec, function_named, main_with, start, ran, run, Ran}
 use Rattle.c_model.specs.Reports.{Agrees}
 use Rattle.c_model.specs.Accepted.{Accepted}
 use Rattle.c_model.specs.IntPrograms.{IsIntProgram}
@@ -39,6 +44,30 @@ UnsignedResultsWrap = (k : CInt) (n : ℕ) → is_signed k ≡ false → result_
 -- a defined result is a value of the type
 abbrev pub ResultsFit : Type 0
 ResultsFit = (k : CInt) (z w : ℤ) → result_in k z ≡ Some w → fits k w ≡ true
+
+-- a converted number is a value of the type (C99 6.3.1.3)
+abbrev pub ConversionsFit : Type 0
+ConversionsFit = (k : CInt) (z : ℤ) → fits k (convert k z) ≡ true
+
+-- a value of the type is converted to itself (C99 6.3.1.3 p1)
+abbrev pub ConversionsKeepValues : Type 0
+ConversionsKeepValues = (k : CInt) (z : ℤ) → fits k z ≡ true → convert k z ≡ z
+
+-- the type of an operator's result on operands of a type: `int` for a relation and for `!` (C99 6.5.3.3 p5, 6.5.8 p6, 6.5.9 p3)
+abbrev pub type_of_result : BinOp → CInt → CInt
+type_of_result op k = if is_relation op then I32 else k
+
+abbrev pub type_of_one : UnOp → CInt → CInt
+type_of_one Not k = I32
+type_of_one _ k = k
+
+-- a defined result on values of a type is a value of the result's type; a count of bits may be any number
+abbrev pub OperatorsFit : Type 0
+OperatorsFit = (k : CInt) (op : BinOp) (x y w : ℤ) → fits k x ≡ true → (is_shift op ≡ false → fits k y ≡ true) → operate_in k op x y ≡ Some w → fits (type_of_result op k) w ≡ true
+
+-- the same of operators of one operand
+abbrev pub OperatorsOfOneFit : Type 0
+OperatorsOfOneFit = (k : CInt) (op : UnOp) (x w : ℤ) → fits k x ≡ true → operate_one_in k op x ≡ Some w → fits (type_of_one op k) w ≡ true
 
 -- ---- memory
 
@@ -98,9 +127,21 @@ FuelIsEnough = (p : TranslationUnit) (a : Statement) (m n : ℕ) (s : State) →
 abbrev pub StepsFall : Type 0
 StepsFall = (p : TranslationUnit) (a : Statement) (n : ℕ) (s : State) → s.steps < n → steps_after (exec p n a s) ≤ s.steps
 
--- a loop is one turn and then the loop again (C99 6.8.5)
+-- a `while` is one turn and then the loop again (C99 6.8.5.1)
 abbrev pub LoopsTurn : Type 0
 LoopsTurn = (p : TranslationUnit) (at : Place) (annots : List Annotation) (e : Expression) (a : Statement) (n : ℕ) (s : State) → s.steps < n → exec p n (While at annots e a) s ≡ (eval p n e >>= λ v. choose v (step >> λ t. after_body (exec p n a t) (exec p n (While at annots e a))) done) s
+
+-- a `do` is a step, its body and its condition, and then the loop again where that isn't 0 (C99 6.8.5.2)
+abbrev pub DoLoopsTurn : Type 0
+DoLoopsTurn = (p : TranslationUnit) (at : Place) (a : Statement) (e : Expression) (n : ℕ) (s : State) → s.steps < n → exec p n (Do at a e) s ≡ (step >> λ t. after_body (exec p n a t) (eval p n e >>= λ v. choose v (exec p n (Do at a e)) done)) s
+
+-- the turns of a `for`
+abbrev pub for_turns : TranslationUnit → ℕ → Option Expression → Option Expression → Statement → Evaluation (Unit {0})
+for_turns p n e behind a = turns n (condition_with e (call_of p n)) (exec p n a) (effect_with behind (call_of p n))
+
+-- they are one turn, what stands behind the body, and then the turns again (C99 6.8.5.3)
+abbrev pub ForLoopsTurn : Type 0
+ForLoopsTurn = (p : TranslationUnit) (e behind : Option Expression) (a : Statement) (n : ℕ) (s : State) → s.steps < n → for_turns p n e behind a s ≡ (condition_with e (call_of p n) >>= λ v. choose v (step >> λ t. after_body (exec p n a t) (effect_with behind (call_of p n) >> for_turns p n e behind a)) done) s
 
 -- a run is the same with any number of turns above its steps
 abbrev pub RunsNeedNoFuel : Type 0

@@ -1,4 +1,6 @@
+pub mod Operators
 pub mod Integers
+pub mod Conversions
 pub mod Memory
 pub mod State
 pub mod Logic
@@ -22,5 +24,4 @@ pub mod Pieces
 pub mod CTokens
 pub mod CTokenLaws
 pub mod Accepted
-pub mod Operators
 pub mod Ranges

@@ -1,15 +1,16 @@
 -- Terms and predicates of annotations (ACSL 2.2): unbounded integers, three truth values, lazy connectives.
-use Rattle.std.specs.Prelude.{ℕ, ℤ, ◌+ℤ◌, ◌-ℤ◌, Bool, true, false, not, int_lt, int_le, List, [], ◌∷◌, Option, Some, None}
+use Rattle.std.specs.Prelude.{ℕ, ℤ, ◌+ℤ◌, ◌-ℤ◌, ◌*ℤ◌, Bool, true, false, not, int_lt, int_le, List, [], ◌∷◌, Option, Some, None}
 use Rattle.std.specs.Ordering.{int_eq}
 use Rattle.c_syntax.specs.declared.expression.BinOp.{BinOp}
-use Rattle.c_syntax.specs.declared.expression.BinOp.TheVariants.{Add, Sub}
+use Rattle.c_syntax.specs.declared.expression.BinOp.TheVariants.{Add, Sub, Mul, Div, Rem, Shl, Shr, BitAnd, BitOr, BitXor}
 use Rattle.c_syntax.specs.declared.expression.BinOp.TheVariants as operator
 use Rattle.c_syntax.specs.declared.annotation.Relation.{Relation}
 use Rattle.c_syntax.specs.declared.annotation.Relation.TheVariants.{Eq, Ne, Lt, Le, Gt, Ge}
 use Rattle.c_syntax.specs.declared.types.How.TheVariants as how
 use Rattle.c_syntax.specs.Ctypes.{PlainType}
 use Rattle.c_syntax.specs.Annotations.{LogicTerm, Number, Letter, Variable, Binary, Predicate, Chain, Links, NoLink, Linked, ClauseBody, Truth, Annotation}
-use Rattle.c_model.specs.Memory.{Pointer, Value, Integer, load}
+use Rattle.c_model.specs.Memory.{Pointer, Value, Integer, NoValue, load}
+use Rattle.c_model.specs.Operators.{quotient, remainder, shift_left, shift_right, bitwise_and, bitwise_or, bitwise_xor}
 use Rattle.c_model.specs.State.{State, Broken, Spent, Over, Normal, Stop, Evaluation, done, ◌>>◌, find, start_of}
 
 -- the value of a term: an integer of any size
@@ -34,10 +35,22 @@ both None b f = None
 both (Some a) None f = None
 both (Some (Mathematical x)) (Some (Mathematical y)) f = f x y
 
+abbrev pub mathematical : Option ℤ → Option TermValue
+mathematical None = None
+mathematical (Some z) = Some (Mathematical z)
+
 -- an operator on unbounded integers, where it has a value
 abbrev pub compute : BinOp → ℤ → ℤ → Option TermValue
 compute Add x y = Some (Mathematical (x +ℤ y))
 compute Sub x y = Some (Mathematical (x -ℤ y))
+compute Mul x y = Some (Mathematical (x *ℤ y))
+compute Div x y = mathematical (quotient x y)
+compute Rem x y = mathematical (remainder x y)
+compute Shl x y = mathematical (shift_left x y)
+compute Shr x y = mathematical (shift_right x y)
+compute BitAnd x y = Some (Mathematical (bitwise_and x y))
+compute BitOr x y = Some (Mathematical (bitwise_or x y))
+compute BitXor x y = Some (Mathematical (bitwise_xor x y))
 compute operator.Eq x y = None
 compute operator.Ne x y = None
 compute operator.Lt x y = None
@@ -48,6 +61,7 @@ compute operator.Ge x y = None
 -- the value that a place of a C type holds, as a term
 abbrev pub of_value : Option Value → Option TermValue
 of_value None = None
+of_value (Some NoValue) = None
 of_value (Some (Integer z)) = Some (Mathematical z)
 
 abbrev pub read_object : State → Option Pointer → Option PlainType → Option TermValue

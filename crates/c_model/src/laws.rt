@@ -1,19 +1,24 @@
 //! The laws that the definitions meet, one function for each subject. None of them has anything to do.
 
 ghost use Rattle.c_model.specs.Laws.{BitsHoldValues, FittingResultsStand, SignedResultsFit, UnsignedResultsWrap, ResultsFit};
+ghost use Rattle.c_model.specs.Laws.{ConversionsFit, ConversionsKeepValues, OperatorsFit, OperatorsOfOneFit};
 ghost use Rattle.c_model.specs.Laws.{SavedValuesLoad, SavesKeepBlocks, SavesKeepBytes, SavesKeepWhole, StatementsKeepWhole};
-ghost use Rattle.c_model.specs.Laws.{FuelIsEnough, StepsFall, LoopsTurn, RunsNeedNoFuel, RunsSpendSteps, OutputGrows};
+ghost use Rattle.c_model.specs.Laws.{FuelIsEnough, StepsFall, LoopsTurn, DoLoopsTurn, ForLoopsTurn, RunsNeedNoFuel, RunsSpendSteps, OutputGrows};
 ghost use Rattle.c_model.specs.Laws.{AgreementIsReflexive, AgreementIsTransitive};
 ghost use Rattle.c_model.specs.Laws.{AcceptedAreInt};
 
 /// Integers: a value is the value of its bits, a result that fits stands, one that does not is undefined in a signed
-/// type and wraps in an unsigned one.
+/// type and wraps in an unsigned one. Conversions and operators give values of their types.
 pub fn integers()
     ensures bits { BitsHoldValues }
     ensures fitting { FittingResultsStand }
     ensures signed { SignedResultsFit }
     ensures unsigned { UnsignedResultsWrap }
     ensures fits { ResultsFit }
+    ensures converted { ConversionsFit }
+    ensures kept { ConversionsKeepValues }
+    ensures operators { OperatorsFit }
+    ensures operators_of_one { OperatorsOfOneFit }
 {}
 
 /// Memory: what is saved is loaded again, and a save changes nothing else.
@@ -30,6 +35,8 @@ pub fn runs()
     ensures fuel { FuelIsEnough }
     ensures steps { StepsFall }
     ensures loops { LoopsTurn }
+    ensures do_loops { DoLoopsTurn }
+    ensures for_loops { ForLoopsTurn }
     ensures run { RunsNeedNoFuel }
     ensures left { RunsSpendSteps }
     ensures output { OutputGrows }

@@ -13,15 +13,15 @@ use Rattle.c_syntax.specs.declared.statement.StmtKind.{Row_of-Item, end_of-Item,
 use Rattle.c_syntax.specs.declared.statement.StmtKind as statement
 use Rattle.c_syntax.specs.declared.statement.Item.TheBlock.{hidden-the_row-Item-0}
 use Rattle.c_syntax.specs.Ctypes.{PlainType, plain_type}
-use Rattle.c_syntax.specs.Expressions.{Call, Following, plain_exprs, plain_expr_kind, plain_expr_row}
+use Rattle.c_syntax.specs.Expressions.{Node, Call, Following, plain_exprs, plain_kind, plain_expr_row}
 use Rattle.c_syntax.specs.Statements.{Block, Then, plain_item, plain_items, plain_item_row, plain_stmt_kind}
 
 expr_row_is : {m : _} (row : Row_of-Expr m) → plain_expr_row row ≡ plain_exprs (items-the_row-Expr m row)
 expr_row_is end_of-Expr = refl
-expr_row_is (more_of-Expr at e t rest) = ap (Following (plain_expr_kind at e (plain_type t))) (expr_row_is rest)
+expr_row_is (more_of-Expr at e t rest) = ap (Following (Node at (plain_type t) (plain_kind e))) (expr_row_is rest)
 
-pub call_is : (at : Place) (t : PlainType) (f : Use) (v : Vec Expr Global) → plain_expr_kind at (code.Call f v) t ≡ Call at t f (plain_exprs v.items)
-call_is at t f v = ap (Call at t f) (expr_row_is (hidden-the_row-Expr-0 v) ∙ ap plain_exprs (items_hidden-the_row-Expr-0 v))
+pub call_is : (at : Place) (t : PlainType) (f : Use) (v : Vec Expr Global) → Node at t (plain_kind (code.Call f v)) ≡ Node at t (Call f (plain_exprs v.items))
+call_is at t f v = ap (λ es. Node at t (Call f es)) (expr_row_is (hidden-the_row-Expr-0 v) ∙ ap plain_exprs (items_hidden-the_row-Expr-0 v))
 
 item_row_is : {m : _} (row : Row_of-Item m) → plain_item_row row ≡ plain_items (items-the_row-Item m row)
 item_row_is end_of-Item = refl

@@ -3,40 +3,68 @@ use Rattle.std.specs.Prelude.{ℤ, List, [], ◌∷◌, Option}
 use Rattle.c_syntax.specs.declared.place.Place.{Place}
 use Rattle.c_syntax.specs.declared.types.CInt.{CInt}
 use Rattle.c_syntax.specs.declared.expression.Use.{Use}
+use Rattle.c_syntax.specs.declared.expression.UnOp.{UnOp}
 use Rattle.c_syntax.specs.declared.expression.BinOp.{BinOp}
+use Rattle.c_syntax.specs.declared.expression.BumpOp.{BumpOp}
 use Rattle.c_syntax.specs.declared.expression.Expr.{Expr}
 use Rattle.c_syntax.specs.declared.expression.ExprKind.{ExprKind, Row_of-Expr, end_of-Expr, more_of-Expr}
 use Rattle.c_syntax.specs.declared.expression.ExprKind as code
 use Rattle.c_syntax.specs.Ctypes.{PlainType, plain_type}
 
 mutual
+  -- an expression with its place and its type
   pub data Expression : Type 0 where
-    Number : Place → PlainType → ℤ → Option CInt → Expression
-    Letter : Place → PlainType → ℤ → Expression
-    Variable : Place → PlainType → Use → Expression
-    Binary : Place → PlainType → BinOp → Expression → Expression → Expression
-    Assign : Place → PlainType → Option BinOp → Expression → Expression → Expression
-    Call : Place → PlainType → Use → Expressions → Expression
+    Node : Place → PlainType → ExpressionKind → Expression
+
+  pub data ExpressionKind : Type 0 where
+    Number : ℤ → Option CInt → ExpressionKind
+    Letter : ℤ → ExpressionKind
+    Variable : Use → ExpressionKind
+    Unary : UnOp → Expression → ExpressionKind
+    Binary : BinOp → Expression → Expression → ExpressionKind
+    Both : Expression → Expression → ExpressionKind
+    Either : Expression → Expression → ExpressionKind
+    Choice : Expression → Expression → Expression → ExpressionKind
+    Assign : Option BinOp → Expression → Expression → ExpressionKind
+    Bump : BumpOp → Expression → ExpressionKind
+    Call : Use → Expressions → ExpressionKind
+    Cast : PlainType → Expression → ExpressionKind
+    SizeOfType : PlainType → ExpressionKind
+    SizeOfExpr : Expression → ExpressionKind
 
   pub data Expressions : Type 0 where
     NoExpression : Expressions
     Following : Expression → Expressions → Expressions
 
+abbrev pub place_of : Expression → Place
+place_of (Node at t k) = at
+
+abbrev pub type_of : Expression → PlainType
+type_of (Node at t k) = t
+
 abbrev mutual
-  pub plain_expr_kind : Place → ExprKind → PlainType → Expression
-  plain_expr_kind at (code.Number n k) t = Number at t n k
-  plain_expr_kind at (code.Letter n) t = Letter at t n
-  plain_expr_kind at (code.Variable x) t = Variable at t x
-  plain_expr_kind at (code.Binary' op p pa a ta q pb b tb) t = Binary at t op (plain_expr_kind pa a (plain_type ta)) (plain_expr_kind pb b (plain_type tb))
-  plain_expr_kind at (code.Assign' op p pa a ta q pb b tb) t = Assign at t op (plain_expr_kind pa a (plain_type ta)) (plain_expr_kind pb b (plain_type tb))
-  plain_expr_kind at (code.Call' f shape row) t = Call at t f (plain_expr_row row)
+  pub plain_kind : ExprKind → ExpressionKind
+  plain_kind (code.Number n k) = Number n k
+  plain_kind (code.Letter n) = Letter n
+  plain_kind (code.Variable x) = Variable x
+  plain_kind (code.Unary' op p pa a ta) = Unary op (Node pa (plain_type ta) (plain_kind a))
+  plain_kind (code.Binary' op p pa a ta q pb b tb) = Binary op (Node pa (plain_type ta) (plain_kind a)) (Node pb (plain_type tb) (plain_kind b))
+  plain_kind (code.Both' p pa a ta q pb b tb) = Both (Node pa (plain_type ta) (plain_kind a)) (Node pb (plain_type tb) (plain_kind b))
+  plain_kind (code.Either' p pa a ta q pb b tb) = Either (Node pa (plain_type ta) (plain_kind a)) (Node pb (plain_type tb) (plain_kind b))
+  plain_kind (code.Choice' p pa a ta q pb b tb r pc c tc) = Choice (Node pa (plain_type ta) (plain_kind a)) (Node pb (plain_type tb) (plain_kind b)) (Node pc (plain_type tc) (plain_kind c))
+  plain_kind (code.Assign' op p pa a ta q pb b tb) = Assign op (Node pa (plain_type ta) (plain_kind a)) (Node pb (plain_type tb) (plain_kind b))
+  plain_kind (code.Bump' op p pa a ta) = Bump op (Node pa (plain_type ta) (plain_kind a))
+  plain_kind (code.Call' f shape row) = Call f (plain_expr_row row)
+  plain_kind (code.Cast' to p pa a ta) = Cast (plain_type to) (Node pa (plain_type ta) (plain_kind a))
+  plain_kind (code.SizeOfType u) = SizeOfType (plain_type u)
+  plain_kind (code.SizeOfExpr' p pa a ta) = SizeOfExpr (Node pa (plain_type ta) (plain_kind a))
 
   pub plain_expr_row : {m : _} → Row_of-Expr m → Expressions
   plain_expr_row end_of-Expr = NoExpression
-  plain_expr_row (more_of-Expr at e t rest) = Following (plain_expr_kind at e (plain_type t)) (plain_expr_row rest)
+  plain_expr_row (more_of-Expr at e t rest) = Following (Node at (plain_type t) (plain_kind e)) (plain_expr_row rest)
 
 abbrev pub plain_expr : Expr → Expression
-plain_expr e = plain_expr_kind e.place e.kind (plain_type e.ctype)
+plain_expr e = Node e.place (plain_type e.ctype) (plain_kind e.kind)
 
 abbrev pub plain_exprs : List Expr → Expressions
 plain_exprs [] = NoExpression

@@ -7,7 +7,7 @@ use Rattle.c_syntax.specs.declared.statement.Init.TheVariants as init
 use Rattle.c_syntax.specs.declared.statement.Item.{Item}
 use Rattle.c_syntax.specs.declared.statement.Item as item
 use Rattle.c_syntax.specs.declared.statement.Stmt.{Stmt}
-use Rattle.c_syntax.specs.declared.statement.StmtKind.{StmtKind, Held-StmtKind-If-2, None', Some', Row_of-Item, end_of-Item, more_of-Item}
+use Rattle.c_syntax.specs.declared.statement.StmtKind.{StmtKind, Held-StmtKind-If-2, Held-StmtKind-For-1, Row_of-Item, end_of-Item, more_of-Item}
 use Rattle.c_syntax.specs.declared.statement.StmtKind as code
 use Rattle.c_syntax.specs.Ctypes.{PlainType, plain_type}
 use Rattle.c_syntax.specs.Expressions.{Expression, plain_expr}
@@ -26,15 +26,25 @@ pub record Declaration : Type 0 where
 
 mutual
   pub data Statement : Type 0 where
+    Empty : Place → Statement
     Eval : Place → Expression → Statement
     Block : Place → BlockItems → Statement
     If : Place → Expression → Statement → ElsePart → Statement
     While : Place → List Annotation → Expression → Statement → Statement
+    Do : Place → Statement → Expression → Statement
+    For : Place → List Annotation → ForFirst → Option Expression → Option Expression → Statement → Statement
+    Break : Place → Statement
+    Continue : Place → Statement
     Return : Place → Option Expression → Statement
 
   pub data ElsePart : Type 0 where
     NoElse : ElsePart
     Else : Statement → ElsePart
+
+  -- what stands first in the parentheses of a `for`
+  pub data ForFirst : Type 0 where
+    NoFirst : ForFirst
+    First : BlockItem → ForFirst
 
   pub data BlockItem : Type 0 where
     Declare : List Declaration → BlockItem
@@ -59,15 +69,24 @@ plain_decl d = record {
 
 abbrev mutual
   pub plain_stmt_kind : Place → StmtKind → Statement
+  plain_stmt_kind at code.Empty = Empty at
   plain_stmt_kind at (code.Eval e) = Eval at (plain_expr e)
   plain_stmt_kind at (code.Block' shape row) = Block at (plain_item_row row)
   plain_stmt_kind at (code.If' e p pa a b) = If at (plain_expr e) (plain_stmt_kind pa a) (plain_else b)
   plain_stmt_kind at (code.While' annots e p pa a) = While at (map plain_annot annots.items) (plain_expr e) (plain_stmt_kind pa a)
+  plain_stmt_kind at (code.Do' p pa a e) = Do at (plain_stmt_kind pa a) (plain_expr e)
+  plain_stmt_kind at (code.For' annots first e step p pa a) = For at (map plain_annot annots.items) (plain_first first) (option_map plain_expr e) (option_map plain_expr step) (plain_stmt_kind pa a)
+  plain_stmt_kind at code.Break = Break at
+  plain_stmt_kind at code.Continue = Continue at
   plain_stmt_kind at (code.Return e) = Return at (option_map plain_expr e)
 
   pub plain_else : Held-StmtKind-If-2 → ElsePart
-  plain_else None' = NoElse
-  plain_else (Some' p pa a) = Else (plain_stmt_kind pa a)
+  plain_else code.StmtKind-If-2-None' = NoElse
+  plain_else (code.StmtKind-If-2-Some' p pa a) = Else (plain_stmt_kind pa a)
+
+  pub plain_first : Held-StmtKind-For-1 → ForFirst
+  plain_first code.StmtKind-For-1-None' = NoFirst
+  plain_first (code.StmtKind-For-1-Some' p i) = First (plain_item i)
 
   pub plain_item : Item → BlockItem
   plain_item (item.Declare decls) = Declare (map plain_decl decls.items)

@@ -17,11 +17,32 @@ impl Use {
     pub const LIBRARY: u32 = 4_294_967_295;
 }
 
-/// An operator of two operands (C99 6.5.6, 6.5.8, 6.5.9).
+/// An operator of one operand (C99 6.5.3.3).
+#[derive(Clone, Copy, PartialEq, Eq, Debug)]
+pub enum UnOp {
+    /// `+`
+    Plus,
+    /// `-`
+    Minus,
+    /// `!`
+    Not,
+    /// `~`
+    Flip,
+}
+
+/// An operator of two operands that are both evaluated (C99 6.5.5 to 6.5.12).
 #[derive(Clone, Copy, PartialEq, Eq, Debug)]
 pub enum BinOp {
     Add,
     Sub,
+    Mul,
+    Div,
+    Rem,
+    Shl,
+    Shr,
+    BitAnd,
+    BitOr,
+    BitXor,
     Eq,
     Ne,
     Lt,
@@ -30,7 +51,17 @@ pub enum BinOp {
     Ge,
 }
 
-/// An expression. Its place is its operator's token for a binary one, its `(` for a call, and else its first token.
+/// `++` and `--` in front of their operand (C99 6.5.3.1) and behind it (C99 6.5.2.4).
+#[derive(Clone, Copy, PartialEq, Eq, Debug)]
+pub enum BumpOp {
+    PreUp,
+    PreDown,
+    PostUp,
+    PostDown,
+}
+
+/// An expression. Its place is its operator's token for a binary one and for `?:`, the first token of a prefix operator or a
+/// cast, the operator of a postfix one, its `(` for a call, and else its token.
 #[derive(Drop)]
 #[cycle(expr)]
 pub struct Expr {
@@ -48,8 +79,22 @@ pub enum ExprKind {
     /// A character literal (C99 6.4.4.4), by its value as a `char`.
     Letter(i8),
     Variable(Use),
+    Unary(UnOp, Box<Expr>),
     Binary(BinOp, Box<Expr>, Box<Expr>),
+    /// `left && right` (C99 6.5.13).
+    Both(Box<Expr>, Box<Expr>),
+    /// `left || right` (C99 6.5.14).
+    Either(Box<Expr>, Box<Expr>),
+    /// `condition ? first : second` (C99 6.5.15).
+    Choice(Box<Expr>, Box<Expr>, Box<Expr>),
     /// `left = right`, or `left op= right` where there is an operator (C99 6.5.16).
     Assign(Option<BinOp>, Box<Expr>, Box<Expr>),
+    Bump(BumpOp, Box<Expr>),
     Call(Use, Vec<Expr>),
+    /// `(type) operand` (C99 6.5.4). Typing puts one around each operand that is converted (C99 6.3.1.8).
+    Cast(CType, Box<Expr>),
+    /// `sizeof (type)` (C99 6.5.3.4).
+    SizeOfType(CType),
+    /// `sizeof operand` (C99 6.5.3.4).
+    SizeOfExpr(Box<Expr>),
 }

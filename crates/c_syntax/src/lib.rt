@@ -14,7 +14,7 @@ pub mod token;
 pub mod types;
 
 pub use annotation::{Annot, Body, Kind, Link, Pred, PredKind, Range, Relation, Term, TermKind};
-pub use expression::{BinOp, Expr, ExprKind, Use};
+pub use expression::{BinOp, BumpOp, Expr, ExprKind, UnOp, Use};
 pub use name::Name;
 pub use place::Place;
 pub use program::{Behavior, Contract, EnumDef, Enumerator, Func, Layout, Member, Program};

@@ -44,11 +44,19 @@ pub struct Stmt {
 #[derive(Drop)]
 #[cycle(stmt)]
 pub enum StmtKind {
+    /// `;`
+    Empty,
     /// `e;`
     Eval(Expr),
     Block(Vec<Item>),
     If(Expr, Box<Stmt>, Option<Box<Stmt>>),
-    /// A loop with its annotations, its condition and its body.
+    /// `while`, with its annotations, its condition and its body (C99 6.8.5.1).
     While(Vec<Annot>, Expr, Box<Stmt>),
+    /// `do`, with its body and its condition (C99 6.8.5.2).
+    Do(Box<Stmt>, Expr),
+    /// `for`, with its annotations, its declaration or first expression, its condition, its step and its body (C99 6.8.5.3).
+    For(Vec<Annot>, Option<Box<Item>>, Option<Expr>, Option<Expr>, Box<Stmt>),
+    Break,
+    Continue,
     Return(Option<Expr>),
 }

@@ -16,6 +16,8 @@ pub enum CInt {
 /// A type of C.
 #[derive(Drop)]
 pub enum CType {
+    /// `void` (C99 6.2.5 p19).
+    Void,
     /// An integer type.
     Int(CInt),
 }

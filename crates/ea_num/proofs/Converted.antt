@@ -1,16 +1,14 @@
 -- A number of a range is a value of the range's width; a converted number is the congruent value of the type.
-use Rattle.std.proofs.Common.{◌≡◌, ℕ, zero, suc, ◌+◌, ◌&&◌, ◌+ℤ◌, ◌*ℤ◌, ◌∙◌, ◌-◌, ◌/◌, ◌%◌, ◌<◌, ◌≤◌, ◌^◌, ℤ, pos, negsuc, ◌≤ℤ◌, Bool, true, false, if◌then◌else◌, nat_lt, nat_le, FitsSigned, refl, arith}
+use Rattle.std.proofs.Common.{◌≡◌, ℕ, zero, suc, ◌&&◌, ◌+ℤ◌, ◌*ℤ◌, ◌-◌, ◌/◌, ◌%◌, ◌<◌, ◌^◌, ℤ, pos, negsuc, ◌≤ℤ◌, Bool, true, false, if◌then◌else◌, nat_le, FitsSigned, refl, arith}
 use Rattle.std.specs.Int.Signed.{mag}
 use Rattle.std.proofs.Math.Nat.{mod-add-div, mod-lt}
 use Rattle.std.proofs.lemmas.Int.{ints}
-use Rattle.std.proofs.lemmas.Bool.{lt-ltb}
-use Rattle.std.proofs.lemmas.Bool.Decides.{nat_tests}
 use Rattle.c_syntax.specs.declared.annotation.Range.{Range}
 use Rattle.c_syntax.specs.declared.types.CInt.{CInt}
-use Rattle.c_syntax.specs.declared.types.CInt.TheVariants.{I8, U8, I16, U16, I32, U32, I64, U64}
-use Rattle.c_model.specs.Integers.{int_size, is_signed, value_bits, fits, bits_of, value_of_bits}
+use Rattle.c_model.specs.Integers.{int_size, is_signed, value_bits, bits_of, value_of_bits}
 use Rattle.c_model.specs.Ranges.{LiesIn, range_in_bits, width_of_range}
 use Rattle.c_model.proofs.Cells.{value_of_bits-bits_of, bits_of-below}
+use Rattle.c_model.proofs.Conversions.{fits-convert}
 use Rattle.ea_num.specs.Laws.{WidthsFit, machine_width, ConversionsFit, ConversionsAreCongruent, ConversionsKeepValues}
 use Rattle.ea_num.proofs.Bounded.{InBits, in_bits_from_test}
 
@@ -35,32 +33,8 @@ widths_fit r x w l = by (range_in_bits 31 r) (range_in_bits 63 r) refl refl
 
 -- ---- conversions
 
--- a test of a choice between two numbers
-chosen_by_order : (test : ℤ → Bool) (h b : ℕ) (x y : ℤ) → (h ≤ b → test x ≡ true) → (b < h → test y ≡ true) → test (if nat_le h b then x else y) ≡ true
-chosen_by_order test h b x y high low = by (nat_le h b) refl
-  where
-    by : (t : Bool) → nat_le h b ≡ t → test (if t then x else y) ≡ true
-    by true e = high (grind (arith, nat_tests))
-    by false e = low (grind (arith, nat_tests))
-
-signed_bits_fit : (k : CInt) (h m b : ℕ) → fits k (negsuc (m - suc b)) ≡ nat_lt (m - suc b) h → fits k (pos b) ≡ nat_lt b h → b < m → m ≡ h + h → fits k (if nat_le h b then negsuc (m - suc b) else pos b) ≡ true
-signed_bits_fit k h m b p q l e =
-    chosen_by_order (fits k) h b (negsuc (m - suc b)) (pos b)
-    (λ (w : h ≤ b). p ∙ lt-ltb (m - suc b) h (omega arith))
-    (λ (w : b < h). q ∙ lt-ltb b h w)
-
-bits_fit : (k : CInt) (b : ℕ) → b < 256 ^ int_size k → fits k (value_of_bits k b) ≡ true
-bits_fit I8 b l = signed_bits_fit I8 128 256 b refl refl l refl
-bits_fit U8 b l = lt-ltb _ _ l
-bits_fit I16 b l = signed_bits_fit I16 32768 65536 b refl refl l refl
-bits_fit U16 b l = lt-ltb _ _ l
-bits_fit I32 b l = signed_bits_fit I32 2147483648 4294967296 b refl refl l refl
-bits_fit U32 b l = lt-ltb _ _ l
-bits_fit I64 b l = signed_bits_fit I64 9223372036854775808 18446744073709551616 b refl refl l refl
-bits_fit U64 b l = lt-ltb _ _ l
-
 pub conversions_fit : ConversionsFit
-conversions_fit k x = bits_fit k (bits_of k x) (bits_of-below k x)
+conversions_fit = fits-convert
 
 -- the bits of a number are a multiple of m away, and so is their value in two's complement
 record Turns (m : ℕ) (x y : ℤ) : Type 0 where

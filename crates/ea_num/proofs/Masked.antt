@@ -6,7 +6,7 @@ use Rattle.std.specs.Int.Signed.{mag}
 use Rattle.std.proofs.lemmas.Int.{ints, clamps, to_z_pos}
 use Rattle.std.proofs.lemmas.Bool.{ltb-true}
 use Rattle.std.proofs.lemmas.Bool.Decides.{nat_tests}
-use Rattle.std.proofs.lemmas.Nat.{pow_pos, and_le_l, and_le_r, or_lt, xor_lt, or_disjoint, leading_length, one_shl}
+use Rattle.std.proofs.lemmas.Nat.{pow_pos, and_le_l, and_le_r, or_disjoint, leading_length, one_shl}
 use Rattle.std.proofs.lemmas.Nat.Bits.{bit_at_and, bit_at_or, bit_at_xor, bit_at-lt, bit_at-zero, same_from_bits}
 use Rattle.std.proofs.Math.Pow.{pow_mono}
 use Rattle.std.proofs.Math.Nat.{pow-suc}
@@ -14,6 +14,7 @@ use lib.Count.{count_leading_zeros}
 use Rattle.c_syntax.specs.declared.annotation.Range.{Range}
 use Rattle.c_model.specs.Operators.{bits_without, bitwise_and, bitwise_or, bitwise_xor}
 use Rattle.c_model.specs.Ranges.{LiesIn, IsWithin128, from_to, bounded, range_in_bits, is_nonnegative, least_from, bits_of_both, bits_range, common_bits}
+use Rattle.c_model.proofs.OperatorResults.{mag-bitwise_or, mag-bitwise_xor, mag-bitwise_and}
 use Rattle.ea_num.specs.Laws.{AndsLie, OrsLie, XorsLie, OperatorsActOnEachBit}
 use Rattle.ea_num.proofs.Bounded.{InBits, in_bits_from_test, range_in_bits-true, bounded-within, lies_in_bounded}
 use Rattle.ea_num.proofs.Converted.{lies_in_bits}
@@ -139,24 +140,6 @@ bits_lie a b h x y z p q l up = by (int_le (pos 0) a.lo) (int_le (pos 0) b.lo) r
     by false t e f = in_bits_lies h z l
 
 -- ---- the operators keep within the bits of their operands
-
-mag-bitwise_or : (h : ℕ) (x y : ℤ) → mag x < 2 ^ h → mag y < 2 ^ h → mag (bitwise_or x y) < 2 ^ h
-mag-bitwise_or h (pos a) (pos b) p q = or_lt h a b p q
-mag-bitwise_or h (pos a) (negsuc b) p q = omega arith
-mag-bitwise_or h (negsuc a) (pos b) p q = omega arith
-mag-bitwise_or h (negsuc a) (negsuc b) p q = omega (arith, and_le_l a b)
-
-mag-bitwise_xor : (h : ℕ) (x y : ℤ) → mag x < 2 ^ h → mag y < 2 ^ h → mag (bitwise_xor x y) < 2 ^ h
-mag-bitwise_xor h (pos a) (pos b) p q = xor_lt h a b p q
-mag-bitwise_xor h (pos a) (negsuc b) p q = xor_lt h a b p q
-mag-bitwise_xor h (negsuc a) (pos b) p q = xor_lt h a b p q
-mag-bitwise_xor h (negsuc a) (negsuc b) p q = xor_lt h a b p q
-
-mag-bitwise_and : (h : ℕ) (x y : ℤ) → mag x < 2 ^ h → mag y < 2 ^ h → mag (bitwise_and x y) < 2 ^ h
-mag-bitwise_and h (pos a) (pos b) p q = omega (arith, and_le_l a b)
-mag-bitwise_and h (pos a) (negsuc b) p q = omega arith
-mag-bitwise_and h (negsuc a) (pos b) p q = omega arith
-mag-bitwise_and h (negsuc a) (negsuc b) p q = or_lt h a b p q
 
 bitwise_or-nonnegative : (x y : ℤ) → pos 0 ≤ℤ x → pos 0 ≤ℤ y → pos 0 ≤ℤ bitwise_or x y
 bitwise_or-nonnegative (pos a) (pos b) p q = omega (arith, ints)
