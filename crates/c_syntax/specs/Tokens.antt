@@ -10,8 +10,11 @@ use Rattle.c_syntax.specs.declared.token.Tokens.{Tokens}
 pub data PlainTokenKind : Type 0 where
   Word : ℕ → PlainTokenKind
   Number : ℤ → Option CInt → PlainTokenKind
+  Letter : ℤ → PlainTokenKind
   Chars : List ℕ → PlainTokenKind
   Mark : ℕ → PlainTokenKind
+  AnnotOpen : PlainTokenKind
+  AnnotClose : PlainTokenKind
   Head : ℕ → ℕ → PlainTokenKind
 
 pub record PlainToken : Type 0 where
@@ -26,8 +29,11 @@ pub record PlainTokens : Type 0 where
 abbrev pub plain_token_kind : TokenKind → PlainTokenKind
 plain_token_kind (code.Word n) = Word n
 plain_token_kind (code.Number v t) = Number v t
+plain_token_kind (code.Letter v) = Letter v
 plain_token_kind (code.Chars bytes) = Chars bytes
 plain_token_kind (code.Mark m) = Mark m
+plain_token_kind code.AnnotOpen = AnnotOpen
+plain_token_kind code.AnnotClose = AnnotClose
 plain_token_kind (code.Head k n) = Head k n
 
 abbrev pub plain_token : Token → PlainToken

@@ -11,10 +11,16 @@ pub enum TokenKind {
     Word(u32),
     /// An integer literal by its value, at most 2^127 - 1, with the type that C99 6.4.4.1 gives it where there is one.
     Number(i128, Option<CInt>),
+    /// A character literal by its value as a signed `char` (C99 6.4.4.4).
+    Letter(i8),
     /// A string literal by its bytes, without the 0 behind them (C99 6.4.5).
     Chars(Name),
     /// A punctuator (C99 6.4.6), by its place in the list of all, from 0.
     Mark(u8),
+    /// What begins an annotation: `/*@` or `//@`.
+    AnnotOpen,
+    /// What ends it: `*/`, or the end of the line or of the text.
+    AnnotClose,
     /// A line that begins with `#`: its kind, and the place of its text in the list of the kind's texts.
     Head(u8, u32),
 }
