@@ -15,6 +15,15 @@ pub mod Steps
 pub mod Laws
 pub mod FirstTokens
 pub mod FirstForm
+pub mod Punctuators
+pub mod Vocabulary
+pub mod ExpressionGrammar
+pub mod ProgramGrammar
+pub mod Checked
+pub mod Library
+pub mod Typing
+pub mod ProgramTyping
+pub mod WellTyped
 pub mod MonitoredTokens
 pub mod MonitoredTokenLaws
 pub mod Comments

@@ -1,0 +1,493 @@
+-- The grammar of expressions on integers, with the trees that are read (C99 6.4.4, 6.5, 6.7.6):
+--
+--   expr    = binary [ "?" expr ":" expr ]
+--   binary  = cast, joined by the operators of C99 6.5.5 to 6.5.14, each level from the left
+--   cast    = unary | "(" type ")" cast
+--   unary   = primary | ( "+" | "-" | "!" | "~" ) cast | "sizeof" unary | "sizeof" "(" type ")"
+--   primary = NAME | NUMBER | CHAR | "(" expr ")"
+--   type    = { "const" } base { "const" }
+--   base    = integer words in any order | "void" | TYPENAME
+--
+-- An expression that stands for its effect is one of these, an assignment, or an increment:
+--
+--   effect  = unary assign-op expr | ( "++" | "--" ) unary | primary ( "++" | "--" ) | expr
+--   call    = NAME "(" [ expr { "," expr } ] ")"
+--
+-- An expression that stands in no other has at most 400 tokens. Types and declarations are set by typing.
+use Rattle.std.specs.Prelude.{ℕ, zero, suc, ◌+◌, ℤ, List, [], ◌∷◌, ◌++◌, Option, Some, None, option_map, Bool, true, false, cond, eqb, slice_get}
+use Rattle.grammar.specs.Syntax.{Syntax, none, gives, one, ◌then◌, choice, many, knot, at_most}
+use Rattle.c_syntax.specs.declared.place.Place.{Place}
+use Rattle.c_syntax.specs.declared.types.CInt.{CInt}
+use Rattle.c_syntax.specs.declared.expression.Use.{Use}
+use Rattle.c_syntax.specs.declared.expression.UnOp.{UnOp}
+use Rattle.c_syntax.specs.declared.expression.UnOp.TheVariants.{Plus, Minus, Not, Flip}
+use Rattle.c_syntax.specs.declared.expression.BinOp.{BinOp}
+use Rattle.c_syntax.specs.declared.expression.BinOp.TheVariants.{Add, Sub, Mul, Div, Rem, Shl, Shr, BitAnd, BitOr, BitXor, Eq, Ne, Lt, Le, Gt, Ge}
+use Rattle.c_syntax.specs.declared.expression.BumpOp.{BumpOp}
+use Rattle.c_syntax.specs.declared.expression.BumpOp.TheVariants.{PreUp, PreDown, PostUp, PostDown}
+use Rattle.c_syntax.specs.Ctypes.{PlainType, Void, Int, int_type}
+use Rattle.c_syntax.specs.Expressions.{Expression, Node, ExpressionKind, Number, Letter, Variable, Unary, Binary, Both, Either, Choice, Assign, Bump, Call, Cast, SizeOfType, SizeOfExpr, Expressions, NoExpression, Following}
+use Rattle.c_syntax.specs.Tokens as token
+use Rattle.c_syntax.specs.Tokens.{PlainTokenKind, PlainToken}
+use Rattle.c_model.specs.declared.vocabulary.Keyword.{Keyword}
+use Rattle.c_model.specs.declared.vocabulary.Keyword.TheVariants as keyword
+use Rattle.c_model.specs.declared.vocabulary.Word.{Word}
+use Rattle.c_model.specs.declared.vocabulary.Word.TheVariants as word
+use Rattle.c_model.specs.declared.vocabulary.SignWords.{SignWords}
+use Rattle.c_model.specs.declared.vocabulary.SignWords.TheVariants as sign
+use Rattle.c_model.specs.declared.vocabulary.SizeWords.{SizeWords}
+use Rattle.c_model.specs.declared.vocabulary.SizeWords.TheVariants as size
+use Rattle.c_model.specs.declared.vocabulary.IntegerWords.{IntegerWords}
+use Rattle.c_model.specs.Vocabulary.{Vocabulary, word_at, no_words, words_with, integer_type}
+use Rattle.c_model.specs.Punctuators.{increment, decrement, shift_left, shift_right, less_equal, greater_equal, equal, not_equal, and_and, or_or, shift_left_assign, shift_right_assign, add_assign, subtract_assign, multiply_assign, divide_assign, remainder_assign, and_assign, or_assign, xor_assign, plus, minus, times, divide, percent, less, greater, assign, exclamation, tilde, ampersand, bar, caret, question, colon, comma, left_paren, right_paren}
+
+-- ---- kinds of tokens, by which alternatives are told apart
+
+abbrev pub name_kind : ℕ
+name_kind = 0
+
+abbrev pub number_kind : ℕ
+number_kind = 1
+
+abbrev pub letter_kind : ℕ
+letter_kind = 2
+
+abbrev pub text_kind : ℕ
+text_kind = 3
+
+abbrev pub type_name_kind : ℕ
+type_name_kind = 4
+
+abbrev pub logic_kind : ℕ
+logic_kind = 5
+
+abbrev pub annot_open_kind : ℕ
+annot_open_kind = 6
+
+abbrev pub annot_close_kind : ℕ
+annot_close_kind = 7
+
+abbrev pub head_kind : ℕ
+head_kind = 8
+
+abbrev pub keyword_kind : Keyword → ℕ
+keyword_kind keyword.Char = 10
+keyword_kind keyword.Short = 11
+keyword_kind keyword.Int = 12
+keyword_kind keyword.Long = 13
+keyword_kind keyword.Signed = 14
+keyword_kind keyword.Unsigned = 15
+keyword_kind keyword.Void = 16
+keyword_kind keyword.Const = 17
+keyword_kind keyword.Static = 18
+keyword_kind keyword.If = 19
+keyword_kind keyword.Else = 20
+keyword_kind keyword.While = 21
+keyword_kind keyword.Do = 22
+keyword_kind keyword.For = 23
+keyword_kind keyword.Break = 24
+keyword_kind keyword.Continue = 25
+keyword_kind keyword.Return = 26
+keyword_kind keyword.Sizeof = 27
+keyword_kind keyword.Kept = 28
+
+abbrev pub mark_kind : ℕ → ℕ
+mark_kind m = 30 + m
+
+abbrev pub word_kind : Word → ℕ
+word_kind (word.Keyword k) = keyword_kind k
+word_kind (word.TypeName t) = type_name_kind
+word_kind word.Assert = name_kind
+word_kind word.Integer = name_kind
+word_kind word.Logic = logic_kind
+word_kind word.Name = name_kind
+
+abbrev pub token_kind : Vocabulary → PlainTokenKind → ℕ
+token_kind ws (token.Word n) = word_kind (word_at ws n)
+token_kind ws (token.Number z t) = number_kind
+token_kind ws (token.Letter z) = letter_kind
+token_kind ws (token.Chars bytes) = text_kind
+token_kind ws (token.Mark m) = mark_kind m
+token_kind ws token.AnnotOpen = annot_open_kind
+token_kind ws token.AnnotClose = annot_close_kind
+token_kind ws (token.Head k n) = head_kind
+
+abbrev pub kind : Vocabulary → PlainToken → ℕ
+kind ws t = token_kind ws t.kind
+
+-- a token whose kind has a value, with its place
+abbrev pub placed : {A : Type 0} → (PlainTokenKind → Option A) → PlainToken → Option (A × Place)
+placed f t = elim (f t.kind) [ Some x ↦ Some (x, t.place) | None ↦ None ]
+
+-- ---- what single tokens stand for
+
+-- NUMBER: an integer literal with its type (C99 6.4.4.1)
+abbrev pub number_of : PlainTokenKind → Option (ℤ × Option CInt)
+number_of (token.Number z t) = Some (z, t)
+number_of _ = None
+
+-- CHAR (C99 6.4.4.4)
+abbrev pub letter_of : PlainTokenKind → Option ℤ
+letter_of (token.Letter z) = Some z
+letter_of _ = None
+
+-- what is looked up in a table by a number
+abbrev pub entry : {A : Type 0} → ℕ → List (ℕ × A) → Option A
+entry n [] = None
+entry n (x ∷ xs) = cond (eqb n x.0) (Some x.1) (entry n xs)
+
+abbrev pub mark_entry : {A : Type 0} → List (ℕ × A) → PlainTokenKind → Option A
+mark_entry table (token.Mark m) = entry m table
+mark_entry table _ = None
+
+-- the kinds of the punctuators of a table
+abbrev pub kinds_of : {A : Type 0} → List (ℕ × A) → List ℕ
+kinds_of [] = []
+kinds_of (x ∷ xs) = mark_kind x.0 ∷ kinds_of xs
+
+-- prefix operators (C99 6.5.3.3)
+abbrev pub unary_operators : List (ℕ × UnOp)
+unary_operators = (plus, Plus) ∷ (minus, Minus) ∷ (exclamation, Not) ∷ (tilde, Flip) ∷ []
+
+-- what joins two operands
+pub data Connective : Type 0 where
+  Operator : BinOp → Connective
+  And : Connective
+  Or : Connective
+
+-- binary operators by level, from the one that binds closest, 0, to `||`, 9 (C99 6.5.5 to 6.5.14)
+abbrev pub operator_levels : List (List (ℕ × Connective))
+operator_levels =
+    ((times, Operator Mul) ∷ (divide, Operator Div) ∷ (percent, Operator Rem) ∷ [])
+    ∷ ((plus, Operator Add) ∷ (minus, Operator Sub) ∷ [])
+    ∷ ((shift_left, Operator Shl) ∷ (shift_right, Operator Shr) ∷ [])
+    ∷ ((less, Operator Lt) ∷ (greater, Operator Gt) ∷ (less_equal, Operator Le) ∷ (greater_equal, Operator Ge) ∷ [])
+    ∷ ((equal, Operator Eq) ∷ (not_equal, Operator Ne) ∷ [])
+    ∷ ((ampersand, Operator BitAnd) ∷ [])
+    ∷ ((caret, Operator BitXor) ∷ [])
+    ∷ ((bar, Operator BitOr) ∷ [])
+    ∷ ((and_and, And) ∷ [])
+    ∷ ((or_or, Or) ∷ [])
+    ∷ []
+
+abbrev pub operators_at : ℕ → List (ℕ × Connective)
+operators_at l = elim (slice_get operator_levels l) [ None ↦ [] | Some table ↦ table ]
+
+-- how many levels there are
+abbrev pub levels : ℕ
+levels = 10
+
+-- `=`, and `op=` (C99 6.5.16)
+abbrev pub assignment_operators : List (ℕ × Option BinOp)
+assignment_operators =
+    (assign, None) ∷ (multiply_assign, Some Mul) ∷ (divide_assign, Some Div) ∷ (remainder_assign, Some Rem) ∷ (add_assign, Some Add)
+    ∷ (subtract_assign, Some Sub) ∷ (shift_left_assign, Some Shl) ∷ (shift_right_assign, Some Shr) ∷ (and_assign, Some BitAnd)
+    ∷ (xor_assign, Some BitXor) ∷ (or_assign, Some BitOr) ∷ []
+
+-- in front of their operand, and behind it (C99 6.5.3.1, 6.5.2.4)
+abbrev pub prefix_bumps : List (ℕ × BumpOp)
+prefix_bumps = (increment, PreUp) ∷ (decrement, PreDown) ∷ []
+
+abbrev pub postfix_bumps : List (ℕ × BumpOp)
+postfix_bumps = (increment, PostUp) ∷ (decrement, PostDown) ∷ []
+
+-- ---- what begins what
+
+abbrev pub first_integer_words : List ℕ
+first_integer_words =
+    keyword_kind keyword.Char ∷ keyword_kind keyword.Short ∷ keyword_kind keyword.Int ∷ keyword_kind keyword.Long ∷ keyword_kind keyword.Signed
+    ∷ keyword_kind keyword.Unsigned ∷ []
+
+abbrev pub first_base : List ℕ
+first_base = keyword_kind keyword.Void ∷ type_name_kind ∷ first_integer_words
+
+abbrev pub first_type : List ℕ
+first_type = keyword_kind keyword.Const ∷ first_base
+
+abbrev pub first_expression : List ℕ
+first_expression =
+    name_kind ∷ number_kind ∷ letter_kind ∷ mark_kind left_paren ∷ mark_kind plus ∷ mark_kind minus ∷ mark_kind exclamation ∷ mark_kind tilde
+    ∷ keyword_kind keyword.Sizeof ∷ []
+
+abbrev pub first_effect : List ℕ
+first_effect = mark_kind increment ∷ mark_kind decrement ∷ first_expression
+
+-- what may follow words for a sign, and for a size
+abbrev pub signs_behind : SignWords → List ℕ
+signs_behind sign.Nothing = keyword_kind keyword.Signed ∷ keyword_kind keyword.Unsigned ∷ []
+signs_behind sign.Signed = []
+signs_behind sign.Unsigned = []
+
+abbrev pub sizes_behind : SizeWords → List ℕ
+sizes_behind size.Nothing = keyword_kind keyword.Char ∷ keyword_kind keyword.Short ∷ keyword_kind keyword.Int ∷ keyword_kind keyword.Long ∷ []
+sizes_behind size.Char = []
+sizes_behind size.Short = keyword_kind keyword.Int ∷ []
+sizes_behind size.ShortInt = []
+sizes_behind size.Int = keyword_kind keyword.Short ∷ keyword_kind keyword.Long ∷ []
+sizes_behind size.Long = keyword_kind keyword.Int ∷ keyword_kind keyword.Long ∷ []
+sizes_behind size.LongInt = keyword_kind keyword.Long ∷ []
+sizes_behind size.LongLong = keyword_kind keyword.Int ∷ []
+sizes_behind size.LongLongInt = []
+
+abbrev pub words_behind : IntegerWords → List ℕ
+words_behind x = signs_behind x.sign ++ sizes_behind x.size
+
+-- ---- trees
+
+-- an expression as it is read
+abbrev pub read_as : Place → ExpressionKind → Expression
+read_as at k = Node at int_type k
+
+abbrev pub use_of : ℕ → Use
+use_of n = record { name = n; decl = 0 }
+
+abbrev pub joined : Connective → Expression → Expression → ExpressionKind
+joined (Operator op) a b = Binary op a b
+joined And a b = Both a b
+joined Or a b = Either a b
+
+abbrev pub expressions : List Expression → Expressions
+expressions [] = NoExpression
+expressions (e ∷ es) = Following e (expressions es)
+
+-- what form an operand has, by which it can go on: a primary expression with `++`, a unary one with `=`
+pub data Form : Type 0 where
+  IsPrimary : Form
+  IsUnary : Form
+  IsCast : Form
+
+-- an operand with its form and the place of its first token
+pub record ReadOperand : Type 0 where
+  pub expression : Expression
+  pub form : Form
+  pub first : Place
+
+abbrev pub read_operand : Expression → Form → Place → ReadOperand
+read_operand e form first = record { expression = e; form = form; first = first }
+
+module _ (ws : Vocabulary) where
+  -- a token of this kind, by its place
+  abbrev pub fixed : ℕ → Syntax PlainToken Place
+  fixed k = one (λ t. cond (eqb (kind ws t) k) (Some t.place) None)
+
+  abbrev pub mark : ℕ → Syntax PlainToken Place
+  mark m = fixed (mark_kind m)
+
+  abbrev pub reserved : Keyword → Syntax PlainToken Place
+  reserved k = fixed (keyword_kind k)
+
+  abbrev pub name_of : PlainTokenKind → Option ℕ
+  name_of (token.Word n) = cond (eqb (word_kind (word_at ws n)) name_kind) (Some n) None
+  name_of _ = None
+
+  -- NAME, by its number
+  abbrev pub name : Syntax PlainToken (ℕ × Place)
+  name = one (placed name_of)
+
+  -- ---- types (C99 6.7.2, 6.7.6)
+
+  abbrev pub keyword_of : Word → Option Keyword
+  keyword_of (word.Keyword k) = Some k
+  keyword_of _ = None
+
+  abbrev pub next_words : IntegerWords → PlainTokenKind → Option IntegerWords
+  next_words x (token.Word n) = elim (keyword_of (word_at ws n)) [ None ↦ None | Some k ↦ words_with x k ]
+  next_words x _ = None
+
+  unfoldable pub integer_word : IntegerWords → Syntax PlainToken IntegerWords
+  integer_word x = one (placed (next_words x)) then λ y. gives y.0
+
+  -- integer words, in any order
+  unfoldable pub integer_words : Syntax PlainToken PlainType
+  integer_words = integer_word no_words then λ x. many (kind ws) words_behind integer_word x then λ y. gives (Int (integer_type y))
+
+  abbrev pub type_name_of : PlainTokenKind → Option PlainType
+  type_name_of (token.Word n) = elim (word_at ws n) [
+    | word.TypeName t ↦ Some (Int t)
+    | word.Keyword k ↦ None
+    | word.Assert ↦ None
+    | word.Integer ↦ None
+    | word.Logic ↦ None
+    | word.Name ↦ None
+  ]
+  type_name_of _ = None
+
+  -- TYPENAME
+  unfoldable pub type_name : Syntax PlainToken PlainType
+  type_name = one (placed type_name_of) then λ t. gives t.0
+
+  -- integer words | "void" | TYPENAME
+  unfoldable pub base : Syntax PlainToken PlainType
+  base =
+      choice (kind ws) (keyword_kind keyword.Void ∷ []) (reserved keyword.Void then λ _. gives Void)
+      (choice (kind ws) (type_name_kind ∷ []) type_name integer_words)
+
+  -- { "const" }, which has no meaning (this profile)
+  unfoldable pub consts : {A : Type 0} → A → Syntax PlainToken A
+  consts x = many (kind ws) (λ _. keyword_kind keyword.Const ∷ []) (λ y. reserved keyword.Const then λ _. gives y) x
+
+  -- { "const" } base { "const" }
+  unfoldable pub type : Syntax PlainToken PlainType
+  type = consts (tt {0}) then λ _. base then λ t. consts t
+
+  -- ---- expressions; E stands for an expression inside another, O for an operand, which is a cast where it may be one
+
+  abbrev pub Operand : Type 1
+  Operand = Bool → Syntax PlainToken ReadOperand
+
+  abbrev pub read_name : ℕ × Place → ReadOperand
+  read_name x = read_operand (read_as x.1 (Variable (use_of x.0))) IsPrimary x.1
+
+  -- ")", behind what is read
+  unfoldable pub closed : {A : Type 0} → A → Syntax PlainToken A
+  closed x = mark right_paren then λ _. gives x
+
+  -- NUMBER | CHAR
+  unfoldable pub literal : Syntax PlainToken ReadOperand
+  literal =
+      choice (kind ws) (number_kind ∷ []) (one (placed number_of) then λ n. gives (read_operand (read_as n.1 (Number n.0.0 n.0.1)) IsPrimary n.1))
+      (one (placed letter_of) then λ z. gives (read_operand (read_as z.1 (Letter z.0)) IsPrimary z.1))
+
+  -- type ")" cast, behind "("
+  unfoldable pub cast_rest : Operand → Place → Syntax PlainToken ReadOperand
+  cast_rest O at = type then λ t. mark right_paren then λ _. O true then λ x. gives (read_operand (read_as at (Cast t x.expression)) IsCast at)
+
+  -- expr ")", behind "("
+  unfoldable pub paren_rest : Syntax PlainToken Expression → Place → Syntax PlainToken ReadOperand
+  paren_rest E at = E then λ e. closed (read_operand e IsPrimary at)
+
+  -- what stands behind "("; a cast, where it may be one, begins with a type there
+  unfoldable pub behind_paren : Syntax PlainToken Expression → Operand → Bool → Place → Syntax PlainToken ReadOperand
+  behind_paren E O casts at = cond casts (choice (kind ws) first_type (cast_rest O at) (paren_rest E at)) (paren_rest E at)
+
+  -- ( "+" | "-" | "!" | "~" ) cast
+  unfoldable pub prefixed : Operand → Syntax PlainToken ReadOperand
+  prefixed O = one (placed (mark_entry unary_operators)) then λ o. O true then λ x. gives (read_operand (read_as o.1 (Unary o.0 x.expression)) IsUnary o.1)
+
+  -- what stands behind "sizeof" "(": a type, or an expression, and ")"
+  unfoldable pub sized_in_parens : Syntax PlainToken Expression → Place → Syntax PlainToken ReadOperand
+  sized_in_parens E at =
+      choice (kind ws) first_type (type then λ t. closed (read_operand (read_as at (SizeOfType t)) IsUnary at))
+      (E then λ e. closed (read_operand (read_as at (SizeOfExpr e)) IsUnary at))
+
+  -- "sizeof" unary | "sizeof" "(" type ")" (C99 6.5.3.4)
+  unfoldable pub sized : Syntax PlainToken Expression → Operand → Syntax PlainToken ReadOperand
+  sized E O =
+      reserved keyword.Sizeof then λ at.
+      choice (kind ws) (mark_kind left_paren ∷ []) (mark left_paren then λ _. sized_in_parens E at)
+      (O false then λ x. gives (read_operand (read_as at (SizeOfExpr x.expression)) IsUnary at))
+
+  -- an operand that begins with no name
+  unfoldable pub operand_but_name : Syntax PlainToken Expression → Operand → Operand
+  operand_but_name E O casts =
+      choice (kind ws) (mark_kind left_paren ∷ []) (mark left_paren then λ at. behind_paren E O casts at)
+      (choice (kind ws) (kinds_of unary_operators) (prefixed O)
+      (choice (kind ws) (keyword_kind keyword.Sizeof ∷ []) (sized E O) literal))
+
+  -- a cast where it may be one, and else a unary expression
+  unfoldable pub operand_of : Syntax PlainToken Expression → Operand → Operand
+  operand_of E O casts = choice (kind ws) (name_kind ∷ []) (name then λ x. gives (read_name x)) (operand_but_name E O casts)
+
+  unfoldable pub operand : Syntax PlainToken Expression → Operand
+  operand E = knot (operand_of E)
+
+  -- an operator of the level with its right operand R, behind the left one
+  unfoldable pub joined_once : ℕ → Syntax PlainToken Expression → Expression → Syntax PlainToken Expression
+  joined_once l R left = one (placed (mark_entry (operators_at l))) then λ o. R then λ right. gives (read_as o.1 (joined o.0 left right))
+
+  -- what stands behind an operand: operators of the levels below l with their right operands
+  unfoldable pub behind_operand : Syntax PlainToken Expression → ℕ → Expression → Syntax PlainToken Expression
+  behind_operand E zero x = gives x
+  behind_operand E (suc l) x =
+      behind_operand E l x then λ y.
+      many (kind ws) (λ _. kinds_of (operators_at l)) (joined_once l (operand E true then λ z. behind_operand E l z.expression)) y
+
+  -- "?" expr ":" expr, behind the condition (C99 6.5.15)
+  unfoldable pub choice_rest : Syntax PlainToken Expression → Expression → Syntax PlainToken Expression
+  choice_rest E x = mark question then λ at. E then λ y. mark colon then λ _. E then λ z. gives (read_as at (Choice x y z))
+
+  -- the rest of an expression, behind its first operand
+  unfoldable pub expression_rest : Syntax PlainToken Expression → Expression → Syntax PlainToken Expression
+  expression_rest E x = behind_operand E levels x then λ y. choice (kind ws) (mark_kind question ∷ []) (choice_rest E y) (gives y)
+
+  unfoldable pub expression_of : Syntax PlainToken Expression → Syntax PlainToken Expression
+  expression_of E = operand E true then λ x. expression_rest E x.expression
+
+  unfoldable pub expression : Syntax PlainToken Expression
+  expression = knot {S = Unit {0}} (λ E u. expression_of (E u)) tt
+
+  -- ---- effects, each with the place of its first token
+
+  -- assign-op expr, behind a unary expression
+  unfoldable pub assigned : Expression → Syntax PlainToken Expression
+  assigned left = one (placed (mark_entry assignment_operators)) then λ o. expression then λ right. gives (read_as o.1 (Assign o.0 left right))
+
+  -- "++" | "--", behind a primary expression
+  unfoldable pub bumped : Expression → Syntax PlainToken Expression
+  bumped x = one (placed (mark_entry postfix_bumps)) then λ o. gives (read_as o.1 (Bump o.0 x))
+
+  unfoldable pub behind_unary : Expression → Syntax PlainToken Expression
+  behind_unary x = choice (kind ws) (kinds_of assignment_operators) (assigned x) (expression_rest expression x)
+
+  unfoldable pub behind_primary : Expression → Syntax PlainToken Expression
+  behind_primary x = choice (kind ws) (kinds_of postfix_bumps) (bumped x) (behind_unary x)
+
+  -- what stands behind an expression of the form
+  unfoldable pub behind_form : Form → Expression → Syntax PlainToken Expression
+  behind_form IsPrimary x = behind_primary x
+  behind_form IsUnary x = behind_unary x
+  behind_form IsCast x = expression_rest expression x
+
+  -- the rest of an effect, behind its first operand
+  unfoldable pub effect_rest : ReadOperand → Syntax PlainToken (Expression × Place)
+  effect_rest x = behind_form x.form x.expression then λ e. gives (e, x.first)
+
+  -- ( "++" | "--" ) unary
+  unfoldable pub bump_first : Syntax PlainToken (Expression × Place)
+  bump_first = one (placed (mark_entry prefix_bumps)) then λ o. operand expression false then λ x. gives (read_as o.1 (Bump o.0 x.expression), o.1)
+
+  -- an effect that begins with no name
+  unfoldable pub effect_but_name : Syntax PlainToken (Expression × Place)
+  effect_but_name = choice (kind ws) (kinds_of prefix_bumps) bump_first (operand_but_name expression (operand expression) true then effect_rest)
+
+  -- an expression, an assignment or an increment
+  unfoldable pub effect : Syntax PlainToken (Expression × Place)
+  effect = choice (kind ws) (name_kind ∷ []) (name then λ x. effect_rest (read_name x)) effect_but_name
+
+  -- ---- calls
+
+  unfoldable pub next_argument : List Expression → Syntax PlainToken (List Expression)
+  next_argument es = mark comma then λ _. expression then λ e. gives (es ++ e ∷ [])
+
+  -- [ expr { "," expr } ]
+  unfoldable pub arguments : Syntax PlainToken (List Expression)
+  arguments =
+      choice (kind ws) first_expression (expression then λ e. many (kind ws) (λ _. mark_kind comma ∷ []) next_argument (e ∷ []))
+      (gives [])
+
+  -- "(" .. ")", behind a name
+  unfoldable pub call_rest : ℕ × Place → Syntax PlainToken (Expression × Place)
+  call_rest f = mark left_paren then λ at. arguments then λ es. closed (read_as at (Call (use_of f.0) (expressions es)), f.1)
+
+  -- what stands behind a name at the front of a statement
+  unfoldable pub behind_name : ℕ × Place → Syntax PlainToken (Expression × Place)
+  behind_name x = choice (kind ws) (mark_kind left_paren ∷ []) (call_rest x) (effect_rest (read_name x))
+
+  -- an effect or a call
+  unfoldable pub effect_or_call : Syntax PlainToken (Expression × Place)
+  effect_or_call = choice (kind ws) (name_kind ∷ []) (name then behind_name) effect_but_name
+
+  -- ---- expressions that stand in no other
+
+  -- the limit of their tokens (this profile)
+  abbrev pub most_in_expression : ℕ
+  most_in_expression = 400
+
+  unfoldable pub full_expression : Syntax PlainToken Expression
+  full_expression = at_most most_in_expression expression
+
+  unfoldable pub full_effect : Syntax PlainToken (Expression × Place)
+  full_effect = at_most most_in_expression effect
+
+  unfoldable pub full_effect_or_call : Syntax PlainToken (Expression × Place)
+  full_effect_or_call = at_most most_in_expression effect_or_call

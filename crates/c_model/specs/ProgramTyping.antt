@@ -1,0 +1,133 @@
+-- The typing of functions, of whole texts and of their annotations (C99 6.9, ACSL 2.2): phase by phase, where the first with a fault refuses.
+use Rattle.std.specs.Prelude.{ℕ, ℤ, List, [], ◌∷◌, ◌++◌, map, Option, Some, None, option_map, Bool, true, false, not, ◌&&◌, cond, codes, bytes_eq}
+use Rattle.c_syntax.specs.declared.place.Place.{Place}
+use Rattle.c_syntax.specs.declared.expression.Use.{Use}
+use Rattle.c_syntax.specs.declared.annotation.Range.{Range}
+use Rattle.c_syntax.specs.Ctypes.{PlainType, int_type}
+use Rattle.c_syntax.specs.Annotations.{LogicTerm, Number, Letter, Variable, Binary, Predicate, Chain, Links, NoLink, Linked, ClauseBody, Truth, Annotation}
+use Rattle.c_syntax.specs.Statements.{Declaration, Statement, Empty, Eval, Block, If, While, Do, For, Break, Continue, Return, ElsePart, NoElse, Else, ForFirst, NoFirst, First, BlockItem, Declare, Run, Asserts, BlockItems, NoItem, Then}
+use Rattle.c_syntax.specs.Programs.{Function, TranslationUnit}
+use Rattle.c_model.specs.FirstTokens.{first_place}
+use Rattle.c_model.specs.Library.{library_constant, is_library_name, is_there}
+use Rattle.c_model.specs.Checked.{Fault, Checked, Good, Bad, faulty, one_part, both_parts, where_so}
+use Rattle.c_model.specs.Typing.{no_name, no_type, Object, Signature, Scopes, name_at, object_named, function_called, library_function, use_as, same_type, Around, inner, behind, behind_first, typed_items}
+
+-- ---- functions
+
+abbrev pub signature : Function → Signature
+signature f = record { name = f.name; decl = f.place.offset; params = map (λ d. d.ctype) f.params; result = f.result }
+
+-- what is in sight at the front of each function's body
+abbrev pub file_scopes : TranslationUnit → Scopes
+file_scopes p = record { names = p.names; functions = map signature p.funcs; objects = []; innermost = 0 }
+
+-- a body is a block, whose scope is the function's (C99 6.2.1 p4)
+abbrev pub typed_body : Scopes → PlainType → Option Statement → Checked (Option Statement)
+typed_body s t (Some (Block at items)) = one_part (typed_items s (record { result = t; loops = false }) items) (λ items. Good (Some (Block at items)))
+typed_body s t b = Good b
+
+abbrev pub typed_function : Scopes → Function → Checked Function
+typed_function s f =
+    both_parts (where_so (not (is_library_name (name_at s.names f.name))) (no_name f.place) (Good f)) (typed_body s f.result f.body)
+    (λ f b. Good (record f { body = b }))
+
+abbrev pub typed_functions : Scopes → List Function → Checked (List Function)
+typed_functions s [] = Good []
+typed_functions s (f ∷ fs) = one_part (typed_function s f) (λ f. one_part (typed_functions s fs) (λ fs. Good (f ∷ fs)))
+
+-- names and types of a text
+abbrev pub typed_unit : TranslationUnit → Checked TranslationUnit
+typed_unit p = one_part (typed_functions (file_scopes p) p.funcs) (λ fs. Good (record p { funcs = fs }))
+
+-- ---- `main`
+
+abbrev pub no_main : Place → Fault
+no_main at = record { code = 13; place = at }
+
+abbrev pub has_no_parameters : List Declaration → Bool
+has_no_parameters [] = true
+has_no_parameters (d ∷ ds) = false
+
+-- the definition of `main`, whose type is `int main(void)` (C99 5.1.2.2.1)
+abbrev pub main_fault : List (List ℕ) → List Function → Option Fault
+main_fault names [] = Some (no_main first_place)
+main_fault names (f ∷ fs) =
+    cond (bytes_eq (name_at names f.name) (codes "main"))
+    (cond (same_type f.result int_type && has_no_parameters f.params) None (Some (no_main f.place)))
+    (main_fault names fs)
+
+-- ---- annotations
+
+-- a name in a term: an object, whose value is a mathematical integer, or a constant of the library
+abbrev pub term_named : Scopes → Place → Range → ℕ → Checked LogicTerm
+term_named s at r x = elim (object_named x s.objects) [
+  | Some b ↦ Good (Variable at (Some b.ctype) r (use_as x b.decl))
+  | None ↦ elim (function_called x s.functions) [
+    | Some f ↦ faulty (no_type at)
+    | None ↦ elim (library_constant (name_at s.names x)) [
+      | Some c ↦ Good (Number at None r c.1)
+      | None ↦ cond (is_there (library_function x (name_at s.names x))) (faulty (no_type at)) (faulty (no_name at))
+    ]
+  ]
+]
+
+abbrev pub typed_term : Scopes → LogicTerm → Checked LogicTerm
+typed_term s (Number at c r n) = Good (Number at c r n)
+typed_term s (Letter at c r n) = Good (Letter at c r n)
+typed_term s (Variable at c r x) = term_named s at r x.name
+typed_term s (Binary at c r op a b) = both_parts (typed_term s a) (typed_term s b) (λ a b. Good (Binary at c r op a b))
+
+abbrev pub typed_links : Scopes → Links → Checked Links
+typed_links s NoLink = Good NoLink
+typed_links s (Linked at r t rest) = both_parts (typed_term s t) (typed_links s rest) (λ t rest. Good (Linked at r t rest))
+
+abbrev pub typed_predicate : Scopes → Predicate → Checked Predicate
+typed_predicate s (Chain at t links) = both_parts (typed_term s t) (typed_links s links) (λ t links. Good (Chain at t links))
+
+abbrev pub typed_clause : Scopes → ClauseBody → Checked ClauseBody
+typed_clause s (Truth p) = one_part (typed_predicate s p) (λ p. Good (Truth p))
+
+abbrev pub typed_annotations : Scopes → List Annotation → Checked (List Annotation)
+typed_annotations s [] = Good []
+typed_annotations s (a ∷ rest) =
+    one_part (typed_clause s a.body) (λ b. one_part (typed_annotations s rest) (λ rest. Good (record a { body = b } ∷ rest)))
+
+abbrev mutual
+  pub noted_statement : Scopes → Statement → Checked Statement
+  noted_statement s (Empty at) = Good (Empty at)
+  noted_statement s (Eval at e) = Good (Eval at e)
+  noted_statement s (Block at items) = one_part (noted_items (inner s) items) (λ items. Good (Block at items))
+  noted_statement s (If at e a b) = one_part (noted_statement s a) (λ a. one_part (noted_else s b) (λ b. Good (If at e a b)))
+  noted_statement s (While at annots e a) = one_part (typed_annotations s annots) (λ annots. one_part (noted_statement s a) (λ a. Good (While at annots e a)))
+  noted_statement s (Do at a e) = one_part (noted_statement s a) (λ a. Good (Do at a e))
+  noted_statement s (For at annots first e step a) =
+      one_part (typed_annotations s annots) (λ annots. one_part (noted_statement (behind_first (inner s) first) a) (λ a. Good (For at annots first e step a)))
+  noted_statement s (Break at) = Good (Break at)
+  noted_statement s (Continue at) = Good (Continue at)
+  noted_statement s (Return at e) = Good (Return at e)
+
+  pub noted_else : Scopes → ElsePart → Checked ElsePart
+  noted_else s NoElse = Good NoElse
+  noted_else s (Else a) = one_part (noted_statement s a) (λ a. Good (Else a))
+
+  pub noted_item : Scopes → BlockItem → Checked BlockItem
+  noted_item s (Declare ds) = Good (Declare ds)
+  noted_item s (Run a) = one_part (noted_statement s a) (λ a. Good (Run a))
+  noted_item s (Asserts annots) = one_part (typed_annotations s annots) (λ annots. Good (Asserts annots))
+
+  pub noted_items : Scopes → BlockItems → Checked BlockItems
+  noted_items s NoItem = Good NoItem
+  noted_items s (Then i rest) = one_part (noted_item s i) (λ i. one_part (noted_items (behind s i) rest) (λ rest. Good (Then i rest)))
+
+abbrev pub noted_body : Scopes → Option Statement → Checked (Option Statement)
+noted_body s (Some (Block at items)) = one_part (noted_items s items) (λ items. Good (Some (Block at items)))
+noted_body s b = Good b
+
+abbrev pub noted_functions : Scopes → List Function → Checked (List Function)
+noted_functions s [] = Good []
+noted_functions s (f ∷ fs) =
+    one_part (noted_body s f.body) (λ b. one_part (noted_functions s fs) (λ fs. Good (record f { body = b } ∷ fs)))
+
+-- the names and types of a text's annotations, where its C has no fault
+abbrev pub noted_unit : TranslationUnit → Checked TranslationUnit
+noted_unit p = one_part (noted_functions (file_scopes p) p.funcs) (λ fs. Good (record p { funcs = fs }))

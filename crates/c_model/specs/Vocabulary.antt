@@ -1,0 +1,107 @@
+-- What the words of C are (C99 6.4.1, 6.7.2, 7.17).
+use Rattle.std.specs.Prelude.{ℕ, List, [], ◌∷◌, ◌++◌, Option, Some, None, option_map, if◌then◌else◌, nat_eq, slice_get, codes, bytes_eq}
+use Rattle.c_syntax.specs.declared.types.CInt.{CInt}
+use Rattle.c_syntax.specs.declared.types.CInt.TheVariants.{I8, U8, I16, U16, I32, U32, I64, U64}
+use Rattle.c_model.specs.declared.vocabulary.Keyword.{Keyword}
+use Rattle.c_model.specs.declared.vocabulary.Keyword.TheVariants.{Char, Short, Int, Long, Signed, Unsigned, Void, Const, Static, If, Else, While, Do, For, Break, Continue, Return, Sizeof, Kept}
+use Rattle.c_model.specs.declared.vocabulary.Word.{Word}
+use Rattle.c_model.specs.declared.vocabulary.Word.TheVariants as word
+use Rattle.c_model.specs.declared.vocabulary.SignWords.{SignWords}
+use Rattle.c_model.specs.declared.vocabulary.SignWords.TheVariants as sign
+use Rattle.c_model.specs.declared.vocabulary.SizeWords.{SizeWords}
+use Rattle.c_model.specs.declared.vocabulary.SizeWords.TheVariants as size
+use Rattle.c_model.specs.declared.vocabulary.IntegerWords.{IntegerWords}
+
+abbrev pub Words : Type 0
+Words = List (List ℕ × Word)
+
+-- the keywords (C99 6.4.1); those that no text of this profile has are refused as tokens
+abbrev pub keywords : Words
+keywords =
+    (codes "char", word.Keyword Char) ∷ (codes "short", word.Keyword Short) ∷ (codes "int", word.Keyword Int) ∷ (codes "long", word.Keyword Long)
+    ∷ (codes "signed", word.Keyword Signed) ∷ (codes "unsigned", word.Keyword Unsigned) ∷ (codes "void", word.Keyword Void)
+    ∷ (codes "const", word.Keyword Const) ∷ (codes "static", word.Keyword Static) ∷ (codes "if", word.Keyword If) ∷ (codes "else", word.Keyword Else)
+    ∷ (codes "while", word.Keyword While) ∷ (codes "do", word.Keyword Do) ∷ (codes "for", word.Keyword For) ∷ (codes "break", word.Keyword Break)
+    ∷ (codes "continue", word.Keyword Continue) ∷ (codes "return", word.Keyword Return) ∷ (codes "sizeof", word.Keyword Sizeof) ∷ []
+
+-- the keywords that stand in no form yet, or in none at all
+abbrev pub kept_keywords : Words
+kept_keywords =
+    (codes "switch", word.Keyword Kept) ∷ (codes "case", word.Keyword Kept) ∷ (codes "default", word.Keyword Kept) ∷ (codes "enum", word.Keyword Kept)
+    ∷ (codes "struct", word.Keyword Kept) ∷ (codes "typedef", word.Keyword Kept) ∷ (codes "auto", word.Keyword Kept) ∷ (codes "register", word.Keyword Kept)
+    ∷ (codes "extern", word.Keyword Kept) ∷ (codes "inline", word.Keyword Kept) ∷ (codes "restrict", word.Keyword Kept) ∷ (codes "volatile", word.Keyword Kept)
+    ∷ (codes "goto", word.Keyword Kept) ∷ (codes "union", word.Keyword Kept) ∷ (codes "float", word.Keyword Kept) ∷ (codes "double", word.Keyword Kept)
+    ∷ (codes "_Bool", word.Keyword Kept) ∷ (codes "_Complex", word.Keyword Kept) ∷ (codes "_Imaginary", word.Keyword Kept) ∷ []
+
+-- types of the library (C99 7.17), and words of annotations (ACSL)
+abbrev pub other_words : Words
+other_words = (codes "size_t", word.TypeName U64) ∷ (codes "ptrdiff_t", word.TypeName I64) ∷ (codes "assert", word.Assert) ∷ (codes "integer", word.Integer) ∷ []
+
+abbrev pub found_in : Words → List ℕ → Word → Word
+found_in [] w other = other
+found_in (x ∷ xs) w other = if bytes_eq x.0 w then x.1 else found_in xs w other
+
+-- a word that begins with `\` stands in annotations alone
+abbrev pub name_or_logic : List ℕ → Word
+name_or_logic [] = word.Name
+name_or_logic (b ∷ bs) = if nat_eq b 92 then word.Logic else word.Name
+
+-- what a word is: one of these, or a name
+unfoldable pub word_of : List ℕ → Word
+word_of w = found_in keywords w (found_in kept_keywords w (found_in other_words w (name_or_logic w)))
+
+-- what the words of a text are, by number
+abbrev pub Vocabulary : Type 0
+Vocabulary = List Word
+
+abbrev pub word_at : Vocabulary → ℕ → Word
+word_at ws n = elim (slice_get ws n) [ None ↦ word.Name | Some w ↦ w ]
+
+-- ---- the words that name an integer type, in any order (C99 6.7.2 p2)
+
+abbrev pub no_words : IntegerWords
+no_words = record { sign = sign.Nothing; size = size.Nothing }
+
+abbrev pub sign_with : SignWords → Keyword → Option SignWords
+sign_with sign.Nothing Signed = Some sign.Signed
+sign_with sign.Nothing Unsigned = Some sign.Unsigned
+sign_with _ _ = None
+
+abbrev pub size_with : SizeWords → Keyword → Option SizeWords
+size_with size.Nothing Char = Some size.Char
+size_with size.Nothing Short = Some size.Short
+size_with size.Nothing Int = Some size.Int
+size_with size.Nothing Long = Some size.Long
+size_with size.Short Int = Some size.ShortInt
+size_with size.Int Short = Some size.ShortInt
+size_with size.Int Long = Some size.LongInt
+size_with size.Long Int = Some size.LongInt
+size_with size.Long Long = Some size.LongLong
+size_with size.LongInt Long = Some size.LongLongInt
+size_with size.LongLong Int = Some size.LongLongInt
+size_with _ _ = None
+
+-- the words with one more, where it can stand with them
+abbrev pub words_with : IntegerWords → Keyword → Option IntegerWords
+words_with x w = elim (sign_with x.sign w) [
+  | Some s ↦ Some (record { sign = s; size = x.size })
+  | None ↦ option_map (λ z. record { sign = x.sign; size = z }) (size_with x.size w)
+]
+
+abbrev pub signed_or_not : SignWords → CInt → CInt → CInt
+signed_or_not sign.Unsigned s u = u
+signed_or_not _ s u = s
+
+-- the type that they name; `char` is signed, and `long long` as wide as `long` (this profile)
+abbrev pub integer_type : IntegerWords → CInt
+integer_type x = elim x.size [
+  | size.Nothing ↦ signed_or_not x.sign I32 U32
+  | size.Char ↦ signed_or_not x.sign I8 U8
+  | size.Short ↦ signed_or_not x.sign I16 U16
+  | size.ShortInt ↦ signed_or_not x.sign I16 U16
+  | size.Int ↦ signed_or_not x.sign I32 U32
+  | size.Long ↦ signed_or_not x.sign I64 U64
+  | size.LongInt ↦ signed_or_not x.sign I64 U64
+  | size.LongLong ↦ signed_or_not x.sign I64 U64
+  | size.LongLongInt ↦ signed_or_not x.sign I64 U64
+]

@@ -1,0 +1,72 @@
+//! The words of C (C99 6.4.1), and those that name an integer type (C99 6.7.2).
+
+use c_syntax::CInt;
+
+/// A keyword (C99 6.4.1).
+#[derive(Clone, Copy, PartialEq, Eq, Debug)]
+pub enum Keyword {
+    Char,
+    Short,
+    Int,
+    Long,
+    Signed,
+    Unsigned,
+    Void,
+    Const,
+    Static,
+    If,
+    Else,
+    While,
+    Do,
+    For,
+    Break,
+    Continue,
+    Return,
+    Sizeof,
+    /// A keyword that stands in no form yet.
+    Kept,
+}
+
+/// What a word is.
+#[derive(Clone, Copy, PartialEq, Eq, Debug)]
+pub enum Word {
+    Keyword(Keyword),
+    /// The name of an integer type of the library (C99 7.17).
+    TypeName(CInt),
+    /// `assert`, which is a name besides.
+    Assert,
+    /// `integer`, which is a name of C and a type of annotations.
+    Integer,
+    /// A word of annotations that begins with `\`.
+    Logic,
+    Name,
+}
+
+/// What is said of a sign.
+#[derive(Clone, Copy, PartialEq, Eq, Debug)]
+pub enum SignWords {
+    Nothing,
+    Signed,
+    Unsigned,
+}
+
+/// What is said of a size, in any order.
+#[derive(Clone, Copy, PartialEq, Eq, Debug)]
+pub enum SizeWords {
+    Nothing,
+    Char,
+    Short,
+    ShortInt,
+    Int,
+    Long,
+    LongInt,
+    LongLong,
+    LongLongInt,
+}
+
+/// The words that are read so far of those that name an integer type.
+#[derive(Clone, Copy, PartialEq, Eq, Debug)]
+pub struct IntegerWords {
+    pub sign: SignWords,
+    pub size: SizeWords,
+}
