@@ -32,5 +32,7 @@ pub mod Directives
 pub mod Pieces
 pub mod CTokens
 pub mod CTokenLaws
+pub mod TokenWords
+pub mod Phases
 pub mod Accepted
 pub mod Ranges

@@ -1,0 +1,57 @@
+-- Which texts are accepted, with which program, and which are refused, why: by tokens, by grammar, by names and types, for want of
+-- `main`, and by the names of annotations, in this order.
+use Rattle.std.specs.Prelude.{◌≡◌, ℕ, List, map, Option, Some, None, Result, Ok, Err, if◌then◌else◌, eqb, codes}
+use Rattle.grammar.specs.Syntax as grammar
+use Rattle.grammar.specs.Exact.{Accepts, Refused}
+use Rattle.c_syntax.specs.declared.place.Place.{Place}
+use Rattle.c_syntax.specs.Tokens.{PlainTokens}
+use Rattle.c_syntax.specs.Programs.{TranslationUnit, PlainRefusal}
+use Rattle.c_model.specs.CTokens.{tokens_of}
+use Rattle.c_model.specs.Vocabulary.{Vocabulary, word_of}
+use Rattle.c_model.specs.ProgramGrammar.{unit}
+use Rattle.c_model.specs.Checked.{Fault, Checked, Good, refusing}
+use Rattle.c_model.specs.ProgramTyping.{typed_unit, main_fault, noted_unit}
+use Rattle.c_model.specs.TokenWords.{word_at, from_place, last, place_at, refused_at}
+
+abbrev pub vocabulary : PlainTokens → Vocabulary
+vocabulary ts = map word_of ts.names
+
+-- the tokens are read as this tree
+abbrev pub IsRead : PlainTokens → TranslationUnit → Type 0
+IsRead ts p = Accepts (unit (vocabulary ts) ts.names) ts.list p
+
+-- E4 at the first token that can't follow those before it
+abbrev pub syntax_refusal : PlainTokens → grammar.Fault → PlainRefusal
+syntax_refusal ts (grammar.At n) = refused_at ts 4 (last n ts.list)
+syntax_refusal ts (grammar.Over n) = record { code = 11; place = place_at ts.end (last n ts.list); construct = codes "nesting" }
+
+-- a fault of names or types, at its token
+abbrev pub checked_refusal : PlainTokens → Fault → PlainRefusal
+checked_refusal ts f = record { code = f.code; place = f.place; construct = word_at ts.names (from_place f.place ts.list) }
+
+-- E13
+abbrev pub main_refusal : Fault → PlainRefusal
+main_refusal f = record { code = f.code; place = f.place; construct = codes "main" }
+
+-- what is read of a text, and found to have names and types, and `main`
+pub record IsTyped (text : List ℕ) (ts : PlainTokens) (tree typed : TranslationUnit) : Type 0 where
+  pub tokens : tokens_of text ≡ Ok ts
+  pub read : IsRead ts tree
+  pub is : typed_unit tree ≡ Good typed
+
+-- the text is accepted, and p is its typed program
+pub record AcceptedText (text : List ℕ) (p : TranslationUnit) : Type 0 where
+  pub tokens : PlainTokens
+  pub tree : TranslationUnit
+  pub typed : TranslationUnit
+  pub is_typed : IsTyped text tokens tree typed
+  pub main : main_fault typed.names typed.funcs ≡ None
+  pub noted : noted_unit typed ≡ Good p
+
+-- the text is refused with r, by the first phase that finds a fault
+pub data RefusedText (text : List ℕ) (r : PlainRefusal) : Type 0 where
+  ByTokens : tokens_of text ≡ Err r → RefusedText text r
+  ByGrammar : (ts : PlainTokens) (f : grammar.Fault) → tokens_of text ≡ Ok ts → Refused (unit (vocabulary ts) ts.names) ts.list f → ((p : TranslationUnit) → IsRead ts p → ⊥) → r ≡ syntax_refusal ts f → RefusedText text r
+  ByNamesAndTypes : (ts : PlainTokens) (tree : TranslationUnit) (f : Fault) → tokens_of text ≡ Ok ts → IsRead ts tree → refusing (typed_unit tree) ≡ Some f → r ≡ checked_refusal ts f → RefusedText text r
+  ForMain : (ts : PlainTokens) (tree typed : TranslationUnit) (f : Fault) → IsTyped text ts tree typed → main_fault typed.names typed.funcs ≡ Some f → r ≡ main_refusal f → RefusedText text r
+  ByAnnotations : (ts : PlainTokens) (tree typed : TranslationUnit) (f : Fault) → IsTyped text ts tree typed → main_fault typed.names typed.funcs ≡ None → refusing (noted_unit typed) ≡ Some f → r ≡ checked_refusal ts f → RefusedText text r
