@@ -17,7 +17,7 @@ same_fault : (f g : Fault) → (let r : Result Found Fault = Err f in r) ≡ Err
 same_fault f g e = cc
 
 -- a run of bytes that pass, up to one that doesn't
-run_is : (p : ℕ → Bool) (bs behind : List ℕ) → list_all p bs ≡ true → Stops p behind → prefix_len p (bs ++ behind) ≡ length bs
+pub run_is : (p : ℕ → Bool) (bs behind : List ℕ) → list_all p bs ≡ true → Stops p behind → prefix_len p (bs ++ behind) ≡ length bs
 run_is p [] [] all stop = refl
 run_is p [] (c ∷ cs) all stop = rw stop refl
 run_is p (b ∷ bs) behind all stop =

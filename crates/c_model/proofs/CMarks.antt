@@ -60,7 +60,7 @@ marked i (m ∷ ms) bs x first e =
           }
     ]
 
-none_begins : (i : ℕ) (ms : List (List ℕ)) (bs : List ℕ) → first_mark i ms bs ≡ None → (q : List ℕ) → IsIn ms q → begins_with q bs ≡ false
+pub none_begins : (i : ℕ) (ms : List (List ℕ)) (bs : List ℕ) → first_mark i ms bs ≡ None → (q : List ℕ) → IsIn ms q → begins_with q bs ≡ false
 none_begins i [] bs e q there = elim there [ ]
 none_begins i (o ∷ os) bs e q there = elim (chosen (begins_with o bs) _ (first_mark (i + 1) os bs) None e) [
   | inl h ↦ absurd (let k = h.1 in cc)
@@ -77,7 +77,7 @@ pub record MarkedIn (m : Mode) (bs : List ℕ) (x : Found) : Type 0 where
   pub some : 0 < length mark
   pub longest : (q : List ℕ) → IsIn (marks_of m) q → begins_with q bs ≡ true → length q ≤ length mark
 
-of_mark : Option Found → Result Found Fault
+unfoldable pub of_mark : Option Found → Result Found Fault
 of_mark r = elim r [ None ↦ Err fault.Byte | Some x ↦ Ok x ]
 
 found_in : (x : Found) (r : Option Found) → of_mark r ≡ Ok x → r ≡ Some x
@@ -106,7 +106,7 @@ get_behind : (xs ys : List (List ℕ)) (n : ℕ) → slice_get (xs ++ ys) (lengt
 get_behind [] ys n = ap (slice_get ys) (let e : 0 + n ≡ n = omega arith in e)
 get_behind (x ∷ xs) ys n = ap (slice_get (x ∷ xs ++ ys)) (let e : suc (length xs) + n ≡ suc (length xs + n) = omega arith in e) ∙ get_behind xs ys n
 
-in_either : (xs ys : List (List ℕ)) (q : List ℕ) → IsIn (xs ++ ys) q → IsIn xs q ⊎ IsIn ys q
+pub in_either : (xs ys : List (List ℕ)) (q : List ℕ) → IsIn (xs ++ ys) q → IsIn xs q ⊎ IsIn ys q
 in_either [] ys q h = inr h
 in_either (x ∷ xs) ys q (inl e) = inl (inl e)
 in_either (x ∷ xs) ys q (inr t) = elim (in_either xs ys q t) [ inl l ↦ inl (inr l) | inr r ↦ inr r ]

@@ -10,9 +10,10 @@ use Rattle.c_model.specs.FirstTokens.{next, walk, first_place}
 use Rattle.c_model.specs.MonitoredTokens.{fresh_behind, fresh_after}
 use Rattle.c_model.specs.MonitoredTokenLaws.{place_of}
 use Rattle.c_model.specs.Pieces.{Pieces, Ended, Broken, Cut, piece_at, mode_after, cut, pieces_of}
-use Rattle.c_model.specs.CTokenLaws.{bytes_of, ArePlaced, Spells, AreSpelled}
+use Rattle.c_model.specs.CTokenLaws.{bytes_of, ArePlaced, Spells, AreSpelled, Breaks, AreBroken}
 use Rattle.c_model.proofs.PieceLaws.{drop_nil, take_nil, walk-append, walk_place, fresh-append, fresh_starts}
 use Rattle.c_model.proofs.CSpelling.{piece_spells}
+use Rattle.c_model.proofs.CBroken.{piece_breaks}
 
 cut_joined : (k : ℕ) (at : Place) (fresh : Bool) (m : Mode) (bs : List ℕ) → bytes_of (cut k at fresh m bs) ≡ drop k bs
 unfolding cut
@@ -29,10 +30,10 @@ cut_joined zero at fresh m (b ∷ bs) = by (piece_at m fresh (b ∷ bs)) refl (�
 pub pieces_joined : (text : List ℕ) → bytes_of (pieces_of text) ≡ text
 pieces_joined text = cut_joined 0 first_place true Code text
 
--- each piece is at its place and spelled as its kind is
+-- each piece is at its place and spelled as its kind is, and what is broken is broken as its fault says
 abbrev AreSound : List ℕ → Mode → Pieces → Type 0
 AreSound before m (Ended at n) = at ≡ place_of before
-AreSound before m (Broken at f rest) = at ≡ place_of before
+AreSound before m (Broken at f rest) = (at ≡ place_of before) × Breaks before m f rest
 AreSound before m (Cut at p bytes more) = (at ≡ place_of before) × Spells before m p bytes (bytes_of more) × AreSound (before ++ bytes) (mode_after m p) more
 
 cut_sound : (k : ℕ) (before : List ℕ) (m : Mode) (bs : List ℕ) → AreSound (before ++ take k bs) m (cut k (walk first_place before) (fresh_after true before) m bs)
@@ -47,7 +48,7 @@ cut_sound zero before m (b ∷ bs) = subst (λ (l : List ℕ). AreSound l m (cut
   where
     by : (r : Result Found Fault) → piece_at m (fresh_after true before) (b ∷ bs) ≡ r
         → ((n : ℕ) (m2 : Mode) → AreSound ((before ++ b ∷ []) ++ take n bs) m2 (cut n (walk first_place (before ++ b ∷ [])) (fresh_after true (before ++ b ∷ [])) m2 bs)) → AreSound before m (cut 0 (walk first_place before) (fresh_after true before) m (b ∷ bs))
-    by (Err f) e rest = rw (e, cut) (walk_place before)
+    by (Err f) e rest = rw (e, cut) (walk_place before, piece_breaks before m b bs f (ap (λ (fresh : Bool). piece_at m fresh (b ∷ bs)) (sym (fresh_starts before)) ∙ e))
     by (Ok x) e rest =
         let m2 = mode_after m x.piece in
         let one = rest x.more m2 in
@@ -63,7 +64,7 @@ pieces_sound text = cut_sound 0 [] Code text
 
 sound_placed : (before : List ℕ) (m : Mode) (ps : Pieces) → AreSound before m ps → ArePlaced before ps
 sound_placed before m (Ended at n) h = h
-sound_placed before m (Broken at f rest) h = h
+sound_placed before m (Broken at f rest) h = h.0
 sound_placed before m (Cut at p bytes more) h = (h.0, sound_placed (before ++ bytes) (mode_after m p) more h.2)
 
 pub pieces_placed : (text : List ℕ) → ArePlaced [] (pieces_of text)
@@ -76,3 +77,11 @@ sound_spelled before m (Cut at p bytes more) h = (h.1, sound_spelled (before ++ 
 
 pub pieces_spelled : (text : List ℕ) → AreSpelled [] Code (pieces_of text)
 pieces_spelled text = sound_spelled [] Code (pieces_of text) (pieces_sound text)
+
+sound_broken : (before : List ℕ) (m : Mode) (ps : Pieces) → AreSound before m ps → AreBroken before m ps
+sound_broken before m (Ended at n) h = tt
+sound_broken before m (Broken at f rest) h = h.1
+sound_broken before m (Cut at p bytes more) h = sound_broken (before ++ bytes) (mode_after m p) more h.2
+
+pub pieces_broken : (text : List ℕ) → AreBroken [] Code (pieces_of text)
+pieces_broken text = sound_broken [] Code (pieces_of text) (pieces_sound text)

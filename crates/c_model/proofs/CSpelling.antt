@@ -26,7 +26,7 @@ use Rattle.c_model.proofs.CStrings.{string_is}
 SpelledAs : List ℕ → Mode → List ℕ → Found → Type 0
 SpelledAs before m bs x = Spells before m x.piece (take (suc x.more) bs) (drop (suc x.more) bs)
 
-behind_is : (w r : List ℕ) → drop (length w) (w ++ r) ≡ r
+pub behind_is : (w r : List ℕ) → drop (length w) (w ++ r) ≡ r
 behind_is [] r = refl
 behind_is (b ∷ w) r = behind_is w r
 
@@ -41,14 +41,14 @@ spelled before m bs p n x w r e split len h =
     subst (λ (y : Found). Spells before m y.piece (take (suc y.more) bs) (drop (suc y.more) bs)) same
     (subst (λ (t : List ℕ). Spells before m p (take (suc n) bs) t) rest (subst (λ (t : List ℕ). Spells before m p t r) front h))
 
-code_is : (m : Mode) → is_code m ≡ true → m ≡ Code
+pub code_is : (m : Mode) → is_code m ≡ true → m ≡ Code
 code_is Code e = refl
 code_is Block e = absurd cc
 code_is Line e = absurd cc
 
 -- ---- names and literals
 
-take_len : (n : ℕ) (bs : List ℕ) → n ≤ length bs → length (take n bs) ≡ n
+pub take_len : (n : ℕ) (bs : List ℕ) → n ≤ length bs → length (take n bs) ≡ n
 take_len n bs h = omega (arith, length-take n bs)
 
 word_spells : (before : List ℕ) (m : Mode) (b : ℕ) (bs : List ℕ) (x : Found) → begins_name m (b ∷ bs) ≡ true → word_at m (b ∷ bs) ≡ Ok x → SpelledAs before m (b ∷ bs) x
@@ -74,7 +74,7 @@ word_spells before m b bs x begins e =
       ]
     ]
 
-of_literal : ℕ → Option (ℕ × Option CInt) → Result Found Fault
+unfoldable pub of_literal : ℕ → Option (ℕ × Option CInt) → Result Found Fault
 of_literal n r = elim r [ None ↦ Err fault.Number | Some x ↦ found (piece.Number x.0 x.1) (n - 1) ]
 
 or_right : (a : Bool) → a || true ≡ true
@@ -100,11 +100,12 @@ number_spells before m b bs x digit e = elim (chosen (is_dotted m (drop (prefix_
         let len = take_len n (b ∷ bs) (run_within is_part (b ∷ bs)) in
         spelled before m (b ∷ bs) (piece.Number v.0 v.1) (n - 1) x (take n (b ∷ bs)) (drop n (b ∷ bs)) f (sym (take-append-drop n (b ∷ bs))) (omega (arith, len)) (record {
           literal = l;
+          parts = run_passes is_part (b ∷ bs);
           ends = run_stops is_part (b ∷ bs);
           undotted = d;
         })
 
-of_letter : Option (ℕ × ℕ) → Result Found Fault
+unfoldable pub of_letter : Option (ℕ × ℕ) → Result Found Fault
 of_letter r = elim r [ None ↦ Err fault.Letter | Some x ↦ found (piece.Letter x.0) x.1 ]
 
 -- what a character literal is made of
@@ -170,7 +171,7 @@ letter_spells before m b bs x quote e = by (letter_of bs) refl e
           one = ap unit_at (sym h.split) ∙ h.one;
         })
 
-of_string : Option ℕ → Result Found Fault
+unfoldable pub of_string : Option ℕ → Result Found Fault
 of_string r = elim r [ None ↦ Err fault.Chars | Some n ↦ found piece.Chars n ]
 
 string_spells : (before : List ℕ) (m : Mode) (b : ℕ) (bs : List ℕ) (x : Found) → eqb b 34 ≡ true → string_at m bs ≡ Ok x → SpelledAs before m (b ∷ bs) x
@@ -224,7 +225,7 @@ closed_of (b ∷ bs) n e = elim (chosen (begins_with (42 ∷ 47 ∷ []) (b ∷ b
       }
 ]
 
-of_comment : Option ℕ → Result Found Fault
+unfoldable pub of_comment : Option ℕ → Result Found Fault
 of_comment r = elim r [ None ↦ Err fault.Comment | Some n ↦ found piece.Blank (n + 1) ]
 
 comment_spells : (before : List ℕ) (m : Mode) (bs : List ℕ) (x : Found) → m ≡ Code → begins_with (47 ∷ 42 ∷ []) bs ≡ true → comment_at (drop 2 bs) ≡ Ok x → SpelledAs before m bs x
@@ -312,10 +313,10 @@ behind_comment c (b ∷ bs) k e = elim (chosen (begins_with (42 ∷ 47 ∷ []) (
     by None f rest = absurd cc
     by (Some d) f rest = let s = some_suc (blank_block d bs) k f in omega (arith, rest d s.0 s.1, s.2)
 
-of_blank_block : Option ℕ → Result Found Fault
+unfoldable pub of_blank_block : Option ℕ → Result Found Fault
 of_blank_block r = elim r [ None ↦ found (piece.Open Block) 2 | Some k ↦ found piece.Blank (k + 2) ]
 
-of_block : List ℕ → Option ℕ → Result Found Fault
+unfoldable pub of_block : List ℕ → Option ℕ → Result Found Fault
 of_block bs r = elim r [ None ↦ Err fault.Comment | Some n ↦ of_blank_block (blank_block false bs) ]
 
 block_spells : (before : List ℕ) (m : Mode) (bs : List ℕ) (x : Found) → m ≡ Code → begins_with (47 ∷ 42 ∷ 64 ∷ []) bs ≡ true → open_block (drop 3 bs) ≡ Ok x → SpelledAs before m bs x
@@ -352,7 +353,7 @@ open_line_spells before m bs x code begins e =
       | inr h ↦ spelled before m bs (piece.Open Line) 2 x (47 ∷ 47 ∷ 64 ∷ []) rest h.1 whole refl (code, refl)
     ]
 
-of_directive : ℕ → Option Fault → Result Found Fault
+unfoldable pub of_directive : ℕ → Option Fault → Result Found Fault
 of_directive n r = elim r [ None ↦ found piece.Blank n | Some f ↦ Err f ]
 
 directive_spells : (before : List ℕ) (m : Mode) (b : ℕ) (bs : List ℕ) (x : Found) → m ≡ Code → starts_line before ≡ true → eqb b 35 ≡ true → directive_at bs ≡ Ok x → SpelledAs before m (b ∷ bs) x

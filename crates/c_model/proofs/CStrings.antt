@@ -9,11 +9,11 @@ use Rattle.c_model.specs.Literals.{unit_in, string_len}
 use Rattle.c_model.specs.CTokenLaws.{spelling_of, AreUnits}
 use Rattle.c_model.proofs.Spelling.{chosen}
 
-map_map : (f g : ℕ → ℕ) (o : Option ℕ) → option_map f (option_map g o) ≡ option_map (λ j. f (g j)) o
+pub map_map : (f g : ℕ → ℕ) (o : Option ℕ) → option_map f (option_map g o) ≡ option_map (λ j. f (g j)) o
 map_map f g None = refl
 map_map f g (Some x) = refl
 
-map_same : (f g : ℕ → ℕ) (o : Option ℕ) → ((j : ℕ) → f j ≡ g j) → option_map f o ≡ option_map g o
+pub map_same : (f g : ℕ → ℕ) (o : Option ℕ) → ((j : ℕ) → f j ≡ g j) → option_map f o ≡ option_map g o
 map_same f g None h = refl
 map_same f g (Some x) h = ap Some (h x)
 

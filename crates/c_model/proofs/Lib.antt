@@ -14,6 +14,7 @@ pub mod PieceLaws
 pub mod CMarks
 pub mod CStrings
 pub mod CSpelling
+pub mod CBroken
 pub mod CPieceLaws
 pub mod RefusalLaws
 pub mod CRefusalLaws

@@ -1,5 +1,5 @@
 -- What holds of every C text with annotations, in the text's own words.
-use Rattle.std.specs.Prelude.{◌≡◌, ◌↔◌, ◌≤◌, ◌<◌, ◌⊎◌, ℕ, ◌-◌, List, [], ◌∷◌, ◌++◌, length, nat_eq, ◌||◌, Bool, true, false, Option, Some, None, is_some, Ok, Err, slice_get, codes}
+use Rattle.std.specs.Prelude.{◌≡◌, ◌↔◌, ◌≤◌, ◌<◌, ◌⊎◌, ℕ, ◌-◌, List, [], ◌∷◌, ◌++◌, length, nat_eq, ◌||◌, ◌&&◌, Bool, true, false, Option, Some, None, is_some, Ok, Err, slice_get, codes}
 use Rattle.std.specs.List.{list_all}
 use Rattle.std.specs.Str.Parse.{digits_value}
 use Rattle.c_syntax.specs.declared.types.CInt.{CInt}
@@ -9,14 +9,15 @@ use Rattle.c_model.specs.declared.c_tokens.Mode.{Mode}
 use Rattle.c_model.specs.declared.c_tokens.Mode.TheVariants.{Code, Block, Line}
 use Rattle.c_model.specs.declared.c_tokens.Piece.{Piece}
 use Rattle.c_model.specs.declared.c_tokens.Piece.TheVariants as piece
+use Rattle.c_model.specs.declared.c_tokens.Fault.{Fault}
 use Rattle.c_model.specs.declared.c_tokens.Fault.TheVariants as fault
-use Rattle.c_model.specs.FirstTokens.{is_part, begins_with}
+use Rattle.c_model.specs.FirstTokens.{is_digit, is_part, begins_with}
 use Rattle.c_model.specs.MonitoredTokens.{Read, greatest_literal, marks, nothing_read}
 use Rattle.c_model.specs.MonitoredTokenLaws.{place_of, starts_line, Stops, IsIn, with_names, AreDistinct}
-use Rattle.c_model.specs.Comments.{is_gap, ends_block, in_line, block_len, blank_block, is_blank_line}
+use Rattle.c_model.specs.Comments.{is_code, is_gap, ends_block, in_line, block_len, blank_block, is_blank_line}
 use Rattle.c_model.specs.Literals.{is_digit_of, suffix_of, types_of, first_fitting, literal_of, unit_at, unit_in}
 use Rattle.c_model.specs.Directives.{directive_line, directive_fault}
-use Rattle.c_model.specs.Pieces.{begins_name, is_outside, is_dotted, annotation_marks, mode_after, Pieces, Ended, Broken, Cut, pieces_of}
+use Rattle.c_model.specs.Pieces.{begins_name, word, is_outside, is_dotted, annotation_marks, mode_after, Pieces, Ended, Broken, Cut, pieces_of}
 use Rattle.c_model.specs.CTokens.{add, refused, closed, most_tokens, tokens_of}
 
 -- ---- pieces and places
@@ -34,11 +35,11 @@ ArePlaced before (Broken at f rest) = at ≡ place_of before
 ArePlaced before (Cut at p bytes more) = (at ≡ place_of before) × ArePlaced (before ++ bytes) more
 
 -- the pieces joined are the text
-abbrev pub CPiecesAreTheText : Type 0
-CPiecesAreTheText = (text : List ℕ) → bytes_of (pieces_of text) ≡ text
+abbrev pub PiecesAreTheText : Type 0
+PiecesAreTheText = (text : List ℕ) → bytes_of (pieces_of text) ≡ text
 
-abbrev pub CPiecesArePlaced : Type 0
-CPiecesArePlaced = (text : List ℕ) → ArePlaced [] (pieces_of text)
+abbrev pub PiecesArePlaced : Type 0
+PiecesArePlaced = (text : List ℕ) → ArePlaced [] (pieces_of text)
 
 -- ---- spelling: names, literals and operators
 
@@ -56,6 +57,7 @@ pub record IsName (m : Mode) (bytes behind : List ℕ) : Type 0 where
 -- an integer literal with its value and type, which no letter, digit, `_` or `.` follows, save `..` in an annotation
 pub record IsLiteral (m : Mode) (v : ℕ) (t : Option CInt) (bytes behind : List ℕ) : Type 0 where
   pub literal : literal_of bytes ≡ Some (v, t)
+  pub parts : list_all is_part bytes ≡ true
   pub ends : Stops is_part behind
   pub undotted : is_dotted m behind ≡ false
 
@@ -182,8 +184,88 @@ AreSpelled before m (Broken at f rest) = Unit {0}
 AreSpelled before m (Cut at p bytes more) = Spells before m p bytes (bytes_of more) × AreSpelled (before ++ bytes) (mode_after m p) more
 
 -- each piece is spelled as its kind is
-abbrev pub CPiecesAreSpelled : Type 0
-CPiecesAreSpelled = (text : List ℕ) → AreSpelled [] Code (pieces_of text)
+abbrev pub PiecesAreSpelled : Type 0
+PiecesAreSpelled = (text : List ℕ) → AreSpelled [] Code (pieces_of text)
+
+-- ---- what is broken
+
+-- no piece begins there: no blank, name or literal, no directive at the beginning of its line, and no operator
+pub record BeginsNone (before : List ℕ) (m : Mode) (bs : List ℕ) : Type 0 where
+  pub first : ℕ
+  pub others : List ℕ
+  pub joined : bs ≡ first ∷ others
+  pub no_blank : is_gap m first ≡ false
+  pub no_name : begins_name m bs ≡ false
+  pub no_number : is_digit first ≡ false
+  pub no_letter : nat_eq first 39 ≡ false
+  pub no_string : nat_eq first 34 ≡ false
+  pub no_directive : is_code m && starts_line before && nat_eq first 35 ≡ false
+  pub no_mark : (q : List ℕ) → IsIn (marks_of m) q → begins_with q bs ≡ false
+
+-- a `/*` in C, and no `*/` behind it
+pub record IsUnclosed (m : Mode) (bs : List ℕ) : Type 0 where
+  pub code : m ≡ Code
+  pub others : List ℕ
+  pub joined : bs ≡ codes "/*" ++ others
+  pub none : (front behind : List ℕ) → others ≡ front ++ (codes "*/" ++ behind) → ⊥
+
+pub record IsLongName (m : Mode) (bs : List ℕ) : Type 0 where
+  pub begins : begins_name m bs ≡ true
+  pub long : 255 < length (word bs)
+
+pub record IsOutsideWord (m : Mode) (bs : List ℕ) : Type 0 where
+  pub begins : begins_name m bs ≡ true
+  pub short : length (word bs) ≤ 255
+  pub outside : is_outside m (word bs) ≡ true
+
+-- a digit, and no front is an integer literal
+pub record IsNoNumber (m : Mode) (bs : List ℕ) : Type 0 where
+  pub first : ℕ
+  pub others : List ℕ
+  pub joined : bs ≡ first ∷ others
+  pub begins : is_digit first ≡ true
+  pub none : (v : ℕ) (t : Option CInt) (bytes behind : List ℕ) → bs ≡ bytes ++ behind → IsLiteral m v t bytes behind → ⊥
+
+-- a quote, and no front is a character literal
+pub record IsNoLetter (bs : List ℕ) : Type 0 where
+  pub others : List ℕ
+  pub joined : bs ≡ 39 ∷ others
+  pub none : (c : ℕ) (bytes behind : List ℕ) → bs ≡ bytes ++ behind → IsLetter c bytes behind → ⊥
+
+-- a double quote, and no front is a string literal
+pub record IsNoString (m : Mode) (bs : List ℕ) : Type 0 where
+  pub others : List ℕ
+  pub joined : bs ≡ 34 ∷ others
+  pub none : (bytes behind : List ℕ) → bs ≡ bytes ++ behind → IsString m bytes behind → ⊥
+
+-- a directive with this fault
+pub record IsFaultyDirective (before : List ℕ) (m : Mode) (f : Fault) (bs : List ℕ) : Type 0 where
+  pub code : m ≡ Code
+  pub first : starts_line before ≡ true
+  pub others : List ℕ
+  pub joined : bs ≡ 35 ∷ others
+  pub fault : directive_fault (directive_line others) ≡ Some f
+
+abbrev pub Breaks : List ℕ → Mode → Fault → List ℕ → Type 0
+Breaks before m fault.Byte bs = BeginsNone before m bs
+Breaks before m fault.Comment bs = IsUnclosed m bs
+Breaks before m fault.Name bs = IsLongName m bs
+Breaks before m fault.Number bs = IsNoNumber m bs
+Breaks before m fault.Letter bs = IsNoLetter bs
+Breaks before m fault.Chars bs = IsNoString m bs
+Breaks before m fault.Directive bs = IsFaultyDirective before m fault.Directive bs
+Breaks before m fault.OutsideWord bs = IsOutsideWord m bs
+Breaks before m fault.OutsideDirective bs = IsFaultyDirective before m fault.OutsideDirective bs
+Breaks before m fault.Limit bs = ⊥
+
+abbrev pub AreBroken : List ℕ → Mode → Pieces → Type 0
+AreBroken before m (Ended at n) = Unit {0}
+AreBroken before m (Broken at f rest) = Breaks before m f rest
+AreBroken before m (Cut at p bytes more) = AreBroken (before ++ bytes) (mode_after m p) more
+
+-- what is broken is broken as its fault says
+abbrev pub BreaksAreFaults : Type 0
+BreaksAreFaults = (text : List ℕ) → AreBroken [] Code (pieces_of text)
 
 -- ---- integer literals
 
@@ -242,8 +324,8 @@ pub record IsRefused (text : List ℕ) (x : PlainRefusal) : Type 0 where
   pub place : x.place ≡ place_of front
 
 -- a text is refused exactly at its first fault
-abbrev pub CRefusedAtFirstFault : Type 0
-CRefusedAtFirstFault = (text : List ℕ) (x : PlainRefusal) → (tokens_of text ≡ Err x) ↔ IsRefused text x
+abbrev pub RefusedAtFirstFault : Type 0
+RefusedAtFirstFault = (text : List ℕ) (x : PlainRefusal) → (tokens_of text ≡ Err x) ↔ IsRefused text x
 
 -- ---- names
 
@@ -263,8 +345,8 @@ words_of (Ended at m) = []
 words_of (Broken at f rest) = []
 words_of (Cut at p bytes more) = word_then p bytes (words_of more)
 
-abbrev pub CNamesInOrder : Type 0
-CNamesInOrder = (text : List ℕ) (tokens : PlainTokens) → tokens_of text ≡ Ok tokens → tokens.names ≡ with_names [] (words_of (pieces_of text))
+abbrev pub NamesInOrder : Type 0
+NamesInOrder = (text : List ℕ) (tokens : PlainTokens) → tokens_of text ≡ Ok tokens → tokens.names ≡ with_names [] (words_of (pieces_of text))
 
-abbrev pub CNamesDiffer : Type 0
-CNamesDiffer = (text : List ℕ) (tokens : PlainTokens) → tokens_of text ≡ Ok tokens → AreDistinct tokens.names
+abbrev pub NamesDiffer : Type 0
+NamesDiffer = (text : List ℕ) (tokens : PlainTokens) → tokens_of text ≡ Ok tokens → AreDistinct tokens.names

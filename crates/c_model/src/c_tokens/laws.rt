@@ -1,12 +1,14 @@
 //! What holds of every C text with annotations. No function here has anything to do.
 
-ghost use Rattle.c_model.specs.CTokenLaws.{CPiecesAreTheText, CPiecesArePlaced, CPiecesAreSpelled, LiteralsAreIntegers, CRefusedAtFirstFault, CNamesInOrder, CNamesDiffer};
+ghost use Rattle.c_model.specs.CTokenLaws.{PiecesAreTheText, PiecesArePlaced, PiecesAreSpelled, BreaksAreFaults, LiteralsAreIntegers, RefusedAtFirstFault, NamesInOrder, NamesDiffer};
 
-/// The pieces joined are the text, and each is at its place and spelled as its kind is.
+/// The pieces joined are the text, and each is at its place and spelled as its kind is. What is no piece is broken as its fault
+/// says.
 pub fn pieces_of_a_c_text()
-    ensures joined { CPiecesAreTheText }
-    ensures placed { CPiecesArePlaced }
-    ensures spelled { CPiecesAreSpelled }
+    ensures joined { PiecesAreTheText }
+    ensures placed { PiecesArePlaced }
+    ensures spelled { PiecesAreSpelled }
+    ensures broken { BreaksAreFaults }
 {}
 
 /// A literal has the value of its digits, and the first of C99's types that has this value.
@@ -16,11 +18,11 @@ pub fn integer_literals()
 
 /// A text is refused exactly at its first fault, or at one token too many.
 pub fn refusals_of_a_c_text()
-    ensures { CRefusedAtFirstFault }
+    ensures { RefusedAtFirstFault }
 {}
 
 /// The names are the words in order of first use, none twice.
 pub fn names_of_a_c_text()
-    ensures order { CNamesInOrder }
-    ensures distinct { CNamesDiffer }
+    ensures order { NamesInOrder }
+    ensures distinct { NamesDiffer }
 {}

@@ -1,4 +1,4 @@
-use Rattle.c_model.proofs.CPieceLaws.{pieces_joined, pieces_placed, pieces_spelled}
+use Rattle.c_model.proofs.CPieceLaws.{pieces_joined, pieces_placed, pieces_spelled, pieces_broken}
 use Rattle.c_model.proofs.c_tokens.laws.pieces_of_a_c_text.Goals as goal
 
 pub returns-clause-joined : goal.returns-clause-joined
@@ -9,3 +9,6 @@ returns-clause-placed c = pieces_placed
 
 pub returns-clause-spelled : goal.returns-clause-spelled
 returns-clause-spelled c = pieces_spelled
+
+pub returns-clause-broken : goal.returns-clause-broken
+returns-clause-broken c = pieces_broken
