@@ -18,7 +18,7 @@ use c_syntax::{CInt, CType, Expr, ExprKind, Item, Place, Stmt, StmtKind, Use};
 use std::alloc::{AllocError, Global};
 
 fn assign(alloc: Global, place: Place, left: Expr, right: Expr) -> Result<Expr, AllocError>
-    ensures { IfOk result (λ x. plain_expr x ≡ expression.Assign place int_type None (plain_expr left) (plain_expr right)) }
+    ensures { IfOk result (λ x. plain_expr x ≡ expression.Node place int_type (expression.Assign None (plain_expr left) (plain_expr right))) }
 {
     Ok(Expr {
         place,
@@ -56,7 +56,7 @@ fn assignment<'a>(
 }
 
 fn call(place: Place, callee: Use, args: Vec<Expr>) -> Expr
-    ensures { plain_expr result ≡ expression.Call place int_type callee (plain_exprs args.items) }
+    ensures { plain_expr result ≡ expression.Node place int_type (expression.Call callee (plain_exprs args.items)) }
 {
     Expr {
         place,
@@ -68,7 +68,7 @@ fn call(place: Place, callee: Use, args: Vec<Expr>) -> Expr
 /// `putchar(e)`
 fn putchar_call(alloc: Global, place: Place, scope: &[u32], e: Expr) -> Result<Expr, AllocError>
     requires few { length scope.now ≤ most_variables }
-    ensures { IfOk result (λ x. plain_expr x ≡ expression.Call place int_type (putchar_use scope.now) (expression.Following (plain_expr e) expression.NoExpression)) }
+    ensures { IfOk result (λ x. plain_expr x ≡ expression.Node place int_type (expression.Call (putchar_use scope.now) (expression.Following (plain_expr e) expression.NoExpression))) }
 {
     let mut args = Vec::new(alloc);
     args.push(e)?;
@@ -150,7 +150,14 @@ fn is_open(s: &Stmt) -> bool
         StmtKind::If(_, _, None) => true,
         StmtKind::If(_, _, Some(last)) => is_open(last),
         StmtKind::While(_, _, last) => is_open(last),
-        StmtKind::Eval(_) | StmtKind::Block(_) | StmtKind::Return(_) => false,
+        StmtKind::For(_, _, _, _, last) => is_open(last),
+        StmtKind::Empty
+        | StmtKind::Eval(_)
+        | StmtKind::Block(_)
+        | StmtKind::Do(_, _)
+        | StmtKind::Break
+        | StmtKind::Continue
+        | StmtKind::Return(_) => false,
     }
 }
 

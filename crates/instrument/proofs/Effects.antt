@@ -6,7 +6,7 @@ use Rattle.std.specs.Prelude.{slice_set}
 use Rattle.c_syntax.specs.declared.place.Place.{Place}
 use Rattle.c_syntax.specs.declared.expression.Use.{Use}
 use Rattle.c_syntax.specs.Ctypes.{PlainType, int_type}
-use Rattle.c_syntax.specs.Expressions.{Expression, Number, Letter, Variable, Binary, Assign, Call, Expressions, NoExpression, Following}
+use Rattle.c_syntax.specs.Expressions.{Expression, Node, Variable, Assign, Call, Expressions, NoExpression, Following}
 use Rattle.c_syntax.specs.Statements.{Initialiser, One, Declaration, Declare}
 use Rattle.c_model.specs.IntPrograms.{IsPure, IsVariable, IsTarget, IsArgument, IsEffect, IsIntInit, IsIntDeclaration}
 use Rattle.c_model.specs.Integers.{byte_of}
@@ -43,11 +43,11 @@ module _ (w : Setting) (count : ℕ) (vars : List (Option ℤ)) (regs : List Val
       (follows_value w later Next steps out vars (eval_with e w.call now) (monitored.eval over_blocks (expression e) regs) steps tail _ (evaluates w h few steps out e p)
       (λ z f. GoesOn (slice_set vars k (Some z)) (slice_set regs k (Integer z)) steps [] (holds z f) (omega arith) (does z ∙ ap (λ o. Normal tt (source_at w (slice_set vars k (Some z)) steps o)) (sym (append-nil out))) refl))
 
-  assigns : (at pa : Place) (x : Use) (e : Expression) → IsVariable w.total x → IsPure count e → Follows w count Next steps out ((eval_with (Assign at int_type None (Variable pa int_type x) e) w.call >> done) now) (runs (one (Set (x.name - 1) (expression e))))
+  assigns : (at pa : Place) (x : Use) (e : Expression) → IsVariable w.total x → IsPure count e → Follows w count Next steps out ((eval_with (Node at int_type (Assign None (Node pa int_type (Variable x)) e)) w.call >> done) now) (runs (one (Set (x.name - 1) (expression e))))
   assigns at pa x e v p =
       let k = numbered v in
       let given = λ (z : Value). write at (Into x.name 0) int_type z >> give z in
-      let source : (eval_with (Assign at int_type None (Variable pa int_type x) e) w.call >> done) now ≡ on_outcome (eval_with e w.call now) (λ z s. on_outcome (given z s) (λ _. done)) =
+      let source : (eval_with (Node at int_type (Assign None (Node pa int_type (Variable x)) e)) w.call >> done) now ≡ on_outcome (eval_with e w.call now) (λ z s. on_outcome (given z s) (λ _. done)) =
       ap (λ o. on_outcome (on_outcome o (λ p. eval_with e w.call >>= λ z. write at p int_type z >> give z)) (λ _. done)) (object_is vars (x.name - 1) x.name k.0 w steps out pa k.1)
       ∙ handed_on (eval_with e w.call now) given (λ _. done) in
       subst (λ r. Follows w count Next steps out r (runs (one (Set (x.name - 1) (expression e))))) (sym source)
@@ -55,11 +55,11 @@ module _ (w : Setting) (count : ℕ) (vars : List (Option ℤ)) (regs : List Val
       (λ z. ap (λ r. on_outcome (on_outcome r (λ _. give (Integer z))) (λ _. done)) (write_is vars (x.name - 1) x.name k.0 w steps out at z (omega (arith, k.1, h.variables))))
       (λ z f. holds_set z h k.1 f))
 
-  prints : (at : Place) (f : Use) (e : Expression) → f.decl ≡ 4294967295 → f.name ≡ w.total + 1 → IsPure count e → Follows w count Next steps out ((eval_with (Call at int_type f (Following e NoExpression)) w.call >> done) now) (runs (one (PutChar None (expression e))))
+  prints : (at : Place) (f : Use) (e : Expression) → f.decl ≡ 4294967295 → f.name ≡ w.total + 1 → IsPure count e → Follows w count Next steps out ((eval_with (Node at int_type (Call f (Following e NoExpression))) w.call >> done) now) (runs (one (PutChar None (expression e))))
   prints at f e d m p =
       let listed = λ (v : Value). evals_with NoExpression w.call >>= λ vs. give (v ∷ vs) in
       let tail = λ (v : Value) (s : State). on_outcome (on_outcome (listed v s) (λ vs. w.call at f vs)) (λ _. done) in
-      let source : (eval_with (Call at int_type f (Following e NoExpression)) w.call >> done) now ≡ on_outcome (eval_with e w.call now) tail =
+      let source : (eval_with (Node at int_type (Call f (Following e NoExpression))) w.call >> done) now ≡ on_outcome (eval_with e w.call now) tail =
       ap (λ r. on_outcome r (λ _. done)) (handed_on (eval_with e w.call now) listed (λ vs. w.call at f vs))
       ∙ handed_on (eval_with e w.call now) (λ v s. on_outcome (listed v s) (λ vs. w.call at f vs)) (λ _. done) in
       subst (λ r. Follows w count Next steps out r (runs (one (PutChar None (expression e))))) (sym source)
@@ -96,28 +96,20 @@ module _ (w : Setting) (vars : List (Option ℤ)) (regs : List Value) (h : Holds
   abbrev does : Expression → Type 0
   does e = Follows w w.total Next steps out ((eval_with e w.call >> done) (source_at w vars steps out)) (monitored.exec_all over_blocks (effect e) w.calls n regs (target_at w steps))
 
-  left_assigned : (at : Place) (t : PlainType) (a e : Expression) → t ≡ int_type → IsTarget w.total a → IsPure w.total e → does (Assign at t None a e)
-  left_assigned at t (Variable pa u x) e typed left p =
-      subst (λ t. does (Assign at t None (Variable pa u x) e)) (sym typed)
-      (subst (λ u. does (Assign at int_type None (Variable pa u x) e)) (sym left.0)
+  left_assigned : (at : Place) (t : PlainType) (a e : Expression) → t ≡ int_type → IsTarget w.total a → IsPure w.total e → does (Node at t (Assign None a e))
+  left_assigned at t (Node pa u (Variable x)) e typed left p =
+      subst (λ t. does (Node at t (Assign None (Node pa u (Variable x)) e))) (sym typed)
+      (subst (λ u. does (Node at int_type (Assign None (Node pa u (Variable x)) e))) (sym left.0)
       (assigns w w.total vars regs h (omega arith) steps out n at pa x e left.1 p))
-  left_assigned at t (Number pa u z k) e typed left p = absurd left
-  left_assigned at t (Letter pa u z) e typed left p = absurd left
-  left_assigned at t (Binary pa u op a b) e typed left p = absurd left
-  left_assigned at t (Assign pa u op a b) e typed left p = absurd left
-  left_assigned at t (Call pa u f args) e typed left p = absurd left
+  left_assigned at t _ e typed left p = absurd left
 
-  argument_printed : (at : Place) (t : PlainType) (f : Use) (args : Expressions) → t ≡ int_type → f.decl ≡ 4294967295 → f.name ≡ w.total + 1 → IsArgument w.total args → does (Call at t f args)
+  argument_printed : (at : Place) (t : PlainType) (f : Use) (args : Expressions) → t ≡ int_type → f.decl ≡ 4294967295 → f.name ≡ w.total + 1 → IsArgument w.total args → does (Node at t (Call f args))
   argument_printed at t f NoExpression typed d m p = absurd p
   argument_printed at t f (Following e NoExpression) typed d m p =
-      subst (λ t. does (Call at t f (Following e NoExpression))) (sym typed) (prints w w.total vars regs h (omega arith) steps out n at f e d m p.is)
+      subst (λ t. does (Node at t (Call f (Following e NoExpression)))) (sym typed) (prints w w.total vars regs h (omega arith) steps out n at f e d m p.is)
   argument_printed at t f (Following e (Following e2 more)) typed d m p = absurd p
 
   pub effect_follows : (e : Expression) → IsEffect w.total e → does e
-  effect_follows (Assign at t None a b) p = left_assigned at t a b p.0 p.1 p.2.is
-  effect_follows (Assign at t (Some op) a b) p = absurd p
-  effect_follows (Call at t f args) p = argument_printed at t f args p.0 p.1 p.2 p.3
-  effect_follows (Number at t z k) p = absurd p
-  effect_follows (Letter at t z) p = absurd p
-  effect_follows (Variable at t x) p = absurd p
-  effect_follows (Binary at t op a b) p = absurd p
+  effect_follows (Node at t (Assign None a b)) p = left_assigned at t a b p.0 p.1 p.2.is
+  effect_follows (Node at t (Call f args)) p = argument_printed at t f args p.0 p.1 p.2 p.3
+  effect_follows _ p = absurd p

@@ -9,6 +9,7 @@ use Rattle.c_syntax.specs.declared.expression.BinOp.TheVariants.{Add, Sub, Eq, N
 use Rattle.c_syntax.specs.Ctypes.{int_type}
 use Rattle.c_model.specs.Integers as source
 use Rattle.c_model.specs.Integers.{result_in, truth}
+use Rattle.c_model.specs.IntPrograms.{IsIntOperator}
 use Rattle.mon_syntax.specs.declared.tree.MonType.TheVariants as kind
 use Rattle.mon_syntax.specs.Arithmetic.{wrap, operate}
 use Rattle.instrument.specs.Translation.{operator_of}
@@ -68,12 +69,13 @@ compared op x y v b e h =
     let same : truth b ≡ v = cc in
     record { fits = subst (FitsSigned w32) same (truth_fits b); is = e ∙ h }
 
-pub operated : (op : BinOp) (x y v : ℤ) → source.operate int_type op x y ≡ Some v → IsOperated op x y v
-operated Add x y v h = wrapped Add x y (x +ℤ y) v refl (result_is (x +ℤ y) v h)
-operated Sub x y v h = wrapped Sub x y (x -ℤ y) v refl (result_is (x -ℤ y) v h)
-operated Eq x y v h = compared Eq x y v _ refl h
-operated Ne x y v h = compared Ne x y v _ refl h
-operated Lt x y v h = compared Lt x y v _ refl h
-operated Le x y v h = compared Le x y v _ refl h
-operated Gt x y v h = compared Gt x y v _ refl h
-operated Ge x y v h = compared Ge x y v _ refl h
+pub operated : (op : BinOp) (x y v : ℤ) → IsIntOperator op → source.operate int_type op x y ≡ Some v → IsOperated op x y v
+operated Add x y v i h = wrapped Add x y (x +ℤ y) v refl (result_is (x +ℤ y) v h)
+operated Sub x y v i h = wrapped Sub x y (x -ℤ y) v refl (result_is (x -ℤ y) v h)
+operated Eq x y v i h = compared Eq x y v _ refl h
+operated Ne x y v i h = compared Ne x y v _ refl h
+operated Lt x y v i h = compared Lt x y v _ refl h
+operated Le x y v i h = compared Le x y v _ refl h
+operated Gt x y v i h = compared Gt x y v _ refl h
+operated Ge x y v i h = compared Ge x y v _ refl h
+operated _ x y v i h = absurd i

@@ -85,19 +85,19 @@ module _ (w : Setting) (e : Expression) (pure : IsPure w.total e) (label : List 
     before = monitored.exec_all over_blocks test w.calls n
 
     abbrev turn : ℕ → Evaluation (Unit {0})
-    turn j = step >> λ s. after_body (body s) (source.turns j (eval_with e w.call) body)
+    turn j = step >> λ s. after_body (body s) (source.turns j (eval_with e w.call) body done)
 
     spent : (vars : List (Option ℤ)) (regs : List Value) (out : List ℕ) (j : ℕ) (q : Did) → q ≡ Stops Spent 0 [] → Follows w w.total (Goes label) 0 out (turn j (source_at w vars 0 out)) q
     spent vars regs out j q e = IsOver Spent (source_at w vars 0 out) [] (λ h. absurd cc) refl (sym (append-nil out)) e
 
-    pub turns_follow : (j : ℕ) (vars : List (Option ℤ)) (regs : List Value) (steps : ℕ) (out : List ℕ) → Holds w.total w.total vars regs → steps ≤ j → steps ≤ k → Follows w w.total (Goes label) steps out (source.turns (suc j) (eval_with e w.call) body (source_at w vars steps out)) (monitored.turns over_blocks j before behind regs (target_at w steps))
+    pub turns_follow : (j : ℕ) (vars : List (Option ℤ)) (regs : List Value) (steps : ℕ) (out : List ℕ) → Holds w.total w.total vars regs → steps ≤ j → steps ≤ k → Follows w w.total (Goes label) steps out (source.turns (suc j) (eval_with e w.call) body done (source_at w vars steps out)) (monitored.turns over_blocks j before behind regs (target_at w steps))
     turns_follow zero vars regs zero out h le lk = test_follows vars regs 0 out h (turn 0) (λ r t. Stops Spent 0 []) (spent vars regs out 0 _ refl)
     turns_follow zero vars regs (suc steps) out h le lk = absurd (omega arith)
     turns_follow (suc j) vars regs zero out h le lk = test_follows vars regs 0 out h (turn (suc j)) _ (spent vars regs out (suc j) _ refl)
     turns_follow (suc j) vars regs (suc steps) out h le lk =
         test_follows vars regs (suc steps) out h (turn (suc j)) _
         (later w w.total (Goes label) (suc steps) steps out _ _ (omega arith)
-        (follows_body w w.total (Goes label) steps out _ _ (source.turns (suc j) (eval_with e w.call) body) (monitored.turns over_blocks j before behind) (follows vars regs steps out h (omega arith))
+        (follows_body w w.total (Goes label) steps out _ _ (source.turns (suc j) (eval_with e w.call) body done) (monitored.turns over_blocks j before behind) (follows vars regs steps out h (omega arith))
         (λ v r left o g l. turns_follow j v r left o g (omega arith) (omega arith))))
 
 -- the label behind the loop catches the jump

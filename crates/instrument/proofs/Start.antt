@@ -7,7 +7,7 @@ use Rattle.c_syntax.specs.declared.place.Place.{Place}
 use Rattle.c_syntax.specs.declared.expression.Use.{Use}
 use Rattle.c_syntax.specs.declared.types.BlockKind.TheVariants.{Stack}
 use Rattle.c_syntax.specs.Ctypes.{int_type}
-use Rattle.c_syntax.specs.Statements.{Declaration, Statement, Eval, Block, If, While, Return, BlockItems, NoItem, Then, Declare, Run, Asserts}
+use Rattle.c_syntax.specs.Statements.{Declaration, Statement, Block, BlockItems, NoItem, Then, Declare, Run, Asserts}
 use Rattle.c_syntax.specs.Programs.{Function, TranslationUnit}
 use Rattle.c_model.specs.IntPrograms.{AreMainItems, IsIntProgram, IsMainBody}
 use Rattle.c_model.specs.Integers.{size_of, byte_of}
@@ -27,12 +27,8 @@ pub record Body (n : ℕ) (body : Option Statement) : Type 0 where
   pub are : AreMainItems n 0 items
 
 pub body_of : (n : ℕ) (body : Option Statement) → IsMainBody n body → Body n body
-body_of n None h = absurd h
 body_of n (Some (Block at items)) h = record { at = at; items = items; is = refl; are = h.0 }
-body_of n (Some (Eval at e)) h = absurd h
-body_of n (Some (If at e a b)) h = absurd h
-body_of n (Some (While at annots e a)) h = absurd h
-body_of n (Some (Return at e)) h = absurd h
+body_of n _ h = absurd h
 
 -- as many declarations are left as variables
 pub counted : (n k : ℕ) (is : BlockItems) → AreMainItems n k is → k + length (declared_in is) ≡ n

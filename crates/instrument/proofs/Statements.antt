@@ -73,11 +73,11 @@ module _ (w : Setting) (k : ℕ) where
         subst (λ q. Follows w w.total Next steps out (exec_with (While at annots e a) w.call (suc k) (source_at w vars steps out)) (then_do q (at_label label))) (sym (one_is round w.calls k regs (target_at w steps)))
         (follows_label w w.total label steps out _ _
         (turns_follow w e p.1.is label k (exec_with a w.call (suc k)) (monitored.exec_all over_blocks body w.calls k) k (statement_follows a (loops + 1) p.2) k vars regs steps out h le le)))
-    statement_follows (Return at None) loops p = λ vars regs steps out h le. absurd p
     statement_follows (Return at (Some e)) loops p =
         alone (exec_with (Return at (Some e)) w.call (suc k)) (tree.Return (Some (expression e))) (λ vars regs steps out h le.
         follows_value w w.total Next steps out vars _ _ steps (λ v. stop (Leaves (Returns (Some v)))) _ (evaluates w h (omega arith) steps out e p.is)
         (λ z fits. IsLeft z (source_at w vars steps out) [] refl (sym (append-nil out)) refl))
+    statement_follows _ loops p = λ vars regs steps out h le. absurd p
 
     pub else_follows : (b : ElsePart) (loops : ℕ) → IsIntElse w.total b → DoSame (else_with b w.call (suc k)) (monitored.exec_all over_blocks (else_part loops b) w.calls k)
     else_follows NoElse loops p = λ vars regs steps out h le. GoesOn vars regs steps [] h (omega arith) (ap (λ o. Normal tt (source_at w vars steps o)) (sym (append-nil out))) refl

@@ -6,7 +6,6 @@ use Rattle.c_syntax.specs.declared.place.Place.{Place}
 use Rattle.c_syntax.specs.declared.expression.Use.{Use}
 use Rattle.c_syntax.specs.declared.expression.BinOp.{BinOp}
 use Rattle.c_syntax.specs.declared.expression.BinOp.TheVariants.{Add, Sub}
-use Rattle.c_syntax.specs.declared.expression.BinOp.TheVariants as operator
 use Rattle.c_syntax.specs.declared.annotation.Range.{Range}
 use Rattle.c_syntax.specs.declared.annotation.Relation.{Relation}
 use Rattle.c_syntax.specs.declared.annotation.Relation.TheVariants as relation
@@ -125,12 +124,7 @@ module _ (w : Setting) {count : ℕ} {vars : List (Option ℤ)} {regs : List Val
       let x = means a p.1 (omega (arith, short)) in
       let y = means b p.2 (omega (arith, short)) in
       combined at r c Sub a b (source_at w vars steps out) regs (x.value -ℤ y.value) x y short (difference_within _ _ _ _ x.within y.within) refl refl
-  means (Binary at c r operator.Eq a b) p short = absurd p.0
-  means (Binary at c r operator.Ne a b) p short = absurd p.0
-  means (Binary at c r operator.Lt a b) p short = absurd p.0
-  means (Binary at c r operator.Le a b) p short = absurd p.0
-  means (Binary at c r operator.Gt a b) p short = absurd p.0
-  means (Binary at c r operator.Ge a b) p short = absurd p.0
+  means (Binary at c r _ a b) p short = absurd p.0
 
 -- ---- chains
 

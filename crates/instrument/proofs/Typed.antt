@@ -8,7 +8,7 @@ use Rattle.c_syntax.specs.declared.expression.BinOp.TheVariants as operator
 use Rattle.c_syntax.specs.declared.expression.Use.{Use}
 use Rattle.c_syntax.specs.declared.annotation.Relation.{Relation}
 use Rattle.c_syntax.specs.declared.annotation.Relation.TheVariants as relation
-use Rattle.c_syntax.specs.Expressions.{Expression, Number, Letter, Variable, Binary, Assign, Call}
+use Rattle.c_syntax.specs.Expressions.{Expression, Node, Number, Letter, Variable, Binary}
 use Rattle.c_syntax.specs.Annotations as logic
 use Rattle.c_syntax.specs.Annotations.{LogicTerm, NoLink, Linked, ClauseBody, Truth, Chain, Annotation}
 use Rattle.c_model.specs.IntPrograms.{IsIntLiteral, IsLetter, IsVariable, IsPure, leaves_of, IsFullExpression, IsSum, IsIntTerm, leaves, IsShortTerm, IsIntBody, IsIntAssert}
@@ -37,6 +37,14 @@ letter_literal z h = record { not_negative = h.not_negative; fits = let a = h.sm
 int_result : (op : BinOp) → result_type (operator_of op) I32 ≡ I32
 int_result operator.Add = refl
 int_result operator.Sub = refl
+int_result operator.Mul = refl
+int_result operator.Div = refl
+int_result operator.Rem = refl
+int_result operator.Shl = refl
+int_result operator.Shr = refl
+int_result operator.BitAnd = refl
+int_result operator.BitOr = refl
+int_result operator.BitXor = refl
 int_result operator.Eq = refl
 int_result operator.Ne = refl
 int_result operator.Lt = refl
@@ -47,12 +55,7 @@ int_result operator.Ge = refl
 sum_result : (op : BinOp) → IsSum op → result_type (operator_of op) I64 ≡ I64
 sum_result operator.Add h = refl
 sum_result operator.Sub h = refl
-sum_result operator.Eq h = absurd h
-sum_result operator.Ne h = absurd h
-sum_result operator.Lt h = absurd h
-sum_result operator.Le h = absurd h
-sum_result operator.Gt h = absurd h
-sum_result operator.Ge h = absurd h
+sum_result _ h = absurd h
 
 relation_result : (r : Relation) → result_type (relation_operator r) I64 ≡ I32
 relation_result relation.Eq = refl
@@ -65,24 +68,22 @@ relation_result relation.Ge = refl
 -- ---- parentheses
 
 one_leaf : (n : ℕ) (e : Expression) → IsPure n e → 1 ≤ leaves_of e
-one_leaf n (Number at t z k) h = omega arith
-one_leaf n (Letter at t z) h = omega arith
-one_leaf n (Variable at t x) h = omega arith
-one_leaf n (Binary at t op a b) h = let p = one_leaf n a h.1 in omega (arith, p)
-one_leaf n (Assign at t op a b) h = absurd h
-one_leaf n (Call at t f args) h = absurd h
+one_leaf n (Node at t (Number z k)) h = omega arith
+one_leaf n (Node at t (Letter z)) h = omega arith
+one_leaf n (Node at t (Variable x)) h = omega arith
+one_leaf n (Node at t (Binary op a b)) h = let p = one_leaf n a h.2 in omega (arith, p)
+one_leaf n _ h = absurd h
 
 one_more : (p q a b : ℕ) → p ≤ a → q ≤ b → 1 ≤ a → 1 ≤ b → suc (max p q) ≤ a + b
 one_more p q a b h k i j = let m : max p q ≤ a + b - 1 = max-le (omega (arith, h, j)) (omega (arith, k, i)) in omega (arith, m, i, j)
 
 pub few_parens : (n : ℕ) (e : Expression) → IsPure n e → open_parens (expression e) ≤ leaves_of e
-few_parens n (Number at t z k) h = omega arith
-few_parens n (Letter at t z) h = omega arith
-few_parens n (Variable at t x) h = omega arith
-few_parens n (Binary at t op a b) h =
-    one_more (open_parens (expression a)) (open_parens (expression b)) (leaves_of a) (leaves_of b) (few_parens n a h.1) (few_parens n b h.2) (one_leaf n a h.1) (one_leaf n b h.2)
-few_parens n (Assign at t op a b) h = absurd h
-few_parens n (Call at t f args) h = absurd h
+few_parens n (Node at t (Number z k)) h = omega arith
+few_parens n (Node at t (Letter z)) h = omega arith
+few_parens n (Node at t (Variable x)) h = omega arith
+few_parens n (Node at t (Binary op a b)) h =
+    one_more (open_parens (expression a)) (open_parens (expression b)) (leaves_of a) (leaves_of b) (few_parens n a h.2) (few_parens n b h.3) (one_leaf n a h.2) (one_leaf n b h.3)
+few_parens n _ h = absurd h
 
 one_leaf_of_term : (t : LogicTerm) → 1 ≤ leaves t
 one_leaf_of_term (logic.Number at c r z) = omega arith
@@ -109,12 +110,11 @@ module _ (ts : Types) (n : ℕ) (registers : (k : ℕ) → k < n → slice_get t
   register_typed x h = let a = h.declared in let b = h.in_sight in registers (register_of x.name) (omega (arith, a, b))
 
   typed : (e : Expression) → IsPure n e → HasType ts (expression e) I32
-  typed (Number at t z k) h = (refl, int_constant z h.1)
-  typed (Letter at t z) h = (refl, int_constant z (letter_literal z h.1))
-  typed (Variable at t x) h = register_typed x h.1
-  typed (Binary at t op a b) h = (int_result op, refl, typed a h.1, typed b h.2)
-  typed (Assign at t op a b) h = absurd h
-  typed (Call at t f args) h = absurd h
+  typed (Node at t (Number z k)) h = (refl, int_constant z h.1)
+  typed (Node at t (Letter z)) h = (refl, int_constant z (letter_literal z h.1))
+  typed (Node at t (Variable x)) h = register_typed x h.1
+  typed (Node at t (Binary op a b)) h = (int_result op, refl, typed a h.2, typed b h.3)
+  typed _ h = absurd h
 
   pub expression_valid : (e : Expression) → IsFullExpression n e → IsExpression ts (expression e) I32
   expression_valid e h = let p = few_parens n e h.is in let q = h.short in record { typed = typed e h.is; within = omega (arith, p, q) }

@@ -4,7 +4,7 @@ use Rattle.std.specs.Prelude.{bytes_eq, codes}
 use Rattle.std.specs.List.{AllByRecursion}
 use Rattle.std.proofs.Math.Nat.{le-max_right}
 use Rattle.c_syntax.specs.declared.place.Place.{Place}
-use Rattle.c_syntax.specs.Statements.{Initialiser, One, Declaration, Statement, Eval, Block, If, While, Return, Declare, Run, Asserts, BlockItems, NoItem, Then}
+use Rattle.c_syntax.specs.Statements.{Initialiser, One, Declaration, Statement, Block, Declare, Run, Asserts, BlockItems, NoItem, Then}
 use Rattle.c_syntax.specs.Programs.{Function, TranslationUnit}
 use Rattle.c_model.specs.IntPrograms as form
 use Rattle.c_model.specs.IntPrograms.{IsIntInit, IsIntDeclaration, AreMainItems, AreIntItems, IsMainBody, IsName, IsIntProgram}
@@ -112,14 +112,10 @@ main_with_valid names n list few h body shallow numbers =
     }
 
 main_valid : (names : List (List ℕ)) (n : ℕ) (f : Function) (o : Option Statement) → f.body ≡ o → n ≤ 1000 → AllByRecursion IsName names → IsMainBody n o → HaveNumbers (body_items o) → IsFunction (main_of names f)
-main_valid names n f None is few h body numbers = absurd body
 main_valid names n f (Some (Block at list)) is few h body numbers =
     let deep = body.1 in
     subst (λ o. IsFunction (main_with names (body_items o))) (sym is) (main_with_valid names n list few h body.0 (omega (arith, deep)) numbers)
-main_valid names n f (Some (Eval at e)) is few h body numbers = absurd body
-main_valid names n f (Some (If at e a b)) is few h body numbers = absurd body
-main_valid names n f (Some (While at annots e a)) is few h body numbers = absurd body
-main_valid names n f (Some (Return at e)) is few h body numbers = absurd body
+main_valid names n f _ is few h body numbers = absurd body
 
 pub translated_valid : (p : TranslationUnit) → IsIntProgram p → FunctionsHaveNumbers p.funcs → IsValid (translated p)
 translated_valid p h numbers = record {

@@ -3,7 +3,7 @@ use Rattle.std.proofs.Common.{◌≡◌, ℕ, zero, suc, ◌+◌, ◌*◌, ◌<�
 use Rattle.std.proofs.Math.Nat.{max-le, le-max_left, le-max_right}
 use Rattle.c_syntax.specs.declared.place.Place.{Place}
 use Rattle.c_syntax.specs.Expressions as source
-use Rattle.c_syntax.specs.Expressions.{Expression, Expressions, NoExpression, Following}
+use Rattle.c_syntax.specs.Expressions.{Expression, Node, Expressions, NoExpression, Following}
 use Rattle.c_syntax.specs.Annotations.{Annotation}
 use Rattle.c_syntax.specs.Statements as source_statement
 use Rattle.c_syntax.specs.Statements.{Initialiser, One, Declaration, Statement, ElsePart, NoElse, Else, BlockItem, Declare, Run, Asserts, BlockItems, NoItem}
@@ -41,33 +41,24 @@ no_step_initialise_all [] = refl
 no_step_initialise_all (d ∷ l) = no_step_before (initialise d.name d.init) (initialise_all l) (no_step_initialise d.name d.init) (no_step_initialise_all l)
 
 no_step_assign : (a e : Expression) → has_no_step (assign a e) ≡ true
-no_step_assign (source.Variable at t x) e = refl
-no_step_assign (source.Number at t n k) e = refl
-no_step_assign (source.Letter at t n) e = refl
-no_step_assign (source.Binary at t op a b) e = refl
-no_step_assign (source.Assign at t op a b) e = refl
-no_step_assign (source.Call at t f args) e = refl
+no_step_assign (Node at t (source.Variable x)) e = refl
+no_step_assign _ e = refl
 
 no_step_put : (args : Expressions) → has_no_step (put args) ≡ true
 no_step_put NoExpression = refl
 no_step_put (Following e rest) = refl
 
 no_step_effect : (e : Expression) → has_no_step (effect e) ≡ true
-no_step_effect (source.Assign at t op a b) = no_step_assign a b
-no_step_effect (source.Call at t f args) = no_step_put args
-no_step_effect (source.Number at t n k) = refl
-no_step_effect (source.Letter at t n) = refl
-no_step_effect (source.Variable at t x) = refl
-no_step_effect (source.Binary at t op a b) = refl
+no_step_effect (Node at t (source.Assign op a b)) = no_step_assign a b
+no_step_effect (Node at t (source.Call f args)) = no_step_put args
+no_step_effect _ = refl
 
 mutual
   no_step : (loops : ℕ) (a : Statement) → has_no_step (statement loops a) ≡ true
   no_step loops (source_statement.Eval at e) = no_step_effect e
   no_step loops (source_statement.Block at body) = no_step_items loops body
-  no_step loops (source_statement.If at e a b) = refl
-  no_step loops (source_statement.While at annots e a) = refl
-  no_step loops (source_statement.Return at None) = refl
   no_step loops (source_statement.Return at (Some e)) = refl
+  no_step loops _ = refl
 
   no_step_item : (loops : ℕ) (i : BlockItem) → has_no_step (item loops i) ≡ true
   no_step_item loops (Declare ds) = no_step_initialise_all ds
@@ -103,24 +94,17 @@ deep_initialise_all [] = omega arith
 deep_initialise_all (d ∷ l) = deep_before (initialise d.name d.init) (initialise_all l) 1 (deep_initialise d.name d.init) (deep_initialise_all l)
 
 deep_assign : (a e : Expression) → depth_of_all (assign a e) ≤ 1
-deep_assign (source.Variable at t x) e = omega arith
-deep_assign (source.Number at t n k) e = omega arith
-deep_assign (source.Letter at t n) e = omega arith
-deep_assign (source.Binary at t op a b) e = omega arith
-deep_assign (source.Assign at t op a b) e = omega arith
-deep_assign (source.Call at t f args) e = omega arith
+deep_assign (Node at t (source.Variable x)) e = omega arith
+deep_assign _ e = omega arith
 
 deep_put : (args : Expressions) → depth_of_all (put args) ≤ 1
 deep_put NoExpression = omega arith
 deep_put (Following e rest) = omega arith
 
 deep_effect : (e : Expression) → depth_of_all (effect e) ≤ 1
-deep_effect (source.Assign at t op a b) = deep_assign a b
-deep_effect (source.Call at t f args) = deep_put args
-deep_effect (source.Number at t n k) = omega arith
-deep_effect (source.Letter at t n) = omega arith
-deep_effect (source.Variable at t x) = omega arith
-deep_effect (source.Binary at t op a b) = omega arith
+deep_effect (Node at t (source.Assign op a b)) = deep_assign a b
+deep_effect (Node at t (source.Call f args)) = deep_put args
+deep_effect _ = omega arith
 
 mutual
   pub deep : (loops : ℕ) (a : Statement) → depth_of_all (statement loops a) ≤ 4 * form.depth a
@@ -139,8 +123,8 @@ mutual
       let turn : max 1 (max 2 (depth_of_all (statement (loops + 1) a))) ≤ 4 * form.depth a + 2 = max-le (omega arith) inner in
       let repeated : max (suc (max 1 (max 2 (depth_of_all (statement (loops + 1) a))))) 0 ≤ 4 * form.depth a + 3 = max-le (omega (arith, turn)) (omega arith) in
       max-le (omega (arith, repeated)) (omega arith)
-  deep loops (source_statement.Return at None) = omega arith
   deep loops (source_statement.Return at (Some e)) = omega arith
+  deep loops _ = omega arith
 
   deep_else : (loops : ℕ) (b : ElsePart) → depth_of_all (else_part loops b) ≤ 4 * form.depth_of_else b
   deep_else loops NoElse = omega arith
@@ -180,20 +164,12 @@ before_valid ts result ls (Then x a) b h k = (h.0, before_valid ts result ls a b
 
 module _ (ts : Types) (n : ℕ) (registers : (k : ℕ) → k < n → slice_get ts k ≡ Some I32) where
   effect_valid : (ls : Labels) (e : Expression) → IsEffect n e → AreStatements ts (Some I32) ls (effect e)
-  effect_valid ls (source.Assign at t None (source.Variable at2 t2 x) b) h = ((I32, register_typed ts n registers x h.1.1, expression_valid ts n registers b h.2), tt)
-  effect_valid ls (source.Assign at t None (source.Number at2 t2 z k) b) h = absurd h.1
-  effect_valid ls (source.Assign at t None (source.Letter at2 t2 z) b) h = absurd h.1
-  effect_valid ls (source.Assign at t None (source.Binary at2 t2 op c d) b) h = absurd h.1
-  effect_valid ls (source.Assign at t None (source.Assign at2 t2 op c d) b) h = absurd h.1
-  effect_valid ls (source.Assign at t None (source.Call at2 t2 f args) b) h = absurd h.1
-  effect_valid ls (source.Assign at t (Some op) a b) h = absurd h
-  effect_valid ls (source.Call at t f NoExpression) h = absurd h.3
-  effect_valid ls (source.Call at t f (Following e NoExpression)) h = ((tt, expression_valid ts n registers e h.3), tt)
-  effect_valid ls (source.Call at t f (Following e (Following g more))) h = absurd h.3
-  effect_valid ls (source.Number at t z k) h = absurd h
-  effect_valid ls (source.Letter at t z) h = absurd h
-  effect_valid ls (source.Variable at t x) h = absurd h
-  effect_valid ls (source.Binary at t op a b) h = absurd h
+  effect_valid ls (Node at t (source.Assign None (Node at2 t2 (source.Variable x)) b)) h = ((I32, register_typed ts n registers x h.1.1, expression_valid ts n registers b h.2), tt)
+  effect_valid ls (Node at t (source.Assign None _ b)) h = absurd h.1
+  effect_valid ls (Node at t (source.Call f NoExpression)) h = absurd h.3
+  effect_valid ls (Node at t (source.Call f (Following e NoExpression))) h = ((tt, expression_valid ts n registers e h.3), tt)
+  effect_valid ls (Node at t (source.Call f (Following e (Following g more)))) h = absurd h.3
+  effect_valid ls _ h = absurd h
 
   assertions_valid : (ls : Labels) (l : List Annotation) → AreIntAnnotations n l → AreNumbered l → AreStatements ts (Some I32) ls (assertions l)
   assertions_valid ls [] h k = tt
@@ -214,8 +190,8 @@ module _ (ts : Types) (n : ℕ) (registers : (k : ℕ) → k < n → slice_get t
         let jump : has_label (name ∷ labels loops) name ≡ true = ap (λ b. b || has_label (labels loops) name) (same_bytes name) in
         let body = subst (λ ls. AreStatements ts (Some I32) ls (statement (loops + 1) a)) around (statement_valid (loops + 1) a h.2 k (omega (arith, d))) in
         ((label_is_free (loops + 1) (omega (arith, d)), fresh loops (loops + 1) (omega arith) (omega (arith, d)), ((refl, no_step (loops + 1) a, ((expression_valid ts n registers e h.1, tt, (jump, tt)), tt), body), tt)), tt)
-    statement_valid loops (source_statement.Return at None) h k d = absurd h
     statement_valid loops (source_statement.Return at (Some e)) h k d = (expression_valid ts n registers e h, tt)
+    statement_valid loops _ h k d = absurd h
 
     else_valid : (loops : ℕ) (b : ElsePart) → IsIntElse n b → ElseHasNumbers b → loops + form.depth_of_else b ≤ 1000 → AreStatements ts (Some I32) (labels loops) (else_part loops b)
     else_valid loops NoElse h k d = tt

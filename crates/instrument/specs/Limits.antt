@@ -1,7 +1,7 @@
 -- Programs whose annotations have numbers and lines of 32 bits.
 use Rattle.std.specs.Prelude.{◌≤◌, List, [], ◌∷◌}
 use Rattle.c_syntax.specs.Annotations.{Annotation}
-use Rattle.c_syntax.specs.Statements.{Statement, Eval, Block, If, While, Return, ElsePart, NoElse, Else, BlockItem, Declare, Run, Asserts, BlockItems, NoItem, Then}
+use Rattle.c_syntax.specs.Statements.{Statement, Block, If, While, ElsePart, NoElse, Else, BlockItem, Declare, Run, Asserts, BlockItems, NoItem, Then}
 use Rattle.c_syntax.specs.Programs.{Function}
 use Rattle.instrument.specs.Translation.{body_items}
 
@@ -13,14 +13,13 @@ abbrev pub AreNumbered : List Annotation → Type 0
 AreNumbered [] = Unit {0}
 AreNumbered (a ∷ rest) = IsNumbered a × AreNumbered rest
 
--- each annotation in a statement is so
+-- each annotation in the translated part of a statement is so
 abbrev mutual
   pub HasNumbers : Statement → Type 0
-  HasNumbers (Eval at e) = Unit {0}
   HasNumbers (Block at items) = HaveNumbers items
   HasNumbers (If at e a b) = HasNumbers a × ElseHasNumbers b
   HasNumbers (While at annots e a) = HasNumbers a
-  HasNumbers (Return at e) = Unit {0}
+  HasNumbers _ = Unit {0}
 
   pub ElseHasNumbers : ElsePart → Type 0
   ElseHasNumbers NoElse = Unit {0}

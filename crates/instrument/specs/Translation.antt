@@ -7,7 +7,7 @@ use Rattle.c_syntax.specs.declared.expression.BinOp.TheVariants as operator
 use Rattle.c_syntax.specs.declared.annotation.Relation.{Relation}
 use Rattle.c_syntax.specs.declared.annotation.Relation.TheVariants as relation
 use Rattle.c_syntax.specs.Expressions as source
-use Rattle.c_syntax.specs.Expressions.{Expression, Expressions, NoExpression, Following}
+use Rattle.c_syntax.specs.Expressions.{Expression, Node, Expressions, NoExpression, Following}
 use Rattle.c_syntax.specs.Annotations as logic
 use Rattle.c_syntax.specs.Annotations.{LogicTerm, Predicate, Chain, Links, NoLink, Linked, ClauseBody, Truth, Annotation}
 use Rattle.c_syntax.specs.Statements as source_statement
@@ -15,7 +15,7 @@ use Rattle.c_syntax.specs.Statements.{Initialiser, One, Declaration, Statement, 
 use Rattle.c_syntax.specs.Programs.{Function, TranslationUnit}
 use Rattle.c_model.specs.Meaning.{declared_in}
 use Rattle.mon_syntax.specs.declared.tree.MonOp.{MonOp}
-use Rattle.mon_syntax.specs.declared.tree.MonOp.TheVariants.{Add, Sub, And, Eq, Ne, Lt, Le, Gt, Ge}
+use Rattle.mon_syntax.specs.declared.tree.MonOp.TheVariants.{Add, Sub, Mul, Div, Rem, Shl, Shr, And, Or, Xor, Eq, Ne, Lt, Le, Gt, Ge}
 use Rattle.mon_syntax.specs.declared.tree.MonType.TheVariants.{I32, I64}
 use Rattle.mon_syntax.specs.Trees.{MonExpression, Register, Constant, Binary, Cast, MonStatement, Set, Assert, PutChar, If, Loop, Labelled, Goto, Return, MonStatements, NoStatement, Then, MonRegister, MonFunction, MonitoredProgram}
 
@@ -38,6 +38,14 @@ register_of name = name - 1
 abbrev pub operator_of : BinOp → MonOp
 operator_of operator.Add = Add
 operator_of operator.Sub = Sub
+operator_of operator.Mul = Mul
+operator_of operator.Div = Div
+operator_of operator.Rem = Rem
+operator_of operator.Shl = Shl
+operator_of operator.Shr = Shr
+operator_of operator.BitAnd = And
+operator_of operator.BitOr = Or
+operator_of operator.BitXor = Xor
 operator_of operator.Eq = Eq
 operator_of operator.Ne = Ne
 operator_of operator.Lt = Lt
@@ -45,14 +53,13 @@ operator_of operator.Le = Le
 operator_of operator.Gt = Gt
 operator_of operator.Ge = Ge
 
--- an expression without side effects
+-- an expression as accepted programs have it; in place of any other stands 0
 abbrev pub expression : Expression → MonExpression
-expression (source.Number at t n k) = Constant I32 n
-expression (source.Letter at t n) = Constant I32 n
-expression (source.Variable at t x) = Register (register_of x.name)
-expression (source.Binary at t op a b) = Binary (operator_of op) I32 (expression a) (expression b)
-expression (source.Assign at t op a b) = Constant I32 (pos 0)
-expression (source.Call at t f args) = Constant I32 (pos 0)
+expression (Node at t (source.Number n k)) = Constant I32 n
+expression (Node at t (source.Letter n)) = Constant I32 n
+expression (Node at t (source.Variable x)) = Register (register_of x.name)
+expression (Node at t (source.Binary op a b)) = Binary (operator_of op) I32 (expression a) (expression b)
+expression _ = Constant I32 (pos 0)
 
 -- ---- annotations
 
@@ -101,12 +108,8 @@ assertions (a ∷ rest) = Then (assertion a) (assertions rest)
 -- ---- statements, inside so many loops
 
 abbrev pub assign : Expression → Expression → MonStatements
-assign (source.Variable at t x) e = one (Set (register_of x.name) (expression e))
-assign (source.Number at t n k) e = NoStatement
-assign (source.Letter at t n) e = NoStatement
-assign (source.Binary at t op a b) e = NoStatement
-assign (source.Assign at t op a b) e = NoStatement
-assign (source.Call at t f args) e = NoStatement
+assign (Node at t (source.Variable x)) e = one (Set (register_of x.name) (expression e))
+assign _ e = NoStatement
 
 abbrev pub put : Expressions → MonStatements
 put NoExpression = NoStatement
@@ -114,12 +117,9 @@ put (Following e rest) = one (PutChar None (expression e))
 
 -- `x = e;` and `putchar(e);`
 abbrev pub effect : Expression → MonStatements
-effect (source.Assign at t op a b) = assign a b
-effect (source.Call at t f args) = put args
-effect (source.Number at t n k) = NoStatement
-effect (source.Letter at t n) = NoStatement
-effect (source.Variable at t x) = NoStatement
-effect (source.Binary at t op a b) = NoStatement
+effect (Node at t (source.Assign op a b)) = assign a b
+effect (Node at t (source.Call f args)) = put args
+effect _ = NoStatement
 
 -- the way out of a loop, where its condition is 0
 abbrev pub leave_where_zero : MonExpression → List ℕ → MonStatement
@@ -136,14 +136,15 @@ abbrev pub initialise_all : List Declaration → MonStatements
 initialise_all [] = NoStatement
 initialise_all (d ∷ ds) = before (initialise d.name d.init) (initialise_all ds)
 
+-- a statement as accepted programs have it; no other is translated
 abbrev mutual
   pub statement : ℕ → Statement → MonStatements
   statement loops (source_statement.Eval at e) = effect e
   statement loops (source_statement.Block at body) = items loops body
   statement loops (source_statement.If at e a b) = one (If (expression e) (statement loops a) (else_part loops b))
   statement loops (source_statement.While at annots e a) = one (loop (loops + 1) (expression e) (statement (loops + 1) a))
-  statement loops (source_statement.Return at None) = NoStatement
   statement loops (source_statement.Return at (Some e)) = one (Return (Some (expression e)))
+  statement loops _ = NoStatement
 
   pub else_part : ℕ → ElsePart → MonStatements
   else_part loops NoElse = NoStatement
@@ -171,12 +172,8 @@ registers_from names k [] = []
 registers_from names k (d ∷ ds) = record { kind = I32; name = register_name k (name_or_none (slice_get names d.name)) } ∷ registers_from names (suc k) ds
 
 abbrev pub body_items : Option Statement → BlockItems
-body_items None = NoItem
 body_items (Some (source_statement.Block at body)) = body
-body_items (Some (source_statement.Eval at e)) = NoItem
-body_items (Some (source_statement.If at e a b)) = NoItem
-body_items (Some (source_statement.While at annots e a)) = NoItem
-body_items (Some (source_statement.Return at e)) = NoItem
+body_items _ = NoItem
 
 abbrev pub main_of : List (List ℕ) → Function → MonFunction
 main_of names f = record {

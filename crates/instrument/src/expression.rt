@@ -23,6 +23,14 @@ pub fn operator_of(op: BinOp) -> MonOp
     match op {
         BinOp::Add => MonOp::Add,
         BinOp::Sub => MonOp::Sub,
+        BinOp::Mul => MonOp::Mul,
+        BinOp::Div => MonOp::Div,
+        BinOp::Rem => MonOp::Rem,
+        BinOp::Shl => MonOp::Shl,
+        BinOp::Shr => MonOp::Shr,
+        BinOp::BitAnd => MonOp::And,
+        BinOp::BitOr => MonOp::Or,
+        BinOp::BitXor => MonOp::Xor,
         BinOp::Eq => MonOp::Eq,
         BinOp::Ne => MonOp::Ne,
         BinOp::Lt => MonOp::Lt,
@@ -32,7 +40,7 @@ pub fn operator_of(op: BinOp) -> MonOp
     }
 }
 
-/// Translates an expression without side effects. In place of an assignment or a call, which has one, stands 0.
+/// Translates an expression as accepted programs have it. In place of any other stands 0.
 pub fn expression(alloc: Global, e: &Expr) -> Result<MonExpr, AllocError>
     ensures { IfOk result (λ m. plain_monitored m ≡ expression (plain_expr e.now)) }
 {
@@ -45,7 +53,15 @@ pub fn expression(alloc: Global, e: &Expr) -> Result<MonExpr, AllocError>
             let right = Box::new(alloc, expression(alloc, b)?)?;
             Ok(MonExpr::Binary(operator_of(*op), MonType::I32, left, right))
         }
-        ExprKind::Assign(_, _, _) => Ok(MonExpr::Constant(MonType::I32, 0)),
-        ExprKind::Call(_, _) => Ok(MonExpr::Constant(MonType::I32, 0)),
+        ExprKind::Unary(_, _)
+        | ExprKind::Both(_, _)
+        | ExprKind::Either(_, _)
+        | ExprKind::Choice(_, _, _)
+        | ExprKind::Assign(_, _, _)
+        | ExprKind::Bump(_, _)
+        | ExprKind::Call(_, _)
+        | ExprKind::Cast(_, _)
+        | ExprKind::SizeOfType(_)
+        | ExprKind::SizeOfExpr(_) => Ok(MonExpr::Constant(MonType::I32, 0)),
     }
 }

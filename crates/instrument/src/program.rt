@@ -68,9 +68,14 @@ fn items_of(f: &Func) -> &[Item]
     match &f.body {
         Some(body) => match &body.kind {
             StmtKind::Block(items) => items,
-            StmtKind::Eval(_)
+            StmtKind::Empty
+            | StmtKind::Eval(_)
             | StmtKind::If(_, _, _)
             | StmtKind::While(_, _, _)
+            | StmtKind::Do(_, _)
+            | StmtKind::For(_, _, _, _, _)
+            | StmtKind::Break
+            | StmtKind::Continue
             | StmtKind::Return(_) => &[],
         },
         None => &[],

@@ -50,9 +50,17 @@ fn assign(alloc: Global, left: &Expr, right: &Expr, to: &mut Vec<MonStmt>) -> Re
         ExprKind::Variable(x) => set(alloc, x.name, right, to),
         ExprKind::Number(_, _)
         | ExprKind::Letter(_)
+        | ExprKind::Unary(_, _)
         | ExprKind::Binary(_, _, _)
+        | ExprKind::Both(_, _)
+        | ExprKind::Either(_, _)
+        | ExprKind::Choice(_, _, _)
         | ExprKind::Assign(_, _, _)
-        | ExprKind::Call(_, _) => Ok(()),
+        | ExprKind::Bump(_, _)
+        | ExprKind::Call(_, _)
+        | ExprKind::Cast(_, _)
+        | ExprKind::SizeOfType(_)
+        | ExprKind::SizeOfExpr(_) => Ok(()),
     }
 }
 
@@ -81,7 +89,15 @@ fn effect(alloc: Global, e: &Expr, to: &mut Vec<MonStmt>) -> Result<(), AllocErr
         ExprKind::Number(_, _)
         | ExprKind::Letter(_)
         | ExprKind::Variable(_)
-        | ExprKind::Binary(_, _, _) => Ok(()),
+        | ExprKind::Unary(_, _)
+        | ExprKind::Binary(_, _, _)
+        | ExprKind::Both(_, _)
+        | ExprKind::Either(_, _)
+        | ExprKind::Choice(_, _, _)
+        | ExprKind::Bump(_, _)
+        | ExprKind::Cast(_, _)
+        | ExprKind::SizeOfType(_)
+        | ExprKind::SizeOfExpr(_) => Ok(()),
     }
 }
 
@@ -134,7 +150,8 @@ fn repeat(
     Ok(MonStmt::Labelled(turns, label_name(alloc, loops)?))
 }
 
-/// Translates a statement around which stand so many loops, behind the statements that are there.
+/// Translates a statement around which stand so many loops, behind the statements that are there. What
+/// accepted programs don't have is not translated.
 #[cycle(statement)]
 pub fn statement(
     alloc: Global,
@@ -173,6 +190,11 @@ pub fn statement(
             }
             None => Ok(()),
         },
+        StmtKind::Empty => Ok(()),
+        StmtKind::Do(_, _) => Ok(()),
+        StmtKind::For(_, _, _, _, _) => Ok(()),
+        StmtKind::Break => Ok(()),
+        StmtKind::Continue => Ok(()),
     }
 }
 

@@ -2,7 +2,7 @@
 use Rattle.std.proofs.Common.{◌≡◌, ℕ, ◌+◌, ◌-◌, ℤ, pos, Bool, true, false, nat_lt, if◌then◌else◌, Some, refl, ap, subst}
 use Rattle.c_syntax.specs.declared.types.Segment.TheVariants.{Frames}
 use Rattle.c_syntax.specs.Programs.{TranslationUnit}
-use Rattle.c_model.specs.Memory.{Value, Integer}
+use Rattle.c_model.specs.Memory.{Value, Integer, NoValue}
 use Rattle.c_model.specs.State.{Input}
 use Rattle.c_model.specs.Meaning as source
 use Rattle.c_model.specs.Reports.{Agrees}
@@ -18,6 +18,7 @@ use Rattle.mon_syntax.proofs.Agreement.{runs_agree}
 -- a number for an integer, and as many active calls
 abbrev SameNumber : Unit {0} → Value → ℤ → Type 0
 SameNumber w (Integer z) y = z ≡ y
+SameNumber w NoValue y = ⊥
 
 abbrev SameFrames : Unit {0} → Blocks → Flat → Type 0
 SameFrames w b f = b.frames ≡ f.frames
@@ -27,9 +28,11 @@ Later u v = Unit {0}
 
 same_later : (u v : Unit {0}) (a : Value) (b : ℤ) → Later u v → SameNumber u a b → SameNumber v a b
 same_later u v (Integer z) b le h = h
+same_later u v NoValue b le h = absurd h
 
 same_number : (w : Unit {0}) (a : Value) (b : ℤ) → SameNumber w a b → Kept (λ i j. i ≡ j) (integer_of a) (Some b)
 same_number w (Integer z) b h = h
+same_number w NoValue b h = absurd h
 
 enter_alike : (w : Unit {0}) (m : Blocks) (n : Flat) → SameFrames w m n → Replied (Unit {0}) Later SameNumber SameFrames w (enter_blocks m) (enter_flat n)
 enter_alike w m n h =

@@ -1,7 +1,7 @@
 -- The two memories of monitored programs: numbered blocks, and flat bytes.
-use Rattle.std.specs.Prelude.{ℕ, ◌+◌, ◌-◌, nat_lt, if◌then◌else◌, ℤ, pos, Option, Some, []}
+use Rattle.std.specs.Prelude.{ℕ, ◌+◌, ◌-◌, nat_lt, if◌then◌else◌, ℤ, pos, Option, Some, None, []}
 use Rattle.c_syntax.specs.declared.types.Segment.TheVariants.{Frames}
-use Rattle.c_model.specs.Memory.{Value, Integer, Store}
+use Rattle.c_model.specs.Memory.{Value, Integer, NoValue, Store}
 use Rattle.c_model.specs.State.{Input}
 use Rattle.c_model.specs.Meaning.{Ran}
 use Rattle.mon_syntax.specs.Trees.{MonitoredProgram}
@@ -21,6 +21,7 @@ pub record Blocks : Type 0 where
 
 abbrev pub integer_of : Value → Option ℤ
 integer_of (Integer z) = Some z
+integer_of NoValue = None
 
 abbrev pub enter_blocks : Blocks → Reply Blocks Value
 enter_blocks b = if nat_lt b.frames most_frames then Gives (Integer (pos 0)) (record b { frames = b.frames + 1 }) else IsFull Frames

@@ -1,4 +1,4 @@
-use Rattle.std.proofs.Common.{subst, sym, ◌≡◌, ap, ◌∙◌}
+use Rattle.std.proofs.Common.{subst, sym, ◌≡◌, refl, ap, ◌∙◌}
 use Rattle.c_syntax.specs.declared.statement.Item.{Declare, Run, Asserts}
 use Rattle.c_syntax.specs.declared.statement.Item.TheBlock.{back-StmtKind-If-2}
 use Rattle.c_syntax.specs.Statements.{plain_else, plain_items}
@@ -6,7 +6,7 @@ use Rattle.mon_syntax.specs.Trees.{plain_stmts}
 use Rattle.instrument.specs.Limits.{HaveNumbers}
 use Rattle.instrument.specs.Translation.{else_part, items}
 use Rattle.instrument.proofs.Sequences.{left_at, none_left, more, all_there, nothing}
-use Rattle.instrument.proofs.Trees.{same_code, of_block, numbers_of_block, of_return_none, of_if, else_some, else_none}
+use Rattle.instrument.proofs.Trees.{same_code, of_block, numbers_of_block, of_other, of_return_none, of_if, else_some, else_none}
 use Rattle.instrument.proofs.statement.+statement.Goals as goal
 use Rattle.instrument.proofs.statement.+statement.Goals.{block_items-in-Declare+in_ok-initialise_all-in-Declare, block_items-in-Run+in_ok-statement-in-Run, block_items-in-Asserts+in_ok-assertions-in-Asserts, statement-in-Some+in_ok-statement-in-If-2, statement-in_default}
 
@@ -61,6 +61,21 @@ statement-returns-after-b-clause-code t c =
 
 pub statement-returns-in-None-clause-code : goal.statement-returns-in-None-clause-code
 statement-returns-in-None-clause-code t c = nothing _ _ (of_return_none c.args.loops c.args.s.now c.in-Return.value c.in-Return.is c.in-None.is)
+
+pub statement-returns-in-Empty-clause-code : goal.statement-returns-in-Empty-clause-code
+statement-returns-in-Empty-clause-code t c = nothing _ _ (of_other c.args.loops c.args.s.now _ c.in-Empty.is refl)
+
+pub statement-returns-in-Do-clause-code : goal.statement-returns-in-Do-clause-code
+statement-returns-in-Do-clause-code t c = nothing _ _ (of_other c.args.loops c.args.s.now _ c.in-Do.is refl)
+
+pub statement-returns-in-For-clause-code : goal.statement-returns-in-For-clause-code
+statement-returns-in-For-clause-code t c = nothing _ _ (of_other c.args.loops c.args.s.now _ c.in-For.is refl)
+
+pub statement-returns-in-Break-clause-code : goal.statement-returns-in-Break-clause-code
+statement-returns-in-Break-clause-code t c = nothing _ _ (of_other c.args.loops c.args.s.now _ c.in-Break.is refl)
+
+pub statement-returns-in-Continue-clause-code : goal.statement-returns-in-Continue-clause-code
+statement-returns-in-Continue-clause-code t c = nothing _ _ (of_other c.args.loops c.args.s.now _ c.in-Continue.is refl)
 
 pub statement-returns-in-Block-clause-numbered : goal.statement-returns-in-Block-clause-numbered
 statement-returns-in-Block-clause-numbered t c =
