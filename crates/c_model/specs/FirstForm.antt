@@ -229,8 +229,12 @@ expr = knot expr_of
 abbrev pub most_in_expression : ℕ
 most_in_expression = 400
 
+-- the label of that limit
+abbrev pub expression_limit : ℕ
+expression_limit = 0
+
 unfoldable pub full_expr : Scope → Syntax Token Expression
-full_expr s = at_most most_in_expression (expr s)
+full_expr s = at_most expression_limit most_in_expression (expr s)
 
 -- ---- annotations (ACSL); E stands for a sum
 
@@ -282,7 +286,7 @@ unfoldable pub assert_clause : Scope → ℕ → Syntax Token Annotation
 assert_clause s n = fixed Assert then λ at. term s then λ left. one (placed relation_of) then λ r. term s then λ right. fixed Semicolon then λ _. gives (assertion n at left r right)
 
 unfoldable pub full_clause : Scope → ℕ → Syntax Token Annotation
-full_clause s n = at_most most_in_expression (assert_clause s n)
+full_clause s n = at_most expression_limit most_in_expression (assert_clause s n)
 
 -- annotations are numbered from 1 in text order: each production takes the next number, and gives the one behind
 unfoldable pub annotation : Scope → ℕ → Syntax Token (BlockItem × ℕ)

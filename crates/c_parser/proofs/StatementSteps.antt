@@ -12,7 +12,7 @@ use Rattle.c_syntax.specs.Expressions.{Expression}
 use Rattle.c_syntax.specs.Statements.{Statement, BlockItem, If, NoElse, Else, While, Run}
 use Rattle.c_model.specs.declared.first_tokens.Token.{Token}
 use Rattle.c_model.specs.declared.first_tokens.Lexeme.TheVariants as lexeme
-use Rattle.c_model.specs.FirstForm.{Scope, Numbered, kind, lexeme_kind, name_kind, first_statement, first_item, most_in_expression, expr, full_expr, full_clause, annotation, assignment, output, return_statement, condition, is_open, else_branch, else_part, selection, iteration, item, items_once, items, block, statement_of, statement_in}
+use Rattle.c_model.specs.FirstForm.{Scope, Numbered, kind, lexeme_kind, name_kind, first_statement, first_item, most_in_expression, expression_limit, expr, full_expr, full_clause, annotation, assignment, output, return_statement, condition, is_open, else_branch, else_part, selection, iteration, item, items_once, items, block, statement_of, statement_in}
 use Rattle.c_parser.specs.Reading.{is_fault}
 use Rattle.c_parser.proofs.Terminal.{fixed_good, variable_good}
 use Rattle.c_parser.proofs.Expressions.{first_expr, more_expr, expr_exact}
@@ -21,14 +21,14 @@ use Rattle.c_parser.proofs.Turns.{fault_is}
 
 pub full_expr_exact : (s : Scope) → IsExact kind (full_expr s) false first_expr (λ _. more_expr)
 unfolding full_expr
-full_expr_exact s = at_most_exact kind most_in_expression (expr s) false first_expr (λ _. more_expr) (expr_exact s)
+full_expr_exact s = at_most_exact kind expression_limit most_in_expression (expr s) false first_expr (λ _. more_expr) (expr_exact s)
 
 full_expr_good : {n : ℕ} (s : Scope) → IsGood kind n (full_expr s) (full_expr s) false first_expr (λ _. more_expr)
 full_expr_good s = same (full_expr_exact s)
 
 full_clause_good : {m : ℕ} (s : Scope) (n : ℕ) → IsGood kind m (full_clause s n) (full_clause s n) false (lexeme_kind lexeme.Assert ∷ []) (λ _. [])
 unfolding full_clause
-full_clause_good s n = same (at_most_exact kind most_in_expression _ false (lexeme_kind lexeme.Assert ∷ []) (λ _. []) (assert_clause_exact s n))
+full_clause_good s n = same (at_most_exact kind expression_limit most_in_expression _ false (lexeme_kind lexeme.Assert ∷ []) (λ _. []) (assert_clause_exact s n))
 
 annotation_good : {m : ℕ} (s : Scope) (n : ℕ) → IsGood kind m (annotation s n) (annotation s n) false (lexeme_kind lexeme.AnnotOpen ∷ []) (λ _. [])
 unfolding annotation

@@ -49,7 +49,7 @@ split_rest ts a b r s p q l = (split_same a b r s (sym p ∙ q) l).1
 
 module _ {T : Type 0} (K : T → ℕ) where
   pub same_good : {A : Type 0} (n : ℕ) (G : Syntax T A) (null : Bool) (first : List ℕ) (more : A → List ℕ) → IsExact K G null first more → IsGood K n G G null first more
-  same_good n G null first more g = record { here = g; there = g; reads = λ a x r. r; begun = λ a b. b; late = λ a t l. l; agree = λ ts h. refl; reads_back = λ a x lt r. r; begun_back = λ a lt b. b; late_back = λ a t lt l. l }
+  same_good n G null first more g = record { here = g; there = g; reads = λ a x r. r; begun = λ a b. b; late = λ i a t l. l; agree = λ ts h. refl; reads_back = λ a x lt r. r; begun_back = λ a lt b. b; late_back = λ i a t lt l. l }
 
   pub rest_below : {A : Type 0} (G : Syntax T A) (first : List ℕ) (more : A → List ℕ) → IsExact K G false first more → (ts : List T) (x : A) (front rest : List T) → ts ≡ front ++ rest → G.reads front x → length rest < length ts
   rest_below G first more g ts x [] rest e r = absurd (let f = g.filled x r in cc)
@@ -63,9 +63,9 @@ module _ {T : Type 0} (K : T → ℕ) where
     then_begun_back m k p q s a lt w (inl b) = inl (q a lt b)
     then_begun_back m k p q s a lt w (inr r) = let l = w r.0 r.1 r.2 r.3 r.4 in inr (r.0, r.1, r.2, r.3, p r.0 r.2 l.0 r.4, s r.2 r.1 l.1 r.5)
 
-    then_late_back : (m k : ℕ) → ((a : List T) (x : A) → length a < m → G'.reads a x → G.reads a x) → ((a : List T) (t : T) → suc (length a) < m → G'.late a t → G.late a t) → ((x : A) (a : List T) (t : T) → suc (length a) < k → (H' x).late a t → (H x).late a t) → (a : List T) (t : T) → suc (length a) < m → ((b c : List T) (x : A) → a ≡ b ++ c → G'.reads b x → (length b < m) × (suc (length c) < k)) → (G' then H').late a t → (G then H).late a t
-    then_late_back m k p q s a t lt w (inl b) = inl (q a t lt b)
-    then_late_back m k p q s a t lt w (inr r) = let l = w r.0 r.1 r.2 r.3 r.4 in inr (r.0, r.1, r.2, r.3, p r.0 r.2 l.0 r.4, s r.2 r.1 t l.1 r.5)
+    then_late_back : (m k : ℕ) → ((a : List T) (x : A) → length a < m → G'.reads a x → G.reads a x) → ((i : ℕ) (a : List T) (t : T) → suc (length a) < m → G'.late i a t → G.late i a t) → ((x : A) (i : ℕ) (a : List T) (t : T) → suc (length a) < k → (H' x).late i a t → (H x).late i a t) → (i : ℕ) (a : List T) (t : T) → suc (length a) < m → ((b c : List T) (x : A) → a ≡ b ++ c → G'.reads b x → (length b < m) × (suc (length c) < k)) → (G' then H').late i a t → (G then H).late i a t
+    then_late_back m k p q s i a t lt w (inl b) = inl (q i a t lt b)
+    then_late_back m k p q s i a t lt w (inr r) = let l = w r.0 r.1 r.2 r.3 r.4 in inr (r.0, r.1, r.2, r.3, p r.0 r.2 l.0 r.4, s r.2 i r.1 t l.1 r.5)
 
     then_reads : ((a : List T) (x : A) → G.reads a x → G'.reads a x) → ((x : A) (a : List T) (y : B) → (H x).reads a y → (H' x).reads a y) → (a : List T) (y : B) → (G then H).reads a y → (G' then H').reads a y
     then_reads p q a y r = (r.0, r.1, r.2, r.3, p r.0 r.2 r.4, q r.2 r.1 y r.5)
@@ -74,9 +74,9 @@ module _ {T : Type 0} (K : T → ℕ) where
     then_begun p q s a (inl b) = inl (q a b)
     then_begun p q s a (inr r) = inr (r.0, r.1, r.2, r.3, p r.0 r.2 r.4, s r.2 r.1 r.5)
 
-    then_late : ((a : List T) (x : A) → G.reads a x → G'.reads a x) → ((a : List T) (t : T) → G.late a t → G'.late a t) → ((x : A) (a : List T) (t : T) → (H x).late a t → (H' x).late a t) → (a : List T) (t : T) → (G then H).late a t → (G' then H').late a t
-    then_late p q s a t (inl b) = inl (q a t b)
-    then_late p q s a t (inr r) = inr (r.0, r.1, r.2, r.3, p r.0 r.2 r.4, s r.2 r.1 t r.5)
+    then_late : ((a : List T) (x : A) → G.reads a x → G'.reads a x) → ((i : ℕ) (a : List T) (t : T) → G.late i a t → G'.late i a t) → ((x : A) (i : ℕ) (a : List T) (t : T) → (H x).late i a t → (H' x).late i a t) → (i : ℕ) (a : List T) (t : T) → (G then H).late i a t → (G' then H').late i a t
+    then_late p q s i a t (inl b) = inl (q i a t b)
+    then_late p q s i a t (inr r) = inr (r.0, r.1, r.2, r.3, p r.0 r.2 r.4, s r.2 i r.1 t r.5)
 
     pub then_good : IsGood K n G G' n1 f1 m1 → ((x : A) → IsGood K n (H x) (H' x) n2 (f2 x) (m2 x)) → IsGood K n (G then H) (G' then H') null first more
     then_good g h = record {
@@ -91,7 +91,7 @@ module _ {T : Type 0} (K : T → ℕ) where
           (h x.0).agree x.1 (omega arith)));
       reads_back = λ a y lt. then_reads_back n n g.reads_back (λ x. (h x).reads_back) a y (λ b c x e r. let l = front_within a b c e in (omega arith, omega arith));
       begun_back = λ a lt. then_begun_back n n g.reads_back g.begun_back (λ x. (h x).begun_back) a lt (λ b c x e r. let l = front_within a b c e in (omega arith, omega arith));
-      late_back = λ a t lt. then_late_back n n g.reads_back g.late_back (λ x. (h x).late_back) a t lt (λ b c x e r. let l = front_within a b c e in (omega arith, omega arith));
+      late_back = λ i a t lt. then_late_back n n g.reads_back g.late_back (λ x. (h x).late_back) i a t lt (λ b c x e r. let l = front_within a b c e in (omega arith, omega arith));
     }
 
   -- behind at least one token the bound is one less
@@ -109,7 +109,7 @@ module _ {T : Type 0} (K : T → ℕ) where
           (h x.0).agree x.1 (omega arith)));
       reads_back = λ a y lt. then_reads_back n G G' H H' false f1 m1 n2 f2 m2 false first more R ends ends' fit (suc n) n g.reads_back (λ x. (h x).reads_back) a y (λ b c x e r. let less = rest_below G' f1 m1 g.there a x b c e r in let l = front_within a b c e in (omega arith, omega arith));
       begun_back = λ a lt. then_begun_back n G G' H H' false f1 m1 n2 f2 m2 false first more R ends ends' fit (suc n) n g.reads_back g.begun_back (λ x. (h x).begun_back) a lt (λ b c x e r. let less = rest_below G' f1 m1 g.there a x b c e r in let l = front_within a b c e in (omega arith, omega arith));
-      late_back = λ a t lt. then_late_back n G G' H H' false f1 m1 n2 f2 m2 false first more R ends ends' fit (suc n) n g.reads_back g.late_back (λ x. (h x).late_back) a t lt (λ b c x e r. let less = rest_below G' f1 m1 g.there a x b c e r in let l = front_within a b c e in (omega arith, omega arith));
+      late_back = λ i a t lt. then_late_back n G G' H H' false f1 m1 n2 f2 m2 false first more R ends ends' fit (suc n) n g.reads_back g.late_back (λ x. (h x).late_back) i a t lt (λ b c x e r. let less = rest_below G' f1 m1 g.there a x b c e r in let l = front_within a b c e in (omega arith, omega arith));
     }
 
   module _ {A : Type 0} (n : ℕ) (ks : List ℕ) (G G' H H' : Syntax T A) (n1 : Bool) (f1 : List ℕ) (m1 : A → List ℕ) (n2 : Bool) (f2 : List ℕ) (m2 : A → List ℕ) (null : Bool) (first : List ℕ) (more : A → List ℕ) (R : A → Type 0) (ends : (x : A) → H.reads [] x → R x) (ends' : (x : A) → H'.reads [] x → R x) (fit : ChoiceFits A R ks n1 f1 m1 n2 f2 m2 null first more) where
@@ -121,9 +121,9 @@ module _ {T : Type 0} (K : T → ℕ) where
     choice_begun_back p q a lt (inl r) = inl (p a lt r)
     choice_begun_back p q a lt (inr r) = inr (q a lt r)
 
-    choice_late_back : ((a : List T) (t : T) → suc (length a) < n → G'.late a t → G.late a t) → ((a : List T) (t : T) → suc (length a) < n → H'.late a t → H.late a t) → (a : List T) (t : T) → suc (length a) < n → (choice K ks G' H').late a t → (choice K ks G H).late a t
-    choice_late_back p q a t lt (inl r) = inl (p a t lt r)
-    choice_late_back p q a t lt (inr r) = inr (q a t lt r)
+    choice_late_back : ((i : ℕ) (a : List T) (t : T) → suc (length a) < n → G'.late i a t → G.late i a t) → ((i : ℕ) (a : List T) (t : T) → suc (length a) < n → H'.late i a t → H.late i a t) → (i : ℕ) (a : List T) (t : T) → suc (length a) < n → (choice K ks G' H').late i a t → (choice K ks G H).late i a t
+    choice_late_back p q i a t lt (inl r) = inl (p i a t lt r)
+    choice_late_back p q i a t lt (inr r) = inr (q i a t lt r)
 
     choice_reads : ((a : List T) (x : A) → G.reads a x → G'.reads a x) → ((a : List T) (x : A) → H.reads a x → H'.reads a x) → (a : List T) (x : A) → (choice K ks G H).reads a x → (choice K ks G' H').reads a x
     choice_reads p q a x (inl r) = inl (p a x r)
@@ -133,9 +133,9 @@ module _ {T : Type 0} (K : T → ℕ) where
     choice_begun p q a (inl r) = inl (p a r)
     choice_begun p q a (inr r) = inr (q a r)
 
-    choice_late : ((a : List T) (t : T) → G.late a t → G'.late a t) → ((a : List T) (t : T) → H.late a t → H'.late a t) → (a : List T) (t : T) → (choice K ks G H).late a t → (choice K ks G' H').late a t
-    choice_late p q a t (inl r) = inl (p a t r)
-    choice_late p q a t (inr r) = inr (q a t r)
+    choice_late : ((i : ℕ) (a : List T) (t : T) → G.late i a t → G'.late i a t) → ((i : ℕ) (a : List T) (t : T) → H.late i a t → H'.late i a t) → (i : ℕ) (a : List T) (t : T) → (choice K ks G H).late i a t → (choice K ks G' H').late i a t
+    choice_late p q i a t (inl r) = inl (p i a t r)
+    choice_late p q i a t (inr r) = inr (q i a t r)
 
     pub choice_good : IsGood K n G G' n1 f1 m1 → IsGood K n H H' n2 f2 m2 → IsGood K n (choice K ks G H) (choice K ks G' H') null first more
     choice_good g h = record {
@@ -161,9 +161,9 @@ module _ {T : Type 0} (K : T → ℕ) where
     begun_up zero j a b = b
     begun_up (suc d) j a b = (good (up d j)).begun a (begun_up d j a b)
 
-    late_up : (d j : ℕ) (a : List T) (t : T) → (F j).late a t → (F (up d j)).late a t
-    late_up zero j a t b = b
-    late_up (suc d) j a t b = (good (up d j)).late a t (late_up d j a t b)
+    late_up : (d j i : ℕ) (a : List T) (t : T) → (F j).late i a t → (F (up d j)).late i a t
+    late_up zero j i a t b = b
+    late_up (suc d) j i a t b = (good (up d j)).late i a t (late_up d j i a t b)
 
     agree_up : (d j : ℕ) (ts : List T) → length ts < j → (F j).parse ts ≡ (F (up d j)).parse ts
     agree_up zero j ts lt = refl
@@ -178,8 +178,8 @@ module _ {T : Type 0} (K : T → ℕ) where
     pub begun_le : (j k : ℕ) (a : List T) → j ≤ k → (F j).begun a → (F k).begun a
     begun_le j k a le r = subst (λ (m : ℕ). (F m).begun a) (up_to j k le) (begun_up (k - j) j a r)
 
-    pub late_le : (j k : ℕ) (a : List T) (t : T) → j ≤ k → (F j).late a t → (F k).late a t
-    late_le j k a t le r = subst (λ (m : ℕ). (F m).late a t) (up_to j k le) (late_up (k - j) j a t r)
+    pub late_le : (j k i : ℕ) (a : List T) (t : T) → j ≤ k → (F j).late i a t → (F k).late i a t
+    late_le j k i a t le r = subst (λ (m : ℕ). (F m).late i a t) (up_to j k le) (late_up (k - j) j i a t r)
 
     pub agree_le : (j k : ℕ) (ts : List T) → length ts < j → j ≤ k → (F j).parse ts ≡ (F k).parse ts
     agree_le j k ts lt le = agree_up (k - j) j ts lt ∙ ap (λ (m : ℕ). (F m).parse ts) (up_to j k le)
@@ -192,9 +192,9 @@ module _ {T : Type 0} (K : T → ℕ) where
     begun_down zero j a lt r = r
     begun_down (suc d) j a lt r = begun_down d j a lt ((good (up d j)).begun_back a (omega (arith, up_is d j)) r)
 
-    late_down : (d j : ℕ) (a : List T) (t : T) → suc (length a) < j → (F (up d j)).late a t → (F j).late a t
-    late_down zero j a t lt r = r
-    late_down (suc d) j a t lt r = late_down d j a t lt ((good (up d j)).late_back a t (omega (arith, up_is d j)) r)
+    late_down : (d j i : ℕ) (a : List T) (t : T) → suc (length a) < j → (F (up d j)).late i a t → (F j).late i a t
+    late_down zero j i a t lt r = r
+    late_down (suc d) j i a t lt r = late_down d j i a t lt ((good (up d j)).late_back i a t (omega (arith, up_is d j)) r)
 
     -- what is read at any bound is read at one above its number of tokens
     reads_of : (k : ℕ) (a : List T) (x : A) → length a < k → (limit F).reads a x → (F k).reads a x
@@ -203,8 +203,8 @@ module _ {T : Type 0} (K : T → ℕ) where
     begun_of : (k : ℕ) (a : List T) → length a < k → (limit F).begun a → (F k).begun a
     begun_of k a lt r = begun_down r.0 k a lt (subst (λ (m : ℕ). (F m).begun a) (sym (up_is r.0 k)) (begun_le r.0 (r.0 + k) a (omega arith) r.1))
 
-    late_of : (k : ℕ) (a : List T) (t : T) → suc (length a) < k → (limit F).late a t → (F k).late a t
-    late_of k a t lt r = late_down r.0 k a t lt (subst (λ (m : ℕ). (F m).late a t) (sym (up_is r.0 k)) (late_le r.0 (r.0 + k) a t (omega arith) r.1))
+    late_of : (k i : ℕ) (a : List T) (t : T) → suc (length a) < k → (limit F).late i a t → (F k).late i a t
+    late_of k i a t lt r = late_down r.0 k i a t lt (subst (λ (m : ℕ). (F m).late i a t) (sym (up_is r.0 k)) (late_le r.0 (r.0 + k) i a t (omega arith) r.1))
 
     -- the bound of a text, and a larger one
     pub agree_of : (k : ℕ) (ts : List T) → length ts < k → (limit F).parse ts ≡ (F k).parse ts
@@ -241,9 +241,9 @@ module _ {T : Type 0} (K : T → ℕ) where
               agree_of m (t.front ++ u) (omega arith) ∙ subst (λ (w : List T). (F m).parse (w ++ u) ≡ Err (At (length u))) same (t2.local u (rw rest s));
         }
 
-    limit_overs : (ts : List T) (n : ℕ) → (limit F).parse ts ≡ Err (Over n) → Overs (limit F).parse (limit F).late ts n
-    limit_overs ts n e =
-        let t = (good (suc (length ts))).here.overs ts n e in
+    limit_overs : (ts : List T) (i n : ℕ) → (limit F).parse ts ≡ Err (Over i n) → Overs (limit F).parse (limit F).late ts i n
+    limit_overs ts i n e =
+        let t = (good (suc (length ts))).here.overs ts i n e in
         record {
           front = t.front;
           token = t.token;
@@ -253,11 +253,11 @@ module _ {T : Type 0} (K : T → ℕ) where
           is = (suc (length ts), t.is);
           local = λ u.
               let m = suc (length ts) + suc (length (t.front ++ (t.token ∷ u))) in
-              let t2 = (good m).here.overs ts n (sym (agree_of m ts (omega arith)) ∙ e) in
+              let t2 = (good m).here.overs ts i n (sym (agree_of m ts (omega arith)) ∙ e) in
               let same : t2.front ≡ t.front = split_front ts t2.front t.front (t2.token ∷ t2.rest) (t.token ∷ t.rest) t2.parts t.parts (sym t2.left ∙ t.left) in
               let rest : t2.token ∷ t2.rest ≡ t.token ∷ t.rest = split_rest ts t2.front t.front (t2.token ∷ t2.rest) (t.token ∷ t.rest) t2.parts t.parts (sym t2.left ∙ t.left) in
               let token : t2.token ≡ t.token = cc in
-              agree_of m (t.front ++ (t.token ∷ u)) (omega arith) ∙ subst (λ (w : List T). (F m).parse (w ++ (t.token ∷ u)) ≡ Err (Over (suc (length u)))) same (subst (λ (v : T). (F m).parse (t2.front ++ (v ∷ u)) ≡ Err (Over (suc (length u)))) token (t2.local u));
+              agree_of m (t.front ++ (t.token ∷ u)) (omega arith) ∙ subst (λ (w : List T). (F m).parse (w ++ (t.token ∷ u)) ≡ Err (Over i (suc (length u)))) same (subst (λ (v : T). (F m).parse (t2.front ++ (v ∷ u)) ≡ Err (Over i (suc (length u)))) token (t2.local u));
         }
 
     limit_again : (a : List T) (x : A) (b : List T) → (limit F).reads a x → sees K (more x) b ≡ false → ((limit F).parse (a ++ b) ≡ Ok (x, b)) ⊎ Late ((limit F).parse (a ++ b)) (suc (length b))
@@ -265,10 +265,10 @@ module _ {T : Type 0} (K : T → ℕ) where
         let m = r.0 + suc (length (a ++ b)) in
         rw (agree_of m (a ++ b) (omega arith)) ((good m).here.again a x b (reads_le r.0 m a x (omega arith) r.1) s)
 
-    limit_lates : (a : List T) (t : T) (u : List T) → (limit F).late a t → Late ((limit F).parse (a ++ (t ∷ u))) (suc (length u))
-    limit_lates a t u l =
+    limit_lates : (i : ℕ) (a : List T) (t : T) (u : List T) → (limit F).late i a t → Late ((limit F).parse (a ++ (t ∷ u))) (suc (length u))
+    limit_lates i a t u l =
         let m = l.0 + suc (length (a ++ (t ∷ u))) in
-        rw (agree_of m (a ++ (t ∷ u)) (omega arith)) ((good m).here.lates a t u (late_le l.0 m a t (omega arith) l.1))
+        rw (agree_of m (a ++ (t ∷ u)) (omega arith)) ((good m).here.lates i a t u (late_le l.0 m i a t (omega arith) l.1))
 
     limit_runs : (a : List T) → (limit F).begun a → RunsOut ((limit F).parse a)
     limit_runs a b =
@@ -282,7 +282,7 @@ module _ {T : Type 0} (K : T → ℕ) where
       overs = limit_overs;
       again = limit_again;
       lates = limit_lates;
-      late_begins = λ a t l. (l.0, (good l.0).here.late_begins a t l.1);
+      late_begins = λ i a t l. (l.0, (good l.0).here.late_begins i a t l.1);
       runs = limit_runs;
       begins = λ a x r. (r.0, (good r.0).here.begins a x r.1);
       fronts = λ a b r. (r.0, (good r.0).here.fronts a b r.1);
@@ -298,7 +298,7 @@ module _ {T : Type 0} (K : T → ℕ) where
     there = limit_exact F null first more good;
     reads = λ a x r. (k, r);
     begun = λ a b. (k, b);
-    late = λ a t l. (k, l);
+    late = λ i a t l. (k, l);
     agree = λ ts lt. sym (agree_of F null first more good k ts lt);
     reads_back = reads_of F null first more good k;
     begun_back = begun_of F null first more good k;
@@ -335,7 +335,7 @@ module _ {T : Type 0} (K : T → ℕ) where
     -- one more turn
     loop_grows : (step : A → Syntax T A) → ((x : A) → IsExact K (step x) false (f x) (m x)) → (n : ℕ) (x : A) → IsGood K n (loop K n ks step x) (loop K (suc n) ks step x) true (ks x) more
     loop_grows step g zero x =
-        record { here = loop_exact ks f m more step g fit zero x; there = loop_exact ks f m more step g fit (suc zero) x; reads = r; begun = b; late = l; agree = λ ts lt. absurd (omega arith); reads_back = λ a y lt. absurd (omega arith); begun_back = λ a lt. absurd (omega arith); late_back = λ a t lt. absurd (omega arith) }
+        record { here = loop_exact ks f m more step g fit zero x; there = loop_exact ks f m more step g fit (suc zero) x; reads = r; begun = b; late = l; agree = λ ts lt. absurd (omega arith); reads_back = λ a y lt. absurd (omega arith); begun_back = λ a lt. absurd (omega arith); late_back = λ i a t lt. absurd (omega arith) }
       where
         r : (a : List T) (y : A) → (loop K zero ks step x).reads a y → (loop K (suc zero) ks step x).reads a y
         r a y (inl h) = absurd h
@@ -345,9 +345,9 @@ module _ {T : Type 0} (K : T → ℕ) where
         b a (inl h) = inr h
         b a (inr h) = inr h
 
-        l : (a : List T) (t : T) → (loop K zero ks step x).late a t → (loop K (suc zero) ks step x).late a t
-        l a t (inl h) = absurd h
-        l a t (inr h) = inr h
+        l : (i : ℕ) (a : List T) (t : T) → (loop K zero ks step x).late i a t → (loop K (suc zero) ks step x).late i a t
+        l i a t (inl h) = absurd h
+        l i a t (inr h) = inr h
     loop_grows step g (suc n) x =
         let once = after_good n (step x) (step x) (λ y. loop K n ks step y) (λ y. loop K (suc n) ks step y) (f x) (m x) true ks (λ _ z. more z) (f x) more (λ y z. y ≡ z) (turns ks f m step g n) (turns ks f m step g (suc n)) (loop_once ks f m more x fit) (same_good (suc n) (step x) false (f x) (m x) (g x)) (λ y. loop_grows step g n y) in
         choice_good (suc n) (ks x) (step x then λ y. loop K n ks step y) (step x then λ y. loop K (suc n) ks step y) (gives x) (gives x) false (f x) more true [] (λ y. []) true (ks x) more (λ y. x ≡ y) (λ y r. r.1) (λ y r. r.1) (loop_more ks f m more x fit) once (same_good (suc n) (gives x) true [] (λ y. []) (gives_exact K x))
@@ -377,11 +377,11 @@ module _ {T : Type 0} (K : T → ℕ) where
           there = many_exact step' (λ y. (g y).there) x;
           reads = λ a y r. (r.0, (loop_good step step' k g r.0 x).reads a y r.1);
           begun = λ a r. (r.0, (loop_good step step' k g r.0 x).begun a r.1);
-          late = λ a t r. (r.0, (loop_good step step' k g r.0 x).late a t r.1);
+          late = λ i a t r. (r.0, (loop_good step step' k g r.0 x).late i a t r.1);
           agree = λ ts lt. (loop_good step step' k g (suc (length ts)) x).agree ts lt;
           reads_back = λ a y lt r. (r.0, (loop_good step step' k g r.0 x).reads_back a y lt r.1);
           begun_back = λ a lt r. (r.0, (loop_good step step' k g r.0 x).begun_back a lt r.1);
-          late_back = λ a t lt r. (r.0, (loop_good step step' k g r.0 x).late_back a t lt r.1);
+          late_back = λ i a t lt r. (r.0, (loop_good step step' k g r.0 x).late_back i a t lt r.1);
         }
 
     -- a repetition goes on as its first turn says

@@ -26,16 +26,16 @@ module _ {T : Type 0} (K : T → ℕ) {A B : Type 0} (ks js : List ℕ) (U : Syn
   apart_begun_back a (inr (inl s)) = inl s
   apart_begun_back a (inr (inr (b, c, x, e, r, s))) = inr (b, c, x, e, r, inr s)
 
-  apart_late : (a : List T) (t : T) → (U then λ u. choice K ks (X u) (Y u)).late a t → (choice K js (U then X) (U then Y)).late a t
-  apart_late a t (inl s) = inl (inl s)
-  apart_late a t (inr (b, c, x, e, r, inl s)) = inl (inr (b, c, x, e, r, s))
-  apart_late a t (inr (b, c, x, e, r, inr s)) = inr (inr (b, c, x, e, r, s))
+  apart_late : (i : ℕ) (a : List T) (t : T) → (U then λ u. choice K ks (X u) (Y u)).late i a t → (choice K js (U then X) (U then Y)).late i a t
+  apart_late i a t (inl s) = inl (inl s)
+  apart_late i a t (inr (b, c, x, e, r, inl s)) = inl (inr (b, c, x, e, r, s))
+  apart_late i a t (inr (b, c, x, e, r, inr s)) = inr (inr (b, c, x, e, r, s))
 
-  apart_late_back : (a : List T) (t : T) → (choice K js (U then X) (U then Y)).late a t → (U then λ u. choice K ks (X u) (Y u)).late a t
-  apart_late_back a t (inl (inl s)) = inl s
-  apart_late_back a t (inl (inr (b, c, x, e, r, s))) = inr (b, c, x, e, r, inl s)
-  apart_late_back a t (inr (inl s)) = inl s
-  apart_late_back a t (inr (inr (b, c, x, e, r, s))) = inr (b, c, x, e, r, inr s)
+  apart_late_back : (i : ℕ) (a : List T) (t : T) → (choice K js (U then X) (U then Y)).late i a t → (U then λ u. choice K ks (X u) (Y u)).late i a t
+  apart_late_back i a t (inl (inl s)) = inl s
+  apart_late_back i a t (inl (inr (b, c, x, e, r, s))) = inr (b, c, x, e, r, inl s)
+  apart_late_back i a t (inr (inl s)) = inl s
+  apart_late_back i a t (inr (inr (b, c, x, e, r, s))) = inr (b, c, x, e, r, inr s)
 
   pub said_apart : Same (U then λ u. choice K ks (X u) (Y u)) (choice K js (U then X) (U then Y))
   said_apart = record { reads = apart_reads; reads_back = apart_reads_back; begun = apart_begun; begun_back = apart_begun_back; late = apart_late; late_back = apart_late_back }
@@ -58,15 +58,15 @@ module _ {T : Type 0} {A B C : Type 0} (U : Syntax T A) (P : A → Syntax T B) (
   left_begun_back a (inl (inr (b, c, x, e, r, s))) = inr (b, c, x, e, r, inl s)
   left_begun_back a (inr (b, c, y, e, (d, f, x, e2, r, s), t)) = inr (d, f ++ c, x, e ∙ ap (λ (w : List T). w ++ c) e2 ∙ append_assoc d f c, r, inr (f, c, y, refl, s, t))
 
-  left_late : (a : List T) (t : T) → (U then λ u. P u then Q).late a t → ((U then P) then Q).late a t
-  left_late a t (inl s) = inl (inl s)
-  left_late a t (inr (b, c, x, e, r, inl s)) = inl (inr (b, c, x, e, r, s))
-  left_late a t (inr (b, c, x, e, r, inr (d, f, y, e2, s, l))) = inr (b ++ d, f, y, e ∙ ap (λ (w : List T). b ++ w) e2 ∙ sym (append_assoc b d f), (b, d, x, refl, r, s), l)
+  left_late : (i : ℕ) (a : List T) (t : T) → (U then λ u. P u then Q).late i a t → ((U then P) then Q).late i a t
+  left_late i a t (inl s) = inl (inl s)
+  left_late i a t (inr (b, c, x, e, r, inl s)) = inl (inr (b, c, x, e, r, s))
+  left_late i a t (inr (b, c, x, e, r, inr (d, f, y, e2, s, l))) = inr (b ++ d, f, y, e ∙ ap (λ (w : List T). b ++ w) e2 ∙ sym (append_assoc b d f), (b, d, x, refl, r, s), l)
 
-  left_late_back : (a : List T) (t : T) → ((U then P) then Q).late a t → (U then λ u. P u then Q).late a t
-  left_late_back a t (inl (inl s)) = inl s
-  left_late_back a t (inl (inr (b, c, x, e, r, s))) = inr (b, c, x, e, r, inl s)
-  left_late_back a t (inr (b, c, y, e, (d, f, x, e2, r, s), l)) = inr (d, f ++ c, x, e ∙ ap (λ (w : List T). w ++ c) e2 ∙ append_assoc d f c, r, inr (f, c, y, refl, s, l))
+  left_late_back : (i : ℕ) (a : List T) (t : T) → ((U then P) then Q).late i a t → (U then λ u. P u then Q).late i a t
+  left_late_back i a t (inl (inl s)) = inl s
+  left_late_back i a t (inl (inr (b, c, x, e, r, s))) = inr (b, c, x, e, r, inl s)
+  left_late_back i a t (inr (b, c, y, e, (d, f, x, e2, r, s), l)) = inr (d, f ++ c, x, e ∙ ap (λ (w : List T). w ++ c) e2 ∙ append_assoc d f c, r, inr (f, c, y, refl, s, l))
 
   pub to_left : Same (U then λ u. P u then Q) ((U then P) then Q)
   to_left = record { reads = left_reads; reads_back = left_reads_back; begun = left_begun; begun_back = left_begun_back; late = left_late; late_back = left_late_back }
@@ -80,9 +80,9 @@ module _ {T : Type 0} (K : T → ℕ) {A : Type 0} (ks js : List ℕ) where
   parts_begun G G' H H' f g a (inl r) = inl (f a r)
   parts_begun G G' H H' f g a (inr r) = inr (g a r)
 
-  parts_late : (G G' H H' : Syntax T A) → ((a : List T) (t : T) → G.late a t → G'.late a t) → ((a : List T) (t : T) → H.late a t → H'.late a t) → (a : List T) (t : T) → (choice K ks G H).late a t → (choice K js G' H').late a t
-  parts_late G G' H H' f g a t (inl r) = inl (f a t r)
-  parts_late G G' H H' f g a t (inr r) = inr (g a t r)
+  parts_late : (G G' H H' : Syntax T A) → ((i : ℕ) (a : List T) (t : T) → G.late i a t → G'.late i a t) → ((i : ℕ) (a : List T) (t : T) → H.late i a t → H'.late i a t) → (i : ℕ) (a : List T) (t : T) → (choice K ks G H).late i a t → (choice K js G' H').late i a t
+  parts_late G G' H H' f g i a t (inl r) = inl (f i a t r)
+  parts_late G G' H H' f g i a t (inr r) = inr (g i a t r)
 
 -- alternatives are the same where their parts are, whatever the kinds that decide
 pub both_parts : {T : Type 0} (K : T → ℕ) {A : Type 0} (ks js : List ℕ) {G G' H H' : Syntax T A} → Same G G' → Same H H' → Same (choice K ks G H) (choice K js G' H')
@@ -96,13 +96,13 @@ both_parts K ks js {G} {G'} {H} {H'} g h = record {
 }
 
 pub unchanged : {T A : Type 0} (G : Syntax T A) → Same G G
-unchanged G = record { reads = λ a x r. r; reads_back = λ a x r. r; begun = λ a b. b; begun_back = λ a b. b; late = λ a t l. l; late_back = λ a t l. l }
+unchanged G = record { reads = λ a x r. r; reads_back = λ a x r. r; begun = λ a b. b; begun_back = λ a b. b; late = λ i a t l. l; late_back = λ i a t l. l }
 
 pub other_part : {T : Type 0} (K : T → ℕ) {A : Type 0} (ks js : List ℕ) (G : Syntax T A) {H H' : Syntax T A} → Same H H' → Same (choice K ks G H) (choice K js G H')
 other_part K ks js G h = both_parts K ks js (unchanged G) h
 
 pub joined : {T A : Type 0} {F G H : Syntax T A} → Same F G → Same G H → Same F H
-joined s t = record { reads = λ a x r. t.reads a x (s.reads a x r); reads_back = λ a x r. s.reads_back a x (t.reads_back a x r); begun = λ a b. t.begun a (s.begun a b); begun_back = λ a b. s.begun_back a (t.begun_back a b); late = λ a v l. t.late a v (s.late a v l); late_back = λ a v l. s.late_back a v (t.late_back a v l) }
+joined s t = record { reads = λ a x r. t.reads a x (s.reads a x r); reads_back = λ a x r. s.reads_back a x (t.reads_back a x r); begun = λ a b. t.begun a (s.begun a b); begun_back = λ a b. s.begun_back a (t.begun_back a b); late = λ i a v l. t.late i a v (s.late i a v l); late_back = λ i a v l. s.late_back i a v (t.late_back i a v l) }
 
 pub reversed : {T A : Type 0} {G H : Syntax T A} → Same G H → Same H G
 reversed s = record { reads = s.reads_back; reads_back = s.reads; begun = s.begun_back; begun_back = s.begun; late = s.late_back; late_back = s.late }
@@ -116,9 +116,9 @@ module _ {T A B : Type 0} where
   sequence_begun G G' H H' f g h a (inl b) = inl (g a b)
   sequence_begun G G' H H' f g h a (inr (b, c, x, e, r, s)) = inr (b, c, x, e, f b x r, h x c s)
 
-  sequence_late : (G G' : Syntax T A) (H H' : A → Syntax T B) → ((a : List T) (x : A) → G.reads a x → G'.reads a x) → ((a : List T) (t : T) → G.late a t → G'.late a t) → ((x : A) (a : List T) (t : T) → (H x).late a t → (H' x).late a t) → (a : List T) (t : T) → (G then H).late a t → (G' then H').late a t
-  sequence_late G G' H H' f g h a t (inl b) = inl (g a t b)
-  sequence_late G G' H H' f g h a t (inr (b, c, x, e, r, s)) = inr (b, c, x, e, f b x r, h x c t s)
+  sequence_late : (G G' : Syntax T A) (H H' : A → Syntax T B) → ((a : List T) (x : A) → G.reads a x → G'.reads a x) → ((i : ℕ) (a : List T) (t : T) → G.late i a t → G'.late i a t) → ((x : A) (i : ℕ) (a : List T) (t : T) → (H x).late i a t → (H' x).late i a t) → (i : ℕ) (a : List T) (t : T) → (G then H).late i a t → (G' then H').late i a t
+  sequence_late G G' H H' f g h i a t (inl b) = inl (g i a t b)
+  sequence_late G G' H H' f g h i a t (inr (b, c, x, e, r, s)) = inr (b, c, x, e, f b x r, h x i c t s)
 
   pub in_sequence : {G G' : Syntax T A} {H H' : A → Syntax T B} → Same G G' → ((x : A) → Same (H x) (H' x)) → Same (G then H) (G' then H')
   in_sequence {G} {G'} {H} {H'} g h = record {
@@ -158,17 +158,17 @@ module _ {T : Type 0} (K : T → ℕ) {A : Type 0} (ks : A → List ℕ) (step :
   many_begun_back x a (inl (inr (b, c, y, e, r, (k, s)))) = (suc k, inl (inr (b, c, y, e, r, s)))
   many_begun_back x a (inr r) = (0, inr r)
 
-  many_late : (k : ℕ) (x : A) (a : List T) (t : T) → (loop K k ks step x).late a t → (turned x).late a t
-  many_late zero x a t (inl r) = absurd r
-  many_late zero x a t (inr r) = absurd r
-  many_late (suc k) x a t (inl (inl s)) = inl (inl s)
-  many_late (suc k) x a t (inl (inr (b, c, y, e, r, s))) = inl (inr (b, c, y, e, r, (k, s)))
-  many_late (suc k) x a t (inr r) = absurd r
+  many_late : (k : ℕ) (x : A) (i : ℕ) (a : List T) (t : T) → (loop K k ks step x).late i a t → (turned x).late i a t
+  many_late zero x i a t (inl r) = absurd r
+  many_late zero x i a t (inr r) = absurd r
+  many_late (suc k) x i a t (inl (inl s)) = inl (inl s)
+  many_late (suc k) x i a t (inl (inr (b, c, y, e, r, s))) = inl (inr (b, c, y, e, r, (k, s)))
+  many_late (suc k) x i a t (inr r) = absurd r
 
-  many_late_back : (x : A) (a : List T) (t : T) → (turned x).late a t → (many K ks step x).late a t
-  many_late_back x a t (inl (inl s)) = (1, inl (inl s))
-  many_late_back x a t (inl (inr (b, c, y, e, r, (k, s)))) = (suc k, inl (inr (b, c, y, e, r, s)))
-  many_late_back x a t (inr r) = absurd r
+  many_late_back : (x : A) (i : ℕ) (a : List T) (t : T) → (turned x).late i a t → (many K ks step x).late i a t
+  many_late_back x i a t (inl (inl s)) = (1, inl (inl s))
+  many_late_back x i a t (inl (inr (b, c, y, e, r, (k, s)))) = (suc k, inl (inr (b, c, y, e, r, s)))
+  many_late_back x i a t (inr r) = absurd r
 
   pub many_form : (x : A) → Same (many K ks step x) (choice K (ks x) (step x then λ y. many K ks step y) (gives x))
   many_form x = record {
@@ -176,7 +176,7 @@ module _ {T : Type 0} (K : T → ℕ) {A : Type 0} (ks : A → List ℕ) (step :
     reads_back = many_reads_back x;
     begun = λ a r. many_begun r.0 x a r.1;
     begun_back = many_begun_back x;
-    late = λ a t r. many_late r.0 x a t r.1;
+    late = λ i a t r. many_late r.0 x i a t r.1;
     late_back = many_late_back x;
   }
 
@@ -194,9 +194,9 @@ module _ {T : Type 0} {K : T → ℕ} {S A : Type 0} (null : Bool) (first : List
   knot_begun zero s a b = rw b (turn_good 0 s).there.empty
   knot_begun (suc k) s a b = (turn_good k s).begun a b
 
-  knot_late : (k : ℕ) (s : S) (a : List T) (t : T) → (knot_at F k s).late a t → (F (knot F) s).late a t
-  knot_late zero s a t l = absurd l
-  knot_late (suc k) s a t l = (turn_good k s).late a t l
+  knot_late : (k : ℕ) (s : S) (i : ℕ) (a : List T) (t : T) → (knot_at F k s).late i a t → (F (knot F) s).late i a t
+  knot_late zero s i a t l = absurd l
+  knot_late (suc k) s i a t l = (turn_good k s).late i a t l
 
   pub knot_form : (s : S) → Same (knot F s) (F (knot F) s)
   knot_form s = record {
@@ -204,6 +204,6 @@ module _ {T : Type 0} {K : T → ℕ} {S A : Type 0} (null : Bool) (first : List
     reads_back = λ a x r. (suc (length a), (turn_good (length a) s).reads_back a x (omega arith) r);
     begun = λ a b. knot_begun b.0 s a b.1;
     begun_back = λ a b. (suc (length a), (turn_good (length a) s).begun_back a (omega arith) b);
-    late = λ a t l. knot_late l.0 s a t l.1;
-    late_back = λ a t l. (suc (suc (length a)), (turn_good (suc (length a)) s).late_back a t (omega arith) l);
+    late = λ i a t l. knot_late l.0 s i a t l.1;
+    late_back = λ i a t l. (suc (suc (length a)), (turn_good (suc (length a)) s).late_back i a t (omega arith) l);
   }

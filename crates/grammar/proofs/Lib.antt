@@ -7,3 +7,5 @@ pub mod Readings
 pub mod Theorem
 pub mod Solid
 pub mod Forms
+pub mod OneAnswer
+pub mod Labels

@@ -65,10 +65,10 @@ module _ {T : Type 0} (K : T → ℕ) where
   none_exact = record {
     takes = λ ts x rest e. absurd cc;
     fails = λ ts n e. record { front = []; rest = ts; parts = refl; left = cc; is = refl; local = λ u h. refl };
-    overs = λ ts n e. absurd cc;
+    overs = λ ts i n e. absurd cc;
     again = λ a x b h s. absurd h;
-    lates = λ a t u h. absurd h;
-    late_begins = λ a t h. absurd h;
+    lates = λ i a t u h. absurd h;
+    late_begins = λ i a t h. absurd h;
     runs = λ a h. rw h refl;
     begins = λ a x h. absurd h;
     fronts = nil_front;
@@ -85,10 +85,10 @@ module _ {T : Type 0} (K : T → ℕ) where
         let tr : ts ≡ rest = ap (λ (q : A × List T). q.1) p in
         record { front = []; parts = tr; is = (refl, xy); local = λ u h. rw xy refl };
     fails = λ ts n e. absurd cc;
-    overs = λ ts n e. absurd cc;
+    overs = λ ts i n e. absurd cc;
     again = λ a y b h s. inl (rw (h.0, h.1) refl);
-    lates = λ a t u h. absurd h;
-    late_begins = λ a t h. absurd h;
+    lates = λ i a t u h. absurd h;
+    late_begins = λ i a t h. absurd h;
     runs = λ a h. h;
     begins = λ a y h. h.0;
     fronts = nil_front;
@@ -128,13 +128,13 @@ module _ {T : Type 0} (K : T → ℕ) where
       let l : (u : List T) → SameHead (t ∷ ts) u → one_at f u ≡ Err (At (length u)) = elim [ [] ↦ λ h. absurd h | (v ∷ vs) ↦ λ h. rw (← h) (none_is f t vs p.1) ] in
       record { front = []; rest = t ∷ ts; parts = refl; left = p.0; is = inl refl; local = l }
 
-  over_takes : {A : Type 0} (f : T → Option A) (t : T) (o : Option A) (ts : List T) (n : ℕ) → f t ≡ o → one_at f (t ∷ ts) ≡ Err (Over n) → ⊥
-  over_takes {A} f t (Some y) ts n fo e = let k : one_at f (t ∷ ts) ≡ Ok (y, ts) = rw (fo, one_at) refl in cc
-  over_takes f t None ts n fo e = let k : one_at f (t ∷ ts) ≡ Err (At (suc (length ts))) = rw (fo, one_at) refl in cc
+  over_takes : {A : Type 0} (f : T → Option A) (t : T) (o : Option A) (ts : List T) (i n : ℕ) → f t ≡ o → one_at f (t ∷ ts) ≡ Err (Over i n) → ⊥
+  over_takes {A} f t (Some y) ts i n fo e = let k : one_at f (t ∷ ts) ≡ Ok (y, ts) = rw (fo, one_at) refl in cc
+  over_takes f t None ts i n fo e = let k : one_at f (t ∷ ts) ≡ Err (At (suc (length ts))) = rw (fo, one_at) refl in cc
 
-  one_over : {A : Type 0} (f : T → Option A) (ts : List T) (n : ℕ) → one_at f ts ≡ Err (Over n) → Overs (one_at f) (one f).late ts n
-  one_over f [] n e = absurd cc
-  one_over f (t ∷ ts) n e = absurd (over_takes f t (f t) ts n refl e)
+  one_over : {A : Type 0} (f : T → Option A) (ts : List T) (i n : ℕ) → one_at f ts ≡ Err (Over i n) → Overs (one_at f) (one f).late ts i n
+  one_over f [] i n e = absurd cc
+  one_over f (t ∷ ts) i n e = absurd (over_takes f t (f t) ts i n refl e)
 
   one_starts : {A : Type 0} (f : T → Option A) (ks : List ℕ) → ((t : T) (x : A) → f t ≡ Some x → among (K t) ks ≡ true) → (t : T) (ts : List T) → (one f).begun (t ∷ ts) → among (K t) ks ≡ true
   one_starts f ks h t ts (inl e) = absurd cc
@@ -155,8 +155,8 @@ module _ {T : Type 0} (K : T → ℕ) where
     fails = one_err f;
     overs = one_over f;
     again = λ a x b r s. inl (rw (r.1, r.2) refl);
-    lates = λ a t u h. absurd h;
-    late_begins = λ a t h. absurd h;
+    lates = λ i a t u h. absurd h;
+    late_begins = λ i a t h. absurd h;
     runs = one_runs f;
     begins = λ a x r. inr (r.0, x, r.1, r.2);
     fronts = one_fronts f;
@@ -174,7 +174,7 @@ module _ {T : Type 0} (K : T → ℕ) where
   runs_then : {A B : Type 0} (r : Result (A × List T) Fault) (f : A × List T → Result (B × List T) Fault) → RunsOut r → ((x : A) → RunsOut (f (x, []))) → RunsOut (r >>= f)
   runs_then {A} {B} (Ok x) f h k = let e : f (x.0, []) ≡ f x = ap (λ (w : List T). f (x.0, w)) (sym h) in subst (λ (q : Result (B × List T) Fault). RunsOut q) e (k x.0)
   runs_then (Err (At n)) f h k = h
-  runs_then (Err (Over n)) f h k = tt
+  runs_then (Err (Over i n)) f h k = tt
 
   module _ {A B : Type 0} (G : Syntax T A) (H : A → Syntax T B) (n1 : Bool) (f1 : List ℕ) (m1 : A → List ℕ) (n2 : Bool) (f2 : A → List ℕ) (m2 : A → B → List ℕ) (null : Bool) (first : List ℕ) (more : B → List ℕ) (g : IsExact K G n1 f1 m1) (h : (x : A) → IsExact K (H x) n2 (f2 x) (m2 x)) (R : A → B → Type 0) (ends : (x : A) (y : B) → (H x).reads [] y → R x y) (fit : ThenFits A B R n1 f1 m1 n2 f2 m2 null first more) where
     then_takes : (ts : List T) (y : B) (rest : List T) → (G then H).parse ts ≡ Ok (y, rest) → Takes (G then H).parse (G then H).reads ts y rest
@@ -224,7 +224,7 @@ module _ {T : Type 0} (K : T → ℕ) where
 
     again_ok : (a : List T) (y : B) (b a1 a2 : List T) (x : A) → a ≡ a1 ++ a2 → (H x).reads a2 y → sees K (m2 x y) b ≡ false → (G.parse (a1 ++ (a2 ++ b)) ≡ Ok (x, a2 ++ b)) ⊎ Late (G.parse (a1 ++ (a2 ++ b))) (suc (length (a2 ++ b))) → ((G then H).parse (a ++ b) ≡ Ok (y, b)) ⊎ Late ((G then H).parse (a ++ b)) (suc (length b))
     again_ok a y b a1 a2 x e r s (inl l1) = rw (e, append_assoc a1 a2 b, l1) ((h x).again a2 y b r s)
-    again_ok a y b a1 a2 x e r s (inr w) = let q = w.is in inr (record { left = w.left; enough = let k = w.enough in omega (arith, length-append a2 b); is = rw (e, append_assoc a1 a2 b, q) refl })
+    again_ok a y b a1 a2 x e r s (inr w) = let q = w.is in inr (record { label = w.label; left = w.left; enough = let k = w.enough in omega (arith, length-append a2 b); is = rw (e, append_assoc a1 a2 b, q) refl })
 
     then_again : (a : List T) (y : B) (b : List T) → (G then H).reads a y → sees K (more y) b ≡ false → ((G then H).parse (a ++ b) ≡ Ok (y, b)) ⊎ Late ((G then H).parse (a ++ b)) (suc (length b))
     then_again a y b r s =
@@ -236,28 +236,28 @@ module _ {T : Type 0} (K : T → ℕ) where
     late_clear x [] t u b = begins_apart x t [] b
     late_clear x (v ∷ c) t u b = begins_apart x v (c ++ (t ∷ [])) b
 
-    lates_ok : (a : List T) (t : T) (u a1 a2 : List T) (x : A) → a ≡ a1 ++ a2 → (H x).late a2 t → (G.parse (a1 ++ (a2 ++ (t ∷ u))) ≡ Ok (x, a2 ++ (t ∷ u))) ⊎ Late (G.parse (a1 ++ (a2 ++ (t ∷ u)))) (suc (length (a2 ++ (t ∷ u)))) → Late ((G then H).parse (a ++ (t ∷ u))) (suc (length u))
-    lates_ok a t u a1 a2 x e l (inl l1) = rw (e, append_assoc a1 a2 (t ∷ u), l1) ((h x).lates a2 t u l)
-    lates_ok a t u a1 a2 x e l (inr w) = let q = w.is in record { left = w.left; enough = let k = w.enough in omega (arith, length-append a2 (t ∷ u)); is = rw (e, append_assoc a1 a2 (t ∷ u), q) refl }
+    lates_ok : (i : ℕ) (a : List T) (t : T) (u a1 a2 : List T) (x : A) → a ≡ a1 ++ a2 → (H x).late i a2 t → (G.parse (a1 ++ (a2 ++ (t ∷ u))) ≡ Ok (x, a2 ++ (t ∷ u))) ⊎ Late (G.parse (a1 ++ (a2 ++ (t ∷ u)))) (suc (length (a2 ++ (t ∷ u)))) → Late ((G then H).parse (a ++ (t ∷ u))) (suc (length u))
+    lates_ok i a t u a1 a2 x e l (inl l1) = rw (e, append_assoc a1 a2 (t ∷ u), l1) ((h x).lates i a2 t u l)
+    lates_ok i a t u a1 a2 x e l (inr w) = let q = w.is in record { label = w.label; left = w.left; enough = let k = w.enough in omega (arith, length-append a2 (t ∷ u)); is = rw (e, append_assoc a1 a2 (t ∷ u), q) refl }
 
-    then_lates : (a : List T) (t : T) (u : List T) → (G then H).late a t → Late ((G then H).parse (a ++ (t ∷ u))) (suc (length u))
-    then_lates a t u (inl l) = let w = g.lates a t u l in let q = w.is in record { left = w.left; enough = w.enough; is = rw q refl }
-    then_lates a t u (inr r) = lates_ok a t u r.0 r.1 r.2 r.3 r.5 (g.again r.0 r.2 (r.1 ++ (t ∷ u)) r.4 (late_clear r.2 r.1 t u ((h r.2).late_begins r.1 t r.5)))
+    then_lates : (i : ℕ) (a : List T) (t : T) (u : List T) → (G then H).late i a t → Late ((G then H).parse (a ++ (t ∷ u))) (suc (length u))
+    then_lates i a t u (inl l) = let w = g.lates i a t u l in let q = w.is in record { label = w.label; left = w.left; enough = w.enough; is = rw q refl }
+    then_lates i a t u (inr r) = lates_ok i a t u r.0 r.1 r.2 r.3 r.5 (g.again r.0 r.2 (r.1 ++ (t ∷ u)) r.4 (late_clear r.2 r.1 t u ((h r.2).late_begins i r.1 t r.5)))
 
-    then_late_begins : (a : List T) (t : T) → (G then H).late a t → (G then H).begun (a ++ (t ∷ []))
-    then_late_begins a t (inl l) = inl (g.late_begins a t l)
-    then_late_begins a t (inr r) = inr (r.0, r.1 ++ (t ∷ []), r.2, ap (λ (w : List T). w ++ (t ∷ [])) r.3 ∙ append_assoc r.0 r.1 (t ∷ []), r.4, (h r.2).late_begins r.1 t r.5)
+    then_late_begins : (i : ℕ) (a : List T) (t : T) → (G then H).late i a t → (G then H).begun (a ++ (t ∷ []))
+    then_late_begins i a t (inl l) = inl (g.late_begins i a t l)
+    then_late_begins i a t (inr r) = inr (r.0, r.1 ++ (t ∷ []), r.2, ap (λ (w : List T). w ++ (t ∷ [])) r.3 ∙ append_assoc r.0 r.1 (t ∷ []), r.4, (h r.2).late_begins i r.1 t r.5)
 
-    then_overs : (ts : List T) (n : ℕ) → (G then H).parse ts ≡ Err (Over n) → Overs (G then H).parse (G then H).late ts n
-    then_overs ts n e =
-        elim (bind_err (G.parse ts) (λ x. (H x.0).parse x.1) (Over n) e) [
+    then_overs : (ts : List T) (i n : ℕ) → (G then H).parse ts ≡ Err (Over i n) → Overs (G then H).parse (G then H).late ts i n
+    then_overs ts i n e =
+        elim (bind_err (G.parse ts) (λ x. (H x.0).parse x.1) (Over i n) e) [
           | inl e1 ↦
-              let f = g.overs ts n e1 in
+              let f = g.overs ts i n e1 in
               record { front = f.front; token = f.token; rest = f.rest; parts = f.parts; left = f.left; is = inl f.is; local = λ u. rw (f.local u) refl }
           | inr b ↦
               let x = b.0 in
               let t1 = g.takes ts x.0 x.1 b.1 in
-              let f = (h x.0).overs x.1 n b.2 in
+              let f = (h x.0).overs x.1 i n b.2 in
               record {
                 front = t1.front ++ f.front;
                 token = f.token;
@@ -373,22 +373,22 @@ module _ {T : Type 0} (K : T → ℕ) where
     late_second [] t u b = not_first t [] b
     late_second (v ∷ a) t u b = not_first v (a ++ (t ∷ [])) b
 
-    choice_lates : (a : List T) (t : T) (u : List T) → (choice K ks G H).late a t → Late ((choice K ks G H).parse (a ++ (t ∷ u))) (suc (length u))
-    choice_lates a t u (inl l) = rw (late_first a t u (g.late_begins a t l)) (g.lates a t u l)
-    choice_lates a t u (inr l) = rw (late_second a t u (h.late_begins a t l)) (h.lates a t u l)
+    choice_lates : (i : ℕ) (a : List T) (t : T) (u : List T) → (choice K ks G H).late i a t → Late ((choice K ks G H).parse (a ++ (t ∷ u))) (suc (length u))
+    choice_lates i a t u (inl l) = rw (late_first a t u (g.late_begins i a t l)) (g.lates i a t u l)
+    choice_lates i a t u (inr l) = rw (late_second a t u (h.late_begins i a t l)) (h.lates i a t u l)
 
-    choice_late_begins : (a : List T) (t : T) → (choice K ks G H).late a t → (choice K ks G H).begun (a ++ (t ∷ []))
-    choice_late_begins a t (inl l) = inl (g.late_begins a t l)
-    choice_late_begins a t (inr l) = inr (h.late_begins a t l)
+    choice_late_begins : (i : ℕ) (a : List T) (t : T) → (choice K ks G H).late i a t → (choice K ks G H).begun (a ++ (t ∷ []))
+    choice_late_begins i a t (inl l) = inl (g.late_begins i a t l)
+    choice_late_begins i a t (inr l) = inr (h.late_begins i a t l)
 
-    choice_overs : (ts : List T) (n : ℕ) → (choice K ks G H).parse ts ≡ Err (Over n) → Overs (choice K ks G H).parse (choice K ks G H).late ts n
-    choice_overs ts n e =
-        elim (chosen (sees K ks ts) (G.parse ts) (H.parse ts) (Err (Over n)) e) [
+    choice_overs : (ts : List T) (i n : ℕ) → (choice K ks G H).parse ts ≡ Err (Over i n) → Overs (choice K ks G H).parse (choice K ks G H).late ts i n
+    choice_overs ts i n e =
+        elim (chosen (sees K ks ts) (G.parse ts) (H.parse ts) (Err (Over i n)) e) [
           | inl p ↦
-              let t = g.overs ts n p.1 in
+              let t = g.overs ts i n p.1 in
               record { front = t.front; token = t.token; rest = t.rest; parts = t.parts; left = t.left; is = inl t.is; local = λ u. rw (same_sight ts t.front (t.token ∷ t.rest) (t.token ∷ u) t.parts refl, p.0) (t.local u) }
           | inr p ↦
-              let t = h.overs ts n p.1 in
+              let t = h.overs ts i n p.1 in
               record { front = t.front; token = t.token; rest = t.rest; parts = t.parts; left = t.left; is = inr t.is; local = λ u. rw (same_sight ts t.front (t.token ∷ t.rest) (t.token ∷ u) t.parts refl, p.0) (t.local u) }
         ]
 

@@ -109,7 +109,7 @@ module _ {T : Type 0} {K : T → ℕ} where
     agree = λ ts lt. g.agree ts (omega arith);
     reads_back = λ a x lt. g.reads_back a x (omega arith);
     begun_back = λ a lt. g.begun_back a (omega arith);
-    late_back = λ a t lt. g.late_back a t (omega arith);
+    late_back = λ i a t lt. g.late_back i a t (omega arith);
   }
 
   -- the same, for the parts of what stands behind a token
@@ -120,13 +120,13 @@ module _ {T : Type 0} {K : T → ℕ} where
   pub token : {A : Type 0} {n : ℕ} (f : T → Option A) (ks : List ℕ) → ((t : T) (x : A) → f t ≡ Some x → among (K t) ks ≡ true) → IsGood K n (one f) (one f) false ks (λ _. [])
   token {A} {n} f ks h = same_good K n (one f) false ks (λ _. []) (one_exact K f ks h)
 
-  -- a production that stands one too deep, each of whose first tokens begins it
-  pub too_deep : {A : Type 0} {n : ℕ} (ks : List ℕ) {G : Syntax T A} {m1 more : A → List ℕ} → IsExact K G false ks m1 → ((t : T) → among (K t) ks ≡ true → G.begun (t ∷ [])) → IsGood K n (deep K ks G) (deep K ks G) false ks more
-  too_deep {A} {n} ks {G} {m1} {more} g o = same_good K n (deep K ks G) false ks more (deep_exact K ks G m1 more g o)
+  -- a production that stands one too deep for the limit with this label, each of whose first tokens begins it
+  pub too_deep : {A : Type 0} {n : ℕ} (label : ℕ) (ks : List ℕ) {G : Syntax T A} {m1 more : A → List ℕ} → IsExact K G false ks m1 → ((t : T) → among (K t) ks ≡ true → G.begun (t ∷ [])) → IsGood K n (deep label K ks G) (deep label K ks G) false ks more
+  too_deep {A} {n} label ks {G} {m1} {more} g o = same_good K n (deep label K ks G) false ks more (deep_exact K label ks G m1 more g o)
 
   -- at most so many tokens
-  pub counted : {A : Type 0} {n : ℕ} (most : ℕ) {G H : Syntax T A} {null : Bool} {first : List ℕ} {more : A → List ℕ} → IsGood K n G H null first more → IsGood K n (at_most most G) (at_most most H) null first more
-  counted {A} {n} most {G} {H} {null} {first} {more} g = at_most_good K most n G H null first more g
+  pub counted : {A : Type 0} {n : ℕ} (label most : ℕ) {G H : Syntax T A} {null : Bool} {first : List ℕ} {more : A → List ℕ} → IsGood K n G H null first more → IsGood K n (at_most label most G) (at_most label most H) null first more
+  counted {A} {n} label most {G} {H} {null} {first} {more} g = at_most_good K label most n G H null first more g
 
   -- at the bound 0 nothing is read
   pub none_good : {A : Type 0} (H : Syntax T A) (null : Bool) (first : List ℕ) (more : A → List ℕ) → IsExact K H null first more → IsGood K 0 none H null first more
@@ -136,11 +136,11 @@ module _ {T : Type 0} {K : T → ℕ} where
         there = h;
         reads = λ a x r. absurd r;
         begun = λ a e. rw e h.empty;
-        late = λ a t l. absurd l;
+        late = λ i a t l. absurd l;
         agree = λ ts lt. absurd (omega arith);
         reads_back = λ a x lt. absurd (omega arith);
         begun_back = λ a lt. absurd (omega arith);
-        late_back = λ a t lt. absurd (omega arith);
+        late_back = λ i a t lt. absurd (omega arith);
       }
 
   -- ---- recursion
@@ -172,11 +172,11 @@ module _ {T : Type 0} {K : T → ℕ} where
       there = knot_exact null first more F' step' s;
       reads = λ a x r. (r.0, (at_both r.0 s).reads a x r.1);
       begun = λ a b. (b.0, (at_both b.0 s).begun a b.1);
-      late = λ a t l. (l.0, (at_both l.0 s).late a t l.1);
+      late = λ i a t l. (l.0, (at_both l.0 s).late i a t l.1);
       agree = λ ts lt. (at_both (suc (length ts)) s).agree ts lt;
       reads_back = λ a x lt r. (r.0, (at_both r.0 s).reads_back a x lt r.1);
       begun_back = λ a lt b. (b.0, (at_both b.0 s).begun_back a lt b.1);
-      late_back = λ a t lt l. (l.0, (at_both l.0 s).late_back a t lt l.1);
+      late_back = λ i a t lt l. (l.0, (at_both l.0 s).late_back i a t lt l.1);
     }
 
   -- ---- one turn of a repetition

@@ -47,7 +47,7 @@ module _ {T : Type 0} {Good : T → Type 0} where
   each_cond true g h = g refl
   each_cond false g h = h refl
 
-  pub each_at_most : {A : Type 0} {n : ℕ} {G : Syntax T A} {P : ℕ → A → Type 0} → EachOf Good G P → EachOf Good (at_most n G) (λ k x. P k x × (k ≤ n))
+  pub each_at_most : {A : Type 0} {label n : ℕ} {G : Syntax T A} {P : ℕ → A → Type 0} → EachOf Good G P → EachOf Good (at_most label n G) (λ k x. P k x × (k ≤ n))
   each_at_most g = record { holds = λ a x o r. (g.holds a x o r.0, r.1) }
 
   module _ {A : Type 0} (K : T → ℕ) (ks : A → List ℕ) {step : A → Syntax T A} {P : ℕ → A → Type 0} (turn : (k : ℕ) (x : A) → P k x → EachOf Good (step x) (λ l y. P (k + l) y)) where

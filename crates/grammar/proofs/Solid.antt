@@ -84,10 +84,10 @@ module _ {T : Type 0} {K : T → ℕ} where
   alone : {A : Type 0} (G : Syntax T A) (null : Bool) (first : List ℕ) (more : A → List ℕ) (a r : List T) (x : A) (y : A × List T) → IsExact K G null first more → G.parse (a ++ r) ≡ Ok y → (G.parse (a ++ []) ≡ Ok (x, [])) ⊎ Late (G.parse (a ++ [])) 1 → G.parse (a ++ []) ≡ Ok (x, [])
   alone G null first more a r x y g e (inl p) = p
   alone G null first more a r x y g e (inr w) =
-      let o = g.overs (a ++ []) w.left w.is in
+      let o = g.overs (a ++ []) w.label w.left w.is in
       let l = o.local (o.rest ++ r) in
       let same : a ++ r ≡ o.front ++ (o.token ∷ (o.rest ++ r)) = ap (λ (z : List T). z ++ r) (sym (append-nil a) ∙ o.parts) ∙ append_assoc o.front (o.token ∷ o.rest) r in
-      absurd (let q : G.parse (a ++ r) ≡ Err (Over (suc (length (o.rest ++ r)))) = ap G.parse same ∙ l in cc)
+      absurd (let q : G.parse (a ++ r) ≡ Err (Over w.label (suc (length (o.rest ++ r)))) = ap G.parse same ∙ l in cc)
 
   seq_cut : {A : Type 0} (G : Syntax T A) (n1 : Bool) (f1 : List ℕ) (m1 : A → List ℕ) (x : A) (front r1 f2 r : List T) → IsExact K G n1 f1 m1 → G.reads front x → ((u : List T) → SameHead r1 u → G.parse (front ++ u) ≡ Ok (x, u)) → r1 ≡ f2 ++ r → G.parse (front ++ f2) ≡ Ok (x, f2)
   seq_cut G n1 f1 m1 x front r1 [] r g is local e = alone G n1 f1 m1 front r1 x (x, r1) g (local r1 (same_self r1)) (g.again front x [] is refl)
@@ -241,32 +241,32 @@ module _ {T : Type 0} {K : T → ℕ} where
 
   -- ---- limits
 
-  pub deep_solid : {A : Type 0} {n : ℕ} (ks : List ℕ) (G : Syntax T A) {more : A → List ℕ} → IsExact K (deep K ks G) false ks more → IsSolid K n (deep K ks G) true false ks more
-  deep_solid {A} {n} ks G {more} e = record { exact = e; led = λ _. refl; opens = o; cut = λ ts m f r lt q s l. c ts m f r (sees K ks ts) refl q s l }
+  pub deep_solid : {A : Type 0} {n : ℕ} (label : ℕ) (ks : List ℕ) (G : Syntax T A) {more : A → List ℕ} → IsExact K (deep label K ks G) false ks more → IsSolid K n (deep label K ks G) true false ks more
+  deep_solid {A} {n} label ks G {more} e = record { exact = e; led = λ _. refl; opens = o; cut = λ ts m f r lt q s l. c ts m f r (sees K ks ts) refl q s l }
     where
-      o : true ≡ true → (t : T) (ts : List T) → length (t ∷ ts) < n → among (K t) ks ≡ true → (deep K ks G).parse (t ∷ ts) ≡ Err (At (suc (length ts))) → ⊥
-      o h t ts lt a q = let k : (deep K ks G).parse (t ∷ ts) ≡ Err (Over (suc (length ts))) = rw a refl in cc
+      o : true ≡ true → (t : T) (ts : List T) → length (t ∷ ts) < n → among (K t) ks ≡ true → (deep label K ks G).parse (t ∷ ts) ≡ Err (At (suc (length ts))) → ⊥
+      o h t ts lt a q = let k : (deep label K ks G).parse (t ∷ ts) ≡ Err (Over label (suc (length ts))) = rw a refl in cc
 
-      c : (ts : List T) (m : ℕ) (f r : List T) (b : Bool) → sees K ks ts ≡ b → (deep K ks G).parse ts ≡ Err (At m) → ts ≡ f ++ r → m ≡ length r → (deep K ks G).parse f ≡ Err (At 0)
-      c ts m f r true b q s l = absurd (let k : (deep K ks G).parse ts ≡ Err (Over (length ts)) = rw b refl in cc)
+      c : (ts : List T) (m : ℕ) (f r : List T) (b : Bool) → sees K ks ts ≡ b → (deep label K ks G).parse ts ≡ Err (At m) → ts ≡ f ++ r → m ≡ length r → (deep label K ks G).parse f ≡ Err (At 0)
+      c ts m f r true b q s l = absurd (let k : (deep label K ks G).parse ts ≡ Err (Over label (length ts)) = rw b refl in cc)
       c ts m f r false b q s l =
-          let k : (deep K ks G).parse ts ≡ Err (At (length ts)) = rw b refl in
+          let k : (deep label K ks G).parse ts ≡ Err (At (length ts)) = rw b refl in
           let same : m ≡ length ts = cc in
           rw (front_empty ts f r s (sym same ∙ l)) refl
 
-  pub at_most_solid : {A : Type 0} {n : ℕ} (most : ℕ) {G : Syntax T A} {lead null : Bool} {first : List ℕ} {more : A → List ℕ} → IsSolid K n G lead null first more → IsSolid K n (at_most most G) lead null first more
-  at_most_solid {A} {n} most {G} {lead} {null} {first} {more} g = record {
-    exact = at_most_exact K most G null first more g.exact;
+  pub at_most_solid : {A : Type 0} {n : ℕ} (label most : ℕ) {G : Syntax T A} {lead null : Bool} {first : List ℕ} {more : A → List ℕ} → IsSolid K n G lead null first more → IsSolid K n (at_most label most G) lead null first more
+  at_most_solid {A} {n} label most {G} {lead} {null} {first} {more} g = record {
+    exact = at_most_exact K label most G null first more g.exact;
     led = g.led;
-    opens = λ ld t ts lt a q. elim (at_most_answer K most G null first more g.exact (t ∷ ts)) [ inl p ↦ g.opens ld t ts lt a (sym p.1 ∙ q) | inr p ↦ let z : Err (Over (length (t ∷ ts) - most)) ≡ Err (At (suc (length ts))) = sym p.1 ∙ q in cc ];
+    opens = λ ld t ts lt a q. elim (at_most_answer K label most G null first more g.exact (t ∷ ts)) [ inl p ↦ g.opens ld t ts lt a (sym p.1 ∙ q) | inr p ↦ let z : Err (Over label (length (t ∷ ts) - most)) ≡ Err (At (suc (length ts))) = sym p.1 ∙ q in cc ];
     cut = λ ts m f r lt q s l.
-        elim (at_most_answer K most G null first more g.exact ts) [
+        elim (at_most_answer K label most G null first more g.exact ts) [
           | inl p ↦
               let e : G.parse ts ≡ Err (At m) = sym p.1 ∙ q in
               let c = g.cut ts m f r lt e s l in
-              let short = front_short K most G null first more g.exact ts f r (place (G.parse ts)) s (ap place e ∙ l) p.0 in
-              ap (capped most (length f)) c ∙ capped_in most (length f) (Err (At 0)) (let k = below K most G null first more g.exact f [] short in ap (λ (z : List T). ltb (most + 0) (length z)) (sym (append-nil f)) ∙ k)
-          | inr p ↦ absurd (let z : Err (Over (length ts - most)) ≡ Err (At m) = sym p.1 ∙ q in cc)
+              let short = front_short K label most G null first more g.exact ts f r (place (G.parse ts)) s (ap place e ∙ l) p.0 in
+              ap (capped label most (length f)) c ∙ capped_in label most (length f) (Err (At 0)) (let k = below K label most G null first more g.exact f [] short in ap (λ (z : List T). ltb (most + 0) (length z)) (sym (append-nil f)) ∙ k)
+          | inr p ↦ absurd (let z : Err (Over label (length ts - most)) ≡ Err (At m) = sym p.1 ∙ q in cc)
         ];
   }
 

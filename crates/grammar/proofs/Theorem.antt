@@ -18,8 +18,8 @@ runs_at r n e h = subst (λ q. RunsOut q) e h
 abbrev refusal : {T A : Type 0} → Fault → Result (A × List T) Fault
 refusal f = Err f
 
-over_is : {T A : Type 0} (n m : ℕ) → refusal {T = T} {A = A} (Over n) ≡ refusal (Over m) → n ≡ m
-over_is n m e = cc
+over_is : {T A : Type 0} (i j n m : ℕ) → refusal {T = T} {A = A} (Over i n) ≡ refusal (Over j m) → n ≡ m
+over_is i j n m e = cc
 
 dropped : {T : Type 0} (front rest ts : List T) → ts ≡ front ++ rest → rest ≡ drop (length ts - length rest) ts
 dropped front rest ts e =
@@ -28,10 +28,10 @@ dropped front rest ts e =
 
 module _ {T : Type 0} {K : T → ℕ} {A : Type 0} (G : Syntax T A) (null : Bool) (first : List ℕ) (more : A → List ℕ) (g : IsExact K G null first more) where
   within_ok : (text : List T) (x : A × List T) → G.parse text ≡ Ok x → WithinLimits G text
-  within_ok text x e a t u p l = let w = g.lates a t u l in let q = w.is in let s : G.parse text ≡ Err (Over w.left) = ap G.parse p ∙ q in cc
+  within_ok text x e i a t u p l = let w = g.lates i a t u l in let q = w.is in let s : G.parse text ≡ Err (Over w.label w.left) = ap G.parse p ∙ q in cc
 
   within_at : (text : List T) (n : ℕ) → G.parse text ≡ Err (At n) → WithinLimits G text
-  within_at text n e a t u p l = let w = g.lates a t u l in let q = w.is in let s : G.parse text ≡ Err (Over w.left) = ap G.parse p ∙ q in cc
+  within_at text n e i a t u p l = let w = g.lates i a t u l in let q = w.is in let s : G.parse text ≡ Err (Over w.label w.left) = ap G.parse p ∙ q in cc
 
   pub found : (text : List T) (x : A) (rest : List T) → G.parse text ≡ Ok (x, rest) → Found G text x rest
   found text x rest e =
@@ -69,20 +69,20 @@ module _ {T : Type 0} {K : T → ℕ} {A : Type 0} (G : Syntax T A) (null : Bool
       }
 
   -- where a limit is passed, it is passed there first
-  pub the_first : (text : List T) (n : ℕ) → G.parse text ≡ Err (Over n) → (a : List T) (t : T) (u : List T) → text ≡ a ++ (t ∷ u) → G.late a t → length (t ∷ u) ≤ n
-  the_first text n e a t u p l =
-      let w = g.lates a t u l in
-      let q : G.parse text ≡ Err (Over w.left) = ap G.parse p ∙ w.is in
-      let same : n ≡ w.left = over_is n w.left (sym e ∙ q) in
+  pub the_first : (text : List T) (i n : ℕ) → G.parse text ≡ Err (Over i n) → (j : ℕ) (a : List T) (t : T) (u : List T) → text ≡ a ++ (t ∷ u) → G.late j a t → length (t ∷ u) ≤ n
+  the_first text i n e j a t u p l =
+      let w = g.lates j a t u l in
+      let q : G.parse text ≡ Err (Over w.label w.left) = ap G.parse p ∙ w.is in
+      let same : n ≡ w.left = over_is i w.label n w.left (sym e ∙ q) in
       let k = w.enough in
       omega arith
 
   no_later : (text front a : List T) (v t : T) (rest u : List T) (n : ℕ) → text ≡ front ++ (v ∷ rest) → n ≡ suc (length rest) → text ≡ a ++ (t ∷ u) → length (t ∷ u) ≤ n → length front ≤ length a
   no_later text front a v t rest u n p l q le = omega (arith, ap length p, ap length q, length-append front (v ∷ rest), length-append a (t ∷ u))
 
-  pub refused_over : (text : List T) (n : ℕ) → G.parse text ≡ Err (Over n) → RefusedOver G text n
-  refused_over text n e =
-      let t = g.overs text n e in
+  pub refused_over : (text : List T) (i n : ℕ) → G.parse text ≡ Err (Over i n) → RefusedOver G text i n
+  refused_over text i n e =
+      let t = g.overs text i n e in
       record {
         front = t.front;
         token = t.token;
@@ -90,19 +90,19 @@ module _ {T : Type 0} {K : T → ℕ} {A : Type 0} (G : Syntax T A) (null : Bool
         parts = t.parts;
         place = t.left;
         late = t.is;
-        begun = g.late_begins t.front t.token t.is;
-        first = λ a v u p l. no_later text t.front a t.token v t.rest u n t.parts t.left p (the_first text n e a v u p l);
+        begun = g.late_begins i t.front t.token t.is;
+        first = λ j a v u p l. no_later text t.front a t.token v t.rest u n t.parts t.left p (the_first text i n e j a v u p l);
       }
 
   pub refused : (text : List T) (d : Fault) → G.parse text ≡ Err d → Refused G text d
   refused text (At n) e = refused_at text n e
-  refused text (Over n) e = refused_over text n e
+  refused text (Over i n) e = refused_over text i n e
 
   -- ---- the whole text
 
   accepted : (ts : List T) (x : A) → WithinLimits G ts → (G.parse ts ≡ Ok (x, [])) ⊎ Late (G.parse ts) 1 → G.parse ts ≡ Ok (x, [])
   accepted ts x h (inl e) = e
-  accepted ts x h (inr w) = let o = g.overs ts w.left w.is in absurd (h o.front o.token o.rest o.parts o.is)
+  accepted ts x h (inr w) = let o = g.overs ts w.label w.left w.is in absurd (h w.label o.front o.token o.rest o.parts o.is)
 
   -- what is accepted is read to the end
   pub accepts : ReadsAccepted G
@@ -136,5 +136,5 @@ module _ {T : Type 0} {K : T → ℕ} {A : Type 0} (G : Syntax T A) (null : Bool
   pub at_within : (ts : List T) (n : ℕ) → G.parse ts ≡ Err (At n) → n ≤ length ts
   at_within ts n e = let t = g.fails ts n e in let l = t.left in omega (arith, ap length t.parts, length-append t.front t.rest)
 
-  pub over_within : (ts : List T) (n : ℕ) → G.parse ts ≡ Err (Over n) → n ≤ length ts
-  over_within ts n e = let t = g.overs ts n e in let l = t.left in omega (arith, ap length t.parts, length-append t.front (t.token ∷ t.rest))
+  pub over_within : (ts : List T) (i n : ℕ) → G.parse ts ≡ Err (Over i n) → n ≤ length ts
+  over_within ts i n e = let t = g.overs ts i n e in let l = t.left in omega (arith, ap length t.parts, length-append t.front (t.token ∷ t.rest))

@@ -25,27 +25,28 @@ pub record Fails {T A : Type 0} (p : List T → Result (A × List T) Fault) (B :
   pub is : B front
   pub local : (u : List T) → SameHead rest u → p (front ++ u) ≡ Err (At (length u))
 
--- p stopped at a limit with n tokens left: the first of them is late, whatever comes behind it
-pub record Overs {T A : Type 0} (p : List T → Result (A × List T) Fault) (L : List T → T → Type 0) (ts : List T) (n : ℕ) : Type 0 where
+-- p stopped at the limit with this label with n tokens left: the first of them is late, whatever comes behind it
+pub record Overs {T A : Type 0} (p : List T → Result (A × List T) Fault) (L : ℕ → List T → T → Type 0) (ts : List T) (label n : ℕ) : Type 0 where
   pub front : List T
   pub token : T
   pub rest : List T
   pub parts : ts ≡ front ++ (token ∷ rest)
   pub left : n ≡ suc (length rest)
-  pub is : L front token
-  pub local : (u : List T) → p (front ++ (token ∷ u)) ≡ Err (Over (suc (length u)))
+  pub is : L label front token
+  pub local : (u : List T) → p (front ++ (token ∷ u)) ≡ Err (Over label (suc (length u)))
 
 -- all tokens were taken, more were wanted, or a limit was passed
 abbrev pub RunsOut : {T A : Type 0} → Result (A × List T) Fault → Type 0
 RunsOut (Ok x) = x.1 ≡ []
 RunsOut (Err (At n)) = n ≡ 0
-RunsOut (Err (Over n)) = Unit {0}
+RunsOut (Err (Over i n)) = Unit {0}
 
 -- a limit is passed with at least m tokens left
 pub record Late {T A : Type 0} (r : Result (A × List T) Fault) (m : ℕ) : Type 0 where
+  pub label : ℕ
   pub left : ℕ
   pub enough : m ≤ left
-  pub is : r ≡ Err (Over left)
+  pub is : r ≡ Err (Over label left)
 
 -- G is read exactly, where K is the kind of a token.
 -- null: no token can be a reading; first: the kinds that can begin a reading (the first set);
@@ -53,13 +54,13 @@ pub record Late {T A : Type 0} (r : Result (A × List T) Fault) (m : ℕ) : Type
 pub record IsExact {T : Type 0} (K : T → ℕ) {A : Type 0} (G : Syntax T A) (null : Bool) (first : List ℕ) (more : A → List ℕ) : Type 0 where
   pub takes : (ts : List T) (x : A) (rest : List T) → G.parse ts ≡ Ok (x, rest) → Takes G.parse G.reads ts x rest
   pub fails : (ts : List T) (n : ℕ) → G.parse ts ≡ Err (At n) → Fails G.parse G.begun ts n
-  pub overs : (ts : List T) (n : ℕ) → G.parse ts ≡ Err (Over n) → Overs G.parse G.late ts n
+  pub overs : (ts : List T) (i n : ℕ) → G.parse ts ≡ Err (Over i n) → Overs G.parse G.late ts i n
   -- a reading is read again, whatever follows that can't go on with it
   pub again : (a : List T) (x : A) (b : List T) → G.reads a x → sees K (more x) b ≡ false → (G.parse (a ++ b) ≡ Ok (x, b)) ⊎ Late (G.parse (a ++ b)) (suc (length b))
   -- no late token is read over
-  pub lates : (a : List T) (t : T) (u : List T) → G.late a t → Late (G.parse (a ++ (t ∷ u))) (suc (length u))
+  pub lates : (i : ℕ) (a : List T) (t : T) (u : List T) → G.late i a t → Late (G.parse (a ++ (t ∷ u))) (suc (length u))
   -- a late token can follow
-  pub late_begins : (a : List T) (t : T) → G.late a t → G.begun (a ++ (t ∷ []))
+  pub late_begins : (i : ℕ) (a : List T) (t : T) → G.late i a t → G.begun (a ++ (t ∷ []))
   pub runs : (a : List T) → G.begun a → RunsOut (G.parse a)
   pub begins : (a : List T) (x : A) → G.reads a x → G.begun a
   pub fronts : (a b : List T) → G.begun (a ++ b) → G.begun a
@@ -73,22 +74,22 @@ pub record IsGood {T : Type 0} (K : T → ℕ) {A : Type 0} (n : ℕ) (G H : Syn
   pub there : IsExact K H null first more
   pub reads : (a : List T) (x : A) → G.reads a x → H.reads a x
   pub begun : (a : List T) → G.begun a → H.begun a
-  pub late : (a : List T) (t : T) → G.late a t → H.late a t
+  pub late : (i : ℕ) (a : List T) (t : T) → G.late i a t → H.late i a t
   pub agree : (ts : List T) → length ts < n → G.parse ts ≡ H.parse ts
   pub reads_back : (a : List T) (x : A) → length a < n → H.reads a x → G.reads a x
   pub begun_back : (a : List T) → length a < n → H.begun a → G.begun a
-  pub late_back : (a : List T) (t : T) → suc (length a) < n → H.late a t → G.late a t
+  pub late_back : (i : ℕ) (a : List T) (t : T) → suc (length a) < n → H.late i a t → G.late i a t
 
 -- ---- what answers mean, in the words of the grammar
 
 -- no token of the text passes a limit
 abbrev pub WithinLimits : {T A : Type 0} → Syntax T A → List T → Type 0
-WithinLimits {T} G ts = (front : List T) (t : T) (rest : List T) → ts ≡ front ++ (t ∷ rest) → G.late front t → ⊥
+WithinLimits {T} G ts = (i : ℕ) (front : List T) (t : T) (rest : List T) → ts ≡ front ++ (t ∷ rest) → G.late i front t → ⊥
 
 -- The whole text is a reading with the value x, and passes no limit.
 pub record Accepts {T A : Type 0} (G : Syntax T A) (ts : List T) (x : A) : Type 0 where
   pub reading : G.reads ts x
-  pub within : (front : List T) (t : T) (rest : List T) → ts ≡ front ++ (t ∷ rest) → G.late front t → ⊥
+  pub within : (i : ℕ) (front : List T) (t : T) (rest : List T) → ts ≡ front ++ (t ∷ rest) → G.late i front t → ⊥
 
 -- The tokens before the place begin the production, and with the token at the place they don't.
 pub record StopsAt {T A : Type 0} (G : Syntax T A) (text front rest : List T) : Type 0 where
@@ -116,20 +117,20 @@ pub record Unread {T A : Type 0} (G : Syntax T A) (text : List T) (left : ℕ) :
   pub refused : RefusedAt G text left
   pub unread : (x : A) → G.reads refused.front x → ⊥
 
--- The token with left tokens from it on can follow those before it, and is the first that passes a limit.
-pub record RefusedOver {T A : Type 0} (G : Syntax T A) (text : List T) (left : ℕ) : Type 0 where
+-- The token with left tokens from it on can follow those before it, passes the limit with this label, and is the first that passes any.
+pub record RefusedOver {T A : Type 0} (G : Syntax T A) (text : List T) (label left : ℕ) : Type 0 where
   pub front : List T
   pub token : T
   pub rest : List T
   pub parts : text ≡ front ++ (token ∷ rest)
   pub place : left ≡ suc (length rest)
-  pub late : G.late front token
+  pub late : G.late label front token
   pub begun : G.begun (front ++ (token ∷ []))
-  pub first : (a : List T) (t : T) (u : List T) → text ≡ a ++ (t ∷ u) → G.late a t → length front ≤ length a
+  pub first : (i : ℕ) (a : List T) (t : T) (u : List T) → text ≡ a ++ (t ∷ u) → G.late i a t → length front ≤ length a
 
 abbrev pub Refused : {T A : Type 0} → Syntax T A → List T → Fault → Type 0
 Refused G text (At n) = RefusedAt G text n
-Refused G text (Over n) = RefusedOver G text n
+Refused G text (Over i n) = RefusedOver G text i n
 
 -- a text is accepted with one value at most
 abbrev pub AtMostOne : {T A : Type 0} → Syntax T A → Type 0
@@ -146,11 +147,15 @@ ReadsAccepted {T} {A} G = (ts : List T) (x : A) → Accepts G ts x → G.parse t
 abbrev pub AcceptsRead : {T A : Type 0} → Syntax T A → Type 0
 AcceptsRead {T} {A} G = (ts : List T) (x : A) → G.parse ts ≡ Ok (x, []) → Accepts G ts x
 
+-- no token passes two limits
+abbrev pub OneLimit : {T A : Type 0} → Syntax T A → Type 0
+OneLimit {T} G = (i j : ℕ) (a : List T) (t : T) → G.late i a t → G.late j a t → i ≡ j
+
 -- The same readings, begun by the same tokens and with the same limits, however they are read.
 pub record Same {T A : Type 0} (G H : Syntax T A) : Type 0 where
   pub reads : (a : List T) (x : A) → G.reads a x → H.reads a x
   pub reads_back : (a : List T) (x : A) → H.reads a x → G.reads a x
   pub begun : (a : List T) → G.begun a → H.begun a
   pub begun_back : (a : List T) → H.begun a → G.begun a
-  pub late : (a : List T) (t : T) → G.late a t → H.late a t
-  pub late_back : (a : List T) (t : T) → H.late a t → G.late a t
+  pub late : (i : ℕ) (a : List T) (t : T) → G.late i a t → H.late i a t
+  pub late_back : (i : ℕ) (a : List T) (t : T) → H.late i a t → G.late i a t

@@ -1,10 +1,10 @@
 -- Grammars as values: what a production reads, what begins it, where it passes a limit, and how it is read from left to right.
 use Rattle.std.specs.Prelude.{◌≡◌, ℕ, zero, suc, ◌+◌, ◌-◌, ◌≤◌, List, [], ◌∷◌, ◌++◌, length, Result, Ok, Err, Option, Some, None, Bool, true, false, cond, ◌⊎◌, eqb, ltb}
 
--- So many tokens are left at the fault: the first of them can't follow (`At`), or it passes a limit (`Over`).
+-- So many tokens are left at the fault: the first of them can't follow (`At`), or it passes the limit with this label (`Over`).
 pub data Fault : Type 0 where
   At : ℕ → Fault
-  Over : ℕ → Fault
+  Over : ℕ → ℕ → Fault
 
 -- the kind is in the set
 abbrev pub among : ℕ → List ℕ → Bool
@@ -27,8 +27,8 @@ pub record Syntax (T A : Type 0) : Type 1 where
   pub reads : List T → A → Type 0
   -- these tokens begin a reading
   pub begun : List T → Type 0
-  -- behind these tokens this token passes a limit
-  pub late : List T → T → Type 0
+  -- behind these tokens this token passes the limit with this label
+  pub late : ℕ → List T → T → Type 0
   -- the value of the longest reading at the front, and the tokens behind it
   pub parse : List T → Result (A × List T) Fault
 
@@ -41,17 +41,17 @@ is_empty [] = true
 is_empty (t ∷ ts) = false
 
 -- an answer that took more than n of the tokens passes the limit at the token behind n
-abbrev pub capped : {T A : Type 0} → ℕ → ℕ → Result (A × List T) Fault → Result (A × List T) Fault
-capped n l (Ok x) = cond (ltb (n + length x.1) l) (Err (Over (l - n))) (Ok x)
-capped n l (Err (At m)) = cond (ltb (n + m) l) (Err (Over (l - n))) (Err (At m))
-capped n l (Err (Over m)) = cond (ltb (n + m) l) (Err (Over (l - n))) (Err (Over m))
+abbrev pub capped : {T A : Type 0} → ℕ → ℕ → ℕ → Result (A × List T) Fault → Result (A × List T) Fault
+capped label n l (Ok x) = cond (ltb (n + length x.1) l) (Err (Over label (l - n))) (Ok x)
+capped label n l (Err (At m)) = cond (ltb (n + m) l) (Err (Over label (l - n))) (Err (At m))
+capped label n l (Err (Over i m)) = cond (ltb (n + m) l) (Err (Over label (l - n))) (Err (Over i m))
 
 -- the answer for a text of which s is the rest behind the one token too many that was read
-abbrev pub resumed : {T A : Type 0} → List T → Result (A × List T) Fault → Result (A × List T) Fault
-resumed s (Ok x) = cond (is_empty x.1) (Err (Over (suc (length s)))) (Ok (x.0, x.1 ++ s))
-resumed s (Err (At zero)) = Err (Over (suc (length s)))
-resumed s (Err (At (suc m))) = Err (At (suc m + length s))
-resumed s (Err (Over m)) = Err (Over (m + length s))
+abbrev pub resumed : {T A : Type 0} → ℕ → List T → Result (A × List T) Fault → Result (A × List T) Fault
+resumed label s (Ok x) = cond (is_empty x.1) (Err (Over label (suc (length s)))) (Ok (x.0, x.1 ++ s))
+resumed label s (Err (At zero)) = Err (Over label (suc (length s)))
+resumed label s (Err (At (suc m))) = Err (At (suc m + length s))
+resumed label s (Err (Over i m)) = Err (Over i (m + length s))
 
 module _ {T : Type 0} where
   -- nothing is a reading
@@ -59,7 +59,7 @@ module _ {T : Type 0} where
   none = record {
     reads = λ a x. ⊥;
     begun = λ a. a ≡ [];
-    late = λ a t. ⊥;
+    late = λ i a t. ⊥;
     parse = λ ts. Err (At (length ts));
   }
 
@@ -68,7 +68,7 @@ module _ {T : Type 0} where
   gives x = record {
     reads = λ a y. (a ≡ []) × (x ≡ y);
     begun = λ a. a ≡ [];
-    late = λ a t. ⊥;
+    late = λ i a t. ⊥;
     parse = λ ts. Ok (x, ts);
   }
 
@@ -77,7 +77,7 @@ module _ {T : Type 0} where
   one f = record {
     reads = λ a x. (t : T) × (a ≡ t ∷ []) × (f t ≡ Some x);
     begun = λ a. (a ≡ []) ⊎ ((t : T) × (x : _) × (a ≡ t ∷ []) × (f t ≡ Some x));
-    late = λ a t. ⊥;
+    late = λ i a t. ⊥;
     parse = one_at f;
   }
 
@@ -87,7 +87,7 @@ module _ {T : Type 0} where
   G then H = record {
     reads = λ a y. (b : List T) × (c : List T) × (x : _) × (a ≡ b ++ c) × G.reads b x × (H x).reads c y;
     begun = λ a. G.begun a ⊎ ((b : List T) × (c : List T) × (x : _) × (a ≡ b ++ c) × G.reads b x × (H x).begun c);
-    late = λ a t. G.late a t ⊎ ((b : List T) × (c : List T) × (x : _) × (a ≡ b ++ c) × G.reads b x × (H x).late c t);
+    late = λ i a t. G.late i a t ⊎ ((b : List T) × (c : List T) × (x : _) × (a ≡ b ++ c) × G.reads b x × (H x).late i c t);
     parse = λ ts. G.parse ts >>= λ x. (H x.0).parse x.1;
   }
 
@@ -96,7 +96,7 @@ module _ {T : Type 0} where
   choice K ks G H = record {
     reads = λ a x. G.reads a x ⊎ H.reads a x;
     begun = λ a. G.begun a ⊎ H.begun a;
-    late = λ a t. G.late a t ⊎ H.late a t;
+    late = λ i a t. G.late i a t ⊎ H.late i a t;
     parse = λ ts. cond (sees K ks ts) (G.parse ts) (H.parse ts);
   }
 
@@ -110,7 +110,7 @@ module _ {T : Type 0} where
   limit F = record {
     reads = λ a x. (k : ℕ) × (F k).reads a x;
     begun = λ a. (k : ℕ) × (F k).begun a;
-    late = λ a t. (k : ℕ) × (F k).late a t;
+    late = λ i a t. (k : ℕ) × (F k).late i a t;
     parse = λ ts. (F (suc (length ts))).parse ts;
   }
 
@@ -127,20 +127,20 @@ module _ {T : Type 0} where
   abbrev pub knot : {S A : Type 0} → ((S → Syntax T A) → S → Syntax T A) → S → Syntax T A
   knot F s = limit (λ n. knot_at F n s)
 
-  -- G stands here one deeper than a limit allows: a token that begins it, which is one of these kinds, passes the limit
-  abbrev pub deep : {A : Type 0} → (T → ℕ) → List ℕ → Syntax T A → Syntax T A
-  deep K ks G = record {
+  -- G stands here one deeper than the limit with this label allows: a token that begins it, which is one of these kinds, passes the limit
+  abbrev pub deep : {A : Type 0} → ℕ → (T → ℕ) → List ℕ → Syntax T A → Syntax T A
+  deep label K ks G = record {
     reads = G.reads;
     begun = G.begun;
-    late = λ a t. (a ≡ []) × G.begun (t ∷ []);
-    parse = λ ts. cond (sees K ks ts) (Err (Over (length ts))) (Err (At (length ts)));
+    late = λ i a t. (i ≡ label) × (a ≡ []) × G.begun (t ∷ []);
+    parse = λ ts. cond (sees K ks ts) (Err (Over label (length ts))) (Err (At (length ts)));
   }
 
-  -- at most n tokens of G: one more that G goes on with passes the limit
-  abbrev pub at_most : {A : Type 0} → ℕ → Syntax T A → Syntax T A
-  at_most n G = record {
+  -- at most n tokens of G: one more that G goes on with passes the limit with this label
+  abbrev pub at_most : {A : Type 0} → ℕ → ℕ → Syntax T A → Syntax T A
+  at_most label n G = record {
     reads = λ a x. G.reads a x × (length a ≤ n);
     begun = G.begun;
-    late = λ a t. G.late a t ⊎ ((length a ≡ n) × G.begun (a ++ (t ∷ [])));
-    parse = λ ts. capped n (length ts) (G.parse ts);
+    late = λ i a t. G.late i a t ⊎ ((i ≡ label) × (length a ≡ n) × G.begun (a ++ (t ∷ [])));
+    parse = λ ts. capped label n (length ts) (G.parse ts);
   }

@@ -11,7 +11,7 @@ use Rattle.grammar_example.specs.declared.token.Token.{Token}
 use Rattle.grammar_example.specs.declared.token.ReadError.{ReadError}
 use Rattle.grammar_example.specs.declared.token.ReadError.TheVariants as errors
 use Rattle.grammar_example.specs.Tree.{Plan}
-use Rattle.grammar_example.specs.Token.{Gives, Fails, kind}
+use Rattle.grammar_example.specs.Token.{Gives, Fails, kind, label}
 use Rattle.grammar_example.specs.Grammar.{first_statement, statement, statement_of, statement_within, limited_statement}
 use Rattle.grammar_example.specs.Reading.{RefusedBy, NoneAccepted}
 use Rattle.grammar_example.proofs.Statements.{more_statement, statement_of_good}
@@ -30,7 +30,7 @@ module _ (types : List ℕ) where
   unfolding limited_statement
   refused text errors.Memory h = tt
   refused text (errors.At n) h = unread (statement_within types 3) _ false first_statement more_statement (within_solid types 3) text n h
-  refused text (errors.Over n) h = refused_over (statement_within types 3) false first_statement more_statement (within_exact types 3) text n h
+  refused text (errors.Over limit n) h = refused_over (statement_within types 3) false first_statement more_statement (within_exact types 3) text (label limit) n h
 
   pub answered : {X : Type 0} (view : X → Plan × List Token) (text : List Token) (r : Result X ReadError) → Gives view r ((statement_within types 3).parse text) → MatchResult r (λ x. Found (limited_statement types) text (view x).0 (view x).1) (λ e. RefusedBy (limited_statement types) text e)
   answered view text (Ok x) h = found (limited_statement types) false first_statement more_statement limited_exact text (view x).0 (view x).1 (limited_is text ∙ h)
@@ -43,7 +43,7 @@ module _ (types : List ℕ) where
   pub none_accepted : (text : List Token) (e : ReadError) → Fails e ((statement_within types 3).parse text) → NoneAccepted (limited_statement types) text e
   none_accepted text errors.Memory h = tt
   none_accepted text (errors.At n) h = not_accepted text (Err (At n)) (limited_is text ∙ h) (λ x q. cc)
-  none_accepted text (errors.Over n) h = not_accepted text (Err (Over n)) (limited_is text ∙ h) (λ x q. cc)
+  none_accepted text (errors.Over limit n) h = not_accepted text (Err (Over (label limit) n)) (limited_is text ∙ h) (λ x q. cc)
 
   pub more_left : (text : List Token) (y : Plan) (rest : List Token) → (statement_within types 3).parse text ≡ Ok (y, rest) → (length rest ≡ 0 → ⊥) → (x : Plan) → Accepts (limited_statement types) text x → ⊥
   more_left text y [] h z x a = z refl

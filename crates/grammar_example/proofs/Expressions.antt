@@ -5,7 +5,7 @@ use Rattle.grammar.specs.Exact.{IsExact, IsGood}
 use Rattle.grammar.proofs.Productions.{seq, after, either, again_and_again, declared, given, same, counted, one_lower, knot_exact, knot_is, knot_both, turn}
 use Rattle.grammar_example.specs.declared.token.Token.{Token}
 use Rattle.grammar_example.specs.Tree.{Tree}
-use Rattle.grammar_example.specs.Token.{a_name, a_type, a_number, a_sign, open_paren, close_paren, kind}
+use Rattle.grammar_example.specs.Token.{a_name, a_type, a_number, a_sign, open_paren, close_paren, kind, length_limit}
 use Rattle.grammar_example.specs.Grammar.{first_expression, in_parens, operand_of, operand, chain_once, chain, expression_of, expression, short_expression}
 use Rattle.grammar_example.proofs.Tokens.{token_good, name_good, type_good, number_good, operator_good}
 
@@ -54,7 +54,7 @@ module _ (types : List ℕ) where
 
   pub short_expression_good : {n : ℕ} → IsGood (kind types) n (short_expression types) (short_expression types) false first_expression (λ _. more_expression)
   unfolding short_expression
-  short_expression_good = counted 9 (same expression_exact)
+  short_expression_good = counted length_limit 9 (same expression_exact)
 
   -- one turn of a chain
   pub chain_turn : (x y : Tree) (ts rest : List Token) → sees (kind types) (a_sign ∷ []) ts ≡ true → (chain_once types (expression types) x).parse ts ≡ Ok (y, rest) → (chain types (expression types) x).parse ts ≡ (chain types (expression types) y).parse rest

@@ -8,7 +8,7 @@ use Rattle.grammar_example.specs.declared.token.Operator.{Operator}
 use Rattle.grammar_example.specs.declared.token.Token.{Token}
 use Rattle.grammar_example.specs.declared.token.Token.TheVariants as tokens
 use Rattle.grammar_example.specs.Tree.{Tree, Plan, if_then, if_else, empty, is_open}
-use Rattle.grammar_example.specs.Token.{a_name, a_type, a_number, a_sign, open_paren, close_paren, a_semicolon, an_if, an_else, kind, name_of, type_of, number_of, operator_of}
+use Rattle.grammar_example.specs.Token.{a_name, a_type, a_number, a_sign, open_paren, close_paren, a_semicolon, an_if, an_else, kind, name_of, type_of, number_of, operator_of, length_limit, depth_limit}
 use Rattle.grammar_example.specs.Grammar.{first_expression, first_statement, in_parens, operand_of, operand, chain_once, chain, expression_of, expression, short_expression, empty_statement, value_statement, else_first, else_part, if_statement, statement_of, statement, statement_within}
 use Rattle.grammar_example.proofs.Tokens.{token_solid, name_good, type_good, number_good, operator_good}
 use Rattle.grammar_example.proofs.Expressions.{more_expression, operand_good, expression_exact, expression_is, operand_is}
@@ -115,7 +115,7 @@ module _ (types : List ℕ) where
 
   short_expression_solid : {n : ℕ} → IsSolid (kind types) n (short_expression types) true false first_expression (λ _. more_expression)
   unfolding short_expression
-  short_expression_solid {n} = at_most_solid 9 (expression_solid n)
+  short_expression_solid {n} = at_most_solid length_limit 9 (expression_solid n)
 
   empty_statement_solid : {n : ℕ} → IsSolid (kind types) n (empty_statement types) true false (a_semicolon ∷ []) (λ _. [])
   unfolding empty_statement
@@ -165,7 +165,7 @@ module _ (types : List ℕ) where
   within_solid zero n = deep_is (within_exact zero)
     where
       deep_is : IsExact (kind types) (statement_within types zero) false first_statement more_statement → IsSolid (kind types) n (statement_within types zero) true false first_statement more_statement
-      deep_is e = deep_solid first_statement (statement types) e
+      deep_is e = deep_solid depth_limit first_statement (statement types) e
   within_solid (suc d) n = turned (λ k. within_solid d k) n
     where
       turned : ((k : ℕ) → IsSolid (kind types) k (statement_within types d) true false first_statement more_statement) → (k : ℕ) → IsSolid (kind types) k (statement_within types (suc d)) true false first_statement more_statement

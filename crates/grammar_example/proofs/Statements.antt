@@ -6,7 +6,7 @@ use Rattle.grammar.proofs.Sets.{within, apart}
 use Rattle.grammar.proofs.Productions.{seq, given, same, seq_to, after_to, made, either_to, maybe_to, tail_to, widened, too_deep, knot_exact, knot_is}
 use Rattle.grammar_example.specs.declared.token.Token.{Token}
 use Rattle.grammar_example.specs.Tree.{Tree, Plan, empty, if_then, if_else, is_open}
-use Rattle.grammar_example.specs.Token.{a_semicolon, an_if, an_else, open_paren, close_paren, kind}
+use Rattle.grammar_example.specs.Token.{a_semicolon, an_if, an_else, open_paren, close_paren, kind, depth_limit}
 use Rattle.grammar_example.specs.Grammar.{first_expression, first_statement, empty_statement, value_statement, else_first, else_part, if_statement, statement_of, statement, statement_within}
 use Rattle.grammar_example.proofs.Tokens.{token_good}
 use Rattle.grammar_example.proofs.Expressions.{short_expression_good}
@@ -93,5 +93,5 @@ module _ (types : List ℕ) where
   -- at a depth that is limited, where each token of the first set begins a statement
   pub statement_within_exact : ((t : Token) → among (kind types t) first_statement ≡ true → (statement types).begun (t ∷ [])) → (d : ℕ) → IsExact (kind types) (statement_within types d) false first_statement more_statement
   unfolding statement_within
-  statement_within_exact opens zero = (too_deep {n = 0} first_statement statement_exact opens).here
+  statement_within_exact opens zero = (too_deep {n = 0} depth_limit first_statement statement_exact opens).here
   statement_within_exact opens (suc d) = (statement_of_good 0 (λ _. statement_within types d) (λ _. statement_within types d) (λ _. same (statement_within_exact opens d)) tt).here

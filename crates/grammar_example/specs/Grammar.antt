@@ -7,7 +7,7 @@ use Rattle.std.specs.Prelude.{ℕ, zero, suc, List, [], ◌∷◌, cond}
 use Rattle.grammar.specs.Syntax.{Syntax, gives, one, ◌then◌, choice, many, knot, deep, at_most}
 use Rattle.grammar_example.specs.declared.token.Token.{Token}
 use Rattle.grammar_example.specs.Tree.{Tree, name, number, cast, binary, Plan, empty, value, if_then, if_else, is_open}
-use Rattle.grammar_example.specs.Token.{a_name, a_type, a_number, a_sign, open_paren, close_paren, a_semicolon, an_if, an_else, kind, token, name_of, type_of, number_of, operator_of}
+use Rattle.grammar_example.specs.Token.{a_name, a_type, a_number, a_sign, open_paren, close_paren, a_semicolon, an_if, an_else, kind, token, name_of, type_of, number_of, operator_of, length_limit, depth_limit}
 
 abbrev pub first_expression : List ℕ
 first_expression = a_name ∷ a_number ∷ open_paren ∷ []
@@ -41,7 +41,7 @@ module _ (types : List ℕ) where
 
   -- an expression of at most 9 tokens
   unfoldable pub short_expression : Syntax Token Tree
-  short_expression = at_most 9 expression
+  short_expression = at_most length_limit 9 expression
 
   unfoldable pub empty_statement : Syntax Token Plan
   empty_statement = token types a_semicolon then λ _. gives empty
@@ -68,7 +68,7 @@ module _ (types : List ℕ) where
 
   -- a statement that may be so deep
   unfoldable pub statement_within : ℕ → Syntax Token Plan
-  statement_within zero = deep (kind types) first_statement statement
+  statement_within zero = deep depth_limit (kind types) first_statement statement
   statement_within (suc d) = statement_of (λ _. statement_within d) tt
 
   -- a statement in which statements are at most 3 deep

@@ -6,6 +6,8 @@ use Rattle.grammar_example.specs.declared.token.Token.{Token}
 use Rattle.grammar_example.specs.declared.token.Token.TheVariants as tokens
 use Rattle.grammar_example.specs.declared.token.Kind.{Kind}
 use Rattle.grammar_example.specs.declared.token.Kind.TheVariants as kinds
+use Rattle.grammar_example.specs.declared.token.Limit.{Limit}
+use Rattle.grammar_example.specs.declared.token.Limit.TheVariants as limits
 use Rattle.grammar_example.specs.declared.token.ReadError.{ReadError}
 use Rattle.grammar_example.specs.declared.token.ReadError.TheVariants as errors
 
@@ -81,12 +83,24 @@ abbrev pub operator_of : Token → Option Operator
 operator_of (tokens.Sign op) = Some op
 operator_of _ = None
 
+-- ---- the limits
+
+abbrev pub length_limit : ℕ
+length_limit = 0
+
+abbrev pub depth_limit : ℕ
+depth_limit = 1
+
+abbrev pub label : Limit → ℕ
+label limits.Length = length_limit
+label limits.Depth = depth_limit
+
 -- ---- what a function returned is what reading gives, unless memory ran out
 
 abbrev pub Fails : {Y : Type 0} → ReadError → Result Y Fault → Type 0
 Fails errors.Memory read = Unit {0}
 Fails (errors.At n) read = read ≡ Err (At n)
-Fails (errors.Over n) read = read ≡ Err (Over n)
+Fails (errors.Over limit n) read = read ≡ Err (Over (label limit) n)
 
 abbrev pub Gives : {X Y : Type 0} → (X → Y) → Result X ReadError → Result Y Fault → Type 0
 Gives view (Ok x) read = read ≡ Ok (view x)

@@ -50,6 +50,7 @@ pub fn one_statement(types: &[u32])
 #[cfg(test)]
 mod tests {
     use super::*;
+    use crate::token::Limit;
     use crate::token::Operator::{Minus, Plus};
     use crate::token::Token::{CloseParen, Else, If, Name, Number, OpenParen, Semicolon, Sign};
     use crate::tree::Expr;
@@ -58,7 +59,8 @@ mod tests {
         match read_statement(alloc, types, tokens) {
             Ok((_, rest)) => ('r', rest.len()),
             Err(ReadError::At(left)) => ('a', left),
-            Err(ReadError::Over(left)) => ('o', left),
+            Err(ReadError::Over(Limit::Length, left)) => ('l', left),
+            Err(ReadError::Over(Limit::Depth, left)) => ('d', left),
             Err(ReadError::Memory) => ('m', 0),
         }
     }
@@ -158,7 +160,7 @@ mod tests {
             Number(1),
             Semicolon,
         ];
-        assert_eq!(rt; outcome(alloc, &[], &deep), ('o', 3));
+        assert_eq!(rt; outcome(alloc, &[], &deep), ('l', 3));
         let clash = [
             open, open, open, open, open, open, open, open, open, Semicolon, Semicolon,
         ];
@@ -178,6 +180,6 @@ mod tests {
             CloseParen,
             Semicolon,
         ];
-        assert_eq!(rt; outcome(alloc, &[], &nested), ('o', 1));
+        assert_eq!(rt; outcome(alloc, &[], &nested), ('d', 1));
     }
 }

@@ -7,7 +7,7 @@ ghost use Rattle.grammar_example.specs.Token.{Gives, kind};
 ghost use Rattle.grammar_example.specs.Grammar.{first_statement, short_expression, empty_statement, value_statement, else_first, else_part, if_statement, statement_within};
 
 use crate::expression::expression;
-use crate::token::{Kind, ReadError, Token, is_type, next_is, skip};
+use crate::token::{Kind, Limit, ReadError, Token, is_type, next_is, skip};
 use crate::tree::{Expr, Stmt};
 use std::alloc::{AllocError, Global};
 
@@ -33,15 +33,15 @@ fn short_expression<'a>(
     match expression(alloc, types, near) {
         Ok((read, rest)) => {
             if rest.is_empty() {
-                Err(ReadError::Over(far.len() + 1))
+                Err(ReadError::Over(Limit::Length, far.len() + 1))
             } else {
                 let (_, behind) = tokens.split_at(tokens.len() - (rest.len() + far.len()));
                 Ok((read, behind))
             }
         }
-        Err(ReadError::At(0)) => Err(ReadError::Over(far.len() + 1)),
+        Err(ReadError::At(0)) => Err(ReadError::Over(Limit::Length, far.len() + 1)),
         Err(ReadError::At(left)) => Err(ReadError::At(left + far.len())),
-        Err(ReadError::Over(left)) => Err(ReadError::Over(left + far.len())),
+        Err(ReadError::Over(limit, left)) => Err(ReadError::Over(limit, left + far.len())),
         Err(ReadError::Memory) => Err(ReadError::Memory),
     }
 }
@@ -180,7 +180,7 @@ pub fn statement_within<'a>(
 {
     if depth == 0 {
         if begins_statement(types, tokens) {
-            Err(ReadError::Over(tokens.len()))
+            Err(ReadError::Over(Limit::Depth, tokens.len()))
         } else {
             Err(ReadError::At(tokens.len()))
         }

@@ -39,14 +39,22 @@ pub enum Kind {
     Else,
 }
 
+#[derive(Clone, Copy)]
+pub enum Limit {
+    /// Of the tokens of an expression.
+    Length,
+    /// Of statements in one another.
+    Depth,
+}
+
 /// Why reading stopped. A place is the number of tokens from it to the end of the text.
 #[derive(Drop)]
 pub enum ReadError {
     Memory,
     /// The token at the place can't follow those before it.
     At(usize),
-    /// The token at the place can follow, but passes a limit.
-    Over(usize),
+    /// The token at the place can follow, but passes the limit.
+    Over(Limit, usize),
 }
 
 impl From<AllocError> for ReadError {

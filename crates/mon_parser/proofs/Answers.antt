@@ -13,7 +13,7 @@ use Rattle.mon_syntax.specs.Grammar.{Vocabulary, head_kind, first_function, kind
 use Rattle.mon_syntax.specs.Spelled.{vocabulary, IsRead, grammar_refusal}
 use Rattle.mon_parser.specs.declared.fault.ReadFault.{ReadFault}
 use Rattle.mon_parser.specs.declared.fault.ReadFault.TheVariants as fault
-use Rattle.mon_parser.specs.Reading.{plain_list, Fails}
+use Rattle.mon_parser.specs.Reading.{plain_list, label, Fails}
 use Rattle.mon_parser.specs.Answers.{Refuses, RefusesWith, RefusesFault}
 use Rattle.mon_syntax.proofs.ExactTexts.{text_exact}
 
@@ -44,7 +44,7 @@ module _ (ts : PlainTokens) where
   -- a fault was given
   faulty : (r : ReadFault) (e : FrontFault) → Fails r parsed → RefusesFault ts r e → Refuses e ts
   faulty (fault.At n) e k g = fault_given (At n) k e g
-  faulty (fault.Over n) e k g = fault_given (Over n) k e g
+  faulty (fault.Over limit n) e k g = fault_given (Over (label limit) n) k e g
   faulty fault.Memory e k g = subst (λ (x : FrontFault). Refuses x ts) (sym g) tt
 
   -- tokens are left over: the first of them can't follow

@@ -6,10 +6,10 @@ use Rattle.grammar.proofs.Productions.{turn, turn_fails, turn_ends}
 use Rattle.c_syntax.specs.declared.token.Token.{Token}
 use Rattle.c_syntax.specs.Tokens.{PlainToken, plain_token}
 use Rattle.mon_syntax.specs.Parsed.{ParsedArgument, ParsedStatement, ParsedRegister}
-use Rattle.mon_syntax.specs.Grammar.{Vocabulary, InBody, LoopRead, left_paren, comma, type_kind, mark_kind, kind, first_statement, mark, opened, behind_paren, behind_opened, next_argument, one_more, one_more_in_loop, statement_with, statement_in, register}
+use Rattle.mon_syntax.specs.Grammar.{Vocabulary, InBody, LoopRead, left_paren, comma, type_kind, mark_kind, kind, first_statement, expression_limit, nesting_limit, mark, opened, behind_paren, behind_opened, next_argument, one_more, one_more_in_loop, statement_with, statement_in, register}
 use Rattle.mon_parser.specs.declared.fault.ReadFault.{ReadFault}
 use Rattle.mon_parser.specs.declared.fault.ReadFault.TheVariants as fault
-use Rattle.mon_parser.specs.Reading.{plain_list, Fails, more_arguments, more_statements, more_in_loop, more_registers}
+use Rattle.mon_parser.specs.Reading.{plain_list, label, Fails, more_arguments, more_statements, more_in_loop, more_registers}
 use Rattle.mon_syntax.proofs.ExactTokens.{IsRead}
 use Rattle.mon_syntax.proofs.ExactExpressions.{paren, next_argument_good}
 use Rattle.mon_syntax.proofs.ExactStatements.{one_more_good, one_more_in_loop_good, statement_good}
@@ -23,7 +23,7 @@ module _ (ws : Vocabulary) where
   opened_is zero ts h = absurd (omega arith)
   opened_is (suc n) ts h = refl
 
-  pub opened_over : (n : ℕ) (ts : List PlainToken) → n ≡ 0 → sees (kind ws) (mark_kind left_paren ∷ []) ts ≡ true → (opened ws n).parse ts ≡ Err (Over (length ts))
+  pub opened_over : (n : ℕ) (ts : List PlainToken) → n ≡ 0 → sees (kind ws) (mark_kind left_paren ∷ []) ts ≡ true → (opened ws n).parse ts ≡ Err (Over expression_limit (length ts))
   unfolding opened
   opened_over zero ts h s = rw s refl
   opened_over (suc n) ts h s = absurd (omega arith)
@@ -48,7 +48,7 @@ module _ (ws : Vocabulary) where
   statement_is zero no_step ts h = absurd (omega arith)
   statement_is (suc n) no_step ts h = let e : suc n - 1 ≡ n = omega arith in rw e refl
 
-  pub statement_over : (n : ℕ) (no_step : Bool) (ts : List PlainToken) → n ≡ 0 → sees (kind ws) first_statement ts ≡ true → (statement_in ws n no_step).parse ts ≡ Err (Over (length ts))
+  pub statement_over : (n : ℕ) (no_step : Bool) (ts : List PlainToken) → n ≡ 0 → sees (kind ws) first_statement ts ≡ true → (statement_in ws n no_step).parse ts ≡ Err (Over nesting_limit (length ts))
   unfolding statement_in
   statement_over zero no_step ts h s = rw s refl
   statement_over (suc n) no_step ts h s = absurd (omega arith)
@@ -75,7 +75,7 @@ shorter ws G g ts rest x e =
 
 again : {Y : Type 0} {r s : Result Y Fault} (e : ReadFault) → ((d : Fault) → r ≡ Err d → s ≡ Err d) → Fails e r → Fails e s
 again (fault.At n) f h = f (At n) h
-again (fault.Over n) f h = f (Over n) h
+again (fault.Over limit n) f h = f (Over (label limit) n) h
 again fault.Memory f h = tt
 
 module _ (ws : Vocabulary) where

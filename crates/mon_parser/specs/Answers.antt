@@ -13,6 +13,7 @@ use Rattle.mon_syntax.specs.Grammar.{text}
 use Rattle.mon_syntax.specs.Spelled.{vocabulary, IsRead, grammar_refusal}
 use Rattle.mon_parser.specs.declared.fault.ReadFault.{ReadFault}
 use Rattle.mon_parser.specs.declared.fault.ReadFault.TheVariants as fault
+use Rattle.mon_parser.specs.Reading.{label}
 
 -- The tokens are refused by the grammar: they are no reading, and the refusal names the first token that can't follow
 -- those before it (E4) or that passes a limit (E11).
@@ -34,7 +35,7 @@ RefusesWith r (front.Refused x) = plain_refusal x ≡ r
 -- the refusal for a fault
 abbrev pub RefusesFault : PlainTokens → ReadFault → FrontFault → Type 0
 RefusesFault ts (fault.At n) e = RefusesWith (grammar_refusal ts (At n)) e
-RefusesFault ts (fault.Over n) e = RefusesWith (grammar_refusal ts (Over n)) e
+RefusesFault ts (fault.Over limit n) e = RefusesWith (grammar_refusal ts (Over (label limit) n)) e
 RefusesFault ts fault.Memory e = e ≡ front.Memory
 
 -- the refusal with this code, place and word, where there is a word

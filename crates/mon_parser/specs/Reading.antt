@@ -4,8 +4,10 @@ use Rattle.grammar.specs.Syntax.{Syntax, many, Fault, At, Over}
 use Rattle.c_syntax.specs.declared.token.Token.{Token}
 use Rattle.c_syntax.specs.Tokens.{PlainToken, plain_token}
 use Rattle.mon_syntax.specs.Parsed.{ParsedArgument, ParsedStatement, ParsedRegister}
-use Rattle.mon_syntax.specs.Grammar.{Vocabulary, InBody, LoopRead, type_kind, mark_kind, comma, kind, first_statement, next_argument, one_more, one_more_in_loop, register}
+use Rattle.mon_syntax.specs.Grammar.{Vocabulary, InBody, LoopRead, type_kind, mark_kind, comma, kind, first_statement, expression_limit, nesting_limit, next_argument, one_more, one_more_in_loop, register}
 use Rattle.mon_parser.specs.declared.statement.LoopRead as code_loop
+use Rattle.mon_parser.specs.declared.fault.Limit.{Limit}
+use Rattle.mon_parser.specs.declared.fault.Limit.TheVariants as limits
 use Rattle.mon_parser.specs.declared.fault.ReadFault.{ReadFault}
 use Rattle.mon_parser.specs.declared.fault.ReadFault.TheVariants as fault
 use Rattle.mon_parser.specs.ParsedTrees.{plain_stmt}
@@ -13,9 +15,13 @@ use Rattle.mon_parser.specs.ParsedTrees.{plain_stmt}
 abbrev pub plain_list : List Token → List PlainToken
 plain_list ts = map plain_token ts
 
+abbrev pub label : Limit → ℕ
+label limits.Expression = expression_limit
+label limits.Nesting = nesting_limit
+
 abbrev pub Fails : {Y : Type 0} → ReadFault → Result Y Fault → Type 0
 Fails (fault.At n) read = read ≡ Err (At n)
-Fails (fault.Over n) read = read ≡ Err (Over n)
+Fails (fault.Over limit n) read = read ≡ Err (Over (label limit) n)
 Fails fault.Memory read = Unit {0}
 
 abbrev pub Gives : {X Y : Type 0} → (X → Y) → Result X ReadFault → Result Y Fault → Type 0

@@ -5,7 +5,7 @@ ghost use Rattle.mon_syntax.specs.Grammar.{signed_number, opened, constant, plai
 ghost use Rattle.mon_parser.specs.ParsedTrees.{plain_literal, plain_expr};
 ghost use Rattle.mon_parser.specs.Reading.{Gives, plain_list};
 
-use crate::fault::ReadFault;
+use crate::fault::{Limit, ReadFault};
 use crate::kinds::{CONSTANT, LEFT_PAREN, MINUS, NAME, RIGHT_PAREN, TILDE, TYPE};
 use crate::parsed::{Literal, ParsedExpr};
 use crate::terminals::{constant_word, left, name, next_is, number, operator, skip, type_name};
@@ -28,7 +28,7 @@ fn opened<'a>(
     if room > 0 {
         skip(words, LEFT_PAREN, tokens)
     } else if next_is(words, LEFT_PAREN, tokens) {
-        Err(ReadFault::Over(left(tokens)))
+        Err(ReadFault::Over(Limit::Expression, left(tokens)))
     } else {
         Err(ReadFault::At(left(tokens)))
     }

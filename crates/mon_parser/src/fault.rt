@@ -5,12 +5,21 @@ ghost use Rattle.mon_parser.specs.declared.fault.ReadFault.TheVariants.{Memory};
 
 use std::alloc::{AllocError, AllocFailed};
 
+/// A limit of monitored texts.
+#[derive(Clone, Copy, PartialEq, Eq, Debug)]
+pub enum Limit {
+    /// Of the parentheses that are open at once in an expression.
+    Expression,
+    /// Of the depth at which statements stand in one another.
+    Nesting,
+}
+
 #[derive(Clone, Copy, PartialEq, Eq, Debug, Drop)]
 pub enum ReadFault {
     /// The first of so many tokens that are left can't follow, or one was wanting behind the last.
     At(usize),
-    /// The first of so many tokens that are left passes a limit.
-    Over(usize),
+    /// The first of so many tokens that are left passes the limit.
+    Over(Limit, usize),
     /// Memory was wanting.
     Memory,
 }

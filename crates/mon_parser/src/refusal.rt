@@ -6,10 +6,10 @@ ghost use Rattle.c_syntax.specs.Tokens.{plain_token_kind, plain_tokens};
 ghost use Rattle.c_model.specs.MonitoredTokens.{marks};
 ghost use Rattle.mon_syntax.specs.Spelled as form;
 ghost use Rattle.mon_syntax.specs.Spelled.{or_nothing, token_word, word_at, place_at, limit_word};
-ghost use Rattle.mon_parser.specs.Reading.{plain_list};
+ghost use Rattle.mon_parser.specs.Reading.{label, plain_list};
 ghost use Rattle.mon_parser.specs.Answers.{RefusesFault, RefusesWord};
 
-use crate::fault::ReadFault;
+use crate::fault::{Limit, ReadFault};
 use c_syntax::{FrontFault, Name, Place, Refusal, Token, TokenKind, Tokens};
 use std::alloc::{AllocError, Global};
 
@@ -99,16 +99,13 @@ fn last(n: usize, tokens: &[Token]) -> &[Token]
     }
 }
 
-/// What passes a limit: `expression` for a parenthesis, and else `nesting`.
-fn limit_word(tokens: &[Token]) -> &'static [u8]
-    ensures { result.now ≡ limit_word (plain_list tokens.now) }
+/// How a limit is named where it is passed.
+fn limit_word(limit: Limit) -> &'static [u8]
+    ensures { result.now ≡ limit_word (label limit) }
 {
-    match tokens {
-        [] => b"",
-        [token, ..] => match token.kind {
-            TokenKind::Mark(39) => b"expression",
-            _ => b"nesting",
-        },
+    match limit {
+        Limit::Expression => b"expression",
+        Limit::Nesting => b"nesting",
     }
 }
 
@@ -136,9 +133,9 @@ pub fn refuse(alloc: Global, tokens: &Tokens, fault: ReadFault) -> FrontFault
             let word = refused_word(alloc, tokens.names.as_slice(), rest);
             refused(4, place_at(tokens.end, rest), word)
         }
-        ReadFault::Over(n) => {
+        ReadFault::Over(limit, n) => {
             let rest = last(n, tokens.list.as_slice());
-            let word = Vec::from_slice(alloc, limit_word(rest));
+            let word = Vec::from_slice(alloc, limit_word(limit));
             refused(11, place_at(tokens.end, rest), word)
         }
         ReadFault::Memory => FrontFault::Memory,

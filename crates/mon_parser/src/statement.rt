@@ -8,7 +8,7 @@ ghost use Rattle.mon_parser.specs.Reading.{Gives, plain_list, plain_loop, more_s
 
 use crate::call::call_of;
 use crate::expression::{expression, expression_but_name};
-use crate::fault::ReadFault;
+use crate::fault::{Limit, ReadFault};
 use crate::kinds::{
     ASSIGN, COLON, ELSE, GOTO, IF, LEFT_BRACE, LEFT_PAREN, NAME, RETURN, RIGHT_BRACE, RIGHT_PAREN,
     SEMICOLON, WHILE, word_at,
@@ -425,7 +425,7 @@ fn statement<'a>(
 {
     if levels == 0 {
         return if next_begins_statement(words, tokens) {
-            Err(ReadFault::Over(left(tokens)))
+            Err(ReadFault::Over(Limit::Nesting, left(tokens)))
         } else {
             Err(ReadFault::At(left(tokens)))
         };

@@ -1,3 +1,2 @@
-pub mod OneFault
 pub mod Phases
 pub mod Texts

@@ -3,6 +3,7 @@ use Rattle.std.proofs.Common.{◌≡◌, ℕ, List, Option, Some, None, Result, 
 use Rattle.grammar.specs.Syntax as grammar
 use Rattle.grammar.specs.Exact.{Refused}
 use Rattle.grammar.proofs.Theorem.{fronts_begin}
+use Rattle.grammar.proofs.OneAnswer.{one_fault}
 use Rattle.c_syntax.specs.Tokens.{PlainTokens}
 use Rattle.c_syntax.specs.Programs.{PlainRefusal}
 use Rattle.c_model.specs.MonitoredTokens.{monitored_tokens}
@@ -12,8 +13,8 @@ use Rattle.mon_syntax.specs.Grammar.{text}
 use Rattle.mon_syntax.specs.Checking.{Checked}
 use Rattle.mon_syntax.specs.Spelled.{vocabulary, IsRead, grammar_refusal, checked, check_refusal, main_refusal, Spells, IsMonitoredRefusal, ByTokens, ByGrammar, ByNamesAndTypes, ForMain}
 use Rattle.mon_syntax.proofs.ExactTexts.{text_exact}
+use Rattle.mon_syntax.proofs.PassedLimits.{one_limit}
 use Rattle.mon_parser.proofs.Answers.{one}
-use Rattle.mon_reader.proofs.OneFault.{one_fault}
 
 abbrev Answer : Type 0
 Answer = Result MonitoredProgram PlainRefusal
@@ -67,7 +68,7 @@ one_broken : (source : List ℕ) (r s : PlainRefusal) → monitored_tokens sourc
 one_broken source r s e k = cc
 
 one_grammar_fault : (ts : PlainTokens) (f g : grammar.Fault) → Refused (text (vocabulary ts)) ts.list f → Refused (text (vocabulary ts)) ts.list g → f ≡ g
-one_grammar_fault ts = one_fault (text (vocabulary ts)) (fronts_begin (text (vocabulary ts)) _ _ _ (text_exact (vocabulary ts))) ts.list
+one_grammar_fault ts = one_fault (text (vocabulary ts)) (fronts_begin (text (vocabulary ts)) _ _ _ (text_exact (vocabulary ts))) ts.list (one_limit (vocabulary ts))
 
 both_unread : (source : List ℕ) (a b : Answer) → IsUnread source a → IsUnread source b → a ≡ b
 both_unread source a b x y =

@@ -295,6 +295,14 @@ with_statement ws x a = elim x.behind [
   | Some b ↦ record { before = x.before; behind = Some (b ++ a ∷ []) }
 ]
 
+-- ---- the labels of the limits: parentheses open at once, and the depth of statements
+
+abbrev pub expression_limit : ℕ
+expression_limit = 0
+
+abbrev pub nesting_limit : ℕ
+nesting_limit = 1
+
 module _ (ws : Vocabulary) where
   -- a token of this kind, by its place
   abbrev pub fixed : ℕ → Syntax PlainToken Place
@@ -364,7 +372,7 @@ module _ (ws : Vocabulary) where
 
   -- a parenthesis, where n more may be opened
   unfoldable pub opened : ℕ → Syntax PlainToken Place
-  opened zero = deep (kind ws) (mark_kind left_paren ∷ []) (mark left_paren)
+  opened zero = deep expression_limit (kind ws) (mark_kind left_paren ∷ []) (mark left_paren)
   opened (suc n) = mark left_paren
 
   -- what stands behind a parenthesis that was opened where n more might be
@@ -486,7 +494,7 @@ module _ (ws : Vocabulary) where
 
   -- a statement in which statements stand at most n deep, itself included
   unfoldable pub statement_in : ℕ → InBody
-  statement_in zero no_step = deep (kind ws) first_statement (statement_with (λ _. none) no_step)
+  statement_in zero no_step = deep nesting_limit (kind ws) first_statement (statement_with (λ _. none) no_step)
   statement_in (suc n) no_step = statement_with (statement_in n) no_step
 
   -- ---- functions and texts

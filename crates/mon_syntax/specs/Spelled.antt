@@ -15,7 +15,7 @@ use Rattle.mon_syntax.specs.Trees.{MonitoredProgram}
 use Rattle.mon_syntax.specs.Words.{word_of}
 use Rattle.mon_syntax.specs.Parsed.{ParsedProgram}
 use Rattle.mon_syntax.specs.Grammar as form
-use Rattle.mon_syntax.specs.Grammar.{Vocabulary, text, left_paren}
+use Rattle.mon_syntax.specs.Grammar.{Vocabulary, text, expression_limit}
 use Rattle.mon_syntax.specs.Checking.{Fault, same_type, word_bytes, checked_program}
 
 -- ---- words of refusals
@@ -57,19 +57,14 @@ abbrev pub last : ℕ → List PlainToken → List PlainToken
 last n [] = []
 last n (t ∷ ts) = if eqb n (suc (length ts)) then t ∷ ts else last n ts
 
--- ---- the grammar's refusals: E4, or E11 for a parenthesis or a statement that passes its limit
+-- ---- the grammar's refusals: E4, or E11 for a token that passes a limit
 
-abbrev pub is_paren : PlainTokenKind → Bool
-is_paren (token.Mark m) = eqb m left_paren
-is_paren _ = false
-
-abbrev pub limit_word : List PlainToken → List ℕ
-limit_word [] = []
-limit_word (t ∷ ts) = if is_paren t.kind then codes "expression" else codes "nesting"
+abbrev pub limit_word : ℕ → List ℕ
+limit_word limit = if eqb limit expression_limit then codes "expression" else codes "nesting"
 
 abbrev pub grammar_refusal : PlainTokens → grammar.Fault → PlainRefusal
 grammar_refusal ts (grammar.At n) = refused_at ts 4 (last n ts.list)
-grammar_refusal ts (grammar.Over n) = record { code = 11; place = place_at ts.end (last n ts.list); construct = limit_word (last n ts.list) }
+grammar_refusal ts (grammar.Over limit n) = record { code = 11; place = place_at ts.end (last n ts.list); construct = limit_word limit }
 
 -- what the words of a text are
 abbrev pub vocabulary : PlainTokens → Vocabulary
