@@ -41,6 +41,22 @@ use Rattle.c_model.specs.declared.vocabulary.IntegerWords.{IntegerWords}
 use Rattle.c_model.specs.Vocabulary.{Vocabulary, word_at, no_words, words_with, integer_type}
 use Rattle.c_model.specs.Punctuators.{increment, decrement, shift_left, shift_right, less_equal, greater_equal, equal, not_equal, and_and, or_or, shift_left_assign, shift_right_assign, add_assign, subtract_assign, multiply_assign, divide_assign, remainder_assign, and_assign, or_assign, xor_assign, plus, minus, times, divide, percent, less, greater, assign, exclamation, tilde, ampersand, bar, caret, question, colon, comma, left_paren, right_paren}
 
+-- ---- limits (this profile), by their labels
+
+-- how many tokens an expression has at most that stands in no other
+abbrev pub expression_limit : ℕ
+expression_limit = 0
+
+abbrev pub most_in_expression : ℕ
+most_in_expression = 400
+
+-- how deep statements stand at most in one another
+abbrev pub nesting_limit : ℕ
+nesting_limit = 1
+
+abbrev pub most_nested : ℕ
+most_nested = 200
+
 -- ---- kinds of tokens, by which alternatives are told apart
 
 abbrev pub name_kind : ℕ
@@ -479,15 +495,11 @@ module _ (ws : Vocabulary) where
 
   -- ---- expressions that stand in no other
 
-  -- the limit of their tokens (this profile)
-  abbrev pub most_in_expression : ℕ
-  most_in_expression = 400
-
   unfoldable pub full_expression : Syntax PlainToken Expression
-  full_expression = at_most most_in_expression expression
+  full_expression = at_most expression_limit most_in_expression expression
 
   unfoldable pub full_effect : Syntax PlainToken (Expression × Place)
-  full_effect = at_most most_in_expression effect
+  full_effect = at_most expression_limit most_in_expression effect
 
   unfoldable pub full_effect_or_call : Syntax PlainToken (Expression × Place)
-  full_effect_or_call = at_most most_in_expression effect_or_call
+  full_effect_or_call = at_most expression_limit most_in_expression effect_or_call

@@ -8,6 +8,7 @@ use Rattle.c_syntax.specs.Tokens.{PlainTokens}
 use Rattle.c_syntax.specs.Programs.{TranslationUnit, PlainRefusal}
 use Rattle.c_model.specs.CTokens.{tokens_of}
 use Rattle.c_model.specs.Vocabulary.{Vocabulary, word_of}
+use Rattle.c_model.specs.ExpressionGrammar.{expression_limit}
 use Rattle.c_model.specs.ProgramGrammar.{unit}
 use Rattle.c_model.specs.Checked.{Fault, Checked, Good, refusing}
 use Rattle.c_model.specs.ProgramTyping.{typed_unit, main_fault, noted_unit}
@@ -20,10 +21,13 @@ vocabulary ts = map word_of ts.names
 abbrev pub IsRead : PlainTokens → TranslationUnit → Type 0
 IsRead ts p = Accepts (unit (vocabulary ts) ts.names) ts.list p
 
--- E4 at the first token that can't follow those before it
+abbrev pub limit_word : ℕ → List ℕ
+limit_word limit = if eqb limit expression_limit then codes "expression" else codes "nesting"
+
+-- E4 at the first token that can't follow those before it, or E11 at one that passes a limit
 abbrev pub syntax_refusal : PlainTokens → grammar.Fault → PlainRefusal
 syntax_refusal ts (grammar.At n) = refused_at ts 4 (last n ts.list)
-syntax_refusal ts (grammar.Over n) = record { code = 11; place = place_at ts.end (last n ts.list); construct = codes "nesting" }
+syntax_refusal ts (grammar.Over limit n) = record { code = 11; place = place_at ts.end (last n ts.list); construct = limit_word limit }
 
 -- a fault of names or types, at its token
 abbrev pub checked_refusal : PlainTokens → Fault → PlainRefusal

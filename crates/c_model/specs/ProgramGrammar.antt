@@ -38,7 +38,7 @@ use Rattle.c_model.specs.declared.vocabulary.Word.{Word}
 use Rattle.c_model.specs.declared.vocabulary.Word.TheVariants as word
 use Rattle.c_model.specs.Vocabulary.{Vocabulary, word_at}
 use Rattle.c_model.specs.Punctuators.{less_equal, greater_equal, equal, not_equal, plus, minus, less, greater, assign, semicolon, comma, left_paren, right_paren, left_brace, right_brace}
-use Rattle.c_model.specs.ExpressionGrammar.{name_kind, number_kind, letter_kind, annot_open_kind, annot_close_kind, keyword_kind, mark_kind, kind, placed, letter_of, mark_entry, kinds_of, first_base, first_type, first_expression, first_effect, use_of, fixed, mark, reserved, name, base, consts, type, closed, most_in_expression, full_expression, full_effect, full_effect_or_call}
+use Rattle.c_model.specs.ExpressionGrammar.{name_kind, number_kind, letter_kind, annot_open_kind, annot_close_kind, keyword_kind, mark_kind, kind, placed, letter_of, mark_entry, kinds_of, first_base, first_type, first_expression, first_effect, use_of, expression_limit, most_in_expression, nesting_limit, most_nested, fixed, mark, reserved, name, base, consts, type, closed, full_expression, full_effect, full_effect_or_call}
 
 -- ---- what begins what
 
@@ -201,7 +201,7 @@ module _ (ws : Vocabulary) where
   -- an annotation, which takes the next number and gives the one behind
   unfoldable pub annotation : ℕ → Syntax PlainToken (BlockItem × ℕ)
   annotation n =
-      fixed ws annot_open_kind then λ _. at_most (most_in_expression ws) (assert_clause n) then λ a.
+      fixed ws annot_open_kind then λ _. at_most expression_limit most_in_expression (assert_clause n) then λ a.
       fixed ws annot_close_kind then λ _. gives (statement.Asserts (a ∷ []), n + 1)
 
   -- ---- statements; S stands for a statement inside another
@@ -294,7 +294,7 @@ module _ (ws : Vocabulary) where
 
   -- a statement in which statements stand at most d deep, itself included; one deeper passes the limit
   unfoldable pub statement_in : ℕ → Numbered
-  statement_in zero n = deep (kind ws) first_statement (statement_of (λ m. none) n)
+  statement_in zero n = deep nesting_limit (kind ws) first_statement (statement_of (λ m. none) n)
   statement_in (suc d) n = statement_of (statement_in d) n
 
   -- ---- declarations (C99 6.7)
@@ -336,10 +336,6 @@ module _ (ws : Vocabulary) where
   -- { "static" | "const" } base { "const" }
   unfoldable pub result_type : Syntax PlainToken PlainType
   result_type = many (kind ws) storage_words storage_word false then λ _. base ws then λ t. consts ws t
-
-  -- the limit of depth (this profile)
-  abbrev pub most_nested : ℕ
-  most_nested = 200
 
   -- "(" [ "void" ] ")"
   unfoldable pub no_parameters : Syntax PlainToken Place
