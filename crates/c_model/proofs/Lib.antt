@@ -21,6 +21,7 @@ pub mod CRefusalLaws
 pub mod NameLaws
 pub mod CNameLaws
 pub mod CIntegers
+pub mod CListLaws
 pub mod Blocks
 pub mod Results
 pub mod Conversions

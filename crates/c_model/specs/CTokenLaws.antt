@@ -4,7 +4,8 @@ use Rattle.std.specs.List.{list_all}
 use Rattle.std.specs.Str.Parse.{digits_value}
 use Rattle.c_syntax.specs.declared.types.CInt.{CInt}
 use Rattle.c_syntax.specs.Programs.{PlainRefusal}
-use Rattle.c_syntax.specs.Tokens.{PlainTokens}
+use Rattle.c_syntax.specs.Tokens as token
+use Rattle.c_syntax.specs.Tokens.{PlainTokenKind, PlainToken, PlainTokens}
 use Rattle.c_model.specs.declared.c_tokens.Mode.{Mode}
 use Rattle.c_model.specs.declared.c_tokens.Mode.TheVariants.{Code, Block, Line}
 use Rattle.c_model.specs.declared.c_tokens.Piece.{Piece}
@@ -350,3 +351,33 @@ NamesInOrder = (text : List ℕ) (tokens : PlainTokens) → tokens_of text ≡ O
 
 abbrev pub NamesDiffer : Type 0
 NamesDiffer = (text : List ℕ) (tokens : PlainTokens) → tokens_of text ≡ Ok tokens → AreDistinct tokens.names
+
+-- ---- the list of tokens
+
+-- each token begins behind the one before
+abbrev pub Ascend : List PlainToken → Type 0
+Ascend [] = Unit {0}
+Ascend (t ∷ []) = Unit {0}
+Ascend (t ∷ u ∷ ts) = (t.place.offset < u.place.offset) × Ascend (u ∷ ts)
+
+abbrev pub is_string : PlainTokenKind → Bool
+is_string (token.Chars bytes) = true
+is_string _ = false
+
+-- no string follows a string
+abbrev pub StringsApart : List PlainToken → Type 0
+StringsApart [] = Unit {0}
+StringsApart (t ∷ []) = Unit {0}
+StringsApart (t ∷ u ∷ ts) = (is_string t.kind && is_string u.kind ≡ false) × StringsApart (u ∷ ts)
+
+abbrev pub TokensAscend : Type 0
+TokensAscend = (text : List ℕ) (tokens : PlainTokens) → tokens_of text ≡ Ok tokens → Ascend tokens.list
+
+abbrev pub StringsAreJoined : Type 0
+StringsAreJoined = (text : List ℕ) (tokens : PlainTokens) → tokens_of text ≡ Ok tokens → StringsApart tokens.list
+
+abbrev pub TokensAreFew : Type 0
+TokensAreFew = (text : List ℕ) (tokens : PlainTokens) → tokens_of text ≡ Ok tokens → length tokens.list ≤ most_tokens
+
+abbrev pub EndIsBehindTheText : Type 0
+EndIsBehindTheText = (text : List ℕ) (tokens : PlainTokens) → tokens_of text ≡ Ok tokens → tokens.end ≡ place_of text

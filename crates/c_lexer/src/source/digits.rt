@@ -8,7 +8,7 @@ ghost use Rattle.c_lexer.specs.Source.{base_of};
 
 use crate::bytes::front;
 
-#[derive(Clone, Copy, PartialEq, Eq, Debug)]
+#[derive(Clone, Copy)]
 pub enum Base {
     Octal,
     Decimal,

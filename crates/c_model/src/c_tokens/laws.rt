@@ -1,6 +1,6 @@
 //! What holds of every C text with annotations. No function here has anything to do.
 
-ghost use Rattle.c_model.specs.CTokenLaws.{PiecesAreTheText, PiecesArePlaced, PiecesAreSpelled, BreaksAreFaults, LiteralsAreIntegers, RefusedAtFirstFault, NamesInOrder, NamesDiffer};
+ghost use Rattle.c_model.specs.CTokenLaws.{PiecesAreTheText, PiecesArePlaced, PiecesAreSpelled, BreaksAreFaults, LiteralsAreIntegers, RefusedAtFirstFault, NamesInOrder, NamesDiffer, TokensAscend, StringsAreJoined, TokensAreFew, EndIsBehindTheText};
 
 /// The pieces joined are the text, and each is at its place and spelled as its kind is. What is no piece is broken as its fault
 /// says.
@@ -25,4 +25,12 @@ pub fn refusals_of_a_c_text()
 pub fn names_of_a_c_text()
     ensures order { NamesInOrder }
     ensures distinct { NamesDiffer }
+{}
+
+/// Each token begins behind the one before, no string follows a string, there are at most 200,000, and the end is that of the text.
+pub fn tokens_of_a_c_text()
+    ensures ascend { TokensAscend }
+    ensures joined { StringsAreJoined }
+    ensures few { TokensAreFew }
+    ensures end { EndIsBehindTheText }
 {}
