@@ -14,7 +14,7 @@
 --   call    = NAME "(" [ expr { "," expr } ] ")"
 --
 -- An expression that stands in no other has at most 400 tokens. Types and declarations are set by typing.
-use Rattle.std.specs.Prelude.{ℕ, zero, suc, ◌+◌, ℤ, List, [], ◌∷◌, ◌++◌, Option, Some, None, option_map, Bool, true, false, cond, eqb, slice_get}
+use Rattle.std.specs.Prelude.{ℕ, zero, suc, ◌+◌, ℤ, List, [], ◌∷◌, ◌++◌, Option, Some, None, option_map, cond, eqb, slice_get}
 use Rattle.grammar.specs.Syntax.{Syntax, none, gives, one, ◌then◌, choice, many, knot, at_most}
 use Rattle.c_syntax.specs.declared.place.Place.{Place}
 use Rattle.c_syntax.specs.declared.types.CInt.{CInt}
@@ -29,6 +29,12 @@ use Rattle.c_syntax.specs.Ctypes.{PlainType, Void, Int, int_type}
 use Rattle.c_syntax.specs.Expressions.{Expression, Node, ExpressionKind, Number, Letter, Variable, Unary, Binary, Both, Either, Choice, Assign, Bump, Call, Cast, SizeOfType, SizeOfExpr, Expressions, NoExpression, Following}
 use Rattle.c_syntax.specs.Tokens as token
 use Rattle.c_syntax.specs.Tokens.{PlainTokenKind, PlainToken}
+use Rattle.c_model.specs.declared.operands.Form.{Form}
+use Rattle.c_model.specs.declared.operands.Form.TheVariants as form
+use Rattle.c_model.specs.declared.operands.TypeUse.{TypeUse}
+use Rattle.c_model.specs.declared.operands.TypeUse.TheVariants as type_use
+use Rattle.c_model.specs.declared.operands.Connective.{Connective}
+use Rattle.c_model.specs.declared.operands.Connective.TheVariants.{Operator, And, Or}
 use Rattle.c_model.specs.declared.vocabulary.Keyword.{Keyword}
 use Rattle.c_model.specs.declared.vocabulary.Keyword.TheVariants as keyword
 use Rattle.c_model.specs.declared.vocabulary.Word.{Word}
@@ -165,12 +171,6 @@ kinds_of (x ∷ xs) = mark_kind x.0 ∷ kinds_of xs
 abbrev pub unary_operators : List (ℕ × UnOp)
 unary_operators = (plus, Plus) ∷ (minus, Minus) ∷ (exclamation, Not) ∷ (tilde, Flip) ∷ []
 
--- what joins two operands
-pub data Connective : Type 0 where
-  Operator : BinOp → Connective
-  And : Connective
-  Or : Connective
-
 -- binary operators by level, from the one that binds closest, 0, to `||`, 9 (C99 6.5.5 to 6.5.14)
 abbrev pub operator_levels : List (List (ℕ × Connective))
 operator_levels =
@@ -254,6 +254,9 @@ words_behind x = signs_behind x.sign ++ sizes_behind x.size
 abbrev pub read_as : Place → ExpressionKind → Expression
 read_as at k = Node at int_type k
 
+abbrev pub kind_of : Expression → ExpressionKind
+kind_of (Node at t k) = k
+
 abbrev pub use_of : ℕ → Use
 use_of n = record { name = n; decl = 0 }
 
@@ -266,12 +269,6 @@ abbrev pub expressions : List Expression → Expressions
 expressions [] = NoExpression
 expressions (e ∷ es) = Following e (expressions es)
 
--- what form an operand has, by which it can go on: a primary expression with `++`, a unary one with `=`
-pub data Form : Type 0 where
-  IsPrimary : Form
-  IsUnary : Form
-  IsCast : Form
-
 -- an operand with its form and the place of its first token
 pub record ReadOperand : Type 0 where
   pub expression : Expression
@@ -279,7 +276,20 @@ pub record ReadOperand : Type 0 where
   pub first : Place
 
 abbrev pub read_operand : Expression → Form → Place → ReadOperand
-read_operand e form first = record { expression = e; form = form; first = first }
+read_operand e f at = record { expression = e; form = f; first = at }
+
+-- a name that is used
+abbrev pub read_name : ℕ × Place → ReadOperand
+read_name x = read_operand (read_as x.1 (Variable (use_of x.0))) form.Primary x.1
+
+-- what `sizeof` is of: the type that was read in parentheses, or the operand
+abbrev pub size_of_operand : ReadOperand → ExpressionKind
+size_of_operand x = elim x.form [
+  | form.TypeName ↦ kind_of x.expression
+  | form.Primary ↦ SizeOfExpr x.expression
+  | form.Unary ↦ SizeOfExpr x.expression
+  | form.Cast ↦ SizeOfExpr x.expression
+]
 
 module _ (ws : Vocabulary) where
   -- a token of this kind, by its place
@@ -317,15 +327,12 @@ module _ (ws : Vocabulary) where
   unfoldable pub integer_words : Syntax PlainToken PlainType
   integer_words = integer_word no_words then λ x. many (kind ws) words_behind integer_word x then λ y. gives (Int (integer_type y))
 
+  abbrev pub type_name_word_of : Word → Option PlainType
+  type_name_word_of (word.TypeName t) = Some (Int t)
+  type_name_word_of _ = None
+
   abbrev pub type_name_of : PlainTokenKind → Option PlainType
-  type_name_of (token.Word n) = elim (word_at ws n) [
-    | word.TypeName t ↦ Some (Int t)
-    | word.Keyword k ↦ None
-    | word.Assert ↦ None
-    | word.Integer ↦ None
-    | word.Logic ↦ None
-    | word.Name ↦ None
-  ]
+  type_name_of (token.Word n) = type_name_word_of (word_at ws n)
   type_name_of _ = None
 
   -- TYPENAME
@@ -343,16 +350,13 @@ module _ (ws : Vocabulary) where
   consts x = many (kind ws) (λ _. keyword_kind keyword.Const ∷ []) (λ y. reserved keyword.Const then λ _. gives y) x
 
   -- { "const" } base { "const" }
-  unfoldable pub type : Syntax PlainToken PlainType
-  type = consts (tt {0}) then λ _. base then λ t. consts t
+  unfoldable pub type_words : Syntax PlainToken PlainType
+  type_words = consts (tt {0}) then λ _. base then λ t. consts t
 
-  -- ---- expressions; E stands for an expression inside another, O for an operand, which is a cast where it may be one
+  -- ---- expressions; E stands for an expression inside another, O for an operand, by what a type in parentheses begins
 
   abbrev pub Operand : Type 1
-  Operand = Bool → Syntax PlainToken ReadOperand
-
-  abbrev pub read_name : ℕ × Place → ReadOperand
-  read_name x = read_operand (read_as x.1 (Variable (use_of x.0))) IsPrimary x.1
+  Operand = TypeUse → Syntax PlainToken ReadOperand
 
   -- ")", behind what is read
   unfoldable pub closed : {A : Type 0} → A → Syntax PlainToken A
@@ -361,48 +365,45 @@ module _ (ws : Vocabulary) where
   -- NUMBER | CHAR
   unfoldable pub literal : Syntax PlainToken ReadOperand
   literal =
-      choice (kind ws) (number_kind ∷ []) (one (placed number_of) then λ n. gives (read_operand (read_as n.1 (Number n.0.0 n.0.1)) IsPrimary n.1))
-      (one (placed letter_of) then λ z. gives (read_operand (read_as z.1 (Letter z.0)) IsPrimary z.1))
+      choice (kind ws) (number_kind ∷ []) (one (placed number_of) then λ n. gives (read_operand (read_as n.1 (Number n.0.0 n.0.1)) form.Primary n.1))
+      (one (placed letter_of) then λ z. gives (read_operand (read_as z.1 (Letter z.0)) form.Primary z.1))
 
   -- type ")" cast, behind "("
   unfoldable pub cast_rest : Operand → Place → Syntax PlainToken ReadOperand
-  cast_rest O at = type then λ t. mark right_paren then λ _. O true then λ x. gives (read_operand (read_as at (Cast t x.expression)) IsCast at)
+  cast_rest O at = type_words then λ t. mark right_paren then λ _. O type_use.Casts then λ x. gives (read_operand (read_as at (Cast t x.expression)) form.Cast at)
+
+  -- type ")", behind "(" of `sizeof`
+  unfoldable pub sized_type : Place → Syntax PlainToken ReadOperand
+  sized_type at = type_words then λ t. closed (read_operand (read_as at (SizeOfType t)) form.TypeName at)
 
   -- expr ")", behind "("
   unfoldable pub paren_rest : Syntax PlainToken Expression → Place → Syntax PlainToken ReadOperand
-  paren_rest E at = E then λ e. closed (read_operand e IsPrimary at)
+  paren_rest E at = E then λ e. closed (read_operand e form.Primary at)
 
-  -- what stands behind "("; a cast, where it may be one, begins with a type there
-  unfoldable pub behind_paren : Syntax PlainToken Expression → Operand → Bool → Place → Syntax PlainToken ReadOperand
-  behind_paren E O casts at = cond casts (choice (kind ws) first_type (cast_rest O at) (paren_rest E at)) (paren_rest E at)
+  -- what stands behind "("
+  unfoldable pub behind_paren : Syntax PlainToken Expression → Operand → TypeUse → Place → Syntax PlainToken ReadOperand
+  behind_paren E O type_use.Casts at = choice (kind ws) first_type (cast_rest O at) (paren_rest E at)
+  behind_paren E O type_use.Sizes at = choice (kind ws) first_type (sized_type at) (paren_rest E at)
+  behind_paren E O type_use.Nothing at = paren_rest E at
 
   -- ( "+" | "-" | "!" | "~" ) cast
   unfoldable pub prefixed : Operand → Syntax PlainToken ReadOperand
-  prefixed O = one (placed (mark_entry unary_operators)) then λ o. O true then λ x. gives (read_operand (read_as o.1 (Unary o.0 x.expression)) IsUnary o.1)
-
-  -- what stands behind "sizeof" "(": a type, or an expression, and ")"
-  unfoldable pub sized_in_parens : Syntax PlainToken Expression → Place → Syntax PlainToken ReadOperand
-  sized_in_parens E at =
-      choice (kind ws) first_type (type then λ t. closed (read_operand (read_as at (SizeOfType t)) IsUnary at))
-      (E then λ e. closed (read_operand (read_as at (SizeOfExpr e)) IsUnary at))
+  prefixed O = one (placed (mark_entry unary_operators)) then λ o. O type_use.Casts then λ x. gives (read_operand (read_as o.1 (Unary o.0 x.expression)) form.Unary o.1)
 
   -- "sizeof" unary | "sizeof" "(" type ")" (C99 6.5.3.4)
-  unfoldable pub sized : Syntax PlainToken Expression → Operand → Syntax PlainToken ReadOperand
-  sized E O =
-      reserved keyword.Sizeof then λ at.
-      choice (kind ws) (mark_kind left_paren ∷ []) (mark left_paren then λ _. sized_in_parens E at)
-      (O false then λ x. gives (read_operand (read_as at (SizeOfExpr x.expression)) IsUnary at))
+  unfoldable pub sized : Operand → Syntax PlainToken ReadOperand
+  sized O = reserved keyword.Sizeof then λ at. O type_use.Sizes then λ x. gives (read_operand (read_as at (size_of_operand x)) form.Unary at)
 
   -- an operand that begins with no name
   unfoldable pub operand_but_name : Syntax PlainToken Expression → Operand → Operand
-  operand_but_name E O casts =
-      choice (kind ws) (mark_kind left_paren ∷ []) (mark left_paren then λ at. behind_paren E O casts at)
+  operand_but_name E O u =
+      choice (kind ws) (mark_kind left_paren ∷ []) (mark left_paren then λ at. behind_paren E O u at)
       (choice (kind ws) (kinds_of unary_operators) (prefixed O)
-      (choice (kind ws) (keyword_kind keyword.Sizeof ∷ []) (sized E O) literal))
+      (choice (kind ws) (keyword_kind keyword.Sizeof ∷ []) (sized O) literal))
 
-  -- a cast where it may be one, and else a unary expression
+  -- a unary expression, or what a type in parentheses begins
   unfoldable pub operand_of : Syntax PlainToken Expression → Operand → Operand
-  operand_of E O casts = choice (kind ws) (name_kind ∷ []) (name then λ x. gives (read_name x)) (operand_but_name E O casts)
+  operand_of E O u = choice (kind ws) (name_kind ∷ []) (name then λ x. gives (read_name x)) (operand_but_name E O u)
 
   unfoldable pub operand : Syntax PlainToken Expression → Operand
   operand E = knot (operand_of E)
@@ -416,7 +417,7 @@ module _ (ws : Vocabulary) where
   behind_operand E zero x = gives x
   behind_operand E (suc l) x =
       behind_operand E l x then λ y.
-      many (kind ws) (λ _. kinds_of (operators_at l)) (joined_once l (operand E true then λ z. behind_operand E l z.expression)) y
+      many (kind ws) (λ _. kinds_of (operators_at l)) (joined_once l (operand E type_use.Casts then λ z. behind_operand E l z.expression)) y
 
   -- "?" expr ":" expr, behind the condition (C99 6.5.15)
   unfoldable pub choice_rest : Syntax PlainToken Expression → Expression → Syntax PlainToken Expression
@@ -427,7 +428,7 @@ module _ (ws : Vocabulary) where
   expression_rest E x = behind_operand E levels x then λ y. choice (kind ws) (mark_kind question ∷ []) (choice_rest E y) (gives y)
 
   unfoldable pub expression_of : Syntax PlainToken Expression → Syntax PlainToken Expression
-  expression_of E = operand E true then λ x. expression_rest E x.expression
+  expression_of E = operand E type_use.Casts then λ x. expression_rest E x.expression
 
   unfoldable pub expression : Syntax PlainToken Expression
   expression = knot {S = Unit {0}} (λ E u. expression_of (E u)) tt
@@ -450,9 +451,10 @@ module _ (ws : Vocabulary) where
 
   -- what stands behind an expression of the form
   unfoldable pub behind_form : Form → Expression → Syntax PlainToken Expression
-  behind_form IsPrimary x = behind_primary x
-  behind_form IsUnary x = behind_unary x
-  behind_form IsCast x = expression_rest expression x
+  behind_form form.Primary x = behind_primary x
+  behind_form form.Unary x = behind_unary x
+  behind_form form.Cast x = expression_rest expression x
+  behind_form form.TypeName x = expression_rest expression x
 
   -- the rest of an effect, behind its first operand
   unfoldable pub effect_rest : ReadOperand → Syntax PlainToken (Expression × Place)
@@ -460,11 +462,11 @@ module _ (ws : Vocabulary) where
 
   -- ( "++" | "--" ) unary
   unfoldable pub bump_first : Syntax PlainToken (Expression × Place)
-  bump_first = one (placed (mark_entry prefix_bumps)) then λ o. operand expression false then λ x. gives (read_as o.1 (Bump o.0 x.expression), o.1)
+  bump_first = one (placed (mark_entry prefix_bumps)) then λ o. operand expression type_use.Nothing then λ x. gives (read_as o.1 (Bump o.0 x.expression), o.1)
 
   -- an effect that begins with no name
   unfoldable pub effect_but_name : Syntax PlainToken (Expression × Place)
-  effect_but_name = choice (kind ws) (kinds_of prefix_bumps) bump_first (operand_but_name expression (operand expression) true then effect_rest)
+  effect_but_name = choice (kind ws) (kinds_of prefix_bumps) bump_first (operand_but_name expression (operand expression) type_use.Casts then effect_rest)
 
   -- an expression, an assignment or an increment
   unfoldable pub effect : Syntax PlainToken (Expression × Place)

@@ -38,7 +38,7 @@ use Rattle.c_model.specs.declared.vocabulary.Word.{Word}
 use Rattle.c_model.specs.declared.vocabulary.Word.TheVariants as word
 use Rattle.c_model.specs.Vocabulary.{Vocabulary, word_at}
 use Rattle.c_model.specs.Punctuators.{less_equal, greater_equal, equal, not_equal, plus, minus, less, greater, assign, semicolon, comma, left_paren, right_paren, left_brace, right_brace}
-use Rattle.c_model.specs.ExpressionGrammar.{name_kind, number_kind, letter_kind, annot_open_kind, annot_close_kind, keyword_kind, mark_kind, kind, placed, letter_of, mark_entry, kinds_of, first_base, first_type, first_expression, first_effect, use_of, expression_limit, most_in_expression, nesting_limit, most_nested, fixed, mark, reserved, name, base, consts, type, closed, full_expression, full_effect, full_effect_or_call}
+use Rattle.c_model.specs.ExpressionGrammar.{name_kind, number_kind, letter_kind, annot_open_kind, annot_close_kind, keyword_kind, mark_kind, kind, placed, letter_of, mark_entry, kinds_of, first_base, first_type, first_expression, first_effect, use_of, expression_limit, most_in_expression, nesting_limit, most_nested, fixed, mark, reserved, name, base, consts, type_words, closed, full_expression, full_effect, full_effect_or_call}
 
 -- ---- what begins what
 
@@ -315,7 +315,7 @@ module _ (ws : Vocabulary) where
   -- type declarator { "," declarator } ";"
   unfoldable pub declaration : ReadDeclarations → Syntax PlainToken ReadDeclarations
   declaration d =
-      type ws then λ t. declarator t d.declarators [] then λ ds.
+      type_words ws then λ t. declarator t d.declarators [] then λ ds.
       many (kind ws) (λ _. mark_kind comma ∷ []) (next_declarator t d.declarators) ds then λ all. ended (with_declaration d all)
 
   unfoldable pub declarations : Syntax PlainToken ReadDeclarations

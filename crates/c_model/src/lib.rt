@@ -6,6 +6,7 @@ pub mod first_tokens;
 pub mod job;
 pub mod laws;
 pub mod monitored_tokens;
+pub mod operands;
 pub mod vocabulary;
 pub mod words;
 

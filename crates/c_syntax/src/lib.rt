@@ -5,6 +5,7 @@
 
 pub mod annotation;
 pub mod expression;
+pub mod fault;
 pub mod name;
 pub mod place;
 pub mod program;
@@ -15,6 +16,7 @@ pub mod types;
 
 pub use annotation::{Annot, Body, Kind, Link, Pred, PredKind, Range, Relation, Term, TermKind};
 pub use expression::{BinOp, BumpOp, Expr, ExprKind, UnOp, Use};
+pub use fault::{Limit, ReadFault};
 pub use name::Name;
 pub use place::Place;
 pub use program::{Behavior, Contract, EnumDef, Enumerator, Func, Layout, Member, Program};

@@ -11,7 +11,7 @@ use Rattle.c_model.specs.State.{Input, Final, Exits, Broken, Undefined, Fault, S
 use Rattle.c_model.specs.Meaning.{Ran, run}
 use Rattle.c_model.specs.Reports.{Report, report, agrees_at}
 use Rattle.c_model.proofs.FormPrograms.{accepted_is_int}
-use Rattle.c_parser.proofs.Acceptance.{one_program, accepted_apart, one_refusal}
+use Rattle.first_parser.proofs.Acceptance.{one_program, accepted_apart, one_refusal}
 use Rattle.mon_syntax.specs.Trees.{MonitoredProgram}
 use Rattle.mon_syntax.specs.Memories.{flat_run}
 use Rattle.mon_syntax.specs.Translates.{Translates}

@@ -11,8 +11,8 @@ use Rattle.c_syntax.specs.declared.refusal.FrontFault.TheVariants as front
 use Rattle.mon_syntax.specs.Parsed.{ParsedProgram}
 use Rattle.mon_syntax.specs.Grammar.{Vocabulary, head_kind, first_function, kind, text}
 use Rattle.mon_syntax.specs.Spelled.{vocabulary, IsRead, grammar_refusal}
-use Rattle.mon_parser.specs.declared.fault.ReadFault.{ReadFault}
-use Rattle.mon_parser.specs.declared.fault.ReadFault.TheVariants as fault
+use Rattle.c_syntax.specs.declared.fault.ReadFault.{ReadFault}
+use Rattle.c_syntax.specs.declared.fault.ReadFault.TheVariants as fault
 use Rattle.mon_parser.specs.Reading.{plain_list, label, Fails}
 use Rattle.mon_parser.specs.Answers.{Refuses, RefusesWith, RefusesFault}
 use Rattle.mon_syntax.proofs.ExactTexts.{text_exact}

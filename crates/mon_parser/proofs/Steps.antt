@@ -7,8 +7,8 @@ use Rattle.c_syntax.specs.declared.token.Token.{Token}
 use Rattle.c_syntax.specs.Tokens.{PlainToken, plain_token}
 use Rattle.mon_syntax.specs.Parsed.{ParsedArgument, ParsedStatement, ParsedRegister}
 use Rattle.mon_syntax.specs.Grammar.{Vocabulary, InBody, LoopRead, left_paren, comma, type_kind, mark_kind, kind, first_statement, expression_limit, nesting_limit, mark, opened, behind_paren, behind_opened, next_argument, one_more, one_more_in_loop, statement_with, statement_in, register}
-use Rattle.mon_parser.specs.declared.fault.ReadFault.{ReadFault}
-use Rattle.mon_parser.specs.declared.fault.ReadFault.TheVariants as fault
+use Rattle.c_syntax.specs.declared.fault.ReadFault.{ReadFault}
+use Rattle.c_syntax.specs.declared.fault.ReadFault.TheVariants as fault
 use Rattle.mon_parser.specs.Reading.{plain_list, label, Fails, more_arguments, more_statements, more_in_loop, more_registers}
 use Rattle.mon_syntax.proofs.ExactTokens.{IsRead}
 use Rattle.mon_syntax.proofs.ExactExpressions.{paren, next_argument_good}

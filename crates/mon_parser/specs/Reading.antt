@@ -6,10 +6,10 @@ use Rattle.c_syntax.specs.Tokens.{PlainToken, plain_token}
 use Rattle.mon_syntax.specs.Parsed.{ParsedArgument, ParsedStatement, ParsedRegister}
 use Rattle.mon_syntax.specs.Grammar.{Vocabulary, InBody, LoopRead, type_kind, mark_kind, comma, kind, first_statement, expression_limit, nesting_limit, next_argument, one_more, one_more_in_loop, register}
 use Rattle.mon_parser.specs.declared.statement.LoopRead as code_loop
-use Rattle.mon_parser.specs.declared.fault.Limit.{Limit}
-use Rattle.mon_parser.specs.declared.fault.Limit.TheVariants as limits
-use Rattle.mon_parser.specs.declared.fault.ReadFault.{ReadFault}
-use Rattle.mon_parser.specs.declared.fault.ReadFault.TheVariants as fault
+use Rattle.c_syntax.specs.declared.fault.Limit.{Limit}
+use Rattle.c_syntax.specs.declared.fault.Limit.TheVariants as limits
+use Rattle.c_syntax.specs.declared.fault.ReadFault.{ReadFault}
+use Rattle.c_syntax.specs.declared.fault.ReadFault.TheVariants as fault
 use Rattle.mon_parser.specs.ParsedTrees.{plain_stmt}
 
 abbrev pub plain_list : List Token → List PlainToken

@@ -6,10 +6,10 @@ ghost use Rattle.mon_parser.specs.ParsedTrees.{plain_name, plain_arg, plain_call
 ghost use Rattle.mon_parser.specs.Reading.{Gives, plain_list, more_arguments};
 
 use crate::expression::expression;
-use crate::fault::ReadFault;
 use crate::kinds::{COMMA, LEFT_PAREN, NUMBER, RIGHT_PAREN, TEXT};
 use crate::parsed::{NameUse, ParsedArg, ParsedCall};
 use crate::terminals::{next_begins_argument, next_is, number, skip, text};
+use c_syntax::fault::ReadFault;
 use c_syntax::{Name, Token};
 use mon_syntax::Word;
 use std::alloc::{AllocError, Global};

@@ -5,10 +5,10 @@ ghost use Rattle.mon_syntax.specs.Grammar.{signed_number, opened, constant, plai
 ghost use Rattle.mon_parser.specs.ParsedTrees.{plain_literal, plain_expr};
 ghost use Rattle.mon_parser.specs.Reading.{Gives, plain_list};
 
-use crate::fault::{Limit, ReadFault};
 use crate::kinds::{CONSTANT, LEFT_PAREN, MINUS, NAME, RIGHT_PAREN, TILDE, TYPE};
 use crate::parsed::{Literal, ParsedExpr};
 use crate::terminals::{constant_word, left, name, next_is, number, operator, skip, type_name};
+use c_syntax::fault::{Limit, ReadFault};
 use c_syntax::{Place, Token};
 use mon_syntax::Word;
 use std::alloc::Global;

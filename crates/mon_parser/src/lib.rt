@@ -5,7 +5,6 @@
 
 mod call;
 mod expression;
-mod fault;
 mod kinds;
 pub mod parsed;
 mod program;

@@ -7,12 +7,12 @@ ghost use Rattle.mon_syntax.specs.Grammar as form;
 ghost use Rattle.mon_parser.specs.ParsedTrees.{plain_name, plain_stmt, plain_register, plain_func, plain_program};
 ghost use Rattle.mon_parser.specs.Reading.{Gives, plain_list, more_registers};
 
-use crate::fault::ReadFault;
 use crate::kinds::{LEFT_BRACE, LEFT_PAREN, RIGHT_BRACE, RIGHT_PAREN, SEMICOLON, TYPE, VOID};
 use crate::parsed::{NameUse, ParsedFunc, ParsedProgram, ParsedRegister, ParsedStmt};
 use crate::statement::more_statements;
 use crate::terminals::{head, name, next_begins_function, next_is, skip, type_name};
 use c_syntax::Token;
+use c_syntax::fault::ReadFault;
 use mon_syntax::{MonType, Word};
 use std::alloc::Global;
 

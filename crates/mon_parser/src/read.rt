@@ -8,12 +8,12 @@ ghost use Rattle.mon_syntax.specs.Spelled.{IsRead};
 ghost use Rattle.mon_parser.specs.ParsedTrees.{plain_program};
 ghost use Rattle.mon_parser.specs.Answers.{Refuses};
 
-use crate::fault::ReadFault;
 use crate::parsed::ParsedProgram;
 use crate::program::text;
 use crate::refusal::refuse;
 use crate::terminals::left;
 use crate::vocabulary::vocabulary;
+use c_syntax::fault::ReadFault;
 use c_syntax::{FrontFault, Tokens};
 use std::alloc::Global;
 

@@ -9,7 +9,7 @@ ghost use Rattle.mon_syntax.specs.Spelled.{or_nothing, token_word, word_at, plac
 ghost use Rattle.mon_parser.specs.Reading.{label, plain_list};
 ghost use Rattle.mon_parser.specs.Answers.{RefusesFault, RefusesWord};
 
-use crate::fault::{Limit, ReadFault};
+use c_syntax::fault::{Limit, ReadFault};
 use c_syntax::{FrontFault, Name, Place, Refusal, Token, TokenKind, Tokens};
 use std::alloc::{AllocError, Global};
 

@@ -8,7 +8,6 @@ ghost use Rattle.mon_parser.specs.Reading.{Gives, plain_list, plain_loop, more_s
 
 use crate::call::call_of;
 use crate::expression::{expression, expression_but_name};
-use crate::fault::{Limit, ReadFault};
 use crate::kinds::{
     ASSIGN, COLON, ELSE, GOTO, IF, LEFT_BRACE, LEFT_PAREN, NAME, RETURN, RIGHT_BRACE, RIGHT_PAREN,
     SEMICOLON, WHILE, word_at,
@@ -17,6 +16,7 @@ use crate::parsed::{NameUse, ParsedExpr, ParsedStmt};
 use crate::terminals::{
     left, name, next_begins_expression, next_begins_statement, next_is, one, skip,
 };
+use c_syntax::fault::{Limit, ReadFault};
 use c_syntax::{Place, Token};
 use mon_syntax::{Runtime, Word};
 use std::alloc::{AllocError, AllocFailed, Global};

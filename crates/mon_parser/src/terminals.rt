@@ -7,12 +7,12 @@ ghost use Rattle.mon_syntax.specs.Grammar.{kind, first_expression, first_argumen
 ghost use Rattle.mon_parser.specs.ParsedTrees.{plain_name};
 ghost use Rattle.mon_parser.specs.Reading.{Gives, plain_list};
 
-use crate::fault::ReadFault;
 use crate::kinds::{
     CONSTANT, GOTO, HEAD, IF, LEFT_BRACE, LEFT_PAREN, NAME, NUMBER, RETURN, TEXT, TYPE, VOID,
     WHILE, kind, word_at, word_kind,
 };
 use crate::parsed::NameUse;
+use c_syntax::fault::ReadFault;
 use c_syntax::{Name, Place, Token, TokenKind};
 use mon_syntax::{MonOp, MonType, Word};
 

@@ -1,0 +1,255 @@
+-- Expressions are read exactly.
+use Rattle.std.proofs.Common.{◌≡◌, ℕ, zero, suc, Bool, true, false, List, [], ◌∷◌, ◌++◌, refl}
+use Rattle.grammar.specs.Syntax.{Syntax, ◌then◌}
+use Rattle.grammar.specs.Exact.{IsExact, IsGood}
+use Rattle.grammar.proofs.Sets.{within, apart, within_self, within_left, within_right, within_both}
+use Rattle.grammar.proofs.Productions.{and, seq, after, either, again_and_again, declared, given, same, one_lower, counted, knot_exact, knot_is, knot_both}
+use Rattle.c_syntax.specs.declared.place.Place.{Place}
+use Rattle.c_syntax.specs.Expressions.{Expression}
+use Rattle.c_syntax.specs.Tokens.{PlainToken}
+use Rattle.c_model.specs.declared.vocabulary.Keyword.TheVariants as keyword
+use Rattle.c_model.specs.declared.operands.Form.{Form}
+use Rattle.c_model.specs.declared.operands.Form.TheVariants as form
+use Rattle.c_model.specs.declared.operands.TypeUse.{TypeUse}
+use Rattle.c_model.specs.declared.operands.TypeUse.TheVariants.{Casts, Sizes, Nothing}
+use Rattle.c_model.specs.Vocabulary.{Vocabulary}
+use Rattle.c_model.specs.Punctuators.{question, colon, comma, left_paren, right_paren}
+use Rattle.c_model.specs.ExpressionGrammar.{name_kind, number_kind, letter_kind, keyword_kind, mark_kind, kind, kinds_of, unary_operators, operators_at, levels, assignment_operators, prefix_bumps, postfix_bumps, first_type, first_expression, first_effect, expression_limit, most_in_expression, ReadOperand, Operand, closed, literal, cast_rest, sized_type, paren_rest, behind_paren, prefixed, sized, operand_but_name, operand_of, operand, joined_once, behind_operand, choice_rest, expression_rest, expression_of, expression, assigned, bumped, behind_unary, behind_primary, behind_form, effect_rest, bump_first, effect_but_name, effect, next_argument, arguments, call_rest, behind_name, effect_or_call, full_expression, full_effect, full_effect_or_call}
+use Rattle.c_expr_parser.proofs.ExactTokens.{IsRead, AreRead, fixed_good, name_good, number_good, letter_good, marks_good}
+use Rattle.c_expr_parser.proofs.ExactTypes.{apart_none, enlarged, type_good}
+
+-- ---- the operators of the levels below a level
+
+abbrev pub kinds_below : ℕ → List ℕ
+kinds_below zero = []
+kinds_below (suc l) = kinds_below l ++ kinds_of (operators_at l)
+
+-- an operator stands in one level alone
+abbrev pub AreApart : ℕ → Type 0
+AreApart zero = Unit {0}
+AreApart (suc l) = AreApart l × (apart (kinds_of (operators_at l)) (kinds_below l) ≡ true)
+
+levels_apart : AreApart levels
+levels_apart = ((((((((((tt, refl), refl), refl), refl), refl), refl), refl), refl), refl), refl)
+
+-- what an expression can go on with
+abbrev pub more_expression : List ℕ
+more_expression = kinds_below levels ++ mark_kind question ∷ []
+
+-- an operand that begins with no name
+abbrev pub first_but_name : List ℕ
+first_but_name = mark_kind left_paren ∷ kinds_of unary_operators ++ keyword_kind keyword.Sizeof ∷ number_kind ∷ letter_kind ∷ []
+
+pub both_true : (b c : Bool) → b ≡ true → c ≡ true → and b c ≡ true
+both_true true c e f = f
+both_true false c e f = absurd cc
+
+module _ (ws : Vocabulary) where
+  pub closed_good : {A : Type 0} {n : ℕ} (x : A) → AreRead ws n (closed ws x) (closed ws x) false (mark_kind right_paren ∷ []) []
+  unfolding closed
+  closed_good x = seq (fixed_good ws (mark_kind right_paren)) (λ _. given x) refl
+
+  literal_good : {n : ℕ} → AreRead ws n (literal ws) (literal ws) false (number_kind ∷ letter_kind ∷ []) []
+  unfolding literal
+  literal_good = declared (either (number_kind ∷ []) (seq (number_good ws) (λ x. given _) refl) (seq (letter_good ws) (λ z. given _) refl) refl) refl
+
+  -- ---- operands, where expressions and operands inside them are read exactly
+
+  module _ {n : ℕ} {E E' : Syntax PlainToken Expression} (e : AreRead ws n E E' false first_expression more_expression) {O O' : Operand ws} (o : (u : TypeUse) → AreRead ws n (O u) (O' u) false first_expression []) where
+    cast_good : (at : Place) → AreRead ws n (cast_rest ws O at) (cast_rest ws O' at) false first_type []
+    unfolding cast_rest
+    cast_good at = declared (seq (type_good ws) (λ t. seq (fixed_good ws (mark_kind right_paren)) (λ _. seq (o Casts) (λ x. given _) refl) refl) refl) refl
+
+    paren_good : (at : Place) → AreRead ws n (paren_rest ws E at) (paren_rest ws E' at) false first_expression []
+    unfolding paren_rest
+    paren_good at = declared (seq e (λ x. closed_good _) refl) refl
+
+    behind_paren_good : (u : TypeUse) (at : Place) → AreRead ws n (behind_paren ws E O u at) (behind_paren ws E' O' u at) false (first_type ++ first_expression) []
+    unfolding behind_paren sized_type
+    behind_paren_good Casts at = declared (either first_type (cast_good at) (paren_good at) refl) refl
+    behind_paren_good Sizes at = declared (either first_type (seq (type_good ws) (λ t. closed_good _) refl) (paren_good at) refl) refl
+    behind_paren_good Nothing at = declared (paren_good at) refl
+
+    prefixed_good : AreRead ws (suc n) (prefixed ws O) (prefixed ws O') false (kinds_of unary_operators) []
+    unfolding prefixed
+    prefixed_good = declared (after (marks_good ws unary_operators) (λ p. seq (o Casts) (λ x. given _) refl) refl) refl
+
+    sized_good : AreRead ws (suc n) (sized ws O) (sized ws O') false (keyword_kind keyword.Sizeof ∷ []) []
+    unfolding sized
+    sized_good = declared (after (fixed_good ws (keyword_kind keyword.Sizeof)) (λ at. seq (o Sizes) (λ x. given _) refl) refl) refl
+
+    pub but_name_good : (u : TypeUse) → AreRead ws (suc n) (operand_but_name ws E O u) (operand_but_name ws E' O' u) false first_but_name []
+    unfolding operand_but_name
+    but_name_good u =
+        declared (either (mark_kind left_paren ∷ []) (after (fixed_good ws (mark_kind left_paren)) (λ at. behind_paren_good u at) refl)
+        (either (kinds_of unary_operators) prefixed_good (either (keyword_kind keyword.Sizeof ∷ []) sized_good (literal_good) refl) refl) refl) refl
+
+    operand_of_good : (u : TypeUse) → AreRead ws (suc n) (operand_of ws E O u) (operand_of ws E' O' u) false first_expression []
+    unfolding operand_of
+    operand_of_good u = declared (either (name_kind ∷ []) (seq (name_good ws) (λ x. given _) refl) (but_name_good u) refl) refl
+
+  operand_step : {E : Syntax PlainToken Expression} → IsExact (kind ws) E false first_expression (λ _. more_expression) → (k : ℕ) (U U' : Operand ws) → ((u : TypeUse) → AreRead ws k (U u) (U' u) false first_expression []) → (u : TypeUse) → AreRead ws (suc k) (operand_of ws E U u) (operand_of ws E U' u) false first_expression []
+  operand_step e k U U' o u = operand_of_good (same e) o u
+
+  pub operand_good : {n : ℕ} {E E' : Syntax PlainToken Expression} → AreRead ws n E E' false first_expression more_expression → (u : TypeUse) → AreRead ws (suc n) (operand ws E u) (operand ws E' u) false first_expression []
+  unfolding operand
+  operand_good {n} {E} {E'} e u =
+      knot_both (suc n) false first_expression (λ _. []) (operand_of ws E) (operand_of ws E') (operand_step e.here) (operand_step e.there) (λ U U' o v. operand_of_good e (λ w. one_lower (o w)) v) u
+
+  -- ---- operators by level
+
+  module _ {n : ℕ} {E E' : Syntax PlainToken Expression} (e : AreRead ws n E E' false first_expression more_expression) where
+    -- the right operand of an operator, where what stands behind it is read exactly
+    right_good : (l : ℕ) → ((x : Expression) → AreRead ws (suc n) (behind_operand ws E l x) (behind_operand ws E' l x) true (kinds_below l) (kinds_below l)) → AreRead ws (suc n) (operand ws E Casts then λ z. behind_operand ws E l z.expression) (operand ws E' Casts then λ z. behind_operand ws E' l z.expression) false first_expression (kinds_below l)
+    right_good l b = enlarged ws first_expression (kinds_below l) (seq (operand_good e Casts) (λ z. b z.expression) (apart_none (kinds_below l))) refl (λ x. within_both (kinds_below l) [] (kinds_below l) (within_self (kinds_below l)) refl)
+
+    pub joined_good : (l : ℕ) → ((x : Expression) → AreRead ws (suc n) (behind_operand ws E l x) (behind_operand ws E' l x) true (kinds_below l) (kinds_below l)) → (x : Expression) → AreRead ws (suc n) (joined_once ws l (operand ws E Casts then λ z. behind_operand ws E l z.expression) x) (joined_once ws l (operand ws E' Casts then λ z. behind_operand ws E' l z.expression) x) false (kinds_of (operators_at l)) (kinds_below l)
+    unfolding joined_once
+    joined_good l b x =
+        enlarged ws (kinds_of (operators_at l)) (kinds_below l) (seq (marks_good ws (operators_at l)) (λ p. seq (right_good l b) (λ y. given _) refl) refl)
+        (within_both (kinds_of (operators_at l)) [] (kinds_of (operators_at l)) (within_self (kinds_of (operators_at l))) refl)
+        (λ y. within_both (kinds_below l) [] (kinds_below l) (within_self (kinds_below l)) refl)
+
+    -- behind the operators of the levels below l, those of the level l
+    level_good : (l : ℕ) → apart (kinds_of (operators_at l)) (kinds_below l) ≡ true → ((x : Expression) → AreRead ws (suc n) (behind_operand ws E l x) (behind_operand ws E' l x) true (kinds_below l) (kinds_below l)) → (x : Expression) → AreRead ws (suc n) (behind_operand ws E (suc l) x) (behind_operand ws E' (suc l) x) true (kinds_below (suc l)) (kinds_below (suc l))
+    unfolding behind_operand
+    level_good l a b x =
+        let ks = kinds_of (operators_at l) in
+        let below = kinds_below l in
+        let all = within_both ks below (below ++ ks) (within_right below ks) (within_left below ks) in
+        enlarged ws (below ++ ks) (below ++ ks) (seq (b x) (λ y. again_and_again ks (joined_good l b) (both_true (apart ks below) (within ks ks) a (within_self ks)) y) a) (within_self (below ++ ks))
+        (λ y. within_both (ks ++ below) below (below ++ ks) all (within_left below ks))
+
+    pub behind_good : (l : ℕ) → AreApart l → (x : Expression) → AreRead ws (suc n) (behind_operand ws E l x) (behind_operand ws E' l x) true (kinds_below l) (kinds_below l)
+    unfolding behind_operand
+    behind_good zero a x = given x
+    behind_good (suc l) a x = level_good l a.1 (behind_good l a.0) x
+
+    choice_good : (x : Expression) → AreRead ws (suc n) (choice_rest ws E x) (choice_rest ws E' x) false (mark_kind question ∷ []) more_expression
+    unfolding choice_rest
+    choice_good x =
+        declared (after (fixed_good ws (mark_kind question)) (λ at. seq e (λ y. seq (fixed_good ws (mark_kind colon)) (λ _. seq e (λ z. given _) refl) refl) refl) refl) refl
+
+    pub rest_good : (x : Expression) → AreRead ws (suc n) (expression_rest ws E x) (expression_rest ws E' x) true more_expression more_expression
+    unfolding expression_rest
+    rest_good x = declared (seq (behind_good levels levels_apart x) (λ y. either (mark_kind question ∷ []) (choice_good y) (given y) refl) refl) refl
+
+  expression_of_good : {n : ℕ} {E E' : Syntax PlainToken Expression} → AreRead ws n E E' false first_expression more_expression → AreRead ws (suc n) (expression_of ws E) (expression_of ws E') false first_expression more_expression
+  unfolding expression_of
+  expression_of_good e = declared (seq (operand_good e Casts) (λ x. rest_good e x.expression) refl) refl
+
+  expression_step : (k : ℕ) (U U' : Unit {0} → Syntax PlainToken Expression) → ((s : Unit {0}) → AreRead ws k (U s) (U' s) false first_expression more_expression) → (s : Unit {0}) → AreRead ws (suc k) (expression_of ws (U s)) (expression_of ws (U' s)) false first_expression more_expression
+  expression_step k U U' e s = expression_of_good (e s)
+
+  pub expression_exact : IsExact (kind ws) (expression ws) false first_expression (λ _. more_expression)
+  unfolding expression
+  expression_exact = knot_exact false first_expression (λ _. more_expression) (λ E u. expression_of ws (E u)) expression_step tt
+
+  pub expression_is : (ts : List PlainToken) → (expression ws).parse ts ≡ (expression_of ws (expression ws)).parse ts
+  unfolding expression
+  expression_is ts = knot_is false first_expression (λ _. more_expression) (λ E u. expression_of ws (E u)) expression_step tt ts
+
+  pub expression_good : IsRead ws (expression ws) false first_expression more_expression
+  expression_good = same expression_exact
+
+  operands_good : (u : TypeUse) → IsRead ws (operand ws (expression ws) u) false first_expression []
+  operands_good u = one_lower (operand_good expression_good u)
+
+  pub operand_is : (u : TypeUse) (ts : List PlainToken) → (operand ws (expression ws) u).parse ts ≡ (operand_of ws (expression ws) (operand ws (expression ws)) u).parse ts
+  unfolding operand
+  operand_is u ts = knot_is false first_expression (λ _. []) (operand_of ws (expression ws)) (operand_step expression_exact) u ts
+
+  rests_good : (x : Expression) → IsRead ws (expression_rest ws (expression ws) x) true more_expression more_expression
+  rests_good x = one_lower (rest_good expression_good x)
+
+  -- ---- effects
+
+  -- what can stand behind a unary expression, and behind a primary one
+  abbrev pub behind_unary_kinds : List ℕ
+  behind_unary_kinds = kinds_of assignment_operators ++ more_expression
+
+  abbrev pub behind_primary_kinds : List ℕ
+  behind_primary_kinds = kinds_of postfix_bumps ++ behind_unary_kinds
+
+  assigned_good : (x : Expression) → IsRead ws (assigned ws x) false (kinds_of assignment_operators) more_expression
+  unfolding assigned
+  assigned_good x = declared (seq (marks_good ws assignment_operators) (λ o. seq expression_good (λ y. given _) refl) refl) refl
+
+  bumped_good : (x : Expression) → IsRead ws (bumped ws x) false (kinds_of postfix_bumps) []
+  unfolding bumped
+  bumped_good x = declared (seq (marks_good ws postfix_bumps) (λ o. given _) refl) refl
+
+  behind_unary_good : (x : Expression) → IsRead ws (behind_unary ws x) true behind_unary_kinds behind_unary_kinds
+  unfolding behind_unary
+  behind_unary_good x = declared (either (kinds_of assignment_operators) (assigned_good x) (rests_good x) refl) refl
+
+  behind_primary_good : (x : Expression) → IsRead ws (behind_primary ws x) true behind_primary_kinds behind_primary_kinds
+  unfolding behind_primary
+  behind_primary_good x = declared (either (kinds_of postfix_bumps) (bumped_good x) (behind_unary_good x) refl) refl
+
+  behind_form_good : (f : Form) (x : Expression) → IsRead ws (behind_form ws f x) true behind_primary_kinds behind_primary_kinds
+  unfolding behind_form
+  behind_form_good form.Primary x = behind_primary_good x
+  behind_form_good form.Unary x = declared (behind_unary_good x) refl
+  behind_form_good form.Cast x = declared (rests_good x) refl
+  behind_form_good form.TypeName x = declared (rests_good x) refl
+
+  pub effect_rest_good : (x : ReadOperand) → IsRead ws (effect_rest ws x) true behind_primary_kinds behind_primary_kinds
+  unfolding effect_rest
+  effect_rest_good x = declared (seq (behind_form_good x.form x.expression) (λ e. given _) refl) refl
+
+  bump_first_good : IsRead ws (bump_first ws) false (kinds_of prefix_bumps) []
+  unfolding bump_first
+  bump_first_good = declared (seq (marks_good ws prefix_bumps) (λ o. seq (operands_good Nothing) (λ x. given _) refl) refl) refl
+
+  first_operand_good : IsRead ws (operand_but_name ws (expression ws) (operand ws (expression ws)) Casts) false first_but_name []
+  first_operand_good = one_lower (but_name_good expression_good operands_good Casts)
+
+  effect_but_name_good : IsRead ws (effect_but_name ws) false (kinds_of prefix_bumps ++ first_but_name) behind_primary_kinds
+  unfolding effect_but_name
+  effect_but_name_good = declared (either (kinds_of prefix_bumps) bump_first_good (seq first_operand_good (λ x. effect_rest_good x) refl) refl) refl
+
+  pub effect_good : IsRead ws (effect ws) false first_effect behind_primary_kinds
+  unfolding effect
+  effect_good = declared (either (name_kind ∷ []) (seq (name_good ws) (λ x. effect_rest_good _) refl) effect_but_name_good refl) refl
+
+  -- ---- calls
+
+  pub next_argument_good : (es : List Expression) → IsRead ws (next_argument ws es) false (mark_kind comma ∷ []) more_expression
+  unfolding next_argument
+  next_argument_good es = declared (seq (fixed_good ws (mark_kind comma)) (λ _. seq expression_good (λ e. given _) refl) refl) refl
+
+  arguments_good : IsRead ws (arguments ws) true first_expression (mark_kind comma ∷ first_expression ++ more_expression)
+  unfolding arguments
+  arguments_good =
+      declared (either first_expression (declared {first = first_expression} {more = mark_kind comma ∷ more_expression} (seq expression_good (λ e. again_and_again (mark_kind comma ∷ []) next_argument_good refl (e ∷ [])) refl) refl) (given []) refl) refl
+
+  call_rest_good : (f : ℕ × Place) → IsRead ws (call_rest ws f) false (mark_kind left_paren ∷ []) []
+  unfolding call_rest
+  call_rest_good f = declared (seq (fixed_good ws (mark_kind left_paren)) (λ at. seq arguments_good (λ es. closed_good _) refl) refl) refl
+
+  behind_name_good : (x : ℕ × Place) → IsRead ws (behind_name ws x) true (mark_kind left_paren ∷ behind_primary_kinds) (mark_kind left_paren ∷ behind_primary_kinds)
+  unfolding behind_name
+  behind_name_good x = declared (either (mark_kind left_paren ∷ []) (call_rest_good x) (effect_rest_good _) refl) refl
+
+  -- what an effect or a call can go on with
+  abbrev pub more_effect : List ℕ
+  more_effect = mark_kind left_paren ∷ behind_primary_kinds
+
+  pub effect_or_call_good : IsRead ws (effect_or_call ws) false first_effect more_effect
+  unfolding effect_or_call
+  effect_or_call_good = declared (either (name_kind ∷ []) (seq (name_good ws) (λ x. behind_name_good x) refl) effect_but_name_good refl) refl
+
+  -- ---- expressions that stand in no other
+
+  pub full_expression_good : IsRead ws (full_expression ws) false first_expression more_expression
+  unfolding full_expression
+  full_expression_good = counted expression_limit most_in_expression expression_good
+
+  pub full_effect_good : IsRead ws (full_effect ws) false first_effect more_effect
+  unfolding full_effect
+  full_effect_good = counted expression_limit most_in_expression (declared effect_good refl)
+
+  pub full_effect_or_call_good : IsRead ws (full_effect_or_call ws) false first_effect more_effect
+  unfolding full_effect_or_call
+  full_effect_or_call_good = counted expression_limit most_in_expression effect_or_call_good

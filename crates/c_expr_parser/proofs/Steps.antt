@@ -1,0 +1,69 @@
+-- What a production gives, step by step.
+use Rattle.std.proofs.Common.{◌≡◌, ℕ, Bool, true, false, List, [], ◌∷◌, Result, Ok, Err, refl, ◌∙◌}
+use Rattle.grammar.specs.Syntax.{Syntax, Fault, At, Over, sees, gives, ◌then◌}
+use Rattle.grammar.proofs.Productions.{seq, given, turn, turn_fails, turn_ends, turn_to}
+use Rattle.grammar.proofs.Bounds.{LoopFits, many_is}
+use Rattle.c_syntax.specs.declared.place.Place.{Place}
+use Rattle.c_syntax.specs.Tokens.{PlainToken}
+use Rattle.c_model.specs.declared.vocabulary.Keyword.TheVariants as keyword
+use Rattle.c_model.specs.declared.vocabulary.IntegerWords.{IntegerWords}
+use Rattle.c_model.specs.Vocabulary.{Vocabulary}
+use Rattle.c_model.specs.Punctuators.{comma}
+use Rattle.c_syntax.specs.Expressions.{Expression}
+use Rattle.c_model.specs.ExpressionGrammar.{keyword_kind, mark_kind, next_argument, kind, fixed, reserved, words_behind, integer_word, consts}
+use Rattle.c_syntax.specs.declared.fault.ReadFault.{ReadFault}
+use Rattle.c_syntax.specs.declared.fault.ReadFault.TheVariants as fault
+use Rattle.c_expr_parser.specs.Reading.{label, Fails, more_words, more_arguments}
+use Rattle.c_expr_parser.proofs.ExactTokens.{IsRead, fixed_good}
+use Rattle.c_expr_parser.proofs.ExactTypes.{words_fit, integer_word_good}
+use Rattle.c_expr_parser.proofs.ExactExpressions.{next_argument_good}
+
+pub again : {Y : Type 0} {r s : Result Y Fault} (e : ReadFault) → ((d : Fault) → r ≡ Err d → s ≡ Err d) → Fails e r → Fails e s
+again (fault.At n) f h = f (At n) h
+again (fault.Over limit n) f h = f (Over (label limit) n) h
+again fault.Memory f h = tt
+
+module _ (ws : Vocabulary) where
+  word_exact : (x : IntegerWords) → IsRead ws (integer_word ws x) false (words_behind x) []
+  word_exact x = integer_word_good ws x
+
+  pub words_turn : (x y : IntegerWords) (ts rest : List PlainToken) → sees (kind ws) (words_behind x) ts ≡ true → (integer_word ws x).parse ts ≡ Ok (y, rest) → (more_words ws x).parse ts ≡ (more_words ws y).parse rest
+  unfolding more_words
+  words_turn x y ts rest s e = turn_to words_behind (integer_word ws) (λ z. (word_exact z).here) words_fit x y ts rest s e
+
+  pub words_fails : (x : IntegerWords) (ts : List PlainToken) (e : ReadFault) → sees (kind ws) (words_behind x) ts ≡ true → Fails e ((integer_word ws x).parse ts) → Fails e ((more_words ws x).parse ts)
+  unfolding more_words
+  words_fails x ts e s = again e (λ d h. many_is (kind ws) words_behind words_behind (λ _ _. []) words_behind words_fit (integer_word ws) (λ z. (word_exact z).here) x ts ∙ rw (s, h) refl)
+
+  pub words_ends : (x : IntegerWords) (ts : List PlainToken) → sees (kind ws) (words_behind x) ts ≡ false → (more_words ws x).parse ts ≡ Ok (x, ts)
+  unfolding more_words
+  words_ends x ts s = many_is (kind ws) words_behind words_behind (λ _ _. []) words_behind words_fit (integer_word ws) (λ z. (word_exact z).here) x ts ∙ rw s refl
+
+  abbrev const_kinds : List ℕ
+  const_kinds = keyword_kind keyword.Const ∷ []
+
+  pub consts_turn : {A : Type 0} (x : A) (ts rest : List PlainToken) (at : Place) → sees (kind ws) const_kinds ts ≡ true → (fixed ws (keyword_kind keyword.Const)).parse ts ≡ Ok (at, rest) → (consts ws x).parse ts ≡ (consts ws x).parse rest
+  unfolding consts
+  consts_turn {A} x ts rest at s e = turn const_kinds (λ y. reserved ws keyword.Const then λ _. gives y) (λ z. (step z).here) refl x x ts rest s (rw e refl)
+    where
+      step : (z : A) → IsRead ws (reserved ws keyword.Const then λ _. gives z) false const_kinds []
+      step z = seq (fixed_good ws (keyword_kind keyword.Const)) (λ _. given z) refl
+
+  pub consts_ends : {A : Type 0} (x : A) (ts : List PlainToken) → sees (kind ws) const_kinds ts ≡ false → (consts ws x).parse ts ≡ Ok (x, ts)
+  unfolding consts
+  consts_ends {A} x ts s = turn_ends const_kinds (λ y. reserved ws keyword.Const then λ _. gives y) (λ z. (step z).here) refl x ts s
+    where
+      step : (z : A) → IsRead ws (reserved ws keyword.Const then λ _. gives z) false const_kinds []
+      step z = seq (fixed_good ws (keyword_kind keyword.Const)) (λ _. given z) refl
+
+  pub arguments_turn : (x y : List Expression) (ts rest : List PlainToken) → sees (kind ws) (mark_kind comma ∷ []) ts ≡ true → (next_argument ws x).parse ts ≡ Ok (y, rest) → (more_arguments ws x).parse ts ≡ (more_arguments ws y).parse rest
+  unfolding more_arguments
+  arguments_turn x y ts rest s e = turn (mark_kind comma ∷ []) (next_argument ws) (λ z. (next_argument_good ws z).here) refl x y ts rest s e
+
+  pub arguments_fails : (x : List Expression) (ts : List PlainToken) (e : ReadFault) → sees (kind ws) (mark_kind comma ∷ []) ts ≡ true → Fails e ((next_argument ws x).parse ts) → Fails e ((more_arguments ws x).parse ts)
+  unfolding more_arguments
+  arguments_fails x ts e s = again e (λ d. turn_fails (mark_kind comma ∷ []) (next_argument ws) (λ z. (next_argument_good ws z).here) refl x ts d s)
+
+  pub arguments_ends : (x : List Expression) (ts : List PlainToken) → sees (kind ws) (mark_kind comma ∷ []) ts ≡ false → (more_arguments ws x).parse ts ≡ Ok (x, ts)
+  unfolding more_arguments
+  arguments_ends x ts s = turn_ends (mark_kind comma ∷ []) (next_argument ws) (λ z. (next_argument_good ws z).here) refl x ts s

@@ -1,0 +1,139 @@
+-- What is read within the limit of tokens is what is read of one token more than it allows.
+use Rattle.std.proofs.Common.{◌≡◌, ℕ, zero, suc, ◌+◌, ◌-◌, ◌<◌, ◌≤◌, Bool, false, List, [], ◌∷◌, ◌++◌, length, take, drop, map, Result, Ok, Err, refl, sym, ap, subst, ◌∙◌, arith}
+use Rattle.std.proofs.lemmas.List.{length-map}
+use Rattle.grammar.specs.Syntax.{Syntax, Fault, At, Over, at_most}
+use Rattle.grammar.specs.Exact.{IsExact}
+use Rattle.grammar.proofs.Limits.{at_most_short, near_ok_ends, near_ok, near_at_ends, near_at, near_over}
+use Rattle.grammar.proofs.Theorem.{at_within, over_within}
+use Rattle.c_syntax.specs.declared.place.Place.{Place}
+use Rattle.c_syntax.specs.declared.token.Token.{Token}
+use Rattle.c_syntax.specs.Expressions.{Expression}
+use Rattle.c_syntax.specs.Tokens.{PlainToken, plain_token}
+use Rattle.c_model.specs.Vocabulary.{Vocabulary}
+use Rattle.c_model.specs.ExpressionGrammar.{kind, first_expression, first_effect, expression_limit, most_in_expression, expression, effect, effect_or_call, full_expression, full_effect, full_effect_or_call}
+use Rattle.c_syntax.specs.declared.fault.ReadFault.{ReadFault}
+use Rattle.c_syntax.specs.declared.fault.ReadFault.TheVariants as fault
+use Rattle.c_expr_parser.specs.Reading.{plain_list, label, Fails, LeftWithin, Resumed}
+use Rattle.c_expr_parser.proofs.ExactExpressions.{more_expression, more_effect, behind_primary_kinds, expression_good, effect_good, effect_or_call_good}
+
+take_drop : {T : Type 0} (n : ℕ) (ts : List T) → ts ≡ take n ts ++ drop n ts
+take_drop zero ts = refl
+take_drop (suc n) [] = refl
+take_drop (suc n) (t ∷ ts) = ap (λ w. t ∷ w) (take_drop n ts)
+
+map_append : {S T : Type 0} (f : S → T) (a b : List S) → map f (a ++ b) ≡ map f a ++ map f b
+map_append f [] b = refl
+map_append f (x ∷ a) b = ap (λ w. f x ∷ w) (map_append f a b)
+
+map_drop : {S T : Type 0} (f : S → T) (n : ℕ) (ts : List S) → map f (drop n ts) ≡ drop n (map f ts)
+map_drop f zero ts = refl
+map_drop f (suc n) [] = refl
+map_drop f (suc n) (t ∷ ts) = map_drop f n ts
+
+take_long : {T : Type 0} (n : ℕ) (ts : List T) → n ≤ length ts → length (take n ts) ≡ n
+take_long zero ts h = refl
+take_long (suc n) [] h = absurd (omega arith)
+take_long (suc n) (t ∷ ts) h = ap suc (take_long n ts (omega arith))
+
+drop_long : {T : Type 0} (n : ℕ) (ts : List T) → length (drop n ts) ≡ length ts - n
+drop_long zero ts = omega arith
+drop_long (suc n) [] = omega arith
+drop_long (suc n) (t ∷ ts) = let e = drop_long n ts in omega (arith, e)
+
+module _ {A : Type 0} (ws : Vocabulary) (G : Syntax PlainToken A) (first more : List ℕ) (g : IsExact (kind ws) G false first (λ _. more)) where
+  abbrev limited : Syntax PlainToken A
+  limited = at_most expression_limit most_in_expression G
+
+  whole : (ts : List Token) → length ts ≤ most_in_expression → limited.parse (plain_list ts) ≡ G.parse (plain_list ts)
+  whole ts h = at_most_short (kind ws) expression_limit most_in_expression G false first (λ _. more) g (plain_list ts) (omega (arith, length-map ts plain_token))
+
+  module _ (ts near : List Token) (is : near ≡ take (most_in_expression + 1) ts) (h : most_in_expression < length ts) where
+    abbrev far : List Token
+    far = drop (most_in_expression + 1) ts
+
+    parts : plain_list ts ≡ plain_list near ++ plain_list far
+    parts = rw is (ap plain_list (take_drop (most_in_expression + 1) ts) ∙ map_append plain_token (take (most_in_expression + 1) ts) far)
+
+    long : length (plain_list near) ≡ suc most_in_expression
+    long = length-map near plain_token ∙ ap length is ∙ take_long (most_in_expression + 1) ts (omega arith)
+
+    far_long : length (plain_list far) ≡ length ts - (most_in_expression + 1)
+    far_long = length-map far plain_token ∙ drop_long (most_in_expression + 1) ts
+
+    over : (x : A) (rest : List Token) → G.parse (plain_list near) ≡ Ok (x, plain_list rest) → length rest ≡ 0 → limited.parse (plain_list ts) ≡ Err (Over expression_limit (length ts - (most_in_expression + 1) + 1))
+    over x rest e z = near_ok_ends (kind ws) expression_limit most_in_expression G false first (λ _. more) g (plain_list ts) (plain_list near) (plain_list far) parts long x (plain_list rest) e (omega (arith, z, length-map rest plain_token)) ∙ ap (λ (k : ℕ). Err (Over expression_limit (k + 1))) far_long
+
+    goes_on : (x : A) (rest : List Token) → G.parse (plain_list near) ≡ Ok (x, plain_list rest) → (length rest ≡ 0 → ⊥) → length rest ≤ most_in_expression + 1 → limited.parse (plain_list ts) ≡ Ok (x, plain_list (drop (most_in_expression + 1 - length rest) ts))
+    goes_on x rest e z l =
+        let r = length-map rest plain_token in
+        let k : length (plain_list ts) - (length (plain_list rest) + length (plain_list far)) ≡ most_in_expression + 1 - length rest = omega (arith, r, far_long, length-map ts plain_token, h, l) in
+        near_ok (kind ws) expression_limit most_in_expression G false first (λ _. more) g (plain_list ts) (plain_list near) (plain_list far) parts long x (plain_list rest) e (λ q. z (omega (arith, q, r)))
+        ∙ ap (λ (n : ℕ). Ok (x, drop n (plain_list ts))) k ∙ ap (λ (w : List PlainToken). Ok (x, w)) (sym (map_drop plain_token (most_in_expression + 1 - length rest) ts))
+
+    fails : (e r : ReadFault) → Fails e (G.parse (plain_list near)) → Resumed e (length ts - (most_in_expression + 1)) r → Fails r (limited.parse (plain_list ts))
+    fails (fault.At zero) r f q = rw q (near_at_ends (kind ws) expression_limit most_in_expression G false first (λ _. more) g (plain_list ts) (plain_list near) (plain_list far) parts long f ∙ ap (λ (k : ℕ). Err (Over expression_limit (k + 1))) far_long)
+    fails (fault.At (suc n)) r f q = rw q (near_at (kind ws) expression_limit most_in_expression G false first (λ _. more) g (plain_list ts) (plain_list near) (plain_list far) parts long (suc n) f (λ z. absurd cc) ∙ ap (λ (k : ℕ). Err (At (suc n + k))) far_long)
+    fails (fault.Over limit n) r f q = rw q (near_over (kind ws) expression_limit most_in_expression G false first (λ _. more) g (plain_list ts) (plain_list near) (plain_list far) parts long (label limit) n f ∙ ap (λ (k : ℕ). Err (Over (label limit) (n + k))) far_long)
+    fails fault.Memory r f q = rw q tt
+
+  bound : (ts : List Token) (e : ReadFault) → Fails e (G.parse (plain_list ts)) → LeftWithin e (length ts)
+  bound ts (fault.At n) f = let h = at_within G false first (λ _. more) g (plain_list ts) n f in omega (arith, h, length-map ts plain_token)
+  bound ts (fault.Over limit n) f = let h = over_within G false first (λ _. more) g (plain_list ts) (label limit) n f in omega (arith, h, length-map ts plain_token)
+  bound ts fault.Memory f = tt
+
+pub full_expression_whole : (ws : Vocabulary) (ts : List Token) → length ts ≤ most_in_expression → (full_expression ws).parse (plain_list ts) ≡ (expression ws).parse (plain_list ts)
+unfolding full_expression
+full_expression_whole ws ts h = whole ws (expression ws) first_expression more_expression (expression_good ws).here ts h
+
+pub full_expression_behind : (ws : Vocabulary) (ts near : List Token) (x : Expression) (rest r : List Token) → near ≡ take (most_in_expression + 1) ts → most_in_expression < length ts → (expression ws).parse (plain_list near) ≡ Ok (x, plain_list rest) → (length rest ≡ 0 → ⊥) → length rest ≤ length near → r ≡ drop (most_in_expression + 1 - length rest) ts → (full_expression ws).parse (plain_list ts) ≡ Ok (x, plain_list r)
+unfolding full_expression
+full_expression_behind ws ts near x rest r is h e z l d = rw d (goes_on ws (expression ws) first_expression more_expression (expression_good ws).here ts near is h x rest e z (omega (arith, l, ap length is, take_long (most_in_expression + 1) ts (omega (arith, h)))))
+
+pub full_expression_over : (ws : Vocabulary) (ts near : List Token) (x : Expression) (rest : List Token) → near ≡ take (most_in_expression + 1) ts → most_in_expression < length ts → (expression ws).parse (plain_list near) ≡ Ok (x, plain_list rest) → length rest ≡ 0 → (full_expression ws).parse (plain_list ts) ≡ Err (Over expression_limit (length ts - (most_in_expression + 1) + 1))
+unfolding full_expression
+full_expression_over ws ts near x rest is h e z = over ws (expression ws) first_expression more_expression (expression_good ws).here ts near is h x rest e z
+
+pub full_expression_fails : (ws : Vocabulary) (ts near : List Token) (e r : ReadFault) → near ≡ take (most_in_expression + 1) ts → most_in_expression < length ts → Fails e ((expression ws).parse (plain_list near)) → Resumed e (length ts - (most_in_expression + 1)) r → Fails r ((full_expression ws).parse (plain_list ts))
+unfolding full_expression
+full_expression_fails ws ts near e r is h f q = fails ws (expression ws) first_expression more_expression (expression_good ws).here ts near is h e r f q
+
+pub full_expression_bound : (ws : Vocabulary) (ts near : List Token) (e : ReadFault) → near ≡ take (most_in_expression + 1) ts → most_in_expression < length ts → Fails e ((expression ws).parse (plain_list near)) → LeftWithin e (most_in_expression + 1)
+full_expression_bound ws ts near e is h f = subst (λ (k : ℕ). LeftWithin e k) (ap length is ∙ take_long (most_in_expression + 1) ts (omega (arith, h))) (bound ws (expression ws) first_expression more_expression (expression_good ws).here near e f)
+
+pub full_effect_whole : (ws : Vocabulary) (ts : List Token) → length ts ≤ most_in_expression → (full_effect ws).parse (plain_list ts) ≡ (effect ws).parse (plain_list ts)
+unfolding full_effect
+full_effect_whole ws ts h = whole ws (effect ws) first_effect (behind_primary_kinds ws) (effect_good ws).here ts h
+
+pub full_effect_behind : (ws : Vocabulary) (ts near : List Token) (x : Expression × Place) (rest r : List Token) → near ≡ take (most_in_expression + 1) ts → most_in_expression < length ts → (effect ws).parse (plain_list near) ≡ Ok (x, plain_list rest) → (length rest ≡ 0 → ⊥) → length rest ≤ length near → r ≡ drop (most_in_expression + 1 - length rest) ts → (full_effect ws).parse (plain_list ts) ≡ Ok (x, plain_list r)
+unfolding full_effect
+full_effect_behind ws ts near x rest r is h e z l d = rw d (goes_on ws (effect ws) first_effect (behind_primary_kinds ws) (effect_good ws).here ts near is h x rest e z (omega (arith, l, ap length is, take_long (most_in_expression + 1) ts (omega (arith, h)))))
+
+pub full_effect_over : (ws : Vocabulary) (ts near : List Token) (x : Expression × Place) (rest : List Token) → near ≡ take (most_in_expression + 1) ts → most_in_expression < length ts → (effect ws).parse (plain_list near) ≡ Ok (x, plain_list rest) → length rest ≡ 0 → (full_effect ws).parse (plain_list ts) ≡ Err (Over expression_limit (length ts - (most_in_expression + 1) + 1))
+unfolding full_effect
+full_effect_over ws ts near x rest is h e z = over ws (effect ws) first_effect (behind_primary_kinds ws) (effect_good ws).here ts near is h x rest e z
+
+pub full_effect_fails : (ws : Vocabulary) (ts near : List Token) (e r : ReadFault) → near ≡ take (most_in_expression + 1) ts → most_in_expression < length ts → Fails e ((effect ws).parse (plain_list near)) → Resumed e (length ts - (most_in_expression + 1)) r → Fails r ((full_effect ws).parse (plain_list ts))
+unfolding full_effect
+full_effect_fails ws ts near e r is h f q = fails ws (effect ws) first_effect (behind_primary_kinds ws) (effect_good ws).here ts near is h e r f q
+
+pub full_effect_bound : (ws : Vocabulary) (ts near : List Token) (e : ReadFault) → near ≡ take (most_in_expression + 1) ts → most_in_expression < length ts → Fails e ((effect ws).parse (plain_list near)) → LeftWithin e (most_in_expression + 1)
+full_effect_bound ws ts near e is h f = subst (λ (k : ℕ). LeftWithin e k) (ap length is ∙ take_long (most_in_expression + 1) ts (omega (arith, h))) (bound ws (effect ws) first_effect (behind_primary_kinds ws) (effect_good ws).here near e f)
+
+pub full_effect_or_call_whole : (ws : Vocabulary) (ts : List Token) → length ts ≤ most_in_expression → (full_effect_or_call ws).parse (plain_list ts) ≡ (effect_or_call ws).parse (plain_list ts)
+unfolding full_effect_or_call
+full_effect_or_call_whole ws ts h = whole ws (effect_or_call ws) first_effect (more_effect ws) (effect_or_call_good ws).here ts h
+
+pub full_effect_or_call_behind : (ws : Vocabulary) (ts near : List Token) (x : Expression × Place) (rest r : List Token) → near ≡ take (most_in_expression + 1) ts → most_in_expression < length ts → (effect_or_call ws).parse (plain_list near) ≡ Ok (x, plain_list rest) → (length rest ≡ 0 → ⊥) → length rest ≤ length near → r ≡ drop (most_in_expression + 1 - length rest) ts → (full_effect_or_call ws).parse (plain_list ts) ≡ Ok (x, plain_list r)
+unfolding full_effect_or_call
+full_effect_or_call_behind ws ts near x rest r is h e z l d = rw d (goes_on ws (effect_or_call ws) first_effect (more_effect ws) (effect_or_call_good ws).here ts near is h x rest e z (omega (arith, l, ap length is, take_long (most_in_expression + 1) ts (omega (arith, h)))))
+
+pub full_effect_or_call_over : (ws : Vocabulary) (ts near : List Token) (x : Expression × Place) (rest : List Token) → near ≡ take (most_in_expression + 1) ts → most_in_expression < length ts → (effect_or_call ws).parse (plain_list near) ≡ Ok (x, plain_list rest) → length rest ≡ 0 → (full_effect_or_call ws).parse (plain_list ts) ≡ Err (Over expression_limit (length ts - (most_in_expression + 1) + 1))
+unfolding full_effect_or_call
+full_effect_or_call_over ws ts near x rest is h e z = over ws (effect_or_call ws) first_effect (more_effect ws) (effect_or_call_good ws).here ts near is h x rest e z
+
+pub full_effect_or_call_fails : (ws : Vocabulary) (ts near : List Token) (e r : ReadFault) → near ≡ take (most_in_expression + 1) ts → most_in_expression < length ts → Fails e ((effect_or_call ws).parse (plain_list near)) → Resumed e (length ts - (most_in_expression + 1)) r → Fails r ((full_effect_or_call ws).parse (plain_list ts))
+unfolding full_effect_or_call
+full_effect_or_call_fails ws ts near e r is h f q = fails ws (effect_or_call ws) first_effect (more_effect ws) (effect_or_call_good ws).here ts near is h e r f q
+
+pub full_effect_or_call_bound : (ws : Vocabulary) (ts near : List Token) (e : ReadFault) → near ≡ take (most_in_expression + 1) ts → most_in_expression < length ts → Fails e ((effect_or_call ws).parse (plain_list near)) → LeftWithin e (most_in_expression + 1)
+full_effect_or_call_bound ws ts near e is h f = subst (λ (k : ℕ). LeftWithin e k) (ap length is ∙ take_long (most_in_expression + 1) ts (omega (arith, h))) (bound ws (effect_or_call ws) first_effect (more_effect ws) (effect_or_call_good ws).here near e f)

@@ -1,0 +1,55 @@
+use Rattle.std.proofs.Common.{◌≡◌, ◌+◌, ◌*◌, ◌≤◌, length}
+use Rattle.c_syntax.specs.Expressions.{plain_expr}
+use Rattle.c_expr_parser.specs.Reading.{plain_list, more_joined}
+use Rattle.c_expr_parser.proofs.expression.+expression.Given as goal
+
+abbrev pub decreases-cast_rest : goal.decreases-cast_rest
+decreases-cast_rest l = 100 * length l.tokens.now + 51
+
+abbrev pub decreases-paren_rest : goal.decreases-paren_rest
+decreases-paren_rest l = 100 * length l.tokens.now + 51
+
+abbrev pub decreases-behind_paren : goal.decreases-behind_paren
+decreases-behind_paren l = 100 * length l.tokens.now + 52
+
+abbrev pub decreases-prefixed : goal.decreases-prefixed
+decreases-prefixed l = 100 * length l.tokens.now + 2
+
+abbrev pub decreases-sized : goal.decreases-sized
+decreases-sized l = 100 * length l.tokens.now + 2
+
+abbrev pub decreases-operand_but_name : goal.decreases-operand_but_name
+decreases-operand_but_name l = 100 * length l.tokens.now + 3
+
+abbrev pub decreases-operand : goal.decreases-operand
+decreases-operand l = 100 * length l.tokens.now + 4
+
+abbrev pub decreases-right_operand : goal.decreases-right_operand
+decreases-right_operand l = 100 * length l.tokens.now + 60
+
+abbrev pub decreases-joined_once : goal.decreases-joined_once
+decreases-joined_once l = 100 * length l.tokens.now + 2 * l.level + 10
+
+abbrev pub decreases-more_joined : goal.decreases-more_joined
+decreases-more_joined l = 100 * length l.tokens.now + 2 * l.level + 11
+
+abbrev pub invariant-more_joined-turn : goal.invariant-more_joined-turn
+invariant-more_joined-turn l = record {
+  same : (more_joined l.words l.level (plain_expr l.left)).parse (plain_list l.rest) ≡ (more_joined l.words l.level (plain_expr l.fn.left)).parse (plain_list l.fn.tokens);
+  shorter : length l.rest ≤ length l.fn.tokens;
+}
+
+abbrev pub decreases-more_joined-turn : goal.decreases-more_joined-turn
+decreases-more_joined-turn l = length l.rest
+
+abbrev pub decreases-behind_operand : goal.decreases-behind_operand
+decreases-behind_operand l = 100 * length l.tokens.now + 2 * l.level + 10
+
+abbrev pub decreases-choice_rest : goal.decreases-choice_rest
+decreases-choice_rest l = 100 * length l.tokens.now + 5
+
+abbrev pub decreases-expression_rest : goal.decreases-expression_rest
+decreases-expression_rest l = 100 * length l.tokens.now + 45
+
+abbrev pub decreases-expression : goal.decreases-expression
+decreases-expression l = 100 * length l.tokens.now + 50

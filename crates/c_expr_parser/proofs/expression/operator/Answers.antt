@@ -1,0 +1,12 @@
+use Rattle.std.specs.Prelude.{List, ℕ, map}
+use Rattle.std.proofs.Common.{subst}
+use Rattle.grammar.specs.Syntax.{one}
+use Rattle.c_syntax.specs.Tokens.{plain_token}
+use Rattle.c_model.specs.declared.operands.Connective.{Connective}
+use Rattle.c_model.specs.ExpressionGrammar.{placed, mark_entry}
+use Rattle.c_expr_parser.specs.Reading.{Gives, plain_list}
+use Rattle.c_expr_parser.proofs.expression.operator.Goals as goal
+
+-- src/expression.rt
+pub returns-clause-read : goal.returns-clause-read
+returns-clause-read c = subst (λ (table : List (ℕ × Connective)). Gives (λ x. ((x.0, x.1), plain_list x.2.now)) c.marked.result ((one (placed (mark_entry table))).parse (plain_list c.args.tokens.now))) c.operators_at.ensures c.marked.ensures.read

@@ -1,0 +1,12 @@
+use Rattle.std.proofs.Common.{◌≡◌, ◌≤◌, length}
+use Rattle.c_expr_parser.specs.Reading.{plain_list, more_words}
+use Rattle.c_expr_parser.proofs.types.more_words.Given as goal
+
+abbrev pub invariant-turn : goal.invariant-turn
+invariant-turn l = record {
+  same : (more_words l.words l.x).parse (plain_list l.rest) ≡ (more_words l.words l.fn.x).parse (plain_list l.fn.tokens);
+  shorter : length l.rest ≤ length l.fn.tokens;
+}
+
+abbrev pub decreases-turn : goal.decreases-turn
+decreases-turn l = length l.rest

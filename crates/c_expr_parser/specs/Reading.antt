@@ -1,0 +1,64 @@
+-- What a function returned is what the production gives, unless memory was wanting.
+use Rattle.std.specs.Prelude.{◌≡◌, ◌≤◌, ◌+◌, ℕ, zero, suc, List, [], ◌∷◌, map, Result, Ok, Err}
+use Rattle.grammar.specs.Syntax.{Syntax, Fault, At, Over, ◌then◌, many}
+use Rattle.c_syntax.specs.declared.token.Token.{Token}
+use Rattle.c_syntax.specs.Tokens.{PlainToken, plain_token}
+use Rattle.c_syntax.specs.Expressions.{Expression, plain_expr}
+use Rattle.c_model.specs.declared.vocabulary.IntegerWords.{IntegerWords}
+use Rattle.c_model.specs.declared.operands.TypeUse.TheVariants.{Casts}
+use Rattle.c_model.specs.Vocabulary.{Vocabulary}
+use Rattle.c_model.specs.Punctuators.{comma}
+use Rattle.c_model.specs.ExpressionGrammar.{ReadOperand, kind, mark_kind, kinds_of, operators_at, words_behind, integer_word, operand, behind_operand, joined_once, expression, next_argument, expression_limit, nesting_limit}
+use Rattle.c_expr_parser.specs.declared.expression.ReadOperand as code_operand
+use Rattle.c_syntax.specs.declared.fault.Limit.{Limit}
+use Rattle.c_syntax.specs.declared.fault.Limit.TheVariants as limits
+use Rattle.c_syntax.specs.declared.fault.ReadFault.{ReadFault}
+use Rattle.c_syntax.specs.declared.fault.ReadFault.TheVariants as fault
+
+abbrev pub plain_list : List Token → List PlainToken
+plain_list ts = map plain_token ts
+
+abbrev pub label : Limit → ℕ
+label limits.Expression = expression_limit
+label limits.Nesting = nesting_limit
+
+abbrev pub Fails : {Y : Type 0} → ReadFault → Result Y Fault → Type 0
+Fails (fault.At n) read = read ≡ Err (At n)
+Fails (fault.Over limit n) read = read ≡ Err (Over (label limit) n)
+Fails fault.Memory read = Unit {0}
+
+abbrev pub Gives : {X Y : Type 0} → (X → Y) → Result X ReadFault → Result Y Fault → Type 0
+Gives view (Ok x) read = read ≡ Ok (view x)
+Gives view (Err e) read = Fails e read
+
+-- so many tokens are left at most
+abbrev pub LeftWithin : ReadFault → ℕ → Type 0
+LeftWithin (fault.At n) most = n ≤ most
+LeftWithin (fault.Over limit n) most = n ≤ most
+LeftWithin fault.Memory most = Unit {0}
+
+-- the fault of a text of which so many tokens stand behind those that were read, one more than an expression may have
+abbrev pub Resumed : ReadFault → ℕ → ReadFault → Type 0
+Resumed (fault.At zero) far r = r ≡ fault.Over limits.Expression (far + 1)
+Resumed (fault.At (suc n)) far r = r ≡ fault.At (suc n + far)
+Resumed (fault.Over limit n) far r = r ≡ fault.Over limit (n + far)
+Resumed fault.Memory far r = r ≡ fault.Memory
+
+abbrev pub plain_operand : code_operand.ReadOperand → ReadOperand
+plain_operand x = record { expression = plain_expr x.expression; form = x.form; first = x.first }
+
+-- ---- repetitions, behind what is read
+
+module _ (ws : Vocabulary) where
+  unfoldable pub more_words : IntegerWords → Syntax PlainToken IntegerWords
+  more_words x = many (kind ws) words_behind (integer_word ws) x
+
+  -- the right operand of an operator of the level
+  unfoldable pub right_operand : ℕ → Syntax PlainToken Expression
+  right_operand l = operand ws (expression ws) Casts then λ z. behind_operand ws (expression ws) l z.expression
+
+  unfoldable pub more_joined : ℕ → Expression → Syntax PlainToken Expression
+  more_joined l x = many (kind ws) (λ _. kinds_of (operators_at l)) (joined_once ws l (right_operand l)) x
+
+  unfoldable pub more_arguments : List Expression → Syntax PlainToken (List Expression)
+  more_arguments es = many (kind ws) (λ _. mark_kind comma ∷ []) (next_argument ws) es

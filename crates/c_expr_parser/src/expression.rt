@@ -1,0 +1,442 @@
+//! Expressions (C99 6.5).
+
+ghost use Rattle.std.specs.Prelude.{◌≡◌, ◌≤◌, ◌<◌, length, IfOk};
+ghost use Rattle.c_syntax.specs.Expressions.{plain_expr, plain_kind};
+ghost use Rattle.grammar.specs.Syntax.{sees, one};
+ghost use Rattle.c_model.specs.ExpressionGrammar.{kind, placed, mark_entry, kinds_of, operators_at, read_as, read_name, read_operand, size_of_operand, joined, literal, cast_rest, sized_type, paren_rest, behind_paren, prefixed, sized, operand_but_name, operand_of, operand, joined_once, behind_operand, choice_rest, expression_rest, expression_of, expression};
+ghost use Rattle.c_expr_parser.specs.Reading.{Gives, plain_list, plain_operand, right_operand, more_joined};
+
+use crate::kinds::{COLON, LEFT_PAREN, NAME, NUMBER, QUESTION, RIGHT_PAREN};
+use crate::tables::{LEVELS, UNARY, operators_at};
+use crate::terminals::{
+    letter, marked, name, next_begins_type, next_is, next_is_marked, number, skip,
+};
+use crate::types::type_of;
+use c_model::operands::{Connective, Form, TypeUse};
+use c_model::vocabulary::Word;
+use c_syntax::fault::ReadFault;
+use c_syntax::{CInt, CType, Expr, ExprKind, Place, Token, Use};
+use std::alloc::{AllocError, Global};
+
+const SIZEOF: u32 = 27;
+
+/// An operand with its form and the place of its first token.
+#[derive(Drop)]
+pub struct ReadOperand {
+    pub expression: Expr,
+    pub form: Form,
+    pub first: Place,
+}
+
+/// An expression as it is read, whose type is set by typing.
+pub fn read_as(place: Place, kind: ExprKind) -> Expr
+    ensures { plain_expr result ≡ read_as place (plain_kind kind) }
+{
+    Expr {
+        place,
+        kind,
+        ctype: CType::Int(CInt::I32),
+    }
+}
+
+/// A name that is used.
+pub fn read_name(name: u32, place: Place) -> ReadOperand
+    ensures { plain_operand result ≡ read_name (name, place) }
+{
+    let x = Use { name, decl: 0 };
+    ReadOperand {
+        expression: read_as(place, ExprKind::Variable(x)),
+        form: Form::Primary,
+        first: place,
+    }
+}
+
+/// An integer or character literal.
+#[tactic(auto, unfolding(c_model::specs::ExpressionGrammar::literal))]
+fn literal<'a>(words: &[Word], tokens: &'a [Token]) -> Result<(ReadOperand, &'a [Token]), ReadFault>
+    ensures read { Gives (λ x. (plain_operand x.0, plain_list x.1.now)) result ((literal words.now).parse (plain_list tokens.now)) }
+    ensures shorter { IfOk result (λ x. length x.1.now < length tokens.now) }
+{
+    if next_is(words, NUMBER, tokens) {
+        let (value, ctype, place, rest) = number(tokens)?;
+        let literal = ReadOperand {
+            expression: read_as(place, ExprKind::Number(value, ctype)),
+            form: Form::Primary,
+            first: place,
+        };
+        Ok((literal, rest))
+    } else {
+        let (value, place, rest) = letter(tokens)?;
+        let literal = ReadOperand {
+            expression: read_as(place, ExprKind::Letter(value)),
+            form: Form::Primary,
+            first: place,
+        };
+        Ok((literal, rest))
+    }
+}
+
+/// `type ")"`, behind `sizeof (`.
+#[tactic(auto, unfolding(c_model::specs::ExpressionGrammar::sized_type, c_model::specs::ExpressionGrammar::closed))]
+fn sized_type<'a>(
+    words: &[Word],
+    place: Place,
+    tokens: &'a [Token],
+) -> Result<(ReadOperand, &'a [Token]), ReadFault>
+    ensures read { Gives (λ x. (plain_operand x.0, plain_list x.1.now)) result ((sized_type words.now place).parse (plain_list tokens.now)) }
+    ensures shorter { IfOk result (λ x. length x.1.now < length tokens.now) }
+{
+    let (t, rest) = type_of(words, tokens)?;
+    let (_, rest) = skip(words, RIGHT_PAREN, rest)?;
+    let sized = ReadOperand {
+        expression: read_as(place, ExprKind::SizeOfType(t)),
+        form: Form::TypeName,
+        first: place,
+    };
+    Ok((sized, rest))
+}
+
+/// `type ")" cast`, behind `(`.
+#[tactic(auto, unfolding(c_model::specs::ExpressionGrammar::cast_rest))]
+#[cycle(expression)]
+fn cast_rest<'a>(
+    alloc: Global,
+    words: &[Word],
+    place: Place,
+    tokens: &'a [Token],
+) -> Result<(ReadOperand, &'a [Token]), ReadFault>
+    ensures read { Gives (λ x. (plain_operand x.0, plain_list x.1.now)) result ((cast_rest words.now (operand words.now (expression words.now)) place).parse (plain_list tokens.now)) }
+    ensures shorter { IfOk result (λ x. length x.1.now < length tokens.now) }
+{
+    let (t, rest) = type_of(words, tokens)?;
+    let (_, rest) = skip(words, RIGHT_PAREN, rest)?;
+    let (x, rest) = operand(alloc, words, TypeUse::Casts, rest)?;
+    let cast = ReadOperand {
+        expression: read_as(place, ExprKind::Cast(t, Box::new(alloc, x.expression)?)),
+        form: Form::Cast,
+        first: place,
+    };
+    Ok((cast, rest))
+}
+
+/// `expr ")"`, behind `(`.
+#[tactic(auto, unfolding(c_model::specs::ExpressionGrammar::paren_rest, c_model::specs::ExpressionGrammar::closed))]
+#[cycle(expression)]
+fn paren_rest<'a>(
+    alloc: Global,
+    words: &[Word],
+    place: Place,
+    tokens: &'a [Token],
+) -> Result<(ReadOperand, &'a [Token]), ReadFault>
+    ensures read { Gives (λ x. (plain_operand x.0, plain_list x.1.now)) result ((paren_rest words.now (expression words.now) place).parse (plain_list tokens.now)) }
+    ensures shorter { IfOk result (λ x. length x.1.now < length tokens.now) }
+{
+    let (inner, rest) = expression(alloc, words, tokens)?;
+    let (_, rest) = skip(words, RIGHT_PAREN, rest)?;
+    let x = ReadOperand {
+        expression: inner,
+        form: Form::Primary,
+        first: place,
+    };
+    Ok((x, rest))
+}
+
+/// What stands behind `(`.
+#[tactic(auto, unfolding(c_model::specs::ExpressionGrammar::behind_paren))]
+#[cycle(expression)]
+fn behind_paren<'a>(
+    alloc: Global,
+    words: &[Word],
+    type_use: TypeUse,
+    place: Place,
+    tokens: &'a [Token],
+) -> Result<(ReadOperand, &'a [Token]), ReadFault>
+    ensures read { Gives (λ x. (plain_operand x.0, plain_list x.1.now)) result ((behind_paren words.now (expression words.now) (operand words.now (expression words.now)) type_use place).parse (plain_list tokens.now)) }
+    ensures shorter { IfOk result (λ x. length x.1.now < length tokens.now) }
+{
+    match type_use {
+        TypeUse::Casts => {
+            if next_begins_type(words, tokens) {
+                cast_rest(alloc, words, place, tokens)
+            } else {
+                paren_rest(alloc, words, place, tokens)
+            }
+        }
+        TypeUse::Sizes => {
+            if next_begins_type(words, tokens) {
+                sized_type(words, place, tokens)
+            } else {
+                paren_rest(alloc, words, place, tokens)
+            }
+        }
+        TypeUse::Nothing => paren_rest(alloc, words, place, tokens),
+    }
+}
+
+/// A prefix operator and its operand.
+#[tactic(auto, unfolding(c_model::specs::ExpressionGrammar::prefixed))]
+#[cycle(expression)]
+fn prefixed<'a>(
+    alloc: Global,
+    words: &[Word],
+    tokens: &'a [Token],
+) -> Result<(ReadOperand, &'a [Token]), ReadFault>
+    ensures read { Gives (λ x. (plain_operand x.0, plain_list x.1.now)) result ((prefixed words.now (operand words.now (expression words.now))).parse (plain_list tokens.now)) }
+    ensures shorter { IfOk result (λ x. length x.1.now < length tokens.now) }
+{
+    let (op, place, rest) = marked(UNARY, tokens)?;
+    let (x, rest) = operand(alloc, words, TypeUse::Casts, rest)?;
+    let prefixed = ReadOperand {
+        expression: read_as(place, ExprKind::Unary(op, Box::new(alloc, x.expression)?)),
+        form: Form::Unary,
+        first: place,
+    };
+    Ok((prefixed, rest))
+}
+
+/// What `sizeof` is of.
+fn size_of_operand(alloc: Global, x: ReadOperand) -> Result<ExprKind, AllocError>
+    ensures { IfOk result (λ k. plain_kind k ≡ size_of_operand (plain_operand x)) }
+{
+    match x.form {
+        Form::TypeName => Ok(x.expression.kind),
+        Form::Primary | Form::Unary | Form::Cast => {
+            Ok(ExprKind::SizeOfExpr(Box::new(alloc, x.expression)?))
+        }
+    }
+}
+
+/// `sizeof` and its operand (C99 6.5.3.4).
+#[tactic(auto, unfolding(c_model::specs::ExpressionGrammar::sized))]
+#[cycle(expression)]
+fn sized<'a>(
+    alloc: Global,
+    words: &[Word],
+    tokens: &'a [Token],
+) -> Result<(ReadOperand, &'a [Token]), ReadFault>
+    ensures read { Gives (λ x. (plain_operand x.0, plain_list x.1.now)) result ((sized words.now (operand words.now (expression words.now))).parse (plain_list tokens.now)) }
+    ensures shorter { IfOk result (λ x. length x.1.now < length tokens.now) }
+{
+    let (place, rest) = skip(words, SIZEOF, tokens)?;
+    let (x, rest) = operand(alloc, words, TypeUse::Sizes, rest)?;
+    let sized = ReadOperand {
+        expression: read_as(place, size_of_operand(alloc, x)?),
+        form: Form::Unary,
+        first: place,
+    };
+    Ok((sized, rest))
+}
+
+/// An operand that begins with no name.
+#[tactic(auto, unfolding(c_model::specs::ExpressionGrammar::operand_but_name))]
+#[cycle(expression)]
+pub fn operand_but_name<'a>(
+    alloc: Global,
+    words: &[Word],
+    type_use: TypeUse,
+    tokens: &'a [Token],
+) -> Result<(ReadOperand, &'a [Token]), ReadFault>
+    ensures read { Gives (λ x. (plain_operand x.0, plain_list x.1.now)) result ((operand_but_name words.now (expression words.now) (operand words.now (expression words.now)) type_use).parse (plain_list tokens.now)) }
+    ensures shorter { IfOk result (λ x. length x.1.now < length tokens.now) }
+{
+    if next_is(words, LEFT_PAREN, tokens) {
+        let (place, rest) = skip(words, LEFT_PAREN, tokens)?;
+        behind_paren(alloc, words, type_use, place, rest)
+    } else if next_is_marked(words, UNARY, tokens) {
+        prefixed(alloc, words, tokens)
+    } else if next_is(words, SIZEOF, tokens) {
+        sized(alloc, words, tokens)
+    } else {
+        literal(words, tokens)
+    }
+}
+
+/// A unary expression, or what a type in parentheses begins.
+#[tactic(auto, using(crate::proofs::ExactExpressions::operand_is), unfolding(c_model::specs::ExpressionGrammar::operand_of))]
+#[cycle(expression)]
+pub fn operand<'a>(
+    alloc: Global,
+    words: &[Word],
+    type_use: TypeUse,
+    tokens: &'a [Token],
+) -> Result<(ReadOperand, &'a [Token]), ReadFault>
+    ensures read { Gives (λ x. (plain_operand x.0, plain_list x.1.now)) result ((operand words.now (expression words.now) type_use).parse (plain_list tokens.now)) }
+    ensures shorter { IfOk result (λ x. length x.1.now < length tokens.now) }
+{
+    if next_is(words, NAME, tokens) {
+        let (number, place, rest) = name(words, tokens)?;
+        Ok((read_name(number, place), rest))
+    } else {
+        operand_but_name(alloc, words, type_use, tokens)
+    }
+}
+
+/// The right operand of an operator of the level.
+#[tactic(auto, unfolding(crate::specs::Reading::right_operand))]
+#[cycle(expression)]
+fn right_operand<'a>(
+    alloc: Global,
+    words: &[Word],
+    level: u32,
+    tokens: &'a [Token],
+) -> Result<(Expr, &'a [Token]), ReadFault>
+    requires { level ≤ 10 }
+    ensures read { Gives (λ x. (plain_expr x.0, plain_list x.1.now)) result ((right_operand words.now level).parse (plain_list tokens.now)) }
+    ensures shorter { IfOk result (λ x. length x.1.now < length tokens.now) }
+{
+    let (x, rest) = operand(alloc, words, TypeUse::Casts, tokens)?;
+    behind_operand(alloc, words, level, x.expression, rest)
+}
+
+/// A binary operator of the level.
+fn operator(level: u32, tokens: &[Token]) -> Result<(Connective, Place, &[Token]), ReadFault>
+    ensures read { Gives (λ x. ((x.0, x.1), plain_list x.2.now)) result ((one (placed (mark_entry (operators_at level)))).parse (plain_list tokens.now)) }
+    ensures shorter { IfOk result (λ x. length x.2.now < length tokens.now) }
+{
+    marked(operators_at(level), tokens)
+}
+
+fn next_is_operator(words: &[Word], level: u32, tokens: &[Token]) -> bool
+    ensures { result ≡ sees (kind words.now) (kinds_of (operators_at level)) (plain_list tokens.now) }
+{
+    next_is_marked(words, operators_at(level), tokens)
+}
+
+fn joined(
+    alloc: Global,
+    connective: Connective,
+    left: Expr,
+    right: Expr,
+) -> Result<ExprKind, AllocError>
+    ensures { IfOk result (λ k. plain_kind k ≡ joined connective (plain_expr left) (plain_expr right)) }
+{
+    let (left, right) = (Box::new(alloc, left)?, Box::new(alloc, right)?);
+    Ok(match connective {
+        Connective::Operator(op) => ExprKind::Binary(op, left, right),
+        Connective::And => ExprKind::Both(left, right),
+        Connective::Or => ExprKind::Either(left, right),
+    })
+}
+
+/// An operator of the level with its right operand.
+#[tactic(auto, unfolding(c_model::specs::ExpressionGrammar::joined_once))]
+#[cycle(expression)]
+fn joined_once<'a>(
+    alloc: Global,
+    words: &[Word],
+    level: u32,
+    left: Expr,
+    tokens: &'a [Token],
+) -> Result<(Expr, &'a [Token]), ReadFault>
+    requires { level ≤ 10 }
+    ensures read { Gives (λ x. (plain_expr x.0, plain_list x.1.now)) result ((joined_once words.now level (right_operand words.now level) (plain_expr left)).parse (plain_list tokens.now)) }
+    ensures shorter { IfOk result (λ x. length x.1.now < length tokens.now) }
+{
+    let (connective, place, rest) = operator(level, tokens)?;
+    let (right, rest) = right_operand(alloc, words, level, rest)?;
+    Ok((
+        read_as(place, joined(alloc, connective, left, right)?),
+        rest,
+    ))
+}
+
+/// Operators of the level with their right operands.
+#[tactic(auto, using(crate::proofs::Levels::joined_turn, crate::proofs::Levels::joined_fails, crate::proofs::Levels::joined_ends))]
+#[cycle(expression)]
+fn more_joined<'a>(
+    alloc: Global,
+    words: &[Word],
+    level: u32,
+    left: Expr,
+    tokens: &'a [Token],
+) -> Result<(Expr, &'a [Token]), ReadFault>
+    requires { level ≤ 10 }
+    ensures read { Gives (λ x. (plain_expr x.0, plain_list x.1.now)) result ((more_joined words.now level (plain_expr left)).parse (plain_list tokens.now)) }
+    ensures shorter { IfOk result (λ x. length x.1.now ≤ length tokens.now) }
+{
+    let mut left = left;
+    let mut rest = tokens;
+    'turn: while next_is_operator(words, level, rest) {
+        let (more, after) = joined_once(alloc, words, level, left, rest)?;
+        left = more;
+        rest = after;
+    }
+    Ok((left, rest))
+}
+
+/// What stands behind an operand: operators of the levels below this one, with their right operands.
+#[tactic(auto, using(crate::proofs::Levels::behind_none, crate::proofs::Levels::behind_level, crate::proofs::Levels::behind_fails))]
+#[cycle(expression)]
+fn behind_operand<'a>(
+    alloc: Global,
+    words: &[Word],
+    level: u32,
+    left: Expr,
+    tokens: &'a [Token],
+) -> Result<(Expr, &'a [Token]), ReadFault>
+    requires { level ≤ 10 }
+    ensures read { Gives (λ x. (plain_expr x.0, plain_list x.1.now)) result ((behind_operand words.now (expression words.now) level (plain_expr left)).parse (plain_list tokens.now)) }
+    ensures shorter { IfOk result (λ x. length x.1.now ≤ length tokens.now) }
+{
+    if level == 0 {
+        return Ok((left, tokens));
+    }
+    let (left, rest) = behind_operand(alloc, words, level - 1, left, tokens)?;
+    more_joined(alloc, words, level - 1, left, rest)
+}
+
+/// `"?" expr ":" expr`, behind the condition.
+#[tactic(auto, unfolding(c_model::specs::ExpressionGrammar::choice_rest))]
+#[cycle(expression)]
+fn choice_rest<'a>(
+    alloc: Global,
+    words: &[Word],
+    condition: Expr,
+    tokens: &'a [Token],
+) -> Result<(Expr, &'a [Token]), ReadFault>
+    ensures read { Gives (λ x. (plain_expr x.0, plain_list x.1.now)) result ((choice_rest words.now (expression words.now) (plain_expr condition)).parse (plain_list tokens.now)) }
+    ensures shorter { IfOk result (λ x. length x.1.now < length tokens.now) }
+{
+    let (place, rest) = skip(words, QUESTION, tokens)?;
+    let (first, rest) = expression(alloc, words, rest)?;
+    let (_, rest) = skip(words, COLON, rest)?;
+    let (second, rest) = expression(alloc, words, rest)?;
+    let (condition, first) = (Box::new(alloc, condition)?, Box::new(alloc, first)?);
+    let kind = ExprKind::Choice(condition, first, Box::new(alloc, second)?);
+    Ok((read_as(place, kind), rest))
+}
+
+/// The rest of an expression, behind its first operand.
+#[tactic(auto, unfolding(c_model::specs::ExpressionGrammar::expression_rest))]
+#[cycle(expression)]
+pub fn expression_rest<'a>(
+    alloc: Global,
+    words: &[Word],
+    left: Expr,
+    tokens: &'a [Token],
+) -> Result<(Expr, &'a [Token]), ReadFault>
+    ensures read { Gives (λ x. (plain_expr x.0, plain_list x.1.now)) result ((expression_rest words.now (expression words.now) (plain_expr left)).parse (plain_list tokens.now)) }
+    ensures shorter { IfOk result (λ x. length x.1.now ≤ length tokens.now) }
+{
+    let (left, rest) = behind_operand(alloc, words, LEVELS, left, tokens)?;
+    if next_is(words, QUESTION, rest) {
+        choice_rest(alloc, words, left, rest)
+    } else {
+        Ok((left, rest))
+    }
+}
+
+/// An expression of any length.
+#[tactic(auto, using(crate::proofs::ExactExpressions::expression_is), unfolding(c_model::specs::ExpressionGrammar::expression_of))]
+#[cycle(expression)]
+pub fn expression<'a>(
+    alloc: Global,
+    words: &[Word],
+    tokens: &'a [Token],
+) -> Result<(Expr, &'a [Token]), ReadFault>
+    ensures read { Gives (λ x. (plain_expr x.0, plain_list x.1.now)) result ((expression words.now).parse (plain_list tokens.now)) }
+    ensures shorter { IfOk result (λ x. length x.1.now < length tokens.now) }
+{
+    let (x, rest) = operand(alloc, words, TypeUse::Casts, tokens)?;
+    expression_rest(alloc, words, x.expression, rest)
+}

@@ -1,0 +1,196 @@
+//! Single tokens, and tests of the next one.
+
+ghost use Rattle.std.specs.Prelude.{◌≡◌, ◌<◌, length, IfOk, [], ◌∷◌};
+ghost use Rattle.grammar.specs.Syntax.{among, sees, one};
+ghost use Rattle.c_syntax.specs.Tokens.{plain_token_kind};
+ghost use Rattle.c_model.specs.ExpressionGrammar.{kind, first_type, first_expression, fixed, placed, name, number_of, letter_of, entry, mark_entry, kinds_of};
+ghost use Rattle.c_expr_parser.specs.Reading.{Gives, plain_list};
+
+use crate::kinds::{
+    EXCLAMATION, FIRST_MARK, LEFT_PAREN, LETTER, MINUS, NAME, NUMBER, PLUS, TILDE, TYPE_NAME, kind,
+    word_at, word_kind,
+};
+use c_model::vocabulary::Word;
+use c_syntax::fault::ReadFault;
+use c_syntax::{CInt, Place, Token, TokenKind};
+
+/// How many tokens are left.
+pub fn left(tokens: &[Token]) -> usize
+    ensures { result ≡ length (plain_list tokens.now) }
+{
+    tokens.len()
+}
+
+pub fn next_is(words: &[Word], wanted: u32, tokens: &[Token]) -> bool
+    ensures { result ≡ sees (kind words.now) (wanted ∷ []) (plain_list tokens.now) }
+{
+    match tokens {
+        [] => false,
+        [token, ..] => kind(words, token) == wanted,
+    }
+}
+
+pub fn next_begins_type(words: &[Word], tokens: &[Token]) -> bool
+    ensures { result ≡ sees (kind words.now) first_type (plain_list tokens.now) }
+{
+    match tokens {
+        [] => false,
+        [token, ..] => {
+            let k = kind(words, token);
+            k == 17 || k == 16 || k == TYPE_NAME || (10 <= k && k <= 15)
+        }
+    }
+}
+
+pub fn next_begins_expression(words: &[Word], tokens: &[Token]) -> bool
+    ensures { result ≡ sees (kind words.now) first_expression (plain_list tokens.now) }
+{
+    match tokens {
+        [] => false,
+        [token, ..] => {
+            let k = kind(words, token);
+            k == NAME
+                || k == NUMBER
+                || k == LETTER
+                || k == LEFT_PAREN
+                || k == PLUS
+                || k == MINUS
+                || k == EXCLAMATION
+                || k == TILDE
+                || k == 27
+        }
+    }
+}
+
+/// Whether the kind is that of a punctuator of the table.
+fn is_in_table<T: Copy>(kind: u32, table: &[(u8, T)]) -> bool
+    ensures { result ≡ among kind (kinds_of table.now) }
+{
+    let mut rest = table;
+    'turn: while let [entry, after @ ..] = rest {
+        if kind == FIRST_MARK + entry.0 as u32 {
+            return true;
+        }
+        rest = after;
+    }
+    false
+}
+
+/// Whether a punctuator of the table comes next.
+pub fn next_is_marked<T: Copy>(words: &[Word], table: &[(u8, T)], tokens: &[Token]) -> bool
+    ensures { result ≡ sees (kind words.now) (kinds_of table.now) (plain_list tokens.now) }
+{
+    match tokens {
+        [] => false,
+        [token, ..] => is_in_table(kind(words, token), table),
+    }
+}
+
+/// A token of this kind, by its place.
+pub fn skip<'a>(
+    words: &[Word],
+    wanted: u32,
+    tokens: &'a [Token],
+) -> Result<(Place, &'a [Token]), ReadFault>
+    ensures read { Gives (λ x. (x.0, plain_list x.1.now)) result ((fixed words.now wanted).parse (plain_list tokens.now)) }
+    ensures shorter { IfOk result (λ x. length x.1.now < length tokens.now) }
+{
+    match tokens {
+        [] => Err(ReadFault::At(0)),
+        [token, rest @ ..] => {
+            if kind(words, token) == wanted {
+                Ok((token.place, rest))
+            } else {
+                Err(ReadFault::At(left(tokens)))
+            }
+        }
+    }
+}
+
+/// A name, by its number.
+pub fn name<'a>(words: &[Word], tokens: &'a [Token]) -> Result<(u32, Place, &'a [Token]), ReadFault>
+    ensures read { Gives (λ x. ((x.0, x.1), plain_list x.2.now)) result ((name words.now).parse (plain_list tokens.now)) }
+    ensures shorter { IfOk result (λ x. length x.2.now < length tokens.now) }
+{
+    match tokens {
+        [] => Err(ReadFault::At(0)),
+        [token, rest @ ..] => match &token.kind {
+            TokenKind::Word(number) => {
+                if word_kind(word_at(words, *number)) == NAME {
+                    Ok((*number, token.place, rest))
+                } else {
+                    Err(ReadFault::At(left(tokens)))
+                }
+            }
+            _ => Err(ReadFault::At(left(tokens))),
+        },
+    }
+}
+
+/// An integer literal, by its value and type.
+pub fn number(tokens: &[Token]) -> Result<(i128, Option<CInt>, Place, &[Token]), ReadFault>
+    ensures read { Gives (λ x. (((x.0, x.1), x.2), plain_list x.3.now)) result ((one (placed number_of)).parse (plain_list tokens.now)) }
+    ensures shorter { IfOk result (λ x. length x.3.now < length tokens.now) }
+{
+    match tokens {
+        [] => Err(ReadFault::At(0)),
+        [token, rest @ ..] => match &token.kind {
+            TokenKind::Number(value, ctype) => Ok((*value, *ctype, token.place, rest)),
+            _ => Err(ReadFault::At(left(tokens))),
+        },
+    }
+}
+
+/// A character literal, by its value.
+pub fn letter(tokens: &[Token]) -> Result<(i8, Place, &[Token]), ReadFault>
+    ensures read { Gives (λ x. ((x.0, x.1), plain_list x.2.now)) result ((one (placed letter_of)).parse (plain_list tokens.now)) }
+    ensures shorter { IfOk result (λ x. length x.2.now < length tokens.now) }
+{
+    match tokens {
+        [] => Err(ReadFault::At(0)),
+        [token, rest @ ..] => match &token.kind {
+            TokenKind::Letter(value) => Ok((*value, token.place, rest)),
+            _ => Err(ReadFault::At(left(tokens))),
+        },
+    }
+}
+
+/// What stands in the table for a punctuator.
+fn entry<T: Copy>(mark: u8, table: &[(u8, T)]) -> Option<T>
+    ensures { result ≡ entry mark table.now }
+{
+    let mut rest = table;
+    'turn: while let [entry, after @ ..] = rest {
+        if mark == entry.0 {
+            return Some(entry.1);
+        }
+        rest = after;
+    }
+    None
+}
+
+fn mark_entry<T: Copy>(table: &[(u8, T)], kind: &TokenKind) -> Option<T>
+    ensures { result ≡ mark_entry table.now (plain_token_kind kind.now) }
+{
+    match kind {
+        TokenKind::Mark(mark) => entry(*mark, table),
+        _ => None,
+    }
+}
+
+/// A punctuator of the table, by what it stands for.
+pub fn marked<'a, T: Copy>(
+    table: &[(u8, T)],
+    tokens: &'a [Token],
+) -> Result<(T, Place, &'a [Token]), ReadFault>
+    ensures read { Gives (λ x. ((x.0, x.1), plain_list x.2.now)) result ((one (placed (mark_entry table.now))).parse (plain_list tokens.now)) }
+    ensures shorter { IfOk result (λ x. length x.2.now < length tokens.now) }
+{
+    match tokens {
+        [] => Err(ReadFault::At(0)),
+        [token, rest @ ..] => match mark_entry(table, &token.kind) {
+            Some(found) => Ok((found, token.place, rest)),
+            None => Err(ReadFault::At(left(tokens))),
+        },
+    }
+}

@@ -1,0 +1,260 @@
+//! Types (C99 6.7.2, 6.7.6).
+
+ghost use Rattle.std.specs.Prelude.{◌≡◌, ◌≤◌, ◌<◌, length, IfOk, option_map};
+ghost use Rattle.grammar.specs.Syntax.{among, sees, one};
+ghost use Rattle.c_syntax.specs.Ctypes.{PlainType, Int, plain_type};
+ghost use Rattle.c_syntax.specs.Tokens.{plain_token_kind};
+ghost use Rattle.c_model.specs.Vocabulary.{sign_with, size_with, words_with, signed_or_not, integer_type};
+ghost use Rattle.c_model.specs.ExpressionGrammar.{kind, placed, signs_behind, sizes_behind, words_behind, next_words, integer_word, integer_words, type_name_of, type_name_word_of, type_name, base, consts, type_words};
+ghost use Rattle.c_expr_parser.specs.Reading.{Gives, plain_list, more_words};
+
+use crate::kinds::{TYPE_NAME, kind, word_at};
+use crate::terminals::{left, next_is, skip};
+use c_model::vocabulary::{IntegerWords, Keyword, SignWords, SizeWords, Word};
+use c_syntax::fault::ReadFault;
+use c_syntax::{CInt, CType, Token, TokenKind};
+
+const VOID: u32 = 16;
+
+const CONST: u32 = 17;
+
+fn sign_with(sign: SignWords, keyword: Keyword) -> Option<SignWords>
+    ensures { result ≡ sign_with sign keyword }
+{
+    match (sign, keyword) {
+        (SignWords::Nothing, Keyword::Signed) => Some(SignWords::Signed),
+        (SignWords::Nothing, Keyword::Unsigned) => Some(SignWords::Unsigned),
+        _ => None,
+    }
+}
+
+fn size_with(size: SizeWords, keyword: Keyword) -> Option<SizeWords>
+    ensures { result ≡ size_with size keyword }
+{
+    match (size, keyword) {
+        (SizeWords::Nothing, Keyword::Char) => Some(SizeWords::Char),
+        (SizeWords::Nothing, Keyword::Short) => Some(SizeWords::Short),
+        (SizeWords::Nothing, Keyword::Int) => Some(SizeWords::Int),
+        (SizeWords::Nothing, Keyword::Long) => Some(SizeWords::Long),
+        (SizeWords::Short, Keyword::Int) => Some(SizeWords::ShortInt),
+        (SizeWords::Int, Keyword::Short) => Some(SizeWords::ShortInt),
+        (SizeWords::Int, Keyword::Long) => Some(SizeWords::LongInt),
+        (SizeWords::Long, Keyword::Int) => Some(SizeWords::LongInt),
+        (SizeWords::Long, Keyword::Long) => Some(SizeWords::LongLong),
+        (SizeWords::LongInt, Keyword::Long) => Some(SizeWords::LongLongInt),
+        (SizeWords::LongLong, Keyword::Int) => Some(SizeWords::LongLongInt),
+        _ => None,
+    }
+}
+
+/// The words with one more, where it can stand with them.
+fn words_with(x: IntegerWords, keyword: Keyword) -> Option<IntegerWords>
+    ensures { result ≡ words_with x keyword }
+{
+    match sign_with(x.sign, keyword) {
+        Some(sign) => Some(IntegerWords { sign, size: x.size }),
+        None => match size_with(x.size, keyword) {
+            Some(size) => Some(IntegerWords { sign: x.sign, size }),
+            None => None,
+        },
+    }
+}
+
+fn next_words(words: &[Word], x: IntegerWords, kind: &TokenKind) -> Option<IntegerWords>
+    ensures { result ≡ next_words words.now x (plain_token_kind kind.now) }
+{
+    match kind {
+        TokenKind::Word(number) => match word_at(words, *number) {
+            Word::Keyword(keyword) => words_with(x, keyword),
+            _ => None,
+        },
+        _ => None,
+    }
+}
+
+/// One more of an integer type's words.
+#[tactic(auto, unfolding(c_model::specs::ExpressionGrammar::integer_word))]
+fn integer_word<'a>(
+    words: &[Word],
+    x: IntegerWords,
+    tokens: &'a [Token],
+) -> Result<(IntegerWords, &'a [Token]), ReadFault>
+    ensures read { Gives (λ y. (y.0, plain_list y.1.now)) result ((integer_word words.now x).parse (plain_list tokens.now)) }
+    ensures shorter { IfOk result (λ y. length y.1.now < length tokens.now) }
+{
+    match tokens {
+        [] => Err(ReadFault::At(0)),
+        [token, rest @ ..] => match next_words(words, x, &token.kind) {
+            Some(y) => Ok((y, rest)),
+            None => Err(ReadFault::At(left(tokens))),
+        },
+    }
+}
+
+fn sign_goes_on(sign: SignWords, kind: u32) -> bool
+    ensures { result ≡ among kind (signs_behind sign) }
+{
+    match sign {
+        SignWords::Nothing => kind == 14 || kind == 15,
+        SignWords::Signed | SignWords::Unsigned => false,
+    }
+}
+
+fn size_goes_on(size: SizeWords, kind: u32) -> bool
+    ensures { result ≡ among kind (sizes_behind size) }
+{
+    match size {
+        SizeWords::Nothing => 10 <= kind && kind <= 13,
+        SizeWords::Short => kind == 12,
+        SizeWords::Int => kind == 11 || kind == 13,
+        SizeWords::Long => kind == 12 || kind == 13,
+        SizeWords::LongInt => kind == 13,
+        SizeWords::LongLong => kind == 12,
+        SizeWords::Char | SizeWords::ShortInt | SizeWords::LongLongInt => false,
+    }
+}
+
+/// Whether one more word can stand with these.
+#[tactic(auto, using(crate::proofs::Words::among_joined))]
+fn goes_on(x: IntegerWords, kind: u32) -> bool
+    ensures { result ≡ among kind (words_behind x) }
+{
+    sign_goes_on(x.sign, kind) || size_goes_on(x.size, kind)
+}
+
+fn next_goes_on(words: &[Word], x: IntegerWords, tokens: &[Token]) -> bool
+    ensures { result ≡ sees (kind words.now) (words_behind x) (plain_list tokens.now) }
+{
+    match tokens {
+        [] => false,
+        [token, ..] => goes_on(x, kind(words, token)),
+    }
+}
+
+/// The words of an integer type behind those that are read.
+#[tactic(auto, using(crate::proofs::Steps::words_turn, crate::proofs::Steps::words_fails, crate::proofs::Steps::words_ends))]
+fn more_words<'a>(
+    words: &[Word],
+    x: IntegerWords,
+    tokens: &'a [Token],
+) -> Result<(IntegerWords, &'a [Token]), ReadFault>
+    ensures read { Gives (λ y. (y.0, plain_list y.1.now)) result ((more_words words.now x).parse (plain_list tokens.now)) }
+    ensures shorter { IfOk result (λ y. length y.1.now ≤ length tokens.now) }
+{
+    let mut x = x;
+    let mut rest = tokens;
+    'turn: while next_goes_on(words, x, rest) {
+        let (more, after) = integer_word(words, x, rest)?;
+        x = more;
+        rest = after;
+    }
+    Ok((x, rest))
+}
+
+fn signed_or_not(sign: SignWords, signed: CInt, unsigned: CInt) -> CInt
+    ensures { result ≡ signed_or_not sign signed unsigned }
+{
+    match sign {
+        SignWords::Unsigned => unsigned,
+        SignWords::Nothing | SignWords::Signed => signed,
+    }
+}
+
+/// The type that the words name.
+fn integer_type(x: IntegerWords) -> CInt
+    ensures { result ≡ integer_type x }
+{
+    match x.size {
+        SizeWords::Char => signed_or_not(x.sign, CInt::I8, CInt::U8),
+        SizeWords::Short | SizeWords::ShortInt => signed_or_not(x.sign, CInt::I16, CInt::U16),
+        SizeWords::Nothing | SizeWords::Int => signed_or_not(x.sign, CInt::I32, CInt::U32),
+        SizeWords::Long | SizeWords::LongInt | SizeWords::LongLong | SizeWords::LongLongInt => {
+            signed_or_not(x.sign, CInt::I64, CInt::U64)
+        }
+    }
+}
+
+/// The words of an integer type, in any order.
+#[tactic(auto, unfolding(c_model::specs::ExpressionGrammar::integer_words, crate::specs::Reading::more_words))]
+fn integer_words<'a>(words: &[Word], tokens: &'a [Token]) -> Result<(CType, &'a [Token]), ReadFault>
+    ensures read { Gives (λ t. (plain_type t.0, plain_list t.1.now)) result ((integer_words words.now).parse (plain_list tokens.now)) }
+    ensures shorter { IfOk result (λ t. length t.1.now < length tokens.now) }
+{
+    let none = IntegerWords {
+        sign: SignWords::Nothing,
+        size: SizeWords::Nothing,
+    };
+    let (first, rest) = integer_word(words, none, tokens)?;
+    let (all, rest) = more_words(words, first, rest)?;
+    Ok((CType::Int(integer_type(all)), rest))
+}
+
+fn type_name_of(words: &[Word], kind: &TokenKind) -> Option<CInt>
+    ensures { option_map Int result ≡ type_name_of words.now (plain_token_kind kind.now) }
+{
+    match kind {
+        TokenKind::Word(number) => match word_at(words, *number) {
+            Word::TypeName(t) => Some(t),
+            _ => None,
+        },
+        _ => None,
+    }
+}
+
+/// The name of a type of the library.
+#[tactic(auto, unfolding(c_model::specs::ExpressionGrammar::type_name))]
+fn type_name<'a>(words: &[Word], tokens: &'a [Token]) -> Result<(CType, &'a [Token]), ReadFault>
+    ensures read { Gives (λ t. (plain_type t.0, plain_list t.1.now)) result ((type_name words.now).parse (plain_list tokens.now)) }
+    ensures shorter { IfOk result (λ t. length t.1.now < length tokens.now) }
+{
+    match tokens {
+        [] => Err(ReadFault::At(0)),
+        [token, rest @ ..] => match type_name_of(words, &token.kind) {
+            Some(t) => Ok((CType::Int(t), rest)),
+            None => Err(ReadFault::At(left(tokens))),
+        },
+    }
+}
+
+/// An integer type, `void`, or the name of a type.
+#[tactic(auto, unfolding(c_model::specs::ExpressionGrammar::base))]
+pub fn base<'a>(words: &[Word], tokens: &'a [Token]) -> Result<(CType, &'a [Token]), ReadFault>
+    ensures read { Gives (λ t. (plain_type t.0, plain_list t.1.now)) result ((base words.now).parse (plain_list tokens.now)) }
+    ensures shorter { IfOk result (λ t. length t.1.now < length tokens.now) }
+{
+    if next_is(words, VOID, tokens) {
+        let (_, rest) = skip(words, VOID, tokens)?;
+        Ok((CType::Void, rest))
+    } else if next_is(words, TYPE_NAME, tokens) {
+        type_name(words, tokens)
+    } else {
+        integer_words(words, tokens)
+    }
+}
+
+/// `{ "const" }`, which leaves what is read as it is.
+#[tactic(auto, using(crate::proofs::Steps::consts_turn, crate::proofs::Steps::consts_ends))]
+pub fn consts<'a>(words: &[Word], tokens: &'a [Token]) -> Result<&'a [Token], ReadFault>
+    ensures none { Gives (λ r. (tt {0}, plain_list r.now)) result ((consts words.now (tt {0})).parse (plain_list tokens.now)) }
+    ensures some { (t : PlainType) → Gives (λ r. (t, plain_list r.now)) result ((consts words.now t).parse (plain_list tokens.now)) }
+    ensures shorter { IfOk result (λ r. length r.now ≤ length tokens.now) }
+{
+    let mut rest = tokens;
+    'turn: while next_is(words, CONST, rest) {
+        let (_, after) = skip(words, CONST, rest)?;
+        rest = after;
+    }
+    Ok(rest)
+}
+
+/// A type of a cast, of `sizeof` or of a declaration.
+#[tactic(auto, unfolding(c_model::specs::ExpressionGrammar::type_words))]
+pub fn type_of<'a>(words: &[Word], tokens: &'a [Token]) -> Result<(CType, &'a [Token]), ReadFault>
+    ensures read { Gives (λ t. (plain_type t.0, plain_list t.1.now)) result ((type_words words.now).parse (plain_list tokens.now)) }
+    ensures shorter { IfOk result (λ t. length t.1.now < length tokens.now) }
+{
+    let rest = consts(words, tokens)?;
+    let (t, rest) = base(words, rest)?;
+    let rest = consts(words, rest)?;
+    Ok((t, rest))
+}
