@@ -1,10 +1,12 @@
 //! From tokens to expressions of annotated C.
+//!
+//! A function for each production of the grammar reads the tokens.
 #![tactic(auto)]
 
 mod effect;
 mod expression;
-mod full;
-mod kinds;
+pub mod full;
+pub mod kinds;
 mod tables;
-mod terminals;
-mod types;
+pub mod terminals;
+pub mod types;
