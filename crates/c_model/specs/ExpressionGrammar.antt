@@ -14,8 +14,8 @@
 --   call    = NAME "(" [ expr { "," expr } ] ")"
 --
 -- An expression that stands in no other has at most 400 tokens. Types and declarations are set by typing.
-use Rattle.std.specs.Prelude.{ℕ, zero, suc, ◌+◌, ℤ, List, [], ◌∷◌, ◌++◌, Option, Some, None, option_map, cond, eqb, slice_get}
-use Rattle.grammar.specs.Syntax.{Syntax, none, gives, one, ◌then◌, choice, many, knot, at_most}
+use Rattle.std.specs.Prelude.{ℕ, zero, suc, ◌+◌, ℤ, List, [], ◌∷◌, ◌++◌, Option, Some, None, cond, eqb, slice_get}
+use Rattle.grammar.specs.Syntax.{Syntax, gives, one, ◌then◌, choice, many, knot, at_most}
 use Rattle.c_syntax.specs.declared.place.Place.{Place}
 use Rattle.c_syntax.specs.declared.types.CInt.{CInt}
 use Rattle.c_syntax.specs.declared.expression.Use.{Use}

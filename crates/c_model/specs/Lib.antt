@@ -24,6 +24,8 @@ pub mod Library
 pub mod Typing
 pub mod ProgramTyping
 pub mod WellTyped
+pub mod WellTypedPrograms
+pub mod Formed
 pub mod MonitoredTokens
 pub mod MonitoredTokenLaws
 pub mod Comments

@@ -1,16 +1,15 @@
 -- Which texts are accepted, with which program, and which are refused, why: by tokens, by grammar, by names and types, for want of
 -- `main`, and by the names of annotations, in this order.
-use Rattle.std.specs.Prelude.{◌≡◌, ℕ, List, map, Option, Some, None, Result, Ok, Err, if◌then◌else◌, eqb, codes}
+use Rattle.std.specs.Prelude.{◌≡◌, ℕ, List, map, Some, None, Ok, Err, if◌then◌else◌, eqb, codes}
 use Rattle.grammar.specs.Syntax as grammar
 use Rattle.grammar.specs.Exact.{Accepts, Refused}
-use Rattle.c_syntax.specs.declared.place.Place.{Place}
 use Rattle.c_syntax.specs.Tokens.{PlainTokens}
 use Rattle.c_syntax.specs.Programs.{TranslationUnit, PlainRefusal}
 use Rattle.c_model.specs.CTokens.{tokens_of}
 use Rattle.c_model.specs.Vocabulary.{Vocabulary, word_of}
 use Rattle.c_model.specs.ExpressionGrammar.{expression_limit}
 use Rattle.c_model.specs.ProgramGrammar.{unit}
-use Rattle.c_model.specs.Checked.{Fault, Checked, Good, refusing}
+use Rattle.c_model.specs.Checked.{Fault, Good, refusing}
 use Rattle.c_model.specs.ProgramTyping.{typed_unit, main_fault, noted_unit}
 use Rattle.c_model.specs.TokenWords.{word_at, from_place, last, place_at, refused_at}
 

@@ -1,16 +1,15 @@
 -- The typing of functions, of whole texts and of their annotations (C99 6.9, ACSL 2.2): phase by phase, where the first with a fault refuses.
-use Rattle.std.specs.Prelude.{ℕ, ℤ, List, [], ◌∷◌, ◌++◌, map, Option, Some, None, option_map, Bool, true, false, not, ◌&&◌, cond, codes, bytes_eq}
+use Rattle.std.specs.Prelude.{ℕ, List, [], ◌∷◌, map, Option, Some, None, Bool, true, false, not, ◌&&◌, cond, codes, bytes_eq}
 use Rattle.c_syntax.specs.declared.place.Place.{Place}
-use Rattle.c_syntax.specs.declared.expression.Use.{Use}
 use Rattle.c_syntax.specs.declared.annotation.Range.{Range}
 use Rattle.c_syntax.specs.Ctypes.{PlainType, int_type}
 use Rattle.c_syntax.specs.Annotations.{LogicTerm, Number, Letter, Variable, Binary, Predicate, Chain, Links, NoLink, Linked, ClauseBody, Truth, Annotation}
-use Rattle.c_syntax.specs.Statements.{Declaration, Statement, Empty, Eval, Block, If, While, Do, For, Break, Continue, Return, ElsePart, NoElse, Else, ForFirst, NoFirst, First, BlockItem, Declare, Run, Asserts, BlockItems, NoItem, Then}
+use Rattle.c_syntax.specs.Statements.{Declaration, Statement, Empty, Eval, Block, If, While, Do, For, Break, Continue, Return, ElsePart, NoElse, Else, BlockItem, Declare, Run, Asserts, BlockItems, NoItem, Then}
 use Rattle.c_syntax.specs.Programs.{Function, TranslationUnit}
 use Rattle.c_model.specs.FirstTokens.{first_place}
 use Rattle.c_model.specs.Library.{library_constant, is_library_name, is_there}
-use Rattle.c_model.specs.Checked.{Fault, Checked, Good, Bad, faulty, one_part, both_parts, where_so}
-use Rattle.c_model.specs.Typing.{no_name, no_type, Object, Signature, Scopes, name_at, object_named, function_called, library_function, use_as, same_type, Around, inner, behind, behind_first, typed_items}
+use Rattle.c_model.specs.Checked.{Fault, Checked, Good, faulty, one_part, both_parts, where_so}
+use Rattle.c_model.specs.Typing.{no_name, no_type, Signature, Scopes, name_at, object_named, function_called, library_function, use_as, same_type, inner, behind, behind_first, typed_items}
 
 -- ---- functions
 

@@ -1,5 +1,5 @@
 -- How tokens are named where they are refused (this profile).
-use Rattle.std.specs.Prelude.{ℕ, suc, ◌-◌, ℤ, unsigned_abs, List, [], ◌∷◌, length, Option, Some, None, eqb, if◌then◌else◌, nat_lt, slice_get, codes}
+use Rattle.std.specs.Prelude.{ℕ, suc, ◌-◌, unsigned_abs, List, [], ◌∷◌, length, Option, Some, None, eqb, if◌then◌else◌, nat_lt, slice_get, codes}
 use Rattle.std.specs.Fmt.{decimal}
 use Rattle.c_syntax.specs.declared.place.Place.{Place}
 use Rattle.c_syntax.specs.Tokens as token

@@ -1,18 +1,19 @@
 -- The typing of C (C99 6.2.1, 6.3.1, 6.5, 6.7, 6.8): the typed tree, or the faults of its smallest faulty parts: with code 5 of a
 -- name, with code 6 of a type. In the typed tree each use has its declaration, each expression its type, and each operand that is
 -- converted stands in a cast.
-use Rattle.std.specs.Prelude.{ℕ, suc, ℤ, List, [], ◌∷◌, ◌++◌, length, drop, Option, Some, None, option_map, Bool, true, false, not, ◌&&◌, cond, if◌then◌else◌, nat_eq, slice_get, codes, bytes_eq}
+use Rattle.std.specs.Prelude.{ℕ, suc, ℤ, List, [], ◌∷◌, ◌++◌, length, drop, Option, Some, None, Bool, true, false, not, ◌&&◌, cond, if◌then◌else◌, nat_eq, slice_get, codes, bytes_eq}
 use Rattle.c_syntax.specs.declared.place.Place.{Place}
 use Rattle.c_syntax.specs.declared.types.CInt.{CInt}
 use Rattle.c_syntax.specs.declared.types.CInt.TheVariants.{I8, U8, I16, U16, I32, U32, I64, U64}
 use Rattle.c_syntax.specs.declared.expression.Use.{Use}
 use Rattle.c_syntax.specs.declared.expression.UnOp.{UnOp}
-use Rattle.c_syntax.specs.declared.expression.UnOp.TheVariants.{Plus, Minus, Not, Flip}
+use Rattle.c_syntax.specs.declared.expression.UnOp.TheVariants.{Not}
 use Rattle.c_syntax.specs.declared.expression.BinOp.{BinOp}
 use Rattle.c_syntax.specs.declared.expression.BumpOp.{BumpOp}
 use Rattle.c_syntax.specs.Ctypes.{PlainType, Void, Int, int_type}
 use Rattle.c_syntax.specs.Expressions.{Expression, Node, Number, Letter, Variable, Unary, Binary, Both, Either, Choice, Assign, Bump, Call, Cast, SizeOfType, SizeOfExpr, Expressions, NoExpression, Following, place_of, type_of}
 use Rattle.c_syntax.specs.Statements.{Initialiser, One, Declaration, Statement, Empty, Eval, Block, If, While, Do, For, Break, Continue, Return, ElsePart, NoElse, Else, ForFirst, NoFirst, First, BlockItem, Declare, Run, Asserts, BlockItems, NoItem, Then}
+use Rattle.c_model.specs.Integers.{fits}
 use Rattle.c_model.specs.Conversions.{promoted, common, is_shift, result_type}
 use Rattle.c_model.specs.Library.{library_constant, is_library_name, is_there}
 use Rattle.c_model.specs.Checked.{Fault, Checked, Good, Bad, faulty, one_part, both_parts, given, where_so}
@@ -131,7 +132,7 @@ is_place _ = false
 
 -- an integer literal has the first type that holds it (C99 6.4.4.1)
 abbrev pub literal : Place → ℤ → Option CInt → Checked Expression
-literal at n k = given k (no_type at) (λ l. Good (Node at (Int l) (Number n (Some l))))
+literal at n k = given k (no_type at) (λ l. where_so (fits l n) (no_type at) (Good (Node at (Int l) (Number n (Some l)))))
 
 -- a name: an object, or a constant of the library, in whose place its value stands; a function's name stands before `(` alone
 abbrev pub named : Scopes → Place → ℕ → Checked Expression

@@ -1,9 +1,8 @@
--- What is known of typed programs (C99 6.3.1, 6.5, 6.8): each use denotes an object in sight of its type, operands have the types that
+-- What is known of typed expressions (C99 6.3.1, 6.5): each use denotes an object in sight of its type, operands have the types that
 -- their operator takes, and values go to objects of their type.
-use Rattle.std.specs.Prelude.{◌≡◌, ℕ, ℤ, pos, negsuc, ◌≤ℤ◌, true, Bool, cond, List, [], ◌∷◌, ◌++◌, Option, Some, None}
+use Rattle.std.specs.Prelude.{◌≡◌, true, false, cond, List, [], ◌∷◌, Some, None, codes, bytes_eq}
 use Rattle.c_syntax.specs.declared.types.CInt.{CInt}
-use Rattle.c_syntax.specs.declared.types.CInt.TheVariants.{I32, U64}
-use Rattle.c_syntax.specs.declared.place.Place.{Place}
+use Rattle.c_syntax.specs.declared.types.CInt.TheVariants.{U64}
 use Rattle.c_syntax.specs.declared.expression.Use.{Use}
 use Rattle.c_syntax.specs.declared.expression.UnOp.{UnOp}
 use Rattle.c_syntax.specs.declared.expression.BinOp.{BinOp}
@@ -11,7 +10,7 @@ use Rattle.c_syntax.specs.Ctypes.{PlainType, Void, Int, int_type}
 use Rattle.c_syntax.specs.Expressions.{Expression, Node, Number, Letter, Variable, Unary, Binary, Both, Either, Choice, Assign, Bump, Call, Cast, SizeOfType, SizeOfExpr, Expressions, NoExpression, Following, type_of}
 use Rattle.c_model.specs.Integers.{fits}
 use Rattle.c_model.specs.Conversions.{promoted, is_shift, is_relation}
-use Rattle.c_model.specs.Typing.{Object, Scopes, object_named, is_scalar, is_object_type, is_not}
+use Rattle.c_model.specs.Typing.{Object, Signature, Scopes, name_at, or_else, object_named, function_called, library_function, is_scalar, is_object_type, is_not}
 
 -- a use of an object in sight, whose type this is
 pub record Denotes (s : Scopes) (x : Use) (t : PlainType) : Type 0 where
@@ -49,11 +48,27 @@ abbrev pub CastTypes : PlainType → PlainType → Type 0
 CastTypes Void u = Unit {0}
 CastTypes (Int k) u = IsInteger u
 
+-- expressions of these types, one after another
+abbrev pub HaveTypes : List PlainType → Expressions → Type 0
+HaveTypes [] NoExpression = Unit {0}
+HaveTypes [] (Following e es) = ⊥
+HaveTypes (t ∷ ts) NoExpression = ⊥
+HaveTypes (t ∷ ts) (Following e es) = (type_of e ≡ t) × HaveTypes ts es
+
+-- a call of a function in sight that is not `main`, with an argument of each parameter's type
+pub record Calls (s : Scopes) (f : Use) (t : PlainType) (es : Expressions) : Type 0 where
+  pub callee : Signature
+  pub found : or_else (function_called f.name s.functions) (library_function f.name (name_at s.names f.name)) ≡ Some callee
+  pub not_main : bytes_eq (name_at s.names f.name) (codes "main") ≡ false
+  pub decl : f.decl ≡ callee.decl
+  pub result : t ≡ callee.result
+  pub arguments : HaveTypes callee.params es
+
 abbrev mutual
   pub WellTyped : Scopes → Expression → Type 0
   WellTyped s (Node at t (Number n None)) = ⊥
   WellTyped s (Node at t (Number n (Some k))) = (t ≡ Int k) × (fits k n ≡ true)
-  WellTyped s (Node at t (Letter n)) = (t ≡ int_type) × (negsuc 127 ≤ℤ n) × (n ≤ℤ pos 127)
+  WellTyped s (Node at t (Letter n)) = t ≡ int_type
   WellTyped s (Node at t (Variable x)) = Denotes s x t
   WellTyped s (Node at t (Unary op a)) = WellTyped s a × UnaryTypes op t (type_of a)
   WellTyped s (Node at t (Binary op a b)) = WellTyped s a × WellTyped s b × BinaryTypes op t (type_of a) (type_of b)
@@ -64,7 +79,7 @@ abbrev mutual
   WellTyped s (Node at t (Assign None a b)) = IsPlace s t a × WellTyped s b × (type_of b ≡ t)
   WellTyped s (Node at t (Assign (Some op) a b)) = IsPlace s t a × WellTyped s b × IsInteger t × IsInteger (type_of b)
   WellTyped s (Node at t (Bump op a)) = IsPlace s t a × IsInteger t
-  WellTyped s (Node at t (Call f es)) = AreWellTyped s es
+  WellTyped s (Node at t (Call f es)) = AreWellTyped s es × Calls s f t es
   WellTyped s (Node at t (Cast to a)) = WellTyped s a × (t ≡ to) × CastTypes to (type_of a)
   WellTyped s (Node at t (SizeOfType u)) = (t ≡ Int U64) × (is_object_type u ≡ true)
   WellTyped s (Node at t (SizeOfExpr a)) = WellTyped s a × (t ≡ Int U64) × (is_object_type (type_of a) ≡ true)

@@ -1,0 +1,227 @@
+-- What is known of each program of an accepted text besides its types: where effects, calls and declarations stand, how large its
+-- parts are, and that it has `main`.
+use Rattle.std.specs.Prelude.{◌≡◌, ℕ, suc, ◌+◌, ◌^◌, ◌-◌, ◌≤◌, ℤ, pos, negsuc, ◌≤ℤ◌, List, [], ◌∷◌, Option, Some, None}
+use Rattle.c_syntax.specs.declared.place.Place.{Place}
+use Rattle.c_syntax.specs.declared.expression.BinOp.{BinOp}
+use Rattle.c_syntax.specs.declared.expression.BinOp.TheVariants.{Add, Sub}
+use Rattle.c_syntax.specs.declared.annotation.Kind.TheVariants.{Assert}
+use Rattle.c_syntax.specs.Expressions.{Expression, Node, Number, Letter, Variable, Unary, Binary, Both, Either, Choice, Assign, Bump, Call, Cast, SizeOfType, SizeOfExpr, Expressions, NoExpression, Following}
+use Rattle.c_syntax.specs.Annotations as logic
+use Rattle.c_syntax.specs.Annotations.{LogicTerm, Predicate, Chain, Links, NoLink, Linked, ClauseBody, Truth, Annotation}
+use Rattle.c_syntax.specs.Statements.{Initialiser, One, Declaration, Statement, Empty, Eval, Block, If, While, Do, For, Break, Continue, Return, ElsePart, NoElse, Else, ForFirst, NoFirst, First, BlockItem, Declare, Run, Asserts, BlockItems, NoItem, Then}
+use Rattle.c_syntax.specs.Programs.{Function, TranslationUnit}
+use Rattle.c_model.specs.IntPrograms.{IsName, depth}
+use Rattle.c_model.specs.Meaning.{declared_in}
+use Rattle.c_model.specs.Typing.{name_at}
+use Rattle.c_model.specs.ProgramTyping.{main_fault}
+use Rattle.c_model.specs.WellTypedPrograms.{WhereAny, ProgramTyped}
+
+-- ---- expressions
+
+-- an expression without effects and calls
+abbrev pub IsPure : Expression → Type 0
+IsPure (Node at t (Number n k)) = Unit {0}
+IsPure (Node at t (Letter n)) = Unit {0}
+IsPure (Node at t (Variable x)) = Unit {0}
+IsPure (Node at t (Unary op a)) = IsPure a
+IsPure (Node at t (Binary op a b)) = IsPure a × IsPure b
+IsPure (Node at t (Both a b)) = IsPure a × IsPure b
+IsPure (Node at t (Either a b)) = IsPure a × IsPure b
+IsPure (Node at t (Choice a b c)) = IsPure a × IsPure b × IsPure c
+IsPure (Node at t (Assign op a b)) = ⊥
+IsPure (Node at t (Bump op a)) = ⊥
+IsPure (Node at t (Call f es)) = ⊥
+IsPure (Node at t (Cast to a)) = IsPure a
+IsPure (Node at t (SizeOfType u)) = Unit {0}
+IsPure (Node at t (SizeOfExpr a)) = IsPure a
+
+abbrev pub ArePure : Expressions → Type 0
+ArePure NoExpression = Unit {0}
+ArePure (Following e es) = IsPure e × ArePure es
+
+-- such an expression, an assignment or an increment
+abbrev pub IsEffect : Expression → Type 0
+IsEffect (Node at t (Assign op a b)) = IsPure a × IsPure b
+IsEffect (Node at t (Bump op a)) = IsPure a
+IsEffect e = IsPure e
+
+-- such an effect, or a call
+abbrev pub IsEffectOrCall : Expression → Type 0
+IsEffectOrCall (Node at t (Call f es)) = ArePure es
+IsEffectOrCall e = IsEffect e
+
+-- how many forms an expression has, itself included
+abbrev mutual
+  pub nodes_of : Expression → ℕ
+  nodes_of (Node at t (Number n k)) = 1
+  nodes_of (Node at t (Letter n)) = 1
+  nodes_of (Node at t (Variable x)) = 1
+  nodes_of (Node at t (Unary op a)) = suc (nodes_of a)
+  nodes_of (Node at t (Binary op a b)) = suc (nodes_of a + nodes_of b)
+  nodes_of (Node at t (Both a b)) = suc (nodes_of a + nodes_of b)
+  nodes_of (Node at t (Either a b)) = suc (nodes_of a + nodes_of b)
+  nodes_of (Node at t (Choice a b c)) = suc (nodes_of a + (nodes_of b + nodes_of c))
+  nodes_of (Node at t (Assign op a b)) = suc (nodes_of a + nodes_of b)
+  nodes_of (Node at t (Bump op a)) = suc (nodes_of a)
+  nodes_of (Node at t (Call f es)) = suc (nodes_of_all es)
+  nodes_of (Node at t (Cast to a)) = suc (nodes_of a)
+  nodes_of (Node at t (SizeOfType u)) = 1
+  nodes_of (Node at t (SizeOfExpr a)) = suc (nodes_of a)
+
+  pub nodes_of_all : Expressions → ℕ
+  nodes_of_all NoExpression = 0
+  nodes_of_all (Following e es) = nodes_of e + nodes_of_all es
+
+-- expressions that stand in no other, of at most so many forms: without effects, with one, and besides as calls
+pub record IsFull (most : ℕ) (e : Expression) : Type 0 where
+  pub is : IsPure e
+  pub small : nodes_of e ≤ most
+
+pub record IsFullEffect (most : ℕ) (e : Expression) : Type 0 where
+  pub is : IsEffect e
+  pub small : nodes_of e ≤ most
+
+pub record IsFullEffectOrCall (most : ℕ) (e : Expression) : Type 0 where
+  pub is : IsEffectOrCall e
+  pub small : nodes_of e ≤ most
+
+-- ---- annotations
+
+-- `+` and `-`
+abbrev pub IsSum : BinOp → Type 0
+IsSum Add = Unit {0}
+IsSum Sub = Unit {0}
+IsSum _ = ⊥
+
+-- a literal, or a constant of the library: a value of one of the types of 64 bits
+pub record IsLogicNumber (z : ℤ) : Type 0 where
+  pub low : negsuc (2 ^ 63 - 1) ≤ℤ z
+  pub high : z ≤ℤ pos (2 ^ 64 - 1)
+
+abbrev pub IsSumTerm : LogicTerm → Type 0
+IsSumTerm (logic.Number at t r z) = IsLogicNumber z
+IsSumTerm (logic.Letter at t r z) = Unit {0}
+IsSumTerm (logic.Variable at t r x) = Unit {0}
+IsSumTerm (logic.Binary at t r op a b) = IsSum op × IsSumTerm a × IsSumTerm b
+
+-- how many literals and names a term has
+abbrev pub leaves_of_term : LogicTerm → ℕ
+leaves_of_term (logic.Number at t r z) = 1
+leaves_of_term (logic.Letter at t r z) = 1
+leaves_of_term (logic.Variable at t r x) = 1
+leaves_of_term (logic.Binary at t r op a b) = leaves_of_term a + leaves_of_term b
+
+pub record IsShortTerm (t : LogicTerm) : Type 0 where
+  pub is : IsSumTerm t
+  pub short : leaves_of_term t ≤ 400
+
+-- one relation between two terms
+abbrev pub IsRelation : ClauseBody → Type 0
+IsRelation (Truth (Chain at t (Linked at2 r u NoLink))) = IsShortTerm t × IsShortTerm u
+IsRelation _ = ⊥
+
+pub record IsAssert (a : Annotation) : Type 0 where
+  pub kind : a.kind ≡ Assert
+  pub body : IsRelation a.body
+
+abbrev pub AreAsserts : List Annotation → Type 0
+AreAsserts [] = Unit {0}
+AreAsserts (a ∷ rest) = IsAssert a × AreAsserts rest
+
+-- ---- statements, whose full expressions have at most so many forms
+
+abbrev pub IsInitialiser : ℕ → Option (Place × Initialiser) → Type 0
+IsInitialiser most None = ⊥
+IsInitialiser most (Some (at, One e)) = IsFull most e
+
+abbrev pub AreInitialised : ℕ → List Declaration → Type 0
+AreInitialised most [] = Unit {0}
+AreInitialised most (d ∷ ds) = IsInitialiser most d.init × AreInitialised most ds
+
+abbrev pub FirstFormed : ℕ → ForFirst → Type 0
+FirstFormed most NoFirst = Unit {0}
+FirstFormed most (First (Run (Eval at e))) = IsFullEffectOrCall most e
+FirstFormed most _ = ⊥
+
+-- a statement that declares nothing
+abbrev mutual
+  pub StatementFormed : ℕ → Statement → Type 0
+  StatementFormed most (Empty at) = Unit {0}
+  StatementFormed most (Eval at e) = IsFullEffectOrCall most e
+  StatementFormed most (Block at items) = ItemsFormed most items
+  StatementFormed most (If at e a b) = IsFull most e × StatementFormed most a × ElseFormed most b
+  StatementFormed most (While at annots e a) = (annots ≡ []) × IsFull most e × StatementFormed most a
+  StatementFormed most (Do at a e) = StatementFormed most a × IsFull most e
+  StatementFormed most (For at annots first e step a) =
+      (annots ≡ []) × FirstFormed most first × WhereAny (IsFull most) e × WhereAny (IsFullEffect most) step × StatementFormed most a
+  StatementFormed most (Break at) = Unit {0}
+  StatementFormed most (Continue at) = Unit {0}
+  StatementFormed most (Return at e) = WhereAny (IsFull most) e
+
+  pub ElseFormed : ℕ → ElsePart → Type 0
+  ElseFormed most NoElse = Unit {0}
+  ElseFormed most (Else a) = StatementFormed most a
+
+  pub ItemsFormed : ℕ → BlockItems → Type 0
+  ItemsFormed most NoItem = Unit {0}
+  ItemsFormed most (Then i rest) = ItemFormed most i × ItemsFormed most rest
+
+  pub ItemFormed : ℕ → BlockItem → Type 0
+  ItemFormed most (Declare ds) = ⊥
+  ItemFormed most (Run a) = StatementFormed most a
+  ItemFormed most (Asserts annots) = AreAsserts annots
+
+-- the items of a body: declarations, and then such statements
+abbrev pub BodyItemsFormed : ℕ → BlockItems → Type 0
+BodyItemsFormed most (Then (Declare ds) rest) = AreInitialised most ds × BodyItemsFormed most rest
+BodyItemsFormed most items = ItemsFormed most items
+
+-- a body, which is 1 deep
+abbrev pub BodyFormed : ℕ → Option Statement → Type 0
+BodyFormed most (Some (Block at items)) = BodyItemsFormed most items × (depth (Block at items) ≤ 200)
+BodyFormed most _ = ⊥
+
+-- ---- programs
+
+pub record FunctionFormed (most : ℕ) (f : Function) : Type 0 where
+  pub params : f.params ≡ []
+  pub no_contract : f.contract ≡ None
+  pub body : BodyFormed most f.body
+
+-- at most one function, and nothing else at file scope
+abbrev pub FunctionsFormed : ℕ → List Function → Type 0
+FunctionsFormed most [] = Unit {0}
+FunctionsFormed most (f ∷ []) = FunctionFormed most f
+FunctionsFormed most (f ∷ g ∷ fs) = ⊥
+
+pub record ProgramFormed (most : ℕ) (p : TranslationUnit) : Type 0 where
+  pub globals : p.globals ≡ []
+  pub functions : FunctionsFormed most p.funcs
+
+-- a form has a token of its own, and an expression 400 of these
+abbrev pub most_read : ℕ
+most_read = 400
+
+-- typing puts at most one cast around each form
+abbrev pub most_typed : ℕ
+most_typed = 800
+
+-- what is declared has names of C (C99 6.4.2.1)
+abbrev pub AreNamed : List (List ℕ) → List Declaration → Type 0
+AreNamed names [] = Unit {0}
+AreNamed names (d ∷ ds) = IsName (name_at names d.name) × AreNamed names ds
+
+abbrev pub BodyNamed : List (List ℕ) → Option Statement → Type 0
+BodyNamed names (Some (Block at items)) = AreNamed names (declared_in items)
+BodyNamed names _ = Unit {0}
+
+abbrev pub FunctionsNamed : List (List ℕ) → List Function → Type 0
+FunctionsNamed names [] = Unit {0}
+FunctionsNamed names (f ∷ fs) = BodyNamed names f.body × FunctionsNamed names fs
+
+-- a program of a text that is accepted: typed, with `main`
+pub record IsProgram (p : TranslationUnit) : Type 0 where
+  pub formed : ProgramFormed most_typed p
+  pub typed : ProgramTyped p
+  pub named : FunctionsNamed p.names p.funcs
+  pub main : main_fault p.names p.funcs ≡ None
