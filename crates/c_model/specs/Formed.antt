@@ -12,6 +12,7 @@ use Rattle.c_syntax.specs.Statements.{Initialiser, One, Declaration, Statement, 
 use Rattle.c_syntax.specs.Programs.{Function, TranslationUnit}
 use Rattle.c_model.specs.IntPrograms.{IsName, depth}
 use Rattle.c_model.specs.Meaning.{declared_in}
+use Rattle.c_model.specs.ExpressionGrammar.{most_nested}
 use Rattle.c_model.specs.Typing.{name_at}
 use Rattle.c_model.specs.ProgramTyping.{main_fault}
 use Rattle.c_model.specs.WellTypedPrograms.{WhereAny, ProgramTyped}
@@ -176,9 +177,9 @@ abbrev pub BodyItemsFormed : ℕ → BlockItems → Type 0
 BodyItemsFormed most (Then (Declare ds) rest) = AreInitialised most ds × BodyItemsFormed most rest
 BodyItemsFormed most items = ItemsFormed most items
 
--- a body, which is 1 deep
+-- a body, which is 1 deep; the limit is that of the grammar, and one more that this bound allows does no harm
 abbrev pub BodyFormed : ℕ → Option Statement → Type 0
-BodyFormed most (Some (Block at items)) = BodyItemsFormed most items × (depth (Block at items) ≤ 200)
+BodyFormed most (Some (Block at items)) = BodyItemsFormed most items × (depth (Block at items) ≤ suc most_nested)
 BodyFormed most _ = ⊥
 
 -- ---- programs

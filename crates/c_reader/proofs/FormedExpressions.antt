@@ -1,0 +1,324 @@
+-- Expressions, effects and calls that are read have effects and calls only where they may stand, and no more forms than tokens.
+use Rattle.std.proofs.Common.{◌≡◌, ℕ, zero, suc, ◌+◌, ◌<◌, ◌≤◌, pos, ◌≤ℤ◌, List, [], ◌∷◌, ◌++◌, Option, refl, subst, arith}
+use Rattle.grammar.specs.Syntax.{Syntax, one}
+use Rattle.grammar.proofs.Readings.{EachOf, each_more, each_gives, each_one, each_then, each_choice, each_at_most, each_many, each_knot}
+use Rattle.c_syntax.specs.declared.place.Place.{Place}
+use Rattle.c_syntax.specs.Expressions.{Expression, Node, Number, Letter, Variable, Unary, Binary, Both, Either, Choice, Assign, Bump, Call, Cast, SizeOfType, SizeOfExpr}
+use Rattle.c_syntax.specs.Tokens as token
+use Rattle.c_syntax.specs.Tokens.{PlainTokenKind, PlainToken}
+use Rattle.c_model.specs.declared.operands.Form.{Form}
+use Rattle.c_model.specs.declared.operands.Form.TheVariants as form
+use Rattle.c_model.specs.declared.operands.TypeUse.{TypeUse}
+use Rattle.c_model.specs.declared.operands.TypeUse.TheVariants as type_use
+use Rattle.c_model.specs.declared.operands.Connective.{Connective}
+use Rattle.c_model.specs.declared.operands.Connective.TheVariants.{Operator, And, Or}
+use Rattle.c_model.specs.declared.vocabulary.Keyword.TheVariants as keyword
+use Rattle.c_model.specs.Vocabulary.{Vocabulary}
+use Rattle.c_model.specs.Punctuators.{question, colon, comma, left_paren, right_paren}
+use Rattle.c_model.specs.ExpressionGrammar.{name_kind, number_kind, keyword_kind, mark_kind, kind, unary_operators, operators_at, levels, assignment_operators, prefix_bumps, postfix_bumps, kinds_of, first_type, first_expression, read_as, kind_of, joined, expressions, ReadOperand, size_of_operand, fixed, name, type_words, Operand, closed, literal, cast_rest, sized_type, paren_rest, behind_paren, prefixed, sized, operand_but_name, operand_of, operand, joined_once, behind_operand, choice_rest, expression_rest, expression_of, expression, assigned, bumped, behind_unary, behind_primary, behind_form, effect_rest, bump_first, effect_but_name, effect, next_argument, arguments, call_rest, behind_name, effect_or_call, full_expression, full_effect, full_effect_or_call}
+use Rattle.c_model.specs.Formed.{IsPure, ArePure, IsEffect, IsEffectOrCall, nodes_of, nodes_of_all, IsFull, IsFullEffect, IsFullEffectOrCall, most_read}
+
+-- ---- tokens
+
+-- a token of a text with so many names: a word has one of their numbers, and a literal is never negative
+abbrev pub IsLexedKind : ℕ → PlainTokenKind → Type 0
+IsLexedKind size (token.Word n) = n < size
+IsLexedKind size (token.Number z t) = pos 0 ≤ℤ z
+IsLexedKind size _ = Unit {0}
+
+abbrev pub IsLexed : ℕ → PlainToken → Type 0
+IsLexed size t = IsLexedKind size t.kind
+
+-- each value that G reads of such tokens is P at the number of its tokens
+abbrev pub Each : ℕ → {A : Type 0} → Syntax PlainToken A → (ℕ → A → Type 0) → Type 0
+Each size G P = EachOf (IsLexed size) G P
+
+pub each_token : {size : ℕ} {A : Type 0} (f : PlainToken → Option A) → Each size (one f) (λ k x. k ≡ 1)
+each_token f = each_one f (λ t x _ e. refl)
+
+pub each_any : {size : ℕ} {A : Type 0} (G : Syntax PlainToken A) → Each size G (λ k x. Unit {0})
+each_any G = record { holds = λ a x o r. tt }
+
+-- ---- expressions, by their forms
+
+pub record IsPart (k : ℕ) (e : Expression) : Type 0 where
+  pub is : IsPure e
+  pub small : nodes_of e ≤ k
+
+pub part_more : (k l : ℕ) (e : Expression) → k ≤ l → IsPart k e → IsPart l e
+part_more k l e le p = record { is = p.is; small = omega (arith, p.small) }
+
+-- a form stands for itself at any place
+part_at : (at : Place) (k : ℕ) (e : Expression) → IsPart k e → IsPart k (read_as at (kind_of e))
+part_at at k (Node x t (Number n c)) p = record { is = tt; small = p.small }
+part_at at k (Node x t (Letter n)) p = record { is = tt; small = p.small }
+part_at at k (Node x t (Variable y)) p = record { is = tt; small = p.small }
+part_at at k (Node x t (Unary op a)) p = record { is = p.is; small = p.small }
+part_at at k (Node x t (Binary op a b)) p = record { is = p.is; small = p.small }
+part_at at k (Node x t (Both a b)) p = record { is = p.is; small = p.small }
+part_at at k (Node x t (Either a b)) p = record { is = p.is; small = p.small }
+part_at at k (Node x t (Choice a b c)) p = record { is = p.is; small = p.small }
+part_at at k (Node x t (Assign op a b)) p = absurd p.is
+part_at at k (Node x t (Bump op a)) p = absurd p.is
+part_at at k (Node x t (Call f es)) p = absurd p.is
+part_at at k (Node x t (Cast to a)) p = record { is = p.is; small = p.small }
+part_at at k (Node x t (SizeOfType u)) p = record { is = tt; small = p.small }
+part_at at k (Node x t (SizeOfExpr a)) p = record { is = p.is; small = p.small }
+
+sized_part : (at : Place) (k : ℕ) (x : ReadOperand) → IsPart k x.expression → IsPart (suc k) (read_as at (size_of_operand x))
+sized_part at k x p = by x.form refl
+  where
+    by : (f : Form) → x.form ≡ f → IsPart (suc k) (read_as at (elim f [ form.TypeName ↦ kind_of x.expression | form.Primary ↦ SizeOfExpr x.expression | form.Unary ↦ SizeOfExpr x.expression | form.Cast ↦ SizeOfExpr x.expression ]))
+    by form.TypeName e = part_more k (suc k) _ (omega arith) (part_at at k x.expression p)
+    by form.Primary e = record { is = p.is; small = omega (arith, p.small) }
+    by form.Unary e = record { is = p.is; small = omega (arith, p.small) }
+    by form.Cast e = record { is = p.is; small = omega (arith, p.small) }
+
+joined_part : (at : Place) (c : Connective) (k l : ℕ) (a b : Expression) → IsPart k a → IsPart l b → IsPart (suc (k + l)) (read_as at (joined c a b))
+joined_part at (Operator op) k l a b p q = record { is = (p.is, q.is); small = omega (arith, p.small, q.small) }
+joined_part at And k l a b p q = record { is = (p.is, q.is); small = omega (arith, p.small, q.small) }
+joined_part at Or k l a b p q = record { is = (p.is, q.is); small = omega (arith, p.small, q.small) }
+
+-- an effect of so many forms at most
+pub record IsEffectPart (k : ℕ) (e : Expression) : Type 0 where
+  pub is : IsEffect e
+  pub small : nodes_of e ≤ k
+
+pub record IsCallPart (k : ℕ) (e : Expression) : Type 0 where
+  pub is : IsEffectOrCall e
+  pub small : nodes_of e ≤ k
+
+part_effect : (k : ℕ) (e : Expression) → IsPart k e → IsEffectPart k e
+part_effect k (Node x t (Number n c)) p = record { is = tt; small = p.small }
+part_effect k (Node x t (Letter n)) p = record { is = tt; small = p.small }
+part_effect k (Node x t (Variable y)) p = record { is = tt; small = p.small }
+part_effect k (Node x t (Unary op a)) p = record { is = p.is; small = p.small }
+part_effect k (Node x t (Binary op a b)) p = record { is = p.is; small = p.small }
+part_effect k (Node x t (Both a b)) p = record { is = p.is; small = p.small }
+part_effect k (Node x t (Either a b)) p = record { is = p.is; small = p.small }
+part_effect k (Node x t (Choice a b c)) p = record { is = p.is; small = p.small }
+part_effect k (Node x t (Assign op a b)) p = absurd p.is
+part_effect k (Node x t (Bump op a)) p = absurd p.is
+part_effect k (Node x t (Call f es)) p = absurd p.is
+part_effect k (Node x t (Cast to a)) p = record { is = p.is; small = p.small }
+part_effect k (Node x t (SizeOfType u)) p = record { is = tt; small = p.small }
+part_effect k (Node x t (SizeOfExpr a)) p = record { is = p.is; small = p.small }
+
+effect_call : (k : ℕ) (e : Expression) → IsEffectPart k e → IsCallPart k e
+effect_call k (Node x t (Number n c)) p = record { is = tt; small = p.small }
+effect_call k (Node x t (Letter n)) p = record { is = tt; small = p.small }
+effect_call k (Node x t (Variable y)) p = record { is = tt; small = p.small }
+effect_call k (Node x t (Unary op a)) p = record { is = p.is; small = p.small }
+effect_call k (Node x t (Binary op a b)) p = record { is = p.is; small = p.small }
+effect_call k (Node x t (Both a b)) p = record { is = p.is; small = p.small }
+effect_call k (Node x t (Either a b)) p = record { is = p.is; small = p.small }
+effect_call k (Node x t (Choice a b c)) p = record { is = p.is; small = p.small }
+effect_call k (Node x t (Assign op a b)) p = record { is = p.is; small = p.small }
+effect_call k (Node x t (Bump op a)) p = record { is = p.is; small = p.small }
+effect_call k (Node x t (Call f es)) p = absurd p.is
+effect_call k (Node x t (Cast to a)) p = record { is = p.is; small = p.small }
+effect_call k (Node x t (SizeOfType u)) p = record { is = tt; small = p.small }
+effect_call k (Node x t (SizeOfExpr a)) p = record { is = p.is; small = p.small }
+
+-- arguments
+record AreParts (k : ℕ) (es : List Expression) : Type 0 where
+  are : ArePure (expressions es)
+  small : nodes_of_all (expressions es) ≤ k
+
+parts_behind : (k l : ℕ) (es : List Expression) (e : Expression) → AreParts k es → IsPart l e → AreParts (k + l) (es ++ (e ∷ []))
+parts_behind k l [] e h p = record { are = (p.is, tt); small = omega (arith, p.small) }
+parts_behind k l (f ∷ es) e h p =
+    let rest = parts_behind (nodes_of_all (expressions es)) l es e (record { are = h.are.1; small = omega arith }) p in
+    record { are = (h.are.0, rest.are); small = omega (arith, h.small, rest.small) }
+
+-- ---- productions
+
+module _ (size : ℕ) (ws : Vocabulary) where
+  pub each_fixed : (k : ℕ) → Each size (fixed ws k) (λ l at. l ≡ 1)
+  each_fixed k = each_token _
+
+  pub each_name : Each size (name ws) (λ l x. l ≡ 1)
+  each_name = each_token _
+
+  pub closed_each : {A : Type 0} {P : ℕ → A → Type 0} (x : A) → P 1 x → Each size (closed ws x) P
+  unfolding closed
+  closed_each {P = P} x p = each_then (each_fixed (mark_kind right_paren)) (λ k at e. each_gives x (subst (λ j. P j x) (omega (arith, e)) p))
+
+  -- an operand
+  abbrev Operands : ℕ → ReadOperand → Type 0
+  Operands k x = IsPart k x.expression
+
+  literal_each : Each size (literal ws) Operands
+  unfolding literal
+  literal_each =
+      each_choice (kind ws) (number_kind ∷ [])
+      (each_then (each_token _) (λ k n e. each_gives _ (record { is = tt; small = omega (arith, e) })))
+      (each_then (each_token _) (λ k z e. each_gives _ (record { is = tt; small = omega (arith, e) })))
+
+  module _ {E : Syntax PlainToken Expression} {O : Operand ws} (e : Each size E IsPart) (o : (u : TypeUse) → Each size (O u) Operands) where
+    cast_each : (at : Place) → Each size (cast_rest ws O at) (λ k x. IsPart (suc k) x.expression)
+    unfolding cast_rest
+    cast_each at = each_then (each_any (type_words ws)) (λ j t _. each_then (each_fixed (mark_kind right_paren)) (λ k _ _. each_then (o type_use.Casts) (λ l x p. each_gives _ (record { is = p.is; small = omega (arith, p.small) }))))
+
+    sized_type_each : (at : Place) → Each size (sized_type ws at) (λ k x. IsPart (suc k) x.expression)
+    unfolding sized_type
+    sized_type_each at = each_then (each_any (type_words ws)) (λ j t _. each_more (λ k x p. part_more 1 (suc (j + k)) x.expression (omega arith) p) (closed_each {P = λ k x. IsPart 1 x.expression} _ (record { is = tt; small = omega arith })))
+
+    paren_rest_each : (at : Place) → Each size (paren_rest ws E at) (λ k x. IsPart k x.expression)
+    unfolding paren_rest
+    paren_rest_each at = each_then e (λ j x p. closed_each _ (part_more j (j + 1) x (omega arith) p))
+
+    behind_paren_each : (u : TypeUse) (at : Place) → Each size (behind_paren ws E O u at) (λ k x. IsPart (suc k) x.expression)
+    unfolding behind_paren
+    behind_paren_each type_use.Casts at = each_choice (kind ws) first_type (cast_each at) (each_more (λ k x p. part_more k (suc k) x.expression (omega arith) p) (paren_rest_each at))
+    behind_paren_each type_use.Sizes at = each_choice (kind ws) first_type (sized_type_each at) (each_more (λ k x p. part_more k (suc k) x.expression (omega arith) p) (paren_rest_each at))
+    behind_paren_each type_use.Nothing at = each_more (λ k x p. part_more k (suc k) x.expression (omega arith) p) (paren_rest_each at)
+
+    prefixed_each : Each size (prefixed ws O) Operands
+    unfolding prefixed
+    prefixed_each = each_then (each_token _) (λ k op e. each_then (o type_use.Casts) (λ l x p. each_gives _ (record { is = p.is; small = omega (arith, e, p.small) })))
+
+    sized_each : Each size (sized ws O) Operands
+    unfolding sized
+    sized_each = each_then (each_fixed (keyword_kind keyword.Sizeof)) (λ k at e. each_then (o type_use.Sizes) (λ l x p. each_gives _ (part_more (suc l) (k + (l + 0)) _ (omega (arith, e)) (sized_part at l x p))))
+
+    operand_but_name_each : (u : TypeUse) → Each size (operand_but_name ws E O u) Operands
+    unfolding operand_but_name
+    operand_but_name_each u =
+        each_choice (kind ws) (mark_kind left_paren ∷ []) (each_then (each_fixed (mark_kind left_paren)) (λ k at e. each_more (λ l x p. part_more (suc l) (k + l) x.expression (omega (arith, e)) p) (behind_paren_each u at)))
+        (each_choice (kind ws) (kinds_of unary_operators) prefixed_each
+        (each_choice (kind ws) (keyword_kind keyword.Sizeof ∷ []) sized_each literal_each))
+
+    operand_of_each : (u : TypeUse) → Each size (operand_of ws E O u) Operands
+    unfolding operand_of
+    operand_of_each u = each_choice (kind ws) (name_kind ∷ []) (each_then each_name (λ k x e. each_gives _ (record { is = tt; small = omega (arith, e) }))) (operand_but_name_each u)
+
+  module _ {E : Syntax PlainToken Expression} (e : Each size E IsPart) where
+    operand_each : (u : TypeUse) → Each size (operand ws E u) Operands
+    unfolding operand
+    operand_each u = each_knot {P = λ u. Operands} (λ O o u. operand_of_each {O = O} e o u) u
+
+    joined_each : (l k : ℕ) {R : Syntax PlainToken Expression} (left : Expression) → Each size R IsPart → IsPart k left → Each size (joined_once ws l R left) (λ j y. IsPart (k + j) y)
+    unfolding joined_once
+    joined_each l k left r p = each_then (each_token _) (λ i op e. each_then r (λ j right q. each_gives _ (part_more (suc (k + j)) (k + (i + (j + 0))) _ (omega (arith, e)) (joined_part op.1 op.0 k j left right p q))))
+
+    behind_each : (l k : ℕ) (x : Expression) → IsPart k x → Each size (behind_operand ws E l x) (λ j y. IsPart (k + j) y)
+    unfolding behind_operand
+    behind_each zero k x p = each_gives x (part_more k (k + 0) x (omega arith) p)
+    behind_each (suc l) k x p =
+        each_then (behind_each l k x p) (λ j y q.
+        each_more (λ m z w. part_more ((k + j) + m) (k + (j + m)) z (omega arith) w)
+        (each_many (kind ws) (λ _. kinds_of (operators_at l)) {P = IsPart} (λ i left r. joined_each l i left (each_then (operand_each type_use.Casts) (λ m z q. behind_each l m z.expression q)) r) (k + j) y q))
+
+    choice_each : (k : ℕ) (x : Expression) → IsPart k x → Each size (choice_rest ws E x) (λ j y. IsPart (k + j) y)
+    unfolding choice_rest
+    choice_each k x p = each_then (each_fixed (mark_kind question)) (λ i at h. each_then e (λ j y q. each_then (each_fixed (mark_kind colon)) (λ m _ _. each_then e (λ n z r. each_gives _ (record { is = (p.is, q.is, r.is); small = omega (arith, h, p.small, q.small, r.small) })))))
+
+    expression_rest_each : (k : ℕ) (x : Expression) → IsPart k x → Each size (expression_rest ws E x) (λ j y. IsPart (k + j) y)
+    unfolding expression_rest
+    expression_rest_each k x p =
+        each_then (behind_each levels k x p) (λ j y q.
+        each_choice (kind ws) (mark_kind question ∷ [])
+        (each_more (λ m z w. part_more ((k + j) + m) (k + (j + m)) z (omega arith) w) (choice_each (k + j) y q))
+        (each_gives y (part_more (k + j) (k + (j + 0)) y (omega arith) q)))
+
+    expression_of_each : Each size (expression_of ws E) IsPart
+    unfolding expression_of
+    expression_of_each = each_then (operand_each type_use.Casts) (λ k x p. expression_rest_each k x.expression p)
+
+  pub expression_each : Each size (expression ws) IsPart
+  unfolding expression
+  expression_each = each_knot {P = λ u. IsPart} (λ E e u. expression_of_each {E = E u} (e u)) tt
+
+  -- ---- effects
+
+  abbrev Effects : ℕ → Expression × Place → Type 0
+  Effects k x = IsEffectPart k x.0
+
+  abbrev Calls : ℕ → Expression × Place → Type 0
+  Calls k x = IsCallPart k x.0
+
+  rest_effect : (k : ℕ) (x : Expression) → IsPart k x → Each size (expression_rest ws (expression ws) x) (λ j y. IsEffectPart (k + j) y)
+  rest_effect k x p = each_more (λ j y q. part_effect (k + j) y q) (expression_rest_each expression_each k x p)
+
+  assigned_each : (k : ℕ) (x : Expression) → IsPart k x → Each size (assigned ws x) (λ j y. IsEffectPart (k + j) y)
+  unfolding assigned
+  assigned_each k x p = each_then (each_token _) (λ i op h. each_then expression_each (λ j right q. each_gives _ (record { is = (p.is, q.is); small = omega (arith, h, p.small, q.small) })))
+
+  bumped_each : (k : ℕ) (x : Expression) → IsPart k x → Each size (bumped ws x) (λ j y. IsEffectPart (k + j) y)
+  unfolding bumped
+  bumped_each k x p = each_then (each_token _) (λ i op h. each_gives _ (record { is = p.is; small = omega (arith, h, p.small) }))
+
+  behind_unary_each : (k : ℕ) (x : Expression) → IsPart k x → Each size (behind_unary ws x) (λ j y. IsEffectPart (k + j) y)
+  unfolding behind_unary
+  behind_unary_each k x p = each_choice (kind ws) (kinds_of assignment_operators) (assigned_each k x p) (rest_effect k x p)
+
+  behind_primary_each : (k : ℕ) (x : Expression) → IsPart k x → Each size (behind_primary ws x) (λ j y. IsEffectPart (k + j) y)
+  unfolding behind_primary
+  behind_primary_each k x p = each_choice (kind ws) (kinds_of postfix_bumps) (bumped_each k x p) (behind_unary_each k x p)
+
+  behind_form_each : (f : Form) (k : ℕ) (x : Expression) → IsPart k x → Each size (behind_form ws f x) (λ j y. IsEffectPart (k + j) y)
+  unfolding behind_form
+  behind_form_each form.Primary k x p = behind_primary_each k x p
+  behind_form_each form.Unary k x p = behind_unary_each k x p
+  behind_form_each form.Cast k x p = rest_effect k x p
+  behind_form_each form.TypeName k x p = rest_effect k x p
+
+  effect_rest_each : (k : ℕ) (x : ReadOperand) → IsPart k x.expression → Each size (effect_rest ws x) (λ j y. IsEffectPart (k + j) y.0)
+  unfolding effect_rest
+  effect_rest_each k x p = each_then (behind_form_each x.form k x.expression p) (λ j e q. each_gives _ (record { is = q.is; small = omega (arith, q.small) }))
+
+  bump_first_each : Each size (bump_first ws) Effects
+  unfolding bump_first
+  bump_first_each = each_then (each_token _) (λ k op h. each_then (operand_each expression_each type_use.Nothing) (λ l x p. each_gives _ (record { is = p.is; small = omega (arith, h, p.small) })))
+
+  effect_but_name_each : Each size (effect_but_name ws) Effects
+  unfolding effect_but_name
+  effect_but_name_each =
+      each_choice (kind ws) (kinds_of prefix_bumps) bump_first_each
+      (each_then (operand_but_name_each expression_each (operand_each expression_each) type_use.Casts) (λ k x p. effect_rest_each k x p))
+
+  pub effect_each : Each size (effect ws) Effects
+  unfolding effect
+  effect_each = each_choice (kind ws) (name_kind ∷ []) (each_then each_name (λ k x h. effect_rest_each k _ (record { is = tt; small = omega (arith, h) }))) effect_but_name_each
+
+  -- ---- calls
+
+  argument_each : (k : ℕ) (es : List Expression) → AreParts k es → Each size (next_argument ws es) (λ l xs. AreParts (k + l) xs)
+  unfolding next_argument
+  argument_each k es h = each_then (each_fixed (mark_kind comma)) (λ i _ _. each_then expression_each (λ j e p. each_gives _ (let r = parts_behind k j es e h p in record { are = r.are; small = omega (arith, r.small) })))
+
+  arguments_each : Each size (arguments ws) AreParts
+  unfolding arguments
+  arguments_each =
+      each_choice (kind ws) first_expression
+      (each_then expression_each (λ k e p. each_many (kind ws) (λ _. mark_kind comma ∷ []) {P = AreParts} (λ i es h. argument_each i es h) k (e ∷ []) (record { are = (p.is, tt); small = omega (arith, p.small) })))
+      (each_gives [] (record { are = tt; small = omega arith }))
+
+  call_each : (f : ℕ × Place) → Each size (call_rest ws f) Calls
+  unfolding call_rest
+  call_each f = each_then (each_fixed (mark_kind left_paren)) (λ i at h. each_then arguments_each (λ j es a. closed_each _ (record { is = a.are; small = omega (arith, h, a.small) })))
+
+  behind_name_each : (k : ℕ) (x : ℕ × Place) → k ≡ 1 → Each size (behind_name ws x) (λ j y. IsCallPart (k + j) y.0)
+  unfolding behind_name
+  behind_name_each k x h =
+      each_choice (kind ws) (mark_kind left_paren ∷ []) (each_more (λ j y p. record { is = p.is; small = omega (arith, p.small) }) (call_each x))
+      (each_more (λ j y p. effect_call (k + j) y.0 p) (effect_rest_each k _ (record { is = tt; small = omega (arith, h) })))
+
+  effect_or_call_each : Each size (effect_or_call ws) Calls
+  unfolding effect_or_call
+  effect_or_call_each = each_choice (kind ws) (name_kind ∷ []) (each_then each_name (λ k x h. behind_name_each k x h)) (each_more (λ k x p. effect_call k x.0 p) effect_but_name_each)
+
+  -- ---- expressions that stand in no other
+
+  pub full_each : Each size (full_expression ws) (λ k e. IsFull most_read e)
+  unfolding full_expression
+  full_each = each_more (λ k e p. record { is = p.0.is; small = omega (arith, p.0.small, p.1) }) (each_at_most expression_each)
+
+  pub full_effect_each : Each size (full_effect ws) (λ k x. IsFullEffect most_read x.0)
+  unfolding full_effect
+  full_effect_each = each_more (λ k x p. record { is = p.0.is; small = omega (arith, p.0.small, p.1) }) (each_at_most effect_each)
+
+  pub full_call_each : Each size (full_effect_or_call ws) (λ k x. IsFullEffectOrCall most_read x.0)
+  unfolding full_effect_or_call
+  full_call_each = each_more (λ k x p. record { is = p.0.is; small = omega (arith, p.0.small, p.1) }) (each_at_most effect_or_call_each)

@@ -1,0 +1,4 @@
+pub mod FormedExpressions
+pub mod FormedTerms
+pub mod FormedStatements
+pub mod FormedPrograms
