@@ -1,9 +1,9 @@
 -- Which texts are accepted, with which program, and which are refused, why: by tokens, by grammar, by names and types, for want of
 -- `main`, and by the names of annotations, in this order.
-use Rattle.std.specs.Prelude.{◌≡◌, ℕ, List, map, Some, None, Ok, Err, if◌then◌else◌, eqb, codes}
+use Rattle.std.specs.Prelude.{◌≡◌, ℕ, List, length, map, Some, None, Result, Ok, Err, if◌then◌else◌, eqb, codes}
 use Rattle.grammar.specs.Syntax as grammar
 use Rattle.grammar.specs.Exact.{Accepts, Refused}
-use Rattle.c_syntax.specs.Tokens.{PlainTokens}
+use Rattle.c_syntax.specs.Tokens.{PlainToken, PlainTokens}
 use Rattle.c_syntax.specs.Programs.{TranslationUnit, PlainRefusal}
 use Rattle.c_model.specs.CTokens.{tokens_of}
 use Rattle.c_model.specs.Vocabulary.{Vocabulary, word_of}
@@ -22,6 +22,18 @@ IsRead ts p = Accepts (unit (vocabulary ts) ts.names) ts.list p
 
 abbrev pub limit_word : ℕ → List ℕ
 limit_word limit = if eqb limit expression_limit then codes "expression" else codes "nesting"
+
+-- the fault at which reading from left to right stops: the grammar's, or that tokens are left behind what is read
+abbrev pub StopsWith : {A : Type 0} → Result (A × List PlainToken) grammar.Fault → grammar.Fault → Type 0
+StopsWith (Ok x) f = f ≡ grammar.At (length x.1)
+StopsWith (Err e) f = f ≡ e
+
+-- The tokens are no program: the fault's token can't follow those before it, or it is the first that passes a limit. Reading from left
+-- to right stops there, and tells which limit that is where a token passes two.
+pub record IsSyntaxFault (ts : PlainTokens) (f : grammar.Fault) : Type 0 where
+  pub refused : Refused (unit (vocabulary ts) ts.names) ts.list f
+  pub unread : (p : TranslationUnit) → IsRead ts p → ⊥
+  pub stops : StopsWith ((unit (vocabulary ts) ts.names).parse ts.list) f
 
 -- E4 at the first token that can't follow those before it, or E11 at one that passes a limit
 abbrev pub syntax_refusal : PlainTokens → grammar.Fault → PlainRefusal
@@ -54,7 +66,7 @@ pub record AcceptedText (text : List ℕ) (p : TranslationUnit) : Type 0 where
 -- the text is refused with r, by the first phase that finds a fault
 pub data RefusedText (text : List ℕ) (r : PlainRefusal) : Type 0 where
   ByTokens : tokens_of text ≡ Err r → RefusedText text r
-  ByGrammar : (ts : PlainTokens) (f : grammar.Fault) → tokens_of text ≡ Ok ts → Refused (unit (vocabulary ts) ts.names) ts.list f → ((p : TranslationUnit) → IsRead ts p → ⊥) → r ≡ syntax_refusal ts f → RefusedText text r
+  ByGrammar : (ts : PlainTokens) (f : grammar.Fault) → tokens_of text ≡ Ok ts → IsSyntaxFault ts f → r ≡ syntax_refusal ts f → RefusedText text r
   ByNamesAndTypes : (ts : PlainTokens) (tree : TranslationUnit) (f : Fault) → tokens_of text ≡ Ok ts → IsRead ts tree → refusing (typed_unit tree) ≡ Some f → r ≡ checked_refusal ts f → RefusedText text r
   ForMain : (ts : PlainTokens) (tree typed : TranslationUnit) (f : Fault) → IsTyped text ts tree typed → main_fault typed.names typed.funcs ≡ Some f → r ≡ main_refusal f → RefusedText text r
   ByAnnotations : (ts : PlainTokens) (tree typed : TranslationUnit) (f : Fault) → IsTyped text ts tree typed → main_fault typed.names typed.funcs ≡ None → refusing (noted_unit typed) ≡ Some f → r ≡ checked_refusal ts f → RefusedText text r

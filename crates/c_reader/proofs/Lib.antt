@@ -2,3 +2,4 @@ pub mod FormedExpressions
 pub mod FormedTerms
 pub mod FormedStatements
 pub mod FormedPrograms
+pub mod Lexed

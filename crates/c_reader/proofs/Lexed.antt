@@ -1,0 +1,235 @@
+-- The tokens of a C text: its names are words, a word token has the number of a name, and literals are never negative.
+use Rattle.std.proofs.Common.{◌≡◌, ℕ, zero, suc, ◌<◌, ◌≤◌, pos, ◌≤ℤ◌, Bool, true, false, cond, ◌&&◌, ◌||◌, nat_eq, ltb, List, [], ◌∷◌, ◌++◌, length, length-append, map, Some, Result, Ok, Err, ◌⊎◌, inl, inr, bytes_eq, refl, sym, ap, subst, ◌∙◌, arith}
+use Rattle.std.proofs.lemmas.Bool.{eqb-true}
+use Rattle.std.proofs.lemmas.Int.{ints}
+use Rattle.std.specs.Prelude.{slice_get}
+use Rattle.std.specs.List.{list_any, list_all, AllByRecursion}
+use Rattle.c_syntax.specs.declared.place.Place.{Place}
+use Rattle.c_syntax.specs.Tokens as token
+use Rattle.c_syntax.specs.Tokens.{PlainTokenKind, PlainToken, PlainTokens}
+use Rattle.c_syntax.specs.Programs.{PlainRefusal}
+use Rattle.c_model.specs.declared.c_tokens.Mode.{Mode}
+use Rattle.c_model.specs.declared.c_tokens.Mode.TheVariants.{Code, Block, Line}
+use Rattle.c_model.specs.declared.c_tokens.Piece.{Piece}
+use Rattle.c_model.specs.declared.c_tokens.Piece.TheVariants as piece
+use Rattle.c_model.specs.declared.c_tokens.Fault.TheVariants as fault
+use Rattle.c_model.specs.FirstTokens.{is_nondigit, is_part, with_name, name_number}
+use Rattle.c_model.specs.MonitoredTokens.{Read, whole, nothing_read}
+use Rattle.c_model.specs.MonitoredTokenLaws.{with_names}
+use Rattle.c_model.specs.Pieces.{Pieces, Ended, Broken, Cut, begins_name, mode_after, pieces_of}
+use Rattle.c_model.specs.CTokens.{joined, with_string, add, refused, closed, most_tokens, build, tokens_of}
+use Rattle.c_model.specs.CTokenLaws.{bytes_of, IsName, Spells, AreSpelled, word_then, words_of}
+use Rattle.c_model.specs.Vocabulary.{word_of, word_at}
+use Rattle.c_model.specs.ExpressionGrammar.{name_kind, word_kind}
+use Rattle.c_model.specs.IntPrograms as program
+use Rattle.c_model.specs.Typing.{name_at}
+use Rattle.c_model.proofs.Spelling.{chosen}
+use Rattle.c_model.proofs.NameLaws.{number_points}
+use Rattle.c_model.proofs.CNameLaws.{names_in_order}
+use Rattle.c_model.proofs.CPieceLaws.{pieces_spelled}
+use Rattle.c_reader.proofs.FormedExpressions.{IsLexed, IsLexedKind}
+use Rattle.c_reader.proofs.FormedPrograms.{IsNewName}
+
+-- ---- words
+
+-- a letter, `_` or `\`, and then letters, digits and `_`, at most 255 bytes
+pub record IsWord (w : List ℕ) : Type 0 where
+  pub first : ℕ
+  pub others : List ℕ
+  pub joined : w ≡ first ∷ others
+  pub begins : (is_part first ≡ true) ⊎ (first ≡ 92)
+  pub parts : AllByRecursion (λ b. is_part b ≡ true) others
+  pub short : length w ≤ 255
+
+abbrev AreWords : List (List ℕ) → Type 0
+AreWords ws = AllByRecursion IsWord ws
+
+and_parts : (a b : Bool) → a && b ≡ true → (a ≡ true) × (b ≡ true)
+and_parts true b h = (refl, h)
+and_parts false b h = absurd cc
+
+each_part : (bs : List ℕ) → list_all is_part bs ≡ true → AllByRecursion (λ b. is_part b ≡ true) bs
+each_part [] h = tt
+each_part (b ∷ bs) h = let p = and_parts (is_part b) (list_all is_part bs) h in (p.0, each_part bs p.1)
+
+or_parts : (a b : Bool) → a || b ≡ true → (a ≡ true) ⊎ (b ≡ true)
+or_parts true b h = inl refl
+or_parts false b h = inr h
+
+begin_of : (m : Mode) (b : ℕ) (bs : List ℕ) → begins_name m (b ∷ bs) ≡ true → (is_part b ≡ true) ⊎ (b ≡ 92)
+begin_of m b bs h = elim (or_parts (is_nondigit b) _ h) [
+  | inl e ↦ inl (rw e refl)
+  | inr e ↦ inr (eqb-true b 92 (and_parts _ (nat_eq b 92) (and_parts _ _ e).0).1)
+]
+
+name_is_word : (m : Mode) (bytes behind : List ℕ) → IsName m bytes behind → IsWord bytes
+name_is_word m bytes behind n = record {
+  first = n.first;
+  others = n.others;
+  joined = n.joined;
+  begins = begin_of m n.first (n.others ++ behind) (subst (λ (w : List ℕ). begins_name m (w ++ behind) ≡ true) n.joined n.begins);
+  parts = each_part n.others n.parts;
+  short = n.short;
+}
+
+then_words : (before : List ℕ) (m : Mode) (p : Piece) (bytes behind : List ℕ) (ws : List (List ℕ)) → Spells before m p bytes behind → AreWords ws → AreWords (word_then p bytes ws)
+then_words before m piece.Blank bytes behind ws s w = w
+then_words before m (piece.Open n) bytes behind ws s w = w
+then_words before m piece.Close bytes behind ws s w = w
+then_words before m piece.Word bytes behind ws s w = (name_is_word m bytes behind s, w)
+then_words before m (piece.Number v t) bytes behind ws s w = w
+then_words before m (piece.Letter c) bytes behind ws s w = w
+then_words before m piece.Chars bytes behind ws s w = w
+then_words before m (piece.Mark k) bytes behind ws s w = w
+
+words_are : (before : List ℕ) (m : Mode) (ps : Pieces) → AreSpelled before m ps → AreWords (words_of ps)
+words_are before m (Ended at n) s = tt
+words_are before m (Broken at f rest) s = tt
+words_are before m (Cut at p bytes more) s = then_words before m p bytes (bytes_of more) (words_of more) s.0 (words_are (before ++ bytes) (mode_after m p) more s.1)
+
+one_more : (names : List (List ℕ)) (w : List ℕ) → AreWords names → IsWord w → AreWords (names ++ w ∷ [])
+one_more [] w all h = (h, tt)
+one_more (n ∷ names) w all h = (all.0, one_more names w all.1 h)
+
+one_name : (names : List (List ℕ)) (w : List ℕ) (b : Bool) → AreWords names → IsWord w → AreWords (cond b names (names ++ w ∷ []))
+one_name names w true all h = all
+one_name names w false all h = one_more names w all h
+
+all_names : (names ws : List (List ℕ)) → AreWords names → AreWords ws → AreWords (with_names names ws)
+all_names names [] all h = all
+all_names names (w ∷ ws) all h = all_names (with_name names w) ws (one_name names w (list_any (bytes_eq w) names) all h.0) h.1
+
+names_are_words : (text : List ℕ) (tokens : PlainTokens) → tokens_of text ≡ Ok tokens → AreWords tokens.names
+names_are_words text tokens is = subst AreWords (sym (names_in_order text tokens is)) (all_names [] (words_of (pieces_of text)) tt (words_are [] Code (pieces_of text) (pieces_spelled text)))
+
+-- ---- tokens
+
+within : (names : List (List ℕ)) (n : ℕ) (w : List ℕ) → slice_get names n ≡ Some w → n < length names
+within [] zero w e = absurd cc
+within [] (suc n) w e = absurd cc
+within (x ∷ names) zero w e = omega arith
+within (x ∷ names) (suc n) w e = omega (arith, within names n w e)
+
+number_within : (names : List (List ℕ)) (w : List ℕ) → name_number names w < length (with_name names w)
+number_within names w = within (with_name names w) (name_number names w) w (number_points names w [])
+
+kind_more : (n m : ℕ) (k : PlainTokenKind) → n ≤ m → IsLexedKind n k → IsLexedKind m k
+kind_more n m (token.Word i) le h = omega (arith, h)
+kind_more n m (token.Number z t) le h = h
+kind_more n m (token.Letter z) le h = tt
+kind_more n m (token.Chars bytes) le h = tt
+kind_more n m (token.Mark i) le h = tt
+kind_more n m token.AnnotOpen le h = tt
+kind_more n m token.AnnotClose le h = tt
+kind_more n m (token.Head k i) le h = tt
+
+abbrev AreLexed : ℕ → List PlainToken → Type 0
+AreLexed n ts = AllByRecursion (IsLexed n) ts
+
+all_more : (n m : ℕ) (ts : List PlainToken) → n ≤ m → AreLexed n ts → AreLexed m ts
+all_more n m [] le h = tt
+all_more n m (t ∷ ts) le h = (kind_more n m t.kind le h.0, all_more n m ts le h.1)
+
+behind : (n : ℕ) (ts : List PlainToken) (t : PlainToken) → AreLexed n ts → IsLexed n t → AreLexed n (ts ++ t ∷ [])
+behind n [] t h p = (p, tt)
+behind n (u ∷ ts) t h p = (h.0, behind n ts t h.1 p)
+
+joined_lexed : (n : ℕ) (t : PlainToken) (at : Place) (bs : List ℕ) → IsLexed n t → AreLexed n (joined t at bs)
+joined_lexed n t at bs h = by t.kind t.place h
+  where
+    by : (k : PlainTokenKind) (p : Place) → IsLexedKind n k → AreLexed n (joined (record { place = p; kind = k }) at bs)
+    by (token.Chars cs) p h = (tt, tt)
+    by (token.Word i) p h = (h, (tt, tt))
+    by (token.Number v c) p h = (h, (tt, tt))
+    by (token.Letter v) p h = (tt, (tt, tt))
+    by (token.Mark i) p h = (tt, (tt, tt))
+    by token.AnnotOpen p h = (tt, (tt, tt))
+    by token.AnnotClose p h = (tt, (tt, tt))
+    by (token.Head k i) p h = (tt, (tt, tt))
+
+string_lexed : (n : ℕ) (ts : List PlainToken) (at : Place) (bs : List ℕ) → AreLexed n ts → AreLexed n (with_string ts at bs)
+string_lexed n [] at bs h = (tt, tt)
+string_lexed n (t ∷ []) at bs h = joined_lexed n t at bs h.0
+string_lexed n (t ∷ u ∷ ts) at bs h = (h.0, string_lexed n (u ∷ ts) at bs h.1)
+
+grows : (names : List (List ℕ)) (w : List ℕ) → length names ≤ length (with_name names w)
+grows names w = by (list_any (bytes_eq w) names)
+  where
+    by : (b : Bool) → length names ≤ length (cond b names (names ++ w ∷ []))
+    by true = omega arith
+    by false = omega (arith, length-append names (w ∷ []))
+
+abbrev IsRead : Read → Type 0
+IsRead r = AreLexed (length r.names) r.list
+
+add_lexed : (r : Read) (at : Place) (p : Piece) (bs : List ℕ) → IsRead r → IsRead (add r at p bs)
+unfolding add
+add_lexed r at piece.Blank bs h = h
+add_lexed r at (piece.Open m) bs h = behind (length r.names) r.list _ h tt
+add_lexed r at piece.Close bs h = behind (length r.names) r.list _ h tt
+add_lexed r at piece.Word bs h = behind (length (with_name r.names bs)) r.list _ (all_more (length r.names) (length (with_name r.names bs)) r.list (grows r.names bs) h) (number_within r.names bs)
+add_lexed r at (piece.Number v t) bs h = behind (length r.names) r.list _ h (let zero_below : pos 0 ≤ℤ pos v = omega (arith, ints) in zero_below)
+add_lexed r at (piece.Letter c) bs h = behind (length r.names) r.list _ h tt
+add_lexed r at piece.Chars bs h = string_lexed (length r.names) r.list at _ h
+add_lexed r at (piece.Mark k) bs h = behind (length r.names) r.list _ h tt
+
+closed_lexed : (r : Read) (at : Place) (m : Mode) → IsRead r → IsRead (closed r at m)
+closed_lexed r at Code h = h
+closed_lexed r at Block h = h
+closed_lexed r at Line h = behind (length r.names) r.list _ h tt
+
+same_tokens : (x y : PlainTokens) → (let r : Result PlainTokens PlainRefusal = Ok x in r) ≡ Ok y → x ≡ y
+same_tokens x y e = cc
+
+build_lexed : (r : Read) (ps : Pieces) (tokens : PlainTokens) → IsRead r → build r ps ≡ Ok tokens → AreLexed (length tokens.names) tokens.list
+unfolding build
+build_lexed r (Ended at m) tokens h e = elim (chosen (ltb most_tokens (length (closed r at m).list)) (Err (refused at fault.Limit [])) (Ok (whole (closed r at m) at)) (Ok tokens) e) [
+  | inl f ↦ absurd (let g = f.1 in cc)
+  | inr f ↦ subst (λ (x : PlainTokens). AreLexed (length x.names) x.list) (same_tokens (whole (closed r at m) at) tokens f.1) (closed_lexed r at m h)
+]
+build_lexed r (Broken at f rest) tokens h e = absurd cc
+build_lexed r (Cut at p bytes more) tokens h e = elim (chosen (ltb most_tokens (length (add r at p bytes).list)) (Err (refused at fault.Limit [])) (build (add r at p bytes) more) (Ok tokens) e) [
+  | inl f ↦ absurd (let g = f.1 in cc)
+  | inr f ↦ build_lexed (add r at p bytes) more tokens (add_lexed r at p bytes h) f.1
+]
+
+tokens_lexed : (text : List ℕ) (tokens : PlainTokens) → tokens_of text ≡ Ok tokens → AreLexed (length tokens.names) tokens.list
+unfolding tokens_of
+tokens_lexed text tokens e = build_lexed nothing_read (pieces_of text) tokens tt e
+
+pub record Lexed (tokens : PlainTokens) : Type 0 where
+  pub names : AreWords tokens.names
+  pub list : AreLexed (length tokens.names) tokens.list
+
+pub lexed : (text : List ℕ) (tokens : PlainTokens) → tokens_of text ≡ Ok tokens → Lexed tokens
+lexed text tokens e = record { names = names_are_words text tokens e; list = tokens_lexed text tokens e }
+
+-- ---- names that are declared
+
+backslash_word : (w : List ℕ) → word_kind (word_of (92 ∷ w)) ≡ name_kind → ⊥
+unfolding word_of
+backslash_word w h = cc
+
+part_first : (w : List ℕ) → IsWord w → word_kind (word_of w) ≡ name_kind → program.IsName w
+part_first w h k = elim h.begins [
+  | inl p ↦ record {
+    parts = subst (AllByRecursion (λ b. is_part b ≡ true)) (sym h.joined) (p, h.parts);
+    not_empty = subst (λ (v : List ℕ). 0 < length v) (sym h.joined) (omega arith);
+    short = h.short;
+  }
+  | inr p ↦ absurd (backslash_word h.others (subst (λ b. word_kind (word_of (b ∷ h.others)) ≡ name_kind) p (subst (λ (v : List ℕ). word_kind (word_of v) ≡ name_kind) h.joined k)))
+]
+
+record IsAt (names : List (List ℕ)) (n : ℕ) : Type 0 where
+  word : IsWord (name_at names n)
+  kind : word_at (map word_of names) n ≡ word_of (name_at names n)
+
+at_number : (names : List (List ℕ)) (n : ℕ) → n < length names → AreWords names → IsAt names n
+at_number [] n lt all = absurd (omega (arith, lt))
+at_number (w ∷ names) zero lt all = record { word = all.0; kind = refl }
+at_number (w ∷ names) (suc n) lt all = let rest = at_number names n (omega (arith, lt)) all.1 in record { word = rest.word; kind = rest.kind }
+
+pub new_name_is : (names : List (List ℕ)) (n : ℕ) → AreWords names → IsNewName (length names) (map word_of names) n → program.IsName (name_at names n)
+new_name_is names n all h =
+    let at = at_number names n h.there all in
+    part_first (name_at names n) at.word (ap word_kind (sym at.kind) ∙ h.kind)
