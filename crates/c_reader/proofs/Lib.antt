@@ -3,3 +3,4 @@ pub mod FormedTerms
 pub mod FormedStatements
 pub mod FormedPrograms
 pub mod Lexed
+pub mod Texts

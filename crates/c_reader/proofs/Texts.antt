@@ -1,0 +1,149 @@
+-- A text has one answer: its program, or its refusal.
+use Rattle.std.proofs.Common.{◌≡◌, ℕ, List, length, Option, Some, None, Result, Ok, Err, refl, sym, ap, subst, ◌∙◌}
+use Rattle.grammar.specs.Syntax as grammar
+use Rattle.c_syntax.specs.Tokens.{PlainToken, PlainTokens}
+use Rattle.c_syntax.specs.Programs.{TranslationUnit, PlainRefusal}
+use Rattle.c_model.specs.CTokens.{tokens_of}
+use Rattle.c_model.specs.Checked.{Fault, Checked, Good, Bad, least, refusing}
+use Rattle.c_model.specs.ProgramTyping.{typed_unit, main_fault, noted_unit}
+use Rattle.c_model.specs.ProgramGrammar.{unit}
+use Rattle.c_model.specs.Phases.{vocabulary, IsRead, StopsWith, IsSyntaxFault, syntax_refusal, checked_refusal, main_refusal, AcceptedText, RefusedText, ByTokens, ByGrammar, ByNamesAndTypes, ForMain, ByAnnotations}
+use Rattle.c_expr_parser.proofs.ExactPrograms.{one_unit}
+
+abbrev Answer : Type 0
+Answer = Result TranslationUnit PlainRefusal
+
+-- ---- what names, types and `main` say of a tree
+
+abbrev noted : PlainTokens → Checked TranslationUnit → Answer
+noted ts (Good p) = Ok p
+noted ts (Bad f fs) = Err (checked_refusal ts (least f fs))
+
+abbrev entered : PlainTokens → TranslationUnit → Option Fault → Answer
+entered ts p None = noted ts (noted_unit p)
+entered ts p (Some f) = Err (main_refusal f)
+
+abbrev settled : PlainTokens → Checked TranslationUnit → Answer
+settled ts (Good p) = entered ts p (main_fault p.names p.funcs)
+settled ts (Bad f fs) = Err (checked_refusal ts (least f fs))
+
+abbrev of_tree : PlainTokens → TranslationUnit → Answer
+of_tree ts p = settled ts (typed_unit p)
+
+settled_fault : (ts : PlainTokens) (c : Checked TranslationUnit) (f : Fault) → refusing c ≡ Some f → settled ts c ≡ Err (checked_refusal ts f)
+settled_fault ts (Good p) f e = absurd cc
+settled_fault ts (Bad g gs) f e = let same : least g gs ≡ f = cc in ap (λ x. Err (checked_refusal ts x)) same
+
+noted_fault : (ts : PlainTokens) (c : Checked TranslationUnit) (f : Fault) → refusing c ≡ Some f → noted ts c ≡ Err (checked_refusal ts f)
+noted_fault ts (Good p) f e = absurd cc
+noted_fault ts (Bad g gs) f e = let same : least g gs ≡ f = cc in ap (λ x. Err (checked_refusal ts x)) same
+
+-- ---- the answers on a text
+
+-- the tokens are no program
+record IsUnread (text : List ℕ) (a : Answer) : Type 0 where
+  tokens : PlainTokens
+  has : tokens_of text ≡ Ok tokens
+  fault : grammar.Fault
+  found : IsSyntaxFault tokens fault
+  is : a ≡ Err (syntax_refusal tokens fault)
+
+-- they are one
+record HasTree (text : List ℕ) (a : Answer) : Type 0 where
+  tokens : PlainTokens
+  has : tokens_of text ≡ Ok tokens
+  tree : TranslationUnit
+  read : IsRead tokens tree
+  is : of_tree tokens tree ≡ a
+
+data Answers (text : List ℕ) (a : Answer) : Type 0 where
+  NoTokens : (r : PlainRefusal) → tokens_of text ≡ Err r → a ≡ Err r → Answers text a
+  NoTree : IsUnread text a → Answers text a
+  Tree : HasTree text a → Answers text a
+
+-- ---- one answer
+
+one_tokens : (text : List ℕ) (ts us : PlainTokens) → tokens_of text ≡ Ok ts → tokens_of text ≡ Ok us → ts ≡ us
+one_tokens text ts us e k = cc
+
+broken_apart : (text : List ℕ) (r : PlainRefusal) (ts : PlainTokens) → tokens_of text ≡ Err r → tokens_of text ≡ Ok ts → ⊥
+broken_apart text r ts e k = cc
+
+one_broken : (text : List ℕ) (r s : PlainRefusal) → tokens_of text ≡ Err r → tokens_of text ≡ Err s → r ≡ s
+one_broken text r s e k = cc
+
+one_stop : {A : Type 0} (w : Result (A × List PlainToken) grammar.Fault) (f g : grammar.Fault) → StopsWith w f → StopsWith w g → f ≡ g
+one_stop (Ok x) f g e k = e ∙ sym k
+one_stop (Err y) f g e k = e ∙ sym k
+
+both_unread : (text : List ℕ) (a b : Answer) → IsUnread text a → IsUnread text b → a ≡ b
+both_unread text a b x y =
+    let same = one_tokens text y.tokens x.tokens y.has x.has in
+    let moved = subst (λ (ts : PlainTokens). IsSyntaxFault ts y.fault) same y.found in
+    let fault = one_stop ((unit (vocabulary x.tokens) x.tokens.names).parse x.tokens.list) x.fault y.fault x.found.stops moved.stops in
+    x.is ∙ (λ i. Err (syntax_refusal (sym same i) (fault i))) ∙ sym y.is
+
+unread_apart : (text : List ℕ) (a b : Answer) → IsUnread text a → HasTree text b → ⊥
+unread_apart text a b x y = x.found.unread y.tree (subst (λ (ts : PlainTokens). IsRead ts y.tree) (one_tokens text y.tokens x.tokens y.has x.has) y.read)
+
+both_trees : (text : List ℕ) (a b : Answer) → HasTree text a → HasTree text b → a ≡ b
+both_trees text a b x y =
+    let same = one_tokens text y.tokens x.tokens y.has x.has in
+    let tree = one_unit (vocabulary x.tokens) x.tokens.names x.tokens.list x.tree y.tree x.read (subst (λ (ts : PlainTokens). IsRead ts y.tree) same y.read) in
+    sym x.is ∙ (λ i. of_tree (sym same i) (tree i)) ∙ y.is
+
+one_answer : (text : List ℕ) (a b : Answer) → Answers text a → Answers text b → a ≡ b
+one_answer text a b (NoTokens r e p) (NoTokens s k q) = p ∙ ap Err (one_broken text r s e k) ∙ sym q
+one_answer text a b (NoTokens r e p) (NoTree y) = absurd (broken_apart text r y.tokens e y.has)
+one_answer text a b (NoTokens r e p) (Tree y) = absurd (broken_apart text r y.tokens e y.has)
+one_answer text a b (NoTree x) (NoTokens s k q) = absurd (broken_apart text s x.tokens k x.has)
+one_answer text a b (NoTree x) (NoTree y) = both_unread text a b x y
+one_answer text a b (NoTree x) (Tree y) = absurd (unread_apart text a b x y)
+one_answer text a b (Tree x) (NoTokens s k q) = absurd (broken_apart text s x.tokens k x.has)
+one_answer text a b (Tree x) (NoTree y) = absurd (unread_apart text b a y x)
+one_answer text a b (Tree x) (Tree y) = both_trees text a b x y
+
+-- ---- programs and refusals are answers
+
+accepted : (text : List ℕ) (p : TranslationUnit) → AcceptedText text p → Answers text (Ok p)
+accepted text p a = Tree (record {
+  tokens = a.tokens;
+  has = a.is_typed.tokens;
+  tree = a.tree;
+  read = a.is_typed.read;
+  is = ap (settled a.tokens) a.is_typed.is ∙ ap (entered a.tokens a.typed) a.main ∙ ap (noted a.tokens) a.noted;
+})
+
+refused : (text : List ℕ) (r : PlainRefusal) → RefusedText text r → Answers text (Err r)
+refused text r (ByTokens e) = NoTokens r e refl
+refused text r (ByGrammar ts f e g is) = NoTree (record { tokens = ts; has = e; fault = f; found = g; is = ap Err is })
+refused text r (ByNamesAndTypes ts p f e g k is) = Tree (record { tokens = ts; has = e; tree = p; read = g; is = settled_fault ts (typed_unit p) f k ∙ ap Err (sym is) })
+refused text r (ForMain ts p t f h k is) = Tree (record { tokens = ts; has = h.tokens; tree = p; read = h.read; is = ap (settled ts) h.is ∙ ap (entered ts t) k ∙ ap Err (sym is) })
+refused text r (ByAnnotations ts p t f h m k is) =
+    Tree (record { tokens = ts; has = h.tokens; tree = p; read = h.read; is = ap (settled ts) h.is ∙ ap (entered ts t) m ∙ noted_fault ts (noted_unit t) f k ∙ ap Err (sym is) })
+
+-- ---- the laws
+
+abbrev program : TranslationUnit → Answer
+program p = Ok p
+
+abbrev refusal : PlainRefusal → Answer
+refusal r = Err r
+
+program_is : (p q : TranslationUnit) → program p ≡ program q → p ≡ q
+program_is p q e = cc
+
+refusal_is : (r s : PlainRefusal) → refusal r ≡ refusal s → r ≡ s
+refusal_is r s e = cc
+
+not_both : (p : TranslationUnit) (r : PlainRefusal) → program p ≡ refusal r → ⊥
+not_both p r e = cc
+
+pub one_program : (text : List ℕ) (p q : TranslationUnit) → AcceptedText text p → AcceptedText text q → p ≡ q
+one_program text p q a b = program_is p q (one_answer text (Ok p) (Ok q) (accepted text p a) (accepted text q b))
+
+pub apart : (text : List ℕ) (p : TranslationUnit) (r : PlainRefusal) → AcceptedText text p → RefusedText text r → ⊥
+apart text p r a b = not_both p r (one_answer text (Ok p) (Err r) (accepted text p a) (refused text r b))
+
+pub one_refusal : (text : List ℕ) (r s : PlainRefusal) → RefusedText text r → RefusedText text s → r ≡ s
+one_refusal text r s a b = refusal_is r s (one_answer text (Err r) (Err s) (refused text r a) (refused text s b))
