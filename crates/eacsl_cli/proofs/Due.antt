@@ -2,7 +2,7 @@
 use Rattle.std.proofs.Common.{◌≡◌, ℕ, List, [], ◌++◌, Option, Some, None, refl, sym, ap, ◌∙◌, subst, append_assoc, inl, inr}
 use Rattle.std.proofs.lemmas.List.{append-nil}
 use Rattle.c_syntax.specs.Programs.{PlainRefusal}
-use Rattle.c_model.specs.Accepted.{IsRefusal}
+use Rattle.c_model.specs.Phases.{RefusedText}
 use Rattle.c_model.specs.Meaning.{Ran}
 use Rattle.c_model.specs.Reports.{Report, report, line_of, refused_words, Extends}
 use Rattle.mon_syntax.specs.Trees.{MonitoredProgram}
@@ -71,7 +71,7 @@ run_failed {faults = faults} {faults'} e cut = OutputFault cut.lost.sent refl (c
 
 module _ {text : List ℕ} {err : Change} {result : ℕ} where
   module _ {steps : ℕ} {told : Option (List ℕ)} {faults : ℕ} where
-    pub run_refused : (r : PlainRefusal) → IsRefusal text r → IsSettled (line_of (refused_words r)) 2 err result → Answered (RunDue None text steps) (RunBegins None text steps) (change told told faults faults) err result
+    pub run_refused : (r : PlainRefusal) → RefusedText text r → IsSettled (line_of (refused_words r)) 2 err result → Answered (RunDue None text steps) (RunBegins None text steps) (change told told faults faults) err result
     run_refused r h s = settled_answer (refused_answer r) (RunRefused r h refl) (inl refl) (sym (more-nil told)) refl s
 
     -- nothing was put, for want of memory
@@ -85,7 +85,7 @@ module _ {text : List ℕ} {err : Change} {result : ℕ} where
     exec_unread s = said_memory [] (inl refl) (sym (more-nil told)) refl s
 
   module _ {told : Option (List ℕ)} {faults : ℕ} where
-    pub instrument_refused : (r : PlainRefusal) → IsRefusal text r → IsSettled (line_of (refused_words r)) 2 err result → Answered (InstrumentDue text) (InstrumentBegins text) (change told told faults faults) err result
+    pub instrument_refused : (r : PlainRefusal) → RefusedText text r → IsSettled (line_of (refused_words r)) 2 err result → Answered (InstrumentDue text) (InstrumentBegins text) (change told told faults faults) err result
     instrument_refused r h s = settled_answer (refused_answer r) (InstrumentRefused r h refl) (inl refl) (sym (more-nil told)) refl s
 
     pub instrument_unread : IsSaid memory_line 9 err result → Answered (InstrumentDue text) (InstrumentBegins text) (change told told faults faults) err result

@@ -5,7 +5,7 @@ use Rattle.c_model.specs.declared.job.Job.{Job}
 use Rattle.c_model.specs.declared.job.Job.TheVariants.{Run, Instrument, Exec}
 use Rattle.c_model.specs.Words.{job_of}
 use Rattle.c_model.specs.WordLaws.{file_named}
-use Rattle.c_model.specs.Accepted.{Accepted, IsRefusal}
+use Rattle.c_model.specs.Phases.{AcceptedText, RefusedText}
 use Rattle.c_model.specs.State.{Input, EndOfInput}
 use Rattle.c_model.specs.Meaning.{Ran}
 use Rattle.c_model.specs.Reports.{Report, report, line_of, refused_words, Extends}
@@ -70,13 +70,13 @@ IsInput (Some bytes) input = input ≡ record { bytes = bytes; tail = EndOfInput
 -- `run`: the text is refused, or it is accepted, and the run of a program in monitored C that translates it is reported. Up
 -- to the source's first undefined operation this is the source's own run.
 pub data RunDue (left : Option (List ℕ)) (text : List ℕ) (steps : ℕ) (a : Answer) : Type 0 where
-  RunRefused : (r : PlainRefusal) → IsRefusal text r → a ≡ refused_answer r → RunDue left text steps a
-  Runs : (p : TranslationUnit) (m : MonitoredProgram) → Accepted text p → Translates p m → ((input : Input) → IsInput left input → AnswersRun (flat_run m input steps) a) → RunDue left text steps a
+  RunRefused : (r : PlainRefusal) → RefusedText text r → a ≡ refused_answer r → RunDue left text steps a
+  Runs : (p : TranslationUnit) (m : MonitoredProgram) → AcceptedText text p → Translates p m → ((input : Input) → IsInput left input → AnswersRun (flat_run m input steps) a) → RunDue left text steps a
 
 -- `instrument`: the text is refused, or it is accepted, and a program in monitored C that translates it is written
 pub data InstrumentDue (text : List ℕ) (a : Answer) : Type 0 where
-  InstrumentRefused : (r : PlainRefusal) → IsRefusal text r → a ≡ refused_answer r → InstrumentDue text a
-  Writes : (p : TranslationUnit) (m : MonitoredProgram) → Accepted text p → Translates p m → a ≡ written_answer m → InstrumentDue text a
+  InstrumentRefused : (r : PlainRefusal) → RefusedText text r → a ≡ refused_answer r → InstrumentDue text a
+  Writes : (p : TranslationUnit) (m : MonitoredProgram) → AcceptedText text p → Translates p m → a ≡ written_answer m → InstrumentDue text a
 
 -- `exec`: the text is refused, or it spells a program in monitored C, whose run is reported
 pub data ExecDue (left : Option (List ℕ)) (text : List ℕ) (steps : ℕ) (a : Answer) : Type 0 where
@@ -92,10 +92,10 @@ TextDue left (Exec file steps) text a = ExecDue left text steps a
 
 abbrev pub RunBegins : Option (List ℕ) → List ℕ → ℕ → List ℕ → Type 0
 RunBegins left text steps sent =
-    (sent ≡ []) ⊎ ((p : TranslationUnit) × (m : MonitoredProgram) × Accepted text p × Translates p m × ((input : Input) → IsInput left input → Extends sent (flat_run m input steps).output))
+    (sent ≡ []) ⊎ ((p : TranslationUnit) × (m : MonitoredProgram) × AcceptedText text p × Translates p m × ((input : Input) → IsInput left input → Extends sent (flat_run m input steps).output))
 
 abbrev pub InstrumentBegins : List ℕ → List ℕ → Type 0
-InstrumentBegins text sent = (sent ≡ []) ⊎ ((p : TranslationUnit) × (m : MonitoredProgram) × Accepted text p × Translates p m × Extends sent (text_of m))
+InstrumentBegins text sent = (sent ≡ []) ⊎ ((p : TranslationUnit) × (m : MonitoredProgram) × AcceptedText text p × Translates p m × Extends sent (text_of m))
 
 abbrev pub ExecBegins : Option (List ℕ) → List ℕ → ℕ → List ℕ → Type 0
 ExecBegins left text steps sent =
@@ -153,7 +153,7 @@ pub data Answered (Due : Answer → Type 0) (Begin : List ℕ → Type 0) (out e
 -- the program translates that of an accepted text
 pub record IsTranslated (text : List ℕ) (m : MonitoredProgram) : Type 0 where
   pub program : TranslationUnit
-  pub accepted : Accepted text program
+  pub accepted : AcceptedText text program
   pub translates : Translates program m
 
 -- the report of a run of the program is due, and what begins its output

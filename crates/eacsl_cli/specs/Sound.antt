@@ -5,7 +5,7 @@ use Rattle.c_model.specs.declared.job.Job.{Job}
 use Rattle.c_model.specs.declared.job.Job.TheVariants.{Run, Instrument, Exec}
 use Rattle.c_model.specs.Words.{job_of}
 use Rattle.c_model.specs.WordLaws.{file_named}
-use Rattle.c_model.specs.Accepted.{Accepted, IsRefusal}
+use Rattle.c_model.specs.Phases.{AcceptedText, RefusedText}
 use Rattle.c_model.specs.State.{Input}
 use Rattle.c_model.specs.Meaning.{Ran, run}
 use Rattle.c_model.specs.Reports.{Report, report}
@@ -49,14 +49,14 @@ pub record IsAsked (words : List (List ℕ)) (content : Option (List ℕ → Opt
 -- Of each job and text the answer that is due is given, or else memory was wanting.
 pub record Sound (words : List (List ℕ)) (content : Option (List ℕ → Option (List ℕ))) (before now : ℕ) (left : Option (List ℕ)) (out err : Change) (status : ℕ) : Type 0 where
   -- `run` of an accepted text: its one program's run
-  pub runs : (file : List ℕ) (steps : ℕ) (text : List ℕ) (p : TranslationUnit) (input : Input) → IsAsked words content before now out err (Run file steps false) text → Accepted text p → IsInput left input → (status ≡ 9) ⊎ ((a : Answer) × AnswersSource p input steps a × IsGiven a out err status)
+  pub runs : (file : List ℕ) (steps : ℕ) (text : List ℕ) (p : TranslationUnit) (input : Input) → IsAsked words content before now out err (Run file steps false) text → AcceptedText text p → IsInput left input → (status ≡ 9) ⊎ ((a : Answer) × AnswersSource p input steps a × IsGiven a out err status)
   -- `instrument` of an accepted text: the text of a program that translates its one program
-  pub instruments : (file : List ℕ) (text : List ℕ) (p : TranslationUnit) → IsAsked words content before now out err (Instrument file false) text → Accepted text p → (status ≡ 9) ⊎ ((m : MonitoredProgram) × Translates p m × IsGiven (written_answer m) out err status)
+  pub instruments : (file : List ℕ) (text : List ℕ) (p : TranslationUnit) → IsAsked words content before now out err (Instrument file false) text → AcceptedText text p → (status ≡ 9) ⊎ ((m : MonitoredProgram) × Translates p m × IsGiven (written_answer m) out err status)
   -- `exec` of a text that spells a program: its run
   pub executes : (file : List ℕ) (steps : ℕ) (text : List ℕ) (m : MonitoredProgram) (input : Input) → IsAsked words content before now out err (Exec file steps) text → Spells text m → IsInput left input → (status ≡ 9) ⊎ ((a : Answer) × AnswersRun (flat_run m input steps) a × IsGiven a out err status)
   -- any other text: its one refusal
-  pub run_refuses : (file : List ℕ) (steps : ℕ) (text : List ℕ) (r : PlainRefusal) → IsAsked words content before now out err (Run file steps false) text → IsRefusal text r → (status ≡ 9) ⊎ IsGiven (refused_answer r) out err status
-  pub instrument_refuses : (file : List ℕ) (text : List ℕ) (r : PlainRefusal) → IsAsked words content before now out err (Instrument file false) text → IsRefusal text r → (status ≡ 9) ⊎ IsGiven (refused_answer r) out err status
+  pub run_refuses : (file : List ℕ) (steps : ℕ) (text : List ℕ) (r : PlainRefusal) → IsAsked words content before now out err (Run file steps false) text → RefusedText text r → (status ≡ 9) ⊎ IsGiven (refused_answer r) out err status
+  pub instrument_refuses : (file : List ℕ) (text : List ℕ) (r : PlainRefusal) → IsAsked words content before now out err (Instrument file false) text → RefusedText text r → (status ≡ 9) ⊎ IsGiven (refused_answer r) out err status
   pub exec_refuses : (file : List ℕ) (steps : ℕ) (text : List ℕ) (r : PlainRefusal) → IsAsked words content before now out err (Exec file steps) text → IsMonitoredRefusal text r → (status ≡ 9) ⊎ IsGiven (refused_answer r) out err status
 
 -- a status of the program: 4, for a full segment, is never given

@@ -5,7 +5,7 @@ ghost use Rattle.c_syntax.specs.Programs.{plain_refusal};
 ghost use Rattle.c_model.specs.Reports.{line_of, refused_words};
 ghost use Rattle.c_model.specs.WordLaws.{file_named};
 ghost use Rattle.mon_syntax.specs.Trees.{plain_program};
-ghost use Rattle.first_parser.specs.Answers.{Refuses};
+ghost use Rattle.c_reader.specs.Answers.{Refuses};
 ghost use Rattle.eacsl_cli.specs.Answers.{Answered, Begins, ExecBegins, ExecDue, InstrumentBegins, InstrumentDue, IsDue, IsSaid, IsTranslated, ReportBegins, ReportDue, RunBegins, RunDue, TextBegins, TextDue, change, file_limit, memory_line};
 ghost use Rattle.eacsl_cli.specs.Settled.{IsReported, IsSettled};
 ghost use Rattle.eacsl_cli.specs.Sound.{IsStatus, Sound};
@@ -15,8 +15,8 @@ use c_model::{FileName, Job, read_words};
 use c_printer::print;
 use c_syntax::{FrontFault, How, Kind, Refusal};
 use ea_ports::{FetchFault, Folder, Sink, SinkFault, Source};
-use first_parser::read_first;
-use instrument::instrument;
+use c_reader::read_text;
+use c_instrument::instrument;
 use mon_reader::read_monitored;
 use mon_syntax::MonProgram;
 use mon_walk::{Stop, WalkFault, walk};
@@ -107,7 +107,7 @@ fn translated(alloc: Global, text: &[u8]) -> Result<MonProgram, FrontFault>
     requires { length text.now ≤ 1048576 }
     ensures { MatchResult result (λ m. IsTranslated text.now (plain_program m)) (λ fault. Refuses fault text.now) }
 {
-    let program = match read_first(alloc, text) {
+    let program = match read_text(alloc, text) {
         Ok(program) => program,
         Err(fault) => return Err(fault),
     };
