@@ -9,3 +9,4 @@ pub mod Steps
 pub mod Levels
 pub mod Calls
 pub mod Windows
+pub mod Refusals
