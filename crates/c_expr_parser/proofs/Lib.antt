@@ -10,3 +10,4 @@ pub mod Levels
 pub mod Calls
 pub mod Windows
 pub mod Refusals
+pub mod Answers
