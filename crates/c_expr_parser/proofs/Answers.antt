@@ -5,7 +5,7 @@ use Rattle.std.proofs.Math.Seq.{drop-nil}
 use Rattle.grammar.specs.Syntax.{Fault, At, Over}
 use Rattle.grammar.specs.Exact.{Found, IsExact, AtMostOne, FrontsBegin}
 use Rattle.grammar.proofs.Bounds.{rest_below}
-use Rattle.grammar.proofs.Theorem.{found, refused, rest_is, rest_within_text, at_most_one, fronts_begin}
+use Rattle.grammar.proofs.Theorem.{found, refused_over, rest_is, rest_within_text, at_most_one, fronts_begin}
 use Rattle.c_syntax.specs.declared.token.Token.{Token}
 use Rattle.c_syntax.specs.Expressions.{Expression}
 use Rattle.c_syntax.specs.Tokens.{PlainToken, PlainTokens, plain_token}
@@ -17,8 +17,9 @@ use Rattle.c_model.specs.Vocabulary.{Vocabulary}
 use Rattle.c_model.specs.Phases.{vocabulary, syntax_refusal}
 use Rattle.c_model.specs.ExpressionGrammar.{kind, first_expression, full_expression}
 use Rattle.c_expr_parser.specs.Reading.{plain_list, label, Fails}
-use Rattle.c_expr_parser.specs.Answers.{RefusesWith, RefusesFault, expression_at, IsReadAt, RefusesAt}
+use Rattle.c_expr_parser.specs.Answers.{RefusesWith, RefusesFault, NotRead, expression_at, IsReadAt, RefusesAt}
 use Rattle.c_expr_parser.proofs.ExactExpressions.{more_expression, full_expression_good}
+use Rattle.c_expr_parser.proofs.SolidExpressions.{full_unread}
 use Rattle.c_expr_parser.proofs.Windows.{map_drop, drop_long}
 
 pub full_exact : (ws : Vocabulary) → IsExact (kind ws) (full_expression ws) false first_expression (λ _. more_expression)
@@ -59,9 +60,13 @@ module _ (ts : PlainTokens) (at : ℕ) (start : at ≤ length ts.list) where
       let long = drop_long at ts.list in
       record { forth = omega (arith, less, long, l, start); within = omega (arith, l); parsed = q; found = found_at e (drop k ts.list) q }
 
+  not_read : (f : Fault) → expression_at ts at ≡ Err f → NotRead (full_expression (vocabulary ts)) (drop at ts.list) f
+  not_read (At n) h = full_unread (vocabulary ts) (drop at ts.list) n h
+  not_read (Over i n) h = refused_over (full_expression (vocabulary ts)) false first_expression (λ _. more_expression) (full_exact (vocabulary ts)) (drop at ts.list) i n h
+
   refused_with : (f : Fault) → expression_at ts at ≡ Err f → (e : FrontFault) → RefusesWith (syntax_refusal ts f) e → RefusesAt ts at e
   refused_with f h front.Memory g = tt
-  refused_with f h (front.Refused r) g = record { fault = f; parsed = h; refused = refused (full_expression (vocabulary ts)) false first_expression (λ _. more_expression) (full_exact (vocabulary ts)) (drop at ts.list) f h; is = g }
+  refused_with f h (front.Refused r) g = record { fault = f; parsed = h; refused = not_read f h; is = g }
 
   refused_at : (r : ReadFault) (e : FrontFault) → Fails r (expression_at ts at) → RefusesFault ts r e → RefusesAt ts at e
   refused_at (fault.At n) e h g = refused_with (At n) h e g

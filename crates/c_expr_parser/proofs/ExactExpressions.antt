@@ -30,7 +30,7 @@ abbrev pub AreApart : ℕ → Type 0
 AreApart zero = Unit {0}
 AreApart (suc l) = AreApart l × (apart (kinds_of (operators_at l)) (kinds_below l) ≡ true)
 
-levels_apart : AreApart levels
+pub levels_apart : AreApart levels
 levels_apart = ((((((((((tt, refl), refl), refl), refl), refl), refl), refl), refl), refl), refl)
 
 -- what an expression can go on with

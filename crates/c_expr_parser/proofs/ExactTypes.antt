@@ -51,7 +51,7 @@ sizes_within size.LongInt = refl
 sizes_within size.LongLong = refl
 sizes_within size.LongLongInt = refl
 
-words_within : (x : IntegerWords) → within (words_behind x) first_integer_words ≡ true
+pub words_within : (x : IntegerWords) → within (words_behind x) first_integer_words ≡ true
 words_within x = within_both (signs_behind x.sign) (sizes_behind x.size) first_integer_words (signs_within x.sign) (sizes_within x.size)
 
 pub words_fit : LoopFits IntegerWords words_behind words_behind (λ _ _. []) words_behind

@@ -10,4 +10,6 @@ pub mod Levels
 pub mod Calls
 pub mod Windows
 pub mod Refusals
+pub mod TakenTokens
+pub mod SolidExpressions
 pub mod Answers

@@ -1,8 +1,8 @@
 -- What the answers on the tokens of a text mean.
 use Rattle.std.specs.Prelude.{◌≡◌, ◌≤◌, ◌<◌, ℕ, List, length, drop, Result, Ok, Err, Vec}
 use Rattle.std.specs.declared.alloc.Global.{Global}
-use Rattle.grammar.specs.Syntax.{Fault, At, Over}
-use Rattle.grammar.specs.Exact.{Found, Refused}
+use Rattle.grammar.specs.Syntax.{Syntax, Fault, At, Over}
+use Rattle.grammar.specs.Exact.{Found, Unread, RefusedOver}
 use Rattle.c_syntax.specs.declared.place.Place.{Place}
 use Rattle.c_syntax.specs.Expressions.{Expression}
 use Rattle.c_syntax.specs.Tokens.{PlainToken, PlainTokens}
@@ -45,12 +45,17 @@ pub record IsReadAt (ts : PlainTokens) (at : ℕ) (e : Expression) (behind : ℕ
   pub parsed : expression_at ts at ≡ Ok (e, drop behind ts.list)
   pub found : Found (full_expression (vocabulary ts)) (drop at ts.list) e (drop behind ts.list)
 
--- No expression is read there: the tokens before the refused one begin one, and with it they don't (E4), or it passes the
--- limit as the first (E11).
+-- why no expression is read: with the refused token those before it can't go on, and are none; or it passes the limit as the first
+abbrev pub NotRead : {A : Type 0} → Syntax PlainToken A → List PlainToken → Fault → Type 0
+NotRead G text (At n) = Unread G text n
+NotRead G text (Over i n) = RefusedOver G text i n
+
+-- No expression is read there: the tokens before the refused one begin one but are none, and with it they don't (E4), or it
+-- passes the limit as the first (E11).
 pub record IsRefusedAt (ts : PlainTokens) (at : ℕ) (r : PlainRefusal) : Type 0 where
   pub fault : Fault
   pub parsed : expression_at ts at ≡ Err fault
-  pub refused : Refused (full_expression (vocabulary ts)) (drop at ts.list) fault
+  pub refused : NotRead (full_expression (vocabulary ts)) (drop at ts.list) fault
   pub is : r ≡ syntax_refusal ts fault
 
 -- nothing is said where memory was wanting

@@ -54,7 +54,7 @@ fn annotation_spelling(mark: u8) -> &'static [u8]
 
 /// A punctuator by its number, those of annotations alone behind the others.
 #[tactic(auto, unfolding(c_model::specs::MonitoredTokens::marks))]
-fn mark_word(mark: u8) -> &'static [u8]
+pub(crate) fn mark_word(mark: u8) -> &'static [u8]
     ensures { result.now ≡ mark_word mark }
 {
     if mark < MARKS {
