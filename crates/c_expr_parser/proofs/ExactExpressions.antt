@@ -1,7 +1,8 @@
 -- Expressions are read exactly.
 use Rattle.std.proofs.Common.{◌≡◌, ℕ, zero, suc, Bool, true, false, List, [], ◌∷◌, ◌++◌, refl}
 use Rattle.grammar.specs.Syntax.{Syntax, ◌then◌}
-use Rattle.grammar.specs.Exact.{IsExact, IsGood}
+use Rattle.grammar.specs.Exact.{IsExact, Same}
+use Rattle.grammar.proofs.Forms.{knot_form}
 use Rattle.grammar.proofs.Sets.{within, apart, within_self, within_left, within_right, within_both}
 use Rattle.grammar.proofs.Productions.{and, seq, after, either, again_and_again, declared, given, same, one_lower, counted, knot_exact, knot_is, knot_both}
 use Rattle.c_syntax.specs.declared.place.Place.{Place}
@@ -29,7 +30,7 @@ abbrev pub AreApart : ℕ → Type 0
 AreApart zero = Unit {0}
 AreApart (suc l) = AreApart l × (apart (kinds_of (operators_at l)) (kinds_below l) ≡ true)
 
-levels_apart : AreApart levels
+pub levels_apart : AreApart levels
 levels_apart = ((((((((((tt, refl), refl), refl), refl), refl), refl), refl), refl), refl), refl)
 
 -- what an expression can go on with
@@ -148,6 +149,10 @@ module _ (ws : Vocabulary) where
   pub expression_is : (ts : List PlainToken) → (expression ws).parse ts ≡ (expression_of ws (expression ws)).parse ts
   unfolding expression
   expression_is ts = knot_is false first_expression (λ _. more_expression) (λ E u. expression_of ws (E u)) expression_step tt ts
+
+  pub expression_form : Same (expression ws) (expression_of ws (expression ws))
+  unfolding expression
+  expression_form = knot_form false first_expression (λ _. more_expression) (λ E u. expression_of ws (E u)) expression_step tt
 
   pub expression_good : IsRead ws (expression ws) false first_expression more_expression
   expression_good = same expression_exact

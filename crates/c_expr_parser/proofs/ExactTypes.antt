@@ -6,7 +6,6 @@ use Rattle.grammar.proofs.Sets.{within, apart, within_self, within_both}
 use Rattle.grammar.proofs.Parts.{widen}
 use Rattle.grammar.proofs.Bounds.{LoopFits}
 use Rattle.grammar.proofs.Productions.{seq, either, again_and_again, again_and_again_to, declared, given}
-use Rattle.c_syntax.specs.Ctypes.{PlainType}
 use Rattle.c_syntax.specs.Tokens.{PlainToken}
 use Rattle.c_model.specs.declared.vocabulary.Keyword.TheVariants as keyword
 use Rattle.c_model.specs.declared.vocabulary.SignWords.{SignWords}
@@ -52,7 +51,7 @@ sizes_within size.LongInt = refl
 sizes_within size.LongLong = refl
 sizes_within size.LongLongInt = refl
 
-words_within : (x : IntegerWords) → within (words_behind x) first_integer_words ≡ true
+pub words_within : (x : IntegerWords) → within (words_behind x) first_integer_words ≡ true
 words_within x = within_both (signs_behind x.sign) (sizes_behind x.size) first_integer_words (signs_within x.sign) (sizes_within x.size)
 
 pub words_fit : LoopFits IntegerWords words_behind words_behind (λ _ _. []) words_behind

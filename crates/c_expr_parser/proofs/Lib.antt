@@ -9,3 +9,7 @@ pub mod Steps
 pub mod Levels
 pub mod Calls
 pub mod Windows
+pub mod Refusals
+pub mod TakenTokens
+pub mod SolidExpressions
+pub mod Answers

@@ -1,7 +1,7 @@
 -- What is read within the limit of tokens is what is read of one token more than it allows.
-use Rattle.std.proofs.Common.{◌≡◌, ℕ, zero, suc, ◌+◌, ◌-◌, ◌<◌, ◌≤◌, Bool, false, List, [], ◌∷◌, ◌++◌, length, take, drop, map, Result, Ok, Err, refl, sym, ap, subst, ◌∙◌, arith}
+use Rattle.std.proofs.Common.{◌≡◌, ℕ, zero, suc, ◌+◌, ◌-◌, ◌<◌, ◌≤◌, false, List, [], ◌∷◌, ◌++◌, length, take, drop, map, Ok, Err, refl, sym, ap, subst, ◌∙◌, arith}
 use Rattle.std.proofs.lemmas.List.{length-map}
-use Rattle.grammar.specs.Syntax.{Syntax, Fault, At, Over, at_most}
+use Rattle.grammar.specs.Syntax.{Syntax, At, Over, at_most}
 use Rattle.grammar.specs.Exact.{IsExact}
 use Rattle.grammar.proofs.Limits.{at_most_short, near_ok_ends, near_ok, near_at_ends, near_at, near_over}
 use Rattle.grammar.proofs.Theorem.{at_within, over_within}
@@ -25,7 +25,7 @@ map_append : {S T : Type 0} (f : S → T) (a b : List S) → map f (a ++ b) ≡ 
 map_append f [] b = refl
 map_append f (x ∷ a) b = ap (λ w. f x ∷ w) (map_append f a b)
 
-map_drop : {S T : Type 0} (f : S → T) (n : ℕ) (ts : List S) → map f (drop n ts) ≡ drop n (map f ts)
+pub map_drop : {S T : Type 0} (f : S → T) (n : ℕ) (ts : List S) → map f (drop n ts) ≡ drop n (map f ts)
 map_drop f zero ts = refl
 map_drop f (suc n) [] = refl
 map_drop f (suc n) (t ∷ ts) = map_drop f n ts
@@ -35,7 +35,7 @@ take_long zero ts h = refl
 take_long (suc n) [] h = absurd (omega arith)
 take_long (suc n) (t ∷ ts) h = ap suc (take_long n ts (omega arith))
 
-drop_long : {T : Type 0} (n : ℕ) (ts : List T) → length (drop n ts) ≡ length ts - n
+pub drop_long : {T : Type 0} (n : ℕ) (ts : List T) → length (drop n ts) ≡ length ts - n
 drop_long zero ts = omega arith
 drop_long (suc n) [] = omega arith
 drop_long (suc n) (t ∷ ts) = let e = drop_long n ts in omega (arith, e)

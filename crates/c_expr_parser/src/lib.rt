@@ -7,6 +7,15 @@ mod effect;
 mod expression;
 pub mod full;
 pub mod kinds;
+mod read;
+pub mod refusal;
 mod tables;
 pub mod terminals;
 pub mod types;
+pub mod vocabulary;
+
+pub use read::{one_expression, read_expr};
+pub use refusal::{refuse, refused, refused_word};
+
+#[cfg(test)]
+mod tests;

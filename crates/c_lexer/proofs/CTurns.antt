@@ -8,7 +8,7 @@ use Rattle.c_model.specs.declared.c_tokens.Mode.{Mode}
 use Rattle.c_model.specs.declared.c_tokens.Piece.{Piece}
 use Rattle.c_model.specs.declared.c_tokens.Fault.{Fault}
 use Rattle.c_model.specs.declared.c_tokens.Fault.TheVariants as fault
-use Rattle.c_model.specs.FirstTokens.{next, walk}
+use Rattle.c_model.specs.Places.{next, walk}
 use Rattle.c_model.specs.MonitoredTokens.{Read, fresh_behind, fresh_after}
 use Rattle.c_model.specs.Pieces.{Ended, Broken, Cut, cut, piece_at, mode_after}
 use Rattle.c_model.specs.CTokens.{joined, with_string, add, refused, most_tokens, build}

@@ -5,7 +5,7 @@ use Rattle.std.specs.Char.{digit_value}
 use Rattle.std.specs.Str.Parse.{digits_value_after}
 use Rattle.std.proofs.lemmas.Bool.Decides.{nat_tests}
 use Rattle.std.proofs.lemmas.Bool.{lt-leb, le-leb}
-use Rattle.c_model.specs.FirstTokens.{is_digit}
+use Rattle.c_model.specs.Characters.{is_digit}
 use Rattle.c_model.specs.MonitoredTokens.{greatest_literal, literal_of}
 
 -- the value of digits behind digits of value v

@@ -5,7 +5,7 @@ use Rattle.std.specs.List.{list_any, position_or_len}
 use Rattle.std.specs.Global.{Vec}
 use Rattle.indexmap.specs.IndexSet.{insert_key}
 use Rattle.c_lexer.specs.Reading.{spelled}
-use Rattle.c_model.specs.FirstTokens.{with_name, name_number}
+use Rattle.c_model.specs.Names.{with_name, name_number}
 
 pub any_spelled : (w : List ℕ) (vs : List (Vec ℕ)) → list_any (λ v. bytes_eq w v.items) vs ≡ list_any (bytes_eq w) (spelled vs)
 any_spelled w [] = refl

@@ -3,7 +3,7 @@ use Rattle.std.proofs.Common.{◌≡◌, ℕ, zero, suc, ◌+◌, true, false, e
 use Rattle.std.proofs.lemmas.List.{drop-drop, append-nil}
 use Rattle.c_model.specs.declared.c_tokens.Mode.{Mode}
 use Rattle.c_model.specs.declared.c_tokens.Mode.TheVariants.{Code, Block, Line}
-use Rattle.c_model.specs.FirstTokens.{begins_with}
+use Rattle.c_model.specs.Characters.{begins_with}
 use Rattle.c_model.proofs.CStrings.{map_map, map_same, len_skip, quote_is}
 use Rattle.c_model.specs.Literals.{unit_at, unit_in, string_len, string_bytes}
 

@@ -9,7 +9,7 @@ use Rattle.c_syntax.specs.Tokens.{PlainTokens}
 use Rattle.c_syntax.specs.Programs.{PlainRefusal}
 use Rattle.c_model.specs.declared.monitored_tokens.Piece.{Piece}
 use Rattle.c_model.specs.declared.monitored_tokens.Fault.{Fault}
-use Rattle.c_model.specs.FirstTokens.{next, walk}
+use Rattle.c_model.specs.Places.{next, walk}
 use Rattle.c_model.specs.MonitoredTokens.{Ended, Broken, Cut, fresh_behind, fresh_after, cut, piece_at, Read, add, refused, build}
 use Rattle.c_lexer.specs.Reading.{IsRefusal, Refuses, Gives}
 

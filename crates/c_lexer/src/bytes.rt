@@ -2,7 +2,7 @@
 
 ghost use Rattle.std.specs.Prelude.{◌≡◌, ◌≤◌, length, take, drop, IsTrue};
 ghost use Rattle.std.specs.List.{prefix_len};
-ghost use Rattle.c_model.specs.FirstTokens.{is_blank, is_digit, is_nondigit, is_part, in_literal, begins_with};
+ghost use Rattle.c_model.specs.Characters.{is_blank, is_digit, is_nondigit, is_part, in_literal, begins_with};
 ghost use Rattle.c_model.specs.Comments.{in_line};
 ghost use Rattle.c_model.specs.MonitoredTokens.{is_plain, is_octal, in_string, ends_line};
 

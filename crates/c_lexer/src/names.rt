@@ -1,7 +1,7 @@
 //! The numbers of names.
 
 ghost use Rattle.std.specs.Prelude.{◌≡◌, ◌<◌, ◌≤◌, ◌+◌, length, IfOk, OnOk};
-ghost use Rattle.c_model.specs.FirstTokens.{with_name, name_number};
+ghost use Rattle.c_model.specs.Names.{with_name, name_number};
 ghost use Rattle.c_lexer.specs.Reading.{seen};
 
 use c_syntax::Name;

@@ -1,7 +1,7 @@
 //! The places of pieces.
 
 ghost use Rattle.std.specs.Prelude.{◌≡◌, ◌≤◌, ◌<◌, ◌^◌, ◌+◌, ◌-◌, length};
-ghost use Rattle.c_model.specs.FirstTokens.{next, walk};
+ghost use Rattle.c_model.specs.Places.{next, walk};
 ghost use Rattle.c_model.specs.MonitoredTokens.{fresh_behind, fresh_after};
 
 use crate::bytes::is_blank;

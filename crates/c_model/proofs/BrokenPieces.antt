@@ -8,7 +8,7 @@ use Rattle.c_model.specs.declared.monitored_tokens.Piece.TheVariants as piece
 use Rattle.c_model.specs.declared.monitored_tokens.Found.{Found}
 use Rattle.c_model.specs.declared.monitored_tokens.Fault.{Fault}
 use Rattle.c_model.specs.declared.monitored_tokens.Fault.TheVariants as fault
-use Rattle.c_model.specs.FirstTokens.{is_blank, is_digit, is_nondigit, is_part, in_literal, begins_with}
+use Rattle.c_model.specs.Characters.{is_blank, is_digit, is_nondigit, is_part, in_literal, begins_with}
 use Rattle.c_model.specs.MonitoredTokens.{found, word_at, greatest_literal, literal_of, number_at, is_plain, is_octal, octal_value, octal_byte, in_front, in_string, chars_of, escape_of, string_at, ends_line, head_line, head_at, marks, first_mark, piece_at}
 use Rattle.c_model.specs.MonitoredTokenLaws.{starts_line, Stops, IsNumber, IsString, IsIn, IsHead, Breaks}
 use Rattle.c_model.proofs.Spelling.{chosen, and_true, is_begun, front_is, digit_in}

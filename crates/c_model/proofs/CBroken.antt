@@ -10,7 +10,7 @@ use Rattle.c_model.specs.declared.c_tokens.Piece.TheVariants as piece
 use Rattle.c_model.specs.declared.c_tokens.Found.{Found}
 use Rattle.c_model.specs.declared.c_tokens.Fault.{Fault}
 use Rattle.c_model.specs.declared.c_tokens.Fault.TheVariants as fault
-use Rattle.c_model.specs.FirstTokens.{is_digit, is_part, begins_with}
+use Rattle.c_model.specs.Characters.{is_digit, is_part, begins_with}
 use Rattle.c_model.specs.MonitoredTokens.{marks}
 use Rattle.c_model.specs.MonitoredTokenLaws.{starts_line, IsIn}
 use Rattle.c_model.specs.Comments.{is_code, is_line, is_gap, ends_block, in_line, block_len, comment_len, blank_block, is_blank_line}

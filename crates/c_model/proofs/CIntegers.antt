@@ -4,7 +4,7 @@ use Rattle.std.specs.Str.Parse.{digits_value}
 use Rattle.std.proofs.lemmas.Bool.{ltb-true, leb-true}
 use Rattle.std.proofs.lemmas.List.{take-append-drop, length-take}
 use Rattle.c_syntax.specs.declared.types.CInt.{CInt}
-use Rattle.c_model.specs.FirstTokens.{begins_with}
+use Rattle.c_model.specs.Characters.{begins_with}
 use Rattle.c_model.specs.MonitoredTokens.{greatest_literal}
 use Rattle.c_model.specs.Literals.{is_digit_of, digits_len, value_within, digits_at, suffix_of, types_of, first_fitting, body_of, literal_of}
 use Rattle.c_model.specs.CTokenLaws.{HaveBase, IsInteger}

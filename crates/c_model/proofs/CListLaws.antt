@@ -13,7 +13,7 @@ use Rattle.c_model.specs.declared.c_tokens.Piece.TheVariants as piece
 use Rattle.c_model.specs.declared.c_tokens.Found.{Found}
 use Rattle.c_model.specs.declared.c_tokens.Fault.{Fault}
 use Rattle.c_model.specs.declared.c_tokens.Fault.TheVariants as fault
-use Rattle.c_model.specs.FirstTokens.{next, first_place}
+use Rattle.c_model.specs.Places.{next, first_place}
 use Rattle.c_model.specs.MonitoredTokens as monitored
 use Rattle.c_model.specs.MonitoredTokens.{Read, fresh_behind, whole, nothing_read}
 use Rattle.c_model.specs.MonitoredTokenLaws.{place_of}

@@ -7,7 +7,7 @@ use Rattle.c_model.specs.declared.c_tokens.Piece.TheVariants as piece
 use Rattle.c_model.specs.declared.c_tokens.Found.{Found}
 use Rattle.c_model.specs.declared.c_tokens.Fault.{Fault}
 use Rattle.c_model.specs.declared.c_tokens.Fault.TheVariants as fault
-use Rattle.c_model.specs.FirstTokens.{begins_with}
+use Rattle.c_model.specs.Characters.{begins_with}
 use Rattle.c_model.specs.MonitoredTokens.{marks}
 use Rattle.c_model.specs.MonitoredTokenLaws.{IsIn}
 use Rattle.c_model.specs.Pieces.{annotation_marks, first_mark, c_mark_at, mark_at}

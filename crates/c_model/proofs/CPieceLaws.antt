@@ -6,7 +6,7 @@ use Rattle.c_model.specs.declared.c_tokens.Mode.{Mode}
 use Rattle.c_model.specs.declared.c_tokens.Mode.TheVariants.{Code}
 use Rattle.c_model.specs.declared.c_tokens.Found.{Found}
 use Rattle.c_model.specs.declared.c_tokens.Fault.{Fault}
-use Rattle.c_model.specs.FirstTokens.{next, walk, first_place}
+use Rattle.c_model.specs.Places.{next, walk, first_place}
 use Rattle.c_model.specs.MonitoredTokens.{fresh_behind, fresh_after}
 use Rattle.c_model.specs.MonitoredTokenLaws.{place_of}
 use Rattle.c_model.specs.Pieces.{Pieces, Ended, Broken, Cut, piece_at, mode_after, cut, pieces_of}

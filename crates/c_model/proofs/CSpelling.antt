@@ -11,7 +11,7 @@ use Rattle.c_model.specs.declared.c_tokens.Piece.TheVariants as piece
 use Rattle.c_model.specs.declared.c_tokens.Found.{Found}
 use Rattle.c_model.specs.declared.c_tokens.Fault.{Fault}
 use Rattle.c_model.specs.declared.c_tokens.Fault.TheVariants as fault
-use Rattle.c_model.specs.FirstTokens.{is_digit, is_nondigit, is_part, begins_with}
+use Rattle.c_model.specs.Characters.{is_digit, is_nondigit, is_part, begins_with}
 use Rattle.c_model.specs.MonitoredTokenLaws.{starts_line}
 use Rattle.c_model.specs.Comments.{is_code, is_line, is_gap, ends_block, in_line, block_len, comment_len, comment_behind, blank_block, is_blank_line}
 use Rattle.c_model.specs.Literals.{literal_of, unit_at, letter_of, string_len}

@@ -4,7 +4,7 @@ use Rattle.std.proofs.lemmas.Bool.{eqb-true}
 use Rattle.std.proofs.lemmas.Bool.Decides.{nat_tests}
 use Rattle.std.proofs.lemmas.List.{take-append-drop, length-take}
 use Rattle.c_model.specs.declared.c_tokens.Mode.{Mode}
-use Rattle.c_model.specs.FirstTokens.{begins_with}
+use Rattle.c_model.specs.Characters.{begins_with}
 use Rattle.c_model.specs.Literals.{unit_in, string_len}
 use Rattle.c_model.specs.CTokenLaws.{spelling_of, AreUnits}
 use Rattle.c_model.proofs.Spelling.{chosen}

@@ -28,8 +28,3 @@ pub mod Conversions
 pub mod OperatorResults
 pub mod Agreement
 pub mod Whole
-pub mod FirstRows
-mod FormExpressions
-mod FormStatements
-mod FormNames
-pub mod FormPrograms

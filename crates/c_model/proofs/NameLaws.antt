@@ -8,7 +8,7 @@ use Rattle.c_syntax.specs.Tokens.{PlainTokens}
 use Rattle.c_syntax.specs.Programs.{PlainRefusal}
 use Rattle.c_model.specs.declared.monitored_tokens.Piece.{Piece}
 use Rattle.c_model.specs.declared.monitored_tokens.Piece.TheVariants as piece
-use Rattle.c_model.specs.FirstTokens.{with_name, name_number}
+use Rattle.c_model.specs.Names.{with_name, name_number}
 use Rattle.c_model.specs.MonitoredTokens.{Pieces, Ended, Broken, Cut, Read, add, whole, build, nothing_read, pieces_of, monitored_tokens}
 use Rattle.c_model.specs.MonitoredTokenLaws.{word_then, words_of, with_names, AreDistinct}
 

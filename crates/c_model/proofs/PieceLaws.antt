@@ -6,7 +6,8 @@ use Rattle.std.proofs.lemmas.List.Sums.{sum_by-cons, sum_by-append}
 use Rattle.c_syntax.specs.declared.place.Place.{Place}
 use Rattle.c_model.specs.declared.monitored_tokens.Found.{Found}
 use Rattle.c_model.specs.declared.monitored_tokens.Fault.{Fault}
-use Rattle.c_model.specs.FirstTokens.{is_blank, next, walk, first_place}
+use Rattle.c_model.specs.Characters.{is_blank}
+use Rattle.c_model.specs.Places.{next, walk, first_place}
 use Rattle.c_model.specs.MonitoredTokens.{Pieces, Ended, Broken, Cut, fresh_behind, fresh_after, piece_at, cut, pieces_of}
 use Rattle.c_model.specs.MonitoredTokenLaws.{bytes_of, in_line, place_of, starts_line, ArePlaced, Spells, AreSpelled, Breaks}
 use Rattle.c_model.proofs.Spelling.{piece_spells}

@@ -12,7 +12,7 @@ use Rattle.c_model.specs.declared.c_tokens.Piece.{Piece}
 use Rattle.c_model.specs.declared.c_tokens.Piece.TheVariants as piece
 use Rattle.c_model.specs.declared.c_tokens.Fault.{Fault}
 use Rattle.c_model.specs.declared.c_tokens.Fault.TheVariants as fault
-use Rattle.c_model.specs.FirstTokens.{is_digit, is_part, begins_with}
+use Rattle.c_model.specs.Characters.{is_digit, is_part, begins_with}
 use Rattle.c_model.specs.MonitoredTokens.{Read, greatest_literal, marks, nothing_read}
 use Rattle.c_model.specs.MonitoredTokenLaws.{place_of, starts_line, Stops, IsIn, with_names, AreDistinct}
 use Rattle.c_model.specs.Comments.{is_code, is_gap, ends_block, in_line, block_len, blank_block, is_blank_line}

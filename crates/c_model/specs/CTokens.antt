@@ -11,7 +11,7 @@ use Rattle.c_model.specs.declared.c_tokens.Piece.{Piece}
 use Rattle.c_model.specs.declared.c_tokens.Piece.TheVariants as piece
 use Rattle.c_model.specs.declared.c_tokens.Fault.{Fault}
 use Rattle.c_model.specs.declared.c_tokens.Fault.TheVariants as fault
-use Rattle.c_model.specs.FirstTokens.{with_name, name_number}
+use Rattle.c_model.specs.Names.{with_name, name_number}
 use Rattle.c_model.specs.MonitoredTokens as monitored
 use Rattle.c_model.specs.MonitoredTokens.{Read, put, first_byte, whole, nothing_read}
 use Rattle.c_model.specs.Literals.{signed_char, string_bytes}

@@ -2,7 +2,7 @@
 use Rattle.std.specs.Prelude.{ℕ, suc, List, [], ◌∷◌, Option, Some, None, option_map, Bool, true, false, not, ◌||◌, ◌&&◌, nat_eq, if◌then◌else◌, codes}
 use Rattle.c_model.specs.declared.c_tokens.Mode.{Mode}
 use Rattle.c_model.specs.declared.c_tokens.Mode.TheVariants.{Code, Block, Line}
-use Rattle.c_model.specs.FirstTokens.{is_blank, begins_with}
+use Rattle.c_model.specs.Characters.{is_blank, begins_with}
 
 -- ---- where a byte stands
 

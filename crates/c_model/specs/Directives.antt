@@ -5,7 +5,7 @@ use Rattle.std.specs.List.{prefix_len, list_all, list_any}
 use Rattle.c_model.specs.declared.c_tokens.Mode.TheVariants.{Code}
 use Rattle.c_model.specs.declared.c_tokens.Fault.{Fault}
 use Rattle.c_model.specs.declared.c_tokens.Fault.TheVariants as fault
-use Rattle.c_model.specs.FirstTokens.{is_blank, is_digit, is_part}
+use Rattle.c_model.specs.Characters.{is_blank, is_digit, is_part}
 use Rattle.c_model.specs.Comments.{in_line}
 use Rattle.c_model.specs.Literals.{string_len}
 

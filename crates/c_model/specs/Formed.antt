@@ -1,6 +1,7 @@
 -- What is known of each program of an accepted text besides its types: where effects, calls and declarations stand, how large its
 -- parts are, and that it has `main`.
-use Rattle.std.specs.Prelude.{◌≡◌, ℕ, suc, ◌+◌, ◌^◌, ◌-◌, ◌≤◌, ℤ, pos, negsuc, ◌≤ℤ◌, List, [], ◌∷◌, Option, Some, None}
+use Rattle.std.specs.List.{AllByRecursion}
+use Rattle.std.specs.Prelude.{◌≡◌, true, ℕ, suc, max, ◌<◌, length, ◌+◌, ◌^◌, ◌-◌, ◌≤◌, ℤ, pos, negsuc, ◌≤ℤ◌, List, [], ◌∷◌, Option, Some, None}
 use Rattle.c_syntax.specs.declared.place.Place.{Place}
 use Rattle.c_syntax.specs.declared.expression.BinOp.{BinOp}
 use Rattle.c_syntax.specs.declared.expression.BinOp.TheVariants.{Add, Sub}
@@ -10,12 +11,47 @@ use Rattle.c_syntax.specs.Annotations as logic
 use Rattle.c_syntax.specs.Annotations.{LogicTerm, Predicate, Chain, Links, NoLink, Linked, ClauseBody, Truth, Annotation}
 use Rattle.c_syntax.specs.Statements.{Initialiser, One, Declaration, Statement, Empty, Eval, Block, If, While, Do, For, Break, Continue, Return, ElsePart, NoElse, Else, ForFirst, NoFirst, First, BlockItem, Declare, Run, Asserts, BlockItems, NoItem, Then}
 use Rattle.c_syntax.specs.Programs.{Function, TranslationUnit}
-use Rattle.c_model.specs.IntPrograms.{IsName, depth}
+use Rattle.c_model.specs.Characters.{is_part}
 use Rattle.c_model.specs.Meaning.{declared_in}
 use Rattle.c_model.specs.ExpressionGrammar.{most_nested}
 use Rattle.c_model.specs.Typing.{name_at}
 use Rattle.c_model.specs.ProgramTyping.{main_fault}
 use Rattle.c_model.specs.WellTypedPrograms.{WhereAny, ProgramTyped}
+
+-- ---- names and depth
+
+-- a name: letters, digits and `_` (C99 6.4.2.1), at most 255 of them
+pub record IsName (w : List ℕ) : Type 0 where
+  pub parts : AllByRecursion (λ b. is_part b ≡ true) w
+  pub not_empty : 0 < length w
+  pub short : length w ≤ 255
+
+-- how deep statements stand in a statement, itself included: one that is directly inside another is one deeper
+abbrev mutual
+  pub depth : Statement → ℕ
+  depth (Empty at) = 1
+  depth (Eval at e) = 1
+  depth (Block at items) = 1 + depth_of_items items
+  depth (If at e a b) = 1 + max (depth a) (depth_of_else b)
+  depth (While at annots e a) = 1 + depth a
+  depth (Do at a e) = 1 + depth a
+  depth (For at annots first e behind a) = 1 + depth a
+  depth (Break at) = 1
+  depth (Continue at) = 1
+  depth (Return at e) = 1
+
+  pub depth_of_else : ElsePart → ℕ
+  depth_of_else NoElse = 0
+  depth_of_else (Else a) = depth a
+
+  pub depth_of_items : BlockItems → ℕ
+  depth_of_items NoItem = 0
+  depth_of_items (Then i rest) = max (depth_of_item i) (depth_of_items rest)
+
+  pub depth_of_item : BlockItem → ℕ
+  depth_of_item (Declare decls) = 0
+  depth_of_item (Run a) = depth a
+  depth_of_item (Asserts annots) = 0
 
 -- ---- expressions
 

@@ -1,4 +1,4 @@
--- Laws that the definitions meet: of integers and memory, of runs, of the order of runs, and of accepted texts.
+-- Laws that the definitions meet: of integers and memory, of runs, and of the order of runs.
 use Rattle.std.specs.Prelude.{◌≡◌, ℕ, ◌+◌, ◌%◌, ◌^◌, ◌<◌, ◌≤◌, ◌≢◌, ℤ, pos, true, false, if◌then◌else◌, List, [], ◌∷◌, length, take, drop, Option, Some, None, codes}
 use Rattle.c_syntax.specs.declared.place.Place.{Place}
 use Rattle.c_syntax.specs.declared.types.CInt.{CInt}
@@ -18,8 +18,6 @@ use Rattle.c_model.specs.Memory.{Pointer, Into, Value, Integer, Block, Store, bl
 use Rattle.c_model.specs.State.{Input, State, Outcome, Normal, Stop, Evaluation, ◌>>=◌, ◌>>◌, done, step}
 use Rattle.c_model.specs.Meaning.{Callee, choose, after_body, turns, condition_with, effect_with, call_of, eval, exec, function_named, main_with, start, ran, run, Ran}
 use Rattle.c_model.specs.Reports.{Agrees}
-use Rattle.c_model.specs.Accepted.{Accepted}
-use Rattle.c_model.specs.IntPrograms.{IsIntProgram}
 use Rattle.c_model.specs.Growth.{Grows}
 use Rattle.c_model.specs.Steps.{steps_after}
 
@@ -164,9 +162,3 @@ AgreementIsReflexive = (a : Ran) → Agrees a a
 -- what agrees with a run in two steps agrees with it
 abbrev pub AgreementIsTransitive : Type 0
 AgreementIsTransitive = (a b c : Ran) → Agrees a b → Agrees b c → Agrees a c
-
--- ---- accepted texts
-
--- the program of an accepted text is one of variables of type `int`, within the limits
-abbrev pub AcceptedAreInt : Type 0
-AcceptedAreInt = (text : List ℕ) (p : TranslationUnit) → Accepted text p → IsIntProgram p

@@ -6,15 +6,15 @@ pub mod State
 pub mod Logic
 pub mod Meaning
 pub mod Reports
-pub mod IntPrograms
 pub mod Words
 pub mod Arguments
 pub mod WordLaws
 pub mod Growth
 pub mod Steps
 pub mod Laws
-pub mod FirstTokens
-pub mod FirstForm
+pub mod Characters
+pub mod Places
+pub mod Names
 pub mod Punctuators
 pub mod Vocabulary
 pub mod ExpressionGrammar
@@ -36,5 +36,4 @@ pub mod CTokens
 pub mod CTokenLaws
 pub mod TokenWords
 pub mod Phases
-pub mod Accepted
 pub mod Ranges

@@ -6,7 +6,7 @@ use Rattle.std.specs.Str.Parse.{digits_value}
 use Rattle.c_syntax.specs.declared.types.CInt.{CInt}
 use Rattle.c_syntax.specs.declared.types.CInt.TheVariants.{I32, U32, I64, U64}
 use Rattle.c_model.specs.declared.c_tokens.Mode.{Mode}
-use Rattle.c_model.specs.FirstTokens.{begins_with}
+use Rattle.c_model.specs.Characters.{begins_with}
 use Rattle.c_model.specs.Integers.{fits}
 use Rattle.c_model.specs.MonitoredTokens.{greatest_literal, is_octal}
 use Rattle.c_model.specs.Words.{◌>>=◌}

@@ -9,7 +9,8 @@ use Rattle.c_model.specs.declared.monitored_tokens.Piece.{Piece}
 use Rattle.c_model.specs.declared.monitored_tokens.Piece.TheVariants as piece
 use Rattle.c_model.specs.declared.monitored_tokens.Fault.{Fault}
 use Rattle.c_model.specs.declared.monitored_tokens.Fault.TheVariants as fault
-use Rattle.c_model.specs.FirstTokens.{is_blank, is_digit, is_nondigit, is_part, in_literal, begins_with, with_name, name_number}
+use Rattle.c_model.specs.Characters.{is_blank, is_digit, is_nondigit, is_part, in_literal, begins_with}
+use Rattle.c_model.specs.Names.{with_name, name_number}
 use Rattle.c_model.specs.MonitoredTokens.{Pieces, Ended, Broken, Cut, greatest_literal, chars_of, ends_line, head_line, marks, refused, pieces_of, monitored_tokens}
 
 -- ---- pieces and places

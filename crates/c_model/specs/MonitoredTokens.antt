@@ -12,7 +12,9 @@ use Rattle.c_model.specs.declared.monitored_tokens.Piece.TheVariants as piece
 use Rattle.c_model.specs.declared.monitored_tokens.Found.{Found}
 use Rattle.c_model.specs.declared.monitored_tokens.Fault.{Fault}
 use Rattle.c_model.specs.declared.monitored_tokens.Fault.TheVariants as fault
-use Rattle.c_model.specs.FirstTokens.{is_blank, is_digit, is_nondigit, is_part, in_literal, begins_with, next, first_place, with_name, name_number}
+use Rattle.c_model.specs.Characters.{is_blank, is_digit, is_nondigit, is_part, in_literal, begins_with}
+use Rattle.c_model.specs.Places.{next, first_place}
+use Rattle.c_model.specs.Names.{with_name, name_number}
 
 -- ---- pieces
 

@@ -6,7 +6,7 @@ use Rattle.c_syntax.specs.Ctypes.{PlainType, int_type}
 use Rattle.c_syntax.specs.Annotations.{LogicTerm, Number, Letter, Variable, Binary, Predicate, Chain, Links, NoLink, Linked, ClauseBody, Truth, Annotation}
 use Rattle.c_syntax.specs.Statements.{Declaration, Statement, Empty, Eval, Block, If, While, Do, For, Break, Continue, Return, ElsePart, NoElse, Else, BlockItem, Declare, Run, Asserts, BlockItems, NoItem, Then}
 use Rattle.c_syntax.specs.Programs.{Function, TranslationUnit}
-use Rattle.c_model.specs.FirstTokens.{first_place}
+use Rattle.c_model.specs.Places.{first_place}
 use Rattle.c_model.specs.Library.{library_constant, is_library_name, is_there}
 use Rattle.c_model.specs.Checked.{Fault, Checked, Good, faulty, one_part, both_parts, where_so}
 use Rattle.c_model.specs.Typing.{no_name, no_type, Signature, Scopes, name_at, object_named, function_called, library_function, use_as, same_type, inner, behind, behind_first, typed_items}

@@ -5,7 +5,6 @@ ghost use Rattle.c_model.specs.Laws.{ConversionsFit, ConversionsKeepValues, Oper
 ghost use Rattle.c_model.specs.Laws.{SavedValuesLoad, SavesKeepBlocks, SavesKeepBytes, SavesKeepWhole, StatementsKeepWhole};
 ghost use Rattle.c_model.specs.Laws.{FuelIsEnough, StepsFall, LoopsTurn, DoLoopsTurn, ForLoopsTurn, RunsNeedNoFuel, RunsSpendSteps, OutputGrows};
 ghost use Rattle.c_model.specs.Laws.{AgreementIsReflexive, AgreementIsTransitive};
-ghost use Rattle.c_model.specs.Laws.{AcceptedAreInt};
 
 /// Integers: a value is the value of its bits, a result that fits stands, one that does not is undefined in a signed
 /// type and wraps in an unsigned one. Conversions and operators give values of their types.
@@ -46,9 +45,4 @@ pub fn runs()
 pub fn agreement()
     ensures reflexive { AgreementIsReflexive }
     ensures transitive { AgreementIsTransitive }
-{}
-
-/// Accepted texts: `main` declares its variables first and computes with them alone, within the limits.
-pub fn acceptance()
-    ensures { AcceptedAreInt }
 {}

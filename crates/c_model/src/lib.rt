@@ -2,7 +2,6 @@
 #![tactic(auto)]
 
 pub mod c_tokens;
-pub mod first_tokens;
 pub mod job;
 pub mod laws;
 pub mod monitored_tokens;

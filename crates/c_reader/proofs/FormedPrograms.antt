@@ -13,7 +13,7 @@ use Rattle.c_model.specs.Vocabulary.{Vocabulary, word_at}
 use Rattle.c_model.specs.Punctuators.{assign, comma, left_brace, right_brace}
 use Rattle.c_model.specs.ExpressionGrammar.{name_kind, word_kind, mark_kind, kind, most_nested, first_type, name_of, name, type_words}
 use Rattle.c_model.specs.ProgramGrammar.{first_function, block_items, ReadDeclarations, no_declarations, with_declaration, function_with, most_declarators, declarator, next_declarator, declaration, declarations, result_type, no_parameters, function_body, function, unit}
-use Rattle.c_model.specs.IntPrograms.{depth_of_items}
+use Rattle.c_model.specs.Formed.{depth_of_items}
 use Rattle.c_model.specs.Meaning.{declared_in}
 use Rattle.c_model.specs.Formed.{AreInitialised, BodyItemsFormed, BodyFormed, FunctionFormed, ProgramFormed, most_read}
 use Rattle.c_reader.proofs.FormedExpressions.{IsLexedKind, Each, each_token, each_any, each_fixed, full_each}

@@ -10,7 +10,7 @@ use Rattle.c_model.specs.Vocabulary.{Vocabulary}
 use Rattle.c_model.specs.Punctuators.{semicolon, left_paren, left_brace, right_brace}
 use Rattle.c_model.specs.ExpressionGrammar.{annot_open_kind, annot_close_kind, keyword_kind, mark_kind, kind, first_expression, first_effect}
 use Rattle.c_model.specs.ProgramGrammar.{Numbered, first_item, is_open, block_items, annotation, ended, condition, else_branch, else_part, selection, while_loop, do_loop, for_first, maybe_ended, for_behind, for_loop, jump, return_statement, item, items_once, items, block, empty_statement, effect_statement, statement_of, statement_in}
-use Rattle.c_model.specs.IntPrograms.{depth, depth_of_item, depth_of_items}
+use Rattle.c_model.specs.Formed.{depth, depth_of_item, depth_of_items}
 use Rattle.c_model.specs.WellTypedPrograms.{WhereAny}
 use Rattle.c_model.specs.Formed.{IsFull, IsFullEffect, FirstFormed, StatementFormed, ItemFormed, ItemsFormed, most_read}
 use Rattle.c_reader.proofs.FormedExpressions.{Each, each_fixed, closed_each, full_each, full_effect_each, full_call_each}

@@ -13,7 +13,8 @@ use Rattle.c_model.specs.declared.c_tokens.Mode.TheVariants.{Code, Block, Line}
 use Rattle.c_model.specs.declared.c_tokens.Piece.{Piece}
 use Rattle.c_model.specs.declared.c_tokens.Piece.TheVariants as piece
 use Rattle.c_model.specs.declared.c_tokens.Fault.TheVariants as fault
-use Rattle.c_model.specs.FirstTokens.{is_nondigit, is_part, with_name, name_number}
+use Rattle.c_model.specs.Characters.{is_nondigit, is_part}
+use Rattle.c_model.specs.Names.{with_name, name_number}
 use Rattle.c_model.specs.MonitoredTokens.{Read, whole, nothing_read}
 use Rattle.c_model.specs.MonitoredTokenLaws.{with_names}
 use Rattle.c_model.specs.Pieces.{Pieces, Ended, Broken, Cut, begins_name, mode_after, pieces_of}
@@ -21,7 +22,7 @@ use Rattle.c_model.specs.CTokens.{joined, with_string, add, refused, closed, mos
 use Rattle.c_model.specs.CTokenLaws.{bytes_of, IsName, Spells, AreSpelled, word_then, words_of}
 use Rattle.c_model.specs.Vocabulary.{word_of, word_at}
 use Rattle.c_model.specs.ExpressionGrammar.{name_kind, word_kind}
-use Rattle.c_model.specs.IntPrograms as program
+use Rattle.c_model.specs.Formed as program
 use Rattle.c_model.specs.Typing.{name_at}
 use Rattle.c_model.proofs.Spelling.{chosen}
 use Rattle.c_model.proofs.NameLaws.{number_points}

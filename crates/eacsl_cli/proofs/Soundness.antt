@@ -6,12 +6,21 @@ use Rattle.c_model.specs.declared.job.Job.{Job}
 use Rattle.c_model.specs.declared.job.Job.TheVariants.{Run, Instrument, Exec}
 use Rattle.c_model.specs.Words.{job_of}
 use Rattle.c_model.specs.WordLaws.{file_named}
+<<<<<<< HEAD
 use Rattle.c_model.specs.Phases.{AcceptedText, RefusedText}
 use Rattle.c_model.specs.State.{Input, Final, Exits, Broken, Undefined, Fault, Spent, Full, ReadFault}
 use Rattle.c_model.specs.Meaning.{Ran, run}
 use Rattle.c_model.specs.Reports.{Report, report, agrees_at}
 use Rattle.c_reader.proofs.Programs.{accepted_is_program}
 use Rattle.c_reader.proofs.Texts.{one_program, accepted_apart, one_refusal}
+=======
+use Rattle.first_form.specs.Accepted.{Accepted, IsRefusal}
+use Rattle.c_model.specs.State.{Input, Final, Exits, Broken, Undefined, Fault, Spent, Full, ReadFault}
+use Rattle.c_model.specs.Meaning.{Ran, run}
+use Rattle.c_model.specs.Reports.{Report, report, agrees_at}
+use Rattle.first_form.proofs.FormPrograms.{accepted_is_int}
+use Rattle.first_parser.proofs.Acceptance.{one_program, accepted_apart, one_refusal}
+>>>>>>> wip
 use Rattle.mon_syntax.specs.Trees.{MonitoredProgram}
 use Rattle.mon_syntax.specs.Memories.{flat_run}
 use Rattle.mon_syntax.specs.Translates.{Translates}

@@ -7,13 +7,15 @@ use Rattle.c_syntax.specs.declared.place.Place.{Place}
 use Rattle.c_syntax.specs.declared.refusal.FrontFault.{FrontFault}
 use Rattle.c_syntax.specs.declared.refusal.FrontFault.TheVariants as front
 use Rattle.c_syntax.specs.Programs.{TranslationUnit, PlainRefusal}
-use Rattle.c_model.specs.declared.first_tokens.Token.{Token}
-use Rattle.c_model.specs.declared.first_tokens.Mode.TheVariants.{Code}
-use Rattle.c_model.specs.declared.first_tokens.Piece.TheVariants as piece
-use Rattle.c_model.specs.declared.first_tokens.Lexeme.TheVariants as lexeme
-use Rattle.c_model.specs.FirstTokens.{Tokens, is_blank, next, cut, piece_at, add, build, first_place, nothing_read, tokens_of}
-use Rattle.c_model.specs.FirstForm.{lexeme_kind, main_head, form}
-use Rattle.c_model.specs.Accepted.{Accepted, IsBlankText, IsRefusal, no_main, no_form}
+use Rattle.first_form.specs.declared.first_tokens.Token.{Token}
+use Rattle.first_form.specs.declared.first_tokens.Mode.TheVariants.{Code}
+use Rattle.first_form.specs.declared.first_tokens.Piece.TheVariants as piece
+use Rattle.first_form.specs.declared.first_tokens.Lexeme.TheVariants as lexeme
+use Rattle.c_model.specs.Characters.{is_blank}
+use Rattle.c_model.specs.Places.{next, first_place}
+use Rattle.first_form.specs.FirstTokens.{Tokens, cut, piece_at, add, build, nothing_read, tokens_of}
+use Rattle.first_form.specs.FirstForm.{lexeme_kind, main_head, form}
+use Rattle.first_form.specs.Accepted.{Accepted, IsBlankText, IsRefusal, no_main, no_form}
 use Rattle.first_parser.specs.Reading.{is_fault, Fails}
 use Rattle.first_parser.specs.declared.fault.ReadFault.{ReadFault}
 use Rattle.first_parser.specs.declared.fault.ReadFault.TheVariants.{Form, Memory}

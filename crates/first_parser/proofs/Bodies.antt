@@ -7,7 +7,7 @@ use Rattle.c_syntax.specs.declared.statement.Item.{Item}
 use Rattle.c_syntax.specs.declared.statement.StmtKind as code
 use Rattle.c_syntax.specs.Statements.{Block, Then, plain_item, plain_items, plain_stmt_kind}
 use Rattle.c_syntax.proofs.Rows.{block_is}
-use Rattle.c_model.specs.FirstForm.{block_items}
+use Rattle.first_form.specs.FirstForm.{block_items}
 
 items_are : (all : List Item) → plain_items all ≡ block_items (map plain_item all)
 items_are [] = refl

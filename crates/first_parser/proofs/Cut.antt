@@ -5,9 +5,10 @@ use Rattle.c_syntax.specs.declared.place.Place.{Place}
 use Rattle.first_parser.specs.declared.fault.ReadFault.{ReadFault}
 use Rattle.first_parser.specs.declared.lexer.TokenList.{TokenList}
 use Rattle.first_parser.specs.Reading.{GivesSome, plain_tokens}
-use Rattle.c_model.specs.declared.first_tokens.Mode.{Mode}
-use Rattle.c_model.specs.declared.first_tokens.Piece.{Piece}
-use Rattle.c_model.specs.FirstTokens.{Ended, Broken, Cut, next, walk, mode_after, cut, piece_at, Tokens, add, build, most_tokens}
+use Rattle.first_form.specs.declared.first_tokens.Mode.{Mode}
+use Rattle.first_form.specs.declared.first_tokens.Piece.{Piece}
+use Rattle.c_model.specs.Places.{next, walk}
+use Rattle.first_form.specs.FirstTokens.{Ended, Broken, Cut, mode_after, cut, piece_at, Tokens, add, build, most_tokens}
 
 pub cut_skip : (k : ℕ) (at : Place) (m : Mode) (bs : List ℕ) → cut k at m bs ≡ cut 0 (walk at (take k bs)) m (drop k bs)
 unfolding cut

@@ -5,9 +5,9 @@ use Rattle.grammar.specs.Exact.{IsExact, IsGood}
 use Rattle.grammar.proofs.Sets.{apart}
 use Rattle.grammar.proofs.Productions.{seq, after, either, again_and_again, declared, given, knot_exact, knot_is}
 use Rattle.c_syntax.specs.Expressions.{Expression}
-use Rattle.c_model.specs.declared.first_tokens.Token.{Token}
-use Rattle.c_model.specs.declared.first_tokens.Lexeme.TheVariants.{LeftParen, RightParen}
-use Rattle.c_model.specs.FirstForm.{Scope, kind, lexeme_kind, name_kind, number_kind, letter_kind, first_additive, first_relational, parenthesised, variable_used, integer_literal, character_literal, primary, sum_once, sum_more, sum, comparison, compared, expr_of, expr}
+use Rattle.first_form.specs.declared.first_tokens.Token.{Token}
+use Rattle.first_form.specs.declared.first_tokens.Lexeme.TheVariants.{LeftParen, RightParen}
+use Rattle.first_form.specs.FirstForm.{Scope, kind, lexeme_kind, name_kind, number_kind, letter_kind, first_additive, first_relational, parenthesised, variable_used, integer_literal, character_literal, primary, sum_once, sum_more, sum, comparison, compared, expr_of, expr}
 use Rattle.first_parser.proofs.Terminal.{fixed_good, variable_good, number_good, letter_good, additive_good, relational_good}
 
 -- what an expression begins with

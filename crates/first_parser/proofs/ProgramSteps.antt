@@ -6,9 +6,9 @@ use Rattle.grammar.proofs.Parts.{widen, none_exact}
 use Rattle.grammar.proofs.Productions.{seq, again_and_again, declared, given, same, turn, turn_fails, turn_ends}
 use Rattle.c_syntax.specs.declared.place.Place.{Place}
 use Rattle.c_syntax.specs.Statements.{BlockItem}
-use Rattle.c_model.specs.declared.first_tokens.Token.{Token}
-use Rattle.c_model.specs.declared.first_tokens.Lexeme.TheVariants as lexeme
-use Rattle.c_model.specs.FirstForm.{Scope, Declared, kind, lexeme_kind, first_item, declaration, declarations, main_head, main_end, all_declared, one_function, main_function, most_nested, items, statement_in, form}
+use Rattle.first_form.specs.declared.first_tokens.Token.{Token}
+use Rattle.first_form.specs.declared.first_tokens.Lexeme.TheVariants as lexeme
+use Rattle.first_form.specs.FirstForm.{Scope, Declared, kind, lexeme_kind, first_item, declaration, declarations, main_head, main_end, all_declared, one_function, main_function, most_nested, items, statement_in, form}
 use Rattle.first_parser.specs.Reading.{is_fault}
 use Rattle.first_parser.proofs.Terminal.{fixed_good, named_good, new_good}
 use Rattle.first_parser.proofs.Turns.{fault_is}

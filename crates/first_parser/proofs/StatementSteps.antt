@@ -10,9 +10,9 @@ use Rattle.grammar.proofs.Productions.{seq, after, either, again_and_again, decl
 use Rattle.c_syntax.specs.declared.place.Place.{Place}
 use Rattle.c_syntax.specs.Expressions.{Expression}
 use Rattle.c_syntax.specs.Statements.{Statement, BlockItem, If, NoElse, Else, While, Run}
-use Rattle.c_model.specs.declared.first_tokens.Token.{Token}
-use Rattle.c_model.specs.declared.first_tokens.Lexeme.TheVariants as lexeme
-use Rattle.c_model.specs.FirstForm.{Scope, Numbered, kind, lexeme_kind, name_kind, first_statement, first_item, most_in_expression, expression_limit, expr, full_expr, full_clause, annotation, assignment, output, return_statement, condition, is_open, else_branch, else_part, selection, iteration, item, items_once, items, block, statement_of, statement_in}
+use Rattle.first_form.specs.declared.first_tokens.Token.{Token}
+use Rattle.first_form.specs.declared.first_tokens.Lexeme.TheVariants as lexeme
+use Rattle.first_form.specs.FirstForm.{Scope, Numbered, kind, lexeme_kind, name_kind, first_statement, first_item, most_in_expression, expression_limit, expr, full_expr, full_clause, annotation, assignment, output, return_statement, condition, is_open, else_branch, else_part, selection, iteration, item, items_once, items, block, statement_of, statement_in}
 use Rattle.first_parser.specs.Reading.{is_fault}
 use Rattle.first_parser.proofs.Terminal.{fixed_good, variable_good}
 use Rattle.first_parser.proofs.Expressions.{first_expr, more_expr, expr_exact}

@@ -8,12 +8,12 @@ use Rattle.c_syntax.specs.declared.place.Place.{Place}
 use Rattle.c_syntax.specs.declared.expression.BinOp.{BinOp}
 use Rattle.c_syntax.specs.declared.expression.Use.{Use}
 use Rattle.c_syntax.specs.declared.annotation.Relation.{Relation}
-use Rattle.c_model.specs.declared.first_tokens.Token.{Token}
-use Rattle.c_model.specs.declared.first_tokens.TokenKind.{TokenKind}
-use Rattle.c_model.specs.declared.first_tokens.TokenKind.TheVariants.{Fixed, Name, Number, Letter}
-use Rattle.c_model.specs.declared.first_tokens.Lexeme.{Lexeme}
-use Rattle.c_model.specs.declared.first_tokens.Lexeme.TheVariants.{Plus, Minus, Equal, NotEqual, Less, LessEqual, Greater, GreaterEqual}
-use Rattle.c_model.specs.FirstForm.{Scope, kind, token_kind, lexeme_kind, name_kind, number_kind, letter_kind, is_fixed, fixed, placed, number_of, letter_of, variable_of, is_name, named, new_name, most_variables, additive, relational, relation_of, first_additive, first_relational}
+use Rattle.first_form.specs.declared.first_tokens.Token.{Token}
+use Rattle.first_form.specs.declared.first_tokens.TokenKind.{TokenKind}
+use Rattle.first_form.specs.declared.first_tokens.TokenKind.TheVariants.{Fixed, Name, Number, Letter}
+use Rattle.first_form.specs.declared.first_tokens.Lexeme.{Lexeme}
+use Rattle.first_form.specs.declared.first_tokens.Lexeme.TheVariants.{Plus, Minus, Equal, NotEqual, Less, LessEqual, Greater, GreaterEqual}
+use Rattle.first_form.specs.FirstForm.{Scope, kind, token_kind, lexeme_kind, name_kind, number_kind, letter_kind, is_fixed, fixed, placed, number_of, letter_of, variable_of, is_name, named, new_name, most_variables, additive, relational, relation_of, first_additive, first_relational}
 
 fixed_kind : (k : Lexeme) (t : Token) (p : Place) → is_fixed k t ≡ Some p → among (kind t) (lexeme_kind k ∷ []) ≡ true
 fixed_kind k t p e = tested (eqb (kind t) (lexeme_kind k)) e

@@ -4,9 +4,9 @@ use Rattle.grammar.specs.Syntax.{Syntax, ◌then◌}
 use Rattle.grammar.specs.Exact.{IsExact, IsGood}
 use Rattle.grammar.proofs.Productions.{seq, either, again_and_again, declared, given, same, knot_exact, knot_is}
 use Rattle.c_syntax.specs.Annotations.{LogicTerm}
-use Rattle.c_model.specs.declared.first_tokens.Token.{Token}
-use Rattle.c_model.specs.declared.first_tokens.Lexeme.TheVariants.{Assert, Semicolon}
-use Rattle.c_model.specs.FirstForm.{Scope, kind, lexeme_kind, name_kind, number_kind, letter_kind, first_additive, term_variable, term_integer, term_character, term_primary, term_once, term_more, term_of, term, assert_clause}
+use Rattle.first_form.specs.declared.first_tokens.Token.{Token}
+use Rattle.first_form.specs.declared.first_tokens.Lexeme.TheVariants.{Assert, Semicolon}
+use Rattle.first_form.specs.FirstForm.{Scope, kind, lexeme_kind, name_kind, number_kind, letter_kind, first_additive, term_variable, term_integer, term_character, term_primary, term_once, term_more, term_of, term, assert_clause}
 use Rattle.first_parser.proofs.Terminal.{fixed_good, variable_good, number_good, letter_good, additive_good, relation_good}
 use Rattle.first_parser.proofs.Expressions.{first_expr, parenthesised_good}
 

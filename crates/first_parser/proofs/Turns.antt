@@ -3,8 +3,8 @@ use Rattle.std.proofs.Common.{◌≡◌, true, false, List, Result, Ok, Err, ref
 use Rattle.grammar.specs.Syntax.{Fault, sees}
 use Rattle.grammar.proofs.Productions.{same, turn, turn_fails, turn_ends}
 use Rattle.c_syntax.specs.Expressions.{Expression}
-use Rattle.c_model.specs.declared.first_tokens.Token.{Token}
-use Rattle.c_model.specs.FirstForm.{Scope, kind, first_additive, sum_once, sum_more, expr, term_once, term_more, term}
+use Rattle.first_form.specs.declared.first_tokens.Token.{Token}
+use Rattle.first_form.specs.FirstForm.{Scope, kind, first_additive, sum_once, sum_more, expr, term_once, term_more, term}
 use Rattle.first_parser.specs.Reading.{is_fault}
 use Rattle.first_parser.proofs.Expressions.{expr_exact, sum_once_good}
 use Rattle.first_parser.proofs.Terms.{term_exact, term_once_good}

@@ -5,8 +5,8 @@ use Rattle.grammar.specs.Syntax.{Syntax, Fault, At, Over, capped, at_most}
 use Rattle.grammar.specs.Exact.{IsExact, SameHead}
 use Rattle.c_syntax.specs.Expressions.{Expression}
 use Rattle.c_syntax.specs.Annotations.{Annotation}
-use Rattle.c_model.specs.declared.first_tokens.Token.{Token}
-use Rattle.c_model.specs.FirstForm.{Scope, most_in_expression, expression_limit, expr, full_expr, assert_clause, full_clause}
+use Rattle.first_form.specs.declared.first_tokens.Token.{Token}
+use Rattle.first_form.specs.FirstForm.{Scope, most_in_expression, expression_limit, expr, full_expr, assert_clause, full_clause}
 use Rattle.first_parser.specs.Reading.{is_fault}
 use Rattle.first_parser.proofs.Expressions.{expr_exact}
 use Rattle.first_parser.proofs.Terms.{assert_clause_exact}

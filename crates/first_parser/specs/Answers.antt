@@ -3,8 +3,8 @@ use Rattle.std.specs.Prelude.{◌≡◌, ℕ, List, [], ◌∷◌, Bool, true, �
 use Rattle.c_syntax.specs.declared.refusal.FrontFault.{FrontFault}
 use Rattle.c_syntax.specs.declared.refusal.FrontFault.TheVariants as front
 use Rattle.c_syntax.specs.Programs.{TranslationUnit, PlainRefusal, plain_refusal}
-use Rattle.c_model.specs.FirstTokens.{is_blank}
-use Rattle.c_model.specs.Accepted.{Accepted, IsRefusal}
+use Rattle.c_model.specs.Characters.{is_blank}
+use Rattle.first_form.specs.Accepted.{Accepted, IsRefusal}
 use Rattle.first_parser.specs.declared.fault.ReadFault.{ReadFault}
 use Rattle.first_parser.specs.declared.fault.ReadFault.TheVariants.{Form, Memory}
 

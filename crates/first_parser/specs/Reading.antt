@@ -3,7 +3,7 @@ use Rattle.std.specs.Prelude.{◌≡◌, ℕ, List, map, Option, Some, None, Res
 use Rattle.std.specs.Global.{Vec}
 use Rattle.indexmap.specs.IndexSet.{IndexSet}
 use Rattle.grammar.specs.Syntax.{Fault}
-use Rattle.c_model.specs.FirstTokens.{Tokens}
+use Rattle.first_form.specs.FirstTokens.{Tokens}
 use Rattle.first_parser.specs.declared.fault.ReadFault.{ReadFault}
 use Rattle.first_parser.specs.declared.fault.ReadFault.TheVariants.{Form, Memory}
 use Rattle.first_parser.specs.declared.lexer.TokenList.{TokenList}

@@ -3,7 +3,7 @@
 ghost use Rattle.std.specs.Prelude.{ℕ, ◌≡◌, ◌≤◌, ◌<◌, ◌+◌, ◌^◌, pos, Some, length, map, IfOk, [], ◌∷◌};
 ghost use Rattle.c_syntax.specs.Annotations.{plain_term, plain_annot};
 ghost use Rattle.c_syntax.specs.Statements.{plain_item};
-ghost use Rattle.c_model.specs.FirstForm.{parenthesised, term_binary, term_variable, term_integer, term_character, term_primary, term_once, term_more, term, assertion, assert_clause, full_clause, annotation, most_in_expression};
+ghost use Rattle.first_form.specs.FirstForm.{parenthesised, term_binary, term_variable, term_integer, term_character, term_primary, term_once, term_more, term, assertion, assert_clause, full_clause, annotation, most_in_expression};
 ghost use Rattle.first_parser.specs.Reading.{Gives};
 
 use crate::fault::ReadFault;
@@ -12,11 +12,11 @@ use crate::terminals::{
     skip, used,
 };
 use crate::window::{behind_window, window};
-use c_model::first_tokens::{Lexeme, Token};
 use c_syntax::{
     Annot, BinOp, Body, CInt, CType, Item, Kind, Link, Place, Pred, PredKind, Range, Relation,
     Term, TermKind,
 };
+use first_form::first_tokens::{Lexeme, Token};
 use std::alloc::{AllocError, Global};
 
 fn binary(
@@ -37,7 +37,7 @@ fn binary(
 }
 
 /// A variable in sight.
-#[tactic(auto, unfolding(c_model::specs::FirstForm::term_variable))]
+#[tactic(auto, unfolding(first_form::specs::FirstForm::term_variable))]
 fn variable<'a>(scope: &[u32], tokens: &'a [Token]) -> Result<(Term, &'a [Token]), ReadFault>
     ensures read { Gives (λ x. (plain_term x.0, x.1.now)) result ((term_variable scope.now).parse tokens.now) }
     ensures shorter { IfOk result (λ x. length x.1.now < length tokens.now) }
@@ -52,7 +52,7 @@ fn variable<'a>(scope: &[u32], tokens: &'a [Token]) -> Result<(Term, &'a [Token]
     Ok((variable, rest))
 }
 
-#[tactic(auto, unfolding(c_model::specs::FirstForm::term_integer))]
+#[tactic(auto, unfolding(first_form::specs::FirstForm::term_integer))]
 fn integer_literal(tokens: &[Token]) -> Result<(Term, &[Token]), ReadFault>
     ensures read { Gives (λ x. (plain_term x.0, x.1.now)) result (term_integer.parse tokens.now) }
     ensures shorter { IfOk result (λ x. length x.1.now < length tokens.now) }
@@ -67,7 +67,7 @@ fn integer_literal(tokens: &[Token]) -> Result<(Term, &[Token]), ReadFault>
     Ok((literal, rest))
 }
 
-#[tactic(auto, unfolding(c_model::specs::FirstForm::term_character))]
+#[tactic(auto, unfolding(first_form::specs::FirstForm::term_character))]
 fn character_literal(tokens: &[Token]) -> Result<(Term, &[Token]), ReadFault>
     ensures read { Gives (λ x. (plain_term x.0, x.1.now)) result (term_character.parse tokens.now) }
     ensures shorter { IfOk result (λ x. length x.1.now < length tokens.now) }
@@ -83,7 +83,7 @@ fn character_literal(tokens: &[Token]) -> Result<(Term, &[Token]), ReadFault>
 }
 
 /// `( sum )`
-#[tactic(auto, unfolding(c_model::specs::FirstForm::parenthesised))]
+#[tactic(auto, unfolding(first_form::specs::FirstForm::parenthesised))]
 #[cycle(term)]
 fn parenthesised<'a>(
     alloc: Global,
@@ -99,7 +99,7 @@ fn parenthesised<'a>(
     Ok((inner, rest))
 }
 
-#[tactic(auto, unfolding(c_model::specs::FirstForm::term_primary))]
+#[tactic(auto, unfolding(first_form::specs::FirstForm::term_primary))]
 #[cycle(term)]
 fn primary<'a>(
     alloc: Global,
@@ -120,7 +120,7 @@ fn primary<'a>(
     }
 }
 
-#[tactic(auto, unfolding(c_model::specs::FirstForm::term_once))]
+#[tactic(auto, unfolding(first_form::specs::FirstForm::term_once))]
 #[cycle(term)]
 fn term_once<'a>(
     alloc: Global,
@@ -158,7 +158,7 @@ fn term_more<'a>(
 }
 
 /// A sum.
-#[tactic(auto, using(crate::proofs::Terms::term_is), unfolding(c_model::specs::FirstForm::term_of))]
+#[tactic(auto, using(crate::proofs::Terms::term_is), unfolding(first_form::specs::FirstForm::term_of))]
 #[cycle(term)]
 fn term<'a>(
     alloc: Global,
@@ -201,7 +201,7 @@ fn assertion(
 }
 
 /// `assert sum rop sum ;`, the annotation with this number.
-#[tactic(auto, unfolding(c_model::specs::FirstForm::assert_clause))]
+#[tactic(auto, unfolding(first_form::specs::FirstForm::assert_clause))]
 fn assert_clause<'a>(
     alloc: Global,
     scope: &[u32],
@@ -237,7 +237,7 @@ fn full_clause<'a>(
 }
 
 /// `//@ assert sum rop sum ;` to the line's end, the annotation with this number; gives the next number.
-#[tactic(auto, unfolding(c_model::specs::FirstForm::annotation))]
+#[tactic(auto, unfolding(first_form::specs::FirstForm::annotation))]
 pub fn annotation<'a>(
     alloc: Global,
     scope: &[u32],

@@ -4,7 +4,7 @@ ghost use Rattle.std.specs.Prelude.{ℕ, ◌≡◌, ◌≤◌, ◌<◌, ◌+◌,
 ghost use Rattle.c_syntax.specs.declared.types.CInt.TheVariants.{I32};
 ghost use Rattle.c_syntax.specs.Ctypes.{int_type};
 ghost use Rattle.c_syntax.specs.Expressions.{plain_expr};
-ghost use Rattle.c_model.specs.FirstForm.{binary, parenthesised, variable_used, integer_literal, character_literal, primary, sum_once, sum_more, sum, comparison, compared, expr, full_expr};
+ghost use Rattle.first_form.specs.FirstForm.{binary, parenthesised, variable_used, integer_literal, character_literal, primary, sum_once, sum_more, sum, comparison, compared, expr, full_expr};
 ghost use Rattle.first_parser.specs.Reading.{Gives};
 
 use crate::fault::ReadFault;
@@ -13,8 +13,8 @@ use crate::terminals::{
     next_is_relational, number, sign, skip, used,
 };
 use crate::window::{behind_window, window};
-use c_model::first_tokens::{Lexeme, Token};
 use c_syntax::{BinOp, CInt, CType, Expr, ExprKind, Place};
+use first_form::first_tokens::{Lexeme, Token};
 use std::alloc::{AllocError, Global};
 
 fn binary(
@@ -34,7 +34,7 @@ fn binary(
 }
 
 /// A variable in sight.
-#[tactic(auto, unfolding(c_model::specs::FirstForm::variable_used))]
+#[tactic(auto, unfolding(first_form::specs::FirstForm::variable_used))]
 pub fn variable_used<'a>(
     scope: &[u32],
     tokens: &'a [Token],
@@ -51,7 +51,7 @@ pub fn variable_used<'a>(
     Ok((variable, rest))
 }
 
-#[tactic(auto, unfolding(c_model::specs::FirstForm::integer_literal))]
+#[tactic(auto, unfolding(first_form::specs::FirstForm::integer_literal))]
 fn integer_literal(tokens: &[Token]) -> Result<(Expr, &[Token]), ReadFault>
     ensures read { Gives (λ x. (plain_expr x.0, x.1.now)) result (integer_literal.parse tokens.now) }
     ensures shorter { IfOk result (λ x. length x.1.now < length tokens.now) }
@@ -65,7 +65,7 @@ fn integer_literal(tokens: &[Token]) -> Result<(Expr, &[Token]), ReadFault>
     Ok((literal, rest))
 }
 
-#[tactic(auto, unfolding(c_model::specs::FirstForm::character_literal))]
+#[tactic(auto, unfolding(first_form::specs::FirstForm::character_literal))]
 fn character_literal(tokens: &[Token]) -> Result<(Expr, &[Token]), ReadFault>
     ensures read { Gives (λ x. (plain_expr x.0, x.1.now)) result (character_literal.parse tokens.now) }
     ensures shorter { IfOk result (λ x. length x.1.now < length tokens.now) }
@@ -80,7 +80,7 @@ fn character_literal(tokens: &[Token]) -> Result<(Expr, &[Token]), ReadFault>
 }
 
 /// `( expr )`
-#[tactic(auto, unfolding(c_model::specs::FirstForm::parenthesised))]
+#[tactic(auto, unfolding(first_form::specs::FirstForm::parenthesised))]
 #[cycle(expr)]
 fn parenthesised<'a>(
     alloc: Global,
@@ -97,7 +97,7 @@ fn parenthesised<'a>(
 }
 
 /// A primary expression (C99 6.5.1).
-#[tactic(auto, unfolding(c_model::specs::FirstForm::primary))]
+#[tactic(auto, unfolding(first_form::specs::FirstForm::primary))]
 #[cycle(expr)]
 fn primary<'a>(
     alloc: Global,
@@ -118,7 +118,7 @@ fn primary<'a>(
     }
 }
 
-#[tactic(auto, unfolding(c_model::specs::FirstForm::sum_once))]
+#[tactic(auto, unfolding(first_form::specs::FirstForm::sum_once))]
 #[cycle(expr)]
 fn sum_once<'a>(
     alloc: Global,
@@ -156,7 +156,7 @@ fn sum_more<'a>(
 }
 
 /// An additive expression (C99 6.5.6).
-#[tactic(auto, unfolding(c_model::specs::FirstForm::sum))]
+#[tactic(auto, unfolding(first_form::specs::FirstForm::sum))]
 #[cycle(expr)]
 fn sum<'a>(
     alloc: Global,
@@ -170,7 +170,7 @@ fn sum<'a>(
     sum_more(alloc, scope, first, rest)
 }
 
-#[tactic(auto, unfolding(c_model::specs::FirstForm::comparison))]
+#[tactic(auto, unfolding(first_form::specs::FirstForm::comparison))]
 #[cycle(expr)]
 fn comparison<'a>(
     alloc: Global,
@@ -186,7 +186,7 @@ fn comparison<'a>(
     Ok((binary(alloc, op, place, left, right)?, rest))
 }
 
-#[tactic(auto, unfolding(c_model::specs::FirstForm::compared))]
+#[tactic(auto, unfolding(first_form::specs::FirstForm::compared))]
 #[cycle(expr)]
 fn compared<'a>(
     alloc: Global,
@@ -205,7 +205,7 @@ fn compared<'a>(
 }
 
 /// An expression of any length.
-#[tactic(auto, using(crate::proofs::Expressions::expr_is), unfolding(c_model::specs::FirstForm::expr_of))]
+#[tactic(auto, using(crate::proofs::Expressions::expr_is), unfolding(first_form::specs::FirstForm::expr_of))]
 #[cycle(expr)]
 fn expression<'a>(
     alloc: Global,

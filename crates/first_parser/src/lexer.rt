@@ -1,15 +1,16 @@
 //! The tokens of a text.
 
 ghost use Rattle.std.specs.Prelude.{◌≡◌, ◌≤◌, ◌<◌, ◌^◌, ◌+◌, ◌-◌, length, map, take, drop, IfSome, IfOk, OnOk, IsTrue, vec_len, codes, [], ◌∷◌};
-ghost use Rattle.c_model.specs.declared.first_tokens.Piece.TheVariants as piece;
-ghost use Rattle.c_model.specs.FirstTokens.{next, walk, behind_lexeme, behind_token, mode_after, put, add, closed, most_tokens, first_place, nothing_read, build, Ended, tokens_of};
+ghost use Rattle.first_form.specs.declared.first_tokens.Piece.TheVariants as piece;
+ghost use Rattle.c_model.specs.Places.{next, walk, first_place};
+ghost use Rattle.first_form.specs.FirstTokens.{behind_lexeme, behind_token, mode_after, put, add, closed, most_tokens, nothing_read, build, Ended, tokens_of};
 ghost use Rattle.first_parser.specs.Reading.{seen, read_of, plain_tokens, GivesSome};
 
 use crate::fault::ReadFault;
 use crate::names::{all_names, number_name};
 use crate::pieces::piece_at;
-use c_model::first_tokens::{Found, Lexeme, Mode, Piece, Token, TokenKind};
 use c_syntax::{Name, Place};
+use first_form::first_tokens::{Found, Lexeme, Mode, Piece, Token, TokenKind};
 use indexmap::IndexSet;
 use std::alloc::{AllocError, Global};
 
@@ -119,7 +120,7 @@ fn put(reading: &mut Reading, place: Place, kind: TokenKind) -> Result<(), Alloc
     Ok(())
 }
 
-#[tactic(auto, unfolding(c_model::specs::FirstTokens::add))]
+#[tactic(auto, unfolding(first_form::specs::FirstTokens::add))]
 fn add(
     alloc: Global,
     reading: &mut Reading,
@@ -191,7 +192,7 @@ pub fn tokens(alloc: Global, text: &[u8]) -> Result<TokenList, ReadFault>
     finish(alloc, reading, place, mode)
 }
 
-#[tactic(auto, unfolding(c_model::specs::FirstTokens::build))]
+#[tactic(auto, unfolding(first_form::specs::FirstTokens::build))]
 fn finish(alloc: Global, reading: Reading, end: Place, mode: Mode) -> Result<TokenList, ReadFault>
     ensures exact { GivesSome plain_tokens result (build (read_of reading) (Ended end mode)) }
     ensures few { IfOk result (λ t. length t.list.items ≤ most_tokens) }

@@ -2,10 +2,11 @@
 
 ghost use Rattle.std.specs.Prelude.{◌≡◌, ◌≤◌, ◌<◌, ◌+◌, length, map, take, drop, IfSome, IsTrue};
 ghost use Rattle.std.specs.List.{prefix_len};
-ghost use Rattle.c_model.specs.FirstTokens.{is_blank, is_digit, is_nondigit, is_part, in_literal, is_plain, found, begins_with, int_max, more_digits, digits_from, literal_of, number_at, letter_at, keywords, reserved_words, reserved_prefixes, is_word, begins_with_any, keyword_of, is_opened, word_of, word_at, punctuators, short_punctuators, punctuator_of, is_code, piece_at};
-ghost use Rattle.c_model.specs.declared.first_tokens.Piece.TheVariants.{Fixed};
+ghost use Rattle.c_model.specs.Characters.{is_blank, is_digit, is_nondigit, is_part, in_literal, begins_with};
+ghost use Rattle.first_form.specs.FirstTokens.{is_plain, found, int_max, more_digits, digits_from, literal_of, number_at, letter_at, keywords, reserved_words, reserved_prefixes, is_word, begins_with_any, keyword_of, is_opened, word_of, word_at, punctuators, short_punctuators, punctuator_of, is_code, piece_at};
+ghost use Rattle.first_form.specs.declared.first_tokens.Piece.TheVariants.{Fixed};
 
-use c_model::first_tokens::{Found, Lexeme, Mode, Piece};
+use first_form::first_tokens::{Found, Lexeme, Mode, Piece};
 
 pub fn is_blank(b: u8) -> bool
     ensures { result ≡ is_blank b }
@@ -81,7 +82,7 @@ fn more_digits(value: u32, digit: u8) -> Option<u32>
 }
 
 /// The value of decimal digits, where they are nothing else and `int` holds it.
-#[tactic(auto, unfolding(c_model::specs::FirstTokens::digits_from))]
+#[tactic(auto, unfolding(first_form::specs::FirstTokens::digits_from))]
 fn digits(bytes: &[u8]) -> Option<u32>
     ensures { result ≡ digits_from 0 bytes.now }
 {
@@ -100,7 +101,7 @@ fn digits(bytes: &[u8]) -> Option<u32>
     Some(value)
 }
 
-#[tactic(auto, unfolding(c_model::specs::FirstTokens::literal_of))]
+#[tactic(auto, unfolding(first_form::specs::FirstTokens::literal_of))]
 fn literal_of(bytes: &[u8]) -> Option<u32>
     ensures { result ≡ literal_of bytes.now }
 {
@@ -111,7 +112,7 @@ fn literal_of(bytes: &[u8]) -> Option<u32>
     }
 }
 
-#[tactic(auto, unfolding(c_model::specs::FirstTokens::number_at))]
+#[tactic(auto, unfolding(first_form::specs::FirstTokens::number_at))]
 fn number_at(bytes: &[u8]) -> Option<Found>
     requires { 0 < length bytes.now }
     ensures value { result ≡ number_at bytes.now }
@@ -128,7 +129,7 @@ fn number_at(bytes: &[u8]) -> Option<Found>
 }
 
 /// A character literal, given what is behind its first quote.
-#[tactic(auto, unfolding(c_model::specs::FirstTokens::letter_at))]
+#[tactic(auto, unfolding(first_form::specs::FirstTokens::letter_at))]
 fn letter_at(bytes: &[u8]) -> Option<Found>
     ensures value { result ≡ letter_at bytes.now }
     ensures within { IfSome result (λ x. x.more ≤ length bytes.now) }
@@ -175,7 +176,7 @@ fn begins_with_any(words: &[&[u8]], bytes: &[u8]) -> bool
     false
 }
 
-#[tactic(auto, unfolding(c_model::specs::FirstTokens::keywords))]
+#[tactic(auto, unfolding(first_form::specs::FirstTokens::keywords))]
 fn keyword(word: &[u8]) -> Option<Lexeme>
     ensures { result ≡ keyword_of keywords word.now }
 {
@@ -198,7 +199,7 @@ fn keyword(word: &[u8]) -> Option<Lexeme>
     }
 }
 
-#[tactic(auto, unfolding(c_model::specs::FirstTokens::reserved_words))]
+#[tactic(auto, unfolding(first_form::specs::FirstTokens::reserved_words))]
 fn is_reserved(word: &[u8]) -> bool
     ensures { result ≡ is_word reserved_words word.now }
 {
@@ -270,7 +271,7 @@ fn is_reserved(word: &[u8]) -> bool
     )
 }
 
-#[tactic(auto, unfolding(c_model::specs::FirstTokens::reserved_prefixes))]
+#[tactic(auto, unfolding(first_form::specs::FirstTokens::reserved_prefixes))]
 fn has_reserved_prefix(word: &[u8]) -> bool
     ensures { result ≡ begins_with_any reserved_prefixes word.now }
 {
@@ -296,7 +297,7 @@ fn is_code(mode: Mode) -> bool
 }
 
 /// What a word is, where it may stand.
-#[tactic(auto, unfolding(c_model::specs::FirstTokens::word_of))]
+#[tactic(auto, unfolding(first_form::specs::FirstTokens::word_of))]
 fn word_of(mode: Mode, word: &[u8]) -> Option<Piece>
     ensures { result ≡ word_of mode word.now }
 {
@@ -317,7 +318,7 @@ fn word_of(mode: Mode, word: &[u8]) -> Option<Piece>
 
 const MOST_IN_NAME: usize = 255;
 
-#[tactic(auto, unfolding(c_model::specs::FirstTokens::word_at))]
+#[tactic(auto, unfolding(first_form::specs::FirstTokens::word_at))]
 fn word_at(mode: Mode, bytes: &[u8]) -> Option<Found>
     requires { 0 < length bytes.now }
     ensures value { result ≡ word_at mode bytes.now }
@@ -384,7 +385,7 @@ fn short_punctuator(bytes: &[u8]) -> Option<Found>
 }
 
 /// The piece at the front.
-#[tactic(auto, unfolding(c_model::specs::FirstTokens::piece_at))]
+#[tactic(auto, unfolding(first_form::specs::FirstTokens::piece_at))]
 pub fn piece_at(mode: Mode, bytes: &[u8]) -> Option<Found>
     ensures value { result ≡ piece_at mode bytes.now }
     ensures within { IfSome result (λ x. x.more < length bytes.now) }

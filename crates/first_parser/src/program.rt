@@ -5,15 +5,15 @@ ghost use Rattle.c_syntax.specs.Expressions.{plain_expr};
 ghost use Rattle.c_syntax.specs.Statements.{plain_item};
 ghost use Rattle.c_syntax.specs.Statements as statement;
 ghost use Rattle.c_syntax.specs.Programs.{TranslationUnit, plain_program};
-ghost use Rattle.c_model.specs.FirstForm.{most_variables, int_declaration, declaration, declarations, main_head, main_end, main_function, one_function, form, block_items};
+ghost use Rattle.first_form.specs.FirstForm.{most_variables, int_declaration, declaration, declarations, main_head, main_end, main_function, one_function, form, block_items};
 ghost use Rattle.first_parser.specs.Reading.{Gives};
 
 use crate::expression::full_expression;
 use crate::fault::ReadFault;
 use crate::statement::{items, make_block};
 use crate::terminals::{named, new_name, next_is, skip};
-use c_model::first_tokens::{Lexeme, Token};
 use c_syntax::{CInt, CType, Decl, Expr, Func, Init, Item, Name, Place, Program};
+use first_form::first_tokens::{Lexeme, Token};
 use std::alloc::{AllocError, Global};
 
 /// `int NAME = e;`, the declaration behind those in scope.
@@ -38,7 +38,7 @@ fn int_declaration(
     Ok(Item::Declare(one))
 }
 
-#[tactic(auto, unfolding(c_model::specs::FirstForm::declaration))]
+#[tactic(auto, unfolding(first_form::specs::FirstForm::declaration))]
 fn declaration<'a>(
     alloc: Global,
     scope: Vec<u32>,
@@ -88,7 +88,7 @@ fn declarations<'a>(
 }
 
 /// `int main ( void )`, by the place of the name.
-#[tactic(auto, unfolding(c_model::specs::FirstForm::main_head))]
+#[tactic(auto, unfolding(first_form::specs::FirstForm::main_head))]
 fn main_head(tokens: &[Token]) -> Result<(Place, &[Token]), ReadFault>
     ensures read { Gives (λ x. (x.0, x.1.now)) result (main_head.parse tokens.now) }
     ensures shorter { IfOk result (λ x. length x.1.now < length tokens.now) }
@@ -137,7 +137,7 @@ fn one_function(
 }
 
 /// The end of `main`, where the names of the text are declared.
-#[tactic(auto, unfolding(c_model::specs::FirstForm::main_end))]
+#[tactic(auto, unfolding(first_form::specs::FirstForm::main_end))]
 fn main_end<'a>(
     alloc: Global,
     names: Vec<Name>,
@@ -160,7 +160,7 @@ fn main_end<'a>(
 const MOST_NESTED: usize = 200;
 
 /// The whole text, given its names.
-#[tactic(auto, unfolding(c_model::specs::FirstForm::form))]
+#[tactic(auto, unfolding(first_form::specs::FirstForm::form))]
 pub fn form<'a>(
     alloc: Global,
     names: Vec<Name>,

@@ -2,9 +2,11 @@
 
 ghost use Rattle.std.specs.Prelude.{ℕ, List, ◌≡◌, ◌≤◌, ◌<◌, ◌+◌, ◌^◌, Some, None, Ok, Err, length, map, IfOk, IfErr, MatchResult, IsTrue, [], ◌∷◌, codes, slice_get};
 ghost use Rattle.c_syntax.specs.Programs.{TranslationUnit, PlainRefusal, plain_program, plain_refusal};
-ghost use Rattle.c_model.specs.FirstTokens.{is_blank, tokens_of, first_place};
-ghost use Rattle.c_model.specs.IntPrograms.{IsIntProgram};
-ghost use Rattle.c_model.specs.Accepted.{Accepted, IsBlankText, IsRefusal, no_main, no_form};
+ghost use Rattle.c_model.specs.Characters.{is_blank};
+ghost use Rattle.c_model.specs.Places.{first_place};
+ghost use Rattle.first_form.specs.FirstTokens.{tokens_of};
+ghost use Rattle.first_form.specs.IntPrograms.{IsIntProgram};
+ghost use Rattle.first_form.specs.Accepted.{Accepted, IsBlankText, IsRefusal, no_main, no_form};
 ghost use Rattle.first_parser.specs.Answers.{blank_text, NotAccepted, Refuses, RefusesWith};
 
 use crate::fault::ReadFault;

@@ -6,15 +6,15 @@ ghost use Rattle.c_syntax.specs.Expressions.{plain_expr, plain_exprs};
 ghost use Rattle.c_syntax.specs.Expressions as expression;
 ghost use Rattle.c_syntax.specs.Statements.{plain_stmt, plain_item};
 ghost use Rattle.c_syntax.specs.Statements as statement;
-ghost use Rattle.c_model.specs.FirstForm.{most_variables, assignment, putchar_use, output, return_statement, condition, is_open, block_items, else_branch, else_part, selection, iteration, item, items_once, items, block, statement_in};
+ghost use Rattle.first_form.specs.FirstForm.{most_variables, assignment, putchar_use, output, return_statement, condition, is_open, block_items, else_branch, else_part, selection, iteration, item, items_once, items, block, statement_in};
 ghost use Rattle.first_parser.specs.Reading.{Gives};
 
 use crate::annotation::annotation;
 use crate::expression::full_expression;
 use crate::fault::ReadFault;
 use crate::terminals::{next_begins_item, next_is, skip, used};
-use c_model::first_tokens::{Lexeme, Token};
 use c_syntax::{CInt, CType, Expr, ExprKind, Item, Place, Stmt, StmtKind, Use};
+use first_form::first_tokens::{Lexeme, Token};
 use std::alloc::{AllocError, Global};
 
 fn assign(alloc: Global, place: Place, left: Expr, right: Expr) -> Result<Expr, AllocError>
@@ -28,7 +28,7 @@ fn assign(alloc: Global, place: Place, left: Expr, right: Expr) -> Result<Expr, 
 }
 
 /// `x = e;`
-#[tactic(auto, unfolding(c_model::specs::FirstForm::assignment))]
+#[tactic(auto, unfolding(first_form::specs::FirstForm::assignment))]
 fn assignment<'a>(
     alloc: Global,
     scope: &[u32],
@@ -80,7 +80,7 @@ fn putchar_call(alloc: Global, place: Place, scope: &[u32], e: Expr) -> Result<E
 }
 
 /// `putchar(e);`
-#[tactic(auto, unfolding(c_model::specs::FirstForm::output))]
+#[tactic(auto, unfolding(first_form::specs::FirstForm::output))]
 fn output<'a>(
     alloc: Global,
     scope: &[u32],
@@ -105,7 +105,7 @@ fn output<'a>(
 }
 
 /// `return e;`
-#[tactic(auto, unfolding(c_model::specs::FirstForm::return_statement))]
+#[tactic(auto, unfolding(first_form::specs::FirstForm::return_statement))]
 fn return_statement<'a>(
     alloc: Global,
     scope: &[u32],
@@ -127,7 +127,7 @@ fn return_statement<'a>(
 }
 
 /// `( e )`
-#[tactic(auto, unfolding(c_model::specs::FirstForm::condition))]
+#[tactic(auto, unfolding(first_form::specs::FirstForm::condition))]
 fn condition<'a>(
     alloc: Global,
     scope: &[u32],
@@ -203,7 +203,7 @@ fn make_run(s: Stmt) -> Item
     Item::Run(s)
 }
 
-#[tactic(auto, unfolding(c_model::specs::FirstForm::else_branch))]
+#[tactic(auto, unfolding(first_form::specs::FirstForm::else_branch))]
 #[cycle(stmt)]
 fn else_branch<'a>(
     alloc: Global,
@@ -226,7 +226,7 @@ fn else_branch<'a>(
     Ok((make_if_else(alloc, place, e, s, t)?, next, rest))
 }
 
-#[tactic(auto, unfolding(c_model::specs::FirstForm::else_part))]
+#[tactic(auto, unfolding(first_form::specs::FirstForm::else_part))]
 #[cycle(stmt)]
 fn else_part<'a>(
     alloc: Global,
@@ -254,7 +254,7 @@ fn else_part<'a>(
 }
 
 /// `if (e) stmt [ else stmt ]`
-#[tactic(auto, unfolding(c_model::specs::FirstForm::selection))]
+#[tactic(auto, unfolding(first_form::specs::FirstForm::selection))]
 #[cycle(stmt)]
 fn selection<'a>(
     alloc: Global,
@@ -276,7 +276,7 @@ fn selection<'a>(
 }
 
 /// `while (e) stmt`
-#[tactic(auto, unfolding(c_model::specs::FirstForm::iteration))]
+#[tactic(auto, unfolding(first_form::specs::FirstForm::iteration))]
 #[cycle(stmt)]
 fn iteration<'a>(
     alloc: Global,
@@ -297,7 +297,7 @@ fn iteration<'a>(
     Ok((make_while(alloc, place, e, s)?, next, rest))
 }
 
-#[tactic(auto, unfolding(c_model::specs::FirstForm::item))]
+#[tactic(auto, unfolding(first_form::specs::FirstForm::item))]
 #[cycle(stmt)]
 fn item<'a>(
     alloc: Global,
@@ -320,7 +320,7 @@ fn item<'a>(
     }
 }
 
-#[tactic(auto, unfolding(c_model::specs::FirstForm::items_once))]
+#[tactic(auto, unfolding(first_form::specs::FirstForm::items_once))]
 #[cycle(stmt)]
 fn items_once<'a>(
     alloc: Global,
@@ -372,7 +372,7 @@ pub fn items<'a>(
 }
 
 /// `{ items }`
-#[tactic(auto, unfolding(c_model::specs::FirstForm::block))]
+#[tactic(auto, unfolding(first_form::specs::FirstForm::block))]
 #[cycle(stmt)]
 fn block<'a>(
     alloc: Global,
@@ -394,7 +394,7 @@ fn block<'a>(
 }
 
 /// A statement in which statements stand at most so many levels deep, itself included.
-#[tactic(auto, using(crate::proofs::StatementSteps::statement_is, crate::proofs::StatementSteps::statement_over), unfolding(c_model::specs::FirstForm::statement_of))]
+#[tactic(auto, using(crate::proofs::StatementSteps::statement_is, crate::proofs::StatementSteps::statement_over), unfolding(first_form::specs::FirstForm::statement_of))]
 #[cycle(stmt)]
 fn statement<'a>(
     alloc: Global,

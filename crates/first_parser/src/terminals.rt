@@ -2,12 +2,12 @@
 
 ghost use Rattle.std.specs.Prelude.{◌≡◌, ◌≤◌, ◌<◌, ◌+◌, length, IfOk, IfSome, [], ◌∷◌};
 ghost use Rattle.grammar.specs.Syntax.{sees, one};
-ghost use Rattle.c_model.specs.FirstForm.{kind, lexeme_kind, name_kind, number_kind, letter_kind, first_additive, first_relational, first_statement, first_item, fixed, placed, number_of, letter_of, variable, variable_of, is_name, named, new_name, most_variables, additive, relational, relation_of};
+ghost use Rattle.first_form.specs.FirstForm.{kind, lexeme_kind, name_kind, number_kind, letter_kind, first_additive, first_relational, first_statement, first_item, fixed, placed, number_of, letter_of, variable, variable_of, is_name, named, new_name, most_variables, additive, relational, relation_of};
 ghost use Rattle.first_parser.specs.Reading.{Gives};
 
 use crate::fault::ReadFault;
-use c_model::first_tokens::{Lexeme, Token, TokenKind};
 use c_syntax::{BinOp, Place, Relation, Use};
+use first_form::first_tokens::{Lexeme, Token, TokenKind};
 
 fn lexeme_kind(lexeme: Lexeme) -> u8
     ensures { result ≡ lexeme_kind lexeme }

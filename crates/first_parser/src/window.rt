@@ -1,11 +1,11 @@
 //! Runs of tokens that a limit holds for: what is read in one more token than the limit allows.
 
 ghost use Rattle.std.specs.Prelude.{◌≡◌, ◌≤◌, ◌<◌, ◌+◌, length, take, drop, IfOk, MatchResult};
-ghost use Rattle.c_model.specs.FirstForm.{most_in_expression};
+ghost use Rattle.first_form.specs.FirstForm.{most_in_expression};
 ghost use Rattle.first_parser.specs.declared.fault.ReadFault.TheVariants.{Form};
 
 use crate::fault::ReadFault;
-use c_model::first_tokens::Token;
+use first_form::first_tokens::Token;
 
 const MOST_IN_EXPRESSION: usize = 400;
 

@@ -3,7 +3,7 @@ use Rattle.std.proofs.Common.{ℕ, ℤ, pos, Bool, true, false, List, [], ◌∷
 use Rattle.std.proofs.lemmas.List.{append-nil}
 use Rattle.c_syntax.specs.declared.types.How.TheVariants as how
 use Rattle.c_syntax.specs.Annotations.{Annotation}
-use Rattle.c_model.specs.IntPrograms.{IsIntAssert, AreIntAnnotations}
+use Rattle.first_form.specs.IntPrograms.{IsIntAssert, AreIntAnnotations}
 use Rattle.c_model.specs.Integers.{truth}
 use Rattle.c_model.specs.Memory.{Value}
 use Rattle.c_model.specs.State.{Broken, Normal}

@@ -8,7 +8,7 @@ use Rattle.c_syntax.specs.declared.expression.Use.{Use}
 use Rattle.c_syntax.specs.Ctypes.{PlainType, int_type}
 use Rattle.c_syntax.specs.Expressions.{Expression, Node, Variable, Assign, Call, Expressions, NoExpression, Following}
 use Rattle.c_syntax.specs.Statements.{Initialiser, One, Declaration, Declare}
-use Rattle.c_model.specs.IntPrograms.{IsPure, IsVariable, IsTarget, IsArgument, IsEffect, IsIntInit, IsIntDeclaration}
+use Rattle.first_form.specs.IntPrograms.{IsPure, IsVariable, IsTarget, IsArgument, IsEffect, IsIntInit, IsIntDeclaration}
 use Rattle.c_model.specs.Integers.{byte_of}
 use Rattle.c_model.specs.Memory.{Value, Integer, Into}
 use Rattle.c_model.specs.State.{State, Outcome, Normal, Stop, Evaluation, on_outcome, ◌>>=◌, ◌>>◌, give, done, object, write}

@@ -8,7 +8,7 @@ use Rattle.c_syntax.specs.declared.expression.Use.{Use}
 use Rattle.c_syntax.specs.declared.expression.BinOp.{BinOp}
 use Rattle.c_syntax.specs.Ctypes.{int_type}
 use Rattle.c_syntax.specs.Expressions.{Expression, Node, Number, Letter, Variable, Binary}
-use Rattle.c_model.specs.IntPrograms.{IsIntOperator, IsPure, IsVariable, IsIntLiteral, IsLetter}
+use Rattle.first_form.specs.IntPrograms.{IsIntOperator, IsPure, IsVariable, IsIntLiteral, IsLetter}
 use Rattle.c_model.specs.Integers as source
 use Rattle.c_model.specs.Memory.{Value, Integer}
 use Rattle.c_model.specs.State.{State, Outcome, Normal, Stop, Over, Undefined, Evaluation, on_outcome, ◌>>=◌, defined, read}

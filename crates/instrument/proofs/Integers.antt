@@ -9,7 +9,7 @@ use Rattle.c_syntax.specs.declared.expression.BinOp.TheVariants.{Add, Sub, Eq, N
 use Rattle.c_syntax.specs.Ctypes.{int_type}
 use Rattle.c_model.specs.Integers as source
 use Rattle.c_model.specs.Integers.{result_in, truth}
-use Rattle.c_model.specs.IntPrograms.{IsIntOperator}
+use Rattle.first_form.specs.IntPrograms.{IsIntOperator}
 use Rattle.mon_syntax.specs.declared.tree.MonType.TheVariants as kind
 use Rattle.mon_syntax.specs.Arithmetic.{wrap, operate}
 use Rattle.instrument.specs.Translation.{operator_of}

@@ -4,7 +4,7 @@ use Rattle.std.proofs.lemmas.List.{append-nil}
 use Rattle.std.proofs.lemmas.Slice.Eq.{bytes_eq-Decides}
 use Rattle.std.specs.Ordering.{int_eq}
 use Rattle.c_syntax.specs.Expressions.{Expression}
-use Rattle.c_model.specs.IntPrograms.{IsPure}
+use Rattle.first_form.specs.IntPrograms.{IsPure}
 use Rattle.c_model.specs.Memory.{Value, Integer}
 use Rattle.c_model.specs.State.{Spent, Outcome, Normal, Evaluation, on_outcome, ◌>>◌, done, step}
 use Rattle.c_model.specs.Meaning.{eval_with, after_body}

@@ -9,7 +9,7 @@ use Rattle.std.proofs.lemmas.List.{length-take}
 use Rattle.std.proofs.lemmas.Nat.{mod_below}
 use Rattle.std.proofs.lemmas.Slice.Eq.{bytes_eq-Decides}
 use Rattle.std.proofs.Math.Nat.{min-le_left}
-use Rattle.c_model.specs.FirstTokens.{is_digit, is_part}
+use Rattle.c_model.specs.Characters.{is_digit, is_part}
 use Rattle.mon_syntax.specs.Names.{IsFreeName, is_reserved, begins_name}
 use Rattle.mon_syntax.specs.Names as words
 use Rattle.instrument.specs.Translation.{label_name, register_name}

@@ -4,7 +4,7 @@ use Rattle.std.proofs.lemmas.List.{append-nil, length-replicate}
 use Rattle.std.specs.Prelude.{codes}
 use Rattle.c_syntax.specs.Statements.{Declaration, BlockItems, NoItem, Then, Declare, Run, Asserts}
 use Rattle.c_syntax.specs.Programs.{TranslationUnit}
-use Rattle.c_model.specs.IntPrograms.{AreMainItems, IsIntProgram}
+use Rattle.first_form.specs.IntPrograms.{AreMainItems, IsIntProgram}
 use Rattle.c_model.specs.Memory.{Value, Integer}
 use Rattle.c_model.specs.State.{State, Input, Final, Undefined, Leaves, Over, Outcome, Normal, Stop, restored}
 use Rattle.c_model.specs.State as source

@@ -9,7 +9,7 @@ use Rattle.c_syntax.specs.declared.types.BlockKind.TheVariants.{Stack}
 use Rattle.c_syntax.specs.Ctypes.{int_type}
 use Rattle.c_syntax.specs.Statements.{Declaration, Statement, Block, BlockItems, NoItem, Then, Declare, Run, Asserts}
 use Rattle.c_syntax.specs.Programs.{Function, TranslationUnit}
-use Rattle.c_model.specs.IntPrograms.{AreMainItems, IsIntProgram, IsMainBody}
+use Rattle.first_form.specs.IntPrograms.{AreMainItems, IsIntProgram, IsMainBody}
 use Rattle.c_model.specs.Integers.{size_of, byte_of}
 use Rattle.c_model.specs.Memory.{Integer, new_block, stack_taken, full_at_stack_birth, standard_sizes, greatest_number}
 use Rattle.c_model.specs.State.{Input, State, Scope, Over, Undefined, Normal, Stop, on_outcome, ◌>>◌, give, print, find, birth, birth_of, births, frame, mark, restored}

@@ -2,7 +2,7 @@
 use Rattle.std.proofs.Common.{◌≡◌, ℕ, zero, suc, ◌+◌, ◌≤◌, ℤ, List, [], ◌∷◌, ◌++◌, length, map, Option, Some, None, refl, sym, ap, ◌∙◌, subst, arith}
 use Rattle.std.proofs.lemmas.List.{append-nil, length-map}
 use Rattle.c_syntax.specs.Statements.{Statement, Eval, Block, If, While, Return, ElsePart, NoElse, Else, BlockItem, Declare, Run, Asserts, BlockItems, NoItem, Then}
-use Rattle.c_model.specs.IntPrograms.{IsIntStatement, IsIntElse, IsIntItem, AreIntItems}
+use Rattle.first_form.specs.IntPrograms.{IsIntStatement, IsIntElse, IsIntItem, AreIntItems}
 use Rattle.c_model.specs.Memory.{Value, Store, kill_from}
 use Rattle.c_model.specs.State.{Leaves, Returns, Outcome, Normal, Evaluation, ◌>>◌, stop, births, restored, back_to}
 use Rattle.c_model.specs.Meaning.{eval_with, exec_with, else_with, item_with, items_with, declared_in}

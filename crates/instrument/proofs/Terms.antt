@@ -11,7 +11,7 @@ use Rattle.c_syntax.specs.declared.annotation.Relation.{Relation}
 use Rattle.c_syntax.specs.declared.annotation.Relation.TheVariants as relation
 use Rattle.c_syntax.specs.Ctypes.{int_type}
 use Rattle.c_syntax.specs.Annotations.{LogicTerm, Number, Letter, Variable, Binary, Chain, Links, NoLink, Linked, ClauseBody, Truth}
-use Rattle.c_model.specs.IntPrograms.{IsVariable, IsIntLiteral, IsLetter, IsIntTerm, leaves, IsShortTerm, IsIntBody}
+use Rattle.first_form.specs.IntPrograms.{IsVariable, IsIntLiteral, IsLetter, IsIntTerm, leaves, IsShortTerm, IsIntBody}
 use Rattle.c_model.specs.Integers.{truth}
 use Rattle.c_model.specs.Memory.{Value, Integer}
 use Rattle.c_model.specs.State.{State, start_of}

@@ -11,7 +11,7 @@ use Rattle.c_syntax.specs.declared.annotation.Relation.TheVariants as relation
 use Rattle.c_syntax.specs.Expressions.{Expression, Node, Number, Letter, Variable, Binary}
 use Rattle.c_syntax.specs.Annotations as logic
 use Rattle.c_syntax.specs.Annotations.{LogicTerm, NoLink, Linked, ClauseBody, Truth, Chain, Annotation}
-use Rattle.c_model.specs.IntPrograms.{IsIntLiteral, IsLetter, IsVariable, IsPure, leaves_of, IsFullExpression, IsSum, IsIntTerm, leaves, IsShortTerm, IsIntBody, IsIntAssert}
+use Rattle.first_form.specs.IntPrograms.{IsIntLiteral, IsLetter, IsVariable, IsPure, leaves_of, IsFullExpression, IsSum, IsIntTerm, leaves, IsShortTerm, IsIntBody, IsIntAssert}
 use Rattle.mon_syntax.specs.declared.tree.MonType.{MonType}
 use Rattle.mon_syntax.specs.declared.tree.MonType.TheVariants.{I32, I64}
 use Rattle.mon_syntax.specs.Trees as tree

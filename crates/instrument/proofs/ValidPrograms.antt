@@ -6,8 +6,9 @@ use Rattle.std.proofs.Math.Nat.{le-max_right}
 use Rattle.c_syntax.specs.declared.place.Place.{Place}
 use Rattle.c_syntax.specs.Statements.{Initialiser, One, Declaration, Statement, Block, Declare, Run, Asserts, BlockItems, NoItem, Then}
 use Rattle.c_syntax.specs.Programs.{Function, TranslationUnit}
-use Rattle.c_model.specs.IntPrograms as form
-use Rattle.c_model.specs.IntPrograms.{IsIntInit, IsIntDeclaration, AreMainItems, AreIntItems, IsMainBody, IsName, IsIntProgram}
+use Rattle.c_model.specs.Formed as form
+use Rattle.c_model.specs.Formed.{IsName}
+use Rattle.first_form.specs.IntPrograms.{IsIntInit, IsIntDeclaration, AreMainItems, AreIntItems, IsMainBody, IsIntProgram}
 use Rattle.c_model.specs.Meaning.{declared_in}
 use Rattle.mon_syntax.specs.declared.tree.MonType.TheVariants.{I32}
 use Rattle.mon_syntax.specs.Trees.{MonFunction}

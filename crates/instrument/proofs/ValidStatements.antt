@@ -7,8 +7,8 @@ use Rattle.c_syntax.specs.Expressions.{Expression, Node, Expressions, NoExpressi
 use Rattle.c_syntax.specs.Annotations.{Annotation}
 use Rattle.c_syntax.specs.Statements as source_statement
 use Rattle.c_syntax.specs.Statements.{Initialiser, One, Declaration, Statement, ElsePart, NoElse, Else, BlockItem, Declare, Run, Asserts, BlockItems, NoItem}
-use Rattle.c_model.specs.IntPrograms as form
-use Rattle.c_model.specs.IntPrograms.{IsEffect, IsIntStatement, IsIntElse, IsIntItem, AreIntItems, AreIntAnnotations, IsArgument}
+use Rattle.c_model.specs.Formed as form
+use Rattle.first_form.specs.IntPrograms.{IsEffect, IsIntStatement, IsIntElse, IsIntItem, AreIntItems, AreIntAnnotations, IsArgument}
 use Rattle.mon_syntax.specs.declared.tree.MonType.{MonType}
 use Rattle.mon_syntax.specs.declared.tree.MonType.TheVariants.{I32}
 use Rattle.mon_syntax.specs.Trees.{MonStatement, MonStatements, NoStatement, Then}

@@ -9,7 +9,7 @@ use Rattle.c_syntax.specs.declared.expression.Use.{Use}
 use Rattle.c_syntax.specs.declared.types.BlockKind.TheVariants.{Stack}
 use Rattle.c_syntax.specs.declared.types.CInt.TheVariants.{I32}
 use Rattle.c_syntax.specs.Ctypes.{int_type}
-use Rattle.c_model.specs.IntPrograms.{IsVariable}
+use Rattle.first_form.specs.IntPrograms.{IsVariable}
 use Rattle.c_model.specs.Integers.{byte_of, bits_of, value_of_bits}
 use Rattle.c_model.specs.Memory.{Value, Integer, Into, Block, new_block, bytes_of, load, load_block, save, saved_block, with_block}
 use Rattle.c_model.specs.State.{State, Scope, Input, Normal, on_outcome, ◌>>◌, defined, give, print, object, read, write, put_store, start_of, find}

@@ -3,7 +3,7 @@
 ghost use Rattle.std.specs.Prelude.{◌≡◌, ◌++◌, ℕ, IfOk, OnOk, length, map, slice_get};
 ghost use Rattle.c_syntax.specs.Programs.{plain_func, plain_program};
 ghost use Rattle.c_syntax.specs.Statements.{plain_decl, plain_items};
-ghost use Rattle.c_model.specs.IntPrograms.{IsIntProgram};
+ghost use Rattle.first_form.specs.IntPrograms.{IsIntProgram};
 ghost use Rattle.c_model.specs.Meaning.{declared_in, run};
 ghost use Rattle.c_model.specs.Reports.{Agrees};
 ghost use Rattle.c_model.specs.State.{Input};

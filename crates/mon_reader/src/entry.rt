@@ -2,7 +2,7 @@
 
 ghost use Rattle.std.specs.Prelude.{◌≡◌, option_map, Some};
 ghost use Rattle.mon_syntax.specs.Spelled.{no_main, is_i32, main_refusal};
-ghost use Rattle.c_model.specs.FirstTokens.{first_place};
+ghost use Rattle.c_model.specs.Places.{first_place};
 ghost use Rattle.mon_parser.specs.ParsedTrees.{plain_func, plain_program};
 
 use c_syntax::{Name, Place};

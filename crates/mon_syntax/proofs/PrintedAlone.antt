@@ -13,7 +13,7 @@ use Rattle.std.proofs.lemmas.Int.{ints}
 use Rattle.c_syntax.specs.declared.annotation.Kind.{Kind}
 use Rattle.c_syntax.specs.declared.annotation.Kind.TheVariants as the_kind
 use Rattle.c_model.specs.Reports.{kind_word}
-use Rattle.c_model.specs.FirstTokens.{is_blank, is_nondigit, is_part, in_literal}
+use Rattle.c_model.specs.Characters.{is_blank, is_nondigit, is_part, in_literal}
 use Rattle.c_model.specs.MonitoredTokens.{greatest_literal, marks, piece_at}
 use Rattle.c_model.specs.MonitoredTokenLaws.{Stops}
 use Rattle.c_model.proofs.Spelling.{and_true}

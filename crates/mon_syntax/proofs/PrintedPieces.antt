@@ -14,7 +14,9 @@ use Rattle.c_syntax.specs.Tokens as token
 use Rattle.c_syntax.specs.Tokens.{PlainTokenKind, PlainToken}
 use Rattle.c_model.specs.declared.monitored_tokens.Piece.{Piece}
 use Rattle.c_model.specs.declared.monitored_tokens.Piece.TheVariants as piece
-use Rattle.c_model.specs.FirstTokens.{is_blank, is_digit, is_nondigit, is_part, in_literal, next, walk, first_place, with_name, name_number}
+use Rattle.c_model.specs.Characters.{is_blank, is_digit, is_nondigit, is_part, in_literal}
+use Rattle.c_model.specs.Places.{next, walk, first_place}
+use Rattle.c_model.specs.Names.{with_name, name_number}
 use Rattle.c_model.specs.MonitoredTokens.{found, word_at, greatest_literal, literal_of, number_at, is_plain, is_octal, octal_byte, in_string, chars_of, string_at, head_line, head_at, piece_at, fresh_behind, fresh_after, Cut, cut, Read, token, add, inside, build, nothing_read, monitored_tokens}
 use Rattle.c_model.specs.MonitoredTokenLaws.{Stops, with_names}
 use Rattle.c_model.proofs.Spelling.{and_true, front_is, digit_in}

@@ -9,7 +9,7 @@ use Rattle.c_syntax.specs.declared.annotation.Kind.{Kind}
 use Rattle.c_syntax.specs.declared.annotation.Kind.TheVariants as the_kind
 use Rattle.c_syntax.specs.Tokens as token
 use Rattle.c_syntax.specs.Tokens.{PlainToken}
-use Rattle.c_model.specs.FirstTokens.{name_number}
+use Rattle.c_model.specs.Names.{name_number}
 use Rattle.c_model.specs.MonitoredTokens as made
 use Rattle.c_model.specs.Reports.{kind_word}
 use Rattle.mon_syntax.specs.declared.tree.MonType.{MonType}

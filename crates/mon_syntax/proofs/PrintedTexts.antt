@@ -10,7 +10,8 @@ use Rattle.grammar.proofs.Theorem.{accepts_back}
 use Rattle.c_syntax.specs.declared.place.Place.{Place}
 use Rattle.c_syntax.specs.Tokens as token
 use Rattle.c_syntax.specs.Tokens.{PlainToken, PlainTokens}
-use Rattle.c_model.specs.FirstTokens.{first_place, name_number}
+use Rattle.c_model.specs.Places.{first_place}
+use Rattle.c_model.specs.Names.{name_number}
 use Rattle.c_model.specs.MonitoredTokens as made
 use Rattle.mon_syntax.specs.declared.tree.MonType.{MonType}
 use Rattle.mon_syntax.specs.declared.tree.MonType.TheVariants.{I32}

@@ -1,7 +1,7 @@
 -- The words of monitored C, and the names that are free.
 use Rattle.std.specs.Prelude.{◌≡◌, ℕ, ◌≤◌, List, [], ◌∷◌, length, Bool, false, true, codes, bytes_eq}
 use Rattle.std.specs.List.{list_any, AllByRecursion}
-use Rattle.c_model.specs.FirstTokens.{is_nondigit, is_part}
+use Rattle.c_model.specs.Characters.{is_nondigit, is_part}
 use Rattle.mon_syntax.specs.declared.tree.MonType.{MonType}
 use Rattle.mon_syntax.specs.declared.tree.MonType.TheVariants.{I8, U8, I16, U16, I32, U32, I64, U64, I128}
 

@@ -7,7 +7,7 @@ use Rattle.c_syntax.specs.declared.place.Place.{Place}
 use Rattle.c_syntax.specs.Tokens as token
 use Rattle.c_syntax.specs.Tokens.{PlainTokenKind, PlainToken, PlainTokens}
 use Rattle.c_syntax.specs.Programs.{PlainRefusal}
-use Rattle.c_model.specs.FirstTokens.{first_place}
+use Rattle.c_model.specs.Places.{first_place}
 use Rattle.c_model.specs.MonitoredTokens.{monitored_tokens, marks, head_line}
 use Rattle.mon_syntax.specs.declared.tree.MonType.{MonType}
 use Rattle.mon_syntax.specs.declared.tree.MonType.TheVariants.{I32}

@@ -15,7 +15,7 @@ use Rattle.mon_syntax.specs.Valid as valid
 use Rattle.mon_syntax.specs.Valid.{Types, IsExpression, IsStatement, AreStatements, AreRegisters, IsFunction, IsMain, IsValid, has_label, types_of}
 use Rattle.mon_syntax.specs.Checking.{Scope, Checked, ◌>>=◌, ◌>>◌, name_fault, is_free, register_of, of_type, place_of, condition, checked_call, taken, labels_in, labels_in_all, checked_statement, checked_statements, checked_registers, named_register, word_bytes, scope_of, function_of, checked_function}
 use Rattle.mon_syntax.specs.Spelled.{no_main, is_i32}
-use Rattle.c_model.specs.FirstTokens.{first_place}
+use Rattle.c_model.specs.Places.{first_place}
 use Rattle.mon_typing.specs.Within.{depth, depth_of_all, has_no_step, IsWithin, AreWithin, IsFunctionWithin}
 use Rattle.mon_typing.specs.Laws.{AreNames, CheckedIsValid}
 use Rattle.mon_typing.specs.Scopes.{numbered}

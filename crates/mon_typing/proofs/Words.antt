@@ -3,7 +3,8 @@ use Rattle.std.proofs.Common.{◌≡◌, ℕ, Bool, true, false, cond, List, [],
 use Rattle.std.specs.List.{list_any, list_all, AllByRecursion}
 use Rattle.c_model.specs.declared.monitored_tokens.Piece.{Piece}
 use Rattle.c_model.specs.declared.monitored_tokens.Piece.TheVariants as piece
-use Rattle.c_model.specs.FirstTokens.{is_part, with_name}
+use Rattle.c_model.specs.Characters.{is_part}
+use Rattle.c_model.specs.Names.{with_name}
 use Rattle.c_model.specs.MonitoredTokens.{Pieces, Ended, Broken, Cut, pieces_of}
 use Rattle.c_model.specs.MonitoredTokenLaws.{bytes_of, IsName, Spells, AreSpelled, word_then, words_of, with_names}
 use Rattle.c_model.proofs.NameLaws.{names_in_order, names_distinct}

@@ -2,7 +2,7 @@
 use Rattle.std.specs.Prelude.{◌≡◌, ℕ, ◌≤◌, List, length, map, None, Ok, true}
 use Rattle.std.specs.List.{AllByRecursion}
 use Rattle.c_syntax.specs.Tokens.{PlainTokens}
-use Rattle.c_model.specs.FirstTokens.{is_part}
+use Rattle.c_model.specs.Characters.{is_part}
 use Rattle.c_model.specs.MonitoredTokens.{monitored_tokens}
 use Rattle.c_model.specs.MonitoredTokenLaws.{AreDistinct}
 use Rattle.mon_syntax.specs.Names.{begins_name}

@@ -1,6 +1,6 @@
 use Rattle.std.proofs.Common.{ap, ◌∙◌}
 use Rattle.c_lexer.specs.Reading.{spelled, seen}
-use Rattle.c_model.specs.FirstTokens.{with_name, name_number}
+use Rattle.c_model.specs.Names.{with_name, name_number}
 use Rattle.c_lexer.proofs.NameSteps.{number_spelled, keys_spelled, found_name, known_name}
 use Rattle.c_lexer.proofs.names.number_name.Goals as goal
 

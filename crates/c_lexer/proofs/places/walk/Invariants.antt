@@ -1,5 +1,5 @@
 use Rattle.std.proofs.Common.{◌≡◌, ◌≤◌, ◌+◌, drop}
-use Rattle.c_model.specs.FirstTokens.{walk}
+use Rattle.c_model.specs.Places.{walk}
 use Rattle.c_lexer.proofs.places.walk.Given as goal
 
 abbrev pub invariant-loop-b : goal.invariant-loop-b

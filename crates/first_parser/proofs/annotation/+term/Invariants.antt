@@ -1,6 +1,6 @@
 use Rattle.std.proofs.Common.{◌≡◌, ◌+◌, ◌*◌, ◌≤◌, length}
 use Rattle.c_syntax.specs.Annotations.{plain_term}
-use Rattle.c_model.specs.FirstForm.{term_more, term}
+use Rattle.first_form.specs.FirstForm.{term_more, term}
 use Rattle.first_parser.proofs.annotation.+term.Given as goal
 
 abbrev pub decreases-parenthesised : goal.decreases-parenthesised

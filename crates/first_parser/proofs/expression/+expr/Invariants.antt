@@ -1,6 +1,6 @@
 use Rattle.std.proofs.Common.{◌≡◌, ◌+◌, ◌*◌, ◌≤◌, length}
 use Rattle.c_syntax.specs.Expressions.{plain_expr}
-use Rattle.c_model.specs.FirstForm.{sum_more, expr}
+use Rattle.first_form.specs.FirstForm.{sum_more, expr}
 use Rattle.first_parser.proofs.expression.+expr.Given as goal
 
 abbrev pub decreases-parenthesised : goal.decreases-parenthesised

@@ -1,7 +1,8 @@
 use Rattle.std.proofs.Common.{◌≡◌, ◌+◌, length, drop, sym, ap, ◌∙◌, arith, length-drop, length-take}
 use Rattle.std.proofs.lemmas.Bool.{le-ltb, lt-ltb}
-use Rattle.c_model.specs.FirstTokens.{Tokens, first_place, nothing_read, tokens_of, build, cut}
-use Rattle.c_model.specs.declared.first_tokens.Mode.TheVariants.{Code}
+use Rattle.c_model.specs.Places.{first_place}
+use Rattle.first_form.specs.FirstTokens.{Tokens, nothing_read, tokens_of, build, cut}
+use Rattle.first_form.specs.declared.first_tokens.Mode.TheVariants.{Code}
 use Rattle.first_parser.specs.Reading.{seen, read_of}
 use Rattle.first_parser.proofs.Cut.{goes_on, too_many, breaks, ends, gives}
 use Rattle.first_parser.proofs.lexer.tokens.Goals as goal

@@ -1,5 +1,5 @@
 use Rattle.std.proofs.Common.{◌≡◌, ◌≤◌, ◌+◌, ◌-◌, length, drop, vec_len}
-use Rattle.c_model.specs.FirstTokens.{build, cut, most_tokens, tokens_of}
+use Rattle.first_form.specs.FirstTokens.{build, cut, most_tokens, tokens_of}
 use Rattle.first_parser.specs.Reading.{seen, read_of}
 use Rattle.first_parser.proofs.lexer.tokens.Given as goal
 

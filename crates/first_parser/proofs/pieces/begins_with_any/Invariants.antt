@@ -1,5 +1,5 @@
 use Rattle.std.proofs.Common.{◌≡◌, length, map}
-use Rattle.c_model.specs.FirstTokens.{begins_with_any}
+use Rattle.first_form.specs.FirstTokens.{begins_with_any}
 use Rattle.first_parser.proofs.pieces.begins_with_any.Given as goal
 
 abbrev pub invariant-turn : goal.invariant-turn

@@ -1,5 +1,5 @@
 use Rattle.std.proofs.Common.{◌≡◌, length}
-use Rattle.c_model.specs.FirstTokens.{digits_from}
+use Rattle.first_form.specs.FirstTokens.{digits_from}
 use Rattle.first_parser.proofs.pieces.digits.Given as goal
 
 abbrev pub invariant-turn : goal.invariant-turn

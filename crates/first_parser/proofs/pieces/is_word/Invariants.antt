@@ -1,5 +1,5 @@
 use Rattle.std.proofs.Common.{◌≡◌, length, map}
-use Rattle.c_model.specs.FirstTokens.{is_word}
+use Rattle.first_form.specs.FirstTokens.{is_word}
 use Rattle.first_parser.proofs.pieces.is_word.Given as goal
 
 abbrev pub invariant-turn : goal.invariant-turn

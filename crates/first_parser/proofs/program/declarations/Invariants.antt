@@ -1,6 +1,6 @@
 use Rattle.std.proofs.Common.{◌≡◌, ◌≤◌, length, map}
 use Rattle.c_syntax.specs.Statements.{plain_item}
-use Rattle.c_model.specs.FirstForm.{declarations, most_variables}
+use Rattle.first_form.specs.FirstForm.{declarations, most_variables}
 use Rattle.first_parser.proofs.program.declarations.Given as goal
 
 abbrev pub invariant-turn : goal.invariant-turn

@@ -1,5 +1,5 @@
 use Rattle.std.proofs.Common.{sym}
-use Rattle.c_model.proofs.FormPrograms.{accepted_is_int}
+use Rattle.first_form.proofs.FormPrograms.{accepted_is_int}
 use Rattle.first_parser.proofs.Acceptance.{refused_blank, refused_form}
 use Rattle.first_parser.proofs.read.read_first.Goals as goal
 

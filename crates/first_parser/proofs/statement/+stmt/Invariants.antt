@@ -1,6 +1,6 @@
 use Rattle.std.proofs.Common.{◌≡◌, ◌+◌, ◌*◌, ◌≤◌, length, map}
 use Rattle.c_syntax.specs.Statements.{plain_item}
-use Rattle.c_model.specs.FirstForm.{items, statement_in}
+use Rattle.first_form.specs.FirstForm.{items, statement_in}
 use Rattle.first_parser.proofs.statement.+stmt.Given as goal
 
 abbrev pub decreases-statement : goal.decreases-statement

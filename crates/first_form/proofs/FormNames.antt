@@ -5,18 +5,22 @@ use Rattle.std.proofs.lemmas.Int.{ints}
 use Rattle.std.specs.Prelude.{codes, slice_get, bytes_eq, nat_le, nat_lt, nat_eq}
 use Rattle.std.specs.List.{AllByRecursion, list_any, prefix_len}
 use Rattle.c_syntax.specs.declared.place.Place.{Place}
-use Rattle.c_model.specs.declared.first_tokens.Mode.{Mode}
-use Rattle.c_model.specs.declared.first_tokens.Mode.TheVariants.{Code, Opened, Annotation}
-use Rattle.c_model.specs.declared.first_tokens.Piece.{Piece}
-use Rattle.c_model.specs.declared.first_tokens.Piece.TheVariants as piece
-use Rattle.c_model.specs.declared.first_tokens.Found.{Found}
-use Rattle.c_model.specs.declared.first_tokens.Lexeme.{Lexeme}
-use Rattle.c_model.specs.declared.first_tokens.Lexeme.TheVariants.{AnnotClose}
-use Rattle.c_model.specs.declared.first_tokens.TokenKind.TheVariants.{Fixed, Name, Number, Letter}
-use Rattle.c_model.specs.FirstTokens.{Pieces, Ended, Broken, Cut, Tokens, is_blank, is_digit, is_nondigit, is_part, is_code, is_opened, is_word, begins_with_any, keyword_of, keywords, reserved_words, reserved_prefixes, in_literal, is_plain, begins_with, found, literal_of, number_at, letter_at, word_of, word_at, punctuators, punctuator_of, piece_at, next, mode_after, cut, with_name, name_number, token, add, closed, most_tokens, build, first_place, nothing_read, tokens_of}
-use Rattle.c_model.specs.IntPrograms.{IsLetter, IsName}
-use Rattle.c_model.proofs.FormExpressions.{IsLexed}
-use Rattle.c_model.proofs.FormStatements.{all_behind}
+use Rattle.first_form.specs.declared.first_tokens.Mode.{Mode}
+use Rattle.first_form.specs.declared.first_tokens.Mode.TheVariants.{Code, Opened, Annotation}
+use Rattle.first_form.specs.declared.first_tokens.Piece.{Piece}
+use Rattle.first_form.specs.declared.first_tokens.Piece.TheVariants as piece
+use Rattle.first_form.specs.declared.first_tokens.Found.{Found}
+use Rattle.first_form.specs.declared.first_tokens.Lexeme.{Lexeme}
+use Rattle.first_form.specs.declared.first_tokens.Lexeme.TheVariants.{AnnotClose}
+use Rattle.first_form.specs.declared.first_tokens.TokenKind.TheVariants.{Fixed, Name, Number, Letter}
+use Rattle.c_model.specs.Characters.{is_blank, is_digit, is_nondigit, is_part, in_literal, begins_with}
+use Rattle.c_model.specs.Places.{next, first_place}
+use Rattle.c_model.specs.Names.{with_name, name_number}
+use Rattle.first_form.specs.FirstTokens.{Pieces, Ended, Broken, Cut, Tokens, is_code, is_opened, is_word, begins_with_any, keyword_of, keywords, reserved_words, reserved_prefixes, is_plain, found, literal_of, number_at, letter_at, word_of, word_at, punctuators, punctuator_of, piece_at, mode_after, cut, token, add, closed, most_tokens, build, nothing_read, tokens_of}
+use Rattle.c_model.specs.Formed.{IsName}
+use Rattle.first_form.specs.IntPrograms.{IsLetter}
+use Rattle.first_form.proofs.FormExpressions.{IsLexed}
+use Rattle.first_form.proofs.FormStatements.{all_behind}
 
 by_test : {A : Type 0} (P : A → Type 0) (b : Bool) (x y : A) → (b ≡ true → P x) → (b ≡ false → P y) → P (cond b x y)
 by_test P true x y p q = p refl

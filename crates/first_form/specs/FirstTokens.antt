@@ -1,52 +1,31 @@
 -- The token list of a text that is one `main` over variables of type `int` (C99 6.4, and ACSL for annotations):
 -- the text is cut into pieces with their places, and the pieces make tokens. A text with a piece of another form has none.
 use Rattle.std.specs.Prelude.{ℕ, zero, suc, ◌+◌, ◌-◌, ◌*◌, pos, List, [], ◌∷◌, ◌++◌, length, take, Option, Some, None, Bool, true, false, not, ◌||◌, ◌&&◌, nat_le, nat_lt, nat_eq, if◌then◌else◌, codes, bytes_eq}
-use Rattle.std.specs.List.{prefix_len, starts_with, list_any, position_or_len}
+use Rattle.std.specs.List.{prefix_len}
 use Rattle.c_syntax.specs.declared.place.Place.{Place}
-use Rattle.c_model.specs.declared.first_tokens.Lexeme.{Lexeme}
-use Rattle.c_model.specs.declared.first_tokens.Lexeme.TheVariants.{Int, Void, If, Else, While, Return, Putchar, Assert, LeftParen, RightParen, LeftBrace, RightBrace, Semicolon, Assign, Plus, Minus, Equal, NotEqual, Less, LessEqual, Greater, GreaterEqual, AnnotOpen, AnnotClose}
-use Rattle.c_model.specs.declared.first_tokens.TokenKind.{TokenKind}
-use Rattle.c_model.specs.declared.first_tokens.TokenKind.TheVariants.{Fixed, Name, Number, Letter}
-use Rattle.c_model.specs.declared.first_tokens.Token.{Token}
-use Rattle.c_model.specs.declared.first_tokens.Mode.{Mode}
-use Rattle.c_model.specs.declared.first_tokens.Mode.TheVariants.{Code, Opened, Annotation}
-use Rattle.c_model.specs.declared.first_tokens.Piece.{Piece}
-use Rattle.c_model.specs.declared.first_tokens.Piece.TheVariants as piece
-use Rattle.c_model.specs.declared.first_tokens.Found.{Found}
+use Rattle.c_model.specs.Characters.{is_blank, is_digit, is_nondigit, is_part, in_literal, begins_with}
+use Rattle.c_model.specs.Places.{first_place, next}
+use Rattle.c_model.specs.Names.{with_name, name_number}
+use Rattle.first_form.specs.declared.first_tokens.Lexeme.{Lexeme}
+use Rattle.first_form.specs.declared.first_tokens.Lexeme.TheVariants.{Int, Void, If, Else, While, Return, Putchar, Assert, LeftParen, RightParen, LeftBrace, RightBrace, Semicolon, Assign, Plus, Minus, Equal, NotEqual, Less, LessEqual, Greater, GreaterEqual, AnnotOpen, AnnotClose}
+use Rattle.first_form.specs.declared.first_tokens.TokenKind.{TokenKind}
+use Rattle.first_form.specs.declared.first_tokens.TokenKind.TheVariants.{Fixed, Name, Number, Letter}
+use Rattle.first_form.specs.declared.first_tokens.Token.{Token}
+use Rattle.first_form.specs.declared.first_tokens.Mode.{Mode}
+use Rattle.first_form.specs.declared.first_tokens.Mode.TheVariants.{Code, Opened, Annotation}
+use Rattle.first_form.specs.declared.first_tokens.Piece.{Piece}
+use Rattle.first_form.specs.declared.first_tokens.Piece.TheVariants as piece
+use Rattle.first_form.specs.declared.first_tokens.Found.{Found}
 
--- ---- classes of bytes
-
--- blanks: space, horizontal and vertical tab, line feed, form feed, carriage return
-abbrev pub is_blank : ℕ → Bool
-is_blank b = nat_eq b 32 || (nat_le 9 b && nat_le b 13)
-
--- a digit (C99 6.4.2.1)
-abbrev pub is_digit : ℕ → Bool
-is_digit b = nat_le 48 b && nat_le b 57
-
--- a letter or `_` (C99 6.4.2.1)
-abbrev pub is_nondigit : ℕ → Bool
-is_nondigit b = (nat_le 65 b && nat_le b 90) || (nat_le 97 b && nat_le b 122) || nat_eq b 95
-
-abbrev pub is_part : ℕ → Bool
-is_part b = is_nondigit b || is_digit b
-
--- what no literal is directly followed by: a letter, a digit, `_` or `.`
-abbrev pub in_literal : ℕ → Bool
-in_literal b = is_part b || nat_eq b 46
+-- ---- pieces
 
 -- a byte that stands for itself in a character literal (this profile): a printable one but `'` and `\`
 abbrev pub is_plain : ℕ → Bool
 is_plain b = nat_le 32 b && nat_le b 126 && not (nat_eq b 39) && not (nat_eq b 92)
 
--- ---- pieces
-
 -- a piece, with so many bytes behind its first
 abbrev pub found : Piece → ℕ → Option Found
 found p n = Some (record { piece = p; more = n })
-
-abbrev pub begins_with : List ℕ → List ℕ → Bool
-begins_with text bs = starts_with nat_eq bs text
 
 -- the greatest value of `int` (C99 5.2.4.2.1, by the profile's width of 32 bits)
 abbrev pub int_max : ℕ
@@ -167,17 +146,6 @@ piece_at m (b ∷ bs) =
     else (if is_code m && begins_with (codes "//@") (b ∷ bs) then found (piece.Fixed AnnotOpen) 2
     else punctuator_of punctuators (b ∷ bs))))))
 
--- the place behind a byte
-abbrev pub next : Place → ℕ → Place
-next at b =
-    if nat_eq b 10
-    then record { line = at.line + 1; column = 1; offset = at.offset + 1 }
-    else record { line = at.line; column = at.column + 1; offset = at.offset + 1 }
-
-abbrev pub walk : Place → List ℕ → Place
-walk at [] = at
-walk at (b ∷ bs) = walk (next at b) bs
-
 abbrev pub behind_lexeme : Lexeme → Mode → Mode
 behind_lexeme AnnotOpen m = Opened
 behind_lexeme AnnotClose m = Code
@@ -217,13 +185,6 @@ pub record Tokens : Type 0 where
   pub names : List (List ℕ)
   pub list : List Token
 
--- a new name is the next one
-abbrev pub with_name : List (List ℕ) → List ℕ → List (List ℕ)
-with_name names w = if list_any (bytes_eq w) names then names else names ++ w ∷ []
-
-abbrev pub name_number : List (List ℕ) → List ℕ → ℕ
-name_number names w = position_or_len (bytes_eq w) names
-
 abbrev pub token : Place → TokenKind → Token
 token at k = record { place = at; kind = k }
 
@@ -255,9 +216,6 @@ unfoldable pub build : Tokens → Pieces → Option Tokens
 build r (Ended at m) = limited (closed r at m) (Some (closed r at m))
 build r Broken = None
 build r (Cut at p bytes more) = limited (add r at p bytes) (build (add r at p bytes) more)
-
-abbrev pub first_place : Place
-first_place = record { line = 1; column = 1; offset = 0 }
 
 -- before the first token: the name 0 is `main`
 abbrev pub nothing_read : Tokens

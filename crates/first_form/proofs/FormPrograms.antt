@@ -9,14 +9,15 @@ use Rattle.c_syntax.specs.declared.place.Place.{Place}
 use Rattle.c_syntax.specs.Expressions.{Expression}
 use Rattle.c_syntax.specs.Statements.{Declaration, BlockItem, Declare, Run, Asserts}
 use Rattle.c_syntax.specs.Programs.{TranslationUnit}
-use Rattle.c_model.specs.declared.first_tokens.Token.{Token}
-use Rattle.c_model.specs.declared.first_tokens.Lexeme.TheVariants as lexeme
-use Rattle.c_model.specs.FirstForm.{Scope, Declared, kind, lexeme_kind, block_items, named, new_name, most_variables, most_nested, int_declaration, declare, declaration, declarations, main_function, one_function, main_head, all_declared, main_end, form}
-use Rattle.c_model.specs.IntPrograms.{IsFullExpression, IsIntDeclaration, AreMainItems, depth_of_items, IsName, IsIntProgram}
-use Rattle.c_model.specs.Accepted.{Accepted}
-use Rattle.c_model.proofs.FormExpressions.{Each, each_token, each_fixed, full_expr_each}
-use Rattle.c_model.proofs.FormStatements.{IsItem, AreBehind, none_behind, all_behind, items_int, items_deep, items_each, statement_in_each}
-use Rattle.c_model.proofs.FormNames.{Named, lexed}
+use Rattle.first_form.specs.declared.first_tokens.Token.{Token}
+use Rattle.first_form.specs.declared.first_tokens.Lexeme.TheVariants as lexeme
+use Rattle.first_form.specs.FirstForm.{Scope, Declared, kind, lexeme_kind, block_items, named, new_name, most_variables, most_nested, int_declaration, declare, declaration, declarations, main_function, one_function, main_head, all_declared, main_end, form}
+use Rattle.c_model.specs.Formed.{depth_of_items, IsName}
+use Rattle.first_form.specs.IntPrograms.{IsFullExpression, IsIntDeclaration, AreMainItems, IsIntProgram}
+use Rattle.first_form.specs.Accepted.{Accepted}
+use Rattle.first_form.proofs.FormExpressions.{Each, each_token, each_fixed, full_expr_each}
+use Rattle.first_form.proofs.FormStatements.{IsItem, AreBehind, none_behind, all_behind, items_int, items_deep, items_each, statement_in_each}
+use Rattle.first_form.proofs.FormNames.{Named, lexed}
 
 -- ---- declarations
 

@@ -27,11 +27,11 @@ use Rattle.c_syntax.specs.Annotations.{LogicTerm, Predicate, Chain, Links, NoLin
 use Rattle.c_syntax.specs.Statements as statement
 use Rattle.c_syntax.specs.Statements.{Initialiser, One, Declaration, Statement, ElsePart, NoElse, BlockItem, BlockItems, NoItem, Then}
 use Rattle.c_syntax.specs.Programs.{Function, TranslationUnit}
-use Rattle.c_model.specs.declared.first_tokens.Lexeme.{Lexeme}
-use Rattle.c_model.specs.declared.first_tokens.Lexeme.TheVariants.{Int, Void, If, Else, While, Return, Putchar, Assert, LeftParen, RightParen, LeftBrace, RightBrace, Semicolon, Assign, Plus, Minus, Equal, NotEqual, Less, LessEqual, Greater, GreaterEqual, AnnotOpen, AnnotClose}
-use Rattle.c_model.specs.declared.first_tokens.TokenKind.{TokenKind}
-use Rattle.c_model.specs.declared.first_tokens.TokenKind.TheVariants.{Fixed, Name, Number, Letter}
-use Rattle.c_model.specs.declared.first_tokens.Token.{Token}
+use Rattle.first_form.specs.declared.first_tokens.Lexeme.{Lexeme}
+use Rattle.first_form.specs.declared.first_tokens.Lexeme.TheVariants.{Int, Void, If, Else, While, Return, Putchar, Assert, LeftParen, RightParen, LeftBrace, RightBrace, Semicolon, Assign, Plus, Minus, Equal, NotEqual, Less, LessEqual, Greater, GreaterEqual, AnnotOpen, AnnotClose}
+use Rattle.first_form.specs.declared.first_tokens.TokenKind.{TokenKind}
+use Rattle.first_form.specs.declared.first_tokens.TokenKind.TheVariants.{Fixed, Name, Number, Letter}
+use Rattle.first_form.specs.declared.first_tokens.Token.{Token}
 
 -- ---- tokens
 

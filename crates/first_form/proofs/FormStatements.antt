@@ -5,10 +5,11 @@ use Rattle.grammar.proofs.Readings.{each_none, each_gives, each_then, each_choic
 use Rattle.c_syntax.specs.declared.place.Place.{Place}
 use Rattle.c_syntax.specs.Expressions.{Expression}
 use Rattle.c_syntax.specs.Statements.{Statement, Block, If, NoElse, BlockItem}
-use Rattle.c_model.specs.declared.first_tokens.Lexeme.TheVariants as lexeme
-use Rattle.c_model.specs.FirstForm.{Scope, Numbered, kind, lexeme_kind, first_item, is_open, block_items, annotation, assignment, output, return_statement, condition, else_branch, else_part, selection, iteration, item, items_once, items, block, statement_of, statement_in}
-use Rattle.c_model.specs.IntPrograms.{IsFullExpression, IsIntStatement, IsIntItem, AreIntItems, depth, depth_of_item, depth_of_items}
-use Rattle.c_model.proofs.FormExpressions.{Each, each_fixed, each_variable, full_expr_each, full_clause_each}
+use Rattle.first_form.specs.declared.first_tokens.Lexeme.TheVariants as lexeme
+use Rattle.first_form.specs.FirstForm.{Scope, Numbered, kind, lexeme_kind, first_item, is_open, block_items, annotation, assignment, output, return_statement, condition, else_branch, else_part, selection, iteration, item, items_once, items, block, statement_of, statement_in}
+use Rattle.c_model.specs.Formed.{depth, depth_of_item, depth_of_items}
+use Rattle.first_form.specs.IntPrograms.{IsFullExpression, IsIntStatement, IsIntItem, AreIntItems}
+use Rattle.first_form.proofs.FormExpressions.{Each, each_fixed, each_variable, full_expr_each, full_clause_each}
 
 pub record IsWithin (n d : ℕ) (a : Statement) : Type 0 where
   pub is : IsIntStatement n a

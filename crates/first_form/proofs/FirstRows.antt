@@ -14,13 +14,13 @@ use Rattle.c_syntax.specs.Annotations as logic
 use Rattle.c_syntax.specs.Annotations.{Truth, Chain, Linked, NoLink}
 use Rattle.c_syntax.specs.Statements.{One, Eval, Block, Return, Declare, Run, Asserts, NoItem, Then}
 use Rattle.c_syntax.specs.Programs.{TranslationUnit}
-use Rattle.c_model.specs.FirstTokens.{tokens_of, build, cut, add, piece_at, word_at, word_of, number_at, literal_of, digits_from, letter_at, keywords, reserved_words, reserved_prefixes}
-use Rattle.c_model.specs.FirstForm.{form, main_head, main_end, declarations, declaration, full_expr, expr, expr_of, sum, sum_more, sum_once, compared, comparison, primary, variable_used, integer_literal, character_literal, parenthesised, items, items_once, item, selection, iteration, condition, else_part, else_branch, annotation, full_clause, assert_clause, term, term_of, term_more, term_once, term_primary, term_variable, term_integer, term_character, statement_in, statement_of, output, return_statement, no_range}
+use Rattle.first_form.specs.FirstTokens.{tokens_of, build, cut, add, piece_at, word_at, word_of, number_at, literal_of, digits_from, letter_at, keywords, reserved_words, reserved_prefixes}
+use Rattle.first_form.specs.FirstForm.{form, main_head, main_end, declarations, declaration, full_expr, expr, expr_of, sum, sum_more, sum_once, compared, comparison, primary, variable_used, integer_literal, character_literal, parenthesised, items, items_once, item, selection, iteration, condition, else_part, else_branch, annotation, full_clause, assert_clause, term, term_of, term_more, term_once, term_primary, term_variable, term_integer, term_character, statement_in, statement_of, output, return_statement, no_range}
 use Rattle.c_syntax.specs.Statements.{While, If, Else, NoElse}
-use Rattle.c_model.specs.Accepted.{IsRefusal, no_main}
-use Rattle.c_model.specs.declared.first_tokens.TokenKind.TheVariants.{Fixed, Name, Number}
-use Rattle.c_model.specs.declared.first_tokens.Lexeme.TheVariants.{Semicolon, LessEqual, AnnotOpen, AnnotClose, Assert}
-use Rattle.c_model.specs.FirstTokens.{token}
+use Rattle.first_form.specs.Accepted.{IsRefusal, no_main}
+use Rattle.first_form.specs.declared.first_tokens.TokenKind.TheVariants.{Fixed, Name, Number}
+use Rattle.first_form.specs.declared.first_tokens.Lexeme.TheVariants.{Semicolon, LessEqual, AnnotOpen, AnnotClose, Assert}
+use Rattle.first_form.specs.FirstTokens.{token}
 
 abbrev at : ℕ → ℕ → ℕ → Place
 at line column offset = record { line = line; column = column; offset = offset }

@@ -11,13 +11,13 @@ use Rattle.c_syntax.specs.declared.expression.BinOp.{BinOp}
 use Rattle.c_syntax.specs.declared.expression.BinOp.TheVariants.{Add, Sub, Eq, Ne, Lt, Le, Gt, Ge}
 use Rattle.c_syntax.specs.Expressions.{Expression}
 use Rattle.c_syntax.specs.Annotations.{LogicTerm}
-use Rattle.c_model.specs.declared.first_tokens.Token.{Token}
-use Rattle.c_model.specs.declared.first_tokens.TokenKind.{TokenKind}
-use Rattle.c_model.specs.declared.first_tokens.TokenKind.TheVariants.{Fixed, Name, Number, Letter}
-use Rattle.c_model.specs.declared.first_tokens.Lexeme.TheVariants.{LeftParen, RightParen, Semicolon, Plus, Minus, Equal, NotEqual, Less, LessEqual, Greater, GreaterEqual, Assert}
-use Rattle.c_model.specs.declared.first_tokens.Lexeme.{Lexeme}
-use Rattle.c_model.specs.FirstForm.{Scope, kind, name_kind, number_kind, letter_kind, first_additive, first_relational, is_fixed, fixed, placed, number_of, letter_of, variable, variable_of, additive, relational, relation_of, binary, parenthesised, variable_used, integer_literal, character_literal, primary, sum_once, sum_more, sum, comparison, compared, expr_of, expr, full_expr, term_binary, term_variable, term_integer, term_character, term_primary, term_once, term_more, term_of, term, assertion, assert_clause, full_clause}
-use Rattle.c_model.specs.IntPrograms.{IsIntLiteral, IsLetter, IsVariable, IsPure, leaves_of, IsFullExpression, IsSum, IsIntOperator, IsIntTerm, leaves, IsShortTerm, IsIntAssert}
+use Rattle.first_form.specs.declared.first_tokens.Token.{Token}
+use Rattle.first_form.specs.declared.first_tokens.TokenKind.{TokenKind}
+use Rattle.first_form.specs.declared.first_tokens.TokenKind.TheVariants.{Fixed, Name, Number, Letter}
+use Rattle.first_form.specs.declared.first_tokens.Lexeme.TheVariants.{LeftParen, RightParen, Semicolon, Plus, Minus, Equal, NotEqual, Less, LessEqual, Greater, GreaterEqual, Assert}
+use Rattle.first_form.specs.declared.first_tokens.Lexeme.{Lexeme}
+use Rattle.first_form.specs.FirstForm.{Scope, kind, name_kind, number_kind, letter_kind, first_additive, first_relational, is_fixed, fixed, placed, number_of, letter_of, variable, variable_of, additive, relational, relation_of, binary, parenthesised, variable_used, integer_literal, character_literal, primary, sum_once, sum_more, sum, comparison, compared, expr_of, expr, full_expr, term_binary, term_variable, term_integer, term_character, term_primary, term_once, term_more, term_of, term, assertion, assert_clause, full_clause}
+use Rattle.first_form.specs.IntPrograms.{IsIntLiteral, IsLetter, IsVariable, IsPure, leaves_of, IsFullExpression, IsSum, IsIntOperator, IsIntTerm, leaves, IsShortTerm, IsIntAssert}
 
 -- ---- tokens
 

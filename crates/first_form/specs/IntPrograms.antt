@@ -1,6 +1,6 @@
 -- Programs whose `main` computes with variables of type `int` alone, each a block of its own whose number is its name.
 -- Their expressions, terms, statements and names are within this profile's limits.
-use Rattle.std.specs.Prelude.{◌≡◌, ℕ, ◌+◌, max, ◌<◌, ◌≤◌, ℤ, pos, ◌≤ℤ◌, true, List, [], ◌∷◌, length, Option, Some, None, codes, slice_get}
+use Rattle.std.specs.Prelude.{◌≡◌, ℕ, ◌+◌, ◌<◌, ◌≤◌, ℤ, pos, ◌≤ℤ◌, List, [], ◌∷◌, Option, Some, None, codes, slice_get}
 use Rattle.std.specs.List.{AllByRecursion}
 use Rattle.c_syntax.specs.declared.place.Place.{Place}
 use Rattle.c_syntax.specs.declared.expression.Use.{Use}
@@ -11,9 +11,9 @@ use Rattle.c_syntax.specs.Ctypes.{int_type}
 use Rattle.c_syntax.specs.Expressions.{Expression, Node, Number, Letter, Variable, Unary, Binary, Both, Either, Choice, Assign, Bump, Call, Cast, SizeOfType, SizeOfExpr, Expressions, NoExpression, Following}
 use Rattle.c_syntax.specs.Annotations.{LogicTerm, Predicate, Chain, Links, NoLink, Linked, ClauseBody, Truth, Annotation}
 use Rattle.c_syntax.specs.Annotations as logic
-use Rattle.c_syntax.specs.Statements.{Initialiser, One, Declaration, Statement, Empty, Eval, Block, If, While, Do, For, Break, Continue, Return, ElsePart, NoElse, Else, BlockItem, Declare, Run, Asserts, BlockItems, NoItem, Then}
+use Rattle.c_syntax.specs.Statements.{Initialiser, One, Declaration, Statement, Eval, Block, If, While, Return, ElsePart, NoElse, Else, BlockItem, Declare, Run, Asserts, BlockItems, NoItem, Then}
 use Rattle.c_syntax.specs.Programs.{Function, TranslationUnit}
-use Rattle.c_model.specs.FirstTokens.{is_part}
+use Rattle.c_model.specs.Formed.{IsName, depth}
 
 -- a value that a literal of type `int` may have (C99 6.4.4.1)
 pub record IsIntLiteral (z : ℤ) : Type 0 where
@@ -160,33 +160,6 @@ abbrev mutual
   IsIntItem n (Run a) = IsIntStatement n a
   IsIntItem n (Asserts annots) = AreIntAnnotations n annots
 
--- how deep statements stand in a statement, itself included: one that is directly inside another is one deeper
-abbrev mutual
-  pub depth : Statement → ℕ
-  depth (Empty at) = 1
-  depth (Eval at e) = 1
-  depth (Block at items) = 1 + depth_of_items items
-  depth (If at e a b) = 1 + max (depth a) (depth_of_else b)
-  depth (While at annots e a) = 1 + depth a
-  depth (Do at a e) = 1 + depth a
-  depth (For at annots first e behind a) = 1 + depth a
-  depth (Break at) = 1
-  depth (Continue at) = 1
-  depth (Return at e) = 1
-
-  pub depth_of_else : ElsePart → ℕ
-  depth_of_else NoElse = 0
-  depth_of_else (Else a) = depth a
-
-  pub depth_of_items : BlockItems → ℕ
-  depth_of_items NoItem = 0
-  depth_of_items (Then i rest) = max (depth_of_item i) (depth_of_items rest)
-
-  pub depth_of_item : BlockItem → ℕ
-  depth_of_item (Declare decls) = 0
-  depth_of_item (Run a) = depth a
-  depth_of_item (Asserts annots) = 0
-
 abbrev pub IsIntInit : ℕ → Option (Place × Initialiser) → Type 0
 IsIntInit n None = ⊥
 IsIntInit n (Some (at, One e)) = IsFullExpression n e
@@ -218,12 +191,6 @@ pub record IsIntMain (n : ℕ) (f : Function) : Type 0 where
   pub params : f.params ≡ []
   pub no_contract : f.contract ≡ None
   pub body : IsMainBody n f.body
-
--- a name: letters, digits and `_` (C99 6.4.2.1), at most 255 of them
-pub record IsName (w : List ℕ) : Type 0 where
-  pub parts : AllByRecursion (λ b. is_part b ≡ true) w
-  pub not_empty : 0 < length w
-  pub short : length w ≤ 255
 
 -- one function, `main`, with at most 1,000 variables, and nothing else at file scope
 pub record IsIntProgram (p : TranslationUnit) : Type 0 where

@@ -3,8 +3,10 @@ use Rattle.std.specs.Prelude.{◌≡◌, ◌⊎◌, ℕ, List, Some, true, codes
 use Rattle.std.specs.List.{AllByRecursion}
 use Rattle.grammar.specs.Exact.{Accepts}
 use Rattle.c_syntax.specs.Programs.{TranslationUnit, PlainRefusal}
-use Rattle.c_model.specs.FirstTokens.{Tokens, is_blank, first_place, tokens_of}
-use Rattle.c_model.specs.FirstForm.{form}
+use Rattle.c_model.specs.Characters.{is_blank}
+use Rattle.c_model.specs.Places.{first_place}
+use Rattle.first_form.specs.FirstTokens.{Tokens, tokens_of}
+use Rattle.first_form.specs.FirstForm.{form}
 
 -- The text has tokens, and they are a reading of the form, within its limits.
 pub record Accepted (text : List ℕ) (p : TranslationUnit) : Type 0 where

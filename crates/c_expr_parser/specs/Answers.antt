@@ -1,0 +1,64 @@
+-- What the answers on the tokens of a text mean.
+use Rattle.std.specs.Prelude.{◌≡◌, ◌≤◌, ◌<◌, ℕ, List, length, drop, Result, Ok, Err, Vec}
+use Rattle.std.specs.declared.alloc.Global.{Global}
+use Rattle.grammar.specs.Syntax.{Syntax, Fault, At, Over}
+use Rattle.grammar.specs.Exact.{Found, Unread, RefusedOver}
+use Rattle.c_syntax.specs.declared.place.Place.{Place}
+use Rattle.c_syntax.specs.Expressions.{Expression}
+use Rattle.c_syntax.specs.Tokens.{PlainToken, PlainTokens}
+use Rattle.c_syntax.specs.Programs.{PlainRefusal, plain_refusal}
+use Rattle.c_syntax.specs.declared.refusal.FrontFault.{FrontFault}
+use Rattle.c_syntax.specs.declared.refusal.FrontFault.TheVariants as front
+use Rattle.c_syntax.specs.declared.fault.ReadFault.{ReadFault}
+use Rattle.c_syntax.specs.declared.fault.ReadFault.TheVariants as fault
+use Rattle.c_model.specs.Phases.{vocabulary, syntax_refusal}
+use Rattle.c_model.specs.ExpressionGrammar.{full_expression}
+use Rattle.c_expr_parser.specs.Reading.{label}
+
+-- nothing is said where memory was wanting
+abbrev pub RefusesWith : PlainRefusal → FrontFault → Type 0
+RefusesWith r front.Memory = Unit {0}
+RefusesWith r (front.Refused x) = plain_refusal x ≡ r
+
+-- the refusal for a fault
+abbrev pub RefusesFault : PlainTokens → ReadFault → FrontFault → Type 0
+RefusesFault ts (fault.At n) e = RefusesWith (syntax_refusal ts (At n)) e
+RefusesFault ts (fault.Over limit n) e = RefusesWith (syntax_refusal ts (Over (label limit) n)) e
+RefusesFault ts fault.Memory e = e ≡ front.Memory
+
+-- the refusal with this code, place and word, where there is a word
+abbrev pub RefusesWord : {E : Type 0} → ℕ → Place → Result (Vec ℕ Global) E → FrontFault → Type 0
+RefusesWord code at (Ok word) e = RefusesWith (record { code = code; place = at; construct = word.items }) e
+RefusesWord code at (Err f) e = e ≡ front.Memory
+
+-- ---- the expression at a place of the tokens
+
+-- the tokens from the place on, read as an expression that stands in no other
+abbrev pub expression_at : PlainTokens → ℕ → Result (Expression × List PlainToken) Fault
+expression_at ts at = (full_expression (vocabulary ts)).parse (drop at ts.list)
+
+-- The tokens between the places are read as the expression: they are the longest run from there on that begins one, and no
+-- token passes a limit.
+pub record IsReadAt (ts : PlainTokens) (at : ℕ) (e : Expression) (behind : ℕ) : Type 0 where
+  pub forth : at < behind
+  pub within : behind ≤ length ts.list
+  pub parsed : expression_at ts at ≡ Ok (e, drop behind ts.list)
+  pub found : Found (full_expression (vocabulary ts)) (drop at ts.list) e (drop behind ts.list)
+
+-- why no expression is read: with the refused token those before it can't go on, and are none; or it passes the limit as the first
+abbrev pub NotRead : {A : Type 0} → Syntax PlainToken A → List PlainToken → Fault → Type 0
+NotRead G text (At n) = Unread G text n
+NotRead G text (Over i n) = RefusedOver G text i n
+
+-- No expression is read there: the tokens before the refused one begin one but are none, and with it they don't (E4), or it
+-- passes the limit as the first (E11).
+pub record IsRefusedAt (ts : PlainTokens) (at : ℕ) (r : PlainRefusal) : Type 0 where
+  pub fault : Fault
+  pub parsed : expression_at ts at ≡ Err fault
+  pub refused : NotRead (full_expression (vocabulary ts)) (drop at ts.list) fault
+  pub is : r ≡ syntax_refusal ts fault
+
+-- nothing is said where memory was wanting
+abbrev pub RefusesAt : PlainTokens → ℕ → FrontFault → Type 0
+RefusesAt ts at front.Memory = Unit {0}
+RefusesAt ts at (front.Refused r) = IsRefusedAt ts at (plain_refusal r)

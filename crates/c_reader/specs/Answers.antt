@@ -1,0 +1,41 @@
+-- What the answers on a C text mean.
+use Rattle.std.specs.Prelude.{◌≡◌, ℕ, List, Some, None}
+use Rattle.c_syntax.specs.declared.refusal.FrontFault.{FrontFault}
+use Rattle.c_syntax.specs.declared.refusal.FrontFault.TheVariants as front
+use Rattle.c_syntax.specs.Tokens.{PlainTokens}
+use Rattle.c_syntax.specs.Programs.{TranslationUnit, PlainRefusal, plain_refusal}
+use Rattle.c_model.specs.Checked.{Fault, Good, refusing}
+use Rattle.c_model.specs.ProgramTyping.{typed_unit, main_fault, no_main, noted_unit}
+use Rattle.c_model.specs.Phases.{checked_refusal, main_refusal, RefusedText}
+use Rattle.c_expr_parser.specs.Answers.{RefusesWith}
+use Rattle.c_typing.specs.declared.fault.TypeFault.{TypeFault}
+use Rattle.c_typing.specs.declared.fault.TypeFault.TheVariants.{Refused, NoMain, Memory}
+use Rattle.c_typing.specs.Answers.{plain_fault}
+
+-- a refusal is the text's; nothing is said where memory was wanting
+abbrev pub Refuses : FrontFault → List ℕ → Type 0
+Refuses front.Memory text = Unit {0}
+Refuses (front.Refused r) text = RefusedText text (plain_refusal r)
+
+-- what names and types, `main` and the names of annotations make of a tree
+pub record IsTypedAs (tree p : TranslationUnit) : Type 0 where
+  pub typed : TranslationUnit
+  pub is : typed_unit tree ≡ Good typed
+  pub main : main_fault typed.names typed.funcs ≡ None
+  pub noted : noted_unit typed ≡ Good p
+
+-- why they make nothing of it
+pub data IsCheckRefusal (ts : PlainTokens) (tree : TranslationUnit) (r : PlainRefusal) : Type 0 where
+  OfTypes : (f : Fault) → refusing (typed_unit tree) ≡ Some f → r ≡ checked_refusal ts f → IsCheckRefusal ts tree r
+  OfMain : (typed : TranslationUnit) (f : Fault) → typed_unit tree ≡ Good typed → main_fault typed.names typed.funcs ≡ Some f → r ≡ main_refusal f → IsCheckRefusal ts tree r
+  OfAnnotations : (typed : TranslationUnit) (f : Fault) → typed_unit tree ≡ Good typed → main_fault typed.names typed.funcs ≡ None → refusing (noted_unit typed) ≡ Some f → r ≡ checked_refusal ts f → IsCheckRefusal ts tree r
+
+abbrev pub HasFault : FrontFault → PlainTokens → TranslationUnit → Type 0
+HasFault front.Memory ts tree = Unit {0}
+HasFault (front.Refused r) ts tree = IsCheckRefusal ts tree (plain_refusal r)
+
+-- the refusal for a fault in names and types, or for want of `main`
+abbrev pub RefusesFault : PlainTokens → TypeFault → FrontFault → Type 0
+RefusesFault ts (Refused f) e = RefusesWith (checked_refusal ts (plain_fault f)) e
+RefusesFault ts (NoMain at) e = RefusesWith (main_refusal (no_main at)) e
+RefusesFault ts Memory e = e ≡ front.Memory

@@ -1,0 +1,5 @@
+pub mod FirstRows
+mod FormExpressions
+mod FormStatements
+mod FormNames
+pub mod FormPrograms
