@@ -5,7 +5,7 @@ use Rattle.c_syntax.specs.Programs.{PlainRefusal}
 <<<<<<< HEAD
 use Rattle.c_model.specs.Phases.{RefusedText}
 =======
-use Rattle.first_form.specs.Accepted.{IsRefusal}
+use Rattle.c_model.specs.Phases.{RefusedText}
 >>>>>>> wip
 use Rattle.c_model.specs.Meaning.{Ran}
 use Rattle.c_model.specs.Reports.{Report, report, line_of, refused_words, Extends}

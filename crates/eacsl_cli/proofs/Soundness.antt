@@ -12,14 +12,14 @@ use Rattle.c_model.specs.State.{Input, Final, Exits, Broken, Undefined, Fault, S
 use Rattle.c_model.specs.Meaning.{Ran, run}
 use Rattle.c_model.specs.Reports.{Report, report, agrees_at}
 use Rattle.c_reader.proofs.Programs.{accepted_is_program}
-use Rattle.c_reader.proofs.Texts.{one_program, accepted_apart, one_refusal}
+use Rattle.c_reader.proofs.Texts.{one_program, apart, one_refusal}
 =======
-use Rattle.first_form.specs.Accepted.{Accepted, IsRefusal}
+use Rattle.c_model.specs.Phases.{AcceptedText, RefusedText}
 use Rattle.c_model.specs.State.{Input, Final, Exits, Broken, Undefined, Fault, Spent, Full, ReadFault}
 use Rattle.c_model.specs.Meaning.{Ran, run}
 use Rattle.c_model.specs.Reports.{Report, report, agrees_at}
-use Rattle.first_form.proofs.FormPrograms.{accepted_is_int}
-use Rattle.first_parser.proofs.Acceptance.{one_program, accepted_apart, one_refusal}
+use Rattle.c_reader.proofs.Programs.{accepted_is_program}
+use Rattle.c_reader.proofs.Texts.{one_program, apart, one_refusal}
 >>>>>>> wip
 use Rattle.mon_syntax.specs.Trees.{MonitoredProgram}
 use Rattle.mon_syntax.specs.Memories.{flat_run}
@@ -106,22 +106,22 @@ settled o e (NoMemory sent line k s b t f l t' f') = inl s
 -- ---- of what is due for a text
 
 run_answer : {left : Option (List ℕ)} {text : List ℕ} {steps : ℕ} {a : Answer} (p : TranslationUnit) (input : Input) → AcceptedText text p → IsInput left input → RunDue left text steps a → AnswersSource p input steps a
-run_answer {text = text} p input x i (RunRefused r h e) = absurd (accepted_apart text p r x h)
+run_answer {text = text} p input x i (RunRefused r h e) = absurd (apart text p r x h)
 run_answer {text = text} {steps} {a} p input x i (Runs q m y t f) =
     let same : q ≡ p = one_program text q p y x in
     subst (λ u. AnswersSource u input steps a) same (source_answer q m t input steps a (f input i) text y)
 
 run_refusal : {left : Option (List ℕ)} {text : List ℕ} {steps : ℕ} {a : Answer} (r : PlainRefusal) → RefusedText text r → RunDue left text steps a → a ≡ refused_answer r
 run_refusal {text = text} r h (RunRefused s k e) = e ∙ ap refused_answer (one_refusal text s r k h)
-run_refusal {text = text} r h (Runs q m y t f) = absurd (accepted_apart text q r y h)
+run_refusal {text = text} r h (Runs q m y t f) = absurd (apart text q r y h)
 
 instrument_answer : {text : List ℕ} {a : Answer} (p : TranslationUnit) → AcceptedText text p → InstrumentDue text a → (m : MonitoredProgram) × Translates p m × (a ≡ written_answer m)
-instrument_answer {text} p x (InstrumentRefused r h e) = absurd (accepted_apart text p r x h)
+instrument_answer {text} p x (InstrumentRefused r h e) = absurd (apart text p r x h)
 instrument_answer {text} p x (Writes q m y t e) = (m, subst (λ u. Translates u m) (one_program text q p y x) t, e)
 
 instrument_refusal : {text : List ℕ} {a : Answer} (r : PlainRefusal) → RefusedText text r → InstrumentDue text a → a ≡ refused_answer r
 instrument_refusal {text} r h (InstrumentRefused s k e) = e ∙ ap refused_answer (one_refusal text s r k h)
-instrument_refusal {text} r h (Writes q m y t e) = absurd (accepted_apart text q r y h)
+instrument_refusal {text} r h (Writes q m y t e) = absurd (apart text q r y h)
 
 exec_answer : {left : Option (List ℕ)} {text : List ℕ} {steps : ℕ} {a : Answer} (m : MonitoredProgram) (input : Input) → Spells text m → IsInput left input → ExecDue left text steps a → AnswersRun (flat_run m input steps) a
 exec_answer {text = text} m input x i (ExecRefused r h e) = absurd (spelled_apart text m r x h)

@@ -8,7 +8,7 @@ use Rattle.c_model.specs.WordLaws.{file_named}
 <<<<<<< HEAD
 use Rattle.c_model.specs.Phases.{AcceptedText, RefusedText}
 =======
-use Rattle.first_form.specs.Accepted.{Accepted, IsRefusal}
+use Rattle.c_model.specs.Phases.{AcceptedText, RefusedText}
 >>>>>>> wip
 use Rattle.c_model.specs.State.{Input, EndOfInput}
 use Rattle.c_model.specs.Meaning.{Ran}
