@@ -2,11 +2,7 @@
 use Rattle.std.proofs.Common.{◌≡◌, ℕ, List, [], ◌++◌, Option, Some, None, refl, sym, ap, ◌∙◌, subst, append_assoc, inl, inr}
 use Rattle.std.proofs.lemmas.List.{append-nil}
 use Rattle.c_syntax.specs.Programs.{PlainRefusal}
-<<<<<<< HEAD
 use Rattle.c_model.specs.Phases.{RefusedText}
-=======
-use Rattle.c_model.specs.Phases.{RefusedText}
->>>>>>> wip
 use Rattle.c_model.specs.Meaning.{Ran}
 use Rattle.c_model.specs.Reports.{Report, report, line_of, refused_words, Extends}
 use Rattle.mon_syntax.specs.Trees.{MonitoredProgram}

@@ -6,21 +6,12 @@ use Rattle.c_model.specs.declared.job.Job.{Job}
 use Rattle.c_model.specs.declared.job.Job.TheVariants.{Run, Instrument, Exec}
 use Rattle.c_model.specs.Words.{job_of}
 use Rattle.c_model.specs.WordLaws.{file_named}
-<<<<<<< HEAD
 use Rattle.c_model.specs.Phases.{AcceptedText, RefusedText}
 use Rattle.c_model.specs.State.{Input, Final, Exits, Broken, Undefined, Fault, Spent, Full, ReadFault}
 use Rattle.c_model.specs.Meaning.{Ran, run}
 use Rattle.c_model.specs.Reports.{Report, report, agrees_at}
 use Rattle.c_reader.proofs.Programs.{accepted_is_program}
 use Rattle.c_reader.proofs.Texts.{one_program, apart, one_refusal}
-=======
-use Rattle.c_model.specs.Phases.{AcceptedText, RefusedText}
-use Rattle.c_model.specs.State.{Input, Final, Exits, Broken, Undefined, Fault, Spent, Full, ReadFault}
-use Rattle.c_model.specs.Meaning.{Ran, run}
-use Rattle.c_model.specs.Reports.{Report, report, agrees_at}
-use Rattle.c_reader.proofs.Programs.{accepted_is_program}
-use Rattle.c_reader.proofs.Texts.{one_program, apart, one_refusal}
->>>>>>> wip
 use Rattle.mon_syntax.specs.Trees.{MonitoredProgram}
 use Rattle.mon_syntax.specs.Memories.{flat_run}
 use Rattle.mon_syntax.specs.Translates.{Translates}

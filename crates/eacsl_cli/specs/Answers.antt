@@ -5,11 +5,7 @@ use Rattle.c_model.specs.declared.job.Job.{Job}
 use Rattle.c_model.specs.declared.job.Job.TheVariants.{Run, Instrument, Exec}
 use Rattle.c_model.specs.Words.{job_of}
 use Rattle.c_model.specs.WordLaws.{file_named}
-<<<<<<< HEAD
 use Rattle.c_model.specs.Phases.{AcceptedText, RefusedText}
-=======
-use Rattle.c_model.specs.Phases.{AcceptedText, RefusedText}
->>>>>>> wip
 use Rattle.c_model.specs.State.{Input, EndOfInput}
 use Rattle.c_model.specs.Meaning.{Ran}
 use Rattle.c_model.specs.Reports.{Report, report, line_of, refused_words, Extends}

@@ -96,18 +96,48 @@ fn filled(alloc: Global, byte: u8, length: usize) -> Result<Vec<u8>, AllocError>
 }
 
 #[test]
-fn texts_without_a_program_are_refused(rt: HostRuntime) -> Result<(), AllocError> {
+fn texts_are_refused_at_their_first_fault(rt: HostRuntime) -> Result<(), AllocError> {
     for (text, line) in [
         (
             b"".as_slice(),
             b"eacsl: refused E13 at 1:1: main\n".as_slice(),
         ),
         (b" \n\t ", b"eacsl: refused E13 at 1:1: main\n"),
+        (b"void main(void) { }", b"eacsl: refused E13 at 1:6: main\n"),
+        (
+            b"int main(void) { return 0; } $",
+            b"eacsl: refused E1 at 1:30: 24\n",
+        ),
+        (
+            b"int main(void) { return 0; } /* end",
+            b"eacsl: refused E2 at 1:30: comment\n",
+        ),
+        (b"float x;", b"eacsl: refused E3 at 1:1: float\n"),
+        (
+            b"int main(void) { int x = ; return 0; }",
+            b"eacsl: refused E4 at 1:26: ;\n",
+        ),
         (
             b"int main(void) { return 2; ",
-            b"eacsl: refused E4 at 1:1: form\n",
+            b"eacsl: refused E4 at 1:28: end of file\n",
         ),
-        (b"\x00\xff", b"eacsl: refused E4 at 1:1: form\n"),
+        (
+            b"int main(void) { return y; }",
+            b"eacsl: refused E5 at 1:25: y\n",
+        ),
+        (
+            b"int main(void) {\n  int x = 1;\n  //@ assert x == z;\n  return 0; }",
+            b"eacsl: refused E5 at 3:19: z\n",
+        ),
+        (
+            b"int main(void) { break; }",
+            b"eacsl: refused E6 at 1:18: break\n",
+        ),
+        (
+            b"int main(void) { int x = (void)1; return -x; }",
+            b"eacsl: refused E6 at 1:24: =\n",
+        ),
+        (b"\x00\xff", b"eacsl: refused E1 at 1:1: 00\n"),
     ] {
         gives(
             &rt,
@@ -120,6 +150,111 @@ fn texts_without_a_program_are_refused(rt: HostRuntime) -> Result<(), AllocError
                 line,
             },
         )?;
+    }
+    Ok(())
+}
+
+#[test]
+fn texts_past_a_limit_are_refused_at_it(rt: HostRuntime) -> Result<(), AllocError> {
+    let alloc = rt.alloc();
+    let mut deep = b"int main(void) ".to_vec(alloc)?;
+    deep.extend_from_slice(&filled(alloc, b'{', 201)?)?;
+    for (text, line) in [
+        (
+            filled(alloc, b';', 200_001)?,
+            b"eacsl: refused E11 at 1:200001: tokens\n".as_slice(),
+        ),
+        (
+            filled(alloc, b'(', 1_048_576)?,
+            b"eacsl: refused E11 at 1:200001: tokens\n",
+        ),
+        (deep, b"eacsl: refused E11 at 1:216: nesting\n"),
+    ] {
+        gives(
+            &rt,
+            "run a.c",
+            &text,
+            &NONE,
+            &Wanted {
+                status: 2,
+                output: b"",
+                line,
+            },
+        )?;
+    }
+    Ok(())
+}
+
+#[test]
+fn programs_of_all_forms_run(rt: HostRuntime) -> Result<(), AllocError> {
+    for (text, output, line) in [
+        (
+            b"int main(void) { unsigned char c = 200; c += 100; putchar(c + 21); return -7 / 2; }".as_slice(),
+            b"A".as_slice(),
+            b"eacsl: exit -3\n".as_slice(),
+        ),
+        (
+            b"int main(void) { if (-1 < 1u) putchar('n'); else putchar('y'); return sizeof(long) - 9 > 0; }",
+            b"y",
+            b"eacsl: exit 1\n",
+        ),
+        (
+            b"/* letters */\n#include <stdio.h>\nint main(void) { int i = 0, n = 5; for (i = 0; i < n; i++) { if (i == 1) continue; if (i == 4) break; putchar('a' + i); } return i; }",
+            b"acd",
+            b"eacsl: exit 4\n",
+        ),
+        (
+            b"int main(void) { int i = 3; do { putchar(i > 1 ? 'x' : 'y'); --i; } while (i && i != 7); return i || 0; }",
+            b"xxy",
+            b"eacsl: exit 0\n",
+        ),
+        (
+            b"int main(void) { int a = 7, b = 0; return b && a / b || !(a % 4 - 3) && ~a == -8; }",
+            b"",
+            b"eacsl: exit 1\n",
+        ),
+        (
+            b"int main(void) { unsigned long big = ULONG_MAX; short s = 1; s <<= 3; /*@ assert big + 1 > big; */ return (char)(big >> 57) ^ s; }",
+            b"",
+            b"eacsl: exit 119\n",
+        ),
+    ] {
+        gives(
+            &rt,
+            "run a.c",
+            text,
+            &NONE,
+            &Wanted {
+                status: 0,
+                output,
+                line,
+            },
+        )?;
+        let written = answer_of(&rt, "instrument a.c", text, &NONE)?;
+        gives(
+            &rt,
+            "exec a.c",
+            &written.output,
+            &NONE,
+            &Wanted {
+                status: 0,
+                output,
+                line,
+            },
+        )?;
+    }
+    Ok(())
+}
+
+#[test]
+fn output_in_front_of_an_undefined_operation_is_kept(rt: HostRuntime) -> Result<(), AllocError> {
+    for text in [
+        b"int main(void) { int x = 1; putchar('B'); return x << 31; }".as_slice(),
+        b"int main(void) { int x = 0; putchar('B'); return 1 / x; }",
+        b"int main(void) { long x = LONG_MIN; putchar('B'); x = -x; return 0; }",
+    ] {
+        let given = answer_of(&rt, "run a.c", text, &NONE)?;
+        assert_eq!(rt; given.output.as_slice().first().copied(), Some(b'B'));
     }
     Ok(())
 }
@@ -178,7 +313,7 @@ fn a_program_is_written_in_monitored_c(rt: HostRuntime) -> Result<(), AllocError
         &NONE,
         &Wanted {
             status: 0,
-            output: b"#include <e_acsl.h>\ni32 main(void) {\n  i32 v0_x;\n  v0_x = I32(2);\n  __e_acsl_assert(I32(1), ((((i64)v0_x) + I64(1)) == I64(3)), 1, 3, \"assert\");\n  putchar(I32(65));\n  return I32(0);\n}\n",
+            output: b"#include <e_acsl.h>\ni32 main(void) {\n  i32 v0_x;\n  v0_x = I32(2);\n  __e_acsl_assert(I32(1), ((((i128)v0_x) + I128(1)) == I128(3)), 1, 3, \"assert\");\n  putchar(I32(65));\n  return I32(0);\n}\n",
             line: b"",
         },
     )?;
