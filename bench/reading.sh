@@ -1,7 +1,7 @@
 #!/bin/bash
-# Prints the time of reading annotated texts of 10,000 to 200,000 tokens, in all and for each token, and that of reading
-# texts in monitored C of 0.5 to 4 MiB, in all and for each byte, with the peak memory. A text returns before its
-# statements, so that they are read and not run. It measures through ./eacsl.
+# Prints the time of reading annotated texts of 0.25 to 1 MiB, in all and for each token, and that of reading texts in
+# monitored C of 0.5 to 4 MiB, in all and for each byte, with the peak memory. A text returns before its statements, so
+# that they are read and translated, and not run. It measures through ./eacsl.
 set -euo pipefail
 
 top=$(cd -- "$(dirname -- "${BASH_SOURCE[0]}")/.." && pwd)
@@ -47,11 +47,18 @@ def table(command, least, unit, texts):
     print(f"the start of the program takes {start:.3f} s, which each figure a {unit} leaves out")
 
 
-def annotated(tokens):
-    """A text of so many tokens, a multiple of 4 and at least 24."""
-    head = "int main(void) {\n  int x = 0;\n  //@ assert x == 0;\n  return 0;\n  { }\n"
-    text = head + "  x = 1;\n" * ((tokens - 24) // 4) + "}\n"
-    return f"{tokens} tokens", tokens, text
+C_HEAD = "int main(void) {\n  unsigned int total = 0, count = 1;\n  /*@ assert total < count; */\n  return 0;\n"
+C_LINE = "  total = (unsigned char)(total * 3 + 0x1f) ^ count << 2; // the next one of them\n"
+HEAD_TOKENS = 27
+LINE_TOKENS = 17
+
+
+def annotated(size):
+    """A text of at most so many bytes, and nearly as many, with the number of its tokens."""
+    lines = min((size - len(C_HEAD) - 2) // len(C_LINE), (200_000 - HEAD_TOKENS) // LINE_TOKENS)
+    text = C_HEAD + C_LINE * lines + "}\n"
+    text += " " * (size - len(text))
+    return f"{size >> 10} KiB", HEAD_TOKENS + lines * LINE_TOKENS, text
 
 
 HEAD = "#include <e_acsl.h>\ni32 main(void) {\n  i32 x;\n  return I32(0);\n"
@@ -64,7 +71,7 @@ def monitored(size):
     return f"{size >> 10} KiB", len(text), text
 
 
-table("run", "int main(void) { return 0; }\n", "token", map(annotated, (10_000, 20_000, 50_000, 100_000, 200_000)))
+table("run", "int main(void) { return 0; }\n", "token", map(annotated, (1 << 18, 1 << 19, 1 << 20)))
 print()
 table("exec", HEAD + "}\n", "byte", map(monitored, (1 << 19, 1 << 20, 1 << 21, 1 << 22)))
 P
