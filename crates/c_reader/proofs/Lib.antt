@@ -4,3 +4,4 @@ pub mod FormedStatements
 pub mod FormedPrograms
 pub mod Lexed
 pub mod Texts
+mod WorkedTexts

@@ -10,7 +10,7 @@ use Rattle.c_model.specs.ProgramGrammar.{unit}
 use Rattle.c_model.specs.Phases.{vocabulary, IsRead, StopsWith, IsSyntaxFault, syntax_refusal, checked_refusal, main_refusal, AcceptedText, RefusedText, ByTokens, ByGrammar, ByNamesAndTypes, ForMain, ByAnnotations}
 use Rattle.c_expr_parser.proofs.ExactPrograms.{one_unit}
 
-abbrev Answer : Type 0
+abbrev pub Answer : Type 0
 Answer = Result TranslationUnit PlainRefusal
 
 -- ---- what names, types and `main` say of a tree
@@ -27,7 +27,7 @@ abbrev settled : PlainTokens → Checked TranslationUnit → Answer
 settled ts (Good p) = entered ts p (main_fault p.names p.funcs)
 settled ts (Bad f fs) = Err (checked_refusal ts (least f fs))
 
-abbrev of_tree : PlainTokens → TranslationUnit → Answer
+abbrev pub of_tree : PlainTokens → TranslationUnit → Answer
 of_tree ts p = settled ts (typed_unit p)
 
 settled_fault : (ts : PlainTokens) (c : Checked TranslationUnit) (f : Fault) → refusing c ≡ Some f → settled ts c ≡ Err (checked_refusal ts f)

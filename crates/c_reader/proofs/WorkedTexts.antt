@@ -1,0 +1,112 @@
+-- C texts with annotations, and what their runs print and how they end, or their refusals, by computation.
+use Rattle.std.proofs.Common.{◌≡◌, ℕ, pos, negsuc, List, [], ◌∷◌, length, map, Result, Ok, Err, codes, refl}
+use Rattle.std.specs.Fmt.{decimal}
+use Rattle.grammar.specs.Syntax as grammar
+use Rattle.c_syntax.specs.declared.place.Place.{Place}
+use Rattle.c_syntax.specs.declared.annotation.Kind.TheVariants as clause
+use Rattle.c_syntax.specs.declared.types.How.TheVariants as how
+use Rattle.c_syntax.specs.Tokens.{PlainToken, PlainTokens}
+use Rattle.c_syntax.specs.Programs.{TranslationUnit, PlainRefusal}
+use Rattle.c_model.specs.MonitoredTokens.{marks}
+use Rattle.c_model.specs.Literals.{digits_at, suffix_of, body_of, literal_of, escape_at, unit_at, letter_of}
+use Rattle.c_model.specs.Directives.{is_file, ends_marker, headers, include_fault, directive_fault}
+use Rattle.c_model.specs.Pieces.{outside_in_c, outside_in_annotations, backslash_names, is_outside, word_at, number_at, letter_at, string_at, annotation_marks, c_mark_at, mark_at, comment_at, open_block, open_line, other_at, directive_at, piece_at, cut}
+use Rattle.c_model.specs.CTokens.{add, build, tokens_of}
+use Rattle.c_model.specs.Vocabulary.{word_of}
+use Rattle.c_model.specs.Library.{library_constant, is_library_name}
+use Rattle.c_model.specs.ExpressionGrammar.{integer_word, integer_words, type_name, base, consts, type_words, closed, literal, cast_rest, sized_type, paren_rest, behind_paren, prefixed, sized, operand_but_name, operand_of, operand, joined_once, behind_operand, choice_rest, expression_rest, expression_of, expression, assigned, bumped, behind_unary, behind_primary, behind_form, effect_rest, bump_first, effect_but_name, effect, next_argument, arguments, call_rest, behind_name, effect_or_call, full_expression, full_effect, full_effect_or_call}
+use Rattle.c_model.specs.ProgramGrammar.{atom, sum_once, sum_of, sum, assert_clause, annotation, ended, condition, else_branch, else_part, selection, while_loop, do_loop, for_first, maybe_ended, for_behind, for_loop, jump, return_statement, item, items_once, items, block, empty_statement, effect_statement, statement_of, statement_in, declarator, next_declarator, declaration, declarations, storage_word, result_type, no_parameters, function_body, function, unit}
+use Rattle.c_model.specs.State.{EndOfInput, Final, Exits, Broken, Undefined}
+use Rattle.c_model.specs.Meaning.{run}
+use Rattle.c_model.specs.Phases.{vocabulary, syntax_refusal}
+use Rattle.c_reader.proofs.Texts.{Answer, of_tree}
+
+abbrev place : ℕ → ℕ → ℕ → Place
+place line column offset = record { line = line; column = column; offset = offset }
+
+-- the answer to tokens that are read to the end, or not
+abbrev read_as : PlainTokens → Result (TranslationUnit × List PlainToken) grammar.Fault → Answer
+read_as ts (Ok (p, [])) = of_tree ts p
+read_as ts (Ok (p, t ∷ rest)) = Err (syntax_refusal ts (grammar.At (length (t ∷ rest))))
+read_as ts (Err f) = Err (syntax_refusal ts f)
+
+abbrev answer : List ℕ → Answer
+answer text = elim (tokens_of text) [ Err r ↦ Err r | Ok ts ↦ read_as ts ((unit (vocabulary ts) ts.names).parse ts.list) ]
+
+abbrev Outcome : Type 0
+Outcome = Result (Final × List ℕ) PlainRefusal
+
+-- the end and the output of the run without input and with 100 steps
+abbrev ran : Answer → Outcome
+ran (Ok p) = let r = run p (record { bytes = []; tail = EndOfInput }) 100 in Ok (r.final, r.output)
+ran (Err r) = Err r
+
+abbrev outcome : List ℕ → Outcome
+outcome text = ran (answer text)
+
+abbrev refusal : ℕ → Place → List ℕ → Outcome
+refusal code at word = Err (record { code = code; place = at; construct = word })
+
+-- programs and their runs
+programs :
+    outcome (codes "int main(void) { unsigned char c = 200; c += 100; putchar(c + 21); return -7 / 2; }") ∷
+    outcome (codes "int main(void) { if (-1 < 1u) putchar('n'); else putchar('y'); return sizeof(long) - 9 > 0; }") ∷
+    outcome (codes "int main(void) { int x = 1; putchar('B'); return x << 31; }") ∷
+    outcome (codes "int main(void) { return 10 - 4 - 3 * 2 % 4 << 1; }") ∷
+    outcome (codes "int main(void) { int a = 0; if (1) if (a) a = 1; else a = 2; return a; }") ∷
+    outcome (codes "int main(void) { int i = 0; for (i = 1; i < 9; i *= 2) { if (i == 2) continue; putchar('0' + i); } return i; }") ∷
+    outcome (codes "int main(void) { long a = 1, b = (short)65537; do { ++a; if (a) break; } while (1); return a == 2 ? b : 0 / 0; }") ∷
+    outcome (codes "int main(void) { int x = 0; return x && 1 / x || !x & ~0 ^ 4; }") ∷
+    outcome (codes "int main(void) { int x = INT_MAX; /*@ assert x + 1 > x; */ x = x - CHAR_BIT; /*@ assert x == 3; */ return 0; }") ∷ []
+    ≡
+    Ok (Exits (negsuc 2), 65 ∷ []) ∷
+    Ok (Exits (pos 1), 121 ∷ []) ∷
+    Ok (Undefined (place 1 52 51), 66 ∷ []) ∷
+    Ok (Exits (pos 8), []) ∷
+    Ok (Exits (pos 2), []) ∷
+    Ok (Exits (pos 16), 49 ∷ 52 ∷ 56 ∷ []) ∷
+    Ok (Exits (pos 1), []) ∷
+    Ok (Exits (pos 1), []) ∷
+    Ok (Broken 2 1 clause.Assert how.False, []) ∷ []
+unfolding tokens_of build cut piece_at add marks digits_at suffix_of body_of literal_of escape_at unit_at letter_of is_file ends_marker headers include_fault directive_fault outside_in_c outside_in_annotations backslash_names is_outside word_at number_at letter_at string_at annotation_marks c_mark_at mark_at comment_at open_block open_line other_at directive_at integer_word integer_words type_name base consts type_words closed literal cast_rest sized_type paren_rest behind_paren prefixed sized operand_but_name operand_of operand joined_once behind_operand choice_rest expression_rest expression_of expression assigned bumped behind_unary behind_primary behind_form effect_rest bump_first effect_but_name effect next_argument arguments call_rest behind_name effect_or_call full_expression full_effect full_effect_or_call atom sum_once sum_of sum assert_clause annotation ended condition else_branch else_part selection while_loop do_loop for_first maybe_ended for_behind for_loop jump return_statement item items_once items block empty_statement effect_statement statement_of statement_in declarator next_declarator declaration declarations storage_word result_type no_parameters function_body function unit word_of library_constant is_library_name
+programs = refl
+
+-- texts that are refused
+refusals :
+    outcome (codes "") ∷
+    outcome (codes "void main(void) { }") ∷
+    outcome (codes "int main(void) { return 0; } $") ∷
+    outcome (codes "int main(void) { return 0; } /* end") ∷
+    outcome (codes "float x;") ∷
+    outcome (codes "int main(void) { int x = ; return 0; }") ∷
+    outcome (codes "int main(void) { return 0; } }") ∷
+    outcome (codes "int main(void) { if (1) else ; }") ∷
+    outcome (codes "int main(void) { return y; }") ∷
+    outcome (codes "int main(void) { int x = 1, x = 2; }") ∷
+    outcome (codes "int main(void) { int x = y + (void)1; }") ∷
+    outcome (codes "int main(void) { int x = 1; x = 1 + (void)x; return main; }") ∷
+    outcome (codes "int main(void) { 1 = 2; }") ∷
+    outcome (codes "int main(void) { return; }") ∷
+    outcome (codes "int main(void) { continue; }") ∷
+    outcome (codes "int main(void) { return 18446744073709551615; }") ∷
+    outcome (codes "int main(void) { //@ assert x == 0;\n }") ∷ []
+    ≡
+    refusal 13 (place 1 1 0) (codes "main") ∷
+    refusal 13 (place 1 6 5) (codes "main") ∷
+    refusal 1 (place 1 30 29) (codes "24") ∷
+    refusal 2 (place 1 30 29) (codes "comment") ∷
+    refusal 3 (place 1 1 0) (codes "float") ∷
+    refusal 4 (place 1 26 25) (codes ";") ∷
+    refusal 4 (place 1 30 29) (codes "}") ∷
+    refusal 4 (place 1 25 24) (codes "else") ∷
+    refusal 5 (place 1 25 24) (codes "y") ∷
+    refusal 5 (place 1 29 28) (codes "x") ∷
+    refusal 5 (place 1 26 25) (codes "y") ∷
+    refusal 6 (place 1 35 34) (codes "+") ∷
+    refusal 6 (place 1 20 19) (codes "=") ∷
+    refusal 6 (place 1 18 17) (codes "return") ∷
+    refusal 6 (place 1 18 17) (codes "continue") ∷
+    refusal 6 (place 1 25 24) (decimal 18446744073709551615) ∷
+    refusal 5 (place 1 29 28) (codes "x") ∷ []
+unfolding tokens_of build cut piece_at add marks digits_at suffix_of body_of literal_of escape_at unit_at letter_of is_file ends_marker headers include_fault directive_fault outside_in_c outside_in_annotations backslash_names is_outside word_at number_at letter_at string_at annotation_marks c_mark_at mark_at comment_at open_block open_line other_at directive_at integer_word integer_words type_name base consts type_words closed literal cast_rest sized_type paren_rest behind_paren prefixed sized operand_but_name operand_of operand joined_once behind_operand choice_rest expression_rest expression_of expression assigned bumped behind_unary behind_primary behind_form effect_rest bump_first effect_but_name effect next_argument arguments call_rest behind_name effect_or_call full_expression full_effect full_effect_or_call atom sum_once sum_of sum assert_clause annotation ended condition else_branch else_part selection while_loop do_loop for_first maybe_ended for_behind for_loop jump return_statement item items_once items block empty_statement effect_statement statement_of statement_in declarator next_declarator declaration declarations storage_word result_type no_parameters function_body function unit word_of library_constant is_library_name
+refusals = refl
