@@ -20,8 +20,8 @@ use Rattle.c_model.specs.ProgramGrammar.{first_statement, first_item, first_func
 use Rattle.c_expr_parser.proofs.ExactTokens.{IsRead, fixed_good, name_good}
 use Rattle.c_expr_parser.proofs.ExactTypes.{enlarged, apart_none, type_good, base_good, consts_good, more_type}
 use Rattle.c_expr_parser.proofs.ExactExpressions.{more_expression, closed_good, full_expression_good}
-use Rattle.c_expr_parser.proofs.ExactStatements.{ReadsStatements, more_statement, ended_good, statement_of_good, items_good}
-use Rattle.c_expr_parser.proofs.Openings.{opens}
+use Rattle.c_parser.proofs.ExactStatements.{ReadsStatements, more_statement, ended_good, statement_of_good, items_good}
+use Rattle.c_parser.proofs.Openings.{opens}
 
 -- what may stand in front of a type at file scope
 abbrev storage : List ℕ

@@ -86,10 +86,10 @@ module _ (ws : Vocabulary) where
   unfolding sum
   sum_is ts = knot_is false first_sum (λ _. kinds_of (sum_operators ws)) (λ E u. sum_of ws (E u)) sum_step tt ts
 
-  sum_good : {n : ℕ} → AreRead ws n (sum ws) (sum ws) false first_sum (kinds_of (sum_operators ws))
+  pub sum_good : {n : ℕ} → AreRead ws n (sum ws) (sum ws) false first_sum (kinds_of (sum_operators ws))
   sum_good = same sum_exact
 
-  clause_good : (n : ℕ) → IsRead ws (assert_clause ws n) false (name_kind ∷ []) []
+  pub clause_good : (n : ℕ) → IsRead ws (assert_clause ws n) false (name_kind ∷ []) []
   unfolding assert_clause
   clause_good n =
       declared (seq assert_good (λ a. seq sum_good (λ x. seq (marks_good ws (relations ws)) (λ r. seq sum_good (λ y. seq (fixed_good ws (mark_kind semicolon)) (λ _. given _) refl) refl) refl) refl) refl) refl

@@ -1,0 +1,5 @@
+pub mod ExactStatements
+pub mod Openings
+pub mod ExactPrograms
+pub mod Steps
+pub mod Clauses
