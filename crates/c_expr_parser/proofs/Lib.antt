@@ -6,3 +6,4 @@ pub mod Steps
 pub mod Levels
 pub mod Calls
 pub mod Windows
+pub mod Refusals

@@ -7,6 +7,10 @@ mod effect;
 mod expression;
 pub mod full;
 pub mod kinds;
+pub mod refusal;
 mod tables;
 pub mod terminals;
 pub mod types;
+pub mod vocabulary;
+
+pub use refusal::{refuse, refused, refused_word};

@@ -1,0 +1,128 @@
+//! What the names of a text are (C99 6.4.1, 7.17).
+
+ghost use Rattle.std.specs.Prelude.{◌≡◌, map, IfOk};
+ghost use Rattle.c_model.specs.Vocabulary.{keywords, kept_keywords, other_words, found_in, name_or_logic, word_of};
+ghost use Rattle.c_expr_parser.specs.Words.{plain_words};
+
+use c_model::vocabulary::{Keyword, Word};
+use c_syntax::{CInt, Name};
+use std::alloc::{AllocError, Global};
+
+/// The word of these bytes, and another where the table has none.
+fn found_in(table: &[(&[u8], Word)], bytes: &[u8], other: Word) -> Word
+    ensures { result ≡ found_in (plain_words table.now) bytes.now other }
+{
+    let mut rest = table;
+    'turn: while let [entry, after @ ..] = rest {
+        if entry.0 == bytes {
+            return entry.1;
+        }
+        rest = after;
+    }
+    other
+}
+
+fn keyword(bytes: &[u8], other: Word) -> Word
+    ensures { result ≡ found_in keywords bytes.now other }
+{
+    found_in(
+        &[
+            (b"char", Word::Keyword(Keyword::Char)),
+            (b"short", Word::Keyword(Keyword::Short)),
+            (b"int", Word::Keyword(Keyword::Int)),
+            (b"long", Word::Keyword(Keyword::Long)),
+            (b"signed", Word::Keyword(Keyword::Signed)),
+            (b"unsigned", Word::Keyword(Keyword::Unsigned)),
+            (b"void", Word::Keyword(Keyword::Void)),
+            (b"const", Word::Keyword(Keyword::Const)),
+            (b"static", Word::Keyword(Keyword::Static)),
+            (b"if", Word::Keyword(Keyword::If)),
+            (b"else", Word::Keyword(Keyword::Else)),
+            (b"while", Word::Keyword(Keyword::While)),
+            (b"do", Word::Keyword(Keyword::Do)),
+            (b"for", Word::Keyword(Keyword::For)),
+            (b"break", Word::Keyword(Keyword::Break)),
+            (b"continue", Word::Keyword(Keyword::Continue)),
+            (b"return", Word::Keyword(Keyword::Return)),
+            (b"sizeof", Word::Keyword(Keyword::Sizeof)),
+        ],
+        bytes,
+        other,
+    )
+}
+
+fn kept_keyword(bytes: &[u8], other: Word) -> Word
+    ensures { result ≡ found_in kept_keywords bytes.now other }
+{
+    found_in(
+        &[
+            (b"switch", Word::Keyword(Keyword::Kept)),
+            (b"case", Word::Keyword(Keyword::Kept)),
+            (b"default", Word::Keyword(Keyword::Kept)),
+            (b"enum", Word::Keyword(Keyword::Kept)),
+            (b"struct", Word::Keyword(Keyword::Kept)),
+            (b"typedef", Word::Keyword(Keyword::Kept)),
+            (b"auto", Word::Keyword(Keyword::Kept)),
+            (b"register", Word::Keyword(Keyword::Kept)),
+            (b"extern", Word::Keyword(Keyword::Kept)),
+            (b"inline", Word::Keyword(Keyword::Kept)),
+            (b"restrict", Word::Keyword(Keyword::Kept)),
+            (b"volatile", Word::Keyword(Keyword::Kept)),
+            (b"goto", Word::Keyword(Keyword::Kept)),
+            (b"union", Word::Keyword(Keyword::Kept)),
+            (b"float", Word::Keyword(Keyword::Kept)),
+            (b"double", Word::Keyword(Keyword::Kept)),
+            (b"_Bool", Word::Keyword(Keyword::Kept)),
+            (b"_Complex", Word::Keyword(Keyword::Kept)),
+            (b"_Imaginary", Word::Keyword(Keyword::Kept)),
+        ],
+        bytes,
+        other,
+    )
+}
+
+fn other_word(bytes: &[u8], other: Word) -> Word
+    ensures { result ≡ found_in other_words bytes.now other }
+{
+    found_in(
+        &[
+            (b"size_t", Word::TypeName(CInt::U64)),
+            (b"ptrdiff_t", Word::TypeName(CInt::I64)),
+            (b"assert", Word::Assert),
+            (b"integer", Word::Integer),
+        ],
+        bytes,
+        other,
+    )
+}
+
+/// A word of annotations alone, which begins with `\`, or a name.
+fn name_or_logic(bytes: &[u8]) -> Word
+    ensures { result ≡ name_or_logic bytes.now }
+{
+    match bytes {
+        [92, ..] => Word::Logic,
+        _ => Word::Name,
+    }
+}
+
+#[tactic(auto, unfolding(c_model::specs::Vocabulary::word_of))]
+fn word_of(bytes: &[u8]) -> Word
+    ensures { result ≡ word_of bytes.now }
+{
+    let other = name_or_logic(bytes);
+    let other = other_word(bytes, other);
+    let other = kept_keyword(bytes, other);
+    keyword(bytes, other)
+}
+
+/// What names are, by their numbers.
+pub fn vocabulary(alloc: Global, names: &[Name]) -> Result<Vec<Word>, AllocError>
+    ensures { IfOk result (λ words. words.items ≡ map word_of names.now) }
+{
+    let mut words = Vec::new(alloc);
+    for name in names {
+        words.push(word_of(name.bytes()))?;
+    }
+    Ok(words)
+}
