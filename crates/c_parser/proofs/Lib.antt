@@ -1,5 +1,6 @@
 pub mod ExactStatements
 pub mod Openings
 pub mod ExactPrograms
+pub mod Rows
 pub mod Steps
 pub mod Clauses

@@ -4,7 +4,8 @@ use Rattle.grammar.specs.Syntax.{Syntax, many, at_most}
 use Rattle.c_syntax.specs.Ctypes.{PlainType}
 use Rattle.c_syntax.specs.Tokens.{PlainToken}
 use Rattle.c_syntax.specs.Annotations.{LogicTerm, Annotation}
-use Rattle.c_syntax.specs.Statements.{Declaration}
+use Rattle.c_syntax.specs.declared.statement.Item.{Item}
+use Rattle.c_syntax.specs.Statements.{Declaration, ForFirst, NoFirst, First, plain_item}
 use Rattle.c_model.specs.Vocabulary.{Vocabulary}
 use Rattle.c_model.specs.Punctuators.{comma}
 use Rattle.c_model.specs.ExpressionGrammar.{kind, mark_kind, kinds_of, first_type, expression_limit, most_in_expression}
@@ -28,3 +29,8 @@ module _ (ws : Vocabulary) where
 
   unfoldable pub more_storage : Bool → Syntax PlainToken Bool
   more_storage seen = many (kind ws) (storage_words ws) (storage_word ws) seen
+
+-- what stands first in the parentheses of a `for`
+abbrev pub plain_first : Option Item → ForFirst
+plain_first None = NoFirst
+plain_first (Some i) = First (plain_item i)

@@ -5,4 +5,6 @@
 
 mod annotation;
 mod kinds;
+mod loops;
+mod statement;
 mod terminals;
