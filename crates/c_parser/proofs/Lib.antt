@@ -4,3 +4,4 @@ pub mod ExactPrograms
 pub mod Rows
 pub mod Steps
 pub mod Clauses
+pub mod Answers

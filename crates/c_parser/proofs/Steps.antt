@@ -1,5 +1,5 @@
 -- What a production gives, step by step.
-use Rattle.std.proofs.Common.{◌≡◌, ℕ, zero, suc, ◌-◌, ◌<◌, true, false, List, [], ◌∷◌, ◌++◌, length, length-append, Ok, Err, refl, ap, subst, ◌∙◌, arith}
+use Rattle.std.proofs.Common.{◌≡◌, ℕ, zero, suc, ◌-◌, ◌<◌, Bool, true, false, List, [], ◌∷◌, ◌++◌, length, length-append, Ok, Err, refl, ap, subst, ◌∙◌, arith}
 use Rattle.std.proofs.lemmas.List.{length-map}
 use Rattle.grammar.specs.Syntax.{Syntax, Fault, At, Over, sees}
 use Rattle.grammar.proofs.Productions.{one_lower, turn, turn_fails, turn_ends, turn_to}
@@ -7,17 +7,19 @@ use Rattle.grammar.proofs.Bounds.{many_is}
 use Rattle.c_syntax.specs.declared.token.Token.{Token}
 use Rattle.c_syntax.specs.Tokens.{PlainToken, plain_token}
 use Rattle.c_syntax.specs.Annotations.{LogicTerm}
-use Rattle.c_syntax.specs.Statements.{BlockItem}
+use Rattle.c_syntax.specs.Ctypes.{PlainType}
+use Rattle.c_syntax.specs.Statements.{BlockItem, Declaration}
 use Rattle.c_model.specs.Vocabulary.{Vocabulary}
-use Rattle.c_model.specs.ExpressionGrammar.{kind, kinds_of, nesting_limit}
-use Rattle.c_model.specs.ProgramGrammar.{first_statement, first_item, sum_operators, sum_once, sum, items_once, items, statement_of, statement_in}
+use Rattle.c_model.specs.Punctuators.{comma}
+use Rattle.c_model.specs.ExpressionGrammar.{kind, mark_kind, kinds_of, first_type, nesting_limit}
+use Rattle.c_model.specs.ProgramGrammar.{first_statement, first_item, sum_operators, sum_once, sum, items_once, items, statement_of, statement_in, ReadDeclarations, next_declarator, declaration, storage_words, storage_word}
 use Rattle.c_syntax.specs.declared.fault.ReadFault.{ReadFault}
 use Rattle.c_expr_parser.specs.Reading.{plain_list, Fails}
 use Rattle.c_expr_parser.proofs.Steps.{again}
 use Rattle.c_expr_parser.proofs.ExactTokens.{IsRead}
-use Rattle.c_parser.specs.Reading.{more_terms}
+use Rattle.c_parser.specs.Reading.{more_terms, more_declarators, more_declarations, more_storage}
 use Rattle.c_parser.proofs.ExactStatements.{sum_good, sum_once_good, items_once_good}
-use Rattle.c_parser.proofs.ExactPrograms.{statement_good}
+use Rattle.c_parser.proofs.ExactPrograms.{statement_good, next_declarator_good, declaration_good, storage_word_good, storage_fit}
 
 -- ---- what is read is shorter
 
@@ -68,6 +70,49 @@ module _ (ws : Vocabulary) where
   pub terms_ends : (x : LogicTerm) (ts : List PlainToken) → sees (kind ws) (kinds_of (sum_operators ws)) ts ≡ false → (more_terms ws x).parse ts ≡ Ok (x, ts)
   unfolding more_terms
   terms_ends x ts s = turn_ends (kinds_of (sum_operators ws)) (sum_once ws (sum ws)) (λ z. (once_good z).here) refl x ts s
+
+  pub storage_turn : (x y : Bool) (ts rest : List PlainToken) → sees (kind ws) (storage_words ws x) ts ≡ true → (storage_word ws x).parse ts ≡ Ok (y, rest) → (more_storage ws x).parse ts ≡ (more_storage ws y).parse rest
+  unfolding more_storage
+  storage_turn x y ts rest s e = turn_to (storage_words ws) (storage_word ws) (λ z. (storage_word_good ws z).here) (storage_fit ws) x y ts rest s e
+
+  pub storage_fails : (x : Bool) (ts : List PlainToken) (e : ReadFault) → sees (kind ws) (storage_words ws x) ts ≡ true → Fails e ((storage_word ws x).parse ts) → Fails e ((more_storage ws x).parse ts)
+  unfolding more_storage
+  storage_fails x ts e s = again e (λ d h. many_is (kind ws) (storage_words ws) (storage_words ws) (λ _ _. []) (storage_words ws) (storage_fit ws) (storage_word ws) (λ z. (storage_word_good ws z).here) x ts ∙ rw (s, h) refl)
+
+  pub storage_ends : (x : Bool) (ts : List PlainToken) → sees (kind ws) (storage_words ws x) ts ≡ false → (more_storage ws x).parse ts ≡ Ok (x, ts)
+  unfolding more_storage
+  storage_ends x ts s = many_is (kind ws) (storage_words ws) (storage_words ws) (λ _ _. []) (storage_words ws) (storage_fit ws) (storage_word ws) (λ z. (storage_word_good ws z).here) x ts ∙ rw s refl
+
+  module _ (t : PlainType) (n : ℕ) where
+    pub declarators_turn : (x y : List Declaration) (ts rest : List PlainToken) → sees (kind ws) (mark_kind comma ∷ []) ts ≡ true → (next_declarator ws t n x).parse ts ≡ Ok (y, rest) → (more_declarators ws t n x).parse ts ≡ (more_declarators ws t n y).parse rest
+    unfolding more_declarators
+    declarators_turn x y ts rest s e = turn (mark_kind comma ∷ []) (next_declarator ws t n) (λ z. (next_declarator_good ws t n z).here) refl x y ts rest s e
+
+    pub declarators_fails : (x : List Declaration) (ts : List PlainToken) (e : ReadFault) → sees (kind ws) (mark_kind comma ∷ []) ts ≡ true → Fails e ((next_declarator ws t n x).parse ts) → Fails e ((more_declarators ws t n x).parse ts)
+    unfolding more_declarators
+    declarators_fails x ts e s = again e (λ f. turn_fails (mark_kind comma ∷ []) (next_declarator ws t n) (λ z. (next_declarator_good ws t n z).here) refl x ts f s)
+
+    pub declarators_ends : (x : List Declaration) (ts : List PlainToken) → sees (kind ws) (mark_kind comma ∷ []) ts ≡ false → (more_declarators ws t n x).parse ts ≡ Ok (x, ts)
+    unfolding more_declarators
+    declarators_ends x ts s = turn_ends (mark_kind comma ∷ []) (next_declarator ws t n) (λ z. (next_declarator_good ws t n z).here) refl x ts s
+
+    pub declarators_shorter : (x y : List Declaration) (ts rest : List Token) → (next_declarator ws t n x).parse (plain_list ts) ≡ Ok (y, plain_list rest) → length rest < length ts
+    declarators_shorter x y ts rest e = shorter ws (next_declarator ws t n x) (next_declarator_good ws t n x) ts rest y e
+
+  pub declarations_turn : (x y : ReadDeclarations) (ts rest : List PlainToken) → sees (kind ws) first_type ts ≡ true → (declaration ws x).parse ts ≡ Ok (y, rest) → (more_declarations ws x).parse ts ≡ (more_declarations ws y).parse rest
+  unfolding more_declarations
+  declarations_turn x y ts rest s e = turn first_type (declaration ws) (λ z. (declaration_good ws z).here) refl x y ts rest s e
+
+  pub declarations_fails : (x : ReadDeclarations) (ts : List PlainToken) (e : ReadFault) → sees (kind ws) first_type ts ≡ true → Fails e ((declaration ws x).parse ts) → Fails e ((more_declarations ws x).parse ts)
+  unfolding more_declarations
+  declarations_fails x ts e s = again e (λ f. turn_fails first_type (declaration ws) (λ z. (declaration_good ws z).here) refl x ts f s)
+
+  pub declarations_ends : (x : ReadDeclarations) (ts : List PlainToken) → sees (kind ws) first_type ts ≡ false → (more_declarations ws x).parse ts ≡ Ok (x, ts)
+  unfolding more_declarations
+  declarations_ends x ts s = turn_ends first_type (declaration ws) (λ z. (declaration_good ws z).here) refl x ts s
+
+  pub declarations_shorter : (x y : ReadDeclarations) (ts rest : List Token) → (declaration ws x).parse (plain_list ts) ≡ Ok (y, plain_list rest) → length rest < length ts
+  declarations_shorter x y ts rest e = shorter ws (declaration ws x) (declaration_good ws x) ts rest y e
 
   module _ (d : ℕ) where
     pub items_turn : (x y : List BlockItem × ℕ) (ts rest : List PlainToken) → sees (kind ws) first_item ts ≡ true → (items_once ws (statement_in ws d) x).parse ts ≡ Ok (y, rest) → (items ws (statement_in ws d) x).parse ts ≡ (items ws (statement_in ws d) y).parse rest

@@ -7,6 +7,7 @@ use Rattle.c_syntax.specs.Annotations.{LogicTerm, Annotation}
 use Rattle.c_syntax.specs.declared.statement.Item.{Item}
 use Rattle.c_syntax.specs.Statements.{Declaration, ForFirst, NoFirst, First, plain_item}
 use Rattle.c_model.specs.Vocabulary.{Vocabulary}
+use Rattle.c_parser.specs.declared.declaration.DeclarationsRead as code
 use Rattle.c_model.specs.Punctuators.{comma}
 use Rattle.c_model.specs.ExpressionGrammar.{kind, mark_kind, kinds_of, first_type, expression_limit, most_in_expression}
 use Rattle.c_model.specs.ProgramGrammar.{ReadDeclarations, sum_operators, sum_once, sum, assert_clause, storage_words, storage_word, next_declarator, declaration}
@@ -34,3 +35,6 @@ module _ (ws : Vocabulary) where
 abbrev pub plain_first : Option Item → ForFirst
 plain_first None = NoFirst
 plain_first (Some i) = First (plain_item i)
+
+abbrev pub plain_declarations : code.DeclarationsRead → ReadDeclarations
+plain_declarations d = record { declarators = d.declarators; items = map plain_item d.items.items }

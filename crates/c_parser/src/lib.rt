@@ -4,7 +4,12 @@
 #![tactic(auto)]
 
 mod annotation;
+mod declaration;
 mod kinds;
 mod loops;
+mod program;
+mod read;
 mod statement;
 mod terminals;
+
+pub use read::{one_reading, read_program};
