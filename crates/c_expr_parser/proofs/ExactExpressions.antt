@@ -1,7 +1,7 @@
 -- Expressions are read exactly.
 use Rattle.std.proofs.Common.{◌≡◌, ℕ, zero, suc, Bool, true, false, List, [], ◌∷◌, ◌++◌, refl}
 use Rattle.grammar.specs.Syntax.{Syntax, ◌then◌}
-use Rattle.grammar.specs.Exact.{IsExact, IsGood}
+use Rattle.grammar.specs.Exact.{IsExact}
 use Rattle.grammar.proofs.Sets.{within, apart, within_self, within_left, within_right, within_both}
 use Rattle.grammar.proofs.Productions.{and, seq, after, either, again_and_again, declared, given, same, one_lower, counted, knot_exact, knot_is, knot_both}
 use Rattle.c_syntax.specs.declared.place.Place.{Place}

@@ -6,7 +6,6 @@ use Rattle.grammar.proofs.Sets.{within, apart, within_self, within_both}
 use Rattle.grammar.proofs.Parts.{widen}
 use Rattle.grammar.proofs.Bounds.{LoopFits}
 use Rattle.grammar.proofs.Productions.{seq, either, again_and_again, again_and_again_to, declared, given}
-use Rattle.c_syntax.specs.Ctypes.{PlainType}
 use Rattle.c_syntax.specs.Tokens.{PlainToken}
 use Rattle.c_model.specs.declared.vocabulary.Keyword.TheVariants as keyword
 use Rattle.c_model.specs.declared.vocabulary.SignWords.{SignWords}

@@ -1,6 +1,6 @@
 -- Operators level by level: one turn of a repetition, and one level.
-use Rattle.std.proofs.Common.{◌≡◌, ℕ, zero, suc, ◌-◌, ◌<◌, true, false, List, [], ◌∷◌, Result, Ok, Err, refl, subst, arith}
-use Rattle.grammar.specs.Syntax.{Syntax, Fault, sees}
+use Rattle.std.proofs.Common.{◌≡◌, ℕ, zero, suc, ◌-◌, ◌<◌, true, false, List, Ok, Err, refl, subst, arith}
+use Rattle.grammar.specs.Syntax.{sees}
 use Rattle.grammar.proofs.Sets.{within, apart, within_self}
 use Rattle.grammar.proofs.Productions.{and, one_lower, turn, turn_fails, turn_ends}
 use Rattle.c_syntax.specs.Expressions.{Expression}

@@ -1,8 +1,8 @@
 -- What a production gives, step by step.
-use Rattle.std.proofs.Common.{◌≡◌, ℕ, Bool, true, false, List, [], ◌∷◌, Result, Ok, Err, refl, ◌∙◌}
-use Rattle.grammar.specs.Syntax.{Syntax, Fault, At, Over, sees, gives, ◌then◌}
+use Rattle.std.proofs.Common.{◌≡◌, ℕ, true, false, List, [], ◌∷◌, Result, Ok, Err, refl, ◌∙◌}
+use Rattle.grammar.specs.Syntax.{Fault, At, Over, sees, gives, ◌then◌}
 use Rattle.grammar.proofs.Productions.{seq, given, turn, turn_fails, turn_ends, turn_to}
-use Rattle.grammar.proofs.Bounds.{LoopFits, many_is}
+use Rattle.grammar.proofs.Bounds.{many_is}
 use Rattle.c_syntax.specs.declared.place.Place.{Place}
 use Rattle.c_syntax.specs.Tokens.{PlainToken}
 use Rattle.c_model.specs.declared.vocabulary.Keyword.TheVariants as keyword

@@ -1,7 +1,7 @@
 -- What is read within the limit of tokens is what is read of one token more than it allows.
-use Rattle.std.proofs.Common.{◌≡◌, ℕ, zero, suc, ◌+◌, ◌-◌, ◌<◌, ◌≤◌, Bool, false, List, [], ◌∷◌, ◌++◌, length, take, drop, map, Result, Ok, Err, refl, sym, ap, subst, ◌∙◌, arith}
+use Rattle.std.proofs.Common.{◌≡◌, ℕ, zero, suc, ◌+◌, ◌-◌, ◌<◌, ◌≤◌, false, List, [], ◌∷◌, ◌++◌, length, take, drop, map, Ok, Err, refl, sym, ap, subst, ◌∙◌, arith}
 use Rattle.std.proofs.lemmas.List.{length-map}
-use Rattle.grammar.specs.Syntax.{Syntax, Fault, At, Over, at_most}
+use Rattle.grammar.specs.Syntax.{Syntax, At, Over, at_most}
 use Rattle.grammar.specs.Exact.{IsExact}
 use Rattle.grammar.proofs.Limits.{at_most_short, near_ok_ends, near_ok, near_at_ends, near_at, near_over}
 use Rattle.grammar.proofs.Theorem.{at_within, over_within}

@@ -1,7 +1,7 @@
 -- What a production gives, step by step.
 use Rattle.std.proofs.Common.{◌≡◌, ℕ, zero, suc, ◌-◌, ◌<◌, Bool, true, false, List, [], ◌∷◌, ◌++◌, length, length-append, Ok, Err, refl, ap, subst, ◌∙◌, arith}
 use Rattle.std.proofs.lemmas.List.{length-map}
-use Rattle.grammar.specs.Syntax.{Syntax, Fault, At, Over, sees}
+use Rattle.grammar.specs.Syntax.{Syntax, At, Over, sees}
 use Rattle.grammar.proofs.Productions.{one_lower, turn, turn_fails, turn_ends, turn_to}
 use Rattle.grammar.proofs.Bounds.{many_is}
 use Rattle.c_syntax.specs.declared.token.Token.{Token}

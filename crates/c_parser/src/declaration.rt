@@ -1,12 +1,12 @@
 //! Declarations (C99 6.7).
 
-ghost use Rattle.std.specs.Prelude.{◌≡◌, ◌≤◌, ◌<◌, ◌+◌, length, map, IfOk, [], ◌∷◌, cond, ltb};
+ghost use Rattle.std.specs.Prelude.{◌≡◌, ◌≤◌, ◌<◌, ◌+◌, ◌^◌, length, map, IfOk, [], ◌∷◌, cond, ltb};
 ghost use Rattle.grammar.specs.Syntax.{none};
 ghost use Rattle.c_syntax.specs.Ctypes.{plain_type};
 ghost use Rattle.c_syntax.specs.Expressions.{plain_expr};
 ghost use Rattle.c_syntax.specs.Statements.{plain_decl, plain_item};
 ghost use Rattle.c_model.specs.ExpressionGrammar.{name};
-ghost use Rattle.c_model.specs.ProgramGrammar.{most_declarators, initialised, with_declaration, declarator, next_declarator, declaration};
+ghost use Rattle.c_model.specs.ProgramGrammar.{most_declarators, initialised, with_declaration, declarator, next_declarator, declaration, declarations};
 ghost use Rattle.c_expr_parser.specs.Reading.{Gives, plain_list};
 ghost use Rattle.c_parser.specs.Reading.{plain_declarations, more_declarators, more_declarations};
 

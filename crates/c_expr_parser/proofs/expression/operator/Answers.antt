@@ -1,7 +1,6 @@
-use Rattle.std.specs.Prelude.{List, ℕ, map}
+use Rattle.std.specs.Prelude.{List, ℕ}
 use Rattle.std.proofs.Common.{subst}
 use Rattle.grammar.specs.Syntax.{one}
-use Rattle.c_syntax.specs.Tokens.{plain_token}
 use Rattle.c_model.specs.declared.operands.Connective.{Connective}
 use Rattle.c_model.specs.ExpressionGrammar.{placed, mark_entry}
 use Rattle.c_expr_parser.specs.Reading.{Gives, plain_list}
