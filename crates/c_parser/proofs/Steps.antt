@@ -55,7 +55,6 @@ module _ (ws : Vocabulary) where
 -- ---- a turn of a repetition: one more, a fault, and none
 
 module _ (ws : Vocabulary) where
-
   once_good : (x : LogicTerm) → IsRead ws (sum_once ws (sum ws) x) false (kinds_of (sum_operators ws)) []
   once_good x = one_lower (sum_once_good ws (sum_good ws) x)
 

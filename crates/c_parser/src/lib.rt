@@ -13,3 +13,6 @@ mod statement;
 mod terminals;
 
 pub use read::{one_reading, read_program};
+
+#[cfg(test)]
+mod tests;

@@ -67,10 +67,7 @@ fn more_storage<'a>(
 
 /// `{ "static" | "const" } base { "const" }`
 #[tactic(auto, unfolding(c_model::specs::ProgramGrammar::result_type, crate::specs::Reading::more_storage))]
-fn result_type<'a>(
-    words: &[Word],
-    tokens: &'a [Token],
-) -> Result<(CType, &'a [Token]), ReadFault>
+fn result_type<'a>(words: &[Word], tokens: &'a [Token]) -> Result<(CType, &'a [Token]), ReadFault>
     ensures { Gives (λ x. (plain_type x.0, plain_list x.1.now)) result ((result_type words.now).parse (plain_list tokens.now)) }
 {
     let (_, rest) = more_storage(words, false, tokens)?;
@@ -81,10 +78,7 @@ fn result_type<'a>(
 
 /// `"(" [ "void" ] ")"`
 #[tactic(auto, unfolding(c_model::specs::ProgramGrammar::no_parameters, c_model::specs::ExpressionGrammar::closed))]
-fn no_parameters<'a>(
-    words: &[Word],
-    tokens: &'a [Token],
-) -> Result<(Place, &'a [Token]), ReadFault>
+fn no_parameters<'a>(words: &[Word], tokens: &'a [Token]) -> Result<(Place, &'a [Token]), ReadFault>
     ensures { Gives (λ x. (x.0, plain_list x.1.now)) result ((no_parameters words.now).parse (plain_list tokens.now)) }
 {
     let (place, rest) = skip(words, LEFT_PAREN, tokens)?;

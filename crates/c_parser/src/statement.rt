@@ -11,9 +11,7 @@ use crate::annotation::annotation;
 use crate::kinds::{
     BREAK, CONTINUE, DO, ELSE, FOR, IF, LEFT_BRACE, RETURN, RIGHT_BRACE, SEMICOLON, WHILE,
 };
-use crate::loops::{
-    condition, for_behind, for_first, make_do, make_for, make_while, maybe_ended,
-};
+use crate::loops::{condition, for_behind, for_first, make_do, make_for, make_while, maybe_ended};
 use crate::terminals::{next_begins_item, next_begins_statement, next_is_jump};
 use c_expr_parser::full::full_effect_or_call;
 use c_expr_parser::kinds::{ANNOT_OPEN, LEFT_PAREN};
