@@ -1,9 +1,6 @@
 pub mod ExactTokens
 pub mod ExactTypes
 pub mod ExactExpressions
-pub mod ExactStatements
-pub mod Openings
-pub mod ExactPrograms
 pub mod Words
 pub mod Steps
 pub mod Levels

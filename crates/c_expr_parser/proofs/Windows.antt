@@ -30,7 +30,7 @@ map_drop f zero ts = refl
 map_drop f (suc n) [] = refl
 map_drop f (suc n) (t ∷ ts) = map_drop f n ts
 
-take_long : {T : Type 0} (n : ℕ) (ts : List T) → n ≤ length ts → length (take n ts) ≡ n
+pub take_long : {T : Type 0} (n : ℕ) (ts : List T) → n ≤ length ts → length (take n ts) ≡ n
 take_long zero ts h = refl
 take_long (suc n) [] h = absurd (omega arith)
 take_long (suc n) (t ∷ ts) h = ap suc (take_long n ts (omega arith))
@@ -44,7 +44,7 @@ module _ {A : Type 0} (ws : Vocabulary) (G : Syntax PlainToken A) (first more : 
   abbrev limited : Syntax PlainToken A
   limited = at_most expression_limit most_in_expression G
 
-  whole : (ts : List Token) → length ts ≤ most_in_expression → limited.parse (plain_list ts) ≡ G.parse (plain_list ts)
+  pub whole : (ts : List Token) → length ts ≤ most_in_expression → limited.parse (plain_list ts) ≡ G.parse (plain_list ts)
   whole ts h = at_most_short (kind ws) expression_limit most_in_expression G false first (λ _. more) g (plain_list ts) (omega (arith, length-map ts plain_token))
 
   module _ (ts near : List Token) (is : near ≡ take (most_in_expression + 1) ts) (h : most_in_expression < length ts) where
@@ -60,23 +60,23 @@ module _ {A : Type 0} (ws : Vocabulary) (G : Syntax PlainToken A) (first more : 
     far_long : length (plain_list far) ≡ length ts - (most_in_expression + 1)
     far_long = length-map far plain_token ∙ drop_long (most_in_expression + 1) ts
 
-    over : (x : A) (rest : List Token) → G.parse (plain_list near) ≡ Ok (x, plain_list rest) → length rest ≡ 0 → limited.parse (plain_list ts) ≡ Err (Over expression_limit (length ts - (most_in_expression + 1) + 1))
+    pub over : (x : A) (rest : List Token) → G.parse (plain_list near) ≡ Ok (x, plain_list rest) → length rest ≡ 0 → limited.parse (plain_list ts) ≡ Err (Over expression_limit (length ts - (most_in_expression + 1) + 1))
     over x rest e z = near_ok_ends (kind ws) expression_limit most_in_expression G false first (λ _. more) g (plain_list ts) (plain_list near) (plain_list far) parts long x (plain_list rest) e (omega (arith, z, length-map rest plain_token)) ∙ ap (λ (k : ℕ). Err (Over expression_limit (k + 1))) far_long
 
-    goes_on : (x : A) (rest : List Token) → G.parse (plain_list near) ≡ Ok (x, plain_list rest) → (length rest ≡ 0 → ⊥) → length rest ≤ most_in_expression + 1 → limited.parse (plain_list ts) ≡ Ok (x, plain_list (drop (most_in_expression + 1 - length rest) ts))
+    pub goes_on : (x : A) (rest : List Token) → G.parse (plain_list near) ≡ Ok (x, plain_list rest) → (length rest ≡ 0 → ⊥) → length rest ≤ most_in_expression + 1 → limited.parse (plain_list ts) ≡ Ok (x, plain_list (drop (most_in_expression + 1 - length rest) ts))
     goes_on x rest e z l =
         let r = length-map rest plain_token in
         let k : length (plain_list ts) - (length (plain_list rest) + length (plain_list far)) ≡ most_in_expression + 1 - length rest = omega (arith, r, far_long, length-map ts plain_token, h, l) in
         near_ok (kind ws) expression_limit most_in_expression G false first (λ _. more) g (plain_list ts) (plain_list near) (plain_list far) parts long x (plain_list rest) e (λ q. z (omega (arith, q, r)))
         ∙ ap (λ (n : ℕ). Ok (x, drop n (plain_list ts))) k ∙ ap (λ (w : List PlainToken). Ok (x, w)) (sym (map_drop plain_token (most_in_expression + 1 - length rest) ts))
 
-    fails : (e r : ReadFault) → Fails e (G.parse (plain_list near)) → Resumed e (length ts - (most_in_expression + 1)) r → Fails r (limited.parse (plain_list ts))
+    pub fails : (e r : ReadFault) → Fails e (G.parse (plain_list near)) → Resumed e (length ts - (most_in_expression + 1)) r → Fails r (limited.parse (plain_list ts))
     fails (fault.At zero) r f q = rw q (near_at_ends (kind ws) expression_limit most_in_expression G false first (λ _. more) g (plain_list ts) (plain_list near) (plain_list far) parts long f ∙ ap (λ (k : ℕ). Err (Over expression_limit (k + 1))) far_long)
     fails (fault.At (suc n)) r f q = rw q (near_at (kind ws) expression_limit most_in_expression G false first (λ _. more) g (plain_list ts) (plain_list near) (plain_list far) parts long (suc n) f (λ z. absurd cc) ∙ ap (λ (k : ℕ). Err (At (suc n + k))) far_long)
     fails (fault.Over limit n) r f q = rw q (near_over (kind ws) expression_limit most_in_expression G false first (λ _. more) g (plain_list ts) (plain_list near) (plain_list far) parts long (label limit) n f ∙ ap (λ (k : ℕ). Err (Over (label limit) (n + k))) far_long)
     fails fault.Memory r f q = rw q tt
 
-  bound : (ts : List Token) (e : ReadFault) → Fails e (G.parse (plain_list ts)) → LeftWithin e (length ts)
+  pub bound : (ts : List Token) (e : ReadFault) → Fails e (G.parse (plain_list ts)) → LeftWithin e (length ts)
   bound ts (fault.At n) f = let h = at_within G false first (λ _. more) g (plain_list ts) n f in omega (arith, h, length-map ts plain_token)
   bound ts (fault.Over limit n) f = let h = over_within G false first (λ _. more) g (plain_list ts) (label limit) n f in omega (arith, h, length-map ts plain_token)
   bound ts fault.Memory f = tt

@@ -15,10 +15,10 @@ use c_syntax::{Expr, Place, Token};
 use std::alloc::Global;
 
 /// How many tokens an expression has at most that stands in no other.
-const MOST: usize = 400;
+pub const MOST: usize = 400;
 
 /// The fault of a text of so many tokens, from that of its first `MOST + 1`.
-fn resumed(fault: ReadFault, tokens: usize) -> ReadFault
+pub fn resumed(fault: ReadFault, tokens: usize) -> ReadFault
     requires many { most_in_expression < tokens }
     requires within { LeftWithin fault (most_in_expression + 1) }
     ensures { Resumed fault (tokens - (most_in_expression + 1)) result }
@@ -33,7 +33,7 @@ fn resumed(fault: ReadFault, tokens: usize) -> ReadFault
 }
 
 /// The fault of a text of so many tokens, of whose expression none is left of the first `MOST + 1`.
-fn passed(tokens: usize) -> ReadFault
+pub fn passed(tokens: usize) -> ReadFault
     requires { most_in_expression < tokens }
     ensures { result ≡ Over Expression (tokens - (most_in_expression + 1) + 1) }
 {
@@ -41,7 +41,7 @@ fn passed(tokens: usize) -> ReadFault
 }
 
 /// The first `MOST + 1` tokens.
-fn window(tokens: &[Token]) -> &[Token]
+pub fn window(tokens: &[Token]) -> &[Token]
     requires { most_in_expression < length tokens.now }
     ensures front { result.now ≡ take (most_in_expression + 1) tokens.now }
     ensures long { length result.now ≡ most_in_expression + 1 }
@@ -50,7 +50,7 @@ fn window(tokens: &[Token]) -> &[Token]
 }
 
 /// What stands behind an expression, of whose text's first `MOST + 1` tokens so many are left.
-fn behind(tokens: &[Token], left: usize) -> &[Token]
+pub fn behind(tokens: &[Token], left: usize) -> &[Token]
     requires many { most_in_expression < length tokens.now }
     requires within { left ≤ most_in_expression + 1 }
     ensures rest { result.now ≡ drop (most_in_expression + 1 - left) tokens.now }

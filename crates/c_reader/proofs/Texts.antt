@@ -8,7 +8,7 @@ use Rattle.c_model.specs.Checked.{Fault, Checked, Good, Bad, least, refusing}
 use Rattle.c_model.specs.ProgramTyping.{typed_unit, main_fault, noted_unit}
 use Rattle.c_model.specs.ProgramGrammar.{unit}
 use Rattle.c_model.specs.Phases.{vocabulary, IsRead, StopsWith, IsSyntaxFault, syntax_refusal, checked_refusal, main_refusal, AcceptedText, RefusedText, ByTokens, ByGrammar, ByNamesAndTypes, ForMain, ByAnnotations}
-use Rattle.c_expr_parser.proofs.ExactPrograms.{one_unit}
+use Rattle.c_parser.proofs.ExactPrograms.{one_unit}
 
 abbrev pub Answer : Type 0
 Answer = Result TranslationUnit PlainRefusal

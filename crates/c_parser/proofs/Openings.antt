@@ -1,8 +1,7 @@
 -- Each token of a kind that can begin a statement begins one.
-use Rattle.std.specs.Prelude.{ℤ}
-use Rattle.std.proofs.Common.{◌≡◌, ◌≤◌, ℕ, ◌+◌, Bool, true, false, cond, eqb, List, [], ◌∷◌, ◌++◌, Option, Some, None, refl, inl, inr, arith, subst, sym, ◌⊎◌}
+use Rattle.std.proofs.Common.{◌≡◌, ◌≤◌, ℕ, Bool, true, false, cond, eqb, List, [], ◌∷◌, ◌++◌, Some, refl, inl, inr, arith, subst}
 use Rattle.std.proofs.lemmas.Bool.{eqb-true, eq-eqb}
-use Rattle.grammar.specs.Syntax.{Syntax, among, one}
+use Rattle.grammar.specs.Syntax.{among, one}
 use Rattle.grammar.proofs.Sets.{cond_or, among_either}
 use Rattle.c_syntax.specs.declared.place.Place.{Place}
 use Rattle.c_syntax.specs.Tokens as tokens
@@ -14,7 +13,7 @@ use Rattle.c_model.specs.declared.vocabulary.Word.TheVariants as word
 use Rattle.c_model.specs.declared.operands.TypeUse.TheVariants.{Casts}
 use Rattle.c_model.specs.Vocabulary.{Vocabulary, word_at}
 use Rattle.c_model.specs.Punctuators.{semicolon, left_paren, left_brace}
-use Rattle.c_model.specs.ExpressionGrammar.{name_kind, number_kind, letter_kind, keyword_kind, mark_kind, word_kind, token_kind, kind, placed, number_of, letter_of, entry, mark_entry, kinds_of, unary_operators, prefix_bumps, first_expression, first_effect, fixed, name_of, name, literal, operand, expression, prefixed, sized, operand_but_name, bump_first, effect_but_name, effect_or_call, full_effect_or_call}
+use Rattle.c_model.specs.ExpressionGrammar.{name_kind, number_kind, letter_kind, keyword_kind, mark_kind, word_kind, token_kind, kind, placed, number_of, letter_of, entry, mark_entry, kinds_of, unary_operators, prefix_bumps, first_expression, first_effect, fixed, name, literal, operand, expression, prefixed, sized, operand_but_name, bump_first, effect_but_name, effect_or_call, full_effect_or_call}
 use Rattle.c_model.specs.ProgramGrammar.{first_statement, Numbered, block, empty_statement, selection, while_loop, do_loop, for_loop, return_statement, jump, effect_statement, statement_of}
 
 -- the kind of a word is below those of the punctuators

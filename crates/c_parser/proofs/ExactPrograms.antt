@@ -1,27 +1,25 @@
 -- Statements of each depth, declarations and whole texts are read exactly, so tokens are read in one way at most.
-use Rattle.std.proofs.Common.{◌≡◌, ℕ, zero, suc, ◌+◌, ◌-◌, Bool, true, false, cond, ltb, List, [], ◌∷◌, ◌++◌, length, Option, Some, None, refl}
-use Rattle.grammar.specs.Syntax.{Syntax, none, gives, ◌then◌, choice, many}
-use Rattle.grammar.specs.Exact.{IsExact, IsGood, AtMostOne}
-use Rattle.grammar.proofs.Sets.{within, apart, within_self}
+use Rattle.std.proofs.Common.{◌≡◌, ℕ, zero, suc, ◌+◌, ◌-◌, Bool, true, false, cond, ltb, List, [], ◌∷◌, length, refl}
+use Rattle.grammar.specs.Syntax.{none}
+use Rattle.grammar.specs.Exact.{AtMostOne}
+use Rattle.grammar.proofs.Sets.{within, within_self}
 use Rattle.grammar.proofs.Parts.{widen, none_exact}
 use Rattle.grammar.proofs.Bounds.{LoopFits}
 use Rattle.grammar.proofs.Productions.{seq, either, again_and_again, again_and_again_to, declared, given, same, too_deep}
 use Rattle.grammar.proofs.Theorem.{at_most_one}
 use Rattle.c_syntax.specs.declared.place.Place.{Place}
 use Rattle.c_syntax.specs.Ctypes.{PlainType}
-use Rattle.c_syntax.specs.Statements.{Declaration, BlockItem}
-use Rattle.c_syntax.specs.Programs.{Function}
-use Rattle.c_syntax.specs.Tokens.{PlainToken}
+use Rattle.c_syntax.specs.Statements.{Declaration}
 use Rattle.c_model.specs.declared.vocabulary.Keyword.TheVariants as keyword
 use Rattle.c_model.specs.Vocabulary.{Vocabulary}
-use Rattle.c_model.specs.Punctuators.{assign, semicolon, comma, left_paren, right_paren, left_brace, right_brace}
-use Rattle.c_model.specs.ExpressionGrammar.{name_kind, keyword_kind, mark_kind, kind, first_base, first_type, nesting_limit, most_nested, name}
-use Rattle.c_model.specs.ProgramGrammar.{first_statement, first_item, first_function, Numbered, ReadDeclarations, no_declarations, statement_of, statement_in, items, most_declarators, declarator, next_declarator, declaration, declarations, storage_words, storage_word, result_type, no_parameters, function_body, function, unit}
+use Rattle.c_model.specs.Punctuators.{assign, comma, left_paren, left_brace, right_brace}
+use Rattle.c_model.specs.ExpressionGrammar.{name_kind, keyword_kind, mark_kind, kind, first_type, nesting_limit, most_nested, name}
+use Rattle.c_model.specs.ProgramGrammar.{first_statement, first_function, ReadDeclarations, no_declarations, statement_in, most_declarators, declarator, next_declarator, declaration, declarations, storage_words, storage_word, result_type, no_parameters, function_body, function, unit}
 use Rattle.c_expr_parser.proofs.ExactTokens.{IsRead, fixed_good, name_good}
 use Rattle.c_expr_parser.proofs.ExactTypes.{enlarged, apart_none, type_good, base_good, consts_good, more_type}
 use Rattle.c_expr_parser.proofs.ExactExpressions.{more_expression, closed_good, full_expression_good}
-use Rattle.c_expr_parser.proofs.ExactStatements.{ReadsStatements, more_statement, ended_good, statement_of_good, items_good}
-use Rattle.c_expr_parser.proofs.Openings.{opens}
+use Rattle.c_parser.proofs.ExactStatements.{ReadsStatements, more_statement, ended_good, statement_of_good, items_good}
+use Rattle.c_parser.proofs.Openings.{opens}
 
 -- what may stand in front of a type at file scope
 abbrev storage : List ℕ

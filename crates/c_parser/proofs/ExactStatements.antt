@@ -1,31 +1,28 @@
 -- Annotations, statements and whole texts are read exactly.
-use Rattle.std.proofs.Common.{◌≡◌, ℕ, zero, suc, Bool, true, false, cond, List, [], ◌∷◌, ◌++◌, length, Option, Some, None, refl, inl, inr}
-use Rattle.std.specs.Prelude.{ℤ, int_le}
-use Rattle.grammar.specs.Syntax.{Syntax, among, none, gives, one, ◌then◌, choice}
+use Rattle.std.proofs.Common.{◌≡◌, ℕ, suc, Bool, true, false, cond, List, [], ◌∷◌, ◌++◌, Some, None, refl, inl, inr}
+use Rattle.std.specs.Prelude.{ℤ}
+use Rattle.grammar.specs.Syntax.{Syntax, among, gives, one, ◌then◌, choice}
 use Rattle.grammar.specs.Exact.{IsExact, IsGood}
-use Rattle.grammar.proofs.Sets.{within, apart, within_self}
-use Rattle.grammar.proofs.Parts.{widen, none_exact, gives_exact}
+use Rattle.grammar.proofs.Sets.{within, apart}
+use Rattle.grammar.proofs.Parts.{widen, gives_exact}
 use Rattle.grammar.proofs.Bounds.{then_good, same_good}
-use Rattle.grammar.proofs.Productions.{seq, after, either, again_and_again, again_and_again_to, declared, given, same, one_lower, counted, too_deep, knot_exact, knot_is, seq_to, made, either_to, maybe_to}
-use Rattle.grammar.proofs.Bounds.{LoopFits}
+use Rattle.grammar.proofs.Productions.{seq, after, either, again_and_again, declared, given, same, counted, knot_exact, knot_is, seq_to, made, either_to, maybe_to}
 use Rattle.c_syntax.specs.declared.place.Place.{Place}
-use Rattle.c_syntax.specs.Ctypes.{PlainType}
 use Rattle.c_syntax.specs.Expressions.{Expression}
 use Rattle.c_syntax.specs.Annotations.{LogicTerm}
-use Rattle.c_syntax.specs.Statements.{Declaration, Statement, BlockItem, If, NoElse, Else, While, For, Run}
-use Rattle.c_syntax.specs.Statements as statement
+use Rattle.c_syntax.specs.Statements.{Statement, BlockItem, If, NoElse, Else, While, For, Run}
 use Rattle.c_syntax.specs.Tokens as tokens
 use Rattle.c_syntax.specs.Tokens.{PlainTokenKind, PlainToken}
 use Rattle.c_model.specs.declared.vocabulary.Keyword.TheVariants as keyword
 use Rattle.c_model.specs.declared.vocabulary.Word.{Word}
 use Rattle.c_model.specs.declared.vocabulary.Word.TheVariants as word
 use Rattle.c_model.specs.Vocabulary.{Vocabulary, word_at}
-use Rattle.c_model.specs.Punctuators.{assign, semicolon, comma, left_paren, right_paren, left_brace, right_brace}
-use Rattle.c_model.specs.ExpressionGrammar.{name_kind, number_kind, letter_kind, annot_open_kind, annot_close_kind, keyword_kind, mark_kind, word_kind, token_kind, kind, placed, kinds_of, first_base, first_type, first_expression, first_effect, expression_limit, most_in_expression, nesting_limit, fixed, name}
-use Rattle.c_model.specs.ProgramGrammar.{first_statement, first_item, first_function, is_open, else_behind, Numbered, ReadDeclarations, is_assert, assert_word, is_term_name, term_name, term_number, sum_operators, relations, atom, sum_once, sum_of, sum, assert_clause, annotation, ended, condition, else_branch, else_part, selection, while_loop, do_loop, for_first, maybe_ended, for_behind, for_loop, jump, return_statement, item, items_once, items, block, empty_statement, effect_statement, statement_of, statement_in, declarator, next_declarator, declaration, declarations, storage_words, storage_word, result_type, no_parameters, function_body, function, unit}
-use Rattle.c_expr_parser.proofs.ExactTokens.{IsRead, AreRead, fixed_good, name_good, letter_good, marks_good, placed_good}
-use Rattle.c_expr_parser.proofs.ExactTypes.{enlarged, type_good, base_good, consts_good, more_type}
-use Rattle.c_expr_parser.proofs.ExactExpressions.{more_expression, closed_good, more_effect, full_expression_good, full_effect_good, full_effect_or_call_good}
+use Rattle.c_model.specs.Punctuators.{semicolon, left_paren, right_paren, left_brace, right_brace}
+use Rattle.c_model.specs.ExpressionGrammar.{name_kind, number_kind, letter_kind, annot_open_kind, annot_close_kind, keyword_kind, mark_kind, word_kind, token_kind, kind, placed, kinds_of, first_expression, first_effect, expression_limit, most_in_expression}
+use Rattle.c_model.specs.ProgramGrammar.{first_statement, first_item, is_open, Numbered, is_assert, assert_word, is_term_name, term_name, term_number, sum_operators, relations, atom, sum_once, sum_of, sum, assert_clause, annotation, ended, condition, else_branch, else_part, selection, while_loop, do_loop, for_first, maybe_ended, for_behind, for_loop, jump, return_statement, item, items_once, items, block, empty_statement, effect_statement, statement_of}
+use Rattle.c_expr_parser.proofs.ExactTokens.{IsRead, AreRead, fixed_good, letter_good, marks_good, placed_good}
+use Rattle.c_expr_parser.proofs.ExactTypes.{enlarged}
+use Rattle.c_expr_parser.proofs.ExactExpressions.{closed_good, full_expression_good, full_effect_good, full_effect_or_call_good}
 
 -- what a sum begins with
 abbrev pub first_sum : List ℕ
@@ -86,10 +83,10 @@ module _ (ws : Vocabulary) where
   unfolding sum
   sum_is ts = knot_is false first_sum (λ _. kinds_of (sum_operators ws)) (λ E u. sum_of ws (E u)) sum_step tt ts
 
-  sum_good : {n : ℕ} → AreRead ws n (sum ws) (sum ws) false first_sum (kinds_of (sum_operators ws))
+  pub sum_good : {n : ℕ} → AreRead ws n (sum ws) (sum ws) false first_sum (kinds_of (sum_operators ws))
   sum_good = same sum_exact
 
-  clause_good : (n : ℕ) → IsRead ws (assert_clause ws n) false (name_kind ∷ []) []
+  pub clause_good : (n : ℕ) → IsRead ws (assert_clause ws n) false (name_kind ∷ []) []
   unfolding assert_clause
   clause_good n =
       declared (seq assert_good (λ a. seq sum_good (λ x. seq (marks_good ws (relations ws)) (λ r. seq sum_good (λ y. seq (fixed_good ws (mark_kind semicolon)) (λ _. given _) refl) refl) refl) refl) refl) refl

@@ -1,0 +1,91 @@
+-- From what the productions gave to what the answers mean.
+use Rattle.std.proofs.Common.{◌≡◌, ℕ, suc, true, List, [], ◌∷◌, length, Result, Ok, Err, refl, sym, ap, subst, ◌∙◌}
+use Rattle.grammar.specs.Syntax.{Fault, At, Over}
+use Rattle.grammar.specs.Exact.{AtMostOne, IsExact}
+use Rattle.grammar.proofs.Parts.{ok_is}
+use Rattle.grammar.proofs.Theorem.{found, refused, accepts, accepts_back}
+use Rattle.c_syntax.specs.declared.token.Token.{Token}
+use Rattle.c_syntax.specs.Tokens.{PlainToken, PlainTokens, plain_token}
+use Rattle.c_syntax.specs.Programs.{TranslationUnit}
+use Rattle.c_syntax.specs.declared.refusal.FrontFault.{FrontFault}
+use Rattle.c_syntax.specs.declared.refusal.FrontFault.TheVariants as front
+use Rattle.c_syntax.specs.declared.fault.ReadFault.{ReadFault}
+use Rattle.c_syntax.specs.declared.fault.ReadFault.TheVariants as fault
+use Rattle.c_model.specs.Vocabulary.{Vocabulary}
+use Rattle.c_model.specs.ExpressionGrammar.{kind}
+use Rattle.c_model.specs.ProgramGrammar.{first_function, unit}
+use Rattle.c_model.specs.Phases.{vocabulary, IsRead, StopsWith, IsSyntaxFault, syntax_refusal}
+use Rattle.c_expr_parser.specs.Reading.{plain_list, label, Fails}
+use Rattle.c_expr_parser.specs.Answers.{RefusesWith, RefusesFault}
+use Rattle.c_parser.specs.Answers.{Refuses}
+use Rattle.c_parser.proofs.ExactPrograms.{unit_good, one_unit}
+
+pub one : (ws : Vocabulary) (names : List (List ℕ)) → AtMostOne (unit ws names)
+one ws names = one_unit ws names
+
+unit_exact : (ws : Vocabulary) (names : List (List ℕ)) → IsExact (kind ws) (unit ws names) true first_function (λ _. first_function)
+unit_exact ws names = (unit_good ws names).here
+
+module _ (ts : PlainTokens) where
+  abbrev parsed : Result (TranslationUnit × List PlainToken) Fault
+  parsed = (unit (vocabulary ts) ts.names).parse ts.list
+
+  accepted_is : (p : TranslationUnit) → IsRead ts p → parsed ≡ Ok (p, [])
+  accepted_is p a = accepts (unit (vocabulary ts) ts.names) true first_function (λ _. first_function) (unit_exact (vocabulary ts) ts.names) ts.list p a
+
+  -- read to the end
+  whole : (p : TranslationUnit) → parsed ≡ Ok (p, []) → IsRead ts p
+  whole p e = accepts_back (unit (vocabulary ts) ts.names) true first_function (λ _. first_function) (unit_exact (vocabulary ts) ts.names) ts.list p e
+
+  not_read : (r : Result (TranslationUnit × List PlainToken) Fault) → parsed ≡ r → ((p : TranslationUnit) → r ≡ Ok (p, []) → ⊥) → (p : TranslationUnit) → IsRead ts p → ⊥
+  not_read r e h p a = h p (sym e ∙ accepted_is p a)
+
+  stopped : (r : Result (TranslationUnit × List PlainToken) Fault) (f : Fault) → parsed ≡ r → StopsWith r f → StopsWith parsed f
+  stopped r f e h = subst (λ (x : Result (TranslationUnit × List PlainToken) Fault). StopsWith x f) (sym e) h
+
+  grammar_refused : (f : Fault) → IsSyntaxFault ts f → (e : FrontFault) → RefusesWith (syntax_refusal ts f) e → Refuses e ts
+  grammar_refused f h front.Memory g = tt
+  grammar_refused f h (front.Refused x) g = record { fault = f; found = h; is = g }
+
+  fault_given : (f : Fault) → parsed ≡ Err f → (e : FrontFault) → RefusesWith (syntax_refusal ts f) e → Refuses e ts
+  fault_given f k = grammar_refused f (record {
+    refused = refused (unit (vocabulary ts) ts.names) true first_function (λ _. first_function) (unit_exact (vocabulary ts) ts.names) ts.list f k;
+    unread = not_read (Err f) k (λ p q. cc);
+    stops = stopped (Err f) f k refl;
+  })
+
+  -- a fault was given
+  faulty : (r : ReadFault) (e : FrontFault) → Fails r parsed → RefusesFault ts r e → Refuses e ts
+  faulty (fault.At n) e k g = fault_given (At n) k e g
+  faulty (fault.Over limit n) e k g = fault_given (Over (label limit) n) k e g
+  faulty fault.Memory e k g = subst (λ (x : FrontFault). Refuses x ts) (sym g) tt
+
+  -- tokens are left over: the first of them can't follow
+  left_over : (p : TranslationUnit) (t : PlainToken) (rest : List PlainToken) (e : FrontFault) → parsed ≡ Ok (p, t ∷ rest) → RefusesFault ts (fault.At (suc (length rest))) e → Refuses e ts
+  left_over p t rest e k g =
+      let f = found (unit (vocabulary ts) ts.names) true first_function (λ _. first_function) (unit_exact (vocabulary ts) ts.names) ts.list p (t ∷ rest) k in
+      grammar_refused (At (length (t ∷ rest))) (record {
+        refused = record { front = f.front; rest = t ∷ rest; longest = f.longest; place = refl; within = f.within };
+        unread = not_read (Ok (p, t ∷ rest)) k (λ q same. let none : t ∷ rest ≡ [] = ap (λ (x : TranslationUnit × List PlainToken). x.1) (ok_is (p, t ∷ rest) (q, []) same) in cc);
+        stops = stopped (Ok (p, t ∷ rest)) (At (length (t ∷ rest))) k refl;
+      }) e g
+
+-- ---- the same of the slices that were read
+
+abbrev Parsed : Vocabulary → List (List ℕ) → List PlainToken → Result (TranslationUnit × List PlainToken) Fault
+Parsed ws names list = (unit ws names).parse list
+
+module _ (ts : PlainTokens) (ws : Vocabulary) (names : List (List ℕ)) (list : List PlainToken) (same_words : ws ≡ vocabulary ts) (same_names : names ≡ ts.names) (same_list : list ≡ ts.list) where
+  same : Parsed ws names list ≡ parsed ts
+  same = λ i. Parsed (same_words i) (same_names i) (same_list i)
+
+  pub read_whole : (p : TranslationUnit) (rest : List Token) → Parsed ws names list ≡ Ok (p, plain_list rest) → length rest ≡ 0 → IsRead ts p
+  read_whole p [] e z = whole ts p (sym same ∙ e)
+  read_whole p (t ∷ rest) e z = absurd cc
+
+  pub read_part : (p : TranslationUnit) (rest : List Token) (n : ℕ) (e : FrontFault) → Parsed ws names list ≡ Ok (p, plain_list rest) → (length rest ≡ 0 → ⊥) → n ≡ length (plain_list rest) → RefusesFault ts (fault.At n) e → Refuses e ts
+  read_part p [] n e k z is g = absurd (z refl)
+  read_part p (t ∷ rest) n e k z is g = left_over ts p (plain_token t) (plain_list rest) e (sym same ∙ k) (subst (λ (m : ℕ). RefusesFault ts (fault.At m) e) is g)
+
+  pub read_fault : (r : ReadFault) (e : FrontFault) → Fails r (Parsed ws names list) → RefusesFault ts r e → Refuses e ts
+  read_fault r e k = faulty ts r e (subst (λ (x : Result (TranslationUnit × List PlainToken) Fault). Fails r x) same k)
