@@ -1,19 +1,16 @@
+/* Prints a triangle of stars, and checks how many there are. */
+#include <stdio.h>
+
 int main(void) {
-  int height = 5;
-  int row = 0;
-  int column = 0;
-  int stars = 0;
-  while (row < height) {
-    row = row + 1;
-    column = 0;
-    while (column < row) {
+  int height = 5, row = 0, column = 0, stars = 0;
+  for (row = 1; row <= height; row++) {
+    for (column = 0; column < row; column++) {
       putchar('*');
-      column = column + 1;
-      stars = stars + 1;
+      stars++;
     }
     //@ assert column == row;
-    putchar(10);
+    putchar('\n');
   }
-  //@ assert stars + stars == height + height + height + height + height + height;
+  /*@ assert stars + stars == height + height + height + height + height + height; */
   return 0;
 }
