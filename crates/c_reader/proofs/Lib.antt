@@ -3,5 +3,9 @@ pub mod FormedTerms
 pub mod FormedStatements
 pub mod FormedPrograms
 pub mod Lexed
+pub mod KeptExpressions
+pub mod KeptStatements
+pub mod KeptAnnotations
+pub mod KeptPrograms
 pub mod Texts
 mod WorkedTexts
