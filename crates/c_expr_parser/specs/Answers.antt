@@ -15,7 +15,7 @@ use Rattle.c_model.specs.Phases.{vocabulary, syntax_refusal}
 use Rattle.c_model.specs.ExpressionGrammar.{full_expression}
 use Rattle.c_expr_parser.specs.Reading.{label}
 
--- nothing is said where memory was wanting
+-- the refusal, unless memory was wanting
 abbrev pub RefusesWith : PlainRefusal → FrontFault → Type 0
 RefusesWith r front.Memory = Unit {0}
 RefusesWith r (front.Refused x) = plain_refusal x ≡ r
@@ -45,13 +45,13 @@ pub record IsReadAt (ts : PlainTokens) (at : ℕ) (e : Expression) (behind : ℕ
   pub parsed : expression_at ts at ≡ Ok (e, drop behind ts.list)
   pub found : Found (full_expression (vocabulary ts)) (drop at ts.list) e (drop behind ts.list)
 
--- why no expression is read: with the refused token those before it can't go on, and are none; or it passes the limit as the first
+-- the refused token can't follow those before it, which are no reading, or it is the first that passes a limit
 abbrev pub NotRead : {A : Type 0} → Syntax PlainToken A → List PlainToken → Fault → Type 0
 NotRead G text (At n) = Unread G text n
 NotRead G text (Over i n) = RefusedOver G text i n
 
--- No expression is read there: the tokens before the refused one begin one but are none, and with it they don't (E4), or it
--- passes the limit as the first (E11).
+-- No expression is read there: the tokens before the refused one begin an expression and are none, and with it they don't
+-- begin one (E4), or it is the first that passes the limit (E11).
 pub record IsRefusedAt (ts : PlainTokens) (at : ℕ) (r : PlainRefusal) : Type 0 where
   pub fault : Fault
   pub parsed : expression_at ts at ≡ Err fault
