@@ -1,5 +1,5 @@
 -- Typing keeps the form of a program, its names, and `main`.
-use Rattle.std.proofs.Common.{◌≡◌, ℕ, suc, ◌+◌, ◌≤◌, max, Bool, true, false, cond, List, [], ◌∷◌, ◌++◌, Option, Some, None, refl, sym, ap, subst, ◌∙◌, arith}
+use Rattle.std.proofs.Common.{◌≡◌, ℕ, suc, ◌+◌, ◌≤◌, max, Bool, true, false, cond, List, [], ◌∷◌, ◌++◌, length, length-append, Option, Some, None, refl, sym, ap, subst, ◌∙◌, arith}
 use Rattle.c_syntax.specs.declared.place.Place.{Place}
 use Rattle.c_syntax.specs.Ctypes.{PlainType}
 use Rattle.c_syntax.specs.Statements.{Declaration, Statement, Empty, Eval, Block, If, While, Do, For, Break, Continue, Return, BlockItem, Declare, Run, Asserts, BlockItems, NoItem, Then}
@@ -10,6 +10,7 @@ use Rattle.c_model.specs.Typing.{Scopes, Around, behind, typed_declarations, typ
 use Rattle.c_model.specs.ProgramTyping.{file_scopes, typed_body, typed_function, typed_functions, typed_unit, main_fault, noted_item, noted_items, noted_body, noted_functions, noted_unit}
 use Rattle.c_model.specs.WellTypedPrograms.{around_body}
 use Rattle.c_model.specs.Formed.{depth_of_item, depth_of_items, AreInitialised, ItemsFormed, BodyItemsFormed, BodyFormed, FunctionFormed, FunctionsFormed, ProgramFormed, AreNamed, BodyNamed, FunctionsNamed, most_read, most_typed}
+use Rattle.c_reader.specs.FewObjects.{BodyFew, FunctionsFew}
 use Rattle.c_reader.proofs.KeptExpressions.{Holds, holds_one, holds_both, holds_where, holds_more, holds_at}
 use Rattle.c_reader.proofs.KeptStatements.{KeptDeclarations, declarations_kept, AreSameItems, items_kept}
 use Rattle.c_reader.proofs.KeptAnnotations.{AreNotedItems, items_noted}
@@ -40,6 +41,7 @@ named_joined names (d ∷ ds) es h g = (h.0, named_joined names ds es h.1 g)
 record AreKeptItems (a b : BlockItems) : Type 0 where
   are : BodyItemsFormed most_typed b
   deep : depth_of_items b ≡ depth_of_items a
+  count : length (declared_in b) ≡ length (declared_in a)
   named : (names : List (List ℕ)) → AreNamed names (declared_in a) → AreNamed names (declared_in b)
 
 record KeptItem (ds : List Declaration) (i : BlockItem) : Type 0 where
@@ -50,8 +52,11 @@ record KeptItem (ds : List Declaration) (i : BlockItem) : Type 0 where
 no_names : (most : ℕ) (is : BlockItems) → ItemsFormed most is → (names : List (List ℕ)) → AreNamed names (declared_in is)
 no_names most is h names = subst (AreNamed names) (sym (declares_nothing most is h)) tt
 
+same_count : (m n : ℕ) (a b : BlockItems) → ItemsFormed m a → ItemsFormed n b → length (declared_in b) ≡ length (declared_in a)
+same_count m n a b h g = ap length (declares_nothing n b g) ∙ ap length (sym (declares_nothing m a h))
+
 last_kept : (s : Scopes) (r : Around) (is : BlockItems) → ItemsFormed most_read is → Holds (AreKeptItems is) (typed_items s r is)
-last_kept s r is h = holds_more (AreSameItems is) (AreKeptItems is) (typed_items s r is) (λ b p. record { are = formed_body most_typed b p.are; deep = p.deep; named = λ names n. no_names most_typed b p.are names }) (items_kept s r is h)
+last_kept s r is h = holds_more (AreSameItems is) (AreKeptItems is) (typed_items s r is) (λ b p. record { are = formed_body most_typed b p.are; deep = p.deep; count = same_count most_read most_typed is b h p.are; named = λ names n. no_names most_typed b p.are names }) (items_kept s r is h)
 
 body_items_kept : (s : Scopes) (r : Around) (is : BlockItems) → BodyItemsFormed most_read is → Holds (AreKeptItems is) (typed_items s r is)
 body_items_kept s r NoItem h = last_kept s r NoItem h
@@ -64,11 +69,12 @@ body_items_kept s r (Then (Declare ds) rest) h =
     (λ xs q. subst (λ (j : BlockItem). AreKeptItems (Then (Declare ds) rest) (Then j xs)) (sym p.is) (record {
       are = (p.kept.init, q.are);
       deep = ap (λ n. max 0 n) q.deep;
+      count = length-append p.declared (declared_in xs) ∙ (λ k. p.kept.count k + q.count k) ∙ sym (length-append ds (declared_in rest));
       named = λ names n. let parts = named_front names ds (declared_in rest) n in named_joined names p.declared (declared_in xs) (p.kept.names names parts.0) (q.named names parts.1);
     })))
 
 last_noted : (s : Scopes) (is : BlockItems) → ItemsFormed most_typed is → Holds (AreKeptItems is) (noted_items s is)
-last_noted s is h = holds_more (AreNotedItems is) (AreKeptItems is) (noted_items s is) (λ b p. record { are = formed_body most_typed b p.are; deep = p.deep; named = λ names n. no_names most_typed b p.are names }) (items_noted s is h)
+last_noted s is h = holds_more (AreNotedItems is) (AreKeptItems is) (noted_items s is) (λ b p. record { are = formed_body most_typed b p.are; deep = p.deep; count = same_count most_typed most_typed is b h p.are; named = λ names n. no_names most_typed b p.are names }) (items_noted s is h)
 
 body_items_noted : (s : Scopes) (is : BlockItems) → BodyItemsFormed most_typed is → Holds (AreKeptItems is) (noted_items s is)
 body_items_noted s NoItem h = last_noted s NoItem h
@@ -79,6 +85,7 @@ body_items_noted s (Then (Declare ds) rest) h =
     (λ xs q. record {
       are = (h.0, q.are);
       deep = ap (λ n. max 0 n) q.deep;
+      count = length-append ds (declared_in xs) ∙ ap (λ k. length ds + k) q.count ∙ sym (length-append ds (declared_in rest));
       named = λ names n. let parts = named_front names ds (declared_in rest) n in named_joined names ds (declared_in xs) parts.0 (q.named names parts.1);
     })
 
@@ -86,10 +93,11 @@ body_items_noted s (Then (Declare ds) rest) h =
 
 record KeptBody (a b : Option Statement) : Type 0 where
   formed : BodyFormed most_typed b
+  few : BodyFew a → BodyFew b
   named : (names : List (List ℕ)) → BodyNamed names a → BodyNamed names b
 
 body_of : (at : Place) (a b : BlockItems) → depth_of_items a ≤ 200 → AreKeptItems a b → KeptBody (Some (Block at a)) (Some (Block at b))
-body_of at a b le p = record { formed = (p.are, subst (λ n. 1 + n ≤ 201) (sym p.deep) (omega (arith, le))); named = p.named }
+body_of at a b le p = record { formed = (p.are, subst (λ n. 1 + n ≤ 201) (sym p.deep) (omega (arith, le))); few = λ h. subst (λ n. n ≤ 1000) (sym p.count) h; named = p.named }
 
 body_kept : (s : Scopes) (t : PlainType) (b : Option Statement) → BodyFormed most_read b → Holds (KeptBody b) (typed_body s t b)
 body_kept s t None h = absurd h
@@ -131,16 +139,17 @@ function_kept s f h =
 -- what is kept of a list of one function at most
 record KeptFunctions (fs gs : List Function) : Type 0 where
   formed : FunctionsFormed most_typed gs
+  few : FunctionsFew fs → FunctionsFew gs
   named : (names : List (List ℕ)) → FunctionsNamed names fs → FunctionsNamed names gs
   main : (names : List (List ℕ)) → main_fault names gs ≡ main_fault names fs
 
 no_functions : KeptFunctions [] []
-no_functions = record { formed = tt; named = λ names h. h; main = λ names. refl }
+no_functions = record { formed = tt; few = λ h. h; named = λ names h. h; main = λ names. refl }
 
 one_function : (f g : Function) → f.params ≡ [] → f.contract ≡ None → KeptFunction f g → KeptFunctions (f ∷ []) (g ∷ [])
 one_function f g params contract k =
     subst (λ (x : Function). KeptFunctions (f ∷ []) (x ∷ [])) (sym k.is)
-    (record { formed = record { params = params; no_contract = contract; body = k.kept.formed }; named = λ names h. (k.kept.named names h.0, tt); main = λ names. refl })
+    (record { formed = record { params = params; no_contract = contract; body = k.kept.formed }; few = λ h. (k.kept.few h.0, tt); named = λ names h. (k.kept.named names h.0, tt); main = λ names. refl })
 
 functions_kept : (s : Scopes) (fs : List Function) → FunctionsFormed most_read fs → Holds (KeptFunctions fs) (typed_functions s fs)
 functions_kept s [] h = no_functions
@@ -156,11 +165,12 @@ functions_noted s (f ∷ g ∷ fs) h = absurd h
 
 pub record KeptProgram (p q : TranslationUnit) : Type 0 where
   pub formed : ProgramFormed most_typed q
+  pub few : FunctionsFew p.funcs → FunctionsFew q.funcs
   pub named : FunctionsNamed p.names p.funcs → FunctionsNamed q.names q.funcs
   pub main : main_fault q.names q.funcs ≡ main_fault p.names p.funcs
 
 program_of : (p : TranslationUnit) (fs : List Function) → p.globals ≡ [] → KeptFunctions p.funcs fs → KeptProgram p (record p { funcs = fs })
-program_of p fs g k = record { formed = record { globals = g; functions = k.formed }; named = k.named p.names; main = k.main p.names }
+program_of p fs g k = record { formed = record { globals = g; functions = k.formed }; few = k.few; named = k.named p.names; main = k.main p.names }
 
 pub unit_kept : (p q : TranslationUnit) → ProgramFormed most_read p → typed_unit p ≡ Good q → KeptProgram p q
 unit_kept p q h e = holds_at (KeptProgram p) (typed_unit p) q e (holds_one (KeptFunctions p.funcs) (KeptProgram p) (typed_functions (file_scopes p) p.funcs) _ (functions_kept (file_scopes p) p.funcs h.functions) (λ fs k. program_of p fs h.globals k))

@@ -1,5 +1,5 @@
 -- Typing keeps the form of statements and declarations, their depth, and the names that are declared.
-use Rattle.std.proofs.Common.{◌≡◌, ℕ, suc, ◌+◌, ◌≤◌, max, Bool, true, false, not, ◌&&◌, cond, drop, List, [], ◌∷◌, ◌++◌, Option, Some, None, refl, sym, ap, subst, ◌∙◌, arith}
+use Rattle.std.proofs.Common.{◌≡◌, ℕ, suc, ◌+◌, ◌≤◌, max, Bool, true, false, not, ◌&&◌, cond, drop, List, [], ◌∷◌, ◌++◌, length, Option, Some, None, refl, sym, ap, subst, ◌∙◌, arith}
 use Rattle.c_syntax.specs.declared.place.Place.{Place}
 use Rattle.c_syntax.specs.Ctypes.{PlainType}
 use Rattle.c_syntax.specs.Expressions.{Expression, type_of}
@@ -37,6 +37,7 @@ record KeptDeclaration (d e : Declaration) : Type 0 where
 
 pub record KeptDeclarations (ds es : List Declaration) : Type 0 where
   pub names : SameNames ds es
+  pub count : length es ≡ length ds
   pub init : AreInitialised most_typed es
 
 initialiser_kept : (s : Scopes) (t : PlainType) (i : Option (Place × Initialiser)) → IsInitialiser most_read i → Holds (IsInitialiser most_typed) (typed_initialiser s t i)
@@ -61,11 +62,11 @@ declaration_kept s d h =
     (λ x i p q. record { name = ap (λ (y : Declaration). y.name) p; init = q })
 
 pub declarations_kept : (s : Scopes) (ds : List Declaration) → AreInitialised most_read ds → Holds (KeptDeclarations ds) (typed_declarations s ds)
-declarations_kept s [] h = record { names = λ names n. n; init = tt }
+declarations_kept s [] h = record { names = λ names n. n; count = refl; init = tt }
 declarations_kept s (d ∷ ds) h =
     holds_one (KeptDeclaration d) (KeptDeclarations (d ∷ ds)) (typed_declaration s d) _ (declaration_kept s d h.0) (λ e p.
     holds_one (KeptDeclarations ds) (KeptDeclarations (d ∷ ds)) (typed_declarations (with_object s e) ds) (λ es. Good (e ∷ es)) (declarations_kept (with_object s e) ds h.1)
-    (λ es q. record { names = λ names n. (subst (λ k. IsName (name_at names k)) (sym p.name) n.0, q.names names n.1); init = (p.init, q.init) }))
+    (λ es q. record { names = λ names n. (subst (λ k. IsName (name_at names k)) (sym p.name) n.0, q.names names n.1); count = ap suc q.count; init = (p.init, q.init) }))
 
 -- ---- statements
 

@@ -1,1 +1,2 @@
+pub mod FewObjects
 pub mod Answers
