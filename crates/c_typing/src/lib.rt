@@ -4,8 +4,14 @@
 //! A function for each construct gives its typed part, or of all faults of its smallest faulty parts the first in the text.
 #![tactic(auto)]
 
+pub mod call;
 pub mod conversion;
+pub mod declaration;
+pub mod expression;
 pub mod fault;
 pub mod library;
+pub mod operator;
+pub mod scope;
+pub mod statement;
 
 pub use fault::{Fault, TypeFault};

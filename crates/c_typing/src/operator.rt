@@ -3,7 +3,7 @@
 ghost use Rattle.std.specs.Prelude.{◌≡◌, IfOk};
 ghost use Rattle.c_syntax.specs.Ctypes.{Int, plain_type};
 ghost use Rattle.c_syntax.specs.Expressions.{plain_expr};
-ghost use Rattle.c_model.specs.Typing.{assign, assigned, binary, both_of, bump, cast, choice_of, compound, either_of, in_type, in_int, is_place, literal, size_of_expression, size_of_type, unary};
+ghost use Rattle.c_model.specs.Typing.{assign, assigned, binary, both_of, bump, cast, choice_of, compounded, either_of, in_type, in_int, is_place, literal, size_of_expression, size_of_type, unary};
 ghost use Rattle.c_typing.specs.Answers.{Answers};
 
 use crate::conversion::{
@@ -200,3 +200,107 @@ fn assigned(alloc: Global, place: Place, a: Expr, b: Expr) -> Result<Expr, TypeF
     }
 }
 
+/// `a op= b` (C99 6.5.16.2).
+fn compounded(
+    alloc: Global,
+    place: Place,
+    op: BinOp,
+    a: Expr,
+    b: Expr,
+) -> Result<Expr, TypeFault>
+    ensures { Answers plain_expr (compounded place op (plain_expr a) (plain_expr b)) result }
+{
+    if is_place(&a) && integer_of(&a.ctype).is_some() && integer_of(&b.ctype).is_some() {
+        let ctype = copy_type(&a.ctype);
+        let a = Box::new(alloc, a)?;
+        let b = Box::new(alloc, b)?;
+        Ok(Expr {
+            place,
+            kind: ExprKind::Assign(Some(op), a, b),
+            ctype,
+        })
+    } else {
+        Err(no_type(place))
+    }
+}
+
+/// Assignment operators (C99 6.5.16).
+pub fn assign(
+    alloc: Global,
+    place: Place,
+    op: Option<BinOp>,
+    a: Expr,
+    b: Expr,
+) -> Result<Expr, TypeFault>
+    ensures { Answers plain_expr (assign place op (plain_expr a) (plain_expr b)) result }
+{
+    match op {
+        None => assigned(alloc, place, a, b),
+        Some(op) => compounded(alloc, place, op, a, b),
+    }
+}
+
+/// `++` and `--` (C99 6.5.2.4, 6.5.3.1).
+pub fn bump(alloc: Global, place: Place, op: BumpOp, a: Expr) -> Result<Expr, TypeFault>
+    ensures { Answers plain_expr (bump place op (plain_expr a)) result }
+{
+    if is_place(&a) && integer_of(&a.ctype).is_some() {
+        let ctype = copy_type(&a.ctype);
+        let a = Box::new(alloc, a)?;
+        Ok(Expr {
+            place,
+            kind: ExprKind::Bump(op, a),
+            ctype,
+        })
+    } else {
+        Err(no_type(place))
+    }
+}
+
+/// Casts (C99 6.5.4).
+pub fn cast(alloc: Global, place: Place, to: CType, a: Expr) -> Result<Expr, TypeFault>
+    ensures { Answers plain_expr (cast place (plain_type to) (plain_expr a)) result }
+{
+    if is_cast(&a.ctype, &to) {
+        let ctype = copy_type(&to);
+        let a = Box::new(alloc, a)?;
+        Ok(Expr {
+            place,
+            kind: ExprKind::Cast(to, a),
+            ctype,
+        })
+    } else {
+        Err(no_type(place))
+    }
+}
+
+/// `sizeof` of a type that has a size (C99 6.5.3.4).
+pub fn size_of_type(place: Place, t: CType) -> Result<Expr, TypeFault>
+    ensures { Answers plain_expr (size_of_type place (plain_type t)) result }
+{
+    if is_object_type(&t) {
+        Ok(Expr {
+            place,
+            kind: ExprKind::SizeOfType(t),
+            ctype: CType::Int(CInt::U64),
+        })
+    } else {
+        Err(no_type(place))
+    }
+}
+
+/// `sizeof` of an expression that has a size (C99 6.5.3.4).
+pub fn size_of_expression(alloc: Global, place: Place, a: Expr) -> Result<Expr, TypeFault>
+    ensures { Answers plain_expr (size_of_expression place (plain_expr a)) result }
+{
+    if is_object_type(&a.ctype) {
+        let a = Box::new(alloc, a)?;
+        Ok(Expr {
+            place,
+            kind: ExprKind::SizeOfExpr(a),
+            ctype: CType::Int(CInt::U64),
+        })
+    } else {
+        Err(no_type(place))
+    }
+}

@@ -2,7 +2,8 @@
 
 ghost use Rattle.std.specs.Prelude.{◌≡◌, IfOk, drop, map, option_map};
 ghost use Rattle.c_syntax.specs.Ctypes.{plain_type};
-ghost use Rattle.c_model.specs.Typing.{function_called, is_there, name_at, object_named};
+ghost use Rattle.c_model.specs.Library.{is_there};
+ghost use Rattle.c_model.specs.Typing.{function_called, name_at, object_named};
 ghost use Rattle.c_typing.specs.Scopes.{plain_object, plain_signature};
 
 use crate::conversion::copy_type;

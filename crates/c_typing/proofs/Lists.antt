@@ -1,0 +1,33 @@
+-- Lists of parts, one after another.
+use Rattle.std.proofs.Common.{◌≡◌, List, [], ◌∷◌, ◌++◌, refl, sym, ap, ◌∙◌, subst, append_assoc, Option, Some, None, Result, Ok, Err}
+use Rattle.std.proofs.lemmas.List.{append-nil}
+use Rattle.c_model.specs.Checked.{Fault, Checked, Good, Bad, one_part, refusing}
+use Rattle.c_typing.specs.declared.fault.TypeFault.{TypeFault}
+use Rattle.c_typing.specs.declared.fault.TypeFault.TheVariants.{Refused, Memory}
+use Rattle.c_typing.specs.Answers.{Answers}
+use Rattle.c_typing.proofs.Least.{one_refused}
+
+-- parts in front of those of a list
+abbrev pub behind_parts : {A : Type 0} → List A → Checked (List A) → Checked (List A)
+behind_parts done c = one_part c (λ rest. Good (done ++ rest))
+
+pub no_parts : {A : Type 0} (c : Checked (List A)) → behind_parts [] c ≡ c
+no_parts (Good a) = refl
+no_parts (Bad f fs) = refl
+
+pub all_parts : {A : Type 0} (done : List A) → behind_parts done (Good []) ≡ Good done
+all_parts done = ap Good (append-nil done)
+
+more_parts : {A : Type 0} (done : List A) (x : A) (c : Checked (List A)) → behind_parts done (one_part c (λ rest. Good (x ∷ rest))) ≡ behind_parts (done ++ x ∷ []) c
+more_parts done x (Good xs) = ap Good (sym (append_assoc done (x ∷ []) xs))
+more_parts done x (Bad f fs) = refl
+
+module _ {A B : Type 0} (done : List A) (m : Checked B) (view : B → A) (rest : B → Checked (List A))
+  where
+  -- the first of the parts has no fault
+  pub next_part : (b : B) → m ≡ Good b → behind_parts done (one_part m (λ x. one_part (rest x) (λ xs. Good (view x ∷ xs)))) ≡ behind_parts (done ++ view b ∷ []) (rest b)
+  next_part b is = ap (λ c. behind_parts done (one_part c (λ x. one_part (rest x) (λ xs. Good (view x ∷ xs))))) is ∙ more_parts done (view b) (rest b)
+
+  -- the first of the parts is refused
+  pub part_refused : {S T : Type 0} (p : T → B) (s : S → List A) (h : TypeFault) → Answers p m (Err h) → Answers s (behind_parts done (one_part m (λ x. one_part (rest x) (λ xs. Good (view x ∷ xs))))) (Err h)
+  part_refused {S = S} p s h a = one_refused (λ (xs : List A). Good (done ++ xs)) s s (one_part m (λ x. one_part (rest x) (λ xs. Good (view x ∷ xs)))) h (one_refused (λ x. one_part (rest x) (λ xs. Good (view x ∷ xs))) p s m h a)
