@@ -115,3 +115,9 @@ left_block s is = left_wider s _ (widens_items s (inner s) is (widens_inner s))
 
 pub left_for : (s : Scopes) (i : ForFirst) → left (length s.objects) s.innermost (behind_first (inner s) i) ≡ s
 left_for s i = left_wider s _ (widens_first s (inner s) i (widens_inner s))
+
+widens_same : (s : Scopes) → Widens s s
+widens_same s = record { from = s.innermost; more = []; is = ap (λ os. record s { objects = os }) (sym (append-nil s.objects)) }
+
+pub left_body : (s : Scopes) (is : BlockItems) → left (length s.objects) s.innermost (behind_items s is) ≡ s
+left_body s is = left_wider s _ (widens_items s s is (widens_same s))

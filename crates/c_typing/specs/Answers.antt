@@ -1,11 +1,15 @@
 -- What a function returned is what the definition gives, unless memory was wanting.
-use Rattle.std.specs.Prelude.{◌≡◌, List, [], ◌∷◌, ◌++◌, Some, cond, nat_lt, Result, Ok, Err, Vec}
+use Rattle.std.specs.Prelude.{◌≡◌, List, [], ◌∷◌, ◌++◌, map, Some, None, cond, nat_lt, Result, Ok, Err, Vec}
 use Rattle.std.specs.declared.alloc.Global.{Global}
+use Rattle.c_syntax.specs.Programs.{TranslationUnit, plain_func, plain_program}
+use Rattle.c_model.specs.ProgramTyping.{typed_unit, main_fault}
 use Rattle.c_model.specs.Checked.{Checked, Good, refusing, rank}
 use Rattle.c_model.specs.Checked as plain
 use Rattle.c_typing.specs.declared.fault.Fault.{Fault}
 use Rattle.c_typing.specs.declared.fault.TypeFault.{TypeFault}
 use Rattle.c_typing.specs.declared.fault.TypeFault.TheVariants.{Refused, Memory}
+use Rattle.c_typing.specs.declared.checked.Typed.{Typed}
+use Rattle.c_typing.specs.TypedPrograms.{IsRefused}
 
 abbrev pub plain_fault : Fault → plain.Fault
 plain_fault f = record { code = f.code; place = f.place }
@@ -37,3 +41,9 @@ Pushed (Ok p) (Err (Refused f)) = ⊥
 Pushed (Ok p) (Err Memory) = Unit {0}
 Pushed (Err f) (Ok v) = ⊥
 Pushed (Err f) (Err g) = g ≡ f
+
+-- names and types, and then `main`
+abbrev pub AnswersProgram : TranslationUnit → Result Typed TypeFault → Type 0
+AnswersProgram p (Ok t) = (typed_unit p ≡ Good (plain_program t.program)) × (main_fault t.program.names.items (map plain_func t.program.funcs.items) ≡ None)
+AnswersProgram p (Err (Refused f)) = IsRefused p (plain_fault f)
+AnswersProgram p (Err Memory) = Unit {0}

@@ -2,3 +2,4 @@ pub mod Answers
 pub mod Library
 pub mod Scopes
 pub mod Trees
+pub mod TypedPrograms

@@ -117,3 +117,15 @@ pub fn type_declarations(
     }
     Ok(done)
 }
+
+/// Brings declared objects in sight.
+pub fn declare_all(scopes: &mut Scopes, list: &[Decl]) -> Result<(), AllocError>
+    ensures { OnOk result (plain_scopes scopes.new ≡ with_objects (plain_scopes scopes.old) (map plain_decl list.now)) }
+{
+    let mut rest = list;
+    'turn: while let [d, after @ ..] = rest {
+        declare(scopes, d)?;
+        rest = after;
+    }
+    Ok(())
+}

@@ -4,14 +4,19 @@
 //! A function for each construct gives its typed part, or of all faults of its smallest faulty parts the first in the text.
 #![tactic(auto)]
 
+pub mod annotation;
 pub mod call;
+pub mod checked;
 pub mod conversion;
 pub mod declaration;
 pub mod expression;
 pub mod fault;
 pub mod library;
 pub mod operator;
+pub mod program;
 pub mod scope;
 pub mod statement;
 
+pub use checked::Typed;
 pub use fault::{Fault, TypeFault};
+pub use program::type_program;

@@ -1,10 +1,10 @@
 //! What is in sight (C99 6.2.1).
 
-ghost use Rattle.std.specs.Prelude.{◌≡◌, IfOk, drop, map, option_map};
+ghost use Rattle.std.specs.Prelude.{◌≡◌, IfOk, drop, length, map, option_map};
 ghost use Rattle.c_syntax.specs.Ctypes.{plain_type};
 ghost use Rattle.c_model.specs.Library.{is_there};
-ghost use Rattle.c_model.specs.Typing.{function_called, name_at, object_named};
-ghost use Rattle.c_typing.specs.Scopes.{plain_object, plain_signature};
+ghost use Rattle.c_model.specs.Typing.{function_called, inner, name_at, object_named};
+ghost use Rattle.c_typing.specs.Scopes.{left, plain_object, plain_scopes, plain_signature};
 
 use crate::conversion::copy_type;
 use c_syntax::{CType, Name};
@@ -34,6 +34,13 @@ pub struct Scopes {
     pub names: Vec<Name>,
     pub functions: Vec<Signature>,
     pub objects: Vec<Object>,
+    pub innermost: usize,
+}
+
+/// What a block leaves unchanged: the count of the objects around it, and where their innermost scope begins.
+#[derive(Clone, Copy, Drop)]
+pub struct Mark {
+    pub count: usize,
     pub innermost: usize,
 }
 
@@ -103,4 +110,32 @@ pub fn copy_signature(alloc: Global, f: &Signature) -> Result<Signature, AllocEr
         params: copy_types(alloc, &f.params)?,
         result: copy_type(&f.result),
     })
+}
+
+/// What is around a block that begins here.
+pub fn mark(scopes: &Scopes) -> Mark
+    ensures { result ≡ record { count = length (plain_scopes scopes.now).objects; innermost = scopes.now.innermost } }
+{
+    Mark {
+        count: scopes.objects.len(),
+        innermost: scopes.innermost,
+    }
+}
+
+/// Begins a block, whose scope holds no object yet.
+pub fn enter(scopes: &mut Scopes) -> Mark
+    ensures inner { plain_scopes scopes.new ≡ inner (plain_scopes scopes.old) }
+    ensures mark { result ≡ record { count = length (plain_scopes scopes.old).objects; innermost = scopes.old.innermost } }
+{
+    let mark = mark(scopes);
+    scopes.innermost = mark.count;
+    mark
+}
+
+/// Ends a block.
+pub fn leave(scopes: &mut Scopes, mark: Mark)
+    ensures { plain_scopes scopes.new ≡ left mark.count mark.innermost (plain_scopes scopes.old) }
+{
+    scopes.objects.truncate(mark.count);
+    scopes.innermost = mark.innermost;
 }

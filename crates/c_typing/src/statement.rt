@@ -1,13 +1,13 @@
 //! Statements (C99 6.8).
 
-ghost use Rattle.std.specs.Prelude.{◌≡◌, IfOk, option_map, length};
+ghost use Rattle.std.specs.Prelude.{◌≡◌, IfOk, option_map};
 ghost use Rattle.c_syntax.specs.Ctypes.{plain_type};
 ghost use Rattle.c_syntax.specs.Expressions.{plain_expr};
 ghost use Rattle.c_syntax.specs.Statements.{plain_item, plain_items, plain_stmt, plain_stmt_kind};
 ghost use Rattle.c_model.specs.Checked.{Good, where_so};
 ghost use Rattle.c_model.specs.Typing.{behind, behind_first, condition, in_loop, inner, no_type, returned, typed, typed_condition, typed_else, typed_first, typed_item, typed_items, typed_maybe, typed_statement};
 ghost use Rattle.c_typing.specs.Answers.{Answers};
-ghost use Rattle.c_typing.specs.Scopes.{behind_items, left, plain_scopes};
+ghost use Rattle.c_typing.specs.Scopes.{behind_items, plain_scopes};
 ghost use Rattle.c_typing.specs.Trees.{plain_around, plain_block, plain_else_part, plain_for_first};
 
 use crate::conversion::{copy_type, is_assigned, is_scalar};
@@ -15,7 +15,7 @@ use crate::declaration::type_declarations;
 use crate::expression::type_expr;
 use crate::fault::{TypeFault, no_type};
 use crate::operator::in_type;
-use crate::scope::Scopes;
+use crate::scope::{Scopes, enter, leave};
 use c_syntax::{CType, Expr, Item, Place, Stmt, StmtKind};
 use std::alloc::Global;
 
@@ -26,13 +26,6 @@ pub struct Around {
     pub loops: bool,
 }
 
-/// What a block leaves unchanged: the count of the objects around it, and where their innermost scope begins.
-#[derive(Clone, Copy, Drop)]
-struct Mark {
-    count: usize,
-    innermost: usize,
-}
-
 fn in_loop(around: &Around) -> Around
     ensures { plain_around result ≡ in_loop (plain_around around.now) }
 {
@@ -40,27 +33,6 @@ fn in_loop(around: &Around) -> Around
         result: copy_type(&around.result),
         loops: true,
     }
-}
-
-/// Begins a block, whose scope holds no object yet.
-fn enter(scopes: &mut Scopes) -> Mark
-    ensures inner { plain_scopes scopes.new ≡ inner (plain_scopes scopes.old) }
-    ensures mark { result ≡ record { count = length (plain_scopes scopes.old).objects; innermost = scopes.old.innermost } }
-{
-    let mark = Mark {
-        count: scopes.objects.len(),
-        innermost: scopes.innermost,
-    };
-    scopes.innermost = mark.count;
-    mark
-}
-
-/// Ends a block.
-fn leave(scopes: &mut Scopes, mark: Mark)
-    ensures { plain_scopes scopes.new ≡ left mark.count mark.innermost (plain_scopes scopes.old) }
-{
-    scopes.objects.truncate(mark.count);
-    scopes.innermost = mark.innermost;
 }
 
 /// A condition is a scalar (C99 6.8.4.1, 6.8.5).

@@ -53,7 +53,7 @@ type_statement-returns-in_err-a-in-For-clause-typed t c =
 
 pub type_statement-returns-in_ok-a-in-For-2-clause-typed : goal.type_statement-returns-in_ok-a-in-For-2-clause-typed
 type_statement-returns-in_ok-a-in-For-2-clause-typed t c =
-    for_typed (plain_scopes c.args.scopes.now) (plain_around c.args.around.now) c.args.s c.in-For.annots c.in-For.first c.in-For.e c.in-For.step c.in-For.a c.in-For.is (plain_scopes c.enter-mark.new.scopes) (plain_scopes c.type_first.new.scopes) c.in_ok-first-in-For.first c.in_ok-e-in-For.e c.enter-mark.ensures.inner c.in_ok-first-in-For.ensures.typed c.in_ok-first-in-For.ensures.behind c.in_ok-e-in-For.ensures c.in_ok-step-in-For.step (plain_around c.in_loop-inside-in-For.result) c.into_inner-in-For.result c.in_ok-step-in-For.ensures c.in_loop-inside-in-For.ensures c.into_inner-in-For.ensures c.in_ok-a-in-For.a c.in_ok-a-in-For-2.a c.in_ok-a-in-For.ensures.typed c.in_ok-a-in-For-2.ensures
+    for_typed (plain_scopes c.args.scopes.now) (plain_around c.args.around.now) c.args.s c.in-For.annots c.in-For.first c.in-For.e c.in-For.step c.in-For.a c.in-For.is (plain_scopes c.enter-mark.new.scopes) (plain_scopes c.type_first.new.scopes) c.in_ok-first-in-For.first c.in_ok-e-in-For.e c.enter-mark.ensures.inner c.in_ok-first-in-For.ensures.typed c.in_ok-first-in-For.ensures.behind c.in_ok-e-in-For.ensures c.in_ok-step-in-For.step (plain_around c.in_loop-inside-in-For.result) c.into_inner-in-For.result c.in_ok-step-in-For.ensures c.in_loop-inside-in-For.ensures c.into_inner-in-For.ensures c.in_ok-a-in-For.a c.in_ok-a-in-For-2.a c.in_ok-a-in-For.ensures.typed c.in_ok-a-in-For-2.ensures.ok
 
 pub type_statement-returns-in_ok-a-in-For-2-clause-same : goal.type_statement-returns-in_ok-a-in-For-2-clause-same
 type_statement-returns-in_ok-a-in-For-2-clause-same t c =

@@ -1,7 +1,7 @@
 use Rattle.std.proofs.Common.{ap, map, sym, ◌∙◌}
 use Rattle.std.proofs.lemmas.List.{take-map}
 use Rattle.c_typing.specs.Scopes.{plain_object, plain_scopes}
-use Rattle.c_typing.proofs.statement.leave.Goals as goal
+use Rattle.c_typing.proofs.scope.leave.Goals as goal
 
 pub returns : goal.returns
 returns c =
