@@ -54,3 +54,9 @@ module _ (s : Scopes) (t : PlainType) (body : Option Stmt) (a : Stmt) (v : Vec I
 pub functions_more : (s t : Scopes) (all : List Function) (list done done' : List Func) (f x : Func) (rest : List Func) → typed_functions s all ≡ behind_parts (map plain_func done) (typed_functions t (map plain_func list)) → list ≡ f ∷ rest → typed_function t (plain_func f) ≡ Good (plain_func x) → done' ≡ done ++ x ∷ [] → typed_functions s all ≡ behind_parts (map plain_func done') (typed_functions t (map plain_func rest))
 functions_more s t all list done done' f x rest before is good more =
     list_more plain_func (λ y. y) (typed_functions s all) (typed_functions t (map plain_func list)) done done' x (typed_function t (plain_func f)) (λ y. typed_functions t (map plain_func rest)) (plain_func x) before (ap (λ fs. typed_functions t (map plain_func fs)) is) good refl more
+
+-- one more function is noted
+pub functions_noted_more : (s t t' : Scopes) (all : List Function) (list done done' : List Func) (f : Func) (body : Option Stmt) (rest : List Func) → noted_functions s all ≡ behind_parts (map plain_func done) (noted_functions t (map plain_func list)) → list ≡ f ∷ rest → noted_body t (option_map plain_stmt f.body) ≡ Good (option_map plain_stmt body) → done' ≡ done ++ record f { body = body } ∷ [] → t' ≡ t → noted_functions s all ≡ behind_parts (map plain_func done') (noted_functions t' (map plain_func rest))
+functions_noted_more s t t' all list done done' f body rest before is good more same =
+    list_more plain_func (λ b. record (plain_func f) { body = b }) (noted_functions s all) (noted_functions t (map plain_func list)) done done' (record f { body = body }) (noted_body t (option_map plain_stmt f.body)) (λ b. noted_functions t (map plain_func rest)) (option_map plain_stmt body) before (ap (λ fs. noted_functions t (map plain_func fs)) is) good refl more
+    ∙ ap (λ u. behind_parts (map plain_func done') (noted_functions u (map plain_func rest))) (sym same)

@@ -6,15 +6,19 @@ use Rattle.c_syntax.specs.declared.annotation.Annot.{Annot}
 use Rattle.c_syntax.specs.declared.annotation.Link.{Link}
 use Rattle.c_syntax.specs.declared.annotation.Term.{Term}
 use Rattle.c_syntax.specs.declared.annotation.TermKind.{TermKind}
-use Rattle.c_syntax.specs.Annotations.{LogicTerm, Links, NoLink, Linked, Annotation, plain_term, plain_term_kind, plain_links, plain_annot}
+use Rattle.c_syntax.specs.declared.annotation.Body.{Body}
+use Rattle.c_syntax.specs.declared.annotation.Pred.{Pred}
+use Rattle.c_syntax.specs.declared.annotation.PredKind.TheVariants as code
+use Rattle.c_syntax.specs.Annotations.{LogicTerm, Predicate, Chain, Links, NoLink, Linked, Annotation, plain_pred, plain_pred_kind, plain_body, plain_term, plain_term_kind, plain_links, plain_annot}
 use Rattle.c_model.specs.Checked.{Checked, Good, Bad, one_part, both_parts}
 use Rattle.c_model.specs.Typing.{Scopes}
-use Rattle.c_model.specs.ProgramTyping.{typed_term, typed_links, typed_annotations, typed_clause}
+use Rattle.c_model.specs.ProgramTyping.{typed_term, typed_links, typed_predicate, typed_annotations, typed_clause}
 use Rattle.c_typing.specs.declared.fault.TypeFault.{TypeFault}
 use Rattle.c_typing.specs.declared.fault.TypeFault.TheVariants.{Refused, Memory}
 use Rattle.c_typing.specs.Answers.{Answers, Joined, Pushed}
 use Rattle.c_typing.specs.Trees.{plain_link, plain_chain}
 use Rattle.c_typing.proofs.Least.{both_refused}
+use Rattle.c_typing.proofs.Lists.{behind_parts, list_more}
 
 abbrev join : Links → Links → Links
 join NoLink ms = ms
@@ -70,3 +74,12 @@ module _ (s : Scopes) (xs : List Link) (l : Link)
 -- a term at a known variant
 pub term_at : (s : Scopes) (t : Term) (k : TermKind) (r : Result Term TypeFault) → t.kind ≡ k → Answers plain_term (typed_term s (plain_term (record t { kind = k }))) r → Answers plain_term (typed_term s (plain_term t)) r
 term_at s t k r is h = subst (λ x. Answers plain_term (typed_term s (plain_term (record t { kind = x }))) r) (sym is) h
+
+-- a predicate at its chain
+pub predicate_at : (s : Scopes) (p : Pred) (t : Term) (links : Vec Link Global) (r : Result Pred TypeFault) → p.kind ≡ code.Chain t links → Answers plain_pred (both_parts (typed_term s (plain_term t)) (typed_links s (plain_links links.items)) (λ t links. Good (Chain p.place t links))) r → Answers plain_pred (typed_predicate s (plain_pred p)) r
+predicate_at s p t links r is h = subst (λ k. Answers plain_pred (typed_predicate s (plain_pred_kind p.place k)) r) (sym is) h
+
+-- one more annotation is typed
+pub annotations_more : (s : Scopes) (all : List Annotation) (list done done' : List Annot) (a : Annot) (body : Body) (rest : List Annot) → typed_annotations s all ≡ behind_parts (map plain_annot done) (typed_annotations s (map plain_annot list)) → list ≡ a ∷ rest → typed_clause s (plain_body a.body) ≡ Good (plain_body body) → done' ≡ done ++ record a { body = body } ∷ [] → typed_annotations s all ≡ behind_parts (map plain_annot done') (typed_annotations s (map plain_annot rest))
+annotations_more s all list done done' a body rest before is good more =
+    list_more plain_annot (λ b. record (plain_annot a) { body = b }) (typed_annotations s all) (typed_annotations s (map plain_annot list)) done done' (record a { body = body }) (typed_clause s (plain_body a.body)) (λ b. typed_annotations s (map plain_annot rest)) (plain_body body) before (ap (λ l. typed_annotations s (map plain_annot l)) is) good refl more

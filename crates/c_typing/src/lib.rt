@@ -12,6 +12,7 @@ pub mod declaration;
 pub mod expression;
 pub mod fault;
 pub mod library;
+pub mod noted;
 pub mod operator;
 pub mod program;
 pub mod scope;
@@ -19,4 +20,5 @@ pub mod statement;
 
 pub use checked::Typed;
 pub use fault::{Fault, TypeFault};
+pub use noted::type_annotations;
 pub use program::type_program;

@@ -1,6 +1,6 @@
 //! Functions and whole texts (C99 6.9).
 
-ghost use Rattle.std.specs.Prelude.{◌≡◌, IfOk, map, not, ◌&&◌, option_map};
+ghost use Rattle.std.specs.Prelude.{◌≡◌, IfOk, [], map, not, ◌&&◌, option_map};
 ghost use Rattle.c_syntax.specs.Ctypes.{int_type, plain_type};
 ghost use Rattle.c_syntax.specs.Statements.{plain_decl, plain_items, plain_stmt};
 ghost use Rattle.c_syntax.specs.Programs.{plain_func, plain_program};
@@ -17,7 +17,7 @@ use crate::checked::Typed;
 use crate::conversion::copy_type;
 use crate::fault::{Fault, TypeFault, both, no_name};
 use crate::library::is_library_name;
-use crate::scope::{Scopes, Signature, leave, mark, name_at};
+use crate::scope::{Scopes, Signature, leave, mark_here, name_at};
 use crate::statement::{Around, type_items};
 use c_syntax::{CInt, CType, Decl, Func, Item, Name, Place, Program, Stmt, StmtKind};
 use std::alloc::{AllocError, Global};
@@ -55,6 +55,19 @@ fn signatures(alloc: Global, funcs: &[Func]) -> Result<Vec<Signature>, AllocErro
     Ok(all)
 }
 
+/// What is in sight at the front of each function's body.
+pub fn file_scopes(alloc: Global, names: Vec<Name>, funcs: &[Func]) -> Result<Scopes, AllocError>
+    ensures { IfOk result (λ s. plain_scopes s ≡ record { names = names.items; functions = map signature (map plain_func funcs.now); objects = []; innermost = 0 }) }
+{
+    let functions = signatures(alloc, funcs)?;
+    Ok(Scopes {
+        names,
+        functions,
+        objects: Vec::new(alloc),
+        innermost: 0,
+    })
+}
+
 /// The items of a body, whose scope is the function's.
 fn type_body_items(
     alloc: Global,
@@ -65,7 +78,7 @@ fn type_body_items(
     ensures typed { Answers plain_block (typed_items (plain_scopes scopes.old) (around_body (plain_type ctype.now)) (plain_items items.items)) result }
     ensures same { IfOk result (λ _. plain_scopes scopes.new ≡ plain_scopes scopes.old) }
 {
-    let mark = mark(scopes);
+    let mark = mark_here(scopes);
     let around = Around {
         result: copy_type(ctype),
         loops: false,
@@ -171,13 +184,7 @@ fn type_unit(alloc: Global, program: Program) -> Result<Program, TypeFault>
         funcs,
         strays,
     } = program;
-    let functions = signatures(alloc, &funcs)?;
-    let mut scopes = Scopes {
-        names,
-        functions,
-        objects: Vec::new(alloc),
-        innermost: 0,
-    };
+    let mut scopes = file_scopes(alloc, names, &funcs)?;
     let funcs = type_functions(alloc, &mut scopes, funcs)?;
     let Scopes { names, .. } = scopes;
     Ok(Program {

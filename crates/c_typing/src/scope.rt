@@ -113,7 +113,7 @@ pub fn copy_signature(alloc: Global, f: &Signature) -> Result<Signature, AllocEr
 }
 
 /// What is around a block that begins here.
-pub fn mark(scopes: &Scopes) -> Mark
+pub fn mark_here(scopes: &Scopes) -> Mark
     ensures { result ≡ record { count = length (plain_scopes scopes.now).objects; innermost = scopes.now.innermost } }
 {
     Mark {
@@ -127,7 +127,7 @@ pub fn enter(scopes: &mut Scopes) -> Mark
     ensures inner { plain_scopes scopes.new ≡ inner (plain_scopes scopes.old) }
     ensures mark { result ≡ record { count = length (plain_scopes scopes.old).objects; innermost = scopes.old.innermost } }
 {
-    let mark = mark(scopes);
+    let mark = mark_here(scopes);
     scopes.innermost = mark.count;
     mark
 }
