@@ -5,22 +5,21 @@ use Rattle.std.specs.declared.alloc.Global.{Global}
 use Rattle.c_syntax.specs.declared.annotation.Annot.{Annot}
 use Rattle.c_syntax.specs.declared.expression.Expr.{Expr}
 use Rattle.c_syntax.specs.declared.statement.Item.{Item}
-use Rattle.c_syntax.specs.declared.statement.Item.TheBlock.{back-StmtKind-For-1}
+use Rattle.c_syntax.specs.declared.statement.Item.TheBlock.{back-StmtKind-If-2}
 use Rattle.c_syntax.specs.declared.statement.Stmt.{Stmt}
 use Rattle.c_syntax.specs.declared.statement.StmtKind as code
 use Rattle.c_syntax.specs.Annotations.{plain_annot}
 use Rattle.c_syntax.specs.Expressions.{plain_expr}
-use Rattle.c_syntax.specs.Statements.{Block, For, BlockItems, Then, plain_stmt, plain_stmt_kind, plain_first, plain_item, plain_items}
+use Rattle.c_syntax.specs.Statements.{Block, If, plain_else, BlockItems, Then, plain_stmt, plain_stmt_kind, plain_first, plain_item, plain_items}
 use Rattle.c_syntax.proofs.Rows.{block_is}
 use Rattle.c_model.specs.Checked.{Checked, Good, Bad, one_part}
 use Rattle.c_model.specs.Typing.{Scopes, inner, behind, behind_first}
-use Rattle.c_model.specs.ProgramTyping.{typed_annotations, noted_statement, noted_item, noted_items}
+use Rattle.c_model.specs.ProgramTyping.{typed_annotations, noted_statement, noted_else, noted_item, noted_items}
 use Rattle.c_typing.specs.declared.fault.TypeFault.{TypeFault}
 use Rattle.c_typing.specs.Answers.{Answers}
-use Rattle.c_typing.specs.Trees.{plain_block, plain_for_first}
+use Rattle.c_typing.specs.Trees.{plain_block, plain_else_part}
 use Rattle.c_typing.proofs.Least.{one_refused}
 use Rattle.c_typing.proofs.Blocks.{behind_block, all_items, items_more}
-use Rattle.c_typing.proofs.Statements.{first_is}
 
 module _ (s : Scopes) (a : Stmt)
   where
@@ -33,34 +32,6 @@ module _ (s : Scopes) (a : Stmt)
 
   pub block_noted : (v w : Vec Item Global) → a.kind ≡ code.Block v → noted_items (inner s) (plain_items v.items) ≡ Good (plain_items w.items) → noted_statement s (plain_stmt a) ≡ Good (plain_stmt_kind a.place (code.Block w))
   block_noted v w is good = of_block v is ∙ ap (λ c. one_part c (λ is. Good (Block a.place is))) good ∙ ap Good (sym (block_is a.place w))
-
-module _ (s : Scopes) (a : Stmt) (annots noted : Vec Annot Global) (i : Option (Box Item Global)) (e step : Option Expr) (b : Box Stmt Global)
-  (is : a.kind ≡ code.For annots i e step b)
-  (t u : Scopes) (x : Stmt)
-  (good : typed_annotations s (map plain_annot annots.items) ≡ Good (map plain_annot noted.items))
-  (inside : t ≡ inner s)
-  (sight : u ≡ behind_first t (plain_for_first i))
-  (same : x ≡ b.value)
-  where
-  body_is : noted_statement s (plain_stmt a) ≡ one_part (noted_statement u (plain_stmt x)) (λ b. Good (For a.place (map plain_annot noted.items) (plain_for_first i) (option_map plain_expr e) (option_map plain_expr step) b))
-  body_is =
-      ap (λ k. noted_statement s (plain_stmt_kind a.place k)) is
-      ∙ ap (λ c. one_part c (λ annots. one_part (noted_statement (behind_first (inner s) (plain_first (back-StmtKind-For-1 i))) (plain_stmt b.value)) (λ b. Good (For a.place annots (plain_first (back-StmtKind-For-1 i)) (option_map plain_expr e) (option_map plain_expr step) b)))) good
-      ∙ ap (λ f. one_part (noted_statement (behind_first (inner s) f) (plain_stmt b.value)) (λ b. Good (For a.place (map plain_annot noted.items) f (option_map plain_expr e) (option_map plain_expr step) b))) (first_is i)
-      ∙ ap (λ q. one_part (noted_statement q (plain_stmt b.value)) (λ b. Good (For a.place (map plain_annot noted.items) (plain_for_first i) (option_map plain_expr e) (option_map plain_expr step) b))) (sym (sight ∙ ap (λ y. behind_first y (plain_for_first i)) inside))
-      ∙ ap (λ q. one_part (noted_statement u (plain_stmt q)) (λ b. Good (For a.place (map plain_annot noted.items) (plain_for_first i) (option_map plain_expr e) (option_map plain_expr step) b))) (sym same)
-
-  pub for_refused : (h : TypeFault) → Answers plain_stmt (noted_statement u (plain_stmt x)) (Err h) → Answers plain_stmt (noted_statement s (plain_stmt a)) (Err h)
-  for_refused h bad =
-      subst (λ c. Answers plain_stmt c (Err h)) (sym body_is)
-        (one_refused (λ b. Good (For a.place (map plain_annot noted.items) (plain_for_first i) (option_map plain_expr e) (option_map plain_expr step) b)) plain_stmt plain_stmt (noted_statement u (plain_stmt x)) h bad)
-
-  pub for_noted : (y : Stmt) (b' : Box Stmt Global) → noted_statement u (plain_stmt x) ≡ Good (plain_stmt y) → b'.value ≡ y → noted_statement s (plain_stmt a) ≡ Good (plain_stmt_kind a.place (code.For noted i e step b'))
-  for_noted y b' typed boxed =
-      body_is
-      ∙ ap (λ c. one_part c (λ b. Good (For a.place (map plain_annot noted.items) (plain_for_first i) (option_map plain_expr e) (option_map plain_expr step) b))) typed
-      ∙ ap (λ f. Good (For a.place (map plain_annot noted.items) f (option_map plain_expr e) (option_map plain_expr step) (plain_stmt y))) (sym (first_is i))
-      ∙ ap (λ q. Good (For a.place (map plain_annot noted.items) (plain_first (back-StmtKind-For-1 i)) (option_map plain_expr e) (option_map plain_expr step) (plain_stmt q))) (sym boxed)
 
 module _ (s t u t' : Scopes) (done done' : List Item) (x : Item) (kept : u ≡ t) (now : t' ≡ behind u (plain_item x)) (more : done' ≡ done ++ x ∷ [])
   where

@@ -46,7 +46,7 @@ module _ (s : Scopes) (r : Around) (a : Stmt)
           (one_refused (λ e. Good (Do a.place (plain_stmt y) e)) plain_expr plain_stmt (typed_condition s (plain_expr e)) h (subst (λ u. Answers plain_expr (typed_condition u (plain_expr e)) (Err h)) same bad)))
 
 -- what stands first in a `for`
-pub first_is : (i : Option (Box Item Global)) → plain_first (back-StmtKind-For-1 i) ≡ plain_for_first i
+first_is : (i : Option (Box Item Global)) → plain_first (back-StmtKind-For-1 i) ≡ plain_for_first i
 first_is None = refl
 first_is (Some i) = refl
 

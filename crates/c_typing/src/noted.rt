@@ -59,8 +59,8 @@ pub fn note_statement(
         }
         StmtKind::If(e, a, b) => {
             let a = note_statement(alloc, scopes, Box::into_inner(a))?;
-            let b = note_else(alloc, scopes, b)?;
             let a = Box::new(alloc, a)?;
+            let b = note_else(alloc, scopes, b)?;
             Ok(Stmt {
                 place,
                 kind: StmtKind::If(e, a, b),
