@@ -1,4 +1,5 @@
 pub mod Answers
+pub mod Laws
 pub mod Library
 pub mod Scopes
 pub mod Trees

@@ -11,6 +11,7 @@ pub mod conversion;
 pub mod declaration;
 pub mod expression;
 pub mod fault;
+pub mod laws;
 pub mod library;
 pub mod noted;
 pub mod operator;
