@@ -1,11 +1,11 @@
 -- Blocks: their items one after another, and what is in sight behind them.
-use Rattle.std.proofs.Common.{◌≡◌, ℕ, List, [], ◌∷◌, ◌++◌, refl, sym, ap, ◌∙◌, subst, append_assoc, length, take, Option, Some, None, Result, Ok, Err}
+use Rattle.std.proofs.Common.{◌≡◌, ℕ, List, [], ◌∷◌, ◌++◌, refl, sym, ap, ◌∙◌, append_assoc, length, Err}
 use Rattle.std.proofs.lemmas.List.{append-nil}
 use Rattle.std.proofs.Math.Seq.{take-append_seam}
 use Rattle.c_syntax.specs.declared.statement.Item.{Item}
 use Rattle.c_syntax.specs.Statements.{Declaration, BlockItem, Declare, Run, Asserts, BlockItems, NoItem, Then, ForFirst, NoFirst, First, plain_item, plain_items}
 use Rattle.c_model.specs.Checked.{Checked, Good, Bad, one_part}
-use Rattle.c_model.specs.Typing.{Scopes, Object, Around, inner, with_object, with_objects, behind, behind_first, typed_item, typed_items}
+use Rattle.c_model.specs.Typing.{Scopes, Object, inner, with_object, with_objects, behind, behind_first}
 use Rattle.c_typing.specs.declared.fault.TypeFault.{TypeFault}
 use Rattle.c_typing.specs.Answers.{Answers}
 use Rattle.c_typing.specs.Scopes.{behind_items, left}
@@ -44,12 +44,12 @@ items_in_front done i (Bad f fs) = refl
 
 module _ (done : BlockItems) (m : Checked BlockItem) (rest : BlockItem → Checked BlockItems)
   where
-  next_item : (i : BlockItem) → m ≡ Good i → behind_block done (one_part m (λ i. one_part (rest i) (λ is. Good (Then i is)))) ≡ behind_block (append done (Then i NoItem)) (rest i)
-  next_item i is = ap (λ c. behind_block done (one_part c (λ i. one_part (rest i) (λ is. Good (Then i is))))) is ∙ items_in_front done i (rest i)
+    next_item : (i : BlockItem) → m ≡ Good i → behind_block done (one_part m (λ i. one_part (rest i) (λ is. Good (Then i is)))) ≡ behind_block (append done (Then i NoItem)) (rest i)
+    next_item i is = ap (λ c. behind_block done (one_part c (λ i. one_part (rest i) (λ is. Good (Then i is))))) is ∙ items_in_front done i (rest i)
 
-  -- the first of the items is refused
-  pub item_refused : {S T : Type 0} (p : T → BlockItem) (s : S → BlockItems) (h : TypeFault) → Answers p m (Err h) → Answers s (behind_block done (one_part m (λ i. one_part (rest i) (λ is. Good (Then i is))))) (Err h)
-  item_refused p s h a = one_refused (λ is. Good (append done is)) s s (one_part m (λ i. one_part (rest i) (λ is. Good (Then i is)))) h (one_refused (λ i. one_part (rest i) (λ is. Good (Then i is))) p s m h a)
+    -- the first of the items is refused
+    pub item_refused : {S T : Type 0} (p : T → BlockItem) (s : S → BlockItems) (h : TypeFault) → Answers p m (Err h) → Answers s (behind_block done (one_part m (λ i. one_part (rest i) (λ is. Good (Then i is))))) (Err h)
+    item_refused p s h a = one_refused (λ is. Good (append done is)) s s (one_part m (λ i. one_part (rest i) (λ is. Good (Then i is)))) h (one_refused (λ i. one_part (rest i) (λ is. Good (Then i is))) p s m h a)
 
 -- one more item is there
 pub items_more : (whole c : Checked BlockItems) (done done' : List Item) (x : Item) (m : Checked BlockItem) (rest : BlockItem → Checked BlockItems) → whole ≡ behind_block (plain_items done) c → c ≡ one_part m (λ i. one_part (rest i) (λ is. Good (Then i is))) → m ≡ Good (plain_item x) → done' ≡ done ++ x ∷ [] → whole ≡ behind_block (plain_items done') (rest (plain_item x))

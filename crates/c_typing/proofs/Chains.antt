@@ -9,7 +9,7 @@ use Rattle.c_syntax.specs.declared.annotation.TermKind.{TermKind}
 use Rattle.c_syntax.specs.declared.annotation.Body.{Body}
 use Rattle.c_syntax.specs.declared.annotation.Pred.{Pred}
 use Rattle.c_syntax.specs.declared.annotation.PredKind.TheVariants as code
-use Rattle.c_syntax.specs.Annotations.{LogicTerm, Predicate, Chain, Links, NoLink, Linked, Annotation, plain_pred, plain_pred_kind, plain_body, plain_term, plain_term_kind, plain_links, plain_annot}
+use Rattle.c_syntax.specs.Annotations.{LogicTerm, Chain, Links, NoLink, Linked, Annotation, plain_pred, plain_pred_kind, plain_body, plain_term, plain_links, plain_annot}
 use Rattle.c_model.specs.Checked.{Checked, Good, Bad, one_part, both_parts}
 use Rattle.c_model.specs.Typing.{Scopes}
 use Rattle.c_model.specs.ProgramTyping.{typed_term, typed_links, typed_predicate, typed_annotations, typed_clause}
@@ -30,19 +30,19 @@ link_checked s l = one_part (typed_term s (plain_term l.term)) (λ t. Good (Link
 
 module _ (l : Link)
   where
-  first_link : (d : Checked LogicTerm) → both_parts d (Good NoLink) (λ t rest. Good (Linked l.place l.relation t rest)) ≡ both_parts (Good NoLink) (one_part d (λ t. Good (Linked l.place l.relation t NoLink))) (λ ls m. Good (join ls m))
-  first_link (Good t) = refl
-  first_link (Bad f fs) = refl
+    first_link : (d : Checked LogicTerm) → both_parts d (Good NoLink) (λ t rest. Good (Linked l.place l.relation t rest)) ≡ both_parts (Good NoLink) (one_part d (λ t. Good (Linked l.place l.relation t NoLink))) (λ ls m. Good (join ls m))
+    first_link (Good t) = refl
+    first_link (Bad f fs) = refl
 
-  in_turn : (x : Checked LogicTerm) (c d : Checked Links) → both_parts x (both_parts c d (λ ls m. Good (join ls m))) (λ t rest. Good (Linked l.place l.relation t rest)) ≡ both_parts (both_parts x c (λ t rest. Good (Linked l.place l.relation t rest))) d (λ ls m. Good (join ls m))
-  in_turn (Good x) (Good es) (Good e) = refl
-  in_turn (Good x) (Good es) (Bad g gs) = refl
-  in_turn (Good x) (Bad f fs) (Good e) = refl
-  in_turn (Good x) (Bad f fs) (Bad g gs) = refl
-  in_turn (Bad h hs) (Good es) (Good e) = refl
-  in_turn (Bad h hs) (Good es) (Bad g gs) = refl
-  in_turn (Bad h hs) (Bad f fs) (Good e) = refl
-  in_turn (Bad h hs) (Bad f fs) (Bad g gs) = ap (Bad h) (sym (append_assoc hs (f ∷ fs) (g ∷ gs)))
+    in_turn : (x : Checked LogicTerm) (c d : Checked Links) → both_parts x (both_parts c d (λ ls m. Good (join ls m))) (λ t rest. Good (Linked l.place l.relation t rest)) ≡ both_parts (both_parts x c (λ t rest. Good (Linked l.place l.relation t rest))) d (λ ls m. Good (join ls m))
+    in_turn (Good x) (Good es) (Good e) = refl
+    in_turn (Good x) (Good es) (Bad g gs) = refl
+    in_turn (Good x) (Bad f fs) (Good e) = refl
+    in_turn (Good x) (Bad f fs) (Bad g gs) = refl
+    in_turn (Bad h hs) (Good es) (Good e) = refl
+    in_turn (Bad h hs) (Good es) (Bad g gs) = refl
+    in_turn (Bad h hs) (Bad f fs) (Good e) = refl
+    in_turn (Bad h hs) (Bad f fs) (Bad g gs) = ap (Bad h) (sym (append_assoc hs (f ∷ fs) (g ∷ gs)))
 
 links_snoc : (s : Scopes) (xs : List Link) (l : Link) → typed_links s (plain_links (xs ++ l ∷ [])) ≡ both_parts (typed_links s (plain_links xs)) (link_checked s l) (λ ls m. Good (join ls m))
 links_snoc s [] l = first_link l (typed_term s (plain_term l.term))
@@ -56,20 +56,20 @@ plain_snoc (x ∷ xs) l = ap (Linked x.place x.relation (plain_term x.term)) (pl
 
 module _ (s : Scopes) (xs : List Link) (l : Link)
   where
-  -- one more step is typed
-  pub links_more : (d : Result (Vec Link Global) TypeFault) (r : Result Link TypeFault) (t : Result (Vec Link Global × Link) TypeFault) (d' : Result (Vec Link Global) TypeFault) → Answers plain_chain (typed_links s (plain_links xs)) d → Answers plain_link (link_checked s l) r → Joined d r t → Pushed t d' → Answers plain_chain (typed_links s (plain_links (xs ++ l ∷ []))) d'
-  links_more d r (Ok p) (Ok v) hd hr j q =
-      links_snoc s xs l
-      ∙ ap (λ c. both_parts c (link_checked s l) (λ ls m. Good (join ls m))) (subst (Answers plain_chain (typed_links s (plain_links xs))) j.0 hd)
-      ∙ ap (λ c. both_parts (Good (plain_links p.0.items)) c (λ ls m. Good (join ls m))) (subst (Answers plain_link (link_checked s l)) j.1 hr)
-      ∙ ap Good (sym (ap plain_links q ∙ plain_snoc p.0.items p.1))
-  links_more d r (Ok p) (Err (Refused f)) hd hr j q = absurd q
-  links_more d r (Ok p) (Err Memory) hd hr j q = tt
-  links_more d r (Err h) (Ok v) hd hr j q = absurd q
-  links_more d r (Err h) (Err h') hd hr j q =
-      subst (λ c. Answers plain_chain c (Err h')) (sym (links_snoc s xs l))
+    -- one more step is typed
+    pub links_more : (d : Result (Vec Link Global) TypeFault) (r : Result Link TypeFault) (t : Result (Vec Link Global × Link) TypeFault) (d' : Result (Vec Link Global) TypeFault) → Answers plain_chain (typed_links s (plain_links xs)) d → Answers plain_link (link_checked s l) r → Joined d r t → Pushed t d' → Answers plain_chain (typed_links s (plain_links (xs ++ l ∷ []))) d'
+    links_more d r (Ok p) (Ok v) hd hr j q =
+        links_snoc s xs l
+        ∙ ap (λ c. both_parts c (link_checked s l) (λ ls m. Good (join ls m))) (subst (Answers plain_chain (typed_links s (plain_links xs))) j.0 hd)
+        ∙ ap (λ c. both_parts (Good (plain_links p.0.items)) c (λ ls m. Good (join ls m))) (subst (Answers plain_link (link_checked s l)) j.1 hr)
+        ∙ ap Good (sym (ap plain_links q ∙ plain_snoc p.0.items p.1))
+    links_more d r (Ok p) (Err (Refused f)) hd hr j q = absurd q
+    links_more d r (Ok p) (Err Memory) hd hr j q = tt
+    links_more d r (Err h) (Ok v) hd hr j q = absurd q
+    links_more d r (Err h) (Err h') hd hr j q =
+        subst (λ c. Answers plain_chain c (Err h')) (sym (links_snoc s xs l))
         (subst (λ x. Answers plain_chain (both_parts (typed_links s (plain_links xs)) (link_checked s l) (λ ls m. Good (join ls m))) (Err x)) (sym q)
-          (both_refused (λ ls m. Good (join ls m)) plain_chain plain_link plain_chain (typed_links s (plain_links xs)) (link_checked s l) d r h hd hr j))
+        (both_refused (λ ls m. Good (join ls m)) plain_chain plain_link plain_chain (typed_links s (plain_links xs)) (link_checked s l) d r h hd hr j))
 
 -- a term at a known variant
 pub term_at : (s : Scopes) (t : Term) (k : TermKind) (r : Result Term TypeFault) → t.kind ≡ k → Answers plain_term (typed_term s (plain_term (record t { kind = k }))) r → Answers plain_term (typed_term s (plain_term t)) r

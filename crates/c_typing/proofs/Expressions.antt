@@ -1,6 +1,6 @@
 -- Expressions at a known variant, and lists of arguments.
-use Rattle.std.proofs.Common.{◌≡◌, ℕ, List, [], ◌∷◌, ◌++◌, refl, sym, ap, ◌∙◌, subst, append_assoc, map, Option, Some, None, Result, Ok, Err}
-use Rattle.std.specs.Prelude.{Vec, Box}
+use Rattle.std.proofs.Common.{◌≡◌, List, [], ◌∷◌, ◌++◌, refl, sym, ap, ◌∙◌, subst, append_assoc, Some, Result, Ok, Err}
+use Rattle.std.specs.Prelude.{Vec}
 use Rattle.std.specs.declared.alloc.Global.{Global}
 use Rattle.c_syntax.specs.declared.place.Place.{Place}
 use Rattle.c_syntax.specs.declared.expression.Use.{Use}
@@ -34,22 +34,22 @@ no_params (Bad g gs) f e = refl
 
 module _ (s : plain.Scopes) (at : Place) (es : Expressions) (c : Checked plain.Signature)
   where
-  -- a call whose callee or arguments are refused
-  pub call_refused : (rc : Result Signature TypeFault) (ra : Result (Vec Expr Global) TypeFault) (h : TypeFault) → Answers plain_signature c rc → Answers plain_vec (typed_arguments s (known_params rc) es) ra → Joined rc ra (Err h) → Answers plain_expr (both_parts c (typed_arguments s (params_of c) es) (call at)) (Err h)
-  call_refused (Ok f) ra h hc ha j =
-      both_refused (call at) plain_signature plain_vec plain_expr c (typed_arguments s (params_of c) es) (Ok f) ra h hc (subst (λ ts. Answers plain_vec (typed_arguments s ts es) ra) (sym (ap params_of hc)) ha) j
-  call_refused (Err (Refused f)) ra h hc ha j =
-      both_refused (call at) plain_signature plain_vec plain_expr c (typed_arguments s (params_of c) es) (Err (Refused f)) ra h hc (subst (λ ts. Answers plain_vec (typed_arguments s ts es) ra) (sym (no_params c (plain_fault f) hc)) ha) j
-  call_refused (Err Memory) (Ok v) h hc ha j = rw j tt
-  call_refused (Err Memory) (Err g) h hc ha j = rw j tt
+    -- a call whose callee or arguments are refused
+    pub call_refused : (rc : Result Signature TypeFault) (ra : Result (Vec Expr Global) TypeFault) (h : TypeFault) → Answers plain_signature c rc → Answers plain_vec (typed_arguments s (known_params rc) es) ra → Joined rc ra (Err h) → Answers plain_expr (both_parts c (typed_arguments s (params_of c) es) (call at)) (Err h)
+    call_refused (Ok f) ra h hc ha j =
+        both_refused (call at) plain_signature plain_vec plain_expr c (typed_arguments s (params_of c) es) (Ok f) ra h hc (subst (λ ts. Answers plain_vec (typed_arguments s ts es) ra) (sym (ap params_of hc)) ha) j
+    call_refused (Err (Refused f)) ra h hc ha j =
+        both_refused (call at) plain_signature plain_vec plain_expr c (typed_arguments s (params_of c) es) (Err (Refused f)) ra h hc (subst (λ ts. Answers plain_vec (typed_arguments s ts es) ra) (sym (no_params c (plain_fault f) hc)) ha) j
+    call_refused (Err Memory) (Ok v) h hc ha j = rw j tt
+    call_refused (Err Memory) (Err g) h hc ha j = rw j tt
 
-  -- a call whose callee and arguments have no fault
-  pub call_typed : (rc : Result Signature TypeFault) (ra : Result (Vec Expr Global) TypeFault) (f : Signature) (v : Vec Expr Global) (r : Result Expr TypeFault) → Answers plain_signature c rc → Answers plain_vec (typed_arguments s (known_params rc) es) ra → rc ≡ Ok f → ra ≡ Ok v → Answers plain_expr (call at (plain_signature f) (plain_vec v)) r → Answers plain_expr (both_parts c (typed_arguments s (params_of c) es) (call at)) r
-  call_typed rc ra f v r hc ha ec ea h =
-      let known : c ≡ Good (plain_signature f) = subst (Answers plain_signature c) ec hc in
-      let all : typed_arguments s (known_params rc) es ≡ Good (plain_vec v) = subst (Answers plain_vec (typed_arguments s (known_params rc) es)) ea ha in
-      let same : params_of c ≡ known_params rc = ap params_of known ∙ ap known_params (sym ec) in
-      subst (λ x. Answers plain_expr x r) (sym (ap (λ x. both_parts x (typed_arguments s (params_of c) es) (call at)) known ∙ ap (λ x. both_parts (Good (plain_signature f)) x (call at)) (ap (λ ts. typed_arguments s ts es) same ∙ all))) h
+    -- a call whose callee and arguments have no fault
+    pub call_typed : (rc : Result Signature TypeFault) (ra : Result (Vec Expr Global) TypeFault) (f : Signature) (v : Vec Expr Global) (r : Result Expr TypeFault) → Answers plain_signature c rc → Answers plain_vec (typed_arguments s (known_params rc) es) ra → rc ≡ Ok f → ra ≡ Ok v → Answers plain_expr (call at (plain_signature f) (plain_vec v)) r → Answers plain_expr (both_parts c (typed_arguments s (params_of c) es) (call at)) r
+    call_typed rc ra f v r hc ha ec ea h =
+        let known : c ≡ Good (plain_signature f) = subst (Answers plain_signature c) ec hc in
+        let all : typed_arguments s (known_params rc) es ≡ Good (plain_vec v) = subst (Answers plain_vec (typed_arguments s (known_params rc) es)) ea ha in
+        let same : params_of c ≡ known_params rc = ap params_of known ∙ ap known_params (sym ec) in
+        subst (λ x. Answers plain_expr x r) (sym (ap (λ x. both_parts x (typed_arguments s (params_of c) es) (call at)) known ∙ ap (λ x. both_parts (Good (plain_signature f)) x (call at)) (ap (λ ts. typed_arguments s ts es) same ∙ all))) h
 
 -- lists of arguments
 
@@ -96,18 +96,17 @@ plain_snoc (x ∷ xs) e = ap (Following (plain_expr x)) (plain_snoc xs e)
 
 module _ (s : plain.Scopes) (ts : List PlainType) (xs : List Expr) (e : Expr)
   where
-
-  -- one more argument is typed
-  pub arguments_more : (d : Result (Vec Expr Global) TypeFault) (r : Result Expr TypeFault) (t : Result (Vec Expr Global × Expr) TypeFault) (d' : Result (Vec Expr Global) TypeFault) → Answers plain_vec (typed_arguments s ts (plain_exprs xs)) d → Answers plain_expr (argument_checked s (params_behind xs ts) e) r → Joined d r t → Pushed t d' → Answers plain_vec (typed_arguments s ts (plain_exprs (xs ++ e ∷ []))) d'
-  arguments_more d r (Ok p) (Ok v) hd hr j q =
-      arguments_snoc s ts xs e
-      ∙ ap (λ c. both_parts c (argument_checked s (params_behind xs ts) e) (λ es e. Good (snoc es e))) (subst (Answers plain_vec (typed_arguments s ts (plain_exprs xs))) j.0 hd)
-      ∙ ap (λ c. both_parts (Good (plain_exprs p.0.items)) c (λ es e. Good (snoc es e))) (subst (Answers plain_expr (argument_checked s (params_behind xs ts) e)) j.1 hr)
-      ∙ ap Good (sym (ap plain_exprs q ∙ plain_snoc p.0.items p.1))
-  arguments_more d r (Ok p) (Err (Refused f)) hd hr j q = absurd q
-  arguments_more d r (Ok p) (Err Memory) hd hr j q = tt
-  arguments_more d r (Err h) (Ok v) hd hr j q = absurd q
-  arguments_more d r (Err h) (Err h') hd hr j q =
-      subst (λ c. Answers plain_vec c (Err h')) (sym (arguments_snoc s ts xs e))
+    -- one more argument is typed
+    pub arguments_more : (d : Result (Vec Expr Global) TypeFault) (r : Result Expr TypeFault) (t : Result (Vec Expr Global × Expr) TypeFault) (d' : Result (Vec Expr Global) TypeFault) → Answers plain_vec (typed_arguments s ts (plain_exprs xs)) d → Answers plain_expr (argument_checked s (params_behind xs ts) e) r → Joined d r t → Pushed t d' → Answers plain_vec (typed_arguments s ts (plain_exprs (xs ++ e ∷ []))) d'
+    arguments_more d r (Ok p) (Ok v) hd hr j q =
+        arguments_snoc s ts xs e
+        ∙ ap (λ c. both_parts c (argument_checked s (params_behind xs ts) e) (λ es e. Good (snoc es e))) (subst (Answers plain_vec (typed_arguments s ts (plain_exprs xs))) j.0 hd)
+        ∙ ap (λ c. both_parts (Good (plain_exprs p.0.items)) c (λ es e. Good (snoc es e))) (subst (Answers plain_expr (argument_checked s (params_behind xs ts) e)) j.1 hr)
+        ∙ ap Good (sym (ap plain_exprs q ∙ plain_snoc p.0.items p.1))
+    arguments_more d r (Ok p) (Err (Refused f)) hd hr j q = absurd q
+    arguments_more d r (Ok p) (Err Memory) hd hr j q = tt
+    arguments_more d r (Err h) (Ok v) hd hr j q = absurd q
+    arguments_more d r (Err h) (Err h') hd hr j q =
+        subst (λ c. Answers plain_vec c (Err h')) (sym (arguments_snoc s ts xs e))
         (subst (λ x. Answers plain_vec (both_parts (typed_arguments s ts (plain_exprs xs)) (argument_checked s (params_behind xs ts) e) (λ es e. Good (snoc es e))) (Err x)) (sym q)
-          (both_refused (λ es e. Good (snoc es e)) plain_vec plain_expr plain_vec (typed_arguments s ts (plain_exprs xs)) (argument_checked s (params_behind xs ts) e) d r h hd hr j))
+        (both_refused (λ es e. Good (snoc es e)) plain_vec plain_expr plain_vec (typed_arguments s ts (plain_exprs xs)) (argument_checked s (params_behind xs ts) e) d r h hd hr j))

@@ -1,12 +1,12 @@
 -- The refusal is the least fault, whichever part it comes from.
-use Rattle.std.proofs.Common.{◌≡◌, ℕ, ◌+◌, ◌*◌, ◌<◌, ◌≤◌, List, [], ◌∷◌, ◌++◌, refl, sym, ap, ◌∙◌, subst, arith, Option, Some, None, Bool, true, false, cond, nat_lt, Result, Ok, Err}
+use Rattle.std.proofs.Common.{◌≡◌, List, [], ◌∷◌, ◌++◌, refl, sym, ap, ◌∙◌, subst, arith, Some, Bool, true, false, cond, nat_lt, Result, Ok, Err}
 use Rattle.std.proofs.lemmas.Bool.Decides.{nat_tests}
-use Rattle.c_model.specs.Checked.{Fault, rank, lesser, least, Checked, Good, Bad, faulty, one_part, both_parts, refusing}
+use Rattle.c_model.specs.Checked.{Fault, rank, lesser, least, Checked, Good, Bad, one_part, both_parts, refusing}
 use Rattle.c_model.specs.Typing.{two}
 use Rattle.c_typing.specs.declared.fault.TypeFault.{TypeFault}
 use Rattle.c_typing.specs.declared.fault.TypeFault.TheVariants.{Refused, Memory}
 use Rattle.c_typing.specs.declared.fault.Fault as code
-use Rattle.c_typing.specs.Answers.{plain_fault, Answers, first_of, Joined}
+use Rattle.c_typing.specs.Answers.{plain_fault, Answers, Joined}
 
 lesser_assoc : (f g h : Fault) → lesser f (lesser g h) ≡ lesser (lesser f g) h
 lesser_assoc f g h = by (nat_lt (rank g) (rank f)) (nat_lt (rank h) (rank g)) (nat_lt (rank h) (rank f)) refl refl refl
@@ -33,33 +33,33 @@ lesser_is f g = by (nat_lt (rank (plain_fault g)) (rank (plain_fault f)))
 
 module _ {A B C : Type 0} (k : A → B → Checked C)
   where
-  second : (t : A) (n : Checked B) (g : Fault) → refusing n ≡ Some g → refusing (both_parts (Good t) n k) ≡ Some g
-  second t (Good u) g e = absurd cc
-  second t (Bad g gs) g' e = e
+    second : (t : A) (n : Checked B) (g : Fault) → refusing n ≡ Some g → refusing (both_parts (Good t) n k) ≡ Some g
+    second t (Good u) g e = absurd cc
+    second t (Bad g gs) g' e = e
 
-  only_first : (u : B) (m : Checked A) (f : Fault) → refusing m ≡ Some f → refusing (both_parts m (Good u) k) ≡ Some f
-  only_first u (Good t) f e = absurd cc
-  only_first u (Bad f fs) f' e = e
+    only_first : (u : B) (m : Checked A) (f : Fault) → refusing m ≡ Some f → refusing (both_parts m (Good u) k) ≡ Some f
+    only_first u (Good t) f e = absurd cc
+    only_first u (Bad f fs) f' e = e
 
-  together : (m : Checked A) (n : Checked B) (f g : Fault) → refusing m ≡ Some f → refusing n ≡ Some g → refusing (both_parts m n k) ≡ Some (lesser f g)
-  together (Good t) n f g e d = absurd cc
-  together (Bad f fs) (Good u) f' g e d = absurd cc
-  together (Bad f fs) (Bad g gs) f' g' e d =
-      let e1 : least f fs ≡ f' = cc in
-      let d1 : least g gs ≡ g' = cc in
-      ap Some (least_append f fs g gs ∙ ap (λ x. lesser x (least g gs)) e1 ∙ ap (lesser f') d1)
+    together : (m : Checked A) (n : Checked B) (f g : Fault) → refusing m ≡ Some f → refusing n ≡ Some g → refusing (both_parts m n k) ≡ Some (lesser f g)
+    together (Good t) n f g e d = absurd cc
+    together (Bad f fs) (Good u) f' g e d = absurd cc
+    together (Bad f fs) (Bad g gs) f' g' e d =
+        let e1 : least f fs ≡ f' = cc in
+        let d1 : least g gs ≡ g' = cc in
+        ap Some (least_append f fs g gs ∙ ap (λ x. lesser x (least g gs)) e1 ∙ ap (lesser f') d1)
 
-  -- two parts of which one is refused
-  pub both_refused : {T U S : Type 0} (p : T → A) (q : U → B) (s : S → C) (m : Checked A) (n : Checked B) (a : Result T TypeFault) (b : Result U TypeFault) (h : TypeFault) → Answers p m a → Answers q n b → Joined a b (Err h) → Answers s (both_parts m n k) (Err h)
-  both_refused p q s m n (Ok t) (Ok u) h x y j = absurd j
-  both_refused p q s m n (Ok t) (Err (Refused g)) h x y j = rw (j, x) (second (p t) n (plain_fault g) y)
-  both_refused p q s m n (Ok t) (Err Memory) h x y j = rw j tt
-  both_refused p q s m n (Err (Refused f)) (Ok u) h x y j = rw (j, y) (only_first (q u) m (plain_fault f) x)
-  both_refused p q s m n (Err Memory) (Ok u) h x y j = rw j tt
-  both_refused p q s m n (Err (Refused f)) (Err (Refused g)) h x y j = rw j (together m n (plain_fault f) (plain_fault g) x y ∙ ap Some (sym (lesser_is f g)))
-  both_refused p q s m n (Err (Refused f)) (Err Memory) h x y j = rw j tt
-  both_refused p q s m n (Err Memory) (Err (Refused g)) h x y j = rw j tt
-  both_refused p q s m n (Err Memory) (Err Memory) h x y j = rw j tt
+    -- two parts of which one is refused
+    pub both_refused : {T U S : Type 0} (p : T → A) (q : U → B) (s : S → C) (m : Checked A) (n : Checked B) (a : Result T TypeFault) (b : Result U TypeFault) (h : TypeFault) → Answers p m a → Answers q n b → Joined a b (Err h) → Answers s (both_parts m n k) (Err h)
+    both_refused p q s m n (Ok t) (Ok u) h x y j = absurd j
+    both_refused p q s m n (Ok t) (Err (Refused g)) h x y j = rw (j, x) (second (p t) n (plain_fault g) y)
+    both_refused p q s m n (Ok t) (Err Memory) h x y j = rw j tt
+    both_refused p q s m n (Err (Refused f)) (Ok u) h x y j = rw (j, y) (only_first (q u) m (plain_fault f) x)
+    both_refused p q s m n (Err Memory) (Ok u) h x y j = rw j tt
+    both_refused p q s m n (Err (Refused f)) (Err (Refused g)) h x y j = rw j (together m n (plain_fault f) (plain_fault g) x y ∙ ap Some (sym (lesser_is f g)))
+    both_refused p q s m n (Err (Refused f)) (Err Memory) h x y j = rw j tt
+    both_refused p q s m n (Err Memory) (Err (Refused g)) h x y j = rw j tt
+    both_refused p q s m n (Err Memory) (Err Memory) h x y j = rw j tt
 
 -- one part that is refused
 pub one_refused : {A B S T : Type 0} (k : A → Checked B) (p : T → A) (s : S → B) (m : Checked A) (h : TypeFault) → Answers p m (Err h) → Answers s (one_part m k) (Err h)

@@ -1,9 +1,8 @@
 -- Lists of parts, one after another.
-use Rattle.std.proofs.Common.{◌≡◌, List, [], ◌∷◌, ◌++◌, refl, sym, ap, ◌∙◌, subst, map, append_assoc, Option, Some, None, Result, Ok, Err}
+use Rattle.std.proofs.Common.{◌≡◌, List, [], ◌∷◌, ◌++◌, refl, sym, ap, ◌∙◌, map, append_assoc, Err}
 use Rattle.std.proofs.lemmas.List.{append-nil, map-append}
-use Rattle.c_model.specs.Checked.{Fault, Checked, Good, Bad, one_part, refusing}
+use Rattle.c_model.specs.Checked.{Checked, Good, Bad, one_part}
 use Rattle.c_typing.specs.declared.fault.TypeFault.{TypeFault}
-use Rattle.c_typing.specs.declared.fault.TypeFault.TheVariants.{Refused, Memory}
 use Rattle.c_typing.specs.Answers.{Answers}
 use Rattle.c_typing.proofs.Least.{one_refused}
 
@@ -24,13 +23,13 @@ more_parts done x (Bad f fs) = refl
 
 module _ {A B : Type 0} (done : List A) (m : Checked B) (view : B → A) (rest : B → Checked (List A))
   where
-  -- the first of the parts has no fault
-  pub next_part : (b : B) → m ≡ Good b → behind_parts done (one_part m (λ x. one_part (rest x) (λ xs. Good (view x ∷ xs)))) ≡ behind_parts (done ++ view b ∷ []) (rest b)
-  next_part b is = ap (λ c. behind_parts done (one_part c (λ x. one_part (rest x) (λ xs. Good (view x ∷ xs))))) is ∙ more_parts done (view b) (rest b)
+    -- the first of the parts has no fault
+    pub next_part : (b : B) → m ≡ Good b → behind_parts done (one_part m (λ x. one_part (rest x) (λ xs. Good (view x ∷ xs)))) ≡ behind_parts (done ++ view b ∷ []) (rest b)
+    next_part b is = ap (λ c. behind_parts done (one_part c (λ x. one_part (rest x) (λ xs. Good (view x ∷ xs))))) is ∙ more_parts done (view b) (rest b)
 
-  -- the first of the parts is refused
-  pub part_refused : {S T : Type 0} (p : T → B) (s : S → List A) (h : TypeFault) → Answers p m (Err h) → Answers s (behind_parts done (one_part m (λ x. one_part (rest x) (λ xs. Good (view x ∷ xs))))) (Err h)
-  part_refused {S = S} p s h a = one_refused (λ (xs : List A). Good (done ++ xs)) s s (one_part m (λ x. one_part (rest x) (λ xs. Good (view x ∷ xs)))) h (one_refused (λ x. one_part (rest x) (λ xs. Good (view x ∷ xs))) p s m h a)
+    -- the first of the parts is refused
+    pub part_refused : {S T : Type 0} (p : T → B) (s : S → List A) (h : TypeFault) → Answers p m (Err h) → Answers s (behind_parts done (one_part m (λ x. one_part (rest x) (λ xs. Good (view x ∷ xs))))) (Err h)
+    part_refused {S = S} p s h a = one_refused (λ (xs : List A). Good (done ++ xs)) s s (one_part m (λ x. one_part (rest x) (λ xs. Good (view x ∷ xs)))) h (one_refused (λ x. one_part (rest x) (λ xs. Good (view x ∷ xs))) p s m h a)
 
 -- one more part is there
 pub list_more : {X A B : Type 0} (plain : X → A) (view : B → A) (whole c : Checked (List A)) (done done' : List X) (x : X) (m : Checked B) (rest : B → Checked (List A)) (b : B) → whole ≡ behind_parts (map plain done) c → c ≡ one_part m (λ a. one_part (rest a) (λ xs. Good (view a ∷ xs))) → m ≡ Good b → view b ≡ plain x → done' ≡ done ++ x ∷ [] → whole ≡ behind_parts (map plain done') (rest b)

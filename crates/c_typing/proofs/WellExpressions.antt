@@ -1,5 +1,5 @@
 -- The typed expression is well typed.
-use Rattle.std.proofs.Common.{◌≡◌, ℕ, zero, suc, refl, sym, ap, ◌∙◌, subst, List, [], ◌∷◌, length, Option, Some, None, Bool, true, false, cond, not, ◌&&◌, if◌then◌else◌, nat_eq, ℤ, arith, codes, bytes_eq}
+use Rattle.std.proofs.Common.{◌≡◌, ℕ, refl, sym, ap, ◌∙◌, subst, List, [], ◌∷◌, length, Option, Some, None, Bool, true, false, cond, not, ◌&&◌, if◌then◌else◌, nat_eq, ℤ, arith, codes, bytes_eq}
 use Rattle.std.proofs.lemmas.Bool.Decides.{nat_tests}
 use Rattle.c_syntax.specs.declared.place.Place.{Place}
 use Rattle.c_syntax.specs.declared.types.CInt.{CInt}
@@ -11,11 +11,11 @@ use Rattle.c_syntax.specs.declared.expression.BumpOp.{BumpOp}
 use Rattle.c_syntax.specs.Ctypes.{PlainType, Void, Int, int_type}
 use Rattle.c_syntax.specs.Expressions.{Expression, Node, Number, Letter, Variable, Unary, Binary, Both, Either, Choice, Assign, Bump, Call, Cast, SizeOfType, SizeOfExpr, Expressions, NoExpression, Following, place_of, type_of}
 use Rattle.c_model.specs.Integers.{fits}
-use Rattle.c_model.specs.Conversions.{promoted, common, wider, is_shift, is_relation, result_type}
+use Rattle.c_model.specs.Conversions.{promoted, common, result_type}
 use Rattle.c_model.specs.Library.{Constants, constants, constant_in, library_constant, is_there}
-use Rattle.c_model.specs.Checked.{Fault, Checked, Good, Bad, faulty, one_part, both_parts, given, where_so}
-use Rattle.c_model.specs.Typing.{no_name, no_type, Object, Signature, Scopes, name_at, or_else, object_named, function_called, library_function, use_as, same_int, same_type, is_scalar, is_object_type, integer_of, in_type, in_int, is_assigned, is_cast, is_place, literal, named, is_not, unary, operands, binary, both_of, either_of, choice_type, choice_of, assigned, compounded, assign, bump, cast, size_of_type, size_of_expression, callee, argument, first_type, rest_types, argument_for, count_of, call, params_of, two, typed, typed_arguments}
-use Rattle.c_model.specs.WellTyped.{Denotes, IsPromoted, UnaryTypes, BinaryTypes, IsPlace, IsInteger, CastTypes, HaveTypes, Calls, WellTyped, AreWellTyped}
+use Rattle.c_model.specs.Checked.{Good, faulty, one_part, both_parts, given, where_so}
+use Rattle.c_model.specs.Typing.{no_name, no_type, Object, Signature, Scopes, name_at, or_else, object_named, function_called, library_function, use_as, same_int, same_type, is_scalar, is_object_type, integer_of, in_type, in_int, is_assigned, is_cast, is_place, literal, named, is_not, unary, operands, binary, both_of, either_of, choice_type, choice_of, assign, bump, cast, size_of_expression, callee, first_type, rest_types, argument_for, count_of, call, params_of, two, typed, typed_arguments}
+use Rattle.c_model.specs.WellTyped.{IsPromoted, IsPlace, IsInteger, CastTypes, HaveTypes, WellTyped, AreWellTyped}
 use Rattle.c_typing.proofs.Gives.{Gives, gives_one, gives_both, gives_given, gives_where, gives_self}
 
 -- ---- tests
@@ -72,12 +72,12 @@ cast_casts (Int k) (Int l) e = tt
 
 module _ (s : Scopes) (t : PlainType) (e : Expression)
   where
-  pub in_type_well : WellTyped s e → CastTypes t (type_of e) → WellTyped s (in_type t e)
-  in_type_well w c = by (same_type (type_of e) t)
-    where
-      by : (b : Bool) → WellTyped s (cond b e (Node (place_of e) t (Cast t e)))
-      by true = w
-      by false = (w, refl, c)
+    pub in_type_well : WellTyped s e → CastTypes t (type_of e) → WellTyped s (in_type t e)
+    in_type_well w c = by (same_type (type_of e) t)
+      where
+        by : (b : Bool) → WellTyped s (cond b e (Node (place_of e) t (Cast t e)))
+        by true = w
+        by false = (w, refl, c)
 
 pub in_type_type : (t : PlainType) (e : Expression) → type_of (in_type t e) ≡ t
 in_type_type t e = by (same_type (type_of e) t) refl
@@ -111,6 +111,7 @@ constant_fits (x ∷ xs) w c f e = by (constant_fits xs w c both.1) (bytes_eq x.
   where
     both : (fits x.1.0 x.1.1 ≡ true) × (all_fit xs ≡ true)
     both = and_true (fits x.1.0 x.1.1) (all_fit xs) f
+
     by : (constant_in xs w ≡ Some c → fits c.0 c.1 ≡ true) → (b : Bool) → (if b then Some x.1 else constant_in xs w) ≡ Some c → fits c.0 c.1 ≡ true
     by k true e = let same : x.1 ≡ c = cc in subst (λ y. fits y.0 y.1 ≡ true) same both.0
     by k false e = k e
@@ -169,70 +170,73 @@ unary_well : (s : Scopes) (at : Place) (op : UnOp) (a : Expression) → WellType
 unary_well s at op a w = by (is_not op) refl
   where
     by : (b : Bool) → is_not op ≡ b → Gives (WellTyped s) (if b then where_so (is_scalar (type_of a)) (no_type at) (Good (Node at int_type (Unary op a)))
-      else given (integer_of (type_of a)) (no_type at) (λ k. Good (Node at (Int (promoted k)) (Unary op (in_int (promoted k) a)))))
+        else given (integer_of (type_of a)) (no_type at) (λ k. Good (Node at (Int (promoted k)) (Unary op (in_int (promoted k) a)))))
     by true e = gives_where (WellTyped s) (is_scalar (type_of a)) _ _ (λ t. (w, subst (λ b. cond b ((int_type ≡ int_type) × (is_scalar (type_of a) ≡ true)) ((int_type ≡ type_of a) × IsPromoted (type_of a))) (sym e) (refl, t)))
     by false e = gives_given (WellTyped s) (integer_of (type_of a)) _ _ (λ k i.
-      let same = in_type_type (Int (promoted k)) a in
-      ( in_type_well s (Int (promoted k)) a w (integer_is (type_of a) k i)
-      , subst (λ b. cond b ((Int (promoted k) ≡ int_type) × (is_scalar (type_of (in_int (promoted k) a)) ≡ true)) ((Int (promoted k) ≡ type_of (in_int (promoted k) a)) × IsPromoted (type_of (in_int (promoted k) a)))) (sym e) (sym same, is_promoted _ k same)))
+        let same = in_type_type (Int (promoted k)) a in (
+          in_type_well s (Int (promoted k)) a w (integer_is (type_of a) k i),
+          subst (λ b. cond b ((Int (promoted k) ≡ int_type) × (is_scalar (type_of (in_int (promoted k) a)) ≡ true)) ((Int (promoted k) ≡ type_of (in_int (promoted k) a)) × IsPromoted (type_of (in_int (promoted k) a)))) (sym e) (sym same, is_promoted _ k same),
+        ))
 
 module _ (s : Scopes) (at : Place) (a b : Expression) (v : WellTyped s a) (w : WellTyped s b)
   where
-  module _ (k l : CInt) (i : integer_of (type_of a) ≡ Some k) (j : integer_of (type_of b) ≡ Some l)
-    where
-    shift_types : WellTyped s (in_int (promoted k) a) × WellTyped s (in_int (promoted l) b) × (IsPromoted (type_of (in_int (promoted k) a)) × IsPromoted (type_of (in_int (promoted l) b)) × (Int (promoted k) ≡ type_of (in_int (promoted k) a)))
-    shift_types =
-        let x = in_type_type (Int (promoted k)) a in
-        let y = in_type_type (Int (promoted l)) b in
-        ( in_type_well s (Int (promoted k)) a v (integer_is (type_of a) k i)
-        , in_type_well s (Int (promoted l)) b w (integer_is (type_of b) l j)
-        , (is_promoted _ k x, is_promoted _ l y, sym x))
+    module _ (k l : CInt) (i : integer_of (type_of a) ≡ Some k) (j : integer_of (type_of b) ≡ Some l)
+      where
+        shift_types : WellTyped s (in_int (promoted k) a) × WellTyped s (in_int (promoted l) b) × (IsPromoted (type_of (in_int (promoted k) a)) × IsPromoted (type_of (in_int (promoted l) b)) × (Int (promoted k) ≡ type_of (in_int (promoted k) a)))
+        shift_types =
+            let x = in_type_type (Int (promoted k)) a in
+            let y = in_type_type (Int (promoted l)) b in (
+              in_type_well s (Int (promoted k)) a v (integer_is (type_of a) k i),
+              in_type_well s (Int (promoted l)) b w (integer_is (type_of b) l j),
+              (is_promoted _ k x, is_promoted _ l y, sym x),
+            )
 
-    common_types : WellTyped s (in_int (common k l) a) × WellTyped s (in_int (common k l) b) × (IsPromoted (type_of (in_int (common k l) a)) × IsPromoted (type_of (in_int (common k l) b)) × ((type_of (in_int (common k l) b) ≡ type_of (in_int (common k l) a)) × (Int (common k l) ≡ type_of (in_int (common k l) a))))
-    common_types =
-        let x = in_type_type (Int (common k l)) a in
-        let y = in_type_type (Int (common k l)) b in
-        ( in_type_well s (Int (common k l)) a v (integer_is (type_of a) k i)
-        , in_type_well s (Int (common k l)) b w (integer_is (type_of b) l j)
-        , (common_is_promoted _ k l x, common_is_promoted _ k l y, (y ∙ sym x, sym x)))
+        common_types : WellTyped s (in_int (common k l) a) × WellTyped s (in_int (common k l) b) × (IsPromoted (type_of (in_int (common k l) a)) × IsPromoted (type_of (in_int (common k l) b)) × ((type_of (in_int (common k l) b) ≡ type_of (in_int (common k l) a)) × (Int (common k l) ≡ type_of (in_int (common k l) a))))
+        common_types =
+            let x = in_type_type (Int (common k l)) a in
+            let y = in_type_type (Int (common k l)) b in (
+              in_type_well s (Int (common k l)) a v (integer_is (type_of a) k i),
+              in_type_well s (Int (common k l)) b w (integer_is (type_of b) l j),
+              (common_is_promoted _ k l x, common_is_promoted _ k l y, (y ∙ sym x, sym x)),
+            )
 
-    relation_types : WellTyped s (in_int (common k l) a) × WellTyped s (in_int (common k l) b) × (IsPromoted (type_of (in_int (common k l) a)) × IsPromoted (type_of (in_int (common k l) b)) × ((type_of (in_int (common k l) b) ≡ type_of (in_int (common k l) a)) × (int_type ≡ int_type)))
-    relation_types = let c = common_types in (c.0, c.1, (c.2.0, c.2.1, (c.2.2.0, refl)))
+        relation_types : WellTyped s (in_int (common k l) a) × WellTyped s (in_int (common k l) b) × (IsPromoted (type_of (in_int (common k l) a)) × IsPromoted (type_of (in_int (common k l) b)) × ((type_of (in_int (common k l) b) ≡ type_of (in_int (common k l) a)) × (int_type ≡ int_type)))
+        relation_types = let c = common_types in (c.0, c.1, (c.2.0, c.2.1, (c.2.2.0, refl)))
 
-  -- what an operator takes and gives
-  Operands : BinOp → Type 0
-  Operands op = (k l : CInt) → integer_of (type_of a) ≡ Some k → integer_of (type_of b) ≡ Some l → Gives (WellTyped s) (Good (Node at (Int (result_type op k l)) (Binary op (operands op k l a b).0 (operands op k l a b).1)))
+    -- what an operator takes and gives
+    Operands : BinOp → Type 0
+    Operands op = (k l : CInt) → integer_of (type_of a) ≡ Some k → integer_of (type_of b) ≡ Some l → Gives (WellTyped s) (Good (Node at (Int (result_type op k l)) (Binary op (operands op k l a b).0 (operands op k l a b).1)))
 
-  operands_well : (op : BinOp) → Operands op
-  unfolding Operands
-  operands_well Add k l i j = common_types k l i j
-  operands_well Sub k l i j = common_types k l i j
-  operands_well Mul k l i j = common_types k l i j
-  operands_well Div k l i j = common_types k l i j
-  operands_well Rem k l i j = common_types k l i j
-  operands_well Shl k l i j = shift_types k l i j
-  operands_well Shr k l i j = shift_types k l i j
-  operands_well BitAnd k l i j = common_types k l i j
-  operands_well BitOr k l i j = common_types k l i j
-  operands_well BitXor k l i j = common_types k l i j
-  operands_well Eq k l i j = relation_types k l i j
-  operands_well Ne k l i j = relation_types k l i j
-  operands_well Lt k l i j = relation_types k l i j
-  operands_well Le k l i j = relation_types k l i j
-  operands_well Gt k l i j = relation_types k l i j
-  operands_well Ge k l i j = relation_types k l i j
+    operands_well : (op : BinOp) → Operands op
+    unfolding Operands
+    operands_well Add k l i j = common_types k l i j
+    operands_well Sub k l i j = common_types k l i j
+    operands_well Mul k l i j = common_types k l i j
+    operands_well Div k l i j = common_types k l i j
+    operands_well Rem k l i j = common_types k l i j
+    operands_well Shl k l i j = shift_types k l i j
+    operands_well Shr k l i j = shift_types k l i j
+    operands_well BitAnd k l i j = common_types k l i j
+    operands_well BitOr k l i j = common_types k l i j
+    operands_well BitXor k l i j = common_types k l i j
+    operands_well Eq k l i j = relation_types k l i j
+    operands_well Ne k l i j = relation_types k l i j
+    operands_well Lt k l i j = relation_types k l i j
+    operands_well Le k l i j = relation_types k l i j
+    operands_well Gt k l i j = relation_types k l i j
+    operands_well Ge k l i j = relation_types k l i j
 
-  binary_well : (op : BinOp) → Gives (WellTyped s) (binary at op a b)
-  unfolding Operands
-  binary_well op =
-      gives_given (WellTyped s) (integer_of (type_of a)) _ _ (λ k i.
-      gives_given (WellTyped s) (integer_of (type_of b)) _ _ (λ l j. operands_well op k l i j))
+    binary_well : (op : BinOp) → Gives (WellTyped s) (binary at op a b)
+    unfolding Operands
+    binary_well op =
+        gives_given (WellTyped s) (integer_of (type_of a)) _ _ (λ k i.
+        gives_given (WellTyped s) (integer_of (type_of b)) _ _ (λ l j. operands_well op k l i j))
 
-  both_well : Gives (WellTyped s) (both_of at a b)
-  both_well = gives_where (WellTyped s) (is_scalar (type_of a) && is_scalar (type_of b)) _ _ (λ t. let p = and_true (is_scalar (type_of a)) (is_scalar (type_of b)) t in (v, w, refl, p.0, p.1))
+    both_well : Gives (WellTyped s) (both_of at a b)
+    both_well = gives_where (WellTyped s) (is_scalar (type_of a) && is_scalar (type_of b)) _ _ (λ t. let p = and_true (is_scalar (type_of a)) (is_scalar (type_of b)) t in (v, w, refl, p.0, p.1))
 
-  either_well : Gives (WellTyped s) (either_of at a b)
-  either_well = gives_where (WellTyped s) (is_scalar (type_of a) && is_scalar (type_of b)) _ _ (λ t. let p = and_true (is_scalar (type_of a)) (is_scalar (type_of b)) t in (v, w, refl, p.0, p.1))
+    either_well : Gives (WellTyped s) (either_of at a b)
+    either_well = gives_where (WellTyped s) (is_scalar (type_of a) && is_scalar (type_of b)) _ _ (λ t. let p = and_true (is_scalar (type_of a)) (is_scalar (type_of b)) t in (v, w, refl, p.0, p.1))
 
 choice_casts : (t u v : PlainType) → choice_type t u ≡ Some v → CastTypes v t × CastTypes v u
 choice_casts Void Void v e = let same : Void ≡ v = cc in subst (λ v. CastTypes v Void × CastTypes v Void) same (tt, tt)
@@ -330,11 +334,11 @@ callee_well s at x = by (object_named x s.objects)
     ])
     by_function None e = by_constant (library_constant (name_at s.names x))
     by_function (Some f) e = gives_where (IsCallee s) (not (bytes_eq (name_at s.names x) (codes "main"))) _ _ (λ t.
-      let same = found_name x s.functions (name_at s.names x) f e in
-      record {
-        found = subst (λ y. or_else (function_called y s.functions) (library_function y (name_at s.names y)) ≡ Some f) same e;
-        not_main = subst (λ y. bytes_eq (name_at s.names y) (codes "main") ≡ false) same (not_true (bytes_eq (name_at s.names x) (codes "main")) t);
-      })
+        let same = found_name x s.functions (name_at s.names x) f e in
+        record {
+          found = subst (λ y. or_else (function_called y s.functions) (library_function y (name_at s.names y)) ≡ Some f) same e;
+          not_main = subst (λ y. bytes_eq (name_at s.names y) (codes "main") ≡ false) same (not_true (bytes_eq (name_at s.names x) (codes "main")) t);
+        })
 
     by : (o : Option Object) → Gives (IsCallee s) (elim o [
       | Some b ↦ faulty (no_type at)
@@ -354,7 +358,6 @@ record IsArgued (s : Scopes) (ts : List PlainType) (es : Expressions) : Type 0 w
 none_argued : (s : Scopes) (ts : List PlainType) → IsArgued s ts NoExpression
 none_argued s [] = record { well = tt; types = λ e. tt }
 none_argued s (t ∷ ts) = record { well = tt; types = λ e. absurd (omega (arith, e)) }
-
 
 first_argued : (s : Scopes) (ts : List PlainType) (e : Expression) → WellTyped s e → Gives (λ e. (es : Expressions) → IsArgued s (rest_types ts) es → IsArgued s ts (Following e es)) (argument_for (first_type ts) e)
 first_argued s [] e w = λ es a. record { well = (w, a.well); types = λ n. absurd (omega (arith, n)) }

@@ -1,5 +1,5 @@
 -- What a function returned is what the definition gives, unless memory was wanting.
-use Rattle.std.specs.Prelude.{◌≡◌, List, [], ◌∷◌, ◌++◌, map, Some, None, cond, nat_lt, Result, Ok, Err, Vec}
+use Rattle.std.specs.Prelude.{◌≡◌, [], ◌∷◌, ◌++◌, map, Some, None, cond, nat_lt, Result, Ok, Err, Vec}
 use Rattle.std.specs.declared.alloc.Global.{Global}
 use Rattle.c_syntax.specs.Programs.{TranslationUnit, plain_func, plain_program}
 use Rattle.c_model.specs.ProgramTyping.{typed_unit, main_fault}

@@ -1,11 +1,11 @@
 -- What holds of all trees that are typed.
-use Rattle.std.specs.Prelude.{◌≡◌, Some}
+use Rattle.std.specs.Prelude.{◌≡◌}
 use Rattle.c_syntax.specs.Expressions.{Expression}
 use Rattle.c_syntax.specs.Statements.{Statement}
 use Rattle.c_syntax.specs.Programs.{TranslationUnit}
 use Rattle.c_model.specs.Checked.{Good}
 use Rattle.c_model.specs.Typing.{Scopes, Around, typed, typed_statement}
-use Rattle.c_model.specs.ProgramTyping.{typed_unit, noted_unit, main_fault}
+use Rattle.c_model.specs.ProgramTyping.{typed_unit, noted_unit}
 use Rattle.c_model.specs.WellTyped.{WellTyped}
 use Rattle.c_model.specs.WellTypedPrograms.{StatementTyped, ProgramTyped}
 

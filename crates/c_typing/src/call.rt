@@ -12,9 +12,7 @@ use crate::conversion::{copy_type, is_assigned};
 use crate::fault::{TypeFault, no_name, no_type};
 use crate::library::{is_library_function, library_constant};
 use crate::operator::in_type;
-use crate::scope::{
-    Scopes, Signature, copy_signature, function_called, name_at, object_named,
-};
+use crate::scope::{Scopes, Signature, copy_signature, function_called, name_at, object_named};
 use c_syntax::{CInt, CType, Expr, ExprKind, Place, Use};
 use std::alloc::Global;
 

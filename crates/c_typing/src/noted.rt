@@ -40,11 +40,7 @@ fn see_first(scopes: &mut Scopes, first: &Option<Box<Item>>) -> Result<(), Alloc
 
 /// The statement with its annotations typed, or their first fault. What was in sight before is in sight behind it.
 #[cycle(noted)]
-pub fn note_statement(
-    alloc: Global,
-    scopes: &mut Scopes,
-    s: Stmt,
-) -> Result<Stmt, TypeFault>
+pub fn note_statement(alloc: Global, scopes: &mut Scopes, s: Stmt) -> Result<Stmt, TypeFault>
     ensures noted { Answers plain_stmt (noted_statement (plain_scopes scopes.old) (plain_stmt s)) result }
     ensures same { IfOk result (λ _. plain_scopes scopes.new ≡ plain_scopes scopes.old) }
 {

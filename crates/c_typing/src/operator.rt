@@ -101,8 +101,16 @@ pub fn binary(alloc: Global, place: Place, op: BinOp, a: Expr, b: Expr) -> Resul
 {
     match (integer_of(&a.ctype), integer_of(&b.ctype)) {
         (Some(k), Some(l)) => {
-            let first = if is_shift(op) { promoted(k) } else { common(k, l) };
-            let second = if is_shift(op) { promoted(l) } else { common(k, l) };
+            let first = if is_shift(op) {
+                promoted(k)
+            } else {
+                common(k, l)
+            };
+            let second = if is_shift(op) {
+                promoted(l)
+            } else {
+                common(k, l)
+            };
             let a = in_int(alloc, first, a)?;
             let b = in_int(alloc, second, b)?;
             let a = Box::new(alloc, a)?;
@@ -152,13 +160,7 @@ pub fn either_of(alloc: Global, place: Place, a: Expr, b: Expr) -> Result<Expr, 
 }
 
 /// `a ? b : c` (C99 6.5.15).
-pub fn choice_of(
-    alloc: Global,
-    place: Place,
-    a: Expr,
-    b: Expr,
-    c: Expr,
-) -> Result<Expr, TypeFault>
+pub fn choice_of(alloc: Global, place: Place, a: Expr, b: Expr, c: Expr) -> Result<Expr, TypeFault>
     ensures { Answers plain_expr (choice_of place (plain_expr a) (plain_expr b) (plain_expr c)) result }
 {
     if !is_scalar(&a.ctype) {
@@ -201,13 +203,7 @@ fn assigned(alloc: Global, place: Place, a: Expr, b: Expr) -> Result<Expr, TypeF
 }
 
 /// `a op= b` (C99 6.5.16.2).
-fn compounded(
-    alloc: Global,
-    place: Place,
-    op: BinOp,
-    a: Expr,
-    b: Expr,
-) -> Result<Expr, TypeFault>
+fn compounded(alloc: Global, place: Place, op: BinOp, a: Expr, b: Expr) -> Result<Expr, TypeFault>
     ensures { Answers plain_expr (compounded place op (plain_expr a) (plain_expr b)) result }
 {
     if is_place(&a) && integer_of(&a.ctype).is_some() && integer_of(&b.ctype).is_some() {

@@ -84,12 +84,7 @@ fn type_some(alloc: Global, scopes: &Scopes, e: Option<Expr>) -> Result<Option<E
 }
 
 /// `return` has an expression exactly in a function that isn't void (C99 6.8.6.4).
-fn returned(
-    alloc: Global,
-    place: Place,
-    ctype: &CType,
-    e: Option<Expr>,
-) -> Result<Stmt, TypeFault>
+fn returned(alloc: Global, place: Place, ctype: &CType, e: Option<Expr>) -> Result<Stmt, TypeFault>
     ensures { Answers plain_stmt (returned place (plain_type ctype.now) (option_map plain_expr e)) result }
 {
     match e {

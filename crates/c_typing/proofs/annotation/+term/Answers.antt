@@ -14,7 +14,7 @@ returns-in_err-a-in-Binary t c =
     let e : c.from_residual.result ≡ Err c.in_err-a-in-Binary.field-0.0 = search rules in
     let s = plain_scopes c.args.scopes.now in
     rw e (term_at s c.args.t _ (Err c.in_err-a-in-Binary.field-0.0) c.in-Binary.is
-      (both_refused (λ a b. Good (Binary c.args.t.place (option_map plain_type c.args.t.ctype) c.args.t.range c.in-Binary.op a b)) plain_term plain_term plain_term (typed_term s (plain_term c.in-Binary.a.value)) (typed_term s (plain_term c.in-Binary.b.value)) c.type_term-a.result c.type_term-b.result _
-        (subst (λ x. Answers plain_term (typed_term s (plain_term x)) c.type_term-a.result) c.into_inner.ensures c.type_term-a.ensures)
-        (subst (λ x. Answers plain_term (typed_term s (plain_term x)) c.type_term-b.result) c.into_inner-in-Binary.ensures c.type_term-b.ensures)
-        c.in_err-a-in-Binary.ensures))
+    (both_refused (λ a b. Good (Binary c.args.t.place (option_map plain_type c.args.t.ctype) c.args.t.range c.in-Binary.op a b)) plain_term plain_term plain_term (typed_term s (plain_term c.in-Binary.a.value)) (typed_term s (plain_term c.in-Binary.b.value)) c.type_term-a.result c.type_term-b.result _
+    (subst (λ x. Answers plain_term (typed_term s (plain_term x)) c.type_term-a.result) c.into_inner.ensures c.type_term-a.ensures)
+    (subst (λ x. Answers plain_term (typed_term s (plain_term x)) c.type_term-b.result) c.into_inner-in-Binary.ensures c.type_term-b.ensures)
+    c.in_err-a-in-Binary.ensures))

@@ -1,13 +1,12 @@
 use Rattle.std.proofs.Common.{◌≡◌, rules, Err, ap, arith, [], ◌∙◌}
 use Rattle.std.proofs.lemmas.List.{nil_from_length}
 use Rattle.c_syntax.specs.Statements.{plain_item, plain_items}
-use Rattle.c_model.specs.Typing.{behind, behind_first}
+use Rattle.c_model.specs.Typing.{behind}
 use Rattle.c_model.specs.ProgramTyping.{noted_items}
 use Rattle.c_typing.specs.Scopes.{plain_scopes}
-use Rattle.c_typing.specs.Trees.{plain_for_first}
 use Rattle.c_typing.proofs.Blocks.{sight_more}
 use Rattle.c_typing.proofs.Statements.{block_left, for_left}
-use Rattle.c_typing.proofs.NotedStatements.{block_refused, block_noted, if_refused, block_more, block_done}
+use Rattle.c_typing.proofs.NotedStatements.{block_refused, block_noted, block_more, block_done}
 use Rattle.c_typing.proofs.noted.+noted.Goals as goal
 
 pub note_block-returns-clause-same : goal.note_block-returns-clause-same
@@ -19,9 +18,10 @@ note_items-loop-item-preserved t c =
     let s = plain_scopes c.args.scopes.now in
     let u = plain_scopes c.loop-item.scopes in
     let v = plain_scopes c.note_item.new.scopes in
-    let u' = plain_scopes c.see.new.scopes in
-    ( block_more s u v u' c.loop-item.done.items c.push.new.self.items c.in_ok-item.item c.in_ok-item.ensures.same c.in_ok-see.ensures c.in_ok-push.ensures.items (plain_items c.args.items.items) c.loop-item.item-iterator.rest.items c.in-Some.item c.next.new.self.rest.items c.loop-item.invariant.0 c.in-Some.ensures.steps.0 c.in_ok-item.ensures.noted
-    , sight_more s u u' c.loop-item.done.items c.push.new.self.items c.in_ok-item.item c.loop-item.invariant.1 (c.in_ok-see.ensures ∙ ap (λ x. behind x (plain_item c.in_ok-item.item)) c.in_ok-item.ensures.same) c.in_ok-push.ensures.items)
+    let u' = plain_scopes c.see.new.scopes in (
+      block_more s u v u' c.loop-item.done.items c.push.new.self.items c.in_ok-item.item c.in_ok-item.ensures.same c.in_ok-see.ensures c.in_ok-push.ensures.items (plain_items c.args.items.items) c.loop-item.item-iterator.rest.items c.in-Some.item c.next.new.self.rest.items c.loop-item.invariant.0 c.in-Some.ensures.steps.0 c.in_ok-item.ensures.noted,
+      sight_more s u u' c.loop-item.done.items c.push.new.self.items c.in_ok-item.item c.loop-item.invariant.1 (c.in_ok-see.ensures ∙ ap (λ x. behind x (plain_item c.in_ok-item.item)) c.in_ok-item.ensures.same) c.in_ok-push.ensures.items,
+    )
 
 pub note_items-returns-clause-noted : goal.note_items-returns-clause-noted
 note_items-returns-clause-noted t c =

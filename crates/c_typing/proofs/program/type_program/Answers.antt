@@ -1,5 +1,5 @@
-use Rattle.std.proofs.Common.{◌≡◌, rules, Some, None, map}
-use Rattle.c_syntax.specs.Programs.{plain_func, plain_program}
+use Rattle.std.proofs.Common.{◌≡◌, rules, Some, None}
+use Rattle.c_syntax.specs.Programs.{plain_program}
 use Rattle.c_model.specs.ProgramTyping.{main_fault}
 use Rattle.c_typing.specs.Answers.{plain_fault}
 use Rattle.c_typing.specs.TypedPrograms.{ForMain}

@@ -1,4 +1,4 @@
-use Rattle.std.proofs.Common.{ap, ◌∙◌, map, drop}
+use Rattle.std.proofs.Common.{ap, ◌∙◌, map}
 use Rattle.c_model.specs.Library.{is_there}
 use Rattle.c_model.specs.Typing.{object_named}
 use Rattle.c_typing.specs.Scopes.{plain_object}

@@ -2,7 +2,7 @@ use Rattle.std.proofs.Common.{◌≡◌, rules, Err, ap, arith, []}
 use Rattle.std.proofs.lemmas.List.{nil_from_length}
 use Rattle.c_syntax.specs.Statements.{plain_items}
 use Rattle.c_model.specs.Typing.{typed_items}
-use Rattle.c_typing.specs.Scopes.{plain_scopes, left}
+use Rattle.c_typing.specs.Scopes.{plain_scopes}
 use Rattle.c_typing.specs.Trees.{plain_around}
 use Rattle.c_typing.proofs.Blocks.{sight_more}
 use Rattle.c_typing.proofs.Statements.{block_refused, block_typed, do_refused, step_refused, body_refused, for_typed, block_more, block_done, block_left, for_left}
@@ -16,9 +16,10 @@ pub type_items-loop-item-preserved : goal.type_items-loop-item-preserved
 type_items-loop-item-preserved t c =
     let s = plain_scopes c.args.scopes.now in
     let u = plain_scopes c.loop-item.scopes in
-    let u' = plain_scopes c.type_item.new.scopes in
-    ( block_more s u u' (plain_around c.args.around.now) c.loop-item.done.items c.push.new.self.items c.in_ok-item.item c.in_ok-item.ensures.behind c.in_ok-push.ensures.items (plain_items c.args.items.items) c.loop-item.item-iterator.rest.items c.in-Some.item c.next.new.self.rest.items c.loop-item.invariant.0 c.in-Some.ensures.steps.0 c.in_ok-item.ensures.typed
-    , sight_more s u u' c.loop-item.done.items c.push.new.self.items c.in_ok-item.item c.loop-item.invariant.1 c.in_ok-item.ensures.behind c.in_ok-push.ensures.items)
+    let u' = plain_scopes c.type_item.new.scopes in (
+      block_more s u u' (plain_around c.args.around.now) c.loop-item.done.items c.push.new.self.items c.in_ok-item.item c.in_ok-item.ensures.behind c.in_ok-push.ensures.items (plain_items c.args.items.items) c.loop-item.item-iterator.rest.items c.in-Some.item c.next.new.self.rest.items c.loop-item.invariant.0 c.in-Some.ensures.steps.0 c.in_ok-item.ensures.typed,
+      sight_more s u u' c.loop-item.done.items c.push.new.self.items c.in_ok-item.item c.loop-item.invariant.1 c.in_ok-item.ensures.behind c.in_ok-push.ensures.items,
+    )
 
 pub type_items-returns-clause-typed : goal.type_items-returns-clause-typed
 type_items-returns-clause-typed t c =
