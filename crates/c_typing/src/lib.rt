@@ -18,6 +18,8 @@ pub mod operator;
 pub mod program;
 pub mod scope;
 pub mod statement;
+#[cfg(test)]
+mod tests;
 
 pub use checked::Typed;
 pub use fault::{Fault, TypeFault};

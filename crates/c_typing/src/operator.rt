@@ -1,6 +1,7 @@
 //! What each form of an expression demands of its parts, which have no fault (C99 6.5).
 
 ghost use Rattle.std.specs.Prelude.{◌≡◌, IfOk};
+ghost use Rattle.c_syntax.specs.declared.types.CInt.TheVariants.{U64};
 ghost use Rattle.c_syntax.specs.Ctypes.{Int, plain_type};
 ghost use Rattle.c_syntax.specs.Expressions.{plain_expr};
 ghost use Rattle.c_model.specs.Typing.{assign, assigned, binary, both_of, bump, cast, choice_of, compounded, either_of, in_type, in_int, is_place, literal, size_of_expression, size_of_type, unary};
@@ -270,6 +271,13 @@ pub fn cast(alloc: Global, place: Place, to: CType, a: Expr) -> Result<Expr, Typ
     }
 }
 
+/// The type of sizes, `size_t` (C99 7.17).
+fn size_type() -> CType
+    ensures { plain_type result ≡ Int U64 }
+{
+    CType::Int(CInt::U64)
+}
+
 /// `sizeof` of a type that has a size (C99 6.5.3.4).
 pub fn size_of_type(place: Place, t: CType) -> Result<Expr, TypeFault>
     ensures { Answers plain_expr (size_of_type place (plain_type t)) result }
@@ -278,7 +286,7 @@ pub fn size_of_type(place: Place, t: CType) -> Result<Expr, TypeFault>
         Ok(Expr {
             place,
             kind: ExprKind::SizeOfType(t),
-            ctype: CType::Int(CInt::U64),
+            ctype: size_type(),
         })
     } else {
         Err(no_type(place))
@@ -294,7 +302,7 @@ pub fn size_of_expression(alloc: Global, place: Place, a: Expr) -> Result<Expr, 
         Ok(Expr {
             place,
             kind: ExprKind::SizeOfExpr(a),
-            ctype: CType::Int(CInt::U64),
+            ctype: size_type(),
         })
     } else {
         Err(no_type(place))
