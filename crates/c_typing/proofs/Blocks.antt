@@ -1,0 +1,123 @@
+-- Blocks: their items one after another, and what is in sight behind them.
+use Rattle.std.proofs.Common.{◌≡◌, ℕ, List, [], ◌∷◌, ◌++◌, refl, sym, ap, ◌∙◌, append_assoc, length, Err}
+use Rattle.std.proofs.lemmas.List.{append-nil}
+use Rattle.std.proofs.Math.Seq.{take-append_seam}
+use Rattle.c_syntax.specs.declared.statement.Item.{Item}
+use Rattle.c_syntax.specs.Statements.{Declaration, BlockItem, Declare, Run, Asserts, BlockItems, NoItem, Then, ForFirst, NoFirst, First, plain_item, plain_items}
+use Rattle.c_model.specs.Checked.{Checked, Good, Bad, one_part}
+use Rattle.c_model.specs.Typing.{Scopes, Object, inner, with_object, with_objects, behind, behind_first}
+use Rattle.c_typing.specs.declared.fault.TypeFault.{TypeFault}
+use Rattle.c_typing.specs.Answers.{Answers}
+use Rattle.c_typing.specs.Scopes.{behind_items, left}
+use Rattle.c_typing.proofs.Least.{one_refused}
+
+abbrev append : BlockItems → BlockItems → BlockItems
+append NoItem js = js
+append (Then i is) js = Then i (append is js)
+
+append_none : (is : BlockItems) → append is NoItem ≡ is
+append_none NoItem = refl
+append_none (Then i is) = ap (Then i) (append_none is)
+
+append_in_turn : (is js ks : BlockItems) → append (append is js) ks ≡ append is (append js ks)
+append_in_turn NoItem js ks = refl
+append_in_turn (Then i is) js ks = ap (Then i) (append_in_turn is js ks)
+
+-- items in front of those of a block
+abbrev pub behind_block : BlockItems → Checked BlockItems → Checked BlockItems
+behind_block done c = one_part c (λ rest. Good (append done rest))
+
+pub no_items : (c : Checked BlockItems) → behind_block NoItem c ≡ c
+no_items (Good a) = refl
+no_items (Bad f fs) = refl
+
+pub all_items : (done : BlockItems) → behind_block done (Good NoItem) ≡ Good done
+all_items done = ap Good (append_none done)
+
+plain_snoc : (xs : List Item) (x : Item) → plain_items (xs ++ x ∷ []) ≡ append (plain_items xs) (Then (plain_item x) NoItem)
+plain_snoc [] x = refl
+plain_snoc (y ∷ ys) x = ap (Then (plain_item y)) (plain_snoc ys x)
+
+items_in_front : (done : BlockItems) (i : BlockItem) (c : Checked BlockItems) → behind_block done (one_part c (λ rest. Good (Then i rest))) ≡ behind_block (append done (Then i NoItem)) c
+items_in_front done i (Good rest) = ap Good (sym (append_in_turn done (Then i NoItem) rest))
+items_in_front done i (Bad f fs) = refl
+
+module _ (done : BlockItems) (m : Checked BlockItem) (rest : BlockItem → Checked BlockItems)
+  where
+    next_item : (i : BlockItem) → m ≡ Good i → behind_block done (one_part m (λ i. one_part (rest i) (λ is. Good (Then i is)))) ≡ behind_block (append done (Then i NoItem)) (rest i)
+    next_item i is = ap (λ c. behind_block done (one_part c (λ i. one_part (rest i) (λ is. Good (Then i is))))) is ∙ items_in_front done i (rest i)
+
+    -- the first of the items is refused
+    pub item_refused : {S T : Type 0} (p : T → BlockItem) (s : S → BlockItems) (h : TypeFault) → Answers p m (Err h) → Answers s (behind_block done (one_part m (λ i. one_part (rest i) (λ is. Good (Then i is))))) (Err h)
+    item_refused p s h a = one_refused (λ is. Good (append done is)) s s (one_part m (λ i. one_part (rest i) (λ is. Good (Then i is)))) h (one_refused (λ i. one_part (rest i) (λ is. Good (Then i is))) p s m h a)
+
+-- one more item is there
+pub items_more : (whole c : Checked BlockItems) (done done' : List Item) (x : Item) (m : Checked BlockItem) (rest : BlockItem → Checked BlockItems) → whole ≡ behind_block (plain_items done) c → c ≡ one_part m (λ i. one_part (rest i) (λ is. Good (Then i is))) → m ≡ Good (plain_item x) → done' ≡ done ++ x ∷ [] → whole ≡ behind_block (plain_items done') (rest (plain_item x))
+items_more whole c done done' x m rest before is good more =
+    before ∙ ap (behind_block (plain_items done)) is ∙ next_item (plain_items done) m rest (plain_item x) good
+    ∙ ap (λ is. behind_block is (rest (plain_item x))) (sym (ap plain_items more ∙ plain_snoc done x))
+
+behind_snoc : (s : Scopes) (is : BlockItems) (i : BlockItem) → behind_items s (append is (Then i NoItem)) ≡ behind (behind_items s is) i
+behind_snoc s NoItem i = refl
+behind_snoc s (Then j js) i = behind_snoc (behind s j) js i
+
+-- what is in sight behind one more item
+pub sight_more : (s t t' : Scopes) (done done' : List Item) (x : Item) → t ≡ behind_items s (plain_items done) → t' ≡ behind t (plain_item x) → done' ≡ done ++ x ∷ [] → t' ≡ behind_items s (plain_items done')
+sight_more s t t' done done' x before now more =
+    now ∙ ap (λ u. behind u (plain_item x)) before ∙ sym (behind_snoc s (plain_items done) (plain_item x))
+    ∙ ap (behind_items s) (sym (ap plain_items more ∙ plain_snoc done x))
+
+-- ---- what is in sight behind a block
+
+-- more objects, and another innermost scope
+abbrev wider : Scopes → ℕ → List Object → Scopes
+wider s n more = record s { objects = s.objects ++ more; innermost = n }
+
+-- what is wider than s
+record Widens (s t : Scopes) : Type 0 where
+  from : ℕ
+  more : List Object
+  is : t ≡ wider s from more
+
+widens_inner : (s : Scopes) → Widens s (inner s)
+widens_inner s = record { from = length s.objects; more = []; is = ap (λ os. record s { objects = os; innermost = length s.objects }) (sym (append-nil s.objects)) }
+
+widens_object : (s t : Scopes) (d : Declaration) → Widens s t → Widens s (with_object t d)
+widens_object s t d w = record {
+  from = w.from;
+  more = w.more ++ record { name = d.name; decl = d.place.offset; ctype = d.ctype } ∷ [];
+  is = ap (λ u. with_object u d) w.is ∙ ap (λ os. record s { objects = os; innermost = w.from }) (append_assoc s.objects w.more _);
+}
+
+widens_objects : (s t : Scopes) (ds : List Declaration) → Widens s t → Widens s (with_objects t ds)
+widens_objects s t [] w = w
+widens_objects s t (d ∷ ds) w = widens_objects s (with_object t d) ds (widens_object s t d w)
+
+widens_behind : (s t : Scopes) (i : BlockItem) → Widens s t → Widens s (behind t i)
+widens_behind s t (Declare ds) w = widens_objects s t ds w
+widens_behind s t (Run a) w = w
+widens_behind s t (Asserts annots) w = w
+
+widens_items : (s t : Scopes) (is : BlockItems) → Widens s t → Widens s (behind_items t is)
+widens_items s t NoItem w = w
+widens_items s t (Then i is) w = widens_items s (behind t i) is (widens_behind s t i w)
+
+widens_first : (s t : Scopes) (i : ForFirst) → Widens s t → Widens s (behind_first t i)
+widens_first s t NoFirst w = w
+widens_first s t (First i) w = widens_behind s t i w
+
+left_wider : (s t : Scopes) → Widens s t → left (length s.objects) s.innermost t ≡ s
+left_wider s t w = ap (left (length s.objects) s.innermost) w.is ∙ ap (λ os. record s { objects = os }) (take-append_seam s.objects w.more)
+
+-- behind a block what was in sight before it is
+pub left_block : (s : Scopes) (is : BlockItems) → left (length s.objects) s.innermost (behind_items (inner s) is) ≡ s
+left_block s is = left_wider s _ (widens_items s (inner s) is (widens_inner s))
+
+pub left_for : (s : Scopes) (i : ForFirst) → left (length s.objects) s.innermost (behind_first (inner s) i) ≡ s
+left_for s i = left_wider s _ (widens_first s (inner s) i (widens_inner s))
+
+widens_same : (s : Scopes) → Widens s s
+widens_same s = record { from = s.innermost; more = []; is = ap (λ os. record s { objects = os }) (sym (append-nil s.objects)) }
+
+pub left_body : (s : Scopes) (is : BlockItems) → left (length s.objects) s.innermost (behind_items s is) ≡ s
+left_body s is = left_wider s _ (widens_items s s is (widens_same s))

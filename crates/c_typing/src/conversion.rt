@@ -1,0 +1,196 @@
+//! The types that operands are converted to (C99 6.3.1.1, 6.3.1.8), and what types have a meaning where.
+
+ghost use Rattle.std.specs.Prelude.{◌≡◌, option_map};
+ghost use Rattle.c_syntax.specs.Ctypes.{plain_type};
+ghost use Rattle.c_model.specs.Integers.{fits, is_signed, width};
+ghost use Rattle.c_model.specs.Conversions.{common, is_relation, is_shift, promoted, result_type, wider};
+ghost use Rattle.c_model.specs.Typing.{choice_type, integer_of, is_assigned, is_cast, is_object_type, is_scalar, same_int, same_type};
+
+use c_syntax::{BinOp, CInt, CType};
+
+/// A copy of a type.
+pub fn copy_type(t: &CType) -> CType
+    ensures { plain_type result ≡ plain_type t.now }
+{
+    match t {
+        CType::Void => CType::Void,
+        CType::Int(k) => CType::Int(*k),
+    }
+}
+
+fn same_int(k: CInt, l: CInt) -> bool
+    ensures { result ≡ same_int k l }
+{
+    k == l
+}
+
+pub fn same_type(t: &CType, u: &CType) -> bool
+    ensures { result ≡ same_type (plain_type t.now) (plain_type u.now) }
+{
+    match (t, u) {
+        (CType::Void, CType::Void) => true,
+        (CType::Int(k), CType::Int(l)) => same_int(*k, *l),
+        (CType::Void, CType::Int(_)) | (CType::Int(_), CType::Void) => false,
+    }
+}
+
+/// Whether a condition may have the type (C99 6.2.5 p21).
+pub fn is_scalar(t: &CType) -> bool
+    ensures { result ≡ is_scalar (plain_type t.now) }
+{
+    match t {
+        CType::Void => false,
+        CType::Int(_) => true,
+    }
+}
+
+/// Whether an object may have the type.
+pub fn is_object_type(t: &CType) -> bool
+    ensures { result ≡ is_object_type (plain_type t.now) }
+{
+    match t {
+        CType::Void => false,
+        CType::Int(_) => true,
+    }
+}
+
+/// The integer type that it is, where it is one.
+pub fn integer_of(t: &CType) -> Option<CInt>
+    ensures { result ≡ integer_of (plain_type t.now) }
+{
+    match t {
+        CType::Void => None,
+        CType::Int(k) => Some(*k),
+    }
+}
+
+/// Whether a value of the first type is assigned to an object of the second (C99 6.5.16.1).
+pub fn is_assigned(t: &CType, u: &CType) -> bool
+    ensures { result ≡ is_assigned (plain_type t.now) (plain_type u.now) }
+{
+    matches!((t, u), (CType::Int(_), CType::Int(_)))
+}
+
+/// Whether a value of the first type is cast to the second (C99 6.5.4).
+pub fn is_cast(t: &CType, u: &CType) -> bool
+    ensures { result ≡ is_cast (plain_type t.now) (plain_type u.now) }
+{
+    match (t, u) {
+        (CType::Void, CType::Int(_)) => false,
+        (CType::Int(_), CType::Int(_)) => true,
+        (CType::Void, CType::Void) | (CType::Int(_), CType::Void) => true,
+    }
+}
+
+/// Whether values of the type can be negative.
+fn is_signed(k: CInt) -> bool
+    ensures { result ≡ is_signed k }
+{
+    match k {
+        CInt::I8 | CInt::I16 | CInt::I32 | CInt::I64 => true,
+        CInt::U8 | CInt::U16 | CInt::U32 | CInt::U64 => false,
+    }
+}
+
+/// The bits of the type.
+fn width(k: CInt) -> u8
+    ensures { result ≡ width k }
+{
+    match k {
+        CInt::I8 | CInt::U8 => 8,
+        CInt::I16 | CInt::U16 => 16,
+        CInt::I32 | CInt::U32 => 32,
+        CInt::I64 | CInt::U64 => 64,
+    }
+}
+
+/// Whether the type has the value.
+pub fn fits(k: CInt, n: i128) -> bool
+    ensures { result ≡ fits k n }
+{
+    match k {
+        CInt::I8 => i128::from(i8::MIN) <= n && n <= i128::from(i8::MAX),
+        CInt::U8 => 0 <= n && n <= i128::from(u8::MAX),
+        CInt::I16 => i128::from(i16::MIN) <= n && n <= i128::from(i16::MAX),
+        CInt::U16 => 0 <= n && n <= i128::from(u16::MAX),
+        CInt::I32 => i128::from(i32::MIN) <= n && n <= i128::from(i32::MAX),
+        CInt::U32 => 0 <= n && n <= i128::from(u32::MAX),
+        CInt::I64 => i128::from(i64::MIN) <= n && n <= i128::from(i64::MAX),
+        CInt::U64 => 0 <= n && n <= i128::from(u64::MAX),
+    }
+}
+
+/// The integer promotions (C99 6.3.1.1 p2).
+pub fn promoted(k: CInt) -> CInt
+    ensures { result ≡ promoted k }
+{
+    match k {
+        CInt::I8 | CInt::U8 | CInt::I16 | CInt::U16 | CInt::I32 => CInt::I32,
+        CInt::U32 => CInt::U32,
+        CInt::I64 => CInt::I64,
+        CInt::U64 => CInt::U64,
+    }
+}
+
+/// The one of two promoted types that both are converted to.
+fn wider(k: CInt, l: CInt) -> CInt
+    ensures { result ≡ wider k l }
+{
+    if width(k) < width(l) {
+        l
+    } else if width(l) < width(k) {
+        k
+    } else if is_signed(k) {
+        l
+    } else {
+        k
+    }
+}
+
+/// The usual arithmetic conversions (C99 6.3.1.8).
+pub fn common(k: CInt, l: CInt) -> CInt
+    ensures { result ≡ common k l }
+{
+    wider(promoted(k), promoted(l))
+}
+
+/// `<<` and `>>`, whose operands keep their own types (C99 6.5.7 p3).
+pub fn is_shift(op: BinOp) -> bool
+    ensures { result ≡ is_shift op }
+{
+    matches!(op, BinOp::Shl | BinOp::Shr)
+}
+
+/// `<`, `==` and the like, whose result is an `int` (C99 6.5.8, 6.5.9).
+fn is_relation(op: BinOp) -> bool
+    ensures { result ≡ is_relation op }
+{
+    matches!(
+        op,
+        BinOp::Eq | BinOp::Ne | BinOp::Lt | BinOp::Le | BinOp::Gt | BinOp::Ge
+    )
+}
+
+/// The type of an operator's result, from those of its operands.
+pub fn result_type(op: BinOp, k: CInt, l: CInt) -> CInt
+    ensures { result ≡ result_type op k l }
+{
+    if is_relation(op) {
+        CInt::I32
+    } else if is_shift(op) {
+        promoted(k)
+    } else {
+        common(k, l)
+    }
+}
+
+/// The type of `a ? b : c`, from those of b and c (C99 6.5.15).
+pub fn choice_type(t: &CType, u: &CType) -> Option<CType>
+    ensures { option_map plain_type result ≡ choice_type (plain_type t.now) (plain_type u.now) }
+{
+    match (t, u) {
+        (CType::Void, CType::Void) => Some(CType::Void),
+        (CType::Int(k), CType::Int(l)) => Some(CType::Int(common(*k, *l))),
+        (CType::Void, CType::Int(_)) | (CType::Int(_), CType::Void) => None,
+    }
+}
