@@ -7,5 +7,6 @@ pub mod KeptExpressions
 pub mod KeptStatements
 pub mod KeptAnnotations
 pub mod KeptPrograms
+pub mod Programs
 pub mod Texts
 mod WorkedTexts

@@ -5,11 +5,13 @@ use Rattle.c_syntax.specs.declared.refusal.FrontFault.TheVariants as front
 use Rattle.c_syntax.specs.Tokens.{PlainTokens}
 use Rattle.c_syntax.specs.Programs.{TranslationUnit, PlainRefusal, plain_refusal}
 use Rattle.c_model.specs.Checked.{Fault, Good, refusing}
-use Rattle.c_model.specs.ProgramTyping.{typed_unit, main_fault, no_main, noted_unit}
+use Rattle.c_model.specs.ProgramTyping.{typed_unit, main_fault, noted_unit}
 use Rattle.c_model.specs.Phases.{checked_refusal, main_refusal, RefusedText}
 use Rattle.c_expr_parser.specs.Answers.{RefusesWith}
 use Rattle.c_typing.specs.declared.fault.TypeFault.{TypeFault}
-use Rattle.c_typing.specs.declared.fault.TypeFault.TheVariants.{Refused, NoMain, Memory}
+use Rattle.c_typing.specs.declared.fault.TypeFault.TheVariants.{Refused, Memory}
+use Rattle.c_typing.specs.declared.fault.ProgramFault.{ProgramFault}
+use Rattle.c_typing.specs.declared.fault.ProgramFault.TheVariants as cause
 use Rattle.c_typing.specs.Answers.{plain_fault}
 
 -- a refusal is the text's; nothing is said where memory was wanting
@@ -34,8 +36,13 @@ abbrev pub HasFault : FrontFault → PlainTokens → TranslationUnit → Type 0
 HasFault front.Memory ts tree = Unit {0}
 HasFault (front.Refused r) ts tree = IsCheckRefusal ts tree (plain_refusal r)
 
--- the refusal for a fault in names and types, or for want of `main`
+-- the refusal for a fault in names and types
 abbrev pub RefusesFault : PlainTokens → TypeFault → FrontFault → Type 0
 RefusesFault ts (Refused f) e = RefusesWith (checked_refusal ts (plain_fault f)) e
-RefusesFault ts (NoMain at) e = RefusesWith (main_refusal (no_main at)) e
 RefusesFault ts Memory e = e ≡ front.Memory
+
+-- the refusal for the same, or for want of `main`
+abbrev pub RefusesProgram : PlainTokens → ProgramFault → FrontFault → Type 0
+RefusesProgram ts (cause.Refused f) e = RefusesWith (checked_refusal ts (plain_fault f)) e
+RefusesProgram ts (cause.NoMain f) e = RefusesWith (main_refusal (plain_fault f)) e
+RefusesProgram ts cause.Memory e = e ≡ front.Memory

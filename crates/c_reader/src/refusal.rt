@@ -3,15 +3,15 @@
 ghost use Rattle.std.specs.Prelude.{◌≡◌};
 ghost use Rattle.c_syntax.specs.Tokens.{plain_tokens};
 ghost use Rattle.c_model.specs.TokenWords.{from_place};
-ghost use Rattle.c_model.specs.Phases.{checked_refusal};
+ghost use Rattle.c_model.specs.Phases.{checked_refusal, main_refusal};
 ghost use Rattle.c_expr_parser.specs.Reading.{plain_list};
 ghost use Rattle.c_expr_parser.specs.Answers.{RefusesWith};
 ghost use Rattle.c_typing.specs.Answers.{plain_fault};
-ghost use Rattle.c_reader.specs.Answers.{RefusesFault};
+ghost use Rattle.c_reader.specs.Answers.{RefusesFault, RefusesProgram};
 
 use c_expr_parser::refusal::{refused, refused_word};
 use c_syntax::{FrontFault, Place, Token, Tokens};
-use c_typing::{Fault, TypeFault};
+use c_typing::{Fault, ProgramFault, TypeFault};
 use std::alloc::Global;
 
 /// The tokens from a place on.
@@ -37,13 +37,30 @@ fn refused_at(alloc: Global, tokens: &Tokens, fault: Fault) -> FrontFault
     refused(fault.code, fault.place, word)
 }
 
-/// The refusal of a tree for a fault in its names and types, or for want of `main`.
+/// The refusal of a tree for want of `main`.
+fn refused_main(alloc: Global, fault: Fault) -> FrontFault
+    ensures { RefusesWith (main_refusal (plain_fault fault)) result }
+{
+    refused(fault.code, fault.place, Vec::from_slice(alloc, b"main"))
+}
+
+/// The refusal of a tree for a fault in its names and types.
 pub fn refuse(alloc: Global, tokens: &Tokens, fault: TypeFault) -> FrontFault
     ensures { RefusesFault (plain_tokens tokens.now) fault result }
 {
     match fault {
         TypeFault::Refused(fault) => refused_at(alloc, tokens, fault),
-        TypeFault::NoMain(place) => refused(13, place, Vec::from_slice(alloc, b"main")),
         TypeFault::Memory => FrontFault::Memory,
+    }
+}
+
+/// The refusal of a tree for a fault in its names and types, or for want of `main`.
+pub fn refuse_program(alloc: Global, tokens: &Tokens, fault: ProgramFault) -> FrontFault
+    ensures { RefusesProgram (plain_tokens tokens.now) fault result }
+{
+    match fault {
+        ProgramFault::Refused(fault) => refused_at(alloc, tokens, fault),
+        ProgramFault::NoMain(fault) => refused_main(alloc, fault),
+        ProgramFault::Memory => FrontFault::Memory,
     }
 }

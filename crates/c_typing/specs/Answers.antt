@@ -9,7 +9,9 @@ use Rattle.c_typing.specs.declared.fault.Fault.{Fault}
 use Rattle.c_typing.specs.declared.fault.TypeFault.{TypeFault}
 use Rattle.c_typing.specs.declared.fault.TypeFault.TheVariants.{Refused, Memory}
 use Rattle.c_typing.specs.declared.checked.Typed.{Typed}
-use Rattle.c_typing.specs.TypedPrograms.{IsRefused}
+use Rattle.c_typing.specs.declared.fault.ProgramFault.{ProgramFault}
+use Rattle.c_typing.specs.declared.fault.ProgramFault.TheVariants as cause
+use Rattle.c_typing.specs.TypedPrograms.{HasNoMain}
 
 abbrev pub plain_fault : Fault → plain.Fault
 plain_fault f = record { code = f.code; place = f.place }
@@ -42,8 +44,9 @@ Pushed (Ok p) (Err Memory) = Unit {0}
 Pushed (Err f) (Ok v) = ⊥
 Pushed (Err f) (Err g) = g ≡ f
 
--- names and types, and then `main`
-abbrev pub AnswersProgram : TranslationUnit → Result Typed TypeFault → Type 0
+-- names and types, and then `main`: each answer by its cause
+abbrev pub AnswersProgram : TranslationUnit → Result Typed ProgramFault → Type 0
 AnswersProgram p (Ok t) = (typed_unit p ≡ Good (plain_program t.program)) × (main_fault t.program.names.items (map plain_func t.program.funcs.items) ≡ None)
-AnswersProgram p (Err (Refused f)) = IsRefused p (plain_fault f)
-AnswersProgram p (Err Memory) = Unit {0}
+AnswersProgram p (Err (cause.Refused f)) = refusing (typed_unit p) ≡ Some (plain_fault f)
+AnswersProgram p (Err (cause.NoMain f)) = HasNoMain p (plain_fault f)
+AnswersProgram p (Err cause.Memory) = Unit {0}

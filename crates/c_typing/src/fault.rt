@@ -23,6 +23,17 @@ pub enum TypeFault {
     Memory,
 }
 
+/// Why typing gives no program.
+#[derive(Clone, Copy, PartialEq, Eq, Debug, Drop)]
+pub enum ProgramFault {
+    /// A fault in names and types (E5, E6).
+    Refused(Fault),
+    /// There is no `int main(void)` (E13).
+    NoMain(Fault),
+    /// Memory was wanting.
+    Memory,
+}
+
 impl From<AllocError> for TypeFault {
     ghost from_gives = { λ _ e. e ≡ Memory };
 

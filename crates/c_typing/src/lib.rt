@@ -22,6 +22,6 @@ pub mod statement;
 mod tests;
 
 pub use checked::Typed;
-pub use fault::{Fault, TypeFault};
+pub use fault::{Fault, ProgramFault, TypeFault};
 pub use noted::type_annotations;
 pub use program::type_program;

@@ -15,7 +15,7 @@ ghost use Rattle.c_typing.specs.Trees.{plain_block, plain_funcs};
 
 use crate::checked::Typed;
 use crate::conversion::copy_type;
-use crate::fault::{Fault, TypeFault, both, no_name};
+use crate::fault::{Fault, ProgramFault, TypeFault, both, no_name};
 use crate::library::is_library_name;
 use crate::scope::{Scopes, Signature, leave, mark_here, name_at};
 use crate::statement::{Around, type_items};
@@ -232,12 +232,16 @@ fn main_fault(names: &[Name], funcs: &[Func]) -> Option<Fault>
 }
 
 /// Types a program: its names and types, and then its `main`.
-pub fn type_program(alloc: Global, program: Program) -> Result<Typed, TypeFault>
+pub fn type_program(alloc: Global, program: Program) -> Result<Typed, ProgramFault>
     ensures { AnswersProgram (plain_program program) result }
 {
-    let program = type_unit(alloc, program)?;
+    let program = match type_unit(alloc, program) {
+        Ok(program) => program,
+        Err(TypeFault::Refused(fault)) => return Err(ProgramFault::Refused(fault)),
+        Err(TypeFault::Memory) => return Err(ProgramFault::Memory),
+    };
     match main_fault(&program.names, &program.funcs) {
         None => Ok(Typed { program }),
-        Some(fault) => Err(TypeFault::Refused(fault)),
+        Some(fault) => Err(ProgramFault::NoMain(fault)),
     }
 }

@@ -387,7 +387,9 @@ fn item_case(alloc: Global, n: u32) -> Result<Item, AllocError> {
 fn answer(alloc: Global, program: Program) -> (u8, u32) {
     match type_program(alloc, program) {
         Ok(_) => (0, 0),
-        Err(fault) => code_of(fault),
+        Err(ProgramFault::Refused(fault)) => (fault.code, fault.place.offset),
+        Err(ProgramFault::NoMain(fault)) => (fault.code, fault.place.offset),
+        Err(ProgramFault::Memory) => (1, 0),
     }
 }
 
