@@ -8,5 +8,6 @@ pub mod KeptStatements
 pub mod KeptAnnotations
 pub mod KeptPrograms
 pub mod Programs
+pub mod Phases
 pub mod Texts
 mod WorkedTexts

@@ -93,7 +93,7 @@ module _ {text : List ℕ} {err : Change} {result : ℕ} where
 
   module _ {told told' : Option (List ℕ)} {faults faults' : ℕ} where
     pub run_executed : {steps : ℕ} (m : MonitoredProgram) → IsTranslated text m → Answered (ReportDue m steps) (ReportBegins m steps) (change told told' faults faults') err result → Answered (RunDue None text steps) (RunBegins None text steps) (change told told' faults faults') err result
-    run_executed m t x = answered_by (λ _ d. Runs t.program m t.accepted t.translates (λ input _. d input)) (λ _ b. inr (t.program, m, t.accepted, t.translates, λ input _. b input)) x
+    run_executed m t x = answered_by (λ _ d. Runs t.program m t.accepted t.translates t.sound (λ input _. d input)) (λ _ b. inr (t.program, m, t.accepted, t.translates, λ input _. b input)) x
 
     pub exec_executed : {steps : ℕ} (m : MonitoredProgram) → Spells text m → Answered (ReportDue m steps) (ReportBegins m steps) (change told told' faults faults') err result → Answered (ExecDue None text steps) (ExecBegins None text steps) (change told told' faults faults') err result
     exec_executed m t x = answered_by (λ _ d. Executes m t (λ input _. d input)) (λ _ b. inr (m, t, λ input _. b input)) x

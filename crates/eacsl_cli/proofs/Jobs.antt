@@ -15,7 +15,7 @@ use Rattle.eacsl_cli.proofs.Sayings.{said_answer, said_memory, answered_by}
 module _ (left : Option (List ℕ)) (text : List ℕ) where
   run_due : {steps : ℕ} {a : Answer} → RunDue None text steps a → RunDue left text steps a
   run_due (RunRefused r h e) = RunRefused r h e
-  run_due (Runs p m x t f) = Runs p m x t (λ input _. f input tt)
+  run_due (Runs p m x t s f) = Runs p m x t s (λ input _. f input tt)
 
   exec_due : {steps : ℕ} {a : Answer} → ExecDue None text steps a → ExecDue left text steps a
   exec_due (ExecRefused r h e) = ExecRefused r h e

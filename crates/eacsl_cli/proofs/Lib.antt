@@ -4,3 +4,4 @@ pub mod Due
 pub mod Jobs
 pub mod Soundness
 pub mod Statuses
+mod FewObjects

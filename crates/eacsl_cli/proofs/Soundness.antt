@@ -10,15 +10,13 @@ use Rattle.c_model.specs.Phases.{AcceptedText, RefusedText}
 use Rattle.c_model.specs.State.{Input, Final, Exits, Broken, Undefined, Fault, Spent, Full, ReadFault}
 use Rattle.c_model.specs.Meaning.{Ran, run}
 use Rattle.c_model.specs.Reports.{Report, report, agrees_at}
-use Rattle.c_reader.proofs.Programs.{accepted_is_program}
 use Rattle.c_reader.proofs.Texts.{one_program, apart, one_refusal}
 use Rattle.mon_syntax.specs.Trees.{MonitoredProgram}
 use Rattle.mon_syntax.specs.Memories.{flat_run}
 use Rattle.mon_syntax.specs.Translates.{Translates}
 use Rattle.mon_syntax.specs.Spelled.{Spells, IsMonitoredRefusal}
-use Rattle.c_instrument.proofs.Runs.{never_faults}
 use Rattle.mon_reader.proofs.Texts.{one_spelled, spelled_apart, one_monitored_refusal}
-use Rattle.eacsl_cli.specs.Answers.{Answer, AnswersRun, refused_answer, written_answer, file_limit, IsInput, Change, IsDue, Usage, NoFile, TooLong, FolderFault, OfText, Begins, RunDue, RunRefused, Runs, InstrumentDue, InstrumentRefused, Writes, ExecDue, ExecRefused, Executes, TextDue, Answered, Given, OutputFault, LineFault, NoMemory}
+use Rattle.eacsl_cli.specs.Answers.{Answer, AnswersRun, refused_answer, written_answer, file_limit, IsInput, NeverFaults, Change, IsDue, Usage, NoFile, TooLong, FolderFault, OfText, Begins, RunDue, RunRefused, Runs, InstrumentDue, InstrumentRefused, Writes, ExecDue, ExecRefused, Executes, TextDue, Answered, Given, OutputFault, LineFault, NoMemory}
 use Rattle.eacsl_cli.specs.Sound.{Steady, IsGiven, answers_source, AnswersSource, IsAsked, Sound}
 
 -- ---- the answer to a translation is the answer to its source
@@ -43,8 +41,8 @@ module _ (p : TranslationUnit) (m : MonitoredProgram) (t : Translates p m) (inpu
   by_final (Full segment) e n g = same_answer _ (ap report e) g
   by_final ReadFault e n g = same_answer _ (ap report e) g
 
-  source_answer : (text : List ℕ) → AcceptedText text p → AnswersSource p input steps a
-  source_answer text x = by_final (run p input steps).final refl (never_faults p (accepted_is_program text p x) input steps) (t.agrees input steps)
+  source_answer : NeverFaults p → AnswersSource p input steps a
+  source_answer x = by_final (run p input steps).final refl (x input steps) (t.agrees input steps)
 
 -- ---- what is due for a text that is asked for
 
@@ -98,13 +96,13 @@ settled o e (NoMemory sent line k s b t f l t' f') = inl s
 
 run_answer : {left : Option (List ℕ)} {text : List ℕ} {steps : ℕ} {a : Answer} (p : TranslationUnit) (input : Input) → AcceptedText text p → IsInput left input → RunDue left text steps a → AnswersSource p input steps a
 run_answer {text = text} p input x i (RunRefused r h e) = absurd (apart text p r x h)
-run_answer {text = text} {steps} {a} p input x i (Runs q m y t f) =
+run_answer {text = text} {steps} {a} p input x i (Runs q m y t s f) =
     let same : q ≡ p = one_program text q p y x in
-    subst (λ u. AnswersSource u input steps a) same (source_answer q m t input steps a (f input i) text y)
+    subst (λ u. AnswersSource u input steps a) same (source_answer q m t input steps a (f input i) s)
 
 run_refusal : {left : Option (List ℕ)} {text : List ℕ} {steps : ℕ} {a : Answer} (r : PlainRefusal) → RefusedText text r → RunDue left text steps a → a ≡ refused_answer r
 run_refusal {text = text} r h (RunRefused s k e) = e ∙ ap refused_answer (one_refusal text s r k h)
-run_refusal {text = text} r h (Runs q m y t f) = absurd (apart text q r y h)
+run_refusal {text = text} r h (Runs q m y t s f) = absurd (apart text q r y h)
 
 instrument_answer : {text : List ℕ} {a : Answer} (p : TranslationUnit) → AcceptedText text p → InstrumentDue text a → (m : MonitoredProgram) × Translates p m × (a ≡ written_answer m)
 instrument_answer {text} p x (InstrumentRefused r h e) = absurd (apart text p r x h)

@@ -6,8 +6,8 @@ use Rattle.c_model.specs.declared.job.Job.TheVariants.{Run, Instrument, Exec}
 use Rattle.c_model.specs.Words.{job_of}
 use Rattle.c_model.specs.WordLaws.{file_named}
 use Rattle.c_model.specs.Phases.{AcceptedText, RefusedText}
-use Rattle.c_model.specs.State.{Input, EndOfInput}
-use Rattle.c_model.specs.Meaning.{Ran}
+use Rattle.c_model.specs.State.{Input, EndOfInput, Fault}
+use Rattle.c_model.specs.Meaning.{Ran, run}
 use Rattle.c_model.specs.Reports.{Report, report, line_of, refused_words, Extends}
 use Rattle.mon_syntax.specs.Trees.{MonitoredProgram}
 use Rattle.mon_syntax.specs.Memories.{flat_run}
@@ -65,13 +65,17 @@ abbrev pub IsInput : Option (List ℕ) → Input → Type 0
 IsInput None input = Unit {0}
 IsInput (Some bytes) input = input ≡ record { bytes = bytes; tail = EndOfInput }
 
+-- no run of the program stops for a fault that the meaning of C doesn't name
+abbrev pub NeverFaults : TranslationUnit → Type 0
+NeverFaults p = (input : Input) (n : ℕ) → (run p input n).final ≡ Fault → ⊥
+
 -- ---- what is due for a text
 
 -- `run`: the text is refused, or it is accepted, and the run of a program in monitored C that translates it is reported. Up
 -- to the source's first undefined operation this is the source's own run.
 pub data RunDue (left : Option (List ℕ)) (text : List ℕ) (steps : ℕ) (a : Answer) : Type 0 where
   RunRefused : (r : PlainRefusal) → RefusedText text r → a ≡ refused_answer r → RunDue left text steps a
-  Runs : (p : TranslationUnit) (m : MonitoredProgram) → AcceptedText text p → Translates p m → ((input : Input) → IsInput left input → AnswersRun (flat_run m input steps) a) → RunDue left text steps a
+  Runs : (p : TranslationUnit) (m : MonitoredProgram) → AcceptedText text p → Translates p m → NeverFaults p → ((input : Input) → IsInput left input → AnswersRun (flat_run m input steps) a) → RunDue left text steps a
 
 -- `instrument`: the text is refused, or it is accepted, and a program in monitored C that translates it is written
 pub data InstrumentDue (text : List ℕ) (a : Answer) : Type 0 where
@@ -155,6 +159,7 @@ pub record IsTranslated (text : List ℕ) (m : MonitoredProgram) : Type 0 where
   pub program : TranslationUnit
   pub accepted : AcceptedText text program
   pub translates : Translates program m
+  pub sound : NeverFaults program
 
 -- the report of a run of the program is due, and what begins its output
 abbrev pub ReportDue : MonitoredProgram → ℕ → Answer → Type 0

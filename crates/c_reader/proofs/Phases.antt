@@ -1,0 +1,54 @@
+-- From what a phase gave to what the text is.
+use Rattle.std.proofs.Common.{◌≡◌, ℕ, List, Some, None, Result, Ok, Err, sym, subst}
+use Rattle.c_syntax.specs.declared.program.Program.{Program}
+use Rattle.c_syntax.specs.declared.refusal.FrontFault.{FrontFault}
+use Rattle.c_syntax.specs.declared.refusal.FrontFault.TheVariants as front
+use Rattle.c_syntax.specs.Tokens.{PlainTokens}
+use Rattle.c_syntax.specs.Programs.{TranslationUnit, plain_program}
+use Rattle.c_model.specs.CTokens.{tokens_of}
+use Rattle.c_model.specs.Checked.{Good, refusing}
+use Rattle.c_model.specs.ProgramTyping.{typed_unit, main_fault, noted_unit}
+use Rattle.c_model.specs.Phases.{IsRead, AcceptedText, ByTokens, ByGrammar, ByNamesAndTypes, ForMain, ByAnnotations}
+use Rattle.c_parser.specs.Answers as parser
+use Rattle.c_typing.specs.declared.fault.TypeFault.{TypeFault}
+use Rattle.c_typing.specs.declared.fault.TypeFault.TheVariants as fault
+use Rattle.c_typing.specs.declared.fault.ProgramFault.{ProgramFault}
+use Rattle.c_typing.specs.declared.fault.ProgramFault.TheVariants as cause
+use Rattle.c_typing.specs.Answers.{plain_fault, AnswersProgram, Answers}
+use Rattle.c_reader.specs.Answers.{Refuses, IsTypedAs, OfTypes, OfMain, OfAnnotations, HasFault, RefusesFault, RefusesProgram}
+
+-- ---- names and types
+
+module _ (ts : PlainTokens) (tree : TranslationUnit) where
+  pub program_fails : (f : ProgramFault) (e : FrontFault) → AnswersProgram tree (Err f) → RefusesProgram ts f e → HasFault e ts tree
+  program_fails (cause.Refused f) front.Memory h g = tt
+  program_fails (cause.Refused f) (front.Refused x) h g = OfTypes (plain_fault f) h g
+  program_fails (cause.NoMain f) front.Memory h g = tt
+  program_fails (cause.NoMain f) (front.Refused x) h g = OfMain h.typed (plain_fault f) h.is h.main g
+  program_fails cause.Memory e h g = subst (λ x. HasFault x ts tree) (sym g) tt
+
+  module _ (typed : TranslationUnit) (is : typed_unit tree ≡ Good typed) (main : main_fault typed.names typed.funcs ≡ None) where
+    pub annotations_fail : (f : TypeFault) (e : FrontFault) → Answers plain_program (noted_unit typed) (Err f) → RefusesFault ts f e → HasFault e ts tree
+    annotations_fail (fault.Refused f) front.Memory h g = tt
+    annotations_fail (fault.Refused f) (front.Refused x) h g = OfAnnotations typed (plain_fault f) is main h g
+    annotations_fail fault.Memory e h g = subst (λ x. HasFault x ts tree) (sym g) tt
+
+    pub typed_as : (p : TranslationUnit) → noted_unit typed ≡ Good p → IsTypedAs tree p
+    typed_as p h = record { typed = typed; is = is; main = main; noted = h }
+
+-- ---- the text
+
+module _ (text : List ℕ) (ts : PlainTokens) (has : tokens_of text ≡ Ok ts) where
+  pub refused_by_grammar : (e : FrontFault) → parser.Refuses e ts → Refuses e text
+  refused_by_grammar front.Memory g = tt
+  refused_by_grammar (front.Refused x) g = ByGrammar ts g.fault has g.found g.is
+
+  module _ (tree : TranslationUnit) (read : IsRead ts tree) where
+    pub refused_by_check : (e : FrontFault) → HasFault e ts tree → Refuses e text
+    refused_by_check front.Memory g = tt
+    refused_by_check (front.Refused x) (OfTypes f h k) = ByNamesAndTypes ts tree f has read h k
+    refused_by_check (front.Refused x) (OfMain typed f h m k) = ForMain ts tree typed f (record { tokens = has; read = read; is = h }) m k
+    refused_by_check (front.Refused x) (OfAnnotations typed f h m n k) = ByAnnotations ts tree typed f (record { tokens = has; read = read; is = h }) m n k
+
+    pub accepted_as : (p : TranslationUnit) → IsTypedAs tree p → AcceptedText text p
+    accepted_as p t = record { tokens = ts; tree = tree; typed = t.typed; is_typed = record { tokens = has; read = read; is = t.is }; main = t.main; noted = t.noted }
