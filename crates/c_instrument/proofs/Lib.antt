@@ -1,0 +1,3 @@
+pub mod Integers
+pub mod Results
+pub mod Variables
