@@ -43,7 +43,7 @@ letter_fits (negsuc n) l = lt-ltb _ _ (omega (arith, ints, l.low))
 
 -- ---- lengths
 
-longer : (rs a : List MonType) → length rs ≤ length (rs ++ a)
+pub longer : (rs a : List MonType) → length rs ≤ length (rs ++ a)
 longer rs a = omega (arith, length-append rs a)
 
 on_give : (r : Outcome Value) → on_outcome r give ≡ r

@@ -5,3 +5,7 @@ pub mod Values
 pub mod Evaluating
 pub mod ExpressionTypes
 pub mod Expressions
+pub mod Purity
+pub mod Following
+pub mod Stores
+pub mod Effects
