@@ -9,3 +9,6 @@ pub mod Purity
 pub mod Following
 pub mod Stores
 pub mod Effects
+pub mod Terms
+pub mod Asserts
+pub mod Loops
