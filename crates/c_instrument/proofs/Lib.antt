@@ -12,3 +12,4 @@ pub mod Effects
 pub mod Terms
 pub mod Asserts
 pub mod Loops
+pub mod Statements

@@ -147,7 +147,7 @@ module _ (w : Setting) (loops : ℕ) where
         (follows_body steps out (body (source_at w vars steps out)) (runs w steps n a regs) again (λ r t. then_do (monitored.exec_all over_blocks b w.calls n r t) (at_next others)) (body_follows vars regs steps out h le) k))
 
     -- `while` and `for`
-    module _ (front : MonStatements) (front_tests : Tests n condition front) (behind : Evaluation (Unit {0})) (b : MonStatements) (behind_follows : (vars : List Variable) (regs : List Value) (steps : ℕ) (out : List ℕ) → Holds w (total w) vars regs → Follows w (total w) false loops Next steps out (behind (source_at w vars steps out)) (runs w steps n b regs)) where
+    module _ (front : MonStatements) (front_tests : Tests n condition front) (behind : Evaluation (Unit {0})) (b : MonStatements) (behind_follows : (vars : List Variable) (regs : List Value) (steps : ℕ) (out : List ℕ) → Holds w (total w) vars regs → steps ≤ n → Follows w (total w) false loops Next steps out (behind (source_at w vars steps out)) (runs w steps n b regs)) where
       abbrev turn : ℕ → Evaluation (Unit {0})
       turn j = step >> λ s. after_body (body s) (behind >> source.turns j condition body behind)
 
@@ -161,7 +161,7 @@ module _ (w : Setting) (loops : ℕ) where
       turns_follow (suc j) vars regs (suc steps) out h le ln =
           front_tests.goes vars regs (suc steps) out h (turn (suc j)) _ (λ after g.
           round_follows b (behind >> source.turns (suc j) condition body behind) (others j) vars after steps out g (omega arith) (λ v r left o g2 l.
-          follows_then w (total w) (total w) false loops (Goes (end_label loops)) left o _ _ (source.turns (suc j) condition body behind) (others j) (behind_follows v r left o g2) (λ v2 r2 left2 o2 g3 l2.
+          follows_then w (total w) (total w) false loops (Goes (end_label loops)) left o _ _ (source.turns (suc j) condition body behind) (others j) (behind_follows v r left o g2 (omega arith)) (λ v2 r2 left2 o2 g3 l2.
           turns_follow j v2 r2 left2 o2 g3 (omega arith) (omega arith))))
 
     -- `do`
