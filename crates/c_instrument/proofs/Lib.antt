@@ -13,3 +13,4 @@ pub mod Terms
 pub mod Asserts
 pub mod Loops
 pub mod Statements
+pub mod Declared
