@@ -94,7 +94,7 @@ newest_absent x found k [] h = refl
 newest_absent x found k (d ∷ ds) h =
     ap (λ t. newest x (cond t k found) (suc k) (names_of ds)) (eq_turned d.name x h.0) ∙ newest_absent x found (suc k) ds h.1
 
-newest_at : (d : Declaration) (found k j : ℕ) (ds : List Declaration) → Apart ds → slice_get ds j ≡ Some d → newest d.name found k (names_of ds) ≡ k + j
+pub newest_at : (d : Declaration) (found k j : ℕ) (ds : List Declaration) → Apart ds → slice_get ds j ≡ Some d → newest d.name found k (names_of ds) ≡ k + j
 newest_at d found k j [] h e = absurd cc
 newest_at d found k zero (b ∷ ds) h e =
     let same : b ≡ d = cc in
@@ -115,7 +115,7 @@ find_absent : (x k : ℕ) (ds : List Declaration) (sc : Scope) → Absent x ds �
 find_absent x k [] sc h = refl
 find_absent x k (d ∷ ds) sc h = find_absent x (suc k) ds ((d.name, suc k) ∷ sc) h.1 ∙ ap (λ t. cond t (Some (suc k)) (find x sc)) h.0
 
-find_at : (d : Declaration) (k j : ℕ) (ds : List Declaration) (sc : Scope) → Apart ds → slice_get ds j ≡ Some d → find d.name (scope_after k ds sc) ≡ Some (suc (k + j))
+pub find_at : (d : Declaration) (k j : ℕ) (ds : List Declaration) (sc : Scope) → Apart ds → slice_get ds j ≡ Some d → find d.name (scope_after k ds sc) ≡ Some (suc (k + j))
 find_at d k j [] sc h e = absurd cc
 find_at d k zero (b ∷ ds) sc h e =
     let same : b ≡ d = cc in
@@ -144,7 +144,7 @@ object_int : (t : PlainType) → is_object_type t ≡ true → t ≡ Int (int_of
 object_int Void e = absurd cc
 object_int (Int k) e = refl
 
-object_at : (ds : List Declaration) (j : ℕ) (d : Declaration) → AreObjects ds → slice_get ds j ≡ Some d → d.ctype ≡ Int (int_of d.ctype)
+pub object_at : (ds : List Declaration) (j : ℕ) (d : Declaration) → AreObjects ds → slice_get ds j ≡ Some d → d.ctype ≡ Int (int_of d.ctype)
 object_at [] j d h e = absurd cc
 object_at (b ∷ ds) zero d h e = let same : b ≡ d = cc in subst (λ (c : Declaration). c.ctype ≡ Int (int_of c.ctype)) same h.0
 object_at (b ∷ ds) (suc j) d h e = object_at ds j d h.1 e
@@ -173,7 +173,7 @@ pub record Declares (w : Setting) (ds : List Declaration) : Type 0 where
   pub scope : w.base.scope ≡ scope_after 0 ds []
 
 -- the variable with the number j
-pub declared_at : (w : Setting) (ds : List Declaration) (count : ℕ) (d : Declaration) (j : ℕ) → Declares w ds → slice_get ds j ≡ Some d → j < count → InSight w count d.name d.ctype
+abbrev pub declared_at : (w : Setting) (ds : List Declaration) (count : ℕ) (d : Declaration) (j : ℕ) → Declares w ds → slice_get ds j ≡ Some d → j < count → InSight w count d.name d.ctype
 declared_at w ds count d j k e lt =
     let number : suc (0 + j) ≡ suc j = omega arith in
     record {

@@ -14,3 +14,5 @@ pub mod Asserts
 pub mod Loops
 pub mod Statements
 pub mod Declared
+pub mod Start
+pub mod Runs

@@ -1,6 +1,6 @@
 -- What the numbers of a tree's types bound, in the parts that are translated: the number and the line of an annotation are of 32
 -- bits, and a letter is a value of `char`.
-use Rattle.std.specs.Prelude.{◌≤◌, ℤ, pos, negsuc, ◌≤ℤ◌, List, [], ◌∷◌, Option, Some, None}
+use Rattle.std.specs.Prelude.{◌≤◌, length, ℤ, pos, negsuc, ◌≤ℤ◌, List, [], ◌∷◌, Option, Some, None}
 use Rattle.c_syntax.specs.declared.place.Place.{Place}
 use Rattle.c_syntax.specs.Expressions as source
 use Rattle.c_syntax.specs.Expressions.{Expression, Node, Expressions, NoExpression, Following}
@@ -8,6 +8,7 @@ use Rattle.c_syntax.specs.Annotations as logic
 use Rattle.c_syntax.specs.Annotations.{LogicTerm, Predicate, Chain, Links, NoLink, Linked, ClauseBody, Truth, Annotation}
 use Rattle.c_syntax.specs.Statements.{Initialiser, One, Declaration, Statement, Eval, Block, If, While, Do, For, Return, ElsePart, NoElse, Else, ForFirst, NoFirst, First, BlockItem, Declare, Run, Asserts, BlockItems, NoItem, Then}
 use Rattle.c_syntax.specs.Programs.{Function}
+use Rattle.c_model.specs.Meaning.{declared_in}
 use Rattle.c_instrument.specs.Translation.{body_items}
 
 -- a value of `char`
@@ -108,3 +109,10 @@ abbrev mutual
 abbrev pub FunctionsHaveNumbers : List Function → Type 0
 FunctionsHaveNumbers [] = Unit {0}
 FunctionsHaveNumbers (f ∷ rest) = HaveNumbers (body_items f.body) × FunctionsHaveNumbers rest
+
+-- ---- room
+
+-- each function has at most 1,000 variables (this profile), so that there is room for their blocks
+abbrev pub HaveFewVariables : List Function → Type 0
+HaveFewVariables [] = Unit {0}
+HaveFewVariables (f ∷ rest) = (length (declared_in (body_items f.body)) ≤ 1000) × HaveFewVariables rest
