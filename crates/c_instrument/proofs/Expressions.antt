@@ -178,12 +178,12 @@ module _ (w : Setting) (steps n : ℕ) (scopes : Scopes) (count : ℕ) (few : co
         (λ after same. constant_follows (pos 1) refl regs after h same)
         (λ after same. right_follows regs after h same))
 
-  module _ (at : Place) (t : PlainType) (a b c : Expression) (k l : CInt) (rs : List MonType) (a_int : type_of a ≡ Int k) (behind : total w ≤ length rs) (enough : length (rs ++ (temporaries a ++ temporaries b ++ temporaries c ++ value_type t ∷ [])) ≤ w.registers) (a_follows : Follows a k rs) (b_follows : Follows b l (rs ++ temporaries a)) (c_follows : Follows c l (rs ++ temporaries a ++ temporaries b)) where
+  module _ (at : Place) (t : PlainType) (a b c : Expression) (k l : CInt) (rs : List MonType) (a_int : type_of a ≡ Int k) (behind : total w ≤ length rs) (enough : length (rs ++ (temporaries a ++ temporaries b ++ temporaries c ++ value_type (type_of b) ∷ [])) ≤ w.registers) (a_follows : Follows a k rs) (b_follows : Follows b l (rs ++ temporaries a)) (c_follows : Follows c l (rs ++ temporaries a ++ temporaries b)) where
     abbrev chosen_in : ℕ
     chosen_in = length (rs ++ temporaries a ++ temporaries b ++ temporaries c)
 
-    choice_long : length (rs ++ (temporaries a ++ temporaries b ++ temporaries c ++ value_type t ∷ [])) ≡ suc chosen_in
-    choice_long = third_long rs (temporaries a) (temporaries b) (temporaries c) (value_type t)
+    choice_long : length (rs ++ (temporaries a ++ temporaries b ++ temporaries c ++ value_type (type_of b) ∷ [])) ≡ suc chosen_in
+    choice_long = third_long rs (temporaries a) (temporaries b) (temporaries c) (value_type (type_of b))
 
     -- the value of one of the parts, put into the register
     part_follows : (e : Expression) (es : List MonType) (low : ℕ) → low ≤ length es → length (es ++ temporaries e) ≤ chosen_in → Follows e l es → (after : List Value) → Holds w count vars after → chosen_in < length after → ((regs : List Value) → Evaluates w l now (eval_with e w.call now) steps regs (length es) (length (es ++ temporaries e)) (runs w steps n (setup w.names es e) regs) (value w.names es e) → Evaluates w l now (eval_with e w.call now) steps regs low (length (es ++ temporaries e)) (runs w steps n (setup w.names es e) regs) (value w.names es e)) → Evaluates w l now (eval_with e w.call now) steps after low (suc chosen_in) (runs w steps n (before (setup w.names es e) (set chosen_in (value w.names es e))) after) (Register chosen_in)
@@ -253,7 +253,7 @@ module _ (w : Setting) (steps n : ℕ) (scopes : Scopes) (count : ℕ) (few : co
       (evaluates b y.int (rs ++ temporaries a) y.is p.1 q.1 l.1 (omega (arith, longer rs (temporaries a), behind)) (omega (arith, more, enough))) regs h)
   evaluates (Node at t (Choice a b c)) k rs int p q l behind enough regs h =
       let x = scalar_int (type_of a) q.3 in
-      let more = third_long rs (temporaries a) (temporaries b) (temporaries c) (value_type t) in
+      let more = third_long rs (temporaries a) (temporaries b) (temporaries c) (value_type (type_of b)) in
       choice_follows at t a b c x.int k rs x.is behind enough
       (evaluates a x.int rs x.is p.0 q.0 l.0 behind (omega (arith, more, longer (rs ++ temporaries a) (temporaries b), longer (rs ++ temporaries a ++ temporaries b) (temporaries c), enough)))
       (evaluates b k (rs ++ temporaries a) (q.4 ∙ int) p.1 q.1 l.1 (omega (arith, longer rs (temporaries a), behind)) (omega (arith, more, longer (rs ++ temporaries a ++ temporaries b) (temporaries c), enough)))

@@ -1,3 +1,5 @@
+pub mod Sequences
+pub mod Trees
 pub mod Integers
 pub mod Results
 pub mod Variables

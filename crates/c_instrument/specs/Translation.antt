@@ -146,7 +146,7 @@ temporaries (Node at t (source.Unary op a)) = temporaries a
 temporaries (Node at t (source.Binary op a b)) = temporaries a ++ temporaries b
 temporaries (Node at t (source.Both a b)) = temporaries a ++ temporaries b ++ I32 ∷ []
 temporaries (Node at t (source.Either a b)) = temporaries a ++ temporaries b ++ I32 ∷ []
-temporaries (Node at t (source.Choice a b c)) = temporaries a ++ temporaries b ++ temporaries c ++ value_type t ∷ []
+temporaries (Node at t (source.Choice a b c)) = temporaries a ++ temporaries b ++ temporaries c ++ value_type (type_of b) ∷ []
 temporaries (Node at t (source.Cast to a)) = temporaries a
 temporaries _ = []
 

@@ -4,14 +4,8 @@
 //! `&&`, stands in an `if` in front of its expression, which sets a temporary register. The program keeps no blocks of memory.
 #![tactic(auto)]
 
-
 pub mod conversion;
-
-
+pub mod expression;
 pub mod name;
 pub mod operator;
-
-
-
-
-
+pub mod part;

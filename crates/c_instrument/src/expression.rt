@@ -1,0 +1,108 @@
+//! Expressions without effects (C99 6.5).
+
+ghost use Rattle.std.specs.Prelude.{◌≡◌, ◌++◌, IfOk, OnOk, pos};
+ghost use Rattle.c_syntax.specs.Ctypes.{plain_type};
+ghost use Rattle.c_syntax.specs.Expressions.{plain_expr};
+ghost use Rattle.c_model.specs.Integers.{size_of};
+ghost use Rattle.mon_syntax.specs.declared.tree.MonType.TheVariants.{I32, U64};
+ghost use Rattle.mon_syntax.specs.Trees.{Constant, plain_expr as plain_monitored, plain_stmts};
+ghost use Rattle.c_instrument.specs.Limits.{HasLetters};
+ghost use Rattle.c_instrument.specs.Translation.{before, setup, temporaries, value};
+
+use crate::conversion::value_type;
+use crate::operator::{binary, condition, in_type, truth, unary};
+use crate::part::{either_set, register_of, temporary};
+use c_syntax::{CInt, CType, Expr, ExprKind};
+use mon_syntax::{MonExpr, MonStmt, MonType};
+use std::alloc::{AllocError, Global};
+
+// The constant of an object's size in bytes (C99 6.5.3.4).
+fn size_constant(t: &CType) -> MonExpr
+    ensures { plain_monitored result ≡ Constant U64 (pos (size_of (plain_type t.now))) }
+{
+    let size = match t {
+        CType::Void => 0,
+        CType::Int(CInt::I8 | CInt::U8) => 1,
+        CType::Int(CInt::I16 | CInt::U16) => 2,
+        CType::Int(CInt::I32 | CInt::U32) => 4,
+        CType::Int(CInt::I64 | CInt::U64) => 8,
+    };
+    MonExpr::Constant(MonType::U64, size)
+}
+
+fn number(n: i128) -> MonExpr
+    ensures { plain_monitored result ≡ Constant I32 n }
+{
+    MonExpr::Constant(MonType::I32, n)
+}
+
+/// Translates an expression without effects: its statements stand behind those that are there, and the types of its temporary
+/// registers behind those of the registers that are there. In place of the value of any other expression stands 0.
+#[tactic(auto, using(crate::proofs::Sequences::before_none))]
+pub fn expression(
+    alloc: Global,
+    names: &[u32],
+    e: &Expr,
+    types: &mut Vec<MonType>,
+    to: &mut Vec<MonStmt>,
+) -> Result<MonExpr, AllocError>
+    ensures value { IfOk result (λ m. plain_monitored m ≡ value names.now types.old.items (plain_expr e.now)) }
+    ensures setup { OnOk result (plain_stmts to.new.items ≡ before (plain_stmts to.old.items) (setup names.now types.old.items (plain_expr e.now))) }
+    ensures types { OnOk result (types.new.items ≡ types.old.items ++ temporaries (plain_expr e.now)) }
+    ensures letters { OnOk result (HasLetters (plain_expr e.now)) }
+{
+    match &e.kind {
+        ExprKind::Number(n, _) => Ok(MonExpr::Constant(value_type(&e.ctype), *n)),
+        ExprKind::Letter(n) => Ok(MonExpr::Constant(value_type(&e.ctype), i128::from(*n))),
+        ExprKind::Variable(x) => Ok(MonExpr::Register(register_of(names, x.name)?)),
+        ExprKind::Unary(op, a) => {
+            let operand = expression(alloc, names, a, types, to)?;
+            unary(alloc, *op, value_type(&a.ctype), operand)
+        }
+        ExprKind::Binary(op, a, b) => {
+            let left = expression(alloc, names, a, types, to)?;
+            let right = expression(alloc, names, b, types, to)?;
+            binary(alloc, *op, value_type(&a.ctype), value_type(&b.ctype), left, right)
+        }
+        ExprKind::Both(a, b) => {
+            let left = expression(alloc, names, a, types, to)?;
+            let test = condition(alloc, value_type(&a.ctype), left)?;
+            let mut inside = Vec::new(alloc);
+            let right = expression(alloc, names, b, types, &mut inside)?;
+            let right = truth(alloc, value_type(&b.ctype), right)?;
+            let register = temporary(types, MonType::I32)?;
+            let nothing = (Vec::new(alloc), number(0));
+            either_set(register, test, (inside, right), nothing, to)?;
+            Ok(MonExpr::Register(register))
+        }
+        ExprKind::Either(a, b) => {
+            let left = expression(alloc, names, a, types, to)?;
+            let test = condition(alloc, value_type(&a.ctype), left)?;
+            let mut inside = Vec::new(alloc);
+            let right = expression(alloc, names, b, types, &mut inside)?;
+            let right = truth(alloc, value_type(&b.ctype), right)?;
+            let register = temporary(types, MonType::I32)?;
+            let nothing = (Vec::new(alloc), number(1));
+            either_set(register, test, nothing, (inside, right), to)?;
+            Ok(MonExpr::Register(register))
+        }
+        ExprKind::Choice(a, b, c) => {
+            let left = expression(alloc, names, a, types, to)?;
+            let test = condition(alloc, value_type(&a.ctype), left)?;
+            let mut on = Vec::new(alloc);
+            let first = expression(alloc, names, b, types, &mut on)?;
+            let mut off = Vec::new(alloc);
+            let second = expression(alloc, names, c, types, &mut off)?;
+            let register = temporary(types, value_type(&b.ctype))?;
+            either_set(register, test, (on, first), (off, second), to)?;
+            Ok(MonExpr::Register(register))
+        }
+        ExprKind::Cast(t, a) => {
+            let operand = expression(alloc, names, a, types, to)?;
+            in_type(alloc, value_type(&a.ctype), value_type(t), operand)
+        }
+        ExprKind::SizeOfType(t) => Ok(size_constant(t)),
+        ExprKind::SizeOfExpr(a) => Ok(size_constant(&a.ctype)),
+        ExprKind::Assign(_, _, _) | ExprKind::Bump(_, _) | ExprKind::Call(_, _) => Ok(number(0)),
+    }
+}
