@@ -316,6 +316,11 @@ abbrev pub temporaries_if_any : Option Expression → List MonType
 temporaries_if_any None = []
 temporaries_if_any (Some e) = temporaries e
 
+-- `return`, with its value where it has one
+abbrev pub returned : List ℕ → List MonType → Option Expression → MonStatements
+returned names rs None = one (Return None)
+returned names rs (Some e) = before (setup names rs e) (one (Return (Some (value names rs e))))
+
 -- what stands in front of the step, the body, and what stands behind it
 abbrev pub loop : ℕ → MonStatements → MonStatements → MonStatements → MonStatement
 loop loops front body behind = Labelled (one (Loop front (Then (Labelled body (next_label loops)) behind))) (end_label loops)
@@ -371,8 +376,7 @@ abbrev mutual
       (effect_if_any names (rs ++ first_temporaries first ++ temporaries_if_any e) behind)))
   statement names rs loops (source_statement.Break at) = one (Goto (end_label loops))
   statement names rs loops (source_statement.Continue at) = one (Goto (next_label loops))
-  statement names rs loops (source_statement.Return at None) = one (Return None)
-  statement names rs loops (source_statement.Return at (Some e)) = before (setup names rs e) (one (Return (Some (value names rs e))))
+  statement names rs loops (source_statement.Return at e) = returned names rs e
 
   pub else_part : List ℕ → List MonType → ℕ → ElsePart → MonStatements
   else_part names rs loops NoElse = NoStatement

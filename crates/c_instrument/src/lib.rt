@@ -4,7 +4,9 @@
 //! `&&`, stands in an `if` in front of its expression, which sets a temporary register. The program keeps no blocks of memory.
 #![tactic(auto)]
 
+pub mod annotation;
 pub mod conversion;
+pub mod effect;
 pub mod expression;
 pub mod name;
 pub mod operator;
