@@ -1,4 +1,5 @@
 pub mod Sequences
+pub mod Chains
 pub mod Trees
 pub mod Integers
 pub mod Results

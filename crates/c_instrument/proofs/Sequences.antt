@@ -1,10 +1,13 @@
 -- Statements behind one another.
 use Rattle.std.proofs.Common.{◌≡◌, ℕ, suc, ◌+◌, ◌<◌, ◌≤◌, List, [], ◌∷◌, ◌++◌, length, length-drop, drop, get_or, refl, ap, sym, ◌∙◌, arith}
-use Rattle.std.proofs.lemmas.List.{nil_from_length}
+use Rattle.std.proofs.lemmas.List.{nil_from_length, append-nil, append_assoc}
 use Rattle.std.proofs.Math.Seq.{drop-cons}
 use Rattle.mon_syntax.specs.declared.tree.MonStmt.{MonStmt}
+use Rattle.mon_syntax.specs.declared.tree.MonType.{MonType}
 use Rattle.mon_syntax.specs.Trees.{MonStatements, NoStatement, Then, plain_stmt, plain_stmts}
-use Rattle.c_instrument.specs.Translation.{before, one}
+use Rattle.c_syntax.specs.declared.expression.Expr.{Expr}
+use Rattle.c_syntax.specs.Expressions.{plain_exprs}
+use Rattle.c_instrument.specs.Translation.{before, one, put}
 
 pub before_assoc : (a b c : MonStatements) → before (before a b) c ≡ before a (before b c)
 before_assoc NoStatement b c = refl
@@ -41,3 +44,22 @@ more t part rest first put kept =
 -- no part is left
 pub all_there : {t left all : MonStatements} → left ≡ NoStatement → before t left ≡ all → t ≡ all
 all_there {t} {left} {all} none kept = sym (before_none t) ∙ ap (before t) (sym none) ∙ kept
+
+-- ---- types of registers
+
+-- one more part stands in a list
+pub grown : {B : Type 0} {t' left all : List B} (t part rest : List B) → left ≡ part ++ rest → t' ≡ t ++ part → t ++ left ≡ all → t' ++ rest ≡ all
+grown t part rest first put kept =
+    ap (λ a. a ++ rest) put ∙ append_assoc t part rest ∙ ap (λ a. t ++ a) (sym first) ∙ kept
+
+-- no part is left
+pub complete : {B : Type 0} {left all : List B} (t : List B) → left ≡ [] → t ++ left ≡ all → t ≡ all
+complete t none kept = sym (append-nil t) ∙ ap (λ a. t ++ a) (sym none) ∙ kept
+
+-- one more part of the code stands there, behind which what is left begins with further registers
+pub more_behind : {t' left all : MonStatements} {rs' : List MonType} (t part : MonStatements) (rs ts : List MonType) (rest : List MonType → MonStatements) → left ≡ before part (rest (rs ++ ts)) → t' ≡ before t part → rs' ≡ rs ++ ts → before t left ≡ all → before t' (rest rs') ≡ all
+more_behind {t'} t part rs ts rest first put types kept = ap (λ r. before t' (rest r)) types ∙ more t part (rest (rs ++ ts)) first put kept
+
+pub put_nothing : (names : List ℕ) (rs : List MonType) (args : List Expr) → length args < 1 → put names rs (plain_exprs args) ≡ NoStatement
+put_nothing names rs [] lt = refl
+put_nothing names rs (e ∷ es) lt = absurd (omega arith)

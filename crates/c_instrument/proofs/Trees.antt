@@ -1,13 +1,15 @@
 -- The translation of a tree at a known variant.
 use Rattle.std.proofs.Common.{◌≡◌, ℕ, pos, List, ◌++◌, length, ap, sym, ◌∙◌}
-use Rattle.std.specs.Prelude.{Box, Result, Ok, Err, OnOk}
+use Rattle.std.specs.Prelude.{Vec, Box, Result, Ok, Err, OnOk}
 use Rattle.std.specs.declared.alloc.Global.{Global}
 use Rattle.c_syntax.specs.declared.expression.BinOp.{BinOp}
+use Rattle.c_syntax.specs.declared.expression.Use.{Use}
 use Rattle.c_syntax.specs.declared.expression.Expr.{Expr}
 use Rattle.c_syntax.specs.declared.expression.ExprKind.{ExprKind}
 use Rattle.c_syntax.specs.declared.expression.ExprKind as code
 use Rattle.c_syntax.specs.Ctypes.{plain_type}
-use Rattle.c_syntax.specs.Expressions.{Node, plain_expr, plain_kind}
+use Rattle.c_syntax.specs.Expressions.{Node, Call, plain_expr, plain_exprs, plain_kind}
+use Rattle.c_syntax.proofs.Rows.{call_is}
 use Rattle.mon_syntax.specs.declared.tree.MonType.{MonType}
 use Rattle.mon_syntax.specs.declared.tree.MonType.TheVariants.{I32}
 use Rattle.mon_syntax.specs.Trees.{MonExpression, MonStatements, Constant, If}
@@ -17,6 +19,12 @@ use Rattle.c_instrument.proofs.Sequences.{before_assoc}
 pub on_ok : {A E P : Type 0} (r : Result A E) → P → OnOk r P
 on_ok (Ok a) p = p
 on_ok (Err e) p = tt
+
+-- a call by its arguments' list
+pub call_expr : (e : Expr) (f : Use) (args : Vec Expr Global) (l : List Expr) → e.kind ≡ code.Call f args → l ≡ args.items → Node e.place (plain_type e.ctype) (Call f (plain_exprs l)) ≡ plain_expr e
+call_expr e f args l is same =
+    ap (λ z. Node e.place (plain_type e.ctype) (Call f (plain_exprs z))) same
+    ∙ sym (ap (λ k. Node e.place (plain_type e.ctype) (plain_kind k)) is ∙ call_is e.place (plain_type e.ctype) f args)
 
 -- ---- expressions
 

@@ -1,14 +1,14 @@
 //! Assignments, increments and calls (C99 6.5.2.2, 6.5.2.4, 6.5.3.1, 6.5.16), and initialisers (C99 6.7.8).
 
-ghost use Rattle.std.specs.Prelude.{◌≡◌, ◌++◌, IfOk, OnOk, map, option_map, pos};
+ghost use Rattle.std.specs.Prelude.{◌≡◌, ◌++◌, IfOk, OnOk, None, map, option_map, pos};
 ghost use Rattle.c_syntax.specs.Ctypes.{int_type, plain_type};
 ghost use Rattle.c_syntax.specs.Expressions.{plain_expr, plain_exprs, type_of};
 ghost use Rattle.c_syntax.specs.Statements.{One, plain_decl, plain_init};
 ghost use Rattle.c_model.specs.Meaning.{bump_operator};
 ghost use Rattle.mon_syntax.specs.declared.tree.MonType.TheVariants.{I32};
-ghost use Rattle.mon_syntax.specs.Trees.{Constant, Register, plain_expr as plain_monitored, plain_stmts};
+ghost use Rattle.mon_syntax.specs.Trees.{Constant, PutChar, Register, plain_expr as plain_monitored, plain_stmts};
 ghost use Rattle.c_instrument.specs.Limits.{Any, ArgumentHasLetters, EffectHasLetters, HasLetters, InitialHasLetters, InitialsHaveLetters};
-ghost use Rattle.c_instrument.specs.Translation.{argument_temporaries, before, compound, declaration_temporaries, effect, effect_if_any, effect_temporaries, effect_temporaries_if_any, initial_temporaries, initialise, initialise_all, put, register_of, set, setup, target, temporaries, value};
+ghost use Rattle.c_instrument.specs.Translation.{argument_temporaries, before, compound, declaration_temporaries, effect, effect_if_any, effect_temporaries, effect_temporaries_if_any, initial_temporaries, initialise, initialise_all, one, put, register_of, set, setup, target, temporaries, value};
 
 use crate::expression::expression;
 use crate::operator::compound;
@@ -68,7 +68,7 @@ fn assign_by(
     types: &mut Vec<MonType>,
     to: &mut Vec<MonStmt>,
 ) -> Result<(), AllocError>
-    ensures code { OnOk result (plain_stmts to.new.items ≡ before (plain_stmts to.old.items) (before (setup names.now types.old.items (plain_expr e.now)) (set left.0 (compound op (plain_type left.1.now) (type_of (plain_expr e.now)) (Register left.0) (value names.now types.old.items (plain_expr e.now)))))) }
+    ensures code { OnOk result (plain_stmts to.new.items ≡ before (plain_stmts to.old.items) (before (setup names.now types.old.items (plain_expr e.now)) (set left.entry.0 (compound op (plain_type left.entry.1.now) (type_of (plain_expr e.now)) (Register left.entry.0) (value names.now types.old.items (plain_expr e.now)))))) }
     ensures types { OnOk result (types.new.items ≡ types.old.items ++ temporaries (plain_expr e.now)) }
     ensures letters { OnOk result (HasLetters (plain_expr e.now)) }
 {
@@ -103,8 +103,24 @@ fn bump(
     then(to, MonStmt::Set(register, value))
 }
 
+// Prints the value of an expression.
+#[tactic(auto, using(crate::proofs::Sequences::before_assoc))]
+fn print(
+    alloc: Global,
+    names: &[u32],
+    e: &Expr,
+    types: &mut Vec<MonType>,
+    to: &mut Vec<MonStmt>,
+) -> Result<(), AllocError>
+    ensures code { OnOk result (plain_stmts to.new.items ≡ before (plain_stmts to.old.items) (before (setup names.now types.old.items (plain_expr e.now)) (one (PutChar None (value names.now types.old.items (plain_expr e.now)))))) }
+    ensures types { OnOk result (types.new.items ≡ types.old.items ++ temporaries (plain_expr e.now)) }
+    ensures letters { OnOk result (HasLetters (plain_expr e.now)) }
+{
+    let value = expression(alloc, names, e, types, to)?;
+    then(to, MonStmt::PutChar(None, value))
+}
+
 // `putchar(e);`, with its one argument.
-#[tactic(auto, using(crate::proofs::Sequences::before_none, crate::proofs::Sequences::before_assoc))]
 fn put(
     alloc: Global,
     names: &[u32],
@@ -118,10 +134,7 @@ fn put(
 {
     match args {
         [] => Ok(()),
-        [e, ..] => {
-            let value = expression(alloc, names, e, types, to)?;
-            then(to, MonStmt::PutChar(None, value))
-        }
+        [e, ..] => print(alloc, names, e, types, to),
     }
 }
 
