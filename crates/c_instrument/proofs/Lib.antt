@@ -1,6 +1,7 @@
 pub mod Sequences
 pub mod Chains
 pub mod Trees
+pub mod StatementTrees
 pub mod Integers
 pub mod Results
 pub mod Variables

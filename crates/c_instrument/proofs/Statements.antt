@@ -159,8 +159,8 @@ module _ (w : Setting) (n most : ℕ) where
   abbrev target_loop : List MonType → ℕ → ForFirst → Option Expression → Option Expression → Statement → tree.MonStatement
   target_loop rs loops first e step a =
       loop (loops + 1) (test_if_any w.names (rs ++ first_temporaries first) (loops + 1) e)
-      (statement w.names (rs ++ first_temporaries first ++ temporaries_if_any e ++ effect_temporaries_if_any step) (loops + 1) a)
-      (effect_if_any w.names (rs ++ first_temporaries first ++ temporaries_if_any e) step)
+      (statement w.names (rs ++ first_temporaries first ++ temporaries_if_any e) (loops + 1) a)
+      (effect_if_any w.names (rs ++ first_temporaries first ++ temporaries_if_any e ++ statement_temporaries a) step)
 
   -- the first part of a `for`
   first_follows : (first : ForFirst) (s : Scopes) (r : Around) (loops : ℕ) (rs : List MonType) → Scene w s → FirstFormed most first → FirstTyped s r first → FirstHasNumbers first → total w ≤ length rs → length (rs ++ first_temporaries first) ≤ w.registers → DoSame r.loops loops (first_with first w.call (suc n)) (first_part w.names rs loops first)
@@ -207,22 +207,22 @@ module _ (w : Setting) (n most : ℕ) where
         let te = temporaries_if_any e in
         let ts = effect_temporaries_if_any step in
         let ta = statement_temporaries a in
-        let all = four rs tf te ts ta in
+        let all = four rs tf te ta ts in
         let t = inner s in
         let d = inner_scene w s c in
         let same = same_behind_first most t first p.1 in
         let f1 = longer rs tf in
         let f2 = longer (rs ++ tf) te in
-        let f3 = longer (rs ++ tf ++ te) ts in
-        let f4 = longer (rs ++ tf ++ te ++ ts) ta in
+        let f3 = longer (rs ++ tf ++ te) ta in
+        let f4 = longer (rs ++ tf ++ te ++ ta) ts in
         let whole = turns (suc n) (condition_with e w.call) (exec_with a w.call (suc n)) (effect_with step w.call) in
         let round : DoSame r.loops loops whole (one (target_loop rs loops first e step a)) = λ vars regs steps out h le.
-            loop_follows w (loops + 1) n r.loops loops steps out _ regs (test_if_any w.names (rs ++ tf) (loops + 1) e) (statement w.names (rs ++ tf ++ te ++ ts) (loops + 1) a) (effect_if_any w.names (rs ++ tf ++ te) step)
-            (turns_follow w (loops + 1) n (condition_with e w.call) (exec_with a w.call (suc n)) (statement w.names (rs ++ tf ++ te ++ ts) (loops + 1) a)
-            (statement_follows a t (in_loop r) (loops + 1) (rs ++ tf ++ te ++ ts) d int p.4 (subst (λ t. StatementTyped t (in_loop r) a) same q.3) (subst (λ t. StatementNoted t a) same m.1) l.3 (omega (arith, behind, f1, f2, f3)) (omega (arith, enough, all)))
+            loop_follows w (loops + 1) n r.loops loops steps out _ regs (test_if_any w.names (rs ++ tf) (loops + 1) e) (statement w.names (rs ++ tf ++ te) (loops + 1) a) (effect_if_any w.names (rs ++ tf ++ te ++ ta) step)
+            (turns_follow w (loops + 1) n (condition_with e w.call) (exec_with a w.call (suc n)) (statement w.names (rs ++ tf ++ te) (loops + 1) a)
+            (statement_follows a t (in_loop r) (loops + 1) (rs ++ tf ++ te) d int p.4 (subst (λ t. StatementTyped t (in_loop r) a) same q.3) (subst (λ t. StatementNoted t a) same m.1) l.2 (omega (arith, behind, f1, f2)) (omega (arith, enough, all, f4)))
             (test_if_any w.names (rs ++ tf) (loops + 1) e) (test_if_any_does t d (loops + 1) (rs ++ tf) e p.2 (subst (λ t. WhereAny (IsCondition t) e) same q.1) l.1 (omega (arith, behind, f1)) (omega (arith, enough, all, f3, f4)))
-            (effect_with step w.call) (effect_if_any w.names (rs ++ tf ++ te) step)
-            (effect_if_any_does t d false (loops + 1) (rs ++ tf ++ te) step p.3 (subst (λ t. WhereAny (WellTyped t) step) same q.2) l.2 (omega (arith, behind, f1, f2)) (omega (arith, enough, all, f4)))
+            (effect_with step w.call) (effect_if_any w.names (rs ++ tf ++ te ++ ta) step)
+            (effect_if_any_does t d false (loops + 1) (rs ++ tf ++ te ++ ta) step p.3 (subst (λ t. WhereAny (WellTyped t) step) same q.2) l.3 (omega (arith, behind, f1, f2, f3)) (omega (arith, enough, all)))
             n vars regs steps out h le le) in
         subst (λ ds. Follows w (total w) r.loops loops Next steps out (restored (source_at w vars steps out) ((births ds >> first_with first w.call (suc n) >> whole) (source_at w vars steps out))) (runs w steps n (before (first_part w.names rs loops first) (one (target_loop rs loops first e step a))) regs)) (sym (first_declares_nothing most first p.1))
         (follows_restored w (total w) (total w) r.loops loops Next steps out vars regs _ _ h

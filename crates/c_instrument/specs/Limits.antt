@@ -85,7 +85,7 @@ abbrev mutual
   HasNumbers (If at e a b) = HasLetters e × HasNumbers a × ElseHasNumbers b
   HasNumbers (While at annots e a) = HasLetters e × HasNumbers a
   HasNumbers (Do at a e) = HasNumbers a × HasLetters e
-  HasNumbers (For at annots first e behind a) = FirstHasNumbers first × Any HasLetters e × Any EffectHasLetters behind × HasNumbers a
+  HasNumbers (For at annots first e behind a) = FirstHasNumbers first × Any HasLetters e × HasNumbers a × Any EffectHasLetters behind
   HasNumbers (Return at e) = Any HasLetters e
   HasNumbers _ = Unit {0}
 

@@ -335,7 +335,7 @@ abbrev mutual
   statement_temporaries (source_statement.While at annots e a) = temporaries e ++ statement_temporaries a
   statement_temporaries (source_statement.Do at a e) = statement_temporaries a ++ temporaries e
   statement_temporaries (source_statement.For at annots first e behind a) =
-      first_temporaries first ++ temporaries_if_any e ++ effect_temporaries_if_any behind ++ statement_temporaries a
+      first_temporaries first ++ temporaries_if_any e ++ statement_temporaries a ++ effect_temporaries_if_any behind
   statement_temporaries (source_statement.Return at e) = temporaries_if_any e
   statement_temporaries _ = []
 
@@ -372,8 +372,8 @@ abbrev mutual
   statement names rs loops (source_statement.For at annots first e behind a) =
       before (first_part names rs loops first)
       (one (loop (loops + 1) (test_if_any names (rs ++ first_temporaries first) (loops + 1) e)
-      (statement names (rs ++ first_temporaries first ++ temporaries_if_any e ++ effect_temporaries_if_any behind) (loops + 1) a)
-      (effect_if_any names (rs ++ first_temporaries first ++ temporaries_if_any e) behind)))
+      (statement names (rs ++ first_temporaries first ++ temporaries_if_any e) (loops + 1) a)
+      (effect_if_any names (rs ++ first_temporaries first ++ temporaries_if_any e ++ statement_temporaries a) behind)))
   statement names rs loops (source_statement.Break at) = one (Goto (end_label loops))
   statement names rs loops (source_statement.Continue at) = one (Goto (next_label loops))
   statement names rs loops (source_statement.Return at e) = returned names rs e
