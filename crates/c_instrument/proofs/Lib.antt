@@ -20,3 +20,5 @@ pub mod Statements
 pub mod Declared
 pub mod Start
 pub mod Runs
+pub mod Names
+pub mod Typed

@@ -1,6 +1,6 @@
 -- The translation of a statement at a known variant.
 use Rattle.std.proofs.Common.{◌≡◌, ℕ, ◌+◌, List, map, Option, Some, None, option_map, ◌++◌, refl, ap, sym, ◌∙◌, append_assoc}
-use Rattle.std.specs.Prelude.{Vec, Box}
+use Rattle.std.specs.Prelude.{Vec, Box, Result, Ok, Err, OnOk}
 use Rattle.std.specs.declared.alloc.Global.{Global}
 use Rattle.c_syntax.specs.declared.place.Place.{Place}
 use Rattle.c_syntax.specs.declared.annotation.Annot.{Annot}
@@ -16,8 +16,13 @@ use Rattle.mon_syntax.specs.declared.tree.MonType.{MonType}
 use Rattle.mon_syntax.specs.Trees.{MonExpression, MonStatement, MonStatements, NoStatement, Labelled, Loop, Then}
 use Rattle.mon_syntax.specs.Trees as tree
 use Rattle.c_instrument.specs.Options.{plain_else_part, plain_first_part}
-use Rattle.c_instrument.specs.Translation.{before, one, setup, temporaries, condition_of, test, test_if_any, temporaries_if_any, effect_if_any, effect_temporaries_if_any, first_part, first_temporaries, else_part, else_temporaries, statement, statement_temporaries, end_label, next_label}
+use Rattle.c_instrument.specs.Translation.{before, one, setup, temporaries, condition_of, test, test_if_any, temporaries_if_any, effect_if_any, first_part, first_temporaries, else_part, statement, statement_temporaries, end_label, next_label}
 use Rattle.c_instrument.proofs.Sequences.{before_assoc}
+
+-- what follows from a result
+pub on_ok_then : {A E P Q : Type 0} (r : Result A E) → (P → Q) → OnOk r P → OnOk r Q
+on_ok_then (Ok a) f p = f p
+on_ok_then (Err e) f p = tt
 
 -- ---- the parts of statements
 

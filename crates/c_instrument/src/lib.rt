@@ -11,3 +11,4 @@ pub mod expression;
 pub mod name;
 pub mod operator;
 pub mod part;
+pub mod statement;

@@ -1,0 +1,11 @@
+use Rattle.std.proofs.Common.{◌≡◌, drop, map}
+use Rattle.c_syntax.specs.Annotations.{plain_annot}
+use Rattle.mon_syntax.specs.Trees.{plain_stmts}
+use Rattle.c_instrument.specs.Limits.{AreNumbered}
+use Rattle.c_instrument.specs.Translation.{before, assertions}
+use Rattle.c_instrument.proofs.statement.assertions.Given as goal
+
+abbrev pub invariant-annots : goal.invariant-annots
+invariant-annots l =
+    (before (plain_stmts l.to.items) (assertions l.names (map plain_annot (drop l.annot-index l.annots))) ≡ before (plain_stmts l.initial.to.items) (assertions l.names (map plain_annot l.annots)))
+    × (AreNumbered (map plain_annot (drop l.annot-index l.annots)) → AreNumbered (map plain_annot l.annots))
