@@ -22,3 +22,4 @@ pub mod Start
 pub mod Runs
 pub mod Names
 pub mod Typed
+pub mod ValidSetups

@@ -187,7 +187,7 @@ parens_unary prefix.Minus t e n le one = omega (arith, le)
 parens_unary prefix.Not t e n le one = parens_compared mon.Eq t e n le one
 parens_unary prefix.Flip t e n le one = omega (arith, le)
 
-parens_compound : (op : BinOp) (m t u : MonType) (a b : MonExpression) (n : ℕ) → open_parens a ≤ n → open_parens b ≤ n → 1 ≤ n → open_parens (compound_in op m t u a b) ≤ n + 3
+pub parens_compound : (op : BinOp) (m t u : MonType) (a b : MonExpression) (n : ℕ) → open_parens a ≤ n → open_parens b ≤ n → 1 ≤ n → open_parens (compound_in op m t u a b) ≤ n + 3
 parens_compound op m t u a b n la lb one =
     let p = parens_in_type t m a in
     let q = parens_in_type u m b in
