@@ -71,7 +71,7 @@ pub record IsPlaced (x : ℕ) (bs : List Declaration) (b : Object) : Type 0 wher
   pub name : declaration.name ≡ x
   pub ctype : b.ctype ≡ declaration.ctype
 
-place_of : (x : ℕ) (bs : List Declaration) (b : Object) → object_named x (map object_of bs) ≡ Some b → IsPlaced x bs b
+pub place_of : (x : ℕ) (bs : List Declaration) (b : Object) → object_named x (map object_of bs) ≡ Some b → IsPlaced x bs b
 place_of x [] b e = absurd cc
 place_of x (d ∷ bs) b e = by (λ f. place_of x bs b f) (object_named x (map object_of bs)) refl e
   where

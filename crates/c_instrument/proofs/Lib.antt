@@ -23,3 +23,5 @@ pub mod Runs
 pub mod Names
 pub mod Typed
 pub mod ValidSetups
+pub mod ValidStatements
+pub mod ValidPrograms

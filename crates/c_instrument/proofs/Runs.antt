@@ -36,11 +36,11 @@ use Rattle.c_instrument.proofs.Start.{empty_of, IsMain, main_of_program, puts, d
 
 -- ---- main's items
 
-names_stay : (s : Scopes) (ds : List Declaration) → (with_objects s ds).names ≡ s.names
+pub names_stay : (s : Scopes) (ds : List Declaration) → (with_objects s ds).names ≡ s.names
 names_stay s [] = refl
 names_stay s (d ∷ ds) = names_stay (with_object s d) ds
 
-functions_stay : (s : Scopes) (ds : List Declaration) → (with_objects s ds).functions ≡ s.functions
+pub functions_stay : (s : Scopes) (ds : List Declaration) → (with_objects s ds).functions ≡ s.functions
 functions_stay s [] = refl
 functions_stay s (d ∷ ds) = functions_stay (with_object s d) ds
 
@@ -76,7 +76,7 @@ module _ (w : Setting) (n : ℕ) (p : TranslationUnit) (q : IsMain p) (whole : L
   scene_of : (s : Scopes) (bs : List Declaration) → whole ≡ bs → s.objects ≡ map object_of bs → s.names ≡ p.names → s.functions ≡ map signature p.funcs → Scene w s
   scene_of s bs all objects names functions = record {
     sight = subst (λ c. AreInSight w c s.objects) (sym (count_of_all ∙ ap length all)) (all_in_sight w whole bs [] s.objects k (all ∙ sym (append-nil bs)) objects);
-    puts = puts p q w (suc n) s calls names functions;
+    puts = λ f t es c. puts p q s names functions f t es c w (suc n) calls;
   }
 
   statements_follow : (is : BlockItems) (bs : List Declaration) (s : Scopes) (rs : List MonType) → whole ≡ bs → s.objects ≡ map object_of bs → s.names ≡ p.names → s.functions ≡ map signature p.funcs → ItemsFormed most_typed is → ItemsTyped s (around_body int_type) is → ItemsNoted s is → HaveNumbers is → total w ≤ length rs → length (rs ++ items_temporaries is) ≤ w.registers → (vars : List Variable) (regs : List Value) (steps : ℕ) (out : List ℕ) → Holds w (length bs) vars regs → steps ≤ n → Same (total w) steps out (items_with is w.call (suc n) (source_at w vars steps out)) (runs w steps n (items w.names rs 0 is) regs)

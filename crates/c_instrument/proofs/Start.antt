@@ -227,14 +227,22 @@ module _ (p : TranslationUnit) (q : IsMain p) where
   one_argument w f (Following e NoExpression) h d = record { argument = e; is = refl; int = h.0; does = d }
   one_argument w f (Following e (Following g rest)) h d = absurd h.1
 
-  pub puts : (w : Setting) (n : ℕ) (s : Scopes) → w.call ≡ call_of p n → s.names ≡ p.names → s.functions ≡ map signature p.funcs → (f : Use) (t : PlainType) (es : Expressions) → Calls s f t es → PutsOne w f es
-  puts w n s call names functions f t es c =
-      let other : bytes_eq (name_at p.names f.name) (codes "main") ≡ false = ap (λ l. bytes_eq (name_at l f.name) (codes "main")) (sym names) ∙ c.not_main in
-      let found : or_else (function_called f.name (map signature p.funcs)) (library_function f.name (name_at p.names f.name)) ≡ Some c.callee =
-      ap (λ l. or_else (function_called f.name l) (library_function f.name (name_at p.names f.name))) (sym functions) ∙ ap (λ l. or_else (function_called f.name s.functions) (library_function f.name (name_at l f.name))) (sym names) ∙ c.found in
-      let is = library_is f.name c.callee (called_by_name f.name other c.callee found) in
-      one_argument w f es (subst (λ (x : Signature). HaveTypes x.params es) (sym is.1) c.arguments)
-      (λ at z s. ap (λ k. k at f (Integer z ∷ []) s) call ∙ puts_is n f (c.decl ∙ ap (λ (x : Signature). x.decl) (sym is.1)) is.0 at z s)
+  -- a call has one argument of type `int`, and calls putchar
+  module _ (s : Scopes) (names : s.names ≡ p.names) (functions : s.functions ≡ map signature p.funcs) (f : Use) (t : PlainType) (es : Expressions) (c : Calls s f t es) where
+    callee_is : (bytes_eq (name_at p.names f.name) (codes "putchar") ≡ true) × (putchar_as f.name ≡ c.callee)
+    callee_is =
+        let other : bytes_eq (name_at p.names f.name) (codes "main") ≡ false = ap (λ l. bytes_eq (name_at l f.name) (codes "main")) (sym names) ∙ c.not_main in
+        let found : or_else (function_called f.name (map signature p.funcs)) (library_function f.name (name_at p.names f.name)) ≡ Some c.callee =
+        ap (λ l. or_else (function_called f.name l) (library_function f.name (name_at p.names f.name))) (sym functions) ∙ ap (λ l. or_else (function_called f.name s.functions) (library_function f.name (name_at l f.name))) (sym names) ∙ c.found in
+        library_is f.name c.callee (called_by_name f.name other c.callee found)
+
+    pub called : HaveTypes (int_type ∷ []) es
+    called = subst (λ (x : Signature). HaveTypes x.params es) (sym callee_is.1) c.arguments
+
+    pub puts : (w : Setting) (n : ℕ) → w.call ≡ call_of p n → PutsOne w f es
+    puts w n call =
+        one_argument w f es called
+        (λ at z s. ap (λ k. k at f (Integer z ∷ []) s) call ∙ puts_is n f (c.decl ∙ ap (λ (x : Signature). x.decl) (sym callee_is.1)) callee_is.0 at z s)
 
   -- ---- the state in which the body begins, and in which its items do
 

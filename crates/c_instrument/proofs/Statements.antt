@@ -81,7 +81,7 @@ first_declares_nothing most (First (Run a)) h = refl
 first_declares_nothing most (First (Declare ds)) h = absurd h
 first_declares_nothing most (First (Asserts annots)) h = absurd h
 
-same_behind_first : (most : ℕ) (s : Scopes) (first : ForFirst) → FirstFormed most first → behind_first s first ≡ s
+pub same_behind_first : (most : ℕ) (s : Scopes) (first : ForFirst) → FirstFormed most first → behind_first s first ≡ s
 same_behind_first most s NoFirst h = refl
 same_behind_first most s (First (Run a)) h = refl
 same_behind_first most s (First (Declare ds)) h = absurd h
