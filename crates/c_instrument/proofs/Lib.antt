@@ -25,3 +25,4 @@ pub mod Typed
 pub mod ValidSetups
 pub mod ValidStatements
 pub mod ValidPrograms
+pub mod Registers

@@ -15,16 +15,16 @@ use Rattle.c_model.specs.Typing.{Object, Scopes, name_at, object_named, with_obj
 use Rattle.c_model.specs.ProgramTyping.{signature, file_scopes}
 use Rattle.c_model.specs.WellTyped.{HaveTypes}
 use Rattle.c_model.specs.WellTypedPrograms.{Initialises, AreDeclared, ItemsTyped, ItemsNoted, around_body}
-use Rattle.c_model.specs.Formed.{IsInitialiser, AreInitialised, ItemsFormed, BodyItemsFormed, AreNamed, most_typed}
+use Rattle.c_model.specs.Formed.{IsInitialiser, AreInitialised, ItemsFormed, BodyItemsFormed, AreNamed, IsProgram, most_typed}
 use Rattle.mon_syntax.specs.declared.tree.MonType.TheVariants.{I32}
 use Rattle.mon_syntax.specs.Trees.{MonRegister, MonStatements}
 use Rattle.mon_syntax.specs.Trees as tree
 use Rattle.mon_syntax.specs.Valid.{Types, AreStatements, AreRegisters, IsFunction, IsValid, has_label, types_of, depth_of_all}
-use Rattle.c_instrument.specs.Limits.{InitialHasLetters, InitialsHaveLetters, HaveNumbers}
+use Rattle.c_instrument.specs.Limits.{InitialHasLetters, InitialsHaveLetters, HaveNumbers, HaveSmallNumbers, FunctionsHaveNumbers, HaveFewVariables}
 use Rattle.c_instrument.specs.Translation.{initial_temporaries, declaration_temporaries, items_temporaries, value, value_type, initialise, initialise_all, items, body_items, names_of, types_of_all, register_of, register_name, temporary_name, registers_from, temporaries_from, main_of, main_with, translated}
 use Rattle.c_instrument.proofs.Names.{IsNumber, main_is_free, register_is_free, registers_differ, temporary_is_free, temporaries_differ, temporary_is_other}
 use Rattle.c_instrument.proofs.Declared.{Apart, AreObjects, Behind, behind_one, behind_all, object_at, object_of, place_of, newest_at, in_front, at_end, int_of, items_apart, items_objects}
-use Rattle.c_instrument.proofs.Start.{IsMain, called}
+use Rattle.c_instrument.proofs.Start.{IsMain, main_of_program, called}
 use Rattle.c_instrument.proofs.Runs.{names_stay, functions_stay}
 use Rattle.c_instrument.proofs.Typed.{Begins, begins_left, begins_right, Seen, AreSeen}
 use Rattle.c_instrument.proofs.Variables.{slice_get-map}
@@ -176,11 +176,7 @@ deep_main names rs (Then (Asserts annots) rest) p = deep_items names rs 0 (Then 
 
 -- ---- the program
 
--- the registers of main can be numbered
-abbrev pub HasSmallMain : BlockItems → Type 0
-HasSmallMain is = length (types_of_all (declared_in is) ++ items_temporaries is) < 2 ^ 64
-
-module _ (p : TranslationUnit) (q : IsMain p) (numbers : HaveNumbers q.items) (small : HasSmallMain q.items) where
+module _ (p : TranslationUnit) (q : IsMain p) (numbers : HaveNumbers q.items) (small : HaveSmallNumbers q.items) where
   abbrev ds : List Declaration
   ds = declared_in q.items
 
@@ -223,3 +219,9 @@ module _ (p : TranslationUnit) (q : IsMain p) (numbers : HaveNumbers q.items) (s
     is_function = main_valid;
     is_main = record { name = refl; result = refl; no_parameters = refl };
   }
+
+pub translated_valid : (p : TranslationUnit) → IsProgram p → HaveFewVariables p.funcs → FunctionsHaveNumbers p.funcs → IsValid (translated p)
+translated_valid p q few numbers =
+    let m = main_of_program p q few in
+    let both = subst FunctionsHaveNumbers m.funcs numbers in
+    main_program_valid p m (subst (λ b. HaveNumbers (body_items b)) m.body both.0) (subst (λ b. HaveSmallNumbers (body_items b)) m.body both.1)

@@ -1,6 +1,6 @@
 -- What the numbers of a tree's types bound, in the parts that are translated: the number and the line of an annotation are of 32
--- bits, and a letter is a value of `char`.
-use Rattle.std.specs.Prelude.{◌≤◌, length, ℤ, pos, negsuc, ◌≤ℤ◌, List, [], ◌∷◌, Option, Some, None}
+-- bits, a letter is a value of `char`, and registers can be numbered.
+use Rattle.std.specs.Prelude.{◌<◌, ◌≤◌, ◌^◌, ◌++◌, length, ℤ, pos, negsuc, ◌≤ℤ◌, List, [], ◌∷◌, Option, Some, None}
 use Rattle.c_syntax.specs.declared.place.Place.{Place}
 use Rattle.c_syntax.specs.Expressions as source
 use Rattle.c_syntax.specs.Expressions.{Expression, Node, Expressions, NoExpression, Following}
@@ -9,7 +9,7 @@ use Rattle.c_syntax.specs.Annotations.{LogicTerm, Predicate, Chain, Links, NoLin
 use Rattle.c_syntax.specs.Statements.{Initialiser, One, Declaration, Statement, Eval, Block, If, While, Do, For, Return, ElsePart, NoElse, Else, ForFirst, NoFirst, First, BlockItem, Declare, Run, Asserts, BlockItems, NoItem, Then}
 use Rattle.c_syntax.specs.Programs.{Function}
 use Rattle.c_model.specs.Meaning.{declared_in}
-use Rattle.c_instrument.specs.Translation.{body_items}
+use Rattle.c_instrument.specs.Translation.{body_items, items_temporaries, types_of_all}
 
 -- a value of `char`
 pub record IsLetter (z : ℤ) : Type 0 where
@@ -106,9 +106,13 @@ abbrev mutual
   HaveNumbers NoItem = Unit {0}
   HaveNumbers (Then i rest) = ItemHasNumbers i × HaveNumbers rest
 
+-- registers that can be numbered
+abbrev pub HaveSmallNumbers : BlockItems → Type 0
+HaveSmallNumbers is = length (types_of_all (declared_in is) ++ items_temporaries is) < 2 ^ 64
+
 abbrev pub FunctionsHaveNumbers : List Function → Type 0
 FunctionsHaveNumbers [] = Unit {0}
-FunctionsHaveNumbers (f ∷ rest) = HaveNumbers (body_items f.body) × FunctionsHaveNumbers rest
+FunctionsHaveNumbers (f ∷ rest) = HaveNumbers (body_items f.body) × HaveSmallNumbers (body_items f.body) × FunctionsHaveNumbers rest
 
 -- ---- room
 

@@ -11,4 +11,7 @@ pub mod expression;
 pub mod name;
 pub mod operator;
 pub mod part;
+pub mod program;
 pub mod statement;
+
+pub use program::instrument;
