@@ -84,9 +84,9 @@ module _ (w : Setting) (steps n : ℕ) (s : State) where
       makes at k (λ later. Same high after2 later × Has y later j) (binary op (value_type u) (value_type v) x y) (operate t op i j)
       (λ z d. subst (λ l. fits l z ≡ true) m.result (fits-operate_in m.left op i j z f (λ sh. subst (λ l. fits l j ≡ true) (m.alike sh) g) (sym (m.same i j) ∙ d)))
       (λ z d later p.
-          ap (λ u. eval over_blocks (binary op (value_type u) (value_type v) x y) later) m.left_is
-          ∙ ap (λ v. eval over_blocks (binary op (register_type m.left) (value_type v) x y) later) m.right_is
-          ∙ binary_is m.left m.right op x y later i j z f g m.alike (sym (m.same i j) ∙ d) (has later (record { long = p.0.long ∙ same2.long; below = λ h lt. p.0.below h (omega (arith, lt, le2)) ∙ same2.below h lt })) p.1)))
+      ap (λ u. eval over_blocks (binary op (value_type u) (value_type v) x y) later) m.left_is
+      ∙ ap (λ v. eval over_blocks (binary op (register_type m.left) (value_type v) x y) later) m.right_is
+      ∙ binary_is m.left m.right op x y later i j z f g m.alike (sym (m.same i j) ∙ d) (has later (record { long = p.0.long ∙ same2.long; below = λ h lt. p.0.below h (omega (arith, lt, le2)) ∙ same2.below h lt })) p.1)))
 
 -- ---- numbers of registers
 

@@ -217,13 +217,13 @@ module _ (w : Setting) (n most : ℕ) where
         let f4 = longer (rs ++ tf ++ te ++ ta) ts in
         let whole = turns (suc n) (condition_with e w.call) (exec_with a w.call (suc n)) (effect_with step w.call) in
         let round : DoSame r.loops loops whole (one (target_loop rs loops first e step a)) = λ vars regs steps out h le.
-            loop_follows w (loops + 1) n r.loops loops steps out _ regs (test_if_any w.names (rs ++ tf) (loops + 1) e) (statement w.names (rs ++ tf ++ te) (loops + 1) a) (effect_if_any w.names (rs ++ tf ++ te ++ ta) step)
-            (turns_follow w (loops + 1) n (condition_with e w.call) (exec_with a w.call (suc n)) (statement w.names (rs ++ tf ++ te) (loops + 1) a)
-            (statement_follows a t (in_loop r) (loops + 1) (rs ++ tf ++ te) d int p.4 (subst (λ t. StatementTyped t (in_loop r) a) same q.3) (subst (λ t. StatementNoted t a) same m.1) l.2 (omega (arith, behind, f1, f2)) (omega (arith, enough, all, f4)))
-            (test_if_any w.names (rs ++ tf) (loops + 1) e) (test_if_any_does t d (loops + 1) (rs ++ tf) e p.2 (subst (λ t. WhereAny (IsCondition t) e) same q.1) l.1 (omega (arith, behind, f1)) (omega (arith, enough, all, f3, f4)))
-            (effect_with step w.call) (effect_if_any w.names (rs ++ tf ++ te ++ ta) step)
-            (effect_if_any_does t d false (loops + 1) (rs ++ tf ++ te ++ ta) step p.3 (subst (λ t. WhereAny (WellTyped t) step) same q.2) l.3 (omega (arith, behind, f1, f2, f3)) (omega (arith, enough, all)))
-            n vars regs steps out h le le) in
+        loop_follows w (loops + 1) n r.loops loops steps out _ regs (test_if_any w.names (rs ++ tf) (loops + 1) e) (statement w.names (rs ++ tf ++ te) (loops + 1) a) (effect_if_any w.names (rs ++ tf ++ te ++ ta) step)
+        (turns_follow w (loops + 1) n (condition_with e w.call) (exec_with a w.call (suc n)) (statement w.names (rs ++ tf ++ te) (loops + 1) a)
+        (statement_follows a t (in_loop r) (loops + 1) (rs ++ tf ++ te) d int p.4 (subst (λ t. StatementTyped t (in_loop r) a) same q.3) (subst (λ t. StatementNoted t a) same m.1) l.2 (omega (arith, behind, f1, f2)) (omega (arith, enough, all, f4)))
+        (test_if_any w.names (rs ++ tf) (loops + 1) e) (test_if_any_does t d (loops + 1) (rs ++ tf) e p.2 (subst (λ t. WhereAny (IsCondition t) e) same q.1) l.1 (omega (arith, behind, f1)) (omega (arith, enough, all, f3, f4)))
+        (effect_with step w.call) (effect_if_any w.names (rs ++ tf ++ te ++ ta) step)
+        (effect_if_any_does t d false (loops + 1) (rs ++ tf ++ te ++ ta) step p.3 (subst (λ t. WhereAny (WellTyped t) step) same q.2) l.3 (omega (arith, behind, f1, f2, f3)) (omega (arith, enough, all)))
+        n vars regs steps out h le le) in
         subst (λ ds. Follows w (total w) r.loops loops Next steps out (restored (source_at w vars steps out) ((births ds >> first_with first w.call (suc n) >> whole) (source_at w vars steps out))) (runs w steps n (before (first_part w.names rs loops first) (one (target_loop rs loops first e step a))) regs)) (sym (first_declares_nothing most first p.1))
         (follows_restored w (total w) (total w) r.loops loops Next steps out vars regs _ _ h
         (in_order r.loops loops (first_with first w.call (suc n)) whole (first_part w.names rs loops first) (one (target_loop rs loops first e step a)) (first_follows first t r loops rs d p.1 q.0 l.0 behind (omega (arith, enough, all, f2, f3, f4))) round vars regs steps out h le))

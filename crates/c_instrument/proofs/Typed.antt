@@ -291,8 +291,7 @@ module _ (ts : Types) where
   binary_typed : (op : BinOp) (t u v : PlainType) (k : CInt) (a b : MonExpression) → BinaryTypes op t u v → t ≡ Int k → ((l : CInt) → u ≡ Int l → HasType ts a (register_type l)) → ((l : CInt) → v ≡ Int l → HasType ts b (register_type l)) → HasType ts (binary op (value_type u) (value_type v) a b) (register_type k)
   binary_typed op t u v k a b h int f g =
       let m = binary_at op t u v k h int in
-      let left = value_type u in
-      (
+      let left = value_type u in (
         ap (λ x. result_type (operator_of op) (value_type x)) m.left_is ∙ result_type_is op m.left ∙ ap register_type m.result,
         ap (λ x. is_arithmetic (value_type x)) h.0.is ∙ promoted_computes h.0.int,
         subst (HasType ts a) (ap value_type (sym m.left_is)) (f m.left m.left_is),

@@ -66,12 +66,11 @@ all_other k n (w ∷ before) h = (λ j le few. h.1 j, all_other k n before h.2)
 
 temporaries_valid : (k : ℕ) (ts : Types) (before : List (List ℕ)) → IsNumber (k + length ts) → AreOther k before → AreRegisters before (temporaries_from k ts)
 temporaries_valid k [] before le h = tt
-temporaries_valid k (t ∷ ts) before le h =
-    (
-      temporary_is_free k (omega (arith, le)),
-      not_temporary k before (omega (arith, le)) h,
-      temporaries_valid (suc k) ts (temporary_name k ∷ before) (omega (arith, le)) ((λ j lt few. temporaries_differ j k few (omega (arith, le)) (λ e. omega (arith, e, lt))), other_higher k before h),
-    )
+temporaries_valid k (t ∷ ts) before le h = (
+  temporary_is_free k (omega (arith, le)),
+  not_temporary k before (omega (arith, le)) h,
+  temporaries_valid (suc k) ts (temporary_name k ∷ before) (omega (arith, le)) ((λ j lt few. temporaries_differ j k few (omega (arith, le)) (λ e. omega (arith, e, lt))), other_higher k before h),
+)
 
 registers_valid : (names : List (List ℕ)) (k : ℕ) (ds : List Declaration) (before : List (List ℕ)) (n : ℕ) (ts : Types) → AreNamed names ds → IsNumber (k + length ds) → IsNumber (n + length ts) → AreBelow k before → AreRegisters before (registers_from names k ds ++ temporaries_from n ts)
 registers_valid names k [] before n ts h le few below = temporaries_valid n ts before few (all_other k n before below)

@@ -189,10 +189,14 @@ module _ (ts : Types) (names : List ℕ) (scopes : Scopes) (sees : AreSeen ts na
       let second = second_begins x y rs b in
       let last = last_of_two x y rs b in
       behind_setup (setup names rs x) (one (tree.If (condition_of names rs x) (before (setup names r y) (set (length (r ++ temporaries y)) (truth_of names r y))) (set (length (r ++ temporaries y)) (tree.Constant I32 (pos 0)))))
-      (setup_valid x i.int rs i.is p.0 q.0 l.0 (omega (arith, few)) first)
-      ((condition_valid ts names scopes sees x i.int rs i.is p.0 q.0 l.0 (omega (arith, few)) first,
-      behind_setup (setup names r y) (set (length (r ++ temporaries y)) (truth_of names r y)) (setup_valid y j.int r j.is p.1 q.1 l.1 (omega (arith, few)) second) (set_valid (length (r ++ temporaries y)) (truth_of names r y) I32 last (truth_valid ts names scopes sees y j.int r j.is p.1 q.1 l.1 (omega (arith, few)) second)),
-      set_valid (length (r ++ temporaries y)) (tree.Constant I32 (pos 0)) I32 last zero_valid), tt)
+      (setup_valid x i.int rs i.is p.0 q.0 l.0 (omega (arith, few)) first) (
+        (
+          condition_valid ts names scopes sees x i.int rs i.is p.0 q.0 l.0 (omega (arith, few)) first,
+          behind_setup (setup names r y) (set (length (r ++ temporaries y)) (truth_of names r y)) (setup_valid y j.int r j.is p.1 q.1 l.1 (omega (arith, few)) second) (set_valid (length (r ++ temporaries y)) (truth_of names r y) I32 last (truth_valid ts names scopes sees y j.int r j.is p.1 q.1 l.1 (omega (arith, few)) second)),
+          set_valid (length (r ++ temporaries y)) (tree.Constant I32 (pos 0)) I32 last zero_valid,
+        ),
+        tt,
+      )
   setup_valid (Node at t (Either x y)) k rs int p q l few b =
       let i = scalar_int (type_of x) q.3 in
       let j = scalar_int (type_of y) q.4 in
@@ -201,10 +205,14 @@ module _ (ts : Types) (names : List ℕ) (scopes : Scopes) (sees : AreSeen ts na
       let second = second_begins x y rs b in
       let last = last_of_two x y rs b in
       behind_setup (setup names rs x) (one (tree.If (condition_of names rs x) (set (length (r ++ temporaries y)) (tree.Constant I32 (pos 1))) (before (setup names r y) (set (length (r ++ temporaries y)) (truth_of names r y)))))
-      (setup_valid x i.int rs i.is p.0 q.0 l.0 (omega (arith, few)) first)
-      ((condition_valid ts names scopes sees x i.int rs i.is p.0 q.0 l.0 (omega (arith, few)) first,
-      set_valid (length (r ++ temporaries y)) (tree.Constant I32 (pos 1)) I32 last one_valid,
-      behind_setup (setup names r y) (set (length (r ++ temporaries y)) (truth_of names r y)) (setup_valid y j.int r j.is p.1 q.1 l.1 (omega (arith, few)) second) (set_valid (length (r ++ temporaries y)) (truth_of names r y) I32 last (truth_valid ts names scopes sees y j.int r j.is p.1 q.1 l.1 (omega (arith, few)) second))), tt)
+      (setup_valid x i.int rs i.is p.0 q.0 l.0 (omega (arith, few)) first) (
+        (
+          condition_valid ts names scopes sees x i.int rs i.is p.0 q.0 l.0 (omega (arith, few)) first,
+          set_valid (length (r ++ temporaries y)) (tree.Constant I32 (pos 1)) I32 last one_valid,
+          behind_setup (setup names r y) (set (length (r ++ temporaries y)) (truth_of names r y)) (setup_valid y j.int r j.is p.1 q.1 l.1 (omega (arith, few)) second) (set_valid (length (r ++ temporaries y)) (truth_of names r y) I32 last (truth_valid ts names scopes sees y j.int r j.is p.1 q.1 l.1 (omega (arith, few)) second)),
+        ),
+        tt,
+      )
   setup_valid (Node at t (Choice x y z)) k rs int p q l few b =
       let i = scalar_int (type_of x) q.3 in
       let r = rs ++ temporaries x in
@@ -217,10 +225,14 @@ module _ (ts : Types) (names : List ℕ) (scopes : Scopes) (sees : AreSeen ts na
       let y_int : type_of y ≡ Int k = q.4 ∙ int in
       let last : slice_get ts number ≡ Some (register_type k) = register_at (s ++ temporaries z) ts (value_type (type_of y)) all ∙ ap (λ u. Some (value_type u)) y_int in
       behind_setup (setup names rs x) (one (tree.If (condition_of names rs x) (before (setup names r y) (set number (value names r y))) (before (setup names s z) (set number (value names s z)))))
-      (setup_valid x i.int rs i.is p.0 q.0 l.0 (omega (arith, few)) first)
-      ((condition_valid ts names scopes sees x i.int rs i.is p.0 q.0 l.0 (omega (arith, few)) first,
-      behind_setup (setup names r y) (set number (value names r y)) (setup_valid y k r y_int p.1 q.1 l.1 (omega (arith, few)) second) (set_valid number (value names r y) (register_type k) last (expression_valid ts names scopes sees y k r y_int p.1 q.1 l.1 (omega (arith, few)) second)),
-      behind_setup (setup names s z) (set number (value names s z)) (setup_valid z k s (q.5 ∙ int) p.2 q.2 l.2 (omega (arith, few)) third) (set_valid number (value names s z) (register_type k) last (expression_valid ts names scopes sees z k s (q.5 ∙ int) p.2 q.2 l.2 (omega (arith, few)) third))), tt)
+      (setup_valid x i.int rs i.is p.0 q.0 l.0 (omega (arith, few)) first) (
+        (
+          condition_valid ts names scopes sees x i.int rs i.is p.0 q.0 l.0 (omega (arith, few)) first,
+          behind_setup (setup names r y) (set number (value names r y)) (setup_valid y k r y_int p.1 q.1 l.1 (omega (arith, few)) second) (set_valid number (value names r y) (register_type k) last (expression_valid ts names scopes sees y k r y_int p.1 q.1 l.1 (omega (arith, few)) second)),
+          behind_setup (setup names s z) (set number (value names s z)) (setup_valid z k s (q.5 ∙ int) p.2 q.2 l.2 (omega (arith, few)) third) (set_valid number (value names s z) (register_type k) last (expression_valid ts names scopes sees z k s (q.5 ∙ int) p.2 q.2 l.2 (omega (arith, few)) third)),
+        ),
+        tt,
+      )
   setup_valid (Node at t (Cast to a)) k rs int p q l few b =
       let from = cast_int to (type_of a) k (sym q.1 ∙ int) q.2 in
       setup_valid a from.int rs from.is p q.0 l (omega (arith, few)) b

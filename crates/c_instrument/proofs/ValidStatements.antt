@@ -232,9 +232,14 @@ module _ (ts : Types) (names : List ℕ) where
 
   loop_valid : (loops : ℕ) (front body behind : MonStatements) → IsNumber (loops + 1) → has_no_step front ≡ true → has_no_step behind ≡ true → Are (ended loops) front → Are (labels (loops + 1)) body → Are (ended loops) behind → Are (labels loops) (one (loop (loops + 1) front body behind))
   loop_valid loops front body behind le f g front_valid body_valid behind_valid =
-      let inside = subst (λ ls. Are ls body) (one_more_loop loops) body_valid in
-      ((end_is_free (loops + 1) le, fresh_end loops (loops + 1) (omega arith) le,
-      ((f, g, front_valid, ((next_is_free (loops + 1) le, fresh_next loops (loops + 1) (omega arith) le, inside), behind_valid)), tt)), tt)
+      let inside = subst (λ ls. Are ls body) (one_more_loop loops) body_valid in (
+        (
+          end_is_free (loops + 1) le,
+          fresh_end loops (loops + 1) (omega arith) le,
+          ((f, g, front_valid, ((next_is_free (loops + 1) le, fresh_next loops (loops + 1) (omega arith) le, inside), behind_valid)), tt),
+        ),
+        tt,
+      )
 
   own_end : (loops : ℕ) → has_label (ended loops) (end_label (loops + 1)) ≡ true
   own_end loops = ap (λ b. b || has_label (labels loops) (end_label (loops + 1))) (same_bytes (end_label (loops + 1)))
@@ -265,10 +270,14 @@ module _ (ts : Types) (names : List ℕ) where
         let left = le-max_left (form.depth x) (form.depth_of_else y) in
         let right = le-max_right (form.depth x) (form.depth_of_else y) in
         before_valid ts (Some I32) (labels loops) (setup names rs e) (one (tree.If (condition_of names rs e) (statement names (rs ++ te) loops x) (else_part names (rs ++ te ++ tx) loops y)))
-        (setup_valid ts names s v.sees (labels loops) e i.int rs i.is p.0.is q.0.typed l.0 p.0.small first)
-        ((condition_valid ts names s v.sees e i.int rs i.is p.0.is q.0.typed l.0 p.0.small first,
-        statement_valid x s v r loops (rs ++ te) int o p.1 q.1 m.0 l.1 (omega (arith, d, left)) second,
-        else_valid y s v r loops (rs ++ te ++ tx) int o p.2 q.2 m.1 l.2 (omega (arith, d, right)) third), tt)
+        (setup_valid ts names s v.sees (labels loops) e i.int rs i.is p.0.is q.0.typed l.0 p.0.small first) (
+          (
+            condition_valid ts names s v.sees e i.int rs i.is p.0.is q.0.typed l.0 p.0.small first,
+            statement_valid x s v r loops (rs ++ te) int o p.1 q.1 m.0 l.1 (omega (arith, d, left)) second,
+            else_valid y s v r loops (rs ++ te ++ tx) int o p.2 q.2 m.1 l.2 (omega (arith, d, right)) third,
+          ),
+          tt,
+        )
     statement_valid (While at annots e a) s v r loops rs int o p q m l d b =
         let te = temporaries e in
         let ta = statement_temporaries a in

@@ -47,12 +47,7 @@ fn relation_operator(relation: Relation) -> MonOp
 }
 
 // One relation of a chain.
-fn relation(
-    alloc: Global,
-    names: &[u32],
-    left: &Term,
-    link: &Link,
-) -> Result<MonExpr, AllocError>
+fn relation(alloc: Global, names: &[u32], left: &Term, link: &Link) -> Result<MonExpr, AllocError>
     ensures code { IfOk result (λ m. plain_expr m ≡ Binary (relation_operator link.now.relation) I128 (term names.now (plain_term left.now)) (term names.now (plain_term link.now.term))) }
     ensures left { IfOk result (λ _. TermHasLetters (plain_term left.now)) }
     ensures right { IfOk result (λ _. TermHasLetters (plain_term link.now.term)) }
@@ -68,12 +63,7 @@ fn relation(
 }
 
 // Whether each relation of a chain is true.
-fn chain(
-    alloc: Global,
-    names: &[u32],
-    left: &Term,
-    links: &[Link],
-) -> Result<MonExpr, AllocError>
+fn chain(alloc: Global, names: &[u32], left: &Term, links: &[Link]) -> Result<MonExpr, AllocError>
     ensures code { IfOk result (λ m. plain_expr m ≡ chain names.now (plain_term left.now) (plain_links links.now)) }
     ensures left { IfOk result (λ _. TermHasLetters (plain_term left.now)) }
     ensures links { IfOk result (λ _. LinksHaveLetters (plain_links links.now)) }

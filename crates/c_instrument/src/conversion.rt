@@ -132,5 +132,9 @@ fn is_shift(op: BinOp) -> bool
 pub fn operation_type(op: BinOp, k: CInt, l: CInt) -> CInt
     ensures { result ≡ operation_type op k l }
 {
-    if is_shift(op) { promoted(k) } else { wider(promoted(k), promoted(l)) }
+    if is_shift(op) {
+        promoted(k)
+    } else {
+        wider(promoted(k), promoted(l))
+    }
 }

@@ -99,7 +99,14 @@ fn bump(
 {
     let one = MonExpr::Constant(MonType::I32, 1);
     let int = CType::Int(CInt::I32);
-    let value = compound(alloc, bump_operator(op), t, &int, MonExpr::Register(register), one)?;
+    let value = compound(
+        alloc,
+        bump_operator(op),
+        t,
+        &int,
+        MonExpr::Register(register),
+        one,
+    )?;
     then(to, MonStmt::Set(register, value))
 }
 

@@ -62,7 +62,14 @@ pub fn expression(
         ExprKind::Binary(op, a, b) => {
             let left = expression(alloc, names, a, types, to)?;
             let right = expression(alloc, names, b, types, to)?;
-            binary(alloc, *op, value_type(&a.ctype), value_type(&b.ctype), left, right)
+            binary(
+                alloc,
+                *op,
+                value_type(&a.ctype),
+                value_type(&b.ctype),
+                left,
+                right,
+            )
         }
         ExprKind::Both(a, b) => {
             let left = expression(alloc, names, a, types, to)?;

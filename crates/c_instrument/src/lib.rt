@@ -15,3 +15,6 @@ pub mod program;
 pub mod statement;
 
 pub use program::instrument;
+
+#[cfg(test)]
+mod tests;

@@ -35,15 +35,14 @@ pub fn operator_of(op: BinOp) -> MonOp
 }
 
 /// A value of the first type in the second.
-pub fn in_type(
-    alloc: Global,
-    from: MonType,
-    to: MonType,
-    e: MonExpr,
-) -> Result<MonExpr, AllocError>
+pub fn in_type(alloc: Global, from: MonType, to: MonType, e: MonExpr) -> Result<MonExpr, AllocError>
     ensures { IfOk result (λ m. plain_expr m ≡ in_type from to (plain_expr e)) }
 {
-    if same_type(from, to) { Ok(e) } else { Ok(MonExpr::Cast(to, Box::new(alloc, e)?)) }
+    if same_type(from, to) {
+        Ok(e)
+    } else {
+        Ok(MonExpr::Cast(to, Box::new(alloc, e)?))
+    }
 }
 
 // An operator on two operands of a type.
@@ -81,7 +80,11 @@ pub fn truth(alloc: Global, t: MonType, e: MonExpr) -> Result<MonExpr, AllocErro
 pub fn condition(alloc: Global, t: MonType, e: MonExpr) -> Result<MonExpr, AllocError>
     ensures { IfOk result (λ m. plain_expr m ≡ condition t (plain_expr e)) }
 {
-    if same_type(t, MonType::I32) { Ok(e) } else { truth(alloc, t, e) }
+    if same_type(t, MonType::I32) {
+        Ok(e)
+    } else {
+        truth(alloc, t, e)
+    }
 }
 
 /// A prefix operator on a value of the type.
@@ -143,7 +146,15 @@ pub fn compound(
     match (t, u) {
         (CType::Int(k), CType::Int(l)) => {
             let m = register_type(operation_type(op, *k, *l));
-            compound_in(alloc, op, m, register_type(*k), register_type(*l), left, right)
+            compound_in(
+                alloc,
+                op,
+                m,
+                register_type(*k),
+                register_type(*l),
+                left,
+                right,
+            )
         }
         (CType::Void, _) | (_, CType::Void) => Ok(MonExpr::Constant(MonType::I32, 0)),
     }
