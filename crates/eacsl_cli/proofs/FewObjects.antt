@@ -3,9 +3,9 @@ use Rattle.std.proofs.Common.{◌≤◌, List, [], ◌∷◌, length, Option, So
 use Rattle.c_syntax.specs.Statements.{Statement, Empty, Eval, Block, If, While, Do, For, Break, Continue, Return}
 use Rattle.c_syntax.specs.Programs.{Function}
 use Rattle.c_model.specs.Meaning.{declared_in}
-use Rattle.c_instrument.specs.Translation.{body_items}
+use Rattle.instrument.specs.Translation.{body_items}
 use Rattle.c_reader.specs.FewObjects.{BodyFew, FunctionsFew}
-use Rattle.c_instrument.specs.Limits.{HaveFewVariables}
+use Rattle.instrument.specs.Limits.{HaveFewVariables}
 
 pub few_variables : (fs : List Function) → FunctionsFew fs → HaveFewVariables fs
 few_variables [] h = tt

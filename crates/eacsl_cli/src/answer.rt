@@ -11,7 +11,7 @@ ghost use Rattle.eacsl_cli.specs.Settled.{IsReported, IsSettled};
 ghost use Rattle.eacsl_cli.specs.Sound.{IsStatus, Sound};
 
 use crate::lines::{broken_line, exit_line, refused_line, say};
-use c_instrument::instrument;
+use instrument::instrument;
 use c_model::{FileName, Job, read_words};
 use c_printer::print;
 use c_reader::read_text;

@@ -12,7 +12,7 @@ use Rattle.std.proofs.Math.Nat.{min-le_left}
 use Rattle.c_model.specs.Characters.{is_digit, is_part}
 use Rattle.mon_syntax.specs.Names.{IsFreeName, is_reserved, begins_name}
 use Rattle.mon_syntax.specs.Names as words
-use Rattle.instrument.specs.Translation.{label_name, register_name}
+use Rattle.instrument.specs.Translation.{end_label, next_label, register_name, temporary_name}
 
 -- ---- decimal numbers
 
@@ -29,14 +29,15 @@ digits_end (x ∷ ds) b h d = (h.0, digits_end ds b h.1 d)
 digit_is : (n : ℕ) → n < 10 → is_digit (48 + n) ≡ true
 digit_is n lt = grind (arith, nat_tests)
 
-within : (n : ℕ) → n ≤ 1000 → n < 2 ^ 64
-within n le = omega arith
+-- the numbers that a name can have
+abbrev pub IsNumber : ℕ → Type 0
+IsNumber n = n < 2 ^ 64
 
-decimal_digits : (n : ℕ) → n ≤ 1000 → AllDigits (decimal n)
-decimal_digits n le = decimal_by_steps (λ k ds. AllDigits ds) (λ k small. (digit_is k small, tt)) (λ k ds ten h. digits_end ds _ h (digit_is _ (mod_below k 10 (omega arith)))) n (within n le)
+decimal_digits : (n : ℕ) → IsNumber n → AllDigits (decimal n)
+decimal_digits n le = decimal_by_steps (λ k ds. AllDigits ds) (λ k small. (digit_is k small, tt)) (λ k ds ten h. digits_end ds _ h (digit_is _ (mod_below k 10 (omega arith)))) n le
 
-decimal_short : (n : ℕ) → n ≤ 1000 → length (decimal n) ≤ 4
-decimal_short n le = length-decimal-le 4 n (omega arith) (omega arith) (within n le)
+decimal_short : (n : ℕ) → IsNumber n → length (decimal n) ≤ 20
+decimal_short n le = length-decimal-le 20 n (omega arith) (omega arith) le
 
 part_of_digit : (b : ℕ) → is_digit b ≡ true → is_part b ≡ true
 part_of_digit b h = grind (arith, nat_tests)
@@ -70,9 +71,9 @@ main_is_free = record { begins = refl; parts = (refl, (refl, (refl, (refl, tt)))
 
 -- ---- labels
 
-pub label_is_free : (n : ℕ) → n ≤ 1000 → IsFreeName (label_name n)
+pub end_is_free : (n : ℕ) → IsNumber n → IsFreeName (end_label n)
 unfolding words.reserved_words
-label_is_free n le =
+end_is_free n le =
     let short = decimal_short n le in
     record {
       begins = refl;
@@ -81,8 +82,22 @@ label_is_free n le =
       free = refl;
     }
 
-pub labels_differ : (m n : ℕ) → m ≤ 1000 → n ≤ 1000 → (m ≡ n → ⊥) → bytes_eq (label_name m) (label_name n) ≡ false
-labels_differ m n lm ln differ = unequal (label_name m) (label_name n) (λ e. differ (decimal_injective m n (within m lm) (within n ln) (ap (drop 4) e)))
+pub next_is_free : (n : ℕ) → IsNumber n → IsFreeName (next_label n)
+unfolding words.reserved_words
+next_is_free n le =
+    let short = decimal_short n le in
+    record {
+      begins = refl;
+      parts = (refl, (refl, (refl, (refl, (refl, digits_parts (decimal n) (decimal_digits n le))))));
+      short = omega (arith, short);
+      free = refl;
+    }
+
+pub ends_differ : (m n : ℕ) → IsNumber m → IsNumber n → (m ≡ n → ⊥) → bytes_eq (end_label m) (end_label n) ≡ false
+ends_differ m n lm ln differ = unequal (end_label m) (end_label n) (λ e. differ (decimal_injective m n lm ln (ap (drop 4) e)))
+
+pub nexts_differ : (m n : ℕ) → IsNumber m → IsNumber n → (m ≡ n → ⊥) → bytes_eq (next_label m) (next_label n) ≡ false
+nexts_differ m n lm ln differ = unequal (next_label m) (next_label n) (λ e. differ (decimal_injective m n lm ln (ap (drop 5) e)))
 
 -- ---- registers
 
@@ -98,12 +113,12 @@ front_digits (d ∷ ds) r zero h lt = absurd (omega arith)
 front_digits (d ∷ ds) r (suc n) h lt =
     ap (λ t. if t then d ∷ front (take n (ds ++ 95 ∷ r)) else []) h.0 ∙ ap (λ l. d ∷ l) (front_digits ds r n h.1 (omega arith))
 
-number_of_register : (k : ℕ) (name : List ℕ) → k ≤ 1000 → front (drop 1 (register_name k name)) ≡ decimal k
+number_of_register : (k : ℕ) (name : List ℕ) → IsNumber k → front (drop 1 (register_name k name)) ≡ decimal k
 number_of_register k name le = let short = decimal_short k le in front_digits (decimal k) name 254 (decimal_digits k le) (omega (arith, short))
 
-pub registers_differ : (j k : ℕ) (a b : List ℕ) → j ≤ 1000 → k ≤ 1000 → (j ≡ k → ⊥) → bytes_eq (register_name j a) (register_name k b) ≡ false
+pub registers_differ : (j k : ℕ) (a b : List ℕ) → IsNumber j → IsNumber k → (j ≡ k → ⊥) → bytes_eq (register_name j a) (register_name k b) ≡ false
 registers_differ j k a b lj lk differ =
-    unequal (register_name j a) (register_name k b) (λ e. differ (decimal_injective j k (within j lj) (within k lk) (sym (number_of_register j a lj) ∙ ap (λ l. front (drop 1 l)) e ∙ number_of_register k b lk)))
+    unequal (register_name j a) (register_name k b) (λ e. differ (decimal_injective j k lj lk (sym (number_of_register j a lj) ∙ ap (λ l. front (drop 1 l)) e ∙ number_of_register k b lk)))
 
 first_is_other : (a b : Bool) → a ≡ false → (a && b) || false ≡ false
 first_is_other a b h = ap (λ r. (r && b) || false) h
@@ -119,10 +134,35 @@ number_not_reserved : (ds r : List ℕ) → 0 < length ds → AllDigits ds → i
 number_not_reserved [] r lt h = absurd (omega arith)
 number_not_reserved (d ∷ ds) r lt h = digit_not_reserved d (take 253 (ds ++ r)) h.0
 
-pub register_is_free : (k : ℕ) (name : List ℕ) → k ≤ 1000 → AllParts name → IsFreeName (register_name k name)
+pub register_is_free : (k : ℕ) (name : List ℕ) → IsNumber k → AllParts name → IsFreeName (register_name k name)
 register_is_free k name le h = record {
   begins = refl;
   parts = parts_front 255 (codes "v" ++ (decimal k ++ (codes "_" ++ name))) (refl, parts_behind (decimal k) (codes "_" ++ name) (digits_parts (decimal k) (decimal_digits k le)) (refl, h));
   short = subst (λ n. n ≤ 255) (sym (length-take 255 (codes "v" ++ (decimal k ++ (codes "_" ++ name))))) (min-le_left 255 _);
-  free = number_not_reserved (decimal k) (codes "_" ++ name) (decimal_nonempty k (within k le)) (decimal_digits k le);
+  free = number_not_reserved (decimal k) (codes "_" ++ name) (decimal_nonempty k le) (decimal_digits k le);
 }
+
+-- ---- temporary registers
+
+-- no word begins with `t` and a digit
+temporary_not_reserved : (ds : List ℕ) → 0 < length ds → AllDigits ds → is_reserved (116 ∷ ds) ≡ false
+unfolding words.reserved_words
+temporary_not_reserved [] lt h = absurd (omega arith)
+temporary_not_reserved (d ∷ ds) lt h = refl
+
+pub temporary_is_free : (k : ℕ) → IsNumber k → IsFreeName (temporary_name k)
+temporary_is_free k le =
+    let short = decimal_short k le in
+    record {
+      begins = refl;
+      parts = (refl, digits_parts (decimal k) (decimal_digits k le));
+      short = omega (arith, short);
+      free = temporary_not_reserved (decimal k) (decimal_nonempty k le) (decimal_digits k le);
+    }
+
+pub temporaries_differ : (j k : ℕ) → IsNumber j → IsNumber k → (j ≡ k → ⊥) → bytes_eq (temporary_name j) (temporary_name k) ≡ false
+temporaries_differ j k lj lk differ = unequal (temporary_name j) (temporary_name k) (λ e. differ (decimal_injective j k lj lk (ap (drop 1) e)))
+
+-- a temporary register is no variable's
+pub temporary_is_other : (j k : ℕ) (name : List ℕ) → bytes_eq (temporary_name j) (register_name k name) ≡ false
+temporary_is_other j k name = refl

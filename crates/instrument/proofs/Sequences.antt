@@ -1,16 +1,13 @@
 -- Statements behind one another.
-use Rattle.std.proofs.Common.{◌≡◌, ℕ, suc, ◌+◌, ◌<◌, ◌≤◌, List, [], ◌∷◌, ◌++◌, length, length-drop, drop, get_or, map, Some, None, option_map, refl, ap, sym, ◌∙◌, arith}
-use Rattle.std.proofs.lemmas.List.{nil_from_length}
+use Rattle.std.proofs.Common.{◌≡◌, ℕ, suc, ◌+◌, ◌<◌, ◌≤◌, List, [], ◌∷◌, ◌++◌, length, length-drop, drop, get_or, refl, ap, sym, ◌∙◌, arith}
+use Rattle.std.proofs.lemmas.List.{nil_from_length, append-nil, append_assoc}
 use Rattle.std.proofs.Math.Seq.{drop-cons}
-use Rattle.c_syntax.specs.declared.place.Place.{Place}
-use Rattle.c_syntax.specs.declared.expression.Expr.{Expr}
-use Rattle.c_syntax.specs.declared.statement.Decl.{Decl}
-use Rattle.c_syntax.specs.declared.statement.Init.{Init}
-use Rattle.c_syntax.specs.Expressions.{Expression, plain_exprs}
-use Rattle.c_syntax.specs.Statements.{One, plain_decl, plain_init}
 use Rattle.mon_syntax.specs.declared.tree.MonStmt.{MonStmt}
-use Rattle.mon_syntax.specs.Trees.{MonStatements, Set, NoStatement, Then, plain_stmt, plain_stmts}
-use Rattle.instrument.specs.Translation.{before, expression, initialise, initialise_all, one, put, register_of}
+use Rattle.mon_syntax.specs.declared.tree.MonType.{MonType}
+use Rattle.mon_syntax.specs.Trees.{MonStatements, NoStatement, Then, plain_stmt, plain_stmts}
+use Rattle.c_syntax.specs.declared.expression.Expr.{Expr}
+use Rattle.c_syntax.specs.Expressions.{plain_exprs}
+use Rattle.instrument.specs.Translation.{before, one, put}
 
 pub before_assoc : (a b c : MonStatements) → before (before a b) c ≡ before a (before b c)
 before_assoc NoStatement b c = refl
@@ -48,22 +45,21 @@ more t part rest first put kept =
 pub all_there : {t left all : MonStatements} → left ≡ NoStatement → before t left ≡ all → t ≡ all
 all_there {t} {left} {all} none kept = sym (before_none t) ∙ ap (before t) (sym none) ∙ kept
 
-pub put_nothing : (args : List Expr) → length args < 1 → put (plain_exprs args) ≡ NoStatement
-put_nothing [] lt = refl
-put_nothing (e ∷ es) lt = absurd (omega arith)
+-- ---- types of registers
 
--- ---- initialisers
+-- one more part stands in a list
+pub grown : {B : Type 0} {t' left all : List B} (t part rest : List B) → left ≡ part ++ rest → t' ≡ t ++ part → t ++ left ≡ all → t' ++ rest ≡ all
+grown t part rest first put kept =
+    ap (λ a. a ++ rest) put ∙ append_assoc t part rest ∙ ap (λ a. t ++ a) (sym first) ∙ kept
 
-module _ (decls : List Decl) (i : ℕ) (d : Decl) where
-  pub initialise_none : {all : MonStatements} (t : MonStatements) → i < length decls → d ≡ get_or decls i d → d.init ≡ None → before t (initialise_all (map plain_decl (drop i decls))) ≡ all → before t (initialise_all (map plain_decl (drop (i + 1) decls))) ≡ all
-  initialise_none t lt is none kept =
-      let first = left_at (λ l. initialise_all (map plain_decl l)) decls i d d lt is refl in
-      let nothing_of = ap (λ o. before (initialise d.name (option_map (λ (p : Place × Init). (p.0, plain_init p.1)) o)) (initialise_all (map plain_decl (drop (i + 1) decls)))) none in
-      ap (before t) (sym (first ∙ nothing_of)) ∙ kept
+-- no part is left
+pub complete : {B : Type 0} {left all : List B} (t : List B) → left ≡ [] → t ++ left ≡ all → t ≡ all
+complete t none kept = sym (append-nil t) ∙ ap (λ a. t ++ a) (sym none) ∙ kept
 
-  pub initialise_more : {t' all : MonStatements} (t : MonStatements) (at : Place) (x : Init) (e : Expression) → i < length decls → d ≡ get_or decls i d → d.init ≡ Some (at, x) → plain_init x ≡ One e → t' ≡ before t (one (Set (register_of d.name) (expression e))) → before t (initialise_all (map plain_decl (drop i decls))) ≡ all → before t' (initialise_all (map plain_decl (drop (i + 1) decls))) ≡ all
-  initialise_more t at x e lt is some one_is code kept =
-      let first = left_at (λ l. initialise_all (map plain_decl l)) decls i d d lt is refl in
-      let init_is = ap (λ o. before (initialise d.name (option_map (λ (p : Place × Init). (p.0, plain_init p.1)) o)) (initialise_all (map plain_decl (drop (i + 1) decls)))) some in
-      let expression_is = ap (λ z. before (initialise d.name (Some (at, z))) (initialise_all (map plain_decl (drop (i + 1) decls)))) one_is in
-      more t _ _ (first ∙ init_is ∙ expression_is) code kept
+-- one more part of the code stands there, behind which what is left begins with further registers
+pub more_behind : {t' left all : MonStatements} {rs' : List MonType} (t part : MonStatements) (rs ts : List MonType) (rest : List MonType → MonStatements) → left ≡ before part (rest (rs ++ ts)) → t' ≡ before t part → rs' ≡ rs ++ ts → before t left ≡ all → before t' (rest rs') ≡ all
+more_behind {t'} t part rs ts rest first put types kept = ap (λ r. before t' (rest r)) types ∙ more t part (rest (rs ++ ts)) first put kept
+
+pub put_nothing : (names : List ℕ) (rs : List MonType) (args : List Expr) → length args < 1 → put names rs (plain_exprs args) ≡ NoStatement
+put_nothing names rs [] lt = refl
+put_nothing names rs (e ∷ es) lt = absurd (omega arith)

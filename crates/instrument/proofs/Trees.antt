@@ -1,62 +1,89 @@
 -- The translation of a tree at a known variant.
-use Rattle.std.proofs.Common.{◌≡◌, ℕ, List, Option, Some, None, refl, ap, sym, ◌∙◌, subst}
-use Rattle.std.specs.Prelude.{Vec, Box, Result, OnOk}
+use Rattle.std.proofs.Common.{◌≡◌, ℕ, pos, List, ◌++◌, length, ap, sym, ◌∙◌}
+use Rattle.std.specs.Prelude.{Vec, Box, Result, Ok, Err, OnOk}
 use Rattle.std.specs.declared.alloc.Global.{Global}
-use Rattle.std.specs.declared.alloc.AllocError.{AllocError}
+use Rattle.c_syntax.specs.declared.expression.BinOp.{BinOp}
 use Rattle.c_syntax.specs.declared.expression.Use.{Use}
 use Rattle.c_syntax.specs.declared.expression.Expr.{Expr}
-use Rattle.c_syntax.specs.declared.expression.ExprKind as expr
-use Rattle.c_syntax.specs.declared.statement.Item.{Item}
-use Rattle.c_syntax.specs.declared.statement.Item.TheBlock.{back-StmtKind-If-2}
-use Rattle.c_syntax.specs.declared.statement.Stmt.{Stmt}
-use Rattle.c_syntax.specs.declared.statement.StmtKind.{StmtKind}
-use Rattle.c_syntax.specs.declared.statement.StmtKind as code
+use Rattle.c_syntax.specs.declared.expression.ExprKind.{ExprKind}
+use Rattle.c_syntax.specs.declared.expression.ExprKind as code
 use Rattle.c_syntax.specs.Ctypes.{plain_type}
-use Rattle.c_syntax.specs.Expressions.{Node, plain_expr, plain_exprs, plain_kind}
-use Rattle.c_syntax.specs.Statements.{Block, plain_stmt, plain_stmt_kind, plain_else, plain_items}
-use Rattle.c_syntax.proofs.Rows.{call_is, block_is}
-use Rattle.mon_syntax.specs.declared.tree.MonExpr.{MonExpr}
-use Rattle.mon_syntax.specs.declared.tree.MonStmt.{MonStmt}
-use Rattle.mon_syntax.specs.declared.tree.MonStmt as monitored
-use Rattle.mon_syntax.specs.Trees.{MonStatements, If, NoStatement, plain_stmts}
-use Rattle.mon_syntax.specs.Trees.{plain_expr as plain_monitored}
-use Rattle.mon_syntax.specs.Trees.{plain_stmt as plain_monitored_stmt}
-use Rattle.mon_syntax.proofs.Rows.{if_is}
-use Rattle.instrument.specs.Limits.{HasNumbers, HaveNumbers}
-use Rattle.instrument.specs.Translation.{before, effect, else_part, expression, items, one, put, statement}
+use Rattle.c_syntax.specs.Expressions.{Node, Call, plain_expr, plain_exprs, plain_kind}
+use Rattle.c_syntax.proofs.Rows.{call_is}
+use Rattle.mon_syntax.specs.declared.tree.MonType.{MonType}
+use Rattle.mon_syntax.specs.declared.tree.MonType.TheVariants.{I32}
+use Rattle.mon_syntax.specs.Trees.{MonExpression, MonStatements, Constant, If}
+use Rattle.instrument.specs.Translation.{before, condition, one, set, setup, temporaries, truth, value, value_type}
+use Rattle.instrument.proofs.Sequences.{before_assoc}
 
--- what is put is the same code
-pub same_code : {x y : MonStatements} (t t' : MonStatements) (r : Result (Unit {0}) AllocError) → x ≡ y → OnOk r (t' ≡ before t x) → OnOk r (t' ≡ before t y)
-same_code t t' r same h = subst (λ z. OnOk r (t' ≡ before t z)) same h
+pub on_ok : {A E P : Type 0} (r : Result A E) → P → OnOk r P
+on_ok (Ok a) p = p
+on_ok (Err e) p = tt
 
-pub effect_of_call : (e : Expr) (f : Use) (args : Vec Expr Global) (l : List Expr) → e.kind ≡ expr.Call f args → l ≡ args.items → put (plain_exprs l) ≡ effect (plain_expr e)
-effect_of_call e f args l is same =
-    ap (λ z. put (plain_exprs z)) same
-    ∙ ap effect (sym (ap (λ k. Node e.place (plain_type e.ctype) (plain_kind k)) is ∙ call_is e.place (plain_type e.ctype) f args))
+-- a call by its arguments' list
+pub call_expr : (e : Expr) (f : Use) (args : Vec Expr Global) (l : List Expr) → e.kind ≡ code.Call f args → l ≡ args.items → Node e.place (plain_type e.ctype) (Call f (plain_exprs l)) ≡ plain_expr e
+call_expr e f args l is same =
+    ap (λ z. Node e.place (plain_type e.ctype) (Call f (plain_exprs z))) same
+    ∙ sym (ap (λ k. Node e.place (plain_type e.ctype) (plain_kind k)) is ∙ call_is e.place (plain_type e.ctype) f args)
 
-module _ (loops : ℕ) (s : Stmt) where
-  pub of_block : (v : Vec Item Global) (l : List Item) → s.kind ≡ code.Block v → l ≡ v.items → items loops (plain_items l) ≡ statement loops (plain_stmt s)
-  of_block v l is same =
-      ap (λ z. items loops (plain_items z)) same ∙ ap (statement loops) (sym (ap (plain_stmt_kind s.place) is ∙ block_is s.place v))
+-- ---- expressions
 
-  pub numbers_of_block : (v : Vec Item Global) (l : List Item) (r : Result (Unit {0}) AllocError) → s.kind ≡ code.Block v → l ≡ v.items → OnOk r (HaveNumbers (plain_items l)) → OnOk r (HasNumbers (plain_stmt s))
-  numbers_of_block v l r is same h =
-      let whole : plain_stmt s ≡ Block s.place (plain_items l) = ap (plain_stmt_kind s.place) is ∙ block_is s.place v ∙ ap (λ z. Block s.place (plain_items z)) (sym same) in
-      subst (λ a. OnOk r (HasNumbers a)) (sym whole) h
+module _ (names : List ℕ) (rs rs1 rs2 : List MonType) (t t1 t2 : MonStatements) (e : Expr) where
+  -- an expression's statements, from its kind
+  from_kind : (k : ExprKind) → e.kind ≡ k → before t (setup names rs (Node e.place (plain_type e.ctype) (plain_kind k))) ≡ before t (setup names rs (plain_expr e))
+  from_kind k is = ap (λ k. before t (setup names rs (Node e.place (plain_type e.ctype) (plain_kind k)))) (sym is)
 
-  -- a statement that is not translated
-  pub of_other : (k : StmtKind) → s.kind ≡ k → statement loops (plain_stmt_kind s.place k) ≡ NoStatement → statement loops (plain_stmt s) ≡ NoStatement
-  of_other k is none = ap (λ k. statement loops (plain_stmt_kind s.place k)) is ∙ none
+  pub of_binary : {A E : Type 0} (r : Result A E) (op : BinOp) (a b : Box Expr Global) → e.kind ≡ code.Binary op a b → t1 ≡ before t (setup names rs (plain_expr a.value)) → rs1 ≡ rs ++ temporaries (plain_expr a.value) → t2 ≡ before t1 (setup names rs1 (plain_expr b.value)) → OnOk r (t2 ≡ before t (setup names rs (plain_expr e)))
+  of_binary r op a b is first types second =
+      on_ok r
+      (second
+      ∙ (λ i. before (first i) (setup names (types i) (plain_expr b.value)))
+      ∙ before_assoc t (setup names rs (plain_expr a.value)) (setup names (rs ++ temporaries (plain_expr a.value)) (plain_expr b.value))
+      ∙ from_kind (code.Binary op a b) is)
 
-  pub of_return_none : (o : Option Expr) → s.kind ≡ code.Return o → o ≡ None → statement loops (plain_stmt s) ≡ NoStatement
-  of_return_none o is none = of_other (code.Return None) (is ∙ ap code.Return none) refl
+  module _ (a b : Box Expr Global) (left test : MonExpression) (ka : MonType) (first : t1 ≡ before t (setup names rs (plain_expr a.value))) (left_is : left ≡ value names rs (plain_expr a.value)) (types : rs1 ≡ rs ++ temporaries (plain_expr a.value)) (ka_is : ka ≡ value_type (plain_type a.value.ctype)) (test_is : test ≡ condition ka left) where
+    tested : test ≡ condition (value_type (plain_type a.value.ctype)) (value names rs (plain_expr a.value))
+    tested = test_is ∙ (λ i. condition (ka_is i) (left_is i))
 
-  pub of_if : (e : Expr) (a : Box Stmt Global) (b : Option (Box Stmt Global)) (m : MonExpr) (f g : Vec MonStmt Global) → s.kind ≡ code.If e a b → plain_monitored m ≡ expression (plain_expr e) → plain_stmts f.items ≡ statement loops (plain_stmt a.value) → plain_stmts g.items ≡ else_part loops (plain_else (back-StmtKind-If-2 b)) → one (plain_monitored_stmt (monitored.If m f g)) ≡ statement loops (plain_stmt s)
-  of_if e a b m f g is em ef eg =
-      ap one (if_is m f g ∙ (λ i. If (em i) (ef i) (eg i))) ∙ ap (λ k. statement loops (plain_stmt_kind s.place k)) (sym is)
+    module _ (inside : MonStatements) (right right2 constant : MonExpression) (register : ℕ) (kb : MonType) (inside_is : inside ≡ setup names rs1 (plain_expr b.value)) (right_is : right ≡ value names rs1 (plain_expr b.value)) (types2 : rs2 ≡ rs1 ++ temporaries (plain_expr b.value)) (kb_is : kb ≡ value_type (plain_type b.value.ctype)) (right2_is : right2 ≡ truth kb right) (register_is : register ≡ length rs2) where
+      abbrev behind_left : List MonType
+      behind_left = rs ++ temporaries (plain_expr a.value)
 
-pub else_some : (loops : ℕ) (b : Option (Box Stmt Global)) (x : Box Stmt Global) → b ≡ Some x → statement loops (plain_stmt x.value) ≡ else_part loops (plain_else (back-StmtKind-If-2 b))
-else_some loops b x is = ap (λ o. else_part loops (plain_else (back-StmtKind-If-2 o))) (sym is)
+      abbrev behind_both : List MonType
+      behind_both = behind_left ++ temporaries (plain_expr b.value)
 
-pub else_none : (loops : ℕ) (b : Option (Box Stmt Global)) → b ≡ None → NoStatement ≡ else_part loops (plain_else (back-StmtKind-If-2 b))
-else_none loops b is = ap (λ o. else_part loops (plain_else (back-StmtKind-If-2 o))) (sym is)
+      numbered : register ≡ length behind_both
+      numbered = register_is ∙ ap length types2 ∙ ap (λ l. length (l ++ temporaries (plain_expr b.value))) types
+
+      set_right : before inside (set register right2) ≡ before (setup names behind_left (plain_expr b.value)) (set (length behind_both) (truth (value_type (plain_type b.value.ctype)) (value names behind_left (plain_expr b.value))))
+      set_right =
+          let statements = inside_is ∙ ap (λ l. setup names l (plain_expr b.value)) types in
+          let truth_is = right2_is ∙ (λ i. truth (kb_is i) (right_is i)) ∙ ap (λ l. truth (value_type (plain_type b.value.ctype)) (value names l (plain_expr b.value))) types in
+          λ i. before (statements i) (set (numbered i) (truth_is i))
+
+      pub of_both : e.kind ≡ code.Both a b → constant ≡ Constant I32 (pos 0) → t2 ≡ before t1 (one (If test (before inside (set register right2)) (set register constant))) → t2 ≡ before t (setup names rs (plain_expr e))
+      of_both is constant_is last =
+          last
+          ∙ (λ i. before (first i) (one (If (tested i) (set_right i) (set (numbered i) (constant_is i)))))
+          ∙ before_assoc t (setup names rs (plain_expr a.value)) _
+          ∙ from_kind (code.Both a b) is
+
+      pub of_either : e.kind ≡ code.Either a b → constant ≡ Constant I32 (pos 1) → t2 ≡ before t1 (one (If test (set register constant) (before inside (set register right2)))) → t2 ≡ before t (setup names rs (plain_expr e))
+      of_either is constant_is last =
+          last
+          ∙ (λ i. before (first i) (one (If (tested i) (set (numbered i) (constant_is i)) (set_right i))))
+          ∙ before_assoc t (setup names rs (plain_expr a.value)) _
+          ∙ from_kind (code.Either a b) is
+
+    pub of_choice : (c : Box Expr Global) (on off : MonStatements) (x y : MonExpression) (rs3 : List MonType) (register : ℕ) → e.kind ≡ code.Choice a b c → on ≡ setup names rs1 (plain_expr b.value) → x ≡ value names rs1 (plain_expr b.value) → rs2 ≡ rs1 ++ temporaries (plain_expr b.value) → off ≡ setup names rs2 (plain_expr c.value) → y ≡ value names rs2 (plain_expr c.value) → rs3 ≡ rs2 ++ temporaries (plain_expr c.value) → register ≡ length rs3 → t2 ≡ before t1 (one (If test (before on (set register x)) (before off (set register y)))) → t2 ≡ before t (setup names rs (plain_expr e))
+    of_choice c on off x y rs3 register is on_is x_is types2 off_is y_is types3 register_is last =
+        let second : rs2 ≡ rs ++ temporaries (plain_expr a.value) ++ temporaries (plain_expr b.value) = types2 ∙ ap (λ l. l ++ temporaries (plain_expr b.value)) types in
+        let number : register ≡ length (rs ++ temporaries (plain_expr a.value) ++ temporaries (plain_expr b.value) ++ temporaries (plain_expr c.value)) = register_is ∙ ap length types3 ∙ ap (λ l. length (l ++ temporaries (plain_expr c.value))) second in
+        let on_at = on_is ∙ ap (λ l. setup names l (plain_expr b.value)) types in
+        let x_at = x_is ∙ ap (λ l. value names l (plain_expr b.value)) types in
+        let off_at = off_is ∙ ap (λ l. setup names l (plain_expr c.value)) second in
+        let y_at = y_is ∙ ap (λ l. value names l (plain_expr c.value)) second in
+        last
+        ∙ (λ i. before (first i) (one (If (tested i) (before (on_at i) (set (number i) (x_at i))) (before (off_at i) (set (number i) (y_at i))))))
+        ∙ before_assoc t (setup names rs (plain_expr a.value)) _
+        ∙ from_kind (code.Choice a b c) is

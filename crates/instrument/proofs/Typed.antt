@@ -1,143 +1,405 @@
 -- Translated expressions and annotations have their types, and their parentheses are within the limit.
-use Rattle.std.proofs.Common.{◌≡◌, ℕ, suc, ◌+◌, ◌-◌, ◌<◌, ◌≤◌, ℤ, pos, negsuc, true, Some, slice_get, max, refl, arith}
+use Rattle.std.proofs.Common.{◌≡◌, ℕ, suc, ◌+◌, ◌*◌, ◌≤◌, ℤ, pos, negsuc, Bool, true, false, List, [], ◌∷◌, ◌++◌, length, Some, None, slice_get, max, nat_lt, if◌then◌else◌, refl, sym, ap, ◌∙◌, subst, arith, append_assoc}
+use Rattle.std.proofs.lemmas.Bool.{ltb-true}
 use Rattle.std.proofs.lemmas.Bool.Decides.{nat_tests}
 use Rattle.std.proofs.lemmas.Int.{ints}
-use Rattle.std.proofs.Math.Nat.{max-le}
+use Rattle.std.proofs.Math.Nat.{max-le, le-max_right}
+use Rattle.c_syntax.specs.declared.types.CInt.{CInt}
+use Rattle.c_syntax.specs.declared.types.CInt.TheVariants as c
+use Rattle.c_syntax.specs.declared.expression.UnOp.{UnOp}
+use Rattle.c_syntax.specs.declared.expression.UnOp.TheVariants as prefix
 use Rattle.c_syntax.specs.declared.expression.BinOp.{BinOp}
 use Rattle.c_syntax.specs.declared.expression.BinOp.TheVariants as operator
-use Rattle.c_syntax.specs.declared.expression.Use.{Use}
 use Rattle.c_syntax.specs.declared.annotation.Relation.{Relation}
 use Rattle.c_syntax.specs.declared.annotation.Relation.TheVariants as relation
-use Rattle.c_syntax.specs.Expressions.{Expression, Node, Number, Letter, Variable, Binary}
+use Rattle.c_syntax.specs.Ctypes.{PlainType, Void, Int}
+use Rattle.c_syntax.specs.Expressions.{Expression, Node, Number, Letter, Variable, Unary, Binary, Both, Either, Choice, Assign, Bump, Call, Cast, SizeOfType, SizeOfExpr, type_of}
 use Rattle.c_syntax.specs.Annotations as logic
 use Rattle.c_syntax.specs.Annotations.{LogicTerm, NoLink, Linked, ClauseBody, Truth, Chain, Annotation}
-use Rattle.first_form.specs.IntPrograms.{IsIntLiteral, IsLetter, IsVariable, IsPure, leaves_of, IsFullExpression, IsSum, IsIntTerm, leaves, IsShortTerm, IsIntBody, IsIntAssert}
+use Rattle.c_model.specs.Integers.{fits, size_of, width, is_signed}
+use Rattle.c_model.specs.Conversions.{promoted, operation_type, is_shift, common, wider}
+use Rattle.c_model.specs.Typing.{Object, Scopes, object_named}
+use Rattle.c_model.specs.WellTyped.{Denotes, UnaryTypes, BinaryTypes, WellTyped}
+use Rattle.c_model.specs.WellTypedPrograms.{TermTyped, ClauseTyped}
+use Rattle.c_model.specs.Formed.{IsPure, nodes_of, IsLogicNumber, IsSumTerm, leaves_of_term, IsShortTerm, IsRelation, IsAssert}
 use Rattle.mon_syntax.specs.declared.tree.MonType.{MonType}
-use Rattle.mon_syntax.specs.declared.tree.MonType.TheVariants.{I32, I64}
+use Rattle.mon_syntax.specs.declared.tree.MonType.TheVariants.{I8, U8, I16, U16, I32, U32, I64, U64, I128}
+use Rattle.mon_syntax.specs.declared.tree.MonOp.{MonOp}
+use Rattle.mon_syntax.specs.declared.tree.MonOp.TheVariants as mon
 use Rattle.mon_syntax.specs.Trees as tree
-use Rattle.mon_syntax.specs.Valid.{Types, HasType, has_constant, result_type, open_parens, IsExpression, IsStatement, Labels}
-use Rattle.instrument.specs.Limits.{IsNumbered}
-use Rattle.instrument.specs.Translation.{register_of, operator_of, expression, term, relation_operator, truth_of_body, assertion}
+use Rattle.mon_syntax.specs.Trees.{MonExpression}
+use Rattle.mon_syntax.specs.Checking.{same_type}
+use Rattle.mon_syntax.specs.Valid.{Types, HasType, has_constant, is_arithmetic, result_type, open_parens, IsExpression, IsStatement, Labels}
+use Rattle.instrument.specs.Limits.{IsLetter, HasLetters, TermHasLetters, BodyHasLetters, IsNumbered}
+use Rattle.instrument.specs.Translation.{register_type, value_type, operand_type, operator_of, in_type, compared, condition, truth, unary, binary, compound_in, temporaries, value, truth_of, condition_of, register_of, term, relation_operator, truth_of_body, assertion}
+use Rattle.instrument.proofs.Integers.{operand_is}
+use Rattle.instrument.proofs.Values.{result_type_is}
+use Rattle.instrument.proofs.ExpressionTypes.{scalar_int, same_int_type, cast_int, binary_at}
+use Rattle.instrument.proofs.Expressions.{letter_fits}
+use Rattle.instrument.proofs.Declared.{at_end}
 
 -- ---- constants
 
-int_constant : (z : ℤ) → IsIntLiteral z → has_constant I32 z ≡ true
-int_constant (pos m) h = let a = h.fits in grind (arith, nat_tests, ints)
-int_constant (negsuc m) h = let a = h.not_negative in absurd (omega (arith, ints))
+small_constant : (k : CInt) (z : ℤ) → fits k z ≡ true → has_constant (register_type k) z ≡ true
+small_constant c.I8 (pos n) e = let l = ltb-true n 128 e in grind (arith, nat_tests, ints)
+small_constant c.I8 (negsuc n) e = let l = ltb-true n 128 e in grind (arith, nat_tests, ints)
+small_constant c.U8 (pos n) e = let l = ltb-true n 256 e in grind (arith, nat_tests, ints)
+small_constant c.U8 (negsuc n) e = absurd cc
+small_constant c.I16 (pos n) e = let l = ltb-true n 32768 e in grind (arith, nat_tests, ints)
+small_constant c.I16 (negsuc n) e = let l = ltb-true n 32768 e in grind (arith, nat_tests, ints)
+small_constant c.U16 (pos n) e = let l = ltb-true n 65536 e in grind (arith, nat_tests, ints)
+small_constant c.U16 (negsuc n) e = absurd cc
+small_constant c.I32 (pos n) e = let l = ltb-true n 2147483648 e in grind (arith, nat_tests, ints)
+small_constant c.I32 (negsuc n) e = let l = ltb-true n 2147483648 e in grind (arith, nat_tests, ints)
+small_constant c.U32 (pos n) e = let l = ltb-true n 4294967296 e in grind (arith, nat_tests, ints)
+small_constant c.U32 (negsuc n) e = absurd cc
+small_constant c.I64 (pos n) e = let l = ltb-true n 9223372036854775808 e in grind (arith, nat_tests, ints)
+small_constant c.I64 (negsuc n) e = let l = ltb-true n 9223372036854775808 e in grind (arith, nat_tests, ints)
+small_constant c.U64 (pos n) e = let l = ltb-true n 18446744073709551616 e in grind (arith, nat_tests, ints)
+small_constant c.U64 (negsuc n) e = absurd cc
 
-long_constant : (z : ℤ) → IsIntLiteral z → has_constant I64 z ≡ true
-long_constant (pos m) h = let a = h.fits in grind (arith, nat_tests, ints)
-long_constant (negsuc m) h = let a = h.not_negative in absurd (omega (arith, ints))
+logic_constant : (z : ℤ) → IsLogicNumber z → has_constant I128 z ≡ true
+logic_constant (pos n) h = let a = h.high in grind (arith, nat_tests, ints)
+logic_constant (negsuc n) h = let a = h.low in grind (arith, nat_tests, ints)
 
-letter_literal : (z : ℤ) → IsLetter z → IsIntLiteral z
-letter_literal z h = record { not_negative = h.not_negative; fits = let a = h.small in omega (arith, ints, a) }
+letter_number : (z : ℤ) → IsLetter z → IsLogicNumber z
+letter_number z l = record { low = omega (arith, ints, l.low); high = omega (arith, ints, l.high) }
 
--- ---- operators
+size_constant : (t : PlainType) → has_constant U64 (pos (size_of t)) ≡ true
+size_constant Void = refl
+size_constant (Int c.I8) = refl
+size_constant (Int c.U8) = refl
+size_constant (Int c.I16) = refl
+size_constant (Int c.U16) = refl
+size_constant (Int c.I32) = refl
+size_constant (Int c.U32) = refl
+size_constant (Int c.I64) = refl
+size_constant (Int c.U64) = refl
 
-int_result : (op : BinOp) → result_type (operator_of op) I32 ≡ I32
-int_result operator.Add = refl
-int_result operator.Sub = refl
-int_result operator.Mul = refl
-int_result operator.Div = refl
-int_result operator.Rem = refl
-int_result operator.Shl = refl
-int_result operator.Shr = refl
-int_result operator.BitAnd = refl
-int_result operator.BitOr = refl
-int_result operator.BitXor = refl
-int_result operator.Eq = refl
-int_result operator.Ne = refl
-int_result operator.Lt = refl
-int_result operator.Le = refl
-int_result operator.Gt = refl
-int_result operator.Ge = refl
+zero_constant : (t : MonType) → has_constant (operand_type t) (pos 0) ≡ true
+zero_constant I8 = refl
+zero_constant U8 = refl
+zero_constant I16 = refl
+zero_constant U16 = refl
+zero_constant I32 = refl
+zero_constant U32 = refl
+zero_constant I64 = refl
+zero_constant U64 = refl
+zero_constant I128 = refl
 
-sum_result : (op : BinOp) → IsSum op → result_type (operator_of op) I64 ≡ I64
-sum_result operator.Add h = refl
-sum_result operator.Sub h = refl
-sum_result _ h = absurd h
+-- ---- types
 
-relation_result : (r : Relation) → result_type (relation_operator r) I64 ≡ I32
-relation_result relation.Eq = refl
-relation_result relation.Ne = refl
-relation_result relation.Lt = refl
-relation_result relation.Le = refl
-relation_result relation.Gt = refl
-relation_result relation.Ge = refl
+operand_computes : (t : MonType) → is_arithmetic (operand_type t) ≡ true
+operand_computes I8 = refl
+operand_computes U8 = refl
+operand_computes I16 = refl
+operand_computes U16 = refl
+operand_computes I32 = refl
+operand_computes U32 = refl
+operand_computes I64 = refl
+operand_computes U64 = refl
+operand_computes I128 = refl
+
+promoted_computes : (k : CInt) → is_arithmetic (register_type (promoted k)) ≡ true
+promoted_computes k = ap is_arithmetic (sym (operand_is k)) ∙ operand_computes (register_type k)
+
+common_computes : (k l : CInt) → is_arithmetic (register_type (common k l)) ≡ true
+common_computes k l = by (promoted k) (promoted l) (promoted_computes k) (promoted_computes l)
+  where
+    chosen : (t : Bool) (x y : CInt) → is_arithmetic (register_type x) ≡ true → is_arithmetic (register_type y) ≡ true → is_arithmetic (register_type (if t then x else y)) ≡ true
+    chosen true x y p q = p
+    chosen false x y p q = q
+
+    by : (x y : CInt) → is_arithmetic (register_type x) ≡ true → is_arithmetic (register_type y) ≡ true → is_arithmetic (register_type (wider x y)) ≡ true
+    by x y p q =
+        chosen (nat_lt (width x) (width y)) y (if nat_lt (width y) (width x) then x else (if is_signed x then y else x)) q
+        (chosen (nat_lt (width y) (width x)) x (if is_signed x then y else x) p (chosen (is_signed x) y x q p))
+
+operation_computes : (op : BinOp) (k l : CInt) → is_arithmetic (register_type (operation_type op k l)) ≡ true
+operation_computes op k l = by (is_shift op)
+  where
+    by : (t : Bool) → is_arithmetic (register_type (if t then promoted k else common k l)) ≡ true
+    by true = promoted_computes k
+    by false = common_computes k l
+
+same_mon : (t u : MonType) → same_type t u ≡ true → t ≡ u
+same_mon I8 I8 e = refl
+same_mon U8 U8 e = refl
+same_mon I16 I16 e = refl
+same_mon U16 U16 e = refl
+same_mon I32 I32 e = refl
+same_mon U32 U32 e = refl
+same_mon I64 I64 e = refl
+same_mon U64 U64 e = refl
+same_mon I128 I128 e = refl
+same_mon _ _ e = absurd cc
+
+relation_gives : (r : Relation) (t : MonType) → result_type (relation_operator r) t ≡ I32
+relation_gives relation.Eq t = refl
+relation_gives relation.Ne t = refl
+relation_gives relation.Lt t = refl
+relation_gives relation.Le t = refl
+relation_gives relation.Gt t = refl
+relation_gives relation.Ge t = refl
 
 -- ---- parentheses
 
-one_leaf : (n : ℕ) (e : Expression) → IsPure n e → 1 ≤ leaves_of e
-one_leaf n (Node at t (Number z k)) h = omega arith
-one_leaf n (Node at t (Letter z)) h = omega arith
-one_leaf n (Node at t (Variable x)) h = omega arith
-one_leaf n (Node at t (Binary op a b)) h = let p = one_leaf n a h.2 in omega (arith, p)
-one_leaf n _ h = absurd h
+parens_in_type : (from to : MonType) (e : MonExpression) → open_parens (in_type from to e) ≤ suc (max 1 (open_parens e))
+parens_in_type from to e = by (same_type from to)
+  where
+    by : (t : Bool) → open_parens (if t then e else tree.Cast to e) ≤ suc (max 1 (open_parens e))
+    by true = omega (arith, le-max_right 1 (open_parens e))
+    by false = omega arith
 
-one_more : (p q a b : ℕ) → p ≤ a → q ≤ b → 1 ≤ a → 1 ≤ b → suc (max p q) ≤ a + b
-one_more p q a b h k i j = let m : max p q ≤ a + b - 1 = max-le (omega (arith, h, j)) (omega (arith, k, i)) in omega (arith, m, i, j)
-
-pub few_parens : (n : ℕ) (e : Expression) → IsPure n e → open_parens (expression e) ≤ leaves_of e
-few_parens n (Node at t (Number z k)) h = omega arith
-few_parens n (Node at t (Letter z)) h = omega arith
-few_parens n (Node at t (Variable x)) h = omega arith
-few_parens n (Node at t (Binary op a b)) h =
-    one_more (open_parens (expression a)) (open_parens (expression b)) (leaves_of a) (leaves_of b) (few_parens n a h.2) (few_parens n b h.3) (one_leaf n a h.2) (one_leaf n b h.3)
-few_parens n _ h = absurd h
-
-one_leaf_of_term : (t : LogicTerm) → 1 ≤ leaves t
-one_leaf_of_term (logic.Number at c r z) = omega arith
-one_leaf_of_term (logic.Letter at c r z) = omega arith
-one_leaf_of_term (logic.Variable at c r x) = omega arith
-one_leaf_of_term (logic.Binary at c r op a b) = let p = one_leaf_of_term a in omega (arith, p)
-
-few_parens_of_term : (t : LogicTerm) → open_parens (term t) ≤ suc (leaves t)
-few_parens_of_term (logic.Number at c r z) = omega arith
-few_parens_of_term (logic.Letter at c r z) = omega arith
-few_parens_of_term (logic.Variable at c r x) = omega arith
-few_parens_of_term (logic.Binary at c r op a b) =
-    let p = few_parens_of_term a in
-    let q = few_parens_of_term b in
-    let i = one_leaf_of_term a in
-    let j = one_leaf_of_term b in
-    let m : max (open_parens (term a)) (open_parens (term b)) ≤ leaves a + leaves b = max-le (omega (arith, p, j)) (omega (arith, q, i)) in
+parens_compared : (op : MonOp) (t : MonType) (e : MonExpression) (n : ℕ) → open_parens e ≤ n → 1 ≤ n → open_parens (compared op t e) ≤ n + 2
+parens_compared op t e n le one =
+    let a = parens_in_type t (operand_type t) e in
+    let b : max 1 (open_parens e) ≤ n = max-le one le in
+    let m : max (open_parens (in_type t (operand_type t) e)) 1 ≤ n + 1 = max-le (omega (arith, a, b)) (omega arith) in
     omega (arith, m)
 
--- ---- over the registers of n variables
+parens_condition : (t : MonType) (e : MonExpression) (n : ℕ) → open_parens e ≤ n → 1 ≤ n → open_parens (condition t e) ≤ n + 2
+parens_condition t e n le one = by (same_type t I32)
+  where
+    by : (b : Bool) → open_parens (if b then e else truth t e) ≤ n + 2
+    by true = omega (arith, le)
+    by false = parens_compared mon.Ne t e n le one
 
-module _ (ts : Types) (n : ℕ) (registers : (k : ℕ) → k < n → slice_get ts k ≡ Some I32) where
-  pub register_typed : (x : Use) → IsVariable n x → slice_get ts (register_of x.name) ≡ Some I32
-  register_typed x h = let a = h.declared in let b = h.in_sight in registers (register_of x.name) (omega (arith, a, b))
+pub some_nodes : (e : Expression) → 1 ≤ nodes_of e
+some_nodes (Node at t (Number z k)) = omega arith
+some_nodes (Node at t (Letter z)) = omega arith
+some_nodes (Node at t (Variable x)) = omega arith
+some_nodes (Node at t (Unary op a)) = omega arith
+some_nodes (Node at t (Binary op a b)) = omega arith
+some_nodes (Node at t (Both a b)) = omega arith
+some_nodes (Node at t (Either a b)) = omega arith
+some_nodes (Node at t (Choice a b c)) = omega arith
+some_nodes (Node at t (Assign op a b)) = omega arith
+some_nodes (Node at t (Bump op a)) = omega arith
+some_nodes (Node at t (Call f es)) = omega arith
+some_nodes (Node at t (Cast to a)) = omega arith
+some_nodes (Node at t (SizeOfType u)) = omega arith
+some_nodes (Node at t (SizeOfExpr a)) = omega arith
 
-  typed : (e : Expression) → IsPure n e → HasType ts (expression e) I32
-  typed (Node at t (Number z k)) h = (refl, int_constant z h.1)
-  typed (Node at t (Letter z)) h = (refl, int_constant z (letter_literal z h.1))
-  typed (Node at t (Variable x)) h = register_typed x h.1
-  typed (Node at t (Binary op a b)) h = (int_result op, refl, typed a h.2, typed b h.3)
-  typed _ h = absurd h
+parens_unary : (op : UnOp) (t : MonType) (e : MonExpression) (n : ℕ) → open_parens e ≤ n → 1 ≤ n → open_parens (unary op t e) ≤ n + 2
+parens_unary prefix.Plus t e n le one = omega (arith, le)
+parens_unary prefix.Minus t e n le one = omega (arith, le)
+parens_unary prefix.Not t e n le one = parens_compared mon.Eq t e n le one
+parens_unary prefix.Flip t e n le one = omega (arith, le)
 
-  pub expression_valid : (e : Expression) → IsFullExpression n e → IsExpression ts (expression e) I32
-  expression_valid e h = let p = few_parens n e h.is in let q = h.short in record { typed = typed e h.is; within = omega (arith, p, q) }
+pub parens_compound : (op : BinOp) (m t u : MonType) (a b : MonExpression) (n : ℕ) → open_parens a ≤ n → open_parens b ≤ n → 1 ≤ n → open_parens (compound_in op m t u a b) ≤ n + 3
+parens_compound op m t u a b n la lb one =
+    let p = parens_in_type t m a in
+    let q = parens_in_type u m b in
+    let x : max 1 (open_parens a) ≤ n = max-le one la in
+    let y : max 1 (open_parens b) ≤ n = max-le one lb in
+    let inner : max (open_parens (in_type t m a)) (open_parens (in_type u m b)) ≤ n + 1 = max-le (omega (arith, p, x)) (omega (arith, q, y)) in
+    let whole = parens_in_type (result_type (operator_of op) m) t (tree.Binary (operator_of op) m (in_type t m a) (in_type u m b)) in
+    let outer : max 1 (open_parens (tree.Binary (operator_of op) m (in_type t m a) (in_type u m b))) ≤ n + 2 = max-le (omega arith) (omega (arith, inner)) in
+    omega (arith, whole, outer)
 
-  term_typed : (t : LogicTerm) → IsIntTerm n t → HasType ts (term t) I64
-  term_typed (logic.Number at c r z) h = (refl, long_constant z h)
-  term_typed (logic.Letter at c r z) h = (refl, long_constant z (letter_literal z h))
-  term_typed (logic.Variable at c r x) h = (refl, (I32, register_typed x h.1))
-  term_typed (logic.Binary at c r op a b) h = (sum_result op h.0, refl, term_typed a h.1, term_typed b h.2)
+pub few_parens : (names : List ℕ) (rs : List MonType) (e : Expression) → open_parens (value names rs e) ≤ 2 * nodes_of e
+few_parens names rs (Node at t (Number z k)) = omega arith
+few_parens names rs (Node at t (Letter z)) = omega arith
+few_parens names rs (Node at t (Variable x)) = omega arith
+few_parens names rs (Node at t (Unary op a)) =
+    let p = parens_unary op (value_type (type_of a)) (value names rs a) (2 * nodes_of a) (few_parens names rs a) (omega (arith, some_nodes a)) in
+    omega (arith, p)
+few_parens names rs (Node at t (Binary op a b)) =
+    let p = few_parens names rs a in
+    let q = few_parens names (rs ++ temporaries a) b in
+    let s = parens_in_type (value_type (type_of b)) (value_type (type_of a)) (value names (rs ++ temporaries a) b) in
+    let one : max 1 (open_parens (value names (rs ++ temporaries a) b)) ≤ 2 * nodes_of b = max-le (omega (arith, some_nodes b)) q in
+    let m : max (open_parens (value names rs a)) (open_parens (in_type (value_type (type_of b)) (value_type (type_of a)) (value names (rs ++ temporaries a) b))) ≤ 2 * nodes_of a + 2 * nodes_of b + 1 = max-le (omega (arith, p)) (omega (arith, s, one)) in
+    omega (arith, m)
+few_parens names rs (Node at t (Both a b)) = omega arith
+few_parens names rs (Node at t (Either a b)) = omega arith
+few_parens names rs (Node at t (Choice a b c)) = omega arith
+few_parens names rs (Node at t (Cast to a)) =
+    let p = few_parens names rs a in
+    let s = parens_in_type (value_type (type_of a)) (value_type to) (value names rs a) in
+    let one : max 1 (open_parens (value names rs a)) ≤ 2 * nodes_of a = max-le (omega (arith, some_nodes a)) p in
+    omega (arith, s, one)
+few_parens names rs (Node at t (SizeOfType u)) = omega arith
+few_parens names rs (Node at t (SizeOfExpr a)) = omega arith
+few_parens names rs (Node at t (Assign op a b)) = omega arith
+few_parens names rs (Node at t (Bump op a)) = omega arith
+few_parens names rs (Node at t (Call f es)) = omega arith
 
-  relation_valid : (r : Relation) (a b : LogicTerm) → IsShortTerm n a → IsShortTerm n b → IsExpression ts (tree.Binary (relation_operator r) I64 (term a) (term b)) I32
-  relation_valid r a b p q =
-      let i = few_parens_of_term a in
-      let j = few_parens_of_term b in
-      let k = p.short in
-      let l = q.short in
-      let m : max (open_parens (term a)) (open_parens (term b)) ≤ 401 = max-le (omega (arith, i, k)) (omega (arith, j, l)) in
-      record { typed = (relation_result r, refl, term_typed a p.is, term_typed b q.is); within = omega (arith, m) }
+-- ---- registers of these types
 
-  body_valid : (b : ClauseBody) → IsIntBody n b → IsExpression ts (truth_of_body b) I32
-  body_valid (Truth (Chain at a NoLink)) h = absurd h
-  body_valid (Truth (Chain at a (Linked at2 r b NoLink))) h = relation_valid r a b h.0 h.1
-  body_valid (Truth (Chain at a (Linked at2 r b (Linked at3 r3 c rest)))) h = absurd h
+-- registers of these types come first
+pub record Begins (rs ts : Types) : Type 0 where
+  pub rest : Types
+  pub is : ts ≡ rs ++ rest
 
-  pub assertion_valid : (result : MonType) (ls : Labels) (a : Annotation) → IsIntAssert n a → IsNumbered a → IsStatement ts (Some result) ls (assertion a)
-  assertion_valid result ls a h k = (record { typed = (refl, refl); within = omega arith }, body_valid a.body h.body, k.number, k.line)
+pub begins_left : (rs a b ts : Types) → Begins (rs ++ (a ++ b)) ts → Begins (rs ++ a) ts
+begins_left rs a b ts h = record { rest = b ++ h.rest; is = h.is ∙ ap (λ l. l ++ h.rest) (sym (append_assoc rs a b)) ∙ append_assoc (rs ++ a) b h.rest }
+
+pub begins_right : (rs a b ts : Types) → Begins (rs ++ (a ++ b)) ts → Begins (rs ++ a ++ b) ts
+begins_right rs a b ts h = subst (λ l. Begins l ts) (sym (append_assoc rs a b)) h
+
+pub begins_front : (a b ts : Types) → Begins (a ++ b) ts → Begins a ts
+begins_front a b ts h = record { rest = b ++ h.rest; is = h.is ∙ append_assoc a b h.rest }
+
+pub register_at : (rs ts : Types) (t : MonType) → Begins (rs ++ t ∷ []) ts → slice_get ts (length rs) ≡ Some t
+register_at rs ts t h = ap (λ l. slice_get l (length rs)) (h.is ∙ append_assoc rs (t ∷ []) h.rest) ∙ at_end rs h.rest t
+
+-- the register of a name in sight has its type
+pub record Seen (ts : Types) (names : List ℕ) (x : ℕ) (t : PlainType) : Type 0 where
+  pub int : CInt
+  pub ctype : t ≡ Int int
+  pub register : slice_get ts (register_of names x) ≡ Some (register_type int)
+
+abbrev pub AreSeen : Types → List ℕ → List Object → Type 0
+AreSeen ts names objects = (x : ℕ) (b : Object) → object_named x objects ≡ Some b → Seen ts names x b.ctype
+
+module _ (ts : Types) where
+  in_typed : (from to : MonType) (e : MonExpression) → HasType ts e from → HasType ts (in_type from to e) to
+  in_typed from to e h = by (same_type from to) refl
+    where
+      by : (t : Bool) → same_type from to ≡ t → HasType ts (if t then e else tree.Cast to e) to
+      by true s = subst (HasType ts e) (same_mon from to s) h
+      by false s = (refl, (from, h))
+
+  compared_typed : (op : MonOp) (t : MonType) (e : MonExpression) → result_type op (operand_type t) ≡ I32 → HasType ts e t → HasType ts (compared op t e) I32
+  compared_typed op t e r h = (r, operand_computes t, in_typed t (operand_type t) e h, (refl, zero_constant t))
+
+  truth_typed : (t : MonType) (e : MonExpression) → HasType ts e t → HasType ts (truth t e) I32
+  truth_typed t e h = compared_typed mon.Ne t e refl h
+
+  condition_typed : (t : MonType) (e : MonExpression) → HasType ts e t → HasType ts (condition t e) I32
+  condition_typed t e h = by (same_type t I32) refl
+    where
+      by : (b : Bool) → same_type t I32 ≡ b → HasType ts (if b then e else truth t e) I32
+      by true s = subst (HasType ts e) (same_mon t I32 s) h
+      by false s = truth_typed t e h
+
+  unary_typed : (op : UnOp) (t u : PlainType) (k : CInt) (e : MonExpression) → UnaryTypes op t u → t ≡ Int k → ((l : CInt) → u ≡ Int l → HasType ts e (register_type l)) → HasType ts (unary op (value_type u) e) (register_type k)
+  unary_typed prefix.Plus t u k e h int g = g k (sym h.0 ∙ int)
+  unary_typed prefix.Minus t u k e h int g =
+      let u_int : u ≡ Int k = sym h.0 ∙ int in
+      (ap value_type u_int, ap (λ x. is_arithmetic (value_type x)) h.1.is ∙ promoted_computes h.1.int, subst (HasType ts e) (ap value_type (sym u_int)) (g k u_int))
+  unary_typed prefix.Flip t u k e h int g =
+      let u_int : u ≡ Int k = sym h.0 ∙ int in
+      (ap value_type u_int, ap (λ x. is_arithmetic (value_type x)) h.1.is ∙ promoted_computes h.1.int, subst (HasType ts e) (ap value_type (sym u_int)) (g k u_int))
+  unary_typed prefix.Not t u k e h int g =
+      let i = scalar_int u h.1 in
+      subst (λ l. HasType ts (compared mon.Eq (value_type u) e) (register_type l)) (same_int_type c.I32 k (sym h.0 ∙ int))
+      (compared_typed mon.Eq (value_type u) e refl (subst (HasType ts e) (ap value_type (sym i.is)) (g i.int i.is)))
+
+  binary_typed : (op : BinOp) (t u v : PlainType) (k : CInt) (a b : MonExpression) → BinaryTypes op t u v → t ≡ Int k → ((l : CInt) → u ≡ Int l → HasType ts a (register_type l)) → ((l : CInt) → v ≡ Int l → HasType ts b (register_type l)) → HasType ts (binary op (value_type u) (value_type v) a b) (register_type k)
+  binary_typed op t u v k a b h int f g =
+      let m = binary_at op t u v k h int in
+      let left = value_type u in (
+        ap (λ x. result_type (operator_of op) (value_type x)) m.left_is ∙ result_type_is op m.left ∙ ap register_type m.result,
+        ap (λ x. is_arithmetic (value_type x)) h.0.is ∙ promoted_computes h.0.int,
+        subst (HasType ts a) (ap value_type (sym m.left_is)) (f m.left m.left_is),
+        in_typed (value_type v) left b (subst (HasType ts b) (ap value_type (sym m.right_is)) (g m.right m.right_is)),
+      )
+
+  pub compound_typed : (op : BinOp) (k l : CInt) (a b : MonExpression) → HasType ts a (register_type k) → HasType ts b (register_type l) → HasType ts (compound_in op (register_type (operation_type op k l)) (register_type k) (register_type l) a b) (register_type k)
+  compound_typed op k l a b f g =
+      let m = register_type (operation_type op k l) in
+      in_typed (result_type (operator_of op) m) (register_type k) (tree.Binary (operator_of op) m (in_type (register_type k) m a) (in_type (register_type l) m b))
+      (refl, operation_computes op k l, in_typed (register_type k) m a f, in_typed (register_type l) m b g)
+
+  pub both_begin : (x y : Expression) (rs : Types) → Begins (rs ++ (temporaries x ++ temporaries y ++ I32 ∷ [])) ts → Begins (rs ++ temporaries x ++ temporaries y ++ I32 ∷ []) ts
+  both_begin x y rs h =
+      subst (λ l. Begins l ts) (sym (append_assoc rs (temporaries x ++ temporaries y) (I32 ∷ [])) ∙ ap (λ l. l ++ I32 ∷ []) (sym (append_assoc rs (temporaries x) (temporaries y)))) h
+
+  pub choice_begins : (x y z : Expression) (t : MonType) (rs : Types) → Begins (rs ++ (temporaries x ++ temporaries y ++ temporaries z ++ t ∷ [])) ts → Begins (rs ++ temporaries x ++ temporaries y ++ temporaries z ++ t ∷ []) ts
+  choice_begins x y z t rs h =
+      subst (λ l. Begins l ts) (sym (append_assoc rs (temporaries x ++ temporaries y ++ temporaries z) (t ∷ [])) ∙ ap (λ l. l ++ t ∷ []) (sym (append_assoc rs (temporaries x ++ temporaries y) (temporaries z)) ∙ ap (λ l. l ++ temporaries z) (sym (append_assoc rs (temporaries x) (temporaries y))))) h
+
+  module _ (names : List ℕ) (scopes : Scopes) (sees : AreSeen ts names scopes.objects) where
+    pub variable_typed : (x : _) (t : PlainType) (k : CInt) → Denotes scopes x t → t ≡ Int k → slice_get ts (register_of names x.name) ≡ Some (register_type k)
+    variable_typed x t k d int =
+        let s = sees x.name d.object d.found in
+        s.register ∙ ap (λ i. Some (register_type i)) (same_int_type s.int k (sym s.ctype ∙ d.ctype ∙ int))
+
+    pub typed : (e : Expression) (k : CInt) (rs : Types) → type_of e ≡ Int k → IsPure e → WellTyped scopes e → HasLetters e → Begins (rs ++ temporaries e) ts → HasType ts (value names rs e) (register_type k)
+    typed (Node at t (Number z None)) k rs int p q l b = absurd q
+    typed (Node at t (Number z (Some i))) k rs int p q l b =
+        (ap value_type int, subst (λ j. has_constant (value_type j) z ≡ true) (sym q.0) (small_constant i z q.1))
+    typed (Node at t (Letter z)) k rs int p q l b = (ap value_type int, subst (λ j. has_constant (value_type j) z ≡ true) (sym q) (small_constant c.I32 z (letter_fits z l)))
+    typed (Node at t (Variable x)) k rs int p q l b = variable_typed x t k q int
+    typed (Node at t (Unary op a)) k rs int p q l b = unary_typed op t (type_of a) k (value names rs a) q.1 int (λ i e. typed a i rs e p q.0 l b)
+    typed (Node at t (Binary op x y)) k rs int p q l b =
+        binary_typed op t (type_of x) (type_of y) k (value names rs x) (value names (rs ++ temporaries x) y) q.2 int
+        (λ i e. typed x i rs e p.0 q.0 l.0 (begins_left rs (temporaries x) (temporaries y) ts b))
+        (λ i e. typed y i (rs ++ temporaries x) e p.1 q.1 l.1 (begins_right rs (temporaries x) (temporaries y) ts b))
+    typed (Node at t (Both x y)) k rs int p q l b =
+        register_at (rs ++ temporaries x ++ temporaries y) ts I32 (both_begin x y rs b) ∙ ap (λ i. Some (register_type i)) (same_int_type c.I32 k (sym q.2 ∙ int))
+    typed (Node at t (Either x y)) k rs int p q l b =
+        register_at (rs ++ temporaries x ++ temporaries y) ts I32 (both_begin x y rs b) ∙ ap (λ i. Some (register_type i)) (same_int_type c.I32 k (sym q.2 ∙ int))
+    typed (Node at t (Choice x y z)) k rs int p q l b =
+        register_at (rs ++ temporaries x ++ temporaries y ++ temporaries z) ts (value_type (type_of y)) (choice_begins x y z (value_type (type_of y)) rs b) ∙ ap (λ u. Some (value_type u)) (q.4 ∙ int)
+    typed (Node at t (Cast to a)) k rs int p q l b =
+        let to_int : to ≡ Int k = sym q.1 ∙ int in
+        let from = cast_int to (type_of a) k to_int q.2 in
+        subst (HasType ts (in_type (value_type (type_of a)) (value_type to) (value names rs a))) (ap value_type to_int)
+        (in_typed (value_type (type_of a)) (value_type to) (value names rs a) (subst (HasType ts (value names rs a)) (ap value_type (sym from.is)) (typed a from.int rs from.is p q.0 l b)))
+    typed (Node at t (SizeOfType u)) k rs int p q l b = (ap register_type (same_int_type c.U64 k (sym q.0 ∙ int)), size_constant u)
+    typed (Node at t (SizeOfExpr a)) k rs int p q l b = (ap register_type (same_int_type c.U64 k (sym q.1 ∙ int)), size_constant (type_of a))
+    typed (Node at t (Assign op x y)) k rs int p q l b = absurd p
+    typed (Node at t (Bump op a)) k rs int p q l b = absurd p
+    typed (Node at t (Call f es)) k rs int p q l b = absurd p
+
+    pub expression_valid : (e : Expression) (k : CInt) (rs : Types) → type_of e ≡ Int k → IsPure e → WellTyped scopes e → HasLetters e → nodes_of e ≤ 800 → Begins (rs ++ temporaries e) ts → IsExpression ts (value names rs e) (register_type k)
+    expression_valid e k rs int p q l few b = record { typed = typed e k rs int p q l b; within = omega (arith, few_parens names rs e, few) }
+
+    pub condition_valid : (e : Expression) (k : CInt) (rs : Types) → type_of e ≡ Int k → IsPure e → WellTyped scopes e → HasLetters e → nodes_of e ≤ 800 → Begins (rs ++ temporaries e) ts → IsExpression ts (condition_of names rs e) I32
+    condition_valid e k rs int p q l few b =
+        let m = parens_condition (value_type (type_of e)) (value names rs e) (2 * nodes_of e) (few_parens names rs e) (omega (arith, some_nodes e)) in
+        record { typed = condition_typed (value_type (type_of e)) (value names rs e) (subst (HasType ts (value names rs e)) (ap value_type (sym int)) (typed e k rs int p q l b)); within = omega (arith, m, few) }
+
+    pub truth_valid : (e : Expression) (k : CInt) (rs : Types) → type_of e ≡ Int k → IsPure e → WellTyped scopes e → HasLetters e → nodes_of e ≤ 800 → Begins (rs ++ temporaries e) ts → IsExpression ts (truth_of names rs e) I32
+    truth_valid e k rs int p q l few b =
+        let m = parens_compared mon.Ne (value_type (type_of e)) (value names rs e) (2 * nodes_of e) (few_parens names rs e) (omega (arith, some_nodes e)) in
+        record { typed = truth_typed (value_type (type_of e)) (value names rs e) (subst (HasType ts (value names rs e)) (ap value_type (sym int)) (typed e k rs int p q l b)); within = omega (arith, m, few) }
+
+    -- `op=` on a register
+    pub compound_valid : (op : BinOp) (k i : CInt) (r : ℕ) (e : Expression) (rs : Types) → slice_get ts r ≡ Some (register_type k) → type_of e ≡ Int i → IsPure e → WellTyped scopes e → HasLetters e → nodes_of e ≤ 800 → Begins (rs ++ temporaries e) ts → IsExpression ts (compound_in op (register_type (operation_type op k i)) (register_type k) (register_type i) (tree.Register r) (value names rs e)) (register_type k)
+    compound_valid op k i r e rs reg int p q l few b =
+        let m = parens_compound op (register_type (operation_type op k i)) (register_type k) (register_type i) (tree.Register r) (value names rs e) (2 * nodes_of e) (omega arith) (few_parens names rs e) (omega (arith, some_nodes e)) in
+        record { typed = compound_typed op k i (tree.Register r) (value names rs e) reg (typed e i rs int p q l b); within = omega (arith, m, few) }
+
+    -- ---- annotations
+
+    term_typed : (t : LogicTerm) → IsSumTerm t → TermTyped scopes t → TermHasLetters t → HasType ts (term names t) I128
+    term_typed (logic.Number at u r z) p q l = (refl, logic_constant z p)
+    term_typed (logic.Letter at u r z) p q l = (refl, logic_constant z (letter_number z l))
+    term_typed (logic.Variable at u r x) p q l =
+        let s = sees x.name q.denotes.object q.denotes.found in
+        (refl, (register_type s.int, s.register))
+    term_typed (logic.Binary at u r operator.Add a b) p q l = (refl, refl, term_typed a p.1 q.0 l.0, term_typed b p.2 q.1 l.1)
+    term_typed (logic.Binary at u r operator.Sub a b) p q l = (refl, refl, term_typed a p.1 q.0 l.0, term_typed b p.2 q.1 l.1)
+    term_typed (logic.Binary at u r _ a b) p q l = absurd p.0
+
+    one_leaf : (t : LogicTerm) → 1 ≤ leaves_of_term t
+    one_leaf (logic.Number at u r z) = omega arith
+    one_leaf (logic.Letter at u r z) = omega arith
+    one_leaf (logic.Variable at u r x) = omega arith
+    one_leaf (logic.Binary at u r op a b) = let p = one_leaf a in omega (arith, p)
+
+    few_parens_of_term : (t : LogicTerm) → open_parens (term names t) ≤ suc (leaves_of_term t)
+    few_parens_of_term (logic.Number at u r z) = omega arith
+    few_parens_of_term (logic.Letter at u r z) = omega arith
+    few_parens_of_term (logic.Variable at u r x) = omega arith
+    few_parens_of_term (logic.Binary at u r op a b) =
+        let m : max (open_parens (term names a)) (open_parens (term names b)) ≤ leaves_of_term a + leaves_of_term b = max-le (omega (arith, few_parens_of_term a, one_leaf b)) (omega (arith, few_parens_of_term b, one_leaf a)) in
+        omega (arith, m)
+
+    relation_valid : (r : Relation) (a b : LogicTerm) → IsShortTerm a → IsShortTerm b → TermTyped scopes a → TermTyped scopes b → TermHasLetters a → TermHasLetters b → IsExpression ts (tree.Binary (relation_operator r) I128 (term names a) (term names b)) I32
+    relation_valid r a b p q f g l m =
+        let deep : max (open_parens (term names a)) (open_parens (term names b)) ≤ 401 = max-le (omega (arith, few_parens_of_term a, p.short)) (omega (arith, few_parens_of_term b, q.short)) in
+        record { typed = (relation_gives r I128, refl, term_typed a p.is f l, term_typed b q.is g m); within = omega (arith, deep) }
+
+    body_valid : (b : ClauseBody) → IsRelation b → ClauseTyped scopes b → BodyHasLetters b → IsExpression ts (truth_of_body names b) I32
+    body_valid (Truth (Chain at a (Linked at2 r b NoLink))) p q l = relation_valid r a b p.0 p.1 q.0 q.1.0 l.0 l.1.0
+    body_valid (Truth (Chain at a NoLink)) p q l = absurd p
+    body_valid (Truth (Chain at a (Linked at2 r b (Linked at3 r3 c rest)))) p q l = absurd p
+
+    pub assertion_valid : (result : MonType) (ls : Labels) (a : Annotation) → IsAssert a → ClauseTyped scopes a.body → IsNumbered a → IsStatement ts (Some result) ls (assertion names a)
+    assertion_valid result ls a h t k = (record { typed = (refl, refl); within = omega arith }, body_valid a.body h.body t k.letters, k.number, k.line)

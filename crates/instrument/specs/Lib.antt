@@ -1,2 +1,3 @@
 pub mod Translation
 pub mod Limits
+pub mod Options

@@ -1,32 +1,104 @@
--- Programs whose annotations have numbers and lines of 32 bits.
-use Rattle.std.specs.Prelude.{◌≤◌, List, [], ◌∷◌}
-use Rattle.c_syntax.specs.Annotations.{Annotation}
-use Rattle.c_syntax.specs.Statements.{Statement, Block, If, While, ElsePart, NoElse, Else, BlockItem, Declare, Run, Asserts, BlockItems, NoItem, Then}
+-- What the numbers of a tree's types bound, in the parts that are translated: the number and the line of an annotation are of 32
+-- bits, a letter is a value of `char`, and registers can be numbered.
+use Rattle.std.specs.Prelude.{◌<◌, ◌≤◌, ◌^◌, ◌++◌, length, ℤ, pos, negsuc, ◌≤ℤ◌, List, [], ◌∷◌, Option, Some, None}
+use Rattle.c_syntax.specs.declared.place.Place.{Place}
+use Rattle.c_syntax.specs.Expressions as source
+use Rattle.c_syntax.specs.Expressions.{Expression, Node, Expressions, NoExpression, Following}
+use Rattle.c_syntax.specs.Annotations as logic
+use Rattle.c_syntax.specs.Annotations.{LogicTerm, Predicate, Chain, Links, NoLink, Linked, ClauseBody, Truth, Annotation}
+use Rattle.c_syntax.specs.Statements.{Initialiser, One, Declaration, Statement, Eval, Block, If, While, Do, For, Return, ElsePart, NoElse, Else, ForFirst, NoFirst, First, BlockItem, Declare, Run, Asserts, BlockItems, NoItem, Then}
 use Rattle.c_syntax.specs.Programs.{Function}
-use Rattle.instrument.specs.Translation.{body_items}
+use Rattle.c_model.specs.Meaning.{declared_in}
+use Rattle.instrument.specs.Translation.{body_items, items_temporaries, types_of_all}
+
+-- a value of `char`
+pub record IsLetter (z : ℤ) : Type 0 where
+  pub low : negsuc 127 ≤ℤ z
+  pub high : z ≤ℤ pos 127
+
+-- ---- expressions
+
+abbrev pub HasLetters : Expression → Type 0
+HasLetters (Node at t (source.Letter n)) = IsLetter n
+HasLetters (Node at t (source.Unary op a)) = HasLetters a
+HasLetters (Node at t (source.Binary op a b)) = HasLetters a × HasLetters b
+HasLetters (Node at t (source.Both a b)) = HasLetters a × HasLetters b
+HasLetters (Node at t (source.Either a b)) = HasLetters a × HasLetters b
+HasLetters (Node at t (source.Choice a b c)) = HasLetters a × HasLetters b × HasLetters c
+HasLetters (Node at t (source.Cast to a)) = HasLetters a
+HasLetters _ = Unit {0}
+
+abbrev pub ArgumentHasLetters : Expressions → Type 0
+ArgumentHasLetters NoExpression = Unit {0}
+ArgumentHasLetters (Following e rest) = HasLetters e
+
+abbrev pub EffectHasLetters : Expression → Type 0
+EffectHasLetters (Node at t (source.Assign op a b)) = HasLetters b
+EffectHasLetters (Node at t (source.Call f args)) = ArgumentHasLetters args
+EffectHasLetters _ = Unit {0}
+
+abbrev pub Any : {A : Type 0} → (A → Type 0) → Option A → Type 0
+Any P None = Unit {0}
+Any P (Some x) = P x
+
+abbrev pub InitialHasLetters : Option (Place × Initialiser) → Type 0
+InitialHasLetters None = Unit {0}
+InitialHasLetters (Some (at, One e)) = HasLetters e
+
+abbrev pub InitialsHaveLetters : List Declaration → Type 0
+InitialsHaveLetters [] = Unit {0}
+InitialsHaveLetters (d ∷ ds) = InitialHasLetters d.init × InitialsHaveLetters ds
+
+-- ---- annotations
+
+abbrev pub TermHasLetters : LogicTerm → Type 0
+TermHasLetters (logic.Number at t r n) = Unit {0}
+TermHasLetters (logic.Letter at t r n) = IsLetter n
+TermHasLetters (logic.Variable at t r x) = Unit {0}
+TermHasLetters (logic.Binary at t r op a b) = TermHasLetters a × TermHasLetters b
+
+abbrev pub LinksHaveLetters : Links → Type 0
+LinksHaveLetters NoLink = Unit {0}
+LinksHaveLetters (Linked at r t rest) = TermHasLetters t × LinksHaveLetters rest
+
+abbrev pub PredicateHasLetters : Predicate → Type 0
+PredicateHasLetters (Chain at t links) = TermHasLetters t × LinksHaveLetters links
+
+abbrev pub BodyHasLetters : ClauseBody → Type 0
+BodyHasLetters (Truth p) = PredicateHasLetters p
 
 pub record IsNumbered (a : Annotation) : Type 0 where
   pub number : a.number ≤ 4294967295
   pub line : a.place.line ≤ 4294967295
+  pub letters : BodyHasLetters a.body
 
 abbrev pub AreNumbered : List Annotation → Type 0
 AreNumbered [] = Unit {0}
 AreNumbered (a ∷ rest) = IsNumbered a × AreNumbered rest
 
--- each annotation in the translated part of a statement is so
+-- ---- statements
+
 abbrev mutual
   pub HasNumbers : Statement → Type 0
+  HasNumbers (Eval at e) = EffectHasLetters e
   HasNumbers (Block at items) = HaveNumbers items
-  HasNumbers (If at e a b) = HasNumbers a × ElseHasNumbers b
-  HasNumbers (While at annots e a) = HasNumbers a
+  HasNumbers (If at e a b) = HasLetters e × HasNumbers a × ElseHasNumbers b
+  HasNumbers (While at annots e a) = HasLetters e × HasNumbers a
+  HasNumbers (Do at a e) = HasNumbers a × HasLetters e
+  HasNumbers (For at annots first e behind a) = FirstHasNumbers first × Any HasLetters e × HasNumbers a × Any EffectHasLetters behind
+  HasNumbers (Return at e) = Any HasLetters e
   HasNumbers _ = Unit {0}
 
   pub ElseHasNumbers : ElsePart → Type 0
   ElseHasNumbers NoElse = Unit {0}
   ElseHasNumbers (Else a) = HasNumbers a
 
+  pub FirstHasNumbers : ForFirst → Type 0
+  FirstHasNumbers NoFirst = Unit {0}
+  FirstHasNumbers (First i) = ItemHasNumbers i
+
   pub ItemHasNumbers : BlockItem → Type 0
-  ItemHasNumbers (Declare decls) = Unit {0}
+  ItemHasNumbers (Declare ds) = InitialsHaveLetters ds
   ItemHasNumbers (Run a) = HasNumbers a
   ItemHasNumbers (Asserts annots) = AreNumbered annots
 
@@ -34,7 +106,17 @@ abbrev mutual
   HaveNumbers NoItem = Unit {0}
   HaveNumbers (Then i rest) = ItemHasNumbers i × HaveNumbers rest
 
--- each annotation in the bodies of functions is so
+-- registers that can be numbered
+abbrev pub HaveSmallNumbers : BlockItems → Type 0
+HaveSmallNumbers is = length (types_of_all (declared_in is) ++ items_temporaries is) < 2 ^ 64
+
 abbrev pub FunctionsHaveNumbers : List Function → Type 0
 FunctionsHaveNumbers [] = Unit {0}
-FunctionsHaveNumbers (f ∷ rest) = HaveNumbers (body_items f.body) × FunctionsHaveNumbers rest
+FunctionsHaveNumbers (f ∷ rest) = HaveNumbers (body_items f.body) × HaveSmallNumbers (body_items f.body) × FunctionsHaveNumbers rest
+
+-- ---- room
+
+-- each function has at most 1,000 variables (this profile), so that there is room for their blocks
+abbrev pub HaveFewVariables : List Function → Type 0
+HaveFewVariables [] = Unit {0}
+HaveFewVariables (f ∷ rest) = (length (declared_in (body_items f.body)) ≤ 1000) × HaveFewVariables rest

@@ -1,32 +1,34 @@
-//! Annotations: terms of 64 bits, chains of relations, and assertions.
+//! Annotations: terms of 128 bits, chains of relations, and assertions.
 
 ghost use Rattle.std.specs.Prelude.{◌≡◌, ◌≤◌, pos, IfOk};
 ghost use Rattle.c_syntax.specs.Annotations.{Chain, Truth, plain_annot, plain_body, plain_links, plain_pred, plain_term};
-ghost use Rattle.mon_syntax.specs.declared.tree.MonType.TheVariants.{I32, I64};
+ghost use Rattle.mon_syntax.specs.declared.tree.MonType.TheVariants.{I32, I128};
 ghost use Rattle.mon_syntax.specs.Trees.{Assert, Binary, Constant, plain_expr, plain_stmt};
-ghost use Rattle.instrument.specs.Limits.{IsNumbered};
+ghost use Rattle.instrument.specs.Limits.{IsNumbered, LinksHaveLetters, TermHasLetters};
 ghost use Rattle.instrument.specs.Translation.{assertion, chain, relation_operator, term};
 
-use crate::expression::{operator_of, register_of};
+use crate::operator::operator_of;
+use crate::part::register_of;
 use c_syntax::{Annot, Body, Kind, Link, Pred, PredKind, Relation, Term, TermKind};
 use mon_syntax::{MonExpr, MonOp, MonStmt, MonType};
 use std::alloc::{AllocError, Global};
 
-/// Translates a term, whose values fit 64 bits.
-pub fn term(alloc: Global, t: &Term) -> Result<MonExpr, AllocError>
-    ensures { IfOk result (λ m. plain_expr m ≡ term (plain_term t.now)) }
+/// Translates a term, whose values fit 128 bits.
+pub fn term(alloc: Global, names: &[u32], t: &Term) -> Result<MonExpr, AllocError>
+    ensures code { IfOk result (λ m. plain_expr m ≡ term names.now (plain_term t.now)) }
+    ensures letters { IfOk result (λ _. TermHasLetters (plain_term t.now)) }
 {
     match &t.kind {
-        TermKind::Number(n) => Ok(MonExpr::Constant(MonType::I64, *n)),
-        TermKind::Letter(n) => Ok(MonExpr::Constant(MonType::I64, i128::from(*n))),
+        TermKind::Number(n) => Ok(MonExpr::Constant(MonType::I128, *n)),
+        TermKind::Letter(n) => Ok(MonExpr::Constant(MonType::I128, i128::from(*n))),
         TermKind::Variable(x) => {
-            let register = Box::new(alloc, MonExpr::Register(register_of(x.name)))?;
-            Ok(MonExpr::Cast(MonType::I64, register))
+            let register = Box::new(alloc, MonExpr::Register(register_of(names, x.name)?))?;
+            Ok(MonExpr::Cast(MonType::I128, register))
         }
         TermKind::Binary(op, a, b) => {
-            let left = Box::new(alloc, term(alloc, a)?)?;
-            let right = Box::new(alloc, term(alloc, b)?)?;
-            Ok(MonExpr::Binary(operator_of(*op), MonType::I64, left, right))
+            let left = Box::new(alloc, term(alloc, names, a)?)?;
+            let right = Box::new(alloc, term(alloc, names, b)?)?;
+            Ok(MonExpr::Binary(operator_of(*op), MonType::I128, left, right))
         }
     }
 }
@@ -45,29 +47,36 @@ fn relation_operator(relation: Relation) -> MonOp
 }
 
 // One relation of a chain.
-fn relation(alloc: Global, left: &Term, link: &Link) -> Result<MonExpr, AllocError>
-    ensures { IfOk result (λ m. plain_expr m ≡ Binary (relation_operator link.now.relation) I64 (term (plain_term left.now)) (term (plain_term link.now.term))) }
+fn relation(alloc: Global, names: &[u32], left: &Term, link: &Link) -> Result<MonExpr, AllocError>
+    ensures code { IfOk result (λ m. plain_expr m ≡ Binary (relation_operator link.now.relation) I128 (term names.now (plain_term left.now)) (term names.now (plain_term link.now.term))) }
+    ensures left { IfOk result (λ _. TermHasLetters (plain_term left.now)) }
+    ensures right { IfOk result (λ _. TermHasLetters (plain_term link.now.term)) }
 {
-    let first = Box::new(alloc, term(alloc, left)?)?;
-    let second = Box::new(alloc, term(alloc, &link.term)?)?;
+    let first = Box::new(alloc, term(alloc, names, left)?)?;
+    let second = Box::new(alloc, term(alloc, names, &link.term)?)?;
     Ok(MonExpr::Binary(
         relation_operator(link.relation),
-        MonType::I64,
+        MonType::I128,
         first,
         second,
     ))
 }
 
 // Whether each relation of a chain is true.
-fn chain(alloc: Global, left: &Term, links: &[Link]) -> Result<MonExpr, AllocError>
-    ensures { IfOk result (λ m. plain_expr m ≡ chain (plain_term left.now) (plain_links links.now)) }
+fn chain(alloc: Global, names: &[u32], left: &Term, links: &[Link]) -> Result<MonExpr, AllocError>
+    ensures code { IfOk result (λ m. plain_expr m ≡ chain names.now (plain_term left.now) (plain_links links.now)) }
+    ensures left { IfOk result (λ _. TermHasLetters (plain_term left.now)) }
+    ensures links { IfOk result (λ _. LinksHaveLetters (plain_links links.now)) }
 {
     match links {
-        [] => Ok(MonExpr::Constant(MonType::I32, 1)),
-        [link] => relation(alloc, left, link),
+        [] => {
+            let _ = term(alloc, names, left)?;
+            Ok(MonExpr::Constant(MonType::I32, 1))
+        }
+        [link] => relation(alloc, names, left, link),
         [link, rest @ ..] => {
-            let first = Box::new(alloc, relation(alloc, left, link)?)?;
-            let others = Box::new(alloc, chain(alloc, &link.term, rest)?)?;
+            let first = Box::new(alloc, relation(alloc, names, left, link)?)?;
+            let others = Box::new(alloc, chain(alloc, names, &link.term, rest)?)?;
             Ok(MonExpr::Binary(MonOp::And, MonType::I32, first, others))
         }
     }
@@ -103,11 +112,11 @@ fn asserted(truth: MonExpr, number: u32, line: u32, kind: Kind) -> MonStmt
 }
 
 /// Translates an annotation.
-pub fn assertion(alloc: Global, annot: &Annot) -> Result<MonStmt, AllocError>
-    ensures code { IfOk result (λ m. plain_stmt m ≡ assertion (plain_annot annot.now)) }
+pub fn assertion(alloc: Global, names: &[u32], annot: &Annot) -> Result<MonStmt, AllocError>
+    ensures code { IfOk result (λ m. plain_stmt m ≡ assertion names.now (plain_annot annot.now)) }
     ensures numbered { IfOk result (λ _. IsNumbered (plain_annot annot.now)) }
 {
     let (first, links) = parts_of(predicate_of(&annot.body));
-    let truth = chain(alloc, first, links)?;
+    let truth = chain(alloc, names, first, links)?;
     Ok(asserted(truth, annot.number, annot.place.line, annot.kind))
 }

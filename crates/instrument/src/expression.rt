@@ -1,67 +1,115 @@
-//! Expressions of type `int`.
+//! Expressions without effects (C99 6.5).
 
-ghost use Rattle.std.specs.Prelude.{◌≡◌, IfOk};
+ghost use Rattle.std.specs.Prelude.{◌≡◌, ◌++◌, IfOk, OnOk, pos};
+ghost use Rattle.c_syntax.specs.Ctypes.{plain_type};
 ghost use Rattle.c_syntax.specs.Expressions.{plain_expr};
-ghost use Rattle.mon_syntax.specs.Trees.{plain_expr as plain_monitored};
-ghost use Rattle.instrument.specs.Translation.{expression, operator_of, register_of};
+ghost use Rattle.c_model.specs.Integers.{size_of};
+ghost use Rattle.mon_syntax.specs.declared.tree.MonType.TheVariants.{I32, U64};
+ghost use Rattle.mon_syntax.specs.Trees.{Constant, plain_expr as plain_monitored, plain_stmts};
+ghost use Rattle.instrument.specs.Limits.{HasLetters};
+ghost use Rattle.instrument.specs.Translation.{before, setup, temporaries, value};
 
-use c_syntax::{BinOp, Expr, ExprKind};
-use mon_syntax::{MonExpr, MonOp, MonType};
+use crate::conversion::value_type;
+use crate::operator::{binary, condition, in_type, truth, unary};
+use crate::part::{either_set, register_of, temporary};
+use c_syntax::{CInt, CType, Expr, ExprKind};
+use mon_syntax::{MonExpr, MonStmt, MonType};
 use std::alloc::{AllocError, Global};
 
-/// The register of the variable with this name. Names of variables are numbered from 1, registers from 0.
-pub fn register_of(name: u32) -> u32
-    ensures { result ≡ register_of name }
+// The constant of an object's size in bytes (C99 6.5.3.4).
+fn size_constant(t: &CType) -> MonExpr
+    ensures { plain_monitored result ≡ Constant U64 (pos (size_of (plain_type t.now))) }
 {
-    name.saturating_sub(1)
+    let size = match t {
+        CType::Void => 0,
+        CType::Int(CInt::I8 | CInt::U8) => 1,
+        CType::Int(CInt::I16 | CInt::U16) => 2,
+        CType::Int(CInt::I32 | CInt::U32) => 4,
+        CType::Int(CInt::I64 | CInt::U64) => 8,
+    };
+    MonExpr::Constant(MonType::U64, size)
 }
 
-/// The operator of registers that does what the operator does.
-pub fn operator_of(op: BinOp) -> MonOp
-    ensures { result ≡ operator_of op }
+fn number(n: i128) -> MonExpr
+    ensures { plain_monitored result ≡ Constant I32 n }
 {
-    match op {
-        BinOp::Add => MonOp::Add,
-        BinOp::Sub => MonOp::Sub,
-        BinOp::Mul => MonOp::Mul,
-        BinOp::Div => MonOp::Div,
-        BinOp::Rem => MonOp::Rem,
-        BinOp::Shl => MonOp::Shl,
-        BinOp::Shr => MonOp::Shr,
-        BinOp::BitAnd => MonOp::And,
-        BinOp::BitOr => MonOp::Or,
-        BinOp::BitXor => MonOp::Xor,
-        BinOp::Eq => MonOp::Eq,
-        BinOp::Ne => MonOp::Ne,
-        BinOp::Lt => MonOp::Lt,
-        BinOp::Le => MonOp::Le,
-        BinOp::Gt => MonOp::Gt,
-        BinOp::Ge => MonOp::Ge,
-    }
+    MonExpr::Constant(MonType::I32, n)
 }
 
-/// Translates an expression as accepted programs have it. In place of any other stands 0.
-pub fn expression(alloc: Global, e: &Expr) -> Result<MonExpr, AllocError>
-    ensures { IfOk result (λ m. plain_monitored m ≡ expression (plain_expr e.now)) }
+/// Translates an expression without effects: its statements stand behind those that are there, and the types of its temporary
+/// registers behind those of the registers that are there. In place of the value of any other expression stands 0.
+#[tactic(auto, using(crate::proofs::Sequences::before_none))]
+pub fn expression(
+    alloc: Global,
+    names: &[u32],
+    e: &Expr,
+    types: &mut Vec<MonType>,
+    to: &mut Vec<MonStmt>,
+) -> Result<MonExpr, AllocError>
+    ensures value { IfOk result (λ m. plain_monitored m ≡ value names.now types.old.items (plain_expr e.now)) }
+    ensures setup { OnOk result (plain_stmts to.new.items ≡ before (plain_stmts to.old.items) (setup names.now types.old.items (plain_expr e.now))) }
+    ensures types { OnOk result (types.new.items ≡ types.old.items ++ temporaries (plain_expr e.now)) }
+    ensures letters { OnOk result (HasLetters (plain_expr e.now)) }
 {
     match &e.kind {
-        ExprKind::Number(n, _) => Ok(MonExpr::Constant(MonType::I32, *n)),
-        ExprKind::Letter(n) => Ok(MonExpr::Constant(MonType::I32, i128::from(*n))),
-        ExprKind::Variable(x) => Ok(MonExpr::Register(register_of(x.name))),
-        ExprKind::Binary(op, a, b) => {
-            let left = Box::new(alloc, expression(alloc, a)?)?;
-            let right = Box::new(alloc, expression(alloc, b)?)?;
-            Ok(MonExpr::Binary(operator_of(*op), MonType::I32, left, right))
+        ExprKind::Number(n, _) => Ok(MonExpr::Constant(value_type(&e.ctype), *n)),
+        ExprKind::Letter(n) => Ok(MonExpr::Constant(value_type(&e.ctype), i128::from(*n))),
+        ExprKind::Variable(x) => Ok(MonExpr::Register(register_of(names, x.name)?)),
+        ExprKind::Unary(op, a) => {
+            let operand = expression(alloc, names, a, types, to)?;
+            unary(alloc, *op, value_type(&a.ctype), operand)
         }
-        ExprKind::Unary(_, _)
-        | ExprKind::Both(_, _)
-        | ExprKind::Either(_, _)
-        | ExprKind::Choice(_, _, _)
-        | ExprKind::Assign(_, _, _)
-        | ExprKind::Bump(_, _)
-        | ExprKind::Call(_, _)
-        | ExprKind::Cast(_, _)
-        | ExprKind::SizeOfType(_)
-        | ExprKind::SizeOfExpr(_) => Ok(MonExpr::Constant(MonType::I32, 0)),
+        ExprKind::Binary(op, a, b) => {
+            let left = expression(alloc, names, a, types, to)?;
+            let right = expression(alloc, names, b, types, to)?;
+            binary(
+                alloc,
+                *op,
+                value_type(&a.ctype),
+                value_type(&b.ctype),
+                left,
+                right,
+            )
+        }
+        ExprKind::Both(a, b) => {
+            let left = expression(alloc, names, a, types, to)?;
+            let test = condition(alloc, value_type(&a.ctype), left)?;
+            let mut inside = Vec::new(alloc);
+            let right = expression(alloc, names, b, types, &mut inside)?;
+            let right = truth(alloc, value_type(&b.ctype), right)?;
+            let register = temporary(types, MonType::I32)?;
+            let nothing = (Vec::new(alloc), number(0));
+            either_set(register, test, (inside, right), nothing, to)?;
+            Ok(MonExpr::Register(register))
+        }
+        ExprKind::Either(a, b) => {
+            let left = expression(alloc, names, a, types, to)?;
+            let test = condition(alloc, value_type(&a.ctype), left)?;
+            let mut inside = Vec::new(alloc);
+            let right = expression(alloc, names, b, types, &mut inside)?;
+            let right = truth(alloc, value_type(&b.ctype), right)?;
+            let register = temporary(types, MonType::I32)?;
+            let nothing = (Vec::new(alloc), number(1));
+            either_set(register, test, nothing, (inside, right), to)?;
+            Ok(MonExpr::Register(register))
+        }
+        ExprKind::Choice(a, b, c) => {
+            let left = expression(alloc, names, a, types, to)?;
+            let test = condition(alloc, value_type(&a.ctype), left)?;
+            let mut on = Vec::new(alloc);
+            let first = expression(alloc, names, b, types, &mut on)?;
+            let mut off = Vec::new(alloc);
+            let second = expression(alloc, names, c, types, &mut off)?;
+            let register = temporary(types, value_type(&b.ctype))?;
+            either_set(register, test, (on, first), (off, second), to)?;
+            Ok(MonExpr::Register(register))
+        }
+        ExprKind::Cast(t, a) => {
+            let operand = expression(alloc, names, a, types, to)?;
+            in_type(alloc, value_type(&a.ctype), value_type(t), operand)
+        }
+        ExprKind::SizeOfType(t) => Ok(size_constant(t)),
+        ExprKind::SizeOfExpr(a) => Ok(size_constant(&a.ctype)),
+        ExprKind::Assign(_, _, _) | ExprKind::Bump(_, _) | ExprKind::Call(_, _) => Ok(number(0)),
     }
 }

@@ -1,7 +1,7 @@
 //! Names of registers and labels.
 
 ghost use Rattle.std.specs.Prelude.{◌≡◌, IfOk};
-ghost use Rattle.instrument.specs.Translation.{label_name, register_name};
+ghost use Rattle.instrument.specs.Translation.{end_label, next_label, register_name, temporary_name};
 
 use c_syntax::Name;
 use std::alloc::{AllocError, Global};
@@ -19,11 +19,29 @@ pub fn register_name(alloc: Global, number: usize, name: &[u8]) -> Result<Name, 
     Ok(Name::new(bytes))
 }
 
+/// `t12`: a temporary register.
+pub fn temporary_name(alloc: Global, number: usize) -> Result<Name, AllocError>
+    ensures { IfOk result (λ bytes. bytes ≡ temporary_name number) }
+{
+    let text = format!(in alloc; "t{number}")?;
+    let bytes = Vec::from_slice(alloc, text.as_bytes())?;
+    Ok(Name::new(bytes))
+}
+
 /// `end_3`: the label of the end of a loop around whose body stand three loops, itself included.
-pub fn label_name(alloc: Global, loops: u32) -> Result<Name, AllocError>
-    ensures { IfOk result (λ bytes. bytes ≡ label_name loops) }
+pub fn end_label(alloc: Global, loops: u32) -> Result<Name, AllocError>
+    ensures { IfOk result (λ bytes. bytes ≡ end_label loops) }
 {
     let text = format!(in alloc; "end_{loops}")?;
+    let bytes = Vec::from_slice(alloc, text.as_bytes())?;
+    Ok(Name::new(bytes))
+}
+
+/// `next_3`: the label of the end of its body, where the next turn begins.
+pub fn next_label(alloc: Global, loops: u32) -> Result<Name, AllocError>
+    ensures { IfOk result (λ bytes. bytes ≡ next_label loops) }
+{
+    let text = format!(in alloc; "next_{loops}")?;
     let bytes = Vec::from_slice(alloc, text.as_bytes())?;
     Ok(Name::new(bytes))
 }

@@ -1,7 +1,8 @@
-use crate::name::{label_name, register_name};
+use crate::expression::expression;
+use crate::name::{end_label, next_label, register_name, temporary_name};
 use crate::statement::statement;
-use c_syntax::{BinOp, CInt, CType, Expr, ExprKind, Place, Stmt, StmtKind, Use};
-use mon_syntax::MonStmt;
+use c_syntax::{BinOp, BumpOp, CInt, CType, Expr, ExprKind, Place, Stmt, StmtKind, Use};
+use mon_syntax::{MonExpr, MonOp, MonStmt, MonType};
 use std::alloc::{AllocError, Global};
 use std::process::Abort;
 use std::test::*;
@@ -12,51 +13,82 @@ const HERE: Place = Place {
     offset: 0,
 };
 
-fn int(kind: ExprKind) -> Expr {
+fn of_type(k: CInt, kind: ExprKind) -> Expr {
     Expr {
         place: HERE,
         kind,
-        ctype: CType::Int(CInt::I32),
+        ctype: CType::Int(k),
     }
+}
+
+fn int(kind: ExprKind) -> Expr {
+    of_type(CInt::I32, kind)
 }
 
 fn number(n: i128) -> Expr {
     int(ExprKind::Number(n, Some(CInt::I32)))
 }
 
-fn variable(name: u32) -> Expr {
-    int(ExprKind::Variable(Use { name, decl: 0 }))
+fn variable(k: CInt, name: u32) -> Expr {
+    of_type(k, ExprKind::Variable(Use { name, decl: 0 }))
 }
 
-fn binary(alloc: Global, op: BinOp, left: Expr, right: Expr) -> Result<Expr, AllocError> {
-    Ok(int(ExprKind::Binary(op, Box::new(alloc, left)?, Box::new(alloc, right)?)))
+fn less(alloc: Global, left: Expr, right: Expr) -> Result<Expr, AllocError> {
+    let left = Box::new(alloc, left)?;
+    let right = Box::new(alloc, right)?;
+    Ok(int(ExprKind::Binary(BinOp::Lt, left, right)))
 }
 
-/// `while (x < 3) x = x + 1;`, where x is the first variable.
-fn counting(alloc: Global) -> Result<Stmt, AllocError> {
-    let sum = binary(alloc, BinOp::Add, variable(1), number(1))?;
-    let assignment = ExprKind::Assign(None, Box::new(alloc, variable(1))?, Box::new(alloc, sum)?);
-    let body = Stmt {
-        place: HERE,
-        kind: StmtKind::Eval(int(assignment)),
-    };
-    let condition = binary(alloc, BinOp::Lt, variable(1), number(3))?;
-    Ok(Stmt {
-        place: HERE,
-        kind: StmtKind::While(Vec::new(alloc), condition, Box::new(alloc, body)?),
-    })
+fn run(kind: StmtKind) -> Stmt {
+    Stmt { place: HERE, kind }
 }
 
-/// The letter of each statement, in order: the statements inside stand behind it.
+/// The letters of an expression, an operator in front of its operands.
+fn spell(to: &mut Vec<u8>, e: &MonExpr) -> Result<(), AllocError> {
+    match e {
+        MonExpr::Register(0) => to.push(b'x')?,
+        MonExpr::Register(1) => to.push(b'y')?,
+        MonExpr::Register(_) => to.push(b't')?,
+        MonExpr::Constant(_, 0) => to.push(b'0')?,
+        MonExpr::Constant(_, _) => to.push(b'1')?,
+        MonExpr::Binary(op, _, a, b) => {
+            match op {
+                MonOp::Ne => to.push(b'#')?,
+                MonOp::Lt => to.push(b'<')?,
+                MonOp::Add => to.push(b'+')?,
+                _ => to.push(b'*')?,
+            }
+            spell(to, a)?;
+            spell(to, b)?;
+        }
+        MonExpr::Minus(_, a) | MonExpr::Flip(_, a) => {
+            to.push(b'-')?;
+            spell(to, a)?;
+        }
+        MonExpr::Cast(_, a) => {
+            to.push(b'^')?;
+            spell(to, a)?;
+        }
+    }
+    Ok(())
+}
+
+/// The letters of statements, in order: those inside stand behind the statement that they are in.
 fn letters(to: &mut Vec<u8>, code: &[MonStmt]) -> Result<(), AllocError> {
     'code: for s in code {
         match s {
-            MonStmt::Set(_, _) => to.push(b'=')?,
-            MonStmt::If(_, first, second) => {
+            MonStmt::Set(_, e) => {
+                to.push(b'=')?;
+                spell(to, e)?;
+            }
+            MonStmt::If(e, first, second) => {
                 to.push(b'?')?;
+                spell(to, e)?;
+                to.push(b'{')?;
                 letters(to, first)?;
-                to.push(b':')?;
+                to.push(b'|')?;
                 letters(to, second)?;
+                to.push(b'}')?;
             }
             MonStmt::Loop(before, behind) => {
                 to.push(b'(')?;
@@ -66,9 +98,9 @@ fn letters(to: &mut Vec<u8>, code: &[MonStmt]) -> Result<(), AllocError> {
                 to.push(b')')?;
             }
             MonStmt::Labelled(body, label) => {
-                to.push(b'{')?;
+                to.push(b'[')?;
                 letters(to, body)?;
-                to.push(b'}')?;
+                to.push(b']')?;
                 to.extend_from_slice(label.bytes())?;
             }
             MonStmt::Goto(label) => to.extend_from_slice(label.bytes())?,
@@ -78,6 +110,17 @@ fn letters(to: &mut Vec<u8>, code: &[MonStmt]) -> Result<(), AllocError> {
     Ok(())
 }
 
+/// The letters of a statement over the variables `x`, an `int`, and `y`, a `char`.
+fn translated(alloc: Global, s: &Stmt) -> Result<Vec<u8>, AllocError> {
+    let names = vec![in alloc; 5, 8]?;
+    let mut types = vec![in alloc; MonType::I32, MonType::I8]?;
+    let mut code = Vec::new(alloc);
+    statement(alloc, &names, 0, s, &mut types, &mut code)?;
+    let mut text = Vec::new(alloc);
+    letters(&mut text, &code)?;
+    Ok(text)
+}
+
 #[test]
 fn names_have_their_numbers_first(rt: HostRuntime) -> Result<(), AllocError> {
     let alloc = rt.alloc();
@@ -85,22 +128,52 @@ fn names_have_their_numbers_first(rt: HostRuntime) -> Result<(), AllocError> {
     assert_eq!(rt; name.bytes(), b"v7_count".as_slice());
     let name = register_name(alloc, 1000, &[b'x'; 255])?;
     assert_eq!(rt; name.bytes().len(), 255);
-    let label = label_name(alloc, 3)?;
+    let name = temporary_name(alloc, 12)?;
+    assert_eq!(rt; name.bytes(), b"t12".as_slice());
+    let label = end_label(alloc, 3)?;
     assert_eq!(rt; label.bytes(), b"end_3".as_slice());
+    let label = next_label(alloc, 3)?;
+    assert_eq!(rt; label.bytes(), b"next_3".as_slice());
     Ok(())
 }
 
 #[test]
-fn a_loop_is_left_by_its_own_label(rt: HostRuntime) -> Result<(), AllocError> {
+fn the_right_side_of_and_stands_in_an_if(rt: HostRuntime) -> Result<(), AllocError> {
     let alloc = rt.alloc();
+    let names = vec![in alloc; 5, 8]?;
+    let mut types = vec![in alloc; MonType::I32, MonType::I8]?;
     let mut code = Vec::new(alloc);
-    statement(alloc, 0, &counting(alloc)?, &mut code)?;
-    statement(alloc, 1, &counting(alloc)?, &mut code)?;
+    let left = Box::new(alloc, variable(CInt::I32, 5))?;
+    let right = Box::new(alloc, variable(CInt::I8, 8))?;
+    let e = int(ExprKind::Both(left, right));
+    let value = expression(alloc, &names, &e, &mut types, &mut code)?;
     let mut text = Vec::new(alloc);
     letters(&mut text, &code)?;
+    spell(&mut text, &value)?;
+    assert_eq!(rt; text.as_slice(), b"?x{=#^y0|=0}t".as_slice());
+    assert_eq!(rt; types.len(), 3);
+    Ok(())
+}
+
+#[test]
+fn loops_have_two_labels(rt: HostRuntime) -> Result<(), AllocError> {
+    let alloc = rt.alloc();
+    let test = less(alloc, variable(CInt::I32, 5), number(1))?;
+    let up = ExprKind::Bump(BumpOp::PostUp, Box::new(alloc, variable(CInt::I32, 5))?);
+    let body = Box::new(alloc, run(StmtKind::Continue))?;
+    let s = run(StmtKind::For(Vec::new(alloc), None, Some(test), Some(int(up)), body));
+    let text = translated(alloc, &s)?;
     assert_eq!(rt;
         text.as_slice(),
-        b"{(?:end_1~=)}end_1{(?:end_2~=)}end_2".as_slice()
+        b"[(?<x1{|end_1}~[next_1]next_1=+x1)]end_1".as_slice()
+    );
+    let test = less(alloc, variable(CInt::I32, 5), number(1))?;
+    let body = Box::new(alloc, run(StmtKind::Break))?;
+    let s = run(StmtKind::Do(body, test));
+    let text = translated(alloc, &s)?;
+    assert_eq!(rt;
+        text.as_slice(),
+        b"[(~[end_1]next_1?<x1{|end_1})]end_1".as_slice()
     );
     Ok(())
 }

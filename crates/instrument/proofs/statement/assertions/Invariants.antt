@@ -7,5 +7,5 @@ use Rattle.instrument.proofs.statement.assertions.Given as goal
 
 abbrev pub invariant-annots : goal.invariant-annots
 invariant-annots l =
-    (before (plain_stmts l.to.items) (assertions (map plain_annot (drop l.annot-index l.annots))) ≡ before (plain_stmts l.initial.to.items) (assertions (map plain_annot l.annots)))
+    (before (plain_stmts l.to.items) (assertions l.names (map plain_annot (drop l.annot-index l.annots))) ≡ before (plain_stmts l.initial.to.items) (assertions l.names (map plain_annot l.annots)))
     × (AreNumbered (map plain_annot (drop l.annot-index l.annots)) → AreNumbered (map plain_annot l.annots))

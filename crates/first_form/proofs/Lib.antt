@@ -1,5 +1,0 @@
-pub mod FirstRows
-mod FormExpressions
-mod FormStatements
-mod FormNames
-pub mod FormPrograms

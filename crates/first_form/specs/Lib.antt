@@ -1,5 +1,0 @@
-pub mod FirstTokens
-pub mod FirstForm
-pub mod Accepted
-pub mod IntPrograms
-pub mod Laws
