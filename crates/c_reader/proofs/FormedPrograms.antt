@@ -90,7 +90,7 @@ module _ (size : ℕ) (ws : Vocabulary) where
     few : d.declarators ≤ 1000
 
   counted : (items : List BlockItem) (ds : List Declaration) → AllByRecursion IsDeclaration items → length (declared_in (block_items (items ++ Declare ds ∷ []))) ≡ length (declared_in (block_items items)) + length ds
-  counted [] ds h = length-append ds []  ∙ omega arith
+  counted [] ds h = length-append ds [] ∙ omega arith
   counted (Declare es ∷ items) ds h =
       length-append es (declared_in (block_items (items ++ Declare ds ∷ []))) ∙ ap (λ n. length es + n) (counted items ds h.1) ∙ ends (length es) (length (declared_in (block_items items))) (length ds)
       ∙ ap (λ n. n + length ds) (sym (length-append es (declared_in (block_items items))))

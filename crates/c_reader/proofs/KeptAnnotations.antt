@@ -38,11 +38,61 @@ negative : (n : ℕ) → leb n (2 ^ 63 - 1) ≡ true → IsLogicNumber (negsuc n
 negative n h = record { low = negatives_in_order n (2 ^ 63 - 1) h; high = negative_below n (2 ^ 64 - 1) }
 
 constants_are : AllByRecursion (λ (x : List ℕ × (CInt × ℤ)). IsLogicNumber x.1.1) constants
-constants_are =
-    (negative 0 refl, (natural 0 refl, (natural 1 refl, (natural 8 refl, (negative 127 refl, (natural 127 refl, (negative 127 refl, (natural 127 refl, (natural 255 refl,
-    (negative 32767 refl, (natural 32767 refl, (natural 65535 refl, (negative 2147483647 refl, (natural 2147483647 refl, (natural 4294967295 refl,
-    (negative 9223372036854775807 refl, (natural 9223372036854775807 refl, (natural 18446744073709551615 refl,
-    (negative 9223372036854775807 refl, (natural 9223372036854775807 refl, (natural 18446744073709551615 refl, tt)))))))))))))))))))))
+constants_are = (
+  negative 0 refl,
+  (
+    natural 0 refl,
+    (
+      natural 1 refl,
+      (
+        natural 8 refl,
+        (
+          negative 127 refl,
+          (
+            natural 127 refl,
+            (
+              negative 127 refl,
+              (
+                natural 127 refl,
+                (
+                  natural 255 refl,
+                  (
+                    negative 32767 refl,
+                    (
+                      natural 32767 refl,
+                      (
+                        natural 65535 refl,
+                        (
+                          negative 2147483647 refl,
+                          (
+                            natural 2147483647 refl,
+                            (
+                              natural 4294967295 refl,
+                              (
+                                negative 9223372036854775807 refl,
+                                (
+                                  natural 9223372036854775807 refl,
+                                  (
+                                    natural 18446744073709551615 refl,
+                                    (negative 9223372036854775807 refl, (natural 9223372036854775807 refl, (natural 18446744073709551615 refl, tt))),
+                                  ),
+                                ),
+                              ),
+                            ),
+                          ),
+                        ),
+                      ),
+                    ),
+                  ),
+                ),
+              ),
+            ),
+          ),
+        ),
+      ),
+    ),
+  ),
+)
 
 constant_is : (xs : Constants) (w : List ℕ) (c : CInt × ℤ) → AllByRecursion (λ (x : List ℕ × (CInt × ℤ)). IsLogicNumber x.1.1) xs → constant_in xs w ≡ Some c → IsLogicNumber c.1
 constant_is [] w c all e = absurd cc
@@ -69,15 +119,15 @@ term_named_kept s at t r x = by (object_named x.name s.objects)
     last true = tt
     last false = tt
 
-    constant : (o : Option (CInt × ℤ)) → library_constant (name_at s.names x.name) ≡ o → Holds (IsSameTerm (logic.Variable at t r x)) (elim o [ | Some c ↦ Good (logic.Number at None r c.1) | None ↦ cond (is_there (library_function x.name (name_at s.names x.name))) (faulty (no_type at)) (faulty (no_name at)) ])
+    constant : (o : Option (CInt × ℤ)) → library_constant (name_at s.names x.name) ≡ o → Holds (IsSameTerm (logic.Variable at t r x)) (elim o [ Some c ↦ Good (logic.Number at None r c.1) | None ↦ cond (is_there (library_function x.name (name_at s.names x.name))) (faulty (no_type at)) (faulty (no_name at)) ])
     constant (Some c) e = record { is = library_constant_is (name_at s.names x.name) c e; few = refl }
     constant None e = last (is_there (library_function x.name (name_at s.names x.name)))
 
-    function : (o : Option Signature) → Holds (IsSameTerm (logic.Variable at t r x)) (elim o [ | Some f ↦ faulty (no_type at) | None ↦ elim (library_constant (name_at s.names x.name)) [ | Some c ↦ Good (logic.Number at None r c.1) | None ↦ cond (is_there (library_function x.name (name_at s.names x.name))) (faulty (no_type at)) (faulty (no_name at)) ] ])
+    function : (o : Option Signature) → Holds (IsSameTerm (logic.Variable at t r x)) (elim o [ Some f ↦ faulty (no_type at) | None ↦ elim (library_constant (name_at s.names x.name)) [ Some c ↦ Good (logic.Number at None r c.1) | None ↦ cond (is_there (library_function x.name (name_at s.names x.name))) (faulty (no_type at)) (faulty (no_name at)) ] ])
     function (Some f) = tt
     function None = constant (library_constant (name_at s.names x.name)) refl
 
-    by : (o : Option Object) → Holds (IsSameTerm (logic.Variable at t r x)) (elim o [ | Some b ↦ Good (logic.Variable at (Some b.ctype) r (use_as x.name b.decl)) | None ↦ elim (function_called x.name s.functions) [ | Some f ↦ faulty (no_type at) | None ↦ elim (library_constant (name_at s.names x.name)) [ | Some c ↦ Good (logic.Number at None r c.1) | None ↦ cond (is_there (library_function x.name (name_at s.names x.name))) (faulty (no_type at)) (faulty (no_name at)) ] ] ])
+    by : (o : Option Object) → Holds (IsSameTerm (logic.Variable at t r x)) (elim o [ Some b ↦ Good (logic.Variable at (Some b.ctype) r (use_as x.name b.decl)) | None ↦ elim (function_called x.name s.functions) [ Some f ↦ faulty (no_type at) | None ↦ elim (library_constant (name_at s.names x.name)) [ Some c ↦ Good (logic.Number at None r c.1) | None ↦ cond (is_there (library_function x.name (name_at s.names x.name))) (faulty (no_type at)) (faulty (no_name at)) ] ] ])
     by (Some b) = record { is = tt; few = refl }
     by None = function (function_called x.name s.functions)
 

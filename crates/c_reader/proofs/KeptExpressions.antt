@@ -75,15 +75,15 @@ named_kept s at x = by (object_named x s.objects)
     last true = tt
     last false = tt
 
-    constant : (o : Option (CInt × ℤ)) → Holds (IsKept 1) (elim o [ | Some c ↦ Good (Node at (Int c.0) (Number c.1 (Some c.0))) | None ↦ cond (is_there (library_function x (name_at s.names x))) (faulty (no_type at)) (faulty (no_name at)) ])
+    constant : (o : Option (CInt × ℤ)) → Holds (IsKept 1) (elim o [ Some c ↦ Good (Node at (Int c.0) (Number c.1 (Some c.0))) | None ↦ cond (is_there (library_function x (name_at s.names x))) (faulty (no_type at)) (faulty (no_name at)) ])
     constant (Some c) = record { is = tt; small = omega arith }
     constant None = last (is_there (library_function x (name_at s.names x)))
 
-    function : (o : Option Signature) → Holds (IsKept 1) (elim o [ | Some f ↦ faulty (no_type at) | None ↦ elim (library_constant (name_at s.names x)) [ | Some c ↦ Good (Node at (Int c.0) (Number c.1 (Some c.0))) | None ↦ cond (is_there (library_function x (name_at s.names x))) (faulty (no_type at)) (faulty (no_name at)) ] ])
+    function : (o : Option Signature) → Holds (IsKept 1) (elim o [ Some f ↦ faulty (no_type at) | None ↦ elim (library_constant (name_at s.names x)) [ Some c ↦ Good (Node at (Int c.0) (Number c.1 (Some c.0))) | None ↦ cond (is_there (library_function x (name_at s.names x))) (faulty (no_type at)) (faulty (no_name at)) ] ])
     function (Some f) = tt
     function None = constant (library_constant (name_at s.names x))
 
-    by : (o : Option Object) → Holds (IsKept 1) (elim o [ | Some b ↦ Good (Node at b.ctype (Variable (use_as x b.decl))) | None ↦ elim (function_called x s.functions) [ | Some f ↦ faulty (no_type at) | None ↦ elim (library_constant (name_at s.names x)) [ | Some c ↦ Good (Node at (Int c.0) (Number c.1 (Some c.0))) | None ↦ cond (is_there (library_function x (name_at s.names x))) (faulty (no_type at)) (faulty (no_name at)) ] ] ])
+    by : (o : Option Object) → Holds (IsKept 1) (elim o [ Some b ↦ Good (Node at b.ctype (Variable (use_as x b.decl))) | None ↦ elim (function_called x s.functions) [ Some f ↦ faulty (no_type at) | None ↦ elim (library_constant (name_at s.names x)) [ Some c ↦ Good (Node at (Int c.0) (Number c.1 (Some c.0))) | None ↦ cond (is_there (library_function x (name_at s.names x))) (faulty (no_type at)) (faulty (no_name at)) ] ] ])
     by (Some b) = record { is = tt; small = omega arith }
     by None = function (function_called x s.functions)
 
