@@ -26,3 +26,4 @@ pub mod ValidSetups
 pub mod ValidStatements
 pub mod ValidPrograms
 pub mod Registers
+mod WorkedTranslations

@@ -41,6 +41,17 @@ module _ (names : List ℕ) (rs rs1 rs2 : List MonType) (t t1 t2 : MonStatements
       ∙ before_assoc t (setup names rs (plain_expr a.value)) (setup names (rs ++ temporaries (plain_expr a.value)) (plain_expr b.value))
       ∙ from_kind (code.Binary op a b) is)
 
+  -- the `if` that makes the choice
+  abbrev choice_code : Box Expr Global → Box Expr Global → Box Expr Global → MonStatements
+  choice_code a b c =
+      let x = plain_expr a.value in
+      let y = plain_expr b.value in
+      let z = plain_expr c.value in
+      let register = length (rs ++ temporaries x ++ temporaries y ++ temporaries z) in
+      one (If (condition (value_type (plain_type a.value.ctype)) (value names rs x))
+      (before (setup names (rs ++ temporaries x) y) (set register (value names (rs ++ temporaries x) y)))
+      (before (setup names (rs ++ temporaries x ++ temporaries y) z) (set register (value names (rs ++ temporaries x ++ temporaries y) z))))
+
   module _ (a b : Box Expr Global) (left test : MonExpression) (ka : MonType) (first : t1 ≡ before t (setup names rs (plain_expr a.value))) (left_is : left ≡ value names rs (plain_expr a.value)) (types : rs1 ≡ rs ++ temporaries (plain_expr a.value)) (ka_is : ka ≡ value_type (plain_type a.value.ctype)) (test_is : test ≡ condition ka left) where
     tested : test ≡ condition (value_type (plain_type a.value.ctype)) (value names rs (plain_expr a.value))
     tested = test_is ∙ (λ i. condition (ka_is i) (left_is i))
@@ -83,7 +94,7 @@ module _ (names : List ℕ) (rs rs1 rs2 : List MonType) (t t1 t2 : MonStatements
         let x_at = x_is ∙ ap (λ l. value names l (plain_expr b.value)) types in
         let off_at = off_is ∙ ap (λ l. setup names l (plain_expr c.value)) second in
         let y_at = y_is ∙ ap (λ l. value names l (plain_expr c.value)) second in
+        let chosen : t2 ≡ before (before t (setup names rs (plain_expr a.value))) (choice_code a b c) =
         last
-        ∙ (λ i. before (first i) (one (If (tested i) (before (on_at i) (set (number i) (x_at i))) (before (off_at i) (set (number i) (y_at i))))))
-        ∙ before_assoc t (setup names rs (plain_expr a.value)) _
-        ∙ from_kind (code.Choice a b c) is
+        ∙ (λ i. before (first i) (one (If (tested i) (before (on_at i) (set (number i) (x_at i))) (before (off_at i) (set (number i) (y_at i)))))) in
+        chosen ∙ before_assoc t (setup names rs (plain_expr a.value)) (choice_code a b c) ∙ from_kind (code.Choice a b c) is
