@@ -117,7 +117,7 @@ pub record IsMain (p : TranslationUnit) : Type 0 where
   pub items : BlockItems
   pub body : main.body ≡ Some (Block at items)
   pub formed : BodyItemsFormed most_typed items
-  pub shallow : depth (Block at items) ≤ 200
+  pub shallow : depth (Block at items) ≤ 201
   pub typed : ItemsTyped (file_scopes p) (around_body int_type) items
   pub noted : ItemsNoted (file_scopes p) items
   pub are_named : AreNamed p.names (declared_in items)
