@@ -11,12 +11,12 @@ ghost use Rattle.eacsl_cli.specs.Settled.{IsReported, IsSettled};
 ghost use Rattle.eacsl_cli.specs.Sound.{IsStatus, Sound};
 
 use crate::lines::{broken_line, exit_line, refused_line, say};
-use instrument::instrument;
 use c_model::{FileName, Job, read_words};
 use c_printer::print;
 use c_reader::read_text;
 use c_syntax::{FrontFault, How, Kind, Refusal};
 use ea_ports::{FetchFault, Folder, Sink, SinkFault, Source};
+use instrument::instrument;
 use mon_reader::read_monitored;
 use mon_syntax::MonProgram;
 use mon_walk::{Stop, WalkFault, walk};
