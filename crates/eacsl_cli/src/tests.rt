@@ -324,7 +324,7 @@ fn a_program_is_written_in_monitored_c(rt: HostRuntime) -> Result<(), AllocError
         &NONE,
         &Wanted {
             status: 0,
-            output: b"#include <e_acsl.h>\ni32 main(void) {\n  {\n    while (1) {\n      if (I32(1)) { } else {\n        goto end_1;\n      }\n      __e_acsl_step();\n      putchar(I32(120));\n    }\n  } end_1: ;\n}\n",
+            output: b"#include <e_acsl.h>\ni32 main(void) {\n  {\n    while (1) {\n      if (I32(1)) { } else {\n        goto end_1;\n      }\n      __e_acsl_step();\n      {\n        putchar(I32(120));\n      } next_1: ;\n    }\n  } end_1: ;\n}\n",
             line: b"",
         },
     )
