@@ -50,7 +50,7 @@ def table(command, least, unit, texts):
 C_HEAD = "int main(void) {\n  unsigned int total = 0, count = 1;\n  /*@ assert total < count; */\n  return 0;\n"
 C_LINE = "  total = (unsigned char)(total * 3 + 0x1f) ^ count << 2; // the next one of them\n"
 HEAD_TOKENS = 27
-LINE_TOKENS = 17
+LINE_TOKENS = 18
 
 
 def annotated(size):

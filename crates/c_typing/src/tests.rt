@@ -168,7 +168,7 @@ fn declared(offset: u32, number: u32, kind: CType, init: Option<Expr>) -> Decl {
         ctype: kind,
         init: match init {
             None => None,
-            Some(e) => Some((at(offset + 1), Init::One(e))),
+            Some(e) => Some((at(30), Init::One(e))),
         },
     }
 }
@@ -335,7 +335,7 @@ fn boxed(alloc: Global, offset: u32, kind: StmtKind) -> Result<Box<Stmt>, AllocE
 
 fn declares(alloc: Global, offset: u32, number: u32, kind: CType) -> Result<Item, AllocError> {
     let mut list = Vec::new(alloc);
-    list.push(declared(offset, number, kind, Some(one(offset + 2))))?;
+    list.push(declared(offset, number, kind, Some(one(31))))?;
     Ok(Item::Declare(list))
 }
 
