@@ -2,13 +2,13 @@
 
 ghost use Rattle.std.specs.Prelude.{◌≡◌};
 ghost use Rattle.c_syntax.specs.Ctypes.{plain_type};
-ghost use Rattle.c_model.specs.Conversions.{common, is_shift, operation_type, promoted, wider};
-ghost use Rattle.c_model.specs.Integers.{is_signed, width};
+ghost use Rattle.c_model.specs.Conversions.{operation_type};
 ghost use Rattle.mon_syntax.specs.Checking.{same_type};
 ghost use Rattle.mon_syntax.specs.Valid.{is_relation, result_type};
 ghost use Rattle.instrument.specs.Translation.{operand_type, register_type, value_type};
 
 use c_syntax::{BinOp, CInt, CType};
+use c_typing::conversion::{common, is_shift, promoted};
 use mon_syntax::{MonOp, MonType};
 
 pub fn same_type(first: MonType, second: MonType) -> bool
@@ -74,60 +74,6 @@ pub fn result_type(op: MonOp, t: MonType) -> MonType
     if is_relation(op) { MonType::I32 } else { t }
 }
 
-// The bits of a type.
-fn width(k: CInt) -> u32
-    ensures { result ≡ width k }
-{
-    match k {
-        CInt::I8 | CInt::U8 => 8,
-        CInt::I16 | CInt::U16 => 16,
-        CInt::I32 | CInt::U32 => 32,
-        CInt::I64 | CInt::U64 => 64,
-    }
-}
-
-fn is_signed(k: CInt) -> bool
-    ensures { result ≡ is_signed k }
-{
-    match k {
-        CInt::I8 | CInt::I16 | CInt::I32 | CInt::I64 => true,
-        CInt::U8 | CInt::U16 | CInt::U32 | CInt::U64 => false,
-    }
-}
-
-// The integer promotions (C99 6.3.1.1 p2).
-fn promoted(k: CInt) -> CInt
-    ensures { result ≡ promoted k }
-{
-    match k {
-        CInt::I8 | CInt::U8 | CInt::I16 | CInt::U16 | CInt::I32 => CInt::I32,
-        CInt::U32 => CInt::U32,
-        CInt::I64 => CInt::I64,
-        CInt::U64 => CInt::U64,
-    }
-}
-
-// Of two promoted types the one that both are converted to (C99 6.3.1.8).
-fn wider(k: CInt, l: CInt) -> CInt
-    ensures { result ≡ wider k l }
-{
-    if width(k) < width(l) {
-        l
-    } else if width(l) < width(k) {
-        k
-    } else if is_signed(k) {
-        l
-    } else {
-        k
-    }
-}
-
-fn is_shift(op: BinOp) -> bool
-    ensures { result ≡ is_shift op }
-{
-    matches!(op, BinOp::Shl | BinOp::Shr)
-}
-
 /// The type in which an operator computes on operands of two types (C99 6.3.1.8, 6.5.7 p3).
 pub fn operation_type(op: BinOp, k: CInt, l: CInt) -> CInt
     ensures { result ≡ operation_type op k l }
@@ -135,6 +81,6 @@ pub fn operation_type(op: BinOp, k: CInt, l: CInt) -> CInt
     if is_shift(op) {
         promoted(k)
     } else {
-        wider(promoted(k), promoted(l))
+        common(k, l)
     }
 }

@@ -7,7 +7,6 @@ ghost use Rattle.c_model.specs.Formed.{IsProgram};
 ghost use Rattle.c_model.specs.Meaning.{declared_in, run};
 ghost use Rattle.c_model.specs.Reports.{Agrees};
 ghost use Rattle.c_model.specs.State.{Input, Fault};
-ghost use Rattle.c_model.specs.Typing.{name_at};
 ghost use Rattle.mon_syntax.specs.Memories.{block_run};
 ghost use Rattle.mon_syntax.specs.Trees.{plain_func as plain_monitored_func, plain_program as plain_monitored, plain_register};
 ghost use Rattle.mon_syntax.specs.Valid.{IsValid};
@@ -18,18 +17,9 @@ use crate::conversion::value_type;
 use crate::name::{register_name, temporary_name};
 use crate::statement::items;
 use c_syntax::{Decl, Func, Item, Name, Program, StmtKind};
+use c_typing::scope::name_at;
 use mon_syntax::{MonFunc, MonProgram, MonType, Register};
 use std::alloc::{AllocError, Global};
-
-// The name with this number, and no bytes where there is none.
-fn name_at(names: &[Name], number: u32) -> &[u8]
-    ensures { result.now ≡ name_at names.now number }
-{
-    match names.get(number as usize) {
-        Some(name) => name.bytes(),
-        None => &[],
-    }
-}
 
 /// The variables of a function, in order: their names' numbers, and their registers with the types.
 #[derive(Drop)]
