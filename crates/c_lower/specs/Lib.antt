@@ -1,0 +1,5 @@
+pub mod Code
+pub mod Machine
+pub mod Sound
+pub mod Lowered
+pub mod Laws

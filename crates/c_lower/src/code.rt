@@ -1,0 +1,67 @@
+//! Stack code.
+
+ghost use Rattle.c_lower.specs.Sound.{IsSound};
+
+use c_syntax::Kind;
+use mon_syntax::{MonOp, MonType};
+
+/// One instruction of the stack machine. A jump says how many instructions it passes.
+#[derive(Clone, Copy, PartialEq, Eq, Debug)]
+pub enum Instr {
+    /// A number onto the stack.
+    Push(i64),
+    /// 64 more bits behind those of the topmost number.
+    Extend(u64),
+    /// A register's value onto the stack.
+    Get(u32),
+    /// The topmost value into a register, where there is one of the number.
+    Put(u32),
+    /// The topmost value off the stack.
+    Drop,
+    Binary(MonOp, MonType),
+    Minus(MonType),
+    Flip(MonType),
+    Cast(MonType),
+    /// An assertion, with its number, its line and its kind: whether it is true lies above whether it is defined.
+    Assert(u32, u32, Kind),
+    /// The topmost number's byte is written, and stays in the number's place.
+    PutChar,
+    /// The byte is written.
+    PutByte(u8),
+    /// The topmost number is written in decimal, and taken off the stack.
+    PutNumber,
+    /// The run ends with the topmost number.
+    Exit,
+    /// Passes so many instructions where the topmost number is 0; it is taken off the stack.
+    SkipIfZero(usize),
+    /// Passes so many instructions.
+    GoOn(usize),
+    /// Goes so many instructions back, to a `Step`.
+    GoBack(usize),
+    /// Takes a step.
+    Step,
+    /// A call of the function with this number and so many arguments, the last one topmost. It takes a step.
+    Call(u32, usize),
+    /// Ends a call, with the topmost value.
+    Return,
+    /// The machine faults.
+    Fail,
+}
+
+/// Where a function begins in the code, and how many registers its calls have.
+#[derive(Clone, Copy, PartialEq, Eq, Debug)]
+pub struct Entry {
+    pub start: usize,
+    pub registers: usize,
+}
+
+/// The code of a program. Each instruction finds its operands, each jump stays inside, and a jump back leads to a `Step`.
+#[derive(Drop)]
+pub struct Code {
+    pub instrs: Vec<Instr>,
+    /// A function's entry, by its number.
+    pub entries: Vec<Entry>,
+    /// The entry of `main`.
+    pub main: Option<Entry>,
+    pub ghost sound: { ∥ IsSound instrs.items entries.items main ∥₁ },
+}

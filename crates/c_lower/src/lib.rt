@@ -1,0 +1,6 @@
+//! Stack code, and the lowering of a program in monitored C to it.
+#![tactic(auto)]
+
+pub mod code;
+
+pub use code::{Code, Entry, Instr};

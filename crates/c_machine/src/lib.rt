@@ -1,0 +1,6 @@
+//! The machine that runs stack code over flat memory.
+#![tactic(auto)]
+
+pub mod stop;
+
+pub use stop::{Ran, Stop};
