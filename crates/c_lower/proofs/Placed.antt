@@ -31,6 +31,12 @@ has_back code p (i ∷ a) b h =
     let e : p + 1 + length a ≡ p + length (i ∷ a) = omega arith in
     subst (λ n. HasAt code n b) e (has_back code (p + 1) a b h.1)
 
+pub has_join : (code : List Instr) (p : ℕ) (a b : List Instr) → HasAt code p a → HasAt code (p + length a) b → HasAt code p (a ++ b)
+has_join code p [] b g h = let e : p + 0 ≡ p = omega arith in subst (λ n. HasAt code n b) e h
+has_join code p (i ∷ a) b g h =
+    let e : p + length (i ∷ a) ≡ p + 1 + length a = omega arith in
+    (g.0, has_join code (p + 1) a b g.1 (subst (λ n. HasAt code n b) e h))
+
 -- behind what stands in front of them
 pub has_behind : (is front : List Instr) → HasAt (front ++ is) (length front) is
 has_behind [] front = tt
@@ -110,6 +116,12 @@ label_last [] l a k = sym (or_none (if bytes_eq l k then Some a else None))
 label_last (o ∷ os) l a k =
     ap (λ z. option_or z (if bytes_eq o.label k then Some o.behind else None)) (label_last os l a k)
     ∙ or_or (if bytes_eq l k then Some a else None) (behind_label os k) (if bytes_eq o.label k then Some o.behind else None)
+
+pub label_here : (os : List OpenLabel) (l : List ℕ) (a : ℕ) (k : List ℕ) → bytes_eq l k ≡ true → behind_label (os ++ record { label = l; behind = a } ∷ []) k ≡ Some a
+label_here os l a k e = label_last os l a k ∙ ap (λ b. option_or (if b then Some a else None) (behind_label os k)) e
+
+pub label_further : (os : List OpenLabel) (l : List ℕ) (a : ℕ) (k : List ℕ) → bytes_eq l k ≡ false → behind_label (os ++ record { label = l; behind = a } ∷ []) k ≡ behind_label os k
+label_further os l a k e = label_last os l a k ∙ ap (λ b. option_or (if b then Some a else None) (behind_label os k)) e
 
 -- ---- constants
 

@@ -3,3 +3,5 @@ pub mod Machine
 pub mod Sound
 pub mod Lowered
 pub mod Laws
+pub mod Labels
+pub mod Entries

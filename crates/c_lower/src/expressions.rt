@@ -1,0 +1,51 @@
+//! The code of expressions.
+
+ghost use Rattle.std.specs.Prelude.{◌≡◌, ◌++◌, OnOk};
+ghost use Rattle.mon_syntax.specs.Trees.{plain_expr};
+ghost use Rattle.c_lower.specs.Code.{constant_code, expression_code};
+
+use crate::backward::Backward;
+use crate::code::Instr;
+use mon_syntax::MonExpr;
+use std::alloc::AllocError;
+
+// A number of at most 64 bits at once, another one by its high bits and then its 64 low ones.
+fn emit_constant(code: &mut Backward, z: i128) -> Result<(), AllocError>
+    ensures { OnOk result (code.new ≡ constant_code z ++ code.old) }
+{
+    match i64::try_from(z) {
+        Ok(short) => code.put(Instr::Push(short)),
+        Err(_) => {
+            let low = (z.cast_unsigned() % (1 << 64)) as u64;
+            code.put(Instr::Extend(low))?;
+            code.put(Instr::Push((z >> 64) as i64))
+        }
+    }
+}
+
+/// Writes the code of an expression, whose operands come first, from left to right.
+pub fn emit_expression(code: &mut Backward, e: &MonExpr) -> Result<(), AllocError>
+    ensures { OnOk result (code.new ≡ expression_code (plain_expr e.now) ++ code.old) }
+{
+    match e {
+        MonExpr::Register(r) => code.put(Instr::Get(*r)),
+        MonExpr::Constant(_, z) => emit_constant(code, *z),
+        MonExpr::Binary(op, t, a, b) => {
+            code.put(Instr::Binary(*op, *t))?;
+            emit_expression(code, b)?;
+            emit_expression(code, a)
+        }
+        MonExpr::Minus(t, a) => {
+            code.put(Instr::Minus(*t))?;
+            emit_expression(code, a)
+        }
+        MonExpr::Flip(t, a) => {
+            code.put(Instr::Flip(*t))?;
+            emit_expression(code, a)
+        }
+        MonExpr::Cast(t, a) => {
+            code.put(Instr::Cast(*t))?;
+            emit_expression(code, a)
+        }
+    }
+}

@@ -1,0 +1,104 @@
+//! The code of statements.
+
+ghost use Rattle.std.specs.Prelude.{◌≡◌, ℕ, ◌+◌, ◌-◌, ◌≤◌, ◌<◌, List, ◌∷◌, ◌++◌, length, OnOk};
+ghost use Rattle.mon_syntax.specs.Trees.{plain_expr, plain_stmt, plain_stmts};
+ghost use Rattle.c_lower.specs.declared.code.Instr.{Instr};
+ghost use Rattle.c_lower.specs.declared.code.Instr.TheVariants as instr;
+ghost use Rattle.c_lower.specs.Code.{expression_code, statement_code, statements_code};
+ghost use Rattle.c_lower.specs.Labels.{open_labels};
+
+use crate::backward::Backward;
+use crate::code::Instr;
+use crate::expressions::emit_expression;
+use crate::labels::Labels;
+use crate::simple::{emit_assert, emit_exit, emit_goto, emit_number, emit_put_char, emit_return, emit_set, emit_text};
+use mon_syntax::{MonExpr, MonStmt};
+use std::alloc::AllocError;
+
+// A jump behind what was written since so many instructions stood.
+fn pass_since(code: &mut Backward, since: usize) -> Result<(), AllocError>
+    requires { since ≤ length code.old }
+    ensures { OnOk result (code.new ≡ instr.GoOn (length code.old - since) ∷ code.old) }
+{
+    code.put(Instr::GoOn(code.len() - since))
+}
+
+// The test of a choice: where it is 0 what was written since is passed, and one instruction more.
+fn emit_test(code: &mut Backward, e: &MonExpr, since: usize) -> Result<(), AllocError>
+    requires { (0 < since) × (since ≤ length code.old) }
+    ensures { OnOk result (code.new ≡ expression_code (plain_expr e.now) ++ instr.SkipIfZero (length code.old - since + 1) ∷ code.old) }
+{
+    code.put(Instr::SkipIfZero(code.len() - since + 1))?;
+    emit_expression(code, e)
+}
+
+// A loop around what was written: the jump back has so many instructions behind it, and what stands before the step as many as `middle`.
+fn close_loop(code: &mut Backward, end: usize, middle: usize) -> Result<(), AllocError>
+    requires { (end < middle) × (middle ≤ length code.old) }
+    ensures { (front back : List Instr) (x : Instr) → code.old ≡ front ++ x ∷ back → end ≡ length back → OnOk result (code.new ≡ instr.GoOn (length code.old - middle + 1) ∷ (instr.Step ∷ (front ++ instr.GoBack (length code.old - end) ∷ back))) }
+{
+    let behind = code.len() - middle;
+    code.patch(end, Instr::GoBack(code.len() - end));
+    code.put(Instr::Step)?;
+    code.put(Instr::GoOn(behind + 1))
+}
+
+/// Writes the code of a statement, in bodies with these labels.
+#[cycle(statement)]
+fn emit_statement(
+    code: &mut Backward,
+    s: &MonStmt,
+    labels: &Labels<'_>,
+) -> Result<(), AllocError>
+    ensures { OnOk result (code.new ≡ statement_code (plain_stmt s.now) (length code.old) (open_labels labels.now) ++ code.old) }
+{
+    match s {
+        MonStmt::Set(r, e) => emit_set(code, *r, e),
+        MonStmt::Step => code.put(Instr::Step),
+        MonStmt::Assert(d, v, number, line, kind) => emit_assert(code, d, v, *number, *line, *kind),
+        MonStmt::PutChar(r, e) => emit_put_char(code, *r, e),
+        MonStmt::Exit(e) => emit_exit(code, e),
+        MonStmt::PrintText(text) => emit_text(code, text.bytes()),
+        MonStmt::PrintSigned(e) => emit_number(code, e),
+        MonStmt::PrintUnsigned(e) => emit_number(code, e),
+        MonStmt::If(e, a, b) => {
+            let end = code.len();
+            emit_statements(code, b, labels)?;
+            pass_since(code, end)?;
+            let middle = code.len();
+            emit_statements(code, a, labels)?;
+            emit_test(code, e, middle)
+        }
+        MonStmt::Loop(before, behind) => {
+            let end = code.len();
+            code.put(Instr::GoBack(0))?;
+            emit_statements(code, before, labels)?;
+            let middle = code.len();
+            emit_statements(code, behind, labels)?;
+            close_loop(code, end, middle)
+        }
+        MonStmt::Labelled(body, label) => {
+            let inside = Labels::Inside(&*labels, label.bytes(), code.len());
+            emit_statements(code, body, &inside)
+        }
+        MonStmt::Goto(label) => emit_goto(code, label.bytes(), labels),
+        MonStmt::Return(e) => emit_return(code, e),
+    }
+}
+
+/// Writes the code of statements, which come one after another.
+#[cycle(statement)]
+pub fn emit_statements(
+    code: &mut Backward,
+    stmts: &[MonStmt],
+    labels: &Labels<'_>,
+) -> Result<(), AllocError>
+    ensures { OnOk result (code.new ≡ statements_code (plain_stmts stmts.now) (length code.old) (open_labels labels.now) ++ code.old) }
+{
+    let mut left = stmts.len();
+    while left > 0 {
+        left -= 1;
+        emit_statement(code, &stmts[left], labels)?;
+    }
+    Ok(())
+}
