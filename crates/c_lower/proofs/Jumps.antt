@@ -1,5 +1,5 @@
 -- Jumps of a program's code lead to the bounds of statements, where no operand is on the stack; a jump back leads to a step.
-use Rattle.std.proofs.Common.{◌≡◌, ℕ, zero, suc, ◌+◌, ◌-◌, ◌≤◌, ◌<◌, ℤ, pos, Bool, true, false, List, [], ◌∷◌, ◌++◌, length, take, get_or, Option, Some, None, map, refl, sym, ap, ◌∙◌, subst, arith, append_assoc, append-nil, length-append, le_trans}
+use Rattle.std.proofs.Common.{◌≡◌, ℕ, zero, suc, ◌+◌, ◌-◌, ◌≤◌, ◌<◌, ℤ, pos, Bool, true, false, List, [], ◌∷◌, ◌++◌, length, take, Option, Some, None, map, refl, sym, ap, ◌∙◌, subst, arith, append_assoc, append-nil, length-append, le_trans}
 use Rattle.std.specs.Prelude.{◌^◌, slice_get, bytes_eq, if◌then◌else◌, unsigned_abs, IfSome}
 use Rattle.std.specs.Int.{int_rem_euclid}
 use Rattle.std.specs.Option.{option_or}
@@ -10,10 +10,10 @@ use Rattle.mon_syntax.specs.Trees.{MonExpression, Register, Constant, Binary, Mi
 use Rattle.c_lower.specs.declared.code.Entry.{Entry}
 use Rattle.c_lower.specs.declared.code.Instr.{Instr}
 use Rattle.c_lower.specs.declared.code.Instr.TheVariants as instr
-use Rattle.c_lower.specs.Code.{is_short, constant_code, expression_code, OpenLabel, behind_label, goto_code, result_code, returned_code, choice_code, loop_code, statement_code, statements_code, function_code, functions_code, entry_at, entries_from, entry_named}
+use Rattle.c_lower.specs.Code.{is_short, expression_code, OpenLabel, behind_label, goto_code, result_code, returned_code, choice_code, loop_code, statement_code, statements_code, function_code, functions_code, entry_at, entries_from, entry_named}
 use Rattle.c_lower.specs.Sound.{operands_behind, target, IsEmptyAt, IsSound}
 use Rattle.c_lower.proofs.Placed.{HasAt, has_front, has_back, has_join, has_behind}
-use Rattle.c_lower.proofs.Operands.{Leads, leads_on, plain_on, expression_leads, test_leads, statement_leads, statements_lead, function_leads, functions_lead}
+use Rattle.c_lower.proofs.Operands.{Leads, leads_on, test_leads, statement_leads, statements_lead, function_leads, functions_lead}
 
 -- ---- instructions that don't jump
 

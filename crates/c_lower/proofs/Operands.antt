@@ -8,7 +8,7 @@ use Rattle.mon_syntax.specs.Trees.{MonExpression, Register, Constant, Binary, Mi
 use Rattle.mon_syntax.specs.Meaning.{◌>>=◌}
 use Rattle.c_lower.specs.declared.code.Instr.{Instr}
 use Rattle.c_lower.specs.declared.code.Instr.TheVariants as instr
-use Rattle.c_lower.specs.Code.{is_short, constant_code, expression_code, OpenLabel, behind_label, goto_code, result_code, returned_code, choice_code, loop_code, statement_code, statements_code, function_code, functions_code}
+use Rattle.c_lower.specs.Code.{is_short, expression_code, OpenLabel, behind_label, goto_code, result_code, returned_code, choice_code, loop_code, statement_code, statements_code, function_code, functions_code}
 use Rattle.c_lower.specs.Sound.{operands_taken, operands_given, operands_behind}
 
 -- the instructions find their operands, and lead from so many to so many

@@ -1,14 +1,14 @@
 -- What the writer of code needs of the definitions.
-use Rattle.std.proofs.Common.{◌≡◌, ℕ, ◌+◌, ◌-◌, List, [], ◌∷◌, ◌++◌, length, Vec, sym, ap, ◌∙◌, subst, arith, append_assoc, length-append}
+use Rattle.std.proofs.Common.{◌≡◌, ℕ, ◌+◌, ◌-◌, List, [], ◌∷◌, ◌++◌, length, Vec, sym, ap, ◌∙◌, arith, append_assoc, length-append}
 use Rattle.std.specs.declared.alloc.Global.{Global}
 use Rattle.mon_syntax.specs.declared.tree.MonExpr.{MonExpr}
 use Rattle.mon_syntax.specs.declared.tree.MonStmt.{MonStmt}
 use Rattle.mon_syntax.specs.declared.tree.MonStmt as code
-use Rattle.mon_syntax.specs.Trees.{MonStatement, If, Loop, Labelled, plain_expr, plain_stmt, plain_stmts}
+use Rattle.mon_syntax.specs.Trees.{MonStatement, plain_expr, plain_stmt, plain_stmts}
 use Rattle.mon_syntax.proofs.Rows.{if_is, loop_is, labelled_is}
 use Rattle.c_lower.specs.declared.code.Instr.{Instr}
 use Rattle.c_lower.specs.declared.code.Instr.TheVariants as instr
-use Rattle.c_lower.specs.Code.{OpenLabel, expression_code, choice_code, loop_code, statement_code, statements_code}
+use Rattle.c_lower.specs.Code.{OpenLabel, expression_code, choice_code, statement_code, statements_code}
 
 -- a statement's code in front of other code
 abbrev pub in_front : MonStatement → List OpenLabel → List Instr → List Instr
@@ -50,11 +50,14 @@ loop_written a b ls old c1 c2 c3 n0 n2 m0 e1 e2 m2 e3 =
     let f3' : c3 ≡ (cb ++ ca) ++ instr.GoBack 0 ∷ old = f3 ∙ ap (λ l. cb ++ l) f2 ∙ sym (append_assoc cb ca (instr.GoBack 0 ∷ old)) in
     let l3 = ap length f3 ∙ length-append cb c2 in
     let d3 : length c3 - n2 + 1 ≡ length cb + 1 = omega (arith, l3, m2) in
-    let d4 : length c3 - n0 ≡ length cb + length ca + 1 = omega (arith, l3, l2, m0) in
-    (cb ++ ca, f3', ap (λ n. instr.GoOn n ∷ (instr.Step ∷ ((cb ++ ca) ++ instr.GoBack (length c3 - n0) ∷ old))) d3
-    ∙ ap (λ n. instr.GoOn (length cb + 1) ∷ (instr.Step ∷ ((cb ++ ca) ++ instr.GoBack n ∷ old))) d4
-    ∙ loop_flat ca cb old (length cb + length ca + 1)
-    ∙ ap (λ s. in_front s ls old) (sym (loop_is a b)))
+    let d4 : length c3 - n0 ≡ length cb + length ca + 1 = omega (arith, l3, l2, m0) in (
+      cb ++ ca,
+      f3',
+      ap (λ n. instr.GoOn n ∷ (instr.Step ∷ ((cb ++ ca) ++ instr.GoBack (length c3 - n0) ∷ old))) d3
+          ∙ ap (λ n. instr.GoOn (length cb + 1) ∷ (instr.Step ∷ ((cb ++ ca) ++ instr.GoBack n ∷ old))) d4
+          ∙ loop_flat ca cb old (length cb + length ca + 1)
+          ∙ ap (λ s. in_front s ls old) (sym (loop_is a b)),
+    )
 
 -- the body, where the label is open
 pub label_written : (a : Vec MonStmt Global) (stmts : List MonStmt) (name l : List ℕ) (n : ℕ) (ls : List OpenLabel) (old : List Instr) → stmts ≡ a.items → name ≡ l → n ≡ length old → statements_code (plain_stmts stmts) (length old) (ls ++ record { label = name; behind = n } ∷ []) ++ old ≡ in_front (plain_stmt (code.Labelled a l)) ls old

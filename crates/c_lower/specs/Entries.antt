@@ -1,5 +1,5 @@
 -- Entries by what comes behind them, as they are known while the code is written from its end.
-use Rattle.std.specs.Prelude.{ℕ, ◌-◌, List, [], ◌∷◌, length, map}
+use Rattle.std.specs.Prelude.{ℕ, ◌-◌, List, [], ◌∷◌, length}
 use Rattle.mon_syntax.specs.Trees.{MonFunction}
 use Rattle.c_lower.specs.declared.code.Entry.{Entry}
 use Rattle.c_lower.specs.Code.{entry_at, functions_code}

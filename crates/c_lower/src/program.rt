@@ -54,11 +54,7 @@ fn emit_functions(
 }
 
 // Entries that were written from the end of so many instructions, in order and counted from their start.
-fn turned_round(
-    alloc: Global,
-    written: Vec<Entry>,
-    total: usize,
-) -> Result<Vec<Entry>, AllocError>
+fn turned_round(alloc: Global, written: Vec<Entry>, total: usize) -> Result<Vec<Entry>, AllocError>
     ensures { IfOk result (λ entries. entries.items ≡ map (from_start total) (reverse written.items)) }
 {
     let mut entries = Vec::new(alloc);
@@ -84,6 +80,23 @@ fn main_entry(functions: &[MonFunc], entries: &[Entry]) -> Option<Entry>
     None
 }
 
+// The instructions of a program, its entries, and that of `main`.
+fn written(
+    alloc: Global,
+    m: &MonProgram,
+) -> Result<(Vec<Instr>, Vec<Entry>, Option<Entry>), AllocError>
+    ensures code { IfOk result (λ parts. parts.0.items ≡ functions_code (plain_program m.now).functions) }
+    ensures entries { IfOk result (λ parts. parts.1.items ≡ entries_from 0 (plain_program m.now).functions) }
+    ensures main { IfOk result (λ parts. parts.2 ≡ entry_named (codes "main") 0 (plain_program m.now).functions) }
+{
+    let mut code = Backward::new(alloc);
+    let mut entries = Vec::new(alloc);
+    emit_functions(&mut code, &mut entries, &m.functions)?;
+    let entries = turned_round(alloc, entries, code.len())?;
+    let main = main_entry(&m.functions, &entries);
+    Ok((code.into_code(), entries, main))
+}
+
 /// The stack code of a program, which does what the program does.
 pub fn lower(alloc: Global, m: &MonProgram) -> Result<Code, AllocError>
     ensures code { IfOk result (λ code. code.instrs.items ≡ functions_code (plain_program m.now).functions) }
@@ -91,13 +104,9 @@ pub fn lower(alloc: Global, m: &MonProgram) -> Result<Code, AllocError>
     ensures main { IfOk result (λ code. code.main ≡ entry_named (codes "main") 0 (plain_program m.now).functions) }
     ensures runs { IfOk result (λ code. RunsAs over_flat (plain_program m.now) code.entries.items code.main code.instrs.items) }
 {
-    let mut code = Backward::new(alloc);
-    let mut entries = Vec::new(alloc);
-    emit_functions(&mut code, &mut entries, &m.functions)?;
-    let entries = turned_round(alloc, entries, code.len())?;
-    let main = main_entry(&m.functions, &entries);
+    let (instrs, entries, main) = written(alloc, m)?;
     Ok(Code {
-        instrs: code.into_code(),
+        instrs,
         entries,
         main,
     })

@@ -85,11 +85,7 @@ pub fn emit_number(code: &mut Backward, e: &MonExpr) -> Result<(), AllocError>
 }
 
 /// `goto LABEL;`: without a body of that label the machine faults there.
-pub fn emit_goto(
-    code: &mut Backward,
-    label: &[u8],
-    labels: &Labels<'_>,
-) -> Result<(), AllocError>
+pub fn emit_goto(code: &mut Backward, label: &[u8], labels: &Labels<'_>) -> Result<(), AllocError>
     ensures { OnOk result (code.new ≡ statement_code (Goto label.now) (length code.old) (open_labels labels.now) ++ code.old) }
 {
     match behind_label(labels, label) {

@@ -11,7 +11,9 @@ use crate::backward::Backward;
 use crate::code::Instr;
 use crate::expressions::emit_expression;
 use crate::labels::Labels;
-use crate::simple::{emit_assert, emit_exit, emit_goto, emit_number, emit_put_char, emit_return, emit_set, emit_text};
+use crate::simple::{
+    emit_assert, emit_exit, emit_goto, emit_number, emit_put_char, emit_return, emit_set, emit_text,
+};
 use mon_syntax::{MonExpr, MonStmt};
 use std::alloc::AllocError;
 
@@ -45,11 +47,7 @@ fn close_loop(code: &mut Backward, end: usize, middle: usize) -> Result<(), Allo
 
 /// Writes the code of a statement, in bodies with these labels.
 #[cycle(statement)]
-fn emit_statement(
-    code: &mut Backward,
-    s: &MonStmt,
-    labels: &Labels<'_>,
-) -> Result<(), AllocError>
+fn emit_statement(code: &mut Backward, s: &MonStmt, labels: &Labels<'_>) -> Result<(), AllocError>
     ensures { OnOk result (code.new ≡ statement_code (plain_stmt s.now) (length code.old) (open_labels labels.now) ++ code.old) }
 {
     match s {

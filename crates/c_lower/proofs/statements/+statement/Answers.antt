@@ -1,5 +1,5 @@
-use Rattle.std.proofs.Common.{◌≡◌, []}
-use Rattle.std.proofs.Common.{length, ◌∷◌, ◌++◌, ap, sym, ◌∙◌, subst, OnOk}
+use Rattle.std.proofs.Common.{◌≡◌}
+use Rattle.std.proofs.Common.{length, ◌++◌, ap, sym, ◌∙◌, subst, OnOk}
 use Rattle.mon_syntax.specs.Trees.{plain_stmts}
 use Rattle.c_lower.specs.Code.{statements_code}
 use Rattle.c_lower.specs.Labels.{open_labels}
