@@ -3,23 +3,27 @@ use Rattle.std.proofs.Common.{◌≡◌, ℕ, List, [], ◌++◌, Option, Some, 
 use Rattle.std.proofs.lemmas.List.{append-nil}
 use Rattle.c_syntax.specs.Programs.{PlainRefusal}
 use Rattle.c_model.specs.Phases.{RefusedText}
+use Rattle.c_model.specs.State.{Input, Final}
+use Rattle.c_model.proofs.Agreement.{extends_trans}
 use Rattle.c_model.specs.Meaning.{Ran}
 use Rattle.c_model.specs.Reports.{Report, report, line_of, refused_words, Extends}
 use Rattle.mon_syntax.specs.Trees.{MonitoredProgram}
-use Rattle.mon_syntax.specs.Memories.{flat_run}
+use Rattle.mon_syntax.specs.Memories.{over_flat, flat_run}
 use Rattle.mon_syntax.specs.Text.{text_of}
 use Rattle.mon_syntax.specs.Spelled.{Spells, IsMonitoredRefusal}
 use Rattle.ea_ports.specs.declared.SinkFault.{SinkFault}
-use Rattle.ea_ports.specs.declared.SinkFault.TheVariants.{Failed, Memory}
 use Rattle.ea_ports.specs.Port.{more, Rose}
 use Rattle.ea_ports.proofs.Told.{more-nil}
-use Rattle.ea_ports.specs.Buffered.{port_of, FaultCount}
-use Rattle.mon_walk.specs.declared.leave.Stop.{Stop}
-use Rattle.mon_walk.specs.declared.run.WalkFault.TheVariants as fault
-use Rattle.mon_walk.specs.Parts.{final_of}
-use Rattle.mon_walk.specs.Whole.{RanAs, RunCut, RunFails}
+use Rattle.ea_ports.specs.Buffered.{port_of}
+use Rattle.c_lower.specs.declared.code.Code.{Code}
+use Rattle.c_lower.specs.Lowered.{RunsAs}
+use Rattle.c_lower.proofs.Courses.{over_once, writing_begins}
+use Rattle.c_machine.specs.declared.stop.Stop.{Stop}
+use Rattle.c_machine.specs.declared.stop.Stop.TheVariants as stop
+use Rattle.c_machine.specs.declared.stop.Ran as machine
+use Rattle.c_machine.specs.Whole.{no_calls, RanAs, RanTo, RunCut}
 use Rattle.eacsl_cli.specs.Answers.{Answer, AnswersRun, refused_answer, written_answer, memory_line, Change, change, IsSaid, Answered, Given, OutputFault, ReportDue, ReportBegins, IsTranslated, RunDue, RunRefused, Runs, RunBegins, InstrumentDue, InstrumentRefused, Writes, InstrumentBegins, ExecDue, ExecRefused, Executes, ExecBegins}
-use Rattle.eacsl_cli.specs.Settled.{IsSettled, Said, Wanting, IsReported}
+use Rattle.eacsl_cli.specs.Settled.{IsSettled, Said, Wanting, Reported}
 use Rattle.eacsl_cli.proofs.Sayings.{said_answer, said_memory, answered_by}
 
 -- the line of an answer that is due was said, or there was no memory for it
@@ -36,36 +40,52 @@ begins_with all bytes sent lost rest e b = record { rest = lost ++ rest; is = e 
 abbrev answer_of : Report → List ℕ → Answer
 answer_of said sent = record { status = said.status; output = sent; line = said.line }
 
-module _ {m : MonitoredProgram} {steps : ℕ} {told told' : Option (List ℕ)} {faults faults' : ℕ} where
-  answers : {left : ℕ} {stop : Stop} (ran : RanAs m steps left (port_of told [] faults) (port_of told' [] faults') stop) (said : Report) → report (final_of stop) ≡ Some said → ReportDue m steps (answer_of said ran.wrote.sent)
-  answers {left} {stop} ran said e input = record {
+module _ {m : MonitoredProgram} {steps : ℕ} {told told' : Option (List ℕ)} {faults faults' : ℕ} {code : Code} (lowered : RunsAs over_flat m code.entries.items code.main code.instrs.items) where
+  -- the code's run is the program's
+  run_is : {end : Final} {ran : machine.Ran} (r : RanTo code steps (port_of told [] faults) (port_of told' [] faults') end ran) (input : Input) → flat_run m input steps ≡ record { final = end; output = r.bytes; left = ran.left }
+  run_is r input =
+      let l = lowered no_calls input steps in
+      (over_once over_flat code.entries.items code.main code.instrs.items no_calls input steps l.0 r.turns _ _ l.1 (r.run input)).1
+
+  answers : {end : Final} {ran : machine.Ran} (r : RanTo code steps (port_of told [] faults) (port_of told' [] faults') end ran) (said : Report) → report end ≡ Some said → ReportDue m steps (answer_of said r.wrote.sent)
+  answers r said e input = record {
     said = said;
-    reported = ap (λ (r : Ran). report r.final) (ran.is input) ∙ e;
-    is = ap (λ l. answer_of said l) (sym (ap (λ (r : Ran). r.output) (ran.is input) ∙ ran.wrote.bytes_are ∙ append-nil ran.wrote.sent));
+    reported = ap (λ (r : Ran). report r.final) (run_is r input) ∙ e;
+    is = ap (λ l. answer_of said l) (sym (ap (λ (r : Ran). r.output) (run_is r input) ∙ r.wrote.bytes_are ∙ append-nil r.wrote.sent));
   }
 
-  sent_begins : {left : ℕ} {stop : Stop} (ran : RanAs m steps left (port_of told [] faults) (port_of told' [] faults') stop) → ReportBegins m steps ran.wrote.sent
-  sent_begins ran input = begins_with _ ran.bytes ran.wrote.sent [] [] (ap (λ (r : Ran). r.output) (ran.is input) ∙ sym (append-nil ran.bytes)) ran.wrote.bytes_are
+  sent_begins : {end : Final} {ran : machine.Ran} (r : RanTo code steps (port_of told [] faults) (port_of told' [] faults') end ran) → ReportBegins m steps r.wrote.sent
+  sent_begins r input = begins_with _ r.bytes r.wrote.sent [] [] (ap (λ (r : Ran). r.output) (run_is r input) ∙ sym (append-nil r.bytes)) r.wrote.bytes_are
 
-  cut_begins : {f : SinkFault} (cut : RunCut m steps (port_of told [] faults) told' faults' f) → ReportBegins m steps cut.lost.sent
-  cut_begins cut input = begins_with _ cut.bytes cut.lost.sent cut.lost.lost (cut.begins input).rest (cut.begins input).is cut.lost.bytes_are
+  cut_begins : {f : SinkFault} {ran : machine.Ran} (cut : RunCut code steps (port_of told [] faults) (port_of told' [] faults') f ran) → ReportBegins m steps cut.lost.sent
+  cut_begins cut input =
+      let l = lowered no_calls input steps in
+      let b = cut.begun input in
+      let w = writing_begins over_flat code.entries.items code.main code.instrs.items no_calls input steps l.0 b.0 _ l.1 in
+      let all = extends_trans cut.bytes _ _ b.1 w in
+      begins_with _ cut.bytes cut.lost.sent cut.lost.lost all.rest all.is cut.lost.bytes_are
 
   module _ {err : Change} {result : ℕ} where
     -- the run came to an end, and that was reported
-    pub run_said : {left : ℕ} {stop : Stop} → RanAs m steps left (port_of told [] faults) (port_of told' [] faults') stop → IsReported stop err result → Answered (ReportDue m steps) (ReportBegins m steps) (change told told' faults faults') err result
-    run_said ran r = settled_answer (answer_of r.said ran.wrote.sent) (answers ran r.said r.is) (sent_begins ran) ran.wrote.told_is ran.wrote.faults_is r.settled
+    ended : {end : Final} {ran : machine.Ran} → RanTo code steps (port_of told [] faults) (port_of told' [] faults') end ran → (said : Report) → report end ≡ Some said → IsSettled said.line said.status err result → Answered (ReportDue m steps) (ReportBegins m steps) (change told told' faults faults') err result
+    ended r said e s = settled_answer (answer_of said r.wrote.sent) (answers r said e) (sent_begins r) r.wrote.told_is r.wrote.faults_is s
 
-    -- the output was short of memory
-    pub run_wanting : {f : SinkFault} → f ≡ Memory → RunFails m steps (port_of told [] faults) told' faults' (fault.Sink f) → IsSaid memory_line 9 err result → Answered (ReportDue m steps) (ReportBegins m steps) (change told told' faults faults') err result
-    run_wanting e cut s = said_memory cut.lost.sent (cut_begins cut) cut.lost.told_is (subst (λ x. FaultCount faults faults' x) e cut.lost.count) s
+    reported : (end : Stop) (ran : machine.Ran) → RanAs code steps (port_of told [] faults) (port_of told' [] faults') end ran → Reported end err result → Answered (ReportDue m steps) (ReportBegins m steps) (change told told' faults faults') err result
+    reported (stop.Exit z) ran r s = ended r s.said s.is s.settled
+    reported (stop.Broken number line kind how) ran r s = ended r s.said s.is s.settled
+    reported stop.Spent ran r s = ended r s.said s.is s.settled
+    reported (stop.Full segment) ran r s = ended r s.said s.is s.settled
+    reported stop.Fault ran r s = ended r s.said s.is s.settled
+    reported stop.ReadFault ran r s = ended r s.said s.is s.settled
+    reported stop.WriteFault ran cut s = OutputFault cut.lost.sent s.status (cut_begins cut) cut.lost.told_is cut.lost.count s.told s.faults
+    reported stop.OutOfMemory ran cut s = said_memory cut.lost.sent (cut_begins cut) cut.lost.told_is cut.lost.count s
+
+    pub run_reported : (ran : machine.Ran) → RanAs code steps (port_of told [] faults) (port_of told' [] faults') ran.stop ran → Reported ran.stop err result → Answered (ReportDue m steps) (ReportBegins m steps) (change told told' faults faults') err result
+    run_reported ran r s = reported ran.stop ran r s
 
 -- there was no memory to begin
-pub run_not_begun : (m : MonitoredProgram) (steps : ℕ) {told told' : Option (List ℕ)} {faults faults' : ℕ} {err : Change} {result : ℕ} → told' ≡ told → faults' ≡ faults → IsSaid memory_line 9 err result → Answered (ReportDue m steps) (ReportBegins m steps) (change told told' faults faults') err result
-run_not_begun m steps {told = told} e f s = said_memory [] (λ input. record { rest = (flat_run m input steps).output; is = refl }) (e ∙ sym (more-nil told)) f s
-
--- the output failed
-pub run_failed : {m : MonitoredProgram} {steps : ℕ} {told told' t : Option (List ℕ)} {faults faults' n : ℕ} {f : SinkFault} → f ≡ Failed → RunFails m steps (port_of told [] faults) told' faults' (fault.Sink f) → Answered (ReportDue m steps) (ReportBegins m steps) (change told told' faults faults') (change t t n n) 8
-run_failed {faults = faults} {faults'} e cut = OutputFault cut.lost.sent refl (cut_begins cut) cut.lost.told_is (subst (λ x. FaultCount faults faults' x) e cut.lost.count) refl refl
+pub run_not_begun : (m : MonitoredProgram) (steps : ℕ) {told : Option (List ℕ)} {faults : ℕ} {err : Change} {result : ℕ} → IsSaid memory_line 9 err result → Answered (ReportDue m steps) (ReportBegins m steps) (change told told faults faults) err result
+run_not_begun m steps {told = told} s = said_memory [] (λ input. record { rest = (flat_run m input steps).output; is = refl }) (sym (more-nil told)) refl s
 
 -- ---- texts
 

@@ -1,8 +1,9 @@
 -- How a line was said, where there may be no memory for it, and what the end of a run reports.
-use Rattle.std.specs.Prelude.{◌≡◌, ℕ, List, Some}
+use Rattle.std.specs.Prelude.{◌≡◌, ℕ, List, Option, Some, None}
+use Rattle.c_model.specs.State.{Exits, Broken, Fault, Spent, Full, ReadFault}
 use Rattle.c_model.specs.Reports.{Report, report}
-use Rattle.mon_walk.specs.declared.leave.Stop.{Stop}
-use Rattle.mon_walk.specs.Parts.{final_of}
+use Rattle.c_machine.specs.declared.stop.Stop.{Stop}
+use Rattle.c_machine.specs.declared.stop.Stop.TheVariants as stop
 use Rattle.eacsl_cli.specs.Answers.{Change, IsSaid, memory_line}
 
 -- the line was said with the status, or there was no memory for it, and that was said
@@ -10,8 +11,36 @@ pub data IsSettled (line : List ℕ) (status : ℕ) (err : Change) (result : ℕ
   Said : IsSaid line status err result → IsSettled line status err result
   Wanting : IsSaid memory_line 9 err result → IsSettled line status err result
 
+-- the report of an end; there is none where the sink refused, and where memory was wanting
+abbrev pub report_of : Stop → Option Report
+report_of (stop.Exit z) = report (Exits z)
+report_of (stop.Broken number line kind how) = report (Broken number line kind how)
+report_of stop.Spent = report Spent
+report_of (stop.Full segment) = report (Full segment)
+report_of stop.Fault = report Fault
+report_of stop.ReadFault = report ReadFault
+report_of stop.WriteFault = None
+report_of stop.OutOfMemory = None
+
 -- the report of the end was said, or there was no memory for its line
-pub record IsReported (stop : Stop) (err : Change) (result : ℕ) : Type 0 where
+pub record IsReported (end : Stop) (err : Change) (result : ℕ) : Type 0 where
   pub said : Report
-  pub is : report (final_of stop) ≡ Some said
+  pub is : report_of end ≡ Some said
   pub settled : IsSettled said.line said.status err result
+
+-- nothing is said where the output failed
+pub record IsSilent (err : Change) (result : ℕ) : Type 0 where
+  pub status : result ≡ 8
+  pub told : err.told' ≡ err.told
+  pub faults : err.faults' ≡ err.faults
+
+-- what is said of an end
+abbrev pub Reported : Stop → Change → ℕ → Type 0
+Reported stop.WriteFault err result = IsSilent err result
+Reported stop.OutOfMemory err result = IsSaid memory_line 9 err result
+Reported (stop.Exit z) err result = IsReported (stop.Exit z) err result
+Reported (stop.Broken number line kind how) err result = IsReported (stop.Broken number line kind how) err result
+Reported stop.Spent err result = IsReported stop.Spent err result
+Reported (stop.Full segment) err result = IsReported (stop.Full segment) err result
+Reported stop.Fault err result = IsReported stop.Fault err result
+Reported stop.ReadFault err result = IsReported stop.ReadFault err result

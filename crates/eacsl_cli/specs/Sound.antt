@@ -59,7 +59,6 @@ pub record Sound (words : List (List ℕ)) (content : Option (List ℕ → Optio
   pub instrument_refuses : (file : List ℕ) (text : List ℕ) (r : PlainRefusal) → IsAsked words content before now out err (Instrument file false) text → RefusedText text r → (status ≡ 9) ⊎ IsGiven (refused_answer r) out err status
   pub exec_refuses : (file : List ℕ) (steps : ℕ) (text : List ℕ) (r : PlainRefusal) → IsAsked words content before now out err (Exec file steps) text → IsMonitoredRefusal text r → (status ≡ 9) ⊎ IsGiven (refused_answer r) out err status
 
--- a status of the program: 4, for a full segment, is never given
+-- a status of the program
 pub record IsStatus (status : ℕ) : Type 0 where
   pub most : status ≤ 11
-  pub not_full : status ≡ 4 → ⊥

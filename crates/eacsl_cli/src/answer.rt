@@ -7,19 +7,20 @@ ghost use Rattle.c_model.specs.WordLaws.{file_named};
 ghost use Rattle.mon_syntax.specs.Trees.{plain_program};
 ghost use Rattle.c_reader.specs.Answers.{Refuses};
 ghost use Rattle.eacsl_cli.specs.Answers.{Answered, Begins, ExecBegins, ExecDue, InstrumentBegins, InstrumentDue, IsDue, IsSaid, IsTranslated, ReportBegins, ReportDue, RunBegins, RunDue, TextBegins, TextDue, change, file_limit, memory_line};
-ghost use Rattle.eacsl_cli.specs.Settled.{IsReported, IsSettled};
+ghost use Rattle.eacsl_cli.specs.Settled.{IsReported, IsSettled, Reported};
 ghost use Rattle.eacsl_cli.specs.Sound.{IsStatus, Sound};
 
 use crate::lines::{broken_line, exit_line, refused_line, say};
+use c_lower::lower;
+use c_machine::{Stop, run};
 use c_model::{FileName, Job, read_words};
 use c_printer::print;
 use c_reader::read_text;
-use c_syntax::{FrontFault, How, Kind, Refusal};
+use c_syntax::{FrontFault, How, Kind, Refusal, Segment};
 use ea_ports::{FetchFault, Folder, Sink, SinkFault, Source};
 use instrument::instrument;
 use mon_reader::read_monitored;
 use mon_syntax::MonProgram;
-use mon_walk::{Stop, WalkFault, walk};
 use std::alloc::{AllocError, Global};
 
 // The most bytes of an annotated file, and of a monitored one.
@@ -59,15 +60,36 @@ fn report_broken<E: Sink>(
     }
 }
 
-// Says how a run ended.
+// Says which segment is full.
+fn report_full<E: Sink>(segment: Segment, err: &mut E) -> u8
+    ensures { IsReported (Stop.Full segment) (change (E.told err.old) (E.told err.new) (E.faults err.old) (E.faults err.new)) result }
+{
+    match segment {
+        Segment::Heap => say(err, b"eacsl: full heap\n", 4),
+        Segment::Stack => say(err, b"eacsl: full stack\n", 4),
+        Segment::Frames => say(err, b"eacsl: full frames\n", 4),
+        Segment::Numbers => say(err, b"eacsl: full numbers\n", 4),
+    }
+}
+
+// Says how a run ended; nothing where the output failed.
 fn report_stop<E: Sink>(alloc: Global, stop: Stop, err: &mut E) -> u8
-    ensures { IsReported stop (change (E.told err.old) (E.told err.new) (E.faults err.old) (E.faults err.new)) result }
+    ensures { Reported stop (change (E.told err.old) (E.told err.new) (E.faults err.old) (E.faults err.new)) result }
 {
     match stop {
         Stop::Exit(value) => report_exit(alloc, value, err),
-        Stop::Broken(number, line, kind, how) => report_broken(alloc, number, line, kind, how, err),
+        Stop::Broken {
+            number,
+            line,
+            kind,
+            how,
+        } => report_broken(alloc, number, line, kind, how, err),
         Stop::Spent => say(err, b"eacsl: steps spent\n", 5),
+        Stop::Full(segment) => report_full(segment, err),
         Stop::Fault => say(err, b"eacsl: fault\n", 6),
+        Stop::ReadFault => say(err, b"eacsl: read fault\n", 7),
+        Stop::WriteFault => 8,
+        Stop::OutOfMemory => out_of_memory(err),
     }
 }
 
@@ -92,14 +114,12 @@ fn execute<O: Sink, E: Sink>(
     ensures answered { Answered (ReportDue (plain_program m.now) steps) (ReportBegins (plain_program m.now) steps) (change (O.told out.old) (O.told out.new) (O.faults out.old) (O.faults out.new)) (change (E.told err.old) (E.told err.new) (E.faults err.old) (E.faults err.new)) result }
     ensures status { IsStatus result }
 {
-    match walk(alloc, m, steps, out) {
-        Ok(ran) => report_stop(alloc, ran.stop, err),
-        Err(WalkFault::Memory) => out_of_memory(err),
-        Err(WalkFault::Sink(fault)) => match fault {
-            SinkFault::Failed => 8,
-            SinkFault::Memory => out_of_memory(err),
-        },
-    }
+    let code = match lower(alloc, m) {
+        Ok(code) => code,
+        Err(_) => return out_of_memory(err),
+    };
+    let ran = run(alloc, &code, steps, out);
+    report_stop(alloc, ran.stop, err)
 }
 
 // Translates the annotated program that a text spells into monitored C.
@@ -219,6 +239,7 @@ fn limit_of(job: &Job) -> usize
 /// | 1 | `annotation A, line L: KIND is HOW`: the first annotation that is false or undefined |
 /// | 2 | `refused EC at L:C: WORD`: the text is outside the language |
 /// | 3 | `usage`: the words have no job |
+/// | 4 | `full SEGMENT`: the run wants more room than there is |
 /// | 5 | `steps spent` |
 /// | 6 | `fault`: the machine faulted; for `run` only behind an undefined operation of the source |
 /// | 7 | `read fault`: the folder failed |
