@@ -1,6 +1,9 @@
 //! The machine that runs stack code over flat memory.
 #![tactic(auto)]
 
+mod arithmetic;
+mod machine;
+mod quiet;
 pub mod stop;
 
 pub use stop::{Ran, Stop};

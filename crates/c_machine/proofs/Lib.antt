@@ -1,0 +1,5 @@
+pub mod Wrapped
+pub mod Bitwise
+pub mod Operands
+pub mod Moves
+pub mod States
