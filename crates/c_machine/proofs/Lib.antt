@@ -3,3 +3,4 @@ pub mod Bitwise
 pub mod Operands
 pub mod Moves
 pub mod States
+pub mod Writes

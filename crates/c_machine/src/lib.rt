@@ -4,6 +4,7 @@
 mod arithmetic;
 mod machine;
 mod quiet;
+mod writing;
 pub mod stop;
 
 pub use stop::{Ran, Stop};
