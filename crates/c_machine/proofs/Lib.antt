@@ -4,3 +4,4 @@ pub mod Operands
 pub mod Moves
 pub mod States
 pub mod Writes
+pub mod Calling

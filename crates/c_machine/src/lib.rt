@@ -2,6 +2,7 @@
 #![tactic(auto)]
 
 mod arithmetic;
+mod calls;
 mod machine;
 mod quiet;
 mod writing;

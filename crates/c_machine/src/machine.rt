@@ -32,6 +32,8 @@ pub struct Machine {
     pub registers: Vec<i128>,
     /// The calls that wait for another, that of `main` first.
     pub callers: Vec<Caller>,
+    /// How many operands the code of a call needs.
+    pub deepest: usize,
     /// Where the machine stands, for an instruction that is done out of line.
     pub cursor: Cursor,
 }
