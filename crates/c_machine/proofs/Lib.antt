@@ -5,3 +5,4 @@ pub mod Moves
 pub mod States
 pub mod Writes
 pub mod Calling
+pub mod Kept

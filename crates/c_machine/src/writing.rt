@@ -7,7 +7,7 @@ ghost use Rattle.c_machine.specs.Acts.{Acts, ended_by, stop_of};
 ghost use Rattle.c_machine.specs.Held.{IsFit};
 
 use crate::arithmetic::low_byte;
-use crate::machine::Machine;
+use crate::machine::{Cursor, Machine};
 use crate::stop::Stop;
 use c_lower::Instr;
 use ea_ports::{Buffer, Sink, SinkFault};
@@ -116,5 +116,66 @@ impl Machine {
                 false
             }
         }
+    }
+}
+
+// The same from a cursor that is apart from the machine.
+impl Cursor {
+    /// `PutByte`
+    #[inline(always)]
+    pub fn put_byte<O: Sink>(
+        &mut self,
+        byte: u8,
+        machine: &mut Machine,
+        waiting: &mut Buffer,
+        out: &mut O,
+        stop: &mut Stop,
+    ) -> bool
+        requires fit { IsFit self.old machine.old }
+        requires place { self.old.place < 2 ^ 63 }
+        ensures { (es : List entry.Entry) → Acts es (Instr.PutByte byte) self.old machine.old self.new machine.new (port_of (O.told out.old) waiting.old (O.faults out.old)) (port_of (O.told out.new) waiting.new (O.faults out.new)) (ended_by result stop.new) }
+    {
+        machine.cursor = *self;
+        let goes_on = machine.put_byte(byte, waiting, out, stop);
+        *self = machine.cursor;
+        goes_on
+    }
+
+    /// `PutChar`
+    #[inline(always)]
+    pub fn put_char<O: Sink>(
+        &mut self,
+        machine: &mut Machine,
+        waiting: &mut Buffer,
+        out: &mut O,
+        stop: &mut Stop,
+    ) -> bool
+        requires fit { IsFit self.old machine.old }
+        requires place { self.old.place < 2 ^ 63 }
+        ensures { (es : List entry.Entry) → Acts es Instr.PutChar self.old machine.old self.new machine.new (port_of (O.told out.old) waiting.old (O.faults out.old)) (port_of (O.told out.new) waiting.new (O.faults out.new)) (ended_by result stop.new) }
+    {
+        machine.cursor = *self;
+        let goes_on = machine.put_char(waiting, out, stop);
+        *self = machine.cursor;
+        goes_on
+    }
+
+    /// `PutNumber`
+    #[inline(always)]
+    pub fn put_number<O: Sink>(
+        &mut self,
+        machine: &mut Machine,
+        waiting: &mut Buffer,
+        out: &mut O,
+        stop: &mut Stop,
+    ) -> bool
+        requires fit { IsFit self.old machine.old }
+        requires place { self.old.place < 2 ^ 63 }
+        ensures { (es : List entry.Entry) → Acts es Instr.PutNumber self.old machine.old self.new machine.new (port_of (O.told out.old) waiting.old (O.faults out.old)) (port_of (O.told out.new) waiting.new (O.faults out.new)) (ended_by result stop.new) }
+    {
+        machine.cursor = *self;
+        let goes_on = machine.put_number(waiting, out, stop);
+        *self = machine.cursor;
+        goes_on
     }
 }
