@@ -6,3 +6,5 @@ pub mod States
 pub mod Writes
 pub mod Calling
 pub mod Kept
+pub mod Courses
+pub mod Measure

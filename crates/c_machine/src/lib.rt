@@ -5,6 +5,7 @@ mod arithmetic;
 mod calls;
 mod machine;
 mod quiet;
+mod run;
 mod turn;
 mod writing;
 pub mod stop;
