@@ -1,1 +1,4 @@
+pub mod Held
+pub mod Acts
 pub mod Whole
+pub mod Runs

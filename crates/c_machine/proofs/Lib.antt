@@ -1,0 +1,10 @@
+pub mod Wrapped
+pub mod Bitwise
+pub mod Operands
+pub mod Moves
+pub mod States
+pub mod Writes
+pub mod Calling
+pub mod Kept
+pub mod Courses
+pub mod Measure

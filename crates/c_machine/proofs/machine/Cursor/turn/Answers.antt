@@ -1,0 +1,73 @@
+use Rattle.std.proofs.Common.{rules, FitsSigned, ◌+◌, ap}
+use Rattle.std.specs.Int.{w64}
+use Rattle.std.proofs.lemmas.Int.{to_z-of_z}
+use Rattle.c_lower.specs.Sound.{target}
+use Rattle.c_machine.proofs.machine.Cursor.turn.Goals as goal
+
+pub skip_if_zero-requires-clause-place : goal.skip_if_zero-requires-clause-place
+skip_if_zero-requires-clause-place g c = c.requires.jumps (c.args.self.now.place + 1 + c.in-SkipIfZero.n) (ap (target c.args.self.now.place) c.in-SkipIfZero.is)
+
+pub go_on-requires-clause-place : goal.go_on-requires-clause-place
+go_on-requires-clause-place g c = c.requires.jumps (c.args.self.now.place + 1 + c.in-GoOn.n) (ap (target c.args.self.now.place) c.in-GoOn.is)
+
+pub returns-in-Push : goal.returns-in-Push
+returns-in-Push g c =
+    let f : FitsSigned w64 c.in-Push.z = search rules in
+    rw (c.in-Push.is, ← to_z-of_z w64 c.in-Push.z f) (c.push_number.ensures c.args.entries.now _)
+
+pub returns-in-Extend : goal.returns-in-Extend
+returns-in-Extend g c = rw c.in-Extend.is (c.extend.ensures c.args.entries.now _)
+
+pub returns-in-Get : goal.returns-in-Get
+returns-in-Get g c = rw c.in-Get.is (c.get.ensures c.args.entries.now _)
+
+pub returns-in-Put : goal.returns-in-Put
+returns-in-Put g c = rw c.in-Put.is (c.put.ensures c.args.entries.now _)
+
+pub returns-in-Drop : goal.returns-in-Drop
+returns-in-Drop g c = rw c.in-Drop.is (c.drop_top.ensures c.args.entries.now _)
+
+pub returns-in-Binary : goal.returns-in-Binary
+returns-in-Binary g c = rw c.in-Binary.is (c.binary.ensures c.args.entries.now _)
+
+pub returns-in-Minus : goal.returns-in-Minus
+returns-in-Minus g c = rw c.in-Minus.is (c.negate.ensures c.args.entries.now _)
+
+pub returns-in-Flip : goal.returns-in-Flip
+returns-in-Flip g c = rw c.in-Flip.is (c.flip_bits.ensures c.args.entries.now _)
+
+pub returns-in-Cast : goal.returns-in-Cast
+returns-in-Cast g c = rw c.in-Cast.is (c.cast.ensures c.args.entries.now _)
+
+pub returns-in-Assert : goal.returns-in-Assert
+returns-in-Assert g c = rw c.in-Assert.is (c.judge.ensures c.args.entries.now _)
+
+pub returns-in-Exit : goal.returns-in-Exit
+returns-in-Exit g c = rw c.in-Exit.is (c.exit.ensures c.args.entries.now _)
+
+pub returns-in-SkipIfZero : goal.returns-in-SkipIfZero
+returns-in-SkipIfZero g c = rw c.in-SkipIfZero.is (c.skip_if_zero.ensures c.args.entries.now _)
+
+pub returns-in-GoOn : goal.returns-in-GoOn
+returns-in-GoOn g c = rw c.in-GoOn.is (c.go_on.ensures c.args.entries.now _)
+
+pub returns-in-GoBack : goal.returns-in-GoBack
+returns-in-GoBack g c = rw c.in-GoBack.is (c.go_back.ensures c.args.entries.now _)
+
+pub returns-in-Step : goal.returns-in-Step
+returns-in-Step g c = rw c.in-Step.is (c.step.ensures c.args.entries.now _)
+
+pub returns-in-PutChar : goal.returns-in-PutChar
+returns-in-PutChar g c = rw c.in-PutChar.is (c.put_char.ensures c.args.entries.now)
+
+pub returns-in-PutByte : goal.returns-in-PutByte
+returns-in-PutByte g c = rw c.in-PutByte.is (c.put_byte.ensures c.args.entries.now)
+
+pub returns-in-PutNumber : goal.returns-in-PutNumber
+returns-in-PutNumber g c = rw c.in-PutNumber.is (c.put_number.ensures c.args.entries.now)
+
+pub returns-in-Call : goal.returns-in-Call
+returns-in-Call g c = rw c.in-Call.is (c.call.ensures _)
+
+pub returns-in-Return : goal.returns-in-Return
+returns-in-Return g c = rw c.in-Return.is (c.give_back.ensures _)
