@@ -3,6 +3,7 @@
 
 mod arithmetic;
 mod calls;
+mod depth;
 mod machine;
 mod quiet;
 mod run;

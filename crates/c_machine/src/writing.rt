@@ -12,8 +12,8 @@ use crate::stop::Stop;
 use c_lower::Instr;
 use ea_ports::{Buffer, Sink, SinkFault};
 
-// How a run ends where the sink refuses.
-fn refused(fault: SinkFault) -> Stop
+/// How a run ends where the sink refuses.
+pub fn refused(fault: SinkFault) -> Stop
     ensures { result ≡ stop_of fault }
 {
     match fault {
