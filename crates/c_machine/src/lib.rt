@@ -6,9 +6,10 @@ mod calls;
 mod depth;
 mod machine;
 mod quiet;
-mod run;
-mod turn;
-mod writing;
 pub mod stop;
+mod turn;
+mod whole;
+mod writing;
 
 pub use stop::{Ran, Stop};
+pub use whole::run;

@@ -16,9 +16,9 @@ loop-instr-preserved c =
     let grows : c.loop-instr.most ≤ c.max-most.result = grind (arith, nat_tests, c.max-most.ensures) in
     let covers : c.behind-count.result ≤ c.max-most.result = grind (arith, nat_tests, c.max-most.ensures) in
     let exact : (k : ℕ) → operands_behind 0 (take (at + 1) code) ≡ Some k → k ≡ c.behind-count.result = λ k e.
-        let b = behind_more 0 (take at code) (get_or code at none) k (sym (ap (operands_behind 0) (take_more code at none c.loop-instr-test.true)) ∙ e) in
-        let same = h.exact b.0 b.1.0 in
-        omega (arith, b.1.1, b.1.2, same, c.behind-count.ensures.exact (omega (arith, b.1.1, same))) in
+    let b = behind_more 0 (take at code) (get_or code at none) k (sym (ap (operands_behind 0) (take_more code at none c.loop-instr-test.true)) ∙ e) in
+    let same = h.exact b.0 b.1.0 in
+    omega (arith, b.1.1, b.1.2, same, c.behind-count.ensures.exact (omega (arith, b.1.1, same))) in
     record {
       small = omega (arith, h.small, c.behind-count.ensures.most);
       exact = exact;
