@@ -8,3 +8,5 @@ pub mod Calling
 pub mod Kept
 pub mod Courses
 pub mod Measure
+pub mod Finished
+pub mod Depths

@@ -3,11 +3,13 @@
 
 mod arithmetic;
 mod calls;
+mod depth;
 mod machine;
 mod quiet;
-mod run;
-mod turn;
-mod writing;
 pub mod stop;
+mod turn;
+mod whole;
+mod writing;
 
 pub use stop::{Ran, Stop};
+pub use whole::run;

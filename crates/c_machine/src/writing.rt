@@ -12,8 +12,8 @@ use crate::stop::Stop;
 use c_lower::Instr;
 use ea_ports::{Buffer, Sink, SinkFault};
 
-// How a run ends where the sink refuses.
-fn refused(fault: SinkFault) -> Stop
+/// How a run ends where the sink refuses.
+pub fn refused(fault: SinkFault) -> Stop
     ensures { result ≡ stop_of fault }
 {
     match fault {
@@ -50,12 +50,7 @@ impl Machine {
 
     /// `PutChar`
     #[inline(never)]
-    pub fn put_char<O: Sink>(
-        &mut self,
-        waiting: &mut Buffer,
-        out: &mut O,
-        stop: &mut Stop,
-    ) -> bool
+    pub fn put_char<O: Sink>(&mut self, waiting: &mut Buffer, out: &mut O, stop: &mut Stop) -> bool
         requires fit { IsFit self.old.cursor self.old }
         requires place { self.old.cursor.place < 2 ^ 63 }
         ensures { (es : List entry.Entry) → Acts es Instr.PutChar self.old.cursor self.old self.new.cursor self.new (port_of (O.told out.old) waiting.old (O.faults out.old)) (port_of (O.told out.new) waiting.new (O.faults out.new)) (ended_by result stop.new) }

@@ -22,8 +22,8 @@ returns-in-Ok g c es =
     writes_by es instr.PutChar m.cursor m (c.low_byte-byte.result ∷ []) _ _ (pos (byte_of z) ∷ below) _ _ refl
     (λ input next. char_written (machine_of m.cursor m input) next es z c.low_byte-byte.result below c.in-Some.ensures.top byte)
     (goes_after m.cursor c.pop.new.self m _ _ (pos (byte_of z) ∷ below) c.in-Some.ensures.others
-      (goes_kept c.pop.new.self m c.give.new.self c.give.new.machine (pos (byte_of z) ∷ below) _
-        (goes_with c.pop.new.self m _ _ c.from.result (pos (byte_of z)) below ff (c.from.ensures ∙ ap pos byte) c.give.ensures)))
+    (goes_kept c.pop.new.self m c.give.new.self c.give.new.machine (pos (byte_of z) ∷ below) _
+    (goes_with c.pop.new.self m _ _ c.from.result (pos (byte_of z)) below ff (c.from.ensures ∙ ap pos byte) c.give.ensures)))
     c.in-Ok.ensures
 
 pub returns-in-Err : goal.returns-in-Err
