@@ -12,7 +12,7 @@ use Rattle.c_lower.specs.declared.code.Instr.{Instr}
 use Rattle.c_lower.specs.declared.code.Instr.TheVariants as instr
 use Rattle.c_lower.specs.Code.{is_short, expression_code, OpenLabel, behind_label, goto_code, result_code, returned_code, choice_code, loop_code, statement_code, statements_code, function_code, functions_code, entry_at, entries_from, entry_named}
 use Rattle.c_lower.specs.Sound.{operands_behind, target, IsEmptyAt, IsSound}
-use Rattle.c_lower.proofs.Placed.{HasAt, has_front, has_back, has_join, has_behind}
+use Rattle.c_lower.proofs.Placed.{length_choice, length_loop, HasAt, has_front, has_back, has_join, has_behind}
 use Rattle.c_lower.proofs.Operands.{Leads, leads_on, test_leads, statement_leads, statements_lead, function_leads, functions_lead}
 
 -- ---- instructions that don't jump
@@ -31,7 +31,8 @@ stay_on (i ∷ a) b g h = (g.0, stay_on a b g.1 h)
 stay_then : (a : List Instr) (i : Instr) → AllStay a → Stays i → AllStay (a ++ i ∷ [])
 stay_then a i g h = stay_on a (i ∷ []) g (h, tt)
 
-constant_stays : (z : ℤ) (b : Bool) → AllStay (if b then instr.Push z ∷ [] else (instr.Push (floor_quotient z (2 ^ 64)) ∷ instr.Extend (unsigned_abs (int_rem_euclid z (pos (2 ^ 64)))) ∷ []))
+constant_stays : (z : ℤ) (b : Bool)
+    → AllStay (if b then instr.Push z ∷ [] else (instr.Push (floor_quotient z (2 ^ 64)) ∷ instr.Extend (unsigned_abs (int_rem_euclid z (pos (2 ^ 64)))) ∷ []))
 constant_stays z true = ((λ p. refl), tt)
 constant_stays z false = ((λ p. refl), ((λ p. refl), tt))
 
@@ -121,12 +122,18 @@ module _ (code : List Instr) where
   stays_fit p [] s = tt
   stays_fit p (i ∷ is) s = (stay_fits p i s.0, stays_fit (p + 1) is s.1)
 
-  jump_fits : (p to : ℕ) (i : Instr) → target p i ≡ Some to → to < length code → Empty to → Empty (p + 1) → ((n : ℕ) → i ≡ instr.GoBack n → slice_get code (p - n) ≡ Some instr.Step) → Fits p i
+  jump_fits : (p to : ℕ) (i : Instr) → target p i ≡ Some to → to < length code → Empty to → Empty (p + 1)
+      → ((n : ℕ) → i ≡ instr.GoBack n → slice_get code (p - n) ≡ Some instr.Step) → Fits p i
   jump_fits p to i t inside empty behind back = record {
     jumps = λ q e. let same : to ≡ q = cc in subst (IsEmptyAt code) same (record { inside = inside; empty = empty });
     behind = λ q e. behind;
     back = back;
   }
+
+  -- a jump back to a step
+  back_to : (at back step : ℕ) → at - back ≡ step → slice_get code step ≡ Some instr.Step
+      → (n : ℕ) → instr.GoBack back ≡ instr.GoBack n → slice_get code (at - n) ≡ Some instr.Step
+  back_to at back step e h n q = let same : back ≡ n = cc in ap (λ k. slice_get code (at - k)) (sym same) ∙ ap (slice_get code) e ∙ h
 
   -- ---- labels
 
@@ -139,7 +146,8 @@ module _ (code : List Instr) where
   ends_more [] m n le h = tt
   ends_more (o ∷ os) m n le h = (le_trans h.0 le, h.1, h.2, ends_more os m n le h.3)
 
-  ends_last : (os : List OpenLabel) (l : List ℕ) (n : ℕ) → 2 ≤ n → Empty (length code - n) → OpenEnds os n → OpenEnds (os ++ record { label = l; behind = n } ∷ []) n
+  ends_last : (os : List OpenLabel) (l : List ℕ) (n : ℕ) → 2 ≤ n → Empty (length code - n) → OpenEnds os n
+      → OpenEnds (os ++ record { label = l; behind = n } ∷ []) n
   ends_last [] l n two e h = (omega arith, two, e, tt)
   ends_last (o ∷ os) l n two e h = (h.0, h.1, h.2, ends_last os l n two e h.3)
 
@@ -159,18 +167,27 @@ module _ (code : List Instr) where
   label_ends : (os : List OpenLabel) (l : List ℕ) (n : ℕ) → OpenEnds os n → EndsAt (behind_label os l) n
   label_ends [] l n h = tt
   label_ends (o ∷ os) l n h =
-      or_ends (behind_label os l) (if bytes_eq o.label l then Some o.behind else None) n (label_ends os l n h.3) (if_ends (bytes_eq o.label l) o.behind n (h.0, h.1, h.2))
+      or_ends (behind_label os l) (if bytes_eq o.label l then Some o.behind else None) n (label_ends os l n h.3)
+      (if_ends (bytes_eq o.label l) o.behind n (h.0, h.1, h.2))
 
   -- ---- statements
 
-  goto_fits : (p : ℕ) (o : Option ℕ) (behind : ℕ) → Empty p → EndsAt o behind → p + length (goto_code o behind) + behind ≡ length code → HasAt code p (goto_code o behind) → AllFit p (goto_code o behind)
+  goto_fits : (p : ℕ) (o : Option ℕ) (behind : ℕ) → Empty p → EndsAt o behind → p + length (goto_code o behind) + behind ≡ length code
+      → HasAt code p (goto_code o behind) → AllFit p (goto_code o behind)
   goto_fits p None behind e h n has = (stay_fits p instr.Fail (λ p. refl), tt)
   goto_fits p (Some a) behind e h n has =
       let to : p + 1 + (behind - a) ≡ length code - a = omega (arith, h.0) in
-      let inside : length code - a < length code = omega (arith, h.1) in
-      (jump_fits p (length code - a) (instr.GoOn (behind - a)) (ap Some to) inside h.2 (empty_on p (instr.GoOn (behind - a) ∷ []) e has refl) (λ m q. absurd (cc q)), tt)
+      let inside : length code - a < length code = omega (arith, h.1) in (
+        jump_fits p (length code - a) (instr.GoOn (behind - a)) (ap Some to) inside h.2 (empty_on p (instr.GoOn (behind - a) ∷ []) e has refl)
+            (λ m q. absurd (cc q)),
+        tt,
+      )
 
-  choice_fits : (p : ℕ) (e : MonExpression) (ca cb : List Instr) → Empty p → HasAt code p (choice_code (expression_code e) ca cb) → p + length (choice_code (expression_code e) ca cb) < length code → Leads 0 ca 0 → Leads 0 cb 0 → (Empty (p + length (expression_code e) + 1) → AllFit (p + length (expression_code e) + 1) ca) → (Empty (p + length (expression_code e) + 1 + length ca + 1) → AllFit (p + length (expression_code e) + 1 + length ca + 1) cb) → AllFit p (choice_code (expression_code e) ca cb)
+  choice_fits : (p : ℕ) (e : MonExpression) (ca cb : List Instr) → Empty p → HasAt code p (choice_code (expression_code e) ca cb)
+      → p + length (choice_code (expression_code e) ca cb) < length code → Leads 0 ca 0 → Leads 0 cb 0
+      → (Empty (p + length (expression_code e) + 1) → AllFit (p + length (expression_code e) + 1) ca)
+      → (Empty (p + length (expression_code e) + 1 + length ca + 1) → AllFit (p + length (expression_code e) + 1 + length ca + 1) cb)
+      → AllFit p (choice_code (expression_code e) ca cb)
   choice_fits p e ca cb empty has inside la lb fa fb =
       let ce = expression_code e in
       let skip = instr.SkipIfZero (length ca + 1) in
@@ -179,7 +196,7 @@ module _ (code : List Instr) where
       let g = s + 1 + length ca in
       let h1 = has_back code p ce _ has in
       let h2 = has_back code (s + 1) ca _ h1.1 in
-      let all : length (choice_code ce ca cb) ≡ length ce + (1 + (length ca + (1 + length cb))) = omega (arith, length-append ce (skip ∷ (ca ++ pass ∷ cb)), length-append ca (pass ∷ cb)) in
+      let all = length_choice ce ca cb in
       let test = empty_on p (ce ++ skip ∷ []) empty (has_join code p ce (skip ∷ []) (has_front code p ce _ has) (h1.0, tt)) (test_leads e (length ca + 1)) in
       let at1 : p + length (ce ++ skip ∷ []) ≡ s + 1 = omega (arith, length-append ce (skip ∷ [])) in
       let e1 = subst Empty at1 test in
@@ -189,36 +206,47 @@ module _ (code : List Instr) where
       let to : s + 1 + (length ca + 1) ≡ g + 1 = omega arith in
       let inside1 : g + 1 < length code = omega (arith, all, inside) in
       let inside2 : g + 1 + length cb < length code = omega (arith, all, inside) in
-      fit_on p ce _ (stays_fit p ce (expression_stays e)) (jump_fits s (g + 1) skip (ap Some to) inside1 e3 e1 (λ m q. absurd (cc q)), fit_on (s + 1) ca _ (fa e1) (jump_fits g (g + 1 + length cb) pass refl inside2 e4 e3 (λ m q. absurd (cc q)), fb e3))
+      fit_on p ce _ (stays_fit p ce (expression_stays e)) (
+        jump_fits s (g + 1) skip (ap Some to) inside1 e3 e1 (λ m q. absurd (cc q)),
+        fit_on (s + 1) ca _ (fa e1)
+            (jump_fits g (g + 1 + length cb) pass refl inside2 e4 e3 (λ m q. absurd (cc q)), fb e3),
+      )
 
-  loop_fits : (p : ℕ) (ca cb : List Instr) → Empty p → HasAt code p (loop_code ca cb) → p + length (loop_code ca cb) < length code → Leads 0 ca 0 → Leads 0 cb 0 → (Empty (p + 1 + 1 + length cb) → AllFit (p + 1 + 1 + length cb) ca) → (Empty (p + 1 + 1) → AllFit (p + 1 + 1) cb) → AllFit p (loop_code ca cb)
+  loop_fits : (p : ℕ) (ca cb : List Instr) → Empty p → HasAt code p (loop_code ca cb) → p + length (loop_code ca cb) < length code → Leads 0 ca 0
+      → Leads 0 cb 0 → (Empty (p + 1 + 1 + length cb) → AllFit (p + 1 + 1 + length cb) ca) → (Empty (p + 1 + 1) → AllFit (p + 1 + 1) cb)
+      → AllFit p (loop_code ca cb)
   loop_fits p ca cb empty has inside la lb fa fb =
       let back = length cb + length ca + 1 in
       let first = instr.GoOn (length cb + 1) in
       let turn = instr.GoBack back in
-      let P = p + 1 + 1 + length cb in
-      let B = P + length ca in
+      let before_at = p + 1 + 1 + length cb in
+      let back_at = before_at + length ca in
       let h1 = has_back code (p + 1 + 1) cb _ has.1.1 in
-      let h2 = has_back code P ca _ h1 in
-      let all : length (loop_code ca cb) ≡ 1 + (1 + (length cb + (length ca + 1))) = omega (arith, length-append cb (ca ++ turn ∷ []), length-append ca (turn ∷ [])) in
+      let h2 = has_back code before_at ca _ h1 in
+      let all = length_loop ca cb in
       let e1 = empty_on p (first ∷ []) empty (has.0, tt) refl in
       let e2 = empty_on (p + 1) (instr.Step ∷ []) e1 (has.1.0, tt) refl in
       let e3 = empty_on (p + 1 + 1) cb e2 (has_front code (p + 1 + 1) cb _ has.1.1) lb in
-      let e4 = empty_on P ca e3 (has_front code P ca _ h1) la in
-      let e5 = empty_on B (turn ∷ []) e4 (h2.0, tt) refl in
-      let to1 : p + 1 + (length cb + 1) ≡ P = omega arith in
-      let to2 : B - back ≡ p + 1 = omega arith in
-      let inside1 : P < length code = omega (arith, all, inside) in
+      let e4 = empty_on before_at ca e3 (has_front code before_at ca _ h1) la in
+      let e5 = empty_on back_at (turn ∷ []) e4 (h2.0, tt) refl in
+      let to1 : p + 1 + (length cb + 1) ≡ before_at = omega arith in
+      let to2 : back_at - back ≡ p + 1 = omega arith in
+      let inside1 : before_at < length code = omega (arith, all, inside) in
       let inside2 : p + 1 < length code = omega (arith, all, inside) in
-      let step = λ (m : ℕ) (q : turn ≡ instr.GoBack m). let same : back ≡ m = cc in let at : B - m ≡ p + 1 = omega (arith, same) in ap (slice_get code) at ∙ has.1.0 in
-      (jump_fits p P first (ap Some to1) inside1 e3 e1 (λ m q. absurd (cc q)), (stay_fits (p + 1) instr.Step (λ q. refl), fit_on (p + 1 + 1) cb _ (fb e2) (fit_on P ca _ (fa e3) (jump_fits B (p + 1) turn (ap Some to2) inside2 e1 e5 step, tt))))
+      let turns = jump_fits back_at (p + 1) turn (ap Some to2) inside2 e1 e5 (back_to back_at back (p + 1) to2 has.1.0) in
+      let step = stay_fits (p + 1) instr.Step (λ q. refl) in
+      let before = fit_on before_at ca (turn ∷ []) (fa e3) (turns, tt) in
+      let rest = fit_on (p + 1 + 1) cb (ca ++ turn ∷ []) (fb e2) before in
+      (jump_fits p before_at first (ap Some to1) inside1 e3 e1 (λ m q. absurd (cc q)), (step, rest))
 
   mutual
-    statement_fits : (a : MonStatement) (p behind : ℕ) (ls : List OpenLabel) → Empty p → 2 ≤ behind → OpenEnds ls behind → p + length (statement_code a behind ls) + behind ≡ length code → HasAt code p (statement_code a behind ls) → AllFit p (statement_code a behind ls)
+    statement_fits : (a : MonStatement) (p behind : ℕ) (ls : List OpenLabel) → Empty p → 2 ≤ behind → OpenEnds ls behind
+        → p + length (statement_code a behind ls) + behind ≡ length code → HasAt code p (statement_code a behind ls) → AllFit p (statement_code a behind ls)
     statement_fits (Set r e) p behind ls em two w n has = stays_fit p _ (stay_then (expression_code e) (instr.Put r) (expression_stays e) (λ q. refl))
     statement_fits Step p behind ls em two w n has = (stay_fits p instr.Step (λ q. refl), tt)
     statement_fits (Assert d v number line kind) p behind ls em two w n has =
-        stays_fit p _ (stay_on (expression_code d) _ (expression_stays d) (stay_then (expression_code v) (instr.Assert number line kind) (expression_stays v) (λ q. refl)))
+        stays_fit p _ (stay_on (expression_code d) _ (expression_stays d)
+        (stay_then (expression_code v) (instr.Assert number line kind) (expression_stays v) (λ q. refl)))
     statement_fits (PutChar r e) p behind ls em two w n has =
         stays_fit p _ (stay_on (expression_code e) (instr.PutChar ∷ (result_code r ∷ [])) (expression_stays e) ((λ q. refl), result_stays r))
     statement_fits (Exit e) p behind ls em two w n has = stays_fit p _ (stay_then (expression_code e) instr.Exit (expression_stays e) (λ q. refl))
@@ -233,20 +261,27 @@ module _ (code : List Instr) where
         let ce = expression_code e in
         let h1 = has_back code p ce _ has in
         let h2 = has_back code (p + length ce + 1) ca _ h1.1 in
-        let all : length (choice_code ce ca cb) ≡ length ce + (1 + (length ca + (1 + length cb))) = omega (arith, length-append ce (instr.SkipIfZero (length ca + 1) ∷ (ca ++ instr.GoOn (length cb) ∷ cb)), length-append ca (instr.GoOn (length cb) ∷ cb)) in
+        let all = length_choice ce ca cb in
         let na : p + length ce + 1 + length ca + (1 + length cb + behind) ≡ length code = omega (arith, all, n) in
         let nb : p + length ce + 1 + length ca + 1 + length cb + behind ≡ length code = omega (arith, all, n) in
-        choice_fits p e ca cb em has (omega (arith, n, two)) (statements_lead a (1 + length cb + behind) ls) (statements_lead b behind ls) (λ e1. statements_fit a (p + length ce + 1) (1 + length cb + behind) ls e1 (omega (arith, two)) (ends_more ls behind (1 + length cb + behind) (omega arith) w) na (has_front code _ ca _ h1.1)) (λ e3. statements_fit b (p + length ce + 1 + length ca + 1) behind ls e3 two w nb h2.1)
+        choice_fits p e ca cb em has (omega (arith, n, two)) (statements_lead a (1 + length cb + behind) ls) (statements_lead b behind ls)
+        (λ e1. statements_fit a (p + length ce + 1) (1 + length cb + behind) ls e1 (omega (arith, two))
+        (ends_more ls behind (1 + length cb + behind) (omega arith) w) na (has_front code _ ca _ h1.1))
+        (λ e3. statements_fit b (p + length ce + 1 + length ca + 1) behind ls e3 two w nb h2.1)
     statement_fits (Loop a b) p behind ls em two w n has =
         let ca = statements_code a (1 + behind) ls in
         let cb = statements_code b (length ca + 1 + behind) ls in
         let turn = instr.GoBack (length cb + length ca + 1) in
-        let P = p + 1 + 1 + length cb in
+        let before_at = p + 1 + 1 + length cb in
         let h1 = has_back code (p + 1 + 1) cb _ has.1.1 in
-        let all : length (loop_code ca cb) ≡ 1 + (1 + (length cb + (length ca + 1))) = omega (arith, length-append cb (ca ++ turn ∷ []), length-append ca (turn ∷ [])) in
-        let na : P + length ca + (1 + behind) ≡ length code = omega (arith, all, n) in
+        let all = length_loop ca cb in
+        let na : before_at + length ca + (1 + behind) ≡ length code = omega (arith, all, n) in
         let nb : p + 1 + 1 + length cb + (length ca + 1 + behind) ≡ length code = omega (arith, all, n) in
-        loop_fits p ca cb em has (omega (arith, n, two)) (statements_lead a (1 + behind) ls) (statements_lead b (length ca + 1 + behind) ls) (λ e3. statements_fit a P (1 + behind) ls e3 (omega (arith, two)) (ends_more ls behind (1 + behind) (omega arith) w) na (has_front code P ca _ h1)) (λ e2. statements_fit b (p + 1 + 1) (length ca + 1 + behind) ls e2 (omega (arith, two)) (ends_more ls behind (length ca + 1 + behind) (omega arith) w) nb (has_front code (p + 1 + 1) cb _ has.1.1))
+        loop_fits p ca cb em has (omega (arith, n, two)) (statements_lead a (1 + behind) ls) (statements_lead b (length ca + 1 + behind) ls)
+        (λ e3. statements_fit a before_at (1 + behind) ls e3 (omega (arith, two)) (ends_more ls behind (1 + behind) (omega arith) w) na
+        (has_front code before_at ca _ h1))
+        (λ e2. statements_fit b (p + 1 + 1) (length ca + 1 + behind) ls e2 (omega (arith, two))
+        (ends_more ls behind (length ca + 1 + behind) (omega arith) w) nb (has_front code (p + 1 + 1) cb _ has.1.1))
     statement_fits (Labelled a l) p behind ls em two w n has =
         let ls' = ls ++ record { label = l; behind = behind } ∷ [] in
         let end : p + length (statements_code a behind ls') ≡ length code - behind = omega (arith, n) in
@@ -255,7 +290,8 @@ module _ (code : List Instr) where
     statement_fits (Goto l) p behind ls em two w n has = goto_fits p (behind_label ls l) behind em (label_ends ls l behind w) n has
     statement_fits (Return e) p behind ls em two w n has = stays_fit p _ (stay_then (returned_code e) instr.Return (returned_stays e) (λ q. refl))
 
-    statements_fit : (a : MonStatements) (p behind : ℕ) (ls : List OpenLabel) → Empty p → 2 ≤ behind → OpenEnds ls behind → p + length (statements_code a behind ls) + behind ≡ length code → HasAt code p (statements_code a behind ls) → AllFit p (statements_code a behind ls)
+    statements_fit : (a : MonStatements) (p behind : ℕ) (ls : List OpenLabel) → Empty p → 2 ≤ behind → OpenEnds ls behind
+        → p + length (statements_code a behind ls) + behind ≡ length code → HasAt code p (statements_code a behind ls) → AllFit p (statements_code a behind ls)
     statements_fit NoStatement p behind ls em two w n has = tt
     statements_fit (Then a rest) p behind ls em two w n has =
         let cr = statements_code rest behind ls in
@@ -264,67 +300,91 @@ module _ (code : List Instr) where
         let na : p + length ca + (length cr + behind) ≡ length code = omega (arith, len, n) in
         let nr : p + length ca + length cr + behind ≡ length code = omega (arith, len, n) in
         let ha = has_front code p ca cr has in
-        fit_on p ca cr (statement_fits a p (length cr + behind) ls em (omega (arith, two)) (ends_more ls behind (length cr + behind) (omega arith) w) na ha) (statements_fit rest (p + length ca) behind ls (empty_on p ca em ha (statement_leads a (length cr + behind) ls)) two w nr (has_back code p ca cr has))
+        fit_on p ca cr (statement_fits a p (length cr + behind) ls em (omega (arith, two)) (ends_more ls behind (length cr + behind) (omega arith) w) na ha)
+        (statements_fit rest (p + length ca) behind ls (empty_on p ca em ha (statement_leads a (length cr + behind) ls)) two w nr
+        (has_back code p ca cr has))
 
   -- ---- functions
 
-  function_fits : (f : MonFunction) (p behind : ℕ) → Empty p → p + length (function_code f behind) + behind ≡ length code → HasAt code p (function_code f behind) → AllFit p (function_code f behind)
+  function_fits : (f : MonFunction) (p behind : ℕ) → Empty p → p + length (function_code f behind) + behind ≡ length code
+      → HasAt code p (function_code f behind) → AllFit p (function_code f behind)
   function_fits f p behind em n has =
       let cb = statements_code f.body (2 + behind) [] in
       let end = instr.Push (pos 0) ∷ (instr.Return ∷ []) in
       let len : length (function_code f behind) ≡ length cb + 2 = length-append cb end in
-      fit_on p cb end (statements_fit f.body p (2 + behind) [] em (omega arith) tt (omega (arith, len, n)) (has_front code p cb end has)) (stays_fit (p + length cb) end ((λ q. refl), ((λ q. refl), tt)))
+      fit_on p cb end (statements_fit f.body p (2 + behind) [] em (omega arith) tt (omega (arith, len, n)) (has_front code p cb end has))
+      (stays_fit (p + length cb) end ((λ q. refl), ((λ q. refl), tt)))
 
-  functions_fit : (fs : List MonFunction) (p : ℕ) → Empty p → p + length (functions_code fs) ≡ length code → HasAt code p (functions_code fs) → AllFit p (functions_code fs)
+  functions_fit : (fs : List MonFunction) (p : ℕ) → Empty p → p + length (functions_code fs) ≡ length code → HasAt code p (functions_code fs)
+      → AllFit p (functions_code fs)
   functions_fit [] p em n has = tt
   functions_fit (f ∷ fs) p em n has =
       let cr = functions_code fs in
       let cf = function_code f (length cr) in
       let len = length-append cf cr in
       let hf = has_front code p cf cr has in
-      fit_on p cf cr (function_fits f p (length cr) em (omega (arith, len, n)) hf) (functions_fit fs (p + length cf) (empty_on p cf em hf (function_leads f (length cr))) (omega (arith, len, n)) (has_back code p cf cr has))
+      fit_on p cf cr (function_fits f p (length cr) em (omega (arith, len, n)) hf)
+      (functions_fit fs (p + length cf) (empty_on p cf em hf (function_leads f (length cr))) (omega (arith, len, n)) (has_back code p cf cr has))
 
   -- a function begins inside the code
   start_empty : (f : MonFunction) (fs : List MonFunction) (p : ℕ) → Empty p → p + length (functions_code (f ∷ fs)) ≡ length code → IsEmptyAt code p
   start_empty f fs p em n =
       let cb = statements_code f.body (2 + length (functions_code fs)) [] in
       record {
-        inside = omega (arith, n, length-append (function_code f (length (functions_code fs))) (functions_code fs), length-append cb (instr.Push (pos 0) ∷ (instr.Return ∷ [])));
+        inside = omega (
+          arith,
+          n,
+          length-append (function_code f (length (functions_code fs))) (functions_code fs),
+          length-append cb
+              (instr.Push (pos 0) ∷ (instr.Return ∷ [])),
+        );
         empty = em;
       }
 
-  starts_empty : (fs : List MonFunction) (p : ℕ) → Empty p → p + length (functions_code fs) ≡ length code → HasAt code p (functions_code fs) → (k : ℕ) → IfSome (slice_get (entries_from p fs) k) (λ e. IsEmptyAt code e.start)
+  starts_empty : (fs : List MonFunction) (p : ℕ) → Empty p → p + length (functions_code fs) ≡ length code → HasAt code p (functions_code fs) → (k : ℕ)
+      → IfSome (slice_get (entries_from p fs) k) (λ e. IsEmptyAt code e.start)
   starts_empty [] p em n has k = tt
   starts_empty (f ∷ fs) p em n has zero = start_empty f fs p em n
   starts_empty (f ∷ fs) p em n has (suc k) =
       let cr = functions_code fs in
       let cf = function_code f (length cr) in
-      starts_empty fs (p + length cf) (empty_on p cf em (has_front code p cf cr has) (function_leads f (length cr))) (omega (arith, length-append cf cr, n)) (has_back code p cf cr has) k
+      starts_empty fs (p + length cf) (empty_on p cf em (has_front code p cf cr has) (function_leads f (length cr))) (omega (arith, length-append cf cr, n))
+      (has_back code p cf cr has) k
 
-  if_empty : (b : Bool) (e : Entry) (o : Option Entry) → IsEmptyAt code e.start → IfSome o (λ d. IsEmptyAt code d.start) → IfSome (if b then Some e else o) (λ d. IsEmptyAt code d.start)
+  if_empty : (b : Bool) (e : Entry) (o : Option Entry) → IsEmptyAt code e.start → IfSome o (λ d. IsEmptyAt code d.start)
+      → IfSome (if b then Some e else o) (λ d. IsEmptyAt code d.start)
   if_empty true e o h k = h
   if_empty false e o h k = k
 
-  named_empty : (name : List ℕ) (fs : List MonFunction) (p : ℕ) → Empty p → p + length (functions_code fs) ≡ length code → HasAt code p (functions_code fs) → IfSome (entry_named name p fs) (λ e. IsEmptyAt code e.start)
+  named_empty : (name : List ℕ) (fs : List MonFunction) (p : ℕ) → Empty p → p + length (functions_code fs) ≡ length code → HasAt code p (functions_code fs)
+      → IfSome (entry_named name p fs) (λ e. IsEmptyAt code e.start)
   named_empty name [] p em n has = tt
   named_empty name (f ∷ fs) p em n has =
       let cr = functions_code fs in
       let cf = function_code f (length cr) in
-      if_empty (bytes_eq f.name name) (entry_at p f) _ (start_empty f fs p em n) (named_empty name fs (p + length cf) (empty_on p cf em (has_front code p cf cr has) (function_leads f (length cr))) (omega (arith, length-append cf cr, n)) (has_back code p cf cr has))
+      if_empty (bytes_eq f.name name) (entry_at p f) _ (start_empty f fs p em n)
+      (named_empty name fs (p + length cf) (empty_on p cf em (has_front code p cf cr has) (function_leads f (length cr)))
+      (omega (arith, length-append cf cr, n)) (has_back code p cf cr has))
 
--- the code of each program is sound
-pub is_sound : (name : List ℕ) (fs : List MonFunction) → IsSound (functions_code fs) (entries_from 0 fs) (entry_named name 0 fs)
-is_sound name fs =
-    let code = functions_code fs in
-    let has = has_behind code [] in
-    let n : 0 + length code ≡ length code = omega arith in
-    let fits = functions_fit code fs 0 refl n has in
-    let at = λ (p : ℕ) (i : Instr) (h : slice_get code p ≡ Some i). let e : 0 + p ≡ p = omega arith in subst (λ q. Fits code q i) e (fit_at code 0 code p i fits h) in
-    record {
-      operands = (0, functions_lead fs);
-      jumps = λ p i to h t. (at p i h).jumps to t;
-      behind = λ p i to h t. (at p i h).behind to t;
-      back = λ p m h. (at p (instr.GoBack m) h).back m refl;
-      starts = starts_empty code fs 0 refl n has;
-      main = named_empty code name fs 0 refl n has;
-    }
+module _ (name : List ℕ) (fs : List MonFunction) where
+  abbrev all : List Instr
+  all = functions_code fs
+
+  whole : 0 + length all ≡ length all
+  whole = omega arith
+
+  each_fits : (p : ℕ) (i : Instr) → slice_get all p ≡ Some i → Fits all p i
+  each_fits p i h =
+      let e : 0 + p ≡ p = omega arith in
+      subst (λ q. Fits all q i) e (fit_at all 0 all p i (functions_fit all fs 0 refl whole (has_behind all [])) h)
+
+  -- the code of a program is sound
+  pub is_sound : IsSound all (entries_from 0 fs) (entry_named name 0 fs)
+  is_sound = record {
+    operands = (0, functions_lead fs);
+    jumps = λ p i to h t. (each_fits p i h).jumps to t;
+    behind = λ p i to h t. (each_fits p i h).behind to t;
+    back = λ p n h. (each_fits p (instr.GoBack n) h).back n refl;
+    starts = starts_empty all fs 0 refl whole (has_behind all []);
+    main = named_empty all name fs 0 refl whole (has_behind all []);
+  }

@@ -19,7 +19,10 @@ counted-append : (n : ℕ) (a b : List Instr) → operands_behind n (a ++ b) ≡
 counted-append n [] b = refl
 counted-append n (i ∷ a) b = by (leb (operands_taken i) n) (counted-append (n - operands_taken i + operands_given i) a b)
   where
-    by : (t : Bool) → operands_behind (n - operands_taken i + operands_given i) (a ++ b) ≡ (operands_behind (n - operands_taken i + operands_given i) a >>= λ k. operands_behind k b) → (if t then operands_behind (n - operands_taken i + operands_given i) (a ++ b) else None) ≡ ((if t then operands_behind (n - operands_taken i + operands_given i) a else None) >>= λ k. operands_behind k b)
+    by : (t : Bool) → operands_behind (n - operands_taken i + operands_given i) (a ++ b)
+        ≡ (operands_behind (n - operands_taken i + operands_given i) a >>= λ k. operands_behind k b)
+        → (if t then operands_behind (n - operands_taken i + operands_given i) (a ++ b) else None)
+        ≡ ((if t then operands_behind (n - operands_taken i + operands_given i) a else None) >>= λ k. operands_behind k b)
     by true h = h
     by false h = refl
 
@@ -31,19 +34,24 @@ pub leads_by : (i : Instr) (n m : ℕ) → operands_taken i ≤ n → n - operan
 leads_by i n m le e = ap (λ t. if t then Some (n - operands_taken i + operands_given i) else None) (le-leb (operands_taken i) n le) ∙ ap Some e
 
 -- an expression's code and then an instruction
-leads_then : (a : List Instr) (i : Instr) (n k m : ℕ) → Leads n a k → operands_taken i ≤ k → k - operands_taken i + operands_given i ≡ m → Leads n (a ++ i ∷ []) m
+leads_then : (a : List Instr) (i : Instr) (n k m : ℕ) → Leads n a k → operands_taken i ≤ k → k - operands_taken i + operands_given i ≡ m
+    → Leads n (a ++ i ∷ []) m
 leads_then a i n k m h le e = leads_on n k m a (i ∷ []) h (leads_by i k m le e)
 
-constant_leads : (z : ℤ) (n : ℕ) (b : Bool) → Leads n (if b then instr.Push z ∷ [] else (instr.Push (floor_quotient z (2 ^ 64)) ∷ instr.Extend (unsigned_abs (int_rem_euclid z (pos (2 ^ 64)))) ∷ [])) (suc n)
+constant_leads : (z : ℤ) (n : ℕ) (b : Bool)
+    → Leads n (if b then instr.Push z ∷ []
+    else (instr.Push (floor_quotient z (2 ^ 64)) ∷ instr.Extend (unsigned_abs (int_rem_euclid z (pos (2 ^ 64)))) ∷ [])) (suc n)
 constant_leads z n true = leads_by (instr.Push z) n (suc n) (omega arith) (omega arith)
 constant_leads z n false =
-    leads_then (instr.Push (floor_quotient z (2 ^ 64)) ∷ []) (instr.Extend (unsigned_abs (int_rem_euclid z (pos (2 ^ 64))))) n (suc n) (suc n) (leads_by (instr.Push (floor_quotient z (2 ^ 64))) n (suc n) (omega arith) (omega arith)) (omega arith) (omega arith)
+    leads_then (instr.Push (floor_quotient z (2 ^ 64)) ∷ []) (instr.Extend (unsigned_abs (int_rem_euclid z (pos (2 ^ 64))))) n (suc n) (suc n)
+    (leads_by (instr.Push (floor_quotient z (2 ^ 64))) n (suc n) (omega arith) (omega arith)) (omega arith) (omega arith)
 
 pub expression_leads : (e : MonExpression) (n : ℕ) → Leads n (expression_code e) (suc n)
 expression_leads (Register r) n = leads_by (instr.Get r) n (suc n) (omega arith) (omega arith)
 expression_leads (Constant t z) n = constant_leads z n (is_short z)
 expression_leads (Binary op t a b) n =
-    leads_on n (suc n) (suc n) (expression_code a) _ (expression_leads a n) (leads_then (expression_code b) (instr.Binary op t) (suc n) (suc (suc n)) (suc n) (expression_leads b (suc n)) (omega arith) (omega arith))
+    leads_on n (suc n) (suc n) (expression_code a) _ (expression_leads a n)
+    (leads_then (expression_code b) (instr.Binary op t) (suc n) (suc (suc n)) (suc n) (expression_leads b (suc n)) (omega arith) (omega arith))
 expression_leads (Minus t a) n =
     leads_then (expression_code a) (instr.Minus t) n (suc n) (suc n) (expression_leads a n) (omega arith) (omega arith)
 expression_leads (Flip t a) n =
@@ -89,16 +97,19 @@ mutual
   statement_leads (Set r e) behind ls = taking e (instr.Put r) refl refl
   statement_leads Step behind ls = refl
   statement_leads (Assert d v number line kind) behind ls =
-      leads_on 0 1 0 (expression_code d) _ (expression_leads d 0) (leads_then (expression_code v) (instr.Assert number line kind) 1 2 0 (expression_leads v 1) (omega arith) (omega arith))
+      leads_on 0 1 0 (expression_code d) _ (expression_leads d 0)
+      (leads_then (expression_code v) (instr.Assert number line kind) 1 2 0 (expression_leads v 1) (omega arith) (omega arith))
   statement_leads (PutChar r e) behind ls = leads_on 0 1 0 (expression_code e) _ (expression_leads e 0) (result_leads r)
   statement_leads (Exit e) behind ls = taking e instr.Exit refl refl
   statement_leads (PrintText bytes) behind ls = text_leads bytes
   statement_leads (PrintSigned e) behind ls = taking e instr.PutNumber refl refl
   statement_leads (PrintUnsigned e) behind ls = taking e instr.PutNumber refl refl
   statement_leads (If e a b) behind ls =
-      choice_leads e (statements_code a (1 + length (statements_code b behind ls) + behind) ls) (statements_code b behind ls) (statements_lead a _ ls) (statements_lead b behind ls)
+      choice_leads e (statements_code a (1 + length (statements_code b behind ls) + behind) ls) (statements_code b behind ls) (statements_lead a _ ls)
+      (statements_lead b behind ls)
   statement_leads (Loop a b) behind ls =
-      loop_leads (statements_code a (1 + behind) ls) (statements_code b (length (statements_code a (1 + behind) ls) + 1 + behind) ls) (statements_lead a (1 + behind) ls) (statements_lead b _ ls)
+      loop_leads (statements_code a (1 + behind) ls) (statements_code b (length (statements_code a (1 + behind) ls) + 1 + behind) ls)
+      (statements_lead a (1 + behind) ls) (statements_lead b _ ls)
   statement_leads (Labelled a l) behind ls = statements_lead a behind (ls ++ record { label = l; behind = behind } ∷ [])
   statement_leads (Goto l) behind ls = goto_leads (behind_label ls l) behind
   statement_leads (Return e) behind ls = leads_on 0 1 0 (returned_code e) (instr.Return ∷ []) (returned_leads e) refl
@@ -106,10 +117,12 @@ mutual
   pub statements_lead : (a : MonStatements) (behind : ℕ) (ls : List OpenLabel) → Leads 0 (statements_code a behind ls) 0
   statements_lead NoStatement behind ls = refl
   statements_lead (Then a rest) behind ls =
-      plain_on (statement_code a (length (statements_code rest behind ls) + behind) ls) (statements_code rest behind ls) (statement_leads a _ ls) (statements_lead rest behind ls)
+      plain_on (statement_code a (length (statements_code rest behind ls) + behind) ls) (statements_code rest behind ls) (statement_leads a _ ls)
+      (statements_lead rest behind ls)
 
 pub function_leads : (f : MonFunction) (behind : ℕ) → Leads 0 (function_code f behind) 0
-function_leads f behind = plain_on (statements_code f.body (2 + behind) []) (instr.Push (pos 0) ∷ (instr.Return ∷ [])) (statements_lead f.body (2 + behind) []) refl
+function_leads f behind = plain_on (statements_code f.body (2 + behind) []) (instr.Push (pos 0) ∷ (instr.Return ∷ []))
+    (statements_lead f.body (2 + behind) []) refl
 
 pub functions_lead : (fs : List MonFunction) → Leads 0 (functions_code fs) 0
 functions_lead [] = refl

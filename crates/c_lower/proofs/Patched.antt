@@ -11,7 +11,8 @@ turned a b x =
     ∙ ap (λ l. l ++ reverse a) (reverse-append (x ∷ []) b)
     ∙ append_assoc (reverse b) (x ∷ []) (reverse a)
 
-pub patched : (items front back : List Instr) (x i : Instr) (n : ℕ) → reverse items ≡ front ++ x ∷ back → n ≡ length back → reverse (slice_set items n i) ≡ front ++ i ∷ back
+pub patched : (items front back : List Instr) (x i : Instr) (n : ℕ) → reverse items ≡ front ++ x ∷ back → n ≡ length back
+    → reverse (slice_set items n i) ≡ front ++ i ∷ back
 patched items front back x i n e m =
     let was : items ≡ reverse back ++ x ∷ reverse front = sym (reverse-reverse items) ∙ ap reverse e ∙ turned front back x in
     let at : n ≡ length (reverse back) = m ∙ sym (length-reverse back) in

@@ -12,7 +12,8 @@ use Rattle.mon_syntax.specs.Memory.{Memory}
 use Rattle.mon_syntax.specs.Meaning.{function_named}
 use Rattle.c_lower.specs.declared.code.Entry.{Entry}
 use Rattle.c_lower.specs.declared.code.Instr.{Instr}
-use Rattle.c_lower.specs.Code.{OpenLabel, behind_label, function_code, functions_code, entry_at, entry_named}
+use Rattle.c_lower.specs.declared.code.Instr.TheVariants as instr
+use Rattle.c_lower.specs.Code.{choice_code, loop_code, OpenLabel, behind_label, function_code, functions_code, entry_at, entry_named}
 
 -- ---- instructions
 
@@ -48,6 +49,22 @@ has_behind (i ∷ is) front =
     let rest' = subst (λ l. HasAt l (length (front ++ i ∷ [])) is) (append_assoc front (i ∷ []) is) rest in
     (here, subst (λ m. HasAt (front ++ i ∷ is) m is) n rest')
 
+-- ---- lengths
+
+pub length_two : (a b : List Instr) (i : Instr) → length (a ++ (b ++ i ∷ [])) ≡ length a + length b + 1
+length_two a b i = omega (arith, length-append a (b ++ i ∷ []), length-append b (i ∷ []))
+
+pub length_choice : (test first second : List Instr)
+    → length (choice_code test first second) ≡ length test + (1 + (length first + (1 + length second)))
+length_choice test first second =
+    let rest = first ++ instr.GoOn (length second) ∷ second in
+    omega (arith, length-append test (instr.SkipIfZero (length first + 1) ∷ rest), length-append first (instr.GoOn (length second) ∷ second))
+
+pub length_loop : (before behind : List Instr) → length (loop_code before behind) ≡ 1 + (1 + (length behind + (length before + 1)))
+length_loop before behind =
+    let turn = instr.GoBack (length behind + length before + 1) in
+    omega (arith, length-append behind (before ++ turn ∷ []), length-append before (turn ∷ []))
+
 -- ---- functions
 
 -- the function's code stands where its entry says
@@ -58,16 +75,19 @@ FunctionAt code (Some f) None = ⊥
 FunctionAt code (Some f) (Some e) =
     (e.registers ≡ length f.parameters + length f.registers) × (behind : ℕ) × HasAt code e.start (function_code f behind)
 
-choice_at : (b : Bool) (code : List Instr) (f : MonFunction) (e : Entry) (g : Option MonFunction) (d : Option Entry) → FunctionAt code (Some f) (Some e) → FunctionAt code g d → FunctionAt code (if b then Some f else g) (if b then Some e else d)
+choice_at : (b : Bool) (code : List Instr) (f : MonFunction) (e : Entry) (g : Option MonFunction) (d : Option Entry) → FunctionAt code (Some f) (Some e)
+    → FunctionAt code g d → FunctionAt code (if b then Some f else g) (if b then Some e else d)
 choice_at true code f e g d h k = h
 choice_at false code f e g d h k = k
 
-pub named_at : (code : List Instr) (name : List ℕ) (fs : List MonFunction) (start : ℕ) (M : Memory) → HasAt code start (functions_code fs) → FunctionAt code (function_named M name fs) (entry_named name start fs)
+pub named_at : (code : List Instr) (name : List ℕ) (fs : List MonFunction) (start : ℕ) (M : Memory) → HasAt code start (functions_code fs)
+    → FunctionAt code (function_named M name fs) (entry_named name start fs)
 named_at code name [] start M h = tt
 named_at code name (f ∷ fs) start M h =
     let behind = length (functions_code fs) in
     let cf = function_code f behind in
-    choice_at (bytes_eq f.name name) code f (entry_at start f) _ _ (refl, behind, has_front code start cf (functions_code fs) h) (named_at code name fs (start + length cf) M (has_back code start cf (functions_code fs) h))
+    choice_at (bytes_eq f.name name) code f (entry_at start f) _ _ (refl, behind, has_front code start cf (functions_code fs) h)
+    (named_at code name fs (start + length cf) M (has_back code start cf (functions_code fs) h))
 
 -- ---- labels
 
@@ -111,16 +131,19 @@ or_none None = refl
 or_none (Some a) = refl
 
 -- the last label is the innermost
-pub label_last : (os : List OpenLabel) (l : List ℕ) (a : ℕ) (k : List ℕ) → behind_label (os ++ record { label = l; behind = a } ∷ []) k ≡ option_or (if bytes_eq l k then Some a else None) (behind_label os k)
+pub label_last : (os : List OpenLabel) (l : List ℕ) (a : ℕ) (k : List ℕ)
+    → behind_label (os ++ record { label = l; behind = a } ∷ []) k ≡ option_or (if bytes_eq l k then Some a else None) (behind_label os k)
 label_last [] l a k = sym (or_none (if bytes_eq l k then Some a else None))
 label_last (o ∷ os) l a k =
     ap (λ z. option_or z (if bytes_eq o.label k then Some o.behind else None)) (label_last os l a k)
     ∙ or_or (if bytes_eq l k then Some a else None) (behind_label os k) (if bytes_eq o.label k then Some o.behind else None)
 
-pub label_here : (os : List OpenLabel) (l : List ℕ) (a : ℕ) (k : List ℕ) → bytes_eq l k ≡ true → behind_label (os ++ record { label = l; behind = a } ∷ []) k ≡ Some a
+pub label_here : (os : List OpenLabel) (l : List ℕ) (a : ℕ) (k : List ℕ) → bytes_eq l k ≡ true
+    → behind_label (os ++ record { label = l; behind = a } ∷ []) k ≡ Some a
 label_here os l a k e = label_last os l a k ∙ ap (λ b. option_or (if b then Some a else None) (behind_label os k)) e
 
-pub label_further : (os : List OpenLabel) (l : List ℕ) (a : ℕ) (k : List ℕ) → bytes_eq l k ≡ false → behind_label (os ++ record { label = l; behind = a } ∷ []) k ≡ behind_label os k
+pub label_further : (os : List OpenLabel) (l : List ℕ) (a : ℕ) (k : List ℕ) → bytes_eq l k ≡ false
+    → behind_label (os ++ record { label = l; behind = a } ∷ []) k ≡ behind_label os k
 label_further os l a k e = label_last os l a k ∙ ap (λ b. option_or (if b then Some a else None) (behind_label os k)) e
 
 -- ---- constants

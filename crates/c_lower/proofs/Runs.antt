@@ -18,11 +18,11 @@ use Rattle.mon_syntax.specs.Meaning.{State, Result, Done, Stops, Flow, Next, Goe
 use Rattle.c_lower.specs.declared.code.Entry.{Entry}
 use Rattle.c_lower.specs.declared.code.Instr.{Instr}
 use Rattle.c_lower.specs.declared.code.Instr.TheVariants as instr
-use Rattle.c_lower.specs.Code.{is_short, expression_code, OpenLabel, behind_label, goto_code, result_code, returned_code, choice_code, loop_code, statement_code, statements_code, function_code, functions_code, entries_from, entry_named}
+use Rattle.c_lower.specs.Code.{is_short, expression_code, OpenLabel, behind_label, goto_code, result_code, returned_code, choice_code, statement_code, statements_code, function_code, functions_code, entries_from, entry_named}
 use Rattle.c_lower.specs.Machine.{Machine, Course, Over, GoesOn, puts, with_some, stepped, at_with, changed, exited, act, runs, started, begins}
 use Rattle.c_lower.specs.Lowered.{KeepsNumbers, RunsAs}
 use Rattle.c_lower.proofs.Courses.{ended}
-use Rattle.c_lower.proofs.Placed.{HasAt, has_front, has_back, has_behind, FunctionAt, named_at, Within, within_more, within_last, Below, label_below, label_last, high_and_low}
+use Rattle.c_lower.proofs.Placed.{HasAt, has_front, has_back, has_behind, FunctionAt, named_at, Within, within_more, within_last, Below, label_below, label_last, high_and_low, length_two, length_choice, length_loop}
 
 -- ---- options and courses
 
@@ -30,7 +30,8 @@ some_then : {A B : Type 0} (o : Option A) (g : A → Option B) (n : ℕ) (go : B
 some_then None g n go = refl
 some_then (Some a) g n go = refl
 
-two_then : {A B C : Type 0} (o : Option A) (p : Option B) (g : A → B → Option C) (n : ℕ) (go : C → Course) → with_some o n (λ a. with_some p n (λ b. with_some (g a b) n go)) ≡ with_some (o >>= λ a. p >>= λ b. g a b) n go
+two_then : {A B C : Type 0} (o : Option A) (p : Option B) (g : A → B → Option C) (n : ℕ) (go : C → Course)
+    → with_some o n (λ a. with_some p n (λ b. with_some (g a b) n go)) ≡ with_some (o >>= λ a. p >>= λ b. g a b) n go
 two_then None p g n go = refl
 two_then (Some a) p g n go = some_then p (g a) n go
 
@@ -88,7 +89,8 @@ module _ (M : Memory) (es : List Entry) (code : List Instr) where
   quiet_step : (c d : Moment) (i : Instr) → slice_get code c.place ≡ Some i → ((next : Moment → Course) → act M es (Some i) next c ≡ next d) → Quiet c d
   quiet_step c d i h e k = (suc k, step c i h k ∙ e (runs M es code k))
 
-  comes_step : (c d : Moment) (i : Instr) (o : List ℕ) → slice_get code c.place ≡ Some i → ((next : Moment → Course) → act M es (Some i) next c ≡ puts o (next d)) → Comes c o d
+  comes_step : (c d : Moment) (i : Instr) (o : List ℕ) → slice_get code c.place ≡ Some i
+      → ((next : Moment → Course) → act M es (Some i) next c ≡ puts o (next d)) → Comes c o d
   comes_step c d i o h e k = (suc k, step c i h k ∙ e (runs M es code k))
 
   reach_step : (c : Moment) (i : Instr) (x : Course) → slice_get code c.place ≡ Some i → ((next : Moment → Course) → act M es (Some i) next c ≡ x) → Reaches c x
@@ -129,37 +131,56 @@ module _ (M : Memory) (es : List Entry) (code : List Instr) where
   GivesOne c n (Some v) = Quiet c (at_with M c (c.place + n) (v ∷ c.stack))
 
   -- the last instruction of an expression
-  last_step : (c d : Moment) (n : ℕ) (i : Instr) (o : Option M.Val) → slice_get code d.place ≡ Some i → ((next : Moment → Course) → act M es (Some i) next d ≡ with_some o c.steps (λ v. next (at_with M c (c.place + n) (v ∷ c.stack)))) → Quiet c d → GivesOne c n o
+  last_step : (c d : Moment) (n : ℕ) (i : Instr) (o : Option M.Val) → slice_get code d.place ≡ Some i
+      → ((next : Moment → Course) → act M es (Some i) next d ≡ with_some o c.steps (λ v. next (at_with M c (c.place + n) (v ∷ c.stack)))) → Quiet c d
+      → GivesOne c n o
   last_step c d n i None h e l = quiet_reach c d (Over Fault c.steps []) l (reach_step d i (Over Fault c.steps []) h e)
   last_step c d n i (Some v) h e l =
       quiet_on c d (at_with M c (c.place + n) (v ∷ c.stack)) l (quiet_step d (at_with M c (c.place + n) (v ∷ c.stack)) i h e)
 
-  two_run : (i : Instr) (R : M.Val → M.Val → Option M.Val) (ca cb : List Instr) (oa ob : Option M.Val) (c : Moment) → ((next : Moment → Course) (p : ℕ) (x y : M.Val) (t : List M.Val) → act M es (Some i) next (at_with M c p (y ∷ x ∷ t)) ≡ with_some (R x y) c.steps (λ v. next (at_with M c (p + 1) (v ∷ t)))) → HasAt code c.place (ca ++ (cb ++ i ∷ [])) → GivesOne c (length ca) oa → ((x : M.Val) → GivesOne (at_with M c (c.place + length ca) (x ∷ c.stack)) (length cb) ob) → GivesOne c (length (ca ++ (cb ++ i ∷ []))) (oa >>= λ x. ob >>= λ y. R x y)
-  two_run i R ca cb None ob c op has ra rb = ra
-  two_run i R ca cb (Some x) None c op has ra rb =
+  two_run : (i : Instr) (value_of : M.Val → M.Val → Option M.Val) (ca cb : List Instr) (oa ob : Option M.Val) (c : Moment)
+      → ((next : Moment → Course) (p : ℕ) (x y : M.Val) (t : List M.Val)
+      → act M es (Some i) next (at_with M c p (y ∷ x ∷ t)) ≡ with_some (value_of x y) c.steps (λ v. next (at_with M c (p + 1) (v ∷ t))))
+      → HasAt code c.place (ca ++ (cb ++ i ∷ [])) → GivesOne c (length ca) oa
+      → ((x : M.Val) → GivesOne (at_with M c (c.place + length ca) (x ∷ c.stack)) (length cb) ob)
+      → GivesOne c (length (ca ++ (cb ++ i ∷ []))) (oa >>= λ x. ob >>= λ y. value_of x y)
+  two_run i value_of ca cb None ob c op has ra rb = ra
+  two_run i value_of ca cb (Some x) None c op has ra rb =
       quiet_reach c (at_with M c (c.place + length ca) (x ∷ c.stack)) (Over Fault c.steps []) ra (rb x)
-  two_run i R ca cb (Some x) (Some y) c op has ra rb =
+  two_run i value_of ca cb (Some x) (Some y) c op has ra rb =
       let c1 = at_with M c (c.place + length ca) (x ∷ c.stack) in
       let c2 = at_with M c (c.place + length ca + length cb) (y ∷ x ∷ c.stack) in
       let at = (has_back code (c.place + length ca) cb (i ∷ []) (has_back code c.place ca (cb ++ i ∷ []) has)).0 in
-      let len : c.place + length ca + length cb + 1 ≡ c.place + length (ca ++ (cb ++ i ∷ [])) = omega (arith, length-append ca (cb ++ i ∷ []), length-append cb (i ∷ [])) in
-      last_step c c2 (length (ca ++ (cb ++ i ∷ []))) i (R x y) at (λ next. op next c2.place x y c.stack ∙ ap (λ p. with_some (R x y) c.steps (λ v. next (at_with M c p (v ∷ c.stack)))) len) (quiet_on c c1 c2 ra (rb x))
+      let len : c.place + length ca + length cb + 1 ≡ c.place + length (ca ++ (cb ++ i ∷ [])) = omega (arith, length_two ca cb i) in
+      last_step c c2 (length (ca ++ (cb ++ i ∷ []))) i (value_of x y) at
+      (λ next. op next c2.place x y c.stack ∙ ap (λ p. with_some (value_of x y) c.steps (λ v. next (at_with M c p (v ∷ c.stack)))) len)
+      (quiet_on c c1 c2 ra (rb x))
 
-  one_run : (i : Instr) (R : M.Val → Option M.Val) (ca : List Instr) (oa : Option M.Val) (c : Moment) → ((next : Moment → Course) (p : ℕ) (x : M.Val) (t : List M.Val) → act M es (Some i) next (at_with M c p (x ∷ t)) ≡ with_some (R x) c.steps (λ v. next (at_with M c (p + 1) (v ∷ t)))) → HasAt code c.place (ca ++ i ∷ []) → GivesOne c (length ca) oa → GivesOne c (length (ca ++ i ∷ [])) (oa >>= R)
-  one_run i R ca None c op has ra = ra
-  one_run i R ca (Some x) c op has ra =
+  one_run : (i : Instr) (value_of : M.Val → Option M.Val) (ca : List Instr) (oa : Option M.Val) (c : Moment)
+      → ((next : Moment → Course) (p : ℕ) (x : M.Val) (t : List M.Val)
+      → act M es (Some i) next (at_with M c p (x ∷ t)) ≡ with_some (value_of x) c.steps (λ v. next (at_with M c (p + 1) (v ∷ t))))
+      → HasAt code c.place (ca ++ i ∷ []) → GivesOne c (length ca) oa → GivesOne c (length (ca ++ i ∷ [])) (oa >>= value_of)
+  one_run i value_of ca None c op has ra = ra
+  one_run i value_of ca (Some x) c op has ra =
       let c1 = at_with M c (c.place + length ca) (x ∷ c.stack) in
       let at = (has_back code c.place ca (i ∷ []) has).0 in
       let len : c.place + length ca + 1 ≡ c.place + length (ca ++ i ∷ []) = omega (arith, length-append ca (i ∷ [])) in
-      last_step c c1 (length (ca ++ i ∷ [])) i (R x) at (λ next. op next c1.place x c.stack ∙ ap (λ p. with_some (R x) c.steps (λ v. next (at_with M c p (v ∷ c.stack)))) len) ra
+      last_step c c1 (length (ca ++ i ∷ [])) i (value_of x) at
+      (λ next. op next c1.place x c.stack ∙ ap (λ p. with_some (value_of x) c.steps (λ v. next (at_with M c p (v ∷ c.stack)))) len) ra
 
   -- an operator on the topmost number
-  number_run : (i : Instr) (f : ℤ → ℤ) (ca : List Instr) (oa : Option M.Val) (c : Moment) → ((next : Moment → Course) (p : ℕ) (x : M.Val) (t : List M.Val) → act M es (Some i) next (at_with M c p (x ∷ t)) ≡ with_some (M.number_of x) c.steps (λ z. next (at_with M c (p + 1) (M.number (f z) ∷ t)))) → HasAt code c.place (ca ++ i ∷ []) → GivesOne c (length ca) oa → GivesOne c (length (ca ++ i ∷ [])) (oa >>= λ x. M.number_of x >>= λ z. Some (M.number (f z)))
+  number_run : (i : Instr) (f : ℤ → ℤ) (ca : List Instr) (oa : Option M.Val) (c : Moment)
+      → ((next : Moment → Course) (p : ℕ) (x : M.Val) (t : List M.Val)
+      → act M es (Some i) next (at_with M c p (x ∷ t)) ≡ with_some (M.number_of x) c.steps (λ z. next (at_with M c (p + 1) (M.number (f z) ∷ t))))
+      → HasAt code c.place (ca ++ i ∷ []) → GivesOne c (length ca) oa
+      → GivesOne c (length (ca ++ i ∷ [])) (oa >>= λ x. M.number_of x >>= λ z. Some (M.number (f z)))
   number_run i f ca oa c op has ra =
-      one_run i (λ x. M.number_of x >>= λ z. Some (M.number (f z))) ca oa c (λ next p x t. op next p x t ∙ some_then (M.number_of x) (λ z. Some (M.number (f z))) c.steps (λ v. next (at_with M c (p + 1) (v ∷ t)))) has ra
+      one_run i (λ x. M.number_of x >>= λ z. Some (M.number (f z))) ca oa c
+      (λ next p x t. op next p x t ∙ some_then (M.number_of x) (λ z. Some (M.number (f z))) c.steps (λ v. next (at_with M c (p + 1) (v ∷ t)))) has ra
 
   -- a number of more than 64 bits
-  wide_run : KeepsNumbers M → (c : Moment) (high : ℤ) (low : ℕ) (z : ℤ) → (high *ℤ pos (2 ^ 64)) +ℤ pos low ≡ z → HasAt code c.place (instr.Push high ∷ instr.Extend low ∷ []) → GivesOne c 2 (Some (M.number z))
+  wide_run : KeepsNumbers M → (c : Moment) (high : ℤ) (low : ℕ) (z : ℤ) → (high *ℤ pos (2 ^ 64)) +ℤ pos low ≡ z
+      → HasAt code c.place (instr.Push high ∷ instr.Extend low ∷ []) → GivesOne c 2 (Some (M.number z))
   wide_run keeps c high low z e has =
       let whole = (high *ℤ pos (2 ^ 64)) +ℤ pos low in
       let c1 = at_with M c (c.place + 1) (M.number high ∷ c.stack) in
@@ -169,31 +190,43 @@ module _ (M : Memory) (es : List Entry) (code : List Instr) where
       ∙ ap (λ y. next (at_with M c (c.place + 1 + 1) (M.number y ∷ c.stack))) e
       ∙ ap (λ p. next (at_with M c p (M.number z ∷ c.stack))) end) (quiet_step c c1 (instr.Push high) has.0 (λ next. refl))
 
-  constant_run : KeepsNumbers M → (c : Moment) (z : ℤ) (b : Bool) → HasAt code c.place (if b then instr.Push z ∷ [] else (instr.Push (floor_quotient z (2 ^ 64)) ∷ instr.Extend (unsigned_abs (int_rem_euclid z (pos (2 ^ 64)))) ∷ [])) → GivesOne c (length (if b then instr.Push z ∷ [] else (instr.Push (floor_quotient z (2 ^ 64)) ∷ instr.Extend (unsigned_abs (int_rem_euclid z (pos (2 ^ 64)))) ∷ []))) (Some (M.number z))
+  constant_run : KeepsNumbers M → (c : Moment) (z : ℤ) (b : Bool)
+      → HasAt code c.place (if b then instr.Push z ∷ []
+      else (instr.Push (floor_quotient z (2 ^ 64)) ∷ instr.Extend (unsigned_abs (int_rem_euclid z (pos (2 ^ 64)))) ∷ []))
+      → GivesOne c (length (if b then instr.Push z ∷ []
+      else (instr.Push (floor_quotient z (2 ^ 64)) ∷ instr.Extend (unsigned_abs (int_rem_euclid z (pos (2 ^ 64)))) ∷ []))) (Some (M.number z))
   constant_run keeps c z true has = last_step c c 1 (instr.Push z) (Some (M.number z)) has.0 (λ next. refl) (λ k. (k, refl))
   constant_run keeps c z false has =
       wide_run keeps c (floor_quotient z (2 ^ 64)) (unsigned_abs (int_rem_euclid z (pos (2 ^ 64)))) z (high_and_low z) has
 
-  expression_runs : KeepsNumbers M → (e : MonExpression) (c : Moment) → HasAt code c.place (expression_code e) → GivesOne c (length (expression_code e)) (eval M e c.registers)
+  expression_runs : KeepsNumbers M → (e : MonExpression) (c : Moment) → HasAt code c.place (expression_code e)
+      → GivesOne c (length (expression_code e)) (eval M e c.registers)
   expression_runs keeps (Register r) c has =
       last_step c c 1 (instr.Get r) (slice_get c.registers r) has.0 (λ next. refl) (λ k. (k, refl))
   expression_runs keeps (Constant t z) c has = constant_run keeps c z (is_short z) has
   expression_runs keeps (Binary op t a b) c has =
       let c1 = λ (x : M.Val). at_with M c (c.place + length (expression_code a)) (x ∷ c.stack) in
-      two_run (instr.Binary op t) (λ x y. M.number_of x >>= λ i. M.number_of y >>= λ j. number_or_none M (operate op t i j)) (expression_code a) (expression_code b) (eval M a c.registers) (eval M b c.registers) c (λ next p x y s. two_then (M.number_of x) (M.number_of y) (λ i j. number_or_none M (operate op t i j)) c.steps (λ v. next (at_with M c (p + 1) (v ∷ s)))) has (expression_runs keeps a c (has_front code c.place (expression_code a) _ has)) (λ x. expression_runs keeps b (c1 x) (has_front code _ (expression_code b) _ (has_back code c.place (expression_code a) _ has)))
+      two_run (instr.Binary op t) (λ x y. M.number_of x >>= λ i. M.number_of y >>= λ j. number_or_none M (operate op t i j)) (expression_code a)
+      (expression_code b) (eval M a c.registers) (eval M b c.registers) c
+      (λ next p x y s. two_then (M.number_of x) (M.number_of y) (λ i j. number_or_none M (operate op t i j)) c.steps
+      (λ v. next (at_with M c (p + 1) (v ∷ s)))) has (expression_runs keeps a c (has_front code c.place (expression_code a) _ has))
+      (λ x. expression_runs keeps b (c1 x) (has_front code _ (expression_code b) _ (has_back code c.place (expression_code a) _ has)))
   expression_runs keeps (Minus t a) c has =
-      number_run (instr.Minus t) (minus t) (expression_code a) (eval M a c.registers) c (λ next p x s. refl) has (expression_runs keeps a c (has_front code c.place (expression_code a) _ has))
+      number_run (instr.Minus t) (minus t) (expression_code a) (eval M a c.registers) c (λ next p x s. refl) has
+      (expression_runs keeps a c (has_front code c.place (expression_code a) _ has))
   expression_runs keeps (Flip t a) c has =
-      number_run (instr.Flip t) (flipped t) (expression_code a) (eval M a c.registers) c (λ next p x s. refl) has (expression_runs keeps a c (has_front code c.place (expression_code a) _ has))
+      number_run (instr.Flip t) (flipped t) (expression_code a) (eval M a c.registers) c (λ next p x s. refl) has
+      (expression_runs keeps a c (has_front code c.place (expression_code a) _ has))
   expression_runs keeps (Cast t a) c has =
-      number_run (instr.Cast t) (wrap t) (expression_code a) (eval M a c.registers) c (λ next p x s. refl) has (expression_runs keeps a c (has_front code c.place (expression_code a) _ has))
+      number_run (instr.Cast t) (wrap t) (expression_code a) (eval M a c.registers) c (λ next p x s. refl) has
+      (expression_runs keeps a c (has_front code c.place (expression_code a) _ has))
 
   -- ---- where control goes
 
-  -- a jump to a label leads there, if there is such a label; at N the code ends
+  -- a jump to a label leads there, if there is such a label; at total the code ends
   abbrev Lands : Moment → ℕ → List M.Val → State M.Mem → List ℕ → Option ℕ → Type 0
-  Lands c N r s o None = Ends c Fault s.steps o
-  Lands c N r s o (Some a) = Comes c o (came c (N - a) r s)
+  Lands c total r s o None = Ends c Fault s.steps o
+  Lands c total r s o (Some a) = Comes c o (came c (total - a) r s)
 
   abbrev value_or_zero : Option M.Val → M.Val
   value_or_zero None = M.number (pos 0)
@@ -205,103 +238,130 @@ module _ (M : Memory) (es : List Entry) (code : List Instr) where
 
   -- the machine does what the statement does: it comes to the place p, or to a label's end, or to a `Return` with the value
   abbrev Performs : Moment → ℕ → List OpenLabel → ℕ → Outcome → Type 0
-  Performs c p ls N (Done (Next r) s o) = Comes c o (came c p r s) × (s.steps ≤ c.steps)
-  Performs c p ls N (Done (Goes l r) s o) = Lands c N r s o (behind_label ls l) × (s.steps ≤ c.steps)
-  Performs c p ls N (Done (Returns v) s o) =
+  Performs c p ls total (Done (Next r) s o) = Comes c o (came c p r s) × (s.steps ≤ c.steps)
+  Performs c p ls total (Done (Goes l r) s o) = Lands c total r s o (behind_label ls l) × (s.steps ≤ c.steps)
+  Performs c p ls total (Done (Returns v) s o) =
       (q : ℕ) × (r : List M.Val) × (slice_get code q ≡ Some instr.Return) × Comes c o (valued c q (value_or_zero v) r s) × (s.steps ≤ c.steps)
-  Performs c p ls N (Stops e n o) = Ends c e n o
+  Performs c p ls total (Stops e n o) = Ends c e n o
 
-  lands_later : (c : Moment) (p1 : ℕ) (r1 : List M.Val) (s1 : State M.Mem) (N : ℕ) (r : List M.Val) (s : State M.Mem) (o p : List ℕ) (a : Option ℕ) → Comes c o (came c p1 r1 s1) → Lands (came c p1 r1 s1) N r s p a → Lands c N r s (o ++ p) a
-  lands_later c p1 r1 s1 N r s o p None l k = comes_reach c (came c p1 r1 s1) o (Over Fault s.steps p) l k
-  lands_later c p1 r1 s1 N r s o p (Some a) l k = comes_on c (came c p1 r1 s1) (came c (N - a) r s) o p l k
+  lands_later : (c : Moment) (p1 : ℕ) (r1 : List M.Val) (s1 : State M.Mem) (total : ℕ) (r : List M.Val) (s : State M.Mem) (o p : List ℕ) (a : Option ℕ)
+      → Comes c o (came c p1 r1 s1) → Lands (came c p1 r1 s1) total r s p a → Lands c total r s (o ++ p) a
+  lands_later c p1 r1 s1 total r s o p None l k = comes_reach c (came c p1 r1 s1) o (Over Fault s.steps p) l k
+  lands_later c p1 r1 s1 total r s o p (Some a) l k = comes_on c (came c p1 r1 s1) (came c (total - a) r s) o p l k
 
   -- what comes behind
-  after_comes : (c : Moment) (p1 : ℕ) (r1 : List M.Val) (s1 : State M.Mem) (o : List ℕ) (p : ℕ) (ls : List OpenLabel) (N : ℕ) (x : Outcome) → Comes c o (came c p1 r1 s1) → s1.steps ≤ c.steps → Performs (came c p1 r1 s1) p ls N x → Performs c p ls N (writes o x)
-  after_comes c p1 r1 s1 o p ls N (Done (Next r) s q) l le k =
+  after_comes : (c : Moment) (p1 : ℕ) (r1 : List M.Val) (s1 : State M.Mem) (o : List ℕ) (p : ℕ) (ls : List OpenLabel) (total : ℕ) (x : Outcome)
+      → Comes c o (came c p1 r1 s1) → s1.steps ≤ c.steps → Performs (came c p1 r1 s1) p ls total x → Performs c p ls total (writes o x)
+  after_comes c p1 r1 s1 o p ls total (Done (Next r) s q) l le k =
       (comes_on c (came c p1 r1 s1) (came c p r s) o q l k.0, le_trans k.1 le)
-  after_comes c p1 r1 s1 o p ls N (Done (Goes i r) s q) l le k =
-      (lands_later c p1 r1 s1 N r s o q (behind_label ls i) l k.0, le_trans k.1 le)
-  after_comes c p1 r1 s1 o p ls N (Done (Returns v) s q) l le k =
+  after_comes c p1 r1 s1 o p ls total (Done (Goes i r) s q) l le k =
+      (lands_later c p1 r1 s1 total r s o q (behind_label ls i) l k.0, le_trans k.1 le)
+  after_comes c p1 r1 s1 o p ls total (Done (Returns v) s q) l le k =
       (k.0, k.1, k.2, comes_on c (came c p1 r1 s1) (valued c k.0 (value_or_zero v) k.1 s) o q l k.3, le_trans k.4 le)
-  after_comes c p1 r1 s1 o p ls N (Stops e n q) l le k = comes_reach c (came c p1 r1 s1) o (Over e n q) l k
+  after_comes c p1 r1 s1 o p ls total (Stops e n q) l le k = comes_reach c (came c p1 r1 s1) o (Over e n q) l k
 
   -- the same where nothing is written
-  after_quiet : (c : Moment) (p1 : ℕ) (r1 : List M.Val) (s1 : State M.Mem) (p : ℕ) (ls : List OpenLabel) (N : ℕ) (x : Outcome) → Quiet c (came c p1 r1 s1) → s1.steps ≤ c.steps → Performs (came c p1 r1 s1) p ls N x → Performs c p ls N x
-  after_quiet c p1 r1 s1 p ls N x l le k =
-      subst (Performs c p ls N) (writes-nil x) (after_comes c p1 r1 s1 [] p ls N x (as_comes c (came c p1 r1 s1) l) le k)
+  after_quiet : (c : Moment) (p1 : ℕ) (r1 : List M.Val) (s1 : State M.Mem) (p : ℕ) (ls : List OpenLabel) (total : ℕ) (x : Outcome)
+      → Quiet c (came c p1 r1 s1) → s1.steps ≤ c.steps → Performs (came c p1 r1 s1) p ls total x → Performs c p ls total x
+  after_quiet c p1 r1 s1 p ls total x l le k =
+      subst (Performs c p ls total) (writes-nil x) (after_comes c p1 r1 s1 [] p ls total x (as_comes c (came c p1 r1 s1) l) le k)
 
   -- one statement and then another
-  seq_run : (c : Moment) (p1 p : ℕ) (ls : List OpenLabel) (N : ℕ) (x : Outcome) (go : Does M) → Performs c p1 ls N x → ((r : List M.Val) (s : State M.Mem) → s.steps ≤ c.steps → Performs (came c p1 r s) p ls N (go r s)) → Performs c p ls N (then_do x (at_next go))
-  seq_run c p1 p ls N (Done (Next r) s o) go k h = after_comes c p1 r s o p ls N (go r s) k.0 k.1 (h r s k.1)
-  seq_run c p1 p ls N (Done (Goes i r) s o) go k h =
-      subst (λ q. Performs c p ls N (Done (Goes i r) s q)) (sym (append-nil o)) k
-  seq_run c p1 p ls N (Done (Returns v) s o) go k h =
-      subst (λ q. Performs c p ls N (Done (Returns v) s q)) (sym (append-nil o)) k
-  seq_run c p1 p ls N (Stops e n o) go k h = k
+  seq_run : (c : Moment) (p1 p : ℕ) (ls : List OpenLabel) (total : ℕ) (x : Outcome) (go : Does M) → Performs c p1 ls total x
+      → ((r : List M.Val) (s : State M.Mem) → s.steps ≤ c.steps → Performs (came c p1 r s) p ls total (go r s)) → Performs c p ls total (then_do x (at_next go))
+  seq_run c p1 p ls total (Done (Next r) s o) go k h = after_comes c p1 r s o p ls total (go r s) k.0 k.1 (h r s k.1)
+  seq_run c p1 p ls total (Done (Goes i r) s o) go k h =
+      subst (λ q. Performs c p ls total (Done (Goes i r) s q)) (sym (append-nil o)) k
+  seq_run c p1 p ls total (Done (Returns v) s o) go k h =
+      subst (λ q. Performs c p ls total (Done (Returns v) s q)) (sym (append-nil o)) k
+  seq_run c p1 p ls total (Stops e n o) go k h = k
 
   -- another place at the end
-  ends_at : (c : Moment) (p q : ℕ) (ls : List OpenLabel) (N : ℕ) (x : Outcome) → p ≡ q → Performs c p ls N x → Performs c q ls N x
-  ends_at c p q ls N x e k = subst (λ n. Performs c n ls N x) e k
+  ends_at : (c : Moment) (p q : ℕ) (ls : List OpenLabel) (total : ℕ) (x : Outcome) → p ≡ q → Performs c p ls total x → Performs c q ls total x
+  ends_at c p q ls total x e k = subst (λ n. Performs c n ls total x) e k
 
   -- a jump at the end
-  next_on : (c : Moment) (p1 p : ℕ) (ls : List OpenLabel) (N : ℕ) (x : Outcome) → ((r : List M.Val) (s : State M.Mem) → Quiet (came c p1 r s) (came c p r s)) → Performs c p1 ls N x → Performs c p ls N x
-  next_on c p1 p ls N (Done (Next r) s o) j k = (comes_quiet c (came c p1 r s) (came c p r s) o k.0 (j r s), k.1)
-  next_on c p1 p ls N (Done (Goes i r) s o) j k = k
-  next_on c p1 p ls N (Done (Returns v) s o) j k = k
-  next_on c p1 p ls N (Stops e n o) j k = k
+  next_on : (c : Moment) (p1 p : ℕ) (ls : List OpenLabel) (total : ℕ) (x : Outcome)
+      → ((r : List M.Val) (s : State M.Mem) → Quiet (came c p1 r s) (came c p r s)) → Performs c p1 ls total x → Performs c p ls total x
+  next_on c p1 p ls total (Done (Next r) s o) j k = (comes_quiet c (came c p1 r s) (came c p r s) o k.0 (j r s), k.1)
+  next_on c p1 p ls total (Done (Goes i r) s o) j k = k
+  next_on c p1 p ls total (Done (Returns v) s o) j k = k
+  next_on c p1 p ls total (Stops e n o) j k = k
 
   -- ---- labels
 
-  label_choice : (b : Bool) (c : Moment) (p : ℕ) (i : List ℕ) (N behind : ℕ) (ls : List OpenLabel) (r : List M.Val) (s : State M.Mem) (o : List ℕ) → p ≡ N - behind → Lands c N r s o (option_or (if b then Some behind else None) (behind_label ls i)) → s.steps ≤ c.steps → Performs c p ls N (Done (if b then Next r else Goes i r) s o)
-  label_choice true c p i N behind ls r s o e k le = (subst (λ z. Comes c o (came c z r s)) (sym e) k, le)
-  label_choice false c p i N behind ls r s o e k le = (k, le)
+  label_choice : (b : Bool) (c : Moment) (p : ℕ) (i : List ℕ) (total behind : ℕ) (ls : List OpenLabel) (r : List M.Val) (s : State M.Mem) (o : List ℕ)
+      → p ≡ total - behind → Lands c total r s o (option_or (if b then Some behind else None) (behind_label ls i)) → s.steps ≤ c.steps
+      → Performs c p ls total (Done (if b then Next r else Goes i r) s o)
+  label_choice true c p i total behind ls r s o e k le = (subst (λ z. Comes c o (came c z r s)) (sym e) k, le)
+  label_choice false c p i total behind ls r s o e k le = (k, le)
 
-  label_ends : (b : Bool) (i : List ℕ) (r : List M.Val) (s : State M.Mem) (o : List ℕ) → writes o (if b then Done (Next r) s [] else Done (Goes i r) s []) ≡ Done (if b then Next r else Goes i r) s o
+  label_ends : (b : Bool) (i : List ℕ) (r : List M.Val) (s : State M.Mem) (o : List ℕ)
+      → writes o (if b then Done (Next r) s [] else Done (Goes i r) s []) ≡ Done (if b then Next r else Goes i r) s o
   label_ends true i r s o = ap (λ q. Done (Next r) s q) (append-nil o)
   label_ends false i r s o = ap (λ q. Done (Goes i r) s q) (append-nil o)
 
-  label_run : (c : Moment) (p : ℕ) (l : List ℕ) (N behind : ℕ) (ls : List OpenLabel) (x : Outcome) → p ≡ N - behind → Performs c p (ls ++ record { label = l; behind = behind } ∷ []) N x → Performs c p ls N (then_do x (at_label l))
-  label_run c p l N behind ls (Done (Next r) s o) e k =
-      subst (λ q. Performs c p ls N (Done (Next r) s q)) (sym (append-nil o)) k
-  label_run c p l N behind ls (Done (Goes i r) s o) e k =
-      subst (Performs c p ls N) (sym (label_ends (bytes_eq l i) i r s o)) (label_choice (bytes_eq l i) c p i N behind ls r s o e (subst (λ z. Lands c N r s o z) (label_last ls l behind i) k.0) k.1)
-  label_run c p l N behind ls (Done (Returns v) s o) e k =
-      subst (λ q. Performs c p ls N (Done (Returns v) s q)) (sym (append-nil o)) k
-  label_run c p l N behind ls (Stops e' n o) e k = k
+  label_run : (c : Moment) (p : ℕ) (l : List ℕ) (total behind : ℕ) (ls : List OpenLabel) (x : Outcome) → p ≡ total - behind
+      → Performs c p (ls ++ record { label = l; behind = behind } ∷ []) total x → Performs c p ls total (then_do x (at_label l))
+  label_run c p l total behind ls (Done (Next r) s o) e k =
+      subst (λ q. Performs c p ls total (Done (Next r) s q)) (sym (append-nil o)) k
+  label_run c p l total behind ls (Done (Goes i r) s o) e k =
+      subst (Performs c p ls total) (sym (label_ends (bytes_eq l i) i r s o))
+      (label_choice (bytes_eq l i) c p i total behind ls r s o e (subst (λ z. Lands c total r s o z) (label_last ls l behind i) k.0) k.1)
+  label_run c p l total behind ls (Done (Returns v) s o) e k =
+      subst (λ q. Performs c p ls total (Done (Returns v) s q)) (sym (append-nil o)) k
+  label_run c p l total behind ls (Stops e' n o) e k = k
 
-  goto_run : (c : Moment) (o : Option ℕ) (N behind : ℕ) → Below o behind → c.place + length (goto_code o behind) + behind ≡ N → HasAt code c.place (goto_code o behind) → Lands c N c.registers (state_of c) [] o
-  goto_run c None N behind h e has = reach_step c instr.Fail (Over Fault c.steps []) has.0 (λ next. refl)
-  goto_run c (Some a) N behind h e has =
-      let f : c.place + 1 + (behind - a) ≡ N - a = omega arith in
+  goto_run : (c : Moment) (o : Option ℕ) (total behind : ℕ) → Below o behind → c.place + length (goto_code o behind) + behind ≡ total
+      → HasAt code c.place (goto_code o behind) → Lands c total c.registers (state_of c) [] o
+  goto_run c None total behind h e has = reach_step c instr.Fail (Over Fault c.steps []) has.0 (λ next. refl)
+  goto_run c (Some a) total behind h e has =
+      let f : c.place + 1 + (behind - a) ≡ total - a = omega arith in
       as_comes c _ (to_place c c c.stack _ _ f (quiet_step c _ (instr.GoOn (behind - a)) has.0 (λ next. refl)))
 
   -- ---- statements that end with the value of an expression
 
-  value_run : (c : Moment) (ca : List Instr) (p : ℕ) (ls : List OpenLabel) (N : ℕ) (o : Option M.Val) (go : M.Val → Outcome) → GivesOne c (length ca) o → ((v : M.Val) → Quiet c (at_with M c (c.place + length ca) (v ∷ c.stack)) → Performs c p ls N (go v)) → Performs c p ls N (with_value o c.steps go)
-  value_run c ca p ls N None go g h = g
-  value_run c ca p ls N (Some v) go g h = h v g
+  value_run : (c : Moment) (ca : List Instr) (p : ℕ) (ls : List OpenLabel) (total : ℕ) (o : Option M.Val) (go : M.Val → Outcome) → GivesOne c (length ca) o
+      → ((v : M.Val) → Quiet c (at_with M c (c.place + length ca) (v ∷ c.stack)) → Performs c p ls total (go v))
+      → Performs c p ls total (with_value o c.steps go)
+  value_run c ca p ls total None go g h = g
+  value_run c ca p ls total (Some v) go g h = h v g
 
-  counted_step : (c d : Moment) (i : Instr) (p : ℕ) (ls : List OpenLabel) (N : ℕ) (o : Option ℤ) (go : ℤ → Outcome) (K : ℤ → (Moment → Course) → Course) → slice_get code d.place ≡ Some i → ((next : Moment → Course) → act M es (Some i) next d ≡ with_some o c.steps (λ z. K z next)) → Quiet c d → ((z : ℤ) → ((k : ℕ) → Reaches c (K z (runs M es code k))) → Performs c p ls N (go z)) → Performs c p ls N (with_value o c.steps go)
-  counted_step c d i p ls N None go K at op q h = quiet_reach c d (Over Fault c.steps []) q (reach_step d i (Over Fault c.steps []) at op)
-  counted_step c d i p ls N (Some z) go K at op q h =
+  counted_step : (c d : Moment) (i : Instr) (p : ℕ) (ls : List OpenLabel) (total : ℕ) (o : Option ℤ) (go : ℤ → Outcome) (go_on : ℤ → (Moment → Course)
+      → Course) → slice_get code d.place ≡ Some i → ((next : Moment → Course) → act M es (Some i) next d ≡ with_some o c.steps (λ z. go_on z next))
+      → Quiet c d → ((z : ℤ) → ((k : ℕ) → Reaches c (go_on z (runs M es code k))) → Performs c p ls total (go z))
+      → Performs c p ls total (with_value o c.steps go)
+  counted_step c d i p ls total None go go_on at op q h = quiet_reach c d (Over Fault c.steps []) q (reach_step d i (Over Fault c.steps []) at op)
+  counted_step c d i p ls total (Some z) go go_on at op q h =
       h z (λ k. let a = q (suc k) in (a.0, a.1 ∙ step d i at k ∙ op (runs M es code k)))
 
   -- what one instruction does with the number that an expression's code gave
-  counted_run : (c : Moment) (ca : List Instr) (i : Instr) (p : ℕ) (ls : List OpenLabel) (N : ℕ) (o : Option M.Val) (go : ℤ → Outcome) (K : ℤ → (Moment → Course) → Course) → slice_get code (c.place + length ca) ≡ Some i → ((next : Moment → Course) (v : M.Val) → act M es (Some i) next (at_with M c (c.place + length ca) (v ∷ c.stack)) ≡ with_some (M.number_of v) c.steps (λ z. K z next)) → GivesOne c (length ca) o → ((z : ℤ) → ((k : ℕ) → Reaches c (K z (runs M es code k))) → Performs c p ls N (go z)) → Performs c p ls N (with_value (o >>= M.number_of) c.steps go)
-  counted_run c ca i p ls N None go K at op g h = g
-  counted_run c ca i p ls N (Some v) go K at op g h =
-      counted_step c (at_with M c (c.place + length ca) (v ∷ c.stack)) i p ls N (M.number_of v) go K at (λ next. op next v) g h
+  counted_run : (c : Moment) (ca : List Instr) (i : Instr) (p : ℕ) (ls : List OpenLabel) (total : ℕ) (o : Option M.Val) (go : ℤ → Outcome) (go_on : ℤ
+      → (Moment → Course) → Course) → slice_get code (c.place + length ca) ≡ Some i
+      → ((next : Moment → Course) (v : M.Val)
+      → act M es (Some i) next (at_with M c (c.place + length ca) (v ∷ c.stack)) ≡ with_some (M.number_of v) c.steps (λ z. go_on z next))
+      → GivesOne c (length ca) o → ((z : ℤ) → ((k : ℕ) → Reaches c (go_on z (runs M es code k))) → Performs c p ls total (go z))
+      → Performs c p ls total (with_value (o >>= M.number_of) c.steps go)
+  counted_run c ca i p ls total None go go_on at op g h = g
+  counted_run c ca i p ls total (Some v) go go_on at op g h =
+      counted_step c (at_with M c (c.place + length ca) (v ∷ c.stack)) i p ls total (M.number_of v) go go_on at (λ next. op next v) g h
 
   -- a number in decimal
-  print_run : (c : Moment) (e : MonExpression) (ls : List OpenLabel) (N : ℕ) → KeepsNumbers M → HasAt code c.place (expression_code e ++ instr.PutNumber ∷ []) → Performs c (c.place + length (expression_code e ++ instr.PutNumber ∷ [])) ls N (with_value (eval_number M e c.registers) c.steps (λ z. Done (Next c.registers) (state_of c) (signed_decimal z)))
-  print_run c e ls N keeps has =
+  print_run : (c : Moment) (e : MonExpression) (ls : List OpenLabel) (total : ℕ) → KeepsNumbers M
+      → HasAt code c.place (expression_code e ++ instr.PutNumber ∷ [])
+      → Performs c (c.place + length (expression_code e ++ instr.PutNumber ∷ [])) ls total
+      (with_value (eval_number M e c.registers) c.steps (λ z. Done (Next c.registers) (state_of c) (signed_decimal z)))
+  print_run c e ls total keeps has =
       let ce = expression_code e in
       let at = (has_back code c.place ce _ has).0 in
       let len : c.place + length ce + 1 ≡ c.place + length (ce ++ instr.PutNumber ∷ []) = omega (arith, length-append ce (instr.PutNumber ∷ [])) in
-      ends_at c _ _ ls N _ len (counted_run c ce instr.PutNumber (c.place + length ce + 1) ls N (eval M e c.registers) _ (λ z next. puts (signed_decimal z) (next (at_with M c (c.place + length ce + 1) c.stack))) at (λ next v. refl) (expression_runs keeps e c (has_front code c.place ce _ has)) (λ z q. (q, omega arith)))
+      ends_at c _ _ ls total _ len (counted_run c ce instr.PutNumber (c.place + length ce + 1) ls total (eval M e c.registers) _
+      (λ z next. puts (signed_decimal z) (next (at_with M c (c.place + length ce + 1) c.stack))) at (λ next v. refl)
+      (expression_runs keeps e c (has_front code c.place ce _ has)) (λ z q. (q, omega arith)))
 
   -- a text
-  text_run : (bytes : List ℕ) (c : Moment) → HasAt code c.place (map instr.PutByte bytes) → Comes c bytes (at_with M c (c.place + length (map instr.PutByte bytes)) c.stack)
+  text_run : (bytes : List ℕ) (c : Moment) → HasAt code c.place (map instr.PutByte bytes)
+      → Comes c bytes (at_with M c (c.place + length (map instr.PutByte bytes)) c.stack)
   text_run [] c has = let e : c.place ≡ c.place + 0 = omega arith in as_comes c _ (stays c _ e)
   text_run (b ∷ bytes) c has =
       let rest = length (map instr.PutByte bytes) in
@@ -309,20 +369,28 @@ module _ (M : Memory) (es : List Entry) (code : List Instr) where
       let c2 = at_with M c (c.place + 1 + rest) c.stack in
       let c3 = at_with M c (c.place + suc rest) c.stack in
       let e : c.place + 1 + rest ≡ c.place + suc rest = omega arith in
-      comes_quiet c c2 c3 (b ∷ bytes) (comes_on c c1 c2 (b ∷ []) bytes (comes_step c c1 (instr.PutByte b) (b ∷ []) has.0 (λ next. refl)) (text_run bytes c1 has.1)) (stays c2 _ e)
+      comes_quiet c c2 c3 (b ∷ bytes)
+      (comes_on c c1 c2 (b ∷ []) bytes (comes_step c c1 (instr.PutByte b) (b ∷ []) has.0 (λ next. refl)) (text_run bytes c1 has.1)) (stays c2 _ e)
 
   -- the value of a call into a register, or away
-  result_run : (c : Moment) (r : Option ℕ) (p : ℕ) (v : M.Val) → slice_get code p ≡ Some (result_code r) → Quiet (at_with M c p (v ∷ c.stack)) (came c (p + 1) (given_to r v c.registers) (state_of c))
+  result_run : (c : Moment) (r : Option ℕ) (p : ℕ) (v : M.Val) → slice_get code p ≡ Some (result_code r)
+      → Quiet (at_with M c p (v ∷ c.stack)) (came c (p + 1) (given_to r v c.registers) (state_of c))
   result_run c None p v at = quiet_step (at_with M c p (v ∷ c.stack)) (came c (p + 1) c.registers (state_of c)) instr.Drop at (λ next. refl)
   result_run c (Some r) p v at =
       quiet_step (at_with M c p (v ∷ c.stack)) (came c (p + 1) (slice_set c.registers r v) (state_of c)) (instr.Put r) at (λ next. refl)
 
   -- ---- assertions
 
-  assert_ends : (c : Moment) (undefined false_ : Final) (i : Instr) (p : ℕ) (ls : List OpenLabel) (N : ℕ) (d : Moment) (b b' : Bool) → p ≡ d.place + 1 → slice_get code d.place ≡ Some i → Quiet c d → ((next : Moment → Course) → act M es (Some i) next d ≡ (if b then Over undefined c.steps [] else (if b' then Over false_ c.steps [] else next (at_with M c (d.place + 1) c.stack)))) → Performs c p ls N (if b then Stops undefined c.steps [] else (if b' then Stops false_ c.steps [] else Done (Next c.registers) (state_of c) []))
-  assert_ends c undefined false_ i p ls N d true b' e at q op = quiet_reach c d (Over undefined c.steps []) q (reach_step d i (Over undefined c.steps []) at op)
-  assert_ends c undefined false_ i p ls N d false true e at q op = quiet_reach c d (Over false_ c.steps []) q (reach_step d i (Over false_ c.steps []) at op)
-  assert_ends c undefined false_ i p ls N d false false e at q op =
+  assert_ends : (c : Moment) (undefined false_ : Final) (i : Instr) (p : ℕ) (ls : List OpenLabel) (total : ℕ) (d : Moment) (b b' : Bool) → p ≡ d.place + 1
+      → slice_get code d.place ≡ Some i → Quiet c d
+      → ((next : Moment → Course) → act M es (Some i) next d
+      ≡ (if b then Over undefined c.steps [] else (if b' then Over false_ c.steps [] else next (at_with M c (d.place + 1) c.stack))))
+      → Performs c p ls total (if b then Stops undefined c.steps [] else (if b' then Stops false_ c.steps [] else Done (Next c.registers) (state_of c) []))
+  assert_ends c undefined false_ i p ls total d true b' e at q op = quiet_reach c d (Over undefined c.steps []) q
+      (reach_step d i (Over undefined c.steps []) at op)
+  assert_ends c undefined false_ i p ls total d false true e at q op = quiet_reach c d (Over false_ c.steps []) q
+      (reach_step d i (Over false_ c.steps []) at op)
+  assert_ends c undefined false_ i p ls total d false false e at q op =
       (as_comes c _ (to_place c c c.stack _ _ (sym e) (quiet_on c d (at_with M c (d.place + 1) c.stack) q (quiet_step d _ i at op))), omega arith)
 
   -- how an assertion is judged
@@ -330,165 +398,241 @@ module _ (M : Memory) (es : List Entry) (code : List Instr) where
   judgement undefined false_ c i j =
       choose i (choose j (Done (Next c.registers) (state_of c) []) (Stops false_ c.steps [])) (Stops undefined c.steps [])
 
-  assert_some : (c : Moment) (undefined false_ : Final) (i : Instr) (p : ℕ) (ls : List OpenLabel) (N : ℕ) (d : Moment) (ox oy : Option ℤ) → p ≡ d.place + 1 → slice_get code d.place ≡ Some i → Quiet c d → ((next : Moment → Course) → act M es (Some i) next d ≡ with_some ox c.steps (λ x. with_some oy c.steps (λ y. choose x (choose y (next (at_with M c (d.place + 1) c.stack)) (Over false_ c.steps [])) (Over undefined c.steps [])))) → Performs c p ls N (with_value ox c.steps (λ x. with_value oy c.steps (λ y. judgement undefined false_ c x y)))
-  assert_some c undefined false_ i p ls N d None oy e at q op = quiet_reach c d (Over Fault c.steps []) q (reach_step d i (Over Fault c.steps []) at op)
-  assert_some c undefined false_ i p ls N d (Some x) None e at q op = quiet_reach c d (Over Fault c.steps []) q (reach_step d i (Over Fault c.steps []) at op)
-  assert_some c undefined false_ i p ls N d (Some x) (Some y) e at q op =
-      assert_ends c undefined false_ i p ls N d (int_eq x (pos 0)) (int_eq y (pos 0)) e at q op
+  assert_some : (c : Moment) (undefined false_ : Final) (i : Instr) (p : ℕ) (ls : List OpenLabel) (total : ℕ) (d : Moment) (ox oy : Option ℤ)
+      → p ≡ d.place + 1 → slice_get code d.place ≡ Some i → Quiet c d
+      → ((next : Moment → Course) → act M es (Some i) next d
+      ≡ with_some ox c.steps (λ x. with_some oy c.steps
+      (λ y. choose x (choose y (next (at_with M c (d.place + 1) c.stack)) (Over false_ c.steps [])) (Over undefined c.steps []))))
+      → Performs c p ls total (with_value ox c.steps (λ x. with_value oy c.steps (λ y. judgement undefined false_ c x y)))
+  assert_some c undefined false_ i p ls total d None oy e at q op = quiet_reach c d (Over Fault c.steps []) q (reach_step d i (Over Fault c.steps []) at op)
+  assert_some c undefined false_ i p ls total d (Some x) None e at q op = quiet_reach c d (Over Fault c.steps []) q
+      (reach_step d i (Over Fault c.steps []) at op)
+  assert_some c undefined false_ i p ls total d (Some x) (Some y) e at q op =
+      assert_ends c undefined false_ i p ls total d (int_eq x (pos 0)) (int_eq y (pos 0)) e at q op
 
   -- where the second expression has no value, the first may have no number
-  both_fault : (c : Moment) (p : ℕ) (ls : List OpenLabel) (N : ℕ) (o : Option ℤ) (go : ℤ → ℤ → Outcome) → Ends c Fault c.steps [] → Performs c p ls N (with_value o c.steps (λ i. with_value None c.steps (λ j. go i j)))
-  both_fault c p ls N None go h = h
-  both_fault c p ls N (Some i) go h = h
+  both_fault : (c : Moment) (p : ℕ) (ls : List OpenLabel) (total : ℕ) (o : Option ℤ) (go : ℤ → ℤ → Outcome) → Ends c Fault c.steps []
+      → Performs c p ls total (with_value o c.steps (λ i. with_value None c.steps (λ j. go i j)))
+  both_fault c p ls total None go h = h
+  both_fault c p ls total (Some i) go h = h
 
-  assert_run : (c : Moment) (number line : ℕ) (kind : Kind) (ca cb : List Instr) (ls : List OpenLabel) (N : ℕ) (oa ob : Option M.Val) → HasAt code c.place (ca ++ (cb ++ instr.Assert number line kind ∷ [])) → GivesOne c (length ca) oa → ((x : M.Val) → GivesOne (at_with M c (c.place + length ca) (x ∷ c.stack)) (length cb) ob) → Performs c (c.place + length (ca ++ (cb ++ instr.Assert number line kind ∷ []))) ls N (with_value (oa >>= M.number_of) c.steps (λ i. with_value (ob >>= M.number_of) c.steps (λ j. judgement (Broken number line kind how.Undefined) (Broken number line kind how.False) c i j)))
-  assert_run c number line kind ca cb ls N None ob has ra rb = ra
-  assert_run c number line kind ca cb ls N (Some x) None has ra rb =
-      both_fault c (c.place + length (ca ++ (cb ++ instr.Assert number line kind ∷ []))) ls N (M.number_of x) (λ i j. judgement (Broken number line kind how.Undefined) (Broken number line kind how.False) c i j) (quiet_reach c (at_with M c (c.place + length ca) (x ∷ c.stack)) (Over Fault c.steps []) ra (rb x))
-  assert_run c number line kind ca cb ls N (Some x) (Some y) has ra rb =
+  assert_run : (c : Moment) (number line : ℕ) (kind : Kind) (ca cb : List Instr) (ls : List OpenLabel) (total : ℕ) (oa ob : Option M.Val)
+      → HasAt code c.place (ca ++ (cb ++ instr.Assert number line kind ∷ [])) → GivesOne c (length ca) oa
+      → ((x : M.Val) → GivesOne (at_with M c (c.place + length ca) (x ∷ c.stack)) (length cb) ob)
+      → Performs c (c.place + length (ca ++ (cb ++ instr.Assert number line kind ∷ []))) ls total
+      (with_value (oa >>= M.number_of) c.steps
+      (λ i. with_value (ob >>= M.number_of) c.steps (λ j. judgement (Broken number line kind how.Undefined) (Broken number line kind how.False) c i j)))
+  assert_run c number line kind ca cb ls total None ob has ra rb = ra
+  assert_run c number line kind ca cb ls total (Some x) None has ra rb =
+      both_fault c (c.place + length (ca ++ (cb ++ instr.Assert number line kind ∷ []))) ls total (M.number_of x)
+      (λ i j. judgement (Broken number line kind how.Undefined) (Broken number line kind how.False) c i j)
+      (quiet_reach c (at_with M c (c.place + length ca) (x ∷ c.stack)) (Over Fault c.steps []) ra (rb x))
+  assert_run c number line kind ca cb ls total (Some x) (Some y) has ra rb =
       let i = instr.Assert number line kind in
       let c1 = at_with M c (c.place + length ca) (x ∷ c.stack) in
       let c2 = at_with M c (c.place + length ca + length cb) (y ∷ x ∷ c.stack) in
       let at = (has_back code (c.place + length ca) cb (i ∷ []) (has_back code c.place ca (cb ++ i ∷ []) has)).0 in
-      let len : c.place + length (ca ++ (cb ++ i ∷ [])) ≡ c.place + length ca + length cb + 1 = omega (arith, length-append ca (cb ++ i ∷ []), length-append cb (i ∷ [])) in
-      assert_some c (Broken number line kind how.Undefined) (Broken number line kind how.False) i _ ls N c2 (M.number_of x) (M.number_of y) len at (quiet_on c c1 c2 ra (rb x)) (λ next. refl)
+      let len : c.place + length (ca ++ (cb ++ i ∷ [])) ≡ c.place + length ca + length cb + 1 = omega (arith, length_two ca cb i) in
+      assert_some c (Broken number line kind how.Undefined) (Broken number line kind how.False) i _ ls total c2 (M.number_of x) (M.number_of y) len at
+      (quiet_on c c1 c2 ra (rb x)) (λ next. refl)
 
   -- ---- choices and loops
 
-  if_run : (b : Bool) (c d0 d1 : Moment) (p : ℕ) (ls : List OpenLabel) (N : ℕ) (x y : Outcome) → ((k : ℕ) → Reaches c (if b then runs M es code k d0 else runs M es code k d1)) → (Quiet c d0 → Performs c p ls N x) → (Quiet c d1 → Performs c p ls N y) → Performs c p ls N (if b then x else y)
-  if_run true c d0 d1 p ls N x y q hx hy = hx q
-  if_run false c d0 d1 p ls N x y q hx hy = hy q
+  if_run : (b : Bool) (c d0 d1 : Moment) (p : ℕ) (ls : List OpenLabel) (total : ℕ) (x y : Outcome)
+      → ((k : ℕ) → Reaches c (if b then runs M es code k d0 else runs M es code k d1)) → (Quiet c d0 → Performs c p ls total x)
+      → (Quiet c d1 → Performs c p ls total y) → Performs c p ls total (if b then x else y)
+  if_run true c d0 d1 p ls total x y q hx hy = hx q
+  if_run false c d0 d1 p ls total x y q hx hy = hy q
 
   -- with so many steps left
   abbrev stepping : Moment → ℕ → Moment
   stepping c n = came c (c.place + 1) c.registers (record (state_of c) { steps = n })
 
-  step_run : (c : Moment) (p : ℕ) (ls : List OpenLabel) (N : ℕ) (q : ℕ) (go : ℕ → Outcome) → c.steps ≡ q → slice_get code c.place ≡ Some instr.Step → ((k : ℕ) → suc k ≡ c.steps → Performs (stepping c k) p ls N (go k)) → Performs c p ls N (step_from q go)
-  step_run c p ls N zero go e at h = (1, step c instr.Step at 0 ∙ ap (λ n. stepped n (λ m. runs M es code 0 (stepping c m))) e)
-  step_run c p ls N (suc k) go e at h =
-      after_quiet c (c.place + 1) c.registers (record (state_of c) { steps = k }) p ls N (go k) (λ j. (suc j, step c instr.Step at j ∙ ap (λ n. stepped n (λ m. runs M es code j (stepping c m))) e)) (omega (arith, e)) (h k (sym e))
+  step_run : (c : Moment) (p : ℕ) (ls : List OpenLabel) (total : ℕ) (q : ℕ) (go : ℕ → Outcome) → c.steps ≡ q → slice_get code c.place ≡ Some instr.Step
+      → ((k : ℕ) → suc k ≡ c.steps → Performs (stepping c k) p ls total (go k)) → Performs c p ls total (step_from q go)
+  step_run c p ls total zero go e at h = (1, step c instr.Step at 0 ∙ ap (λ n. stepped n (λ m. runs M es code 0 (stepping c m))) e)
+  step_run c p ls total (suc k) go e at h =
+      after_quiet c (c.place + 1) c.registers (record (state_of c) { steps = k }) p ls total (go k)
+      (λ j. (suc j, step c instr.Step at j ∙ ap (λ n. stepped n (λ m. runs M es code j (stepping c m))) e)) (omega (arith, e)) (h k (sym e))
 
-  -- a loop's turns, from P, where what stands before its step begins; the step is at S, and a jump back to it at B
-  turns_run : (n : ℕ) (c : Moment) (S P B p back : ℕ) (ls : List OpenLabel) (N : ℕ) (before behind : Does M) → slice_get code S ≡ Some instr.Step → slice_get code B ≡ Some (instr.GoBack back) → B - back ≡ S → ((r : List M.Val) (s : State M.Mem) → s.steps ≤ n → Performs (came c P r s) B ls N (before r s)) → ((r : List M.Val) (s : State M.Mem) → s.steps ≤ n → Performs (came c (S + 1) r s) P ls N (behind r s)) → (m : ℕ) → m ≤ n → (r : List M.Val) (s : State M.Mem) → s.steps ≤ m → Performs (came c P r s) p ls N (turns M m before behind r s)
-  turns_run n c S P B p back ls N before behind at_s at_b e run_before run_behind zero le r s les =
-      seq_run (came c P r s) B p ls N (before r s) (λ r t. Stops Spent 0 []) (run_before r s (omega (arith, le, les))) (λ r1 s1 le1.
+  -- a loop's turns, from before_at, where what stands before its step begins; the step is at step_at, and a jump back to it at back_at
+  turns_run : (n : ℕ) (c : Moment) (step_at before_at back_at p back : ℕ) (ls : List OpenLabel) (total : ℕ) (before behind : Does M)
+      → slice_get code step_at ≡ Some instr.Step → slice_get code back_at ≡ Some (instr.GoBack back) → back_at - back ≡ step_at
+      → ((r : List M.Val) (s : State M.Mem) → s.steps ≤ n → Performs (came c before_at r s) back_at ls total (before r s))
+      → ((r : List M.Val) (s : State M.Mem) → s.steps ≤ n → Performs (came c (step_at + 1) r s) before_at ls total (behind r s)) → (m : ℕ) → m ≤ n
+      → (r : List M.Val) (s : State M.Mem) → s.steps ≤ m → Performs (came c before_at r s) p ls total (turns M m before behind r s)
+  turns_run n c step_at before_at back_at p back ls total before behind is_step is_back e run_before run_behind zero le r s les =
+      seq_run (came c before_at r s) back_at p ls total (before r s) (λ r t. Stops Spent 0 []) (run_before r s (omega (arith, le, les))) (λ r1 s1 le1.
       let z : s1.steps ≡ 0 = omega (arith, le1, les) in
-      let b = to_place (came c B r1 s1) (came c B r1 s1) c.stack _ _ e (quiet_step (came c B r1 s1) _ (instr.GoBack back) at_b (λ next. refl)) in
-      quiet_reach (came c B r1 s1) (came c S r1 s1) (Over Spent 0 []) b (1, step (came c S r1 s1) instr.Step at_s 0 ∙ ap (λ n. stepped n (λ m. runs M es code 0 (stepping (came c S r1 s1) m))) z))
-  turns_run n c S P B p back ls N before behind at_s at_b e run_before run_behind (suc m) le r s les =
-      seq_run (came c P r s) B p ls N (before r s) _ (run_before r s (omega (arith, le, les))) (λ r1 s1 le1.
-      let b = to_place (came c B r1 s1) (came c B r1 s1) c.stack _ _ e (quiet_step (came c B r1 s1) _ (instr.GoBack back) at_b (λ next. refl)) in
-      after_quiet (came c B r1 s1) S r1 s1 p ls N _ b (omega arith) (step_run (came c S r1 s1) p ls N s1.steps _ refl at_s (λ k ek.
-      seq_run (came c (S + 1) r1 (record s1 { steps = k })) P p ls N _ (turns M m before behind) (run_behind r1 (record s1 { steps = k }) (omega (arith, ek, le1, les, le))) (λ r2 s2 le2.
-      turns_run n c S P B p back ls N before behind at_s at_b e run_before run_behind m (omega (arith, le)) r2 s2 (omega (arith, le2, ek, le1, les))))))
+      let b = to_place (came c back_at r1 s1) (came c back_at r1 s1) c.stack _ _ e
+      (quiet_step (came c back_at r1 s1) _ (instr.GoBack back) is_back (λ next. refl)) in
+      quiet_reach (came c back_at r1 s1) (came c step_at r1 s1) (Over Spent 0 []) b
+      (1, step (came c step_at r1 s1) instr.Step is_step 0 ∙ ap (λ n. stepped n (λ m. runs M es code 0 (stepping (came c step_at r1 s1) m))) z))
+  turns_run n c step_at before_at back_at p back ls total before behind is_step is_back e run_before run_behind (suc m) le r s les =
+      seq_run (came c before_at r s) back_at p ls total (before r s) _ (run_before r s (omega (arith, le, les))) (λ r1 s1 le1.
+      let b = to_place (came c back_at r1 s1) (came c back_at r1 s1) c.stack _ _ e
+      (quiet_step (came c back_at r1 s1) _ (instr.GoBack back) is_back (λ next. refl)) in
+      after_quiet (came c back_at r1 s1) step_at r1 s1 p ls total _ b (omega arith) (step_run (came c step_at r1 s1) p ls total s1.steps _ refl is_step (λ k ek.
+      seq_run (came c (step_at + 1) r1 (record s1 { steps = k })) before_at p ls total _ (turns M m before behind)
+      (run_behind r1 (record s1 { steps = k }) (omega (arith, ek, le1, les, le))) (λ r2 s2 le2.
+      turns_run n c step_at before_at back_at p back ls total before behind is_step is_back e run_before run_behind m (omega (arith, le)) r2 s2
+      (omega (arith, le2, ek, le1, les))))))
 
   -- ---- statements
 
   module _ (keeps : KeepsNumbers M) (calls : Calls M) (n : ℕ) where
     -- the value of an expression, from its code in front of other code
-    value_here : (e : MonExpression) (c : Moment) (rest : List Instr) → HasAt code c.place (expression_code e ++ rest) → GivesOne c (length (expression_code e)) (eval M e c.registers)
+    value_here : (e : MonExpression) (c : Moment) (rest : List Instr) → HasAt code c.place (expression_code e ++ rest)
+        → GivesOne c (length (expression_code e)) (eval M e c.registers)
     value_here e c rest has = expression_runs keeps e c (has_front code c.place (expression_code e) rest has)
 
-    set_run : (r : ℕ) (e : MonExpression) (c : Moment) (ls : List OpenLabel) (N : ℕ) → HasAt code c.place (expression_code e ++ instr.Put r ∷ []) → Performs c (c.place + length (expression_code e ++ instr.Put r ∷ [])) ls N (with_value (eval M e c.registers) c.steps (λ v. Done (Next (slice_set c.registers r v)) (state_of c) []))
-    set_run r e c ls N has =
+    set_run : (r : ℕ) (e : MonExpression) (c : Moment) (ls : List OpenLabel) (total : ℕ) → HasAt code c.place (expression_code e ++ instr.Put r ∷ [])
+        → Performs c (c.place + length (expression_code e ++ instr.Put r ∷ [])) ls total
+        (with_value (eval M e c.registers) c.steps (λ v. Done (Next (slice_set c.registers r v)) (state_of c) []))
+    set_run r e c ls total has =
         let ce = expression_code e in
         let at = (has_back code c.place ce _ has).0 in
         let len : c.place + length ce + 1 ≡ c.place + length (ce ++ instr.Put r ∷ []) = omega (arith, length-append ce (instr.Put r ∷ [])) in
-        ends_at c _ _ ls N _ len (value_run c ce (c.place + length ce + 1) ls N (eval M e c.registers) _ (value_here e c _ has) (λ v q.
-        let c1 = at_with M c (c.place + length ce) (v ∷ c.stack) in
-        (as_comes c _ (quiet_on c c1 (came c (c.place + length ce + 1) (slice_set c.registers r v) (state_of c)) q (quiet_step c1 _ (instr.Put r) at (λ next. refl))), omega arith)))
+        ends_at c _ _ ls total _ len (value_run c ce (c.place + length ce + 1) ls total (eval M e c.registers) _ (value_here e c _ has) (λ v q.
+        let c1 = at_with M c (c.place + length ce) (v ∷ c.stack) in (
+          as_comes c _ (quiet_on c c1 (came c (c.place + length ce + 1) (slice_set c.registers r v) (state_of c)) q
+              (quiet_step c1 _ (instr.Put r) at (λ next. refl))),
+          omega arith,
+        )))
 
-    putchar_run : (r : Option ℕ) (e : MonExpression) (c : Moment) (ls : List OpenLabel) (N : ℕ) → HasAt code c.place (expression_code e ++ (instr.PutChar ∷ (result_code r ∷ []))) → Performs c (c.place + length (expression_code e ++ (instr.PutChar ∷ (result_code r ∷ [])))) ls N (with_value (eval_number M e c.registers) c.steps (λ z. Done (Next (given_to r (M.number (pos (byte_of z))) c.registers)) (state_of c) (byte_of z ∷ [])))
-    putchar_run r e c ls N has =
+    putchar_run : (r : Option ℕ) (e : MonExpression) (c : Moment) (ls : List OpenLabel) (total : ℕ)
+        → HasAt code c.place (expression_code e ++ (instr.PutChar ∷ (result_code r ∷ [])))
+        → Performs c (c.place + length (expression_code e ++ (instr.PutChar ∷ (result_code r ∷ [])))) ls total
+        (with_value (eval_number M e c.registers) c.steps
+        (λ z. Done (Next (given_to r (M.number (pos (byte_of z))) c.registers)) (state_of c) (byte_of z ∷ [])))
+    putchar_run r e c ls total has =
         let ce = expression_code e in
         let back = has_back code c.place ce _ has in
         let p = c.place + length ce + 1 in
-        let len : p + 1 ≡ c.place + length (ce ++ (instr.PutChar ∷ (result_code r ∷ []))) = omega (arith, length-append ce (instr.PutChar ∷ (result_code r ∷ []))) in
-        ends_at c _ _ ls N _ len (counted_run c ce instr.PutChar (p + 1) ls N (eval M e c.registers) _ (λ z next. puts (byte_of z ∷ []) (next (at_with M c p (M.number (pos (byte_of z)) ∷ c.stack)))) back.0 (λ next v. refl) (value_here e c _ has) (λ z q.
-        let v = M.number (pos (byte_of z)) in
-        (comes_quiet c (at_with M c p (v ∷ c.stack)) (came c (p + 1) (given_to r v c.registers) (state_of c)) (byte_of z ∷ []) q (result_run c r p v back.1.0), omega arith)))
+        let end = instr.PutChar ∷ (result_code r ∷ []) in
+        let len : p + 1 ≡ c.place + length (ce ++ end) = omega (arith, length-append ce end) in
+        ends_at c _ _ ls total _ len (counted_run c ce instr.PutChar (p + 1) ls total (eval M e c.registers) _
+        (λ z next. puts (byte_of z ∷ []) (next (at_with M c p (M.number (pos (byte_of z)) ∷ c.stack)))) back.0 (λ next v. refl) (value_here e c _ has)
+        (λ z q.
+        let v = M.number (pos (byte_of z)) in (
+          comes_quiet c (at_with M c p (v ∷ c.stack)) (came c (p + 1) (given_to r v c.registers) (state_of c)) (byte_of z ∷ []) q
+              (result_run c r p v back.1.0),
+          omega arith,
+        )))
 
-    exit_run : (e : MonExpression) (c : Moment) (p : ℕ) (ls : List OpenLabel) (N : ℕ) → HasAt code c.place (expression_code e ++ instr.Exit ∷ []) → Performs c p ls N (with_value (eval_number M e c.registers) c.steps (λ z. Stops (Exits z) c.steps []))
-    exit_run e c p ls N has =
+    exit_run : (e : MonExpression) (c : Moment) (p : ℕ) (ls : List OpenLabel) (total : ℕ) → HasAt code c.place (expression_code e ++ instr.Exit ∷ [])
+        → Performs c p ls total (with_value (eval_number M e c.registers) c.steps (λ z. Stops (Exits z) c.steps []))
+    exit_run e c p ls total has =
         let ce = expression_code e in
         let at = (has_back code c.place ce _ has).0 in
-        counted_run c ce instr.Exit p ls N (eval M e c.registers) _ (λ z next. Over (Exits z) c.steps []) at (λ next v. refl) (value_here e c _ has) (λ z q. q 0)
+        counted_run c ce instr.Exit p ls total (eval M e c.registers) _ (λ z next. Over (Exits z) c.steps []) at (λ next v. refl) (value_here e c _ has)
+        (λ z q. q 0)
 
-    return_run : (e : Option MonExpression) (c : Moment) (p : ℕ) (ls : List OpenLabel) (N : ℕ) → HasAt code c.place (returned_code e ++ instr.Return ∷ []) → Performs c p ls N (exec M (Return e) calls n c.registers (state_of c))
-    return_run None c p ls N has =
-        (c.place + 1, c.registers, has.1.0, as_comes c _ (quiet_step c (valued c (c.place + 1) (M.number (pos 0)) c.registers (state_of c)) (instr.Push (pos 0)) has.0 (λ next. refl)), omega arith)
-    return_run (Some e) c p ls N has =
+    return_run : (e : Option MonExpression) (c : Moment) (p : ℕ) (ls : List OpenLabel) (total : ℕ)
+        → HasAt code c.place (returned_code e ++ instr.Return ∷ []) → Performs c p ls total (exec M (Return e) calls n c.registers (state_of c))
+    return_run None c p ls total has = (
+      c.place + 1,
+      c.registers,
+      has.1.0,
+      as_comes c _
+          (quiet_step c (valued c (c.place + 1) (M.number (pos 0)) c.registers (state_of c)) (instr.Push (pos 0)) has.0 (λ next. refl)),
+      omega arith,
+    )
+    return_run (Some e) c p ls total has =
         let ce = expression_code e in
         let at = (has_back code c.place ce _ has).0 in
-        value_run c ce p ls N (eval M e c.registers) _ (value_here e c _ has) (λ v q. (c.place + length ce, c.registers, at, as_comes c _ q, omega arith))
+        value_run c ce p ls total (eval M e c.registers) _ (value_here e c _ has) (λ v q. (c.place + length ce, c.registers, at, as_comes c _ q, omega arith))
 
     mutual
-      statement_runs : (a : MonStatement) (c : Moment) (behind : ℕ) (ls : List OpenLabel) (N : ℕ) → c.steps ≤ n → Within ls behind → c.place + length (statement_code a behind ls) + behind ≡ N → HasAt code c.place (statement_code a behind ls) → Performs c (c.place + length (statement_code a behind ls)) ls N (exec M a calls n c.registers (state_of c))
-      statement_runs (Set r e) c behind ls N les w eN has = set_run r e c ls N has
-      statement_runs Step c behind ls N les w eN has =
-          step_run c (c.place + 1) ls N c.steps _ refl has.0 (λ k ek. (as_comes (stepping c k) _ (λ j. (j, refl)), omega arith))
-      statement_runs (Assert d v number line kind) c behind ls N les w eN has =
+      statement_runs : (a : MonStatement) (c : Moment) (behind : ℕ) (ls : List OpenLabel) (total : ℕ) → c.steps ≤ n → Within ls behind
+          → c.place + length (statement_code a behind ls) + behind ≡ total → HasAt code c.place (statement_code a behind ls)
+          → Performs c (c.place + length (statement_code a behind ls)) ls total (exec M a calls n c.registers (state_of c))
+      statement_runs (Set r e) c behind ls total les w eN has = set_run r e c ls total has
+      statement_runs Step c behind ls total les w eN has =
+          step_run c (c.place + 1) ls total c.steps _ refl has.0 (λ k ek. (as_comes (stepping c k) _ (λ j. (j, refl)), omega arith))
+      statement_runs (Assert d v number line kind) c behind ls total les w eN has =
           let cd = expression_code d in
           let cv = expression_code v in
-          assert_run c number line kind cd cv ls N (eval M d c.registers) (eval M v c.registers) has (value_here d c _ has) (λ x. value_here v (at_with M c (c.place + length cd) (x ∷ c.stack)) _ (has_back code c.place cd _ has))
-      statement_runs (PutChar r e) c behind ls N les w eN has = putchar_run r e c ls N has
-      statement_runs (Exit e) c behind ls N les w eN has = exit_run e c _ ls N has
-      statement_runs (PrintText bytes) c behind ls N les w eN has = (text_run bytes c has, omega arith)
-      statement_runs (PrintSigned e) c behind ls N les w eN has = print_run c e ls N keeps has
-      statement_runs (PrintUnsigned e) c behind ls N les w eN has = print_run c e ls N keeps has
-      statement_runs (If e a b) c behind ls N les w eN has =
+          assert_run c number line kind cd cv ls total (eval M d c.registers) (eval M v c.registers) has (value_here d c _ has)
+          (λ x. value_here v (at_with M c (c.place + length cd) (x ∷ c.stack)) _ (has_back code c.place cd _ has))
+      statement_runs (PutChar r e) c behind ls total les w eN has = putchar_run r e c ls total has
+      statement_runs (Exit e) c behind ls total les w eN has = exit_run e c _ ls total has
+      statement_runs (PrintText bytes) c behind ls total les w eN has = (text_run bytes c has, omega arith)
+      statement_runs (PrintSigned e) c behind ls total les w eN has = print_run c e ls total keeps has
+      statement_runs (PrintUnsigned e) c behind ls total les w eN has = print_run c e ls total keeps has
+      statement_runs (If e a b) c behind ls total les w eN has =
           let cb = statements_code b behind ls in
           let ca = statements_code a (1 + length cb + behind) ls in
           let ce = expression_code e in
           let h = has_back code c.place ce _ has in
           let at2 = has_back code (c.place + length ce + 1) ca _ h.1 in
-          let la : length (choice_code ce ca cb) ≡ length ce + (1 + (length ca + (1 + length cb))) = omega (arith, length-append ce (instr.SkipIfZero (length ca + 1) ∷ (ca ++ instr.GoOn (length cb) ∷ cb)), length-append ca (instr.GoOn (length cb) ∷ cb)) in
+          let la = length_choice ce ca cb in
           let d0 = at_with M c (c.place + length ce + 1 + (length ca + 1)) c.stack in
           let d1 = at_with M c (c.place + length ce + 1) c.stack in
           let end = c.place + length (choice_code ce ca cb) in
           let e0 : c.place + length ce + 1 + (length ca + 1) + length cb ≡ end = omega (arith, la) in
           let e1 : c.place + length ce + 1 + length ca + 1 + length cb ≡ end = omega (arith, la) in
-          let n0 : c.place + length ce + 1 + (length ca + 1) + length cb + behind ≡ N = omega (arith, la, eN) in
-          let n1 : c.place + length ce + 1 + length ca + (1 + length cb + behind) ≡ N = omega (arith, la, eN) in
+          let n0 : c.place + length ce + 1 + (length ca + 1) + length cb + behind ≡ total = omega (arith, la, eN) in
+          let n1 : c.place + length ce + 1 + length ca + (1 + length cb + behind) ≡ total = omega (arith, la, eN) in
           let p0 : c.place + length ce + 1 + length ca + 1 ≡ c.place + length ce + 1 + (length ca + 1) = omega arith in
-          counted_run c ce (instr.SkipIfZero (length ca + 1)) end ls N (eval M e c.registers) _ (λ z next. choose z (next d1) (next d0)) h.0 (λ next v. refl) (value_here e c _ has) (λ z k.
-          if_run (int_eq z (pos 0)) c d0 d1 end ls N _ _ k (λ l. after_quiet c _ c.registers (state_of c) end ls N _ l (omega arith) (ends_at d0 _ _ ls N _ e0 (statements_run b d0 behind ls N les w n0 (subst (λ z. HasAt code z cb) p0 at2.1)))) (λ l.
-          after_quiet c _ c.registers (state_of c) end ls N _ l (omega arith) (next_on d1 (c.place + length ce + 1 + length ca) end ls N _ (λ r s. to_place (came c (c.place + length ce + 1 + length ca) r s) (came c (c.place + length ce + 1 + length ca) r s) c.stack _ _ e1 (quiet_step (came c (c.place + length ce + 1 + length ca) r s) _ (instr.GoOn (length cb)) at2.0 (λ next. refl))) (statements_run a d1 (1 + length cb + behind) ls N les (within_more ls behind (1 + length cb + behind) (omega arith) w) n1 (has_front code _ ca _ h.1)))))
-      statement_runs (Loop a b) c behind ls N les w eN has =
+          counted_run c ce (instr.SkipIfZero (length ca + 1)) end ls total (eval M e c.registers) _ (λ z next. choose z (next d1) (next d0)) h.0
+          (λ next v. refl) (value_here e c _ has) (λ z k.
+          if_run (int_eq z (pos 0)) c d0 d1 end ls total _ _ k
+          (λ l. after_quiet c _ c.registers (state_of c) end ls total _ l (omega arith)
+          (ends_at d0 _ _ ls total _ e0 (statements_run b d0 behind ls total les w n0 (subst (λ z. HasAt code z cb) p0 at2.1)))) (λ l.
+          after_quiet c _ c.registers (state_of c) end ls total _ l (omega arith)
+          (next_on d1 (c.place + length ce + 1 + length ca) end ls total _
+          (λ r s. to_place (came c (c.place + length ce + 1 + length ca) r s) (came c (c.place + length ce + 1 + length ca) r s) c.stack _ _ e1
+          (quiet_step (came c (c.place + length ce + 1 + length ca) r s) _ (instr.GoOn (length cb)) at2.0 (λ next. refl)))
+          (statements_run a d1 (1 + length cb + behind) ls total les (within_more ls behind (1 + length cb + behind) (omega arith) w) n1
+          (has_front code _ ca _ h.1)))))
+      statement_runs (Loop a b) c behind ls total les w eN has =
           let ca = statements_code a (1 + behind) ls in
           let cb = statements_code b (length ca + 1 + behind) ls in
           let back = length cb + length ca + 1 in
-          let S = c.place + 1 in
-          let P = c.place + 1 + 1 + length cb in
-          let B = P + length ca in
-          let la : length (loop_code ca cb) ≡ 1 + (1 + (length cb + (length ca + 1))) = omega (arith, length-append cb (ca ++ instr.GoBack back ∷ []), length-append ca (instr.GoBack back ∷ [])) in
+          let step_at = c.place + 1 in
+          let before_at = c.place + 1 + 1 + length cb in
+          let back_at = before_at + length ca in
+          let la = length_loop ca cb in
           let h2 = has_back code (c.place + 1 + 1) cb _ has.1.1 in
-          let at_b = (has_back code P ca _ h2).0 in
-          let eb : B - back ≡ S = omega arith in
-          let start : c.place + 1 + (length cb + 1) ≡ P = omega arith in
-          let na : P + length ca + (1 + behind) ≡ N = omega (arith, la, eN) in
-          let nb : c.place + 1 + 1 + length cb + (length ca + 1 + behind) ≡ N = omega (arith, la, eN) in
-          after_quiet c P c.registers (state_of c) _ ls N _ (to_place c c c.stack _ _ start (quiet_step c _ (instr.GoOn (length cb + 1)) has.0 (λ next. refl))) (omega arith) (turns_run n c S P B _ back ls N (exec_all M a calls n) (exec_all M b calls n) has.1.0 at_b eb (λ r s le. statements_run a (came c P r s) (1 + behind) ls N le (within_more ls behind (1 + behind) (omega arith) w) na (has_front code P ca _ h2)) (λ r s le. statements_run b (came c (S + 1) r s) (length ca + 1 + behind) ls N le (within_more ls behind (length ca + 1 + behind) (omega arith) w) nb (has_front code (c.place + 1 + 1) cb _ has.1.1)) n (omega arith) c.registers (state_of c) les)
-      statement_runs (Labelled a l) c behind ls N les w eN has =
+          let is_back = (has_back code before_at ca _ h2).0 in
+          let eb : back_at - back ≡ step_at = omega arith in
+          let start : c.place + 1 + (length cb + 1) ≡ before_at = omega arith in
+          let na : before_at + length ca + (1 + behind) ≡ total = omega (arith, la, eN) in
+          let nb : c.place + 1 + 1 + length cb + (length ca + 1 + behind) ≡ total = omega (arith, la, eN) in
+          after_quiet c before_at c.registers (state_of c) _ ls total _
+          (to_place c c c.stack _ _ start (quiet_step c _ (instr.GoOn (length cb + 1)) has.0 (λ next. refl))) (omega arith)
+          (turns_run n c step_at before_at back_at _ back ls total (exec_all M a calls n) (exec_all M b calls n) has.1.0 is_back eb
+          (λ r s le. statements_run a (came c before_at r s) (1 + behind) ls total le (within_more ls behind (1 + behind) (omega arith) w) na
+          (has_front code before_at ca _ h2))
+          (λ r s le. statements_run b (came c (step_at + 1) r s) (length ca + 1 + behind) ls total le
+          (within_more ls behind (length ca + 1 + behind) (omega arith) w) nb (has_front code (c.place + 1 + 1) cb _ has.1.1)) n (omega arith)
+          c.registers (state_of c) les)
+      statement_runs (Labelled a l) c behind ls total les w eN has =
           let ls' = ls ++ record { label = l; behind = behind } ∷ [] in
-          let e : c.place + length (statements_code a behind ls') ≡ N - behind = omega (arith, eN) in
-          label_run c _ l N behind ls _ e (statements_run a c behind ls' N les (within_last ls l behind w) eN has)
-      statement_runs (Goto l) c behind ls N les w eN has =
-          (goto_run c (behind_label ls l) N behind (label_below ls l behind w) eN has, omega arith)
-      statement_runs (Return e) c behind ls N les w eN has = return_run e c _ ls N has
+          let e : c.place + length (statements_code a behind ls') ≡ total - behind = omega (arith, eN) in
+          label_run c _ l total behind ls _ e (statements_run a c behind ls' total les (within_last ls l behind w) eN has)
+      statement_runs (Goto l) c behind ls total les w eN has =
+          (goto_run c (behind_label ls l) total behind (label_below ls l behind w) eN has, omega arith)
+      statement_runs (Return e) c behind ls total les w eN has = return_run e c _ ls total has
 
-      statements_run : (a : MonStatements) (c : Moment) (behind : ℕ) (ls : List OpenLabel) (N : ℕ) → c.steps ≤ n → Within ls behind → c.place + length (statements_code a behind ls) + behind ≡ N → HasAt code c.place (statements_code a behind ls) → Performs c (c.place + length (statements_code a behind ls)) ls N (exec_all M a calls n c.registers (state_of c))
-      statements_run NoStatement c behind ls N les w eN has =
+      statements_run : (a : MonStatements) (c : Moment) (behind : ℕ) (ls : List OpenLabel) (total : ℕ) → c.steps ≤ n → Within ls behind
+          → c.place + length (statements_code a behind ls) + behind ≡ total → HasAt code c.place (statements_code a behind ls)
+          → Performs c (c.place + length (statements_code a behind ls)) ls total (exec_all M a calls n c.registers (state_of c))
+      statements_run NoStatement c behind ls total les w eN has =
           let e : c.place ≡ c.place + 0 = omega arith in
           (as_comes c _ (stays c _ e), omega arith)
-      statements_run (Then a rest) c behind ls N les w eN has =
+      statements_run (Then a rest) c behind ls total les w eN has =
           let cr = statements_code rest behind ls in
           let ca = statement_code a (length cr + behind) ls in
           let len = length-append ca cr in
           let e : c.place + length ca + length cr ≡ c.place + length (ca ++ cr) = omega (arith, len) in
-          let na : c.place + length ca + (length cr + behind) ≡ N = omega (arith, len, eN) in
-          let nr : c.place + length ca + length cr + behind ≡ N = omega (arith, len, eN) in
-          ends_at c _ _ ls N _ e (seq_run c (c.place + length ca) _ ls N _ (exec_all M rest calls n) (statement_runs a c (length cr + behind) ls N les (within_more ls behind (length cr + behind) (omega arith) w) na (has_front code c.place ca cr has)) (λ r s le. statements_run rest (came c (c.place + length ca) r s) behind ls N (le_trans le les) w nr (has_back code c.place ca cr has)))
+          let na : c.place + length ca + (length cr + behind) ≡ total = omega (arith, len, eN) in
+          let nr : c.place + length ca + length cr + behind ≡ total = omega (arith, len, eN) in
+          ends_at c _ _ ls total _ e (seq_run c (c.place + length ca) _ ls total _ (exec_all M rest calls n)
+          (statement_runs a c (length cr + behind) ls total les (within_more ls behind (length cr + behind) (omega arith) w) na
+          (has_front code c.place ca cr has))
+          (λ r s le. statements_run rest (came c (c.place + length ca) r s) behind ls total (le_trans le les) w nr (has_back code c.place ca cr has)))
 
     -- ---- `main`
 
@@ -496,55 +640,72 @@ module _ (M : Memory) (es : List Entry) (code : List Instr) where
     abbrev alone : Moment → Moment
     alone c = record c { frames = [] }
 
-    returns_to_end : (c : Moment) (p : ℕ) (v : M.Val) (r : List M.Val) (s : State M.Mem) (o : List ℕ) → slice_get code p ≡ Some instr.Return → Comes (alone c) o (valued (alone c) p v r s) → Reaches (alone c) (puts o (exited M (M.number_of v) s.steps))
+    returns_to_end : (c : Moment) (p : ℕ) (v : M.Val) (r : List M.Val) (s : State M.Mem) (o : List ℕ) → slice_get code p ≡ Some instr.Return
+        → Comes (alone c) o (valued (alone c) p v r s) → Reaches (alone c) (puts o (exited M (M.number_of v) s.steps))
     returns_to_end c p v r s o at k =
-        comes_reach (alone c) (valued (alone c) p v r s) o (exited M (M.number_of v) s.steps) k (reach_step (valued (alone c) p v r s) instr.Return (exited M (M.number_of v) s.steps) at (λ next. refl))
+        comes_reach (alone c) (valued (alone c) p v r s) o (exited M (M.number_of v) s.steps) k
+        (reach_step (valued (alone c) p v r s) instr.Return (exited M (M.number_of v) s.steps) at (λ next. refl))
 
     exit_written : (z : Option ℤ) (k : ℕ) (o : List ℕ) → puts o (exited M z k) ≡ course_of (exit_of M z k (o ++ []))
     exit_written None k o = refl
     exit_written (Some z) k o = refl
 
-    main_ends : (c : Moment) (p : ℕ) (v : M.Val) (r : List M.Val) (s : State M.Mem) (o : List ℕ) → slice_get code p ≡ Some instr.Return → Comes (alone c) o (valued (alone c) p v r s) → Reaches (alone c) (course_of (exit_of M (M.number_of v) s.steps (o ++ [])))
+    main_ends : (c : Moment) (p : ℕ) (v : M.Val) (r : List M.Val) (s : State M.Mem) (o : List ℕ) → slice_get code p ≡ Some instr.Return
+        → Comes (alone c) o (valued (alone c) p v r s) → Reaches (alone c) (course_of (exit_of M (M.number_of v) s.steps (o ++ [])))
     main_ends c p v r s o at k = subst (Reaches (alone c)) (exit_written (M.number_of v) s.steps o) (returns_to_end c p v r s o at k)
 
     -- a body in the frame of `main`, with the code behind it
-    main_run : (c : Moment) (p N : ℕ) (x : Outcome) → HasAt code p (instr.Push (pos 0) ∷ (instr.Return ∷ [])) → Performs (alone c) p [] N x → Reaches (alone c) (course_of (ran M (then_do x (at_return M))))
-    main_run c p N (Done (Next r) s o) has k =
+    main_run : (c : Moment) (p total : ℕ) (x : Outcome) → HasAt code p (instr.Push (pos 0) ∷ (instr.Return ∷ [])) → Performs (alone c) p [] total x
+        → Reaches (alone c) (course_of (ran M (then_do x (at_return M))))
+    main_run c p total (Done (Next r) s o) has k =
         let d1 = came (alone c) p r s in
         let d2 = valued (alone c) (p + 1) (M.number (pos 0)) r s in
         main_ends c (p + 1) (M.number (pos 0)) r s o has.1.0 (comes_quiet (alone c) d1 d2 o k.0 (quiet_step d1 d2 (instr.Push (pos 0)) has.0 (λ next. refl)))
-    main_run c p N (Done (Goes i r) s o) has k = subst (λ w. Ends (alone c) Fault s.steps w) (sym (append-nil o)) k.0
-    main_run c p N (Done (Returns None) s o) has k = main_ends c k.0 (M.number (pos 0)) k.1 s o k.2 k.3
-    main_run c p N (Done (Returns (Some v)) s o) has k = main_ends c k.0 v k.1 s o k.2 k.3
-    main_run c p N (Stops e' m o) has k = k
+    main_run c p total (Done (Goes i r) s o) has k = subst (λ w. Ends (alone c) Fault s.steps w) (sym (append-nil o)) k.0
+    main_run c p total (Done (Returns None) s o) has k = main_ends c k.0 (M.number (pos 0)) k.1 s o k.2 k.3
+    main_run c p total (Done (Returns (Some v)) s o) has k = main_ends c k.0 v k.1 s o k.2 k.3
+    main_run c p total (Stops e' m o) has k = k
 
     -- the statements of a body, from its entry
-    body_runs_from : (f : MonFunction) (e : Entry) (behind : ℕ) (c : Moment) → c.steps ≤ n → c.place ≡ e.start → HasAt code e.start (function_code f behind) → Performs c (e.start + length (statements_code f.body (2 + behind) [])) [] (e.start + length (statements_code f.body (2 + behind) []) + (2 + behind)) (exec_all M f.body calls n c.registers (state_of c))
+    body_runs_from : (f : MonFunction) (e : Entry) (behind : ℕ) (c : Moment) → c.steps ≤ n → c.place ≡ e.start → HasAt code e.start (function_code f behind)
+        → Performs c (e.start + length (statements_code f.body (2 + behind) [])) []
+        (e.start + length (statements_code f.body (2 + behind) []) + (2 + behind)) (exec_all M f.body calls n c.registers (state_of c))
     body_runs_from f e behind c les ep has =
         let cb = statements_code f.body (2 + behind) [] in
         let at = subst (λ p. HasAt code p cb) (sym ep) (has_front code e.start cb _ has) in
         let e1 : c.place + length cb ≡ e.start + length cb = omega (arith, ep) in
         let e2 : c.place + length cb + (2 + behind) ≡ e.start + length cb + (2 + behind) = omega (arith, ep) in
-        ends_at c _ _ [] (e.start + length (statements_code f.body (2 + behind) []) + (2 + behind)) _ e1 (statements_run f.body c (2 + behind) [] _ les tt e2 at)
+        ends_at c _ _ [] (e.start + length (statements_code f.body (2 + behind) []) + (2 + behind)) _ e1
+        (statements_run f.body c (2 + behind) [] _ les tt e2 at)
 
-    enter_main : (f : MonFunction) (e : Entry) (behind : ℕ) (input : Input) → e.registers ≡ length f.parameters + length f.registers → HasAt code e.start (function_code f behind) → (y : Reply M.Mem M.Val) (mem : M.Mem) → (j : ℕ) × (changed M y n (λ m. runs M es code j (started M e m input n)) ≡ course_of (ran M (then_do (replied M y (record { mem = mem; steps = n; input = input })) (λ v t. then_do (exec_all M f.body calls n (registers (M.number (pos 0)) (length f.parameters + length f.registers) []) t) (at_return M)))))
+    enter_main : (f : MonFunction) (e : Entry) (behind : ℕ) (input : Input) → e.registers ≡ length f.parameters + length f.registers
+        → HasAt code e.start (function_code f behind) → (y : Reply M.Mem M.Val) (mem : M.Mem)
+        → (j : ℕ) × (changed M y n (λ m. runs M es code j (started M e m input n))
+        ≡ course_of (ran M (then_do (replied M y (record { mem = mem; steps = n; input = input }))
+        (λ v t. then_do (exec_all M f.body calls n (registers (M.number (pos 0)) (length f.parameters + length f.registers) []) t) (at_return M)))))
     enter_main f e behind input er has (Gives v m) mem =
         let cb = statements_code f.body (2 + behind) [] in
         let d : Moment = started M e m input n in
         let x = then_do (exec_all M f.body calls n (registers (M.number (pos 0)) e.registers []) (state_of d)) (at_return M) in
-        let r = main_run d (e.start + length cb) (e.start + length cb + (2 + behind)) _ (has_back code e.start cb _ has) (body_runs_from f e behind d (omega arith) refl has) in
-        (r.0, r.1 ∙ ap (λ z. course_of (ran M z)) (sym (writes-nil x)) ∙ ap (λ i. course_of (ran M (writes [] (then_do (exec_all M f.body calls n (registers (M.number (pos 0)) i []) (state_of d)) (at_return M))))) er)
+        let r = main_run d (e.start + length cb) (e.start + length cb + (2 + behind)) _ (has_back code e.start cb _ has)
+        (body_runs_from f e behind d (omega arith) refl has) in (
+          r.0,
+          r.1 ∙ ap (λ z. course_of (ran M z)) (sym (writes-nil x))
+              ∙ ap (λ i. course_of (ran M (writes [] (then_do (exec_all M f.body calls n (registers (M.number (pos 0)) i []) (state_of d)) (at_return M))))) er,
+        )
     enter_main f e behind input er has (IsFull g) mem = (0, refl)
     enter_main f e behind input er has Faults mem = (0, refl)
 
-    main_runs : (of_ : Option MonFunction) (oe : Option Entry) (mem : M.Mem) (input : Input) → FunctionAt code of_ oe → (j : ℕ) × (begins M es oe code j mem input n ≡ course_of (ran M (body_runs M of_ calls n [] (record { mem = mem; steps = n; input = input }))))
+    main_runs : (of_main : Option MonFunction) (oe : Option Entry) (mem : M.Mem) (input : Input) → FunctionAt code of_main oe
+        → (j : ℕ) × (begins M es oe code j mem input n ≡ course_of (ran M (body_runs M of_main calls n [] (record { mem = mem; steps = n; input = input }))))
     main_runs None None mem input h = (0, refl)
     main_runs None (Some e) mem input h = absurd h
     main_runs (Some f) None mem input h = absurd h
     main_runs (Some f) (Some e) mem input h = enter_main f e h.1 input h.0 h.2 (M.enter mem) mem
 
 -- the code of a program does what the program means, over each memory that keeps numbers
-pub lowered : (M : Memory) → KeepsNumbers M → (m : MonitoredProgram) → RunsAs M m (entries_from 0 m.functions) (entry_named (codes "main") 0 m.functions) (functions_code m.functions)
+pub lowered : (M : Memory) → KeepsNumbers M → (m : MonitoredProgram)
+    → RunsAs M m (entries_from 0 m.functions) (entry_named (codes "main") 0 m.functions) (functions_code m.functions)
 lowered M keeps m mem input n =
     let code = functions_code m.functions in
     let es = entries_from 0 m.functions in

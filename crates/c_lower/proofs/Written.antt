@@ -14,11 +14,15 @@ use Rattle.c_lower.specs.Code.{OpenLabel, expression_code, choice_code, statemen
 abbrev pub in_front : MonStatement → List OpenLabel → List Instr → List Instr
 in_front a ls old = statement_code a (length old) ls ++ old
 
-choice_flat : (ce ca cb old : List Instr) → ce ++ (instr.SkipIfZero (length ca + 1) ∷ (ca ++ (instr.GoOn (length cb) ∷ (cb ++ old)))) ≡ choice_code ce ca cb ++ old
+choice_flat : (ce ca cb old : List Instr)
+    → ce ++ (instr.SkipIfZero (length ca + 1) ∷ (ca ++ (instr.GoOn (length cb) ∷ (cb ++ old)))) ≡ choice_code ce ca cb ++ old
 choice_flat ce ca cb old = sym (simp append_assoc)
 
 -- the second branch, the jump behind it, the first branch, and the test
-pub if_written : (e : MonExpr) (a b : Vec MonStmt Global) (ls : List OpenLabel) (old c1 c2 c3 : List Instr) (n0 n2 : ℕ) → n0 ≡ length old → c1 ≡ statements_code (plain_stmts b.items) (length old) ls ++ old → c2 ≡ instr.GoOn (length c1 - n0) ∷ c1 → n2 ≡ length c2 → c3 ≡ statements_code (plain_stmts a.items) (length c2) ls ++ c2 → expression_code (plain_expr e) ++ instr.SkipIfZero (length c3 - n2 + 1) ∷ c3 ≡ in_front (plain_stmt (code.If e a b)) ls old
+pub if_written : (e : MonExpr) (a b : Vec MonStmt Global) (ls : List OpenLabel) (old c1 c2 c3 : List Instr) (n0 n2 : ℕ) → n0 ≡ length old
+    → c1 ≡ statements_code (plain_stmts b.items) (length old) ls ++ old → c2 ≡ instr.GoOn (length c1 - n0) ∷ c1 → n2 ≡ length c2
+    → c3 ≡ statements_code (plain_stmts a.items) (length c2) ls ++ c2
+    → expression_code (plain_expr e) ++ instr.SkipIfZero (length c3 - n2 + 1) ∷ c3 ≡ in_front (plain_stmt (code.If e a b)) ls old
 if_written e a b ls old c1 c2 c3 n0 n2 m0 e1 e2 m2 e3 =
     let ce = expression_code (plain_expr e) in
     let cb = statements_code (plain_stmts b.items) (length old) ls in
@@ -35,11 +39,16 @@ if_written e a b ls old c1 c2 c3 n0 n2 m0 e1 e2 m2 e3 =
     ∙ choice_flat ce ca cb old
     ∙ ap (λ s. in_front s ls old) (sym (if_is e a b))
 
-loop_flat : (before behind old : List Instr) (n : ℕ) → instr.GoOn (length behind + 1) ∷ (instr.Step ∷ ((behind ++ before) ++ instr.GoBack n ∷ old)) ≡ (instr.GoOn (length behind + 1) ∷ (instr.Step ∷ (behind ++ (before ++ instr.GoBack n ∷ [])))) ++ old
+loop_flat : (before behind old : List Instr) (n : ℕ)
+    → instr.GoOn (length behind + 1) ∷ (instr.Step ∷ ((behind ++ before) ++ instr.GoBack n ∷ old))
+    ≡ (instr.GoOn (length behind + 1) ∷ (instr.Step ∷ (behind ++ (before ++ instr.GoBack n ∷ [])))) ++ old
 loop_flat before behind old n = sym (simp append_assoc)
 
 -- the jump back, what stands before the step, and what stands behind it; what the step and the first jump make of them
-pub loop_written : (a b : Vec MonStmt Global) (ls : List OpenLabel) (old c1 c2 c3 : List Instr) (n0 n2 : ℕ) → n0 ≡ length old → c1 ≡ instr.GoBack 0 ∷ old → c2 ≡ statements_code (plain_stmts a.items) (length c1) ls ++ c1 → n2 ≡ length c2 → c3 ≡ statements_code (plain_stmts b.items) (length c2) ls ++ c2 → (front : List Instr) × (c3 ≡ front ++ instr.GoBack 0 ∷ old) × (instr.GoOn (length c3 - n2 + 1) ∷ (instr.Step ∷ (front ++ instr.GoBack (length c3 - n0) ∷ old)) ≡ in_front (plain_stmt (code.Loop a b)) ls old)
+pub loop_written : (a b : Vec MonStmt Global) (ls : List OpenLabel) (old c1 c2 c3 : List Instr) (n0 n2 : ℕ) → n0 ≡ length old → c1 ≡ instr.GoBack 0 ∷ old
+    → c2 ≡ statements_code (plain_stmts a.items) (length c1) ls ++ c1 → n2 ≡ length c2 → c3 ≡ statements_code (plain_stmts b.items) (length c2) ls ++ c2
+    → (front : List Instr) × (c3 ≡ front ++ instr.GoBack 0 ∷ old)
+    × (instr.GoOn (length c3 - n2 + 1) ∷ (instr.Step ∷ (front ++ instr.GoBack (length c3 - n0) ∷ old)) ≡ in_front (plain_stmt (code.Loop a b)) ls old)
 loop_written a b ls old c1 c2 c3 n0 n2 m0 e1 e2 m2 e3 =
     let l1 : length c1 ≡ 1 + length old = omega (arith, ap length e1) in
     let ca = statements_code (plain_stmts a.items) (1 + length old) ls in
@@ -60,7 +69,9 @@ loop_written a b ls old c1 c2 c3 n0 n2 m0 e1 e2 m2 e3 =
     )
 
 -- the body, where the label is open
-pub label_written : (a : Vec MonStmt Global) (stmts : List MonStmt) (name l : List ℕ) (n : ℕ) (ls : List OpenLabel) (old : List Instr) → stmts ≡ a.items → name ≡ l → n ≡ length old → statements_code (plain_stmts stmts) (length old) (ls ++ record { label = name; behind = n } ∷ []) ++ old ≡ in_front (plain_stmt (code.Labelled a l)) ls old
+pub label_written : (a : Vec MonStmt Global) (stmts : List MonStmt) (name l : List ℕ) (n : ℕ) (ls : List OpenLabel) (old : List Instr) → stmts ≡ a.items
+    → name ≡ l → n ≡ length old → statements_code (plain_stmts stmts) (length old) (ls ++ record { label = name; behind = n } ∷ []) ++ old
+    ≡ in_front (plain_stmt (code.Labelled a l)) ls old
 label_written a stmts name l n ls old e f g =
     ap (λ x. statements_code (plain_stmts x) (length old) (ls ++ record { label = name; behind = n } ∷ []) ++ old) e
     ∙ ap (λ x. statements_code (plain_stmts a.items) (length old) (ls ++ record { label = x; behind = n } ∷ []) ++ old) f

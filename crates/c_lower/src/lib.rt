@@ -12,3 +12,6 @@ mod statements;
 
 pub use code::{Code, Entry, Instr};
 pub use program::lower;
+
+#[cfg(test)]
+mod tests;

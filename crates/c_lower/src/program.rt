@@ -70,7 +70,8 @@ fn turned_round(alloc: Global, written: Vec<Entry>, total: usize) -> Result<Vec<
 
 // The entry of the first function that is `main`, from the entries of all.
 fn main_entry(functions: &[MonFunc], entries: &[Entry]) -> Option<Entry>
-    ensures { (start : ℕ) → entries.now ≡ entries_from start (map plain_func functions.now) → result ≡ entry_named (codes "main") start (map plain_func functions.now) }
+    ensures { (start : ℕ) → entries.now ≡ entries_from start (map plain_func functions.now)
+        → result ≡ entry_named (codes "main") start (map plain_func functions.now) }
 {
     for (i, f) in functions.iter().enumerate() {
         if f.name.bytes() == b"main".as_slice() {

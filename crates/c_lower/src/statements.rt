@@ -37,7 +37,8 @@ fn emit_test(code: &mut Backward, e: &MonExpr, since: usize) -> Result<(), Alloc
 // A loop around what was written: the jump back has so many instructions behind it, and what stands before the step as many as `middle`.
 fn close_loop(code: &mut Backward, end: usize, middle: usize) -> Result<(), AllocError>
     requires { (end < middle) × (middle ≤ length code.old) }
-    ensures { (front back : List Instr) (x : Instr) → code.old ≡ front ++ x ∷ back → end ≡ length back → OnOk result (code.new ≡ instr.GoOn (length code.old - middle + 1) ∷ (instr.Step ∷ (front ++ instr.GoBack (length code.old - end) ∷ back))) }
+    ensures { (front back : List Instr) (x : Instr) → code.old ≡ front ++ x ∷ back → end ≡ length back
+        → OnOk result (code.new ≡ instr.GoOn (length code.old - middle + 1) ∷ (instr.Step ∷ (front ++ instr.GoBack (length code.old - end) ∷ back))) }
 {
     let behind = code.len() - middle;
     code.patch(end, Instr::GoBack(code.len() - end));

@@ -11,7 +11,8 @@ use Rattle.c_lower.proofs.Runs.{lowered}
 use Rattle.c_lower.proofs.program.lower.Goals as goal
 
 -- what holds of a program's parts holds of what is equal to them
-by_parts : (P : List Entry → Option Entry → List Instr → Type 0) (es es' : List Entry) (main main' : Option Entry) (code code' : List Instr) → es ≡ es' → main ≡ main' → code ≡ code' → P es' main' code' → P es main code
+by_parts : (P : List Entry → Option Entry → List Instr → Type 0) (es es' : List Entry) (main main' : Option Entry) (code code' : List Instr) → es ≡ es'
+    → main ≡ main' → code ≡ code' → P es' main' code' → P es main code
 by_parts P es es' main main' code code' e f g h = rw (e, f, g) h
 
 pub invariant_of-result : goal.invariant_of-result

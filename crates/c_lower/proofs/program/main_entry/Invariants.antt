@@ -7,4 +7,6 @@ use Rattle.c_lower.proofs.program.main_entry.Given as goal
 -- no function before this one is `main`
 abbrev pub invariant-loop-i : goal.invariant-loop-i
 invariant-loop-i l =
-    (start : ℕ) → l.entries ≡ entries_from start (map plain_func l.functions) → (here : ℕ) × (drop l.i l.entries ≡ entries_from here (map plain_func (drop l.i l.functions))) × (entry_named (codes "main") start (map plain_func l.functions) ≡ entry_named (codes "main") here (map plain_func (drop l.i l.functions)))
+    (start : ℕ) → l.entries ≡ entries_from start (map plain_func l.functions)
+    → (here : ℕ) × (drop l.i l.entries ≡ entries_from here (map plain_func (drop l.i l.functions)))
+    × (entry_named (codes "main") start (map plain_func l.functions) ≡ entry_named (codes "main") here (map plain_func (drop l.i l.functions)))

@@ -8,7 +8,8 @@ use Rattle.c_lower.proofs.program.written.Goals as goal
 pub returns-clause-entries : goal.returns-clause-entries
 returns-clause-entries c =
     c.in_ok-entries.ensures
-    ∙ all_counted (map plain_func c.deref.result.now) c.emit_functions.new.entries.items c.emit_functions.new.code c.len.result c.in_ok-emit_functions.ensures.entries c.in_ok-emit_functions.ensures.code c.len.ensures
+    ∙ all_counted (map plain_func c.deref.result.now) c.emit_functions.new.entries.items c.emit_functions.new.code c.len.result
+    c.in_ok-emit_functions.ensures.entries c.in_ok-emit_functions.ensures.code c.len.ensures
     ∙ ap (λ l. entries_from 0 (map plain_func l)) c.deref.ensures.value
 
 pub returns-clause-main : goal.returns-clause-main
