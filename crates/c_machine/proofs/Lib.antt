@@ -10,3 +10,4 @@ pub mod Courses
 pub mod Measure
 pub mod Finished
 pub mod Depths
+pub mod Sound

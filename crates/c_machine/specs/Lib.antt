@@ -1,4 +1,5 @@
 pub mod Held
 pub mod Acts
 pub mod Whole
+pub mod Checked
 pub mod Runs

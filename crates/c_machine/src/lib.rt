@@ -3,6 +3,8 @@
 
 mod arithmetic;
 mod calls;
+#[cfg(test)]
+mod checked;
 mod depth;
 mod machine;
 mod quiet;
