@@ -21,16 +21,8 @@ fn taken(instr: &Instr) -> usize
         | Instr::Return => 1,
         Instr::Binary(_, _) | Instr::Assert(_, _, _) => 2,
         Instr::Call(_, arguments) => *arguments,
-        Instr::Extend(_)
-        | Instr::Minus(_)
-        | Instr::Flip(_)
-        | Instr::Cast(_)
-        | Instr::PutChar => 1,
-        Instr::PutByte(_)
-        | Instr::GoOn(_)
-        | Instr::GoBack(_)
-        | Instr::Step
-        | Instr::Fail => 0,
+        Instr::Extend(_) | Instr::Minus(_) | Instr::Flip(_) | Instr::Cast(_) | Instr::PutChar => 1,
+        Instr::PutByte(_) | Instr::GoOn(_) | Instr::GoBack(_) | Instr::Step | Instr::Fail => 0,
     }
 }
 
