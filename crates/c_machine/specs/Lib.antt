@@ -1,3 +1,4 @@
+pub mod Rare
 pub mod Held
 pub mod Acts
 pub mod Whole

@@ -9,6 +9,8 @@ mod depth;
 mod machine;
 mod quiet;
 pub mod stop;
+#[cfg(test)]
+mod tests;
 mod turn;
 mod whole;
 mod writing;
