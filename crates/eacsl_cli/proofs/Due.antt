@@ -40,7 +40,7 @@ begins_with all bytes sent lost rest e b = record { rest = lost ++ rest; is = e 
 abbrev answer_of : Report → List ℕ → Answer
 answer_of said sent = record { status = said.status; output = sent; line = said.line }
 
-module _ {m : MonitoredProgram} {steps : ℕ} {told told' : Option (List ℕ)} {faults faults' : ℕ} {code : Code} (lowered : RunsAs over_flat m code.entries.items code.main code.instrs.items) where
+module _ (m : MonitoredProgram) (steps : ℕ) (told told' : Option (List ℕ)) (faults faults' : ℕ) (code : Code) (lowered : RunsAs over_flat m code.entries.items code.main code.instrs.items) where
   -- the code's run is the program's
   run_is : {end : Final} {ran : machine.Ran} (r : RanTo code steps (port_of told [] faults) (port_of told' [] faults') end ran) (input : Input) → flat_run m input steps ≡ record { final = end; output = r.bytes; left = ran.left }
   run_is r input =
@@ -65,7 +65,7 @@ module _ {m : MonitoredProgram} {steps : ℕ} {told told' : Option (List ℕ)} {
       let all = extends_trans cut.bytes _ _ b.1 w in
       begins_with _ cut.bytes cut.lost.sent cut.lost.lost all.rest all.is cut.lost.bytes_are
 
-  module _ {err : Change} {result : ℕ} where
+  module _ (err : Change) (result : ℕ) where
     -- the run came to an end, and that was reported
     ended : {end : Final} {ran : machine.Ran} → RanTo code steps (port_of told [] faults) (port_of told' [] faults') end ran → (said : Report) → report end ≡ Some said → IsSettled said.line said.status err result → Answered (ReportDue m steps) (ReportBegins m steps) (change told told' faults faults') err result
     ended r said e s = settled_answer (answer_of said r.wrote.sent) (answers r said e) (sent_begins r) r.wrote.told_is r.wrote.faults_is s

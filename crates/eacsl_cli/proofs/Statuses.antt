@@ -40,12 +40,12 @@ report_status ReadFault said e = subst (λ (r : Report). IsStatus r.status) (sym
 by_report : {err : Change} {result : ℕ} (end : Final) (said : Report) → report end ≡ Some said → IsSettled said.line said.status err result → IsStatus result
 by_report end said e s = settled_status (report_status end said e) s
 
-pub reported_status : {err : Change} {result : ℕ} (end : Stop) → Reported end err result → IsStatus result
-reported_status (stop.Exit z) r = by_report (Exits z) r.said r.is r.settled
-reported_status (stop.Broken number line kind how) r = by_report (Broken number line kind how) r.said r.is r.settled
-reported_status stop.Spent r = by_report Spent r.said r.is r.settled
-reported_status (stop.Full segment) r = by_report (Full segment) r.said r.is r.settled
-reported_status stop.Fault r = by_report Fault r.said r.is r.settled
-reported_status stop.ReadFault r = by_report ReadFault r.said r.is r.settled
-reported_status stop.WriteFault r = subst IsStatus (sym r.status) (literal_status 8 (omega arith))
-reported_status stop.OutOfMemory r = memory_status r
+pub reported_status : (err : Change) (result : ℕ) (end : Stop) → Reported end err result → IsStatus result
+reported_status err result (stop.Exit z) r = by_report (Exits z) r.said r.is r.settled
+reported_status err result (stop.Broken number line kind how) r = by_report (Broken number line kind how) r.said r.is r.settled
+reported_status err result stop.Spent r = by_report Spent r.said r.is r.settled
+reported_status err result (stop.Full segment) r = by_report (Full segment) r.said r.is r.settled
+reported_status err result stop.Fault r = by_report Fault r.said r.is r.settled
+reported_status err result stop.ReadFault r = by_report ReadFault r.said r.is r.settled
+reported_status err result stop.WriteFault r = subst IsStatus (sym r.status) (literal_status 8 (omega arith))
+reported_status err result stop.OutOfMemory r = memory_status r

@@ -18,3 +18,9 @@ returns-in-Spent g c = rw c.in-Spent.is (record { said = record { status = 5; li
 
 pub returns-in-Fault : goal.returns-in-Fault
 returns-in-Fault g c = rw c.in-Fault.is (record { said = record { status = 6; line = line_of (codes "fault") }; is = refl; settled = Said c.say-in-Fault.ensures })
+
+pub returns-in-ReadFault : goal.returns-in-ReadFault
+returns-in-ReadFault g c = rw c.in-ReadFault.is (record { said = record { status = 7; line = line_of (codes "read fault") }; is = refl; settled = Said c.say-in-ReadFault.ensures })
+
+pub returns-in-OutOfMemory : goal.returns-in-OutOfMemory
+returns-in-OutOfMemory g c = rw c.in-OutOfMemory.is c.out_of_memory.ensures
