@@ -11,7 +11,7 @@ pub returns-in-Err-clause-status : goal.returns-in-Err-clause-status
 returns-in-Err-clause-status g c = memory_status c.out_of_memory.ensures
 
 pub returns-clause-answered : goal.returns-clause-answered
-returns-clause-answered g c = run_reported (plain_program c.args.m.now) c.args.steps _ _ _ _ c.in-Ok.code c.in-Ok.ensures.runs _ _ c.run.result c.run.ensures c.report_stop.ensures
+returns-clause-answered g c = run_reported (plain_program c.args.m.now) c.args.steps _ _ _ _ c.in-Ok.code c.in-Ok.ensures.runs _ _ c.run-ran.result c.run-ran.ensures c.report_stop.ensures
 
 pub returns-clause-status : goal.returns-clause-status
-returns-clause-status g c = reported_status _ _ c.run.result.stop c.report_stop.ensures
+returns-clause-status g c = reported_status _ _ c.run-ran.result.stop c.report_stop.ensures
