@@ -1,5 +1,6 @@
 pub mod Rows
 pub mod Agreement
+pub mod FlatBlocks
 pub mod FlatAgreement
 pub mod Fuel
 pub mod Wrapping
