@@ -15,6 +15,7 @@ pub mod PrintedAlone
 pub mod PrintedSteps
 pub mod PrintedExpressions
 pub mod PrintedCalls
+pub mod PrintedArguments
 pub mod PrintedBodies
 pub mod PrintedSimple
 pub mod PrintedStatements
