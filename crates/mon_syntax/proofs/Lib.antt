@@ -19,5 +19,7 @@ pub mod PrintedArguments
 pub mod PrintedBodies
 pub mod PrintedSimple
 pub mod PrintedStatements
+pub mod PrintedRegisters
+pub mod PrintedFunctions
 pub mod PrintedTexts
 mod WorkedRuns
