@@ -22,4 +22,5 @@ pub mod PrintedStatements
 pub mod PrintedRegisters
 pub mod PrintedFunctions
 pub mod PrintedTexts
-mod WorkedRuns
+pub mod WorkedRuns
+mod WorkedCalls
