@@ -33,7 +33,8 @@ fit_value : {Mem A B : Type 0} (a : Option A) (n : ℕ) (f g : A → Result (Sta
 fit_value None n f g h = (refl, omega arith)
 fit_value (Some a) n f g h = h a
 
-fit_read : {Mem A : Type 0} (o : Option (ℤ × Input)) (n : ℕ) (f g : ℤ → Input → Result (State Mem) A) → ((z : ℤ) (r : Input) → Fit n (f z r) (g z r)) → Fit n (with_read o n f) (with_read o n g)
+fit_read : {Mem A : Type 0} (o : Option (ℤ × Input)) (n : ℕ) (f g : ℤ → Input → Result (State Mem) A) → ((z : ℤ) (r : Input) → Fit n (f z r) (g z r))
+    → Fit n (with_read o n f) (with_read o n g)
 fit_read None n f g h = (refl, omega arith)
 fit_read (Some (z, r)) n f g h = h z r
 

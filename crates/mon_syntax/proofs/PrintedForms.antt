@@ -27,7 +27,8 @@ module _ (rs : Registers) (more : Pieces) where
   ended_is e = append_assoc (expression_pieces rs e) (semicolon ∷ []) more
 
   -- an argument and those behind it
-  pub argument_is : (e : MonExpression) (es : List MonExpression) → (expression_pieces rs e ++ more_arguments rs es) ++ more ≡ expression_pieces rs e ++ (more_arguments rs es ++ more)
+  pub argument_is : (e : MonExpression) (es : List MonExpression)
+      → (expression_pieces rs e ++ more_arguments rs es) ++ more ≡ expression_pieces rs e ++ (more_arguments rs es ++ more)
   argument_is e es = append_assoc (expression_pieces rs e) (more_arguments rs es) more
 
   -- the register that takes the value of a call, and the call
@@ -80,7 +81,8 @@ module _ (gs : FunctionNames) (rs : Registers) (more : Pieces) where
       (append_assoc A (new_line (depth + 1) ∷ step_then (B ++ (new_line depth ∷ Mark (codes "}") ∷ []))) more
       ∙ ap (λ (l : Pieces). A ++ (new_line (depth + 1) ∷ step_then l)) (append_assoc B (new_line depth ∷ Mark (codes "}") ∷ []) more))
 
-  pub labelled_is : (depth : ℕ) (a : MonStatements) (l : List ℕ) → statement_pieces gs rs depth (Labelled a l) ++ more ≡ body_pieces gs rs depth a ++ (blank ∷ Word l ∷ Mark (codes ":") ∷ blank ∷ semicolon ∷ more)
+  pub labelled_is : (depth : ℕ) (a : MonStatements) (l : List ℕ)
+      → statement_pieces gs rs depth (Labelled a l) ++ more ≡ body_pieces gs rs depth a ++ (blank ∷ Word l ∷ Mark (codes ":") ∷ blank ∷ semicolon ∷ more)
   labelled_is depth a l = append_assoc (body_pieces gs rs depth a) (blank ∷ Word l ∷ Mark (codes ":") ∷ blank ∷ semicolon ∷ []) more
 
   pub body_is : (depth : ℕ) (a : MonStatement) (rest : MonStatements)
@@ -94,7 +96,8 @@ module _ (gs : FunctionNames) (rs : Registers) (more : Pieces) where
       ∙ ap (λ (l : Pieces). A ++ l) (append_assoc R (new_line depth ∷ Mark (codes "}") ∷ []) more)
       ∙ sym (append_assoc A R (new_line depth ∷ Mark (codes "}") ∷ more)))
 
-  pub then_is : (depth : ℕ) (a : MonStatement) (rest : MonStatements) → statements_pieces gs rs depth (Then a rest) ++ more ≡ new_line depth ∷ (statement_pieces gs rs depth a ++ (statements_pieces gs rs depth rest ++ more))
+  pub then_is : (depth : ℕ) (a : MonStatement) (rest : MonStatements)
+      → statements_pieces gs rs depth (Then a rest) ++ more ≡ new_line depth ∷ (statement_pieces gs rs depth a ++ (statements_pieces gs rs depth rest ++ more))
   then_is depth a rest = ap (λ (l : Pieces). new_line depth ∷ l) (append_assoc (statement_pieces gs rs depth a) (statements_pieces gs rs depth rest) more)
 
 -- ---- functions
