@@ -148,7 +148,8 @@ birth_alike w m n size None h =
         frames = h.frames;
         births = number ∙ sym (length-append m.store (new_block Stack size ∷ []));
         addresses = length-append w (address ∷ []) ∙ old ∙ sym (length-append m.store (new_block Stack size ∷ []));
-        live = ap (λ k. record { number = k; size = size } ∷ n.live) number ∙ ap (λ bs. record { number = length m.store + 1; size = size } ∷ bs) h.live ∙ sym (live-born m.store size);
+        live = ap (λ k. record { number = k; size = size } ∷ n.live) number ∙ ap (λ bs. record { number = length m.store + 1; size = size } ∷ bs) h.live
+            ∙ sym (live-born m.store size);
         stand = (address-new w (n.births + 1) address (number ∙ sym old), stand_later w v n.live later h.stand);
       },
     )
@@ -192,7 +193,8 @@ death_alike w k y m n p h d =
     let address : p.address + 0 ≡ stack_end d.older = some_same _ _ same in
     let is : pointer_to (suc k) (p.address + 0) ≡ pointer_to b.number (stack_end d.older) = ap (λ i. pointer_to i (p.address + 0)) number ∙ ap (pointer_to (suc (0 + k))) address in
     let flat : delete_flat (y ∷ []) n ≡ Gives (pos 0) (record n { live = d.older }) =
-    ap (λ z. delete_flat (z ∷ []) n) p.is ∙ ap (λ bs. delete_youngest (pointer_to (suc k) (p.address + 0)) bs n) live ∙ delete_youngest-first _ b d.older n is in
+    ap (λ z. delete_flat (z ∷ []) n) p.is ∙ ap (λ bs. delete_youngest (pointer_to (suc k) (p.address + 0)) bs n) live
+    ∙ delete_youngest-first _ b d.older n is in
     subst (Answers w (Gives (Whole (pos 0)) (record m { store = dead_at k (slice_get m.store k) m.store }))) (sym flat) (
       w,
       later_refl w,

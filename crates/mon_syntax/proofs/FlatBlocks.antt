@@ -60,7 +60,8 @@ none_live : (k : ℕ) (bs : Store) (before : Option ℕ) (j : ℕ) → j < k →
     → live_from k bs found ≡ found
 none_live k [] before j l e found = refl
 none_live k (b ∷ bs) before j l e found =
-    by (is_live_on_stack b) (youngest_before (suc k) bs (if is_live_on_stack b then Some k else before) j (omega arith) e) (none_live (suc k) bs (if is_live_on_stack b then Some k else before) j (omega arith) e)
+    by (is_live_on_stack b) (youngest_before (suc k) bs (if is_live_on_stack b then Some k else before) j (omega arith) e)
+    (none_live (suc k) bs (if is_live_on_stack b then Some k else before) j (omega arith) e)
   where
     by : (t : Bool) → (if t then Some k else before) ≡ Some j → ((more : List LiveBlock) → live_from (suc k) bs more ≡ more)
         → live_from (suc k) bs (if t then noted (suc k) b ∷ found else found) ≡ found

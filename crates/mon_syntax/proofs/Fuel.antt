@@ -137,7 +137,8 @@ module _ (M : Memory) where
     fit_exec (PrintSigned e) k m n c d lm ln h regs s l = fit_value (eval_number M e regs) s.steps _ _ (λ i. (refl, omega arith))
     fit_exec (PrintUnsigned e) k m n c d lm ln h regs s l = fit_value (eval_number M e regs) s.steps _ _ (λ i. (refl, omega arith))
     fit_exec (Act r f args) k m n c d lm ln h regs s l =
-        fit_value (eval_all M args regs) s.steps _ _ (λ vs. fit_behind s.steps (replied M (M.act f vs s.mem) s) _ _ (steps-replied (M.act f vs s.mem) s) (λ v t lt. (refl, omega arith)))
+        fit_value (eval_all M args regs) s.steps _ _
+        (λ vs. fit_behind s.steps (replied M (M.act f vs s.mem) s) _ _ (steps-replied (M.act f vs s.mem) s) (λ v t lt. (refl, omega arith)))
     fit_exec (Call r f args) k m n c d lm ln h regs s l =
         fit_value (eval_all M args regs) s.steps _ _ (λ vs. fit_then s.steps _ _ _ _ (h f vs s l) (λ v t lt. (refl, omega arith)))
     fit_exec (If e a b) k m n c d lm ln h regs s l =

@@ -217,7 +217,8 @@ digits_of (pos n) = n
 digits_of (negsuc n) = suc n
 
 small_constant : (t : MonType) (z : ℤ) → has_constant t z ≡ true → digits_of z ≤ greatest_literal
-small_constant t (pos n) h = by t (and_true (int_le (least t) (pos n)) (int_le (pos n) (greatest t)) (and_true (is_whole t) (fits t (pos n)) (and_true (is_whole t && fits t (pos n)) _ h).0).1).1
+small_constant t (pos n) h =
+    by t (and_true (int_le (least t) (pos n)) (int_le (pos n) (greatest t)) (and_true (is_whole t) (fits t (pos n)) (and_true (is_whole t && fits t (pos n)) _ h).0).1).1
   where
     by : (t : MonType) → int_le (pos n) (greatest t) ≡ true → n ≤ greatest_literal
     by I8 e = omega (arith, below n 127 e)
@@ -359,7 +360,8 @@ module _ (ts : Types) (rs : Registers) (named : AreNamed ts rs) where
       → TakesValue ts r v → AreArguments ts es ps → AreAlone more
       → AreAlone ((set_or_none rs r ++ call_pieces name (arguments_pieces rs es)) ++ more)
   called_alone r v name es ps more w h k m =
-      taken_alone r v (call_pieces name (arguments_pieces rs es)) more h (call_alone name (arguments_pieces rs es) more w (arguments_alone es ps (semicolon ∷ more) k (alone_semicolon _, m)))
+      taken_alone r v (call_pieces name (arguments_pieces rs es)) more h
+      (call_alone name (arguments_pieces rs es) more w (arguments_alone es ps (semicolon ∷ more) k (alone_semicolon _, m)))
 
   -- ---- statements among functions of these signatures and names
 
@@ -369,7 +371,12 @@ module _ (ts : Types) (rs : Registers) (named : AreNamed ts rs) where
         → ((end : Pieces) → AreAlone end → AreAlone (statements_pieces called rs (depth + 1) s ++ end)) → AreAlone more
         → AreAlone (body_pieces called rs depth s ++ more)
     body_alone NoStatement depth more inner m = (alone_left_brace _, (refl, (alone_right_brace _, m)))
-    body_alone (Then a rest) depth more inner m = subst AreAlone (sym (body_is called rs more depth a rest)) (alone_left_brace _, inner (new_line depth ∷ Mark (codes "}") ∷ more) (line_blank depth, (alone_right_brace _, m)))
+    body_alone (Then a rest) depth more inner m =
+        subst AreAlone (sym (body_is called rs more depth a rest)) (
+          alone_left_brace _,
+          inner (new_line depth ∷ Mark (codes "}") ∷ more)
+              (line_blank depth, (alone_right_brace _, m)),
+        )
 
     -- each label is a word
     AreLabels : Labels → Type 0
@@ -395,15 +402,19 @@ module _ (ts : Types) (rs : Registers) (named : AreNamed ts rs) where
       statement_alone (Set r e) result ls depth more labels h m = set_alone r h.0 ((expression_pieces rs e ++ (semicolon ∷ [])) ++ more) h.1 (ended_alone e h.0 more h.2 m)
       statement_alone Step result ls depth more labels h m = call_alone (codes "__e_acsl_step") [] more refl (alone_right_paren _, (alone_semicolon _, m))
       statement_alone (Assert d v number line kind) result ls depth more labels h m = assert_alone d v number line kind more h m
-      statement_alone (PutChar r e) result ls depth more labels h m = taken_alone r (Some I32) (call_pieces (codes "putchar") (expression_pieces rs e)) more h.0 (value_alone (codes "putchar") e I32 more refl h.1 m)
+      statement_alone (PutChar r e) result ls depth more labels h m =
+          taken_alone r (Some I32) (call_pieces (codes "putchar") (expression_pieces rs e)) more h.0 (value_alone (codes "putchar") e I32 more refl h.1 m)
       statement_alone (GetChar r) result ls depth more labels h m =
-          taken_alone r (Some I32) (call_pieces (codes "getchar") []) more h (call_alone (codes "getchar") [] more refl (alone_right_paren _, (alone_semicolon _, m)))
+          taken_alone r (Some I32) (call_pieces (codes "getchar") []) more h
+          (call_alone (codes "getchar") [] more refl (alone_right_paren _, (alone_semicolon _, m)))
       statement_alone (Exit e) result ls depth more labels h m = value_alone (codes "exit") e I32 more refl h m
       statement_alone (PrintText bytes) result ls depth more labels h m = call_alone (codes "__e_acsl_print_text") (Quoted bytes ∷ []) more refl (h, (alone_right_paren _, (alone_semicolon _, m)))
       statement_alone (PrintSigned e) result ls depth more labels h m = value_alone (codes "__e_acsl_print_i64") e I64 more refl h m
       statement_alone (PrintUnsigned e) result ls depth more labels h m = value_alone (codes "__e_acsl_print_u64") e U64 more refl h m
-      statement_alone (Act r f es) result ls depth more labels h m = called_alone r (memory_result f) (memory_word f) es (memory_parameters f) more (memory_is_word f) h.1 h.0 m
-      statement_alone (Call r f es) result ls depth more labels h m = called_alone r h.callee.result (function_name called f) es h.callee.parameters more (callees f h.callee h.has) h.takes h.arguments m
+      statement_alone (Act r f es) result ls depth more labels h m =
+          called_alone r (memory_result f) (memory_word f) es (memory_parameters f) more (memory_is_word f) h.1 h.0 m
+      statement_alone (Call r f es) result ls depth more labels h m =
+          called_alone r h.callee.result (function_name called f) es h.callee.parameters more (callees f h.callee h.has) h.takes h.arguments m
       statement_alone (If e a b) result ls depth more labels h m =
           subst AreAlone (sym (if_is called rs more depth e a b)) (
             (refl, refl),
@@ -457,7 +468,8 @@ module _ (ts : Types) (rs : Registers) (named : AreNamed ts rs) where
           → AreStatements gs ts result ls s → AreAlone more → AreAlone (statements_pieces called rs depth s ++ more)
       statements_alone NoStatement result ls depth more labels h m = m
       statements_alone (Then a rest) result ls depth more labels h m =
-          subst AreAlone (sym (then_is called rs more depth a rest)) (line_blank depth, statement_alone a result ls depth _ labels h.0 (statements_alone rest result ls depth more labels h.1 m))
+          subst AreAlone (sym (then_is called rs more depth a rest))
+          (line_blank depth, statement_alone a result ls depth _ labels h.0 (statements_alone rest result ls depth more labels h.1 m))
 
     pub body_is_alone : (s : MonStatements) (result : Option MonType) (more : Pieces) → AreStatements gs ts result [] s → AreAlone more
         → AreAlone (statements_pieces called rs 1 s ++ more)
@@ -484,7 +496,8 @@ more_parameters_alone (p ∷ ps) rest before more h m =
 parameters_alone : (ps rest : Registers) (more : Pieces) → AreRegisters [] (ps ++ rest) → AreAlone more
     → AreAlone (parameters_pieces ps ++ (right_paren ∷ more))
 parameters_alone [] rest more h m = ((refl, refl), (alone_right_paren _, m))
-parameters_alone (p ∷ ps) rest more h m = ((type_is_word p.kind, refl), (refl, ((free_word p.name h.0, parameter_stop ps more), more_parameters_alone ps rest (p.name ∷ []) more h.2 m)))
+parameters_alone (p ∷ ps) rest more h m =
+    ((type_is_word p.kind, refl), (refl, ((free_word p.name h.0, parameter_stop ps more), more_parameters_alone ps rest (p.name ∷ []) more h.2 m)))
 
 -- registers behind parameters
 registers_behind : (ps rs : Registers) (before : List (List ℕ)) (more : Pieces) → AreRegisters before (ps ++ rs) → AreAlone more
@@ -528,7 +541,8 @@ callee_named gs before (f ∷ fs) (suc k) g h e = callee_named gs (f.name ∷ be
 functions_alone : (gs : List Signature) (called : FunctionNames) (before : List (List ℕ)) (fs : List MonFunction) → AreCallees gs called
     → AreFunctions gs before fs → AreAlone (functions_pieces called fs)
 functions_alone gs called before [] callees h = tt
-functions_alone gs called before (f ∷ fs) callees h = function_alone gs called f (functions_pieces called fs) callees h.0 (functions_alone gs called (f.name ∷ before) fs callees h.2)
+functions_alone gs called before (f ∷ fs) callees h =
+    function_alone gs called f (functions_pieces called fs) callees h.0 (functions_alone gs called (f.name ∷ before) fs callees h.2)
 
 pub program_alone : (fs : List MonFunction) → AreFunctions (map signature_of fs) [] fs → AreAlone (functions_pieces (map (λ (f : MonFunction). f.name) fs) fs)
 program_alone fs h =

@@ -23,7 +23,7 @@ use Rattle.mon_syntax.specs.declared.word.Word.TheVariants as word
 use Rattle.mon_syntax.specs.Words.{word_of}
 use Rattle.mon_syntax.specs.Trees.{MonExpression, MonStatement, Assert, PrintText, Act, Call}
 use Rattle.mon_syntax.specs.Text as text
-use Rattle.mon_syntax.specs.Text.{Registers, expression_pieces, arguments_pieces, assert_arguments, FunctionNames, function_name, memory_word}
+use Rattle.mon_syntax.specs.Text.{Registers, expression_pieces, arguments_pieces, assert_arguments, memory_word}
 use Rattle.mon_syntax.specs.Valid as valid
 use Rattle.mon_syntax.specs.Valid.{Types, IsExpression, AreArguments, Signature, greatest_number, memory_parameters}
 use Rattle.mon_syntax.specs.Parsed as parsed
@@ -88,7 +88,8 @@ unfolding word_of
 memory_word_is StoreBlock = refl
 memory_word_is DeleteBlock = refl
 
-module _ (names : List (List ℕ)) (ws : Vocabulary) (words : AreWords names ws) (functions : List Header) (types : Types) (rs : Registers) (regs : List (ℕ × MonType)) (found : AreFound names types rs regs) where
+module _ (names : List (List ℕ)) (ws : Vocabulary) (words : AreWords names ws) (functions : List Header)
+    (types : Types) (rs : Registers) (regs : List (ℕ × MonType)) (found : AreFound names types rs regs) where
   abbrev pub number : List ℕ → ℕ
   number = name_number names
 
@@ -246,7 +247,8 @@ module _ (names : List (List ℕ)) (ws : Vocabulary) (words : AreWords names ws)
         rest = close.3.1;
         ends = close.3.2;
         after = close.3.3;
-        checked = λ _ at. assert_checked d v n l k (record { place = at; number = number w }) a.0 first.0 second.0 third.0 x.tree y.tree x.checked y.checked hn hl;
+        checked = λ _ at. assert_checked d v n l k
+            (record { place = at; number = number w }) a.0 first.0 second.0 third.0 x.tree y.tree x.checked y.checked hn hl;
         step = refl;
       }
 
@@ -311,7 +313,8 @@ module _ (names : List (List ℕ)) (ws : Vocabulary) (words : AreWords names ws)
 
   arguments_as : (es : List MonExpression) (ps : Types) (more : Pieces) (ts : List PlainToken) → AreArguments types es ps
       → AreTokens names (arguments_pieces rs es ++ (text.right_paren ∷ more)) ts → AreArgumentsAs es ps more ts
-  arguments_as [] [] more ts h a = record { trees = []; behind = ts; read = no_argument_read ws a.2; end = a.0; rest = a.1; ends = a.2; after = a.3; checked = λ at. refl }
+  arguments_as [] [] more ts h a =
+      record { trees = []; behind = ts; read = no_argument_read ws a.2; end = a.0; rest = a.1; ends = a.2; after = a.3; checked = λ at. refl }
   arguments_as [] (p ∷ ps) more ts h a = absurd h
   arguments_as (e ∷ es) [] more ts h a = absurd h
   arguments_as (e ∷ es) (p ∷ ps) more ts h a0 =
@@ -361,7 +364,8 @@ module _ (names : List (List ℕ)) (ws : Vocabulary) (words : AreWords names ws)
       → AreTokens names (text.left_paren ∷ ((arguments_pieces rs es ++ (text.right_paren ∷ text.semicolon ∷ [])) ++ more)) ts
       → IsCallAs (memory_word f) (word.Runtime (memory_runtime f)) (Act None f es) more ts
   memory_call_is f es more ts h a =
-      call_with_arguments (memory_word f) (word.Runtime (memory_runtime f)) (Act None f es) es (memory_parameters f) more ts (no_step_word f) refl h (λ _ at opening xs k. memory_checked f (record { place = at; number = number (memory_word f) }) opening xs es k) a
+      call_with_arguments (memory_word f) (word.Runtime (memory_runtime f)) (Act None f es) es (memory_parameters f) more ts (no_step_word f) refl h
+      (λ _ at opening xs k. memory_checked f (record { place = at; number = number (memory_word f) }) opening xs es k) a
     where
       no_step_word : (f : MemoryCall) → is_step_word (word.Runtime (memory_runtime f)) ≡ false
       no_step_word StoreBlock = refl
@@ -383,4 +387,5 @@ module _ (names : List (List ℕ)) (ws : Vocabulary) (words : AreWords names ws)
       → AreTokens names (text.left_paren ∷ ((arguments_pieces rs es ++ (text.right_paren ∷ text.semicolon ∷ [])) ++ more)) ts
       → IsCallAs g.name word.Name (Call None f es) more ts
   named_call_is f g es more ts has not_main h a =
-      call_with_arguments g.name word.Name (Call None f es) es g.parameters more ts refl refl h (λ there at opening xs k. named_checked g.name f g.parameters g.result es at opening xs (has there) (bytes_are (number g.name) g.name there) not_main k) a
+      call_with_arguments g.name word.Name (Call None f es) es g.parameters more ts refl refl h
+      (λ there at opening xs k. named_checked g.name f g.parameters g.result es at opening xs (has there) (bytes_are (number g.name) g.name there) not_main k) a

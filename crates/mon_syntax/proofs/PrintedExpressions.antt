@@ -186,7 +186,8 @@ AreWords names ws = (n : ℕ) (w : List ℕ) → slice_get names n ≡ Some w �
 abbrev pub AreFound : List (List ℕ) → Types → Registers → List (ℕ × MonType) → Type 0
 AreFound names types rs regs = (r : ℕ) (t : MonType) → slice_get types r ≡ Some t → (find_register 0 regs (name_number names (name_of rs r)) ≡ Some (r, t)) × (word_of (name_of rs r) ≡ word.Name)
 
-module _ (names : List (List ℕ)) (ws : Vocabulary) (words : AreWords names ws) (functions : List Header) (types : Types) (rs : Registers) (regs : List (ℕ × MonType)) (found : AreFound names types rs regs) where
+module _ (names : List (List ℕ)) (ws : Vocabulary) (words : AreWords names ws) (functions : List Header)
+    (types : Types) (rs : Registers) (regs : List (ℕ × MonType)) (found : AreFound names types rs regs) where
   -- with n parentheses left the tokens are read as the expression of its type, up to those of the pieces behind it
   pub record IsReadAs (n : ℕ) (e : MonExpression) (t : MonType) (more : Pieces) (ts : List PlainToken) : Type 0 where
     pub tree : ParsedExpression
@@ -309,4 +310,5 @@ module _ (names : List (List ℕ)) (ws : Vocabulary) (words : AreWords names ws)
       let close = typed.1.3 in
       let x = expression_is a m h.2.0 _ close.1 (omega arith) h.2.2 close.3 in
       let is = cast_behind ws m _ (omega arith) g.3.2 typed.1.2 (ap word_kind w) ∙ cast_read ws (expression_in ws m) g.3.0 k _ typed.1.2 w close.2 x.parsed x.after.2 in
-      paren_is (suc m) (Cast k a) t more (parsed.Cast g.3.0 k x.tree) x.after.1 (omega arith) g.2 is (sees_mark ws left_paren g.3.2 (type_kind ∷ []) false refl) x.after.3 (cast_checked k t h.2.0 a g.3.0 x.tree x.checked h.2.1 h.1 h.0) (λ z. z)
+      paren_is (suc m) (Cast k a) t more (parsed.Cast g.3.0 k x.tree) x.after.1 (omega arith) g.2 is
+      (sees_mark ws left_paren g.3.2 (type_kind ∷ []) false refl) x.after.3 (cast_checked k t h.2.0 a g.3.0 x.tree x.checked h.2.1 h.1 h.0) (λ z. z)

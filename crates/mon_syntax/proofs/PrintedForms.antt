@@ -1,9 +1,9 @@
 -- The pieces of each form in front of others, as one list.
-use Rattle.std.proofs.Common.{◌≡◌, ℕ, ◌+◌, List, [], ◌∷◌, ◌++◌, codes, Option, sym, ap, ◌∙◌, append_assoc}
+use Rattle.std.proofs.Common.{◌≡◌, ℕ, ◌+◌, List, [], ◌∷◌, ◌++◌, codes, sym, ap, ◌∙◌, append_assoc}
 use Rattle.mon_syntax.specs.declared.tree.MonType.{MonType}
 use Rattle.mon_syntax.specs.declared.tree.MonOp.{MonOp}
 use Rattle.mon_syntax.specs.Trees.{MonExpression, Binary, MonStatement, If, Loop, Labelled, MonStatements, Then, MonFunction}
-use Rattle.mon_syntax.specs.Text.{Piece, Word, Number, Quoted, Mark, blank, new_line, left_paren, right_paren, semicolon, operator_mark, Registers, expression_pieces, set_or_none, more_arguments, assert_arguments, FunctionNames, body_pieces, statement_pieces, statements_pieces, result_word, parameters_pieces, registers_pieces, function_pieces}
+use Rattle.mon_syntax.specs.Text.{Piece, Word, Number, Quoted, Mark, blank, new_line, left_paren, right_paren, semicolon, operator_mark, Registers, expression_pieces, more_arguments, assert_arguments, FunctionNames, body_pieces, statement_pieces, statements_pieces, result_word, parameters_pieces, registers_pieces, function_pieces}
 
 abbrev pub Pieces : Type 0
 Pieces = List Piece
@@ -30,10 +30,6 @@ module _ (rs : Registers) (more : Pieces) where
   pub argument_is : (e : MonExpression) (es : List MonExpression)
       → (expression_pieces rs e ++ more_arguments rs es) ++ more ≡ expression_pieces rs e ++ (more_arguments rs es ++ more)
   argument_is e es = append_assoc (expression_pieces rs e) (more_arguments rs es) more
-
-  -- the register that takes the value of a call, and the call
-  pub taken_is : (r : Option ℕ) (call : Pieces) → (set_or_none rs r ++ call) ++ more ≡ set_or_none rs r ++ (call ++ more)
-  taken_is r call = append_assoc (set_or_none rs r) call more
 
   -- the arguments of a call, and what ends it
   pub arguments_are : (arguments : Pieces) → (arguments ++ (right_paren ∷ semicolon ∷ [])) ++ more ≡ arguments ++ (right_paren ∷ semicolon ∷ more)

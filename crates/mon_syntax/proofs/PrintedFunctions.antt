@@ -130,7 +130,8 @@ module _ (ws : Vocabulary) where
       → word_at ws n ≡ result_kind t → (form.result ws).parse ts ≡ Ok (t, more)
   unfolding form.result
   result_read None n e w = rw (sees_word ws n void_kind e (ap word_kind w) (type_kind ∷ []) false refl, fixed_read ws void_kind n e (ap word_kind w)) refl
-  result_read (Some t) n e w = rw (sees_word ws n type_kind e (ap word_kind w) (type_kind ∷ []) true refl, placed_read ws (type_of ws) (token.Word n) t e (ap type_of_word w)) refl
+  result_read (Some t) n e w =
+      rw (sees_word ws n type_kind e (ap word_kind w) (type_kind ∷ []) true refl, placed_read ws (type_of ws) (token.Word n) t e (ap type_of_word w)) refl
 
   result_begins : (t : Option MonType) (n : ℕ) {at : Place} {ts more : List PlainToken} → ts ≡ made.token at (token.Word n) ∷ more
       → word_at ws n ≡ result_kind t → sees (kind ws) first_function ts ≡ true
@@ -165,7 +166,8 @@ module _ (ws : Vocabulary) where
         mark_read ws right_brace c,
       ) refl
 
-module _ (names : List (List ℕ)) (ws : Vocabulary) (words : AreWords names ws) (functions : List Header) (called : FunctionNames) (gs : List Signature) (callees : AreCallees names functions called gs) where
+module _ (names : List (List ℕ)) (ws : Vocabulary) (words : AreWords names ws) (functions : List Header)
+    (called : FunctionNames) (gs : List Signature) (callees : AreCallees names functions called gs) where
   -- what a function is that was checked so
   function_back : (f : MonFunction) (tree : ParsedFunction) → tree.result ≡ f.result → tree.name.number ≡ number names f.name → IsKnown names f.name
       → map (named_register names) (map (entry names) f.parameters) ≡ f.parameters → map (named_register names) (map (entry names) f.registers) ≡ f.registers
@@ -224,12 +226,14 @@ module _ (names : List (List ℕ)) (ws : Vocabulary) (words : AreWords names ws)
         after = x.after.3;
         begins = result_begins ws f.result _ a.1.2 result_is;
         read =
-            function_read ws f.result _ ps.trees rs.trees x.trees ts opening.1 rs.rest (result_read ws f.result _ a.1.2 result_is) name.1.2 (ap word_kind name_is) opening.2 ps.read ps.ends start.2
+            function_read ws f.result _ ps.trees rs.trees x.trees ts opening.1 rs.rest (result_read ws f.result _ a.1.2 result_is) name.1.2
+            (ap word_kind name_is) opening.2 ps.read ps.ends start.2
             (registers_read names ws words rs.trees start.1 rs.rest (rs.read []) (body_begins ws 1999 x.trees rs.rest x.read x.after.2)) x.read x.after.2;
         known = name.0;
         name = refl;
         result = refl;
         kinds = ps.kinds;
         checked =
-            function_checked f tree refl refl name.0 (registers_back names f.parameters ps.known) (registers_back names f.registers rs.known) (ps.checked [] (λ w _ _. refl)) (rs.checked P behind.apart) x.checked;
+            function_checked f tree refl refl name.0 (registers_back names f.parameters ps.known) (registers_back names f.registers rs.known)
+            (ps.checked [] (λ w _ _. refl)) (rs.checked P behind.apart) x.checked;
       }

@@ -200,11 +200,15 @@ module _ (names : List (List ℕ)) where
 
     parameters_turn : (xs : List ParsedRegister) (x : ParsedRegister) {at : Place} {ts us rest : List PlainToken} → ts ≡ made.token at (token.Mark comma) ∷ us
         → (parameter ws).parse us ≡ Ok (x, rest) → (more_parameters xs).parse ts ≡ (more_parameters (xs ++ (x ∷ []))).parse rest
-    parameters_turn xs x {ts = ts} {rest = rest} t e = turn (mark_kind comma ∷ []) (next_parameter ws) (λ z. (next_parameter_good ws z).here) refl xs (xs ++ (x ∷ [])) ts rest (sees_mark ws comma t (mark_kind comma ∷ []) true refl) (comma_read xs x t e)
+    parameters_turn xs x {ts = ts} {rest = rest} t e =
+        turn (mark_kind comma ∷ []) (next_parameter ws) (λ z. (next_parameter_good ws z).here) refl xs (xs ++ (x ∷ [])) ts rest
+        (sees_mark ws comma t (mark_kind comma ∷ []) true refl) (comma_read xs x t e)
 
     parameters_end : (xs : List ParsedRegister) {at : Place} {ts rest : List PlainToken} → ts ≡ made.token at (token.Mark right_paren) ∷ rest
         → (more_parameters xs).parse ts ≡ Ok (xs, ts)
-    parameters_end xs {ts = ts} t = turn_ends (mark_kind comma ∷ []) (next_parameter ws) (λ z. (next_parameter_good ws z).here) refl xs ts (sees_mark ws right_paren t (mark_kind comma ∷ []) false refl)
+    parameters_end xs {ts = ts} t =
+        turn_ends (mark_kind comma ∷ []) (next_parameter ws) (λ z. (next_parameter_good ws z).here) refl xs ts
+        (sees_mark ws right_paren t (mark_kind comma ∷ []) false refl)
 
     -- parameters that stand in front of these registers
     pub record AreParametersAs (ps : Registers) (before : List (List ℕ)) (more : Pieces) (Read : List ParsedRegister → List PlainToken → Type 0) : Type 0 where
@@ -226,7 +230,8 @@ module _ (names : List (List ℕ)) where
         → (ks : List (ℕ × MonType)) → AreApart before ks
         → checked_registers ws ks (record { kind = p.kind; name = record { place = at; number = number p.name } } ∷ trees) ≡ Ok (ks ++ map entry (p ∷ ps))
     parameter_checked p ps before at trees is there new others ks apart =
-        one_checked ks p at trees is (apart p.name there new) ∙ others (ks ++ (entry p ∷ [])) (more_apart before ks p there apart) ∙ ap Ok (append_assoc ks (entry p ∷ []) (map entry ps))
+        one_checked ks p at trees is (apart p.name there new) ∙ others (ks ++ (entry p ∷ [])) (more_apart before ks p there apart)
+        ∙ ap Ok (append_assoc ks (entry p ∷ []) (map entry ps))
 
     abbrev MoreRead : List PlainToken → List ParsedRegister → List PlainToken → Type 0
     MoreRead ts trees behind = (xs : List ParsedRegister) → (more_parameters xs).parse ts ≡ Ok (xs ++ trees, behind)
@@ -304,7 +309,8 @@ module _ (names : List (List ℕ)) where
         record {
           trees = tree ∷ others.trees;
           behind = others.behind;
-          read = first_parameter _ tree a.1.2 (ap word_kind type_is) (one_parameter p.kind _ _ a.1.2 type_is name.1.2 (ap word_kind name_is)) (others.read (tree ∷ []));
+          read = first_parameter _ tree a.1.2 (ap word_kind type_is) (one_parameter p.kind _ _ a.1.2 type_is name.1.2 (ap word_kind name_is))
+              (others.read (tree ∷ []));
           end = others.end;
           rest = others.rest;
           ends = others.ends;
@@ -325,7 +331,8 @@ module _ (names : List (List ℕ)) where
         → AreApart before ks → AreBehind rest (ks ++ map entry ps)
     behind_all [] rest before ks h known apart = subst (AreBehind rest) (sym (append-nil ks)) (record { before = before; are = h; apart = apart })
     behind_all (p ∷ ps) rest before ks h known apart =
-        subst (AreBehind rest) (append_assoc ks (entry p ∷ []) (map entry ps)) (behind_all ps rest (p.name ∷ before) (ks ++ (entry p ∷ [])) h.2 known.1 (more_apart before ks p known.0 apart))
+        subst (AreBehind rest) (append_assoc ks (entry p ∷ []) (map entry ps))
+        (behind_all ps rest (p.name ∷ before) (ks ++ (entry p ∷ [])) h.2 known.1 (more_apart before ks p known.0 apart))
 
     pub behind_parameters : (ps rest : Registers) → AreRegisters [] (ps ++ rest) → AreKnown ps → AreBehind rest (map entry ps)
     behind_parameters ps rest h known = behind_all ps rest [] [] h known (λ w _ _. refl)

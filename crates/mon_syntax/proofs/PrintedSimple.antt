@@ -52,7 +52,8 @@ return_word : word_of (codes "return") ≡ word.Return
 unfolding word_of
 return_word = refl
 
-module _ (names : List (List ℕ)) (ws : Vocabulary) (words : AreWords names ws) (functions : List Header) (types : Types) (rs : Registers) (regs : List (ℕ × MonType)) (found : AreFound names types rs regs) (result : Option MonType) where
+module _ (names : List (List ℕ)) (ws : Vocabulary) (words : AreWords names ws) (functions : List Header)
+    (types : Types) (rs : Registers) (regs : List (ℕ × MonType)) (found : AreFound names types rs regs) (result : Option MonType) where
   abbrev IsCallAs : List ℕ → Word → MonStatement → Pieces → List PlainToken → Type 0
   IsCallAs = call_form.IsCallAs names ws words functions types rs regs found
 
@@ -137,7 +138,8 @@ module _ (names : List (List ℕ)) (ws : Vocabulary) (words : AreWords names ws)
         rest = c.rest;
         after = c.after;
         begins = sees_word ws _ name_kind g.1.2 name first_statement true refl;
-        parsed = λ no_step _. name_statement ws (statement_in ws n) no_step _ g.1.2 name (take_behind ws (statement_in ws n) no_step x (number w) to.2 callee.1.2 (ap word_kind callee_is ∙ named) c.is (c.read u) c.ends);
+        parsed = λ no_step _. name_statement ws (statement_in ws n) no_step _ g.1.2 name
+            (take_behind ws (statement_in ws n) no_step x (number w) to.2 callee.1.2 (ap word_kind callee_is ∙ named) c.is (c.read u) c.ends);
         step = sym no_step;
         checked = taken_checked r t a b ls g.1.0 to.0 call h (ap (λ z. call_of_word scope call z) callee_is ∙ c.checked callee.0 callee.1.0) v e;
         fresh = λ v _ _. refl;

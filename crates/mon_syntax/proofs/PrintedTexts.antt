@@ -49,7 +49,8 @@ signature_there [] i m e = absurd cc
 signature_there (f ∷ fs) zero m e = let same : f ≡ m = cc in ap (λ (g : MonFunction). Some (signature_of g)) same
 signature_there (f ∷ fs) (suc i) m e = signature_there fs i m e
 
-module _ (names : List (List ℕ)) (ws : Vocabulary) (words : AreWords names ws) (functions : List Header) (called : FunctionNames) (gs : List Signature) (callees : AreCallees names functions called gs) where
+module _ (names : List (List ℕ)) (ws : Vocabulary) (words : AreWords names ws) (functions : List Header)
+    (called : FunctionNames) (gs : List Signature) (callees : AreCallees names functions called gs) where
   -- ---- functions that follow one another
 
   abbrev more_functions : List ParsedFunction → Syntax PlainToken (List ParsedFunction)
@@ -62,7 +63,8 @@ module _ (names : List (List ℕ)) (ws : Vocabulary) (words : AreWords names ws)
 
   functions_turn : (xs : List ParsedFunction) (x : ParsedFunction) (ts mid : List PlainToken) → sees (kind ws) first_function ts ≡ true
       → (function ws).parse ts ≡ Ok (x, mid) → (more_functions xs).parse ts ≡ (more_functions (xs ++ (x ∷ []))).parse mid
-  functions_turn xs x ts mid s e = turn first_function (one_more_function ws) (λ z. (one_more_function_good ws z).here) refl xs (xs ++ (x ∷ [])) ts mid s (one_function xs x ts mid e)
+  functions_turn xs x ts mid s e =
+      turn first_function (one_more_function ws) (λ z. (one_more_function_good ws z).here) refl xs (xs ++ (x ∷ [])) ts mid s (one_function xs x ts mid e)
 
   functions_end : (xs : List ParsedFunction) → (more_functions xs).parse [] ≡ Ok (xs, [])
   functions_end xs = turn_ends first_function (one_more_function ws) (λ z. (one_more_function_good ws z).here) refl xs [] refl
@@ -76,7 +78,8 @@ module _ (names : List (List ℕ)) (ws : Vocabulary) (words : AreWords names ws)
   more_others before bs v n is there others w known h =
       let k = both_false (bytes_eq w v) (has_label before w) h in
       let differ = turned (number names v) (number names w) (other_name names v w known k.0) in
-      ap (λ (m : ℕ). nat_eq (number names w) m || list_any (nat_eq (number names w)) bs) is ∙ ap (λ (t : Bool). t || list_any (nat_eq (number names w)) bs) differ ∙ others w known k.1
+      ap (λ (m : ℕ). nat_eq (number names w) m || list_any (nat_eq (number names w)) bs) is ∙ ap
+      (λ (t : Bool). t || list_any (nat_eq (number names w)) bs) differ ∙ others w known k.1
 
   record AreFunctionsAs (before : List (List ℕ)) (fs : List MonFunction) (ts : List PlainToken) : Type 0 where
     trees : List ParsedFunction
@@ -129,7 +132,8 @@ module _ (names : List (List ℕ)) (ws : Vocabulary) (words : AreWords names ws)
       record {
         trees = x.tree ∷ y.trees;
         read = λ xs.
-            functions_turn xs x.tree ts x.rest x.begins x.read ∙ y.read (xs ++ (x.tree ∷ [])) ∙ ap (λ (l : List ParsedFunction). Ok (l, [])) (append_assoc xs (x.tree ∷ []) y.trees);
+            functions_turn xs x.tree ts x.rest x.begins x.read ∙ y.read (xs ++ (x.tree ∷ [])) ∙ ap (λ (l : List ParsedFunction). Ok (l, []))
+            (append_assoc xs (x.tree ∷ []) y.trees);
         headers = λ i. header_is f x.tree x.name x.result x.kinds i ∷ y.headers i;
         checked = λ bs others.
             functions_checked f fs x.tree y.trees bs w (ap (λ (n : ℕ). list_any (nat_eq n) bs) x.name ∙ others f.name x.known h.1) x.checked
@@ -141,8 +145,10 @@ module _ (names : List (List ℕ)) (ws : Vocabulary) (words : AreWords names ws)
           → tree.name.number ≡ number names f.name → IsKnown names f.name → tree.result ≡ f.result → kinds_of tree.parameters ≡ types_of f.parameters
           → AreFunctions gs (f.name ∷ before) fs → slice_get (f ∷ fs) i ≡ Some m → IsMain m
           → ((k : ℕ) (g : MonFunction) → slice_get fs k ≡ Some g → IsMain g → main_refusal names trees ≡ None) → main_refusal names (tree ∷ trees) ≡ None
-      main_as f m fs before zero tree trees name known result kinds h e main rest = let same : m ≡ f = cc in here_main f tree trees name known result kinds (subst IsMain same main)
-      main_as f m fs before (suc k) tree trees name known result kinds h e main rest = before_main f m fs before k tree trees name known h e main (rest k m e main)
+      main_as f m fs before zero tree trees name known result kinds h e main rest =
+          let same : m ≡ f = cc in here_main f tree trees name known result kinds (subst IsMain same main)
+      main_as f m fs before (suc k) tree trees name known result kinds h e main rest =
+          before_main f m fs before k tree trees name known h e main (rest k m e main)
 
   text_read : (ts : List PlainToken) {fs : List ParsedFunction} → (more_functions []).parse ts ≡ Ok (fs, [])
       → (form.text ws).parse (made.token first_place (token.Head 0 0) ∷ ts) ≡ Ok (fs, [])
@@ -165,7 +171,8 @@ text_spells m v =
       tokens = record { list = list; names = r.names; end = r.end };
       has = r.is;
       tree = x.trees;
-      read = accepts_back (form.text ws) false (head_kind ∷ []) (λ _. first_function) (text_exact ws) list x.trees (text_read r.names ws (word_there r.names) functions called gs (callees_are r.names gs m.functions v.functions) r.tokens (x.read []));
+      read = accepts_back (form.text ws) false (head_kind ∷ []) (λ _. first_function) (text_exact ws) list x.trees
+          (text_read r.names ws (word_there r.names) functions called gs (callees_are r.names gs m.functions v.functions) r.tokens (x.read []));
       is = program_checked r.names ws m.functions x.trees functions x.headers (x.checked [] (λ w _ _. refl));
       main = x.main v.number v.main v.has v.is_main;
     }
