@@ -28,6 +28,7 @@ use Rattle.mon_syntax.proofs.FlatBlocks.{live_in, taken-live, live-born, Dies, d
 abbrev World : Type 0
 World = List ℕ
 
+-- more blocks were born
 record Later (u v : World) : Type 0 where
   more : List ℕ
   is : v ≡ u ++ more
@@ -37,6 +38,7 @@ abbrev address_of : World → ℕ → Option ℕ
 address_of w zero = None
 address_of w (suc k) = slice_get w k
 
+-- the number of a pointer to an offset in a block
 record PointsTo (w : World) (number offset : ℕ) (y : ℤ) : Type 0 where
   address : ℕ
   has : address_of w number ≡ Some address
@@ -53,6 +55,7 @@ abbrev Stand : World → List LiveBlock → Type 0
 Stand w [] = Unit {0}
 Stand w (b ∷ older) = (address_of w b.number ≡ Some (stack_end older)) × Stand w older
 
+-- flat memory stands for blocks: as many calls and births, the same living blocks, each at its address
 record Holds (w : World) (m : Blocks) (n : Flat) : Type 0 where
   frames : m.frames ≡ n.frames
   births : n.births ≡ length m.store

@@ -44,12 +44,15 @@ same_name (x ∷ xs) v w e = by (bytes_eq v x) refl (same_name xs v w) e
     by false f go g = let next : 1 + name_number xs v ≡ suc (name_number xs v) = omega arith in go (ap (slice_get (x ∷ xs)) (sym next) ∙ g)
 
 module _ (names : List (List ℕ)) where
+  -- what a function is to its callers, as it is read
   abbrev pub header : MonFunction → Header
   header f = record { name = number names f.name; parameters = types_of f.parameters; result = f.result }
 
+  -- and what it is by its signature
   abbrev header_with : Signature → Header
   header_with g = record { name = number names g.name; parameters = g.parameters; result = g.result }
 
+  -- another word than a name has another number
   pub other_name : (v w : List ℕ) → IsKnown names w → bytes_eq w v ≡ false → nat_eq (number names v) (number names w) ≡ false
   other_name v w known differ = by (nat_eq (number names v) (number names w)) refl
     where
@@ -188,6 +191,7 @@ module _ (names : List (List ℕ)) (ws : Vocabulary) (words : AreWords names ws)
   function_checked f tree result name known ps rs parameters_are registers_are body_is =
       rw (parameters_are, registers_are, body_is) (ap Ok (function_back f tree result name known ps rs))
 
+  -- the tokens are read as the function, up to those of the pieces behind it
   pub record IsFunctionAs (f : MonFunction) (more : Pieces) (ts : List PlainToken) : Type 0 where
     pub tree : ParsedFunction
     pub rest : List PlainToken

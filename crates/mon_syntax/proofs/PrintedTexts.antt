@@ -81,6 +81,7 @@ module _ (names : List (List ℕ)) (ws : Vocabulary) (words : AreWords names ws)
       ap (λ (m : ℕ). nat_eq (number names w) m || list_any (nat_eq (number names w)) bs) is ∙ ap
       (λ (t : Bool). t || list_any (nat_eq (number names w)) bs) differ ∙ others w known k.1
 
+  -- the tokens are read as these functions, behind functions of those names
   record AreFunctionsAs (before : List (List ℕ)) (fs : List MonFunction) (ts : List PlainToken) : Type 0 where
     trees : List ParsedFunction
     read : (xs : List ParsedFunction) → (more_functions xs).parse ts ≡ Ok (xs ++ trees, [])
