@@ -243,7 +243,7 @@ divides_in_arguments = unit_of (codes "f" ∷ codes "a" ∷ codes "b" ∷ codes 
 abbrev sees_another : TranslationUnit
 sees_another = unit_of (codes "f" ∷ codes "x" ∷ codes "main" ∷ []) (
     definition int_type (place 1 5 4) 0 [] (place 1 13 12) (place 1 25 24) (
-    Run (Return (place 1 15 14) (Some (variable (place 1 22 21) 1 0))) ∷
+    Run (Return (place 1 15 14) (Some (variable (place 1 22 21) 1 49))) ∷
     []) ∷
     definition int_type (place 2 5 30) 2 [] (place 2 16 41) (place 5 1 70) (
     Declare (int_variable (place 3 7 49) 1 (place 3 9 51) (literal (place 3 11 53) 5) ∷ []) ∷

@@ -96,6 +96,10 @@ literal_term at n = logic.Number at None no_range (pos n)
 abbrev pub variable_term : Place → ℕ → ℕ → LogicTerm
 variable_term at name decl = logic.Variable at (Some int_type) no_range (record { name = name; decl = decl })
 
+-- a variable as it is read
+abbrev pub read_term : Place → ℕ → LogicTerm
+read_term at name = logic.Variable at None no_range (record { name = name; decl = 0 })
+
 abbrev pub binary_term : Place → BinOp → LogicTerm → LogicTerm → LogicTerm
 binary_term at op a b = logic.Binary at None no_range op a b
 

@@ -2,13 +2,15 @@
 use Rattle.std.proofs.Common.{◌≡◌, ℕ, [], ◌∷◌, Some, None, codes, refl}
 use Rattle.c_syntax.specs.declared.expression.BinOp.TheVariants.{Add, Lt}
 use Rattle.c_syntax.specs.declared.expression.BumpOp.TheVariants.{PostUp}
+use Rattle.c_syntax.specs.declared.annotation.Relation.TheVariants as relation
 use Rattle.c_syntax.specs.Ctypes.{Void, int_type}
-use Rattle.c_syntax.specs.Statements.{Eval, Block, For, Return, First, Declare, Run}
+use Rattle.c_syntax.specs.Annotations.{LogicTerm, Chain, NoLink, Linked}
+use Rattle.c_syntax.specs.Statements.{Eval, Block, For, Return, First, Declare, Run, Asserts}
 use Rattle.c_syntax.specs.Programs.{TranslationUnit}
 use Rattle.c_model.specs.Library.{library_constant, is_library_name}
 use Rattle.c_model.specs.Checked.{Good, refusing}
-use Rattle.c_model.specs.ProgramTyping.{typed_unit}
-use Rattle.c_model.proofs.WorkedTrees.{place, literal, variable, binary, bump, call, int_variable, parameter, int_parameter, unnamed_parameter, items_of, definition, prototype, unit_of}
+use Rattle.c_model.specs.ProgramTyping.{typed_unit, main_fault, noted_unit}
+use Rattle.c_model.proofs.WorkedTrees.{place, literal, variable, binary, bump, call, int_variable, parameter, int_parameter, unnamed_parameter, items_of, literal_term, read_term, variable_term, assertion, definition, prototype, unit_of}
 
 -- as it is read a use has the number 0, and behind typing that of its declaration
 abbrev as_read : ℕ → ℕ
@@ -288,6 +290,79 @@ names_the_library = unit_of (codes "getchar" ∷ codes "main" ∷ []) (
     []) ∷
     [])
 
+-- ---- asserts, with their names as they are given
+
+-- an assert of a parameter
+--     int f(int a) {
+--       //@ assert a > 0;
+--       return a;
+--     }
+--     int main(void) { return 0; }
+abbrev asserts_of_a_parameter : LogicTerm → TranslationUnit
+asserts_of_a_parameter a = unit_of (codes "f" ∷ codes "a" ∷ codes "main" ∷ []) (
+    definition int_type (place 1 5 4) 0 (int_parameter (place 1 11 10) 1 ∷ []) (place 1 14 13) (place 4 1 47) (
+    Asserts (assertion 1 (place 2 7 21) (Chain (place 2 16 30) a (Linked (place 2 16 30) relation.Gt (literal_term (place 2 18 32) 0) NoLink)) ∷ []) ∷
+    Run (Return (place 3 3 37) (Some (variable (place 3 10 44) 1 10))) ∷
+    []) ∷
+    definition int_type (place 5 5 53) 2 [] (place 5 16 64) (place 5 28 76) (
+    Run (Return (place 5 18 66) (Some (literal (place 5 25 73) 0))) ∷
+    []) ∷
+    [])
+
+-- an assert of another function's parameter
+--     int f(int a) { return a; }
+--     int main(void) {
+--       //@ assert a > 0;
+--       return 0;
+--     }
+abbrev asserts_of_another : LogicTerm → TranslationUnit
+asserts_of_another a = unit_of (codes "f" ∷ codes "a" ∷ codes "main" ∷ []) (
+    definition int_type (place 1 5 4) 0 (int_parameter (place 1 11 10) 1 ∷ []) (place 1 14 13) (place 1 26 25) (
+    Run (Return (place 1 16 15) (Some (variable (place 1 23 22) 1 10))) ∷
+    []) ∷
+    definition int_type (place 2 5 31) 2 [] (place 2 16 42) (place 5 1 76) (
+    Asserts (assertion 1 (place 3 7 50) (Chain (place 3 16 59) a (Linked (place 3 16 59) relation.Gt (literal_term (place 3 18 61) 0) NoLink)) ∷ []) ∷
+    Run (Return (place 4 3 66) (Some (literal (place 4 10 73) 0))) ∷
+    []) ∷
+    [])
+
+-- ---- files with `main`, or without
+
+-- `main` is declared, and not defined
+--     int main(void);
+--     int f(void) { return 0; }
+abbrev declares_main_alone : TranslationUnit
+declares_main_alone = unit_of (codes "main" ∷ codes "f" ∷ []) (
+    prototype int_type (place 1 5 4) 0 [] (place 1 15 14) ∷
+    definition int_type (place 2 5 20) 1 [] (place 2 13 28) (place 2 25 40) (
+    Run (Return (place 2 15 30) (Some (literal (place 2 22 37) 0))) ∷
+    []) ∷
+    [])
+
+-- `main` is defined behind its declaration
+--     int main(void);
+--     int main(void) { return 0; }
+abbrev defines_main_behind : TranslationUnit
+defines_main_behind = unit_of (codes "main" ∷ []) (
+    prototype int_type (place 1 5 4) 0 [] (place 1 15 14) ∷
+    definition int_type (place 2 5 20) 0 [] (place 2 16 31) (place 2 28 43) (
+    Run (Return (place 2 18 33) (Some (literal (place 2 25 40) 0))) ∷
+    []) ∷
+    [])
+
+-- `main` has a parameter
+--     int f(void) { return 0; }
+--     int main(int n) { return n; }
+abbrev main_with_a_parameter : TranslationUnit
+main_with_a_parameter = unit_of (codes "f" ∷ codes "main" ∷ codes "n" ∷ []) (
+    definition int_type (place 1 5 4) 0 [] (place 1 13 12) (place 1 25 24) (
+    Run (Return (place 1 15 14) (Some (literal (place 1 22 21) 0))) ∷
+    []) ∷
+    definition int_type (place 2 5 30) 1 (int_parameter (place 2 14 39) 2 ∷ []) (place 2 17 42) (place 2 29 54) (
+    Run (Return (place 2 19 44) (Some (variable (place 2 26 51) 2 39))) ∷
+    []) ∷
+    [])
+
 -- ---- typings
 
 typed_unit-calls_what_is_defined_later : typed_unit (calls_what_is_defined_later as_read) ≡ Good (calls_what_is_defined_later as_typed)
@@ -357,3 +432,24 @@ typed_unit-uses_behind_a_block = refl
 typed_unit-names_the_library : refusing (typed_unit names_the_library) ≡ Some (record { code = 5; place = place 1 5 4 })
 unfolding library_constant is_library_name
 typed_unit-names_the_library = refl
+
+-- ---- asserts
+
+noted_unit-asserts_of_a_parameter : noted_unit (asserts_of_a_parameter (read_term (place 2 14 28) 1))
+    ≡ Good (asserts_of_a_parameter (variable_term (place 2 14 28) 1 10))
+noted_unit-asserts_of_a_parameter = refl
+
+noted_unit-asserts_of_another : refusing (noted_unit (asserts_of_another (read_term (place 3 14 57) 1))) ≡ Some (record { code = 5; place = place 3 14 57 })
+unfolding library_constant is_library_name
+noted_unit-asserts_of_another = refl
+
+-- ---- `main`
+
+main_fault-declares_main_alone : main_fault declares_main_alone.names declares_main_alone.funcs ≡ Some (record { code = 13; place = place 1 1 0 })
+main_fault-declares_main_alone = refl
+
+main_fault-defines_main_behind : main_fault defines_main_behind.names defines_main_behind.funcs ≡ None
+main_fault-defines_main_behind = refl
+
+main_fault-main_with_a_parameter : main_fault main_with_a_parameter.names main_with_a_parameter.funcs ≡ Some (record { code = 13; place = place 2 5 30 })
+main_fault-main_with_a_parameter = refl
