@@ -10,11 +10,11 @@
 --
 -- An expression that stands for its effect is one of these, an assignment, or an increment:
 --
---   effect  = unary assign-op expr | ( "++" | "--" ) unary | primary ( "++" | "--" ) | expr
+--   effect  = unary "=" ( expr | call ) | unary assign-op expr | ( "++" | "--" ) unary | primary ( "++" | "--" ) | expr
 --   call    = NAME "(" [ expr { "," expr } ] ")"
 --
 -- An expression that stands in no other has at most 400 tokens. Types and declarations are set by typing.
-use Rattle.std.specs.Prelude.{ℕ, zero, suc, ◌+◌, ℤ, List, [], ◌∷◌, ◌++◌, Option, Some, None, cond, eqb, slice_get}
+use Rattle.std.specs.Prelude.{ℕ, zero, suc, ◌+◌, ℤ, List, [], ◌∷◌, ◌++◌, Option, Some, None, option_map, cond, eqb, slice_get}
 use Rattle.grammar.specs.Syntax.{Syntax, gives, one, ◌then◌, choice, many, knot, at_most}
 use Rattle.c_syntax.specs.declared.place.Place.{Place}
 use Rattle.c_syntax.specs.declared.types.CInt.{CInt}
@@ -291,6 +291,13 @@ size_of_operand x = elim x.form [
   | form.Cast ↦ SizeOfExpr x.expression
 ]
 
+-- the first word of a type
+pub data TypeStart : Type 0 where
+  ConstStart : TypeStart
+  VoidStart : TypeStart
+  NameStart : PlainType → TypeStart
+  IntegerStart : IntegerWords → TypeStart
+
 module _ (ws : Vocabulary) where
   -- a token of this kind, by its place
   abbrev pub fixed : ℕ → Syntax PlainToken Place
@@ -352,6 +359,26 @@ module _ (ws : Vocabulary) where
   -- { "const" } base { "const" }
   unfoldable pub type_words : Syntax PlainToken PlainType
   type_words = consts (tt {0}) then λ _. base then λ t. consts t
+
+  -- how a type begins
+  abbrev pub type_start_of : Word → Option TypeStart
+  type_start_of (word.TypeName t) = Some (NameStart (Int t))
+  type_start_of (word.Keyword keyword.Const) = Some ConstStart
+  type_start_of (word.Keyword keyword.Void) = Some VoidStart
+  type_start_of (word.Keyword k) = option_map IntegerStart (words_with no_words k)
+  type_start_of _ = None
+
+  -- the first word of a type, with its number
+  abbrev pub type_start : PlainTokenKind → Option (TypeStart × ℕ)
+  type_start (token.Word n) = option_map (λ b. (b, n)) (type_start_of (word_at ws n))
+  type_start _ = None
+
+  -- a type behind its first word
+  unfoldable pub type_behind : TypeStart → Syntax PlainToken PlainType
+  type_behind ConstStart = type_words
+  type_behind VoidStart = consts Void
+  type_behind (NameStart t) = consts t
+  type_behind (IntegerStart x) = many (kind ws) words_behind integer_word x then λ y. consts (Int (integer_type y))
 
   -- ---- expressions; E stands for an expression inside another, O for an operand, by what a type in parentheses begins
 
@@ -433,11 +460,42 @@ module _ (ws : Vocabulary) where
   unfoldable pub expression : Syntax PlainToken Expression
   expression = knot {S = Unit {0}} (λ E u. expression_of (E u)) tt
 
+  -- ---- calls
+
+  unfoldable pub next_argument : List Expression → Syntax PlainToken (List Expression)
+  next_argument es = mark comma then λ _. expression then λ e. gives (es ++ e ∷ [])
+
+  -- [ expr { "," expr } ]
+  unfoldable pub arguments : Syntax PlainToken (List Expression)
+  arguments =
+      choice (kind ws) first_expression (expression then λ e. many (kind ws) (λ _. mark_kind comma ∷ []) next_argument (e ∷ []))
+      (gives [])
+
+  -- "(" .. ")", behind a name
+  unfoldable pub call_rest : ℕ × Place → Syntax PlainToken (Expression × Place)
+  call_rest f = mark left_paren then λ at. arguments then λ es. closed (read_as at (Call (use_of f.0) (expressions es)), f.1)
+
+  -- what stands behind a name at the front of an expression or a call
+  unfoldable pub behind_name_or_callee : ℕ × Place → Syntax PlainToken Expression
+  behind_name_or_callee x =
+      choice (kind ws) (mark_kind left_paren ∷ []) (call_rest x then λ c. gives c.0) (expression_rest expression (read_name x).expression)
+
+  -- an expression, or a call
+  unfoldable pub expression_or_call : Syntax PlainToken Expression
+  expression_or_call =
+      choice (kind ws) (name_kind ∷ []) (name then behind_name_or_callee)
+      (operand_but_name expression (operand expression) type_use.Casts then λ x. expression_rest expression x.expression)
+
   -- ---- effects, each with the place of its first token
 
-  -- assign-op expr, behind a unary expression
+  -- what is assigned: by `=` an expression or a call, and by another operator an expression
+  unfoldable pub assigned_value : Option BinOp → Syntax PlainToken Expression
+  assigned_value None = expression_or_call
+  assigned_value (Some op) = expression
+
+  -- assign-op and what is assigned, behind a unary expression
   unfoldable pub assigned : Expression → Syntax PlainToken Expression
-  assigned left = one (placed (mark_entry assignment_operators)) then λ o. expression then λ right. gives (read_as o.1 (Assign o.0 left right))
+  assigned left = one (placed (mark_entry assignment_operators)) then λ o. assigned_value o.0 then λ right. gives (read_as o.1 (Assign o.0 left right))
 
   -- "++" | "--", behind a primary expression
   unfoldable pub bumped : Expression → Syntax PlainToken Expression
@@ -472,21 +530,6 @@ module _ (ws : Vocabulary) where
   unfoldable pub effect : Syntax PlainToken (Expression × Place)
   effect = choice (kind ws) (name_kind ∷ []) (name then λ x. effect_rest (read_name x)) effect_but_name
 
-  -- ---- calls
-
-  unfoldable pub next_argument : List Expression → Syntax PlainToken (List Expression)
-  next_argument es = mark comma then λ _. expression then λ e. gives (es ++ e ∷ [])
-
-  -- [ expr { "," expr } ]
-  unfoldable pub arguments : Syntax PlainToken (List Expression)
-  arguments =
-      choice (kind ws) first_expression (expression then λ e. many (kind ws) (λ _. mark_kind comma ∷ []) next_argument (e ∷ []))
-      (gives [])
-
-  -- "(" .. ")", behind a name
-  unfoldable pub call_rest : ℕ × Place → Syntax PlainToken (Expression × Place)
-  call_rest f = mark left_paren then λ at. arguments then λ es. closed (read_as at (Call (use_of f.0) (expressions es)), f.1)
-
   -- what stands behind a name at the front of a statement
   unfoldable pub behind_name : ℕ × Place → Syntax PlainToken (Expression × Place)
   behind_name x = choice (kind ws) (mark_kind left_paren ∷ []) (call_rest x) (effect_rest (read_name x))
@@ -499,6 +542,9 @@ module _ (ws : Vocabulary) where
 
   unfoldable pub full_expression : Syntax PlainToken Expression
   full_expression = at_most expression_limit most_in_expression expression
+
+  unfoldable pub full_expression_or_call : Syntax PlainToken Expression
+  full_expression_or_call = at_most expression_limit most_in_expression expression_or_call
 
   unfoldable pub full_effect : Syntax PlainToken (Expression × Place)
   full_effect = at_most expression_limit most_in_expression effect

@@ -1,7 +1,7 @@
 -- What is known of each program of an accepted text besides its types: where effects, calls and declarations stand, how large its
 -- parts are, and that it has `main`.
 use Rattle.std.specs.List.{AllByRecursion}
-use Rattle.std.specs.Prelude.{◌≡◌, true, ℕ, suc, max, ◌<◌, length, ◌+◌, ◌^◌, ◌-◌, ◌≤◌, ℤ, pos, negsuc, ◌≤ℤ◌, List, [], ◌∷◌, Option, Some, None}
+use Rattle.std.specs.Prelude.{◌≡◌, true, ℕ, suc, max, ◌<◌, length, ◌+◌, ◌++◌, ◌^◌, ◌-◌, ◌≤◌, ℤ, pos, negsuc, ◌≤ℤ◌, List, [], ◌∷◌, Option, Some, None}
 use Rattle.c_syntax.specs.declared.place.Place.{Place}
 use Rattle.c_syntax.specs.declared.expression.BinOp.{BinOp}
 use Rattle.c_syntax.specs.declared.expression.BinOp.TheVariants.{Add, Sub}
@@ -12,8 +12,8 @@ use Rattle.c_syntax.specs.Annotations.{LogicTerm, Predicate, Chain, Links, NoLin
 use Rattle.c_syntax.specs.Statements.{Initialiser, One, Declaration, Statement, Empty, Eval, Block, If, While, Do, For, Break, Continue, Return, ElsePart, NoElse, Else, ForFirst, NoFirst, First, BlockItem, Declare, Run, Asserts, BlockItems, NoItem, Then}
 use Rattle.c_syntax.specs.Programs.{Function, TranslationUnit}
 use Rattle.c_model.specs.Characters.{is_part}
-use Rattle.c_model.specs.Meaning.{declared_in}
 use Rattle.c_model.specs.ExpressionGrammar.{most_nested}
+use Rattle.c_model.specs.ProgramGrammar.{most_declarators}
 use Rattle.c_model.specs.Typing.{name_at}
 use Rattle.c_model.specs.ProgramTyping.{main_fault}
 use Rattle.c_model.specs.WellTypedPrograms.{WhereAny, ProgramTyped}
@@ -76,9 +76,16 @@ abbrev pub ArePure : Expressions → Type 0
 ArePure NoExpression = Unit {0}
 ArePure (Following e es) = IsPure e × ArePure es
 
--- such an expression, an assignment or an increment
+-- such an expression, or a call, which stands in a cast where its value is converted
+abbrev pub IsPureOrCall : Expression → Type 0
+IsPureOrCall (Node at t (Call f es)) = ArePure es
+IsPureOrCall (Node at t (Cast to (Node at2 u (Call f es)))) = ArePure es
+IsPureOrCall e = IsPure e
+
+-- an expression without effects, an assignment or an increment; what is assigned by `=` may be a call
 abbrev pub IsEffect : Expression → Type 0
-IsEffect (Node at t (Assign op a b)) = IsPure a × IsPure b
+IsEffect (Node at t (Assign None a b)) = IsPure a × IsPureOrCall b
+IsEffect (Node at t (Assign (Some op) a b)) = IsPure a × IsPure b
 IsEffect (Node at t (Bump op a)) = IsPure a
 IsEffect e = IsPure e
 
@@ -109,9 +116,13 @@ abbrev mutual
   nodes_of_all NoExpression = 0
   nodes_of_all (Following e es) = nodes_of e + nodes_of_all es
 
--- expressions that stand in no other, of at most so many forms: without effects, with one, and besides as calls
+-- expressions that stand in no other, of at most so many forms: without effects, or besides as calls, with an effect, and besides as calls
 pub record IsFull (most : ℕ) (e : Expression) : Type 0 where
   pub is : IsPure e
+  pub small : nodes_of e ≤ most
+
+pub record IsFullOrCall (most : ℕ) (e : Expression) : Type 0 where
+  pub is : IsPureOrCall e
   pub small : nodes_of e ≤ most
 
 pub record IsFullEffect (most : ℕ) (e : Expression) : Type 0 where
@@ -169,7 +180,7 @@ AreAsserts (a ∷ rest) = IsAssert a × AreAsserts rest
 
 abbrev pub IsInitialiser : ℕ → Option (Place × Initialiser) → Type 0
 IsInitialiser most None = ⊥
-IsInitialiser most (Some (at, One e)) = IsFull most e
+IsInitialiser most (Some (at, One e)) = IsFullOrCall most e
 
 abbrev pub AreInitialised : ℕ → List Declaration → Type 0
 AreInitialised most [] = Unit {0}
@@ -178,9 +189,9 @@ AreInitialised most (d ∷ ds) = IsInitialiser most d.init × AreInitialised mos
 abbrev pub FirstFormed : ℕ → ForFirst → Type 0
 FirstFormed most NoFirst = Unit {0}
 FirstFormed most (First (Run (Eval at e))) = IsFullEffectOrCall most e
+FirstFormed most (First (Declare ds)) = AreInitialised most ds
 FirstFormed most _ = ⊥
 
--- a statement that declares nothing
 abbrev mutual
   pub StatementFormed : ℕ → Statement → Type 0
   StatementFormed most (Empty at) = Unit {0}
@@ -193,7 +204,7 @@ abbrev mutual
       (annots ≡ []) × FirstFormed most first × WhereAny (IsFull most) e × WhereAny (IsFullEffect most) step × StatementFormed most a
   StatementFormed most (Break at) = Unit {0}
   StatementFormed most (Continue at) = Unit {0}
-  StatementFormed most (Return at e) = WhereAny (IsFull most) e
+  StatementFormed most (Return at e) = WhereAny (IsFullOrCall most) e
 
   pub ElseFormed : ℕ → ElsePart → Type 0
   ElseFormed most NoElse = Unit {0}
@@ -204,33 +215,27 @@ abbrev mutual
   ItemsFormed most (Then i rest) = ItemFormed most i × ItemsFormed most rest
 
   pub ItemFormed : ℕ → BlockItem → Type 0
-  ItemFormed most (Declare ds) = ⊥
+  ItemFormed most (Declare ds) = AreInitialised most ds
   ItemFormed most (Run a) = StatementFormed most a
   ItemFormed most (Asserts annots) = AreAsserts annots
 
--- the items of a body: declarations, and then such statements
-abbrev pub BodyItemsFormed : ℕ → BlockItems → Type 0
-BodyItemsFormed most (Then (Declare ds) rest) = AreInitialised most ds × BodyItemsFormed most rest
-BodyItemsFormed most items = ItemsFormed most items
-
 -- a body, which is 1 deep; the limit is that of the grammar, and one more that this bound allows does no harm
 abbrev pub BodyFormed : ℕ → Option Statement → Type 0
-BodyFormed most (Some (Block at items)) = BodyItemsFormed most items × (depth (Block at items) ≤ suc most_nested)
-BodyFormed most _ = ⊥
+BodyFormed most None = Unit {0}
+BodyFormed most (Some (Block at items)) = ItemsFormed most items × (depth (Block at items) ≤ suc most_nested)
+BodyFormed most (Some _) = ⊥
 
 -- ---- programs
 
 pub record FunctionFormed (most : ℕ) (f : Function) : Type 0 where
-  pub params : f.params ≡ []
   pub no_contract : f.contract ≡ None
   pub body : BodyFormed most f.body
 
--- at most one function, and nothing else at file scope
 abbrev pub FunctionsFormed : ℕ → List Function → Type 0
 FunctionsFormed most [] = Unit {0}
-FunctionsFormed most (f ∷ []) = FunctionFormed most f
-FunctionsFormed most (f ∷ g ∷ fs) = ⊥
+FunctionsFormed most (f ∷ fs) = FunctionFormed most f × FunctionsFormed most fs
 
+-- functions, and nothing else at file scope
 pub record ProgramFormed (most : ℕ) (p : TranslationUnit) : Type 0 where
   pub globals : p.globals ≡ []
   pub functions : FunctionsFormed most p.funcs
@@ -248,13 +253,55 @@ abbrev pub AreNamed : List (List ℕ) → List Declaration → Type 0
 AreNamed names [] = Unit {0}
 AreNamed names (d ∷ ds) = IsName (name_at names d.name) × AreNamed names ds
 
-abbrev pub BodyNamed : List (List ℕ) → Option Statement → Type 0
-BodyNamed names (Some (Block at items)) = AreNamed names (declared_in items)
-BodyNamed names _ = Unit {0}
+-- parameters may have none
+abbrev pub AreNamedParameters : List (List ℕ) → List Declaration → Type 0
+AreNamedParameters names [] = Unit {0}
+AreNamedParameters names (d ∷ ds) = (d.named ≡ true → IsName (name_at names d.name)) × AreNamedParameters names ds
+
+-- all declarations in a statement, in text order
+abbrev mutual
+  pub declared_within : Statement → List Declaration
+  declared_within (Empty at) = []
+  declared_within (Eval at e) = []
+  declared_within (Block at items) = declared_in_items items
+  declared_within (If at e a b) = declared_within a ++ declared_in_else b
+  declared_within (While at annots e a) = declared_within a
+  declared_within (Do at a e) = declared_within a
+  declared_within (For at annots first e step a) = declared_in_first first ++ declared_within a
+  declared_within (Break at) = []
+  declared_within (Continue at) = []
+  declared_within (Return at e) = []
+
+  pub declared_in_else : ElsePart → List Declaration
+  declared_in_else NoElse = []
+  declared_in_else (Else a) = declared_within a
+
+  pub declared_in_first : ForFirst → List Declaration
+  declared_in_first NoFirst = []
+  declared_in_first (First i) = declared_in_item i
+
+  pub declared_in_item : BlockItem → List Declaration
+  declared_in_item (Declare ds) = ds
+  declared_in_item (Run a) = declared_within a
+  declared_in_item (Asserts annots) = []
+
+  pub declared_in_items : BlockItems → List Declaration
+  declared_in_items NoItem = []
+  declared_in_items (Then i rest) = declared_in_item i ++ declared_in_items rest
+
+abbrev pub declared_in_body : Option Statement → List Declaration
+declared_in_body None = []
+declared_in_body (Some a) = declared_within a
+
+-- what functions declare has names of C, and each has its limit of declarators
+pub record FunctionNamed (names : List (List ℕ)) (f : Function) : Type 0 where
+  pub params : AreNamedParameters names f.params
+  pub body : AreNamed names (declared_in_body f.body)
+  pub few : length (declared_in_body f.body) ≤ most_declarators
 
 abbrev pub FunctionsNamed : List (List ℕ) → List Function → Type 0
 FunctionsNamed names [] = Unit {0}
-FunctionsNamed names (f ∷ fs) = BodyNamed names f.body × FunctionsNamed names fs
+FunctionsNamed names (f ∷ fs) = FunctionNamed names f × FunctionsNamed names fs
 
 -- a program of a text that is accepted: typed, with `main`
 pub record IsProgram (p : TranslationUnit) : Type 0 where

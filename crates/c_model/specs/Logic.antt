@@ -73,7 +73,7 @@ read_object s (Some p) (Some t) = of_value (load s.store p t)
 abbrev pub term : LogicTerm → State → Option TermValue
 term (Number at t r n) s = Some (Mathematical n)
 term (Letter at t r n) s = Some (Mathematical n)
-term (Variable at t r x) s = read_object s (start_of (find x.name s.scope)) t
+term (Variable at t r x) s = read_object s (start_of (find x.decl s.scope)) t
 term (Binary at t r op a b) s = both (term a s) (term b s) (compute op)
 
 abbrev pub relates : Relation → ℤ → ℤ → Bool

@@ -1,5 +1,5 @@
 -- What expressions, statements and whole programs do (C99 6.5, 6.8, 5.1.2.2.3; evaluation goes from left to right).
-use Rattle.std.specs.Prelude.{ℕ, zero, suc, pos, Bool, false, cond, not, if◌then◌else◌, nat_eq, List, [], ◌∷◌, ◌++◌, Option, Some, None, option_map, slice_get, codes, bytes_eq}
+use Rattle.std.specs.Prelude.{ℕ, zero, suc, pos, Bool, false, cond, not, ◌&&◌, if◌then◌else◌, nat_eq, List, [], ◌∷◌, ◌++◌, Option, Some, None, option_map, slice_get, codes, bytes_eq}
 use Rattle.std.specs.Ordering.{int_eq}
 use Rattle.c_syntax.specs.declared.place.Place.{Place}
 use Rattle.c_syntax.specs.declared.expression.Use.{Use}
@@ -15,8 +15,13 @@ use Rattle.c_syntax.specs.Programs.{Function, TranslationUnit}
 use Rattle.c_model.specs.Integers.{size_of, convert, truth, operate, operate_one, byte_of}
 use Rattle.c_model.specs.Conversions.{operation_type, is_shift}
 use Rattle.c_model.specs.Memory.{Pointer, Value, Integer, NoValue}
-use Rattle.c_model.specs.State.{Input, State, Breaks, Continues, Returns, Final, Exits, Undefined, Fault, Spent, Leaves, Over, Outcome, Normal, Stop, Evaluation, ◌>>=◌, ◌>>◌, give, done, stop, defined, step, print, object, read, write, births, frame, mark, within}
+use Rattle.c_model.specs.State.{Input, State, Breaks, Continues, Returns, Final, Exits, Undefined, Fault, Spent, Leaves, Over, Outcome, Normal, Stop, Evaluation, ◌>>=◌, ◌>>◌, give, done, stop, defined, step, print, read_byte, object, read, write, write_youngest, birth, births, alone, frame, mark, within}
+use Rattle.c_model.specs.Library.{is_there}
 use Rattle.c_model.specs.Logic.{checks}
+
+-- a declaration of a function with its body (C99 6.9.1)
+abbrev pub is_definition : Function → Bool
+is_definition f = is_there f.body
 
 -- what a call of a name does with these values
 abbrev pub Callee : Type 0
@@ -87,7 +92,7 @@ abbrev mutual
   eval_with (Node at t (Number n k)) call = give (Integer n)
   eval_with (Node at t (Letter n)) call = give (Integer n)
   eval_with (Node at t (Variable x)) call = do
-    p ← object at x.name
+    p ← object at x.decl
     read at p t
   eval_with (Node at t (Unary op a)) call = do
     x ← eval_with a call
@@ -131,7 +136,7 @@ abbrev mutual
   eval_with (Node at t (SizeOfExpr a)) call = give (size_value (type_of a))
 
   pub place_with : Expression → Callee → Evaluation Pointer
-  place_with (Node at t (Variable x)) call = object at x.name
+  place_with (Node at t (Variable x)) call = object at x.decl
   place_with (Node at t (Number n k)) call = stop (Over (Undefined at))
   place_with (Node at t (Letter n)) call = stop (Over (Undefined at))
   place_with (Node at t (Unary op a)) call = stop (Over (Undefined at))
@@ -194,7 +199,7 @@ declared_first (First (Asserts annots)) = []
 abbrev pub initialise : Declaration → Option (Place × Initialiser) → Callee → Evaluation (Unit {0})
 initialise d None call = done
 initialise d (Some (at, One e)) call = do
-  p ← object at d.name
+  p ← object at d.place.offset
   v ← eval_with e call
   write at p d.ctype v
 
@@ -256,14 +261,71 @@ put_char at (NoValue ∷ []) = stop (Over (Undefined at))
 put_char at (Integer z ∷ []) = print (byte_of z) >> give (Integer (pos (byte_of z)))
 put_char at (v ∷ w ∷ vs) = stop (Over (Undefined at))
 
+-- getchar gives the byte that it read, or -1 (C99 7.19.7.6)
+abbrev pub get_char : Place → List Value → Evaluation Value
+get_char at [] = λ s. read_byte s.input.bytes s.input.tail s
+get_char at (v ∷ vs) = stop (Over (Undefined at))
+
+-- exit ends the run at once (C99 7.20.4.3)
+abbrev pub exit_with : Place → List Value → Evaluation Value
+exit_with at [] = stop (Over (Undefined at))
+exit_with at (NoValue ∷ []) = stop (Over (Undefined at))
+exit_with at (Integer z ∷ []) = stop (Over (Exits z))
+exit_with at (v ∷ w ∷ vs) = stop (Over (Undefined at))
+
 -- a call of a library function, by its name
 abbrev pub library_call : Place → Option (List ℕ) → List Value → Evaluation Value
 library_call at None vs = stop (Over (Undefined at))
-library_call at (Some name) vs = if bytes_eq name (codes "putchar") then put_char at vs else stop (Over (Undefined at))
+library_call at (Some name) vs =
+    if bytes_eq name (codes "putchar") then put_char at vs
+    else (if bytes_eq name (codes "getchar") then get_char at vs
+    else (if bytes_eq name (codes "exit") then exit_with at vs else stop (Over (Undefined at))))
+
+-- the definition with this number
+abbrev pub definition_at : ℕ → List Function → Option Function
+definition_at n [] = None
+definition_at n (f ∷ fs) = if is_definition f && nat_eq f.place.offset n then Some f else definition_at n fs
+
+-- parameters are born in order, each with its argument (C99 6.5.2.2 p4, 6.9.1 p9)
+abbrev pub parameters : Place → List Declaration → List Value → Evaluation (Unit {0})
+parameters at [] [] = done
+parameters at [] (v ∷ vs) = stop (Over (Undefined at))
+parameters at (d ∷ ds) [] = stop (Over (Undefined at))
+parameters at (d ∷ ds) (v ∷ vs) = birth d >> write_youngest at d.ctype v >> parameters at ds vs
+
+abbrev pub body_with : Option Statement → Callee → ℕ → Evaluation (Unit {0})
+body_with None call n = stop (Over Fault)
+body_with (Some a) call n = exec_with a call n
+
+-- at the closing brace of a function: by the profile one that gives a value isn't to come there (C99 6.9.1 p12)
+abbrev pub at_close : Place → PlainType → Evaluation Value
+at_close close Void = give NoValue
+at_close close (Int k) = stop (Over (Undefined close))
+
+-- what a call gives, from the way in which the body ends (C99 6.8.6.4)
+abbrev pub returned_by : Function → Outcome (Unit {0}) → Outcome Value
+returned_by f (Normal u s) = at_close f.close f.result s
+returned_by f (Stop (Leaves Breaks) s) = Stop (Over Fault) s
+returned_by f (Stop (Leaves Continues) s) = Stop (Over Fault) s
+returned_by f (Stop (Leaves (Returns None)) s) = Normal NoValue s
+returned_by f (Stop (Leaves (Returns (Some v))) s) = Normal v s
+returned_by f (Stop (Over e) s) = Stop (Over e) s
+
+-- a call of a function with these values: a step, a frame, the parameters, the mark `Pre`, the body (C99 6.5.2.2)
+abbrev pub call_with : Option Function → Callee → ℕ → Place → List Value → Evaluation Value
+call_with None call n at vs = stop (Over (Undefined at))
+call_with (Some f) call n at vs =
+    step >> within (frame >> alone >> parameters at f.params vs >> mark None >> λ s. returned_by f (body_with f.body call n s))
+
+abbrev pub is_of_library : Use → Bool
+is_of_library f = nat_eq f.decl 4294967295
 
 -- what calls do in a program, at most n deep
 abbrev pub call_of : TranslationUnit → ℕ → Callee
-call_of p n at f vs = if nat_eq f.decl 4294967295 then library_call at (slice_get p.names f.name) vs else stop (Over (Undefined at))
+call_of p zero at f vs = if is_of_library f then library_call at (slice_get p.names f.name) vs else stop (Over Spent)
+call_of p (suc n) at f vs =
+    if is_of_library f then library_call at (slice_get p.names f.name) vs
+    else call_with (definition_at f.decl p.funcs) (call_of p n) n at vs
 
 abbrev pub eval : TranslationUnit → ℕ → Expression → Evaluation Value
 eval p n e = eval_with e (call_of p n)
@@ -271,17 +333,15 @@ eval p n e = eval_with e (call_of p n)
 abbrev pub exec : TranslationUnit → ℕ → Statement → Evaluation (Unit {0})
 exec p n a = exec_with a (call_of p n) n
 
--- the function of a name
+abbrev pub has_name : Option (List ℕ) → List ℕ → Bool
+has_name None name = false
+has_name (Some bytes) name = bytes_eq bytes name
+
+-- the definition of a name
 abbrev pub function_named : TranslationUnit → List ℕ → List Function → Option Function
 function_named p name [] = None
-function_named p name (f ∷ fs) = elim (slice_get p.names f.name) [
-  | None ↦ function_named p name fs
-  | Some bytes ↦ if bytes_eq bytes name then Some f else function_named p name fs
-]
-
-abbrev pub body_with : Option Statement → Callee → ℕ → Evaluation (Unit {0})
-body_with None call n = stop (Over Fault)
-body_with (Some a) call n = exec_with a call n
+function_named p name (f ∷ fs) =
+    if is_definition f && has_name (slice_get p.names f.name) name then Some f else function_named p name fs
 
 -- a call of main: the frame, the parameters, the mark `Pre`, the body
 abbrev pub main_with : Option Function → Callee → ℕ → Evaluation (Unit {0})

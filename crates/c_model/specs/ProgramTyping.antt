@@ -1,5 +1,5 @@
 -- The typing of functions, of whole texts and of their annotations (C99 6.9, ACSL 2.2): phase by phase, where the first with a fault refuses.
-use Rattle.std.specs.Prelude.{ℕ, List, [], ◌∷◌, map, Option, Some, None, Bool, true, false, not, ◌&&◌, cond, codes, bytes_eq}
+use Rattle.std.specs.Prelude.{ℕ, List, [], ◌∷◌, ◌++◌, map, nat_eq, Option, Some, None, Bool, true, false, not, ◌&&◌, cond, codes, bytes_eq}
 use Rattle.c_syntax.specs.declared.place.Place.{Place}
 use Rattle.c_syntax.specs.declared.annotation.Range.{Range}
 use Rattle.c_syntax.specs.Ctypes.{PlainType, int_type}
@@ -7,36 +7,105 @@ use Rattle.c_syntax.specs.Annotations.{LogicTerm, Number, Letter, Variable, Bina
 use Rattle.c_syntax.specs.Statements.{Declaration, Statement, Empty, Eval, Block, If, While, Do, For, Break, Continue, Return, ElsePart, NoElse, Else, BlockItem, Declare, Run, Asserts, BlockItems, NoItem, Then}
 use Rattle.c_syntax.specs.Programs.{Function, TranslationUnit}
 use Rattle.c_model.specs.Places.{first_place}
+use Rattle.c_model.specs.Meaning.{is_definition}
 use Rattle.c_model.specs.Library.{library_constant, is_library_name, is_there}
 use Rattle.c_model.specs.Checked.{Fault, Checked, Good, faulty, one_part, both_parts, where_so}
-use Rattle.c_model.specs.Typing.{no_name, no_type, Signature, Scopes, name_at, object_named, function_called, library_function, use_as, same_type, inner, behind, behind_first, typed_items}
+use Rattle.c_model.specs.Typing.{no_name, no_type, Signature, Scopes, name_at, object_named, function_called, library_function, use_as, same_type, is_object_type, declarable, with_object, inner, behind, behind_first, typed_items}
 
 -- ---- functions
 
-abbrev pub signature : Function → Signature
-signature f = record { name = f.name; decl = f.place.offset; params = map (λ d. d.ctype) f.params; result = f.result }
+-- the number of the definition of a name, where the file has one
+abbrev pub definition_of : ℕ → List Function → Option ℕ
+definition_of x [] = None
+definition_of x (f ∷ fs) = cond (is_definition f && nat_eq f.name x) (Some f.place.offset) (definition_of x fs)
 
--- what is in sight at the front of each function's body
-abbrev pub file_scopes : TranslationUnit → Scopes
-file_scopes p = record { names = p.names; functions = map signature p.funcs; objects = []; innermost = 0 }
+-- the first declaration of a name
+abbrev pub first_of : ℕ → List Function → Option Function
+first_of x [] = None
+first_of x (f ∷ fs) = cond (nat_eq f.name x) (Some f) (first_of x fs)
 
--- a body is a block, whose scope is the function's (C99 6.2.1 p4)
+abbrev pub number_or : Option ℕ → ℕ → ℕ
+number_or (Some n) d = n
+number_or None d = d
+
+abbrev pub offset_of : Option Function → ℕ
+offset_of None = 0
+offset_of (Some f) = f.place.offset
+
+abbrev pub types_of : List Declaration → List PlainType
+types_of ds = map (λ (d : Declaration). d.ctype) ds
+
+-- what a declaration tells its callers, among all functions of the file
+abbrev pub signature : List Function → Function → Signature
+signature all f = record {
+  name = f.name;
+  decl = number_or (definition_of f.name all) (offset_of (first_of f.name all));
+  defined = is_there (definition_of f.name all);
+  params = types_of f.params;
+  result = f.result;
+}
+
+abbrev pub same_types : List PlainType → List PlainType → Bool
+same_types [] [] = true
+same_types (t ∷ ts) (u ∷ us) = same_type t u && same_types ts us
+same_types _ _ = false
+
+-- whether two declarations give one type (C99 6.7.5.3 p15)
+abbrev pub same_signature : Function → Function → Bool
+same_signature f g = same_type f.result g.result && same_types (types_of f.params) (types_of g.params)
+
+-- whether a declaration may stand behind another of its name: of the same type, and one of the two no definition (C99 6.7 p4, 6.9 p5)
+abbrev pub is_compatible : Function → Function → Bool
+is_compatible f g = cond (nat_eq f.name g.name) (same_signature f g && not (is_definition f && is_definition g)) true
+
+abbrev pub is_compatible_with_all : List Function → Function → Bool
+is_compatible_with_all [] g = true
+is_compatible_with_all (f ∷ fs) g = is_compatible f g && is_compatible_with_all fs g
+
+-- a function's name: none of the library's, and fitting the declarations before it
+abbrev pub typed_heading : Scopes → List Function → Function → Checked Function
+typed_heading s before f =
+    where_so (not (is_library_name (name_at s.names f.name)) && is_compatible_with_all before f) (no_name f.place) (Good f)
+
+-- a parameter: its name, where it has one, is new in its scope and none of the library's, and it is an object (C99 6.7.5.3)
+abbrev pub typed_parameter : Scopes → Declaration → Checked Declaration
+typed_parameter s d = cond d.named (declarable s d) (where_so (is_object_type d.ctype) (no_type d.place) (Good d))
+
+-- what is in sight behind a parameter
+abbrev pub with_parameter : Scopes → Declaration → Scopes
+with_parameter s d = cond d.named (with_object s d) s
+
+abbrev pub with_parameters : Scopes → List Declaration → Scopes
+with_parameters s [] = s
+with_parameters s (d ∷ ds) = with_parameters (with_parameter s d) ds
+
+abbrev pub typed_parameters : Scopes → List Declaration → Checked (List Declaration)
+typed_parameters s [] = Good []
+typed_parameters s (d ∷ ds) = one_part (typed_parameter s d) (λ d. one_part (typed_parameters (with_parameter s d) ds) (λ ds. Good (d ∷ ds)))
+
+-- what is in sight in a function, itself included, behind these that stand before it (C99 6.2.1 p4, p7)
+abbrev pub function_scopes : TranslationUnit → List Function → Function → Scopes
+function_scopes p before f = record { names = p.names; functions = map (signature p.funcs) (before ++ f ∷ []); objects = []; innermost = 0 }
+
+-- a body is a block, whose scope is that of the parameters (C99 6.2.1 p4)
 abbrev pub typed_body : Scopes → PlainType → Option Statement → Checked (Option Statement)
 typed_body s t (Some (Block at items)) = one_part (typed_items s (record { result = t; loops = false }) items) (λ items. Good (Some (Block at items)))
 typed_body s t b = Good b
 
-abbrev pub typed_function : Scopes → Function → Checked Function
-typed_function s f =
-    both_parts (where_so (not (is_library_name (name_at s.names f.name))) (no_name f.place) (Good f)) (typed_body s f.result f.body)
-    (λ f b. Good (record f { body = b }))
+abbrev pub typed_function : Scopes → List Function → Function → Checked Function
+typed_function s before f =
+    one_part (typed_heading s before f) (λ f. one_part (typed_parameters s f.params) (λ params.
+    one_part (typed_body (with_parameters s params) f.result f.body) (λ b. Good (record f { params = params; body = b }))))
 
-abbrev pub typed_functions : Scopes → List Function → Checked (List Function)
-typed_functions s [] = Good []
-typed_functions s (f ∷ fs) = one_part (typed_function s f) (λ f. one_part (typed_functions s fs) (λ fs. Good (f ∷ fs)))
+-- the functions behind these
+abbrev pub typed_functions : TranslationUnit → List Function → List Function → Checked (List Function)
+typed_functions p before [] = Good []
+typed_functions p before (f ∷ fs) =
+    both_parts (typed_function (function_scopes p before f) before f) (typed_functions p (before ++ f ∷ []) fs) (λ f fs. Good (f ∷ fs))
 
 -- names and types of a text
 abbrev pub typed_unit : TranslationUnit → Checked TranslationUnit
-typed_unit p = one_part (typed_functions (file_scopes p) p.funcs) (λ fs. Good (record p { funcs = fs }))
+typed_unit p = one_part (typed_functions p [] p.funcs) (λ fs. Good (record p { funcs = fs }))
 
 -- ---- `main`
 
@@ -51,7 +120,7 @@ has_no_parameters (d ∷ ds) = false
 abbrev pub main_fault : List (List ℕ) → List Function → Option Fault
 main_fault names [] = Some (no_main first_place)
 main_fault names (f ∷ fs) =
-    cond (bytes_eq (name_at names f.name) (codes "main"))
+    cond (is_definition f && bytes_eq (name_at names f.name) (codes "main"))
     (cond (same_type f.result int_type && has_no_parameters f.params) None (Some (no_main f.place)))
     (main_fault names fs)
 
@@ -122,11 +191,12 @@ abbrev pub noted_body : Scopes → Option Statement → Checked (Option Statemen
 noted_body s (Some (Block at items)) = one_part (noted_items s items) (λ items. Good (Some (Block at items)))
 noted_body s b = Good b
 
-abbrev pub noted_functions : Scopes → List Function → Checked (List Function)
-noted_functions s [] = Good []
-noted_functions s (f ∷ fs) =
-    one_part (noted_body s f.body) (λ b. one_part (noted_functions s fs) (λ fs. Good (record f { body = b } ∷ fs)))
+abbrev pub noted_functions : TranslationUnit → List Function → List Function → Checked (List Function)
+noted_functions p before [] = Good []
+noted_functions p before (f ∷ fs) =
+    one_part (noted_body (with_parameters (function_scopes p before f) f.params) f.body) (λ b.
+    one_part (noted_functions p (before ++ f ∷ []) fs) (λ fs. Good (record f { body = b } ∷ fs)))
 
 -- the names and types of a text's annotations, where its C has no fault
 abbrev pub noted_unit : TranslationUnit → Checked TranslationUnit
-noted_unit p = one_part (noted_functions (file_scopes p) p.funcs) (λ fs. Good (record p { funcs = fs }))
+noted_unit p = one_part (noted_functions p [] p.funcs) (λ fs. Good (record p { funcs = fs }))

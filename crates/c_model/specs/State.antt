@@ -1,5 +1,5 @@
 -- States of a run, how it ends, and how evaluations go on from one another (C99 5.1.2.3, 6.2.1, 6.8.6).
-use Rattle.std.specs.Prelude.{ℕ, zero, suc, ◌+◌, ℤ, cond, nat_eq, nat_lt, List, [], ◌∷◌, ◌++◌, length, Option, Some, None}
+use Rattle.std.specs.Prelude.{ℕ, zero, suc, ◌+◌, ℤ, pos, negsuc, cond, nat_eq, nat_lt, List, [], ◌∷◌, ◌++◌, length, Option, Some, None}
 use Rattle.c_syntax.specs.declared.place.Place.{Place}
 use Rattle.c_syntax.specs.declared.annotation.Kind.{Kind}
 use Rattle.c_syntax.specs.declared.types.How.{How}
@@ -9,9 +9,9 @@ use Rattle.c_syntax.specs.declared.types.BlockKind.TheVariants as block
 use Rattle.c_syntax.specs.Ctypes.{PlainType}
 use Rattle.c_syntax.specs.Statements.{Declaration}
 use Rattle.c_model.specs.Integers.{size_of}
-use Rattle.c_model.specs.Memory.{Pointer, Into, Value, new_block, Store, load, save, kill_from, standard_sizes, full_at_stack_birth}
+use Rattle.c_model.specs.Memory.{Pointer, Into, Value, Integer, new_block, Store, load, save, kill_from, standard_sizes, full_at_stack_birth}
 
--- the number of the block of each visible name, the innermost first (C99 6.2.1)
+-- the number of the block of each declaration in sight, the innermost first (C99 6.2.1)
 abbrev pub Scope : Type 0
 Scope = List (ℕ × ℕ)
 
@@ -106,11 +106,17 @@ step_from (suc n) s = Normal tt (record s { steps = n })
 abbrev pub step : Evaluation (Unit {0})
 step = λ s. step_from s.steps s
 
+-- the next byte of the input; at its end -1, and the end stays; a fault ends the run (C99 7.19.7.6)
+abbrev pub read_byte : List ℕ → InputTail → Evaluation Value
+read_byte [] EndOfInput = give (Integer (negsuc 0))
+read_byte [] InputFault = stop (Over ReadFault)
+read_byte (b ∷ bs) tail = λ s. Normal (Integer (pos b)) (record s { input = record { bytes = bs; tail = tail } })
+
 -- one byte of output (C99 7.19.7.3)
 abbrev pub print : ℕ → Evaluation (Unit {0})
 print byte = λ s. Normal tt (record s { output = s.output ++ byte ∷ [] })
 
--- the block of a name
+-- the block of a declaration
 abbrev pub find : ℕ → Scope → Option ℕ
 find x [] = None
 find x (entry ∷ rest) = cond (nat_eq entry.0 x) (Some entry.1) (find x rest)
@@ -120,7 +126,7 @@ abbrev pub start_of : Option ℕ → Option Pointer
 start_of None = None
 start_of (Some n) = Some (Into n 0)
 
--- where the object of a name stands
+-- where the object of a declaration stands
 abbrev pub object : Place → ℕ → Evaluation Pointer
 object at x = λ s. defined at (start_of (find x s.scope)) s
 
@@ -140,7 +146,7 @@ abbrev pub birth_of : Option Segment → Declaration → Evaluation (Unit {0})
 birth_of (Some full) d = stop (Over (Full full))
 birth_of None d = λ s. Normal tt (record s {
   store = s.store ++ new_block block.Stack (size_of d.ctype) ∷ [];
-  scope = (d.name, length s.store + 1) ∷ s.scope;
+  scope = (d.place.offset, length s.store + 1) ∷ s.scope;
 })
 
 abbrev pub birth : Declaration → Evaluation (Unit {0})
@@ -149,6 +155,14 @@ birth d = λ s. birth_of (full_at_stack_birth standard_sizes s.store (size_of d.
 abbrev pub births : List Declaration → Evaluation (Unit {0})
 births [] = done
 births (d ∷ ds) = birth d >> births ds
+
+-- the value of the youngest block
+abbrev pub write_youngest : Place → PlainType → Value → Evaluation (Unit {0})
+write_youngest at t v = λ s. write at (Into (length s.store) 0) t v s
+
+-- a call sees no variable of the call that makes it, and has passed no label
+abbrev pub alone : Evaluation (Unit {0})
+alone = λ s. Normal tt (record s { scope = []; marks = [] })
 
 -- one more call is active, 65,536 at most
 abbrev pub frame : Evaluation (Unit {0})

@@ -33,14 +33,15 @@ pub record Object : Type 0 where
   pub decl : ℕ
   pub ctype : PlainType
 
--- a function, by its name and the number of its definition
+-- a function that is declared, by its name: the number of its definition, or of its first prototype where the file has no definition
 pub record Signature : Type 0 where
   pub name : ℕ
   pub decl : ℕ
+  pub defined : Bool
   pub params : List PlainType
   pub result : PlainType
 
--- the names of the text, its functions, the visible objects, the newest last, and where those of the innermost scope begin
+-- the names of the text, the functions that are declared so far, the visible objects, the newest last, and where those of the innermost scope begin
 pub record Scopes : Type 0 where
   pub names : List (List ℕ)
   pub functions : List Signature
@@ -63,11 +64,15 @@ abbrev pub function_called : ℕ → List Signature → Option Signature
 function_called x [] = None
 function_called x (f ∷ fs) = cond (nat_eq x f.name) (Some f) (function_called x fs)
 
--- the functions of the library that are built (C99 7.19.7.3)
+abbrev pub of_library : ℕ → List PlainType → PlainType → Signature
+of_library x params result = record { name = x; decl = 4294967295; defined = true; params = params; result = result }
+
+-- the functions of the library that are built (C99 7.19.7.3, 7.19.7.6, 7.20.4.3)
 abbrev pub library_function : ℕ → List ℕ → Option Signature
 library_function x w =
-    if bytes_eq w (codes "putchar") then Some (record { name = x; decl = 4294967295; params = int_type ∷ []; result = int_type })
-    else None
+    if bytes_eq w (codes "putchar") then Some (of_library x (int_type ∷ []) int_type)
+    else (if bytes_eq w (codes "getchar") then Some (of_library x [] int_type)
+    else (if bytes_eq w (codes "exit") then Some (of_library x (int_type ∷ []) Void) else None))
 
 abbrev pub use_as : ℕ → ℕ → Use
 use_as x decl = record { name = x; decl = decl }
@@ -216,13 +221,13 @@ size_of_type at u = where_so (is_object_type u) (no_type at) (Good (Node at (Int
 abbrev pub size_of_expression : Place → Expression → Checked Expression
 size_of_expression at a = where_so (is_object_type (type_of a)) (no_type at) (Good (Node at (Int U64) (SizeOfExpr a)))
 
--- the function that is called, by its name: an object isn't one, nor is `main` to be called (this profile)
+-- the function that is called, by its name: an object isn't one, the file defines it, and `main` isn't to be called (this profile)
 abbrev pub callee : Scopes → Place → ℕ → Checked Signature
 callee s at x = elim (object_named x s.objects) [
   | Some b ↦ faulty (no_type at)
   | None ↦ elim (or_else (function_called x s.functions) (library_function x (name_at s.names x))) [
     | None ↦ elim (library_constant (name_at s.names x)) [ None ↦ faulty (no_name at) | Some c ↦ faulty (no_type at) ]
-    | Some f ↦ where_so (not (bytes_eq (name_at s.names x) (codes "main"))) (no_type at) (Good f)
+    | Some f ↦ where_so f.defined (no_name at) (where_so (not (bytes_eq (name_at s.names x) (codes "main"))) (no_type at) (Good f))
   ]
 ]
 

@@ -59,6 +59,7 @@ HaveTypes (t ∷ ts) (Following e es) = (type_of e ≡ t) × HaveTypes ts es
 pub record Calls (s : Scopes) (f : Use) (t : PlainType) (es : Expressions) : Type 0 where
   pub callee : Signature
   pub found : or_else (function_called f.name s.functions) (library_function f.name (name_at s.names f.name)) ≡ Some callee
+  pub defined : callee.defined ≡ true
   pub not_main : bytes_eq (name_at s.names f.name) (codes "main") ≡ false
   pub decl : f.decl ≡ callee.decl
   pub result : t ≡ callee.result

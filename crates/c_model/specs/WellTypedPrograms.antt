@@ -1,5 +1,5 @@
 -- What is known of typed statements, annotations and programs (C99 6.7, 6.8, ACSL 2.2).
-use Rattle.std.specs.Prelude.{◌≡◌, true, false, drop, List, [], ◌∷◌, Option, Some, None}
+use Rattle.std.specs.Prelude.{◌≡◌, true, false, drop, List, [], ◌∷◌, ◌++◌, Option, Some, None}
 use Rattle.c_syntax.specs.declared.place.Place.{Place}
 use Rattle.c_syntax.specs.declared.expression.Use.{Use}
 use Rattle.c_syntax.specs.Ctypes.{PlainType, Void}
@@ -9,7 +9,7 @@ use Rattle.c_syntax.specs.Annotations.{LogicTerm, Predicate, Chain, Links, NoLin
 use Rattle.c_syntax.specs.Statements.{Initialiser, One, Declaration, Statement, Empty, Eval, Block, If, While, Do, For, Break, Continue, Return, ElsePart, NoElse, Else, ForFirst, NoFirst, First, BlockItem, Declare, Run, Asserts, BlockItems, NoItem, Then}
 use Rattle.c_syntax.specs.Programs.{Function, TranslationUnit}
 use Rattle.c_model.specs.Typing.{Scopes, object_named, is_scalar, is_object_type, Around, in_loop, inner, with_object, behind, behind_first}
-use Rattle.c_model.specs.ProgramTyping.{file_scopes}
+use Rattle.c_model.specs.ProgramTyping.{function_scopes, with_parameter, with_parameters, is_compatible_with_all}
 use Rattle.c_model.specs.WellTyped.{Denotes, IsInteger, WellTyped}
 
 -- ---- statements
@@ -140,10 +140,26 @@ abbrev pub BodyTyped : Scopes → PlainType → Option Statement → Type 0
 BodyTyped s t (Some (Block at items)) = ItemsTyped s (around_body t) items × ItemsNoted s items
 BodyTyped s t _ = Unit {0}
 
-abbrev pub FunctionsTyped : Scopes → List Function → Type 0
-FunctionsTyped s [] = Unit {0}
-FunctionsTyped s (f ∷ fs) = BodyTyped s f.result f.body × FunctionsTyped s fs
+-- a parameter: an object, whose name, where it has one, is new (C99 6.7.5.3)
+pub record IsParameter (s : Scopes) (d : Declaration) : Type 0 where
+  pub new : d.named ≡ true → object_named d.name (drop s.innermost s.objects) ≡ None
+  pub ctype : is_object_type d.ctype ≡ true
+
+abbrev pub AreParameters : Scopes → List Declaration → Type 0
+AreParameters s [] = Unit {0}
+AreParameters s (d ∷ ds) = IsParameter s d × AreParameters (with_parameter s d) ds
+
+-- a function behind these, with those in sight
+pub record FunctionTyped (s : Scopes) (before : List Function) (f : Function) : Type 0 where
+  pub compatible : is_compatible_with_all before f ≡ true
+  pub params : AreParameters s f.params
+  pub body : BodyTyped (with_parameters s f.params) f.result f.body
+
+-- functions behind these
+abbrev pub FunctionsTyped : TranslationUnit → List Function → List Function → Type 0
+FunctionsTyped p before [] = Unit {0}
+FunctionsTyped p before (f ∷ fs) = FunctionTyped (function_scopes p before f) before f × FunctionsTyped p (before ++ f ∷ []) fs
 
 -- a program whose C and annotations are typed
 abbrev pub ProgramTyped : TranslationUnit → Type 0
-ProgramTyped p = FunctionsTyped (file_scopes p) p.funcs
+ProgramTyped p = FunctionsTyped p [] p.funcs
