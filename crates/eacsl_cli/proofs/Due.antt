@@ -3,12 +3,12 @@ use Rattle.std.proofs.Common.{◌≡◌, ℕ, List, [], ◌++◌, Option, Some, 
 use Rattle.std.proofs.lemmas.List.{append-nil}
 use Rattle.c_syntax.specs.Programs.{PlainRefusal}
 use Rattle.c_model.specs.Phases.{RefusedText}
-use Rattle.c_model.specs.State.{Input, Final}
+use Rattle.c_model.specs.State.{Input, EndOfInput, Final}
 use Rattle.c_model.proofs.Agreement.{extends_trans}
 use Rattle.c_model.specs.Meaning.{Ran}
 use Rattle.c_model.specs.Reports.{Report, report, line_of, refused_words, Extends}
 use Rattle.mon_syntax.specs.Trees.{MonitoredProgram}
-use Rattle.mon_syntax.specs.Memories.{over_flat, flat_run}
+use Rattle.mon_syntax.specs.Memories.{over_flat, flat_start, flat_run}
 use Rattle.mon_syntax.specs.Text.{text_of}
 use Rattle.mon_syntax.specs.Spelled.{Spells, IsMonitoredRefusal}
 use Rattle.ea_ports.specs.declared.SinkFault.{SinkFault}
@@ -21,8 +21,9 @@ use Rattle.c_lower.proofs.Courses.{over_once, writing_begins}
 use Rattle.c_machine.specs.declared.stop.Stop.{Stop}
 use Rattle.c_machine.specs.declared.stop.Stop.TheVariants as stop
 use Rattle.c_machine.specs.declared.stop.Ran as machine
-use Rattle.c_machine.specs.Whole.{no_calls, RanAs, RanTo, RunCut}
-use Rattle.eacsl_cli.specs.Answers.{Answer, AnswersRun, refused_answer, written_answer, memory_line, Change, change, IsSaid, Answered, Given, OutputFault, ReportDue, ReportBegins, IsTranslated, RunDue, RunRefused, Runs, RunBegins, InstrumentDue, InstrumentRefused, Writes, InstrumentBegins, ExecDue, ExecRefused, Executes, ExecBegins}
+use Rattle.c_machine.specs.Inputs.{Taking, taking, Untouched, IsInput, Ended, EndsAsRead}
+use Rattle.c_machine.specs.Whole.{RanAs, RanTo, RunCut}
+use Rattle.eacsl_cli.specs.Answers.{Answer, AnswersRun, refused_answer, written_answer, memory_line, Change, change, IsSaid, Answered, Given, OutputFault, AnswersOnInput, BeginsOnInput, IsTranslated, RunDue, RunRefused, Runs, RunBegins, InstrumentDue, InstrumentRefused, Writes, InstrumentBegins, ExecDue, ExecRefused, Executes, ExecBegins}
 use Rattle.eacsl_cli.specs.Settled.{IsSettled, Said, Wanting, Reported}
 use Rattle.eacsl_cli.proofs.Sayings.{said_answer, said_memory, answered_by}
 
@@ -40,37 +41,45 @@ begins_with all bytes sent lost rest e b = record { rest = lost ++ rest; is = e 
 abbrev answer_of : Report → List ℕ → Answer
 answer_of said sent = record { status = said.status; output = sent; line = said.line }
 
-module _ (m : MonitoredProgram) (steps : ℕ) (told told' : Option (List ℕ)) (faults faults' : ℕ) (code : Code) (lowered : RunsAs over_flat m code.entries.items code.main code.instrs.items) where
+module _ (m : MonitoredProgram) (steps : ℕ) (source : Taking) (told told' : Option (List ℕ)) (faults faults' : ℕ) (code : Code) (lowered : RunsAs over_flat m code.entries.items code.main code.instrs.items) where
   -- the code's run is the program's
-  run_is : {end : Final} {ran : machine.Ran} (r : RanTo code steps (port_of told [] faults) (port_of told' [] faults') end ran) (input : Input) → flat_run m input steps ≡ record { final = end; output = r.bytes; left = ran.left }
-  run_is r input =
-      let l = lowered no_calls input steps in
-      (over_once over_flat code.entries.items code.main code.instrs.items no_calls input steps l.0 r.turns _ _ l.1 (r.run input)).1
+  run_is : {end : Final} {ran : machine.Ran} (r : RanTo code steps source (port_of told [] faults) (port_of told' [] faults') end ran) → flat_run m r.input steps ≡ record { final = end; output = r.bytes; left = ran.left }
+  run_is r =
+      let l = lowered flat_start r.input steps in
+      (over_once over_flat code.entries.items code.main code.instrs.items flat_start r.input steps l.0 r.turns _ _ l.1 r.run).1
 
-  answers : {end : Final} {ran : machine.Ran} (r : RanTo code steps (port_of told [] faults) (port_of told' [] faults') end ran) (said : Report) → report end ≡ Some said → ReportDue m steps (answer_of said r.wrote.sent)
-  answers r said e input = record {
-    said = said;
-    reported = ap (λ (r : Ran). report r.final) (run_is r input) ∙ e;
-    is = ap (λ l. answer_of said l) (sym (ap (λ (r : Ran). r.output) (run_is r input) ∙ r.wrote.bytes_are ∙ append-nil r.wrote.sent));
+  answers : {end : Final} {ran : machine.Ran} (r : RanTo code steps source (port_of told [] faults) (port_of told' [] faults') end ran) (said : Report) → report end ≡ Some said → AnswersOnInput source m steps (answer_of said r.wrote.sent)
+  answers r said e = record {
+    input = r.input;
+    was = r.was;
+    ends = subst (λ (x : Ran). EndsAsRead source x.final) (sym (run_is r)) r.ends;
+    answers = record {
+      said = said;
+      reported = ap (λ (x : Ran). report x.final) (run_is r) ∙ e;
+      is = ap (λ l. answer_of said l) (sym (ap (λ (x : Ran). x.output) (run_is r) ∙ r.wrote.bytes_are ∙ append-nil r.wrote.sent));
+    };
   }
 
-  sent_begins : {end : Final} {ran : machine.Ran} (r : RanTo code steps (port_of told [] faults) (port_of told' [] faults') end ran) → ReportBegins m steps r.wrote.sent
-  sent_begins r input = begins_with _ r.bytes r.wrote.sent [] [] (ap (λ (r : Ran). r.output) (run_is r input) ∙ sym (append-nil r.bytes)) r.wrote.bytes_are
+  sent_begins : {end : Final} {ran : machine.Ran} (r : RanTo code steps source (port_of told [] faults) (port_of told' [] faults') end ran) → BeginsOnInput source m steps r.wrote.sent
+  sent_begins r = record {
+    input = r.input;
+    was = r.was;
+    begins = begins_with _ r.bytes r.wrote.sent [] [] (ap (λ (x : Ran). x.output) (run_is r) ∙ sym (append-nil r.bytes)) r.wrote.bytes_are;
+  }
 
-  cut_begins : {f : SinkFault} {ran : machine.Ran} (cut : RunCut code steps (port_of told [] faults) (port_of told' [] faults') f ran) → ReportBegins m steps cut.lost.sent
-  cut_begins cut input =
-      let l = lowered no_calls input steps in
-      let b = cut.begun input in
-      let w = writing_begins over_flat code.entries.items code.main code.instrs.items no_calls input steps l.0 b.0 _ l.1 in
-      let all = extends_trans cut.bytes _ _ b.1 w in
-      begins_with _ cut.bytes cut.lost.sent cut.lost.lost all.rest all.is cut.lost.bytes_are
+  cut_begins : {f : SinkFault} {ran : machine.Ran} (cut : RunCut code steps source (port_of told [] faults) (port_of told' [] faults') f ran) → BeginsOnInput source m steps cut.lost.sent
+  cut_begins cut =
+      let l = lowered flat_start cut.input steps in
+      let w = writing_begins over_flat code.entries.items code.main code.instrs.items flat_start cut.input steps l.0 cut.begun.0 _ l.1 in
+      let all = extends_trans cut.bytes _ _ cut.begun.1 w in
+      record { input = cut.input; was = cut.was; begins = begins_with _ cut.bytes cut.lost.sent cut.lost.lost all.rest all.is cut.lost.bytes_are }
 
   module _ (err : Change) (result : ℕ) where
     -- the run came to an end, and that was reported
-    ended : {end : Final} {ran : machine.Ran} → RanTo code steps (port_of told [] faults) (port_of told' [] faults') end ran → (said : Report) → report end ≡ Some said → IsSettled said.line said.status err result → Answered (ReportDue m steps) (ReportBegins m steps) (change told told' faults faults') err result
+    ended : {end : Final} {ran : machine.Ran} → RanTo code steps source (port_of told [] faults) (port_of told' [] faults') end ran → (said : Report) → report end ≡ Some said → IsSettled said.line said.status err result → Answered (AnswersOnInput source m steps) (BeginsOnInput source m steps) (change told told' faults faults') err result
     ended r said e s = settled_answer (answer_of said r.wrote.sent) (answers r said e) (sent_begins r) r.wrote.told_is r.wrote.faults_is s
 
-    reported : (end : Stop) (ran : machine.Ran) → RanAs code steps (port_of told [] faults) (port_of told' [] faults') end ran → Reported end err result → Answered (ReportDue m steps) (ReportBegins m steps) (change told told' faults faults') err result
+    reported : (end : Stop) (ran : machine.Ran) → RanAs code steps source (port_of told [] faults) (port_of told' [] faults') end ran → Reported end err result → Answered (AnswersOnInput source m steps) (BeginsOnInput source m steps) (change told told' faults faults') err result
     reported (stop.Exit z) ran r s = ended r s.said s.is s.settled
     reported (stop.Broken number line kind how) ran r s = ended r s.said s.is s.settled
     reported stop.Spent ran r s = ended r s.said s.is s.settled
@@ -80,30 +89,45 @@ module _ (m : MonitoredProgram) (steps : ℕ) (told told' : Option (List ℕ)) (
     reported stop.WriteFault ran cut s = OutputFault cut.lost.sent s.status (cut_begins cut) cut.lost.told_is cut.lost.count s.told s.faults
     reported stop.OutOfMemory ran cut s = said_memory cut.lost.sent (cut_begins cut) cut.lost.told_is cut.lost.count s
 
-    pub run_reported : (ran : machine.Ran) → RanAs code steps (port_of told [] faults) (port_of told' [] faults') ran.stop ran → Reported ran.stop err result → Answered (ReportDue m steps) (ReportBegins m steps) (change told told' faults faults') err result
+    pub run_reported : (ran : machine.Ran) → RanAs code steps source (port_of told [] faults) (port_of told' [] faults') ran.stop ran → Reported ran.stop err result → Answered (AnswersOnInput source m steps) (BeginsOnInput source m steps) (change told told' faults faults') err result
     run_reported ran r s = reported ran.stop ran r s
 
+-- the input that a source is which isn't asked
+unasked_input : (left : Option (List ℕ)) (faults : ℕ) → (input : Input) × IsInput (taking left left faults faults) input
+unasked_input None faults = (record { bytes = []; tail = EndOfInput }, Ended refl refl tt [] (record { rest = []; is = refl }) refl)
+unasked_input (Some left) faults = (record { bytes = left; tail = EndOfInput }, Ended refl refl refl [] (record { rest = left; is = refl }) (left, refl, refl))
+
 -- there was no memory to begin
-pub run_not_begun : (m : MonitoredProgram) (steps : ℕ) {told : Option (List ℕ)} {faults : ℕ} {err : Change} {result : ℕ} → IsSaid memory_line 9 err result → Answered (ReportDue m steps) (ReportBegins m steps) (change told told faults faults) err result
-run_not_begun m steps {told = told} s = said_memory [] (λ input. record { rest = (flat_run m input steps).output; is = refl }) (sym (more-nil told)) refl s
+pub run_not_begun : (m : MonitoredProgram) (steps : ℕ) {left : Option (List ℕ)} {count : ℕ} {told : Option (List ℕ)} {faults : ℕ} {err : Change} {result : ℕ} → IsSaid memory_line 9 err result → Answered (AnswersOnInput (taking left left count count) m steps) (BeginsOnInput (taking left left count count) m steps) (change told told faults faults) err result
+run_not_begun m steps {left} {count} {told} s =
+    let i = unasked_input left count in
+    said_memory [] (record { input = i.0; was = i.1; begins = record { rest = (flat_run m i.0 steps).output; is = refl } }) (sym (more-nil told)) refl s
 
 -- ---- texts
 
-module _ {text : List ℕ} {err : Change} {result : ℕ} where
+module _ {source : Taking} {text : List ℕ} {err : Change} {result : ℕ} where
   module _ {steps : ℕ} {told : Option (List ℕ)} {faults : ℕ} where
-    pub run_refused : (r : PlainRefusal) → RefusedText text r → IsSettled (line_of (refused_words r)) 2 err result → Answered (RunDue None text steps) (RunBegins None text steps) (change told told faults faults) err result
-    run_refused r h s = settled_answer (refused_answer r) (RunRefused r h refl) (inl refl) (sym (more-nil told)) refl s
+    pub run_refused : (r : PlainRefusal) → RefusedText text r → Untouched source → IsSettled (line_of (refused_words r)) 2 err result → Answered (RunDue source text steps) (RunBegins source text steps) (change told told faults faults) err result
+    run_refused r h u s = settled_answer (refused_answer r) (RunRefused r h u refl) (inl refl) (sym (more-nil told)) refl s
 
     -- nothing was put, for want of memory
-    pub run_unread : IsSaid memory_line 9 err result → Answered (RunDue None text steps) (RunBegins None text steps) (change told told faults faults) err result
+    pub run_unread : IsSaid memory_line 9 err result → Answered (RunDue source text steps) (RunBegins source text steps) (change told told faults faults) err result
     run_unread s = said_memory [] (inl refl) (sym (more-nil told)) refl s
 
-    pub exec_refused : (r : PlainRefusal) → IsMonitoredRefusal text r → IsSettled (line_of (refused_words r)) 2 err result → Answered (ExecDue None text steps) (ExecBegins None text steps) (change told told faults faults) err result
-    exec_refused r h s = settled_answer (refused_answer r) (ExecRefused r h refl) (inl refl) (sym (more-nil told)) refl s
+    pub exec_refused : (r : PlainRefusal) → IsMonitoredRefusal text r → Untouched source → IsSettled (line_of (refused_words r)) 2 err result → Answered (ExecDue source text steps) (ExecBegins source text steps) (change told told faults faults) err result
+    exec_refused r h u s = settled_answer (refused_answer r) (ExecRefused r h u refl) (inl refl) (sym (more-nil told)) refl s
 
-    pub exec_unread : IsSaid memory_line 9 err result → Answered (ExecDue None text steps) (ExecBegins None text steps) (change told told faults faults) err result
+    pub exec_unread : IsSaid memory_line 9 err result → Answered (ExecDue source text steps) (ExecBegins source text steps) (change told told faults faults) err result
     exec_unread s = said_memory [] (inl refl) (sym (more-nil told)) refl s
 
+  module _ {told told' : Option (List ℕ)} {faults faults' : ℕ} where
+    pub run_executed : {steps : ℕ} (m : MonitoredProgram) → IsTranslated text m → Answered (AnswersOnInput source m steps) (BeginsOnInput source m steps) (change told told' faults faults') err result → Answered (RunDue source text steps) (RunBegins source text steps) (change told told' faults faults') err result
+    run_executed m t x = answered_by (λ _ d. Runs t.program m t.accepted t.translates t.sound d) (λ _ b. inr (t.program, m, t.accepted, t.translates, b)) x
+
+    pub exec_executed : {steps : ℕ} (m : MonitoredProgram) → Spells text m → Answered (AnswersOnInput source m steps) (BeginsOnInput source m steps) (change told told' faults faults') err result → Answered (ExecDue source text steps) (ExecBegins source text steps) (change told told' faults faults') err result
+    exec_executed m t x = answered_by (λ _ d. Executes m t d) (λ _ b. inr (m, t, b)) x
+
+module _ {text : List ℕ} {err : Change} {result : ℕ} where
   module _ {told : Option (List ℕ)} {faults : ℕ} where
     pub instrument_refused : (r : PlainRefusal) → RefusedText text r → IsSettled (line_of (refused_words r)) 2 err result → Answered (InstrumentDue text) (InstrumentBegins text) (change told told faults faults) err result
     instrument_refused r h s = settled_answer (refused_answer r) (InstrumentRefused r h refl) (inl refl) (sym (more-nil told)) refl s
@@ -112,15 +136,13 @@ module _ {text : List ℕ} {err : Change} {result : ℕ} where
     instrument_unread s = said_memory [] (inl refl) (sym (more-nil told)) refl s
 
   module _ {told told' : Option (List ℕ)} {faults faults' : ℕ} where
-    pub run_executed : {steps : ℕ} (m : MonitoredProgram) → IsTranslated text m → Answered (ReportDue m steps) (ReportBegins m steps) (change told told' faults faults') err result → Answered (RunDue None text steps) (RunBegins None text steps) (change told told' faults faults') err result
-    run_executed m t x = answered_by (λ _ d. Runs t.program m t.accepted t.translates t.sound (λ input _. d input)) (λ _ b. inr (t.program, m, t.accepted, t.translates, λ input _. b input)) x
-
-    pub exec_executed : {steps : ℕ} (m : MonitoredProgram) → Spells text m → Answered (ReportDue m steps) (ReportBegins m steps) (change told told' faults faults') err result → Answered (ExecDue None text steps) (ExecBegins None text steps) (change told told' faults faults') err result
-    exec_executed m t x = answered_by (λ _ d. Executes m t (λ input _. d input)) (λ _ b. inr (m, t, λ input _. b input)) x
-
     -- a beginning of the text was put, and memory was wanting
     pub write_wanting : (m : MonitoredProgram) → IsTranslated text m → (sent : List ℕ) → Extends sent (text_of m) → told' ≡ more told sent → faults' ≡ faults → IsSaid memory_line 9 err result → Answered (InstrumentDue text) (InstrumentBegins text) (change told told' faults faults') err result
     write_wanting m t sent b w f s = said_memory sent (inr (t.program, m, t.accepted, t.translates, b)) w f s
+
+    -- no input was read besides
+    pub unread_besides : {source : Taking} → Untouched source → Answered (InstrumentDue text) (InstrumentBegins text) (change told told' faults faults') err result → Answered (λ a. InstrumentDue text a × Untouched source) (InstrumentBegins text) (change told told' faults faults') err result
+    unread_besides u x = answered_by (λ _ d. (d, u)) (λ _ b. b) x
 
 module _ {text : List ℕ} {told told' t' : Option (List ℕ)} {faults faults' n : ℕ} (m : MonitoredProgram) (t : IsTranslated text m) where
   -- the whole text was put

@@ -8,63 +8,40 @@ use Rattle.c_model.specs.WordLaws.{file_named}
 use Rattle.c_model.specs.Reports.{line_of}
 use Rattle.ea_ports.specs.Port.{RefusalCount, Rose}
 use Rattle.ea_ports.proofs.Told.{more-nil}
-use Rattle.eacsl_cli.specs.Answers.{Answer, silent, memory_line, file_limit, Change, change, IsSaid, Answered, IsDue, Usage, NoFile, TooLong, FolderFault, OfText, Begins, Nothing, BeginsText, RunDue, RunRefused, Runs, RunBegins, ExecDue, ExecRefused, Executes, ExecBegins, TextDue, TextBegins}
+use Rattle.c_machine.specs.Inputs.{Taking, taking, Untouched}
+use Rattle.eacsl_cli.specs.Answers.{Answer, silent, memory_line, file_limit, Change, change, IsSaid, Answered, IsDue, Usage, NoFile, TooLong, FolderFault, OfText, Begins, Nothing, BeginsText, TextDue, TextBegins}
 use Rattle.eacsl_cli.proofs.Sayings.{said_answer, said_memory, answered_by}
 
--- what is due on every input is due on the one that is left
-module _ (left : Option (List ℕ)) (text : List ℕ) where
-  run_due : {steps : ℕ} {a : Answer} → RunDue None text steps a → RunDue left text steps a
-  run_due (RunRefused r h e) = RunRefused r h e
-  run_due (Runs p m x t s f) = Runs p m x t s (λ input _. f input tt)
+-- a source that isn't asked
+pub unasked : {left : Option (List ℕ)} {faults : ℕ} → Untouched (taking left left faults faults)
+unasked = record { left = refl; faults = refl }
 
-  exec_due : {steps : ℕ} {a : Answer} → ExecDue None text steps a → ExecDue left text steps a
-  exec_due (ExecRefused r h e) = ExecRefused r h e
-  exec_due (Executes m x f) = Executes m x (λ input _. f input tt)
-
-  text_due : (job : Job) (a : Answer) → TextDue None job text a → TextDue left job text a
-  text_due (Run file steps rte) a d = run_due d
-  text_due (Instrument file rte) a d = d
-  text_due (Exec file steps) a d = exec_due d
-
-  run_begins : (steps : ℕ) (sent : List ℕ) → RunBegins None text steps sent → RunBegins left text steps sent
-  run_begins steps sent (inl e) = inl e
-  run_begins steps sent (inr (p, m, x, t, f)) = inr (p, m, x, t, λ input _. f input tt)
-
-  exec_begins : (steps : ℕ) (sent : List ℕ) → ExecBegins None text steps sent → ExecBegins left text steps sent
-  exec_begins steps sent (inl e) = inl e
-  exec_begins steps sent (inr (m, x, f)) = inr (m, x, λ input _. f input tt)
-
-  text_begins : (job : Job) (sent : List ℕ) → TextBegins None job text sent → TextBegins left job text sent
-  text_begins (Run file steps rte) sent b = run_begins steps sent b
-  text_begins (Instrument file rte) sent b = b
-  text_begins (Exec file steps) sent b = exec_begins steps sent b
-
-module _ {words : List (List ℕ)} {content : Option (List ℕ → Option (List ℕ))} {before now : ℕ} {left : Option (List ℕ)} {told : Option (List ℕ)} {faults : ℕ} {err : Change} {result : ℕ} where
+module _ {words : List (List ℕ)} {content : Option (List ℕ → Option (List ℕ))} {before now : ℕ} {source : Taking} {told : Option (List ℕ)} {faults : ℕ} {err : Change} {result : ℕ} where
   -- an answer without output was said
-  silent_said : (status : ℕ) (line : List ℕ) → IsDue words content before now left (silent status line) → IsSaid (line_of line) status err result → Answered (IsDue words content before now left) (Begins words content before now left) (change told told faults faults) err result
+  silent_said : (status : ℕ) (line : List ℕ) → IsDue words content before now source (silent status line) → IsSaid (line_of line) status err result → Answered (IsDue words content before now source) (Begins words content before now source) (change told told faults faults) err result
   silent_said status line d s = said_answer (silent status line) d (Nothing refl) (sym (more-nil told)) refl s
 
   -- nothing was put, for want of memory
-  pub memory_said : IsSaid memory_line 9 err result → Answered (IsDue words content before now left) (Begins words content before now left) (change told told faults faults) err result
+  pub memory_said : IsSaid memory_line 9 err result → Answered (IsDue words content before now source) (Begins words content before now source) (change told told faults faults) err result
   memory_said s = said_memory [] (Nothing refl) (sym (more-nil told)) refl s
 
-  pub usage_said : None ≡ job_of words → now ≡ before → IsSaid (line_of (codes "usage")) 3 err result → Answered (IsDue words content before now left) (Begins words content before now left) (change told told faults faults) err result
-  usage_said e n s = silent_said 3 (codes "usage") (Usage (sym e) n refl) s
+  pub usage_said : None ≡ job_of words → now ≡ before → Untouched source → IsSaid (line_of (codes "usage")) 3 err result → Answered (IsDue words content before now source) (Begins words content before now source) (change told told faults faults) err result
+  usage_said e n u s = silent_said 3 (codes "usage") (Usage (sym e) n u refl) s
 
-  module _ (j : Job) (name : List ℕ) (limit : ℕ) (e : Some j ≡ job_of words) (m : name ≡ file_named j) (k : limit ≡ file_limit j) where
-    pub missing_said : IfSome content (λ files. files name ≡ None) → RefusalCount content before now → IsSaid (line_of (codes "no file")) 10 err result → Answered (IsDue words content before now left) (Begins words content before now left) (change told told faults faults) err result
-    missing_said h n s = silent_said 10 (codes "no file") (NoFile j (sym e) (subst (λ x. IfSome content (λ files. files x ≡ None)) m h) n refl) s
+  module _ (j : Job) (name : List ℕ) (limit : ℕ) (e : Some j ≡ job_of words) (m : name ≡ file_named j) (k : limit ≡ file_limit j) (u : Untouched source) where
+    pub missing_said : IfSome content (λ files. files name ≡ None) → RefusalCount content before now → IsSaid (line_of (codes "no file")) 10 err result → Answered (IsDue words content before now source) (Begins words content before now source) (change told told faults faults) err result
+    missing_said h n s = silent_said 10 (codes "no file") (NoFile j (sym e) (subst (λ x. IfSome content (λ files. files x ≡ None)) m h) n u refl) s
 
-    pub too_long_said : IfSome content (λ files. (bytes : List ℕ) × (files name ≡ Some bytes) × (limit < length bytes)) → RefusalCount content before now → IsSaid (line_of (codes "file too long")) 11 err result → Answered (IsDue words content before now left) (Begins words content before now left) (change told told faults faults) err result
+    pub too_long_said : IfSome content (λ files. (bytes : List ℕ) × (files name ≡ Some bytes) × (limit < length bytes)) → RefusalCount content before now → IsSaid (line_of (codes "file too long")) 11 err result → Answered (IsDue words content before now source) (Begins words content before now source) (change told told faults faults) err result
     too_long_said h n s =
-        silent_said 11 (codes "file too long") (TooLong j (sym e) (subst (λ x. IfSome content (λ files. (bytes : List ℕ) × (files (file_named j) ≡ Some bytes) × (x < length bytes))) k (subst (λ x. IfSome content (λ files. (bytes : List ℕ) × (files x ≡ Some bytes) × (limit < length bytes))) m h)) n refl) s
+        silent_said 11 (codes "file too long") (TooLong j (sym e) (subst (λ x. IfSome content (λ files. (bytes : List ℕ) × (files (file_named j) ≡ Some bytes) × (x < length bytes))) k (subst (λ x. IfSome content (λ files. (bytes : List ℕ) × (files x ≡ Some bytes) × (limit < length bytes))) m h)) n u refl) s
 
-    pub fault_said : Rose before now → IsSaid (line_of (codes "read fault")) 7 err result → Answered (IsDue words content before now left) (Begins words content before now left) (change told told faults faults) err result
-    fault_said n s = silent_said 7 (codes "read fault") (FolderFault j (sym e) n refl) s
+    pub fault_said : Rose before now → IsSaid (line_of (codes "read fault")) 7 err result → Answered (IsDue words content before now source) (Begins words content before now source) (change told told faults faults) err result
+    fault_said n s = silent_said 7 (codes "read fault") (FolderFault j (sym e) n u refl) s
 
 -- what is due for the text of the file is due for the words
-pub file_answered : {words : List (List ℕ)} {content : Option (List ℕ → Option (List ℕ))} {before now : ℕ} {left : Option (List ℕ)} {out err : Change} {result : ℕ} (j : Job) (name text text' : List ℕ) (limit : ℕ) → Some j ≡ job_of words → name ≡ file_named j → limit ≡ file_limit j → text' ≡ text → (length text ≤ limit) × IfSome content (λ files. files name ≡ Some text) → now ≡ before → Answered (TextDue None j text') (TextBegins None j text') out err result → Answered (IsDue words content before now left) (Begins words content before now left) out err result
-file_answered {words} {content} {before} {now} {left} j name text text' limit e m k t h n a = answered_by due begin (rw t at a)
+pub file_answered : {words : List (List ℕ)} {content : Option (List ℕ → Option (List ℕ))} {before now : ℕ} {source : Taking} {out err : Change} {result : ℕ} (j : Job) (name text text' : List ℕ) (limit : ℕ) → Some j ≡ job_of words → name ≡ file_named j → limit ≡ file_limit j → text' ≡ text → (length text ≤ limit) × IfSome content (λ files. files name ≡ Some text) → now ≡ before → Answered (TextDue source j text') (TextBegins source j text') out err result → Answered (IsDue words content before now source) (Begins words content before now source) out err result
+file_answered {words} {content} {before} {now} {source} j name text text' limit e m k t h n a = answered_by due begin (rw t at a)
   where
     told : IfSome content (λ files. files (file_named j) ≡ Some text)
     told = subst (λ x. IfSome content (λ files. files x ≡ Some text)) m h.1
@@ -72,8 +49,8 @@ file_answered {words} {content} {before} {now} {left} j name text text' limit e 
     short : length text ≤ file_limit j
     short = subst (λ x. length text ≤ x) k h.0
 
-    due : (a : Answer) → TextDue None j text a → IsDue words content before now left a
-    due a d = OfText j text (sym e) told short n (text_due left text j a d)
+    due : (a : Answer) → TextDue source j text a → IsDue words content before now source a
+    due a d = OfText j text (sym e) told short n d
 
-    begin : (sent : List ℕ) → TextBegins None j text sent → Begins words content before now left sent
-    begin sent b = BeginsText j text (sym e) told short n (text_begins left text j sent b)
+    begin : (sent : List ℕ) → TextBegins source j text sent → Begins words content before now source sent
+    begin sent b = BeginsText j text (sym e) told short n b

@@ -16,8 +16,9 @@ use Rattle.mon_syntax.specs.Memories.{flat_run}
 use Rattle.mon_syntax.specs.Translates.{Translates}
 use Rattle.mon_syntax.specs.Spelled.{Spells, IsMonitoredRefusal}
 use Rattle.mon_reader.proofs.Texts.{one_spelled, spelled_apart, one_monitored_refusal}
-use Rattle.eacsl_cli.specs.Answers.{Answer, AnswersRun, refused_answer, written_answer, file_limit, IsInput, NeverFaults, Change, IsDue, Usage, NoFile, TooLong, FolderFault, OfText, Begins, RunDue, RunRefused, Runs, InstrumentDue, InstrumentRefused, Writes, ExecDue, ExecRefused, Executes, TextDue, Answered, Given, OutputFault, LineFault, NoMemory}
-use Rattle.eacsl_cli.specs.Sound.{Steady, IsGiven, answers_source, AnswersSource, IsAsked, Sound}
+use Rattle.c_machine.specs.Inputs.{Taking}
+use Rattle.eacsl_cli.specs.Answers.{Answer, AnswersRun, refused_answer, written_answer, file_limit, NeverFaults, Change, IsDue, Usage, NoFile, TooLong, FolderFault, OfText, Begins, RunDue, RunRefused, Runs, InstrumentDue, InstrumentRefused, Writes, ExecDue, ExecRefused, Executes, TextDue, Answered, Given, OutputFault, LineFault, NoMemory}
+use Rattle.eacsl_cli.specs.Sound.{Steady, IsGiven, answers_source, AnswersSource, IsAsked, IsAnswered, Sound}
 
 -- ---- the answer to a translation is the answer to its source
 
@@ -73,17 +74,17 @@ told_long {files} {file = file} {file'} {text} {limit} {limit'} c h l e n i =
     let m : limit' < length text = subst (λ x. limit' < length x) (sym t) j.2 in
     absurd (omega (arith, l, m, n))
 
-module _ {words : List (List ℕ)} {content : Option (List ℕ → Option (List ℕ))} {before now : ℕ} {left : Option (List ℕ)} {out err : Change} {job : Job} {text : List ℕ} (asked : IsAsked words content before now out err job text) where
+module _ {words : List (List ℕ)} {content : Option (List ℕ → Option (List ℕ))} {before now : ℕ} {source : Taking} {out err : Change} {job : Job} {text : List ℕ} (asked : IsAsked words content before now out err job text) where
   -- what is due is due for that text
-  due_of_text : (a : Answer) → IsDue words content before now left a → TextDue left job text a
-  due_of_text a (Usage j n e) = absurd (no_job asked.job_is j)
-  due_of_text a (NoFile job' j h n e) = absurd (told_none asked.tells asked.holds (ap file_named (same_job asked.job_is j)) h)
-  due_of_text a (TooLong job' j h n e) = absurd (told_long asked.tells asked.holds asked.short (ap file_named (same_job asked.job_is j)) (ap file_limit (same_job asked.job_is j)) h)
-  due_of_text a (FolderFault job' j n e) = absurd (asked.folder n)
+  due_of_text : (a : Answer) → IsDue words content before now source a → TextDue source job text a
+  due_of_text a (Usage j n u e) = absurd (no_job asked.job_is j)
+  due_of_text a (NoFile job' j h n u e) = absurd (told_none asked.tells asked.holds (ap file_named (same_job asked.job_is j)) h)
+  due_of_text a (TooLong job' j h n u e) = absurd (told_long asked.tells asked.holds asked.short (ap file_named (same_job asked.job_is j)) (ap file_limit (same_job asked.job_is j)) h)
+  due_of_text a (FolderFault job' j n u e) = absurd (asked.folder n)
   due_of_text a (OfText job' text' j h l n d) =
       let same = same_job asked.job_is j in
       let told : text' ≡ text = told_text asked.tells asked.holds (ap file_named same) h in
-      subst (λ x. TextDue left x text a) same (subst (λ x. TextDue left job' x a) told d)
+      subst (λ x. TextDue source x text a) same (subst (λ x. TextDue source job' x a) told d)
 
 -- where no count rose, an answer that is due was given, or memory was wanting
 settled : {Due : Answer → Type 0} {Begin : List ℕ → Type 0} {out err : Change} {status : ℕ} → Steady out.faults out.faults' → Steady err.faults err.faults' → Answered Due Begin out err status → (status ≡ 9) ⊎ ((a : Answer) × Due a × IsGiven a out err status)
@@ -94,15 +95,15 @@ settled o e (NoMemory sent line k s b t f l t' f') = inl s
 
 -- ---- of what is due for a text
 
-run_answer : {left : Option (List ℕ)} {text : List ℕ} {steps : ℕ} {a : Answer} (p : TranslationUnit) (input : Input) → AcceptedText text p → IsInput left input → RunDue left text steps a → AnswersSource p input steps a
-run_answer {text = text} p input x i (RunRefused r h e) = absurd (apart text p r x h)
-run_answer {text = text} {steps} {a} p input x i (Runs q m y t s f) =
+run_answer : {source : Taking} {text : List ℕ} {steps : ℕ} {a : Answer} {out err : Change} {status : ℕ} (p : TranslationUnit) → AcceptedText text p → RunDue source text steps a → IsGiven a out err status → IsAnswered source (λ input b. AnswersSource p input steps b) out err status
+run_answer {text = text} p x (RunRefused r h u e) g = absurd (apart text p r x h)
+run_answer {text = text} {steps} {a} p x (Runs q m y t s d) g =
     let same : q ≡ p = one_program text q p y x in
-    subst (λ u. AnswersSource u input steps a) same (source_answer q m t input steps a (f input i) s)
+    record { input = d.input; was = d.was; answer = a; answers = subst (λ u. AnswersSource u d.input steps a) same (source_answer q m t d.input steps a d.answers s); given = g }
 
-run_refusal : {left : Option (List ℕ)} {text : List ℕ} {steps : ℕ} {a : Answer} (r : PlainRefusal) → RefusedText text r → RunDue left text steps a → a ≡ refused_answer r
-run_refusal {text = text} r h (RunRefused s k e) = e ∙ ap refused_answer (one_refusal text s r k h)
-run_refusal {text = text} r h (Runs q m y t s f) = absurd (apart text q r y h)
+run_refusal : {source : Taking} {text : List ℕ} {steps : ℕ} {a : Answer} (r : PlainRefusal) → RefusedText text r → RunDue source text steps a → a ≡ refused_answer r
+run_refusal {text = text} r h (RunRefused s k u e) = e ∙ ap refused_answer (one_refusal text s r k h)
+run_refusal {text = text} r h (Runs q m y t s d) = absurd (apart text q r y h)
 
 instrument_answer : {text : List ℕ} {a : Answer} (p : TranslationUnit) → AcceptedText text p → InstrumentDue text a → (m : MonitoredProgram) × Translates p m × (a ≡ written_answer m)
 instrument_answer {text} p x (InstrumentRefused r h e) = absurd (apart text p r x h)
@@ -112,26 +113,27 @@ instrument_refusal : {text : List ℕ} {a : Answer} (r : PlainRefusal) → Refus
 instrument_refusal {text} r h (InstrumentRefused s k e) = e ∙ ap refused_answer (one_refusal text s r k h)
 instrument_refusal {text} r h (Writes q m y t e) = absurd (apart text q r y h)
 
-exec_answer : {left : Option (List ℕ)} {text : List ℕ} {steps : ℕ} {a : Answer} (m : MonitoredProgram) (input : Input) → Spells text m → IsInput left input → ExecDue left text steps a → AnswersRun (flat_run m input steps) a
-exec_answer {text = text} m input x i (ExecRefused r h e) = absurd (spelled_apart text m r x h)
-exec_answer {text = text} {steps} {a} m input x i (Executes n y f) = subst (λ u. AnswersRun (flat_run u input steps) a) (one_spelled text n m y x) (f input i)
+exec_answer : {source : Taking} {text : List ℕ} {steps : ℕ} {a : Answer} {out err : Change} {status : ℕ} (m : MonitoredProgram) → Spells text m → ExecDue source text steps a → IsGiven a out err status → IsAnswered source (λ input b. AnswersRun (flat_run m input steps) b) out err status
+exec_answer {text = text} m x (ExecRefused r h u e) g = absurd (spelled_apart text m r x h)
+exec_answer {text = text} {steps} {a} m x (Executes n y d) g =
+    record { input = d.input; was = d.was; answer = a; answers = subst (λ u. AnswersRun (flat_run u d.input steps) a) (one_spelled text n m y x) d.answers; given = g }
 
-exec_refusal : {left : Option (List ℕ)} {text : List ℕ} {steps : ℕ} {a : Answer} (r : PlainRefusal) → IsMonitoredRefusal text r → ExecDue left text steps a → a ≡ refused_answer r
-exec_refusal {text = text} r h (ExecRefused s k e) = e ∙ ap refused_answer (one_monitored_refusal text s r k h)
-exec_refusal {text = text} r h (Executes m y f) = absurd (spelled_apart text m r y h)
+exec_refusal : {source : Taking} {text : List ℕ} {steps : ℕ} {a : Answer} (r : PlainRefusal) → IsMonitoredRefusal text r → ExecDue source text steps a → a ≡ refused_answer r
+exec_refusal {text = text} r h (ExecRefused s k u e) = e ∙ ap refused_answer (one_monitored_refusal text s r k h)
+exec_refusal {text = text} r h (Executes m y d) = absurd (spelled_apart text m r y h)
 
 given_as : {a b : Answer} {out err : Change} {status : ℕ} → a ≡ b → IsGiven a out err status → IsGiven b out err status
 given_as {out = out} {err} {status} e g = subst (λ x. IsGiven x out err status) e g
 
-pub sound : {words : List (List ℕ)} {content : Option (List ℕ → Option (List ℕ))} {before now : ℕ} {left : Option (List ℕ)} {out err : Change} {status : ℕ} → Answered (IsDue words content before now left) (Begins words content before now left) out err status → Sound words content before now left out err status
-sound {words} {content} {before} {now} {left} {out} {err} {status} answered = record {
-  runs = λ file steps text p input q x i. elim (of_text q) [ inl n ↦ inl n | inr (a, d, g) ↦ inr (a, run_answer p input x i d, g) ];
-  instruments = λ file text p q x. elim (of_text q) [ inl n ↦ inl n | inr (a, d, g) ↦ let w = instrument_answer p x d in inr (w.0, w.1, given_as w.2 g) ];
-  executes = λ file steps text m input q x i. elim (of_text q) [ inl n ↦ inl n | inr (a, d, g) ↦ inr (a, exec_answer m input x i d, g) ];
+pub sound : {words : List (List ℕ)} {content : Option (List ℕ → Option (List ℕ))} {before now : ℕ} {source : Taking} {out err : Change} {status : ℕ} → Answered (IsDue words content before now source) (Begins words content before now source) out err status → Sound words content before now source out err status
+sound {words} {content} {before} {now} {source} {out} {err} {status} answered = record {
+  runs = λ file steps text p q x. elim (of_text q) [ inl n ↦ inl n | inr (a, d, g) ↦ inr (run_answer p x d g) ];
+  instruments = λ file text p q x. elim (of_text q) [ inl n ↦ inl n | inr (a, d, g) ↦ let w = instrument_answer p x d.0 in inr (w.0, w.1, given_as w.2 g) ];
+  executes = λ file steps text m q x. elim (of_text q) [ inl n ↦ inl n | inr (a, d, g) ↦ inr (exec_answer m x d g) ];
   run_refuses = λ file steps text r q h. elim (of_text q) [ inl n ↦ inl n | inr (a, d, g) ↦ inr (given_as (run_refusal r h d) g) ];
-  instrument_refuses = λ file text r q h. elim (of_text q) [ inl n ↦ inl n | inr (a, d, g) ↦ inr (given_as (instrument_refusal r h d) g) ];
+  instrument_refuses = λ file text r q h. elim (of_text q) [ inl n ↦ inl n | inr (a, d, g) ↦ inr (given_as (instrument_refusal r h d.0) g) ];
   exec_refuses = λ file steps text r q h. elim (of_text q) [ inl n ↦ inl n | inr (a, d, g) ↦ inr (given_as (exec_refusal r h d) g) ];
 }
   where
-    of_text : {job : Job} {text : List ℕ} → IsAsked words content before now out err job text → (status ≡ 9) ⊎ ((a : Answer) × TextDue left job text a × IsGiven a out err status)
+    of_text : {job : Job} {text : List ℕ} → IsAsked words content before now out err job text → (status ≡ 9) ⊎ ((a : Answer) × TextDue source job text a × IsGiven a out err status)
     of_text q = elim (settled q.output q.lines answered) [ inl n ↦ inl n | inr (a, d, g) ↦ inr (a, due_of_text q a d, g) ]

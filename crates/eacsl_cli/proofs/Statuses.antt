@@ -1,51 +1,86 @@
--- Which statuses there are.
-use Rattle.std.proofs.Common.{◌≡◌, ℕ, ◌≤◌, List, Option, Some, sym, ap, subst, arith}
+-- Which statuses there are, and what shows them.
+use Rattle.std.proofs.Common.{◌≡◌, ◌⊎◌, ℕ, ◌≤◌, ◌<◌, List, Option, Some, refl, sym, ap, ◌∙◌, subst, arith, inl, inr}
+use Rattle.c_model.specs.declared.job.Job.{Job}
+use Rattle.c_model.specs.declared.job.Job.TheVariants.{Run, Instrument, Exec}
 use Rattle.c_model.specs.Reports.{Report, report}
 use Rattle.c_model.specs.State.{Final, Exits, Broken, Undefined, Fault, Spent, Full, ReadFault}
-use Rattle.c_machine.specs.declared.stop.Stop.{Stop}
-use Rattle.c_machine.specs.declared.stop.Stop.TheVariants as stop
-use Rattle.eacsl_cli.specs.Answers.{memory_line, Change, IsSaid, Whole, Failed, Wanting}
-use Rattle.eacsl_cli.specs.Settled.{IsSettled, Said, Wanting as no_memory, Reported}
+use Rattle.mon_syntax.specs.Trees.{MonitoredProgram}
+use Rattle.mon_syntax.specs.Memories.{flat_run}
+use Rattle.ea_ports.specs.Port.{Rose}
+use Rattle.c_machine.specs.Inputs.{Taking, Untouched, EndsAsRead}
+use Rattle.eacsl_cli.specs.Answers.{Answer, Change, AnswersOnInput, IsDue, Usage, NoFile, TooLong, FolderFault, OfText, Begins, TextDue, RunRefused, Runs, InstrumentRefused, Writes, ExecRefused, Executes, Answered, Given, OutputFault, LineFault, NoMemory}
 use Rattle.eacsl_cli.specs.Sound.{IsStatus}
 
-pub literal_status : (status : ℕ) → status ≤ 11 → IsStatus status
-literal_status status m = record { most = m }
+-- what the status of a report tells of the end
+record Shows (end : Final) (status : ℕ) : Type 0 where
+  most : status ≤ 11
+  seven : status ≡ 7 → end ≡ ReadFault
+  read : end ≡ ReadFault → status ≡ 7
 
--- the status of a line that was said, where the one given is one
-pub said_status : {line : List ℕ} {status : ℕ} {err : Change} {result : ℕ} → IsStatus status → IsSaid line status err result → IsStatus result
-said_status i (Whole e t f) = subst IsStatus (sym e) i
-said_status i (Failed k e t f) = subst IsStatus (sym e) (literal_status 8 (omega arith))
-said_status i (Wanting k e t f) = subst IsStatus (sym e) (literal_status 9 (omega arith))
-
-pub memory_status : {err : Change} {result : ℕ} → IsSaid memory_line 9 err result → IsStatus result
-memory_status s = said_status (literal_status 9 (omega arith)) s
-
-pub settled_status : {line : List ℕ} {status : ℕ} {err : Change} {result : ℕ} → IsStatus status → IsSettled line status err result → IsStatus result
-settled_status i (Said s) = said_status i s
-settled_status i (no_memory s) = memory_status s
+shows_other : {end : Final} (status : ℕ) → status ≤ 11 → (status ≡ 7 → ⊥) → (end ≡ ReadFault → ⊥) → Shows end status
+shows_other status m n e = record { most = m; seven = λ s. absurd (n s); read = λ r. absurd (e r) }
 
 same_report : (said given : Report) → Some said ≡ Some given → given ≡ said
 same_report said given e = cc
 
--- a report has status 0, 1, 4, 5, 6 or 7
-report_status : (end : Final) (said : Report) → report end ≡ Some said → IsStatus said.status
-report_status (Exits z) said e = subst (λ (r : Report). IsStatus r.status) (sym (same_report _ said e)) (literal_status 0 (omega arith))
-report_status (Broken n l kind how) said e = subst (λ (r : Report). IsStatus r.status) (sym (same_report _ said e)) (literal_status 1 (omega arith))
-report_status (Undefined at) said e = absurd cc
-report_status Spent said e = subst (λ (r : Report). IsStatus r.status) (sym (same_report _ said e)) (literal_status 5 (omega arith))
-report_status (Full segment) said e = subst (λ (r : Report). IsStatus r.status) (sym (same_report _ said e)) (literal_status 4 (omega arith))
-report_status Fault said e = subst (λ (r : Report). IsStatus r.status) (sym (same_report _ said e)) (literal_status 6 (omega arith))
-report_status ReadFault said e = subst (λ (r : Report). IsStatus r.status) (sym (same_report _ said e)) (literal_status 7 (omega arith))
+shown : {end : Final} {given : Report} (said : Report) → Some said ≡ Some given → Shows end said.status → Shows end given.status
+shown {end} {given} said e s = subst (λ (r : Report). Shows end r.status) (sym (same_report said given e)) s
 
-by_report : {err : Change} {result : ℕ} (end : Final) (said : Report) → report end ≡ Some said → IsSettled said.line said.status err result → IsStatus result
-by_report end said e s = settled_status (report_status end said e) s
+-- a report has status 0, 1, 4, 5, 6 or 7, and 7 just of a read fault
+shows : (end : Final) (said : Report) → report end ≡ Some said → Shows end said.status
+shows (Exits z) said e = shown _ e (shows_other 0 (omega arith) (λ s. absurd cc) (λ r. absurd cc))
+shows (Broken n l kind how) said e = shown _ e (shows_other 1 (omega arith) (λ s. absurd cc) (λ r. absurd cc))
+shows (Undefined at) said e = absurd cc
+shows Spent said e = shown _ e (shows_other 5 (omega arith) (λ s. absurd cc) (λ r. absurd cc))
+shows (Full segment) said e = shown _ e (shows_other 4 (omega arith) (λ s. absurd cc) (λ r. absurd cc))
+shows Fault said e = shown _ e (shows_other 6 (omega arith) (λ s. absurd cc) (λ r. absurd cc))
+shows ReadFault said e = shown _ e (record { most = omega arith; seven = λ s. refl; read = λ r. refl })
 
-pub reported_status : (err : Change) (result : ℕ) (end : Stop) → Reported end err result → IsStatus result
-reported_status err result (stop.Exit z) r = by_report (Exits z) r.said r.is r.settled
-reported_status err result (stop.Broken number line kind how) r = by_report (Broken number line kind how) r.said r.is r.settled
-reported_status err result stop.Spent r = by_report Spent r.said r.is r.settled
-reported_status err result (stop.Full segment) r = by_report (Full segment) r.said r.is r.settled
-reported_status err result stop.Fault r = by_report Fault r.said r.is r.settled
-reported_status err result stop.ReadFault r = by_report ReadFault r.said r.is r.settled
-reported_status err result stop.WriteFault r = subst IsStatus (sym r.status) (literal_status 8 (omega arith))
-reported_status err result stop.OutOfMemory r = memory_status r
+not_touched : {source : Taking} → Untouched source → source.faults < source.faults' → ⊥
+not_touched u l = absurd (omega (arith, u.faults, l))
+
+module _ {before now : ℕ} {source : Taking} where
+  -- a status that is given where the source wasn't asked
+  unasked_status : (status : ℕ) → status ≤ 11 → (status ≡ 7 → Rose before now) → Untouched source → IsStatus before now source status
+  unasked_status status m r u = record { most = m; read_fault = λ s. inl (r s); source_fault = λ l. absurd (not_touched u l) }
+
+  refused_status : Untouched source → IsStatus before now source 2
+  refused_status u = unasked_status 2 (omega arith) (λ s. absurd cc) u
+
+  run_status : {m : MonitoredProgram} {steps : ℕ} {a : Answer} → AnswersOnInput source m steps a → IsStatus before now source a.status
+  run_status {m} {steps} d =
+      let s = shows (flat_run m d.input steps).final d.answers.said d.answers.reported in
+      subst (λ (a : Answer). IsStatus before now source a.status) (sym d.answers.is) (record {
+        most = s.most;
+        read_fault = λ e. inr (d.ends.failed (s.seven e));
+        source_fault = λ l. inl (s.read (d.ends.ends l));
+      })
+
+  given_status : {a b : Answer} → a ≡ b → IsStatus before now source b.status → IsStatus before now source a.status
+  given_status e s = subst (λ (x : Answer). IsStatus before now source x.status) (sym e) s
+
+  text_status : (job : Job) (text : List ℕ) (a : Answer) → TextDue source job text a → IsStatus before now source a.status
+  text_status (Run file steps rte) text a (RunRefused r h u e) = given_status e (refused_status u)
+  text_status (Run file steps rte) text a (Runs p m x t n d) = run_status d
+  text_status (Instrument file rte) text a (InstrumentRefused r h e, u) = given_status e (refused_status u)
+  text_status (Instrument file rte) text a (Writes p m x t e, u) = given_status e (unasked_status 0 (omega arith) (λ s. absurd cc) u)
+  text_status (Exec file steps) text a (ExecRefused r h u e) = given_status e (refused_status u)
+  text_status (Exec file steps) text a (Executes m x d) = run_status d
+
+  other_status : (status : ℕ) → (status ≡ 8) ⊎ (status ≡ 9) → IsStatus before now source status
+  other_status status (inl e) = record { most = omega (arith, e); read_fault = λ s. absurd (omega (arith, e, s)); source_fault = λ l. inr (inl e) }
+  other_status status (inr e) = record { most = omega (arith, e); read_fault = λ s. absurd (omega (arith, e, s)); source_fault = λ l. inr (inr e) }
+
+  module _ {words : List (List ℕ)} {content : Option (List ℕ → Option (List ℕ))} {out err : Change} where
+    due_status : (a : Answer) → IsDue words content before now source a → IsStatus before now source a.status
+    due_status a (Usage j n u e) = given_status e (unasked_status 3 (omega arith) (λ s. absurd cc) u)
+    due_status a (NoFile job j h n u e) = given_status e (unasked_status 10 (omega arith) (λ s. absurd cc) u)
+    due_status a (TooLong job j h n u e) = given_status e (unasked_status 11 (omega arith) (λ s. absurd cc) u)
+    due_status a (FolderFault job j n u e) = given_status e (unasked_status 7 (omega arith) (λ s. n) u)
+    due_status a (OfText job text j h l n d) = text_status job text a d
+
+    pub answered_status : {status : ℕ} → Answered (IsDue words content before now source) (Begins words content before now source) out err status → IsStatus before now source status
+    answered_status (Given a d s t f t' f') = subst (IsStatus before now source) (sym s) (due_status a d)
+    answered_status (OutputFault sent s b t f t' f') = other_status _ (inl s)
+    answered_status (LineFault sent line k s b t f l t' f') = other_status _ (inl s)
+    answered_status (NoMemory sent line k s b t f l t' f') = other_status _ (inr s)

@@ -6,7 +6,7 @@ use Rattle.c_model.specs.declared.job.Job.TheVariants.{Run, Instrument, Exec}
 use Rattle.c_model.specs.Words.{job_of}
 use Rattle.c_model.specs.WordLaws.{file_named}
 use Rattle.c_model.specs.Phases.{AcceptedText, RefusedText}
-use Rattle.c_model.specs.State.{Input, EndOfInput, Fault}
+use Rattle.c_model.specs.State.{Input, Fault}
 use Rattle.c_model.specs.Meaning.{Ran, run}
 use Rattle.c_model.specs.Reports.{Report, report, line_of, refused_words, Extends}
 use Rattle.mon_syntax.specs.Trees.{MonitoredProgram}
@@ -15,6 +15,7 @@ use Rattle.mon_syntax.specs.Text.{text_of}
 use Rattle.mon_syntax.specs.Translates.{Translates}
 use Rattle.mon_syntax.specs.Spelled.{Spells, IsMonitoredRefusal}
 use Rattle.ea_ports.specs.Port.{more, Rose, RefusalCount}
+use Rattle.c_machine.specs.Inputs.{Taking, IsInput, Untouched, EndsAsRead}
 
 pub record Answer : Type 0 where
   pub status : ℕ
@@ -60,22 +61,30 @@ pub record AnswersRun (r : Ran) (a : Answer) : Type 0 where
 abbrev pub written_answer : MonitoredProgram → Answer
 written_answer m = record { status = 0; output = text_of m; line = [] }
 
--- the input that a source stands for: the bytes that it has left, and then the end; any, where it doesn't tell
-abbrev pub IsInput : Option (List ℕ) → Input → Type 0
-IsInput None input = Unit {0}
-IsInput (Some bytes) input = input ≡ record { bytes = bytes; tail = EndOfInput }
-
 -- no run of the program stops for a fault that the meaning of C doesn't name
 abbrev pub NeverFaults : TranslationUnit → Type 0
 NeverFaults p = (input : Input) (n : ℕ) → (run p input n).final ≡ Fault → ⊥
+
+-- the answer to a run of the program on the input that the source was
+pub record AnswersOnInput (source : Taking) (m : MonitoredProgram) (steps : ℕ) (a : Answer) : Type 0 where
+  pub input : Input
+  pub was : IsInput source input
+  pub ends : EndsAsRead source (flat_run m input steps).final
+  pub answers : AnswersRun (flat_run m input steps) a
+
+-- these bytes begin what the program prints on the input that the source was
+pub record BeginsOnInput (source : Taking) (m : MonitoredProgram) (steps : ℕ) (sent : List ℕ) : Type 0 where
+  pub input : Input
+  pub was : IsInput source input
+  pub begins : Extends sent (flat_run m input steps).output
 
 -- ---- what is due for a text
 
 -- `run`: the text is refused, or it is accepted, and the run of a program in monitored C that translates it is reported. Up
 -- to the source's first undefined operation this is the source's own run.
-pub data RunDue (left : Option (List ℕ)) (text : List ℕ) (steps : ℕ) (a : Answer) : Type 0 where
-  RunRefused : (r : PlainRefusal) → RefusedText text r → a ≡ refused_answer r → RunDue left text steps a
-  Runs : (p : TranslationUnit) (m : MonitoredProgram) → AcceptedText text p → Translates p m → NeverFaults p → ((input : Input) → IsInput left input → AnswersRun (flat_run m input steps) a) → RunDue left text steps a
+pub data RunDue (source : Taking) (text : List ℕ) (steps : ℕ) (a : Answer) : Type 0 where
+  RunRefused : (r : PlainRefusal) → RefusedText text r → Untouched source → a ≡ refused_answer r → RunDue source text steps a
+  Runs : (p : TranslationUnit) (m : MonitoredProgram) → AcceptedText text p → Translates p m → NeverFaults p → AnswersOnInput source m steps a → RunDue source text steps a
 
 -- `instrument`: the text is refused, or it is accepted, and a program in monitored C that translates it is written
 pub data InstrumentDue (text : List ℕ) (a : Answer) : Type 0 where
@@ -83,51 +92,52 @@ pub data InstrumentDue (text : List ℕ) (a : Answer) : Type 0 where
   Writes : (p : TranslationUnit) (m : MonitoredProgram) → AcceptedText text p → Translates p m → a ≡ written_answer m → InstrumentDue text a
 
 -- `exec`: the text is refused, or it spells a program in monitored C, whose run is reported
-pub data ExecDue (left : Option (List ℕ)) (text : List ℕ) (steps : ℕ) (a : Answer) : Type 0 where
-  ExecRefused : (r : PlainRefusal) → IsMonitoredRefusal text r → a ≡ refused_answer r → ExecDue left text steps a
-  Executes : (m : MonitoredProgram) → Spells text m → ((input : Input) → IsInput left input → AnswersRun (flat_run m input steps) a) → ExecDue left text steps a
+pub data ExecDue (source : Taking) (text : List ℕ) (steps : ℕ) (a : Answer) : Type 0 where
+  ExecRefused : (r : PlainRefusal) → IsMonitoredRefusal text r → Untouched source → a ≡ refused_answer r → ExecDue source text steps a
+  Executes : (m : MonitoredProgram) → Spells text m → AnswersOnInput source m steps a → ExecDue source text steps a
 
-abbrev pub TextDue : Option (List ℕ) → Job → List ℕ → Answer → Type 0
-TextDue left (Run file steps rte) text a = RunDue left text steps a
-TextDue left (Instrument file rte) text a = InstrumentDue text a
-TextDue left (Exec file steps) text a = ExecDue left text steps a
+-- `instrument` reads no input
+abbrev pub TextDue : Taking → Job → List ℕ → Answer → Type 0
+TextDue source (Run file steps rte) text a = RunDue source text steps a
+TextDue source (Instrument file rte) text a = InstrumentDue text a × Untouched source
+TextDue source (Exec file steps) text a = ExecDue source text steps a
 
 -- ---- bytes that begin the output due: none, or a beginning of what is printed or written
 
-abbrev pub RunBegins : Option (List ℕ) → List ℕ → ℕ → List ℕ → Type 0
-RunBegins left text steps sent =
-    (sent ≡ []) ⊎ ((p : TranslationUnit) × (m : MonitoredProgram) × AcceptedText text p × Translates p m × ((input : Input) → IsInput left input → Extends sent (flat_run m input steps).output))
+abbrev pub RunBegins : Taking → List ℕ → ℕ → List ℕ → Type 0
+RunBegins source text steps sent =
+    (sent ≡ []) ⊎ ((p : TranslationUnit) × (m : MonitoredProgram) × AcceptedText text p × Translates p m × BeginsOnInput source m steps sent)
 
 abbrev pub InstrumentBegins : List ℕ → List ℕ → Type 0
 InstrumentBegins text sent = (sent ≡ []) ⊎ ((p : TranslationUnit) × (m : MonitoredProgram) × AcceptedText text p × Translates p m × Extends sent (text_of m))
 
-abbrev pub ExecBegins : Option (List ℕ) → List ℕ → ℕ → List ℕ → Type 0
-ExecBegins left text steps sent =
-    (sent ≡ []) ⊎ ((m : MonitoredProgram) × Spells text m × ((input : Input) → IsInput left input → Extends sent (flat_run m input steps).output))
+abbrev pub ExecBegins : Taking → List ℕ → ℕ → List ℕ → Type 0
+ExecBegins source text steps sent =
+    (sent ≡ []) ⊎ ((m : MonitoredProgram) × Spells text m × BeginsOnInput source m steps sent)
 
-abbrev pub TextBegins : Option (List ℕ) → Job → List ℕ → List ℕ → Type 0
-TextBegins left (Run file steps rte) text sent = RunBegins left text steps sent
-TextBegins left (Instrument file rte) text sent = InstrumentBegins text sent
-TextBegins left (Exec file steps) text sent = ExecBegins left text steps sent
+abbrev pub TextBegins : Taking → Job → List ℕ → List ℕ → Type 0
+TextBegins source (Run file steps rte) text sent = RunBegins source text steps sent
+TextBegins source (Instrument file rte) text sent = InstrumentBegins text sent
+TextBegins source (Exec file steps) text sent = ExecBegins source text steps sent
 
 -- ---- what is due for the words of a command line
 
--- Which answer is due: by the words, the content of the folder with its count of faults before and after, and the input.
-pub data IsDue (words : List (List ℕ)) (content : Option (List ℕ → Option (List ℕ))) (before now : ℕ) (left : Option (List ℕ)) (a : Answer) : Type 0 where
+-- Which answer is due: by the words, the content of the folder with its count of faults before and after, and the source.
+pub data IsDue (words : List (List ℕ)) (content : Option (List ℕ → Option (List ℕ))) (before now : ℕ) (source : Taking) (a : Answer) : Type 0 where
   -- the words have no job
-  Usage : job_of words ≡ None → now ≡ before → a ≡ usage_answer → IsDue words content before now left a
+  Usage : job_of words ≡ None → now ≡ before → Untouched source → a ≡ usage_answer → IsDue words content before now source a
   -- nothing stands under the name
-  NoFile : (job : Job) → job_of words ≡ Some job → IfSome content (λ files. files (file_named job) ≡ None) → RefusalCount content before now → a ≡ no_file_answer → IsDue words content before now left a
+  NoFile : (job : Job) → job_of words ≡ Some job → IfSome content (λ files. files (file_named job) ≡ None) → RefusalCount content before now → Untouched source → a ≡ no_file_answer → IsDue words content before now source a
   -- the file is longer than the limit
-  TooLong : (job : Job) → job_of words ≡ Some job → IfSome content (λ files. (bytes : List ℕ) × (files (file_named job) ≡ Some bytes) × (file_limit job < length bytes)) → RefusalCount content before now → a ≡ too_long_answer → IsDue words content before now left a
+  TooLong : (job : Job) → job_of words ≡ Some job → IfSome content (λ files. (bytes : List ℕ) × (files (file_named job) ≡ Some bytes) × (file_limit job < length bytes)) → RefusalCount content before now → Untouched source → a ≡ too_long_answer → IsDue words content before now source a
   -- the folder failed
-  FolderFault : (job : Job) → job_of words ≡ Some job → Rose before now → a ≡ read_fault_answer → IsDue words content before now left a
+  FolderFault : (job : Job) → job_of words ≡ Some job → Rose before now → Untouched source → a ≡ read_fault_answer → IsDue words content before now source a
   -- what is due for the text of the file
-  OfText : (job : Job) (text : List ℕ) → job_of words ≡ Some job → IfSome content (λ files. files (file_named job) ≡ Some text) → length text ≤ file_limit job → now ≡ before → TextDue left job text a → IsDue words content before now left a
+  OfText : (job : Job) (text : List ℕ) → job_of words ≡ Some job → IfSome content (λ files. files (file_named job) ≡ Some text) → length text ≤ file_limit job → now ≡ before → TextDue source job text a → IsDue words content before now source a
 
-pub data Begins (words : List (List ℕ)) (content : Option (List ℕ → Option (List ℕ))) (before now : ℕ) (left : Option (List ℕ)) (sent : List ℕ) : Type 0 where
-  Nothing : sent ≡ [] → Begins words content before now left sent
-  BeginsText : (job : Job) (text : List ℕ) → job_of words ≡ Some job → IfSome content (λ files. files (file_named job) ≡ Some text) → length text ≤ file_limit job → now ≡ before → TextBegins left job text sent → Begins words content before now left sent
+pub data Begins (words : List (List ℕ)) (content : Option (List ℕ → Option (List ℕ))) (before now : ℕ) (source : Taking) (sent : List ℕ) : Type 0 where
+  Nothing : sent ≡ [] → Begins words content before now source sent
+  BeginsText : (job : Job) (text : List ℕ) → job_of words ≡ Some job → IfSome content (λ files. files (file_named job) ≡ Some text) → length text ≤ file_limit job → now ≡ before → TextBegins source job text sent → Begins words content before now source sent
 
 -- ---- answers
 
@@ -160,13 +170,6 @@ pub record IsTranslated (text : List ℕ) (m : MonitoredProgram) : Type 0 where
   pub accepted : AcceptedText text program
   pub translates : Translates program m
   pub sound : NeverFaults program
-
--- the report of a run of the program is due, and what begins its output
-abbrev pub ReportDue : MonitoredProgram → ℕ → Answer → Type 0
-ReportDue m steps a = (input : Input) → AnswersRun (flat_run m input steps) a
-
-abbrev pub ReportBegins : MonitoredProgram → ℕ → List ℕ → Type 0
-ReportBegins m steps sent = (input : Input) → Extends sent (flat_run m input steps).output
 
 -- How one line is put with a status: wholly, or the sink failed (8), or memory was wanting (9), with a beginning of the line.
 pub data IsSaid (line : List ℕ) (status : ℕ) (err : Change) (result : ℕ) : Type 0 where

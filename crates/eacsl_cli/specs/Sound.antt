@@ -1,5 +1,5 @@
 -- What a call answers in which no port failed, and which statuses there are.
-use Rattle.std.specs.Prelude.{◌≡◌, ◌⊎◌, ℕ, ◌≤◌, false, List, length, Option, Some, None}
+use Rattle.std.specs.Prelude.{◌≡◌, ◌⊎◌, ℕ, ◌≤◌, ◌<◌, ⊤, false, List, length, Option, Some, None}
 use Rattle.c_syntax.specs.Programs.{TranslationUnit, PlainRefusal}
 use Rattle.c_model.specs.declared.job.Job.{Job}
 use Rattle.c_model.specs.declared.job.Job.TheVariants.{Run, Instrument, Exec}
@@ -14,7 +14,8 @@ use Rattle.mon_syntax.specs.Memories.{flat_run}
 use Rattle.mon_syntax.specs.Translates.{Translates}
 use Rattle.mon_syntax.specs.Spelled.{Spells, IsMonitoredRefusal}
 use Rattle.ea_ports.specs.Port.{more, Rose}
-use Rattle.eacsl_cli.specs.Answers.{Answer, AnswersRun, refused_answer, written_answer, file_limit, IsInput, Change}
+use Rattle.c_machine.specs.Inputs.{Taking, IsInput, Untouched}
+use Rattle.eacsl_cli.specs.Answers.{Answer, AnswersRun, refused_answer, written_answer, file_limit, Change}
 
 -- no fault was counted
 abbrev pub Steady : ℕ → ℕ → Type 0
@@ -46,19 +47,38 @@ pub record IsAsked (words : List (List ℕ)) (content : Option (List ℕ → Opt
   pub output : Steady out.faults out.faults'
   pub lines : Steady err.faults err.faults'
 
+-- the source was one input, on which the program's answer was given
+pub record IsAnswered (source : Taking) (Answers : Input → Answer → Type 0) (out err : Change) (status : ℕ) : Type 0 where
+  pub input : Input
+  pub was : IsInput source input
+  pub answer : Answer
+  pub answers : Answers input answer
+  pub given : IsGiven answer out err status
+
 -- Of each job and text the answer that is due is given, or else memory was wanting.
-pub record Sound (words : List (List ℕ)) (content : Option (List ℕ → Option (List ℕ))) (before now : ℕ) (left : Option (List ℕ)) (out err : Change) (status : ℕ) : Type 0 where
-  -- `run` of an accepted text: its one program's run
-  pub runs : (file : List ℕ) (steps : ℕ) (text : List ℕ) (p : TranslationUnit) (input : Input) → IsAsked words content before now out err (Run file steps false) text → AcceptedText text p → IsInput left input → (status ≡ 9) ⊎ ((a : Answer) × AnswersSource p input steps a × IsGiven a out err status)
+pub record Sound (words : List (List ℕ)) (content : Option (List ℕ → Option (List ℕ))) (before now : ℕ) (source : Taking) (out err : Change) (status : ℕ) : Type 0 where
+  -- `run` of an accepted text: its one program's run, on the input that the source was
+  pub runs : (file : List ℕ) (steps : ℕ) (text : List ℕ) (p : TranslationUnit) → IsAsked words content before now out err (Run file steps false) text → AcceptedText text p → (status ≡ 9) ⊎ IsAnswered source (λ input a. AnswersSource p input steps a) out err status
   -- `instrument` of an accepted text: the text of a program that translates its one program
   pub instruments : (file : List ℕ) (text : List ℕ) (p : TranslationUnit) → IsAsked words content before now out err (Instrument file false) text → AcceptedText text p → (status ≡ 9) ⊎ ((m : MonitoredProgram) × Translates p m × IsGiven (written_answer m) out err status)
-  -- `exec` of a text that spells a program: its run
-  pub executes : (file : List ℕ) (steps : ℕ) (text : List ℕ) (m : MonitoredProgram) (input : Input) → IsAsked words content before now out err (Exec file steps) text → Spells text m → IsInput left input → (status ≡ 9) ⊎ ((a : Answer) × AnswersRun (flat_run m input steps) a × IsGiven a out err status)
+  -- `exec` of a text that spells a program: its run, on the input that the source was
+  pub executes : (file : List ℕ) (steps : ℕ) (text : List ℕ) (m : MonitoredProgram) → IsAsked words content before now out err (Exec file steps) text → Spells text m → (status ≡ 9) ⊎ IsAnswered source (λ input a. AnswersRun (flat_run m input steps) a) out err status
   -- any other text: its one refusal
   pub run_refuses : (file : List ℕ) (steps : ℕ) (text : List ℕ) (r : PlainRefusal) → IsAsked words content before now out err (Run file steps false) text → RefusedText text r → (status ≡ 9) ⊎ IsGiven (refused_answer r) out err status
   pub instrument_refuses : (file : List ℕ) (text : List ℕ) (r : PlainRefusal) → IsAsked words content before now out err (Instrument file false) text → RefusedText text r → (status ≡ 9) ⊎ IsGiven (refused_answer r) out err status
   pub exec_refuses : (file : List ℕ) (steps : ℕ) (text : List ℕ) (r : PlainRefusal) → IsAsked words content before now out err (Exec file steps) text → IsMonitoredRefusal text r → (status ≡ 9) ⊎ IsGiven (refused_answer r) out err status
 
--- a status of the program
-pub record IsStatus (status : ℕ) : Type 0 where
+-- a status of the program, and what shows it
+pub record IsStatus (before now : ℕ) (source : Taking) (status : ℕ) : Type 0 where
   pub most : status ≤ 11
+  -- a read fault comes only where the folder or the source failed
+  pub read_fault : status ≡ 7 → Rose before now ⊎ Rose source.faults source.faults'
+  -- where the source failed, that is the answer, unless a sink failed or memory was wanting
+  pub source_fault : source.faults < source.faults' → (status ≡ 7) ⊎ (status ≡ 8) ⊎ (status ≡ 9)
+
+-- words without a job leave the source as it was, and so does `instrument`
+abbrev pub LeavesSource : Option Job → Taking → Type 0
+LeavesSource None source = Untouched source
+LeavesSource (Some (Run file steps rte)) source = ⊤
+LeavesSource (Some (Instrument file rte)) source = Untouched source
+LeavesSource (Some (Exec file steps)) source = ⊤

@@ -4,11 +4,13 @@ ghost use Rattle.std.specs.Prelude.{◌≡◌, ◌≤◌, List, MatchResult, len
 ghost use Rattle.c_syntax.specs.Programs.{plain_refusal};
 ghost use Rattle.c_model.specs.Reports.{line_of, refused_words};
 ghost use Rattle.c_model.specs.WordLaws.{file_named};
+ghost use Rattle.c_model.specs.Words.{job_of};
 ghost use Rattle.mon_syntax.specs.Trees.{plain_program};
 ghost use Rattle.c_reader.specs.Answers.{Refuses};
-ghost use Rattle.eacsl_cli.specs.Answers.{Answered, Begins, ExecBegins, ExecDue, InstrumentBegins, InstrumentDue, IsDue, IsSaid, IsTranslated, ReportBegins, ReportDue, RunBegins, RunDue, TextBegins, TextDue, change, file_limit, memory_line};
+ghost use Rattle.c_machine.specs.Inputs.{taking};
+ghost use Rattle.eacsl_cli.specs.Answers.{Answered, AnswersOnInput, Begins, BeginsOnInput, ExecBegins, ExecDue, InstrumentBegins, InstrumentDue, IsDue, IsSaid, IsTranslated, RunBegins, RunDue, TextBegins, TextDue, change, file_limit, memory_line};
 ghost use Rattle.eacsl_cli.specs.Settled.{IsReported, IsSettled, Reported};
-ghost use Rattle.eacsl_cli.specs.Sound.{IsStatus, Sound};
+ghost use Rattle.eacsl_cli.specs.Sound.{IsStatus, LeavesSource, Sound};
 
 use crate::lines::{broken_line, exit_line, refused_line, say};
 use c_lower::lower;
@@ -104,21 +106,21 @@ fn refuse<E: Sink>(alloc: Global, refusal: &Refusal, err: &mut E) -> u8
 }
 
 // Runs a program in monitored C with so many steps, and says how it ended.
-fn execute<O: Sink, E: Sink>(
+fn execute<I: Source, O: Sink, E: Sink>(
     alloc: Global,
     m: &MonProgram,
     steps: u64,
+    input: &mut I,
     out: &mut O,
     err: &mut E,
 ) -> u8
-    ensures answered { Answered (ReportDue (plain_program m.now) steps) (ReportBegins (plain_program m.now) steps) (change (O.told out.old) (O.told out.new) (O.faults out.old) (O.faults out.new)) (change (E.told err.old) (E.told err.new) (E.faults err.old) (E.faults err.new)) result }
-    ensures status { IsStatus result }
+    ensures answered { Answered (AnswersOnInput (taking (I.left input.old) (I.left input.new) (I.faults input.old) (I.faults input.new)) (plain_program m.now) steps) (BeginsOnInput (taking (I.left input.old) (I.left input.new) (I.faults input.old) (I.faults input.new)) (plain_program m.now) steps) (change (O.told out.old) (O.told out.new) (O.faults out.old) (O.faults out.new)) (change (E.told err.old) (E.told err.new) (E.faults err.old) (E.faults err.new)) result }
 {
     let code = match lower(alloc, m) {
         Ok(code) => code,
         Err(_) => return out_of_memory(err),
     };
-    let ran = run(alloc, &code, steps, out);
+    let ran = run(alloc, &code, steps, input, out);
     report_stop(alloc, ran.stop, err)
 }
 
@@ -136,19 +138,19 @@ fn translated(alloc: Global, text: &[u8]) -> Result<MonProgram, FrontFault>
 }
 
 /// Runs the annotated program that a text spells with so many steps, or says why the text is refused.
-pub fn run_text<O: Sink, E: Sink>(
+pub fn run_text<I: Source, O: Sink, E: Sink>(
     alloc: Global,
     text: &[u8],
     steps: u64,
+    input: &mut I,
     out: &mut O,
     err: &mut E,
 ) -> u8
     requires { length text.now ≤ 1048576 }
-    ensures answered { Answered (RunDue None text.now steps) (RunBegins None text.now steps) (change (O.told out.old) (O.told out.new) (O.faults out.old) (O.faults out.new)) (change (E.told err.old) (E.told err.new) (E.faults err.old) (E.faults err.new)) result }
-    ensures status { IsStatus result }
+    ensures answered { Answered (RunDue (taking (I.left input.old) (I.left input.new) (I.faults input.old) (I.faults input.new)) text.now steps) (RunBegins (taking (I.left input.old) (I.left input.new) (I.faults input.old) (I.faults input.new)) text.now steps) (change (O.told out.old) (O.told out.new) (O.faults out.old) (O.faults out.new)) (change (E.told err.old) (E.told err.new) (E.faults err.old) (E.faults err.new)) result }
 {
     match translated(alloc, text) {
-        Ok(m) => execute(alloc, &m, steps, out, err),
+        Ok(m) => execute(alloc, &m, steps, input, out, err),
         Err(FrontFault::Refused(refusal)) => refuse(alloc, &refusal, err),
         Err(FrontFault::Memory) => out_of_memory(err),
     }
@@ -158,7 +160,6 @@ pub fn run_text<O: Sink, E: Sink>(
 pub fn instrument_text<O: Sink, E: Sink>(alloc: Global, text: &[u8], out: &mut O, err: &mut E) -> u8
     requires { length text.now ≤ 1048576 }
     ensures answered { Answered (InstrumentDue text.now) (InstrumentBegins text.now) (change (O.told out.old) (O.told out.new) (O.faults out.old) (O.faults out.new)) (change (E.told err.old) (E.told err.new) (E.faults err.old) (E.faults err.new)) result }
-    ensures status { IsStatus result }
 {
     let m = match translated(alloc, text) {
         Ok(m) => m,
@@ -173,34 +174,40 @@ pub fn instrument_text<O: Sink, E: Sink>(alloc: Global, text: &[u8], out: &mut O
 }
 
 /// Runs the program in monitored C that a text spells with so many steps, or says why the text is refused.
-pub fn exec_text<O: Sink, E: Sink>(
+pub fn exec_text<I: Source, O: Sink, E: Sink>(
     alloc: Global,
     text: &[u8],
     steps: u64,
+    input: &mut I,
     out: &mut O,
     err: &mut E,
 ) -> u8
     requires { length text.now ≤ 67108864 }
-    ensures answered { Answered (ExecDue None text.now steps) (ExecBegins None text.now steps) (change (O.told out.old) (O.told out.new) (O.faults out.old) (O.faults out.new)) (change (E.told err.old) (E.told err.new) (E.faults err.old) (E.faults err.new)) result }
-    ensures status { IsStatus result }
+    ensures answered { Answered (ExecDue (taking (I.left input.old) (I.left input.new) (I.faults input.old) (I.faults input.new)) text.now steps) (ExecBegins (taking (I.left input.old) (I.left input.new) (I.faults input.old) (I.faults input.new)) text.now steps) (change (O.told out.old) (O.told out.new) (O.faults out.old) (O.faults out.new)) (change (E.told err.old) (E.told err.new) (E.faults err.old) (E.faults err.new)) result }
 {
     match read_monitored(alloc, text) {
-        Ok(m) => execute(alloc, &m, steps, out, err),
+        Ok(m) => execute(alloc, &m, steps, input, out, err),
         Err(FrontFault::Refused(refusal)) => refuse(alloc, &refusal, err),
         Err(FrontFault::Memory) => out_of_memory(err),
     }
 }
 
 // Does a job on the text of its file.
-fn do_job<O: Sink, E: Sink>(alloc: Global, job: &Job, text: &[u8], out: &mut O, err: &mut E) -> u8
+fn do_job<I: Source, O: Sink, E: Sink>(
+    alloc: Global,
+    job: &Job,
+    text: &[u8],
+    input: &mut I,
+    out: &mut O,
+    err: &mut E,
+) -> u8
     requires { length text.now ≤ file_limit job.now }
-    ensures answered { Answered (TextDue None job.now text.now) (TextBegins None job.now text.now) (change (O.told out.old) (O.told out.new) (O.faults out.old) (O.faults out.new)) (change (E.told err.old) (E.told err.new) (E.faults err.old) (E.faults err.new)) result }
-    ensures status { IsStatus result }
+    ensures answered { Answered (TextDue (taking (I.left input.old) (I.left input.new) (I.faults input.old) (I.faults input.new)) job.now text.now) (TextBegins (taking (I.left input.old) (I.left input.new) (I.faults input.old) (I.faults input.new)) job.now text.now) (change (O.told out.old) (O.told out.new) (O.faults out.old) (O.faults out.new)) (change (E.told err.old) (E.told err.new) (E.faults err.old) (E.faults err.new)) result }
 {
     match job {
-        Job::Run { steps, .. } => run_text(alloc, text, *steps, out, err),
+        Job::Run { steps, .. } => run_text(alloc, text, *steps, input, out, err),
         Job::Instrument { .. } => instrument_text(alloc, text, out, err),
-        Job::Exec { steps, .. } => exec_text(alloc, text, *steps, out, err),
+        Job::Exec { steps, .. } => exec_text(alloc, text, *steps, input, out, err),
     }
 }
 
@@ -242,13 +249,13 @@ fn limit_of(job: &Job) -> usize
 /// | 4 | `full SEGMENT`: the run wants more room than there is |
 /// | 5 | `steps spent` |
 /// | 6 | `fault`: the machine faulted; for `run` only behind an undefined operation of the source |
-/// | 7 | `read fault`: the folder failed |
+/// | 7 | `read fault`: the folder failed, or `input` did |
 /// | 8 | none, or a part of a line: `out` or `err` failed |
 /// | 9 | `out of memory`, or a part of a line |
 /// | 10 | `no file` |
 /// | 11 | `file too long` |
 ///
-/// The program's input is read by no program of today's language.
+/// The program's input is `input`. After its end it is asked no more.
 pub fn eacsl<F: Folder, I: Source, O: Sink, E: Sink>(
     alloc: Global,
     words: Vec<String>,
@@ -258,19 +265,18 @@ pub fn eacsl<F: Folder, I: Source, O: Sink, E: Sink>(
     err: &mut E,
 ) -> u8
     ensures answered { Answered
-        (IsDue (map string_bytes words.items) (F.content files.old) (F.faults files.old) (F.faults files.new) (I.left input.old))
-        (Begins (map string_bytes words.items) (F.content files.old) (F.faults files.old) (F.faults files.new) (I.left input.old))
+        (IsDue (map string_bytes words.items) (F.content files.old) (F.faults files.old) (F.faults files.new) (taking (I.left input.old) (I.left input.new) (I.faults input.old) (I.faults input.new)))
+        (Begins (map string_bytes words.items) (F.content files.old) (F.faults files.old) (F.faults files.new) (taking (I.left input.old) (I.left input.new) (I.faults input.old) (I.faults input.new)))
         (change (O.told out.old) (O.told out.new) (O.faults out.old) (O.faults out.new))
         (change (E.told err.old) (E.told err.new) (E.faults err.old) (E.faults err.new))
         result }
-    ensures sound { Sound (map string_bytes words.items) (F.content files.old) (F.faults files.old) (F.faults files.new) (I.left input.old)
+    ensures sound { Sound (map string_bytes words.items) (F.content files.old) (F.faults files.old) (F.faults files.new) (taking (I.left input.old) (I.left input.new) (I.faults input.old) (I.faults input.new))
         (change (O.told out.old) (O.told out.new) (O.faults out.old) (O.faults out.new))
         (change (E.told err.old) (E.told err.new) (E.faults err.old) (E.faults err.new))
         result }
-    ensures status { IsStatus result }
+    ensures status { IsStatus (F.faults files.old) (F.faults files.new) (taking (I.left input.old) (I.left input.new) (I.faults input.old) (I.faults input.new)) result }
     ensures kept { F.content files.new ≡ F.content files.old }
-    ensures unread { I.left input.new ≡ I.left input.old }
-    ensures input_sound { I.faults input.new ≡ I.faults input.old }
+    ensures unread { LeavesSource (job_of (map string_bytes words.items)) (taking (I.left input.old) (I.left input.new) (I.faults input.old) (I.faults input.new)) }
 {
     let job = match read_words(alloc, &words) {
         Ok(Some(job)) => job,
@@ -278,7 +284,7 @@ pub fn eacsl<F: Folder, I: Source, O: Sink, E: Sink>(
         Err(_) => return out_of_memory(err),
     };
     match files.fetch(alloc, file_name(&job).text(), limit_of(&job)) {
-        Ok(text) => do_job(alloc, &job, &text, out, err),
+        Ok(text) => do_job(alloc, &job, &text, input, out, err),
         Err(FetchFault::Missing) => say(err, b"eacsl: no file\n", 10),
         Err(FetchFault::TooLong) => say(err, b"eacsl: file too long\n", 11),
         Err(FetchFault::Failed) => say(err, b"eacsl: read fault\n", 7),

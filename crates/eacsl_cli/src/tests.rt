@@ -1,3 +1,5 @@
+mod functions;
+
 use super::*;
 use ea_ports::{MemFolder, MemSink, MemSource};
 use std::alloc::{AllocError, Global};
@@ -19,12 +21,14 @@ const LONG: &[u8] =
 #[derive(Drop)]
 struct Failing<'a> {
     folder: &'a [u32],
+    source: &'a [u32],
     out: &'a [u32],
     err: &'a [u32],
 }
 
 const NONE: Failing<'static> = Failing {
     folder: &[],
+    source: &[],
     out: &[],
     err: &[],
 };
@@ -45,11 +49,12 @@ struct Given {
     line: Vec<u8>,
 }
 
-/// Calls `eacsl` with the words on a folder in which `a.c` has this text.
-fn answer_of(
+/// Calls `eacsl` with the words on a folder in which `a.c` has this text, and on this input.
+fn answer_on(
     rt: &(impl Abort + AllocGlobal),
     words: &str,
     text: &[u8],
+    input: &[u8],
     failing: &Failing,
 ) -> Result<Given, AllocError> {
     let alloc = rt.alloc();
@@ -60,10 +65,10 @@ fn answer_of(
     let mut files = Vec::new(alloc);
     files.push((String::from_str(alloc, "a.c")?, text.to_vec(alloc)?))?;
     let mut folder = MemFolder::new(files, failing.folder.to_vec(alloc)?);
-    let mut input = MemSource::new(Vec::new(alloc), Vec::new(alloc));
+    let mut source = MemSource::new(input.to_vec(alloc)?, failing.source.to_vec(alloc)?);
     let mut out = MemSink::new(alloc, failing.out.to_vec(alloc)?);
     let mut err = MemSink::new(alloc, failing.err.to_vec(alloc)?);
-    let status = eacsl(alloc, list, &mut folder, &mut input, &mut out, &mut err);
+    let status = eacsl(alloc, list, &mut folder, &mut source, &mut out, &mut err);
     Ok(Given {
         status,
         output: out.bytes().to_vec(alloc)?,
@@ -71,7 +76,33 @@ fn answer_of(
     })
 }
 
-/// Compares what a call gives with what is wanted.
+/// Calls it on the empty input.
+fn answer_of(
+    rt: &(impl Abort + AllocGlobal),
+    words: &str,
+    text: &[u8],
+    failing: &Failing,
+) -> Result<Given, AllocError> {
+    answer_on(rt, words, text, b"", failing)
+}
+
+/// Compares what a call on an input gives with what is wanted.
+fn gives_on(
+    rt: &(impl Abort + AllocGlobal),
+    words: &str,
+    text: &[u8],
+    input: &[u8],
+    failing: &Failing,
+    wanted: &Wanted,
+) -> Result<(), AllocError> {
+    let given = answer_on(rt, words, text, input, failing)?;
+    assert_eq!(rt; given.status, wanted.status);
+    assert_eq!(rt; given.output.as_slice(), wanted.output);
+    assert_eq!(rt; given.line.as_slice(), wanted.line);
+    Ok(())
+}
+
+/// Compares what a call on the empty input gives with what is wanted.
 fn gives(
     rt: &(impl Abort + AllocGlobal),
     words: &str,
@@ -79,11 +110,7 @@ fn gives(
     failing: &Failing,
     wanted: &Wanted,
 ) -> Result<(), AllocError> {
-    let given = answer_of(rt, words, text, failing)?;
-    assert_eq!(rt; given.status, wanted.status);
-    assert_eq!(rt; given.output.as_slice(), wanted.output);
-    assert_eq!(rt; given.line.as_slice(), wanted.line);
-    Ok(())
+    gives_on(rt, words, text, b"", failing, wanted)
 }
 
 /// So many bytes.
