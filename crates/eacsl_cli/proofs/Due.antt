@@ -3,7 +3,7 @@ use Rattle.std.proofs.Common.{◌≡◌, ℕ, List, [], ◌++◌, Option, Some, 
 use Rattle.std.proofs.lemmas.List.{append-nil}
 use Rattle.c_syntax.specs.Programs.{PlainRefusal}
 use Rattle.c_model.specs.Phases.{RefusedText}
-use Rattle.c_model.specs.State.{Input, EndOfInput, Final}
+use Rattle.c_model.specs.State.{Input, Final}
 use Rattle.c_model.proofs.Agreement.{extends_trans}
 use Rattle.c_model.specs.Meaning.{Ran}
 use Rattle.c_model.specs.Reports.{Report, report, line_of, refused_words, Extends}
@@ -21,11 +21,12 @@ use Rattle.c_lower.proofs.Courses.{over_once, writing_begins}
 use Rattle.c_machine.specs.declared.stop.Stop.{Stop}
 use Rattle.c_machine.specs.declared.stop.Stop.TheVariants as stop
 use Rattle.c_machine.specs.declared.stop.Ran as machine
-use Rattle.c_machine.specs.Inputs.{Taking, taking, Untouched, IsInput, Ended, EndsAsRead}
+use Rattle.c_machine.specs.Inputs.{Taking, taking, Untouched, IsInput, EndsAsRead}
 use Rattle.c_machine.specs.Whole.{RanAs, RanTo, RunCut}
 use Rattle.eacsl_cli.specs.Answers.{Answer, AnswersRun, refused_answer, written_answer, memory_line, Change, change, IsSaid, Answered, Given, OutputFault, AnswersOnInput, BeginsOnInput, IsTranslated, RunDue, RunRefused, Runs, RunBegins, InstrumentDue, InstrumentRefused, Writes, InstrumentBegins, ExecDue, ExecRefused, Executes, ExecBegins}
 use Rattle.eacsl_cli.specs.Settled.{IsSettled, Said, Wanting, Reported}
 use Rattle.eacsl_cli.proofs.Sayings.{said_answer, said_memory, answered_by}
+use Rattle.eacsl_cli.proofs.Sources.{unasked_input}
 
 -- the line of an answer that is due was said, or there was no memory for it
 settled_answer : {Due : Answer → Type 0} {Begin : List ℕ → Type 0} {out err : Change} {result : ℕ} (a : Answer) → Due a → Begin a.output → out.told' ≡ more out.told a.output → out.faults' ≡ out.faults → IsSettled a.line a.status err result → Answered Due Begin out err result
@@ -51,8 +52,8 @@ module _ (m : MonitoredProgram) (steps : ℕ) (source : Taking) (told told' : Op
   answers : {end : Final} {ran : machine.Ran} (r : RanTo code steps source (port_of told [] faults) (port_of told' [] faults') end ran) (said : Report) → report end ≡ Some said → AnswersOnInput source m steps (answer_of said r.wrote.sent)
   answers r said e = record {
     input = r.input;
-    was = r.was;
-    ends = subst (λ (x : Ran). EndsAsRead source x.final) (sym (run_is r)) r.ends;
+    was = r.is_input;
+    ends = subst (λ (x : Ran). EndsAsRead source x.final) (sym (run_is r)) r.ends_as_read;
     answers = record {
       said = said;
       reported = ap (λ (x : Ran). report x.final) (run_is r) ∙ e;
@@ -63,7 +64,7 @@ module _ (m : MonitoredProgram) (steps : ℕ) (source : Taking) (told told' : Op
   sent_begins : {end : Final} {ran : machine.Ran} (r : RanTo code steps source (port_of told [] faults) (port_of told' [] faults') end ran) → BeginsOnInput source m steps r.wrote.sent
   sent_begins r = record {
     input = r.input;
-    was = r.was;
+    was = r.is_input;
     begins = begins_with _ r.bytes r.wrote.sent [] [] (ap (λ (x : Ran). x.output) (run_is r) ∙ sym (append-nil r.bytes)) r.wrote.bytes_are;
   }
 
@@ -72,7 +73,7 @@ module _ (m : MonitoredProgram) (steps : ℕ) (source : Taking) (told told' : Op
       let l = lowered flat_start cut.input steps in
       let w = writing_begins over_flat code.entries.items code.main code.instrs.items flat_start cut.input steps l.0 cut.begun.0 _ l.1 in
       let all = extends_trans cut.bytes _ _ cut.begun.1 w in
-      record { input = cut.input; was = cut.was; begins = begins_with _ cut.bytes cut.lost.sent cut.lost.lost all.rest all.is cut.lost.bytes_are }
+      record { input = cut.input; was = cut.is_input; begins = begins_with _ cut.bytes cut.lost.sent cut.lost.lost all.rest all.is cut.lost.bytes_are }
 
   module _ (err : Change) (result : ℕ) where
     -- the run came to an end, and that was reported
@@ -91,11 +92,6 @@ module _ (m : MonitoredProgram) (steps : ℕ) (source : Taking) (told told' : Op
 
     pub run_reported : (ran : machine.Ran) → RanAs code steps source (port_of told [] faults) (port_of told' [] faults') ran.stop ran → Reported ran.stop err result → Answered (AnswersOnInput source m steps) (BeginsOnInput source m steps) (change told told' faults faults') err result
     run_reported ran r s = reported ran.stop ran r s
-
--- the input that a source is which isn't asked
-unasked_input : (left : Option (List ℕ)) (faults : ℕ) → (input : Input) × IsInput (taking left left faults faults) input
-unasked_input None faults = (record { bytes = []; tail = EndOfInput }, Ended refl refl tt [] (record { rest = []; is = refl }) refl)
-unasked_input (Some left) faults = (record { bytes = left; tail = EndOfInput }, Ended refl refl refl [] (record { rest = left; is = refl }) (left, refl, refl))
 
 -- there was no memory to begin
 pub run_not_begun : (m : MonitoredProgram) (steps : ℕ) {left : Option (List ℕ)} {count : ℕ} {told : Option (List ℕ)} {faults : ℕ} {err : Change} {result : ℕ} → IsSaid memory_line 9 err result → Answered (AnswersOnInput (taking left left count count) m steps) (BeginsOnInput (taking left left count count) m steps) (change told told faults faults) err result

@@ -8,13 +8,9 @@ use Rattle.c_model.specs.WordLaws.{file_named}
 use Rattle.c_model.specs.Reports.{line_of}
 use Rattle.ea_ports.specs.Port.{RefusalCount, Rose}
 use Rattle.ea_ports.proofs.Told.{more-nil}
-use Rattle.c_machine.specs.Inputs.{Taking, taking, Untouched}
+use Rattle.c_machine.specs.Inputs.{Taking, Untouched}
 use Rattle.eacsl_cli.specs.Answers.{Answer, silent, memory_line, file_limit, Change, change, IsSaid, Answered, IsDue, Usage, NoFile, TooLong, FolderFault, OfText, Begins, Nothing, BeginsText, TextDue, TextBegins}
 use Rattle.eacsl_cli.proofs.Sayings.{said_answer, said_memory, answered_by}
-
--- a source that isn't asked
-pub unasked : {left : Option (List ℕ)} {faults : ℕ} → Untouched (taking left left faults faults)
-unasked = record { left = refl; faults = refl }
 
 module _ {words : List (List ℕ)} {content : Option (List ℕ → Option (List ℕ))} {before now : ℕ} {source : Taking} {told : Option (List ℕ)} {faults : ℕ} {err : Change} {result : ℕ} where
   -- an answer without output was said

@@ -71,7 +71,7 @@ module _ {before now : ℕ} {source : Taking} where
   other_status status (inl e) = record { most = omega (arith, e); read_fault = λ s. absurd (omega (arith, e, s)); source_fault = λ l. inr (inl e) }
   other_status status (inr e) = record { most = omega (arith, e); read_fault = λ s. absurd (omega (arith, e, s)); source_fault = λ l. inr (inr e) }
 
-  module _ {words : List (List ℕ)} {content : Option (List ℕ → Option (List ℕ))} {out err : Change} where
+  module _ {words : List (List ℕ)} {content : Option (List ℕ → Option (List ℕ))} where
     due_status : (a : Answer) → IsDue words content before now source a → IsStatus before now source a.status
     due_status a (Usage j n u e) = given_status e (unasked_status 3 (omega arith) (λ s. absurd cc) u)
     due_status a (NoFile job j h n u e) = given_status e (unasked_status 10 (omega arith) (λ s. absurd cc) u)
@@ -79,7 +79,7 @@ module _ {before now : ℕ} {source : Taking} where
     due_status a (FolderFault job j n u e) = given_status e (unasked_status 7 (omega arith) (λ s. n) u)
     due_status a (OfText job text j h l n d) = text_status job text a d
 
-    pub answered_status : {status : ℕ} → Answered (IsDue words content before now source) (Begins words content before now source) out err status → IsStatus before now source status
+    pub answered_status : {out err : Change} {status : ℕ} → Answered (IsDue words content before now source) (Begins words content before now source) out err status → IsStatus before now source status
     answered_status (Given a d s t f t' f') = subst (IsStatus before now source) (sym s) (due_status a d)
     answered_status (OutputFault sent s b t f t' f') = other_status _ (inl s)
     answered_status (LineFault sent line k s b t f l t' f') = other_status _ (inl s)

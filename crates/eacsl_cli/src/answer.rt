@@ -1,6 +1,6 @@
 //! The top call.
 
-ghost use Rattle.std.specs.Prelude.{◌≡◌, ◌≤◌, List, MatchResult, length, map, string_bytes};
+ghost use Rattle.std.specs.Prelude.{◌≡◌, ◌≤◌, List, MatchResult, Some, length, map, string_bytes};
 ghost use Rattle.c_syntax.specs.Programs.{plain_refusal};
 ghost use Rattle.c_model.specs.Reports.{line_of, refused_words};
 ghost use Rattle.c_model.specs.WordLaws.{file_named};
@@ -203,6 +203,7 @@ fn do_job<I: Source, O: Sink, E: Sink>(
 ) -> u8
     requires { length text.now ≤ file_limit job.now }
     ensures answered { Answered (TextDue (taking (I.left input.old) (I.left input.new) (I.faults input.old) (I.faults input.new)) job.now text.now) (TextBegins (taking (I.left input.old) (I.left input.new) (I.faults input.old) (I.faults input.new)) job.now text.now) (change (O.told out.old) (O.told out.new) (O.faults out.old) (O.faults out.new)) (change (E.told err.old) (E.told err.new) (E.faults err.old) (E.faults err.new)) result }
+    ensures unread { LeavesSource (Some job.now) (taking (I.left input.old) (I.left input.new) (I.faults input.old) (I.faults input.new)) }
 {
     match job {
         Job::Run { steps, .. } => run_text(alloc, text, *steps, input, out, err),

@@ -1,13 +1,16 @@
-use Rattle.std.proofs.Common.{◌≡◌, refl, map, Some, None, ◌∙◌, string_bytes}
+use Rattle.std.proofs.Common.{◌≡◌, refl, subst, map, Some, None, ◌∙◌, string_bytes}
 use Rattle.c_model.specs.Words.{job_of}
+use Rattle.eacsl_cli.specs.Sound.{LeavesSource}
 use Rattle.eacsl_cli.proofs.Jobs.{memory_said, usage_said, missing_said, too_long_said, fault_said, file_answered}
 use Rattle.eacsl_cli.proofs.Soundness.{sound}
+use Rattle.eacsl_cli.proofs.Sources.{unasked, unasked_leaves}
+use Rattle.eacsl_cli.proofs.Statuses.{answered_status}
 use Rattle.eacsl_cli.proofs.answer.eacsl.Goals as goal
 
 pub returns-in-Ok-None-clause-answered : goal.returns-in-Ok-None-clause-answered
 returns-in-Ok-None-clause-answered g c =
     let e : None ≡ job_of (map string_bytes c.args.words.items) = rw (c.in-Ok-None.field-0-is, c.deref.ensures.value) at c.in-Ok-None.ensures in
-    usage_said e refl c.say.ensures
+    usage_said e refl unasked c.say.ensures
 
 pub returns-in-Err-clause-answered : goal.returns-in-Err-clause-answered
 returns-in-Err-clause-answered g c = memory_said c.out_of_memory.ensures
@@ -20,17 +23,17 @@ returns-in-Ok-clause-answered g c =
 pub returns-in-Err-Missing-clause-answered : goal.returns-in-Err-Missing-clause-answered
 returns-in-Err-Missing-clause-answered g c =
     let e : Some c.in-Ok-Some.job ≡ job_of (map string_bytes c.args.words.items) = rw (c.in-Ok-Some.field-0-is, c.deref.ensures.value) at c.in-Ok-Some.ensures in
-    missing_said c.in-Ok-Some.job c.text.result.now c.limit_of.result e (c.text.ensures ∙ c.file_name.ensures) c.limit_of.ensures (rw c.in-Err-Missing.field-0-is at c.in-Err-Missing.ensures.bytes) (rw c.in-Err-Missing.field-0-is at c.in-Err-Missing.ensures.count) c.say-in-Err-Missing.ensures
+    missing_said c.in-Ok-Some.job c.text.result.now c.limit_of.result e (c.text.ensures ∙ c.file_name.ensures) c.limit_of.ensures unasked (rw c.in-Err-Missing.field-0-is at c.in-Err-Missing.ensures.bytes) (rw c.in-Err-Missing.field-0-is at c.in-Err-Missing.ensures.count) c.say-in-Err-Missing.ensures
 
 pub returns-in-Err-TooLong-clause-answered : goal.returns-in-Err-TooLong-clause-answered
 returns-in-Err-TooLong-clause-answered g c =
     let e : Some c.in-Ok-Some.job ≡ job_of (map string_bytes c.args.words.items) = rw (c.in-Ok-Some.field-0-is, c.deref.ensures.value) at c.in-Ok-Some.ensures in
-    too_long_said c.in-Ok-Some.job c.text.result.now c.limit_of.result e (c.text.ensures ∙ c.file_name.ensures) c.limit_of.ensures (rw c.in-Err-TooLong.field-0-is at c.in-Err-TooLong.ensures.bytes) (rw c.in-Err-TooLong.field-0-is at c.in-Err-TooLong.ensures.count) c.say-in-Err-TooLong.ensures
+    too_long_said c.in-Ok-Some.job c.text.result.now c.limit_of.result e (c.text.ensures ∙ c.file_name.ensures) c.limit_of.ensures unasked (rw c.in-Err-TooLong.field-0-is at c.in-Err-TooLong.ensures.bytes) (rw c.in-Err-TooLong.field-0-is at c.in-Err-TooLong.ensures.count) c.say-in-Err-TooLong.ensures
 
 pub returns-in-Err-Failed-clause-answered : goal.returns-in-Err-Failed-clause-answered
 returns-in-Err-Failed-clause-answered g c =
     let e : Some c.in-Ok-Some.job ≡ job_of (map string_bytes c.args.words.items) = rw (c.in-Ok-Some.field-0-is, c.deref.ensures.value) at c.in-Ok-Some.ensures in
-    fault_said c.in-Ok-Some.job c.text.result.now c.limit_of.result e (c.text.ensures ∙ c.file_name.ensures) c.limit_of.ensures (rw c.in-Err-Failed.field-0-is at c.in-Err-Failed.ensures.count) c.say-in-Err-Failed.ensures
+    fault_said c.in-Ok-Some.job c.text.result.now c.limit_of.result e (c.text.ensures ∙ c.file_name.ensures) c.limit_of.ensures unasked (rw c.in-Err-Failed.field-0-is at c.in-Err-Failed.ensures.count) c.say-in-Err-Failed.ensures
 
 pub returns-clause-answered : goal.returns-clause-answered
 returns-clause-answered g c = memory_said c.out_of_memory-in-Err-Memory.ensures
@@ -55,3 +58,47 @@ returns-in-Err-Failed-clause-sound g c = sound (returns-in-Err-Failed-clause-ans
 
 pub returns-clause-sound : goal.returns-clause-sound
 returns-clause-sound g c = sound (returns-clause-answered g c)
+
+pub returns-in-Ok-None-clause-status : goal.returns-in-Ok-None-clause-status
+returns-in-Ok-None-clause-status g c = answered_status (returns-in-Ok-None-clause-answered g c)
+
+pub returns-in-Err-clause-status : goal.returns-in-Err-clause-status
+returns-in-Err-clause-status g c = answered_status (returns-in-Err-clause-answered g c)
+
+pub returns-in-Ok-clause-status : goal.returns-in-Ok-clause-status
+returns-in-Ok-clause-status g c = answered_status (returns-in-Ok-clause-answered g c)
+
+pub returns-in-Err-Missing-clause-status : goal.returns-in-Err-Missing-clause-status
+returns-in-Err-Missing-clause-status g c = answered_status (returns-in-Err-Missing-clause-answered g c)
+
+pub returns-in-Err-TooLong-clause-status : goal.returns-in-Err-TooLong-clause-status
+returns-in-Err-TooLong-clause-status g c = answered_status (returns-in-Err-TooLong-clause-answered g c)
+
+pub returns-in-Err-Failed-clause-status : goal.returns-in-Err-Failed-clause-status
+returns-in-Err-Failed-clause-status g c = answered_status (returns-in-Err-Failed-clause-answered g c)
+
+pub returns-clause-status : goal.returns-clause-status
+returns-clause-status g c = answered_status (returns-clause-answered g c)
+
+pub returns-in-Ok-None-clause-unread : goal.returns-in-Ok-None-clause-unread
+returns-in-Ok-None-clause-unread g c = unasked_leaves (job_of (map string_bytes c.args.words.items))
+
+pub returns-in-Err-clause-unread : goal.returns-in-Err-clause-unread
+returns-in-Err-clause-unread g c = unasked_leaves (job_of (map string_bytes c.args.words.items))
+
+pub returns-in-Ok-clause-unread : goal.returns-in-Ok-clause-unread
+returns-in-Ok-clause-unread g c =
+    let e : Some c.in-Ok-Some.job ≡ job_of (map string_bytes c.args.words.items) = rw (c.in-Ok-Some.field-0-is, c.deref.ensures.value) at c.in-Ok-Some.ensures in
+    subst (λ job. LeavesSource job _) e c.do_job.ensures.unread
+
+pub returns-in-Err-Missing-clause-unread : goal.returns-in-Err-Missing-clause-unread
+returns-in-Err-Missing-clause-unread g c = unasked_leaves (job_of (map string_bytes c.args.words.items))
+
+pub returns-in-Err-TooLong-clause-unread : goal.returns-in-Err-TooLong-clause-unread
+returns-in-Err-TooLong-clause-unread g c = unasked_leaves (job_of (map string_bytes c.args.words.items))
+
+pub returns-in-Err-Failed-clause-unread : goal.returns-in-Err-Failed-clause-unread
+returns-in-Err-Failed-clause-unread g c = unasked_leaves (job_of (map string_bytes c.args.words.items))
+
+pub returns-clause-unread : goal.returns-clause-unread
+returns-clause-unread g c = unasked_leaves (job_of (map string_bytes c.args.words.items))

@@ -1,7 +1,6 @@
 use Rattle.c_syntax.specs.Programs as source
 use Rattle.mon_syntax.specs.Trees.{plain_program}
 use Rattle.mon_syntax.proofs.FlatAgreement.{agreement_translates}
-use Rattle.eacsl_cli.proofs.FewObjects.{few_variables}
 use Rattle.eacsl_cli.proofs.answer.translated.Goals as goal
 
 pub returns : goal.returns

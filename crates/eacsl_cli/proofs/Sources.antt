@@ -1,0 +1,22 @@
+-- A source that isn't asked.
+use Rattle.std.proofs.Common.{◌≡◌, ℕ, List, [], Option, Some, None, refl}
+use Rattle.c_model.specs.declared.job.Job.{Job}
+use Rattle.c_model.specs.declared.job.Job.TheVariants.{Run, Instrument, Exec}
+use Rattle.c_model.specs.State.{Input, EndOfInput}
+use Rattle.c_machine.specs.Inputs.{taking, Untouched, IsInput, Ended}
+use Rattle.eacsl_cli.specs.Sound.{LeavesSource}
+
+pub unasked : {left : Option (List ℕ)} {faults : ℕ} → Untouched (taking left left faults faults)
+unasked = record { left = refl; faults = refl }
+
+-- the input that it is
+pub unasked_input : (left : Option (List ℕ)) (faults : ℕ) → (input : Input) × IsInput (taking left left faults faults) input
+unasked_input None faults = (record { bytes = []; tail = EndOfInput }, Ended refl refl tt [] (record { rest = []; is = refl }) refl)
+unasked_input (Some left) faults = (record { bytes = left; tail = EndOfInput }, Ended refl refl refl [] (record { rest = left; is = refl }) (left, refl, refl))
+
+-- no job asks more of it
+pub unasked_leaves : (job : Option Job) {left : Option (List ℕ)} {faults : ℕ} → LeavesSource job (taking left left faults faults)
+unasked_leaves None = unasked
+unasked_leaves (Some (Run file steps rte)) = tt
+unasked_leaves (Some (Instrument file rte)) = unasked
+unasked_leaves (Some (Exec file steps)) = tt
