@@ -52,6 +52,9 @@ pub enum Instr {
     Fail,
 }
 
+// A machine goes through many of them: each takes at most 16 bytes.
+const _: () = prove!(std::mem::size_of::<Instr>() <= 16);
+
 /// Where a function begins in the code, and how many registers its calls have.
 #[derive(Clone, Copy, PartialEq, Eq, Debug)]
 pub struct Entry {
@@ -59,7 +62,8 @@ pub struct Entry {
     pub registers: usize,
 }
 
-/// The code of a program. Each instruction finds its operands, each jump stays inside, and a jump back leads to a `Step`.
+/// The code of a program. Each instruction finds its operands, a call takes all that there are, each jump stays inside, and a
+/// jump back leads to a `Step`.
 #[derive(Drop)]
 pub struct Code {
     pub instrs: Vec<Instr>,
