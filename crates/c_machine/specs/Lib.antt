@@ -1,4 +1,5 @@
 pub mod Rare
+pub mod Blocks
 pub mod Held
 pub mod Acts
 pub mod Whole

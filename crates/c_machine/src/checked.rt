@@ -12,7 +12,7 @@ fn taken(instr: &Instr) -> usize
     ensures { result ≡ operands_taken instr.now }
 {
     match instr {
-        Instr::Push(_) | Instr::Get(_) => 0,
+        Instr::Push(_) | Instr::Get(_) | Instr::GetChar => 0,
         Instr::Put(_)
         | Instr::Drop
         | Instr::PutNumber
@@ -20,7 +20,7 @@ fn taken(instr: &Instr) -> usize
         | Instr::SkipIfZero(_)
         | Instr::Return => 1,
         Instr::Binary(_, _) | Instr::Assert(_, _, _) => 2,
-        Instr::Call(_, arguments) => *arguments,
+        Instr::Act(_, arguments) | Instr::Call(_, arguments) => *arguments,
         Instr::Extend(_) | Instr::Minus(_) | Instr::Flip(_) | Instr::Cast(_) | Instr::PutChar => 1,
         Instr::PutByte(_) | Instr::GoOn(_) | Instr::GoBack(_) | Instr::Step | Instr::Fail => 0,
     }
@@ -40,6 +40,8 @@ fn given(instr: &Instr) -> usize
         | Instr::Flip(_)
         | Instr::Cast(_)
         | Instr::PutChar
+        | Instr::GetChar
+        | Instr::Act(_, _)
         | Instr::Call(_, _) => 1,
         Instr::Put(_)
         | Instr::Drop

@@ -7,6 +7,7 @@ mod calls;
 mod checked;
 mod depth;
 mod machine;
+mod memory;
 mod quiet;
 pub mod stop;
 #[cfg(test)]

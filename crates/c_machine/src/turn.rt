@@ -42,6 +42,10 @@ impl Cursor {
             Instr::PutChar => self.put_char(machine, waiting, out, stop),
             Instr::PutByte(byte) => self.put_byte(*byte, machine, waiting, out, stop),
             Instr::PutNumber => self.put_number(machine, waiting, out, stop),
+            Instr::GetChar | Instr::Act(_, _) => {
+                *stop = Stop::OutOfMemory;
+                false
+            }
             Instr::Exit => self.exit(machine, stop),
             Instr::SkipIfZero(n) => self.skip_if_zero(*n, machine, stop),
             Instr::GoOn(n) => self.go_on(*n, machine, stop),
