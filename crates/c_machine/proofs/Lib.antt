@@ -1,6 +1,7 @@
 pub mod Wrapped
 pub mod Bitwise
 pub mod Operands
+pub mod Taken
 pub mod Moves
 pub mod States
 pub mod Writes

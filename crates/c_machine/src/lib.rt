@@ -2,6 +2,7 @@
 #![tactic(auto)]
 
 mod arithmetic;
+mod blocks;
 mod calls;
 #[cfg(test)]
 mod checked;
@@ -9,6 +10,7 @@ mod depth;
 mod machine;
 mod memory;
 mod quiet;
+mod reading;
 pub mod stop;
 #[cfg(test)]
 mod tests;

@@ -61,14 +61,25 @@ fn length_of(size: i128) -> u64
 }
 
 impl Memory {
-    /// Nothing is taken.
-    pub fn new(alloc: Global) -> Result<Memory, AllocError>
+    // Nothing is taken.
+    fn new(alloc: Global) -> Result<Memory, AllocError>
         ensures { IfOk result (λ memory. memory ≡ flat_start) }
     {
         Ok(Memory {
             room: FlatMem::new(alloc, SIZES, 0)?,
             live: Vec::new(alloc),
         })
+    }
+
+    /// The memory in which a run begins, with the frame of `main`.
+    pub fn begun(alloc: Global) -> Result<Memory, AllocError>
+        ensures { IfOk result (λ memory. enter_flat flat_start ≡ Gives (pos 0) memory) }
+    {
+        let mut memory = Memory::new(alloc)?;
+        match memory.enter() {
+            Ok(()) => Ok(memory),
+            Err(_) => Err(AllocError),
+        }
     }
 
     /// One more call is active, where there is a frame for it.
@@ -80,7 +91,6 @@ impl Memory {
 
     /// The end of an active call.
     pub fn leave(&mut self)
-        requires { 0 < self.old.frames }
         ensures { self.new ≡ record self.old { frames = self.old.frames - 1 } }
     {
         self.room.leave_frame();

@@ -58,13 +58,13 @@ pub returns-in-Step : goal.returns-in-Step
 returns-in-Step g c = rw c.in-Step.is (c.step.ensures c.args.entries.now _)
 
 pub returns-in-PutChar : goal.returns-in-PutChar
-returns-in-PutChar g c = rw c.in-PutChar.is (c.put_char.ensures c.args.entries.now)
+returns-in-PutChar g c = rw c.in-PutChar.is (c.put_char.ensures c.args.entries.now _)
 
 pub returns-in-PutByte : goal.returns-in-PutByte
-returns-in-PutByte g c = rw c.in-PutByte.is (c.put_byte.ensures c.args.entries.now)
+returns-in-PutByte g c = rw c.in-PutByte.is (c.put_byte.ensures c.args.entries.now _)
 
 pub returns-in-PutNumber : goal.returns-in-PutNumber
-returns-in-PutNumber g c = rw c.in-PutNumber.is (c.put_number.ensures c.args.entries.now)
+returns-in-PutNumber g c = rw c.in-PutNumber.is (c.put_number.ensures c.args.entries.now _)
 
 pub returns-in-Call : goal.returns-in-Call
 returns-in-Call g c = rw c.in-Call.is (c.call.ensures _)

@@ -11,7 +11,7 @@ use Rattle.c_machine.proofs.Writes.{cut_by, number_written}
 use Rattle.c_machine.proofs.machine.Machine.put_number.Goals as goal
 
 pub returns-in-Err : goal.returns-in-Err
-returns-in-Err g c es =
+returns-in-Err g c es feed =
     let m = c.args.self.now in
     let z = c.in-Some.z in
     let below = from_top c.pop.new.self.height m.operands.items in
@@ -19,6 +19,6 @@ returns-in-Err g c es =
     let text : c.as_bytes.result.now ≡ signed_decimal z = c.as_bytes.ensures.value ∙ c.format.ensures.text ∙ ap signed_decimal (to_z-of_z w128 z fz) in
     let port = port_of (g.O.Sink.told c.args.out.now) c.args.waiting.now (g.O.Sink.faults c.args.out.now) in
     let port' = port_of (g.O.Sink.told c.bytes.new.out) c.bytes.new.self (g.O.Sink.faults c.bytes.new.out) in
-    rw c.refused.ensures (cut_by es instr.PutNumber m.cursor m c.as_bytes.result.now m.cursor m
+    rw c.refused.ensures (cut_by es instr.PutNumber m.cursor m c.as_bytes.result.now feed m.cursor m
     (λ input next. next (on_with over_flat (machine_of m.cursor m input) below)) port port' c.in-Err.fault
     (λ input next. number_written (machine_of m.cursor m input) next es z c.as_bytes.result.now below c.in-Some.ensures.top text) c.in-Err.ensures)
