@@ -5,6 +5,8 @@ pub mod Taken
 pub mod Moves
 pub mod States
 pub mod Writes
+pub mod Acted
+pub mod Stored
 pub mod Calling
 pub mod Kept
 pub mod Courses

@@ -2,7 +2,7 @@
 
 ghost use Rattle.std.specs.Prelude.{◌≡◌, ℕ, ◌+◌, ◌≤◌, ◌<◌, length, take, slice_get, Some, IsTrue, IfOk, IfSome};
 ghost use Rattle.c_lower.specs.Sound.{operands_taken, operands_given, operands_behind, IsEmptyAt, IsSound};
-ghost use Rattle.c_machine.specs.Checked.{JumpsWell, AllJumpWell, AllBegin};
+ghost use Rattle.c_machine.specs.Checked.{CallsWell, JumpsWell, AllJumpWell, AllBegin};
 
 use c_lower::{Code, Entry, Instr};
 use std::alloc::{AllocError, Global};
@@ -80,11 +80,25 @@ fn is_empty_at(code: &[Instr], place: usize) -> bool
     place < code.len() && count_behind(&code[..place]) == Some(0)
 }
 
-// Whether the instruction at a place jumps well, if it jumps.
+// Whether the instruction at a place takes all operands, if it is a call.
+fn calls_well(code: &[Instr], place: usize) -> bool
+    requires { place < length code.now }
+    ensures { IsTrue result → CallsWell code.now place }
+{
+    match &code[place] {
+        Instr::Call(_, _) => count_behind(&code[..place + 1]) == Some(1),
+        _ => true,
+    }
+}
+
+// Whether the instruction at a place jumps well, if it jumps, and takes all operands, if it is a call.
 fn jumps_well(code: &[Instr], place: usize) -> bool
     requires { place < length code.now }
     ensures { IsTrue result → JumpsWell code.now place }
 {
+    if !calls_well(code, place) {
+        return false;
+    }
     let to = match &code[place] {
         Instr::SkipIfZero(n) | Instr::GoOn(n) => {
             if *n >= code.len() - place {

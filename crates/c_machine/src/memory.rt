@@ -2,7 +2,7 @@
 
 ghost use Rattle.std.specs.Prelude.{◌≡◌, ℕ, ◌-◌, ◌<◌, min, [], ◌∷◌, pos, if◌then◌else◌, IfOk, MatchResult};
 ghost use Rattle.mon_syntax.specs.Memory.{Gives, Faults};
-ghost use Rattle.mon_syntax.specs.Memories.{act_on_flat, delete_flat, delete_youngest, enter_flat, flat_block, flat_start, full_at_flat_birth, store_flat};
+ghost use Rattle.mon_syntax.specs.Memories.{act_on_flat, delete_flat, enter_flat, flat_block, flat_start, full_at_flat_birth, store_flat};
 ghost use Rattle.c_machine.specs.Blocks.{EntersBy, RefusesBirth, Replies};
 
 use crate::stop::Stop;
@@ -117,15 +117,15 @@ impl Memory {
     }
 
     // The death of the youngest live block, where this is the pointer to its start.
-    fn death(&mut self, pointer: u64) -> bool
-        ensures { delete_youngest pointer self.old.live self.old ≡ (if result then Gives (pos 0) self.new else Faults) }
+    fn death(&mut self, pointer: i128) -> bool
+        ensures { delete_flat (pointer ∷ []) self.old ≡ (if result then Gives (pos 0) self.new else Faults) }
     {
         let block = match self.live.last() {
             Some(block) => *block,
             None => return false,
         };
         let base = self.room.stack_end() - (block.size / 16 + 1) as u32 * 16;
-        if pointer != (u64::from(block.number) << 32) + u64::from(base) {
+        if pointer != i128::from((u64::from(block.number) << 32) + u64::from(base)) {
             return false;
         }
         self.room.death(base);
@@ -151,15 +151,10 @@ impl Memory {
     fn delete_block(&mut self, pointer: i128) -> Result<i128, Stop>
         ensures { Replies (delete_flat (pointer ∷ []) self.old) self.new result }
     {
-        match u64::try_from(pointer) {
-            Ok(pointer) => {
-                if !self.death(pointer) {
-                    return Err(Stop::Fault);
-                }
-                Ok(0)
-            }
-            Err(_) => Err(Stop::Fault),
+        if self.death(pointer) {
+            return Ok(0);
         }
+        Err(Stop::Fault)
     }
 
     /// A call of the runtime with one argument.
