@@ -6,19 +6,23 @@ use Rattle.std.specs.Option.{option_or}
 use Rattle.std.proofs.lemmas.List.{take_more}
 use Rattle.std.proofs.lemmas.Option.{slice_get_within, get_or_from_slice_get}
 use Rattle.c_model.specs.Operators.{floor_quotient}
-use Rattle.mon_syntax.specs.Trees.{MonExpression, Register, Constant, Binary, Minus, Flip, Cast, MonStatement, Set, Step, Assert, PutChar, Exit, PrintText, PrintSigned, PrintUnsigned, If, Loop, Labelled, Goto, Return, MonStatements, NoStatement, Then, MonFunction}
+use Rattle.mon_syntax.specs.Trees.{MonExpression, Register, Constant, Binary, Minus, Flip, Cast, MonStatement, Set, Step, Assert, PutChar, GetChar, Exit, PrintText, PrintSigned, PrintUnsigned, Act, Call, If, Loop, Labelled, Goto, Return, MonStatements, NoStatement, Then, MonFunction}
 use Rattle.c_lower.specs.declared.code.Entry.{Entry}
 use Rattle.c_lower.specs.declared.code.Instr.{Instr}
 use Rattle.c_lower.specs.declared.code.Instr.TheVariants as instr
-use Rattle.c_lower.specs.Code.{is_short, expression_code, OpenLabel, behind_label, goto_code, result_code, returned_code, choice_code, loop_code, statement_code, statements_code, function_code, functions_code, entry_at, entries_from, entry_named}
-use Rattle.c_lower.specs.Sound.{operands_behind, target, IsEmptyAt, IsSound}
+use Rattle.c_lower.specs.Code.{is_short, expression_code, arguments_code, OpenLabel, behind_label, goto_code, result_code, returned_code, choice_code, loop_code, statement_code, statements_code, function_code, functions_code, entry_at, entries_from, entry_named}
+use Rattle.c_lower.specs.Sound.{operands_taken, operands_given, operands_behind, target, IsEmptyAt, IsSound}
 use Rattle.c_lower.proofs.Placed.{length_choice, length_loop, HasAt, has_front, has_back, has_join, has_behind}
-use Rattle.c_lower.proofs.Operands.{Leads, leads_on, test_leads, statement_leads, statements_lead, function_leads, functions_lead}
+use Rattle.c_lower.proofs.Operands.{Leads, leads_on, call_leads, test_leads, statement_leads, statements_lead, function_leads, functions_lead}
 
--- ---- instructions that don't jump
+-- ---- instructions that neither jump nor call
+
+abbrev pub is_call : Instr → Bool
+is_call (instr.Call f k) = true
+is_call i = false
 
 abbrev pub Stays : Instr → Type 0
-Stays i = (p : ℕ) → target p i ≡ None
+Stays i = (p : ℕ) → (target p i ≡ None) × (is_call i ≡ false)
 
 abbrev pub AllStay : List Instr → Type 0
 AllStay [] = Unit {0}
@@ -33,28 +37,32 @@ stay_then a i g h = stay_on a (i ∷ []) g (h, tt)
 
 constant_stays : (z : ℤ) (b : Bool)
     → AllStay (if b then instr.Push z ∷ [] else (instr.Push (floor_quotient z (2 ^ 64)) ∷ instr.Extend (unsigned_abs (int_rem_euclid z (pos (2 ^ 64)))) ∷ []))
-constant_stays z true = ((λ p. refl), tt)
-constant_stays z false = ((λ p. refl), ((λ p. refl), tt))
+constant_stays z true = ((λ p. (refl, refl)), tt)
+constant_stays z false = ((λ p. (refl, refl)), ((λ p. (refl, refl)), tt))
 
 expression_stays : (e : MonExpression) → AllStay (expression_code e)
-expression_stays (Register r) = ((λ p. refl), tt)
+expression_stays (Register r) = ((λ p. (refl, refl)), tt)
 expression_stays (Constant t z) = constant_stays z (is_short z)
 expression_stays (Binary op t a b) =
-    stay_on (expression_code a) _ (expression_stays a) (stay_then (expression_code b) (instr.Binary op t) (expression_stays b) (λ p. refl))
-expression_stays (Minus t a) = stay_then (expression_code a) (instr.Minus t) (expression_stays a) (λ p. refl)
-expression_stays (Flip t a) = stay_then (expression_code a) (instr.Flip t) (expression_stays a) (λ p. refl)
-expression_stays (Cast t a) = stay_then (expression_code a) (instr.Cast t) (expression_stays a) (λ p. refl)
+    stay_on (expression_code a) _ (expression_stays a) (stay_then (expression_code b) (instr.Binary op t) (expression_stays b) (λ p. (refl, refl)))
+expression_stays (Minus t a) = stay_then (expression_code a) (instr.Minus t) (expression_stays a) (λ p. (refl, refl))
+expression_stays (Flip t a) = stay_then (expression_code a) (instr.Flip t) (expression_stays a) (λ p. (refl, refl))
+expression_stays (Cast t a) = stay_then (expression_code a) (instr.Cast t) (expression_stays a) (λ p. (refl, refl))
+
+arguments_stay : (args : List MonExpression) → AllStay (arguments_code args)
+arguments_stay [] = tt
+arguments_stay (e ∷ args) = stay_on (expression_code e) (arguments_code args) (expression_stays e) (arguments_stay args)
 
 text_stays : (bytes : List ℕ) → AllStay (map instr.PutByte bytes)
 text_stays [] = tt
-text_stays (b ∷ bytes) = ((λ p. refl), text_stays bytes)
+text_stays (b ∷ bytes) = ((λ p. (refl, refl)), text_stays bytes)
 
 result_stays : (r : Option ℕ) → AllStay (result_code r ∷ [])
-result_stays None = ((λ p. refl), tt)
-result_stays (Some r) = ((λ p. refl), tt)
+result_stays None = ((λ p. (refl, refl)), tt)
+result_stays (Some r) = ((λ p. (refl, refl)), tt)
 
 returned_stays : (e : Option MonExpression) → AllStay (returned_code e)
-returned_stays None = ((λ p. refl), tt)
+returned_stays None = ((λ p. (refl, refl)), tt)
 returned_stays (Some e) = expression_stays e
 
 -- ---- places
@@ -78,14 +86,19 @@ module _ (code : List Instr) where
   abbrev Empty : ℕ → Type 0
   Empty p = operands_behind 0 (take p code) ≡ Some 0
 
-  -- behind code that leaves no operand
+  -- behind code that leaves so many operands
+  operands_on : (p n : ℕ) (is : List Instr) → Empty p → HasAt code p is → Leads 0 is n → operands_behind 0 (take (p + length is) code) ≡ Some n
+  operands_on p n is e h l = ap (operands_behind 0) (take_has code p is h) ∙ leads_on 0 0 n (take p code) is e l
+
+  -- behind code that leaves none
   empty_on : (p : ℕ) (is : List Instr) → Empty p → HasAt code p is → Leads 0 is 0 → Empty (p + length is)
-  empty_on p is e h l = ap (operands_behind 0) (take_has code p is h) ∙ leads_on 0 0 0 (take p code) is e l
+  empty_on p is e h l = operands_on p 0 is e h l
 
   -- what is to hold of an instruction in its place
   record Fits (p : ℕ) (i : Instr) : Type 0 where
     jumps : (to : ℕ) → target p i ≡ Some to → IsEmptyAt code to
     behind : (to : ℕ) → target p i ≡ Some to → Empty (p + 1)
+    calls : (f k : ℕ) → i ≡ instr.Call f k → operands_behind 0 (take (p + 1) code) ≡ Some 1
     back : (n : ℕ) → i ≡ instr.GoBack n → slice_get code (p - n) ≡ Some instr.Step
 
   abbrev AllFit : ℕ → List Instr → Type 0
@@ -110,13 +123,17 @@ module _ (code : List Instr) where
 
   stay_fits : (p : ℕ) (i : Instr) → Stays i → Fits p i
   stay_fits p i s = record {
-    jumps = λ to e. absurd (cc (s p));
-    behind = λ to e. absurd (cc (s p));
+    jumps = λ to e. absurd (cc (s p).0);
+    behind = λ to e. absurd (cc (s p).0);
+    calls = λ f k e. absurd (no_call f k e);
     back = λ n e. absurd (no_target n e);
   }
     where
       no_target : (n : ℕ) → i ≡ instr.GoBack n → ⊥
-      no_target n e = cc (s p, ap (target p) e)
+      no_target n e = cc ((s p).0, ap (target p) e)
+
+      no_call : (f k : ℕ) → i ≡ instr.Call f k → ⊥
+      no_call f k e = cc ((s p).1, ap is_call e)
 
   stays_fit : (p : ℕ) (is : List Instr) → AllStay is → AllFit p is
   stays_fit p [] s = tt
@@ -127,6 +144,7 @@ module _ (code : List Instr) where
   jump_fits p to i t inside empty behind back = record {
     jumps = λ q e. let same : to ≡ q = cc in subst (IsEmptyAt code) same (record { inside = inside; empty = empty });
     behind = λ q e. behind;
+    calls = λ f k e. absurd (cc (t, ap (target p) e));
     back = back;
   }
 
@@ -174,13 +192,36 @@ module _ (code : List Instr) where
 
   goto_fits : (p : ℕ) (o : Option ℕ) (behind : ℕ) → Empty p → EndsAt o behind → p + length (goto_code o behind) + behind ≡ length code
       → HasAt code p (goto_code o behind) → AllFit p (goto_code o behind)
-  goto_fits p None behind e h n has = (stay_fits p instr.Fail (λ p. refl), tt)
+  goto_fits p None behind e h n has = (stay_fits p instr.Fail (λ p. (refl, refl)), tt)
   goto_fits p (Some a) behind e h n has =
       let to : p + 1 + (behind - a) ≡ length code - a = omega (arith, h.0) in
       let inside : length code - a < length code = omega (arith, h.1) in (
         jump_fits p (length code - a) (instr.GoOn (behind - a)) (ap Some to) inside h.2 (empty_on p (instr.GoOn (behind - a) ∷ []) e has refl)
             (λ m q. absurd (cc q)),
         tt,
+      )
+
+  -- a call takes all operands
+  call_fits : (p : ℕ) (i : Instr) → target p i ≡ None → operands_behind 0 (take (p + 1) code) ≡ Some 1 → Fits p i
+  call_fits p i t one = record {
+    jumps = λ q e. absurd (cc (t, e));
+    behind = λ q e. absurd (cc (t, e));
+    calls = λ f k e. one;
+    back = λ n e. absurd (cc (t, ap (target p) e));
+  }
+
+  -- the code of a call
+  called_fits : (p : ℕ) (args : List MonExpression) (i : Instr) (r : Option ℕ) → ((q : ℕ) → target q i ≡ None) → operands_taken i ≡ length args
+      → operands_given i ≡ 1 → Empty p → HasAt code p (arguments_code args ++ (i ∷ (result_code r ∷ [])))
+      → AllFit p (arguments_code args ++ (i ∷ (result_code r ∷ [])))
+  called_fits p args i r t taken given empty has =
+      let ca = arguments_code args in
+      let h = has_back code p ca _ has in
+      let e : p + length (ca ++ i ∷ []) ≡ p + length ca + 1 = omega (arith, length-append ca (i ∷ [])) in
+      let one = operands_on p 1 (ca ++ i ∷ []) empty (has_join code p ca (i ∷ []) (has_front code p ca _ has) (h.0, tt)) (call_leads args i taken given) in
+      fit_on p ca _ (stays_fit p ca (arguments_stay args)) (
+        call_fits (p + length ca) i (t (p + length ca)) (subst (λ n. operands_behind 0 (take n code) ≡ Some 1) e one),
+        stays_fit (p + length ca + 1) (result_code r ∷ []) (result_stays r),
       )
 
   choice_fits : (p : ℕ) (e : MonExpression) (ca cb : List Instr) → Empty p → HasAt code p (choice_code (expression_code e) ca cb)
@@ -234,7 +275,7 @@ module _ (code : List Instr) where
       let inside1 : before_at < length code = omega (arith, all, inside) in
       let inside2 : p + 1 < length code = omega (arith, all, inside) in
       let turns = jump_fits back_at (p + 1) turn (ap Some to2) inside2 e1 e5 (back_to back_at back (p + 1) to2 has.1.0) in
-      let step = stay_fits (p + 1) instr.Step (λ q. refl) in
+      let step = stay_fits (p + 1) instr.Step (λ q. (refl, refl)) in
       let before = fit_on before_at ca (turn ∷ []) (fa e3) (turns, tt) in
       let rest = fit_on (p + 1 + 1) cb (ca ++ turn ∷ []) (fb e2) before in
       (jump_fits p before_at first (ap Some to1) inside1 e3 e1 (λ m q. absurd (cc q)), (step, rest))
@@ -242,19 +283,22 @@ module _ (code : List Instr) where
   mutual
     statement_fits : (a : MonStatement) (p behind : ℕ) (ls : List OpenLabel) → Empty p → 2 ≤ behind → OpenEnds ls behind
         → p + length (statement_code a behind ls) + behind ≡ length code → HasAt code p (statement_code a behind ls) → AllFit p (statement_code a behind ls)
-    statement_fits (Set r e) p behind ls em two w n has = stays_fit p _ (stay_then (expression_code e) (instr.Put r) (expression_stays e) (λ q. refl))
-    statement_fits Step p behind ls em two w n has = (stay_fits p instr.Step (λ q. refl), tt)
+    statement_fits (Set r e) p behind ls em two w n has = stays_fit p _ (stay_then (expression_code e) (instr.Put r) (expression_stays e) (λ q. (refl, refl)))
+    statement_fits Step p behind ls em two w n has = (stay_fits p instr.Step (λ q. (refl, refl)), tt)
     statement_fits (Assert d v number line kind) p behind ls em two w n has =
         stays_fit p _ (stay_on (expression_code d) _ (expression_stays d)
-        (stay_then (expression_code v) (instr.Assert number line kind) (expression_stays v) (λ q. refl)))
+        (stay_then (expression_code v) (instr.Assert number line kind) (expression_stays v) (λ q. (refl, refl))))
     statement_fits (PutChar r e) p behind ls em two w n has =
-        stays_fit p _ (stay_on (expression_code e) (instr.PutChar ∷ (result_code r ∷ [])) (expression_stays e) ((λ q. refl), result_stays r))
-    statement_fits (Exit e) p behind ls em two w n has = stays_fit p _ (stay_then (expression_code e) instr.Exit (expression_stays e) (λ q. refl))
+        stays_fit p _ (stay_on (expression_code e) (instr.PutChar ∷ (result_code r ∷ [])) (expression_stays e) ((λ q. (refl, refl)), result_stays r))
+    statement_fits (GetChar r) p behind ls em two w n has = stays_fit p (instr.GetChar ∷ (result_code r ∷ [])) ((λ q. (refl, refl)), result_stays r)
+    statement_fits (Exit e) p behind ls em two w n has = stays_fit p _ (stay_then (expression_code e) instr.Exit (expression_stays e) (λ q. (refl, refl)))
     statement_fits (PrintText bytes) p behind ls em two w n has = stays_fit p _ (text_stays bytes)
     statement_fits (PrintSigned e) p behind ls em two w n has =
-        stays_fit p _ (stay_then (expression_code e) instr.PutNumber (expression_stays e) (λ q. refl))
+        stays_fit p _ (stay_then (expression_code e) instr.PutNumber (expression_stays e) (λ q. (refl, refl)))
     statement_fits (PrintUnsigned e) p behind ls em two w n has =
-        stays_fit p _ (stay_then (expression_code e) instr.PutNumber (expression_stays e) (λ q. refl))
+        stays_fit p _ (stay_then (expression_code e) instr.PutNumber (expression_stays e) (λ q. (refl, refl)))
+    statement_fits (Act r f args) p behind ls em two w n has = called_fits p args (instr.Act f (length args)) r (λ q. refl) refl refl em has
+    statement_fits (Call r f args) p behind ls em two w n has = called_fits p args (instr.Call f (length args)) r (λ q. refl) refl refl em has
     statement_fits (If e a b) p behind ls em two w n has =
         let cb = statements_code b behind ls in
         let ca = statements_code a (1 + length cb + behind) ls in
@@ -288,7 +332,7 @@ module _ (code : List Instr) where
         let empty = subst Empty end (empty_on p (statements_code a behind ls') em has (statements_lead a behind ls')) in
         statements_fit a p behind ls' em two (ends_last ls l behind two empty w) n has
     statement_fits (Goto l) p behind ls em two w n has = goto_fits p (behind_label ls l) behind em (label_ends ls l behind w) n has
-    statement_fits (Return e) p behind ls em two w n has = stays_fit p _ (stay_then (returned_code e) instr.Return (returned_stays e) (λ q. refl))
+    statement_fits (Return e) p behind ls em two w n has = stays_fit p _ (stay_then (returned_code e) instr.Return (returned_stays e) (λ q. (refl, refl)))
 
     statements_fit : (a : MonStatements) (p behind : ℕ) (ls : List OpenLabel) → Empty p → 2 ≤ behind → OpenEnds ls behind
         → p + length (statements_code a behind ls) + behind ≡ length code → HasAt code p (statements_code a behind ls) → AllFit p (statements_code a behind ls)
@@ -313,7 +357,7 @@ module _ (code : List Instr) where
       let end = instr.Push (pos 0) ∷ (instr.Return ∷ []) in
       let len : length (function_code f behind) ≡ length cb + 2 = length-append cb end in
       fit_on p cb end (statements_fit f.body p (2 + behind) [] em (omega arith) tt (omega (arith, len, n)) (has_front code p cb end has))
-      (stays_fit (p + length cb) end ((λ q. refl), ((λ q. refl), tt)))
+      (stays_fit (p + length cb) end ((λ q. (refl, refl)), ((λ q. (refl, refl)), tt)))
 
   functions_fit : (fs : List MonFunction) (p : ℕ) → Empty p → p + length (functions_code fs) ≡ length code → HasAt code p (functions_code fs)
       → AllFit p (functions_code fs)
@@ -384,6 +428,7 @@ module _ (name : List ℕ) (fs : List MonFunction) where
     operands = (0, functions_lead fs);
     jumps = λ p i to h t. (each_fits p i h).jumps to t;
     behind = λ p i to h t. (each_fits p i h).behind to t;
+    calls = λ p f k h. (each_fits p (instr.Call f k) h).calls f k refl;
     back = λ p n h. (each_fits p (instr.GoBack n) h).back n refl;
     starts = starts_empty all fs 0 refl whole (has_behind all []);
     main = named_empty all name fs 0 refl whole (has_behind all []);

@@ -1,14 +1,14 @@
 -- Operands along code: a statement's code finds its operands and leaves none, an expression's code leaves one.
-use Rattle.std.proofs.Common.{◌≡◌, ℕ, suc, ◌+◌, ◌-◌, ◌≤◌, ℤ, pos, Bool, true, false, List, [], ◌∷◌, ◌++◌, length, Option, Some, None, map, refl, ap, ◌∙◌, arith}
+use Rattle.std.proofs.Common.{◌≡◌, ℕ, suc, ◌+◌, ◌-◌, ◌≤◌, ℤ, pos, Bool, true, false, List, [], ◌∷◌, ◌++◌, length, Option, Some, None, map, refl, ap, subst, ◌∙◌, arith, append_assoc}
 use Rattle.std.specs.Prelude.{◌^◌, leb, if◌then◌else◌, unsigned_abs}
 use Rattle.std.specs.Int.{int_rem_euclid}
 use Rattle.std.proofs.lemmas.Bool.{le-leb}
 use Rattle.c_model.specs.Operators.{floor_quotient}
-use Rattle.mon_syntax.specs.Trees.{MonExpression, Register, Constant, Binary, Minus, Flip, Cast, MonStatement, Set, Step, Assert, PutChar, Exit, PrintText, PrintSigned, PrintUnsigned, If, Loop, Labelled, Goto, Return, MonStatements, NoStatement, Then, MonFunction}
+use Rattle.mon_syntax.specs.Trees.{MonExpression, Register, Constant, Binary, Minus, Flip, Cast, MonStatement, Set, Step, Assert, PutChar, GetChar, Exit, PrintText, PrintSigned, PrintUnsigned, Act, Call, If, Loop, Labelled, Goto, Return, MonStatements, NoStatement, Then, MonFunction}
 use Rattle.mon_syntax.specs.Meaning.{◌>>=◌}
 use Rattle.c_lower.specs.declared.code.Instr.{Instr}
 use Rattle.c_lower.specs.declared.code.Instr.TheVariants as instr
-use Rattle.c_lower.specs.Code.{is_short, expression_code, OpenLabel, behind_label, goto_code, result_code, returned_code, choice_code, loop_code, statement_code, statements_code, function_code, functions_code}
+use Rattle.c_lower.specs.Code.{is_short, expression_code, arguments_code, OpenLabel, behind_label, goto_code, result_code, returned_code, choice_code, loop_code, statement_code, statements_code, function_code, functions_code}
 use Rattle.c_lower.specs.Sound.{operands_taken, operands_given, operands_behind}
 
 -- the instructions find their operands, and lead from so many to so many
@@ -59,6 +59,19 @@ expression_leads (Flip t a) n =
 expression_leads (Cast t a) n =
     leads_then (expression_code a) (instr.Cast t) n (suc n) (suc n) (expression_leads a n) (omega arith) (omega arith)
 
+-- arguments leave an operand each
+arguments_lead : (args : List MonExpression) (n : ℕ) → Leads n (arguments_code args) (length args + n)
+arguments_lead [] n = let e : n ≡ 0 + n = omega arith in ap Some e
+arguments_lead (a ∷ args) n =
+    let e : length args + suc n ≡ suc (length args) + n = omega arith in
+    subst (Leads n (arguments_code (a ∷ args))) e
+    (leads_on n (suc n) (length args + suc n) (expression_code a) (arguments_code args) (expression_leads a n) (arguments_lead args (suc n)))
+
+-- an instruction that takes all of them, and leaves its value
+pub call_leads : (args : List MonExpression) (i : Instr) → operands_taken i ≡ length args → operands_given i ≡ 1 → Leads 0 (arguments_code args ++ i ∷ []) 1
+call_leads args i t g =
+    leads_then (arguments_code args) i 0 (length args + 0) 1 (arguments_lead args 0) (omega (arith, t)) (omega (arith, t, g))
+
 -- an expression's code and an instruction that takes its value
 taking : (e : MonExpression) (i : Instr) → operands_taken i ≡ 1 → operands_given i ≡ 0 → Leads 0 (expression_code e ++ i ∷ []) 0
 taking e i t g = leads_then (expression_code e) i 0 1 0 (expression_leads e 0) (omega (arith, t)) (omega (arith, t, g))
@@ -74,6 +87,13 @@ text_leads (b ∷ bytes) = text_leads bytes
 result_leads : (r : Option ℕ) → Leads 1 (result_code r ∷ []) 0
 result_leads None = refl
 result_leads (Some r) = refl
+
+-- a call, and what becomes of its value
+called_leads : (args : List MonExpression) (i : Instr) (r : Option ℕ) → operands_taken i ≡ length args → operands_given i ≡ 1
+    → Leads 0 (arguments_code args ++ (i ∷ (result_code r ∷ []))) 0
+called_leads args i r t g =
+    subst (λ is. Leads 0 is 0) (append_assoc (arguments_code args) (i ∷ []) (result_code r ∷ []))
+    (leads_on 0 1 0 (arguments_code args ++ i ∷ []) (result_code r ∷ []) (call_leads args i t g) (result_leads r))
 
 goto_leads : (o : Option ℕ) (behind : ℕ) → Leads 0 (goto_code o behind) 0
 goto_leads None behind = refl
@@ -100,10 +120,13 @@ mutual
       leads_on 0 1 0 (expression_code d) _ (expression_leads d 0)
       (leads_then (expression_code v) (instr.Assert number line kind) 1 2 0 (expression_leads v 1) (omega arith) (omega arith))
   statement_leads (PutChar r e) behind ls = leads_on 0 1 0 (expression_code e) _ (expression_leads e 0) (result_leads r)
+  statement_leads (GetChar r) behind ls = result_leads r
   statement_leads (Exit e) behind ls = taking e instr.Exit refl refl
   statement_leads (PrintText bytes) behind ls = text_leads bytes
   statement_leads (PrintSigned e) behind ls = taking e instr.PutNumber refl refl
   statement_leads (PrintUnsigned e) behind ls = taking e instr.PutNumber refl refl
+  statement_leads (Act r f args) behind ls = called_leads args (instr.Act f (length args)) r refl refl
+  statement_leads (Call r f args) behind ls = called_leads args (instr.Call f (length args)) r refl refl
   statement_leads (If e a b) behind ls =
       choice_leads e (statements_code a (1 + length (statements_code b behind ls) + behind) ls) (statements_code b behind ls) (statements_lead a _ ls)
       (statements_lead b behind ls)

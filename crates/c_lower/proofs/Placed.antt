@@ -1,5 +1,5 @@
 -- Code in its place, where functions begin, and how many instructions come behind the ends of open labels.
-use Rattle.std.proofs.Common.{◌≡◌, ℕ, ◌+◌, ◌<◌, ◌≤◌, ℤ, pos, negsuc, ◌+ℤ◌, ◌*ℤ◌, List, [], ◌∷◌, ◌++◌, length, Option, Some, None, Bool, true, false, refl, sym, ap, ◌∙◌, subst, arith, append_assoc, length-append, le_trans}
+use Rattle.std.proofs.Common.{◌≡◌, ℕ, zero, suc, ◌+◌, ◌<◌, ◌≤◌, ℤ, pos, negsuc, ◌+ℤ◌, ◌*ℤ◌, List, [], ◌∷◌, ◌++◌, length, Option, Some, None, Bool, true, false, refl, sym, ap, ◌∙◌, subst, arith, append_assoc, length-append, le_trans}
 use Rattle.std.specs.Prelude.{◌^◌, slice_get, bytes_eq, if◌then◌else◌, unsigned_abs}
 use Rattle.std.specs.Int.{int_rem_euclid}
 use Rattle.std.specs.Option.{option_or}
@@ -13,7 +13,7 @@ use Rattle.mon_syntax.specs.Meaning.{function_named}
 use Rattle.c_lower.specs.declared.code.Entry.{Entry}
 use Rattle.c_lower.specs.declared.code.Instr.{Instr}
 use Rattle.c_lower.specs.declared.code.Instr.TheVariants as instr
-use Rattle.c_lower.specs.Code.{choice_code, loop_code, OpenLabel, behind_label, function_code, functions_code, entry_at, entry_named}
+use Rattle.c_lower.specs.Code.{choice_code, loop_code, OpenLabel, behind_label, function_code, functions_code, entry_at, entries_from, entry_named}
 
 -- ---- instructions
 
@@ -88,6 +88,16 @@ named_at code name (f ∷ fs) start M h =
     let cf = function_code f behind in
     choice_at (bytes_eq f.name name) code f (entry_at start f) _ _ (refl, behind, has_front code start cf (functions_code fs) h)
     (named_at code name fs (start + length cf) M (has_back code start cf (functions_code fs) h))
+
+pub numbered_at : (code : List Instr) (fs : List MonFunction) (start : ℕ) → HasAt code start (functions_code fs) → (f : ℕ)
+    → FunctionAt code (slice_get fs f) (slice_get (entries_from start fs) f)
+numbered_at code [] start h f = tt
+numbered_at code (g ∷ gs) start h zero =
+    let behind = length (functions_code gs) in
+    (refl, behind, has_front code start (function_code g behind) (functions_code gs) h)
+numbered_at code (g ∷ gs) start h (suc f) =
+    let cg = function_code g (length (functions_code gs)) in
+    numbered_at code gs (start + length cg) (has_back code start cg (functions_code gs) h) f
 
 -- ---- labels
 

@@ -1,6 +1,6 @@
 -- The machine does with a program's code what the program means.
 use Rattle.std.proofs.Common.{◌≡◌, ℕ, zero, suc, ◌+◌, ◌-◌, ◌≤◌, ℤ, pos, ◌+ℤ◌, ◌*ℤ◌, List, [], ◌∷◌, ◌++◌, length, map, Option, Some, None, Bool, true, false, refl, sym, ap, ◌∙◌, subst, arith, append_assoc, append-nil, length-append, le_trans}
-use Rattle.std.specs.Prelude.{◌^◌, slice_get, slice_set, bytes_eq, if◌then◌else◌, codes, unsigned_abs}
+use Rattle.std.specs.Prelude.{◌^◌, slice_get, slice_set, bytes_eq, if◌then◌else◌, unsigned_abs}
 use Rattle.std.specs.Fmt.{signed_decimal}
 use Rattle.std.specs.Int.{int_rem_euclid}
 use Rattle.std.specs.Option.{option_or}
@@ -9,20 +9,18 @@ use Rattle.c_syntax.specs.declared.annotation.Kind.{Kind}
 use Rattle.c_syntax.specs.declared.types.How.TheVariants as how
 use Rattle.c_model.specs.Integers.{byte_of}
 use Rattle.c_model.specs.Operators.{floor_quotient}
-use Rattle.c_model.specs.State.{Input, Final, Exits, Broken, Fault, Spent}
-use Rattle.c_model.specs.Meaning.{Ran}
-use Rattle.mon_syntax.specs.Trees.{MonExpression, Register, Constant, Binary, Minus, Flip, Cast, MonStatement, Set, Step, Assert, PutChar, Exit, PrintText, PrintSigned, PrintUnsigned, If, Loop, Labelled, Goto, Return, MonStatements, NoStatement, Then, MonFunction, MonitoredProgram}
+use Rattle.c_model.specs.State.{Input, Final, Exits, Broken, Fault, Spent, Full, ReadFault}
+use Rattle.mon_syntax.specs.Trees.{MonExpression, Register, Constant, Binary, Minus, Flip, Cast, MonStatement, Set, Step, Assert, PutChar, GetChar, Exit, PrintText, PrintSigned, PrintUnsigned, Act, Call, If, Loop, Labelled, Goto, Return, MonStatements, NoStatement, Then}
 use Rattle.mon_syntax.specs.Arithmetic.{wrap, operate, minus, flipped}
 use Rattle.mon_syntax.specs.Memory.{Memory, Reply, Gives, IsFull, Faults}
-use Rattle.mon_syntax.specs.Meaning.{State, Result, Done, Stops, Flow, Next, Goes, Returns, writes, then_do, at_next, at_label, ◌>>=◌, with_value, choose, step_from, registers, given_to, number_or_none, eval, eval_number, replied, Calls, Does, turns, exec, exec_all, at_return, body_runs, level, exit_of, ran, function_named, run}
+use Rattle.mon_syntax.specs.Meaning.{State, Result, Done, Stops, Flow, Next, Goes, Returns, writes, then_do, at_next, at_label, ◌>>=◌, with_value, choose, step_from, given_to, got, with_read, number_or_none, eval, eval_all, eval_number, replied, Calls, Does, turns, exec, exec_all}
 use Rattle.c_lower.specs.declared.code.Entry.{Entry}
 use Rattle.c_lower.specs.declared.code.Instr.{Instr}
 use Rattle.c_lower.specs.declared.code.Instr.TheVariants as instr
-use Rattle.c_lower.specs.Code.{is_short, expression_code, OpenLabel, behind_label, goto_code, result_code, returned_code, choice_code, statement_code, statements_code, function_code, functions_code, entries_from, entry_named}
-use Rattle.c_lower.specs.Machine.{Machine, Course, Over, GoesOn, puts, with_some, stepped, at_with, changed, exited, act, runs, started, begins}
-use Rattle.c_lower.specs.Lowered.{KeepsNumbers, RunsAs}
-use Rattle.c_lower.proofs.Courses.{ended}
-use Rattle.c_lower.proofs.Placed.{HasAt, has_front, has_back, has_behind, FunctionAt, named_at, Within, within_more, within_last, Below, label_below, label_last, high_and_low, length_two, length_choice, length_loop}
+use Rattle.c_lower.specs.Code.{is_short, expression_code, arguments_code, OpenLabel, behind_label, goto_code, result_code, returned_code, choice_code, statement_code, statements_code}
+use Rattle.c_lower.specs.Machine.{Machine, Course, Over, GoesOn, puts, with_some, with_arguments, on_read, stepped, on_with, at_with, changed, act, runs}
+use Rattle.c_lower.specs.Lowered.{KeepsNumbers}
+use Rattle.c_lower.proofs.Placed.{HasAt, has_front, has_back, Within, within_more, within_last, Below, label_below, label_last, high_and_low, length_two, length_choice, length_loop}
 
 -- ---- options and courses
 
@@ -43,63 +41,78 @@ puts-nil : (x : Course) → puts [] x ≡ x
 puts-nil (Over e n q) = refl
 puts-nil (GoesOn q) = refl
 
-writes-nil : {S A : Type 0} (x : Result S A) → writes [] x ≡ x
+pub writes-nil : {S A : Type 0} (x : Result S A) → writes [] x ≡ x
 writes-nil (Done a s o) = refl
 writes-nil (Stops e n o) = refl
 
--- the course of a run that is over
-abbrev pub course_of : Ran → Course
-course_of r = Over r.final r.left r.output
+-- arguments onto operands, the last one topmost
+abbrev pub onto : {A : Type 0} → List A → List A → List A
+onto [] s = s
+onto (v ∷ vs) s = onto vs (v ∷ s)
+
+some_taken : {A : Type 0} (vs : List A) (m : ℕ) (got s : List A) (n : ℕ) (go : List A → List A → Course)
+    → with_arguments (length vs + m) got (onto vs s) n go ≡ with_arguments m (vs ++ got) s n go
+some_taken [] m got s n go = let e : 0 + m ≡ m = omega arith in ap (λ k. with_arguments k got s n go) e
+some_taken (v ∷ vs) m got s n go =
+    let e : suc (length vs) + m ≡ length vs + suc m = omega arith in
+    ap (λ k. with_arguments k got (onto vs (v ∷ s)) n go) e ∙ some_taken vs (suc m) got (v ∷ s) n go
+
+-- so many arguments are taken off them again
+pub all_taken : {A : Type 0} (k : ℕ) (vs s : List A) (n : ℕ) (go : List A → List A → Course) → length vs ≡ k
+    → with_arguments k [] (onto vs s) n go ≡ go vs s
+all_taken k vs s n go e =
+    let f : k ≡ length vs + 0 = omega (arith, e) in
+    ap (λ i. with_arguments i [] (onto vs s) n go) f ∙ some_taken vs 0 [] s n go ∙ ap (λ l. go l s) (append-nil vs)
 
 module _ (M : Memory) (es : List Entry) (code : List Instr) where
   -- ---- how the machine comes from one moment of a run to another
 
-  abbrev Moment : Type 0
+  abbrev pub Moment : Type 0
   Moment = Machine M.Mem M.Val
 
   -- what a statement does
-  abbrev Outcome : Type 0
+  abbrev pub Outcome : Type 0
   Outcome = Result (State M.Mem) (Flow M.Val)
 
-  abbrev state_of : Moment → State M.Mem
+  abbrev pub state_of : Moment → State M.Mem
   state_of c = record { mem = c.mem; steps = c.steps; input = c.input }
 
   -- at this place, with these registers and this state
-  abbrev came : Moment → ℕ → List M.Val → State M.Mem → Moment
+  abbrev pub came : Moment → ℕ → List M.Val → State M.Mem → Moment
   came c p r s = record { place = p; stack = c.stack; registers = r; frames = c.frames; mem = s.mem; steps = s.steps; input = s.input }
 
   -- it comes from one to the other, and writes nothing
-  abbrev Quiet : Moment → Moment → Type 0
+  abbrev pub Quiet : Moment → Moment → Type 0
   Quiet c d = (k : ℕ) → (j : ℕ) × (runs M es code j c ≡ runs M es code k d)
 
   -- it comes there, and writes this
-  abbrev Comes : Moment → List ℕ → Moment → Type 0
+  abbrev pub Comes : Moment → List ℕ → Moment → Type 0
   Comes c o d = (k : ℕ) → (j : ℕ) × (runs M es code j c ≡ puts o (runs M es code k d))
 
   -- it comes to this course
-  abbrev Reaches : Moment → Course → Type 0
+  abbrev pub Reaches : Moment → Course → Type 0
   Reaches c x = (j : ℕ) × (runs M es code j c ≡ x)
 
-  abbrev Ends : Moment → Final → ℕ → List ℕ → Type 0
+  abbrev pub Ends : Moment → Final → ℕ → List ℕ → Type 0
   Ends c e n o = Reaches c (Over e n o)
 
-  step : (c : Moment) (i : Instr) → slice_get code c.place ≡ Some i → (k : ℕ) → runs M es code (suc k) c ≡ act M es (Some i) (runs M es code k) c
+  pub step : (c : Moment) (i : Instr) → slice_get code c.place ≡ Some i → (k : ℕ) → runs M es code (suc k) c ≡ act M es (Some i) (runs M es code k) c
   step c i h k = ap (λ o. act M es o (runs M es code k) c) h
 
-  quiet_step : (c d : Moment) (i : Instr) → slice_get code c.place ≡ Some i → ((next : Moment → Course) → act M es (Some i) next c ≡ next d) → Quiet c d
+  pub quiet_step : (c d : Moment) (i : Instr) → slice_get code c.place ≡ Some i → ((next : Moment → Course) → act M es (Some i) next c ≡ next d) → Quiet c d
   quiet_step c d i h e k = (suc k, step c i h k ∙ e (runs M es code k))
 
   comes_step : (c d : Moment) (i : Instr) (o : List ℕ) → slice_get code c.place ≡ Some i
       → ((next : Moment → Course) → act M es (Some i) next c ≡ puts o (next d)) → Comes c o d
   comes_step c d i o h e k = (suc k, step c i h k ∙ e (runs M es code k))
 
-  reach_step : (c : Moment) (i : Instr) (x : Course) → slice_get code c.place ≡ Some i → ((next : Moment → Course) → act M es (Some i) next c ≡ x) → Reaches c x
+  pub reach_step : (c : Moment) (i : Instr) (x : Course) → slice_get code c.place ≡ Some i → ((next : Moment → Course) → act M es (Some i) next c ≡ x) → Reaches c x
   reach_step c i x h f = (1, step c i h 0 ∙ f (runs M es code 0))
 
-  quiet_on : (c d e : Moment) → Quiet c d → Quiet d e → Quiet c e
+  pub quiet_on : (c d e : Moment) → Quiet c d → Quiet d e → Quiet c e
   quiet_on c d e l m k = let b = m k in let a = l b.0 in (a.0, a.1 ∙ b.1)
 
-  quiet_reach : (c d : Moment) (x : Course) → Quiet c d → Reaches d x → Reaches c x
+  pub quiet_reach : (c d : Moment) (x : Course) → Quiet c d → Reaches d x → Reaches c x
   quiet_reach c d x l m = let a = l m.0 in (a.0, a.1 ∙ m.1)
 
   as_comes : (c d : Moment) → Quiet c d → Comes c [] d
@@ -111,10 +124,10 @@ module _ (M : Memory) (es : List Entry) (code : List Instr) where
       let a = l b.0 in
       (a.0, a.1 ∙ ap (puts o) b.1 ∙ puts-puts o p (runs M es code k e))
 
-  comes_quiet : (c d e : Moment) (o : List ℕ) → Comes c o d → Quiet d e → Comes c o e
+  pub comes_quiet : (c d e : Moment) (o : List ℕ) → Comes c o d → Quiet d e → Comes c o e
   comes_quiet c d e o l m k = let b = m k in let a = l b.0 in (a.0, a.1 ∙ ap (puts o) b.1)
 
-  comes_reach : (c d : Moment) (o : List ℕ) (x : Course) → Comes c o d → Reaches d x → Reaches c (puts o x)
+  pub comes_reach : (c d : Moment) (o : List ℕ) (x : Course) → Comes c o d → Reaches d x → Reaches c (puts o x)
   comes_reach c d o x l m = let a = l m.0 in (a.0, a.1 ∙ ap (puts o) m.1)
 
   to_place : (c d : Moment) (s : List M.Val) (p q : ℕ) → p ≡ q → Quiet c (at_with M d p s) → Quiet c (at_with M d q s)
@@ -221,6 +234,32 @@ module _ (M : Memory) (es : List Entry) (code : List Instr) where
       number_run (instr.Cast t) (wrap t) (expression_code a) (eval M a c.registers) c (λ next p x s. refl) has
       (expression_runs keeps a c (has_front code c.place (expression_code a) _ has))
 
+  -- what the code of arguments does, which has so many instructions
+  abbrev GivesAll : Moment → ℕ → ℕ → Option (List M.Val) → Type 0
+  GivesAll c n k None = Ends c Fault c.steps []
+  GivesAll c n k (Some vs) = Quiet c (at_with M c (c.place + n) (onto vs c.stack)) × (length vs ≡ k)
+
+  more_arguments : (ca cs : List Instr) (k : ℕ) (oa : Option M.Val) (os : Option (List M.Val)) (c : Moment) → GivesOne c (length ca) oa
+      → ((v : M.Val) → GivesAll (at_with M c (c.place + length ca) (v ∷ c.stack)) (length cs) k os)
+      → GivesAll c (length (ca ++ cs)) (suc k) (oa >>= λ v. os >>= λ vs. Some (v ∷ vs))
+  more_arguments ca cs k None os c ra rs = ra
+  more_arguments ca cs k (Some v) None c ra rs =
+      quiet_reach c (at_with M c (c.place + length ca) (v ∷ c.stack)) (Over Fault c.steps []) ra (rs v)
+  more_arguments ca cs k (Some v) (Some vs) c ra rs =
+      let all = onto vs (v ∷ c.stack) in
+      let c1 = at_with M c (c.place + length ca) (v ∷ c.stack) in
+      let len : c.place + length ca + length cs ≡ c.place + length (ca ++ cs) = omega (arith, length-append ca cs) in
+      (to_place c c all _ _ len (quiet_on c c1 (at_with M c (c.place + length ca + length cs) all) ra (rs v).0), ap suc (rs v).1)
+
+  arguments_run : KeepsNumbers M → (args : List MonExpression) (c : Moment) → HasAt code c.place (arguments_code args)
+      → GivesAll c (length (arguments_code args)) (length args) (eval_all M args c.registers)
+  arguments_run keeps [] c has = let e : c.place ≡ c.place + 0 = omega arith in (stays c _ e, refl)
+  arguments_run keeps (a ∷ args) c has =
+      let ca = expression_code a in
+      more_arguments ca (arguments_code args) (length args) (eval M a c.registers) (eval_all M args c.registers) c
+      (expression_runs keeps a c (has_front code c.place ca _ has))
+      (λ v. arguments_run keeps args (at_with M c (c.place + length ca) (v ∷ c.stack)) (has_back code c.place ca _ has))
+
   -- ---- where control goes
 
   -- a jump to a label leads there, if there is such a label; at total the code ends
@@ -228,16 +267,16 @@ module _ (M : Memory) (es : List Entry) (code : List Instr) where
   Lands c total r s o None = Ends c Fault s.steps o
   Lands c total r s o (Some a) = Comes c o (came c (total - a) r s)
 
-  abbrev value_or_zero : Option M.Val → M.Val
+  abbrev pub value_or_zero : Option M.Val → M.Val
   value_or_zero None = M.number (pos 0)
   value_or_zero (Some v) = v
 
   -- with a value on the stack
-  abbrev valued : Moment → ℕ → M.Val → List M.Val → State M.Mem → Moment
+  abbrev pub valued : Moment → ℕ → M.Val → List M.Val → State M.Mem → Moment
   valued c p v r s = record { place = p; stack = v ∷ c.stack; registers = r; frames = c.frames; mem = s.mem; steps = s.steps; input = s.input }
 
   -- the machine does what the statement does: it comes to the place p, or to a label's end, or to a `Return` with the value
-  abbrev Performs : Moment → ℕ → List OpenLabel → ℕ → Outcome → Type 0
+  abbrev pub Performs : Moment → ℕ → List OpenLabel → ℕ → Outcome → Type 0
   Performs c p ls total (Done (Next r) s o) = Comes c o (came c p r s) × (s.steps ≤ c.steps)
   Performs c p ls total (Done (Goes l r) s o) = Lands c total r s o (behind_label ls l) × (s.steps ≤ c.steps)
   Performs c p ls total (Done (Returns v) s o) =
@@ -277,7 +316,7 @@ module _ (M : Memory) (es : List Entry) (code : List Instr) where
   seq_run c p1 p ls total (Stops e n o) go k h = k
 
   -- another place at the end
-  ends_at : (c : Moment) (p q : ℕ) (ls : List OpenLabel) (total : ℕ) (x : Outcome) → p ≡ q → Performs c p ls total x → Performs c q ls total x
+  pub ends_at : (c : Moment) (p q : ℕ) (ls : List OpenLabel) (total : ℕ) (x : Outcome) → p ≡ q → Performs c p ls total x → Performs c q ls total x
   ends_at c p q ls total x e k = subst (λ n. Performs c n ls total x) e k
 
   -- a jump at the end
@@ -378,6 +417,83 @@ module _ (M : Memory) (es : List Entry) (code : List Instr) where
   result_run c None p v at = quiet_step (at_with M c p (v ∷ c.stack)) (came c (p + 1) c.registers (state_of c)) instr.Drop at (λ next. refl)
   result_run c (Some r) p v at =
       quiet_step (at_with M c p (v ∷ c.stack)) (came c (p + 1) (slice_set c.registers r v) (state_of c)) (instr.Put r) at (λ next. refl)
+
+  -- the next byte of the input into a register, or away
+  read_run : (c : Moment) (r : Option ℕ) (p : ℕ) (ls : List OpenLabel) (total : ℕ) (o : Option (ℤ × Input)) → got c.input.bytes c.input.tail ≡ o
+      → p ≡ c.place + 1 + 1 → HasAt code c.place (instr.GetChar ∷ (result_code r ∷ []))
+      → Performs c p ls total
+      (with_read o c.steps (λ z input. Done (Next (given_to r (M.number z) c.registers)) (record (state_of c) { input = input }) []))
+  read_run c r p ls total None e len has =
+      reach_step c instr.GetChar (Over ReadFault c.steps []) has.0
+      (λ next. ap (λ o. on_read o c.steps (λ z input. next (record (on_with M c (M.number z ∷ c.stack)) { input = input }))) e)
+  read_run c r p ls total (Some (z, input)) e len has =
+      let c1 = came c (c.place + 1) c.registers (record (state_of c) { input = input }) in
+      let c2 = came c1 (c1.place + 1) (given_to r (M.number z) c1.registers) (state_of c1) in
+      let q = quiet_step c (at_with M c1 c1.place (M.number z ∷ c1.stack)) instr.GetChar has.0
+      (λ next. ap (λ o. on_read o c.steps (λ z input. next (record (on_with M c (M.number z ∷ c.stack)) { input = input }))) e) in
+      ends_at c (c.place + 1 + 1) p ls total (Done (Next (given_to r (M.number z) c.registers)) (record (state_of c) { input = input }) []) (sym len)
+      (as_comes c c2 (quiet_on c (at_with M c1 c1.place (M.number z ∷ c1.stack)) c2 q (result_run c1 r c1.place (M.number z) has.1.0)), omega arith)
+
+  -- ---- calls
+
+  -- a call at a place, with its arguments
+  abbrev pub calling : Moment → ℕ → List M.Val → Moment
+  calling c p args = at_with M c p (onto args c.stack)
+
+  -- what it does: it comes to the next place, with its value
+  abbrev pub CallDoes : Moment → ℕ → List M.Val → Result (State M.Mem) M.Val → Type 0
+  CallDoes c p args (Done v t o) = Comes (calling c p args) o (valued c (p + 1) v c.registers t) × (t.steps ≤ c.steps)
+  CallDoes c p args (Stops e n o) = Ends (calling c p args) e n o
+
+  -- with at most so many steps the machine does what calls of functions do
+  abbrev pub CallsRun : Calls M → ℕ → Type 0
+  CallsRun calls n =
+      (f k : ℕ) (c : Moment) (args : List M.Val) (p : ℕ) → slice_get code p ≡ Some (instr.Call f k) → length args ≡ k → c.steps ≤ n
+      → CallDoes c p args (calls f args (state_of c))
+
+  call_ends : (c : Moment) (r : Option ℕ) (p q : ℕ) (args : List M.Val) (ls : List OpenLabel) (total : ℕ) (x : Result (State M.Mem) M.Val)
+      → p + 1 + 1 ≡ q → slice_get code (p + 1) ≡ Some (result_code r) → Quiet c (calling c p args) → CallDoes c p args x
+      → Performs c q ls total (then_do x (λ v t. Done (Next (given_to r v c.registers)) t []))
+  call_ends c r p q args ls total (Done v t o) e at l k =
+      let c1 = calling c p args in
+      let c2 = valued c (p + 1) v c.registers t in
+      let c3 = came c (p + 1 + 1) (given_to r v c.registers) t in
+      let there = comes_quiet c c2 c3 o (comes_on c c1 c2 [] o (as_comes c c1 l) k.0) (result_run (came c (p + 1) c.registers t) r (p + 1) v at) in
+      ends_at c (p + 1 + 1) q ls total (Done (Next (given_to r v c.registers)) t (o ++ [])) e
+      (subst (λ w. Comes c w c3) (sym (append-nil o)) there, k.1)
+  call_ends c r p q args ls total (Stops e' n o) e at l k = quiet_reach c (calling c p args) (Over e' n o) l k
+
+  -- a change of memory
+  change_run : (c : Moment) (p : ℕ) (args : List M.Val) (i : Instr) (y : Reply M.Mem M.Val) → slice_get code p ≡ Some i
+      → ((next : Moment → Course) → act M es (Some i) next (calling c p args)
+      ≡ changed M y c.steps (λ v m. next (valued c (p + 1) v c.registers (record (state_of c) { mem = m })))) → CallDoes c p args (replied M y (state_of c))
+  change_run c p args i (Gives v m) at op =
+      let c1 = calling c p args in
+      (as_comes c1 _ (quiet_step c1 (valued c (p + 1) v c.registers (record (state_of c) { mem = m })) i at op), omega arith)
+  change_run c p args i (IsFull g) at op = reach_step (calling c p args) i (Over (Full g) c.steps []) at op
+  change_run c p args i Faults at op = reach_step (calling c p args) i (Over Fault c.steps []) at op
+
+  with_all : (c : Moment) (ca : List Instr) (k p : ℕ) (ls : List OpenLabel) (total : ℕ) (o : Option (List M.Val)) (go : List M.Val → Outcome)
+      → GivesAll c (length ca) k o
+      → ((vs : List M.Val) → length vs ≡ k → Quiet c (calling c (c.place + length ca) vs) → Performs c p ls total (go vs))
+      → Performs c p ls total (with_value o c.steps go)
+  with_all c ca k p ls total None go g h = g
+  with_all c ca k p ls total (Some vs) go g h = h vs g.1 g.0
+
+  -- arguments, a call of any kind, and what becomes of its value
+  call_run : KeepsNumbers M → (r : Option ℕ) (args : List MonExpression) (i : Instr) (does : List M.Val → Result (State M.Mem) M.Val) (c : Moment)
+      (ls : List OpenLabel) (total : ℕ) → HasAt code c.place (arguments_code args ++ (i ∷ (result_code r ∷ [])))
+      → ((vs : List M.Val) → length vs ≡ length args → slice_get code (c.place + length (arguments_code args)) ≡ Some i
+      → CallDoes c (c.place + length (arguments_code args)) vs (does vs))
+      → Performs c (c.place + length (arguments_code args ++ (i ∷ (result_code r ∷ [])))) ls total
+      (with_value (eval_all M args c.registers) c.steps (λ vs. then_do (does vs) (λ v t. Done (Next (given_to r v c.registers)) t [])))
+  call_run keeps r args i does c ls total has run =
+      let ca = arguments_code args in
+      let p = c.place + length ca in
+      let back = has_back code c.place ca _ has in
+      let len : p + 1 + 1 ≡ c.place + length (ca ++ (i ∷ (result_code r ∷ []))) = omega (arith, length-append ca (i ∷ (result_code r ∷ []))) in
+      with_all c ca (length args) _ ls total (eval_all M args c.registers) _ (arguments_run keeps args c (has_front code c.place ca _ has)) (λ vs e q.
+      call_ends c r p _ vs ls total (does vs) len back.1.0 q (run vs e back.0))
 
   -- ---- assertions
 
@@ -480,7 +596,7 @@ module _ (M : Memory) (es : List Entry) (code : List Instr) where
 
   -- ---- statements
 
-  module _ (keeps : KeepsNumbers M) (calls : Calls M) (n : ℕ) where
+  module _ (keeps : KeepsNumbers M) (calls : Calls M) (n : ℕ) (calls_run : CallsRun calls n) where
     -- the value of an expression, from its code in front of other code
     value_here : (e : MonExpression) (c : Moment) (rest : List Instr) → HasAt code c.place (expression_code e ++ rest)
         → GivesOne c (length (expression_code e)) (eval M e c.registers)
@@ -556,10 +672,18 @@ module _ (M : Memory) (es : List Entry) (code : List Instr) where
           assert_run c number line kind cd cv ls total (eval M d c.registers) (eval M v c.registers) has (value_here d c _ has)
           (λ x. value_here v (at_with M c (c.place + length cd) (x ∷ c.stack)) _ (has_back code c.place cd _ has))
       statement_runs (PutChar r e) c behind ls total les w eN has = putchar_run r e c ls total has
+      statement_runs (GetChar r) c behind ls total les w eN has =
+          read_run c r _ ls total (got c.input.bytes c.input.tail) refl (omega arith) has
       statement_runs (Exit e) c behind ls total les w eN has = exit_run e c _ ls total has
       statement_runs (PrintText bytes) c behind ls total les w eN has = (text_run bytes c has, omega arith)
       statement_runs (PrintSigned e) c behind ls total les w eN has = print_run c e ls total keeps has
       statement_runs (PrintUnsigned e) c behind ls total les w eN has = print_run c e ls total keeps has
+      statement_runs (Act r f args) c behind ls total les w eN has =
+          call_run keeps r args (instr.Act f (length args)) (λ vs. replied M (M.act f vs c.mem) (state_of c)) c ls total has (λ vs e at.
+          change_run c _ vs (instr.Act f (length args)) (M.act f vs c.mem) at (λ next. all_taken (length args) vs c.stack c.steps _ e))
+      statement_runs (Call r f args) c behind ls total les w eN has =
+          call_run keeps r args (instr.Call f (length args)) (λ vs. calls f vs (state_of c)) c ls total has
+          (λ vs e at. calls_run f (length args) c vs _ at e les)
       statement_runs (If e a b) c behind ls total les w eN has =
           let cb = statements_code b behind ls in
           let ca = statements_code a (1 + length cb + behind) ls in
@@ -616,7 +740,7 @@ module _ (M : Memory) (es : List Entry) (code : List Instr) where
           (goto_run c (behind_label ls l) total behind (label_below ls l behind w) eN has, omega arith)
       statement_runs (Return e) c behind ls total les w eN has = return_run e c _ ls total has
 
-      statements_run : (a : MonStatements) (c : Moment) (behind : ℕ) (ls : List OpenLabel) (total : ℕ) → c.steps ≤ n → Within ls behind
+      pub statements_run : (a : MonStatements) (c : Moment) (behind : ℕ) (ls : List OpenLabel) (total : ℕ) → c.steps ≤ n → Within ls behind
           → c.place + length (statements_code a behind ls) + behind ≡ total → HasAt code c.place (statements_code a behind ls)
           → Performs c (c.place + length (statements_code a behind ls)) ls total (exec_all M a calls n c.registers (state_of c))
       statements_run NoStatement c behind ls total les w eN has =
@@ -633,83 +757,3 @@ module _ (M : Memory) (es : List Entry) (code : List Instr) where
           (statement_runs a c (length cr + behind) ls total les (within_more ls behind (length cr + behind) (omega arith) w) na
           (has_front code c.place ca cr has))
           (λ r s le. statements_run rest (came c (c.place + length ca) r s) behind ls total (le_trans le les) w nr (has_back code c.place ca cr has)))
-
-    -- ---- `main`
-
-    -- a call without a frame, which is that of `main`
-    abbrev alone : Moment → Moment
-    alone c = record c { frames = [] }
-
-    returns_to_end : (c : Moment) (p : ℕ) (v : M.Val) (r : List M.Val) (s : State M.Mem) (o : List ℕ) → slice_get code p ≡ Some instr.Return
-        → Comes (alone c) o (valued (alone c) p v r s) → Reaches (alone c) (puts o (exited M (M.number_of v) s.steps))
-    returns_to_end c p v r s o at k =
-        comes_reach (alone c) (valued (alone c) p v r s) o (exited M (M.number_of v) s.steps) k
-        (reach_step (valued (alone c) p v r s) instr.Return (exited M (M.number_of v) s.steps) at (λ next. refl))
-
-    exit_written : (z : Option ℤ) (k : ℕ) (o : List ℕ) → puts o (exited M z k) ≡ course_of (exit_of M z k (o ++ []))
-    exit_written None k o = refl
-    exit_written (Some z) k o = refl
-
-    main_ends : (c : Moment) (p : ℕ) (v : M.Val) (r : List M.Val) (s : State M.Mem) (o : List ℕ) → slice_get code p ≡ Some instr.Return
-        → Comes (alone c) o (valued (alone c) p v r s) → Reaches (alone c) (course_of (exit_of M (M.number_of v) s.steps (o ++ [])))
-    main_ends c p v r s o at k = subst (Reaches (alone c)) (exit_written (M.number_of v) s.steps o) (returns_to_end c p v r s o at k)
-
-    -- a body in the frame of `main`, with the code behind it
-    main_run : (c : Moment) (p total : ℕ) (x : Outcome) → HasAt code p (instr.Push (pos 0) ∷ (instr.Return ∷ [])) → Performs (alone c) p [] total x
-        → Reaches (alone c) (course_of (ran M (then_do x (at_return M))))
-    main_run c p total (Done (Next r) s o) has k =
-        let d1 = came (alone c) p r s in
-        let d2 = valued (alone c) (p + 1) (M.number (pos 0)) r s in
-        main_ends c (p + 1) (M.number (pos 0)) r s o has.1.0 (comes_quiet (alone c) d1 d2 o k.0 (quiet_step d1 d2 (instr.Push (pos 0)) has.0 (λ next. refl)))
-    main_run c p total (Done (Goes i r) s o) has k = subst (λ w. Ends (alone c) Fault s.steps w) (sym (append-nil o)) k.0
-    main_run c p total (Done (Returns None) s o) has k = main_ends c k.0 (M.number (pos 0)) k.1 s o k.2 k.3
-    main_run c p total (Done (Returns (Some v)) s o) has k = main_ends c k.0 v k.1 s o k.2 k.3
-    main_run c p total (Stops e' m o) has k = k
-
-    -- the statements of a body, from its entry
-    body_runs_from : (f : MonFunction) (e : Entry) (behind : ℕ) (c : Moment) → c.steps ≤ n → c.place ≡ e.start → HasAt code e.start (function_code f behind)
-        → Performs c (e.start + length (statements_code f.body (2 + behind) [])) []
-        (e.start + length (statements_code f.body (2 + behind) []) + (2 + behind)) (exec_all M f.body calls n c.registers (state_of c))
-    body_runs_from f e behind c les ep has =
-        let cb = statements_code f.body (2 + behind) [] in
-        let at = subst (λ p. HasAt code p cb) (sym ep) (has_front code e.start cb _ has) in
-        let e1 : c.place + length cb ≡ e.start + length cb = omega (arith, ep) in
-        let e2 : c.place + length cb + (2 + behind) ≡ e.start + length cb + (2 + behind) = omega (arith, ep) in
-        ends_at c _ _ [] (e.start + length (statements_code f.body (2 + behind) []) + (2 + behind)) _ e1
-        (statements_run f.body c (2 + behind) [] _ les tt e2 at)
-
-    enter_main : (f : MonFunction) (e : Entry) (behind : ℕ) (input : Input) → e.registers ≡ length f.parameters + length f.registers
-        → HasAt code e.start (function_code f behind) → (y : Reply M.Mem M.Val) (mem : M.Mem)
-        → (j : ℕ) × (changed M y n (λ m. runs M es code j (started M e m input n))
-        ≡ course_of (ran M (then_do (replied M y (record { mem = mem; steps = n; input = input }))
-        (λ v t. then_do (exec_all M f.body calls n (registers (M.number (pos 0)) (length f.parameters + length f.registers) []) t) (at_return M)))))
-    enter_main f e behind input er has (Gives v m) mem =
-        let cb = statements_code f.body (2 + behind) [] in
-        let d : Moment = started M e m input n in
-        let x = then_do (exec_all M f.body calls n (registers (M.number (pos 0)) e.registers []) (state_of d)) (at_return M) in
-        let r = main_run d (e.start + length cb) (e.start + length cb + (2 + behind)) _ (has_back code e.start cb _ has)
-        (body_runs_from f e behind d (omega arith) refl has) in (
-          r.0,
-          r.1 ∙ ap (λ z. course_of (ran M z)) (sym (writes-nil x))
-              ∙ ap (λ i. course_of (ran M (writes [] (then_do (exec_all M f.body calls n (registers (M.number (pos 0)) i []) (state_of d)) (at_return M))))) er,
-        )
-    enter_main f e behind input er has (IsFull g) mem = (0, refl)
-    enter_main f e behind input er has Faults mem = (0, refl)
-
-    main_runs : (of_main : Option MonFunction) (oe : Option Entry) (mem : M.Mem) (input : Input) → FunctionAt code of_main oe
-        → (j : ℕ) × (begins M es oe code j mem input n ≡ course_of (ran M (body_runs M of_main calls n [] (record { mem = mem; steps = n; input = input }))))
-    main_runs None None mem input h = (0, refl)
-    main_runs None (Some e) mem input h = absurd h
-    main_runs (Some f) None mem input h = absurd h
-    main_runs (Some f) (Some e) mem input h = enter_main f e h.1 input h.0 h.2 (M.enter mem) mem
-
--- the code of a program does what the program means, over each memory that keeps numbers
-pub lowered : (M : Memory) → KeepsNumbers M → (m : MonitoredProgram)
-    → RunsAs M m (entries_from 0 m.functions) (entry_named (codes "main") 0 m.functions) (functions_code m.functions)
-lowered M keeps m mem input n =
-    let code = functions_code m.functions in
-    let es = entries_from 0 m.functions in
-    let oe = entry_named (codes "main") 0 m.functions in
-    let at = named_at code (codes "main") m.functions 0 M (has_behind code []) in
-    let r = main_runs M es code keeps (level M m.functions n) n (function_named M (codes "main") m.functions) oe mem input at in
-    ended M es oe code mem input n r.0 (run M m mem input n) r.1

@@ -3,7 +3,7 @@
 ghost use Rattle.c_lower.specs.Sound.{IsSound};
 
 use c_syntax::Kind;
-use mon_syntax::{MonOp, MonType};
+use mon_syntax::{MemoryCall, MonOp, MonType};
 
 /// One instruction of the stack machine. A jump says how many instructions it passes.
 #[derive(Clone, Copy, PartialEq, Eq, Debug)]
@@ -26,6 +26,8 @@ pub enum Instr {
     Assert(u32, u32, Kind),
     /// The topmost number's byte is written, and stays in the number's place.
     PutChar,
+    /// The next byte of the input onto the stack, -1 at its end.
+    GetChar,
     /// The byte is written.
     PutByte(u8),
     /// The topmost number is written in decimal, and taken off the stack.
@@ -40,6 +42,8 @@ pub enum Instr {
     GoBack(usize),
     /// Takes a step.
     Step,
+    /// A call of the runtime on the memory with so many arguments, the last one topmost. Its value comes onto the stack.
+    Act(MemoryCall, usize),
     /// A call of the function with this number and so many arguments, the last one topmost. It takes a step.
     Call(u32, usize),
     /// Ends a call, with the topmost value.
@@ -48,6 +52,9 @@ pub enum Instr {
     Fail,
 }
 
+// A machine goes through many of them: each takes at most 16 bytes.
+const _: () = prove!(std::mem::size_of::<Instr>() <= 16);
+
 /// Where a function begins in the code, and how many registers its calls have.
 #[derive(Clone, Copy, PartialEq, Eq, Debug)]
 pub struct Entry {
@@ -55,7 +62,8 @@ pub struct Entry {
     pub registers: usize,
 }
 
-/// The code of a program. Each instruction finds its operands, each jump stays inside, and a jump back leads to a `Step`.
+/// The code of a program. Each instruction finds its operands, a call takes all that there are, each jump stays inside, and a
+/// jump back leads to a `Step`.
 #[derive(Drop)]
 pub struct Code {
     pub instrs: Vec<Instr>,

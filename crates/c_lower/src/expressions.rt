@@ -1,8 +1,8 @@
 //! The code of expressions.
 
-ghost use Rattle.std.specs.Prelude.{◌≡◌, ◌++◌, OnOk};
+ghost use Rattle.std.specs.Prelude.{◌≡◌, ◌++◌, map, OnOk};
 ghost use Rattle.mon_syntax.specs.Trees.{plain_expr};
-ghost use Rattle.c_lower.specs.Code.{constant_code, expression_code};
+ghost use Rattle.c_lower.specs.Code.{arguments_code, constant_code, expression_code};
 
 use crate::backward::Backward;
 use crate::code::Instr;
@@ -48,4 +48,16 @@ pub fn emit_expression(code: &mut Backward, e: &MonExpr) -> Result<(), AllocErro
             emit_expression(code, a)
         }
     }
+}
+
+/// Writes the code of arguments, which come one after another.
+pub fn emit_arguments(code: &mut Backward, args: &[MonExpr]) -> Result<(), AllocError>
+    ensures { OnOk result (code.new ≡ arguments_code (map plain_expr args.now) ++ code.old) }
+{
+    let mut left = args.len();
+    while left > 0 {
+        left -= 1;
+        emit_expression(code, &args[left])?;
+    }
+    Ok(())
 }

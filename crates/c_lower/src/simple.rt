@@ -1,16 +1,16 @@
 //! The code of statements that hold no others.
 
 ghost use Rattle.std.specs.Prelude.{◌≡◌, ◌∷◌, [], ◌++◌, map, option_map, length, OnOk};
-ghost use Rattle.mon_syntax.specs.Trees.{Assert, Exit, Goto, PrintSigned, PrintText, PutChar, Return, Set, plain_expr};
+ghost use Rattle.mon_syntax.specs.Trees.{Act, Assert, Call, Exit, GetChar, Goto, PrintSigned, PrintText, PutChar, Return, Set, plain_expr};
 ghost use Rattle.c_lower.specs.Code.{result_code, statement_code};
 ghost use Rattle.c_lower.specs.Labels.{open_labels};
 
 use crate::backward::Backward;
 use crate::code::Instr;
-use crate::expressions::emit_expression;
+use crate::expressions::{emit_arguments, emit_expression};
 use crate::labels::{Labels, behind_label};
 use c_syntax::Kind;
-use mon_syntax::MonExpr;
+use mon_syntax::{MemoryCall, MonExpr};
 use std::alloc::AllocError;
 
 /// `R = e;`
@@ -54,6 +54,42 @@ pub fn emit_put_char(code: &mut Backward, r: Option<u32>, e: &MonExpr) -> Result
     code.put(result_of(r))?;
     code.put(Instr::PutChar)?;
     emit_expression(code, e)
+}
+
+/// `getchar();`, or `R = getchar();`
+pub fn emit_get_char(code: &mut Backward, r: Option<u32>) -> Result<(), AllocError>
+    ensures { OnOk result (code.new ≡ statement_code (GetChar r) 0 [] ++ code.old) }
+{
+    code.put(result_of(r))?;
+    code.put(Instr::GetChar)
+}
+
+/// `f(..);`, or `R = f(..);`: a call of the runtime on the memory.
+pub fn emit_act(
+    code: &mut Backward,
+    r: Option<u32>,
+    f: MemoryCall,
+    args: &[MonExpr],
+) -> Result<(), AllocError>
+    ensures { OnOk result (code.new ≡ statement_code (Act r f (map plain_expr args.now)) 0 [] ++ code.old) }
+{
+    code.put(result_of(r))?;
+    code.put(Instr::Act(f, args.len()))?;
+    emit_arguments(code, args)
+}
+
+/// `f(..);`, or `R = f(..);`: a call of the function with this number.
+pub fn emit_call(
+    code: &mut Backward,
+    r: Option<u32>,
+    f: u32,
+    args: &[MonExpr],
+) -> Result<(), AllocError>
+    ensures { OnOk result (code.new ≡ statement_code (Call r f (map plain_expr args.now)) 0 [] ++ code.old) }
+{
+    code.put(result_of(r))?;
+    code.put(Instr::Call(f, args.len()))?;
+    emit_arguments(code, args)
 }
 
 /// `exit(e);`

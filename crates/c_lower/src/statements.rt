@@ -12,7 +12,8 @@ use crate::code::Instr;
 use crate::expressions::emit_expression;
 use crate::labels::Labels;
 use crate::simple::{
-    emit_assert, emit_exit, emit_goto, emit_number, emit_put_char, emit_return, emit_set, emit_text,
+    emit_act, emit_assert, emit_call, emit_exit, emit_get_char, emit_goto, emit_number,
+    emit_put_char, emit_return, emit_set, emit_text,
 };
 use mon_syntax::{MonExpr, MonStmt};
 use std::alloc::AllocError;
@@ -56,10 +57,13 @@ fn emit_statement(code: &mut Backward, s: &MonStmt, labels: &Labels<'_>) -> Resu
         MonStmt::Step => code.put(Instr::Step),
         MonStmt::Assert(d, v, number, line, kind) => emit_assert(code, d, v, *number, *line, *kind),
         MonStmt::PutChar(r, e) => emit_put_char(code, *r, e),
+        MonStmt::GetChar(r) => emit_get_char(code, *r),
         MonStmt::Exit(e) => emit_exit(code, e),
         MonStmt::PrintText(text) => emit_text(code, text.bytes()),
         MonStmt::PrintSigned(e) => emit_number(code, e),
         MonStmt::PrintUnsigned(e) => emit_number(code, e),
+        MonStmt::Act(r, f, args) => emit_act(code, *r, *f, args),
+        MonStmt::Call(r, f, args) => emit_call(code, *r, *f, args),
         MonStmt::If(e, a, b) => {
             let end = code.len();
             emit_statements(code, b, labels)?;

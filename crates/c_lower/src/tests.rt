@@ -1,6 +1,6 @@
 use super::*;
 use c_syntax::{Kind, Name};
-use mon_syntax::{MonExpr, MonFunc, MonOp, MonProgram, MonStmt, MonType, Register};
+use mon_syntax::{MemoryCall, MonExpr, MonFunc, MonOp, MonProgram, MonStmt, MonType, Register};
 use std::alloc::{AllocError, Global};
 use std::process::Abort;
 use std::test::*;
@@ -214,6 +214,97 @@ fn other_statements_take_an_instruction_behind_their_operands(
             Instr::Return,
             Instr::Get(1),
             Instr::Return,
+        ],
+    )
+}
+
+fn argument(alloc: Global, e: MonExpr) -> Result<Vec<MonExpr>, AllocError> {
+    let mut args = Vec::new(alloc);
+    args.push(e)?;
+    Ok(args)
+}
+
+#[test]
+fn a_call_takes_its_arguments_from_left_to_right(rt: HostRuntime) -> Result<(), AllocError> {
+    let alloc = rt.alloc();
+    let mut args = argument(alloc, MonExpr::Register(1))?;
+    args.push(int(7))?;
+    let mut body = one(alloc, MonStmt::Call(Some(2), 3, args))?;
+    body.push(MonStmt::Call(None, 0, Vec::new(alloc)))?;
+    gives(
+        &rt,
+        body,
+        &[
+            Instr::Get(1),
+            Instr::Push(7),
+            Instr::Call(3, 2),
+            Instr::Put(2),
+            Instr::Call(0, 0),
+            Instr::Drop,
+        ],
+    )
+}
+
+/// `n = down((n - 1));`, in a function `down` with number 1.
+fn down(alloc: Global) -> Result<Vec<MonStmt>, AllocError> {
+    let less = MonExpr::Binary(
+        MonOp::Sub,
+        MonType::I32,
+        Box::new(alloc, MonExpr::Register(0))?,
+        Box::new(alloc, int(1))?,
+    );
+    one(alloc, MonStmt::Call(Some(0), 1, argument(alloc, less)?))
+}
+
+#[test]
+fn a_function_calls_itself_by_its_number(rt: HostRuntime) -> Result<(), AllocError> {
+    let alloc = rt.alloc();
+    let mut functions = Vec::new(alloc);
+    functions.push(function(alloc, b"main", Vec::new(alloc))?)?;
+    functions.push(function(alloc, b"down", down(alloc)?)?)?;
+    let code = lower(alloc, &MonProgram { functions })?;
+    assert_eq!(rt; code.entries[1].start, 2);
+    assert_eq!(rt;
+        code.instrs.as_slice(),
+        [
+            Instr::Push(0),
+            Instr::Return,
+            Instr::Get(0),
+            Instr::Push(1),
+            Instr::Binary(MonOp::Sub, MonType::I32),
+            Instr::Call(1, 1),
+            Instr::Put(0),
+            Instr::Push(0),
+            Instr::Return,
+        ]
+        .as_slice()
+    );
+    Ok(())
+}
+
+#[test]
+fn input_and_blocks_take_an_instruction(rt: HostRuntime) -> Result<(), AllocError> {
+    let alloc = rt.alloc();
+    let size = argument(alloc, wide(4))?;
+    let mut body = one(alloc, MonStmt::Act(Some(1), MemoryCall::StoreBlock, size))?;
+    body.push(MonStmt::GetChar(Some(2)))?;
+    body.push(MonStmt::GetChar(None))?;
+    let block = argument(alloc, MonExpr::Register(1))?;
+    body.push(MonStmt::Act(None, MemoryCall::DeleteBlock, block))?;
+    gives(
+        &rt,
+        body,
+        &[
+            Instr::Push(4),
+            Instr::Act(MemoryCall::StoreBlock, 1),
+            Instr::Put(1),
+            Instr::GetChar,
+            Instr::Put(2),
+            Instr::GetChar,
+            Instr::Drop,
+            Instr::Get(1),
+            Instr::Act(MemoryCall::DeleteBlock, 1),
+            Instr::Drop,
         ],
     )
 }

@@ -1,9 +1,12 @@
 pub mod Wrapped
 pub mod Bitwise
 pub mod Operands
+pub mod Taken
 pub mod Moves
 pub mod States
 pub mod Writes
+pub mod Acted
+pub mod Stored
 pub mod Calling
 pub mod Kept
 pub mod Courses

@@ -2,7 +2,7 @@
 
 ghost use Rattle.std.specs.Prelude.{◌≡◌, ℕ, ◌+◌, ◌≤◌, ◌<◌, length, take, slice_get, Some, IsTrue, IfOk, IfSome};
 ghost use Rattle.c_lower.specs.Sound.{operands_taken, operands_given, operands_behind, IsEmptyAt, IsSound};
-ghost use Rattle.c_machine.specs.Checked.{JumpsWell, AllJumpWell, AllBegin};
+ghost use Rattle.c_machine.specs.Checked.{CallsWell, JumpsWell, AllJumpWell, AllBegin};
 
 use c_lower::{Code, Entry, Instr};
 use std::alloc::{AllocError, Global};
@@ -12,7 +12,7 @@ fn taken(instr: &Instr) -> usize
     ensures { result ≡ operands_taken instr.now }
 {
     match instr {
-        Instr::Push(_) | Instr::Get(_) => 0,
+        Instr::Push(_) | Instr::Get(_) | Instr::GetChar => 0,
         Instr::Put(_)
         | Instr::Drop
         | Instr::PutNumber
@@ -20,7 +20,7 @@ fn taken(instr: &Instr) -> usize
         | Instr::SkipIfZero(_)
         | Instr::Return => 1,
         Instr::Binary(_, _) | Instr::Assert(_, _, _) => 2,
-        Instr::Call(_, arguments) => *arguments,
+        Instr::Act(_, arguments) | Instr::Call(_, arguments) => *arguments,
         Instr::Extend(_) | Instr::Minus(_) | Instr::Flip(_) | Instr::Cast(_) | Instr::PutChar => 1,
         Instr::PutByte(_) | Instr::GoOn(_) | Instr::GoBack(_) | Instr::Step | Instr::Fail => 0,
     }
@@ -40,6 +40,8 @@ fn given(instr: &Instr) -> usize
         | Instr::Flip(_)
         | Instr::Cast(_)
         | Instr::PutChar
+        | Instr::GetChar
+        | Instr::Act(_, _)
         | Instr::Call(_, _) => 1,
         Instr::Put(_)
         | Instr::Drop
@@ -78,11 +80,25 @@ fn is_empty_at(code: &[Instr], place: usize) -> bool
     place < code.len() && count_behind(&code[..place]) == Some(0)
 }
 
-// Whether the instruction at a place jumps well, if it jumps.
+// Whether the instruction at a place takes all operands, if it is a call.
+fn calls_well(code: &[Instr], place: usize) -> bool
+    requires { place < length code.now }
+    ensures { IsTrue result → CallsWell code.now place }
+{
+    match &code[place] {
+        Instr::Call(_, _) => count_behind(&code[..place + 1]) == Some(1),
+        _ => true,
+    }
+}
+
+// Whether the instruction at a place jumps well, if it jumps, and takes all operands, if it is a call.
 fn jumps_well(code: &[Instr], place: usize) -> bool
     requires { place < length code.now }
     ensures { IsTrue result → JumpsWell code.now place }
 {
+    if !calls_well(code, place) {
+        return false;
+    }
     let to = match &code[place] {
         Instr::SkipIfZero(n) | Instr::GoOn(n) => {
             if *n >= code.len() - place {

@@ -12,7 +12,7 @@ fn behind(instr: &Instr, count: usize) -> usize
     ensures most { result ≤ count + 1 }
 {
     match instr {
-        Instr::Push(_) | Instr::Get(_) => count + 1,
+        Instr::Push(_) | Instr::Get(_) | Instr::GetChar => count + 1,
         Instr::Put(_)
         | Instr::Drop
         | Instr::Binary(_, _)
@@ -21,7 +21,9 @@ fn behind(instr: &Instr, count: usize) -> usize
         | Instr::SkipIfZero(_)
         | Instr::Return => count.saturating_sub(1),
         Instr::Assert(_, _, _) => count.saturating_sub(2),
-        Instr::Call(_, arguments) => count.saturating_sub(*arguments) + 1,
+        Instr::Act(_, arguments) | Instr::Call(_, arguments) => {
+            count.saturating_sub(*arguments) + 1
+        }
         Instr::Extend(_)
         | Instr::Minus(_)
         | Instr::Flip(_)

@@ -2,12 +2,15 @@
 #![tactic(auto)]
 
 mod arithmetic;
+mod blocks;
 mod calls;
 #[cfg(test)]
 mod checked;
 mod depth;
 mod machine;
+mod memory;
 mod quiet;
+mod reading;
 pub mod stop;
 #[cfg(test)]
 mod tests;

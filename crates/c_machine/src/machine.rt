@@ -3,6 +3,8 @@
 ghost use Rattle.std.specs.Prelude.{◌≡◌, ◌+◌, ◌^◌, ◌≤◌, ◌<◌, ◌∷◌, [], length, slice_set, MatchOption};
 ghost use Rattle.c_machine.specs.Held.{from_top, IsFit, Goes};
 
+use crate::memory::Memory;
+
 /// Where a call goes back to, and where the registers of the call that made it begin.
 #[derive(Clone, Copy)]
 pub struct Caller {
@@ -23,7 +25,7 @@ pub struct Cursor {
     pub steps: u64,
 }
 
-/// The operands, the registers and the calls.
+/// The operands, the registers, the calls and the memory.
 #[derive(Drop)]
 pub struct Machine {
     /// Room for operands, the lowest first.
@@ -32,6 +34,8 @@ pub struct Machine {
     pub registers: Vec<i128>,
     /// The calls that wait for another, that of `main` first.
     pub callers: Vec<Caller>,
+    /// The memory, with the frames of the active calls.
+    pub memory: Memory,
     /// How many operands the code of a call needs.
     pub deepest: usize,
     /// Where the machine stands, for an instruction that is done out of line.

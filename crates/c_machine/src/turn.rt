@@ -5,20 +5,24 @@ ghost use Rattle.ea_ports.specs.Buffered.{port_of};
 ghost use Rattle.c_lower.specs.Sound.{target};
 ghost use Rattle.c_machine.specs.Acts.{Acts, ended_by};
 ghost use Rattle.c_machine.specs.Held.{IsFit};
+ghost use Rattle.c_machine.specs.Reading.{feed_of, ports_of};
 
 use crate::machine::{Cursor, Machine};
+use crate::reading::Reader;
 use crate::stop::Stop;
 use c_lower::{Entry, Instr};
-use ea_ports::{Buffer, Sink};
+use ea_ports::{Buffer, Sink, Source};
 
 impl Cursor {
     /// An instruction: it goes on, or says how the run ends.
     #[inline(always)]
-    pub fn turn<O: Sink>(
+    pub fn turn<I: Source, O: Sink>(
         &mut self,
         instr: &Instr,
         entries: &[Entry],
         machine: &mut Machine,
+        reader: &mut Reader,
+        input: &mut I,
         waiting: &mut Buffer,
         out: &mut O,
         stop: &mut Stop,
@@ -26,7 +30,7 @@ impl Cursor {
         requires fit { IsFit self.old machine.old }
         requires place { self.old.place < 2 ^ 63 }
         requires jumps { (to : ℕ) → target self.old.place instr.now ≡ Some to → to < 2 ^ 63 }
-        ensures { Acts entries.now instr.now self.old machine.old self.new machine.new (port_of (O.told out.old) waiting.old (O.faults out.old)) (port_of (O.told out.new) waiting.new (O.faults out.new)) (ended_by result stop.new) }
+        ensures { Acts entries.now instr.now self.old machine.old self.new machine.new (ports_of (feed_of (I.left input.old) (I.faults input.old) reader.old.ended) (port_of (O.told out.old) waiting.old (O.faults out.old))) (ports_of (feed_of (I.left input.new) (I.faults input.new) reader.new.ended) (port_of (O.told out.new) waiting.new (O.faults out.new))) (ended_by result stop.new) }
     {
         match instr {
             Instr::Push(z) => self.push_number(*z, machine, stop),
@@ -42,6 +46,8 @@ impl Cursor {
             Instr::PutChar => self.put_char(machine, waiting, out, stop),
             Instr::PutByte(byte) => self.put_byte(*byte, machine, waiting, out, stop),
             Instr::PutNumber => self.put_number(machine, waiting, out, stop),
+            Instr::GetChar => self.get_char(machine, reader, input, stop),
+            Instr::Act(f, count) => self.act(*f, *count, machine, stop),
             Instr::Exit => self.exit(machine, stop),
             Instr::SkipIfZero(n) => self.skip_if_zero(*n, machine, stop),
             Instr::GoOn(n) => self.go_on(*n, machine, stop),

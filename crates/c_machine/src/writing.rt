@@ -5,6 +5,7 @@ ghost use Rattle.ea_ports.specs.Buffered.{port_of};
 ghost use Rattle.c_lower.specs.declared.code.Entry as entry;
 ghost use Rattle.c_machine.specs.Acts.{Acts, ended_by, stop_of};
 ghost use Rattle.c_machine.specs.Held.{IsFit};
+ghost use Rattle.c_machine.specs.Reading.{Feed, ports_of};
 
 use crate::arithmetic::low_byte;
 use crate::machine::{Cursor, Machine};
@@ -34,7 +35,7 @@ impl Machine {
     ) -> bool
         requires fit { IsFit self.old.cursor self.old }
         requires place { self.old.cursor.place < 2 ^ 63 }
-        ensures { (es : List entry.Entry) → Acts es (Instr.PutByte byte) self.old.cursor self.old self.new.cursor self.new (port_of (O.told out.old) waiting.old (O.faults out.old)) (port_of (O.told out.new) waiting.new (O.faults out.new)) (ended_by result stop.new) }
+        ensures { (es : List entry.Entry) (feed : Feed) → Acts es (Instr.PutByte byte) self.old.cursor self.old self.new.cursor self.new (ports_of feed (port_of (O.told out.old) waiting.old (O.faults out.old))) (ports_of feed (port_of (O.told out.new) waiting.new (O.faults out.new))) (ended_by result stop.new) }
     {
         match waiting.byte(out, byte) {
             Ok(()) => {
@@ -53,7 +54,7 @@ impl Machine {
     pub fn put_char<O: Sink>(&mut self, waiting: &mut Buffer, out: &mut O, stop: &mut Stop) -> bool
         requires fit { IsFit self.old.cursor self.old }
         requires place { self.old.cursor.place < 2 ^ 63 }
-        ensures { (es : List entry.Entry) → Acts es Instr.PutChar self.old.cursor self.old self.new.cursor self.new (port_of (O.told out.old) waiting.old (O.faults out.old)) (port_of (O.told out.new) waiting.new (O.faults out.new)) (ended_by result stop.new) }
+        ensures { (es : List entry.Entry) (feed : Feed) → Acts es Instr.PutChar self.old.cursor self.old self.new.cursor self.new (ports_of feed (port_of (O.told out.old) waiting.old (O.faults out.old))) (ports_of feed (port_of (O.told out.new) waiting.new (O.faults out.new))) (ended_by result stop.new) }
     {
         let mut cursor = self.cursor;
         match cursor.pop(self) {
@@ -88,7 +89,7 @@ impl Machine {
     ) -> bool
         requires fit { IsFit self.old.cursor self.old }
         requires place { self.old.cursor.place < 2 ^ 63 }
-        ensures { (es : List entry.Entry) → Acts es Instr.PutNumber self.old.cursor self.old self.new.cursor self.new (port_of (O.told out.old) waiting.old (O.faults out.old)) (port_of (O.told out.new) waiting.new (O.faults out.new)) (ended_by result stop.new) }
+        ensures { (es : List entry.Entry) (feed : Feed) → Acts es Instr.PutNumber self.old.cursor self.old self.new.cursor self.new (ports_of feed (port_of (O.told out.old) waiting.old (O.faults out.old))) (ports_of feed (port_of (O.told out.new) waiting.new (O.faults out.new))) (ended_by result stop.new) }
     {
         let mut cursor = self.cursor;
         match cursor.pop(self) {
@@ -128,7 +129,7 @@ impl Cursor {
     ) -> bool
         requires fit { IsFit self.old machine.old }
         requires place { self.old.place < 2 ^ 63 }
-        ensures { (es : List entry.Entry) → Acts es (Instr.PutByte byte) self.old machine.old self.new machine.new (port_of (O.told out.old) waiting.old (O.faults out.old)) (port_of (O.told out.new) waiting.new (O.faults out.new)) (ended_by result stop.new) }
+        ensures { (es : List entry.Entry) (feed : Feed) → Acts es (Instr.PutByte byte) self.old machine.old self.new machine.new (ports_of feed (port_of (O.told out.old) waiting.old (O.faults out.old))) (ports_of feed (port_of (O.told out.new) waiting.new (O.faults out.new))) (ended_by result stop.new) }
     {
         machine.cursor = *self;
         let goes_on = machine.put_byte(byte, waiting, out, stop);
@@ -147,7 +148,7 @@ impl Cursor {
     ) -> bool
         requires fit { IsFit self.old machine.old }
         requires place { self.old.place < 2 ^ 63 }
-        ensures { (es : List entry.Entry) → Acts es Instr.PutChar self.old machine.old self.new machine.new (port_of (O.told out.old) waiting.old (O.faults out.old)) (port_of (O.told out.new) waiting.new (O.faults out.new)) (ended_by result stop.new) }
+        ensures { (es : List entry.Entry) (feed : Feed) → Acts es Instr.PutChar self.old machine.old self.new machine.new (ports_of feed (port_of (O.told out.old) waiting.old (O.faults out.old))) (ports_of feed (port_of (O.told out.new) waiting.new (O.faults out.new))) (ended_by result stop.new) }
     {
         machine.cursor = *self;
         let goes_on = machine.put_char(waiting, out, stop);
@@ -166,7 +167,7 @@ impl Cursor {
     ) -> bool
         requires fit { IsFit self.old machine.old }
         requires place { self.old.place < 2 ^ 63 }
-        ensures { (es : List entry.Entry) → Acts es Instr.PutNumber self.old machine.old self.new machine.new (port_of (O.told out.old) waiting.old (O.faults out.old)) (port_of (O.told out.new) waiting.new (O.faults out.new)) (ended_by result stop.new) }
+        ensures { (es : List entry.Entry) (feed : Feed) → Acts es Instr.PutNumber self.old machine.old self.new machine.new (ports_of feed (port_of (O.told out.old) waiting.old (O.faults out.old))) (ports_of feed (port_of (O.told out.new) waiting.new (O.faults out.new))) (ended_by result stop.new) }
     {
         machine.cursor = *self;
         let goes_on = machine.put_number(waiting, out, stop);

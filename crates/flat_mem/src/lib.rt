@@ -113,12 +113,11 @@ impl FlatMem {
         Ok(())
     }
 
-    /// The end of an active call.
+    /// The end of an active call, where there is one.
     pub fn leave_frame(&mut self)
-        requires { 0 < self.old.frames }
         ensures { self.new ≡ left self.old }
     {
-        self.frames -= 1;
+        self.frames = self.frames.saturating_sub(1);
     }
 }
 

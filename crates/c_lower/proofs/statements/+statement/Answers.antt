@@ -11,9 +11,9 @@ pub emit_statement-returns-in_ok-emit_statements-in-If-2 : goal.emit_statement-r
 emit_statement-returns-in_ok-emit_statements-in-If-2 t c =
     let old = c.args.code.now in
     let ls = open_labels c.args.labels.now in
-    let second = c.in_ok-emit_statements-in-If.ensures ∙ ap (λ l. statements_code (plain_stmts l) (length old) ls ++ old) c.deref.ensures.value in
+    let second = c.in_ok-emit_statements-in-If.ensures ∙ ap (λ l. statements_code (plain_stmts l) (length old) ls ++ old) c.deref-in-If.ensures.value in
     let middle = c.pass_since.new.code in
-    let first = c.in_ok-emit_statements-in-If-2.ensures ∙ ap (λ l. statements_code (plain_stmts l) (length middle) ls ++ middle) c.deref-in-If.ensures.value in
+    let first = c.in_ok-emit_statements-in-If-2.ensures ∙ ap (λ l. statements_code (plain_stmts l) (length middle) ls ++ middle) c.deref-in-If-2.ensures.value in
     let w = if_written c.in-If.e c.in-If.a c.in-If.b ls old c.emit_statements.new.code middle c.emit_statements-in-If.new.code c.len-end.result
     c.len-middle.result c.len-end.ensures second c.in_ok-pass_since-in-If.ensures c.len-middle.ensures first in
     subst (λ z. OnOk c.emit_test.result (c.emit_test.new.code ≡ z)) (w ∙ ap (λ s. in_front (plain_stmt s) ls old) (sym c.in-If.is)) c.emit_test.ensures

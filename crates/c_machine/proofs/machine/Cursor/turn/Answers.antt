@@ -1,7 +1,10 @@
-use Rattle.std.proofs.Common.{rules, FitsSigned, ◌+◌, ap}
+use Rattle.std.proofs.Common.{rules, FitsSigned, ◌+◌, refl, ap}
 use Rattle.std.specs.Int.{w64}
 use Rattle.std.proofs.lemmas.Int.{to_z-of_z}
 use Rattle.c_lower.specs.Sound.{target}
+use Rattle.c_lower.specs.declared.code.Instr.TheVariants as instr
+use Rattle.c_model.specs.State.{Fault}
+use Rattle.c_machine.proofs.Moves.{halts_by}
 use Rattle.c_machine.proofs.machine.Cursor.turn.Goals as goal
 
 pub skip_if_zero-requires-clause-place : goal.skip_if_zero-requires-clause-place
@@ -58,16 +61,25 @@ pub returns-in-Step : goal.returns-in-Step
 returns-in-Step g c = rw c.in-Step.is (c.step.ensures c.args.entries.now _)
 
 pub returns-in-PutChar : goal.returns-in-PutChar
-returns-in-PutChar g c = rw c.in-PutChar.is (c.put_char.ensures c.args.entries.now)
+returns-in-PutChar g c = rw c.in-PutChar.is (c.put_char.ensures c.args.entries.now _)
 
 pub returns-in-PutByte : goal.returns-in-PutByte
-returns-in-PutByte g c = rw c.in-PutByte.is (c.put_byte.ensures c.args.entries.now)
+returns-in-PutByte g c = rw c.in-PutByte.is (c.put_byte.ensures c.args.entries.now _)
 
 pub returns-in-PutNumber : goal.returns-in-PutNumber
-returns-in-PutNumber g c = rw c.in-PutNumber.is (c.put_number.ensures c.args.entries.now)
+returns-in-PutNumber g c = rw c.in-PutNumber.is (c.put_number.ensures c.args.entries.now _)
 
 pub returns-in-Call : goal.returns-in-Call
 returns-in-Call g c = rw c.in-Call.is (c.call.ensures _)
 
 pub returns-in-Return : goal.returns-in-Return
 returns-in-Return g c = rw c.in-Return.is (c.give_back.ensures _)
+
+pub returns-in-GetChar : goal.returns-in-GetChar
+returns-in-GetChar g c = rw c.in-GetChar.is (c.get_char.ensures c.args.entries.now _)
+
+pub returns-in-Act : goal.returns-in-Act
+returns-in-Act g c = rw c.in-Act.is (c.act.ensures c.args.entries.now _)
+
+pub returns-in-Fail : goal.returns-in-Fail
+returns-in-Fail g c = rw c.in-Fail.is (halts_by c.args.entries.now instr.Fail c.args.self.now c.args.machine.now Fault c.args.self.now.steps (λ input next. refl) _)

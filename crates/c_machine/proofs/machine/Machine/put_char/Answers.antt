@@ -12,14 +12,14 @@ use Rattle.c_machine.proofs.Writes.{writes_by, cut_by, char_written}
 use Rattle.c_machine.proofs.machine.Machine.put_char.Goals as goal
 
 pub returns-in-Ok : goal.returns-in-Ok
-returns-in-Ok g c es =
+returns-in-Ok g c es feed =
     let m = c.args.self.now in
     let z = c.in-Some.z in
     let below = from_top c.pop.new.self.height m.operands.items in
     let fz : FitsSigned w128 z = search rules in
     let ff : FitsSigned w128 c.from.result = search rules in
     let byte : c.low_byte-byte.result ≡ byte_of z = c.low_byte-byte.ensures ∙ ap byte_of (to_z-of_z w128 z fz) in
-    writes_by es instr.PutChar m.cursor m (c.low_byte-byte.result ∷ []) _ _ (pos (byte_of z) ∷ below) _ _ refl
+    writes_by es instr.PutChar m.cursor m (c.low_byte-byte.result ∷ []) feed _ _ (pos (byte_of z) ∷ below) _ _ refl
     (λ input next. char_written (machine_of m.cursor m input) next es z c.low_byte-byte.result below c.in-Some.ensures.top byte)
     (goes_after m.cursor c.pop.new.self m _ _ (pos (byte_of z) ∷ below) c.in-Some.ensures.others
     (goes_kept c.pop.new.self m c.give.new.self c.give.new.machine (pos (byte_of z) ∷ below) _
@@ -27,7 +27,7 @@ returns-in-Ok g c es =
     c.in-Ok.ensures
 
 pub returns-in-Err : goal.returns-in-Err
-returns-in-Err g c es =
+returns-in-Err g c es feed =
     let m = c.args.self.now in
     let z = c.in-Some.z in
     let below = from_top c.pop.new.self.height m.operands.items in
@@ -35,6 +35,6 @@ returns-in-Err g c es =
     let byte : c.low_byte-byte.result ≡ byte_of z = c.low_byte-byte.ensures ∙ ap byte_of (to_z-of_z w128 z fz) in
     let port = port_of (g.O.Sink.told c.args.out.now) c.args.waiting.now (g.O.Sink.faults c.args.out.now) in
     let port' = port_of (g.O.Sink.told c.byte.new.out) c.byte.new.self (g.O.Sink.faults c.byte.new.out) in
-    rw c.refused.ensures (cut_by es instr.PutChar m.cursor m (c.low_byte-byte.result ∷ []) m.cursor m
+    rw c.refused.ensures (cut_by es instr.PutChar m.cursor m (c.low_byte-byte.result ∷ []) feed m.cursor m
     (λ input next. next (on_with over_flat (machine_of m.cursor m input) (pos (byte_of z) ∷ below))) port port' c.in-Err.fault
     (λ input next. char_written (machine_of m.cursor m input) next es z c.low_byte-byte.result below c.in-Some.ensures.top byte) c.in-Err.ensures)
