@@ -1,9 +1,8 @@
 -- Functions one after another, each with a name of its own.
-use Rattle.std.proofs.Common.{◌≡◌, ℕ, suc, ◌+◌, ◌<◌, ◌≤◌, Bool, true, false, not, ◌&&◌, ◌||◌, cond, eqb, List, [], ◌∷◌, ◌++◌, length, take, drop, get_or, map, reverse, nat_eq, Ok, Err, refl, sym, ap, subst, ◌∙◌, append_assoc, drop-cons, add-one, arith}
-use Rattle.std.proofs.lemmas.List.{append-nil, map-append, drop_all, length-map, length-take, take-append-drop}
+use Rattle.std.proofs.Common.{◌≡◌, ℕ, suc, ◌+◌, ◌<◌, Bool, true, false, not, ◌&&◌, ◌||◌, cond, List, [], ◌∷◌, ◌++◌, length, take, drop, get_or, map, reverse, nat_eq, Ok, Err, refl, sym, ap, ◌∙◌, append_assoc, drop-cons, add-one, arith}
+use Rattle.std.proofs.lemmas.List.{map-append, length-map, length-take, take-append-drop}
 use Rattle.std.proofs.Math.Seq.{take-suc}
 use Rattle.std.specs.List.{list_any}
-use Rattle.c_syntax.specs.declared.place.Place.{Place}
 use Rattle.mon_syntax.specs.declared.tree.MonFunc.{MonFunc}
 use Rattle.mon_syntax.specs.Trees as tree
 use Rattle.mon_syntax.specs.Trees.{MonFunction, MonitoredProgram}

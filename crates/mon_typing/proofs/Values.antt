@@ -1,17 +1,16 @@
 -- The values of a call's arguments, one after another.
-use Rattle.std.proofs.Common.{◌≡◌, ℕ, ◌+◌, ◌<◌, ◌≤◌, List, [], ◌∷◌, ◌++◌, length, drop, get_or, Ok, Err, refl, sym, ap, ◌∙◌, append_assoc, drop-cons, add-one}
-use Rattle.std.proofs.lemmas.List.{drop_all, append-nil}
+use Rattle.std.proofs.Common.{◌≡◌, ℕ, ◌+◌, ◌<◌, List, [], ◌∷◌, ◌++◌, length, drop, get_or, Ok, Err, refl, sym, ap, ◌∙◌, append_assoc, drop-cons, add-one}
 use Rattle.c_syntax.specs.declared.place.Place.{Place}
 use Rattle.mon_syntax.specs.declared.tree.MonType.{MonType}
 use Rattle.mon_syntax.specs.declared.tree.MonType.TheVariants.{I8}
 use Rattle.mon_syntax.specs.Trees.{MonExpression}
 use Rattle.mon_syntax.specs.Valid.{Types}
 use Rattle.mon_syntax.specs.Parsed.{ParsedArgument}
-use Rattle.mon_syntax.specs.Checking.{Scope, Checked, ◌>>=◌, value_of_type, no_more, arguments_of}
+use Rattle.mon_syntax.specs.Checking.{Scope, Checked, ◌>>=◌, value_of_type, arguments_of}
 use Rattle.mon_typing.specs.declared.fault.CheckFault.{CheckFault}
 use Rattle.mon_typing.specs.Answers.{Fails}
 use Rattle.mon_typing.specs.Arguments.{first_of}
-use Rattle.mon_typing.proofs.Parts.{takes, fails_at, fails_after, fails_along, more_fails, none_more}
+use Rattle.mon_typing.proofs.Parts.{takes, fails_at, fails_after, fails_along}
 
 abbrev Arguments : Type 0
 Arguments = List ParsedArgument

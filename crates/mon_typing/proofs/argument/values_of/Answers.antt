@@ -1,7 +1,6 @@
 use Rattle.std.proofs.Common.{rules, ◌≡◌, map, ◌∷◌, [], Err, ap, ◌∙◌}
 use Rattle.std.proofs.lemmas.List.{map-append}
 use Rattle.mon_syntax.specs.Trees.{plain_expr}
-use Rattle.mon_syntax.specs.Checking.{arguments_of}
 use Rattle.mon_parser.specs.ParsedTrees.{plain_arg}
 use Rattle.mon_typing.specs.Scopes.{plain_scope}
 use Rattle.mon_typing.proofs.Values.{no_type, next_value, value_fails}

@@ -1,4 +1,4 @@
-use Rattle.std.proofs.Common.{rules, ◌≡◌, ◌∙◌, true, false}
+use Rattle.std.proofs.Common.{rules, ◌∙◌}
 use Rattle.mon_typing.proofs.Headers.{noted_new, noted_old}
 use Rattle.mon_typing.proofs.header.note.Goals as goal
 

@@ -1,5 +1,5 @@
 use Rattle.std.proofs.Common.{rules, arith}
-use Rattle.mon_typing.proofs.Headers.{first_within, first_is, first_none}
+use Rattle.mon_typing.proofs.Headers.{first_within, first_is}
 use Rattle.mon_typing.proofs.header.Functions.find.Goals as goal
 
 pub index-requires : goal.index-requires

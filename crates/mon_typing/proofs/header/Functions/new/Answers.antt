@@ -1,4 +1,4 @@
-use Rattle.std.proofs.Common.{rules, ◌≡◌, ◌∷◌, ◌++◌, [], ap, sym, ◌∙◌, length, length-append, arith}
+use Rattle.std.proofs.Common.{rules, ◌≡◌, ◌∷◌, [], ap, sym, ◌∙◌, length, length-append, arith}
 use Rattle.mon_syntax.specs.Checking.{Header}
 use Rattle.mon_typing.specs.Headers.{with_first}
 use Rattle.mon_typing.proofs.Headers.{next_first, next_headers}
