@@ -16,7 +16,7 @@ use Rattle.mon_syntax.specs.declared.tree.MonType.{MonType}
 use Rattle.mon_syntax.specs.declared.tree.MonOp.{MonOp}
 use Rattle.mon_syntax.specs.Names.{constant_word, type_word}
 use Rattle.mon_syntax.specs.Trees.{MonExpression, Constant, Binary, Minus, Flip, Cast, Set, Assert, Return, PutChar, If, Loop, Labelled, MonStatements, MonRegister, MonFunction, plain_expr, plain_stmt, plain_stmts, plain_register, plain_func}
-use Rattle.mon_syntax.specs.Text.{Piece, Word, Mark, escaped, is_plain, Registers, Quoted, blank, body_pieces, new_line, right_paren, statements_pieces, registers_pieces, more_parameters, function_pieces, functions_pieces, assert_arguments, call_pieces, expression_pieces, name_of, number_pieces, operator_mark, parameter_pieces, parameters_pieces, result_word, in_parens, semicolon, set_pieces, spelled, spelled_piece, statement_pieces}
+use Rattle.mon_syntax.specs.Text.{Piece, FunctionNames, arguments_pieces, more_arguments, set_or_none, Word, Mark, escaped, is_plain, Registers, Quoted, blank, body_pieces, new_line, right_paren, statements_pieces, registers_pieces, more_parameters, function_pieces, functions_pieces, assert_arguments, call_pieces, expression_pieces, name_of, number_pieces, operator_mark, parameter_pieces, parameters_pieces, result_word, in_parens, semicolon, set_pieces, spelled, spelled_piece, statement_pieces}
 use Rattle.std.specs.Prelude.{Vec, Option, option_map}
 use Rattle.std.specs.declared.alloc.Global.{Global}
 use Rattle.mon_syntax.specs.declared.tree.MonStmt as code
@@ -58,19 +58,40 @@ cast_text rs t a = ap (λ l. 40 ∷ 40 ∷ (type_word t ++ (41 ∷ l))) (spelled
 pub at_expression : (rs : Registers) (e x : MonExpr) {bytes : List ℕ} → e ≡ x → text rs (plain_expr x) ≡ bytes → text rs (plain_expr e) ≡ bytes
 at_expression rs e x same is = ap (λ y. text rs (plain_expr y)) same ∙ is
 
-pub assignment_text : (rs : Registers) (r : ℕ) (e : MonExpression) → spelled (statement_pieces rs 0 (Set r e)) ≡ spelled (set_pieces (name_of rs r)) ++ (text rs e ++ codes ";")
+pub assignment_text : (rs : Registers) (r : ℕ) (e : MonExpression) → spelled (statement_pieces [] rs 0 (Set r e)) ≡ spelled (set_pieces (name_of rs r)) ++ (text rs e ++ codes ";")
 assignment_text rs r e =
     spelled_append (set_pieces (name_of rs r)) (expression_pieces rs e ++ (semicolon ∷ [])) ∙ ap (λ l. spelled (set_pieces (name_of rs r)) ++ l) (spelled_append (expression_pieces rs e) (semicolon ∷ []))
 
 pub call_text : (callee : List ℕ) (rs : Registers) (e : MonExpression) → spelled (call_pieces callee (expression_pieces rs e)) ≡ callee ++ (codes "(" ++ (text rs e ++ codes ");"))
 call_text callee rs e = ap (λ l. callee ++ (40 ∷ l)) (spelled_append (expression_pieces rs e) _)
 
+-- the arguments of a call
+pub no_arguments_text : (rs : Registers) (l : List MonExpr) → length l < 1 → spelled (arguments_pieces rs (map plain_expr l)) ≡ []
+no_arguments_text rs [] none = refl
+no_arguments_text rs (e ∷ rest) none = absurd (omega (arith, none))
+
+pub arguments_text : (rs : Registers) (l : List MonExpr) (first : MonExpr) → 1 ≤ length l → first ≡ get_or l 0 first → spelled (arguments_pieces rs (map plain_expr l)) ≡ text rs (plain_expr first) ++ spelled (more_arguments rs (map plain_expr (take (length l - 1) (drop 1 l))))
+arguments_text rs [] first some same = absurd (omega (arith, some))
+arguments_text rs (e ∷ rest) first some same =
+    let count : length (e ∷ rest) - 1 ≡ length rest = omega arith in
+    let others : take (length (e ∷ rest) - 1) rest ≡ rest = ap (λ n. take n rest) count ∙ take-length rest in
+    spelled_append (expression_pieces rs (plain_expr e)) (more_arguments rs (map plain_expr rest))
+    ∙ ap (λ x. text rs (plain_expr x) ++ spelled (more_arguments rs (map plain_expr rest))) (sym same)
+    ∙ ap (λ x. text rs (plain_expr first) ++ spelled (more_arguments rs (map plain_expr x))) (sym others)
+
+pub arguments_each : (rs : Registers) (e : MonExpr) (rest : List MonExpr) → spelled (more_arguments rs (map plain_expr (e ∷ rest))) ≡ (codes ", " ++ text rs (plain_expr e)) ++ spelled (more_arguments rs (map plain_expr rest))
+arguments_each rs e rest = ap (λ l. 44 ∷ 32 ∷ l) (spelled_append (expression_pieces rs (plain_expr e)) (more_arguments rs (map plain_expr rest)))
+
+pub call_with_text : (rs : Registers) (r : Option ℕ) (callee : List ℕ) (arguments : List Piece) → spelled (set_or_none rs r ++ call_pieces callee arguments) ≡ spelled (set_or_none rs r) ++ (callee ++ (codes "(" ++ (spelled arguments ++ codes ");")))
+call_with_text rs r callee arguments =
+    spelled_append (set_or_none rs r) (call_pieces callee arguments) ∙ ap (λ l. spelled (set_or_none rs r) ++ (callee ++ (40 ∷ l))) (spelled_append arguments (right_paren ∷ semicolon ∷ []))
+
 -- the last arguments of an assertion
 abbrev end_text : ℕ → ℕ → Kind → List ℕ
 end_text number line kind =
     decimal number ++ (codes ", " ++ (decimal line ++ (codes ", " ++ (spelled_piece (Quoted (kind_word kind)) ++ codes ");"))))
 
-pub assertion_text : (rs : Registers) (d v : MonExpression) (number line : ℕ) (kind : Kind) → spelled (statement_pieces rs 0 (Assert d v number line kind)) ≡ codes "__e_acsl_assert(" ++ (text rs d ++ (codes ", " ++ (text rs v ++ (codes ", " ++ end_text number line kind))))
+pub assertion_text : (rs : Registers) (d v : MonExpression) (number line : ℕ) (kind : Kind) → spelled (statement_pieces [] rs 0 (Assert d v number line kind)) ≡ codes "__e_acsl_assert(" ++ (text rs d ++ (codes ", " ++ (text rs v ++ (codes ", " ++ end_text number line kind))))
 assertion_text rs d v number line kind = ap (λ l. codes "__e_acsl_assert(" ++ l) (spelled_append (assert_arguments rs d v number line (kind_word kind)) _ ∙ ap (λ l. l ++ codes ");") arguments ∙ behind)
   where
     arguments : spelled (assert_arguments rs d v number line (kind_word kind)) ≡ text rs d ++ (codes ", " ++ (text rs v ++ (codes ", " ++ (decimal number ++ (codes ", " ++ (decimal line ++ (codes ", " ++ (spelled_piece (Quoted (kind_word kind)) ++ []))))))))
@@ -82,108 +103,108 @@ assertion_text rs d v number line kind = ap (λ l. codes "__e_acsl_assert(" ++ l
 pub register_text : (r : MonRegister) → spelled (parameter_pieces r) ≡ type_word r.kind ++ (codes " " ++ r.name)
 register_text r = ap (λ l. type_word r.kind ++ (32 ∷ l)) (append-nil r.name)
 
-pub return_text : (rs : Registers) (e : MonExpression) → spelled (statement_pieces rs 0 (Return (Some e))) ≡ codes "return " ++ (text rs e ++ codes ";")
+pub return_text : (rs : Registers) (e : MonExpression) → spelled (statement_pieces [] rs 0 (Return (Some e))) ≡ codes "return " ++ (text rs e ++ codes ";")
 return_text rs e = ap (λ l. codes "return " ++ l) (spelled_append (expression_pieces rs e) (semicolon ∷ []))
 
-pub at_return : (rs : Registers) (value : Option MonExpr) (e : MonExpr) → value ≡ Some e → spelled (statement_pieces rs 0 (Return (option_map plain_expr value))) ≡ codes "return " ++ (text rs (plain_expr e) ++ codes ";")
-at_return rs value e same = ap (λ v. spelled (statement_pieces rs 0 (Return (option_map plain_expr v)))) same ∙ return_text rs (plain_expr e)
+pub at_return : (rs : Registers) (value : Option MonExpr) (e : MonExpr) → value ≡ Some e → spelled (statement_pieces [] rs 0 (Return (option_map plain_expr value))) ≡ codes "return " ++ (text rs (plain_expr e) ++ codes ";")
+at_return rs value e same = ap (λ v. spelled (statement_pieces [] rs 0 (Return (option_map plain_expr v)))) same ∙ return_text rs (plain_expr e)
 
-put_text : (rs : Registers) (r : ℕ) (e : MonExpression) → spelled (statement_pieces rs 0 (PutChar (Some r) e)) ≡ spelled (set_pieces (name_of rs r)) ++ spelled (call_pieces (codes "putchar") (expression_pieces rs e))
+put_text : (rs : Registers) (r : ℕ) (e : MonExpression) → spelled (statement_pieces [] rs 0 (PutChar (Some r) e)) ≡ spelled (set_pieces (name_of rs r)) ++ spelled (call_pieces (codes "putchar") (expression_pieces rs e))
 put_text rs r e = spelled_append (set_pieces (name_of rs r)) (call_pieces (codes "putchar") (expression_pieces rs e))
 
-pub at_put : (rs : Registers) (o : Option ℕ) (r : ℕ) (e : MonExpression) → o ≡ Some r → spelled (statement_pieces rs 0 (PutChar o e)) ≡ spelled (set_pieces (name_of rs r)) ++ spelled (call_pieces (codes "putchar") (expression_pieces rs e))
-at_put rs o r e same = ap (λ x. spelled (statement_pieces rs 0 (PutChar x e))) same ∙ put_text rs r e
+pub at_put : (rs : Registers) (o : Option ℕ) (r : ℕ) (e : MonExpression) → o ≡ Some r → spelled (statement_pieces [] rs 0 (PutChar o e)) ≡ spelled (set_pieces (name_of rs r)) ++ spelled (call_pieces (codes "putchar") (expression_pieces rs e))
+at_put rs o r e same = ap (λ x. spelled (statement_pieces [] rs 0 (PutChar x e))) same ∙ put_text rs r e
 
 in_parens_text : (inner behind : List Piece) → spelled ((inner ++ (right_paren ∷ [])) ++ behind) ≡ spelled inner ++ (41 ∷ spelled behind)
 in_parens_text inner behind =
     spelled_append (inner ++ (right_paren ∷ [])) behind ∙ ap (λ l. l ++ spelled behind) (spelled_append inner (right_paren ∷ [])) ∙ append_assoc (spelled inner) (41 ∷ []) (spelled behind)
 
-pub if_text : (rs : Registers) (depth : ℕ) (e : MonExpression) (a b : MonStatements) → spelled (statement_pieces rs depth (If e a b)) ≡ codes "if (" ++ (text rs e ++ (codes ") " ++ (spelled (body_pieces rs depth a) ++ (codes " else " ++ spelled (body_pieces rs depth b)))))
-if_text rs depth e a b =
-    let otherwise : List Piece = blank ∷ Word (codes "else") ∷ blank ∷ body_pieces rs depth b in
-    ap (λ l. codes "if (" ++ l) (in_parens_text (expression_pieces rs e) (blank ∷ (body_pieces rs depth a ++ otherwise)) ∙ ap (λ l. text rs e ++ (41 ∷ 32 ∷ l)) (spelled_append (body_pieces rs depth a) otherwise))
+pub if_text : (gs : FunctionNames) (rs : Registers) (depth : ℕ) (e : MonExpression) (a b : MonStatements) → spelled (statement_pieces gs rs depth (If e a b)) ≡ codes "if (" ++ (text rs e ++ (codes ") " ++ (spelled (body_pieces gs rs depth a) ++ (codes " else " ++ spelled (body_pieces gs rs depth b)))))
+if_text gs rs depth e a b =
+    let otherwise : List Piece = blank ∷ Word (codes "else") ∷ blank ∷ body_pieces gs rs depth b in
+    ap (λ l. codes "if (" ++ l) (in_parens_text (expression_pieces rs e) (blank ∷ (body_pieces gs rs depth a ++ otherwise)) ∙ ap (λ l. text rs e ++ (41 ∷ 32 ∷ l)) (spelled_append (body_pieces gs rs depth a) otherwise))
 
-pub loop_text : (rs : Registers) (depth : ℕ) (a b : MonStatements) → spelled (statement_pieces rs depth (Loop a b)) ≡ codes "while (1) {" ++ (spelled (statements_pieces rs (depth + 1) a) ++ (spelled_piece (new_line (depth + 1)) ++ (codes "__e_acsl_step();" ++ (spelled (statements_pieces rs (depth + 1) b) ++ (spelled_piece (new_line depth) ++ codes "}")))))
-loop_text rs depth a b =
+pub loop_text : (gs : FunctionNames) (rs : Registers) (depth : ℕ) (a b : MonStatements) → spelled (statement_pieces gs rs depth (Loop a b)) ≡ codes "while (1) {" ++ (spelled (statements_pieces gs rs (depth + 1) a) ++ (spelled_piece (new_line (depth + 1)) ++ (codes "__e_acsl_step();" ++ (spelled (statements_pieces gs rs (depth + 1) b) ++ (spelled_piece (new_line depth) ++ codes "}")))))
+loop_text gs rs depth a b =
     let end : List Piece = new_line depth ∷ Mark (codes "}") ∷ [] in
-    let step : List Piece = new_line (depth + 1) ∷ (call_pieces (codes "__e_acsl_step") [] ++ (statements_pieces rs (depth + 1) b ++ end)) in
+    let step : List Piece = new_line (depth + 1) ∷ (call_pieces (codes "__e_acsl_step") [] ++ (statements_pieces gs rs (depth + 1) b ++ end)) in
     let one : decimal 1 ≡ 49 ∷ [] = decimal_digit 1 (omega arith) in
-    ap (λ n. codes "while (" ++ (n ++ (41 ∷ 32 ∷ 123 ∷ spelled (statements_pieces rs (depth + 1) a ++ step)))) one
-    ∙ ap (λ l. codes "while (1) {" ++ l) (spelled_append (statements_pieces rs (depth + 1) a) step
-    ∙ ap (λ l. spelled (statements_pieces rs (depth + 1) a) ++ (spelled_piece (new_line (depth + 1)) ++ (codes "__e_acsl_step();" ++ l))) (spelled_append (statements_pieces rs (depth + 1) b) end))
+    ap (λ n. codes "while (" ++ (n ++ (41 ∷ 32 ∷ 123 ∷ spelled (statements_pieces gs rs (depth + 1) a ++ step)))) one
+    ∙ ap (λ l. codes "while (1) {" ++ l) (spelled_append (statements_pieces gs rs (depth + 1) a) step
+    ∙ ap (λ l. spelled (statements_pieces gs rs (depth + 1) a) ++ (spelled_piece (new_line (depth + 1)) ++ (codes "__e_acsl_step();" ++ l))) (spelled_append (statements_pieces gs rs (depth + 1) b) end))
 
-pub labelled_text : (rs : Registers) (depth : ℕ) (a : MonStatements) (label : List ℕ) → spelled (statement_pieces rs depth (Labelled a label)) ≡ spelled (body_pieces rs depth a) ++ (codes " " ++ (label ++ codes ": ;"))
-labelled_text rs depth a label =
-    spelled_append (body_pieces rs depth a) (blank ∷ Word label ∷ Mark (codes ":") ∷ blank ∷ semicolon ∷ [])
+pub labelled_text : (gs : FunctionNames) (rs : Registers) (depth : ℕ) (a : MonStatements) (label : List ℕ) → spelled (statement_pieces gs rs depth (Labelled a label)) ≡ spelled (body_pieces gs rs depth a) ++ (codes " " ++ (label ++ codes ": ;"))
+labelled_text gs rs depth a label =
+    spelled_append (body_pieces gs rs depth a) (blank ∷ Word label ∷ Mark (codes ":") ∷ blank ∷ semicolon ∷ [])
 
-body_cons_text : (rs : Registers) (depth : ℕ) (s : MonStmt) (rest : List MonStmt) → spelled (body_pieces rs depth (plain_stmts (s ∷ rest))) ≡ codes "{" ++ (spelled (statements_pieces rs (depth + 1) (plain_stmts (s ∷ rest))) ++ (spelled_piece (new_line depth) ++ codes "}"))
-body_cons_text rs depth s rest =
+body_cons_text : (gs : FunctionNames) (rs : Registers) (depth : ℕ) (s : MonStmt) (rest : List MonStmt) → spelled (body_pieces gs rs depth (plain_stmts (s ∷ rest))) ≡ codes "{" ++ (spelled (statements_pieces gs rs (depth + 1) (plain_stmts (s ∷ rest))) ++ (spelled_piece (new_line depth) ++ codes "}"))
+body_cons_text gs rs depth s rest =
     let end : List Piece = new_line depth ∷ Mark (codes "}") ∷ [] in
-    let first : List Piece = statement_pieces rs (depth + 1) (plain_stmt s) in
-    let others : List Piece = statements_pieces rs (depth + 1) (plain_stmts rest) in
+    let first : List Piece = statement_pieces gs rs (depth + 1) (plain_stmt s) in
+    let others : List Piece = statements_pieces gs rs (depth + 1) (plain_stmts rest) in
     ap (λ l. 123 ∷ spelled (new_line (depth + 1) ∷ l)) (sym (append_assoc first others end)) ∙ ap (λ l. 123 ∷ l) (spelled_append (new_line (depth + 1) ∷ (first ++ others)) end)
 
-pub body_text : (rs : Registers) (depth : ℕ) (l : List MonStmt) → 0 < length l → spelled (body_pieces rs depth (plain_stmts l)) ≡ codes "{" ++ (spelled (statements_pieces rs (depth + 1) (plain_stmts l)) ++ (spelled_piece (new_line depth) ++ codes "}"))
-body_text rs depth [] some = absurd (omega (arith, some))
-body_text rs depth (s ∷ rest) some = body_cons_text rs depth s rest
+pub body_text : (gs : FunctionNames) (rs : Registers) (depth : ℕ) (l : List MonStmt) → 0 < length l → spelled (body_pieces gs rs depth (plain_stmts l)) ≡ codes "{" ++ (spelled (statements_pieces gs rs (depth + 1) (plain_stmts l)) ++ (spelled_piece (new_line depth) ++ codes "}"))
+body_text gs rs depth [] some = absurd (omega (arith, some))
+body_text gs rs depth (s ∷ rest) some = body_cons_text gs rs depth s rest
 
-pub no_body_text : (rs : Registers) (depth : ℕ) (l : List MonStmt) → length l ≡ 0 → spelled (body_pieces rs depth (plain_stmts l)) ≡ codes "{ }"
-no_body_text rs depth [] none = refl
-no_body_text rs depth (s ∷ rest) none = absurd (omega (arith, none))
+pub no_body_text : (gs : FunctionNames) (rs : Registers) (depth : ℕ) (l : List MonStmt) → length l ≡ 0 → spelled (body_pieces gs rs depth (plain_stmts l)) ≡ codes "{ }"
+no_body_text gs rs depth [] none = refl
+no_body_text gs rs depth (s ∷ rest) none = absurd (omega (arith, none))
 
 -- ---- the text of a statement that is known
 
-abbrev pub statement_text : Registers → ℕ → MonStmt → List ℕ
-statement_text rs depth s = spelled (statement_pieces rs depth (plain_stmt s))
+abbrev pub statement_text : FunctionNames → Registers → ℕ → MonStmt → List ℕ
+statement_text gs rs depth s = spelled (statement_pieces gs rs depth (plain_stmt s))
 
-abbrev body_of : Registers → ℕ → Vec MonStmt Global → List ℕ
-body_of rs depth a = spelled (body_pieces rs depth (plain_stmts a.items))
+abbrev body_of : FunctionNames → Registers → ℕ → Vec MonStmt Global → List ℕ
+body_of gs rs depth a = spelled (body_pieces gs rs depth (plain_stmts a.items))
 
-abbrev lines_of : Registers → ℕ → Vec MonStmt Global → List ℕ
-lines_of rs depth a = spelled (statements_pieces rs depth (plain_stmts a.items))
+abbrev lines_of : FunctionNames → Registers → ℕ → Vec MonStmt Global → List ℕ
+lines_of gs rs depth a = spelled (statements_pieces gs rs depth (plain_stmts a.items))
 
 -- the first two arguments of an assertion
 abbrev start_text : Registers → MonExpression → MonExpression → List ℕ
 start_text rs d v = codes "__e_acsl_assert(" ++ (text rs d ++ (codes ", " ++ (text rs v ++ codes ", ")))
 
-pub at_assert : (rs : Registers) (depth : ℕ) (s : MonStmt) (d v : MonExpr) (number line : ℕ) (kind : Kind) → s ≡ code.Assert d v number line kind → statement_text rs depth s ≡ start_text rs (plain_expr d) (plain_expr v) ++ end_text number line kind
-at_assert rs depth s d v number line kind same =
-    ap (λ x. statement_text rs depth x) same ∙ assertion_text rs (plain_expr d) (plain_expr v) number line kind ∙ regrouped
+pub at_assert : (gs : FunctionNames) (rs : Registers) (depth : ℕ) (s : MonStmt) (d v : MonExpr) (number line : ℕ) (kind : Kind) → s ≡ code.Assert d v number line kind → statement_text gs rs depth s ≡ start_text rs (plain_expr d) (plain_expr v) ++ end_text number line kind
+at_assert gs rs depth s d v number line kind same =
+    ap (λ x. statement_text gs rs depth x) same ∙ assertion_text rs (plain_expr d) (plain_expr v) number line kind ∙ regrouped
   where
     regrouped : codes "__e_acsl_assert(" ++ (text rs (plain_expr d) ++ (codes ", " ++ (text rs (plain_expr v) ++ (codes ", " ++ end_text number line kind)))) ≡ start_text rs (plain_expr d) (plain_expr v) ++ end_text number line kind
     regrouped = simp append_assoc
 
 -- a body around it changes nothing
-pub return_anywhere : (rs : Registers) (depth : ℕ) (value : Option MonExpression) → spelled (statement_pieces rs depth (Return value)) ≡ spelled (statement_pieces rs 0 (Return value))
-return_anywhere rs depth None = refl
-return_anywhere rs depth (Some e) = refl
+pub return_anywhere : (gs : FunctionNames) (rs : Registers) (depth : ℕ) (value : Option MonExpression) → spelled (statement_pieces gs rs depth (Return value)) ≡ spelled (statement_pieces gs rs 0 (Return value))
+return_anywhere gs rs depth None = refl
+return_anywhere gs rs depth (Some e) = refl
 
-pub at_if : (rs : Registers) (depth : ℕ) (s : MonStmt) (e : MonExpr) (a b : Vec MonStmt Global) → s ≡ code.If e a b → statement_text rs depth s ≡ (codes "if (" ++ (text rs (plain_expr e) ++ codes ") ")) ++ (body_of rs depth a ++ (codes " else " ++ body_of rs depth b))
-at_if rs depth s e a b same =
-    ap (λ x. statement_text rs depth x) same
-    ∙ ap (λ x. spelled (statement_pieces rs depth x)) (if_is e a b)
-    ∙ if_text rs depth (plain_expr e) (plain_stmts a.items) (plain_stmts b.items)
-    ∙ ap (λ l. codes "if (" ++ l) (sym (append_assoc (text rs (plain_expr e)) (codes ") ") (body_of rs depth a ++ (codes " else " ++ body_of rs depth b))))
+pub at_if : (gs : FunctionNames) (rs : Registers) (depth : ℕ) (s : MonStmt) (e : MonExpr) (a b : Vec MonStmt Global) → s ≡ code.If e a b → statement_text gs rs depth s ≡ (codes "if (" ++ (text rs (plain_expr e) ++ codes ") ")) ++ (body_of gs rs depth a ++ (codes " else " ++ body_of gs rs depth b))
+at_if gs rs depth s e a b same =
+    ap (λ x. statement_text gs rs depth x) same
+    ∙ ap (λ x. spelled (statement_pieces gs rs depth x)) (if_is e a b)
+    ∙ if_text gs rs depth (plain_expr e) (plain_stmts a.items) (plain_stmts b.items)
+    ∙ ap (λ l. codes "if (" ++ l) (sym (append_assoc (text rs (plain_expr e)) (codes ") ") (body_of gs rs depth a ++ (codes " else " ++ body_of gs rs depth b))))
 
-pub at_loop : (rs : Registers) (depth : ℕ) (s : MonStmt) (a b : Vec MonStmt Global) → s ≡ code.Loop a b → statement_text rs depth s ≡ codes "while (1) {" ++ (lines_of rs (depth + 1) a ++ ((spelled_piece (new_line (depth + 1)) ++ codes "__e_acsl_step();") ++ (lines_of rs (depth + 1) b ++ (spelled_piece (new_line depth) ++ codes "}"))))
-at_loop rs depth s a b same =
-    let step = append_assoc (spelled_piece (new_line (depth + 1))) (codes "__e_acsl_step();") (lines_of rs (depth + 1) b ++ (spelled_piece (new_line depth) ++ codes "}")) in
-    ap (λ x. statement_text rs depth x) same
-    ∙ ap (λ x. spelled (statement_pieces rs depth x)) (loop_is a b)
-    ∙ loop_text rs depth (plain_stmts a.items) (plain_stmts b.items)
-    ∙ ap (λ l. codes "while (1) {" ++ (lines_of rs (depth + 1) a ++ l)) (sym step)
+pub at_loop : (gs : FunctionNames) (rs : Registers) (depth : ℕ) (s : MonStmt) (a b : Vec MonStmt Global) → s ≡ code.Loop a b → statement_text gs rs depth s ≡ codes "while (1) {" ++ (lines_of gs rs (depth + 1) a ++ ((spelled_piece (new_line (depth + 1)) ++ codes "__e_acsl_step();") ++ (lines_of gs rs (depth + 1) b ++ (spelled_piece (new_line depth) ++ codes "}"))))
+at_loop gs rs depth s a b same =
+    let step = append_assoc (spelled_piece (new_line (depth + 1))) (codes "__e_acsl_step();") (lines_of gs rs (depth + 1) b ++ (spelled_piece (new_line depth) ++ codes "}")) in
+    ap (λ x. statement_text gs rs depth x) same
+    ∙ ap (λ x. spelled (statement_pieces gs rs depth x)) (loop_is a b)
+    ∙ loop_text gs rs depth (plain_stmts a.items) (plain_stmts b.items)
+    ∙ ap (λ l. codes "while (1) {" ++ (lines_of gs rs (depth + 1) a ++ l)) (sym step)
 
-pub at_labelled : (rs : Registers) (depth : ℕ) (s : MonStmt) (a : Vec MonStmt Global) (label : List ℕ) → s ≡ code.Labelled a label → statement_text rs depth s ≡ body_of rs depth a ++ (codes " " ++ (label ++ codes ": ;"))
-at_labelled rs depth s a label same =
-    ap (λ x. statement_text rs depth x) same
-    ∙ ap (λ x. spelled (statement_pieces rs depth x)) (labelled_is a label)
-    ∙ labelled_text rs depth (plain_stmts a.items) label
+pub at_labelled : (gs : FunctionNames) (rs : Registers) (depth : ℕ) (s : MonStmt) (a : Vec MonStmt Global) (label : List ℕ) → s ≡ code.Labelled a label → statement_text gs rs depth s ≡ body_of gs rs depth a ++ (codes " " ++ (label ++ codes ": ;"))
+at_labelled gs rs depth s a label same =
+    ap (λ x. statement_text gs rs depth x) same
+    ∙ ap (λ x. spelled (statement_pieces gs rs depth x)) (labelled_is a label)
+    ∙ labelled_text gs rs depth (plain_stmts a.items) label
 
-pub statements_each : (rs : Registers) (depth : ℕ) (s : MonStmt) (rest : List MonStmt) → spelled (statements_pieces rs depth (plain_stmts (s ∷ rest))) ≡ (spelled_piece (new_line depth) ++ statement_text rs depth s) ++ spelled (statements_pieces rs depth (plain_stmts rest))
-statements_each rs depth s rest =
+pub statements_each : (gs : FunctionNames) (rs : Registers) (depth : ℕ) (s : MonStmt) (rest : List MonStmt) → spelled (statements_pieces gs rs depth (plain_stmts (s ∷ rest))) ≡ (spelled_piece (new_line depth) ++ statement_text gs rs depth s) ++ spelled (statements_pieces gs rs depth (plain_stmts rest))
+statements_each gs rs depth s rest =
     let line = spelled_piece (new_line depth) in
-    let first : List Piece = statement_pieces rs depth (plain_stmt s) in
-    let others : List Piece = statements_pieces rs depth (plain_stmts rest) in
+    let first : List Piece = statement_pieces gs rs depth (plain_stmt s) in
+    let others : List Piece = statements_pieces gs rs depth (plain_stmts rest) in
     ap (λ l. line ++ l) (spelled_append first others) ∙ sym (append_assoc line (spelled first) (spelled others))
 
 -- ---- functions
@@ -206,10 +227,10 @@ pub head_text : (f : MonFunction) → spelled (head_pieces f) ≡ result_word f.
 head_text f =
     ap (λ l. result_word f.result ++ (32 ∷ (f.name ++ (40 ∷ l)))) (in_parens_text (parameters_pieces f.parameters) (blank ∷ Mark (codes "{") ∷ registers_pieces f.registers))
 
-pub function_text : (f : MonFunction) → spelled (function_pieces f) ≡ spelled (head_pieces f) ++ (spelled (statements_pieces (f.parameters ++ f.registers) 1 f.body) ++ ((spelled_piece (new_line 0) ++ codes "}") ++ spelled_piece (new_line 0)))
-function_text f =
+pub function_text : (gs : FunctionNames) (f : MonFunction) → spelled (function_pieces gs f) ≡ spelled (head_pieces f) ++ (spelled (statements_pieces gs (f.parameters ++ f.registers) 1 f.body) ++ ((spelled_piece (new_line 0) ++ codes "}") ++ spelled_piece (new_line 0)))
+function_text gs f =
     let end : List Piece = new_line 0 ∷ Mark (codes "}") ∷ new_line 0 ∷ [] in
-    let code : List Piece = statements_pieces (f.parameters ++ f.registers) 1 f.body in
+    let code : List Piece = statements_pieces gs (f.parameters ++ f.registers) 1 f.body in
     let opened : List Piece = blank ∷ Mark (codes "{") ∷ registers_pieces f.registers in
     ap (λ l. spelled (Word (result_word f.result) ∷ blank ∷ Word f.name ∷ l)) (sym (append_assoc (in_parens (parameters_pieces f.parameters)) opened (code ++ end)))
     ∙ spelled_append (head_pieces f) (code ++ end)
@@ -223,5 +244,5 @@ registers_each r rest = simp append_assoc
 pub parameters_each : (r : Register) (rest : List Register) → spelled (more_parameters (map plain_register (r ∷ rest))) ≡ (codes ", " ++ spelled (parameter_pieces (plain_register r))) ++ spelled (more_parameters (map plain_register rest))
 parameters_each r rest = simp append_assoc
 
-pub functions_each : (f : MonFunc) (rest : List MonFunc) → spelled (functions_pieces (map plain_func (f ∷ rest))) ≡ spelled (function_pieces (plain_func f)) ++ spelled (functions_pieces (map plain_func rest))
-functions_each f rest = spelled_append (function_pieces (plain_func f)) (functions_pieces (map plain_func rest))
+pub functions_each : (gs : FunctionNames) (f : MonFunc) (rest : List MonFunc) → spelled (functions_pieces gs (map plain_func (f ∷ rest))) ≡ spelled (function_pieces gs (plain_func f)) ++ spelled (functions_pieces gs (map plain_func rest))
+functions_each gs f rest = spelled_append (function_pieces gs (plain_func f)) (functions_pieces gs (map plain_func rest))

@@ -10,11 +10,12 @@ use crate::strings::signed_number;
 use crate::words::{constant_word, operator_mark, type_word};
 use crate::writer::Writer;
 use ea_ports::Sink;
-use mon_syntax::{MonExpr, MonType, Register};
+use mon_syntax::{MonExpr, MonFunc, MonType, Register};
 
-/// The registers of a function, of which the parameters have the first numbers.
+/// The functions of a program, and the registers of one of them, of which the parameters have the first numbers.
 #[derive(Clone, Copy)]
 pub struct Named<'a> {
+    pub functions: &'a [MonFunc],
     pub parameters: &'a [Register],
     pub registers: &'a [Register],
 }

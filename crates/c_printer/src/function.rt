@@ -5,6 +5,7 @@ ghost use Rattle.mon_syntax.specs.Trees.{plain_func, plain_register};
 ghost use Rattle.mon_syntax.specs.Text.{function_pieces, functions_pieces, more_parameters, parameter_pieces, parameters_pieces, registers_pieces, spelled};
 ghost use Rattle.c_printer.specs.Heads.{head_pieces};
 ghost use Rattle.c_printer.specs.Printing.{Printed, pipe_of};
+ghost use Rattle.c_printer.specs.Registers.{names_of};
 
 use crate::expression::Named;
 use crate::line::{Depth, closing, line};
@@ -71,11 +72,12 @@ fn head<O: Sink>(f: &MonFunc, to: &mut Writer, out: &mut O)
     registers(&f.registers, to, out);
 }
 
-// A function.
-fn function<O: Sink>(f: &MonFunc, to: &mut Writer, out: &mut O)
-    ensures { Printed (pipe_of (O.told out.old) to.old (O.faults out.old)) (pipe_of (O.told out.new) to.new (O.faults out.new)) (spelled (function_pieces (plain_func f.now))) }
+// A function among all of a program.
+fn function<O: Sink>(f: &MonFunc, all: &[MonFunc], to: &mut Writer, out: &mut O)
+    ensures { Printed (pipe_of (O.told out.old) to.old (O.faults out.old)) (pipe_of (O.told out.new) to.new (O.faults out.new)) (spelled (function_pieces (names_of all.now) (plain_func f.now))) }
 {
     let named = Named {
+        functions: all,
         parameters: &f.parameters,
         registers: &f.registers,
     };
@@ -88,9 +90,9 @@ fn function<O: Sink>(f: &MonFunc, to: &mut Writer, out: &mut O)
 
 /// The functions, one after another.
 pub fn functions<O: Sink>(list: &[MonFunc], to: &mut Writer, out: &mut O)
-    ensures { Printed (pipe_of (O.told out.old) to.old (O.faults out.old)) (pipe_of (O.told out.new) to.new (O.faults out.new)) (spelled (functions_pieces (map plain_func list.now))) }
+    ensures { Printed (pipe_of (O.told out.old) to.old (O.faults out.old)) (pipe_of (O.told out.new) to.new (O.faults out.new)) (spelled (functions_pieces (names_of list.now) (map plain_func list.now))) }
 {
     'list: for f in list {
-        function(f, to, out);
+        function(f, list, to, out);
     }
 }

@@ -1,6 +1,7 @@
 //! Prints programs in monitored C.
 #![tactic(auto)]
 
+mod call;
 mod expression;
 mod function;
 mod line;

@@ -3,59 +3,29 @@
 ghost use Rattle.std.specs.Prelude.{[], ◌++◌, option_map, codes};
 ghost use Rattle.std.specs.Fmt.{decimal};
 ghost use Rattle.c_model.specs.Reports.{kind_word};
-ghost use Rattle.mon_syntax.specs.Trees.{Goto, PrintText, PutChar, Return, Set, plain_expr, plain_stmt, plain_stmts};
-ghost use Rattle.mon_syntax.specs.Text.{Quoted, body_pieces, call_pieces, expression_pieces, name_of, new_line, set_pieces, spelled, spelled_piece, statement_pieces, statements_pieces};
+ghost use Rattle.mon_syntax.specs.Trees.{Goto, PrintText, Return, Set, plain_expr, plain_stmt, plain_stmts};
+ghost use Rattle.mon_syntax.specs.Text.{Quoted, body_pieces, expression_pieces, new_line, spelled, spelled_piece, statement_pieces, statements_pieces};
 ghost use Rattle.c_printer.specs.Depths.{depth_of};
 ghost use Rattle.c_printer.specs.Printing.{Printed, pipe_of};
-ghost use Rattle.c_printer.specs.Registers.{registers_of};
+ghost use Rattle.c_printer.specs.Registers.{functions_of, registers_of};
 
-use crate::expression::{Named, expression, name};
+use crate::call::{call, call_with, callee, put_char, set};
+use crate::expression::{Named, expression};
 use crate::line::{Depth, closing, line};
 use crate::strings::{number, string};
-use crate::words::kind_word;
+use crate::words::{kind_word, memory_word};
 use crate::writer::Writer;
 use c_syntax::Kind;
 use ea_ports::Sink;
 use mon_syntax::{MonExpr, MonStmt};
 
-// `R = `
-fn set<O: Sink>(r: u32, named: &Named<'_>, to: &mut Writer, out: &mut O)
-    ensures { Printed (pipe_of (O.told out.old) to.old (O.faults out.old)) (pipe_of (O.told out.new) to.new (O.faults out.new)) (spelled (set_pieces (name_of (registers_of named.now) r))) }
-{
-    to.write(out, name(named, r));
-    to.write(out, b" = ");
-}
-
 // `R = e;`
 fn assignment<O: Sink>(r: u32, e: &MonExpr, named: &Named<'_>, to: &mut Writer, out: &mut O)
-    ensures { Printed (pipe_of (O.told out.old) to.old (O.faults out.old)) (pipe_of (O.told out.new) to.new (O.faults out.new)) (spelled (statement_pieces (registers_of named.now) 0 (Set r (plain_expr e.now)))) }
+    ensures { Printed (pipe_of (O.told out.old) to.old (O.faults out.old)) (pipe_of (O.told out.new) to.new (O.faults out.new)) (spelled (statement_pieces [] (registers_of named.now) 0 (Set r (plain_expr e.now)))) }
 {
     set(r, named, to, out);
     expression(e, named, to, out);
     to.write(out, b";");
-}
-
-// `NAME(e);`
-fn call<O: Sink>(callee: &[u8], e: &MonExpr, named: &Named<'_>, to: &mut Writer, out: &mut O)
-    ensures { Printed (pipe_of (O.told out.old) to.old (O.faults out.old)) (pipe_of (O.told out.new) to.new (O.faults out.new)) (spelled (call_pieces callee.now (expression_pieces (registers_of named.now) (plain_expr e.now)))) }
-{
-    to.write(out, callee);
-    to.write(out, b"(");
-    expression(e, named, to, out);
-    to.write(out, b");");
-}
-
-// `putchar(e);`, or `R = putchar(e);`
-fn put_char<O: Sink>(r: Option<u32>, e: &MonExpr, named: &Named<'_>, to: &mut Writer, out: &mut O)
-    ensures { Printed (pipe_of (O.told out.old) to.old (O.faults out.old)) (pipe_of (O.told out.new) to.new (O.faults out.new)) (spelled (statement_pieces (registers_of named.now) 0 (PutChar r (plain_expr e.now)))) }
-{
-    match r {
-        None => call(b"putchar", e, named, to, out),
-        Some(r) => {
-            set(r, named, to, out);
-            call(b"putchar", e, named, to, out);
-        }
-    }
 }
 
 // `__e_acsl_assert(d, v, `
@@ -89,7 +59,7 @@ fn assertion_end<O: Sink>(annotation: u32, line: u32, kind: Kind, to: &mut Write
 
 // `__e_acsl_print_text("..");`
 fn print_text<O: Sink>(bytes: &[u8], to: &mut Writer, out: &mut O)
-    ensures { Printed (pipe_of (O.told out.old) to.old (O.faults out.old)) (pipe_of (O.told out.new) to.new (O.faults out.new)) (spelled (statement_pieces [] 0 (PrintText bytes.now))) }
+    ensures { Printed (pipe_of (O.told out.old) to.old (O.faults out.old)) (pipe_of (O.told out.new) to.new (O.faults out.new)) (spelled (statement_pieces [] [] 0 (PrintText bytes.now))) }
 {
     to.write(out, b"__e_acsl_print_text(");
     string(bytes, to, out);
@@ -107,7 +77,7 @@ fn label_end<O: Sink>(label: &[u8], to: &mut Writer, out: &mut O)
 
 // `goto LABEL;`
 fn goto<O: Sink>(label: &[u8], to: &mut Writer, out: &mut O)
-    ensures { Printed (pipe_of (O.told out.old) to.old (O.faults out.old)) (pipe_of (O.told out.new) to.new (O.faults out.new)) (spelled (statement_pieces [] 0 (Goto label.now))) }
+    ensures { Printed (pipe_of (O.told out.old) to.old (O.faults out.old)) (pipe_of (O.told out.new) to.new (O.faults out.new)) (spelled (statement_pieces [] [] 0 (Goto label.now))) }
 {
     to.write(out, b"goto ");
     to.write(out, label);
@@ -116,7 +86,7 @@ fn goto<O: Sink>(label: &[u8], to: &mut Writer, out: &mut O)
 
 // `return e;`, or `return;`
 fn give_back<O: Sink>(value: &Option<MonExpr>, named: &Named<'_>, to: &mut Writer, out: &mut O)
-    ensures { Printed (pipe_of (O.told out.old) to.old (O.faults out.old)) (pipe_of (O.told out.new) to.new (O.faults out.new)) (spelled (statement_pieces (registers_of named.now) 0 (Return (option_map plain_expr value.now)))) }
+    ensures { Printed (pipe_of (O.told out.old) to.old (O.faults out.old)) (pipe_of (O.told out.new) to.new (O.faults out.new)) (spelled (statement_pieces [] (registers_of named.now) 0 (Return (option_map plain_expr value.now)))) }
 {
     match value {
         None => to.write(out, b"return;"),
@@ -154,7 +124,7 @@ fn body<O: Sink>(
     to: &mut Writer,
     out: &mut O,
 )
-    ensures { Printed (pipe_of (O.told out.old) to.old (O.faults out.old)) (pipe_of (O.told out.new) to.new (O.faults out.new)) (spelled (body_pieces (registers_of named.now) (depth_of depth.now) (plain_stmts stmts.now))) }
+    ensures { Printed (pipe_of (O.told out.old) to.old (O.faults out.old)) (pipe_of (O.told out.new) to.new (O.faults out.new)) (spelled (body_pieces (functions_of named.now) (registers_of named.now) (depth_of depth.now) (plain_stmts stmts.now))) }
 {
     if stmts.is_empty() {
         to.write(out, b"{ }");
@@ -175,7 +145,7 @@ pub fn statements<O: Sink>(
     to: &mut Writer,
     out: &mut O,
 )
-    ensures { Printed (pipe_of (O.told out.old) to.old (O.faults out.old)) (pipe_of (O.told out.new) to.new (O.faults out.new)) (spelled (statements_pieces (registers_of named.now) (depth_of depth.now) (plain_stmts stmts.now))) }
+    ensures { Printed (pipe_of (O.told out.old) to.old (O.faults out.old)) (pipe_of (O.told out.new) to.new (O.faults out.new)) (spelled (statements_pieces (functions_of named.now) (registers_of named.now) (depth_of depth.now) (plain_stmts stmts.now))) }
 {
     'stmts: for s in stmts {
         if to.is_shut() {
@@ -195,7 +165,7 @@ fn statement<O: Sink>(
     to: &mut Writer,
     out: &mut O,
 )
-    ensures { Printed (pipe_of (O.told out.old) to.old (O.faults out.old)) (pipe_of (O.told out.new) to.new (O.faults out.new)) (spelled (statement_pieces (registers_of named.now) (depth_of depth.now) (plain_stmt s.now))) }
+    ensures { Printed (pipe_of (O.told out.old) to.old (O.faults out.old)) (pipe_of (O.told out.new) to.new (O.faults out.new)) (spelled (statement_pieces (functions_of named.now) (registers_of named.now) (depth_of depth.now) (plain_stmt s.now))) }
 {
     match s {
         MonStmt::Set(r, e) => assignment(*r, e, named, to, out),
@@ -205,10 +175,15 @@ fn statement<O: Sink>(
             assertion_end(*number, *line, *kind, to, out);
         }
         MonStmt::PutChar(r, e) => put_char(*r, e, named, to, out),
+        MonStmt::GetChar(r) => call_with(*r, b"getchar", &[], named, to, out),
         MonStmt::Exit(e) => call(b"exit", e, named, to, out),
         MonStmt::PrintText(bytes) => print_text(bytes.bytes(), to, out),
         MonStmt::PrintSigned(e) => call(b"__e_acsl_print_i64", e, named, to, out),
         MonStmt::PrintUnsigned(e) => call(b"__e_acsl_print_u64", e, named, to, out),
+        MonStmt::Act(r, f, list) => {
+            call_with(*r, memory_word(*f).as_bytes(), list, named, to, out);
+        }
+        MonStmt::Call(r, f, list) => call_with(*r, callee(named, *f), list, named, to, out),
         MonStmt::If(e, a, b) => {
             condition(e, named, to, out);
             body(a, depth, named, to, out);

@@ -1,7 +1,7 @@
 use crate::print;
 use c_syntax::{Kind, Name};
 use ea_ports::{MemSink, SinkFault};
-use mon_syntax::{MonExpr, MonFunc, MonOp, MonProgram, MonStmt, MonType, Register};
+use mon_syntax::{MemoryCall, MonExpr, MonFunc, MonOp, MonProgram, MonStmt, MonType, Register};
 use std::alloc::{AllocError, Global};
 use std::process::Abort;
 use std::test::*;
@@ -91,6 +91,51 @@ fn steps(alloc: Global, count: usize) -> Result<MonProgram, AllocError> {
     })
 }
 
+/// A function without statements.
+fn declared(
+    alloc: Global,
+    returned: Option<MonType>,
+    text: &[u8],
+    parameters: Vec<Register>,
+) -> Result<MonFunc, AllocError> {
+    Ok(MonFunc {
+        result: returned,
+        name: name(alloc, text)?,
+        parameters,
+        registers: Vec::new(alloc),
+        body: Vec::new(alloc),
+    })
+}
+
+/// Three functions, of which the first calls the others, with input and a block.
+fn calls(alloc: Global) -> Result<MonProgram, AllocError> {
+    let mut registers = one(alloc, register(alloc, MonType::I32, b"x")?)?;
+    registers.push(register(alloc, MonType::Ptr, b"p")?)?;
+    let size = one(alloc, MonExpr::Constant(MonType::U64, 8))?;
+    let mut values = one(alloc, MonExpr::Register(0))?;
+    values.push(MonExpr::Register(1))?;
+    let block = one(alloc, MonExpr::Register(1))?;
+    let mut body = one(alloc, MonStmt::GetChar(Some(0)))?;
+    body.push(MonStmt::GetChar(None))?;
+    body.push(MonStmt::Act(Some(1), MemoryCall::StoreBlock, size))?;
+    body.push(MonStmt::Call(Some(0), 1, values))?;
+    body.push(MonStmt::Call(None, 2, Vec::new(alloc)))?;
+    body.push(MonStmt::Act(None, MemoryCall::DeleteBlock, block))?;
+    let main = MonFunc {
+        result: Some(MonType::I32),
+        name: name(alloc, b"main")?,
+        parameters: Vec::new(alloc),
+        registers,
+        body,
+    };
+    let mut parameters = one(alloc, register(alloc, MonType::I32, b"a")?)?;
+    parameters.push(register(alloc, MonType::Ptr, b"b")?)?;
+    let mut functions = one(alloc, main)?;
+    functions.push(declared(alloc, Some(MonType::I32), b"f", parameters)?)?;
+    functions.push(declared(alloc, None, b"g", Vec::new(alloc))?)?;
+    Ok(MonProgram { functions })
+}
+
 /// Prints a program, and compares what the sink got.
 fn prints(rt: &(impl Abort + AllocGlobal), m: &MonProgram, text: &[u8]) {
     let mut out = MemSink::new(rt.alloc(), Vec::new(rt.alloc()));
@@ -114,6 +159,16 @@ fn each_statement_stands_on_a_line(rt: HostRuntime) -> Result<(), AllocError> {
         &rt,
         &statements(rt.alloc())?,
         b"#include <e_acsl.h>\nvoid f(i32 a, u8 b) {\n  i64 c;\n  if (a) {\n    c = putchar(b);\n  } else { }\n  {\n    while (1) {\n      goto end_1;\n      __e_acsl_step();\n      return;\n    }\n  } end_1: ;\n  __e_acsl_assert(U8(1), b, 7, 12, \"requires\");\n  __e_acsl_print_text(\"a\\042\\012\");\n}\n",
+    );
+    Ok(())
+}
+
+#[test]
+fn functions_are_called_by_name(rt: HostRuntime) -> Result<(), AllocError> {
+    prints(
+        &rt,
+        &calls(rt.alloc())?,
+        b"#include <e_acsl.h>\ni32 main(void) {\n  i32 x;\n  ptr p;\n  x = getchar();\n  getchar();\n  p = __e_acsl_store_block(U64(8));\n  x = f(x, p);\n  g();\n  __e_acsl_delete_block(p);\n}\ni32 f(i32 a, ptr b) {\n}\nvoid g(void) {\n}\n",
     );
     Ok(())
 }

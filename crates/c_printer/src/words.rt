@@ -3,10 +3,10 @@
 ghost use Rattle.std.specs.Prelude.{◌≡◌};
 ghost use Rattle.c_model.specs.Reports.{kind_word};
 ghost use Rattle.mon_syntax.specs.Names.{constant_word, type_word};
-ghost use Rattle.mon_syntax.specs.Text.{operator_mark, result_word};
+ghost use Rattle.mon_syntax.specs.Text.{memory_word, operator_mark, result_word};
 
 use c_syntax::Kind;
-use mon_syntax::{MonOp, MonType};
+use mon_syntax::{MemoryCall, MonOp, MonType};
 
 pub fn type_word(t: MonType) -> &'static str
     ensures { result.now ≡ type_word t }
@@ -21,6 +21,7 @@ pub fn type_word(t: MonType) -> &'static str
         MonType::I64 => "i64",
         MonType::U64 => "u64",
         MonType::I128 => "i128",
+        MonType::Ptr => "ptr",
     }
 }
 
@@ -47,6 +48,7 @@ pub fn constant_word(t: MonType) -> &'static str
         MonType::I64 => "I64",
         MonType::U64 => "U64",
         MonType::I128 => "I128",
+        MonType::Ptr => "PTR",
     }
 }
 
@@ -70,6 +72,16 @@ pub fn operator_mark(op: MonOp) -> &'static str
         MonOp::Le => "<=",
         MonOp::Gt => ">",
         MonOp::Ge => ">=",
+    }
+}
+
+/// The name of a call on the memory.
+pub fn memory_word(f: MemoryCall) -> &'static str
+    ensures { result.now ≡ memory_word f }
+{
+    match f {
+        MemoryCall::StoreBlock => "__e_acsl_store_block",
+        MemoryCall::DeleteBlock => "__e_acsl_delete_block",
     }
 }
 

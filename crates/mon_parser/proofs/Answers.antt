@@ -1,5 +1,5 @@
 -- From what the productions gave to what the answers mean.
-use Rattle.std.proofs.Common.{◌≡◌, ℕ, suc, false, List, [], ◌∷◌, length, map, Result, Ok, Err, refl, sym, ap, subst, ◌∙◌}
+use Rattle.std.proofs.Common.{◌≡◌, ℕ, suc, false, List, [], ◌∷◌, length, Result, Ok, Err, refl, sym, ap, subst, ◌∙◌}
 use Rattle.grammar.specs.Syntax.{Fault, At, Over}
 use Rattle.grammar.specs.Exact.{Refused, AtMostOne}
 use Rattle.grammar.proofs.Parts.{ok_is}
@@ -9,7 +9,7 @@ use Rattle.c_syntax.specs.Tokens.{PlainToken, PlainTokens, plain_token}
 use Rattle.c_syntax.specs.declared.refusal.FrontFault.{FrontFault}
 use Rattle.c_syntax.specs.declared.refusal.FrontFault.TheVariants as front
 use Rattle.mon_syntax.specs.Parsed.{ParsedProgram}
-use Rattle.mon_syntax.specs.Grammar.{Vocabulary, head_kind, first_function, kind, text}
+use Rattle.mon_syntax.specs.Grammar.{Vocabulary, head_kind, first_function, text}
 use Rattle.mon_syntax.specs.Spelled.{vocabulary, IsRead, grammar_refusal}
 use Rattle.c_syntax.specs.declared.fault.ReadFault.{ReadFault}
 use Rattle.c_syntax.specs.declared.fault.ReadFault.TheVariants as fault

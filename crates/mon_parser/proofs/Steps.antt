@@ -1,19 +1,19 @@
 -- What a production gives, step by step.
-use Rattle.std.proofs.Common.{◌≡◌, ℕ, zero, suc, ◌-◌, ◌<◌, Bool, true, false, List, [], ◌∷◌, ◌++◌, length, map, length-append, Result, Ok, Err, refl, sym, ap, subst, arith}
+use Rattle.std.proofs.Common.{◌≡◌, ℕ, zero, suc, ◌-◌, ◌<◌, Bool, true, false, List, [], ◌∷◌, ◌++◌, length, length-append, Result, Ok, Err, refl, ap, subst, arith}
 use Rattle.std.proofs.lemmas.List.{length-map}
 use Rattle.grammar.specs.Syntax.{Syntax, Fault, At, Over, sees}
 use Rattle.grammar.proofs.Productions.{turn, turn_fails, turn_ends}
 use Rattle.c_syntax.specs.declared.token.Token.{Token}
 use Rattle.c_syntax.specs.Tokens.{PlainToken, plain_token}
-use Rattle.mon_syntax.specs.Parsed.{ParsedArgument, ParsedStatement, ParsedRegister}
-use Rattle.mon_syntax.specs.Grammar.{Vocabulary, InBody, LoopRead, left_paren, comma, type_kind, mark_kind, kind, first_statement, expression_limit, nesting_limit, mark, opened, behind_paren, behind_opened, next_argument, one_more, one_more_in_loop, statement_with, statement_in, register}
+use Rattle.mon_syntax.specs.Parsed.{ParsedArgument, ParsedStatement, ParsedRegister, ParsedFunction}
+use Rattle.mon_syntax.specs.Grammar.{Vocabulary, LoopRead, left_paren, comma, type_kind, mark_kind, kind, first_statement, first_function, expression_limit, nesting_limit, mark, opened, behind_paren, behind_opened, next_argument, one_more, one_more_in_loop, statement_with, statement_in, register, next_parameter, one_more_function}
 use Rattle.c_syntax.specs.declared.fault.ReadFault.{ReadFault}
 use Rattle.c_syntax.specs.declared.fault.ReadFault.TheVariants as fault
-use Rattle.mon_parser.specs.Reading.{plain_list, label, Fails, more_arguments, more_statements, more_in_loop, more_registers}
+use Rattle.mon_parser.specs.Reading.{plain_list, label, Fails, more_arguments, more_statements, more_in_loop, more_registers, more_parameters, more_functions}
 use Rattle.mon_syntax.proofs.ExactTokens.{IsRead}
-use Rattle.mon_syntax.proofs.ExactExpressions.{paren, next_argument_good}
+use Rattle.mon_syntax.proofs.ExactExpressions.{next_argument_good}
 use Rattle.mon_syntax.proofs.ExactStatements.{one_more_good, one_more_in_loop_good, statement_good}
-use Rattle.mon_syntax.proofs.ExactTexts.{register_good}
+use Rattle.mon_syntax.proofs.ExactTexts.{register_good, next_parameter_good, one_more_function_good}
 
 -- ---- limits
 
@@ -108,6 +108,36 @@ module _ (ws : Vocabulary) where
 
   pub registers_shorter : (x y : List ParsedRegister) (ts rest : List Token) → (register ws x).parse (plain_list ts) ≡ Ok (y, plain_list rest) → length rest < length ts
   registers_shorter x y ts rest e = shorter ws (register ws x) (register_good ws x) ts rest y e
+
+  pub parameters_turn : (x y : List ParsedRegister) (ts rest : List PlainToken) → sees (kind ws) (mark_kind comma ∷ []) ts ≡ true → (next_parameter ws x).parse ts ≡ Ok (y, rest) → (more_parameters ws x).parse ts ≡ (more_parameters ws y).parse rest
+  unfolding more_parameters
+  parameters_turn x y ts rest s e = turn (mark_kind comma ∷ []) (next_parameter ws) (λ z. (next_parameter_good ws z).here) refl x y ts rest s e
+
+  pub parameters_fails : (x : List ParsedRegister) (ts : List PlainToken) (e : ReadFault) → sees (kind ws) (mark_kind comma ∷ []) ts ≡ true → Fails e ((next_parameter ws x).parse ts) → Fails e ((more_parameters ws x).parse ts)
+  unfolding more_parameters
+  parameters_fails x ts e s = again e (λ d. turn_fails (mark_kind comma ∷ []) (next_parameter ws) (λ z. (next_parameter_good ws z).here) refl x ts d s)
+
+  pub parameters_ends : (x : List ParsedRegister) (ts : List PlainToken) → sees (kind ws) (mark_kind comma ∷ []) ts ≡ false → (more_parameters ws x).parse ts ≡ Ok (x, ts)
+  unfolding more_parameters
+  parameters_ends x ts s = turn_ends (mark_kind comma ∷ []) (next_parameter ws) (λ z. (next_parameter_good ws z).here) refl x ts s
+
+  pub parameters_shorter : (x y : List ParsedRegister) (ts rest : List Token) → (next_parameter ws x).parse (plain_list ts) ≡ Ok (y, plain_list rest) → length rest < length ts
+  parameters_shorter x y ts rest e = shorter ws (next_parameter ws x) (next_parameter_good ws x) ts rest y e
+
+  pub functions_turn : (x y : List ParsedFunction) (ts rest : List PlainToken) → sees (kind ws) first_function ts ≡ true → (one_more_function ws x).parse ts ≡ Ok (y, rest) → (more_functions ws x).parse ts ≡ (more_functions ws y).parse rest
+  unfolding more_functions
+  functions_turn x y ts rest s e = turn first_function (one_more_function ws) (λ z. (one_more_function_good ws z).here) refl x y ts rest s e
+
+  pub functions_fails : (x : List ParsedFunction) (ts : List PlainToken) (e : ReadFault) → sees (kind ws) first_function ts ≡ true → Fails e ((one_more_function ws x).parse ts) → Fails e ((more_functions ws x).parse ts)
+  unfolding more_functions
+  functions_fails x ts e s = again e (λ d. turn_fails first_function (one_more_function ws) (λ z. (one_more_function_good ws z).here) refl x ts d s)
+
+  pub functions_ends : (x : List ParsedFunction) (ts : List PlainToken) → sees (kind ws) first_function ts ≡ false → (more_functions ws x).parse ts ≡ Ok (x, ts)
+  unfolding more_functions
+  functions_ends x ts s = turn_ends first_function (one_more_function ws) (λ z. (one_more_function_good ws z).here) refl x ts s
+
+  pub functions_shorter : (x y : List ParsedFunction) (ts rest : List Token) → (one_more_function ws x).parse (plain_list ts) ≡ Ok (y, plain_list rest) → length rest < length ts
+  functions_shorter x y ts rest e = shorter ws (one_more_function ws x) (one_more_function_good ws x) ts rest y e
 
   module _ (n : ℕ) where
     pub statements_turn : (x y : List ParsedStatement) (ts rest : List PlainToken) → sees (kind ws) first_statement ts ≡ true → (one_more ws (statement_in ws n) x).parse ts ≡ Ok (y, rest) → (more_statements ws (statement_in ws n) x).parse ts ≡ (more_statements ws (statement_in ws n) y).parse rest

@@ -66,9 +66,10 @@ abbrev pub plain_func : ParsedFunc → ParsedFunction
 plain_func f = record {
   result = f.result;
   name = plain_name f.name;
+  parameters = map plain_register f.parameters.items;
   registers = map plain_register f.registers.items;
   body = plain_stmts f.body.items;
 }
 
 abbrev pub plain_program : code_program.ParsedProgram → ParsedProgram
-plain_program p = option_map plain_func p.function
+plain_program p = map plain_func p.functions.items

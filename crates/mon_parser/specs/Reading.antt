@@ -3,8 +3,8 @@ use Rattle.std.specs.Prelude.{◌≡◌, ℕ, List, [], ◌∷◌, map, option_m
 use Rattle.grammar.specs.Syntax.{Syntax, many, Fault, At, Over}
 use Rattle.c_syntax.specs.declared.token.Token.{Token}
 use Rattle.c_syntax.specs.Tokens.{PlainToken, plain_token}
-use Rattle.mon_syntax.specs.Parsed.{ParsedArgument, ParsedStatement, ParsedRegister}
-use Rattle.mon_syntax.specs.Grammar.{Vocabulary, InBody, LoopRead, type_kind, mark_kind, comma, kind, first_statement, expression_limit, nesting_limit, next_argument, one_more, one_more_in_loop, register}
+use Rattle.mon_syntax.specs.Parsed.{ParsedArgument, ParsedStatement, ParsedRegister, ParsedFunction}
+use Rattle.mon_syntax.specs.Grammar.{Vocabulary, InBody, LoopRead, type_kind, mark_kind, comma, kind, first_statement, first_function, expression_limit, nesting_limit, next_argument, one_more, one_more_in_loop, register, next_parameter, one_more_function}
 use Rattle.mon_parser.specs.declared.statement.LoopRead as code_loop
 use Rattle.c_syntax.specs.declared.fault.Limit.{Limit}
 use Rattle.c_syntax.specs.declared.fault.Limit.TheVariants as limits
@@ -45,3 +45,9 @@ module _ (ws : Vocabulary) where
 
   unfoldable pub more_registers : List ParsedRegister → Syntax PlainToken (List ParsedRegister)
   more_registers rs = many (kind ws) (λ _. type_kind ∷ []) (register ws) rs
+
+  unfoldable pub more_parameters : List ParsedRegister → Syntax PlainToken (List ParsedRegister)
+  more_parameters ps = many (kind ws) (λ _. mark_kind comma ∷ []) (next_parameter ws) ps
+
+  unfoldable pub more_functions : List ParsedFunction → Syntax PlainToken (List ParsedFunction)
+  more_functions fs = many (kind ws) (λ _. first_function) (one_more_function ws) fs

@@ -81,7 +81,7 @@ pub enum ParsedStmt {
     Return(Place, Option<ParsedExpr>),
 }
 
-/// A register: its type and its name.
+/// A parameter or another register: its type and its name.
 #[derive(Clone, Copy, PartialEq, Eq, Debug)]
 pub struct ParsedRegister {
     pub kind: MonType,
@@ -94,12 +94,13 @@ pub struct ParsedFunc {
     /// None for `void`.
     pub result: Option<MonType>,
     pub name: NameUse,
+    pub parameters: Vec<ParsedRegister>,
     pub registers: Vec<ParsedRegister>,
     pub body: Vec<ParsedStmt>,
 }
 
-/// A text: at most one function.
+/// A text: its functions, in order.
 #[derive(Drop)]
 pub struct ParsedProgram {
-    pub function: Option<ParsedFunc>,
+    pub functions: Vec<ParsedFunc>,
 }

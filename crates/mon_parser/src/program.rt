@@ -1,13 +1,14 @@
 //! Functions, and the whole text.
 
 ghost use Rattle.std.specs.Prelude.{◌≡◌, map};
-ghost use Rattle.mon_syntax.specs.Parsed.{ParsedFunction};
-ghost use Rattle.mon_syntax.specs.Grammar.{parsed_list, register, function_body, function, text};
+ghost use Rattle.mon_syntax.specs.Grammar.{parsed_list, register, parameter, next_parameter, some_parameters, parameters, function_body, function, one_more_function, text};
 ghost use Rattle.mon_syntax.specs.Grammar as form;
 ghost use Rattle.mon_parser.specs.ParsedTrees.{plain_name, plain_stmt, plain_register, plain_func, plain_program};
-ghost use Rattle.mon_parser.specs.Reading.{Gives, plain_list, more_registers};
+ghost use Rattle.mon_parser.specs.Reading.{Gives, plain_list, more_registers, more_parameters, more_functions};
 
-use crate::kinds::{LEFT_BRACE, LEFT_PAREN, RIGHT_BRACE, RIGHT_PAREN, SEMICOLON, TYPE, VOID};
+use crate::kinds::{
+    COMMA, LEFT_BRACE, LEFT_PAREN, RIGHT_BRACE, RIGHT_PAREN, SEMICOLON, TYPE, VOID,
+};
 use crate::parsed::{NameUse, ParsedFunc, ParsedProgram, ParsedRegister, ParsedStmt};
 use crate::statement::more_statements;
 use crate::terminals::{head, name, next_begins_function, next_is, skip, type_name};
@@ -72,42 +73,125 @@ fn result_type<'a>(
     }
 }
 
+/// `type NAME`
+#[tactic(auto, unfolding(mon_syntax::specs::Grammar::parameter))]
+fn parameter<'a>(
+    words: &[Word],
+    tokens: &'a [Token],
+) -> Result<(ParsedRegister, &'a [Token]), ReadFault>
+    ensures { Gives (λ x. (plain_register x.0, plain_list x.1.now)) result ((parameter words.now).parse (plain_list tokens.now)) }
+{
+    let (kind, _, rest) = type_name(words, tokens)?;
+    let (name, rest) = name(words, rest)?;
+    Ok((ParsedRegister { kind, name }, rest))
+}
+
+/// `"," parameter`, behind those that are read.
+#[tactic(auto, unfolding(mon_syntax::specs::Grammar::next_parameter))]
+fn next_parameter<'a>(
+    words: &[Word],
+    all: Vec<ParsedRegister>,
+    tokens: &'a [Token],
+) -> Result<(Vec<ParsedRegister>, &'a [Token]), ReadFault>
+    ensures { Gives (λ x. (map plain_register x.0.items, plain_list x.1.now)) result ((next_parameter words.now (map plain_register all.items)).parse (plain_list tokens.now)) }
+{
+    let mut all = all;
+    let (_, rest) = skip(words, COMMA, tokens)?;
+    let (one, rest) = parameter(words, rest)?;
+    all.push(one)?;
+    Ok((all, rest))
+}
+
+/// The parameters behind those that are read.
+#[tactic(auto, using(crate::proofs::Steps::parameters_turn, crate::proofs::Steps::parameters_fails, crate::proofs::Steps::parameters_ends, crate::proofs::Steps::parameters_shorter))]
+fn more_parameters<'a>(
+    words: &[Word],
+    all: Vec<ParsedRegister>,
+    tokens: &'a [Token],
+) -> Result<(Vec<ParsedRegister>, &'a [Token]), ReadFault>
+    ensures { Gives (λ x. (map plain_register x.0.items, plain_list x.1.now)) result ((more_parameters words.now (map plain_register all.items)).parse (plain_list tokens.now)) }
+{
+    let mut all = all;
+    let mut rest = tokens;
+    'turn: while next_is(words, COMMA, rest) {
+        let (more, after) = next_parameter(words, all, rest)?;
+        all = more;
+        rest = after;
+    }
+    Ok((all, rest))
+}
+
+/// `parameter { "," parameter }`
+#[tactic(auto, unfolding(mon_syntax::specs::Grammar::some_parameters, crate::specs::Reading::more_parameters))]
+fn some_parameters<'a>(
+    alloc: Global,
+    words: &[Word],
+    tokens: &'a [Token],
+) -> Result<(Vec<ParsedRegister>, &'a [Token]), ReadFault>
+    ensures { Gives (λ x. (map plain_register x.0.items, plain_list x.1.now)) result ((some_parameters words.now).parse (plain_list tokens.now)) }
+{
+    let (first, rest) = parameter(words, tokens)?;
+    let mut all = Vec::new(alloc);
+    all.push(first)?;
+    more_parameters(words, all, rest)
+}
+
+/// `"void"`, or parameters.
+#[tactic(auto, unfolding(mon_syntax::specs::Grammar::parameters))]
+fn parameters<'a>(
+    alloc: Global,
+    words: &[Word],
+    tokens: &'a [Token],
+) -> Result<(Vec<ParsedRegister>, &'a [Token]), ReadFault>
+    ensures { Gives (λ x. (map plain_register x.0.items, plain_list x.1.now)) result ((parameters words.now).parse (plain_list tokens.now)) }
+{
+    if next_is(words, VOID, tokens) {
+        let (_, rest) = skip(words, VOID, tokens)?;
+        Ok((Vec::new(alloc), rest))
+    } else {
+        some_parameters(alloc, words, tokens)
+    }
+}
+
 #[tactic(auto, using(crate::proofs::Rows::list_is))]
 fn make_function(
     returned: Option<MonType>,
     name: NameUse,
+    parameters: Vec<ParsedRegister>,
     registers: Vec<ParsedRegister>,
     body: Vec<ParsedStmt>,
 ) -> ParsedFunc
-    ensures { plain_func result ≡ record { result = returned; name = plain_name name; registers = map plain_register registers.items; body = parsed_list (map plain_stmt body.items) } }
+    ensures { plain_func result ≡ record { result = returned; name = plain_name name; parameters = map plain_register parameters.items; registers = map plain_register registers.items; body = parsed_list (map plain_stmt body.items) } }
 {
     ParsedFunc {
         result: returned,
         name,
+        parameters,
         registers,
         body,
     }
 }
 
-/// The body of a function with this result and name.
+/// The body of a function with this result, name and parameters.
 #[tactic(auto, unfolding(mon_syntax::specs::Grammar::function_body, mon_syntax::specs::Grammar::registers, mon_syntax::specs::Grammar::statements, crate::specs::Reading::more_registers, crate::specs::Reading::more_statements))]
 fn function_body<'a>(
     alloc: Global,
     words: &[Word],
     returned: Option<MonType>,
     name: NameUse,
+    parameters: Vec<ParsedRegister>,
     tokens: &'a [Token],
 ) -> Result<(ParsedFunc, &'a [Token]), ReadFault>
-    ensures { Gives (λ x. (plain_func x.0, plain_list x.1.now)) result ((function_body words.now returned (plain_name name)).parse (plain_list tokens.now)) }
+    ensures { Gives (λ x. (plain_func x.0, plain_list x.1.now)) result ((function_body words.now returned (plain_name name) (map plain_register parameters.items)).parse (plain_list tokens.now)) }
 {
     let (_, rest) = skip(words, LEFT_BRACE, tokens)?;
     let (registers, rest) = more_registers(words, Vec::new(alloc), rest)?;
     let (body, rest) = more_statements(alloc, words, MOST_NESTED - 1, Vec::new(alloc), rest)?;
     let (_, rest) = skip(words, RIGHT_BRACE, rest)?;
-    Ok((make_function(returned, name, registers, body), rest))
+    let function = make_function(returned, name, parameters, registers, body);
+    Ok((function, rest))
 }
 
-/// A function without parameters.
 #[tactic(auto, unfolding(mon_syntax::specs::Grammar::function))]
 fn function<'a>(
     alloc: Global,
@@ -119,13 +203,49 @@ fn function<'a>(
     let (returned, rest) = result_type(words, tokens)?;
     let (name, rest) = name(words, rest)?;
     let (_, rest) = skip(words, LEFT_PAREN, rest)?;
-    let (_, rest) = skip(words, VOID, rest)?;
+    let (parameters, rest) = parameters(alloc, words, rest)?;
     let (_, rest) = skip(words, RIGHT_PAREN, rest)?;
-    function_body(alloc, words, returned, name, rest)
+    function_body(alloc, words, returned, name, parameters, rest)
 }
 
-/// The head and at most one function, as far as they go.
-#[tactic(auto, unfolding(mon_syntax::specs::Grammar::text))]
+/// A function behind those that are read.
+#[tactic(auto, unfolding(mon_syntax::specs::Grammar::one_more_function))]
+fn one_more_function<'a>(
+    alloc: Global,
+    words: &[Word],
+    all: Vec<ParsedFunc>,
+    tokens: &'a [Token],
+) -> Result<(Vec<ParsedFunc>, &'a [Token]), ReadFault>
+    ensures { Gives (λ x. (map plain_func x.0.items, plain_list x.1.now)) result ((one_more_function words.now (map plain_func all.items)).parse (plain_list tokens.now)) }
+{
+    let mut all = all;
+    let (one, rest) = function(alloc, words, tokens)?;
+    all.push(one)?;
+    Ok((all, rest))
+}
+
+/// The functions behind those that are read.
+#[tactic(auto, using(crate::proofs::Steps::functions_turn, crate::proofs::Steps::functions_fails, crate::proofs::Steps::functions_ends, crate::proofs::Steps::functions_shorter))]
+fn more_functions<'a>(
+    alloc: Global,
+    words: &[Word],
+    all: Vec<ParsedFunc>,
+    tokens: &'a [Token],
+) -> Result<(Vec<ParsedFunc>, &'a [Token]), ReadFault>
+    ensures { Gives (λ x. (map plain_func x.0.items, plain_list x.1.now)) result ((more_functions words.now (map plain_func all.items)).parse (plain_list tokens.now)) }
+{
+    let mut all = all;
+    let mut rest = tokens;
+    'turn: while next_begins_function(words, rest) {
+        let (more, after) = one_more_function(alloc, words, all, rest)?;
+        all = more;
+        rest = after;
+    }
+    Ok((all, rest))
+}
+
+/// The head and the functions, as far as they go.
+#[tactic(auto, unfolding(mon_syntax::specs::Grammar::text, crate::specs::Reading::more_functions))]
 pub fn text<'a>(
     alloc: Global,
     words: &[Word],
@@ -134,12 +254,6 @@ pub fn text<'a>(
     ensures { Gives (λ x. (plain_program x.0, plain_list x.1.now)) result ((text words.now).parse (plain_list tokens.now)) }
 {
     let rest = head(words, tokens)?;
-    if next_begins_function(words, rest) {
-        let (function, rest) = function(alloc, words, rest)?;
-        let function = Some(function);
-        Ok((ParsedProgram { function }, rest))
-    } else {
-        let function = None;
-        Ok((ParsedProgram { function }, rest))
-    }
+    let (functions, rest) = more_functions(alloc, words, Vec::new(alloc), rest)?;
+    Ok((ParsedProgram { functions }, rest))
 }

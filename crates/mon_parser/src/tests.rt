@@ -81,15 +81,85 @@ fn whole_texts(rt: HostRuntime) -> Result<(), Fail> {
     for (line, wanted) in [
         ("#", "read"),
         ("# i32 main ( void ) { }", "read"),
-        ("# void f ( void ) { i32 a ; ptr b ; }", "E4 at 1:10: ptr"),
+        ("# void f ( void ) { i32 a ; ptr b ; }", "read"),
         ("i32 main ( void ) { }", "E4 at 1:0: i32"),
         ("# # i32", "E4 at 1:1: #include <e_acsl.h>"),
         ("# i32 main ( void ) { } ;", "E4 at 1:8: ;"),
         ("# i32 main ( void ) {", "E4 at 2:1: end of file"),
-        ("# i32 main ( i32 a ) { }", "E4 at 1:4: i32"),
         ("# i32 i32 ( void ) { }", "E4 at 1:2: i32"),
     ] {
         assert_eq!(rt; answer(rt.alloc(), line)?.as_str(), wanted);
+    }
+    Ok(())
+}
+
+#[test]
+fn functions(rt: HostRuntime) -> Result<(), Fail> {
+    for (line, wanted) in [
+        ("# i32 f ( i32 a ) { }", "read"),
+        ("# ptr f ( i8 a , ptr b , u64 c ) { i32 d ; }", "read"),
+        (
+            "# void f ( void ) { } i32 g ( i32 a ) { } void f ( void ) { }",
+            "read",
+        ),
+        ("# i32 f ( ) { }", "E4 at 1:4: )"),
+        ("# i32 f ( i32 ) { }", "E4 at 1:5: )"),
+        ("# i32 f ( a ) { }", "E4 at 1:4: a"),
+        ("# i32 f ( void , i32 x ) { }", "E4 at 1:5: ,"),
+        ("# i32 f ( void x ) { }", "E4 at 1:5: x"),
+        ("# i32 f ( i32 x , void ) { }", "E4 at 1:7: void"),
+        ("# i32 f ( i32 x , ) { }", "E4 at 1:7: )"),
+        ("# i32 f ( i32 x y ) { }", "E4 at 1:6: y"),
+        ("# i32 f ( i32 x i32 y ) { }", "E4 at 1:6: i32"),
+        (
+            "# void f ( void ) { } ; void g ( void ) { }",
+            "E4 at 1:8: ;",
+        ),
+        (
+            "# void f ( void ) { } i32 x ; void g ( void ) { }",
+            "E4 at 1:10: ;",
+        ),
+        ("# void f ( void ) { } g ( void ) { }", "E4 at 1:8: g"),
+        ("# void f ( void ) { } static", "E4 at 1:8: static"),
+        ("# void f ( void ) { } void", "E4 at 2:1: end of file"),
+    ] {
+        assert_eq!(rt; answer(rt.alloc(), line)?.as_str(), wanted);
+    }
+    Ok(())
+}
+
+/// The functions of a text, each by its result, parameters, other registers and statements.
+fn shapes(alloc: Global, line: &str) -> Result<String, AllocError> {
+    let mut shapes = String::new(alloc);
+    if let Ok(program) = read_tokens(alloc, &tokens(alloc, line)?) {
+        for f in program.functions.iter() {
+            let result = f.result;
+            let (registers, statements) = (f.registers.len(), f.body.len());
+            let shape = format!(in alloc; "{result:?}(")?;
+            shapes.push_str(shape.as_str())?;
+            for parameter in f.parameters.iter() {
+                let kind = parameter.kind;
+                let number = parameter.name.number;
+                let shape = format!(in alloc; " {kind:?} {number}")?;
+                shapes.push_str(shape.as_str())?;
+            }
+            let shape = format!(in alloc; " ) {registers} {statements};")?;
+            shapes.push_str(shape.as_str())?;
+        }
+    }
+    Ok(shapes)
+}
+
+#[test]
+fn shapes_of_functions(rt: HostRuntime) -> Result<(), Fail> {
+    for (line, wanted) in [
+        ("# void f ( void ) { return ; }", "None( ) 0 1;"),
+        (
+            "# ptr f ( i8 a , ptr b ) { i32 d ; } i32 g ( u64 a ) { a = b ; g ( ) ; }",
+            "Some(Ptr)( I8 3 Ptr 4 ) 1 0;Some(I32)( U64 3 ) 0 2;",
+        ),
+    ] {
+        assert_eq!(rt; shapes(rt.alloc(), line)?.as_str(), wanted);
     }
     Ok(())
 }
@@ -107,6 +177,10 @@ fn statements(rt: HostRuntime) -> Result<(), Fail> {
         ("a = b ; i32 a ;", "E4 at 1:11: i32"),
         ("a = putchar ( a , 7 , \"text\" ) ; f ( ) ;", "read"),
         ("f ( , ) ;", "E4 at 1:9: ,"),
+        (
+            "p = __e_acsl_store_block ( U64 ( 4 ) ) ; __e_acsl_delete_block ( p ) ; getchar ( ) ;",
+            "read",
+        ),
         ("a = \"text\" ;", "E4 at 1:9: string"),
         ("a = 12 ;", "E4 at 1:9: 12"),
         ("if ( a ) { } else { }", "read"),
@@ -149,7 +223,9 @@ fn expressions(rt: HostRuntime) -> Result<(), Fail> {
         ("( u64 ) a", "E4 at 1:10: u64"),
         ("I8 ( a )", "E4 at 1:11: a"),
         ("I8 ( - - 1 )", "E4 at 1:12: -"),
-        ("PTR ( 1 )", "E4 at 1:9: PTR"),
+        ("PTR ( 1 )", "read"),
+        ("( ( ptr ) a )", "read"),
+        ("ptr", "E4 at 1:9: ptr"),
     ] {
         let body = format!(in rt.alloc(); "a = {expression} ;")?;
         assert_eq!(rt; body_answer(rt.alloc(), body.as_str())?.as_str(), wanted);
@@ -220,15 +296,14 @@ fn value(e: &ParsedExpr) -> i128 {
 fn last_value(alloc: Global, body: &str) -> Result<Option<i128>, AllocError> {
     let line = format!(in alloc; "# i32 main ( void ) {{ {body} }}")?;
     match read_tokens(alloc, &tokens(alloc, line.as_str())?) {
-        Ok(
-            ParsedProgram {
-                function: Some(function),
+        Ok(program) => match program.functions.as_slice() {
+            [ParsedFunc { body, .. }] => match body.last() {
+                Some(ParsedStmt::Return(_, Some(e))) => Ok(Some(value(e))),
+                _ => Ok(None),
             },
-        ) => match function.body.last() {
-            Some(ParsedStmt::Return(_, Some(e))) => Ok(Some(value(e))),
             _ => Ok(None),
         },
-        _ => Ok(None),
+        Err(_) => Ok(None),
     }
 }
 

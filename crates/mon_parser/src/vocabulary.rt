@@ -5,7 +5,7 @@ ghost use Rattle.mon_syntax.specs.Words.{type_words, constant_words, keywords, r
 ghost use Rattle.mon_parser.specs.Words.{plain_words};
 
 use c_syntax::Name;
-use mon_syntax::MonType::{I8, I16, I32, I64, I128, U8, U16, U32, U64};
+use mon_syntax::MonType::{I8, I16, I32, I64, I128, Ptr, U8, U16, U32, U64};
 use mon_syntax::{Runtime, Word};
 use std::alloc::{AllocError, Global};
 
@@ -37,7 +37,7 @@ fn type_word(bytes: &[u8], other: Word) -> Word
             (b"i64", Word::TypeName(I64)),
             (b"u64", Word::TypeName(U64)),
             (b"i128", Word::TypeName(I128)),
-            (b"ptr", Word::Kept),
+            (b"ptr", Word::TypeName(Ptr)),
         ],
         bytes,
         other,
@@ -58,7 +58,7 @@ fn constant_word(bytes: &[u8], other: Word) -> Word
             (b"I64", Word::Constant(I64)),
             (b"U64", Word::Constant(U64)),
             (b"I128", Word::Constant(I128)),
-            (b"PTR", Word::Kept),
+            (b"PTR", Word::Constant(Ptr)),
         ],
         bytes,
         other,
@@ -97,8 +97,11 @@ fn runtime_word(bytes: &[u8], other: Word) -> Word
             (b"__e_acsl_print_text", Word::Runtime(Runtime::PrintText)),
             (b"__e_acsl_print_i64", Word::Runtime(Runtime::PrintSigned)),
             (b"__e_acsl_print_u64", Word::Runtime(Runtime::PrintUnsigned)),
-            (b"__e_acsl_store_block", Word::Runtime(Runtime::Kept)),
-            (b"__e_acsl_delete_block", Word::Runtime(Runtime::Kept)),
+            (b"__e_acsl_store_block", Word::Runtime(Runtime::StoreBlock)),
+            (
+                b"__e_acsl_delete_block",
+                Word::Runtime(Runtime::DeleteBlock),
+            ),
             (b"__e_acsl_copy", Word::Runtime(Runtime::Kept)),
             (b"__e_acsl_valid", Word::Runtime(Runtime::Kept)),
             (b"__e_acsl_valid_read", Word::Runtime(Runtime::Kept)),
@@ -116,7 +119,7 @@ fn runtime_word(bytes: &[u8], other: Word) -> Word
             (b"__e_acsl_initialize", Word::Runtime(Runtime::Kept)),
             (b"__e_acsl_initialize_ptr", Word::Runtime(Runtime::Kept)),
             (b"__e_acsl_print_str", Word::Runtime(Runtime::Kept)),
-            (b"getchar", Word::Runtime(Runtime::Kept)),
+            (b"getchar", Word::Runtime(Runtime::GetChar)),
         ],
         bytes,
         other,

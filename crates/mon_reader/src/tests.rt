@@ -46,3 +46,42 @@ fn texts(rt: HostRuntime) -> Result<(), Fail> {
     }
     Ok(())
 }
+
+#[test]
+fn functions(rt: HostRuntime) -> Result<(), Fail> {
+    for (text, wanted) in [
+        (
+            "i32 f(i32 a, ptr b) { return a; }\ni32 main(void) {\n  i32 c;\n  ptr p;\n  p = __e_acsl_store_block(U64(8));\n  c = f(I32(7), p);\n  __e_acsl_delete_block(p);\n  c = getchar();\n  g();\n}\nvoid g(void) { }",
+            "read",
+        ),
+        ("i32 f(void, i32 x) { }", "E4 at 2:11: ,"),
+        ("void f(void) { };\ni32 main(void) { }", "E4 at 2:17: ;"),
+        ("void f(void) { }\nvoid f(i32 a) { }", "E5 at 3:6: f"),
+        ("i32 main(void) { }\nvoid main(void) { }", "E5 at 3:6: main"),
+        ("void f(i32 a, u8 a) { }", "E5 at 2:18: a"),
+        ("i32 main(void) {\n  f();\n}", "E5 at 3:3: f"),
+        ("i32 main(void) {\n  main();\n}", "E6 at 3:7: ("),
+        (
+            "i32 main(void) {\n  f();\n}\nvoid f(i32 a) { }",
+            "E6 at 3:4: (",
+        ),
+        (
+            "void f(i32 a, i32 b) { }\ni32 main(void) {\n  f(I32(1), I64(2));\n}",
+            "E6 at 4:13: I64",
+        ),
+        (
+            "i32 main(void) {\n  i32 a;\n  a = f();\n}\nvoid f(void) { }",
+            "E6 at 4:5: =",
+        ),
+        (
+            "i32 main(void) {\n  ptr p;\n  p = PTR(1);\n}",
+            "E6 at 4:7: PTR",
+        ),
+        ("i32 main(i32 a) { }", "E13 at 2:5: main"),
+        ("void f(void) { }\nvoid main(void) { }", "E13 at 3:6: main"),
+        ("i32 f(void) { }\ni32 g(void) { }", "E13 at 1:1: main"),
+    ] {
+        assert_eq!(rt; answer(rt.alloc(), text)?.as_str(), wanted);
+    }
+    Ok(())
+}

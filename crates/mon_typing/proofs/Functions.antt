@@ -1,6 +1,7 @@
 -- The registers of a function, and a function from its parts.
 use Rattle.std.proofs.Common.{◌≡◌, ℕ, ◌+◌, ◌<◌, Bool, true, false, not, ◌&&◌, cond, List, [], ◌∷◌, ◌++◌, length, drop, get_or, map, reverse, nat_eq, Ok, refl, sym, ap, ◌∙◌, append_assoc, drop-cons, add-one}
 use Rattle.std.proofs.lemmas.List.{append-nil, map-append}
+use Rattle.std.proofs.Math.Seq.{drop-append_seam}
 use Rattle.indexmap.specs.IndexMap.{insert_entry}
 use Rattle.mon_syntax.specs.declared.tree.MonType.{MonType}
 use Rattle.mon_syntax.specs.declared.tree.MonType.TheVariants.{I8}
@@ -9,7 +10,7 @@ use Rattle.mon_syntax.specs.Trees as tree
 use Rattle.mon_syntax.specs.Trees.{MonRegister, MonStatements}
 use Rattle.mon_syntax.specs.Parsed as plain
 use Rattle.mon_syntax.specs.Grammar.{Vocabulary, word_at}
-use Rattle.mon_syntax.specs.Checking.{Checked, ◌>>=◌, name_fault, is_free, checked_registers, named_register, word_bytes, scope_of, function_of, checked_statements, checked_function}
+use Rattle.mon_syntax.specs.Checking.{Header, Checked, ◌>>=◌, name_fault, is_free, checked_registers, named_register, word_bytes, scope_of, function_of, checked_statements, checked_function}
 use Rattle.mon_parser.specs.declared.parsed.ParsedRegister.{ParsedRegister}
 use Rattle.mon_parser.specs.declared.parsed.ParsedFunc.{ParsedFunc}
 use Rattle.mon_parser.specs.declared.parsed.ParsedStmt.{ParsedStmt}
@@ -76,14 +77,21 @@ unfolding from
 known_are ws known all [] e = let f : known ≡ all = cc in sym f ∙ sym (append-nil known)
 known_are ws known all (r ∷ rs) e = behind_known ws known all r rs (is_new ws known r.name.number) (known_are ws (known ++ (r.name.number, r.kind) ∷ []) all rs) e
 
-pub function_checked : (names : List (List ℕ)) (ws : Vocabulary) (f : ParsedFunc) (rs rs1 : List ParsedRegister) (body : List ParsedStmt) (known : Registers) (around : List ℕ) (b : MonStatements) (name : List ℕ) (ps named : List MonRegister)
-    → is_free (word_at ws f.name.number) ≡ true → rs ≡ f.registers.items → rs1 ≡ f.registers.items → body ≡ f.body.items → around ≡ [] → checked_registers ws [] (map plain_register rs) ≡ Ok known
-    → checked_statements (scope_of names ws known) f.result (reverse around) (plain_stmts body) ≡ Ok b → name ≡ word_bytes names f.name.number → ps ≡ [] → named ≡ map (named_register names) (numbered (map plain_register rs1))
-    → checked_function names ws (plain_func f) ≡ Ok (record { result = f.result; name = name; parameters = ps; registers = named; body = b })
-function_checked names ws f rs rs1 body known around b name ps named free p p1 q o k h n z m =
-    let k1 : checked_registers ws [] (map plain_register f.registers.items) ≡ Ok known = ap (λ (l : List ParsedRegister). checked_registers ws [] (map plain_register l)) (sym p) ∙ k in
-    let h1 : checked_statements (scope_of names ws known) f.result [] (plain_stmts f.body.items) ≡ Ok b = (λ i. checked_statements (scope_of names ws known) f.result (reverse (sym o i)) (plain_stmts (sym q i))) ∙ h in
-    let m1 : map (named_register names) known ≡ named = ap (map (named_register names)) (known_are ws [] known (map plain_register f.registers.items) k1) ∙ sym (m ∙ ap (λ (l : List ParsedRegister). map (named_register names) (numbered (map plain_register l))) p1) in
-    (λ i. cond (free i) (Ok tt) (name_fault f.name.place) >>= λ u. k1 i >>= λ g. checked_statements (scope_of names ws g) f.result [] (plain_stmts f.body.items) >>= λ c. Ok (function_of names (plain_func f) g c))
-    ∙ ap (λ (c : Checked MonStatements). c >>= λ c. Ok (function_of names (plain_func f) known c)) h1
-    ∙ (λ i. Ok (record { result = f.result; name = sym n i; parameters = sym z i; registers = m1 i; body = b }))
+pub function_checked : (names : List (List ℕ)) (ws : Vocabulary) (gs : List Header) (f : ParsedFunc) (ps ps1 rs rs1 : List ParsedRegister) (body : List ParsedStmt) (none known all : Registers) (around : List ℕ) (b : MonStatements) (name : List ℕ) (parameters named : List MonRegister)
+    → ps ≡ f.parameters.items → ps1 ≡ f.parameters.items → rs ≡ f.registers.items → rs1 ≡ f.registers.items → body ≡ f.body.items → none ≡ [] → around ≡ []
+    → checked_registers ws none (map plain_register ps) ≡ Ok known → checked_registers ws known (map plain_register rs) ≡ Ok all → checked_statements (scope_of names ws gs all) f.result (reverse around) (plain_stmts body) ≡ Ok b
+    → name ≡ word_bytes names f.name.number → parameters ≡ map (named_register names) (numbered (map plain_register ps1)) → named ≡ map (named_register names) (numbered (map plain_register rs1))
+    → checked_function names ws gs (plain_func f) ≡ Ok (record { result = f.result; name = name; parameters = parameters; registers = named; body = b })
+function_checked names ws gs f ps ps1 rs rs1 body none known all around b name parameters named is is1 p p1 q z o j k h n m m1 =
+    let j1 : checked_registers ws [] (map plain_register f.parameters.items) ≡ Ok known = (λ i. checked_registers ws (sym z i) (map plain_register (sym is i))) ∙ j in
+    let k1 : checked_registers ws known (map plain_register f.registers.items) ≡ Ok all = ap (λ (l : List ParsedRegister). checked_registers ws known (map plain_register l)) (sym p) ∙ k in
+    let h1 : checked_statements (scope_of names ws gs all) f.result [] (plain_stmts f.body.items) ≡ Ok b = (λ i. checked_statements (scope_of names ws gs all) f.result (reverse (sym o i)) (plain_stmts (sym q i))) ∙ h in
+    let first : known ≡ numbered (map plain_register f.parameters.items) = known_are ws [] known (map plain_register f.parameters.items) j1 in
+    let second : drop (length known) all ≡ numbered (map plain_register f.registers.items) =
+    ap (drop (length known)) (known_are ws known all (map plain_register f.registers.items) k1) ∙ drop-append_seam known (numbered (map plain_register f.registers.items)) in
+    let parameters_are : map (named_register names) known ≡ parameters = ap (map (named_register names)) first ∙ sym (m ∙ ap (λ (l : List ParsedRegister). map (named_register names) (numbered (map plain_register l))) is1) in
+    let registers_are : map (named_register names) (drop (length known) all) ≡ named = ap (map (named_register names)) second ∙ sym (m1 ∙ ap (λ (l : List ParsedRegister). map (named_register names) (numbered (map plain_register l))) p1) in
+    (λ i. j1 i >>= λ g. checked_registers ws g (map plain_register f.registers.items) >>= λ r. checked_statements (scope_of names ws gs r) f.result [] (plain_stmts f.body.items) >>= λ c. Ok (function_of names (plain_func f) g r c))
+    ∙ (λ i. k1 i >>= λ r. checked_statements (scope_of names ws gs r) f.result [] (plain_stmts f.body.items) >>= λ c. Ok (function_of names (plain_func f) known r c))
+    ∙ ap (λ (c : Checked MonStatements). c >>= λ c. Ok (function_of names (plain_func f) known all c)) h1
+    ∙ (λ i. Ok (record { result = f.result; name = sym n i; parameters = parameters_are i; registers = registers_are i; body = b }))

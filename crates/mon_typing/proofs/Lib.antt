@@ -1,10 +1,13 @@
 pub mod Registers
+pub mod Headers
 pub mod Parts
 pub mod Calls
+pub mod Values
 pub mod Labels
 pub mod Lists
 pub mod Statements
 pub mod Functions
+pub mod Programs
 pub mod Holds
 pub mod Names
 pub mod Validity

@@ -12,7 +12,7 @@ use Rattle.mon_typing.specs.Scopes.{is_new}
 abbrev Registers : Type 0
 Registers = List (ℕ × MonType)
 
-eqb_sym : (a b : ℕ) → eqb a b ≡ eqb b a
+pub eqb_sym : (a b : ℕ) → eqb a b ≡ eqb b a
 eqb_sym a b = grind arith
 
 find_next : (e : ℕ × MonType) (es : Registers) (x n : ℕ) (b : Bool)
@@ -42,25 +42,26 @@ register_absent es x at v = ap (λ r. or_fault r at) (find_is es x 0 ∙ ap (opt
 
 -- ---- new registers go last
 
-abbrev named : ℕ → ℕ × MonType → Bool
-named n x = nat_eq x.0 n
+module _ {V : Type 0} where
+  abbrev pub named : ℕ → ℕ × V → Bool
+  named n x = nat_eq x.0 n
 
-known_next : (n : ℕ) (e : ℕ × MonType) (es : Registers) (b : Bool) → is_some (lookup (nat_eq n) es) ≡ list_any (named n) es → is_some (cond b (Some e.1) (lookup (nat_eq n) es)) ≡ (b || list_any (named n) es)
-known_next n e es true h = refl
-known_next n e es false h = h
+  known_next : (n : ℕ) (e : ℕ × V) (es : List (ℕ × V)) (b : Bool) → is_some (lookup (nat_eq n) es) ≡ list_any (named n) es → is_some (cond b (Some e.1) (lookup (nat_eq n) es)) ≡ (b || list_any (named n) es)
+  known_next n e es true h = refl
+  known_next n e es false h = h
 
-pub is_known : (n : ℕ) (es : Registers) → is_some (lookup (nat_eq n) es) ≡ list_any (λ (x : ℕ × MonType). nat_eq x.0 n) es
-is_known n [] = refl
-is_known n (e ∷ es) = rw (eqb_sym e.0 n) (known_next n e es (eqb n e.0) (is_known n es))
+  pub is_known : (n : ℕ) (es : List (ℕ × V)) → is_some (lookup (nat_eq n) es) ≡ list_any (λ (x : ℕ × V). nat_eq x.0 n) es
+  is_known n [] = refl
+  is_known n (e ∷ es) = rw (eqb_sym e.0 n) (known_next n e es (eqb n e.0) (is_known n es))
 
-insert_next : (n : ℕ) (t : MonType) (e : ℕ × MonType) (es : Registers) (b : Bool) → (list_any (named n) es ≡ false → insert_entry nat_eq es n t ≡ es ++ (n, t) ∷ []) → (b || list_any (named n) es) ≡ false
-    → cond b ((e.0, t) ∷ es) (e ∷ insert_entry nat_eq es n t) ≡ e ∷ (es ++ (n, t) ∷ [])
-insert_next n t e es true h z = absurd cc
-insert_next n t e es false h z = ap (λ (l : Registers). e ∷ l) (h z)
+  insert_next : (n : ℕ) (v : V) (e : ℕ × V) (es : List (ℕ × V)) (b : Bool) → (list_any (named n) es ≡ false → insert_entry nat_eq es n v ≡ es ++ (n, v) ∷ []) → (b || list_any (named n) es) ≡ false
+      → cond b ((e.0, v) ∷ es) (e ∷ insert_entry nat_eq es n v) ≡ e ∷ (es ++ (n, v) ∷ [])
+  insert_next n v e es true h z = absurd cc
+  insert_next n v e es false h z = ap (λ (l : List (ℕ × V)). e ∷ l) (h z)
 
-pub insert_new : (n : ℕ) (t : MonType) (es : Registers) → list_any (named n) es ≡ false → insert_entry nat_eq es n t ≡ es ++ (n, t) ∷ []
-insert_new n t [] z = refl
-insert_new n t (e ∷ es) z = insert_next n t e es (eqb n e.0) (insert_new n t es) (rw (eqb_sym e.0 n) at z)
+  pub insert_new : (n : ℕ) (v : V) (es : List (ℕ × V)) → list_any (named n) es ≡ false → insert_entry nat_eq es n v ≡ es ++ (n, v) ∷ []
+  insert_new n v [] z = refl
+  insert_new n v (e ∷ es) z = insert_next n v e es (eqb n e.0) (insert_new n v es) (rw (eqb_sym e.0 n) at z)
 
 pub new_is : (ws : Vocabulary) (es : Registers) (n : ℕ) (b : Bool) → b ≡ is_some (lookup (nat_eq n) es) → is_free (word_at ws n) ≡ true → not b ≡ is_new ws es n
 new_is ws es n b h free = ap not (h ∙ is_known n es) ∙ sym (ap (λ (f : Bool). f && not (list_any (named n) es)) free)

@@ -1,9 +1,12 @@
 -- Checked expressions and calls are valid.
-use Rattle.std.proofs.Common.{◌≡◌, ℕ, suc, ◌+◌, ◌<◌, ◌≤◌, max, Bool, true, false, ◌&&◌, cond, List, [], ◌∷◌, map, Option, Some, None, slice_get, Ok, Err, eqb, leb, leb-true, codes, unsigned_abs, bytes_eq, refl, sym, ap, subst, ◌∙◌, arith}
+use Rattle.std.proofs.Common.{◌≡◌, ℕ, suc, ◌+◌, ◌<◌, ◌≤◌, max, Bool, true, false, ◌&&◌, cond, List, [], ◌∷◌, map, Option, Some, None, slice_get, option_map, Ok, Err, eqb, leb, leb-true, codes, unsigned_abs, bytes_eq, refl, sym, ap, subst, ◌∙◌, arith}
+use Rattle.std.proofs.lemmas.Option.{slice_get-map}
 use Rattle.std.specs.List.{AllByRecursion}
 use Rattle.c_syntax.specs.declared.place.Place.{Place}
 use Rattle.mon_syntax.specs.declared.tree.MonType.{MonType}
-use Rattle.mon_syntax.specs.declared.tree.MonType.TheVariants.{I8, U8, I16, U16, I32, U32, I64, U64, I128}
+use Rattle.mon_syntax.specs.declared.tree.MonType.TheVariants.{I8, U8, I16, U16, I32, U32, I64, U64, I128, Ptr}
+use Rattle.mon_syntax.specs.declared.tree.MemoryCall.{MemoryCall}
+use Rattle.mon_syntax.specs.declared.tree.MemoryCall.TheVariants.{StoreBlock, DeleteBlock}
 use Rattle.mon_syntax.specs.declared.word.Runtime.{Runtime}
 use Rattle.mon_syntax.specs.declared.word.Runtime.TheVariants as runtime
 use Rattle.mon_syntax.specs.declared.word.Word.{Word}
@@ -13,9 +16,10 @@ use Rattle.mon_syntax.specs.Trees.{MonExpression, MonStatement}
 use Rattle.mon_syntax.specs.Parsed.{NameUse, ParsedExpression, Name, Constant, Binary, Minus, Flip, Cast, ParsedArgument, Value, Number, Text, ParsedCall}
 use Rattle.mon_syntax.specs.Grammar.{word_at, is_step_word, has_no_argument}
 use Rattle.mon_syntax.specs.Valid as valid
-use Rattle.mon_syntax.specs.Valid.{Types, HasType, IsExpression, Labels, TakesResult, IsStatement, is_arithmetic, result_type, has_constant, greatest_number}
-use Rattle.mon_syntax.specs.Checking.{Scope, Typed, Checked, ◌>>=◌, ◌>>◌, same_type, name_fault, type_fault, find_register, or_fault, register_of, bytes_of, place_of, checked_expression, of_type, value_of_type, small_number, string, kind_named, others, wrong_number, no_more, next, assert_call, one_value, runtime_call, call_of_word, checked_call, taken, returned}
+use Rattle.mon_syntax.specs.Valid.{Types, HasType, IsExpression, Labels, TakesValue, AreArguments, Signature, IsStatement, is_arithmetic, is_whole, memory_parameters, result_type, has_constant, greatest_number}
+use Rattle.mon_syntax.specs.Checking.{Header, Scope, Typed, Checked, ◌>>=◌, ◌>>◌, demanded, same_type, type_fault, find_register, find_function, or_fault, register_of, function_called, bytes_of, word_bytes, result_of, place_of, checked_expression, of_type, value_of_type, small_number, string, kind_named, others, wrong_number, no_more, next, assert_call, one_value, arguments_of, memory_call, runtime_call, named_call, call_of_word, checked_call, taken, returned}
 use Rattle.mon_typing.specs.Within.{open_parens, HasFewParens, IsArgumentWithin, HasFewParensWhereAny}
+use Rattle.mon_typing.proofs.Headers.{Stands, stands}
 use Rattle.mon_typing.proofs.Holds.{Holds, holds_behind, holds_where, holds_all, first_true, second_true}
 
 pub same : (a b : MonType) → same_type a b ≡ true → a ≡ b
@@ -28,6 +32,7 @@ same U32 U32 h = refl
 same I64 I64 h = refl
 same U64 U64 h = refl
 same I128 I128 h = refl
+same Ptr Ptr h = refl
 same a b h = absurd cc
 
 -- ---- registers
@@ -54,6 +59,20 @@ found n (r ∷ rs) x = found_at n r rs (find_register (suc n) rs x) (eqb r.0 x) 
 holds_found : (rs : List (ℕ × MonType)) (o : Option (ℕ × MonType)) (at : Place) → Found 0 rs o → Holds (λ r. slice_get (kinds rs) r.0 ≡ Some r.1) (or_fault o at)
 holds_found rs None at h = tt
 holds_found rs (Some r) at h = let e : r.0 ≡ h.0 = omega (arith, h.1) in ap (slice_get (kinds rs)) e ∙ h.2
+
+-- ---- functions
+
+-- what a function of the header is in a program with these names
+abbrev pub signature_for : List (List ℕ) → Header → Signature
+signature_for names h = record { name = word_bytes names h.name; parameters = h.parameters; result = h.result }
+
+holds_stands : (gs : List Header) (x : ℕ) (o : Option (ℕ × Header)) (at : Place) → find_function 0 gs x ≡ o → Holds (Stands gs x) (or_fault o at)
+holds_stands gs x None at e = tt
+holds_stands gs x (Some g) at e = stands gs x g e
+
+result_at : (names : List (List ℕ)) (o : Option Header) (callee : Signature) → option_map (signature_for names) o ≡ Some callee → result_of o ≡ callee.result
+result_at names None callee e = absurd cc
+result_at names (Some g) callee e = let z : signature_for names g ≡ callee = cc in ap (λ (c : Signature). c.result) z
 
 module _ (s : Scope) where
   abbrev types : Types
@@ -89,7 +108,9 @@ module _ (s : Scope) where
       holds_behind (IsTyped a) (IsTyped (Flip at a)) (checked_expression s a) _ (typed a) (λ x p.
       holds_where (IsTyped (Flip at a)) (is_arithmetic x.1) at (Ok (tree.Flip x.1 x.0, x.1)) (λ h. ((refl, h, p.0), λ i. suc (p.1 i))))
   typed (Cast at t a) =
-      holds_behind (IsTyped a) (IsTyped (Cast at t a)) (checked_expression s a) (λ x. Ok (tree.Cast t x.0, t)) (typed a) (λ x p. ((refl, (x.1, p.0)), λ i. suc (max 1 (p.1 i))))
+      holds_behind (IsTyped a) (IsTyped (Cast at t a)) (checked_expression s a) _ (typed a) (λ x p.
+      holds_where (IsTyped (Cast at t a)) (is_whole x.1 && is_whole t) at (Ok (tree.Cast t x.0, t)) (λ h.
+      ((refl, second_true (is_whole x.1) (is_whole t) h, (x.1, first_true (is_whole x.1) (is_whole t) h, p.0)), λ i. suc (max 1 (p.1 i)))))
 
   pub is_expression : (t : MonType) (at : Place) (e : ParsedExpression) → HasFewParens e → Holds (λ v. IsExpression types v t) (of_type s t at e)
   is_expression t at e few =
@@ -137,12 +158,24 @@ module _ (s : Scope) where
   more_valid Q at [] a q = q
   more_valid Q at (x ∷ xs) a q = wrong Q (others s (x ∷ xs)) at
 
+  values_valid : (at : Place) (ts : Types) (xs : List ParsedArgument) → Within xs → Holds (λ es. AreArguments types es ts) (arguments_of s at ts xs)
+  values_valid at [] xs w = more_valid (λ es. AreArguments types es []) at xs [] tt
+  values_valid at (t ∷ ts) xs w =
+      next_valid (λ e. IsExpression types e t) (λ es. AreArguments types es (t ∷ ts)) at (value_of_type s t) xs _ w (value_valid t) (λ e more p v.
+      holds_behind (λ es. AreArguments types es ts) (λ es. AreArguments types es (t ∷ ts)) (arguments_of s at ts more) (λ es. Ok (e ∷ es)) (values_valid at ts more v) (λ es q. (p, q)))
+
   -- ---- calls
+
+  abbrev signatures : List Signature
+  signatures = map (signature_for s.names) s.functions
+
+  function_found : (f : NameUse) → Holds (Stands s.functions f.number) (function_called s f)
+  function_found f = holds_stands s.functions f.number (find_function 0 s.functions f.number) f.place refl
 
   module _ (t : Option MonType) (ls : Labels) where
     -- a call's statement, which is a step or not
     abbrev IsCall : Bool → MonStatement → Type 0
-    IsCall b m = IsStatement types t ls m × (valid.depth m ≡ 1) × (valid.is_step m ≡ b)
+    IsCall b m = IsStatement signatures types t ls m × (valid.depth m ≡ 1) × (valid.is_step m ≡ b)
 
     one_valid : (at : Place) (k : MonType) (xs : List ParsedArgument) (f : MonExpression → MonStatement) → Within xs → ((e : MonExpression) → IsExpression types e k → IsCall false (f e)) → Holds (IsCall false) (one_value s at k xs f)
     one_valid at k xs f w h = next_valid (λ e. IsExpression types e k) (IsCall false) at (value_of_type s k) xs (λ e more. no_more s at more (f e)) w (value_valid k) (λ e more p v. more_valid (IsCall false) at more (f e) (h e p))
@@ -160,29 +193,72 @@ module _ (s : Scope) where
     step_valid at [] = (tt, refl, refl)
     step_valid at (x ∷ xs) = wrong (IsCall false) (others s (x ∷ xs)) at
 
+    memory_valid : (at : Place) (xs : List ParsedArgument) (f : MemoryCall) → Within xs → Holds (IsCall false) (memory_call s at xs f)
+    memory_valid at xs f w =
+        holds_behind (λ es. AreArguments types es (memory_parameters f)) (IsCall false) (arguments_of s at (memory_parameters f) xs) (λ es. Ok (tree.Act None f es)) (values_valid at (memory_parameters f) xs w) (λ es p. ((p, tt), refl, refl))
+
     runtime_valid : (f : NameUse) (at : Place) (xs : List ParsedArgument) (r : Runtime) → Within xs → Holds (IsCall (is_step_word (word.Runtime r) && has_no_argument xs)) (runtime_call s f at xs r)
     runtime_valid f at xs runtime.Step w = step_valid at xs
     runtime_valid f at xs runtime.Assert w = assert_valid at xs w
     runtime_valid f at xs runtime.PutChar w = one_valid at I32 xs (tree.PutChar None) w (λ e p. ((tt, p), refl, refl))
+    runtime_valid f at xs runtime.GetChar w = more_valid (IsCall false) at xs (tree.GetChar None) (tt, refl, refl)
     runtime_valid f at xs runtime.Exit w = one_valid at I32 xs tree.Exit w (λ e p. (p, refl, refl))
     runtime_valid f at xs runtime.PrintText w = next_valid (λ v. AllByRecursion (λ b. b < 256) v.0) (IsCall false) at (string s) xs (λ v more. no_more s at more (tree.PrintText v.0)) w string_valid (λ v more p u. more_valid (IsCall false) at more (tree.PrintText v.0) (p, refl, refl))
     runtime_valid f at xs runtime.PrintSigned w = one_valid at I64 xs tree.PrintSigned w (λ e p. (p, refl, refl))
     runtime_valid f at xs runtime.PrintUnsigned w = one_valid at U64 xs tree.PrintUnsigned w (λ e p. (p, refl, refl))
+    runtime_valid f at xs runtime.StoreBlock w = memory_valid at xs StoreBlock w
+    runtime_valid f at xs runtime.DeleteBlock w = memory_valid at xs DeleteBlock w
     runtime_valid f at xs runtime.Kept w = tt
 
-    named_at : (P : MonStatement → Type 0) (f : NameUse) (at : Place) (xs : List ParsedArgument) (b : Bool) → Holds P (cond b (wrong_number s at xs) (name_fault f.place))
-    named_at P f at xs true = wrong P (others s xs) at
-    named_at P f at xs false = tt
+    called_at : (f : NameUse) (at : Place) (xs : List ParsedArgument) (g : ℕ × Header) (b : Bool) → Within xs → Stands s.functions f.number g → bytes_eq (bytes_of s f.number) (codes "main") ≡ b
+        → Holds (IsCall false) (cond b (wrong_number s at xs) (arguments_of s at g.1.parameters xs >>= λ es. Ok (tree.Call None g.0 es)))
+    called_at f at xs g true w p e = wrong (IsCall false) (others s xs) at
+    called_at f at xs g false w p e =
+        holds_behind (λ es. AreArguments types es g.1.parameters) (IsCall false) (arguments_of s at g.1.parameters xs) (λ es. Ok (tree.Call None g.0 es)) (values_valid at g.1.parameters xs w) (λ es q. (
+          record {
+            callee = signature_for s.names g.1;
+            has = slice_get-map (signature_for s.names) s.functions g.0 ∙ ap (option_map (signature_for s.names)) p.at;
+            not_main = ap (λ n. bytes_eq (bytes_of s n) (codes "main")) p.named ∙ e;
+            arguments = q;
+            takes = tt;
+          },
+          refl,
+          refl,
+        ))
+
+    named_valid : (f : NameUse) (at : Place) (xs : List ParsedArgument) → Within xs → Holds (IsCall false) (named_call s f at xs)
+    named_valid f at xs w =
+        holds_behind (Stands s.functions f.number) (IsCall false) (function_called s f) _ (function_found f) (λ g p. called_at f at xs g (bytes_eq (bytes_of s f.number) (codes "main")) w p refl)
 
     word_valid : (c : ParsedCall) (w : Word) → Within c.arguments → Holds (IsCall (is_step_word w && has_no_argument c.arguments)) (call_of_word s c w)
     word_valid c (word.Runtime r) v = runtime_valid c.callee c.place c.arguments r v
-    word_valid c w v = named_at (IsCall (is_step_word w && has_no_argument c.arguments)) c.callee c.place c.arguments (bytes_eq (bytes_of s c.callee.number) (codes "main"))
+    word_valid c w v = named_valid c.callee c.place c.arguments v
 
     pub call_valid : (c : ParsedCall) → Within c.arguments → Holds (IsCall (is_step_word (word_at s.words c.callee.number) && has_no_argument c.arguments)) (checked_call s c)
     call_valid c w = word_valid c (word_at s.words c.callee.number) w
 
-    pub taken_valid : (b : Bool) (r : ℕ × MonType) (at : Place) (m : MonStatement) → slice_get types r.0 ≡ Some r.1 → IsCall b m → Holds (IsCall false) (taken r at m)
+    -- the register takes the value of a call, where there is one of its type
+    given_at : (r : ℕ × MonType) (at : Place) (f : ℕ) (es : List MonExpression) (o : Option MonType) (p : valid.IsCall signatures types None f es) → slice_get types r.0 ≡ Some r.1 → o ≡ p.callee.result
+        → Holds (IsCall false) (elim o [ None ↦ type_fault at | Some t ↦ demanded (same_type t r.1) at >> Ok (tree.Call (Some r.0) f es) ])
+    given_at r at f es None p h e = tt
+    given_at r at f es (Some k) p h e =
+        holds_where (IsCall false) (same_type k r.1) at (Ok (tree.Call (Some r.0) f es)) (λ z. (
+          record { callee = p.callee; has = p.has; not_main = p.not_main; arguments = p.arguments; takes = subst (TakesValue types (Some r.0)) e (h ∙ ap Some (sym (same k r.1 z))) },
+          refl,
+          refl,
+        ))
+
+    result_is : (f : ℕ) (callee : Signature) → slice_get signatures f ≡ Some callee → result_of (slice_get s.functions f) ≡ callee.result
+    result_is f callee has = result_at s.names (slice_get s.functions f) callee (sym (slice_get-map (signature_for s.names) s.functions f) ∙ has)
+
+    pub taken_valid : (b : Bool) (r : ℕ × MonType) (at : Place) (m : MonStatement) → slice_get types r.0 ≡ Some r.1 → IsCall b m → Holds (IsCall false) (taken s r at m)
     taken_valid b r at (tree.PutChar x e) h p = holds_where (IsCall false) (same_type I32 r.1) at (Ok (tree.PutChar (Some r.0) e)) (λ k. ((h ∙ ap Some (sym (same I32 r.1 k)), p.0.1), refl, refl))
+    taken_valid b r at (tree.GetChar x) h p = holds_where (IsCall false) (same_type I32 r.1) at (Ok (tree.GetChar (Some r.0))) (λ k. (h ∙ ap Some (sym (same I32 r.1 k)), refl, refl))
+    taken_valid b r at (tree.Act x StoreBlock es) h p = holds_where (IsCall false) (same_type Ptr r.1) at (Ok (tree.Act (Some r.0) StoreBlock es)) (λ k. ((p.0.0, h ∙ ap Some (sym (same Ptr r.1 k))), refl, refl))
+    taken_valid b r at (tree.Act x DeleteBlock es) h p = tt
+    taken_valid b r at (tree.Call x f es) h p =
+        let c = p.0 in
+        given_at r at f es (result_of (slice_get s.functions f)) (record { callee = c.callee; has = c.has; not_main = c.not_main; arguments = c.arguments; takes = tt }) h (result_is f c.callee c.has)
     taken_valid b r at m h p = tt
 
   pub returned_valid : (t : Option MonType) (ls : Labels) (at : Place) (e : Option ParsedExpression) → HasFewParensWhereAny e → Holds (IsCall t ls false) (returned s t at e)

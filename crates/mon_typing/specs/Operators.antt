@@ -4,7 +4,7 @@ use Rattle.c_syntax.specs.declared.place.Place.{Place}
 use Rattle.mon_syntax.specs.declared.tree.MonType.{MonType}
 use Rattle.mon_syntax.specs.declared.tree.MonOp.{MonOp}
 use Rattle.mon_syntax.specs.Trees as tree
-use Rattle.mon_syntax.specs.Valid.{is_arithmetic, result_type, has_constant}
+use Rattle.mon_syntax.specs.Valid.{is_arithmetic, is_whole, result_type, has_constant}
 use Rattle.mon_syntax.specs.Checking.{Checked, Typed, ◌>>◌, demanded, same_type}
 
 abbrev pub constant : Place → MonType → ℤ → Checked Typed
@@ -18,3 +18,6 @@ minus at x = demanded (is_arithmetic x.1) at >> Ok (tree.Minus x.1 x.0, x.1)
 
 abbrev pub flip : Place → Typed → Checked Typed
 flip at x = demanded (is_arithmetic x.1) at >> Ok (tree.Flip x.1 x.0, x.1)
+
+abbrev pub cast : Place → MonType → Typed → Checked Typed
+cast at t x = demanded (is_whole x.1 && is_whole t) at >> Ok (tree.Cast t x.0, t)

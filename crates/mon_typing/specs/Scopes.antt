@@ -7,9 +7,15 @@ use Rattle.mon_syntax.specs.Grammar.{Vocabulary, word_at}
 use Rattle.mon_syntax.specs.Checking.{is_free}
 use Rattle.mon_syntax.specs.Checking as plain
 use Rattle.mon_typing.specs.declared.scope.Scope.{Scope}
+use Rattle.mon_typing.specs.Headers.{plain_header}
 
 abbrev pub plain_scope : Scope → plain.Scope
-plain_scope s = record { names = s.names.now; words = s.words.now; registers = s.registers.now.entries }
+plain_scope s = record {
+  names = s.names.now;
+  words = s.words.now;
+  functions = map plain_header s.functions.now.headers.items;
+  registers = s.registers.now.entries;
+}
 
 -- registers by their names' numbers
 abbrev pub numbered : List ParsedRegister → List (ℕ × MonType)

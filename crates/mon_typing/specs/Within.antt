@@ -67,11 +67,11 @@ module _ (ws : Vocabulary) where
 
   pub record IsFunctionWithin (n : ℕ) (f : ParsedFunction) : Type 0 where
     pub name : f.name.number < n
+    pub parameters : AllByRecursion (λ (r : ParsedRegister). r.name.number < n) f.parameters
     pub registers : AllByRecursion (λ (r : ParsedRegister). r.name.number < n) f.registers
     pub body : AreWithin n f.body
     -- the body itself is 1 deep
     pub nested : suc (depth_of_all f.body) ≤ most_nested
 
   abbrev pub IsProgramWithin : ℕ → ParsedProgram → Type 0
-  IsProgramWithin n None = Unit {0}
-  IsProgramWithin n (Some f) = IsFunctionWithin n f
+  IsProgramWithin n fs = AllByRecursion (IsFunctionWithin n) fs

@@ -4,7 +4,7 @@ ghost use Rattle.std.specs.Prelude.{◌≡◌, ℕ, List, map, bytes_eq};
 ghost use Rattle.c_syntax.specs.declared.annotation.Kind.{Kind};
 ghost use Rattle.mon_syntax.specs.Trees.{plain_expr, MonExpression, MonStatement};
 ghost use Rattle.mon_syntax.specs.Parsed.{ParsedArgument};
-ghost use Rattle.mon_syntax.specs.Checking.{value_of_type, small_number, string, kind_words, kind_of, kind_named, others, wrong_number, no_more};
+ghost use Rattle.mon_syntax.specs.Checking.{value_of_type, small_number, string, kind_words, kind_of, kind_named, others, wrong_number, no_more, arguments_of};
 ghost use Rattle.mon_parser.specs.ParsedTrees as read;
 ghost use Rattle.mon_typing.specs.Answers.{Fails, Gives};
 ghost use Rattle.mon_typing.specs.Arguments.{first_of, only_value, only_string};
@@ -234,4 +234,25 @@ pub fn only_string<'a>(
             Ok(text)
         }
     }
+}
+
+/// Values of these types, and no other arguments.
+pub fn values_of(
+    alloc: Global,
+    scope: &Scope,
+    place: Place,
+    kinds: &[MonType],
+    arguments: &[ParsedArg],
+) -> Result<Vec<MonExpr>, CheckFault>
+    ensures { Gives (λ v. map plain_expr v.items) result (arguments_of (plain_scope scope.now) place kinds.now (map read.plain_arg arguments.now)) }
+{
+    let mut values = Vec::new(alloc);
+    let mut rest = arguments;
+    'each: for kind in kinds {
+        let (value, more) = next_value(alloc, scope, place, *kind, rest)?;
+        values.push(value)?;
+        rest = more;
+    }
+    no_more(alloc, scope, place, rest)?;
+    Ok(values)
 }

@@ -1,21 +1,22 @@
-//! Calls: of the runtime, and of no other function.
+//! Calls: of the runtime, and of the functions of the program.
 
-ghost use Rattle.std.specs.Prelude.{map};
+ghost use Rattle.std.specs.Prelude.{◌≡◌, map};
 ghost use Rattle.mon_syntax.specs.Trees.{plain_stmt};
-ghost use Rattle.mon_syntax.specs.Checking.{assert_call, runtime_call, named_call, call_of_word, checked_call};
+ghost use Rattle.mon_syntax.specs.Valid.{memory_parameters};
+ghost use Rattle.mon_syntax.specs.Checking.{assert_call, memory_call, runtime_call, named_call, call_of_word, checked_call};
 ghost use Rattle.mon_parser.specs.ParsedTrees as read;
 ghost use Rattle.mon_typing.specs.Answers.{Gives};
 ghost use Rattle.mon_typing.specs.Scopes.{plain_scope};
 
 use crate::argument::{
-    next_kind, next_number, next_value, no_more, only_string, only_value, wrong_number,
+    next_kind, next_number, next_value, no_more, only_string, only_value, values_of, wrong_number,
 };
 use crate::fault::CheckFault;
-use crate::scope::{Scope, is_main};
+use crate::scope::{Scope, function_called, is_main};
 use c_syntax::{Name, Place};
 use mon_parser::parsed::{NameUse, ParsedArg, ParsedCall};
 use mon_parser::word_at;
-use mon_syntax::{MonStmt, MonType, Runtime, Word};
+use mon_syntax::{MemoryCall, MonStmt, MonType, Runtime, Word};
 use std::alloc::Global;
 
 fn assert_call(
@@ -33,6 +34,29 @@ fn assert_call(
     let (kind, more) = next_kind(alloc, scope, place, more)?;
     no_more(alloc, scope, place, more)?;
     Ok(MonStmt::Assert(defined, holds, number, line, kind))
+}
+
+/// The types of the arguments of a call on the memory.
+fn memory_parameters(f: MemoryCall) -> &'static [MonType]
+    ensures { result.now ≡ memory_parameters f }
+{
+    match f {
+        MemoryCall::StoreBlock => &[MonType::U64],
+        MemoryCall::DeleteBlock => &[MonType::Ptr],
+    }
+}
+
+fn memory_call(
+    alloc: Global,
+    scope: &Scope,
+    place: Place,
+    arguments: &[ParsedArg],
+    f: MemoryCall,
+) -> Result<MonStmt, CheckFault>
+    ensures { Gives plain_stmt result (memory_call (plain_scope scope.now) place (map read.plain_arg arguments.now) f) }
+{
+    let values = values_of(alloc, scope, place, memory_parameters(f), arguments)?;
+    Ok(MonStmt::Act(None, f, values))
 }
 
 /// A call of the runtime, whose value isn't taken.
@@ -56,6 +80,10 @@ fn runtime_call(
             let byte = only_value(alloc, scope, place, MonType::I32, arguments)?;
             Ok(MonStmt::PutChar(None, byte))
         }
+        Runtime::GetChar => {
+            no_more(alloc, scope, place, arguments)?;
+            Ok(MonStmt::GetChar(None))
+        }
         Runtime::Exit => {
             let status = only_value(alloc, scope, place, MonType::I32, arguments)?;
             Ok(MonStmt::Exit(status))
@@ -73,11 +101,17 @@ fn runtime_call(
             let value = only_value(alloc, scope, place, MonType::U64, arguments)?;
             Ok(MonStmt::PrintUnsigned(value))
         }
+        Runtime::StoreBlock => {
+            memory_call(alloc, scope, place, arguments, MemoryCall::StoreBlock)
+        }
+        Runtime::DeleteBlock => {
+            memory_call(alloc, scope, place, arguments, MemoryCall::DeleteBlock)
+        }
         Runtime::Kept => Err(CheckFault::BadName(callee.place)),
     }
 }
 
-/// A call of a name that isn't of the runtime. `main` isn't called, and there is no other function.
+/// A call of a function of the program, whose value isn't taken. `main` isn't called.
 fn named_call(
     alloc: Global,
     scope: &Scope,
@@ -87,11 +121,12 @@ fn named_call(
 ) -> Result<MonStmt, CheckFault>
     ensures { Gives plain_stmt result (named_call (plain_scope scope.now) (read.plain_name callee) place (map read.plain_arg arguments.now)) }
 {
+    let (number, header) = function_called(scope, callee)?;
     if is_main(scope.names, callee.number) {
-        Err(wrong_number(alloc, scope, place, arguments))
-    } else {
-        Err(CheckFault::BadName(callee.place))
+        return Err(wrong_number(alloc, scope, place, arguments));
     }
+    let values = values_of(alloc, scope, place, &header.parameters, arguments)?;
+    Ok(MonStmt::Call(None, number, values))
 }
 
 /// A call whose value isn't taken.

@@ -5,12 +5,12 @@ ghost use Rattle.mon_syntax.specs.Trees.{plain_expr};
 ghost use Rattle.mon_syntax.specs.Checking.{place_of, checked_expression, of_type, condition};
 ghost use Rattle.mon_parser.specs.ParsedTrees as read;
 ghost use Rattle.mon_typing.specs.Answers.{Gives, plain_typed};
-ghost use Rattle.mon_typing.specs.Operators.{constant, binary, minus, flip};
+ghost use Rattle.mon_typing.specs.Operators.{constant, binary, minus, flip, cast};
 ghost use Rattle.mon_typing.specs.Scopes.{plain_scope};
 
 use crate::fault::CheckFault;
 use crate::scope::{Scope, register_of};
-use crate::types::{has_constant, is_arithmetic, result_type, same_type};
+use crate::types::{has_constant, is_arithmetic, is_whole, result_type, same_type};
 use c_syntax::Place;
 use mon_parser::parsed::{Literal, ParsedExpr};
 use mon_syntax::{MonExpr, MonOp, MonType};
@@ -86,6 +86,16 @@ fn flip(alloc: Global, place: Place, operand: Typed) -> Result<Typed, CheckFault
     Ok((MonExpr::Flip(kind, Box::new(alloc, a)?), kind))
 }
 
+fn cast(alloc: Global, place: Place, kind: MonType, operand: Typed) -> Result<Typed, CheckFault>
+    ensures { Gives plain_typed result (cast place kind (plain_typed operand)) }
+{
+    let (a, from) = operand;
+    if !is_whole(from) || !is_whole(kind) {
+        return Err(CheckFault::BadType(place));
+    }
+    Ok((MonExpr::Cast(kind, Box::new(alloc, a)?), kind))
+}
+
 /// The expression that is spelled, with its type.
 #[cycle(expression)]
 pub fn checked_expression(alloc: Global, scope: &Scope, e: &ParsedExpr) -> Result<Typed, CheckFault>
@@ -110,9 +120,9 @@ pub fn checked_expression(alloc: Global, scope: &Scope, e: &ParsedExpr) -> Resul
             let operand = checked_expression(alloc, scope, a)?;
             flip(alloc, *place, operand)
         }
-        ParsedExpr::Cast(_, kind, a) => {
-            let (operand, _) = checked_expression(alloc, scope, a)?;
-            Ok((MonExpr::Cast(*kind, Box::new(alloc, operand)?), *kind))
+        ParsedExpr::Cast(place, kind, a) => {
+            let operand = checked_expression(alloc, scope, a)?;
+            cast(alloc, *place, *kind, operand)
         }
     }
 }

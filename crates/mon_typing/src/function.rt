@@ -1,13 +1,16 @@
 //! Functions and texts.
 
-ghost use Rattle.std.specs.Prelude.{◌≡◌, [], map, IfOk};
+ghost use Rattle.std.specs.Prelude.{◌≡◌, ◌&&◌, map, IfOk};
 ghost use Rattle.mon_syntax.specs.Trees.{plain_register, plain_func, plain_program};
-ghost use Rattle.mon_syntax.specs.Checking.{checked_registers, named_register, checked_function, checked_program};
+ghost use Rattle.mon_syntax.specs.Checking.{is_free, find_function, checked_registers, named_register, checked_function, checked_program};
+ghost use Rattle.mon_syntax.specs.Grammar.{word_at};
 ghost use Rattle.mon_parser.specs.ParsedTrees as read;
 ghost use Rattle.mon_typing.specs.Answers.{Gives};
+ghost use Rattle.mon_typing.specs.Headers.{plain_header, is_at};
 ghost use Rattle.mon_typing.specs.Scopes.{numbered, is_new};
 
 use crate::fault::CheckFault;
+use crate::header::Functions;
 use crate::scope::{Scope, is_free, name_at};
 use crate::statement::{Labels, checked_statements};
 use c_syntax::Name;
@@ -24,15 +27,15 @@ fn is_new(words: &[Word], known: &IndexMap<u32, MonType>, number: u32) -> bool
     is_free(word_at(words, number)) && !known.contains_key(&number)
 }
 
-/// The registers by their names' numbers. Each has a free name of its own.
+/// The registers behind those that are known, by their names' numbers. Each has a free name of its own.
 fn checked_registers(
-    alloc: Global,
     words: &[Word],
+    known: IndexMap<u32, MonType>,
     registers: &[ParsedRegister],
 ) -> Result<IndexMap<u32, MonType>, CheckFault>
-    ensures { Gives (λ known. known.entries) result (checked_registers words.now [] (map read.plain_register registers.now)) }
+    ensures { Gives (λ known. known.entries) result (checked_registers words.now known.entries (map read.plain_register registers.now)) }
 {
-    let mut known = IndexMap::new(alloc);
+    let mut known = known;
     'each: for register in registers {
         let name = register.name;
         if !is_new(words, &known, name.number) {
@@ -71,21 +74,22 @@ fn named_registers(
     Ok(all)
 }
 
+/// A function among others. Its parameters may be used in its body like registers.
 fn checked_function(
     alloc: Global,
     names: &[Name],
     words: &[Word],
+    functions: &Functions,
     f: &ParsedFunc,
 ) -> Result<MonFunc, CheckFault>
-    ensures { Gives plain_func result (checked_function names.now words.now (read.plain_func f.now)) }
+    ensures { Gives plain_func result (checked_function names.now words.now (map plain_header functions.now.headers.items) (read.plain_func f.now)) }
 {
-    if !is_free(word_at(words, f.name.number)) {
-        return Err(CheckFault::BadName(f.name.place));
-    }
-    let known = checked_registers(alloc, words, &f.registers)?;
+    let known = checked_registers(words, IndexMap::new(alloc), &f.parameters)?;
+    let known = checked_registers(words, known, &f.registers)?;
     let scope = Scope {
         names,
         words,
+        functions,
         registers: &known,
     };
     let mut labels = Labels {
@@ -96,10 +100,20 @@ fn checked_function(
     Ok(MonFunc {
         result: f.result,
         name: name_at(alloc, names, f.name.number)?,
-        parameters: Vec::new(alloc),
+        parameters: named_registers(alloc, names, &f.parameters)?,
         registers: named_registers(alloc, names, &f.registers)?,
         body,
     })
+}
+
+/// Whether the function with this number has a free name, and is the first of its name.
+fn is_new_function(words: &[Word], functions: &Functions, name: u32, index: usize) -> bool
+    ensures { result ≡ (is_free (word_at words.now name) && is_at index (find_function 0 (map plain_header functions.now.headers.items) name)) }
+{
+    match functions.find(name) {
+        Some((first, _)) => is_free(word_at(words, name)) && first == index,
+        None => false,
+    }
 }
 
 /// The program that a tree spells, by the text's names and what each of them is, or its first fault.
@@ -111,9 +125,13 @@ pub fn checked_program(
 ) -> Result<MonProgram, CheckFault>
     ensures { Gives plain_program result (checked_program names.now words.now (read.plain_program program.now)) }
 {
+    let all = Functions::new(alloc, &program.functions)?;
     let mut functions = Vec::new(alloc);
-    if let Some(f) = &program.function {
-        functions.push(checked_function(alloc, names, words, f)?)?;
+    'each: for (index, f) in program.functions.iter().enumerate() {
+        if !is_new_function(words, &all, f.name.number, index) {
+            return Err(CheckFault::BadName(f.name.place));
+        }
+        functions.push(checked_function(alloc, names, words, &all, f)?)?;
     }
     Ok(MonProgram { functions })
 }

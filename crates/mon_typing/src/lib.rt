@@ -8,6 +8,7 @@ pub mod call;
 pub mod expression;
 pub mod fault;
 pub mod function;
+pub mod header;
 pub mod laws;
 pub mod scope;
 pub mod statement;

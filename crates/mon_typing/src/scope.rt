@@ -1,23 +1,26 @@
 //! What is known of a text's names.
 
 ghost use Rattle.std.specs.Prelude.{◌≡◌, IfOk, bytes_eq, codes};
-ghost use Rattle.mon_syntax.specs.Checking.{word_bytes, register_of, is_free};
+ghost use Rattle.mon_syntax.specs.Checking.{word_bytes, register_of, function_called, is_free};
 ghost use Rattle.mon_parser.specs.ParsedTrees.{plain_name};
 ghost use Rattle.mon_typing.specs.Answers.{Gives};
+ghost use Rattle.mon_typing.specs.Headers.{plain_header};
 ghost use Rattle.mon_typing.specs.Scopes.{plain_scope};
 
 use crate::fault::CheckFault;
+use crate::header::{Functions, Header};
 use c_syntax::Name;
 use indexmap::IndexMap;
 use mon_parser::parsed::NameUse;
 use mon_syntax::{MonType, Word};
 use std::alloc::{AllocError, Global};
 
-/// The names of the text and what they are, and the registers by their names' numbers.
+/// The names of the text and what they are, the functions, and the registers by their names' numbers.
 #[derive(Clone, Copy, Drop)]
 pub struct Scope<'a> {
     pub names: &'a [Name],
     pub words: &'a [Word],
+    pub functions: &'a Functions,
     pub registers: &'a IndexMap<u32, MonType>,
 }
 
@@ -58,5 +61,21 @@ pub fn register_of(scope: &Scope, name: NameUse) -> Result<(u32, MonType), Check
             Err(_) => Err(CheckFault::Memory),
         },
         None => Err(CheckFault::BadName(name.place)),
+    }
+}
+
+/// A function by its number in the program, with what it is to its callers.
+pub fn function_called<'a>(
+    scope: &Scope<'a>,
+    name: NameUse,
+) -> Result<(u32, &'a Header), CheckFault>
+    ensures { Gives (λ x. (x.0, plain_header x.1.now)) result (function_called (plain_scope scope.now) (plain_name name)) }
+{
+    let Some((index, header)) = scope.functions.find(name.number) else {
+        return Err(CheckFault::BadName(name.place));
+    };
+    match u32::try_from(index) {
+        Ok(number) => Ok((number, header)),
+        Err(_) => Err(CheckFault::Memory),
     }
 }

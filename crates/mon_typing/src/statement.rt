@@ -1,9 +1,10 @@
 //! Statements, in a function of a result and inside bodies of labels.
 
-ghost use Rattle.std.specs.Prelude.{◌≡◌, ◌++◌, [], ◌∷◌, nat_eq, reverse, option_map, OnOk};
+ghost use Rattle.std.specs.Prelude.{◌≡◌, ◌++◌, [], ◌∷◌, nat_eq, reverse, option_map, slice_get, OnOk};
 ghost use Rattle.std.specs.List.{list_any};
 ghost use Rattle.mon_syntax.specs.Trees.{plain_stmt, plain_stmts};
-ghost use Rattle.mon_syntax.specs.Checking.{taken, returned, known_label, new_label, labels_in, labels_in_all, checked_statement, checked_statements};
+ghost use Rattle.mon_syntax.specs.Valid.{memory_result};
+ghost use Rattle.mon_syntax.specs.Checking.{result_of, value_type, with_target, taken, returned, known_label, new_label, labels_in, labels_in_all, checked_statement, checked_statements};
 ghost use Rattle.mon_syntax.specs.Parsed as parsed;
 ghost use Rattle.mon_parser.specs.ParsedTrees as read;
 ghost use Rattle.mon_typing.specs.Answers.{Gives};
@@ -17,7 +18,7 @@ use crate::types::same_type;
 use c_syntax::Place;
 use mon_parser::parsed::{NameUse, ParsedExpr, ParsedStmt};
 use mon_parser::word_at;
-use mon_syntax::{MonStmt, MonType};
+use mon_syntax::{MemoryCall, MonStmt, MonType};
 use std::alloc::Global;
 
 /// The labels around a statement, and those of the bodies behind which it stands, by their names' numbers.
@@ -29,20 +30,70 @@ pub struct Labels {
     pub closed: Vec<u32>,
 }
 
-/// A register takes the value of a call.
-fn taken(register: (u32, MonType), place: Place, call: MonStmt) -> Result<MonStmt, CheckFault>
-    ensures { Gives plain_stmt result (taken register place (plain_stmt call)) }
+/// The type of the value that a call on the memory gives.
+fn memory_result(f: MemoryCall) -> Option<MonType>
+    ensures { result ≡ memory_result f }
+{
+    match f {
+        MemoryCall::StoreBlock => Some(MonType::Ptr),
+        MemoryCall::DeleteBlock => None,
+    }
+}
+
+/// The result of the function with this number.
+fn result_of(scope: &Scope, number: u32) -> Option<MonType>
+    ensures { result ≡ result_of (slice_get (plain_scope scope.now).functions number) }
+{
+    match scope.functions.headers.get(number as usize) {
+        Some(header) => header.result,
+        None => None,
+    }
+}
+
+/// The type of the value that a call gives.
+fn value_type(scope: &Scope, call: &MonStmt) -> Option<MonType>
+    ensures { result ≡ value_type (plain_scope scope.now) (plain_stmt call.now) }
 {
     match call {
-        MonStmt::PutChar(_, byte) => {
-            let (number, kind) = register;
-            if same_type(MonType::I32, kind) {
-                Ok(MonStmt::PutChar(Some(number), byte))
+        MonStmt::PutChar(_, _) | MonStmt::GetChar(_) => Some(MonType::I32),
+        MonStmt::Act(_, f, _) => memory_result(*f),
+        MonStmt::Call(_, number, _) => result_of(scope, *number),
+        _ => None,
+    }
+}
+
+/// The call, whose value the register takes.
+fn with_target(number: u32, call: MonStmt) -> MonStmt
+    ensures { plain_stmt result ≡ with_target number (plain_stmt call) }
+{
+    match call {
+        MonStmt::PutChar(_, byte) => MonStmt::PutChar(Some(number), byte),
+        MonStmt::GetChar(_) => MonStmt::GetChar(Some(number)),
+        MonStmt::Act(_, f, values) => MonStmt::Act(Some(number), f, values),
+        MonStmt::Call(_, f, values) => MonStmt::Call(Some(number), f, values),
+        other => other,
+    }
+}
+
+/// A register takes the value of a call.
+fn taken(
+    scope: &Scope,
+    register: (u32, MonType),
+    place: Place,
+    call: MonStmt,
+) -> Result<MonStmt, CheckFault>
+    ensures { Gives plain_stmt result (taken (plain_scope scope.now) register place (plain_stmt call)) }
+{
+    let (number, kind) = register;
+    match value_type(scope, &call) {
+        Some(given) => {
+            if same_type(given, kind) {
+                Ok(with_target(number, call))
             } else {
                 Err(CheckFault::BadType(place))
             }
         }
-        _ => Err(CheckFault::BadType(place)),
+        None => Err(CheckFault::BadType(place)),
     }
 }
 
@@ -122,7 +173,7 @@ pub fn checked_statement(
         ParsedStmt::Take(register, place, call) => {
             let target = register_of(scope, *register)?;
             let call = checked_call(alloc, scope, call)?;
-            taken(target, *place, call)
+            taken(scope, target, *place, call)
         }
         ParsedStmt::Call(call) => checked_call(alloc, scope, call),
         ParsedStmt::If(e, first, second) => {

@@ -2,7 +2,7 @@
 
 ghost use Rattle.std.specs.Prelude.{◌≡◌, IsTrue};
 ghost use Rattle.mon_syntax.specs.Checking.{same_type};
-ghost use Rattle.mon_syntax.specs.Valid.{is_arithmetic, is_relation, result_type, has_constant};
+ghost use Rattle.mon_syntax.specs.Valid.{is_arithmetic, is_whole, is_relation, result_type, has_constant};
 
 use mon_syntax::{MonOp, MonType};
 
@@ -17,9 +17,16 @@ pub fn is_arithmetic(kind: MonType) -> bool
     ensures { result ≡ is_arithmetic kind }
 {
     match kind {
-        MonType::I8 | MonType::U8 | MonType::I16 | MonType::U16 => false,
+        MonType::I8 | MonType::U8 | MonType::I16 | MonType::U16 | MonType::Ptr => false,
         MonType::I32 | MonType::U32 | MonType::I64 | MonType::U64 | MonType::I128 => true,
     }
+}
+
+/// Whether the type is one of whole numbers.
+pub fn is_whole(kind: MonType) -> bool
+    ensures { result ≡ is_whole kind }
+{
+    kind != MonType::Ptr
 }
 
 fn is_relation(op: MonOp) -> bool
@@ -39,7 +46,7 @@ pub fn result_type(op: MonOp, kind: MonType) -> MonType
     if is_relation(op) { MonType::I32 } else { kind }
 }
 
-/// Whether a constant of the type has the value: one of the type, but not the least `i128`.
+/// Whether a constant of the type has the value: one of the type, a whole-number type, but not the least `i128`.
 pub fn has_constant(kind: MonType, value: i128) -> bool
     ensures { result ≡ has_constant kind value }
 {
@@ -53,5 +60,6 @@ pub fn has_constant(kind: MonType, value: i128) -> bool
         MonType::I64 => -9_223_372_036_854_775_808 <= value && value <= 9_223_372_036_854_775_807,
         MonType::U64 => 0 <= value && value <= 18_446_744_073_709_551_615,
         MonType::I128 => value != i128::MIN,
+        MonType::Ptr => false,
     }
 }

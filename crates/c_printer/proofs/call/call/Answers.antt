@@ -2,7 +2,7 @@ use Rattle.c_printer.proofs.Written.{then, shown}
 use Rattle.c_printer.proofs.Texts.{call_text}
 use Rattle.mon_syntax.specs.Trees.{plain_expr}
 use Rattle.c_printer.specs.Registers.{registers_of}
-use Rattle.c_printer.proofs.statement.call.Goals as goal
+use Rattle.c_printer.proofs.call.call.Goals as goal
 
 pub returns : goal.returns
 returns g c =

@@ -2,7 +2,7 @@ use Rattle.c_printer.proofs.Written.{then, shown}
 use Rattle.c_printer.proofs.Texts.{at_put}
 use Rattle.mon_syntax.specs.Trees.{plain_expr}
 use Rattle.c_printer.specs.Registers.{registers_of}
-use Rattle.c_printer.proofs.statement.put_char.Goals as goal
+use Rattle.c_printer.proofs.call.put_char.Goals as goal
 
 pub returns-in-Some : goal.returns-in-Some
 returns-in-Some g c =

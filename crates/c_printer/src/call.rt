@@ -1,0 +1,109 @@
+//! Calls.
+
+ghost use Rattle.std.specs.Prelude.{◌≡◌, [], ◌++◌, map};
+ghost use Rattle.mon_syntax.specs.Trees.{PutChar, plain_expr};
+ghost use Rattle.mon_syntax.specs.Text.{arguments_pieces, call_pieces, expression_pieces, function_name, more_arguments, name_of, set_or_none, set_pieces, spelled, statement_pieces};
+ghost use Rattle.c_printer.specs.Printing.{Printed, pipe_of};
+ghost use Rattle.c_printer.specs.Registers.{functions_of, registers_of};
+
+use crate::expression::{Named, expression, name};
+use crate::writer::Writer;
+use ea_ports::Sink;
+use mon_syntax::MonExpr;
+
+/// `R = `
+pub fn set<O: Sink>(r: u32, named: &Named<'_>, to: &mut Writer, out: &mut O)
+    ensures { Printed (pipe_of (O.told out.old) to.old (O.faults out.old)) (pipe_of (O.told out.new) to.new (O.faults out.new)) (spelled (set_pieces (name_of (registers_of named.now) r))) }
+{
+    to.write(out, name(named, r));
+    to.write(out, b" = ");
+}
+
+/// `NAME(e);`
+pub fn call<O: Sink>(callee: &[u8], e: &MonExpr, named: &Named<'_>, to: &mut Writer, out: &mut O)
+    ensures { Printed (pipe_of (O.told out.old) to.old (O.faults out.old)) (pipe_of (O.told out.new) to.new (O.faults out.new)) (spelled (call_pieces callee.now (expression_pieces (registers_of named.now) (plain_expr e.now)))) }
+{
+    to.write(out, callee);
+    to.write(out, b"(");
+    expression(e, named, to, out);
+    to.write(out, b");");
+}
+
+/// `putchar(e);`, or `R = putchar(e);`
+pub fn put_char<O: Sink>(
+    r: Option<u32>,
+    e: &MonExpr,
+    named: &Named<'_>,
+    to: &mut Writer,
+    out: &mut O,
+)
+    ensures { Printed (pipe_of (O.told out.old) to.old (O.faults out.old)) (pipe_of (O.told out.new) to.new (O.faults out.new)) (spelled (statement_pieces [] (registers_of named.now) 0 (PutChar r (plain_expr e.now)))) }
+{
+    match r {
+        None => call(b"putchar", e, named, to, out),
+        Some(r) => {
+            set(r, named, to, out);
+            call(b"putchar", e, named, to, out);
+        }
+    }
+}
+
+/// The name of the function of a number, empty where there is none.
+pub fn callee<'a>(named: &Named<'a>, f: u32) -> &'a [u8]
+    ensures { result.now ≡ function_name (functions_of named.now) f }
+{
+    match named.functions.get(f as usize) {
+        Some(function) => function.name.bytes(),
+        None => &[],
+    }
+}
+
+// The arguments behind the first.
+fn more_arguments<O: Sink>(list: &[MonExpr], named: &Named<'_>, to: &mut Writer, out: &mut O)
+    ensures { Printed (pipe_of (O.told out.old) to.old (O.faults out.old)) (pipe_of (O.told out.new) to.new (O.faults out.new)) (spelled (more_arguments (registers_of named.now) (map plain_expr list.now))) }
+{
+    'list: for e in list {
+        to.write(out, b", ");
+        expression(e, named, to, out);
+    }
+}
+
+fn arguments<O: Sink>(list: &[MonExpr], named: &Named<'_>, to: &mut Writer, out: &mut O)
+    ensures { Printed (pipe_of (O.told out.old) to.old (O.faults out.old)) (pipe_of (O.told out.new) to.new (O.faults out.new)) (spelled (arguments_pieces (registers_of named.now) (map plain_expr list.now))) }
+{
+    match list {
+        [] => {}
+        [first, rest @ ..] => {
+            expression(first, named, to, out);
+            more_arguments(rest, named, to, out);
+        }
+    }
+}
+
+// `R = `, where a register takes the value.
+fn target<O: Sink>(r: Option<u32>, named: &Named<'_>, to: &mut Writer, out: &mut O)
+    ensures { Printed (pipe_of (O.told out.old) to.old (O.faults out.old)) (pipe_of (O.told out.new) to.new (O.faults out.new)) (spelled (set_or_none (registers_of named.now) r)) }
+{
+    match r {
+        None => {}
+        Some(r) => set(r, named, to, out),
+    }
+}
+
+/// `NAME(..);`, or `R = NAME(..);`
+pub fn call_with<O: Sink>(
+    r: Option<u32>,
+    callee: &[u8],
+    list: &[MonExpr],
+    named: &Named<'_>,
+    to: &mut Writer,
+    out: &mut O,
+)
+    ensures { Printed (pipe_of (O.told out.old) to.old (O.faults out.old)) (pipe_of (O.told out.new) to.new (O.faults out.new)) (spelled (set_or_none (registers_of named.now) r ++ call_pieces callee.now (arguments_pieces (registers_of named.now) (map plain_expr list.now)))) }
+{
+    target(r, named, to, out);
+    to.write(out, callee);
+    to.write(out, b"(");
+    arguments(list, named, to, out);
+    to.write(out, b");");
+}
