@@ -5,7 +5,7 @@ use Rattle.std.specs.Int.{Width, w8, w16, w32, w64, w128, cast_signed, int_rem_e
 use Rattle.c_model.specs.Integers.{truth}
 use Rattle.c_model.specs.Operators.{floor_quotient, complement, bitwise_and, bitwise_or, bitwise_xor}
 use Rattle.mon_syntax.specs.declared.tree.MonType.{MonType}
-use Rattle.mon_syntax.specs.declared.tree.MonType.TheVariants.{I8, U8, I16, U16, I32, U32, I64, U64, I128}
+use Rattle.mon_syntax.specs.declared.tree.MonType.TheVariants.{I8, U8, I16, U16, I32, U32, I64, U64, I128, Ptr}
 use Rattle.mon_syntax.specs.declared.tree.MonOp.{MonOp}
 use Rattle.mon_syntax.specs.declared.tree.MonOp.TheVariants.{Add, Sub, Mul, Div, Rem, Shl, Shr, And, Or, Xor, Eq, Ne, Lt, Le, Gt, Ge}
 
@@ -20,6 +20,7 @@ width U32 = w32
 width I64 = w64
 width U64 = w64
 width I128 = w128
+width Ptr = w64
 
 abbrev pub bit_count : MonType → ℕ
 bit_count I8 = 8
@@ -31,6 +32,7 @@ bit_count U32 = 32
 bit_count I64 = 64
 bit_count U64 = 64
 bit_count I128 = 128
+bit_count Ptr = 64
 
 abbrev pub is_signed : MonType → Bool
 is_signed I8 = true
@@ -42,6 +44,7 @@ is_signed U32 = false
 is_signed I64 = true
 is_signed U64 = false
 is_signed I128 = true
+is_signed Ptr = false
 
 -- the least and the greatest value of a type
 abbrev pub least : MonType → ℤ

@@ -1,12 +1,14 @@
 -- Names and types of a monitored text (E5, E6), with the program that it spells. A part's own demand is asked where none of its
 -- parts has a fault, and the first fault in text order counts.
-use Rattle.std.specs.Prelude.{ℕ, suc, pos, unsigned_abs, List, [], ◌∷◌, ◌++◌, map, Option, Some, None, Result, Ok, Err, Bool, true, false, not, ◌&&◌, if◌then◌else◌, nat_eq, nat_le, slice_get, codes, bytes_eq}
+use Rattle.std.specs.Prelude.{ℕ, suc, pos, unsigned_abs, List, [], ◌∷◌, ◌++◌, map, Option, Some, None, Result, Ok, Err, Bool, true, false, not, ◌&&◌, if◌then◌else◌, nat_eq, nat_le, slice_get, codes, bytes_eq, drop, length}
 use Rattle.std.specs.List.{list_any}
 use Rattle.c_syntax.specs.declared.place.Place.{Place}
 use Rattle.c_syntax.specs.declared.annotation.Kind.{Kind}
 use Rattle.c_syntax.specs.declared.annotation.Kind.TheVariants.{Assert, Requires, Assumes, Ensures, Complete, Disjoint, Invariant, Variant, Rte}
 use Rattle.mon_syntax.specs.declared.tree.MonType.{MonType}
-use Rattle.mon_syntax.specs.declared.tree.MonType.TheVariants.{I8, U8, I16, U16, I32, U32, I64, U64, I128}
+use Rattle.mon_syntax.specs.declared.tree.MonType.TheVariants.{I8, U8, I16, U16, I32, U32, I64, U64, I128, Ptr}
+use Rattle.mon_syntax.specs.declared.tree.MemoryCall.{MemoryCall}
+use Rattle.mon_syntax.specs.declared.tree.MemoryCall.TheVariants.{StoreBlock, DeleteBlock}
 use Rattle.mon_syntax.specs.declared.word.Runtime.{Runtime}
 use Rattle.mon_syntax.specs.declared.word.Runtime.TheVariants as runtime
 use Rattle.mon_syntax.specs.declared.word.Word.{Word}
@@ -14,7 +16,7 @@ use Rattle.mon_syntax.specs.declared.word.Word.TheVariants as word
 use Rattle.mon_syntax.specs.Trees as tree
 use Rattle.mon_syntax.specs.Trees.{MonExpression, MonStatement, MonStatements, MonRegister, MonFunction, MonitoredProgram}
 use Rattle.mon_syntax.specs.Parsed.{NameUse, ParsedExpression, Name, Constant, Binary, Minus, Flip, Cast, ParsedArgument, Value, Number, Text, ParsedCall, ParsedStatement, Set, Take, Call, If, Loop, Labelled, Goto, Return, ParsedStatements, NoStatement, Then, ParsedRegister, ParsedFunction, ParsedProgram}
-use Rattle.mon_syntax.specs.Valid.{is_arithmetic, result_type, has_constant, greatest_number}
+use Rattle.mon_syntax.specs.Valid.{Types, is_arithmetic, is_whole, result_type, has_constant, greatest_number, memory_parameters, memory_result}
 use Rattle.mon_syntax.specs.Grammar.{Vocabulary, word_at}
 
 -- the code of a fault and its place
@@ -54,14 +56,22 @@ same_type U32 U32 = true
 same_type I64 I64 = true
 same_type U64 U64 = true
 same_type I128 I128 = true
+same_type Ptr Ptr = true
 same_type _ _ = false
 
 -- ---- names
 
--- the names of the text and what they are, and the registers by their names' numbers
+-- what a function is to its callers, by its name's number
+pub record Header : Type 0 where
+  pub name : ℕ
+  pub parameters : Types
+  pub result : Option MonType
+
+-- the names of the text and what they are, the functions, and the registers by their names' numbers
 pub record Scope : Type 0 where
   pub names : List (List ℕ)
   pub words : Vocabulary
+  pub functions : List Header
   pub registers : List (ℕ × MonType)
 
 -- a register by its number in the function, with its type
@@ -75,6 +85,14 @@ or_fault (Some a) at = Ok a
 
 abbrev pub register_of : Scope → NameUse → Checked (ℕ × MonType)
 register_of s x = or_fault (find_register 0 s.registers x.number) x.place
+
+-- a function by its number in the program, with its header
+abbrev pub find_function : ℕ → List Header → ℕ → Option (ℕ × Header)
+find_function k [] x = None
+find_function k (g ∷ gs) x = if nat_eq g.name x then Some (k, g) else find_function (suc k) gs x
+
+abbrev pub function_called : Scope → NameUse → Checked (ℕ × Header)
+function_called s x = or_fault (find_function 0 s.functions x.number) x.place
 
 abbrev pub bytes_of : Scope → ℕ → List ℕ
 bytes_of s n = elim (slice_get s.names n) [ None ↦ [] | Some w ↦ w ]
@@ -105,7 +123,7 @@ checked_expression s (Binary at op a b) = do
   demanded (same_type x.1 y.1 && is_arithmetic x.1) at >> Ok (tree.Binary op x.1 x.0 y.0, result_type op x.1)
 checked_expression s (Minus at a) = checked_expression s a >>= λ x. demanded (is_arithmetic x.1) at >> Ok (tree.Minus x.1 x.0, x.1)
 checked_expression s (Flip at a) = checked_expression s a >>= λ x. demanded (is_arithmetic x.1) at >> Ok (tree.Flip x.1 x.0, x.1)
-checked_expression s (Cast at t a) = checked_expression s a >>= λ x. Ok (tree.Cast t x.0, t)
+checked_expression s (Cast at t a) = checked_expression s a >>= λ x. demanded (is_whole x.1 && is_whole t) at >> Ok (tree.Cast t x.0, t)
 
 -- an expression of a type, which is demanded at the place
 abbrev pub of_type : Scope → MonType → Place → ParsedExpression → Checked MonExpression
@@ -183,20 +201,33 @@ assert_call s at xs =
 abbrev pub one_value : Scope → Place → MonType → List ParsedArgument → (MonExpression → MonStatement) → Checked MonStatement
 one_value s at t xs f = next s at (value_of_type s t) xs (λ e more. no_more s at more (f e))
 
+-- arguments of these types, and no more
+abbrev pub arguments_of : Scope → Place → Types → List ParsedArgument → Checked (List MonExpression)
+arguments_of s at [] xs = no_more s at xs []
+arguments_of s at (t ∷ ts) xs = next s at (value_of_type s t) xs (λ e more. arguments_of s at ts more >>= λ es. Ok (e ∷ es))
+
+abbrev pub memory_call : Scope → Place → List ParsedArgument → MemoryCall → Checked MonStatement
+memory_call s at xs f = arguments_of s at (memory_parameters f) xs >>= λ es. Ok (tree.Act None f es)
+
 -- a call of the runtime, whose value is not taken
 abbrev pub runtime_call : Scope → NameUse → Place → List ParsedArgument → Runtime → Checked MonStatement
 runtime_call s f at xs runtime.Step = no_more s at xs tree.Step
 runtime_call s f at xs runtime.Assert = assert_call s at xs
 runtime_call s f at xs runtime.PutChar = one_value s at I32 xs (tree.PutChar None)
+runtime_call s f at xs runtime.GetChar = no_more s at xs (tree.GetChar None)
 runtime_call s f at xs runtime.Exit = one_value s at I32 xs tree.Exit
 runtime_call s f at xs runtime.PrintText = next s at (string s) xs (λ w more. no_more s at more (tree.PrintText w.0))
 runtime_call s f at xs runtime.PrintSigned = one_value s at I64 xs tree.PrintSigned
 runtime_call s f at xs runtime.PrintUnsigned = one_value s at U64 xs tree.PrintUnsigned
+runtime_call s f at xs runtime.StoreBlock = memory_call s at xs StoreBlock
+runtime_call s f at xs runtime.DeleteBlock = memory_call s at xs DeleteBlock
 runtime_call s f at xs runtime.Kept = name_fault f.place
 
--- `main` isn't called, and there is no other function
+-- a call of a function of the program; `main` isn't called
 abbrev pub named_call : Scope → NameUse → Place → List ParsedArgument → Checked MonStatement
-named_call s f at xs = if bytes_eq (bytes_of s f.number) (codes "main") then wrong_number s at xs else name_fault f.place
+named_call s f at xs =
+    function_called s f >>= λ g. if bytes_eq (bytes_of s f.number) (codes "main") then wrong_number s at xs
+    else (arguments_of s at g.1.parameters xs >>= λ es. Ok (tree.Call None g.0 es))
 
 abbrev pub call_of_word : Scope → ParsedCall → Word → Checked MonStatement
 call_of_word s c (word.Runtime r) = runtime_call s c.callee c.place c.arguments r
@@ -207,18 +238,28 @@ checked_call s c = call_of_word s c (word_at s.words c.callee.number)
 
 -- ---- statements, in a function of the result, inside bodies of these labels
 
+abbrev pub result_of : Option Header → Option MonType
+result_of None = None
+result_of (Some g) = g.result
+
 -- the type of the value that a call gives
-abbrev pub value_type : MonStatement → Option MonType
-value_type (tree.PutChar r e) = Some I32
-value_type _ = None
+abbrev pub value_type : Scope → MonStatement → Option MonType
+value_type s (tree.PutChar r e) = Some I32
+value_type s (tree.GetChar r) = Some I32
+value_type s (tree.Act r f es) = memory_result f
+value_type s (tree.Call r f es) = result_of (slice_get s.functions f)
+value_type s _ = None
 
 abbrev pub with_target : ℕ → MonStatement → MonStatement
 with_target r (tree.PutChar x e) = tree.PutChar (Some r) e
+with_target r (tree.GetChar x) = tree.GetChar (Some r)
+with_target r (tree.Act x f es) = tree.Act (Some r) f es
+with_target r (tree.Call x f es) = tree.Call (Some r) f es
 with_target r a = a
 
 -- the register takes the value: E6 at the `=` where there is none, or one of another type
-abbrev pub taken : ℕ × MonType → Place → MonStatement → Checked MonStatement
-taken r at a = elim (value_type a) [ None ↦ type_fault at | Some t ↦ demanded (same_type t r.1) at >> Ok (with_target r.0 a) ]
+abbrev pub taken : Scope → ℕ × MonType → Place → MonStatement → Checked MonStatement
+taken s r at a = elim (value_type s a) [ None ↦ type_fault at | Some t ↦ demanded (same_type t r.1) at >> Ok (with_target r.0 a) ]
 
 abbrev pub returned : Scope → Option MonType → Place → Option ParsedExpression → Checked MonStatement
 returned s None at None = Ok (tree.Return None)
@@ -259,7 +300,7 @@ abbrev mutual
   checked_statement s t ls (Take x at c) = do
     r ← register_of s x
     a ← checked_call s c
-    taken r at a
+    taken s r at a
   checked_statement s t ls (Call c) = checked_call s c
   checked_statement s t ls (If e a b) = do
     c ← condition s e
@@ -296,31 +337,50 @@ checked_registers ws known (r ∷ rs) =
 abbrev pub named_register : List (List ℕ) → ℕ × MonType → MonRegister
 named_register names r = record { kind = r.1; name = elim (slice_get names r.0) [ None ↦ [] | Some w ↦ w ] }
 
-abbrev pub free_name : Vocabulary → NameUse → Checked (Unit {0})
-free_name ws x = if is_free (word_at ws x.number) then Ok tt else name_fault x.place
-
 abbrev pub word_bytes : List (List ℕ) → ℕ → List ℕ
 word_bytes names n = elim (slice_get names n) [ None ↦ [] | Some w ↦ w ]
 
-abbrev pub scope_of : List (List ℕ) → Vocabulary → List (ℕ × MonType) → Scope
-scope_of names ws rs = record { names = names; words = ws; registers = rs }
+-- what a function is to its callers, as it is read
+abbrev pub kinds_of : List ParsedRegister → Types
+kinds_of rs = map (λ (r : ParsedRegister). r.kind) rs
 
-abbrev pub function_of : List (List ℕ) → ParsedFunction → List (ℕ × MonType) → MonStatements → MonFunction
-function_of names f rs body = record {
+abbrev pub header_of : ParsedFunction → Header
+header_of f = record { name = f.name.number; parameters = kinds_of f.parameters; result = f.result }
+
+abbrev pub scope_of : List (List ℕ) → Vocabulary → List Header → List (ℕ × MonType) → Scope
+scope_of names ws gs rs = record { names = names; words = ws; functions = gs; registers = rs }
+
+-- a function with these parameters, and with all these registers, the parameters first
+abbrev pub function_of : List (List ℕ) → ParsedFunction → List (ℕ × MonType) → List (ℕ × MonType) → MonStatements → MonFunction
+function_of names f ps rs body = record {
   result = f.result;
   name = word_bytes names f.name.number;
-  parameters = [];
-  registers = map (named_register names) rs;
+  parameters = map (named_register names) ps;
+  registers = map (named_register names) (drop (length ps) rs);
   body = body;
 }
 
-abbrev pub checked_function : List (List ℕ) → Vocabulary → ParsedFunction → Checked MonFunction
-checked_function names ws f = do
-  _ ← free_name ws f.name
-  rs ← checked_registers ws [] f.registers
-  body ← checked_statements (scope_of names ws rs) f.result [] f.body
-  Ok (function_of names f rs body)
+-- a function among functions of these headers; parameters may be used in its body like registers
+abbrev pub checked_function : List (List ℕ) → Vocabulary → List Header → ParsedFunction → Checked MonFunction
+checked_function names ws gs f = do
+  ps ← checked_registers ws [] f.parameters
+  rs ← checked_registers ws ps f.registers
+  body ← checked_statements (scope_of names ws gs rs) f.result [] f.body
+  Ok (function_of names f ps rs body)
 
+-- a free name, which no function before has
+abbrev pub new_function : Vocabulary → List ℕ → NameUse → Checked (Unit {0})
+new_function ws before x = if is_free (word_at ws x.number) && not (list_any (nat_eq x.number) before) then Ok tt else name_fault x.place
+
+-- functions behind those of these names' numbers
+abbrev pub checked_functions : List (List ℕ) → Vocabulary → List Header → List ℕ → List ParsedFunction → Checked (List MonFunction)
+checked_functions names ws gs before [] = Ok []
+checked_functions names ws gs before (f ∷ fs) = do
+  _ ← new_function ws before f.name
+  g ← checked_function names ws gs f
+  rest ← checked_functions names ws gs (f.name.number ∷ before) fs
+  Ok (g ∷ rest)
+
+-- functions may be called before they stand
 abbrev pub checked_program : List (List ℕ) → Vocabulary → ParsedProgram → Checked MonitoredProgram
-checked_program names ws None = Ok (record { functions = [] })
-checked_program names ws (Some f) = checked_function names ws f >>= λ g. Ok (record { functions = g ∷ [] })
+checked_program names ws fs = checked_functions names ws (map header_of fs) [] fs >>= λ gs. Ok (record { functions = gs })

@@ -1,5 +1,6 @@
 -- When one memory stands for another: wherever the first has an answer, the second has one that means the same.
 use Rattle.std.specs.Prelude.{◌≡◌, ℤ, List, [], ◌∷◌, Option, Some, None}
+use Rattle.mon_syntax.specs.declared.tree.MemoryCall.{MemoryCall}
 use Rattle.mon_syntax.specs.Memory.{Memory, Reply, Gives, IsFull, Faults}
 
 -- where there is a first value, there is a second that is related to it
@@ -41,5 +42,6 @@ pub record Follows (L F : Memory) : Type 1 where
   pub number : (w : World) (z : ℤ) → Same w (L.number z) (F.number z)
   pub number_of : (w : World) (a : L.Val) (b : F.Val) → Same w a b → Kept (λ i j. i ≡ j) (L.number_of a) (F.number_of b)
   -- each operation keeps this
+  pub act : (w : World) (f : MemoryCall) (xs : List L.Val) (ys : List F.Val) (m : L.Mem) (n : F.Mem) → AllKept (Same w) xs ys → Holds w m n → Replied World Later Same Holds w (L.act f xs m) (F.act f ys n)
   pub enter : (w : World) (m : L.Mem) (n : F.Mem) → Holds w m n → Replied World Later Same Holds w (L.enter m) (F.enter n)
   pub leave : (w : World) (m : L.Mem) (n : F.Mem) → Holds w m n → Holds w (L.leave m) (F.leave n)

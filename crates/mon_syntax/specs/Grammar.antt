@@ -1,7 +1,8 @@
 -- The grammar of monitored texts, with the trees that are read:
 --
---   text      = head [ function ]
---   function  = ( type | "void" ) NAME "(" "void" ")" "{" { type NAME ";" } { statement } "}"
+--   text      = head { function }
+--   function  = ( type | "void" ) NAME "(" ( "void" | parameter { "," parameter } ) ")" "{" { type NAME ";" } { statement } "}"
+--   parameter = type NAME
 --   statement = NAME "=" expr ";" | NAME "=" call ";" | call ";"
 --             | "if" "(" expr ")" body "else" body
 --             | "while" "(" "1" ")" body
@@ -514,17 +515,35 @@ module _ (ws : Vocabulary) where
   unfoldable pub result : Syntax PlainToken (Option MonType)
   result = choice (kind ws) (type_kind ∷ []) (one (placed (type_of ws)) then λ t. gives (Some t.0)) (fixed void_kind then λ _. gives None)
 
-  unfoldable pub function_body : Option MonType → NameUse → Syntax PlainToken ParsedFunction
-  function_body r f =
+  -- type NAME
+  unfoldable pub parameter : Syntax PlainToken ParsedRegister
+  parameter = one (placed (type_of ws)) then λ t. name then λ x. gives (record { kind = t.0; name = x })
+
+  unfoldable pub next_parameter : List ParsedRegister → Syntax PlainToken (List ParsedRegister)
+  next_parameter ps = mark comma then λ _. parameter then λ p. gives (ps ++ p ∷ [])
+
+  -- parameter { "," parameter }
+  unfoldable pub some_parameters : Syntax PlainToken (List ParsedRegister)
+  some_parameters = parameter then λ p. many (kind ws) (λ _. mark_kind comma ∷ []) next_parameter (p ∷ [])
+
+  -- "void", or parameters
+  unfoldable pub parameters : Syntax PlainToken (List ParsedRegister)
+  parameters = choice (kind ws) (void_kind ∷ []) (fixed void_kind then λ _. gives []) some_parameters
+
+  unfoldable pub function_body : Option MonType → NameUse → List ParsedRegister → Syntax PlainToken ParsedFunction
+  function_body r f ps =
       mark left_brace then λ _. registers then λ rs. statements (statement_in (most_nested - 1)) then λ xs. mark right_brace then λ _.
-      gives (record { result = r; name = f; registers = rs; body = parsed_list xs })
+      gives (record { result = r; name = f; parameters = ps; registers = rs; body = parsed_list xs })
 
   unfoldable pub function : Syntax PlainToken ParsedFunction
-  function = result then λ r. name then λ f. mark left_paren then λ _. fixed void_kind then λ _. mark right_paren then λ _. function_body r f
+  function = result then λ r. name then λ f. mark left_paren then λ _. parameters then λ ps. mark right_paren then λ _. function_body r f ps
+
+  unfoldable pub one_more_function : List ParsedFunction → Syntax PlainToken (List ParsedFunction)
+  one_more_function fs = function then λ f. gives (fs ++ f ∷ [])
 
   -- the head, on the first line
   abbrev pub is_head : PlainToken → Option (Unit {0})
   is_head t = cond (eqb (kind ws t) head_kind && eqb t.place.line 1) (Some tt) None
 
   unfoldable pub text : Syntax PlainToken ParsedProgram
-  text = one is_head then λ _. choice (kind ws) first_function (function then λ f. gives (Some f)) (gives None)
+  text = one is_head then λ _. many (kind ws) (λ _. first_function) one_more_function []

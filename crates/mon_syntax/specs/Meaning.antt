@@ -1,12 +1,12 @@
 -- What a program in monitored C does, over any memory.
-use Rattle.std.specs.Prelude.{ℕ, zero, suc, ◌+◌, ◌-◌, ℤ, pos, List, [], ◌∷◌, ◌++◌, length, replicate, Option, Some, None, if◌then◌else◌, slice_get, slice_set, bytes_eq, codes}
+use Rattle.std.specs.Prelude.{ℕ, zero, suc, ◌+◌, ◌-◌, ℤ, pos, negsuc, List, [], ◌∷◌, ◌++◌, length, replicate, Option, Some, None, if◌then◌else◌, slice_get, slice_set, bytes_eq, codes}
 use Rattle.std.specs.Ordering.{int_eq}
 use Rattle.std.specs.Fmt.{signed_decimal}
 use Rattle.c_syntax.specs.declared.types.How.TheVariants as how
 use Rattle.c_model.specs.Integers.{byte_of}
-use Rattle.c_model.specs.State.{Input, Final, Exits, Broken, Fault, Spent, Full}
+use Rattle.c_model.specs.State.{Input, InputTail, EndOfInput, InputFault, Final, Exits, Broken, Fault, Spent, Full, ReadFault}
 use Rattle.c_model.specs.Meaning.{Ran}
-use Rattle.mon_syntax.specs.Trees.{MonExpression, Register, Constant, Binary, Minus, Flip, Cast, MonStatement, Set, Step, Assert, PutChar, Exit, PrintText, PrintSigned, PrintUnsigned, If, Loop, Labelled, Goto, Return, MonStatements, NoStatement, Then, MonFunction, MonitoredProgram}
+use Rattle.mon_syntax.specs.Trees.{MonExpression, Register, Constant, Binary, Minus, Flip, Cast, MonStatement, Set, Step, Assert, PutChar, GetChar, Exit, PrintText, PrintSigned, PrintUnsigned, Act, Call, If, Loop, Labelled, Goto, Return, MonStatements, NoStatement, Then, MonFunction, MonitoredProgram}
 use Rattle.mon_syntax.specs.Arithmetic.{wrap, operate, minus, flipped}
 use Rattle.mon_syntax.specs.Memory.{Memory, Reply, Gives, IsFull, Faults}
 
@@ -79,6 +79,21 @@ abbrev pub given_to : {V : Type 0} → Option ℕ → V → List V → List V
 given_to None v regs = regs
 given_to (Some r) v regs = slice_set regs r v
 
+-- what is behind the bytes of an input: -1 at its end, and nothing at a fault, which stays
+abbrev pub got_behind : InputTail → Option (ℤ × Input)
+got_behind EndOfInput = Some (negsuc 0, record { bytes = []; tail = EndOfInput })
+got_behind InputFault = None
+
+-- the next byte of an input, and what is left of it (C99 7.19.7.6)
+abbrev pub got : List ℕ → InputTail → Option (ℤ × Input)
+got [] tail = got_behind tail
+got (b ∷ bs) tail = Some (pos b, record { bytes = bs; tail = tail })
+
+-- goes on with what was read; at a fault of the input the run ends, with so many steps left
+abbrev pub with_read : {S A : Type 0} → Option (ℤ × Input) → ℕ → (ℤ → Input → Result S A) → Result S A
+with_read None n go = Stops ReadFault n []
+with_read (Some (z, input)) n go = go z input
+
 module _ (M : Memory) where
   abbrev pub number_or_none : Option ℤ → Option M.Val
   number_or_none None = None
@@ -97,6 +112,11 @@ module _ (M : Memory) where
   eval (Minus t a) regs = eval a regs >>= λ x. M.number_of x >>= λ i. Some (M.number (minus t i))
   eval (Flip t a) regs = eval a regs >>= λ x. M.number_of x >>= λ i. Some (M.number (flipped t i))
   eval (Cast t a) regs = eval a regs >>= λ x. M.number_of x >>= λ i. Some (M.number (wrap t i))
+
+  -- the values of arguments, from left to right
+  abbrev pub eval_all : List MonExpression → List M.Val → Option (List M.Val)
+  eval_all [] regs = Some []
+  eval_all (e ∷ es) regs = eval e regs >>= λ v. eval_all es regs >>= λ vs. Some (v ∷ vs)
 
   abbrev pub eval_number : MonExpression → List M.Val → Option ℤ
   eval_number e regs = eval e regs >>= M.number_of
@@ -134,6 +154,12 @@ module _ (M : Memory) where
         judged i j (Broken number line kind how.Undefined) (Broken number line kind how.False) (Done (Next regs) s []) s.steps))
     exec (PutChar x e) calls n regs s =
         with_value (eval_number e regs) s.steps (λ i. Done (Next (given_to x (M.number (pos (byte_of i))) regs)) s (byte_of i ∷ []))
+    exec (GetChar x) calls n regs s =
+        with_read (got s.input.bytes s.input.tail) s.steps (λ z input. Done (Next (given_to x (M.number z) regs)) (record s { input = input }) [])
+    exec (Act x f args) calls n regs s =
+        with_value (eval_all args regs) s.steps (λ vs. then_do (replied (M.act f vs s.mem) s) (λ v t. Done (Next (given_to x v regs)) t []))
+    exec (Call x f args) calls n regs s =
+        with_value (eval_all args regs) s.steps (λ vs. then_do (calls f vs s) (λ v t. Done (Next (given_to x v regs)) t []))
     exec (Exit e) calls n regs s = with_value (eval_number e regs) s.steps (λ i. Stops (Exits i) s.steps [])
     exec (PrintText bytes) calls n regs s = Done (Next regs) s bytes
     exec (PrintSigned e) calls n regs s = with_value (eval_number e regs) s.steps (λ i. Done (Next regs) s (signed_decimal i))

@@ -3,7 +3,7 @@ use Rattle.std.specs.Prelude.{◌≡◌, ℕ, ◌≤◌, List, [], ◌∷◌, le
 use Rattle.std.specs.List.{list_any, AllByRecursion}
 use Rattle.c_model.specs.Characters.{is_nondigit, is_part}
 use Rattle.mon_syntax.specs.declared.tree.MonType.{MonType}
-use Rattle.mon_syntax.specs.declared.tree.MonType.TheVariants.{I8, U8, I16, U16, I32, U32, I64, U64, I128}
+use Rattle.mon_syntax.specs.declared.tree.MonType.TheVariants.{I8, U8, I16, U16, I32, U32, I64, U64, I128, Ptr}
 
 abbrev pub type_word : MonType → List ℕ
 type_word I8 = codes "i8"
@@ -15,6 +15,7 @@ type_word U32 = codes "u32"
 type_word I64 = codes "i64"
 type_word U64 = codes "u64"
 type_word I128 = codes "i128"
+type_word Ptr = codes "ptr"
 
 -- the word of a constant of a type
 abbrev pub constant_word : MonType → List ℕ
@@ -27,6 +28,7 @@ constant_word U32 = codes "U32"
 constant_word I64 = codes "I64"
 constant_word U64 = codes "U64"
 constant_word I128 = codes "I128"
+constant_word Ptr = codes "PTR"
 
 -- what no register, label or function is called: types, constants, keywords, and the names of the runtime
 unfoldable pub reserved_words : List (List ℕ)

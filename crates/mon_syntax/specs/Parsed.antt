@@ -55,9 +55,9 @@ pub record ParsedRegister : Type 0 where
 pub record ParsedFunction : Type 0 where
   pub result : Option MonType
   pub name : NameUse
+  pub parameters : List ParsedRegister
   pub registers : List ParsedRegister
   pub body : ParsedStatements
 
--- at most one function
 abbrev pub ParsedProgram : Type 0
-ParsedProgram = Option ParsedFunction
+ParsedProgram = List ParsedFunction

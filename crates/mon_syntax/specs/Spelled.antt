@@ -1,5 +1,5 @@
 -- Which texts are monitored programs, and which are refused, why: by tokens, by grammar, by names and types, and for want of `main`.
-use Rattle.std.specs.Prelude.{◌≡◌, ℕ, suc, unsigned_abs, List, [], ◌∷◌, length, map, Option, Some, None, Result, Ok, Err, Bool, false, eqb, if◌then◌else◌, slice_get, codes, bytes_eq}
+use Rattle.std.specs.Prelude.{◌≡◌, ℕ, suc, unsigned_abs, List, [], ◌∷◌, length, map, Option, Some, None, Result, Ok, Err, Bool, false, true, ◌&&◌, eqb, if◌then◌else◌, slice_get, codes, bytes_eq}
 use Rattle.std.specs.Fmt.{decimal}
 use Rattle.grammar.specs.Syntax as grammar
 use Rattle.grammar.specs.Exact.{Accepts, Refused}
@@ -13,7 +13,7 @@ use Rattle.mon_syntax.specs.declared.tree.MonType.{MonType}
 use Rattle.mon_syntax.specs.declared.tree.MonType.TheVariants.{I32}
 use Rattle.mon_syntax.specs.Trees.{MonitoredProgram}
 use Rattle.mon_syntax.specs.Words.{word_of}
-use Rattle.mon_syntax.specs.Parsed.{ParsedProgram}
+use Rattle.mon_syntax.specs.Parsed.{ParsedRegister, ParsedProgram}
 use Rattle.mon_syntax.specs.Grammar as form
 use Rattle.mon_syntax.specs.Grammar.{Vocabulary, text, expression_limit}
 use Rattle.mon_syntax.specs.Checking.{Fault, same_type, word_bytes, checked_program}
@@ -91,11 +91,16 @@ abbrev pub is_i32 : Option MonType → Bool
 is_i32 None = false
 is_i32 (Some t) = same_type t I32
 
+abbrev pub has_none : List ParsedRegister → Bool
+has_none [] = true
+has_none (r ∷ rs) = false
+
 abbrev pub main_refusal : List (List ℕ) → ParsedProgram → Option PlainRefusal
-main_refusal names None = Some (no_main first_place)
-main_refusal names (Some f) =
-    if bytes_eq (word_bytes names f.name.number) (codes "main") then (if is_i32 f.result then None else Some (no_main f.name.place))
-    else Some (no_main first_place)
+main_refusal names [] = Some (no_main first_place)
+main_refusal names (f ∷ fs) =
+    if bytes_eq (word_bytes names f.name.number) (codes "main")
+    then (if is_i32 f.result && has_none f.parameters then None else Some (no_main f.name.place))
+    else main_refusal names fs
 
 -- ---- texts
 

@@ -1,11 +1,13 @@
 -- The text of a program in monitored C: one statement a line, indented by two blanks for each body around it.
-use Rattle.std.specs.Prelude.{ℕ, suc, ◌+◌, ◌*◌, ◌/◌, ◌%◌, ℤ, pos, negsuc, List, [], ◌∷◌, ◌++◌, replicate, Option, Some, None, Bool, not, ◌&&◌, if◌then◌else◌, nat_le, nat_eq, slice_get, codes}
+use Rattle.std.specs.Prelude.{ℕ, suc, ◌+◌, ◌*◌, ◌/◌, ◌%◌, ℤ, pos, negsuc, List, [], ◌∷◌, ◌++◌, replicate, Option, Some, None, Bool, not, ◌&&◌, if◌then◌else◌, nat_le, nat_eq, slice_get, codes, map}
 use Rattle.std.specs.Fmt.{decimal}
 use Rattle.c_model.specs.Reports.{kind_word}
 use Rattle.mon_syntax.specs.declared.tree.MonType.{MonType}
 use Rattle.mon_syntax.specs.declared.tree.MonOp.{MonOp}
 use Rattle.mon_syntax.specs.declared.tree.MonOp.TheVariants.{Add, Sub, Mul, Div, Rem, Shl, Shr, And, Or, Xor, Eq, Ne, Lt, Le, Gt, Ge}
-use Rattle.mon_syntax.specs.Trees.{MonExpression, Register, Constant, Binary, Minus, Flip, Cast, MonStatement, Set, Step, Assert, PutChar, Exit, PrintText, PrintSigned, PrintUnsigned, If, Loop, Labelled, Goto, Return, MonStatements, NoStatement, Then, MonRegister, MonFunction, MonitoredProgram}
+use Rattle.mon_syntax.specs.declared.tree.MemoryCall.{MemoryCall}
+use Rattle.mon_syntax.specs.declared.tree.MemoryCall.TheVariants.{StoreBlock, DeleteBlock}
+use Rattle.mon_syntax.specs.Trees.{MonExpression, Register, Constant, Binary, Minus, Flip, Cast, MonStatement, Set, Step, Assert, PutChar, GetChar, Exit, PrintText, PrintSigned, PrintUnsigned, Act, Call, If, Loop, Labelled, Goto, Return, MonStatements, NoStatement, Then, MonRegister, MonFunction, MonitoredProgram}
 use Rattle.mon_syntax.specs.Names.{type_word, constant_word}
 
 -- ---- pieces of a text
@@ -122,6 +124,30 @@ abbrev pub set_or_none : Registers → Option ℕ → List Piece
 set_or_none rs None = []
 set_or_none rs (Some r) = set_pieces (name_of rs r)
 
+-- arguments behind the first one
+abbrev pub more_arguments : Registers → List MonExpression → List Piece
+more_arguments rs [] = []
+more_arguments rs (e ∷ es) = comma ++ (expression_pieces rs e ++ more_arguments rs es)
+
+abbrev pub arguments_pieces : Registers → List MonExpression → List Piece
+arguments_pieces rs [] = []
+arguments_pieces rs (e ∷ es) = expression_pieces rs e ++ more_arguments rs es
+
+abbrev pub memory_word : MemoryCall → List ℕ
+memory_word StoreBlock = codes "__e_acsl_store_block"
+memory_word DeleteBlock = codes "__e_acsl_delete_block"
+
+-- the names of functions, by number
+abbrev pub FunctionNames : Type 0
+FunctionNames = List (List ℕ)
+
+abbrev pub bytes_or_none : Option (List ℕ) → List ℕ
+bytes_or_none None = []
+bytes_or_none (Some w) = w
+
+abbrev pub function_name : FunctionNames → ℕ → List ℕ
+function_name gs f = bytes_or_none (slice_get gs f)
+
 abbrev pub assert_arguments : Registers → MonExpression → MonExpression → ℕ → ℕ → List ℕ → List Piece
 assert_arguments rs d v number line kind =
     expression_pieces rs d ++ (comma ++ (expression_pieces rs v ++ (comma ++ (Number number ∷ (comma ++ (Number line ∷ (comma ++ (Quoted kind ∷ []))))))))
@@ -134,35 +160,38 @@ abbrev pub word_statement : List ℕ → List Piece → List Piece
 word_statement word rest = Word word ∷ blank ∷ (rest ++ (semicolon ∷ []))
 
 abbrev mutual
-  pub statement_pieces : Registers → ℕ → MonStatement → List Piece
-  statement_pieces rs depth (Set r e) = set_pieces (name_of rs r) ++ (expression_pieces rs e ++ (semicolon ∷ []))
-  statement_pieces rs depth Step = call_pieces (codes "__e_acsl_step") []
-  statement_pieces rs depth (Assert d v number line kind) = call_pieces (codes "__e_acsl_assert") (assert_arguments rs d v number line (kind_word kind))
-  statement_pieces rs depth (PutChar r e) = set_or_none rs r ++ call_pieces (codes "putchar") (expression_pieces rs e)
-  statement_pieces rs depth (Exit e) = call_pieces (codes "exit") (expression_pieces rs e)
-  statement_pieces rs depth (PrintText bytes) = call_pieces (codes "__e_acsl_print_text") (Quoted bytes ∷ [])
-  statement_pieces rs depth (PrintSigned e) = call_pieces (codes "__e_acsl_print_i64") (expression_pieces rs e)
-  statement_pieces rs depth (PrintUnsigned e) = call_pieces (codes "__e_acsl_print_u64") (expression_pieces rs e)
-  statement_pieces rs depth (If e a b) =
-      Word (codes "if") ∷ blank ∷ (in_parens (expression_pieces rs e) ++ (blank ∷ (body_pieces rs depth a ++ (blank ∷ Word (codes "else") ∷ blank ∷ body_pieces rs depth b))))
-  statement_pieces rs depth (Loop a b) =
-      Word (codes "while") ∷ blank ∷ (in_parens (Number 1 ∷ []) ++ (blank ∷ Mark (codes "{") ∷ (statements_pieces rs (depth + 1) a
-      ++ (new_line (depth + 1) ∷ (call_pieces (codes "__e_acsl_step") [] ++ (statements_pieces rs (depth + 1) b ++ (new_line depth ∷ Mark (codes "}") ∷ [])))))))
-  statement_pieces rs depth (Labelled a l) = body_pieces rs depth a ++ (blank ∷ Word l ∷ Mark (codes ":") ∷ blank ∷ semicolon ∷ [])
-  statement_pieces rs depth (Goto l) = word_statement (codes "goto") (Word l ∷ [])
-  statement_pieces rs depth (Return None) = Word (codes "return") ∷ semicolon ∷ []
-  statement_pieces rs depth (Return (Some e)) = word_statement (codes "return") (expression_pieces rs e)
+  pub statement_pieces : FunctionNames → Registers → ℕ → MonStatement → List Piece
+  statement_pieces gs rs depth (Set r e) = set_pieces (name_of rs r) ++ (expression_pieces rs e ++ (semicolon ∷ []))
+  statement_pieces gs rs depth Step = call_pieces (codes "__e_acsl_step") []
+  statement_pieces gs rs depth (Assert d v number line kind) = call_pieces (codes "__e_acsl_assert") (assert_arguments rs d v number line (kind_word kind))
+  statement_pieces gs rs depth (PutChar r e) = set_or_none rs r ++ call_pieces (codes "putchar") (expression_pieces rs e)
+  statement_pieces gs rs depth (GetChar r) = set_or_none rs r ++ call_pieces (codes "getchar") []
+  statement_pieces gs rs depth (Exit e) = call_pieces (codes "exit") (expression_pieces rs e)
+  statement_pieces gs rs depth (PrintText bytes) = call_pieces (codes "__e_acsl_print_text") (Quoted bytes ∷ [])
+  statement_pieces gs rs depth (PrintSigned e) = call_pieces (codes "__e_acsl_print_i64") (expression_pieces rs e)
+  statement_pieces gs rs depth (PrintUnsigned e) = call_pieces (codes "__e_acsl_print_u64") (expression_pieces rs e)
+  statement_pieces gs rs depth (Act r f args) = set_or_none rs r ++ call_pieces (memory_word f) (arguments_pieces rs args)
+  statement_pieces gs rs depth (Call r f args) = set_or_none rs r ++ call_pieces (function_name gs f) (arguments_pieces rs args)
+  statement_pieces gs rs depth (If e a b) =
+      Word (codes "if") ∷ blank ∷ (in_parens (expression_pieces rs e) ++ (blank ∷ (body_pieces gs rs depth a ++ (blank ∷ Word (codes "else") ∷ blank ∷ body_pieces gs rs depth b))))
+  statement_pieces gs rs depth (Loop a b) =
+      Word (codes "while") ∷ blank ∷ (in_parens (Number 1 ∷ []) ++ (blank ∷ Mark (codes "{") ∷ (statements_pieces gs rs (depth + 1) a
+      ++ (new_line (depth + 1) ∷ (call_pieces (codes "__e_acsl_step") [] ++ (statements_pieces gs rs (depth + 1) b ++ (new_line depth ∷ Mark (codes "}") ∷ [])))))))
+  statement_pieces gs rs depth (Labelled a l) = body_pieces gs rs depth a ++ (blank ∷ Word l ∷ Mark (codes ":") ∷ blank ∷ semicolon ∷ [])
+  statement_pieces gs rs depth (Goto l) = word_statement (codes "goto") (Word l ∷ [])
+  statement_pieces gs rs depth (Return None) = Word (codes "return") ∷ semicolon ∷ []
+  statement_pieces gs rs depth (Return (Some e)) = word_statement (codes "return") (expression_pieces rs e)
 
   -- { .. }, with its end on a line of its own where statements stand in it
-  pub body_pieces : Registers → ℕ → MonStatements → List Piece
-  body_pieces rs depth NoStatement = Mark (codes "{") ∷ blank ∷ Mark (codes "}") ∷ []
-  body_pieces rs depth (Then a rest) =
-      Mark (codes "{") ∷ new_line (depth + 1) ∷ (statement_pieces rs (depth + 1) a ++ (statements_pieces rs (depth + 1) rest ++ (new_line depth ∷ Mark (codes "}") ∷ [])))
+  pub body_pieces : FunctionNames → Registers → ℕ → MonStatements → List Piece
+  body_pieces gs rs depth NoStatement = Mark (codes "{") ∷ blank ∷ Mark (codes "}") ∷ []
+  body_pieces gs rs depth (Then a rest) =
+      Mark (codes "{") ∷ new_line (depth + 1) ∷ (statement_pieces gs rs (depth + 1) a ++ (statements_pieces gs rs (depth + 1) rest ++ (new_line depth ∷ Mark (codes "}") ∷ [])))
 
   -- each statement on a line of its own
-  pub statements_pieces : Registers → ℕ → MonStatements → List Piece
-  statements_pieces rs depth NoStatement = []
-  statements_pieces rs depth (Then a rest) = new_line depth ∷ (statement_pieces rs depth a ++ statements_pieces rs depth rest)
+  pub statements_pieces : FunctionNames → Registers → ℕ → MonStatements → List Piece
+  statements_pieces gs rs depth NoStatement = []
+  statements_pieces gs rs depth (Then a rest) = new_line depth ∷ (statement_pieces gs rs depth a ++ statements_pieces gs rs depth rest)
 
 -- ---- functions
 
@@ -185,17 +214,17 @@ abbrev pub registers_pieces : Registers → List Piece
 registers_pieces [] = []
 registers_pieces (r ∷ rs) = new_line 1 ∷ Word (type_word r.kind) ∷ blank ∷ Word r.name ∷ semicolon ∷ registers_pieces rs
 
-abbrev pub function_pieces : MonFunction → List Piece
-function_pieces f =
+abbrev pub function_pieces : FunctionNames → MonFunction → List Piece
+function_pieces gs f =
     Word (result_word f.result) ∷ blank ∷ Word f.name ∷ (in_parens (parameters_pieces f.parameters) ++ (blank ∷ Mark (codes "{")
-    ∷ (registers_pieces f.registers ++ (statements_pieces (f.parameters ++ f.registers) 1 f.body ++ (new_line 0 ∷ Mark (codes "}") ∷ new_line 0 ∷ [])))))
+    ∷ (registers_pieces f.registers ++ (statements_pieces gs (f.parameters ++ f.registers) 1 f.body ++ (new_line 0 ∷ Mark (codes "}") ∷ new_line 0 ∷ [])))))
 
-abbrev pub functions_pieces : List MonFunction → List Piece
-functions_pieces [] = []
-functions_pieces (f ∷ fs) = function_pieces f ++ functions_pieces fs
+abbrev pub functions_pieces : FunctionNames → List MonFunction → List Piece
+functions_pieces gs [] = []
+functions_pieces gs (f ∷ fs) = function_pieces gs f ++ functions_pieces gs fs
 
 abbrev pub program_pieces : MonitoredProgram → List Piece
-program_pieces m = Head ∷ new_line 0 ∷ functions_pieces m.functions
+program_pieces m = Head ∷ new_line 0 ∷ functions_pieces (map (λ (f : MonFunction). f.name) m.functions) m.functions
 
 -- the text of a program
 abbrev pub text_of : MonitoredProgram → List ℕ

@@ -3,6 +3,7 @@ use Rattle.std.specs.Prelude.{ℕ, ℤ, List, [], ◌∷◌, map, Option, option
 use Rattle.c_syntax.specs.declared.annotation.Kind.{Kind}
 use Rattle.mon_syntax.specs.declared.tree.MonType.{MonType}
 use Rattle.mon_syntax.specs.declared.tree.MonOp.{MonOp}
+use Rattle.mon_syntax.specs.declared.tree.MemoryCall.{MemoryCall}
 use Rattle.mon_syntax.specs.declared.tree.MonExpr.{MonExpr}
 use Rattle.mon_syntax.specs.declared.tree.MonExpr as code
 use Rattle.mon_syntax.specs.declared.tree.MonStmt.{MonStmt, Row_of-MonStmt, end_of-MonStmt, more_of-MonStmt}
@@ -26,10 +27,15 @@ mutual
     -- whether the annotation is defined, whether it is true, its number, its line and its kind
     Assert : MonExpression → MonExpression → ℕ → ℕ → Kind → MonStatement
     PutChar : Option ℕ → MonExpression → MonStatement
+    GetChar : Option ℕ → MonStatement
     Exit : MonExpression → MonStatement
     PrintText : List ℕ → MonStatement
     PrintSigned : MonExpression → MonStatement
     PrintUnsigned : MonExpression → MonStatement
+    -- a call of the runtime on the memory, and the register that takes its value
+    Act : Option ℕ → MemoryCall → List MonExpression → MonStatement
+    -- a call of the function with this number
+    Call : Option ℕ → ℕ → List MonExpression → MonStatement
     If : MonExpression → MonStatements → MonStatements → MonStatement
     -- what stands before the loop's step, and what behind it
     Loop : MonStatements → MonStatements → MonStatement
@@ -70,10 +76,13 @@ abbrev mutual
   plain_stmt stmt.Step = Step
   plain_stmt (stmt.Assert d v number line kind) = Assert (plain_expr d) (plain_expr v) number line kind
   plain_stmt (stmt.PutChar r e) = PutChar r (plain_expr e)
+  plain_stmt (stmt.GetChar r) = GetChar r
   plain_stmt (stmt.Exit e) = Exit (plain_expr e)
   plain_stmt (stmt.PrintText bytes) = PrintText bytes
   plain_stmt (stmt.PrintSigned e) = PrintSigned (plain_expr e)
   plain_stmt (stmt.PrintUnsigned e) = PrintUnsigned (plain_expr e)
+  plain_stmt (stmt.Act r f args) = Act r f (map plain_expr args.items)
+  plain_stmt (stmt.Call r f args) = Call r f (map plain_expr args.items)
   plain_stmt (stmt.If' e p a q b) = If (plain_expr e) (plain_stmt_row a) (plain_stmt_row b)
   plain_stmt (stmt.Loop' p a q b) = Loop (plain_stmt_row a) (plain_stmt_row b)
   plain_stmt (stmt.Labelled' p a label) = Labelled (plain_stmt_row a) label

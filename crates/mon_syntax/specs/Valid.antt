@@ -3,10 +3,12 @@ use Rattle.std.specs.Prelude.{◌≡◌, ℕ, suc, ◌≤◌, ◌<◌, max, ℤ,
 use Rattle.std.specs.Ordering.{int_eq}
 use Rattle.std.specs.List.{list_any, AllByRecursion}
 use Rattle.mon_syntax.specs.declared.tree.MonType.{MonType}
-use Rattle.mon_syntax.specs.declared.tree.MonType.TheVariants.{I8, U8, I16, U16, I32, U32, I64, U64, I128}
+use Rattle.mon_syntax.specs.declared.tree.MonType.TheVariants.{I8, U8, I16, U16, I32, U32, I64, U64, I128, Ptr}
 use Rattle.mon_syntax.specs.declared.tree.MonOp.{MonOp}
 use Rattle.mon_syntax.specs.declared.tree.MonOp.TheVariants.{Add, Sub, Mul, Div, Rem, Shl, Shr, And, Or, Xor, Eq, Ne, Lt, Le, Gt, Ge}
-use Rattle.mon_syntax.specs.Trees.{MonExpression, Register, Constant, Binary, Minus, Flip, Cast, MonStatement, Set, Step, Assert, PutChar, Exit, PrintText, PrintSigned, PrintUnsigned, If, Loop, Labelled, Goto, Return, MonStatements, NoStatement, Then, MonRegister, MonFunction, MonitoredProgram}
+use Rattle.mon_syntax.specs.declared.tree.MemoryCall.{MemoryCall}
+use Rattle.mon_syntax.specs.declared.tree.MemoryCall.TheVariants.{StoreBlock, DeleteBlock}
+use Rattle.mon_syntax.specs.Trees.{MonExpression, Register, Constant, Binary, Minus, Flip, Cast, MonStatement, Set, Step, Assert, PutChar, GetChar, Exit, PrintText, PrintSigned, PrintUnsigned, Act, Call, If, Loop, Labelled, Goto, Return, MonStatements, NoStatement, Then, MonRegister, MonFunction, MonitoredProgram}
 use Rattle.mon_syntax.specs.Arithmetic.{fits}
 use Rattle.mon_syntax.specs.Names.{IsFreeName}
 
@@ -23,6 +25,20 @@ is_arithmetic U32 = true
 is_arithmetic I64 = true
 is_arithmetic U64 = true
 is_arithmetic I128 = true
+is_arithmetic Ptr = false
+
+-- the types of whole numbers
+abbrev pub is_whole : MonType → Bool
+is_whole I8 = true
+is_whole U8 = true
+is_whole I16 = true
+is_whole U16 = true
+is_whole I32 = true
+is_whole U32 = true
+is_whole I64 = true
+is_whole U64 = true
+is_whole I128 = true
+is_whole Ptr = false
 
 abbrev pub is_relation : MonOp → Bool
 is_relation Add = false
@@ -46,9 +62,9 @@ is_relation Ge = true
 abbrev pub result_type : MonOp → MonType → MonType
 result_type op t = if is_relation op then I32 else t
 
--- a constant has a value of its type, which is not the least one of i128
+-- a constant has a value of its type, a whole-number type, which is not the least one of i128
 abbrev pub has_constant : MonType → ℤ → Bool
-has_constant t z = fits t z && not (int_eq z (neg_ℤ (pos (2 ^ 127))))
+has_constant t z = is_whole t && fits t z && not (int_eq z (neg_ℤ (pos (2 ^ 127))))
 
 -- the types of a function's registers, by number
 abbrev pub Types : Type 0
@@ -61,7 +77,7 @@ HasType ts (Constant k z) t = (k ≡ t) × (has_constant k z ≡ true)
 HasType ts (Binary op k a b) t = (result_type op k ≡ t) × (is_arithmetic k ≡ true) × HasType ts a k × HasType ts b k
 HasType ts (Minus k a) t = (k ≡ t) × (is_arithmetic k ≡ true) × HasType ts a k
 HasType ts (Flip k a) t = (k ≡ t) × (is_arithmetic k ≡ true) × HasType ts a k
-HasType ts (Cast k a) t = (k ≡ t) × ((from : MonType) × HasType ts a from)
+HasType ts (Cast k a) t = (k ≡ t) × (is_whole k ≡ true) × ((from : MonType) × (is_whole from ≡ true) × HasType ts a from)
 
 -- how many parentheses are open at once in the text of an expression
 abbrev pub open_parens : MonExpression → ℕ
@@ -97,20 +113,54 @@ has_label ls l = list_any (bytes_eq l) ls
 abbrev pub greatest_number : ℕ
 greatest_number = 4294967295
 
--- the register that takes the result of a call has its type
-abbrev pub TakesResult : Types → Option ℕ → MonType → Type 0
-TakesResult ts None t = Unit {0}
-TakesResult ts (Some r) t = slice_get ts r ≡ Some t
+-- the register that takes the value of a call has its type
+abbrev pub TakesValue : Types → Option ℕ → Option MonType → Type 0
+TakesValue ts None t = Unit {0}
+TakesValue ts (Some r) None = ⊥
+TakesValue ts (Some r) (Some t) = slice_get ts r ≡ Some t
+
+-- each argument has the type of its parameter
+abbrev pub AreArguments : Types → List MonExpression → Types → Type 0
+AreArguments ts [] [] = Unit {0}
+AreArguments ts [] (p ∷ ps) = ⊥
+AreArguments ts (e ∷ es) [] = ⊥
+AreArguments ts (e ∷ es) (p ∷ ps) = IsExpression ts e p × AreArguments ts es ps
+
+-- what calls of the runtime on the memory take and give
+abbrev pub memory_parameters : MemoryCall → Types
+memory_parameters StoreBlock = U64 ∷ []
+memory_parameters DeleteBlock = Ptr ∷ []
+
+abbrev pub memory_result : MemoryCall → Option MonType
+memory_result StoreBlock = Some Ptr
+memory_result DeleteBlock = None
+
+-- what a function is to its callers
+pub record Signature : Type 0 where
+  pub name : List ℕ
+  pub parameters : Types
+  pub result : Option MonType
+
+-- a function that may be called, which `main` isn't, with arguments and a register of its types
+pub record IsCall (gs : List Signature) (ts : Types) (r : Option ℕ) (f : ℕ) (args : List MonExpression) : Type 0 where
+  pub callee : Signature
+  pub has : slice_get gs f ≡ Some callee
+  pub not_main : bytes_eq callee.name (codes "main") ≡ false
+  pub arguments : AreArguments ts args callee.parameters
+  pub takes : TakesValue ts r callee.result
 
 abbrev pub is_step : MonStatement → Bool
 is_step (Set r e) = false
 is_step Step = true
 is_step (Assert d v number line kind) = false
 is_step (PutChar r e) = false
+is_step (GetChar r) = false
 is_step (Exit e) = false
 is_step (PrintText bytes) = false
 is_step (PrintSigned e) = false
 is_step (PrintUnsigned e) = false
+is_step (Act r f args) = false
+is_step (Call r f args) = false
 is_step (If e a b) = false
 is_step (Loop a b) = false
 is_step (Labelled a l) = false
@@ -128,26 +178,29 @@ ReturnsResult ts None (Some e) = ⊥
 ReturnsResult ts (Some t) None = ⊥
 ReturnsResult ts (Some t) (Some e) = IsExpression ts e t
 
--- the statement is valid in a function of the result, inside bodies of these labels
+-- the statement is valid among functions of these signatures, in a function of the result, inside bodies of these labels
 abbrev mutual
-  pub IsStatement : Types → Option MonType → Labels → MonStatement → Type 0
-  IsStatement ts result ls (Set r e) = (t : MonType) × (slice_get ts r ≡ Some t) × IsExpression ts e t
-  IsStatement ts result ls Step = Unit {0}
-  IsStatement ts result ls (Assert d v number line kind) = IsExpression ts d I32 × IsExpression ts v I32 × (number ≤ greatest_number) × (line ≤ greatest_number)
-  IsStatement ts result ls (PutChar r e) = TakesResult ts r I32 × IsExpression ts e I32
-  IsStatement ts result ls (Exit e) = IsExpression ts e I32
-  IsStatement ts result ls (PrintText bytes) = AllByRecursion (λ b. b < 256) bytes
-  IsStatement ts result ls (PrintSigned e) = IsExpression ts e I64
-  IsStatement ts result ls (PrintUnsigned e) = IsExpression ts e U64
-  IsStatement ts result ls (If e a b) = IsExpression ts e I32 × AreStatements ts result ls a × AreStatements ts result ls b
-  IsStatement ts result ls (Loop a b) = (has_no_step a ≡ true) × (has_no_step b ≡ true) × AreStatements ts result ls a × AreStatements ts result ls b
-  IsStatement ts result ls (Labelled a l) = IsFreeName l × (has_label ls l ≡ false) × AreStatements ts result (l ∷ ls) a
-  IsStatement ts result ls (Goto l) = has_label ls l ≡ true
-  IsStatement ts result ls (Return e) = ReturnsResult ts result e
+  pub IsStatement : List Signature → Types → Option MonType → Labels → MonStatement → Type 0
+  IsStatement gs ts result ls (Set r e) = (t : MonType) × (slice_get ts r ≡ Some t) × IsExpression ts e t
+  IsStatement gs ts result ls Step = Unit {0}
+  IsStatement gs ts result ls (Assert d v number line kind) = IsExpression ts d I32 × IsExpression ts v I32 × (number ≤ greatest_number) × (line ≤ greatest_number)
+  IsStatement gs ts result ls (PutChar r e) = TakesValue ts r (Some I32) × IsExpression ts e I32
+  IsStatement gs ts result ls (GetChar r) = TakesValue ts r (Some I32)
+  IsStatement gs ts result ls (Exit e) = IsExpression ts e I32
+  IsStatement gs ts result ls (PrintText bytes) = AllByRecursion (λ b. b < 256) bytes
+  IsStatement gs ts result ls (PrintSigned e) = IsExpression ts e I64
+  IsStatement gs ts result ls (PrintUnsigned e) = IsExpression ts e U64
+  IsStatement gs ts result ls (Act r f args) = AreArguments ts args (memory_parameters f) × TakesValue ts r (memory_result f)
+  IsStatement gs ts result ls (Call r f args) = IsCall gs ts r f args
+  IsStatement gs ts result ls (If e a b) = IsExpression ts e I32 × AreStatements gs ts result ls a × AreStatements gs ts result ls b
+  IsStatement gs ts result ls (Loop a b) = (has_no_step a ≡ true) × (has_no_step b ≡ true) × AreStatements gs ts result ls a × AreStatements gs ts result ls b
+  IsStatement gs ts result ls (Labelled a l) = IsFreeName l × (has_label ls l ≡ false) × AreStatements gs ts result (l ∷ ls) a
+  IsStatement gs ts result ls (Goto l) = has_label ls l ≡ true
+  IsStatement gs ts result ls (Return e) = ReturnsResult ts result e
 
-  pub AreStatements : Types → Option MonType → Labels → MonStatements → Type 0
-  AreStatements ts result ls NoStatement = Unit {0}
-  AreStatements ts result ls (Then a rest) = IsStatement ts result ls a × AreStatements ts result ls rest
+  pub AreStatements : List Signature → Types → Option MonType → Labels → MonStatements → Type 0
+  AreStatements gs ts result ls NoStatement = Unit {0}
+  AreStatements gs ts result ls (Then a rest) = IsStatement gs ts result ls a × AreStatements gs ts result ls rest
 
 -- how deep statements stand in one another: one in a body is one deeper than the statement of the body
 abbrev mutual
@@ -156,10 +209,13 @@ abbrev mutual
   depth Step = 1
   depth (Assert d v number line kind) = 1
   depth (PutChar r e) = 1
+  depth (GetChar r) = 1
   depth (Exit e) = 1
   depth (PrintText bytes) = 1
   depth (PrintSigned e) = 1
   depth (PrintUnsigned e) = 1
+  depth (Act r f args) = 1
+  depth (Call r f args) = 1
   depth (If e a b) = suc (max (depth_of_all a) (depth_of_all b))
   -- the step of a loop is a statement in its body
   depth (Loop a b) = suc (max 1 (max (depth_of_all a) (depth_of_all b)))
@@ -181,13 +237,21 @@ AreRegisters before (r ∷ rs) = IsFreeName r.name × (has_label before r.name �
 abbrev pub types_of : List MonRegister → Types
 types_of rs = map (λ (r : MonRegister). r.kind) rs
 
--- a function
-pub record IsFunction (f : MonFunction) : Type 0 where
+abbrev pub signature_of : MonFunction → Signature
+signature_of f = record { name = f.name; parameters = types_of f.parameters; result = f.result }
+
+-- a function, among functions of these signatures
+pub record IsFunction (gs : List Signature) (f : MonFunction) : Type 0 where
   pub name : IsFreeName f.name
   pub registers : AreRegisters [] (f.parameters ++ f.registers)
-  pub body : AreStatements (types_of (f.parameters ++ f.registers)) f.result [] f.body
+  pub body : AreStatements gs (types_of (f.parameters ++ f.registers)) f.result [] f.body
   -- the body itself is 1 deep
   pub within : suc (depth_of_all f.body) ≤ most_nested
+
+-- functions behind those of these names, each with a name of its own
+abbrev pub AreFunctions : List Signature → List (List ℕ) → List MonFunction → Type 0
+AreFunctions gs before [] = Unit {0}
+AreFunctions gs before (f ∷ fs) = IsFunction gs f × (has_label before f.name ≡ false) × AreFunctions gs (f.name ∷ before) fs
 
 -- `i32 main(void)`
 pub record IsMain (f : MonFunction) : Type 0 where
@@ -195,9 +259,10 @@ pub record IsMain (f : MonFunction) : Type 0 where
   pub result : f.result ≡ Some I32
   pub no_parameters : f.parameters ≡ []
 
--- one function, which is `main`
+-- functions, of which one is `main`
 pub record IsValid (m : MonitoredProgram) : Type 0 where
+  pub functions : AreFunctions (map signature_of m.functions) [] m.functions
+  pub number : ℕ
   pub main : MonFunction
-  pub functions : m.functions ≡ main ∷ []
-  pub is_function : IsFunction main
+  pub has : slice_get m.functions number ≡ Some main
   pub is_main : IsMain main

@@ -1,6 +1,6 @@
 -- What the words of monitored C are.
 use Rattle.std.specs.Prelude.{ℕ, List, [], ◌∷◌, if◌then◌else◌, codes, bytes_eq}
-use Rattle.mon_syntax.specs.declared.tree.MonType.TheVariants.{I8, U8, I16, U16, I32, U32, I64, U64, I128}
+use Rattle.mon_syntax.specs.declared.tree.MonType.TheVariants.{I8, U8, I16, U16, I32, U32, I64, U64, I128, Ptr}
 use Rattle.mon_syntax.specs.declared.word.Runtime.TheVariants as runtime
 use Rattle.mon_syntax.specs.declared.word.Word.{Word}
 use Rattle.mon_syntax.specs.declared.word.Word.TheVariants.{TypeName, Constant, Void, If, Else, While, Goto, Return, Kept, Runtime, Name}
@@ -11,12 +11,12 @@ Words = List (List ℕ × Word)
 abbrev pub type_words : Words
 type_words =
     (codes "i8", TypeName I8) ∷ (codes "u8", TypeName U8) ∷ (codes "i16", TypeName I16) ∷ (codes "u16", TypeName U16) ∷ (codes "i32", TypeName I32) ∷ (codes "u32", TypeName U32)
-    ∷ (codes "i64", TypeName I64) ∷ (codes "u64", TypeName U64) ∷ (codes "i128", TypeName I128) ∷ (codes "ptr", Kept) ∷ []
+    ∷ (codes "i64", TypeName I64) ∷ (codes "u64", TypeName U64) ∷ (codes "i128", TypeName I128) ∷ (codes "ptr", TypeName Ptr) ∷ []
 
 abbrev pub constant_words : Words
 constant_words =
     (codes "I8", Constant I8) ∷ (codes "U8", Constant U8) ∷ (codes "I16", Constant I16) ∷ (codes "U16", Constant U16) ∷ (codes "I32", Constant I32)
-    ∷ (codes "U32", Constant U32) ∷ (codes "I64", Constant I64) ∷ (codes "U64", Constant U64) ∷ (codes "I128", Constant I128) ∷ (codes "PTR", Kept) ∷ []
+    ∷ (codes "U32", Constant U32) ∷ (codes "I64", Constant I64) ∷ (codes "U64", Constant U64) ∷ (codes "I128", Constant I128) ∷ (codes "PTR", Constant Ptr) ∷ []
 
 abbrev pub keywords : Words
 keywords =
@@ -28,7 +28,7 @@ runtime_words =
     (codes "__e_acsl_step", Runtime runtime.Step) ∷ (codes "__e_acsl_assert", Runtime runtime.Assert) ∷ (codes "putchar", Runtime runtime.PutChar)
     ∷ (codes "exit", Runtime runtime.Exit) ∷ (codes "__e_acsl_print_text", Runtime runtime.PrintText)
     ∷ (codes "__e_acsl_print_i64", Runtime runtime.PrintSigned) ∷ (codes "__e_acsl_print_u64", Runtime runtime.PrintUnsigned)
-    ∷ (codes "__e_acsl_store_block", Runtime runtime.Kept) ∷ (codes "__e_acsl_delete_block", Runtime runtime.Kept)
+    ∷ (codes "__e_acsl_store_block", Runtime runtime.StoreBlock) ∷ (codes "__e_acsl_delete_block", Runtime runtime.DeleteBlock)
     ∷ (codes "__e_acsl_copy", Runtime runtime.Kept) ∷ (codes "__e_acsl_valid", Runtime runtime.Kept)
     ∷ (codes "__e_acsl_valid_read", Runtime runtime.Kept) ∷ (codes "__e_acsl_initialized", Runtime runtime.Kept)
     ∷ (codes "__e_acsl_number", Runtime runtime.Kept) ∷ (codes "__e_acsl_pointer", Runtime runtime.Kept)
@@ -37,7 +37,7 @@ runtime_words =
     ∷ (codes "__e_acsl_separated", Runtime runtime.Kept) ∷ (codes "__e_acsl_malloc", Runtime runtime.Kept)
     ∷ (codes "__e_acsl_calloc", Runtime runtime.Kept) ∷ (codes "__e_acsl_free", Runtime runtime.Kept)
     ∷ (codes "__e_acsl_initialize", Runtime runtime.Kept) ∷ (codes "__e_acsl_initialize_ptr", Runtime runtime.Kept)
-    ∷ (codes "__e_acsl_print_str", Runtime runtime.Kept) ∷ (codes "getchar", Runtime runtime.Kept) ∷ []
+    ∷ (codes "__e_acsl_print_str", Runtime runtime.Kept) ∷ (codes "getchar", Runtime runtime.GetChar) ∷ []
 
 abbrev pub found_in : Words → List ℕ → Word → Word
 found_in [] w other = other

@@ -5,5 +5,5 @@ pub mod laws;
 pub mod tree;
 pub mod word;
 
-pub use tree::{MonExpr, MonFunc, MonOp, MonProgram, MonStmt, MonType, Register};
+pub use tree::{MemoryCall, MonExpr, MonFunc, MonOp, MonProgram, MonStmt, MonType, Register};
 pub use word::{Runtime, Word};

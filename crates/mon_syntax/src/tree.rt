@@ -2,7 +2,7 @@
 
 use c_syntax::{Kind, Name};
 
-/// A type of registers: a whole-number type by its width in bits and its sign.
+/// A type of registers: a whole-number type by its width in bits and its sign, or a pointer.
 #[derive(Clone, Copy, PartialEq, Eq, Debug)]
 pub enum MonType {
     I8,
@@ -14,6 +14,7 @@ pub enum MonType {
     I64,
     U64,
     I128,
+    Ptr,
 }
 
 /// An operator of two operands.
@@ -35,6 +36,15 @@ pub enum MonOp {
     Le,
     Gt,
     Ge,
+}
+
+/// A call of the runtime that works on the memory.
+#[derive(Clone, Copy, PartialEq, Eq, Debug)]
+pub enum MemoryCall {
+    /// `__e_acsl_store_block(n)`: the birth of a stack block of so many bytes. It gives the pointer to its start.
+    StoreBlock,
+    /// `__e_acsl_delete_block(p)`: the death of the youngest live stack block, whose start this is.
+    DeleteBlock,
 }
 
 /// An expression. It has no side effect.
@@ -66,6 +76,8 @@ pub enum MonStmt {
     Assert(MonExpr, MonExpr, u32, u32, Kind),
     /// `putchar(e);`, or `R = putchar(e);`
     PutChar(Option<u32>, MonExpr),
+    /// `getchar();`, or `R = getchar();`
+    GetChar(Option<u32>),
     /// `exit(e);`
     Exit(MonExpr),
     /// `__e_acsl_print_text("..");`
@@ -74,6 +86,10 @@ pub enum MonStmt {
     PrintSigned(MonExpr),
     /// `__e_acsl_print_u64(e);`
     PrintUnsigned(MonExpr),
+    /// `f(..);`, or `R = f(..);`: a call of the runtime on the memory.
+    Act(Option<u32>, MemoryCall, Vec<MonExpr>),
+    /// `f(..);`, or `R = f(..);`: a call of the function with this number in the program.
+    Call(Option<u32>, u32, Vec<MonExpr>),
     If(MonExpr, Vec<MonStmt>, Vec<MonStmt>),
     /// `while (1) { .. __e_acsl_step(); .. }`: what stands before the loop's step, and what behind it.
     Loop(Vec<MonStmt>, Vec<MonStmt>),

@@ -8,10 +8,13 @@ pub enum Runtime {
     Step,
     Assert,
     PutChar,
+    GetChar,
     Exit,
     PrintText,
     PrintSigned,
     PrintUnsigned,
+    StoreBlock,
+    DeleteBlock,
     /// A name that is kept for the runtime and isn't there yet.
     Kept,
 }
