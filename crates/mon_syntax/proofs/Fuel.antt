@@ -2,9 +2,9 @@
 use Rattle.std.proofs.Common.{◌≡◌, ℕ, zero, suc, ◌≤◌, ◌<◌, ℤ, pos, Bool, true, false, if◌then◌else◌, List, [], Option, Some, None, slice_get, bytes_eq, codes, refl, ap, ◌∙◌, arith}
 use Rattle.std.specs.Ordering.{int_eq}
 use Rattle.c_model.specs.State.{Input, Spent}
-use Rattle.mon_syntax.specs.Trees.{MonStatement, Set, Step, Assert, PutChar, Exit, PrintText, PrintSigned, PrintUnsigned, If, Loop, Labelled, Goto, Return, MonStatements, NoStatement, Then, MonFunction, MonitoredProgram}
+use Rattle.mon_syntax.specs.Trees.{MonStatement, Set, Step, Assert, PutChar, GetChar, Exit, PrintText, PrintSigned, PrintUnsigned, Act, Call, If, Loop, Labelled, Goto, Return, MonStatements, NoStatement, Then, MonFunction, MonitoredProgram}
 use Rattle.mon_syntax.specs.Memory.{Memory, Reply, Gives, IsFull, Faults}
-use Rattle.mon_syntax.specs.Meaning.{State, Result, Done, Stops, Flow, Next, Goes, Returns, writes, then_do, at_next, at_label, with_value, choose, step_from, eval, eval_number, replied, Calls, Does, turns, exec, exec_all, at_return, body_runs, level, exit_of, ran, function_named, run}
+use Rattle.mon_syntax.specs.Meaning.{State, Result, Done, Stops, Flow, Next, Goes, Returns, writes, then_do, at_next, at_label, with_value, choose, step_from, got, with_read, eval, eval_all, eval_number, replied, Calls, Does, turns, exec, exec_all, at_return, body_runs, level, exit_of, ran, function_named, run}
 use Rattle.mon_syntax.specs.Steps.{steps_after}
 
 -- ---- results
@@ -32,6 +32,10 @@ fit_then n x y f g h go =
 fit_value : {Mem A B : Type 0} (a : Option A) (n : ℕ) (f g : A → Result (State Mem) B) → ((x : A) → Fit n (f x) (g x)) → Fit n (with_value a n f) (with_value a n g)
 fit_value None n f g h = (refl, omega arith)
 fit_value (Some a) n f g h = h a
+
+fit_read : {Mem A : Type 0} (o : Option (ℤ × Input)) (n : ℕ) (f g : ℤ → Input → Result (State Mem) A) → ((z : ℤ) (r : Input) → Fit n (f z r) (g z r)) → Fit n (with_read o n f) (with_read o n g)
+fit_read None n f g h = (refl, omega arith)
+fit_read (Some (z, r)) n f g h = h z r
 
 fit_if : {Mem A : Type 0} (n : ℕ) (b : Bool) (x x' y y' : Result (State Mem) A) → Fit n x x' → Fit n y y' → Fit n (if b then x else y) (if b then x' else y')
 fit_if n true x x' y y' h h' = h
@@ -113,6 +117,11 @@ module _ (M : Memory) where
   fit_label l (Goes i r) s = fit_if s.steps (bytes_eq l i) _ _ _ _ (refl, omega arith) (refl, omega arith)
   fit_label l (Returns v) s = (refl, omega arith)
 
+  steps-replied : (x : Reply M.Mem M.Val) (s : State M.Mem) → steps_after (replied M x s) ≤ s.steps
+  steps-replied (Gives v m) s = omega arith
+  steps-replied (IsFull g) s = omega arith
+  steps-replied Faults s = omega arith
+
   mutual
     fit_exec : (a : MonStatement) (k m n : ℕ) (c d : Calls M) → k ≤ m → k ≤ n → CallsFit k c d → FitDoes k (exec M a c m) (exec M a d n)
     fit_exec (Set x e) k m n c d lm ln h regs s l = fit_value (eval M e regs) s.steps _ _ (λ v. (refl, omega arith))
@@ -121,10 +130,15 @@ module _ (M : Memory) where
         fit_value (eval_number M e1 regs) s.steps _ _ (λ i. fit_value (eval_number M e2 regs) s.steps _ _ (λ j.
         fit_choose s.steps i _ _ _ _ (fit_choose s.steps j _ _ _ _ (refl, omega arith) (refl, omega arith)) (refl, omega arith)))
     fit_exec (PutChar r e) k m n c d lm ln h regs s l = fit_value (eval_number M e regs) s.steps _ _ (λ i. (refl, omega arith))
+    fit_exec (GetChar r) k m n c d lm ln h regs s l = fit_read (got s.input.bytes s.input.tail) s.steps _ _ (λ z i. (refl, omega arith))
     fit_exec (Exit e) k m n c d lm ln h regs s l = fit_value (eval_number M e regs) s.steps _ _ (λ i. (refl, omega arith))
     fit_exec (PrintText bytes) k m n c d lm ln h regs s l = (refl, omega arith)
     fit_exec (PrintSigned e) k m n c d lm ln h regs s l = fit_value (eval_number M e regs) s.steps _ _ (λ i. (refl, omega arith))
     fit_exec (PrintUnsigned e) k m n c d lm ln h regs s l = fit_value (eval_number M e regs) s.steps _ _ (λ i. (refl, omega arith))
+    fit_exec (Act r f args) k m n c d lm ln h regs s l =
+        fit_value (eval_all M args regs) s.steps _ _ (λ vs. fit_behind s.steps (replied M (M.act f vs s.mem) s) _ _ (steps-replied (M.act f vs s.mem) s) (λ v t lt. (refl, omega arith)))
+    fit_exec (Call r f args) k m n c d lm ln h regs s l =
+        fit_value (eval_all M args regs) s.steps _ _ (λ vs. fit_then s.steps _ _ _ _ (h f vs s l) (λ v t lt. (refl, omega arith)))
     fit_exec (If e a b) k m n c d lm ln h regs s l =
         fit_value (eval_number M e regs) s.steps _ _ (λ i. fit_choose s.steps i _ _ _ _ (fit_exec_all a k m n c d lm ln h regs s l) (fit_exec_all b k m n c d lm ln h regs s l))
     fit_exec (Loop a b) k m n c d lm ln h regs s l =
@@ -142,11 +156,6 @@ module _ (M : Memory) where
         fit_next k (exec_all M rest c m) (exec_all M rest d n) (fit_exec_all rest k m n c d lm ln h) x t (omega (arith, l, lt)))
 
   -- ---- programs
-
-  steps-replied : (x : Reply M.Mem M.Val) (s : State M.Mem) → steps_after (replied M x s) ≤ s.steps
-  steps-replied (Gives v m) s = omega arith
-  steps-replied (IsFull g) s = omega arith
-  steps-replied Faults s = omega arith
 
   fit_return : (a : Flow M.Val) (s : State M.Mem) → Fit s.steps (at_return M a s) (at_return M a s)
   fit_return (Next r) s = (refl, omega arith)

@@ -1,5 +1,6 @@
 pub mod Rows
 pub mod Agreement
+pub mod FlatBlocks
 pub mod FlatAgreement
 pub mod Fuel
 pub mod Wrapping
@@ -14,8 +15,12 @@ pub mod PrintedAlone
 pub mod PrintedSteps
 pub mod PrintedExpressions
 pub mod PrintedCalls
+pub mod PrintedArguments
 pub mod PrintedBodies
 pub mod PrintedSimple
 pub mod PrintedStatements
+pub mod PrintedRegisters
+pub mod PrintedFunctions
 pub mod PrintedTexts
-mod WorkedRuns
+pub mod WorkedRuns
+mod WorkedCalls

@@ -7,8 +7,8 @@ use Rattle.grammar.proofs.Labels.{EachLate, late_none, late_gives, late_one, lat
 use Rattle.c_syntax.specs.declared.place.Place.{Place}
 use Rattle.c_syntax.specs.Tokens.{PlainToken}
 use Rattle.mon_syntax.specs.declared.tree.MonType.{MonType}
-use Rattle.mon_syntax.specs.Parsed.{NameUse, ParsedExpression, ParsedArgument, ParsedStatement, ParsedRegister}
-use Rattle.mon_syntax.specs.Grammar.{Vocabulary, minus, tilde, comma, left_paren, name_kind, type_kind, constant_kind, if_kind, while_kind, goto_kind, number_kind, text_kind, left_brace, mark_kind, word_at, kind, assign, first_expression, first_argument, first_statement, first_function, expression_limit, nesting_limit, LoopRead, has_step, is_step_word, mark, name, signed_number, constant, other_expression, expression_with, second_operand, negation, complement, cast, behind_two, plain_operand, behind_paren, opened, behind_opened, expression_in, expression, expression_but_name, argument, next_argument, some_arguments, arguments, call_of, InBody, ended, set_to_call, set_to_name, set_to, behind_name, one_more, statements, body, selection, one_more_in_loop, loop_end, iteration, labelled, jump, returned, return_statement, statement_with, statement_in, register, registers, result, function_body, function, text}
+use Rattle.mon_syntax.specs.Parsed.{NameUse, ParsedExpression, ParsedArgument, ParsedStatement, ParsedRegister, ParsedFunction}
+use Rattle.mon_syntax.specs.Grammar.{Vocabulary, minus, tilde, comma, left_paren, name_kind, type_kind, constant_kind, void_kind, if_kind, while_kind, goto_kind, number_kind, text_kind, left_brace, mark_kind, word_at, kind, assign, first_expression, first_argument, first_statement, first_function, expression_limit, nesting_limit, LoopRead, has_step, is_step_word, mark, name, signed_number, constant, other_expression, expression_with, second_operand, negation, complement, cast, behind_two, plain_operand, behind_paren, opened, behind_opened, expression_in, expression, expression_but_name, argument, next_argument, some_arguments, arguments, call_of, InBody, ended, set_to_call, set_to_name, set_to, behind_name, one_more, statements, body, selection, one_more_in_loop, loop_end, iteration, labelled, jump, returned, return_statement, statement_with, statement_in, register, registers, result, parameter, next_parameter, some_parameters, parameters, function_body, function, one_more_function, text}
 use Rattle.mon_syntax.proofs.ExactTokens.{fixed_good}
 use Rattle.mon_syntax.proofs.ExactExpressions.{paren, none_good}
 use Rattle.mon_syntax.proofs.ExactStatements.{statement_with_good}
@@ -217,18 +217,39 @@ module _ (ws : Vocabulary) where
   unfolding result
   result_kept = late_choice (kind ws) (type_kind ∷ []) (late_then (late_one _) (λ t. late_gives _)) (late_then (late_one _) (λ _. late_gives _))
 
-  function_body_kept : (r : Option MonType) (f : NameUse) → Kept (function_body ws r f)
+  parameter_kept : Kept (parameter ws)
+  unfolding parameter
+  parameter_kept = late_then (late_one _) (λ t. late_then name_kept (λ x. late_gives _))
+
+  next_parameter_kept : (ps : List ParsedRegister) → Kept (next_parameter ws ps)
+  unfolding next_parameter
+  next_parameter_kept ps = late_then (late_one _) (λ _. late_then parameter_kept (λ p. late_gives _))
+
+  some_parameters_kept : Kept (some_parameters ws)
+  unfolding some_parameters
+  some_parameters_kept = late_then parameter_kept (λ p. late_many (kind ws) (λ _. mark_kind comma ∷ []) next_parameter_kept _)
+
+  parameters_kept : Kept (parameters ws)
+  unfolding parameters
+  parameters_kept = late_choice (kind ws) (void_kind ∷ []) (late_then (late_one _) (λ _. late_gives _)) some_parameters_kept
+
+  function_body_kept : (r : Option MonType) (f : NameUse) (ps : List ParsedRegister) → Kept (function_body ws r f ps)
   unfolding function_body
-  function_body_kept r f =
+  function_body_kept r f ps =
       late_then (late_one _) (λ _. late_then registers_kept (λ rs. late_then (statements_kept (statement_in ws 1999) (within_kept 1999)) (λ xs. late_then (late_one _) (λ _. late_gives _))))
 
   function_kept : Kept (function ws)
   unfolding function
-  function_kept = late_then result_kept (λ r. late_then name_kept (λ f. late_then (late_one _) (λ _. late_then (late_one _) (λ _. late_then (late_one _) (λ _. function_body_kept r f)))))
+  function_kept =
+      late_then result_kept (λ r. late_then name_kept (λ f. late_then (late_one _) (λ _. late_then parameters_kept (λ ps. late_then (late_one _) (λ _. function_body_kept r f ps)))))
+
+  one_more_function_kept : (fs : List ParsedFunction) → Kept (one_more_function ws fs)
+  unfolding one_more_function
+  one_more_function_kept fs = late_then function_kept (λ f. late_gives _)
 
   text_kept : Kept (text ws)
   unfolding text
-  text_kept = late_then (late_one _) (λ _. late_choice (kind ws) first_function (late_then function_kept (λ f. late_gives _)) (late_gives _))
+  text_kept = late_then (late_one _) (λ _. late_many (kind ws) (λ _. first_function) one_more_function_kept _)
 
   both : (i j : ℕ) (t : PlainToken) → Passes i t → Passes j t → i ≡ j
   both i j t (inl p) (inl q) = p.0 ∙ sym q.0

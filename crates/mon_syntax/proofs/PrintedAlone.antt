@@ -1,5 +1,5 @@
 -- Each piece of a valid program's text stands alone.
-use Rattle.std.proofs.Common.{◌≡◌, ℕ, zero, suc, ◌+◌, ◌*◌, ◌^◌, ◌<◌, ◌≤◌, Bool, true, false, not, ◌&&◌, ◌||◌, eqb, leb, List, [], ◌∷◌, ◌++◌, length, replicate, slice_get, codes, ℤ, pos, negsuc, neg_ℤ, int_le, Option, Some, None, refl, sym, ap, subst, ◌∙◌, append_assoc, arith, true≢false}
+use Rattle.std.proofs.Common.{◌≡◌, ℕ, zero, suc, ◌+◌, ◌*◌, ◌^◌, ◌<◌, ◌≤◌, Bool, true, false, not, ◌&&◌, ◌||◌, eqb, leb, List, [], ◌∷◌, ◌++◌, length, map, replicate, slice_get, codes, ℤ, pos, negsuc, neg_ℤ, int_le, Option, Some, None, refl, sym, ap, subst, ◌∙◌, append_assoc, arith, true≢false}
 use Rattle.std.specs.Prelude.{bytes_eq}
 use Rattle.std.specs.Ordering.{int_eq}
 use Rattle.std.specs.Fmt.{decimal}
@@ -18,16 +18,18 @@ use Rattle.c_model.specs.MonitoredTokens.{greatest_literal, marks, piece_at}
 use Rattle.c_model.specs.MonitoredTokenLaws.{Stops}
 use Rattle.c_model.proofs.Spelling.{and_true}
 use Rattle.mon_syntax.specs.declared.tree.MonType.{MonType}
-use Rattle.mon_syntax.specs.declared.tree.MonType.TheVariants.{I8, U8, I16, U16, I32, U32, I64, U64, I128}
+use Rattle.mon_syntax.specs.declared.tree.MonType.TheVariants.{I8, U8, I16, U16, I32, U32, I64, U64, I128, Ptr}
+use Rattle.mon_syntax.specs.declared.tree.MemoryCall.{MemoryCall}
+use Rattle.mon_syntax.specs.declared.tree.MemoryCall.TheVariants.{StoreBlock, DeleteBlock}
 use Rattle.mon_syntax.specs.declared.tree.MonOp.{MonOp}
 use Rattle.mon_syntax.specs.declared.tree.MonOp.TheVariants.{Add, Sub, Mul, Div, Rem, Shl, Shr, And, Or, Xor, Eq, Ne, Lt, Le, Gt, Ge}
 use Rattle.mon_syntax.specs.Names.{type_word, constant_word, IsFreeName}
 use Rattle.mon_syntax.specs.Arithmetic.{least, greatest, fits}
-use Rattle.mon_syntax.specs.Trees.{MonExpression, Register, Constant, Binary, Minus, Flip, Cast, MonStatement, Set, Step, Assert, PutChar, Exit, PrintText, PrintSigned, PrintUnsigned, If, Loop, Labelled, Goto, Return, MonStatements, NoStatement, Then, MonRegister, MonFunction}
-use Rattle.mon_syntax.specs.Text.{Word, Quoted, Mark, spelled, blank, new_line, left_paren, right_paren, semicolon, operator_mark, Registers, name_of, call_pieces, expression_pieces, body_pieces, statement_pieces, statements_pieces, registers_pieces, function_pieces}
-use Rattle.mon_syntax.specs.Valid.{Types, has_constant, HasType, Labels, has_label, IsExpression, ReturnsResult, IsStatement, AreStatements, AreRegisters, types_of}
+use Rattle.mon_syntax.specs.Trees.{MonExpression, Register, Constant, Binary, Minus, Flip, Cast, MonStatement, Set, Step, Assert, PutChar, GetChar, Exit, PrintText, PrintSigned, PrintUnsigned, Act, Call, If, Loop, Labelled, Goto, Return, MonStatements, NoStatement, Then, MonRegister, MonFunction}
+use Rattle.mon_syntax.specs.Text.{Word, Quoted, Mark, spelled, blank, new_line, left_paren, right_paren, semicolon, operator_mark, Registers, name_of, call_pieces, set_or_none, expression_pieces, more_arguments, arguments_pieces, assert_arguments, memory_word, FunctionNames, function_name, body_pieces, statement_pieces, statements_pieces, result_word, more_parameters, parameters_pieces, registers_pieces, function_pieces, functions_pieces}
+use Rattle.mon_syntax.specs.Valid.{Types, is_whole, has_constant, HasType, Labels, has_label, IsExpression, greatest_number, memory_parameters, memory_result, TakesValue, AreArguments, Signature, ReturnsResult, IsStatement, AreStatements, AreRegisters, types_of, signature_of, IsFunction, AreFunctions}
 use Rattle.mon_syntax.proofs.PrintedPieces.{is_word, IsAlone, AreAlone}
-use Rattle.mon_syntax.proofs.PrintedForms.{Pieces, binary_is, closed_is, ended_is, arguments_are, assert_is, if_is, loop_is, labelled_is, body_is, then_is}
+use Rattle.mon_syntax.proofs.PrintedForms.{Pieces, binary_is, closed_is, ended_is, argument_is, taken_is, arguments_are, assert_is, if_is, loop_is, labelled_is, body_is, then_is, function_is}
 
 -- ---- words
 
@@ -59,6 +61,7 @@ type_is_word U32 = refl
 type_is_word I64 = refl
 type_is_word U64 = refl
 type_is_word I128 = refl
+type_is_word Ptr = refl
 
 constant_is_word : (t : MonType) → is_word (constant_word t) ≡ true
 constant_is_word I8 = refl
@@ -70,6 +73,11 @@ constant_is_word U32 = refl
 constant_is_word I64 = refl
 constant_is_word U64 = refl
 constant_is_word I128 = refl
+constant_is_word Ptr = refl
+
+memory_is_word : (f : MemoryCall) → is_word (memory_word f) ≡ true
+memory_is_word StoreBlock = refl
+memory_is_word DeleteBlock = refl
 
 kind_bytes : (k : Kind) → AllByRecursion (λ b. b < 256) (kind_word k)
 kind_bytes the_kind.Assert = omega arith
@@ -209,7 +217,7 @@ digits_of (pos n) = n
 digits_of (negsuc n) = suc n
 
 small_constant : (t : MonType) (z : ℤ) → has_constant t z ≡ true → digits_of z ≤ greatest_literal
-small_constant t (pos n) h = by t (and_true (int_le (least t) (pos n)) (int_le (pos n) (greatest t)) (and_true (fits t (pos n)) _ h).0).1
+small_constant t (pos n) h = by t (and_true (int_le (least t) (pos n)) (int_le (pos n) (greatest t)) (and_true (is_whole t) (fits t (pos n)) (and_true (is_whole t && fits t (pos n)) _ h).0).1).1
   where
     by : (t : MonType) → int_le (pos n) (greatest t) ≡ true → n ≤ greatest_literal
     by I8 e = omega (arith, below n 127 e)
@@ -221,7 +229,10 @@ small_constant t (pos n) h = by t (and_true (int_le (least t) (pos n)) (int_le (
     by I64 e = omega (arith, below n 9223372036854775807 e)
     by U64 e = omega (arith, below n 18446744073709551615 e)
     by I128 e = below n 170141183460469231731687303715884105727 e
-small_constant t (negsuc n) h = let a = and_true (fits t (negsuc n)) _ h in by t (and_true (int_le (least t) (negsuc n)) (int_le (negsuc n) (greatest t)) a.0).0 a.1
+    by Ptr e = omega (arith, below n 18446744073709551615 e)
+small_constant t (negsuc n) h =
+    let a = and_true (is_whole t && fits t (negsuc n)) _ h in
+    by t (and_true (int_le (least t) (negsuc n)) (int_le (negsuc n) (greatest t)) (and_true (is_whole t) (fits t (negsuc n)) a.0).1).0 a.1
   where
     by : (t : MonType) → int_le (least t) (negsuc n) ≡ true → not (int_eq (negsuc n) (neg_ℤ (pos (2 ^ 127)))) ≡ true → suc n ≤ greatest_literal
     by I8 e o = omega (arith, above n 127 e)
@@ -233,12 +244,17 @@ small_constant t (negsuc n) h = let a = and_true (fits t (negsuc n)) _ h in by t
     by I64 e o = omega (arith, above n 9223372036854775807 e)
     by U64 e o = absurd cc
     by I128 e o = other n 170141183460469231731687303715884105727 o (above n 170141183460469231731687303715884105727 e)
+    by Ptr e o = absurd cc
 
 -- ---- expressions
 
 -- each register of a type has a name
 abbrev pub AreNamed : Types → Registers → Type 0
 AreNamed ts rs = (r : ℕ) (t : MonType) → slice_get ts r ≡ Some t → is_word (name_of rs r) ≡ true
+
+-- each function that may be called has a name
+abbrev pub AreCallees : List Signature → FunctionNames → Type 0
+AreCallees gs called = (f : ℕ) (g : Signature) → slice_get gs f ≡ Some g → is_word (function_name called f) ≡ true
 
 module _ (ts : Types) (rs : Registers) (named : AreNamed ts rs) where
   constant_alone : (t : MonType) (z : ℤ) (more : Pieces) → has_constant t z ≡ true → AreAlone more → AreAlone (expression_pieces rs (Constant t z) ++ more)
@@ -270,7 +286,7 @@ module _ (ts : Types) (rs : Registers) (named : AreNamed ts rs) where
       (alone_left_paren _, (alone_tilde _, expression_alone a k h.2 (right_paren ∷ more) refl (alone_right_paren _, m)))
   expression_alone (Cast k a) t h more stop m =
       subst (λ (l : Pieces). AreAlone (left_paren ∷ left_paren ∷ Word (type_word k) ∷ right_paren ∷ l)) (sym (closed_is rs more a))
-      (alone_left_paren _, (alone_left_paren _, ((type_is_word k, refl), (alone_right_paren _, expression_alone a h.1.0 h.1.1 (right_paren ∷ more) refl (alone_right_paren _, m)))))
+      (alone_left_paren _, (alone_left_paren _, ((type_is_word k, refl), (alone_right_paren _, expression_alone a h.2.0 h.2.2 (right_paren ∷ more) refl (alone_right_paren _, m)))))
 
   -- ---- statements
 
@@ -288,8 +304,8 @@ module _ (ts : Types) (rs : Registers) (named : AreNamed ts rs) where
   ended_alone : (e : MonExpression) (t : MonType) (more : Pieces) → IsExpression ts e t → AreAlone more → AreAlone ((expression_pieces rs e ++ (semicolon ∷ [])) ++ more)
   ended_alone e t more h m = subst AreAlone (sym (ended_is rs more e)) (expression_alone e t h.typed (semicolon ∷ more) refl (alone_semicolon _, m))
 
-  assert_alone : (d v : MonExpression) (number line : ℕ) (kind : Kind) (result : Option MonType) (ls : Labels) (depth : ℕ) (more : Pieces) → IsStatement ts result ls (Assert d v number line kind) → AreAlone more → AreAlone (statement_pieces rs depth (Assert d v number line kind) ++ more)
-  assert_alone d v number line kind result ls depth more h m =
+  assert_alone : (d v : MonExpression) (number line : ℕ) (kind : Kind) (more : Pieces) → IsExpression ts d I32 × IsExpression ts v I32 × (number ≤ greatest_number) × (line ≤ greatest_number) → AreAlone more → AreAlone (call_pieces (codes "__e_acsl_assert") (assert_arguments rs d v number line (kind_word kind)) ++ more)
+  assert_alone d v number line kind more h m =
       let first : number ≤ greatest_literal = omega (arith, h.2) in
       let second : line ≤ greatest_literal = omega (arith, h.3) in
       subst (λ (l : Pieces). AreAlone (Word (codes "__e_acsl_assert") ∷ left_paren ∷ l)) (sym (assert_is rs more d v number line (kind_word kind))) (
@@ -307,97 +323,135 @@ module _ (ts : Types) (rs : Registers) (named : AreNamed ts rs) where
         ),
       )
 
-  -- a body, given its statements
-  body_alone : (s : MonStatements) (depth : ℕ) (more : Pieces) → ((end : Pieces) → AreAlone end → AreAlone (statements_pieces rs (depth + 1) s ++ end)) → AreAlone more → AreAlone (body_pieces rs depth s ++ more)
-  body_alone NoStatement depth more inner m = (alone_left_brace _, (refl, (alone_right_brace _, m)))
-  body_alone (Then a rest) depth more inner m = subst AreAlone (sym (body_is rs more depth a rest)) (alone_left_brace _, inner (new_line depth ∷ Mark (codes "}") ∷ more) (line_blank depth, (alone_right_brace _, m)))
+  -- arguments
 
-  -- each label is a word
-  AreLabels : Labels → Type 0
-  AreLabels ls = (w : List ℕ) → has_label ls w ≡ true → is_word w ≡ true
+  more_stop : (es : List MonExpression) (more : Pieces) → Stops in_literal (spelled (more_arguments rs es ++ (right_paren ∷ more)))
+  more_stop [] more = refl
+  more_stop (e ∷ es) more = refl
 
-  more_labels : (l : List ℕ) (ls : Labels) → IsFreeName l → AreLabels ls → AreLabels (l ∷ ls)
-  unfolding AreLabels
-  more_labels l ls free old w h = by (bytes_eq w l) refl h
-    where
-      by : (t : Bool) → bytes_eq w l ≡ t → t || has_label ls w ≡ true → is_word w ≡ true
-      by true e g = ap is_word (same_bytes w l e) ∙ free_word l free
-      by false e g = old w g
+  more_alone : (es : List MonExpression) (ps : Types) (more : Pieces) → AreArguments ts es ps → AreAlone more → AreAlone (more_arguments rs es ++ (right_paren ∷ more))
+  more_alone [] ps more h m = (alone_right_paren _, m)
+  more_alone (e ∷ es) [] more h m = absurd h
+  more_alone (e ∷ es) (p ∷ ps) more h m =
+      subst (λ (l : Pieces). AreAlone (Mark (codes ",") ∷ blank ∷ l)) (sym (argument_is rs (right_paren ∷ more) e es))
+      (alone_comma _, (refl, expression_alone e p h.0.typed (more_arguments rs es ++ (right_paren ∷ more)) (more_stop es more) (more_alone es ps more h.1 m)))
 
-  returned_typed : (result : Option MonType) (e : MonExpression) → ReturnsResult ts result (Some e) → (t : MonType) × IsExpression ts e t
-  returned_typed None e h = absurd h
-  returned_typed (Some t) e h = (t, h)
+  arguments_alone : (es : List MonExpression) (ps : Types) (more : Pieces) → AreArguments ts es ps → AreAlone more → AreAlone (arguments_pieces rs es ++ (right_paren ∷ more))
+  arguments_alone [] ps more h m = (alone_right_paren _, m)
+  arguments_alone (e ∷ es) [] more h m = absurd h
+  arguments_alone (e ∷ es) (p ∷ ps) more h m =
+      subst AreAlone (sym (argument_is rs (right_paren ∷ more) e es))
+      (expression_alone e p h.0.typed (more_arguments rs es ++ (right_paren ∷ more)) (more_stop es more) (more_alone es ps more h.1 m))
 
-  mutual
+  -- a call whose value a register takes, or none
+  taken_alone : (r : Option ℕ) (v : Option MonType) (call more : Pieces) → TakesValue ts r v → AreAlone (call ++ more) → AreAlone ((set_or_none rs r ++ call) ++ more)
+  taken_alone None v call more h m = m
+  taken_alone (Some r) None call more h m = absurd h
+  taken_alone (Some r) (Some t) call more h m = set_alone r t (call ++ more) h m
+
+  -- a call with arguments
+  called_alone : (r : Option ℕ) (v : Option MonType) (name : List ℕ) (es : List MonExpression) (ps : Types) (more : Pieces) → is_word name ≡ true → TakesValue ts r v → AreArguments ts es ps → AreAlone more
+      → AreAlone ((set_or_none rs r ++ call_pieces name (arguments_pieces rs es)) ++ more)
+  called_alone r v name es ps more w h k m =
+      taken_alone r v (call_pieces name (arguments_pieces rs es)) more h (call_alone name (arguments_pieces rs es) more w (arguments_alone es ps (semicolon ∷ more) k (alone_semicolon _, m)))
+
+  -- ---- statements among functions of these signatures and names
+
+  module _ (gs : List Signature) (called : FunctionNames) (callees : AreCallees gs called) where
+    -- a body, given its statements
+    body_alone : (s : MonStatements) (depth : ℕ) (more : Pieces) → ((end : Pieces) → AreAlone end → AreAlone (statements_pieces called rs (depth + 1) s ++ end)) → AreAlone more → AreAlone (body_pieces called rs depth s ++ more)
+    body_alone NoStatement depth more inner m = (alone_left_brace _, (refl, (alone_right_brace _, m)))
+    body_alone (Then a rest) depth more inner m = subst AreAlone (sym (body_is called rs more depth a rest)) (alone_left_brace _, inner (new_line depth ∷ Mark (codes "}") ∷ more) (line_blank depth, (alone_right_brace _, m)))
+
+    -- each label is a word
+    AreLabels : Labels → Type 0
+    AreLabels ls = (w : List ℕ) → has_label ls w ≡ true → is_word w ≡ true
+
+    more_labels : (l : List ℕ) (ls : Labels) → IsFreeName l → AreLabels ls → AreLabels (l ∷ ls)
     unfolding AreLabels
+    more_labels l ls free old w h = by (bytes_eq w l) refl h
+      where
+        by : (t : Bool) → bytes_eq w l ≡ t → t || has_label ls w ≡ true → is_word w ≡ true
+        by true e g = ap is_word (same_bytes w l e) ∙ free_word l free
+        by false e g = old w g
 
-    statement_alone : (a : MonStatement) (result : Option MonType) (ls : Labels) (depth : ℕ) (more : Pieces) → AreLabels ls → IsStatement ts result ls a → AreAlone more → AreAlone (statement_pieces rs depth a ++ more)
-    statement_alone (Set r e) result ls depth more labels h m = set_alone r h.0 ((expression_pieces rs e ++ (semicolon ∷ [])) ++ more) h.1 (ended_alone e h.0 more h.2 m)
-    statement_alone Step result ls depth more labels h m = call_alone (codes "__e_acsl_step") [] more refl (alone_right_paren _, (alone_semicolon _, m))
-    statement_alone (Assert d v number line kind) result ls depth more labels h m = assert_alone d v number line kind result ls depth more h m
-    statement_alone (PutChar None e) result ls depth more labels h m = value_alone (codes "putchar") e I32 more refl h.1 m
-    statement_alone (PutChar (Some r) e) result ls depth more labels h m = set_alone r I32 (call_pieces (codes "putchar") (expression_pieces rs e) ++ more) h.0 (value_alone (codes "putchar") e I32 more refl h.1 m)
-    statement_alone (Exit e) result ls depth more labels h m = value_alone (codes "exit") e I32 more refl h m
-    statement_alone (PrintText bytes) result ls depth more labels h m = call_alone (codes "__e_acsl_print_text") (Quoted bytes ∷ []) more refl (h, (alone_right_paren _, (alone_semicolon _, m)))
-    statement_alone (PrintSigned e) result ls depth more labels h m = value_alone (codes "__e_acsl_print_i64") e I64 more refl h m
-    statement_alone (PrintUnsigned e) result ls depth more labels h m = value_alone (codes "__e_acsl_print_u64") e U64 more refl h m
-    statement_alone (If e a b) result ls depth more labels h m =
-        subst AreAlone (sym (if_is rs more depth e a b)) (
-          (refl, refl),
-          (
-            refl,
+    returned_typed : (result : Option MonType) (e : MonExpression) → ReturnsResult ts result (Some e) → (t : MonType) × IsExpression ts e t
+    returned_typed None e h = absurd h
+    returned_typed (Some t) e h = (t, h)
+
+    mutual
+      unfolding AreLabels
+
+      statement_alone : (a : MonStatement) (result : Option MonType) (ls : Labels) (depth : ℕ) (more : Pieces) → AreLabels ls → IsStatement gs ts result ls a → AreAlone more → AreAlone (statement_pieces called rs depth a ++ more)
+      statement_alone (Set r e) result ls depth more labels h m = set_alone r h.0 ((expression_pieces rs e ++ (semicolon ∷ [])) ++ more) h.1 (ended_alone e h.0 more h.2 m)
+      statement_alone Step result ls depth more labels h m = call_alone (codes "__e_acsl_step") [] more refl (alone_right_paren _, (alone_semicolon _, m))
+      statement_alone (Assert d v number line kind) result ls depth more labels h m = assert_alone d v number line kind more h m
+      statement_alone (PutChar r e) result ls depth more labels h m = taken_alone r (Some I32) (call_pieces (codes "putchar") (expression_pieces rs e)) more h.0 (value_alone (codes "putchar") e I32 more refl h.1 m)
+      statement_alone (GetChar r) result ls depth more labels h m =
+          taken_alone r (Some I32) (call_pieces (codes "getchar") []) more h (call_alone (codes "getchar") [] more refl (alone_right_paren _, (alone_semicolon _, m)))
+      statement_alone (Exit e) result ls depth more labels h m = value_alone (codes "exit") e I32 more refl h m
+      statement_alone (PrintText bytes) result ls depth more labels h m = call_alone (codes "__e_acsl_print_text") (Quoted bytes ∷ []) more refl (h, (alone_right_paren _, (alone_semicolon _, m)))
+      statement_alone (PrintSigned e) result ls depth more labels h m = value_alone (codes "__e_acsl_print_i64") e I64 more refl h m
+      statement_alone (PrintUnsigned e) result ls depth more labels h m = value_alone (codes "__e_acsl_print_u64") e U64 more refl h m
+      statement_alone (Act r f es) result ls depth more labels h m = called_alone r (memory_result f) (memory_word f) es (memory_parameters f) more (memory_is_word f) h.1 h.0 m
+      statement_alone (Call r f es) result ls depth more labels h m = called_alone r h.callee.result (function_name called f) es h.callee.parameters more (callees f h.callee h.has) h.takes h.arguments m
+      statement_alone (If e a b) result ls depth more labels h m =
+          subst AreAlone (sym (if_is called rs more depth e a b)) (
+            (refl, refl),
             (
-              alone_left_paren _,
-              expression_alone e I32 h.0.typed _ refl (
-                alone_right_paren _,
-                (
-                  refl,
-                  body_alone a depth _ (λ end g. statements_alone a result ls (depth + 1) end labels h.1 g)
-                      (refl, ((refl, refl), (refl, body_alone b depth more (λ end g. statements_alone b result ls (depth + 1) end labels h.2 g) m))),
-                ),
-              ),
-            ),
-          ),
-        )
-    statement_alone (Loop a b) result ls depth more labels h m =
-        subst AreAlone (sym (loop_is rs more depth a b)) (
-          (refl, refl),
-          (
-            refl,
-            (
-              alone_left_paren _,
+              refl,
               (
-                (omega arith, refl),
-                (
+                alone_left_paren _,
+                expression_alone e I32 h.0.typed _ refl (
                   alone_right_paren _,
                   (
                     refl,
+                    body_alone a depth _ (λ end g. statements_alone a result ls (depth + 1) end labels h.1 g)
+                        (refl, ((refl, refl), (refl, body_alone b depth more (λ end g. statements_alone b result ls (depth + 1) end labels h.2 g) m))),
+                  ),
+                ),
+              ),
+            ),
+          )
+      statement_alone (Loop a b) result ls depth more labels h m =
+          subst AreAlone (sym (loop_is called rs more depth a b)) (
+            (refl, refl),
+            (
+              refl,
+              (
+                alone_left_paren _,
+                (
+                  (omega arith, refl),
+                  (
+                    alone_right_paren _,
                     (
-                      alone_left_brace _,
-                      statements_alone a result ls (depth + 1) _ labels h.2
-                          (line_blank (depth + 1), ((refl, refl), (alone_left_paren _, (alone_right_paren _, (alone_semicolon _, statements_alone b result ls (depth + 1) _ labels h.3 (line_blank depth, (alone_right_brace _, m))))))),
+                      refl,
+                      (
+                        alone_left_brace _,
+                        statements_alone a result ls (depth + 1) _ labels h.2
+                            (line_blank (depth + 1), ((refl, refl), (alone_left_paren _, (alone_right_paren _, (alone_semicolon _, statements_alone b result ls (depth + 1) _ labels h.3 (line_blank depth, (alone_right_brace _, m))))))),
+                      ),
                     ),
                   ),
                 ),
               ),
             ),
-          ),
-        )
-    statement_alone (Labelled a l) result ls depth more labels h m =
-        subst AreAlone (sym (labelled_is rs more depth a l))
-        (body_alone a depth _ (λ end g. statements_alone a result (l ∷ ls) (depth + 1) end (more_labels l ls h.0 labels) h.2 g) (refl, ((free_word l h.0, refl), (alone_colon _, (refl, (alone_semicolon _, m))))))
-    statement_alone (Goto l) result ls depth more labels h m = ((refl, refl), (refl, ((labels l h, refl), (alone_semicolon _, m))))
-    statement_alone (Return None) result ls depth more labels h m = ((refl, refl), (alone_semicolon _, m))
-    statement_alone (Return (Some e)) result ls depth more labels h m = let g = returned_typed result e h in ((refl, refl), (refl, ended_alone e g.0 more g.1 m))
+          )
+      statement_alone (Labelled a l) result ls depth more labels h m =
+          subst AreAlone (sym (labelled_is called rs more depth a l))
+          (body_alone a depth _ (λ end g. statements_alone a result (l ∷ ls) (depth + 1) end (more_labels l ls h.0 labels) h.2 g) (refl, ((free_word l h.0, refl), (alone_colon _, (refl, (alone_semicolon _, m))))))
+      statement_alone (Goto l) result ls depth more labels h m = ((refl, refl), (refl, ((labels l h, refl), (alone_semicolon _, m))))
+      statement_alone (Return None) result ls depth more labels h m = ((refl, refl), (alone_semicolon _, m))
+      statement_alone (Return (Some e)) result ls depth more labels h m = let g = returned_typed result e h in ((refl, refl), (refl, ended_alone e g.0 more g.1 m))
 
-    statements_alone : (s : MonStatements) (result : Option MonType) (ls : Labels) (depth : ℕ) (more : Pieces) → AreLabels ls → AreStatements ts result ls s → AreAlone more → AreAlone (statements_pieces rs depth s ++ more)
-    statements_alone NoStatement result ls depth more labels h m = m
-    statements_alone (Then a rest) result ls depth more labels h m =
-        subst AreAlone (sym (then_is rs more depth a rest)) (line_blank depth, statement_alone a result ls depth _ labels h.0 (statements_alone rest result ls depth more labels h.1 m))
+      statements_alone : (s : MonStatements) (result : Option MonType) (ls : Labels) (depth : ℕ) (more : Pieces) → AreLabels ls → AreStatements gs ts result ls s → AreAlone more → AreAlone (statements_pieces called rs depth s ++ more)
+      statements_alone NoStatement result ls depth more labels h m = m
+      statements_alone (Then a rest) result ls depth more labels h m =
+          subst AreAlone (sym (then_is called rs more depth a rest)) (line_blank depth, statement_alone a result ls depth _ labels h.0 (statements_alone rest result ls depth more labels h.1 m))
 
-  pub body_is_alone : (s : MonStatements) (result : Option MonType) (more : Pieces) → AreStatements ts result [] s → AreAlone more → AreAlone (statements_pieces rs 1 s ++ more)
-  unfolding AreLabels
-  body_is_alone s result more h m = statements_alone s result [] 1 more (λ w e. absurd cc) h m
+    pub body_is_alone : (s : MonStatements) (result : Option MonType) (more : Pieces) → AreStatements gs ts result [] s → AreAlone more → AreAlone (statements_pieces called rs 1 s ++ more)
+    unfolding AreLabels
+    body_is_alone s result more h m = statements_alone s result [] 1 more (λ w e. absurd cc) h m
 
 -- ---- functions
 
@@ -405,17 +459,24 @@ pub registers_alone : (rs : List MonRegister) (before : List (List ℕ)) (more :
 registers_alone [] before more h m = m
 registers_alone (r ∷ rs) before more h m = (line_blank 1, ((type_is_word r.kind, refl), (refl, ((free_word r.name h.0, refl), (alone_semicolon _, registers_alone rs (r.name ∷ before) more h.2 m)))))
 
--- `i32 main(void)`, with these registers and this body
-abbrev pub main_of : Registers → MonStatements → MonFunction
-main_of rs body = record { result = Some I32; name = codes "main"; parameters = []; registers = rs; body = body }
+-- a name in front of what stands behind a parameter
+parameter_stop : (ps : Registers) (more : Pieces) → Stops is_part (spelled (more_parameters ps ++ (right_paren ∷ more)))
+parameter_stop [] more = refl
+parameter_stop (p ∷ ps) more = refl
 
-pub main_is : (rs : Registers) (body : MonStatements) (more : Pieces)
-    → function_pieces (main_of rs body) ++ more
-    ≡ Word (type_word I32) ∷ blank ∷ Word (codes "main") ∷ left_paren ∷ Word (codes "void") ∷ right_paren ∷ blank ∷ Mark (codes "{") ∷ (registers_pieces rs ++ (statements_pieces rs 1 body ++ (new_line 0 ∷ Mark (codes "}") ∷ new_line 0 ∷ more)))
-main_is rs body more =
-    let end : Pieces → Pieces = λ l. new_line 0 ∷ Mark (codes "}") ∷ new_line 0 ∷ l in
-    ap (λ (l : Pieces). Word (type_word I32) ∷ blank ∷ Word (codes "main") ∷ left_paren ∷ Word (codes "void") ∷ right_paren ∷ blank ∷ Mark (codes "{") ∷ l)
-    (append_assoc (registers_pieces rs) (statements_pieces rs 1 body ++ end []) more ∙ ap (λ (l : Pieces). registers_pieces rs ++ l) (append_assoc (statements_pieces rs 1 body) (end []) more))
+more_parameters_alone : (ps rest : Registers) (before : List (List ℕ)) (more : Pieces) → AreRegisters before (ps ++ rest) → AreAlone more → AreAlone (more_parameters ps ++ (right_paren ∷ more))
+more_parameters_alone [] rest before more h m = (alone_right_paren _, m)
+more_parameters_alone (p ∷ ps) rest before more h m =
+    (alone_comma _, (refl, ((type_is_word p.kind, refl), (refl, ((free_word p.name h.0, parameter_stop ps more), more_parameters_alone ps rest (p.name ∷ before) more h.2 m)))))
+
+parameters_alone : (ps rest : Registers) (more : Pieces) → AreRegisters [] (ps ++ rest) → AreAlone more → AreAlone (parameters_pieces ps ++ (right_paren ∷ more))
+parameters_alone [] rest more h m = ((refl, refl), (alone_right_paren _, m))
+parameters_alone (p ∷ ps) rest more h m = ((type_is_word p.kind, refl), (refl, ((free_word p.name h.0, parameter_stop ps more), more_parameters_alone ps rest (p.name ∷ []) more h.2 m)))
+
+-- registers behind parameters
+registers_behind : (ps rs : Registers) (before : List (List ℕ)) (more : Pieces) → AreRegisters before (ps ++ rs) → AreAlone more → AreAlone (registers_pieces rs ++ more)
+registers_behind [] rs before more h m = registers_alone rs before more h m
+registers_behind (p ∷ ps) rs before more h m = registers_behind ps rs (p.name ∷ before) more h.2 m
 
 -- ---- registers
 
@@ -424,33 +485,34 @@ name_found before [] r t h e = absurd cc
 name_found before (x ∷ rs) zero t h e = free_word x.name h.0
 name_found before (x ∷ rs) (suc r) t h e = name_found (x.name ∷ before) rs r t h.2 e
 
-pub registers_named : (rs : Registers) → AreRegisters [] rs → AreNamed (types_of rs) rs
+registers_named : (rs : Registers) → AreRegisters [] rs → AreNamed (types_of rs) rs
 registers_named rs h r t e = name_found [] rs r t h e
 
-pub main_alone : (rs : Registers) (body : MonStatements) → AreRegisters [] rs → AreStatements (types_of rs) (Some I32) [] body → AreAlone (function_pieces (main_of rs body) ++ [])
-main_alone rs body registers statements =
-    subst AreAlone (sym (main_is rs body [])) (
-      (refl, refl),
-      (
-        refl,
-        (
-          (refl, refl),
-          (
-            alone_left_paren _,
-            (
-              (refl, refl),
-              (
-                alone_right_paren _,
-                (
-                  refl,
-                  (
-                    alone_left_brace _,
-                    registers_alone rs [] _ registers (body_is_alone (types_of rs) rs (registers_named rs registers) body (Some I32) _ statements (line_blank 0, (alone_right_brace _, (line_blank 0, tt)))),
-                  ),
-                ),
-              ),
-            ),
-          ),
-        ),
-      ),
+result_is_word : (t : Option MonType) → is_word (result_word t) ≡ true
+result_is_word None = refl
+result_is_word (Some t) = type_is_word t
+
+function_alone : (gs : List Signature) (called : FunctionNames) (f : MonFunction) (more : Pieces) → AreCallees gs called → IsFunction gs f → AreAlone more → AreAlone (function_pieces called f ++ more)
+function_alone gs called f more callees h m =
+    let rs = f.parameters ++ f.registers in
+    let end : Pieces = new_line 0 ∷ Mark (codes "}") ∷ new_line 0 ∷ more in
+    let statements = body_is_alone (types_of rs) rs (registers_named rs h.registers) gs called callees f.body f.result end h.body (line_blank 0, (alone_right_brace _, (line_blank 0, m))) in
+    let registers = registers_behind f.parameters f.registers [] (statements_pieces called rs 1 f.body ++ end) h.registers statements in
+    subst AreAlone (sym (function_is called f more)) (
+      (result_is_word f.result, refl),
+      (refl, ((free_word f.name h.name, refl), (alone_left_paren _, parameters_alone f.parameters f.registers _ h.registers (refl, (alone_left_brace _, registers))))),
     )
+
+-- the names of functions are words
+callee_named : (gs : List Signature) (before : List (List ℕ)) (fs : List MonFunction) (k : ℕ) (g : Signature) → AreFunctions gs before fs → slice_get (map signature_of fs) k ≡ Some g → is_word (function_name (map (λ (f : MonFunction). f.name) fs) k) ≡ true
+callee_named gs before [] k g h e = absurd cc
+callee_named gs before (f ∷ fs) zero g h e = free_word f.name h.0.name
+callee_named gs before (f ∷ fs) (suc k) g h e = callee_named gs (f.name ∷ before) fs k g h.2 e
+
+functions_alone : (gs : List Signature) (called : FunctionNames) (before : List (List ℕ)) (fs : List MonFunction) → AreCallees gs called → AreFunctions gs before fs → AreAlone (functions_pieces called fs)
+functions_alone gs called before [] callees h = tt
+functions_alone gs called before (f ∷ fs) callees h = function_alone gs called f (functions_pieces called fs) callees h.0 (functions_alone gs called (f.name ∷ before) fs callees h.2)
+
+pub program_alone : (fs : List MonFunction) → AreFunctions (map signature_of fs) [] fs → AreAlone (functions_pieces (map (λ (f : MonFunction). f.name) fs) fs)
+program_alone fs h =
+    functions_alone (map signature_of fs) (map (λ (f : MonFunction). f.name) fs) [] fs (λ k g e. callee_named (map signature_of fs) [] fs k g h e) h

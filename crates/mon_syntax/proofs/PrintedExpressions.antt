@@ -7,7 +7,7 @@ use Rattle.c_syntax.specs.Tokens.{PlainToken}
 use Rattle.c_model.specs.Names.{name_number}
 use Rattle.c_model.specs.MonitoredTokens as made
 use Rattle.mon_syntax.specs.declared.tree.MonType.{MonType}
-use Rattle.mon_syntax.specs.declared.tree.MonType.TheVariants.{I8, U8, I16, U16, I32, U32, I64, U64, I128}
+use Rattle.mon_syntax.specs.declared.tree.MonType.TheVariants.{I8, U8, I16, U16, I32, U32, I64, U64, I128, Ptr}
 use Rattle.mon_syntax.specs.declared.tree.MonOp.{MonOp}
 use Rattle.mon_syntax.specs.declared.word.Word.TheVariants as word
 use Rattle.mon_syntax.specs.Names.{type_word}
@@ -15,11 +15,11 @@ use Rattle.mon_syntax.specs.Words.{word_of}
 use Rattle.mon_syntax.specs.Trees.{MonExpression, Register, Constant, Binary, Minus, Flip, Cast}
 use Rattle.mon_syntax.specs.Text as text
 use Rattle.mon_syntax.specs.Text.{Registers, name_of, number_pieces, expression_pieces}
-use Rattle.mon_syntax.specs.Valid.{Types, is_arithmetic, result_type, HasType, open_parens}
+use Rattle.mon_syntax.specs.Valid.{Types, is_arithmetic, is_whole, result_type, HasType, open_parens}
 use Rattle.mon_syntax.specs.Parsed as parsed
 use Rattle.mon_syntax.specs.Parsed.{ParsedExpression}
 use Rattle.mon_syntax.specs.Grammar.{Vocabulary, minus, tilde, left_paren, right_paren, name_kind, type_kind, constant_kind, mark_kind, word_kind, word_at, kind, number_of, type_of_word, type_of, constant_of_word, constant_of, operator_of, signed_number, constant, other_expression, expression_with, second_operand, negation, complement, cast, behind_two, plain_operand, behind_paren, opened, behind_opened, expression_in}
-use Rattle.mon_syntax.specs.Checking.{same_type, find_register, scope_of, checked_expression}
+use Rattle.mon_syntax.specs.Checking.{Header, same_type, find_register, scope_of, checked_expression}
 use Rattle.mon_syntax.proofs.PrintedPieces.{punctuator, AreTokens}
 use Rattle.mon_syntax.proofs.PrintedForms.{Pieces, binary_is, closed_is}
 use Rattle.mon_syntax.proofs.PrintedSteps.{type_word_is, constant_word_is, operator_mark_is, mark_read, placed_read, name_read, opened_read, sees_mark, sees_word}
@@ -34,6 +34,7 @@ same_types U32 = refl
 same_types I64 = refl
 same_types U64 = refl
 same_types I128 = refl
+same_types Ptr = refl
 
 -- ---- productions, given what their parts read
 
@@ -185,13 +186,13 @@ AreWords names ws = (n : ℕ) (w : List ℕ) → slice_get names n ≡ Some w �
 abbrev pub AreFound : List (List ℕ) → Types → Registers → List (ℕ × MonType) → Type 0
 AreFound names types rs regs = (r : ℕ) (t : MonType) → slice_get types r ≡ Some t → (find_register 0 regs (name_number names (name_of rs r)) ≡ Some (r, t)) × (word_of (name_of rs r) ≡ word.Name)
 
-module _ (names : List (List ℕ)) (ws : Vocabulary) (words : AreWords names ws) (types : Types) (rs : Registers) (regs : List (ℕ × MonType)) (found : AreFound names types rs regs) where
+module _ (names : List (List ℕ)) (ws : Vocabulary) (words : AreWords names ws) (functions : List Header) (types : Types) (rs : Registers) (regs : List (ℕ × MonType)) (found : AreFound names types rs regs) where
   -- with n parentheses left the tokens are read as the expression of its type, up to those of the pieces behind it
   pub record IsReadAs (n : ℕ) (e : MonExpression) (t : MonType) (more : Pieces) (ts : List PlainToken) : Type 0 where
     pub tree : ParsedExpression
     pub rest : List PlainToken
     pub after : AreTokens names more rest
-    pub checked : checked_expression (scope_of names ws regs) tree ≡ Ok (e, t)
+    pub checked : checked_expression (scope_of names ws functions regs) tree ≡ Ok (e, t)
     pub begins : Begins ws ts
     pub parsed : (expression_in ws n).parse ts ≡ Ok (tree, rest)
     pub first : (behind_paren ws (opened ws n) (behind_opened ws n)).parse ts ≡ (second_operand ws (expression_in ws n) tree).parse rest
@@ -199,7 +200,7 @@ module _ (names : List (List ℕ)) (ws : Vocabulary) (words : AreWords names ws)
     pub named : IsRegister e → IsNamed ws tree ts rest
 
   paren_is : (n : ℕ) (e : MonExpression) (t : MonType) (more : Pieces) {at : Place} {ts inner : List PlainToken} (x : ParsedExpression) (rest : List PlainToken)
-      → 0 < n → ts ≡ made.token at (token.Mark left_paren) ∷ inner → (behind_opened ws n).parse inner ≡ Ok (x, rest) → sees (kind ws) (type_kind ∷ []) inner ≡ false → AreTokens names more rest → checked_expression (scope_of names ws regs) x ≡ Ok (e, t) → (IsRegister e → ⊥) → IsReadAs n e t more ts
+      → 0 < n → ts ≡ made.token at (token.Mark left_paren) ∷ inner → (behind_opened ws n).parse inner ≡ Ok (x, rest) → sees (kind ws) (type_kind ∷ []) inner ≡ false → AreTokens names more rest → checked_expression (scope_of names ws functions regs) x ≡ Ok (e, t) → (IsRegister e → ⊥) → IsReadAs n e t more ts
   paren_is n e t more x rest some h is no_type after checked no_register = record {
     tree = x;
     rest = rest;
@@ -236,19 +237,19 @@ module _ (names : List (List ℕ)) (ws : Vocabulary) (words : AreWords names ws)
       number_is (pos m) us b = (b.1, positive_read ws m b.2, b.3)
       number_is (negsuc m) us b = (b.3.1, negative_read ws m b.2 b.3.2, b.3.3)
 
-  binary_checked : (op : MonOp) (k t : MonType) (a b : MonExpression) (at : Place) (x y : ParsedExpression) → checked_expression (scope_of names ws regs) x ≡ Ok (a, k) → checked_expression (scope_of names ws regs) y ≡ Ok (b, k) → is_arithmetic k ≡ true → result_type op k ≡ t → checked_expression (scope_of names ws regs) (parsed.Binary at op x y) ≡ Ok (Binary op k a b, t)
+  binary_checked : (op : MonOp) (k t : MonType) (a b : MonExpression) (at : Place) (x y : ParsedExpression) → checked_expression (scope_of names ws functions regs) x ≡ Ok (a, k) → checked_expression (scope_of names ws functions regs) y ≡ Ok (b, k) → is_arithmetic k ≡ true → result_type op k ≡ t → checked_expression (scope_of names ws functions regs) (parsed.Binary at op x y) ≡ Ok (Binary op k a b, t)
   binary_checked op k t a b at x y p q h e = rw (p, q, same_types k, h) (ap (λ (z : MonType). Ok (Binary op k a b, z)) e)
 
-  minus_checked : (k t : MonType) (a : MonExpression) (at : Place) (x : ParsedExpression) → checked_expression (scope_of names ws regs) x ≡ Ok (a, k) → is_arithmetic k ≡ true → k ≡ t → checked_expression (scope_of names ws regs) (parsed.Minus at x) ≡ Ok (Minus k a, t)
+  minus_checked : (k t : MonType) (a : MonExpression) (at : Place) (x : ParsedExpression) → checked_expression (scope_of names ws functions regs) x ≡ Ok (a, k) → is_arithmetic k ≡ true → k ≡ t → checked_expression (scope_of names ws functions regs) (parsed.Minus at x) ≡ Ok (Minus k a, t)
   minus_checked k t a at x p h e = rw (p, h) (ap (λ (z : MonType). Ok (Minus k a, z)) e)
 
-  flip_checked : (k t : MonType) (a : MonExpression) (at : Place) (x : ParsedExpression) → checked_expression (scope_of names ws regs) x ≡ Ok (a, k) → is_arithmetic k ≡ true → k ≡ t → checked_expression (scope_of names ws regs) (parsed.Flip at x) ≡ Ok (Flip k a, t)
+  flip_checked : (k t : MonType) (a : MonExpression) (at : Place) (x : ParsedExpression) → checked_expression (scope_of names ws functions regs) x ≡ Ok (a, k) → is_arithmetic k ≡ true → k ≡ t → checked_expression (scope_of names ws functions regs) (parsed.Flip at x) ≡ Ok (Flip k a, t)
   flip_checked k t a at x p h e = rw (p, h) (ap (λ (z : MonType). Ok (Flip k a, z)) e)
 
-  cast_checked : (k t «from» : MonType) (a : MonExpression) (at : Place) (x : ParsedExpression) → checked_expression (scope_of names ws regs) x ≡ Ok (a, «from») → k ≡ t → checked_expression (scope_of names ws regs) (parsed.Cast at k x) ≡ Ok (Cast k a, t)
-  cast_checked k t «from» a at x p e = rw p (ap (λ (z : MonType). Ok (Cast k a, z)) e)
+  cast_checked : (k t «from» : MonType) (a : MonExpression) (at : Place) (x : ParsedExpression) → checked_expression (scope_of names ws functions regs) x ≡ Ok (a, «from») → is_whole «from» ≡ true → is_whole k ≡ true → k ≡ t → checked_expression (scope_of names ws functions regs) (parsed.Cast at k x) ≡ Ok (Cast k a, t)
+  cast_checked k t «from» a at x p i j e = rw (p, i, j) (ap (λ (z : MonType). Ok (Cast k a, z)) e)
 
-  name_checked : (r : ℕ) (t : MonType) (at : Place) → slice_get types r ≡ Some t → checked_expression (scope_of names ws regs) (parsed.Name (record { place = at; number = name_number names (name_of rs r) })) ≡ Ok (Register r, t)
+  name_checked : (r : ℕ) (t : MonType) (at : Place) → slice_get types r ≡ Some t → checked_expression (scope_of names ws functions regs) (parsed.Name (record { place = at; number = name_number names (name_of rs r) })) ≡ Ok (Register r, t)
   name_checked r t at h = rw ((found r t h).0) refl
 
   pub register_is : (n r : ℕ) (t : MonType) (more : Pieces) (ts : List PlainToken) → slice_get types r ≡ Some t → AreTokens names (expression_pieces rs (Register r) ++ more) ts → IsReadAs n (Register r) t more ts
@@ -295,6 +296,6 @@ module _ (names : List (List ℕ)) (ws : Vocabulary) (words : AreWords names ws)
       let typed = g.3.3 in
       let w = words _ _ typed.0 ∙ type_word_is k in
       let close = typed.1.3 in
-      let x = expression_is a m h.1.0 _ close.1 (omega arith) h.1.1 close.3 in
+      let x = expression_is a m h.2.0 _ close.1 (omega arith) h.2.2 close.3 in
       let is = cast_behind ws m _ (omega arith) g.3.2 typed.1.2 (ap word_kind w) ∙ cast_read ws (expression_in ws m) g.3.0 k _ typed.1.2 w close.2 x.parsed x.after.2 in
-      paren_is (suc m) (Cast k a) t more (parsed.Cast g.3.0 k x.tree) x.after.1 (omega arith) g.2 is (sees_mark ws left_paren g.3.2 (type_kind ∷ []) false refl) x.after.3 (cast_checked k t h.1.0 a g.3.0 x.tree x.checked h.0) (λ z. z)
+      paren_is (suc m) (Cast k a) t more (parsed.Cast g.3.0 k x.tree) x.after.1 (omega arith) g.2 is (sees_mark ws left_paren g.3.2 (type_kind ∷ []) false refl) x.after.3 (cast_checked k t h.2.0 a g.3.0 x.tree x.checked h.2.1 h.1 h.0) (λ z. z)

@@ -1,9 +1,9 @@
 -- The pieces of each form in front of others, as one list.
-use Rattle.std.proofs.Common.{◌≡◌, ℕ, ◌+◌, List, [], ◌∷◌, ◌++◌, codes, sym, ap, ◌∙◌, append_assoc}
+use Rattle.std.proofs.Common.{◌≡◌, ℕ, ◌+◌, List, [], ◌∷◌, ◌++◌, codes, Option, sym, ap, ◌∙◌, append_assoc}
 use Rattle.mon_syntax.specs.declared.tree.MonType.{MonType}
 use Rattle.mon_syntax.specs.declared.tree.MonOp.{MonOp}
-use Rattle.mon_syntax.specs.Trees.{MonExpression, Binary, MonStatement, If, Loop, Labelled, MonStatements, Then}
-use Rattle.mon_syntax.specs.Text.{Piece, Word, Number, Quoted, Mark, blank, new_line, left_paren, right_paren, semicolon, operator_mark, Registers, expression_pieces, assert_arguments, body_pieces, statement_pieces, statements_pieces}
+use Rattle.mon_syntax.specs.Trees.{MonExpression, Binary, MonStatement, If, Loop, Labelled, MonStatements, Then, MonFunction}
+use Rattle.mon_syntax.specs.Text.{Piece, Word, Number, Quoted, Mark, blank, new_line, left_paren, right_paren, semicolon, operator_mark, Registers, expression_pieces, set_or_none, more_arguments, assert_arguments, FunctionNames, body_pieces, statement_pieces, statements_pieces, result_word, parameters_pieces, registers_pieces, function_pieces}
 
 abbrev pub Pieces : Type 0
 Pieces = List Piece
@@ -22,11 +22,17 @@ module _ (rs : Registers) (more : Pieces) where
   pub closed_is : (e : MonExpression) → (expression_pieces rs e ++ (right_paren ∷ [])) ++ more ≡ expression_pieces rs e ++ (right_paren ∷ more)
   closed_is e = append_assoc (expression_pieces rs e) (right_paren ∷ []) more
 
-  -- ---- statements
-
   -- an expression and a semicolon
   pub ended_is : (e : MonExpression) → (expression_pieces rs e ++ (semicolon ∷ [])) ++ more ≡ expression_pieces rs e ++ (semicolon ∷ more)
   ended_is e = append_assoc (expression_pieces rs e) (semicolon ∷ []) more
+
+  -- an argument and those behind it
+  pub argument_is : (e : MonExpression) (es : List MonExpression) → (expression_pieces rs e ++ more_arguments rs es) ++ more ≡ expression_pieces rs e ++ (more_arguments rs es ++ more)
+  argument_is e es = append_assoc (expression_pieces rs e) (more_arguments rs es) more
+
+  -- the register that takes the value of a call, and the call
+  pub taken_is : (r : Option ℕ) (call : Pieces) → (set_or_none rs r ++ call) ++ more ≡ set_or_none rs r ++ (call ++ more)
+  taken_is r call = append_assoc (set_or_none rs r) call more
 
   -- the arguments of a call, and what ends it
   pub arguments_are : (arguments : Pieces) → (arguments ++ (right_paren ∷ semicolon ∷ [])) ++ more ≡ arguments ++ (right_paren ∷ semicolon ∷ more)
@@ -44,13 +50,16 @@ module _ (rs : Registers) (more : Pieces) where
       ∙ append_assoc D (second (V ++ end [])) (right_paren ∷ semicolon ∷ more)
       ∙ ap (λ (l : Pieces). D ++ second l) (append_assoc V (end []) (right_paren ∷ semicolon ∷ more))
 
+-- ---- statements with bodies
+
+module _ (gs : FunctionNames) (rs : Registers) (more : Pieces) where
   pub if_is : (depth : ℕ) (e : MonExpression) (a b : MonStatements)
-      → statement_pieces rs depth (If e a b) ++ more
-      ≡ Word (codes "if") ∷ blank ∷ left_paren ∷ (expression_pieces rs e ++ (right_paren ∷ blank ∷ (body_pieces rs depth a ++ (blank ∷ Word (codes "else") ∷ blank ∷ (body_pieces rs depth b ++ more)))))
+      → statement_pieces gs rs depth (If e a b) ++ more
+      ≡ Word (codes "if") ∷ blank ∷ left_paren ∷ (expression_pieces rs e ++ (right_paren ∷ blank ∷ (body_pieces gs rs depth a ++ (blank ∷ Word (codes "else") ∷ blank ∷ (body_pieces gs rs depth b ++ more)))))
   if_is depth e a b =
       let E = expression_pieces rs e in
-      let A = body_pieces rs depth a in
-      let B = body_pieces rs depth b in
+      let A = body_pieces gs rs depth a in
+      let B = body_pieces gs rs depth b in
       let other : Pieces → Pieces = λ l. blank ∷ Word (codes "else") ∷ blank ∷ l in
       ap (λ (l : Pieces). Word (codes "if") ∷ blank ∷ left_paren ∷ l)
       (append_assoc (E ++ (right_paren ∷ [])) (blank ∷ (A ++ other B)) more
@@ -62,28 +71,44 @@ module _ (rs : Registers) (more : Pieces) where
   step_then l = Word (codes "__e_acsl_step") ∷ left_paren ∷ right_paren ∷ semicolon ∷ l
 
   pub loop_is : (depth : ℕ) (a b : MonStatements)
-      → statement_pieces rs depth (Loop a b) ++ more
-      ≡ Word (codes "while") ∷ blank ∷ left_paren ∷ Number 1 ∷ right_paren ∷ blank ∷ Mark (codes "{") ∷ (statements_pieces rs (depth + 1) a ++ (new_line (depth + 1) ∷ Word (codes "__e_acsl_step") ∷ left_paren ∷ right_paren ∷ semicolon ∷ (statements_pieces rs (depth + 1) b ++ (new_line depth ∷ Mark (codes "}") ∷ more))))
+      → statement_pieces gs rs depth (Loop a b) ++ more
+      ≡ Word (codes "while") ∷ blank ∷ left_paren ∷ Number 1 ∷ right_paren ∷ blank ∷ Mark (codes "{") ∷ (statements_pieces gs rs (depth + 1) a ++ (new_line (depth + 1) ∷ Word (codes "__e_acsl_step") ∷ left_paren ∷ right_paren ∷ semicolon ∷ (statements_pieces gs rs (depth + 1) b ++ (new_line depth ∷ Mark (codes "}") ∷ more))))
   loop_is depth a b =
-      let A = statements_pieces rs (depth + 1) a in
-      let B = statements_pieces rs (depth + 1) b in
+      let A = statements_pieces gs rs (depth + 1) a in
+      let B = statements_pieces gs rs (depth + 1) b in
       ap (λ (l : Pieces). Word (codes "while") ∷ blank ∷ left_paren ∷ Number 1 ∷ right_paren ∷ blank ∷ Mark (codes "{") ∷ l)
       (append_assoc A (new_line (depth + 1) ∷ step_then (B ++ (new_line depth ∷ Mark (codes "}") ∷ []))) more
       ∙ ap (λ (l : Pieces). A ++ (new_line (depth + 1) ∷ step_then l)) (append_assoc B (new_line depth ∷ Mark (codes "}") ∷ []) more))
 
-  pub labelled_is : (depth : ℕ) (a : MonStatements) (l : List ℕ) → statement_pieces rs depth (Labelled a l) ++ more ≡ body_pieces rs depth a ++ (blank ∷ Word l ∷ Mark (codes ":") ∷ blank ∷ semicolon ∷ more)
-  labelled_is depth a l = append_assoc (body_pieces rs depth a) (blank ∷ Word l ∷ Mark (codes ":") ∷ blank ∷ semicolon ∷ []) more
+  pub labelled_is : (depth : ℕ) (a : MonStatements) (l : List ℕ) → statement_pieces gs rs depth (Labelled a l) ++ more ≡ body_pieces gs rs depth a ++ (blank ∷ Word l ∷ Mark (codes ":") ∷ blank ∷ semicolon ∷ more)
+  labelled_is depth a l = append_assoc (body_pieces gs rs depth a) (blank ∷ Word l ∷ Mark (codes ":") ∷ blank ∷ semicolon ∷ []) more
 
   pub body_is : (depth : ℕ) (a : MonStatement) (rest : MonStatements)
-      → body_pieces rs depth (Then a rest) ++ more
-      ≡ Mark (codes "{") ∷ (statements_pieces rs (depth + 1) (Then a rest) ++ (new_line depth ∷ Mark (codes "}") ∷ more))
+      → body_pieces gs rs depth (Then a rest) ++ more
+      ≡ Mark (codes "{") ∷ (statements_pieces gs rs (depth + 1) (Then a rest) ++ (new_line depth ∷ Mark (codes "}") ∷ more))
   body_is depth a rest =
-      let A = statement_pieces rs (depth + 1) a in
-      let R = statements_pieces rs (depth + 1) rest in
+      let A = statement_pieces gs rs (depth + 1) a in
+      let R = statements_pieces gs rs (depth + 1) rest in
       ap (λ (l : Pieces). Mark (codes "{") ∷ new_line (depth + 1) ∷ l)
       (append_assoc A (R ++ (new_line depth ∷ Mark (codes "}") ∷ [])) more
       ∙ ap (λ (l : Pieces). A ++ l) (append_assoc R (new_line depth ∷ Mark (codes "}") ∷ []) more)
       ∙ sym (append_assoc A R (new_line depth ∷ Mark (codes "}") ∷ more)))
 
-  pub then_is : (depth : ℕ) (a : MonStatement) (rest : MonStatements) → statements_pieces rs depth (Then a rest) ++ more ≡ new_line depth ∷ (statement_pieces rs depth a ++ (statements_pieces rs depth rest ++ more))
-  then_is depth a rest = ap (λ (l : Pieces). new_line depth ∷ l) (append_assoc (statement_pieces rs depth a) (statements_pieces rs depth rest) more)
+  pub then_is : (depth : ℕ) (a : MonStatement) (rest : MonStatements) → statements_pieces gs rs depth (Then a rest) ++ more ≡ new_line depth ∷ (statement_pieces gs rs depth a ++ (statements_pieces gs rs depth rest ++ more))
+  then_is depth a rest = ap (λ (l : Pieces). new_line depth ∷ l) (append_assoc (statement_pieces gs rs depth a) (statements_pieces gs rs depth rest) more)
+
+-- ---- functions
+
+pub function_is : (gs : FunctionNames) (f : MonFunction) (more : Pieces)
+    → function_pieces gs f ++ more
+    ≡ Word (result_word f.result) ∷ blank ∷ Word f.name ∷ left_paren ∷ (parameters_pieces f.parameters ++ (right_paren ∷ blank ∷ Mark (codes "{") ∷ (registers_pieces f.registers ++ (statements_pieces gs (f.parameters ++ f.registers) 1 f.body ++ (new_line 0 ∷ Mark (codes "}") ∷ new_line 0 ∷ more)))))
+function_is gs f more =
+    let P = parameters_pieces f.parameters in
+    let R = registers_pieces f.registers in
+    let S = statements_pieces gs (f.parameters ++ f.registers) 1 f.body in
+    let end : Pieces → Pieces = λ l. new_line 0 ∷ Mark (codes "}") ∷ new_line 0 ∷ l in
+    let inner : Pieces → Pieces = λ l. blank ∷ Mark (codes "{") ∷ l in
+    ap (λ (l : Pieces). Word (result_word f.result) ∷ blank ∷ Word f.name ∷ left_paren ∷ l)
+    (append_assoc (P ++ (right_paren ∷ [])) (inner (R ++ (S ++ end []))) more
+    ∙ append_assoc P (right_paren ∷ []) (inner ((R ++ (S ++ end [])) ++ more))
+    ∙ ap (λ (l : Pieces). P ++ (right_paren ∷ inner l)) (append_assoc R (S ++ end []) more ∙ ap (λ (l : Pieces). R ++ l) (append_assoc S (end []) more)))

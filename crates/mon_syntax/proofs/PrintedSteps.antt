@@ -8,7 +8,7 @@ use Rattle.c_syntax.specs.Tokens.{PlainTokenKind, PlainToken}
 use Rattle.c_model.specs.MonitoredTokens as made
 use Rattle.c_model.proofs.Spelling.{and_true}
 use Rattle.mon_syntax.specs.declared.tree.MonType.{MonType}
-use Rattle.mon_syntax.specs.declared.tree.MonType.TheVariants.{I8, U8, I16, U16, I32, U32, I64, U64, I128}
+use Rattle.mon_syntax.specs.declared.tree.MonType.TheVariants.{I8, U8, I16, U16, I32, U32, I64, U64, I128, Ptr}
 use Rattle.mon_syntax.specs.declared.tree.MonOp.{MonOp}
 use Rattle.mon_syntax.specs.declared.tree.MonOp.TheVariants.{Add, Sub, Mul, Div, Rem, Shl, Shr, And, Or, Xor, Eq, Ne, Lt, Le, Gt, Ge}
 use Rattle.mon_syntax.specs.declared.word.Word.{Word}
@@ -33,6 +33,7 @@ type_word_is U32 = refl
 type_word_is I64 = refl
 type_word_is U64 = refl
 type_word_is I128 = refl
+type_word_is Ptr = refl
 
 pub constant_word_is : (t : MonType) → word_of (constant_word t) ≡ word.Constant t
 unfolding word_of
@@ -45,6 +46,7 @@ constant_word_is U32 = refl
 constant_word_is I64 = refl
 constant_word_is U64 = refl
 constant_word_is I128 = refl
+constant_word_is Ptr = refl
 
 pub operator_mark_is : (op : MonOp) → operator_mark (punctuator (text.operator_mark op)) ≡ Some op
 operator_mark_is Add = refl

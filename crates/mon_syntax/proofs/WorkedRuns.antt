@@ -14,7 +14,7 @@ use Rattle.mon_syntax.specs.Meaning.{run}
 use Rattle.mon_syntax.specs.Memories.{block_run, over_flat, flat_run}
 use Rattle.mon_syntax.specs.Names.{IsFreeName, reserved_words}
 use Rattle.mon_syntax.specs.Text.{text_of}
-use Rattle.mon_syntax.specs.Valid.{IsStatement, IsValid}
+use Rattle.mon_syntax.specs.Valid.{Signature, IsStatement, IsValid}
 
 -- ---- arithmetic
 
@@ -127,14 +127,14 @@ flipped-u32 = refl
 
 -- ---- trees
 
-abbrev i32 : ℤ → MonExpression
+abbrev pub i32 : ℤ → MonExpression
 i32 z = Constant I32 z
 
-abbrev statements : List MonStatement → MonStatements
+abbrev pub statements : List MonStatement → MonStatements
 statements [] = NoStatement
 statements (a ∷ rest) = Then a (statements rest)
 
-abbrev register : List ℕ → MonRegister
+abbrev pub register : List ℕ → MonRegister
 register name = record { kind = I32; name = name }
 
 -- `i32 main(void)` alone, with i32 registers of these names
@@ -149,13 +149,13 @@ main_alone names body = record {
   } ∷ [];
 }
 
-abbrev no_input : Input
+abbrev pub no_input : Input
 no_input = record { bytes = []; tail = EndOfInput }
 
-abbrev ends : Final → List ℕ → ℕ → Ran
+abbrev pub ends : Final → List ℕ → ℕ → Ran
 ends e output left = record { final = e; output = output; left = left }
 
-abbrev line : List ℕ → List ℕ
+abbrev pub line : List ℕ → List ℕ
 line bytes = bytes ++ 10 ∷ []
 
 -- ---- a loop
@@ -251,7 +251,7 @@ flat_run-no_main : flat_run (record { functions = [] }) no_input 5 ≡ ends Faul
 flat_run-no_main = refl
 
 -- a call more than there is room for
-flat_run-frames : run over_flat counts (record { frames = 65536 }) no_input 5 ≡ ends (Full Frames) [] 5
+flat_run-frames : run over_flat counts (record { frames = 65536; births = 0; live = [] }) no_input 5 ≡ ends (Full Frames) [] 5
 flat_run-frames = refl
 
 -- putchar gives the byte that it wrote, and exit ends the run
@@ -323,29 +323,33 @@ free-main : IsFreeName (codes "main")
 unfolding reserved_words
 free-main = record { begins = refl; parts = (refl, (refl, (refl, (refl, tt)))); short = omega arith; free = refl }
 
+abbrev main_only : List Signature
+main_only = record { name = codes "main"; parameters = []; result = Some I32 } ∷ []
+
 -- each expression of `counts` has few parentheses, and its statements are 4 deep
 valid-counts : IsValid counts
 valid-counts = record {
-  main = _;
-  functions = refl;
-  is_function = record {
+  functions = (record {
     name = free-main;
     registers = (free-x, refl, tt);
     body = (set, ((refl, refl, tt, (put, (add, (leave, tt)))), tt));
     within = omega arith;
-  };
+  }, refl, tt);
+  number = 0;
+  main = _;
+  has = refl;
   is_main = record { name = refl; result = refl; no_parameters = refl };
 }
   where
-    set : IsStatement (I32 ∷ []) (Some I32) [] (Set 0 (i32 (pos 65)))
+    set : IsStatement main_only (I32 ∷ []) (Some I32) [] (Set 0 (i32 (pos 65)))
     set = (I32, refl, record { typed = (refl, refl); within = omega arith })
 
-    put : IsStatement (I32 ∷ []) (Some I32) [] (PutChar None (Register 0))
+    put : IsStatement main_only (I32 ∷ []) (Some I32) [] (PutChar None (Register 0))
     put = (tt, record { typed = refl; within = omega arith })
 
-    add : IsStatement (I32 ∷ []) (Some I32) [] (Set 0 (Binary Add I32 (Register 0) (i32 (pos 1))))
+    add : IsStatement main_only (I32 ∷ []) (Some I32) [] (Set 0 (Binary Add I32 (Register 0) (i32 (pos 1))))
     add = (I32, refl, record { typed = (refl, refl, refl, (refl, refl)); within = omega arith })
 
-    leave : IsStatement (I32 ∷ []) (Some I32) [] (If (Binary Gt I32 (Register 0) (i32 (pos 66))) (statements (Return (Some (i32 (pos 0))) ∷ [])) NoStatement)
+    leave : IsStatement main_only (I32 ∷ []) (Some I32) [] (If (Binary Gt I32 (Register 0) (i32 (pos 66))) (statements (Return (Some (i32 (pos 0))) ∷ [])) NoStatement)
     leave =
         (record { typed = (refl, refl, refl, (refl, refl)); within = omega arith }, (record { typed = (refl, refl); within = omega arith }, tt), tt)

@@ -5,7 +5,7 @@ use Rattle.std.proofs.lemmas.Int.{ints}
 use Rattle.std.proofs.Math.Nat.{mod-add-div, mod-lt, mul-le-mul_right}
 use Rattle.std.specs.Int.{int_rem_euclid}
 use Rattle.mon_syntax.specs.declared.tree.MonType.{MonType}
-use Rattle.mon_syntax.specs.declared.tree.MonType.TheVariants.{I8, U8, I16, U16, I32, U32, I64, U64, I128}
+use Rattle.mon_syntax.specs.declared.tree.MonType.TheVariants.{I8, U8, I16, U16, I32, U32, I64, U64, I128, Ptr}
 use Rattle.mon_syntax.specs.Arithmetic.{bit_count, least, greatest, fits, wrap}
 use Rattle.mon_syntax.specs.Laws.{AreCongruent}
 
@@ -72,6 +72,7 @@ wrapped U32 z = unsigned_wrapped 4294967295 z
 wrapped I64 z = signed_wrapped 9223372036854775807 z (wrap I64 z) (λ e. rw e refl) (λ e. rw e refl)
 wrapped U64 z = unsigned_wrapped 18446744073709551615 z
 wrapped I128 z = signed_wrapped 170141183460469231731687303715884105727 z (wrap I128 z) (λ e. rw e refl) (λ e. rw e refl)
+wrapped Ptr z = unsigned_wrapped 18446744073709551615 z
 
 pub wrap_fits : (t : MonType) (z : ℤ) → fits t (wrap t z) ≡ true
 wrap_fits t z = (wrapped t z).0
@@ -117,6 +118,7 @@ size_is U32 = refl
 size_is I64 = refl
 size_is U64 = refl
 size_is I128 = refl
+size_is Ptr = refl
 
 pub wrap-fitting : (t : MonType) (z : ℤ) → fits t z ≡ true → wrap t z ≡ z
 wrap-fitting t z f = unique (2 ^ bit_count t) (least t) (greatest t) (wrap t z) z (size_is t) (wrap_fits t z) f (wrap_congruent t z)
