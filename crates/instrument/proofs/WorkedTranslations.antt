@@ -11,7 +11,7 @@ use Rattle.c_syntax.specs.declared.expression.BumpOp.TheVariants.{PostUp}
 use Rattle.c_syntax.specs.declared.annotation.Kind.TheVariants as clause
 use Rattle.c_syntax.specs.declared.annotation.Range.{Range}
 use Rattle.c_syntax.specs.declared.annotation.Relation.TheVariants as relation
-use Rattle.c_syntax.specs.Ctypes.{Int, int_type, PlainType}
+use Rattle.c_syntax.specs.Ctypes.{Int, int_type}
 use Rattle.c_syntax.specs.Expressions as source
 use Rattle.c_syntax.specs.Expressions.{Expression, Node, Expressions, NoExpression, Following}
 use Rattle.c_syntax.specs.Annotations as logic
@@ -29,8 +29,7 @@ use Rattle.mon_syntax.specs.declared.tree.MemoryCall.TheVariants.{StoreBlock, De
 use Rattle.mon_syntax.specs.Trees.{Register, Constant, Binary, Cast, Set, PutChar, GetChar, Exit, Act, Call, If, Loop, Labelled, Goto, Return, MonExpression, MonStatement, MonStatements, NoStatement, Then, MonRegister, MonFunction}
 use Rattle.mon_syntax.specs.Memories.{block_run}
 use Rattle.instrument.specs.Expressions.{one, setup, value}
-use Rattle.instrument.specs.Translation.{Spot, function_of, translated}
-use Rattle.instrument.specs.Translation as target
+use Rattle.instrument.specs.Translation.{function_of, translated}
 
 -- ---- trees
 
