@@ -15,3 +15,6 @@ pub mod Expressions
 pub mod Calls
 pub mod Parameters
 pub mod Functions
+pub mod FullExpressions
+pub mod Sequences
+pub mod Effects
