@@ -18,3 +18,6 @@ pub mod Functions
 pub mod FullExpressions
 pub mod Sequences
 pub mod Effects
+pub mod Terms
+pub mod Asserts
+pub mod Loops

@@ -8,7 +8,8 @@ use Rattle.c_model.specs.State.{State}
 use Rattle.c_model.specs.Typing.{Object, Scopes, object_named}
 use Rattle.c_model.specs.WellTyped.{Denotes}
 use Rattle.mon_syntax.specs.Memories.{BlockValue, Whole}
-use Rattle.instrument.proofs.Variables.{Slot, Setting, value_at, slot_of, Related, IsSet, AllKept, Known, known, match_at, decl_at, kept_at}
+use Rattle.instrument.proofs.Evaluating.{Target}
+use Rattle.instrument.proofs.Variables.{Slot, Setting, value_at, slot_of, Related, Beside, IsSet, AllKept, Known, known, match_at, decl_at, kept_at}
 
 pub record InSight (slots : List Slot) (x : ℕ) (t : PlainType) : Type 0 where
   pub slot : Slot
@@ -44,3 +45,13 @@ pub has_value : (w : Setting) (slots : List Slot) (scopes : Scopes) (regs : List
 has_value w slots scopes regs s h ready x t d v found =
     let k = known w s.store regs v (match_at w s.store regs x.decl slots v h.all found) (ready x.name d.object d.found v (ap (λ n. slot_of n slots) (sym d.decl) ∙ found)) in
     record { known = k; register = ap (λ n. slice_get regs (value_at w n)) (sym (decl_at x.decl slots v found)) ∙ k.register }
+
+-- ---- states from which statements go on: the target stands beside the source, and what is in sight has values
+
+pub record Meets (w : Setting) (slots : List Slot) (objects : List Object) (regs : List BlockValue) (s : State) (t : Target) : Type 0 where
+  pub related : Related w slots regs s
+  pub beside : Beside w slots s t
+  pub ready : Ready s.store slots objects
+
+pub meets_later : (w : Setting) (slots : List Slot) (objects : List Object) (regs after : List BlockValue) (s to : State) (t u : Target) → AllKept slots s.store to.store → Meets w slots objects regs s t → Related w slots after to → Beside w slots to u → Meets w slots objects after to u
+meets_later w slots objects regs after s to t u kept m r b = record { related = r; beside = b; ready = ready_later s.store to.store slots objects kept m.ready }

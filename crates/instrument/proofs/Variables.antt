@@ -173,7 +173,7 @@ same_set n r regs v le = record { long = length-set regs r v; below = λ j lt. s
 
 -- ---- variables by their declarations
 
-find-slot : (x : ℕ) (slots : List Slot) (v : Slot) → slot_of x slots ≡ Some v → find x (scope_of slots) ≡ Some (suc v.block)
+pub find-slot : (x : ℕ) (slots : List Slot) (v : Slot) → slot_of x slots ≡ Some v → find x (scope_of slots) ≡ Some (suc v.block)
 find-slot x [] v e = absurd cc
 find-slot x (u ∷ slots) v e = by (λ f. find-slot x slots v f) (nat_eq u.decl x) e
   where
