@@ -21,3 +21,5 @@ pub mod Effects
 pub mod Terms
 pub mod Asserts
 pub mod Loops
+pub mod Declared
+pub mod Statements
