@@ -1,18 +1,18 @@
 -- More turns and deeper calls than steps change nothing, and no step is gained.
-use Rattle.std.proofs.Common.{◌≡◌, ℕ, zero, suc, ◌<◌, ◌≤◌, pos, Bool, true, false, cond, if◌then◌else◌, nat_eq, nat_lt, List, [], ◌∷◌, Option, Some, None, slice_get, codes, bytes_eq, refl, ap, ◌∙◌, arith}
+use Rattle.std.proofs.Common.{◌≡◌, ℕ, zero, suc, ◌<◌, ◌≤◌, pos, Bool, true, false, cond, if◌then◌else◌, nat_lt, List, [], ◌∷◌, length, Option, Some, None, slice_get, codes, bytes_eq, refl, ap, ◌∙◌, arith}
 use Rattle.c_syntax.specs.declared.place.Place.{Place}
 use Rattle.c_syntax.specs.declared.types.Segment.{Segment}
-use Rattle.c_syntax.specs.Ctypes.{PlainType, int_type}
+use Rattle.c_syntax.specs.Ctypes.{PlainType, Void, Int, int_type}
 use Rattle.c_syntax.specs.Annotations.{Annotation, ClauseBody, Truth, Chain, Links, NoLink, Linked}
 use Rattle.c_syntax.specs.declared.annotation.Relation.{Relation}
 use Rattle.c_syntax.specs.Expressions.{Expression, Node, Number, Letter, Variable, Unary, Binary, Both, Either, Choice, Assign, Bump, Call, Cast, SizeOfType, SizeOfExpr, Expressions, NoExpression, Following, type_of}
 use Rattle.c_syntax.specs.Statements.{Initialiser, One, Declaration, Statement, Empty, Eval, Block, If, While, Do, For, Break, Continue, Return, ElsePart, NoElse, Else, ForFirst, NoFirst, First, BlockItem, Declare, Run, Asserts, BlockItems, NoItem, Then}
 use Rattle.c_syntax.specs.Programs.{Function, TranslationUnit}
 use Rattle.c_model.specs.Integers.{size_of, byte_of}
-use Rattle.c_model.specs.Memory.{Pointer, Value, Integer, NoValue, Store, load, save, standard_sizes, full_at_stack_birth}
-use Rattle.c_model.specs.State.{Input, State, Breaks, Continues, Returns, End, Leaves, Over, Undefined, Fault, Outcome, Normal, Stop, Evaluation, on_outcome, ◌>>=◌, ◌>>◌, give, done, stop, defined, step_from, step, print, find, start_of, object, read, put_store, write, birth_of, birth, births, frame, mark, restored, within}
+use Rattle.c_model.specs.Memory.{Pointer, Into, Value, Integer, NoValue, Store, load, save, standard_sizes, full_at_stack_birth}
+use Rattle.c_model.specs.State.{InputTail, EndOfInput, InputFault, Input, State, Breaks, Continues, Returns, End, Leaves, Over, Exits, Undefined, Fault, Outcome, Normal, Stop, Evaluation, on_outcome, ◌>>=◌, ◌>>◌, give, done, stop, defined, step_from, step, read_byte, print, find, start_of, object, read, put_store, write, birth_of, birth, births, write_youngest, alone, frame, mark, restored, within}
 use Rattle.c_model.specs.Logic.{TermValue, Mathematical, Answer, Says, SaysNothing, OutOfSteps, lazily, related, term, chain, clause, judged, check, checks}
-use Rattle.c_model.specs.Meaning.{Callee, operate_value, operate_values, converted, compound, bump_operator, bump_value, is_zero, choose, truth_value, size_value, eval_with, place_with, evals_with, after_body, turns, do_turns, declared_in, declared_first, initialise, initialise_all, condition_with, effect_with, exec_with, else_with, first_with, item_with, items_with, put_char, library_call, call_of, eval, exec, body_with, main_with, function_named, start, ran, run}
+use Rattle.c_model.specs.Meaning.{Callee, operate_value, operate_values, converted, compound, bump_operator, bump_value, is_zero, choose, truth_value, size_value, eval_with, place_with, evals_with, after_body, turns, do_turns, declared_in, declared_first, initialise, initialise_all, condition_with, effect_with, exec_with, else_with, first_with, item_with, items_with, put_char, get_char, exit_with, library_call, definition_at, parameters, body_with, at_close, returned_by, call_with, is_of_library, call_of, eval, exec, main_with, function_named, start, ran, run}
 use Rattle.c_model.specs.Laws.{for_turns}
 use Rattle.c_model.specs.Steps.{steps_after, Fit, CalleesFit}
 
@@ -93,10 +93,28 @@ spends_birth_of : (o : Option Segment) (d : Declaration) (s : State) → steps_a
 spends_birth_of None d s = omega arith
 spends_birth_of (Some full) d s = omega arith
 
+fit_birth : (k : ℕ) (d : Declaration) → Fit k (birth d) (birth d)
+fit_birth k d = fit_same k (birth d) (λ s. spends_birth_of (full_at_stack_birth standard_sizes s.store (size_of d.ctype)) d s)
+
 fit_births : (k : ℕ) (ds : List Declaration) → Fit k (births ds) (births ds)
 fit_births k [] = fit_give k tt
-fit_births k (d ∷ ds) =
-    fit_then k _ _ _ _ (fit_same k (birth d) (λ s. spends_birth_of (full_at_stack_birth standard_sizes s.store (size_of d.ctype)) d s)) (fit_births k ds)
+fit_births k (d ∷ ds) = fit_then k _ _ _ _ (fit_birth k d) (fit_births k ds)
+
+fit_write_youngest : (k : ℕ) (at : Place) (t : PlainType) (v : Value) → Fit k (write_youngest at t v) (write_youngest at t v)
+fit_write_youngest k at t v = fit_same k (write_youngest at t v) (λ s. spends_written at (save s.store (Into (length s.store) 0) t v) s)
+
+fit_parameters : (k : ℕ) (at : Place) (ds : List Declaration) (vs : List Value) → Fit k (parameters at ds vs) (parameters at ds vs)
+fit_parameters k at [] [] = fit_give k tt
+fit_parameters k at [] (v ∷ vs) = fit_stop k (Over (Undefined at))
+fit_parameters k at (d ∷ ds) [] = fit_stop k (Over (Undefined at))
+fit_parameters k at (d ∷ ds) (v ∷ vs) =
+    fit_then k _ _ _ _ (fit_then k _ _ _ _ (fit_birth k d) (fit_write_youngest k at d.ctype v)) (fit_parameters k at ds vs)
+
+fit_alone : (k : ℕ) → Fit k alone alone
+fit_alone k = fit_same k alone (λ s. omega arith)
+
+fit_mark : (k : ℕ) (label : Option ℕ) → Fit k (mark label) (mark label)
+fit_mark k label = fit_same k (mark label) (λ s. omega arith)
 
 spends_cond : {A : Type 0} (t : Bool) (r r' : Outcome A) (n : ℕ) → steps_after r ≤ n → steps_after r' ≤ n → steps_after (cond t r r') ≤ n
 spends_cond true r r' n h h' = h
@@ -196,7 +214,7 @@ fit_do_turns (suc m) (suc n) k test test' body body' lm ln ft fb =
 -- ---- expressions
 
 fit_place : (e : Expression) (k : ℕ) (call call' : Callee) → Fit k (place_with e call) (place_with e call')
-fit_place (Node at t (Variable x)) k call call' = fit_object k at x.name
+fit_place (Node at t (Variable x)) k call call' = fit_object k at x.decl
 fit_place (Node at t (Number n i)) k call call' = fit_stop k (Over (Undefined at))
 fit_place (Node at t (Letter n)) k call call' = fit_stop k (Over (Undefined at))
 fit_place (Node at t (Unary op a)) k call call' = fit_stop k (Over (Undefined at))
@@ -218,7 +236,7 @@ mutual
   pub fit_eval : (e : Expression) (k : ℕ) (call call' : Callee) → CalleesFit k call call' → Fit k (eval_with e call) (eval_with e call')
   fit_eval (Node at t (Number n i)) k call call' h = fit_give k (Integer n)
   fit_eval (Node at t (Letter n)) k call call' h = fit_give k (Integer n)
-  fit_eval (Node at t (Variable x)) k call call' h = fit_bind k _ _ _ _ (fit_object k at x.name) (λ p. fit_read k at p t)
+  fit_eval (Node at t (Variable x)) k call call' h = fit_bind k _ _ _ _ (fit_object k at x.decl) (λ p. fit_read k at p t)
   fit_eval (Node at t (Unary op a)) k call call' h = fit_bind k _ _ _ _ (fit_eval a k call call' h) (λ x. fit_defined k at (operate_value t op x))
   fit_eval (Node at t (Binary op a b)) k call call' h =
       fit_bind k _ _ _ _ (fit_eval a k call call' h) (λ x. fit_bind k _ _ _ _ (fit_eval b k call call' h) (λ y. fit_defined k at (operate_values t op x y)))
@@ -249,7 +267,7 @@ mutual
 fit_initialise : (d : Declaration) (i : Option (Place × Initialiser)) (k : ℕ) (call call' : Callee) → CalleesFit k call call' → Fit k (initialise d i call) (initialise d i call')
 fit_initialise d None k call call' h = fit_give k tt
 fit_initialise d (Some (at, One e)) k call call' h =
-    fit_bind k _ _ _ _ (fit_object k at d.name) (λ p. fit_bind k _ _ _ _ (fit_eval e k call call' h) (λ v. fit_write k at p d.ctype v))
+    fit_bind k _ _ _ _ (fit_object k at d.place.offset) (λ p. fit_bind k _ _ _ _ (fit_eval e k call call' h) (λ v. fit_write k at p d.ctype v))
 
 fit_initialise_all : (ds : List Declaration) (k : ℕ) (call call' : Callee) → CalleesFit k call call' → Fit k (initialise_all ds call) (initialise_all ds call')
 fit_initialise_all [] k call call' h = fit_give k tt
@@ -306,29 +324,74 @@ fit_put_char k at (NoValue ∷ []) = fit_stop k (Over (Undefined at))
 fit_put_char k at (Integer z ∷ []) = fit_then k _ _ _ _ (fit_same k (print (byte_of z)) (λ s. omega arith)) (fit_give k (Integer (pos (byte_of z))))
 fit_put_char k at (v ∷ w ∷ vs) = fit_stop k (Over (Undefined at))
 
+spends_read_byte : (bytes : List ℕ) (tail : InputTail) (s : State) → steps_after (read_byte bytes tail s) ≤ s.steps
+spends_read_byte [] EndOfInput s = omega arith
+spends_read_byte [] InputFault s = omega arith
+spends_read_byte (b ∷ bs) tail s = omega arith
+
+fit_get_char : (k : ℕ) (at : Place) (vs : List Value) → Fit k (get_char at vs) (get_char at vs)
+fit_get_char k at [] = fit_same k (get_char at []) (λ s. spends_read_byte s.input.bytes s.input.tail s)
+fit_get_char k at (v ∷ vs) = fit_stop k (Over (Undefined at))
+
+fit_exit : (k : ℕ) (at : Place) (vs : List Value) → Fit k (exit_with at vs) (exit_with at vs)
+fit_exit k at [] = fit_stop k (Over (Undefined at))
+fit_exit k at (NoValue ∷ []) = fit_stop k (Over (Undefined at))
+fit_exit k at (Integer z ∷ []) = fit_stop k (Over (Exits z))
+fit_exit k at (v ∷ w ∷ vs) = fit_stop k (Over (Undefined at))
+
+fit_if : {A : Type 0} (k : ℕ) (t : Bool) (a a' b b' : Evaluation A) → Fit k a a' → Fit k b b' → Fit k (if t then a else b) (if t then a' else b')
+fit_if k true a a' b b' f g = f
+fit_if k false a a' b b' f g = g
+
 fit_library_call : (k : ℕ) (at : Place) (name : Option (List ℕ)) (vs : List Value) → Fit k (library_call at name vs) (library_call at name vs)
 fit_library_call k at None vs = fit_stop k (Over (Undefined at))
-fit_library_call k at (Some name) vs = by (bytes_eq name (codes "putchar"))
-  where
-    by : (t : Bool) → Fit k (if t then put_char at vs else stop (Over (Undefined at))) (if t then put_char at vs else stop (Over (Undefined at)))
-    by true = fit_put_char k at vs
-    by false = fit_stop k (Over (Undefined at))
-
-pub fit_call_of : (p : TranslationUnit) (m n k : ℕ) → k < m → k < n → CalleesFit k (call_of p m) (call_of p n)
-fit_call_of p m n k lm ln at f vs = by (nat_eq f.decl 4294967295)
-  where
-    by : (t : Bool) → Fit k (if t then library_call at (slice_get p.names f.name) vs else stop (Over (Undefined at))) (if t then library_call at (slice_get p.names f.name) vs else stop (Over (Undefined at)))
-    by true = fit_library_call k at (slice_get p.names f.name) vs
-    by false = fit_stop k (Over (Undefined at))
+fit_library_call k at (Some name) vs =
+    fit_if k (bytes_eq name (codes "putchar")) _ _ _ _ (fit_put_char k at vs)
+    (fit_if k (bytes_eq name (codes "getchar")) _ _ _ _ (fit_get_char k at vs)
+    (fit_if k (bytes_eq name (codes "exit")) _ _ _ _ (fit_exit k at vs) (fit_stop k (Over (Undefined at)))))
 
 fit_body : (body : Option Statement) (k m n : ℕ) (call call' : Callee) → k < m → k < n → CalleesFit k call call' → Fit k (body_with body call m) (body_with body call' n)
 fit_body None k m n call call' lm ln h = fit_stop k (Over Fault)
 fit_body (Some a) k m n call call' lm ln h = fit_exec a k m n call call' lm ln h
 
+steps_at_close : (close : Place) (t : PlainType) (s : State) → steps_after (at_close close t s) ≡ s.steps
+steps_at_close close Void s = refl
+steps_at_close close (Int k) s = refl
+
+steps_returned : (f : Function) (r : Outcome (Unit {0})) → steps_after (returned_by f r) ≡ steps_after r
+steps_returned f (Normal u s) = steps_at_close f.close f.result s
+steps_returned f (Stop (Leaves Breaks) s) = refl
+steps_returned f (Stop (Leaves Continues) s) = refl
+steps_returned f (Stop (Leaves (Returns None)) s) = refl
+steps_returned f (Stop (Leaves (Returns (Some v))) s) = refl
+steps_returned f (Stop (Over e) s) = refl
+
+fit_returned : (f : Function) (k : ℕ) (m m' : Evaluation (Unit {0})) → Fit k m m' → Fit k (λ s. returned_by f (m s)) (λ s. returned_by f (m' s))
+fit_returned f k m m' h = record {
+  same = λ s le. ap (returned_by f) (h.same s le);
+  spends = λ s le. omega (arith, steps_returned f (m s), h.spends s le);
+}
+
+-- a call's step makes room for one level of calls less
+pub fit_call_with : (f : Option Function) (k m n : ℕ) (call call' : Callee) (at : Place) (vs : List Value) → k ≤ m → k ≤ n → ((j : ℕ) → j < k → CalleesFit j call call') → Fit k (call_with f call m at vs) (call_with f call' n at vs)
+fit_call_with None k m n call call' at vs lm ln h = fit_stop k (Over (Undefined at))
+fit_call_with (Some f) k m n call call' at vs lm ln h =
+    fit_step k _ _ (λ j lt. fit_within j _ _ (fit_then j _ _ _ _
+    (fit_then j _ _ _ _ (fit_then j _ _ _ _ (fit_then j _ _ _ _ (fit_frame j) (fit_alone j)) (fit_parameters j at f.params vs)) (fit_mark j None))
+    (fit_returned f j _ _ (fit_body f.body j m n call call' (omega (arith, lt)) (omega (arith, lt)) (h j lt)))))
+
+pub fit_call_of : (p : TranslationUnit) (m n k : ℕ) → k < m → k < n → CalleesFit k (call_of p m) (call_of p n)
+fit_call_of p zero n k lm ln at f vs = absurd (omega arith)
+fit_call_of p (suc m) zero k lm ln at f vs = absurd (omega arith)
+fit_call_of p (suc m) (suc n) k lm ln at f vs =
+    fit_if k (is_of_library f) _ _ _ _ (fit_library_call k at (slice_get p.names f.name) vs)
+    (fit_call_with (definition_at f.decl p.funcs) k m n (call_of p m) (call_of p n) at vs (omega arith) (omega arith)
+    (λ j lt. fit_call_of p m n j (omega (arith, lt)) (omega (arith, lt))))
+
 pub fit_main : (f : Option Function) (k m n : ℕ) (call call' : Callee) → k < m → k < n → CalleesFit k call call' → Fit k (main_with f call m) (main_with f call' n)
 fit_main None k m n call call' lm ln h = fit_stop k (Over Fault)
 fit_main (Some f) k m n call call' lm ln h =
-    fit_within k _ _ (fit_then k _ _ _ _ (fit_then k _ _ _ _ (fit_then k _ _ _ _ (fit_frame k) (fit_births k f.params)) (fit_same k (mark None) (λ s. omega arith))) (fit_body f.body k m n call call' lm ln h))
+    fit_within k _ _ (fit_then k _ _ _ _ (fit_then k _ _ _ _ (fit_then k _ _ _ _ (fit_frame k) (fit_births k f.params)) (fit_mark k None)) (fit_body f.body k m n call call' lm ln h))
 
 -- ---- what follows
 

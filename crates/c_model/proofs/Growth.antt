@@ -1,18 +1,18 @@
 -- From every state the output of an evaluation only grows.
-use Rattle.std.proofs.Common.{◌≡◌, ℕ, zero, suc, pos, Bool, true, false, cond, if◌then◌else◌, nat_eq, nat_lt, List, [], ◌∷◌, ◌++◌, Option, Some, None, slice_get, codes, bytes_eq, refl, sym, ap, ◌∙◌, append_assoc}
+use Rattle.std.proofs.Common.{◌≡◌, ℕ, zero, suc, pos, Bool, true, false, cond, if◌then◌else◌, nat_lt, List, [], ◌∷◌, ◌++◌, length, Option, Some, None, slice_get, codes, bytes_eq, refl, sym, ap, ◌∙◌, append_assoc}
 use Rattle.std.proofs.lemmas.List.{append-nil}
 use Rattle.c_syntax.specs.declared.place.Place.{Place}
 use Rattle.c_syntax.specs.declared.types.Segment.{Segment}
-use Rattle.c_syntax.specs.Ctypes.{PlainType, int_type}
+use Rattle.c_syntax.specs.Ctypes.{PlainType, Void, Int, int_type}
 use Rattle.c_syntax.specs.Annotations.{Annotation}
 use Rattle.c_syntax.specs.Expressions.{Expression, Node, Number, Letter, Variable, Unary, Binary, Both, Either, Choice, Assign, Bump, Call, Cast, SizeOfType, SizeOfExpr, Expressions, NoExpression, Following, type_of}
 use Rattle.c_syntax.specs.Statements.{Initialiser, One, Declaration, Statement, Empty, Eval, Block, If, While, Do, For, Break, Continue, Return, ElsePart, NoElse, Else, ForFirst, NoFirst, First, BlockItem, Declare, Run, Asserts, BlockItems, NoItem, Then}
 use Rattle.c_syntax.specs.Programs.{Function, TranslationUnit}
 use Rattle.c_model.specs.Integers.{size_of, byte_of}
-use Rattle.c_model.specs.Memory.{Pointer, Value, Integer, NoValue, Store, load, save, standard_sizes, full_at_stack_birth}
-use Rattle.c_model.specs.State.{State, Breaks, Continues, Returns, End, Leaves, Over, Undefined, Fault, Spent, Outcome, Normal, Stop, Evaluation, on_outcome, ◌>>=◌, ◌>>◌, give, done, stop, defined, step_from, step, print, find, start_of, object, read, put_store, write, birth_of, birth, births, frame, restored, within}
+use Rattle.c_model.specs.Memory.{Pointer, Into, Value, Integer, NoValue, Store, load, save, standard_sizes, full_at_stack_birth}
+use Rattle.c_model.specs.State.{InputTail, EndOfInput, InputFault, State, Breaks, Continues, Returns, End, Leaves, Over, Exits, Undefined, Fault, Spent, Outcome, Normal, Stop, Evaluation, on_outcome, ◌>>=◌, ◌>>◌, give, done, stop, defined, step_from, step, read_byte, print, find, start_of, object, read, put_store, write, birth_of, birth, births, write_youngest, alone, frame, mark, restored, within}
 use Rattle.c_model.specs.Logic.{Answer, Says, SaysNothing, OutOfSteps, clause, judged, check, checks}
-use Rattle.c_model.specs.Meaning.{Callee, operate_value, operate_values, converted, compound, bump_operator, bump_value, is_zero, choose, truth_value, size_value, eval_with, place_with, evals_with, after_body, turns, do_turns, declared_in, declared_first, initialise, initialise_all, condition_with, effect_with, exec_with, else_with, first_with, item_with, items_with, put_char, library_call, call_of, body_with, main_with}
+use Rattle.c_model.specs.Meaning.{Callee, operate_value, operate_values, converted, compound, bump_operator, bump_value, is_zero, choose, truth_value, size_value, eval_with, place_with, evals_with, after_body, turns, do_turns, declared_in, declared_first, initialise, initialise_all, condition_with, effect_with, exec_with, else_with, first_with, item_with, items_with, put_char, get_char, exit_with, library_call, definition_at, parameters, body_with, at_close, returned_by, call_with, is_of_library, call_of, main_with}
 use Rattle.c_model.specs.Growth.{output_after, Grown, Grows, CalleeGrows}
 
 pub grown_same : {A : Type 0} (o : List ℕ) (r : Outcome A) → output_after r ≡ o → Grown o r
@@ -65,10 +65,28 @@ output_birth_of : (o : Option Segment) (d : Declaration) (s : State) → output_
 output_birth_of None d s = refl
 output_birth_of (Some full) d s = refl
 
+pub grows_birth : (d : Declaration) → Grows (birth d)
+grows_birth d = record { at = λ s. grown_same s.output _ (output_birth_of (full_at_stack_birth standard_sizes s.store (size_of d.ctype)) d s) }
+
 pub grows_births : (ds : List Declaration) → Grows (births ds)
 grows_births [] = grows_give tt
-grows_births (d ∷ ds) =
-    grows_then (birth d) (births ds) (record { at = λ s. grown_same s.output _ (output_birth_of (full_at_stack_birth standard_sizes s.store (size_of d.ctype)) d s) }) (grows_births ds)
+grows_births (d ∷ ds) = grows_then (birth d) (births ds) (grows_birth d) (grows_births ds)
+
+pub grows_write_youngest : (at : Place) (t : PlainType) (v : Value) → Grows (write_youngest at t v)
+grows_write_youngest at t v = record { at = λ s. grown_same s.output _ (output_written at (save s.store (Into (length s.store) 0) t v) s) }
+
+pub grows_parameters : (at : Place) (ds : List Declaration) (vs : List Value) → Grows (parameters at ds vs)
+grows_parameters at [] [] = grows_give tt
+grows_parameters at [] (v ∷ vs) = grows_stop (Over (Undefined at))
+grows_parameters at (d ∷ ds) [] = grows_stop (Over (Undefined at))
+grows_parameters at (d ∷ ds) (v ∷ vs) =
+    grows_then _ _ (grows_then _ _ (grows_birth d) (grows_write_youngest at d.ctype v)) (grows_parameters at ds vs)
+
+pub grows_alone : Grows alone
+grows_alone = record { at = λ s. grown_same s.output _ refl }
+
+pub grows_mark : (label : Option ℕ) → Grows (mark label)
+grows_mark label = record { at = λ s. grown_same s.output _ refl }
 
 output_cond : {A : Type 0} (t : Bool) (r r' : Outcome A) (o : List ℕ) → output_after r ≡ o → output_after r' ≡ o → output_after (cond t r r') ≡ o
 output_cond true r r' o h h' = h
@@ -138,7 +156,7 @@ grows_do_turns (suc n) test body t b =
 -- ---- expressions
 
 pub grows_place : (e : Expression) (call : Callee) → Grows (place_with e call)
-grows_place (Node at t (Variable x)) call = grows_object at x.name
+grows_place (Node at t (Variable x)) call = grows_object at x.decl
 grows_place (Node at t (Number n k)) call = grows_stop (Over (Undefined at))
 grows_place (Node at t (Letter n)) call = grows_stop (Over (Undefined at))
 grows_place (Node at t (Unary op a)) call = grows_stop (Over (Undefined at))
@@ -163,7 +181,7 @@ mutual
   pub grows_eval : (e : Expression) (call : Callee) → CalleeGrows call → Grows (eval_with e call)
   grows_eval (Node at t (Number n k)) call h = grows_give (Integer n)
   grows_eval (Node at t (Letter n)) call h = grows_give (Integer n)
-  grows_eval (Node at t (Variable x)) call h = grows_bind _ _ (grows_object at x.name) (λ p. grows_read at p t)
+  grows_eval (Node at t (Variable x)) call h = grows_bind _ _ (grows_object at x.decl) (λ p. grows_read at p t)
   grows_eval (Node at t (Unary op a)) call h = grows_bind _ _ (grows_eval a call h) (λ x. grows_defined at (operate_value t op x))
   grows_eval (Node at t (Binary op a b)) call h =
       grows_bind _ _ (grows_eval a call h) (λ x. grows_bind _ _ (grows_eval b call h) (λ y. grows_defined at (operate_values t op x y)))
@@ -191,7 +209,7 @@ mutual
 pub grows_initialise : (d : Declaration) (i : Option (Place × Initialiser)) (call : Callee) → CalleeGrows call → Grows (initialise d i call)
 grows_initialise d None call h = grows_give tt
 grows_initialise d (Some (at, One e)) call h =
-    grows_bind _ _ (grows_object at d.name) (λ p. grows_bind _ _ (grows_eval e call h) (λ v. grows_write at p d.ctype v))
+    grows_bind _ _ (grows_object at d.place.offset) (λ p. grows_bind _ _ (grows_eval e call h) (λ v. grows_write at p d.ctype v))
 
 pub grows_initialise_all : (ds : List Declaration) (call : Callee) → CalleeGrows call → Grows (initialise_all ds call)
 grows_initialise_all [] call h = grows_give tt
@@ -246,26 +264,66 @@ grows_put_char at (Integer z ∷ []) =
     grows_then (print (byte_of z)) (give (Integer (pos (byte_of z)))) (record { at = λ s. record { rest = byte_of z ∷ []; is = refl } }) (grows_give _)
 grows_put_char at (v ∷ w ∷ vs) = grows_stop (Over (Undefined at))
 
+output_read_byte : (bytes : List ℕ) (tail : InputTail) (s : State) → output_after (read_byte bytes tail s) ≡ s.output
+output_read_byte [] EndOfInput s = refl
+output_read_byte [] InputFault s = refl
+output_read_byte (b ∷ bs) tail s = refl
+
+pub grows_get_char : (at : Place) (vs : List Value) → Grows (get_char at vs)
+grows_get_char at [] = record { at = λ s. grown_same s.output _ (output_read_byte s.input.bytes s.input.tail s) }
+grows_get_char at (v ∷ vs) = grows_stop (Over (Undefined at))
+
+pub grows_exit : (at : Place) (vs : List Value) → Grows (exit_with at vs)
+grows_exit at [] = grows_stop (Over (Undefined at))
+grows_exit at (NoValue ∷ []) = grows_stop (Over (Undefined at))
+grows_exit at (Integer z ∷ []) = grows_stop (Over (Exits z))
+grows_exit at (v ∷ w ∷ vs) = grows_stop (Over (Undefined at))
+
+pub grows_if : {A : Type 0} (t : Bool) (a b : Evaluation A) → Grows a → Grows b → Grows (if t then a else b)
+grows_if true a b f g = f
+grows_if false a b f g = g
+
 pub grows_library_call : (at : Place) (name : Option (List ℕ)) (vs : List Value) → Grows (library_call at name vs)
 grows_library_call at None vs = grows_stop (Over (Undefined at))
-grows_library_call at (Some name) vs = by (bytes_eq name (codes "putchar"))
-  where
-    by : (t : Bool) → Grows (if t then put_char at vs else stop (Over (Undefined at)))
-    by true = grows_put_char at vs
-    by false = grows_stop (Over (Undefined at))
-
-pub grows_call_of : (p : TranslationUnit) (n : ℕ) → CalleeGrows (call_of p n)
-grows_call_of p n at f vs = by (nat_eq f.decl 4294967295)
-  where
-    by : (t : Bool) → Grows (if t then library_call at (slice_get p.names f.name) vs else stop (Over (Undefined at)))
-    by true = grows_library_call at (slice_get p.names f.name) vs
-    by false = grows_stop (Over (Undefined at))
+grows_library_call at (Some name) vs =
+    grows_if (bytes_eq name (codes "putchar")) _ _ (grows_put_char at vs)
+    (grows_if (bytes_eq name (codes "getchar")) _ _ (grows_get_char at vs)
+    (grows_if (bytes_eq name (codes "exit")) _ _ (grows_exit at vs) (grows_stop (Over (Undefined at)))))
 
 pub grows_body : (body : Option Statement) (call : Callee) (n : ℕ) → CalleeGrows call → Grows (body_with body call n)
 grows_body None call n h = grows_stop (Over Fault)
 grows_body (Some a) call n h = grows_exec a call n h
 
+output_at_close : (close : Place) (t : PlainType) (s : State) → output_after (at_close close t s) ≡ s.output
+output_at_close close Void s = refl
+output_at_close close (Int k) s = refl
+
+output_returned : (f : Function) (r : Outcome (Unit {0})) → output_after (returned_by f r) ≡ output_after r
+output_returned f (Normal u s) = output_at_close f.close f.result s
+output_returned f (Stop (Leaves Breaks) s) = refl
+output_returned f (Stop (Leaves Continues) s) = refl
+output_returned f (Stop (Leaves (Returns None)) s) = refl
+output_returned f (Stop (Leaves (Returns (Some v))) s) = refl
+output_returned f (Stop (Over e) s) = refl
+
+grown_returned : (f : Function) (o : List ℕ) (r : Outcome (Unit {0})) → Grown o r → Grown o (returned_by f r)
+grown_returned f o r g = record { rest = g.rest; is = output_returned f r ∙ g.is }
+
+pub grows_call_with : (f : Option Function) (call : Callee) (n : ℕ) (at : Place) (vs : List Value) → CalleeGrows call → Grows (call_with f call n at vs)
+grows_call_with None call n at vs h = grows_stop (Over (Undefined at))
+grows_call_with (Some f) call n at vs h =
+    grows_then _ _ grows_step (grows_within _ (grows_then _ _
+    (grows_then _ _ (grows_then _ _ (grows_then _ _ grows_frame grows_alone) (grows_parameters at f.params vs)) (grows_mark None))
+    (record { at = λ s. grown_returned f s.output (body_with f.body call n s) ((grows_body f.body call n h).at s) })))
+
+pub grows_call_of : (p : TranslationUnit) (n : ℕ) → CalleeGrows (call_of p n)
+grows_call_of p zero at f vs =
+    grows_if (is_of_library f) _ _ (grows_library_call at (slice_get p.names f.name) vs) (grows_stop (Over Spent))
+grows_call_of p (suc n) at f vs =
+    grows_if (is_of_library f) _ _ (grows_library_call at (slice_get p.names f.name) vs)
+    (grows_call_with (definition_at f.decl p.funcs) (call_of p n) n at vs (grows_call_of p n))
+
 pub grows_main : (f : Option Function) (call : Callee) (n : ℕ) → CalleeGrows call → Grows (main_with f call n)
 grows_main None call n h = grows_stop (Over Fault)
 grows_main (Some f) call n h =
-    grows_within _ (grows_then _ _ (grows_then _ _ (grows_then _ _ grows_frame (grows_births f.params)) (record { at = λ s. grown_same s.output _ refl })) (grows_body f.body call n h))
+    grows_within _ (grows_then _ _ (grows_then _ _ (grows_then _ _ grows_frame (grows_births f.params)) (grows_mark None)) (grows_body f.body call n h))

@@ -4,7 +4,10 @@ pub mod WordFiles
 pub mod Growth
 pub mod Cells
 pub mod Fit
+mod WorkedTrees
 mod WorkedRuns
+mod WorkedCalls
+mod WorkedTypings
 mod WorkedOperators
 mod MonitoredTexts
 mod CTexts

@@ -1,17 +1,17 @@
 -- Evaluations leave each block as many bytes as its size says.
-use Rattle.std.proofs.Common.{◌≡◌, ℕ, zero, suc, pos, Bool, true, false, cond, if◌then◌else◌, nat_eq, nat_lt, List, [], ◌∷◌, length, Option, Some, None, slice_get, codes, bytes_eq, refl}
+use Rattle.std.proofs.Common.{◌≡◌, ℕ, zero, suc, pos, Bool, true, false, cond, if◌then◌else◌, nat_lt, List, [], ◌∷◌, length, Option, Some, None, slice_get, codes, bytes_eq, refl}
 use Rattle.c_syntax.specs.declared.place.Place.{Place}
 use Rattle.c_syntax.specs.declared.types.Segment.{Segment}
-use Rattle.c_syntax.specs.Ctypes.{PlainType, int_type}
+use Rattle.c_syntax.specs.Ctypes.{PlainType, Void, Int, int_type}
 use Rattle.c_syntax.specs.Annotations.{Annotation}
 use Rattle.c_syntax.specs.Expressions.{Expression, Node, Number, Letter, Variable, Unary, Binary, Both, Either, Choice, Assign, Bump, Call, Cast, SizeOfType, SizeOfExpr, Expressions, NoExpression, Following, type_of}
 use Rattle.c_syntax.specs.Statements.{Initialiser, One, Declaration, Statement, Empty, Eval, Block, If, While, Do, For, Break, Continue, Return, ElsePart, NoElse, Else, ForFirst, NoFirst, First, BlockItem, Declare, Run, Asserts, BlockItems, NoItem, Then}
 use Rattle.c_syntax.specs.Programs.{Function, TranslationUnit}
 use Rattle.c_model.specs.Integers.{size_of, byte_of}
-use Rattle.c_model.specs.Memory.{Pointer, Value, Integer, NoValue, Store, load, save, standard_sizes, full_at_stack_birth}
-use Rattle.c_model.specs.State.{State, Breaks, Continues, Returns, End, Leaves, Over, Undefined, Fault, Spent, Outcome, Normal, Stop, Evaluation, on_outcome, ◌>>=◌, ◌>>◌, give, done, stop, defined, step_from, step, print, find, start_of, object, read, put_store, write, birth_of, birth, births, frame, restored, within}
+use Rattle.c_model.specs.Memory.{Pointer, Into, Value, Integer, NoValue, Store, load, save, standard_sizes, full_at_stack_birth}
+use Rattle.c_model.specs.State.{InputTail, EndOfInput, InputFault, State, Breaks, Continues, Returns, End, Leaves, Over, Exits, Undefined, Fault, Spent, Outcome, Normal, Stop, Evaluation, on_outcome, ◌>>=◌, ◌>>◌, give, done, stop, defined, step_from, step, read_byte, print, find, start_of, object, read, put_store, write, birth_of, birth, births, write_youngest, alone, frame, mark, restored, within}
 use Rattle.c_model.specs.Logic.{Answer, Says, SaysNothing, OutOfSteps, clause, judged, check, checks}
-use Rattle.c_model.specs.Meaning.{Callee, operate_value, operate_values, converted, compound, bump_operator, bump_value, is_zero, choose, truth_value, size_value, eval_with, place_with, evals_with, after_body, turns, do_turns, declared_in, declared_first, initialise, initialise_all, condition_with, effect_with, exec_with, else_with, first_with, item_with, items_with, put_char, library_call, call_of, body_with, main_with}
+use Rattle.c_model.specs.Meaning.{Callee, operate_value, operate_values, converted, compound, bump_operator, bump_value, is_zero, choose, truth_value, size_value, eval_with, place_with, evals_with, after_body, turns, do_turns, declared_in, declared_first, initialise, initialise_all, condition_with, effect_with, exec_with, else_with, first_with, item_with, items_with, put_char, get_char, exit_with, library_call, definition_at, parameters, body_with, at_close, returned_by, call_with, is_of_library, call_of, main_with}
 use Rattle.c_model.specs.Laws.{AreWhole, store_after, KeepsWhole, CalleeKeepsWhole}
 use Rattle.c_model.proofs.Blocks.{whole-saved, whole-append, whole-new_block, whole-kill_from}
 use Rattle.c_syntax.specs.declared.types.BlockKind.TheVariants as block
@@ -60,10 +60,28 @@ birth_whole : (o : Option Segment) (d : Declaration) (s : State) → AreWhole s.
 birth_whole None d s w = whole-append s.store _ w (whole-new_block block.Stack (size_of d.ctype))
 birth_whole (Some full) d s w = w
 
+whole_birth : (d : Declaration) → KeepsWhole (birth d)
+whole_birth d = record { at = λ s w. birth_whole (full_at_stack_birth standard_sizes s.store (size_of d.ctype)) d s w }
+
 pub whole_births : (ds : List Declaration) → KeepsWhole (births ds)
 whole_births [] = whole_give tt
-whole_births (d ∷ ds) =
-    whole_then (birth d) (births ds) (record { at = λ s w. birth_whole (full_at_stack_birth standard_sizes s.store (size_of d.ctype)) d s w }) (whole_births ds)
+whole_births (d ∷ ds) = whole_then (birth d) (births ds) (whole_birth d) (whole_births ds)
+
+whole_write_youngest : (at : Place) (t : PlainType) (v : Value) → KeepsWhole (write_youngest at t v)
+whole_write_youngest at t v = record { at = λ s w. (whole_write at (Into (length s.store) 0) t v).at s w }
+
+pub whole_parameters : (at : Place) (ds : List Declaration) (vs : List Value) → KeepsWhole (parameters at ds vs)
+whole_parameters at [] [] = whole_give tt
+whole_parameters at [] (v ∷ vs) = whole_stop (Over (Undefined at))
+whole_parameters at (d ∷ ds) [] = whole_stop (Over (Undefined at))
+whole_parameters at (d ∷ ds) (v ∷ vs) =
+    whole_then _ _ (whole_then _ _ (whole_birth d) (whole_write_youngest at d.ctype v)) (whole_parameters at ds vs)
+
+whole_alone : KeepsWhole alone
+whole_alone = record { at = λ s w. w }
+
+whole_mark : (label : Option ℕ) → KeepsWhole (mark label)
+whole_mark label = record { at = λ s w. w }
 
 whole_cond : {A : Type 0} (t : Bool) (r r' : Outcome A) → AreWhole (store_after r) → AreWhole (store_after r') → AreWhole (store_after (cond t r r'))
 whole_cond true r r' w w' = w
@@ -127,7 +145,7 @@ whole_do_turns (suc n) test body t b =
 -- ---- expressions
 
 pub whole_place : (e : Expression) (call : Callee) → KeepsWhole (place_with e call)
-whole_place (Node at t (Variable x)) call = whole_object at x.name
+whole_place (Node at t (Variable x)) call = whole_object at x.decl
 whole_place (Node at t (Number n k)) call = whole_stop (Over (Undefined at))
 whole_place (Node at t (Letter n)) call = whole_stop (Over (Undefined at))
 whole_place (Node at t (Unary op a)) call = whole_stop (Over (Undefined at))
@@ -152,7 +170,7 @@ mutual
   pub whole_eval : (e : Expression) (call : Callee) → CalleeKeepsWhole call → KeepsWhole (eval_with e call)
   whole_eval (Node at t (Number n k)) call h = whole_give (Integer n)
   whole_eval (Node at t (Letter n)) call h = whole_give (Integer n)
-  whole_eval (Node at t (Variable x)) call h = whole_bind _ _ (whole_object at x.name) (λ p. whole_read at p t)
+  whole_eval (Node at t (Variable x)) call h = whole_bind _ _ (whole_object at x.decl) (λ p. whole_read at p t)
   whole_eval (Node at t (Unary op a)) call h = whole_bind _ _ (whole_eval a call h) (λ x. whole_defined at (operate_value t op x))
   whole_eval (Node at t (Binary op a b)) call h =
       whole_bind _ _ (whole_eval a call h) (λ x. whole_bind _ _ (whole_eval b call h) (λ y. whole_defined at (operate_values t op x y)))
@@ -180,7 +198,7 @@ mutual
 pub whole_initialise : (d : Declaration) (i : Option (Place × Initialiser)) (call : Callee) → CalleeKeepsWhole call → KeepsWhole (initialise d i call)
 whole_initialise d None call h = whole_give tt
 whole_initialise d (Some (at, One e)) call h =
-    whole_bind _ _ (whole_object at d.name) (λ p. whole_bind _ _ (whole_eval e call h) (λ v. whole_write at p d.ctype v))
+    whole_bind _ _ (whole_object at d.place.offset) (λ p. whole_bind _ _ (whole_eval e call h) (λ v. whole_write at p d.ctype v))
 
 pub whole_initialise_all : (ds : List Declaration) (call : Callee) → CalleeKeepsWhole call → KeepsWhole (initialise_all ds call)
 whole_initialise_all [] call h = whole_give tt
@@ -235,26 +253,63 @@ whole_put_char at (Integer z ∷ []) =
     whole_then (print (byte_of z)) (give (Integer (pos (byte_of z)))) (record { at = λ s w. w }) (whole_give _)
 whole_put_char at (v ∷ w ∷ vs) = whole_stop (Over (Undefined at))
 
+read_byte_whole : (bytes : List ℕ) (tail : InputTail) (s : State) → AreWhole s.store → AreWhole (store_after (read_byte bytes tail s))
+read_byte_whole [] EndOfInput s w = w
+read_byte_whole [] InputFault s w = w
+read_byte_whole (b ∷ bs) tail s w = w
+
+pub whole_get_char : (at : Place) (vs : List Value) → KeepsWhole (get_char at vs)
+whole_get_char at [] = record { at = λ s w. read_byte_whole s.input.bytes s.input.tail s w }
+whole_get_char at (v ∷ vs) = whole_stop (Over (Undefined at))
+
+pub whole_exit : (at : Place) (vs : List Value) → KeepsWhole (exit_with at vs)
+whole_exit at [] = whole_stop (Over (Undefined at))
+whole_exit at (NoValue ∷ []) = whole_stop (Over (Undefined at))
+whole_exit at (Integer z ∷ []) = whole_stop (Over (Exits z))
+whole_exit at (v ∷ w ∷ vs) = whole_stop (Over (Undefined at))
+
+whole_if : {A : Type 0} (t : Bool) (a b : Evaluation A) → KeepsWhole a → KeepsWhole b → KeepsWhole (if t then a else b)
+whole_if true a b f g = f
+whole_if false a b f g = g
+
 pub whole_library_call : (at : Place) (name : Option (List ℕ)) (vs : List Value) → KeepsWhole (library_call at name vs)
 whole_library_call at None vs = whole_stop (Over (Undefined at))
-whole_library_call at (Some name) vs = by (bytes_eq name (codes "putchar"))
-  where
-    by : (t : Bool) → KeepsWhole (if t then put_char at vs else stop (Over (Undefined at)))
-    by true = whole_put_char at vs
-    by false = whole_stop (Over (Undefined at))
-
-pub whole_call_of : (p : TranslationUnit) (n : ℕ) → CalleeKeepsWhole (call_of p n)
-whole_call_of p n at f vs = by (nat_eq f.decl 4294967295)
-  where
-    by : (t : Bool) → KeepsWhole (if t then library_call at (slice_get p.names f.name) vs else stop (Over (Undefined at)))
-    by true = whole_library_call at (slice_get p.names f.name) vs
-    by false = whole_stop (Over (Undefined at))
+whole_library_call at (Some name) vs =
+    whole_if (bytes_eq name (codes "putchar")) _ _ (whole_put_char at vs)
+    (whole_if (bytes_eq name (codes "getchar")) _ _ (whole_get_char at vs)
+    (whole_if (bytes_eq name (codes "exit")) _ _ (whole_exit at vs) (whole_stop (Over (Undefined at)))))
 
 pub whole_body : (body : Option Statement) (call : Callee) (n : ℕ) → CalleeKeepsWhole call → KeepsWhole (body_with body call n)
 whole_body None call n h = whole_stop (Over Fault)
 whole_body (Some a) call n h = whole_exec a call n h
 
+close_whole : (close : Place) (t : PlainType) (s : State) → AreWhole s.store → AreWhole (store_after (at_close close t s))
+close_whole close Void s w = w
+close_whole close (Int k) s w = w
+
+returned_whole : (f : Function) (r : Outcome (Unit {0})) → AreWhole (store_after r) → AreWhole (store_after (returned_by f r))
+returned_whole f (Normal u s) w = close_whole f.close f.result s w
+returned_whole f (Stop (Leaves Breaks) s) w = w
+returned_whole f (Stop (Leaves Continues) s) w = w
+returned_whole f (Stop (Leaves (Returns None)) s) w = w
+returned_whole f (Stop (Leaves (Returns (Some v))) s) w = w
+returned_whole f (Stop (Over e) s) w = w
+
+pub whole_call_with : (f : Option Function) (call : Callee) (n : ℕ) (at : Place) (vs : List Value) → CalleeKeepsWhole call → KeepsWhole (call_with f call n at vs)
+whole_call_with None call n at vs h = whole_stop (Over (Undefined at))
+whole_call_with (Some f) call n at vs h =
+    whole_then _ _ whole_step (whole_within _ (whole_then _ _
+    (whole_then _ _ (whole_then _ _ (whole_then _ _ whole_frame whole_alone) (whole_parameters at f.params vs)) (whole_mark None))
+    (record { at = λ s w. returned_whole f (body_with f.body call n s) ((whole_body f.body call n h).at s w) })))
+
+pub whole_call_of : (p : TranslationUnit) (n : ℕ) → CalleeKeepsWhole (call_of p n)
+whole_call_of p zero at f vs =
+    whole_if (is_of_library f) _ _ (whole_library_call at (slice_get p.names f.name) vs) (whole_stop (Over Spent))
+whole_call_of p (suc n) at f vs =
+    whole_if (is_of_library f) _ _ (whole_library_call at (slice_get p.names f.name) vs)
+    (whole_call_with (definition_at f.decl p.funcs) (call_of p n) n at vs (whole_call_of p n))
+
 pub whole_main : (f : Option Function) (call : Callee) (n : ℕ) → CalleeKeepsWhole call → KeepsWhole (main_with f call n)
 whole_main None call n h = whole_stop (Over Fault)
 whole_main (Some f) call n h =
-    whole_within _ (whole_then _ _ (whole_then _ _ (whole_then _ _ whole_frame (whole_births f.params)) (record { at = λ s w. w })) (whole_body f.body call n h))
+    whole_within _ (whole_then _ _ (whole_then _ _ (whole_then _ _ whole_frame (whole_births f.params)) (whole_mark None)) (whole_body f.body call n h))

@@ -1,113 +1,22 @@
 -- Whole runs of small programs, by computation: their ends, what they print, the steps left and the lines of their reports.
-use Rattle.std.proofs.Common.{◌≡◌, ℕ, pos, negsuc, true, List, [], ◌∷◌, ◌++◌, Some, None, codes, refl}
+use Rattle.std.proofs.Common.{◌≡◌, pos, negsuc, [], ◌∷◌, ◌++◌, Some, None, codes, refl}
 use Rattle.std.specs.Fmt.{digits}
-use Rattle.c_syntax.specs.declared.place.Place.{Place}
-use Rattle.c_syntax.specs.declared.types.CInt.{CInt}
 use Rattle.c_syntax.specs.declared.types.CInt.TheVariants.{U8, I32, U32, I64, U64}
 use Rattle.c_syntax.specs.declared.types.How.TheVariants as how
-use Rattle.c_syntax.specs.declared.expression.BinOp.{BinOp}
 use Rattle.c_syntax.specs.declared.expression.BinOp.TheVariants.{Add, Sub, Div, Eq, Lt, Gt}
 use Rattle.c_syntax.specs.declared.expression.UnOp.TheVariants.{Flip}
-use Rattle.c_syntax.specs.declared.expression.BumpOp.{BumpOp}
 use Rattle.c_syntax.specs.declared.expression.BumpOp.TheVariants.{PostUp, PostDown}
 use Rattle.c_syntax.specs.declared.annotation.Kind.TheVariants.{Assert}
-use Rattle.c_syntax.specs.declared.annotation.Range.{Range}
 use Rattle.c_syntax.specs.declared.annotation.Relation.TheVariants as relation
-use Rattle.c_syntax.specs.Ctypes.{PlainType, Int, int_type}
-use Rattle.c_syntax.specs.Expressions.{Expression, Node, Number, Letter, Variable, Unary, Binary, Both, Choice, Assign, Bump, Call, Cast, SizeOfType, SizeOfExpr, NoExpression, Following, place_of}
-use Rattle.c_syntax.specs.Annotations.{LogicTerm, Predicate, Chain, NoLink, Linked, Truth, Annotation}
-use Rattle.c_syntax.specs.Annotations as logic
-use Rattle.c_syntax.specs.Statements.{One, Declaration, Eval, Block, If, While, Do, For, Break, Continue, Return, NoElse, Else, First, BlockItem, Declare, Run, Asserts, BlockItems, NoItem, Then}
+use Rattle.c_syntax.specs.Ctypes.{Int, int_type}
+use Rattle.c_syntax.specs.Expressions.{Node, Number, Unary, Binary, Both, Choice, Assign, SizeOfType, SizeOfExpr}
+use Rattle.c_syntax.specs.Annotations.{Chain, NoLink, Linked}
+use Rattle.c_syntax.specs.Statements.{Eval, Block, If, While, Do, For, Break, Continue, Return, NoElse, Else, First, Declare, Run, Asserts}
 use Rattle.c_syntax.specs.Programs.{TranslationUnit}
-use Rattle.c_model.specs.State.{Input, EndOfInput, Exits, Broken, Undefined, Spent}
+use Rattle.c_model.specs.State.{Exits, Broken, Undefined, Spent}
 use Rattle.c_model.specs.Meaning.{run}
 use Rattle.c_model.specs.Reports.{report}
-
--- ---- trees
-
-abbrev place : ℕ → ℕ → ℕ → Place
-place line column offset = record { line = line; column = column; offset = offset }
-
-abbrev literal : Place → ℕ → Expression
-literal at n = Node at int_type (Number (pos n) (Some I32))
-
-abbrev letter : Place → ℕ → Expression
-letter at n = Node at int_type (Letter (pos n))
-
--- a variable, with the number of its declaration
-abbrev variable : Place → ℕ → ℕ → Expression
-variable at name decl = Node at int_type (Variable (record { name = name; decl = decl }))
-
-abbrev binary : Place → BinOp → Expression → Expression → Expression
-binary at op a b = Node at int_type (Binary op a b)
-
-abbrev assignment : Place → Expression → Expression → Expression
-assignment at a b = Node at int_type (Assign None a b)
-
-abbrev compound_assignment : Place → BinOp → Expression → Expression → Expression
-compound_assignment at op a b = Node at int_type (Assign (Some op) a b)
-
-abbrev bump : Place → BumpOp → Expression → Expression
-bump at op a = Node at int_type (Bump op a)
-
--- the conversion that typing puts around an operand, at the operand's place
-abbrev cast : CInt → Expression → Expression
-cast k e = Node (place_of e) (Int k) (Cast (Int k) e)
-
-abbrev typed_variable : Place → CInt → ℕ → ℕ → Expression
-typed_variable at k name decl = Node at (Int k) (Variable (record { name = name; decl = decl }))
-
-abbrev putchar_call : Place → ℕ → Expression → Expression
-putchar_call at name e = Node at int_type (Call (record { name = name; decl = 4294967295 }) (Following e NoExpression))
-
-abbrev object_of : PlainType → Place → ℕ → Place → Expression → Declaration
-object_of t at name equals e = record { place = at; name = name; named = true; ctype = t; init = Some (equals, One e) }
-
-abbrev int_variable : Place → ℕ → Place → Expression → Declaration
-int_variable = object_of int_type
-
-abbrev no_range : Range
-no_range = record { lo = pos 0; hi = pos 0 }
-
-abbrev literal_term : Place → ℕ → LogicTerm
-literal_term at n = logic.Number at None no_range (pos n)
-
-abbrev variable_term : Place → ℕ → ℕ → LogicTerm
-variable_term at name decl = logic.Variable at (Some int_type) no_range (record { name = name; decl = decl })
-
-abbrev binary_term : Place → BinOp → LogicTerm → LogicTerm → LogicTerm
-binary_term at op a b = logic.Binary at None no_range op a b
-
-abbrev assertion : ℕ → Place → Predicate → Annotation
-assertion number at p = record { number = number; kind = Assert; place = at; body = Truth p }
-
-abbrev items_of : List BlockItem → BlockItems
-items_of [] = NoItem
-items_of (i ∷ rest) = Then i (items_of rest)
-
--- a file of `main` alone: the names, the places of `main` and of its braces, and its items
-abbrev main_alone : List (List ℕ) → Place → Place → Place → List BlockItem → TranslationUnit
-main_alone names at opening closing items = record {
-  names = names;
-  texts = [];
-  structs = [];
-  enums = [];
-  typedefs = [];
-  globals = [];
-  funcs = record {
-    place = at;
-    name = 0;
-    result = int_type;
-    params = [];
-    contract = None;
-    body = Some (Block opening (items_of items));
-    close = closing;
-  } ∷ [];
-  strays = [];
-}
-
-abbrev no_input : Input
-no_input = record { bytes = []; tail = EndOfInput }
+use Rattle.c_model.proofs.WorkedTrees.{place, literal, letter, typed_variable, variable, binary, assignment, compound_assignment, bump, cast, putchar_call, object_of, int_variable, items_of, literal_term, variable_term, binary_term, assertion, main_alone, no_input}
 
 -- ---- programs
 

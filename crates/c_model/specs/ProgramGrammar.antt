@@ -17,7 +17,7 @@
 -- "static" stands once at most, and "void" alone is no parameter. Statements are at most 200 deep, a function's body being 1 deep, a
 -- clause has at most 400 tokens, and a function has at most 1,000 declarators. A number of an annotation is at most 2,147,483,647.
 -- "else" goes with the nearest "if".
-use Rattle.std.specs.Prelude.{ℕ, zero, suc, ◌+◌, ◌-◌, ℤ, pos, List, [], ◌∷◌, ◌++◌, length, Option, Some, None, Bool, true, false, cond, ltb, int_le}
+use Rattle.std.specs.Prelude.{ℕ, zero, suc, ◌+◌, ◌-◌, ℤ, pos, List, [], ◌∷◌, ◌++◌, Option, Some, None, Bool, true, false, cond, ltb, int_le}
 use Rattle.grammar.specs.Syntax.{Syntax, none, gives, one, ◌then◌, choice, many, knot, deep, at_most}
 use Rattle.c_syntax.specs.declared.place.Place.{Place}
 use Rattle.c_syntax.specs.declared.expression.BinOp.{BinOp}
@@ -40,7 +40,7 @@ use Rattle.c_model.specs.declared.vocabulary.Word.{Word}
 use Rattle.c_model.specs.declared.vocabulary.Word.TheVariants as word
 use Rattle.c_model.specs.Vocabulary.{Vocabulary, word_at}
 use Rattle.c_model.specs.Punctuators.{less_equal, greater_equal, equal, not_equal, plus, minus, less, greater, assign, semicolon, comma, left_paren, right_paren, left_brace, right_brace}
-use Rattle.c_model.specs.ExpressionGrammar.{name_kind, number_kind, letter_kind, annot_open_kind, annot_close_kind, keyword_kind, mark_kind, kind, placed, letter_of, mark_entry, kinds_of, first_type, first_expression, first_effect, use_of, expression_limit, most_in_expression, nesting_limit, most_nested, fixed, mark, reserved, name, base, consts, type_words, closed, full_expression, full_expression_or_call, full_effect, full_effect_or_call, type_start, type_behind, TypeStart, ConstStart, VoidStart, NameStart, IntegerStart}
+use Rattle.c_model.specs.ExpressionGrammar.{name_kind, number_kind, letter_kind, annot_open_kind, annot_close_kind, keyword_kind, mark_kind, kind, placed, letter_of, mark_entry, kinds_of, first_type, first_expression, first_effect, use_of, expression_limit, most_in_expression, nesting_limit, most_nested, fixed, mark, reserved, name, base, consts, type_words, closed, full_expression, full_expression_or_call, full_effect, full_effect_or_call, type_start, type_behind, TypeStart, VoidStart}
 
 -- ---- what begins what
 
