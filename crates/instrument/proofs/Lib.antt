@@ -23,3 +23,5 @@ pub mod Asserts
 pub mod Loops
 pub mod Declared
 pub mod Statements
+pub mod Numbers
+pub mod Library
