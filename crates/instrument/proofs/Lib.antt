@@ -25,3 +25,4 @@ pub mod Declared
 pub mod Statements
 pub mod Numbers
 pub mod Library
+pub mod Programs
