@@ -26,3 +26,4 @@ pub mod Statements
 pub mod Numbers
 pub mod Library
 pub mod Programs
+pub mod Bodies

@@ -289,20 +289,12 @@ outside_live : (low high : ℕ) (ds : List Declaration) (xs : List ℕ) → AllO
 outside_live low high ds [] h = tt
 outside_live low high ds (x ∷ xs) h = (IsFar h.0, outside_live low high ds xs h.1)
 
-one_more : (low high : ℕ) (d : Declaration) (ds : List Declaration) (xs : List ℕ) → AllLive low high ds xs → AllLive low high (d ∷ ds) xs
-one_more low high d ds [] h = tt
-one_more low high d ds (x ∷ xs) h = (by h.0, one_more low high d ds xs h.1)
-  where
-    by : Lives low high ds x → Lives low high (d ∷ ds) x
-    by (IsFar o) = IsFar o
-    by (IsOwn i) = IsOwn (IsSecond i)
-
 born_live : (low high : ℕ) (all : List Declaration) (ds : List Declaration) (xs : List ℕ) → ((x : ℕ) → IsOf x ds → IsOf x all) → AllLive low high all xs → AllLive low high all (with_numbers ds xs)
 born_live low high all [] xs among h = h
 born_live low high all (d ∷ ds) xs among h = born_live low high all ds (number_of d ∷ xs) (λ x i. among x (IsSecond i)) (IsOwn (among (number_of d) (IsFirst refl)), h)
 
 -- declarations that lie under an interval, and what lived outside it
-born_outside : (low high low2 high2 : ℕ) (ds : List Declaration) (xs : List ℕ) → Between low2 (numbers_in ds) high2 → high2 ≤ low → AllOutside low high xs → AllOutside low high (with_numbers ds xs)
+pub born_outside : (low high low2 high2 : ℕ) (ds : List Declaration) (xs : List ℕ) → Between low2 (numbers_in ds) high2 → high2 ≤ low → AllOutside low high xs → AllOutside low high (with_numbers ds xs)
 born_outside low high low2 high2 [] xs b le h = h
 born_outside low high low2 high2 (d ∷ ds) xs b le h =
     let top = in_bounds (suc (number_of d)) high2 (numbers_in ds) b.1 in
@@ -372,3 +364,14 @@ module _ (numbers : List ℕ) where
         (can_declare a s r low p.middle living q.0 p.front (far_front low p.middle high le le2 rest (own_between rest p.middle high p.back) living o) (listed_front numbers (declared_within a) (declared_in_items rest) l),
         items_can_declare rest s r p.middle high living q.1 p.back (live_back low p.middle high le le2 (declared_in rest) living o) (listed_back numbers (declared_within a) (declared_in_items rest) l))
     items_can_declare (Then (Asserts annots) rest) s r low high living q b o l = (tt, items_can_declare rest s r low high living q.1 b o l)
+
+  -- the items of a body, whose scope is the function's
+  pub body_can_declare : (is : BlockItems) (s : Scopes) (r : Around) (low high : ℕ) (living : List ℕ) → ItemsTyped s r is → Between low (numbers_in (declared_in_items is)) high → AllOutside low high living → AllListed numbers (declared_in_items is) → AllCanBeBorn numbers living (declared_in is) × ItemsCanDeclare numbers (with_numbers (declared_in is) living) is
+  body_can_declare is s r low high living q b o l =
+      let own = declared_in is in
+      (all_can_be_born numbers own low high living (own_between is low high b) o (items_objects s r is q) (own_listed numbers is l),
+      items_can_declare is s r low high (with_numbers own living) q b (born_live low high own own living (λ x i. i) (outside_live low high own living o)) l)
+
+pub in_order_front : (numbers : List ℕ) (j : ℕ) (ds es : List Declaration) → InOrder numbers j (ds ++ es) → InOrder numbers j ds
+in_order_front numbers j [] es h = tt
+in_order_front numbers j (d ∷ ds) es h = (h.0, in_order_front numbers (suc j) ds es h.1)

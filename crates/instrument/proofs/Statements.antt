@@ -235,7 +235,7 @@ module _ (p : TranslationUnit) (w : Setting) (n most : ℕ) (names : List (List 
   -- ---- blocks
 
   -- variables are born, and live while this is done
-  block_does : (h : Here) (s : Scopes) (g : Stage h.slots s) (room : count w + count w ≤ w.registers) (ds : List Declaration) (x : Evaluation (Unit {0})) (a : MonStatements) → AllCanBeBorn w.numbers (decls_of h.slots) ds → ((old : State) → Stage (behind_births h old ds).slots s → HaveSlots (behind_births h old ds).slots ds → DoSame (behind_births h old ds) s x a) → DoSame h s (within (births ds >> x)) (target.alive w.numbers ds a)
+  pub block_does : (h : Here) (s : Scopes) (g : Stage h.slots s) (room : count w + count w ≤ w.registers) (ds : List Declaration) (x : Evaluation (Unit {0})) (a : MonStatements) → AllCanBeBorn w.numbers (decls_of h.slots) ds → ((old : State) → Stage (behind_births h old ds).slots s → HaveSlots (behind_births h old ds).slots ds → DoSame (behind_births h old ds) s x a) → DoSame h s (within (births ds >> x)) (target.alive w.numbers ds a)
   block_does h s g room ds x a c f = λ regs from t m le.
       block_follows w h n room ds x a regs from t m.related m.beside c (λ to after u r b l.
       f from (record { sight = sight_behind w.numbers (length from.store) ds h.slots s.objects c g.sight; names_are = g.names_are; functions_are = g.functions_are })
