@@ -27,3 +27,4 @@ pub mod Numbers
 pub mod Library
 pub mod Programs
 pub mod Bodies
+pub mod Callees

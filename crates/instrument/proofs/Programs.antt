@@ -208,7 +208,7 @@ pub record IsSigned (all hs : List Function) (x : ℕ) (sig : Signature) : Type 
   pub is : sig ≡ signature all function
   pub name : function.name ≡ x
 
-signed : (all hs : List Function) (x : ℕ) (sig : Signature) → function_called x (map (signature all) hs) ≡ Some sig → IsSigned all hs x sig
+pub signed : (all hs : List Function) (x : ℕ) (sig : Signature) → function_called x (map (signature all) hs) ≡ Some sig → IsSigned all hs x sig
 signed all [] x sig e = absurd cc
 signed all (h ∷ hs) x sig e = by (λ f. signed all hs x sig f) (nat_eq x h.name) refl e
   where
@@ -222,7 +222,7 @@ signed all (h ∷ hs) x sig e = by (λ f. signed all hs x sig f) (nat_eq x h.nam
         let here : nat_eq h.name x ≡ false = grind (arith, nat_tests) in
         record { function = i.function; first = ap (λ t. cond t (Some h) (first_of x hs)) here ∙ i.first; is = i.is; name = i.name }
 
-first_more : (x : ℕ) (hs more : List Function) (h : Function) → first_of x hs ≡ Some h → first_of x (hs ++ more) ≡ Some h
+pub first_more : (x : ℕ) (hs more : List Function) (h : Function) → first_of x hs ≡ Some h → first_of x (hs ++ more) ≡ Some h
 first_more x [] more h e = absurd cc
 first_more x (g ∷ hs) more h e = by (λ f. first_more x hs more h f) (nat_eq g.name x) e
   where
@@ -230,13 +230,17 @@ first_more x (g ∷ hs) more h e = by (λ f. first_more x hs more h f) (nat_eq g
     by rest true f = f
     by rest false f = rest f
 
--- a name that a declaration has is none of the library's
-own_name : (p : TranslationUnit) (before fs : List Function) (x : ℕ) (h : Function) → FunctionsTyped p before fs → first_of x fs ≡ Some h → is_library_name (name_at p.names h.name) ≡ false
-own_name p before [] x h t e = absurd cc
-own_name p before (g ∷ fs) x h t e = by (λ f. own_name p (before ++ g ∷ []) fs x h t.1 f) (nat_eq g.name x) e
+-- a declaration is typed behind some others
+pub record IsTyped (p : TranslationUnit) (h : Function) : Type 0 where
+  pub before : List Function
+  pub typed : FunctionTyped (function_scopes p before h) before h
+
+pub typed_at : (p : TranslationUnit) (before fs : List Function) (x : ℕ) (h : Function) → FunctionsTyped p before fs → first_of x fs ≡ Some h → IsTyped p h
+typed_at p before [] x h t e = absurd cc
+typed_at p before (g ∷ fs) x h t e = by (λ f. typed_at p (before ++ g ∷ []) fs x h t.1 f) (nat_eq g.name x) e
   where
-    by : (first_of x fs ≡ Some h → is_library_name (name_at p.names h.name) ≡ false) → (b : Bool) → cond b (Some g) (first_of x fs) ≡ Some h → is_library_name (name_at p.names h.name) ≡ false
-    by rest true f = let same : g ≡ h = cc in subst (λ (i : Function). is_library_name (name_at p.names i.name) ≡ false) same t.0.own_name
+    by : (first_of x fs ≡ Some h → IsTyped p h) → (b : Bool) → cond b (Some g) (first_of x fs) ≡ Some h → IsTyped p h
+    by rest true f = let same : g ≡ h = cc in subst (IsTyped p) same (record { before = before; typed = t.0 })
     by rest false f = rest f
 
 -- where a declaration of the name stands in front, one behind it has its type
@@ -281,7 +285,7 @@ pub record IsDefined (x n : ℕ) (fs : List Function) (h : Function) : Type 0 wh
   pub types : SameTypes h definition
   pub name : definition.name ≡ x
 
-defined : (p : TranslationUnit) (before fs : List Function) (x n low : ℕ) (h : Function) → FunctionsTyped p before fs → Ascend low (numbers_of_all fs) → first_of x (before ++ fs) ≡ Some h → definition_of x fs ≡ Some n → IsDefined x n fs h × (low ≤ n)
+pub defined : (p : TranslationUnit) (before fs : List Function) (x n low : ℕ) (h : Function) → FunctionsTyped p before fs → Ascend low (numbers_of_all fs) → first_of x (before ++ fs) ≡ Some h → definition_of x fs ≡ Some n → IsDefined x n fs h × (low ≤ n)
 defined p before [] x n low h t a first e = absurd cc
 defined p before (g ∷ fs) x n low h t a first e =
     let more = behind_function low g fs a in
