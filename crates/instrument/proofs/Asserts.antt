@@ -1,5 +1,5 @@
 -- Assertions: each is defined, and the target stops at the first that is false, as the source does.
-use Rattle.std.proofs.Common.{ℤ, ℕ, pos, Bool, true, false, List, [], ◌∷◌, refl, sym, ap, ◌∙◌, subst}
+use Rattle.std.proofs.Common.{ℤ, ℕ, pos, Bool, true, false, List, [], ◌∷◌, refl, sym, ap, subst}
 use Rattle.std.proofs.lemmas.List.{append-nil}
 use Rattle.c_syntax.specs.declared.types.How.TheVariants as how
 use Rattle.c_syntax.specs.Annotations.{Annotation}
@@ -16,7 +16,7 @@ use Rattle.mon_syntax.specs.Meaning as monitored
 use Rattle.mon_syntax.specs.Memories.{BlockValue, integer_of, over_blocks}
 use Rattle.instrument.specs.Limits.{IsNumbered, AreNumbered}
 use Rattle.instrument.specs.Expressions.{assertion, assertions}
-use Rattle.instrument.proofs.Variables.{Slot, Setting, Related, Beside}
+use Rattle.instrument.proofs.Variables.{Setting, Related, Beside}
 use Rattle.instrument.proofs.Sight.{AreInSight, Ready, ready_later}
 use Rattle.instrument.proofs.Terms.{clause_says}
 use Rattle.instrument.proofs.Evaluating.{Target, Did}

@@ -1,5 +1,5 @@
 -- Births and deaths of variables: their blocks are born and die on both sides, with the same numbers.
-use Rattle.std.proofs.Common.{◌≡◌, ◌≢◌, ℕ, zero, suc, ◌+◌, ◌<◌, ◌≤◌, ℤ, pos, Bool, true, false, cond, nat_eq, if◌then◌else◌, List, [], ◌∷◌, ◌++◌, length, length-set, length-append, append_assoc, Option, Some, None, refl, sym, ap, ◌∙◌, subst, arith}
+use Rattle.std.proofs.Common.{◌≡◌, ◌≢◌, ℕ, suc, ◌+◌, ◌<◌, ◌≤◌, pos, false, cond, nat_eq, if◌then◌else◌, List, [], ◌∷◌, ◌++◌, length, length-set, length-append, append_assoc, Option, Some, None, refl, sym, ap, ◌∙◌, subst, arith}
 use Rattle.std.proofs.lemmas.List.{append-nil}
 use Rattle.std.proofs.lemmas.Bool.Decides.{nat_tests}
 use Rattle.std.specs.Prelude.{slice_get, slice_set, map}
@@ -10,22 +10,21 @@ use Rattle.c_syntax.specs.declared.types.Segment.{Segment}
 use Rattle.c_syntax.specs.Ctypes.{PlainType, Void, Int}
 use Rattle.c_syntax.specs.Statements.{Declaration}
 use Rattle.c_model.specs.Integers.{size_of, int_size}
-use Rattle.c_model.specs.Memory.{Into, Store, new_block, full_at_stack_birth, standard_sizes, kill_from}
-use Rattle.c_model.specs.State.{State, Full, Over, Outcome, Normal, Stop, on_outcome, birth, birth_of, births, back_to}
+use Rattle.c_model.specs.Memory.{Into, new_block, full_at_stack_birth, standard_sizes, kill_from}
+use Rattle.c_model.specs.State.{State, Full, Over, Normal, Stop, on_outcome, birth, birth_of, births, back_to}
 use Rattle.c_model.specs.Formed.{number_of}
-use Rattle.mon_syntax.specs.declared.tree.MemoryCall.TheVariants.{StoreBlock, DeleteBlock}
+use Rattle.mon_syntax.specs.declared.tree.MemoryCall.TheVariants.{DeleteBlock}
 use Rattle.mon_syntax.specs.Meaning.{Done, Stops, Next, then_do, at_next, writes, with_value, replied}
 use Rattle.mon_syntax.specs.Meaning.{◌>>=◌ as bind}
 use Rattle.mon_syntax.specs.Meaning as monitored
-use Rattle.mon_syntax.specs.Memory.{Gives, IsFull, Faults}
-use Rattle.mon_syntax.specs.Memories.{BlockValue, Whole, Points, Blocks, over_blocks, stack_block, act_on_blocks, delete_block, dead_at, is_index, youngest}
+use Rattle.mon_syntax.specs.Memory.{Gives, Faults}
+use Rattle.mon_syntax.specs.Memories.{BlockValue, Whole, Points, Blocks, over_blocks, stack_block, act_on_blocks, dead_at}
 use Rattle.mon_syntax.proofs.FlatBlocks.{live_in, live-born}
 use Rattle.instrument.specs.Expressions.{register_of}
 use Rattle.instrument.specs.Translation as target
 use Rattle.instrument.specs.Translation.{deaths, with_born}
 use Rattle.instrument.proofs.Lives.{full-alike, deleted, up_to, AllUpTo, AllAbove, up_to-all, up_to-behind, all_up_to-append, all_up_to-more, live-numbered, live-killed, length-killed, get-killed}
-use Rattle.instrument.proofs.Variables.{Slot, Setting, count, value_at, pointer_at, scope_of, live_of, slot_of, Matches, AllMatch, Stacked, Apart, Related, Beside, IsSet, AllKept, Held, get-front, get-front_same, get-end, get-below, get-set_same, stays_matched, stacked_base, stacked_more, kept_below, kept_trans, match_below, kept_behind, match_behind, apart_behind, live_of-append}
-use Rattle.instrument.proofs.Results.{writes_none, before_is}
+use Rattle.instrument.proofs.Variables.{Slot, Setting, count, value_at, pointer_at, scope_of, live_of, slot_of, Matches, AllMatch, Stacked, Related, Beside, AllKept, Held, get-front, get-front_same, get-end, get-below, get-set_same, stacked_base, stacked_more, kept_below, kept_trans, match_below, kept_behind, match_behind, apart_behind, live_of-append}
 use Rattle.instrument.proofs.Evaluating.{Target, Did, runs}
 use Rattle.instrument.proofs.Following.{Later, later_same, later_trans}
 use Rattle.c_model.proofs.Blocks.{slice_get-slice_set_other}

@@ -1,5 +1,5 @@
 -- A block of variables: they are born, something is done, and they die, whichever way the block is left.
-use Rattle.std.proofs.Common.{◌≡◌, ℕ, suc, ◌+◌, ◌≤◌, List, [], ◌∷◌, ◌++◌, length, Some, option_map, refl, sym, ap, ◌∙◌, subst, arith}
+use Rattle.std.proofs.Common.{◌≡◌, ℕ, suc, ◌+◌, ◌≤◌, List, [], ◌∷◌, ◌++◌, length, option_map, refl, sym, ap, ◌∙◌, subst, arith}
 use Rattle.std.proofs.lemmas.List.{append-nil}
 use Rattle.c_syntax.specs.Statements.{Declaration}
 use Rattle.c_model.specs.State.{State, Full, Leaves, Over, Outcome, Normal, Stop, Evaluation, on_outcome, ◌>>◌, births, within, restored, back_to}
@@ -9,15 +9,14 @@ use Rattle.mon_syntax.specs.Meaning.{Done, Stops, Next, Goes, Returns, then_do, 
 use Rattle.mon_syntax.specs.Meaning as monitored
 use Rattle.mon_syntax.specs.Memories.{BlockValue, Whole, over_blocks}
 use Rattle.mon_syntax.specs.Trees.{MonStatements}
-use Rattle.instrument.specs.Expressions.{before, register_of}
+use Rattle.instrument.specs.Expressions.{before}
 use Rattle.instrument.specs.Translation as target
 use Rattle.instrument.specs.Translation.{alive, deaths, with_born, end_label, next_label}
-use Rattle.c_model.specs.Formed.{number_of}
 use Rattle.instrument.proofs.Variables.{Slot, Setting, count, scope_of, Stacked, Related, Beside, AllMatch}
-use Rattle.instrument.proofs.Results.{written, writes_none, written_then, before_is}
+use Rattle.instrument.proofs.Results.{written, written_then, before_is}
 use Rattle.instrument.proofs.Evaluating.{Target, Did, runs}
-use Rattle.instrument.proofs.Following.{Here, Later, Follows, GoesOn, Breaks, Continues, IsLeft, IsOver, IsUndefined, later_trans, onward}
-use Rattle.instrument.proofs.Births.{slot_for, slots_born, decls_of, registers_of, AllCanBeBorn, Bears, AllBorn, OneIsFull, births_follow, Dead, deaths_run, AllFrom, born_are_new, slots_born-behind, related_behind, beside_behind, later_behind}
+use Rattle.instrument.proofs.Following.{Here, Later, Follows, GoesOn, Breaks, Continues, IsLeft, IsOver, IsUndefined, onward}
+use Rattle.instrument.proofs.Births.{slot_for, slots_born, decls_of, registers_of, AllCanBeBorn, Bears, AllBorn, OneIsFull, births_follow, deaths_run, AllFrom, born_are_new, slots_born-behind, related_behind, beside_behind, later_behind}
 
 pub with_born-slots : (w : Setting) (n : ℕ) (ds : List Declaration) (slots : List Slot) → with_born w.numbers ds (registers_of w slots) ≡ registers_of w (slots_born n ds slots)
 with_born-slots w n [] slots = refl

@@ -1,6 +1,6 @@
 -- The body of a function: it does the same on both sides, where the calls in it do.
-use Rattle.std.proofs.Common.{◌≡◌, ℕ, zero, suc, ◌+◌, ◌≤◌, Bool, true, false, cond, nat_eq, List, [], ◌∷◌, ◌++◌, length, length-append, map, Option, Some, None, refl, sym, ap, ◌∙◌, subst, arith}
-use Rattle.std.proofs.lemmas.List.{append-nil, length-map, map-append}
+use Rattle.std.proofs.Common.{◌≡◌, ℕ, suc, ◌+◌, ◌≤◌, Bool, true, false, cond, nat_eq, List, [], ◌∷◌, ◌++◌, length, length-append, map, Option, Some, None, refl, sym, ap, ◌∙◌, subst, arith}
+use Rattle.std.proofs.lemmas.List.{append-nil, length-map}
 use Rattle.c_syntax.specs.declared.expression.Use.{Use}
 use Rattle.c_syntax.specs.Ctypes.{PlainType}
 use Rattle.c_syntax.specs.Expressions.{Expressions}
@@ -9,7 +9,7 @@ use Rattle.c_syntax.specs.Programs.{Function, TranslationUnit}
 use Rattle.c_model.specs.Memory.{Store}
 use Rattle.c_model.specs.State.{State}
 use Rattle.c_model.specs.Meaning.{Callee, is_definition, declared_in, items_with, body_with}
-use Rattle.c_model.specs.Typing.{Object, Signature, Scopes, object_named, with_object}
+use Rattle.c_model.specs.Typing.{Object, Scopes, with_object}
 use Rattle.c_model.specs.ProgramTyping.{signature, function_scopes, with_parameter, with_parameters}
 use Rattle.c_model.specs.WellTyped.{Calls}
 use Rattle.c_model.specs.WellTypedPrograms.{around_body, BodyTyped, ItemsTyped, ItemsNoted}
@@ -18,19 +18,18 @@ use Rattle.mon_syntax.specs.declared.tree.MonType.{MonType}
 use Rattle.mon_syntax.specs.Meaning.{Next}
 use Rattle.mon_syntax.specs.Meaning as monitored
 use Rattle.mon_syntax.specs.Memories.{BlockValue, over_blocks}
-use Rattle.instrument.specs.Limits.{FunctionHasNumbers, BodyHasNumbers, HaveNumbers}
-use Rattle.instrument.specs.Translation.{Spot, with_born, with_variables, items, body_part, items_temporaries, variables_of, variable_numbers, variable_types, value_types, pointer_types, body_temporaries, values_from, pointers_from, temporaries_from, registers_of}
-use Rattle.instrument.specs.Translation as target
+use Rattle.instrument.specs.Limits.{BodyHasNumbers, HaveNumbers}
+use Rattle.instrument.specs.Translation.{Spot, with_born, with_variables, items, body_part, items_temporaries, variables_of, variable_numbers, variable_types, value_types, pointer_types, body_temporaries, values_from, pointers_from, temporaries_from}
 use Rattle.instrument.proofs.Variables.{Slot, Setting, slot_of, Related, Beside, IsSet}
 use Rattle.instrument.proofs.Evaluating.{Target, runs}
-use Rattle.instrument.proofs.Sight.{AreInSight, Ready}
+use Rattle.instrument.proofs.Sight.{Ready}
 use Rattle.instrument.proofs.Following.{Here, Follows}
-use Rattle.instrument.proofs.Births.{slots_born, decls_of, AllCanBeBorn}
+use Rattle.instrument.proofs.Births.{decls_of, AllCanBeBorn}
 use Rattle.instrument.proofs.Blocks.{behind_births, with_born-slots}
 use Rattle.instrument.proofs.Calls.{IsCalled}
 use Rattle.instrument.proofs.Parameters.{AllSet}
 use Rattle.instrument.proofs.Functions.{InOrder, BodyFollows, setting, parameter_slots, how_many, at_body}
-use Rattle.instrument.proofs.Declared.{with_numbers, ItemsCanDeclare, decls_of-born, HasSlot, HaveSlots, born_have_slots}
+use Rattle.instrument.proofs.Declared.{with_numbers, ItemsCanDeclare, decls_of-born, HaveSlots, born_have_slots}
 use Rattle.instrument.proofs.Numbers.{numbers_in, Between, bounded, parted_in, AllListed, listed_front, listed_back, placed, AllOutside, parameter_objects, all_can_be_born, born_outside, body_can_declare, in_order_front}
 use Rattle.instrument.proofs.Statements.{At, at_births, Stage, block_does, items_follow, objects_stage}
 use Rattle.instrument.proofs.Programs.{Part}

@@ -1,8 +1,7 @@
 -- What a typed call calls: a function of the library, or one of the program, which does the same on both sides.
-use Rattle.std.proofs.Common.{◌≡◌, ℕ, zero, suc, ◌+◌, ◌≤◌, ℤ, pos, Bool, true, false, ◌||◌, if◌then◌else◌, nat_eq, List, [], ◌∷◌, ◌++◌, length, map, Option, Some, None, refl, sym, ap, ◌∙◌, subst, arith, append_assoc}
+use Rattle.std.proofs.Common.{◌≡◌, ℕ, zero, suc, ◌+◌, ◌≤◌, ℤ, Bool, true, false, ◌||◌, if◌then◌else◌, List, [], ◌∷◌, ◌++◌, map, Option, Some, None, refl, sym, ap, ◌∙◌, subst, arith, append_assoc}
 use Rattle.std.proofs.lemmas.List.{append-nil}
 use Rattle.std.proofs.lemmas.Bool.{eq-eqb}
-use Rattle.std.proofs.lemmas.Bool.Decides.{nat_tests}
 use Rattle.std.proofs.lemmas.Slice.Eq.{bytes_eq-Decides}
 use Rattle.std.specs.Prelude.{slice_get, bytes_eq, codes}
 use Rattle.c_syntax.specs.declared.place.Place.{Place}
@@ -14,8 +13,8 @@ use Rattle.c_syntax.specs.Expressions.{Expressions}
 use Rattle.c_syntax.specs.Statements.{Declaration}
 use Rattle.c_syntax.specs.Programs.{Function, TranslationUnit}
 use Rattle.c_model.specs.Memory.{Value, Store}
-use Rattle.c_model.specs.State.{State, Spent, Over, Outcome, Stop, Evaluation, ◌>>◌, on_outcome, step_from, frame, alone, mark, within}
-use Rattle.c_model.specs.Meaning.{Callee, is_of_library, definition_at, call_with, call_of, library_call, parameters, returned_by, body_with}
+use Rattle.c_model.specs.State.{State, Spent, Over, Stop, Evaluation, ◌>>◌, on_outcome, step_from, frame, alone, mark, within}
+use Rattle.c_model.specs.Meaning.{is_of_library, definition_at, call_with, call_of, library_call, parameters, returned_by, body_with}
 use Rattle.c_model.specs.Library.{is_there, is_library_name, is_one_of, library_constant, other_names}
 use Rattle.c_model.specs.Typing.{Signature, Scopes, name_at, or_else, function_called, library_function, of_library}
 use Rattle.c_model.specs.ProgramTyping.{definition_of, first_of, number_or, offset_of, signature, types_of, function_scopes}
@@ -23,7 +22,7 @@ use Rattle.c_model.specs.WellTyped.{HaveTypes, Calls}
 use Rattle.c_model.specs.Formed.{IsProgram}
 use Rattle.mon_syntax.specs.Meaning.{Result, Done, Stops, then_do, eval_all, level, body_runs, with_value}
 use Rattle.mon_syntax.specs.Meaning as monitored
-use Rattle.mon_syntax.specs.Memories.{BlockValue, Whole, over_blocks}
+use Rattle.mon_syntax.specs.Memories.{BlockValue, over_blocks}
 use Rattle.mon_syntax.specs.Trees.{MonExpression, MonFunction, MonStatements}
 use Rattle.mon_syntax.specs.Trees as tree
 use Rattle.instrument.specs.Limits.{FunctionsHaveNumbers}
@@ -32,13 +31,13 @@ use Rattle.instrument.specs.Translation.{function_of, functions_from, index_of, 
 use Rattle.instrument.specs.Translation as target
 use Rattle.instrument.proofs.Variables.{Setting}
 use Rattle.instrument.proofs.Results.{one_is}
-use Rattle.instrument.proofs.Evaluating.{Target, Did, runs}
+use Rattle.instrument.proofs.Evaluating.{Target, runs}
 use Rattle.instrument.proofs.Calls.{Even, Called, EndsRun, AllFit, integers, wholes, takes, CallDoes, DoesCall, IsCalled}
 use Rattle.instrument.proofs.Births.{int_of}
 use Rattle.instrument.proofs.Functions.{parameter_ints, setting, call_follows}
 use Rattle.instrument.proofs.Library.{putchar_does, getchar_does, exit_does, nothing_does}
 use Rattle.instrument.proofs.Numbers.{AreObjects, parameter_objects}
-use Rattle.instrument.proofs.Programs.{Part, SameTypes, index_by, IsPicked, is_picked, has_number, definition_is, index_is, IsSigned, signed, first_more, typed_at, IsDefined, defined}
+use Rattle.instrument.proofs.Programs.{Part, index_by, IsPicked, is_picked, has_number, definition_is, index_is, IsSigned, signed, first_more, typed_at, defined}
 use Rattle.instrument.proofs.Bodies.{has_body, body_follows, has_room, parameters_can, parameters_in_order, few_parameters}
 
 -- ---- names of the library

@@ -1,5 +1,5 @@
 -- What a call does on both sides: where the source's comes back, so does the target's, with the same value, and each block that lived lives.
-use Rattle.std.proofs.Common.{◌≡◌, ◌≢◌, true, ℕ, ◌+◌, ◌<◌, ◌≤◌, ℤ, List, [], ◌∷◌, ◌++◌, length, map, Option, Some, None, refl, sym, ap, ◌∙◌, subst, arith}
+use Rattle.std.proofs.Common.{◌≡◌, ◌≢◌, true, ℕ, ◌<◌, ◌≤◌, ℤ, List, [], ◌∷◌, ◌++◌, length, map, Option, Some, None, sym, ◌∙◌, arith}
 use Rattle.std.specs.Prelude.{slice_get}
 use Rattle.c_syntax.specs.declared.place.Place.{Place}
 use Rattle.c_syntax.specs.declared.types.CInt.{CInt}
@@ -17,7 +17,7 @@ use Rattle.mon_syntax.specs.Memories.{BlockValue, Whole, over_blocks}
 use Rattle.mon_syntax.specs.Trees.{MonExpression}
 use Rattle.mon_syntax.proofs.FlatBlocks.{live_in}
 use Rattle.instrument.specs.Translation.{call}
-use Rattle.instrument.proofs.Variables.{Slot, Setting, Related, Beside, Stacked, stacked_base, stacked_more, kept_below, match_below}
+use Rattle.instrument.proofs.Variables.{Slot, Setting, Related, Beside, stacked_base, stacked_more, kept_below, match_below}
 use Rattle.instrument.proofs.Results.{written}
 use Rattle.instrument.proofs.Evaluating.{Target, Did, runs}
 use Rattle.instrument.proofs.Following.{Later, IsResult}

@@ -1,16 +1,15 @@
 -- Declared variables: what is in sight, and has values, where variables are born and where they are declared.
-use Rattle.std.proofs.Common.{◌≡◌, ℕ, suc, Bool, true, false, cond, nat_eq, List, [], ◌∷◌, ◌++◌, length, map, Option, Some, None, refl, sym, ap, ◌∙◌, subst, arith, append_assoc}
-use Rattle.std.proofs.lemmas.List.{append-nil, map-append}
+use Rattle.std.proofs.Common.{◌≡◌, ℕ, suc, Bool, true, false, cond, nat_eq, List, [], ◌∷◌, ◌++◌, Some, None, refl, sym, ap, ◌∙◌, subst, arith}
 use Rattle.std.proofs.lemmas.Bool.{eq-eqb}
 use Rattle.std.proofs.lemmas.Bool.Decides.{nat_tests}
-use Rattle.c_syntax.specs.Ctypes.{PlainType, Void, Int}
-use Rattle.c_syntax.specs.Statements.{Declaration, Statement, Eval, Block, If, While, Do, For, ElsePart, NoElse, Else, ForFirst, BlockItem, Declare, Run, Asserts, BlockItems, NoItem, Then}
+use Rattle.c_syntax.specs.Ctypes.{Int}
+use Rattle.c_syntax.specs.Statements.{Declaration, Statement, Block, If, While, Do, For, ElsePart, NoElse, Else, BlockItem, Declare, Run, Asserts, BlockItems, NoItem, Then}
 use Rattle.c_model.specs.Memory.{Store}
 use Rattle.c_model.specs.Meaning.{declared_in, declared_first}
 use Rattle.c_model.specs.Formed.{number_of}
-use Rattle.c_model.specs.Typing.{Object, Scopes, or_else, object_named, is_object_type, with_object, with_objects}
+use Rattle.c_model.specs.Typing.{Object, or_else, object_named}
 use Rattle.instrument.proofs.Variables.{Slot, Setting, value_at, slot_of, IsSet, AllKept}
-use Rattle.instrument.proofs.Births.{int_of, slot_for, slots_born, decls_of, registers_of, Absent, CanBeBorn, AllCanBeBorn}
+use Rattle.instrument.proofs.Births.{slot_for, slots_born, decls_of, registers_of, Absent, AllCanBeBorn}
 use Rattle.instrument.proofs.Sight.{InSight, AreInSight, Ready, ready_later}
 
 -- ---- what can be declared in statements, where variables of these numbers live

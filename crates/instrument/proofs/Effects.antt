@@ -1,7 +1,7 @@
 -- Assignments, increments, calls, expressions without effects, and initialisations: a variable's block and its register get a value.
-use Rattle.std.proofs.Common.{◌≡◌, ℕ, suc, ◌+◌, ◌<◌, ◌≤◌, ℤ, pos, Bool, true, false, List, [], ◌∷◌, ◌++◌, length, length-set, Option, Some, None, option_map, if◌then◌else◌, refl, sym, ap, ◌∙◌, subst, arith}
-use Rattle.std.proofs.lemmas.List.{append-nil, length-append}
-use Rattle.std.specs.Prelude.{slice_get, slice_set}
+use Rattle.std.proofs.Common.{◌≡◌, ℕ, suc, ◌+◌, ◌<◌, ◌≤◌, ℤ, pos, Bool, true, false, List, [], ◌++◌, length, length-set, Option, Some, None, option_map, if◌then◌else◌, refl, sym, ap, ◌∙◌, subst, arith}
+use Rattle.std.proofs.lemmas.List.{append-nil}
+use Rattle.std.specs.Prelude.{slice_set}
 use Rattle.c_syntax.specs.declared.place.Place.{Place}
 use Rattle.c_syntax.specs.declared.types.CInt.{CInt}
 use Rattle.c_syntax.specs.declared.types.CInt.TheVariants.{I32}
@@ -10,12 +10,12 @@ use Rattle.c_syntax.specs.declared.expression.BinOp.{BinOp}
 use Rattle.c_syntax.specs.declared.expression.BumpOp.{BumpOp}
 use Rattle.c_syntax.specs.Ctypes.{PlainType, Int, int_type}
 use Rattle.c_syntax.specs.Expressions.{Expression, Node, Variable, Assign, Bump, Call, Expressions, type_of}
-use Rattle.c_syntax.specs.Statements.{Initialiser, One, Declaration}
+use Rattle.c_syntax.specs.Statements.{One, Declaration}
 use Rattle.c_syntax.specs.Programs.{TranslationUnit}
 use Rattle.c_model.specs.Integers.{fits, convert, operate_in}
 use Rattle.c_model.specs.Conversions.{operation_type, is_shift}
 use Rattle.c_model.specs.Memory.{Pointer, Value, Integer, Into}
-use Rattle.c_model.specs.State.{State, Undefined, Over, Outcome, Normal, Stop, Evaluation, on_outcome, ◌>>=◌, ◌>>◌, give, done, defined, object, read, write}
+use Rattle.c_model.specs.State.{State, Undefined, Over, Normal, Stop, Evaluation, on_outcome, ◌>>=◌, ◌>>◌, give, done, defined, object, read, write}
 use Rattle.c_model.specs.Meaning.{eval_with, initialise, compound, converted, operate_values, bump_operator, bump_value}
 use Rattle.c_model.specs.Typing.{Scopes}
 use Rattle.c_model.specs.WellTyped.{Denotes, IsInteger, IsPlace, Calls, WellTyped, AreWellTyped}
@@ -23,19 +23,19 @@ use Rattle.c_model.specs.Formed.{IsPure, ArePure, IsPureOrCall, IsEffectOrCall, 
 use Rattle.c_model.proofs.Conversions.{fits-convert}
 use Rattle.mon_syntax.specs.declared.tree.MonType.{MonType}
 use Rattle.mon_syntax.specs.declared.tree.MonType.TheVariants as kind
-use Rattle.mon_syntax.specs.Meaning.{Done, Next}
+use Rattle.mon_syntax.specs.Meaning.{Next}
 use Rattle.mon_syntax.specs.Memories.{BlockValue, Whole}
 use Rattle.mon_syntax.specs.Trees.{MonExpression, Register, Constant, MonStatements, NoStatement}
-use Rattle.instrument.specs.Limits.{HasLetters, ArgumentsHaveLetters, FullHasLetters, EffectHasLetters, InitialHasLetters}
+use Rattle.instrument.specs.Limits.{HasLetters, ArgumentsHaveLetters, FullHasLetters, EffectHasLetters}
 use Rattle.instrument.specs.Expressions.{register_type, temporaries, value, before, set, setup}
 use Rattle.instrument.specs.Expressions as spec
 use Rattle.instrument.specs.Translation.{arguments_temporaries, full_temporaries, effect_temporaries, called, full_setup, full_value, effect}
 use Rattle.instrument.specs.Translation as translation
-use Rattle.instrument.proofs.Variables.{Slot, Setting, count, value_at, slot_of, Related, Beside, IsSet, AllKept, Same, same_all, related_same, value_below, match_at, decl_at, object_is, read_is, write_is, state_with, related_set, kept_set, beside_set, store_with, load_cell, get-set_same, stacked_at}
+use Rattle.instrument.proofs.Variables.{Slot, Setting, count, value_at, slot_of, Related, Beside, IsSet, Same, same_all, related_same, value_below, match_at, decl_at, object_is, read_is, write_is, state_with, related_set, kept_set, beside_set, store_with, load_cell, get-set_same, stacked_at}
 use Rattle.instrument.proofs.Values.{Has, compound_is}
 use Rattle.instrument.proofs.Results.{writes_none}
-use Rattle.instrument.proofs.Evaluating.{Target, Did, Evaluates, HasValue, runs, set_runs, behind_setup}
-use Rattle.instrument.proofs.ExpressionTypes.{HasInt, integer_int}
+use Rattle.instrument.proofs.Evaluating.{Target, Did, runs, set_runs, behind_setup}
+use Rattle.instrument.proofs.ExpressionTypes.{integer_int}
 use Rattle.instrument.proofs.Sight.{Ready, IsDenoted, denoted}
 use Rattle.instrument.proofs.Sight as sight
 use Rattle.instrument.proofs.Expressions.{longer, evaluates}

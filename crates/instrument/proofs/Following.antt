@@ -6,13 +6,13 @@ use Rattle.c_syntax.specs.declared.place.Place.{Place}
 use Rattle.c_syntax.specs.declared.types.CInt.{CInt}
 use Rattle.c_syntax.specs.Ctypes.{PlainType, Void, Int}
 use Rattle.c_model.specs.Integers.{fits}
-use Rattle.c_model.specs.Memory.{Value, Integer, Store}
+use Rattle.c_model.specs.Memory.{Value, Integer}
 use Rattle.c_model.specs.State.{State, Final, Fault, Undefined, Leaves, Over, Outcome, Normal, Stop, Evaluation, on_outcome}
 use Rattle.c_model.specs.State as source
 use Rattle.c_model.specs.Meaning as source_meaning
 use Rattle.c_model.specs.Reports.{Extends}
 use Rattle.c_model.proofs.Agreement.{extends_trans}
-use Rattle.mon_syntax.specs.Meaning.{Result, Done, Stops, Flow, Next, Goes, Returns, writes, then_do, at_next, choose}
+use Rattle.mon_syntax.specs.Meaning.{Done, Stops, Flow, Next, Goes, Returns, writes, then_do, at_next, choose}
 use Rattle.mon_syntax.specs.Memories.{BlockValue, Whole}
 use Rattle.mon_syntax.specs.Trees.{MonExpression, MonStatements}
 use Rattle.instrument.specs.Expressions.{before}

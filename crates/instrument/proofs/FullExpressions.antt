@@ -1,11 +1,11 @@
 -- Full expressions: arguments, calls, and what goes on with the value of an expression that may be a call.
-use Rattle.std.proofs.Common.{◌≡◌, ℕ, suc, ◌+◌, ◌<◌, ◌≤◌, ℤ, Bool, true, List, [], ◌∷◌, ◌++◌, length, map, Option, Some, None, refl, sym, ap, ◌∙◌, subst, arith}
+use Rattle.std.proofs.Common.{◌≡◌, ℕ, suc, ◌+◌, ◌≤◌, ℤ, true, List, [], ◌∷◌, ◌++◌, length, map, Option, Some, None, refl, sym, ap, ◌∙◌, subst, arith}
 use Rattle.std.proofs.lemmas.List.{append-nil, length-append}
 use Rattle.std.specs.Prelude.{slice_get, slice_set}
 use Rattle.c_syntax.specs.declared.place.Place.{Place}
 use Rattle.c_syntax.specs.declared.types.CInt.{CInt}
 use Rattle.c_syntax.specs.declared.expression.Use.{Use}
-use Rattle.c_syntax.specs.Ctypes.{PlainType, Void, Int}
+use Rattle.c_syntax.specs.Ctypes.{PlainType, Int}
 use Rattle.c_syntax.specs.Expressions.{Expression, Node, Call, Cast, Expressions, NoExpression, Following, type_of}
 use Rattle.c_syntax.specs.Programs.{TranslationUnit}
 use Rattle.c_model.specs.Integers.{fits, convert}
@@ -13,7 +13,7 @@ use Rattle.c_model.specs.Memory.{Value, Integer}
 use Rattle.c_model.specs.State.{State, Undefined, Over, Outcome, Normal, Stop, Evaluation, on_outcome, ◌>>=◌, give}
 use Rattle.c_model.specs.Meaning.{eval_with, evals_with, converted}
 use Rattle.c_model.specs.Typing.{Scopes}
-use Rattle.c_model.specs.WellTyped.{CastTypes, HaveTypes, Calls, WellTyped, AreWellTyped}
+use Rattle.c_model.specs.WellTyped.{HaveTypes, Calls, WellTyped, AreWellTyped}
 use Rattle.c_model.specs.Formed.{IsPure, ArePure, IsPureOrCall}
 use Rattle.c_model.proofs.Agreement.{extends_trans}
 use Rattle.c_model.proofs.Conversions.{fits-convert}
@@ -22,16 +22,16 @@ use Rattle.mon_syntax.specs.Meaning.{Result, Done, Stops, Flow, Next, then_do, a
 use Rattle.mon_syntax.specs.Meaning.{◌>>=◌ as bind}
 use Rattle.mon_syntax.specs.Meaning as monitored
 use Rattle.mon_syntax.specs.Memories.{BlockValue, Whole, over_blocks}
-use Rattle.mon_syntax.specs.Trees.{MonExpression, Register, MonStatements, NoStatement}
+use Rattle.mon_syntax.specs.Trees.{MonExpression, Register, MonStatements}
 use Rattle.instrument.specs.Limits.{HasLetters, ArgumentsHaveLetters, FullHasLetters}
 use Rattle.instrument.specs.Expressions.{register_type, value_type, in_type, temporaries, value, before, setup}
 use Rattle.instrument.specs.Translation.{arguments_temporaries, full_temporaries, arguments_setup, arguments, full_value, call, called, full_setup}
-use Rattle.instrument.proofs.Variables.{Slot, Setting, count, Related, Beside, Same, same_all, same_trans, same_lower, same_set, related_same, get-set_same}
+use Rattle.instrument.proofs.Variables.{Slot, Setting, count, Related, Beside, Same, same_all, same_trans, same_set, related_same, get-set_same}
 use Rattle.instrument.proofs.Values.{Has, in_type_converts}
 use Rattle.instrument.proofs.Results.{written, writes_none, written_then, before_is}
 use Rattle.instrument.proofs.Evaluating.{Target, Did, Evaluates, runs, behind_setup}
 use Rattle.instrument.proofs.Evaluating as evaluating
-use Rattle.instrument.proofs.ExpressionTypes.{HasInt, same_int_type, cast_int}
+use Rattle.instrument.proofs.ExpressionTypes.{cast_int}
 use Rattle.instrument.proofs.Sight.{AreInSight, Ready}
 use Rattle.instrument.proofs.Expressions.{longer, evaluates}
 use Rattle.instrument.proofs.Following.{Here, Later, later_same, IsResult, Follows, IsOver, IsUndefined, onward, undefined_here, follows_value}

@@ -1,5 +1,5 @@
 -- A call of a function: a step, a frame, the parameters, the body, and what the call gives.
-use Rattle.std.proofs.Common.{◌≡◌, ◌≢◌, ℕ, zero, suc, ◌+◌, ◌-◌, ◌<◌, ◌≤◌, ℤ, pos, Bool, true, false, cond, if◌then◌else◌, nat_lt, List, [], ◌∷◌, ◌++◌, length, length-append, append_assoc, map, replicate, Option, Some, None, option_map, refl, sym, ap, ◌∙◌, subst, arith}
+use Rattle.std.proofs.Common.{◌≡◌, ℕ, zero, suc, ◌+◌, ◌-◌, ◌≤◌, ℤ, pos, Bool, true, false, cond, if◌then◌else◌, nat_lt, List, [], ◌∷◌, ◌++◌, length, length-append, append_assoc, map, replicate, Some, None, refl, sym, ap, ◌∙◌, subst, arith}
 use Rattle.std.proofs.lemmas.List.{append-nil, length-replicate, length-map}
 use Rattle.std.specs.Prelude.{slice_get}
 use Rattle.c_syntax.specs.declared.place.Place.{Place}
@@ -8,27 +8,25 @@ use Rattle.c_syntax.specs.declared.types.Segment.TheVariants as segment
 use Rattle.c_syntax.specs.Ctypes.{PlainType, Void, Int}
 use Rattle.c_syntax.specs.Statements.{Declaration}
 use Rattle.c_syntax.specs.Programs.{Function, TranslationUnit}
-use Rattle.c_model.specs.Memory.{Value, Integer, NoValue, Store}
-use Rattle.c_model.specs.State.{State, Mark, Spent, Full, Undefined, Leaves, Over, Outcome, Normal, Stop, Evaluation, on_outcome, ◌>>◌, step_from, step, frame, alone, mark, within, restored, back_to}
-use Rattle.c_model.specs.State as source
+use Rattle.c_model.specs.Memory.{Value, Store}
+use Rattle.c_model.specs.State.{State, Mark, Spent, Full, Over, Outcome, Normal, Stop, Evaluation, on_outcome, ◌>>◌, step_from, frame, alone, mark, within, restored, back_to}
 use Rattle.c_model.specs.Meaning.{Callee, parameters, body_with, returned_by, at_close, call_with}
-use Rattle.c_model.specs.Reports.{Extends}
 use Rattle.c_model.specs.Formed.{number_of}
 use Rattle.c_model.proofs.Agreement.{extends_trans}
 use Rattle.mon_syntax.specs.Meaning.{Result, Done, Stops, Next, Goes, Returns, then_do, at_next, at_return, body_runs, left_frame, registers, writes, replied}
 use Rattle.mon_syntax.specs.Meaning as monitored
 use Rattle.mon_syntax.specs.Memory.{Gives, IsFull}
-use Rattle.mon_syntax.specs.Memories.{BlockValue, Whole, Blocks, over_blocks, most_frames}
+use Rattle.mon_syntax.specs.Memories.{BlockValue, Whole, over_blocks, most_frames}
 use Rattle.mon_syntax.specs.Trees.{MonFunction, MonStatements}
 use Rattle.mon_syntax.proofs.FlatBlocks.{live_in}
 use Rattle.instrument.specs.Expressions.{register_of}
 use Rattle.instrument.specs.Translation as target
 use Rattle.instrument.specs.Translation.{alive, deaths, with_born, body_part, function_of, variable_numbers, variable_types}
 use Rattle.instrument.proofs.Lives.{length-killed}
-use Rattle.instrument.proofs.Variables.{Slot, Setting, count, value_at, scope_of, Stacked, Related, Beside, get-end}
-use Rattle.instrument.proofs.Results.{written, writes_none, written_then, written_writes}
+use Rattle.instrument.proofs.Variables.{Slot, Setting, Stacked, Related, Beside, get-end}
+use Rattle.instrument.proofs.Results.{written, writes_none, written_then}
 use Rattle.instrument.proofs.Evaluating.{Target, Did, runs}
-use Rattle.instrument.proofs.Following.{Here, Later, IsResult, Follows, GoesOn, Breaks, Continues, IsLeft, IsOver, IsUndefined}
+use Rattle.instrument.proofs.Following.{Here, Later, Follows, GoesOn, Breaks, Continues, IsLeft, IsOver, IsUndefined}
 use Rattle.instrument.proofs.Births.{int_of, slots_born, registers_of, AllCanBeBorn, Dead, deaths_run, AllFrom, born_are_new, related_behind}
 use Rattle.instrument.proofs.Blocks.{with_born-slots, alive_runs}
 use Rattle.instrument.proofs.Parameters.{Bound, AllSet, BearsAll, AllBorn, OneIsFull, parameters_follow}

@@ -28,3 +28,4 @@ pub mod Library
 pub mod Programs
 pub mod Bodies
 pub mod Callees
+pub mod Runs

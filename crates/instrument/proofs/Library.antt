@@ -1,5 +1,5 @@
 -- Calls of the library: putchar, getchar and exit.
-use Rattle.std.proofs.Common.{◌≡◌, ℕ, zero, suc, ◌%◌, ◌<◌, ◌≤◌, ℤ, pos, negsuc, Bool, true, false, if◌then◌else◌, List, [], ◌∷◌, ◌++◌, length, Option, Some, None, refl, sym, ap, ◌∙◌, subst, arith}
+use Rattle.std.proofs.Common.{◌≡◌, ℕ, zero, suc, ◌%◌, ◌<◌, ◌≤◌, ℤ, pos, negsuc, Bool, true, false, if◌then◌else◌, List, [], ◌∷◌, ◌++◌, Option, Some, None, refl, sym, ap, ◌∙◌, subst, arith}
 use Rattle.std.proofs.lemmas.List.{append-nil}
 use Rattle.std.proofs.lemmas.Bool.{lt-ltb}
 use Rattle.std.specs.Prelude.{slice_get, bytes_eq, codes}
@@ -11,10 +11,10 @@ use Rattle.c_syntax.specs.Ctypes.{PlainType, Void, int_type}
 use Rattle.c_syntax.specs.Programs.{TranslationUnit}
 use Rattle.c_model.specs.Integers.{fits, byte_of}
 use Rattle.c_model.specs.Memory.{Value, Integer}
-use Rattle.c_model.specs.State.{State, Input, InputTail, EndOfInput, InputFault, Spent, Exits, ReadFault, Undefined, Over, Outcome, Normal, Stop, Evaluation, stop, read_byte}
+use Rattle.c_model.specs.State.{State, Input, InputTail, EndOfInput, InputFault, Spent, Exits, ReadFault, Undefined, Over, Normal, Stop, Evaluation, stop, read_byte}
 use Rattle.c_model.specs.Meaning.{put_char, get_char, exit_with, library_call, definition_at, call_with, is_of_library, call_of}
 use Rattle.c_model.specs.Typing.{name_at}
-use Rattle.mon_syntax.specs.Meaning.{Result, Done, Stops, Next, then_do, given_to, got, with_read, with_value, eval, eval_all, eval_number}
+use Rattle.mon_syntax.specs.Meaning.{Result, Done, Stops, Next, then_do, given_to, got, with_read, with_value, eval, eval_all}
 use Rattle.mon_syntax.specs.Meaning.{◌>>=◌ as bind}
 use Rattle.mon_syntax.specs.Memories.{BlockValue, Whole, integer_of, over_blocks}
 use Rattle.mon_syntax.specs.Trees.{MonExpression, PutChar, GetChar, Exit, Call, MonStatements, NoStatement}
@@ -24,7 +24,7 @@ use Rattle.instrument.specs.Translation.{index_of, call}
 use Rattle.instrument.proofs.Variables.{Setting}
 use Rattle.instrument.proofs.Values.{Has}
 use Rattle.instrument.proofs.Results.{one_is}
-use Rattle.instrument.proofs.Evaluating.{Target, Did, runs}
+use Rattle.instrument.proofs.Evaluating.{Target, runs}
 use Rattle.instrument.proofs.Calls.{Even, CameBack, Called, Gives, EndsRun, AllFit, integers, wholes, takes, CallDoes, DoesCall, CallsNothing}
 
 -- ---- bytes as values of `int`

@@ -1,19 +1,19 @@
 -- Declarations of a function have numbers of their own, so that each variable has its register, and none hides another.
-use Rattle.std.proofs.Common.{◌≡◌, ℕ, zero, suc, ◌<◌, ◌≤◌, Bool, true, false, cond, nat_eq, List, [], ◌∷◌, ◌++◌, length, length-append, map, Some, refl, sym, ap, ◌∙◌, subst, arith, append_assoc}
-use Rattle.std.proofs.lemmas.List.{map-append, append-nil}
+use Rattle.std.proofs.Common.{◌≡◌, ℕ, suc, ◌<◌, ◌≤◌, true, false, cond, nat_eq, List, [], ◌∷◌, ◌++◌, length, length-append, map, Some, refl, ap, ◌∙◌, subst, arith, append_assoc}
+use Rattle.std.proofs.lemmas.List.{map-append}
 use Rattle.std.proofs.lemmas.Bool.{eq-eqb}
 use Rattle.std.proofs.lemmas.Bool.Decides.{nat_tests}
 use Rattle.std.specs.Prelude.{slice_get}
 use Rattle.c_syntax.specs.Ctypes.{PlainType, Void, Int}
-use Rattle.c_syntax.specs.Statements.{Declaration, Statement, Empty, Eval, Block, If, While, Do, For, Break, Continue, Return, ElsePart, NoElse, Else, ForFirst, NoFirst, First, BlockItem, Declare, Run, Asserts, BlockItems, NoItem, Then}
+use Rattle.c_syntax.specs.Statements.{Declaration, Statement, Empty, Eval, Block, If, While, Do, For, Break, Continue, Return, ElsePart, NoElse, Else, ForFirst, NoFirst, First, Declare, Run, Asserts, BlockItems, NoItem, Then}
 use Rattle.c_model.specs.Meaning.{declared_in, declared_first}
-use Rattle.c_model.specs.Formed.{number_of, Ascend, declared_within, declared_in_else, declared_in_first, declared_in_item, declared_in_items}
+use Rattle.c_model.specs.Formed.{number_of, Ascend, declared_within, declared_in_else, declared_in_first, declared_in_items}
 use Rattle.c_model.specs.Typing.{Scopes, Around, in_loop, inner, with_object, with_objects, is_object_type, behind_first}
 use Rattle.c_model.specs.ProgramTyping.{with_parameter}
-use Rattle.c_model.specs.WellTypedPrograms.{IsDeclared, AreDeclared, AreParameters, StatementTyped, ElseTyped, ItemTyped, ItemsTyped, FirstTyped}
+use Rattle.c_model.specs.WellTypedPrograms.{AreDeclared, AreParameters, StatementTyped, ElseTyped, ItemsTyped, FirstTyped}
 use Rattle.instrument.specs.Expressions.{register_of}
-use Rattle.instrument.proofs.Births.{int_of, Absent, CanBeBorn, AllCanBeBorn}
-use Rattle.instrument.proofs.Declared.{with_numbers, CanDeclare, ElseCanDeclare, ItemCanDeclare, ItemsCanDeclare}
+use Rattle.instrument.proofs.Births.{int_of, Absent, AllCanBeBorn}
+use Rattle.instrument.proofs.Declared.{with_numbers, CanDeclare, ElseCanDeclare, ItemsCanDeclare}
 use Rattle.instrument.proofs.Functions.{InOrder}
 
 abbrev pub numbers_in : List Declaration → List ℕ

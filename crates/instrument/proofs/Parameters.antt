@@ -1,16 +1,15 @@
 -- Parameters are born in order, each with its argument, whose value is in its register from the beginning of the call on.
-use Rattle.std.proofs.Common.{◌≡◌, ◌≢◌, ℕ, zero, suc, ◌+◌, ◌<◌, ◌≤◌, ℤ, Bool, true, false, cond, nat_eq, List, [], ◌∷◌, ◌++◌, length, length-set, length-append, Option, Some, None, refl, sym, ap, ◌∙◌, subst, arith}
+use Rattle.std.proofs.Common.{◌≡◌, ℕ, zero, suc, ◌+◌, ◌<◌, ◌≤◌, ℤ, true, cond, List, [], ◌∷◌, length, length-set, length-append, Option, Some, None, refl, sym, ap, ◌∙◌, subst, arith}
 use Rattle.std.proofs.lemmas.List.{append-nil}
 use Rattle.std.proofs.lemmas.Bool.{eq-eqb}
 use Rattle.std.specs.Prelude.{slice_get, slice_set}
 use Rattle.c_syntax.specs.declared.place.Place.{Place}
 use Rattle.c_syntax.specs.declared.types.BlockKind.TheVariants.{Stack}
 use Rattle.c_syntax.specs.declared.types.Segment.{Segment}
-use Rattle.c_syntax.specs.Ctypes.{Int}
 use Rattle.c_syntax.specs.Statements.{Declaration}
 use Rattle.c_model.specs.Integers.{size_of, fits}
 use Rattle.c_model.specs.Memory.{Value, Integer, Into, Store, new_block, full_at_stack_birth, standard_sizes}
-use Rattle.c_model.specs.State.{State, Full, Over, Outcome, Normal, Stop, on_outcome, birth, birth_of, write, write_youngest}
+use Rattle.c_model.specs.State.{State, Full, Over, Normal, Stop, on_outcome, birth, birth_of, write, write_youngest}
 use Rattle.c_model.specs.Meaning.{parameters}
 use Rattle.c_model.specs.Formed.{number_of}
 use Rattle.c_model.proofs.Blocks.{slice_get-slice_set_other}
@@ -18,7 +17,7 @@ use Rattle.mon_syntax.specs.Meaning.{Done, Stops, Next, then_do, at_next, writes
 use Rattle.mon_syntax.specs.Meaning as monitored
 use Rattle.mon_syntax.specs.Memories.{BlockValue, Whole, over_blocks}
 use Rattle.instrument.specs.Translation as target
-use Rattle.instrument.proofs.Variables.{Slot, Setting, count, value_at, pointer_at, slot_of, Related, Beside, IsSet, AllKept, store_with, state_with, write_is, related_set, kept_set, beside_set, get-below, load_cell, get-set_same}
+use Rattle.instrument.proofs.Variables.{Slot, Setting, count, value_at, pointer_at, slot_of, Related, Beside, IsSet, AllKept, state_with, write_is, related_set, kept_set, beside_set, get-below, load_cell, get-set_same}
 use Rattle.instrument.proofs.Evaluating.{Target, runs}
 use Rattle.instrument.proofs.Following.{Later, later_same, later_trans}
 use Rattle.instrument.proofs.Calls.{integers}

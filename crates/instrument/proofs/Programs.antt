@@ -1,25 +1,18 @@
 -- The functions of a program: what is known of each definition, and what a call calls.
-use Rattle.std.proofs.Common.{◌≡◌, ℕ, zero, suc, ◌+◌, ◌<◌, ◌≤◌, Bool, true, false, not, cond, ◌&&◌, ◌||◌, if◌then◌else◌, nat_eq, List, [], ◌∷◌, ◌++◌, length, map, Option, Some, None, refl, sym, ap, ◌∙◌, subst, arith, append_assoc}
-use Rattle.std.proofs.lemmas.List.{append-nil}
+use Rattle.std.proofs.Common.{◌≡◌, ℕ, suc, ◌+◌, ◌≤◌, Bool, true, false, not, cond, ◌&&◌, if◌then◌else◌, nat_eq, List, [], ◌∷◌, ◌++◌, map, Option, Some, None, refl, sym, ap, ◌∙◌, subst, arith, append_assoc}
 use Rattle.std.proofs.lemmas.Bool.Decides.{nat_tests}
-use Rattle.std.proofs.lemmas.Slice.Eq.{bytes_eq-Decides}
 use Rattle.std.specs.Prelude.{slice_get, bytes_eq, codes}
-use Rattle.c_syntax.specs.declared.place.Place.{Place}
 use Rattle.c_syntax.specs.declared.types.CInt.{CInt}
 use Rattle.c_syntax.specs.declared.types.CInt.TheVariants.{I8, U8, I16, U16, I32, U32, I64, U64}
-use Rattle.c_syntax.specs.Ctypes.{PlainType, Void, Int, int_type}
-use Rattle.c_syntax.specs.Statements.{Declaration, Statement, Block, BlockItems}
+use Rattle.c_syntax.specs.Ctypes.{PlainType, Void, Int}
 use Rattle.c_syntax.specs.Programs.{Function, TranslationUnit}
 use Rattle.c_model.specs.Meaning.{is_definition, definition_at}
-use Rattle.c_model.specs.Library.{is_there, is_library_name, is_one_of, library_constant, other_names}
 use Rattle.c_model.specs.Typing.{Signature, name_at, function_called, same_int, same_type}
-use Rattle.c_model.specs.ProgramTyping.{definition_of, first_of, number_or, offset_of, signature, types_of, same_types, same_signature, is_compatible, is_compatible_with_all, function_scopes}
+use Rattle.c_model.specs.ProgramTyping.{definition_of, first_of, signature, types_of, same_types, same_signature, is_compatible, is_compatible_with_all, function_scopes}
 use Rattle.c_model.specs.WellTypedPrograms.{FunctionTyped, FunctionsTyped}
-use Rattle.c_model.specs.Formed.{Ascend, numbers_of, numbers_of_all, FunctionFormed, FunctionsFormed, FunctionNamed, FunctionsNamed, most_typed, IsProgram}
-use Rattle.mon_syntax.specs.Trees.{MonFunction}
+use Rattle.c_model.specs.Formed.{Ascend, numbers_of, numbers_of_all, FunctionFormed, FunctionsFormed, FunctionNamed, FunctionsNamed, most_typed}
 use Rattle.instrument.specs.Limits.{FunctionHasNumbers, FunctionsHaveNumbers}
 use Rattle.instrument.specs.Translation.{function_of, functions_from, index_of, index_of_main}
-use Rattle.instrument.proofs.Numbers.{Between, bounded, parted, IsParted, in_bounds}
 
 -- ---- types
 

@@ -1,40 +1,40 @@
 -- Statements: the target does what the source does.
-use Rattle.std.proofs.Common.{◌≡◌, ℕ, zero, suc, ◌+◌, ◌≤◌, ℤ, Bool, true, false, List, [], ◌∷◌, ◌++◌, length, map, Option, Some, None, option_map, refl, sym, ap, ◌∙◌, subst, arith}
+use Rattle.std.proofs.Common.{◌≡◌, ℕ, suc, ◌+◌, ◌≤◌, ℤ, true, List, [], ◌∷◌, ◌++◌, length, Option, Some, None, option_map, refl, sym, ap, ◌∙◌, subst, arith}
 use Rattle.std.proofs.lemmas.List.{append-nil, length-append}
 use Rattle.c_syntax.specs.declared.place.Place.{Place}
 use Rattle.c_syntax.specs.declared.expression.Use.{Use}
 use Rattle.c_syntax.specs.Ctypes.{PlainType}
 use Rattle.c_syntax.specs.Annotations.{Annotation}
 use Rattle.c_syntax.specs.Expressions.{Expression, Expressions, Node, Call, type_of}
-use Rattle.c_syntax.specs.Statements.{Initialiser, One, Declaration, Statement, Empty, Eval, Block, If, While, Do, For, Break, Continue, Return, ElsePart, NoElse, Else, ForFirst, NoFirst, First, BlockItem, Declare, Run, Asserts, BlockItems, NoItem, Then}
+use Rattle.c_syntax.specs.Statements.{Initialiser, One, Declaration, Statement, Empty, Eval, Block, If, While, Do, For, Break, Continue, Return, ElsePart, NoElse, Else, ForFirst, NoFirst, First, Declare, Run, Asserts, BlockItems, NoItem, Then}
 use Rattle.c_syntax.specs.Programs.{TranslationUnit}
-use Rattle.c_model.specs.Memory.{Value, Integer}
+use Rattle.c_model.specs.Memory.{Integer}
 use Rattle.c_model.specs.State.{State, Leaves, Returns, Outcome, Normal, Stop, Evaluation, on_outcome, ◌>>◌, stop, births, within, restored}
 use Rattle.c_model.specs.State as state
 use Rattle.c_model.specs.Meaning.{eval_with, exec_with, else_with, first_with, item_with, items_with, condition_with, effect_with, initialise_all, declared_in, declared_first, turns}
 use Rattle.c_model.specs.Meaning as source
 use Rattle.c_model.specs.Typing.{Scopes, Signature, Around, in_loop, inner, with_object, with_objects, behind_first}
 use Rattle.c_model.specs.WellTyped.{Calls, WellTyped}
-use Rattle.c_model.specs.WellTypedPrograms.{IsCondition, WhereAny, Initialises, AreDeclared, Returned, StatementTyped, ElseTyped, FirstTyped, ItemTyped, ItemsTyped, StatementNoted, ElseNoted, ItemNoted, ItemsNoted}
-use Rattle.c_model.specs.Formed.{number_of, IsEffect, IsEffectOrCall, IsFull, IsFullOrCall, IsFullEffect, IsInitialiser, AreInitialised, FirstFormed, StatementFormed, ElseFormed, ItemFormed, ItemsFormed}
+use Rattle.c_model.specs.WellTypedPrograms.{IsCondition, WhereAny, Initialises, AreDeclared, Returned, StatementTyped, ElseTyped, FirstTyped, ItemsTyped, StatementNoted, ElseNoted, ItemsNoted}
+use Rattle.c_model.specs.Formed.{number_of, IsEffect, IsEffectOrCall, IsFull, IsFullOrCall, IsFullEffect, IsInitialiser, AreInitialised, FirstFormed, StatementFormed, ElseFormed, ItemsFormed}
 use Rattle.mon_syntax.specs.declared.tree.MonType.{MonType}
 use Rattle.mon_syntax.specs.Meaning.{Flow, Next, Goes, Done, then_do, at_next, with_value}
 use Rattle.mon_syntax.specs.Meaning as monitored
 use Rattle.mon_syntax.specs.Memories.{BlockValue, Whole, over_blocks}
 use Rattle.mon_syntax.specs.Trees.{MonStatements, NoStatement}
 use Rattle.mon_syntax.specs.Trees as tree
-use Rattle.instrument.specs.Limits.{Any, HasLetters, FullHasLetters, EffectHasLetters, InitialHasLetters, InitialsHaveLetters, HasNumbers, ElseHasNumbers, FirstHasNumbers, ItemHasNumbers, HaveNumbers}
+use Rattle.instrument.specs.Limits.{Any, HasLetters, FullHasLetters, EffectHasLetters, InitialHasLetters, InitialsHaveLetters, HasNumbers, ElseHasNumbers, FirstHasNumbers, HaveNumbers}
 use Rattle.instrument.specs.Expressions.{value, temporaries, setup, condition_of, before, one}
 use Rattle.instrument.specs.Translation.{Spot, full_temporaries, full_setup, full_value, effect_temporaries, any_temporaries, initial_temporaries, declaration_temporaries, statement_temporaries, else_temporaries, first_temporaries, item_temporaries, items_temporaries, deaths, with_born, with_variables, test, test_if_any, loop, effect_if_any, statement, else_part, first_part, item, items, end_label, next_label}
 use Rattle.instrument.specs.Translation as target
 use Rattle.instrument.proofs.Variables.{Slot, Setting, count, Related, Beside, IsSet, AllMatch, kept_refl, related_same}
 use Rattle.instrument.proofs.Results.{writes_none, one_is, before_is}
-use Rattle.instrument.proofs.Evaluating.{Target, Did, runs, if_runs, behind_setup}
+use Rattle.instrument.proofs.Evaluating.{Target, runs, if_runs}
 use Rattle.instrument.proofs.ExpressionTypes.{HasInt, scalar_int, integer_int}
-use Rattle.instrument.proofs.Sight.{AreInSight, Ready, ready_later, Meets, meets_later}
+use Rattle.instrument.proofs.Sight.{AreInSight, ready_later, Meets, meets_later}
 use Rattle.instrument.proofs.Expressions.{longer, evaluates, test_is}
 use Rattle.instrument.proofs.Sequences.{before_assoc}
-use Rattle.instrument.proofs.Following.{Here, Later, later_same, IsResult, Follows, GoesOn, Breaks, Continues, IsLeft, stays, follows_value, follows_choice, follows_then, onward}
+use Rattle.instrument.proofs.Following.{Here, Later, later_same, IsResult, Follows, Breaks, Continues, IsLeft, stays, follows_value, follows_choice, follows_then}
 use Rattle.instrument.proofs.Births.{slots_born, decls_of, registers_of, AllCanBeBorn, Dead, deaths_run}
 use Rattle.instrument.proofs.Blocks.{behind_births, block_follows, with_born-slots}
 use Rattle.instrument.proofs.Calls.{IsCalled}
@@ -42,7 +42,7 @@ use Rattle.instrument.proofs.FullExpressions.{handed_on, Scene, follows_full}
 use Rattle.instrument.proofs.Effects.{effect_follows, initial_follows}
 use Rattle.instrument.proofs.Asserts.{assertions_follow}
 use Rattle.instrument.proofs.Loops.{Tests, tests, no_test, turns_follow, do_turns_follow, loop_follows, in_body, in_turn}
-use Rattle.instrument.proofs.Declared.{CanDeclare, ElseCanDeclare, ItemCanDeclare, ItemsCanDeclare, with_numbers, decls_of-born, registers_of-append, slots_born-append, sight_behind, ready_behind, HasSlot, HaveSlots, born_have_slots, have_front, have_behind, sight_declared, ready_declared}
+use Rattle.instrument.proofs.Declared.{CanDeclare, ElseCanDeclare, ItemsCanDeclare, decls_of-born, registers_of-append, slots_born-append, sight_behind, ready_behind, HasSlot, HaveSlots, born_have_slots, have_front, have_behind, sight_declared, ready_declared}
 
 pub effect_or_call : (e : Expression) → IsEffect e → IsEffectOrCall e
 effect_or_call (Node at t (Call f es)) h = absurd h

@@ -21,7 +21,7 @@ use Rattle.c_model.specs.Logic.{Mathematical, Says, lazily, both, compute, read_
 use Rattle.c_model.specs.Typing.{Scopes}
 use Rattle.c_model.specs.WellTypedPrograms.{TermDenotes, TermTyped, ClauseTyped}
 use Rattle.c_model.specs.Formed.{IsLogicNumber, IsSumTerm, leaves_of_term, IsRelation}
-use Rattle.std.specs.Prelude.{suc, slice_get}
+use Rattle.std.specs.Prelude.{suc}
 use Rattle.mon_syntax.specs.declared.tree.MonType.TheVariants.{I128}
 use Rattle.mon_syntax.specs.Arithmetic.{wrap, operate}
 use Rattle.mon_syntax.specs.Meaning.{number_or_none}
@@ -30,7 +30,7 @@ use Rattle.mon_syntax.specs.Memories.{BlockValue, Whole, integer_of, over_blocks
 use Rattle.mon_syntax.proofs.Wrapping.{wrap-fitting}
 use Rattle.instrument.specs.Limits.{IsLetter, TermHasLetters, BodyHasLetters}
 use Rattle.instrument.specs.Expressions.{term, relation_operator, operator_of, truth_of_body}
-use Rattle.instrument.proofs.Variables.{Slot, Setting, slot_of, find-slot, Related}
+use Rattle.instrument.proofs.Variables.{Slot, Setting, find-slot, Related}
 use Rattle.instrument.proofs.Sight.{AreInSight, Ready, denoted, has_value}
 use Rattle.instrument.proofs.Values.{Has, operation}
 

@@ -1,5 +1,5 @@
 -- Variables in their blocks and in their registers, and the temporary registers behind them.
-use Rattle.std.proofs.Common.{◌≡◌, ◌≢◌, ℕ, zero, suc, ◌+◌, ◌<◌, ◌≤◌, ℤ, Bool, true, false, cond, nat_eq, List, [], ◌∷◌, ◌++◌, length, length-set, map, Option, Some, None, option_map, refl, sym, ap, ◌∙◌, subst, arith}
+use Rattle.std.proofs.Common.{◌≡◌, ◌≢◌, ℕ, zero, suc, ◌+◌, ◌<◌, ◌≤◌, ℤ, Bool, true, false, cond, nat_eq, List, [], ◌∷◌, ◌++◌, length, length-set, Option, Some, None, refl, sym, ap, ◌∙◌, subst, arith}
 use Rattle.std.proofs.lemmas.List.{take_all}
 use Rattle.std.proofs.lemmas.Bool.Decides.{nat_tests}
 use Rattle.std.specs.Prelude.{slice_get, slice_set, take}
@@ -7,9 +7,9 @@ use Rattle.c_syntax.specs.declared.place.Place.{Place}
 use Rattle.c_syntax.specs.declared.types.CInt.{CInt}
 use Rattle.c_syntax.specs.declared.types.CInt.TheVariants.{I8, U8, I16, U16, I32, U32, I64, U64}
 use Rattle.c_syntax.specs.declared.types.BlockKind.TheVariants.{Stack}
-use Rattle.c_syntax.specs.Ctypes.{PlainType, Int}
+use Rattle.c_syntax.specs.Ctypes.{Int}
 use Rattle.c_model.specs.Integers.{int_size, bits_of, fits}
-use Rattle.c_model.specs.Memory.{Integer, Pointer, Into, Block, Store, new_block, bytes_of, value_from, load, load_block, save, saved_block, with_block}
+use Rattle.c_model.specs.Memory.{Integer, Into, Block, Store, new_block, bytes_of, value_from, load, load_block, saved_block, with_block}
 use Rattle.c_model.specs.State.{State, Scope, Normal, on_outcome, defined, object, read, write, put_store, start_of, find}
 use Rattle.c_model.specs.Meaning.{Callee}
 use Rattle.c_model.proofs.Cells.{value_from-bytes_from, length-bytes_of}
