@@ -189,7 +189,8 @@ module _ (L F : Memory) (S : Follows L F) where
   kept_eval_number e w xs ys k =
       kept_bind (S.Same w) (λ i j. i ≡ j) (eval L e xs) (eval F e ys) L.number_of F.number_of (kept_eval e w xs ys k) (λ x y kx. S.number_of w x y kx)
 
-  kept_eval_all : (es : List MonExpression) (w : S.World) (xs : List L.Val) (ys : List F.Val) → Registers w xs ys → Kept (Registers w) (eval_all L es xs) (eval_all F es ys)
+  kept_eval_all : (es : List MonExpression) (w : S.World) (xs : List L.Val) (ys : List F.Val) → Registers w xs ys
+      → Kept (Registers w) (eval_all L es xs) (eval_all F es ys)
   kept_eval_all [] w xs ys k = tt
   kept_eval_all (e ∷ es) w xs ys k =
       kept_bind (S.Same w) (Registers w) (eval L e xs) (eval F e ys) _ _ (kept_eval e w xs ys k) (λ x y kx.
@@ -265,18 +266,24 @@ module _ (L F : Memory) (S : Follows L F) where
       at zero = refl
       at (suc z) = h z
 
-  read_alike : {A B : Type 0} (w : S.World) (Q : S.World → A → B → Type 0) (i j : Input) (m n : ℕ) (f : ℤ → Input → Result (State L.Mem) A) (g : ℤ → Input → Result (State F.Mem) B) → i ≡ j → m ≡ n → ((z : ℤ) (r : Input) → Related w Q (f z r) (g z r)) → Related w Q (with_read (got i.bytes i.tail) m f) (with_read (got j.bytes j.tail) n g)
-  read_alike w Q i j m n f g e d h = subst (λ k. Related w Q (with_read (got i.bytes i.tail) m f) (with_read (got k.bytes k.tail) n g)) e (by (got i.bytes i.tail))
+  read_alike : {A B : Type 0} (w : S.World) (Q : S.World → A → B → Type 0) (i j : Input) (m n : ℕ) (f : ℤ → Input → Result (State L.Mem) A) (g : ℤ → Input → Result (State F.Mem) B)
+      → i ≡ j → m ≡ n → ((z : ℤ) (r : Input) → Related w Q (f z r) (g z r))
+      → Related w Q (with_read (got i.bytes i.tail) m f) (with_read (got j.bytes j.tail) n g)
+  read_alike w Q i j m n f g e d h =
+      subst (λ k. Related w Q (with_read (got i.bytes i.tail) m f) (with_read (got k.bytes k.tail) n g)) e (by (got i.bytes i.tail))
     where
       by : (o : Option (ℤ × Input)) → Related w Q (with_read o m f) (with_read o n g)
       by None = ap (λ k. Stops ReadFault k []) (sym d)
       by (Some (z, r)) = h z r
 
   -- the value of a call goes to a register, in the world behind the call
-  value_alike : (x : Option ℕ) (w : S.World) (xs : List L.Val) (ys : List F.Val) (r : Result (State L.Mem) L.Val) (q : Result (State F.Mem) F.Val) → Registers w xs ys → Related w S.Same r q → Related w SameFlow (then_do r (λ v s. Done (Next (given_to x v xs)) s [])) (then_do q (λ v s. Done (Next (given_to x v ys)) s []))
+  value_alike : (x : Option ℕ) (w : S.World) (xs : List L.Val) (ys : List F.Val) (r : Result (State L.Mem) L.Val) (q : Result (State F.Mem) F.Val)
+      → Registers w xs ys → Related w S.Same r q
+      → Related w SameFlow (then_do r (λ v s. Done (Next (given_to x v xs)) s [])) (then_do q (λ v s. Done (Next (given_to x v ys)) s []))
   value_alike x w xs ys r q k h =
       related_then w S.Same SameFlow r q _ _ h (λ u v z s t le e same.
-      related_done u SameFlow (Next (given_to x v xs)) (Next (given_to x z ys)) s t [] e (kept_given (S.Same u) x xs ys v z (registers_later w u xs ys le k) same))
+      related_done u SameFlow (Next (given_to x v xs)) (Next (given_to x z ys)) s t [] e
+      (kept_given (S.Same u) x xs ys v z (registers_later w u xs ys le k) same))
 
   turns_alike : (n : ℕ) (f g : Does L) (f' g' : Does F) → DoAlike f f' → DoAlike g g' → DoAlike (turns L n f g) (turns F n f' g')
   turns_alike zero f g f' g' hf hg w xs ys s t k e =
@@ -311,7 +318,8 @@ module _ (L F : Memory) (S : Follows L F) where
         (w, S.later_refl w, l, kept_given (S.Same w) r xs ys _ _ k (subst (λ z. S.Same w (L.number (pos (byte_of i))) (F.number (pos (byte_of z)))) q (S.number w (pos (byte_of i)))), ap (λ z. byte_of z ∷ []) (sym q)))
     exec_alike (GetChar x) c d n h w xs ys s t k l =
         read_alike w SameFlow s.input t.input s.steps t.steps _ _ l.2 l.1 (λ z r.
-        related_done w SameFlow (Next (given_to x (L.number z) xs)) (Next (given_to x (F.number z) ys)) (record s { input = r }) (record t { input = r }) [] (l.0, l.1, refl) (kept_given (S.Same w) x xs ys _ _ k (S.number w z)))
+        related_done w SameFlow (Next (given_to x (L.number z) xs)) (Next (given_to x (F.number z) ys)) (record s { input = r }) (record t { input = r }) []
+        (l.0, l.1, refl) (kept_given (S.Same w) x xs ys _ _ k (S.number w z)))
     exec_alike (Exit e) c d n h w xs ys s t k l =
         related_value w (λ i j. i ≡ j) SameFlow _ _ s.steps t.steps _ _ (kept_eval_number e w xs ys k) (λ i j q.
         ap (λ z. Stops (Exits z) t.steps []) (sym q) ∙ ap (λ z. Stops (Exits i) z []) (sym l.1))
@@ -324,7 +332,8 @@ module _ (L F : Memory) (S : Follows L F) where
         related_value w (Registers w) SameFlow _ _ s.steps t.steps _ _ (kept_eval_all args w xs ys k) (λ us vs q.
         value_alike x w xs ys _ _ k (replied_alike w _ _ s t l (S.act w f us vs s.mem t.mem q l.0)))
     exec_alike (Call x f args) c d n h w xs ys s t k l =
-        related_value w (Registers w) SameFlow _ _ s.steps t.steps _ _ (kept_eval_all args w xs ys k) (λ us vs q. value_alike x w xs ys _ _ k (h f w us vs s t q l))
+        related_value w (Registers w) SameFlow _ _ s.steps t.steps _ _ (kept_eval_all args w xs ys k)
+        (λ us vs q. value_alike x w xs ys _ _ k (h f w us vs s t q l))
     exec_alike (If e a b) c d n h w xs ys s t k l =
         related_value w (λ i j. i ≡ j) SameFlow _ _ s.steps t.steps _ _ (kept_eval_number e w xs ys k) (λ i j r.
         choose_alike w SameFlow i j _ _ _ _ r (exec_all_alike a c d n h w xs ys s t k l) (exec_all_alike b c d n h w xs ys s t k l))

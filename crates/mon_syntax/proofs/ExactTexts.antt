@@ -46,7 +46,8 @@ module _ (ws : Vocabulary) where
   pub function_good : IsRead ws (function ws) false first_function []
   unfolding function
   function_good =
-      seq result_good (λ r. seq (named_good ws) (λ f. seq (fixed_good ws (mark_kind left_paren)) (λ _. seq parameters_good (λ ps. seq (fixed_good ws (mark_kind right_paren)) (λ _.
+      seq result_good
+      (λ r. seq (named_good ws) (λ f. seq (fixed_good ws (mark_kind left_paren)) (λ _. seq parameters_good (λ ps. seq (fixed_good ws (mark_kind right_paren)) (λ _.
       function_body_good r f ps) refl) refl) refl) refl) refl
 
   pub one_more_function_good : (fs : List ParsedFunction) → IsRead ws (one_more_function ws fs) false first_function []

@@ -1,12 +1,12 @@
 -- Flat memory stands for numbered blocks, so that what agrees with a run over blocks is translated.
-use Rattle.std.proofs.Common.{◌≡◌, ℕ, zero, suc, ◌+◌, ◌-◌, ℤ, pos, negsuc, Bool, true, false, ◌&&◌, nat_lt, nat_le, nat_eq, if◌then◌else◌, List, [], ◌∷◌, ◌++◌, length, length-append, append_assoc, Option, Some, None, slice_get, slice_set, refl, sym, ap, ◌∙◌, subst, arith}
+use Rattle.std.proofs.Common.{◌≡◌, ℕ, zero, suc, ◌+◌, ◌-◌, ℤ, pos, negsuc, Bool, true, false, nat_lt, nat_le, if◌then◌else◌, List, [], ◌∷◌, ◌++◌, length, length-append, append_assoc, Option, Some, None, slice_get, slice_set, refl, sym, ap, ◌∙◌, subst, arith}
 use Rattle.std.proofs.lemmas.List.{append-nil}
 use Rattle.std.proofs.lemmas.Bool.{eq-eqb}
 use Rattle.c_syntax.specs.declared.types.BlockKind.TheVariants.{Stack}
 use Rattle.c_syntax.specs.declared.types.Segment.{Segment}
 use Rattle.c_syntax.specs.declared.types.Segment.TheVariants as segment
 use Rattle.c_syntax.specs.Programs.{TranslationUnit}
-use Rattle.c_model.specs.Memory.{Pointer, Null, Into, Store, Block, new_block, rounded, stack_taken, standard_sizes, greatest_number, full_at_stack_birth}
+use Rattle.c_model.specs.Memory.{Null, Into, Store, Block, new_block, rounded, stack_taken, standard_sizes, greatest_number, full_at_stack_birth}
 use Rattle.c_model.specs.State.{Input}
 use Rattle.c_model.specs.Meaning as source
 use Rattle.c_model.specs.Reports.{Agrees}
@@ -28,6 +28,7 @@ use Rattle.mon_syntax.proofs.FlatBlocks.{live_in, taken-live, live-born, Dies, d
 abbrev World : Type 0
 World = List ℕ
 
+-- more blocks were born
 record Later (u v : World) : Type 0 where
   more : List ℕ
   is : v ≡ u ++ more
@@ -37,6 +38,7 @@ abbrev address_of : World → ℕ → Option ℕ
 address_of w zero = None
 address_of w (suc k) = slice_get w k
 
+-- the number of a pointer to an offset in a block
 record PointsTo (w : World) (number offset : ℕ) (y : ℤ) : Type 0 where
   address : ℕ
   has : address_of w number ≡ Some address
@@ -53,6 +55,7 @@ abbrev Stand : World → List LiveBlock → Type 0
 Stand w [] = Unit {0}
 Stand w (b ∷ older) = (address_of w b.number ≡ Some (stack_end older)) × Stand w older
 
+-- flat memory stands for blocks: as many calls and births, the same living blocks, each at its address
 record Holds (w : World) (m : Blocks) (n : Flat) : Type 0 where
   frames : m.frames ≡ n.frames
   births : n.births ≡ length m.store
@@ -110,7 +113,8 @@ enter_alike : (w : World) (m : Blocks) (n : Flat) → Holds w m n → Answers w 
 enter_alike w m n h =
     subst (λ k. Answers w (enter_blocks m) (if nat_lt k most_frames then Gives (pos 0) (record n { frames = n.frames + 1 }) else IsFull segment.Frames)) h.frames (by (nat_lt m.frames most_frames))
   where
-    by : (t : Bool) → Answers w (if t then Gives (Whole (pos 0)) (record m { frames = m.frames + 1 }) else IsFull segment.Frames) (if t then Gives (pos 0) (record n { frames = n.frames + 1 }) else IsFull segment.Frames)
+    by : (t : Bool)
+        → Answers w (if t then Gives (Whole (pos 0)) (record m { frames = m.frames + 1 }) else IsFull segment.Frames) (if t then Gives (pos 0) (record n { frames = n.frames + 1 }) else IsFull segment.Frames)
     by true = (w, later_refl w, refl, with_frames w m n (m.frames + 1) (n.frames + 1) (ap (λ k. k + 1) h.frames) h)
     by false = refl
 
@@ -135,20 +139,26 @@ birth_alike w m n size None h =
     let v : World = w ++ address ∷ [] in
     let later : Later w v = record { more = address ∷ []; is = refl } in
     let old : length w + 1 ≡ length m.store + 1 = omega (arith, h.addresses) in
-    let number : n.births + 1 ≡ length m.store + 1 = omega (arith, h.births) in
-    (v, later, record {
-      address = address;
-      has = address-new w (length m.store + 1) address (sym old);
-      is = ap (λ k. pos (pointer_to k address)) number ∙ ap (λ a. pos (pointer_to (length m.store + 1) a)) (omega arith);
-    }, record {
-      frames = h.frames;
-      births = number ∙ sym (length-append m.store (new_block Stack size ∷ []));
-      addresses = length-append w (address ∷ []) ∙ old ∙ sym (length-append m.store (new_block Stack size ∷ []));
-      live = ap (λ k. record { number = k; size = size } ∷ n.live) number ∙ ap (λ bs. record { number = length m.store + 1; size = size } ∷ bs) h.live ∙ sym (live-born m.store size);
-      stand = (address-new w (n.births + 1) address (number ∙ sym old), stand_later w v n.live later h.stand);
-    })
+    let number : n.births + 1 ≡ length m.store + 1 = omega (arith, h.births) in (
+      v,
+      later,
+      record {
+        address = address;
+        has = address-new w (length m.store + 1) address (sym old);
+        is = ap (λ k. pos (pointer_to k address)) number ∙ ap (λ a. pos (pointer_to (length m.store + 1) a)) (omega arith);
+      },
+      record {
+        frames = h.frames;
+        births = number ∙ sym (length-append m.store (new_block Stack size ∷ []));
+        addresses = length-append w (address ∷ []) ∙ old ∙ sym (length-append m.store (new_block Stack size ∷ []));
+        live = ap (λ k. record { number = k; size = size } ∷ n.live) number ∙ ap (λ bs. record { number = length m.store + 1; size = size } ∷ bs) h.live
+            ∙ sym (live-born m.store size);
+        stand = (address-new w (n.births + 1) address (number ∙ sym old), stand_later w v n.live later h.stand);
+      },
+    )
 
-store_alike : (w : World) (xs : List BlockValue) (ys : List ℤ) (m : Blocks) (n : Flat) → AllKept (Same w) xs ys → Holds w m n → Answers w (store_block xs m) (store_flat ys n)
+store_alike : (w : World) (xs : List BlockValue) (ys : List ℤ) (m : Blocks) (n : Flat) → AllKept (Same w) xs ys → Holds w m n
+    → Answers w (store_block xs m) (store_flat ys n)
 store_alike w [] ys m n k h = tt
 store_alike w (Points p ∷ xs) ys m n k h = tt
 store_alike w (Whole (negsuc z) ∷ xs) ys m n k h = tt
@@ -170,11 +180,13 @@ length-dead : (k : ℕ) (o : Option Block) (store : Store) → length (dead_at k
 length-dead k None store = refl
 length-dead k (Some b) store = length-slice_set k (record b { live = false }) store
 
-delete_youngest-first : (p : ℕ) (b : LiveBlock) (older : List LiveBlock) (n : Flat) → p ≡ pointer_to b.number (stack_end older) → delete_youngest p (b ∷ older) n ≡ Gives (pos 0) (record n { live = older })
+delete_youngest-first : (p : ℕ) (b : LiveBlock) (older : List LiveBlock) (n : Flat) → p ≡ pointer_to b.number (stack_end older)
+    → delete_youngest p (b ∷ older) n ≡ Gives (pos 0) (record n { live = older })
 delete_youngest-first p b older n e =
     ap (λ t. if t then Gives (pos 0) (record n { live = older }) else Faults) (eq-eqb p (pointer_to b.number (stack_end older)) e)
 
-death_alike : (w : World) (k : ℕ) (y : ℤ) (m : Blocks) (n : Flat) → PointsTo w (suc k) 0 y → Holds w m n → Dies 0 k m.store [] → Answers w (Gives (Whole (pos 0)) (record m { store = dead_at k (slice_get m.store k) m.store })) (delete_flat (y ∷ []) n)
+death_alike : (w : World) (k : ℕ) (y : ℤ) (m : Blocks) (n : Flat) → PointsTo w (suc k) 0 y → Holds w m n → Dies 0 k m.store []
+    → Answers w (Gives (Whole (pos 0)) (record m { store = dead_at k (slice_get m.store k) m.store })) (delete_flat (y ∷ []) n)
 death_alike w k y m n p h d =
     let b : LiveBlock = record { number = suc (0 + k); size = d.size } in
     let live : n.live ≡ b ∷ d.older = h.live ∙ d.was in
@@ -184,20 +196,26 @@ death_alike w k y m n p h d =
     let address : p.address + 0 ≡ stack_end d.older = some_same _ _ same in
     let is : pointer_to (suc k) (p.address + 0) ≡ pointer_to b.number (stack_end d.older) = ap (λ i. pointer_to i (p.address + 0)) number ∙ ap (pointer_to (suc (0 + k))) address in
     let flat : delete_flat (y ∷ []) n ≡ Gives (pos 0) (record n { live = d.older }) =
-        ap (λ z. delete_flat (z ∷ []) n) p.is ∙ ap (λ bs. delete_youngest (pointer_to (suc k) (p.address + 0)) bs n) live ∙ delete_youngest-first _ b d.older n is in
-    subst (Answers w (Gives (Whole (pos 0)) (record m { store = dead_at k (slice_get m.store k) m.store }))) (sym flat)
-    (w, later_refl w, refl, record {
-      frames = h.frames;
-      births = h.births ∙ sym (length-dead k (slice_get m.store k) m.store);
-      addresses = h.addresses ∙ sym (length-dead k (slice_get m.store k) m.store);
-      live = sym d.is;
-      stand = stand.1;
-    })
+    ap (λ z. delete_flat (z ∷ []) n) p.is ∙ ap (λ bs. delete_youngest (pointer_to (suc k) (p.address + 0)) bs n) live
+    ∙ delete_youngest-first _ b d.older n is in
+    subst (Answers w (Gives (Whole (pos 0)) (record m { store = dead_at k (slice_get m.store k) m.store }))) (sym flat) (
+      w,
+      later_refl w,
+      refl,
+      record {
+        frames = h.frames;
+        births = h.births ∙ sym (length-dead k (slice_get m.store k) m.store);
+        addresses = h.addresses ∙ sym (length-dead k (slice_get m.store k) m.store);
+        live = sym d.is;
+        stand = stand.1;
+      },
+    )
   where
     some_same : (i j : ℕ) → Some i ≡ Some j → i + 0 ≡ j
     some_same i j e = let is : i ≡ j = cc in omega arith
 
-delete_alike : (w : World) (xs : List BlockValue) (ys : List ℤ) (m : Blocks) (n : Flat) → AllKept (Same w) xs ys → Holds w m n → Answers w (delete_block xs m) (delete_flat ys n)
+delete_alike : (w : World) (xs : List BlockValue) (ys : List ℤ) (m : Blocks) (n : Flat) → AllKept (Same w) xs ys → Holds w m n
+    → Answers w (delete_block xs m) (delete_flat ys n)
 delete_alike w [] ys m n k h = tt
 delete_alike w (Whole z ∷ xs) ys m n k h = tt
 delete_alike w (Points Null ∷ xs) ys m n k h = tt
@@ -208,11 +226,13 @@ delete_alike w (Points (Into (suc i) zero) ∷ []) [] m n k h = absurd k
 delete_alike w (Points (Into (suc i) zero) ∷ []) (y ∷ z ∷ ys) m n k h = absurd k.1
 delete_alike w (Points (Into (suc i) zero) ∷ []) (y ∷ []) m n k h = by (is_index i (youngest m.store)) refl
   where
-    by : (t : Bool) → is_index i (youngest m.store) ≡ t → Answers w (if t then Gives (Whole (pos 0)) (record m { store = dead_at i (slice_get m.store i) m.store }) else Faults) (delete_flat (y ∷ []) n)
+    by : (t : Bool) → is_index i (youngest m.store) ≡ t
+        → Answers w (if t then Gives (Whole (pos 0)) (record m { store = dead_at i (slice_get m.store i) m.store }) else Faults) (delete_flat (y ∷ []) n)
     by true e = death_alike w i y m n k.0 h (dies m.store i e)
     by false e = tt
 
-act_alike : (w : World) (f : MemoryCall) (xs : List BlockValue) (ys : List ℤ) (m : Blocks) (n : Flat) → AllKept (Same w) xs ys → Holds w m n → Answers w (act_on_blocks f xs m) (act_on_flat f ys n)
+act_alike : (w : World) (f : MemoryCall) (xs : List BlockValue) (ys : List ℤ) (m : Blocks) (n : Flat) → AllKept (Same w) xs ys → Holds w m n
+    → Answers w (act_on_blocks f xs m) (act_on_flat f ys n)
 act_alike w StoreBlock xs ys m n k h = store_alike w xs ys m n k h
 act_alike w DeleteBlock xs ys m n k h = delete_alike w xs ys m n k h
 

@@ -1,24 +1,27 @@
 -- The blocks that live on the stack, the youngest first: what births and deaths do to their list.
-use Rattle.std.proofs.Common.{◌≡◌, ℕ, zero, suc, ◌+◌, ◌<◌, Bool, true, false, ◌&&◌, if◌then◌else◌, nat_eq, List, [], ◌∷◌, ◌++◌, length, Option, Some, None, slice_get, refl, sym, ap, ◌∙◌, subst, arith}
+use Rattle.std.proofs.Common.{◌≡◌, ℕ, zero, suc, ◌+◌, ◌<◌, Bool, true, false, if◌then◌else◌, List, [], ◌∷◌, ◌++◌, length, Option, Some, None, slice_get, refl, sym, ap, ◌∙◌, arith}
 use Rattle.std.proofs.lemmas.Bool.{eqb-true}
 use Rattle.c_syntax.specs.declared.types.BlockKind.TheVariants.{Stack}
-use Rattle.c_model.specs.Memory.{Block, Store, new_block, is_stack, rounded, stack_taken}
+use Rattle.c_model.specs.Memory.{Block, Store, new_block, rounded, stack_taken}
 use Rattle.mon_syntax.specs.Memories.{is_live_on_stack, youngest_from, youngest, is_index, dead_at, LiveBlock, taken_by}
 
+-- a living block with its number
 abbrev noted : ℕ → Block → LiveBlock
 noted number b = record { number = number; size = b.size }
 
--- the first block has the index k, and so the number k + 1
+-- the blocks that live on the stack in front of those found before, the youngest first; the first block has the index k, and so the number k + 1
 abbrev pub live_from : ℕ → Store → List LiveBlock → List LiveBlock
 live_from k [] found = found
 live_from k (b ∷ bs) found = live_from (suc k) bs (if is_live_on_stack b then noted (suc k) b ∷ found else found)
 
+-- the blocks of a store that live on the stack
 abbrev pub live_in : Store → List LiveBlock
 live_in store = live_from 0 store []
 
 -- ---- room
 
-taken-found : (t : Bool) (k : ℕ) (b : Block) (found : List LiveBlock) → taken_by (if t then noted k b ∷ found else found) ≡ (if t then rounded b.size else 0) + taken_by found
+taken-found : (t : Bool) (k : ℕ) (b : Block) (found : List LiveBlock)
+    → taken_by (if t then noted k b ∷ found else found) ≡ (if t then rounded b.size else 0) + taken_by found
 taken-found true k b found = refl
 taken-found false k b found = omega arith
 
@@ -34,7 +37,8 @@ taken-live store = omega (arith, taken-from 0 store [])
 
 -- ---- births
 
-live_from-born : (k : ℕ) (bs : Store) (size : ℕ) (found : List LiveBlock) → live_from k (bs ++ new_block Stack size ∷ []) found ≡ record { number = suc (k + length bs); size = size } ∷ live_from k bs found
+live_from-born : (k : ℕ) (bs : Store) (size : ℕ) (found : List LiveBlock)
+    → live_from k (bs ++ new_block Stack size ∷ []) found ≡ record { number = suc (k + length bs); size = size } ∷ live_from k bs found
 live_from-born k [] size found = ap (λ i. record { number = suc i; size = size } ∷ found) (omega arith)
 live_from-born k (b ∷ bs) size found =
     let more = if is_live_on_stack b then noted (suc k) b ∷ found else found in
@@ -54,12 +58,15 @@ youngest_before k (b ∷ bs) before j l e = by (is_live_on_stack b) (youngest_be
     by true h = let same : k ≡ j = cc in absurd (omega arith)
     by false h = h
 
-none_live : (k : ℕ) (bs : Store) (before : Option ℕ) (j : ℕ) → j < k → youngest_from k bs before ≡ Some j → (found : List LiveBlock) → live_from k bs found ≡ found
+none_live : (k : ℕ) (bs : Store) (before : Option ℕ) (j : ℕ) → j < k → youngest_from k bs before ≡ Some j → (found : List LiveBlock)
+    → live_from k bs found ≡ found
 none_live k [] before j l e found = refl
 none_live k (b ∷ bs) before j l e found =
-    by (is_live_on_stack b) (youngest_before (suc k) bs (if is_live_on_stack b then Some k else before) j (omega arith) e) (none_live (suc k) bs (if is_live_on_stack b then Some k else before) j (omega arith) e)
+    by (is_live_on_stack b) (youngest_before (suc k) bs (if is_live_on_stack b then Some k else before) j (omega arith) e)
+    (none_live (suc k) bs (if is_live_on_stack b then Some k else before) j (omega arith) e)
   where
-    by : (t : Bool) → (if t then Some k else before) ≡ Some j → ((more : List LiveBlock) → live_from (suc k) bs more ≡ more) → live_from (suc k) bs (if t then noted (suc k) b ∷ found else found) ≡ found
+    by : (t : Bool) → (if t then Some k else before) ≡ Some j → ((more : List LiveBlock) → live_from (suc k) bs more ≡ more)
+        → live_from (suc k) bs (if t then noted (suc k) b ∷ found else found) ≡ found
     by true h go = let same : k ≡ j = cc in absurd (omega arith)
     by false h go = go found
 
@@ -85,7 +92,9 @@ not_before k i None l e = cc
 not_before k i (Some j) l e = let same : j ≡ k + i = cc in omega arith
 
 -- the youngest one is the head of the list
-head_is : (t : Bool) (k : ℕ) (b : Block) (bs : Store) (before : Option ℕ) (found : List LiveBlock) → IsBelow k before → (if t then Some k else before) ≡ Some (k + 0) → ((more : List LiveBlock) → live_from (suc k) bs more ≡ more) → live_from (suc k) bs (if t then noted (suc k) b ∷ found else found) ≡ record { number = suc (k + 0); size = b.size } ∷ found
+head_is : (t : Bool) (k : ℕ) (b : Block) (bs : Store) (before : Option ℕ) (found : List LiveBlock) → IsBelow k before
+    → (if t then Some k else before) ≡ Some (k + 0) → ((more : List LiveBlock) → live_from (suc k) bs more ≡ more)
+    → live_from (suc k) bs (if t then noted (suc k) b ∷ found else found) ≡ record { number = suc (k + 0); size = b.size } ∷ found
 head_is true k b bs before found l e none = none (noted (suc k) b ∷ found) ∙ ap (λ i. record { number = suc i; size = b.size } ∷ found) (omega arith)
 head_is false k b bs before found l e none = absurd (not_before k 0 before l e)
 
@@ -108,7 +117,8 @@ dies_at k (suc i) (b ∷ bs) before found l e =
       is = front (slice_get bs i) ∙ later.is;
     }
   where
-    front : (o : Option Block) → live_from k (dead_at (suc i) o (b ∷ bs)) found ≡ live_from (suc k) (dead_at i o bs) (if is_live_on_stack b then noted (suc k) b ∷ found else found)
+    front : (o : Option Block)
+        → live_from k (dead_at (suc i) o (b ∷ bs)) found ≡ live_from (suc k) (dead_at i o bs) (if is_live_on_stack b then noted (suc k) b ∷ found else found)
     front None = refl
     front (Some c) = refl
 

@@ -33,7 +33,8 @@ fit_value : {Mem A B : Type 0} (a : Option A) (n : ℕ) (f g : A → Result (Sta
 fit_value None n f g h = (refl, omega arith)
 fit_value (Some a) n f g h = h a
 
-fit_read : {Mem A : Type 0} (o : Option (ℤ × Input)) (n : ℕ) (f g : ℤ → Input → Result (State Mem) A) → ((z : ℤ) (r : Input) → Fit n (f z r) (g z r)) → Fit n (with_read o n f) (with_read o n g)
+fit_read : {Mem A : Type 0} (o : Option (ℤ × Input)) (n : ℕ) (f g : ℤ → Input → Result (State Mem) A) → ((z : ℤ) (r : Input) → Fit n (f z r) (g z r))
+    → Fit n (with_read o n f) (with_read o n g)
 fit_read None n f g h = (refl, omega arith)
 fit_read (Some (z, r)) n f g h = h z r
 
@@ -136,7 +137,8 @@ module _ (M : Memory) where
     fit_exec (PrintSigned e) k m n c d lm ln h regs s l = fit_value (eval_number M e regs) s.steps _ _ (λ i. (refl, omega arith))
     fit_exec (PrintUnsigned e) k m n c d lm ln h regs s l = fit_value (eval_number M e regs) s.steps _ _ (λ i. (refl, omega arith))
     fit_exec (Act r f args) k m n c d lm ln h regs s l =
-        fit_value (eval_all M args regs) s.steps _ _ (λ vs. fit_behind s.steps (replied M (M.act f vs s.mem) s) _ _ (steps-replied (M.act f vs s.mem) s) (λ v t lt. (refl, omega arith)))
+        fit_value (eval_all M args regs) s.steps _ _
+        (λ vs. fit_behind s.steps (replied M (M.act f vs s.mem) s) _ _ (steps-replied (M.act f vs s.mem) s) (λ v t lt. (refl, omega arith)))
     fit_exec (Call r f args) k m n c d lm ln h regs s l =
         fit_value (eval_all M args regs) s.steps _ _ (λ vs. fit_then s.steps _ _ _ _ (h f vs s l) (λ v t lt. (refl, omega arith)))
     fit_exec (If e a b) k m n c d lm ln h regs s l =

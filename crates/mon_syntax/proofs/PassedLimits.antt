@@ -241,7 +241,8 @@ module _ (ws : Vocabulary) where
   function_kept : Kept (function ws)
   unfolding function
   function_kept =
-      late_then result_kept (λ r. late_then name_kept (λ f. late_then (late_one _) (λ _. late_then parameters_kept (λ ps. late_then (late_one _) (λ _. function_body_kept r f ps)))))
+      late_then result_kept
+      (λ r. late_then name_kept (λ f. late_then (late_one _) (λ _. late_then parameters_kept (λ ps. late_then (late_one _) (λ _. function_body_kept r f ps)))))
 
   one_more_function_kept : (fs : List ParsedFunction) → Kept (one_more_function ws fs)
   unfolding one_more_function

@@ -1,5 +1,5 @@
 -- Each piece of a valid program's text stands alone.
-use Rattle.std.proofs.Common.{◌≡◌, ℕ, zero, suc, ◌+◌, ◌*◌, ◌^◌, ◌<◌, ◌≤◌, Bool, true, false, not, ◌&&◌, ◌||◌, eqb, leb, List, [], ◌∷◌, ◌++◌, length, map, replicate, slice_get, codes, ℤ, pos, negsuc, neg_ℤ, int_le, Option, Some, None, refl, sym, ap, subst, ◌∙◌, append_assoc, arith, true≢false}
+use Rattle.std.proofs.Common.{◌≡◌, ℕ, zero, suc, ◌+◌, ◌*◌, ◌^◌, ◌<◌, ◌≤◌, Bool, true, false, not, ◌&&◌, ◌||◌, eqb, leb, List, [], ◌∷◌, ◌++◌, length, map, replicate, slice_get, codes, ℤ, pos, negsuc, neg_ℤ, int_le, Option, Some, None, refl, sym, ap, subst, ◌∙◌, arith, true≢false}
 use Rattle.std.specs.Prelude.{bytes_eq}
 use Rattle.std.specs.Ordering.{int_eq}
 use Rattle.std.specs.Fmt.{decimal}
@@ -29,7 +29,7 @@ use Rattle.mon_syntax.specs.Trees.{MonExpression, Register, Constant, Binary, Mi
 use Rattle.mon_syntax.specs.Text.{Word, Quoted, Mark, spelled, blank, new_line, left_paren, right_paren, semicolon, operator_mark, Registers, name_of, call_pieces, set_or_none, expression_pieces, more_arguments, arguments_pieces, assert_arguments, memory_word, FunctionNames, function_name, body_pieces, statement_pieces, statements_pieces, result_word, more_parameters, parameters_pieces, registers_pieces, function_pieces, functions_pieces}
 use Rattle.mon_syntax.specs.Valid.{Types, is_whole, has_constant, HasType, Labels, has_label, IsExpression, greatest_number, memory_parameters, memory_result, TakesValue, AreArguments, Signature, ReturnsResult, IsStatement, AreStatements, AreRegisters, types_of, signature_of, IsFunction, AreFunctions}
 use Rattle.mon_syntax.proofs.PrintedPieces.{is_word, IsAlone, AreAlone}
-use Rattle.mon_syntax.proofs.PrintedForms.{Pieces, binary_is, closed_is, ended_is, argument_is, taken_is, arguments_are, assert_is, if_is, loop_is, labelled_is, body_is, then_is, function_is}
+use Rattle.mon_syntax.proofs.PrintedForms.{Pieces, binary_is, closed_is, ended_is, argument_is, arguments_are, assert_is, if_is, loop_is, labelled_is, body_is, then_is, function_is}
 
 -- ---- words
 
@@ -217,7 +217,8 @@ digits_of (pos n) = n
 digits_of (negsuc n) = suc n
 
 small_constant : (t : MonType) (z : ℤ) → has_constant t z ≡ true → digits_of z ≤ greatest_literal
-small_constant t (pos n) h = by t (and_true (int_le (least t) (pos n)) (int_le (pos n) (greatest t)) (and_true (is_whole t) (fits t (pos n)) (and_true (is_whole t && fits t (pos n)) _ h).0).1).1
+small_constant t (pos n) h =
+    by t (and_true (int_le (least t) (pos n)) (int_le (pos n) (greatest t)) (and_true (is_whole t) (fits t (pos n)) (and_true (is_whole t && fits t (pos n)) _ h).0).1).1
   where
     by : (t : MonType) → int_le (pos n) (greatest t) ≡ true → n ≤ greatest_literal
     by I8 e = omega (arith, below n 127 e)
@@ -304,7 +305,9 @@ module _ (ts : Types) (rs : Registers) (named : AreNamed ts rs) where
   ended_alone : (e : MonExpression) (t : MonType) (more : Pieces) → IsExpression ts e t → AreAlone more → AreAlone ((expression_pieces rs e ++ (semicolon ∷ [])) ++ more)
   ended_alone e t more h m = subst AreAlone (sym (ended_is rs more e)) (expression_alone e t h.typed (semicolon ∷ more) refl (alone_semicolon _, m))
 
-  assert_alone : (d v : MonExpression) (number line : ℕ) (kind : Kind) (more : Pieces) → IsExpression ts d I32 × IsExpression ts v I32 × (number ≤ greatest_number) × (line ≤ greatest_number) → AreAlone more → AreAlone (call_pieces (codes "__e_acsl_assert") (assert_arguments rs d v number line (kind_word kind)) ++ more)
+  assert_alone : (d v : MonExpression) (number line : ℕ) (kind : Kind) (more : Pieces)
+      → IsExpression ts d I32 × IsExpression ts v I32 × (number ≤ greatest_number) × (line ≤ greatest_number) → AreAlone more
+      → AreAlone (call_pieces (codes "__e_acsl_assert") (assert_arguments rs d v number line (kind_word kind)) ++ more)
   assert_alone d v number line kind more h m =
       let first : number ≤ greatest_literal = omega (arith, h.2) in
       let second : line ≤ greatest_literal = omega (arith, h.3) in
@@ -329,14 +332,16 @@ module _ (ts : Types) (rs : Registers) (named : AreNamed ts rs) where
   more_stop [] more = refl
   more_stop (e ∷ es) more = refl
 
-  more_alone : (es : List MonExpression) (ps : Types) (more : Pieces) → AreArguments ts es ps → AreAlone more → AreAlone (more_arguments rs es ++ (right_paren ∷ more))
+  more_alone : (es : List MonExpression) (ps : Types) (more : Pieces) → AreArguments ts es ps → AreAlone more
+      → AreAlone (more_arguments rs es ++ (right_paren ∷ more))
   more_alone [] ps more h m = (alone_right_paren _, m)
   more_alone (e ∷ es) [] more h m = absurd h
   more_alone (e ∷ es) (p ∷ ps) more h m =
       subst (λ (l : Pieces). AreAlone (Mark (codes ",") ∷ blank ∷ l)) (sym (argument_is rs (right_paren ∷ more) e es))
       (alone_comma _, (refl, expression_alone e p h.0.typed (more_arguments rs es ++ (right_paren ∷ more)) (more_stop es more) (more_alone es ps more h.1 m)))
 
-  arguments_alone : (es : List MonExpression) (ps : Types) (more : Pieces) → AreArguments ts es ps → AreAlone more → AreAlone (arguments_pieces rs es ++ (right_paren ∷ more))
+  arguments_alone : (es : List MonExpression) (ps : Types) (more : Pieces) → AreArguments ts es ps → AreAlone more
+      → AreAlone (arguments_pieces rs es ++ (right_paren ∷ more))
   arguments_alone [] ps more h m = (alone_right_paren _, m)
   arguments_alone (e ∷ es) [] more h m = absurd h
   arguments_alone (e ∷ es) (p ∷ ps) more h m =
@@ -344,24 +349,34 @@ module _ (ts : Types) (rs : Registers) (named : AreNamed ts rs) where
       (expression_alone e p h.0.typed (more_arguments rs es ++ (right_paren ∷ more)) (more_stop es more) (more_alone es ps more h.1 m))
 
   -- a call whose value a register takes, or none
-  taken_alone : (r : Option ℕ) (v : Option MonType) (call more : Pieces) → TakesValue ts r v → AreAlone (call ++ more) → AreAlone ((set_or_none rs r ++ call) ++ more)
+  taken_alone : (r : Option ℕ) (v : Option MonType) (call more : Pieces) → TakesValue ts r v → AreAlone (call ++ more)
+      → AreAlone ((set_or_none rs r ++ call) ++ more)
   taken_alone None v call more h m = m
   taken_alone (Some r) None call more h m = absurd h
   taken_alone (Some r) (Some t) call more h m = set_alone r t (call ++ more) h m
 
   -- a call with arguments
-  called_alone : (r : Option ℕ) (v : Option MonType) (name : List ℕ) (es : List MonExpression) (ps : Types) (more : Pieces) → is_word name ≡ true → TakesValue ts r v → AreArguments ts es ps → AreAlone more
+  called_alone : (r : Option ℕ) (v : Option MonType) (name : List ℕ) (es : List MonExpression) (ps : Types) (more : Pieces) → is_word name ≡ true
+      → TakesValue ts r v → AreArguments ts es ps → AreAlone more
       → AreAlone ((set_or_none rs r ++ call_pieces name (arguments_pieces rs es)) ++ more)
   called_alone r v name es ps more w h k m =
-      taken_alone r v (call_pieces name (arguments_pieces rs es)) more h (call_alone name (arguments_pieces rs es) more w (arguments_alone es ps (semicolon ∷ more) k (alone_semicolon _, m)))
+      taken_alone r v (call_pieces name (arguments_pieces rs es)) more h
+      (call_alone name (arguments_pieces rs es) more w (arguments_alone es ps (semicolon ∷ more) k (alone_semicolon _, m)))
 
   -- ---- statements among functions of these signatures and names
 
   module _ (gs : List Signature) (called : FunctionNames) (callees : AreCallees gs called) where
     -- a body, given its statements
-    body_alone : (s : MonStatements) (depth : ℕ) (more : Pieces) → ((end : Pieces) → AreAlone end → AreAlone (statements_pieces called rs (depth + 1) s ++ end)) → AreAlone more → AreAlone (body_pieces called rs depth s ++ more)
+    body_alone : (s : MonStatements) (depth : ℕ) (more : Pieces)
+        → ((end : Pieces) → AreAlone end → AreAlone (statements_pieces called rs (depth + 1) s ++ end)) → AreAlone more
+        → AreAlone (body_pieces called rs depth s ++ more)
     body_alone NoStatement depth more inner m = (alone_left_brace _, (refl, (alone_right_brace _, m)))
-    body_alone (Then a rest) depth more inner m = subst AreAlone (sym (body_is called rs more depth a rest)) (alone_left_brace _, inner (new_line depth ∷ Mark (codes "}") ∷ more) (line_blank depth, (alone_right_brace _, m)))
+    body_alone (Then a rest) depth more inner m =
+        subst AreAlone (sym (body_is called rs more depth a rest)) (
+          alone_left_brace _,
+          inner (new_line depth ∷ Mark (codes "}") ∷ more)
+              (line_blank depth, (alone_right_brace _, m)),
+        )
 
     -- each label is a word
     AreLabels : Labels → Type 0
@@ -382,19 +397,24 @@ module _ (ts : Types) (rs : Registers) (named : AreNamed ts rs) where
     mutual
       unfolding AreLabels
 
-      statement_alone : (a : MonStatement) (result : Option MonType) (ls : Labels) (depth : ℕ) (more : Pieces) → AreLabels ls → IsStatement gs ts result ls a → AreAlone more → AreAlone (statement_pieces called rs depth a ++ more)
+      statement_alone : (a : MonStatement) (result : Option MonType) (ls : Labels) (depth : ℕ) (more : Pieces) → AreLabels ls → IsStatement gs ts result ls a
+          → AreAlone more → AreAlone (statement_pieces called rs depth a ++ more)
       statement_alone (Set r e) result ls depth more labels h m = set_alone r h.0 ((expression_pieces rs e ++ (semicolon ∷ [])) ++ more) h.1 (ended_alone e h.0 more h.2 m)
       statement_alone Step result ls depth more labels h m = call_alone (codes "__e_acsl_step") [] more refl (alone_right_paren _, (alone_semicolon _, m))
       statement_alone (Assert d v number line kind) result ls depth more labels h m = assert_alone d v number line kind more h m
-      statement_alone (PutChar r e) result ls depth more labels h m = taken_alone r (Some I32) (call_pieces (codes "putchar") (expression_pieces rs e)) more h.0 (value_alone (codes "putchar") e I32 more refl h.1 m)
+      statement_alone (PutChar r e) result ls depth more labels h m =
+          taken_alone r (Some I32) (call_pieces (codes "putchar") (expression_pieces rs e)) more h.0 (value_alone (codes "putchar") e I32 more refl h.1 m)
       statement_alone (GetChar r) result ls depth more labels h m =
-          taken_alone r (Some I32) (call_pieces (codes "getchar") []) more h (call_alone (codes "getchar") [] more refl (alone_right_paren _, (alone_semicolon _, m)))
+          taken_alone r (Some I32) (call_pieces (codes "getchar") []) more h
+          (call_alone (codes "getchar") [] more refl (alone_right_paren _, (alone_semicolon _, m)))
       statement_alone (Exit e) result ls depth more labels h m = value_alone (codes "exit") e I32 more refl h m
       statement_alone (PrintText bytes) result ls depth more labels h m = call_alone (codes "__e_acsl_print_text") (Quoted bytes ∷ []) more refl (h, (alone_right_paren _, (alone_semicolon _, m)))
       statement_alone (PrintSigned e) result ls depth more labels h m = value_alone (codes "__e_acsl_print_i64") e I64 more refl h m
       statement_alone (PrintUnsigned e) result ls depth more labels h m = value_alone (codes "__e_acsl_print_u64") e U64 more refl h m
-      statement_alone (Act r f es) result ls depth more labels h m = called_alone r (memory_result f) (memory_word f) es (memory_parameters f) more (memory_is_word f) h.1 h.0 m
-      statement_alone (Call r f es) result ls depth more labels h m = called_alone r h.callee.result (function_name called f) es h.callee.parameters more (callees f h.callee h.has) h.takes h.arguments m
+      statement_alone (Act r f es) result ls depth more labels h m =
+          called_alone r (memory_result f) (memory_word f) es (memory_parameters f) more (memory_is_word f) h.1 h.0 m
+      statement_alone (Call r f es) result ls depth more labels h m =
+          called_alone r h.callee.result (function_name called f) es h.callee.parameters more (callees f h.callee h.has) h.takes h.arguments m
       statement_alone (If e a b) result ls depth more labels h m =
           subst AreAlone (sym (if_is called rs more depth e a b)) (
             (refl, refl),
@@ -444,12 +464,15 @@ module _ (ts : Types) (rs : Registers) (named : AreNamed ts rs) where
       statement_alone (Return None) result ls depth more labels h m = ((refl, refl), (alone_semicolon _, m))
       statement_alone (Return (Some e)) result ls depth more labels h m = let g = returned_typed result e h in ((refl, refl), (refl, ended_alone e g.0 more g.1 m))
 
-      statements_alone : (s : MonStatements) (result : Option MonType) (ls : Labels) (depth : ℕ) (more : Pieces) → AreLabels ls → AreStatements gs ts result ls s → AreAlone more → AreAlone (statements_pieces called rs depth s ++ more)
+      statements_alone : (s : MonStatements) (result : Option MonType) (ls : Labels) (depth : ℕ) (more : Pieces) → AreLabels ls
+          → AreStatements gs ts result ls s → AreAlone more → AreAlone (statements_pieces called rs depth s ++ more)
       statements_alone NoStatement result ls depth more labels h m = m
       statements_alone (Then a rest) result ls depth more labels h m =
-          subst AreAlone (sym (then_is called rs more depth a rest)) (line_blank depth, statement_alone a result ls depth _ labels h.0 (statements_alone rest result ls depth more labels h.1 m))
+          subst AreAlone (sym (then_is called rs more depth a rest))
+          (line_blank depth, statement_alone a result ls depth _ labels h.0 (statements_alone rest result ls depth more labels h.1 m))
 
-    pub body_is_alone : (s : MonStatements) (result : Option MonType) (more : Pieces) → AreStatements gs ts result [] s → AreAlone more → AreAlone (statements_pieces called rs 1 s ++ more)
+    pub body_is_alone : (s : MonStatements) (result : Option MonType) (more : Pieces) → AreStatements gs ts result [] s → AreAlone more
+        → AreAlone (statements_pieces called rs 1 s ++ more)
     unfolding AreLabels
     body_is_alone s result more h m = statements_alone s result [] 1 more (λ w e. absurd cc) h m
 
@@ -464,17 +487,21 @@ parameter_stop : (ps : Registers) (more : Pieces) → Stops is_part (spelled (mo
 parameter_stop [] more = refl
 parameter_stop (p ∷ ps) more = refl
 
-more_parameters_alone : (ps rest : Registers) (before : List (List ℕ)) (more : Pieces) → AreRegisters before (ps ++ rest) → AreAlone more → AreAlone (more_parameters ps ++ (right_paren ∷ more))
+more_parameters_alone : (ps rest : Registers) (before : List (List ℕ)) (more : Pieces) → AreRegisters before (ps ++ rest) → AreAlone more
+    → AreAlone (more_parameters ps ++ (right_paren ∷ more))
 more_parameters_alone [] rest before more h m = (alone_right_paren _, m)
 more_parameters_alone (p ∷ ps) rest before more h m =
     (alone_comma _, (refl, ((type_is_word p.kind, refl), (refl, ((free_word p.name h.0, parameter_stop ps more), more_parameters_alone ps rest (p.name ∷ before) more h.2 m)))))
 
-parameters_alone : (ps rest : Registers) (more : Pieces) → AreRegisters [] (ps ++ rest) → AreAlone more → AreAlone (parameters_pieces ps ++ (right_paren ∷ more))
+parameters_alone : (ps rest : Registers) (more : Pieces) → AreRegisters [] (ps ++ rest) → AreAlone more
+    → AreAlone (parameters_pieces ps ++ (right_paren ∷ more))
 parameters_alone [] rest more h m = ((refl, refl), (alone_right_paren _, m))
-parameters_alone (p ∷ ps) rest more h m = ((type_is_word p.kind, refl), (refl, ((free_word p.name h.0, parameter_stop ps more), more_parameters_alone ps rest (p.name ∷ []) more h.2 m)))
+parameters_alone (p ∷ ps) rest more h m =
+    ((type_is_word p.kind, refl), (refl, ((free_word p.name h.0, parameter_stop ps more), more_parameters_alone ps rest (p.name ∷ []) more h.2 m)))
 
 -- registers behind parameters
-registers_behind : (ps rs : Registers) (before : List (List ℕ)) (more : Pieces) → AreRegisters before (ps ++ rs) → AreAlone more → AreAlone (registers_pieces rs ++ more)
+registers_behind : (ps rs : Registers) (before : List (List ℕ)) (more : Pieces) → AreRegisters before (ps ++ rs) → AreAlone more
+    → AreAlone (registers_pieces rs ++ more)
 registers_behind [] rs before more h m = registers_alone rs before more h m
 registers_behind (p ∷ ps) rs before more h m = registers_behind ps rs (p.name ∷ before) more h.2 m
 
@@ -492,7 +519,8 @@ result_is_word : (t : Option MonType) → is_word (result_word t) ≡ true
 result_is_word None = refl
 result_is_word (Some t) = type_is_word t
 
-function_alone : (gs : List Signature) (called : FunctionNames) (f : MonFunction) (more : Pieces) → AreCallees gs called → IsFunction gs f → AreAlone more → AreAlone (function_pieces called f ++ more)
+function_alone : (gs : List Signature) (called : FunctionNames) (f : MonFunction) (more : Pieces) → AreCallees gs called → IsFunction gs f → AreAlone more
+    → AreAlone (function_pieces called f ++ more)
 function_alone gs called f more callees h m =
     let rs = f.parameters ++ f.registers in
     let end : Pieces = new_line 0 ∷ Mark (codes "}") ∷ new_line 0 ∷ more in
@@ -504,14 +532,17 @@ function_alone gs called f more callees h m =
     )
 
 -- the names of functions are words
-callee_named : (gs : List Signature) (before : List (List ℕ)) (fs : List MonFunction) (k : ℕ) (g : Signature) → AreFunctions gs before fs → slice_get (map signature_of fs) k ≡ Some g → is_word (function_name (map (λ (f : MonFunction). f.name) fs) k) ≡ true
+callee_named : (gs : List Signature) (before : List (List ℕ)) (fs : List MonFunction) (k : ℕ) (g : Signature) → AreFunctions gs before fs
+    → slice_get (map signature_of fs) k ≡ Some g → is_word (function_name (map (λ (f : MonFunction). f.name) fs) k) ≡ true
 callee_named gs before [] k g h e = absurd cc
 callee_named gs before (f ∷ fs) zero g h e = free_word f.name h.0.name
 callee_named gs before (f ∷ fs) (suc k) g h e = callee_named gs (f.name ∷ before) fs k g h.2 e
 
-functions_alone : (gs : List Signature) (called : FunctionNames) (before : List (List ℕ)) (fs : List MonFunction) → AreCallees gs called → AreFunctions gs before fs → AreAlone (functions_pieces called fs)
+functions_alone : (gs : List Signature) (called : FunctionNames) (before : List (List ℕ)) (fs : List MonFunction) → AreCallees gs called
+    → AreFunctions gs before fs → AreAlone (functions_pieces called fs)
 functions_alone gs called before [] callees h = tt
-functions_alone gs called before (f ∷ fs) callees h = function_alone gs called f (functions_pieces called fs) callees h.0 (functions_alone gs called (f.name ∷ before) fs callees h.2)
+functions_alone gs called before (f ∷ fs) callees h =
+    function_alone gs called f (functions_pieces called fs) callees h.0 (functions_alone gs called (f.name ∷ before) fs callees h.2)
 
 pub program_alone : (fs : List MonFunction) → AreFunctions (map signature_of fs) [] fs → AreAlone (functions_pieces (map (λ (f : MonFunction). f.name) fs) fs)
 program_alone fs h =

@@ -20,16 +20,15 @@ use Rattle.mon_syntax.specs.declared.word.Runtime.{Runtime}
 use Rattle.mon_syntax.specs.declared.word.Runtime.TheVariants as runtime
 use Rattle.mon_syntax.specs.declared.word.Word.{Word}
 use Rattle.mon_syntax.specs.declared.word.Word.TheVariants as word
-use Rattle.mon_syntax.specs.Names.{IsFreeName}
 use Rattle.mon_syntax.specs.Words.{word_of}
-use Rattle.mon_syntax.specs.Trees.{MonExpression, MonStatement, Step, Assert, PrintText, Act, Call}
+use Rattle.mon_syntax.specs.Trees.{MonExpression, MonStatement, Assert, PrintText, Act, Call}
 use Rattle.mon_syntax.specs.Text as text
-use Rattle.mon_syntax.specs.Text.{Registers, expression_pieces, arguments_pieces, assert_arguments, FunctionNames, function_name, memory_word}
+use Rattle.mon_syntax.specs.Text.{Registers, expression_pieces, arguments_pieces, assert_arguments, memory_word}
 use Rattle.mon_syntax.specs.Valid as valid
 use Rattle.mon_syntax.specs.Valid.{Types, IsExpression, AreArguments, Signature, greatest_number, memory_parameters}
 use Rattle.mon_syntax.specs.Parsed as parsed
 use Rattle.mon_syntax.specs.Parsed.{NameUse, ParsedExpression, ParsedArgument, ParsedCall}
-use Rattle.mon_syntax.specs.Grammar.{Vocabulary, comma, semicolon, left_paren, right_paren, word_at, kind, first_argument, is_step_word, has_no_argument, arguments, call_of}
+use Rattle.mon_syntax.specs.Grammar.{Vocabulary, semicolon, left_paren, right_paren, kind, first_argument, is_step_word, has_no_argument, arguments, call_of}
 use Rattle.mon_syntax.specs.Checking.{Scope, Header, scope_of, find_function, checked_expression, kind_named, small_number, bytes_of, value_of_type, one_value, arguments_of, runtime_call, call_of_word}
 use Rattle.mon_syntax.proofs.PrintedPieces.{AreTokens}
 use Rattle.mon_syntax.proofs.PrintedForms.{Pieces, argument_is, arguments_are, assert_is}
@@ -89,7 +88,8 @@ unfolding word_of
 memory_word_is StoreBlock = refl
 memory_word_is DeleteBlock = refl
 
-module _ (names : List (List ℕ)) (ws : Vocabulary) (words : AreWords names ws) (functions : List Header) (types : Types) (rs : Registers) (regs : List (ℕ × MonType)) (found : AreFound names types rs regs) where
+module _ (names : List (List ℕ)) (ws : Vocabulary) (words : AreWords names ws) (functions : List Header)
+    (types : Types) (rs : Registers) (regs : List (ℕ × MonType)) (found : AreFound names types rs regs) where
   abbrev pub number : List ℕ → ℕ
   number = name_number names
 
@@ -130,7 +130,8 @@ module _ (names : List (List ℕ)) (ws : Vocabulary) (words : AreWords names ws)
   -- a call with a value
   pub value_call : (w : List ℕ) (r : Runtime) (t : MonType) (e : MonExpression) (f : MonExpression → MonStatement) (more : Pieces) (ts : List PlainToken)
       → ((u : NameUse) (at : Place) (xs : List ParsedArgument) → runtime_call scope u at xs r ≡ one_value scope at t xs f) → valid.is_step (f e) ≡ false → IsExpression types e t
-      → AreTokens names (text.left_paren ∷ ((expression_pieces rs e ++ (text.right_paren ∷ text.semicolon ∷ [])) ++ more)) ts → IsCallAs w (word.Runtime r) (f e) more ts
+      → AreTokens names (text.left_paren ∷ ((expression_pieces rs e ++ (text.right_paren ∷ text.semicolon ∷ [])) ++ more)) ts
+      → IsCallAs w (word.Runtime r) (f e) more ts
   value_call w r t e f more ts same no_step h a0 =
       let a = subst (λ (l : Pieces). AreTokens names (text.left_paren ∷ l) ts) (arguments_are rs more (expression_pieces rs e)) a0 in
       let x = whole e t (text.right_paren ∷ text.semicolon ∷ more) a.1 h a.3 in
@@ -152,7 +153,8 @@ module _ (names : List (List ℕ)) (ws : Vocabulary) (words : AreWords names ws)
 
   -- a call with no argument
   pub bare_call : (w : List ℕ) (r : Runtime) (a : MonStatement) (more : Pieces) (ts : List PlainToken)
-      → ((u : NameUse) (at : Place) → runtime_call scope u at [] r ≡ Ok a) → is_step_word (word.Runtime r) && true ≡ valid.is_step a → AreTokens names (text.left_paren ∷ text.right_paren ∷ text.semicolon ∷ more) ts → IsCallAs w (word.Runtime r) a more ts
+      → ((u : NameUse) (at : Place) → runtime_call scope u at [] r ≡ Ok a) → is_step_word (word.Runtime r) && true ≡ valid.is_step a
+      → AreTokens names (text.left_paren ∷ text.right_paren ∷ text.semicolon ∷ more) ts → IsCallAs w (word.Runtime r) a more ts
   bare_call w r a more ts same flag b = record {
     opening = b.0;
     inner = b.1;
@@ -168,7 +170,9 @@ module _ (names : List (List ℕ)) (ws : Vocabulary) (words : AreWords names ws)
     step = flag;
   }
 
-  pub text_call : (w bytes : List ℕ) (more : Pieces) (ts : List PlainToken) → AreTokens names (text.left_paren ∷ text.Quoted bytes ∷ text.right_paren ∷ text.semicolon ∷ more) ts → IsCallAs w (word.Runtime runtime.PrintText) (PrintText bytes) more ts
+  pub text_call : (w bytes : List ℕ) (more : Pieces) (ts : List PlainToken)
+      → AreTokens names (text.left_paren ∷ text.Quoted bytes ∷ text.right_paren ∷ text.semicolon ∷ more) ts
+      → IsCallAs w (word.Runtime runtime.PrintText) (PrintText bytes) more ts
   text_call w bytes more ts a =
       let inside : sees (kind ws) first_argument a.1 ≡ true = ap (sees (kind ws) first_argument) a.3.2 in
       let one = arguments_read ws a.1 inside (text_read ws bytes a.3.2) (no_more_read ws (parsed.Text a.3.0 bytes ∷ []) a.3.3.2) in
@@ -208,8 +212,10 @@ module _ (names : List (List ℕ)) (ws : Vocabulary) (words : AreWords names ws)
       → runtime_call scope u at (parsed.Value x ∷ parsed.Value y ∷ parsed.Number n_at (pos n) ∷ parsed.Number l_at (pos l) ∷ parsed.Text k_at (kind_word k) ∷ []) runtime.Assert ≡ Ok (Assert d v n l k)
   assert_checked d v n l k u at n_at l_at k_at x y p q g h = rw (condition_checked d I32 x p, condition_checked v I32 y q, number_checked n_at n g, number_checked l_at l h, kind_checked k_at k) refl
 
-  pub assert_call_is : (w : List ℕ) (d v : MonExpression) (n l : ℕ) (k : Kind) (more : Pieces) (ts : List PlainToken) → IsExpression types d I32 → IsExpression types v I32 → n ≤ greatest_number → l ≤ greatest_number
-      → AreTokens names (text.left_paren ∷ ((assert_arguments rs d v n l (kind_word k) ++ (text.right_paren ∷ text.semicolon ∷ [])) ++ more)) ts → IsCallAs w (word.Runtime runtime.Assert) (Assert d v n l k) more ts
+  pub assert_call_is : (w : List ℕ) (d v : MonExpression) (n l : ℕ) (k : Kind) (more : Pieces) (ts : List PlainToken) → IsExpression types d I32
+      → IsExpression types v I32 → n ≤ greatest_number → l ≤ greatest_number
+      → AreTokens names (text.left_paren ∷ ((assert_arguments rs d v n l (kind_word k) ++ (text.right_paren ∷ text.semicolon ∷ [])) ++ more)) ts
+      → IsCallAs w (word.Runtime runtime.Assert) (Assert d v n l k) more ts
   assert_call_is w d v n l k more ts hd hv hn hl a0 =
       let a = subst (λ (p : Pieces). AreTokens names (text.left_paren ∷ p) ts) (assert_is rs more d v n l (kind_word k)) a0 in
       let x = whole d I32 _ a.1 hd a.3 in
@@ -241,7 +247,8 @@ module _ (names : List (List ℕ)) (ws : Vocabulary) (words : AreWords names ws)
         rest = close.3.1;
         ends = close.3.2;
         after = close.3.3;
-        checked = λ _ at. assert_checked d v n l k (record { place = at; number = number w }) a.0 first.0 second.0 third.0 x.tree y.tree x.checked y.checked hn hl;
+        checked = λ _ at. assert_checked d v n l k
+            (record { place = at; number = number w }) a.0 first.0 second.0 third.0 x.tree y.tree x.checked y.checked hn hl;
         step = refl;
       }
 
@@ -258,10 +265,12 @@ module _ (names : List (List ℕ)) (ws : Vocabulary) (words : AreWords names ws)
     after : AreTokens names more rest
     checked : (at : Place) → arguments_of scope at ps trees ≡ Ok es
 
-  one_checked : (e : MonExpression) (es : List MonExpression) (p : MonType) (ps : Types) (x : ParsedExpression) (xs : List ParsedArgument) (at : Place) → checked_expression scope x ≡ Ok (e, p) → arguments_of scope at ps xs ≡ Ok es → arguments_of scope at (p ∷ ps) (parsed.Value x ∷ xs) ≡ Ok (e ∷ es)
+  one_checked : (e : MonExpression) (es : List MonExpression) (p : MonType) (ps : Types) (x : ParsedExpression) (xs : List ParsedArgument) (at : Place)
+      → checked_expression scope x ≡ Ok (e, p) → arguments_of scope at ps xs ≡ Ok es → arguments_of scope at (p ∷ ps) (parsed.Value x ∷ xs) ≡ Ok (e ∷ es)
   one_checked e es p ps x xs at h k = rw (condition_checked e p x h, k) refl
 
-  more_as : (es : List MonExpression) (ps : Types) (more : Pieces) (ts : List PlainToken) → AreArguments types es ps → AreTokens names (text.more_arguments rs es ++ (text.right_paren ∷ more)) ts → AreMoreAs es ps more ts
+  more_as : (es : List MonExpression) (ps : Types) (more : Pieces) (ts : List PlainToken) → AreArguments types es ps
+      → AreTokens names (text.more_arguments rs es ++ (text.right_paren ∷ more)) ts → AreMoreAs es ps more ts
   more_as [] [] more ts h a = record {
     trees = [];
     behind = ts;
@@ -302,8 +311,10 @@ module _ (names : List (List ℕ)) (ws : Vocabulary) (words : AreWords names ws)
     after : AreTokens names more rest
     checked : (at : Place) → arguments_of scope at ps trees ≡ Ok es
 
-  arguments_as : (es : List MonExpression) (ps : Types) (more : Pieces) (ts : List PlainToken) → AreArguments types es ps → AreTokens names (arguments_pieces rs es ++ (text.right_paren ∷ more)) ts → AreArgumentsAs es ps more ts
-  arguments_as [] [] more ts h a = record { trees = []; behind = ts; read = no_argument_read ws a.2; end = a.0; rest = a.1; ends = a.2; after = a.3; checked = λ at. refl }
+  arguments_as : (es : List MonExpression) (ps : Types) (more : Pieces) (ts : List PlainToken) → AreArguments types es ps
+      → AreTokens names (arguments_pieces rs es ++ (text.right_paren ∷ more)) ts → AreArgumentsAs es ps more ts
+  arguments_as [] [] more ts h a =
+      record { trees = []; behind = ts; read = no_argument_read ws a.2; end = a.0; rest = a.1; ends = a.2; after = a.3; checked = λ at. refl }
   arguments_as [] (p ∷ ps) more ts h a = absurd h
   arguments_as (e ∷ es) [] more ts h a = absurd h
   arguments_as (e ∷ es) (p ∷ ps) more ts h a0 =
@@ -321,7 +332,8 @@ module _ (names : List (List ℕ)) (ws : Vocabulary) (words : AreWords names ws)
         checked = λ at. one_checked e es p ps x.tree y.trees at x.checked (y.checked at);
       }
 
-  call_with_arguments : (w : List ℕ) (k : Word) (a : MonStatement) (es : List MonExpression) (ps : Types) (more : Pieces) (ts : List PlainToken) → is_step_word k ≡ false → valid.is_step a ≡ false → AreArguments types es ps
+  call_with_arguments : (w : List ℕ) (k : Word) (a : MonStatement) (es : List MonExpression) (ps : Types) (more : Pieces) (ts : List PlainToken)
+      → is_step_word k ≡ false → valid.is_step a ≡ false → AreArguments types es ps
       → (slice_get names (number w) ≡ Some w → (at opening : Place) (xs : List ParsedArgument) → arguments_of scope opening ps xs ≡ Ok es → call_of_word scope (call_with w at opening xs) k ≡ Ok a)
       → AreTokens names (text.left_paren ∷ ((arguments_pieces rs es ++ (text.right_paren ∷ text.semicolon ∷ [])) ++ more)) ts → IsCallAs w k a more ts
   call_with_arguments w k a es ps more ts no_word no_step h same b0 =
@@ -343,28 +355,37 @@ module _ (names : List (List ℕ)) (ws : Vocabulary) (words : AreWords names ws)
       }
 
   -- a call of the runtime on the memory
-  memory_checked : (f : MemoryCall) (u : NameUse) (at : Place) (xs : List ParsedArgument) (es : List MonExpression) → arguments_of scope at (memory_parameters f) xs ≡ Ok es → runtime_call scope u at xs (memory_runtime f) ≡ Ok (Act None f es)
+  memory_checked : (f : MemoryCall) (u : NameUse) (at : Place) (xs : List ParsedArgument) (es : List MonExpression)
+      → arguments_of scope at (memory_parameters f) xs ≡ Ok es → runtime_call scope u at xs (memory_runtime f) ≡ Ok (Act None f es)
   memory_checked StoreBlock u at xs es h = rw h refl
   memory_checked DeleteBlock u at xs es h = rw h refl
 
   pub memory_call_is : (f : MemoryCall) (es : List MonExpression) (more : Pieces) (ts : List PlainToken) → AreArguments types es (memory_parameters f)
-      → AreTokens names (text.left_paren ∷ ((arguments_pieces rs es ++ (text.right_paren ∷ text.semicolon ∷ [])) ++ more)) ts → IsCallAs (memory_word f) (word.Runtime (memory_runtime f)) (Act None f es) more ts
+      → AreTokens names (text.left_paren ∷ ((arguments_pieces rs es ++ (text.right_paren ∷ text.semicolon ∷ [])) ++ more)) ts
+      → IsCallAs (memory_word f) (word.Runtime (memory_runtime f)) (Act None f es) more ts
   memory_call_is f es more ts h a =
-      call_with_arguments (memory_word f) (word.Runtime (memory_runtime f)) (Act None f es) es (memory_parameters f) more ts (no_step_word f) refl h (λ _ at opening xs k. memory_checked f (record { place = at; number = number (memory_word f) }) opening xs es k) a
+      call_with_arguments (memory_word f) (word.Runtime (memory_runtime f)) (Act None f es) es (memory_parameters f) more ts (no_step_word f) refl h
+      (λ _ at opening xs k. memory_checked f (record { place = at; number = number (memory_word f) }) opening xs es k) a
     where
       no_step_word : (f : MemoryCall) → is_step_word (word.Runtime (memory_runtime f)) ≡ false
       no_step_word StoreBlock = refl
       no_step_word DeleteBlock = refl
 
   -- a call of a function of the program
-  named_checked : (w : List ℕ) (f : ℕ) (ps : Types) (result : Option MonType) (es : List MonExpression) (at opening : Place) (xs : List ParsedArgument) → find_function 0 functions (number w) ≡ Some (f, record { name = number w; parameters = ps; result = result })
-      → bytes_of scope (number w) ≡ w → bytes_eq w (codes "main") ≡ false → arguments_of scope opening ps xs ≡ Ok es → call_of_word scope (call_with w at opening xs) word.Name ≡ Ok (Call None f es)
+  named_checked : (w : List ℕ) (f : ℕ) (ps : Types) (result : Option MonType) (es : List MonExpression) (at opening : Place) (xs : List ParsedArgument)
+      → find_function 0 functions (number w) ≡ Some (f, record { name = number w; parameters = ps; result = result })
+      → bytes_of scope (number w) ≡ w → bytes_eq w (codes "main") ≡ false → arguments_of scope opening ps xs ≡ Ok es
+      → call_of_word scope (call_with w at opening xs) word.Name ≡ Ok (Call None f es)
   named_checked w f ps result es at opening xs e b m h = rw (e, b, m, h) refl
 
   pub bytes_are : (n : ℕ) (w : List ℕ) → slice_get names n ≡ Some w → bytes_of scope n ≡ w
   bytes_are n w e = rw (e, bytes_of) refl
 
-  pub named_call_is : (f : ℕ) (g : Signature) (es : List MonExpression) (more : Pieces) (ts : List PlainToken) → (slice_get names (number g.name) ≡ Some g.name → find_function 0 functions (number g.name) ≡ Some (f, record { name = number g.name; parameters = g.parameters; result = g.result }))
-      → bytes_eq g.name (codes "main") ≡ false → AreArguments types es g.parameters → AreTokens names (text.left_paren ∷ ((arguments_pieces rs es ++ (text.right_paren ∷ text.semicolon ∷ [])) ++ more)) ts → IsCallAs g.name word.Name (Call None f es) more ts
+  pub named_call_is : (f : ℕ) (g : Signature) (es : List MonExpression) (more : Pieces) (ts : List PlainToken)
+      → (slice_get names (number g.name) ≡ Some g.name → find_function 0 functions (number g.name) ≡ Some (f, record { name = number g.name; parameters = g.parameters; result = g.result }))
+      → bytes_eq g.name (codes "main") ≡ false → AreArguments types es g.parameters
+      → AreTokens names (text.left_paren ∷ ((arguments_pieces rs es ++ (text.right_paren ∷ text.semicolon ∷ [])) ++ more)) ts
+      → IsCallAs g.name word.Name (Call None f es) more ts
   named_call_is f g es more ts has not_main h a =
-      call_with_arguments g.name word.Name (Call None f es) es g.parameters more ts refl refl h (λ there at opening xs k. named_checked g.name f g.parameters g.result es at opening xs (has there) (bytes_are (number g.name) g.name there) not_main k) a
+      call_with_arguments g.name word.Name (Call None f es) es g.parameters more ts refl refl h
+      (λ there at opening xs k. named_checked g.name f g.parameters g.result es at opening xs (has there) (bytes_are (number g.name) g.name there) not_main k) a

@@ -186,7 +186,8 @@ AreWords names ws = (n : ℕ) (w : List ℕ) → slice_get names n ≡ Some w �
 abbrev pub AreFound : List (List ℕ) → Types → Registers → List (ℕ × MonType) → Type 0
 AreFound names types rs regs = (r : ℕ) (t : MonType) → slice_get types r ≡ Some t → (find_register 0 regs (name_number names (name_of rs r)) ≡ Some (r, t)) × (word_of (name_of rs r) ≡ word.Name)
 
-module _ (names : List (List ℕ)) (ws : Vocabulary) (words : AreWords names ws) (functions : List Header) (types : Types) (rs : Registers) (regs : List (ℕ × MonType)) (found : AreFound names types rs regs) where
+module _ (names : List (List ℕ)) (ws : Vocabulary) (words : AreWords names ws) (functions : List Header)
+    (types : Types) (rs : Registers) (regs : List (ℕ × MonType)) (found : AreFound names types rs regs) where
   -- with n parentheses left the tokens are read as the expression of its type, up to those of the pieces behind it
   pub record IsReadAs (n : ℕ) (e : MonExpression) (t : MonType) (more : Pieces) (ts : List PlainToken) : Type 0 where
     pub tree : ParsedExpression
@@ -200,7 +201,9 @@ module _ (names : List (List ℕ)) (ws : Vocabulary) (words : AreWords names ws)
     pub named : IsRegister e → IsNamed ws tree ts rest
 
   paren_is : (n : ℕ) (e : MonExpression) (t : MonType) (more : Pieces) {at : Place} {ts inner : List PlainToken} (x : ParsedExpression) (rest : List PlainToken)
-      → 0 < n → ts ≡ made.token at (token.Mark left_paren) ∷ inner → (behind_opened ws n).parse inner ≡ Ok (x, rest) → sees (kind ws) (type_kind ∷ []) inner ≡ false → AreTokens names more rest → checked_expression (scope_of names ws functions regs) x ≡ Ok (e, t) → (IsRegister e → ⊥) → IsReadAs n e t more ts
+      → 0 < n → ts ≡ made.token at (token.Mark left_paren) ∷ inner → (behind_opened ws n).parse inner ≡ Ok (x, rest)
+      → sees (kind ws) (type_kind ∷ []) inner ≡ false → AreTokens names more rest → checked_expression (scope_of names ws functions regs) x ≡ Ok (e, t)
+      → (IsRegister e → ⊥) → IsReadAs n e t more ts
   paren_is n e t more x rest some h is no_type after checked no_register = record {
     tree = x;
     rest = rest;
@@ -237,19 +240,28 @@ module _ (names : List (List ℕ)) (ws : Vocabulary) (words : AreWords names ws)
       number_is (pos m) us b = (b.1, positive_read ws m b.2, b.3)
       number_is (negsuc m) us b = (b.3.1, negative_read ws m b.2 b.3.2, b.3.3)
 
-  binary_checked : (op : MonOp) (k t : MonType) (a b : MonExpression) (at : Place) (x y : ParsedExpression) → checked_expression (scope_of names ws functions regs) x ≡ Ok (a, k) → checked_expression (scope_of names ws functions regs) y ≡ Ok (b, k) → is_arithmetic k ≡ true → result_type op k ≡ t → checked_expression (scope_of names ws functions regs) (parsed.Binary at op x y) ≡ Ok (Binary op k a b, t)
+  binary_checked : (op : MonOp) (k t : MonType) (a b : MonExpression) (at : Place) (x y : ParsedExpression)
+      → checked_expression (scope_of names ws functions regs) x ≡ Ok (a, k) → checked_expression (scope_of names ws functions regs) y ≡ Ok (b, k)
+      → is_arithmetic k ≡ true → result_type op k ≡ t
+      → checked_expression (scope_of names ws functions regs) (parsed.Binary at op x y) ≡ Ok (Binary op k a b, t)
   binary_checked op k t a b at x y p q h e = rw (p, q, same_types k, h) (ap (λ (z : MonType). Ok (Binary op k a b, z)) e)
 
-  minus_checked : (k t : MonType) (a : MonExpression) (at : Place) (x : ParsedExpression) → checked_expression (scope_of names ws functions regs) x ≡ Ok (a, k) → is_arithmetic k ≡ true → k ≡ t → checked_expression (scope_of names ws functions regs) (parsed.Minus at x) ≡ Ok (Minus k a, t)
+  minus_checked : (k t : MonType) (a : MonExpression) (at : Place) (x : ParsedExpression)
+      → checked_expression (scope_of names ws functions regs) x ≡ Ok (a, k) → is_arithmetic k ≡ true → k ≡ t
+      → checked_expression (scope_of names ws functions regs) (parsed.Minus at x) ≡ Ok (Minus k a, t)
   minus_checked k t a at x p h e = rw (p, h) (ap (λ (z : MonType). Ok (Minus k a, z)) e)
 
-  flip_checked : (k t : MonType) (a : MonExpression) (at : Place) (x : ParsedExpression) → checked_expression (scope_of names ws functions regs) x ≡ Ok (a, k) → is_arithmetic k ≡ true → k ≡ t → checked_expression (scope_of names ws functions regs) (parsed.Flip at x) ≡ Ok (Flip k a, t)
+  flip_checked : (k t : MonType) (a : MonExpression) (at : Place) (x : ParsedExpression) → checked_expression (scope_of names ws functions regs) x ≡ Ok (a, k)
+      → is_arithmetic k ≡ true → k ≡ t → checked_expression (scope_of names ws functions regs) (parsed.Flip at x) ≡ Ok (Flip k a, t)
   flip_checked k t a at x p h e = rw (p, h) (ap (λ (z : MonType). Ok (Flip k a, z)) e)
 
-  cast_checked : (k t «from» : MonType) (a : MonExpression) (at : Place) (x : ParsedExpression) → checked_expression (scope_of names ws functions regs) x ≡ Ok (a, «from») → is_whole «from» ≡ true → is_whole k ≡ true → k ≡ t → checked_expression (scope_of names ws functions regs) (parsed.Cast at k x) ≡ Ok (Cast k a, t)
+  cast_checked : (k t «from» : MonType) (a : MonExpression) (at : Place) (x : ParsedExpression)
+      → checked_expression (scope_of names ws functions regs) x ≡ Ok (a, «from») → is_whole «from» ≡ true → is_whole k ≡ true → k ≡ t
+      → checked_expression (scope_of names ws functions regs) (parsed.Cast at k x) ≡ Ok (Cast k a, t)
   cast_checked k t «from» a at x p i j e = rw (p, i, j) (ap (λ (z : MonType). Ok (Cast k a, z)) e)
 
-  name_checked : (r : ℕ) (t : MonType) (at : Place) → slice_get types r ≡ Some t → checked_expression (scope_of names ws functions regs) (parsed.Name (record { place = at; number = name_number names (name_of rs r) })) ≡ Ok (Register r, t)
+  name_checked : (r : ℕ) (t : MonType) (at : Place) → slice_get types r ≡ Some t
+      → checked_expression (scope_of names ws functions regs) (parsed.Name (record { place = at; number = name_number names (name_of rs r) })) ≡ Ok (Register r, t)
   name_checked r t at h = rw ((found r t h).0) refl
 
   pub register_is : (n r : ℕ) (t : MonType) (more : Pieces) (ts : List PlainToken) → slice_get types r ≡ Some t → AreTokens names (expression_pieces rs (Register r) ++ more) ts → IsReadAs n (Register r) t more ts
@@ -298,4 +310,5 @@ module _ (names : List (List ℕ)) (ws : Vocabulary) (words : AreWords names ws)
       let close = typed.1.3 in
       let x = expression_is a m h.2.0 _ close.1 (omega arith) h.2.2 close.3 in
       let is = cast_behind ws m _ (omega arith) g.3.2 typed.1.2 (ap word_kind w) ∙ cast_read ws (expression_in ws m) g.3.0 k _ typed.1.2 w close.2 x.parsed x.after.2 in
-      paren_is (suc m) (Cast k a) t more (parsed.Cast g.3.0 k x.tree) x.after.1 (omega arith) g.2 is (sees_mark ws left_paren g.3.2 (type_kind ∷ []) false refl) x.after.3 (cast_checked k t h.2.0 a g.3.0 x.tree x.checked h.2.1 h.1 h.0) (λ z. z)
+      paren_is (suc m) (Cast k a) t more (parsed.Cast g.3.0 k x.tree) x.after.1 (omega arith) g.2 is
+      (sees_mark ws left_paren g.3.2 (type_kind ∷ []) false refl) x.after.3 (cast_checked k t h.2.0 a g.3.0 x.tree x.checked h.2.1 h.1 h.0) (λ z. z)

@@ -1,9 +1,9 @@
 -- The pieces of each form in front of others, as one list.
-use Rattle.std.proofs.Common.{◌≡◌, ℕ, ◌+◌, List, [], ◌∷◌, ◌++◌, codes, Option, sym, ap, ◌∙◌, append_assoc}
+use Rattle.std.proofs.Common.{◌≡◌, ℕ, ◌+◌, List, [], ◌∷◌, ◌++◌, codes, sym, ap, ◌∙◌, append_assoc}
 use Rattle.mon_syntax.specs.declared.tree.MonType.{MonType}
 use Rattle.mon_syntax.specs.declared.tree.MonOp.{MonOp}
 use Rattle.mon_syntax.specs.Trees.{MonExpression, Binary, MonStatement, If, Loop, Labelled, MonStatements, Then, MonFunction}
-use Rattle.mon_syntax.specs.Text.{Piece, Word, Number, Quoted, Mark, blank, new_line, left_paren, right_paren, semicolon, operator_mark, Registers, expression_pieces, set_or_none, more_arguments, assert_arguments, FunctionNames, body_pieces, statement_pieces, statements_pieces, result_word, parameters_pieces, registers_pieces, function_pieces}
+use Rattle.mon_syntax.specs.Text.{Piece, Word, Number, Quoted, Mark, blank, new_line, left_paren, right_paren, semicolon, operator_mark, Registers, expression_pieces, more_arguments, assert_arguments, FunctionNames, body_pieces, statement_pieces, statements_pieces, result_word, parameters_pieces, registers_pieces, function_pieces}
 
 abbrev pub Pieces : Type 0
 Pieces = List Piece
@@ -27,12 +27,9 @@ module _ (rs : Registers) (more : Pieces) where
   ended_is e = append_assoc (expression_pieces rs e) (semicolon ∷ []) more
 
   -- an argument and those behind it
-  pub argument_is : (e : MonExpression) (es : List MonExpression) → (expression_pieces rs e ++ more_arguments rs es) ++ more ≡ expression_pieces rs e ++ (more_arguments rs es ++ more)
+  pub argument_is : (e : MonExpression) (es : List MonExpression)
+      → (expression_pieces rs e ++ more_arguments rs es) ++ more ≡ expression_pieces rs e ++ (more_arguments rs es ++ more)
   argument_is e es = append_assoc (expression_pieces rs e) (more_arguments rs es) more
-
-  -- the register that takes the value of a call, and the call
-  pub taken_is : (r : Option ℕ) (call : Pieces) → (set_or_none rs r ++ call) ++ more ≡ set_or_none rs r ++ (call ++ more)
-  taken_is r call = append_assoc (set_or_none rs r) call more
 
   -- the arguments of a call, and what ends it
   pub arguments_are : (arguments : Pieces) → (arguments ++ (right_paren ∷ semicolon ∷ [])) ++ more ≡ arguments ++ (right_paren ∷ semicolon ∷ more)
@@ -80,7 +77,8 @@ module _ (gs : FunctionNames) (rs : Registers) (more : Pieces) where
       (append_assoc A (new_line (depth + 1) ∷ step_then (B ++ (new_line depth ∷ Mark (codes "}") ∷ []))) more
       ∙ ap (λ (l : Pieces). A ++ (new_line (depth + 1) ∷ step_then l)) (append_assoc B (new_line depth ∷ Mark (codes "}") ∷ []) more))
 
-  pub labelled_is : (depth : ℕ) (a : MonStatements) (l : List ℕ) → statement_pieces gs rs depth (Labelled a l) ++ more ≡ body_pieces gs rs depth a ++ (blank ∷ Word l ∷ Mark (codes ":") ∷ blank ∷ semicolon ∷ more)
+  pub labelled_is : (depth : ℕ) (a : MonStatements) (l : List ℕ)
+      → statement_pieces gs rs depth (Labelled a l) ++ more ≡ body_pieces gs rs depth a ++ (blank ∷ Word l ∷ Mark (codes ":") ∷ blank ∷ semicolon ∷ more)
   labelled_is depth a l = append_assoc (body_pieces gs rs depth a) (blank ∷ Word l ∷ Mark (codes ":") ∷ blank ∷ semicolon ∷ []) more
 
   pub body_is : (depth : ℕ) (a : MonStatement) (rest : MonStatements)
@@ -94,7 +92,8 @@ module _ (gs : FunctionNames) (rs : Registers) (more : Pieces) where
       ∙ ap (λ (l : Pieces). A ++ l) (append_assoc R (new_line depth ∷ Mark (codes "}") ∷ []) more)
       ∙ sym (append_assoc A R (new_line depth ∷ Mark (codes "}") ∷ more)))
 
-  pub then_is : (depth : ℕ) (a : MonStatement) (rest : MonStatements) → statements_pieces gs rs depth (Then a rest) ++ more ≡ new_line depth ∷ (statement_pieces gs rs depth a ++ (statements_pieces gs rs depth rest ++ more))
+  pub then_is : (depth : ℕ) (a : MonStatement) (rest : MonStatements)
+      → statements_pieces gs rs depth (Then a rest) ++ more ≡ new_line depth ∷ (statement_pieces gs rs depth a ++ (statements_pieces gs rs depth rest ++ more))
   then_is depth a rest = ap (λ (l : Pieces). new_line depth ∷ l) (append_assoc (statement_pieces gs rs depth a) (statements_pieces gs rs depth rest) more)
 
 -- ---- functions

@@ -1,5 +1,5 @@
 -- A printed function is read, and checks as the function that was printed.
-use Rattle.std.proofs.Common.{◌≡◌, ℕ, zero, suc, ◌+◌, ◌≤◌, Bool, true, false, cond, not, ◌||◌, eqb, List, [], ◌∷◌, ◌++◌, map, drop, length, slice_get, codes, Option, Some, None, Ok, refl, sym, ap, subst, ◌∙◌, arith, eq-eqb, true≢false}
+use Rattle.std.proofs.Common.{◌≡◌, ℕ, zero, suc, ◌+◌, ◌≤◌, Bool, true, false, cond, not, eqb, List, [], ◌∷◌, ◌++◌, map, drop, length, slice_get, codes, Option, Some, None, Ok, refl, sym, ap, subst, ◌∙◌, arith, eq-eqb, true≢false}
 use Rattle.std.specs.Prelude.{bytes_eq, nat_eq}
 use Rattle.std.proofs.lemmas.Bool.{eqb-true}
 use Rattle.std.proofs.lemmas.List.{map-append}
@@ -14,21 +14,21 @@ use Rattle.mon_syntax.specs.declared.tree.MonType.{MonType}
 use Rattle.mon_syntax.specs.declared.word.Word.{Word}
 use Rattle.mon_syntax.specs.declared.word.Word.TheVariants as word
 use Rattle.mon_syntax.specs.Words.{word_of}
-use Rattle.mon_syntax.specs.Trees.{MonStatements, MonRegister, MonFunction}
+use Rattle.mon_syntax.specs.Trees.{MonFunction}
 use Rattle.mon_syntax.specs.Text as text
 use Rattle.mon_syntax.specs.Text.{Registers, FunctionNames, function_name, statements_pieces, registers_pieces, function_pieces, result_word}
-use Rattle.mon_syntax.specs.Valid.{has_label, Signature, depth_of_all, AreRegisters, types_of, signature_of, IsFunction, AreFunctions}
-use Rattle.mon_syntax.specs.Parsed.{ParsedStatement, ParsedStatements, ParsedRegister, ParsedFunction}
+use Rattle.mon_syntax.specs.Valid.{has_label, Signature, depth_of_all, types_of, signature_of, IsFunction, AreFunctions}
+use Rattle.mon_syntax.specs.Parsed.{ParsedStatement, ParsedRegister, ParsedFunction}
 use Rattle.mon_syntax.specs.Grammar as form
 use Rattle.mon_syntax.specs.Grammar.{Vocabulary, left_paren, right_paren, left_brace, right_brace, name_kind, type_kind, void_kind, mark_kind, word_kind, word_at, kind, type_of_word, type_of, first_function, first_statement, parsed_list, registers, parameters, function_body, function}
-use Rattle.mon_syntax.specs.Checking.{Header, find_function, scope_of, checked_registers, named_register, checked_statements, kinds_of, word_bytes, header_of, function_of, result_of, checked_function}
+use Rattle.mon_syntax.specs.Checking.{Header, find_function, scope_of, checked_registers, named_register, checked_statements, kinds_of, word_bytes, function_of, result_of, checked_function}
 use Rattle.mon_syntax.proofs.PrintedPieces.{AreTokens, is_same}
 use Rattle.mon_syntax.proofs.PrintedForms.{Pieces, function_is}
 use Rattle.mon_syntax.proofs.PrintedAlone.{same_bytes}
 use Rattle.mon_syntax.proofs.PrintedSteps.{free_is_name, type_word_is, mark_read, fixed_read, placed_read, name_read, sees_mark, sees_word}
 use Rattle.mon_syntax.proofs.PrintedExpressions.{AreWords, AreFound}
 use Rattle.mon_syntax.proofs.PrintedBodies.{AreRead, list_read}
-use Rattle.mon_syntax.proofs.PrintedStatements.{IsCallee, AreCallees, statements_as}
+use Rattle.mon_syntax.proofs.PrintedStatements.{AreCallees, statements_as}
 use Rattle.mon_syntax.proofs.PrintedRegisters.{both_false, number, IsKnown, entry, found_are, registers_back, bytes_are, known_join, registers_as, registers_read, parameters_as, behind_parameters}
 
 -- ---- functions are found by their names
@@ -38,17 +38,21 @@ same_name : (names : List (List ℕ)) (v w : List ℕ) → slice_get names (name
 same_name [] v w e = absurd cc
 same_name (x ∷ xs) v w e = by (bytes_eq v x) refl (same_name xs v w) e
   where
-    by : (t : Bool) → bytes_eq v x ≡ t → (slice_get xs (name_number xs v) ≡ Some w → v ≡ w) → slice_get (x ∷ xs) (let n : ℕ = cond (not t) (1 + name_number xs v) 0 in n) ≡ Some w → v ≡ w
+    by : (t : Bool) → bytes_eq v x ≡ t → (slice_get xs (name_number xs v) ≡ Some w → v ≡ w)
+        → slice_get (x ∷ xs) (let n : ℕ = cond (not t) (1 + name_number xs v) 0 in n) ≡ Some w → v ≡ w
     by true f go g = let same : x ≡ w = cc in same_bytes v x f ∙ same
     by false f go g = let next : 1 + name_number xs v ≡ suc (name_number xs v) = omega arith in go (ap (slice_get (x ∷ xs)) (sym next) ∙ g)
 
 module _ (names : List (List ℕ)) where
+  -- what a function is to its callers, as it is read
   abbrev pub header : MonFunction → Header
   header f = record { name = number names f.name; parameters = types_of f.parameters; result = f.result }
 
+  -- and what it is by its signature
   abbrev header_with : Signature → Header
   header_with g = record { name = number names g.name; parameters = g.parameters; result = g.result }
 
+  -- another word than a name has another number
   pub other_name : (v w : List ℕ) → IsKnown names w → bytes_eq w v ≡ false → nat_eq (number names v) (number names w) ≡ false
   other_name v w known differ = by (nat_eq (number names v) (number names w)) refl
     where
@@ -59,12 +63,15 @@ module _ (names : List (List ℕ)) where
       by false e = refl
 
   -- no function has a name that stands before
-  pub not_before : (gs : List Signature) (before : List (List ℕ)) (fs : List MonFunction) (k : ℕ) (g : Signature) → AreFunctions gs before fs → slice_get (map signature_of fs) k ≡ Some g → has_label before g.name ≡ false
+  pub not_before : (gs : List Signature) (before : List (List ℕ)) (fs : List MonFunction) (k : ℕ) (g : Signature) → AreFunctions gs before fs
+      → slice_get (map signature_of fs) k ≡ Some g → has_label before g.name ≡ false
   not_before gs before [] k g h e = absurd cc
   not_before gs before (f ∷ fs) zero g h e = let same : signature_of f ≡ g = cc in ap (λ (s : Signature). has_label before s.name) (sym same) ∙ h.1
   not_before gs before (f ∷ fs) (suc k) g h e = (both_false (bytes_eq g.name f.name) (has_label before g.name) (not_before gs (f.name ∷ before) fs k g h.2 e)).1
 
-  find_is : (gs : List Signature) (before : List (List ℕ)) (fs : List MonFunction) (i k : ℕ) (g : Signature) → AreFunctions gs before fs → slice_get (map signature_of fs) k ≡ Some g → IsKnown names g.name → find_function i (map header fs) (number names g.name) ≡ Some (i + k, header_with g)
+  find_is : (gs : List Signature) (before : List (List ℕ)) (fs : List MonFunction) (i k : ℕ) (g : Signature) → AreFunctions gs before fs
+      → slice_get (map signature_of fs) k ≡ Some g → IsKnown names g.name
+      → find_function i (map header fs) (number names g.name) ≡ Some (i + k, header_with g)
   find_is gs before [] i k g h e known = absurd cc
   find_is gs before (f ∷ fs) i zero g h e known =
       let same : signature_of f ≡ g = cc in
@@ -75,7 +82,8 @@ module _ (names : List (List ℕ)) where
       let there : suc i + k ≡ i + suc k = omega arith in
       rw (other_name f.name g.name known other) (find_is gs (f.name ∷ before) fs (suc i) k g h.2 e known ∙ ap (λ (n : ℕ). Some (n, header_with g)) there)
 
-  name_is : (fs : List MonFunction) (k : ℕ) (g : Signature) → slice_get (map signature_of fs) k ≡ Some g → function_name (map (λ (f : MonFunction). f.name) fs) k ≡ g.name
+  name_is : (fs : List MonFunction) (k : ℕ) (g : Signature) → slice_get (map signature_of fs) k ≡ Some g
+      → function_name (map (λ (f : MonFunction). f.name) fs) k ≡ g.name
   name_is [] k g e = absurd cc
   name_is (f ∷ fs) zero g e = let same : signature_of f ≡ g = cc in ap (λ (s : Signature). s.name) same
   name_is (f ∷ fs) (suc k) g e = name_is fs k g e
@@ -85,12 +93,14 @@ module _ (names : List (List ℕ)) where
   result_is (f ∷ fs) zero g e = let same : signature_of f ≡ g = cc in ap (λ (s : Signature). s.result) same
   result_is (f ∷ fs) (suc k) g e = result_is fs k g e
 
-  is_name : (gs : List Signature) (before : List (List ℕ)) (fs : List MonFunction) (k : ℕ) (g : Signature) → AreFunctions gs before fs → slice_get (map signature_of fs) k ≡ Some g → word_of g.name ≡ word.Name
+  is_name : (gs : List Signature) (before : List (List ℕ)) (fs : List MonFunction) (k : ℕ) (g : Signature) → AreFunctions gs before fs
+      → slice_get (map signature_of fs) k ≡ Some g → word_of g.name ≡ word.Name
   is_name gs before [] k g h e = absurd cc
   is_name gs before (f ∷ fs) zero g h e = let same : signature_of f ≡ g = cc in ap (λ (s : Signature). word_of s.name) (sym same) ∙ free_is_name f.name h.0.name
   is_name gs before (f ∷ fs) (suc k) g h e = is_name gs (f.name ∷ before) fs k g h.2 e
 
-  pub callees_are : (gs : List Signature) (fs : List MonFunction) → AreFunctions gs [] fs → AreCallees names (map header fs) (map (λ (f : MonFunction). f.name) fs) (map signature_of fs)
+  pub callees_are : (gs : List Signature) (fs : List MonFunction) → AreFunctions gs [] fs
+      → AreCallees names (map header fs) (map (λ (f : MonFunction). f.name) fs) (map signature_of fs)
   callees_are gs fs h k g e = record {
     name = name_is fs k g e;
     is_name = is_name gs [] fs k g h e;
@@ -119,12 +129,15 @@ no_type k h = by (eqb k type_kind) refl
     by false e = refl
 
 module _ (ws : Vocabulary) where
-  result_read : (t : Option MonType) (n : ℕ) {at : Place} {ts more : List PlainToken} → ts ≡ made.token at (token.Word n) ∷ more → word_at ws n ≡ result_kind t → (form.result ws).parse ts ≡ Ok (t, more)
+  result_read : (t : Option MonType) (n : ℕ) {at : Place} {ts more : List PlainToken} → ts ≡ made.token at (token.Word n) ∷ more
+      → word_at ws n ≡ result_kind t → (form.result ws).parse ts ≡ Ok (t, more)
   unfolding form.result
   result_read None n e w = rw (sees_word ws n void_kind e (ap word_kind w) (type_kind ∷ []) false refl, fixed_read ws void_kind n e (ap word_kind w)) refl
-  result_read (Some t) n e w = rw (sees_word ws n type_kind e (ap word_kind w) (type_kind ∷ []) true refl, placed_read ws (type_of ws) (token.Word n) t e (ap type_of_word w)) refl
+  result_read (Some t) n e w =
+      rw (sees_word ws n type_kind e (ap word_kind w) (type_kind ∷ []) true refl, placed_read ws (type_of ws) (token.Word n) t e (ap type_of_word w)) refl
 
-  result_begins : (t : Option MonType) (n : ℕ) {at : Place} {ts more : List PlainToken} → ts ≡ made.token at (token.Word n) ∷ more → word_at ws n ≡ result_kind t → sees (kind ws) first_function ts ≡ true
+  result_begins : (t : Option MonType) (n : ℕ) {at : Place} {ts more : List PlainToken} → ts ≡ made.token at (token.Word n) ∷ more
+      → word_at ws n ≡ result_kind t → sees (kind ws) first_function ts ≡ true
   result_begins None n e w = sees_word ws n void_kind e (ap word_kind w) first_function true refl
   result_begins (Some t) n e w = sees_word ws n type_kind e (ap word_kind w) first_function true refl
 
@@ -137,7 +150,8 @@ module _ (ws : Vocabulary) where
   body_begins n (x ∷ xs) ts h e = sees_no_type ts h.1
 
   function_read : (r : Option MonType) (k : ℕ) (ps rs : List ParsedRegister) (xs : List ParsedStatement) (ts t3 : List PlainToken) {to opening closing start end : Place} {t1 t2 t4 t5 t6 : List PlainToken} (t7 : List PlainToken) {t8 rest : List PlainToken}
-      → (form.result ws).parse ts ≡ Ok (r, t1) → t1 ≡ made.token to (token.Word k) ∷ t2 → word_kind (word_at ws k) ≡ name_kind → t2 ≡ made.token opening (token.Mark left_paren) ∷ t3
+      → (form.result ws).parse ts ≡ Ok (r, t1) → t1 ≡ made.token to (token.Word k) ∷ t2 → word_kind (word_at ws k) ≡ name_kind
+      → t2 ≡ made.token opening (token.Mark left_paren) ∷ t3
       → (parameters ws).parse t3 ≡ Ok (ps, t4) → t4 ≡ made.token closing (token.Mark right_paren) ∷ t5 → t5 ≡ made.token start (token.Mark left_brace) ∷ t6
       → (registers ws).parse t6 ≡ Ok (rs, t7) → AreRead ws 1999 xs t7 t8 → t8 ≡ made.token end (token.Mark right_brace) ∷ rest
       → (function ws).parse ts ≡ Ok (record { result = r; name = record { place = to; number = k }; parameters = ps; registers = rs; body = parsed_list xs }, rest)
@@ -155,7 +169,8 @@ module _ (ws : Vocabulary) where
         mark_read ws right_brace c,
       ) refl
 
-module _ (names : List (List ℕ)) (ws : Vocabulary) (words : AreWords names ws) (functions : List Header) (called : FunctionNames) (gs : List Signature) (callees : AreCallees names functions called gs) where
+module _ (names : List (List ℕ)) (ws : Vocabulary) (words : AreWords names ws) (functions : List Header)
+    (called : FunctionNames) (gs : List Signature) (callees : AreCallees names functions called gs) where
   -- what a function is that was checked so
   function_back : (f : MonFunction) (tree : ParsedFunction) → tree.result ≡ f.result → tree.name.number ≡ number names f.name → IsKnown names f.name
       → map (named_register names) (map (entry names) f.parameters) ≡ f.parameters → map (named_register names) (map (entry names) f.registers) ≡ f.registers
@@ -176,6 +191,7 @@ module _ (names : List (List ℕ)) (ws : Vocabulary) (words : AreWords names ws)
   function_checked f tree result name known ps rs parameters_are registers_are body_is =
       rw (parameters_are, registers_are, body_is) (ap Ok (function_back f tree result name known ps rs))
 
+  -- the tokens are read as the function, up to those of the pieces behind it
   pub record IsFunctionAs (f : MonFunction) (more : Pieces) (ts : List PlainToken) : Type 0 where
     pub tree : ParsedFunction
     pub rest : List PlainToken
@@ -188,7 +204,8 @@ module _ (names : List (List ℕ)) (ws : Vocabulary) (words : AreWords names ws)
     pub kinds : kinds_of tree.parameters ≡ types_of f.parameters
     pub checked : checked_function names ws functions tree ≡ Ok f
 
-  pub function_as : (f : MonFunction) (more : Pieces) (ts : List PlainToken) → IsFunction gs f → AreTokens names (function_pieces called f ++ more) ts → IsFunctionAs f more ts
+  pub function_as : (f : MonFunction) (more : Pieces) (ts : List PlainToken) → IsFunction gs f → AreTokens names (function_pieces called f ++ more) ts
+      → IsFunctionAs f more ts
   function_as f more ts h a0 =
       let P = map (entry names) f.parameters in
       let R = map (entry names) f.registers in
@@ -213,12 +230,14 @@ module _ (names : List (List ℕ)) (ws : Vocabulary) (words : AreWords names ws)
         after = x.after.3;
         begins = result_begins ws f.result _ a.1.2 result_is;
         read =
-            function_read ws f.result _ ps.trees rs.trees x.trees ts opening.1 rs.rest (result_read ws f.result _ a.1.2 result_is) name.1.2 (ap word_kind name_is) opening.2 ps.read ps.ends start.2
+            function_read ws f.result _ ps.trees rs.trees x.trees ts opening.1 rs.rest (result_read ws f.result _ a.1.2 result_is) name.1.2
+            (ap word_kind name_is) opening.2 ps.read ps.ends start.2
             (registers_read names ws words rs.trees start.1 rs.rest (rs.read []) (body_begins ws 1999 x.trees rs.rest x.read x.after.2)) x.read x.after.2;
         known = name.0;
         name = refl;
         result = refl;
         kinds = ps.kinds;
         checked =
-            function_checked f tree refl refl name.0 (registers_back names f.parameters ps.known) (registers_back names f.registers rs.known) (ps.checked [] (λ w _ _. refl)) (rs.checked P behind.apart) x.checked;
+            function_checked f tree refl refl name.0 (registers_back names f.parameters ps.known) (registers_back names f.registers rs.known)
+            (ps.checked [] (λ w _ _. refl)) (rs.checked P behind.apart) x.checked;
       }

@@ -1,5 +1,5 @@
 -- The parameters and registers of a printed function are read, and found by their names.
-use Rattle.std.proofs.Common.{◌≡◌, ℕ, zero, suc, ◌+◌, Bool, true, false, cond, ◌||◌, List, [], ◌∷◌, ◌++◌, map, slice_get, codes, Option, Some, None, Ok, refl, sym, ap, subst, ◌∙◌, arith, append_assoc, eq-eqb, true≢false}
+use Rattle.std.proofs.Common.{◌≡◌, ℕ, zero, suc, ◌+◌, Bool, true, false, ◌||◌, List, [], ◌∷◌, ◌++◌, map, slice_get, codes, Option, Some, None, Ok, refl, sym, ap, subst, ◌∙◌, arith, append_assoc, eq-eqb, true≢false}
 use Rattle.std.specs.Prelude.{bytes_eq, nat_eq}
 use Rattle.std.specs.List.{list_any, AllByRecursion}
 use Rattle.std.proofs.lemmas.Bool.{eqb-true}
@@ -147,7 +147,8 @@ module _ (names : List (List ℕ)) where
         → checked_registers ws ks (record { kind = r.kind; name = record { place = at; number = number r.name } } ∷ trees) ≡ checked_registers ws (ks ++ (entry r ∷ [])) trees
     one_checked ks r at trees w f = rw (w, f) refl
 
-    pub registers_as : (rs : Registers) (before : List (List ℕ)) (more : Pieces) (ts : List PlainToken) → AreRegisters before rs → AreTokens names (registers_pieces rs ++ more) ts → AreRegistersAs rs before more ts
+    pub registers_as : (rs : Registers) (before : List (List ℕ)) (more : Pieces) (ts : List PlainToken) → AreRegisters before rs
+        → AreTokens names (registers_pieces rs ++ more) ts → AreRegistersAs rs before more ts
     registers_as [] before more ts h a = record {
       trees = [];
       rest = ts;
@@ -176,13 +177,15 @@ module _ (names : List (List ℕ)) where
               ∙ ap Ok (append_assoc ks (entry r ∷ []) (map entry rs));
         }
 
-    pub registers_read : (trees : List ParsedRegister) (ts rest : List PlainToken) → (more_registers []).parse ts ≡ (more_registers trees).parse rest → sees (kind ws) (type_kind ∷ []) rest ≡ false → (registers ws).parse ts ≡ Ok (trees, rest)
+    pub registers_read : (trees : List ParsedRegister) (ts rest : List PlainToken) → (more_registers []).parse ts ≡ (more_registers trees).parse rest
+        → sees (kind ws) (type_kind ∷ []) rest ≡ false → (registers ws).parse ts ≡ Ok (trees, rest)
     unfolding registers
     registers_read trees ts rest e s = e ∙ registers_end trees rest s
 
     -- ---- parameters are read
 
-    one_parameter : (t : MonType) (n m : ℕ) {at to : Place} {ts us rest : List PlainToken} → ts ≡ made.token at (token.Word n) ∷ us → word_at ws n ≡ word.TypeName t → us ≡ made.token to (token.Word m) ∷ rest → word_kind (word_at ws m) ≡ name_kind
+    one_parameter : (t : MonType) (n m : ℕ) {at to : Place} {ts us rest : List PlainToken} → ts ≡ made.token at (token.Word n) ∷ us
+        → word_at ws n ≡ word.TypeName t → us ≡ made.token to (token.Word m) ∷ rest → word_kind (word_at ws m) ≡ name_kind
         → (parameter ws).parse ts ≡ Ok (record { kind = t; name = record { place = to; number = m } }, rest)
     unfolding parameter
     one_parameter t n m a w b v = rw (placed_read ws (type_of ws) (token.Word n) t a (ap type_of_word w), name_read ws m b v) refl
@@ -190,15 +193,22 @@ module _ (names : List (List ℕ)) where
     abbrev more_parameters : List ParsedRegister → Syntax PlainToken (List ParsedRegister)
     more_parameters = many (kind ws) (λ _. mark_kind comma ∷ []) (next_parameter ws)
 
-    comma_read : (xs : List ParsedRegister) (x : ParsedRegister) {at : Place} {ts us rest : List PlainToken} → ts ≡ made.token at (token.Mark comma) ∷ us → (parameter ws).parse us ≡ Ok (x, rest) → (next_parameter ws xs).parse ts ≡ Ok (xs ++ (x ∷ []), rest)
+    comma_read : (xs : List ParsedRegister) (x : ParsedRegister) {at : Place} {ts us rest : List PlainToken} → ts ≡ made.token at (token.Mark comma) ∷ us
+        → (parameter ws).parse us ≡ Ok (x, rest) → (next_parameter ws xs).parse ts ≡ Ok (xs ++ (x ∷ []), rest)
     unfolding next_parameter
     comma_read xs x t e = rw (mark_read ws comma t, e) refl
 
-    parameters_turn : (xs : List ParsedRegister) (x : ParsedRegister) {at : Place} {ts us rest : List PlainToken} → ts ≡ made.token at (token.Mark comma) ∷ us → (parameter ws).parse us ≡ Ok (x, rest) → (more_parameters xs).parse ts ≡ (more_parameters (xs ++ (x ∷ []))).parse rest
-    parameters_turn xs x {ts = ts} {rest = rest} t e = turn (mark_kind comma ∷ []) (next_parameter ws) (λ z. (next_parameter_good ws z).here) refl xs (xs ++ (x ∷ [])) ts rest (sees_mark ws comma t (mark_kind comma ∷ []) true refl) (comma_read xs x t e)
+    parameters_turn : (xs : List ParsedRegister) (x : ParsedRegister) {at : Place} {ts us rest : List PlainToken} → ts ≡ made.token at (token.Mark comma) ∷ us
+        → (parameter ws).parse us ≡ Ok (x, rest) → (more_parameters xs).parse ts ≡ (more_parameters (xs ++ (x ∷ []))).parse rest
+    parameters_turn xs x {ts = ts} {rest = rest} t e =
+        turn (mark_kind comma ∷ []) (next_parameter ws) (λ z. (next_parameter_good ws z).here) refl xs (xs ++ (x ∷ [])) ts rest
+        (sees_mark ws comma t (mark_kind comma ∷ []) true refl) (comma_read xs x t e)
 
-    parameters_end : (xs : List ParsedRegister) {at : Place} {ts rest : List PlainToken} → ts ≡ made.token at (token.Mark right_paren) ∷ rest → (more_parameters xs).parse ts ≡ Ok (xs, ts)
-    parameters_end xs {ts = ts} t = turn_ends (mark_kind comma ∷ []) (next_parameter ws) (λ z. (next_parameter_good ws z).here) refl xs ts (sees_mark ws right_paren t (mark_kind comma ∷ []) false refl)
+    parameters_end : (xs : List ParsedRegister) {at : Place} {ts rest : List PlainToken} → ts ≡ made.token at (token.Mark right_paren) ∷ rest
+        → (more_parameters xs).parse ts ≡ Ok (xs, ts)
+    parameters_end xs {ts = ts} t =
+        turn_ends (mark_kind comma ∷ []) (next_parameter ws) (λ z. (next_parameter_good ws z).here) refl xs ts
+        (sees_mark ws right_paren t (mark_kind comma ∷ []) false refl)
 
     -- parameters that stand in front of these registers
     pub record AreParametersAs (ps : Registers) (before : List (List ℕ)) (more : Pieces) (Read : List ParsedRegister → List PlainToken → Type 0) : Type 0 where
@@ -214,16 +224,20 @@ module _ (names : List (List ℕ)) where
       pub checked : (ks : List (ℕ × MonType)) → AreApart before ks → checked_registers ws ks trees ≡ Ok (ks ++ map entry ps)
 
     -- the parameter in front of others is new, and they are checked behind it
-    parameter_checked : (p : MonRegister) (ps : Registers) (before : List (List ℕ)) (at : Place) (trees : List ParsedRegister) → word_at ws (number p.name) ≡ word.Name → IsKnown p.name → has_label before p.name ≡ false
+    parameter_checked : (p : MonRegister) (ps : Registers) (before : List (List ℕ)) (at : Place) (trees : List ParsedRegister)
+        → word_at ws (number p.name) ≡ word.Name → IsKnown p.name → has_label before p.name ≡ false
         → ((ks : List (ℕ × MonType)) → AreApart (p.name ∷ before) ks → checked_registers ws ks trees ≡ Ok (ks ++ map entry ps))
-        → (ks : List (ℕ × MonType)) → AreApart before ks → checked_registers ws ks (record { kind = p.kind; name = record { place = at; number = number p.name } } ∷ trees) ≡ Ok (ks ++ map entry (p ∷ ps))
+        → (ks : List (ℕ × MonType)) → AreApart before ks
+        → checked_registers ws ks (record { kind = p.kind; name = record { place = at; number = number p.name } } ∷ trees) ≡ Ok (ks ++ map entry (p ∷ ps))
     parameter_checked p ps before at trees is there new others ks apart =
-        one_checked ks p at trees is (apart p.name there new) ∙ others (ks ++ (entry p ∷ [])) (more_apart before ks p there apart) ∙ ap Ok (append_assoc ks (entry p ∷ []) (map entry ps))
+        one_checked ks p at trees is (apart p.name there new) ∙ others (ks ++ (entry p ∷ [])) (more_apart before ks p there apart)
+        ∙ ap Ok (append_assoc ks (entry p ∷ []) (map entry ps))
 
     abbrev MoreRead : List PlainToken → List ParsedRegister → List PlainToken → Type 0
     MoreRead ts trees behind = (xs : List ParsedRegister) → (more_parameters xs).parse ts ≡ Ok (xs ++ trees, behind)
 
-    more_as : (ps rest : Registers) (before : List (List ℕ)) (more : Pieces) (ts : List PlainToken) → AreRegisters before (ps ++ rest) → AreTokens names (text.more_parameters ps ++ (text.right_paren ∷ more)) ts → AreParametersAs ps before more (MoreRead ts)
+    more_as : (ps rest : Registers) (before : List (List ℕ)) (more : Pieces) (ts : List PlainToken) → AreRegisters before (ps ++ rest)
+        → AreTokens names (text.more_parameters ps ++ (text.right_paren ∷ more)) ts → AreParametersAs ps before more (MoreRead ts)
     more_as [] rest before more ts h a = record {
       trees = [];
       behind = ts;
@@ -258,15 +272,20 @@ module _ (names : List (List ℕ)) where
           checked = parameter_checked p ps before name.1.0 others.trees name_is name.0 h.1 others.checked;
         }
 
-    no_parameter : (n : ℕ) {at : Place} {ts rest : List PlainToken} → ts ≡ made.token at (token.Word n) ∷ rest → word_kind (word_at ws n) ≡ void_kind → (parameters ws).parse ts ≡ Ok ([], rest)
+    no_parameter : (n : ℕ) {at : Place} {ts rest : List PlainToken} → ts ≡ made.token at (token.Word n) ∷ rest → word_kind (word_at ws n) ≡ void_kind
+        → (parameters ws).parse ts ≡ Ok ([], rest)
     unfolding parameters
     no_parameter n t w = rw (sees_word ws n void_kind t w (void_kind ∷ []) true refl, fixed_read ws void_kind n t w) refl
 
-    first_parameter : (n : ℕ) (x : ParsedRegister) {at : Place} {ts us r : List PlainToken} {v : List ParsedRegister × List PlainToken} → ts ≡ made.token at (token.Word n) ∷ us → word_kind (word_at ws n) ≡ type_kind → (parameter ws).parse ts ≡ Ok (x, r) → (more_parameters (x ∷ [])).parse r ≡ Ok v → (parameters ws).parse ts ≡ Ok v
+    first_parameter : (n : ℕ) (x : ParsedRegister) {at : Place} {ts us r : List PlainToken} {v : List ParsedRegister × List PlainToken}
+        → ts ≡ made.token at (token.Word n) ∷ us → word_kind (word_at ws n) ≡ type_kind → (parameter ws).parse ts ≡ Ok (x, r)
+        → (more_parameters (x ∷ [])).parse r ≡ Ok v → (parameters ws).parse ts ≡ Ok v
     unfolding parameters some_parameters
     first_parameter n x t w e m = rw (sees_word ws n type_kind t w (void_kind ∷ []) false refl, e, m) refl
 
-    pub parameters_as : (ps rest : Registers) (more : Pieces) (ts : List PlainToken) → AreRegisters [] (ps ++ rest) → AreTokens names (parameters_pieces ps ++ (text.right_paren ∷ more)) ts → AreParametersAs ps [] more (λ trees behind. (parameters ws).parse ts ≡ Ok (trees, behind))
+    pub parameters_as : (ps rest : Registers) (more : Pieces) (ts : List PlainToken) → AreRegisters [] (ps ++ rest)
+        → AreTokens names (parameters_pieces ps ++ (text.right_paren ∷ more)) ts
+        → AreParametersAs ps [] more (λ trees behind. (parameters ws).parse ts ≡ Ok (trees, behind))
     parameters_as [] rest more ts h a =
         let end = a.1.3 in
         record {
@@ -290,7 +309,8 @@ module _ (names : List (List ℕ)) where
         record {
           trees = tree ∷ others.trees;
           behind = others.behind;
-          read = first_parameter _ tree a.1.2 (ap word_kind type_is) (one_parameter p.kind _ _ a.1.2 type_is name.1.2 (ap word_kind name_is)) (others.read (tree ∷ []));
+          read = first_parameter _ tree a.1.2 (ap word_kind type_is) (one_parameter p.kind _ _ a.1.2 type_is name.1.2 (ap word_kind name_is))
+              (others.read (tree ∷ []));
           end = others.end;
           rest = others.rest;
           ends = others.ends;
@@ -307,10 +327,12 @@ module _ (names : List (List ℕ)) where
       pub are : AreRegisters before rest
       pub apart : AreApart before ks
 
-    behind_all : (ps rest : Registers) (before : List (List ℕ)) (ks : List (ℕ × MonType)) → AreRegisters before (ps ++ rest) → AreKnown ps → AreApart before ks → AreBehind rest (ks ++ map entry ps)
+    behind_all : (ps rest : Registers) (before : List (List ℕ)) (ks : List (ℕ × MonType)) → AreRegisters before (ps ++ rest) → AreKnown ps
+        → AreApart before ks → AreBehind rest (ks ++ map entry ps)
     behind_all [] rest before ks h known apart = subst (AreBehind rest) (sym (append-nil ks)) (record { before = before; are = h; apart = apart })
     behind_all (p ∷ ps) rest before ks h known apart =
-        subst (AreBehind rest) (append_assoc ks (entry p ∷ []) (map entry ps)) (behind_all ps rest (p.name ∷ before) (ks ++ (entry p ∷ [])) h.2 known.1 (more_apart before ks p known.0 apart))
+        subst (AreBehind rest) (append_assoc ks (entry p ∷ []) (map entry ps))
+        (behind_all ps rest (p.name ∷ before) (ks ++ (entry p ∷ [])) h.2 known.1 (more_apart before ks p known.0 apart))
 
     pub behind_parameters : (ps rest : Registers) → AreRegisters [] (ps ++ rest) → AreKnown ps → AreBehind rest (map entry ps)
     behind_parameters ps rest h known = behind_all ps rest [] [] h known (λ w _ _. refl)

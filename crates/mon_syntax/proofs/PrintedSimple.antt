@@ -52,7 +52,8 @@ return_word : word_of (codes "return") ≡ word.Return
 unfolding word_of
 return_word = refl
 
-module _ (names : List (List ℕ)) (ws : Vocabulary) (words : AreWords names ws) (functions : List Header) (types : Types) (rs : Registers) (regs : List (ℕ × MonType)) (found : AreFound names types rs regs) (result : Option MonType) where
+module _ (names : List (List ℕ)) (ws : Vocabulary) (words : AreWords names ws) (functions : List Header)
+    (types : Types) (rs : Registers) (regs : List (ℕ × MonType)) (found : AreFound names types rs regs) (result : Option MonType) where
   abbrev IsCallAs : List ℕ → Word → MonStatement → Pieces → List PlainToken → Type 0
   IsCallAs = call_form.IsCallAs names ws words functions types rs regs found
 
@@ -65,7 +66,8 @@ module _ (names : List (List ℕ)) (ws : Vocabulary) (words : AreWords names ws)
   abbrev scope : Scope
   scope = scope_of names ws functions regs
 
-  whole : (e : MonExpression) (t : MonType) (more : Pieces) (ts : List PlainToken) → IsExpression types e t → AreTokens names (expression_pieces rs e ++ more) ts → Whole e t more ts
+  whole : (e : MonExpression) (t : MonType) (more : Pieces) (ts : List PlainToken) → IsExpression types e t
+      → AreTokens names (expression_pieces rs e ++ more) ts → Whole e t more ts
   whole = call_form.whole names ws words functions types rs regs found
 
   -- the labels by their numbers
@@ -93,7 +95,8 @@ module _ (names : List (List ℕ)) (ws : Vocabulary) (words : AreWords names ws)
 
   -- a call whose value is not taken
   pub call_is : (n : ℕ) (w : List ℕ) (k : Word) (a : MonStatement) (ls : Labels) (more : Pieces) (ts : List PlainToken) {at : Place} (us : List PlainToken)
-      → word_of w ≡ k → word_kind k ≡ name_kind → is_step_word k ≡ valid.is_step a → slice_get names (number w) ≡ Some w → ts ≡ made.token at (token.Word (number w)) ∷ us → IsCallAs w k a more us → IsStatementAs n a ls more ts
+      → word_of w ≡ k → word_kind k ≡ name_kind → is_step_word k ≡ valid.is_step a → slice_get names (number w) ≡ Some w
+      → ts ≡ made.token at (token.Word (number w)) ∷ us → IsCallAs w k a more us → IsStatementAs n a ls more ts
   call_is n w k a ls more ts {at} us is named flag there t c =
       let word_is = words (number w) w there ∙ is in
       let name = ap word_kind word_is ∙ named in
@@ -110,14 +113,17 @@ module _ (names : List (List ℕ)) (ws : Vocabulary) (words : AreWords names ws)
         fresh = λ v _ _. refl;
       }
 
-  taken_checked : (r : ℕ) (t : MonType) (a b : MonStatement) (ls : Labels) (x_at at : Place) (c : ParsedCall) → slice_get types r ≡ Some t → checked_call scope c ≡ Ok a → value_type scope a ≡ Some t → with_target r a ≡ b
+  taken_checked : (r : ℕ) (t : MonType) (a b : MonStatement) (ls : Labels) (x_at at : Place) (c : ParsedCall) → slice_get types r ≡ Some t
+      → checked_call scope c ≡ Ok a → value_type scope a ≡ Some t → with_target r a ≡ b
       → checked_statement scope result (numbers ls) (parsed.Take (record { place = x_at; number = number (name_of rs r) }) at c) ≡ Ok b
   taken_checked r t a b ls x_at at c h p v e = rw ((found r t h).0, p, v, taken, same_types t) (ap Ok e)
 
   -- a call whose value a register takes
-  take_is : (n r : ℕ) (t : MonType) (w : List ℕ) (k : Word) (a b : MonStatement) (arguments : Pieces) (ls : Labels) (more : Pieces) (ts : List PlainToken) → word_of w ≡ k → word_kind k ≡ name_kind → slice_get types r ≡ Some t → value_type scope a ≡ Some t → with_target r a ≡ b → valid.is_step b ≡ false
+  take_is : (n r : ℕ) (t : MonType) (w : List ℕ) (k : Word) (a b : MonStatement) (arguments : Pieces) (ls : Labels) (more : Pieces) (ts : List PlainToken)
+      → word_of w ≡ k → word_kind k ≡ name_kind → slice_get types r ≡ Some t → value_type scope a ≡ Some t → with_target r a ≡ b → valid.is_step b ≡ false
       → ((us : List PlainToken) → AreTokens names (text.left_paren ∷ ((arguments ++ (text.right_paren ∷ text.semicolon ∷ [])) ++ more)) us → IsCallAs w k a more us)
-      → AreTokens names (text.Word (name_of rs r) ∷ text.blank ∷ text.Mark (codes "=") ∷ text.blank ∷ (call_pieces w arguments ++ more)) ts → IsStatementAs n b ls more ts
+      → AreTokens names (text.Word (name_of rs r) ∷ text.blank ∷ text.Mark (codes "=") ∷ text.blank ∷ (call_pieces w arguments ++ more)) ts
+      → IsStatementAs n b ls more ts
   take_is n r t w k a b arguments ls more ts is named h v e no_step inner g =
       let name = ap word_kind (words _ _ g.0 ∙ (found r t h).1) in
       let to = g.1.3 in
@@ -132,7 +138,8 @@ module _ (names : List (List ℕ)) (ws : Vocabulary) (words : AreWords names ws)
         rest = c.rest;
         after = c.after;
         begins = sees_word ws _ name_kind g.1.2 name first_statement true refl;
-        parsed = λ no_step _. name_statement ws (statement_in ws n) no_step _ g.1.2 name (take_behind ws (statement_in ws n) no_step x (number w) to.2 callee.1.2 (ap word_kind callee_is ∙ named) c.is (c.read u) c.ends);
+        parsed = λ no_step _. name_statement ws (statement_in ws n) no_step _ g.1.2 name
+            (take_behind ws (statement_in ws n) no_step x (number w) to.2 callee.1.2 (ap word_kind callee_is ∙ named) c.is (c.read u) c.ends);
         step = sym no_step;
         checked = taken_checked r t a b ls g.1.0 to.0 call h (ap (λ z. call_of_word scope call z) callee_is ∙ c.checked callee.0 callee.1.0) v e;
         fresh = λ v _ _. refl;
@@ -140,7 +147,8 @@ module _ (names : List (List ℕ)) (ws : Vocabulary) (words : AreWords names ws)
 
   -- a call whose value a register takes, or none
   pub taken_or_not : (n : ℕ) (r : Option ℕ) (v : Option MonType) (w : List ℕ) (k : Word) (a : Option ℕ → MonStatement) (arguments : Pieces) (ls : Labels) (more : Pieces) (ts : List PlainToken)
-      → word_of w ≡ k → word_kind k ≡ name_kind → is_step_word k ≡ false → ((o : Option ℕ) → valid.is_step (a o) ≡ false) → ((i : ℕ) → with_target i (a None) ≡ a (Some i)) → value_type scope (a None) ≡ v → TakesValue types r v
+      → word_of w ≡ k → word_kind k ≡ name_kind → is_step_word k ≡ false → ((o : Option ℕ) → valid.is_step (a o) ≡ false)
+      → ((i : ℕ) → with_target i (a None) ≡ a (Some i)) → value_type scope (a None) ≡ v → TakesValue types r v
       → ((us : List PlainToken) → AreTokens names (text.left_paren ∷ ((arguments ++ (text.right_paren ∷ text.semicolon ∷ [])) ++ more)) us → IsCallAs w k (a None) more us)
       → AreTokens names ((set_or_none rs r ++ call_pieces w arguments) ++ more) ts → IsStatementAs n (a r) ls more ts
   taken_or_not n None v w k a arguments ls more ts is named no_word no_step target value h inner g =

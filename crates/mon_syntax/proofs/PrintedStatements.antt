@@ -28,7 +28,7 @@ use Rattle.mon_syntax.specs.Parsed as parsed
 use Rattle.mon_syntax.specs.Parsed.{NameUse, ParsedArgument, ParsedExpression, ParsedStatement, ParsedStatements}
 use Rattle.mon_syntax.specs.Grammar as form
 use Rattle.mon_syntax.specs.Grammar.{Vocabulary, left_brace, right_brace, if_kind, else_kind, while_kind, word_kind, word_at, kind, first_statement, parsed_list, statement_with, statement_in}
-use Rattle.mon_syntax.specs.Checking.{Scope, Header, scope_of, find_function, bytes_of, checked_expression, checked_statement, checked_statements, labels_in, labels_in_all, runtime_call, one_value, value_type, result_of}
+use Rattle.mon_syntax.specs.Checking.{Scope, Header, scope_of, find_function, bytes_of, checked_expression, checked_statement, checked_statements, labels_in, labels_in_all, runtime_call, one_value, result_of}
 use Rattle.mon_syntax.proofs.PrintedPieces.{AreTokens, is_same}
 use Rattle.mon_syntax.proofs.PrintedForms.{Pieces, if_is, loop_is, labelled_is, body_is, then_is}
 use Rattle.mon_syntax.proofs.PrintedAlone.{same_bytes}
@@ -90,13 +90,15 @@ pub record IsCallee (names : List (List ℕ)) (functions : List Header) (called 
   pub name : function_name called f ≡ g.name
   pub is_name : word_of g.name ≡ word.Name
   pub result : result_of (slice_get functions f) ≡ g.result
-  pub found : slice_get names (name_number names g.name) ≡ Some g.name → find_function 0 functions (name_number names g.name) ≡ Some (f, record { name = name_number names g.name; parameters = g.parameters; result = g.result })
+  pub found : slice_get names (name_number names g.name) ≡ Some g.name
+      → find_function 0 functions (name_number names g.name) ≡ Some (f, record { name = name_number names g.name; parameters = g.parameters; result = g.result })
 
 abbrev pub AreCallees : List (List ℕ) → List Header → FunctionNames → List Signature → Type 0
 AreCallees names functions called gs = (f : ℕ) (g : Signature) → slice_get gs f ≡ Some g → IsCallee names functions called f g
 
-module _ (names : List (List ℕ)) (ws : Vocabulary) (words : AreWords names ws) (functions : List Header) (called : FunctionNames) (gs : List Signature) (callees : AreCallees names functions called gs)
-  (types : Types) (rs : Registers) (regs : List (ℕ × MonType)) (found : AreFound names types rs regs) (result : Option MonType) where
+module _ (names : List (List ℕ)) (ws : Vocabulary) (words : AreWords names ws) (functions : List Header)
+    (called : FunctionNames) (gs : List Signature) (callees : AreCallees names functions called gs)
+    (types : Types) (rs : Registers) (regs : List (ℕ × MonType)) (found : AreFound names types rs regs) (result : Option MonType) where
   abbrev IsStatementAs : ℕ → MonStatement → Labels → Pieces → List PlainToken → Type 0
   IsStatementAs = simple.IsStatementAs names ws words functions types rs regs found result
 
@@ -161,7 +163,8 @@ module _ (names : List (List ℕ)) (ws : Vocabulary) (words : AreWords names ws)
 
   -- a body, given its statements
   body_as : (s : MonStatements) (n depth : ℕ) (ls : Labels) (more : Pieces) (ts : List PlainToken)
-      → ((us : List PlainToken) → AreTokens names (statements_pieces called rs (depth + 1) s ++ (text.new_line depth ∷ text.Mark (codes "}") ∷ more)) us → AreStatementsAs n s ls (text.new_line depth ∷ text.Mark (codes "}") ∷ more) us)
+      → ((us : List PlainToken) → AreTokens names (statements_pieces called rs (depth + 1) s ++ (text.new_line depth ∷ text.Mark (codes "}") ∷ more)) us
+      → AreStatementsAs n s ls (text.new_line depth ∷ text.Mark (codes "}") ∷ more) us)
       → AreTokens names (body_pieces called rs depth s ++ more) ts → IsBodyAs n s ls more ts
   body_as s n depth ls more ts inner a0 =
       let a = spread s a0 in
@@ -181,7 +184,8 @@ module _ (names : List (List ℕ)) (ws : Vocabulary) (words : AreWords names ws)
         fresh = x.fresh;
       }
     where
-      spread : (s : MonStatements) → AreTokens names (body_pieces called rs depth s ++ more) ts → AreTokens names (text.Mark (codes "{") ∷ (statements_pieces called rs (depth + 1) s ++ (text.new_line depth ∷ text.Mark (codes "}") ∷ more))) ts
+      spread : (s : MonStatements) → AreTokens names (body_pieces called rs depth s ++ more) ts
+          → AreTokens names (text.Mark (codes "{") ∷ (statements_pieces called rs (depth + 1) s ++ (text.new_line depth ∷ text.Mark (codes "}") ∷ more))) ts
       spread NoStatement b = b
       spread (Then a rest) b = subst (λ (l : Pieces). AreTokens names l ts) (body_is called rs more depth a rest) b
 
@@ -294,7 +298,9 @@ module _ (names : List (List ℕ)) (ws : Vocabulary) (words : AreWords names ws)
         begins = sees_mark ws left_brace x.is first_statement true refl;
         parsed = λ no_step _. labelled_read ws n _ x.trees x.is x.read x.ends label.1.2 (ap word_kind name) colon.2 end.2 no_step;
         step = refl;
-        checked = labelled_checked a l ls label.1.0 (parsed_list x.trees) x.checked name (x.fresh l (ap (λ (b : Bool). b || has_label ls l) (is_same l)) label.0) (call_form.bytes_are names ws words functions types rs regs found (the_number l) l label.0);
+        checked = labelled_checked a l ls label.1.0 (parsed_list x.trees) x.checked name
+            (x.fresh l (ap (λ (b : Bool). b || has_label ls l) (is_same l)) label.0)
+            (call_form.bytes_are names ws words functions types rs regs found (the_number l) l label.0);
         fresh = λ w h there. any_join (nat_eq (the_number w)) (labels_in_all (parsed_list x.trees)) (the_number l ∷ []) (x.fresh w (or_last (bytes_eq w l) (has_label ls w) h) there) (other_number w l ls h no_label there label.0);
       }
 
@@ -307,47 +313,62 @@ module _ (names : List (List ℕ)) (ws : Vocabulary) (words : AreWords names ws)
 
   -- ---- calls
 
-  runtime_as : (n : ℕ) (w : List ℕ) (r : Runtime) (a : MonStatement) (ls : Labels) (more : Pieces) (ts us : List PlainToken) → word_of w ≡ word.Runtime r → form.is_step_word (word.Runtime r) ≡ valid.is_step a
-      → (there : slice_get names (the_number w) ≡ Some w) (at : Place) → ts ≡ made.token at (token.Word (the_number w)) ∷ us → IsCallAs w (word.Runtime r) a more us → IsStatementAs n a ls more ts
-  runtime_as n w r a ls more ts us is flag there at t c = simple.call_is names ws words functions types rs regs found result n w (word.Runtime r) a ls more ts us is refl flag there t c
+  runtime_as : (n : ℕ) (w : List ℕ) (r : Runtime) (a : MonStatement) (ls : Labels) (more : Pieces) (ts us : List PlainToken) → word_of w ≡ word.Runtime r
+      → form.is_step_word (word.Runtime r) ≡ valid.is_step a
+      → (there : slice_get names (the_number w) ≡ Some w) (at : Place) → ts ≡ made.token at (token.Word (the_number w)) ∷ us
+      → IsCallAs w (word.Runtime r) a more us → IsStatementAs n a ls more ts
+  runtime_as n w r a ls more ts us is flag there at t c =
+      simple.call_is names ws words functions types rs regs found result n w (word.Runtime r) a ls more ts us is refl flag there t c
 
   -- a call with a value
   value_as : (n : ℕ) (w : List ℕ) (r : Runtime) (t : MonType) (e : MonExpression) (f : MonExpression → MonStatement) (ls : Labels) (more : Pieces) (ts : List PlainToken) → word_of w ≡ word.Runtime r → form.is_step_word (word.Runtime r) ≡ false → valid.is_step (f e) ≡ false
       → ((u : NameUse) (at : Place) (xs : List ParsedArgument) → runtime_call the_scope u at xs r ≡ one_value the_scope at t xs f) → IsExpression types e t → AreTokens names (call_pieces w (expression_pieces rs e) ++ more) ts → IsStatementAs n (f e) ls more ts
   value_as n w r t e f ls more ts is no_word no_step same h a =
-      runtime_as n w r (f e) ls more ts a.1.1 is (no_word ∙ sym no_step) a.0 a.1.0 a.1.2 (call_form.value_call names ws words functions types rs regs found w r t e f more a.1.1 same no_step h a.1.3)
+      runtime_as n w r (f e) ls more ts a.1.1 is (no_word ∙ sym no_step) a.0 a.1.0 a.1.2
+      (call_form.value_call names ws words functions types rs regs found w r t e f more a.1.1 same no_step h a.1.3)
 
-  put_as : (n : ℕ) (r : Option ℕ) (e : MonExpression) (ls : Labels) (more : Pieces) (ts : List PlainToken) → IsStatement gs types result ls (PutChar r e) → AreTokens names (statement_pieces called rs 0 (PutChar r e) ++ more) ts → IsStatementAs n (PutChar r e) ls more ts
+  put_as : (n : ℕ) (r : Option ℕ) (e : MonExpression) (ls : Labels) (more : Pieces) (ts : List PlainToken) → IsStatement gs types result ls (PutChar r e)
+      → AreTokens names (statement_pieces called rs 0 (PutChar r e) ++ more) ts → IsStatementAs n (PutChar r e) ls more ts
   put_as n r e ls more ts h a =
-      simple.taken_or_not names ws words functions types rs regs found result n r (Some I32) (codes "putchar") (word.Runtime runtime.PutChar) (λ o. PutChar o e) (expression_pieces rs e) ls more ts put_word refl refl (λ o. refl) (λ i. refl) refl h.0
+      simple.taken_or_not names ws words functions types rs regs found result n r (Some I32) (codes "putchar") (word.Runtime runtime.PutChar)
+      (λ o. PutChar o e) (expression_pieces rs e) ls more ts put_word refl refl (λ o. refl) (λ i. refl) refl h.0
       (λ us b. call_form.value_call names ws words functions types rs regs found (codes "putchar") runtime.PutChar I32 e (PutChar None) more us (λ u at xs. refl) refl h.1 b) a
 
-  get_as : (n : ℕ) (r : Option ℕ) (ls : Labels) (more : Pieces) (ts : List PlainToken) → IsStatement gs types result ls (GetChar r) → AreTokens names (statement_pieces called rs 0 (GetChar r) ++ more) ts → IsStatementAs n (GetChar r) ls more ts
+  get_as : (n : ℕ) (r : Option ℕ) (ls : Labels) (more : Pieces) (ts : List PlainToken) → IsStatement gs types result ls (GetChar r)
+      → AreTokens names (statement_pieces called rs 0 (GetChar r) ++ more) ts → IsStatementAs n (GetChar r) ls more ts
   get_as n r ls more ts h a =
-      simple.taken_or_not names ws words functions types rs regs found result n r (Some I32) (codes "getchar") (word.Runtime runtime.GetChar) GetChar [] ls more ts get_word refl refl (λ o. refl) (λ i. refl) refl h
+      simple.taken_or_not names ws words functions types rs regs found result n r (Some I32) (codes "getchar")
+      (word.Runtime runtime.GetChar) GetChar [] ls more ts get_word refl refl (λ o. refl) (λ i. refl) refl h
       (λ us b. call_form.bare_call names ws words functions types rs regs found (codes "getchar") runtime.GetChar (GetChar None) more us (λ u at. refl) refl b) a
 
-  act_as : (n : ℕ) (r : Option ℕ) (f : MemoryCall) (es : List MonExpression) (ls : Labels) (more : Pieces) (ts : List PlainToken) → IsStatement gs types result ls (Act r f es) → AreTokens names (statement_pieces called rs 0 (Act r f es) ++ more) ts → IsStatementAs n (Act r f es) ls more ts
+  act_as : (n : ℕ) (r : Option ℕ) (f : MemoryCall) (es : List MonExpression) (ls : Labels) (more : Pieces) (ts : List PlainToken)
+      → IsStatement gs types result ls (Act r f es) → AreTokens names (statement_pieces called rs 0 (Act r f es) ++ more) ts
+      → IsStatementAs n (Act r f es) ls more ts
   act_as n r f es ls more ts h a =
-      simple.taken_or_not names ws words functions types rs regs found result n r (memory_result f) (memory_word f) (word.Runtime (memory_runtime f)) (λ o. Act o f es) (arguments_pieces rs es) ls more ts (memory_word_is f) refl (no_step_word f) (λ o. refl) (λ i. refl) refl h.1
+      simple.taken_or_not names ws words functions types rs regs found result n r (memory_result f) (memory_word f) (word.Runtime (memory_runtime f))
+      (λ o. Act o f es) (arguments_pieces rs es) ls more ts (memory_word_is f) refl (no_step_word f) (λ o. refl) (λ i. refl) refl h.1
       (λ us b. call_form.memory_call_is names ws words functions types rs regs found f es more us h.0 b) a
     where
       no_step_word : (f : MemoryCall) → form.is_step_word (word.Runtime (memory_runtime f)) ≡ false
       no_step_word StoreBlock = refl
       no_step_word DeleteBlock = refl
 
-  call_as : (n : ℕ) (r : Option ℕ) (f : ℕ) (es : List MonExpression) (ls : Labels) (more : Pieces) (ts : List PlainToken) → IsStatement gs types result ls (Call r f es) → AreTokens names (statement_pieces called rs 0 (Call r f es) ++ more) ts → IsStatementAs n (Call r f es) ls more ts
+  call_as : (n : ℕ) (r : Option ℕ) (f : ℕ) (es : List MonExpression) (ls : Labels) (more : Pieces) (ts : List PlainToken)
+      → IsStatement gs types result ls (Call r f es) → AreTokens names (statement_pieces called rs 0 (Call r f es) ++ more) ts
+      → IsStatementAs n (Call r f es) ls more ts
   call_as n r f es ls more ts h a0 =
       let g = h.callee in
       let c = callees f g h.has in
       let a = subst (λ (w : List ℕ). AreTokens names ((text.set_or_none rs r ++ call_pieces w (arguments_pieces rs es)) ++ more) ts) c.name a0 in
-      simple.taken_or_not names ws words functions types rs regs found result n r g.result g.name word.Name (λ o. Call o f es) (arguments_pieces rs es) ls more ts c.is_name refl refl (λ o. refl) (λ i. refl) c.result h.takes
+      simple.taken_or_not names ws words functions types rs regs found result n r g.result g.name word.Name (λ o. Call o f es)
+      (arguments_pieces rs es) ls more ts c.is_name refl refl (λ o. refl) (λ i. refl) c.result h.takes
       (λ us b. call_form.named_call_is names ws words functions types rs regs found f g es more us c.found h.not_main h.arguments b) a
 
   -- ---- all statements
 
   mutual
-    statement_as : (a : MonStatement) (n depth : ℕ) (ls : Labels) (more : Pieces) (ts : List PlainToken) → valid.depth a ≤ suc n → AreNames ls → IsStatement gs types result ls a → AreTokens names (statement_pieces called rs depth a ++ more) ts → IsStatementAs n a ls more ts
+    statement_as : (a : MonStatement) (n depth : ℕ) (ls : Labels) (more : Pieces) (ts : List PlainToken) → valid.depth a ≤ suc n → AreNames ls
+        → IsStatement gs types result ls a → AreTokens names (statement_pieces called rs depth a ++ more) ts → IsStatementAs n a ls more ts
     statement_as (Set r e) n depth ls more ts le labels h a = simple.set_is names ws words functions types rs regs found result n r h.0 e ls more ts h.1 h.2 a
     statement_as Step n depth ls more ts le labels h a =
         runtime_as n (codes "__e_acsl_step") runtime.Step Step ls more ts a.1.1 step_word refl a.0 a.1.0 a.1.2
@@ -378,9 +399,11 @@ module _ (names : List (List ℕ)) (ws : Vocabulary) (words : AreWords names ws)
         (λ m us k. body_as a n depth (l ∷ ls) m us (λ vs j. statements_as a n (depth + 1) (l ∷ ls) _ vs (omega arith) (more_names l ls h.0 labels) h.2 j) k) g
     statement_as (Goto l) n depth ls more ts le labels h a = simple.goto_is names ws words functions types rs regs found result n l ls more ts labels h a
     statement_as (Return None) n depth ls more ts le labels h a = simple.return_is names ws words functions types rs regs found result n ls more ts h a
-    statement_as (Return (Some e)) n depth ls more ts le labels h a = simple.return_value_is names ws words functions types rs regs found result n e ls more ts h a
+    statement_as (Return (Some e)) n depth ls more ts le labels h a =
+        simple.return_value_is names ws words functions types rs regs found result n e ls more ts h a
 
-    pub statements_as : (s : MonStatements) (n depth : ℕ) (ls : Labels) (more : Pieces) (ts : List PlainToken) → depth_of_all s ≤ n → AreNames ls → AreStatements gs types result ls s → AreTokens names (statements_pieces called rs depth s ++ more) ts → AreStatementsAs n s ls more ts
+    pub statements_as : (s : MonStatements) (n depth : ℕ) (ls : Labels) (more : Pieces) (ts : List PlainToken) → depth_of_all s ≤ n → AreNames ls
+        → AreStatements gs types result ls s → AreTokens names (statements_pieces called rs depth s ++ more) ts → AreStatementsAs n s ls more ts
     statements_as NoStatement n depth ls more ts le labels h a = none_as n ls more ts a
     statements_as (Then a s) zero depth ls more ts le labels h g = absurd (omega (arith, depth_some a))
     statements_as (Then a s) (suc m) depth ls more ts le labels h g =

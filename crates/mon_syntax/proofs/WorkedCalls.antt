@@ -1,5 +1,5 @@
 -- Small programs with functions, calls, input and blocks, by computation: their text, how they end, what they print and the steps left.
-use Rattle.std.proofs.Common.{◌≡◌, ℕ, ◌+◌, ◌*◌, ◌^◌, ℤ, pos, negsuc, List, [], ◌∷◌, ◌++◌, map, Option, Some, None, codes, refl, arith}
+use Rattle.std.proofs.Common.{◌≡◌, ℕ, ◌+◌, ◌*◌, ◌^◌, pos, negsuc, List, [], ◌∷◌, ◌++◌, map, Option, Some, None, codes, refl, arith}
 use Rattle.std.specs.Fmt.{digits}
 use Rattle.c_syntax.specs.declared.types.Segment.TheVariants.{Frames, Stack, Numbers}
 use Rattle.c_model.specs.State.{Input, InputTail, EndOfInput, InputFault, Exits, Fault, Spent, Full, ReadFault}
@@ -7,7 +7,7 @@ use Rattle.mon_syntax.specs.declared.tree.MonType.{MonType}
 use Rattle.mon_syntax.specs.declared.tree.MonType.TheVariants.{I32, U64, Ptr}
 use Rattle.mon_syntax.specs.declared.tree.MonOp.TheVariants.{Add, Sub, Gt}
 use Rattle.mon_syntax.specs.declared.tree.MemoryCall.TheVariants.{StoreBlock, DeleteBlock}
-use Rattle.mon_syntax.specs.Trees.{MonExpression, Register, Constant, Binary, MonStatement, PutChar, GetChar, Act, Call, If, Return, NoStatement, MonRegister, MonFunction, MonitoredProgram}
+use Rattle.mon_syntax.specs.Trees.{Register, Constant, Binary, MonStatement, PutChar, GetChar, Act, Call, If, Return, NoStatement, MonRegister, MonFunction, MonitoredProgram}
 use Rattle.mon_syntax.specs.Memory.{Gives}
 use Rattle.mon_syntax.specs.Meaning.{run}
 use Rattle.mon_syntax.specs.Memories.{block_run, act_on_flat, flat_start, over_flat, flat_run}

@@ -329,12 +329,16 @@ main_only = record { name = codes "main"; parameters = []; result = Some I32 } â
 -- each expression of `counts` has few parentheses, and its statements are 4 deep
 valid-counts : IsValid counts
 valid-counts = record {
-  functions = (record {
-    name = free-main;
-    registers = (free-x, refl, tt);
-    body = (set, ((refl, refl, tt, (put, (add, (leave, tt)))), tt));
-    within = omega arith;
-  }, refl, tt);
+  functions = (
+    record {
+      name = free-main;
+      registers = (free-x, refl, tt);
+      body = (set, ((refl, refl, tt, (put, (add, (leave, tt)))), tt));
+      within = omega arith;
+    },
+    refl,
+    tt,
+  );
   number = 0;
   main = _;
   has = refl;

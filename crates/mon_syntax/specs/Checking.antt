@@ -1,6 +1,6 @@
 -- Names and types of a monitored text (E5, E6), with the program that it spells. A part's own demand is asked where none of its
 -- parts has a fault, and the first fault in text order counts.
-use Rattle.std.specs.Prelude.{ℕ, suc, pos, unsigned_abs, List, [], ◌∷◌, ◌++◌, map, Option, Some, None, Result, Ok, Err, Bool, true, false, not, ◌&&◌, if◌then◌else◌, nat_eq, nat_le, slice_get, codes, bytes_eq, drop, length}
+use Rattle.std.specs.Prelude.{ℕ, suc, unsigned_abs, List, [], ◌∷◌, ◌++◌, map, Option, Some, None, Result, Ok, Err, Bool, true, false, not, ◌&&◌, if◌then◌else◌, nat_eq, nat_le, slice_get, codes, bytes_eq, drop, length}
 use Rattle.std.specs.List.{list_any}
 use Rattle.c_syntax.specs.declared.place.Place.{Place}
 use Rattle.c_syntax.specs.declared.annotation.Kind.{Kind}

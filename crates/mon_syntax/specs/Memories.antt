@@ -3,7 +3,7 @@ use Rattle.std.specs.Prelude.{ℕ, zero, suc, ◌+◌, ◌-◌, ◌*◌, ◌^◌
 use Rattle.c_syntax.specs.declared.types.BlockKind.TheVariants.{Stack}
 use Rattle.c_syntax.specs.declared.types.Segment.{Segment}
 use Rattle.c_syntax.specs.declared.types.Segment.TheVariants as segment
-use Rattle.c_model.specs.Memory.{Pointer, Null, Into, Block, Store, new_block, is_stack, rounded, standard_sizes, greatest_number, full_at_stack_birth}
+use Rattle.c_model.specs.Memory.{Pointer, Into, Block, Store, new_block, is_stack, rounded, standard_sizes, greatest_number, full_at_stack_birth}
 use Rattle.c_model.specs.State.{Input}
 use Rattle.c_model.specs.Meaning.{Ran}
 use Rattle.mon_syntax.specs.declared.tree.MemoryCall.{MemoryCall}
