@@ -37,7 +37,7 @@ use Rattle.instrument.proofs.Births.{int_of}
 use Rattle.instrument.proofs.Functions.{parameter_ints, setting, call_follows}
 use Rattle.instrument.proofs.Library.{putchar_does, getchar_does, exit_does, nothing_does}
 use Rattle.instrument.proofs.Numbers.{AreObjects, parameter_objects}
-use Rattle.instrument.proofs.Programs.{Part, index_by, IsPicked, is_picked, has_number, definition_is, index_is, IsSigned, signed, first_more, typed_at, defined}
+use Rattle.instrument.proofs.Programs.{Part, index_by, IsPicked, parts_of, is_picked, has_number, definition_is, index_is, IsSigned, signed, first_more, typed_at, defined}
 use Rattle.instrument.proofs.Bodies.{has_body, body_follows, has_room, parameters_can, parameters_in_order, few_parameters}
 
 -- ---- names of the library
@@ -86,7 +86,7 @@ pub data IsResolved (p : TranslationUnit) (main : ℕ) (f : Use) (t : PlainType)
   IsOfLibrary : is_of_library f ≡ true → library_function f.name (name_at p.names f.name) ≡ Some callee → t ≡ callee.result → IsResolved p main f t callee
   IsNothing : is_of_library f ≡ true → IsOther (name_at p.names f.name) → (ints : List CInt) → callee.params ≡ map (λ k. Int k) ints → IsResolved p main f t callee
 
-ints_of : (ds : List Declaration) → AreObjects ds → types_of ds ≡ map (λ k. Int k) (parameter_ints ds)
+pub ints_of : (ds : List Declaration) → AreObjects ds → types_of ds ≡ map (λ k. Int k) (parameter_ints ds)
 ints_of [] o = refl
 ints_of (d ∷ ds) o = ap (λ t. t ∷ types_of ds) o.0 ∙ ap (λ l. Int (int_of d.ctype) ∷ l) (ints_of ds o.1)
 
@@ -144,7 +144,7 @@ module _ (p : TranslationUnit) (q : IsProgram p) (numbers : FunctionsHaveNumbers
                 ∙ ap (λ o. number_or o (offset_of (first_of f.name p.funcs))) e in
             let found : definition_at f.decl p.funcs ≡ Some d.definition = ap (λ x. definition_at x p.funcs) number ∙ d.found in
             IsFunction d.definition l found
-            (is_picked p (has_number f.decl) main [] p.funcs d.definition 0 refl q.typed q.formed.functions q.named q.numbered numbers (sym (definition_is f.decl p.funcs) ∙ found) 0)
+            (is_picked p (has_number f.decl) main p.funcs d.definition (parts_of p q numbers) (sym (definition_is f.decl p.funcs) ∙ found) 0)
             d.name
             (ap (λ (g : Signature). g.params) callee_is ∙ d.types.params)
             (c.result ∙ ap (λ (g : Signature). g.result) callee_is ∙ d.types.result)

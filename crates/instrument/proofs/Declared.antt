@@ -113,7 +113,7 @@ abbrev pub object_of : Declaration → Object
 object_of d = record { name = d.name; decl = number_of d; ctype = d.ctype }
 
 -- the newest object is found first
-named_last : (x : ℕ) (objects : List Object) (o : Object) → object_named x (objects ++ o ∷ []) ≡ cond (nat_eq x o.name) (Some o) (object_named x objects)
+pub named_last : (x : ℕ) (objects : List Object) (o : Object) → object_named x (objects ++ o ∷ []) ≡ cond (nat_eq x o.name) (Some o) (object_named x objects)
 named_last x [] o = refl
 named_last x (b ∷ objects) o =
     ap (λ r. or_else r (cond (nat_eq x b.name) (Some b) None)) (named_last x objects o) ∙ by (nat_eq x o.name)

@@ -29,3 +29,13 @@ pub mod Programs
 pub mod Bodies
 pub mod Callees
 pub mod Runs
+pub mod Typed
+pub mod ValidSetups
+pub mod ValidEffects
+pub mod ValidBlocks
+pub mod Depths
+pub mod Names
+pub mod ValidStatements
+pub mod ValidCalls
+pub mod ValidRegisters
+pub mod ValidPrograms

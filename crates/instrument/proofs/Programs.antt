@@ -87,6 +87,25 @@ ascend_back low (n ∷ a) b h = let x = ascend_back (suc n) a b h.1 in record { 
 behind_function : (low : ℕ) (f : Function) (fs : List Function) → Ascend low (numbers_of f ++ numbers_of_all fs) → IsHigher (suc f.place.offset) (numbers_of_all fs)
 behind_function low f fs h = ascend_back (suc f.place.offset) _ (numbers_of_all fs) h.1
 
+-- of each function
+abbrev pub Parts : TranslationUnit → List Function → Type 0
+Parts p [] = Unit {0}
+Parts p (f ∷ fs) = Part p f × Parts p fs
+
+less_ascends : (low low2 : ℕ) (ns : List ℕ) → low ≤ low2 → Ascend low2 ns → Ascend low ns
+less_ascends low low2 [] le a = tt
+less_ascends low low2 (n ∷ ns) le a = (omega (arith, le, a.0), a.1)
+
+all_parts : (p : TranslationUnit) (before fs : List Function) (low : ℕ) → before ++ fs ≡ p.funcs → FunctionsTyped p before fs → FunctionsFormed most_typed fs → FunctionsNamed p.names fs → Ascend low (numbers_of_all fs) → FunctionsHaveNumbers fs → Parts p fs
+all_parts p before [] low is typed formed named numbered numbers = tt
+all_parts p before (g ∷ fs) low is typed formed named numbered numbers =
+    let h = behind_function low g fs numbered in
+    (record { before = before; after = fs; is = is; typed = typed.0; formed = formed.0; named = named.0; low = low; numbered = ascend_front low (numbers_of g) (numbers_of_all fs) numbered; numbers = numbers.0 },
+    all_parts p (before ++ g ∷ []) fs (suc g.place.offset) (append_assoc before (g ∷ []) fs ∙ is) typed.1 formed.1 named.1 (less_ascends (suc g.place.offset) h.low2 (numbers_of_all fs) h.le h.is) numbers.1)
+
+pub parts_of : (p : TranslationUnit) → IsProgram p → FunctionsHaveNumbers p.funcs → Parts p p.funcs
+parts_of p q numbers = all_parts p [] p.funcs 0 refl q.typed q.formed.functions q.named q.numbered numbers
+
 -- ---- the first definition of which something is true
 
 abbrev pub picked : (Function → Bool) → List Function → Option Function
@@ -151,23 +170,12 @@ module _ (p : TranslationUnit) (test : Function → Bool) (main : ℕ) where
             ∙ ap (λ n. Some (function_of p main n f)) (number ∙ ap (λ n. k + n) (sym index));
       }
 
-  pub is_picked : (before fs : List Function) (f : Function) (low : ℕ) → before ++ fs ≡ p.funcs → FunctionsTyped p before fs → FunctionsFormed most_typed fs → FunctionsNamed p.names fs → Ascend low (numbers_of_all fs) → FunctionsHaveNumbers fs → picked test fs ≡ Some f → (k : ℕ) → IsPicked p test main k fs f
-  is_picked before [] f low is typed formed named numbered numbers e k = absurd cc
-  is_picked before (g ∷ fs) f low is typed formed named numbered numbers e k =
-      by (λ h j. is_picked (before ++ g ∷ []) fs f (suc g.place.offset) (append_assoc before (g ∷ []) fs ∙ is) typed.1 formed.1 named.1 (lower (behind_function low g fs numbered)) numbers.1 h j) (is_definition g && test g) refl e
+  pub is_picked : (fs : List Function) (f : Function) → Parts p fs → picked test fs ≡ Some f → (k : ℕ) → IsPicked p test main k fs f
+  is_picked [] f parts e k = absurd cc
+  is_picked (g ∷ fs) f parts e k = by (λ h j. is_picked fs f parts.1 h j) (is_definition g && test g) refl e
     where
-      lower : IsHigher (suc g.place.offset) (numbers_of_all fs) → Ascend (suc g.place.offset) (numbers_of_all fs)
-      lower h = less h.low2 (numbers_of_all fs) h.le h.is
-        where
-          less : (m : ℕ) (ns : List ℕ) → suc g.place.offset ≤ m → Ascend m ns → Ascend (suc g.place.offset) ns
-          less m [] le a = tt
-          less m (n ∷ ns) le a = (omega (arith, le, a.0), a.1)
-
-      part : Part p g
-      part = record { before = before; after = fs; is = is; typed = typed.0; formed = formed.0; named = named.0; low = low; numbered = ascend_front low (numbers_of g) (numbers_of_all fs) numbered; numbers = numbers.0 }
-
       by : (picked test fs ≡ Some f → (j : ℕ) → IsPicked p test main j fs f) → (t : Bool) → (is_definition g && test g) ≡ t → (if t then Some g else picked test fs) ≡ Some f → IsPicked p test main k (g ∷ fs) f
-      by rest true x h = let same : g ≡ f = cc in subst (IsPicked p test main k (g ∷ fs)) same (it_is k g fs part x)
+      by rest true x h = let same : g ≡ f = cc in subst (IsPicked p test main k (g ∷ fs)) same (it_is k g fs parts.0 x)
       by rest false x h = not_first k g f fs x (rest h)
 
 -- ---- by number

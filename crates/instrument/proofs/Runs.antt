@@ -29,7 +29,7 @@ use Rattle.instrument.proofs.Following.{Follows, GoesOn, Breaks, Continues, IsLe
 use Rattle.instrument.proofs.Births.{slots_born}
 use Rattle.instrument.proofs.Parameters.{AllSet}
 use Rattle.instrument.proofs.Functions.{setting, parameter_slots, how_many, at_body, body_code}
-use Rattle.instrument.proofs.Programs.{same_type_is, picked, index_by, IsPicked, is_picked, has_bytes, main_index_is}
+use Rattle.instrument.proofs.Programs.{same_type_is, picked, index_by, IsPicked, parts_of, is_picked, has_bytes, main_index_is}
 use Rattle.instrument.proofs.Bodies.{has_body, body_follows}
 use Rattle.instrument.proofs.Callees.{main, functions, calls_at}
 
@@ -176,7 +176,7 @@ module _ (p : TranslationUnit) (q : IsProgram p) (numbers : FunctionsHaveNumbers
   fs = functions p q numbers
 
   main_picked : IsPicked p (has_bytes p.names (codes "main")) m 0 p.funcs f
-  main_picked = is_picked p (has_bytes p.names (codes "main")) m [] p.funcs f 0 refl q.typed q.formed.functions q.named q.numbered numbers found.first 0
+  main_picked = is_picked p (has_bytes p.names (codes "main")) m p.funcs f (parts_of p q numbers) found.first 0
 
   abbrev w : Setting
   w = setting p m m f (call_of p (suc n)) (level over_blocks fs n) n [] (0 + 1)
