@@ -5,9 +5,7 @@ use Rattle.std.proofs.Math.Seq.{drop-cons}
 use Rattle.mon_syntax.specs.declared.tree.MonStmt.{MonStmt}
 use Rattle.mon_syntax.specs.declared.tree.MonType.{MonType}
 use Rattle.mon_syntax.specs.Trees.{MonStatements, NoStatement, Then, plain_stmt, plain_stmts}
-use Rattle.c_syntax.specs.declared.expression.Expr.{Expr}
-use Rattle.c_syntax.specs.Expressions.{plain_exprs}
-use Rattle.instrument.specs.Translation.{before, one, put}
+use Rattle.instrument.specs.Expressions.{before, one}
 
 pub before_assoc : (a b c : MonStatements) → before (before a b) c ≡ before a (before b c)
 before_assoc NoStatement b c = refl
@@ -59,7 +57,3 @@ complete t none kept = sym (append-nil t) ∙ ap (λ a. t ++ a) (sym none) ∙ k
 -- one more part of the code stands there, behind which what is left begins with further registers
 pub more_behind : {t' left all : MonStatements} {rs' : List MonType} (t part : MonStatements) (rs ts : List MonType) (rest : List MonType → MonStatements) → left ≡ before part (rest (rs ++ ts)) → t' ≡ before t part → rs' ≡ rs ++ ts → before t left ≡ all → before t' (rest rs') ≡ all
 more_behind {t'} t part rs ts rest first put types kept = ap (λ r. before t' (rest r)) types ∙ more t part (rest (rs ++ ts)) first put kept
-
-pub put_nothing : (names : List ℕ) (rs : List MonType) (args : List Expr) → length args < 1 → put names rs (plain_exprs args) ≡ NoStatement
-put_nothing names rs [] lt = refl
-put_nothing names rs (e ∷ es) lt = absurd (omega arith)

@@ -1,3 +1,4 @@
+pub mod Expressions
 pub mod Translation
 pub mod Limits
 pub mod Options
