@@ -19,7 +19,7 @@ use crate::conversion::register_type;
 use crate::name::{function_name, temporary_name};
 use crate::scene::{Scene, Spot};
 use crate::statement::statement;
-use crate::variable::{Variables, variables};
+use crate::variable::{Variables, variables_of};
 use c_syntax::{CType, Func, Name, Program};
 use c_typing::scope::name_at;
 use mon_syntax::{MonFunc, MonProgram, MonStmt, MonType, Register};
@@ -124,7 +124,7 @@ fn function_of(
     ensures code { IfOk result (λ m. plain_monitored_func m ≡ function_of (plain_program p.now) main index (plain_func f.now)) }
     ensures numbers { IfOk result (λ _. FunctionHasNumbers (plain_func f.now)) }
 {
-    let (parameters, own) = variables(alloc, &p.names, f)?;
+    let (parameters, own) = variables_of(alloc, &p.names, f)?;
     let Variables {
         numbers,
         mut types,

@@ -150,7 +150,7 @@ fn parameters(alloc: Global, texts: &[Name], f: &Func) -> Result<Variables, Allo
 }
 
 /// The parameters of a function by their registers, and all its variables with the other registers of theirs.
-pub fn variables(
+pub fn variables_of(
     alloc: Global,
     texts: &[Name],
     f: &Func,
