@@ -17,7 +17,7 @@ use crate::conversion::value_type;
 use crate::name::{register_name, temporary_name};
 use crate::statement::items;
 use c_syntax::{Decl, Func, Item, Name, Program, StmtKind};
-use c_typing::scope::name_at;
+use c_type_rules::scope::name_at;
 use mon_syntax::{MonFunc, MonProgram, MonType, Register};
 use std::alloc::{AllocError, Global};
 
