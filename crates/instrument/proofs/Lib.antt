@@ -17,6 +17,8 @@ pub mod Parameters
 pub mod Functions
 pub mod FullExpressions
 pub mod Sequences
+pub mod Trees
+pub mod Chains
 pub mod Effects
 pub mod Terms
 pub mod Asserts

@@ -2,3 +2,4 @@ pub mod Expressions
 pub mod Translation
 pub mod Limits
 pub mod Options
+pub mod Growth

@@ -12,7 +12,7 @@ use crate::expression::expression;
 use crate::part::{numbered, then};
 use crate::scene::Scene;
 use c_syntax::{Expr, Func, Program, Use};
-use c_typing::scope::name_at;
+use c_type_rules::scope::name_at;
 use mon_syntax::{MonExpr, MonStmt, MonType};
 use std::alloc::{AllocError, Global};
 

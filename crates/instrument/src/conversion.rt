@@ -8,7 +8,7 @@ ghost use Rattle.mon_syntax.specs.Valid.{is_relation, result_type};
 ghost use Rattle.instrument.specs.Expressions.{operand_type, register_type, value_type};
 
 use c_syntax::{BinOp, CInt, CType};
-use c_typing::conversion::{common, is_shift, promoted};
+use c_type_rules::conversion::{common, is_shift, promoted};
 use mon_syntax::{MonOp, MonType};
 
 pub fn same_type(first: MonType, second: MonType) -> bool

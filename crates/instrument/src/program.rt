@@ -21,7 +21,7 @@ use crate::scene::{Scene, Spot};
 use crate::statement::statement;
 use crate::variable::{Variables, variables_of};
 use c_syntax::{CType, Func, Name, Program};
-use c_typing::scope::name_at;
+use c_type_rules::scope::name_at;
 use mon_syntax::{MonFunc, MonProgram, MonStmt, MonType, Register};
 use std::alloc::{AllocError, Global};
 

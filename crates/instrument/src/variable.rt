@@ -12,7 +12,7 @@ use crate::block::items_of;
 use crate::conversion::value_type;
 use crate::name::{pointer_name, register_name};
 use c_syntax::{Decl, Func, Item, Name, Stmt, StmtKind};
-use c_typing::scope::name_at;
+use c_type_rules::scope::name_at;
 use mon_syntax::{MonType, Register};
 use std::alloc::{AllocError, Global};
 
