@@ -19,6 +19,7 @@ pub mod FullExpressions
 pub mod Sequences
 pub mod Trees
 pub mod Chains
+pub mod Declarations
 pub mod Effects
 pub mod Terms
 pub mod Asserts

@@ -5,7 +5,7 @@ use Rattle.std.specs.declared.alloc.Global.{Global}
 use Rattle.c_syntax.specs.declared.statement.Item.{Item}
 use Rattle.c_syntax.specs.declared.statement.Stmt.{Stmt}
 use Rattle.c_syntax.specs.Expressions.{Expression, Node, Call}
-use Rattle.c_syntax.specs.Statements.{ElsePart, NoElse, Else, ForFirst, NoFirst, First, BlockItems, NoItem, Then, plain_stmt, plain_item}
+use Rattle.c_syntax.specs.Statements.{Declaration, ElsePart, NoElse, Else, ForFirst, NoFirst, First, BlockItem, Declare, Run, Asserts, BlockItems, NoItem, Then, plain_stmt, plain_item}
 use Rattle.c_syntax.specs.Programs.{TranslationUnit}
 use Rattle.mon_syntax.specs.declared.tree.MonType.{MonType}
 use Rattle.mon_syntax.specs.Trees.{MonExpression, Register, MonStatements}
@@ -26,6 +26,12 @@ plain_first_part (Some i) = First (plain_item i.value)
 abbrev pub items_of_first : ForFirst → BlockItems
 items_of_first NoFirst = NoItem
 items_of_first (First i) = Then i NoItem
+
+-- what an item declares itself
+abbrev pub declared_by : BlockItem → List Declaration
+declared_by (Declare ds) = ds
+declared_by (Run a) = []
+declared_by (Asserts annots) = []
 
 abbrev pub plain_spot : code.Spot → Spot
 plain_spot s = record { loops = s.loops; inside = s.inside.now; outside = s.outside.now }

@@ -1,11 +1,11 @@
 //! The blocks of memory of variables: their births and deaths.
 
 ghost use Rattle.std.specs.Prelude.{◌≡◌, IfOk, OnOk, map};
-ghost use Rattle.c_syntax.specs.Statements.{plain_decl, plain_items};
+ghost use Rattle.c_syntax.specs.Statements.{plain_decl, plain_item, plain_items};
 ghost use Rattle.c_model.specs.Meaning.{declared_in};
 ghost use Rattle.mon_syntax.specs.Trees.{plain_stmt, plain_stmts};
 ghost use Rattle.instrument.specs.Expressions.{before};
-ghost use Rattle.instrument.specs.Options.{items_of_first, plain_first_part};
+ghost use Rattle.instrument.specs.Options.{declared_by, items_of_first, plain_first_part};
 ghost use Rattle.instrument.specs.Translation.{birth, births, death, deaths, with_born};
 
 use crate::expression::size_constant;
@@ -39,6 +39,17 @@ pub fn births(
     Ok(())
 }
 
+// What an item declares itself.
+fn declared_by(item: &Item) -> &[Decl]
+    ensures { map plain_decl result.now ≡ declared_by (plain_item item.now) }
+{
+    match item {
+        Item::Declare(decls) => decls,
+        Item::Run(_) => &[],
+        Item::Asserts(_) => &[],
+    }
+}
+
 /// The births of the variables that items of a block declare.
 pub fn births_in(
     alloc: Global,
@@ -49,11 +60,7 @@ pub fn births_in(
     ensures { OnOk result (plain_stmts to.new.items ≡ before (plain_stmts to.old.items) (births numbers.now (declared_in (plain_items block.now)))) }
 {
     'items: for item in block {
-        match item {
-            Item::Declare(decls) => births(alloc, numbers, decls, to)?,
-            Item::Run(_) => {}
-            Item::Asserts(_) => {}
-        }
+        births(alloc, numbers, declared_by(item), to)?;
     }
     Ok(())
 }
@@ -79,11 +86,7 @@ pub fn born_in(
 {
     let mut all = Vec::from_slice(alloc, live)?;
     'items: for item in block {
-        match item {
-            Item::Declare(decls) => born(numbers, decls, &mut all)?,
-            Item::Run(_) => {}
-            Item::Asserts(_) => {}
-        }
+        born(numbers, declared_by(item), &mut all)?;
     }
     Ok(all)
 }
