@@ -1,5 +1,5 @@
 -- Declarations behind one another: their variables, and the births of their blocks.
-use Rattle.std.proofs.Common.{◌≡◌, ℕ, suc, ◌+◌, List, [], ◌∷◌, ◌++◌, length, map, refl, sym, ap, ◌∙◌, arith, append_assoc}
+use Rattle.std.proofs.Common.{◌≡◌, ℕ, zero, suc, ◌+◌, ◌<◌, ◌≤◌, List, [], ◌∷◌, ◌++◌, length, drop, map, refl, sym, ap, ◌∙◌, arith, append_assoc}
 use Rattle.std.proofs.lemmas.List.{length-map, length-append, map-append, append-nil}
 use Rattle.c_syntax.specs.Ctypes.{plain_type}
 use Rattle.c_syntax.specs.declared.statement.Decl.{Decl}
@@ -7,24 +7,30 @@ use Rattle.c_syntax.specs.Statements.{Declaration, BlockItem, Declare, Run, Asse
 use Rattle.c_model.specs.Meaning.{declared_in}
 use Rattle.c_model.specs.Formed.{number_of}
 use Rattle.mon_syntax.specs.declared.tree.MonType.{MonType}
+use Rattle.mon_syntax.specs.declared.tree.MonType.TheVariants.{Ptr}
 use Rattle.mon_syntax.specs.declared.tree.Register.{Register}
+use Rattle.mon_syntax.specs.Trees as mon
 use Rattle.mon_syntax.specs.Trees.{MonRegister, plain_register}
 use Rattle.instrument.specs.declared.variable.Variables.{Variables}
 use Rattle.instrument.specs.Expressions.{value_type, before}
 use Rattle.instrument.specs.Growth.{Grows}
 use Rattle.instrument.specs.Options.{declared_by}
-use Rattle.instrument.specs.Translation.{births, own_name, register_name, value_types, values_from, with_born}
-use Rattle.instrument.proofs.Sequences.{before_assoc}
+use Rattle.instrument.specs.Translation.{birth, births, death, deaths, own_name, pointer_name, pointer_types, pointers_from, register_name, value_types, values_from, with_born}
+use Rattle.instrument.proofs.Sequences.{before_assoc, grown}
 
 -- ---- births
 
 births_behind : (numbers : List ℕ) (ds es : List Declaration) → births numbers (ds ++ es) ≡ before (births numbers ds) (births numbers es)
 births_behind numbers [] es = refl
-births_behind numbers (d ∷ ds) es = ap (before (births numbers (d ∷ []))) (births_behind numbers ds es)
+births_behind numbers (d ∷ ds) es = ap (mon.Then (birth numbers d)) (births_behind numbers ds es)
 
 born_behind : (numbers : List ℕ) (ds es : List Declaration) (live : List ℕ) → with_born numbers (ds ++ es) live ≡ with_born numbers es (with_born numbers ds live)
 born_behind numbers [] es live = refl
 born_behind numbers (d ∷ ds) es live = born_behind numbers ds es _
+
+pub deaths_behind : (numbers a b : List ℕ) → deaths numbers (a ++ b) ≡ before (deaths numbers a) (deaths numbers b)
+deaths_behind numbers [] b = refl
+deaths_behind numbers (r ∷ a) b = ap (mon.Then (death numbers r)) (deaths_behind numbers a b)
 
 declared_first : (i : BlockItem) (rest : BlockItems) → declared_in (Then i rest) ≡ declared_by i ++ declared_in rest
 declared_first (Declare ds) rest = refl
@@ -100,3 +106,53 @@ module _ (texts : List (List ℕ)) where
     types = types;
     registers = ap (map plain_register) registers ∙ map-append plain_register old.registers.items (r ∷ []) ∙ ap (λ x. map plain_register old.registers.items ++ x ∷ []) is;
   }
+-- ---- pointers to blocks
+
+types_left : (ds : List Declaration) (k : ℕ) → k < length ds → pointer_types (drop k ds) ≡ Ptr ∷ pointer_types (drop (k + 1) ds)
+types_left [] k lt = absurd (omega arith)
+types_left (d ∷ ds) zero lt = refl
+types_left (d ∷ ds) (suc k) lt =
+    let next : suc k + 1 ≡ suc (k + 1) = omega arith in
+    types_left ds k (omega (arith, lt)) ∙ ap (λ n. Ptr ∷ pointer_types (drop n (d ∷ ds))) (sym next)
+
+pointers_left : (ds : List Declaration) (k j : ℕ) → k < length ds → pointers_from j (drop k ds) ≡ record { kind = Ptr; name = pointer_name j } ∷ pointers_from (suc j) (drop (k + 1) ds)
+pointers_left [] k j lt = absurd (omega arith)
+pointers_left (d ∷ ds) zero j lt = refl
+pointers_left (d ∷ ds) (suc k) j lt =
+    let next : suc k + 1 ≡ suc (k + 1) = omega arith in
+    pointers_left ds k j (omega (arith, lt)) ∙ ap (λ n. record { kind = Ptr; name = pointer_name j } ∷ pointers_from (suc j) (drop n (d ∷ ds))) (sym next)
+
+none_of : (ds : List Declaration) (k : ℕ) → length ds ≤ k → drop k ds ≡ []
+none_of [] zero le = refl
+none_of [] (suc k) le = refl
+none_of (d ∷ ds) zero le = absurd (omega arith)
+none_of (d ∷ ds) (suc k) le = none_of ds k (omega (arith, le))
+
+-- so many of the pointers stand behind the registers that were there
+pub record Pointers (count k : ℕ) (old now : Variables) : Type 0 where
+  pub numbers : now.numbers.items ≡ old.numbers.items
+  pub types : (ds : List Declaration) → length ds ≡ count → now.types.items ++ pointer_types (drop k ds) ≡ old.types.items ++ pointer_types ds
+  pub registers : (ds : List Declaration) → length ds ≡ count → map plain_register now.registers.items ++ pointers_from (count + k) (drop k ds) ≡ map plain_register old.registers.items ++ pointers_from count ds
+
+pub points_start : (count : ℕ) (old : Variables) → Pointers count 0 old old
+points_start count old =
+    let e : count + 0 ≡ count = omega arith in
+    record { numbers = refl; types = λ ds long. refl; registers = λ ds long. ap (λ n. map plain_register old.registers.items ++ pointers_from n ds) e }
+
+pub points_step : (count k : ℕ) (old mid now : Variables) (r : Register) → k < count → now.numbers.items ≡ mid.numbers.items → now.types.items ≡ mid.types.items ++ Ptr ∷ [] → now.registers.items ≡ mid.registers.items ++ r ∷ [] → plain_register r ≡ record { kind = Ptr; name = pointer_name (count + k) } → Pointers count k old mid → Pointers count (k + 1) old now
+points_step count k old mid now r lt numbers types registers is h = record {
+  numbers = numbers ∙ h.numbers;
+  types = λ ds long. grown mid.types.items (Ptr ∷ []) (pointer_types (drop (k + 1) ds)) (types_left ds k (omega (arith, lt, long))) types (h.types ds long);
+  registers = λ ds long.
+      let next : suc (count + k) ≡ count + (k + 1) = omega arith in
+      grown (map plain_register mid.registers.items) (record { kind = Ptr; name = pointer_name (count + k) } ∷ []) (pointers_from (count + (k + 1)) (drop (k + 1) ds))
+          (pointers_left ds k (count + k) (omega (arith, lt, long)) ∙ ap (λ n. record { kind = Ptr; name = pointer_name (count + k) } ∷ pointers_from n (drop (k + 1) ds)) next)
+          (ap (map plain_register) registers ∙ map-append plain_register mid.registers.items (r ∷ []) ∙ ap (λ x. map plain_register mid.registers.items ++ x ∷ []) is) (h.registers ds long);
+}
+
+pub points_types : (count k : ℕ) (old now : Variables) (ds : List Declaration) → count ≤ k → length ds ≡ count → Pointers count k old now → now.types.items ≡ old.types.items ++ pointer_types ds
+points_types count k old now ds le long h = sym (append-nil now.types.items) ∙ ap (λ l. now.types.items ++ pointer_types l) (sym (none_of ds k (omega (arith, le, long)))) ∙ h.types ds long
+
+pub points_registers : (count k : ℕ) (old now : Variables) (ds : List Declaration) → count ≤ k → length ds ≡ count → Pointers count k old now → map plain_register now.registers.items ≡ map plain_register old.registers.items ++ pointers_from count ds
+points_registers count k old now ds le long h =
+    sym (append-nil (map plain_register now.registers.items)) ∙ ap (λ l. map plain_register now.registers.items ++ pointers_from (count + k) l) (sym (none_of ds k (omega (arith, le, long)))) ∙ h.registers ds long

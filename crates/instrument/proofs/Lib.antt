@@ -20,6 +20,7 @@ pub mod Sequences
 pub mod Trees
 pub mod Chains
 pub mod Declarations
+pub mod StatementTrees
 pub mod Effects
 pub mod Terms
 pub mod Asserts

@@ -10,7 +10,7 @@ use Rattle.c_model.specs.Meaning.{is_definition, definition_at}
 use Rattle.c_model.specs.Typing.{Signature, name_at, function_called, same_int, same_type}
 use Rattle.c_model.specs.ProgramTyping.{definition_of, first_of, signature, types_of, same_types, same_signature, is_compatible, is_compatible_with_all, function_scopes}
 use Rattle.c_model.specs.WellTypedPrograms.{FunctionTyped, FunctionsTyped}
-use Rattle.c_model.specs.Formed.{Ascend, numbers_of, numbers_of_all, FunctionFormed, FunctionsFormed, FunctionNamed, FunctionsNamed, most_typed}
+use Rattle.c_model.specs.Formed.{Ascend, IsProgram, numbers_of, numbers_of_all, FunctionFormed, FunctionsFormed, FunctionNamed, FunctionsNamed, most_typed}
 use Rattle.instrument.specs.Limits.{FunctionHasNumbers, FunctionsHaveNumbers}
 use Rattle.instrument.specs.Translation.{function_of, functions_from, index_of, index_of_main}
 

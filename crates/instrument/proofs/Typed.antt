@@ -300,7 +300,7 @@ module _ (ts : Types) where
     where
       by : (t : Bool) → same_type from to ≡ t → HasType ts (if t then e else tree.Cast to e) to
       by true s = subst (HasType ts e) (same_mon from to s) h
-      by false s = (refl, g, (from, (f, h)))
+      by false s = (refl, g, (from, f, h))
 
   compared_typed : (op : MonOp) (t : MonType) (e : MonExpression) → is_whole t ≡ true → result_type op (operand_type t) ≡ I32 → HasType ts e t → HasType ts (compared op t e) I32
   compared_typed op t e w r h = (r, operand_computes t, in_typed t (operand_type t) e w (operand_whole t) h, (refl, zero_constant t))
@@ -419,7 +419,7 @@ module _ (ts : Types) where
     term_typed (logic.Letter at u r z) p q l = (refl, logic_constant z (letter_number z l))
     term_typed (logic.Variable at u r x) p q l =
         let s = seen x q.ctype q.denotes in
-        (refl, refl, (register_type s.int, (register_whole s.int, s.register)))
+        (refl, refl, (register_type s.int, register_whole s.int, s.register))
     term_typed (logic.Binary at u r operator.Add a b) p q l = (refl, refl, term_typed a p.1 q.0 l.0, term_typed b p.2 q.1 l.1)
     term_typed (logic.Binary at u r operator.Sub a b) p q l = (refl, refl, term_typed a p.1 q.0 l.0, term_typed b p.2 q.1 l.1)
     term_typed (logic.Binary at u r _ a b) p q l = absurd p.0

@@ -71,8 +71,8 @@ pointer_there [] rest d more = refl
 pointer_there (e ∷ front) rest d more = pointer_there front rest d more
 
 behind_types : (a b : Types) (j : ℕ) → slice_get (a ++ b) (length a + j) ≡ slice_get b j
-behind_types [] b j = refl
-behind_types (t ∷ a) b j = behind_types a b j
+behind_types [] b j = let e : 0 + j ≡ j = omega arith in ap (slice_get b) e
+behind_types (t ∷ a) b j = let e : suc (length a) + j ≡ suc (length a + j) = omega arith in ap (slice_get (t ∷ (a ++ b))) e ∙ behind_types a b j
 
 module _ (ts : Types) (numbers : List ℕ) (all : List Declaration) (long : length numbers ≡ length all) (begins : Begins (value_types all ++ pointer_types all) ts) where
   types_are : ts ≡ value_types all ++ (pointer_types all ++ begins.rest)

@@ -44,6 +44,7 @@ fn first_of(mut args: Vec<MonExpr>) -> MonExpr
 }
 
 // A call of a function of the library, by its name.
+#[tactic(auto, using(crate::proofs::Sequences::before_none))]
 fn library_call(
     into: Option<u32>,
     name: &[u8],
@@ -95,7 +96,7 @@ pub fn arguments(
     ensures letters { OnOk result (ArgumentsHaveLetters (plain_exprs args.now)) }
 {
     let mut values = Vec::new(alloc);
-    'args: for e in args {
+    'expressions: for e in args {
         values.push(expression(alloc, numbers, e, types, to)?)?;
     }
     Ok(values)

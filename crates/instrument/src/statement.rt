@@ -135,6 +135,7 @@ fn jump(
 }
 
 // The deaths of all blocks of a function.
+#[tactic(auto, using(crate::proofs::Sequences::before_assoc, crate::proofs::Declarations::deaths_behind))]
 fn all_deaths(
     alloc: Global,
     numbers: &[u32],

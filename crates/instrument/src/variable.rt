@@ -2,13 +2,13 @@
 
 ghost use Rattle.std.specs.Prelude.{◌≡◌, ◌++◌, ℕ, List, IfOk, OnOk, length, map};
 ghost use Rattle.c_syntax.specs.Programs.{plain_func};
-ghost use Rattle.c_syntax.specs.Statements.{Declaration, plain_decl, plain_items, plain_stmt};
-ghost use Rattle.c_model.specs.Formed.{declared_in_body, declared_in_items, declared_within, number_of};
+ghost use Rattle.c_syntax.specs.Statements.{Declaration, plain_decl, plain_item, plain_items, plain_stmt};
+ghost use Rattle.c_model.specs.Formed.{declared_in_body, declared_in_else, declared_in_first, declared_in_item, declared_in_items, declared_within, number_of};
 ghost use Rattle.mon_syntax.specs.Trees.{plain_register};
 ghost use Rattle.instrument.specs.Growth.{Grows};
+ghost use Rattle.instrument.specs.Options.{plain_else_part, plain_first_part};
 ghost use Rattle.instrument.specs.Translation.{own_name, pointer_types, pointers_from, value_types, values_from, variable_numbers, variable_types, variables_of};
 
-use crate::block::items_of;
 use crate::conversion::value_type;
 use crate::name::{pointer_name, register_name};
 use c_syntax::{Decl, Func, Item, Name, Stmt, StmtKind};
@@ -64,15 +64,12 @@ fn declare_within(
         StmtKind::Block(block) => declare_items(alloc, texts, block, to),
         StmtKind::If(_, a, b) => {
             declare_within(alloc, texts, a, to)?;
-            match b {
-                Some(b) => declare_within(alloc, texts, b, to),
-                None => Ok(()),
-            }
+            declare_else(alloc, texts, b, to)
         }
         StmtKind::While(_, _, a) => declare_within(alloc, texts, a, to),
         StmtKind::Do(a, _) => declare_within(alloc, texts, a, to),
         StmtKind::For(_, first, _, _, a) => {
-            declare_items(alloc, texts, items_of(first), to)?;
+            declare_first(alloc, texts, first, to)?;
             declare_within(alloc, texts, a, to)
         }
         StmtKind::Empty
@@ -83,7 +80,56 @@ fn declare_within(
     }
 }
 
-// The variables that are declared in the items of a block, in text order.
+// Those of an `else`, which may be left out.
+#[cycle(declared)]
+fn declare_else(
+    alloc: Global,
+    texts: &[Name],
+    b: &Option<Box<Stmt>>,
+    to: &mut Variables,
+) -> Result<(), AllocError>
+    ensures { OnOk result (Grows texts.now to.old to.new (declared_in_else (plain_else_part b.now))) }
+{
+    match b {
+        Some(b) => declare_within(alloc, texts, b, to),
+        None => Ok(()),
+    }
+}
+
+// Those of what stands first in a `for`.
+#[cycle(declared)]
+fn declare_first(
+    alloc: Global,
+    texts: &[Name],
+    first: &Option<Box<Item>>,
+    to: &mut Variables,
+) -> Result<(), AllocError>
+    ensures { OnOk result (Grows texts.now to.old to.new (declared_in_first (plain_first_part first.now))) }
+{
+    match first {
+        Some(i) => declare_item(alloc, texts, i, to),
+        None => Ok(()),
+    }
+}
+
+// Those of an item of a block.
+#[cycle(declared)]
+fn declare_item(
+    alloc: Global,
+    texts: &[Name],
+    i: &Item,
+    to: &mut Variables,
+) -> Result<(), AllocError>
+    ensures { OnOk result (Grows texts.now to.old to.new (declared_in_item (plain_item i.now))) }
+{
+    match i {
+        Item::Declare(decls) => declare(alloc, texts, decls, to),
+        Item::Run(a) => declare_within(alloc, texts, a, to),
+        Item::Asserts(_) => Ok(()),
+    }
+}
+
+// Those of the items of a block, in text order.
 #[cycle(declared)]
 fn declare_items(
     alloc: Global,
@@ -93,12 +139,8 @@ fn declare_items(
 ) -> Result<(), AllocError>
     ensures { OnOk result (Grows texts.now to.old to.new (declared_in_items (plain_items block.now))) }
 {
-    'items: for item in block {
-        match item {
-            Item::Declare(decls) => declare(alloc, texts, decls, to)?,
-            Item::Run(a) => declare_within(alloc, texts, a, to)?,
-            Item::Asserts(_) => {}
-        }
+    'items: for i in block {
+        declare_item(alloc, texts, i, to)?;
     }
     Ok(())
 }
