@@ -10,11 +10,12 @@ use Rattle.c_model.specs.Checked.{Good, refusing}
 use Rattle.c_model.specs.ProgramTyping.{typed_unit, main_fault, noted_unit}
 use Rattle.c_model.specs.Phases.{IsRead, AcceptedText, ByTokens, ByGrammar, ByNamesAndTypes, ForMain, ByAnnotations}
 use Rattle.c_parser.specs.Answers as parser
-use Rattle.c_typing.specs.declared.fault.TypeFault.{TypeFault}
-use Rattle.c_typing.specs.declared.fault.TypeFault.TheVariants as fault
-use Rattle.c_typing.specs.declared.fault.ProgramFault.{ProgramFault}
-use Rattle.c_typing.specs.declared.fault.ProgramFault.TheVariants as cause
-use Rattle.c_typing.specs.Answers.{plain_fault, AnswersProgram, Answers}
+use Rattle.c_type_rules.specs.declared.fault.TypeFault.{TypeFault}
+use Rattle.c_type_rules.specs.declared.fault.TypeFault.TheVariants as fault
+use Rattle.c_typing.specs.declared.checked.ProgramFault.{ProgramFault}
+use Rattle.c_typing.specs.declared.checked.ProgramFault.TheVariants as cause
+use Rattle.c_type_rules.specs.Answers.{plain_fault, Answers}
+use Rattle.c_typing.specs.Answers.{AnswersProgram}
 use Rattle.c_reader.specs.Answers.{Refuses, IsTypedAs, OfTypes, OfMain, OfAnnotations, HasFault, RefusesFault, RefusesProgram}
 
 -- ---- names and types

@@ -8,11 +8,11 @@ use Rattle.c_model.specs.Checked.{Fault, Good, refusing}
 use Rattle.c_model.specs.ProgramTyping.{typed_unit, main_fault, noted_unit}
 use Rattle.c_model.specs.Phases.{checked_refusal, main_refusal, RefusedText}
 use Rattle.c_expr_parser.specs.Answers.{RefusesWith}
-use Rattle.c_typing.specs.declared.fault.TypeFault.{TypeFault}
-use Rattle.c_typing.specs.declared.fault.TypeFault.TheVariants.{Refused, Memory}
-use Rattle.c_typing.specs.declared.fault.ProgramFault.{ProgramFault}
-use Rattle.c_typing.specs.declared.fault.ProgramFault.TheVariants as cause
-use Rattle.c_typing.specs.Answers.{plain_fault}
+use Rattle.c_type_rules.specs.declared.fault.TypeFault.{TypeFault}
+use Rattle.c_type_rules.specs.declared.fault.TypeFault.TheVariants.{Refused, Memory}
+use Rattle.c_typing.specs.declared.checked.ProgramFault.{ProgramFault}
+use Rattle.c_typing.specs.declared.checked.ProgramFault.TheVariants as cause
+use Rattle.c_type_rules.specs.Answers.{plain_fault}
 
 -- a refusal is the text's; nothing is said where memory was wanting
 abbrev pub Refuses : FrontFault → List ℕ → Type 0

@@ -6,7 +6,7 @@ ghost use Rattle.c_model.specs.TokenWords.{from_place};
 ghost use Rattle.c_model.specs.Phases.{checked_refusal, main_refusal};
 ghost use Rattle.c_expr_parser.specs.Reading.{plain_list};
 ghost use Rattle.c_expr_parser.specs.Answers.{RefusesWith};
-ghost use Rattle.c_typing.specs.Answers.{plain_fault};
+ghost use Rattle.c_type_rules.specs.Answers.{plain_fault};
 ghost use Rattle.c_reader.specs.Answers.{RefusesFault, RefusesProgram};
 
 use c_expr_parser::refusal::{refused, refused_word};

@@ -1,15 +1,17 @@
 -- Blocks: their items one after another, and what is in sight behind them.
-use Rattle.std.proofs.Common.{◌≡◌, ℕ, List, [], ◌∷◌, ◌++◌, refl, sym, ap, ◌∙◌, append_assoc, length, Err}
+use Rattle.std.proofs.Common.{◌≡◌, ℕ, List, [], ◌∷◌, ◌++◌, refl, sym, ap, ◌∙◌, append_assoc, length, Bool, true, false, cond, Err}
 use Rattle.std.proofs.lemmas.List.{append-nil}
 use Rattle.std.proofs.Math.Seq.{take-append_seam}
 use Rattle.c_syntax.specs.declared.statement.Item.{Item}
 use Rattle.c_syntax.specs.Statements.{Declaration, BlockItem, Declare, Run, Asserts, BlockItems, NoItem, Then, ForFirst, NoFirst, First, plain_item, plain_items}
 use Rattle.c_model.specs.Checked.{Checked, Good, Bad, one_part}
 use Rattle.c_model.specs.Typing.{Scopes, Object, inner, with_object, with_objects, behind, behind_first}
-use Rattle.c_typing.specs.declared.fault.TypeFault.{TypeFault}
-use Rattle.c_typing.specs.Answers.{Answers}
-use Rattle.c_typing.specs.Scopes.{behind_items, left}
-use Rattle.c_typing.proofs.Least.{one_refused}
+use Rattle.c_model.specs.ProgramTyping.{with_parameter, with_parameters}
+use Rattle.c_type_rules.specs.declared.fault.TypeFault.{TypeFault}
+use Rattle.c_type_rules.specs.Answers.{Answers}
+use Rattle.c_type_rules.specs.Scopes.{left}
+use Rattle.c_typing.specs.Scopes.{behind_items}
+use Rattle.c_type_rules.proofs.Least.{one_refused}
 
 abbrev append : BlockItems → BlockItems → BlockItems
 append NoItem js = js
@@ -121,3 +123,17 @@ widens_same s = record { from = s.innermost; more = []; is = ap (λ os. record s
 
 pub left_body : (s : Scopes) (is : BlockItems) → left (length s.objects) s.innermost (behind_items s is) ≡ s
 left_body s is = left_wider s _ (widens_items s s is (widens_same s))
+
+widens_parameter : (s t : Scopes) (d : Declaration) → Widens s t → Widens s (with_parameter t d)
+widens_parameter s t d w = by d.named
+  where
+    by : (b : Bool) → Widens s (cond b (with_object t d) t)
+    by true = widens_object s t d w
+    by false = w
+
+widens_parameters : (s t : Scopes) (ds : List Declaration) → Widens s t → Widens s (with_parameters t ds)
+widens_parameters s t [] w = w
+widens_parameters s t (d ∷ ds) w = widens_parameters s (with_parameter t d) ds (widens_parameter s t d w)
+
+pub left_parameters : (s : Scopes) (ds : List Declaration) → left (length s.objects) s.innermost (with_parameters s ds) ≡ s
+left_parameters s ds = left_wider s _ (widens_parameters s s ds (widens_same s))

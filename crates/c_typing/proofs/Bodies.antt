@@ -1,5 +1,5 @@
 -- Bodies and functions.
-use Rattle.std.proofs.Common.{◌≡◌, ℕ, List, [], ◌∷◌, ◌++◌, refl, sym, ap, ◌∙◌, subst, map, length, Option, Some, option_map, Err}
+use Rattle.std.proofs.Common.{◌≡◌, ℕ, List, [], ◌∷◌, ◌++◌, refl, sym, ap, ◌∙◌, subst, map, length, Option, Some, option_map, Bool, Err}
 use Rattle.std.specs.Prelude.{Vec}
 use Rattle.std.specs.declared.alloc.Global.{Global}
 use Rattle.c_syntax.specs.declared.program.Func.{Func}
@@ -7,19 +7,22 @@ use Rattle.c_syntax.specs.declared.statement.Item.{Item}
 use Rattle.c_syntax.specs.declared.statement.Stmt.{Stmt}
 use Rattle.c_syntax.specs.declared.statement.StmtKind as code
 use Rattle.c_syntax.specs.Ctypes.{PlainType}
-use Rattle.c_syntax.specs.Statements.{Block, BlockItems, plain_stmt, plain_stmt_kind, plain_items}
+use Rattle.c_syntax.specs.Statements.{Declaration, Block, BlockItems, plain_stmt, plain_stmt_kind, plain_items}
 use Rattle.c_syntax.specs.Programs.{Function, plain_func}
 use Rattle.c_syntax.proofs.Rows.{block_is}
 use Rattle.c_model.specs.Checked.{Good, one_part}
 use Rattle.c_model.specs.Typing.{Scopes, typed_items}
 use Rattle.c_model.specs.WellTypedPrograms.{around_body}
-use Rattle.c_model.specs.ProgramTyping.{typed_body, typed_function, typed_functions, noted_body, noted_items, noted_functions}
-use Rattle.c_typing.specs.declared.fault.TypeFault.{TypeFault}
-use Rattle.c_typing.specs.Answers.{Answers}
-use Rattle.c_typing.specs.Scopes.{behind_items, left}
+use Rattle.c_model.specs.ProgramTyping.{with_parameters, typed_body, noted_body, noted_items}
+use Rattle.c_type_rules.specs.declared.fault.TypeFault.{TypeFault}
+use Rattle.c_type_rules.specs.Answers.{Answers}
+use Rattle.c_type_rules.specs.Scopes.{left}
+use Rattle.c_typing.specs.declared.heading.Denoted.{Denoted}
+use Rattle.c_typing.specs.Functions.{with_known, with_function, checked_function, checked_functions, noted_parts, noted_in_turn}
+use Rattle.c_typing.specs.Scopes.{behind_items}
 use Rattle.c_typing.specs.Trees.{plain_block}
-use Rattle.c_typing.proofs.Least.{one_refused}
-use Rattle.c_typing.proofs.Blocks.{left_body}
+use Rattle.c_type_rules.proofs.Least.{one_refused}
+use Rattle.c_typing.proofs.Blocks.{left_body, left_parameters}
 use Rattle.c_typing.proofs.Lists.{behind_parts, list_more}
 
 module _ (s u v : Scopes) (count innermost : ℕ) (is : BlockItems) (counted : count ≡ length s.objects) (kept : innermost ≡ s.innermost) (sight : u ≡ behind_items s is) (ends : v ≡ left count innermost u)
@@ -50,13 +53,26 @@ module _ (s : Scopes) (t : PlainType) (body : Option Stmt) (a : Stmt) (v : Vec I
     body_noted w good =
         ap (noted_body s) whole ∙ ap (λ c. one_part c (λ is. Good (Some (Block a.place is)))) good ∙ ap (λ b. Good (Some b)) (sym (block_is a.place w))
 
+-- behind a function's parameters and its body is what was before them
+pub parts_left : (s u v : Scopes) (count innermost : ℕ) (ds : List Declaration) → count ≡ length s.objects → innermost ≡ s.innermost → u ≡ with_parameters s ds → v ≡ left count innermost u → v ≡ s
+parts_left s u v count innermost ds counted kept sight ends =
+    ends ∙ ap (λ n. left n innermost u) counted ∙ ap (λ n. left (length s.objects) n u) kept ∙ ap (left (length s.objects) s.innermost) sight ∙ left_parameters s ds
+
 -- one more function is typed
-pub functions_more : (s t : Scopes) (all : List Function) (list done done' : List Func) (f x : Func) (rest : List Func) → typed_functions s all ≡ behind_parts (map plain_func done) (typed_functions t (map plain_func list)) → list ≡ f ∷ rest → typed_function t (plain_func f) ≡ Good (plain_func x) → done' ≡ done ++ x ∷ [] → typed_functions s all ≡ behind_parts (map plain_func done') (typed_functions t (map plain_func rest))
-functions_more s t all list done done' f x rest before is good more =
-    list_more plain_func (λ y. y) (typed_functions s all) (typed_functions t (map plain_func list)) done done' x (typed_function t (plain_func f)) (λ y. typed_functions t (map plain_func rest)) (plain_func x) before (ap (λ fs. typed_functions t (map plain_func fs)) is) good refl more
+pub functions_more : (ds : ℕ → Option Denoted) (ns ms ms' : ℕ → Option Bool) (s t t' : Scopes) (all : List Function) (list done done' : List Func) (f x : Func) (rest : List Func)
+    → checked_functions ds ns s all ≡ behind_parts (map plain_func done) (checked_functions ds ms t (map plain_func list)) → list ≡ f ∷ rest → checked_function ds ms t (plain_func f) ≡ Good (plain_func x) → done' ≡ done ++ x ∷ []
+    → ((n : ℕ) → ms' n ≡ with_known ms (plain_func f) n) → t' ≡ with_function ds t (plain_func f) → checked_functions ds ns s all ≡ behind_parts (map plain_func done') (checked_functions ds ms' t' (map plain_func rest))
+functions_more ds ns ms ms' s t t' all list done done' f x rest before is good more names sight =
+    list_more plain_func (λ y. y) (checked_functions ds ns s all) (checked_functions ds ms t (map plain_func list)) done done' x (checked_function ds ms t (plain_func f))
+    (λ y. checked_functions ds (with_known ms (plain_func f)) (with_function ds t (plain_func f)) (map plain_func rest)) (plain_func x) before (ap (λ fs. checked_functions ds ms t (map plain_func fs)) is) good refl more
+    ∙ (λ i. behind_parts (map plain_func done') (checked_functions ds (λ n. sym (names n) i) (sym sight i) (map plain_func rest)))
 
 -- one more function is noted
-pub functions_noted_more : (s t t' : Scopes) (all : List Function) (list done done' : List Func) (f : Func) (body : Option Stmt) (rest : List Func) → noted_functions s all ≡ behind_parts (map plain_func done) (noted_functions t (map plain_func list)) → list ≡ f ∷ rest → noted_body t (option_map plain_stmt f.body) ≡ Good (option_map plain_stmt body) → done' ≡ done ++ record f { body = body } ∷ [] → t' ≡ t → noted_functions s all ≡ behind_parts (map plain_func done') (noted_functions t' (map plain_func rest))
-functions_noted_more s t t' all list done done' f body rest before is good more same =
-    list_more plain_func (λ b. record (plain_func f) { body = b }) (noted_functions s all) (noted_functions t (map plain_func list)) done done' (record f { body = body }) (noted_body t (option_map plain_stmt f.body)) (λ b. noted_functions t (map plain_func rest)) (option_map plain_stmt body) before (ap (λ fs. noted_functions t (map plain_func fs)) is) good refl more
-    ∙ ap (λ u. behind_parts (map plain_func done') (noted_functions u (map plain_func rest))) (sym same)
+pub functions_noted_more : (ds : ℕ → Option Denoted) (s t t' t2 : Scopes) (all : List Function) (list done done' : List Func) (f x : Func) (rest : List Func)
+    → noted_in_turn ds s all ≡ behind_parts (map plain_func done) (noted_in_turn ds t (map plain_func list)) → list ≡ f ∷ rest → t' ≡ with_function ds t (plain_func f) → noted_parts t' (plain_func f) ≡ Good (plain_func x)
+    → done' ≡ done ++ x ∷ [] → t2 ≡ t' → noted_in_turn ds s all ≡ behind_parts (map plain_func done') (noted_in_turn ds t2 (map plain_func rest))
+functions_noted_more ds s t t' t2 all list done done' f x rest before is sight good more same =
+    list_more plain_func (λ y. y) (noted_in_turn ds s all) (noted_in_turn ds t (map plain_func list)) done done' x (noted_parts (with_function ds t (plain_func f)) (plain_func f))
+    (λ y. noted_in_turn ds (with_function ds t (plain_func f)) (map plain_func rest)) (plain_func x) before (ap (λ fs. noted_in_turn ds t (map plain_func fs)) is)
+    (ap (λ u. noted_parts u (plain_func f)) (sym sight) ∙ good) refl more
+    ∙ ap (λ u. behind_parts (map plain_func done') (noted_in_turn ds u (map plain_func rest))) (sym (same ∙ sight))

@@ -13,11 +13,11 @@ use Rattle.c_syntax.specs.Annotations.{LogicTerm, Chain, Links, NoLink, Linked, 
 use Rattle.c_model.specs.Checked.{Checked, Good, Bad, one_part, both_parts}
 use Rattle.c_model.specs.Typing.{Scopes}
 use Rattle.c_model.specs.ProgramTyping.{typed_term, typed_links, typed_predicate, typed_annotations, typed_clause}
-use Rattle.c_typing.specs.declared.fault.TypeFault.{TypeFault}
-use Rattle.c_typing.specs.declared.fault.TypeFault.TheVariants.{Refused, Memory}
-use Rattle.c_typing.specs.Answers.{Answers, Joined, Pushed}
+use Rattle.c_type_rules.specs.declared.fault.TypeFault.{TypeFault}
+use Rattle.c_type_rules.specs.declared.fault.TypeFault.TheVariants.{Refused, Memory}
+use Rattle.c_type_rules.specs.Answers.{Answers, Joined, Pushed}
 use Rattle.c_typing.specs.Trees.{plain_link, plain_chain}
-use Rattle.c_typing.proofs.Least.{both_refused}
+use Rattle.c_type_rules.proofs.Least.{both_refused}
 use Rattle.c_typing.proofs.Lists.{behind_parts, list_more}
 
 abbrev join : Links → Links → Links

@@ -2,9 +2,9 @@
 use Rattle.std.proofs.Common.{◌≡◌, List, [], ◌∷◌, ◌++◌, refl, sym, ap, ◌∙◌, map, append_assoc, Err}
 use Rattle.std.proofs.lemmas.List.{append-nil, map-append}
 use Rattle.c_model.specs.Checked.{Checked, Good, Bad, one_part}
-use Rattle.c_typing.specs.declared.fault.TypeFault.{TypeFault}
-use Rattle.c_typing.specs.Answers.{Answers}
-use Rattle.c_typing.proofs.Least.{one_refused}
+use Rattle.c_type_rules.specs.declared.fault.TypeFault.{TypeFault}
+use Rattle.c_type_rules.specs.Answers.{Answers}
+use Rattle.c_type_rules.proofs.Least.{one_refused}
 
 -- parts in front of those of a list
 abbrev pub behind_parts : {A : Type 0} → List A → Checked (List A) → Checked (List A)

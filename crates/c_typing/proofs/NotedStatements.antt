@@ -10,10 +10,10 @@ use Rattle.c_syntax.proofs.Rows.{block_is}
 use Rattle.c_model.specs.Checked.{Checked, Good, one_part}
 use Rattle.c_model.specs.Typing.{Scopes, inner, behind}
 use Rattle.c_model.specs.ProgramTyping.{noted_statement, noted_item, noted_items}
-use Rattle.c_typing.specs.declared.fault.TypeFault.{TypeFault}
-use Rattle.c_typing.specs.Answers.{Answers}
+use Rattle.c_type_rules.specs.declared.fault.TypeFault.{TypeFault}
+use Rattle.c_type_rules.specs.Answers.{Answers}
 use Rattle.c_typing.specs.Trees.{plain_block}
-use Rattle.c_typing.proofs.Least.{one_refused}
+use Rattle.c_type_rules.proofs.Least.{one_refused}
 use Rattle.c_typing.proofs.Blocks.{behind_block, all_items, items_more}
 
 module _ (s : Scopes) (a : Stmt)

@@ -15,11 +15,12 @@ use Rattle.c_syntax.specs.Statements.{Block, Do, For, BlockItems, plain_stmt, pl
 use Rattle.c_syntax.proofs.Rows.{block_is}
 use Rattle.c_model.specs.Checked.{Checked, Good, one_part}
 use Rattle.c_model.specs.Typing.{Scopes, Around, in_loop, inner, behind, behind_first, typed, typed_condition, typed_maybe, typed_statement, typed_first, typed_item, typed_items}
-use Rattle.c_typing.specs.declared.fault.TypeFault.{TypeFault}
-use Rattle.c_typing.specs.Answers.{Answers}
-use Rattle.c_typing.specs.Scopes.{behind_items, left}
+use Rattle.c_type_rules.specs.declared.fault.TypeFault.{TypeFault}
+use Rattle.c_type_rules.specs.Answers.{Answers}
+use Rattle.c_type_rules.specs.Scopes.{left}
+use Rattle.c_typing.specs.Scopes.{behind_items}
 use Rattle.c_typing.specs.Trees.{plain_for_first}
-use Rattle.c_typing.proofs.Least.{one_refused}
+use Rattle.c_type_rules.proofs.Least.{one_refused}
 use Rattle.c_typing.proofs.Blocks.{behind_block, all_items, items_more, left_block, left_for}
 
 module _ (s : Scopes) (r : Around) (a : Stmt)

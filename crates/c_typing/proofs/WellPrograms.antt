@@ -1,225 +1,235 @@
 -- The typed program with its typed annotations is well typed.
-use Rattle.std.proofs.Common.{◌≡◌, ℤ, ℕ, refl, sym, ap, subst, List, [], ◌∷◌, map, Option, Some, None, Bool, true, false, cond, not}
+use Rattle.std.proofs.Common.{◌≡◌, ℕ, refl, sym, ap, ◌∙◌, subst, List, [], ◌∷◌, ◌++◌, append_assoc, map, Option, Some, None, Bool, true, false, cond, not, ◌&&◌, nat_eq}
+use Rattle.std.proofs.lemmas.List.{map-append}
 use Rattle.c_syntax.specs.declared.place.Place.{Place}
-use Rattle.c_syntax.specs.declared.types.CInt.{CInt}
-use Rattle.c_syntax.specs.declared.annotation.Range.{Range}
 use Rattle.c_syntax.specs.Ctypes.{PlainType}
-use Rattle.c_syntax.specs.Annotations.{LogicTerm, Number, Letter, Variable, Binary, Predicate, Chain, Links, NoLink, Linked, ClauseBody, Truth, Annotation}
-use Rattle.c_syntax.specs.Statements.{Statement, Empty, Eval, Block, If, While, Do, For, Break, Continue, Return, ElsePart, NoElse, Else, BlockItem, Declare, Run, Asserts, BlockItems, NoItem, Then}
+use Rattle.c_syntax.specs.Statements.{Declaration, Statement}
 use Rattle.c_syntax.specs.Programs.{Function, TranslationUnit}
-use Rattle.c_model.specs.Library.{is_library_name, library_constant, is_there}
-use Rattle.c_model.specs.Checked.{Good, faulty, one_part, where_so}
-use Rattle.c_model.specs.Typing.{no_name, no_type, Object, Signature, Scopes, name_at, object_named, function_called, library_function, use_as, Around, in_loop, inner, behind, behind_first, typed_items}
-use Rattle.c_model.specs.ProgramTyping.{signature, file_scopes, typed_body, typed_function, typed_functions, typed_unit, term_named, typed_term, typed_links, typed_predicate, typed_clause, typed_annotations, noted_statement, noted_else, noted_item, noted_items, noted_body, noted_functions, noted_unit}
-use Rattle.c_model.specs.WellTypedPrograms.{StatementTyped, ElseTyped, ItemTyped, ItemsTyped, TermTyped, LinksTyped, PredicateTyped, ClauseTyped, AnnotationsTyped, StatementNoted, ElseNoted, ItemNoted, ItemsNoted, around_body, BodyTyped, FunctionsTyped, ProgramTyped}
-use Rattle.c_typing.proofs.Gives.{Gives, gives_of, gives_one, gives_both, gives_where}
-use Rattle.c_typing.proofs.WellStatements.{items_well}
+use Rattle.c_model.specs.Meaning.{is_definition}
+use Rattle.c_model.specs.Library.{is_library_name, is_there}
+use Rattle.c_model.specs.Checked.{Good, one_part, where_so}
+use Rattle.c_model.specs.Typing.{no_name, no_type, Signature, Scopes, name_at, same_type, is_object_type, declarable}
+use Rattle.c_model.specs.ProgramTyping.{definition_of, first_of, number_or, offset_of, types_of, signature, same_types, is_compatible, is_compatible_with_all, typed_heading, typed_parameter, with_parameter, with_parameters, typed_parameters, function_scopes, typed_body, typed_function, typed_functions, typed_unit, noted_body, noted_functions, noted_unit}
+use Rattle.c_model.specs.WellTypedPrograms.{IsParameter, AreParameters, BodyTyped, FunctionTyped, FunctionsTyped, ProgramTyped}
+use Rattle.c_type_rules.proofs.Gives.{Gives, gives_of, gives_more, gives_one, gives_where}
+use Rattle.c_type_rules.proofs.WellExpressions.{and_true}
+use Rattle.c_typing.proofs.WellStatements.{IsNew, declarable_well}
+use Rattle.c_typing.proofs.WellBodies.{BodyWell, IsBody, body_well, body_noted}
+
+-- ---- headings, which typing keeps
+
+record Heading : Type 0 where
+  place : Place
+  name : ℕ
+  result : PlainType
+  params : List Declaration
+  defines : Bool
+
+abbrev heading : Function → Heading
+heading f = record { place = f.place; name = f.name; result = f.result; params = f.params; defines = is_definition f }
+
+abbrev definition_among : ℕ → List Heading → Option ℕ
+definition_among x [] = None
+definition_among x (h ∷ hs) = cond (h.defines && nat_eq h.name x) (Some h.place.offset) (definition_among x hs)
+
+abbrev first_among : ℕ → List Heading → ℕ
+first_among x [] = 0
+first_among x (h ∷ hs) = cond (nat_eq h.name x) h.place.offset (first_among x hs)
+
+abbrev told : List Heading → Heading → Signature
+told all h = record {
+  name = h.name;
+  decl = number_or (definition_among h.name all) (first_among h.name all);
+  defined = is_there (definition_among h.name all);
+  params = types_of h.params;
+  result = h.result;
+}
+
+definition_is : (x : ℕ) (fs : List Function) → definition_of x fs ≡ definition_among x (map heading fs)
+definition_is x [] = refl
+definition_is x (f ∷ fs) = ap (cond (is_definition f && nat_eq f.name x) (Some f.place.offset)) (definition_is x fs)
+
+first_is : (x : ℕ) (fs : List Function) → offset_of (first_of x fs) ≡ first_among x (map heading fs)
+first_is x [] = refl
+first_is x (f ∷ fs) = by (nat_eq f.name x)
+  where
+    by : (b : Bool) → offset_of (cond b (Some f) (first_of x fs)) ≡ cond b f.place.offset (first_among x (map heading fs))
+    by true = refl
+    by false = first_is x fs
+
+told_is : (all : List Function) (f : Function) → signature all f ≡ told (map heading all) (heading f)
+told_is all f =
+    ap (λ (o : Option ℕ). record { name = f.name; decl = number_or o (offset_of (first_of f.name all)); defined = is_there o; params = types_of f.params; result = f.result } : Signature) (definition_is f.name all)
+    ∙ ap (λ (n : ℕ). record { name = f.name; decl = number_or (definition_among f.name (map heading all)) n; defined = is_there (definition_among f.name (map heading all)); params = types_of f.params; result = f.result } : Signature) (first_is f.name all)
+
+all_told : (all fs : List Function) → map (signature all) fs ≡ map (told (map heading all)) (map heading fs)
+all_told all [] = refl
+all_told all (f ∷ fs) = λ i. (told_is all f i) ∷ (all_told all fs i)
+
+-- whether a heading fits these, as declarations do
+abbrev compatible : Heading → Heading → Bool
+compatible f g = cond (nat_eq f.name g.name) ((same_type f.result g.result && same_types (types_of f.params) (types_of g.params)) && not (f.defines && g.defines)) true
+
+abbrev compatible_with_all : List Heading → Heading → Bool
+compatible_with_all [] g = true
+compatible_with_all (f ∷ fs) g = compatible f g && compatible_with_all fs g
+
+compatible_is : (fs : List Function) (g : Function) → is_compatible_with_all fs g ≡ compatible_with_all (map heading fs) (heading g)
+compatible_is [] g = refl
+compatible_is (f ∷ fs) g = ap (λ b. is_compatible f g && b) (compatible_is fs g)
+
+-- what is in sight where these headings of a file are
+abbrev sight : List (List ℕ) → List Heading → List Heading → Scopes
+sight names all hs = record { names = names; functions = map (told all) hs; objects = []; innermost = 0 }
+
+sight_is : (p : TranslationUnit) (before : List Function) (f : Function) → function_scopes p before f ≡ sight p.names (map heading p.funcs) (map heading before ++ heading f ∷ [])
+sight_is p before f =
+    ap (λ fs. record { names = p.names; functions = fs; objects = []; innermost = 0 } : Scopes) (all_told p.funcs (before ++ f ∷ []) ∙ ap (map (told (map heading p.funcs))) (map-append heading before (f ∷ [])))
+
+-- ---- functions, by what holds of their bodies
+
+abbrev OfBodies : Type 1
+OfBodies = Scopes → PlainType → Option Statement → Type 0
+
+record IsWell (P : OfBodies) (s : Scopes) (before : List Heading) (f : Function) : Type 0 where
+  fits : compatible_with_all before (heading f) ≡ true
+  params : AreParameters s f.params
+  body : P (with_parameters s f.params) f.result f.body
+
+abbrev AreWell : OfBodies → List (List ℕ) → List Heading → List Heading → List Function → Type 0
+AreWell P names all before [] = Unit {0}
+AreWell P names all before (f ∷ fs) = IsWell P (sight names all (before ++ heading f ∷ [])) before f × AreWell P names all (before ++ heading f ∷ []) fs
+
+-- a function with the heading of another
+record Keeps (P : OfBodies) (s : Scopes) (before : List Heading) (f g : Function) : Type 0 where
+  well : IsWell P s before g
+  same : heading g ≡ heading f
+
+record AllKeep (P : OfBodies) (names : List (List ℕ)) (all before : List Heading) (fs gs : List Function) : Type 0 where
+  well : AreWell P names all before gs
+  same : map heading gs ≡ map heading fs
+
+-- one more of them
+keep_more : (P : OfBodies) (names : List (List ℕ)) (all before : List Heading) (f g : Function) (fs gs : List Function) → Keeps P (sight names all (before ++ heading f ∷ [])) before f g → AllKeep P names all (before ++ heading f ∷ []) fs gs
+    → AllKeep P names all before (f ∷ fs) (g ∷ gs)
+keep_more P names all before f g fs gs k ks = record {
+  well = subst (λ h. IsWell P (sight names all (before ++ h ∷ [])) before g × AreWell P names all (before ++ h ∷ []) gs) (sym k.same) (k.well, ks.well);
+  same = λ i. (k.same i) ∷ (ks.same i);
+}
+
+-- ---- typing
+
+record IsSameParameter (s : Scopes) (d e : Declaration) : Type 0 where
+  same : e ≡ d
+  well : IsParameter s e
+
+parameter_well : (s : Scopes) (d : Declaration) → Gives (IsSameParameter s d) (typed_parameter s d)
+parameter_well s d = by d.named refl
+  where
+    new_one : (e : Declaration) → IsNew s d e → IsSameParameter s d e
+    new_one e n = record { same = n.same; well = subst (IsParameter s) (sym n.same) (record { new = λ t. n.new; ctype = n.ctype }) }
+
+    by : (b : Bool) → d.named ≡ b → Gives (IsSameParameter s d) (cond b (declarable s d) (where_so (is_object_type d.ctype) (no_type d.place) (Good d)))
+    by true e = gives_more (IsNew s d) (IsSameParameter s d) (declarable s d) new_one (declarable_well s d)
+    by false e = gives_where (IsSameParameter s d) (is_object_type d.ctype) _ _ (λ t. record { same = refl; well = record { new = λ h. absurd (sym e ∙ h); ctype = t } })
+
+record AreSameParameters (s : Scopes) (ds es : List Declaration) : Type 0 where
+  same : es ≡ ds
+  well : AreParameters s es
+
+parameters_well : (s : Scopes) (ds : List Declaration) → Gives (AreSameParameters s ds) (typed_parameters s ds)
+parameters_well s [] = record { same = refl; well = tt }
+parameters_well s (d ∷ ds) =
+    gives_one (IsSameParameter s d) (AreSameParameters s (d ∷ ds)) (typed_parameter s d) (λ d. one_part (typed_parameters (with_parameter s d) ds) (λ ds. Good (d ∷ ds))) (parameter_well s d) (λ e v.
+    gives_one (AreSameParameters (with_parameter s e) ds) (AreSameParameters s (d ∷ ds)) (typed_parameters (with_parameter s e) ds) (λ ds. Good (e ∷ ds)) (parameters_well (with_parameter s e) ds) (λ es w.
+    record { same = λ i. (v.same i) ∷ (w.same i); well = (v.well, w.well) }))
+
+record IsFitting (before : List Function) (f g : Function) : Type 0 where
+  same : g ≡ f
+  fits : is_compatible_with_all before g ≡ true
+
+heading_well : (s : Scopes) (before : List Function) (f : Function) → Gives (IsFitting before f) (typed_heading s before f)
+heading_well s before f =
+    gives_where (IsFitting before f) (not (is_library_name (name_at s.names f.name)) && is_compatible_with_all before f) _ _ (λ t.
+    record { same = refl; fits = (and_true (not (is_library_name (name_at s.names f.name))) (is_compatible_with_all before f) t).1 })
+
+parts_well : (s : Scopes) (before : List Heading) (f : Function) → compatible_with_all before (heading f) ≡ true
+    → Gives (Keeps BodyWell s before f) (one_part (typed_parameters s f.params) (λ params. one_part (typed_body (with_parameters s params) f.result f.body) (λ b. Good (record f { params = params; body = b }))))
+parts_well s before f fits =
+    gives_one (AreSameParameters s f.params) (Keeps BodyWell s before f) (typed_parameters s f.params) (λ params. one_part (typed_body (with_parameters s params) f.result f.body) (λ b. Good (record f { params = params; body = b })))
+    (parameters_well s f.params) (λ ps v.
+    gives_one (IsBody (BodyWell (with_parameters s ps) f.result) f.body) (Keeps BodyWell s before f) (typed_body (with_parameters s ps) f.result f.body) (λ b. Good (record f { params = ps; body = b }))
+    (body_well (with_parameters s ps) f.result f.body) (λ b w.
+    let same : heading (record f { params = ps; body = b }) ≡ heading f = λ i. record { place = f.place; name = f.name; result = f.result; params = v.same i; defines = w.there i } in
+    record { well = record { fits = ap (compatible_with_all before) same ∙ fits; params = v.well; body = w.well }; same = same }))
+
+function_well : (s : Scopes) (before : List Function) (f : Function) → Gives (Keeps BodyWell s (map heading before) f) (typed_function s before f)
+function_well s before f =
+    gives_one (IsFitting before f) (Keeps BodyWell s (map heading before) f) (typed_heading s before f) _ (heading_well s before f) (λ g v.
+    subst (λ g. Gives (Keeps BodyWell s (map heading before) f) (one_part (typed_parameters s g.params) (λ params. one_part (typed_body (with_parameters s params) g.result g.body) (λ b. Good (record g { params = params; body = b })))))
+    (sym v.same)
+    (parts_well s (map heading before) f (sym (compatible_is before f) ∙ ap (is_compatible_with_all before) (sym v.same) ∙ v.fits)))
+
+functions_well : (p : TranslationUnit) (before fs : List Function) → Gives (AllKeep BodyWell p.names (map heading p.funcs) (map heading before) fs) (typed_functions p before fs)
+functions_well p before [] = record { well = tt; same = refl }
+functions_well p before (f ∷ fs) =
+    let all = map heading p.funcs in
+    let hs = map heading before in
+    gives_one (Keeps BodyWell (function_scopes p before f) hs f) (AllKeep BodyWell p.names all hs (f ∷ fs)) (typed_function (function_scopes p before f) before f)
+    (λ t. one_part (typed_functions p (before ++ f ∷ []) fs) (λ ts. Good (t ∷ ts))) (function_well (function_scopes p before f) before f) (λ t v.
+    gives_one (AllKeep BodyWell p.names all (map heading (before ++ f ∷ [])) fs) (AllKeep BodyWell p.names all hs (f ∷ fs)) (typed_functions p (before ++ f ∷ []) fs) (λ ts. Good (t ∷ ts))
+    (functions_well p (before ++ f ∷ []) fs) (λ ts w.
+    keep_more BodyWell p.names all hs f t fs ts (subst (λ s. Keeps BodyWell s hs f t) (sight_is p before f) v) (subst (λ hs. AllKeep BodyWell p.names all hs fs ts) (map-append heading before (f ∷ [])) w)))
 
 -- ---- annotations
 
--- a name in a term, by what it denotes
-pub by_name : (P : LogicTerm → Type 0) (s : Scopes) (at : Place) (r : Range) (x : ℕ) → ((b : Object) → object_named x s.objects ≡ Some b → P (Variable at (Some b.ctype) r (use_as x b.decl))) → ((c : CInt × ℤ) → library_constant (name_at s.names x) ≡ Some c → P (Number at None r c.1)) → Gives P (term_named s at r x)
-by_name P s at r x object constant = by (object_named x s.objects) refl
-  where
-    by_library_name : (b : Bool) → Gives P (cond b (faulty (no_type at)) (faulty (no_name at)))
-    by_library_name true = tt
-    by_library_name false = tt
+noted_well : (p : TranslationUnit) (before : List Function) (f : Function) → IsWell BodyWell (function_scopes p before f) (map heading before) f
+    → Gives (λ b. Keeps BodyTyped (function_scopes p before f) (map heading before) f (record f { body = b })) (noted_body (with_parameters (function_scopes p before f) f.params) f.body)
+noted_well p before f h =
+    let s = function_scopes p before f in
+    gives_more (IsBody (BodyTyped (with_parameters s f.params) f.result) f.body) (λ b. Keeps BodyTyped s (map heading before) f (record f { body = b })) (noted_body (with_parameters s f.params) f.body)
+    (λ b w.
+    let same : heading (record f { body = b }) ≡ heading f = λ i. record { place = f.place; name = f.name; result = f.result; params = f.params; defines = w.there i } in
+    record { well = record { fits = ap (compatible_with_all (map heading before)) same ∙ h.fits; params = h.params; body = w.well }; same = same })
+    (body_noted (with_parameters s f.params) f.result f.body h.body)
 
-    by_constant : (o : Option (CInt × ℤ)) → library_constant (name_at s.names x) ≡ o → Gives P (elim o [
-      | Some c ↦ Good (Number at None r c.1)
-      | None ↦ cond (is_there (library_function x (name_at s.names x))) (faulty (no_type at)) (faulty (no_name at))
-    ])
-    by_constant (Some c) e = constant c e
-    by_constant None e = by_library_name _
+functions_noted : (p : TranslationUnit) (before fs : List Function) → AreWell BodyWell p.names (map heading p.funcs) (map heading before) fs
+    → Gives (AllKeep BodyTyped p.names (map heading p.funcs) (map heading before) fs) (noted_functions p before fs)
+functions_noted p before [] h = record { well = tt; same = refl }
+functions_noted p before (f ∷ fs) h =
+    let all = map heading p.funcs in
+    let hs = map heading before in
+    gives_one (λ b. Keeps BodyTyped (function_scopes p before f) hs f (record f { body = b })) (AllKeep BodyTyped p.names all hs (f ∷ fs)) (noted_body (with_parameters (function_scopes p before f) f.params) f.body)
+    (λ b. one_part (noted_functions p (before ++ f ∷ []) fs) (λ fs. Good (record f { body = b } ∷ fs)))
+    (noted_well p before f (subst (λ s. IsWell BodyWell s hs f) (sym (sight_is p before f)) h.0)) (λ b v.
+    gives_one (AllKeep BodyTyped p.names all (map heading (before ++ f ∷ [])) fs) (AllKeep BodyTyped p.names all hs (f ∷ fs)) (noted_functions p (before ++ f ∷ []) fs) (λ fs. Good (record f { body = b } ∷ fs))
+    (functions_noted p (before ++ f ∷ []) fs (subst (λ hs. AreWell BodyWell p.names all hs fs) (sym (map-append heading before (f ∷ []))) h.1)) (λ gs w.
+    keep_more BodyTyped p.names all hs f (record f { body = b }) fs gs (subst (λ s. Keeps BodyTyped s hs f (record f { body = b })) (sight_is p before f) v)
+    (subst (λ hs. AllKeep BodyTyped p.names all hs fs gs) (map-append heading before (f ∷ [])) w)))
 
-    by_function : (o : Option Signature) → Gives P (elim o [
-      | Some f ↦ faulty (no_type at)
-      | None ↦ elim (library_constant (name_at s.names x)) [
-        | Some c ↦ Good (Number at None r c.1)
-        | None ↦ cond (is_there (library_function x (name_at s.names x))) (faulty (no_type at)) (faulty (no_name at))
-      ]
-    ])
-    by_function (Some f) = tt
-    by_function None = by_constant (library_constant (name_at s.names x)) refl
+-- ---- programs
 
-    by : (o : Option Object) → object_named x s.objects ≡ o → Gives P (elim o [
-      | Some b ↦ Good (Variable at (Some b.ctype) r (use_as x b.decl))
-      | None ↦ elim (function_called x s.functions) [
-        | Some f ↦ faulty (no_type at)
-        | None ↦ elim (library_constant (name_at s.names x)) [
-          | Some c ↦ Good (Number at None r c.1)
-          | None ↦ cond (is_there (library_function x (name_at s.names x))) (faulty (no_type at)) (faulty (no_name at))
-        ]
-      ]
-    ])
-    by (Some b) e = object b e
-    by None e = by_function (function_called x s.functions)
+abbrev UnitWell : OfBodies → TranslationUnit → Type 0
+UnitWell P p = AreWell P p.names (map heading p.funcs) [] p.funcs
 
-term_well : (s : Scopes) (t : LogicTerm) → Gives (TermTyped s) (typed_term s t)
-term_well s (Number at c r n) = tt
-term_well s (Letter at c r n) = tt
-term_well s (Variable at c r x) = by_name (TermTyped s) s at r x.name (λ b e. record { ctype = b.ctype; is = refl; denotes = record { object = b; found = e; decl = refl; ctype = refl } }) (λ c e. tt)
-term_well s (Binary at c r op a b) = gives_both (TermTyped s) (TermTyped s) (TermTyped s) (typed_term s a) (typed_term s b) (λ a b. Good (Binary at c r op a b)) (term_well s a) (term_well s b) (λ a b v w. (v, w))
-
-links_well : (s : Scopes) (links : Links) → Gives (LinksTyped s) (typed_links s links)
-links_well s NoLink = tt
-links_well s (Linked at r t rest) = gives_both (TermTyped s) (LinksTyped s) (LinksTyped s) (typed_term s t) (typed_links s rest) (λ t rest. Good (Linked at r t rest)) (term_well s t) (links_well s rest) (λ t rest v w. (v, w))
-
-predicate_well : (s : Scopes) (p : Predicate) → Gives (PredicateTyped s) (typed_predicate s p)
-predicate_well s (Chain at t links) = gives_both (TermTyped s) (LinksTyped s) (PredicateTyped s) (typed_term s t) (typed_links s links) (λ t links. Good (Chain at t links)) (term_well s t) (links_well s links) (λ t links v w. (v, w))
-
-clause_well : (s : Scopes) (b : ClauseBody) → Gives (ClauseTyped s) (typed_clause s b)
-clause_well s (Truth p) = gives_one (PredicateTyped s) (ClauseTyped s) (typed_predicate s p) (λ p. Good (Truth p)) (predicate_well s p) (λ p w. w)
-
-annotations_well : (s : Scopes) (annots : List Annotation) → Gives (AnnotationsTyped s) (typed_annotations s annots)
-annotations_well s [] = tt
-annotations_well s (a ∷ rest) =
-    gives_one (ClauseTyped s) (AnnotationsTyped s) (typed_clause s a.body) (λ b. one_part (typed_annotations s rest) (λ rest. Good (record a { body = b } ∷ rest))) (clause_well s a.body) (λ b v.
-    gives_one (AnnotationsTyped s) (AnnotationsTyped s) (typed_annotations s rest) (λ rest. Good (record a { body = b } ∷ rest)) (annotations_well s rest) (λ rest w. (v, w)))
-
--- ---- statements whose annotations are typed
-
--- b is a with typed annotations
-record IsNoted (s : Scopes) (a b : Statement) : Type 0 where
-  noted : StatementNoted s b
-  kept : (r : Around) → StatementTyped s r a → StatementTyped s r b
-
-record IsElseNoted (s : Scopes) (a b : ElsePart) : Type 0 where
-  noted : ElseNoted s b
-  kept : (r : Around) → ElseTyped s r a → ElseTyped s r b
-
-record IsItemNoted (s : Scopes) (a b : BlockItem) : Type 0 where
-  noted : ItemNoted s b
-  kept : (r : Around) → ItemTyped s r a → ItemTyped s r b
-  sight : behind s b ≡ behind s a
-
-record AreNoted (s : Scopes) (a b : BlockItems) : Type 0 where
-  noted : ItemsNoted s b
-  kept : (r : Around) → ItemsTyped s r a → ItemsTyped s r b
-
-mutual
-  statement_noted : (s : Scopes) (a : Statement) → Gives (IsNoted s a) (noted_statement s a)
-  statement_noted s (Empty at) = record { noted = tt; kept = λ r w. w }
-  statement_noted s (Eval at e) = record { noted = tt; kept = λ r w. w }
-  statement_noted s (Block at items) =
-      gives_one (AreNoted (inner s) items) (IsNoted s (Block at items)) (noted_items (inner s) items) (λ items. Good (Block at items)) (items_noted (inner s) items) (λ b w. record { noted = w.noted; kept = w.kept })
-  statement_noted s (If at e a b) =
-      gives_one (IsNoted s a) (IsNoted s (If at e a b)) (noted_statement s a) (λ a. one_part (noted_else s b) (λ b. Good (If at e a b))) (statement_noted s a) (λ c v.
-      gives_one (IsElseNoted s b) (IsNoted s (If at e a b)) (noted_else s b) (λ b. Good (If at e c b)) (else_noted s b) (λ d w.
-      record { noted = (v.noted, w.noted); kept = λ r h. (h.0, v.kept r h.1, w.kept r h.2) }))
-  statement_noted s (While at annots e a) =
-      gives_one (AnnotationsTyped s) (IsNoted s (While at annots e a)) (typed_annotations s annots) (λ annots. one_part (noted_statement s a) (λ a. Good (While at annots e a))) (annotations_well s annots) (λ n v.
-      gives_one (IsNoted s a) (IsNoted s (While at annots e a)) (noted_statement s a) (λ a. Good (While at n e a)) (statement_noted s a) (λ c w.
-      record { noted = (v, w.noted); kept = λ r h. (h.0, w.kept (in_loop r) h.1) }))
-  statement_noted s (Do at a e) =
-      gives_one (IsNoted s a) (IsNoted s (Do at a e)) (noted_statement s a) (λ a. Good (Do at a e)) (statement_noted s a) (λ c w.
-      record { noted = w.noted; kept = λ r h. (w.kept (in_loop r) h.0, h.1) })
-  statement_noted s (For at annots first e step a) =
-      gives_one (AnnotationsTyped s) (IsNoted s (For at annots first e step a)) (typed_annotations s annots) (λ annots. one_part (noted_statement (behind_first (inner s) first) a) (λ a. Good (For at annots first e step a))) (annotations_well s annots) (λ n v.
-      gives_one (IsNoted (behind_first (inner s) first) a) (IsNoted s (For at annots first e step a)) (noted_statement (behind_first (inner s) first) a) (λ a. Good (For at n first e step a)) (statement_noted (behind_first (inner s) first) a) (λ c w.
-      record { noted = (v, w.noted); kept = λ r h. (h.0, h.1, h.2, w.kept (in_loop r) h.3) }))
-  statement_noted s (Break at) = record { noted = tt; kept = λ r w. w }
-  statement_noted s (Continue at) = record { noted = tt; kept = λ r w. w }
-  statement_noted s (Return at e) = record { noted = tt; kept = λ r w. w }
-
-  else_noted : (s : Scopes) (b : ElsePart) → Gives (IsElseNoted s b) (noted_else s b)
-  else_noted s NoElse = record { noted = tt; kept = λ r w. w }
-  else_noted s (Else a) = gives_one (IsNoted s a) (IsElseNoted s (Else a)) (noted_statement s a) (λ a. Good (Else a)) (statement_noted s a) (λ c w. record { noted = w.noted; kept = w.kept })
-
-  item_noted : (s : Scopes) (i : BlockItem) → Gives (IsItemNoted s i) (noted_item s i)
-  item_noted s (Declare ds) = record { noted = tt; kept = λ r w. w; sight = refl }
-  item_noted s (Run a) = gives_one (IsNoted s a) (IsItemNoted s (Run a)) (noted_statement s a) (λ a. Good (Run a)) (statement_noted s a) (λ c w. record { noted = w.noted; kept = w.kept; sight = refl })
-  item_noted s (Asserts annots) = gives_one (AnnotationsTyped s) (IsItemNoted s (Asserts annots)) (typed_annotations s annots) (λ annots. Good (Asserts annots)) (annotations_well s annots) (λ n w. record { noted = w; kept = λ r h. tt; sight = refl })
-
-  items_noted : (s : Scopes) (items : BlockItems) → Gives (AreNoted s items) (noted_items s items)
-  items_noted s NoItem = record { noted = tt; kept = λ r w. w }
-  items_noted s (Then i rest) =
-      gives_one (IsItemNoted s i) (AreNoted s (Then i rest)) (noted_item s i) (λ i. one_part (noted_items (behind s i) rest) (λ rest. Good (Then i rest))) (item_noted s i) (λ j v.
-      gives_one (AreNoted (behind s j) rest) (AreNoted s (Then i rest)) (noted_items (behind s j) rest) (λ rest. Good (Then j rest)) (items_noted (behind s j) rest) (λ more w.
-      record { noted = (v.noted, w.noted); kept = λ r h. (v.kept r h.0, w.kept r (subst (λ t. ItemsTyped t r rest) (sym v.sight) h.1)) }))
-
--- ---- functions and programs
-
--- a body whose C is typed
-abbrev BodyWell : Scopes → PlainType → Option Statement → Type 0
-BodyWell s t (Some (Block at items)) = ItemsTyped s (around_body t) items
-BodyWell s t _ = Unit {0}
-
-abbrev FunctionsWell : Scopes → List Function → Type 0
-FunctionsWell s [] = Unit {0}
-FunctionsWell s (f ∷ fs) = BodyWell s f.result f.body × FunctionsWell s fs
-
-body_well : (s : Scopes) (t : PlainType) (b : Option Statement) → Gives (BodyWell s t) (typed_body s t b)
-body_well s t (Some (Block at items)) = gives_one (ItemsTyped s (around_body t)) (BodyWell s t) (typed_items s (around_body t) items) (λ items. Good (Some (Block at items))) (items_well s (around_body t) items) (λ items w. w)
-body_well s t None = tt
-body_well s t (Some (Empty at)) = tt
-body_well s t (Some (Eval at e)) = tt
-body_well s t (Some (If at e a b)) = tt
-body_well s t (Some (While at annots e a)) = tt
-body_well s t (Some (Do at a e)) = tt
-body_well s t (Some (For at annots first e step a)) = tt
-body_well s t (Some (Break at)) = tt
-body_well s t (Some (Continue at)) = tt
-body_well s t (Some (Return at e)) = tt
-
-body_noted : (s : Scopes) (t : PlainType) (b : Option Statement) → BodyWell s t b → Gives (BodyTyped s t) (noted_body s b)
-body_noted s t (Some (Block at items)) h = gives_one (AreNoted s items) (BodyTyped s t) (noted_items s items) (λ items. Good (Some (Block at items))) (items_noted s items) (λ b w. (w.kept (around_body t) h, w.noted))
-body_noted s t None h = tt
-body_noted s t (Some (Empty at)) h = tt
-body_noted s t (Some (Eval at e)) h = tt
-body_noted s t (Some (If at e a b)) h = tt
-body_noted s t (Some (While at annots e a)) h = tt
-body_noted s t (Some (Do at a e)) h = tt
-body_noted s t (Some (For at annots first e step a)) h = tt
-body_noted s t (Some (Break at)) h = tt
-body_noted s t (Some (Continue at)) h = tt
-body_noted s t (Some (Return at e)) h = tt
-
-record IsFunctionWell (s : Scopes) (f g : Function) : Type 0 where
-  body : BodyWell s g.result g.body
-  same : signature g ≡ signature f
-
-record AreFunctionsWell (s : Scopes) (fs gs : List Function) : Type 0 where
-  bodies : FunctionsWell s gs
-  same : map signature gs ≡ map signature fs
-
-function_well : (s : Scopes) (f : Function) → Gives (IsFunctionWell s f) (typed_function s f)
-function_well s f =
-    gives_both (λ g. g ≡ f) (BodyWell s f.result) (IsFunctionWell s f) (where_so (not (is_library_name (name_at s.names f.name))) (no_name f.place) (Good f)) (typed_body s f.result f.body) (λ f b. Good (record f { body = b }))
-    (gives_where (λ g. g ≡ f) (not (is_library_name (name_at s.names f.name))) _ _ (λ e. refl)) (body_well s f.result f.body)
-    (λ g b e w. subst (λ x. IsFunctionWell s f (record x { body = b })) (sym e) (record { body = w; same = refl }))
-
-functions_well : (s : Scopes) (fs : List Function) → Gives (AreFunctionsWell s fs) (typed_functions s fs)
-functions_well s [] = record { bodies = tt; same = refl }
-functions_well s (f ∷ fs) =
-    gives_one (IsFunctionWell s f) (AreFunctionsWell s (f ∷ fs)) (typed_function s f) (λ f. one_part (typed_functions s fs) (λ fs. Good (f ∷ fs))) (function_well s f) (λ g v.
-    gives_one (AreFunctionsWell s fs) (AreFunctionsWell s (f ∷ fs)) (typed_functions s fs) (λ fs. Good (g ∷ fs)) (functions_well s fs) (λ gs w.
-    record { bodies = (v.body, w.bodies); same = (λ i. (v.same i) ∷ (w.same i)) }))
-
-record AreFunctionsNoted (s : Scopes) (fs gs : List Function) : Type 0 where
-  bodies : FunctionsTyped s gs
-  same : map signature gs ≡ map signature fs
-
-functions_noted : (s : Scopes) (fs : List Function) → FunctionsWell s fs → Gives (AreFunctionsNoted s fs) (noted_functions s fs)
-functions_noted s [] h = record { bodies = tt; same = refl }
-functions_noted s (f ∷ fs) h =
-    gives_one (BodyTyped s f.result) (AreFunctionsNoted s (f ∷ fs)) (noted_body s f.body) (λ b. one_part (noted_functions s fs) (λ fs. Good (record f { body = b } ∷ fs))) (body_noted s f.result f.body h.0) (λ b v.
-    gives_one (AreFunctionsNoted s fs) (AreFunctionsNoted s (f ∷ fs)) (noted_functions s fs) (λ fs. Good (record f { body = b } ∷ fs)) (functions_noted s fs h.1) (λ gs w.
-    record { bodies = (v, w.bodies); same = ap (λ l. signature f ∷ l) w.same }))
-
--- what is in sight in a file of these functions
-abbrev file_of : List (List ℕ) → List Signature → Scopes
-file_of names signatures = record { names = names; functions = signatures; objects = []; innermost = 0 }
-
-unit_well : (p : TranslationUnit) → Gives (λ t. FunctionsWell (file_scopes t) t.funcs) (typed_unit p)
+unit_well : (p : TranslationUnit) → Gives (UnitWell BodyWell) (typed_unit p)
 unit_well p =
-    gives_one (AreFunctionsWell (file_scopes p) p.funcs) (λ t. FunctionsWell (file_scopes t) t.funcs) (typed_functions (file_scopes p) p.funcs) (λ fs. Good (record p { funcs = fs })) (functions_well (file_scopes p) p.funcs)
-    (λ fs w. subst (λ l. FunctionsWell (file_of p.names l) fs) (sym w.same) w.bodies)
+    gives_one (AllKeep BodyWell p.names (map heading p.funcs) [] p.funcs) (UnitWell BodyWell) (typed_functions p [] p.funcs) (λ fs. Good (record p { funcs = fs })) (functions_well p [] p.funcs)
+    (λ fs w. subst (λ hs. AreWell BodyWell p.names hs [] fs) (sym w.same) w.well)
 
-unit_noted : (t : TranslationUnit) → FunctionsWell (file_scopes t) t.funcs → Gives ProgramTyped (noted_unit t)
+unit_noted : (t : TranslationUnit) → UnitWell BodyWell t → Gives (UnitWell BodyTyped) (noted_unit t)
 unit_noted t h =
-    gives_one (AreFunctionsNoted (file_scopes t) t.funcs) ProgramTyped (noted_functions (file_scopes t) t.funcs) (λ fs. Good (record t { funcs = fs })) (functions_noted (file_scopes t) t.funcs h)
-    (λ fs w. subst (λ l. FunctionsTyped (file_of t.names l) fs) (sym w.same) w.bodies)
+    gives_one (AllKeep BodyTyped t.names (map heading t.funcs) [] t.funcs) (UnitWell BodyTyped) (noted_functions t [] t.funcs) (λ fs. Good (record t { funcs = fs })) (functions_noted t [] t.funcs h)
+    (λ fs w. subst (λ hs. AreWell BodyTyped t.names hs [] fs) (sym w.same) w.well)
+
+functions_typed : (p : TranslationUnit) (before fs : List Function) → AreWell BodyTyped p.names (map heading p.funcs) (map heading before) fs → FunctionsTyped p before fs
+functions_typed p before [] h = tt
+functions_typed p before (f ∷ fs) h =
+    let w = subst (λ s. IsWell BodyTyped s (map heading before) f) (sym (sight_is p before f)) h.0 in (
+      record { compatible = compatible_is before f ∙ w.fits; params = w.params; body = w.body },
+      functions_typed p (before ++ f ∷ []) fs (subst (λ hs. AreWell BodyTyped p.names (map heading p.funcs) hs fs) (sym (map-append heading before (f ∷ []))) h.1),
+    )
 
 pub program_well : (p t q : TranslationUnit) → typed_unit p ≡ Good t → noted_unit t ≡ Good q → ProgramTyped q
-program_well p t q is noted = gives_of ProgramTyped (noted_unit t) q (unit_noted t (gives_of (λ t. FunctionsWell (file_scopes t) t.funcs) (typed_unit p) t (unit_well p) is)) noted
+program_well p t q is noted =
+    functions_typed q [] q.funcs (gives_of (UnitWell BodyTyped) (noted_unit t) q (unit_noted t (gives_of (UnitWell BodyWell) (typed_unit p) t (unit_well p) is)) noted)

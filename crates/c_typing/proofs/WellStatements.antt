@@ -9,8 +9,8 @@ use Rattle.c_model.specs.Checked.{Checked, Good, one_part, where_so}
 use Rattle.c_model.specs.Typing.{no_type, Scopes, name_at, object_named, same_type, is_scalar, is_object_type, in_type, is_assigned, typed, condition, typed_condition, typed_maybe, typed_initialiser, declarable, with_object, typed_declaration, typed_declarations, Around, in_loop, inner, returned, behind, behind_first, typed_statement, typed_else, typed_first, typed_item, typed_items}
 use Rattle.c_model.specs.WellTyped.{WellTyped}
 use Rattle.c_model.specs.WellTypedPrograms.{IsCondition, WhereAny, Initialises, IsDeclared, AreDeclared, StatementTyped, ElseTyped, FirstTyped, ItemTyped, ItemsTyped}
-use Rattle.c_typing.proofs.Gives.{Gives, gives_one, gives_both, gives_where}
-use Rattle.c_typing.proofs.WellExpressions.{and_true, not_true, same_type_is, assigned_casts, assigned_integer, in_type_well, in_type_type, typed_well}
+use Rattle.c_type_rules.proofs.Gives.{Gives, gives_one, gives_both, gives_where}
+use Rattle.c_type_rules.proofs.WellExpressions.{and_true, not_true, same_type_is, assigned_casts, assigned_integer, in_type_well, in_type_type, typed_well}
 
 condition_well : (s : Scopes) (e : Expression) → Gives (IsCondition s) (typed_condition s e)
 condition_well s e = gives_one (WellTyped s) (IsCondition s) (typed s e) condition (typed_well s e) (λ e w. gives_where (IsCondition s) (is_scalar (type_of e)) _ _ (λ t. record { typed = w; scalar = t }))
@@ -26,16 +26,16 @@ initialiser_well s t (Some (at, One e)) =
     (λ e w. gives_where (Initialises s t) (is_assigned (type_of e) t) _ _ (λ c. (in_type_well s t e w (assigned_casts t (type_of e) c), in_type_type t e)))
 
 -- a name that is new in its scope, of an object type
-record IsNew (s : Scopes) (d : Declaration) (e : Declaration) : Type 0 where
-  same : e ≡ d
-  new : object_named d.name (drop s.innermost s.objects) ≡ None
-  ctype : is_object_type d.ctype ≡ true
+pub record IsNew (s : Scopes) (d : Declaration) (e : Declaration) : Type 0 where
+  pub same : e ≡ d
+  pub new : object_named d.name (drop s.innermost s.objects) ≡ None
+  pub ctype : is_object_type d.ctype ≡ true
 
 none_there : {A : Type 0} (o : Option A) → is_there o ≡ false → o ≡ None
 none_there None e = refl
 none_there (Some a) e = absurd cc
 
-declarable_well : (s : Scopes) (d : Declaration) → Gives (IsNew s d) (declarable s d)
+pub declarable_well : (s : Scopes) (d : Declaration) → Gives (IsNew s d) (declarable s d)
 declarable_well s d =
     gives_where (IsNew s d) (not (is_library_name (name_at s.names d.name)) && not (is_there (object_named d.name (drop s.innermost s.objects)))) _ _ (λ t.
     gives_where (IsNew s d) (is_object_type d.ctype) _ _ (λ o.

@@ -1,6 +1,6 @@
 pub mod Answers
+pub mod Functions
 pub mod Laws
-pub mod Library
 pub mod Scopes
 pub mod Trees
 pub mod TypedPrograms

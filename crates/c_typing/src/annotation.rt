@@ -6,14 +6,14 @@ ghost use Rattle.c_syntax.specs.declared.annotation.Body.TheVariants.{Truth};
 ghost use Rattle.c_syntax.specs.Annotations.{Linked, NoLink, plain_annot, plain_body, plain_links, plain_pred, plain_term};
 ghost use Rattle.c_model.specs.Checked.{Good, one_part};
 ghost use Rattle.c_model.specs.ProgramTyping.{term_named, typed_annotations, typed_clause, typed_links, typed_predicate, typed_term};
-ghost use Rattle.c_typing.specs.Answers.{Answers};
-ghost use Rattle.c_typing.specs.Scopes.{plain_scopes};
+ghost use Rattle.c_type_rules.specs.Answers.{Answers};
+ghost use Rattle.c_type_rules.specs.Scopes.{plain_scopes};
 ghost use Rattle.c_typing.specs.Trees.{plain_annots, plain_chain, plain_link};
 
-use crate::conversion::copy_type;
-use crate::fault::{TypeFault, both, no_name, no_type, push};
-use crate::library::{is_library_function, library_constant};
-use crate::scope::{Scopes, function_called, name_at, object_named};
+use c_type_rules::conversion::copy_type;
+use c_type_rules::fault::{TypeFault, both, no_name, no_type, push};
+use c_type_rules::library::{library_constant, library_function};
+use c_type_rules::scope::{Scopes, function_called, name_at, object_named};
 use c_syntax::{Annot, Body, Link, Place, Pred, PredKind, Range, Term, TermKind, Use};
 use std::alloc::Global;
 
@@ -42,7 +42,7 @@ fn term_named(scopes: &Scopes, place: Place, range: Range, name: u32) -> Result<
             range,
         }),
         None => {
-            if is_library_function(bytes) {
+            if library_function(bytes).is_some() {
                 Err(no_type(place))
             } else {
                 Err(no_name(place))

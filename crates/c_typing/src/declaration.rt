@@ -5,16 +5,16 @@ ghost use Rattle.c_syntax.specs.Ctypes.{plain_type};
 ghost use Rattle.c_syntax.specs.Expressions.{plain_expr};
 ghost use Rattle.c_syntax.specs.Statements.{One, plain_decl, plain_init};
 ghost use Rattle.c_model.specs.Typing.{declarable, typed_declaration, typed_declarations, typed_initialiser, with_object, with_objects};
-ghost use Rattle.c_typing.specs.Answers.{Answers};
-ghost use Rattle.c_typing.specs.Scopes.{plain_scopes};
+ghost use Rattle.c_type_rules.specs.Answers.{Answers};
+ghost use Rattle.c_type_rules.specs.Scopes.{plain_scopes};
 ghost use Rattle.c_typing.specs.Trees.{plain_decls, plain_initialiser};
 
-use crate::conversion::{copy_type, is_assigned, is_object_type};
-use crate::expression::type_expr;
-use crate::fault::{TypeFault, both, no_name, no_type};
-use crate::library::is_library_name;
-use crate::operator::in_type;
-use crate::scope::{Object, Scopes, is_declared, name_at};
+use c_type_rules::conversion::{copy_type, is_assigned, is_object_type};
+use c_type_rules::expression::type_expr;
+use c_type_rules::fault::{TypeFault, both, no_name, no_type};
+use c_type_rules::library::is_library_name;
+use c_type_rules::operator::in_type;
+use c_type_rules::scope::{Object, Scopes, is_declared, name_at};
 use c_syntax::{CType, Decl, Expr, Init, Place};
 use std::alloc::{AllocError, Global};
 
@@ -49,7 +49,7 @@ fn type_initialiser(
 }
 
 /// A declared name: of an object type, once in its scope, and none of the library's (C99 6.7).
-fn declarable(scopes: &Scopes, d: &Decl) -> Result<(), TypeFault>
+pub fn declarable(scopes: &Scopes, d: &Decl) -> Result<(), TypeFault>
     ensures { Answers (λ _. plain_decl d.now) (declarable (plain_scopes scopes.now) (plain_decl d.now)) result }
 {
     if is_library_name(name_at(&scopes.names, d.name)) {
@@ -89,7 +89,7 @@ fn type_declaration(alloc: Global, scopes: &Scopes, d: Decl) -> Result<Decl, Typ
 }
 
 /// Brings a declared object in sight.
-fn declare(scopes: &mut Scopes, d: &Decl) -> Result<(), AllocError>
+pub fn declare(scopes: &mut Scopes, d: &Decl) -> Result<(), AllocError>
     ensures { OnOk result (plain_scopes scopes.new ≡ with_object (plain_scopes scopes.old) (plain_decl d.now)) }
 {
     scopes.objects.push(Object {

@@ -4,17 +4,21 @@ ghost use Rattle.std.specs.Prelude.{◌≡◌, IfOk, OnOk, map, option_map};
 ghost use Rattle.c_syntax.specs.Statements.{plain_item, plain_items, plain_stmt};
 ghost use Rattle.c_syntax.specs.Programs.{plain_func, plain_program};
 ghost use Rattle.c_model.specs.Typing.{behind, behind_first, inner};
-ghost use Rattle.c_model.specs.ProgramTyping.{noted_body, noted_else, noted_functions, noted_item, noted_items, noted_statement, noted_unit};
-ghost use Rattle.c_typing.specs.Answers.{Answers};
-ghost use Rattle.c_typing.specs.Scopes.{behind_items, plain_scopes};
+ghost use Rattle.c_model.specs.ProgramTyping.{noted_body, noted_else, noted_item, noted_items, noted_statement, noted_unit};
+ghost use Rattle.c_type_rules.specs.Answers.{Answers};
+ghost use Rattle.c_type_rules.specs.Scopes.{plain_scopes};
+ghost use Rattle.c_typing.specs.Functions.{denoted, noted_in_turn, noted_parts};
+ghost use Rattle.c_typing.specs.Scopes.{behind_items};
 ghost use Rattle.c_typing.specs.Trees.{plain_block, plain_else_part, plain_for_first, plain_funcs};
 
 use crate::annotation::type_clauses;
 use crate::declaration::declare_all;
-use crate::fault::TypeFault;
+use crate::heading::{denoted, see_function};
+use crate::parameter::see_parameters;
 use crate::program::file_scopes;
-use crate::scope::{Scopes, enter, leave, mark_here};
 use c_syntax::{Func, Item, Program, Stmt, StmtKind};
+use c_type_rules::fault::TypeFault;
+use c_type_rules::scope::{Scopes, enter, leave, mark_here};
 use std::alloc::{AllocError, Global};
 
 /// Brings in sight what an item declares.
@@ -219,35 +223,49 @@ fn note_body(
     }
 }
 
+/// The annotations of a function that is in sight.
+fn note_parts(alloc: Global, scopes: &mut Scopes, f: Func) -> Result<Func, TypeFault>
+    ensures noted { Answers plain_func (noted_parts (plain_scopes scopes.old) (plain_func f)) result }
+    ensures same { IfOk result (λ _. plain_scopes scopes.new ≡ plain_scopes scopes.old) }
+{
+    let Func {
+        place,
+        name,
+        result,
+        params,
+        contract,
+        body,
+        close,
+    } = f;
+    let mark = mark_here(scopes);
+    see_parameters(scopes, &params)?;
+    let body = note_body(alloc, scopes, body)?;
+    leave(scopes, mark);
+    Ok(Func {
+        place,
+        name,
+        result,
+        params,
+        contract,
+        body,
+        close,
+    })
+}
+
+/// The annotations of functions, each in sight of those behind it.
 fn note_functions(
     alloc: Global,
     scopes: &mut Scopes,
     funcs: Vec<Func>,
 ) -> Result<Vec<Func>, TypeFault>
-    ensures noted { Answers plain_funcs (noted_functions (plain_scopes scopes.old) (map plain_func funcs.items)) result }
-    ensures same { IfOk result (λ _. plain_scopes scopes.new ≡ plain_scopes scopes.old) }
+    ensures noted { Answers plain_funcs (noted_in_turn (denoted (map plain_func funcs.items)) (plain_scopes scopes.old) (map plain_func funcs.items)) result }
 {
+    let numbers = denoted(alloc, &funcs)?;
     let mut done = Vec::new(alloc);
     for f in funcs {
-        let Func {
-            place,
-            name,
-            result,
-            params,
-            contract,
-            body,
-            close,
-        } = f;
-        let body = note_body(alloc, scopes, body)?;
-        done.push(Func {
-            place,
-            name,
-            result,
-            params,
-            contract,
-            body,
-            close,
-        })?;
+        see_function(alloc, scopes, &numbers, &f)?;
+        let f = note_parts(alloc, scopes, f)?;
+        done.push(f)?;
     }
     Ok(done)
 }
@@ -266,7 +284,7 @@ pub fn type_annotations(alloc: Global, program: Program) -> Result<Program, Type
         funcs,
         strays,
     } = program;
-    let mut scopes = file_scopes(alloc, names, &funcs)?;
+    let mut scopes = file_scopes(alloc, names);
     let funcs = note_functions(alloc, &mut scopes, funcs)?;
     let Scopes { names, .. } = scopes;
     Ok(Program {

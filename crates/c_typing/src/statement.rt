@@ -6,16 +6,17 @@ ghost use Rattle.c_syntax.specs.Expressions.{plain_expr};
 ghost use Rattle.c_syntax.specs.Statements.{plain_item, plain_items, plain_stmt, plain_stmt_kind};
 ghost use Rattle.c_model.specs.Checked.{Good, where_so};
 ghost use Rattle.c_model.specs.Typing.{behind, behind_first, condition, in_loop, inner, no_type, returned, typed, typed_condition, typed_else, typed_first, typed_item, typed_items, typed_maybe, typed_statement};
-ghost use Rattle.c_typing.specs.Answers.{Answers};
-ghost use Rattle.c_typing.specs.Scopes.{behind_items, plain_scopes};
+ghost use Rattle.c_type_rules.specs.Answers.{Answers};
+ghost use Rattle.c_type_rules.specs.Scopes.{plain_scopes};
+ghost use Rattle.c_typing.specs.Scopes.{behind_items};
 ghost use Rattle.c_typing.specs.Trees.{plain_around, plain_block, plain_else_part, plain_for_first};
 
-use crate::conversion::{copy_type, is_assigned, is_scalar};
+use c_type_rules::conversion::{copy_type, is_assigned, is_scalar};
 use crate::declaration::type_declarations;
-use crate::expression::type_expr;
-use crate::fault::{TypeFault, no_type};
-use crate::operator::in_type;
-use crate::scope::{Scopes, enter, leave};
+use c_type_rules::expression::type_expr;
+use c_type_rules::fault::{TypeFault, no_type};
+use c_type_rules::operator::in_type;
+use c_type_rules::scope::{Scopes, enter, leave};
 use c_syntax::{CType, Expr, Item, Place, Stmt, StmtKind};
 use std::alloc::Global;
 

@@ -1,240 +1,141 @@
--- Declared variables: their names differ, so that a name denotes one object, one block and one register.
-use Rattle.std.proofs.Common.{◌≡◌, ℕ, zero, suc, ◌+◌, ◌<◌, Bool, true, false, cond, nat_eq, List, [], ◌∷◌, ◌++◌, length, map, drop, Option, Some, None, refl, sym, ap, ◌∙◌, subst, arith, append_assoc}
-use Rattle.std.proofs.lemmas.List.{append-nil, map-append}
+-- Declared variables: what is in sight, and has values, where variables are born and where they are declared.
+use Rattle.std.proofs.Common.{◌≡◌, ℕ, suc, Bool, true, false, cond, nat_eq, List, [], ◌∷◌, ◌++◌, Some, None, refl, sym, ap, ◌∙◌, subst, arith}
+use Rattle.std.proofs.lemmas.Bool.{eq-eqb}
 use Rattle.std.proofs.lemmas.Bool.Decides.{nat_tests}
-use Rattle.std.specs.Prelude.{slice_get}
-use Rattle.c_syntax.specs.declared.types.CInt.{CInt}
-use Rattle.c_syntax.specs.declared.types.CInt.TheVariants.{I32}
-use Rattle.c_syntax.specs.Ctypes.{PlainType, Void, Int}
-use Rattle.c_syntax.specs.Statements.{Declaration, BlockItems, NoItem, Then, Declare, Run, Asserts}
-use Rattle.c_model.specs.Meaning.{declared_in}
-use Rattle.c_model.specs.State.{Scope, find}
-use Rattle.c_model.specs.Typing.{Object, Scopes, Around, or_else, object_named, is_object_type, with_object, with_objects}
-use Rattle.c_model.specs.WellTypedPrograms.{IsDeclared, AreDeclared, ItemsTyped}
-use Rattle.c_model.specs.Formed.{BodyItemsFormed}
-use Rattle.instrument.specs.Translation.{newest, register_of, names_of}
-use Rattle.instrument.proofs.Variables.{Setting, InSight, AreInSight, slice_get-map}
-use Rattle.instrument.proofs.Statements.{none_declared}
+use Rattle.c_syntax.specs.Ctypes.{Int}
+use Rattle.c_syntax.specs.Statements.{Declaration, Statement, Block, If, While, Do, For, ElsePart, NoElse, Else, BlockItem, Declare, Run, Asserts, BlockItems, NoItem, Then}
+use Rattle.c_model.specs.Memory.{Store}
+use Rattle.c_model.specs.Meaning.{declared_in, declared_first}
+use Rattle.c_model.specs.Formed.{number_of}
+use Rattle.c_model.specs.Typing.{Object, or_else, object_named}
+use Rattle.instrument.proofs.Variables.{Slot, Setting, value_at, slot_of, IsSet, AllKept}
+use Rattle.instrument.proofs.Births.{slot_for, slots_born, decls_of, registers_of, Absent, AllCanBeBorn}
+use Rattle.instrument.proofs.Sight.{InSight, AreInSight, Ready, ready_later}
 
--- ---- names
+-- ---- what can be declared in statements, where variables of these numbers live
 
--- no declaration has the name
-abbrev pub Absent : ℕ → List Declaration → Type 0
-Absent x [] = Unit {0}
-Absent x (d ∷ ds) = (nat_eq d.name x ≡ false) × Absent x ds
+-- the numbers of those that live behind the births of these
+abbrev pub with_numbers : List Declaration → List ℕ → List ℕ
+with_numbers [] living = living
+with_numbers (d ∷ ds) living = with_numbers ds (number_of d ∷ living)
 
--- the names differ
-abbrev pub Apart : List Declaration → Type 0
-Apart [] = Unit {0}
-Apart (d ∷ ds) = Absent d.name ds × Apart ds
+abbrev mutual
+  pub CanDeclare : List ℕ → List ℕ → Statement → Type 0
+  CanDeclare numbers living (Block at items) = AllCanBeBorn numbers living (declared_in items) × ItemsCanDeclare numbers (with_numbers (declared_in items) living) items
+  CanDeclare numbers living (If at e a b) = CanDeclare numbers living a × ElseCanDeclare numbers living b
+  CanDeclare numbers living (While at annots e a) = CanDeclare numbers living a
+  CanDeclare numbers living (Do at a e) = CanDeclare numbers living a
+  CanDeclare numbers living (For at annots first e step a) = AllCanBeBorn numbers living (declared_first first) × CanDeclare numbers (with_numbers (declared_first first) living) a
+  CanDeclare numbers living _ = Unit {0}
 
-eq_turned : (a b : ℕ) → nat_eq a b ≡ false → nat_eq b a ≡ false
-eq_turned a b e = grind (arith, nat_tests)
+  pub ElseCanDeclare : List ℕ → List ℕ → ElsePart → Type 0
+  ElseCanDeclare numbers living NoElse = Unit {0}
+  ElseCanDeclare numbers living (Else a) = CanDeclare numbers living a
 
-eq_same : (a : ℕ) → nat_eq a a ≡ true
-eq_same a = grind (arith, nat_tests)
+  pub ItemCanDeclare : List ℕ → List ℕ → BlockItem → Type 0
+  ItemCanDeclare numbers living (Declare ds) = Unit {0}
+  ItemCanDeclare numbers living (Run a) = CanDeclare numbers living a
+  ItemCanDeclare numbers living (Asserts annots) = Unit {0}
 
-absent_end : (x : ℕ) (bs : List Declaration) (d : Declaration) → Absent x bs → nat_eq d.name x ≡ false → Absent x (bs ++ d ∷ [])
-absent_end x [] d h e = (e, tt)
-absent_end x (b ∷ bs) d h e = (h.0, absent_end x bs d h.1 e)
+  pub ItemsCanDeclare : List ℕ → List ℕ → BlockItems → Type 0
+  ItemsCanDeclare numbers living NoItem = Unit {0}
+  ItemsCanDeclare numbers living (Then i rest) = ItemCanDeclare numbers living i × ItemsCanDeclare numbers living rest
 
-apart_end : (bs : List Declaration) (d : Declaration) → Apart bs → Absent d.name bs → Apart (bs ++ d ∷ [])
-apart_end [] d h a = (tt, tt)
-apart_end (b ∷ bs) d h a = (absent_end b.name bs d h.0 (eq_turned b.name d.name a.0), apart_end bs d h.1 a.1)
+pub decls_of-born : (n : ℕ) (ds : List Declaration) (slots : List Slot) → decls_of (slots_born n ds slots) ≡ with_numbers ds (decls_of slots)
+decls_of-born n [] slots = refl
+decls_of-born n (d ∷ ds) slots = decls_of-born (suc n) ds (slot_for n d ∷ slots)
 
--- ---- objects of the typing
+pub registers_of-append : (w : Setting) (a b : List Slot) → registers_of w (a ++ b) ≡ registers_of w a ++ registers_of w b
+registers_of-append w [] b = refl
+registers_of-append w (v ∷ a) b = ap (λ l. value_at w v.decl ∷ l) (registers_of-append w a b)
+
+pub slots_born-append : (n : ℕ) (ds : List Declaration) (inner around : List Slot) → slots_born n ds (inner ++ around) ≡ slots_born n ds inner ++ around
+slots_born-append n [] inner around = refl
+slots_born-append n (d ∷ ds) inner around = slots_born-append (suc n) ds (slot_for n d ∷ inner) around
+
+-- ---- births hide nothing
+
+differs : (x y : ℕ) (slots : List Slot) (v : Slot) → Absent x (decls_of slots) → slot_of y slots ≡ Some v → nat_eq x y ≡ false
+differs x y [] v h e = absurd cc
+differs x y (u ∷ slots) v h e = by (λ f. differs x y slots v h.1 f) (nat_eq u.decl y) refl e
+  where
+    by : (slot_of y slots ≡ Some v → nat_eq x y ≡ false) → (t : Bool) → nat_eq u.decl y ≡ t → cond t (Some u) (slot_of y slots) ≡ Some v → nat_eq x y ≡ false
+    by rest true g f = let other = h.0 in grind (arith, nat_tests)
+    by rest false g f = rest f
+
+pub seen_behind : (numbers : List ℕ) (n : ℕ) (ds : List Declaration) (slots : List Slot) (y : ℕ) (v : Slot) → AllCanBeBorn numbers (decls_of slots) ds → slot_of y slots ≡ Some v → slot_of y (slots_born n ds slots) ≡ Some v
+seen_behind numbers n [] slots y v c e = e
+seen_behind numbers n (d ∷ ds) slots y v c e =
+    seen_behind numbers (suc n) ds (slot_for n d ∷ slots) y v c.1
+    (ap (λ t. cond t (Some (slot_for n d)) (slot_of y slots)) (differs (number_of d) y slots v c.0.new e) ∙ e)
+
+pub sight_behind : (numbers : List ℕ) (n : ℕ) (ds : List Declaration) (slots : List Slot) (objects : List Object) → AllCanBeBorn numbers (decls_of slots) ds → AreInSight slots objects → AreInSight (slots_born n ds slots) objects
+sight_behind numbers n ds slots objects c sight x b e =
+    let i = sight x b e in
+    record { slot = i.slot; found = seen_behind numbers n ds slots b.decl i.slot c i.found; ctype = i.ctype }
+
+pub ready_behind : (numbers : List ℕ) (n : ℕ) (ds : List Declaration) (slots : List Slot) (objects : List Object) (old new : Store) → AllCanBeBorn numbers (decls_of slots) ds → AreInSight slots objects → AllKept slots old new → Ready old slots objects → Ready new (slots_born n ds slots) objects
+ready_behind numbers n ds slots objects old new c sight kept ready x b e v found =
+    let i = sight x b e in
+    let both : Some i.slot ≡ Some v = sym (seen_behind numbers n ds slots b.decl i.slot c i.found) ∙ found in
+    let same : i.slot ≡ v = cc in
+    subst (IsSet new) same (ready_later old new slots objects kept ready x b e i.slot i.found)
+
+-- ---- the variables of a block, which are there from its beginning on
+
+pub record HasSlot (slots : List Slot) (d : Declaration) : Type 0 where
+  pub slot : Slot
+  pub found : slot_of (number_of d) slots ≡ Some slot
+  pub ctype : d.ctype ≡ Int slot.int
+
+abbrev pub HaveSlots : List Slot → List Declaration → Type 0
+HaveSlots slots [] = Unit {0}
+HaveSlots slots (d ∷ ds) = HasSlot slots d × HaveSlots slots ds
+
+pub born_have_slots : (numbers : List ℕ) (n : ℕ) (ds : List Declaration) (slots : List Slot) → AllCanBeBorn numbers (decls_of slots) ds → HaveSlots (slots_born n ds slots) ds
+born_have_slots numbers n [] slots c = tt
+born_have_slots numbers n (d ∷ ds) slots c =
+    let here = slot_for n d in
+    let found : slot_of (number_of d) (here ∷ slots) ≡ Some here = ap (λ t. cond t (Some here) (slot_of (number_of d) slots)) (eq-eqb (number_of d) (number_of d) refl) in
+    (record { slot = here; found = seen_behind numbers (suc n) ds (here ∷ slots) (number_of d) here c.1 found; ctype = c.0.object }, born_have_slots numbers (suc n) ds (here ∷ slots) c.1)
+
+pub have_front : (slots : List Slot) (ds es : List Declaration) → HaveSlots slots (ds ++ es) → HaveSlots slots ds
+have_front slots [] es h = tt
+have_front slots (d ∷ ds) es h = (h.0, have_front slots ds es h.1)
+
+pub have_behind : (slots : List Slot) (ds es : List Declaration) → HaveSlots slots (ds ++ es) → HaveSlots slots es
+have_behind slots [] es h = h
+have_behind slots (d ∷ ds) es h = have_behind slots ds es h.1
+
+-- ---- declarations
 
 abbrev pub object_of : Declaration → Object
-object_of d = record { name = d.name; decl = d.place.offset; ctype = d.ctype }
+object_of d = record { name = d.name; decl = number_of d; ctype = d.ctype }
 
-or_none : (o : Option Object) (p : Option Object) → or_else o p ≡ None → (o ≡ None) × (p ≡ None)
-or_none None p e = (refl, e)
-or_none (Some b) p e = absurd cc
-
--- where the typing finds no object, there is none
-absent_of : (x : ℕ) (bs : List Declaration) → object_named x (map object_of bs) ≡ None → Absent x bs
-absent_of x [] e = tt
-absent_of x (b ∷ bs) e =
-    let parts = or_none (object_named x (map object_of bs)) (cond (nat_eq x b.name) (Some (object_of b)) None) e in
-    (differs (nat_eq x b.name) refl parts.1, absent_of x bs parts.0)
+-- the newest object is found first
+pub named_last : (x : ℕ) (objects : List Object) (o : Object) → object_named x (objects ++ o ∷ []) ≡ cond (nat_eq x o.name) (Some o) (object_named x objects)
+named_last x [] o = refl
+named_last x (b ∷ objects) o =
+    ap (λ r. or_else r (cond (nat_eq x b.name) (Some b) None)) (named_last x objects o) ∙ by (nat_eq x o.name)
   where
-    differs : (t : Bool) → nat_eq x b.name ≡ t → cond t (Some (object_of b)) None ≡ None → nat_eq b.name x ≡ false
-    differs true f g = absurd cc
-    differs false f g = eq_turned x b.name f
+    by : (t : Bool) → or_else (cond t (Some o) (object_named x objects)) (cond (nat_eq x b.name) (Some b) None) ≡ cond t (Some o) (or_else (object_named x objects) (cond (nat_eq x b.name) (Some b) None))
+    by true = refl
+    by false = refl
 
--- an object that the typing finds, with its place
-pub record IsPlaced (x : ℕ) (bs : List Declaration) (b : Object) : Type 0 where
-  pub number : ℕ
-  pub declaration : Declaration
-  pub is : slice_get bs number ≡ Some declaration
-  pub below : number < length bs
-  pub name : declaration.name ≡ x
-  pub ctype : b.ctype ≡ declaration.ctype
-
-pub place_of : (x : ℕ) (bs : List Declaration) (b : Object) → object_named x (map object_of bs) ≡ Some b → IsPlaced x bs b
-place_of x [] b e = absurd cc
-place_of x (d ∷ bs) b e = by (λ f. place_of x bs b f) (object_named x (map object_of bs)) refl e
+pub sight_declared : (slots : List Slot) (objects : List Object) (d : Declaration) → HasSlot slots d → AreInSight slots objects → AreInSight slots (objects ++ object_of d ∷ [])
+sight_declared slots objects d h sight x b e = by (nat_eq x d.name) (sym (named_last x objects (object_of d)) ∙ e)
   where
-    first : (t : Bool) → nat_eq x d.name ≡ t → cond t (Some (object_of d)) None ≡ Some b → IsPlaced x (d ∷ bs) b
-    first true f g =
+    by : (t : Bool) → cond t (Some (object_of d)) (object_named x objects) ≡ Some b → InSight slots b.decl b.ctype
+    by true f = let same : object_of d ≡ b = cc in subst (λ (o : Object). InSight slots o.decl o.ctype) same (record { slot = h.slot; found = h.found; ctype = h.ctype })
+    by false f = sight x b f
+
+pub ready_declared : (store : Store) (slots : List Slot) (objects : List Object) (d : Declaration) (h : HasSlot slots d) → IsSet store h.slot → Ready store slots objects → Ready store slots (objects ++ object_of d ∷ [])
+ready_declared store slots objects d h is_set ready x b e v found = by (nat_eq x d.name) (sym (named_last x objects (object_of d)) ∙ e)
+  where
+    by : (t : Bool) → cond t (Some (object_of d)) (object_named x objects) ≡ Some b → IsSet store v
+    by true f =
         let same : object_of d ≡ b = cc in
-        record { number = 0; declaration = d; is = refl; below = omega arith; name = grind (arith, nat_tests); ctype = ap (λ (o : Object). o.ctype) (sym same) }
-    first false f g = absurd cc
-
-    by : (object_named x (map object_of bs) ≡ Some b → IsPlaced x bs b) → (o : Option Object) → object_named x (map object_of bs) ≡ o → or_else o (cond (nat_eq x d.name) (Some (object_of d)) None) ≡ Some b → IsPlaced x (d ∷ bs) b
-    by rest None f g = first (nat_eq x d.name) refl g
-    by rest (Some c) f g =
-        let p = rest (f ∙ g) in
-        record { number = suc p.number; declaration = p.declaration; is = p.is; below = let l = p.below in omega (arith, l); name = p.name; ctype = p.ctype }
-
--- ---- registers
-
-newest_absent : (x found k : ℕ) (ds : List Declaration) → Absent x ds → newest x found k (names_of ds) ≡ found
-newest_absent x found k [] h = refl
-newest_absent x found k (d ∷ ds) h =
-    ap (λ t. newest x (cond t k found) (suc k) (names_of ds)) (eq_turned d.name x h.0) ∙ newest_absent x found (suc k) ds h.1
-
-pub newest_at : (d : Declaration) (found k j : ℕ) (ds : List Declaration) → Apart ds → slice_get ds j ≡ Some d → newest d.name found k (names_of ds) ≡ k + j
-newest_at d found k j [] h e = absurd cc
-newest_at d found k zero (b ∷ ds) h e =
-    let same : b ≡ d = cc in
-    let absent : Absent d.name ds = subst (λ (c : Declaration). Absent c.name ds) same h.0 in
-    let found_is : nat_eq d.name b.name ≡ true = ap (λ (c : Declaration). nat_eq d.name c.name) same ∙ eq_same d.name in
-    ap (λ t. newest d.name (cond t k found) (suc k) (names_of ds)) found_is ∙ newest_absent d.name k (suc k) ds absent ∙ omega arith
-newest_at d found k (suc j) (b ∷ ds) h e =
-    newest_at d (cond (nat_eq d.name b.name) k found) (suc k) j ds h.1 e ∙ omega arith
-
--- ---- blocks
-
--- the names in sight behind the births of these variables, of which the first has the number behind k
-abbrev pub scope_after : ℕ → List Declaration → Scope → Scope
-scope_after k [] sc = sc
-scope_after k (d ∷ ds) sc = scope_after (suc k) ds ((d.name, suc k) ∷ sc)
-
-find_absent : (x k : ℕ) (ds : List Declaration) (sc : Scope) → Absent x ds → find x (scope_after k ds sc) ≡ find x sc
-find_absent x k [] sc h = refl
-find_absent x k (d ∷ ds) sc h = find_absent x (suc k) ds ((d.name, suc k) ∷ sc) h.1 ∙ ap (λ t. cond t (Some (suc k)) (find x sc)) h.0
-
-pub find_at : (d : Declaration) (k j : ℕ) (ds : List Declaration) (sc : Scope) → Apart ds → slice_get ds j ≡ Some d → find d.name (scope_after k ds sc) ≡ Some (suc (k + j))
-find_at d k j [] sc h e = absurd cc
-find_at d k zero (b ∷ ds) sc h e =
-    let same : b ≡ d = cc in
-    let absent : Absent d.name ds = subst (λ (c : Declaration). Absent c.name ds) same h.0 in
-    let found_is : nat_eq b.name d.name ≡ true = ap (λ (c : Declaration). nat_eq c.name d.name) same ∙ eq_same d.name in
-    let number : suc k ≡ suc (k + 0) = omega arith in
-    find_absent d.name (suc k) ds ((b.name, suc k) ∷ sc) absent ∙ ap (λ t. cond t (Some (suc k)) (find d.name sc)) found_is ∙ ap Some number
-find_at d k (suc j) (b ∷ ds) sc h e =
-    let number : suc (suc k + j) ≡ suc (k + suc j) = omega arith in
-    find_at d (suc k) j ds ((b.name, suc k) ∷ sc) h.1 e ∙ ap Some number
-
--- ---- types
-
-abbrev pub int_of : PlainType → CInt
-int_of Void = I32
-int_of (Int k) = k
-
-abbrev pub types_declared : List Declaration → List CInt
-types_declared ds = map (λ (d : Declaration). int_of d.ctype) ds
-
-abbrev pub AreObjects : List Declaration → Type 0
-AreObjects [] = Unit {0}
-AreObjects (d ∷ ds) = (d.ctype ≡ Int (int_of d.ctype)) × AreObjects ds
-
-object_int : (t : PlainType) → is_object_type t ≡ true → t ≡ Int (int_of t)
-object_int Void e = absurd cc
-object_int (Int k) e = refl
-
-pub object_at : (ds : List Declaration) (j : ℕ) (d : Declaration) → AreObjects ds → slice_get ds j ≡ Some d → d.ctype ≡ Int (int_of d.ctype)
-object_at [] j d h e = absurd cc
-object_at (b ∷ ds) zero d h e = let same : b ≡ d = cc in subst (λ (c : Declaration). c.ctype ≡ Int (int_of c.ctype)) same h.0
-object_at (b ∷ ds) (suc j) d h e = object_at ds j d h.1 e
-
-objects_behind : (a b : List Declaration) → AreObjects a → AreObjects b → AreObjects (a ++ b)
-objects_behind [] b h k = k
-objects_behind (d ∷ a) b h k = (h.0, objects_behind a b h.1 k)
-
-pub in_front : {A : Type 0} (a b : List A) (j : ℕ) (x : A) → slice_get a j ≡ Some x → slice_get (a ++ b) j ≡ Some x
-in_front [] b j x e = absurd cc
-in_front (y ∷ a) b zero x e = e
-in_front (y ∷ a) b (suc j) x e = in_front a b j x e
-
-pub at_end : {A : Type 0} (a b : List A) (x : A) → slice_get (a ++ x ∷ b) (length a) ≡ Some x
-at_end [] b x = refl
-at_end (y ∷ a) b x = at_end a b x
-
--- ---- in sight
-
--- the setting of these variables
-pub record Declares (w : Setting) (ds : List Declaration) : Type 0 where
-  pub apart : Apart ds
-  pub objects : AreObjects ds
-  pub types : w.types ≡ types_declared ds
-  pub names : w.names ≡ names_of ds
-  pub scope : w.base.scope ≡ scope_after 0 ds []
-
--- the variable with the number j
-abbrev pub declared_at : (w : Setting) (ds : List Declaration) (count : ℕ) (d : Declaration) (j : ℕ) → Declares w ds → slice_get ds j ≡ Some d → j < count → InSight w count d.name d.ctype
-declared_at w ds count d j k e lt =
-    let number : suc (0 + j) ≡ suc j = omega arith in
-    record {
-      int = int_of d.ctype;
-      ctype = object_at ds j d k.objects e;
-      number = j;
-      declared = lt;
-      scope = ap (find d.name) k.scope ∙ find_at d 0 j ds [] k.apart e ∙ ap Some number;
-      register = ap (λ l. register_of l d.name) k.names ∙ newest_at d 0 0 j ds k.apart e ∙ omega arith;
-      kind = ap (λ l. slice_get l j) k.types ∙ slice_get-map (λ (c : Declaration). int_of c.ctype) ds j d e;
-    }
-
-pub all_in_sight : (w : Setting) (ds bs rest : List Declaration) (objects : List Object) → Declares w ds → ds ≡ bs ++ rest → objects ≡ map object_of bs → AreInSight w (length bs) objects
-all_in_sight w ds bs rest objects k whole same x b e =
-    let p = place_of x bs b (ap (object_named x) (sym same) ∙ e) in
-    let there : slice_get ds p.number ≡ Some p.declaration = ap (λ l. slice_get l p.number) whole ∙ in_front bs rest p.number p.declaration p.is in
-    let i = declared_at w ds (length bs) p.declaration p.number k there p.below in
-    subst (λ t. InSight w (length bs) x t) (sym p.ctype) (subst (λ y. InSight w (length bs) y p.declaration.ctype) p.name i)
-
--- ---- from the typing
-
--- where statements stand, behind these declarations
-pub record Behind (s : Scopes) (bs : List Declaration) : Type 0 where
-  pub objects : s.objects ≡ map object_of bs
-  pub innermost : s.innermost ≡ 0
-
-pub behind_one : (s : Scopes) (bs : List Declaration) (d : Declaration) → Behind s bs → Behind (with_object s d) (bs ++ d ∷ [])
-behind_one s bs d h = record {
-  objects = ap (λ l. l ++ object_of d ∷ []) h.objects ∙ sym (map-append object_of bs (d ∷ []));
-  innermost = h.innermost;
-}
-
-pub one_more : (bs ds : List Declaration) (d : Declaration) → bs ++ d ∷ [] ++ ds ≡ bs ++ (d ∷ ds)
-one_more bs ds d = append_assoc bs (d ∷ []) ds
-
-pub behind_all : (s : Scopes) (bs ds : List Declaration) → Behind s bs → Behind (with_objects s ds) (bs ++ ds)
-behind_all s bs [] h = subst (Behind s) (sym (append-nil bs)) h
-behind_all s bs (d ∷ ds) h = subst (Behind (with_objects (with_object s d) ds)) (one_more bs ds d) (behind_all (with_object s d) (bs ++ d ∷ []) ds (behind_one s bs d h))
-
-new_name : (s : Scopes) (bs : List Declaration) (d : Declaration) → Behind s bs → IsDeclared s d → Absent d.name bs
-new_name s bs d h k = absent_of d.name bs (ap (λ l. object_named d.name l) (sym h.objects) ∙ ap (λ n. object_named d.name (drop n s.objects)) (sym h.innermost) ∙ k.new)
-
-apart_all : (s : Scopes) (bs ds : List Declaration) → Behind s bs → Apart bs → AreDeclared s ds → Apart (bs ++ ds)
-apart_all s bs [] h a k = subst Apart (sym (append-nil bs)) a
-apart_all s bs (d ∷ ds) h a k =
-    subst Apart (one_more bs ds d) (apart_all (with_object s d) (bs ++ d ∷ []) ds (behind_one s bs d h) (apart_end bs d a (new_name s bs d h k.0)) k.1)
-
-objects_all : (s : Scopes) (ds : List Declaration) → AreDeclared s ds → AreObjects ds
-objects_all s [] k = tt
-objects_all s (d ∷ ds) k = (object_int d.ctype k.0.ctype, objects_all (with_object s d) ds k.1)
-
--- of all items of a body
-pub items_apart : (most : ℕ) (s : Scopes) (r : Around) (bs : List Declaration) (is : BlockItems) → BodyItemsFormed most is → ItemsTyped s r is → Behind s bs → Apart bs → Apart (bs ++ declared_in is)
-items_apart most s r bs NoItem p q h a = subst Apart (sym (append-nil bs)) a
-items_apart most s r bs (Then (Declare ds) rest) p q h a =
-    subst Apart (append_assoc bs ds (declared_in rest)) (items_apart most (with_objects s ds) r (bs ++ ds) rest p.1 q.1 (behind_all s bs ds h) (apart_all s bs ds h a q.0))
-items_apart most s r bs (Then (Run x) rest) p q h a = subst Apart (sym (append-nil bs) ∙ ap (λ l. bs ++ l) (sym (none_declared most (Then (Run x) rest) p))) a
-items_apart most s r bs (Then (Asserts annots) rest) p q h a = subst Apart (sym (append-nil bs) ∙ ap (λ l. bs ++ l) (sym (none_declared most (Then (Asserts annots) rest) p))) a
-
-pub items_objects : (most : ℕ) (s : Scopes) (r : Around) (is : BlockItems) → BodyItemsFormed most is → ItemsTyped s r is → AreObjects (declared_in is)
-items_objects most s r NoItem p q = tt
-items_objects most s r (Then (Declare ds) rest) p q = objects_behind ds (declared_in rest) (objects_all s ds q.0) (items_objects most (with_objects s ds) r rest p.1 q.1)
-items_objects most s r (Then (Run x) rest) p q = subst AreObjects (sym (none_declared most (Then (Run x) rest) p)) tt
-items_objects most s r (Then (Asserts annots) rest) p q = subst AreObjects (sym (none_declared most (Then (Asserts annots) rest) p)) tt
+        let both : Some h.slot ≡ Some v = sym h.found ∙ ap (λ (o : Object). slot_of o.decl slots) same ∙ found in
+        let one : h.slot ≡ v = cc in
+        subst (IsSet store) one is_set
+    by false f = ready x b f v found

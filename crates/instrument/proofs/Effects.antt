@@ -1,6 +1,7 @@
--- Assignments, increments, calls of putchar, expressions without effects, and initialisations.
-use Rattle.std.proofs.Common.{◌≡◌, ℕ, suc, ◌+◌, ◌<◌, ◌≤◌, ℤ, pos, Bool, true, false, List, [], ◌∷◌, ◌++◌, length, Some, None, refl, sym, ap, ◌∙◌, subst, arith}
-use Rattle.std.specs.Prelude.{slice_get, slice_set}
+-- Assignments, increments, calls, expressions without effects, and initialisations: a variable's block and its register get a value.
+use Rattle.std.proofs.Common.{◌≡◌, ℕ, suc, ◌+◌, ◌<◌, ◌≤◌, ℤ, pos, Bool, true, false, List, [], ◌++◌, length, length-set, Option, Some, None, option_map, if◌then◌else◌, refl, sym, ap, ◌∙◌, subst, arith}
+use Rattle.std.proofs.lemmas.List.{append-nil}
+use Rattle.std.specs.Prelude.{slice_set}
 use Rattle.c_syntax.specs.declared.place.Place.{Place}
 use Rattle.c_syntax.specs.declared.types.CInt.{CInt}
 use Rattle.c_syntax.specs.declared.types.CInt.TheVariants.{I32}
@@ -8,211 +9,257 @@ use Rattle.c_syntax.specs.declared.expression.Use.{Use}
 use Rattle.c_syntax.specs.declared.expression.BinOp.{BinOp}
 use Rattle.c_syntax.specs.declared.expression.BumpOp.{BumpOp}
 use Rattle.c_syntax.specs.Ctypes.{PlainType, Int, int_type}
-use Rattle.c_syntax.specs.Expressions.{Expression, Node, Variable, Assign, Bump, Call, Expressions, NoExpression, Following, type_of}
+use Rattle.c_syntax.specs.Expressions.{Expression, Node, Variable, Assign, Bump, Call, Expressions, type_of}
 use Rattle.c_syntax.specs.Statements.{One, Declaration}
-use Rattle.c_model.specs.Integers.{fits, byte_of}
+use Rattle.c_syntax.specs.Programs.{TranslationUnit}
+use Rattle.c_model.specs.Integers.{fits, convert, operate_in}
+use Rattle.c_model.specs.Conversions.{operation_type, is_shift}
 use Rattle.c_model.specs.Memory.{Pointer, Value, Integer, Into}
-use Rattle.c_model.specs.State.{State, Normal, on_outcome, ◌>>=◌, ◌>>◌, give, done, defined, print, object, read, write, find}
-use Rattle.c_model.specs.Meaning.{eval_with, evals_with, initialise, compound, bump_operator, bump_value}
+use Rattle.c_model.specs.State.{State, Undefined, Over, Normal, Stop, Evaluation, on_outcome, ◌>>=◌, ◌>>◌, give, done, defined, object, read, write}
+use Rattle.c_model.specs.Meaning.{eval_with, initialise, compound, converted, operate_values, bump_operator, bump_value}
 use Rattle.c_model.specs.Typing.{Scopes}
 use Rattle.c_model.specs.WellTyped.{Denotes, IsInteger, IsPlace, Calls, WellTyped, AreWellTyped}
-use Rattle.c_model.specs.Formed.{IsPure, ArePure, IsEffectOrCall}
+use Rattle.c_model.specs.Formed.{IsPure, ArePure, IsPureOrCall, IsEffectOrCall, number_of}
+use Rattle.c_model.proofs.Conversions.{fits-convert}
 use Rattle.mon_syntax.specs.declared.tree.MonType.{MonType}
 use Rattle.mon_syntax.specs.declared.tree.MonType.TheVariants as kind
-use Rattle.mon_syntax.specs.Meaning.{Done, Next, with_value}
-use Rattle.mon_syntax.specs.Meaning.{◌>>=◌ as bind}
-use Rattle.mon_syntax.specs.Memories.{integer_of}
-use Rattle.mon_syntax.specs.Trees.{MonExpression, Register, Constant, PutChar, MonStatements, NoStatement}
-use Rattle.instrument.specs.Limits.{HasLetters, ArgumentHasLetters, EffectHasLetters}
-use Rattle.instrument.specs.Translation.{before, one, set, setup, value, temporaries, effect, effect_temporaries, register_of}
-use Rattle.instrument.specs.Translation as target
-use Rattle.instrument.proofs.Results.{one_is}
-use Rattle.instrument.proofs.Variables.{Variable as CVariable}
-use Rattle.instrument.proofs.Variables.{valued, Setting, total, source_at, target_at, InSight, AreInSight, Holds, Same, same_all, holds_same, holds_set, holds_next, Known, known, object_is, read_is, write_is, ints_of}
-use Rattle.instrument.proofs.Values.{Has}
-use Rattle.instrument.proofs.Evaluating.{Evaluates, HasValue, runs}
+use Rattle.mon_syntax.specs.Meaning.{Next}
+use Rattle.mon_syntax.specs.Memories.{BlockValue, Whole}
+use Rattle.mon_syntax.specs.Trees.{MonExpression, Register, Constant, MonStatements, NoStatement}
+use Rattle.instrument.specs.Limits.{HasLetters, ArgumentsHaveLetters, FullHasLetters, EffectHasLetters}
+use Rattle.instrument.specs.Expressions.{register_type, temporaries, value, before, set, setup}
+use Rattle.instrument.specs.Expressions as spec
+use Rattle.instrument.specs.Translation.{arguments_temporaries, full_temporaries, effect_temporaries, called, full_setup, full_value, effect}
+use Rattle.instrument.specs.Translation as translation
+use Rattle.instrument.proofs.Variables.{Slot, Setting, count, value_at, slot_of, Related, Beside, IsSet, Same, same_all, related_same, value_below, match_at, decl_at, object_is, read_is, write_is, state_with, related_set, kept_set, beside_set, store_with, load_cell, get-set_same, stacked_at}
+use Rattle.instrument.proofs.Values.{Has, compound_is}
+use Rattle.instrument.proofs.Results.{writes_none}
+use Rattle.instrument.proofs.Evaluating.{Target, Did, runs, set_runs, behind_setup}
 use Rattle.instrument.proofs.ExpressionTypes.{integer_int}
+use Rattle.instrument.proofs.Sight.{Ready, IsDenoted, denoted}
+use Rattle.instrument.proofs.Sight as sight
 use Rattle.instrument.proofs.Expressions.{longer, evaluates}
 use Rattle.instrument.proofs.Purity.{Quiet, Gives, IsUndefined, pure_is_quiet}
-use Rattle.instrument.proofs.Following.{Follows, GoesOn, stays, follows_value, undefined_here}
-use Rattle.instrument.proofs.Stores.{handed_on, StoresValue, follows_store, stores_value, stores_compound}
+use Rattle.instrument.proofs.Sequences.{before_assoc, before_none}
+use Rattle.instrument.proofs.Following.{Here, Later, later_trans, Follows, GoesOn, stays, follows_value, undefined_here, onward}
+use Rattle.instrument.proofs.FullExpressions.{handed_on, Scene, follows_called, follows_full}
 
--- a call of the source that prints the value of its one argument
-pub record PutsOne (w : Setting) (f : Use) (es : Expressions) : Type 0 where
-  pub argument : Expression
-  pub is : es ≡ Following argument NoExpression
-  pub int : type_of argument ≡ int_type
-  pub does : (at : Place) (z : ℤ) (s : State) → w.call at f (Integer z ∷ []) s ≡ (print (byte_of z) >> give (Integer (pos (byte_of z)))) s
+-- ---- `op=`
 
--- where statements stand: all variables are in sight, and putchar is what calls call
-pub record Scene (w : Setting) (scopes : Scopes) : Type 0 where
-  pub sight : AreInSight w (total w) scopes.objects
-  pub puts : (f : Use) (t : PlainType) (es : Expressions) → Calls scopes f t es → PutsOne w f es
+both_mapped : (k : CInt) (o : Option ℤ) → option_map (converted (Int k)) (option_map Integer o) ≡ option_map (λ z. Integer (convert k z)) o
+both_mapped k None = refl
+both_mapped k (Some z) = refl
 
-module _ (w : Setting) (steps n : ℕ) (scopes : Scopes) (scene : Scene w scopes) (inside : Bool) (loops : ℕ) (vars : List CVariable) (regs : List Value) (h : Holds w (total w) vars regs) (out : List ℕ) (rs : List MonType) (behind : total w ≤ length rs) where
-  abbrev now : State
-  now = source_at w vars steps out
+pub compound_value : (k l : CInt) (op : BinOp) (x y : ℤ) → compound (Int k) op (Integer x) (Int l) (Integer y) ≡ option_map (λ z. Integer (convert k z)) (operate_in (operation_type op k l) op (convert (operation_type op k l) x) (if is_shift op then y else convert (operation_type op k l) y))
+compound_value k l op x y = by (operation_type op k l) (is_shift op)
+  where
+    by : (m : CInt) (t : Bool) → option_map (converted (Int k)) (operate_values (Int m) op (converted (Int m) (Integer x)) (if t then Integer y else converted (Int m) (Integer y))) ≡ option_map (λ z. Integer (convert k z)) (operate_in m op (convert m x) (if t then y else convert m y))
+    by m true = both_mapped k (operate_in m op (convert m x) y)
+    by m false = both_mapped k (operate_in m op (convert m x) (convert m y))
 
+-- ---- a variable gets a value
+
+module _ (w : Setting) (slots : List Slot) (regs : List BlockValue) (s : State) (m : Related w slots regs s) (enough : count w + count w ≤ w.registers) (x : ℕ) (v : Slot) (found : slot_of x slots ≡ Some v) (z : ℤ) (f : fits v.int z ≡ true) where
+  pub later_set : Later slots s (state_with w slots regs s m enough x v found z f) []
+  later_set = record {
+    spent = omega arith;
+    output = sym (append-nil s.output);
+    longer = let same : length (store_with s.store v z) ≡ length s.store = length-set s.store v.block _ in omega (arith, same);
+    kept = kept_set w slots regs s m enough x v found z f;
+  }
+
+  pub is_set : IsSet (store_with s.store v z) v
+  is_set = record {
+    value = z;
+    loads = load_cell (store_with s.store v z) v z f (get-set_same s.store v.block _ (stacked_at (length w.outside) (length s.store) x slots v m.stacked found));
+  }
+
+-- what stands behind an assignment
+module _ (p : TranslationUnit) (w : Setting) (n : ℕ) (h : Here) (scopes : Scopes) (scene : Scene p w n h.slots scopes) (s : State) (t : Target) (ready : Ready s.store h.slots scopes.objects) (le : s.steps ≤ n) (rs : List MonType) (behind : count w + count w ≤ length rs) (regs : List BlockValue) (m : Related w h.slots regs s) (b : Beside w h.slots s t) where
   abbrev does_as : Expression → MonStatements → Type 0
-  does_as e a = Follows w (total w) inside loops Next steps out ((eval_with e w.call >> done) now) (runs w steps n a regs)
+  does_as e a = Follows w h Next s ((eval_with e w.call >> done) s) (runs w n t a regs)
 
   abbrev Does : Expression → Type 0
-  Does e = does_as e (effect w.names rs e)
+  Does e = does_as e (effect p w.numbers rs e)
 
-  followed : (e : Expression) (k : CInt) → type_of e ≡ Int k → IsPure e → WellTyped scopes e → HasLetters e → length (rs ++ temporaries e) ≤ w.registers → Evaluates w k now (eval_with e w.call now) steps regs (length rs) (length (rs ++ temporaries e)) (runs w steps n (setup w.names rs e) regs) (value w.names rs e)
-  followed e k int p q l enough = evaluates w steps n scopes (total w) (omega arith) scene.sight vars out e k rs int p q l behind enough regs h
+  enough_for : (ts : List MonType) → length (rs ++ ts) ≤ w.registers → count w + count w ≤ w.registers
+  enough_for ts le = omega (arith, behind, le, longer rs ts)
 
   -- ---- expressions without effects
 
   pure_follows : (e : Expression) → IsPure e → does_as e NoStatement
-  pure_follows e p = by (pure_is_quiet e w.call now p)
+  pure_follows e pure = by (pure_is_quiet e w.call s pure)
     where
-      by : Quiet now (eval_with e w.call now) → does_as e NoStatement
-      by (Gives v x) =
-          subst (λ r. Follows w (total w) inside loops Next steps out (on_outcome r (λ _. done)) (runs w steps n NoStatement regs)) (sym x) (stays w (total w) inside loops vars regs steps out h)
-      by (IsUndefined at x) =
-          undefined_here w (total w) inside loops Next steps out ((eval_with e w.call >> done) now) (runs w steps n NoStatement regs) at now (ap (λ r. on_outcome r (λ _. done)) x) refl
+      by : Quiet s (eval_with e w.call s) → does_as e NoStatement
+      by (Gives v x) = subst (λ r. Follows w h Next s (on_outcome r (λ _. done)) (runs w n t NoStatement regs)) (sym x) (stays w h regs s t m b)
+      by (IsUndefined at x) = undefined_here w h Next s ((eval_with e w.call >> done) s) (runs w n t NoStatement regs) at (ap (λ r. on_outcome r (λ _. done)) x)
 
   -- ---- assignments to a variable
 
-  module _ (at pa : Place) (t u : PlainType) (x : Use) (d : Denotes scopes x t) where
+  module _ (at pa : Place) (u k : PlainType) (x : Use) (d : Denotes scopes x k) where
     abbrev variable : Expression
     variable = Node pa u (Variable x)
 
-    abbrev seen : InSight w (total w) x.name d.object.ctype
-    seen = scene.sight x.name d.object d.found
+    abbrev seen : IsDenoted h.slots x k
+    seen = denoted h.slots scopes scene.sight x k d
 
-    int : t ≡ Int seen.int
-    int = sym d.ctype ∙ seen.ctype
+    abbrev v : Slot
+    v = seen.slot
 
     abbrev there : Pointer
-    there = Into (suc seen.number) 0
+    there = Into (suc v.block) 0
 
-    object_found : object pa x.name now ≡ Normal there now
-    object_found = object_is vars seen.number seen.int w steps out pa x.name seen.scope
+    object_found : object pa x.decl s ≡ Normal there s
+    object_found = object_is w h.slots regs s m x.decl v seen.found pa
 
-    kind_is : slice_get (ints_of vars) seen.number ≡ Some seen.int
-    kind_is = ap (λ l. slice_get l seen.number) h.variables ∙ seen.kind
+    -- the value is written, and set
+    abbrev Written : PlainType → Value → Value → State → Did → Type 0
+    Written i j given to d = Follows w h Next to (on_outcome ((write at there i j >> give given) to) (λ _. done)) d
 
-    set_there : (room : total w ≤ w.registers) (v : ℤ) → fits seen.int v ≡ true → (after : List Value) → Holds w (total w) vars after → Holds w (total w) (slice_set vars seen.number (valued seen.int v)) (slice_set after seen.number (Integer v))
-    set_there room v f after g = holds_set w (total w) vars after g room seen.number seen.int seen.kind v f
+    written_int : (room : count w + count w ≤ w.registers) (given : Value) (z : ℤ) (f : fits v.int z ≡ true) (to : State) (target : Target) (after : List BlockValue) (e : MonExpression) → Related w h.slots after to → Beside w h.slots to target → Has e after z → Written (Int v.int) (Integer z) given to (runs w n target (set (value_at w x.decl) e) after)
+    written_int room given z f to target after e re be has =
+        GoesOn (state_with w h.slots after to re room x.decl v seen.found z f) (slice_set after (value_at w x.decl) (Whole z)) target []
+        (related_set w h.slots after to re room x.decl v seen.found z f)
+        (beside_set w h.slots after to re room x.decl v seen.found z f h.slots target be)
+        (later_set w h.slots after to re room x.decl v seen.found z f)
+        (ap (λ r. on_outcome (on_outcome r (λ _. give given)) (λ _. done)) (write_is w h.slots after to re x.decl v seen.found at z))
+        (set_runs w n target (value_at w x.decl) e after z has)
 
-    abbrev old : Known w (total w) vars regs seen.number seen.int
-    old = known w (total w) vars regs seen.number seen.int h seen.declared seen.kind
+    written : (room : count w + count w ≤ w.registers) (given : Value) (z : ℤ) (f : fits v.int z ≡ true) (to : State) (target : Target) (after : List BlockValue) (e : MonExpression) → Related w h.slots after to → Beside w h.slots to target → Has e after z → Written k (Integer z) given to (runs w n target (set (value_at w x.decl) e) after)
+    written room given z f to target after e re be has =
+        subst (λ i. Written i (Integer z) given to (runs w n target (set (value_at w x.decl) e) after)) (sym seen.ctype) (written_int room given z f to target after e re be has)
 
-    read_found : (at : Place) → read at there t now ≡ Normal (Integer old.value) now
-    read_found at = ap (λ t. read at there t now) int ∙ read_is vars seen.number seen.int w steps out at old.value old.fits old.variable
-
-    assigned : (b : Expression) → IsPure b → WellTyped scopes b → type_of b ≡ t → HasLetters b → length (rs ++ temporaries b) ≤ w.registers → does_as (Node at t (Assign None variable b)) (before (setup w.names rs b) (set (register_of w.names x.name) (value w.names rs b)))
-    assigned b p q same l enough =
-        let given = λ (v : Value). write at there t v >> give v in
-        let tail = λ (v : Value) (s : State). on_outcome (given v s) (λ _. done) in
-        let source : (eval_with (Node at t (Assign None variable b)) w.call >> done) now ≡ on_outcome (eval_with b w.call now) tail =
-        ap (λ o. on_outcome (on_outcome o (λ p. eval_with b w.call >>= λ v. write at p t v >> give v)) (λ _. done)) object_found
-        ∙ handed_on (eval_with b w.call now) given (λ _. done) in
-        subst (λ r. Follows w (total w) inside loops Next steps out r (runs w steps n (before (setup w.names rs b) (set (register_of w.names x.name) (value w.names rs b))) regs)) (sym source)
-        (subst (λ j. Follows w (total w) inside loops Next steps out (on_outcome (eval_with b w.call now) tail) (runs w steps n (before (setup w.names rs b) (set j (value w.names rs b))) regs)) (sym seen.register)
-        (follows_store w steps n vars out (total w) (total w) inside loops seen.int seen.int (eval_with b w.call now) tail regs (length rs) (length (rs ++ temporaries b)) (setup w.names rs b) (value w.names rs b) (value w.names rs b) seen.number
-        (followed b seen.int (same ∙ int) p q l enough) h behind
-        (λ z f after same2 has. stores_value w steps n vars out t seen.int seen.number int kind_is at z (value w.names rs b) after (λ v. v) f has)
-        (set_there (omega (arith, behind, enough, longer rs (temporaries b))))))
+    assigned : (e : Expression) → IsPureOrCall e → WellTyped scopes e → type_of e ≡ k → FullHasLetters e → length (rs ++ full_temporaries e) ≤ w.registers → does_as (Node at k (Assign None variable e)) (before (full_setup p w.numbers rs e) (set (value_at w x.decl) (full_value w.numbers rs e)))
+    assigned e pure q same l room =
+        let given = λ (i : Value). write at there k i >> give i in
+        let tail = λ (i : Value) (s : State). on_outcome (given i s) (λ _. done) in
+        let source : (eval_with (Node at k (Assign None variable e)) w.call >> done) s ≡ on_outcome (eval_with e w.call s) tail =
+        ap (λ o. on_outcome (on_outcome o (λ p. eval_with e w.call >>= λ v. write at p k v >> give v)) (λ _. done)) object_found
+        ∙ handed_on (eval_with e w.call s) given (λ _. done) in
+        subst (λ r. Follows w h Next s r (runs w n t (before (full_setup p w.numbers rs e) (set (value_at w x.decl) (full_value w.numbers rs e))) regs)) (sym source)
+        (follows_full p w n h scopes scene Next s t ready le rs behind regs m b e v.int tail (set (value_at w x.decl) (full_value w.numbers rs e)) (same ∙ seen.ctype) pure q l room
+        (λ z to target o after f same2 re be la has. written (enough_for (full_temporaries e) room) (Integer z) z f to target after (full_value w.numbers rs e) re be has))
 
     -- the old value stays in its register until it is set
-    old_there : (after : List Value) → Same (length rs) regs after → Has (Register seen.number) after old.value
-    old_there after same = same.below seen.number (omega (arith, seen.declared, behind)) ∙ old.register
+    abbrev old : sight.HasValue w regs s x.decl v
+    old = sight.has_value w h.slots scopes regs s m ready x k d v seen.found
 
-    compounded : (op : BinOp) (b : Expression) → IsPure b → WellTyped scopes b → IsInteger (type_of b) → HasLetters b → length (rs ++ temporaries b) ≤ w.registers → does_as (Node at t (Assign (Some op) variable b)) (before (setup w.names rs b) (set (register_of w.names x.name) (target.compound op t (type_of b) (Register (register_of w.names x.name)) (value w.names rs b))))
-    compounded op b p q integer l enough =
-        let k = integer_int (type_of b) integer in
-        let rest = λ (y : Value). defined at (compound t op (Integer old.value) (type_of b) y) >>= λ v. write at there t v >> give v in
+    old_there : (after : List BlockValue) → Same (length rs) regs after → Has (Register (value_at w x.decl)) after old.known.value
+    old_there after same =
+        let below : value_at w x.decl < count w = subst (λ i. value_at w i < count w) (decl_at x.decl h.slots v seen.found) (value_below w s.store regs v (match_at w s.store regs x.decl h.slots v m.all seen.found)) in
+        same.below (value_at w x.decl) (omega (arith, below, behind)) ∙ old.register
+
+    read_found : read at there k s ≡ Normal (Integer old.known.value) s
+    read_found = ap (λ i. read at there i s) seen.ctype ∙ read_is w h.slots regs s m x.decl v seen.found at old.known.value old.known.loads
+
+    -- what an operator makes of the old value and another
+    combined : (room : count w + count w ≤ w.registers) (op : BinOp) (c : PlainType) (l : CInt) (y : ℤ) (e : MonExpression) (after : List BlockValue) (g : Value → Value) → c ≡ Int l → fits l y ≡ true → Same (length rs) regs after → Has e after y → Follows w h Next s (on_outcome ((defined at (compound k op (Integer old.known.value) c (Integer y)) >>= λ i. write at there k i >> give (g i)) s) (λ _. done)) (runs w n t (set (value_at w x.decl) (spec.compound op k c (Register (value_at w x.decl)) e)) after)
+    combined room op c l y e after g c_int fy same has =
+        subst (λ k2. FollowsIn k2 (compound k2 op (Integer old.known.value) c (Integer y)) (spec.compound op k2 c (Register (value_at w x.decl)) e)) (sym seen.ctype)
+        (subst (λ c2. FollowsIn (Int v.int) (compound (Int v.int) op (Integer old.known.value) c2 (Integer y)) (spec.compound op (Int v.int) c2 (Register (value_at w x.decl)) e)) (sym c_int)
+        (subst (λ o. FollowsIn (Int v.int) o code) (sym (compound_value v.int l op old.known.value y))
+        (by (operate_in i op (convert i old.known.value) (if is_shift op then y else convert i y)) refl)))
+      where
+        i : CInt
+        i = operation_type op v.int l
+
+        code : MonExpression
+        code = spec.compound op (Int v.int) (Int l) (Register (value_at w x.decl)) e
+
+        FollowsIn : PlainType → Option Value → MonExpression → Type 0
+        FollowsIn k2 o e2 = Follows w h Next s (on_outcome ((defined at o >>= λ i. write at there k2 i >> give (g i)) s) (λ _. done)) (runs w n t (set (value_at w x.decl) e2) after)
+
+        by : (o : Option ℤ) → operate_in i op (convert i old.known.value) (if is_shift op then y else convert i y) ≡ o → FollowsIn (Int v.int) (option_map (λ z. Integer (convert v.int z)) o) code
+        by None none = undefined_here w h Next s (Stop (Over (Undefined at)) s) (runs w n t (set (value_at w x.decl) code) after) at refl
+        by (Some z) some =
+            written_int room (g (Integer (convert v.int z))) (convert v.int z) (fits-convert v.int z) s t after code (related_same w h.slots regs after s (length rs) behind same m) b
+            (compound_is i v.int l op (Register (value_at w x.decl)) e after old.known.value y z old.known.fits fy some (old_there after same) has)
+
+    compounded : (op : BinOp) (e : Expression) → IsPure e → WellTyped scopes e → IsInteger (type_of e) → HasLetters e → length (rs ++ temporaries e) ≤ w.registers → does_as (Node at k (Assign (Some op) variable e)) (before (setup w.numbers rs e) (set (value_at w x.decl) (spec.compound op k (type_of e) (Register (value_at w x.decl)) (value w.numbers rs e))))
+    compounded op e pure q integer l room =
+        let i = integer_int (type_of e) integer in
+        let rest = λ (y : Value). defined at (compound k op (Integer old.known.value) (type_of e) y) >>= λ v. write at there k v >> give v in
         let tail = λ (y : Value) (s : State). on_outcome (rest y s) (λ _. done) in
-        let source : (eval_with (Node at t (Assign (Some op) variable b)) w.call >> done) now ≡ on_outcome (eval_with b w.call now) tail =
-        ap (λ o. on_outcome (on_outcome o (λ p. read at p t >>= λ x. eval_with b w.call >>= λ y. defined at (compound t op x (type_of b) y) >>= λ v. write at p t v >> give v)) (λ _. done)) object_found
-        ∙ ap (λ o. on_outcome (on_outcome o (λ x. eval_with b w.call >>= λ y. defined at (compound t op x (type_of b) y) >>= λ v. write at there t v >> give v)) (λ _. done)) (read_found at)
-        ∙ handed_on (eval_with b w.call now) rest (λ _. done) in
-        subst (λ r. Follows w (total w) inside loops Next steps out r (runs w steps n (before (setup w.names rs b) (set (register_of w.names x.name) (target.compound op t (type_of b) (Register (register_of w.names x.name)) (value w.names rs b)))) regs)) (sym source)
-        (subst (λ j. Follows w (total w) inside loops Next steps out (on_outcome (eval_with b w.call now) tail) (runs w steps n (before (setup w.names rs b) (set j (target.compound op t (type_of b) (Register j) (value w.names rs b)))) regs)) (sym seen.register)
-        (follows_store w steps n vars out (total w) (total w) inside loops k.int seen.int (eval_with b w.call now) tail regs (length rs) (length (rs ++ temporaries b)) (setup w.names rs b) (value w.names rs b) (target.compound op t (type_of b) (Register seen.number) (value w.names rs b)) seen.number
-        (followed b k.int k.is p q l enough) h behind
-        (λ z f after same has. stores_compound w steps n vars out t seen.int seen.number int kind_is at op (type_of b) k.int old.value z (value w.names rs b) after (λ v. v) k.is old.fits f (old_there after same) has)
-        (set_there (omega (arith, behind, enough, longer rs (temporaries b))))))
+        let code = set (value_at w x.decl) (spec.compound op k (type_of e) (Register (value_at w x.decl)) (value w.numbers rs e)) in
+        let source : (eval_with (Node at k (Assign (Some op) variable e)) w.call >> done) s ≡ on_outcome (eval_with e w.call s) tail =
+        ap (λ o. on_outcome (on_outcome o (λ p. read at p k >>= λ x. eval_with e w.call >>= λ y. defined at (compound k op x (type_of e) y) >>= λ v. write at p k v >> give v)) (λ _. done)) object_found
+        ∙ ap (λ o. on_outcome (on_outcome o (λ x. eval_with e w.call >>= λ y. defined at (compound k op x (type_of e) y) >>= λ v. write at there k v >> give v)) (λ _. done)) read_found
+        ∙ handed_on (eval_with e w.call s) rest (λ _. done) in
+        subst (λ r. Follows w h Next s r (runs w n t (before (setup w.numbers rs e) code) regs)) (sym source)
+        (follows_value w h Next i.int n s t (eval_with e w.call s) tail regs (length rs) (length (rs ++ temporaries e)) (setup w.numbers rs e) code (value w.numbers rs e)
+        (evaluates w n h.slots scopes scene.sight s t ready e i.int rs i.is pure q l behind room regs m)
+        (λ z f after same has. combined (enough_for (temporaries e) room) op (type_of e) i.int z (value w.numbers rs e) after (λ v. v) i.is f same has))
 
-    bumped : (op : BumpOp) → total w ≤ w.registers → does_as (Node at t (Bump op variable)) (set (register_of w.names x.name) (target.compound (bump_operator op) t int_type (Register (register_of w.names x.name)) (Constant kind.I32 (pos 1))))
+    bumped : (op : BumpOp) → count w + count w ≤ w.registers → does_as (Node at k (Bump op variable)) (set (value_at w x.decl) (spec.compound (bump_operator op) k int_type (Register (value_at w x.decl)) (Constant kind.I32 (pos 1))))
     bumped op room =
-        let rest = λ (y : Value). defined at (compound t (bump_operator op) (Integer old.value) int_type y) >>= λ v. write at there t v >> give (bump_value op (Integer old.value) v) in
-        let tail = λ (y : Value) (s : State). on_outcome (rest y s) (λ _. done) in
-        let one_is : Evaluates w I32 now (Normal (Integer (pos 1)) now) steps regs (length rs) (length rs) (runs w steps n NoStatement regs) (Constant kind.I32 (pos 1)) = HasValue (pos 1) refl refl regs (same_all (length rs) regs) refl (λ later same. refl) in
-        let source : (eval_with (Node at t (Bump op variable)) w.call >> done) now ≡ on_outcome (Normal (Integer (pos 1)) now) tail =
-        ap (λ o. on_outcome (on_outcome o (λ p. read at p t >>= λ x. defined at (compound t (bump_operator op) x int_type (Integer (pos 1))) >>= λ v. write at p t v >> give (bump_value op x v))) (λ _. done)) object_found
-        ∙ ap (λ o. on_outcome (on_outcome o (λ x. defined at (compound t (bump_operator op) x int_type (Integer (pos 1))) >>= λ v. write at there t v >> give (bump_value op x v))) (λ _. done)) (read_found at) in
-        subst (λ r. Follows w (total w) inside loops Next steps out r (runs w steps n (set (register_of w.names x.name) (target.compound (bump_operator op) t int_type (Register (register_of w.names x.name)) (Constant kind.I32 (pos 1)))) regs)) (sym source)
-        (subst (λ j. Follows w (total w) inside loops Next steps out (on_outcome (Normal (Integer (pos 1)) now) tail) (runs w steps n (set j (target.compound (bump_operator op) t int_type (Register j) (Constant kind.I32 (pos 1)))) regs)) (sym seen.register)
-        (follows_store w steps n vars out (total w) (total w) inside loops I32 seen.int (Normal (Integer (pos 1)) now) tail regs (length rs) (length rs) NoStatement (Constant kind.I32 (pos 1)) (target.compound (bump_operator op) t int_type (Register seen.number) (Constant kind.I32 (pos 1))) seen.number
-        one_is h behind
-        (λ z f after same has. stores_compound w steps n vars out t seen.int seen.number int kind_is at (bump_operator op) int_type I32 old.value z (Constant kind.I32 (pos 1)) after (λ v. bump_value op (Integer old.value) v) refl old.fits f (old_there after same) has)
-        (set_there room)))
+        let code = set (value_at w x.decl) (spec.compound (bump_operator op) k int_type (Register (value_at w x.decl)) (Constant kind.I32 (pos 1))) in
+        let source : (eval_with (Node at k (Bump op variable)) w.call >> done) s ≡ on_outcome ((defined at (compound k (bump_operator op) (Integer old.known.value) int_type (Integer (pos 1))) >>= λ i. write at there k i >> give (bump_value op (Integer old.known.value) i)) s) (λ _. done) =
+        ap (λ o. on_outcome (on_outcome o (λ p. read at p k >>= λ x. defined at (compound k (bump_operator op) x int_type (Integer (pos 1))) >>= λ v. write at p k v >> give (bump_value op x v))) (λ _. done)) object_found
+        ∙ ap (λ o. on_outcome (on_outcome o (λ x. defined at (compound k (bump_operator op) x int_type (Integer (pos 1))) >>= λ v. write at there k v >> give (bump_value op x v))) (λ _. done)) read_found in
+        subst (λ r. Follows w h Next s r (runs w n t code regs)) (sym source)
+        (combined room (bump_operator op) int_type I32 (pos 1) (Constant kind.I32 (pos 1)) regs (λ i. bump_value op (Integer old.known.value) i) refl refl (same_all (length rs) regs) refl)
 
-  place_assigned : (at : Place) (t : PlainType) (a b : Expression) → IsPlace scopes t a → IsPure b → WellTyped scopes b → type_of b ≡ t → HasLetters b → length (rs ++ temporaries b) ≤ w.registers → Does (Node at t (Assign None a b))
-  place_assigned at t (Node pa u (Variable x)) b d p q same l enough = assigned at pa t u x d.1 b p q same l enough
-  place_assigned at t _ b d p q same l enough = absurd d
+  place_assigned : (at : Place) (k : PlainType) (a e : Expression) → IsPlace scopes k a → IsPureOrCall e → WellTyped scopes e → type_of e ≡ k → FullHasLetters e → length (rs ++ full_temporaries e) ≤ w.registers → Does (Node at k (Assign None a e))
+  place_assigned at k (Node pa u (Variable x)) e d pure q same l room = assigned at pa u k x d.1 e pure q same l room
+  place_assigned at k _ e d pure q same l room = absurd d
 
-  place_compounded : (at : Place) (t : PlainType) (op : BinOp) (a b : Expression) → IsPlace scopes t a → IsPure b → WellTyped scopes b → IsInteger (type_of b) → HasLetters b → length (rs ++ temporaries b) ≤ w.registers → Does (Node at t (Assign (Some op) a b))
-  place_compounded at t op (Node pa u (Variable x)) b d p q same l enough = compounded at pa t u x d.1 op b p q same l enough
-  place_compounded at t op _ b d p q same l enough = absurd d
+  place_compounded : (at : Place) (k : PlainType) (op : BinOp) (a e : Expression) → IsPlace scopes k a → IsPure e → WellTyped scopes e → IsInteger (type_of e) → HasLetters e → length (rs ++ temporaries e) ≤ w.registers → Does (Node at k (Assign (Some op) a e))
+  place_compounded at k op (Node pa u (Variable x)) e d pure q integer l room = compounded at pa u k x d.1 op e pure q integer l room
+  place_compounded at k op _ e d pure q integer l room = absurd d
 
-  place_bumped : (at : Place) (t : PlainType) (op : BumpOp) (a : Expression) → IsPlace scopes t a → total w ≤ w.registers → Does (Node at t (Bump op a))
-  place_bumped at t op (Node pa u (Variable x)) d room = bumped at pa t u x d.1 op room
-  place_bumped at t op _ d room = absurd d
+  place_bumped : (at : Place) (k : PlainType) (op : BumpOp) (a : Expression) → IsPlace scopes k a → count w + count w ≤ w.registers → Does (Node at k (Bump op a))
+  place_bumped at k op (Node pa u (Variable x)) d room = bumped at pa u k x d.1 op room
+  place_bumped at k op _ d room = absurd d
 
-  -- ---- putchar
-
-  print_runs : (e : MonExpression) (after : List Value) (z : ℤ) → Has e after z → runs w steps n (one (PutChar None e)) after ≡ Done (Next after) (target_at w steps) (byte_of z ∷ [])
-  print_runs e after z has =
-      one_is (PutChar None e) w.calls n after (target_at w steps)
-      ∙ ap (λ q. with_value (bind q integer_of) steps (λ i. Done (Next after) (target_at w steps) (byte_of i ∷ []))) has
-
-  printed : (at : Place) (t : PlainType) (f : Use) (e : Expression) → ((at : Place) (z : ℤ) (s : State) → w.call at f (Integer z ∷ []) s ≡ (print (byte_of z) >> give (Integer (pos (byte_of z)))) s) → type_of e ≡ int_type → IsPure e → WellTyped scopes e → HasLetters e → length (rs ++ temporaries e) ≤ w.registers → Does (Node at t (Call f (Following e NoExpression)))
-  printed at t f e does int p q l enough =
-      let listed = λ (v : Value). evals_with NoExpression w.call >>= λ vs. give (v ∷ vs) in
-      let tail = λ (v : Value) (s : State). on_outcome (on_outcome (listed v s) (λ vs. w.call at f vs)) (λ _. done) in
-      let source : (eval_with (Node at t (Call f (Following e NoExpression))) w.call >> done) now ≡ on_outcome (eval_with e w.call now) tail =
-      ap (λ r. on_outcome r (λ _. done)) (handed_on (eval_with e w.call now) listed (λ vs. w.call at f vs))
-      ∙ handed_on (eval_with e w.call now) (λ v s. on_outcome (listed v s) (λ vs. w.call at f vs)) (λ _. done) in
-      subst (λ r. Follows w (total w) inside loops Next steps out r (runs w steps n (before (setup w.names rs e) (one (PutChar None (value w.names rs e)))) regs)) (sym source)
-      (follows_value w (total w) inside loops Next I32 steps n out vars (eval_with e w.call now) tail regs (length rs) (length (rs ++ temporaries e)) (setup w.names rs e) (one (PutChar None (value w.names rs e))) (value w.names rs e) (followed e I32 int p q l enough) (λ z f2 after same has.
-      GoesOn vars after steps (byte_of z ∷ []) (holds_same w (total w) vars regs after (length rs) behind same h) (omega arith) (ap (λ r. on_outcome r (λ _. done)) (does at z now)) (print_runs (value w.names rs e) after z has)))
-
-  called : (at : Place) (t : PlainType) (f : Use) (es : Expressions) → PutsOne w f es → ArePure es → AreWellTyped scopes es → ArgumentHasLetters es → length (rs ++ target.argument_temporaries es) ≤ w.registers → Does (Node at t (Call f es))
-  called at t f NoExpression c p q l enough = let x = c.is in absurd cc
-  called at t f (Following e NoExpression) c p q l enough =
-      let x = c.is in
-      let same : e ≡ c.argument = cc in
-      printed at t f e c.does (ap type_of same ∙ c.int) p.0 q.0 l enough
-  called at t f (Following e (Following g rest)) c p q l enough = let x = c.is in absurd cc
+  -- a call, whose value nothing takes
+  called_alone : (at : Place) (k : PlainType) (f : Use) (es : Expressions) → ArePure es → AreWellTyped scopes es → Calls scopes f k es → ArgumentsHaveLetters es → length (rs ++ arguments_temporaries es) ≤ w.registers → Does (Node at k (Call f es))
+  called_alone at k f es pure q c l room =
+      subst (λ a. does_as (Node at k (Call f es)) a) (before_none (called p w.numbers rs None f es))
+      (follows_called p w n h scopes scene Next s t ready le rs behind regs m b at k f es None (λ _. done) NoStatement pure q c l room
+      (λ z v to there o after i like same re be la. stays w h after to there re be))
 
   -- ---- all of them
 
   pub effect_follows : (e : Expression) → IsEffectOrCall e → WellTyped scopes e → EffectHasLetters e → length (rs ++ effect_temporaries e) ≤ w.registers → Does e
-  effect_follows (Node at t (Assign None a b)) p q l enough = place_assigned at t a b q.0 p.1 q.1 q.2 l enough
-  effect_follows (Node at t (Assign (Some op) a b)) p q l enough = place_compounded at t op a b q.0 p.1 q.1 q.3 l enough
-  effect_follows (Node at t (Bump op a)) p q l enough = place_bumped at t op a q.0 (omega (arith, behind, enough, longer rs []))
-  effect_follows (Node at t (Call f es)) p q l enough = called at t f es (scene.puts f t es q.1) p q.0 l enough
-  effect_follows e p q l enough = pure_follows e p
+  effect_follows (Node at k (Assign None a e)) pure q l room = place_assigned at k a e q.0 pure.1 q.1 q.2 l room
+  effect_follows (Node at k (Assign (Some op) a e)) pure q l room = place_compounded at k op a e q.0 pure.1 q.1 q.3 l room
+  effect_follows (Node at k (Bump op a)) pure q l room = place_bumped at k op a q.0 (omega (arith, behind, room, longer rs []))
+  effect_follows (Node at k (Call f es)) pure q l room = called_alone at k f es pure q.0 q.1 l room
+  effect_follows e pure q l room = pure_follows e pure
 
--- ---- initialisations, where the first variables have values
+  -- ---- initialisations, and what follows
 
-module _ (w : Setting) (steps n : ℕ) (scopes : Scopes) (count : ℕ) (few : count < total w) (sight : AreInSight w count scopes.objects) (loops : ℕ) (vars : List CVariable) (regs : List Value) (h : Holds w count vars regs) (out : List ℕ) (rs : List MonType) (behind : total w ≤ length rs) where
-  pub initialised : (d : Declaration) (at : Place) (e : Expression) (k : CInt) → d.ctype ≡ Int k → find d.name w.base.scope ≡ Some (suc count) → register_of w.names d.name ≡ count → slice_get w.types count ≡ Some k → type_of e ≡ d.ctype → IsPure e → WellTyped scopes e → HasLetters e → length (rs ++ temporaries e) ≤ w.registers → Follows w (count + 1) false loops Next steps out (initialise d (Some (at, One e)) w.call (source_at w vars steps out)) (runs w steps n (target.initialise w.names rs d.name (Some (at, One e))) regs)
-  initialised d at e k int scope register kind same p q l enough =
-      let s = source_at w vars steps out in
-      let there = Into (suc count) 0 in
-      let tail = λ (v : Value). write at there d.ctype v in
-      let kind_is : slice_get (ints_of vars) count ≡ Some k = ap (λ l. slice_get l count) h.variables ∙ kind in
-      let source : initialise d (Some (at, One e)) w.call s ≡ on_outcome (eval_with e w.call s) tail =
-      ap (λ o. on_outcome o (λ p. eval_with e w.call >>= λ v. write at p d.ctype v)) (object_is vars count k w steps out at d.name scope) in
-      subst (λ r. Follows w (count + 1) false loops Next steps out r (runs w steps n (before (setup w.names rs e) (set (register_of w.names d.name) (value w.names rs e))) regs)) (sym source)
-      (subst (λ j. Follows w (count + 1) false loops Next steps out (on_outcome (eval_with e w.call s) tail) (runs w steps n (before (setup w.names rs e) (set j (value w.names rs e))) regs)) (sym register)
-      (follows_store w steps n vars out count (count + 1) false loops k k (eval_with e w.call s) tail regs (length rs) (length (rs ++ temporaries e)) (setup w.names rs e) (value w.names rs e) (value w.names rs e) count
-      (evaluates w steps n scopes count (omega (arith, few)) sight vars out e k rs (same ∙ int) p q l behind enough regs h) h (omega (arith, few, behind))
-      (λ z f after same2 has. StoresValue z f (ap (λ t. write at there t (Integer z) s) int ∙ write_is vars count k w steps out at z kind_is) has)
-      (λ v f after g. holds_next w count vars after g (omega (arith, behind, enough, longer rs (temporaries e))) count k kind v f refl)))
+  pub initial_follows : (d : Declaration) (at : Place) (e : Expression) (v : Slot) (rest : Evaluation (Unit {0})) (code : MonStatements) → slot_of (number_of d) h.slots ≡ Some v → d.ctype ≡ Int v.int → IsPureOrCall e → WellTyped scopes e → type_of e ≡ d.ctype → FullHasLetters e → length (rs ++ full_temporaries e) ≤ w.registers → ((to : State) (there : Target) (o : List ℕ) (after : List BlockValue) → Related w h.slots after to → Beside w h.slots to there → Later h.slots s to o → IsSet to.store v → Follows w h Next to (rest to) (runs w n there code after)) → Follows w h Next s (on_outcome (initialise d (Some (at, One e)) w.call s) (λ _. rest)) (runs w n t (before (translation.initialise p w.numbers rs (number_of d) (Some (at, One e))) code) regs)
+  initial_follows d at e v rest code found int pure q same l room go =
+      subst (λ r. Follows w h Next s r (runs w n t (before (translation.initialise p w.numbers rs (number_of d) (Some (at, One e))) code) regs)) (sym source)
+      (subst (λ a. Follows w h Next s (on_outcome (eval_with e w.call s) tail) (runs w n t a regs)) (sym (before_assoc (full_setup p w.numbers rs e) sets code))
+      (follows_full p w n h scopes scene Next s t ready le rs behind regs m b e v.int tail (before sets code) (same ∙ int) pure q l room by))
+    where
+      there : Pointer
+      there = Into (suc v.block) 0
+
+      room2 : count w + count w ≤ w.registers
+      room2 = enough_for (full_temporaries e) room
+
+      sets : MonStatements
+      sets = set (value_at w (number_of d)) (full_value w.numbers rs e)
+
+      tail : Value → Evaluation (Unit {0})
+      tail i s = on_outcome (write at there d.ctype i s) (λ _. rest)
+
+      source : on_outcome (initialise d (Some (at, One e)) w.call s) (λ _. rest) ≡ on_outcome (eval_with e w.call s) tail
+      source =
+          ap (λ o. on_outcome (on_outcome o (λ p. eval_with e w.call >>= λ i. write at p d.ctype i)) (λ _. rest)) (object_is w h.slots regs s m (number_of d) v found at)
+          ∙ handed_on (eval_with e w.call s) (λ i. write at there d.ctype i) (λ _. rest)
+
+      by : (z : ℤ) (to : State) (target : Target) (o : List ℕ) (after : List BlockValue) → fits v.int z ≡ true → Same (length rs) regs after → Related w h.slots after to → Beside w h.slots to target → Later h.slots s to o → Has (full_value w.numbers rs e) after z → Follows w h Next to (tail (Integer z) to) (runs w n target (before sets code) after)
+      by z to target o after f same2 re be la has =
+          let later = later_set w h.slots after to re room2 (number_of d) v found z f in
+          subst (λ r. Follows w h Next to (on_outcome r (λ _. rest)) (runs w n target (before sets code) after)) (sym (ap (λ i. write at there i (Integer z) to) int ∙ write_is w h.slots after to re (number_of d) v found at z))
+          (subst (λ d2. Follows w h Next to (rest (state_with w h.slots after to re room2 (number_of d) v found z f)) d2) (sym (behind_setup w n target sets code after (slice_set after (value_at w (number_of d)) (Whole z)) (set_runs w n target (value_at w (number_of d)) (full_value w.numbers rs e) after z has) ∙ sym (writes_none (runs w n target code (slice_set after (value_at w (number_of d)) (Whole z))))))
+          (onward w h Next to (state_with w h.slots after to re room2 (number_of d) v found z f) [] (rest (state_with w h.slots after to re room2 (number_of d) v found z f)) (runs w n target code (slice_set after (value_at w (number_of d)) (Whole z))) later
+          (go (state_with w h.slots after to re room2 (number_of d) v found z f) target (o ++ []) (slice_set after (value_at w (number_of d)) (Whole z))
+          (related_set w h.slots after to re room2 (number_of d) v found z f)
+          (beside_set w h.slots after to re room2 (number_of d) v found z f h.slots target be)
+          (later_trans h.slots s to (state_with w h.slots after to re room2 (number_of d) v found z f) o [] la later)
+          (is_set w h.slots after to re room2 (number_of d) v found z f))))

@@ -1,14 +1,14 @@
 -- Loops, turn by turn: the condition in front, the step, the body, and what stands behind it.
-use Rattle.std.proofs.Common.{◌≡◌, ℕ, zero, suc, ◌≤◌, ℤ, pos, Bool, true, false, cond, List, [], ◌++◌, length, Some, refl, sym, ap, ◌∙◌, subst, arith}
+use Rattle.std.proofs.Common.{◌≡◌, ℕ, zero, suc, ◌+◌, ◌≤◌, ℤ, pos, Bool, true, false, cond, List, [], ◌++◌, length, option_map, refl, sym, ap, ◌∙◌, subst, arith}
 use Rattle.std.proofs.lemmas.List.{append-nil}
 use Rattle.std.proofs.lemmas.Slice.Eq.{bytes_eq-Decides}
 use Rattle.std.specs.Ordering.{int_eq}
 use Rattle.std.specs.Prelude.{bytes_eq}
 use Rattle.c_syntax.specs.declared.types.CInt.{CInt}
-use Rattle.c_syntax.specs.Ctypes.{Int}
+use Rattle.c_syntax.specs.Ctypes.{PlainType, Int}
 use Rattle.c_syntax.specs.Expressions.{Expression, type_of}
 use Rattle.c_model.specs.Memory.{Value, Integer}
-use Rattle.c_model.specs.State.{State, Spent, Outcome, Normal, Evaluation, on_outcome, ◌>>=◌, ◌>>◌, give, done, step}
+use Rattle.c_model.specs.State.{State, Spent, Outcome, Normal, Evaluation, on_outcome, ◌>>=◌, ◌>>◌, give, done, step, step_from}
 use Rattle.c_model.specs.Meaning.{eval_with, after_body}
 use Rattle.c_model.specs.Meaning as source
 use Rattle.c_model.specs.Typing.{Scopes}
@@ -18,15 +18,17 @@ use Rattle.c_model.proofs.Agreement.{extends_trans}
 use Rattle.mon_syntax.specs.declared.tree.MonType.{MonType}
 use Rattle.mon_syntax.specs.Meaning.{Result, Done, Stops, Flow, Next, Goes, Returns, writes, then_do, at_next, at_label, choose}
 use Rattle.mon_syntax.specs.Meaning as monitored
-use Rattle.mon_syntax.specs.Memories.{Blocks, over_blocks}
+use Rattle.mon_syntax.specs.Memories.{BlockValue, Whole, over_blocks}
 use Rattle.mon_syntax.specs.Trees.{Goto, Labelled, Loop, MonStatements, NoStatement, Then}
 use Rattle.instrument.specs.Limits.{HasLetters}
-use Rattle.instrument.specs.Translation.{value, temporaries, setup, condition_of, one, end_label, next_label, leave_where_zero, test, loop}
-use Rattle.instrument.proofs.Variables.{Variable, Setting, total, source_at, target_at, AreInSight, Holds, same_all, holds_same}
+use Rattle.instrument.specs.Expressions.{value, temporaries, setup, condition_of, one}
+use Rattle.instrument.specs.Translation.{end_label, next_label, leave_where_zero, test, loop}
+use Rattle.instrument.proofs.Variables.{Slot, Setting, count, Related, Beside, same_all, related_same, kept_refl}
 use Rattle.instrument.proofs.Results.{written, writes_none, written_then, one_is, rest_first}
-use Rattle.instrument.proofs.Evaluating.{Did, Evaluates, HasValue, HasNone, runs, behind_setup, if_runs}
+use Rattle.instrument.proofs.Evaluating.{Target, Did, Evaluates, HasValue, HasNone, runs, behind_setup, if_runs}
+use Rattle.instrument.proofs.Sight.{AreInSight, Meets, meets_later}
 use Rattle.instrument.proofs.Expressions.{evaluates, test_is}
-use Rattle.instrument.proofs.Following.{Follows, GoesOn, Breaks, Continues, IsLeft, IsOver, IsUndefined, onward, later, undefined_here, follows_choice, follows_then, anywhere}
+use Rattle.instrument.proofs.Following.{Here, Later, later_same, Follows, GoesOn, Breaks, Continues, IsLeft, IsOver, IsUndefined, onward, undefined_here, follows_choice, follows_then, standing, anywhere}
 
 -- a label catches its own jump
 same_label : (l : List ℕ) → bytes_eq l l ≡ true
@@ -41,163 +43,220 @@ then_choice z p q go = by (int_eq z (pos 0))
     by true = refl
     by false = refl
 
-module _ (w : Setting) (loops : ℕ) where
-  -- the turns of the loop, which end by a jump to its label
-  abbrev pub Turns : ℕ → List ℕ → Outcome (Unit {0}) → Did → Type 0
-  Turns steps out r q = Follows w (total w) false loops (Goes (end_label loops)) steps out r q
+-- ---- a step
+
+abbrev pub stepped : State → ℕ → State
+stepped s k = record s { steps = k }
+
+abbrev pub target_stepped : Target → ℕ → Target
+target_stepped t k = record t { steps = k }
+
+meets_stepped : (w : Setting) (slots : List Slot) (scopes : Scopes) (regs : List BlockValue) (s : State) (t : Target) (k : ℕ) → Meets w slots scopes.objects regs s t → Meets w slots scopes.objects regs (stepped s k) (target_stepped t k)
+meets_stepped w slots scopes regs s t k m = record {
+  related = record { scope = r.scope; calls = r.calls; live = r.live; outside = r.outside; stacked = r.stacked; apart = r.apart; all = r.all; registers = r.registers };
+  beside = record { long = b.long; live = b.live; frames = b.frames; steps = refl; input = b.input };
+  ready = m.ready;
+}
+  where
+    r : Related w slots regs s
+    r = m.related
+
+    b : Beside w slots s t
+    b = m.beside
+
+later_stepped : (slots : List Slot) (s to : State) (k : ℕ) (o : List ℕ) → s.steps ≡ suc k → Later slots (stepped s k) to o → Later slots s to o
+later_stepped slots s to k o e l = record { spent = omega (arith, e, l.spent); output = l.output; longer = l.longer; kept = l.kept }
+
+from_stepped : (w : Setting) (h : Here) (on : List BlockValue → Flow BlockValue) (s : State) (k : ℕ) (r : Outcome (Unit {0})) (q : Did) → s.steps ≡ suc k → Follows w h on (stepped s k) r q → Follows w h on s r q
+from_stepped w h on s k r q x (GoesOn to regs t o m b l e f) = GoesOn to regs t o m b (later_stepped h.slots s to k o x l) e f
+from_stepped w h on s k r q x (Breaks to regs t o i m b l e f) = Breaks to regs t o i m b (later_stepped h.slots s to k o x l) e f
+from_stepped w h on s k r q x (Continues to regs t o i m b l e f) = Continues to regs t o i m b (later_stepped h.slots s to k o x l) e f
+from_stepped w h on s k r q x (IsLeft v to regs t o i m b l e f) = IsLeft v to regs t o i m b (later_stepped h.slots s to k o x l) e f
+from_stepped w h on s k r q x (IsOver y to o d e l f) = IsOver y to o d e l f
+from_stepped w h on s k r q x (IsUndefined at to o e l ext) = IsUndefined at to o e l ext
+
+module _ (w : Setting) (slots : List Slot) (result : PlainType) (loops : ℕ) where
+  -- the body of the loop, and its turns, which end by a jump to its label
+  abbrev pub in_body : Here
+  in_body = record { slots = slots; around = slots; looped = true; loops = loops; result = result }
+
+  abbrev pub in_turn : Here
+  in_turn = record { slots = slots; around = slots; looped = false; loops = loops; result = result }
+
+  abbrev pub Turns : State → Outcome (Unit {0}) → Did → Type 0
+  Turns from r q = Follows w in_turn (Goes (end_label loops)) from r q
 
   abbrev pub Go : Type 0
-  Go = List Value → monitored.State Blocks → Did
+  Go = List BlockValue → Target → Did
 
   -- ---- the body, behind which a `continue` goes on
 
-  body_on : (regs : List Value) (t : monitored.State Blocks) (o : List ℕ) (g : Go) → then_do (then_do (Done (Next regs) t o) (at_label (next_label loops))) (at_next g) ≡ writes o (g regs t)
+  body_on : (regs : List BlockValue) (t : Target) (o : List ℕ) (g : Go) → then_do (then_do (Done (Next regs) t o) (at_label (next_label loops))) (at_next g) ≡ writes o (g regs t)
   body_on regs t o g = ap (λ o. writes o (g regs t)) (append-nil o)
 
-  body_continues : (regs : List Value) (t : monitored.State Blocks) (o : List ℕ) (g : Go) → then_do (then_do (Done (Goes (next_label loops) regs) t o) (at_label (next_label loops))) (at_next g) ≡ writes o (g regs t)
+  body_continues : (regs : List BlockValue) (t : Target) (o : List ℕ) (g : Go) → then_do (then_do (Done (Goes (next_label loops) regs) t o) (at_label (next_label loops))) (at_next g) ≡ writes o (g regs t)
   body_continues regs t o g =
       ap (λ b. then_do (writes o (cond b (Done (Next regs) t []) (Done (Goes (next_label loops) regs) t []))) (at_next g)) (same_label (next_label loops))
       ∙ body_on regs t o g
 
-  body_breaks : (regs : List Value) (t : monitored.State Blocks) (o : List ℕ) (g : Go) → then_do (then_do (Done (Goes (end_label loops) regs) t o) (at_label (next_label loops))) (at_next g) ≡ Done (Goes (end_label loops) regs) t o
+  body_breaks : (regs : List BlockValue) (t : Target) (o : List ℕ) (g : Go) → then_do (then_do (Done (Goes (end_label loops) regs) t o) (at_label (next_label loops))) (at_next g) ≡ Done (Goes (end_label loops) regs) t o
   body_breaks regs t o g = ap (Done (Goes (end_label loops) regs) t) (append-nil (o ++ []) ∙ append-nil o)
 
   -- a loop's body, and then what comes behind it
-  follows_body : (steps : ℕ) (out : List ℕ) (r : Outcome (Unit {0})) (q : Did) (again : Evaluation (Unit {0})) (g : Go) → Follows w (total w) true loops Next steps out r q → ((vars : List Variable) (regs : List Value) (left : ℕ) (o : List ℕ) → Holds w (total w) vars regs → left ≤ steps → Turns left o (again (source_at w vars left o)) (g regs (target_at w left))) → Turns steps out (after_body r again) (then_do (then_do q (at_label (next_label loops))) (at_next g))
-  follows_body steps out r q again g (GoesOn vars regs left o h le e e') k =
-      subst (λ r. Turns steps out (after_body r again) (then_do (then_do q (at_label (next_label loops))) (at_next g))) (sym e)
-      (subst (λ q. Turns steps out (again (source_at w vars left (out ++ o))) q) (sym (ap (λ q. then_do (then_do q (at_label (next_label loops))) (at_next g)) e' ∙ body_on regs (target_at w left) o g))
-      (onward w (total w) false loops (Goes (end_label loops)) steps left out o _ _ le (k vars regs left (out ++ o) h le)))
-  follows_body steps out r q again g (Continues vars regs left o i h le e e') k =
-      subst (λ r. Turns steps out (after_body r again) (then_do (then_do q (at_label (next_label loops))) (at_next g))) (sym e)
-      (subst (λ q. Turns steps out (again (source_at w vars left (out ++ o))) q) (sym (ap (λ q. then_do (then_do q (at_label (next_label loops))) (at_next g)) e' ∙ body_continues regs (target_at w left) o g))
-      (onward w (total w) false loops (Goes (end_label loops)) steps left out o _ _ le (k vars regs left (out ++ o) h le)))
-  follows_body steps out r q again g (Breaks vars regs left o i h le e e') k =
-      GoesOn vars regs left o h le (ap (λ r. after_body r again) e) (ap (λ q. then_do (then_do q (at_label (next_label loops))) (at_next g)) e' ∙ body_breaks regs (target_at w left) o g)
-  follows_body steps out r q again g (IsLeft z t o e x e') k =
-      IsLeft z t o (ap (λ r. after_body r again) e) x (ap (λ q. then_do (then_do q (at_label (next_label loops))) (at_next g)) e' ∙ ap (Done (Returns (Some (Integer z))) (target_at w t.steps)) (append-nil (o ++ []) ∙ append-nil o))
-  follows_body steps out r q again g (IsOver y t o d e x e') k =
-      IsOver y t o d (ap (λ r. after_body r again) e) x (ap (λ q. then_do (then_do q (at_label (next_label loops))) (at_next g)) e')
-  follows_body steps out r q again g (IsUndefined at t o e x ext) k =
+  follows_body : (from : State) (r : Outcome (Unit {0})) (q : Did) (again : Evaluation (Unit {0})) (g : Go) → Follows w in_body Next from r q → ((s : State) (regs : List BlockValue) (t : Target) (o : List ℕ) → Related w slots regs s → Beside w slots s t → Later slots from s o → Turns s (again s) (g regs t)) → Turns from (after_body r again) (then_do (then_do q (at_label (next_label loops))) (at_next g))
+  follows_body from r q again g (GoesOn s regs t o m b l e e') k =
+      subst (λ r. Turns from (after_body r again) (then_do (then_do q (at_label (next_label loops))) (at_next g))) (sym e)
+      (subst (λ q. Turns from (again s) q) (sym (ap (λ q. then_do (then_do q (at_label (next_label loops))) (at_next g)) e' ∙ body_on regs t o g))
+      (onward w in_turn (Goes (end_label loops)) from s o _ _ l (k s regs t o m b l)))
+  follows_body from r q again g (Continues s regs t o i m b l e e') k =
+      subst (λ r. Turns from (after_body r again) (then_do (then_do q (at_label (next_label loops))) (at_next g))) (sym e)
+      (subst (λ q. Turns from (again s) q) (sym (ap (λ q. then_do (then_do q (at_label (next_label loops))) (at_next g)) e' ∙ body_continues regs t o g))
+      (onward w in_turn (Goes (end_label loops)) from s o _ _ l (k s regs t o m b l)))
+  follows_body from r q again g (Breaks s regs t o i m b l e e') k =
+      GoesOn s regs t o m b l (ap (λ r. after_body r again) e) (ap (λ q. then_do (then_do q (at_label (next_label loops))) (at_next g)) e' ∙ body_breaks regs t o g)
+  follows_body from r q again g (IsLeft v s regs t o i m b l e e') k =
+      IsLeft v s regs t o i m b l (ap (λ r. after_body r again) e) (ap (λ q. then_do (then_do q (at_label (next_label loops))) (at_next g)) e' ∙ ap (Done (Returns (option_map Whole v)) t) (append-nil (o ++ []) ∙ append-nil o))
+  follows_body from r q again g (IsOver y s o d e l e') k =
+      IsOver y s o d (ap (λ r. after_body r again) e) l (ap (λ q. then_do (then_do q (at_label (next_label loops))) (at_next g)) e')
+  follows_body from r q again g (IsUndefined at s o e l ext) k =
       let labelled = then_do q (at_label (next_label loops)) in
-      IsUndefined at t o (ap (λ r. after_body r again) e) x (extends_trans o (written labelled) _ (extends_trans o (written q) _ ext (written_then q (at_label (next_label loops)))) (written_then labelled (at_next g)))
-
-  -- ---- conditions
-
-  -- a condition of the source and the target's statements for it, which leave the loop where it is 0
-  pub record Tests (n : ℕ) (condition : Evaluation Value) (front : MonStatements) : Type 0 where
-    pub goes : (vars : List Variable) (regs : List Value) (steps : ℕ) (out : List ℕ) → Holds w (total w) vars regs → (turn : Evaluation (Unit {0})) (go : Go) → ((after : List Value) → Holds w (total w) vars after → Turns steps out (turn (source_at w vars steps out)) (go after (target_at w steps))) → Turns steps out (on_outcome (condition (source_at w vars steps out)) (λ v. source.choose v turn done)) (then_do (runs w steps n front regs) (at_next go))
-
-  -- a condition that is left out is true
-  pub no_test : (n : ℕ) → Tests n (give (Integer (pos 1))) NoStatement
-  no_test n = record {
-    goes = λ vars regs steps out h turn go k.
-        subst (λ q. Turns steps out (turn (source_at w vars steps out)) q) (sym (writes_none (go regs (target_at w steps)))) (k regs h);
-  }
-
-  module _ (n : ℕ) (scopes : Scopes) (sight : AreInSight w (total w) scopes.objects) (e : Expression) (rs : List MonType) (k : CInt) (int : type_of e ≡ Int k) (p : IsPure e) (q : WellTyped scopes e) (l : HasLetters e) (behind : total w ≤ length rs) (enough : length (rs ++ temporaries e) ≤ w.registers) where
-    module _ (vars : List Variable) (regs : List Value) (steps : ℕ) (out : List ℕ) (h : Holds w (total w) vars regs) (turn : Evaluation (Unit {0})) (go : Go) (goes : (after : List Value) → Holds w (total w) vars after → Turns steps out (turn (source_at w vars steps out)) (go after (target_at w steps))) where
-      abbrev now : State
-      now = source_at w vars steps out
-
-      abbrev Tested : Outcome Value → Did → Type 0
-      Tested r d = Turns steps out (on_outcome r (λ v. source.choose v turn done)) (then_do d (at_next go))
-
-      -- the jump, where the condition is 0
-      jump_follows : (z : ℤ) (after : List Value) → Holds w (total w) vars after → (i : ℤ) → int_eq i (pos 0) ≡ int_eq z (pos 0) → Turns steps out (source.choose (Integer z) turn done now) (then_do (choose i (runs w steps n NoStatement after) (runs w steps n (one (Goto (end_label loops))) after)) (at_next go))
-      jump_follows z after g i same =
-          subst (λ q. Turns steps out (source.choose (Integer z) turn done now) q) (sym (then_choice i (runs w steps n NoStatement after) (runs w steps n (one (Goto (end_label loops))) after) (at_next go)))
-          (follows_choice w (total w) false loops (Goes (end_label loops)) steps out now z i turn done _ _ same
-          (subst (λ q. Turns steps out (turn now) q) (sym (writes_none (go after (target_at w steps)))) (goes after g))
-          (GoesOn vars after steps [] g (omega arith) (ap (λ o. Normal tt (source_at w vars steps o)) (sym (append-nil out))) refl))
-
-      tested : (r : Outcome Value) → Evaluates w k now r steps regs (length rs) (length (rs ++ temporaries e)) (runs w steps n (setup w.names rs e) regs) (value w.names rs e) → Tested r (runs w steps n (test w.names rs loops e) regs)
-      tested r (HasNone at x) =
-          undefined_here w (total w) false loops (Goes (end_label loops)) steps out (on_outcome r (λ v. source.choose v turn done)) (then_do (runs w steps n (test w.names rs loops e) regs) (at_next go)) at now (ap (λ r. on_outcome r (λ v. source.choose v turn done)) x) refl
-      tested r (HasValue z f x after same run has) =
-          let t = test_is (type_of e) k (value w.names rs e) after z int f (has after (same_all (length (rs ++ temporaries e)) after)) in
-          let target : runs w steps n (test w.names rs loops e) regs ≡ choose t.0 (runs w steps n NoStatement after) (runs w steps n (one (Goto (end_label loops))) after) =
-          behind_setup w steps n (setup w.names rs e) (leave_where_zero loops (condition_of w.names rs e)) regs after run
-          ∙ if_runs w steps n (condition_of w.names rs e) NoStatement (one (Goto (end_label loops))) after t.0 t.1 in
-          subst (λ r. Tested r (runs w steps n (test w.names rs loops e) regs)) (sym x)
-          (subst (λ d. Tested (Normal (Integer z) now) d) (sym target)
-          (jump_follows z after (holds_same w (total w) vars regs after (length rs) behind same h) t.0 t.2))
-
-    pub tests : Tests n (eval_with e w.call) (test w.names rs loops e)
-    tests = record {
-      goes = λ vars regs steps out h turn go k2.
-          tested vars regs steps out h turn go k2 (eval_with e w.call (source_at w vars steps out)) (evaluates w steps n scopes (total w) (omega arith) sight vars out e k rs int p q l behind enough regs h);
-    }
-
-  -- ---- turns
-
-  module _ (n : ℕ) (condition : Evaluation Value) (body : Evaluation (Unit {0})) (a : MonStatements) (body_follows : (vars : List Variable) (regs : List Value) (steps : ℕ) (out : List ℕ) → Holds w (total w) vars regs → steps ≤ n → Follows w (total w) true loops Next steps out (body (source_at w vars steps out)) (runs w steps n a regs)) where
-    abbrev labelled : MonStatements → monitored.Does over_blocks
-    labelled b = monitored.exec_all over_blocks (Then (Labelled a (next_label loops)) b) w.calls n
-
-    spent : (vars : List Variable) (out : List ℕ) (f : Evaluation (Unit {0})) → Turns 0 out ((step >> f) (source_at w vars 0 out)) (Stops Spent 0 [])
-    spent vars out f = IsOver Spent (source_at w vars 0 out) [] (λ h. absurd cc) refl (sym (append-nil out)) refl
-
-    -- the body, what stands behind it, and the other turns
-    round_follows : (b : MonStatements) (again : Evaluation (Unit {0})) (others : Go) (vars : List Variable) (regs : List Value) (steps : ℕ) (out : List ℕ) → Holds w (total w) vars regs → steps ≤ n → ((vars : List Variable) (regs : List Value) (left : ℕ) (o : List ℕ) → Holds w (total w) vars regs → left ≤ steps → Turns left o (again (source_at w vars left o)) (then_do (runs w left n b regs) (at_next others))) → Turns (suc steps) out ((step >> λ s. after_body (body s) again) (source_at w vars (suc steps) out)) (then_do (labelled b regs (target_at w steps)) (at_next others))
-    round_follows b again others vars regs steps out h le k =
-        subst (λ q. Turns (suc steps) out (after_body (body (source_at w vars steps out)) again) q)
-        (rest_first (then_do (runs w steps n a regs) (at_label (next_label loops))) (λ r t. then_do (monitored.exec_all over_blocks b w.calls n r t) (at_next others)) (monitored.exec_all over_blocks b w.calls n) others (λ r t. refl))
-        (later w (total w) false loops (Goes (end_label loops)) (suc steps) steps out _ _ (omega arith)
-        (follows_body steps out (body (source_at w vars steps out)) (runs w steps n a regs) again (λ r t. then_do (monitored.exec_all over_blocks b w.calls n r t) (at_next others)) (body_follows vars regs steps out h le) k))
-
-    -- `while` and `for`
-    module _ (front : MonStatements) (front_tests : Tests n condition front) (behind : Evaluation (Unit {0})) (b : MonStatements) (behind_follows : (vars : List Variable) (regs : List Value) (steps : ℕ) (out : List ℕ) → Holds w (total w) vars regs → steps ≤ n → Follows w (total w) false loops Next steps out (behind (source_at w vars steps out)) (runs w steps n b regs)) where
-      abbrev turn : ℕ → Evaluation (Unit {0})
-      turn j = step >> λ s. after_body (body s) (behind >> source.turns j condition body behind)
-
-      abbrev others : ℕ → Go
-      others j = monitored.turns over_blocks j (monitored.exec_all over_blocks front w.calls n) (labelled b)
-
-      pub turns_follow : (j : ℕ) (vars : List Variable) (regs : List Value) (steps : ℕ) (out : List ℕ) → Holds w (total w) vars regs → steps ≤ j → steps ≤ n → Turns steps out (source.turns (suc j) condition body behind (source_at w vars steps out)) (others j regs (target_at w steps))
-      turns_follow zero vars regs zero out h le ln = front_tests.goes vars regs 0 out h (turn 0) (λ r t. Stops Spent 0 []) (λ after g. spent vars out (λ s. after_body (body s) (behind >> source.turns 0 condition body behind)))
-      turns_follow zero vars regs (suc steps) out h le ln = absurd (omega arith)
-      turns_follow (suc j) vars regs zero out h le ln = front_tests.goes vars regs 0 out h (turn (suc j)) _ (λ after g. spent vars out (λ s. after_body (body s) (behind >> source.turns (suc j) condition body behind)))
-      turns_follow (suc j) vars regs (suc steps) out h le ln =
-          front_tests.goes vars regs (suc steps) out h (turn (suc j)) _ (λ after g.
-          round_follows b (behind >> source.turns (suc j) condition body behind) (others j) vars after steps out g (omega arith) (λ v r left o g2 l.
-          follows_then w (total w) (total w) false loops (Goes (end_label loops)) left o _ _ (source.turns (suc j) condition body behind) (others j) (behind_follows v r left o g2 (omega arith)) (λ v2 r2 left2 o2 g3 l2.
-          turns_follow j v2 r2 left2 o2 g3 (omega arith) (omega arith))))
-
-    -- `do`
-    module _ (b : MonStatements) (b_tests : Tests n condition b) where
-      abbrev do_others : ℕ → Go
-      do_others j = monitored.turns over_blocks j (monitored.exec_all over_blocks NoStatement w.calls n) (labelled b)
-
-      pub do_turns_follow : (j : ℕ) (vars : List Variable) (regs : List Value) (steps : ℕ) (out : List ℕ) → Holds w (total w) vars regs → steps ≤ j → steps ≤ n → Turns steps out (source.do_turns (suc j) condition body (source_at w vars steps out)) (do_others j regs (target_at w steps))
-      do_turns_follow zero vars regs zero out h le ln = spent vars out (λ s. after_body (body s) (condition >>= λ v. source.choose v (source.do_turns 0 condition body) done))
-      do_turns_follow zero vars regs (suc steps) out h le ln = absurd (omega arith)
-      do_turns_follow (suc j) vars regs zero out h le ln = spent vars out (λ s. after_body (body s) (condition >>= λ v. source.choose v (source.do_turns (suc j) condition body) done))
-      do_turns_follow (suc j) vars regs (suc steps) out h le ln =
-          subst (λ q. Turns (suc steps) out (source.do_turns (suc (suc j)) condition body (source_at w vars (suc steps) out)) q) (sym (writes_none (then_do (labelled b regs (target_at w steps)) (at_next (do_others j)))))
-          (round_follows b (condition >>= λ v. source.choose v (source.do_turns (suc j) condition body) done) (do_others j) vars regs steps out h (omega arith) (λ v r left o g2 l.
-          b_tests.goes v r left o g2 (source.do_turns (suc j) condition body) (do_others j) (λ after g3.
-          do_turns_follow j v after left o g3 (omega arith) (omega arith))))
+      IsUndefined at s o (ap (λ r. after_body r again) e) l (extends_trans o (written labelled) _ (extends_trans o (written q) _ ext (written_then q (at_label (next_label loops)))) (written_then labelled (at_next g)))
 
   -- ---- the label behind the loop catches the jump
 
-  caught : (regs : List Value) (t : monitored.State Blocks) (o : List ℕ) → then_do (Done (Goes (end_label loops) regs) t o) (at_label (end_label loops)) ≡ Done (Next regs) t o
+  caught : (regs : List BlockValue) (t : Target) (o : List ℕ) → then_do (Done (Goes (end_label loops) regs) t o) (at_label (end_label loops)) ≡ Done (Next regs) t o
   caught regs t o =
       ap (λ b. writes o (cond b (Done (Next regs) t []) (Done (Goes (end_label loops) regs) t []))) (same_label (end_label loops))
       ∙ ap (Done (Next regs) t) (append-nil o)
 
-  follows_label : (steps : ℕ) (out : List ℕ) (r : Outcome (Unit {0})) (q : Did) → Turns steps out r q → Follows w (total w) false loops Next steps out r (then_do q (at_label (end_label loops)))
-  follows_label steps out r q (GoesOn vars regs left o h le e e') = GoesOn vars regs left o h le e (ap (λ q. then_do q (at_label (end_label loops))) e' ∙ caught regs (target_at w left) o)
-  follows_label steps out r q (Breaks vars regs left o i h le e e') = absurd cc
-  follows_label steps out r q (Continues vars regs left o i h le e e') = absurd cc
-  follows_label steps out r q (IsLeft z t o e x e') =
-      IsLeft z t o e x (ap (λ q. then_do q (at_label (end_label loops))) e' ∙ ap (Done (Returns (Some (Integer z))) (target_at w t.steps)) (append-nil o))
-  follows_label steps out r q (IsOver y t o d e x e') = IsOver y t o d e x (ap (λ q. then_do q (at_label (end_label loops))) e')
-  follows_label steps out r q (IsUndefined at t o e x ext) = IsUndefined at t o e x (extends_trans o (written q) _ ext (written_then q (at_label (end_label loops))))
+  follows_label : (from : State) (r : Outcome (Unit {0})) (q : Did) → Turns from r q → Follows w in_turn Next from r (then_do q (at_label (end_label loops)))
+  follows_label from r q (GoesOn s regs t o m b l e e') = GoesOn s regs t o m b l e (ap (λ q. then_do q (at_label (end_label loops))) e' ∙ caught regs t o)
+  follows_label from r q (Breaks s regs t o i m b l e e') = absurd cc
+  follows_label from r q (Continues s regs t o i m b l e e') = absurd cc
+  follows_label from r q (IsLeft v s regs t o i m b l e e') =
+      IsLeft v s regs t o i m b l e (ap (λ q. then_do q (at_label (end_label loops))) e' ∙ ap (Done (Returns (option_map Whole v)) t) (append-nil o))
+  follows_label from r q (IsOver y s o d e l e') = IsOver y s o d e l (ap (λ q. then_do q (at_label (end_label loops))) e')
+  follows_label from r q (IsUndefined at s o e l ext) = IsUndefined at s o e l (extends_trans o (written q) _ ext (written_then q (at_label (end_label loops))))
 
   -- a whole loop, from its turns
-  pub loop_follows : (n : ℕ) (inside : Bool) (around : ℕ) (steps : ℕ) (out : List ℕ) (r : Outcome (Unit {0})) (regs : List Value) (front a b : MonStatements) → Turns steps out r (monitored.turns over_blocks n (monitored.exec_all over_blocks front w.calls n) (monitored.exec_all over_blocks (Then (Labelled a (next_label loops)) b) w.calls n) regs (target_at w steps)) → Follows w (total w) inside around Next steps out r (runs w steps n (one (loop loops front a b)) regs)
-  loop_follows n inside around steps out r regs front a b h =
+  pub loop_follows : (n : ℕ) (around : List Slot) (looped : Bool) (outer : ℕ) (from : State) (r : Outcome (Unit {0})) (regs : List BlockValue) (t : Target) (front a b : MonStatements) → Turns from r (monitored.turns over_blocks n (monitored.exec_all over_blocks front w.calls n) (monitored.exec_all over_blocks (Then (Labelled a (next_label loops)) b) w.calls n) regs t) → Follows w (standing in_turn around looped outer) Next from r (runs w n t (one (loop loops front a b)) regs)
+  loop_follows n around looped outer from r regs t front a b h =
       let round = Loop front (Then (Labelled a (next_label loops)) b) in
-      subst (λ q. Follows w (total w) inside around Next steps out r q) (sym (one_is (loop loops front a b) w.calls n regs (target_at w steps) ∙ ap (λ q. then_do q (at_label (end_label loops))) (one_is round w.calls n regs (target_at w steps))))
-      (anywhere w (total w) inside loops around Next steps out r _ (follows_label steps out r _ h))
+      subst (λ q. Follows w (standing in_turn around looped outer) Next from r q) (sym (one_is (loop loops front a b) w.calls n regs t ∙ ap (λ q. then_do q (at_label (end_label loops))) (one_is round w.calls n regs t)))
+      (anywhere w in_turn around looped outer Next from r _ (follows_label from r _ h))
+
+  module _ (n : ℕ) (scopes : Scopes) where
+    abbrev pub Meet : List BlockValue → State → Target → Type 0
+    Meet regs s t = Meets w slots scopes.objects regs s t
+
+    -- ---- conditions
+
+    -- a condition of the source and the target's statements for it, which leave the loop where it is 0
+    pub record Tests (condition : Evaluation Value) (front : MonStatements) : Type 0 where
+      pub goes : (regs : List BlockValue) (s : State) (t : Target) → Meet regs s t → (turn : Evaluation (Unit {0})) (go : Go) → ((after : List BlockValue) → Meet after s t → Turns s (turn s) (go after t)) → Turns s (on_outcome (condition s) (λ v. source.choose v turn done)) (then_do (runs w n t front regs) (at_next go))
+
+    -- a condition that is left out is true
+    pub no_test : Tests (give (Integer (pos 1))) NoStatement
+    no_test = record {
+      goes = λ regs s t m turn go k. subst (λ q. Turns s (turn s) q) (sym (writes_none (go regs t))) (k regs m);
+    }
+
+    module _ (sight : AreInSight slots scopes.objects) (e : Expression) (rs : List MonType) (k : CInt) (int : type_of e ≡ Int k) (p : IsPure e) (q : WellTyped scopes e) (l : HasLetters e) (behind : count w + count w ≤ length rs) (enough : length (rs ++ temporaries e) ≤ w.registers) where
+      module _ (regs : List BlockValue) (s : State) (t : Target) (m : Meet regs s t) (turn : Evaluation (Unit {0})) (go : Go) (goes : (after : List BlockValue) → Meet after s t → Turns s (turn s) (go after t)) where
+        abbrev Tested : Outcome Value → Did → Type 0
+        Tested r d = Turns s (on_outcome r (λ v. source.choose v turn done)) (then_do d (at_next go))
+
+        -- the jump, where the condition is 0
+        jump_follows : (z : ℤ) (after : List BlockValue) → Meet after s t → (i : ℤ) → int_eq i (pos 0) ≡ int_eq z (pos 0) → Turns s (source.choose (Integer z) turn done s) (then_do (choose i (runs w n t NoStatement after) (runs w n t (one (Goto (end_label loops))) after)) (at_next go))
+        jump_follows z after g i same =
+            subst (λ q. Turns s (source.choose (Integer z) turn done s) q) (sym (then_choice i (runs w n t NoStatement after) (runs w n t (one (Goto (end_label loops))) after) (at_next go)))
+            (follows_choice w in_turn (Goes (end_label loops)) s s z i turn done _ _ same
+            (subst (λ q. Turns s (turn s) q) (sym (writes_none (go after t))) (goes after g))
+            (GoesOn s after t [] g.related g.beside (later_same slots s) refl refl))
+
+        tested : (r : Outcome Value) → Evaluates k s t r regs (length rs) (length (rs ++ temporaries e)) (runs w n t (setup w.numbers rs e) regs) (value w.numbers rs e) → Tested r (runs w n t (test w.numbers rs loops e) regs)
+        tested r (HasNone at x) =
+            undefined_here w in_turn (Goes (end_label loops)) s (on_outcome r (λ v. source.choose v turn done)) (then_do (runs w n t (test w.numbers rs loops e) regs) (at_next go)) at (ap (λ r. on_outcome r (λ v. source.choose v turn done)) x)
+        tested r (HasValue z f x after same run has) =
+            let c = test_is (type_of e) k (value w.numbers rs e) after z int f (has after (same_all (length (rs ++ temporaries e)) after)) in
+            let target : runs w n t (test w.numbers rs loops e) regs ≡ choose c.0 (runs w n t NoStatement after) (runs w n t (one (Goto (end_label loops))) after) =
+            behind_setup w n t (setup w.numbers rs e) (leave_where_zero loops (condition_of w.numbers rs e)) regs after run
+            ∙ if_runs w n t (condition_of w.numbers rs e) NoStatement (one (Goto (end_label loops))) after c.0 c.1 in
+            subst (λ r. Tested r (runs w n t (test w.numbers rs loops e) regs)) (sym x)
+            (subst (λ d. Tested (Normal (Integer z) s) d) (sym target)
+            (jump_follows z after (meets_later w slots scopes.objects regs after s s t t (kept_refl slots s.store) m (related_same w slots regs after s (length rs) behind same m.related) m.beside) c.0 c.2))
+
+      pub tests : Tests (eval_with e w.call) (test w.numbers rs loops e)
+      tests = record {
+        goes = λ regs s t m turn go k2.
+            tested regs s t m turn go k2 (eval_with e w.call s) (evaluates w n slots scopes sight s t m.ready e k rs int p q l behind enough regs m.related);
+      }
+
+    -- ---- turns
+
+    module _ (condition : Evaluation Value) (body : Evaluation (Unit {0})) (a : MonStatements) (body_follows : (regs : List BlockValue) (s : State) (t : Target) → Meet regs s t → s.steps ≤ n → Follows w in_body Next s (body s) (runs w n t a regs)) where
+      abbrev labelled : MonStatements → monitored.Does over_blocks
+      labelled b = monitored.exec_all over_blocks (Then (Labelled a (next_label loops)) b) w.calls n
+
+      -- no step is left
+      spent : (s : State) (f : Evaluation (Unit {0})) (q : Did) → s.steps ≡ 0 → q ≡ Stops Spent s.steps [] → Turns s ((step >> f) s) q
+      spent s f q e x = IsOver Spent s [] (λ h. absurd cc) (ap (λ k. on_outcome (step_from k s) (λ _. f)) e) (sym (append-nil s.output)) x
+
+      -- the step, the body, what stands behind it, and the other turns
+      round_follows : (b : MonStatements) (again : Evaluation (Unit {0})) (others : Go) (regs : List BlockValue) (s : State) (t : Target) (k : ℕ) → s.steps ≡ suc k → Meet regs s t → s.steps ≤ n → ((to : State) (after : List BlockValue) (u : Target) → Meet after to u → to.steps ≤ k → Turns to (again to) (then_do (runs w n u b after) (at_next others))) → Turns s ((step >> λ s. after_body (body s) again) s) (then_do (labelled b regs (target_stepped t k)) (at_next others))
+      round_follows b again others regs s t k e m le go =
+          let s1 = stepped s k in
+          let t1 = target_stepped t k in
+          let m1 = meets_stepped w slots scopes regs s t k m in
+          subst (λ r. Turns s r (then_do (labelled b regs t1) (at_next others))) (sym (ap (λ i. on_outcome (step_from i s) (λ _ s. after_body (body s) again)) e))
+          (from_stepped w in_turn (Goes (end_label loops)) s k _ _ e
+          (subst (λ q. Turns s1 (after_body (body s1) again) q)
+          (rest_first (then_do (runs w n t1 a regs) (at_label (next_label loops))) (λ r t. then_do (monitored.exec_all over_blocks b w.calls n r t) (at_next others)) (monitored.exec_all over_blocks b w.calls n) others (λ r t. refl))
+          (follows_body s1 (body s1) (runs w n t1 a regs) again (λ r t. then_do (monitored.exec_all over_blocks b w.calls n r t) (at_next others)) (body_follows regs s1 t1 m1 (omega (arith, e, le)))
+          (λ to after u o re be l. go to after u (meets_later w slots scopes.objects regs after s1 to t1 u l.kept m1 re be) l.spent))))
+
+      -- `while` and `for`
+      module _ (front : MonStatements) (front_tests : Tests condition front) (behind : Evaluation (Unit {0})) (b : MonStatements) (behind_follows : (regs : List BlockValue) (s : State) (t : Target) → Meet regs s t → s.steps ≤ n → Follows w in_turn Next s (behind s) (runs w n t b regs)) where
+        abbrev turn : ℕ → Evaluation (Unit {0})
+        turn j = step >> λ s. after_body (body s) (behind >> source.turns j condition body behind)
+
+        abbrev others : ℕ → Go
+        others j = monitored.turns over_blocks j (monitored.exec_all over_blocks front w.calls n) (labelled b)
+
+        -- where a turn is left
+        abbrev next_turn : ℕ → Go
+        next_turn j r u = monitored.step_from u.steps (λ k. then_do (labelled b r (target_stepped u k)) (at_next (others j)))
+
+        turn_follows : (j : ℕ) (regs : List BlockValue) (s : State) (t : Target) → Meet regs s t → s.steps ≤ suc j → s.steps ≤ n → ((to : State) (after : List BlockValue) (u : Target) → Meet after to u → to.steps ≤ j → to.steps ≤ n → Turns to (source.turns (suc j) condition body behind to) (others j after u)) → Turns s (turn (suc j) s) (next_turn j regs t)
+        turn_follows j regs s t m le ln go = subst (λ i. Turns s (turn (suc j) s) (monitored.step_from i (λ k. then_do (labelled b regs (target_stepped t k)) (at_next (others j))))) (sym m.beside.steps) (by s.steps refl)
+          where
+            by : (i : ℕ) → s.steps ≡ i → Turns s (turn (suc j) s) (monitored.step_from i (λ k. then_do (labelled b regs (target_stepped t k)) (at_next (others j))))
+            by zero e = spent s (λ s. after_body (body s) (behind >> source.turns (suc j) condition body behind)) (Stops Spent 0 []) e (ap (λ k. Stops Spent k []) (sym e))
+            by (suc k) e =
+                round_follows b (behind >> source.turns (suc j) condition body behind) (others j) regs s t k e m ln (λ to after u m2 l2.
+                follows_then w in_turn (Goes (end_label loops)) to _ _ (source.turns (suc j) condition body behind) (others j) (behind_follows after to u m2 (omega (arith, e, ln, l2)))
+                (λ to2 after2 u2 o re be l. go to2 after2 u2 (meets_later w slots scopes.objects after after2 to to2 u u2 l.kept m2 re be) (omega (arith, e, le, l2, l.spent)) (omega (arith, e, ln, l2, l.spent))))
+
+        pub turns_follow : (j : ℕ) (regs : List BlockValue) (s : State) (t : Target) → Meet regs s t → s.steps ≤ j → s.steps ≤ n → Turns s (source.turns (suc j) condition body behind s) (others j regs t)
+        turns_follow zero regs s t m le ln = front_tests.goes regs s t m (turn 0) (λ r u. Stops Spent 0 []) (λ after m2. spent s (λ s. after_body (body s) (behind >> source.turns 0 condition body behind)) (Stops Spent 0 []) (omega (arith, le)) (ap (λ k. Stops Spent k []) (omega (arith, le))))
+        turns_follow (suc j) regs s t m le ln =
+            front_tests.goes regs s t m (turn (suc j)) (next_turn j) (λ after m2.
+            turn_follows j after s t m2 le ln (λ to after2 u m3 l3 l4. turns_follow j after2 to u m3 l3 l4))
+
+      -- `do`
+      module _ (b : MonStatements) (b_tests : Tests condition b) where
+        abbrev do_others : ℕ → Go
+        do_others j = monitored.turns over_blocks j (monitored.exec_all over_blocks NoStatement w.calls n) (labelled b)
+
+        pub do_turns_follow : (j : ℕ) (regs : List BlockValue) (s : State) (t : Target) → Meet regs s t → s.steps ≤ j → s.steps ≤ n → Turns s (source.do_turns (suc j) condition body s) (do_others j regs t)
+        do_turns_follow zero regs s t m le ln = spent s (λ s. after_body (body s) (condition >>= λ v. source.choose v (source.do_turns 0 condition body) done)) (Stops Spent 0 []) (omega (arith, le)) (ap (λ k. Stops Spent k []) (omega (arith, le)))
+        do_turns_follow (suc j) regs s t m le ln =
+            subst (λ q. Turns s (source.do_turns (suc (suc j)) condition body s) q) (sym (writes_none (monitored.step_from t.steps (λ k. then_do (labelled b regs (target_stepped t k)) (at_next (do_others j))))))
+            (subst (λ i. Turns s (source.do_turns (suc (suc j)) condition body s) (monitored.step_from i (λ k. then_do (labelled b regs (target_stepped t k)) (at_next (do_others j))))) (sym m.beside.steps)
+            (by (λ to after u m2 l2 l3. do_turns_follow j after to u m2 l2 l3) s.steps refl))
+          where
+            by : ((to : State) (after : List BlockValue) (u : Target) → Meet after to u → to.steps ≤ j → to.steps ≤ n → Turns to (source.do_turns (suc j) condition body to) (do_others j after u)) → (i : ℕ) → s.steps ≡ i → Turns s (source.do_turns (suc (suc j)) condition body s) (monitored.step_from i (λ k. then_do (labelled b regs (target_stepped t k)) (at_next (do_others j))))
+            by rest zero e = spent s (λ s. after_body (body s) (condition >>= λ v. source.choose v (source.do_turns (suc j) condition body) done)) (Stops Spent 0 []) e (ap (λ k. Stops Spent k []) (sym e))
+            by rest (suc k) e =
+                round_follows b (condition >>= λ v. source.choose v (source.do_turns (suc j) condition body) done) (do_others j) regs s t k e m ln (λ to after u m2 l2.
+                b_tests.goes after to u m2 (source.do_turns (suc j) condition body) (do_others j) (λ after2 m3. rest to after2 u m3 (omega (arith, e, le, l2)) (omega (arith, e, ln, l2))))

@@ -1,4 +1,4 @@
--- Names of registers and labels are free, and differ by their numbers.
+-- Names of registers, functions and labels are free, and differ by their numbers.
 use Rattle.std.proofs.Common.{◌≡◌, ℕ, zero, suc, ◌+◌, ◌<◌, ◌≤◌, ◌^◌, Bool, true, false, ◌&&◌, ◌||◌, if◌then◌else◌, nat_eq, List, [], ◌∷◌, ◌++◌, length, take, drop, refl, sym, ap, ◌∙◌, subst, arith}
 use Rattle.std.specs.Prelude.{bytes_eq, codes}
 use Rattle.std.specs.List.{AllByRecursion}
@@ -12,7 +12,7 @@ use Rattle.std.proofs.Math.Nat.{min-le_left}
 use Rattle.c_model.specs.Characters.{is_digit, is_part}
 use Rattle.mon_syntax.specs.Names.{IsFreeName, is_reserved, begins_name}
 use Rattle.mon_syntax.specs.Names as words
-use Rattle.instrument.specs.Translation.{end_label, next_label, register_name, temporary_name}
+use Rattle.instrument.specs.Translation.{end_label, next_label, register_name, pointer_name, temporary_name, function_name}
 
 -- ---- decimal numbers
 
@@ -99,7 +99,7 @@ ends_differ m n lm ln differ = unequal (end_label m) (end_label n) (λ e. differ
 pub nexts_differ : (m n : ℕ) → IsNumber m → IsNumber n → (m ≡ n → ⊥) → bytes_eq (next_label m) (next_label n) ≡ false
 nexts_differ m n lm ln differ = unequal (next_label m) (next_label n) (λ e. differ (decimal_injective m n lm ln (ap (drop 5) e)))
 
--- ---- registers
+-- ---- a letter, a number and a name
 
 -- the digits that a list begins with
 abbrev front : List ℕ → List ℕ
@@ -113,12 +113,23 @@ front_digits (d ∷ ds) r zero h lt = absurd (omega arith)
 front_digits (d ∷ ds) r (suc n) h lt =
     ap (λ t. if t then d ∷ front (take n (ds ++ 95 ∷ r)) else []) h.0 ∙ ap (λ l. d ∷ l) (front_digits ds r n h.1 (omega arith))
 
-number_of_register : (k : ℕ) (name : List ℕ) → IsNumber k → front (drop 1 (register_name k name)) ≡ decimal k
-number_of_register k name le = let short = decimal_short k le in front_digits (decimal k) name 254 (decimal_digits k le) (omega (arith, short))
+abbrev numbered : ℕ → ℕ → List ℕ → List ℕ
+numbered letter k name = take 255 (letter ∷ (decimal k ++ (95 ∷ name)))
 
-pub registers_differ : (j k : ℕ) (a b : List ℕ) → IsNumber j → IsNumber k → (j ≡ k → ⊥) → bytes_eq (register_name j a) (register_name k b) ≡ false
-registers_differ j k a b lj lk differ =
-    unequal (register_name j a) (register_name k b) (λ e. differ (decimal_injective j k lj lk (sym (number_of_register j a lj) ∙ ap (λ l. front (drop 1 l)) e ∙ number_of_register k b lk)))
+number_of_name : (letter k : ℕ) (name : List ℕ) → IsNumber k → front (drop 1 (numbered letter k name)) ≡ decimal k
+number_of_name letter k name le = let short = decimal_short k le in front_digits (decimal k) name 254 (decimal_digits k le) (omega (arith, short))
+
+numbered_differ : (letter j k : ℕ) (a b : List ℕ) → IsNumber j → IsNumber k → (j ≡ k → ⊥) → bytes_eq (numbered letter j a) (numbered letter k b) ≡ false
+numbered_differ letter j k a b lj lk differ =
+    unequal (numbered letter j a) (numbered letter k b) (λ e. differ (decimal_injective j k lj lk (sym (number_of_name letter j a lj) ∙ ap (λ l. front (drop 1 l)) e ∙ number_of_name letter k b lk)))
+
+numbered_parts : (letter k : ℕ) (name : List ℕ) → is_part letter ≡ true → IsNumber k → AllParts name → AllParts (numbered letter k name)
+numbered_parts letter k name is le h = parts_front 255 (letter ∷ (decimal k ++ (95 ∷ name))) (is, parts_behind (decimal k) (95 ∷ name) (digits_parts (decimal k) (decimal_digits k le)) (refl, h))
+
+numbered_short : (letter k : ℕ) (name : List ℕ) → length (numbered letter k name) ≤ 255
+numbered_short letter k name = subst (λ n. n ≤ 255) (sym (length-take 255 (letter ∷ (decimal k ++ (95 ∷ name))))) (min-le_left 255 _)
+
+-- ---- registers of values
 
 first_is_other : (a b : Bool) → a ≡ false → (a && b) || false ≡ false
 first_is_other a b h = ap (λ r. (r && b) || false) h
@@ -134,13 +145,64 @@ number_not_reserved : (ds r : List ℕ) → 0 < length ds → AllDigits ds → i
 number_not_reserved [] r lt h = absurd (omega arith)
 number_not_reserved (d ∷ ds) r lt h = digit_not_reserved d (take 253 (ds ++ r)) h.0
 
+pub registers_differ : (j k : ℕ) (a b : List ℕ) → IsNumber j → IsNumber k → (j ≡ k → ⊥) → bytes_eq (register_name j a) (register_name k b) ≡ false
+registers_differ j k a b lj lk differ = numbered_differ 118 j k a b lj lk differ
+
 pub register_is_free : (k : ℕ) (name : List ℕ) → IsNumber k → AllParts name → IsFreeName (register_name k name)
 register_is_free k name le h = record {
   begins = refl;
-  parts = parts_front 255 (codes "v" ++ (decimal k ++ (codes "_" ++ name))) (refl, parts_behind (decimal k) (codes "_" ++ name) (digits_parts (decimal k) (decimal_digits k le)) (refl, h));
-  short = subst (λ n. n ≤ 255) (sym (length-take 255 (codes "v" ++ (decimal k ++ (codes "_" ++ name))))) (min-le_left 255 _);
+  parts = numbered_parts 118 k name refl le h;
+  short = numbered_short 118 k name;
   free = number_not_reserved (decimal k) (codes "_" ++ name) (decimal_nonempty k le) (decimal_digits k le);
 }
+
+-- ---- functions
+
+-- no word begins with `f`
+function_not_reserved : (l : List ℕ) → is_reserved (102 ∷ l) ≡ false
+unfolding words.reserved_words
+function_not_reserved l = refl
+
+pub functions_differ : (j k : ℕ) (a b : List ℕ) → IsNumber j → IsNumber k → (j ≡ k → ⊥) → bytes_eq (function_name j a) (function_name k b) ≡ false
+functions_differ j k a b lj lk differ = numbered_differ 102 j k a b lj lk differ
+
+pub function_is_free : (k : ℕ) (name : List ℕ) → IsNumber k → AllParts name → IsFreeName (function_name k name)
+function_is_free k name le h = record {
+  begins = refl;
+  parts = numbered_parts 102 k name refl le h;
+  short = numbered_short 102 k name;
+  free = function_not_reserved (take 254 (decimal k ++ (95 ∷ name)));
+}
+
+-- ---- registers that point to blocks
+
+both_are_other : (a b x y : Bool) → a ≡ false → b ≡ false → (a && x) || ((b && y) || false) ≡ false
+both_are_other a b x y g h = ap (λ r. (r && x) || ((b && y) || false)) g ∙ ap (λ r. (r && y) || false) h
+
+-- no word begins with `p` and a digit
+pointer_digit : (d : ℕ) (l : List ℕ) → is_digit d ≡ true → is_reserved (112 ∷ d ∷ l) ≡ false
+unfolding words.reserved_words
+pointer_digit d l h =
+    let t : nat_eq d 116 ≡ false = grind (arith, nat_tests) in
+    let u : nat_eq d 117 ≡ false = grind (arith, nat_tests) in
+    both_are_other (nat_eq d 116) (nat_eq d 117) _ _ t u
+
+pointer_not_reserved : (ds : List ℕ) → 0 < length ds → AllDigits ds → is_reserved (112 ∷ ds) ≡ false
+pointer_not_reserved [] lt h = absurd (omega arith)
+pointer_not_reserved (d ∷ ds) lt h = pointer_digit d ds h.0
+
+pub pointer_is_free : (k : ℕ) → IsNumber k → IsFreeName (pointer_name k)
+pointer_is_free k le =
+    let short = decimal_short k le in
+    record {
+      begins = refl;
+      parts = (refl, digits_parts (decimal k) (decimal_digits k le));
+      short = omega (arith, short);
+      free = pointer_not_reserved (decimal k) (decimal_nonempty k le) (decimal_digits k le);
+    }
+
+pub pointers_differ : (j k : ℕ) → IsNumber j → IsNumber k → (j ≡ k → ⊥) → bytes_eq (pointer_name j) (pointer_name k) ≡ false
+pointers_differ j k lj lk differ = unequal (pointer_name j) (pointer_name k) (λ e. differ (decimal_injective j k lj lk (ap (drop 1) e)))
 
 -- ---- temporary registers
 
@@ -163,6 +225,13 @@ temporary_is_free k le =
 pub temporaries_differ : (j k : ℕ) → IsNumber j → IsNumber k → (j ≡ k → ⊥) → bytes_eq (temporary_name j) (temporary_name k) ≡ false
 temporaries_differ j k lj lk differ = unequal (temporary_name j) (temporary_name k) (λ e. differ (decimal_injective j k lj lk (ap (drop 1) e)))
 
--- a temporary register is no variable's
-pub temporary_is_other : (j k : ℕ) (name : List ℕ) → bytes_eq (temporary_name j) (register_name k name) ≡ false
-temporary_is_other j k name = refl
+-- ---- they have letters of their own
+
+pub pointer_no_value : (j k : ℕ) (name : List ℕ) → bytes_eq (pointer_name j) (register_name k name) ≡ false
+pointer_no_value j k name = refl
+
+pub temporary_no_value : (j k : ℕ) (name : List ℕ) → bytes_eq (temporary_name j) (register_name k name) ≡ false
+temporary_no_value j k name = refl
+
+pub temporary_no_pointer : (j k : ℕ) → bytes_eq (temporary_name j) (pointer_name k) ≡ false
+temporary_no_pointer j k = refl

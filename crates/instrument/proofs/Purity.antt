@@ -35,7 +35,7 @@ pub pure_is_quiet : (e : Expression) (call : Callee) (s : State) → IsPure e �
 pure_is_quiet (Node at t (Number z k)) call s p = Gives (Integer z) refl
 pure_is_quiet (Node at t (Letter z)) call s p = Gives (Integer z) refl
 pure_is_quiet (Node at t (Variable x)) call s p =
-    quiet_then s (object at x.name s) (λ p. read at p t) (quiet_defined at (start_of (find x.name s.scope)) s) (λ q. quiet_defined at (load s.store q t) s)
+    quiet_then s (object at x.decl s) (λ p. read at p t) (quiet_defined at (start_of (find x.decl s.scope)) s) (λ q. quiet_defined at (load s.store q t) s)
 pure_is_quiet (Node at t (Unary op a)) call s p = quiet_then s (eval_with a call s) (λ x. defined at (operate_value t op x)) (pure_is_quiet a call s p) (λ x. quiet_defined at (operate_value t op x) s)
 pure_is_quiet (Node at t (Binary op a b)) call s p =
     quiet_then s (eval_with a call s) (λ x. eval_with b call >>= λ y. defined at (operate_values t op x y)) (pure_is_quiet a call s p.0)

@@ -5,9 +5,7 @@ use Rattle.std.proofs.Math.Seq.{drop-cons}
 use Rattle.mon_syntax.specs.declared.tree.MonStmt.{MonStmt}
 use Rattle.mon_syntax.specs.declared.tree.MonType.{MonType}
 use Rattle.mon_syntax.specs.Trees.{MonStatements, NoStatement, Then, plain_stmt, plain_stmts}
-use Rattle.c_syntax.specs.declared.expression.Expr.{Expr}
-use Rattle.c_syntax.specs.Expressions.{plain_exprs}
-use Rattle.instrument.specs.Translation.{before, one, put}
+use Rattle.instrument.specs.Expressions.{before, one}
 
 pub before_assoc : (a b c : MonStatements) → before (before a b) c ≡ before a (before b c)
 before_assoc NoStatement b c = refl
@@ -60,6 +58,13 @@ complete t none kept = sym (append-nil t) ∙ ap (λ a. t ++ a) (sym none) ∙ k
 pub more_behind : {t' left all : MonStatements} {rs' : List MonType} (t part : MonStatements) (rs ts : List MonType) (rest : List MonType → MonStatements) → left ≡ before part (rest (rs ++ ts)) → t' ≡ before t part → rs' ≡ rs ++ ts → before t left ≡ all → before t' (rest rs') ≡ all
 more_behind {t'} t part rs ts rest first put types kept = ap (λ r. before t' (rest r)) types ∙ more t part (rest (rs ++ ts)) first put kept
 
-pub put_nothing : (names : List ℕ) (rs : List MonType) (args : List Expr) → length args < 1 → put names rs (plain_exprs args) ≡ NoStatement
-put_nothing names rs [] lt = refl
-put_nothing names rs (e ∷ es) lt = absurd (omega arith)
+-- one more part of a list, behind which what is left begins with further registers
+pub grown_behind : {B : Type 0} {t' left all : List B} {rs' : List MonType} (t part : List B) (rs ts : List MonType) (rest : List MonType → List B) → left ≡ part ++ rest (rs ++ ts) → t' ≡ t ++ part → rs' ≡ rs ++ ts → t ++ left ≡ all → t' ++ rest rs' ≡ all
+grown_behind {t'} t part rs ts rest first put types kept = ap (λ r. t' ++ rest r) types ∙ grown t part (rest (rs ++ ts)) first put kept
+
+-- ---- a loop over numbers
+
+pub number_left : {B : Type 0} (f : List ℕ → B) (l : List ℕ) (i y : ℕ) → i < length l → get_or l i 0 ≡ y → f (drop i l) ≡ f (y ∷ drop (i + 1) l)
+number_left f l i y lt same =
+    let next : suc i ≡ i + 1 = omega arith in
+    ap f (drop-cons l i 0 lt) ∙ ap (λ z. f (z ∷ drop (suc i) l)) same ∙ ap (λ j. f (y ∷ drop j l)) next

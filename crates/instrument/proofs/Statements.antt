@@ -1,91 +1,48 @@
 -- Statements: the target does what the source does.
-use Rattle.std.proofs.Common.{◌≡◌, ℕ, zero, suc, ◌+◌, ◌≤◌, Bool, false, List, [], ◌∷◌, ◌++◌, length, map, Option, Some, None, refl, sym, ap, ◌∙◌, subst, arith}
-use Rattle.std.proofs.lemmas.List.{append-nil, length-map, length-append}
-use Rattle.c_syntax.specs.declared.types.CInt.TheVariants.{I32}
-use Rattle.c_syntax.specs.Ctypes.{Void, int_type}
-use Rattle.c_syntax.specs.Expressions.{Expression, Node, Call, type_of}
-use Rattle.c_syntax.specs.Statements.{Statement, Empty, Eval, Block, If, While, Do, For, Break, Continue, Return, ElsePart, NoElse, Else, ForFirst, NoFirst, First, BlockItem, Declare, Run, Asserts, BlockItems, NoItem, Then}
-use Rattle.c_model.specs.Memory.{Value, Integer, Store, kill_from}
-use Rattle.c_model.specs.State.{Leaves, Returns, Outcome, Normal, Stop, Evaluation, on_outcome, ◌>>◌, stop, births, restored, back_to}
+use Rattle.std.proofs.Common.{◌≡◌, ℕ, suc, ◌+◌, ◌≤◌, ℤ, true, List, [], ◌∷◌, ◌++◌, length, Option, Some, None, option_map, refl, sym, ap, ◌∙◌, subst, arith}
+use Rattle.std.proofs.lemmas.List.{append-nil, length-append}
+use Rattle.c_syntax.specs.declared.place.Place.{Place}
+use Rattle.c_syntax.specs.declared.expression.Use.{Use}
+use Rattle.c_syntax.specs.Ctypes.{PlainType}
+use Rattle.c_syntax.specs.Annotations.{Annotation}
+use Rattle.c_syntax.specs.Expressions.{Expression, Expressions, Node, Call, type_of}
+use Rattle.c_syntax.specs.Statements.{Initialiser, One, Declaration, Statement, Empty, Eval, Block, If, While, Do, For, Break, Continue, Return, ElsePart, NoElse, Else, ForFirst, NoFirst, First, Declare, Run, Asserts, BlockItems, NoItem, Then}
+use Rattle.c_syntax.specs.Programs.{TranslationUnit}
+use Rattle.c_model.specs.Memory.{Integer}
+use Rattle.c_model.specs.State.{State, Leaves, Returns, Outcome, Normal, Stop, Evaluation, on_outcome, ◌>>◌, stop, births, within, restored}
 use Rattle.c_model.specs.State as state
-use Rattle.c_model.specs.Meaning.{eval_with, exec_with, else_with, first_with, item_with, items_with, condition_with, effect_with, declared_in, declared_first, turns}
+use Rattle.c_model.specs.Meaning.{eval_with, exec_with, else_with, first_with, item_with, items_with, condition_with, effect_with, initialise_all, declared_in, declared_first, turns}
 use Rattle.c_model.specs.Meaning as source
-use Rattle.c_model.specs.Typing.{Scopes, Around, in_loop, inner, behind_first}
-use Rattle.c_model.specs.WellTyped.{WellTyped}
-use Rattle.c_model.specs.WellTypedPrograms.{IsCondition, WhereAny, StatementTyped, ElseTyped, FirstTyped, ItemTyped, ItemsTyped, StatementNoted, ElseNoted, ItemNoted, ItemsNoted}
-use Rattle.c_model.specs.Formed.{IsEffect, IsEffectOrCall, IsFull, IsFullEffect, FirstFormed, StatementFormed, ElseFormed, ItemFormed, ItemsFormed}
+use Rattle.c_model.specs.Typing.{Scopes, Signature, Around, in_loop, inner, with_object, with_objects, behind_first}
+use Rattle.c_model.specs.WellTyped.{Calls, WellTyped}
+use Rattle.c_model.specs.WellTypedPrograms.{IsCondition, WhereAny, Initialises, AreDeclared, Returned, StatementTyped, ElseTyped, FirstTyped, ItemsTyped, StatementNoted, ElseNoted, ItemsNoted}
+use Rattle.c_model.specs.Formed.{number_of, IsEffect, IsEffectOrCall, IsFull, IsFullOrCall, IsFullEffect, IsInitialiser, AreInitialised, FirstFormed, StatementFormed, ElseFormed, ItemsFormed}
 use Rattle.mon_syntax.specs.declared.tree.MonType.{MonType}
-use Rattle.mon_syntax.specs.Meaning.{Flow, Next, Goes, Done, with_value}
+use Rattle.mon_syntax.specs.Meaning.{Flow, Next, Goes, Done, then_do, at_next, with_value}
 use Rattle.mon_syntax.specs.Meaning as monitored
-use Rattle.mon_syntax.specs.Memories.{over_blocks}
+use Rattle.mon_syntax.specs.Memories.{BlockValue, Whole, over_blocks}
 use Rattle.mon_syntax.specs.Trees.{MonStatements, NoStatement}
 use Rattle.mon_syntax.specs.Trees as tree
-use Rattle.instrument.specs.Limits.{Any, HasLetters, EffectHasLetters, HasNumbers, ElseHasNumbers, FirstHasNumbers, ItemHasNumbers, HaveNumbers}
-use Rattle.instrument.specs.Translation.{value, temporaries, setup, condition_of, before, one, effect_if_any, effect_temporaries_if_any, test, test_if_any, temporaries_if_any, loop, statement_temporaries, else_temporaries, first_temporaries, item_temporaries, items_temporaries, statement, else_part, first_part, item, items}
-use Rattle.instrument.proofs.Variables.{Variable, Setting, total, source_at, target_at, Holds, holds_same, cell}
-use Rattle.instrument.proofs.Results.{one_is, before_is}
-use Rattle.instrument.proofs.Evaluating.{Did, runs, if_runs}
-use Rattle.instrument.proofs.ExpressionTypes.{HasInt, scalar_int}
+use Rattle.instrument.specs.Limits.{Any, HasLetters, FullHasLetters, EffectHasLetters, InitialHasLetters, InitialsHaveLetters, HasNumbers, ElseHasNumbers, FirstHasNumbers, HaveNumbers}
+use Rattle.instrument.specs.Expressions.{value, temporaries, setup, condition_of, before, one}
+use Rattle.instrument.specs.Translation.{Spot, full_temporaries, full_setup, full_value, effect_temporaries, any_temporaries, initial_temporaries, declaration_temporaries, statement_temporaries, else_temporaries, first_temporaries, item_temporaries, items_temporaries, deaths, with_born, with_variables, test, test_if_any, loop, effect_if_any, statement, else_part, first_part, item, items, end_label, next_label}
+use Rattle.instrument.specs.Translation as target
+use Rattle.instrument.proofs.Variables.{Slot, Setting, count, Related, Beside, IsSet, AllMatch, kept_refl, related_same}
+use Rattle.instrument.proofs.Results.{writes_none, one_is, before_is}
+use Rattle.instrument.proofs.Evaluating.{Target, runs, if_runs}
+use Rattle.instrument.proofs.ExpressionTypes.{HasInt, scalar_int, integer_int}
+use Rattle.instrument.proofs.Sight.{AreInSight, ready_later, Meets, meets_later}
 use Rattle.instrument.proofs.Expressions.{longer, evaluates, test_is}
-use Rattle.instrument.proofs.Following.{Follows, GoesOn, Breaks, Continues, IsLeft, IsOver, IsUndefined, stays, follows_value, follows_choice, follows_then_in, anywhere}
-use Rattle.instrument.proofs.Effects.{Scene, effect_follows}
+use Rattle.instrument.proofs.Sequences.{before_assoc}
+use Rattle.instrument.proofs.Following.{Here, Later, later_same, IsResult, Follows, Breaks, Continues, IsLeft, stays, follows_value, follows_choice, follows_then}
+use Rattle.instrument.proofs.Births.{slots_born, decls_of, registers_of, AllCanBeBorn, Dead, deaths_run}
+use Rattle.instrument.proofs.Blocks.{behind_births, block_follows, with_born-slots}
+use Rattle.instrument.proofs.Calls.{IsCalled}
+use Rattle.instrument.proofs.FullExpressions.{handed_on, Scene, follows_full}
+use Rattle.instrument.proofs.Effects.{effect_follows, initial_follows}
 use Rattle.instrument.proofs.Asserts.{assertions_follow}
-use Rattle.instrument.proofs.Loops.{Tests, tests, no_test, turns_follow, do_turns_follow, loop_follows}
-
--- ---- blocks, in which nothing is born
-
-pub none_declared : (most : ℕ) (is : BlockItems) → ItemsFormed most is → declared_in is ≡ []
-none_declared most NoItem h = refl
-none_declared most (Then (Declare ds) is) h = absurd h.0
-none_declared most (Then (Run a) is) h = none_declared most is h.1
-none_declared most (Then (Asserts annots) is) h = none_declared most is h.1
-
-kill_none : (n : ℕ) (l : Store) → length l ≤ n → kill_from n l ≡ l
-kill_none n [] le = refl
-kill_none zero (b ∷ l) le = absurd (omega arith)
-kill_none (suc n) (b ∷ l) le = ap (λ k. b ∷ k) (kill_none n l (omega arith))
-
--- as many blocks as variables
-blocks_are : (w : Setting) (count : ℕ) (vars : List Variable) (regs : List Value) → Holds w count vars regs → length (map cell vars) ≡ total w
-blocks_are w count vars regs h = length-map vars cell ∙ sym (length-map vars (λ (v : Variable). v.int)) ∙ ap length h.variables
-
-pub follows_restored : (w : Setting) (count end : ℕ) (inside : Bool) (loops : ℕ) (on : List Value → Flow Value) (steps : ℕ) (out : List ℕ) (vars : List Variable) (regs : List Value) (r : Outcome (Unit {0})) (q : Did) → Holds w count vars regs → Follows w end inside loops on steps out r q → Follows w end inside loops on steps out (restored (source_at w vars steps out) r) q
-follows_restored w count end inside loops on steps out vars regs r q g (GoesOn v after left o h le e e') =
-    GoesOn v after left o h le
-    (ap (restored (source_at w vars steps out)) e ∙ ap (λ l. Normal tt (record w.base { store = l; steps = left; output = out ++ o })) (kill_none (length (map cell vars)) (map cell v) (omega (arith, blocks_are w count vars regs g, blocks_are w end v after h))))
-    e'
-follows_restored w count end inside loops on steps out vars regs r q g (Breaks v after left o i h le e e') =
-    Breaks v after left o i h le
-    (ap (restored (source_at w vars steps out)) e ∙ ap (λ l. Stop (Leaves state.Breaks) (record w.base { store = l; steps = left; output = out ++ o })) (kill_none (length (map cell vars)) (map cell v) (omega (arith, blocks_are w count vars regs g, blocks_are w end v after h))))
-    e'
-follows_restored w count end inside loops on steps out vars regs r q g (Continues v after left o i h le e e') =
-    Continues v after left o i h le
-    (ap (restored (source_at w vars steps out)) e ∙ ap (λ l. Stop (Leaves state.Continues) (record w.base { store = l; steps = left; output = out ++ o })) (kill_none (length (map cell vars)) (map cell v) (omega (arith, blocks_are w count vars regs g, blocks_are w end v after h))))
-    e'
-follows_restored w count end inside loops on steps out vars regs r q g (IsLeft z t o e x e') = IsLeft z (back_to (source_at w vars steps out) t) o (ap (restored (source_at w vars steps out)) e) x e'
-follows_restored w count end inside loops on steps out vars regs r q g (IsOver y t o d e x e') = IsOver y (back_to (source_at w vars steps out) t) o d (ap (restored (source_at w vars steps out)) e) x e'
-follows_restored w count end inside loops on steps out vars regs r q g (IsUndefined at t o e x ext) = IsUndefined at (back_to (source_at w vars steps out) t) o (ap (restored (source_at w vars steps out)) e) x ext
-
--- ---- scenes
-
-inner_scene : (w : Setting) (s : Scopes) → Scene w s → Scene w (inner s)
-inner_scene w s c = record {
-  sight = c.sight;
-  puts = λ f t es k. c.puts f t es (record { callee = k.callee; found = k.found; not_main = k.not_main; decl = k.decl; result = k.result; arguments = k.arguments });
-}
-
--- the first part of a `for` declares nothing
-first_declares_nothing : (most : ℕ) (first : ForFirst) → FirstFormed most first → declared_first first ≡ []
-first_declares_nothing most NoFirst h = refl
-first_declares_nothing most (First (Run a)) h = refl
-first_declares_nothing most (First (Declare ds)) h = absurd h
-first_declares_nothing most (First (Asserts annots)) h = absurd h
-
-pub same_behind_first : (most : ℕ) (s : Scopes) (first : ForFirst) → FirstFormed most first → behind_first s first ≡ s
-same_behind_first most s NoFirst h = refl
-same_behind_first most s (First (Run a)) h = refl
-same_behind_first most s (First (Declare ds)) h = absurd h
-same_behind_first most s (First (Asserts annots)) h = absurd h
+use Rattle.instrument.proofs.Loops.{Tests, tests, no_test, turns_follow, do_turns_follow, loop_follows, in_body, in_turn}
+use Rattle.instrument.proofs.Declared.{CanDeclare, ElseCanDeclare, ItemsCanDeclare, decls_of-born, registers_of-append, slots_born-append, sight_behind, ready_behind, HasSlot, HaveSlots, born_have_slots, have_front, have_behind, sight_declared, ready_declared}
 
 pub effect_or_call : (e : Expression) → IsEffect e → IsEffectOrCall e
 effect_or_call (Node at t (Call f es)) h = absurd h
@@ -103,157 +60,330 @@ module _ (rs a b : List MonType) where
   pub four : (c d : List MonType) → length (rs ++ (a ++ b ++ c ++ d)) ≡ length (rs ++ a ++ b ++ c ++ d)
   four c d = omega (arith, length-append rs (a ++ b ++ c ++ d), length-append (a ++ b ++ c) d, length-append (a ++ b) c, length-append a b, length-append (rs ++ a ++ b ++ c) d, length-append (rs ++ a ++ b) c, length-append (rs ++ a) b, length-append rs a)
 
+-- ---- where statements stand
+
+-- the translation's spot tells the registers of the variables that live
+pub record At (w : Setting) (spot : Spot) (h : Here) : Type 0 where
+  pub inner : List Slot
+  pub slots : h.slots ≡ inner ++ h.around
+  pub inside : spot.inside ≡ registers_of w inner
+  pub outside : spot.outside ≡ registers_of w h.around
+  pub loops : spot.loops ≡ h.loops
+
+pub at_births : (w : Setting) (spot : Spot) (h : Here) (s : State) (ds : List Declaration) → At w spot h → At w (with_variables w.numbers ds spot) (behind_births h s ds)
+at_births w spot h s ds a = record {
+  inner = slots_born (length s.store) ds a.inner;
+  slots = ap (slots_born (length s.store) ds) a.slots ∙ slots_born-append (length s.store) ds a.inner h.around;
+  inside = ap (with_born w.numbers ds) a.inside ∙ with_born-slots w (length s.store) ds a.inner;
+  outside = a.outside;
+  loops = a.loops;
+}
+
+-- all that live
+all_registers : (w : Setting) (spot : Spot) (h : Here) → At w spot h → spot.inside ++ spot.outside ≡ registers_of w h.slots
+all_registers w spot h a =
+    ap (λ l. l ++ spot.outside) a.inside ∙ ap (λ l. registers_of w a.inner ++ l) a.outside ∙ sym (registers_of-append w a.inner h.around) ∙ ap (registers_of w) (sym a.slots)
+
+pub at_loop : (w : Setting) (spot : Spot) (h : Here) → At w spot h → At w (target.in_loop spot) (in_body w h.slots h.result (spot.loops + 1))
+at_loop w spot h a = record { inner = []; slots = refl; inside = refl; outside = all_registers w spot h a; loops = refl }
+
+match_front : (w : Setting) (s : State) (regs : List BlockValue) (new slots : List Slot) → AllMatch w s.store regs (new ++ slots) → AllMatch w s.store regs new
+match_front w s regs [] slots h = tt
+match_front w s regs (v ∷ new) slots h = (h.0, match_front w s regs new slots h.1)
+
+-- ---- jumps: the blocks of the variables that are left die in front
+
+module _ (w : Setting) (n : ℕ) (spot : Spot) (h : Here) (at : At w spot h) (s : State) (regs : List BlockValue) (t : Target) (m : Related w h.slots regs s) (b : Beside w h.slots s t) where
+  -- those born inside the loop
+  loop_dead : Dead w h.slots regs s n h.around t (runs w n t (deaths w.numbers spot.inside) regs)
+  loop_dead =
+      subst (λ rs. Dead w h.slots regs s n h.around t (runs w n t (deaths w.numbers rs) regs)) (sym at.inside)
+      (deaths_run w h.slots regs s n at.inner h.around t (match_front w s regs at.inner h.around (subst (AllMatch w s.store regs) at.slots m.all)) (subst (λ vs. Beside w vs s t) at.slots b))
+
+  -- all of the call
+  call_dead : Dead w h.slots regs s n [] t (runs w n t (deaths w.numbers (spot.inside ++ spot.outside)) regs)
+  call_dead =
+      subst (λ rs. Dead w h.slots regs s n [] t (runs w n t (deaths w.numbers rs) regs)) (sym (all_registers w spot h at))
+      (deaths_run w h.slots regs s n h.slots [] t m.all (subst (λ vs. Beside w vs s t) (sym (append-nil h.slots)) b))
+
+  -- what stands behind deaths
+  behind_deaths : (living : List Slot) (d a : MonStatements) (x : Dead w h.slots regs s n living t (runs w n t d regs)) → runs w n t (before d a) regs ≡ runs w n x.to a regs
+  behind_deaths living d a x =
+      before_is d a w.calls n regs t
+      ∙ ap (λ q. then_do q (at_next (monitored.exec_all over_blocks a w.calls n))) x.runs_to
+      ∙ writes_none (runs w n x.to a regs)
+
+  goto_is : (living : List Slot) (d : MonStatements) (l k : List ℕ) (x : Dead w h.slots regs s n living t (runs w n t d regs)) → k ≡ l → runs w n t (before d (one (tree.Goto k))) regs ≡ Done (Goes l regs) x.to []
+  goto_is living d l k x e = behind_deaths living d (one (tree.Goto k)) x ∙ one_is (tree.Goto k) w.calls n regs x.to ∙ ap (λ i. Done (Goes i regs) x.to []) e
+
+  pub break_follows : h.looped ≡ true → Follows w h Next s (Stop (Leaves state.Breaks) s) (runs w n t (before (deaths w.numbers spot.inside) (one (tree.Goto (end_label spot.loops)))) regs)
+  break_follows looped =
+      Breaks s regs loop_dead.to [] looped m loop_dead.beside (later_same h.slots s) refl (goto_is h.around (deaths w.numbers spot.inside) (end_label h.loops) (end_label spot.loops) loop_dead (ap end_label at.loops))
+
+  pub continue_follows : h.looped ≡ true → Follows w h Next s (Stop (Leaves state.Continues) s) (runs w n t (before (deaths w.numbers spot.inside) (one (tree.Goto (next_label spot.loops)))) regs)
+  continue_follows looped =
+      Continues s regs loop_dead.to [] looped m loop_dead.beside (later_same h.slots s) refl (goto_is h.around (deaths w.numbers spot.inside) (next_label h.loops) (next_label spot.loops) loop_dead (ap next_label at.loops))
+
+  pub leave_follows : (v : Option ℤ) (e : Option tree.MonExpression) → IsResult h.result v → ((u : Target) → runs w n u (one (tree.Return e)) regs ≡ Done (monitored.Returns (option_map Whole v)) u []) → Follows w h Next s (Stop (Leaves (Returns (option_map Integer v))) s) (runs w n t (before (deaths w.numbers (spot.inside ++ spot.outside)) (one (tree.Return e))) regs)
+  leave_follows v e i run =
+      IsLeft v s regs call_dead.to [] i m call_dead.beside (later_same h.slots s) refl (behind_deaths [] (deaths w.numbers (spot.inside ++ spot.outside)) (one (tree.Return e)) call_dead ∙ run call_dead.to)
+
 -- ---- statements
 
-module _ (w : Setting) (n most : ℕ) where
-  -- what a part of the source does, and a part of the target, from every state with values in all variables
-  abbrev pub DoSame : Bool → ℕ → Evaluation (Unit {0}) → MonStatements → Type 0
-  DoSame inside loops a b = (vars : List Variable) (regs : List Value) (steps : ℕ) (out : List ℕ) → Holds w (total w) vars regs → steps ≤ n → Follows w (total w) inside loops Next steps out (a (source_at w vars steps out)) (runs w steps n b regs)
+module _ (p : TranslationUnit) (w : Setting) (n most : ℕ) (names : List (List ℕ)) (functions : List Signature) (all_calls : (s : Scopes) → s.names ≡ names → s.functions ≡ functions → (f : Use) (t : PlainType) (es : Expressions) → Calls s f t es → IsCalled p w n f t es) where
+  -- what the typing sees, among the variables that live
+  pub record Stage (slots : List Slot) (s : Scopes) : Type 0 where
+    pub sight : AreInSight slots s.objects
+    pub names_are : s.names ≡ names
+    pub functions_are : s.functions ≡ functions
+
+  scene_of : (slots : List Slot) (s : Scopes) → Stage slots s → Scene p w n slots s
+  scene_of slots s g = record { sight = g.sight; calls = λ f t es c. all_calls s g.names_are g.functions_are f t es c }
+
+  inner_stage : (slots : List Slot) (s : Scopes) → Stage slots s → Stage slots (inner s)
+  inner_stage slots s g = record { sight = g.sight; names_are = g.names_are; functions_are = g.functions_are }
+
+  -- what a part of the source does, and a part of the target, from all states that meet
+  abbrev pub DoSame : Here → Scopes → Evaluation (Unit {0}) → MonStatements → Type 0
+  DoSame h s x a = (regs : List BlockValue) (from : State) (t : Target) → Meets w h.slots s.objects regs from t → from.steps ≤ n → Follows w h Next from (x from) (runs w n t a regs)
 
   -- one part behind another
-  in_order : (inside : Bool) (loops : ℕ) (x y : Evaluation (Unit {0})) (a b : MonStatements) → DoSame inside loops x a → DoSame inside loops y b → DoSame inside loops (x >> y) (before a b)
-  in_order inside loops x y a b f g = λ vars regs steps out h le.
-      subst (λ q. Follows w (total w) inside loops Next steps out ((x >> y) (source_at w vars steps out)) q) (sym (before_is a b w.calls n regs (target_at w steps)))
-      (follows_then_in w (total w) inside loops Next steps out _ _ y (monitored.exec_all over_blocks b w.calls n) (f vars regs steps out h le)
-      (λ v r left o k l. g v r left o k (omega (arith, le, l))))
+  in_order : (h : Here) (s : Scopes) (x y : Evaluation (Unit {0})) (a b : MonStatements) → DoSame h s x a → DoSame h s y b → DoSame h s (x >> y) (before a b)
+  in_order h s x y a b f g = λ regs from t m le.
+      subst (λ q. Follows w h Next from ((x >> y) from) q) (sym (before_is a b w.calls n regs t))
+      (follows_then w h Next from _ _ y (monitored.exec_all over_blocks b w.calls n) (f regs from t m le)
+      (λ to after u o r be l. g after to u (meets_later w h.slots s.objects regs after from to t u l.kept m r be) (omega (arith, le, l.spent))))
 
   condition_int : (s : Scopes) (e : Expression) → IsCondition s e → HasInt (type_of e)
   condition_int s e c = scalar_int (type_of e) c.scalar
 
-  effect_does : (s : Scopes) (c : Scene w s) (inside : Bool) (loops : ℕ) (rs : List MonType) (e : Expression) → IsEffectOrCall e → WellTyped s e → EffectHasLetters e → total w ≤ length rs → length (rs ++ effect_temporaries_if_any (Some e)) ≤ w.registers → DoSame inside loops (effect_with (Some e) w.call) (effect_if_any w.names rs (Some e))
-  effect_does s c inside loops rs e p q l behind enough = λ vars regs steps out h le.
-      effect_follows w steps n s c inside loops vars regs h out rs behind e p q l enough
+  effect_does : (h : Here) (s : Scopes) (g : Stage h.slots s) (rs : List MonType) (e : Expression) → IsEffectOrCall e → WellTyped s e → EffectHasLetters e → count w + count w ≤ length rs → length (rs ++ effect_temporaries e) ≤ w.registers → DoSame h s (effect_with (Some e) w.call) (target.effect p w.numbers rs e)
+  effect_does h s g rs e pure q l behind enough = λ regs from t m le.
+      effect_follows p w n h s (scene_of h.slots s g) from t m.ready le rs behind regs m.related m.beside e pure q l enough
 
-  effect_if_any_does : (s : Scopes) (c : Scene w s) (inside : Bool) (loops : ℕ) (rs : List MonType) (e : Option Expression) → WhereAny (IsFullEffect most) e → WhereAny (WellTyped s) e → Any EffectHasLetters e → total w ≤ length rs → length (rs ++ effect_temporaries_if_any e) ≤ w.registers → DoSame inside loops (effect_with e w.call) (effect_if_any w.names rs e)
-  effect_if_any_does s c inside loops rs None p q l behind enough = λ vars regs steps out h le. stays w (total w) inside loops vars regs steps out h
-  effect_if_any_does s c inside loops rs (Some e) p q l behind enough = effect_does s c inside loops rs e (effect_or_call e p.is) q l behind enough
+  effect_if_any_does : (h : Here) (s : Scopes) (g : Stage h.slots s) (rs : List MonType) (e : Option Expression) → WhereAny (IsFullEffect most) e → WhereAny (WellTyped s) e → Any EffectHasLetters e → count w + count w ≤ length rs → length (rs ++ any_temporaries effect_temporaries e) ≤ w.registers → DoSame h s (effect_with e w.call) (effect_if_any p w.numbers rs e)
+  effect_if_any_does h s g rs None pure q l behind enough = λ regs from t m le. stays w h regs from t m.related m.beside
+  effect_if_any_does h s g rs (Some e) pure q l behind enough = effect_does h s g rs e (effect_or_call e pure.is) q l behind enough
 
-  test_does : (s : Scopes) (c : Scene w s) (loops : ℕ) (rs : List MonType) (e : Expression) → IsFull most e → IsCondition s e → HasLetters e → total w ≤ length rs → length (rs ++ temporaries e) ≤ w.registers → Tests w loops n (eval_with e w.call) (test w.names rs loops e)
-  test_does s c loops rs e p q l behind enough =
+  test_does : (slots : List Slot) (result : PlainType) (loops : ℕ) (s : Scopes) (g : Stage slots s) (rs : List MonType) (e : Expression) → IsFull most e → IsCondition s e → HasLetters e → count w + count w ≤ length rs → length (rs ++ temporaries e) ≤ w.registers → Tests w slots result loops n s (eval_with e w.call) (test w.numbers rs loops e)
+  test_does slots result loops s g rs e pure q l behind enough =
       let i = condition_int s e q in
-      tests w loops n s c.sight e rs i.int i.is p.is q.typed l behind enough
+      tests w slots result loops n s g.sight e rs i.int i.is pure.is q.typed l behind enough
 
-  test_if_any_does : (s : Scopes) (c : Scene w s) (loops : ℕ) (rs : List MonType) (e : Option Expression) → WhereAny (IsFull most) e → WhereAny (IsCondition s) e → Any HasLetters e → total w ≤ length rs → length (rs ++ temporaries_if_any e) ≤ w.registers → Tests w loops n (condition_with e w.call) (test_if_any w.names rs loops e)
-  test_if_any_does s c loops rs None p q l behind enough = no_test w loops n
-  test_if_any_does s c loops rs (Some e) p q l behind enough = test_does s c loops rs e p q l behind enough
+  test_if_any_does : (slots : List Slot) (result : PlainType) (loops : ℕ) (s : Scopes) (g : Stage slots s) (rs : List MonType) (e : Option Expression) → WhereAny (IsFull most) e → WhereAny (IsCondition s) e → Any HasLetters e → count w + count w ≤ length rs → length (rs ++ any_temporaries temporaries e) ≤ w.registers → Tests w slots result loops n s (condition_with e w.call) (test_if_any w.numbers rs loops e)
+  test_if_any_does slots result loops s g rs None pure q l behind enough = no_test w slots result loops n s
+  test_if_any_does slots result loops s g rs (Some e) pure q l behind enough = test_does slots result loops s g rs e pure q l behind enough
 
   -- `if`
-  choice_does : (s : Scopes) (c : Scene w s) (inside : Bool) (loops : ℕ) (rs : List MonType) (e : Expression) (x y : Evaluation (Unit {0})) (a b : MonStatements) → IsFull most e → IsCondition s e → HasLetters e → total w ≤ length rs → length (rs ++ temporaries e) ≤ w.registers → DoSame inside loops x a → DoSame inside loops y b → DoSame inside loops (λ s. on_outcome (eval_with e w.call s) (λ v. source.choose v x y)) (before (setup w.names rs e) (one (tree.If (condition_of w.names rs e) a b)))
-  choice_does s c inside loops rs e x y a b p q l behind enough f g = λ vars regs steps out h le.
+  choice_does : (h : Here) (s : Scopes) (g : Stage h.slots s) (rs : List MonType) (e : Expression) (x y : Evaluation (Unit {0})) (a b : MonStatements) → IsFull most e → IsCondition s e → HasLetters e → count w + count w ≤ length rs → length (rs ++ temporaries e) ≤ w.registers → DoSame h s x a → DoSame h s y b → DoSame h s (λ s. on_outcome (eval_with e w.call s) (λ v. source.choose v x y)) (before (setup w.numbers rs e) (one (tree.If (condition_of w.numbers rs e) a b)))
+  choice_does h s g rs e x y a b pure q l behind enough f k = λ regs from t m le.
       let i = condition_int s e q in
-      follows_value w (total w) inside loops Next i.int steps n out vars (eval_with e w.call (source_at w vars steps out)) (λ v. source.choose v x y) regs (length rs) (length (rs ++ temporaries e)) (setup w.names rs e) (one (tree.If (condition_of w.names rs e) a b)) (value w.names rs e)
-      (evaluates w steps n s (total w) (omega arith) c.sight vars out e i.int rs i.is p.is q.typed l behind enough regs h) (λ z fit after same has.
-      let k = holds_same w (total w) vars regs after (length rs) behind same h in
-      let t = test_is (type_of e) i.int (value w.names rs e) after z i.is fit has in
-      subst (λ d. Follows w (total w) inside loops Next steps out (source.choose (Integer z) x y (source_at w vars steps out)) d) (sym (if_runs w steps n (condition_of w.names rs e) a b after t.0 t.1))
-      (follows_choice w (total w) inside loops Next steps out (source_at w vars steps out) z t.0 x y _ _ t.2 (f vars after steps out k le) (g vars after steps out k le)))
+      follows_value w h Next i.int n from t (eval_with e w.call from) (λ v. source.choose v x y) regs (length rs) (length (rs ++ temporaries e)) (setup w.numbers rs e) (one (tree.If (condition_of w.numbers rs e) a b)) (value w.numbers rs e)
+      (evaluates w n h.slots s g.sight from t m.ready e i.int rs i.is pure.is q.typed l behind enough regs m.related) (λ z fit after same has.
+      let m2 = meets_later w h.slots s.objects regs after from from t t (kept_refl h.slots from.store) m (related_same w h.slots regs after from (length rs) behind same m.related) m.beside in
+      let c = test_is (type_of e) i.int (value w.numbers rs e) after z i.is fit has in
+      subst (λ d. Follows w h Next from (source.choose (Integer z) x y from) d) (sym (if_runs w n t (condition_of w.numbers rs e) a b after c.0 c.1))
+      (follows_choice w h Next from from z c.0 x y _ _ c.2 (f after from t m2 le) (k after from t m2 le)))
 
-  return_does : (s : Scopes) (c : Scene w s) (inside : Bool) (loops : ℕ) (rs : List MonType) (e : Expression) → type_of e ≡ int_type → IsFull most e → WellTyped s e → HasLetters e → total w ≤ length rs → length (rs ++ temporaries e) ≤ w.registers → DoSame inside loops (λ s. on_outcome (eval_with e w.call s) (λ v. stop (Leaves (Returns (Some v))))) (before (setup w.names rs e) (one (tree.Return (Some (value w.names rs e)))))
-  return_does s c inside loops rs e int p q l behind enough = λ vars regs steps out h le.
-      follows_value w (total w) inside loops Next I32 steps n out vars (eval_with e w.call (source_at w vars steps out)) (λ v. stop (Leaves (Returns (Some v)))) regs (length rs) (length (rs ++ temporaries e)) (setup w.names rs e) (one (tree.Return (Some (value w.names rs e)))) (value w.names rs e)
-      (evaluates w steps n s (total w) (omega arith) c.sight vars out e I32 rs int p.is q l behind enough regs h) (λ z fit after same has.
-      IsLeft z (source_at w vars steps out) [] refl (sym (append-nil out))
-      (one_is (tree.Return (Some (value w.names rs e))) w.calls n after (target_at w steps) ∙ ap (λ o. with_value o steps (λ v. Done (monitored.Returns (Some v)) (target_at w steps) [])) has))
+  return_does : (h : Here) (spot : Spot) (at : At w spot h) (s : Scopes) (g : Stage h.slots s) (rs : List MonType) (e : Option Expression) → WhereAny (IsFullOrCall most) e → Returned s h.result e → Any FullHasLetters e → count w + count w ≤ length rs → length (rs ++ any_temporaries full_temporaries e) ≤ w.registers → (at_place : Place) → DoSame h s (exec_with (Return at_place e) w.call (suc n)) (target.returned p w.numbers spot rs e)
+  return_does h spot at s g rs None pure q l behind enough place = λ regs from t m le.
+      leave_follows w n spot h at from regs t m.related m.beside None None (subst (λ k. IsResult k None) (sym q) tt) (λ u. one_is (tree.Return None) w.calls n regs u)
+  return_does h spot at s g rs (Some e) pure q l behind enough place = λ regs from t m le.
+      let i = integer_int h.result q.2 in
+      let code = before (deaths w.numbers (spot.inside ++ spot.outside)) (one (tree.Return (Some (full_value w.numbers rs e)))) in
+      follows_full p w n h s (scene_of h.slots s g) Next from t m.ready le rs behind regs m.related m.beside e i.int (λ v. stop (Leaves (Returns (Some v)))) code (q.1 ∙ i.is) pure.is q.0 l enough (λ z to u o after fit same r be la has.
+      leave_follows w n spot h at to after u r be (Some z) (Some (full_value w.numbers rs e)) (subst (λ k. IsResult k (Some z)) (sym i.is) fit)
+      (λ v. one_is (tree.Return (Some (full_value w.numbers rs e))) w.calls n after v ∙ ap (λ x. with_value x v.steps (λ y. Done (monitored.Returns (Some y)) v [])) has))
 
-  -- the loop of a `for`
-  abbrev target_loop : List MonType → ℕ → ForFirst → Option Expression → Option Expression → Statement → tree.MonStatement
-  target_loop rs loops first e step a =
-      loop (loops + 1) (test_if_any w.names (rs ++ first_temporaries first) (loops + 1) e)
-      (statement w.names (rs ++ first_temporaries first ++ temporaries_if_any e) (loops + 1) a)
-      (effect_if_any w.names (rs ++ first_temporaries first ++ temporaries_if_any e ++ statement_temporaries a) step)
+  -- ---- declarations, and what follows
 
-  -- the first part of a `for`
-  first_follows : (first : ForFirst) (s : Scopes) (r : Around) (loops : ℕ) (rs : List MonType) → Scene w s → FirstFormed most first → FirstTyped s r first → FirstHasNumbers first → total w ≤ length rs → length (rs ++ first_temporaries first) ≤ w.registers → DoSame r.loops loops (first_with first w.call (suc n)) (first_part w.names rs loops first)
-  first_follows NoFirst s r loops rs c p q l behind enough = λ vars regs steps out h le. stays w (total w) r.loops loops vars regs steps out h
-  first_follows (First (Run (Eval at e))) s r loops rs c p q l behind enough = effect_does s c r.loops loops rs e p.is q l behind enough
-  first_follows _ s r loops rs c p q l behind enough = absurd p
+  names_stay : (s : Scopes) (ds : List Declaration) → (with_objects s ds).names ≡ s.names
+  names_stay s [] = refl
+  names_stay s (d ∷ ds) = names_stay (with_object s d) ds
+
+  functions_stay : (s : Scopes) (ds : List Declaration) → (with_objects s ds).functions ≡ s.functions
+  functions_stay s [] = refl
+  functions_stay s (d ∷ ds) = functions_stay (with_object s d) ds
+
+  object_stage : (slots : List Slot) (s : Scopes) (d : Declaration) → HasSlot slots d → Stage slots s → Stage slots (with_object s d)
+  object_stage slots s d x g = record { sight = sight_declared slots s.objects d x g.sight; names_are = g.names_are; functions_are = g.functions_are }
+
+  pub objects_stage : (slots : List Slot) (s : Scopes) (ds : List Declaration) → HaveSlots slots ds → Stage slots s → Stage slots (with_objects s ds)
+  objects_stage slots s [] x g = g
+  objects_stage slots s (d ∷ ds) x g = objects_stage slots (with_object s d) ds x.1 (object_stage slots s d x.0 g)
+
+  declared_does : (h : Here) (ds : List Declaration) (s : Scopes) (rs : List MonType) (rest : Evaluation (Unit {0})) (code : MonStatements) → Stage h.slots s → HaveSlots h.slots ds → AreInitialised most ds → AreDeclared s ds → InitialsHaveLetters ds → count w + count w ≤ length rs → length (rs ++ declaration_temporaries ds) ≤ w.registers → DoSame h (with_objects s ds) rest code → DoSame h s (initialise_all ds w.call >> rest) (before (target.initialise_all p w.numbers rs ds) code)
+  declared_does h [] s rs rest code g x pure q l behind enough go = go
+  declared_does h (d ∷ ds) s rs rest code g x pure q l behind enough go = λ regs from t m le.
+      let here = initial_temporaries d.init in
+      let next = rs ++ here in
+      let long = two rs here (declaration_temporaries ds) in
+      let later = declared_does h ds (with_object s d) next rest code (object_stage h.slots s d x.0 g) x.1 pure.1 q.1 l.1 (omega (arith, behind, longer rs here)) (omega (arith, long, enough)) go in
+      subst (λ r. Follows w h Next from r (runs w n t (before (before (target.initialise p w.numbers rs (number_of d) d.init) (target.initialise_all p w.numbers next ds)) code) regs)) (sym (handed_on (source.initialise d d.init w.call from) (λ _. initialise_all ds w.call) (λ _. rest)))
+      (subst (λ a. Follows w h Next from (on_outcome (source.initialise d d.init w.call from) (λ _. initialise_all ds w.call >> rest)) (runs w n t a regs)) (sym (before_assoc (target.initialise p w.numbers rs (number_of d) d.init) (target.initialise_all p w.numbers next ds) code))
+      (by regs from t m le d.init (omega (arith, long, longer next (declaration_temporaries ds), enough)) pure.0 q.0.init l.0
+      (λ to u o after r be la is_set. later after to u (record { related = r; beside = be; ready = ready_declared to.store h.slots s.objects d x.0 is_set (ready_later from.store to.store h.slots s.objects la.kept m.ready) }) (omega (arith, le, la.spent)))))
+    where
+      after_it : MonStatements
+      after_it = before (target.initialise_all p w.numbers (rs ++ initial_temporaries d.init) ds) code
+
+      by : (regs : List BlockValue) (from : State) (t : Target) (m : Meets w h.slots s.objects regs from t) (le : from.steps ≤ n) → (o : Option (Place × Initialiser)) → length (rs ++ initial_temporaries o) ≤ w.registers → IsInitialiser most o → Initialises s d.ctype o → InitialHasLetters o → ((to : State) (u : Target) (out : List ℕ) (after : List BlockValue) → Related w h.slots after to → Beside w h.slots to u → Later h.slots from to out → IsSet to.store x.0.slot → Follows w h Next to ((initialise_all ds w.call >> rest) to) (runs w n u after_it after)) → Follows w h Next from (on_outcome (source.initialise d o w.call from) (λ _. initialise_all ds w.call >> rest)) (runs w n t (before (target.initialise p w.numbers rs (number_of d) o) after_it) regs)
+      by regs from t m le None room i j k go = absurd i
+      by regs from t m le (Some (at, One e)) room i j k go =
+          initial_follows p w n h s (scene_of h.slots s g) from t m.ready le rs behind regs m.related m.beside d at e x.0.slot (initialise_all ds w.call >> rest) after_it x.0.found x.0.ctype i.is j.0 j.1 k room go
+
+  -- ---- blocks
+
+  -- variables are born, and live while this is done
+  pub block_does : (h : Here) (s : Scopes) (g : Stage h.slots s) (room : count w + count w ≤ w.registers) (ds : List Declaration) (x : Evaluation (Unit {0})) (a : MonStatements) → AllCanBeBorn w.numbers (decls_of h.slots) ds → ((old : State) → Stage (behind_births h old ds).slots s → HaveSlots (behind_births h old ds).slots ds → DoSame (behind_births h old ds) s x a) → DoSame h s (within (births ds >> x)) (target.alive w.numbers ds a)
+  block_does h s g room ds x a c f = λ regs from t m le.
+      block_follows w h n room ds x a regs from t m.related m.beside c (λ to after u r b l.
+      f from (record { sight = sight_behind w.numbers (length from.store) ds h.slots s.objects c g.sight; names_are = g.names_are; functions_are = g.functions_are })
+      (born_have_slots w.numbers (length from.store) ds h.slots c)
+      after to u (record { related = r; beside = b; ready = ready_behind w.numbers (length from.store) ds h.slots s.objects from.store to.store c g.sight l.kept m.ready }) (omega (arith, le, l.spent)))
+
+  -- ---- the loop of a `for`
+
+  abbrev for_turns : Option Expression → Option Expression → Statement → Evaluation (Unit {0})
+  for_turns e step a = turns (suc n) (condition_with e w.call) (exec_with a w.call (suc n)) (effect_with step w.call)
+
+  abbrev for_code : Spot → List MonType → Option Expression → Option Expression → Statement → MonStatements
+  for_code spot rs e step a =
+      one (loop (spot.loops + 1) (test_if_any w.numbers rs (spot.loops + 1) e)
+      (statement p w.numbers (target.in_loop spot) (rs ++ any_temporaries temporaries e) a)
+      (effect_if_any p w.numbers (rs ++ any_temporaries temporaries e ++ statement_temporaries a) step))
+
+  for_does : (h : Here) (spot : Spot) (s : Scopes) (g : Stage h.slots s) (rs : List MonType) (e step : Option Expression) (a : Statement) → WhereAny (IsFull most) e → WhereAny (IsCondition s) e → Any HasLetters e → WhereAny (IsFullEffect most) step → WhereAny (WellTyped s) step → Any EffectHasLetters step → count w + count w ≤ length rs → length (rs ++ any_temporaries temporaries e ++ statement_temporaries a ++ any_temporaries effect_temporaries step) ≤ w.registers → DoSame (in_body w h.slots h.result (spot.loops + 1)) s (exec_with a w.call (suc n)) (statement p w.numbers (target.in_loop spot) (rs ++ any_temporaries temporaries e) a) → DoSame h s (for_turns e step a) (for_code spot rs e step a)
+  for_does h spot s g rs e step a e_full e_typed e_letters step_full step_typed step_letters behind enough body = λ regs from t m le.
+      let te = any_temporaries temporaries e in
+      let ta = statement_temporaries a in
+      let ts = any_temporaries effect_temporaries step in
+      let l = spot.loops + 1 in
+      let f1 = longer rs te in
+      let f2 = longer (rs ++ te) ta in
+      let f3 = longer (rs ++ te ++ ta) ts in
+      loop_follows w h.slots h.result l n h.around h.looped h.loops from _ regs t (test_if_any w.numbers rs l e) (statement p w.numbers (target.in_loop spot) (rs ++ te) a) (effect_if_any p w.numbers (rs ++ te ++ ta) step)
+      (turns_follow w h.slots h.result l n s (condition_with e w.call) (exec_with a w.call (suc n)) (statement p w.numbers (target.in_loop spot) (rs ++ te) a) body
+      (test_if_any w.numbers rs l e) (test_if_any_does h.slots h.result l s g rs e e_full e_typed e_letters behind (omega (arith, enough, f2, f3)))
+      (effect_with step w.call) (effect_if_any p w.numbers (rs ++ te ++ ta) step)
+      (effect_if_any_does (in_turn w h.slots h.result l) s g (rs ++ te ++ ta) step step_full step_typed step_letters (omega (arith, behind, f1, f2)) enough)
+      n regs from t m le le)
+
+  -- what stands first, and then the loop
+  abbrev BodyDoes : ForFirst → Scopes → Here → Spot → List MonType → Option Expression → Statement → Type 0
+  BodyDoes first s h spot rs e a =
+      (old : State) → Stage (behind_births h old (declared_first first)).slots (behind_first (inner s) first) → DoSame (in_body w (behind_births h old (declared_first first)).slots h.result (spot.loops + 1)) (behind_first (inner s) first) (exec_with a w.call (suc n)) (statement p w.numbers (target.in_loop (with_variables w.numbers (declared_first first) spot)) (rs ++ first_temporaries first ++ any_temporaries temporaries e) a)
+
+  first_then : (first : ForFirst) (s : Scopes) (r : Around) (h : Here) (spot : Spot) (rs : List MonType) (x : Evaluation (Unit {0})) (code : MonStatements) (old : State) → Stage (behind_births h old (declared_first first)).slots (inner s) → HaveSlots (behind_births h old (declared_first first)).slots (declared_first first) → FirstFormed most first → FirstTyped (inner s) r first → FirstHasNumbers first → count w + count w ≤ length rs → length (rs ++ first_temporaries first) ≤ w.registers → (Stage (behind_births h old (declared_first first)).slots (behind_first (inner s) first) → DoSame (behind_births h old (declared_first first)) (behind_first (inner s) first) x code) → DoSame (behind_births h old (declared_first first)) (inner s) (first_with first w.call (suc n) >> x) (before (first_part p w.numbers (with_variables w.numbers (declared_first first) spot) rs first) code)
+  first_then NoFirst s r h spot rs x code old g have f q l behind enough go = go g
+  first_then (First (Run (Eval at e))) s r h spot rs x code old g have f q l behind enough go =
+      in_order (behind_births h old []) (inner s) (effect_with (Some e) w.call) x (target.effect p w.numbers rs e) code (effect_does (behind_births h old []) (inner s) g rs e f.is q l behind enough) (go g)
+  first_then (First (Declare ds)) s r h spot rs x code old g have f q l behind enough go =
+      declared_does (behind_births h old ds) ds (inner s) rs x code g have f q l behind enough (go (objects_stage (behind_births h old ds).slots (inner s) ds have g))
+  first_then _ s r h spot rs x code old g have f q l behind enough go = absurd f
+
+  for_follows : (at : Place) (annots : List Annotation) (first : ForFirst) (s : Scopes) (r : Around) (h : Here) (spot : Spot) (rs : List MonType) (e step : Option Expression) (a : Statement) → Stage h.slots s → AllCanBeBorn w.numbers (decls_of h.slots) (declared_first first) → FirstFormed most first → FirstTyped (inner s) r first → FirstHasNumbers first → WhereAny (IsFull most) e → WhereAny (IsCondition (behind_first (inner s) first)) e → Any HasLetters e → WhereAny (IsFullEffect most) step → WhereAny (WellTyped (behind_first (inner s) first)) step → Any EffectHasLetters step → count w + count w ≤ length rs → length (rs ++ statement_temporaries (For at annots first e step a)) ≤ w.registers → BodyDoes first s h spot rs e a → DoSame h s (exec_with (For at annots first e step a) w.call (suc n)) (statement p w.numbers spot rs (For at annots first e step a))
+  for_follows at annots first s r h spot rs e step a g c f_formed f_typed f_letters e_full e_typed e_letters step_full step_typed step_letters behind enough body = λ regs from t m le.
+      let ds = declared_first first in
+      let spot2 = with_variables w.numbers ds spot in
+      let tf = first_temporaries first in
+      let te = any_temporaries temporaries e in
+      let ta = statement_temporaries a in
+      let ts = any_temporaries effect_temporaries step in
+      let all = four rs tf te ta ts in
+      let f1 = longer rs tf in
+      let f2 = longer (rs ++ tf) te in
+      let f3 = longer (rs ++ tf ++ te) ta in
+      let f4 = longer (rs ++ tf ++ te ++ ta) ts in
+      let more : length ((rs ++ tf) ++ (te ++ ta ++ ts)) ≡ length (rs ++ tf ++ te ++ ta ++ ts) = three (rs ++ tf) te ta ts in
+      let turns_of = for_turns e step a in
+      let code = for_code spot2 (rs ++ tf) e step a in
+      subst (λ x. Follows w h Next from (restored from x) (runs w n t (target.alive w.numbers ds (before (first_part p w.numbers spot2 rs first) code)) regs)) (sym (handed_on (births ds from) (λ _. first_with first w.call (suc n)) (λ _. turns_of)))
+      (block_does h s g (omega (arith, behind, enough, all, f1, f2, f3, f4)) ds (first_with first w.call (suc n) >> turns_of) (before (first_part p w.numbers spot2 rs first) code) c
+      (λ old g2 have. first_then first s r h spot rs turns_of code old (inner_stage (behind_births h old ds).slots s g2) have f_formed f_typed f_letters behind (omega (arith, enough, all, f2, f3, f4)) (λ g3.
+      for_does (behind_births h old ds) spot2 (behind_first (inner s) first) g3 (rs ++ tf) e step a e_full e_typed e_letters step_full step_typed step_letters (omega (arith, behind, f1)) (omega (arith, enough, all)) (body old g3)))
+      regs from t m le)
+
+  -- ---- all statements
 
   mutual
-    pub statement_follows : (a : Statement) (s : Scopes) (r : Around) (loops : ℕ) (rs : List MonType) → Scene w s → r.result ≡ int_type → StatementFormed most a → StatementTyped s r a → StatementNoted s a → HasNumbers a → total w ≤ length rs → length (rs ++ statement_temporaries a) ≤ w.registers → DoSame r.loops loops (exec_with a w.call (suc n)) (statement w.names rs loops a)
-    statement_follows (Empty at) s r loops rs c int p q m l behind enough = λ vars regs steps out h le. stays w (total w) r.loops loops vars regs steps out h
-    statement_follows (Eval at e) s r loops rs c int p q m l behind enough = effect_does s c r.loops loops rs e p.is q l behind enough
-    statement_follows (Block at body) s r loops rs c int p q m l behind enough = λ vars regs steps out h le.
-        subst (λ ds. Follows w (total w) r.loops loops Next steps out (restored (source_at w vars steps out) ((births ds >> items_with body w.call (suc n)) (source_at w vars steps out))) (runs w steps n (items w.names rs loops body) regs)) (sym (none_declared most body p))
-        (follows_restored w (total w) (total w) r.loops loops Next steps out vars regs _ _ h (items_follow body (inner s) r loops rs (inner_scene w s c) int p q m l behind enough vars regs steps out h le))
-    statement_follows (If at e a b) s r loops rs c int p q m l behind enough =
+    pub statement_follows : (a : Statement) (s : Scopes) (r : Around) (h : Here) (spot : Spot) (rs : List MonType) → At w spot h → Stage h.slots s → r.result ≡ h.result → r.loops ≡ h.looped → CanDeclare w.numbers (decls_of h.slots) a → StatementFormed most a → StatementTyped s r a → StatementNoted s a → HasNumbers a → count w + count w ≤ length rs → length (rs ++ statement_temporaries a) ≤ w.registers → DoSame h s (exec_with a w.call (suc n)) (statement p w.numbers spot rs a)
+    statement_follows (Empty at) s r h spot rs stands g result looped c f q m l behind enough = λ regs from t x le. stays w h regs from t x.related x.beside
+    statement_follows (Eval at e) s r h spot rs stands g result looped c f q m l behind enough = effect_does h s g rs e f.is q l behind enough
+    statement_follows (Block at body) s r h spot rs stands g result looped c f q m l behind enough =
+        block_does h s g (omega (arith, behind, enough, longer rs (items_temporaries body))) (declared_in body) (items_with body w.call (suc n)) (items p w.numbers (with_variables w.numbers (declared_in body) spot) rs body) c.0 (λ old g2 have.
+        items_follow body (inner s) r (behind_births h old (declared_in body)) (with_variables w.numbers (declared_in body) spot) rs (at_births w spot h old (declared_in body) stands) (inner_stage (behind_births h old (declared_in body)).slots s g2) have result looped
+        (subst (λ living. ItemsCanDeclare w.numbers living body) (sym (decls_of-born (length old.store) (declared_in body) h.slots)) c.1) f q m l behind enough)
+    statement_follows (If at e a b) s r h spot rs stands g result looped c f q m l behind enough =
         let te = temporaries e in
         let ta = statement_temporaries a in
         let tb = else_temporaries b in
         let all = three rs te ta tb in
-        choice_does s c r.loops loops rs e (exec_with a w.call (suc n)) (else_with b w.call (suc n)) (statement w.names (rs ++ te) loops a) (else_part w.names (rs ++ te ++ ta) loops b) p.0 q.0 l.0 behind
+        choice_does h s g rs e (exec_with a w.call (suc n)) (else_with b w.call (suc n)) (statement p w.numbers spot (rs ++ te) a) (else_part p w.numbers spot (rs ++ te ++ ta) b) f.0 q.0 l.0 behind
         (omega (arith, enough, all, longer (rs ++ te) ta, longer (rs ++ te ++ ta) tb))
-        (statement_follows a s r loops (rs ++ te) c int p.1 q.1 m.0 l.1 (omega (arith, behind, longer rs te)) (omega (arith, enough, all, longer (rs ++ te ++ ta) tb)))
-        (else_follows b s r loops (rs ++ te ++ ta) c int p.2 q.2 m.1 l.2 (omega (arith, behind, longer rs te, longer (rs ++ te) ta)) (omega (arith, enough, all)))
-    statement_follows (While at annots e a) s r loops rs c int p q m l behind enough = λ vars regs steps out h le.
+        (statement_follows a s r h spot (rs ++ te) stands g result looped c.0 f.1 q.1 m.0 l.1 (omega (arith, behind, longer rs te)) (omega (arith, enough, all, longer (rs ++ te ++ ta) tb)))
+        (else_follows b s r h spot (rs ++ te ++ ta) stands g result looped c.1 f.2 q.2 m.1 l.2 (omega (arith, behind, longer rs te, longer (rs ++ te) ta)) (omega (arith, enough, all)))
+    statement_follows (While at annots e a) s r h spot rs stands g result looped c f q m l behind enough = λ regs from t x le.
         let te = temporaries e in
         let ta = statement_temporaries a in
         let all = two rs te ta in
-        loop_follows w (loops + 1) n r.loops loops steps out _ regs (test w.names rs (loops + 1) e) (statement w.names (rs ++ te) (loops + 1) a) NoStatement
-        (turns_follow w (loops + 1) n (eval_with e w.call) (exec_with a w.call (suc n)) (statement w.names (rs ++ te) (loops + 1) a)
-        (statement_follows a s (in_loop r) (loops + 1) (rs ++ te) c int p.2 q.1 m.1 l.1 (omega (arith, behind, longer rs te)) (omega (arith, enough, all)))
-        (test w.names rs (loops + 1) e) (test_does s c (loops + 1) rs e p.1 q.0 l.0 behind (omega (arith, enough, all, longer (rs ++ te) ta)))
-        state.done NoStatement (λ vars regs steps out h le. stays w (total w) false (loops + 1) vars regs steps out h) n vars regs steps out h le le)
-    statement_follows (Do at a e) s r loops rs c int p q m l behind enough = λ vars regs steps out h le.
+        let k = spot.loops + 1 in
+        loop_follows w h.slots h.result k n h.around h.looped h.loops from _ regs t (test w.numbers rs k e) (statement p w.numbers (target.in_loop spot) (rs ++ te) a) NoStatement
+        (turns_follow w h.slots h.result k n s (eval_with e w.call) (exec_with a w.call (suc n)) (statement p w.numbers (target.in_loop spot) (rs ++ te) a)
+        (statement_follows a s (in_loop r) (in_body w h.slots h.result k) (target.in_loop spot) (rs ++ te) (at_loop w spot h stands) g result refl c f.2 q.1 m.1 l.1 (omega (arith, behind, longer rs te)) (omega (arith, enough, all)))
+        (test w.numbers rs k e) (test_does h.slots h.result k s g rs e f.1 q.0 l.0 behind (omega (arith, enough, all, longer (rs ++ te) ta)))
+        state.done NoStatement (λ regs from t x le. stays w (in_turn w h.slots h.result k) regs from t x.related x.beside) n regs from t x le le)
+    statement_follows (Do at a e) s r h spot rs stands g result looped c f q m l behind enough = λ regs from t x le.
         let te = temporaries e in
         let ta = statement_temporaries a in
         let all = two rs ta te in
-        loop_follows w (loops + 1) n r.loops loops steps out _ regs NoStatement (statement w.names rs (loops + 1) a) (test w.names (rs ++ ta) (loops + 1) e)
-        (do_turns_follow w (loops + 1) n (eval_with e w.call) (exec_with a w.call (suc n)) (statement w.names rs (loops + 1) a)
-        (statement_follows a s (in_loop r) (loops + 1) rs c int p.0 q.0 m l.0 behind (omega (arith, enough, all, longer (rs ++ ta) te)))
-        (test w.names (rs ++ ta) (loops + 1) e) (test_does s c (loops + 1) (rs ++ ta) e p.1 q.1 l.1 (omega (arith, behind, longer rs ta)) (omega (arith, enough, all)))
-        n vars regs steps out h le le)
-    statement_follows (For at annots first e step a) s r loops rs c int p q m l behind enough = λ vars regs steps out h le.
+        let k = spot.loops + 1 in
+        loop_follows w h.slots h.result k n h.around h.looped h.loops from _ regs t NoStatement (statement p w.numbers (target.in_loop spot) rs a) (test w.numbers (rs ++ ta) k e)
+        (do_turns_follow w h.slots h.result k n s (eval_with e w.call) (exec_with a w.call (suc n)) (statement p w.numbers (target.in_loop spot) rs a)
+        (statement_follows a s (in_loop r) (in_body w h.slots h.result k) (target.in_loop spot) rs (at_loop w spot h stands) g result refl c f.0 q.0 m l.0 behind (omega (arith, enough, all, longer (rs ++ ta) te)))
+        (test w.numbers (rs ++ ta) k e) (test_does h.slots h.result k s g (rs ++ ta) e f.1 q.1 l.1 (omega (arith, behind, longer rs ta)) (omega (arith, enough, all)))
+        n regs from t x le le)
+    statement_follows (For at annots first e step a) s r h spot rs stands g result looped c f q m l behind enough =
+        let ds = declared_first first in
         let tf = first_temporaries first in
-        let te = temporaries_if_any e in
-        let ts = effect_temporaries_if_any step in
+        let te = any_temporaries temporaries e in
         let ta = statement_temporaries a in
+        let ts = any_temporaries effect_temporaries step in
         let all = four rs tf te ta ts in
-        let t = inner s in
-        let d = inner_scene w s c in
-        let same = same_behind_first most t first p.1 in
         let f1 = longer rs tf in
         let f2 = longer (rs ++ tf) te in
-        let f3 = longer (rs ++ tf ++ te) ta in
         let f4 = longer (rs ++ tf ++ te ++ ta) ts in
-        let whole = turns (suc n) (condition_with e w.call) (exec_with a w.call (suc n)) (effect_with step w.call) in
-        let round : DoSame r.loops loops whole (one (target_loop rs loops first e step a)) = λ vars regs steps out h le.
-        loop_follows w (loops + 1) n r.loops loops steps out _ regs (test_if_any w.names (rs ++ tf) (loops + 1) e) (statement w.names (rs ++ tf ++ te) (loops + 1) a) (effect_if_any w.names (rs ++ tf ++ te ++ ta) step)
-        (turns_follow w (loops + 1) n (condition_with e w.call) (exec_with a w.call (suc n)) (statement w.names (rs ++ tf ++ te) (loops + 1) a)
-        (statement_follows a t (in_loop r) (loops + 1) (rs ++ tf ++ te) d int p.4 (subst (λ t. StatementTyped t (in_loop r) a) same q.3) (subst (λ t. StatementNoted t a) same m.1) l.2 (omega (arith, behind, f1, f2)) (omega (arith, enough, all, f4)))
-        (test_if_any w.names (rs ++ tf) (loops + 1) e) (test_if_any_does t d (loops + 1) (rs ++ tf) e p.2 (subst (λ t. WhereAny (IsCondition t) e) same q.1) l.1 (omega (arith, behind, f1)) (omega (arith, enough, all, f3, f4)))
-        (effect_with step w.call) (effect_if_any w.names (rs ++ tf ++ te ++ ta) step)
-        (effect_if_any_does t d false (loops + 1) (rs ++ tf ++ te ++ ta) step p.3 (subst (λ t. WhereAny (WellTyped t) step) same q.2) l.3 (omega (arith, behind, f1, f2, f3)) (omega (arith, enough, all)))
-        n vars regs steps out h le le) in
-        subst (λ ds. Follows w (total w) r.loops loops Next steps out (restored (source_at w vars steps out) ((births ds >> first_with first w.call (suc n) >> whole) (source_at w vars steps out))) (runs w steps n (before (first_part w.names rs loops first) (one (target_loop rs loops first e step a))) regs)) (sym (first_declares_nothing most first p.1))
-        (follows_restored w (total w) (total w) r.loops loops Next steps out vars regs _ _ h
-        (in_order r.loops loops (first_with first w.call (suc n)) whole (first_part w.names rs loops first) (one (target_loop rs loops first e step a)) (first_follows first t r loops rs d p.1 q.0 l.0 behind (omega (arith, enough, all, f2, f3, f4))) round vars regs steps out h le))
-    statement_follows (Break at) s r loops rs c int p q m l behind enough = λ vars regs steps out h le.
-        Breaks vars regs steps [] q h (omega arith) (ap (λ o. Stop (Leaves state.Breaks) (source_at w vars steps o)) (sym (append-nil out))) refl
-    statement_follows (Continue at) s r loops rs c int p q m l behind enough = λ vars regs steps out h le.
-        Continues vars regs steps [] q h (omega arith) (ap (λ o. Stop (Leaves state.Continues) (source_at w vars steps o)) (sym (append-nil out))) refl
-    statement_follows (Return at None) s r loops rs c int p q m l behind enough = let void : int_type ≡ Void = sym int ∙ q in absurd cc
-    statement_follows (Return at (Some e)) s r loops rs c int p q m l behind enough = return_does s c r.loops loops rs e (q.1 ∙ int) p q.0 l behind enough
+        for_follows at annots first s r h spot rs e step a g c.0 f.1 q.0 l.0 f.2 q.1 l.1 f.3 q.2 l.3 behind enough (λ old g2.
+        statement_follows a (behind_first (inner s) first) (in_loop r) (in_body w (behind_births h old ds).slots h.result (spot.loops + 1)) (target.in_loop (with_variables w.numbers ds spot)) (rs ++ tf ++ te)
+        (at_loop w (with_variables w.numbers ds spot) (behind_births h old ds) (at_births w spot h old ds stands)) g2 result refl
+        (subst (λ living. CanDeclare w.numbers living a) (sym (decls_of-born (length old.store) ds h.slots)) c.1)
+        f.4 q.3 m.1 l.2 (omega (arith, behind, f1, f2)) (omega (arith, enough, all, f4)))
+    statement_follows (Break at) s r h spot rs stands g result looped c f q m l behind enough = λ regs from t x le. break_follows w n spot h stands from regs t x.related x.beside (sym looped ∙ q)
+    statement_follows (Continue at) s r h spot rs stands g result looped c f q m l behind enough = λ regs from t x le. continue_follows w n spot h stands from regs t x.related x.beside (sym looped ∙ q)
+    statement_follows (Return at e) s r h spot rs stands g result looped c f q m l behind enough = return_does h spot stands s g rs e f (subst (λ k. Returned s k e) result q) l behind enough at
 
-    pub else_follows : (b : ElsePart) (s : Scopes) (r : Around) (loops : ℕ) (rs : List MonType) → Scene w s → r.result ≡ int_type → ElseFormed most b → ElseTyped s r b → ElseNoted s b → ElseHasNumbers b → total w ≤ length rs → length (rs ++ else_temporaries b) ≤ w.registers → DoSame r.loops loops (else_with b w.call (suc n)) (else_part w.names rs loops b)
-    else_follows NoElse s r loops rs c int p q m l behind enough = λ vars regs steps out h le. stays w (total w) r.loops loops vars regs steps out h
-    else_follows (Else a) s r loops rs c int p q m l behind enough = statement_follows a s r loops rs c int p q m l behind enough
+    pub else_follows : (b : ElsePart) (s : Scopes) (r : Around) (h : Here) (spot : Spot) (rs : List MonType) → At w spot h → Stage h.slots s → r.result ≡ h.result → r.loops ≡ h.looped → ElseCanDeclare w.numbers (decls_of h.slots) b → ElseFormed most b → ElseTyped s r b → ElseNoted s b → ElseHasNumbers b → count w + count w ≤ length rs → length (rs ++ else_temporaries b) ≤ w.registers → DoSame h s (else_with b w.call (suc n)) (else_part p w.numbers spot rs b)
+    else_follows NoElse s r h spot rs stands g result looped c f q m l behind enough = λ regs from t x le. stays w h regs from t x.related x.beside
+    else_follows (Else a) s r h spot rs stands g result looped c f q m l behind enough = statement_follows a s r h spot rs stands g result looped c f q m l behind enough
 
-    pub item_follows : (i : BlockItem) (s : Scopes) (r : Around) (loops : ℕ) (rs : List MonType) → Scene w s → r.result ≡ int_type → ItemFormed most i → ItemTyped s r i → ItemNoted s i → ItemHasNumbers i → total w ≤ length rs → length (rs ++ item_temporaries i) ≤ w.registers → DoSame r.loops loops (item_with i w.call (suc n)) (item w.names rs loops i)
-    item_follows (Declare ds) s r loops rs c int p q m l behind enough = absurd p
-    item_follows (Run a) s r loops rs c int p q m l behind enough = statement_follows a s r loops rs c int p q m l behind enough
-    item_follows (Asserts annots) s r loops rs c int p q m l behind enough = λ vars regs steps out h le.
-        anywhere w (total w) r.loops loops loops Next steps out _ _ (assertions_follow w s c.sight loops vars regs h steps out n annots p m l)
-
-    pub items_follow : (is : BlockItems) (s : Scopes) (r : Around) (loops : ℕ) (rs : List MonType) → Scene w s → r.result ≡ int_type → ItemsFormed most is → ItemsTyped s r is → ItemsNoted s is → HaveNumbers is → total w ≤ length rs → length (rs ++ items_temporaries is) ≤ w.registers → DoSame r.loops loops (items_with is w.call (suc n)) (items w.names rs loops is)
-    items_follow NoItem s r loops rs c int p q m l behind enough = λ vars regs steps out h le. stays w (total w) r.loops loops vars regs steps out h
-    items_follow (Then (Declare ds) rest) s r loops rs c int p q m l behind enough = absurd p.0
-    items_follow (Then (Run a) rest) s r loops rs c int p q m l behind enough =
+    pub items_follow : (is : BlockItems) (s : Scopes) (r : Around) (h : Here) (spot : Spot) (rs : List MonType) → At w spot h → Stage h.slots s → HaveSlots h.slots (declared_in is) → r.result ≡ h.result → r.loops ≡ h.looped → ItemsCanDeclare w.numbers (decls_of h.slots) is → ItemsFormed most is → ItemsTyped s r is → ItemsNoted s is → HaveNumbers is → count w + count w ≤ length rs → length (rs ++ items_temporaries is) ≤ w.registers → DoSame h s (items_with is w.call (suc n)) (items p w.numbers spot rs is)
+    items_follow NoItem s r h spot rs stands g have result looped c f q m l behind enough = λ regs from t x le. stays w h regs from t x.related x.beside
+    items_follow (Then (Declare ds) rest) s r h spot rs stands g have result looped c f q m l behind enough =
+        let td = declaration_temporaries ds in
+        let tr = items_temporaries rest in
+        let all = two rs td tr in
+        let x = have_front h.slots ds (declared_in rest) have in
+        declared_does h ds s rs (items_with rest w.call (suc n)) (items p w.numbers spot (rs ++ td) rest) g x f.0 q.0 l.0 behind (omega (arith, enough, all, longer (rs ++ td) tr))
+        (items_follow rest (with_objects s ds) r h spot (rs ++ td) stands (objects_stage h.slots s ds x g) (have_behind h.slots ds (declared_in rest) have) result looped c.1 f.1 q.1 m.1 l.1 (omega (arith, behind, longer rs td)) (omega (arith, enough, all)))
+    items_follow (Then (Run a) rest) s r h spot rs stands g have result looped c f q m l behind enough =
         let ta = statement_temporaries a in
-        let all = two rs ta (items_temporaries rest) in
-        in_order r.loops loops (exec_with a w.call (suc n)) (items_with rest w.call (suc n)) (statement w.names rs loops a) (items w.names (rs ++ ta) loops rest)
-        (statement_follows a s r loops rs c int p.0 q.0 m.0 l.0 behind (omega (arith, enough, all, longer (rs ++ ta) (items_temporaries rest))))
-        (items_follow rest s r loops (rs ++ ta) c int p.1 q.1 m.1 l.1 (omega (arith, behind, longer rs ta)) (omega (arith, enough, all)))
-    items_follow (Then (Asserts annots) rest) s r loops rs c int p q m l behind enough =
-        in_order r.loops loops (item_with (Asserts annots) w.call (suc n)) (items_with rest w.call (suc n)) (item w.names rs loops (Asserts annots)) (items w.names (rs ++ []) loops rest)
-        (item_follows (Asserts annots) s r loops rs c int p.0 q.0 m.0 l.0 behind (omega (arith, enough, two rs [] (items_temporaries rest), longer (rs ++ []) (items_temporaries rest))))
-        (items_follow rest s r loops (rs ++ []) c int p.1 q.1 m.1 l.1 (omega (arith, behind, longer rs [])) (omega (arith, enough, two rs [] (items_temporaries rest))))
+        let tr = items_temporaries rest in
+        let all = two rs ta tr in
+        in_order h s (exec_with a w.call (suc n)) (items_with rest w.call (suc n)) (statement p w.numbers spot rs a) (items p w.numbers spot (rs ++ ta) rest)
+        (statement_follows a s r h spot rs stands g result looped c.0 f.0 q.0 m.0 l.0 behind (omega (arith, enough, all, longer (rs ++ ta) tr)))
+        (items_follow rest s r h spot (rs ++ ta) stands g have result looped c.1 f.1 q.1 m.1 l.1 (omega (arith, behind, longer rs ta)) (omega (arith, enough, all)))
+    items_follow (Then (Asserts annots) rest) s r h spot rs stands g have result looped c f q m l behind enough =
+        let all = two rs [] (items_temporaries rest) in
+        in_order h s (item_with (Asserts annots) w.call (suc n)) (items_with rest w.call (suc n)) (item p w.numbers spot rs (Asserts annots)) (items p w.numbers spot (rs ++ []) rest)
+        (λ regs from t x le. assertions_follow w h s g.sight n annots f.0 m.0 l.0 regs from t x.related x.beside x.ready)
+        (items_follow rest s r h spot (rs ++ []) stands g have result looped c.1 f.1 q.1 m.1 l.1 (omega (arith, behind, longer rs [])) (omega (arith, enough, all)))

@@ -14,24 +14,24 @@ use Rattle.c_syntax.specs.declared.annotation.Relation.TheVariants as relation
 use Rattle.c_syntax.specs.Ctypes.{PlainType, Int}
 use Rattle.c_syntax.specs.Annotations.{LogicTerm, Number, Letter, Variable, Binary, Chain, NoLink, Linked, ClauseBody, Truth}
 use Rattle.c_model.specs.Integers.{fits, truth}
-use Rattle.c_model.specs.Memory.{Value, Integer, Into}
-use Rattle.c_model.specs.State.{State, start_of}
+use Rattle.c_model.specs.Memory.{Into}
+use Rattle.c_model.specs.State.{State, find, start_of}
 use Rattle.c_model.specs.Logic as source
 use Rattle.c_model.specs.Logic.{Mathematical, Says, lazily, both, compute, read_object, of_value, related, relates}
 use Rattle.c_model.specs.Typing.{Scopes}
 use Rattle.c_model.specs.WellTypedPrograms.{TermDenotes, TermTyped, ClauseTyped}
 use Rattle.c_model.specs.Formed.{IsLogicNumber, IsSumTerm, leaves_of_term, IsRelation}
-use Rattle.std.specs.Prelude.{suc, slice_get}
+use Rattle.std.specs.Prelude.{suc}
 use Rattle.mon_syntax.specs.declared.tree.MonType.TheVariants.{I128}
 use Rattle.mon_syntax.specs.Arithmetic.{wrap, operate}
 use Rattle.mon_syntax.specs.Meaning.{number_or_none}
 use Rattle.mon_syntax.specs.Meaning.{◌>>=◌ as bind}
-use Rattle.mon_syntax.specs.Memories.{integer_of, over_blocks}
+use Rattle.mon_syntax.specs.Memories.{BlockValue, Whole, integer_of, over_blocks}
 use Rattle.mon_syntax.proofs.Wrapping.{wrap-fitting}
 use Rattle.instrument.specs.Limits.{IsLetter, TermHasLetters, BodyHasLetters}
-use Rattle.instrument.specs.Translation.{term, relation_operator, operator_of, truth_of_body}
-use Rattle.instrument.proofs.Variables.{Variable as CVariable}
-use Rattle.instrument.proofs.Variables.{Setting, source_at, AreInSight, Holds, known, load_variable}
+use Rattle.instrument.specs.Expressions.{term, relation_operator, operator_of, truth_of_body}
+use Rattle.instrument.proofs.Variables.{Slot, Setting, find-slot, Related}
+use Rattle.instrument.proofs.Sight.{AreInSight, Ready, denoted, has_value}
 use Rattle.instrument.proofs.Values.{Has, operation}
 
 -- ---- sizes
@@ -91,14 +91,14 @@ short_fits n z le w = wrap-fitting I128 z (within_fits 1701411834604692317316873
 -- ---- terms
 
 -- the term has this value, and its translation the same
-record Means (names : List ℕ) (t : LogicTerm) (s : State) (regs : List Value) : Type 0 where
+record Means (names : List ℕ) (t : LogicTerm) (s : State) (regs : List BlockValue) : Type 0 where
   value : ℤ
   within : Within (leaves_of_term t * most) value
   source_is : source.term t s ≡ Some (Mathematical value)
   target_is : Has (term names t) regs value
 
 -- a sum or a difference
-combined : (names : List ℕ) (at : Place) (r : Range) (c : Option PlainType) (op : BinOp) (a b : LogicTerm) (s : State) (regs : List Value) (z : ℤ) (p : Means names a s regs) (q : Means names b s regs) → leaves_of_term a + leaves_of_term b ≤ 400 → Within (leaves_of_term a * most + leaves_of_term b * most) z → compute op p.value q.value ≡ Some (Mathematical z) → operate (operator_of op) I128 p.value q.value ≡ Some (wrap I128 z) → Means names (Binary at c r op a b) s regs
+combined : (names : List ℕ) (at : Place) (r : Range) (c : Option PlainType) (op : BinOp) (a b : LogicTerm) (s : State) (regs : List BlockValue) (z : ℤ) (p : Means names a s regs) (q : Means names b s regs) → leaves_of_term a + leaves_of_term b ≤ 400 → Within (leaves_of_term a * most + leaves_of_term b * most) z → compute op p.value q.value ≡ Some (Mathematical z) → operate (operator_of op) I128 p.value q.value ≡ Some (wrap I128 z) → Means names (Binary at c r op a b) s regs
 combined names at r c op a b s regs z p q short fits e f = record {
   value = z;
   within = within;
@@ -109,7 +109,7 @@ combined names at r c op a b s regs z p q short fits e f = record {
   target_is =
       operation (operator_of op) I128 (term names a) (term names b) regs p.value q.value p.target_is q.target_is
       ∙ ap (number_or_none over_blocks) f
-      ∙ ap (λ v. Some (Integer v)) (short_fits (leaves_of_term a + leaves_of_term b) z short within);
+      ∙ ap (λ v. Some (Whole v)) (short_fits (leaves_of_term a + leaves_of_term b) z short within);
 }
   where
     within : Within ((leaves_of_term a + leaves_of_term b) * most) z
@@ -117,29 +117,27 @@ combined names at r c op a b s regs z p q short fits e f = record {
         let sizes : (leaves_of_term a + leaves_of_term b) * most ≡ leaves_of_term a * most + leaves_of_term b * most = omega arith in
         subst (λ n. Within n z) (sym sizes) fits
 
-module _ (w : Setting) (scopes : Scopes) (count : ℕ) (sight : AreInSight w count scopes.objects) (vars : List CVariable) (regs : List Value) (h : Holds w count vars regs) (steps : ℕ) (out : List ℕ) where
-  abbrev now : State
-  now = source_at w vars steps out
-
-  variable_means : (at : Place) (t : Option PlainType) (r : Range) (x : Use) → TermDenotes scopes t x → Means w.names (Variable at t r x) now regs
+module _ (w : Setting) (slots : List Slot) (scopes : Scopes) (sight : AreInSight slots scopes.objects) (regs : List BlockValue) (now : State) (h : Related w slots regs now) (ready : Ready now.store slots scopes.objects) where
+  variable_means : (at : Place) (t : Option PlainType) (r : Range) (x : Use) → TermDenotes scopes t x → Means w.numbers (Variable at t r x) now regs
   variable_means at t r x d =
-      let i = sight x.name d.denotes.object d.denotes.found in
-      let int : t ≡ Some (Int i.int) = d.is ∙ ap Some (sym d.denotes.ctype ∙ i.ctype) in
-      let v = known w count vars regs i.number i.int h i.declared i.kind in
-      let within = value_within i.int v.value v.fits in
+      let i = denoted slots scopes sight x d.ctype d.denotes in
+      let v = has_value w slots scopes regs now h ready x d.ctype d.denotes i.slot i.found in
+      let int : t ≡ Some (Int i.slot.int) = d.is ∙ ap Some i.ctype in
+      let z = v.known.value in
+      let within = value_within i.slot.int z v.known.fits in
       record {
-        value = v.value;
+        value = z;
         within = record { low = omega (arith, ints, within.low); high = omega (arith, ints, within.high) };
         source_is =
-            ap (λ o. read_object now (start_of o) t) i.scope
-            ∙ ap (read_object now (Some (Into (suc i.number) 0))) int
-            ∙ ap of_value (load_variable vars i.number i.int v.value v.fits v.variable);
+            ap (λ o. read_object now (start_of o) t) (ap (find x.decl) h.scope ∙ find-slot x.decl slots i.slot i.found)
+            ∙ ap (read_object now (Some (Into (suc i.slot.block) 0))) int
+            ∙ ap of_value v.known.loads;
         target_is =
-            ap (λ q. bind q (λ u. bind (integer_of u) (λ i. Some (Integer (wrap I128 i))))) (ap (slice_get regs) i.register ∙ v.register)
-            ∙ ap (λ z. Some (Integer z)) (short_fits 1 v.value (omega arith) (record { low = omega (arith, ints, within.low); high = omega (arith, ints, within.high) }));
+            ap (λ q. bind q (λ u. bind (integer_of u) (λ i. Some (Whole (wrap I128 i))))) v.register
+            ∙ ap (λ z. Some (Whole z)) (short_fits 1 z (omega arith) (record { low = omega (arith, ints, within.low); high = omega (arith, ints, within.high) }));
       }
 
-  means : (t : LogicTerm) → IsSumTerm t → TermTyped scopes t → TermHasLetters t → leaves_of_term t ≤ 400 → Means w.names t now regs
+  means : (t : LogicTerm) → IsSumTerm t → TermTyped scopes t → TermHasLetters t → leaves_of_term t ≤ 400 → Means w.numbers t now regs
   means (Number at c r n) p q l short =
       let within = number_within n p in
       record { value = n; within = record { low = omega (arith, ints, within.low); high = omega (arith, ints, within.high) }; source_is = refl; target_is = refl }
@@ -150,11 +148,11 @@ module _ (w : Setting) (scopes : Scopes) (count : ℕ) (sight : AreInSight w cou
   means (Binary at c r Add a b) p q l short =
       let x = means a p.1 q.0 l.0 (omega (arith, short)) in
       let y = means b p.2 q.1 l.1 (omega (arith, short)) in
-      combined w.names at r c Add a b now regs (x.value +ℤ y.value) x y short (sum_within _ _ _ _ x.within y.within) refl refl
+      combined w.numbers at r c Add a b now regs (x.value +ℤ y.value) x y short (sum_within _ _ _ _ x.within y.within) refl refl
   means (Binary at c r Sub a b) p q l short =
       let x = means a p.1 q.0 l.0 (omega (arith, short)) in
       let y = means b p.2 q.1 l.1 (omega (arith, short)) in
-      combined w.names at r c Sub a b now regs (x.value -ℤ y.value) x y short (difference_within _ _ _ _ x.within y.within) refl refl
+      combined w.numbers at r c Sub a b now regs (x.value -ℤ y.value) x y short (difference_within _ _ _ _ x.within y.within) refl refl
   means (Binary at c r _ a b) p q l short = absurd p.0
 
   -- ---- relations
@@ -163,7 +161,7 @@ module _ (w : Setting) (scopes : Scopes) (count : ℕ) (sight : AreInSight w cou
   pub record ClauseSays (b : ClauseBody) : Type 0 where
     pub says : Bool
     pub source_is : (n : ℕ) → source.clause b now n ≡ Says says n
-    pub target_is : Has (truth_of_body w.names b) regs (truth says)
+    pub target_is : Has (truth_of_body w.numbers b) regs (truth says)
 
   compared : (r : Relation) (x y : ℤ) → operate (relation_operator r) I128 x y ≡ Some (truth (relates r x y))
   compared relation.Eq x y = refl
@@ -177,7 +175,7 @@ module _ (w : Setting) (scopes : Scopes) (count : ℕ) (sight : AreInSight w cou
   lazy_last true n = refl
   lazy_last false n = refl
 
-  relation_says : (at at2 : Place) (r : Relation) (a b : LogicTerm) → Means w.names a now regs → Means w.names b now regs → ClauseSays (Truth (Chain at a (Linked at2 r b NoLink)))
+  relation_says : (at at2 : Place) (r : Relation) (a b : LogicTerm) → Means w.numbers a now regs → Means w.numbers b now regs → ClauseSays (Truth (Chain at a (Linked at2 r b NoLink)))
   relation_says at at2 r a b x y = record {
     says = relates r x.value y.value;
     source_is = λ n.
@@ -185,7 +183,7 @@ module _ (w : Setting) (scopes : Scopes) (count : ℕ) (sight : AreInSight w cou
         ∙ ap (λ u. lazily (related r (Some (Mathematical x.value)) u n) (Says true) (Says false)) y.source_is
         ∙ lazy_last (relates r x.value y.value) n;
     target_is =
-        operation (relation_operator r) I128 (term w.names a) (term w.names b) regs x.value y.value x.target_is y.target_is
+        operation (relation_operator r) I128 (term w.numbers a) (term w.numbers b) regs x.value y.value x.target_is y.target_is
         ∙ ap (number_or_none over_blocks) (compared r x.value y.value);
   }
 

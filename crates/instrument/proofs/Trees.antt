@@ -13,7 +13,7 @@ use Rattle.c_syntax.proofs.Rows.{call_is}
 use Rattle.mon_syntax.specs.declared.tree.MonType.{MonType}
 use Rattle.mon_syntax.specs.declared.tree.MonType.TheVariants.{I32}
 use Rattle.mon_syntax.specs.Trees.{MonExpression, MonStatements, Constant, If}
-use Rattle.instrument.specs.Translation.{before, condition, one, set, setup, temporaries, truth, value, value_type}
+use Rattle.instrument.specs.Expressions.{before, condition, one, set, setup, temporaries, truth, value, value_type}
 use Rattle.instrument.proofs.Sequences.{before_assoc}
 
 pub on_ok : {A E P : Type 0} (r : Result A E) → P → OnOk r P
@@ -28,17 +28,17 @@ call_expr e f args l is same =
 
 -- ---- expressions
 
-module _ (names : List ℕ) (rs rs1 rs2 : List MonType) (t t1 t2 : MonStatements) (e : Expr) where
+module _ (numbers : List ℕ) (rs rs1 rs2 : List MonType) (t t1 t2 : MonStatements) (e : Expr) where
   -- an expression's statements, from its kind
-  from_kind : (k : ExprKind) → e.kind ≡ k → before t (setup names rs (Node e.place (plain_type e.ctype) (plain_kind k))) ≡ before t (setup names rs (plain_expr e))
-  from_kind k is = ap (λ k. before t (setup names rs (Node e.place (plain_type e.ctype) (plain_kind k)))) (sym is)
+  from_kind : (k : ExprKind) → e.kind ≡ k → before t (setup numbers rs (Node e.place (plain_type e.ctype) (plain_kind k))) ≡ before t (setup numbers rs (plain_expr e))
+  from_kind k is = ap (λ k. before t (setup numbers rs (Node e.place (plain_type e.ctype) (plain_kind k)))) (sym is)
 
-  pub of_binary : {A E : Type 0} (r : Result A E) (op : BinOp) (a b : Box Expr Global) → e.kind ≡ code.Binary op a b → t1 ≡ before t (setup names rs (plain_expr a.value)) → rs1 ≡ rs ++ temporaries (plain_expr a.value) → t2 ≡ before t1 (setup names rs1 (plain_expr b.value)) → OnOk r (t2 ≡ before t (setup names rs (plain_expr e)))
+  pub of_binary : {A E : Type 0} (r : Result A E) (op : BinOp) (a b : Box Expr Global) → e.kind ≡ code.Binary op a b → t1 ≡ before t (setup numbers rs (plain_expr a.value)) → rs1 ≡ rs ++ temporaries (plain_expr a.value) → t2 ≡ before t1 (setup numbers rs1 (plain_expr b.value)) → OnOk r (t2 ≡ before t (setup numbers rs (plain_expr e)))
   of_binary r op a b is first types second =
       on_ok r
       (second
-      ∙ (λ i. before (first i) (setup names (types i) (plain_expr b.value)))
-      ∙ before_assoc t (setup names rs (plain_expr a.value)) (setup names (rs ++ temporaries (plain_expr a.value)) (plain_expr b.value))
+      ∙ (λ i. before (first i) (setup numbers (types i) (plain_expr b.value)))
+      ∙ before_assoc t (setup numbers rs (plain_expr a.value)) (setup numbers (rs ++ temporaries (plain_expr a.value)) (plain_expr b.value))
       ∙ from_kind (code.Binary op a b) is)
 
   -- the `if` that makes the choice
@@ -48,15 +48,15 @@ module _ (names : List ℕ) (rs rs1 rs2 : List MonType) (t t1 t2 : MonStatements
       let y = plain_expr b.value in
       let z = plain_expr c.value in
       let register = length (rs ++ temporaries x ++ temporaries y ++ temporaries z) in
-      one (If (condition (value_type (plain_type a.value.ctype)) (value names rs x))
-      (before (setup names (rs ++ temporaries x) y) (set register (value names (rs ++ temporaries x) y)))
-      (before (setup names (rs ++ temporaries x ++ temporaries y) z) (set register (value names (rs ++ temporaries x ++ temporaries y) z))))
+      one (If (condition (value_type (plain_type a.value.ctype)) (value numbers rs x))
+      (before (setup numbers (rs ++ temporaries x) y) (set register (value numbers (rs ++ temporaries x) y)))
+      (before (setup numbers (rs ++ temporaries x ++ temporaries y) z) (set register (value numbers (rs ++ temporaries x ++ temporaries y) z))))
 
-  module _ (a b : Box Expr Global) (left test : MonExpression) (ka : MonType) (first : t1 ≡ before t (setup names rs (plain_expr a.value))) (left_is : left ≡ value names rs (plain_expr a.value)) (types : rs1 ≡ rs ++ temporaries (plain_expr a.value)) (ka_is : ka ≡ value_type (plain_type a.value.ctype)) (test_is : test ≡ condition ka left) where
-    tested : test ≡ condition (value_type (plain_type a.value.ctype)) (value names rs (plain_expr a.value))
+  module _ (a b : Box Expr Global) (left test : MonExpression) (ka : MonType) (first : t1 ≡ before t (setup numbers rs (plain_expr a.value))) (left_is : left ≡ value numbers rs (plain_expr a.value)) (types : rs1 ≡ rs ++ temporaries (plain_expr a.value)) (ka_is : ka ≡ value_type (plain_type a.value.ctype)) (test_is : test ≡ condition ka left) where
+    tested : test ≡ condition (value_type (plain_type a.value.ctype)) (value numbers rs (plain_expr a.value))
     tested = test_is ∙ (λ i. condition (ka_is i) (left_is i))
 
-    module _ (inside : MonStatements) (right right2 constant : MonExpression) (register : ℕ) (kb : MonType) (inside_is : inside ≡ setup names rs1 (plain_expr b.value)) (right_is : right ≡ value names rs1 (plain_expr b.value)) (types2 : rs2 ≡ rs1 ++ temporaries (plain_expr b.value)) (kb_is : kb ≡ value_type (plain_type b.value.ctype)) (right2_is : right2 ≡ truth kb right) (register_is : register ≡ length rs2) where
+    module _ (inside : MonStatements) (right right2 constant : MonExpression) (register : ℕ) (kb : MonType) (inside_is : inside ≡ setup numbers rs1 (plain_expr b.value)) (right_is : right ≡ value numbers rs1 (plain_expr b.value)) (types2 : rs2 ≡ rs1 ++ temporaries (plain_expr b.value)) (kb_is : kb ≡ value_type (plain_type b.value.ctype)) (right2_is : right2 ≡ truth kb right) (register_is : register ≡ length rs2) where
       abbrev behind_left : List MonType
       behind_left = rs ++ temporaries (plain_expr a.value)
 
@@ -66,35 +66,35 @@ module _ (names : List ℕ) (rs rs1 rs2 : List MonType) (t t1 t2 : MonStatements
       numbered : register ≡ length behind_both
       numbered = register_is ∙ ap length types2 ∙ ap (λ l. length (l ++ temporaries (plain_expr b.value))) types
 
-      set_right : before inside (set register right2) ≡ before (setup names behind_left (plain_expr b.value)) (set (length behind_both) (truth (value_type (plain_type b.value.ctype)) (value names behind_left (plain_expr b.value))))
+      set_right : before inside (set register right2) ≡ before (setup numbers behind_left (plain_expr b.value)) (set (length behind_both) (truth (value_type (plain_type b.value.ctype)) (value numbers behind_left (plain_expr b.value))))
       set_right =
-          let statements = inside_is ∙ ap (λ l. setup names l (plain_expr b.value)) types in
-          let truth_is = right2_is ∙ (λ i. truth (kb_is i) (right_is i)) ∙ ap (λ l. truth (value_type (plain_type b.value.ctype)) (value names l (plain_expr b.value))) types in
+          let statements = inside_is ∙ ap (λ l. setup numbers l (plain_expr b.value)) types in
+          let truth_is = right2_is ∙ (λ i. truth (kb_is i) (right_is i)) ∙ ap (λ l. truth (value_type (plain_type b.value.ctype)) (value numbers l (plain_expr b.value))) types in
           λ i. before (statements i) (set (numbered i) (truth_is i))
 
-      pub of_both : e.kind ≡ code.Both a b → constant ≡ Constant I32 (pos 0) → t2 ≡ before t1 (one (If test (before inside (set register right2)) (set register constant))) → t2 ≡ before t (setup names rs (plain_expr e))
+      pub of_both : e.kind ≡ code.Both a b → constant ≡ Constant I32 (pos 0) → t2 ≡ before t1 (one (If test (before inside (set register right2)) (set register constant))) → t2 ≡ before t (setup numbers rs (plain_expr e))
       of_both is constant_is last =
           last
           ∙ (λ i. before (first i) (one (If (tested i) (set_right i) (set (numbered i) (constant_is i)))))
-          ∙ before_assoc t (setup names rs (plain_expr a.value)) _
+          ∙ before_assoc t (setup numbers rs (plain_expr a.value)) _
           ∙ from_kind (code.Both a b) is
 
-      pub of_either : e.kind ≡ code.Either a b → constant ≡ Constant I32 (pos 1) → t2 ≡ before t1 (one (If test (set register constant) (before inside (set register right2)))) → t2 ≡ before t (setup names rs (plain_expr e))
+      pub of_either : e.kind ≡ code.Either a b → constant ≡ Constant I32 (pos 1) → t2 ≡ before t1 (one (If test (set register constant) (before inside (set register right2)))) → t2 ≡ before t (setup numbers rs (plain_expr e))
       of_either is constant_is last =
           last
           ∙ (λ i. before (first i) (one (If (tested i) (set (numbered i) (constant_is i)) (set_right i))))
-          ∙ before_assoc t (setup names rs (plain_expr a.value)) _
+          ∙ before_assoc t (setup numbers rs (plain_expr a.value)) _
           ∙ from_kind (code.Either a b) is
 
-    pub of_choice : (c : Box Expr Global) (on off : MonStatements) (x y : MonExpression) (rs3 : List MonType) (register : ℕ) → e.kind ≡ code.Choice a b c → on ≡ setup names rs1 (plain_expr b.value) → x ≡ value names rs1 (plain_expr b.value) → rs2 ≡ rs1 ++ temporaries (plain_expr b.value) → off ≡ setup names rs2 (plain_expr c.value) → y ≡ value names rs2 (plain_expr c.value) → rs3 ≡ rs2 ++ temporaries (plain_expr c.value) → register ≡ length rs3 → t2 ≡ before t1 (one (If test (before on (set register x)) (before off (set register y)))) → t2 ≡ before t (setup names rs (plain_expr e))
+    pub of_choice : (c : Box Expr Global) (on off : MonStatements) (x y : MonExpression) (rs3 : List MonType) (register : ℕ) → e.kind ≡ code.Choice a b c → on ≡ setup numbers rs1 (plain_expr b.value) → x ≡ value numbers rs1 (plain_expr b.value) → rs2 ≡ rs1 ++ temporaries (plain_expr b.value) → off ≡ setup numbers rs2 (plain_expr c.value) → y ≡ value numbers rs2 (plain_expr c.value) → rs3 ≡ rs2 ++ temporaries (plain_expr c.value) → register ≡ length rs3 → t2 ≡ before t1 (one (If test (before on (set register x)) (before off (set register y)))) → t2 ≡ before t (setup numbers rs (plain_expr e))
     of_choice c on off x y rs3 register is on_is x_is types2 off_is y_is types3 register_is last =
         let second : rs2 ≡ rs ++ temporaries (plain_expr a.value) ++ temporaries (plain_expr b.value) = types2 ∙ ap (λ l. l ++ temporaries (plain_expr b.value)) types in
         let number : register ≡ length (rs ++ temporaries (plain_expr a.value) ++ temporaries (plain_expr b.value) ++ temporaries (plain_expr c.value)) = register_is ∙ ap length types3 ∙ ap (λ l. length (l ++ temporaries (plain_expr c.value))) second in
-        let on_at = on_is ∙ ap (λ l. setup names l (plain_expr b.value)) types in
-        let x_at = x_is ∙ ap (λ l. value names l (plain_expr b.value)) types in
-        let off_at = off_is ∙ ap (λ l. setup names l (plain_expr c.value)) second in
-        let y_at = y_is ∙ ap (λ l. value names l (plain_expr c.value)) second in
-        let chosen : t2 ≡ before (before t (setup names rs (plain_expr a.value))) (choice_code a b c) =
+        let on_at = on_is ∙ ap (λ l. setup numbers l (plain_expr b.value)) types in
+        let x_at = x_is ∙ ap (λ l. value numbers l (plain_expr b.value)) types in
+        let off_at = off_is ∙ ap (λ l. setup numbers l (plain_expr c.value)) second in
+        let y_at = y_is ∙ ap (λ l. value numbers l (plain_expr c.value)) second in
+        let chosen : t2 ≡ before (before t (setup numbers rs (plain_expr a.value))) (choice_code a b c) =
         last
         ∙ (λ i. before (first i) (one (If (tested i) (before (on_at i) (set (number i) (x_at i))) (before (off_at i) (set (number i) (y_at i)))))) in
-        chosen ∙ before_assoc t (setup names rs (plain_expr a.value)) (choice_code a b c) ∙ from_kind (code.Choice a b c) is
+        chosen ∙ before_assoc t (setup numbers rs (plain_expr a.value)) (choice_code a b c) ∙ from_kind (code.Choice a b c) is

@@ -1,11 +1,12 @@
 -- Translated expressions and annotations have their types, and their parentheses are within the limit.
-use Rattle.std.proofs.Common.{◌≡◌, ℕ, suc, ◌+◌, ◌*◌, ◌≤◌, ℤ, pos, negsuc, Bool, true, false, List, [], ◌∷◌, ◌++◌, length, Some, None, slice_get, max, nat_lt, if◌then◌else◌, refl, sym, ap, ◌∙◌, subst, arith, append_assoc}
+use Rattle.std.proofs.Common.{◌≡◌, ℕ, suc, ◌+◌, ◌*◌, ◌≤◌, ℤ, pos, negsuc, Bool, true, false, List, [], ◌∷◌, ◌++◌, length, Option, Some, None, slice_get, max, nat_lt, if◌then◌else◌, refl, sym, ap, ◌∙◌, subst, arith, append_assoc}
 use Rattle.std.proofs.lemmas.Bool.{ltb-true}
 use Rattle.std.proofs.lemmas.Bool.Decides.{nat_tests}
 use Rattle.std.proofs.lemmas.Int.{ints}
 use Rattle.std.proofs.Math.Nat.{max-le, le-max_right}
 use Rattle.c_syntax.specs.declared.types.CInt.{CInt}
 use Rattle.c_syntax.specs.declared.types.CInt.TheVariants as c
+use Rattle.c_syntax.specs.declared.expression.Use.{Use}
 use Rattle.c_syntax.specs.declared.expression.UnOp.{UnOp}
 use Rattle.c_syntax.specs.declared.expression.UnOp.TheVariants as prefix
 use Rattle.c_syntax.specs.declared.expression.BinOp.{BinOp}
@@ -23,20 +24,19 @@ use Rattle.c_model.specs.WellTyped.{Denotes, UnaryTypes, BinaryTypes, WellTyped}
 use Rattle.c_model.specs.WellTypedPrograms.{TermTyped, ClauseTyped}
 use Rattle.c_model.specs.Formed.{IsPure, nodes_of, IsLogicNumber, IsSumTerm, leaves_of_term, IsShortTerm, IsRelation, IsAssert}
 use Rattle.mon_syntax.specs.declared.tree.MonType.{MonType}
-use Rattle.mon_syntax.specs.declared.tree.MonType.TheVariants.{I8, U8, I16, U16, I32, U32, I64, U64, I128}
+use Rattle.mon_syntax.specs.declared.tree.MonType.TheVariants.{I8, U8, I16, U16, I32, U32, I64, U64, I128, Ptr}
 use Rattle.mon_syntax.specs.declared.tree.MonOp.{MonOp}
 use Rattle.mon_syntax.specs.declared.tree.MonOp.TheVariants as mon
 use Rattle.mon_syntax.specs.Trees as tree
 use Rattle.mon_syntax.specs.Trees.{MonExpression}
 use Rattle.mon_syntax.specs.Checking.{same_type}
-use Rattle.mon_syntax.specs.Valid.{Types, HasType, has_constant, is_arithmetic, result_type, open_parens, IsExpression, IsStatement, Labels}
+use Rattle.mon_syntax.specs.Valid.{Types, HasType, has_constant, is_arithmetic, is_whole, is_relation, result_type, open_parens, IsExpression, IsStatement, Labels, Signature}
 use Rattle.instrument.specs.Limits.{IsLetter, HasLetters, TermHasLetters, BodyHasLetters, IsNumbered}
-use Rattle.instrument.specs.Translation.{register_type, value_type, operand_type, operator_of, in_type, compared, condition, truth, unary, binary, compound_in, temporaries, value, truth_of, condition_of, register_of, term, relation_operator, truth_of_body, assertion}
+use Rattle.instrument.specs.Expressions.{register_type, value_type, operand_type, operator_of, in_type, compared, condition, truth, unary, binary, compound_in, temporaries, value, truth_of, condition_of, register_of, term, relation_operator, truth_of_body, assertion}
 use Rattle.instrument.proofs.Integers.{operand_is}
 use Rattle.instrument.proofs.Values.{result_type_is}
 use Rattle.instrument.proofs.ExpressionTypes.{scalar_int, same_int_type, cast_int, binary_at}
 use Rattle.instrument.proofs.Expressions.{letter_fits}
-use Rattle.instrument.proofs.Declared.{at_end}
 
 -- ---- constants
 
@@ -65,7 +65,7 @@ logic_constant (negsuc n) h = let a = h.low in grind (arith, nat_tests, ints)
 letter_number : (z : ℤ) → IsLetter z → IsLogicNumber z
 letter_number z l = record { low = omega (arith, ints, l.low); high = omega (arith, ints, l.high) }
 
-size_constant : (t : PlainType) → has_constant U64 (pos (size_of t)) ≡ true
+pub size_constant : (t : PlainType) → has_constant U64 (pos (size_of t)) ≡ true
 size_constant Void = refl
 size_constant (Int c.I8) = refl
 size_constant (Int c.U8) = refl
@@ -86,6 +86,7 @@ zero_constant U32 = refl
 zero_constant I64 = refl
 zero_constant U64 = refl
 zero_constant I128 = refl
+zero_constant Ptr = refl
 
 -- ---- types
 
@@ -99,6 +100,40 @@ operand_computes U32 = refl
 operand_computes I64 = refl
 operand_computes U64 = refl
 operand_computes I128 = refl
+operand_computes Ptr = refl
+
+operand_whole : (t : MonType) → is_whole (operand_type t) ≡ true
+operand_whole I8 = refl
+operand_whole U8 = refl
+operand_whole I16 = refl
+operand_whole U16 = refl
+operand_whole I32 = refl
+operand_whole U32 = refl
+operand_whole I64 = refl
+operand_whole U64 = refl
+operand_whole I128 = refl
+operand_whole Ptr = refl
+
+pub register_whole : (k : CInt) → is_whole (register_type k) ≡ true
+register_whole c.I8 = refl
+register_whole c.U8 = refl
+register_whole c.I16 = refl
+register_whole c.U16 = refl
+register_whole c.I32 = refl
+register_whole c.U32 = refl
+register_whole c.I64 = refl
+register_whole c.U64 = refl
+
+pub value_whole : (t : PlainType) → is_whole (value_type t) ≡ true
+value_whole Void = refl
+value_whole (Int k) = register_whole k
+
+result_whole : (op : MonOp) (k : CInt) → is_whole (result_type op (register_type k)) ≡ true
+result_whole op k = by (is_relation op)
+  where
+    by : (t : Bool) → is_whole (if t then I32 else register_type k) ≡ true
+    by true = refl
+    by false = register_whole k
 
 promoted_computes : (k : CInt) → is_arithmetic (register_type (promoted k)) ≡ true
 promoted_computes k = ap is_arithmetic (sym (operand_is k)) ∙ operand_computes (register_type k)
@@ -132,6 +167,7 @@ same_mon U32 U32 e = refl
 same_mon I64 I64 e = refl
 same_mon U64 U64 e = refl
 same_mon I128 I128 e = refl
+same_mon Ptr Ptr e = refl
 same_mon _ _ e = absurd cc
 
 relation_gives : (r : Relation) (t : MonType) → result_type (relation_operator r) t ≡ I32
@@ -144,7 +180,7 @@ relation_gives relation.Ge t = refl
 
 -- ---- parentheses
 
-parens_in_type : (from to : MonType) (e : MonExpression) → open_parens (in_type from to e) ≤ suc (max 1 (open_parens e))
+pub parens_in_type : (from to : MonType) (e : MonExpression) → open_parens (in_type from to e) ≤ suc (max 1 (open_parens e))
 parens_in_type from to e = by (same_type from to)
   where
     by : (t : Bool) → open_parens (if t then e else tree.Cast to e) ≤ suc (max 1 (open_parens e))
@@ -198,33 +234,33 @@ parens_compound op m t u a b n la lb one =
     let outer : max 1 (open_parens (tree.Binary (operator_of op) m (in_type t m a) (in_type u m b))) ≤ n + 2 = max-le (omega arith) (omega (arith, inner)) in
     omega (arith, whole, outer)
 
-pub few_parens : (names : List ℕ) (rs : List MonType) (e : Expression) → open_parens (value names rs e) ≤ 2 * nodes_of e
-few_parens names rs (Node at t (Number z k)) = omega arith
-few_parens names rs (Node at t (Letter z)) = omega arith
-few_parens names rs (Node at t (Variable x)) = omega arith
-few_parens names rs (Node at t (Unary op a)) =
-    let p = parens_unary op (value_type (type_of a)) (value names rs a) (2 * nodes_of a) (few_parens names rs a) (omega (arith, some_nodes a)) in
+pub few_parens : (numbers : List ℕ) (rs : List MonType) (e : Expression) → open_parens (value numbers rs e) ≤ 2 * nodes_of e
+few_parens numbers rs (Node at t (Number z k)) = omega arith
+few_parens numbers rs (Node at t (Letter z)) = omega arith
+few_parens numbers rs (Node at t (Variable x)) = omega arith
+few_parens numbers rs (Node at t (Unary op a)) =
+    let p = parens_unary op (value_type (type_of a)) (value numbers rs a) (2 * nodes_of a) (few_parens numbers rs a) (omega (arith, some_nodes a)) in
     omega (arith, p)
-few_parens names rs (Node at t (Binary op a b)) =
-    let p = few_parens names rs a in
-    let q = few_parens names (rs ++ temporaries a) b in
-    let s = parens_in_type (value_type (type_of b)) (value_type (type_of a)) (value names (rs ++ temporaries a) b) in
-    let one : max 1 (open_parens (value names (rs ++ temporaries a) b)) ≤ 2 * nodes_of b = max-le (omega (arith, some_nodes b)) q in
-    let m : max (open_parens (value names rs a)) (open_parens (in_type (value_type (type_of b)) (value_type (type_of a)) (value names (rs ++ temporaries a) b))) ≤ 2 * nodes_of a + 2 * nodes_of b + 1 = max-le (omega (arith, p)) (omega (arith, s, one)) in
+few_parens numbers rs (Node at t (Binary op a b)) =
+    let p = few_parens numbers rs a in
+    let q = few_parens numbers (rs ++ temporaries a) b in
+    let s = parens_in_type (value_type (type_of b)) (value_type (type_of a)) (value numbers (rs ++ temporaries a) b) in
+    let one : max 1 (open_parens (value numbers (rs ++ temporaries a) b)) ≤ 2 * nodes_of b = max-le (omega (arith, some_nodes b)) q in
+    let m : max (open_parens (value numbers rs a)) (open_parens (in_type (value_type (type_of b)) (value_type (type_of a)) (value numbers (rs ++ temporaries a) b))) ≤ 2 * nodes_of a + 2 * nodes_of b + 1 = max-le (omega (arith, p)) (omega (arith, s, one)) in
     omega (arith, m)
-few_parens names rs (Node at t (Both a b)) = omega arith
-few_parens names rs (Node at t (Either a b)) = omega arith
-few_parens names rs (Node at t (Choice a b c)) = omega arith
-few_parens names rs (Node at t (Cast to a)) =
-    let p = few_parens names rs a in
-    let s = parens_in_type (value_type (type_of a)) (value_type to) (value names rs a) in
-    let one : max 1 (open_parens (value names rs a)) ≤ 2 * nodes_of a = max-le (omega (arith, some_nodes a)) p in
+few_parens numbers rs (Node at t (Both a b)) = omega arith
+few_parens numbers rs (Node at t (Either a b)) = omega arith
+few_parens numbers rs (Node at t (Choice a b c)) = omega arith
+few_parens numbers rs (Node at t (Cast to a)) =
+    let p = few_parens numbers rs a in
+    let s = parens_in_type (value_type (type_of a)) (value_type to) (value numbers rs a) in
+    let one : max 1 (open_parens (value numbers rs a)) ≤ 2 * nodes_of a = max-le (omega (arith, some_nodes a)) p in
     omega (arith, s, one)
-few_parens names rs (Node at t (SizeOfType u)) = omega arith
-few_parens names rs (Node at t (SizeOfExpr a)) = omega arith
-few_parens names rs (Node at t (Assign op a b)) = omega arith
-few_parens names rs (Node at t (Bump op a)) = omega arith
-few_parens names rs (Node at t (Call f es)) = omega arith
+few_parens numbers rs (Node at t (SizeOfType u)) = omega arith
+few_parens numbers rs (Node at t (SizeOfExpr a)) = omega arith
+few_parens numbers rs (Node at t (Assign op a b)) = omega arith
+few_parens numbers rs (Node at t (Bump op a)) = omega arith
+few_parens numbers rs (Node at t (Call f es)) = omega arith
 
 -- ---- registers of these types
 
@@ -242,38 +278,42 @@ begins_right rs a b ts h = subst (λ l. Begins l ts) (sym (append_assoc rs a b))
 pub begins_front : (a b ts : Types) → Begins (a ++ b) ts → Begins a ts
 begins_front a b ts h = record { rest = b ++ h.rest; is = h.is ∙ append_assoc a b h.rest }
 
+pub at_end : {A : Type 0} (a b : List A) (x : A) → slice_get (a ++ x ∷ b) (length a) ≡ Some x
+at_end [] b x = refl
+at_end (y ∷ a) b x = at_end a b x
+
 pub register_at : (rs ts : Types) (t : MonType) → Begins (rs ++ t ∷ []) ts → slice_get ts (length rs) ≡ Some t
 register_at rs ts t h = ap (λ l. slice_get l (length rs)) (h.is ∙ append_assoc rs (t ∷ []) h.rest) ∙ at_end rs h.rest t
 
 -- the register of a name in sight has its type
-pub record Seen (ts : Types) (names : List ℕ) (x : ℕ) (t : PlainType) : Type 0 where
+pub record Seen (ts : Types) (numbers : List ℕ) (x : ℕ) (t : PlainType) : Type 0 where
   pub int : CInt
   pub ctype : t ≡ Int int
-  pub register : slice_get ts (register_of names x) ≡ Some (register_type int)
+  pub register : slice_get ts (register_of numbers x) ≡ Some (register_type int)
 
 abbrev pub AreSeen : Types → List ℕ → List Object → Type 0
-AreSeen ts names objects = (x : ℕ) (b : Object) → object_named x objects ≡ Some b → Seen ts names x b.ctype
+AreSeen ts numbers objects = (x : ℕ) (b : Object) → object_named x objects ≡ Some b → Seen ts numbers b.decl b.ctype
 
 module _ (ts : Types) where
-  in_typed : (from to : MonType) (e : MonExpression) → HasType ts e from → HasType ts (in_type from to e) to
-  in_typed from to e h = by (same_type from to) refl
+  pub in_typed : (from to : MonType) (e : MonExpression) → is_whole from ≡ true → is_whole to ≡ true → HasType ts e from → HasType ts (in_type from to e) to
+  in_typed from to e f g h = by (same_type from to) refl
     where
       by : (t : Bool) → same_type from to ≡ t → HasType ts (if t then e else tree.Cast to e) to
       by true s = subst (HasType ts e) (same_mon from to s) h
-      by false s = (refl, (from, h))
+      by false s = (refl, g, (from, f, h))
 
-  compared_typed : (op : MonOp) (t : MonType) (e : MonExpression) → result_type op (operand_type t) ≡ I32 → HasType ts e t → HasType ts (compared op t e) I32
-  compared_typed op t e r h = (r, operand_computes t, in_typed t (operand_type t) e h, (refl, zero_constant t))
+  compared_typed : (op : MonOp) (t : MonType) (e : MonExpression) → is_whole t ≡ true → result_type op (operand_type t) ≡ I32 → HasType ts e t → HasType ts (compared op t e) I32
+  compared_typed op t e w r h = (r, operand_computes t, in_typed t (operand_type t) e w (operand_whole t) h, (refl, zero_constant t))
 
-  truth_typed : (t : MonType) (e : MonExpression) → HasType ts e t → HasType ts (truth t e) I32
-  truth_typed t e h = compared_typed mon.Ne t e refl h
+  truth_typed : (t : MonType) (e : MonExpression) → is_whole t ≡ true → HasType ts e t → HasType ts (truth t e) I32
+  truth_typed t e w h = compared_typed mon.Ne t e w refl h
 
-  condition_typed : (t : MonType) (e : MonExpression) → HasType ts e t → HasType ts (condition t e) I32
-  condition_typed t e h = by (same_type t I32) refl
+  condition_typed : (t : MonType) (e : MonExpression) → is_whole t ≡ true → HasType ts e t → HasType ts (condition t e) I32
+  condition_typed t e w h = by (same_type t I32) refl
     where
       by : (b : Bool) → same_type t I32 ≡ b → HasType ts (if b then e else truth t e) I32
       by true s = subst (HasType ts e) (same_mon t I32 s) h
-      by false s = truth_typed t e h
+      by false s = truth_typed t e w h
 
   unary_typed : (op : UnOp) (t u : PlainType) (k : CInt) (e : MonExpression) → UnaryTypes op t u → t ≡ Int k → ((l : CInt) → u ≡ Int l → HasType ts e (register_type l)) → HasType ts (unary op (value_type u) e) (register_type k)
   unary_typed prefix.Plus t u k e h int g = g k (sym h.0 ∙ int)
@@ -286,7 +326,7 @@ module _ (ts : Types) where
   unary_typed prefix.Not t u k e h int g =
       let i = scalar_int u h.1 in
       subst (λ l. HasType ts (compared mon.Eq (value_type u) e) (register_type l)) (same_int_type c.I32 k (sym h.0 ∙ int))
-      (compared_typed mon.Eq (value_type u) e refl (subst (HasType ts e) (ap value_type (sym i.is)) (g i.int i.is)))
+      (compared_typed mon.Eq (value_type u) e (value_whole u) refl (subst (HasType ts e) (ap value_type (sym i.is)) (g i.int i.is)))
 
   binary_typed : (op : BinOp) (t u v : PlainType) (k : CInt) (a b : MonExpression) → BinaryTypes op t u v → t ≡ Int k → ((l : CInt) → u ≡ Int l → HasType ts a (register_type l)) → ((l : CInt) → v ≡ Int l → HasType ts b (register_type l)) → HasType ts (binary op (value_type u) (value_type v) a b) (register_type k)
   binary_typed op t u v k a b h int f g =
@@ -295,14 +335,15 @@ module _ (ts : Types) where
         ap (λ x. result_type (operator_of op) (value_type x)) m.left_is ∙ result_type_is op m.left ∙ ap register_type m.result,
         ap (λ x. is_arithmetic (value_type x)) h.0.is ∙ promoted_computes h.0.int,
         subst (HasType ts a) (ap value_type (sym m.left_is)) (f m.left m.left_is),
-        in_typed (value_type v) left b (subst (HasType ts b) (ap value_type (sym m.right_is)) (g m.right m.right_is)),
+        in_typed (value_type v) left b (value_whole v) (value_whole u) (subst (HasType ts b) (ap value_type (sym m.right_is)) (g m.right m.right_is)),
       )
 
   pub compound_typed : (op : BinOp) (k l : CInt) (a b : MonExpression) → HasType ts a (register_type k) → HasType ts b (register_type l) → HasType ts (compound_in op (register_type (operation_type op k l)) (register_type k) (register_type l) a b) (register_type k)
   compound_typed op k l a b f g =
-      let m = register_type (operation_type op k l) in
-      in_typed (result_type (operator_of op) m) (register_type k) (tree.Binary (operator_of op) m (in_type (register_type k) m a) (in_type (register_type l) m b))
-      (refl, operation_computes op k l, in_typed (register_type k) m a f, in_typed (register_type l) m b g)
+      let i = operation_type op k l in
+      let m = register_type i in
+      in_typed (result_type (operator_of op) m) (register_type k) (tree.Binary (operator_of op) m (in_type (register_type k) m a) (in_type (register_type l) m b)) (result_whole (operator_of op) i) (register_whole k)
+      (refl, operation_computes op k l, in_typed (register_type k) m a (register_whole k) (register_whole i) f, in_typed (register_type l) m b (register_whole l) (register_whole i) g)
 
   pub both_begin : (x y : Expression) (rs : Types) → Begins (rs ++ (temporaries x ++ temporaries y ++ I32 ∷ [])) ts → Begins (rs ++ temporaries x ++ temporaries y ++ I32 ∷ []) ts
   both_begin x y rs h =
@@ -312,21 +353,27 @@ module _ (ts : Types) where
   choice_begins x y z t rs h =
       subst (λ l. Begins l ts) (sym (append_assoc rs (temporaries x ++ temporaries y ++ temporaries z) (t ∷ [])) ∙ ap (λ l. l ++ t ∷ []) (sym (append_assoc rs (temporaries x ++ temporaries y) (temporaries z)) ∙ ap (λ l. l ++ temporaries z) (sym (append_assoc rs (temporaries x) (temporaries y))))) h
 
-  module _ (names : List ℕ) (scopes : Scopes) (sees : AreSeen ts names scopes.objects) where
-    pub variable_typed : (x : _) (t : PlainType) (k : CInt) → Denotes scopes x t → t ≡ Int k → slice_get ts (register_of names x.name) ≡ Some (register_type k)
-    variable_typed x t k d int =
+  module _ (numbers : List ℕ) (scopes : Scopes) (sees : AreSeen ts numbers scopes.objects) where
+    -- the variable that a name denotes
+    pub seen : (x : Use) (t : PlainType) → Denotes scopes x t → Seen ts numbers x.decl t
+    seen x t d =
         let s = sees x.name d.object d.found in
-        s.register ∙ ap (λ i. Some (register_type i)) (same_int_type s.int k (sym s.ctype ∙ d.ctype ∙ int))
+        record { int = s.int; ctype = sym d.ctype ∙ s.ctype; register = ap (λ n. slice_get ts (register_of numbers n)) d.decl ∙ s.register }
 
-    pub typed : (e : Expression) (k : CInt) (rs : Types) → type_of e ≡ Int k → IsPure e → WellTyped scopes e → HasLetters e → Begins (rs ++ temporaries e) ts → HasType ts (value names rs e) (register_type k)
+    pub variable_typed : (x : Use) (t : PlainType) (k : CInt) → Denotes scopes x t → t ≡ Int k → slice_get ts (register_of numbers x.decl) ≡ Some (register_type k)
+    variable_typed x t k d int =
+        let s = seen x t d in
+        s.register ∙ ap (λ i. Some (register_type i)) (same_int_type s.int k (sym s.ctype ∙ int))
+
+    pub typed : (e : Expression) (k : CInt) (rs : Types) → type_of e ≡ Int k → IsPure e → WellTyped scopes e → HasLetters e → Begins (rs ++ temporaries e) ts → HasType ts (value numbers rs e) (register_type k)
     typed (Node at t (Number z None)) k rs int p q l b = absurd q
     typed (Node at t (Number z (Some i))) k rs int p q l b =
         (ap value_type int, subst (λ j. has_constant (value_type j) z ≡ true) (sym q.0) (small_constant i z q.1))
     typed (Node at t (Letter z)) k rs int p q l b = (ap value_type int, subst (λ j. has_constant (value_type j) z ≡ true) (sym q) (small_constant c.I32 z (letter_fits z l)))
     typed (Node at t (Variable x)) k rs int p q l b = variable_typed x t k q int
-    typed (Node at t (Unary op a)) k rs int p q l b = unary_typed op t (type_of a) k (value names rs a) q.1 int (λ i e. typed a i rs e p q.0 l b)
+    typed (Node at t (Unary op a)) k rs int p q l b = unary_typed op t (type_of a) k (value numbers rs a) q.1 int (λ i e. typed a i rs e p q.0 l b)
     typed (Node at t (Binary op x y)) k rs int p q l b =
-        binary_typed op t (type_of x) (type_of y) k (value names rs x) (value names (rs ++ temporaries x) y) q.2 int
+        binary_typed op t (type_of x) (type_of y) k (value numbers rs x) (value numbers (rs ++ temporaries x) y) q.2 int
         (λ i e. typed x i rs e p.0 q.0 l.0 (begins_left rs (temporaries x) (temporaries y) ts b))
         (λ i e. typed y i (rs ++ temporaries x) e p.1 q.1 l.1 (begins_right rs (temporaries x) (temporaries y) ts b))
     typed (Node at t (Both x y)) k rs int p q l b =
@@ -338,41 +385,41 @@ module _ (ts : Types) where
     typed (Node at t (Cast to a)) k rs int p q l b =
         let to_int : to ≡ Int k = sym q.1 ∙ int in
         let from = cast_int to (type_of a) k to_int q.2 in
-        subst (HasType ts (in_type (value_type (type_of a)) (value_type to) (value names rs a))) (ap value_type to_int)
-        (in_typed (value_type (type_of a)) (value_type to) (value names rs a) (subst (HasType ts (value names rs a)) (ap value_type (sym from.is)) (typed a from.int rs from.is p q.0 l b)))
+        subst (HasType ts (in_type (value_type (type_of a)) (value_type to) (value numbers rs a))) (ap value_type to_int)
+        (in_typed (value_type (type_of a)) (value_type to) (value numbers rs a) (value_whole (type_of a)) (value_whole to) (subst (HasType ts (value numbers rs a)) (ap value_type (sym from.is)) (typed a from.int rs from.is p q.0 l b)))
     typed (Node at t (SizeOfType u)) k rs int p q l b = (ap register_type (same_int_type c.U64 k (sym q.0 ∙ int)), size_constant u)
     typed (Node at t (SizeOfExpr a)) k rs int p q l b = (ap register_type (same_int_type c.U64 k (sym q.1 ∙ int)), size_constant (type_of a))
     typed (Node at t (Assign op x y)) k rs int p q l b = absurd p
     typed (Node at t (Bump op a)) k rs int p q l b = absurd p
     typed (Node at t (Call f es)) k rs int p q l b = absurd p
 
-    pub expression_valid : (e : Expression) (k : CInt) (rs : Types) → type_of e ≡ Int k → IsPure e → WellTyped scopes e → HasLetters e → nodes_of e ≤ 800 → Begins (rs ++ temporaries e) ts → IsExpression ts (value names rs e) (register_type k)
-    expression_valid e k rs int p q l few b = record { typed = typed e k rs int p q l b; within = omega (arith, few_parens names rs e, few) }
+    pub expression_valid : (e : Expression) (k : CInt) (rs : Types) → type_of e ≡ Int k → IsPure e → WellTyped scopes e → HasLetters e → nodes_of e ≤ 800 → Begins (rs ++ temporaries e) ts → IsExpression ts (value numbers rs e) (register_type k)
+    expression_valid e k rs int p q l few b = record { typed = typed e k rs int p q l b; within = omega (arith, few_parens numbers rs e, few) }
 
-    pub condition_valid : (e : Expression) (k : CInt) (rs : Types) → type_of e ≡ Int k → IsPure e → WellTyped scopes e → HasLetters e → nodes_of e ≤ 800 → Begins (rs ++ temporaries e) ts → IsExpression ts (condition_of names rs e) I32
+    pub condition_valid : (e : Expression) (k : CInt) (rs : Types) → type_of e ≡ Int k → IsPure e → WellTyped scopes e → HasLetters e → nodes_of e ≤ 800 → Begins (rs ++ temporaries e) ts → IsExpression ts (condition_of numbers rs e) I32
     condition_valid e k rs int p q l few b =
-        let m = parens_condition (value_type (type_of e)) (value names rs e) (2 * nodes_of e) (few_parens names rs e) (omega (arith, some_nodes e)) in
-        record { typed = condition_typed (value_type (type_of e)) (value names rs e) (subst (HasType ts (value names rs e)) (ap value_type (sym int)) (typed e k rs int p q l b)); within = omega (arith, m, few) }
+        let m = parens_condition (value_type (type_of e)) (value numbers rs e) (2 * nodes_of e) (few_parens numbers rs e) (omega (arith, some_nodes e)) in
+        record { typed = condition_typed (value_type (type_of e)) (value numbers rs e) (value_whole (type_of e)) (subst (HasType ts (value numbers rs e)) (ap value_type (sym int)) (typed e k rs int p q l b)); within = omega (arith, m, few) }
 
-    pub truth_valid : (e : Expression) (k : CInt) (rs : Types) → type_of e ≡ Int k → IsPure e → WellTyped scopes e → HasLetters e → nodes_of e ≤ 800 → Begins (rs ++ temporaries e) ts → IsExpression ts (truth_of names rs e) I32
+    pub truth_valid : (e : Expression) (k : CInt) (rs : Types) → type_of e ≡ Int k → IsPure e → WellTyped scopes e → HasLetters e → nodes_of e ≤ 800 → Begins (rs ++ temporaries e) ts → IsExpression ts (truth_of numbers rs e) I32
     truth_valid e k rs int p q l few b =
-        let m = parens_compared mon.Ne (value_type (type_of e)) (value names rs e) (2 * nodes_of e) (few_parens names rs e) (omega (arith, some_nodes e)) in
-        record { typed = truth_typed (value_type (type_of e)) (value names rs e) (subst (HasType ts (value names rs e)) (ap value_type (sym int)) (typed e k rs int p q l b)); within = omega (arith, m, few) }
+        let m = parens_compared mon.Ne (value_type (type_of e)) (value numbers rs e) (2 * nodes_of e) (few_parens numbers rs e) (omega (arith, some_nodes e)) in
+        record { typed = truth_typed (value_type (type_of e)) (value numbers rs e) (value_whole (type_of e)) (subst (HasType ts (value numbers rs e)) (ap value_type (sym int)) (typed e k rs int p q l b)); within = omega (arith, m, few) }
 
     -- `op=` on a register
-    pub compound_valid : (op : BinOp) (k i : CInt) (r : ℕ) (e : Expression) (rs : Types) → slice_get ts r ≡ Some (register_type k) → type_of e ≡ Int i → IsPure e → WellTyped scopes e → HasLetters e → nodes_of e ≤ 800 → Begins (rs ++ temporaries e) ts → IsExpression ts (compound_in op (register_type (operation_type op k i)) (register_type k) (register_type i) (tree.Register r) (value names rs e)) (register_type k)
+    pub compound_valid : (op : BinOp) (k i : CInt) (r : ℕ) (e : Expression) (rs : Types) → slice_get ts r ≡ Some (register_type k) → type_of e ≡ Int i → IsPure e → WellTyped scopes e → HasLetters e → nodes_of e ≤ 800 → Begins (rs ++ temporaries e) ts → IsExpression ts (compound_in op (register_type (operation_type op k i)) (register_type k) (register_type i) (tree.Register r) (value numbers rs e)) (register_type k)
     compound_valid op k i r e rs reg int p q l few b =
-        let m = parens_compound op (register_type (operation_type op k i)) (register_type k) (register_type i) (tree.Register r) (value names rs e) (2 * nodes_of e) (omega arith) (few_parens names rs e) (omega (arith, some_nodes e)) in
-        record { typed = compound_typed op k i (tree.Register r) (value names rs e) reg (typed e i rs int p q l b); within = omega (arith, m, few) }
+        let m = parens_compound op (register_type (operation_type op k i)) (register_type k) (register_type i) (tree.Register r) (value numbers rs e) (2 * nodes_of e) (omega arith) (few_parens numbers rs e) (omega (arith, some_nodes e)) in
+        record { typed = compound_typed op k i (tree.Register r) (value numbers rs e) reg (typed e i rs int p q l b); within = omega (arith, m, few) }
 
     -- ---- annotations
 
-    term_typed : (t : LogicTerm) → IsSumTerm t → TermTyped scopes t → TermHasLetters t → HasType ts (term names t) I128
+    term_typed : (t : LogicTerm) → IsSumTerm t → TermTyped scopes t → TermHasLetters t → HasType ts (term numbers t) I128
     term_typed (logic.Number at u r z) p q l = (refl, logic_constant z p)
     term_typed (logic.Letter at u r z) p q l = (refl, logic_constant z (letter_number z l))
     term_typed (logic.Variable at u r x) p q l =
-        let s = sees x.name q.denotes.object q.denotes.found in
-        (refl, (register_type s.int, s.register))
+        let s = seen x q.ctype q.denotes in
+        (refl, refl, (register_type s.int, register_whole s.int, s.register))
     term_typed (logic.Binary at u r operator.Add a b) p q l = (refl, refl, term_typed a p.1 q.0 l.0, term_typed b p.2 q.1 l.1)
     term_typed (logic.Binary at u r operator.Sub a b) p q l = (refl, refl, term_typed a p.1 q.0 l.0, term_typed b p.2 q.1 l.1)
     term_typed (logic.Binary at u r _ a b) p q l = absurd p.0
@@ -383,23 +430,23 @@ module _ (ts : Types) where
     one_leaf (logic.Variable at u r x) = omega arith
     one_leaf (logic.Binary at u r op a b) = let p = one_leaf a in omega (arith, p)
 
-    few_parens_of_term : (t : LogicTerm) → open_parens (term names t) ≤ suc (leaves_of_term t)
+    few_parens_of_term : (t : LogicTerm) → open_parens (term numbers t) ≤ suc (leaves_of_term t)
     few_parens_of_term (logic.Number at u r z) = omega arith
     few_parens_of_term (logic.Letter at u r z) = omega arith
     few_parens_of_term (logic.Variable at u r x) = omega arith
     few_parens_of_term (logic.Binary at u r op a b) =
-        let m : max (open_parens (term names a)) (open_parens (term names b)) ≤ leaves_of_term a + leaves_of_term b = max-le (omega (arith, few_parens_of_term a, one_leaf b)) (omega (arith, few_parens_of_term b, one_leaf a)) in
+        let m : max (open_parens (term numbers a)) (open_parens (term numbers b)) ≤ leaves_of_term a + leaves_of_term b = max-le (omega (arith, few_parens_of_term a, one_leaf b)) (omega (arith, few_parens_of_term b, one_leaf a)) in
         omega (arith, m)
 
-    relation_valid : (r : Relation) (a b : LogicTerm) → IsShortTerm a → IsShortTerm b → TermTyped scopes a → TermTyped scopes b → TermHasLetters a → TermHasLetters b → IsExpression ts (tree.Binary (relation_operator r) I128 (term names a) (term names b)) I32
+    relation_valid : (r : Relation) (a b : LogicTerm) → IsShortTerm a → IsShortTerm b → TermTyped scopes a → TermTyped scopes b → TermHasLetters a → TermHasLetters b → IsExpression ts (tree.Binary (relation_operator r) I128 (term numbers a) (term numbers b)) I32
     relation_valid r a b p q f g l m =
-        let deep : max (open_parens (term names a)) (open_parens (term names b)) ≤ 401 = max-le (omega (arith, few_parens_of_term a, p.short)) (omega (arith, few_parens_of_term b, q.short)) in
+        let deep : max (open_parens (term numbers a)) (open_parens (term numbers b)) ≤ 401 = max-le (omega (arith, few_parens_of_term a, p.short)) (omega (arith, few_parens_of_term b, q.short)) in
         record { typed = (relation_gives r I128, refl, term_typed a p.is f l, term_typed b q.is g m); within = omega (arith, deep) }
 
-    body_valid : (b : ClauseBody) → IsRelation b → ClauseTyped scopes b → BodyHasLetters b → IsExpression ts (truth_of_body names b) I32
+    body_valid : (b : ClauseBody) → IsRelation b → ClauseTyped scopes b → BodyHasLetters b → IsExpression ts (truth_of_body numbers b) I32
     body_valid (Truth (Chain at a (Linked at2 r b NoLink))) p q l = relation_valid r a b p.0 p.1 q.0 q.1.0 l.0 l.1.0
     body_valid (Truth (Chain at a NoLink)) p q l = absurd p
     body_valid (Truth (Chain at a (Linked at2 r b (Linked at3 r3 c rest)))) p q l = absurd p
 
-    pub assertion_valid : (result : MonType) (ls : Labels) (a : Annotation) → IsAssert a → ClauseTyped scopes a.body → IsNumbered a → IsStatement ts (Some result) ls (assertion names a)
-    assertion_valid result ls a h t k = (record { typed = (refl, refl); within = omega arith }, body_valid a.body h.body t k.letters, k.number, k.line)
+    pub assertion_valid : (gs : List Signature) (result : Option MonType) (ls : Labels) (a : Annotation) → IsAssert a → ClauseTyped scopes a.body → IsNumbered a → IsStatement gs ts result ls (assertion numbers a)
+    assertion_valid gs result ls a h t k = (record { typed = (refl, refl); within = omega arith }, body_valid a.body h.body t k.letters, k.number, k.line)

@@ -1,226 +1,187 @@
--- The translation of a typed program is valid.
-use Rattle.std.proofs.Common.{◌≡◌, ℕ, suc, ◌+◌, ◌<◌, ◌≤◌, ◌*◌, ◌^◌, max, false, ◌||◌, List, [], ◌∷◌, ◌++◌, length, map, Option, Some, None, slice_get, refl, sym, ap, ◌∙◌, subst, arith, append_assoc}
-use Rattle.std.proofs.lemmas.List.{append-nil, length-append, length-map}
-use Rattle.std.specs.Prelude.{bytes_eq}
-use Rattle.std.proofs.Math.Nat.{le-max_right}
-use Rattle.c_syntax.specs.declared.place.Place.{Place}
+-- The translation of a program is valid: its functions, each with a name of its own, one of which is `main`.
+use Rattle.std.proofs.Common.{◌≡◌, ℕ, suc, ◌+◌, ◌*◌, ◌<◌, ◌≤◌, ◌^◌, Bool, true, false, cond, if◌then◌else◌, nat_eq, List, [], ◌∷◌, ◌++◌, length, map, Option, Some, None, slice_get, refl, sym, ap, ◌∙◌, subst, arith, append_assoc}
+use Rattle.std.proofs.lemmas.List.{append-nil, length-map}
+use Rattle.std.proofs.lemmas.Bool.{eq-eqb}
+use Rattle.std.proofs.lemmas.Bool.Decides.{nat_tests}
+use Rattle.std.specs.Prelude.{bytes_eq, codes}
 use Rattle.c_syntax.specs.Ctypes.{int_type}
-use Rattle.c_syntax.specs.Expressions.{Expression, Expressions, Following, type_of}
-use Rattle.c_syntax.specs.Statements.{Initialiser, One, Declaration, Declare, Run, Asserts, BlockItems, NoItem, Then}
-use Rattle.c_syntax.specs.Programs.{TranslationUnit}
+use Rattle.c_syntax.specs.Statements.{Declaration, Statement, Block, BlockItems}
+use Rattle.c_syntax.specs.Programs.{Function, TranslationUnit}
 use Rattle.c_model.specs.Formed as form
-use Rattle.c_model.specs.Formed.{IsName}
-use Rattle.c_model.specs.Meaning.{declared_in}
-use Rattle.c_model.specs.Typing.{Object, Scopes, name_at, object_named, with_object, with_objects}
-use Rattle.c_model.specs.ProgramTyping.{signature, file_scopes}
-use Rattle.c_model.specs.WellTyped.{HaveTypes}
-use Rattle.c_model.specs.WellTypedPrograms.{Initialises, AreDeclared, ItemsTyped, ItemsNoted, around_body}
-use Rattle.c_model.specs.Formed.{IsInitialiser, AreInitialised, ItemsFormed, BodyItemsFormed, AreNamed, IsProgram, most_typed}
+use Rattle.c_model.specs.Formed.{IsProgram, BodyFormed, number_of, declared_in_body, declared_in_items, most_typed}
+use Rattle.c_model.specs.Meaning.{is_definition, declared_in}
+use Rattle.c_model.specs.Typing.{Signature as Known, Scopes, name_at, with_object}
+use Rattle.c_model.specs.ProgramTyping.{signature, function_scopes, with_parameter, with_parameters}
+use Rattle.c_model.specs.WellTypedPrograms.{around_body}
 use Rattle.mon_syntax.specs.declared.tree.MonType.TheVariants.{I32}
-use Rattle.mon_syntax.specs.Trees.{MonRegister, MonStatements}
-use Rattle.mon_syntax.specs.Trees as tree
-use Rattle.mon_syntax.specs.Valid.{Types, AreStatements, AreRegisters, IsFunction, IsValid, has_label, types_of, depth_of_all}
-use Rattle.instrument.specs.Limits.{InitialHasLetters, InitialsHaveLetters, HaveNumbers, HaveSmallNumbers, FunctionsHaveNumbers, HaveFewVariables}
-use Rattle.instrument.specs.Translation.{initial_temporaries, declaration_temporaries, items_temporaries, value, value_type, initialise, initialise_all, items, body_items, names_of, types_of_all, register_of, register_name, temporary_name, registers_from, temporaries_from, main_of, main_with, translated}
-use Rattle.instrument.proofs.Names.{IsNumber, main_is_free, register_is_free, registers_differ, temporary_is_free, temporaries_differ, temporary_is_other}
-use Rattle.instrument.proofs.Declared.{Apart, AreObjects, Behind, behind_one, behind_all, object_at, object_of, place_of, newest_at, in_front, at_end, int_of, items_apart, items_objects}
-use Rattle.instrument.proofs.Start.{IsMain, main_of_program, called}
-use Rattle.instrument.proofs.Runs.{names_stay, functions_stay}
-use Rattle.instrument.proofs.Typed.{Begins, begins_left, begins_right, Seen, AreSeen}
-use Rattle.instrument.proofs.Variables.{slice_get-map}
-use Rattle.instrument.proofs.Statements.{none_declared}
-use Rattle.instrument.proofs.ValidSetups.{deep_before, deep_behind, before_valid, assigned_valid}
-use Rattle.instrument.proofs.ValidStatements.{Sees, items_valid, deep_items}
+use Rattle.mon_syntax.specs.Trees.{MonFunction}
+use Rattle.mon_syntax.specs.Valid.{Types, Signature, AreStatements, IsFunction, AreFunctions, IsMain, IsValid, has_label, types_of, depth_of_all}
+use Rattle.mon_syntax.specs.Names.{IsFreeName}
+use Rattle.instrument.specs.Limits.{HaveNumbers, FunctionsHaveNumbers}
+use Rattle.instrument.specs.Translation.{Spot, variables_of, variable_numbers, value_types, pointer_types, variable_types, body_temporaries, items_temporaries, with_born, with_variables, alive, body_part, statement, items, function_name, values_from, registers_of, result_of, function_of, functions_from, translated}
+use Rattle.instrument.proofs.Names.{IsNumber, main_is_free, function_is_free, functions_differ}
+use Rattle.instrument.proofs.Functions.{InOrder}
+use Rattle.instrument.proofs.Numbers.{numbers_in, bounded, placed, AreObjects, parameter_objects}
+use Rattle.instrument.proofs.Programs.{Part, Parts, parts_of, is_picked, index_by, has_bytes, main_index_is}
+use Rattle.instrument.proofs.Bodies.{HasBody, has_body, numbers_long}
+use Rattle.instrument.proofs.Callees.{main, functions}
+use Rattle.instrument.proofs.Runs.{is_main}
+use Rattle.instrument.proofs.Typed.{Begins}
+use Rattle.instrument.proofs.ValidBlocks.{HaveVariables, have_variables, variables_front, variables_back, own_variables, Sees, sees_one, point_born, deep_alive, alive_valid}
+use Rattle.instrument.proofs.Depths.{deep}
+use Rattle.instrument.proofs.ValidStatements.{Points, items_valid}
+use Rattle.instrument.proofs.ValidCalls.{signatures, calls_valid}
+use Rattle.instrument.proofs.ValidRegisters.{AllOf, all_of, not_among, function_types, registers_valid}
 
--- ---- registers
+-- ---- a function
 
--- the names of registers with smaller numbers, none of which a temporary register has
-abbrev AreBelow : ℕ → List (List ℕ) → Type 0
-AreBelow k [] = Unit {0}
-AreBelow k (w ∷ before) = ((j : ℕ) (name : List ℕ) → k ≤ j → IsNumber j → bytes_eq (register_name j name) w ≡ false) × ((j : ℕ) → bytes_eq (temporary_name j) w ≡ false) × AreBelow k before
+module _ (p : TranslationUnit) (q : IsProgram p) (numbers : FunctionsHaveNumbers p.funcs) where
+  abbrev m : ℕ
+  m = main p q numbers
 
-one_higher : (k : ℕ) (before : List (List ℕ)) → AreBelow k before → AreBelow (suc k) before
-one_higher k [] h = tt
-one_higher k (w ∷ before) h = (λ j name le few. h.0 j name (omega arith) few, h.1, one_higher k before h.2)
+  abbrev gs : List Signature
+  gs = signatures p q numbers
 
-not_among : (k : ℕ) (name : List ℕ) (before : List (List ℕ)) → IsNumber k → AreBelow k before → has_label before (register_name k name) ≡ false
-not_among k name [] le h = refl
-not_among k name (w ∷ before) le h = ap (λ b. b || has_label before (register_name k name)) (h.0 k name (omega arith) le) ∙ not_among k name before le h.2
+  module _ (f : Function) (part : Part p f) (definition : is_definition f ≡ true) where
+    abbrev ns : List ℕ
+    ns = variable_numbers f
 
--- the names that no temporary register from the number k on has
-abbrev AreOther : ℕ → List (List ℕ) → Type 0
-AreOther k [] = Unit {0}
-AreOther k (w ∷ before) = ((j : ℕ) → k ≤ j → IsNumber j → bytes_eq (temporary_name j) w ≡ false) × AreOther k before
+    abbrev ts : Types
+    ts = variable_types f ++ body_temporaries f.body
 
-other_higher : (k : ℕ) (before : List (List ℕ)) → AreOther k before → AreOther (suc k) before
-other_higher k [] h = tt
-other_higher k (w ∷ before) h = (λ j le few. h.0 j (omega arith) few, other_higher k before h.1)
+    abbrev body : HasBody p f part
+    body = has_body p f part definition
 
-not_temporary : (k : ℕ) (before : List (List ℕ)) → IsNumber k → AreOther k before → has_label before (temporary_name k) ≡ false
-not_temporary k [] le h = refl
-not_temporary k (w ∷ before) le h = ap (λ b. b || has_label before (temporary_name k)) (h.0 k (omega arith) le) ∙ not_temporary k before le h.1
+    in_order : InOrder ns 0 (variables_of f)
+    in_order =
+        let all = bounded (suc f.place.offset) ns part.numbered.1 in
+        (placed [] (variables_of f) (suc f.place.offset) all.high tt all.is).in_order
 
-all_other : (k n : ℕ) (before : List (List ℕ)) → AreBelow k before → AreOther n before
-all_other k n [] h = tt
-all_other k n (w ∷ before) h = (λ j le few. h.1 j, all_other k n before h.2)
+    variables : HaveVariables ts ns (variables_of f)
+    variables = have_variables ts ns (variables_of f) (numbers_long f) (record { rest = body_temporaries f.body; is = refl }) [] (variables_of f) refl in_order
 
-temporaries_valid : (k : ℕ) (ts : Types) (before : List (List ℕ)) → IsNumber (k + length ts) → AreOther k before → AreRegisters before (temporaries_from k ts)
-temporaries_valid k [] before le h = tt
-temporaries_valid k (t ∷ ts) before le h = (
-  temporary_is_free k (omega (arith, le)),
-  not_temporary k before (omega (arith, le)) h,
-  temporaries_valid (suc k) ts (temporary_name k ∷ before) (omega (arith, le)) ((λ j lt few. temporaries_differ j k few (omega (arith, le)) (λ e. omega (arith, e, lt))), other_higher k before h),
-)
+    parameters : HaveVariables ts ns f.params
+    parameters = variables_front ts ns f.params (declared_in_body f.body) variables
 
-registers_valid : (names : List (List ℕ)) (k : ℕ) (ds : List Declaration) (before : List (List ℕ)) (n : ℕ) (ts : Types) → AreNamed names ds → IsNumber (k + length ds) → IsNumber (n + length ts) → AreBelow k before → AreRegisters before (registers_from names k ds ++ temporaries_from n ts)
-registers_valid names k [] before n ts h le few below = temporaries_valid n ts before few (all_other k n before below)
-registers_valid names k (d ∷ ds) before n ts h le few below =
-    let name = name_at names d.name in (
-      register_is_free k name (omega (arith, le)) h.0.parts,
-      not_among k name before (omega (arith, le)) below,
-      registers_valid names (suc k) ds (register_name k name ∷ before) n ts h.1 (omega (arith, le)) few ((λ j other lt small. registers_differ j k other name small (omega (arith, le)) (λ e. omega (arith, e, lt))), (λ j. temporary_is_other j k name), one_higher k before below),
-    )
+    declared : HaveVariables ts ns (declared_in_items body.items)
+    declared = subst (λ b. HaveVariables ts ns (declared_in_body b)) body.is (variables_back ts ns f.params (declared_in_body f.body) variables)
 
-types_are : (names : List (List ℕ)) (k : ℕ) (ds : List Declaration) (n : ℕ) (ts : Types) → types_of (registers_from names k ds ++ temporaries_from n ts) ≡ types_of_all ds ++ ts
-types_are names k [] n [] = refl
-types_are names k [] n (t ∷ ts) = ap (λ l. t ∷ l) (types_are names k [] (suc n) ts)
-types_are names k (d ∷ ds) n ts = ap (λ l. value_type d.ctype ∷ l) (types_are names (suc k) ds n ts)
+    abbrev known : List Known
+    known = map (signature p.funcs) (part.before ++ f ∷ [])
 
--- ---- main's items
+    -- each parameter that has a name is in sight
+    sees_parameters : (ds : List Declaration) (s : Scopes) → AreObjects ds → HaveVariables ts ns ds → Sees ts ns p.names known s → Sees ts ns p.names known (with_parameters s ds)
+    sees_parameters [] s o h v = v
+    sees_parameters (d ∷ ds) s o h v = sees_parameters ds (with_parameter s d) o.1 h.1 (by d.named)
+      where
+        by : (b : Bool) → Sees ts ns p.names known (cond b (with_object s d) s)
+        by true = sees_one ts ns p.names known s d o.0 h.0 v
+        by false = v
 
-module _ (ts : Types) (p : TranslationUnit) (q : IsMain p) (whole : List Declaration) (apart : Apart whole) (objects : AreObjects whole) (begins : Begins (types_of_all whole) ts) where
-  abbrev names : List ℕ
-  names = names_of whole
+    abbrev scopes : Scopes
+    scopes = with_parameters (function_scopes p part.before f) f.params
 
-  -- the register of a variable
-  register_there : (j : ℕ) (d : Declaration) → slice_get whole j ≡ Some d → slice_get ts (register_of names d.name) ≡ Some (value_type d.ctype)
-  register_there j d e =
-      let number : register_of names d.name ≡ j = newest_at d 0 0 j whole apart e ∙ omega arith in
-      ap (slice_get ts) number ∙ ap (λ l. slice_get l j) begins.is ∙ in_front (types_of_all whole) begins.rest j (value_type d.ctype) (slice_get-map (λ (c : Declaration). value_type c.ctype) whole j d e)
+    sees : Sees ts ns p.names known scopes
+    sees =
+        sees_parameters f.params (function_scopes p part.before f) (parameter_objects (function_scopes p part.before f) f.params part.typed.params) parameters
+        (record { sees = λ x b e. absurd cc; names_are = refl; functions_are = refl })
 
-  seen_at : (j : ℕ) (d : Declaration) → slice_get whole j ≡ Some d → Seen ts names d.name d.ctype
-  seen_at j d e =
-      let int = object_at whole j d objects e in
-      record { int = int_of d.ctype; ctype = int; register = register_there j d e ∙ ap (λ t. Some (value_type t)) int }
+    abbrev spot : Spot
+    spot = record { loops = 0; inside = with_born ns f.params []; outside = [] }
 
-  are_seen : (bs rest : List Declaration) (os : List Object) → whole ≡ bs ++ rest → os ≡ map object_of bs → AreSeen ts names os
-  are_seen bs rest os all same x b e =
-      let i = place_of x bs b (ap (object_named x) (sym same) ∙ e) in
-      let there : slice_get whole i.number ≡ Some i.declaration = ap (λ l. slice_get l i.number) all ∙ in_front bs rest i.number i.declaration i.is in
-      subst (λ t. Seen ts names x t) (sym i.ctype) (subst (λ y. Seen ts names y i.declaration.ctype) i.name (seen_at i.number i.declaration there))
+    abbrev Are : Option Statement → Type 0
+    Are a = AreStatements gs ts (result_of f.result) [] (body_part p ns f.params (variable_types f) a)
 
-  abbrev Are : MonStatements → Type 0
-  Are a = AreStatements ts (Some I32) [] a
+    block_formed : BodyFormed most_typed (Some (Block body.at body.items))
+    block_formed = subst (BodyFormed most_typed) body.is part.formed.body
 
-  initial_valid : (d : Declaration) (o : Option (Place × Initialiser)) (bs more : List Declaration) (s : Scopes) (rs : Types) → whole ≡ bs ++ d ∷ more → s.objects ≡ map object_of bs → IsInitialiser most_typed o → Initialises s d.ctype o → InitialHasLetters o → Begins (rs ++ initial_temporaries o) ts → Are (initialise names rs d.name o)
-  initial_valid d None bs more s rs all same f t l b = absurd f
-  initial_valid d (Some (at, One e)) bs more s rs all same f t l b =
-      let there : slice_get whole (length bs) ≡ Some d = ap (λ l. slice_get l (length bs)) all ∙ at_end bs more d in
-      let seen = seen_at (length bs) d there in
-      assigned_valid ts names s (are_seen bs (d ∷ more) s.objects all same) [] (register_of names d.name) e seen.int rs seen.register (t.1 ∙ seen.ctype) f.is t.0 l f.small b
+    block_valid : Are (Some (Block body.at body.items))
+    block_valid =
+        let own = own_variables ts ns body.items declared in
+        let inside = with_variables ns (declared_in body.items) spot in
+        let shallow = block_formed.1 in
+        alive_valid gs ts (result_of f.result) [] ns (declared_in body.items) (items p ns inside (variable_types f) body.items) own
+        (items_valid p gs ts f.result ns p.names known (λ s names seen. calls_valid p q numbers ts part.before part.after f part.is s names seen) body.items scopes sees (around_body f.result) inside
+        (record { inside = point_born ts ns (declared_in body.items) (with_born ns f.params []) own (point_born ts ns f.params [] parameters tt); outside = tt })
+        (variable_types f) refl (λ e. absurd cc) declared body.formed body.typed body.noted body.letters (omega (arith, shallow))
+        (subst (λ l. Begins (variable_types f ++ l) ts) (ap body_temporaries body.is) (record { rest = []; is = sym (append-nil ts) })))
 
-  declarations_valid : (ds bs more : List Declaration) (s : Scopes) (rs : Types) → whole ≡ bs ++ (ds ++ more) → Behind s bs → AreInitialised most_typed ds → AreDeclared s ds → InitialsHaveLetters ds → Begins (rs ++ declaration_temporaries ds) ts → Are (initialise_all names rs ds)
-  declarations_valid [] bs more s rs all v f t l b = tt
-  declarations_valid (d ∷ ds) bs more s rs all v f t l b =
-      let here = initial_temporaries d.init in
-      before_valid ts (Some I32) [] (initialise names rs d.name d.init) (initialise_all names (rs ++ here) ds)
-      (initial_valid d d.init bs (ds ++ more) s rs all v.objects f.0 t.0.init l.0 (begins_left rs here (declaration_temporaries ds) ts b))
-      (declarations_valid ds (bs ++ d ∷ []) more (with_object s d) (rs ++ here) (all ∙ sym (append_assoc bs (d ∷ []) (ds ++ more))) (behind_one s bs d v) f.1 t.1 l.1 (begins_right rs here (declaration_temporaries ds) ts b))
+    all_valid : AreStatements gs ts (result_of f.result) [] (alive ns f.params (body_part p ns f.params (variable_types f) f.body))
+    all_valid = alive_valid gs ts (result_of f.result) [] ns f.params (body_part p ns f.params (variable_types f) f.body) parameters (subst Are (sym body.is) block_valid)
 
-  sees_of : (s : Scopes) (bs : List Declaration) → whole ≡ bs → s.objects ≡ map object_of bs → s.names ≡ p.names → s.functions ≡ map signature p.funcs → Sees ts names s
-  sees_of s bs all same same_names functions = record {
-    sees = are_seen bs [] s.objects (all ∙ sym (append-nil bs)) same;
-    ints = λ f t es c e rest is. first_int (called p q s same_names functions f t es c) e rest is;
-  }
+    deep_body : depth_of_all (body_part p ns f.params (variable_types f) f.body) ≤ 1605
+    deep_body =
+        subst (λ a. depth_of_all (body_part p ns f.params (variable_types f) a) ≤ 1605) (sym body.is)
+        (let d = deep p ns spot (variable_types f) (Block body.at body.items) block_formed.0 in let shallow = block_formed.1 in omega (arith, d, shallow))
+
+    name_free : (k : ℕ) → IsNumber k → (b : Bool) → IsFreeName (if b then codes "main" else function_name k (name_at p.names f.name))
+    name_free k few true = main_is_free
+    name_free k few false = function_is_free k (name_at p.names f.name) few part.named.name.parts
+
+    pub function_valid : (k : ℕ) → IsNumber k → IsFunction gs (function_of p m k f)
+    function_valid k few =
+        let deep = deep_alive ns f.params (body_part p ns f.params (variable_types f) f.body) 1605 deep_body (omega arith) in
+        record {
+          name = name_free k few (nat_eq k m);
+          registers = registers_valid p.names f part.named (part.numbers definition).few;
+          body = subst (λ ts. AreStatements gs ts (result_of f.result) [] (alive ns f.params (body_part p ns f.params (variable_types f) f.body))) (sym (function_types p.names f)) all_valid;
+          within = omega (arith, deep);
+        }
+
+  -- ---- all of them
+
+  -- the names of functions in front, of which none with these numbers is one, nor `main` where it is behind
+  record Above (k : ℕ) (w : List ℕ) : Type 0 where
+    pub other : (j : ℕ) (name : List ℕ) → k ≤ j → IsNumber j → bytes_eq (function_name j name) w ≡ false
+    pub first : k ≤ m → bytes_eq (codes "main") w ≡ false
+
+  above_next : (k : ℕ) (ws : List (List ℕ)) → AllOf (Above k) ws → AllOf (Above (suc k)) ws
+  above_next k ws h = all_of (Above k) (Above (suc k)) ws (λ w a. record { other = λ j name lt few. a.other j name (omega (arith, lt)) few; first = λ lt. a.first (omega (arith, lt)) }) h
+
+  above_this : (k : ℕ) (name : List ℕ) → IsNumber k → Above (suc k) (if nat_eq k m then codes "main" else function_name k name)
+  above_this k name few = by (nat_eq k m) refl
     where
-      first_int : {es : Expressions} → HaveTypes (int_type ∷ []) es → (e : Expression) (rest : Expressions) → es ≡ Following e rest → type_of e ≡ int_type
-      first_int {es} h e rest is = (subst (HaveTypes (int_type ∷ [])) is h).0
+      by : (b : Bool) → nat_eq k m ≡ b → Above (suc k) (if b then codes "main" else function_name k name)
+      by true e = record { other = λ j name lt small. refl; first = λ lt. let same : k ≡ m = grind (arith, nat_tests) in absurd (omega (arith, same, lt)) }
+      by false e = record { other = λ j other lt small. functions_differ j k other name small few (λ e. omega (arith, e, lt)); first = λ lt. refl }
 
-  statements_valid : (is : BlockItems) (bs : List Declaration) (s : Scopes) (rs : Types) → whole ≡ bs → s.objects ≡ map object_of bs → s.names ≡ p.names → s.functions ≡ map signature p.funcs → ItemsFormed most_typed is → ItemsTyped s (around_body int_type) is → ItemsNoted s is → HaveNumbers is → form.depth_of_items is ≤ 1000 → Begins (rs ++ items_temporaries is) ts → Are (items names rs 0 is)
-  statements_valid is bs s rs all same same_names functions f t m l deep b =
-      items_valid ts names is s (sees_of s bs all same same_names functions) (around_body int_type) 0 rs refl (λ e. absurd cc) f t m l (omega (arith, deep)) b
+  new_name : (k : ℕ) (name : List ℕ) (ws : List (List ℕ)) → IsNumber k → AllOf (Above k) ws → has_label ws (if nat_eq k m then codes "main" else function_name k name) ≡ false
+  new_name k name ws few h = by (nat_eq k m) refl
+    where
+      by : (b : Bool) → nat_eq k m ≡ b → has_label ws (if b then codes "main" else function_name k name) ≡ false
+      by true e = let same : k ≡ m = grind (arith, nat_tests) in not_among (codes "main") ws (all_of (Above k) (λ w. bytes_eq (codes "main") w ≡ false) ws (λ w a. a.first (omega (arith, same))) h)
+      by false e = not_among (function_name k name) ws (all_of (Above k) (λ w. bytes_eq (function_name k name) w ≡ false) ws (λ w a. a.other k name (omega arith) few) h)
 
-  main_items_valid : (is : BlockItems) (bs : List Declaration) (s : Scopes) (rs : Types) → whole ≡ bs ++ declared_in is → Behind s bs → s.names ≡ p.names → s.functions ≡ map signature p.funcs → BodyItemsFormed most_typed is → ItemsTyped s (around_body int_type) is → ItemsNoted s is → HaveNumbers is → form.depth_of_items is ≤ 1000 → Begins (rs ++ items_temporaries is) ts → Are (items names rs 0 is)
-  main_items_valid (Then (Declare ds) rest) bs s rs all v same_names functions f t m l deep b =
-      let here = declaration_temporaries ds in
-      let r = le-max_right 0 (form.depth_of_items rest) in
-      before_valid ts (Some I32) [] (initialise_all names rs ds) (items names (rs ++ here) 0 rest)
-      (declarations_valid ds bs (declared_in rest) s rs all v f.0 t.0 l.0 (begins_left rs here (items_temporaries rest) ts b))
-      (main_items_valid rest (bs ++ ds) (with_objects s ds) (rs ++ here) (all ∙ sym (append_assoc bs ds (declared_in rest))) (behind_all s bs ds v) (names_stay s ds ∙ same_names) (functions_stay s ds ∙ functions) f.1 t.1 m.1 l.1 (omega (arith, deep, r)) (begins_right rs here (items_temporaries rest) ts b))
-  main_items_valid NoItem bs s rs all v same_names functions f t m l deep b = tt
-  main_items_valid (Then (Run a) rest) bs s rs all v same_names functions f t m l deep b =
-      statements_valid (Then (Run a) rest) bs s rs (all ∙ ap (λ l. bs ++ l) (none_declared most_typed (Then (Run a) rest) f) ∙ append-nil bs) v.objects same_names functions f t m l deep b
-  main_items_valid (Then (Asserts annots) rest) bs s rs all v same_names functions f t m l deep b =
-      statements_valid (Then (Asserts annots) rest) bs s rs (all ∙ ap (λ l. bs ++ l) (none_declared most_typed (Then (Asserts annots) rest) f) ∙ append-nil bs) v.objects same_names functions f t m l deep b
+  functions_valid : (fs : List Function) (k : ℕ) (ws : List (List ℕ)) → Parts p fs → IsNumber (k + length fs) → AllOf (Above k) ws → AreFunctions gs ws (functions_from p m k fs)
+  functions_valid [] k ws parts few h = tt
+  functions_valid (f ∷ fs) k ws parts few h = by (is_definition f) refl (λ j us le g. functions_valid fs j us parts.1 le g)
+    where
+      by : (b : Bool) → is_definition f ≡ b → ((j : ℕ) (us : List (List ℕ)) → IsNumber (j + length fs) → AllOf (Above j) us → AreFunctions gs us (functions_from p m j fs)) → AreFunctions gs ws (if b then function_of p m k f ∷ functions_from p m (suc k) fs else functions_from p m k fs)
+      by true e rest = (
+        function_valid f parts.0 e k (omega (arith, few)),
+        new_name k (name_at p.names f.name) ws (omega (arith, few)) h,
+        rest (suc k) ((function_of p m k f).name ∷ ws) (omega (arith, few)) (above_this k (name_at p.names f.name) (omega (arith, few)), above_next k ws h),
+      )
+      by false e rest = rest k ws (omega (arith, few)) h
 
--- ---- how deep main's items stand
+  -- ---- main
 
-deep_initial : (names : List ℕ) (rs : Types) (x : ℕ) (o : Option (Place × Initialiser)) → IsInitialiser most_typed o → depth_of_all (initialise names rs x o) ≤ 801
-deep_initial names rs x None p = absurd p
-deep_initial names rs x (Some (at, One e)) p = let s = p.small in deep_behind names rs e (tree.Set (register_of names x) (value names rs e)) 801 (omega (arith, s)) (omega arith)
-
-deep_initials : (names : List ℕ) (rs : Types) (ds : List Declaration) → AreInitialised most_typed ds → depth_of_all (initialise_all names rs ds) ≤ 801
-deep_initials names rs [] p = omega arith
-deep_initials names rs (d ∷ ds) p = deep_before (initialise names rs d.name d.init) (initialise_all names (rs ++ initial_temporaries d.init) ds) 801 (deep_initial names rs d.name d.init p.0) (deep_initials names (rs ++ initial_temporaries d.init) ds p.1)
-
-deep_main : (names : List ℕ) (rs : Types) (is : BlockItems) → BodyItemsFormed most_typed is → depth_of_all (items names rs 0 is) ≤ 4 * form.depth_of_items is + 801
-deep_main names rs (Then (Declare ds) rest) p =
-    let x = deep_initials names rs ds p.0 in
-    let y = deep_main names (rs ++ declaration_temporaries ds) rest p.1 in
-    let r = le-max_right 0 (form.depth_of_items rest) in
-    deep_before (initialise_all names rs ds) (items names (rs ++ declaration_temporaries ds) 0 rest) (4 * max 0 (form.depth_of_items rest) + 801) (omega (arith, x)) (omega (arith, y, r))
-deep_main names rs NoItem p = deep_items names rs 0 NoItem p
-deep_main names rs (Then (Run a) rest) p = deep_items names rs 0 (Then (Run a) rest) p
-deep_main names rs (Then (Asserts annots) rest) p = deep_items names rs 0 (Then (Asserts annots) rest) p
-
--- ---- the program
-
-module _ (p : TranslationUnit) (q : IsMain p) (numbers : HaveNumbers q.items) (small : HaveSmallNumbers q.items) where
-  abbrev ds : List Declaration
-  ds = declared_in q.items
-
-  abbrev temporary : Types
-  temporary = items_temporaries q.items
-
-  abbrev registers : List MonRegister
-  registers = registers_from p.names 0 ds ++ temporaries_from (length ds) temporary
-
-  abbrev all_types : Types
-  all_types = types_of_all ds ++ temporary
-
-  body_valid : AreStatements all_types (Some I32) [] (items (names_of ds) (types_of_all ds) 0 q.items)
-  body_valid =
-      let shallow = q.shallow in
-      main_items_valid all_types p q ds
-      (items_apart most_typed (file_scopes p) (around_body int_type) [] q.items q.formed q.typed (record { objects = refl; innermost = refl }) tt)
-      (items_objects most_typed (file_scopes p) (around_body int_type) q.items q.formed q.typed)
-      (record { rest = temporary; is = refl }) q.items [] (file_scopes p) (types_of_all ds) refl (record { objects = refl; innermost = refl }) refl refl q.formed q.typed q.noted numbers (omega (arith, shallow))
-      (record { rest = []; is = sym (append-nil all_types) })
-
-  long : length ds + length temporary < 2 ^ 64
-  long = omega (arith, small, length-append (types_of_all ds) temporary, length-map ds (λ (d : Declaration). value_type d.ctype))
-
-  main_valid : IsFunction (main_with p.names q.items ds)
-  main_valid =
-      let deep = deep_main (names_of ds) (types_of_all ds) q.items q.formed in
-      let shallow = q.shallow in
+  -- the translation is valid
+  pub translated_valid : length p.funcs < 2 ^ 64 → IsValid (translated p)
+  translated_valid few =
+      let parts = parts_of p q numbers in
+      let found = is_main p.names p.funcs q.main in
+      let picked = is_picked p (has_bytes p.names (codes "main")) m p.funcs found.function parts found.first 0 in
+      let index = 0 + index_by (has_bytes p.names (codes "main")) p.funcs in
+      let first : index ≡ m = sym (main_index_is p.names p.funcs ∙ omega arith) in
       record {
-        name = main_is_free;
-        registers = registers_valid p.names 0 ds [] (length ds) temporary q.are_named (omega (arith, long)) long tt;
-        body = subst (λ ts. AreStatements ts (Some I32) [] (items (names_of ds) (types_of_all ds) 0 q.items)) (sym (types_are p.names 0 ds (length ds) temporary)) body_valid;
-        within = omega (arith, deep, shallow);
+        functions = functions_valid p.funcs 0 [] parts (omega (arith, few)) tt;
+        number = index_by (has_bytes p.names (codes "main")) p.funcs;
+        main = function_of p m index found.function;
+        has = picked.translated;
+        is_main = record {
+          name = ap (λ b. if b then codes "main" else function_name index (name_at p.names found.function.name)) (eq-eqb index m first);
+          result = ap result_of found.result;
+          no_parameters = ap (values_from p.names 0) found.params;
+        };
       }
-
-  pub main_program_valid : IsValid (translated p)
-  main_program_valid = record {
-    main = main_with p.names q.items ds;
-    functions = ap (map (main_of p.names)) q.funcs ∙ ap (λ b. main_with p.names (body_items b) (declared_in (body_items b)) ∷ []) q.body;
-    is_function = main_valid;
-    is_main = record { name = refl; result = refl; no_parameters = refl };
-  }
-
-pub translated_valid : (p : TranslationUnit) → IsProgram p → HaveFewVariables p.funcs → FunctionsHaveNumbers p.funcs → IsValid (translated p)
-translated_valid p q few numbers =
-    let m = main_of_program p q few in
-    let both = subst FunctionsHaveNumbers m.funcs numbers in
-    main_program_valid p m (subst (λ b. HaveNumbers (body_items b)) m.body both.0) (subst (λ b. HaveSmallNumbers (body_items b)) m.body both.1)

@@ -1,152 +1,36 @@
--- Translated statements are valid: their labels, their loops, and how deep they stand.
-use Rattle.std.proofs.Common.{◌≡◌, ℕ, zero, suc, ◌+◌, ◌*◌, ◌<◌, ◌≤◌, Bool, true, false, ◌||◌, List, [], ◌∷◌, ◌++◌, Option, Some, None, max, refl, sym, ap, ◌∙◌, subst, arith, append_assoc}
-use Rattle.std.proofs.Math.Nat.{max-le, le-max_left, le-max_right}
+-- Translated statements are valid: their labels, their loops, and the types of what stands in them.
+use Rattle.std.proofs.Common.{◌≡◌, ℕ, zero, suc, ◌+◌, ◌<◌, ◌≤◌, Bool, true, false, ◌||◌, List, [], ◌∷◌, ◌++◌, Option, Some, None, max, slice_get, refl, sym, ap, ◌∙◌, subst, arith, append_assoc}
+use Rattle.std.proofs.Math.Nat.{le-max_left, le-max_right}
 use Rattle.std.specs.Prelude.{bytes_eq}
-use Rattle.c_syntax.specs.declared.place.Place.{Place}
-use Rattle.c_syntax.specs.declared.types.CInt.TheVariants as c
-use Rattle.c_syntax.specs.declared.expression.Use.{Use}
-use Rattle.c_syntax.specs.Ctypes.{PlainType, Void, int_type}
-use Rattle.c_syntax.specs.Expressions.{Expression, Expressions, Following, type_of}
+use Rattle.c_syntax.specs.declared.types.CInt.{CInt}
+use Rattle.c_syntax.specs.Ctypes.{PlainType, Int}
+use Rattle.c_syntax.specs.Expressions.{Expression, type_of}
 use Rattle.c_syntax.specs.Annotations.{Annotation}
-use Rattle.c_syntax.specs.Statements.{Initialiser, One, Declaration, Statement, Empty, Eval, Block, If, While, Do, For, Break, Continue, Return, ElsePart, NoElse, Else, ForFirst, NoFirst, First, BlockItem, Declare, Run, Asserts, BlockItems, NoItem, Then}
+use Rattle.c_syntax.specs.Statements.{Declaration, Statement, Empty, Eval, Block, If, While, Do, For, Break, Continue, Return, ElsePart, NoElse, Else, ForFirst, NoFirst, First, BlockItem, Declare, Run, Asserts, BlockItems, NoItem, Then}
+use Rattle.c_syntax.specs.Programs.{TranslationUnit}
 use Rattle.c_model.specs.Formed as form
-use Rattle.c_model.specs.Typing.{Scopes, Around, in_loop, inner}
-use Rattle.c_model.specs.WellTyped.{WellTyped, Calls}
-use Rattle.c_model.specs.WellTypedPrograms.{IsCondition, WhereAny, StatementTyped, ElseTyped, ItemTyped, ItemsTyped, FirstTyped, AnnotationsTyped, StatementNoted, ElseNoted, ItemNoted, ItemsNoted}
-use Rattle.c_model.specs.Formed.{AreAsserts, IsFull, IsFullEffect, IsEffectOrCall, FirstFormed, StatementFormed, ElseFormed, ItemFormed, ItemsFormed, nodes_of}
-use Rattle.mon_syntax.specs.declared.tree.MonType.TheVariants.{I32}
-use Rattle.mon_syntax.specs.Trees.{MonStatement, MonStatements, NoStatement}
+use Rattle.c_model.specs.Formed.{number_of, declared_within, declared_in_else, declared_in_first, declared_in_item, declared_in_items, AreAsserts, IsFull, IsFullOrCall, IsFullEffect, IsFullEffectOrCall, AreInitialised, FirstFormed, StatementFormed, ElseFormed, ItemFormed, ItemsFormed}
+use Rattle.c_model.specs.Meaning.{declared_in, declared_first}
+use Rattle.c_model.specs.Typing.{Signature as Known, Scopes, Around, in_loop, inner, with_object, with_objects, behind_first}
+use Rattle.c_model.specs.WellTyped.{WellTyped}
+use Rattle.c_model.specs.WellTypedPrograms.{IsCondition, WhereAny, AreDeclared, Returned, StatementTyped, ElseTyped, ItemTyped, ItemsTyped, FirstTyped, AnnotationsTyped, StatementNoted, ElseNoted, ItemNoted, ItemsNoted}
+use Rattle.mon_syntax.specs.Trees.{MonExpression, MonStatement, MonStatements, NoStatement}
 use Rattle.mon_syntax.specs.Trees as tree
-use Rattle.mon_syntax.specs.Valid.{Types, Labels, AreStatements, has_label, has_no_step, depth_of_all}
-use Rattle.instrument.specs.Limits.{Any, HasLetters, EffectHasLetters, AreNumbered, HasNumbers, ElseHasNumbers, FirstHasNumbers, ItemHasNumbers, HaveNumbers}
-use Rattle.instrument.specs.Translation.{one, value, condition_of, setup, temporaries, effect_if_any, effect_temporaries_if_any, effect_temporaries, assertions, initialise, initialise_all, initial_temporaries, leave_where_zero, test, test_if_any, temporaries_if_any, returned, loop, end_label, next_label, statement_temporaries, else_temporaries, first_temporaries, item_temporaries, items_temporaries, statement, else_part, first_part, item, items}
+use Rattle.mon_syntax.specs.Valid.{Types, Labels, Signature, IsExpression, AreStatements, ReturnsResult, has_label, has_no_step}
+use Rattle.instrument.specs.Limits.{Any, HasLetters, FullHasLetters, EffectHasLetters, InitialsHaveLetters, AreNumbered, HasNumbers, ElseHasNumbers, FirstHasNumbers, ItemHasNumbers, HaveNumbers}
+use Rattle.instrument.specs.Expressions.{register_type, value_type, before, one, setup, temporaries, condition_of, assertions}
+use Rattle.instrument.specs.Translation.{Spot, any_temporaries, full_temporaries, effect_temporaries, initial_temporaries, declaration_temporaries, full_setup, full_value, effect, effect_if_any, initialise, initialise_all, leave_where_zero, test, test_if_any, returned, deaths, loop, end_label, next_label, with_variables, statement_temporaries, else_temporaries, first_temporaries, item_temporaries, items_temporaries, statement, else_part, first_part, item, items, result_of}
+use Rattle.instrument.specs.Translation as target
 use Rattle.instrument.proofs.Names.{IsNumber, end_is_free, next_is_free, ends_differ, nexts_differ, same_bytes}
-use Rattle.instrument.proofs.ExpressionTypes.{scalar_int}
-use Rattle.instrument.proofs.Statements.{effect_or_call, same_behind_first}
-use Rattle.instrument.proofs.Typed.{Begins, begins_left, begins_right, begins_front, AreSeen, expression_valid, condition_valid, assertion_valid}
-use Rattle.instrument.proofs.ValidSetups.{no_step_before, no_step_setup, no_step_effect, deep_before, deep_setup, deep_effect, deep_behind, before_valid, setup_valid, effect_valid}
-
--- ---- no step stands in a translated statement outside its loops
-
-no_step_assertions : (names : List ℕ) (l : List Annotation) → has_no_step (assertions names l) ≡ true
-no_step_assertions names [] = refl
-no_step_assertions names (a ∷ l) = no_step_assertions names l
-
-no_step_initialise : (names : List ℕ) (rs : Types) (x : ℕ) (o : Option (Place × Initialiser)) → has_no_step (initialise names rs x o) ≡ true
-no_step_initialise names rs x None = refl
-no_step_initialise names rs x (Some (at, One e)) = no_step_before (setup names rs e) _ (no_step_setup names rs e) refl
-
-no_step_initialise_all : (names : List ℕ) (rs : Types) (l : List Declaration) → has_no_step (initialise_all names rs l) ≡ true
-no_step_initialise_all names rs [] = refl
-no_step_initialise_all names rs (d ∷ l) = no_step_before (initialise names rs d.name d.init) _ (no_step_initialise names rs d.name d.init) (no_step_initialise_all names (rs ++ initial_temporaries d.init) l)
-
-no_step_effect_if_any : (names : List ℕ) (rs : Types) (e : Option Expression) → has_no_step (effect_if_any names rs e) ≡ true
-no_step_effect_if_any names rs None = refl
-no_step_effect_if_any names rs (Some e) = no_step_effect names rs e
-
-no_step_test : (names : List ℕ) (rs : Types) (loops : ℕ) (e : Expression) → has_no_step (test names rs loops e) ≡ true
-no_step_test names rs loops e = no_step_before (setup names rs e) _ (no_step_setup names rs e) refl
-
-no_step_test_if_any : (names : List ℕ) (rs : Types) (loops : ℕ) (e : Option Expression) → has_no_step (test_if_any names rs loops e) ≡ true
-no_step_test_if_any names rs loops None = refl
-no_step_test_if_any names rs loops (Some e) = no_step_test names rs loops e
-
--- ---- how deep translated statements stand
-
--- what stands in no other statement is at most so deep
-abbrev most_deep : ℕ
-most_deep = 801
-
-deep_assertions : (names : List ℕ) (l : List Annotation) → depth_of_all (assertions names l) ≤ 1
-deep_assertions names [] = omega arith
-deep_assertions names (a ∷ l) = max-le (omega arith) (deep_assertions names l)
-
-deep_test : (names : List ℕ) (rs : Types) (loops : ℕ) (e : Expression) → nodes_of e ≤ 800 → depth_of_all (test names rs loops e) ≤ most_deep
-deep_test names rs loops e few =
-    let p = deep_setup names rs e in
-    deep_before (setup names rs e) (leave_where_zero loops (condition_of names rs e)) most_deep (omega (arith, p, few)) (omega arith)
-
-deep_test_if_any : (names : List ℕ) (rs : Types) (loops : ℕ) (e : Option Expression) → WhereAny (IsFull 800) e → depth_of_all (test_if_any names rs loops e) ≤ most_deep
-deep_test_if_any names rs loops None p = omega arith
-deep_test_if_any names rs loops (Some e) p = deep_test names rs loops e p.small
-
-deep_effect_if_any : (names : List ℕ) (rs : Types) (e : Option Expression) → WhereAny (IsFullEffect 800) e → depth_of_all (effect_if_any names rs e) ≤ most_deep
-deep_effect_if_any names rs None p = omega arith
-deep_effect_if_any names rs (Some e) p = let d = deep_effect names rs e in let s = p.small in omega (arith, d, s)
-
-deep_returned : (names : List ℕ) (rs : Types) (e : Option Expression) → WhereAny (IsFull 800) e → depth_of_all (returned names rs e) ≤ most_deep
-deep_returned names rs None p = omega arith
-deep_returned names rs (Some e) p = let s = p.small in deep_behind names rs e (tree.Return (Some (value names rs e))) most_deep (omega (arith, s)) (omega arith)
-
-deep_first : (names : List ℕ) (rs : Types) (loops : ℕ) (first : ForFirst) → FirstFormed 800 first → depth_of_all (first_part names rs loops first) ≤ most_deep
-deep_first names rs loops NoFirst p = omega arith
-deep_first names rs loops (First (Run (Eval at e))) p = let d = deep_effect names rs e in let s = p.small in omega (arith, d, s)
-deep_first names rs loops _ p = absurd p
-
--- a loop whose body is n deep
-deep_loop : (loops : ℕ) (front body behind : MonStatements) (n : ℕ) → depth_of_all front ≤ suc n → depth_of_all body ≤ n → depth_of_all behind ≤ suc n → depth_of_all (one (loop loops front body behind)) ≤ n + 3
-deep_loop loops front body behind n f b h =
-    let round : max (suc (depth_of_all body)) (depth_of_all behind) ≤ suc n = max-le (omega (arith, b)) h in
-    let both : max (depth_of_all front) (max (suc (depth_of_all body)) (depth_of_all behind)) ≤ suc n = max-le f round in
-    let whole : max 1 (max (depth_of_all front) (max (suc (depth_of_all body)) (depth_of_all behind))) ≤ suc n = max-le (omega arith) both in
-    let turns : max (suc (max 1 (max (depth_of_all front) (max (suc (depth_of_all body)) (depth_of_all behind))))) 0 ≤ n + 2 = max-le (omega (arith, whole)) (omega arith) in
-    max-le (omega (arith, turns)) (omega arith)
-
-mutual
-  deep : (names : List ℕ) (rs : Types) (loops : ℕ) (a : Statement) → StatementFormed 800 a → depth_of_all (statement names rs loops a) ≤ 4 * form.depth a + most_deep
-  deep names rs loops (Empty at) p = omega arith
-  deep names rs loops (Eval at e) p = let d = deep_effect names rs e in let s = p.small in omega (arith, d, s)
-  deep names rs loops (Block at body) p = let d = deep_items names rs loops body p in omega (arith, d)
-  deep names rs loops (If at e a b) p =
-      let x = deep names (rs ++ temporaries e) loops a p.1 in
-      let y = deep_else names (rs ++ temporaries e ++ statement_temporaries a) loops b p.2 in
-      let l = le-max_left (form.depth a) (form.depth_of_else b) in
-      let r = le-max_right (form.depth a) (form.depth_of_else b) in
-      let n = 4 * max (form.depth a) (form.depth_of_else b) + most_deep in
-      let m : max (depth_of_all (statement names (rs ++ temporaries e) loops a)) (depth_of_all (else_part names (rs ++ temporaries e ++ statement_temporaries a) loops b)) ≤ n = max-le (omega (arith, x, l)) (omega (arith, y, r)) in
-      let s = p.0.small in
-      deep_behind names rs e (tree.If (condition_of names rs e) (statement names (rs ++ temporaries e) loops a) (else_part names (rs ++ temporaries e ++ statement_temporaries a) loops b)) (4 * (1 + max (form.depth a) (form.depth_of_else b)) + most_deep) (omega (arith, s)) (omega (arith, m))
-  deep names rs loops (While at annots e a) p =
-      let x = deep names (rs ++ temporaries e) (loops + 1) a p.2 in
-      let y = deep_test names rs (loops + 1) e p.1.small in
-      let d = deep_loop (loops + 1) (test names rs (loops + 1) e) (statement names (rs ++ temporaries e) (loops + 1) a) NoStatement (4 * form.depth a + most_deep) (omega (arith, y)) x (omega arith) in
-      omega (arith, d)
-  deep names rs loops (Do at a e) p =
-      let x = deep names rs (loops + 1) a p.0 in
-      let y = deep_test names (rs ++ statement_temporaries a) (loops + 1) e p.1.small in
-      let d = deep_loop (loops + 1) NoStatement (statement names rs (loops + 1) a) (test names (rs ++ statement_temporaries a) (loops + 1) e) (4 * form.depth a + most_deep) (omega arith) x (omega (arith, y)) in
-      omega (arith, d)
-  deep names rs loops (For at annots first e step a) p =
-      let r = rs ++ first_temporaries first in
-      let s = r ++ temporaries_if_any e in
-      let u = s ++ statement_temporaries a in
-      let x = deep names s (loops + 1) a p.4 in
-      let y = deep_test_if_any names r (loops + 1) e p.2 in
-      let z = deep_effect_if_any names u step p.3 in
-      let f = deep_first names rs loops first p.1 in
-      let d = deep_loop (loops + 1) (test_if_any names r (loops + 1) e) (statement names s (loops + 1) a) (effect_if_any names u step) (4 * form.depth a + most_deep) (omega (arith, y)) x (omega (arith, z)) in
-      deep_before (first_part names rs loops first) (one (loop (loops + 1) (test_if_any names r (loops + 1) e) (statement names s (loops + 1) a) (effect_if_any names u step))) (4 * (1 + form.depth a) + most_deep) (omega (arith, f)) (omega (arith, d))
-  deep names rs loops (Break at) p = omega arith
-  deep names rs loops (Continue at) p = omega arith
-  deep names rs loops (Return at e) p = let d = deep_returned names rs e p in omega (arith, d)
-
-  deep_else : (names : List ℕ) (rs : Types) (loops : ℕ) (b : ElsePart) → ElseFormed 800 b → depth_of_all (else_part names rs loops b) ≤ 4 * form.depth_of_else b + most_deep
-  deep_else names rs loops NoElse p = omega arith
-  deep_else names rs loops (Else a) p = deep names rs loops a p
-
-  deep_item : (names : List ℕ) (rs : Types) (loops : ℕ) (i : BlockItem) → ItemFormed 800 i → depth_of_all (item names rs loops i) ≤ 4 * form.depth_of_item i + most_deep
-  deep_item names rs loops (Declare ds) p = absurd p
-  deep_item names rs loops (Run a) p = deep names rs loops a p
-  deep_item names rs loops (Asserts annots) p = let d = deep_assertions names annots in omega (arith, d)
-
-  pub deep_items : (names : List ℕ) (rs : Types) (loops : ℕ) (is : BlockItems) → ItemsFormed 800 is → depth_of_all (items names rs loops is) ≤ 4 * form.depth_of_items is + most_deep
-  deep_items names rs loops NoItem p = omega arith
-  deep_items names rs loops (Then i rest) p =
-      let x = deep_item names rs loops i p.0 in
-      let y = deep_items names (rs ++ item_temporaries i) loops rest p.1 in
-      let l = le-max_left (form.depth_of_item i) (form.depth_of_items rest) in
-      let r = le-max_right (form.depth_of_item i) (form.depth_of_items rest) in
-      deep_before (item names rs loops i) (items names (rs ++ item_temporaries i) loops rest) (4 * max (form.depth_of_item i) (form.depth_of_items rest) + most_deep) (omega (arith, x, l)) (omega (arith, y, r))
+use Rattle.instrument.proofs.ExpressionTypes.{scalar_int, integer_int}
+use Rattle.instrument.proofs.Statements.{effect_or_call}
+use Rattle.instrument.proofs.Births.{int_of}
+use Rattle.instrument.proofs.Numbers.{IsObject, declared_objects, items_objects}
+use Rattle.instrument.proofs.Typed.{Begins, begins_left, begins_right, begins_front, AreSeen, condition_valid, assertion_valid}
+use Rattle.instrument.proofs.ValidSetups.{before_valid, setup_valid}
+use Rattle.instrument.proofs.ValidEffects.{CallsValid, effect_valid, full_valid, initialise_valid}
+use Rattle.instrument.proofs.ValidBlocks.{HaveVariables, variables_front, variables_back, own_variables, first_variables, Sees, sees_inner, sees_one, sees_behind, AllPoint, point_both, point_born, deaths_valid, alive_valid}
+use Rattle.instrument.proofs.Depths.{no_step_test, no_step_test_if_any, no_step_effect_if_any}
 
 -- ---- labels
 
@@ -190,41 +74,57 @@ one_more_loop loops =
 
 -- ---- statements
 
--- what statements see: registers of the variables, and calls with an argument of type `int`
-pub record Sees (ts : Types) (names : List ℕ) (s : Scopes) : Type 0 where
-  pub sees : AreSeen ts names s.objects
-  pub ints : (f : Use) (t : PlainType) (es : Expressions) → Calls s f t es → (e : Expression) (rest : Expressions) → es ≡ Following e rest → type_of e ≡ int_type
+-- the blocks of the variables that live
+pub record Points (ts : Types) (numbers : List ℕ) (spot : Spot) : Type 0 where
+  pub inside : AllPoint ts numbers spot.inside
+  pub outside : AllPoint ts numbers spot.outside
 
-inner_sees : (ts : Types) (names : List ℕ) (s : Scopes) → Sees ts names s → Sees ts names (inner s)
-inner_sees ts names s v = record {
-  sees = v.sees;
-  ints = λ f t es k. v.ints f t es (record { callee = k.callee; found = k.found; not_main = k.not_main; decl = k.decl; result = k.result; arguments = k.arguments });
-}
-
-module _ (ts : Types) (names : List ℕ) where
+module _ (p : TranslationUnit) (gs : List Signature) (ts : Types) (result : PlainType) (numbers : List ℕ) (names : List (List ℕ)) (functions : List Known) (calls : (s : Scopes) → s.names ≡ names → s.functions ≡ functions → CallsValid p gs ts s) where
   abbrev Are : Labels → MonStatements → Type 0
-  Are ls a = AreStatements ts (Some I32) ls a
+  Are ls a = AreStatements gs ts (result_of result) ls a
 
-  effect_at : (s : Scopes) (v : Sees ts names s) (ls : Labels) (e : Expression) (rs : Types) → IsEffectOrCall e → WellTyped s e → EffectHasLetters e → nodes_of e ≤ 800 → Begins (rs ++ effect_temporaries e) ts → Are ls (effect_if_any names rs (Some e))
-  effect_at s v ls e rs p q l few b = effect_valid ts names s v.sees ls v.ints e rs p q l few b
+  abbrev See : Scopes → Type 0
+  See s = Sees ts numbers names functions s
 
-  effect_if_any_at : (s : Scopes) (v : Sees ts names s) (ls : Labels) (e : Option Expression) (rs : Types) → WhereAny (IsFullEffect 800) e → WhereAny (WellTyped s) e → Any EffectHasLetters e → Begins (rs ++ effect_temporaries_if_any e) ts → Are ls (effect_if_any names rs e)
-  effect_if_any_at s v ls None rs p q l b = tt
-  effect_if_any_at s v ls (Some e) rs p q l b = effect_at s v ls e rs (effect_or_call e p.is) q l p.small b
+  abbrev Have : List Declaration → Type 0
+  Have ds = HaveVariables ts numbers ds
 
-  test_at : (s : Scopes) (v : Sees ts names s) (ls : Labels) (loops : ℕ) (e : Expression) (rs : Types) → has_label ls (end_label loops) ≡ true → IsFull 800 e → IsCondition s e → HasLetters e → Begins (rs ++ temporaries e) ts → Are ls (test names rs loops e)
-  test_at s v ls loops e rs jump p q l b =
+  calls_at : (s : Scopes) → See s → CallsValid p gs ts s
+  calls_at s v = calls s v.names_are v.functions_are
+
+  effect_at : (s : Scopes) (v : See s) (ls : Labels) (e : Expression) (rs : Types) → IsFullEffectOrCall 800 e → WellTyped s e → EffectHasLetters e → Begins (rs ++ effect_temporaries e) ts → Are ls (effect p numbers rs e)
+  effect_at s v ls e rs f q l b = effect_valid p gs ts (result_of result) numbers s v.sees (calls_at s v) ls e rs f.is q l f.small b
+
+  effect_if_any_at : (s : Scopes) (v : See s) (ls : Labels) (e : Option Expression) (rs : Types) → WhereAny (IsFullEffect 800) e → WhereAny (WellTyped s) e → Any EffectHasLetters e → Begins (rs ++ any_temporaries effect_temporaries e) ts → Are ls (effect_if_any p numbers rs e)
+  effect_if_any_at s v ls None rs f q l b = tt
+  effect_if_any_at s v ls (Some e) rs f q l b = effect_at s v ls e rs (record { is = effect_or_call e f.is; small = f.small }) q l b
+
+  test_at : (s : Scopes) (v : See s) (ls : Labels) (loops : ℕ) (e : Expression) (rs : Types) → has_label ls (end_label loops) ≡ true → IsFull 800 e → IsCondition s e → HasLetters e → Begins (rs ++ temporaries e) ts → Are ls (test numbers rs loops e)
+  test_at s v ls loops e rs jump f q l b =
       let i = scalar_int (type_of e) q.scalar in
-      before_valid ts (Some I32) ls (setup names rs e) (leave_where_zero loops (condition_of names rs e)) (setup_valid ts names s v.sees ls e i.int rs i.is p.is q.typed l p.small b)
-      ((condition_valid ts names s v.sees e i.int rs i.is p.is q.typed l p.small b, tt, (jump, tt)), tt)
+      before_valid gs ts (result_of result) ls (setup numbers rs e) (leave_where_zero loops (condition_of numbers rs e)) (setup_valid gs ts (result_of result) numbers s v.sees ls e i.int rs i.is f.is q.typed l f.small b)
+      ((condition_valid ts numbers s v.sees e i.int rs i.is f.is q.typed l f.small b, tt, (jump, tt)), tt)
 
-  test_if_any_at : (s : Scopes) (v : Sees ts names s) (ls : Labels) (loops : ℕ) (e : Option Expression) (rs : Types) → has_label ls (end_label loops) ≡ true → WhereAny (IsFull 800) e → WhereAny (IsCondition s) e → Any HasLetters e → Begins (rs ++ temporaries_if_any e) ts → Are ls (test_if_any names rs loops e)
-  test_if_any_at s v ls loops None rs jump p q l b = tt
-  test_if_any_at s v ls loops (Some e) rs jump p q l b = test_at s v ls loops e rs jump p q l b
+  test_if_any_at : (s : Scopes) (v : See s) (ls : Labels) (loops : ℕ) (e : Option Expression) (rs : Types) → has_label ls (end_label loops) ≡ true → WhereAny (IsFull 800) e → WhereAny (IsCondition s) e → Any HasLetters e → Begins (rs ++ any_temporaries temporaries e) ts → Are ls (test_if_any numbers rs loops e)
+  test_if_any_at s v ls loops None rs jump f q l b = tt
+  test_if_any_at s v ls loops (Some e) rs jump f q l b = test_at s v ls loops e rs jump f q l b
 
-  assertions_valid : (s : Scopes) (v : Sees ts names s) (ls : Labels) (l : List Annotation) → AreAsserts l → AnnotationsTyped s l → AreNumbered l → Are ls (assertions names l)
-  assertions_valid s v ls [] p q k = tt
-  assertions_valid s v ls (a ∷ l) p q k = (assertion_valid ts names s v.sees I32 ls a p.0 q.0 k.0, assertions_valid s v ls l p.1 q.1 k.1)
+  assertions_valid : (s : Scopes) (v : See s) (ls : Labels) (l : List Annotation) → AreAsserts l → AnnotationsTyped s l → AreNumbered l → Are ls (assertions numbers l)
+  assertions_valid s v ls [] f q k = tt
+  assertions_valid s v ls (a ∷ l) f q k = (assertion_valid ts numbers s v.sees gs (result_of result) ls a f.0 q.0 k.0, assertions_valid s v ls l f.1 q.1 k.1)
+
+  -- declarations, of which each sees those in front
+  initials_valid : (ds : List Declaration) (s : Scopes) (v : See s) (ls : Labels) (rs : Types) → Have ds → AreInitialised 800 ds → AreDeclared s ds → InitialsHaveLetters ds → Begins (rs ++ declaration_temporaries ds) ts → Are ls (initialise_all p numbers rs ds)
+  initials_valid [] s v ls rs h f q l b = tt
+  initials_valid (d ∷ ds) s v ls rs h f q l b =
+      let here = initial_temporaries d.init in
+      let k = int_of d.ctype in
+      let int : IsObject d = (declared_objects s (d ∷ ds) q).0 in
+      before_valid gs ts (result_of result) ls (initialise p numbers rs (number_of d) d.init) (initialise_all p numbers (rs ++ here) ds)
+      (initialise_valid p gs ts (result_of result) numbers s v.sees (calls_at s v) ls (number_of d) d.ctype k d.init rs int (h.0.value ∙ ap (λ t. Some (value_type t)) int) f.0 q.0.init l.0 (begins_left rs here (declaration_temporaries ds) ts b))
+      (initials_valid ds (with_object s d) (sees_one ts numbers names functions s d int h.0 v) ls (rs ++ here) h.1 f.1 q.1 l.1 (begins_right rs here (declaration_temporaries ds) ts b))
+
+  -- ---- loops
 
   -- the labels behind a loop's step, and those of its body
   abbrev ended : ℕ → Labels
@@ -244,21 +144,63 @@ module _ (ts : Types) (names : List ℕ) where
   own_end : (loops : ℕ) → has_label (ended loops) (end_label (loops + 1)) ≡ true
   own_end loops = ap (λ b. b || has_label (labels loops) (end_label (loops + 1))) (same_bytes (end_label (loops + 1)))
 
-  first_valid : (first : ForFirst) (s : Scopes) (v : Sees ts names s) (r : Around) (loops : ℕ) (rs : Types) → FirstFormed 800 first → FirstTyped s r first → FirstHasNumbers first → Begins (rs ++ first_temporaries first) ts → Are (labels loops) (first_part names rs loops first)
-  first_valid NoFirst s v r loops rs p q l b = tt
-  first_valid (First (Run (Eval at e))) s v r loops rs p q l b = effect_at s v (labels loops) e rs p.is q l p.small b
-  first_valid _ s v r loops rs p q l b = absurd p
-
   four_begin : (rs a b c d : Types) → Begins (rs ++ (a ++ b ++ c ++ d)) ts → Begins (rs ++ a ++ b ++ c ++ d) ts
   four_begin rs a b c d h =
       subst (λ l. Begins l ts) (sym (append_assoc rs (a ++ b ++ c) d) ∙ ap (λ l. l ++ d) (sym (append_assoc rs (a ++ b) c) ∙ ap (λ l. l ++ c) (sym (append_assoc rs a b)))) h
 
+  -- ---- what stands in which variables' lives
+
+  points_with : (spot : Spot) (ds : List Declaration) → Have ds → Points ts numbers spot → Points ts numbers (with_variables numbers ds spot)
+  points_with spot ds h k = record { inside = point_born ts numbers ds spot.inside h k.inside; outside = k.outside }
+
+  points_loop : (spot : Spot) → Points ts numbers spot → Points ts numbers (target.in_loop spot)
+  points_loop spot k = record { inside = tt; outside = point_both ts numbers spot.inside spot.outside k.inside k.outside }
+
+  jump_valid : (spot : Spot) (ls : Labels) (l : List ℕ) → Points ts numbers spot → has_label ls l ≡ true → Are ls (before (deaths numbers spot.inside) (one (tree.Goto l)))
+  jump_valid spot ls l k among = before_valid gs ts (result_of result) ls (deaths numbers spot.inside) (one (tree.Goto l)) (deaths_valid gs ts (result_of result) ls numbers spot.inside k.inside) (among, tt)
+
+  -- the result of a function that isn't void
+  returns_value : (e : MonExpression) (t : PlainType) (k : CInt) → t ≡ Int k → IsExpression ts e (register_type k) → ReturnsResult ts (result_of t) (Some e)
+  returns_value e t k int h = subst (λ t. ReturnsResult ts (result_of t) (Some e)) (sym int) h
+
+  returned_valid : (spot : Spot) (s : Scopes) (v : See s) (ls : Labels) (rs : Types) (e : Option Expression) → Points ts numbers spot → WhereAny (IsFullOrCall 800) e → Returned s result e → Any FullHasLetters e → Begins (rs ++ any_temporaries full_temporaries e) ts → Are ls (returned p numbers spot rs e)
+  returned_valid spot s v ls rs None k f q l b =
+      let live = spot.inside ++ spot.outside in
+      before_valid gs ts (result_of result) ls (deaths numbers live) (one (tree.Return None)) (deaths_valid gs ts (result_of result) ls numbers live (point_both ts numbers spot.inside spot.outside k.inside k.outside))
+      (subst (λ t. ReturnsResult ts (result_of t) None) (sym q) tt, tt)
+  returned_valid spot s v ls rs (Some e) k f q l b =
+      let live = spot.inside ++ spot.outside in
+      let i = integer_int result q.2 in
+      let x = full_valid p gs ts (result_of result) numbers s v.sees (calls_at s v) ls e i.int rs (q.1 ∙ i.is) f.is q.0 l f.small b in
+      let leaves = one (tree.Return (Some (full_value numbers rs e))) in
+      before_valid gs ts (result_of result) ls (full_setup p numbers rs e) (before (deaths numbers live) leaves) x.0
+      (before_valid gs ts (result_of result) ls (deaths numbers live) leaves (deaths_valid gs ts (result_of result) ls numbers live (point_both ts numbers spot.inside spot.outside k.inside k.outside))
+      (returns_value (full_value numbers rs e) result i.int i.is x.1, tt))
+
+  first_valid : (first : ForFirst) (s : Scopes) (v : See s) (r : Around) (spot : Spot) (ls : Labels) (rs : Types) → Have (declared_first first) → FirstFormed 800 first → FirstTyped s r first → FirstHasNumbers first → Begins (rs ++ first_temporaries first) ts → Are ls (first_part p numbers spot rs first)
+  first_valid NoFirst s v r spot ls rs h f q l b = tt
+  first_valid (First (Run (Eval at e))) s v r spot ls rs h f q l b = effect_at s v ls e rs f q l b
+  first_valid (First (Declare ds)) s v r spot ls rs h f q l b = initials_valid ds s v ls rs h f q l b
+  first_valid _ s v r spot ls rs h f q l b = absurd f
+
+  sees_first : (first : ForFirst) (s : Scopes) (v : See s) (r : Around) → Have (declared_first first) → FirstFormed 800 first → FirstTyped s r first → See (behind_first s first)
+  sees_first NoFirst s v r h f q = v
+  sees_first (First (Run a)) s v r h f q = v
+  sees_first (First (Declare ds)) s v r h f q = sees_behind ts numbers names functions s ds (declared_objects s ds q) h v
+  sees_first (First (Asserts annots)) s v r h f q = v
+
+  -- ---- all statements
+
   mutual
-    statement_valid : (a : Statement) (s : Scopes) (v : Sees ts names s) (r : Around) (loops : ℕ) (rs : Types) → r.result ≡ int_type → (r.loops ≡ true → 0 < loops) → StatementFormed 800 a → StatementTyped s r a → StatementNoted s a → HasNumbers a → loops + form.depth a ≤ 1000 → Begins (rs ++ statement_temporaries a) ts → Are (labels loops) (statement names rs loops a)
-    statement_valid (Empty at) s v r loops rs int o p q m l d b = tt
-    statement_valid (Eval at e) s v r loops rs int o p q m l d b = effect_at s v (labels loops) e rs p.is q l p.small b
-    statement_valid (Block at body) s v r loops rs int o p q m l d b = items_valid body (inner s) (inner_sees ts names s v) r loops rs int o p q m l (omega (arith, d)) b
-    statement_valid (If at e x y) s v r loops rs int o p q m l d b =
+    statement_valid : (a : Statement) (s : Scopes) (v : See s) (r : Around) (spot : Spot) (k : Points ts numbers spot) (rs : Types) → r.result ≡ result → (r.loops ≡ true → 0 < spot.loops) → Have (declared_within a) → StatementFormed 800 a → StatementTyped s r a → StatementNoted s a → HasNumbers a → spot.loops + form.depth a ≤ 1000 → Begins (rs ++ statement_temporaries a) ts → Are (labels spot.loops) (statement p numbers spot rs a)
+    statement_valid (Empty at) s v r spot k rs same o h f q m l d b = tt
+    statement_valid (Eval at e) s v r spot k rs same o h f q m l d b = effect_at s v (labels spot.loops) e rs f q l b
+    statement_valid (Block at body) s v r spot k rs same o h f q m l d b =
+        let own = own_variables ts numbers body h in
+        let inside = with_variables numbers (declared_in body) spot in
+        alive_valid gs ts (result_of result) (labels spot.loops) numbers (declared_in body) (items p numbers inside rs body) own
+        (items_valid body (inner s) (sees_inner ts numbers names functions s v) r inside (points_with spot (declared_in body) own k) rs same o h f q m l (omega (arith, d)) b)
+    statement_valid (If at e x y) s v r spot k rs same o h f q m l d b =
         let i = scalar_int (type_of e) q.0.scalar in
         let te = temporaries e in
         let tx = statement_temporaries x in
@@ -269,74 +211,83 @@ module _ (ts : Types) (names : List ℕ) where
         let third = subst (λ k. Begins k ts) (ap (λ k. k ++ ty) (sym (append_assoc rs te tx))) (begins_right rs (te ++ tx) ty ts b) in
         let left = le-max_left (form.depth x) (form.depth_of_else y) in
         let right = le-max_right (form.depth x) (form.depth_of_else y) in
-        before_valid ts (Some I32) (labels loops) (setup names rs e) (one (tree.If (condition_of names rs e) (statement names (rs ++ te) loops x) (else_part names (rs ++ te ++ tx) loops y)))
-        (setup_valid ts names s v.sees (labels loops) e i.int rs i.is p.0.is q.0.typed l.0 p.0.small first) (
+        before_valid gs ts (result_of result) (labels spot.loops) (setup numbers rs e) (one (tree.If (condition_of numbers rs e) (statement p numbers spot (rs ++ te) x) (else_part p numbers spot (rs ++ te ++ tx) y)))
+        (setup_valid gs ts (result_of result) numbers s v.sees (labels spot.loops) e i.int rs i.is f.0.is q.0.typed l.0 f.0.small first) (
           (
-            condition_valid ts names s v.sees e i.int rs i.is p.0.is q.0.typed l.0 p.0.small first,
-            statement_valid x s v r loops (rs ++ te) int o p.1 q.1 m.0 l.1 (omega (arith, d, left)) second,
-            else_valid y s v r loops (rs ++ te ++ tx) int o p.2 q.2 m.1 l.2 (omega (arith, d, right)) third,
+            condition_valid ts numbers s v.sees e i.int rs i.is f.0.is q.0.typed l.0 f.0.small first,
+            statement_valid x s v r spot k (rs ++ te) same o (variables_front ts numbers (declared_within x) (declared_in_else y) h) f.1 q.1 m.0 l.1 (omega (arith, d, left)) second,
+            else_valid y s v r spot k (rs ++ te ++ tx) same o (variables_back ts numbers (declared_within x) (declared_in_else y) h) f.2 q.2 m.1 l.2 (omega (arith, d, right)) third,
           ),
           tt,
         )
-    statement_valid (While at annots e a) s v r loops rs int o p q m l d b =
+    statement_valid (While at annots e a) s v r spot k rs same o h f q m l d b =
         let te = temporaries e in
         let ta = statement_temporaries a in
-        loop_valid loops (test names rs (loops + 1) e) (statement names (rs ++ te) (loops + 1) a) NoStatement (omega (arith, d)) (no_step_test names rs (loops + 1) e) refl
-        (test_at s v (ended loops) (loops + 1) e rs (own_end loops) p.1 q.0 l.0 (begins_left rs te ta ts b))
-        (statement_valid a s v (in_loop r) (loops + 1) (rs ++ te) int (λ t. omega arith) p.2 q.1 m.1 l.1 (omega (arith, d)) (begins_right rs te ta ts b)) tt
-    statement_valid (Do at a e) s v r loops rs int o p q m l d b =
+        let loops = spot.loops + 1 in
+        loop_valid spot.loops (test numbers rs loops e) (statement p numbers (target.in_loop spot) (rs ++ te) a) NoStatement (omega (arith, d)) (no_step_test numbers rs loops e) refl
+        (test_at s v (ended spot.loops) loops e rs (own_end spot.loops) f.1 q.0 l.0 (begins_left rs te ta ts b))
+        (statement_valid a s v (in_loop r) (target.in_loop spot) (points_loop spot k) (rs ++ te) same (λ t. omega arith) h f.2 q.1 m.1 l.1 (omega (arith, d)) (begins_right rs te ta ts b)) tt
+    statement_valid (Do at a e) s v r spot k rs same o h f q m l d b =
         let te = temporaries e in
         let ta = statement_temporaries a in
-        loop_valid loops NoStatement (statement names rs (loops + 1) a) (test names (rs ++ ta) (loops + 1) e) (omega (arith, d)) refl (no_step_test names (rs ++ ta) (loops + 1) e) tt
-        (statement_valid a s v (in_loop r) (loops + 1) rs int (λ t. omega arith) p.0 q.0 m l.0 (omega (arith, d)) (begins_left rs ta te ts b))
-        (test_at s v (ended loops) (loops + 1) e (rs ++ ta) (own_end loops) p.1 q.1 l.1 (begins_right rs ta te ts b))
-    statement_valid (For at annots first e step a) s v r loops rs int o p q m l d b =
+        let loops = spot.loops + 1 in
+        loop_valid spot.loops NoStatement (statement p numbers (target.in_loop spot) rs a) (test numbers (rs ++ ta) loops e) (omega (arith, d)) refl (no_step_test numbers (rs ++ ta) loops e) tt
+        (statement_valid a s v (in_loop r) (target.in_loop spot) (points_loop spot k) rs same (λ t. omega arith) h f.0 q.0 m l.0 (omega (arith, d)) (begins_left rs ta te ts b))
+        (test_at s v (ended spot.loops) loops e (rs ++ ta) (own_end spot.loops) f.1 q.1 l.1 (begins_right rs ta te ts b))
+    statement_valid (For at annots first e step a) s v r spot k rs same o h f q m l d b =
         let tf = first_temporaries first in
-        let te = temporaries_if_any e in
+        let te = any_temporaries temporaries e in
         let ta = statement_temporaries a in
-        let ts2 = effect_temporaries_if_any step in
+        let ts2 = any_temporaries effect_temporaries step in
+        let own = first_variables ts numbers first (variables_front ts numbers (declared_in_first first) (declared_within a) h) in
+        let loops = spot.loops + 1 in
+        let inside = with_variables numbers (declared_first first) spot in
         let t = inner s in
-        let w = inner_sees ts names s v in
-        let same = same_behind_first 800 t first p.1 in
+        let w = sees_inner ts numbers names functions s v in
+        let u = behind_first t first in
+        let x = sees_first first t w r own f.1 q.0 in
+        let points = points_with spot (declared_first first) own k in
         let all : Begins (rs ++ tf ++ te ++ ta ++ ts2) ts = four_begin rs tf te ta ts2 b in
         let third = begins_front (rs ++ tf ++ te ++ ta) ts2 ts all in
         let second = begins_front (rs ++ tf ++ te) ta ts third in
         let one_of = begins_front (rs ++ tf) te ts second in
-        before_valid ts (Some I32) (labels loops) (first_part names rs loops first) (one (loop (loops + 1) (test_if_any names (rs ++ tf) (loops + 1) e) (statement names (rs ++ tf ++ te) (loops + 1) a) (effect_if_any names (rs ++ tf ++ te ++ ta) step)))
-        (first_valid first t w r loops rs p.1 q.0 l.0 one_of)
-        (loop_valid loops (test_if_any names (rs ++ tf) (loops + 1) e) (statement names (rs ++ tf ++ te) (loops + 1) a) (effect_if_any names (rs ++ tf ++ te ++ ta) step) (omega (arith, d)) (no_step_test_if_any names (rs ++ tf) (loops + 1) e) (no_step_effect_if_any names (rs ++ tf ++ te ++ ta) step)
-        (test_if_any_at t w (ended loops) (loops + 1) e (rs ++ tf) (own_end loops) p.2 (subst (λ t. WhereAny (IsCondition t) e) same q.1) l.1 second)
-        (statement_valid a t w (in_loop r) (loops + 1) (rs ++ tf ++ te) int (λ t. omega arith) p.4 (subst (λ t. StatementTyped t (in_loop r) a) same q.3) (subst (λ t. StatementNoted t a) same m.1) l.2 (omega (arith, d)) third)
-        (effect_if_any_at t w (ended loops) step (rs ++ tf ++ te ++ ta) p.3 (subst (λ t. WhereAny (WellTyped t) step) same q.2) l.3 all))
-    statement_valid (Break at) s v r loops rs int o p q m l d b = (inside_end loops (o q), tt)
-    statement_valid (Continue at) s v r loops rs int o p q m l d b = (inside_next loops (o q), tt)
-    statement_valid (Return at None) s v r loops rs int o p q m l d b = let void : int_type ≡ Void = sym int ∙ q in absurd cc
-    statement_valid (Return at (Some e)) s v r loops rs int o p q m l d b =
-        let e_int = q.1 ∙ int in
-        before_valid ts (Some I32) (labels loops) (setup names rs e) (one (tree.Return (Some (value names rs e))))
-        (setup_valid ts names s v.sees (labels loops) e c.I32 rs e_int p.is q.0 l p.small b)
-        (expression_valid ts names s v.sees e c.I32 rs e_int p.is q.0 l p.small b, tt)
+        let front = first_part p numbers inside rs first in
+        let tested = test_if_any numbers (rs ++ tf) loops e in
+        let body = statement p numbers (target.in_loop inside) (rs ++ tf ++ te) a in
+        let behind = effect_if_any p numbers (rs ++ tf ++ te ++ ta) step in
+        alive_valid gs ts (result_of result) (labels spot.loops) numbers (declared_first first) (before front (one (loop loops tested body behind))) own
+        (before_valid gs ts (result_of result) (labels spot.loops) front (one (loop loops tested body behind))
+        (first_valid first t w r inside (labels spot.loops) rs own f.1 q.0 l.0 one_of)
+        (loop_valid spot.loops tested body behind (omega (arith, d)) (no_step_test_if_any numbers (rs ++ tf) loops e) (no_step_effect_if_any p numbers (rs ++ tf ++ te ++ ta) step)
+        (test_if_any_at u x (ended spot.loops) loops e (rs ++ tf) (own_end spot.loops) f.2 q.1 l.1 second)
+        (statement_valid a u x (in_loop r) (target.in_loop inside) (points_loop inside points) (rs ++ tf ++ te) same (λ t. omega arith) (variables_back ts numbers (declared_in_first first) (declared_within a) h) f.4 q.3 m.1 l.2 (omega (arith, d)) third)
+        (effect_if_any_at u x (ended spot.loops) step (rs ++ tf ++ te ++ ta) f.3 q.2 l.3 all)))
+    statement_valid (Break at) s v r spot k rs same o h f q m l d b = jump_valid spot (labels spot.loops) (end_label spot.loops) k (inside_end spot.loops (o q))
+    statement_valid (Continue at) s v r spot k rs same o h f q m l d b = jump_valid spot (labels spot.loops) (next_label spot.loops) k (inside_next spot.loops (o q))
+    statement_valid (Return at e) s v r spot k rs same o h f q m l d b = returned_valid spot s v (labels spot.loops) rs e k f (subst (λ t. Returned s t e) same q) l b
 
-    else_valid : (y : ElsePart) (s : Scopes) (v : Sees ts names s) (r : Around) (loops : ℕ) (rs : Types) → r.result ≡ int_type → (r.loops ≡ true → 0 < loops) → ElseFormed 800 y → ElseTyped s r y → ElseNoted s y → ElseHasNumbers y → loops + form.depth_of_else y ≤ 1000 → Begins (rs ++ else_temporaries y) ts → Are (labels loops) (else_part names rs loops y)
-    else_valid NoElse s v r loops rs int o p q m l d b = tt
-    else_valid (Else a) s v r loops rs int o p q m l d b = statement_valid a s v r loops rs int o p q m l d b
+    else_valid : (y : ElsePart) (s : Scopes) (v : See s) (r : Around) (spot : Spot) (k : Points ts numbers spot) (rs : Types) → r.result ≡ result → (r.loops ≡ true → 0 < spot.loops) → Have (declared_in_else y) → ElseFormed 800 y → ElseTyped s r y → ElseNoted s y → ElseHasNumbers y → spot.loops + form.depth_of_else y ≤ 1000 → Begins (rs ++ else_temporaries y) ts → Are (labels spot.loops) (else_part p numbers spot rs y)
+    else_valid NoElse s v r spot k rs same o h f q m l d b = tt
+    else_valid (Else a) s v r spot k rs same o h f q m l d b = statement_valid a s v r spot k rs same o h f q m l d b
 
-    item_valid : (i : BlockItem) (s : Scopes) (v : Sees ts names s) (r : Around) (loops : ℕ) (rs : Types) → r.result ≡ int_type → (r.loops ≡ true → 0 < loops) → ItemFormed 800 i → ItemTyped s r i → ItemNoted s i → ItemHasNumbers i → loops + form.depth_of_item i ≤ 1000 → Begins (rs ++ item_temporaries i) ts → Are (labels loops) (item names rs loops i)
-    item_valid (Declare ds) s v r loops rs int o p q m l d b = absurd p
-    item_valid (Run a) s v r loops rs int o p q m l d b = statement_valid a s v r loops rs int o p q m l d b
-    item_valid (Asserts annots) s v r loops rs int o p q m l d b = assertions_valid s v (labels loops) annots p m l
-
-    pub items_valid : (is : BlockItems) (s : Scopes) (v : Sees ts names s) (r : Around) (loops : ℕ) (rs : Types) → r.result ≡ int_type → (r.loops ≡ true → 0 < loops) → ItemsFormed 800 is → ItemsTyped s r is → ItemsNoted s is → HaveNumbers is → loops + form.depth_of_items is ≤ 1000 → Begins (rs ++ items_temporaries is) ts → Are (labels loops) (items names rs loops is)
-    items_valid NoItem s v r loops rs int o p q m l d b = tt
-    items_valid (Then (Declare ds) rest) s v r loops rs int o p q m l d b = absurd p.0
-    items_valid (Then (Run a) rest) s v r loops rs int o p q m l d b =
+    pub items_valid : (is : BlockItems) (s : Scopes) (v : See s) (r : Around) (spot : Spot) (k : Points ts numbers spot) (rs : Types) → r.result ≡ result → (r.loops ≡ true → 0 < spot.loops) → Have (declared_in_items is) → ItemsFormed 800 is → ItemsTyped s r is → ItemsNoted s is → HaveNumbers is → spot.loops + form.depth_of_items is ≤ 1000 → Begins (rs ++ items_temporaries is) ts → Are (labels spot.loops) (items p numbers spot rs is)
+    items_valid NoItem s v r spot k rs same o h f q m l d b = tt
+    items_valid (Then (Declare ds) rest) s v r spot k rs same o h f q m l d b =
+        let here = declaration_temporaries ds in
+        let own = variables_front ts numbers ds (declared_in_items rest) h in
+        let right = le-max_right 0 (form.depth_of_items rest) in
+        before_valid gs ts (result_of result) (labels spot.loops) (initialise_all p numbers rs ds) (items p numbers spot (rs ++ here) rest)
+        (initials_valid ds s v (labels spot.loops) rs own f.0 q.0 l.0 (begins_left rs here (items_temporaries rest) ts b))
+        (items_valid rest (with_objects s ds) (sees_behind ts numbers names functions s ds (declared_objects s ds q.0) own v) r spot k (rs ++ here) same o (variables_back ts numbers ds (declared_in_items rest) h) f.1 q.1 m.1 l.1 (omega (arith, d, right)) (begins_right rs here (items_temporaries rest) ts b))
+    items_valid (Then (Run a) rest) s v r spot k rs same o h f q m l d b =
+        let here = statement_temporaries a in
         let left = le-max_left (form.depth a) (form.depth_of_items rest) in
         let right = le-max_right (form.depth a) (form.depth_of_items rest) in
-        before_valid ts (Some I32) (labels loops) (statement names rs loops a) (items names (rs ++ statement_temporaries a) loops rest)
-        (statement_valid a s v r loops rs int o p.0 q.0 m.0 l.0 (omega (arith, d, left)) (begins_left rs (statement_temporaries a) (items_temporaries rest) ts b))
-        (items_valid rest s v r loops (rs ++ statement_temporaries a) int o p.1 q.1 m.1 l.1 (omega (arith, d, right)) (begins_right rs (statement_temporaries a) (items_temporaries rest) ts b))
-    items_valid (Then (Asserts annots) rest) s v r loops rs int o p q m l d b =
+        before_valid gs ts (result_of result) (labels spot.loops) (statement p numbers spot rs a) (items p numbers spot (rs ++ here) rest)
+        (statement_valid a s v r spot k rs same o (variables_front ts numbers (declared_within a) (declared_in_items rest) h) f.0 q.0 m.0 l.0 (omega (arith, d, left)) (begins_left rs here (items_temporaries rest) ts b))
+        (items_valid rest s v r spot k (rs ++ here) same o (variables_back ts numbers (declared_within a) (declared_in_items rest) h) f.1 q.1 m.1 l.1 (omega (arith, d, right)) (begins_right rs here (items_temporaries rest) ts b))
+    items_valid (Then (Asserts annots) rest) s v r spot k rs same o h f q m l d b =
         let right = le-max_right 0 (form.depth_of_items rest) in
-        before_valid ts (Some I32) (labels loops) (assertions names annots) (items names (rs ++ []) loops rest)
-        (assertions_valid s v (labels loops) annots p.0 m.0 l.0)
-        (items_valid rest s v r loops (rs ++ []) int o p.1 q.1 m.1 l.1 (omega (arith, d, right)) (begins_right rs [] (items_temporaries rest) ts b))
+        before_valid gs ts (result_of result) (labels spot.loops) (assertions numbers annots) (items p numbers spot (rs ++ []) rest)
+        (assertions_valid s v (labels spot.loops) annots f.0 m.0 l.0)
+        (items_valid rest s v r spot k (rs ++ []) same o h f.1 q.1 m.1 l.1 (omega (arith, d, right)) (begins_right rs [] (items_temporaries rest) ts b))

@@ -1,6 +1,6 @@
 -- What the numbers of a tree's types bound, in the parts that are translated: the number and the line of an annotation are of 32
 -- bits, a letter is a value of `char`, and registers can be numbered.
-use Rattle.std.specs.Prelude.{◌<◌, ◌≤◌, ◌^◌, ◌++◌, length, ℤ, pos, negsuc, ◌≤ℤ◌, List, [], ◌∷◌, Option, Some, None}
+use Rattle.std.specs.Prelude.{◌≡◌, true, ◌<◌, ◌≤◌, ◌^◌, ◌++◌, length, ℤ, pos, negsuc, ◌≤ℤ◌, List, [], ◌∷◌, Option, Some, None}
 use Rattle.c_syntax.specs.declared.place.Place.{Place}
 use Rattle.c_syntax.specs.Expressions as source
 use Rattle.c_syntax.specs.Expressions.{Expression, Node, Expressions, NoExpression, Following}
@@ -8,8 +8,8 @@ use Rattle.c_syntax.specs.Annotations as logic
 use Rattle.c_syntax.specs.Annotations.{LogicTerm, Predicate, Chain, Links, NoLink, Linked, ClauseBody, Truth, Annotation}
 use Rattle.c_syntax.specs.Statements.{Initialiser, One, Declaration, Statement, Eval, Block, If, While, Do, For, Return, ElsePart, NoElse, Else, ForFirst, NoFirst, First, BlockItem, Declare, Run, Asserts, BlockItems, NoItem, Then}
 use Rattle.c_syntax.specs.Programs.{Function}
-use Rattle.c_model.specs.Meaning.{declared_in}
-use Rattle.instrument.specs.Translation.{body_items, items_temporaries, types_of_all}
+use Rattle.c_model.specs.Meaning.{is_definition}
+use Rattle.instrument.specs.Translation.{variable_types, body_temporaries}
 
 -- a value of `char`
 pub record IsLetter (z : ℤ) : Type 0 where
@@ -28,13 +28,19 @@ HasLetters (Node at t (source.Choice a b c)) = HasLetters a × HasLetters b × H
 HasLetters (Node at t (source.Cast to a)) = HasLetters a
 HasLetters _ = Unit {0}
 
-abbrev pub ArgumentHasLetters : Expressions → Type 0
-ArgumentHasLetters NoExpression = Unit {0}
-ArgumentHasLetters (Following e rest) = HasLetters e
+abbrev pub ArgumentsHaveLetters : Expressions → Type 0
+ArgumentsHaveLetters NoExpression = Unit {0}
+ArgumentsHaveLetters (Following e rest) = HasLetters e × ArgumentsHaveLetters rest
+
+abbrev pub FullHasLetters : Expression → Type 0
+FullHasLetters (Node at t (source.Call f es)) = ArgumentsHaveLetters es
+FullHasLetters (Node at t (source.Cast to (Node at2 u (source.Call f es)))) = ArgumentsHaveLetters es
+FullHasLetters e = HasLetters e
 
 abbrev pub EffectHasLetters : Expression → Type 0
-EffectHasLetters (Node at t (source.Assign op a b)) = HasLetters b
-EffectHasLetters (Node at t (source.Call f args)) = ArgumentHasLetters args
+EffectHasLetters (Node at t (source.Assign None a b)) = FullHasLetters b
+EffectHasLetters (Node at t (source.Assign (Some op) a b)) = HasLetters b
+EffectHasLetters (Node at t (source.Call f es)) = ArgumentsHaveLetters es
 EffectHasLetters _ = Unit {0}
 
 abbrev pub Any : {A : Type 0} → (A → Type 0) → Option A → Type 0
@@ -43,7 +49,7 @@ Any P (Some x) = P x
 
 abbrev pub InitialHasLetters : Option (Place × Initialiser) → Type 0
 InitialHasLetters None = Unit {0}
-InitialHasLetters (Some (at, One e)) = HasLetters e
+InitialHasLetters (Some (at, One e)) = FullHasLetters e
 
 abbrev pub InitialsHaveLetters : List Declaration → Type 0
 InitialsHaveLetters [] = Unit {0}
@@ -86,7 +92,7 @@ abbrev mutual
   HasNumbers (While at annots e a) = HasLetters e × HasNumbers a
   HasNumbers (Do at a e) = HasNumbers a × HasLetters e
   HasNumbers (For at annots first e behind a) = FirstHasNumbers first × Any HasLetters e × HasNumbers a × Any EffectHasLetters behind
-  HasNumbers (Return at e) = Any HasLetters e
+  HasNumbers (Return at e) = Any FullHasLetters e
   HasNumbers _ = Unit {0}
 
   pub ElseHasNumbers : ElsePart → Type 0
@@ -106,17 +112,17 @@ abbrev mutual
   HaveNumbers NoItem = Unit {0}
   HaveNumbers (Then i rest) = ItemHasNumbers i × HaveNumbers rest
 
--- registers that can be numbered
-abbrev pub HaveSmallNumbers : BlockItems → Type 0
-HaveSmallNumbers is = length (types_of_all (declared_in is) ++ items_temporaries is) < 2 ^ 64
+-- ---- functions
+
+abbrev pub BodyHasNumbers : Option Statement → Type 0
+BodyHasNumbers None = Unit {0}
+BodyHasNumbers (Some a) = HasNumbers a
+
+-- a definition, whose registers can be numbered
+pub record FunctionHasNumbers (f : Function) : Type 0 where
+  pub body : BodyHasNumbers f.body
+  pub few : length (variable_types f ++ body_temporaries f.body) < 2 ^ 64
 
 abbrev pub FunctionsHaveNumbers : List Function → Type 0
 FunctionsHaveNumbers [] = Unit {0}
-FunctionsHaveNumbers (f ∷ rest) = HaveNumbers (body_items f.body) × HaveSmallNumbers (body_items f.body) × FunctionsHaveNumbers rest
-
--- ---- room
-
--- each function has at most 1,000 variables (this profile), so that there is room for their blocks
-abbrev pub HaveFewVariables : List Function → Type 0
-HaveFewVariables [] = Unit {0}
-HaveFewVariables (f ∷ rest) = (length (declared_in (body_items f.body)) ≤ 1000) × HaveFewVariables rest
+FunctionsHaveNumbers (f ∷ rest) = (is_definition f ≡ true → FunctionHasNumbers f) × FunctionsHaveNumbers rest

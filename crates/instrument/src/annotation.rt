@@ -5,7 +5,7 @@ ghost use Rattle.c_syntax.specs.Annotations.{Chain, Truth, plain_annot, plain_bo
 ghost use Rattle.mon_syntax.specs.declared.tree.MonType.TheVariants.{I32, I128};
 ghost use Rattle.mon_syntax.specs.Trees.{Assert, Binary, Constant, plain_expr, plain_stmt};
 ghost use Rattle.instrument.specs.Limits.{IsNumbered, LinksHaveLetters, TermHasLetters};
-ghost use Rattle.instrument.specs.Translation.{assertion, chain, relation_operator, term};
+ghost use Rattle.instrument.specs.Expressions.{assertion, chain, relation_operator, term};
 
 use crate::operator::operator_of;
 use crate::part::register_of;
@@ -14,20 +14,20 @@ use mon_syntax::{MonExpr, MonOp, MonStmt, MonType};
 use std::alloc::{AllocError, Global};
 
 /// Translates a term, whose values fit 128 bits.
-pub fn term(alloc: Global, names: &[u32], t: &Term) -> Result<MonExpr, AllocError>
-    ensures code { IfOk result (λ m. plain_expr m ≡ term names.now (plain_term t.now)) }
+pub fn term(alloc: Global, numbers: &[u32], t: &Term) -> Result<MonExpr, AllocError>
+    ensures code { IfOk result (λ m. plain_expr m ≡ term numbers.now (plain_term t.now)) }
     ensures letters { IfOk result (λ _. TermHasLetters (plain_term t.now)) }
 {
     match &t.kind {
         TermKind::Number(n) => Ok(MonExpr::Constant(MonType::I128, *n)),
         TermKind::Letter(n) => Ok(MonExpr::Constant(MonType::I128, i128::from(*n))),
         TermKind::Variable(x) => {
-            let register = Box::new(alloc, MonExpr::Register(register_of(names, x.name)?))?;
+            let register = Box::new(alloc, MonExpr::Register(register_of(numbers, x.decl)?))?;
             Ok(MonExpr::Cast(MonType::I128, register))
         }
         TermKind::Binary(op, a, b) => {
-            let left = Box::new(alloc, term(alloc, names, a)?)?;
-            let right = Box::new(alloc, term(alloc, names, b)?)?;
+            let left = Box::new(alloc, term(alloc, numbers, a)?)?;
+            let right = Box::new(alloc, term(alloc, numbers, b)?)?;
             Ok(MonExpr::Binary(operator_of(*op), MonType::I128, left, right))
         }
     }
@@ -47,13 +47,13 @@ fn relation_operator(relation: Relation) -> MonOp
 }
 
 // One relation of a chain.
-fn relation(alloc: Global, names: &[u32], left: &Term, link: &Link) -> Result<MonExpr, AllocError>
-    ensures code { IfOk result (λ m. plain_expr m ≡ Binary (relation_operator link.now.relation) I128 (term names.now (plain_term left.now)) (term names.now (plain_term link.now.term))) }
+fn relation(alloc: Global, numbers: &[u32], left: &Term, link: &Link) -> Result<MonExpr, AllocError>
+    ensures code { IfOk result (λ m. plain_expr m ≡ Binary (relation_operator link.now.relation) I128 (term numbers.now (plain_term left.now)) (term numbers.now (plain_term link.now.term))) }
     ensures left { IfOk result (λ _. TermHasLetters (plain_term left.now)) }
     ensures right { IfOk result (λ _. TermHasLetters (plain_term link.now.term)) }
 {
-    let first = Box::new(alloc, term(alloc, names, left)?)?;
-    let second = Box::new(alloc, term(alloc, names, &link.term)?)?;
+    let first = Box::new(alloc, term(alloc, numbers, left)?)?;
+    let second = Box::new(alloc, term(alloc, numbers, &link.term)?)?;
     Ok(MonExpr::Binary(
         relation_operator(link.relation),
         MonType::I128,
@@ -63,20 +63,20 @@ fn relation(alloc: Global, names: &[u32], left: &Term, link: &Link) -> Result<Mo
 }
 
 // Whether each relation of a chain is true.
-fn chain(alloc: Global, names: &[u32], left: &Term, links: &[Link]) -> Result<MonExpr, AllocError>
-    ensures code { IfOk result (λ m. plain_expr m ≡ chain names.now (plain_term left.now) (plain_links links.now)) }
+fn chain(alloc: Global, numbers: &[u32], left: &Term, links: &[Link]) -> Result<MonExpr, AllocError>
+    ensures code { IfOk result (λ m. plain_expr m ≡ chain numbers.now (plain_term left.now) (plain_links links.now)) }
     ensures left { IfOk result (λ _. TermHasLetters (plain_term left.now)) }
     ensures links { IfOk result (λ _. LinksHaveLetters (plain_links links.now)) }
 {
     match links {
         [] => {
-            let _ = term(alloc, names, left)?;
+            let _ = term(alloc, numbers, left)?;
             Ok(MonExpr::Constant(MonType::I32, 1))
         }
-        [link] => relation(alloc, names, left, link),
+        [link] => relation(alloc, numbers, left, link),
         [link, rest @ ..] => {
-            let first = Box::new(alloc, relation(alloc, names, left, link)?)?;
-            let others = Box::new(alloc, chain(alloc, names, &link.term, rest)?)?;
+            let first = Box::new(alloc, relation(alloc, numbers, left, link)?)?;
+            let others = Box::new(alloc, chain(alloc, numbers, &link.term, rest)?)?;
             Ok(MonExpr::Binary(MonOp::And, MonType::I32, first, others))
         }
     }
@@ -112,11 +112,11 @@ fn asserted(truth: MonExpr, number: u32, line: u32, kind: Kind) -> MonStmt
 }
 
 /// Translates an annotation.
-pub fn assertion(alloc: Global, names: &[u32], annot: &Annot) -> Result<MonStmt, AllocError>
-    ensures code { IfOk result (λ m. plain_stmt m ≡ assertion names.now (plain_annot annot.now)) }
+pub fn assertion(alloc: Global, numbers: &[u32], annot: &Annot) -> Result<MonStmt, AllocError>
+    ensures code { IfOk result (λ m. plain_stmt m ≡ assertion numbers.now (plain_annot annot.now)) }
     ensures numbered { IfOk result (λ _. IsNumbered (plain_annot annot.now)) }
 {
     let (first, links) = parts_of(predicate_of(&annot.body));
-    let truth = chain(alloc, names, first, links)?;
+    let truth = chain(alloc, numbers, first, links)?;
     Ok(asserted(truth, annot.number, annot.place.line, annot.kind))
 }

@@ -5,10 +5,10 @@ ghost use Rattle.c_syntax.specs.Ctypes.{plain_type};
 ghost use Rattle.c_model.specs.Conversions.{operation_type};
 ghost use Rattle.mon_syntax.specs.Checking.{same_type};
 ghost use Rattle.mon_syntax.specs.Valid.{is_relation, result_type};
-ghost use Rattle.instrument.specs.Translation.{operand_type, register_type, value_type};
+ghost use Rattle.instrument.specs.Expressions.{operand_type, register_type, value_type};
 
 use c_syntax::{BinOp, CInt, CType};
-use c_typing::conversion::{common, is_shift, promoted};
+use c_type_rules::conversion::{common, is_shift, promoted};
 use mon_syntax::{MonOp, MonType};
 
 pub fn same_type(first: MonType, second: MonType) -> bool
@@ -54,6 +54,8 @@ pub fn operand_type(t: MonType) -> MonType
         MonType::I64 => MonType::I64,
         MonType::U64 => MonType::U64,
         MonType::I128 => MonType::I128,
+        // no operator takes a pointer
+        MonType::Ptr => MonType::U64,
     }
 }
 

@@ -1,28 +1,33 @@
 //! Assignments, increments and calls (C99 6.5.2.2, 6.5.2.4, 6.5.3.1, 6.5.16), and initialisers (C99 6.7.8).
 
-ghost use Rattle.std.specs.Prelude.{◌≡◌, ◌++◌, IfOk, OnOk, None, map, option_map, pos};
+ghost use Rattle.std.specs.Prelude.{◌≡◌, ◌++◌, IfOk, OnOk, map, option_map, pos};
 ghost use Rattle.c_syntax.specs.Ctypes.{int_type, plain_type};
-ghost use Rattle.c_syntax.specs.Expressions.{plain_expr, plain_exprs, type_of};
+ghost use Rattle.c_syntax.specs.Expressions.{plain_expr, type_of};
+ghost use Rattle.c_syntax.specs.Programs.{plain_program};
 ghost use Rattle.c_syntax.specs.Statements.{One, plain_decl, plain_init};
 ghost use Rattle.c_model.specs.Meaning.{bump_operator};
 ghost use Rattle.mon_syntax.specs.declared.tree.MonType.TheVariants.{I32};
-ghost use Rattle.mon_syntax.specs.Trees.{Constant, PutChar, Register, plain_expr as plain_monitored, plain_stmts};
-ghost use Rattle.instrument.specs.Limits.{Any, ArgumentHasLetters, EffectHasLetters, HasLetters, InitialHasLetters, InitialsHaveLetters};
-ghost use Rattle.instrument.specs.Translation.{argument_temporaries, before, compound, declaration_temporaries, effect, effect_if_any, effect_temporaries, effect_temporaries_if_any, initial_temporaries, initialise, initialise_all, one, put, register_of, set, setup, target, temporaries, value};
+ghost use Rattle.mon_syntax.specs.Trees.{Constant, Register, plain_expr as plain_monitored, plain_stmts};
+ghost use Rattle.instrument.specs.Limits.{Any, EffectHasLetters, FullHasLetters, HasLetters, InitialHasLetters, InitialsHaveLetters};
+ghost use Rattle.instrument.specs.Expressions.{before, compound, register_of, set, setup, temporaries, value};
+ghost use Rattle.instrument.specs.Translation.{any_temporaries, declaration_temporaries, effect, effect_if_any, effect_temporaries, full_setup, full_temporaries, full_value, initial_temporaries, initialise, initialise_all, target};
 
+use crate::call::called;
 use crate::expression::expression;
+use crate::full::full;
 use crate::operator::compound;
 use crate::part::{register_of, then};
+use crate::scene::Scene;
 use c_syntax::{BinOp, BumpOp, CInt, CType, Decl, Expr, ExprKind, Init};
 use mon_syntax::{MonExpr, MonStmt, MonType};
 use std::alloc::{AllocError, Global};
 
 // The register that is assigned to.
-fn target(names: &[u32], e: &Expr) -> Result<u32, AllocError>
-    ensures { IfOk result (λ r. r ≡ target names.now (plain_expr e.now)) }
+fn target(numbers: &[u32], e: &Expr) -> Result<u32, AllocError>
+    ensures { IfOk result (λ r. r ≡ target numbers.now (plain_expr e.now)) }
 {
     match &e.kind {
-        ExprKind::Variable(x) => register_of(names, x.name),
+        ExprKind::Variable(x) => register_of(numbers, x.decl),
         ExprKind::Number(_, _)
         | ExprKind::Letter(_)
         | ExprKind::Unary(_, _)
@@ -39,21 +44,21 @@ fn target(names: &[u32], e: &Expr) -> Result<u32, AllocError>
     }
 }
 
-// Gives a register the value of an expression.
+// Gives a register the value of a full expression.
 #[tactic(auto, using(crate::proofs::Sequences::before_assoc))]
 fn assign(
     alloc: Global,
-    names: &[u32],
+    scene: &Scene<'_>,
     register: u32,
     e: &Expr,
     types: &mut Vec<MonType>,
     to: &mut Vec<MonStmt>,
 ) -> Result<(), AllocError>
-    ensures code { OnOk result (plain_stmts to.new.items ≡ before (plain_stmts to.old.items) (before (setup names.now types.old.items (plain_expr e.now)) (set register (value names.now types.old.items (plain_expr e.now))))) }
-    ensures types { OnOk result (types.new.items ≡ types.old.items ++ temporaries (plain_expr e.now)) }
-    ensures letters { OnOk result (HasLetters (plain_expr e.now)) }
+    ensures code { OnOk result (plain_stmts to.new.items ≡ before (plain_stmts to.old.items) (before (full_setup (plain_program scene.now.program.now) scene.now.numbers.now types.old.items (plain_expr e.now)) (set register (full_value scene.now.numbers.now types.old.items (plain_expr e.now))))) }
+    ensures types { OnOk result (types.new.items ≡ types.old.items ++ full_temporaries (plain_expr e.now)) }
+    ensures letters { OnOk result (FullHasLetters (plain_expr e.now)) }
 {
-    let value = expression(alloc, names, e, types, to)?;
+    let value = full(alloc, scene, e, types, to)?;
     then(to, MonStmt::Set(register, value))
 }
 
@@ -61,19 +66,19 @@ fn assign(
 #[tactic(auto, using(crate::proofs::Sequences::before_assoc))]
 fn assign_by(
     alloc: Global,
-    names: &[u32],
+    numbers: &[u32],
     op: BinOp,
     left: (u32, &CType),
     e: &Expr,
     types: &mut Vec<MonType>,
     to: &mut Vec<MonStmt>,
 ) -> Result<(), AllocError>
-    ensures code { OnOk result (plain_stmts to.new.items ≡ before (plain_stmts to.old.items) (before (setup names.now types.old.items (plain_expr e.now)) (set left.entry.0 (compound op (plain_type left.entry.1.now) (type_of (plain_expr e.now)) (Register left.entry.0) (value names.now types.old.items (plain_expr e.now)))))) }
+    ensures code { OnOk result (plain_stmts to.new.items ≡ before (plain_stmts to.old.items) (before (setup numbers.now types.old.items (plain_expr e.now)) (set left.entry.0 (compound op (plain_type left.entry.1.now) (type_of (plain_expr e.now)) (Register left.entry.0) (value numbers.now types.old.items (plain_expr e.now)))))) }
     ensures types { OnOk result (types.new.items ≡ types.old.items ++ temporaries (plain_expr e.now)) }
     ensures letters { OnOk result (HasLetters (plain_expr e.now)) }
 {
     let (register, t) = left;
-    let right = expression(alloc, names, e, types, to)?;
+    let right = expression(alloc, numbers, e, types, to)?;
     let value = compound(alloc, op, t, &e.ctype, MonExpr::Register(register), right)?;
     then(to, MonStmt::Set(register, value))
 }
@@ -110,68 +115,33 @@ fn bump(
     then(to, MonStmt::Set(register, value))
 }
 
-// Prints the value of an expression.
-#[tactic(auto, using(crate::proofs::Sequences::before_assoc))]
-fn print(
-    alloc: Global,
-    names: &[u32],
-    e: &Expr,
-    types: &mut Vec<MonType>,
-    to: &mut Vec<MonStmt>,
-) -> Result<(), AllocError>
-    ensures code { OnOk result (plain_stmts to.new.items ≡ before (plain_stmts to.old.items) (before (setup names.now types.old.items (plain_expr e.now)) (one (PutChar None (value names.now types.old.items (plain_expr e.now)))))) }
-    ensures types { OnOk result (types.new.items ≡ types.old.items ++ temporaries (plain_expr e.now)) }
-    ensures letters { OnOk result (HasLetters (plain_expr e.now)) }
-{
-    let value = expression(alloc, names, e, types, to)?;
-    then(to, MonStmt::PutChar(None, value))
-}
-
-// `putchar(e);`, with its one argument.
-fn put(
-    alloc: Global,
-    names: &[u32],
-    args: &[Expr],
-    types: &mut Vec<MonType>,
-    to: &mut Vec<MonStmt>,
-) -> Result<(), AllocError>
-    ensures code { OnOk result (plain_stmts to.new.items ≡ before (plain_stmts to.old.items) (put names.now types.old.items (plain_exprs args.now))) }
-    ensures types { OnOk result (types.new.items ≡ types.old.items ++ argument_temporaries (plain_exprs args.now)) }
-    ensures letters { OnOk result (ArgumentHasLetters (plain_exprs args.now)) }
-{
-    match args {
-        [] => Ok(()),
-        [e, ..] => print(alloc, names, e, types, to),
-    }
-}
-
 /// Translates an expression that stands for its effects. Nothing is left of one that has none.
 #[tactic(auto, using(crate::proofs::Sequences::before_none))]
 pub fn effect(
     alloc: Global,
-    names: &[u32],
+    scene: &Scene<'_>,
     e: &Expr,
     types: &mut Vec<MonType>,
     to: &mut Vec<MonStmt>,
 ) -> Result<(), AllocError>
-    ensures code { OnOk result (plain_stmts to.new.items ≡ before (plain_stmts to.old.items) (effect names.now types.old.items (plain_expr e.now))) }
+    ensures code { OnOk result (plain_stmts to.new.items ≡ before (plain_stmts to.old.items) (effect (plain_program scene.now.program.now) scene.now.numbers.now types.old.items (plain_expr e.now))) }
     ensures types { OnOk result (types.new.items ≡ types.old.items ++ effect_temporaries (plain_expr e.now)) }
     ensures letters { OnOk result (EffectHasLetters (plain_expr e.now)) }
 {
     match &e.kind {
         ExprKind::Assign(None, left, right) => {
-            let register = target(names, left)?;
-            assign(alloc, names, register, right, types, to)
+            let register = target(scene.numbers, left)?;
+            assign(alloc, scene, register, right, types, to)
         }
         ExprKind::Assign(Some(op), left, right) => {
-            let register = target(names, left)?;
-            assign_by(alloc, names, *op, (register, &e.ctype), right, types, to)
+            let register = target(scene.numbers, left)?;
+            assign_by(alloc, scene.numbers, *op, (register, &e.ctype), right, types, to)
         }
         ExprKind::Bump(op, left) => {
-            let register = target(names, left)?;
+            let register = target(scene.numbers, left)?;
             bump(alloc, *op, register, &e.ctype, to)
         }
-        ExprKind::Call(_, args) => put(alloc, names, args, types, to),
+        ExprKind::Call(f, args) => called(alloc, scene, *f, args, types, to),
         ExprKind::Number(_, _)
         | ExprKind::Letter(_)
         | ExprKind::Variable(_)
@@ -190,17 +160,17 @@ pub fn effect(
 #[tactic(auto, using(crate::proofs::Sequences::before_none))]
 pub fn effect_if_any(
     alloc: Global,
-    names: &[u32],
+    scene: &Scene<'_>,
     e: &Option<Expr>,
     types: &mut Vec<MonType>,
     to: &mut Vec<MonStmt>,
 ) -> Result<(), AllocError>
-    ensures code { OnOk result (plain_stmts to.new.items ≡ before (plain_stmts to.old.items) (effect_if_any names.now types.old.items (option_map plain_expr e.now))) }
-    ensures types { OnOk result (types.new.items ≡ types.old.items ++ effect_temporaries_if_any (option_map plain_expr e.now)) }
+    ensures code { OnOk result (plain_stmts to.new.items ≡ before (plain_stmts to.old.items) (effect_if_any (plain_program scene.now.program.now) scene.now.numbers.now types.old.items (option_map plain_expr e.now))) }
+    ensures types { OnOk result (types.new.items ≡ types.old.items ++ any_temporaries effect_temporaries (option_map plain_expr e.now)) }
     ensures letters { OnOk result (Any EffectHasLetters (option_map plain_expr e.now)) }
 {
     match e {
-        Some(e) => effect(alloc, names, e, types, to),
+        Some(e) => effect(alloc, scene, e, types, to),
         None => Ok(()),
     }
 }
@@ -218,19 +188,19 @@ fn initial(init: &Init) -> &Expr
 #[tactic(auto, using(crate::proofs::Sequences::before_none))]
 fn initialise(
     alloc: Global,
-    names: &[u32],
+    scene: &Scene<'_>,
     d: &Decl,
     types: &mut Vec<MonType>,
     to: &mut Vec<MonStmt>,
 ) -> Result<(), AllocError>
-    ensures code { OnOk result (plain_stmts to.new.items ≡ before (plain_stmts to.old.items) (initialise names.now types.old.items d.now.name (plain_decl d.now).init)) }
+    ensures code { OnOk result (plain_stmts to.new.items ≡ before (plain_stmts to.old.items) (initialise (plain_program scene.now.program.now) scene.now.numbers.now types.old.items d.now.place.offset (plain_decl d.now).init)) }
     ensures types { OnOk result (types.new.items ≡ types.old.items ++ initial_temporaries (plain_decl d.now).init) }
     ensures letters { OnOk result (InitialHasLetters (plain_decl d.now).init) }
 {
     match &d.init {
         Some((_, init)) => {
-            let register = register_of(names, d.name)?;
-            assign(alloc, names, register, initial(init), types, to)
+            let register = register_of(scene.numbers, d.place.offset)?;
+            assign(alloc, scene, register, initial(init), types, to)
         }
         None => Ok(()),
     }
@@ -239,17 +209,17 @@ fn initialise(
 /// Initialises the declared variables in order.
 pub fn initialise_all(
     alloc: Global,
-    names: &[u32],
+    scene: &Scene<'_>,
     decls: &[Decl],
     types: &mut Vec<MonType>,
     to: &mut Vec<MonStmt>,
 ) -> Result<(), AllocError>
-    ensures code { OnOk result (plain_stmts to.new.items ≡ before (plain_stmts to.old.items) (initialise_all names.now types.old.items (map plain_decl decls.now))) }
+    ensures code { OnOk result (plain_stmts to.new.items ≡ before (plain_stmts to.old.items) (initialise_all (plain_program scene.now.program.now) scene.now.numbers.now types.old.items (map plain_decl decls.now))) }
     ensures types { OnOk result (types.new.items ≡ types.old.items ++ declaration_temporaries (map plain_decl decls.now)) }
     ensures letters { OnOk result (InitialsHaveLetters (map plain_decl decls.now)) }
 {
     'decls: for d in decls {
-        initialise(alloc, names, d, types, to)?;
+        initialise(alloc, scene, d, types, to)?;
     }
     Ok(())
 }

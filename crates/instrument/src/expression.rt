@@ -7,7 +7,7 @@ ghost use Rattle.c_model.specs.Integers.{size_of};
 ghost use Rattle.mon_syntax.specs.declared.tree.MonType.TheVariants.{I32, U64};
 ghost use Rattle.mon_syntax.specs.Trees.{Constant, plain_expr as plain_monitored, plain_stmts};
 ghost use Rattle.instrument.specs.Limits.{HasLetters};
-ghost use Rattle.instrument.specs.Translation.{before, setup, temporaries, value};
+ghost use Rattle.instrument.specs.Expressions.{before, setup, temporaries, value};
 
 use crate::conversion::value_type;
 use crate::operator::{binary, condition, in_type, truth, unary};
@@ -16,8 +16,8 @@ use c_syntax::{CInt, CType, Expr, ExprKind};
 use mon_syntax::{MonExpr, MonStmt, MonType};
 use std::alloc::{AllocError, Global};
 
-// The constant of an object's size in bytes (C99 6.5.3.4).
-fn size_constant(t: &CType) -> MonExpr
+/// The constant of an object's size in bytes (C99 6.5.3.4).
+pub fn size_constant(t: &CType) -> MonExpr
     ensures { plain_monitored result ≡ Constant U64 (pos (size_of (plain_type t.now))) }
 {
     let size = match t {
@@ -41,27 +41,27 @@ fn number(n: i128) -> MonExpr
 #[tactic(auto, using(crate::proofs::Sequences::before_none))]
 pub fn expression(
     alloc: Global,
-    names: &[u32],
+    numbers: &[u32],
     e: &Expr,
     types: &mut Vec<MonType>,
     to: &mut Vec<MonStmt>,
 ) -> Result<MonExpr, AllocError>
-    ensures value { IfOk result (λ m. plain_monitored m ≡ value names.now types.old.items (plain_expr e.now)) }
-    ensures setup { OnOk result (plain_stmts to.new.items ≡ before (plain_stmts to.old.items) (setup names.now types.old.items (plain_expr e.now))) }
+    ensures value { IfOk result (λ m. plain_monitored m ≡ value numbers.now types.old.items (plain_expr e.now)) }
+    ensures setup { OnOk result (plain_stmts to.new.items ≡ before (plain_stmts to.old.items) (setup numbers.now types.old.items (plain_expr e.now))) }
     ensures types { OnOk result (types.new.items ≡ types.old.items ++ temporaries (plain_expr e.now)) }
     ensures letters { OnOk result (HasLetters (plain_expr e.now)) }
 {
     match &e.kind {
         ExprKind::Number(n, _) => Ok(MonExpr::Constant(value_type(&e.ctype), *n)),
         ExprKind::Letter(n) => Ok(MonExpr::Constant(value_type(&e.ctype), i128::from(*n))),
-        ExprKind::Variable(x) => Ok(MonExpr::Register(register_of(names, x.name)?)),
+        ExprKind::Variable(x) => Ok(MonExpr::Register(register_of(numbers, x.decl)?)),
         ExprKind::Unary(op, a) => {
-            let operand = expression(alloc, names, a, types, to)?;
+            let operand = expression(alloc, numbers, a, types, to)?;
             unary(alloc, *op, value_type(&a.ctype), operand)
         }
         ExprKind::Binary(op, a, b) => {
-            let left = expression(alloc, names, a, types, to)?;
-            let right = expression(alloc, names, b, types, to)?;
+            let left = expression(alloc, numbers, a, types, to)?;
+            let right = expression(alloc, numbers, b, types, to)?;
             binary(
                 alloc,
                 *op,
@@ -72,10 +72,10 @@ pub fn expression(
             )
         }
         ExprKind::Both(a, b) => {
-            let left = expression(alloc, names, a, types, to)?;
+            let left = expression(alloc, numbers, a, types, to)?;
             let test = condition(alloc, value_type(&a.ctype), left)?;
             let mut inside = Vec::new(alloc);
-            let right = expression(alloc, names, b, types, &mut inside)?;
+            let right = expression(alloc, numbers, b, types, &mut inside)?;
             let right = truth(alloc, value_type(&b.ctype), right)?;
             let register = temporary(types, MonType::I32)?;
             let nothing = (Vec::new(alloc), number(0));
@@ -83,10 +83,10 @@ pub fn expression(
             Ok(MonExpr::Register(register))
         }
         ExprKind::Either(a, b) => {
-            let left = expression(alloc, names, a, types, to)?;
+            let left = expression(alloc, numbers, a, types, to)?;
             let test = condition(alloc, value_type(&a.ctype), left)?;
             let mut inside = Vec::new(alloc);
-            let right = expression(alloc, names, b, types, &mut inside)?;
+            let right = expression(alloc, numbers, b, types, &mut inside)?;
             let right = truth(alloc, value_type(&b.ctype), right)?;
             let register = temporary(types, MonType::I32)?;
             let nothing = (Vec::new(alloc), number(1));
@@ -94,18 +94,18 @@ pub fn expression(
             Ok(MonExpr::Register(register))
         }
         ExprKind::Choice(a, b, c) => {
-            let left = expression(alloc, names, a, types, to)?;
+            let left = expression(alloc, numbers, a, types, to)?;
             let test = condition(alloc, value_type(&a.ctype), left)?;
             let mut on = Vec::new(alloc);
-            let first = expression(alloc, names, b, types, &mut on)?;
+            let first = expression(alloc, numbers, b, types, &mut on)?;
             let mut off = Vec::new(alloc);
-            let second = expression(alloc, names, c, types, &mut off)?;
+            let second = expression(alloc, numbers, c, types, &mut off)?;
             let register = temporary(types, value_type(&b.ctype))?;
             either_set(register, test, (on, first), (off, second), to)?;
             Ok(MonExpr::Register(register))
         }
         ExprKind::Cast(t, a) => {
-            let operand = expression(alloc, names, a, types, to)?;
+            let operand = expression(alloc, numbers, a, types, to)?;
             in_type(alloc, value_type(&a.ctype), value_type(t), operand)
         }
         ExprKind::SizeOfType(t) => Ok(size_constant(t)),

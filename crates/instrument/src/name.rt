@@ -1,7 +1,7 @@
-//! Names of registers and labels.
+//! Names of registers, functions and labels.
 
 ghost use Rattle.std.specs.Prelude.{◌≡◌, IfOk};
-ghost use Rattle.instrument.specs.Translation.{end_label, next_label, register_name, temporary_name};
+ghost use Rattle.instrument.specs.Translation.{end_label, function_name, next_label, pointer_name, register_name, temporary_name};
 
 use c_syntax::Name;
 use std::alloc::{AllocError, Global};
@@ -19,12 +19,32 @@ pub fn register_name(alloc: Global, number: usize, name: &[u8]) -> Result<Name, 
     Ok(Name::new(bytes))
 }
 
+/// `p8`: a register that points to a variable's block.
+pub fn pointer_name(alloc: Global, number: usize) -> Result<Name, AllocError>
+    ensures { IfOk result (λ bytes. bytes ≡ pointer_name number) }
+{
+    let text = format!(in alloc; "p{number}")?;
+    let bytes = Vec::from_slice(alloc, text.as_bytes())?;
+    Ok(Name::new(bytes))
+}
+
 /// `t12`: a temporary register.
 pub fn temporary_name(alloc: Global, number: usize) -> Result<Name, AllocError>
     ensures { IfOk result (λ bytes. bytes ≡ temporary_name number) }
 {
     let text = format!(in alloc; "t{number}")?;
     let bytes = Vec::from_slice(alloc, text.as_bytes())?;
+    Ok(Name::new(bytes))
+}
+
+/// `f3_sum`: the index of the function, and its name as far as there is room.
+pub fn function_name(alloc: Global, index: usize, name: &[u8]) -> Result<Name, AllocError>
+    ensures { IfOk result (λ bytes. bytes ≡ function_name index name.now) }
+{
+    let front = format!(in alloc; "f{index}_")?;
+    let mut bytes = Vec::from_slice(alloc, front.as_bytes())?;
+    bytes.extend_from_slice(name)?;
+    bytes.truncate(MOST_IN_NAME);
     Ok(Name::new(bytes))
 }
 

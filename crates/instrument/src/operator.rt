@@ -3,7 +3,7 @@
 ghost use Rattle.std.specs.Prelude.{◌≡◌, IfOk};
 ghost use Rattle.c_syntax.specs.Ctypes.{plain_type};
 ghost use Rattle.mon_syntax.specs.Trees.{Binary, plain_expr};
-ghost use Rattle.instrument.specs.Translation.{binary, compared, compound, compound_in, condition, in_type, operator_of, truth, unary};
+ghost use Rattle.instrument.specs.Expressions.{binary, compared, compound, compound_in, condition, in_type, operator_of, truth, unary};
 
 use crate::conversion::{operand_type, operation_type, register_type, result_type, same_type};
 use c_syntax::{BinOp, CType, UnOp};

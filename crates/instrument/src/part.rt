@@ -1,9 +1,9 @@
 //! Statements and registers behind those that are there.
 
-ghost use Rattle.std.specs.Prelude.{◌≡◌, ◌++◌, [], ◌∷◌, IfOk, OnOk, length, pos};
+ghost use Rattle.std.specs.Prelude.{◌≡◌, ◌+◌, ◌++◌, [], ◌∷◌, IfOk, OnOk, length, pos};
 ghost use Rattle.mon_syntax.specs.Trees.{Constant, If, Register, plain_expr, plain_stmt, plain_stmts};
 ghost use Rattle.mon_syntax.specs.declared.tree.MonType.TheVariants.{I32};
-ghost use Rattle.instrument.specs.Translation.{before, one, register_of, set};
+ghost use Rattle.instrument.specs.Expressions.{before, one, register_of, set};
 
 use mon_syntax::{MonExpr, MonStmt, MonType};
 use std::alloc::{AllocError, Global};
@@ -26,8 +26,8 @@ pub fn alone(alloc: Global, s: MonStmt) -> Result<Vec<MonStmt>, AllocError>
     Ok(code)
 }
 
-// The number of a register. No memory holds more of them.
-fn numbered(index: usize) -> Result<u32, AllocError>
+/// The number of a register or of a function. No memory holds more of them.
+pub fn numbered(index: usize) -> Result<u32, AllocError>
     ensures { IfOk result (λ r. r ≡ index) }
 {
     match u32::try_from(index) {
@@ -36,17 +36,22 @@ fn numbered(index: usize) -> Result<u32, AllocError>
     }
 }
 
-/// The register of a name: its place among the variables' names, of which the newest counts.
-pub fn register_of(names: &[u32], x: u32) -> Result<u32, AllocError>
-    ensures { IfOk result (λ r. r ≡ register_of names.now x) }
+/// The register of a variable's value, by the number of its declaration: its place among those of the function.
+pub fn register_of(numbers: &[u32], x: u32) -> Result<u32, AllocError>
+    ensures { IfOk result (λ r. r ≡ register_of numbers.now x) }
 {
-    let mut found = 0;
-    'names: for k in 0..names.len() {
-        if names[k] == x {
-            found = k;
-        }
+    let mut place = 0;
+    'numbers: while place < numbers.len() && numbers[place] != x {
+        place += 1;
     }
-    numbered(found)
+    numbered(place)
+}
+
+/// The register that points to the block of the variable with this register.
+pub fn pointer_of(numbers: &[u32], register: u32) -> Result<u32, AllocError>
+    ensures { IfOk result (λ r. r ≡ length numbers.now + register) }
+{
+    numbered(numbers.len())?.checked_add(register).ok_or(AllocError)
 }
 
 /// A further register.

@@ -1,75 +1,29 @@
 //! Functions and programs (C99 6.9).
 
-ghost use Rattle.std.specs.Prelude.{◌≡◌, ◌++◌, ℕ, IfOk, OnOk, drop, length, map};
+ghost use Rattle.std.specs.Prelude.{◌≡◌, ◌<◌, ◌++◌, ◌^◌, ℕ, IfOk, OnOk, codes, drop, if◌then◌else◌, length, map, nat_eq};
+ghost use Rattle.c_syntax.specs.Ctypes.{plain_type};
 ghost use Rattle.c_syntax.specs.Programs.{plain_func, plain_program};
-ghost use Rattle.c_syntax.specs.Statements.{plain_decl, plain_items};
 ghost use Rattle.c_model.specs.Formed.{IsProgram};
-ghost use Rattle.c_model.specs.Meaning.{declared_in, run};
+ghost use Rattle.c_model.specs.Meaning.{run};
 ghost use Rattle.c_model.specs.Reports.{Agrees};
-ghost use Rattle.c_model.specs.State.{Input, Fault};
+ghost use Rattle.c_model.specs.State.{Fault, Input};
+ghost use Rattle.c_model.specs.Typing.{name_at};
 ghost use Rattle.mon_syntax.specs.Memories.{block_run};
-ghost use Rattle.mon_syntax.specs.Trees.{plain_func as plain_monitored_func, plain_program as plain_monitored, plain_register};
+ghost use Rattle.mon_syntax.specs.Trees.{plain_func as plain_monitored_func, plain_program as plain_monitored, plain_register, plain_stmts};
 ghost use Rattle.mon_syntax.specs.Valid.{IsValid};
-ghost use Rattle.instrument.specs.Limits.{FunctionsHaveNumbers, HaveFewVariables, HaveNumbers, HaveSmallNumbers};
-ghost use Rattle.instrument.specs.Translation.{body_items, main_of, names_of, registers_from, temporaries_from, translated, types_of_all};
+ghost use Rattle.instrument.specs.Limits.{BodyHasNumbers, FunctionHasNumbers, FunctionsHaveNumbers};
+ghost use Rattle.instrument.specs.Translation.{alive, body_part, body_temporaries, function_name, function_of, functions_from, index_of_main, result_of, temporaries_from, translated};
 
-use crate::conversion::value_type;
-use crate::name::{register_name, temporary_name};
-use crate::statement::items;
-use c_syntax::{Decl, Func, Item, Name, Program, StmtKind};
-use c_typing::scope::name_at;
-use mon_syntax::{MonFunc, MonProgram, MonType, Register};
+use crate::block::{births, born, deaths};
+use crate::conversion::register_type;
+use crate::name::{function_name, temporary_name};
+use crate::scene::{Scene, Spot};
+use crate::statement::statement;
+use crate::variable::{Variables, variables_of};
+use c_syntax::{CType, Func, Name, Program};
+use c_type_rules::scope::name_at;
+use mon_syntax::{MonFunc, MonProgram, MonStmt, MonType, Register};
 use std::alloc::{AllocError, Global};
-
-/// The variables of a function, in order: their names' numbers, and their registers with the types.
-#[derive(Drop)]
-struct Variables {
-    names: Vec<u32>,
-    types: Vec<MonType>,
-    registers: Vec<Register>,
-}
-
-// A variable for each declaration, behind those that are there.
-fn declare(
-    alloc: Global,
-    texts: &[Name],
-    decls: &[Decl],
-    to: &mut Variables,
-) -> Result<(), AllocError>
-    ensures names { OnOk result (to.new.names.items ≡ to.old.names.items ++ names_of (map plain_decl decls.now)) }
-    ensures types { OnOk result (to.new.types.items ≡ to.old.types.items ++ types_of_all (map plain_decl decls.now)) }
-    ensures registers { OnOk result (map plain_register to.new.registers.items ≡ map plain_register to.old.registers.items ++ registers_from texts.now (length to.old.registers.items) (map plain_decl decls.now)) }
-{
-    'decls: for d in decls {
-        let name = register_name(alloc, to.registers.len(), name_at(texts, d.name))?;
-        let kind = value_type(&d.ctype);
-        to.names.push(d.name)?;
-        to.types.push(kind)?;
-        to.registers.push(Register { kind, name })?;
-    }
-    Ok(())
-}
-
-// The variables of a block.
-fn declared(alloc: Global, texts: &[Name], block: &[Item]) -> Result<Variables, AllocError>
-    ensures names { IfOk result (λ vs. vs.names.items ≡ names_of (declared_in (plain_items block.now))) }
-    ensures types { IfOk result (λ vs. vs.types.items ≡ types_of_all (declared_in (plain_items block.now))) }
-    ensures registers { IfOk result (λ vs. map plain_register vs.registers.items ≡ registers_from texts.now 0 (declared_in (plain_items block.now))) }
-{
-    let mut all = Variables {
-        names: Vec::new(alloc),
-        types: Vec::new(alloc),
-        registers: Vec::new(alloc),
-    };
-    'items: for item in block {
-        match item {
-            Item::Declare(decls) => declare(alloc, texts, decls, &mut all)?,
-            Item::Run(_) => {}
-            Item::Asserts(_) => {}
-        }
-    }
-    Ok(all)
-}
 
 // The temporary registers, from the number that the first one has on.
 fn temporaries(
@@ -88,68 +42,131 @@ fn temporaries(
     Ok(())
 }
 
-// The items of a function's body.
-fn items_of(f: &Func) -> &[Item]
-    ensures { plain_items result.now ≡ body_items (plain_func f.now).body }
+// What a function gives.
+fn result_of(t: &CType) -> Option<MonType>
+    ensures { result ≡ result_of (plain_type t.now) }
 {
-    match &f.body {
-        Some(body) => match &body.kind {
-            StmtKind::Block(items) => items,
-            StmtKind::Empty
-            | StmtKind::Eval(_)
-            | StmtKind::If(_, _, _)
-            | StmtKind::While(_, _, _)
-            | StmtKind::Do(_, _)
-            | StmtKind::For(_, _, _, _, _)
-            | StmtKind::Break
-            | StmtKind::Continue
-            | StmtKind::Return(_) => &[],
-        },
-        None => &[],
+    match t {
+        CType::Void => None,
+        CType::Int(k) => Some(register_type(*k)),
     }
 }
 
-// Translates the function `main`.
-fn main_of(alloc: Global, texts: &[Name], f: &Func) -> Result<MonFunc, AllocError>
-    ensures code { IfOk result (λ m. plain_monitored_func m ≡ main_of texts.now (plain_func f.now)) }
-    ensures numbers { IfOk result (λ _. HaveNumbers (body_items (plain_func f.now).body)) }
-    ensures small { IfOk result (λ _. HaveSmallNumbers (body_items (plain_func f.now).body)) }
+// The index, among the definitions, of the first one of `main`.
+fn index_of_main(texts: &[Name], funcs: &[Func]) -> usize
+    ensures { result ≡ index_of_main texts.now (map plain_func funcs.now) }
 {
-    let block = items_of(f);
+    let mut index = 0;
+    'funcs: for f in funcs {
+        if f.body.is_some() {
+            if name_at(texts, f.name) == b"main".as_slice() {
+                return index;
+            }
+            index += 1;
+        }
+    }
+    index
+}
+
+// The name of the definition with an index, where `main` has this index.
+fn name_of(
+    alloc: Global,
+    texts: &[Name],
+    main: usize,
+    index: usize,
+    f: &Func,
+) -> Result<Name, AllocError>
+    ensures { IfOk result (λ bytes. bytes ≡ (if nat_eq index main then codes "main" else function_name index (name_at texts.now f.now.name))) }
+{
+    if index == main {
+        Ok(Name::new(Vec::from_slice(alloc, b"main")?))
+    } else {
+        function_name(alloc, index, name_at(texts, f.name))
+    }
+}
+
+// The body of a function, in which its parameters live.
+fn body_of(
+    alloc: Global,
+    scene: &Scene<'_>,
+    f: &Func,
+    types: &mut Vec<MonType>,
+) -> Result<Vec<MonStmt>, AllocError>
+    ensures code { IfOk result (λ code. plain_stmts code.items ≡ alive scene.now.numbers.now (plain_func f.now).params (body_part (plain_program scene.now.program.now) scene.now.numbers.now (plain_func f.now).params types.old.items (plain_func f.now).body)) }
+    ensures types { OnOk result (types.new.items ≡ types.old.items ++ body_temporaries (plain_func f.now).body) }
+    ensures numbers { IfOk result (λ _. BodyHasNumbers (plain_func f.now).body) }
+{
+    let mut code = Vec::new(alloc);
+    births(alloc, scene.numbers, &f.params, &mut code)?;
+    let mut inside = Vec::new(alloc);
+    born(scene.numbers, &f.params, &mut inside)?;
+    let spot = Spot {
+        loops: 0,
+        inside: &inside,
+        outside: &[],
+    };
+    match &f.body {
+        Some(body) => statement(alloc, scene, &spot, body, types, &mut code)?,
+        None => {}
+    }
+    deaths(alloc, scene.numbers, &inside, &mut code)?;
+    Ok(code)
+}
+
+// Translates the definition with an index, where `main` has this index.
+fn function_of(
+    alloc: Global,
+    p: &Program,
+    main: usize,
+    index: usize,
+    f: &Func,
+) -> Result<MonFunc, AllocError>
+    ensures code { IfOk result (λ m. plain_monitored_func m ≡ function_of (plain_program p.now) main index (plain_func f.now)) }
+    ensures numbers { IfOk result (λ _. FunctionHasNumbers (plain_func f.now)) }
+{
+    let (parameters, own) = variables_of(alloc, &p.names, f)?;
     let Variables {
-        names,
+        numbers,
         mut types,
         mut registers,
-    } = declared(alloc, texts, block)?;
+    } = own;
     let first = types.len();
-    let mut body = Vec::new(alloc);
-    items(alloc, &names, 0, block, &mut types, &mut body)?;
+    let scene = Scene {
+        program: p,
+        numbers: &numbers,
+    };
+    let body = body_of(alloc, &scene, f, &mut types)?;
     temporaries(alloc, &types, first, &mut registers)?;
     Ok(MonFunc {
-        result: Some(MonType::I32),
-        name: Name::new(Vec::from_slice(alloc, b"main")?),
-        parameters: Vec::new(alloc),
+        result: result_of(&f.result),
+        name: name_of(alloc, &p.names, main, index, f)?,
+        parameters,
         registers,
         body,
     })
 }
 
-// Translates each function.
+// Translates the definitions.
 fn functions(alloc: Global, p: &Program) -> Result<Vec<MonFunc>, AllocError>
-    ensures code { IfOk result (λ fs. map plain_monitored_func fs.items ≡ map (main_of p.now.names.items) (map plain_func p.now.funcs.items)) }
+    ensures code { IfOk result (λ fs. map plain_monitored_func fs.items ≡ functions_from (plain_program p.now) (index_of_main p.now.names.items (map plain_func p.now.funcs.items)) 0 (map plain_func p.now.funcs.items)) }
     ensures numbers { IfOk result (λ _. FunctionsHaveNumbers (map plain_func p.now.funcs.items)) }
 {
+    let main = index_of_main(&p.names, &p.funcs);
     let mut functions = Vec::new(alloc);
     'funcs: for f in &p.funcs {
-        functions.push(main_of(alloc, &p.names, f)?)?;
+        if f.body.is_some() {
+            let index = functions.len();
+            functions.push(function_of(alloc, p, main, index, f)?)?;
+        }
     }
     Ok(functions)
 }
 
-// Translates each function of a program.
+// Translates each definition of a program.
 fn translate(alloc: Global, p: &Program) -> Result<MonProgram, AllocError>
     ensures translated { IfOk result (λ m. plain_monitored m ≡ translated (plain_program p.now)) }
     ensures numbers { IfOk result (λ _. FunctionsHaveNumbers (plain_program p.now).funcs) }
+    ensures few { length (plain_program p.now).funcs < 2 ^ 64 }
 {
     let functions = functions(alloc, p)?;
     Ok(MonProgram { functions })
@@ -161,7 +178,6 @@ fn translate(alloc: Global, p: &Program) -> Result<MonProgram, AllocError>
 /// steps, up to the program's first undefined operation.
 pub fn instrument(alloc: Global, p: &Program) -> Result<MonProgram, AllocError>
     requires program { IsProgram (plain_program p.now) }
-    requires few { HaveFewVariables (plain_program p.now).funcs }
     ensures valid { IfOk result (λ m. IsValid (plain_monitored m)) }
     ensures agrees { IfOk result (λ m. (input : Input) (n : ℕ) → Agrees (run (plain_program p.now) input n) (block_run (plain_monitored m) input n)) }
     ensures sound { IfOk result (λ _. (input : Input) (n : ℕ) → (run (plain_program p.now) input n).final ≡ Fault → ⊥) }

@@ -1,37 +1,44 @@
 //! Statements (C99 6.8).
 
-ghost use Rattle.std.specs.Prelude.{◌≡◌, ◌+◌, ◌++◌, IfOk, OnOk, map, option_map};
-ghost use Rattle.c_syntax.specs.Annotations.{plain_annot};
+ghost use Rattle.std.specs.Prelude.{◌≡◌, ◌+◌, ◌++◌, IfOk, List, OnOk, map, option_map};
+ghost use Rattle.c_syntax.specs.declared.place.Place.{Place};
+ghost use Rattle.c_syntax.specs.Annotations.{Annotation, plain_annot};
 ghost use Rattle.c_syntax.specs.Expressions.{plain_expr};
-ghost use Rattle.c_syntax.specs.Statements.{plain_item, plain_items, plain_stmt};
-ghost use Rattle.mon_syntax.specs.Trees.{Labelled, Loop, plain_expr as plain_monitored, plain_stmt as plain_monitored_stmt, plain_stmts};
-ghost use Rattle.instrument.specs.Limits.{Any, AreNumbered, ElseHasNumbers, FirstHasNumbers, HasLetters, HasNumbers, HaveNumbers, ItemHasNumbers};
-ghost use Rattle.instrument.specs.Options.{plain_else_part, plain_first_part};
-ghost use Rattle.instrument.specs.Translation.{assertions, before, condition_of, else_part, end_label, else_temporaries, first_part, first_temporaries, item, item_temporaries, items, items_temporaries, leave_where_zero, next_label, one, returned, setup, statement, statement_temporaries, temporaries, temporaries_if_any, test, test_if_any};
+ghost use Rattle.c_syntax.specs.Programs.{plain_program};
+ghost use Rattle.c_syntax.specs.Statements.{For, plain_item, plain_items, plain_stmt};
+ghost use Rattle.c_model.specs.Meaning.{declared_in};
+ghost use Rattle.mon_syntax.specs.Trees.{Goto, Labelled, Loop, Then, plain_expr as plain_monitored, plain_stmt as plain_monitored_stmt, plain_stmts};
+ghost use Rattle.instrument.specs.Limits.{Any, AreNumbered, EffectHasLetters, ElseHasNumbers, FullHasLetters, HasLetters, HasNumbers, HaveNumbers, ItemHasNumbers};
+ghost use Rattle.instrument.specs.Options.{plain_else_part, plain_first_part, plain_spot};
+ghost use Rattle.instrument.specs.Expressions.{assertions, before, condition_of, one, setup, temporaries};
+ghost use Rattle.instrument.specs.Translation.{alive, any_temporaries, deaths, effect_if_any, effect_temporaries, else_part, else_temporaries, end_label, full_temporaries, in_loop, item, item_temporaries, items, items_temporaries, leave_where_zero, next_label, returned, statement, statement_temporaries, test, test_if_any, with_variables};
 
 use crate::annotation::assertion;
+use crate::block::{births_in, born_in, deaths, items_of};
 use crate::conversion::value_type;
 use crate::effect::{effect, effect_if_any, initialise_all};
 use crate::expression::expression;
+use crate::full::full;
 use crate::name::{end_label, next_label};
 use crate::operator::condition;
 use crate::part::{alone, then};
-use c_syntax::{Annot, Expr, Item, Stmt, StmtKind};
+use crate::scene::{Scene, Spot};
+use c_syntax::{Annot, Expr, Item, Name, Stmt, StmtKind};
 use mon_syntax::{MonExpr, MonStmt, MonType};
 use std::alloc::{AllocError, Global};
 
 // The assertions of a list of annotations.
 fn assertions(
     alloc: Global,
-    names: &[u32],
+    numbers: &[u32],
     annots: &[Annot],
     to: &mut Vec<MonStmt>,
 ) -> Result<(), AllocError>
-    ensures code { OnOk result (plain_stmts to.new.items ≡ before (plain_stmts to.old.items) (assertions names.now (map plain_annot annots.now))) }
+    ensures code { OnOk result (plain_stmts to.new.items ≡ before (plain_stmts to.old.items) (assertions numbers.now (map plain_annot annots.now))) }
     ensures numbered { OnOk result (AreNumbered (map plain_annot annots.now)) }
 {
     'annots: for annot in annots {
-        then(to, assertion(alloc, names, annot)?)?;
+        then(to, assertion(alloc, numbers, annot)?)?;
     }
     Ok(())
 }
@@ -46,17 +53,17 @@ fn inside(loops: u32) -> Result<u32, AllocError>
 // The condition of an expression, behind what stands in front of it.
 fn condition_of(
     alloc: Global,
-    names: &[u32],
+    numbers: &[u32],
     e: &Expr,
     types: &mut Vec<MonType>,
     to: &mut Vec<MonStmt>,
 ) -> Result<MonExpr, AllocError>
-    ensures value { IfOk result (λ m. plain_monitored m ≡ condition_of names.now types.old.items (plain_expr e.now)) }
-    ensures setup { OnOk result (plain_stmts to.new.items ≡ before (plain_stmts to.old.items) (setup names.now types.old.items (plain_expr e.now))) }
+    ensures value { IfOk result (λ m. plain_monitored m ≡ condition_of numbers.now types.old.items (plain_expr e.now)) }
+    ensures setup { OnOk result (plain_stmts to.new.items ≡ before (plain_stmts to.old.items) (setup numbers.now types.old.items (plain_expr e.now))) }
     ensures types { OnOk result (types.new.items ≡ types.old.items ++ temporaries (plain_expr e.now)) }
     ensures letters { OnOk result (HasLetters (plain_expr e.now)) }
 {
-    let value = expression(alloc, names, e, types, to)?;
+    let value = expression(alloc, numbers, e, types, to)?;
     condition(alloc, value_type(&e.ctype), value)
 }
 
@@ -78,17 +85,17 @@ fn leave_where_zero(
 #[tactic(auto, using(crate::proofs::Sequences::before_assoc))]
 fn leave_unless(
     alloc: Global,
-    names: &[u32],
+    numbers: &[u32],
     loops: u32,
     e: &Expr,
     types: &mut Vec<MonType>,
     to: &mut Vec<MonStmt>,
 ) -> Result<(), AllocError>
-    ensures code { OnOk result (plain_stmts to.new.items ≡ before (plain_stmts to.old.items) (test names.now types.old.items loops (plain_expr e.now))) }
+    ensures code { OnOk result (plain_stmts to.new.items ≡ before (plain_stmts to.old.items) (test numbers.now types.old.items loops (plain_expr e.now))) }
     ensures types { OnOk result (types.new.items ≡ types.old.items ++ temporaries (plain_expr e.now)) }
     ensures letters { OnOk result (HasLetters (plain_expr e.now)) }
 {
-    let condition = condition_of(alloc, names, e, types, to)?;
+    let condition = condition_of(alloc, numbers, e, types, to)?;
     leave_where_zero(alloc, loops, condition, to)
 }
 
@@ -96,50 +103,76 @@ fn leave_unless(
 #[tactic(auto, using(crate::proofs::Sequences::before_none))]
 fn leave_unless_any(
     alloc: Global,
-    names: &[u32],
+    numbers: &[u32],
     loops: u32,
     e: &Option<Expr>,
     types: &mut Vec<MonType>,
     to: &mut Vec<MonStmt>,
 ) -> Result<(), AllocError>
-    ensures code { OnOk result (plain_stmts to.new.items ≡ before (plain_stmts to.old.items) (test_if_any names.now types.old.items loops (option_map plain_expr e.now))) }
-    ensures types { OnOk result (types.new.items ≡ types.old.items ++ temporaries_if_any (option_map plain_expr e.now)) }
+    ensures code { OnOk result (plain_stmts to.new.items ≡ before (plain_stmts to.old.items) (test_if_any numbers.now types.old.items loops (option_map plain_expr e.now))) }
+    ensures types { OnOk result (types.new.items ≡ types.old.items ++ any_temporaries temporaries (option_map plain_expr e.now)) }
     ensures letters { OnOk result (Any HasLetters (option_map plain_expr e.now)) }
 {
     match e {
-        Some(e) => leave_unless(alloc, names, loops, e, types, to),
+        Some(e) => leave_unless(alloc, numbers, loops, e, types, to),
         None => Ok(()),
     }
 }
 
-// `return`.
+// `break` or `continue`: the blocks of the variables that are left die in front of it.
+#[tactic(auto, using(crate::proofs::Sequences::before_assoc))]
+fn jump(
+    alloc: Global,
+    numbers: &[u32],
+    live: &[u32],
+    label: Name,
+    to: &mut Vec<MonStmt>,
+) -> Result<(), AllocError>
+    ensures { OnOk result (plain_stmts to.new.items ≡ before (plain_stmts to.old.items) (before (deaths numbers.now live.now) (one (Goto label)))) }
+{
+    deaths(alloc, numbers, live, to)?;
+    then(to, MonStmt::Goto(label))
+}
+
+// The deaths of all blocks of a function.
+#[tactic(auto, using(crate::proofs::Sequences::before_assoc, crate::proofs::Declarations::deaths_behind))]
+fn all_deaths(
+    alloc: Global,
+    numbers: &[u32],
+    spot: &Spot<'_>,
+    to: &mut Vec<MonStmt>,
+) -> Result<(), AllocError>
+    ensures { OnOk result (plain_stmts to.new.items ≡ before (plain_stmts to.old.items) (deaths numbers.now (spot.now.inside.now ++ spot.now.outside.now))) }
+{
+    deaths(alloc, numbers, spot.inside, to)?;
+    deaths(alloc, numbers, spot.outside, to)
+}
+
+// `return`: all blocks of the function die in front of it, and the value is in registers.
 #[tactic(auto, using(crate::proofs::Sequences::before_assoc))]
 fn give_back(
     alloc: Global,
-    names: &[u32],
+    scene: &Scene<'_>,
+    spot: &Spot<'_>,
     e: &Option<Expr>,
     types: &mut Vec<MonType>,
     to: &mut Vec<MonStmt>,
 ) -> Result<(), AllocError>
-    ensures code { OnOk result (plain_stmts to.new.items ≡ before (plain_stmts to.old.items) (returned names.now types.old.items (option_map plain_expr e.now))) }
-    ensures types { OnOk result (types.new.items ≡ types.old.items ++ temporaries_if_any (option_map plain_expr e.now)) }
-    ensures letters { OnOk result (Any HasLetters (option_map plain_expr e.now)) }
+    ensures code { OnOk result (plain_stmts to.new.items ≡ before (plain_stmts to.old.items) (returned (plain_program scene.now.program.now) scene.now.numbers.now (plain_spot spot.now) types.old.items (option_map plain_expr e.now))) }
+    ensures types { OnOk result (types.new.items ≡ types.old.items ++ any_temporaries full_temporaries (option_map plain_expr e.now)) }
+    ensures letters { OnOk result (Any FullHasLetters (option_map plain_expr e.now)) }
 {
     match e {
         Some(e) => {
-            let value = expression(alloc, names, e, types, to)?;
+            let value = full(alloc, scene, e, types, to)?;
+            all_deaths(alloc, scene.numbers, spot, to)?;
             then(to, MonStmt::Return(Some(value)))
         }
-        None => then(to, MonStmt::Return(None)),
+        None => {
+            all_deaths(alloc, scene.numbers, spot, to)?;
+            then(to, MonStmt::Return(None))
+        }
     }
-}
-
-// The body of a loop, behind which a `continue` goes on.
-#[tactic(auto, using(mon_syntax::proofs::Rows::labelled_is))]
-fn round(alloc: Global, loops: u32, body: Vec<MonStmt>) -> Result<Vec<MonStmt>, AllocError>
-    ensures { IfOk result (λ code. plain_stmts code.items ≡ one (Labelled (plain_stmts body.items) (next_label loops))) }
-{
-    alone(alloc, MonStmt::Labelled(body, next_label(alloc, loops)?))
 }
 
 // A loop, from what stands in front of its step and behind it.
@@ -156,63 +189,91 @@ fn repeat(
     Ok(MonStmt::Labelled(turns, end_label(alloc, loops)?))
 }
 
-/// Translates a statement around which stand so many loops, behind the statements and the registers that are there.
+// The body of a loop, behind which a `continue` goes on.
+#[cycle(statement)]
+fn round(
+    alloc: Global,
+    scene: &Scene<'_>,
+    spot: &Spot<'_>,
+    s: &Stmt,
+    types: &mut Vec<MonType>,
+) -> Result<Vec<MonStmt>, AllocError>
+    ensures code { IfOk result (λ code. plain_stmts code.items ≡ one (Labelled (statement (plain_program scene.now.program.now) scene.now.numbers.now (in_loop (plain_spot spot.now)) types.old.items (plain_stmt s.now)) (next_label (spot.now.loops + 1)))) }
+    ensures types { OnOk result (types.new.items ≡ types.old.items ++ statement_temporaries (plain_stmt s.now)) }
+    ensures numbers { OnOk result (HasNumbers (plain_stmt s.now)) }
+{
+    let loops = inside(spot.loops)?;
+    let mut outside = Vec::from_slice(alloc, spot.inside)?;
+    outside.extend_from_slice(spot.outside)?;
+    let inner = Spot {
+        loops,
+        inside: &[],
+        outside: &outside,
+    };
+    let mut body = Vec::new(alloc);
+    statement(alloc, scene, &inner, s, types, &mut body)?;
+    labelled(alloc, loops, body)
+}
+
+// Statements behind which a `continue` goes on.
+#[tactic(auto, using(mon_syntax::proofs::Rows::labelled_is))]
+fn labelled(alloc: Global, loops: u32, body: Vec<MonStmt>) -> Result<Vec<MonStmt>, AllocError>
+    ensures { IfOk result (λ code. plain_stmts code.items ≡ one (Labelled (plain_stmts body.items) (next_label loops))) }
+{
+    alone(alloc, MonStmt::Labelled(body, next_label(alloc, loops)?))
+}
+
+/// Translates a statement, behind the statements and the registers that are there.
 #[cycle(statement)]
 pub fn statement(
     alloc: Global,
-    names: &[u32],
-    loops: u32,
+    scene: &Scene<'_>,
+    spot: &Spot<'_>,
     s: &Stmt,
     types: &mut Vec<MonType>,
     to: &mut Vec<MonStmt>,
 ) -> Result<(), AllocError>
-    ensures code { OnOk result (plain_stmts to.new.items ≡ before (plain_stmts to.old.items) (statement names.now types.old.items loops (plain_stmt s.now))) }
+    ensures code { OnOk result (plain_stmts to.new.items ≡ before (plain_stmts to.old.items) (statement (plain_program scene.now.program.now) scene.now.numbers.now (plain_spot spot.now) types.old.items (plain_stmt s.now))) }
     ensures types { OnOk result (types.new.items ≡ types.old.items ++ statement_temporaries (plain_stmt s.now)) }
     ensures numbers { OnOk result (HasNumbers (plain_stmt s.now)) }
 {
     match &s.kind {
         StmtKind::Empty => Ok(()),
-        StmtKind::Eval(e) => effect(alloc, names, e, types, to),
-        StmtKind::Block(body) => items(alloc, names, loops, body, types, to),
+        StmtKind::Eval(e) => effect(alloc, scene, e, types, to),
+        StmtKind::Block(body) => block(alloc, scene, spot, body, types, to),
         StmtKind::If(e, a, b) => {
-            let condition = condition_of(alloc, names, e, types, to)?;
+            let condition = condition_of(alloc, scene.numbers, e, types, to)?;
             let mut first = Vec::new(alloc);
-            statement(alloc, names, loops, a, types, &mut first)?;
+            statement(alloc, scene, spot, a, types, &mut first)?;
             let mut second = Vec::new(alloc);
-            else_part(alloc, names, loops, b, types, &mut second)?;
+            else_part(alloc, scene, spot, b, types, &mut second)?;
             then(to, MonStmt::If(condition, first, second))
         }
         StmtKind::While(_, e, a) => {
-            let inner = inside(loops)?;
+            let loops = inside(spot.loops)?;
             let mut front = Vec::new(alloc);
-            leave_unless(alloc, names, inner, e, types, &mut front)?;
-            let mut body = Vec::new(alloc);
-            statement(alloc, names, inner, a, types, &mut body)?;
-            let behind = round(alloc, inner, body)?;
-            then(to, repeat(alloc, inner, front, behind)?)
+            leave_unless(alloc, scene.numbers, loops, e, types, &mut front)?;
+            let behind = round(alloc, scene, spot, a, types)?;
+            then(to, repeat(alloc, loops, front, behind)?)
         }
         StmtKind::Do(a, e) => {
-            let inner = inside(loops)?;
-            let mut body = Vec::new(alloc);
-            statement(alloc, names, inner, a, types, &mut body)?;
-            let mut behind = round(alloc, inner, body)?;
-            leave_unless(alloc, names, inner, e, types, &mut behind)?;
-            then(to, repeat(alloc, inner, Vec::new(alloc), behind)?)
+            let loops = inside(spot.loops)?;
+            let mut behind = round(alloc, scene, spot, a, types)?;
+            leave_unless(alloc, scene.numbers, loops, e, types, &mut behind)?;
+            then(to, repeat(alloc, loops, Vec::new(alloc), behind)?)
         }
         StmtKind::For(_, first, e, step, a) => {
-            first_part(alloc, names, loops, first, types, to)?;
-            let inner = inside(loops)?;
-            let mut front = Vec::new(alloc);
-            leave_unless_any(alloc, names, inner, e, types, &mut front)?;
-            let mut body = Vec::new(alloc);
-            statement(alloc, names, inner, a, types, &mut body)?;
-            let mut behind = round(alloc, inner, body)?;
-            effect_if_any(alloc, names, step, types, &mut behind)?;
-            then(to, repeat(alloc, inner, front, behind)?)
+            for_loop(alloc, scene, spot, (first, e, step, a), types, to)
         }
-        StmtKind::Break => then(to, MonStmt::Goto(end_label(alloc, loops)?)),
-        StmtKind::Continue => then(to, MonStmt::Goto(next_label(alloc, loops)?)),
-        StmtKind::Return(e) => give_back(alloc, names, e, types, to),
+        StmtKind::Break => {
+            let label = end_label(alloc, spot.loops)?;
+            jump(alloc, scene.numbers, spot.inside, label, to)
+        }
+        StmtKind::Continue => {
+            let label = next_label(alloc, spot.loops)?;
+            jump(alloc, scene.numbers, spot.inside, label, to)
+        }
+        StmtKind::Return(e) => give_back(alloc, scene, spot, e, types, to),
     }
 }
 
@@ -220,79 +281,137 @@ pub fn statement(
 #[cycle(statement)]
 fn else_part(
     alloc: Global,
-    names: &[u32],
-    loops: u32,
+    scene: &Scene<'_>,
+    spot: &Spot<'_>,
     b: &Option<Box<Stmt>>,
     types: &mut Vec<MonType>,
     to: &mut Vec<MonStmt>,
 ) -> Result<(), AllocError>
-    ensures code { OnOk result (plain_stmts to.new.items ≡ before (plain_stmts to.old.items) (else_part names.now types.old.items loops (plain_else_part b.now))) }
+    ensures code { OnOk result (plain_stmts to.new.items ≡ before (plain_stmts to.old.items) (else_part (plain_program scene.now.program.now) scene.now.numbers.now (plain_spot spot.now) types.old.items (plain_else_part b.now))) }
     ensures types { OnOk result (types.new.items ≡ types.old.items ++ else_temporaries (plain_else_part b.now)) }
     ensures numbers { OnOk result (ElseHasNumbers (plain_else_part b.now)) }
 {
     match b {
-        Some(b) => statement(alloc, names, loops, b, types, to),
+        Some(b) => statement(alloc, scene, spot, b, types, to),
         None => Ok(()),
     }
 }
 
-// What stands first in a `for`, which may be left out.
+// A block, whose variables live as long as its items are done.
 #[cycle(statement)]
-fn first_part(
+fn block(
     alloc: Global,
-    names: &[u32],
-    loops: u32,
-    first: &Option<Box<Item>>,
+    scene: &Scene<'_>,
+    spot: &Spot<'_>,
+    body: &[Item],
     types: &mut Vec<MonType>,
     to: &mut Vec<MonStmt>,
 ) -> Result<(), AllocError>
-    ensures code { OnOk result (plain_stmts to.new.items ≡ before (plain_stmts to.old.items) (first_part names.now types.old.items loops (plain_first_part first.now))) }
-    ensures types { OnOk result (types.new.items ≡ types.old.items ++ first_temporaries (plain_first_part first.now)) }
-    ensures numbers { OnOk result (FirstHasNumbers (plain_first_part first.now)) }
+    ensures code { OnOk result (plain_stmts to.new.items ≡ before (plain_stmts to.old.items) (alive scene.now.numbers.now (declared_in (plain_items body.now)) (items (plain_program scene.now.program.now) scene.now.numbers.now (with_variables scene.now.numbers.now (declared_in (plain_items body.now)) (plain_spot spot.now)) types.old.items (plain_items body.now)))) }
+    ensures types { OnOk result (types.new.items ≡ types.old.items ++ items_temporaries (plain_items body.now)) }
+    ensures numbers { OnOk result (HaveNumbers (plain_items body.now)) }
 {
-    match first {
-        Some(i) => item(alloc, names, loops, i, types, to),
-        None => Ok(()),
-    }
+    births_in(alloc, scene.numbers, body, to)?;
+    let inside = born_in(alloc, scene.numbers, body, spot.inside)?;
+    let inner = Spot {
+        loops: spot.loops,
+        inside: &inside,
+        outside: spot.outside,
+    };
+    items(alloc, scene, &inner, body, types, to)?;
+    let own = born_in(alloc, scene.numbers, body, &[])?;
+    deaths(alloc, scene.numbers, &own, to)
+}
+
+// A `for`, from what stands first, its condition, its step and its body. What it declares lives as long as it is done.
+#[cycle(statement)]
+fn for_loop(
+    alloc: Global,
+    scene: &Scene<'_>,
+    spot: &Spot<'_>,
+    parts: (&Option<Box<Item>>, &Option<Expr>, &Option<Expr>, &Stmt),
+    types: &mut Vec<MonType>,
+    to: &mut Vec<MonStmt>,
+) -> Result<(), AllocError>
+    ensures code { (at : Place) (annots : List Annotation) → OnOk result (plain_stmts to.new.items ≡ before (plain_stmts to.old.items) (statement (plain_program scene.now.program.now) scene.now.numbers.now (plain_spot spot.now) types.old.items (For at annots (plain_first_part parts.entry.0.now) (option_map plain_expr parts.entry.1.now) (option_map plain_expr parts.entry.2.now) (plain_stmt parts.entry.3.now)))) }
+    ensures types { (at : Place) (annots : List Annotation) → OnOk result (types.new.items ≡ types.old.items ++ statement_temporaries (For at annots (plain_first_part parts.entry.0.now) (option_map plain_expr parts.entry.1.now) (option_map plain_expr parts.entry.2.now) (plain_stmt parts.entry.3.now))) }
+    ensures numbers { (at : Place) (annots : List Annotation) → OnOk result (HasNumbers (For at annots (plain_first_part parts.entry.0.now) (option_map plain_expr parts.entry.1.now) (option_map plain_expr parts.entry.2.now) (plain_stmt parts.entry.3.now))) }
+{
+    let (first, e, step, a) = parts;
+    let own = items_of(first);
+    births_in(alloc, scene.numbers, own, to)?;
+    let inside = born_in(alloc, scene.numbers, own, spot.inside)?;
+    let around = Spot {
+        loops: spot.loops,
+        inside: &inside,
+        outside: spot.outside,
+    };
+    items(alloc, scene, &around, own, types, to)?;
+    turns(alloc, scene, &around, (e, step, a), types, to)?;
+    let own = born_in(alloc, scene.numbers, own, &[])?;
+    deaths(alloc, scene.numbers, &own, to)
+}
+
+// The loop of a `for`, from its condition, its step and its body.
+#[cycle(statement)]
+fn turns(
+    alloc: Global,
+    scene: &Scene<'_>,
+    spot: &Spot<'_>,
+    parts: (&Option<Expr>, &Option<Expr>, &Stmt),
+    types: &mut Vec<MonType>,
+    to: &mut Vec<MonStmt>,
+) -> Result<(), AllocError>
+    ensures code { OnOk result (plain_stmts to.new.items ≡ before (plain_stmts to.old.items) (one (Labelled (one (Loop (test_if_any scene.now.numbers.now types.old.items (spot.now.loops + 1) (option_map plain_expr parts.entry.0.now)) (Then (Labelled (statement (plain_program scene.now.program.now) scene.now.numbers.now (in_loop (plain_spot spot.now)) (types.old.items ++ any_temporaries temporaries (option_map plain_expr parts.entry.0.now)) (plain_stmt parts.entry.2.now)) (next_label (spot.now.loops + 1))) (effect_if_any (plain_program scene.now.program.now) scene.now.numbers.now (types.old.items ++ any_temporaries temporaries (option_map plain_expr parts.entry.0.now) ++ statement_temporaries (plain_stmt parts.entry.2.now)) (option_map plain_expr parts.entry.1.now))))) (end_label (spot.now.loops + 1))))) }
+    ensures types { OnOk result (types.new.items ≡ types.old.items ++ (any_temporaries temporaries (option_map plain_expr parts.entry.0.now) ++ statement_temporaries (plain_stmt parts.entry.2.now) ++ any_temporaries effect_temporaries (option_map plain_expr parts.entry.1.now))) }
+    ensures numbers { OnOk result (Any HasLetters (option_map plain_expr parts.entry.0.now) × HasNumbers (plain_stmt parts.entry.2.now) × Any EffectHasLetters (option_map plain_expr parts.entry.1.now)) }
+{
+    let (e, step, a) = parts;
+    let loops = inside(spot.loops)?;
+    let mut front = Vec::new(alloc);
+    leave_unless_any(alloc, scene.numbers, loops, e, types, &mut front)?;
+    let mut behind = round(alloc, scene, spot, a, types)?;
+    effect_if_any(alloc, scene, step, types, &mut behind)?;
+    then(to, repeat(alloc, loops, front, behind)?)
 }
 
 // Translates an item of a block.
 #[cycle(statement)]
 fn item(
     alloc: Global,
-    names: &[u32],
-    loops: u32,
+    scene: &Scene<'_>,
+    spot: &Spot<'_>,
     i: &Item,
     types: &mut Vec<MonType>,
     to: &mut Vec<MonStmt>,
 ) -> Result<(), AllocError>
-    ensures code { OnOk result (plain_stmts to.new.items ≡ before (plain_stmts to.old.items) (item names.now types.old.items loops (plain_item i.now))) }
+    ensures code { OnOk result (plain_stmts to.new.items ≡ before (plain_stmts to.old.items) (item (plain_program scene.now.program.now) scene.now.numbers.now (plain_spot spot.now) types.old.items (plain_item i.now))) }
     ensures types { OnOk result (types.new.items ≡ types.old.items ++ item_temporaries (plain_item i.now)) }
     ensures numbers { OnOk result (ItemHasNumbers (plain_item i.now)) }
 {
     match i {
-        Item::Declare(decls) => initialise_all(alloc, names, decls, types, to),
-        Item::Run(a) => statement(alloc, names, loops, a, types, to),
-        Item::Asserts(annots) => assertions(alloc, names, annots, to),
+        Item::Declare(decls) => initialise_all(alloc, scene, decls, types, to),
+        Item::Run(a) => statement(alloc, scene, spot, a, types, to),
+        Item::Asserts(annots) => assertions(alloc, scene.numbers, annots, to),
     }
 }
 
-/// Translates the items of a block, whose statements stand among those around it.
+// Translates the items of a block, whose variables live.
 #[cycle(statement)]
-pub fn items(
+fn items(
     alloc: Global,
-    names: &[u32],
-    loops: u32,
+    scene: &Scene<'_>,
+    spot: &Spot<'_>,
     block: &[Item],
     types: &mut Vec<MonType>,
     to: &mut Vec<MonStmt>,
 ) -> Result<(), AllocError>
-    ensures code { OnOk result (plain_stmts to.new.items ≡ before (plain_stmts to.old.items) (items names.now types.old.items loops (plain_items block.now))) }
+    ensures code { OnOk result (plain_stmts to.new.items ≡ before (plain_stmts to.old.items) (items (plain_program scene.now.program.now) scene.now.numbers.now (plain_spot spot.now) types.old.items (plain_items block.now))) }
     ensures types { OnOk result (types.new.items ≡ types.old.items ++ items_temporaries (plain_items block.now)) }
     ensures numbers { OnOk result (HaveNumbers (plain_items block.now)) }
 {
     'items: for i in block {
-        item(alloc, names, loops, i, types, to)?;
+        item(alloc, scene, spot, i, types, to)?;
     }
     Ok(())
 }

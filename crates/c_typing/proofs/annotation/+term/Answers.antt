@@ -3,9 +3,9 @@ use Rattle.c_syntax.specs.Annotations.{Binary, plain_term}
 use Rattle.c_syntax.specs.Ctypes.{plain_type}
 use Rattle.c_model.specs.Checked.{Good}
 use Rattle.c_model.specs.ProgramTyping.{typed_term}
-use Rattle.c_typing.specs.Answers.{Answers}
-use Rattle.c_typing.specs.Scopes.{plain_scopes}
-use Rattle.c_typing.proofs.Least.{both_refused}
+use Rattle.c_type_rules.specs.Answers.{Answers}
+use Rattle.c_type_rules.specs.Scopes.{plain_scopes}
+use Rattle.c_type_rules.proofs.Least.{both_refused}
 use Rattle.c_typing.proofs.Chains.{term_at}
 use Rattle.c_typing.proofs.annotation.+term.Goals as goal
 

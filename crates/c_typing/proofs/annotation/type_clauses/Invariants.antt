@@ -1,7 +1,7 @@
 use Rattle.std.proofs.Common.{◌≡◌, map}
 use Rattle.c_syntax.specs.Annotations.{plain_annot}
 use Rattle.c_model.specs.ProgramTyping.{typed_annotations}
-use Rattle.c_typing.specs.Scopes.{plain_scopes}
+use Rattle.c_type_rules.specs.Scopes.{plain_scopes}
 use Rattle.c_typing.proofs.Lists.{behind_parts}
 use Rattle.c_typing.proofs.annotation.type_clauses.Given as goal
 

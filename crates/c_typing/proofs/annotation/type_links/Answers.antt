@@ -1,5 +1,5 @@
 use Rattle.std.proofs.Common.{ap, sym, ◌∙◌, append_assoc, ◌++◌, [], ◌∷◌}
-use Rattle.c_typing.specs.Scopes.{plain_scopes}
+use Rattle.c_type_rules.specs.Scopes.{plain_scopes}
 use Rattle.c_typing.proofs.Chains.{links_more}
 use Rattle.c_typing.proofs.annotation.type_links.Goals as goal
 

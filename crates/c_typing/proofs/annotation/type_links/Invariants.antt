@@ -1,8 +1,8 @@
 use Rattle.std.proofs.Common.{◌≡◌, ◌++◌}
 use Rattle.c_syntax.specs.Annotations.{plain_links}
 use Rattle.c_model.specs.ProgramTyping.{typed_links}
-use Rattle.c_typing.specs.Answers.{Answers}
-use Rattle.c_typing.specs.Scopes.{plain_scopes}
+use Rattle.c_type_rules.specs.Answers.{Answers}
+use Rattle.c_type_rules.specs.Scopes.{plain_scopes}
 use Rattle.c_typing.specs.Trees.{plain_chain}
 use Rattle.c_typing.proofs.annotation.type_links.Given as goal
 

@@ -2,9 +2,9 @@ use Rattle.std.proofs.Common.{◌≡◌, rules, Err}
 use Rattle.c_syntax.specs.Annotations.{Chain, plain_term, plain_links, plain_pred}
 use Rattle.c_model.specs.Checked.{Good}
 use Rattle.c_model.specs.ProgramTyping.{typed_term, typed_links}
-use Rattle.c_typing.specs.Scopes.{plain_scopes}
+use Rattle.c_type_rules.specs.Scopes.{plain_scopes}
 use Rattle.c_typing.specs.Trees.{plain_chain}
-use Rattle.c_typing.proofs.Least.{both_refused}
+use Rattle.c_type_rules.proofs.Least.{both_refused}
 use Rattle.c_typing.proofs.Chains.{predicate_at}
 use Rattle.c_typing.proofs.annotation.type_predicate.Goals as goal
 

@@ -1,7 +1,7 @@
 use Rattle.std.proofs.Common.{◌≡◌, length, map}
 use Rattle.c_syntax.specs.Statements.{plain_decl}
 use Rattle.c_model.specs.Typing.{with_objects}
-use Rattle.c_typing.specs.Scopes.{plain_scopes}
+use Rattle.c_type_rules.specs.Scopes.{plain_scopes}
 use Rattle.c_typing.proofs.declaration.declare_all.Given as goal
 
 abbrev pub invariant-turn : goal.invariant-turn

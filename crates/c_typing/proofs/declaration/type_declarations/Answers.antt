@@ -1,6 +1,6 @@
 use Rattle.std.proofs.Common.{map}
 use Rattle.c_syntax.specs.Statements.{plain_decl}
-use Rattle.c_typing.specs.Scopes.{plain_scopes}
+use Rattle.c_type_rules.specs.Scopes.{plain_scopes}
 use Rattle.c_typing.proofs.Declarations.{declarations_more, objects_more}
 use Rattle.c_typing.proofs.declaration.type_declarations.Goals as goal
 

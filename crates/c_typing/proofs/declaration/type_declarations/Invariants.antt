@@ -1,7 +1,7 @@
 use Rattle.std.proofs.Common.{◌≡◌, map}
 use Rattle.c_syntax.specs.Statements.{plain_decl}
 use Rattle.c_model.specs.Typing.{typed_declarations, with_objects}
-use Rattle.c_typing.specs.Scopes.{plain_scopes}
+use Rattle.c_type_rules.specs.Scopes.{plain_scopes}
 use Rattle.c_typing.proofs.Lists.{behind_parts}
 use Rattle.c_typing.proofs.declaration.type_declarations.Given as goal
 

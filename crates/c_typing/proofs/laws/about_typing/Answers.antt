@@ -1,8 +1,8 @@
 use Rattle.c_model.specs.Typing.{typed, typed_statement}
 use Rattle.c_model.specs.WellTyped.{WellTyped}
 use Rattle.c_model.specs.WellTypedPrograms.{StatementTyped}
-use Rattle.c_typing.proofs.Gives.{gives_of}
-use Rattle.c_typing.proofs.WellExpressions.{typed_well}
+use Rattle.c_type_rules.proofs.Gives.{gives_of}
+use Rattle.c_type_rules.proofs.WellExpressions.{typed_well}
 use Rattle.c_typing.proofs.WellStatements.{statement_well}
 use Rattle.c_typing.proofs.WellPrograms.{program_well}
 use Rattle.c_typing.proofs.laws.about_typing.Goals as goal

@@ -3,7 +3,7 @@ use Rattle.std.proofs.lemmas.List.{nil_from_length}
 use Rattle.c_syntax.specs.Statements.{plain_item, plain_items}
 use Rattle.c_model.specs.Typing.{behind}
 use Rattle.c_model.specs.ProgramTyping.{noted_items}
-use Rattle.c_typing.specs.Scopes.{plain_scopes}
+use Rattle.c_type_rules.specs.Scopes.{plain_scopes}
 use Rattle.c_typing.proofs.Blocks.{sight_more}
 use Rattle.c_typing.proofs.Statements.{block_left, for_left}
 use Rattle.c_typing.proofs.NotedStatements.{block_refused, block_noted, block_more, block_done}

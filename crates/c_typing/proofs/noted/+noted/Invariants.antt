@@ -1,7 +1,8 @@
 use Rattle.std.proofs.Common.{◌≡◌}
 use Rattle.c_syntax.specs.Statements.{plain_items}
 use Rattle.c_model.specs.ProgramTyping.{noted_items}
-use Rattle.c_typing.specs.Scopes.{behind_items, plain_scopes}
+use Rattle.c_type_rules.specs.Scopes.{plain_scopes}
+use Rattle.c_typing.specs.Scopes.{behind_items}
 use Rattle.c_typing.proofs.Blocks.{behind_block}
 use Rattle.c_typing.proofs.noted.+noted.Given as goal
 

@@ -1,6 +1,6 @@
 use Rattle.std.proofs.Common.{◌≡◌, rules, Err}
 use Rattle.c_syntax.specs.Ctypes.{Void}
-use Rattle.c_typing.specs.Scopes.{plain_scopes}
+use Rattle.c_type_rules.specs.Scopes.{plain_scopes}
 use Rattle.c_typing.proofs.Bodies.{body_note_refused, body_noted}
 use Rattle.c_typing.proofs.noted.note_body.Goals as goal
 

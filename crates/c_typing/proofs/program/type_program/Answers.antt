@@ -1,7 +1,7 @@
 use Rattle.std.proofs.Common.{◌≡◌, rules, Some, None}
 use Rattle.c_syntax.specs.Programs.{plain_program}
 use Rattle.c_model.specs.ProgramTyping.{main_fault}
-use Rattle.c_typing.specs.Answers.{plain_fault}
+use Rattle.c_type_rules.specs.Answers.{plain_fault}
 use Rattle.c_typing.proofs.program.type_program.Goals as goal
 
 pub invariant_of-result : goal.invariant_of-result

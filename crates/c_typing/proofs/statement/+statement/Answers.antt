@@ -2,7 +2,7 @@ use Rattle.std.proofs.Common.{◌≡◌, rules, Err, ap, arith, []}
 use Rattle.std.proofs.lemmas.List.{nil_from_length}
 use Rattle.c_syntax.specs.Statements.{plain_items}
 use Rattle.c_model.specs.Typing.{typed_items}
-use Rattle.c_typing.specs.Scopes.{plain_scopes}
+use Rattle.c_type_rules.specs.Scopes.{plain_scopes}
 use Rattle.c_typing.specs.Trees.{plain_around}
 use Rattle.c_typing.proofs.Blocks.{sight_more}
 use Rattle.c_typing.proofs.Statements.{block_refused, block_typed, do_refused, step_refused, body_refused, for_typed, block_more, block_done, block_left, for_left}

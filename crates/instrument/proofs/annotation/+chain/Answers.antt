@@ -5,6 +5,6 @@ use Rattle.instrument.proofs.annotation.+chain.Goals as goal
 
 pub returns-in_ok-others-in-len1-up-clause-code : goal.returns-in_ok-others-in-len1-up-clause-code
 returns-in_ok-others-in-len1-up-clause-code t c =
-    chain_first c.args.names.now _ _ c.link-item-2.result _ _ c.link-item-2.is c.in-len1-up.len_at_least
+    chain_first c.args.numbers.now _ _ c.link-item-2.result _ _ c.link-item-2.is c.in-len1-up.len_at_least
     (ap plain_expr (c.in_ok-first-in-len1-up.ensures.ok) ∙ c.in_ok-relation-in-len1-up.ensures.code)
     (ap plain_expr (c.in_ok-others-in-len1-up.ensures.ok) ∙ c.in_ok-chain-in-len1-up.ensures.code)

@@ -1,6 +1,9 @@
-use Rattle.std.proofs.Common.{◌≡◌, drop}
-use Rattle.instrument.specs.Translation.{newest, register_of}
+use Rattle.std.proofs.Common.{◌≡◌, ◌+◌, ◌-◌, drop, length}
+use Rattle.instrument.specs.Expressions.{register_of}
 use Rattle.instrument.proofs.part.register_of.Given as goal
 
-abbrev pub invariant-names : goal.invariant-names
-invariant-names l = newest l.x l.found l.k (drop l.k l.names) ≡ register_of l.names l.x
+abbrev pub invariant-numbers : goal.invariant-numbers
+invariant-numbers l = l.place + register_of (drop l.place l.numbers) l.x ≡ register_of l.numbers l.x
+
+abbrev pub decreases-numbers : goal.decreases-numbers
+decreases-numbers l = length l.numbers - l.place

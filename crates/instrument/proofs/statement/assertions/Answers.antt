@@ -2,13 +2,13 @@ use Rattle.std.proofs.Common.{subst, sym, refl, ap, map, ◌∙◌}
 use Rattle.c_syntax.specs.Annotations.{plain_annot}
 use Rattle.mon_syntax.specs.Trees.{plain_stmts}
 use Rattle.instrument.specs.Limits.{AreNumbered}
-use Rattle.instrument.specs.Translation.{assertions, before, one}
+use Rattle.instrument.specs.Expressions.{assertions, before, one}
 use Rattle.instrument.proofs.Sequences.{left_at, none_left, more, all_there}
 use Rattle.instrument.proofs.statement.assertions.Goals as goal
 
 pub returns-clause-code : goal.returns-clause-code
 returns-clause-code c =
-    all_there (none_left (λ l. assertions c.args.names.now (map plain_annot l)) c.args.annots.now c.annots.annot-index c.annots-test.false) c.annots.invariant.0
+    all_there (none_left (λ l. assertions c.args.numbers.now (map plain_annot l)) c.args.annots.now c.annots.annot-index c.annots-test.false) c.annots.invariant.0
 
 pub returns-clause-numbered : goal.returns-clause-numbered
 returns-clause-numbered c =
@@ -16,7 +16,7 @@ returns-clause-numbered c =
 
 pub annots-preserved : goal.annots-preserved
 annots-preserved c = (
-  more _ _ _ (left_at (λ l. assertions c.args.names.now (map plain_annot l)) c.args.annots.now c.annots.annot-index _ _ c.annots-test.true c.annot-item.is refl)
+  more _ _ _ (left_at (λ l. assertions c.args.numbers.now (map plain_annot l)) c.args.annots.now c.annots.annot-index _ _ c.annots-test.true c.annot-item.is refl)
       (c.in_ok-then.ensures ∙ ap (λ a. before (plain_stmts c.annots.to.items) (one a)) c.in_ok-assertion.ensures.code)
       c.annots.invariant.0,
   λ rest. c.annots.invariant.1 (subst AreNumbered (sym (left_at (map plain_annot) c.args.annots.now c.annots.annot-index _ _ c.annots-test.true c.annot-item.is refl)) (c.in_ok-assertion.ensures.numbered, rest)),

@@ -2,10 +2,10 @@ use Rattle.std.proofs.Common.{◌≡◌, drop, map}
 use Rattle.c_syntax.specs.Annotations.{plain_annot}
 use Rattle.mon_syntax.specs.Trees.{plain_stmts}
 use Rattle.instrument.specs.Limits.{AreNumbered}
-use Rattle.instrument.specs.Translation.{before, assertions}
+use Rattle.instrument.specs.Expressions.{before, assertions}
 use Rattle.instrument.proofs.statement.assertions.Given as goal
 
 abbrev pub invariant-annots : goal.invariant-annots
 invariant-annots l =
-    (before (plain_stmts l.to.items) (assertions l.names (map plain_annot (drop l.annot-index l.annots))) ≡ before (plain_stmts l.initial.to.items) (assertions l.names (map plain_annot l.annots)))
+    (before (plain_stmts l.to.items) (assertions l.numbers (map plain_annot (drop l.annot-index l.annots))) ≡ before (plain_stmts l.initial.to.items) (assertions l.numbers (map plain_annot l.annots)))
     × (AreNumbered (map plain_annot (drop l.annot-index l.annots)) → AreNumbered (map plain_annot l.annots))

@@ -1,0 +1,111 @@
+//! Why a tree isn't typed.
+
+ghost use Rattle.std.specs.Prelude.{◌≡◌};
+ghost use Rattle.c_model.specs.Checked.{rank};
+ghost use Rattle.c_type_rules.specs.declared.fault.TypeFault.TheVariants.{Refused, Memory};
+ghost use Rattle.c_type_rules.specs.Answers.{plain_fault, Joined, Pushed, first_of};
+
+use c_syntax::Place;
+use std::alloc::{AllocError, AllocFailed};
+
+/// A fault: the number of its code, and its place.
+#[derive(Clone, Copy, PartialEq, Eq, Debug, Drop)]
+pub struct Fault {
+    pub code: u8,
+    pub place: Place,
+}
+
+/// Why a phase of typing gives no tree.
+#[derive(Clone, Copy, PartialEq, Eq, Debug, Drop)]
+pub enum TypeFault {
+    Refused(Fault),
+    /// Memory was wanting.
+    Memory,
+}
+
+impl From<AllocError> for TypeFault {
+    ghost from_gives = { λ _ e. e ≡ Memory };
+
+    fn from(_e: AllocError) -> TypeFault {
+        TypeFault::Memory
+    }
+}
+
+impl<T: Drop> From<AllocFailed<T>> for TypeFault {
+    ghost from_gives = { λ _ e. e ≡ Memory };
+
+    fn from(_e: AllocFailed<T>) -> TypeFault {
+        TypeFault::Memory
+    }
+}
+
+/// A name without a fitting declaration (E5).
+pub fn no_name(place: Place) -> TypeFault
+    ensures { result ≡ Refused (record { code = 5; place = place }) }
+{
+    TypeFault::Refused(Fault { code: 5, place })
+}
+
+/// A demand on types that isn't met (E6).
+pub fn no_type(place: Place) -> TypeFault
+    ensures { result ≡ Refused (record { code = 6; place = place }) }
+{
+    TypeFault::Refused(Fault { code: 6, place })
+}
+
+fn rank(f: Fault) -> u64
+    ensures { result ≡ rank (plain_fault f) }
+{
+    16 * f.place.offset as u64 + f.code as u64
+}
+
+/// The first of two faults in the text.
+fn first_of(f: TypeFault, g: TypeFault) -> TypeFault
+    ensures { result ≡ first_of f g }
+{
+    match f {
+        TypeFault::Memory => TypeFault::Memory,
+        TypeFault::Refused(a) => match g {
+            TypeFault::Memory => TypeFault::Memory,
+            TypeFault::Refused(b) => {
+                if rank(b) < rank(a) {
+                    TypeFault::Refused(b)
+                } else {
+                    TypeFault::Refused(a)
+                }
+            }
+        },
+    }
+}
+
+/// Two answers as one.
+pub fn both<T: Drop, U: Drop>(
+    a: Result<T, TypeFault>,
+    b: Result<U, TypeFault>,
+) -> Result<(T, U), TypeFault>
+    ensures { Joined a b result }
+{
+    match a {
+        Ok(x) => match b {
+            Ok(y) => Ok((x, y)),
+            Err(g) => Err(g),
+        },
+        Err(f) => match b {
+            Ok(_y) => Err(f),
+            Err(g) => Err(first_of(f, g)),
+        },
+    }
+}
+
+/// One more item behind a list, where both are there.
+pub fn push<T: Drop>(two: Result<(Vec<T>, T), TypeFault>) -> Result<Vec<T>, TypeFault>
+    ensures { Pushed two result }
+{
+    match two {
+        Ok((mut list, item)) => match list.push(item) {
+            Ok(_) => Ok(list),
+            Err(_e) => Err(TypeFault::Memory),
+        },
+        Err(f) => Err(f),
+    }
+}

@@ -1,0 +1,110 @@
+-- Functions one after another, in words of what is kept of those before: what each name denotes in the file, which names are declared
+-- so far, and what is in sight.
+use Rattle.std.specs.Prelude.{ℕ, List, [], ◌∷◌, ◌++◌, nat_eq, Option, Some, None, Bool, true, false, not, ◌&&◌, ◌||◌, cond}
+use Rattle.c_syntax.specs.Statements.{Declaration}
+use Rattle.c_syntax.specs.Programs.{Function}
+use Rattle.c_model.specs.Meaning.{is_definition}
+use Rattle.c_model.specs.Library.{is_library_name}
+use Rattle.c_model.specs.Checked.{Checked, Good, one_part, where_so}
+use Rattle.c_model.specs.Typing.{no_name, Signature, Scopes, name_at, function_called, same_type}
+use Rattle.c_model.specs.ProgramTyping.{definition_of, first_of, types_of, same_types, typed_parameter, with_parameter, with_parameters, typed_body, noted_body}
+use Rattle.c_typing.specs.declared.heading.Denoted.{Denoted}
+
+-- ---- what names denote
+
+abbrev pub denoted_by : Option ℕ → Option Function → Option Denoted
+denoted_by (Some n) o = Some (record { decl = n; defined = true })
+denoted_by None None = None
+denoted_by None (Some f) = Some (record { decl = f.place.offset; defined = false })
+
+-- the definition of a name among functions, or its first prototype
+abbrev pub denoted : List Function → ℕ → Option Denoted
+denoted fs x = denoted_by (definition_of x fs) (first_of x fs)
+
+-- whether a function tells more of its name than those before it
+abbrev pub tells_more : Option Denoted → Function → Bool
+tells_more None f = true
+tells_more (Some d) f = is_definition f && not d.defined
+
+abbrev pub told : Option Denoted → Function → Option Denoted
+told o f = cond (tells_more o f) (Some (record { decl = f.place.offset; defined = is_definition f })) o
+
+-- what names denote with one more function
+abbrev pub with_told : (ℕ → Option Denoted) → Function → ℕ → Option Denoted
+with_told numbers f x = cond (nat_eq f.name x) (told (numbers x) f) (numbers x)
+
+-- ---- headings
+
+abbrev pub was_defined : Option Bool → Bool
+was_defined None = false
+was_defined (Some defined) = defined
+
+-- of each name that functions declare, whether one of them defines it
+abbrev pub known : List Function → ℕ → Option Bool
+known [] x = None
+known (f ∷ fs) x = cond (nat_eq f.name x) (Some (is_definition f || was_defined (known fs x))) (known fs x)
+
+-- the same with one more function
+abbrev pub with_known : (ℕ → Option Bool) → Function → ℕ → Option Bool
+with_known names f x = cond (nat_eq f.name x) (Some (was_defined (names x) || is_definition f)) (names x)
+
+-- whether a function has the type of the first of its name
+abbrev pub fits_first : Option Signature → Function → Bool
+fits_first None f = true
+fits_first (Some g) f = same_type g.result f.result && same_types g.params (types_of f.params)
+
+-- whether a function fits those before it, by what is known of its name
+abbrev pub fits : List Signature → Option Bool → Function → Bool
+fits before None f = true
+fits before (Some defined) f = fits_first (function_called f.name before) f && not (is_definition f && defined)
+
+-- a function's name, among those in sight
+abbrev pub checked_heading : Scopes → (ℕ → Option Bool) → Function → Checked (Unit {0})
+checked_heading s names f =
+    where_so (not (is_library_name (name_at s.names f.name)) && fits s.functions (names f.name) f) (no_name f.place) (Good tt)
+
+abbrev pub decl_or : Option Denoted → ℕ → ℕ
+decl_or None n = n
+decl_or (Some d) n = d.decl
+
+abbrev pub is_defined : Option Denoted → Bool
+is_defined None = false
+is_defined (Some d) = d.defined
+
+-- what a declaration tells its callers, by what its name denotes
+abbrev pub declared : Option Denoted → Function → Signature
+declared o f = record { name = f.name; decl = decl_or o f.place.offset; defined = is_defined o; params = types_of f.params; result = f.result }
+
+-- what is in sight behind a function's heading
+abbrev pub with_function : (ℕ → Option Denoted) → Scopes → Function → Scopes
+with_function numbers s f = record s { functions = s.functions ++ declared (numbers f.name) f ∷ [] }
+
+-- ---- functions
+
+abbrev pub checked_parameters : Scopes → List Declaration → Checked (Unit {0})
+checked_parameters s [] = Good tt
+checked_parameters s (d ∷ ds) = one_part (typed_parameter s d) (λ d. checked_parameters (with_parameter s d) ds)
+
+-- the parameters and the body of a function that is in sight
+abbrev pub checked_parts : Scopes → Function → Checked Function
+checked_parts s f =
+    one_part (checked_parameters s f.params) (λ u.
+    one_part (typed_body (with_parameters s f.params) f.result f.body) (λ b. Good (record f { body = b })))
+
+abbrev pub checked_function : (ℕ → Option Denoted) → (ℕ → Option Bool) → Scopes → Function → Checked Function
+checked_function numbers names s f = one_part (checked_heading s names f) (λ u. checked_parts (with_function numbers s f) f)
+
+abbrev pub checked_functions : (ℕ → Option Denoted) → (ℕ → Option Bool) → Scopes → List Function → Checked (List Function)
+checked_functions numbers names s [] = Good []
+checked_functions numbers names s (f ∷ fs) =
+    one_part (checked_function numbers names s f) (λ t.
+    one_part (checked_functions numbers (with_known names f) (with_function numbers s f) fs) (λ ts. Good (t ∷ ts)))
+
+-- a function that is in sight, with the names and types of its annotations
+abbrev pub noted_parts : Scopes → Function → Checked Function
+noted_parts s f = one_part (noted_body (with_parameters s f.params) f.body) (λ b. Good (record f { body = b }))
+
+abbrev pub noted_in_turn : (ℕ → Option Denoted) → Scopes → List Function → Checked (List Function)
+noted_in_turn numbers s [] = Good []
+noted_in_turn numbers s (f ∷ fs) =
+    one_part (noted_parts (with_function numbers s f) f) (λ t. one_part (noted_in_turn numbers (with_function numbers s f) fs) (λ ts. Good (t ∷ ts)))

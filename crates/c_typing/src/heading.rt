@@ -1,0 +1,188 @@
+//! Headings of functions: what each name denotes, which declarations of one name fit each other, and what each tells its callers
+//! (C99 6.2.1, 6.7.5.3, 6.9).
+
+ghost use Rattle.std.specs.Prelude.{◌≡◌, ℕ, IfOk, OnOk, map, nat_eq};
+ghost use Rattle.indexmap.specs.IndexMap.{get};
+ghost use Rattle.c_syntax.specs.Ctypes.{plain_type};
+ghost use Rattle.c_syntax.specs.Statements.{plain_decl};
+ghost use Rattle.c_syntax.specs.Programs.{plain_func};
+ghost use Rattle.c_model.specs.Typing.{function_called};
+ghost use Rattle.c_model.specs.ProgramTyping.{same_types, types_of};
+ghost use Rattle.c_type_rules.specs.Answers.{Answers};
+ghost use Rattle.c_type_rules.specs.Scopes.{plain_scopes, plain_signature};
+ghost use Rattle.c_typing.specs.Functions.{checked_heading, declared, denoted, fits, fits_first, tells_more, was_defined, with_function, with_known, with_told};
+
+use c_syntax::{CType, Decl, Func};
+use c_type_rules::conversion::{copy_type, same_type};
+use c_type_rules::fault::{TypeFault, no_name};
+use c_type_rules::library::is_library_name;
+use c_type_rules::scope::{Scopes, Signature, function_called, name_at};
+use indexmap::IndexMap;
+use std::alloc::{AllocError, Global};
+
+/// What a call of a name denotes: the number of its definition, or of its first prototype where the file has no definition.
+#[derive(Clone, Copy, PartialEq, Eq, Debug)]
+pub struct Denoted {
+    pub decl: u32,
+    pub defined: bool,
+}
+
+/// Whether a function tells more of its name than those before it: it is the first, or the first definition.
+fn tells_more(numbers: &IndexMap<u32, Denoted>, f: &Func) -> bool
+    ensures { result ≡ tells_more (get nat_eq numbers.now f.now.name) (plain_func f.now) }
+{
+    match numbers.get(&f.name) {
+        None => true,
+        Some(d) => f.body.is_some() && !d.defined,
+    }
+}
+
+/// Keeps what a function tells of its name.
+fn tell(numbers: &mut IndexMap<u32, Denoted>, f: &Func) -> Result<(), AllocError>
+    ensures { OnOk result ((x : ℕ) → get nat_eq numbers.new x ≡ with_told (get nat_eq numbers.old) (plain_func f.now) x) }
+{
+    if tells_more(numbers, f) {
+        let denoted = Denoted {
+            decl: f.place.offset,
+            defined: f.body.is_some(),
+        };
+        numbers.insert(f.name, denoted)?;
+    }
+    Ok(())
+}
+
+/// What each name of a function denotes.
+pub fn denoted(alloc: Global, funcs: &[Func]) -> Result<IndexMap<u32, Denoted>, AllocError>
+    ensures { IfOk result (λ m. (x : ℕ) → get nat_eq m x ≡ denoted (map plain_func funcs.now) x) }
+{
+    let mut numbers = IndexMap::new(alloc);
+    for f in funcs {
+        tell(&mut numbers, f)?;
+    }
+    Ok(numbers)
+}
+
+/// Whether parameters have these types.
+fn same_types(types: &[CType], params: &[Decl]) -> bool
+    ensures { result ≡ same_types (map plain_type types.now) (types_of (map plain_decl params.now)) }
+{
+    let mut left = types;
+    let mut right = params;
+    'turn: while let [t, types_behind @ ..] = left {
+        let [d, params_behind @ ..] = right else {
+            return false;
+        };
+        if !same_type(t, &d.ctype) {
+            return false;
+        }
+        left = types_behind;
+        right = params_behind;
+    }
+    right.is_empty()
+}
+
+/// Whether a function has the type of the first that is declared under its name (C99 6.7 p4).
+fn fits_first(before: &[Signature], f: &Func) -> bool
+    ensures { result ≡ fits_first (function_called f.now.name (map plain_signature before.now)) (plain_func f.now) }
+{
+    match function_called(before, f.name) {
+        None => true,
+        Some(g) => same_type(&g.result, &f.result) && same_types(&g.params, &f.params),
+    }
+}
+
+/// Whether a function fits those that are declared before it: it has their type, and is defined once (C99 6.7 p4, 6.9 p5).
+fn fits(before: &[Signature], names: &IndexMap<u32, bool>, f: &Func) -> bool
+    ensures { result ≡ fits (map plain_signature before.now) (get nat_eq names.now f.now.name) (plain_func f.now) }
+{
+    match names.get(&f.name) {
+        None => true,
+        Some(defined) => fits_first(before, f) && !(f.body.is_some() && *defined),
+    }
+}
+
+/// A function's name: none of the library's, and fitting those that are declared before it.
+pub fn check_heading(
+    scopes: &Scopes,
+    names: &IndexMap<u32, bool>,
+    f: &Func,
+) -> Result<(), TypeFault>
+    ensures { Answers (λ _. tt) (checked_heading (plain_scopes scopes.now) (get nat_eq names.now) (plain_func f.now)) result }
+{
+    if is_library_name(name_at(&scopes.names, f.name)) {
+        return Err(no_name(f.place));
+    }
+    if fits(&scopes.functions, names, f) {
+        Ok(())
+    } else {
+        Err(no_name(f.place))
+    }
+}
+
+/// Whether a name is defined so far.
+fn was_defined(names: &IndexMap<u32, bool>, name: u32) -> bool
+    ensures { result ≡ was_defined (get nat_eq names.now name) }
+{
+    match names.get(&name) {
+        None => false,
+        Some(defined) => *defined,
+    }
+}
+
+/// Keeps that a function's name is declared, and whether it is defined.
+pub fn note_name(names: &mut IndexMap<u32, bool>, f: &Func) -> Result<(), AllocError>
+    ensures { OnOk result ((x : ℕ) → get nat_eq names.new x ≡ with_known (get nat_eq names.old) (plain_func f.now) x) }
+{
+    let defined = was_defined(names, f.name) || f.body.is_some();
+    names.insert(f.name, defined)?;
+    Ok(())
+}
+
+/// The types of parameters.
+fn types_of(alloc: Global, params: &[Decl]) -> Result<Vec<CType>, AllocError>
+    ensures { IfOk result (λ v. map plain_type v.items ≡ types_of (map plain_decl params.now)) }
+{
+    let mut types = Vec::new(alloc);
+    for d in params {
+        types.push(copy_type(&d.ctype))?;
+    }
+    Ok(types)
+}
+
+/// What a function tells its callers.
+fn signature(
+    alloc: Global,
+    numbers: &IndexMap<u32, Denoted>,
+    f: &Func,
+) -> Result<Signature, AllocError>
+    ensures { IfOk result (λ s. plain_signature s ≡ declared (get nat_eq numbers.now f.now.name) (plain_func f.now)) }
+{
+    let denoted = match numbers.get(&f.name) {
+        Some(d) => *d,
+        None => Denoted {
+            decl: f.place.offset,
+            defined: false,
+        },
+    };
+    Ok(Signature {
+        name: f.name,
+        decl: denoted.decl,
+        defined: denoted.defined,
+        params: types_of(alloc, &f.params)?,
+        result: copy_type(&f.result),
+    })
+}
+
+/// Brings a function in sight: of itself, and of those behind it (C99 6.2.1 p7).
+pub fn see_function(
+    alloc: Global,
+    scopes: &mut Scopes,
+    numbers: &IndexMap<u32, Denoted>,
+    f: &Func,
+) -> Result<(), AllocError>
+    ensures { OnOk result (plain_scopes scopes.new ≡ with_function (get nat_eq numbers.now) (plain_scopes scopes.old) (plain_func f.now)) }
+{
+    let signature = signature(alloc, numbers, f)?;
+    scopes.functions.push(signature)?;
+    Ok(())
+}

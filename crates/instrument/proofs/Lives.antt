@@ -1,0 +1,167 @@
+-- The blocks that live on the stack: what ends of blocks and calls do to their list, and that births and deaths go by it.
+use Rattle.std.proofs.Common.{◌≡◌, ℕ, zero, suc, ◌+◌, ◌<◌, ◌≤◌, Bool, true, false, if◌then◌else◌, nat_le, nat_lt, List, [], ◌∷◌, ◌++◌, length, length-set, pred, Option, Some, None, slice_get, slice_set, refl, sym, ap, ◌∙◌, subst, arith}
+use Rattle.std.proofs.lemmas.Bool.{eq-eqb, le-leb}
+use Rattle.std.proofs.lemmas.Bool.Decides.{nat_tests}
+use Rattle.c_syntax.specs.declared.types.Segment.{Segment}
+use Rattle.c_syntax.specs.declared.types.Segment.TheVariants as segment
+use Rattle.c_model.specs.Memory.{Block, Store, kill_from, rounded, stack_taken, full_at_stack_birth, standard_sizes, greatest_number}
+use Rattle.mon_syntax.specs.Memories.{is_live_on_stack, youngest_from, youngest, is_index, dead_at, LiveBlock, taken_by}
+use Rattle.mon_syntax.proofs.FlatBlocks.{live_from, live_in, taken-live, dies}
+
+abbrev noted : ℕ → Block → LiveBlock
+noted number b = record { number = number; size = b.size }
+
+-- ---- the oldest ones
+
+-- those with no greater number
+abbrev pub up_to : ℕ → List LiveBlock → List LiveBlock
+up_to n [] = []
+up_to n (b ∷ bs) = if nat_le b.number n then b ∷ up_to n bs else up_to n bs
+
+abbrev pub AllUpTo : ℕ → List LiveBlock → Type 0
+AllUpTo n [] = Unit {0}
+AllUpTo n (b ∷ bs) = (b.number ≤ n) × AllUpTo n bs
+
+abbrev pub AllAbove : ℕ → List LiveBlock → Type 0
+AllAbove n [] = Unit {0}
+AllAbove n (b ∷ bs) = (n < b.number) × AllAbove n bs
+
+kept : (n : ℕ) (b : LiveBlock) (bs : List LiveBlock) → b.number ≤ n → up_to n (b ∷ bs) ≡ b ∷ up_to n bs
+kept n b bs le = ap (λ t. if t then b ∷ up_to n bs else up_to n bs) (le-leb b.number n le)
+
+skipped : (n : ℕ) (b : LiveBlock) (bs : List LiveBlock) → n < b.number → up_to n (b ∷ bs) ≡ up_to n bs
+skipped n b bs lt = let e : nat_le b.number n ≡ false = grind (arith, nat_tests) in ap (λ t. if t then b ∷ up_to n bs else up_to n bs) e
+
+pub up_to-all : (n : ℕ) (bs : List LiveBlock) → AllUpTo n bs → up_to n bs ≡ bs
+up_to-all n [] h = refl
+up_to-all n (b ∷ bs) h = kept n b bs h.0 ∙ ap (λ l. b ∷ l) (up_to-all n bs h.1)
+
+pub up_to-behind : (n : ℕ) (xs bs : List LiveBlock) → AllAbove n xs → up_to n (xs ++ bs) ≡ up_to n bs
+up_to-behind n [] bs h = refl
+up_to-behind n (x ∷ xs) bs h = skipped n x (xs ++ bs) h.0 ∙ up_to-behind n xs bs h.1
+
+pub all_up_to-append : (n : ℕ) (xs bs : List LiveBlock) → AllUpTo n xs → AllUpTo n bs → AllUpTo n (xs ++ bs)
+all_up_to-append n [] bs h g = g
+all_up_to-append n (x ∷ xs) bs h g = (h.0, all_up_to-append n xs bs h.1 g)
+
+pub all_up_to-more : (m n : ℕ) (bs : List LiveBlock) → m ≤ n → AllUpTo m bs → AllUpTo n bs
+all_up_to-more m n [] le h = tt
+all_up_to-more m n (b ∷ bs) le h = (omega (arith, le, h.0), all_up_to-more m n bs le h.1)
+
+-- numbers are those of blocks in the store
+numbered : (k : ℕ) (bs : Store) (found : List LiveBlock) → AllUpTo k found → AllUpTo (k + length bs) (live_from k bs found)
+numbered k [] found h = all_up_to-more k (k + 0) found (omega arith) h
+numbered k (b ∷ bs) found h =
+    let e : suc k + length bs ≡ k + suc (length bs) = omega arith in
+    subst (λ n. AllUpTo n (live_from k (b ∷ bs) found)) e (by (λ more. numbered (suc k) bs more) (is_live_on_stack b))
+  where
+    by : ((more : List LiveBlock) → AllUpTo (suc k) more → AllUpTo (suc k + length bs) (live_from (suc k) bs more)) → (t : Bool) → AllUpTo (suc k + length bs) (live_from (suc k) bs (if t then noted (suc k) b ∷ found else found))
+    by go true = go (noted (suc k) b ∷ found) (omega arith, all_up_to-more k (suc k) found (omega arith) h)
+    by go false = go found (all_up_to-more k (suc k) found (omega arith) h)
+
+pub live-numbered : (store : Store) → AllUpTo (length store) (live_in store)
+live-numbered store = subst (λ n. AllUpTo n (live_in store)) (omega arith) (numbered 0 store [] tt)
+
+-- ---- the end of all blocks from a number on
+
+not_live : (b : Block) → is_live_on_stack (record b { live = false }) ≡ false
+not_live b = refl
+
+none_lives : (k : ℕ) (bs : Store) (found : List LiveBlock) → live_from k (kill_from 0 bs) found ≡ found
+none_lives k [] found = refl
+none_lives k (b ∷ bs) found = none_lives (suc k) bs found
+
+later_above : (n k : ℕ) (bs : Store) (found : List LiveBlock) → n ≤ k → up_to n (live_from k bs found) ≡ up_to n found
+later_above n k [] found le = refl
+later_above n k (b ∷ bs) found le = by (λ more. later_above n (suc k) bs more (omega (arith, le))) (is_live_on_stack b)
+  where
+    by : ((more : List LiveBlock) → up_to n (live_from (suc k) bs more) ≡ up_to n more) → (t : Bool) → up_to n (live_from (suc k) bs (if t then noted (suc k) b ∷ found else found)) ≡ up_to n found
+    by go true = go (noted (suc k) b ∷ found) ∙ skipped n (noted (suc k) b) found (omega (arith, le))
+    by go false = go found
+
+killed_from : (k n : ℕ) (bs : Store) (found : List LiveBlock) → live_from k (kill_from n bs) (up_to (k + n) found) ≡ up_to (k + n) (live_from k bs found)
+killed_from k n [] found = refl
+killed_from k zero (b ∷ bs) found = none_lives (suc k) bs (up_to (k + 0) found) ∙ sym (later_above (k + 0) k (b ∷ bs) found (omega arith))
+killed_from k (suc n) (b ∷ bs) found =
+    let number : k + suc n ≡ suc k + n = omega arith in
+    by (λ more. subst (λ m. live_from (suc k) (kill_from n bs) (up_to m more) ≡ up_to m (live_from (suc k) bs more)) (sym number) (killed_from (suc k) n bs more)) (is_live_on_stack b)
+  where
+    by : ((more : List LiveBlock) → live_from (suc k) (kill_from n bs) (up_to (k + suc n) more) ≡ up_to (k + suc n) (live_from (suc k) bs more)) → (t : Bool) → live_from (suc k) (kill_from n bs) (if t then noted (suc k) b ∷ up_to (k + suc n) found else up_to (k + suc n) found) ≡ up_to (k + suc n) (live_from (suc k) bs (if t then noted (suc k) b ∷ found else found))
+    by go true = ap (live_from (suc k) (kill_from n bs)) (sym (kept (k + suc n) (noted (suc k) b) found (omega arith))) ∙ go (noted (suc k) b ∷ found)
+    by go false = go found
+
+pub live-killed : (n : ℕ) (store : Store) → live_in (kill_from n store) ≡ up_to n (live_in store)
+live-killed n store = subst (λ m. live_in (kill_from n store) ≡ up_to m (live_in store)) (omega arith) (killed_from 0 n store [])
+
+pub length-killed : (n : ℕ) (store : Store) → length (kill_from n store) ≡ length store
+length-killed n [] = refl
+length-killed zero (b ∷ bs) = ap suc (length-killed zero bs)
+length-killed (suc n) (b ∷ bs) = ap suc (length-killed n bs)
+
+pub get-killed : (n : ℕ) (store : Store) (j : ℕ) → j < n → slice_get (kill_from n store) j ≡ slice_get store j
+get-killed n [] j lt = refl
+get-killed zero (b ∷ bs) j lt = absurd (omega (arith, lt))
+get-killed (suc n) (b ∷ bs) zero lt = refl
+get-killed (suc n) (b ∷ bs) (suc j) lt = get-killed n bs j (omega (arith, lt))
+
+-- ---- other bytes of a block
+
+set_from : (j : ℕ) (bs : Store) (k : ℕ) (b c : Block) (found : List LiveBlock) → slice_get bs k ≡ Some b → is_live_on_stack b ≡ is_live_on_stack c → b.size ≡ c.size → live_from j (slice_set bs k c) found ≡ live_from j bs found
+set_from j [] k b c found e live size = refl
+set_from j (x ∷ bs) zero b c found e live size =
+    let same : x ≡ b = cc in
+    let alike : is_live_on_stack c ≡ is_live_on_stack x = sym live ∙ ap is_live_on_stack (sym same) in
+    let long : c.size ≡ x.size = sym size ∙ ap (λ (y : Block). y.size) (sym same) in
+    ap (λ t. live_from (suc j) bs (if t then noted (suc j) c ∷ found else found)) alike
+    ∙ ap (λ n. live_from (suc j) bs (if is_live_on_stack x then record { number = suc j; size = n } ∷ found else found)) long
+set_from j (x ∷ bs) (suc k) b c found e live size = set_from (suc j) bs k b c (if is_live_on_stack x then noted (suc j) x ∷ found else found) e live size
+
+pub live-set : (store : Store) (k : ℕ) (b c : Block) → slice_get store k ≡ Some b → is_live_on_stack b ≡ is_live_on_stack c → b.size ≡ c.size → live_in (slice_set store k c) ≡ live_in store
+live-set store k b c e live size = set_from 0 store k b c [] e live size
+
+-- ---- what is full depends on how many blocks there are, and on those that live
+
+-- what is full, where so many were born and so much is taken
+abbrev full_with : ℕ → ℕ → ℕ → Option Segment
+full_with size births taken =
+    if nat_le greatest_number births then Some segment.Numbers
+    else (if nat_lt standard_sizes.stack (taken + rounded size) then Some segment.Stack else None)
+
+pub full-alike : (a b : Store) (size : ℕ) → length a ≡ length b → live_in a ≡ live_in b → full_at_stack_birth standard_sizes a size ≡ full_at_stack_birth standard_sizes b size
+full-alike a b size long live =
+    let taken : stack_taken a ≡ stack_taken b = sym (taken-live a) ∙ ap taken_by live ∙ taken-live b in
+    ap (λ k. full_with size k (stack_taken a)) long ∙ ap (full_with size (length b)) taken
+
+-- ---- the death of the youngest block
+
+-- the index of the youngest block
+abbrev index_of_head : List LiveBlock → Option ℕ
+index_of_head [] = None
+index_of_head (b ∷ bs) = Some (pred b.number)
+
+youngest_is : (k : ℕ) (bs : Store) (found : List LiveBlock) → youngest_from k bs (index_of_head found) ≡ index_of_head (live_from k bs found)
+youngest_is k [] found = refl
+youngest_is k (b ∷ bs) found = by (λ more. youngest_is (suc k) bs more) (is_live_on_stack b)
+  where
+    by : ((more : List LiveBlock) → youngest_from (suc k) bs (index_of_head more) ≡ index_of_head (live_from (suc k) bs more)) → (t : Bool) → youngest_from (suc k) bs (if t then Some k else index_of_head found) ≡ index_of_head (live_from (suc k) bs (if t then noted (suc k) b ∷ found else found))
+    by go true = ap (λ i. youngest_from (suc k) bs (Some i)) (omega arith) ∙ go (noted (suc k) b ∷ found)
+    by go false = go found
+
+-- the store in which the youngest block, whose index this is, is dead
+pub record IsDeleted (store : Store) (k : ℕ) (older : List LiveBlock) : Type 0 where
+  pub index : is_index k (youngest store) ≡ true
+  pub live : live_in (dead_at k (slice_get store k) store) ≡ older
+  pub long : length (dead_at k (slice_get store k) store) ≡ length store
+
+length-dead : (k : ℕ) (o : Option Block) (store : Store) → length (dead_at k o store) ≡ length store
+length-dead k None store = refl
+length-dead k (Some b) store = length-set store k (record b { live = false })
+
+pub deleted : (store : Store) (k size : ℕ) (older : List LiveBlock) → live_in store ≡ record { number = suc k; size = size } ∷ older → IsDeleted store k older
+deleted store k size older e =
+    let young : youngest store ≡ Some k = youngest_is 0 store [] ∙ ap index_of_head e ∙ ap Some (omega arith) in
+    let index : is_index k (youngest store) ≡ true = ap (is_index k) young ∙ eq-eqb k k refl in
+    let d = dies store k index in
+    let same : record { number = suc (0 + k); size = d.size } ∷ d.older ≡ record { number = suc k; size = size } ∷ older = sym d.was ∙ e in
+    let rest : d.older ≡ older = cc in
+    record { index = index; live = d.is ∙ rest; long = length-dead k (slice_get store k) store }

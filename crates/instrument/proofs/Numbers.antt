@@ -1,0 +1,377 @@
+-- Declarations of a function have numbers of their own, so that each variable has its register, and none hides another.
+use Rattle.std.proofs.Common.{◌≡◌, ℕ, suc, ◌<◌, ◌≤◌, true, false, cond, nat_eq, List, [], ◌∷◌, ◌++◌, length, length-append, map, Some, refl, ap, ◌∙◌, subst, arith, append_assoc}
+use Rattle.std.proofs.lemmas.List.{map-append}
+use Rattle.std.proofs.lemmas.Bool.{eq-eqb}
+use Rattle.std.proofs.lemmas.Bool.Decides.{nat_tests}
+use Rattle.std.specs.Prelude.{slice_get}
+use Rattle.c_syntax.specs.Ctypes.{PlainType, Void, Int}
+use Rattle.c_syntax.specs.Statements.{Declaration, Statement, Empty, Eval, Block, If, While, Do, For, Break, Continue, Return, ElsePart, NoElse, Else, ForFirst, NoFirst, First, Declare, Run, Asserts, BlockItems, NoItem, Then}
+use Rattle.c_model.specs.Meaning.{declared_in, declared_first}
+use Rattle.c_model.specs.Formed.{number_of, Ascend, declared_within, declared_in_else, declared_in_first, declared_in_items}
+use Rattle.c_model.specs.Typing.{Scopes, Around, in_loop, inner, with_object, with_objects, is_object_type, behind_first}
+use Rattle.c_model.specs.ProgramTyping.{with_parameter}
+use Rattle.c_model.specs.WellTypedPrograms.{AreDeclared, AreParameters, StatementTyped, ElseTyped, ItemsTyped, FirstTyped}
+use Rattle.instrument.specs.Expressions.{register_of}
+use Rattle.instrument.proofs.Births.{int_of, Absent, AllCanBeBorn}
+use Rattle.instrument.proofs.Declared.{with_numbers, CanDeclare, ElseCanDeclare, ItemsCanDeclare}
+use Rattle.instrument.proofs.Functions.{InOrder}
+
+abbrev pub numbers_in : List Declaration → List ℕ
+numbers_in ds = map number_of ds
+
+-- ---- numbers that ascend, between these
+
+abbrev pub Between : ℕ → List ℕ → ℕ → Type 0
+Between low [] high = low ≤ high
+Between low (n ∷ ns) high = (low ≤ n) × Between (suc n) ns high
+
+-- a list with a number above it
+pub record IsBounded (low : ℕ) (ns : List ℕ) : Type 0 where
+  pub high : ℕ
+  pub is : Between low ns high
+
+pub bounded : (low : ℕ) (ns : List ℕ) → Ascend low ns → IsBounded low ns
+bounded low [] h = record { high = low; is = omega arith }
+bounded low (n ∷ ns) h = let b = bounded (suc n) ns h.1 in record { high = b.high; is = (h.0, b.is) }
+
+pub in_bounds : (low high : ℕ) (ns : List ℕ) → Between low ns high → low ≤ high
+in_bounds low high [] h = h
+in_bounds low high (n ∷ ns) h = let le = in_bounds (suc n) high ns h.1 in omega (arith, le, h.0)
+
+-- two parts, one behind the other
+pub record IsParted (low : ℕ) (a b : List ℕ) (high : ℕ) : Type 0 where
+  pub middle : ℕ
+  pub front : Between low a middle
+  pub back : Between middle b high
+
+pub parted : (low high : ℕ) (a b : List ℕ) → Between low (a ++ b) high → IsParted low a b high
+parted low high [] b h = record { middle = low; front = omega arith; back = h }
+parted low high (n ∷ a) b h = let x = parted (suc n) high a b h.1 in record { middle = x.middle; front = (h.0, x.front); back = x.back }
+
+pub parted_in : (low high : ℕ) (ds es : List Declaration) → Between low (numbers_in (ds ++ es)) high → IsParted low (numbers_in ds) (numbers_in es) high
+parted_in low high ds es h = parted low high (numbers_in ds) (numbers_in es) (subst (λ l. Between low l high) (map-append number_of ds es) h)
+
+from_lower : (low middle high : ℕ) (ns : List ℕ) → low ≤ middle → Between middle ns high → Between low ns high
+from_lower low middle high [] le h = omega (arith, le, h)
+from_lower low middle high (n ∷ ns) le h = (omega (arith, le, h.0), h.1)
+
+to_higher : (low middle high : ℕ) (ns : List ℕ) → middle ≤ high → Between low ns middle → Between low ns high
+to_higher low middle high [] le h = omega (arith, le, h)
+to_higher low middle high (n ∷ ns) le h = (h.0, to_higher (suc n) middle high ns le h.1)
+
+-- ---- registers of declarations
+
+-- a number has its place in the list
+abbrev pub Listed : List ℕ → Declaration → Type 0
+Listed numbers d = slice_get numbers (register_of numbers (number_of d)) ≡ Some (number_of d)
+
+abbrev pub AllListed : List ℕ → List Declaration → Type 0
+AllListed numbers [] = Unit {0}
+AllListed numbers (d ∷ ds) = Listed numbers d × AllListed numbers ds
+
+pub listed_front : (numbers : List ℕ) (ds es : List Declaration) → AllListed numbers (ds ++ es) → AllListed numbers ds
+listed_front numbers [] es h = tt
+listed_front numbers (d ∷ ds) es h = (h.0, listed_front numbers ds es h.1)
+
+pub listed_back : (numbers : List ℕ) (ds es : List Declaration) → AllListed numbers (ds ++ es) → AllListed numbers es
+listed_back numbers [] es h = h
+listed_back numbers (d ∷ ds) es h = listed_back numbers ds es h.1
+
+-- where the numbers in front are less
+abbrev pub AllLess : ℕ → List ℕ → Type 0
+AllLess n [] = Unit {0}
+AllLess n (m ∷ ms) = (m < n) × AllLess n ms
+
+less_more : (n m : ℕ) (ms : List ℕ) → n ≤ m → AllLess n ms → AllLess m ms
+less_more n m [] le h = tt
+less_more n m (i ∷ ms) le h = (omega (arith, le, h.0), less_more n m ms le h.1)
+
+less_end : (n : ℕ) (ms : List ℕ) (m : ℕ) → m < n → AllLess n ms → AllLess n (ms ++ m ∷ [])
+less_end n [] m lt h = (lt, tt)
+less_end n (i ∷ ms) m lt h = (h.0, less_end n ms m lt h.1)
+
+place_is : (front rest : List ℕ) (n : ℕ) → AllLess n front → register_of (front ++ n ∷ rest) n ≡ length front
+place_is [] rest n h = ap (λ t. cond t 0 (suc (register_of rest n))) (eq-eqb n n refl)
+place_is (m ∷ front) rest n h =
+    let lt = h.0 in
+    let differs : nat_eq m n ≡ false = grind (arith, nat_tests) in
+    ap (λ t. cond t 0 (suc (register_of (front ++ n ∷ rest) n))) differs ∙ ap suc (place_is front rest n h.1)
+
+get_place : (front rest : List ℕ) (n : ℕ) → slice_get (front ++ n ∷ rest) (length front) ≡ Some n
+get_place [] rest n = refl
+get_place (m ∷ front) rest n = get_place front rest n
+
+-- declarations in their order, behind these numbers
+pub record ArePlaced (numbers : List ℕ) (j : ℕ) (ds : List Declaration) : Type 0 where
+  pub listed : AllListed numbers ds
+  pub in_order : InOrder numbers j ds
+
+pub placed : (front : List ℕ) (ds : List Declaration) (low high : ℕ) → AllLess low front → Between low (numbers_in ds) high → ArePlaced (front ++ numbers_in ds) (length front) ds
+placed front [] low high less h = record { listed = tt; in_order = tt }
+placed front (d ∷ ds) low high less h =
+    let n = number_of d in
+    let below : AllLess n front = less_more low n front h.0 less in
+    let whole : front ++ n ∷ [] ++ numbers_in ds ≡ front ++ (n ∷ numbers_in ds) = append_assoc front (n ∷ []) (numbers_in ds) in
+    let long : length (front ++ n ∷ []) ≡ suc (length front) = length-end front n in
+    let rest : ArePlaced (front ++ (n ∷ numbers_in ds)) (suc (length front)) ds =
+        subst (λ j. ArePlaced (front ++ (n ∷ numbers_in ds)) j ds) long
+        (subst (λ l. ArePlaced l (length (front ++ n ∷ [])) ds) whole (placed (front ++ n ∷ []) ds (suc n) high (less_end (suc n) front n (omega arith) (less_more n (suc n) front (omega arith) below)) h.1)) in
+    record {
+      listed = (ap (slice_get (front ++ (n ∷ numbers_in ds))) (place_is front (numbers_in ds) n below) ∙ get_place front (numbers_in ds) n, rest.listed);
+      in_order = (place_is front (numbers_in ds) n below, rest.in_order);
+    }
+  where
+    length-end : (l : List ℕ) (m : ℕ) → length (l ++ m ∷ []) ≡ suc (length l)
+    length-end l m = length-append l (m ∷ []) ∙ omega arith
+
+-- ---- numbers outside an interval
+
+pub data IsOutside (low high x : ℕ) : Type 0 where
+  Under : x < low → IsOutside low high x
+  Over : high ≤ x → IsOutside low high x
+
+abbrev pub AllOutside : ℕ → ℕ → List ℕ → Type 0
+AllOutside low high [] = Unit {0}
+AllOutside low high (x ∷ xs) = IsOutside low high x × AllOutside low high xs
+
+narrower : (low low2 high high2 x : ℕ) → low ≤ low2 → high2 ≤ high → IsOutside low high x → IsOutside low2 high2 x
+narrower low low2 high high2 x le le2 (Under lt) = Under (omega (arith, le, lt))
+narrower low low2 high high2 x le le2 (Over ge) = Over (omega (arith, le2, ge))
+
+all_narrower : (low low2 high high2 : ℕ) (xs : List ℕ) → low ≤ low2 → high2 ≤ high → AllOutside low high xs → AllOutside low2 high2 xs
+all_narrower low low2 high high2 [] le le2 h = tt
+all_narrower low low2 high high2 (x ∷ xs) le le2 h = (narrower low low2 high high2 x le le2 h.0, all_narrower low low2 high high2 xs le le2 h.1)
+
+outside_differs : (low high n x : ℕ) → low ≤ n → n < high → IsOutside low high x → nat_eq x n ≡ false
+outside_differs low high n x le lt (Under h) = grind (arith, nat_tests)
+outside_differs low high n x le lt (Over h) = grind (arith, nat_tests)
+
+outside_absent : (low high n : ℕ) (xs : List ℕ) → low ≤ n → n < high → AllOutside low high xs → Absent n xs
+outside_absent low high n [] le lt h = tt
+outside_absent low high n (x ∷ xs) le lt h = (outside_differs low high n x le lt h.0, outside_absent low high n xs le lt h.1)
+
+-- ---- objects
+
+abbrev pub IsObject : Declaration → Type 0
+IsObject d = d.ctype ≡ Int (int_of d.ctype)
+
+abbrev pub AreObjects : List Declaration → Type 0
+AreObjects [] = Unit {0}
+AreObjects (d ∷ ds) = IsObject d × AreObjects ds
+
+object_int : (t : PlainType) → is_object_type t ≡ true → t ≡ Int (int_of t)
+object_int Void e = absurd cc
+object_int (Int k) e = refl
+
+objects_behind : (a b : List Declaration) → AreObjects a → AreObjects b → AreObjects (a ++ b)
+objects_behind [] b h k = k
+objects_behind (d ∷ a) b h k = (h.0, objects_behind a b h.1 k)
+
+pub declared_objects : (s : Scopes) (ds : List Declaration) → AreDeclared s ds → AreObjects ds
+declared_objects s [] k = tt
+declared_objects s (d ∷ ds) k = (object_int d.ctype k.0.ctype, declared_objects (with_object s d) ds k.1)
+
+pub items_objects : (s : Scopes) (r : Around) (is : BlockItems) → ItemsTyped s r is → AreObjects (declared_in is)
+items_objects s r NoItem q = tt
+items_objects s r (Then (Declare ds) rest) q = objects_behind ds (declared_in rest) (declared_objects s ds q.0) (items_objects (with_objects s ds) r rest q.1)
+items_objects s r (Then (Run a) rest) q = items_objects s r rest q.1
+items_objects s r (Then (Asserts annots) rest) q = items_objects s r rest q.1
+
+pub parameter_objects : (s : Scopes) (ds : List Declaration) → AreParameters s ds → AreObjects ds
+parameter_objects s [] k = tt
+parameter_objects s (d ∷ ds) k = (object_int d.ctype k.0.ctype, parameter_objects (with_parameter s d) ds k.1)
+
+-- ---- births
+
+pub all_can_be_born : (numbers : List ℕ) (ds : List Declaration) (low high : ℕ) (living : List ℕ) → Between low (numbers_in ds) high → AllOutside low high living → AreObjects ds → AllListed numbers ds → AllCanBeBorn numbers living ds
+all_can_be_born numbers [] low high living b h o l = tt
+all_can_be_born numbers (d ∷ ds) low high living b h o l =
+    let n = number_of d in
+    let le = in_bounds (suc n) high (numbers_in ds) b.1 in
+    (record { object = o.0; listed = l.0; new = outside_absent low high n living b.0 (omega (arith, le)) h },
+    all_can_be_born numbers ds (suc n) high (n ∷ living) b.1 (Under (omega arith), all_narrower low (suc n) high high living (omega (arith, b.0)) (omega arith) h) o.1 l.1)
+
+-- the declarations of a block are some of those in its items
+own_between : (is : BlockItems) (low high : ℕ) → Between low (numbers_in (declared_in_items is)) high → Between low (numbers_in (declared_in is)) high
+own_between NoItem low high h = h
+own_between (Then (Declare ds) rest) low high h =
+    let x = parted_in low high ds (declared_in_items rest) h in
+    joined low x.middle high ds (declared_in rest) x.front (own_between rest x.middle high x.back)
+  where
+    joined : (low middle high : ℕ) (ds es : List Declaration) → Between low (numbers_in ds) middle → Between middle (numbers_in es) high → Between low (numbers_in (ds ++ es)) high
+    joined low middle high [] es a b = from_lower low middle high (numbers_in es) a b
+    joined low middle high (d ∷ ds) es a b = (a.0, joined (suc (number_of d)) middle high ds es a.1 b)
+own_between (Then (Run a) rest) low high h =
+    let x = parted_in low high (declared_within a) (declared_in_items rest) h in
+    from_lower low x.middle high (numbers_in (declared_in rest)) (in_bounds low x.middle (numbers_in (declared_within a)) x.front) (own_between rest x.middle high x.back)
+own_between (Then (Asserts annots) rest) low high h = own_between rest low high h
+
+own_listed : (numbers : List ℕ) (is : BlockItems) → AllListed numbers (declared_in_items is) → AllListed numbers (declared_in is)
+own_listed numbers NoItem h = tt
+own_listed numbers (Then (Declare ds) rest) h = both ds (declared_in rest) (listed_front numbers ds (declared_in_items rest) h) (own_listed numbers rest (listed_back numbers ds (declared_in_items rest) h))
+  where
+    both : (a b : List Declaration) → AllListed numbers a → AllListed numbers b → AllListed numbers (a ++ b)
+    both [] b x y = y
+    both (d ∷ a) b x y = (x.0, both a b x.1 y)
+own_listed numbers (Then (Run a) rest) h = own_listed numbers rest (listed_back numbers (declared_within a) (declared_in_items rest) h)
+own_listed numbers (Then (Asserts annots) rest) h = own_listed numbers rest h
+
+-- ---- what lives where the items of a block are: numbers outside theirs, and those of the block itself
+
+pub data Either (A B : Type 0) : Type 0 where
+  IsFirst : A → Either A B
+  IsSecond : B → Either A B
+
+abbrev pub IsOf : ℕ → List Declaration → Type 0
+IsOf x [] = ⊥
+IsOf x (d ∷ ds) = Either (number_of d ≡ x) (IsOf x ds)
+
+pub data Lives (low high : ℕ) (ds : List Declaration) (x : ℕ) : Type 0 where
+  IsFar : IsOutside low high x → Lives low high ds x
+  IsOwn : IsOf x ds → Lives low high ds x
+
+abbrev pub AllLive : ℕ → ℕ → List Declaration → List ℕ → Type 0
+AllLive low high ds [] = Unit {0}
+AllLive low high ds (x ∷ xs) = Lives low high ds x × AllLive low high ds xs
+
+of_outside : (x : ℕ) (ds : List Declaration) (low high low2 : ℕ) → Between low (numbers_in ds) high → low2 ≤ low → IsOf x ds → low2 ≤ x
+of_outside x [] low high low2 b le h = absurd h
+of_outside x (d ∷ ds) low high low2 b le (IsFirst e) = omega (arith, b.0, le, e)
+of_outside x (d ∷ ds) low high low2 b le (IsSecond h) = of_outside x ds (suc (number_of d)) high low2 b.1 (omega (arith, b.0, le)) h
+
+of_below : (x : ℕ) (ds : List Declaration) (low high : ℕ) → Between low (numbers_in ds) high → IsOf x ds → x < high
+of_below x [] low high b h = absurd h
+of_below x (d ∷ ds) low high b (IsFirst e) = let le = in_bounds (suc (number_of d)) high (numbers_in ds) b.1 in omega (arith, e, le)
+of_below x (d ∷ ds) low high b (IsSecond h) = of_below x ds (suc (number_of d)) high b.1 h
+
+of_append : (x : ℕ) (a b : List Declaration) → IsOf x (a ++ b) → Either (IsOf x a) (IsOf x b)
+of_append x [] b h = IsSecond h
+of_append x (d ∷ a) b (IsFirst e) = IsFirst (IsFirst e)
+of_append x (d ∷ a) b (IsSecond h) = by (of_append x a b h)
+  where
+    by : Either (IsOf x a) (IsOf x b) → Either (IsOf x (d ∷ a)) (IsOf x b)
+    by (IsFirst i) = IsFirst (IsSecond i)
+    by (IsSecond i) = IsSecond i
+
+-- in front of the other items, among which the block's other declarations are
+module _ (low middle high : ℕ) (le : low ≤ middle) (le2 : middle ≤ high) where
+  far_front : (rest : BlockItems) → Between middle (numbers_in (declared_in rest)) high → (xs : List ℕ) → AllLive low high (declared_in rest) xs → AllOutside low middle xs
+  far_front rest b [] h = tt
+  far_front rest b (x ∷ xs) h = (by h.0, far_front rest b xs h.1)
+    where
+      by : Lives low high (declared_in rest) x → IsOutside low middle x
+      by (IsFar o) = narrower low low high middle x (omega arith) le2 o
+      by (IsOwn i) = Over (of_outside x (declared_in rest) middle high middle b (omega arith) i)
+
+  live_back : (ds : List Declaration) (xs : List ℕ) → AllLive low high ds xs → AllLive middle high ds xs
+  live_back ds [] h = tt
+  live_back ds (x ∷ xs) h = (by h.0, live_back ds xs h.1)
+    where
+      by : Lives low high ds x → Lives middle high ds x
+      by (IsFar o) = IsFar (narrower low middle high high x le (omega arith) o)
+      by (IsOwn i) = IsOwn i
+
+  -- behind declarations of the block
+  live_behind : (ds es : List Declaration) → Between low (numbers_in ds) middle → (xs : List ℕ) → AllLive low high (ds ++ es) xs → AllLive middle high es xs
+  live_behind ds es b [] h = tt
+  live_behind ds es b (x ∷ xs) h = (by h.0, live_behind ds es b xs h.1)
+    where
+      split : Either (IsOf x ds) (IsOf x es) → Lives middle high es x
+      split (IsFirst i) = IsFar (Under (of_below x ds low middle b i))
+      split (IsSecond i) = IsOwn i
+
+      by : Lives low high (ds ++ es) x → Lives middle high es x
+      by (IsFar o) = IsFar (narrower low middle high high x le (omega arith) o)
+      by (IsOwn i) = split (of_append x ds es i)
+
+-- behind the births of a block
+outside_live : (low high : ℕ) (ds : List Declaration) (xs : List ℕ) → AllOutside low high xs → AllLive low high ds xs
+outside_live low high ds [] h = tt
+outside_live low high ds (x ∷ xs) h = (IsFar h.0, outside_live low high ds xs h.1)
+
+born_live : (low high : ℕ) (all : List Declaration) (ds : List Declaration) (xs : List ℕ) → ((x : ℕ) → IsOf x ds → IsOf x all) → AllLive low high all xs → AllLive low high all (with_numbers ds xs)
+born_live low high all [] xs among h = h
+born_live low high all (d ∷ ds) xs among h = born_live low high all ds (number_of d ∷ xs) (λ x i. among x (IsSecond i)) (IsOwn (among (number_of d) (IsFirst refl)), h)
+
+-- declarations that lie under an interval, and what lived outside it
+pub born_outside : (low high low2 high2 : ℕ) (ds : List Declaration) (xs : List ℕ) → Between low2 (numbers_in ds) high2 → high2 ≤ low → AllOutside low high xs → AllOutside low high (with_numbers ds xs)
+born_outside low high low2 high2 [] xs b le h = h
+born_outside low high low2 high2 (d ∷ ds) xs b le h =
+    let top = in_bounds (suc (number_of d)) high2 (numbers_in ds) b.1 in
+    born_outside low high (suc (number_of d)) high2 ds (number_of d ∷ xs) b.1 le (Under (omega (arith, top, le)), h)
+
+-- ---- statements
+
+module _ (numbers : List ℕ) where
+  first_between : (first : ForFirst) (low high : ℕ) → Between low (numbers_in (declared_in_first first)) high → Between low (numbers_in (declared_first first)) high
+  first_between NoFirst low high b = b
+  first_between (First (Declare ds)) low high b = b
+  first_between (First (Run a)) low high b = in_bounds low high (numbers_in (declared_within a)) b
+  first_between (First (Asserts annots)) low high b = b
+
+  first_listed : (first : ForFirst) → AllListed numbers (declared_in_first first) → AllListed numbers (declared_first first)
+  first_listed NoFirst l = tt
+  first_listed (First (Declare ds)) l = l
+  first_listed (First (Run a)) l = tt
+  first_listed (First (Asserts annots)) l = tt
+
+  first_objects : (first : ForFirst) (s : Scopes) (r : Around) → FirstTyped s r first → AreObjects (declared_first first)
+  first_objects NoFirst s r q = tt
+  first_objects (First (Declare ds)) s r q = declared_objects s ds q
+  first_objects (First (Run a)) s r q = tt
+  first_objects (First (Asserts annots)) s r q = tt
+
+  mutual
+    pub can_declare : (a : Statement) (s : Scopes) (r : Around) (low high : ℕ) (living : List ℕ) → StatementTyped s r a → Between low (numbers_in (declared_within a)) high → AllOutside low high living → AllListed numbers (declared_within a) → CanDeclare numbers living a
+    can_declare (Empty at) s r low high living q b o l = tt
+    can_declare (Eval at e) s r low high living q b o l = tt
+    can_declare (Block at is) s r low high living q b o l =
+        let own = declared_in is in
+        (all_can_be_born numbers own low high living (own_between is low high b) o (items_objects (inner s) r is q) (own_listed numbers is l),
+        items_can_declare is (inner s) r low high (with_numbers own living) q b (born_live low high own own living (λ x i. i) (outside_live low high own living o)) l)
+    can_declare (If at e x y) s r low high living q b o l =
+        let p = parted_in low high (declared_within x) (declared_in_else y) b in
+        (can_declare x s r low p.middle living q.1 p.front (all_narrower low low high p.middle living (omega arith) (in_bounds p.middle high (numbers_in (declared_in_else y)) p.back) o) (listed_front numbers (declared_within x) (declared_in_else y) l),
+        else_can_declare y s r p.middle high living q.2 p.back (all_narrower low p.middle high high living (in_bounds low p.middle (numbers_in (declared_within x)) p.front) (omega arith) o) (listed_back numbers (declared_within x) (declared_in_else y) l))
+    can_declare (While at annots e x) s r low high living q b o l = can_declare x s (in_loop r) low high living q.1 b o l
+    can_declare (Do at x e) s r low high living q b o l = can_declare x s (in_loop r) low high living q.0 b o l
+    can_declare (For at annots first e step x) s r low high living q b o l =
+        let p = parted_in low high (declared_in_first first) (declared_within x) b in
+        let f = first_between first low p.middle p.front in
+        (all_can_be_born numbers (declared_first first) low p.middle living f (all_narrower low low high p.middle living (omega arith) (in_bounds p.middle high (numbers_in (declared_within x)) p.back) o) (first_objects first (inner s) r q.0) (first_listed first (listed_front numbers (declared_in_first first) (declared_within x) l)),
+        can_declare x (behind_first (inner s) first) (in_loop r) p.middle high (with_numbers (declared_first first) living) q.3 p.back
+        (born_outside p.middle high low p.middle (declared_first first) living f (omega arith) (all_narrower low p.middle high high living (in_bounds low p.middle (numbers_in (declared_in_first first)) p.front) (omega arith) o))
+        (listed_back numbers (declared_in_first first) (declared_within x) l))
+    can_declare (Break at) s r low high living q b o l = tt
+    can_declare (Continue at) s r low high living q b o l = tt
+    can_declare (Return at e) s r low high living q b o l = tt
+
+    pub else_can_declare : (b : ElsePart) (s : Scopes) (r : Around) (low high : ℕ) (living : List ℕ) → ElseTyped s r b → Between low (numbers_in (declared_in_else b)) high → AllOutside low high living → AllListed numbers (declared_in_else b) → ElseCanDeclare numbers living b
+    else_can_declare NoElse s r low high living q b o l = tt
+    else_can_declare (Else a) s r low high living q b o l = can_declare a s r low high living q b o l
+
+    pub items_can_declare : (is : BlockItems) (s : Scopes) (r : Around) (low high : ℕ) (living : List ℕ) → ItemsTyped s r is → Between low (numbers_in (declared_in_items is)) high → AllLive low high (declared_in is) living → AllListed numbers (declared_in_items is) → ItemsCanDeclare numbers living is
+    items_can_declare NoItem s r low high living q b o l = tt
+    items_can_declare (Then (Declare ds) rest) s r low high living q b o l =
+        let p = parted_in low high ds (declared_in_items rest) b in
+        (tt, items_can_declare rest (with_objects s ds) r p.middle high living q.1 p.back
+        (live_behind low p.middle high (in_bounds low p.middle (numbers_in ds) p.front) (in_bounds p.middle high (numbers_in (declared_in_items rest)) p.back) ds (declared_in rest) p.front living o)
+        (listed_back numbers ds (declared_in_items rest) l))
+    items_can_declare (Then (Run a) rest) s r low high living q b o l =
+        let p = parted_in low high (declared_within a) (declared_in_items rest) b in
+        let le = in_bounds low p.middle (numbers_in (declared_within a)) p.front in
+        let le2 = in_bounds p.middle high (numbers_in (declared_in_items rest)) p.back in
+        (can_declare a s r low p.middle living q.0 p.front (far_front low p.middle high le le2 rest (own_between rest p.middle high p.back) living o) (listed_front numbers (declared_within a) (declared_in_items rest) l),
+        items_can_declare rest s r p.middle high living q.1 p.back (live_back low p.middle high le le2 (declared_in rest) living o) (listed_back numbers (declared_within a) (declared_in_items rest) l))
+    items_can_declare (Then (Asserts annots) rest) s r low high living q b o l = (tt, items_can_declare rest s r low high living q.1 b o l)
+
+  -- the items of a body, whose scope is the function's
+  pub body_can_declare : (is : BlockItems) (s : Scopes) (r : Around) (low high : ℕ) (living : List ℕ) → ItemsTyped s r is → Between low (numbers_in (declared_in_items is)) high → AllOutside low high living → AllListed numbers (declared_in_items is) → AllCanBeBorn numbers living (declared_in is) × ItemsCanDeclare numbers (with_numbers (declared_in is) living) is
+  body_can_declare is s r low high living q b o l =
+      let own = declared_in is in
+      (all_can_be_born numbers own low high living (own_between is low high b) o (items_objects s r is q) (own_listed numbers is l),
+      items_can_declare is s r low high (with_numbers own living) q b (born_live low high own own living (λ x i. i) (outside_live low high own living o)) l)
+
+pub in_order_front : (numbers : List ℕ) (j : ℕ) (ds es : List Declaration) → InOrder numbers j (ds ++ es) → InOrder numbers j ds
+in_order_front numbers j [] es h = tt
+in_order_front numbers j (d ∷ ds) es h = (h.0, in_order_front numbers (suc j) ds es h.1)

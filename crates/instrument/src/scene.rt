@@ -1,0 +1,19 @@
+//! Where code that is translated stands.
+
+use c_syntax::Program;
+
+/// A function of a program: the numbers of its variables' declarations, in the order of their registers.
+#[derive(Clone, Copy, Drop)]
+pub struct Scene<'a> {
+    pub program: &'a Program,
+    pub numbers: &'a [u32],
+}
+
+/// Where a statement stands: how many loops stand around it, and the variables whose blocks live, by their registers, the
+/// youngest first: those born inside the innermost loop, and the others of the function.
+#[derive(Clone, Copy, Drop)]
+pub struct Spot<'a> {
+    pub loops: u32,
+    pub inside: &'a [u32],
+    pub outside: &'a [u32],
+}
