@@ -1,5 +1,5 @@
 -- The program of a text that is read is formed, what it declares has names of C, and its numbers ascend.
-use Rattle.std.proofs.Common.{◌≡◌, ℕ, suc, ◌+◌, ◌-◌, ◌<◌, ◌≤◌, Bool, true, false, List, [], ◌∷◌, ◌++◌, length, map, Option, Some, None, refl, sym, ap, subst, ◌∙◌, append_assoc, append-nil, arith}
+use Rattle.std.proofs.Common.{◌≡◌, ℕ, suc, ◌-◌, ◌<◌, ◌≤◌, true, List, [], ◌∷◌, ◌++◌, length, map, Some, None, refl, sym, ap, subst, ◌∙◌, append_assoc, append-nil, arith}
 use Rattle.std.proofs.lemmas.List.{map-append}
 use Rattle.std.specs.List.{AllByRecursion}
 use Rattle.grammar.specs.Syntax.{one, ◌then◌}
@@ -7,16 +7,15 @@ use Rattle.c_syntax.specs.declared.place.Place.{Place}
 use Rattle.c_syntax.specs.Ctypes.{PlainType, Void}
 use Rattle.c_syntax.specs.Statements.{Declaration, Block, BlockItem}
 use Rattle.c_syntax.specs.Programs.{Function, TranslationUnit}
-use Rattle.c_syntax.specs.Tokens.{PlainToken}
 use Rattle.c_model.specs.declared.vocabulary.Keyword.TheVariants as keyword
 use Rattle.c_model.specs.Vocabulary.{Vocabulary}
 use Rattle.c_model.specs.Punctuators.{semicolon, comma, left_paren, right_paren, left_brace, right_brace}
-use Rattle.c_model.specs.ExpressionGrammar.{name_kind, keyword_kind, mark_kind, kind, placed, name, mark, reserved, consts, type_start, type_behind, TypeStart, VoidStart, ConstStart, NameStart, IntegerStart, most_nested}
-use Rattle.c_model.specs.ProgramGrammar.{Counts, first_function, block_items, parameter_with, function_with, unit_with, items, statement_in, result_type, parameter_name, void_parameter, parameter_behind, parameter, next_parameter, more_parameters, first_parameter, parameters, function_rest, function, one_more_function, unit}
+use Rattle.c_model.specs.ExpressionGrammar.{name_kind, keyword_kind, mark_kind, kind, placed, mark, reserved, consts, type_start, type_behind, TypeStart, VoidStart, ConstStart, NameStart, IntegerStart, most_nested}
+use Rattle.c_model.specs.ProgramGrammar.{Counts, first_function, block_items, parameter_with, function_with, result_type, parameter_name, void_parameter, parameter_behind, parameter, next_parameter, more_parameters, first_parameter, parameters, function_rest, function, one_more_function, unit}
 use Rattle.c_model.specs.Formed.{declared_in_body, declared_in_items, number_of, numbers_of, numbers_of_all}
 use Rattle.c_reader.proofs.ReadForms.{FunctionRead, FunctionsRead, ProgramRead}
 use Rattle.c_reader.proofs.FormedTerms.{placed_at}
-use Rattle.c_reader.proofs.Placed.{From, from_more, from_gives, from_one, from_then, from_choice, from_any, from_many, Between, between_lower, between_joined}
+use Rattle.c_reader.proofs.Placed.{From, from_gives, from_one, from_then, from_choice, from_any, from_many, Between, between_lower, between_joined}
 use Rattle.c_reader.proofs.FormedDeclarations.{IsNewName, IsNameWithin, name_from, all_joined, declares_none, between_higher}
 use Rattle.c_reader.proofs.FormedStatements.{all_behind, items_read, items_deep, AreItems, items_from, closed_from, statement_in_from}
 

@@ -1,11 +1,9 @@
 -- Statements that are read have effects, calls and declarations only where they may stand, and are no deeper than the limit.
-use Rattle.std.proofs.Common.{◌≡◌, ℕ, zero, suc, ◌+◌, ◌≤◌, List, [], ◌∷◌, ◌++◌, Option, Some, None, refl, sym, ap, subst, ◌∙◌, append_assoc, append-nil, arith}
+use Rattle.std.proofs.Common.{◌≡◌, ℕ, zero, suc, ◌≤◌, List, [], ◌∷◌, ◌++◌, Some, None, refl, sym, ap, subst, ◌∙◌, append_assoc, append-nil, arith}
 use Rattle.std.specs.List.{AllByRecursion}
 use Rattle.c_syntax.specs.declared.place.Place.{Place}
 use Rattle.c_syntax.specs.Expressions.{Expression}
-use Rattle.c_syntax.specs.Statements.{Declaration, Statement, Block, If, NoElse, ForFirst, BlockItem}
-use Rattle.c_syntax.specs.Tokens.{PlainToken}
-use Rattle.grammar.specs.Syntax.{Syntax}
+use Rattle.c_syntax.specs.Statements.{Declaration, Statement, If, NoElse, ForFirst, BlockItem}
 use Rattle.grammar.proofs.Readings.{each_at_most}
 use Rattle.c_model.specs.declared.vocabulary.Keyword.TheVariants as keyword
 use Rattle.c_model.specs.Vocabulary.{Vocabulary}
@@ -18,7 +16,7 @@ use Rattle.c_reader.proofs.ReadForms.{IsFullOrCall, IsFullEffect, FirstRead, Sta
 use Rattle.c_reader.proofs.FormedExpressions.{full_each, full_value_each, full_effect_each, full_call_each}
 use Rattle.c_reader.proofs.FormedTerms.{clause_each}
 use Rattle.c_reader.proofs.Placed.{From, from_none, from_more, from_gives, from_then, from_choice, from_cond, from_any, from_each, from_many}
-use Rattle.c_reader.proofs.FormedDeclarations.{Declares, declares_none, declares_joined, declares_lower, declares_higher, IsDeclaration, declaration_from}
+use Rattle.c_reader.proofs.FormedDeclarations.{Declares, declares_none, declares_joined, declares_lower, declares_higher, declaration_from}
 
 -- ---- items in a list
 

@@ -1,9 +1,8 @@
 -- What holds of each reading of a production over tokens whose places ascend, by the offsets where it begins and ends.
-use Rattle.std.proofs.Common.{◌≡◌, ℕ, zero, suc, ◌<◌, ◌≤◌, Bool, true, false, cond, List, [], ◌∷◌, ◌++◌, length, Option, Some, refl, sym, subst, arith, inl, inr}
+use Rattle.std.proofs.Common.{◌≡◌, ℕ, zero, suc, ◌≤◌, Bool, true, false, cond, List, [], ◌∷◌, ◌++◌, length, Option, Some, refl, subst, arith, inl, inr}
 use Rattle.std.specs.List.{AllByRecursion}
-use Rattle.grammar.specs.Syntax.{Syntax, none, gives, one, ◌then◌, choice, loop, many, at_most}
+use Rattle.grammar.specs.Syntax.{Syntax, none, gives, one, ◌then◌, choice, loop, many}
 use Rattle.c_syntax.specs.Tokens.{PlainToken}
-use Rattle.c_model.specs.ExpressionGrammar.{kind}
 use Rattle.c_reader.proofs.FormedExpressions.{IsLexed, Each}
 
 -- tokens from the offset l on, each behind the one before, up to the offset n

@@ -1,10 +1,9 @@
 -- The forms of what is read, whose calls stand in no cast: typing puts one around them where their value is converted.
-use Rattle.std.specs.Prelude.{◌≡◌, ℕ, ◌≤◌, List, [], ◌∷◌, Option, Some, None}
+use Rattle.std.specs.Prelude.{◌≡◌, ◌≤◌, List, [], ◌∷◌, Option, Some, None}
 use Rattle.c_syntax.specs.declared.place.Place.{Place}
 use Rattle.c_syntax.specs.Expressions.{Expression, Node, Assign, Bump, Call}
 use Rattle.c_syntax.specs.Statements.{Initialiser, One, Declaration, Statement, Empty, Eval, Block, If, While, Do, For, Break, Continue, Return, ElsePart, NoElse, Else, ForFirst, NoFirst, First, BlockItem, Declare, Run, Asserts, BlockItems, NoItem, Then}
 use Rattle.c_syntax.specs.Programs.{Function, TranslationUnit}
-use Rattle.c_model.specs.ExpressionGrammar.{most_nested}
 use Rattle.c_model.specs.WellTypedPrograms.{WhereAny}
 use Rattle.c_model.specs.Formed.{IsPure, ArePure, nodes_of, IsFull, AreAsserts, depth, most_read}
 
