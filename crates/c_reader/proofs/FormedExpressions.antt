@@ -1,11 +1,12 @@
 -- Expressions, effects and calls that are read have effects and calls only where they may stand, and no more forms than tokens.
-use Rattle.std.proofs.Common.{◌≡◌, ℕ, zero, suc, ◌+◌, ◌<◌, ◌≤◌, pos, ◌≤ℤ◌, List, [], ◌∷◌, ◌++◌, Option, refl, subst, arith}
+use Rattle.std.proofs.Common.{◌≡◌, ℕ, zero, suc, ◌+◌, ◌<◌, ◌≤◌, pos, ◌≤ℤ◌, List, [], ◌∷◌, ◌++◌, Option, Some, None, refl, subst, arith}
 use Rattle.grammar.specs.Syntax.{Syntax, one}
 use Rattle.grammar.proofs.Readings.{EachOf, each_more, each_gives, each_one, each_then, each_choice, each_at_most, each_many, each_knot}
 use Rattle.c_syntax.specs.declared.place.Place.{Place}
 use Rattle.c_syntax.specs.Expressions.{Expression, Node, Number, Letter, Variable, Unary, Binary, Both, Either, Choice, Assign, Bump, Call, Cast, SizeOfType, SizeOfExpr}
 use Rattle.c_syntax.specs.Tokens as token
 use Rattle.c_syntax.specs.Tokens.{PlainTokenKind, PlainToken}
+use Rattle.c_syntax.specs.declared.expression.BinOp.{BinOp}
 use Rattle.c_model.specs.declared.operands.Form.{Form}
 use Rattle.c_model.specs.declared.operands.Form.TheVariants as form
 use Rattle.c_model.specs.declared.operands.TypeUse.{TypeUse}
@@ -15,8 +16,9 @@ use Rattle.c_model.specs.declared.operands.Connective.TheVariants.{Operator, And
 use Rattle.c_model.specs.declared.vocabulary.Keyword.TheVariants as keyword
 use Rattle.c_model.specs.Vocabulary.{Vocabulary}
 use Rattle.c_model.specs.Punctuators.{question, colon, comma, left_paren, right_paren}
-use Rattle.c_model.specs.ExpressionGrammar.{name_kind, number_kind, keyword_kind, mark_kind, kind, unary_operators, operators_at, levels, assignment_operators, prefix_bumps, postfix_bumps, kinds_of, first_type, first_expression, read_as, kind_of, joined, expressions, ReadOperand, size_of_operand, fixed, name, type_words, Operand, closed, literal, cast_rest, sized_type, paren_rest, behind_paren, prefixed, sized, operand_but_name, operand_of, operand, joined_once, behind_operand, choice_rest, expression_rest, expression_of, expression, assigned, bumped, behind_unary, behind_primary, behind_form, effect_rest, bump_first, effect_but_name, effect, next_argument, arguments, call_rest, behind_name, effect_or_call, full_expression, full_effect, full_effect_or_call}
-use Rattle.c_model.specs.Formed.{IsPure, ArePure, IsEffect, IsEffectOrCall, nodes_of, nodes_of_all, IsFull, IsFullEffect, IsFullEffectOrCall, most_read}
+use Rattle.c_model.specs.ExpressionGrammar.{name_kind, number_kind, keyword_kind, mark_kind, kind, unary_operators, operators_at, levels, assignment_operators, prefix_bumps, postfix_bumps, kinds_of, first_type, first_expression, read_as, kind_of, joined, expressions, ReadOperand, size_of_operand, fixed, name, type_words, Operand, closed, literal, cast_rest, sized_type, paren_rest, behind_paren, prefixed, sized, operand_but_name, operand_of, operand, joined_once, behind_operand, choice_rest, expression_rest, expression_of, expression, behind_name_or_callee, expression_or_call, assigned_value, assigned, bumped, behind_unary, behind_primary, behind_form, effect_rest, bump_first, effect_but_name, effect, next_argument, arguments, call_rest, behind_name, effect_or_call, full_expression, full_expression_or_call, full_effect, full_effect_or_call}
+use Rattle.c_model.specs.Formed.{IsPure, ArePure, nodes_of, nodes_of_all, IsFull, most_read}
+use Rattle.c_reader.proofs.ReadForms.{IsPureOrCall, IsEffect, IsEffectOrCall, IsFullOrCall, IsFullEffect, IsFullEffectOrCall}
 
 -- ---- tokens
 
@@ -79,7 +81,11 @@ joined_part at (Operator op) k l a b p q = record { is = (p.is, q.is); small = o
 joined_part at And k l a b p q = record { is = (p.is, q.is); small = omega (arith, p.small, q.small) }
 joined_part at Or k l a b p q = record { is = (p.is, q.is); small = omega (arith, p.small, q.small) }
 
--- an effect of so many forms at most
+-- an expression or a call, and an effect, of so many forms at most
+pub record IsValuePart (k : ℕ) (e : Expression) : Type 0 where
+  pub is : IsPureOrCall e
+  pub small : nodes_of e ≤ k
+
 pub record IsEffectPart (k : ℕ) (e : Expression) : Type 0 where
   pub is : IsEffect e
   pub small : nodes_of e ≤ k
@@ -87,6 +93,22 @@ pub record IsEffectPart (k : ℕ) (e : Expression) : Type 0 where
 pub record IsCallPart (k : ℕ) (e : Expression) : Type 0 where
   pub is : IsEffectOrCall e
   pub small : nodes_of e ≤ k
+
+part_value : (k : ℕ) (e : Expression) → IsPart k e → IsValuePart k e
+part_value k (Node x t (Number n c)) p = record { is = tt; small = p.small }
+part_value k (Node x t (Letter n)) p = record { is = tt; small = p.small }
+part_value k (Node x t (Variable y)) p = record { is = tt; small = p.small }
+part_value k (Node x t (Unary op a)) p = record { is = p.is; small = p.small }
+part_value k (Node x t (Binary op a b)) p = record { is = p.is; small = p.small }
+part_value k (Node x t (Both a b)) p = record { is = p.is; small = p.small }
+part_value k (Node x t (Either a b)) p = record { is = p.is; small = p.small }
+part_value k (Node x t (Choice a b c)) p = record { is = p.is; small = p.small }
+part_value k (Node x t (Assign op a b)) p = absurd p.is
+part_value k (Node x t (Bump op a)) p = absurd p.is
+part_value k (Node x t (Call f es)) p = absurd p.is
+part_value k (Node x t (Cast to a)) p = record { is = p.is; small = p.small }
+part_value k (Node x t (SizeOfType u)) p = record { is = tt; small = p.small }
+part_value k (Node x t (SizeOfExpr a)) p = record { is = p.is; small = p.small }
 
 part_effect : (k : ℕ) (e : Expression) → IsPart k e → IsEffectPart k e
 part_effect k (Node x t (Number n c)) p = record { is = tt; small = p.small }
@@ -130,6 +152,25 @@ parts_behind k l [] e h p = record { are = (p.is, tt); small = omega (arith, p.s
 parts_behind k l (f ∷ es) e h p =
     let rest = parts_behind (nodes_of_all (expressions es)) l es e (record { are = h.are.1; small = omega arith }) p in
     record { are = (h.are.0, rest.are); small = omega (arith, h.small, rest.small) }
+
+-- a call, as what it may stand for
+record IsCallAlone (k : ℕ) (e : Expression) : Type 0 where
+  value : IsPureOrCall e
+  effect : IsEffectOrCall e
+  small : nodes_of e ≤ k
+
+-- what is assigned by an operator, or by `=`
+abbrev IsAssignable : Option BinOp → Expression → Type 0
+IsAssignable None e = IsPureOrCall e
+IsAssignable (Some op) e = IsPure e
+
+record IsAssigned (o : Option BinOp) (k : ℕ) (e : Expression) : Type 0 where
+  is : IsAssignable o e
+  small : nodes_of e ≤ k
+
+assigned_part : (at : Place) (o : Option BinOp) (k i j : ℕ) (a b : Expression) → i ≡ 1 → IsPart k a → IsAssigned o j b → IsEffectPart (k + (i + (j + 0))) (read_as at (Assign o a b))
+assigned_part at None k i j a b h p q = record { is = (p.is, q.is); small = omega (arith, h, p.small, q.small) }
+assigned_part at (Some op) k i j a b h p q = record { is = (p.is, q.is); small = omega (arith, h, p.small, q.small) }
 
 -- ---- productions
 
@@ -230,20 +271,52 @@ module _ (size : ℕ) (ws : Vocabulary) where
   unfolding expression
   expression_each = each_knot {P = λ u. IsPart} (λ E e u. expression_of_each {E = E u} (e u)) tt
 
+  -- ---- calls
+
+  argument_each : (k : ℕ) (es : List Expression) → AreParts k es → Each size (next_argument ws es) (λ l xs. AreParts (k + l) xs)
+  unfolding next_argument
+  argument_each k es h = each_then (each_fixed (mark_kind comma)) (λ i _ _. each_then expression_each (λ j e p. each_gives _ (let r = parts_behind k j es e h p in record { are = r.are; small = omega (arith, r.small) })))
+
+  arguments_each : Each size (arguments ws) AreParts
+  unfolding arguments
+  arguments_each =
+      each_choice (kind ws) first_expression
+      (each_then expression_each (λ k e p. each_many (kind ws) (λ _. mark_kind comma ∷ []) {P = AreParts} (λ i es h. argument_each i es h) k (e ∷ []) (record { are = (p.is, tt); small = omega (arith, p.small) })))
+      (each_gives [] (record { are = tt; small = omega arith }))
+
+  call_each : (f : ℕ × Place) → Each size (call_rest ws f) (λ k x. IsCallAlone k x.0)
+  unfolding call_rest
+  call_each f = each_then (each_fixed (mark_kind left_paren)) (λ i at h. each_then arguments_each (λ j es a. closed_each _ (record { effect = a.are; value = a.are; small = omega (arith, h, a.small) })))
+
+  -- a call is an expression or a call, and an effect or a call
+  behind_callee_each : (k : ℕ) (x : ℕ × Place) → k ≡ 1 → Each size (behind_name_or_callee ws x) (λ j y. IsValuePart (k + j) y)
+  unfolding behind_name_or_callee
+  behind_callee_each k x h =
+      each_choice (kind ws) (mark_kind left_paren ∷ []) (each_then (call_each x) (λ j c p. each_gives _ (record { is = p.value; small = omega (arith, p.small) })))
+      (each_more (λ j y p. part_value (k + j) y p) (expression_rest_each expression_each k _ (record { is = tt; small = omega (arith, h) })))
+
+  pub value_each : Each size (expression_or_call ws) IsValuePart
+  unfolding expression_or_call
+  value_each =
+      each_choice (kind ws) (name_kind ∷ []) (each_then each_name (λ k x h. behind_callee_each k x h))
+      (each_then (operand_but_name_each expression_each (operand_each expression_each) type_use.Casts) (λ k x p. each_more (λ j y q. part_value (k + j) y q) (expression_rest_each expression_each k x.expression p)))
+
   -- ---- effects
 
   abbrev Effects : ℕ → Expression × Place → Type 0
   Effects k x = IsEffectPart k x.0
 
-  abbrev Calls : ℕ → Expression × Place → Type 0
-  Calls k x = IsCallPart k x.0
-
   rest_effect : (k : ℕ) (x : Expression) → IsPart k x → Each size (expression_rest ws (expression ws) x) (λ j y. IsEffectPart (k + j) y)
   rest_effect k x p = each_more (λ j y q. part_effect (k + j) y q) (expression_rest_each expression_each k x p)
 
+  assigned_value_each : (o : Option BinOp) → Each size (assigned_value ws o) (λ k e. IsAssigned o k e)
+  unfolding assigned_value
+  assigned_value_each None = each_more (λ k e p. record { is = p.is; small = p.small }) value_each
+  assigned_value_each (Some op) = each_more (λ k e p. record { is = p.is; small = p.small }) expression_each
+
   assigned_each : (k : ℕ) (x : Expression) → IsPart k x → Each size (assigned ws x) (λ j y. IsEffectPart (k + j) y)
   unfolding assigned
-  assigned_each k x p = each_then (each_token _) (λ i op h. each_then expression_each (λ j right q. each_gives _ (record { is = (p.is, q.is); small = omega (arith, h, p.small, q.small) })))
+  assigned_each k x p = each_then (each_token _) (λ i op h. each_then (assigned_value_each op.0) (λ j right q. each_gives _ (assigned_part op.1 op.0 k i j x right h p q)))
 
   bumped_each : (k : ℕ) (x : Expression) → IsPart k x → Each size (bumped ws x) (λ j y. IsEffectPart (k + j) y)
   unfolding bumped
@@ -282,30 +355,13 @@ module _ (size : ℕ) (ws : Vocabulary) where
   unfolding effect
   effect_each = each_choice (kind ws) (name_kind ∷ []) (each_then each_name (λ k x h. effect_rest_each k _ (record { is = tt; small = omega (arith, h) }))) effect_but_name_each
 
-  -- ---- calls
-
-  argument_each : (k : ℕ) (es : List Expression) → AreParts k es → Each size (next_argument ws es) (λ l xs. AreParts (k + l) xs)
-  unfolding next_argument
-  argument_each k es h = each_then (each_fixed (mark_kind comma)) (λ i _ _. each_then expression_each (λ j e p. each_gives _ (let r = parts_behind k j es e h p in record { are = r.are; small = omega (arith, r.small) })))
-
-  arguments_each : Each size (arguments ws) AreParts
-  unfolding arguments
-  arguments_each =
-      each_choice (kind ws) first_expression
-      (each_then expression_each (λ k e p. each_many (kind ws) (λ _. mark_kind comma ∷ []) {P = AreParts} (λ i es h. argument_each i es h) k (e ∷ []) (record { are = (p.is, tt); small = omega (arith, p.small) })))
-      (each_gives [] (record { are = tt; small = omega arith }))
-
-  call_each : (f : ℕ × Place) → Each size (call_rest ws f) Calls
-  unfolding call_rest
-  call_each f = each_then (each_fixed (mark_kind left_paren)) (λ i at h. each_then arguments_each (λ j es a. closed_each _ (record { is = a.are; small = omega (arith, h, a.small) })))
-
   behind_name_each : (k : ℕ) (x : ℕ × Place) → k ≡ 1 → Each size (behind_name ws x) (λ j y. IsCallPart (k + j) y.0)
   unfolding behind_name
   behind_name_each k x h =
-      each_choice (kind ws) (mark_kind left_paren ∷ []) (each_more (λ j y p. record { is = p.is; small = omega (arith, p.small) }) (call_each x))
+      each_choice (kind ws) (mark_kind left_paren ∷ []) (each_more (λ j y p. record { is = p.effect; small = omega (arith, p.small) }) (call_each x))
       (each_more (λ j y p. effect_call (k + j) y.0 p) (effect_rest_each k _ (record { is = tt; small = omega (arith, h) })))
 
-  effect_or_call_each : Each size (effect_or_call ws) Calls
+  effect_or_call_each : Each size (effect_or_call ws) (λ k x. IsCallPart k x.0)
   unfolding effect_or_call
   effect_or_call_each = each_choice (kind ws) (name_kind ∷ []) (each_then each_name (λ k x h. behind_name_each k x h)) (each_more (λ k x p. effect_call k x.0 p) effect_but_name_each)
 
@@ -315,10 +371,14 @@ module _ (size : ℕ) (ws : Vocabulary) where
   unfolding full_expression
   full_each = each_more (λ k e p. record { is = p.0.is; small = omega (arith, p.0.small, p.1) }) (each_at_most expression_each)
 
-  pub full_effect_each : Each size (full_effect ws) (λ k x. IsFullEffect most_read x.0)
+  pub full_value_each : Each size (full_expression_or_call ws) (λ k e. IsFullOrCall e)
+  unfolding full_expression_or_call
+  full_value_each = each_more (λ k e p. record { is = p.0.is; small = omega (arith, p.0.small, p.1) }) (each_at_most value_each)
+
+  pub full_effect_each : Each size (full_effect ws) (λ k x. IsFullEffect x.0)
   unfolding full_effect
   full_effect_each = each_more (λ k x p. record { is = p.0.is; small = omega (arith, p.0.small, p.1) }) (each_at_most effect_each)
 
-  pub full_call_each : Each size (full_effect_or_call ws) (λ k x. IsFullEffectOrCall most_read x.0)
+  pub full_call_each : Each size (full_effect_or_call ws) (λ k x. IsFullEffectOrCall x.0)
   unfolding full_effect_or_call
   full_call_each = each_more (λ k x p. record { is = p.0.is; small = omega (arith, p.0.small, p.1) }) (each_at_most effect_or_call_each)

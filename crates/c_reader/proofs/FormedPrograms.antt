@@ -1,217 +1,220 @@
--- The program of a text that is read is formed: its body declares first, and the names that it declares are names of C.
-use Rattle.std.proofs.Common.{◌≡◌, ℕ, ◌+◌, ◌-◌, ◌<◌, ◌≤◌, Bool, true, false, cond, eqb, ltb, List, [], ◌∷◌, ◌++◌, length, length-append, Option, Some, None, refl, sym, ap, subst, arith, ◌∙◌}
-use Rattle.std.proofs.lemmas.Bool.{eqb-true, ltb-true}
+-- The program of a text that is read is formed, what it declares has names of C, and its numbers ascend.
+use Rattle.std.proofs.Common.{◌≡◌, ℕ, suc, ◌-◌, ◌<◌, ◌≤◌, true, List, [], ◌∷◌, ◌++◌, length, map, Some, None, refl, sym, ap, subst, ◌∙◌, append_assoc, append-nil, arith}
+use Rattle.std.proofs.lemmas.List.{map-append}
 use Rattle.std.specs.List.{AllByRecursion}
-use Rattle.grammar.specs.Syntax.{none}
-use Rattle.grammar.proofs.Readings.{each_more, each_none, each_gives, each_one, each_then, each_choice, each_cond, each_many}
+use Rattle.grammar.specs.Syntax.{one, ◌then◌}
 use Rattle.c_syntax.specs.declared.place.Place.{Place}
-use Rattle.c_syntax.specs.Ctypes.{PlainType}
-use Rattle.c_syntax.specs.Statements.{Declaration, Statement, Block, BlockItem, Declare, Run, Asserts}
+use Rattle.c_syntax.specs.Ctypes.{PlainType, Void}
+use Rattle.c_syntax.specs.Statements.{Declaration, Block, BlockItem}
 use Rattle.c_syntax.specs.Programs.{Function, TranslationUnit}
-use Rattle.c_syntax.specs.Tokens as token
-use Rattle.c_syntax.specs.Tokens.{PlainTokenKind, PlainToken}
-use Rattle.c_model.specs.Vocabulary.{Vocabulary, word_at}
-use Rattle.c_model.specs.Punctuators.{assign, comma, left_brace, right_brace}
-use Rattle.c_model.specs.ExpressionGrammar.{name_kind, word_kind, mark_kind, kind, most_nested, first_type, name_of, name, type_words}
-use Rattle.c_model.specs.ProgramGrammar.{initialised, first_function, block_items, ReadDeclarations, no_declarations, with_declaration, function_with, most_declarators, declarator, next_declarator, declaration, declarations, result_type, no_parameters, function_body, function, unit}
-use Rattle.c_model.specs.Formed.{depth_of_items}
-use Rattle.c_model.specs.Meaning.{declared_in}
-use Rattle.c_model.specs.Formed.{AreInitialised, BodyItemsFormed, BodyFormed, FunctionFormed, ProgramFormed, most_read}
-use Rattle.c_reader.specs.FewObjects.{BodyFew, FunctionsFew}
-use Rattle.c_reader.proofs.FormedExpressions.{IsLexedKind, Each, each_token, each_any, each_fixed, full_each}
-use Rattle.c_reader.proofs.FormedTerms.{placed_is}
-use Rattle.c_reader.proofs.FormedStatements.{IsItem, AreBehind, none_behind, all_behind, items_formed, items_deep, items_each, ended_each, statement_in_each}
+use Rattle.c_model.specs.declared.vocabulary.Keyword.TheVariants as keyword
+use Rattle.c_model.specs.Vocabulary.{Vocabulary}
+use Rattle.c_model.specs.Punctuators.{semicolon, comma, left_paren, right_paren, left_brace, right_brace}
+use Rattle.c_model.specs.ExpressionGrammar.{name_kind, keyword_kind, mark_kind, kind, placed, mark, reserved, consts, type_start, type_behind, TypeStart, VoidStart, ConstStart, NameStart, IntegerStart, most_nested}
+use Rattle.c_model.specs.ProgramGrammar.{Counts, first_function, block_items, parameter_with, function_with, result_type, parameter_name, void_parameter, parameter_behind, parameter, next_parameter, more_parameters, first_parameter, parameters, function_rest, function, one_more_function, unit}
+use Rattle.c_model.specs.Formed.{declared_in_body, declared_in_items, number_of, numbers_of, numbers_of_all}
+use Rattle.c_reader.proofs.ReadForms.{FunctionRead, FunctionsRead, ProgramRead}
+use Rattle.c_reader.proofs.FormedTerms.{placed_at}
+use Rattle.c_reader.proofs.Placed.{From, from_gives, from_one, from_then, from_choice, from_any, from_many, Between, between_lower, between_joined}
+use Rattle.c_reader.proofs.FormedDeclarations.{IsNewName, IsNameWithin, name_from, all_joined, declares_none, between_higher}
+use Rattle.c_reader.proofs.FormedStatements.{all_behind, items_read, items_deep, AreItems, items_from, closed_from, statement_in_from}
 
 module _ (size : ℕ) (ws : Vocabulary) where
-  -- the number of a name that a text may declare
-  pub record IsNewName (n : ℕ) : Type 0 where
-    pub there : n < size
-    pub kind : word_kind (word_at ws n) ≡ name_kind
+  -- ---- parameters
 
-  is_name : (t : PlainTokenKind) (n : ℕ) → name_of ws t ≡ Some n → (t ≡ token.Word n) × (word_kind (word_at ws n) ≡ name_kind)
-  is_name (token.Word m) n e = by (eqb (word_kind (word_at ws m)) name_kind) refl e
-    where
-      by : (b : Bool) → eqb (word_kind (word_at ws m)) name_kind ≡ b → cond b (Some m) None ≡ Some n → (token.Word m ≡ token.Word n) × (word_kind (word_at ws n) ≡ name_kind)
-      by true is e =
-          let same : m ≡ n = cc in
-          (ap token.Word same, subst (λ k. word_kind (word_at ws k) ≡ name_kind) same (eqb-true (word_kind (word_at ws m)) name_kind is))
-      by false is e = absurd cc
-  is_name (token.Number y c) n e = absurd cc
-  is_name (token.Letter y) n e = absurd cc
-  is_name (token.Chars bytes) n e = absurd cc
-  is_name (token.Mark m) n e = absurd cc
-  is_name token.AnnotOpen n e = absurd cc
-  is_name token.AnnotClose n e = absurd cc
-  is_name (token.Head k m) n e = absurd cc
+  -- a parameter has the name of a C text, where it has one
+  abbrev pub IsNamed : Declaration → Type 0
+  IsNamed d = d.named ≡ true → IsNewName size ws d.name
 
-  new_name_each : Each size (name ws) (λ k x. IsNewName x.0)
-  new_name_each = each_one _ (λ t x h e. let i = is_name t.kind x.0 (placed_is (name_of ws) t x e) in record { there = subst (IsLexedKind size) i.0 h; kind = i.1 })
+  -- from the offset l on, and before the offset n
+  record IsParameter (l n : ℕ) (d : Declaration) : Type 0 where
+    named : IsNamed d
+    from : l ≤ number_of d
+    to : number_of d < n
 
-  -- ---- declarations
+  pub record AreParameters (l n : ℕ) (ds : List Declaration) : Type 0 where
+    pub named : AllByRecursion IsNamed ds
+    pub numbers : Between l (map number_of ds) n
 
-  pub record IsDeclarator (d : Declaration) : Type 0 where
-    pub name : IsNewName d.name
-    pub initialised : AreInitialised most_read (d ∷ [])
+  no_parameters : (l n : ℕ) → l ≤ n → AreParameters l n []
+  no_parameters l n le = record { named = tt; numbers = le }
 
-  abbrev AreDeclarators : List Declaration → Type 0
-  AreDeclarators ds = AllByRecursion IsDeclarator ds
+  one_parameter : (l n : ℕ) (d : Declaration) → IsParameter l n d → AreParameters l n (d ∷ [])
+  one_parameter l n d p = record { named = (p.named, tt); numbers = (p.from, p.to) }
 
-  -- the declarators of one declaration behind so many
-  record AreNext (n : ℕ) (ds : List Declaration) : Type 0 where
-    are : AreDeclarators ds
-    few : n + length ds ≤ 1000
-
-  one_more : (n : ℕ) (ds : List Declaration) (d : Declaration) → AreNext n ds → n + length ds < 1000 → IsDeclarator d → AreNext n (ds ++ d ∷ [])
-  one_more n ds d h lt p = record { are = all_behind IsDeclarator ds d h.are p; few = omega (arith, lt, length-append ds (d ∷ [])) }
-
-  -- a name where fewer are declared
-  each_new : (n : ℕ) (ds : List Declaration) → Each size (cond (ltb (n + length ds) (most_declarators ws)) (name ws) none) (λ k x. IsNewName x.0 × (n + length ds < 1000))
-  each_new n ds = each_cond (ltb (n + length ds) 1000) (λ e. each_more (λ k x p. (p, ltb-true (n + length ds) 1000 e)) new_name_each) (λ _. each_none)
-
-  declarator_each : (t : PlainType) (n : ℕ) (ds : List Declaration) → AreNext n ds → Each size (declarator ws t n ds) (λ k all. AreNext n all)
-  unfolding declarator
-  declarator_each t n ds h =
-      each_then (each_new n ds) (λ _ x p. each_then (each_fixed size ws (mark_kind assign)) (λ _ equals _. each_then (full_each size ws) (λ _ e q.
-      each_gives _ (one_more n ds (initialised t x equals e) h p.1 (record { name = p.0; initialised = (q, tt) })))))
-
-  next_each : (t : PlainType) (n : ℕ) (ds : List Declaration) → AreNext n ds → Each size (next_declarator ws t n ds) (λ k all. AreNext n all)
-  unfolding next_declarator
-  next_each t n ds h = each_then (each_fixed size ws (mark_kind comma)) (λ _ _ _. declarator_each t n ds h)
-
-  -- items that are declarations
-  abbrev IsDeclaration : BlockItem → Type 0
-  IsDeclaration (Declare ds) = AreDeclarators ds
-  IsDeclaration (Run a) = ⊥
-  IsDeclaration (Asserts annots) = ⊥
-
-  record AreDeclarations (d : ReadDeclarations) : Type 0 where
-    are : AllByRecursion IsDeclaration d.items
-    count : length (declared_in (block_items d.items)) ≡ d.declarators
-    few : d.declarators ≤ 1000
-
-  counted : (items : List BlockItem) (ds : List Declaration) → AllByRecursion IsDeclaration items → length (declared_in (block_items (items ++ Declare ds ∷ []))) ≡ length (declared_in (block_items items)) + length ds
-  counted [] ds h = length-append ds [] ∙ omega arith
-  counted (Declare es ∷ items) ds h =
-      length-append es (declared_in (block_items (items ++ Declare ds ∷ []))) ∙ ap (λ n. length es + n) (counted items ds h.1) ∙ ends (length es) (length (declared_in (block_items items))) (length ds)
-      ∙ ap (λ n. n + length ds) (sym (length-append es (declared_in (block_items items))))
-    where
-      ends : (a b c : ℕ) → a + (b + c) ≡ (a + b) + c
-      ends a b c = omega arith
-  counted (Run a ∷ items) ds h = absurd h.0
-  counted (Asserts annots ∷ items) ds h = absurd h.0
-
-  behind_declaration : (d : ReadDeclarations) (ds : List Declaration) → AreDeclarations d → AreNext d.declarators ds → AreDeclarations (with_declaration d ds)
-  behind_declaration d ds h p = record {
-    are = all_behind IsDeclaration d.items (Declare ds) h.are p.are;
-    count = counted d.items ds h.are ∙ ap (λ n. n + length ds) h.count;
-    few = p.few;
+  parameters_joined : (l m n : ℕ) (ds es : List Declaration) → AreParameters l m ds → AreParameters m n es → AreParameters l n (ds ++ es)
+  parameters_joined l m n ds es p q = record {
+    named = all_joined IsNamed ds es p.named q.named;
+    numbers = subst (λ is. Between l is n) (sym (map-append number_of ds es)) (between_joined l m n (map number_of ds) (map number_of es) p.numbers q.numbers);
   }
 
-  declaration_each : (d : ReadDeclarations) → AreDeclarations d → Each size (declaration ws d) (λ k x. AreDeclarations x)
-  unfolding declaration
-  declaration_each d h =
-      let none : AreNext d.declarators [] = record { are = tt; few = omega (arith, h.few) } in
-      each_then (each_any (type_words ws)) (λ _ t _. each_then (declarator_each t d.declarators [] none) (λ _ ds p.
-      each_then (each_many (kind ws) (λ _. mark_kind comma ∷ []) {P = λ k all. AreNext d.declarators all} (λ _ x q. next_each t d.declarators x q) 0 ds p) (λ _ all q.
-      ended_each size ws {P = AreDeclarations} (with_declaration d all) (behind_declaration d all h q))))
+  parameters_higher : (l m n : ℕ) (ds : List Declaration) → m ≤ n → AreParameters l m ds → AreParameters l n ds
+  parameters_higher l m n ds le p = record { named = p.named; numbers = between_higher size ws l m n (map number_of ds) le p.numbers }
 
-  declarations_each : Each size (declarations ws) (λ k x. AreDeclarations x)
-  unfolding declarations
-  declarations_each = each_many (kind ws) (λ _. first_type) {P = λ k x. AreDeclarations x} (λ _ x h. declaration_each x h) 0 no_declarations (record { are = tt; count = refl; few = omega arith })
+  parameter_lower : (k l n : ℕ) (d : Declaration) → k ≤ l → IsParameter l n d → IsParameter k n d
+  parameter_lower k l n d le p = record { named = p.named; from = omega (arith, le, p.from); to = p.to }
+
+  parameter_at : (l n : ℕ) (t : PlainType) (x : ℕ × Place) → IsNameWithin size ws l n x → IsParameter l n (parameter_with t x true)
+  parameter_at l n t x p = record { named = λ e. p.new; from = p.from; to = p.to }
+
+  -- the first word of a type, from the offset l on and before the offset m
+  record IsFirstWord (l m : ℕ) (x : ℕ × Place) : Type 0 where
+    from : l ≤ x.1.offset
+    to : x.1.offset < m
+
+  word_from : (l : ℕ) → From size l (one (placed (type_start ws))) (λ m s. IsFirstWord l m (s.0.1, s.1))
+  word_from l = from_one _ (λ t x h le e.
+      let at : t.place.offset ≡ x.1.offset = ap (λ (p : Place). p.offset) (placed_at (type_start ws) t x e) in
+      record { from = omega (arith, le, at); to = omega (arith, at) })
+
+  name_of_from : (l m : ℕ) (t : PlainType) (first : ℕ × Place) → IsFirstWord l m first → From size m (parameter_name ws t first) (IsParameter l)
+  unfolding parameter_name
+  name_of_from l m t first p =
+      from_choice (kind ws) (name_kind ∷ [])
+      (from_then (name_from size ws m) (λ n x q. from_gives _ (parameter_lower l m n (parameter_with t x true) (omega (arith, p.from, p.to)) (parameter_at m n t x q))))
+      (from_gives _ (record { named = λ e. absurd cc; from = p.from; to = p.to }))
+
+  word_on : (l m n : ℕ) (x : ℕ × Place) → m ≤ n → IsFirstWord l m x → IsFirstWord l n x
+  word_on l m n x le p = record { from = p.from; to = omega (arith, le, p.to) }
+
+  void_from : (l m : ℕ) (first : ℕ × Place) → IsFirstWord l m first → From size m (void_parameter ws first) (IsParameter l)
+  unfolding void_parameter
+  void_from l m first p =
+      from_choice (kind ws) (keyword_kind keyword.Const ∷ [])
+      (from_then (from_any (reserved ws keyword.Const)) (λ i _ le. from_then (from_any (consts ws Void)) (λ j t lf. name_of_from l j t first (word_on l m j first (omega (arith, le, lf)) p))))
+      (from_then (name_from size ws m) (λ n x q. from_gives _ (parameter_lower l m n (parameter_with Void x true) (omega (arith, p.from, p.to)) (parameter_at m n Void x q))))
+
+  typed_from : (s : TypeStart) (l m : ℕ) (first : ℕ × Place) → IsFirstWord l m first → From size m (type_behind ws s then λ t. parameter_name ws t first) (IsParameter l)
+  typed_from s l m first p = from_then (from_any (type_behind ws s)) (λ i t le. name_of_from l i t first (word_on l m i first le p))
+
+  behind_word : (s : TypeStart) (l m : ℕ) (first : ℕ × Place) → IsFirstWord l m first → From size m (parameter_behind ws s first) (IsParameter l)
+  unfolding parameter_behind
+  behind_word VoidStart l m first p = void_from l m first p
+  behind_word ConstStart l m first p = typed_from ConstStart l m first p
+  behind_word (NameStart t) l m first p = typed_from (NameStart t) l m first p
+  behind_word (IntegerStart x) l m first p = typed_from (IntegerStart x) l m first p
+
+  parameter_from : (l : ℕ) → From size l (parameter ws) (IsParameter l)
+  unfolding parameter
+  parameter_from l = from_then (word_from l) (λ m s p. behind_word s.0.0 l m (s.0.1, s.1) p)
+
+  next_from : (l m : ℕ) (ds : List Declaration) → AreParameters l m ds → From size m (next_parameter ws ds) (AreParameters l)
+  unfolding next_parameter
+  next_from l m ds h =
+      from_then (from_any (mark ws comma)) (λ i _ le. from_then (parameter_from i) (λ n d p.
+      from_gives _ (parameters_joined l i n ds (d ∷ []) (parameters_higher l m i ds le h) (one_parameter i n d p))))
+
+  more_from : (l m : ℕ) (d : Declaration) → IsParameter l m d → From size m (more_parameters ws d) (AreParameters l)
+  unfolding more_parameters
+  more_from l m d p =
+      from_then (from_many (kind ws) (λ _. mark_kind comma ∷ []) {P = AreParameters l} (λ i ds h. next_from l i ds h) m (d ∷ []) (one_parameter l m d p)) (λ i ds h.
+      closed_from size ws (AreParameters l) ds (λ n le. parameters_higher l i n ds le h))
+
+  first_more : (s : TypeStart) (l m : ℕ) (first : ℕ × Place) → IsFirstWord l m first → From size m (parameter_behind ws s first then λ p. more_parameters ws p) (AreParameters l)
+  first_more s l m first p = from_then (behind_word s l m first p) (λ i d q. more_from l i d q)
+
+  first_from : (s : TypeStart) (l m : ℕ) (first : ℕ × Place) → IsFirstWord l m first → From size m (first_parameter ws s first) (AreParameters l)
+  unfolding first_parameter
+  first_from VoidStart l m first p =
+      from_choice (kind ws) (mark_kind right_paren ∷ [])
+      (closed_from size ws (AreParameters l) [] (λ n le. no_parameters l n (omega (arith, le, p.from, p.to))))
+      (from_then (void_from l m first p) (λ i d q. more_from l i d q))
+  first_from ConstStart l m first p = first_more ConstStart l m first p
+  first_from (NameStart t) l m first p = first_more (NameStart t) l m first p
+  first_from (IntegerStart x) l m first p = first_more (IntegerStart x) l m first p
+
+  parameters_from : (l : ℕ) → From size l (parameters ws) (AreParameters l)
+  unfolding parameters
+  parameters_from l =
+      from_choice (kind ws) (mark_kind right_paren ∷ []) (closed_from size ws (AreParameters l) [] (λ n le. no_parameters l n le))
+      (from_then (word_from l) (λ m s p. first_from s.0.0 l m (s.0.1, s.1) p))
 
   -- ---- functions
 
-  initialised_all : (ds : List Declaration) → AreDeclarators ds → AreInitialised most_read ds
-  initialised_all [] h = tt
-  initialised_all (d ∷ ds) h = (h.0.initialised.0, initialised_all ds h.1)
+  -- what a function declares: names of C, at most its limit of declarators
+  pub record DeclaresNames (f : Function) : Type 0 where
+    pub name : IsNewName size ws f.name
+    pub params : AllByRecursion IsNamed f.params
+    pub body : AllByRecursion (λ (d : Declaration). IsNewName size ws d.name) (declared_in_body f.body)
+    pub few : length (declared_in_body f.body) ≤ 1000
 
-  new_names : (ds : List Declaration) → AreDeclarators ds → AllByRecursion (λ (d : Declaration). IsNewName d.name) ds
-  new_names [] h = tt
-  new_names (d ∷ ds) h = (h.0.name, new_names ds h.1)
+  record IsFunction (l n : ℕ) (f : Function) : Type 0 where
+    read : FunctionRead f
+    declares : DeclaresNames f
+    numbers : Between l (numbers_of f) n
 
-  items_last : (d : ℕ) (more : List BlockItem) → AllByRecursion (IsItem d) more → BodyItemsFormed most_read (block_items more)
-  items_last d [] h = tt
-  items_last d (Declare ds ∷ more) h = absurd h.0.is
-  items_last d (Run a ∷ more) h = items_formed d (Run a ∷ more) h
-  items_last d (Asserts annots ∷ more) h = items_formed d (Asserts annots ∷ more) h
+  numbers_joined : (l m n : ℕ) (ds es : List Declaration) → Between l (map number_of ds) m → Between m (map number_of es) n → Between l (map number_of (ds ++ es)) n
+  numbers_joined l m n ds es p q = subst (λ is. Between l is n) (sym (map-append number_of ds es)) (between_joined l m n (map number_of ds) (map number_of es) p q)
 
-  body_formed : (d : ℕ) (first more : List BlockItem) → AllByRecursion IsDeclaration first → AllByRecursion (IsItem d) more → BodyItemsFormed most_read (block_items (first ++ more))
-  body_formed d [] more h w = items_last d more w
-  body_formed d (Declare ds ∷ first) more h w = (initialised_all ds h.0, body_formed d first more h.1 w)
-  body_formed d (Run a ∷ first) more h w = absurd h.0
-  body_formed d (Asserts annots ∷ first) more h w = absurd h.0
-
-  body_deep : (d : ℕ) (first more : List BlockItem) → AllByRecursion IsDeclaration first → AllByRecursion (IsItem d) more → depth_of_items (block_items (first ++ more)) ≤ d
-  body_deep d [] more h w = items_deep d more w
-  body_deep d (Declare ds ∷ first) more h w = omega (arith, body_deep d first more h.1 w)
-  body_deep d (Run a ∷ first) more h w = absurd h.0
-  body_deep d (Asserts annots ∷ first) more h w = absurd h.0
-
-  all_joined : {A : Type 0} (P : A → Type 0) (xs ys : List A) → AllByRecursion P xs → AllByRecursion P ys → AllByRecursion P (xs ++ ys)
-  all_joined P [] ys h g = g
-  all_joined P (x ∷ xs) ys h g = (h.0, all_joined P xs ys h.1 g)
-
-  declared_last : (d : ℕ) (more : List BlockItem) → AllByRecursion (IsItem d) more → declared_in (block_items more) ≡ []
-  declared_last d [] h = refl
-  declared_last d (Declare ds ∷ more) h = absurd h.0.is
-  declared_last d (Run a ∷ more) h = declared_last d more h.1
-  declared_last d (Asserts annots ∷ more) h = declared_last d more h.1
-
-  body_names : (d : ℕ) (first more : List BlockItem) → AllByRecursion IsDeclaration first → AllByRecursion (IsItem d) more → AllByRecursion (λ (x : Declaration). IsNewName x.name) (declared_in (block_items (first ++ more)))
-  body_names d [] more h w = subst (AllByRecursion (λ (x : Declaration). IsNewName x.name)) (sym (declared_last d more w)) tt
-  body_names d (Declare ds ∷ first) more h w = all_joined (λ (x : Declaration). IsNewName x.name) ds _ (new_names ds h.0) (body_names d first more h.1 w)
-  body_names d (Run a ∷ first) more h w = absurd h.0
-  body_names d (Asserts annots ∷ first) more h w = absurd h.0
-
-  body_count : (d : ℕ) (first more : List BlockItem) → AllByRecursion IsDeclaration first → AllByRecursion (IsItem d) more → length (declared_in (block_items (first ++ more))) ≡ length (declared_in (block_items first))
-  body_count d [] more h w = ap length (declared_last d more w)
-  body_count d (Declare ds ∷ first) more h w =
-      length-append ds (declared_in (block_items (first ++ more))) ∙ ap (λ n. length ds + n) (body_count d first more h.1 w) ∙ sym (length-append ds (declared_in (block_items first)))
-  body_count d (Run a ∷ first) more h w = absurd h.0
-  body_count d (Asserts annots ∷ first) more h w = absurd h.0
-
-  -- the names that a body declares are new names
-  abbrev pub BodyDeclares : Option Statement → Type 0
-  BodyDeclares (Some (Block at is)) = AllByRecursion (λ (x : Declaration). IsNewName x.name) (declared_in is)
-  BodyDeclares _ = Unit {0}
-
-  -- what is known of a function that is read
-  pub record IsReadFunction (f : Function) : Type 0 where
-    pub formed : FunctionFormed most_read f
-    pub few : BodyFew f.body
-    pub named : BodyDeclares f.body
-
-  function_is : (t : PlainType) (f : ℕ × Place) (start close : Place) (d : ReadDeclarations) (l : List BlockItem) → AreDeclarations d → AreBehind most_nested d.items l → IsReadFunction (function_with t f start l close)
-  function_is t f start close d l h b = record {
-    formed = record {
-      params = refl;
-      no_contract = refl;
-      body = subst (λ (w : List BlockItem). BodyFormed most_read (Some (Block start (block_items w)))) (sym b.parts) (body_formed most_nested d.items b.more h.are b.are, omega (arith, body_deep most_nested d.items b.more h.are b.are));
-    };
-    few = subst (λ (w : List BlockItem). BodyFew (Some (Block start (block_items w)))) (sym b.parts) (omega (arith, body_count most_nested d.items b.more h.are b.are, h.count, h.few));
-    named = subst (λ (w : List BlockItem). BodyDeclares (Some (Block start (block_items w)))) (sym b.parts) (body_names most_nested d.items b.more h.are b.are);
+  prototype_is : (l k m n : ℕ) (t : PlainType) (f : ℕ × Place) (ds : List Declaration) (at : Place) → IsNameWithin size ws l k f → AreParameters k m ds → m ≤ n → IsFunction l n (function_with t f ds None at)
+  prototype_is l k m n t f ds at p h le = record {
+    read = record { no_contract = refl; body = tt };
+    declares = record { name = p.new; params = h.named; body = tt; few = omega arith };
+    numbers = (p.from, numbers_joined (suc f.1.offset) m n ds [] (between_lower (suc f.1.offset) k (map number_of ds) m (omega (arith, p.to)) h.numbers) le);
   }
 
-  function_body_each : (t : PlainType) (f : ℕ × Place) → Each size (function_body ws t f) (λ k x. IsReadFunction x)
-  unfolding function_body
-  function_body_each t f =
-      each_then (each_fixed size ws (mark_kind left_brace)) (λ _ start _. each_then declarations_each (λ _ d h.
-      each_then (items_each size ws most_nested (statement_in_each size ws (most_nested - 1)) d.items (d.items, 1) (none_behind most_nested d.items)) (λ _ x b.
-      each_then (each_fixed size ws (mark_kind right_brace)) (λ _ close _. each_gives _ (function_is t f start close d x.0 h b)))))
+  definition_is : (l k m i n : ℕ) (t : PlainType) (f : ℕ × Place) (ds : List Declaration) (start close : Place) (x : List BlockItem × Counts) → IsNameWithin size ws l k f → AreParameters k m ds → m ≤ i → AreItems size ws most_nested i 0 n x → IsFunction l n (function_with t f ds (Some (Block start (block_items x.0))) close)
+  definition_is l k m i n t f ds start close x p h le b =
+      let body = declared_in_items (block_items x.0) in
+      record {
+        read = record { no_contract = refl; body = (items_read most_nested x.0 b.are, omega (arith, items_deep most_nested x.0 b.are)) };
+        declares = record { name = p.new; params = h.named; body = b.declares.names; few = omega (arith, b.declares.count, b.declares.few (omega arith)) };
+        numbers = (
+          p.from,
+          numbers_joined (suc f.1.offset) m n ds body (between_lower (suc f.1.offset) k (map number_of ds) m (omega (arith, p.to)) h.numbers) (between_lower m i (map number_of body) n le b.declares.numbers),
+        );
+      }
 
-  function_each : Each size (function ws) (λ k x. IsReadFunction x)
+  function_higher : (l m n : ℕ) (f : Function) → m ≤ n → IsFunction l m f → IsFunction l n f
+  function_higher l m n f le p = record { read = p.read; declares = p.declares; numbers = between_higher size ws l m n (numbers_of f) le p.numbers }
+
+  rest_from : (t : PlainType) (f : ℕ × Place) (ds : List Declaration) (c l k m : ℕ) → IsNameWithin size ws l k f → AreParameters k m ds → From size m (function_rest ws t f ds c) (λ n x. IsFunction l n x.0)
+  unfolding function_rest
+  rest_from t f ds c l k m p h =
+      from_choice (kind ws) (mark_kind semicolon ∷ [])
+      (from_then (from_any (mark ws semicolon)) (λ n at le. from_gives _ (prototype_is l k m n t f ds at p h le)))
+      (from_then (from_any (mark ws left_brace)) (λ i start le.
+      from_then (items_from size ws most_nested (statement_in_from size ws (most_nested - 1)) i 0 i ([], record { annotation = c; declarators = 0 }) (record { are = tt; declares = declares_none size ws i 0 i (omega arith) })) (λ j x b.
+      from_then (from_any (mark ws right_brace)) (λ n close lf. from_gives _ (function_higher l j n _ lf (definition_is l k m i j t f ds start close x p h le b))))))
+
+  function_from : (c l : ℕ) → From size l (function ws c) (λ n x. IsFunction l n x.0)
   unfolding function
-  function_each = each_then (each_any (result_type ws)) (λ _ t _. each_then (each_token _) (λ _ f _. each_then (each_any (no_parameters ws)) (λ _ _ _. function_body_each t f)))
+  function_from c l =
+      from_then (from_any (result_type ws)) (λ i t le. from_then (name_from size ws i) (λ j f p. from_then (from_any (mark ws left_paren)) (λ k _ lf. from_then (parameters_from k) (λ m ds h.
+      rest_from t f ds c l k m (record { new = p.new; from = omega (arith, le, p.from); to = omega (arith, lf, p.to) }) h))))
+
+  -- ---- programs
+
+  record AreFunctions (n : ℕ) (x : List Function × ℕ) : Type 0 where
+    read : FunctionsRead x.0
+    declare : AllByRecursion DeclaresNames x.0
+    numbers : Between 0 (numbers_of_all x.0) n
+
+  read_behind : (fs : List Function) (f : Function) → FunctionsRead fs → FunctionRead f → FunctionsRead (fs ++ f ∷ [])
+  read_behind [] f h p = (p, tt)
+  read_behind (g ∷ fs) f h p = (h.0, read_behind fs f h.1 p)
+
+  numbers_behind : (fs : List Function) (f : Function) → numbers_of_all (fs ++ f ∷ []) ≡ numbers_of_all fs ++ numbers_of f
+  numbers_behind [] f = append-nil (numbers_of f)
+  numbers_behind (g ∷ fs) f = ap (λ (w : List ℕ). numbers_of g ++ w) (numbers_behind fs f) ∙ sym (append_assoc (numbers_of g) (numbers_of_all fs) (numbers_of f))
+
+  one_more_from : (m : ℕ) (x : List Function × ℕ) → AreFunctions m x → From size m (one_more_function ws x) AreFunctions
+  unfolding one_more_function
+  one_more_from m x h = from_then (function_from x.1 m) (λ n f p. from_gives _ (record {
+    read = read_behind x.0 f.0 h.read p.read;
+    declare = all_behind DeclaresNames x.0 f.0 h.declare p.declares;
+    numbers = subst (λ is. Between 0 is n) (sym (numbers_behind x.0 f.0)) (between_joined 0 m n (numbers_of_all x.0) (numbers_of f.0) h.numbers p.numbers);
+  }))
 
   -- what is known of a text that is read
-  pub record IsReadUnit (p : TranslationUnit) : Type 0 where
-    pub formed : ProgramFormed most_read p
-    pub few : FunctionsFew p.funcs
-    pub named : AllByRecursion (λ (f : Function). BodyDeclares f.body) p.funcs
+  pub record IsReadUnit (names : List (List ℕ)) (n : ℕ) (p : TranslationUnit) : Type 0 where
+    pub same_names : p.names ≡ names
+    pub read : ProgramRead p
+    pub declare : AllByRecursion DeclaresNames p.funcs
+    pub numbers : Between 0 (numbers_of_all p.funcs) n
 
-  pub unit_each : (names : List (List ℕ)) → Each size (unit ws names) (λ k p. (p.names ≡ names) × IsReadUnit p)
+  pub unit_from : (names : List (List ℕ)) → From size 0 (unit ws names) (IsReadUnit names)
   unfolding unit
-  unit_each names =
-      each_choice (kind ws) first_function
-      (each_then function_each (λ _ f h. each_gives _ (refl, record { formed = record { globals = refl; functions = h.formed }; few = (h.few, tt); named = (h.named, tt) })))
-      (each_gives _ (refl, record { formed = record { globals = refl; functions = tt }; few = tt; named = tt }))
+  unit_from names =
+      from_then (from_many (kind ws) (λ _. first_function) {P = AreFunctions} (λ m x h. one_more_from m x h) 0 ([], 1) (record { read = tt; declare = tt; numbers = omega arith })) (λ n x h.
+      from_gives _ (record { same_names = refl; read = record { globals = refl; functions = h.read }; declare = h.declare; numbers = h.numbers }))

@@ -1,184 +1,245 @@
--- Statements that are read declare nothing, have effects and calls only where they may stand, and are no deeper than the limit.
+-- Statements that are read have effects, calls and declarations only where they may stand, and are no deeper than the limit.
 use Rattle.std.proofs.Common.{◌≡◌, ℕ, zero, suc, ◌≤◌, List, [], ◌∷◌, ◌++◌, Some, None, refl, sym, ap, subst, ◌∙◌, append_assoc, append-nil, arith}
 use Rattle.std.specs.List.{AllByRecursion}
-use Rattle.grammar.proofs.Readings.{each_none, each_gives, each_then, each_choice, each_cond, each_many, each_at_most}
 use Rattle.c_syntax.specs.declared.place.Place.{Place}
 use Rattle.c_syntax.specs.Expressions.{Expression}
-use Rattle.c_syntax.specs.Statements.{Statement, Block, If, NoElse, BlockItem}
+use Rattle.c_syntax.specs.Statements.{Declaration, Statement, If, NoElse, ForFirst, BlockItem}
+use Rattle.grammar.proofs.Readings.{each_at_most}
 use Rattle.c_model.specs.declared.vocabulary.Keyword.TheVariants as keyword
 use Rattle.c_model.specs.Vocabulary.{Vocabulary}
-use Rattle.c_model.specs.Punctuators.{semicolon, left_paren, left_brace, right_brace}
-use Rattle.c_model.specs.ExpressionGrammar.{annot_open_kind, annot_close_kind, keyword_kind, mark_kind, kind, first_expression, first_effect}
-use Rattle.c_model.specs.ProgramGrammar.{Numbered, first_item, is_open, block_items, annotation, ended, condition, else_branch, else_part, selection, while_loop, do_loop, for_first, maybe_ended, for_behind, for_loop, jump, return_statement, item, items_once, items, block, empty_statement, effect_statement, statement_of, statement_in}
-use Rattle.c_model.specs.Formed.{depth, depth_of_item, depth_of_items}
+use Rattle.c_model.specs.Punctuators.{semicolon, left_paren, right_paren, left_brace, right_brace}
+use Rattle.c_model.specs.ExpressionGrammar.{annot_open_kind, annot_close_kind, keyword_kind, mark_kind, kind, first_type, first_expression, first_effect, fixed, mark, reserved, closed}
+use Rattle.c_model.specs.ProgramGrammar.{Counts, Counted, first_item, is_open, block_items, annotation, ended, condition, else_branch, else_part, selection, while_loop, do_loop, for_first, maybe_ended, returned, for_behind, for_loop, jump, return_statement, item, items_once, items, block, empty_statement, effect_statement, statement_of, statement_in}
 use Rattle.c_model.specs.WellTypedPrograms.{WhereAny}
-use Rattle.c_model.specs.Formed.{IsFull, IsFullEffect, FirstFormed, StatementFormed, ItemFormed, ItemsFormed, most_read}
-use Rattle.c_reader.proofs.FormedExpressions.{Each, each_fixed, closed_each, full_each, full_effect_each, full_call_each}
+use Rattle.c_model.specs.Formed.{IsFull, depth, depth_of_item, depth_of_items, declared_within, declared_in_first, declared_in_item, declared_in_items, most_read}
+use Rattle.c_reader.proofs.ReadForms.{IsFullOrCall, IsFullEffect, FirstRead, StatementRead, ItemRead, ItemsRead}
+use Rattle.c_reader.proofs.FormedExpressions.{full_each, full_value_each, full_effect_each, full_call_each}
 use Rattle.c_reader.proofs.FormedTerms.{clause_each}
-
-pub record IsWithin (d : ℕ) (a : Statement) : Type 0 where
-  pub is : StatementFormed most_read a
-  pub deep : depth a ≤ d
-
-pub record IsItem (d : ℕ) (i : BlockItem) : Type 0 where
-  pub is : ItemFormed most_read i
-  pub deep : depth_of_item i ≤ d
+use Rattle.c_reader.proofs.Placed.{From, from_none, from_more, from_gives, from_then, from_choice, from_cond, from_any, from_each, from_many}
+use Rattle.c_reader.proofs.FormedDeclarations.{Declares, declares_none, declares_joined, declares_lower, declares_higher, declaration_from}
 
 -- ---- items in a list
+
+-- an item in which statements stand at most d deep
+pub record IsItem (d : ℕ) (i : BlockItem) : Type 0 where
+  pub is : ItemRead i
+  pub deep : depth_of_item i ≤ d
 
 pub all_behind : {A : Type 0} (P : A → Type 0) (xs : List A) (y : A) → AllByRecursion P xs → P y → AllByRecursion P (xs ++ (y ∷ []))
 all_behind P [] y h p = (p, tt)
 all_behind P (x ∷ xs) y h p = (h.0, all_behind P xs y h.1 p)
 
-pub items_formed : (d : ℕ) (l : List BlockItem) → AllByRecursion (IsItem d) l → ItemsFormed most_read (block_items l)
-items_formed d [] h = tt
-items_formed d (i ∷ l) h = (h.0.is, items_formed d l h.1)
+pub items_read : (d : ℕ) (l : List BlockItem) → AllByRecursion (IsItem d) l → ItemsRead (block_items l)
+items_read d [] h = tt
+items_read d (i ∷ l) h = (h.0.is, items_read d l h.1)
 
 pub items_deep : (d : ℕ) (l : List BlockItem) → AllByRecursion (IsItem d) l → depth_of_items (block_items l) ≤ d
 items_deep d [] h = omega arith
 items_deep d (i ∷ l) h = omega (arith, h.0.deep, items_deep d l h.1)
 
--- items behind others
-pub record AreBehind (d : ℕ) (start all : List BlockItem) : Type 0 where
-  pub more : List BlockItem
-  pub parts : all ≡ start ++ more
-  pub are : AllByRecursion (IsItem d) more
-
-pub none_behind : (d : ℕ) (start : List BlockItem) → AreBehind d start start
-none_behind d start = record { more = []; parts = sym (append-nil start); are = tt }
-
-one_behind : (d : ℕ) (start all : List BlockItem) (i : BlockItem) → AreBehind d start all → IsItem d i → AreBehind d start (all ++ (i ∷ []))
-one_behind d start all i h p = record {
-  more = h.more ++ (i ∷ []);
-  parts = ap (λ w. w ++ (i ∷ [])) h.parts ∙ append_assoc start h.more (i ∷ []);
-  are = all_behind (IsItem d) h.more i h.are p;
-}
+declared_behind : (l : List BlockItem) (i : BlockItem) → declared_in_items (block_items (l ++ (i ∷ []))) ≡ declared_in_items (block_items l) ++ declared_in_item i
+declared_behind [] i = append-nil (declared_in_item i)
+declared_behind (j ∷ l) i = ap (λ (w : List Declaration). declared_in_item j ++ w) (declared_behind l i) ∙ sym (append_assoc (declared_in_item j) (declared_in_items (block_items l)) (declared_in_item i))
 
 module _ (size : ℕ) (ws : Vocabulary) where
+  -- a statement d deep at most, behind the offset l and c declarators of its function
+  pub record IsWithin (d l c n : ℕ) (x : Statement × Counts) : Type 0 where
+    pub is : StatementRead x.0
+    pub deep : depth x.0 ≤ d
+    pub declares : Declares size ws l c (declared_within x.0) n x.1.declarators
+
+  pub record IsItemWithin (d l c n : ℕ) (x : BlockItem × Counts) : Type 0 where
+    pub item : IsItem d x.0
+    pub declares : Declares size ws l c (declared_in_item x.0) n x.1.declarators
+
+  pub record AreItems (d l c n : ℕ) (x : List BlockItem × Counts) : Type 0 where
+    pub are : AllByRecursion (IsItem d) x.0
+    pub declares : Declares size ws l c (declared_in_items (block_items x.0)) n x.1.declarators
+
   -- ---- productions without statements in them
 
-  annotation_each : (d n : ℕ) → Each size (annotation ws n) (λ k x. IsItem d x.0)
+  annotation_from : (d l : ℕ) (c : Counts) → From size l (annotation ws c) (IsItemWithin d l c.declarators)
   unfolding annotation
-  annotation_each d n =
-      each_then (each_fixed size ws annot_open_kind) (λ _ _ _. each_then (each_at_most (clause_each size ws n)) (λ _ a p.
-      each_then (each_fixed size ws annot_close_kind) (λ _ _ _. each_gives _ (record { is = (p.0 p.1, tt); deep = omega arith }))))
+  annotation_from d l c =
+      from_then (from_any (fixed ws annot_open_kind)) (λ m _ le. from_then (from_each (each_at_most (clause_each size ws c.annotation))) (λ i a p.
+      from_then (from_any (fixed ws annot_close_kind)) (λ n _ lf. from_gives _ (record { item = record { is = (p.2.0 p.2.1, tt); deep = omega arith }; declares = declares_none size ws l c.declarators n (omega (arith, le, lf, p.1)) }))))
 
-  pub ended_each : {A : Type 0} {P : A → Type 0} (x : A) → P x → Each size (ended ws x) (λ k y. P y)
+  pub ended_from : {l : ℕ} {A : Type 0} (P : ℕ → A → Type 0) (x : A) → ((n : ℕ) → l ≤ n → P n x) → From size l (ended ws x) P
   unfolding ended
-  ended_each x p = each_then (each_fixed size ws (mark_kind semicolon)) (λ _ _ _. each_gives x p)
+  ended_from P x p = from_then (from_any (mark ws semicolon)) (λ n _ le. from_gives x (p n le))
 
-  condition_each : Each size (condition ws) (λ k e. IsFull most_read e)
+  pub closed_from : {l : ℕ} {A : Type 0} (P : ℕ → A → Type 0) (x : A) → ((n : ℕ) → l ≤ n → P n x) → From size l (closed ws x) P
+  unfolding closed
+  closed_from P x p = from_then (from_any (mark ws right_paren)) (λ n _ le. from_gives x (p n le))
+
+  -- what declares nothing
+  record IsAlone {A : Type 0} (P : A → Type 0) (l n : ℕ) (x : A) : Type 0 where
+    is : P x
+    on : l ≤ n
+
+  condition_from : (l : ℕ) → From size l (condition ws) (IsAlone (IsFull most_read) l)
   unfolding condition
-  condition_each = each_then (each_fixed size ws (mark_kind left_paren)) (λ _ _ _. each_then (full_each size ws) (λ _ e p. closed_each size ws {P = λ k e. IsFull most_read e} e p))
+  condition_from l = from_then (from_any (mark ws left_paren)) (λ m _ le. from_then (from_each (full_each size ws)) (λ i e p. closed_from (IsAlone (IsFull most_read) l) e (λ n lf. record { is = p.2; on = omega (arith, le, lf, p.1) })))
 
-  for_first_each : Each size (for_first ws) (λ k f. FirstFormed most_read f)
+  record IsFirst (l c n : ℕ) (x : ForFirst × Counts) : Type 0 where
+    is : FirstRead x.0
+    declares : Declares size ws l c (declared_in_first x.0) n x.1.declarators
+
+  for_first_from : (l : ℕ) (c : Counts) → From size l (for_first ws c) (IsFirst l c.declarators)
   unfolding for_first
-  for_first_each =
-      each_choice (kind ws) first_effect
-      (each_then (full_call_each size ws) (λ _ e p. ended_each {P = FirstFormed most_read} _ p))
-      (ended_each {P = FirstFormed most_read} _ tt)
+  for_first_from l c =
+      from_choice (kind ws) first_type
+      (from_then (declaration_from size ws l c) (λ n x h. from_gives _ (record { is = h.first; declares = h.declares })))
+      (from_choice (kind ws) first_effect
+      (from_then (from_each (full_call_each size ws)) (λ i e p. ended_from (IsFirst l c.declarators) _ (λ n le. record { is = p.2; declares = declares_none size ws l c.declarators n (omega (arith, le, p.1)) })))
+      (ended_from (IsFirst l c.declarators) _ (λ n le. record { is = tt; declares = declares_none size ws l c.declarators n le })))
 
-  maybe_each : Each size (maybe_ended ws) (λ k e. WhereAny (IsFull most_read) e)
+  maybe_from : (l : ℕ) → From size l (maybe_ended ws) (IsAlone (WhereAny (IsFull most_read)) l)
   unfolding maybe_ended
-  maybe_each =
-      each_choice (kind ws) first_expression
-      (each_then (full_each size ws) (λ _ e p. ended_each {P = WhereAny (IsFull most_read)} (Some e) p))
-      (ended_each {P = WhereAny (IsFull most_read)} None tt)
+  maybe_from l =
+      let P = IsAlone (WhereAny (IsFull most_read)) l in
+      from_choice (kind ws) first_expression
+      (from_then (from_each (full_each size ws)) (λ i e p. ended_from P (Some e) (λ n le. record { is = p.2; on = omega (arith, le, p.1) })))
+      (ended_from P None (λ n le. record { is = tt; on = le }))
 
-  behind_each : Each size (for_behind ws) (λ k e. WhereAny (IsFullEffect most_read) e)
+  returned_from : (l : ℕ) → From size l (returned ws) (IsAlone (WhereAny IsFullOrCall) l)
+  unfolding returned
+  returned_from l =
+      let P = IsAlone (WhereAny IsFullOrCall) l in
+      from_choice (kind ws) first_expression
+      (from_then (from_each (full_value_each size ws)) (λ i e p. ended_from P (Some e) (λ n le. record { is = p.2; on = omega (arith, le, p.1) })))
+      (ended_from P None (λ n le. record { is = tt; on = le }))
+
+  behind_from : (l : ℕ) → From size l (for_behind ws) (IsAlone (WhereAny IsFullEffect) l)
   unfolding for_behind
-  behind_each =
-      each_choice (kind ws) first_effect
-      (each_then (full_effect_each size ws) (λ _ e p. closed_each size ws {P = λ k e. WhereAny (IsFullEffect most_read) e} (Some e.0) p))
-      (closed_each size ws {P = λ k e. WhereAny (IsFullEffect most_read) e} None tt)
+  behind_from l =
+      let P = IsAlone (WhereAny IsFullEffect) l in
+      from_choice (kind ws) first_effect
+      (from_then (from_each (full_effect_each size ws)) (λ i e p. closed_from P (Some e.0) (λ n le. record { is = p.2; on = omega (arith, le, p.1) })))
+      (closed_from P None (λ n le. record { is = tt; on = le }))
 
-  jump_each : (d n : ℕ) → Each size (jump ws n) (λ k x. IsWithin (suc d) x.0)
+  jump_from : (d l : ℕ) (c : Counts) → From size l (jump ws c) (IsWithin (suc d) l c.declarators)
   unfolding jump
-  jump_each d n =
-      each_choice (kind ws) (keyword_kind keyword.Break ∷ [])
-      (each_then (each_fixed size ws (keyword_kind keyword.Break)) (λ _ at _. ended_each {P = λ x. IsWithin (suc d) x.0} _ (record { is = tt; deep = omega arith })))
-      (each_then (each_fixed size ws (keyword_kind keyword.Continue)) (λ _ at _. ended_each {P = λ x. IsWithin (suc d) x.0} _ (record { is = tt; deep = omega arith })))
+  jump_from d l c =
+      let P = IsWithin (suc d) l c.declarators in
+      from_choice (kind ws) (keyword_kind keyword.Break ∷ [])
+      (from_then (from_any (reserved ws keyword.Break)) (λ m at le. ended_from P _ (λ n lf. record { is = tt; deep = omega arith; declares = declares_none size ws l c.declarators n (omega (arith, le, lf)) })))
+      (from_then (from_any (reserved ws keyword.Continue)) (λ m at le. ended_from P _ (λ n lf. record { is = tt; deep = omega arith; declares = declares_none size ws l c.declarators n (omega (arith, le, lf)) })))
 
-  return_each : (d n : ℕ) → Each size (return_statement ws n) (λ k x. IsWithin (suc d) x.0)
+  return_from : (d l : ℕ) (c : Counts) → From size l (return_statement ws c) (IsWithin (suc d) l c.declarators)
   unfolding return_statement
-  return_each d n = each_then (each_fixed size ws (keyword_kind keyword.Return)) (λ _ at _. each_then maybe_each (λ _ e p. each_gives _ (record { is = p; deep = omega arith })))
+  return_from d l c = from_then (from_any (reserved ws keyword.Return)) (λ m at le. from_then (returned_from m) (λ n e p. from_gives _ (record { is = p.is; deep = omega arith; declares = declares_none size ws l c.declarators n (omega (arith, le, p.on)) })))
 
-  empty_each : (d n : ℕ) → Each size (empty_statement ws n) (λ k x. IsWithin (suc d) x.0)
+  empty_from : (d l : ℕ) (c : Counts) → From size l (empty_statement ws c) (IsWithin (suc d) l c.declarators)
   unfolding empty_statement
-  empty_each d n = each_then (each_fixed size ws (mark_kind semicolon)) (λ _ at _. each_gives _ (record { is = tt; deep = omega arith }))
+  empty_from d l c = from_then (from_any (mark ws semicolon)) (λ n at le. from_gives _ (record { is = tt; deep = omega arith; declares = declares_none size ws l c.declarators n le }))
 
-  effect_each : (d n : ℕ) → Each size (effect_statement ws n) (λ k x. IsWithin (suc d) x.0)
+  effect_from : (d l : ℕ) (c : Counts) → From size l (effect_statement ws c) (IsWithin (suc d) l c.declarators)
   unfolding effect_statement
-  effect_each d n = each_then (full_call_each size ws) (λ _ e p. ended_each {P = λ x. IsWithin (suc d) x.0} _ (record { is = p; deep = omega arith }))
+  effect_from d l c = from_then (from_each (full_call_each size ws)) (λ m e p. ended_from (IsWithin (suc d) l c.declarators) _ (λ n le. record { is = p.2; deep = omega arith; declares = declares_none size ws l c.declarators n (omega (arith, le, p.1)) }))
 
   -- ---- statements in statements
 
-  module _ (d : ℕ) {S : Numbered} (each : (n : ℕ) → Each size (S n) (λ k x. IsWithin d x.0)) where
-    item_each : (n : ℕ) → Each size (item ws S n) (λ k x. IsItem d x.0)
+  module _ (d : ℕ) {S : Counted} (each : (l : ℕ) (c : Counts) → From size l (S c) (IsWithin d l c.declarators)) where
+    item_from : (l : ℕ) (c : Counts) → From size l (item ws S c) (IsItemWithin d l c.declarators)
     unfolding item
-    item_each n = each_choice (kind ws) (annot_open_kind ∷ []) (annotation_each d n) (each_then (each n) (λ _ x p. each_gives _ (record { is = p.is; deep = p.deep })))
+    item_from l c =
+        from_choice (kind ws) (annot_open_kind ∷ []) (annotation_from d l c)
+        (from_choice (kind ws) first_type
+        (from_more (λ n x h. record { item = record { is = h.is; deep = omega (arith, h.flat) }; declares = h.declares }) (declaration_from size ws l c))
+        (from_then (each l c) (λ n x p. from_gives _ (record { item = record { is = p.is; deep = p.deep }; declares = p.declares }))))
 
-    once_each : (start : List BlockItem) (x : List BlockItem × ℕ) → AreBehind d start x.0 → Each size (items_once ws S x) (λ k y. AreBehind d start y.0)
+    once_from : (l c m : ℕ) (x : List BlockItem × Counts) → AreItems d l c m x → From size m (items_once ws S x) (AreItems d l c)
     unfolding items_once
-    once_each start x h = each_then (item_each x.1) (λ _ i p. each_gives _ (one_behind d start x.0 i.0 h p))
+    once_from l c m x h = from_then (item_from m x.1) (λ n i p. from_gives _ (record {
+      are = all_behind (IsItem d) x.0 i.0 h.are p.item;
+      declares = subst (λ (ds : List Declaration). Declares size ws l c ds n i.1.declarators) (sym (declared_behind x.0 i.0)) (declares_joined size ws l c m x.1.declarators n i.1.declarators (declared_in_items (block_items x.0)) (declared_in_item i.0) h.declares p.declares);
+    }))
 
-    pub items_each : (start : List BlockItem) (x : List BlockItem × ℕ) → AreBehind d start x.0 → Each size (items ws S x) (λ k y. AreBehind d start y.0)
+    pub items_from : (l c m : ℕ) (x : List BlockItem × Counts) → AreItems d l c m x → From size m (items ws S x) (AreItems d l c)
     unfolding items
-    items_each start x h = each_many (kind ws) (λ _. first_item) {P = λ k y. AreBehind d start y.0} (λ _ y g. once_each start y g) 0 x h
+    items_from l c m x h = from_many (kind ws) (λ _. first_item) {P = AreItems d l c} (λ i y g. once_from l c i y g) m x h
 
-    block_within : (at : Place) (l : List BlockItem) → AreBehind d [] l → IsWithin (suc d) (Block at (block_items l))
-    block_within at l h =
-        subst (λ (w : List BlockItem). IsWithin (suc d) (Block at (block_items w))) (sym h.parts)
-        (record { is = items_formed d h.more h.are; deep = omega (arith, items_deep d h.more h.are) })
-
-    block_each : (n : ℕ) → Each size (block ws S n) (λ k x. IsWithin (suc d) x.0)
+    block_from : (l : ℕ) (c : Counts) → From size l (block ws S c) (IsWithin (suc d) l c.declarators)
     unfolding block
-    block_each n = each_then (each_fixed size ws (mark_kind left_brace)) (λ _ at _. each_then (items_each [] ([], n) (none_behind d [])) (λ _ x h. each_then (each_fixed size ws (mark_kind right_brace)) (λ _ _ _. each_gives _ (block_within at x.0 h))))
+    block_from l c =
+        from_then (from_any (mark ws left_brace)) (λ m at le. from_then (items_from l c.declarators m ([], c) (record { are = tt; declares = declares_none size ws l c.declarators m le })) (λ i x h.
+        from_then (from_any (mark ws right_brace)) (λ n _ lf. from_gives _ (record {
+          is = items_read d x.0 h.are;
+          deep = omega (arith, items_deep d x.0 h.are);
+          declares = declares_higher size ws l c.declarators i n x.1.declarators (declared_in_items (block_items x.0)) lf h.declares;
+        }))))
 
-    else_branch_each : (at : Place) (e : Expression) (x : Statement × ℕ) → IsFull most_read e → IsWithin d x.0 → Each size (else_branch ws S at e x) (λ k y. IsWithin (suc d) y.0)
+    else_branch_from : (at : Place) (e : Expression) (l c m : ℕ) (x : Statement × Counts) → IsFull most_read e → IsWithin d l c m x → From size m (else_branch ws S at e x) (IsWithin (suc d) l c)
     unfolding else_branch
-    else_branch_each at e x p q = each_then (each_fixed size ws (keyword_kind keyword.Else)) (λ _ _ _. each_then (each x.1) (λ _ y r. each_gives _ (record { is = (p, q.is, r.is); deep = omega (arith, q.deep, r.deep) })))
+    else_branch_from at e l c m x p q =
+        from_then (from_any (reserved ws keyword.Else)) (λ i _ le. from_then (each i x.1) (λ n y r. from_gives _ (record {
+          is = (p, q.is, r.is);
+          deep = omega (arith, q.deep, r.deep);
+          declares = declares_joined size ws l c m x.1.declarators n y.1.declarators (declared_within x.0) (declared_within y.0) q.declares (declares_lower size ws m i x.1.declarators n y.1.declarators (declared_within y.0) le r.declares);
+        })))
 
-    else_part_each : (at : Place) (e : Expression) (x : Statement × ℕ) → IsFull most_read e → IsWithin d x.0 → Each size (else_part ws S at e x) (λ k y. IsWithin (suc d) y.0)
+    else_part_from : (at : Place) (e : Expression) (l c m : ℕ) (x : Statement × Counts) → IsFull most_read e → IsWithin d l c m x → From size m (else_part ws S at e x) (IsWithin (suc d) l c)
     unfolding else_part
-    else_part_each at e x p q =
-        let alone : IsWithin (suc d) (If at e x.0 NoElse) = record { is = (p, q.is, tt); deep = omega (arith, q.deep) } in
-        each_cond (is_open x.0) (λ _. each_gives _ alone) (λ _. each_choice (kind ws) (keyword_kind keyword.Else ∷ []) (else_branch_each at e x p q) (each_gives _ alone))
+    else_part_from at e l c m x p q =
+        let alone : IsWithin (suc d) l c m (If at e x.0 NoElse, x.1) = record {
+          is = (p, q.is, tt);
+          deep = omega (arith, q.deep);
+          declares = subst (λ (ds : List Declaration). Declares size ws l c ds m x.1.declarators) (sym (append-nil (declared_within x.0))) q.declares;
+        } in
+        from_cond (is_open x.0) (λ _. from_gives _ alone) (λ _. from_choice (kind ws) (keyword_kind keyword.Else ∷ []) (else_branch_from at e l c m x p q) (from_gives _ alone))
 
-    selection_each : (n : ℕ) → Each size (selection ws S n) (λ k x. IsWithin (suc d) x.0)
+    lower : (k l c n : ℕ) (x : Statement × Counts) → k ≤ l → IsWithin d l c n x → IsWithin d k c n x
+    lower k l c n x le p = record { is = p.is; deep = p.deep; declares = declares_lower size ws k l c n x.1.declarators (declared_within x.0) le p.declares }
+
+    selection_from : (l : ℕ) (c : Counts) → From size l (selection ws S c) (IsWithin (suc d) l c.declarators)
     unfolding selection
-    selection_each n = each_then (each_fixed size ws (keyword_kind keyword.If)) (λ _ at _. each_then condition_each (λ _ e p. each_then (each n) (λ _ x q. else_part_each at e x p q)))
+    selection_from l c =
+        from_then (from_any (reserved ws keyword.If)) (λ m at le. from_then (condition_from m) (λ i e p. from_then (each i c) (λ n x q.
+        else_part_from at e l c.declarators n x p.is (lower l i c.declarators n x (omega (arith, le, p.on)) q))))
 
-    while_each : (n : ℕ) → Each size (while_loop ws S n) (λ k x. IsWithin (suc d) x.0)
+    while_from : (l : ℕ) (c : Counts) → From size l (while_loop ws S c) (IsWithin (suc d) l c.declarators)
     unfolding while_loop
-    while_each n = each_then (each_fixed size ws (keyword_kind keyword.While)) (λ _ at _. each_then condition_each (λ _ e p. each_then (each n) (λ _ x q. each_gives _ (record { is = (refl, p, q.is); deep = omega (arith, q.deep) }))))
+    while_from l c =
+        from_then (from_any (reserved ws keyword.While)) (λ m at le. from_then (condition_from m) (λ i e p. from_then (each i c) (λ n x q.
+        from_gives _ (record { is = (refl, p.is, q.is); deep = omega (arith, q.deep); declares = (lower l i c.declarators n x (omega (arith, le, p.on)) q).declares }))))
 
-    do_each : (n : ℕ) → Each size (do_loop ws S n) (λ k x. IsWithin (suc d) x.0)
+    do_from : (l : ℕ) (c : Counts) → From size l (do_loop ws S c) (IsWithin (suc d) l c.declarators)
     unfolding do_loop
-    do_each n =
-        each_then (each_fixed size ws (keyword_kind keyword.Do)) (λ _ at _. each_then (each n) (λ _ x q. each_then (each_fixed size ws (keyword_kind keyword.While)) (λ _ _ _. each_then condition_each (λ _ e p.
-        ended_each {P = λ x. IsWithin (suc d) x.0} _ (record { is = (q.is, p); deep = omega (arith, q.deep) })))))
+    do_from l c =
+        from_then (from_any (reserved ws keyword.Do)) (λ m at le. from_then (each m c) (λ i x q. from_then (from_any (reserved ws keyword.While)) (λ j _ lf. from_then (condition_from j) (λ k e p.
+        ended_from (IsWithin (suc d) l c.declarators) _ (λ n lg. record {
+          is = (q.is, p.is);
+          deep = omega (arith, q.deep);
+          declares = declares_higher size ws l c.declarators i n x.1.declarators (declared_within x.0) (omega (arith, lf, p.on, lg)) (lower l m c.declarators i x le q).declares;
+        })))))
 
-    for_each : (n : ℕ) → Each size (for_loop ws S n) (λ k x. IsWithin (suc d) x.0)
+    for_from : (l : ℕ) (c : Counts) → From size l (for_loop ws S c) (IsWithin (suc d) l c.declarators)
     unfolding for_loop
-    for_each n =
-        each_then (each_fixed size ws (keyword_kind keyword.For)) (λ _ at _. each_then (each_fixed size ws (mark_kind left_paren)) (λ _ _ _. each_then for_first_each (λ _ f h. each_then maybe_each (λ _ e p.
-        each_then behind_each (λ _ b r. each_then (each n) (λ _ x q. each_gives _ (record { is = (refl, h, p, r, q.is); deep = omega (arith, q.deep) })))))))
+    for_from l c =
+        from_then (from_any (reserved ws keyword.For)) (λ m at le. from_then (from_any (mark ws left_paren)) (λ i _ lf. from_then (for_first_from i c) (λ j f h. from_then (maybe_from j) (λ k e p.
+        from_then (behind_from k) (λ o b r. from_then (each o f.1) (λ n x q. from_gives _ (record {
+          is = (refl, h.is, p.is, r.is, q.is);
+          deep = omega (arith, q.deep);
+          declares = declares_joined size ws l c.declarators j f.1.declarators n x.1.declarators (declared_in_first f.0) (declared_within x.0)
+              (declares_lower size ws l i c.declarators j f.1.declarators (declared_in_first f.0) (omega (arith, le, lf)) h.declares)
+              (lower j o f.1.declarators n x (omega (arith, p.on, r.on)) q).declares;
+        })))))))
 
-    statement_of_each : (n : ℕ) → Each size (statement_of ws S n) (λ k x. IsWithin (suc d) x.0)
+    statement_of_from : (l : ℕ) (c : Counts) → From size l (statement_of ws S c) (IsWithin (suc d) l c.declarators)
     unfolding statement_of
-    statement_of_each n =
-        each_choice (kind ws) (mark_kind left_brace ∷ []) (block_each n)
-        (each_choice (kind ws) (mark_kind semicolon ∷ []) (empty_each d n)
-        (each_choice (kind ws) (keyword_kind keyword.If ∷ []) (selection_each n)
-        (each_choice (kind ws) (keyword_kind keyword.While ∷ []) (while_each n)
-        (each_choice (kind ws) (keyword_kind keyword.Do ∷ []) (do_each n)
-        (each_choice (kind ws) (keyword_kind keyword.For ∷ []) (for_each n)
-        (each_choice (kind ws) (keyword_kind keyword.Return ∷ []) (return_each d n)
-        (each_choice (kind ws) (keyword_kind keyword.Break ∷ keyword_kind keyword.Continue ∷ []) (jump_each d n) (effect_each d n))))))))
+    statement_of_from l c =
+        from_choice (kind ws) (mark_kind left_brace ∷ []) (block_from l c)
+        (from_choice (kind ws) (mark_kind semicolon ∷ []) (empty_from d l c)
+        (from_choice (kind ws) (keyword_kind keyword.If ∷ []) (selection_from l c)
+        (from_choice (kind ws) (keyword_kind keyword.While ∷ []) (while_from l c)
+        (from_choice (kind ws) (keyword_kind keyword.Do ∷ []) (do_from l c)
+        (from_choice (kind ws) (keyword_kind keyword.For ∷ []) (for_from l c)
+        (from_choice (kind ws) (keyword_kind keyword.Return ∷ []) (return_from d l c)
+        (from_choice (kind ws) (keyword_kind keyword.Break ∷ keyword_kind keyword.Continue ∷ []) (jump_from d l c) (effect_from d l c))))))))
 
 -- a statement of the last depth is read as if none could stand in it
-pub statement_in_each : (size : ℕ) (ws : Vocabulary) (d n : ℕ) → Each size (statement_in ws d n) (λ k x. IsWithin (suc d) x.0)
+pub statement_in_from : (size : ℕ) (ws : Vocabulary) (d l : ℕ) (c : Counts) → From size l (statement_in ws d c) (IsWithin size ws (suc d) l c.declarators)
 unfolding statement_in
-statement_in_each size ws zero n = record { holds = (statement_of_each size ws 0 (λ m. each_none) n).holds }
-statement_in_each size ws (suc d) n = statement_of_each size ws (suc d) (statement_in_each size ws d) n
+statement_in_from size ws zero l c = record { holds = (statement_of_from size ws 0 (λ m k. from_none) l c).holds }
+statement_in_from size ws (suc d) l c = statement_of_from size ws (suc d) (statement_in_from size ws d) l c

@@ -28,6 +28,13 @@ placed_is {A} f t y e = by (f t.kind) refl e
     by (Some x) is e = let same : (x, t.place) ≡ y = cc in is ∙ ap (λ (w : A × Place). Some w.0) same
     by None is e = absurd cc
 
+pub placed_at : {A : Type 0} (f : PlainTokenKind → Option A) (t : PlainToken) (y : A × Place) → placed f t ≡ Some y → t.place ≡ y.1
+placed_at {A} f t y e = by (f t.kind) e
+  where
+    by : (o : Option A) → elim o [ Some x ↦ Some (x, t.place) | None ↦ None ] ≡ Some y → t.place ≡ y.1
+    by (Some x) e = let same : (x, t.place) ≡ y = cc in ap (λ (w : A × Place). w.1) same
+    by None e = absurd cc
+
 int_le_true : (a b : ℤ) → int_le a b ≡ true → a ≤ℤ b
 int_le_true a b e = grind (arith, ints, e)
 

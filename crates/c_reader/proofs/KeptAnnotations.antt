@@ -1,23 +1,22 @@
 -- Typing the names of asserts keeps the form of a program.
-use Rattle.std.proofs.Common.{◌≡◌, ℕ, suc, ◌+◌, ◌-◌, ◌^◌, ◌<◌, ◌≤◌, max, ℤ, pos, negsuc, ◌≤ℤ◌, Bool, true, false, ◌&&◌, cond, if◌then◌else◌, leb, List, [], ◌∷◌, ◌++◌, Option, Some, None, refl, sym, ap, subst, ◌∙◌, arith}
+use Rattle.std.proofs.Common.{◌≡◌, ℕ, ◌+◌, ◌-◌, ◌^◌, ◌≤◌, max, ℤ, pos, negsuc, ◌≤ℤ◌, Bool, true, false, cond, if◌then◌else◌, leb, List, [], ◌∷◌, ◌++◌, Option, Some, None, refl, sym, ap, subst, arith}
 use Rattle.std.proofs.lemmas.Bool.{leb-true}
 use Rattle.std.proofs.lemmas.Int.{ints}
 use Rattle.std.specs.Prelude.{bytes_eq}
 use Rattle.std.specs.List.{AllByRecursion}
 use Rattle.c_syntax.specs.declared.place.Place.{Place}
 use Rattle.c_syntax.specs.declared.types.CInt.{CInt}
-use Rattle.c_syntax.specs.declared.types.CInt.TheVariants.{I8, U8, I16, U16, I32, U32, I64, U64}
 use Rattle.c_syntax.specs.declared.expression.Use.{Use}
 use Rattle.c_syntax.specs.declared.annotation.Range.{Range}
 use Rattle.c_syntax.specs.Ctypes.{PlainType}
 use Rattle.c_syntax.specs.Annotations as logic
 use Rattle.c_syntax.specs.Annotations.{LogicTerm, Predicate, Chain, Links, NoLink, Linked, ClauseBody, Truth, Annotation}
 use Rattle.c_syntax.specs.Statements.{Statement, Empty, Eval, Block, If, While, Do, For, Break, Continue, Return, ElsePart, NoElse, Else, BlockItem, Declare, Run, Asserts, BlockItems, NoItem, Then}
-use Rattle.c_model.specs.Checked.{Checked, Good, Bad, faulty, one_part, both_parts}
+use Rattle.c_model.specs.Checked.{Good, faulty}
 use Rattle.c_model.specs.Library.{Constants, constants, constant_in, library_constant, is_there}
 use Rattle.c_model.specs.Typing.{no_name, no_type, Object, Signature, Scopes, name_at, object_named, function_called, library_function, use_as, inner, behind, behind_first}
 use Rattle.c_model.specs.ProgramTyping.{term_named, typed_term, typed_links, typed_predicate, typed_clause, typed_annotations, noted_statement, noted_else, noted_item, noted_items}
-use Rattle.c_model.specs.Formed.{IsLogicNumber, IsSumTerm, leaves_of_term, IsShortTerm, IsRelation, IsAssert, AreAsserts, depth, depth_of_else, depth_of_item, depth_of_items, StatementFormed, ElseFormed, ItemFormed, ItemsFormed, most_typed}
+use Rattle.c_model.specs.Formed.{IsLogicNumber, IsSumTerm, leaves_of_term, IsShortTerm, IsRelation, AreAsserts, depth, depth_of_else, depth_of_item, depth_of_items, StatementFormed, ElseFormed, ItemFormed, ItemsFormed, declared_within, declared_in_else, declared_in_first, declared_in_item, declared_in_items, most_typed}
 use Rattle.c_reader.proofs.KeptExpressions.{Holds, holds_one, holds_both, holds_more}
 
 -- ---- constants of the library
@@ -162,18 +161,22 @@ annotations_kept s (a ∷ rest) h =
 record IsNotedAs (a b : Statement) : Type 0 where
   is : StatementFormed most_typed b
   deep : depth b ≡ depth a
+  same : declared_within b ≡ declared_within a
 
 record IsNotedElse (a b : ElsePart) : Type 0 where
   is : ElseFormed most_typed b
   deep : depth_of_else b ≡ depth_of_else a
+  same : declared_in_else b ≡ declared_in_else a
 
 record IsNotedItem (a b : BlockItem) : Type 0 where
   is : ItemFormed most_typed b
   deep : depth_of_item b ≡ depth_of_item a
+  same : declared_in_item b ≡ declared_in_item a
 
 pub record AreNotedItems (a b : BlockItems) : Type 0 where
   pub are : ItemsFormed most_typed b
   pub deep : depth_of_items b ≡ depth_of_items a
+  pub same : declared_in_items b ≡ declared_in_items a
 
 -- a loop has no annotations of its own
 none_noted : (s : Scopes) (annots : List Annotation) → annots ≡ [] → Holds (λ xs. xs ≡ []) (typed_annotations s annots)
@@ -181,34 +184,34 @@ none_noted s annots e = subst (λ (l : List Annotation). Holds (λ xs. xs ≡ []
 
 mutual
   statement_noted : (s : Scopes) (a : Statement) → StatementFormed most_typed a → Holds (IsNotedAs a) (noted_statement s a)
-  statement_noted s (Empty at) h = record { is = tt; deep = refl }
-  statement_noted s (Eval at e) h = record { is = h; deep = refl }
-  statement_noted s (Block at items) h = holds_one (AreNotedItems items) (IsNotedAs (Block at items)) (noted_items (inner s) items) (λ x. Good (Block at x)) (items_noted (inner s) items h) (λ x p. record { is = p.are; deep = ap (λ n. 1 + n) p.deep })
+  statement_noted s (Empty at) h = record { is = tt; deep = refl; same = refl }
+  statement_noted s (Eval at e) h = record { is = h; deep = refl; same = refl }
+  statement_noted s (Block at items) h = holds_one (AreNotedItems items) (IsNotedAs (Block at items)) (noted_items (inner s) items) (λ x. Good (Block at x)) (items_noted (inner s) items h) (λ x p. record { is = p.are; deep = ap (λ n. 1 + n) p.deep; same = p.same })
   statement_noted s (If at e a b) h =
       holds_one (IsNotedAs a) (IsNotedAs (If at e a b)) (noted_statement s a) _ (statement_noted s a h.1) (λ x p.
-      holds_one (IsNotedElse b) (IsNotedAs (If at e a b)) (noted_else s b) (λ y. Good (If at e x y)) (else_noted s b h.2) (λ y q. record { is = (h.0, p.is, q.is); deep = λ i. 1 + max (p.deep i) (q.deep i) }))
+      holds_one (IsNotedElse b) (IsNotedAs (If at e a b)) (noted_else s b) (λ y. Good (If at e x y)) (else_noted s b h.2) (λ y q. record { is = (h.0, p.is, q.is); deep = λ i. 1 + max (p.deep i) (q.deep i); same = λ i. p.same i ++ q.same i }))
   statement_noted s (While at annots e a) h =
       holds_one (λ xs. xs ≡ []) (IsNotedAs (While at annots e a)) (typed_annotations s annots) _ (none_noted s annots h.0) (λ xs n.
-      holds_one (IsNotedAs a) (IsNotedAs (While at annots e a)) (noted_statement s a) (λ x. Good (While at xs e x)) (statement_noted s a h.2) (λ x p. record { is = (n, h.1, p.is); deep = ap (λ k. 1 + k) p.deep }))
-  statement_noted s (Do at a e) h = holds_one (IsNotedAs a) (IsNotedAs (Do at a e)) (noted_statement s a) (λ x. Good (Do at x e)) (statement_noted s a h.0) (λ x p. record { is = (p.is, h.1); deep = ap (λ n. 1 + n) p.deep })
+      holds_one (IsNotedAs a) (IsNotedAs (While at annots e a)) (noted_statement s a) (λ x. Good (While at xs e x)) (statement_noted s a h.2) (λ x p. record { is = (n, h.1, p.is); deep = ap (λ k. 1 + k) p.deep; same = p.same }))
+  statement_noted s (Do at a e) h = holds_one (IsNotedAs a) (IsNotedAs (Do at a e)) (noted_statement s a) (λ x. Good (Do at x e)) (statement_noted s a h.0) (λ x p. record { is = (p.is, h.1); deep = ap (λ n. 1 + n) p.deep; same = p.same })
   statement_noted s (For at annots first e b a) h =
       holds_one (λ xs. xs ≡ []) (IsNotedAs (For at annots first e b a)) (typed_annotations s annots) _ (none_noted s annots h.0) (λ xs n.
-      holds_one (IsNotedAs a) (IsNotedAs (For at annots first e b a)) (noted_statement (behind_first (inner s) first) a) (λ x. Good (For at xs first e b x)) (statement_noted (behind_first (inner s) first) a h.4) (λ x p. record { is = (n, h.1, h.2, h.3, p.is); deep = ap (λ k. 1 + k) p.deep }))
-  statement_noted s (Break at) h = record { is = tt; deep = refl }
-  statement_noted s (Continue at) h = record { is = tt; deep = refl }
-  statement_noted s (Return at e) h = record { is = h; deep = refl }
+      holds_one (IsNotedAs a) (IsNotedAs (For at annots first e b a)) (noted_statement (behind_first (inner s) first) a) (λ x. Good (For at xs first e b x)) (statement_noted (behind_first (inner s) first) a h.4) (λ x p. record { is = (n, h.1, h.2, h.3, p.is); deep = ap (λ k. 1 + k) p.deep; same = ap (λ ds. declared_in_first first ++ ds) p.same }))
+  statement_noted s (Break at) h = record { is = tt; deep = refl; same = refl }
+  statement_noted s (Continue at) h = record { is = tt; deep = refl; same = refl }
+  statement_noted s (Return at e) h = record { is = h; deep = refl; same = refl }
 
   else_noted : (s : Scopes) (b : ElsePart) → ElseFormed most_typed b → Holds (IsNotedElse b) (noted_else s b)
-  else_noted s NoElse h = record { is = tt; deep = refl }
-  else_noted s (Else a) h = holds_one (IsNotedAs a) (IsNotedElse (Else a)) (noted_statement s a) (λ x. Good (Else x)) (statement_noted s a h) (λ x p. record { is = p.is; deep = p.deep })
+  else_noted s NoElse h = record { is = tt; deep = refl; same = refl }
+  else_noted s (Else a) h = holds_one (IsNotedAs a) (IsNotedElse (Else a)) (noted_statement s a) (λ x. Good (Else x)) (statement_noted s a h) (λ x p. record { is = p.is; deep = p.deep; same = p.same })
 
   item_noted : (s : Scopes) (i : BlockItem) → ItemFormed most_typed i → Holds (IsNotedItem i) (noted_item s i)
-  item_noted s (Declare ds) h = absurd h
-  item_noted s (Run a) h = holds_one (IsNotedAs a) (IsNotedItem (Run a)) (noted_statement s a) (λ x. Good (Run x)) (statement_noted s a h) (λ x p. record { is = p.is; deep = p.deep })
-  item_noted s (Asserts annots) h = holds_one AreAsserts (IsNotedItem (Asserts annots)) (typed_annotations s annots) (λ x. Good (Asserts x)) (annotations_kept s annots h) (λ x p. record { is = p; deep = refl })
+  item_noted s (Declare ds) h = record { is = h; deep = refl; same = refl }
+  item_noted s (Run a) h = holds_one (IsNotedAs a) (IsNotedItem (Run a)) (noted_statement s a) (λ x. Good (Run x)) (statement_noted s a h) (λ x p. record { is = p.is; deep = p.deep; same = p.same })
+  item_noted s (Asserts annots) h = holds_one AreAsserts (IsNotedItem (Asserts annots)) (typed_annotations s annots) (λ x. Good (Asserts x)) (annotations_kept s annots h) (λ x p. record { is = p; deep = refl; same = refl })
 
   pub items_noted : (s : Scopes) (is : BlockItems) → ItemsFormed most_typed is → Holds (AreNotedItems is) (noted_items s is)
-  items_noted s NoItem h = record { are = tt; deep = refl }
+  items_noted s NoItem h = record { are = tt; deep = refl; same = refl }
   items_noted s (Then i rest) h =
       holds_one (IsNotedItem i) (AreNotedItems (Then i rest)) (noted_item s i) _ (item_noted s i h.0) (λ x p.
-      holds_one (AreNotedItems rest) (AreNotedItems (Then i rest)) (noted_items (behind s x) rest) (λ xs. Good (Then x xs)) (items_noted (behind s x) rest h.1) (λ xs q. record { are = (p.is, q.are); deep = λ k. max (p.deep k) (q.deep k) }))
+      holds_one (AreNotedItems rest) (AreNotedItems (Then i rest)) (noted_items (behind s x) rest) (λ xs. Good (Then x xs)) (items_noted (behind s x) rest h.1) (λ xs q. record { are = (p.is, q.are); deep = λ k. max (p.deep k) (q.deep k); same = λ k. p.same k ++ q.same k }))

@@ -1,17 +1,17 @@
 -- Typing puts at most one cast around each form, and keeps effects and calls where they stand.
-use Rattle.std.proofs.Common.{◌≡◌, ℕ, suc, ◌+◌, ◌*◌, ◌≤◌, ℤ, Bool, true, false, not, ◌&&◌, cond, if◌then◌else◌, List, [], ◌∷◌, Option, Some, None, refl, subst, arith, bytes_eq, codes}
+use Rattle.std.proofs.Common.{◌≡◌, ℕ, suc, ◌+◌, ◌*◌, ◌≤◌, ℤ, Bool, true, false, cond, if◌then◌else◌, List, Option, Some, None, subst, arith}
 use Rattle.c_syntax.specs.declared.place.Place.{Place}
 use Rattle.c_syntax.specs.declared.types.CInt.{CInt}
 use Rattle.c_syntax.specs.declared.expression.UnOp.{UnOp}
 use Rattle.c_syntax.specs.declared.expression.BinOp.{BinOp}
-use Rattle.c_syntax.specs.declared.expression.BumpOp.{BumpOp}
-use Rattle.c_syntax.specs.Ctypes.{PlainType, Void, Int, int_type}
+use Rattle.c_syntax.specs.Ctypes.{PlainType, Int, int_type}
 use Rattle.c_syntax.specs.Expressions.{Expression, Node, Number, Letter, Variable, Unary, Binary, Both, Either, Choice, Assign, Bump, Call, Cast, SizeOfType, SizeOfExpr, Expressions, NoExpression, Following, place_of, type_of}
 use Rattle.c_model.specs.Checked.{Fault, Checked, Good, Bad, faulty, one_part, both_parts, given, where_so}
 use Rattle.c_model.specs.Conversions.{promoted, common, is_shift, result_type}
 use Rattle.c_model.specs.Library.{library_constant, is_there}
-use Rattle.c_model.specs.Typing.{no_name, no_type, Object, Scopes, Signature, object_named, function_called, library_function, name_at, use_as, is_not, is_scalar, integer_of, same_type, in_type, in_int, named, literal, unary, binary, both_of, either_of, choice_of, choice_type, assign, bump, cast, size_of_type, size_of_expression, callee, argument, argument_for, first_type, rest_types, params_of, call, two, typed, typed_arguments}
-use Rattle.c_model.specs.Formed.{IsPure, ArePure, IsEffect, IsEffectOrCall, nodes_of, nodes_of_all, IsFull, IsFullEffect, IsFullEffectOrCall, most_read, most_typed}
+use Rattle.c_model.specs.Typing.{no_name, no_type, Object, Scopes, Signature, object_named, function_called, library_function, name_at, use_as, is_not, is_scalar, integer_of, same_type, in_type, in_int, named, literal, unary, binary, both_of, either_of, choice_of, choice_type, assign, bump, cast, size_of_expression, callee, argument_for, first_type, rest_types, params_of, call, two, typed, typed_arguments}
+use Rattle.c_model.specs.Formed.{IsPure, ArePure, IsPureOrCall, IsEffect, IsEffectOrCall, nodes_of, nodes_of_all, IsFull, IsFullEffect, IsFullEffectOrCall, most_read, most_typed}
+use Rattle.c_reader.proofs.ReadForms as read
 
 -- what holds of a checked part, where it has no fault
 abbrev pub Holds : {A : Type 0} → (A → Type 0) → Checked A → Type 0
@@ -137,11 +137,130 @@ typed_kept s (Node at t (SizeOfType u)) h = where_kept 1 _ _ _ tt (omega arith)
 typed_kept s (Node at t (SizeOfExpr a)) h =
     holds_one (IsKept (nodes_of a)) (IsKept (suc (nodes_of a))) (typed s a) (size_of_expression at) (typed_kept s a h) (λ x p. where_kept (suc (nodes_of a)) _ _ _ p.is (omega (arith, p.small)))
 
--- ---- effects and calls
+-- ---- arguments
 
 pub holds_more : {A : Type 0} (P Q : A → Type 0) (c : Checked A) → ((a : A) → P a → Q a) → Holds P c → Holds Q c
 holds_more P Q (Good a) f h = f a h
 holds_more P Q (Bad g gs) f h = tt
+
+record AreKept (n : ℕ) (es : Expressions) : Type 0 where
+  are : ArePure es
+  small : nodes_of_all es ≤ 2 * n
+
+argument_kept : (t : Option PlainType) (n : ℕ) (e : Expression) → IsKept n e → Holds (IsCast n) (argument_for t e)
+argument_kept None n e p = record { is = p.is; small = omega (arith, p.small) }
+argument_kept (Some t) n e p = holds_where (IsCast n) _ _ (Good (in_type t e)) (cast_of n t e p)
+
+arguments_kept : (s : Scopes) (ts : List PlainType) (es : Expressions) → ArePure es → Holds (AreKept (nodes_of_all es)) (typed_arguments s ts es)
+arguments_kept s ts NoExpression h = record { are = tt; small = omega arith }
+arguments_kept s ts (Following e es) h =
+    holds_both (IsCast (nodes_of e)) (AreKept (nodes_of_all es)) (AreKept (nodes_of e + nodes_of_all es)) (one_part (typed s e) (argument_for (first_type ts))) (typed_arguments s (rest_types ts) es) (λ x xs. Good (Following x xs))
+    (holds_one (IsKept (nodes_of e)) (IsCast (nodes_of e)) (typed s e) (argument_for (first_type ts)) (typed_kept s e h.0) (λ x p. argument_kept (first_type ts) (nodes_of e) x p))
+    (arguments_kept s (rest_types ts) es h.1)
+    (λ x xs p q. record { are = (p.is, q.are); small = omega (arith, p.small, q.small) })
+
+holds_any : {A : Type 0} (c : Checked A) → Holds (λ a. Unit {0}) c
+holds_any (Good a) = tt
+holds_any (Bad f fs) = tt
+
+-- a call, as what it may stand for
+record IsKeptCallAlone (n : ℕ) (t : Expression) : Type 0 where
+  value : read.IsPureOrCall t
+  effect : IsEffectOrCall t
+  small : suc (nodes_of t) ≤ 2 * n
+
+-- ---- values of expressions and calls
+
+-- an expression or a call, one fewer than twice the forms of the source
+pub record IsKeptValue (n : ℕ) (t : Expression) : Type 0 where
+  pub is : read.IsPureOrCall t
+  pub small : suc (nodes_of t) ≤ 2 * n
+
+-- the same in a cast
+pub record IsCastValue (n : ℕ) (t : Expression) : Type 0 where
+  pub is : IsPureOrCall t
+  pub small : nodes_of t ≤ 2 * n
+
+pure_value : (t : Expression) → IsPure t → read.IsPureOrCall t
+pure_value (Node x t (Number n c)) h = h
+pure_value (Node x t (Letter n)) h = h
+pure_value (Node x t (Variable y)) h = h
+pure_value (Node x t (Unary op a)) h = h
+pure_value (Node x t (Binary op a b)) h = h
+pure_value (Node x t (Both a b)) h = h
+pure_value (Node x t (Either a b)) h = h
+pure_value (Node x t (Choice a b c)) h = h
+pure_value (Node x t (Assign op a b)) h = absurd h
+pure_value (Node x t (Bump op a)) h = absurd h
+pure_value (Node x t (Call f es)) h = absurd h
+pure_value (Node x t (Cast to a)) h = h
+pure_value (Node x t (SizeOfType u)) h = h
+pure_value (Node x t (SizeOfExpr a)) h = h
+
+cast_value : (x : Place) (u to : PlainType) (t : Expression) → read.IsPureOrCall t → IsPureOrCall (Node x u (Cast to t))
+cast_value x u to (Node y v (Number n c)) h = h
+cast_value x u to (Node y v (Letter n)) h = h
+cast_value x u to (Node y v (Variable z)) h = h
+cast_value x u to (Node y v (Unary op a)) h = h
+cast_value x u to (Node y v (Binary op a b)) h = h
+cast_value x u to (Node y v (Both a b)) h = h
+cast_value x u to (Node y v (Either a b)) h = h
+cast_value x u to (Node y v (Choice a b c)) h = h
+cast_value x u to (Node y v (Assign op a b)) h = absurd h
+cast_value x u to (Node y v (Bump op a)) h = absurd h
+cast_value x u to (Node y v (Call f es)) h = h
+cast_value x u to (Node y v (Cast w a)) h = h
+cast_value x u to (Node y v (SizeOfType w)) h = h
+cast_value x u to (Node y v (SizeOfExpr a)) h = h
+
+bare_value : (t : Expression) → read.IsPureOrCall t → IsPureOrCall t
+bare_value (Node x t (Number n c)) h = h
+bare_value (Node x t (Letter n)) h = h
+bare_value (Node x t (Variable y)) h = h
+bare_value (Node x t (Unary op a)) h = h
+bare_value (Node x t (Binary op a b)) h = h
+bare_value (Node x t (Both a b)) h = h
+bare_value (Node x t (Either a b)) h = h
+bare_value (Node x t (Choice a b c)) h = h
+bare_value (Node x t (Assign op a b)) h = absurd h
+bare_value (Node x t (Bump op a)) h = absurd h
+bare_value (Node x t (Call f es)) h = h
+bare_value (Node x t (Cast to a)) h = cast_value x t to a (pure_value a h)
+bare_value (Node x t (SizeOfType u)) h = h
+bare_value (Node x t (SizeOfExpr a)) h = h
+
+pub value_of : (n : ℕ) (u : PlainType) (t : Expression) → IsKeptValue n t → IsCastValue n (in_type u t)
+value_of n u t p = by (same_type (type_of t) u)
+  where
+    by : (b : Bool) → IsCastValue n (cond b t (Node (place_of t) u (Cast u t)))
+    by true = record { is = bare_value t p.is; small = omega (arith, p.small) }
+    by false = record { is = cast_value (place_of t) u u t p.is; small = p.small }
+
+call_value : (s : Scopes) (at : Place) (x : ℕ) (es : Expressions) → ArePure es → Holds (IsKeptCallAlone (suc (nodes_of_all es))) (both_parts (callee s at x) (typed_arguments s (params_of (callee s at x)) es) (call at))
+call_value s at x es h =
+    holds_both (λ g. Unit {0}) (AreKept (nodes_of_all es)) (IsKeptCallAlone (suc (nodes_of_all es))) (callee s at x) (typed_arguments s (params_of (callee s at x)) es) (call at) (holds_any (callee s at x)) (arguments_kept s (params_of (callee s at x)) es h)
+    (λ g xs _ p. holds_where (IsKeptCallAlone (suc (nodes_of_all es))) _ _ (Good (Node at g.result (Call (use_as g.name g.decl) xs))) (record { value = p.are; effect = p.are; small = omega (arith, p.small) }))
+
+plain_value : (s : Scopes) (e : Expression) → IsPure e → Holds (IsKeptValue (nodes_of e)) (typed s e)
+plain_value s e h = holds_more (IsKept (nodes_of e)) (IsKeptValue (nodes_of e)) (typed s e) (λ t p. record { is = pure_value t p.is; small = p.small }) (typed_kept s e h)
+
+pub value_kept : (s : Scopes) (e : Expression) → read.IsPureOrCall e → Holds (IsKeptValue (nodes_of e)) (typed s e)
+value_kept s (Node at t (Number n k)) h = plain_value s (Node at t (Number n k)) h
+value_kept s (Node at t (Letter n)) h = plain_value s (Node at t (Letter n)) h
+value_kept s (Node at t (Variable x)) h = plain_value s (Node at t (Variable x)) h
+value_kept s (Node at t (Unary op a)) h = plain_value s (Node at t (Unary op a)) h
+value_kept s (Node at t (Binary op a b)) h = plain_value s (Node at t (Binary op a b)) h
+value_kept s (Node at t (Both a b)) h = plain_value s (Node at t (Both a b)) h
+value_kept s (Node at t (Either a b)) h = plain_value s (Node at t (Either a b)) h
+value_kept s (Node at t (Choice a b c)) h = plain_value s (Node at t (Choice a b c)) h
+value_kept s (Node at t (Assign op a b)) h = absurd h
+value_kept s (Node at t (Bump op a)) h = absurd h
+value_kept s (Node at t (Call f es)) h = holds_more (IsKeptCallAlone (suc (nodes_of_all es))) (IsKeptValue (suc (nodes_of_all es))) (typed s (Node at t (Call f es))) (λ t p. record { is = p.value; small = p.small }) (call_value s at f.name es h)
+value_kept s (Node at t (Cast to a)) h = plain_value s (Node at t (Cast to a)) h
+value_kept s (Node at t (SizeOfType u)) h = plain_value s (Node at t (SizeOfType u)) h
+value_kept s (Node at t (SizeOfExpr a)) h = plain_value s (Node at t (SizeOfExpr a)) h
+
+-- ---- effects
 
 pure_effect : (t : Expression) → IsPure t → IsEffect t
 pure_effect (Node x t (Number n c)) h = h
@@ -168,7 +287,8 @@ effect_or_call (Node x t (Binary op a b)) h = h
 effect_or_call (Node x t (Both a b)) h = h
 effect_or_call (Node x t (Either a b)) h = h
 effect_or_call (Node x t (Choice a b c)) h = h
-effect_or_call (Node x t (Assign op a b)) h = h
+effect_or_call (Node x t (Assign None a b)) h = h
+effect_or_call (Node x t (Assign (Some op) a b)) h = h
 effect_or_call (Node x t (Bump op a)) h = h
 effect_or_call (Node x t (Call f es)) h = absurd h
 effect_or_call (Node x t (Cast to a)) h = h
@@ -189,11 +309,13 @@ plain_effect s e h = holds_more (IsKept (nodes_of e)) (IsKeptEffect (nodes_of e)
 where_effect : (n : ℕ) (b : Bool) (f : Fault) (t : Expression) → IsEffect t → nodes_of t ≤ 2 * n → Holds (IsKeptEffect n) (where_so b f (Good t))
 where_effect n b f t h small = holds_where (IsKeptEffect n) b f (Good t) (record { is = h; small = small })
 
-assign_kept : (at : Place) (op : Option BinOp) (n m : ℕ) (a b : Expression) → IsKept n a → IsKept m b → Holds (IsKeptEffect (suc (n + m))) (assign at op a b)
-assign_kept at None n m a b p q = let c = cast_of m (type_of a) b q in where_effect (suc (n + m)) _ _ _ (p.is, c.is) (omega (arith, p.small, c.small))
-assign_kept at (Some op) n m a b p q = where_effect (suc (n + m)) _ _ _ (p.is, q.is) (omega (arith, p.small, q.small))
+assign_kept : (at : Place) (n m : ℕ) (a b : Expression) → IsKept n a → IsKeptValue m b → Holds (IsKeptEffect (suc (n + m))) (assign at None a b)
+assign_kept at n m a b p q = let c = value_of m (type_of a) b q in where_effect (suc (n + m)) _ _ _ (p.is, c.is) (omega (arith, p.small, c.small))
 
-pub effect_kept : (s : Scopes) (e : Expression) → IsEffect e → Holds (IsKeptEffect (nodes_of e)) (typed s e)
+compound_kept : (at : Place) (op : BinOp) (n m : ℕ) (a b : Expression) → IsKept n a → IsKept m b → Holds (IsKeptEffect (suc (n + m))) (assign at (Some op) a b)
+compound_kept at op n m a b p q = where_effect (suc (n + m)) _ _ _ (p.is, q.is) (omega (arith, p.small, q.small))
+
+pub effect_kept : (s : Scopes) (e : Expression) → read.IsEffect e → Holds (IsKeptEffect (nodes_of e)) (typed s e)
 effect_kept s (Node at t (Number n k)) h = plain_effect s (Node at t (Number n k)) h
 effect_kept s (Node at t (Letter n)) h = plain_effect s (Node at t (Letter n)) h
 effect_kept s (Node at t (Variable x)) h = plain_effect s (Node at t (Variable x)) h
@@ -202,8 +324,10 @@ effect_kept s (Node at t (Binary op a b)) h = plain_effect s (Node at t (Binary 
 effect_kept s (Node at t (Both a b)) h = plain_effect s (Node at t (Both a b)) h
 effect_kept s (Node at t (Either a b)) h = plain_effect s (Node at t (Either a b)) h
 effect_kept s (Node at t (Choice a b c)) h = plain_effect s (Node at t (Choice a b c)) h
-effect_kept s (Node at t (Assign op a b)) h =
-    holds_both (IsKept (nodes_of a)) (IsKept (nodes_of b)) (IsKeptEffect (suc (nodes_of a + nodes_of b))) (typed s a) (typed s b) (assign at op) (typed_kept s a h.0) (typed_kept s b h.1) (λ x y p q. assign_kept at op (nodes_of a) (nodes_of b) x y p q)
+effect_kept s (Node at t (Assign None a b)) h =
+    holds_both (IsKept (nodes_of a)) (IsKeptValue (nodes_of b)) (IsKeptEffect (suc (nodes_of a + nodes_of b))) (typed s a) (typed s b) (assign at None) (typed_kept s a h.0) (value_kept s b h.1) (λ x y p q. assign_kept at (nodes_of a) (nodes_of b) x y p q)
+effect_kept s (Node at t (Assign (Some op) a b)) h =
+    holds_both (IsKept (nodes_of a)) (IsKept (nodes_of b)) (IsKeptEffect (suc (nodes_of a + nodes_of b))) (typed s a) (typed s b) (assign at (Some op)) (typed_kept s a h.0) (typed_kept s b h.1) (λ x y p q. compound_kept at op (nodes_of a) (nodes_of b) x y p q)
 effect_kept s (Node at t (Bump op a)) h =
     holds_one (IsKept (nodes_of a)) (IsKeptEffect (suc (nodes_of a))) (typed s a) (bump at op) (typed_kept s a h) (λ x p. where_effect (suc (nodes_of a)) _ _ _ p.is (omega (arith, p.small)))
 effect_kept s (Node at t (Call f es)) h = absurd h
@@ -211,30 +335,12 @@ effect_kept s (Node at t (Cast to a)) h = plain_effect s (Node at t (Cast to a))
 effect_kept s (Node at t (SizeOfType u)) h = plain_effect s (Node at t (SizeOfType u)) h
 effect_kept s (Node at t (SizeOfExpr a)) h = plain_effect s (Node at t (SizeOfExpr a)) h
 
-record AreKept (n : ℕ) (es : Expressions) : Type 0 where
-  are : ArePure es
-  small : nodes_of_all es ≤ 2 * n
+-- ---- effects and calls
 
-argument_kept : (t : Option PlainType) (n : ℕ) (e : Expression) → IsKept n e → Holds (IsCast n) (argument_for t e)
-argument_kept None n e p = record { is = p.is; small = omega (arith, p.small) }
-argument_kept (Some t) n e p = holds_where (IsCast n) _ _ (Good (in_type t e)) (cast_of n t e p)
-
-arguments_kept : (s : Scopes) (ts : List PlainType) (es : Expressions) → ArePure es → Holds (AreKept (nodes_of_all es)) (typed_arguments s ts es)
-arguments_kept s ts NoExpression h = record { are = tt; small = omega arith }
-arguments_kept s ts (Following e es) h =
-    holds_both (IsCast (nodes_of e)) (AreKept (nodes_of_all es)) (AreKept (nodes_of e + nodes_of_all es)) (one_part (typed s e) (argument_for (first_type ts))) (typed_arguments s (rest_types ts) es) (λ x xs. Good (Following x xs))
-    (holds_one (IsKept (nodes_of e)) (IsCast (nodes_of e)) (typed s e) (argument_for (first_type ts)) (typed_kept s e h.0) (λ x p. argument_kept (first_type ts) (nodes_of e) x p))
-    (arguments_kept s (rest_types ts) es h.1)
-    (λ x xs p q. record { are = (p.is, q.are); small = omega (arith, p.small, q.small) })
-
-holds_any : {A : Type 0} (c : Checked A) → Holds (λ a. Unit {0}) c
-holds_any (Good a) = tt
-holds_any (Bad f fs) = tt
-
-more_call : (s : Scopes) (e : Expression) → IsEffect e → Holds (IsKeptCall (nodes_of e)) (typed s e)
+more_call : (s : Scopes) (e : Expression) → read.IsEffect e → Holds (IsKeptCall (nodes_of e)) (typed s e)
 more_call s e h = holds_more (IsKeptEffect (nodes_of e)) (IsKeptCall (nodes_of e)) (typed s e) (λ t p. record { is = effect_or_call t p.is; small = p.small }) (effect_kept s e h)
 
-pub call_kept : (s : Scopes) (e : Expression) → IsEffectOrCall e → Holds (IsKeptCall (nodes_of e)) (typed s e)
+pub call_kept : (s : Scopes) (e : Expression) → read.IsEffectOrCall e → Holds (IsKeptCall (nodes_of e)) (typed s e)
 call_kept s (Node at t (Number n k)) h = more_call s (Node at t (Number n k)) h
 call_kept s (Node at t (Letter n)) h = more_call s (Node at t (Letter n)) h
 call_kept s (Node at t (Variable x)) h = more_call s (Node at t (Variable x)) h
@@ -243,11 +349,10 @@ call_kept s (Node at t (Binary op a b)) h = more_call s (Node at t (Binary op a 
 call_kept s (Node at t (Both a b)) h = more_call s (Node at t (Both a b)) h
 call_kept s (Node at t (Either a b)) h = more_call s (Node at t (Either a b)) h
 call_kept s (Node at t (Choice a b c)) h = more_call s (Node at t (Choice a b c)) h
-call_kept s (Node at t (Assign op a b)) h = more_call s (Node at t (Assign op a b)) h
+call_kept s (Node at t (Assign None a b)) h = more_call s (Node at t (Assign None a b)) h
+call_kept s (Node at t (Assign (Some op) a b)) h = more_call s (Node at t (Assign (Some op) a b)) h
 call_kept s (Node at t (Bump op a)) h = more_call s (Node at t (Bump op a)) h
-call_kept s (Node at t (Call f es)) h =
-    holds_both (λ g. Unit {0}) (AreKept (nodes_of_all es)) (IsKeptCall (suc (nodes_of_all es))) (callee s at f.name) (typed_arguments s (params_of (callee s at f.name)) es) (call at) (holds_any (callee s at f.name)) (arguments_kept s (params_of (callee s at f.name)) es h)
-    (λ g xs _ p. holds_where (IsKeptCall (suc (nodes_of_all es))) _ _ (Good (Node at g.result (Call (use_as g.name g.decl) xs))) (record { is = p.are; small = omega (arith, p.small) }))
+call_kept s (Node at t (Call f es)) h = holds_more (IsKeptCallAlone (suc (nodes_of_all es))) (IsKeptCall (suc (nodes_of_all es))) (typed s (Node at t (Call f es))) (λ t p. record { is = p.effect; small = omega (arith, p.small) }) (call_value s at f.name es h)
 call_kept s (Node at t (Cast to a)) h = more_call s (Node at t (Cast to a)) h
 call_kept s (Node at t (SizeOfType u)) h = more_call s (Node at t (SizeOfType u)) h
 call_kept s (Node at t (SizeOfExpr a)) h = more_call s (Node at t (SizeOfExpr a)) h
@@ -257,8 +362,11 @@ call_kept s (Node at t (SizeOfExpr a)) h = more_call s (Node at t (SizeOfExpr a)
 pub full_kept : (s : Scopes) (e : Expression) → IsFull most_read e → Holds (λ t. IsKept 400 t) (typed s e)
 full_kept s e h = holds_more (IsKept (nodes_of e)) (IsKept 400) (typed s e) (λ t p. record { is = p.is; small = omega (arith, p.small, h.small) }) (typed_kept s e h.is)
 
-pub full_effect_kept : (s : Scopes) (e : Expression) → IsFullEffect most_read e → Holds (IsFullEffect most_typed) (typed s e)
+pub full_value_kept : (s : Scopes) (e : Expression) → read.IsFullOrCall e → Holds (λ t. IsKeptValue 400 t) (typed s e)
+full_value_kept s e h = holds_more (IsKeptValue (nodes_of e)) (IsKeptValue 400) (typed s e) (λ t p. record { is = p.is; small = omega (arith, p.small, h.small) }) (value_kept s e h.is)
+
+pub full_effect_kept : (s : Scopes) (e : Expression) → read.IsFullEffect e → Holds (IsFullEffect most_typed) (typed s e)
 full_effect_kept s e h = holds_more (IsKeptEffect (nodes_of e)) (IsFullEffect most_typed) (typed s e) (λ t p. record { is = p.is; small = omega (arith, p.small, h.small) }) (effect_kept s e h.is)
 
-pub full_call_kept : (s : Scopes) (e : Expression) → IsFullEffectOrCall most_read e → Holds (IsFullEffectOrCall most_typed) (typed s e)
+pub full_call_kept : (s : Scopes) (e : Expression) → read.IsFullEffectOrCall e → Holds (IsFullEffectOrCall most_typed) (typed s e)
 full_call_kept s e h = holds_more (IsKeptCall (nodes_of e)) (IsFullEffectOrCall most_typed) (typed s e) (λ t p. record { is = p.is; small = omega (arith, p.small, h.small) }) (call_kept s e h.is)

@@ -1,107 +1,36 @@
--- Typing keeps the form of a program, its names, and `main`.
-use Rattle.std.proofs.Common.{◌≡◌, ℕ, suc, ◌+◌, ◌≤◌, max, Bool, true, false, cond, List, [], ◌∷◌, ◌++◌, length, length-append, Option, Some, None, refl, sym, ap, subst, ◌∙◌, arith}
+-- Typing keeps the form of a program, its names, its numbers, and `main`.
+use Rattle.std.proofs.Common.{◌≡◌, ℕ, suc, ◌+◌, ◌≤◌, Bool, true, false, ◌&&◌, cond, List, [], ◌∷◌, ◌++◌, length, map, Option, Some, None, refl, sym, ap, subst, ◌∙◌, bytes_eq, codes}
+use Rattle.std.proofs.lemmas.List.{map-append}
 use Rattle.c_syntax.specs.declared.place.Place.{Place}
-use Rattle.c_syntax.specs.Ctypes.{PlainType}
-use Rattle.c_syntax.specs.Statements.{Declaration, Statement, Empty, Eval, Block, If, While, Do, For, Break, Continue, Return, BlockItem, Declare, Run, Asserts, BlockItems, NoItem, Then}
+use Rattle.c_syntax.specs.Ctypes.{PlainType, int_type}
+use Rattle.c_syntax.specs.Statements.{Declaration, Statement, Empty, Eval, Block, If, While, Do, For, Break, Continue, Return, BlockItems}
 use Rattle.c_syntax.specs.Programs.{Function, TranslationUnit}
-use Rattle.c_model.specs.Meaning.{declared_in}
-use Rattle.c_model.specs.Checked.{Fault, Checked, Good, Bad, one_part, both_parts, where_so}
-use Rattle.c_model.specs.Typing.{Scopes, Around, behind, typed_declarations, typed_item, typed_items}
-use Rattle.c_model.specs.ProgramTyping.{file_scopes, typed_body, typed_function, typed_functions, typed_unit, main_fault, noted_item, noted_items, noted_body, noted_functions, noted_unit}
+use Rattle.c_model.specs.Library.{is_there}
+use Rattle.c_model.specs.Checked.{Good, one_part, where_so}
+use Rattle.c_model.specs.Typing.{Scopes, name_at, no_type, is_object_type, declarable, same_type, typed_items}
+use Rattle.c_model.specs.ProgramTyping.{no_main, has_no_parameters, function_scopes, with_parameter, with_parameters, typed_heading, typed_parameter, typed_parameters, typed_body, typed_function, typed_functions, typed_unit, main_fault, noted_items, noted_body, noted_functions, noted_unit}
 use Rattle.c_model.specs.WellTypedPrograms.{around_body}
-use Rattle.c_model.specs.Formed.{depth_of_item, depth_of_items, AreInitialised, ItemsFormed, BodyItemsFormed, BodyFormed, FunctionFormed, FunctionsFormed, ProgramFormed, AreNamed, BodyNamed, FunctionsNamed, most_read, most_typed}
-use Rattle.c_reader.specs.FewObjects.{BodyFew, FunctionsFew}
-use Rattle.c_reader.proofs.KeptExpressions.{Holds, holds_one, holds_both, holds_where, holds_more, holds_at}
-use Rattle.c_reader.proofs.KeptStatements.{KeptDeclarations, declarations_kept, AreSameItems, items_kept}
+use Rattle.c_model.specs.Formed.{IsName, depth, depth_of_items, BodyFormed, FunctionFormed, FunctionsFormed, ProgramFormed, AreNamed, AreNamedParameters, declared_in_body, FunctionNamed, FunctionsNamed, number_of, numbers_of, numbers_of_all, most_typed}
+use Rattle.c_reader.proofs.ReadForms.{BodyRead, FunctionRead, FunctionsRead, ProgramRead}
+use Rattle.c_reader.proofs.KeptExpressions.{Holds, holds_one, holds_both, holds_where, holds_at}
+use Rattle.c_reader.proofs.KeptStatements.{bare, SameDeclared, declarable_is, AreSameItems, items_kept}
 use Rattle.c_reader.proofs.KeptAnnotations.{AreNotedItems, items_noted}
 
--- ---- the items of a body
-
--- items that declare nothing behind declarations
-formed_body : (most : ℕ) (is : BlockItems) → ItemsFormed most is → BodyItemsFormed most is
-formed_body most NoItem h = h
-formed_body most (Then (Declare ds) rest) h = absurd h.0
-formed_body most (Then (Run a) rest) h = h
-formed_body most (Then (Asserts annots) rest) h = h
-
-declares_nothing : (most : ℕ) (is : BlockItems) → ItemsFormed most is → declared_in is ≡ []
-declares_nothing most NoItem h = refl
-declares_nothing most (Then (Declare ds) rest) h = absurd h.0
-declares_nothing most (Then (Run a) rest) h = declares_nothing most rest h.1
-declares_nothing most (Then (Asserts annots) rest) h = declares_nothing most rest h.1
-
-named_front : (names : List (List ℕ)) (ds es : List Declaration) → AreNamed names (ds ++ es) → AreNamed names ds × AreNamed names es
-named_front names [] es h = (tt, h)
-named_front names (d ∷ ds) es h = let r = named_front names ds es h.1 in ((h.0, r.0), r.1)
-
-named_joined : (names : List (List ℕ)) (ds es : List Declaration) → AreNamed names ds → AreNamed names es → AreNamed names (ds ++ es)
-named_joined names [] es h g = g
-named_joined names (d ∷ ds) es h g = (h.0, named_joined names ds es h.1 g)
-
-record AreKeptItems (a b : BlockItems) : Type 0 where
-  are : BodyItemsFormed most_typed b
-  deep : depth_of_items b ≡ depth_of_items a
-  count : length (declared_in b) ≡ length (declared_in a)
-  named : (names : List (List ℕ)) → AreNamed names (declared_in a) → AreNamed names (declared_in b)
-
-record KeptItem (ds : List Declaration) (i : BlockItem) : Type 0 where
-  declared : List Declaration
-  is : i ≡ Declare declared
-  kept : KeptDeclarations ds declared
-
-no_names : (most : ℕ) (is : BlockItems) → ItemsFormed most is → (names : List (List ℕ)) → AreNamed names (declared_in is)
-no_names most is h names = subst (AreNamed names) (sym (declares_nothing most is h)) tt
-
-same_count : (m n : ℕ) (a b : BlockItems) → ItemsFormed m a → ItemsFormed n b → length (declared_in b) ≡ length (declared_in a)
-same_count m n a b h g = ap length (declares_nothing n b g) ∙ ap length (sym (declares_nothing m a h))
-
-last_kept : (s : Scopes) (r : Around) (is : BlockItems) → ItemsFormed most_read is → Holds (AreKeptItems is) (typed_items s r is)
-last_kept s r is h = holds_more (AreSameItems is) (AreKeptItems is) (typed_items s r is) (λ b p. record { are = formed_body most_typed b p.are; deep = p.deep; count = same_count most_read most_typed is b h p.are; named = λ names n. no_names most_typed b p.are names }) (items_kept s r is h)
-
-body_items_kept : (s : Scopes) (r : Around) (is : BlockItems) → BodyItemsFormed most_read is → Holds (AreKeptItems is) (typed_items s r is)
-body_items_kept s r NoItem h = last_kept s r NoItem h
-body_items_kept s r (Then (Run a) rest) h = last_kept s r (Then (Run a) rest) h
-body_items_kept s r (Then (Asserts annots) rest) h = last_kept s r (Then (Asserts annots) rest) h
-body_items_kept s r (Then (Declare ds) rest) h =
-    holds_one (KeptItem ds) (AreKeptItems (Then (Declare ds) rest)) (typed_item s r (Declare ds)) _
-    (holds_one (KeptDeclarations ds) (KeptItem ds) (typed_declarations s ds) (λ es. Good (Declare es)) (declarations_kept s ds h.0) (λ es p. record { declared = es; is = refl; kept = p }))
-    (λ i p. holds_one (AreKeptItems rest) (AreKeptItems (Then (Declare ds) rest)) (typed_items (behind s i) r rest) (λ xs. Good (Then i xs)) (body_items_kept (behind s i) r rest h.1)
-    (λ xs q. subst (λ (j : BlockItem). AreKeptItems (Then (Declare ds) rest) (Then j xs)) (sym p.is) (record {
-      are = (p.kept.init, q.are);
-      deep = ap (λ n. max 0 n) q.deep;
-      count = length-append p.declared (declared_in xs) ∙ (λ k. p.kept.count k + q.count k) ∙ sym (length-append ds (declared_in rest));
-      named = λ names n. let parts = named_front names ds (declared_in rest) n in named_joined names p.declared (declared_in xs) (p.kept.names names parts.0) (q.named names parts.1);
-    })))
-
-last_noted : (s : Scopes) (is : BlockItems) → ItemsFormed most_typed is → Holds (AreKeptItems is) (noted_items s is)
-last_noted s is h = holds_more (AreNotedItems is) (AreKeptItems is) (noted_items s is) (λ b p. record { are = formed_body most_typed b p.are; deep = p.deep; count = same_count most_typed most_typed is b h p.are; named = λ names n. no_names most_typed b p.are names }) (items_noted s is h)
-
-body_items_noted : (s : Scopes) (is : BlockItems) → BodyItemsFormed most_typed is → Holds (AreKeptItems is) (noted_items s is)
-body_items_noted s NoItem h = last_noted s NoItem h
-body_items_noted s (Then (Run a) rest) h = last_noted s (Then (Run a) rest) h
-body_items_noted s (Then (Asserts annots) rest) h = last_noted s (Then (Asserts annots) rest) h
-body_items_noted s (Then (Declare ds) rest) h =
-    holds_one (AreKeptItems rest) (AreKeptItems (Then (Declare ds) rest)) (noted_items (behind s (Declare ds)) rest) (λ xs. Good (Then (Declare ds) xs)) (body_items_noted (behind s (Declare ds)) rest h.1)
-    (λ xs q. record {
-      are = (h.0, q.are);
-      deep = ap (λ n. max 0 n) q.deep;
-      count = length-append ds (declared_in xs) ∙ ap (λ k. length ds + k) q.count ∙ sym (length-append ds (declared_in rest));
-      named = λ names n. let parts = named_front names ds (declared_in rest) n in named_joined names ds (declared_in xs) parts.0 (q.named names parts.1);
-    })
-
--- ---- functions
+-- ---- bodies
 
 record KeptBody (a b : Option Statement) : Type 0 where
   formed : BodyFormed most_typed b
-  few : BodyFew a → BodyFew b
-  named : (names : List (List ℕ)) → BodyNamed names a → BodyNamed names b
+  same : SameDeclared (declared_in_body a) (declared_in_body b)
+  there : is_there b ≡ is_there a
 
-body_of : (at : Place) (a b : BlockItems) → depth_of_items a ≤ 200 → AreKeptItems a b → KeptBody (Some (Block at a)) (Some (Block at b))
-body_of at a b le p = record { formed = (p.are, subst (λ n. 1 + n ≤ 201) (sym p.deep) (omega (arith, le))); few = λ h. subst (λ n. n ≤ 1000) (sym p.count) h; named = p.named }
+no_deeper : (a b : BlockItems) (at : Place) → depth_of_items b ≡ depth_of_items a → depth (Block at a) ≤ 201 → depth (Block at b) ≤ 201
+no_deeper a b at e le = subst (λ n. 1 + n ≤ 201) (sym e) le
 
-body_kept : (s : Scopes) (t : PlainType) (b : Option Statement) → BodyFormed most_read b → Holds (KeptBody b) (typed_body s t b)
-body_kept s t None h = absurd h
-body_kept s t (Some (Block at items)) h = holds_one (AreKeptItems items) (KeptBody (Some (Block at items))) (typed_items s (around_body t) items) _ (body_items_kept s (around_body t) items h.0) (λ x p. body_of at items x (omega (arith, h.1)) p)
+body_kept : (s : Scopes) (t : PlainType) (b : Option Statement) → BodyRead b → Holds (KeptBody b) (typed_body s t b)
+body_kept s t None h = record { formed = tt; same = refl; there = refl }
+body_kept s t (Some (Block at items)) h =
+    holds_one (AreSameItems items) (KeptBody (Some (Block at items))) (typed_items s (around_body t) items) _ (items_kept s (around_body t) items h.0)
+    (λ x p. record { formed = (p.are, no_deeper items x at p.deep h.1); same = p.same; there = refl })
 body_kept s t (Some (Empty at)) h = absurd h
 body_kept s t (Some (Eval at e)) h = absurd h
 body_kept s t (Some (If at e a b)) h = absurd h
@@ -113,8 +42,10 @@ body_kept s t (Some (Continue at)) h = absurd h
 body_kept s t (Some (Return at e)) h = absurd h
 
 body_noted : (s : Scopes) (b : Option Statement) → BodyFormed most_typed b → Holds (KeptBody b) (noted_body s b)
-body_noted s None h = absurd h
-body_noted s (Some (Block at items)) h = holds_one (AreKeptItems items) (KeptBody (Some (Block at items))) (noted_items s items) _ (body_items_noted s items h.0) (λ x p. body_of at items x (omega (arith, h.1)) p)
+body_noted s None h = record { formed = tt; same = refl; there = refl }
+body_noted s (Some (Block at items)) h =
+    holds_one (AreNotedItems items) (KeptBody (Some (Block at items))) (noted_items s items) _ (items_noted s items h.0)
+    (λ x p. record { formed = (p.are, no_deeper items x at p.deep h.1); same = ap (map bare) p.same; there = refl })
 body_noted s (Some (Empty at)) h = absurd h
 body_noted s (Some (Eval at e)) h = absurd h
 body_noted s (Some (If at e a b)) h = absurd h
@@ -125,55 +56,154 @@ body_noted s (Some (Break at)) h = absurd h
 body_noted s (Some (Continue at)) h = absurd h
 body_noted s (Some (Return at e)) h = absurd h
 
--- a function with another body
+-- ---- functions
+
+-- a function without its body
+abbrev heading : Function → Function
+heading f = record f { body = None }
+
+-- the same function, whose body declares the same
+record IsSameFunction (f g : Function) : Type 0 where
+  heading : heading g ≡ heading f
+  body : SameDeclared (declared_in_body f.body) (declared_in_body g.body)
+  there : is_there g.body ≡ is_there f.body
+
 record KeptFunction (f g : Function) : Type 0 where
-  body : Option Statement
-  is : g ≡ record f { body = body }
-  kept : KeptBody f.body body
+  formed : FunctionFormed most_typed g
+  same : IsSameFunction f g
 
-function_kept : (s : Scopes) (f : Function) → FunctionFormed most_read f → Holds (KeptFunction f) (typed_function s f)
-function_kept s f h =
-    holds_both (λ g. g ≡ f) (KeptBody f.body) (KeptFunction f) _ (typed_body s f.result f.body) _ (holds_where (λ g. g ≡ f) _ _ (Good f) refl) (body_kept s f.result f.body h.body)
-    (λ g b e p. record { body = b; is = ap (λ (x : Function). let y : Function = record x { body = b } in y) e; kept = p })
+with_body : (f : Function) (b : Option Statement) → f.contract ≡ None → KeptBody f.body b → KeptFunction f (record f { body = b })
+with_body f b e k = record { formed = record { no_contract = e; body = k.formed }; same = record { heading = refl; body = k.same; there = k.there } }
 
--- what is kept of a list of one function at most
+parameter_is : (s : Scopes) (d : Declaration) → Holds (λ x. x ≡ d) (typed_parameter s d)
+parameter_is s d = by d.named
+  where
+    by : (b : Bool) → Holds (λ x. x ≡ d) (cond b (declarable s d) (where_so (is_object_type d.ctype) (no_type d.place) (Good d)))
+    by true = declarable_is s d
+    by false = holds_where (λ x. x ≡ d) _ _ (Good d) refl
+
+parameters_are : (s : Scopes) (ds : List Declaration) → Holds (λ es. es ≡ ds) (typed_parameters s ds)
+parameters_are s [] = refl
+parameters_are s (d ∷ ds) =
+    holds_one (λ x. x ≡ d) (λ es. es ≡ d ∷ ds) (typed_parameter s d) _ (parameter_is s d) (λ e p.
+    holds_one (λ es. es ≡ ds) (λ es. es ≡ d ∷ ds) (typed_parameters (with_parameter s e) ds) (λ es. Good (e ∷ es)) (parameters_are (with_parameter s e) ds) (λ es q. λ i. p i ∷ q i))
+
+function_kept : (s : Scopes) (before : List Function) (f : Function) → FunctionRead f → Holds (KeptFunction f) (typed_function s before f)
+function_kept s before f h =
+    holds_one (λ g. g ≡ f) (KeptFunction f) (typed_heading s before f) _ (holds_where (λ g. g ≡ f) _ _ (Good f) refl) (λ g e.
+    subst (λ (g : Function). Holds (KeptFunction f) (one_part (typed_parameters s g.params) (λ params. one_part (typed_body (with_parameters s params) g.result g.body) (λ b. let x : Function = record g { params = params; body = b } in Good x)))) (sym e) (
+    holds_one (λ ps. ps ≡ f.params) (KeptFunction f) (typed_parameters s f.params) _ (parameters_are s f.params) (λ ps q.
+    subst (λ (ps : List Declaration). Holds (KeptFunction f) (one_part (typed_body (with_parameters s ps) f.result f.body) (λ b. let x : Function = record f { params = ps; body = b } in Good x))) (sym q) (
+    holds_one (KeptBody f.body) (KeptFunction f) (typed_body (with_parameters s f.params) f.result f.body) _ (body_kept (with_parameters s f.params) f.result f.body h.body) (λ b k. with_body f b h.no_contract k)))))
+
+-- the same functions
+abbrev SameFunctions : List Function → List Function → Type 0
+SameFunctions [] [] = Unit {0}
+SameFunctions (f ∷ fs) (g ∷ gs) = IsSameFunction f g × SameFunctions fs gs
+SameFunctions _ _ = ⊥
+
 record KeptFunctions (fs gs : List Function) : Type 0 where
   formed : FunctionsFormed most_typed gs
-  few : FunctionsFew fs → FunctionsFew gs
-  named : (names : List (List ℕ)) → FunctionsNamed names fs → FunctionsNamed names gs
-  main : (names : List (List ℕ)) → main_fault names gs ≡ main_fault names fs
+  same : SameFunctions fs gs
 
-no_functions : KeptFunctions [] []
-no_functions = record { formed = tt; few = λ h. h; named = λ names h. h; main = λ names. refl }
+functions_kept : (p : TranslationUnit) (before fs : List Function) → FunctionsRead fs → Holds (KeptFunctions fs) (typed_functions p before fs)
+functions_kept p before [] h = record { formed = tt; same = tt }
+functions_kept p before (f ∷ fs) h =
+    holds_both (KeptFunction f) (KeptFunctions fs) (KeptFunctions (f ∷ fs)) (typed_function (function_scopes p before f) before f) (typed_functions p (before ++ f ∷ []) fs) _
+    (function_kept (function_scopes p before f) before f h.0) (functions_kept p (before ++ f ∷ []) fs h.1)
+    (λ g gs k r. record { formed = (k.formed, r.formed); same = (k.same, r.same) })
 
-one_function : (f g : Function) → f.params ≡ [] → f.contract ≡ None → KeptFunction f g → KeptFunctions (f ∷ []) (g ∷ [])
-one_function f g params contract k =
-    subst (λ (x : Function). KeptFunctions (f ∷ []) (x ∷ [])) (sym k.is)
-    (record { formed = record { params = params; no_contract = contract; body = k.kept.formed }; few = λ h. (k.kept.few h.0, tt); named = λ names h. (k.kept.named names h.0, tt); main = λ names. refl })
+functions_noted : (p : TranslationUnit) (before fs : List Function) → FunctionsFormed most_typed fs → Holds (KeptFunctions fs) (noted_functions p before fs)
+functions_noted p before [] h = record { formed = tt; same = tt }
+functions_noted p before (f ∷ fs) h =
+    let s = with_parameters (function_scopes p before f) f.params in
+    holds_one (KeptBody f.body) (KeptFunctions (f ∷ fs)) (noted_body s f.body) _ (body_noted s f.body h.0.body) (λ b k.
+    holds_one (KeptFunctions fs) (KeptFunctions (f ∷ fs)) (noted_functions p (before ++ f ∷ []) fs) (λ gs. Good (record f { body = b } ∷ gs)) (functions_noted p (before ++ f ∷ []) fs h.1)
+    (λ gs r. let g = with_body f b h.0.no_contract k in record { formed = (g.formed, r.formed); same = (g.same, r.same) }))
 
-functions_kept : (s : Scopes) (fs : List Function) → FunctionsFormed most_read fs → Holds (KeptFunctions fs) (typed_functions s fs)
-functions_kept s [] h = no_functions
-functions_kept s (f ∷ []) h = holds_one (KeptFunction f) (KeptFunctions (f ∷ [])) (typed_function s f) _ (function_kept s f h) (λ g k. one_function f g h.params h.no_contract k)
-functions_kept s (f ∷ g ∷ fs) h = absurd h
+-- ---- what the same functions have
 
-functions_noted : (s : Scopes) (fs : List Function) → FunctionsFormed most_typed fs → Holds (KeptFunctions fs) (noted_functions s fs)
-functions_noted s [] h = no_functions
-functions_noted s (f ∷ []) h = holds_one (KeptBody f.body) (KeptFunctions (f ∷ [])) (noted_body s f.body) _ (body_noted s f.body h.body) (λ b k. one_function f _ h.params h.no_contract (record { body = b; is = refl; kept = k }))
-functions_noted s (f ∷ g ∷ fs) h = absurd h
+bare_named : (names : List (List ℕ)) (ds : List Declaration) → AreNamed names ds → AreNamed names (map bare ds)
+bare_named names [] h = tt
+bare_named names (d ∷ ds) h = (h.0, bare_named names ds h.1)
+
+named_bare : (names : List (List ℕ)) (ds : List Declaration) → AreNamed names (map bare ds) → AreNamed names ds
+named_bare names [] h = tt
+named_bare names (d ∷ ds) h = (h.0, named_bare names ds h.1)
+
+bare_count : (ds : List Declaration) → length (map bare ds) ≡ length ds
+bare_count [] = refl
+bare_count (d ∷ ds) = ap suc (bare_count ds)
+
+bare_numbers : (ds : List Declaration) → map number_of (map bare ds) ≡ map number_of ds
+bare_numbers [] = refl
+bare_numbers (d ∷ ds) = ap (λ (w : List ℕ). number_of d ∷ w) (bare_numbers ds)
+
+same_names : (names : List (List ℕ)) (ds es : List Declaration) → SameDeclared ds es → AreNamed names ds → AreNamed names es
+same_names names ds es e h = named_bare names es (subst (AreNamed names) (sym e) (bare_named names ds h))
+
+same_count : (ds es : List Declaration) → SameDeclared ds es → length es ≡ length ds
+same_count ds es e = sym (bare_count es) ∙ ap length e ∙ bare_count ds
+
+same_numbers : (ds es : List Declaration) → SameDeclared ds es → map number_of es ≡ map number_of ds
+same_numbers ds es e = sym (bare_numbers es) ∙ ap (map number_of) e ∙ bare_numbers ds
+
+function_named : (names : List (List ℕ)) (f g : Function) → IsSameFunction f g → FunctionNamed names f → FunctionNamed names g
+function_named names f g s h = record {
+  name = subst (λ (x : Function). IsName (name_at names x.name)) (sym s.heading) h.name;
+  params = subst (λ (x : Function). AreNamedParameters names x.params) (sym s.heading) h.params;
+  body = same_names names (declared_in_body f.body) (declared_in_body g.body) s.body h.body;
+  few = subst (λ n. n ≤ 1000) (sym (same_count (declared_in_body f.body) (declared_in_body g.body) s.body)) h.few;
+}
+
+function_numbers : (f g : Function) → IsSameFunction f g → numbers_of g ≡ numbers_of f
+function_numbers f g s =
+    split g ∙ (λ i. let x = s.heading i in x.place.offset ∷ (map number_of x.params ++ same_numbers (declared_in_body f.body) (declared_in_body g.body) s.body i)) ∙ sym (split f)
+  where
+    split : (x : Function) → numbers_of x ≡ x.place.offset ∷ (map number_of x.params ++ map number_of (declared_in_body x.body))
+    split x = ap (λ (w : List ℕ). x.place.offset ∷ w) (map-append number_of x.params (declared_in_body x.body))
+
+function_main : (names : List (List ℕ)) (f g : Function) (fs gs : List Function) → IsSameFunction f g → main_fault names gs ≡ main_fault names fs → main_fault names (g ∷ gs) ≡ main_fault names (f ∷ fs)
+function_main names f g fs gs s e = λ i.
+    let x = s.heading i in
+    cond (s.there i && bytes_eq (name_at names x.name) (codes "main")) (cond (same_type x.result int_type && has_no_parameters x.params) None (Some (no_main x.place))) (e i)
+
+functions_named : (names : List (List ℕ)) (fs gs : List Function) → SameFunctions fs gs → FunctionsNamed names fs → FunctionsNamed names gs
+functions_named names [] [] s h = tt
+functions_named names (f ∷ fs) (g ∷ gs) s h = (function_named names f g s.0 h.0, functions_named names fs gs s.1 h.1)
+functions_named names [] (g ∷ gs) s h = absurd s
+functions_named names (f ∷ fs) [] s h = absurd s
+
+functions_numbers : (fs gs : List Function) → SameFunctions fs gs → numbers_of_all gs ≡ numbers_of_all fs
+functions_numbers [] [] s = refl
+functions_numbers (f ∷ fs) (g ∷ gs) s = λ i. function_numbers f g s.0 i ++ functions_numbers fs gs s.1 i
+functions_numbers [] (g ∷ gs) s = absurd s
+functions_numbers (f ∷ fs) [] s = absurd s
+
+functions_main : (names : List (List ℕ)) (fs gs : List Function) → SameFunctions fs gs → main_fault names gs ≡ main_fault names fs
+functions_main names [] [] s = refl
+functions_main names (f ∷ fs) (g ∷ gs) s = function_main names f g fs gs s.0 (functions_main names fs gs s.1)
+functions_main names [] (g ∷ gs) s = absurd s
+functions_main names (f ∷ fs) [] s = absurd s
 
 -- ---- programs
 
 pub record KeptProgram (p q : TranslationUnit) : Type 0 where
   pub formed : ProgramFormed most_typed q
-  pub few : FunctionsFew p.funcs → FunctionsFew q.funcs
   pub named : FunctionsNamed p.names p.funcs → FunctionsNamed q.names q.funcs
+  pub numbers : numbers_of_all q.funcs ≡ numbers_of_all p.funcs
   pub main : main_fault q.names q.funcs ≡ main_fault p.names p.funcs
 
 program_of : (p : TranslationUnit) (fs : List Function) → p.globals ≡ [] → KeptFunctions p.funcs fs → KeptProgram p (record p { funcs = fs })
-program_of p fs g k = record { formed = record { globals = g; functions = k.formed }; few = k.few; named = k.named p.names; main = k.main p.names }
+program_of p fs g k = record {
+  formed = record { globals = g; functions = k.formed };
+  named = functions_named p.names p.funcs fs k.same;
+  numbers = functions_numbers p.funcs fs k.same;
+  main = functions_main p.names p.funcs fs k.same;
+}
 
-pub unit_kept : (p q : TranslationUnit) → ProgramFormed most_read p → typed_unit p ≡ Good q → KeptProgram p q
-unit_kept p q h e = holds_at (KeptProgram p) (typed_unit p) q e (holds_one (KeptFunctions p.funcs) (KeptProgram p) (typed_functions (file_scopes p) p.funcs) _ (functions_kept (file_scopes p) p.funcs h.functions) (λ fs k. program_of p fs h.globals k))
+pub unit_kept : (p q : TranslationUnit) → ProgramRead p → typed_unit p ≡ Good q → KeptProgram p q
+unit_kept p q h e = holds_at (KeptProgram p) (typed_unit p) q e (holds_one (KeptFunctions p.funcs) (KeptProgram p) (typed_functions p [] p.funcs) _ (functions_kept p [] p.funcs h.functions) (λ fs k. program_of p fs h.globals k))
 
 pub unit_noted : (p q : TranslationUnit) → ProgramFormed most_typed p → noted_unit p ≡ Good q → KeptProgram p q
-unit_noted p q h e = holds_at (KeptProgram p) (noted_unit p) q e (holds_one (KeptFunctions p.funcs) (KeptProgram p) (noted_functions (file_scopes p) p.funcs) _ (functions_noted (file_scopes p) p.funcs h.functions) (λ fs k. program_of p fs h.globals k))
+unit_noted p q h e = holds_at (KeptProgram p) (noted_unit p) q e (holds_one (KeptFunctions p.funcs) (KeptProgram p) (noted_functions p [] p.funcs) _ (functions_noted p [] p.funcs h.functions) (λ fs k. program_of p fs h.globals k))

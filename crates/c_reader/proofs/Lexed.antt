@@ -19,7 +19,7 @@ use Rattle.c_model.specs.MonitoredTokens.{Read, whole, nothing_read}
 use Rattle.c_model.specs.MonitoredTokenLaws.{with_names}
 use Rattle.c_model.specs.Pieces.{Pieces, Ended, Broken, Cut, begins_name, mode_after, pieces_of}
 use Rattle.c_model.specs.CTokens.{joined, with_string, add, refused, closed, most_tokens, build, tokens_of}
-use Rattle.c_model.specs.CTokenLaws.{bytes_of, IsName, Spells, AreSpelled, word_then, words_of}
+use Rattle.c_model.specs.CTokenLaws.{bytes_of, IsName, Spells, AreSpelled, word_then, words_of, Ascend}
 use Rattle.c_model.specs.Vocabulary.{word_of, word_at}
 use Rattle.c_model.specs.ExpressionGrammar.{name_kind, word_kind}
 use Rattle.c_model.specs.Formed as program
@@ -28,8 +28,10 @@ use Rattle.c_model.proofs.Spelling.{chosen}
 use Rattle.c_model.proofs.NameLaws.{number_points}
 use Rattle.c_model.proofs.CNameLaws.{names_in_order}
 use Rattle.c_model.proofs.CPieceLaws.{pieces_spelled}
+use Rattle.c_model.proofs.CListLaws.{tokens_ascend}
 use Rattle.c_reader.proofs.FormedExpressions.{IsLexed, IsLexedKind}
-use Rattle.c_reader.proofs.FormedPrograms.{IsNewName}
+use Rattle.c_reader.proofs.Placed.{Reach}
+use Rattle.c_reader.proofs.FormedDeclarations.{IsNewName}
 
 -- ---- words
 
@@ -198,12 +200,29 @@ tokens_lexed : (text : List ℕ) (tokens : PlainTokens) → tokens_of text ≡ O
 unfolding tokens_of
 tokens_lexed text tokens e = build_lexed nothing_read (pieces_of text) tokens tt e
 
+-- ---- places
+
+-- the offset behind the last token
+abbrev last_end : ℕ → List PlainToken → ℕ
+last_end l [] = l
+last_end l (t ∷ ts) = last_end (suc t.place.offset) ts
+
+ascending : (l : ℕ) (t : PlainToken) (ts : List PlainToken) → l ≤ t.place.offset → Ascend (t ∷ ts) → Reach l (t ∷ ts) (last_end l (t ∷ ts))
+ascending l t [] le h = (le, refl)
+ascending l t (u ∷ ts) le h = (le, ascending (suc t.place.offset) u ts (omega (arith, h.0)) h.1)
+
+reached : (ts : List PlainToken) → Ascend ts → Reach 0 ts (last_end 0 ts)
+reached [] h = refl
+reached (t ∷ ts) h = ascending 0 t ts (omega arith) h
+
 pub record Lexed (tokens : PlainTokens) : Type 0 where
   pub names : AreWords tokens.names
   pub list : AreLexed (length tokens.names) tokens.list
+  pub end : ℕ
+  pub reach : Reach 0 tokens.list end
 
 pub lexed : (text : List ℕ) (tokens : PlainTokens) → tokens_of text ≡ Ok tokens → Lexed tokens
-lexed text tokens e = record { names = names_are_words text tokens e; list = tokens_lexed text tokens e }
+lexed text tokens e = record { names = names_are_words text tokens e; list = tokens_lexed text tokens e; end = last_end 0 tokens.list; reach = reached tokens.list (tokens_ascend text tokens e) }
 
 -- ---- names that are declared
 

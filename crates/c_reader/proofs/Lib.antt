@@ -1,5 +1,8 @@
+pub mod ReadForms
 pub mod FormedExpressions
 pub mod FormedTerms
+pub mod Placed
+pub mod FormedDeclarations
 pub mod FormedStatements
 pub mod FormedPrograms
 pub mod Lexed

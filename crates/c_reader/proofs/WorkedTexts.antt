@@ -1,5 +1,5 @@
 -- C texts with annotations, and what their runs print and how they end, or their refusals, by computation.
-use Rattle.std.proofs.Common.{◌≡◌, ℕ, pos, negsuc, List, [], ◌∷◌, length, map, Result, Ok, Err, codes, refl}
+use Rattle.std.proofs.Common.{◌≡◌, ℕ, pos, negsuc, List, [], ◌∷◌, length, Result, Ok, Err, codes, refl}
 use Rattle.std.specs.Fmt.{decimal}
 use Rattle.grammar.specs.Syntax as grammar
 use Rattle.c_syntax.specs.declared.place.Place.{Place}
@@ -14,8 +14,8 @@ use Rattle.c_model.specs.Pieces.{outside_in_c, outside_in_annotations, backslash
 use Rattle.c_model.specs.CTokens.{add, build, tokens_of}
 use Rattle.c_model.specs.Vocabulary.{word_of}
 use Rattle.c_model.specs.Library.{library_constant, is_library_name}
-use Rattle.c_model.specs.ExpressionGrammar.{integer_word, integer_words, type_name, base, consts, type_words, closed, literal, cast_rest, sized_type, paren_rest, behind_paren, prefixed, sized, operand_but_name, operand_of, operand, joined_once, behind_operand, choice_rest, expression_rest, expression_of, expression, assigned, bumped, behind_unary, behind_primary, behind_form, effect_rest, bump_first, effect_but_name, effect, next_argument, arguments, call_rest, behind_name, effect_or_call, full_expression, full_effect, full_effect_or_call}
-use Rattle.c_model.specs.ProgramGrammar.{atom, sum_once, sum_of, sum, assert_clause, annotation, ended, condition, else_branch, else_part, selection, while_loop, do_loop, for_first, maybe_ended, for_behind, for_loop, jump, return_statement, item, items_once, items, block, empty_statement, effect_statement, statement_of, statement_in, declarator, next_declarator, declaration, declarations, storage_word, result_type, no_parameters, function_body, function, unit}
+use Rattle.c_model.specs.ExpressionGrammar.{integer_word, integer_words, type_name, base, consts, type_words, type_behind, closed, literal, cast_rest, sized_type, paren_rest, behind_paren, prefixed, sized, operand_but_name, operand_of, operand, joined_once, behind_operand, choice_rest, expression_rest, expression_of, expression, next_argument, arguments, call_rest, behind_name_or_callee, expression_or_call, assigned_value, assigned, bumped, behind_unary, behind_primary, behind_form, effect_rest, bump_first, effect_but_name, effect, behind_name, effect_or_call, full_expression, full_expression_or_call, full_effect, full_effect_or_call}
+use Rattle.c_model.specs.ProgramGrammar.{atom, sum_once, sum_of, sum, assert_clause, annotation, declared_name, declarator, next_declarator, declaration, ended, condition, else_branch, else_part, selection, while_loop, do_loop, for_first, maybe_ended, for_behind, for_loop, jump, returned, return_statement, item, items_once, items, block, empty_statement, effect_statement, statement_of, statement_in, storage_word, result_type, parameter_name, void_parameter, parameter_behind, parameter, next_parameter, more_parameters, first_parameter, parameters, function_rest, function, one_more_function, unit}
 use Rattle.c_model.specs.State.{EndOfInput, Final, Exits, Broken, Undefined}
 use Rattle.c_model.specs.Meaning.{run}
 use Rattle.c_model.specs.Phases.{vocabulary, syntax_refusal}
@@ -68,7 +68,7 @@ programs :
     Ok (Exits (pos 1), []) ∷
     Ok (Exits (pos 1), []) ∷
     Ok (Broken 2 1 clause.Assert how.False, []) ∷ []
-unfolding tokens_of build cut piece_at add marks digits_at suffix_of body_of literal_of escape_at unit_at letter_of is_file ends_marker headers include_fault directive_fault outside_in_c outside_in_annotations backslash_names is_outside word_at number_at letter_at string_at annotation_marks c_mark_at mark_at comment_at open_block open_line other_at directive_at integer_word integer_words type_name base consts type_words closed literal cast_rest sized_type paren_rest behind_paren prefixed sized operand_but_name operand_of operand joined_once behind_operand choice_rest expression_rest expression_of expression assigned bumped behind_unary behind_primary behind_form effect_rest bump_first effect_but_name effect next_argument arguments call_rest behind_name effect_or_call full_expression full_effect full_effect_or_call atom sum_once sum_of sum assert_clause annotation ended condition else_branch else_part selection while_loop do_loop for_first maybe_ended for_behind for_loop jump return_statement item items_once items block empty_statement effect_statement statement_of statement_in declarator next_declarator declaration declarations storage_word result_type no_parameters function_body function unit word_of library_constant is_library_name
+unfolding tokens_of build cut piece_at add marks digits_at suffix_of body_of literal_of escape_at unit_at letter_of is_file ends_marker headers include_fault directive_fault outside_in_c outside_in_annotations backslash_names is_outside word_at number_at letter_at string_at annotation_marks c_mark_at mark_at comment_at open_block open_line other_at directive_at integer_word integer_words type_name base consts type_words type_behind closed literal cast_rest sized_type paren_rest behind_paren prefixed sized operand_but_name operand_of operand joined_once behind_operand choice_rest expression_rest expression_of expression next_argument arguments call_rest behind_name_or_callee expression_or_call assigned_value assigned bumped behind_unary behind_primary behind_form effect_rest bump_first effect_but_name effect behind_name effect_or_call full_expression full_expression_or_call full_effect full_effect_or_call atom sum_once sum_of sum assert_clause annotation declared_name declarator next_declarator declaration ended condition else_branch else_part selection while_loop do_loop for_first maybe_ended for_behind for_loop jump returned return_statement item items_once items block empty_statement effect_statement statement_of statement_in storage_word result_type parameter_name void_parameter parameter_behind parameter next_parameter more_parameters first_parameter parameters function_rest function one_more_function unit word_of library_constant is_library_name
 programs = refl
 
 -- texts that are refused
@@ -108,5 +108,59 @@ refusals :
     refusal 6 (place 1 18 17) (codes "continue") ∷
     refusal 6 (place 1 25 24) (decimal 18446744073709551615) ∷
     refusal 5 (place 1 29 28) (codes "x") ∷ []
-unfolding tokens_of build cut piece_at add marks digits_at suffix_of body_of literal_of escape_at unit_at letter_of is_file ends_marker headers include_fault directive_fault outside_in_c outside_in_annotations backslash_names is_outside word_at number_at letter_at string_at annotation_marks c_mark_at mark_at comment_at open_block open_line other_at directive_at integer_word integer_words type_name base consts type_words closed literal cast_rest sized_type paren_rest behind_paren prefixed sized operand_but_name operand_of operand joined_once behind_operand choice_rest expression_rest expression_of expression assigned bumped behind_unary behind_primary behind_form effect_rest bump_first effect_but_name effect next_argument arguments call_rest behind_name effect_or_call full_expression full_effect full_effect_or_call atom sum_once sum_of sum assert_clause annotation ended condition else_branch else_part selection while_loop do_loop for_first maybe_ended for_behind for_loop jump return_statement item items_once items block empty_statement effect_statement statement_of statement_in declarator next_declarator declaration declarations storage_word result_type no_parameters function_body function unit word_of library_constant is_library_name
+unfolding tokens_of build cut piece_at add marks digits_at suffix_of body_of literal_of escape_at unit_at letter_of is_file ends_marker headers include_fault directive_fault outside_in_c outside_in_annotations backslash_names is_outside word_at number_at letter_at string_at annotation_marks c_mark_at mark_at comment_at open_block open_line other_at directive_at integer_word integer_words type_name base consts type_words type_behind closed literal cast_rest sized_type paren_rest behind_paren prefixed sized operand_but_name operand_of operand joined_once behind_operand choice_rest expression_rest expression_of expression next_argument arguments call_rest behind_name_or_callee expression_or_call assigned_value assigned bumped behind_unary behind_primary behind_form effect_rest bump_first effect_but_name effect behind_name effect_or_call full_expression full_expression_or_call full_effect full_effect_or_call atom sum_once sum_of sum assert_clause annotation declared_name declarator next_declarator declaration ended condition else_branch else_part selection while_loop do_loop for_first maybe_ended for_behind for_loop jump returned return_statement item items_once items block empty_statement effect_statement statement_of statement_in storage_word result_type parameter_name void_parameter parameter_behind parameter next_parameter more_parameters first_parameter parameters function_rest function one_more_function unit word_of library_constant is_library_name
 refusals = refl
+
+-- functions, their prototypes and calls, and declarations in blocks
+calls :
+    outcome (codes "int gcd(int a, int b) { if (b == 0) return a; return gcd(b, a % b); } int main(void) { return gcd(12, 18); }") ∷
+    outcome (codes "int odd(int); int even(int n) { if (!n) return 1; return odd(n - 1); } int odd(int n) { if (!n) return 0; return even(n - 1); } int main() { return even(6); }") ∷
+    outcome (codes "void put(unsigned char, int times); static void put(unsigned char c, int times) { while (times > 0) { putchar(c); times--; } } int main(void) { put(321, 3); return 0; }") ∷
+    outcome (codes "unsigned char low(int x) { return x; } int main(void) { int y = 1; y = low(515); return y; }") ∷
+    outcome (codes "int main(void) { int x = 1; { long x = 40; x = x + 1; putchar(x); } for (int i = 0, j = 3; i < j; ++i) { char c = 'a' + i; putchar(c); } return x; }") ∷
+    outcome (codes "int main(void) { int c = getchar(); if (c == -1) exit(7); return 0; }") ∷
+    outcome (codes "int half(int n) { //@ assert n + 1 > 2;\n return n / 2; } int main(void) { putchar('h'); return half(1); }") ∷ []
+    ≡
+    Ok (Exits (pos 6), []) ∷
+    Ok (Exits (pos 1), []) ∷
+    Ok (Exits (pos 0), 65 ∷ 65 ∷ 65 ∷ []) ∷
+    Ok (Exits (pos 3), []) ∷
+    Ok (Exits (pos 1), 41 ∷ 97 ∷ 98 ∷ 99 ∷ []) ∷
+    Ok (Exits (pos 7), []) ∷
+    Ok (Broken 1 1 clause.Assert how.False, 104 ∷ []) ∷ []
+unfolding tokens_of build cut piece_at add marks digits_at suffix_of body_of literal_of escape_at unit_at letter_of is_file ends_marker headers include_fault directive_fault outside_in_c outside_in_annotations backslash_names is_outside word_at number_at letter_at string_at annotation_marks c_mark_at mark_at comment_at open_block open_line other_at directive_at integer_word integer_words type_name base consts type_words type_behind closed literal cast_rest sized_type paren_rest behind_paren prefixed sized operand_but_name operand_of operand joined_once behind_operand choice_rest expression_rest expression_of expression next_argument arguments call_rest behind_name_or_callee expression_or_call assigned_value assigned bumped behind_unary behind_primary behind_form effect_rest bump_first effect_but_name effect behind_name effect_or_call full_expression full_expression_or_call full_effect full_effect_or_call atom sum_once sum_of sum assert_clause annotation declared_name declarator next_declarator declaration ended condition else_branch else_part selection while_loop do_loop for_first maybe_ended for_behind for_loop jump returned return_statement item items_once items block empty_statement effect_statement statement_of statement_in storage_word result_type parameter_name void_parameter parameter_behind parameter next_parameter more_parameters first_parameter parameters function_rest function one_more_function unit word_of library_constant is_library_name
+calls = refl
+
+-- texts that are refused for their functions, calls and declarations
+refused_calls :
+    outcome (codes "int f(int a, int a) { return a; } int main(void) { return 0; }") ∷
+    outcome (codes "int f(int a) { int a = 1; return a; } int main(void) { return 0; }") ∷
+    outcome (codes "int f(int a); int main(void) { return f(1); }") ∷
+    outcome (codes "int f(int a) { return a; } int main(void) { return f(1, 2); }") ∷
+    outcome (codes "int f(void) { return 0; } int f() { return 1; } int main(void) { return 0; }") ∷
+    outcome (codes "int f(int); long f(int x) { return x; } int main(void) { return 0; }") ∷
+    outcome (codes "int f(void) { return 1; } int main(void) { return 1 + f(); }") ∷
+    outcome (codes "int main(void) { int x = main(); return x; }") ∷
+    outcome (codes "int putchar(int c) { return c; } int main(void) { return 0; }") ∷
+    outcome (codes "int f(void x) { return 0; } int main(void) { return 0; }") ∷
+    outcome (codes "int main(void) { if (1) int x = 1; return 0; }") ∷
+    outcome (codes "int main(void) { for (int i = 0; i < 1; ++i) ; return i; }") ∷
+    outcome (codes "int main(void);") ∷
+    outcome (codes "int main(int c) { return c; }") ∷ []
+    ≡
+    refusal 5 (place 1 18 17) (codes "a") ∷
+    refusal 5 (place 1 20 19) (codes "a") ∷
+    refusal 5 (place 1 40 39) (codes "(") ∷
+    refusal 6 (place 1 53 52) (codes "(") ∷
+    refusal 5 (place 1 31 30) (codes "f") ∷
+    refusal 5 (place 1 18 17) (codes "f") ∷
+    refusal 4 (place 1 56 55) (codes "(") ∷
+    refusal 6 (place 1 30 29) (codes "(") ∷
+    refusal 5 (place 1 5 4) (codes "putchar") ∷
+    refusal 6 (place 1 12 11) (codes "x") ∷
+    refusal 4 (place 1 25 24) (codes "int") ∷
+    refusal 5 (place 1 55 54) (codes "i") ∷
+    refusal 13 (place 1 1 0) (codes "main") ∷
+    refusal 13 (place 1 5 4) (codes "main") ∷ []
+unfolding tokens_of build cut piece_at add marks digits_at suffix_of body_of literal_of escape_at unit_at letter_of is_file ends_marker headers include_fault directive_fault outside_in_c outside_in_annotations backslash_names is_outside word_at number_at letter_at string_at annotation_marks c_mark_at mark_at comment_at open_block open_line other_at directive_at integer_word integer_words type_name base consts type_words type_behind closed literal cast_rest sized_type paren_rest behind_paren prefixed sized operand_but_name operand_of operand joined_once behind_operand choice_rest expression_rest expression_of expression next_argument arguments call_rest behind_name_or_callee expression_or_call assigned_value assigned bumped behind_unary behind_primary behind_form effect_rest bump_first effect_but_name effect behind_name effect_or_call full_expression full_expression_or_call full_effect full_effect_or_call atom sum_once sum_of sum assert_clause annotation declared_name declarator next_declarator declaration ended condition else_branch else_part selection while_loop do_loop for_first maybe_ended for_behind for_loop jump returned return_statement item items_once items block empty_statement effect_statement statement_of statement_in storage_word result_type parameter_name void_parameter parameter_behind parameter next_parameter more_parameters first_parameter parameters function_rest function one_more_function unit word_of library_constant is_library_name
+refused_calls = refl

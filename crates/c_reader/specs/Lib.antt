@@ -1,2 +1,1 @@
-pub mod FewObjects
 pub mod Answers

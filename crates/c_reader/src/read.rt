@@ -6,7 +6,6 @@ ghost use Rattle.c_syntax.specs.Programs.{TranslationUnit, PlainRefusal, plain_p
 ghost use Rattle.c_model.specs.Formed.{IsProgram};
 ghost use Rattle.c_model.specs.Phases.{AcceptedText, RefusedText};
 ghost use Rattle.c_reader.specs.Answers.{Refuses, IsTypedAs, HasFault};
-ghost use Rattle.c_reader.specs.FewObjects.{FunctionsFew};
 
 use crate::refusal::{refuse, refuse_program};
 use c_lexer::tokens;
@@ -36,7 +35,6 @@ pub fn read_text(alloc: Global, text: &[u8]) -> Result<Program, FrontFault>
     ensures accepted { IfOk result (λ p. AcceptedText text.now (plain_program p)) }
     ensures refused { IfErr result (λ e. Refuses e text.now) }
     ensures program { IfOk result (λ p. IsProgram (plain_program p)) }
-    ensures few { IfOk result (λ p. FunctionsFew (plain_program p).funcs) }
 {
     let tokens = match tokens(alloc, text) {
         Ok(tokens) => tokens,
@@ -59,5 +57,4 @@ pub fn about_texts()
     ensures apart { (text : List ℕ) (p : TranslationUnit) (r : PlainRefusal) → AcceptedText text p → RefusedText text r → ⊥ }
     ensures single { (text : List ℕ) (r s : PlainRefusal) → RefusedText text r → RefusedText text s → r ≡ s }
     ensures program { (text : List ℕ) (p : TranslationUnit) → AcceptedText text p → IsProgram p }
-    ensures few { (text : List ℕ) (p : TranslationUnit) → AcceptedText text p → FunctionsFew p.funcs }
 {}

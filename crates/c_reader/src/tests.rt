@@ -49,3 +49,53 @@ fn texts_are_read_or_refused_by_the_first_phase_with_a_fault(
     }
     Ok(())
 }
+
+#[test]
+fn functions_with_parameters_calls_and_inner_declarations_are_read_or_refused(
+    rt: HostRuntime,
+) -> Result<(), AllocError> {
+    let alloc = rt.alloc();
+    for (text, wanted) in [
+        (
+            "int twice(int n); int main(void) { int x = twice(2); return x; } int twice(int m) { return m + m; }",
+            "read",
+        ),
+        (
+            "static char low(int x, long) { return x; } int main() { for (int i = 0; i < 3; i++) { char c = low(i, i); putchar(c); } }",
+            "read",
+        ),
+        (
+            "int main(void) { int c = getchar(); if (c < 0) exit(1); return 0; }",
+            "read",
+        ),
+        (
+            "int f(int a); int main(void) { return f(1); }",
+            "E5 at 1:40: (",
+        ),
+        (
+            "int f(int a) { return a; } int main(void) { return f(); }",
+            "E6 at 1:53: (",
+        ),
+        (
+            "int f(void) { return 1; } int main(void) { return 1 + f(); }",
+            "E4 at 1:56: (",
+        ),
+        (
+            "int f(int a, int a) { return a; } int main(void) { return 0; }",
+            "E5 at 1:18: a",
+        ),
+        (
+            "int f(int); long f(int x) { return x; } int main(void) { return 0; }",
+            "E5 at 1:18: f",
+        ),
+        (
+            "int main(void) { { int x = 1; x; } return x; }",
+            "E5 at 1:43: x",
+        ),
+        ("int main(void) { if (1) int x = 1; }", "E4 at 1:25: int"),
+        ("int main(int c) { return c; }", "E13 at 1:5: main"),
+    ] {
+        assert_eq!(rt; answer(alloc, text)?.as_str(), wanted);
+    }
+    Ok(())
+}

@@ -1,7 +1,7 @@
 use Rattle.c_syntax.specs.Tokens.{plain_tokens}
 use Rattle.c_syntax.specs.Programs.{plain_program}
 use Rattle.c_reader.proofs.Phases.{refused_by_grammar, refused_by_check, accepted_as}
-use Rattle.c_reader.proofs.Programs.{accepted_is_program, accepted_is_few}
+use Rattle.c_reader.proofs.Programs.{accepted_is_program}
 use Rattle.c_reader.proofs.read.read_text.Goals as goal
 
 pub returns-in-Err-read_program-clause-refused : goal.returns-in-Err-read_program-clause-refused
@@ -11,11 +11,6 @@ pub returns-in-Ok-typed-clause-program : goal.returns-in-Ok-typed-clause-program
 returns-in-Ok-typed-clause-program c =
     let p = plain_program c.in-Ok-typed.program in
     accepted_is_program c.args.text.now p (accepted_as c.args.text.now (plain_tokens c.in-Ok.tokens) c.in-Ok.ensures.exact (plain_program c.in-Ok-read_program.tree) c.in-Ok-read_program.ensures p c.in-Ok-typed.ensures)
-
-pub returns-in-Ok-typed-clause-few : goal.returns-in-Ok-typed-clause-few
-returns-in-Ok-typed-clause-few c =
-    let p = plain_program c.in-Ok-typed.program in
-    accepted_is_few c.args.text.now p (accepted_as c.args.text.now (plain_tokens c.in-Ok.tokens) c.in-Ok.ensures.exact (plain_program c.in-Ok-read_program.tree) c.in-Ok-read_program.ensures p c.in-Ok-typed.ensures)
 
 pub returns-clause-refused : goal.returns-clause-refused
 returns-clause-refused c =
