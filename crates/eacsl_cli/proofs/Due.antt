@@ -1,9 +1,9 @@
 -- The answers to a text, from how its program was run or written and how the line was said.
-use Rattle.std.proofs.Common.{◌≡◌, ℕ, List, [], ◌++◌, Option, Some, None, refl, sym, ap, ◌∙◌, subst, append_assoc, inl, inr}
+use Rattle.std.proofs.Common.{◌≡◌, ℕ, List, [], ◌++◌, take, Option, Some, None, refl, sym, ap, ◌∙◌, subst, append_assoc, inl, inr}
 use Rattle.std.proofs.lemmas.List.{append-nil}
 use Rattle.c_syntax.specs.Programs.{PlainRefusal}
 use Rattle.c_model.specs.Phases.{RefusedText}
-use Rattle.c_model.specs.State.{Input, Final}
+use Rattle.c_model.specs.State.{Input, Final, ReadFault}
 use Rattle.c_model.proofs.Agreement.{extends_trans}
 use Rattle.c_model.specs.Meaning.{Ran}
 use Rattle.c_model.specs.Reports.{Report, report, line_of, refused_words, Extends}
@@ -21,12 +21,13 @@ use Rattle.c_lower.proofs.Courses.{over_once, writing_begins}
 use Rattle.c_machine.specs.declared.stop.Stop.{Stop}
 use Rattle.c_machine.specs.declared.stop.Stop.TheVariants as stop
 use Rattle.c_machine.specs.declared.stop.Ran as machine
-use Rattle.c_machine.specs.Inputs.{Taking, taking, Untouched, IsInput, EndsAsRead}
-use Rattle.c_machine.specs.Whole.{RanAs, RanTo, RunCut}
-use Rattle.eacsl_cli.specs.Answers.{Answer, AnswersRun, refused_answer, written_answer, memory_line, Change, change, IsSaid, Answered, Given, OutputFault, AnswersOnInput, BeginsOnInput, IsTranslated, RunDue, RunRefused, Runs, RunBegins, InstrumentDue, InstrumentRefused, Writes, InstrumentBegins, ExecDue, ExecRefused, Executes, ExecBegins}
+use Rattle.c_machine.specs.Inputs.{Taking, taking, Untouched, EndsAsRead}
+use Rattle.c_machine.specs.Reading.{fault_behind}
+use Rattle.c_machine.specs.Whole.{FaultsBehind, TookBytes, RanAs, RanTo, RunCut}
+use Rattle.eacsl_cli.specs.Answers.{Answer, AnswersRun, refused_answer, written_answer, memory_line, Change, change, IsSaid, Answered, Given, OutputFault, TookWanted, AnswersOnInput, BeginsOnInput, IsTranslated, RunDue, RunRefused, Runs, RunBegins, InstrumentDue, InstrumentRefused, Writes, InstrumentBegins, ExecDue, ExecRefused, Executes, ExecBegins}
 use Rattle.eacsl_cli.specs.Settled.{IsSettled, Said, Wanting, Reported}
 use Rattle.eacsl_cli.proofs.Sayings.{said_answer, said_memory, answered_by}
-use Rattle.eacsl_cli.proofs.Sources.{unasked_input}
+use Rattle.eacsl_cli.proofs.Sources.{unasked_input, nothing_taken}
 
 -- the line of an answer that is due was said, or there was no memory for it
 settled_answer : {Due : Answer → Type 0} {Begin : List ℕ → Type 0} {out err : Change} {result : ℕ} (a : Answer) → Due a → Begin a.output → out.told' ≡ more out.told a.output → out.faults' ≡ out.faults → IsSettled a.line a.status err result → Answered Due Begin out err result
@@ -49,11 +50,20 @@ module _ (m : MonitoredProgram) (steps : ℕ) (source : Taking) (told told' : Op
       let l = lowered flat_start r.input steps in
       (over_once over_flat code.entries.items code.main code.instrs.items flat_start r.input steps l.0 r.turns _ _ l.1 r.run).1
 
+  took : TookBytes code steps source → TookWanted source m steps
+  took t = record { bytes = t.read; gave = t.gave; wanted = λ k h. is_fault (take k t.read) (t.asked k h) }
+    where
+      is_fault : (bytes : List ℕ) → FaultsBehind code steps bytes → (flat_run m (fault_behind bytes) steps).final ≡ ReadFault
+      is_fault bytes f =
+          let l = lowered flat_start (fault_behind bytes) steps in
+          ap (λ (x : Ran). x.final) (over_once over_flat code.entries.items code.main code.instrs.items flat_start (fault_behind bytes) steps l.0 f.turns _ _ l.1 f.run).1 ∙ f.ends
+
   answers : {end : Final} {ran : machine.Ran} (r : RanTo code steps source (port_of told [] faults) (port_of told' [] faults') end ran) (said : Report) → report end ≡ Some said → AnswersOnInput source m steps (answer_of said r.wrote.sent)
   answers r said e = record {
     input = r.input;
     was = r.is_input;
     ends = subst (λ (x : Ran). EndsAsRead source x.final) (sym (run_is r)) r.ends_as_read;
+    took = took r.took;
     answers = record {
       said = said;
       reported = ap (λ (x : Ran). report x.final) (run_is r) ∙ e;
@@ -65,6 +75,7 @@ module _ (m : MonitoredProgram) (steps : ℕ) (source : Taking) (told told' : Op
   sent_begins r = record {
     input = r.input;
     was = r.is_input;
+    took = took r.took;
     begins = begins_with _ r.bytes r.wrote.sent [] [] (ap (λ (x : Ran). x.output) (run_is r) ∙ sym (append-nil r.bytes)) r.wrote.bytes_are;
   }
 
@@ -73,7 +84,7 @@ module _ (m : MonitoredProgram) (steps : ℕ) (source : Taking) (told told' : Op
       let l = lowered flat_start cut.input steps in
       let w = writing_begins over_flat code.entries.items code.main code.instrs.items flat_start cut.input steps l.0 cut.begun.0 _ l.1 in
       let all = extends_trans cut.bytes _ _ cut.begun.1 w in
-      record { input = cut.input; was = cut.is_input; begins = begins_with _ cut.bytes cut.lost.sent cut.lost.lost all.rest all.is cut.lost.bytes_are }
+      record { input = cut.input; was = cut.is_input; took = took cut.took; begins = begins_with _ cut.bytes cut.lost.sent cut.lost.lost all.rest all.is cut.lost.bytes_are }
 
   module _ (err : Change) (result : ℕ) where
     -- the run came to an end, and that was reported
@@ -97,7 +108,7 @@ module _ (m : MonitoredProgram) (steps : ℕ) (source : Taking) (told told' : Op
 pub run_not_begun : (m : MonitoredProgram) (steps : ℕ) {left : Option (List ℕ)} {count : ℕ} {told : Option (List ℕ)} {faults : ℕ} {err : Change} {result : ℕ} → IsSaid memory_line 9 err result → Answered (AnswersOnInput (taking left left count count) m steps) (BeginsOnInput (taking left left count count) m steps) (change told told faults faults) err result
 run_not_begun m steps {left} {count} {told} s =
     let i = unasked_input left count in
-    said_memory [] (record { input = i.0; was = i.1; begins = record { rest = (flat_run m i.0 steps).output; is = refl } }) (sym (more-nil told)) refl s
+    said_memory [] (record { input = i.0; was = i.1; took = nothing_taken m steps left count; begins = record { rest = (flat_run m i.0 steps).output; is = refl } }) (sym (more-nil told)) refl s
 
 -- ---- texts
 

@@ -6,7 +6,7 @@ use Rattle.c_model.specs.declared.job.Job.TheVariants.{Run, Instrument, Exec}
 use Rattle.c_model.specs.Words.{job_of}
 use Rattle.c_model.specs.WordLaws.{file_named}
 use Rattle.c_model.specs.Phases.{AcceptedText, RefusedText}
-use Rattle.c_model.specs.State.{Input, Fault}
+use Rattle.c_model.specs.State.{Input, InputFault, Fault, ReadFault}
 use Rattle.c_model.specs.Meaning.{Ran, run}
 use Rattle.c_model.specs.Reports.{Report, report, line_of, refused_words, Extends}
 use Rattle.mon_syntax.specs.Trees.{MonitoredProgram}
@@ -15,7 +15,7 @@ use Rattle.mon_syntax.specs.Text.{text_of}
 use Rattle.mon_syntax.specs.Translates.{Translates}
 use Rattle.mon_syntax.specs.Spelled.{Spells, IsMonitoredRefusal}
 use Rattle.ea_ports.specs.Port.{more, Rose, RefusalCount}
-use Rattle.c_machine.specs.Inputs.{Taking, IsInput, Untouched, EndsAsRead}
+use Rattle.c_machine.specs.Inputs.{Taking, Gave, IsInput, Untouched, EndsAsRead}
 
 pub record Answer : Type 0 where
   pub status : ℕ
@@ -65,17 +65,25 @@ written_answer m = record { status = 0; output = text_of m; line = [] }
 abbrev pub NeverFaults : TranslationUnit → Type 0
 NeverFaults p = (input : Input) (n : ℕ) → (run p input n).final ≡ Fault → ⊥
 
+-- The bytes that a run took from the source. It wanted each of them: on an input that faults in its place the run is a read fault.
+pub record TookWanted (source : Taking) (m : MonitoredProgram) (steps : ℕ) : Type 0 where
+  pub bytes : List ℕ
+  pub gave : Gave source.left source.left' bytes
+  pub wanted : (k : ℕ) → k < length bytes → (flat_run m (record { bytes = take k bytes; tail = InputFault }) steps).final ≡ ReadFault
+
 -- the answer to a run of the program on the input that the source was
 pub record AnswersOnInput (source : Taking) (m : MonitoredProgram) (steps : ℕ) (a : Answer) : Type 0 where
   pub input : Input
   pub was : IsInput source input
   pub ends : EndsAsRead source (flat_run m input steps).final
+  pub took : TookWanted source m steps
   pub answers : AnswersRun (flat_run m input steps) a
 
 -- these bytes begin what the program prints on the input that the source was
 pub record BeginsOnInput (source : Taking) (m : MonitoredProgram) (steps : ℕ) (sent : List ℕ) : Type 0 where
   pub input : Input
   pub was : IsInput source input
+  pub took : TookWanted source m steps
   pub begins : Extends sent (flat_run m input steps).output
 
 -- ---- what is due for a text

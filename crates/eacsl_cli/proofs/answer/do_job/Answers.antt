@@ -13,7 +13,7 @@ pub returns-in-Instrument-clause-answered : goal.returns-in-Instrument-clause-an
 returns-in-Instrument-clause-answered g c = rw c.in-Instrument.is (unread_besides unasked c.instrument_text.ensures.answered)
 
 pub returns-in-Instrument-clause-unread : goal.returns-in-Instrument-clause-unread
-returns-in-Instrument-clause-unread g c = unasked_leaves (Some c.args.job.now)
+returns-in-Instrument-clause-unread g c = unasked_leaves (Some c.args.job.now) _ _
 
 pub returns-in-Exec-clause-answered : goal.returns-in-Exec-clause-answered
 returns-in-Exec-clause-answered g c = rw c.in-Exec.is c.exec_text.ensures.answered

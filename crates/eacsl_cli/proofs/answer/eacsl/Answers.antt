@@ -81,10 +81,10 @@ pub returns-clause-status : goal.returns-clause-status
 returns-clause-status g c = answered_status (returns-clause-answered g c)
 
 pub returns-in-Ok-None-clause-unread : goal.returns-in-Ok-None-clause-unread
-returns-in-Ok-None-clause-unread g c = unasked_leaves (job_of (map string_bytes c.args.words.items))
+returns-in-Ok-None-clause-unread g c = unasked_leaves (job_of (map string_bytes c.args.words.items)) _ _
 
 pub returns-in-Err-clause-unread : goal.returns-in-Err-clause-unread
-returns-in-Err-clause-unread g c = unasked_leaves (job_of (map string_bytes c.args.words.items))
+returns-in-Err-clause-unread g c = unasked_leaves (job_of (map string_bytes c.args.words.items)) _ _
 
 pub returns-in-Ok-clause-unread : goal.returns-in-Ok-clause-unread
 returns-in-Ok-clause-unread g c =
@@ -92,13 +92,13 @@ returns-in-Ok-clause-unread g c =
     subst (λ job. LeavesSource job _) e c.do_job.ensures.unread
 
 pub returns-in-Err-Missing-clause-unread : goal.returns-in-Err-Missing-clause-unread
-returns-in-Err-Missing-clause-unread g c = unasked_leaves (job_of (map string_bytes c.args.words.items))
+returns-in-Err-Missing-clause-unread g c = unasked_leaves (job_of (map string_bytes c.args.words.items)) _ _
 
 pub returns-in-Err-TooLong-clause-unread : goal.returns-in-Err-TooLong-clause-unread
-returns-in-Err-TooLong-clause-unread g c = unasked_leaves (job_of (map string_bytes c.args.words.items))
+returns-in-Err-TooLong-clause-unread g c = unasked_leaves (job_of (map string_bytes c.args.words.items)) _ _
 
 pub returns-in-Err-Failed-clause-unread : goal.returns-in-Err-Failed-clause-unread
-returns-in-Err-Failed-clause-unread g c = unasked_leaves (job_of (map string_bytes c.args.words.items))
+returns-in-Err-Failed-clause-unread g c = unasked_leaves (job_of (map string_bytes c.args.words.items)) _ _
 
 pub returns-clause-unread : goal.returns-clause-unread
-returns-clause-unread g c = unasked_leaves (job_of (map string_bytes c.args.words.items))
+returns-clause-unread g c = unasked_leaves (job_of (map string_bytes c.args.words.items)) _ _
