@@ -44,7 +44,7 @@ C
 least() {
   cat <<'C'
 int half(int n) {
-  //@ assert n % 2 == 0;
+  //@ assert n >= 0;
   return n / 2;
 }
 int main(void) {

@@ -340,7 +340,7 @@ fn a_program_is_written_in_monitored_c(rt: HostRuntime) -> Result<(), AllocError
         &NONE,
         &Wanted {
             status: 0,
-            output: b"#include <e_acsl.h>\ni32 main(void) {\n  i32 v0_x;\n  v0_x = I32(2);\n  __e_acsl_assert(I32(1), ((((i128)v0_x) + I128(1)) == I128(3)), 1, 3, \"assert\");\n  putchar(I32(65));\n  return I32(0);\n}\n",
+            output: b"#include <e_acsl.h>\ni32 main(void) {\n  i32 v0_x;\n  ptr p1;\n  p1 = __e_acsl_store_block(U64(4));\n  v0_x = I32(2);\n  __e_acsl_assert(I32(1), ((((i128)v0_x) + I128(1)) == I128(3)), 1, 3, \"assert\");\n  putchar(I32(65));\n  __e_acsl_delete_block(p1);\n  return I32(0);\n  __e_acsl_delete_block(p1);\n}\n",
             line: b"",
         },
     )?;

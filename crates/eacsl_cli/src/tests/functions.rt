@@ -218,7 +218,7 @@ fn an_annotation_of_a_function_is_named_by_its_line(rt: HostRuntime) -> Result<(
     gives(
         &rt,
         "run a.c",
-        b"int half(int n) {\n  //@ assert n % 2 == 0;\n  return n / 2;\n}\nint main(void) {\n  int n = half(12);\n  putchar('0' + n);\n  n = half(n / 2);\n  return n;\n}\n",
+        b"int half(int n) {\n  //@ assert n > 3;\n  return n / 2;\n}\nint main(void) {\n  int n = half(12);\n  putchar('0' + n);\n  n = half(n / 2);\n  return n;\n}\n",
         &NONE,
         &Wanted {
             status: 1,
@@ -233,7 +233,7 @@ fn wrong_calls_and_functions_are_refused(rt: HostRuntime) -> Result<(), AllocErr
     for (text, line) in [
         (
             b"int f(int); int main(void) { return f(1); }".as_slice(),
-            b"eacsl: refused E5 at 1:37: f\n".as_slice(),
+            b"eacsl: refused E5 at 1:38: (\n".as_slice(),
         ),
         (
             b"int f(void) { return 1; } int f(void) { return 2; } int main(void) { return 0; }",
@@ -245,7 +245,7 @@ fn wrong_calls_and_functions_are_refused(rt: HostRuntime) -> Result<(), AllocErr
         ),
         (
             b"int f(int x) { return x; } int main(void) { return f(1, 2); }",
-            b"eacsl: refused E6 at 1:52: f\n",
+            b"eacsl: refused E6 at 1:53: (\n",
         ),
         (
             b"void g(void) { } int f(int x) { return x; } int main(void) { return f((void)0); }",
