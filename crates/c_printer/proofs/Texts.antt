@@ -175,7 +175,7 @@ at_assert gs rs depth s d v number line kind same =
     regrouped = simp append_assoc
 
 -- a body around it changes nothing
-pub return_anywhere : (gs : FunctionNames) (rs : Registers) (depth : ℕ) (value : Option MonExpression) → spelled (statement_pieces gs rs depth (Return value)) ≡ spelled (statement_pieces gs rs 0 (Return value))
+pub return_anywhere : (gs : FunctionNames) (rs : Registers) (depth : ℕ) (value : Option MonExpression) → spelled (statement_pieces gs rs depth (Return value)) ≡ spelled (statement_pieces [] rs 0 (Return value))
 return_anywhere gs rs depth None = refl
 return_anywhere gs rs depth (Some e) = refl
 

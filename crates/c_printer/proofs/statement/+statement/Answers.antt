@@ -19,10 +19,10 @@ body-returns-else-is_empty g t c =
     (then c.write-else-is_empty.ensures (then c.statements.ensures c.closing.ensures))
 
 pub statement-body-requires : goal.statement-body-requires
-statement-body-requires g t c κs within = ((falls c.args.s.now _ c.deref.result.now c.in-If.a.items t c.decreases c.in-If.is c.deref.ensures.value (if_deeper c.in-If.e c.in-If.a c.in-If.b).0).1, search rules)
+statement-body-requires g t c κs within = ((falls c.args.s.now _ c.deref-in-If.result.now c.in-If.a.items t c.decreases c.in-If.is c.deref-in-If.ensures.value (if_deeper c.in-If.e c.in-If.a c.in-If.b).0).1, search rules)
 
 pub statement-body-requires-in-If : goal.statement-body-requires-in-If
-statement-body-requires-in-If g t c κs within = ((falls c.args.s.now _ c.deref-in-If.result.now c.in-If.b.items t c.decreases c.in-If.is c.deref-in-If.ensures.value (if_deeper c.in-If.e c.in-If.a c.in-If.b).1).1, search rules)
+statement-body-requires-in-If g t c κs within = ((falls c.args.s.now _ c.deref-in-If-2.result.now c.in-If.b.items t c.decreases c.in-If.is c.deref-in-If-2.ensures.value (if_deeper c.in-If.e c.in-If.a c.in-If.b).1).1, search rules)
 
 pub statement-statements-requires : goal.statement-statements-requires
 statement-statements-requires g t c κs within = ((falls c.args.s.now _ c.deref-in-Loop.result.now c.in-Loop.a.items t c.decreases c.in-Loop.is c.deref-in-Loop.ensures.value (loop_deeper c.in-Loop.a c.in-Loop.b).0).0, search rules)
@@ -50,8 +50,8 @@ statement-returns-in-PrintUnsigned g t c = shown (ap (statement_text (functions_
 
 pub statement-returns-in-If : goal.statement-returns-in-If
 statement-returns-in-If g t c =
-    let first = rw c.deref.ensures.value at c.body.ensures in
-    let second = rw c.deref-in-If.ensures.value at c.body-in-If.ensures in
+    let first = rw c.deref-in-If.ensures.value at c.body.ensures in
+    let second = rw c.deref-in-If-2.ensures.value at c.body-in-If.ensures in
     shown (at_if (functions_of c.args.named.now) (registers_of c.args.named.now) (depth_of c.args.depth.now) c.args.s.now c.in-If.e c.in-If.a c.in-If.b c.in-If.is)
     (then c.condition.ensures (then first (then c.write-in-If.ensures second)))
 
