@@ -1,7 +1,7 @@
 -- What is known of each program of an accepted text besides its types: where effects, calls and declarations stand, how large its
 -- parts are, and that it has `main`.
 use Rattle.std.specs.List.{AllByRecursion}
-use Rattle.std.specs.Prelude.{◌≡◌, true, ℕ, suc, max, ◌<◌, length, ◌+◌, ◌++◌, ◌^◌, ◌-◌, ◌≤◌, ℤ, pos, negsuc, ◌≤ℤ◌, List, [], ◌∷◌, Option, Some, None}
+use Rattle.std.specs.Prelude.{◌≡◌, true, ℕ, suc, max, ◌<◌, length, ◌+◌, ◌++◌, ◌^◌, ◌-◌, ◌≤◌, ℤ, pos, negsuc, ◌≤ℤ◌, List, [], ◌∷◌, map, Option, Some, None}
 use Rattle.c_syntax.specs.declared.place.Place.{Place}
 use Rattle.c_syntax.specs.declared.expression.BinOp.{BinOp}
 use Rattle.c_syntax.specs.declared.expression.BinOp.TheVariants.{Add, Sub}
@@ -293,8 +293,9 @@ abbrev pub declared_in_body : Option Statement → List Declaration
 declared_in_body None = []
 declared_in_body (Some a) = declared_within a
 
--- what functions declare has names of C, and each has its limit of declarators
+-- functions and what they declare have names of C, and each has its limit of declarators
 pub record FunctionNamed (names : List (List ℕ)) (f : Function) : Type 0 where
+  pub name : IsName (name_at names f.name)
   pub params : AreNamedParameters names f.params
   pub body : AreNamed names (declared_in_body f.body)
   pub few : length (declared_in_body f.body) ≤ most_declarators
@@ -303,9 +304,28 @@ abbrev pub FunctionsNamed : List (List ℕ) → List Function → Type 0
 FunctionsNamed names [] = Unit {0}
 FunctionsNamed names (f ∷ fs) = FunctionNamed names f × FunctionsNamed names fs
 
--- a program of a text that is accepted: typed, with `main`
+-- ---- numbers of declarations, which are their places in the text
+
+abbrev pub number_of : Declaration → ℕ
+number_of d = d.place.offset
+
+-- the numbers of a function, and of all that it declares, in text order
+abbrev pub numbers_of : Function → List ℕ
+numbers_of f = f.place.offset ∷ map number_of (f.params ++ declared_in_body f.body)
+
+abbrev pub numbers_of_all : List Function → List ℕ
+numbers_of_all [] = []
+numbers_of_all (f ∷ fs) = numbers_of f ++ numbers_of_all fs
+
+-- each number is above those in front of it, and not below this one
+abbrev pub Ascend : ℕ → List ℕ → Type 0
+Ascend least [] = Unit {0}
+Ascend least (n ∷ ns) = (least ≤ n) × Ascend (suc n) ns
+
+-- a program of a text that is accepted: typed, with `main`, and no two declarations have one number
 pub record IsProgram (p : TranslationUnit) : Type 0 where
   pub formed : ProgramFormed most_typed p
   pub typed : ProgramTyped p
   pub named : FunctionsNamed p.names p.funcs
+  pub numbered : Ascend 0 (numbers_of_all p.funcs)
   pub main : main_fault p.names p.funcs ≡ None

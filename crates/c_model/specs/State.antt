@@ -1,5 +1,5 @@
 -- States of a run, how it ends, and how evaluations go on from one another (C99 5.1.2.3, 6.2.1, 6.8.6).
-use Rattle.std.specs.Prelude.{ℕ, zero, suc, ◌+◌, ℤ, pos, negsuc, cond, nat_eq, nat_lt, List, [], ◌∷◌, ◌++◌, length, Option, Some, None}
+use Rattle.std.specs.Prelude.{ℕ, zero, suc, ◌+◌, ◌%◌, ℤ, pos, negsuc, cond, nat_eq, nat_lt, List, [], ◌∷◌, ◌++◌, length, Option, Some, None}
 use Rattle.c_syntax.specs.declared.place.Place.{Place}
 use Rattle.c_syntax.specs.declared.annotation.Kind.{Kind}
 use Rattle.c_syntax.specs.declared.types.How.{How}
@@ -110,7 +110,7 @@ step = λ s. step_from s.steps s
 abbrev pub read_byte : List ℕ → InputTail → Evaluation Value
 read_byte [] EndOfInput = give (Integer (negsuc 0))
 read_byte [] InputFault = stop (Over ReadFault)
-read_byte (b ∷ bs) tail = λ s. Normal (Integer (pos b)) (record s { input = record { bytes = bs; tail = tail } })
+read_byte (b ∷ bs) tail = λ s. Normal (Integer (pos (b % 256))) (record s { input = record { bytes = bs; tail = tail } })
 
 -- one byte of output (C99 7.19.7.3)
 abbrev pub print : ℕ → Evaluation (Unit {0})

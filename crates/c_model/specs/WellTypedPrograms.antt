@@ -8,7 +8,8 @@ use Rattle.c_syntax.specs.Annotations as logic
 use Rattle.c_syntax.specs.Annotations.{LogicTerm, Predicate, Chain, Links, NoLink, Linked, ClauseBody, Truth, Annotation}
 use Rattle.c_syntax.specs.Statements.{Initialiser, One, Declaration, Statement, Empty, Eval, Block, If, While, Do, For, Break, Continue, Return, ElsePart, NoElse, Else, ForFirst, NoFirst, First, BlockItem, Declare, Run, Asserts, BlockItems, NoItem, Then}
 use Rattle.c_syntax.specs.Programs.{Function, TranslationUnit}
-use Rattle.c_model.specs.Typing.{Scopes, object_named, is_scalar, is_object_type, Around, in_loop, inner, with_object, behind, behind_first}
+use Rattle.c_model.specs.Library.{is_library_name}
+use Rattle.c_model.specs.Typing.{Scopes, name_at, object_named, is_scalar, is_object_type, Around, in_loop, inner, with_object, behind, behind_first}
 use Rattle.c_model.specs.ProgramTyping.{function_scopes, with_parameter, with_parameters, is_compatible_with_all}
 use Rattle.c_model.specs.WellTyped.{Denotes, IsInteger, WellTyped}
 
@@ -149,8 +150,9 @@ abbrev pub AreParameters : Scopes → List Declaration → Type 0
 AreParameters s [] = Unit {0}
 AreParameters s (d ∷ ds) = IsParameter s d × AreParameters (with_parameter s d) ds
 
--- a function behind these, with those in sight
+-- a function behind these, with those in sight: its name is none of the library's
 pub record FunctionTyped (s : Scopes) (before : List Function) (f : Function) : Type 0 where
+  pub own_name : is_library_name (name_at s.names f.name) ≡ false
   pub compatible : is_compatible_with_all before f ≡ true
   pub params : AreParameters s f.params
   pub body : BodyTyped (with_parameters s f.params) f.result f.body

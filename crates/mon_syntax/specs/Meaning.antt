@@ -1,5 +1,5 @@
 -- What a program in monitored C does, over any memory.
-use Rattle.std.specs.Prelude.{ℕ, zero, suc, ◌+◌, ◌-◌, ℤ, pos, negsuc, List, [], ◌∷◌, ◌++◌, length, replicate, Option, Some, None, if◌then◌else◌, slice_get, slice_set, bytes_eq, codes}
+use Rattle.std.specs.Prelude.{ℕ, zero, suc, ◌+◌, ◌-◌, ◌%◌, ℤ, pos, negsuc, List, [], ◌∷◌, ◌++◌, length, replicate, Option, Some, None, if◌then◌else◌, slice_get, slice_set, bytes_eq, codes}
 use Rattle.std.specs.Ordering.{int_eq}
 use Rattle.std.specs.Fmt.{signed_decimal}
 use Rattle.c_syntax.specs.declared.types.How.TheVariants as how
@@ -87,7 +87,7 @@ got_behind InputFault = None
 -- the next byte of an input, and what is left of it (C99 7.19.7.6)
 abbrev pub got : List ℕ → InputTail → Option (ℤ × Input)
 got [] tail = got_behind tail
-got (b ∷ bs) tail = Some (pos b, record { bytes = bs; tail = tail })
+got (b ∷ bs) tail = Some (pos (b % 256), record { bytes = bs; tail = tail })
 
 -- goes on with what was read; at a fault of the input the run ends, with so many steps left
 abbrev pub with_read : {S A : Type 0} → Option (ℤ × Input) → ℕ → (ℤ → Input → Result S A) → Result S A
