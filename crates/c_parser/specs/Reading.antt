@@ -1,22 +1,28 @@
 -- Parts of productions that functions of their own read, and the plain forms of what is read in parts.
 use Rattle.std.specs.Prelude.{ℕ, Bool, List, [], ◌∷◌, Option, Some, None}
 use Rattle.grammar.specs.Syntax.{Syntax, many, at_most}
+use Rattle.c_syntax.specs.declared.place.Place.{Place}
 use Rattle.c_syntax.specs.Ctypes.{PlainType}
 use Rattle.c_syntax.specs.Tokens.{PlainToken}
 use Rattle.c_syntax.specs.Annotations.{LogicTerm, Annotation}
 use Rattle.c_syntax.specs.declared.statement.Item.{Item}
-use Rattle.c_syntax.specs.Statements.{Declaration, ForFirst, NoFirst, First, plain_item}
+use Rattle.c_syntax.specs.Expressions.{Expression}
+use Rattle.c_syntax.specs.Statements.{Statement, Do, Declaration, ForFirst, NoFirst, First, plain_item}
 use Rattle.c_syntax.specs.Programs.{Function}
 use Rattle.c_model.specs.Vocabulary.{Vocabulary}
 use Rattle.c_parser.specs.declared.counts.Counts as code
 use Rattle.c_model.specs.Punctuators.{comma}
 use Rattle.c_model.specs.ExpressionGrammar.{kind, mark_kind, kinds_of, expression_limit, most_in_expression}
-use Rattle.c_model.specs.ProgramGrammar.{Counts, first_function, sum_operators, sum_once, sum, assert_clause, next_declarator, storage_words, storage_word, next_parameter, one_more_function}
+use Rattle.c_model.specs.ProgramGrammar.{Counts, first_function, sum_operators, sum_once, sum, assert_clause, ended, next_declarator, storage_words, storage_word, next_parameter, one_more_function}
 
 module _ (ws : Vocabulary) where
   -- an assert within the limit of its tokens
   unfoldable pub full_clause : ℕ → Syntax PlainToken Annotation
   full_clause n = at_most expression_limit most_in_expression (assert_clause ws n)
+
+  -- ";", behind a `do` with its condition
+  abbrev pub ended_do : Place → Statement → Expression → Counts → Syntax PlainToken (Statement × Counts)
+  ended_do at a e n = ended ws (Do at a e, n)
 
   -- ---- repetitions, behind what is read
 

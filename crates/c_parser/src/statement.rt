@@ -4,9 +4,9 @@ ghost use Rattle.std.specs.Prelude.{◌≡◌, map, IfOk};
 ghost use Rattle.c_syntax.specs.Expressions.{plain_expr};
 ghost use Rattle.c_syntax.specs.Statements.{plain_stmt, plain_item};
 ghost use Rattle.c_syntax.specs.Statements as statement;
-ghost use Rattle.c_model.specs.ProgramGrammar.{is_open, block_items, ended, else_branch, else_part, selection, while_loop, do_loop, for_loop, jump, return_statement, item, items_once, items, block, empty_statement, effect_statement, statement_of, statement_in};
+ghost use Rattle.c_model.specs.ProgramGrammar.{is_open, block_items, else_branch, else_part, selection, while_loop, do_loop, for_loop, jump, return_statement, item, items_once, items, block, empty_statement, effect_statement, statement_of, statement_in};
 ghost use Rattle.c_expr_parser.specs.Reading.{Gives, plain_list};
-ghost use Rattle.c_parser.specs.Reading.{plain_counts};
+ghost use Rattle.c_parser.specs.Reading.{plain_counts, ended_do};
 
 use crate::annotation::annotation;
 use crate::counts::Counts;
@@ -241,7 +241,7 @@ fn ended_do<'a>(
     counts: Counts,
     tokens: &'a [Token],
 ) -> Result<(Stmt, Counts, &'a [Token]), ReadFault>
-    ensures { Gives (λ x. ((plain_stmt x.0, plain_counts x.1), plain_list x.2.now)) result ((ended words.now (statement.Do place (plain_stmt body) (plain_expr e), plain_counts counts)).parse (plain_list tokens.now)) }
+    ensures { Gives (λ x. ((plain_stmt x.0, plain_counts x.1), plain_list x.2.now)) result ((ended_do words.now place (plain_stmt body) (plain_expr e) (plain_counts counts)).parse (plain_list tokens.now)) }
 {
     let (_, rest) = skip(words, SEMICOLON, tokens)?;
     Ok((make_do(alloc, place, body, e)?, counts, rest))
