@@ -120,10 +120,21 @@ fn function_rest<'a>(
             annotation: number,
             declarators: 0,
         };
-        let (all, counts, rest) = items(alloc, words, MOST_NESTED - 1, Vec::new(alloc), counts, rest)?;
+        let (all, counts, rest) = items(
+            alloc,
+            words,
+            MOST_NESTED - 1,
+            Vec::new(alloc),
+            counts,
+            rest,
+        )?;
         let (close, rest) = skip(words, RIGHT_BRACE, rest)?;
         let body = make_block(start, all);
-        Ok((make_function(heading, Some(body), close), counts.annotation, rest))
+        Ok((
+            make_function(heading, Some(body), close),
+            counts.annotation,
+            rest,
+        ))
     }
 }
 

@@ -236,7 +236,10 @@ fn whole_texts(rt: HostRuntime) -> Result<(), Fail> {
             "const static const unsigned char const f ( ) { ; }",
             "f() { ;, } at 11 ",
         ),
-        ("const static const static int f ( ) { }", "E4 at 1:3: static"),
+        (
+            "const static const static int f ( ) { }",
+            "E4 at 1:3: static",
+        ),
         ("int main ( void ) { } ;", "E4 at 1:7: ;"),
         ("int main ( void ) {", "E4 at 2:1: end of file"),
         ("main ( void ) { }", "E4 at 1:0: main"),
@@ -442,7 +445,8 @@ fn annotations(rt: HostRuntime) -> Result<(), Fail> {
     ] {
         assert_eq!(rt; body_answer(rt.alloc(), body)?.as_str(), wanted);
     }
-    let two = "void f ( ) { /*@ assert a < 1 ; */ } int g ( ) ; int h ( ) { /*@ assert 1 < a ; */ }";
+    let two =
+        "void f ( ) { /*@ assert a < 1 ; */ } int g ( ) ; int h ( ) { /*@ assert 1 < a ; */ }";
     let wanted = "f() { assert 1, } at 12 g() ; at 17 h() { assert 2, } at 30 ";
     assert_eq!(rt; answer(rt.alloc(), two)?.as_str(), wanted);
     Ok(())
@@ -499,21 +503,9 @@ fn limits(rt: HostRuntime) -> Result<(), Fail> {
             "int b = 0 ;",
             "E4 at 1:10007: b",
         ),
-        (
-            "",
-            "{ ",
-            199,
-            "int a = f ( ) ;",
-            "E4 at 2:1: end of file",
-        ),
+        ("", "{ ", 199, "int a = f ( ) ;", "E4 at 2:1: end of file"),
         ("a = f ( b", " , b", 197, " ) ;", "e;, "),
-        (
-            "a = f ( b",
-            " , b",
-            198,
-            " ) ;",
-            "E11 at 1:406: expression",
-        ),
+        ("a = f ( b", " , b", 198, " ) ;", "E11 at 1:406: expression"),
     ] {
         let body = repeated(alloc, front, middle, n, back)?;
         assert_eq!(rt; body_answer(alloc, body.as_str())?.as_str(), wanted);
@@ -527,6 +519,9 @@ fn declarators_of_each_function(rt: HostRuntime) -> Result<(), Fail> {
     let first = repeated(alloc, "void f ( ) { int a = 0", " , a = 0", 999, " ; }")?;
     let last = repeated(alloc, " void g ( ) { int a = 0", " , a = 0", 999, " ; }")?;
     let both = format!(in alloc; "{first}{last}")?;
-    assert_eq!(rt; answer(alloc, both.as_str())?.as_str(), "f() { declare 1000, } at 4006 g() { declare 1000, } at 8013 ");
+    assert_eq!(rt;
+        answer(alloc, both.as_str())?.as_str(),
+        "f() { declare 1000, } at 4006 g() { declare 1000, } at 8013 "
+    );
     Ok(())
 }
