@@ -5,9 +5,7 @@ ghost use Rattle.c_syntax.specs.Expressions.{Call, plain_expr};
 ghost use Rattle.c_model.specs.ExpressionGrammar.{next_argument, arguments, call_rest, behind_name_or_callee, expression_or_call, read_as, use_of, expressions};
 ghost use Rattle.c_expr_parser.specs.Reading.{Gives, plain_list, more_arguments};
 
-use crate::expression::{
-    expression, expression_rest, operand_but_name, read_as, read_name,
-};
+use crate::expression::{expression, expression_rest, operand_but_name, read_as, read_name};
 use crate::kinds::{COMMA, LEFT_PAREN, NAME, RIGHT_PAREN};
 use crate::terminals::{name, next_begins_expression, next_is, skip};
 use c_model::operands::TypeUse;

@@ -400,7 +400,10 @@ fn values(rt: HostRuntime) -> Result<(), Fail> {
         long.push_str(" , a")?;
     }
     long.push_str(" )")?;
-    assert_eq!(rt; value_shown(rt.alloc(), long.as_str())?.as_str(), "Expression at 2");
+    assert_eq!(rt;
+        value_shown(rt.alloc(), long.as_str())?.as_str(),
+        "Expression at 2"
+    );
     Ok(())
 }
 
