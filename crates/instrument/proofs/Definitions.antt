@@ -28,10 +28,10 @@ a_definition f a is = ap (λ (o : Option Stmt). is_there (option_map plain_stmt 
 
 module _ (p : TranslationUnit) (main : ℕ) where
   pub from_none : (k : ℕ) (f : Function) → is_definition f ≡ false → [] ≡ functions_from p main k (f ∷ [])
-  from_none k f no = sym (ap (λ b. if b then function_of p main k f ∷ [] else []) no)
+  from_none k f none = sym (ap (λ b. if b then function_of p main k f ∷ [] else []) none)
 
   pub from_one : (k : ℕ) (f : Function) → is_definition f ≡ true → function_of p main k f ∷ [] ≡ functions_from p main k (f ∷ [])
-  from_one k f yes = sym (ap (λ b. if b then function_of p main k f ∷ [] else []) yes)
+  from_one k f one = sym (ap (λ b. if b then function_of p main k f ∷ [] else []) one)
 
   from_first : (k : ℕ) (f : Function) (fs : List Function) → functions_from p main k (f ∷ fs) ≡ functions_from p main k (f ∷ []) ++ functions_from p main (k + length (functions_from p main k (f ∷ []))) fs
   from_first k f fs = by (is_definition f)

@@ -9,7 +9,7 @@ use Rattle.instrument.proofs.program.functions.Goals as goal
 
 pub funcs-preserved : goal.funcs-preserved
 funcs-preserved c =
-    let left = left_at (map plain_func) c.funcs.f-items c.funcs.f-index _ _ c.funcs-test.true c.f-item.is refl in (
-      more_functions (plain_program c.args.p.now) c.index_of_main-main.result c.funcs.f-items c.funcs.f-index c.f-item.result _ _ c.funcs-test.true c.f-item.is c.in_ok-add.ensures.code c.funcs.invariant.0,
+    let left = left_at (map plain_func) c.args.p.now.funcs.items c.funcs.f-index _ _ c.funcs-test.true c.f-item.is refl in (
+      more_functions (plain_program c.args.p.now) c.index_of_main-main.result c.args.p.now.funcs.items c.funcs.f-index c.f-item.result _ _ c.funcs-test.true c.f-item.is c.in_ok-add.ensures.code c.funcs.invariant.0,
       λ rest. c.funcs.invariant.1 (subst FunctionsHaveNumbers (sym left) (c.in_ok-add.ensures.numbers, rest)),
     )

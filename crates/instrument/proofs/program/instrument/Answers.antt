@@ -10,12 +10,12 @@ use Rattle.instrument.proofs.program.instrument.Goals as goal
 
 pub returns-clause-valid : goal.returns-clause-valid
 returns-clause-valid c =
-    subst IsValid (sym c.in_ok-m.ensures.translated) (translated_valid (plain_program c.args.p.now) c.requires c.in_ok-m.ensures.numbers c.translate-m.ensures.few)
+    subst IsValid (sym c.in_ok-m.ensures.translated) (translated_valid (plain_program c.args.p.now) c.requires.program c.in_ok-m.ensures.numbers c.translate-m.ensures.few)
 
 pub returns-clause-agrees : goal.returns-clause-agrees
 returns-clause-agrees c input n =
     subst (λ m. Agrees (run (plain_program c.args.p.now) input n) (block_run m input n)) (sym c.in_ok-m.ensures.translated)
-    (translated_agrees (plain_program c.args.p.now) c.requires c.in_ok-m.ensures.numbers input n)
+    (translated_agrees (plain_program c.args.p.now) c.requires.program c.in_ok-m.ensures.numbers input n)
 
 pub returns-clause-sound : goal.returns-clause-sound
-returns-clause-sound c input n = never_faults (plain_program c.args.p.now) c.requires c.in_ok-m.ensures.numbers input n
+returns-clause-sound c input n = never_faults (plain_program c.args.p.now) c.requires.program c.in_ok-m.ensures.numbers input n

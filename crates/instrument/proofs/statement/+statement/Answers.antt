@@ -12,7 +12,7 @@ use Rattle.mon_syntax.proofs.Rows.{if_is}
 use Rattle.instrument.specs.Limits.{HasNumbers, HaveNumbers}
 use Rattle.instrument.specs.Options.{plain_else_part, plain_first_part, plain_spot}
 use Rattle.instrument.specs.Expressions.{before, one, temporaries}
-use Rattle.instrument.specs.Translation.{Spot, any_temporaries, effect_temporaries, else_part, first_part, first_temporaries, item, item_temporaries, items, items_temporaries, statement, statement_temporaries}
+use Rattle.instrument.specs.Translation.{Spot, any_temporaries, effect_temporaries, else_part, first_part, first_temporaries, item, item_temporaries, items, items_temporaries, statement, statement_temporaries, test_if_any}
 use Rattle.instrument.proofs.Sequences.{left_at, none_left, all_there, complete, grown, more_behind, nothing}
 use Rattle.instrument.proofs.StatementTrees.{on_ok_then, block_stmt, if_stmt, for_stmt, do_stmt, if_code, do_code, turns_code, for_code, alive_code, declared_of_first, four_types}
 use Rattle.instrument.proofs.Trees.{on_ok}
@@ -67,10 +67,10 @@ turns-returns-clause-code t c =
     let rs = c.args.types.now.items in
     let t0 = plain_stmts c.args.to.now.items in
     on_ok_then c.then.result (λ last.
-    turns_code p numbers rs c.leave_unless_any.new.types.items c.round.new.types.items (plain_spot c.args.spot.now) t0 t0 (plain_stmts c.then.new.to.items) _ _ _ (plain_stmt c.args.a.now) c.in_ok-loops.loops
+    turns_code p numbers rs c.leave_unless_any.new.types.items c.round.new.types.items (plain_spot c.args.spot.now) t0 t0 (plain_stmts c.then.new.to.items) c.args.a.now.place (option_map plain_expr c.args.controls.0.now) (option_map plain_expr c.args.controls.1.now) (plain_stmt c.args.a.now) c.in_ok-loops.loops
     (plain_stmts c.leave_unless_any.new.to.items) (plain_stmts c.in_ok-behind.behind.items) (plain_stmts c.effect_if_any.new.to.items) (plain_monitored_stmt c.in_ok-repeat.field-0)
     c.in_ok-loops.ensures
-    (rw c.new-front.ensures.items at c.in_ok-leave_unless_any.ensures.code)
+    (c.in_ok-leave_unless_any.ensures.code ∙ ap (λ l. before (plain_stmts l) (test_if_any numbers rs c.in_ok-loops.loops (option_map plain_expr c.args.controls.0.now))) c.new-front.ensures.items)
     c.in_ok-leave_unless_any.ensures.types c.in_ok-behind.ensures.code c.in_ok-behind.ensures.types c.in_ok-effect_if_any.ensures.code c.in_ok-repeat.ensures last)
     c.then.ensures
 
