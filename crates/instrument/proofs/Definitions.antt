@@ -5,7 +5,8 @@ use Rattle.c_syntax.specs.declared.program.Func.{Func}
 use Rattle.c_syntax.specs.declared.statement.Stmt.{Stmt}
 use Rattle.c_syntax.specs.Programs.{Function, TranslationUnit, plain_func}
 use Rattle.c_syntax.specs.Statements.{Declaration, Statement, plain_stmt}
-use Rattle.c_model.specs.Meaning.{is_definition, is_there}
+use Rattle.c_model.specs.Meaning.{is_definition}
+use Rattle.c_model.specs.Library.{is_there}
 use Rattle.mon_syntax.specs.declared.tree.MonFunc.{MonFunc}
 use Rattle.mon_syntax.specs.declared.tree.MonType.{MonType}
 use Rattle.mon_syntax.specs.Trees.{MonFunction, MonStatements, plain_func as plain_monitored_func}

@@ -10,7 +10,7 @@ use Rattle.instrument.proofs.program.instrument.Goals as goal
 
 pub returns-clause-valid : goal.returns-clause-valid
 returns-clause-valid c =
-    subst IsValid (sym c.in_ok-m.ensures.translated) (translated_valid (plain_program c.args.p.now) c.requires.program c.in_ok-m.ensures.numbers c.translate-m.ensures.few)
+    subst IsValid (sym c.in_ok-m.ensures.translated) (translated_valid (plain_program c.args.p.now) c.requires.program c.in_ok-m.ensures.numbers c.translate.ensures.few)
 
 pub returns-clause-agrees : goal.returns-clause-agrees
 returns-clause-agrees c input n =
