@@ -21,6 +21,7 @@ pub mod Trees
 pub mod Chains
 pub mod Declarations
 pub mod StatementTrees
+pub mod Definitions
 pub mod Effects
 pub mod Terms
 pub mod Asserts

@@ -1,5 +1,6 @@
 -- The translation of a statement at a known variant.
 use Rattle.std.proofs.Common.{◌≡◌, ℕ, ◌+◌, List, [], ◌∷◌, map, Option, Some, None, option_map, ◌++◌, refl, ap, sym, ◌∙◌, append_assoc}
+use Rattle.std.proofs.lemmas.List.{append-nil}
 use Rattle.std.specs.Prelude.{Vec, Box, Result, Ok, Err, OnOk}
 use Rattle.std.specs.declared.alloc.Global.{Global}
 use Rattle.c_syntax.specs.declared.place.Place.{Place}
@@ -11,14 +12,15 @@ use Rattle.c_syntax.specs.declared.statement.StmtKind as code
 use Rattle.c_syntax.specs.Annotations.{Annotation, plain_annot}
 use Rattle.c_syntax.specs.Expressions.{Expression, plain_expr}
 use Rattle.c_syntax.specs.Programs.{TranslationUnit}
-use Rattle.c_syntax.specs.Statements.{Declaration, Statement, Block, If, While, Do, For, ElsePart, ForFirst, plain_items, plain_stmt, plain_stmt_kind}
+use Rattle.c_syntax.specs.Statements.{Declaration, Statement, Block, If, While, Do, For, ElsePart, ForFirst, NoFirst, First, Declare, Run, Asserts, plain_items, plain_stmt, plain_stmt_kind}
 use Rattle.c_syntax.proofs.Rows.{block_is}
+use Rattle.c_model.specs.Meaning.{declared_in, declared_first}
 use Rattle.mon_syntax.specs.declared.tree.MonType.{MonType}
 use Rattle.mon_syntax.specs.Trees.{MonExpression, MonStatement, MonStatements, NoStatement, Labelled, Loop, Then}
 use Rattle.mon_syntax.specs.Trees as tree
-use Rattle.instrument.specs.Options.{plain_else_part, plain_first_part}
+use Rattle.instrument.specs.Options.{items_of_first, plain_else_part, plain_first_part}
 use Rattle.instrument.specs.Expressions.{before, one, setup, temporaries, condition_of}
-use Rattle.instrument.specs.Translation.{Spot, alive, any_temporaries, births, deaths, effect_if_any, else_part, end_label, in_loop, loop, next_label, statement, statement_temporaries, test, test_if_any, with_born}
+use Rattle.instrument.specs.Translation.{Spot, alive, any_temporaries, births, deaths, effect_if_any, else_part, end_label, first_part, first_temporaries, in_loop, loop, next_label, statement, statement_temporaries, test, test_if_any, with_born}
 use Rattle.instrument.proofs.Sequences.{before_assoc}
 
 -- what follows from a result
@@ -56,14 +58,22 @@ do_stmt s a e x is same = ap (λ y. Do s.place (plain_stmt y) (plain_expr e)) sa
 -- ---- their code
 
 -- variables that live as long as this is done
-pub alive_code : (numbers own : List ℕ) (ds : List Declaration) (t t1 t2 t3 a : MonStatements) → t1 ≡ before t (births numbers ds) → t2 ≡ before t1 a → own ≡ with_born numbers ds [] → t3 ≡ before t2 (deaths numbers own) → t3 ≡ before t (alive numbers ds a)
-alive_code numbers own ds t t1 t2 t3 a born done own_is dead =
+pub alive_code : (numbers live inside : List ℕ) (ds : List Declaration) (f : List ℕ → MonStatements) (t t1 t2 t3 : MonStatements) → t1 ≡ before t (births numbers ds) → inside ≡ with_born numbers ds live → t2 ≡ before t1 (f inside) → t3 ≡ before t2 (deaths numbers (with_born numbers ds [])) → t3 ≡ before t (alive numbers ds (f (with_born numbers ds live)))
+alive_code numbers live inside ds f t t1 t2 t3 born inside_is done dead =
+    let a = f (with_born numbers ds live) in
     let end = deaths numbers (with_born numbers ds []) in
     dead
-    ∙ (λ i. before (done i) (deaths numbers (own_is i)))
-    ∙ before_assoc t1 a end
-    ∙ ap (λ x. before x (before a end)) born
+    ∙ (λ i. before (done i) end)
+    ∙ before_assoc t1 (f inside) end
+    ∙ (λ i. before (born i) (before (f (inside_is i)) end))
     ∙ before_assoc t (births numbers ds) (before a end)
+
+-- what stands first in a `for` declares its own variables
+pub declared_of_first : (first : ForFirst) → declared_in (items_of_first first) ≡ declared_first first
+declared_of_first NoFirst = refl
+declared_of_first (First (Declare ds)) = append-nil ds
+declared_of_first (First (Run a)) = refl
+declared_of_first (First (Asserts annots)) = refl
 
 module _ (p : TranslationUnit) (numbers : List ℕ) (rs rs1 rs2 : List MonType) (spot : Spot) (t t1 t2 : MonStatements) (at : Place) where
   pub if_code : (e : Expression) (a : Statement) (b : ElsePart) (c : MonExpression) (f g : MonStatements) → c ≡ condition_of numbers rs e → t1 ≡ before t (setup numbers rs e) → rs1 ≡ rs ++ temporaries e → f ≡ statement p numbers spot rs1 a → rs2 ≡ rs1 ++ statement_temporaries a → g ≡ else_part p numbers spot rs2 b → t2 ≡ before t1 (one (tree.If c f g)) → t2 ≡ before t (statement p numbers spot rs (If at e a b))
@@ -95,8 +105,30 @@ module _ (p : TranslationUnit) (numbers : List ℕ) (rs rs1 rs2 : List MonType) 
       let behind_at = behind_is ∙ (λ i. before (round_at i) (effect_if_any p numbers (second i) step)) in
       last ∙ ap (λ x. before t (one x)) whole_is ∙ (λ i. before t (one (Labelled (one (Loop (front_at i) (behind_at i))) (end_label (inner_is i)))))
 
+-- a `for`, from its parts
+module _ (p : TranslationUnit) (numbers : List ℕ) (rs rs1 : List MonType) (spot : Spot) (t t1 t2 t3 t4 : MonStatements) (at : Place) where
+  abbrev within : List ℕ → Spot
+  within l = record { loops = spot.loops; inside = l; outside = spot.outside }
+
+  abbrev turns : Spot → List MonType → Option Expression → Option Expression → Statement → MonStatements
+  turns s l e step a =
+      one (loop (s.loops + 1) (test_if_any numbers l (s.loops + 1) e) (statement p numbers (in_loop s) (l ++ any_temporaries temporaries e) a) (effect_if_any p numbers (l ++ any_temporaries temporaries e ++ statement_temporaries a) step))
+
+  pub for_code : (annots : List Annotation) (first : ForFirst) (e step : Option Expression) (a : Statement) (ds : List Declaration) (inside : List ℕ) → ds ≡ declared_first first → t1 ≡ before t (births numbers ds) → inside ≡ with_born numbers ds spot.inside → t2 ≡ before t1 (first_part p numbers (within inside) rs first) → rs1 ≡ rs ++ first_temporaries first → t3 ≡ before t2 (turns (within inside) rs1 e step a) → t4 ≡ before t3 (deaths numbers (with_born numbers ds [])) → t4 ≡ before t (statement p numbers spot rs (For at annots first e step a))
+  for_code annots first e step a ds inside ds_is born inside_is front types done dead =
+      let all = λ (l : List ℕ). before (first_part p numbers (within l) rs first) (turns (within l) (rs ++ first_temporaries first) e step a) in
+      let body : t3 ≡ before t1 (all inside) =
+      done ∙ (λ i. before (front i) (turns (within inside) (types i) e step a)) ∙ before_assoc t1 (first_part p numbers (within inside) rs first) (turns (within inside) (rs ++ first_temporaries first) e step a) in
+      alive_code numbers spot.inside inside ds all t t1 t3 t4 born inside_is body dead
+      ∙ ap (λ l. before t (alive numbers l (all (with_born numbers l spot.inside)))) ds_is
+
 -- ---- their registers
 
 pub three_types : (rs rs1 rs2 rs3 a b c : List MonType) → rs1 ≡ rs ++ a → rs2 ≡ rs1 ++ b → rs3 ≡ rs2 ++ c → rs3 ≡ rs ++ (a ++ b ++ c)
 three_types rs rs1 rs2 rs3 a b c x y z =
     z ∙ ap (λ l. l ++ c) (y ∙ ap (λ l. l ++ b) x) ∙ ap (λ l. l ++ c) (append_assoc rs a b) ∙ append_assoc rs (a ++ b) c
+
+pub four_types : (rs rs1 rs2 a b c d : List MonType) → rs1 ≡ rs ++ a → rs2 ≡ rs1 ++ (b ++ c ++ d) → rs2 ≡ rs ++ (a ++ b ++ c ++ d)
+four_types rs rs1 rs2 a b c d x y =
+    y ∙ ap (λ l. l ++ (b ++ c ++ d)) x ∙ append_assoc rs a (b ++ c ++ d)
+    ∙ ap (λ l. rs ++ l) (sym (append_assoc a (b ++ c) d) ∙ ap (λ l. l ++ d) (sym (append_assoc a b c)))

@@ -1,5 +1,5 @@
 -- The translation of a tree at a known variant.
-use Rattle.std.proofs.Common.{◌≡◌, ℕ, pos, List, ◌++◌, length, ap, sym, ◌∙◌}
+use Rattle.std.proofs.Common.{◌≡◌, ℕ, pos, List, ◌++◌, length, refl, ap, sym, subst, ◌∙◌}
 use Rattle.std.specs.Prelude.{Vec, Box, Result, Ok, Err, OnOk}
 use Rattle.std.specs.declared.alloc.Global.{Global}
 use Rattle.c_syntax.specs.declared.expression.BinOp.{BinOp}
@@ -7,13 +7,19 @@ use Rattle.c_syntax.specs.declared.expression.Use.{Use}
 use Rattle.c_syntax.specs.declared.expression.Expr.{Expr}
 use Rattle.c_syntax.specs.declared.expression.ExprKind.{ExprKind}
 use Rattle.c_syntax.specs.declared.expression.ExprKind as code
-use Rattle.c_syntax.specs.Ctypes.{plain_type}
-use Rattle.c_syntax.specs.Expressions.{Node, Call, plain_expr, plain_exprs, plain_kind}
+use Rattle.c_syntax.specs.declared.place.Place.{Place}
+use Rattle.c_syntax.specs.declared.types.CType.{CType}
+use Rattle.c_syntax.specs.Ctypes.{PlainType, plain_type}
+use Rattle.c_syntax.specs.Expressions.{Expression, Node, Call, Cast, plain_expr, plain_exprs, plain_kind, type_of}
+use Rattle.c_syntax.specs.Programs.{TranslationUnit}
 use Rattle.c_syntax.proofs.Rows.{call_is}
 use Rattle.mon_syntax.specs.declared.tree.MonType.{MonType}
 use Rattle.mon_syntax.specs.declared.tree.MonType.TheVariants.{I32}
 use Rattle.mon_syntax.specs.Trees.{MonExpression, MonStatements, Constant, If}
-use Rattle.instrument.specs.Expressions.{before, condition, one, set, setup, temporaries, truth, value, value_type}
+use Rattle.instrument.specs.Limits.{FullHasLetters}
+use Rattle.instrument.specs.Options.{DirectHasLetters, direct_setup, direct_temporaries, direct_value}
+use Rattle.instrument.specs.Translation.{full_setup, full_temporaries, full_value}
+use Rattle.instrument.specs.Expressions.{before, condition, in_type, one, set, setup, temporaries, truth, value, value_type}
 use Rattle.instrument.proofs.Sequences.{before_assoc}
 
 pub on_ok : {A E P : Type 0} (r : Result A E) → P → OnOk r P
@@ -25,6 +31,40 @@ pub call_expr : (e : Expr) (f : Use) (args : Vec Expr Global) (l : List Expr) �
 call_expr e f args l is same =
     ap (λ z. Node e.place (plain_type e.ctype) (Call f (plain_exprs z))) same
     ∙ sym (ap (λ k. Node e.place (plain_type e.ctype) (plain_kind k)) is ∙ call_is e.place (plain_type e.ctype) f args)
+
+-- ---- full expressions
+
+cast_setup : (p : TranslationUnit) (numbers : List ℕ) (rs : List MonType) (at : Place) (t to : PlainType) (a : Expression) → direct_setup p numbers rs a ≡ full_setup p numbers rs (Node at t (Cast to a))
+cast_setup p numbers rs at t to (Node at2 u (Call f es)) = refl
+cast_setup p numbers rs at t to _ = refl
+
+cast_value : (numbers : List ℕ) (rs : List MonType) (at : Place) (t to : PlainType) (a : Expression) → in_type (value_type (type_of a)) (value_type to) (direct_value numbers rs a) ≡ full_value numbers rs (Node at t (Cast to a))
+cast_value numbers rs at t to (Node at2 u (Call f es)) = refl
+cast_value numbers rs at t to _ = refl
+
+cast_temporaries : (at : Place) (t to : PlainType) (a : Expression) → direct_temporaries a ≡ full_temporaries (Node at t (Cast to a))
+cast_temporaries at t to (Node at2 u (Call f es)) = refl
+cast_temporaries at t to _ = refl
+
+cast_letters : (at : Place) (t to : PlainType) (a : Expression) → DirectHasLetters a → FullHasLetters (Node at t (Cast to a))
+cast_letters at t to (Node at2 u (Call f es)) l = l
+cast_letters at t to _ l = l
+
+module _ (p : TranslationUnit) (numbers : List ℕ) (rs : List MonType) (e x : Expr) (to : CType) (a : Box Expr Global) (is : e.kind ≡ code.Cast to a) (same : x ≡ a.value) where
+  whole : Node e.place (plain_type e.ctype) (Cast (plain_type to) (plain_expr x)) ≡ plain_expr e
+  whole = ap (λ y. Node e.place (plain_type e.ctype) (Cast (plain_type to) (plain_expr y))) same ∙ sym (ap (λ k. Node e.place (plain_type e.ctype) (plain_kind k)) is)
+
+  pub full_cast_setup : direct_setup p numbers rs (plain_expr x) ≡ full_setup p numbers rs (plain_expr e)
+  full_cast_setup = cast_setup p numbers rs e.place (plain_type e.ctype) (plain_type to) (plain_expr x) ∙ ap (full_setup p numbers rs) whole
+
+  pub full_cast_value : in_type (value_type (plain_type x.ctype)) (value_type (plain_type to)) (direct_value numbers rs (plain_expr x)) ≡ full_value numbers rs (plain_expr e)
+  full_cast_value = cast_value numbers rs e.place (plain_type e.ctype) (plain_type to) (plain_expr x) ∙ ap (full_value numbers rs) whole
+
+  pub full_cast_temporaries : direct_temporaries (plain_expr x) ≡ full_temporaries (plain_expr e)
+  full_cast_temporaries = cast_temporaries e.place (plain_type e.ctype) (plain_type to) (plain_expr x) ∙ ap full_temporaries whole
+
+  pub full_cast_letters : DirectHasLetters (plain_expr x) → FullHasLetters (plain_expr e)
+  full_cast_letters l = subst FullHasLetters whole (cast_letters e.place (plain_type e.ctype) (plain_type to) (plain_expr x) l)
 
 -- ---- expressions
 

@@ -5,14 +5,14 @@ use Rattle.std.specs.declared.alloc.Global.{Global}
 use Rattle.c_syntax.specs.declared.statement.Item.{Item}
 use Rattle.c_syntax.specs.declared.statement.Stmt.{Stmt}
 use Rattle.c_syntax.specs.Expressions.{Expression, Node, Call}
-use Rattle.c_syntax.specs.Statements.{Declaration, ElsePart, NoElse, Else, ForFirst, NoFirst, First, BlockItem, Declare, Run, Asserts, BlockItems, NoItem, Then, plain_stmt, plain_item}
+use Rattle.c_syntax.specs.Statements.{Declaration, Statement, ElsePart, NoElse, Else, ForFirst, NoFirst, First, BlockItem, Declare, Run, Asserts, BlockItems, NoItem, Then, plain_stmt, plain_item}
 use Rattle.c_syntax.specs.Programs.{TranslationUnit}
 use Rattle.mon_syntax.specs.declared.tree.MonType.{MonType}
-use Rattle.mon_syntax.specs.Trees.{MonExpression, Register, MonStatements}
+use Rattle.mon_syntax.specs.Trees.{MonExpression, Register, MonStatements, NoStatement}
 use Rattle.instrument.specs.declared.scene.Spot as code
 use Rattle.instrument.specs.Limits.{HasLetters, ArgumentsHaveLetters}
 use Rattle.instrument.specs.Expressions.{value_type, temporaries, value, setup}
-use Rattle.instrument.specs.Translation.{Spot, arguments_temporaries, called}
+use Rattle.instrument.specs.Translation.{Spot, arguments_temporaries, called, statement}
 
 abbrev pub plain_else_part : Option (Box Stmt Global) → ElsePart
 plain_else_part None = NoElse
@@ -32,6 +32,11 @@ abbrev pub declared_by : BlockItem → List Declaration
 declared_by (Declare ds) = ds
 declared_by (Run a) = []
 declared_by (Asserts annots) = []
+
+-- the body of a function, where it has one
+abbrev pub statement_of : TranslationUnit → List ℕ → Spot → List MonType → Option Statement → MonStatements
+statement_of p numbers spot rs None = NoStatement
+statement_of p numbers spot rs (Some a) = statement p numbers spot rs a
 
 abbrev pub plain_spot : code.Spot → Spot
 plain_spot s = record { loops = s.loops; inside = s.inside.now; outside = s.outside.now }

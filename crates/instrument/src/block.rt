@@ -1,6 +1,6 @@
 //! The blocks of memory of variables: their births and deaths.
 
-ghost use Rattle.std.specs.Prelude.{◌≡◌, IfOk, OnOk, map};
+ghost use Rattle.std.specs.Prelude.{◌≡◌, [], IfOk, OnOk, map};
 ghost use Rattle.c_syntax.specs.Statements.{plain_decl, plain_item, plain_items};
 ghost use Rattle.c_model.specs.Meaning.{declared_in};
 ghost use Rattle.mon_syntax.specs.Trees.{plain_stmt, plain_stmts};
@@ -50,8 +50,8 @@ fn declared_by(item: &Item) -> &[Decl]
     }
 }
 
-/// The births of the variables that items of a block declare.
-pub fn births_in(
+// The births of the variables that items of a block declare.
+fn births_in(
     alloc: Global,
     numbers: &[u32],
     block: &[Item],
@@ -75,8 +75,8 @@ pub fn born(numbers: &[u32], decls: &[Decl], live: &mut Vec<u32>) -> Result<(), 
     Ok(())
 }
 
-/// The variables that live behind the births of those that items of a block declare.
-pub fn born_in(
+// The variables that live behind the births of those that items of a block declare.
+fn born_in(
     alloc: Global,
     numbers: &[u32],
     block: &[Item],
@@ -113,6 +113,34 @@ pub fn deaths(
         then(to, death(alloc, numbers, *register)?)?;
     }
     Ok(())
+}
+
+/// The births at the entry of a block, and the variables that live behind them.
+pub fn enter(
+    alloc: Global,
+    numbers: &[u32],
+    block: &[Item],
+    live: &[u32],
+    to: &mut Vec<MonStmt>,
+) -> Result<Vec<u32>, AllocError>
+    ensures born { OnOk result (plain_stmts to.new.items ≡ before (plain_stmts to.old.items) (births numbers.now (declared_in (plain_items block.now)))) }
+    ensures live { IfOk result (λ all. all.items ≡ with_born numbers.now (declared_in (plain_items block.now)) live.now) }
+{
+    births_in(alloc, numbers, block, to)?;
+    born_in(alloc, numbers, block, live)
+}
+
+/// The deaths at the end of a block.
+pub fn leave(
+    alloc: Global,
+    numbers: &[u32],
+    block: &[Item],
+    to: &mut Vec<MonStmt>,
+) -> Result<(), AllocError>
+    ensures { OnOk result (plain_stmts to.new.items ≡ before (plain_stmts to.old.items) (deaths numbers.now (with_born numbers.now (declared_in (plain_items block.now)) []))) }
+{
+    let own = born_in(alloc, numbers, block, &[])?;
+    deaths(alloc, numbers, &own, to)
 }
 
 /// What stands first in a `for`, as items of a block.

@@ -1,10 +1,11 @@
 //! Functions and programs (C99 6.9).
 
-ghost use Rattle.std.specs.Prelude.{◌≡◌, ◌<◌, ◌++◌, ◌^◌, ℕ, IfOk, OnOk, codes, drop, if◌then◌else◌, length, map, nat_eq};
+ghost use Rattle.std.specs.Prelude.{◌≡◌, ◌<◌, ◌++◌, ◌∷◌, [], ◌^◌, ℕ, true, IfOk, OnOk, codes, drop, if◌then◌else◌, length, map, nat_eq, option_map};
 ghost use Rattle.c_syntax.specs.Ctypes.{plain_type};
 ghost use Rattle.c_syntax.specs.Programs.{plain_func, plain_program};
+ghost use Rattle.c_syntax.specs.Statements.{plain_stmt};
 ghost use Rattle.c_model.specs.Formed.{IsProgram};
-ghost use Rattle.c_model.specs.Meaning.{run};
+ghost use Rattle.c_model.specs.Meaning.{is_definition, run};
 ghost use Rattle.c_model.specs.Reports.{Agrees};
 ghost use Rattle.c_model.specs.State.{Fault, Input};
 ghost use Rattle.c_model.specs.Typing.{name_at};
@@ -12,6 +13,8 @@ ghost use Rattle.mon_syntax.specs.Memories.{block_run};
 ghost use Rattle.mon_syntax.specs.Trees.{plain_func as plain_monitored_func, plain_program as plain_monitored, plain_register, plain_stmts};
 ghost use Rattle.mon_syntax.specs.Valid.{IsValid};
 ghost use Rattle.instrument.specs.Limits.{BodyHasNumbers, FunctionHasNumbers, FunctionsHaveNumbers};
+ghost use Rattle.instrument.specs.Expressions.{before};
+ghost use Rattle.instrument.specs.Options.{plain_spot, statement_of};
 ghost use Rattle.instrument.specs.Translation.{alive, body_part, body_temporaries, function_name, function_of, functions_from, index_of_main, result_of, temporaries_from, translated};
 
 use crate::block::{births, born, deaths};
@@ -20,7 +23,7 @@ use crate::name::{function_name, temporary_name};
 use crate::scene::{Scene, Spot};
 use crate::statement::statement;
 use crate::variable::{Variables, variables_of};
-use c_syntax::{CType, Func, Name, Program};
+use c_syntax::{CType, Func, Name, Program, Stmt};
 use c_type_rules::scope::name_at;
 use mon_syntax::{MonFunc, MonProgram, MonStmt, MonType, Register};
 use std::alloc::{AllocError, Global};
@@ -32,7 +35,8 @@ fn temporaries(
     first: usize,
     to: &mut Vec<Register>,
 ) -> Result<(), AllocError>
-    ensures { OnOk result (map plain_register to.new.items ≡ map plain_register to.old.items ++ temporaries_from first (drop first types.now)) }
+    ensures registers { OnOk result (map plain_register to.new.items ≡ map plain_register to.old.items ++ temporaries_from first (drop first types.now)) }
+    ensures few { length types.now < 2 ^ 64 }
 {
     'types: for k in first..types.len() {
         let name = temporary_name(alloc, k)?;
@@ -85,6 +89,25 @@ fn name_of(
     }
 }
 
+// The statement that is the body of a function, where it has one.
+fn statement_of(
+    alloc: Global,
+    scene: &Scene<'_>,
+    spot: &Spot<'_>,
+    body: &Option<Stmt>,
+    types: &mut Vec<MonType>,
+    to: &mut Vec<MonStmt>,
+) -> Result<(), AllocError>
+    ensures code { OnOk result (plain_stmts to.new.items ≡ before (plain_stmts to.old.items) (statement_of (plain_program scene.now.program.now) scene.now.numbers.now (plain_spot spot.now) types.old.items (option_map plain_stmt body.now))) }
+    ensures types { OnOk result (types.new.items ≡ types.old.items ++ body_temporaries (option_map plain_stmt body.now)) }
+    ensures numbers { OnOk result (BodyHasNumbers (option_map plain_stmt body.now)) }
+{
+    match body {
+        Some(body) => statement(alloc, scene, spot, body, types, to),
+        None => Ok(()),
+    }
+}
+
 // The body of a function, in which its parameters live.
 fn body_of(
     alloc: Global,
@@ -105,10 +128,7 @@ fn body_of(
         inside: &inside,
         outside: &[],
     };
-    match &f.body {
-        Some(body) => statement(alloc, scene, &spot, body, types, &mut code)?,
-        None => {}
-    }
+    statement_of(alloc, scene, &spot, &f.body, types, &mut code)?;
     deaths(alloc, scene.numbers, &inside, &mut code)?;
     Ok(code)
 }
@@ -146,18 +166,37 @@ fn function_of(
     })
 }
 
+// Translates a function where it is a definition, behind those that are there.
+fn add(
+    alloc: Global,
+    p: &Program,
+    main: usize,
+    f: &Func,
+    to: &mut Vec<MonFunc>,
+) -> Result<(), AllocError>
+    ensures code { OnOk result (map plain_monitored_func to.new.items ≡ map plain_monitored_func to.old.items ++ functions_from (plain_program p.now) main (length to.old.items) (plain_func f.now ∷ [])) }
+    ensures numbers { OnOk result (is_definition (plain_func f.now) ≡ true → FunctionHasNumbers (plain_func f.now)) }
+{
+    match &f.body {
+        Some(_) => {
+            let index = to.len();
+            to.push(function_of(alloc, p, main, index, f)?)?;
+            Ok(())
+        }
+        None => Ok(()),
+    }
+}
+
 // Translates the definitions.
 fn functions(alloc: Global, p: &Program) -> Result<Vec<MonFunc>, AllocError>
     ensures code { IfOk result (λ fs. map plain_monitored_func fs.items ≡ functions_from (plain_program p.now) (index_of_main p.now.names.items (map plain_func p.now.funcs.items)) 0 (map plain_func p.now.funcs.items)) }
     ensures numbers { IfOk result (λ _. FunctionsHaveNumbers (map plain_func p.now.funcs.items)) }
+    ensures few { length p.now.funcs.items < 2 ^ 64 }
 {
     let main = index_of_main(&p.names, &p.funcs);
-    let mut functions = Vec::new(alloc);
+    let mut functions = Vec::with_capacity(alloc, p.funcs.len())?;
     'funcs: for f in &p.funcs {
-        if f.body.is_some() {
-            let index = functions.len();
-            functions.push(function_of(alloc, p, main, index, f)?)?;
-        }
+        add(alloc, p, main, f, &mut functions)?;
     }
     Ok(functions)
 }
@@ -178,6 +217,7 @@ fn translate(alloc: Global, p: &Program) -> Result<MonProgram, AllocError>
 /// steps, up to the program's first undefined operation.
 pub fn instrument(alloc: Global, p: &Program) -> Result<MonProgram, AllocError>
     requires program { IsProgram (plain_program p.now) }
+    ensures translated { IfOk result (λ m. plain_monitored m ≡ translated (plain_program p.now)) }
     ensures valid { IfOk result (λ m. IsValid (plain_monitored m)) }
     ensures agrees { IfOk result (λ m. (input : Input) (n : ℕ) → Agrees (run (plain_program p.now) input n) (block_run (plain_monitored m) input n)) }
     ensures sound { IfOk result (λ _. (input : Input) (n : ℕ) → (run (plain_program p.now) input n).final ≡ Fault → ⊥) }

@@ -1,20 +1,19 @@
 //! Statements (C99 6.8).
 
-ghost use Rattle.std.specs.Prelude.{◌≡◌, ◌+◌, ◌++◌, IfOk, List, OnOk, map, option_map};
-ghost use Rattle.c_syntax.specs.declared.place.Place.{Place};
-ghost use Rattle.c_syntax.specs.Annotations.{Annotation, plain_annot};
+ghost use Rattle.std.specs.Prelude.{◌≡◌, ◌+◌, ◌++◌, IfOk, OnOk, map, option_map};
+ghost use Rattle.c_syntax.specs.Annotations.{plain_annot};
 ghost use Rattle.c_syntax.specs.Expressions.{plain_expr};
 ghost use Rattle.c_syntax.specs.Programs.{plain_program};
-ghost use Rattle.c_syntax.specs.Statements.{For, plain_item, plain_items, plain_stmt};
+ghost use Rattle.c_syntax.specs.Statements.{plain_item, plain_items, plain_stmt};
 ghost use Rattle.c_model.specs.Meaning.{declared_in};
 ghost use Rattle.mon_syntax.specs.Trees.{Goto, Labelled, Loop, Then, plain_expr as plain_monitored, plain_stmt as plain_monitored_stmt, plain_stmts};
-ghost use Rattle.instrument.specs.Limits.{Any, AreNumbered, EffectHasLetters, ElseHasNumbers, FullHasLetters, HasLetters, HasNumbers, HaveNumbers, ItemHasNumbers};
+ghost use Rattle.instrument.specs.Limits.{Any, AreNumbered, EffectHasLetters, ElseHasNumbers, FirstHasNumbers, FullHasLetters, HasLetters, HasNumbers, HaveNumbers, ItemHasNumbers};
 ghost use Rattle.instrument.specs.Options.{plain_else_part, plain_first_part, plain_spot};
 ghost use Rattle.instrument.specs.Expressions.{assertions, before, condition_of, one, setup, temporaries};
-ghost use Rattle.instrument.specs.Translation.{alive, any_temporaries, deaths, effect_if_any, effect_temporaries, else_part, else_temporaries, end_label, full_temporaries, in_loop, item, item_temporaries, items, items_temporaries, leave_where_zero, next_label, returned, statement, statement_temporaries, test, test_if_any, with_variables};
+ghost use Rattle.instrument.specs.Translation.{alive, any_temporaries, deaths, effect_if_any, effect_temporaries, else_part, else_temporaries, end_label, first_part, first_temporaries, full_temporaries, in_loop, item, item_temporaries, items, items_temporaries, leave_where_zero, next_label, returned, statement, statement_temporaries, test, test_if_any, with_variables};
 
 use crate::annotation::assertion;
-use crate::block::{births_in, born_in, deaths, items_of};
+use crate::block::{deaths, enter, items_of, leave};
 use crate::conversion::value_type;
 use crate::effect::{effect, effect_if_any, initialise_all};
 use crate::expression::expression;
@@ -263,7 +262,16 @@ pub fn statement(
             then(to, repeat(alloc, loops, Vec::new(alloc), behind)?)
         }
         StmtKind::For(_, first, e, step, a) => {
-            for_loop(alloc, scene, spot, (first, e, step, a), types, to)
+            let own = items_of(first);
+            let inside = enter(alloc, scene.numbers, own, spot.inside, to)?;
+            let around = Spot {
+                loops: spot.loops,
+                inside: &inside,
+                outside: spot.outside,
+            };
+            first_part(alloc, scene, &around, first, types, to)?;
+            turns(alloc, scene, &around, a, (e, step), types, to)?;
+            leave(alloc, scene.numbers, own, to)
         }
         StmtKind::Break => {
             let label = end_label(alloc, spot.loops)?;
@@ -311,62 +319,52 @@ fn block(
     ensures types { OnOk result (types.new.items ≡ types.old.items ++ items_temporaries (plain_items body.now)) }
     ensures numbers { OnOk result (HaveNumbers (plain_items body.now)) }
 {
-    births_in(alloc, scene.numbers, body, to)?;
-    let inside = born_in(alloc, scene.numbers, body, spot.inside)?;
+    let inside = enter(alloc, scene.numbers, body, spot.inside, to)?;
     let inner = Spot {
         loops: spot.loops,
         inside: &inside,
         outside: spot.outside,
     };
     items(alloc, scene, &inner, body, types, to)?;
-    let own = born_in(alloc, scene.numbers, body, &[])?;
-    deaths(alloc, scene.numbers, &own, to)
+    leave(alloc, scene.numbers, body, to)
 }
 
-// A `for`, from what stands first, its condition, its step and its body. What it declares lives as long as it is done.
+// What stands first in a `for`, which may be left out.
 #[cycle(statement)]
-fn for_loop(
+fn first_part(
     alloc: Global,
     scene: &Scene<'_>,
     spot: &Spot<'_>,
-    parts: (&Option<Box<Item>>, &Option<Expr>, &Option<Expr>, &Stmt),
+    first: &Option<Box<Item>>,
     types: &mut Vec<MonType>,
     to: &mut Vec<MonStmt>,
 ) -> Result<(), AllocError>
-    ensures code { (at : Place) (annots : List Annotation) → OnOk result (plain_stmts to.new.items ≡ before (plain_stmts to.old.items) (statement (plain_program scene.now.program.now) scene.now.numbers.now (plain_spot spot.now) types.old.items (For at annots (plain_first_part parts.entry.0.now) (option_map plain_expr parts.entry.1.now) (option_map plain_expr parts.entry.2.now) (plain_stmt parts.entry.3.now)))) }
-    ensures types { (at : Place) (annots : List Annotation) → OnOk result (types.new.items ≡ types.old.items ++ statement_temporaries (For at annots (plain_first_part parts.entry.0.now) (option_map plain_expr parts.entry.1.now) (option_map plain_expr parts.entry.2.now) (plain_stmt parts.entry.3.now))) }
-    ensures numbers { (at : Place) (annots : List Annotation) → OnOk result (HasNumbers (For at annots (plain_first_part parts.entry.0.now) (option_map plain_expr parts.entry.1.now) (option_map plain_expr parts.entry.2.now) (plain_stmt parts.entry.3.now))) }
+    ensures code { OnOk result (plain_stmts to.new.items ≡ before (plain_stmts to.old.items) (first_part (plain_program scene.now.program.now) scene.now.numbers.now (plain_spot spot.now) types.old.items (plain_first_part first.now))) }
+    ensures types { OnOk result (types.new.items ≡ types.old.items ++ first_temporaries (plain_first_part first.now)) }
+    ensures numbers { OnOk result (FirstHasNumbers (plain_first_part first.now)) }
 {
-    let (first, e, step, a) = parts;
-    let own = items_of(first);
-    births_in(alloc, scene.numbers, own, to)?;
-    let inside = born_in(alloc, scene.numbers, own, spot.inside)?;
-    let around = Spot {
-        loops: spot.loops,
-        inside: &inside,
-        outside: spot.outside,
-    };
-    items(alloc, scene, &around, own, types, to)?;
-    turns(alloc, scene, &around, (e, step, a), types, to)?;
-    let own = born_in(alloc, scene.numbers, own, &[])?;
-    deaths(alloc, scene.numbers, &own, to)
+    match first {
+        Some(i) => item(alloc, scene, spot, i, types, to),
+        None => Ok(()),
+    }
 }
 
-// The loop of a `for`, from its condition, its step and its body.
+// The loop of a `for`, from its body, its condition and its step.
 #[cycle(statement)]
 fn turns(
     alloc: Global,
     scene: &Scene<'_>,
     spot: &Spot<'_>,
-    parts: (&Option<Expr>, &Option<Expr>, &Stmt),
+    a: &Stmt,
+    controls: (&Option<Expr>, &Option<Expr>),
     types: &mut Vec<MonType>,
     to: &mut Vec<MonStmt>,
 ) -> Result<(), AllocError>
-    ensures code { OnOk result (plain_stmts to.new.items ≡ before (plain_stmts to.old.items) (one (Labelled (one (Loop (test_if_any scene.now.numbers.now types.old.items (spot.now.loops + 1) (option_map plain_expr parts.entry.0.now)) (Then (Labelled (statement (plain_program scene.now.program.now) scene.now.numbers.now (in_loop (plain_spot spot.now)) (types.old.items ++ any_temporaries temporaries (option_map plain_expr parts.entry.0.now)) (plain_stmt parts.entry.2.now)) (next_label (spot.now.loops + 1))) (effect_if_any (plain_program scene.now.program.now) scene.now.numbers.now (types.old.items ++ any_temporaries temporaries (option_map plain_expr parts.entry.0.now) ++ statement_temporaries (plain_stmt parts.entry.2.now)) (option_map plain_expr parts.entry.1.now))))) (end_label (spot.now.loops + 1))))) }
-    ensures types { OnOk result (types.new.items ≡ types.old.items ++ (any_temporaries temporaries (option_map plain_expr parts.entry.0.now) ++ statement_temporaries (plain_stmt parts.entry.2.now) ++ any_temporaries effect_temporaries (option_map plain_expr parts.entry.1.now))) }
-    ensures numbers { OnOk result (Any HasLetters (option_map plain_expr parts.entry.0.now) × HasNumbers (plain_stmt parts.entry.2.now) × Any EffectHasLetters (option_map plain_expr parts.entry.1.now)) }
+    ensures code { OnOk result (plain_stmts to.new.items ≡ before (plain_stmts to.old.items) (one (Labelled (one (Loop (test_if_any scene.now.numbers.now types.old.items (spot.now.loops + 1) (option_map plain_expr controls.entry.0.now)) (Then (Labelled (statement (plain_program scene.now.program.now) scene.now.numbers.now (in_loop (plain_spot spot.now)) (types.old.items ++ any_temporaries temporaries (option_map plain_expr controls.entry.0.now)) (plain_stmt a.now)) (next_label (spot.now.loops + 1))) (effect_if_any (plain_program scene.now.program.now) scene.now.numbers.now (types.old.items ++ any_temporaries temporaries (option_map plain_expr controls.entry.0.now) ++ statement_temporaries (plain_stmt a.now)) (option_map plain_expr controls.entry.1.now))))) (end_label (spot.now.loops + 1))))) }
+    ensures types { OnOk result (types.new.items ≡ types.old.items ++ (any_temporaries temporaries (option_map plain_expr controls.entry.0.now) ++ statement_temporaries (plain_stmt a.now) ++ any_temporaries effect_temporaries (option_map plain_expr controls.entry.1.now))) }
+    ensures numbers { OnOk result (Any HasLetters (option_map plain_expr controls.entry.0.now) × HasNumbers (plain_stmt a.now) × Any EffectHasLetters (option_map plain_expr controls.entry.1.now)) }
 {
-    let (e, step, a) = parts;
+    let (e, step) = controls;
     let loops = inside(spot.loops)?;
     let mut front = Vec::new(alloc);
     leave_unless_any(alloc, scene.numbers, loops, e, types, &mut front)?;

@@ -153,9 +153,10 @@ fn act(to: &mut Vec<u8>, into: Option<u32>, f: MemoryCall, args: &[MonExpr]) -> 
         MemoryCall::DeleteBlock => to.push(b'/')?,
     }
     match into {
-        Some(r) => to.push(letter(r)),
-        None => spell_all(to, args),
+        Some(r) => to.push(letter(r))?,
+        None => spell_all(to, args)?,
     }
+    Ok(())
 }
 
 /// The letters of statements, in order: those inside stand behind the statement that they are in.

@@ -1,4 +1,4 @@
-use Rattle.std.proofs.Common.{◌≡◌, [], ◌∷◌, map, vec_len, length, refl, ap, ◌∙◌, rules}
+use Rattle.std.proofs.Common.{◌≡◌, [], ◌∷◌, ◌++◌, map, vec_len, length, refl, ap, ◌∙◌, rules}
 use Rattle.c_syntax.specs.Statements.{plain_decl}
 use Rattle.instrument.specs.Translation.{own_name, register_name}
 use Rattle.instrument.proofs.Sequences.{left_at, none_left}

@@ -1,0 +1,14 @@
+use Rattle.std.proofs.Common.{◌≡◌, ◌++◌, [], ◌∷◌, true, false, length, map, refl, ap, subst, sym, ◌∙◌}
+use Rattle.std.proofs.lemmas.List.{append-nil, map-append}
+use Rattle.c_syntax.specs.Programs.{plain_func, plain_program}
+use Rattle.mon_syntax.specs.Trees.{plain_func as plain_monitored_func}
+use Rattle.instrument.specs.Translation.{functions_from}
+use Rattle.instrument.proofs.Definitions.{no_definition, a_definition, from_none, from_one}
+use Rattle.instrument.proofs.program.add.Goals as goal
+
+pub returns-in-None-clause-code : goal.returns-in-None-clause-code
+returns-in-None-clause-code c =
+    sym (append-nil (map plain_monitored_func c.args.to.now.items)) ∙ ap (λ l. map plain_monitored_func c.args.to.now.items ++ l) (from_none (plain_program c.args.p.now) c.args.main (length c.args.to.now.items) (plain_func c.args.f.now) (no_definition c.args.f.now c.in-None.is))
+
+pub returns-in-None-clause-numbers : goal.returns-in-None-clause-numbers
+returns-in-None-clause-numbers c one = let none = no_definition c.args.f.now c.in-None.is in absurd cc

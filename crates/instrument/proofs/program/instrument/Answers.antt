@@ -1,0 +1,21 @@
+use Rattle.std.proofs.Common.{length, sym, subst, ◌<◌, ◌^◌}
+use Rattle.c_syntax.specs.Programs.{plain_program}
+use Rattle.c_model.specs.Meaning.{run}
+use Rattle.c_model.specs.Reports.{Agrees}
+use Rattle.mon_syntax.specs.Memories.{block_run}
+use Rattle.mon_syntax.specs.Valid.{IsValid}
+use Rattle.instrument.proofs.Runs.{never_faults, translated_agrees}
+use Rattle.instrument.proofs.ValidPrograms.{translated_valid}
+use Rattle.instrument.proofs.program.instrument.Goals as goal
+
+pub returns-clause-valid : goal.returns-clause-valid
+returns-clause-valid c =
+    subst IsValid (sym c.in_ok-m.ensures.translated) (translated_valid (plain_program c.args.p.now) c.requires.program c.in_ok-m.ensures.numbers c.translate.ensures.few)
+
+pub returns-clause-agrees : goal.returns-clause-agrees
+returns-clause-agrees c input n =
+    subst (λ m. Agrees (run (plain_program c.args.p.now) input n) (block_run m input n)) (sym c.in_ok-m.ensures.translated)
+    (translated_agrees (plain_program c.args.p.now) c.requires.program c.in_ok-m.ensures.numbers input n)
+
+pub returns-clause-sound : goal.returns-clause-sound
+returns-clause-sound c input n = never_faults (plain_program c.args.p.now) c.requires.program c.in_ok-m.ensures.numbers input n

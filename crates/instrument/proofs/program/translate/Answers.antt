@@ -1,0 +1,7 @@
+use Rattle.std.proofs.Common.{◌<◌, ◌^◌, length, sym, subst}
+use Rattle.std.proofs.lemmas.List.{length-map}
+use Rattle.c_syntax.specs.Programs.{plain_func}
+use Rattle.instrument.proofs.program.translate.Goals as goal
+
+pub returns-clause-few : goal.returns-clause-few
+returns-clause-few c = subst (λ n. n < 2 ^ 64) (sym (length-map c.args.p.now.funcs.items plain_func)) c.functions.ensures.few

@@ -1,0 +1,164 @@
+use Rattle.std.proofs.Common.{◌≡◌, ℕ, List, ◌+◌, ◌++◌, drop, map, option_map, refl, ap, subst, sym, ◌∙◌}
+use Rattle.std.specs.Prelude.{OnOk}
+use Rattle.c_syntax.specs.Annotations.{plain_annot}
+use Rattle.c_syntax.specs.Expressions.{plain_expr}
+use Rattle.c_syntax.specs.Programs.{plain_program}
+use Rattle.c_syntax.specs.Statements.{Statement, plain_item, plain_items, plain_stmt, plain_stmt_kind}
+use Rattle.c_model.specs.Meaning.{declared_in}
+use Rattle.mon_syntax.specs.Trees.{plain_stmts}
+use Rattle.mon_syntax.specs.Trees.{plain_expr as plain_monitored}
+use Rattle.mon_syntax.specs.Trees.{plain_stmt as plain_monitored_stmt}
+use Rattle.mon_syntax.proofs.Rows.{if_is}
+use Rattle.instrument.specs.Limits.{HasNumbers, HaveNumbers}
+use Rattle.instrument.specs.Options.{plain_else_part, plain_first_part, plain_spot}
+use Rattle.instrument.specs.Expressions.{before, one, temporaries}
+use Rattle.instrument.specs.Translation.{Spot, any_temporaries, effect_temporaries, else_part, first_part, first_temporaries, item, item_temporaries, items, items_temporaries, statement, statement_temporaries, test_if_any}
+use Rattle.instrument.proofs.Sequences.{left_at, none_left, all_there, complete, grown, more_behind, nothing}
+use Rattle.instrument.proofs.StatementTrees.{on_ok_then, block_stmt, if_stmt, for_stmt, do_stmt, if_code, do_code, turns_code, for_code, alive_code, declared_of_first, four_types}
+use Rattle.instrument.proofs.Trees.{on_ok}
+use Rattle.instrument.proofs.statement.+statement.Goals as goal
+
+pub else_part-returns-in-None-clause-code : goal.else_part-returns-in-None-clause-code
+else_part-returns-in-None-clause-code t c =
+    nothing _ _ (ap (λ o. else_part (plain_program c.args.scene.now.program.now) c.args.scene.now.numbers.now (plain_spot c.args.spot.now) c.args.types.now.items (plain_else_part o)) c.in-None.is)
+
+pub first_part-returns-in-None-clause-code : goal.first_part-returns-in-None-clause-code
+first_part-returns-in-None-clause-code t c =
+    nothing _ _ (ap (λ o. first_part (plain_program c.args.scene.now.program.now) c.args.scene.now.numbers.now (plain_spot c.args.spot.now) c.args.types.now.items (plain_first_part o)) c.in-None.is)
+
+pub items-returns-clause-code : goal.items-returns-clause-code
+items-returns-clause-code t c =
+    all_there (none_left (λ l. items (plain_program c.args.scene.now.program.now) c.args.scene.now.numbers.now (plain_spot c.args.spot.now) c.items.types.items (plain_items l)) c.args.block.now c.items.i-index c.items-test.false) c.items.invariant.0
+
+pub items-returns-clause-types : goal.items-returns-clause-types
+items-returns-clause-types t c = complete c.items.types.items (none_left (λ l. items_temporaries (plain_items l)) c.args.block.now c.items.i-index c.items-test.false) c.items.invariant.1
+
+pub items-returns-clause-numbers : goal.items-returns-clause-numbers
+items-returns-clause-numbers t c = c.items.invariant.2 (subst HaveNumbers (sym (none_left plain_items c.args.block.now c.items.i-index c.items-test.false)) tt)
+
+pub items-items-preserved : goal.items-items-preserved
+items-items-preserved t c =
+    let p = plain_program c.args.scene.now.program.now in
+    let numbers = c.args.scene.now.numbers.now in
+    let spot = plain_spot c.args.spot.now in
+    let i = plain_item c.i-item.result in
+    let left = left_at plain_items c.args.block.now c.items.i-index _ _ c.items-test.true c.i-item.is refl in (
+      more_behind (plain_stmts c.items.to.items) (item p numbers spot c.items.types.items i) c.items.types.items (item_temporaries i) (λ rs. items p numbers spot rs (plain_items (drop (c.items.i-index + 1) c.args.block.now)))
+          (ap (items p numbers spot c.items.types.items) left) c.in_ok-item.ensures.code c.in_ok-item.ensures.types c.items.invariant.0,
+      grown c.items.types.items (item_temporaries i) _ (ap items_temporaries left) c.in_ok-item.ensures.types c.items.invariant.1,
+      λ rest. c.items.invariant.2 (subst HaveNumbers (sym left) (c.in_ok-item.ensures.numbers, rest)),
+    )
+
+pub block-returns-clause-code : goal.block-returns-clause-code
+block-returns-clause-code t c =
+    let p = plain_program c.args.scene.now.program.now in
+    let numbers = c.args.scene.now.numbers.now in
+    let spot = c.args.spot.now in
+    let body = plain_items c.args.body.now in
+    let f = λ (l : List ℕ). items p numbers (record { loops = spot.loops; inside = l; outside = spot.outside.now }) c.args.types.now.items body in
+    on_ok_then c.leave.result (λ last. alive_code numbers spot.inside.now c.deref.result.now (declared_in body) f (plain_stmts c.args.to.now.items) (plain_stmts c.enter.new.to.items) (plain_stmts c.items.new.to.items) (plain_stmts c.leave.new.to.items)
+    c.in_ok-inside.ensures.born (c.deref.ensures.value ∙ c.in_ok-inside.ensures.live) c.in_ok-items.ensures.code last)
+    c.leave.ensures
+
+pub turns-returns-clause-code : goal.turns-returns-clause-code
+turns-returns-clause-code t c =
+    let p = plain_program c.args.scene.now.program.now in
+    let numbers = c.args.scene.now.numbers.now in
+    let rs = c.args.types.now.items in
+    let t0 = plain_stmts c.args.to.now.items in
+    on_ok_then c.then.result (λ last.
+    turns_code p numbers rs c.leave_unless_any.new.types.items c.round.new.types.items (plain_spot c.args.spot.now) t0 t0 (plain_stmts c.then.new.to.items) c.args.a.now.place (option_map plain_expr c.args.controls.0.now) (option_map plain_expr c.args.controls.1.now) (plain_stmt c.args.a.now) c.in_ok-loops.loops
+    (plain_stmts c.leave_unless_any.new.to.items) (plain_stmts c.in_ok-behind.behind.items) (plain_stmts c.effect_if_any.new.to.items) (plain_monitored_stmt c.in_ok-repeat.field-0)
+    c.in_ok-loops.ensures
+    (c.in_ok-leave_unless_any.ensures.code ∙ ap (λ l. before (plain_stmts l) (test_if_any numbers rs c.in_ok-loops.loops (option_map plain_expr c.args.controls.0.now))) c.new-front.ensures.items)
+    c.in_ok-leave_unless_any.ensures.types c.in_ok-behind.ensures.code c.in_ok-behind.ensures.types c.in_ok-effect_if_any.ensures.code c.in_ok-repeat.ensures last)
+    c.then.ensures
+
+pub statement-returns-in-Empty-clause-code : goal.statement-returns-in-Empty-clause-code
+statement-returns-in-Empty-clause-code t c =
+    nothing _ _ (ap (λ k. statement (plain_program c.args.scene.now.program.now) c.args.scene.now.numbers.now (plain_spot c.args.spot.now) c.args.types.now.items (plain_stmt_kind c.args.s.now.place k)) c.in-Empty.is)
+
+pub statement-returns-in-Block-clause-code : goal.statement-returns-in-Block-clause-code
+statement-returns-in-Block-clause-code t c =
+    subst (λ (x : Statement). OnOk c.block.result (plain_stmts c.block.new.to.items ≡ before (plain_stmts c.args.to.now.items) (statement (plain_program c.args.scene.now.program.now) c.args.scene.now.numbers.now (plain_spot c.args.spot.now) c.args.types.now.items x)))
+    (block_stmt c.args.s.now c.in-Block.body _ c.in-Block.is c.deref.ensures.value) c.block.ensures.code
+
+pub statement-returns-in-Block-clause-types : goal.statement-returns-in-Block-clause-types
+statement-returns-in-Block-clause-types t c =
+    subst (λ (x : Statement). OnOk c.block.result (c.block.new.types.items ≡ c.args.types.now.items ++ statement_temporaries x))
+    (block_stmt c.args.s.now c.in-Block.body _ c.in-Block.is c.deref.ensures.value) c.block.ensures.types
+
+pub statement-returns-in-Block-clause-numbers : goal.statement-returns-in-Block-clause-numbers
+statement-returns-in-Block-clause-numbers t c =
+    subst (λ (x : Statement). OnOk c.block.result (HasNumbers x)) (block_stmt c.args.s.now c.in-Block.body _ c.in-Block.is c.deref.ensures.value) c.block.ensures.numbers
+
+pub statement-returns-in_ok-else_part-in-If-clause-code : goal.statement-returns-in_ok-else_part-in-If-clause-code
+statement-returns-in_ok-else_part-in-If-clause-code t c =
+    let p = plain_program c.args.scene.now.program.now in
+    let numbers = c.args.scene.now.numbers.now in
+    let spot = plain_spot c.args.spot.now in
+    let x = c.deref-in-If.result.now in
+    let rs = c.args.types.now.items in
+    let t0 = plain_stmts c.args.to.now.items in
+    let t1 = plain_stmts c.condition_of.new.to.items in
+    subst (λ (y : Statement). OnOk c.then.result (plain_stmts c.then.new.to.items ≡ before t0 (statement p numbers spot rs y))) (if_stmt c.args.s.now c.in-If.e c.in-If.a c.in-If.b x c.in-If.is c.deref-in-If.ensures)
+    (on_ok_then c.then.result (λ last.
+    if_code p numbers rs c.condition_of.new.types.items c.statement.new.types.items spot t0 t1 (plain_stmts c.then.new.to.items) c.args.s.now.place (plain_expr c.in-If.e) (plain_stmt x) (plain_else_part c.in-If.b)
+    (plain_monitored c.in_ok-condition-in-If.condition) (plain_stmts c.statement.new.to.items) (plain_stmts c.else_part.new.to.items)
+    c.in_ok-condition-in-If.ensures.value c.in_ok-condition-in-If.ensures.setup c.in_ok-condition-in-If.ensures.types
+    (c.in_ok-statement-in-If.ensures.code ∙ ap (λ l. before (plain_stmts l) (statement p numbers spot c.condition_of.new.types.items (plain_stmt x))) c.new-first.ensures.items)
+    c.in_ok-statement-in-If.ensures.types
+    (c.in_ok-else_part-in-If.ensures.code ∙ ap (λ l. before (plain_stmts l) (else_part p numbers spot c.statement.new.types.items (plain_else_part c.in-If.b))) c.new-second.ensures.items)
+    (last ∙ ap (λ z. before t1 (one z)) (if_is c.in_ok-condition-in-If.condition c.statement.new.to c.else_part.new.to)))
+    c.then.ensures)
+
+pub statement-returns-in_ok-repeat-in-Do-clause-code : goal.statement-returns-in_ok-repeat-in-Do-clause-code
+statement-returns-in_ok-repeat-in-Do-clause-code t c =
+    let p = plain_program c.args.scene.now.program.now in
+    let numbers = c.args.scene.now.numbers.now in
+    let spot = plain_spot c.args.spot.now in
+    let x = c.deref-in-Do.result.now in
+    let rs = c.args.types.now.items in
+    let t0 = plain_stmts c.args.to.now.items in
+    subst (λ (y : Statement). OnOk c.then-in-Do.result (plain_stmts c.then-in-Do.new.to.items ≡ before t0 (statement p numbers spot rs y))) (do_stmt c.args.s.now c.in-Do.a c.in-Do.e x c.in-Do.is c.deref-in-Do.ensures)
+    (on_ok_then c.then-in-Do.result (λ last.
+    do_code p numbers rs c.round-in-Do.new.types.items rs spot t0 t0 (plain_stmts c.then-in-Do.new.to.items) c.args.s.now.place (plain_expr c.in-Do.e) (plain_stmt x) c.in_ok-loops-in-Do.loops
+    (plain_stmts c.in_ok-behind-in-Do.behind.items) (plain_stmts c.leave_unless-in-Do.new.to.items) (plain_monitored_stmt c.in_ok-repeat-in-Do.field-0)
+    c.in_ok-loops-in-Do.ensures c.in_ok-behind-in-Do.ensures.types c.in_ok-behind-in-Do.ensures.code c.in_ok-leave_unless-in-Do.ensures.code
+    (rw c.new.ensures.items at c.in_ok-repeat-in-Do.ensures)
+    last)
+    c.then-in-Do.ensures)
+
+pub statement-returns-in_ok-turns-in-For-clause-code : goal.statement-returns-in_ok-turns-in-For-clause-code
+statement-returns-in_ok-turns-in-For-clause-code t c =
+    let p = plain_program c.args.scene.now.program.now in
+    let numbers = c.args.scene.now.numbers.now in
+    let spot = plain_spot c.args.spot.now in
+    let x = c.deref-in-For-2.result.now in
+    let rs = c.args.types.now.items in
+    let t0 = plain_stmts c.args.to.now.items in
+    let first = plain_first_part c.in-For.first in
+    subst (λ (y : Statement). OnOk c.leave.result (plain_stmts c.leave.new.to.items ≡ before t0 (statement p numbers spot rs y))) (for_stmt c.args.s.now c.in-For.field-0 c.in-For.first c.in-For.e c.in-For.step c.in-For.a x c.in-For.is c.deref-in-For-2.ensures)
+    (on_ok_then c.leave.result (λ last.
+    for_code p numbers rs c.first_part.new.types.items spot t0 (plain_stmts c.enter.new.to.items) (plain_stmts c.first_part.new.to.items) (plain_stmts c.turns.new.to.items) (plain_stmts c.leave.new.to.items) c.args.s.now.place
+    (map plain_annot c.in-For.field-0.items) first (option_map plain_expr c.in-For.e) (option_map plain_expr c.in-For.step) (plain_stmt x) (declared_in (plain_items c.items_of-own.result.now)) c.deref-in-For.result.now
+    (ap declared_in c.items_of-own.ensures ∙ declared_of_first first) c.in_ok-inside-in-For.ensures.born (c.deref-in-For.ensures.value ∙ c.in_ok-inside-in-For.ensures.live)
+    c.in_ok-first_part-in-For.ensures.code c.in_ok-first_part-in-For.ensures.types c.in_ok-turns-in-For.ensures.code last)
+    c.leave.ensures)
+
+pub statement-returns-in_ok-turns-in-For-clause-types : goal.statement-returns-in_ok-turns-in-For-clause-types
+statement-returns-in_ok-turns-in-For-clause-types t c =
+    let x = c.deref-in-For-2.result.now in
+    let rs = c.args.types.now.items in
+    let first = plain_first_part c.in-For.first in
+    let e = option_map plain_expr c.in-For.e in
+    let step = option_map plain_expr c.in-For.step in
+    subst (λ (y : Statement). OnOk c.leave.result (c.turns.new.types.items ≡ rs ++ statement_temporaries y)) (for_stmt c.args.s.now c.in-For.field-0 c.in-For.first c.in-For.e c.in-For.step c.in-For.a x c.in-For.is c.deref-in-For-2.ensures)
+    (on_ok c.leave.result
+    (four_types rs c.first_part.new.types.items c.turns.new.types.items (first_temporaries first) (any_temporaries temporaries e) (statement_temporaries (plain_stmt x)) (any_temporaries effect_temporaries step)
+    c.in_ok-first_part-in-For.ensures.types c.in_ok-turns-in-For.ensures.types))
+
+pub statement-returns-in_ok-turns-in-For-clause-numbers : goal.statement-returns-in_ok-turns-in-For-clause-numbers
+statement-returns-in_ok-turns-in-For-clause-numbers t c =
+    subst (λ (y : Statement). OnOk c.leave.result (HasNumbers y)) (for_stmt c.args.s.now c.in-For.field-0 c.in-For.first c.in-For.e c.in-For.step c.in-For.a c.deref-in-For-2.result.now c.in-For.is c.deref-in-For-2.ensures)
+    (on_ok c.leave.result (c.in_ok-first_part-in-For.ensures.numbers, c.in_ok-turns-in-For.ensures.numbers.0, c.in_ok-turns-in-For.ensures.numbers.1, c.in_ok-turns-in-For.ensures.numbers.2))
