@@ -2,11 +2,14 @@ use crate::checked::checked;
 use crate::{Ran, Stop, run};
 use c_lower::{Code, Entry, Instr};
 use c_syntax::{How, Kind, Segment};
-use ea_ports::MemSink;
+use ea_ports::{MemSink, MemSource};
 use mon_syntax::{MonOp, MonType};
 use std::alloc::AllocError;
 use std::process::Abort;
 use std::test::*;
+
+mod blocks;
+mod reading;
 
 const MAIN: Entry = Entry {
     start: 0,
@@ -42,8 +45,9 @@ struct Row<'a> {
 fn runs_so(rt: &(impl Abort + AllocGlobal), row: &Row<'_>) -> Result<(), AllocError> {
     let alloc = rt.alloc();
     let code = sound(rt, row.code, row.entries, Some(MAIN))?;
+    let mut input = MemSource::new(Vec::new(alloc), Vec::new(alloc));
     let mut out = MemSink::new(alloc, Vec::new(alloc));
-    let ran = run(alloc, &code, row.steps, &mut out);
+    let ran = run(alloc, &code, row.steps, &mut input, &mut out);
     let wanted = Ran {
         stop: row.stop,
         left: row.left,
@@ -315,6 +319,45 @@ fn calls_in_calls_fill_the_frames(rt: HostRuntime) -> Result<(), AllocError> {
     )
 }
 
+#[test]
+fn a_function_calls_itself(rt: HostRuntime) -> Result<(), AllocError> {
+    // f(n) is 0 for 0, else n + f(n - 1).
+    runs_so(
+        &rt,
+        &Row {
+            code: &[
+                Instr::Push(5),
+                Instr::Call(0, 1),
+                Instr::PutNumber,
+                Instr::Push(0),
+                Instr::Return,
+                Instr::Get(0),
+                Instr::SkipIfZero(9),
+                Instr::Get(0),
+                Instr::Push(1),
+                Instr::Binary(MonOp::Sub, MonType::I32),
+                Instr::Call(0, 1),
+                Instr::Put(1),
+                Instr::Get(0),
+                Instr::Get(1),
+                Instr::Binary(MonOp::Add, MonType::I32),
+                Instr::Return,
+                Instr::Get(0),
+                Instr::Return,
+            ],
+            entries: &[Entry {
+                start: 5,
+                registers: 2,
+            }],
+            steps: 100,
+            output: b"15",
+            stop: Stop::Exit(0),
+            left: 94,
+            turns: 64,
+        },
+    )
+}
+
 /// The code that writes a byte each step, for ever.
 fn writer() -> [Instr; 3] {
     [Instr::Step, Instr::PutByte(b'x'), Instr::GoBack(2)]
@@ -353,8 +396,9 @@ fn output_is_put_in_pieces(rt: HostRuntime) -> Result<(), AllocError> {
         ),
     ] {
         let code = sound(&rt, &writer(), &[], Some(MAIN))?;
+        let mut input = MemSource::new(Vec::new(alloc), Vec::new(alloc));
         let mut out = MemSink::new(alloc, vec![in alloc; failing]?);
-        assert_eq!(rt; run(alloc, &code, 5000, &mut out), ran);
+        assert_eq!(rt; run(alloc, &code, 5000, &mut input, &mut out), ran);
         assert_eq!(rt; out.bytes().len(), written);
     }
     Ok(())
@@ -364,12 +408,13 @@ fn output_is_put_in_pieces(rt: HostRuntime) -> Result<(), AllocError> {
 fn code_without_main_faults(rt: HostRuntime) -> Result<(), AllocError> {
     let alloc = rt.alloc();
     let code = sound(&rt, &writer(), &[], None)?;
+    let mut input = MemSource::new(Vec::new(alloc), Vec::new(alloc));
     let mut out = MemSink::new(alloc, Vec::new(alloc));
     let fault = Ran {
         stop: Stop::Fault,
         left: 5,
         turns: 0,
     };
-    assert_eq!(rt; run(alloc, &code, 5, &mut out), fault);
+    assert_eq!(rt; run(alloc, &code, 5, &mut input, &mut out), fault);
     Ok(())
 }
