@@ -5,7 +5,9 @@ use Rattle.grammar.specs.Exact.{IsExact, Same}
 use Rattle.grammar.proofs.Forms.{knot_form}
 use Rattle.grammar.proofs.Sets.{within, apart, within_self, within_left, within_right, within_both}
 use Rattle.grammar.proofs.Productions.{and, seq, after, either, again_and_again, declared, given, same, one_lower, counted, knot_exact, knot_is, knot_both}
+use Rattle.std.specs.Prelude.{Option, Some, None}
 use Rattle.c_syntax.specs.declared.place.Place.{Place}
+use Rattle.c_syntax.specs.declared.expression.BinOp.{BinOp}
 use Rattle.c_syntax.specs.Expressions.{Expression}
 use Rattle.c_syntax.specs.Tokens.{PlainToken}
 use Rattle.c_model.specs.declared.vocabulary.Keyword.TheVariants as keyword
@@ -15,7 +17,7 @@ use Rattle.c_model.specs.declared.operands.TypeUse.{TypeUse}
 use Rattle.c_model.specs.declared.operands.TypeUse.TheVariants.{Casts, Sizes, Nothing}
 use Rattle.c_model.specs.Vocabulary.{Vocabulary}
 use Rattle.c_model.specs.Punctuators.{question, colon, comma, left_paren, right_paren}
-use Rattle.c_model.specs.ExpressionGrammar.{name_kind, number_kind, letter_kind, keyword_kind, mark_kind, kind, kinds_of, unary_operators, operators_at, levels, assignment_operators, prefix_bumps, postfix_bumps, first_type, first_expression, first_effect, expression_limit, most_in_expression, ReadOperand, Operand, closed, literal, cast_rest, sized_type, paren_rest, behind_paren, prefixed, sized, operand_but_name, operand_of, operand, joined_once, behind_operand, choice_rest, expression_rest, expression_of, expression, assigned, bumped, behind_unary, behind_primary, behind_form, effect_rest, bump_first, effect_but_name, effect, next_argument, arguments, call_rest, behind_name, effect_or_call, full_expression, full_effect, full_effect_or_call}
+use Rattle.c_model.specs.ExpressionGrammar.{name_kind, number_kind, letter_kind, keyword_kind, mark_kind, kind, kinds_of, unary_operators, operators_at, levels, assignment_operators, prefix_bumps, postfix_bumps, first_type, first_expression, first_effect, expression_limit, most_in_expression, ReadOperand, Operand, closed, literal, cast_rest, sized_type, paren_rest, behind_paren, prefixed, sized, operand_but_name, operand_of, operand, joined_once, behind_operand, choice_rest, expression_rest, expression_of, expression, next_argument, arguments, call_rest, behind_name_or_callee, expression_or_call, assigned_value, assigned, bumped, behind_unary, behind_primary, behind_form, effect_rest, bump_first, effect_but_name, effect, behind_name, effect_or_call, full_expression, full_expression_or_call, full_effect, full_effect_or_call}
 use Rattle.c_expr_parser.proofs.ExactTokens.{IsRead, AreRead, fixed_good, name_good, number_good, letter_good, marks_good}
 use Rattle.c_expr_parser.proofs.ExactTypes.{apart_none, enlarged, type_good}
 
@@ -36,6 +38,21 @@ levels_apart = ((((((((((tt, refl), refl), refl), refl), refl), refl), refl), re
 -- what an expression can go on with
 abbrev pub more_expression : List ℕ
 more_expression = kinds_below levels ++ mark_kind question ∷ []
+
+-- what an expression or a call can go on with
+abbrev pub more_or_call : List ℕ
+more_or_call = mark_kind left_paren ∷ more_expression
+
+-- what can stand behind a unary expression, and behind a primary one
+abbrev pub behind_unary_kinds : List ℕ
+behind_unary_kinds = kinds_of assignment_operators ++ more_expression
+
+abbrev pub behind_primary_kinds : List ℕ
+behind_primary_kinds = kinds_of postfix_bumps ++ behind_unary_kinds
+
+-- what an effect or a call can go on with
+abbrev pub more_effect : List ℕ
+more_effect = mark_kind left_paren ∷ behind_primary_kinds
 
 -- an operand that begins with no name
 abbrev pub first_but_name : List ℕ
@@ -167,56 +184,8 @@ module _ (ws : Vocabulary) where
   rests_good : (x : Expression) → IsRead ws (expression_rest ws (expression ws) x) true more_expression more_expression
   rests_good x = one_lower (rest_good expression_good x)
 
-  -- ---- effects
-
-  -- what can stand behind a unary expression, and behind a primary one
-  abbrev pub behind_unary_kinds : List ℕ
-  behind_unary_kinds = kinds_of assignment_operators ++ more_expression
-
-  abbrev pub behind_primary_kinds : List ℕ
-  behind_primary_kinds = kinds_of postfix_bumps ++ behind_unary_kinds
-
-  assigned_good : (x : Expression) → IsRead ws (assigned ws x) false (kinds_of assignment_operators) more_expression
-  unfolding assigned
-  assigned_good x = declared (seq (marks_good ws assignment_operators) (λ o. seq expression_good (λ y. given _) refl) refl) refl
-
-  bumped_good : (x : Expression) → IsRead ws (bumped ws x) false (kinds_of postfix_bumps) []
-  unfolding bumped
-  bumped_good x = declared (seq (marks_good ws postfix_bumps) (λ o. given _) refl) refl
-
-  behind_unary_good : (x : Expression) → IsRead ws (behind_unary ws x) true behind_unary_kinds behind_unary_kinds
-  unfolding behind_unary
-  behind_unary_good x = declared (either (kinds_of assignment_operators) (assigned_good x) (rests_good x) refl) refl
-
-  behind_primary_good : (x : Expression) → IsRead ws (behind_primary ws x) true behind_primary_kinds behind_primary_kinds
-  unfolding behind_primary
-  behind_primary_good x = declared (either (kinds_of postfix_bumps) (bumped_good x) (behind_unary_good x) refl) refl
-
-  behind_form_good : (f : Form) (x : Expression) → IsRead ws (behind_form ws f x) true behind_primary_kinds behind_primary_kinds
-  unfolding behind_form
-  behind_form_good form.Primary x = behind_primary_good x
-  behind_form_good form.Unary x = declared (behind_unary_good x) refl
-  behind_form_good form.Cast x = declared (rests_good x) refl
-  behind_form_good form.TypeName x = declared (rests_good x) refl
-
-  pub effect_rest_good : (x : ReadOperand) → IsRead ws (effect_rest ws x) true behind_primary_kinds behind_primary_kinds
-  unfolding effect_rest
-  effect_rest_good x = declared (seq (behind_form_good x.form x.expression) (λ e. given _) refl) refl
-
-  bump_first_good : IsRead ws (bump_first ws) false (kinds_of prefix_bumps) []
-  unfolding bump_first
-  bump_first_good = declared (seq (marks_good ws prefix_bumps) (λ o. seq (operands_good Nothing) (λ x. given _) refl) refl) refl
-
   first_operand_good : IsRead ws (operand_but_name ws (expression ws) (operand ws (expression ws)) Casts) false first_but_name []
   first_operand_good = one_lower (but_name_good expression_good operands_good Casts)
-
-  effect_but_name_good : IsRead ws (effect_but_name ws) false (kinds_of prefix_bumps ++ first_but_name) behind_primary_kinds
-  unfolding effect_but_name
-  effect_but_name_good = declared (either (kinds_of prefix_bumps) bump_first_good (seq first_operand_good (λ x. effect_rest_good x) refl) refl) refl
-
-  pub effect_good : IsRead ws (effect ws) false first_effect behind_primary_kinds
-  unfolding effect
-  effect_good = declared (either (name_kind ∷ []) (seq (name_good ws) (λ x. effect_rest_good _) refl) effect_but_name_good refl) refl
 
   -- ---- calls
 
@@ -233,13 +202,64 @@ module _ (ws : Vocabulary) where
   unfolding call_rest
   call_rest_good f = declared (seq (fixed_good ws (mark_kind left_paren)) (λ at. seq arguments_good (λ es. closed_good _) refl) refl) refl
 
-  behind_name_good : (x : ℕ × Place) → IsRead ws (behind_name ws x) true (mark_kind left_paren ∷ behind_primary_kinds) (mark_kind left_paren ∷ behind_primary_kinds)
+  behind_name_or_callee_good : (x : ℕ × Place) → IsRead ws (behind_name_or_callee ws x) true more_or_call more_or_call
+  unfolding behind_name_or_callee
+  behind_name_or_callee_good x = declared (either (mark_kind left_paren ∷ []) (seq (call_rest_good x) (λ c. given _) refl) (rests_good _) refl) refl
+
+  pub expression_or_call_good : IsRead ws (expression_or_call ws) false first_expression more_or_call
+  unfolding expression_or_call
+  expression_or_call_good =
+      declared (either (name_kind ∷ []) (seq (name_good ws) (λ x. behind_name_or_callee_good x) refl) (seq first_operand_good (λ x. rests_good x.expression) refl) refl) refl
+
+  -- ---- effects
+
+  assigned_value_good : (op : Option BinOp) → IsRead ws (assigned_value ws op) false first_expression more_or_call
+  unfolding assigned_value
+  assigned_value_good None = expression_or_call_good
+  assigned_value_good (Some op) = declared expression_good refl
+
+  assigned_good : (x : Expression) → IsRead ws (assigned ws x) false (kinds_of assignment_operators) more_or_call
+  unfolding assigned
+  assigned_good x = declared (seq (marks_good ws assignment_operators) (λ o. seq (assigned_value_good o.0) (λ y. given _) refl) refl) refl
+
+  bumped_good : (x : Expression) → IsRead ws (bumped ws x) false (kinds_of postfix_bumps) []
+  unfolding bumped
+  bumped_good x = declared (seq (marks_good ws postfix_bumps) (λ o. given _) refl) refl
+
+  behind_unary_good : (x : Expression) → IsRead ws (behind_unary ws x) true behind_unary_kinds more_effect
+  unfolding behind_unary
+  behind_unary_good x = declared (either (kinds_of assignment_operators) (assigned_good x) (rests_good x) refl) refl
+
+  behind_primary_good : (x : Expression) → IsRead ws (behind_primary ws x) true behind_primary_kinds more_effect
+  unfolding behind_primary
+  behind_primary_good x = declared (either (kinds_of postfix_bumps) (bumped_good x) (behind_unary_good x) refl) refl
+
+  behind_form_good : (f : Form) (x : Expression) → IsRead ws (behind_form ws f x) true behind_primary_kinds more_effect
+  unfolding behind_form
+  behind_form_good form.Primary x = behind_primary_good x
+  behind_form_good form.Unary x = declared (behind_unary_good x) refl
+  behind_form_good form.Cast x = declared (rests_good x) refl
+  behind_form_good form.TypeName x = declared (rests_good x) refl
+
+  effect_rest_good : (x : ReadOperand) → IsRead ws (effect_rest ws x) true behind_primary_kinds more_effect
+  unfolding effect_rest
+  effect_rest_good x = declared (seq (behind_form_good x.form x.expression) (λ e. given _) refl) refl
+
+  bump_first_good : IsRead ws (bump_first ws) false (kinds_of prefix_bumps) []
+  unfolding bump_first
+  bump_first_good = declared (seq (marks_good ws prefix_bumps) (λ o. seq (operands_good Nothing) (λ x. given _) refl) refl) refl
+
+  effect_but_name_good : IsRead ws (effect_but_name ws) false (kinds_of prefix_bumps ++ first_but_name) more_effect
+  unfolding effect_but_name
+  effect_but_name_good = declared (either (kinds_of prefix_bumps) bump_first_good (seq first_operand_good (λ x. effect_rest_good x) refl) refl) refl
+
+  pub effect_good : IsRead ws (effect ws) false first_effect more_effect
+  unfolding effect
+  effect_good = declared (either (name_kind ∷ []) (seq (name_good ws) (λ x. effect_rest_good _) refl) effect_but_name_good refl) refl
+
+  behind_name_good : (x : ℕ × Place) → IsRead ws (behind_name ws x) true more_effect more_effect
   unfolding behind_name
   behind_name_good x = declared (either (mark_kind left_paren ∷ []) (call_rest_good x) (effect_rest_good _) refl) refl
-
-  -- what an effect or a call can go on with
-  abbrev pub more_effect : List ℕ
-  more_effect = mark_kind left_paren ∷ behind_primary_kinds
 
   pub effect_or_call_good : IsRead ws (effect_or_call ws) false first_effect more_effect
   unfolding effect_or_call
@@ -251,9 +271,13 @@ module _ (ws : Vocabulary) where
   unfolding full_expression
   full_expression_good = counted expression_limit most_in_expression expression_good
 
+  pub full_expression_or_call_good : IsRead ws (full_expression_or_call ws) false first_expression more_or_call
+  unfolding full_expression_or_call
+  full_expression_or_call_good = counted expression_limit most_in_expression expression_or_call_good
+
   pub full_effect_good : IsRead ws (full_effect ws) false first_effect more_effect
   unfolding full_effect
-  full_effect_good = counted expression_limit most_in_expression (declared effect_good refl)
+  full_effect_good = counted expression_limit most_in_expression effect_good
 
   pub full_effect_or_call_good : IsRead ws (full_effect_or_call ws) false first_effect more_effect
   unfolding full_effect_or_call

@@ -21,7 +21,7 @@ use Rattle.c_model.specs.declared.vocabulary.SizeWords.TheVariants as size
 use Rattle.c_model.specs.declared.vocabulary.SizeWords.{SizeWords}
 use Rattle.c_model.specs.declared.vocabulary.IntegerWords.{IntegerWords}
 use Rattle.c_model.specs.Vocabulary.{Vocabulary, word_at, sign_with, size_with, words_with}
-use Rattle.c_model.specs.ExpressionGrammar.{name_kind, number_kind, letter_kind, type_name_kind, keyword_kind, mark_kind, word_kind, token_kind, kind, placed, number_of, letter_of, entry, mark_entry, kinds_of, signs_behind, sizes_behind, words_behind, keyword_of, next_words, type_name_word_of, type_name_of, fixed, name_of, name}
+use Rattle.c_model.specs.ExpressionGrammar.{name_kind, number_kind, letter_kind, type_name_kind, keyword_kind, mark_kind, word_kind, token_kind, kind, placed, number_of, letter_of, entry, mark_entry, kinds_of, first_type, signs_behind, sizes_behind, words_behind, keyword_of, next_words, type_name_word_of, type_name_of, TypeStart, type_start_of, type_start, fixed, name_of, name}
 
 -- a production is read exactly, with these sets: where it can be empty, what begins it, and what a reading can go on with
 abbrev pub IsRead : {A : Type 0} → Vocabulary → Syntax PlainToken A → Bool → List ℕ → List ℕ → Type 0
@@ -166,3 +166,26 @@ module _ (ws : Vocabulary) where
 
   pub type_name_good : {n : ℕ} → AreRead ws n (one (placed (type_name_of ws))) (one (placed (type_name_of ws))) false (type_name_kind ∷ []) []
   type_name_good = placed_good (type_name_of ws) (type_name_kind ∷ []) type_name_among
+
+  start_word : (w : Word) (s : TypeStart) → type_start_of ws w ≡ Some s → among (word_kind w) first_type ≡ true
+  start_word (word.TypeName t) s e = refl
+  start_word (word.Keyword keyword.Char) s e = refl
+  start_word (word.Keyword keyword.Short) s e = refl
+  start_word (word.Keyword keyword.Int) s e = refl
+  start_word (word.Keyword keyword.Long) s e = refl
+  start_word (word.Keyword keyword.Signed) s e = refl
+  start_word (word.Keyword keyword.Unsigned) s e = refl
+  start_word (word.Keyword keyword.Void) s e = refl
+  start_word (word.Keyword keyword.Const) s e = refl
+  start_word _ s e = absurd cc
+
+  type_start_among : (t : PlainTokenKind) (s : TypeStart × ℕ) → type_start ws t ≡ Some s → among (token_kind ws t) first_type ≡ true
+  type_start_among (tokens.Word m) s e = by (type_start_of ws (word_at ws m)) refl e
+    where
+      by : (o : Option TypeStart) → type_start_of ws (word_at ws m) ≡ o → option_map (λ b. (b, m)) o ≡ Some s → among (word_kind (word_at ws m)) first_type ≡ true
+      by (Some b) is h = start_word (word_at ws m) b is
+      by None is h = absurd cc
+  type_start_among _ s e = absurd cc
+
+  pub type_start_good : {n : ℕ} → AreRead ws n (one (placed (type_start ws))) (one (placed (type_start ws))) false first_type []
+  type_start_good = placed_good (type_start ws) first_type type_start_among

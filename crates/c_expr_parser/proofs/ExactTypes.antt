@@ -14,7 +14,7 @@ use Rattle.c_model.specs.declared.vocabulary.SizeWords.{SizeWords}
 use Rattle.c_model.specs.declared.vocabulary.SizeWords.TheVariants as size
 use Rattle.c_model.specs.declared.vocabulary.IntegerWords.{IntegerWords}
 use Rattle.c_model.specs.Vocabulary.{Vocabulary, no_words}
-use Rattle.c_model.specs.ExpressionGrammar.{type_name_kind, keyword_kind, kind, first_integer_words, first_base, first_type, signs_behind, sizes_behind, words_behind, integer_word, integer_words, type_name, base, consts, type_words}
+use Rattle.c_model.specs.ExpressionGrammar.{type_name_kind, keyword_kind, kind, first_integer_words, first_base, first_type, signs_behind, sizes_behind, words_behind, integer_word, integer_words, type_name, base, consts, type_words, TypeStart, ConstStart, VoidStart, NameStart, IntegerStart, type_behind}
 use Rattle.c_expr_parser.proofs.ExactTokens.{AreRead, fixed_good, next_words_good, type_name_good}
 
 pub apart_none : (xs : List ℕ) → apart xs [] ≡ true
@@ -92,3 +92,12 @@ module _ (ws : Vocabulary) where
   pub type_good : {n : ℕ} → AreRead ws n (type_words ws) (type_words ws) false first_type more_type
   unfolding type_words
   type_good = declared (seq (consts_good (tt {0})) (λ _. seq base_good (λ t. consts_good t) refl) refl) refl
+
+  -- a type behind its first word
+  pub type_behind_good : {n : ℕ} (s : TypeStart) → AreRead ws n (type_behind ws s) (type_behind ws s) true first_type more_type
+  unfolding type_behind
+  type_behind_good ConstStart = declared type_good refl
+  type_behind_good VoidStart = declared (consts_good _) refl
+  type_behind_good (NameStart t) = declared (consts_good _) refl
+  type_behind_good (IntegerStart x) =
+      declared (seq (enlarged ws first_integer_words first_integer_words (again_and_again_to words_behind words_behind (integer_word_good) words_fit x) (words_within x) words_within) (λ y. consts_good _) refl) refl

@@ -10,11 +10,11 @@ use Rattle.c_syntax.specs.declared.token.Token.{Token}
 use Rattle.c_syntax.specs.Expressions.{Expression}
 use Rattle.c_syntax.specs.Tokens.{PlainToken, plain_token}
 use Rattle.c_model.specs.Vocabulary.{Vocabulary}
-use Rattle.c_model.specs.ExpressionGrammar.{kind, first_expression, first_effect, expression_limit, most_in_expression, expression, effect, effect_or_call, full_expression, full_effect, full_effect_or_call}
+use Rattle.c_model.specs.ExpressionGrammar.{kind, first_expression, first_effect, expression_limit, most_in_expression, expression, expression_or_call, effect, effect_or_call, full_expression, full_expression_or_call, full_effect, full_effect_or_call}
 use Rattle.c_syntax.specs.declared.fault.ReadFault.{ReadFault}
 use Rattle.c_syntax.specs.declared.fault.ReadFault.TheVariants as fault
 use Rattle.c_expr_parser.specs.Reading.{plain_list, label, Fails, LeftWithin, Resumed}
-use Rattle.c_expr_parser.proofs.ExactExpressions.{more_expression, more_effect, behind_primary_kinds, expression_good, effect_good, effect_or_call_good}
+use Rattle.c_expr_parser.proofs.ExactExpressions.{more_expression, more_or_call, more_effect, expression_good, expression_or_call_good, effect_good, effect_or_call_good}
 
 take_drop : {T : Type 0} (n : ℕ) (ts : List T) → ts ≡ take n ts ++ drop n ts
 take_drop zero ts = refl
@@ -100,40 +100,59 @@ full_expression_fails ws ts near e r is h f q = fails ws (expression ws) first_e
 pub full_expression_bound : (ws : Vocabulary) (ts near : List Token) (e : ReadFault) → near ≡ take (most_in_expression + 1) ts → most_in_expression < length ts → Fails e ((expression ws).parse (plain_list near)) → LeftWithin e (most_in_expression + 1)
 full_expression_bound ws ts near e is h f = subst (λ (k : ℕ). LeftWithin e k) (ap length is ∙ take_long (most_in_expression + 1) ts (omega (arith, h))) (bound ws (expression ws) first_expression more_expression (expression_good ws).here near e f)
 
+pub full_expression_or_call_whole : (ws : Vocabulary) (ts : List Token) → length ts ≤ most_in_expression → (full_expression_or_call ws).parse (plain_list ts) ≡ (expression_or_call ws).parse (plain_list ts)
+unfolding full_expression_or_call
+full_expression_or_call_whole ws ts h = whole ws (expression_or_call ws) first_expression more_or_call (expression_or_call_good ws).here ts h
+
+pub full_expression_or_call_behind : (ws : Vocabulary) (ts near : List Token) (x : Expression) (rest r : List Token) → near ≡ take (most_in_expression + 1) ts → most_in_expression < length ts → (expression_or_call ws).parse (plain_list near) ≡ Ok (x, plain_list rest) → (length rest ≡ 0 → ⊥) → length rest ≤ length near → r ≡ drop (most_in_expression + 1 - length rest) ts → (full_expression_or_call ws).parse (plain_list ts) ≡ Ok (x, plain_list r)
+unfolding full_expression_or_call
+full_expression_or_call_behind ws ts near x rest r is h e z l d = rw d (goes_on ws (expression_or_call ws) first_expression more_or_call (expression_or_call_good ws).here ts near is h x rest e z (omega (arith, l, ap length is, take_long (most_in_expression + 1) ts (omega (arith, h)))))
+
+pub full_expression_or_call_over : (ws : Vocabulary) (ts near : List Token) (x : Expression) (rest : List Token) → near ≡ take (most_in_expression + 1) ts → most_in_expression < length ts → (expression_or_call ws).parse (plain_list near) ≡ Ok (x, plain_list rest) → length rest ≡ 0 → (full_expression_or_call ws).parse (plain_list ts) ≡ Err (Over expression_limit (length ts - (most_in_expression + 1) + 1))
+unfolding full_expression_or_call
+full_expression_or_call_over ws ts near x rest is h e z = over ws (expression_or_call ws) first_expression more_or_call (expression_or_call_good ws).here ts near is h x rest e z
+
+pub full_expression_or_call_fails : (ws : Vocabulary) (ts near : List Token) (e r : ReadFault) → near ≡ take (most_in_expression + 1) ts → most_in_expression < length ts → Fails e ((expression_or_call ws).parse (plain_list near)) → Resumed e (length ts - (most_in_expression + 1)) r → Fails r ((full_expression_or_call ws).parse (plain_list ts))
+unfolding full_expression_or_call
+full_expression_or_call_fails ws ts near e r is h f q = fails ws (expression_or_call ws) first_expression more_or_call (expression_or_call_good ws).here ts near is h e r f q
+
+pub full_expression_or_call_bound : (ws : Vocabulary) (ts near : List Token) (e : ReadFault) → near ≡ take (most_in_expression + 1) ts → most_in_expression < length ts → Fails e ((expression_or_call ws).parse (plain_list near)) → LeftWithin e (most_in_expression + 1)
+full_expression_or_call_bound ws ts near e is h f = subst (λ (k : ℕ). LeftWithin e k) (ap length is ∙ take_long (most_in_expression + 1) ts (omega (arith, h))) (bound ws (expression_or_call ws) first_expression more_or_call (expression_or_call_good ws).here near e f)
+
 pub full_effect_whole : (ws : Vocabulary) (ts : List Token) → length ts ≤ most_in_expression → (full_effect ws).parse (plain_list ts) ≡ (effect ws).parse (plain_list ts)
 unfolding full_effect
-full_effect_whole ws ts h = whole ws (effect ws) first_effect (behind_primary_kinds ws) (effect_good ws).here ts h
+full_effect_whole ws ts h = whole ws (effect ws) first_effect more_effect (effect_good ws).here ts h
 
 pub full_effect_behind : (ws : Vocabulary) (ts near : List Token) (x : Expression × Place) (rest r : List Token) → near ≡ take (most_in_expression + 1) ts → most_in_expression < length ts → (effect ws).parse (plain_list near) ≡ Ok (x, plain_list rest) → (length rest ≡ 0 → ⊥) → length rest ≤ length near → r ≡ drop (most_in_expression + 1 - length rest) ts → (full_effect ws).parse (plain_list ts) ≡ Ok (x, plain_list r)
 unfolding full_effect
-full_effect_behind ws ts near x rest r is h e z l d = rw d (goes_on ws (effect ws) first_effect (behind_primary_kinds ws) (effect_good ws).here ts near is h x rest e z (omega (arith, l, ap length is, take_long (most_in_expression + 1) ts (omega (arith, h)))))
+full_effect_behind ws ts near x rest r is h e z l d = rw d (goes_on ws (effect ws) first_effect more_effect (effect_good ws).here ts near is h x rest e z (omega (arith, l, ap length is, take_long (most_in_expression + 1) ts (omega (arith, h)))))
 
 pub full_effect_over : (ws : Vocabulary) (ts near : List Token) (x : Expression × Place) (rest : List Token) → near ≡ take (most_in_expression + 1) ts → most_in_expression < length ts → (effect ws).parse (plain_list near) ≡ Ok (x, plain_list rest) → length rest ≡ 0 → (full_effect ws).parse (plain_list ts) ≡ Err (Over expression_limit (length ts - (most_in_expression + 1) + 1))
 unfolding full_effect
-full_effect_over ws ts near x rest is h e z = over ws (effect ws) first_effect (behind_primary_kinds ws) (effect_good ws).here ts near is h x rest e z
+full_effect_over ws ts near x rest is h e z = over ws (effect ws) first_effect more_effect (effect_good ws).here ts near is h x rest e z
 
 pub full_effect_fails : (ws : Vocabulary) (ts near : List Token) (e r : ReadFault) → near ≡ take (most_in_expression + 1) ts → most_in_expression < length ts → Fails e ((effect ws).parse (plain_list near)) → Resumed e (length ts - (most_in_expression + 1)) r → Fails r ((full_effect ws).parse (plain_list ts))
 unfolding full_effect
-full_effect_fails ws ts near e r is h f q = fails ws (effect ws) first_effect (behind_primary_kinds ws) (effect_good ws).here ts near is h e r f q
+full_effect_fails ws ts near e r is h f q = fails ws (effect ws) first_effect more_effect (effect_good ws).here ts near is h e r f q
 
 pub full_effect_bound : (ws : Vocabulary) (ts near : List Token) (e : ReadFault) → near ≡ take (most_in_expression + 1) ts → most_in_expression < length ts → Fails e ((effect ws).parse (plain_list near)) → LeftWithin e (most_in_expression + 1)
-full_effect_bound ws ts near e is h f = subst (λ (k : ℕ). LeftWithin e k) (ap length is ∙ take_long (most_in_expression + 1) ts (omega (arith, h))) (bound ws (effect ws) first_effect (behind_primary_kinds ws) (effect_good ws).here near e f)
+full_effect_bound ws ts near e is h f = subst (λ (k : ℕ). LeftWithin e k) (ap length is ∙ take_long (most_in_expression + 1) ts (omega (arith, h))) (bound ws (effect ws) first_effect more_effect (effect_good ws).here near e f)
 
 pub full_effect_or_call_whole : (ws : Vocabulary) (ts : List Token) → length ts ≤ most_in_expression → (full_effect_or_call ws).parse (plain_list ts) ≡ (effect_or_call ws).parse (plain_list ts)
 unfolding full_effect_or_call
-full_effect_or_call_whole ws ts h = whole ws (effect_or_call ws) first_effect (more_effect ws) (effect_or_call_good ws).here ts h
+full_effect_or_call_whole ws ts h = whole ws (effect_or_call ws) first_effect more_effect (effect_or_call_good ws).here ts h
 
 pub full_effect_or_call_behind : (ws : Vocabulary) (ts near : List Token) (x : Expression × Place) (rest r : List Token) → near ≡ take (most_in_expression + 1) ts → most_in_expression < length ts → (effect_or_call ws).parse (plain_list near) ≡ Ok (x, plain_list rest) → (length rest ≡ 0 → ⊥) → length rest ≤ length near → r ≡ drop (most_in_expression + 1 - length rest) ts → (full_effect_or_call ws).parse (plain_list ts) ≡ Ok (x, plain_list r)
 unfolding full_effect_or_call
-full_effect_or_call_behind ws ts near x rest r is h e z l d = rw d (goes_on ws (effect_or_call ws) first_effect (more_effect ws) (effect_or_call_good ws).here ts near is h x rest e z (omega (arith, l, ap length is, take_long (most_in_expression + 1) ts (omega (arith, h)))))
+full_effect_or_call_behind ws ts near x rest r is h e z l d = rw d (goes_on ws (effect_or_call ws) first_effect more_effect (effect_or_call_good ws).here ts near is h x rest e z (omega (arith, l, ap length is, take_long (most_in_expression + 1) ts (omega (arith, h)))))
 
 pub full_effect_or_call_over : (ws : Vocabulary) (ts near : List Token) (x : Expression × Place) (rest : List Token) → near ≡ take (most_in_expression + 1) ts → most_in_expression < length ts → (effect_or_call ws).parse (plain_list near) ≡ Ok (x, plain_list rest) → length rest ≡ 0 → (full_effect_or_call ws).parse (plain_list ts) ≡ Err (Over expression_limit (length ts - (most_in_expression + 1) + 1))
 unfolding full_effect_or_call
-full_effect_or_call_over ws ts near x rest is h e z = over ws (effect_or_call ws) first_effect (more_effect ws) (effect_or_call_good ws).here ts near is h x rest e z
+full_effect_or_call_over ws ts near x rest is h e z = over ws (effect_or_call ws) first_effect more_effect (effect_or_call_good ws).here ts near is h x rest e z
 
 pub full_effect_or_call_fails : (ws : Vocabulary) (ts near : List Token) (e r : ReadFault) → near ≡ take (most_in_expression + 1) ts → most_in_expression < length ts → Fails e ((effect_or_call ws).parse (plain_list near)) → Resumed e (length ts - (most_in_expression + 1)) r → Fails r ((full_effect_or_call ws).parse (plain_list ts))
 unfolding full_effect_or_call
-full_effect_or_call_fails ws ts near e r is h f q = fails ws (effect_or_call ws) first_effect (more_effect ws) (effect_or_call_good ws).here ts near is h e r f q
+full_effect_or_call_fails ws ts near e r is h f q = fails ws (effect_or_call ws) first_effect more_effect (effect_or_call_good ws).here ts near is h e r f q
 
 pub full_effect_or_call_bound : (ws : Vocabulary) (ts near : List Token) (e : ReadFault) → near ≡ take (most_in_expression + 1) ts → most_in_expression < length ts → Fails e ((effect_or_call ws).parse (plain_list near)) → LeftWithin e (most_in_expression + 1)
-full_effect_or_call_bound ws ts near e is h f = subst (λ (k : ℕ). LeftWithin e k) (ap length is ∙ take_long (most_in_expression + 1) ts (omega (arith, h))) (bound ws (effect_or_call ws) first_effect (more_effect ws) (effect_or_call_good ws).here near e f)
+full_effect_or_call_bound ws ts near e is h f = subst (λ (k : ℕ). LeftWithin e k) (ap length is ∙ take_long (most_in_expression + 1) ts (omega (arith, h))) (bound ws (effect_or_call ws) first_effect more_effect (effect_or_call_good ws).here near e f)

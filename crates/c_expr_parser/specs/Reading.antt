@@ -3,13 +3,16 @@ use Rattle.std.specs.Prelude.{◌≡◌, ◌≤◌, ◌+◌, ℕ, zero, suc, Lis
 use Rattle.grammar.specs.Syntax.{Syntax, Fault, At, Over, ◌then◌, many}
 use Rattle.c_syntax.specs.declared.token.Token.{Token}
 use Rattle.c_syntax.specs.Tokens.{PlainToken, plain_token}
+use Rattle.c_syntax.specs.Ctypes.{Int}
 use Rattle.c_syntax.specs.Expressions.{Expression, plain_expr}
 use Rattle.c_model.specs.declared.vocabulary.IntegerWords.{IntegerWords}
 use Rattle.c_model.specs.declared.operands.TypeUse.TheVariants.{Casts}
 use Rattle.c_model.specs.Vocabulary.{Vocabulary}
 use Rattle.c_model.specs.Punctuators.{comma}
-use Rattle.c_model.specs.ExpressionGrammar.{ReadOperand, kind, mark_kind, kinds_of, operators_at, words_behind, integer_word, operand, behind_operand, joined_once, expression, next_argument, expression_limit, nesting_limit}
+use Rattle.c_model.specs.ExpressionGrammar.{TypeStart, ConstStart, VoidStart, NameStart, IntegerStart, ReadOperand, kind, mark_kind, kinds_of, operators_at, words_behind, integer_word, operand, behind_operand, joined_once, expression, next_argument, expression_limit, nesting_limit}
 use Rattle.c_expr_parser.specs.declared.expression.ReadOperand as code_operand
+use Rattle.c_expr_parser.specs.declared.type_start.TypeStart as code_start
+use Rattle.c_expr_parser.specs.declared.type_start.TypeStart.TheVariants as start
 use Rattle.c_syntax.specs.declared.fault.Limit.{Limit}
 use Rattle.c_syntax.specs.declared.fault.Limit.TheVariants as limits
 use Rattle.c_syntax.specs.declared.fault.ReadFault.{ReadFault}
@@ -46,6 +49,16 @@ Resumed fault.Memory far r = r ≡ fault.Memory
 
 abbrev pub plain_operand : code_operand.ReadOperand → ReadOperand
 plain_operand x = record { expression = plain_expr x.expression; form = x.form; first = x.first }
+
+-- how a type begins, and the same with the number of its first word
+abbrev pub plain_start : code_start.TypeStart → TypeStart
+plain_start start.Const = ConstStart
+plain_start start.Void = VoidStart
+plain_start (start.Name t) = NameStart (Int t)
+plain_start (start.Integer x) = IntegerStart x
+
+abbrev pub plain_started : code_start.TypeStart × ℕ → TypeStart × ℕ
+plain_started x = (plain_start x.0, x.1)
 
 -- ---- repetitions, behind what is read
 

@@ -2,11 +2,12 @@
 
 ghost use Rattle.std.specs.Prelude.{◌≡◌, ◌≤◌, ◌<◌, ◌+◌, ◌-◌, length, take, drop, IfOk};
 ghost use Rattle.c_syntax.specs.Expressions.{plain_expr};
-ghost use Rattle.c_model.specs.ExpressionGrammar.{most_in_expression, full_expression, full_effect, full_effect_or_call};
+ghost use Rattle.c_model.specs.ExpressionGrammar.{most_in_expression, full_expression, full_expression_or_call, full_effect, full_effect_or_call};
 ghost use Rattle.c_syntax.specs.declared.fault.ReadFault.TheVariants.{Over};
 ghost use Rattle.c_syntax.specs.declared.fault.Limit.TheVariants.{Expression};
 ghost use Rattle.c_expr_parser.specs.Reading.{Gives, LeftWithin, Resumed, plain_list};
 
+use crate::call::expression_or_call;
 use crate::effect::{effect, effect_or_call};
 use crate::expression::expression;
 use c_model::vocabulary::Word;
@@ -73,6 +74,28 @@ pub fn full_expression<'a>(
         return expression(alloc, words, tokens);
     }
     match expression(alloc, words, window(tokens)) {
+        Ok((e, rest)) => match rest.len() {
+            0 => Err(passed(tokens.len())),
+            left => Ok((e, behind(tokens, left))),
+        },
+        Err(fault) => Err(resumed(fault, tokens.len())),
+    }
+}
+
+/// An expression or a call.
+#[tactic(auto, using(crate::proofs::Windows::full_expression_or_call_whole, crate::proofs::Windows::full_expression_or_call_behind, crate::proofs::Windows::full_expression_or_call_over, crate::proofs::Windows::full_expression_or_call_fails, crate::proofs::Windows::full_expression_or_call_bound))]
+pub fn full_expression_or_call<'a>(
+    alloc: Global,
+    words: &[Word],
+    tokens: &'a [Token],
+) -> Result<(Expr, &'a [Token]), ReadFault>
+    ensures read { Gives (λ x. (plain_expr x.0, plain_list x.1.now)) result ((full_expression_or_call words.now).parse (plain_list tokens.now)) }
+    ensures shorter { IfOk result (λ x. length x.1.now ≤ length tokens.now) }
+{
+    if tokens.len() <= MOST {
+        return expression_or_call(alloc, words, tokens);
+    }
+    match expression_or_call(alloc, words, window(tokens)) {
         Ok((e, rest)) => match rest.len() {
             0 => Err(passed(tokens.len())),
             left => Ok((e, behind(tokens, left))),

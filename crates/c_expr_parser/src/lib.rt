@@ -3,6 +3,7 @@
 //! A function for each production of the grammar reads the tokens.
 #![tactic(auto)]
 
+mod call;
 mod effect;
 mod expression;
 pub mod full;
@@ -11,6 +12,7 @@ mod read;
 pub mod refusal;
 mod tables;
 pub mod terminals;
+pub mod type_start;
 pub mod types;
 pub mod vocabulary;
 

@@ -1,6 +1,7 @@
 use super::*;
-use crate::full::{full_effect, full_effect_or_call, full_expression};
+use crate::full::{full_effect, full_effect_or_call, full_expression, full_expression_or_call};
 use crate::refusal::mark_word;
+use crate::type_start::{type_behind, type_start};
 use crate::vocabulary::vocabulary;
 use c_syntax::fault::ReadFault;
 use c_syntax::{
@@ -303,6 +304,14 @@ fn limits(rt: HostRuntime) -> Result<(), Fail> {
     Ok(())
 }
 
+fn fault_text(alloc: Global, fault: ReadFault) -> Result<String, AllocError> {
+    match fault {
+        ReadFault::At(left) => format!(in alloc; "at {left}"),
+        ReadFault::Over(limit, left) => format!(in alloc; "{limit:?} at {left}"),
+        ReadFault::Memory => Ok(String::new(alloc)),
+    }
+}
+
 /// What an effect or a call is read as, and how many tokens are left.
 fn effect_shown(alloc: Global, line: &str, calls: bool) -> Result<String, AllocError> {
     let tokens = tokens(alloc, line)?;
@@ -320,9 +329,7 @@ fn effect_shown(alloc: Global, line: &str, calls: bool) -> Result<String, AllocE
             let left = rest.len();
             format!(in alloc; "{e} from {column}, {left} left")
         }
-        Err(ReadFault::At(left)) => format!(in alloc; "at {left}"),
-        Err(ReadFault::Over(limit, left)) => format!(in alloc; "{limit:?} at {left}"),
-        Err(ReadFault::Memory) => Ok(String::new(alloc)),
+        Err(fault) => fault_text(alloc, fault),
     }
 }
 
@@ -340,6 +347,11 @@ fn effects(rt: HostRuntime) -> Result<(), Fail> {
         ("- a ++", "Minus(a) from 0, 1 left"),
         ("f ( a )", "f from 0, 3 left"),
         ("a = ;", "at 1"),
+        ("a = f ( b ) ;", "(a = None f of 1) from 0, 1 left"),
+        ("a = f ( 1 ) + 2 ;", "(a = None f of 1) from 0, 3 left"),
+        ("a = f ( g ( 1 ) ) ;", "at 5"),
+        ("a = - f ( b )", "(a = None Minus(f)) from 0, 3 left"),
+        ("a += f ( b )", "(a = Some(Add) f) from 0, 3 left"),
     ] {
         assert_eq!(rt; effect_shown(rt.alloc(), line, false)?.as_str(), wanted);
     }
@@ -347,9 +359,84 @@ fn effects(rt: HostRuntime) -> Result<(), Fail> {
         ("f ( ) ;", "f of 0 from 0, 1 left"),
         ("f ( a , b + 1 ) ;", "f of 2 from 0, 1 left"),
         ("f ( a , ) ;", "at 2"),
-        ("a = f ( b )", "(a = None f) from 0, 3 left"),
+        ("f ( g ( 1 ) ) ;", "at 5"),
+        ("a = f ( )", "(a = None f of 0) from 0, 0 left"),
     ] {
         assert_eq!(rt; effect_shown(rt.alloc(), line, true)?.as_str(), wanted);
+    }
+    Ok(())
+}
+
+/// What an expression or a call is read as, and how many tokens are left.
+fn value_shown(alloc: Global, line: &str) -> Result<String, AllocError> {
+    let tokens = tokens(alloc, line)?;
+    let words = vocabulary(alloc, tokens.names.as_slice())?;
+    match full_expression_or_call(alloc, words.as_slice(), tokens.list.as_slice()) {
+        Ok((e, rest)) => {
+            let e = shown(alloc, tokens.names.as_slice(), &e)?;
+            let left = rest.len();
+            format!(in alloc; "{e}, {left} left")
+        }
+        Err(fault) => fault_text(alloc, fault),
+    }
+}
+
+#[test]
+fn values(rt: HostRuntime) -> Result<(), Fail> {
+    for (line, wanted) in [
+        ("f ( a , 2 )", "f of 2, 0 left"),
+        ("f ( ) + 1", "f of 0, 2 left"),
+        ("f + 1 ;", "(f Add 1), 1 left"),
+        ("- f ( )", "Minus(f), 2 left"),
+        ("( f ( ) )", "at 3"),
+        ("( a ) - b", "(a Sub b), 0 left"),
+        ("f ( a", "at 0"),
+        ("= a", "at 2"),
+    ] {
+        assert_eq!(rt; value_shown(rt.alloc(), line)?.as_str(), wanted);
+    }
+    let mut long = String::from_str(rt.alloc(), "f ( a")?;
+    for _ in 0..199 {
+        long.push_str(" , a")?;
+    }
+    long.push_str(" )")?;
+    assert_eq!(rt;
+        value_shown(rt.alloc(), long.as_str())?.as_str(),
+        "Expression at 2"
+    );
+    Ok(())
+}
+
+/// A type by its first word and what stands behind it, with the column of that word and how many tokens are left.
+fn started_type(alloc: Global, line: &str) -> Result<String, AllocError> {
+    let tokens = tokens(alloc, line)?;
+    let words = vocabulary(alloc, tokens.names.as_slice())?;
+    match type_start(words.as_slice(), tokens.list.as_slice()) {
+        Ok((start, number, place, rest)) => match type_behind(words.as_slice(), start, rest) {
+            Ok((ctype, rest)) => {
+                let (t, column, left) = (type_text(&ctype), place.column, rest.len());
+                format!(in alloc; "{t} from word {number} at {column}, {left} left")
+            }
+            Err(fault) => fault_text(alloc, fault),
+        },
+        Err(fault) => fault_text(alloc, fault),
+    }
+}
+
+#[test]
+fn types_by_their_first_word(rt: HostRuntime) -> Result<(), Fail> {
+    for (line, wanted) in [
+        ("long unsigned const a", "u64 from word 0 at 0, 1 left"),
+        ("const int )", "i32 from word 0 at 0, 1 left"),
+        ("size_t const const", "u64 from word 0 at 0, 0 left"),
+        ("void const ,", "void from word 0 at 0, 1 left"),
+        ("char int", "i8 from word 0 at 0, 1 left"),
+        ("const", "at 0"),
+        ("const a", "at 1"),
+        ("a int", "at 2"),
+        ("if", "at 1"),
+    ] {
+        assert_eq!(rt; started_type(rt.alloc(), line)?.as_str(), wanted);
     }
     Ok(())
 }

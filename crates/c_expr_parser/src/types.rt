@@ -18,6 +18,12 @@ const VOID: u32 = 16;
 
 const CONST: u32 = 17;
 
+/// No word of an integer type.
+pub const NO_WORDS: IntegerWords = IntegerWords {
+    sign: SignWords::Nothing,
+    size: SizeWords::Nothing,
+};
+
 fn sign_with(sign: SignWords, keyword: Keyword) -> Option<SignWords>
     ensures { result ≡ sign_with sign keyword }
 {
@@ -48,7 +54,7 @@ fn size_with(size: SizeWords, keyword: Keyword) -> Option<SizeWords>
 }
 
 /// The words with one more, where it can stand with them.
-fn words_with(x: IntegerWords, keyword: Keyword) -> Option<IntegerWords>
+pub fn words_with(x: IntegerWords, keyword: Keyword) -> Option<IntegerWords>
     ensures { result ≡ words_with x keyword }
 {
     match sign_with(x.sign, keyword) {
@@ -133,7 +139,7 @@ fn next_goes_on(words: &[Word], x: IntegerWords, tokens: &[Token]) -> bool
 
 /// The words of an integer type behind those that are read.
 #[tactic(auto, using(crate::proofs::Steps::words_turn, crate::proofs::Steps::words_fails, crate::proofs::Steps::words_ends))]
-fn more_words<'a>(
+pub fn more_words<'a>(
     words: &[Word],
     x: IntegerWords,
     tokens: &'a [Token],
@@ -161,7 +167,7 @@ fn signed_or_not(sign: SignWords, signed: CInt, unsigned: CInt) -> CInt
 }
 
 /// The type that the words name.
-fn integer_type(x: IntegerWords) -> CInt
+pub fn integer_type(x: IntegerWords) -> CInt
     ensures { result ≡ integer_type x }
 {
     match x.size {
@@ -180,11 +186,7 @@ fn integer_words<'a>(words: &[Word], tokens: &'a [Token]) -> Result<(CType, &'a 
     ensures read { Gives (λ t. (plain_type t.0, plain_list t.1.now)) result ((integer_words words.now).parse (plain_list tokens.now)) }
     ensures shorter { IfOk result (λ t. length t.1.now < length tokens.now) }
 {
-    let none = IntegerWords {
-        sign: SignWords::Nothing,
-        size: SizeWords::Nothing,
-    };
-    let (first, rest) = integer_word(words, none, tokens)?;
+    let (first, rest) = integer_word(words, NO_WORDS, tokens)?;
     let (all, rest) = more_words(words, first, rest)?;
     Ok((CType::Int(integer_type(all)), rest))
 }

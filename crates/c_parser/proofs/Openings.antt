@@ -14,7 +14,7 @@ use Rattle.c_model.specs.declared.operands.TypeUse.TheVariants.{Casts}
 use Rattle.c_model.specs.Vocabulary.{Vocabulary, word_at}
 use Rattle.c_model.specs.Punctuators.{semicolon, left_paren, left_brace}
 use Rattle.c_model.specs.ExpressionGrammar.{name_kind, number_kind, letter_kind, keyword_kind, mark_kind, word_kind, token_kind, kind, placed, number_of, letter_of, entry, mark_entry, kinds_of, unary_operators, prefix_bumps, first_expression, first_effect, fixed, name, literal, operand, expression, prefixed, sized, operand_but_name, bump_first, effect_but_name, effect_or_call, full_effect_or_call}
-use Rattle.c_model.specs.ProgramGrammar.{first_statement, Numbered, block, empty_statement, selection, while_loop, do_loop, for_loop, return_statement, jump, effect_statement, statement_of}
+use Rattle.c_model.specs.ProgramGrammar.{first_statement, Counts, Counted, block, empty_statement, selection, while_loop, do_loop, for_loop, return_statement, jump, effect_statement, statement_of}
 
 -- the kind of a word is below those of the punctuators
 keyword_small : (k : Keyword) → keyword_kind k ≤ 28
@@ -187,7 +187,7 @@ module _ (ws : Vocabulary) where
   unfolding full_effect_or_call
   full_begins t h = effect_begins t h
 
-  pub opens : (S : Numbered) (n : ℕ) (t : PlainToken) → among (kind ws t) first_statement ≡ true → (statement_of ws S n).begun (t ∷ [])
+  pub opens : (S : Counted) (n : Counts) (t : PlainToken) → among (kind ws t) first_statement ≡ true → (statement_of ws S n).begun (t ∷ [])
   unfolding statement_of block empty_statement selection while_loop do_loop for_loop return_statement jump effect_statement
   opens S n t =
       first_or _ (kind ws t) (mark_kind left_brace) _ (λ h. inl (inl (fixed_begins (mark_kind left_brace) t h)))

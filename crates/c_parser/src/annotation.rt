@@ -5,8 +5,9 @@ ghost use Rattle.c_syntax.specs.Annotations.{plain_term, plain_term_kind, plain_
 ghost use Rattle.c_syntax.specs.Statements.{Asserts, plain_item};
 ghost use Rattle.c_model.specs.ProgramGrammar.{no_range, assertion, atom, sum_once, sum_of, sum, assert_clause, annotation};
 ghost use Rattle.c_expr_parser.specs.Reading.{Gives, plain_list};
-ghost use Rattle.c_parser.specs.Reading.{more_terms, full_clause};
+ghost use Rattle.c_parser.specs.Reading.{plain_counts, more_terms, full_clause};
 
+use crate::counts::Counts;
 use crate::kinds::SEMICOLON;
 use crate::terminals::{assert_word, term_name, term_number};
 use c_expr_parser::full::{MOST, behind, passed, resumed, window};
@@ -213,16 +214,20 @@ fn make_asserts(alloc: Global, clause: Annot) -> Result<Item, AllocFailed<Annot>
 pub fn annotation<'a>(
     alloc: Global,
     words: &[Word],
-    number: u32,
+    counts: Counts,
     tokens: &'a [Token],
-) -> Result<(Item, u32, &'a [Token]), ReadFault>
-    ensures { Gives (λ x. ((plain_item x.0, x.1), plain_list x.2.now)) result ((annotation words.now number).parse (plain_list tokens.now)) }
+) -> Result<(Item, Counts, &'a [Token]), ReadFault>
+    ensures { Gives (λ x. ((plain_item x.0, plain_counts x.1), plain_list x.2.now)) result ((annotation words.now (plain_counts counts)).parse (plain_list tokens.now)) }
 {
-    if number == u32::MAX {
+    if counts.annotation == u32::MAX {
         return Err(ReadFault::Memory);
     }
     let (_, rest) = skip(words, ANNOT_OPEN, tokens)?;
-    let (clause, rest) = full_clause(alloc, words, number, rest)?;
+    let (clause, rest) = full_clause(alloc, words, counts.annotation, rest)?;
     let (_, rest) = skip(words, ANNOT_CLOSE, rest)?;
-    Ok((make_asserts(alloc, clause)?, number + 1, rest))
+    let counts = Counts {
+        annotation: counts.annotation + 1,
+        declarators: counts.declarators,
+    };
+    Ok((make_asserts(alloc, clause)?, counts, rest))
 }

@@ -4,9 +4,11 @@
 #![tactic(auto)]
 
 mod annotation;
+mod counts;
 mod declaration;
 mod kinds;
 mod loops;
+mod parameter;
 mod program;
 mod read;
 mod statement;

@@ -1,18 +1,22 @@
-//! Conditions, and what stands in the parentheses of a `for` (C99 6.8.4, 6.8.5).
+//! Conditions, what stands in the parentheses of a `for`, and what is returned (C99 6.8.4, 6.8.5, 6.8.6.4).
 
 ghost use Rattle.std.specs.Prelude.{◌≡◌, option_map, [], IfOk};
 ghost use Rattle.c_syntax.specs.Expressions.{plain_expr};
 ghost use Rattle.c_syntax.specs.Statements.{plain_stmt, plain_item};
 ghost use Rattle.c_syntax.specs.Statements as statement;
-ghost use Rattle.c_model.specs.ProgramGrammar.{condition, for_first, maybe_ended, for_behind};
+ghost use Rattle.c_model.specs.ProgramGrammar.{condition, for_first, maybe_ended, returned, for_behind};
 ghost use Rattle.c_expr_parser.specs.Reading.{Gives, plain_list};
-ghost use Rattle.c_parser.specs.Reading.{plain_first};
+ghost use Rattle.c_parser.specs.Reading.{plain_first, plain_counts};
 
+use crate::counts::Counts;
+use crate::declaration::declaration;
 use crate::kinds::SEMICOLON;
 use crate::terminals::next_begins_effect;
-use c_expr_parser::full::{full_effect, full_effect_or_call, full_expression};
+use c_expr_parser::full::{
+    full_effect, full_effect_or_call, full_expression, full_expression_or_call,
+};
 use c_expr_parser::kinds::{LEFT_PAREN, RIGHT_PAREN};
-use c_expr_parser::terminals::{next_begins_expression, skip};
+use c_expr_parser::terminals::{next_begins_expression, next_begins_type, skip};
 use c_model::vocabulary::Word;
 use c_syntax::fault::ReadFault;
 use c_syntax::{Expr, Item, Place, Stmt, StmtKind, Token};
@@ -40,22 +44,26 @@ fn make_first(place: Place, e: Expr) -> Item
     Item::Run(Stmt { place, kind })
 }
 
-/// `[ effect | call ] ";"`
+/// `decl | [ effect | call ] ";"`
 #[tactic(auto, unfolding(c_model::specs::ProgramGrammar::for_first, c_model::specs::ProgramGrammar::ended))]
 pub fn for_first<'a>(
     alloc: Global,
     words: &[Word],
+    counts: Counts,
     tokens: &'a [Token],
-) -> Result<(Option<Item>, &'a [Token]), ReadFault>
-    ensures { Gives (λ x. (plain_first x.0, plain_list x.1.now)) result ((for_first words.now).parse (plain_list tokens.now)) }
+) -> Result<(Option<Item>, Counts, &'a [Token]), ReadFault>
+    ensures { Gives (λ x. ((plain_first x.0, plain_counts x.1), plain_list x.2.now)) result ((for_first words.now (plain_counts counts)).parse (plain_list tokens.now)) }
 {
-    if next_begins_effect(words, tokens) {
+    if next_begins_type(words, tokens) {
+        let (item, counts, rest) = declaration(alloc, words, counts, tokens)?;
+        Ok((Some(item), counts, rest))
+    } else if next_begins_effect(words, tokens) {
         let (e, place, rest) = full_effect_or_call(alloc, words, tokens)?;
         let (_, rest) = skip(words, SEMICOLON, rest)?;
-        Ok((Some(make_first(place, e)), rest))
+        Ok((Some(make_first(place, e)), counts, rest))
     } else {
         let (_, rest) = skip(words, SEMICOLON, tokens)?;
-        Ok((None, rest))
+        Ok((None, counts, rest))
     }
 }
 
@@ -70,6 +78,25 @@ pub fn maybe_ended<'a>(
 {
     if next_begins_expression(words, tokens) {
         let (e, rest) = full_expression(alloc, words, tokens)?;
+        let (_, rest) = skip(words, SEMICOLON, rest)?;
+        Ok((Some(e), rest))
+    } else {
+        let (_, rest) = skip(words, SEMICOLON, tokens)?;
+        Ok((None, rest))
+    }
+}
+
+/// `[ expr | call ] ";"`
+#[tactic(auto, unfolding(c_model::specs::ProgramGrammar::returned, c_model::specs::ProgramGrammar::ended))]
+pub fn returned<'a>(
+    alloc: Global,
+    words: &[Word],
+    tokens: &'a [Token],
+) -> Result<(Option<Expr>, &'a [Token]), ReadFault>
+    ensures { Gives (λ x. (option_map plain_expr x.0, plain_list x.1.now)) result ((returned words.now).parse (plain_list tokens.now)) }
+{
+    if next_begins_expression(words, tokens) {
+        let (e, rest) = full_expression_or_call(alloc, words, tokens)?;
         let (_, rest) = skip(words, SEMICOLON, rest)?;
         Ok((Some(e), rest))
     } else {

@@ -1,23 +1,24 @@
-//! Functions, and the whole text (C99 6.9).
+//! Functions and whole texts (C99 6.9).
 
-ghost use Rattle.std.specs.Prelude.{◌≡◌, ◌≤◌, ◌<◌, length, map, Some, IfOk, [], ◌∷◌};
+ghost use Rattle.std.specs.Prelude.{◌≡◌, ◌<◌, length, map, IfOk, option_map};
 ghost use Rattle.c_syntax.specs.Ctypes.{plain_type};
-ghost use Rattle.c_syntax.specs.Statements.{plain_item};
+ghost use Rattle.c_syntax.specs.Statements.{plain_decl, plain_stmt};
 ghost use Rattle.c_syntax.specs.Programs.{plain_func, plain_program};
-ghost use Rattle.c_model.specs.ProgramGrammar.{function_with, unit_with, storage_word, result_type, no_parameters, function_body, function, unit};
+ghost use Rattle.c_model.specs.ProgramGrammar.{function_with, unit_with, storage_word, result_type, function_rest, function, one_more_function, unit};
 ghost use Rattle.c_expr_parser.specs.Reading.{Gives, plain_list};
-ghost use Rattle.c_parser.specs.Reading.{more_storage};
+ghost use Rattle.c_parser.specs.Reading.{more_storage, more_functions};
 
-use crate::declaration::declarations;
-use crate::kinds::{CONST, LEFT_BRACE, RIGHT_BRACE, STATIC, VOID};
+use crate::counts::Counts;
+use crate::kinds::{CONST, LEFT_BRACE, RIGHT_BRACE, SEMICOLON, STATIC};
+use crate::parameter::parameters;
 use crate::statement::{items, make_block};
 use crate::terminals::{next_begins_function, next_is_storage};
-use c_expr_parser::kinds::{LEFT_PAREN, RIGHT_PAREN};
+use c_expr_parser::kinds::LEFT_PAREN;
 use c_expr_parser::terminals::{left, name, next_is, skip};
 use c_expr_parser::types::{base, consts};
 use c_model::vocabulary::Word;
 use c_syntax::fault::ReadFault;
-use c_syntax::{CType, Func, Item, Name, Place, Program, Token};
+use c_syntax::{CType, Decl, Func, Name, Place, Program, Stmt, Token};
 use std::alloc::Global;
 
 /// How deep statements may stand in one another, the function's body being 1 deep.
@@ -76,77 +77,128 @@ fn result_type<'a>(words: &[Word], tokens: &'a [Token]) -> Result<(CType, &'a [T
     Ok((t, rest))
 }
 
-/// `"(" [ "void" ] ")"`
-#[tactic(auto, unfolding(c_model::specs::ProgramGrammar::no_parameters, c_model::specs::ExpressionGrammar::closed))]
-fn no_parameters<'a>(words: &[Word], tokens: &'a [Token]) -> Result<(Place, &'a [Token]), ReadFault>
-    ensures { Gives (λ x. (x.0, plain_list x.1.now)) result ((no_parameters words.now).parse (plain_list tokens.now)) }
-{
-    let (place, rest) = skip(words, LEFT_PAREN, tokens)?;
-    if next_is(words, VOID, rest) {
-        let (_, rest) = skip(words, VOID, rest)?;
-        let (_, rest) = skip(words, RIGHT_PAREN, rest)?;
-        Ok((place, rest))
-    } else {
-        let (_, rest) = skip(words, RIGHT_PAREN, rest)?;
-        Ok((place, rest))
-    }
-}
-
-fn make_function(
-    alloc: Global,
-    result_type: CType,
+/// What stands in front of a function's body: its result, its name with its place, and its parameters.
+#[derive(Drop)]
+struct Heading {
+    result: CType,
     name: u32,
     place: Place,
-    start: Place,
-    all: Vec<Item>,
-    close: Place,
-) -> Func
-    ensures { plain_func result ≡ function_with (plain_type result_type) (name, place) start (map plain_item all.items) close }
+    params: Vec<Decl>,
+}
+
+fn make_function(heading: Heading, body: Option<Stmt>, close: Place) -> Func
+    ensures { plain_func result ≡ function_with (plain_type heading.result) (heading.name, heading.place) (map plain_decl heading.params.items) (option_map plain_stmt body) close }
 {
     Func {
-        place,
-        name,
-        result: result_type,
-        params: Vec::new(alloc),
+        place: heading.place,
+        name: heading.name,
+        result: heading.result,
+        params: heading.params,
         contract: None,
-        body: Some(make_block(start, all)),
+        body,
         close,
     }
 }
 
-/// `"{" { decl } { item } "}"`, the body of the function with this type, name and place.
-#[tactic(auto, unfolding(c_model::specs::ProgramGrammar::function_body))]
-fn function_body<'a>(
+/// `";"`, or a body, behind which the number of the next annotation goes on from this one.
+#[tactic(auto, unfolding(c_model::specs::ProgramGrammar::function_rest))]
+fn function_rest<'a>(
     alloc: Global,
     words: &[Word],
-    result_type: CType,
-    name: u32,
-    place: Place,
+    heading: Heading,
+    number: u32,
     tokens: &'a [Token],
-) -> Result<(Func, &'a [Token]), ReadFault>
-    ensures { Gives (λ x. (plain_func x.0, plain_list x.1.now)) result ((function_body words.now (plain_type result_type) (name, place)).parse (plain_list tokens.now)) }
+) -> Result<(Func, u32, &'a [Token]), ReadFault>
+    ensures { Gives (λ x. ((plain_func x.0, x.1), plain_list x.2.now)) result ((function_rest words.now (plain_type heading.result) (heading.name, heading.place) (map plain_decl heading.params.items) number).parse (plain_list tokens.now)) }
 {
-    let (start, rest) = skip(words, LEFT_BRACE, tokens)?;
-    let (read, rest) = declarations(alloc, words, rest)?;
-    let (all, _, rest) = items(alloc, words, MOST_NESTED - 1, read.items, 1, rest)?;
-    let (close, rest) = skip(words, RIGHT_BRACE, rest)?;
-    let whole = make_function(alloc, result_type, name, place, start, all, close);
-    Ok((whole, rest))
+    if next_is(words, SEMICOLON, tokens) {
+        let (close, rest) = skip(words, SEMICOLON, tokens)?;
+        Ok((make_function(heading, None, close), number, rest))
+    } else {
+        let (start, rest) = skip(words, LEFT_BRACE, tokens)?;
+        let counts = Counts {
+            annotation: number,
+            declarators: 0,
+        };
+        let (all, counts, rest) = items(
+            alloc,
+            words,
+            MOST_NESTED - 1,
+            Vec::new(alloc),
+            counts,
+            rest,
+        )?;
+        let (close, rest) = skip(words, RIGHT_BRACE, rest)?;
+        let body = make_block(start, all);
+        Ok((
+            make_function(heading, Some(body), close),
+            counts.annotation,
+            rest,
+        ))
+    }
 }
 
-/// A function without parameters.
+/// A function or a prototype.
 #[tactic(auto, unfolding(c_model::specs::ProgramGrammar::function))]
 fn function<'a>(
     alloc: Global,
     words: &[Word],
+    number: u32,
     tokens: &'a [Token],
-) -> Result<(Func, &'a [Token]), ReadFault>
-    ensures { Gives (λ x. (plain_func x.0, plain_list x.1.now)) result ((function words.now).parse (plain_list tokens.now)) }
+) -> Result<(Func, u32, &'a [Token]), ReadFault>
+    ensures { Gives (λ x. ((plain_func x.0, x.1), plain_list x.2.now)) result ((function words.now number).parse (plain_list tokens.now)) }
 {
-    let (t, rest) = result_type(words, tokens)?;
+    let (result, rest) = result_type(words, tokens)?;
     let (name, place, rest) = name(words, rest)?;
-    let (_, rest) = no_parameters(words, rest)?;
-    function_body(alloc, words, t, name, place, rest)
+    let (_, rest) = skip(words, LEFT_PAREN, rest)?;
+    let (params, rest) = parameters(alloc, words, rest)?;
+    let heading = Heading {
+        result,
+        name,
+        place,
+        params,
+    };
+    function_rest(alloc, words, heading, number, rest)
+}
+
+/// One more function or prototype.
+#[tactic(auto, unfolding(c_model::specs::ProgramGrammar::one_more_function))]
+fn one_more_function<'a>(
+    alloc: Global,
+    words: &[Word],
+    all: Vec<Func>,
+    number: u32,
+    tokens: &'a [Token],
+) -> Result<(Vec<Func>, u32, &'a [Token]), ReadFault>
+    ensures { Gives (λ x. ((map plain_func x.0.items, x.1), plain_list x.2.now)) result ((one_more_function words.now (map plain_func all.items, number)).parse (plain_list tokens.now)) }
+{
+    let mut all = all;
+    let (one, number, rest) = function(alloc, words, number, tokens)?;
+    all.push(one)?;
+    Ok((all, number, rest))
+}
+
+/// The functions and prototypes behind those that are read.
+#[tactic(auto, using(crate::proofs::Steps::functions_turn, crate::proofs::Steps::functions_fails, crate::proofs::Steps::functions_ends, crate::proofs::Steps::functions_shorter))]
+fn more_functions<'a>(
+    alloc: Global,
+    words: &[Word],
+    all: Vec<Func>,
+    number: u32,
+    tokens: &'a [Token],
+) -> Result<(Vec<Func>, u32, &'a [Token]), ReadFault>
+    ensures { Gives (λ x. ((map plain_func x.0.items, x.1), plain_list x.2.now)) result ((more_functions words.now (map plain_func all.items, number)).parse (plain_list tokens.now)) }
+{
+    let mut all = all;
+    let mut number = number;
+    let mut rest = tokens;
+    'turn: while next_begins_function(words, rest) {
+        let (more, next, after) = one_more_function(alloc, words, all, number, rest)?;
+        all = more;
+        number = next;
+        rest = after;
+    }
+    Ok((all, number, rest))
 }
 
 /// The program of these functions, with the names of its text.
@@ -165,8 +217,8 @@ fn make_unit(alloc: Global, names: Vec<Name>, funcs: Vec<Func>) -> Program
     }
 }
 
-/// At most one function, as far as it goes, in a text with these names.
-#[tactic(auto, unfolding(c_model::specs::ProgramGrammar::unit))]
+/// Functions and prototypes, as far as they go, in a text with these names.
+#[tactic(auto, unfolding(c_model::specs::ProgramGrammar::unit, crate::specs::Reading::more_functions))]
 pub fn unit<'a>(
     alloc: Global,
     words: &[Word],
@@ -175,12 +227,6 @@ pub fn unit<'a>(
 ) -> Result<(Program, &'a [Token]), ReadFault>
     ensures { Gives (λ x. (plain_program x.0, plain_list x.1.now)) result ((unit words.now names.items).parse (plain_list tokens.now)) }
 {
-    let mut funcs = Vec::new(alloc);
-    if next_begins_function(words, tokens) {
-        let (f, rest) = function(alloc, words, tokens)?;
-        funcs.push(f)?;
-        Ok((make_unit(alloc, names, funcs), rest))
-    } else {
-        Ok((make_unit(alloc, names, funcs), tokens))
-    }
+    let (funcs, _, rest) = more_functions(alloc, words, Vec::new(alloc), 1, tokens)?;
+    Ok((make_unit(alloc, names, funcs), rest))
 }

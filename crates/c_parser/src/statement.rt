@@ -1,21 +1,26 @@
-//! Statements (C99 6.8), which take the number of the next annotation and give the one behind.
+//! Statements (C99 6.8), which take the counts in front of them and give those behind.
 
 ghost use Rattle.std.specs.Prelude.{◌≡◌, map, IfOk};
 ghost use Rattle.c_syntax.specs.Expressions.{plain_expr};
 ghost use Rattle.c_syntax.specs.Statements.{plain_stmt, plain_item};
 ghost use Rattle.c_syntax.specs.Statements as statement;
-ghost use Rattle.c_model.specs.ProgramGrammar.{is_open, block_items, ended, else_branch, else_part, selection, while_loop, do_loop, for_loop, jump, return_statement, item, items_once, items, block, empty_statement, effect_statement, statement_of, statement_in};
+ghost use Rattle.c_model.specs.ProgramGrammar.{is_open, block_items, else_branch, else_part, selection, while_loop, do_loop, for_loop, jump, return_statement, item, items_once, items, block, empty_statement, effect_statement, statement_of, statement_in};
 ghost use Rattle.c_expr_parser.specs.Reading.{Gives, plain_list};
+ghost use Rattle.c_parser.specs.Reading.{plain_counts, ended_do};
 
 use crate::annotation::annotation;
+use crate::counts::Counts;
+use crate::declaration::declaration;
 use crate::kinds::{
     BREAK, CONTINUE, DO, ELSE, FOR, IF, LEFT_BRACE, RETURN, RIGHT_BRACE, SEMICOLON, WHILE,
 };
-use crate::loops::{condition, for_behind, for_first, make_do, make_for, make_while, maybe_ended};
+use crate::loops::{
+    condition, for_behind, for_first, make_do, make_for, make_while, maybe_ended, returned,
+};
 use crate::terminals::{next_begins_item, next_begins_statement, next_is_jump};
 use c_expr_parser::full::full_effect_or_call;
 use c_expr_parser::kinds::{ANNOT_OPEN, LEFT_PAREN};
-use c_expr_parser::terminals::{left, next_is, skip};
+use c_expr_parser::terminals::{left, next_begins_type, next_is, skip};
 use c_model::vocabulary::Word;
 use c_syntax::fault::{Limit, ReadFault};
 use c_syntax::{Expr, Item, Place, Stmt, StmtKind, Token};
@@ -78,52 +83,52 @@ fn make_run(s: Stmt) -> Item
 #[tactic(auto, unfolding(c_model::specs::ProgramGrammar::jump, c_model::specs::ProgramGrammar::ended))]
 fn jump<'a>(
     words: &[Word],
-    number: u32,
+    counts: Counts,
     tokens: &'a [Token],
-) -> Result<(Stmt, u32, &'a [Token]), ReadFault>
-    ensures { Gives (λ x. ((plain_stmt x.0, x.1), plain_list x.2.now)) result ((jump words.now number).parse (plain_list tokens.now)) }
+) -> Result<(Stmt, Counts, &'a [Token]), ReadFault>
+    ensures { Gives (λ x. ((plain_stmt x.0, plain_counts x.1), plain_list x.2.now)) result ((jump words.now (plain_counts counts)).parse (plain_list tokens.now)) }
 {
     if next_is(words, BREAK, tokens) {
         let (place, rest) = skip(words, BREAK, tokens)?;
         let (_, rest) = skip(words, SEMICOLON, rest)?;
         let kind = StmtKind::Break;
-        Ok((Stmt { place, kind }, number, rest))
+        Ok((Stmt { place, kind }, counts, rest))
     } else {
         let (place, rest) = skip(words, CONTINUE, tokens)?;
         let (_, rest) = skip(words, SEMICOLON, rest)?;
         let kind = StmtKind::Continue;
-        Ok((Stmt { place, kind }, number, rest))
+        Ok((Stmt { place, kind }, counts, rest))
     }
 }
 
-/// `"return" [ expr ] ";"`
+/// `"return" [ expr | call ] ";"`
 #[tactic(auto, unfolding(c_model::specs::ProgramGrammar::return_statement))]
 fn return_statement<'a>(
     alloc: Global,
     words: &[Word],
-    number: u32,
+    counts: Counts,
     tokens: &'a [Token],
-) -> Result<(Stmt, u32, &'a [Token]), ReadFault>
-    ensures { Gives (λ x. ((plain_stmt x.0, x.1), plain_list x.2.now)) result ((return_statement words.now number).parse (plain_list tokens.now)) }
+) -> Result<(Stmt, Counts, &'a [Token]), ReadFault>
+    ensures { Gives (λ x. ((plain_stmt x.0, plain_counts x.1), plain_list x.2.now)) result ((return_statement words.now (plain_counts counts)).parse (plain_list tokens.now)) }
 {
     let (place, rest) = skip(words, RETURN, tokens)?;
-    let (e, rest) = maybe_ended(alloc, words, rest)?;
+    let (e, rest) = returned(alloc, words, rest)?;
     let kind = StmtKind::Return(e);
-    Ok((Stmt { place, kind }, number, rest))
+    Ok((Stmt { place, kind }, counts, rest))
 }
 
 /// `";"`
 #[tactic(auto, unfolding(c_model::specs::ProgramGrammar::empty_statement))]
 fn empty_statement<'a>(
     words: &[Word],
-    number: u32,
+    counts: Counts,
     tokens: &'a [Token],
-) -> Result<(Stmt, u32, &'a [Token]), ReadFault>
-    ensures { Gives (λ x. ((plain_stmt x.0, x.1), plain_list x.2.now)) result ((empty_statement words.now number).parse (plain_list tokens.now)) }
+) -> Result<(Stmt, Counts, &'a [Token]), ReadFault>
+    ensures { Gives (λ x. ((plain_stmt x.0, plain_counts x.1), plain_list x.2.now)) result ((empty_statement words.now (plain_counts counts)).parse (plain_list tokens.now)) }
 {
     let (place, rest) = skip(words, SEMICOLON, tokens)?;
     let kind = StmtKind::Empty;
-    Ok((Stmt { place, kind }, number, rest))
+    Ok((Stmt { place, kind }, counts, rest))
 }
 
 /// `( effect | call ) ";"`
@@ -131,15 +136,15 @@ fn empty_statement<'a>(
 fn effect_statement<'a>(
     alloc: Global,
     words: &[Word],
-    number: u32,
+    counts: Counts,
     tokens: &'a [Token],
-) -> Result<(Stmt, u32, &'a [Token]), ReadFault>
-    ensures { Gives (λ x. ((plain_stmt x.0, x.1), plain_list x.2.now)) result ((effect_statement words.now number).parse (plain_list tokens.now)) }
+) -> Result<(Stmt, Counts, &'a [Token]), ReadFault>
+    ensures { Gives (λ x. ((plain_stmt x.0, plain_counts x.1), plain_list x.2.now)) result ((effect_statement words.now (plain_counts counts)).parse (plain_list tokens.now)) }
 {
     let (e, place, rest) = full_effect_or_call(alloc, words, tokens)?;
     let (_, rest) = skip(words, SEMICOLON, rest)?;
     let kind = StmtKind::Eval(e);
-    Ok((Stmt { place, kind }, number, rest))
+    Ok((Stmt { place, kind }, counts, rest))
 }
 
 /// `"else" stmt`, behind an `if` with its first branch.
@@ -152,15 +157,15 @@ fn else_branch<'a>(
     place: Place,
     e: Expr,
     then: Stmt,
-    number: u32,
+    counts: Counts,
     tokens: &'a [Token],
-) -> Result<(Stmt, u32, &'a [Token]), ReadFault>
-    ensures { Gives (λ x. ((plain_stmt x.0, x.1), plain_list x.2.now)) result ((else_branch words.now (statement_in words.now levels) place (plain_expr e) (plain_stmt then, number)).parse (plain_list tokens.now)) }
+) -> Result<(Stmt, Counts, &'a [Token]), ReadFault>
+    ensures { Gives (λ x. ((plain_stmt x.0, plain_counts x.1), plain_list x.2.now)) result ((else_branch words.now (statement_in words.now levels) place (plain_expr e) (plain_stmt then, plain_counts counts)).parse (plain_list tokens.now)) }
 {
     let (_, rest) = skip(words, ELSE, tokens)?;
-    let (otherwise, number, rest) = statement(alloc, words, levels, number, rest)?;
+    let (otherwise, counts, rest) = statement(alloc, words, levels, counts, rest)?;
     let whole = make_if_else(alloc, place, e, then, otherwise)?;
-    Ok((whole, number, rest))
+    Ok((whole, counts, rest))
 }
 
 /// `[ "else" stmt ]`, which goes with the nearest `if`.
@@ -173,17 +178,17 @@ fn else_part<'a>(
     place: Place,
     e: Expr,
     then: Stmt,
-    number: u32,
+    counts: Counts,
     tokens: &'a [Token],
-) -> Result<(Stmt, u32, &'a [Token]), ReadFault>
-    ensures { Gives (λ x. ((plain_stmt x.0, x.1), plain_list x.2.now)) result ((else_part words.now (statement_in words.now levels) place (plain_expr e) (plain_stmt then, number)).parse (plain_list tokens.now)) }
+) -> Result<(Stmt, Counts, &'a [Token]), ReadFault>
+    ensures { Gives (λ x. ((plain_stmt x.0, plain_counts x.1), plain_list x.2.now)) result ((else_part words.now (statement_in words.now levels) place (plain_expr e) (plain_stmt then, plain_counts counts)).parse (plain_list tokens.now)) }
 {
     if is_open(&then) {
-        Ok((make_if(alloc, place, e, then)?, number, tokens))
+        Ok((make_if(alloc, place, e, then)?, counts, tokens))
     } else if next_is(words, ELSE, tokens) {
-        else_branch(alloc, words, levels, place, e, then, number, tokens)
+        else_branch(alloc, words, levels, place, e, then, counts, tokens)
     } else {
-        Ok((make_if(alloc, place, e, then)?, number, tokens))
+        Ok((make_if(alloc, place, e, then)?, counts, tokens))
     }
 }
 
@@ -195,15 +200,15 @@ fn selection<'a>(
     alloc: Global,
     words: &[Word],
     levels: u32,
-    number: u32,
+    counts: Counts,
     tokens: &'a [Token],
-) -> Result<(Stmt, u32, &'a [Token]), ReadFault>
-    ensures { Gives (λ x. ((plain_stmt x.0, x.1), plain_list x.2.now)) result ((selection words.now (statement_in words.now levels) number).parse (plain_list tokens.now)) }
+) -> Result<(Stmt, Counts, &'a [Token]), ReadFault>
+    ensures { Gives (λ x. ((plain_stmt x.0, plain_counts x.1), plain_list x.2.now)) result ((selection words.now (statement_in words.now levels) (plain_counts counts)).parse (plain_list tokens.now)) }
 {
     let (place, rest) = skip(words, IF, tokens)?;
     let (e, rest) = condition(alloc, words, rest)?;
-    let (then, number, rest) = statement(alloc, words, levels, number, rest)?;
-    else_part(alloc, words, levels, place, e, then, number, rest)
+    let (then, counts, rest) = statement(alloc, words, levels, counts, rest)?;
+    else_part(alloc, words, levels, place, e, then, counts, rest)
 }
 
 /// `"while" "(" expr ")" stmt`
@@ -214,39 +219,55 @@ fn while_loop<'a>(
     alloc: Global,
     words: &[Word],
     levels: u32,
-    number: u32,
+    counts: Counts,
     tokens: &'a [Token],
-) -> Result<(Stmt, u32, &'a [Token]), ReadFault>
-    ensures { Gives (λ x. ((plain_stmt x.0, x.1), plain_list x.2.now)) result ((while_loop words.now (statement_in words.now levels) number).parse (plain_list tokens.now)) }
+) -> Result<(Stmt, Counts, &'a [Token]), ReadFault>
+    ensures { Gives (λ x. ((plain_stmt x.0, plain_counts x.1), plain_list x.2.now)) result ((while_loop words.now (statement_in words.now levels) (plain_counts counts)).parse (plain_list tokens.now)) }
 {
     let (place, rest) = skip(words, WHILE, tokens)?;
     let (e, rest) = condition(alloc, words, rest)?;
-    let (body, number, rest) = statement(alloc, words, levels, number, rest)?;
-    Ok((make_while(alloc, place, e, body)?, number, rest))
+    let (body, counts, rest) = statement(alloc, words, levels, counts, rest)?;
+    Ok((make_while(alloc, place, e, body)?, counts, rest))
+}
+
+/// `";"`, behind a `do` with its condition.
+#[tactic(auto, unfolding(c_model::specs::ProgramGrammar::ended))]
+fn ended_do<'a>(
+    alloc: Global,
+    words: &[Word],
+    place: Place,
+    body: Stmt,
+    e: Expr,
+    counts: Counts,
+    tokens: &'a [Token],
+) -> Result<(Stmt, Counts, &'a [Token]), ReadFault>
+    ensures { Gives (λ x. ((plain_stmt x.0, plain_counts x.1), plain_list x.2.now)) result ((ended_do words.now place (plain_stmt body) (plain_expr e) (plain_counts counts)).parse (plain_list tokens.now)) }
+{
+    let (_, rest) = skip(words, SEMICOLON, tokens)?;
+    Ok((make_do(alloc, place, body, e)?, counts, rest))
 }
 
 /// `"do" stmt "while" "(" expr ")" ";"`
-#[tactic(auto, unfolding(c_model::specs::ProgramGrammar::do_loop, c_model::specs::ProgramGrammar::ended))]
+#[tactic(auto, unfolding(c_model::specs::ProgramGrammar::do_loop))]
 #[cycle(statement)]
 #[inline(never)]
 fn do_loop<'a>(
     alloc: Global,
     words: &[Word],
     levels: u32,
-    number: u32,
+    counts: Counts,
     tokens: &'a [Token],
-) -> Result<(Stmt, u32, &'a [Token]), ReadFault>
-    ensures { Gives (λ x. ((plain_stmt x.0, x.1), plain_list x.2.now)) result ((do_loop words.now (statement_in words.now levels) number).parse (plain_list tokens.now)) }
+) -> Result<(Stmt, Counts, &'a [Token]), ReadFault>
+    ensures { Gives (λ x. ((plain_stmt x.0, plain_counts x.1), plain_list x.2.now)) result ((do_loop words.now (statement_in words.now levels) (plain_counts counts)).parse (plain_list tokens.now)) }
 {
     let (place, rest) = skip(words, DO, tokens)?;
-    let (body, number, rest) = statement(alloc, words, levels, number, rest)?;
+    let (body, counts, rest) = statement(alloc, words, levels, counts, rest)?;
     let (_, rest) = skip(words, WHILE, rest)?;
     let (e, rest) = condition(alloc, words, rest)?;
-    let (_, rest) = skip(words, SEMICOLON, rest)?;
-    Ok((make_do(alloc, place, body, e)?, number, rest))
+    ended_do(alloc, words, place, body, e, counts, rest)
 }
 
-/// `"for" "(" [ effect | call ] ";" [ expr ] ";" [ effect ] ")" stmt`
+/// `"for" "(" ( decl | [ effect | call ] ";" ) [ expr ] ";" [ effect ] ")" stmt`
 #[tactic(auto, unfolding(c_model::specs::ProgramGrammar::for_loop))]
 #[cycle(statement)]
 #[inline(never)]
@@ -254,38 +275,40 @@ fn for_loop<'a>(
     alloc: Global,
     words: &[Word],
     levels: u32,
-    number: u32,
+    counts: Counts,
     tokens: &'a [Token],
-) -> Result<(Stmt, u32, &'a [Token]), ReadFault>
-    ensures { Gives (λ x. ((plain_stmt x.0, x.1), plain_list x.2.now)) result ((for_loop words.now (statement_in words.now levels) number).parse (plain_list tokens.now)) }
+) -> Result<(Stmt, Counts, &'a [Token]), ReadFault>
+    ensures { Gives (λ x. ((plain_stmt x.0, plain_counts x.1), plain_list x.2.now)) result ((for_loop words.now (statement_in words.now levels) (plain_counts counts)).parse (plain_list tokens.now)) }
 {
     let (place, rest) = skip(words, FOR, tokens)?;
     let (_, rest) = skip(words, LEFT_PAREN, rest)?;
-    let (first, rest) = for_first(alloc, words, rest)?;
+    let (first, counts, rest) = for_first(alloc, words, counts, rest)?;
     let (e, rest) = maybe_ended(alloc, words, rest)?;
     let (step, rest) = for_behind(alloc, words, rest)?;
-    let (body, number, rest) = statement(alloc, words, levels, number, rest)?;
+    let (body, counts, rest) = statement(alloc, words, levels, counts, rest)?;
     let whole = make_for(alloc, place, first, e, step, body)?;
-    Ok((whole, number, rest))
+    Ok((whole, counts, rest))
 }
 
-/// An annotation or a statement.
+/// An annotation, a declaration or a statement.
 #[tactic(auto, unfolding(c_model::specs::ProgramGrammar::item))]
 #[cycle(statement)]
 fn item<'a>(
     alloc: Global,
     words: &[Word],
     levels: u32,
-    number: u32,
+    counts: Counts,
     tokens: &'a [Token],
-) -> Result<(Item, u32, &'a [Token]), ReadFault>
-    ensures { Gives (λ x. ((plain_item x.0, x.1), plain_list x.2.now)) result ((item words.now (statement_in words.now levels) number).parse (plain_list tokens.now)) }
+) -> Result<(Item, Counts, &'a [Token]), ReadFault>
+    ensures { Gives (λ x. ((plain_item x.0, plain_counts x.1), plain_list x.2.now)) result ((item words.now (statement_in words.now levels) (plain_counts counts)).parse (plain_list tokens.now)) }
 {
     if next_is(words, ANNOT_OPEN, tokens) {
-        annotation(alloc, words, number, tokens)
+        annotation(alloc, words, counts, tokens)
+    } else if next_begins_type(words, tokens) {
+        declaration(alloc, words, counts, tokens)
     } else {
-        let (s, number, rest) = statement(alloc, words, levels, number, tokens)?;
-        Ok((make_run(s), number, rest))
+        let (s, counts, rest) = statement(alloc, words, levels, counts, tokens)?;
+        Ok((make_run(s), counts, rest))
     }
 }
 
@@ -296,15 +319,15 @@ fn items_once<'a>(
     words: &[Word],
     levels: u32,
     all: Vec<Item>,
-    number: u32,
+    counts: Counts,
     tokens: &'a [Token],
-) -> Result<(Vec<Item>, u32, &'a [Token]), ReadFault>
-    ensures { Gives (λ x. ((map plain_item x.0.items, x.1), plain_list x.2.now)) result ((items_once words.now (statement_in words.now levels) (map plain_item all.items, number)).parse (plain_list tokens.now)) }
+) -> Result<(Vec<Item>, Counts, &'a [Token]), ReadFault>
+    ensures { Gives (λ x. ((map plain_item x.0.items, plain_counts x.1), plain_list x.2.now)) result ((items_once words.now (statement_in words.now levels) (map plain_item all.items, plain_counts counts)).parse (plain_list tokens.now)) }
 {
     let mut all = all;
-    let (one, number, rest) = item(alloc, words, levels, number, tokens)?;
+    let (one, counts, rest) = item(alloc, words, levels, counts, tokens)?;
     all.push(one)?;
-    Ok((all, number, rest))
+    Ok((all, counts, rest))
 }
 
 /// The items behind those that are read.
@@ -315,21 +338,21 @@ pub fn items<'a>(
     words: &[Word],
     levels: u32,
     all: Vec<Item>,
-    number: u32,
+    counts: Counts,
     tokens: &'a [Token],
-) -> Result<(Vec<Item>, u32, &'a [Token]), ReadFault>
-    ensures { Gives (λ x. ((map plain_item x.0.items, x.1), plain_list x.2.now)) result ((items words.now (statement_in words.now levels) (map plain_item all.items, number)).parse (plain_list tokens.now)) }
+) -> Result<(Vec<Item>, Counts, &'a [Token]), ReadFault>
+    ensures { Gives (λ x. ((map plain_item x.0.items, plain_counts x.1), plain_list x.2.now)) result ((items words.now (statement_in words.now levels) (map plain_item all.items, plain_counts counts)).parse (plain_list tokens.now)) }
 {
     let mut all = all;
-    let mut number = number;
+    let mut counts = counts;
     let mut rest = tokens;
     'turn: while next_begins_item(words, rest) {
-        let (more, next, after) = items_once(alloc, words, levels, all, number, rest)?;
+        let (more, next, after) = items_once(alloc, words, levels, all, counts, rest)?;
         all = more;
-        number = next;
+        counts = next;
         rest = after;
     }
-    Ok((all, number, rest))
+    Ok((all, counts, rest))
 }
 
 /// `"{" { item } "}"`
@@ -339,15 +362,15 @@ fn block<'a>(
     alloc: Global,
     words: &[Word],
     levels: u32,
-    number: u32,
+    counts: Counts,
     tokens: &'a [Token],
-) -> Result<(Stmt, u32, &'a [Token]), ReadFault>
-    ensures { Gives (λ x. ((plain_stmt x.0, x.1), plain_list x.2.now)) result ((block words.now (statement_in words.now levels) number).parse (plain_list tokens.now)) }
+) -> Result<(Stmt, Counts, &'a [Token]), ReadFault>
+    ensures { Gives (λ x. ((plain_stmt x.0, plain_counts x.1), plain_list x.2.now)) result ((block words.now (statement_in words.now levels) (plain_counts counts)).parse (plain_list tokens.now)) }
 {
     let (place, rest) = skip(words, LEFT_BRACE, tokens)?;
-    let (all, number, rest) = items(alloc, words, levels, Vec::new(alloc), number, rest)?;
+    let (all, counts, rest) = items(alloc, words, levels, Vec::new(alloc), counts, rest)?;
     let (_, rest) = skip(words, RIGHT_BRACE, rest)?;
-    Ok((make_block(place, all), number, rest))
+    Ok((make_block(place, all), counts, rest))
 }
 
 /// A statement in which statements stand at most so many levels deep, itself included.
@@ -357,10 +380,10 @@ fn statement<'a>(
     alloc: Global,
     words: &[Word],
     levels: u32,
-    number: u32,
+    counts: Counts,
     tokens: &'a [Token],
-) -> Result<(Stmt, u32, &'a [Token]), ReadFault>
-    ensures { Gives (λ x. ((plain_stmt x.0, x.1), plain_list x.2.now)) result ((statement_in words.now levels number).parse (plain_list tokens.now)) }
+) -> Result<(Stmt, Counts, &'a [Token]), ReadFault>
+    ensures { Gives (λ x. ((plain_stmt x.0, plain_counts x.1), plain_list x.2.now)) result ((statement_in words.now levels (plain_counts counts)).parse (plain_list tokens.now)) }
 {
     if levels == 0 {
         return if next_begins_statement(words, tokens) {
@@ -371,22 +394,22 @@ fn statement<'a>(
     }
     let levels = levels - 1;
     if next_is(words, LEFT_BRACE, tokens) {
-        block(alloc, words, levels, number, tokens)
+        block(alloc, words, levels, counts, tokens)
     } else if next_is(words, SEMICOLON, tokens) {
-        empty_statement(words, number, tokens)
+        empty_statement(words, counts, tokens)
     } else if next_is(words, IF, tokens) {
-        selection(alloc, words, levels, number, tokens)
+        selection(alloc, words, levels, counts, tokens)
     } else if next_is(words, WHILE, tokens) {
-        while_loop(alloc, words, levels, number, tokens)
+        while_loop(alloc, words, levels, counts, tokens)
     } else if next_is(words, DO, tokens) {
-        do_loop(alloc, words, levels, number, tokens)
+        do_loop(alloc, words, levels, counts, tokens)
     } else if next_is(words, FOR, tokens) {
-        for_loop(alloc, words, levels, number, tokens)
+        for_loop(alloc, words, levels, counts, tokens)
     } else if next_is(words, RETURN, tokens) {
-        return_statement(alloc, words, number, tokens)
+        return_statement(alloc, words, counts, tokens)
     } else if next_is_jump(words, tokens) {
-        jump(words, number, tokens)
+        jump(words, counts, tokens)
     } else {
-        effect_statement(alloc, words, number, tokens)
+        effect_statement(alloc, words, counts, tokens)
     }
 }

@@ -3,7 +3,7 @@
 ghost use Rattle.std.specs.Prelude.{◌≡◌, ◌<◌, length, IfOk, [], ◌∷◌};
 ghost use Rattle.grammar.specs.Syntax.{among, sees, one};
 ghost use Rattle.c_model.specs.declared.vocabulary.Keyword.TheVariants as keyword;
-ghost use Rattle.c_model.specs.ExpressionGrammar.{kind, keyword_kind, placed, first_effect};
+ghost use Rattle.c_model.specs.ExpressionGrammar.{kind, keyword_kind, placed, first_type, first_effect};
 ghost use Rattle.c_model.specs.ProgramGrammar.{first_statement, first_item, first_function, storage_words, assert_word, term_name, term_number};
 ghost use Rattle.c_expr_parser.specs.Reading.{Gives, plain_list};
 
@@ -101,6 +101,12 @@ fn begins_effect(kind: u32) -> bool
         || kind == SIZEOF
 }
 
+fn begins_type(kind: u32) -> bool
+    ensures { result ≡ among kind first_type }
+{
+    kind == CONST || kind == VOID || kind == TYPE_NAME || (10 <= kind && kind <= 15)
+}
+
 fn begins_statement(kind: u32) -> bool
     ensures { result ≡ among kind first_statement }
 {
@@ -141,7 +147,7 @@ pub fn next_begins_item(words: &[Word], tokens: &[Token]) -> bool
         [] => false,
         [token, ..] => {
             let k = kind(words, token);
-            k == ANNOT_OPEN || begins_statement(k)
+            k == ANNOT_OPEN || begins_type(k) || begins_statement(k)
         }
     }
 }
@@ -179,7 +185,7 @@ pub fn next_begins_function(words: &[Word], tokens: &[Token]) -> bool
         [] => false,
         [token, ..] => {
             let k = kind(words, token);
-            k == STATIC || k == CONST || k == VOID || k == TYPE_NAME || (10 <= k && k <= 15)
+            k == STATIC || begins_type(k)
         }
     }
 }
