@@ -1,14 +1,13 @@
 -- From what a phase gave to what the text is.
-use Rattle.std.proofs.Common.{◌≡◌, ℕ, List, Some, None, Result, Ok, Err, sym, subst}
-use Rattle.c_syntax.specs.declared.program.Program.{Program}
+use Rattle.std.proofs.Common.{◌≡◌, ℕ, List, None, Ok, Err, sym, subst}
 use Rattle.c_syntax.specs.declared.refusal.FrontFault.{FrontFault}
 use Rattle.c_syntax.specs.declared.refusal.FrontFault.TheVariants as front
 use Rattle.c_syntax.specs.Tokens.{PlainTokens}
 use Rattle.c_syntax.specs.Programs.{TranslationUnit, plain_program}
 use Rattle.c_model.specs.CTokens.{tokens_of}
-use Rattle.c_model.specs.Checked.{Good, refusing}
+use Rattle.c_model.specs.Checked.{Good}
 use Rattle.c_model.specs.ProgramTyping.{typed_unit, main_fault, noted_unit}
-use Rattle.c_model.specs.Phases.{IsRead, AcceptedText, ByTokens, ByGrammar, ByNamesAndTypes, ForMain, ByAnnotations}
+use Rattle.c_model.specs.Phases.{IsRead, AcceptedText, ByGrammar, ByNamesAndTypes, ForMain, ByAnnotations}
 use Rattle.c_parser.specs.Answers as parser
 use Rattle.c_type_rules.specs.declared.fault.TypeFault.{TypeFault}
 use Rattle.c_type_rules.specs.declared.fault.TypeFault.TheVariants as fault

@@ -1,5 +1,5 @@
 -- The program of an accepted text is typed, formed, named and numbered, and has `main`.
-use Rattle.std.proofs.Common.{◌≡◌, ℕ, suc, List, [], ◌∷◌, length, map, sym, subst, ◌∙◌}
+use Rattle.std.proofs.Common.{ℕ, suc, List, [], ◌∷◌, length, map, sym, subst, ◌∙◌}
 use Rattle.std.specs.List.{AllByRecursion}
 use Rattle.c_syntax.specs.Statements.{Declaration}
 use Rattle.c_syntax.specs.Programs.{Function, TranslationUnit}
