@@ -11,8 +11,8 @@ use Rattle.c_model.specs.Checked.{Good, one_part, where_so}
 use Rattle.c_model.specs.Typing.{no_name, no_type, Signature, Scopes, name_at, same_type, is_object_type, declarable}
 use Rattle.c_model.specs.ProgramTyping.{definition_of, first_of, number_or, offset_of, types_of, signature, same_types, is_compatible, is_compatible_with_all, typed_heading, typed_parameter, with_parameter, with_parameters, typed_parameters, function_scopes, typed_body, typed_function, typed_functions, typed_unit, noted_body, noted_functions, noted_unit}
 use Rattle.c_model.specs.WellTypedPrograms.{IsParameter, AreParameters, BodyTyped, FunctionTyped, FunctionsTyped, ProgramTyped}
-use Rattle.c_type_rules.proofs.Gives.{Gives, gives_of, gives_more, gives_one, gives_where}
-use Rattle.c_type_rules.proofs.WellExpressions.{and_true}
+use Rattle.c_type_rules.proofs.Gives.{Gives, gives_of, gives_more, gives_one, gives_both, gives_where}
+use Rattle.c_type_rules.proofs.WellExpressions.{and_true, not_true}
 use Rattle.c_typing.proofs.WellStatements.{IsNew, declarable_well}
 use Rattle.c_typing.proofs.WellBodies.{BodyWell, IsBody, body_well, body_noted}
 
@@ -92,6 +92,7 @@ abbrev OfBodies : Type 1
 OfBodies = Scopes → PlainType → Option Statement → Type 0
 
 record IsWell (P : OfBodies) (s : Scopes) (before : List Heading) (f : Function) : Type 0 where
+  own_name : is_library_name (name_at s.names f.name) ≡ false
   fits : compatible_with_all before (heading f) ≡ true
   params : AreParameters s f.params
   body : P (with_parameters s f.params) f.result f.body
@@ -144,42 +145,42 @@ parameters_well s (d ∷ ds) =
     gives_one (AreSameParameters (with_parameter s e) ds) (AreSameParameters s (d ∷ ds)) (typed_parameters (with_parameter s e) ds) (λ ds. Good (e ∷ ds)) (parameters_well (with_parameter s e) ds) (λ es w.
     record { same = λ i. (v.same i) ∷ (w.same i); well = (v.well, w.well) }))
 
-record IsFitting (before : List Function) (f g : Function) : Type 0 where
+record IsFitting (s : Scopes) (before : List Function) (f g : Function) : Type 0 where
   same : g ≡ f
-  fits : is_compatible_with_all before g ≡ true
+  own_name : is_library_name (name_at s.names f.name) ≡ false
+  fits : is_compatible_with_all before f ≡ true
 
-heading_well : (s : Scopes) (before : List Function) (f : Function) → Gives (IsFitting before f) (typed_heading s before f)
+heading_well : (s : Scopes) (before : List Function) (f : Function) → Gives (IsFitting s before f) (typed_heading s before f)
 heading_well s before f =
-    gives_where (IsFitting before f) (not (is_library_name (name_at s.names f.name)) && is_compatible_with_all before f) _ _ (λ t.
-    record { same = refl; fits = (and_true (not (is_library_name (name_at s.names f.name))) (is_compatible_with_all before f) t).1 })
+    gives_where (IsFitting s before f) (not (is_library_name (name_at s.names f.name)) && is_compatible_with_all before f) _ _ (λ t.
+    let p = and_true (not (is_library_name (name_at s.names f.name))) (is_compatible_with_all before f) t in
+    record { same = refl; own_name = not_true (is_library_name (name_at s.names f.name)) p.0; fits = p.1 })
 
-parts_well : (s : Scopes) (before : List Heading) (f : Function) → compatible_with_all before (heading f) ≡ true
+parts_well : (s : Scopes) (before : List Heading) (f : Function) → is_library_name (name_at s.names f.name) ≡ false → compatible_with_all before (heading f) ≡ true
     → Gives (Keeps BodyWell s before f) (one_part (typed_parameters s f.params) (λ params. one_part (typed_body (with_parameters s params) f.result f.body) (λ b. Good (record f { params = params; body = b }))))
-parts_well s before f fits =
+parts_well s before f own fits =
     gives_one (AreSameParameters s f.params) (Keeps BodyWell s before f) (typed_parameters s f.params) (λ params. one_part (typed_body (with_parameters s params) f.result f.body) (λ b. Good (record f { params = params; body = b })))
     (parameters_well s f.params) (λ ps v.
     gives_one (IsBody (BodyWell (with_parameters s ps) f.result) f.body) (Keeps BodyWell s before f) (typed_body (with_parameters s ps) f.result f.body) (λ b. Good (record f { params = ps; body = b }))
     (body_well (with_parameters s ps) f.result f.body) (λ b w.
     let same : heading (record f { params = ps; body = b }) ≡ heading f = λ i. record { place = f.place; name = f.name; result = f.result; params = v.same i; defines = w.there i } in
-    record { well = record { fits = ap (compatible_with_all before) same ∙ fits; params = v.well; body = w.well }; same = same }))
+    record { well = record { own_name = own; fits = ap (compatible_with_all before) same ∙ fits; params = v.well; body = w.well }; same = same }))
 
 function_well : (s : Scopes) (before : List Function) (f : Function) → Gives (Keeps BodyWell s (map heading before) f) (typed_function s before f)
 function_well s before f =
-    gives_one (IsFitting before f) (Keeps BodyWell s (map heading before) f) (typed_heading s before f) _ (heading_well s before f) (λ g v.
+    gives_one (IsFitting s before f) (Keeps BodyWell s (map heading before) f) (typed_heading s before f) _ (heading_well s before f) (λ g v.
     subst (λ g. Gives (Keeps BodyWell s (map heading before) f) (one_part (typed_parameters s g.params) (λ params. one_part (typed_body (with_parameters s params) g.result g.body) (λ b. Good (record g { params = params; body = b })))))
     (sym v.same)
-    (parts_well s (map heading before) f (sym (compatible_is before f) ∙ ap (is_compatible_with_all before) (sym v.same) ∙ v.fits)))
+    (parts_well s (map heading before) f v.own_name (sym (compatible_is before f) ∙ v.fits)))
 
 functions_well : (p : TranslationUnit) (before fs : List Function) → Gives (AllKeep BodyWell p.names (map heading p.funcs) (map heading before) fs) (typed_functions p before fs)
 functions_well p before [] = record { well = tt; same = refl }
 functions_well p before (f ∷ fs) =
     let all = map heading p.funcs in
     let hs = map heading before in
-    gives_one (Keeps BodyWell (function_scopes p before f) hs f) (AllKeep BodyWell p.names all hs (f ∷ fs)) (typed_function (function_scopes p before f) before f)
-    (λ t. one_part (typed_functions p (before ++ f ∷ []) fs) (λ ts. Good (t ∷ ts))) (function_well (function_scopes p before f) before f) (λ t v.
-    gives_one (AllKeep BodyWell p.names all (map heading (before ++ f ∷ [])) fs) (AllKeep BodyWell p.names all hs (f ∷ fs)) (typed_functions p (before ++ f ∷ []) fs) (λ ts. Good (t ∷ ts))
-    (functions_well p (before ++ f ∷ []) fs) (λ ts w.
-    keep_more BodyWell p.names all hs f t fs ts (subst (λ s. Keeps BodyWell s hs f t) (sight_is p before f) v) (subst (λ hs. AllKeep BodyWell p.names all hs fs ts) (map-append heading before (f ∷ [])) w)))
+    gives_both (Keeps BodyWell (function_scopes p before f) hs f) (AllKeep BodyWell p.names all (map heading (before ++ f ∷ [])) fs) (AllKeep BodyWell p.names all hs (f ∷ fs))
+    (typed_function (function_scopes p before f) before f) (typed_functions p (before ++ f ∷ []) fs) (λ t ts. Good (t ∷ ts)) (function_well (function_scopes p before f) before f) (functions_well p (before ++ f ∷ []) fs) (λ t ts v w.
+    keep_more BodyWell p.names all hs f t fs ts (subst (λ s. Keeps BodyWell s hs f t) (sight_is p before f) v) (subst (λ hs. AllKeep BodyWell p.names all hs fs ts) (map-append heading before (f ∷ [])) w))
 
 -- ---- annotations
 
@@ -190,7 +191,7 @@ noted_well p before f h =
     gives_more (IsBody (BodyTyped (with_parameters s f.params) f.result) f.body) (λ b. Keeps BodyTyped s (map heading before) f (record f { body = b })) (noted_body (with_parameters s f.params) f.body)
     (λ b w.
     let same : heading (record f { body = b }) ≡ heading f = λ i. record { place = f.place; name = f.name; result = f.result; params = f.params; defines = w.there i } in
-    record { well = record { fits = ap (compatible_with_all (map heading before)) same ∙ h.fits; params = h.params; body = w.well }; same = same })
+    record { well = record { own_name = h.own_name; fits = ap (compatible_with_all (map heading before)) same ∙ h.fits; params = h.params; body = w.well }; same = same })
     (body_noted (with_parameters s f.params) f.result f.body h.body)
 
 functions_noted : (p : TranslationUnit) (before fs : List Function) → AreWell BodyWell p.names (map heading p.funcs) (map heading before) fs
@@ -226,7 +227,7 @@ functions_typed : (p : TranslationUnit) (before fs : List Function) → AreWell 
 functions_typed p before [] h = tt
 functions_typed p before (f ∷ fs) h =
     let w = subst (λ s. IsWell BodyTyped s (map heading before) f) (sym (sight_is p before f)) h.0 in (
-      record { compatible = compatible_is before f ∙ w.fits; params = w.params; body = w.body },
+      record { own_name = w.own_name; compatible = compatible_is before f ∙ w.fits; params = w.params; body = w.body },
       functions_typed p (before ++ f ∷ []) fs (subst (λ hs. AreWell BodyTyped p.names (map heading p.funcs) hs fs) (sym (map-append heading before (f ∷ []))) h.1),
     )
 

@@ -15,7 +15,7 @@ use crate::annotation::type_clauses;
 use crate::declaration::declare_all;
 use crate::heading::{denoted, see_function};
 use crate::parameter::see_parameters;
-use crate::program::file_scopes;
+use crate::function::file_scopes;
 use c_syntax::{Func, Item, Program, Stmt, StmtKind};
 use c_type_rules::fault::TypeFault;
 use c_type_rules::scope::{Scopes, enter, leave, mark_here};
