@@ -19,7 +19,7 @@ use crate::statement::{Around, type_items};
 use c_syntax::{CType, Func, Item, Name, Stmt, StmtKind};
 use c_type_rules::conversion::copy_type;
 use c_type_rules::fault::{TypeFault, both, push};
-use c_type_rules::scope::{Scopes, leave, mark_here};
+use c_type_rules::scope::Scopes;
 use indexmap::IndexMap;
 use std::alloc::Global;
 
