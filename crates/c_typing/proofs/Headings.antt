@@ -98,10 +98,13 @@ has_first (g ∷ gs) rest f = by (nat_eq g.name f.name) (has_first gs rest f)
     by true e = (g, refl)
     by false e = e
 
+-- what a declaration tells its callers, by its definition's number and the first of its name
+abbrev told_as : Function → Option ℕ → Option Function → Signature
+told_as f n g = record { name = f.name; decl = number_or n (offset_of g); defined = is_there n; params = types_of f.params; result = f.result }
+
 module _ (all before rest : List Function) (f : Function) (is : all ≡ before ++ f ∷ rest)
   where
-    by_first : (h : Function) (n : Option ℕ)
-        → declared (denoted_by n (Some h)) f ≡ record { name = f.name; decl = number_or n (offset_of (Some h)); defined = is_there n; params = types_of f.params; result = f.result }
+    by_first : (h : Function) (n : Option ℕ) → declared (denoted_by n (Some h)) f ≡ told_as f n (Some h)
     by_first h (Some n) = refl
     by_first h None = refl
 
@@ -111,13 +114,7 @@ module _ (all before rest : List Function) (f : Function) (is : all ≡ before +
         let e = has_first before rest f in
         let first : first_of f.name all ≡ Some e.0 = ap (first_of f.name) is ∙ e.1 in
         ap (λ g. declared (denoted_by (definition_of f.name all) g) f) first ∙ by_first e.0 (definition_of f.name all)
-        ∙ ap (λ (g : Option Function). record {
-          name = f.name;
-          decl = number_or (definition_of f.name all) (offset_of g);
-          defined = is_there (definition_of f.name all);
-          params = types_of f.params;
-          result = f.result;
-        } : Signature) (sym first)
+        ∙ ap (told_as f (definition_of f.name all)) (sym first)
 
 -- ---- which names are declared
 
@@ -177,11 +174,11 @@ module _ (all : List Function) (f : Function)
     -- no type is told of a name that isn't declared
     unknown_types : (gs : List Function) → known gs f.name ≡ None → types gs ≡ true
     unknown_types [] e = refl
-    unknown_types (g ∷ gs) e = by (nat_eq g.name f.name) e
+    unknown_types (g ∷ gs) e = by (nat_eq g.name f.name) (unknown_types gs) e
       where
-        by : (b : Bool) → cond b (Some (is_definition g || was_defined (known gs f.name))) (known gs f.name) ≡ None → (cond b (same_signature g f) true && types gs) ≡ true
-        by true e = absurd cc
-        by false e = unknown_types gs e
+        by : (b : Bool) → (known gs f.name ≡ None → types gs ≡ true) → cond b (Some (is_definition g || was_defined (known gs f.name))) (known gs f.name) ≡ None → (cond b (same_signature g f) true && types gs) ≡ true
+        by true rest e = absurd cc
+        by false rest e = rest e
 
     -- what is kept of functions tells which of them fit
     pub fits_is : (gs : List Function) → fits (map (signature all) gs) (known gs f.name) f ≡ is_compatible_with_all gs f

@@ -51,16 +51,20 @@ definition_is x (f ∷ fs) = ap (cond (is_definition f && nat_eq f.name x) (Some
 
 first_is : (x : ℕ) (fs : List Function) → offset_of (first_of x fs) ≡ first_among x (map heading fs)
 first_is x [] = refl
-first_is x (f ∷ fs) = by (nat_eq f.name x)
+first_is x (f ∷ fs) = by (nat_eq f.name x) (first_is x fs)
   where
-    by : (b : Bool) → offset_of (cond b (Some f) (first_of x fs)) ≡ cond b f.place.offset (first_among x (map heading fs))
-    by true = refl
-    by false = first_is x fs
+    by : (b : Bool) → offset_of (first_of x fs) ≡ first_among x (map heading fs) → offset_of (cond b (Some f) (first_of x fs)) ≡ cond b f.place.offset (first_among x (map heading fs))
+    by true rest = refl
+    by false rest = rest
+
+-- what a declaration tells, by its definition's number and that of the first declaration
+abbrev told_by : Function → Option ℕ → ℕ → Signature
+told_by f o n = record { name = f.name; decl = number_or o n; defined = is_there o; params = types_of f.params; result = f.result }
 
 told_is : (all : List Function) (f : Function) → signature all f ≡ told (map heading all) (heading f)
 told_is all f =
-    ap (λ (o : Option ℕ). record { name = f.name; decl = number_or o (offset_of (first_of f.name all)); defined = is_there o; params = types_of f.params; result = f.result } : Signature) (definition_is f.name all)
-    ∙ ap (λ (n : ℕ). record { name = f.name; decl = number_or (definition_among f.name (map heading all)) n; defined = is_there (definition_among f.name (map heading all)); params = types_of f.params; result = f.result } : Signature) (first_is f.name all)
+    ap (λ o. told_by f o (offset_of (first_of f.name all))) (definition_is f.name all)
+    ∙ ap (told_by f (definition_among f.name (map heading all))) (first_is f.name all)
 
 all_told : (all fs : List Function) → map (signature all) fs ≡ map (told (map heading all)) (map heading fs)
 all_told all [] = refl
@@ -82,9 +86,11 @@ compatible_is (f ∷ fs) g = ap (λ b. is_compatible f g && b) (compatible_is fs
 abbrev sight : List (List ℕ) → List Heading → List Heading → Scopes
 sight names all hs = record { names = names; functions = map (told all) hs; objects = []; innermost = 0 }
 
+abbrev with_functions : List (List ℕ) → List Signature → Scopes
+with_functions names fs = record { names = names; functions = fs; objects = []; innermost = 0 }
+
 sight_is : (p : TranslationUnit) (before : List Function) (f : Function) → function_scopes p before f ≡ sight p.names (map heading p.funcs) (map heading before ++ heading f ∷ [])
-sight_is p before f =
-    ap (λ fs. record { names = p.names; functions = fs; objects = []; innermost = 0 } : Scopes) (all_told p.funcs (before ++ f ∷ []) ∙ ap (map (told (map heading p.funcs))) (map-append heading before (f ∷ [])))
+sight_is p before f = ap (with_functions p.names) (all_told p.funcs (before ++ f ∷ []) ∙ ap (map (told (map heading p.funcs))) (map-append heading before (f ∷ [])))
 
 -- ---- functions, by what holds of their bodies
 
@@ -132,7 +138,7 @@ parameter_well s d = by d.named refl
 
     by : (b : Bool) → d.named ≡ b → Gives (IsSameParameter s d) (cond b (declarable s d) (where_so (is_object_type d.ctype) (no_type d.place) (Good d)))
     by true e = gives_more (IsNew s d) (IsSameParameter s d) (declarable s d) new_one (declarable_well s d)
-    by false e = gives_where (IsSameParameter s d) (is_object_type d.ctype) _ _ (λ t. record { same = refl; well = record { new = λ h. absurd (sym e ∙ h); ctype = t } })
+    by false e = gives_where (IsSameParameter s d) (is_object_type d.ctype) _ _ (λ t. record { same = refl; well = record { new = λ h. absurd cc; ctype = t } })
 
 record AreSameParameters (s : Scopes) (ds es : List Declaration) : Type 0 where
   same : es ≡ ds
@@ -169,7 +175,7 @@ parts_well s before f own fits =
 function_well : (s : Scopes) (before : List Function) (f : Function) → Gives (Keeps BodyWell s (map heading before) f) (typed_function s before f)
 function_well s before f =
     gives_one (IsFitting s before f) (Keeps BodyWell s (map heading before) f) (typed_heading s before f) _ (heading_well s before f) (λ g v.
-    subst (λ g. Gives (Keeps BodyWell s (map heading before) f) (one_part (typed_parameters s g.params) (λ params. one_part (typed_body (with_parameters s params) g.result g.body) (λ b. Good (record g { params = params; body = b })))))
+    subst (λ (g : Function). Gives (Keeps BodyWell s (map heading before) f) (one_part (typed_parameters s g.params) (λ params. one_part (typed_body (with_parameters s params) g.result g.body) (λ b. Good (record g { params = params; body = b })))))
     (sym v.same)
     (parts_well s (map heading before) f v.own_name (sym (compatible_is before f) ∙ v.fits)))
 
