@@ -23,28 +23,34 @@ use Rattle.c_typing.proofs.Headings.{declared_is, known_snoc, fits_is}
 
 -- ---- parameters
 
+object_same : (d : Declaration) → Gives (λ x. x ≡ d) (where_so (is_object_type d.ctype) (no_type d.place) (Good d))
+object_same d = gives_where (λ x. x ≡ d) (is_object_type d.ctype) _ _ (λ e. refl)
+
+declarable_same : (s : Scopes) (d : Declaration) → Gives (λ x. x ≡ d) (declarable s d)
+declarable_same s d = gives_where (λ x. x ≡ d) _ _ _ (λ e. object_same d)
+
 parameter_same : (s : Scopes) (d : Declaration) → Gives (λ x. x ≡ d) (typed_parameter s d)
 parameter_same s d = by d.named
   where
     by : (b : Bool) → Gives (λ x. x ≡ d) (cond b (declarable s d) (where_so (is_object_type d.ctype) (no_type d.place) (Good d)))
-    by true = gives_where (λ x. x ≡ d) _ _ _ (λ e. gives_where (λ x. x ≡ d) _ _ _ (λ e. refl))
-    by false = gives_where (λ x. x ≡ d) _ _ _ (λ e. refl)
+    by true = declarable_same s d
+    by false = object_same d
 
 -- parameters stay as they are
 parameters_are : (s : Scopes) (ds : List Declaration) → typed_parameters s ds ≡ one_part (checked_parameters s ds) (λ u. Good ds)
 parameters_are s [] = refl
-parameters_are s (d ∷ ds) = by (typed_parameter s d) (parameter_same s d)
+parameters_are s (d ∷ ds) = by (typed_parameter s d) (parameter_same s d) (λ t. parameters_are t ds)
   where
     in_front : (c : Checked (Unit {0})) → one_part (one_part c (λ u. Good ds)) (λ ds. Good (d ∷ ds)) ≡ one_part c (λ u. Good (d ∷ ds))
     in_front (Good u) = refl
     in_front (Bad f fs) = refl
 
-    by : (c : Checked Declaration) → Gives (λ x. x ≡ d) c
+    by : (c : Checked Declaration) → Gives (λ x. x ≡ d) c → ((t : Scopes) → typed_parameters t ds ≡ one_part (checked_parameters t ds) (λ u. Good ds))
         → one_part c (λ d. one_part (typed_parameters (with_parameter s d) ds) (λ ds. Good (d ∷ ds))) ≡ one_part (one_part c (λ d. checked_parameters (with_parameter s d) ds)) (λ u. Good (d ∷ ds))
-    by (Bad f fs) same = refl
-    by (Good x) same =
+    by (Bad f fs) same rest = refl
+    by (Good x) same rest =
         ap (λ x. one_part (typed_parameters (with_parameter s x) ds) (λ ds. Good (x ∷ ds))) same
-        ∙ ap (λ c. one_part c (λ ds. Good (d ∷ ds))) (parameters_are (with_parameter s d) ds) ∙ in_front (checked_parameters (with_parameter s d) ds)
+        ∙ ap (λ c. one_part c (λ ds. Good (d ∷ ds))) (rest (with_parameter s d)) ∙ in_front (checked_parameters (with_parameter s d) ds)
         ∙ ap (λ x. one_part (checked_parameters (with_parameter s x) ds) (λ u. Good (d ∷ ds))) (sym same)
 
 -- ---- one function
@@ -122,7 +128,7 @@ function_is p before rest f is =
     (λ i. one_part (where_so (not (is_library_name (name_at p.names f.name)) && fits_is p.funcs f before i) (no_name f.place) (Good tt)) (λ u. checked_parts (sight_is p before rest f is i) f))
     ∙ by (not (is_library_name (name_at p.names f.name)) && is_compatible_with_all before f)
   where
-    by : (b : Bool) → one_part (where_so b (no_name f.place) (Good tt)) (λ u. checked_parts (function_scopes p before f) f) ≡ one_part (where_so b (no_name f.place) (Good f)) (typed_parts (function_scopes p before f))
+    by : (b : Bool) → one_part {A = Unit {0}} (where_so b (no_name f.place) (Good tt)) (λ u. checked_parts (function_scopes p before f) f) ≡ one_part (where_so b (no_name f.place) (Good f)) (typed_parts (function_scopes p before f))
     by true = parts_are (function_scopes p before f) f
     by false = refl
 
@@ -141,34 +147,34 @@ joined whole m c d (Err e) r (Err h) is hd hr j q =
 
 module _ (p : TranslationUnit) (xs : List Func) (f : Func) (rest : List Func) (all : p.funcs ≡ map plain_func (xs ++ f ∷ rest))
   where
-    abbrev before : List Function
-    before = map plain_func xs
+    abbrev those_before : List Function
+    those_before = map plain_func xs
 
-    in_order : p.funcs ≡ before ++ plain_func f ∷ map plain_func rest
+    in_order : p.funcs ≡ those_before ++ plain_func f ∷ map plain_func rest
     in_order = all ∙ map-append plain_func xs (f ∷ rest)
 
     -- what is in sight behind one more function
-    pub sight_more : (ds : ℕ → Option Callee) (s s' : Scopes) → ((x : ℕ) → ds x ≡ denoted p.funcs x) → s ≡ behind_functions p before → s' ≡ with_function ds s (plain_func f) → at_file s' ≡ behind_functions p (map plain_func (xs ++ f ∷ []))
+    pub sight_more : (ds : ℕ → Option Callee) (s s' : Scopes) → ((x : ℕ) → ds x ≡ denoted p.funcs x) → s ≡ behind_functions p those_before → s' ≡ with_function ds s (plain_func f) → at_file s' ≡ behind_functions p (map plain_func (xs ++ f ∷ []))
     sight_more ds s s' told is sees =
-        ap at_file (sees ∙ (λ i. with_function (λ x. told x i) (is i) (plain_func f)) ∙ sight_is p before (map plain_func rest) (plain_func f) in_order)
+        ap at_file (sees ∙ (λ i. with_function (λ x. told x i) (is i) (plain_func f)) ∙ sight_is p those_before (map plain_func rest) (plain_func f) in_order)
         ∙ ap (λ fs. behind_functions p fs) (sym (map-append plain_func xs (f ∷ [])))
 
     -- which names are declared
-    pub names_more : (ns ns' : ℕ → Option Bool) → ((x : ℕ) → ns x ≡ known before x) → ((x : ℕ) → ns' x ≡ with_known ns (plain_func f) x) → (x : ℕ) → ns' x ≡ known (map plain_func (xs ++ f ∷ [])) x
+    pub names_more : (ns ns' : ℕ → Option Bool) → ((x : ℕ) → ns x ≡ known those_before x) → ((x : ℕ) → ns' x ≡ with_known ns (plain_func f) x) → (x : ℕ) → ns' x ≡ known (map plain_func (xs ++ f ∷ [])) x
     names_more ns ns' is notes x =
-        notes x ∙ (λ i. with_known (λ x. is x i) (plain_func f) x) ∙ known_snoc before (plain_func f) x ∙ ap (λ fs. known fs x) (sym (map-append plain_func xs (f ∷ [])))
+        notes x ∙ (λ i. with_known (λ x. is x i) (plain_func f) x) ∙ known_snoc those_before (plain_func f) x ∙ ap (λ fs. known fs x) (sym (map-append plain_func xs (f ∷ [])))
 
     -- what is found of one more function
     pub functions_more : (ds : ℕ → Option Callee) (ns : ℕ → Option Bool) (s s' : Scopes) (h : Result (Unit {0}) TypeFault) (r : Result Func TypeFault) (done done' : Result (Vec Func Global) TypeFault) (two : Result (Vec Func Global × Func) TypeFault)
-        → ((x : ℕ) → ds x ≡ denoted p.funcs x) → ((x : ℕ) → ns x ≡ known before x) → s ≡ behind_functions p before → s' ≡ with_function ds s (plain_func f)
+        → ((x : ℕ) → ds x ≡ denoted p.funcs x) → ((x : ℕ) → ns x ≡ known those_before x) → s ≡ behind_functions p those_before → s' ≡ with_function ds s (plain_func f)
         → Answers (λ u. tt) (checked_heading s ns (plain_func f)) h → AnswersBehind h (checked_parts s' (plain_func f)) r → Joined done r two → Pushed two done'
-        → Answers plain_funcs (typed_functions p [] before) done → Answers plain_funcs (typed_functions p [] (map plain_func (xs ++ f ∷ []))) done'
+        → Answers plain_funcs (typed_functions p [] those_before) done → Answers plain_funcs (typed_functions p [] (map plain_func (xs ++ f ∷ []))) done'
     functions_more ds ns s s' h r done done' two told names is sees head parts j q so_far =
-        let here : one_part (checked_heading s ns (plain_func f)) (λ u. checked_parts s' (plain_func f)) ≡ typed_function (function_scopes p before (plain_func f)) before (plain_func f) =
+        let here : one_part (checked_heading s ns (plain_func f)) (λ u. checked_parts s' (plain_func f)) ≡ typed_function (function_scopes p those_before (plain_func f)) those_before (plain_func f) =
             (λ i. one_part (checked_heading (is i) (λ x. names x i) (plain_func f)) (λ u. checked_parts ((sees ∙ (λ j. with_function (λ x. told x j) (is j) (plain_func f))) i) (plain_func f)))
-            ∙ function_is p before (map plain_func rest) (plain_func f) in_order in
-        joined (typed_functions p [] (map plain_func (xs ++ f ∷ []))) (typed_functions p [] before) (typed_function (function_scopes p before (plain_func f)) before (plain_func f)) done done' r two
-        (ap (typed_functions p []) (map-append plain_func xs (f ∷ [])) ∙ functions_snoc p [] before before (plain_func f) refl) so_far
+            ∙ function_is p those_before (map plain_func rest) (plain_func f) in_order in
+        joined (typed_functions p [] (map plain_func (xs ++ f ∷ []))) (typed_functions p [] those_before) (typed_function (function_scopes p those_before (plain_func f)) those_before (plain_func f)) done done' r two
+        (ap (typed_functions p []) (map-append plain_func xs (f ∷ [])) ∙ functions_snoc p [] those_before those_before (plain_func f) refl) so_far
         (subst (λ c. Answers plain_func c r) here (heading_then (checked_heading s ns (plain_func f)) (checked_parts s' (plain_func f)) h r head parts)) j q
 
 -- ---- annotations
