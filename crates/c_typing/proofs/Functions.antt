@@ -171,8 +171,8 @@ module _ (p : TranslationUnit) (xs : List Func) (f : Func) (rest : List Func) (a
         → Answers plain_funcs (typed_functions p [] those_before) done → Answers plain_funcs (typed_functions p [] (map plain_func (xs ++ f ∷ []))) done'
     functions_more ds ns s s' h r done done' two told names is sees head parts j q so_far =
         let here : one_part (checked_heading s ns (plain_func f)) (λ u. checked_parts s' (plain_func f)) ≡ typed_function (function_scopes p those_before (plain_func f)) those_before (plain_func f) =
-            (λ i. one_part (checked_heading (is i) (λ x. names x i) (plain_func f)) (λ u. checked_parts ((sees ∙ (λ j. with_function (λ x. told x j) (is j) (plain_func f))) i) (plain_func f)))
-            ∙ function_is p those_before (map plain_func rest) (plain_func f) in_order in
+        (λ i. one_part (checked_heading (is i) (λ x. names x i) (plain_func f)) (λ u. checked_parts ((sees ∙ (λ j. with_function (λ x. told x j) (is j) (plain_func f))) i) (plain_func f)))
+        ∙ function_is p those_before (map plain_func rest) (plain_func f) in_order in
         joined (typed_functions p [] (map plain_func (xs ++ f ∷ []))) (typed_functions p [] those_before) (typed_function (function_scopes p those_before (plain_func f)) those_before (plain_func f)) done done' r two
         (ap (typed_functions p []) (map-append plain_func xs (f ∷ [])) ∙ functions_snoc p [] those_before those_before (plain_func f) refl) so_far
         (subst (λ c. Answers plain_func c r) here (heading_then (checked_heading s ns (plain_func f)) (checked_parts s' (plain_func f)) h r head parts)) j q

@@ -10,13 +10,13 @@ ghost use Rattle.c_type_rules.specs.Scopes.{plain_scopes};
 ghost use Rattle.c_typing.specs.Scopes.{at_file};
 ghost use Rattle.c_typing.specs.Trees.{plain_decls, plain_initialiser};
 
+use c_syntax::{CType, Decl, Expr, Init, Place};
 use c_type_rules::conversion::{copy_type, is_assigned, is_object_type};
 use c_type_rules::expression::type_expr;
 use c_type_rules::fault::{TypeFault, both, no_name, no_type};
 use c_type_rules::library::is_library_name;
 use c_type_rules::operator::in_type;
 use c_type_rules::scope::{Object, Scopes, is_declared, name_at};
-use c_syntax::{CType, Decl, Expr, Init, Place};
 use std::alloc::{AllocError, Global};
 
 fn initial(init: Init) -> Expr

@@ -11,13 +11,13 @@ ghost use Rattle.c_type_rules.specs.Scopes.{plain_scopes};
 ghost use Rattle.c_typing.specs.Scopes.{at_file, behind_items};
 ghost use Rattle.c_typing.specs.Trees.{plain_around, plain_block, plain_else_part, plain_for_first};
 
-use c_type_rules::conversion::{copy_type, is_assigned, is_scalar};
 use crate::declaration::type_declarations;
+use c_syntax::{CType, Expr, Item, Place, Stmt, StmtKind};
+use c_type_rules::conversion::{copy_type, is_assigned, is_scalar};
 use c_type_rules::expression::type_expr;
 use c_type_rules::fault::{TypeFault, no_type};
 use c_type_rules::operator::in_type;
 use c_type_rules::scope::{Scopes, enter, leave};
-use c_syntax::{CType, Expr, Item, Place, Stmt, StmtKind};
 use std::alloc::Global;
 
 /// Where a statement stands: what its function gives, and whether it is inside a loop.

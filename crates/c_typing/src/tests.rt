@@ -1,7 +1,7 @@
 use super::*;
 use c_syntax::{
-    Annot, Body, CInt, CType, Decl, Expr, ExprKind, Func, Init, Item, Kind, Link, Name, Place, Pred,
-    PredKind, Program, Range, Relation, Stmt, StmtKind, Term, TermKind, Use,
+    Annot, Body, CInt, CType, Decl, Expr, ExprKind, Func, Init, Item, Kind, Link, Name, Place,
+    Pred, PredKind, Program, Range, Relation, Stmt, StmtKind, Term, TermKind, Use,
 };
 use std::alloc::{AllocError, Global};
 use std::test::*;
@@ -234,7 +234,10 @@ fn item_case(alloc: Global, n: u32) -> Result<Item, AllocError> {
                 boxed(alloc, 16, StmtKind::Eval(name(16, UNKNOWN)))?,
             ),
         ),
-        _ => run(10, StmtKind::Eval(call(alloc, 5, PUTCHAR, Some(name(12, C)))?)),
+        _ => run(
+            10,
+            StmtKind::Eval(call(alloc, 5, PUTCHAR, Some(name(12, C)))?),
+        ),
     })
 }
 
@@ -366,12 +369,7 @@ fn body(alloc: Global, n: u32) -> Result<Option<Vec<Item>>, AllocError> {
         4 => run(80, StmtKind::Eval(call(alloc, 84, F, None)?)),
         5 => run(
             80,
-            StmtKind::Eval(call(
-                alloc,
-                83,
-                PUTCHAR,
-                Some(call(alloc, 84, F, Some(one(85)))?),
-            )?),
+            StmtKind::Eval(call(alloc, 83, PUTCHAR, Some(call(alloc, 84, F, Some(one(85)))?))?),
         ),
         6 => run(80, StmtKind::Return(Some(call(alloc, 86, MAIN, None)?))),
         7 => run(80, StmtKind::Empty),
@@ -455,9 +453,15 @@ fn headings(rt: HostRuntime) -> Result<(), Fail> {
     assert_eq!(rt; result, (5, 11));
     let unnamed = functions_answer(alloc, [prototype(), case(11, F, INT, 3, 0), main_with(7)])?;
     assert_eq!(rt; unnamed, (0, 0));
-    let library = functions_answer(alloc, [case(9, PUTCHAR, INT, 1, 0), prototype(), main_with(7)])?;
+    let library = functions_answer(
+        alloc,
+        [case(9, PUTCHAR, INT, 1, 0), prototype(), main_with(7)],
+    )?;
     assert_eq!(rt; library, (5, 9));
-    let with_parameter = functions_answer(alloc, [prototype(), definition(), case(30, MAIN, INT, 1, 7)])?;
+    let with_parameter = functions_answer(
+        alloc,
+        [prototype(), definition(), case(30, MAIN, INT, 1, 7)],
+    )?;
     assert_eq!(rt; with_parameter, (13, 30));
     Ok(())
 }

@@ -21,7 +21,7 @@ loop-f-preserved c =
     let all : map plain_func c.args.funcs.items ≡ map plain_func (xs ++ f ∷ rest) = ap (map plain_func) order in (
       order ∙ sym (append_assoc xs (f ∷ []) rest),
       functions_more p xs f rest all ds ns s seen c.check_heading-heading.result c.type_function-f.result c.loop-f.done c.push-done.result c.both.result
-      told c.loop-f.invariant.2 c.loop-f.invariant.3 c.in_ok-see_function.ensures c.check_heading-heading.ensures c.type_function-f.ensures.typed c.both.ensures c.push-done.ensures c.loop-f.invariant.1,
+          told c.loop-f.invariant.2 c.loop-f.invariant.3 c.in_ok-see_function.ensures c.check_heading-heading.ensures c.type_function-f.ensures.typed c.both.ensures c.push-done.ensures c.loop-f.invariant.1,
       names_more p xs f rest all ns (get nat_eq c.note_name.new.names) c.loop-f.invariant.2 c.in_ok-note_name.ensures,
       c.type_function-f.ensures.behind ∙ sight_more p xs f rest all ds s seen told c.loop-f.invariant.3 c.in_ok-see_function.ensures,
     )
