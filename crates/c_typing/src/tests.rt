@@ -379,6 +379,7 @@ fn body(alloc: Global, n: u32) -> Result<Option<Vec<Item>>, AllocError> {
 }
 
 /// A function by its place, its name, its result, and the numbers of its parameters and its body.
+#[derive(Drop)]
 struct Case {
     place: u32,
     number: u32,
