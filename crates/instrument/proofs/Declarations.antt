@@ -106,6 +106,7 @@ module _ (texts : List (List ℕ)) where
     types = types;
     registers = ap (map plain_register) registers ∙ map-append plain_register old.registers.items (r ∷ []) ∙ ap (λ x. map plain_register old.registers.items ++ x ∷ []) is;
   }
+
 -- ---- pointers to blocks
 
 types_left : (ds : List Declaration) (k : ℕ) → k < length ds → pointer_types (drop k ds) ≡ Ptr ∷ pointer_types (drop (k + 1) ds)
@@ -146,8 +147,8 @@ points_step count k old mid now r lt numbers types registers is h = record {
   registers = λ ds long.
       let next : suc (count + k) ≡ count + (k + 1) = omega arith in
       grown (map plain_register mid.registers.items) (record { kind = Ptr; name = pointer_name (count + k) } ∷ []) (pointers_from (count + (k + 1)) (drop (k + 1) ds))
-          (pointers_left ds k (count + k) (omega (arith, lt, long)) ∙ ap (λ n. record { kind = Ptr; name = pointer_name (count + k) } ∷ pointers_from n (drop (k + 1) ds)) next)
-          (ap (map plain_register) registers ∙ map-append plain_register mid.registers.items (r ∷ []) ∙ ap (λ x. map plain_register mid.registers.items ++ x ∷ []) is) (h.registers ds long);
+      (pointers_left ds k (count + k) (omega (arith, lt, long)) ∙ ap (λ n. record { kind = Ptr; name = pointer_name (count + k) } ∷ pointers_from n (drop (k + 1) ds)) next)
+      (ap (map plain_register) registers ∙ map-append plain_register mid.registers.items (r ∷ []) ∙ ap (λ x. map plain_register mid.registers.items ++ x ∷ []) is) (h.registers ds long);
 }
 
 pub points_types : (count k : ℕ) (old now : Variables) (ds : List Declaration) → count ≤ k → length ds ≡ count → Pointers count k old now → now.types.items ≡ old.types.items ++ pointer_types ds

@@ -82,19 +82,21 @@ module _ (ts : Types) (numbers : List ℕ) (all : List Declaration) (long : leng
   have_variables front [] is order = tt
   have_variables front (d ∷ rest) is order =
       let next : all ≡ front ++ d ∷ [] ++ rest = is ∙ sym (append_assoc front (d ∷ []) rest) in
-      let number : length (front ++ d ∷ []) ≡ suc (length front) = omega (arith, length-append front (d ∷ [])) in
-      (record {
-        value =
-            ap (slice_get ts) order.0 ∙ ap (λ l. slice_get l (length front)) types_are
-            ∙ ap (λ l. slice_get (value_types l ++ (pointer_types all ++ begins.rest)) (length front)) is
-            ∙ value_there front rest d (pointer_types all ++ begins.rest);
-        pointer =
-            let values : length numbers ≡ length (value_types all) = long ∙ sym (length-map all (λ (e : Declaration). value_type e.ctype)) in
-            ap (λ j. slice_get ts (length numbers + j)) order.0 ∙ ap (λ n. slice_get ts (n + length front)) values
-            ∙ ap (λ l. slice_get l (length (value_types all) + length front)) types_are
-            ∙ behind_types (value_types all) (pointer_types all ++ begins.rest) (length front)
-            ∙ ap (λ l. slice_get (pointer_types l ++ begins.rest) (length front)) is ∙ pointer_there front rest d begins.rest;
-      }, have_variables (front ++ d ∷ []) rest next (subst (λ j. InOrder numbers j rest) (sym number) order.1))
+      let number : length (front ++ d ∷ []) ≡ suc (length front) = omega (arith, length-append front (d ∷ [])) in (
+        record {
+          value =
+              ap (slice_get ts) order.0 ∙ ap (λ l. slice_get l (length front)) types_are
+              ∙ ap (λ l. slice_get (value_types l ++ (pointer_types all ++ begins.rest)) (length front)) is
+              ∙ value_there front rest d (pointer_types all ++ begins.rest);
+          pointer =
+              let values : length numbers ≡ length (value_types all) = long ∙ sym (length-map all (λ (e : Declaration). value_type e.ctype)) in
+              ap (λ j. slice_get ts (length numbers + j)) order.0 ∙ ap (λ n. slice_get ts (n + length front)) values
+              ∙ ap (λ l. slice_get l (length (value_types all) + length front)) types_are
+              ∙ behind_types (value_types all) (pointer_types all ++ begins.rest) (length front)
+              ∙ ap (λ l. slice_get (pointer_types l ++ begins.rest) (length front)) is ∙ pointer_there front rest d begins.rest;
+        },
+        have_variables (front ++ d ∷ []) rest next (subst (λ j. InOrder numbers j rest) (sym number) order.1),
+      )
 
 -- ---- what is in sight
 

@@ -154,27 +154,27 @@ module _ (p : TranslationUnit) (q : IsProgram p) (numbers : FunctionsHaveNumbers
           ints = c.I32 ∷ [];
           arguments = params put h;
           valid = λ r ls into args takes given.
-          chosen f r ls into args own
-          (subst (λ x. Chosen r ls into args x (bytes_eq name (codes "getchar")) (bytes_eq name (codes "exit"))) (sym ex)
-          ((subst (λ u. TakesValue ts into (result_of u)) (results put h) takes, first_valid args given), tt));
+              chosen f r ls into args own
+              (subst (λ x. Chosen r ls into args x (bytes_eq name (codes "getchar")) (bytes_eq name (codes "exit"))) (sym ex)
+              ((subst (λ u. TakesValue ts into (result_of u)) (results put h) takes, first_valid args given), tt));
         }
         by false true z ex ey ez h = record {
           ints = [];
           arguments = params get h;
           valid = λ r ls into args takes given.
-          chosen f r ls into args own
-          (subst (λ x. Chosen r ls into args x (bytes_eq name (codes "getchar")) (bytes_eq name (codes "exit"))) (sym ex)
-          (subst (λ y. Chosen r ls into args false y (bytes_eq name (codes "exit"))) (sym ey)
-          (subst (λ u. TakesValue ts into (result_of u)) (results get h) takes, tt)));
+              chosen f r ls into args own
+              (subst (λ x. Chosen r ls into args x (bytes_eq name (codes "getchar")) (bytes_eq name (codes "exit"))) (sym ex)
+              (subst (λ y. Chosen r ls into args false y (bytes_eq name (codes "exit"))) (sym ey)
+              (subst (λ u. TakesValue ts into (result_of u)) (results get h) takes, tt)));
         }
         by false false true ex ey ez h = record {
           ints = c.I32 ∷ [];
           arguments = params leave h;
           valid = λ r ls into args takes given.
-          chosen f r ls into args own
-          (subst (λ x. Chosen r ls into args x (bytes_eq name (codes "getchar")) (bytes_eq name (codes "exit"))) (sym ex)
-          (subst (λ y. Chosen r ls into args false y (bytes_eq name (codes "exit"))) (sym ey)
-          (subst (λ z. Chosen r ls into args false false z) (sym ez) (first_valid args given, tt))));
+              chosen f r ls into args own
+              (subst (λ x. Chosen r ls into args x (bytes_eq name (codes "getchar")) (bytes_eq name (codes "exit"))) (sym ex)
+              (subst (λ y. Chosen r ls into args false y (bytes_eq name (codes "exit"))) (sym ey)
+              (subst (λ z. Chosen r ls into args false false z) (sym ez) (first_valid args given, tt))));
         }
         by false false false ex ey ez h = absurd cc
 
@@ -184,10 +184,10 @@ module _ (p : TranslationUnit) (q : IsProgram p) (numbers : FunctionsHaveNumbers
       ints = ints;
       arguments = subst (λ l. HaveTypes l es) params types;
       valid = λ r ls into args takes given.
-      chosen f r ls into args own
-      (subst (λ x. Chosen r ls into args x (bytes_eq (name_at p.names f.name) (codes "getchar")) (bytes_eq (name_at p.names f.name) (codes "exit"))) (sym other.putchar)
-      (subst (λ y. Chosen r ls into args false y (bytes_eq (name_at p.names f.name) (codes "exit"))) (sym other.getchar)
-      (subst (λ z. Chosen r ls into args false false z) (sym other.exit) tt)));
+          chosen f r ls into args own
+          (subst (λ x. Chosen r ls into args x (bytes_eq (name_at p.names f.name) (codes "getchar")) (bytes_eq (name_at p.names f.name) (codes "exit"))) (sym other.putchar)
+          (subst (λ y. Chosen r ls into args false y (bytes_eq (name_at p.names f.name) (codes "exit"))) (sym other.getchar)
+          (subst (λ z. Chosen r ls into args false false z) (sym other.exit) tt)));
     }
 
     -- ---- all of them, in a function behind these

@@ -147,9 +147,10 @@ module _ (p : TranslationUnit) (gs : List Signature) (ts : Types) (result : Opti
   arguments_valid (Following e es) (k ∷ ks) rs types pure q l few b =
       let te = temporaries e in
       let here = begins_left rs te (arguments_temporaries es) ts b in
-      let rest = arguments_valid es ks (rs ++ te) types.1 pure.1 q.1 l.1 (omega (arith, few)) (begins_right rs te (arguments_temporaries es) ts b) in
-      (before_valid gs ts result ls (setup numbers rs e) (arguments_setup numbers (rs ++ te) es) (setup_valid gs ts result numbers scopes sees ls e k rs types.0 pure.0 q.0 l.0 (omega (arith, few)) here) rest.0,
-      (expression_valid ts numbers scopes sees e k rs types.0 pure.0 q.0 l.0 (omega (arith, few)) here, rest.1))
+      let rest = arguments_valid es ks (rs ++ te) types.1 pure.1 q.1 l.1 (omega (arith, few)) (begins_right rs te (arguments_temporaries es) ts b) in (
+        before_valid gs ts result ls (setup numbers rs e) (arguments_setup numbers (rs ++ te) es) (setup_valid gs ts result numbers scopes sees ls e k rs types.0 pure.0 q.0 l.0 (omega (arith, few)) here) rest.0,
+        (expression_valid ts numbers scopes sees e k rs types.0 pure.0 q.0 l.0 (omega (arith, few)) here, rest.1),
+      )
 
   called_valid : (f : Use) (u : PlainType) (es : Expressions) (into : Option ℕ) (rs : Types) → ArePure es → AreWellTyped scopes es → Calls scopes f u es → ArgumentsHaveLetters es → nodes_of_all es ≤ 800 → Begins (rs ++ arguments_temporaries es) ts → TakesValue ts into (result_of u) → Are (called p numbers rs into f es)
   called_valid f u es into rs pure q c l few b takes =
@@ -180,11 +181,13 @@ module _ (p : TranslationUnit) (gs : List Signature) (ts : Types) (result : Opti
       let v = value_called f u from.int es rs from.is pure q.0.0 q.0.1 l (omega (arith, few)) b in
       let r = tree.Register (length (rs ++ arguments_temporaries es)) in
       let here : slice_get ts (length (rs ++ arguments_temporaries es)) ≡ Some (value_type u) = v.1 ∙ ap (λ x. Some (value_type x)) (sym from.is) in
-      let deep = parens_in_type (value_type u) (value_type to) r in
-      (v.0, record {
-        typed = subst (λ x. HasType ts (in_type (value_type u) (value_type to) r) (value_type x)) to_int (in_typed ts (value_type u) (value_type to) r (value_whole u) (value_whole to) here);
-        within = omega (arith, deep);
-      })
+      let deep = parens_in_type (value_type u) (value_type to) r in (
+        v.0,
+        record {
+          typed = subst (λ x. HasType ts (in_type (value_type u) (value_type to) r) (value_type x)) to_int (in_typed ts (value_type u) (value_type to) r (value_whole u) (value_whole to) here);
+          within = omega (arith, deep);
+        },
+      )
   full_valid e k rs int pure q l few b = (setup_valid gs ts result numbers scopes sees ls e k rs int pure q l few b, expression_valid ts numbers scopes sees e k rs int pure q l few b)
 
   -- ---- effects
