@@ -1,12 +1,9 @@
 -- Declarations behind one another: their variables, and the births of their blocks.
 use Rattle.std.proofs.Common.{◌≡◌, ℕ, zero, suc, ◌+◌, ◌<◌, ◌≤◌, List, [], ◌∷◌, ◌++◌, length, drop, map, refl, sym, ap, ◌∙◌, arith, append_assoc}
 use Rattle.std.proofs.lemmas.List.{length-map, length-append, map-append, append-nil}
-use Rattle.c_syntax.specs.Ctypes.{plain_type}
-use Rattle.c_syntax.specs.declared.statement.Decl.{Decl}
-use Rattle.c_syntax.specs.Statements.{Declaration, BlockItem, Declare, Run, Asserts, BlockItems, Then, plain_decl}
+use Rattle.c_syntax.specs.Statements.{Declaration, BlockItem, Declare, Run, Asserts, BlockItems, Then}
 use Rattle.c_model.specs.Meaning.{declared_in}
 use Rattle.c_model.specs.Formed.{number_of}
-use Rattle.mon_syntax.specs.declared.tree.MonType.{MonType}
 use Rattle.mon_syntax.specs.declared.tree.MonType.TheVariants.{Ptr}
 use Rattle.mon_syntax.specs.declared.tree.Register.{Register}
 use Rattle.mon_syntax.specs.Trees as mon
@@ -16,7 +13,7 @@ use Rattle.instrument.specs.Expressions.{value_type, before}
 use Rattle.instrument.specs.Growth.{Grows}
 use Rattle.instrument.specs.Options.{declared_by}
 use Rattle.instrument.specs.Translation.{birth, births, death, deaths, own_name, pointer_name, pointer_types, pointers_from, register_name, value_types, values_from, with_born}
-use Rattle.instrument.proofs.Sequences.{before_assoc, grown}
+use Rattle.instrument.proofs.Sequences.{grown}
 
 -- ---- births
 

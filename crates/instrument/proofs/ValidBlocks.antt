@@ -1,8 +1,7 @@
 -- Registers of variables have their types, and what is done at the births and deaths of their blocks is valid.
-use Rattle.std.proofs.Common.{◌≡◌, ℕ, suc, ◌+◌, ◌≤◌, pos, Bool, true, false, cond, nat_eq, List, [], ◌∷◌, ◌++◌, length, map, Option, Some, None, slice_get, max, refl, sym, ap, ◌∙◌, subst, arith, append_assoc}
-use Rattle.std.proofs.lemmas.List.{append-nil, length-append, length-map}
+use Rattle.std.proofs.Common.{◌≡◌, ℕ, suc, ◌+◌, ◌≤◌, pos, Bool, true, false, cond, nat_eq, List, [], ◌∷◌, ◌++◌, length, Option, Some, slice_get, refl, sym, ap, ◌∙◌, subst, arith, append_assoc}
+use Rattle.std.proofs.lemmas.List.{length-append, length-map}
 use Rattle.std.proofs.Math.Nat.{max-le}
-use Rattle.c_syntax.specs.Ctypes.{PlainType, Int}
 use Rattle.c_syntax.specs.Statements.{Declaration, ForFirst, NoFirst, First, Declare, Run, Asserts, BlockItems, NoItem, Then}
 use Rattle.c_model.specs.Integers.{size_of}
 use Rattle.c_model.specs.Meaning.{declared_in, declared_first}
@@ -14,14 +13,14 @@ use Rattle.mon_syntax.specs.declared.tree.MonType.TheVariants.{U64, Ptr}
 use Rattle.mon_syntax.specs.Trees.{MonStatements, NoStatement}
 use Rattle.mon_syntax.specs.Trees as tree
 use Rattle.mon_syntax.specs.Valid.{Types, Labels, Signature, IsExpression, AreStatements, has_no_step, depth_of_all}
-use Rattle.instrument.specs.Expressions.{register_type, value_type, before, register_of}
+use Rattle.instrument.specs.Expressions.{value_type, before, register_of}
 use Rattle.instrument.specs.Translation.{births, deaths, with_born, alive, value_types, pointer_types}
 use Rattle.instrument.proofs.Births.{int_of}
 use Rattle.instrument.proofs.Declared.{object_of, named_last}
 use Rattle.instrument.proofs.Functions.{InOrder}
 use Rattle.instrument.proofs.Numbers.{IsObject, AreObjects}
-use Rattle.instrument.proofs.Typed.{Begins, at_end, Seen, AreSeen, size_constant}
-use Rattle.instrument.proofs.ValidSetups.{no_step_before, deep_before, before_valid}
+use Rattle.instrument.proofs.Typed.{Begins, Seen, AreSeen, size_constant}
+use Rattle.instrument.proofs.ValidSetups.{deep_before, before_valid}
 
 -- ---- registers of variables
 

@@ -13,7 +13,7 @@ use Rattle.c_model.specs.Meaning.{is_definition, is_of_library, definition_at}
 use Rattle.c_model.specs.Typing.{Signature as Known, Scopes, name_at, library_function, of_library}
 use Rattle.c_model.specs.ProgramTyping.{signature, function_scopes}
 use Rattle.c_model.specs.ProgramTyping as typing
-use Rattle.c_model.specs.WellTyped.{HaveTypes, Calls}
+use Rattle.c_model.specs.WellTyped.{HaveTypes}
 use Rattle.c_model.specs.Formed.{IsProgram}
 use Rattle.mon_syntax.specs.declared.tree.MonType.TheVariants.{I32}
 use Rattle.mon_syntax.specs.Trees.{MonExpression, MonFunction, NoStatement}
@@ -22,7 +22,7 @@ use Rattle.mon_syntax.specs.Valid.{Types, Labels, Signature, TakesValue, AreArgu
 use Rattle.mon_syntax.specs.declared.tree.MonType.{MonType}
 use Rattle.instrument.specs.Limits.{FunctionsHaveNumbers}
 use Rattle.instrument.specs.Expressions.{register_type, value_type, one}
-use Rattle.instrument.specs.Translation.{function_name, index_of, first_of, library_call, call, result_of, value_types, values_from, function_of, functions_from}
+use Rattle.instrument.specs.Translation.{function_name, index_of, first_of, library_call, call, result_of, value_types, values_from, function_of}
 use Rattle.instrument.proofs.Functions.{parameter_ints}
 use Rattle.instrument.proofs.Numbers.{AreObjects, parameter_objects}
 use Rattle.instrument.proofs.Programs.{picked, index_by, IsPicked, has_number, definition_is, index_is, has_bytes, main_index_is}
