@@ -17,8 +17,8 @@ use Rattle.c_model.specs.ProgramTyping.{with_parameters, typed_body, noted_body,
 use Rattle.c_type_rules.specs.declared.fault.TypeFault.{TypeFault}
 use Rattle.c_type_rules.specs.Answers.{Answers}
 use Rattle.c_type_rules.specs.Scopes.{left}
-use Rattle.c_typing.specs.declared.heading.Denoted.{Denoted}
-use Rattle.c_typing.specs.Functions.{with_known, with_function, checked_function, checked_functions, noted_parts, noted_in_turn}
+use Rattle.c_typing.specs.declared.heading.Callee.{Callee}
+use Rattle.c_typing.specs.Functions.{with_function, noted_parts, noted_in_turn}
 use Rattle.c_typing.specs.Scopes.{behind_items}
 use Rattle.c_typing.specs.Trees.{plain_block}
 use Rattle.c_type_rules.proofs.Least.{one_refused}
@@ -58,17 +58,8 @@ pub parts_left : (s u v : Scopes) (count innermost : ℕ) (ds : List Declaration
 parts_left s u v count innermost ds counted kept sight ends =
     ends ∙ ap (λ n. left n innermost u) counted ∙ ap (λ n. left (length s.objects) n u) kept ∙ ap (left (length s.objects) s.innermost) sight ∙ left_parameters s ds
 
--- one more function is typed
-pub functions_more : (ds : ℕ → Option Denoted) (ns ms ms' : ℕ → Option Bool) (s t t' : Scopes) (all : List Function) (list done done' : List Func) (f x : Func) (rest : List Func)
-    → checked_functions ds ns s all ≡ behind_parts (map plain_func done) (checked_functions ds ms t (map plain_func list)) → list ≡ f ∷ rest → checked_function ds ms t (plain_func f) ≡ Good (plain_func x) → done' ≡ done ++ x ∷ []
-    → ((n : ℕ) → ms' n ≡ with_known ms (plain_func f) n) → t' ≡ with_function ds t (plain_func f) → checked_functions ds ns s all ≡ behind_parts (map plain_func done') (checked_functions ds ms' t' (map plain_func rest))
-functions_more ds ns ms ms' s t t' all list done done' f x rest before is good more names sight =
-    list_more plain_func (λ y. y) (checked_functions ds ns s all) (checked_functions ds ms t (map plain_func list)) done done' x (checked_function ds ms t (plain_func f))
-    (λ y. checked_functions ds (with_known ms (plain_func f)) (with_function ds t (plain_func f)) (map plain_func rest)) (plain_func x) before (ap (λ fs. checked_functions ds ms t (map plain_func fs)) is) good refl more
-    ∙ (λ i. behind_parts (map plain_func done') (checked_functions ds (λ n. sym (names n) i) (sym sight i) (map plain_func rest)))
-
 -- one more function is noted
-pub functions_noted_more : (ds : ℕ → Option Denoted) (s t t' t2 : Scopes) (all : List Function) (list done done' : List Func) (f x : Func) (rest : List Func)
+pub functions_noted_more : (ds : ℕ → Option Callee) (s t t' t2 : Scopes) (all : List Function) (list done done' : List Func) (f x : Func) (rest : List Func)
     → noted_in_turn ds s all ≡ behind_parts (map plain_func done) (noted_in_turn ds t (map plain_func list)) → list ≡ f ∷ rest → t' ≡ with_function ds t (plain_func f) → noted_parts t' (plain_func f) ≡ Good (plain_func x)
     → done' ≡ done ++ x ∷ [] → t2 ≡ t' → noted_in_turn ds s all ≡ behind_parts (map plain_func done') (noted_in_turn ds t2 (map plain_func rest))
 functions_noted_more ds s t t' t2 all list done done' f x rest before is sight good more same =

@@ -1,42 +1,56 @@
 -- Functions one after another are those that the definition of a file types.
-use Rattle.std.proofs.Common.{◌≡◌, ℕ, refl, sym, ap, ◌∙◌, List, [], ◌∷◌, ◌++◌, append_assoc, map, Option, Some, Bool, true, false, not, ◌&&◌, cond}
-use Rattle.std.proofs.lemmas.List.{map-append}
+use Rattle.std.proofs.Common.{◌≡◌, ℕ, refl, sym, ap, ◌∙◌, subst, List, [], ◌∷◌, ◌++◌, append_assoc, map, Option, Some, Bool, true, false, not, ◌&&◌, cond, Result, Ok, Err}
+use Rattle.std.specs.Prelude.{Vec}
+use Rattle.std.specs.declared.alloc.Global.{Global}
+use Rattle.std.proofs.lemmas.List.{append-nil, map-append}
+use Rattle.c_syntax.specs.declared.program.Func.{Func}
 use Rattle.c_syntax.specs.Statements.{Declaration, Statement}
-use Rattle.c_syntax.specs.Programs.{Function, TranslationUnit}
+use Rattle.c_syntax.specs.Programs.{Function, TranslationUnit, plain_func}
 use Rattle.c_model.specs.Library.{is_library_name}
-use Rattle.c_model.specs.Checked.{Checked, Good, Bad, one_part, where_so}
+use Rattle.c_model.specs.Checked.{Checked, Good, Bad, one_part, both_parts, where_so}
 use Rattle.c_model.specs.Typing.{no_name, no_type, Scopes, name_at, is_object_type, declarable}
 use Rattle.c_model.specs.ProgramTyping.{signature, is_compatible_with_all, typed_heading, typed_parameter, with_parameter, with_parameters, typed_parameters, function_scopes, typed_body, typed_function, typed_functions, noted_body, noted_functions}
+use Rattle.c_type_rules.specs.declared.fault.TypeFault.{TypeFault}
+use Rattle.c_type_rules.specs.declared.fault.TypeFault.TheVariants.{Refused, Memory}
+use Rattle.c_type_rules.specs.Answers.{Answers, Joined, Pushed}
 use Rattle.c_type_rules.proofs.Gives.{Gives, gives_where}
-use Rattle.c_type_rules.proofs.WellExpressions.{and_true}
-use Rattle.c_typing.specs.declared.heading.Denoted.{Denoted}
-use Rattle.c_typing.specs.Functions.{denoted, known, with_known, fits, checked_heading, with_function, checked_parameters, checked_parts, checked_function, checked_functions, noted_parts, noted_in_turn}
-use Rattle.c_typing.proofs.Headings.{declared_is, known_snoc, ByFirst, none_before, one_more}
+use Rattle.c_type_rules.proofs.Least.{one_refused, one_then, both_refused}
+use Rattle.c_typing.specs.declared.heading.Callee.{Callee}
+use Rattle.c_typing.specs.Functions.{AnswersBehind, denoted, known, with_known, fits, checked_heading, with_function, checked_parameters, checked_parts, file_of, typed_file, noted_parts, noted_in_turn}
+use Rattle.c_typing.specs.Scopes.{at_file}
+use Rattle.c_typing.specs.Trees.{plain_funcs}
+use Rattle.c_typing.proofs.Headings.{declared_is, known_snoc, fits_is}
 
 -- ---- parameters
+
+object_same : (d : Declaration) → Gives (λ x. x ≡ d) (where_so (is_object_type d.ctype) (no_type d.place) (Good d))
+object_same d = gives_where (λ x. x ≡ d) (is_object_type d.ctype) _ _ (λ e. refl)
+
+declarable_same : (s : Scopes) (d : Declaration) → Gives (λ x. x ≡ d) (declarable s d)
+declarable_same s d = gives_where (λ x. x ≡ d) _ _ _ (λ e. object_same d)
 
 parameter_same : (s : Scopes) (d : Declaration) → Gives (λ x. x ≡ d) (typed_parameter s d)
 parameter_same s d = by d.named
   where
     by : (b : Bool) → Gives (λ x. x ≡ d) (cond b (declarable s d) (where_so (is_object_type d.ctype) (no_type d.place) (Good d)))
-    by true = gives_where (λ x. x ≡ d) _ _ _ (λ e. gives_where (λ x. x ≡ d) _ _ _ (λ e. refl))
-    by false = gives_where (λ x. x ≡ d) _ _ _ (λ e. refl)
+    by true = declarable_same s d
+    by false = object_same d
 
 -- parameters stay as they are
 parameters_are : (s : Scopes) (ds : List Declaration) → typed_parameters s ds ≡ one_part (checked_parameters s ds) (λ u. Good ds)
 parameters_are s [] = refl
-parameters_are s (d ∷ ds) = by (typed_parameter s d) (parameter_same s d)
+parameters_are s (d ∷ ds) = by (typed_parameter s d) (parameter_same s d) (λ t. parameters_are t ds)
   where
     in_front : (c : Checked (Unit {0})) → one_part (one_part c (λ u. Good ds)) (λ ds. Good (d ∷ ds)) ≡ one_part c (λ u. Good (d ∷ ds))
     in_front (Good u) = refl
     in_front (Bad f fs) = refl
 
-    by : (c : Checked Declaration) → Gives (λ x. x ≡ d) c
+    by : (c : Checked Declaration) → Gives (λ x. x ≡ d) c → ((t : Scopes) → typed_parameters t ds ≡ one_part (checked_parameters t ds) (λ u. Good ds))
         → one_part c (λ d. one_part (typed_parameters (with_parameter s d) ds) (λ ds. Good (d ∷ ds))) ≡ one_part (one_part c (λ d. checked_parameters (with_parameter s d) ds)) (λ u. Good (d ∷ ds))
-    by (Bad f fs) same = refl
-    by (Good x) same =
+    by (Bad f fs) same rest = refl
+    by (Good x) same rest =
         ap (λ x. one_part (typed_parameters (with_parameter s x) ds) (λ ds. Good (x ∷ ds))) same
-        ∙ ap (λ c. one_part c (λ ds. Good (d ∷ ds))) (parameters_are (with_parameter s d) ds) ∙ in_front (checked_parameters (with_parameter s d) ds)
+        ∙ ap (λ c. one_part c (λ ds. Good (d ∷ ds))) (rest (with_parameter s d)) ∙ in_front (checked_parameters (with_parameter s d) ds)
         ∙ ap (λ x. one_part (checked_parameters (with_parameter s x) ds) (λ u. Good (d ∷ ds))) (sym same)
 
 -- ---- one function
@@ -67,30 +81,101 @@ sight_is p before rest f is =
 
 -- ---- functions
 
--- a function and those behind it, by whether its heading has no fault
-module _ (f : Function) (s : Scopes) (rest rest' : Checked (List Function))
+-- what is found of functions does not depend on what else is in the file
+functions_in : (p q : TranslationUnit) → p.names ≡ q.names → p.funcs ≡ q.funcs → (before fs : List Function) → typed_functions p before fs ≡ typed_functions q before fs
+functions_in p q names funcs before [] = refl
+functions_in p q names funcs before (f ∷ fs) =
+    (λ i. both_parts (typed_function (record { names = names i; functions = map (signature (funcs i)) (before ++ f ∷ []); objects = []; innermost = 0 }) before f) (typed_functions p (before ++ f ∷ []) fs) (λ t ts. Good (t ∷ ts)))
+    ∙ ap (λ c. both_parts (typed_function (function_scopes q before f) before f) c (λ t ts. Good (t ∷ ts))) (functions_in p q names funcs (before ++ f ∷ []) fs)
+
+pub file_is : (p : TranslationUnit) → typed_functions p [] p.funcs ≡ typed_file p.names p.funcs
+file_is p = functions_in p (file_of p.names p.funcs) refl refl [] p.funcs
+
+module _ {A : Type 0}
   where
-    in_turn : (b : Bool) → (b ≡ true → rest ≡ rest') → one_part (one_part (where_so b (no_name f.place) (Good tt)) (λ u. checked_parts s f)) (λ t. one_part rest (λ ts. Good (t ∷ ts)))
-        ≡ one_part (one_part (where_so b (no_name f.place) (Good f)) (typed_parts s)) (λ t. one_part rest' (λ ts. Good (t ∷ ts)))
-    in_turn true same = ap (λ c. one_part c (λ t. one_part rest (λ ts. Good (t ∷ ts)))) (parts_are s f) ∙ ap (λ r. one_part (typed_parts s f) (λ t. one_part r (λ ts. Good (t ∷ ts)))) (same refl)
-    in_turn false same = refl
+    first_part : (d : Checked A) → both_parts d (Good []) (λ t ts. Good (t ∷ ts)) ≡ both_parts (Good []) d (λ ts t. Good (ts ++ t ∷ []))
+    first_part (Good t) = refl
+    first_part (Bad f fs) = refl
 
-functions_are : (p : TranslationUnit) (before fs : List Function) → p.funcs ≡ before ++ fs → ByFirst p.funcs before
-    → checked_functions (denoted p.funcs) (known before) (behind_functions p before) fs ≡ typed_functions p before fs
-functions_are p before [] is so_far = refl
-functions_are p before (f ∷ fs) is so_far =
-    let ds = denoted p.funcs in
-    let after : List Function → Checked (List Function) = λ fs. checked_functions ds (with_known (known before) f) (with_function ds (behind_functions p before) f) fs in
-    ap (λ b. one_part (one_part (where_so (not (is_library_name (name_at p.names f.name)) && b) (no_name f.place) (Good tt)) (λ u. checked_parts (with_function ds (behind_functions p before) f) f)) (λ t. one_part (after fs) (λ ts. Good (t ∷ ts)))) (so_far f)
-    ∙ ap (λ s. one_part (one_part (where_so (not (is_library_name (name_at p.names f.name)) && is_compatible_with_all before f) (no_name f.place) (Good tt)) (λ u. checked_parts s f)) (λ t. one_part (after fs) (λ ts. Good (t ∷ ts)))) (sight_is p before fs f is)
-    ∙ in_turn f (function_scopes p before f) (after fs) (typed_functions p (before ++ f ∷ []) fs) (not (is_library_name (name_at p.names f.name)) && is_compatible_with_all before f) (λ e.
-    (λ i. checked_functions ds (λ x. known_snoc before f x i) (sight_is p before fs f is i) fs)
-    ∙ functions_are p (before ++ f ∷ []) fs (is ∙ sym (append_assoc before (f ∷ []) fs))
-    (one_more p.funcs before f so_far (and_true (not (is_library_name (name_at p.names f.name))) (is_compatible_with_all before f) e).1))
+    in_turn : (x : Checked A) (c : Checked (List A)) (d : Checked A) → both_parts x (both_parts c d (λ ts t. Good (ts ++ t ∷ []))) (λ t ts. Good (t ∷ ts)) ≡ both_parts (both_parts x c (λ t ts. Good (t ∷ ts))) d (λ ts t. Good (ts ++ t ∷ []))
+    in_turn (Good x) (Good es) (Good e) = refl
+    in_turn (Good x) (Good es) (Bad g gs) = refl
+    in_turn (Good x) (Bad f fs) (Good e) = refl
+    in_turn (Good x) (Bad f fs) (Bad g gs) = refl
+    in_turn (Bad h hs) (Good es) (Good e) = refl
+    in_turn (Bad h hs) (Good es) (Bad g gs) = refl
+    in_turn (Bad h hs) (Bad f fs) (Good e) = refl
+    in_turn (Bad h hs) (Bad f fs) (Bad g gs) = ap (Bad h) (sym (append_assoc hs (f ∷ fs) (g ∷ gs)))
 
--- the functions of a file
-pub all_functions : (p : TranslationUnit) → checked_functions (denoted p.funcs) (known []) (behind_functions p []) p.funcs ≡ typed_functions p [] p.funcs
-all_functions p = functions_are p [] p.funcs refl (none_before p.funcs)
+functions_snoc : (p : TranslationUnit) (before fs all : List Function) (g : Function) → before ++ fs ≡ all
+    → typed_functions p before (fs ++ g ∷ []) ≡ both_parts (typed_functions p before fs) (typed_function (function_scopes p all g) all g) (λ ts t. Good (ts ++ t ∷ []))
+functions_snoc p before [] all g is =
+    ap (λ l. both_parts (typed_function (function_scopes p l g) l g) (Good []) (λ t ts. Good (t ∷ ts))) (sym (append-nil before) ∙ is)
+    ∙ first_part (typed_function (function_scopes p all g) all g)
+functions_snoc p before (f ∷ fs) all g is =
+    ap (λ c. both_parts (typed_function (function_scopes p before f) before f) c (λ t ts. Good (t ∷ ts))) (functions_snoc p (before ++ f ∷ []) fs all g (append_assoc before (f ∷ []) fs ∙ is))
+    ∙ in_turn (typed_function (function_scopes p before f) before f) (typed_functions p (before ++ f ∷ []) fs) (typed_function (function_scopes p all g) all g)
+
+-- a function whose heading is found to be this
+heading_then : (m : Checked (Unit {0})) (c : Checked Function) (h : Result (Unit {0}) TypeFault) (r : Result Func TypeFault) → Answers (λ u. tt) m h → AnswersBehind h c r → Answers plain_func (one_part m (λ u. c)) r
+heading_then m c (Ok u) r is a = one_then (λ u. c) (λ (u : Unit {0}). tt) plain_func m u r is a
+heading_then m c (Err e) r is a = subst (Answers plain_func (one_part m (λ u. c))) (sym a) (one_refused (λ u. c) (λ (u : Unit {0}). tt) plain_func m e is)
+
+-- a function behind others, as the definition has it
+function_is : (p : TranslationUnit) (before rest : List Function) (f : Function) → p.funcs ≡ before ++ f ∷ rest
+    → one_part (checked_heading (behind_functions p before) (known before) f) (λ u. checked_parts (with_function (denoted p.funcs) (behind_functions p before) f) f) ≡ typed_function (function_scopes p before f) before f
+function_is p before rest f is =
+    (λ i. one_part (where_so (not (is_library_name (name_at p.names f.name)) && fits_is p.funcs f before i) (no_name f.place) (Good tt)) (λ u. checked_parts (sight_is p before rest f is i) f))
+    ∙ by (not (is_library_name (name_at p.names f.name)) && is_compatible_with_all before f)
+  where
+    by : (b : Bool) → one_part {A = Unit {0}} (where_so b (no_name f.place) (Good tt)) (λ u. checked_parts (function_scopes p before f) f) ≡ one_part (where_so b (no_name f.place) (Good f)) (typed_parts (function_scopes p before f))
+    by true = parts_are (function_scopes p before f) f
+    by false = refl
+
+-- what is joined of functions, and one more
+joined : (whole m : Checked (List Function)) (c : Checked Function) (done done' : Result (Vec Func Global) TypeFault) (r : Result Func TypeFault) (two : Result (Vec Func Global × Func) TypeFault)
+    → whole ≡ both_parts m c (λ ts t. Good (ts ++ t ∷ [])) → Answers plain_funcs m done → Answers plain_func c r → Joined done r two → Pushed two done' → Answers plain_funcs whole done'
+joined whole m c d (Ok v) r (Ok p) is hd hr j q =
+    is ∙ ap (λ m. both_parts m c (λ ts t. Good (ts ++ t ∷ []))) (subst (Answers plain_funcs m) j.0 hd) ∙ ap (λ c. both_parts (Good (plain_funcs p.0)) c (λ ts t. Good (ts ++ t ∷ []))) (subst (Answers plain_func c) j.1 hr)
+    ∙ ap Good (sym (ap (map plain_func) q ∙ map-append plain_func p.0.items (p.1 ∷ [])))
+joined whole m c d (Err (Refused f)) r (Ok p) is hd hr j q = absurd q
+joined whole m c d (Err Memory) r (Ok p) is hd hr j q = tt
+joined whole m c d (Ok v) r (Err h) is hd hr j q = absurd q
+joined whole m c d (Err e) r (Err h) is hd hr j q =
+    subst (λ w. Answers plain_funcs w (Err e)) (sym is) (subst (λ x. Answers plain_funcs (both_parts m c (λ ts t. Good (ts ++ t ∷ []))) (Err x)) (sym q)
+    (both_refused (λ ts t. Good (ts ++ t ∷ [])) plain_funcs plain_func plain_funcs m c d r h hd hr j))
+
+module _ (p : TranslationUnit) (xs : List Func) (f : Func) (rest : List Func) (all : p.funcs ≡ map plain_func (xs ++ f ∷ rest))
+  where
+    abbrev those_before : List Function
+    those_before = map plain_func xs
+
+    in_order : p.funcs ≡ those_before ++ plain_func f ∷ map plain_func rest
+    in_order = all ∙ map-append plain_func xs (f ∷ rest)
+
+    -- what is in sight behind one more function
+    pub sight_more : (ds : ℕ → Option Callee) (s s' : Scopes) → ((x : ℕ) → ds x ≡ denoted p.funcs x) → s ≡ behind_functions p those_before → s' ≡ with_function ds s (plain_func f) → at_file s' ≡ behind_functions p (map plain_func (xs ++ f ∷ []))
+    sight_more ds s s' told is sees =
+        ap at_file (sees ∙ (λ i. with_function (λ x. told x i) (is i) (plain_func f)) ∙ sight_is p those_before (map plain_func rest) (plain_func f) in_order)
+        ∙ ap (λ fs. behind_functions p fs) (sym (map-append plain_func xs (f ∷ [])))
+
+    -- which names are declared
+    pub names_more : (ns ns' : ℕ → Option Bool) → ((x : ℕ) → ns x ≡ known those_before x) → ((x : ℕ) → ns' x ≡ with_known ns (plain_func f) x) → (x : ℕ) → ns' x ≡ known (map plain_func (xs ++ f ∷ [])) x
+    names_more ns ns' is notes x =
+        notes x ∙ (λ i. with_known (λ x. is x i) (plain_func f) x) ∙ known_snoc those_before (plain_func f) x ∙ ap (λ fs. known fs x) (sym (map-append plain_func xs (f ∷ [])))
+
+    -- what is found of one more function
+    pub functions_more : (ds : ℕ → Option Callee) (ns : ℕ → Option Bool) (s s' : Scopes) (h : Result (Unit {0}) TypeFault) (r : Result Func TypeFault) (done done' : Result (Vec Func Global) TypeFault) (two : Result (Vec Func Global × Func) TypeFault)
+        → ((x : ℕ) → ds x ≡ denoted p.funcs x) → ((x : ℕ) → ns x ≡ known those_before x) → s ≡ behind_functions p those_before → s' ≡ with_function ds s (plain_func f)
+        → Answers (λ u. tt) (checked_heading s ns (plain_func f)) h → AnswersBehind h (checked_parts s' (plain_func f)) r → Joined done r two → Pushed two done'
+        → Answers plain_funcs (typed_functions p [] those_before) done → Answers plain_funcs (typed_functions p [] (map plain_func (xs ++ f ∷ []))) done'
+    functions_more ds ns s s' h r done done' two told names is sees head parts j q so_far =
+        let here : one_part (checked_heading s ns (plain_func f)) (λ u. checked_parts s' (plain_func f)) ≡ typed_function (function_scopes p those_before (plain_func f)) those_before (plain_func f) =
+        (λ i. one_part (checked_heading (is i) (λ x. names x i) (plain_func f)) (λ u. checked_parts ((sees ∙ (λ j. with_function (λ x. told x j) (is j) (plain_func f))) i) (plain_func f)))
+        ∙ function_is p those_before (map plain_func rest) (plain_func f) in_order in
+        joined (typed_functions p [] (map plain_func (xs ++ f ∷ []))) (typed_functions p [] those_before) (typed_function (function_scopes p those_before (plain_func f)) those_before (plain_func f)) done done' r two
+        (ap (typed_functions p []) (map-append plain_func xs (f ∷ [])) ∙ functions_snoc p [] those_before those_before (plain_func f) refl) so_far
+        (subst (λ c. Answers plain_func c r) here (heading_then (checked_heading s ns (plain_func f)) (checked_parts s' (plain_func f)) h r head parts)) j q
 
 -- ---- annotations
 

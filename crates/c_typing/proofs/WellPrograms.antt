@@ -11,8 +11,8 @@ use Rattle.c_model.specs.Checked.{Good, one_part, where_so}
 use Rattle.c_model.specs.Typing.{no_name, no_type, Signature, Scopes, name_at, same_type, is_object_type, declarable}
 use Rattle.c_model.specs.ProgramTyping.{definition_of, first_of, number_or, offset_of, types_of, signature, same_types, is_compatible, is_compatible_with_all, typed_heading, typed_parameter, with_parameter, with_parameters, typed_parameters, function_scopes, typed_body, typed_function, typed_functions, typed_unit, noted_body, noted_functions, noted_unit}
 use Rattle.c_model.specs.WellTypedPrograms.{IsParameter, AreParameters, BodyTyped, FunctionTyped, FunctionsTyped, ProgramTyped}
-use Rattle.c_type_rules.proofs.Gives.{Gives, gives_of, gives_more, gives_one, gives_where}
-use Rattle.c_type_rules.proofs.WellExpressions.{and_true}
+use Rattle.c_type_rules.proofs.Gives.{Gives, gives_of, gives_more, gives_one, gives_both, gives_where}
+use Rattle.c_type_rules.proofs.WellExpressions.{and_true, not_true}
 use Rattle.c_typing.proofs.WellStatements.{IsNew, declarable_well}
 use Rattle.c_typing.proofs.WellBodies.{BodyWell, IsBody, body_well, body_noted}
 
@@ -51,16 +51,20 @@ definition_is x (f ∷ fs) = ap (cond (is_definition f && nat_eq f.name x) (Some
 
 first_is : (x : ℕ) (fs : List Function) → offset_of (first_of x fs) ≡ first_among x (map heading fs)
 first_is x [] = refl
-first_is x (f ∷ fs) = by (nat_eq f.name x)
+first_is x (f ∷ fs) = by (nat_eq f.name x) (first_is x fs)
   where
-    by : (b : Bool) → offset_of (cond b (Some f) (first_of x fs)) ≡ cond b f.place.offset (first_among x (map heading fs))
-    by true = refl
-    by false = first_is x fs
+    by : (b : Bool) → offset_of (first_of x fs) ≡ first_among x (map heading fs) → offset_of (cond b (Some f) (first_of x fs)) ≡ cond b f.place.offset (first_among x (map heading fs))
+    by true rest = refl
+    by false rest = rest
+
+-- what a declaration tells, by its definition's number and that of the first declaration
+abbrev told_by : Function → Option ℕ → ℕ → Signature
+told_by f o n = record { name = f.name; decl = number_or o n; defined = is_there o; params = types_of f.params; result = f.result }
 
 told_is : (all : List Function) (f : Function) → signature all f ≡ told (map heading all) (heading f)
 told_is all f =
-    ap (λ (o : Option ℕ). record { name = f.name; decl = number_or o (offset_of (first_of f.name all)); defined = is_there o; params = types_of f.params; result = f.result } : Signature) (definition_is f.name all)
-    ∙ ap (λ (n : ℕ). record { name = f.name; decl = number_or (definition_among f.name (map heading all)) n; defined = is_there (definition_among f.name (map heading all)); params = types_of f.params; result = f.result } : Signature) (first_is f.name all)
+    ap (λ o. told_by f o (offset_of (first_of f.name all))) (definition_is f.name all)
+    ∙ ap (told_by f (definition_among f.name (map heading all))) (first_is f.name all)
 
 all_told : (all fs : List Function) → map (signature all) fs ≡ map (told (map heading all)) (map heading fs)
 all_told all [] = refl
@@ -82,9 +86,11 @@ compatible_is (f ∷ fs) g = ap (λ b. is_compatible f g && b) (compatible_is fs
 abbrev sight : List (List ℕ) → List Heading → List Heading → Scopes
 sight names all hs = record { names = names; functions = map (told all) hs; objects = []; innermost = 0 }
 
+abbrev with_functions : List (List ℕ) → List Signature → Scopes
+with_functions names fs = record { names = names; functions = fs; objects = []; innermost = 0 }
+
 sight_is : (p : TranslationUnit) (before : List Function) (f : Function) → function_scopes p before f ≡ sight p.names (map heading p.funcs) (map heading before ++ heading f ∷ [])
-sight_is p before f =
-    ap (λ fs. record { names = p.names; functions = fs; objects = []; innermost = 0 } : Scopes) (all_told p.funcs (before ++ f ∷ []) ∙ ap (map (told (map heading p.funcs))) (map-append heading before (f ∷ [])))
+sight_is p before f = ap (with_functions p.names) (all_told p.funcs (before ++ f ∷ []) ∙ ap (map (told (map heading p.funcs))) (map-append heading before (f ∷ [])))
 
 -- ---- functions, by what holds of their bodies
 
@@ -92,6 +98,7 @@ abbrev OfBodies : Type 1
 OfBodies = Scopes → PlainType → Option Statement → Type 0
 
 record IsWell (P : OfBodies) (s : Scopes) (before : List Heading) (f : Function) : Type 0 where
+  own_name : is_library_name (name_at s.names f.name) ≡ false
   fits : compatible_with_all before (heading f) ≡ true
   params : AreParameters s f.params
   body : P (with_parameters s f.params) f.result f.body
@@ -131,7 +138,7 @@ parameter_well s d = by d.named refl
 
     by : (b : Bool) → d.named ≡ b → Gives (IsSameParameter s d) (cond b (declarable s d) (where_so (is_object_type d.ctype) (no_type d.place) (Good d)))
     by true e = gives_more (IsNew s d) (IsSameParameter s d) (declarable s d) new_one (declarable_well s d)
-    by false e = gives_where (IsSameParameter s d) (is_object_type d.ctype) _ _ (λ t. record { same = refl; well = record { new = λ h. absurd (sym e ∙ h); ctype = t } })
+    by false e = gives_where (IsSameParameter s d) (is_object_type d.ctype) _ _ (λ t. record { same = refl; well = record { new = λ h. absurd cc; ctype = t } })
 
 record AreSameParameters (s : Scopes) (ds es : List Declaration) : Type 0 where
   same : es ≡ ds
@@ -144,42 +151,42 @@ parameters_well s (d ∷ ds) =
     gives_one (AreSameParameters (with_parameter s e) ds) (AreSameParameters s (d ∷ ds)) (typed_parameters (with_parameter s e) ds) (λ ds. Good (e ∷ ds)) (parameters_well (with_parameter s e) ds) (λ es w.
     record { same = λ i. (v.same i) ∷ (w.same i); well = (v.well, w.well) }))
 
-record IsFitting (before : List Function) (f g : Function) : Type 0 where
+record IsFitting (s : Scopes) (before : List Function) (f g : Function) : Type 0 where
   same : g ≡ f
-  fits : is_compatible_with_all before g ≡ true
+  own_name : is_library_name (name_at s.names f.name) ≡ false
+  fits : is_compatible_with_all before f ≡ true
 
-heading_well : (s : Scopes) (before : List Function) (f : Function) → Gives (IsFitting before f) (typed_heading s before f)
+heading_well : (s : Scopes) (before : List Function) (f : Function) → Gives (IsFitting s before f) (typed_heading s before f)
 heading_well s before f =
-    gives_where (IsFitting before f) (not (is_library_name (name_at s.names f.name)) && is_compatible_with_all before f) _ _ (λ t.
-    record { same = refl; fits = (and_true (not (is_library_name (name_at s.names f.name))) (is_compatible_with_all before f) t).1 })
+    gives_where (IsFitting s before f) (not (is_library_name (name_at s.names f.name)) && is_compatible_with_all before f) _ _ (λ t.
+    let p = and_true (not (is_library_name (name_at s.names f.name))) (is_compatible_with_all before f) t in
+    record { same = refl; own_name = not_true (is_library_name (name_at s.names f.name)) p.0; fits = p.1 })
 
-parts_well : (s : Scopes) (before : List Heading) (f : Function) → compatible_with_all before (heading f) ≡ true
+parts_well : (s : Scopes) (before : List Heading) (f : Function) → is_library_name (name_at s.names f.name) ≡ false → compatible_with_all before (heading f) ≡ true
     → Gives (Keeps BodyWell s before f) (one_part (typed_parameters s f.params) (λ params. one_part (typed_body (with_parameters s params) f.result f.body) (λ b. Good (record f { params = params; body = b }))))
-parts_well s before f fits =
+parts_well s before f own fits =
     gives_one (AreSameParameters s f.params) (Keeps BodyWell s before f) (typed_parameters s f.params) (λ params. one_part (typed_body (with_parameters s params) f.result f.body) (λ b. Good (record f { params = params; body = b })))
     (parameters_well s f.params) (λ ps v.
     gives_one (IsBody (BodyWell (with_parameters s ps) f.result) f.body) (Keeps BodyWell s before f) (typed_body (with_parameters s ps) f.result f.body) (λ b. Good (record f { params = ps; body = b }))
     (body_well (with_parameters s ps) f.result f.body) (λ b w.
     let same : heading (record f { params = ps; body = b }) ≡ heading f = λ i. record { place = f.place; name = f.name; result = f.result; params = v.same i; defines = w.there i } in
-    record { well = record { fits = ap (compatible_with_all before) same ∙ fits; params = v.well; body = w.well }; same = same }))
+    record { well = record { own_name = own; fits = ap (compatible_with_all before) same ∙ fits; params = v.well; body = w.well }; same = same }))
 
 function_well : (s : Scopes) (before : List Function) (f : Function) → Gives (Keeps BodyWell s (map heading before) f) (typed_function s before f)
 function_well s before f =
-    gives_one (IsFitting before f) (Keeps BodyWell s (map heading before) f) (typed_heading s before f) _ (heading_well s before f) (λ g v.
-    subst (λ g. Gives (Keeps BodyWell s (map heading before) f) (one_part (typed_parameters s g.params) (λ params. one_part (typed_body (with_parameters s params) g.result g.body) (λ b. Good (record g { params = params; body = b })))))
+    gives_one (IsFitting s before f) (Keeps BodyWell s (map heading before) f) (typed_heading s before f) _ (heading_well s before f) (λ g v.
+    subst (λ (g : Function). Gives (Keeps BodyWell s (map heading before) f) (one_part (typed_parameters s g.params) (λ params. one_part (typed_body (with_parameters s params) g.result g.body) (λ b. Good (record g { params = params; body = b })))))
     (sym v.same)
-    (parts_well s (map heading before) f (sym (compatible_is before f) ∙ ap (is_compatible_with_all before) (sym v.same) ∙ v.fits)))
+    (parts_well s (map heading before) f v.own_name (sym (compatible_is before f) ∙ v.fits)))
 
 functions_well : (p : TranslationUnit) (before fs : List Function) → Gives (AllKeep BodyWell p.names (map heading p.funcs) (map heading before) fs) (typed_functions p before fs)
 functions_well p before [] = record { well = tt; same = refl }
 functions_well p before (f ∷ fs) =
     let all = map heading p.funcs in
     let hs = map heading before in
-    gives_one (Keeps BodyWell (function_scopes p before f) hs f) (AllKeep BodyWell p.names all hs (f ∷ fs)) (typed_function (function_scopes p before f) before f)
-    (λ t. one_part (typed_functions p (before ++ f ∷ []) fs) (λ ts. Good (t ∷ ts))) (function_well (function_scopes p before f) before f) (λ t v.
-    gives_one (AllKeep BodyWell p.names all (map heading (before ++ f ∷ [])) fs) (AllKeep BodyWell p.names all hs (f ∷ fs)) (typed_functions p (before ++ f ∷ []) fs) (λ ts. Good (t ∷ ts))
-    (functions_well p (before ++ f ∷ []) fs) (λ ts w.
-    keep_more BodyWell p.names all hs f t fs ts (subst (λ s. Keeps BodyWell s hs f t) (sight_is p before f) v) (subst (λ hs. AllKeep BodyWell p.names all hs fs ts) (map-append heading before (f ∷ [])) w)))
+    gives_both (Keeps BodyWell (function_scopes p before f) hs f) (AllKeep BodyWell p.names all (map heading (before ++ f ∷ [])) fs) (AllKeep BodyWell p.names all hs (f ∷ fs))
+    (typed_function (function_scopes p before f) before f) (typed_functions p (before ++ f ∷ []) fs) (λ t ts. Good (t ∷ ts)) (function_well (function_scopes p before f) before f) (functions_well p (before ++ f ∷ []) fs) (λ t ts v w.
+    keep_more BodyWell p.names all hs f t fs ts (subst (λ s. Keeps BodyWell s hs f t) (sight_is p before f) v) (subst (λ hs. AllKeep BodyWell p.names all hs fs ts) (map-append heading before (f ∷ [])) w))
 
 -- ---- annotations
 
@@ -190,7 +197,7 @@ noted_well p before f h =
     gives_more (IsBody (BodyTyped (with_parameters s f.params) f.result) f.body) (λ b. Keeps BodyTyped s (map heading before) f (record f { body = b })) (noted_body (with_parameters s f.params) f.body)
     (λ b w.
     let same : heading (record f { body = b }) ≡ heading f = λ i. record { place = f.place; name = f.name; result = f.result; params = f.params; defines = w.there i } in
-    record { well = record { fits = ap (compatible_with_all (map heading before)) same ∙ h.fits; params = h.params; body = w.well }; same = same })
+    record { well = record { own_name = h.own_name; fits = ap (compatible_with_all (map heading before)) same ∙ h.fits; params = h.params; body = w.well }; same = same })
     (body_noted (with_parameters s f.params) f.result f.body h.body)
 
 functions_noted : (p : TranslationUnit) (before fs : List Function) → AreWell BodyWell p.names (map heading p.funcs) (map heading before) fs
@@ -226,7 +233,7 @@ functions_typed : (p : TranslationUnit) (before fs : List Function) → AreWell 
 functions_typed p before [] h = tt
 functions_typed p before (f ∷ fs) h =
     let w = subst (λ s. IsWell BodyTyped s (map heading before) f) (sym (sight_is p before f)) h.0 in (
-      record { compatible = compatible_is before f ∙ w.fits; params = w.params; body = w.body },
+      record { own_name = w.own_name; compatible = compatible_is before f ∙ w.fits; params = w.params; body = w.body },
       functions_typed p (before ++ f ∷ []) fs (subst (λ hs. AreWell BodyTyped p.names (map heading p.funcs) hs fs) (sym (map-append heading before (f ∷ []))) h.1),
     )
 

@@ -1,36 +1,39 @@
 -- Functions one after another, in words of what is kept of those before: what each name denotes in the file, which names are declared
 -- so far, and what is in sight.
-use Rattle.std.specs.Prelude.{ℕ, List, [], ◌∷◌, ◌++◌, nat_eq, Option, Some, None, Bool, true, false, not, ◌&&◌, ◌||◌, cond}
+use Rattle.std.specs.Prelude.{◌≡◌, ℕ, List, [], ◌∷◌, ◌++◌, nat_eq, Option, Some, None, Bool, true, false, not, ◌&&◌, ◌||◌, cond, Result, Ok, Err}
 use Rattle.c_syntax.specs.Statements.{Declaration}
-use Rattle.c_syntax.specs.Programs.{Function}
+use Rattle.c_syntax.specs.declared.program.Func.{Func}
+use Rattle.c_syntax.specs.Programs.{Function, TranslationUnit, plain_func}
 use Rattle.c_model.specs.Meaning.{is_definition}
 use Rattle.c_model.specs.Library.{is_library_name}
 use Rattle.c_model.specs.Checked.{Checked, Good, one_part, where_so}
-use Rattle.c_model.specs.Typing.{no_name, Signature, Scopes, name_at, function_called, same_type}
-use Rattle.c_model.specs.ProgramTyping.{definition_of, first_of, types_of, same_types, typed_parameter, with_parameter, with_parameters, typed_body, noted_body}
-use Rattle.c_typing.specs.declared.heading.Denoted.{Denoted}
+use Rattle.c_model.specs.Typing.{no_name, Signature, Scopes, name_at, same_type}
+use Rattle.c_model.specs.ProgramTyping.{definition_of, first_of, types_of, same_types, typed_parameter, with_parameter, with_parameters, typed_body, typed_functions, noted_body}
+use Rattle.c_type_rules.specs.declared.fault.TypeFault.{TypeFault}
+use Rattle.c_type_rules.specs.Answers.{Answers}
+use Rattle.c_typing.specs.declared.heading.Callee.{Callee}
 
 -- ---- what names denote
 
-abbrev pub denoted_by : Option ℕ → Option Function → Option Denoted
+abbrev pub denoted_by : Option ℕ → Option Function → Option Callee
 denoted_by (Some n) o = Some (record { decl = n; defined = true })
 denoted_by None None = None
 denoted_by None (Some f) = Some (record { decl = f.place.offset; defined = false })
 
 -- the definition of a name among functions, or its first prototype
-abbrev pub denoted : List Function → ℕ → Option Denoted
+abbrev pub denoted : List Function → ℕ → Option Callee
 denoted fs x = denoted_by (definition_of x fs) (first_of x fs)
 
 -- whether a function tells more of its name than those before it
-abbrev pub tells_more : Option Denoted → Function → Bool
+abbrev pub tells_more : Option Callee → Function → Bool
 tells_more None f = true
 tells_more (Some d) f = is_definition f && not d.defined
 
-abbrev pub told : Option Denoted → Function → Option Denoted
+abbrev pub told : Option Callee → Function → Option Callee
 told o f = cond (tells_more o f) (Some (record { decl = f.place.offset; defined = is_definition f })) o
 
 -- what names denote with one more function
-abbrev pub with_told : (ℕ → Option Denoted) → Function → ℕ → Option Denoted
+abbrev pub with_told : (ℕ → Option Callee) → Function → ℕ → Option Callee
 with_told numbers f x = cond (nat_eq f.name x) (told (numbers x) f) (numbers x)
 
 -- ---- headings
@@ -48,35 +51,39 @@ known (f ∷ fs) x = cond (nat_eq f.name x) (Some (is_definition f || was_define
 abbrev pub with_known : (ℕ → Option Bool) → Function → ℕ → Option Bool
 with_known names f x = cond (nat_eq f.name x) (Some (was_defined (names x) || is_definition f)) (names x)
 
--- whether a function has the type of the first of its name
-abbrev pub fits_first : Option Signature → Function → Bool
-fits_first None f = true
-fits_first (Some g) f = same_type g.result f.result && same_types g.params (types_of f.params)
+-- whether a function has the type that its callers are told
+abbrev pub has_type : Signature → Function → Bool
+has_type g f = same_type g.result f.result && same_types g.params (types_of f.params)
+
+-- whether a function has the type of each of its name
+abbrev pub fits_types : List Signature → Function → Bool
+fits_types [] f = true
+fits_types (g ∷ gs) f = cond (nat_eq g.name f.name) (has_type g f) true && fits_types gs f
 
 -- whether a function fits those before it, by what is known of its name
 abbrev pub fits : List Signature → Option Bool → Function → Bool
 fits before None f = true
-fits before (Some defined) f = fits_first (function_called f.name before) f && not (is_definition f && defined)
+fits before (Some defined) f = fits_types before f && not (is_definition f && defined)
 
 -- a function's name, among those in sight
 abbrev pub checked_heading : Scopes → (ℕ → Option Bool) → Function → Checked (Unit {0})
 checked_heading s names f =
     where_so (not (is_library_name (name_at s.names f.name)) && fits s.functions (names f.name) f) (no_name f.place) (Good tt)
 
-abbrev pub decl_or : Option Denoted → ℕ → ℕ
+abbrev pub decl_or : Option Callee → ℕ → ℕ
 decl_or None n = n
 decl_or (Some d) n = d.decl
 
-abbrev pub is_defined : Option Denoted → Bool
+abbrev pub is_defined : Option Callee → Bool
 is_defined None = false
 is_defined (Some d) = d.defined
 
 -- what a declaration tells its callers, by what its name denotes
-abbrev pub declared : Option Denoted → Function → Signature
+abbrev pub declared : Option Callee → Function → Signature
 declared o f = record { name = f.name; decl = decl_or o f.place.offset; defined = is_defined o; params = types_of f.params; result = f.result }
 
 -- what is in sight behind a function's heading
-abbrev pub with_function : (ℕ → Option Denoted) → Scopes → Function → Scopes
+abbrev pub with_function : (ℕ → Option Callee) → Scopes → Function → Scopes
 with_function numbers s f = record s { functions = s.functions ++ declared (numbers f.name) f ∷ [] }
 
 -- ---- functions
@@ -91,20 +98,23 @@ checked_parts s f =
     one_part (checked_parameters s f.params) (λ u.
     one_part (typed_body (with_parameters s f.params) f.result f.body) (λ b. Good (record f { body = b })))
 
-abbrev pub checked_function : (ℕ → Option Denoted) → (ℕ → Option Bool) → Scopes → Function → Checked Function
-checked_function numbers names s f = one_part (checked_heading s names f) (λ u. checked_parts (with_function numbers s f) f)
+-- what is found of a function, by what is found of its heading
+abbrev pub AnswersBehind : Result (Unit {0}) TypeFault → Checked Function → Result Func TypeFault → Type 0
+AnswersBehind (Ok u) c result = Answers plain_func c result
+AnswersBehind (Err e) c result = result ≡ Err e
 
-abbrev pub checked_functions : (ℕ → Option Denoted) → (ℕ → Option Bool) → Scopes → List Function → Checked (List Function)
-checked_functions numbers names s [] = Good []
-checked_functions numbers names s (f ∷ fs) =
-    one_part (checked_function numbers names s f) (λ t.
-    one_part (checked_functions numbers (with_known names f) (with_function numbers s f) fs) (λ ts. Good (t ∷ ts)))
+-- a file with these names and functions
+abbrev pub file_of : List (List ℕ) → List Function → TranslationUnit
+file_of names fs = record { names = names; texts = []; structs = []; enums = []; typedefs = []; globals = []; funcs = fs; strays = [] }
+
+abbrev pub typed_file : List (List ℕ) → List Function → Checked (List Function)
+typed_file names fs = typed_functions (file_of names fs) [] fs
 
 -- a function that is in sight, with the names and types of its annotations
 abbrev pub noted_parts : Scopes → Function → Checked Function
 noted_parts s f = one_part (noted_body (with_parameters s f.params) f.body) (λ b. Good (record f { body = b }))
 
-abbrev pub noted_in_turn : (ℕ → Option Denoted) → Scopes → List Function → Checked (List Function)
+abbrev pub noted_in_turn : (ℕ → Option Callee) → Scopes → List Function → Checked (List Function)
 noted_in_turn numbers s [] = Good []
 noted_in_turn numbers s (f ∷ fs) =
     one_part (noted_parts (with_function numbers s f) f) (λ t. one_part (noted_in_turn numbers (with_function numbers s f) fs) (λ ts. Good (t ∷ ts)))

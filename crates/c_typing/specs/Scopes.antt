@@ -1,4 +1,5 @@
 -- What is in sight behind parts.
+use Rattle.std.specs.Prelude.{[]}
 use Rattle.c_syntax.specs.Statements.{BlockItems, NoItem, Then}
 use Rattle.c_model.specs.Typing.{Scopes, behind}
 
@@ -6,3 +7,7 @@ use Rattle.c_model.specs.Typing.{Scopes, behind}
 abbrev pub behind_items : Scopes → BlockItems → Scopes
 behind_items s NoItem = s
 behind_items s (Then i rest) = behind_items (behind s i) rest
+
+-- what is in sight where no object is
+abbrev pub at_file : Scopes → Scopes
+at_file s = record s { objects = []; innermost = 0 }

@@ -10,11 +10,11 @@ ghost use Rattle.c_type_rules.specs.Answers.{Answers};
 ghost use Rattle.c_type_rules.specs.Scopes.{plain_scopes};
 ghost use Rattle.c_typing.specs.Trees.{plain_annots, plain_chain, plain_link};
 
+use c_syntax::{Annot, Body, Link, Place, Pred, PredKind, Range, Term, TermKind, Use};
 use c_type_rules::conversion::copy_type;
 use c_type_rules::fault::{TypeFault, both, no_name, no_type, push};
 use c_type_rules::library::{library_constant, library_function};
 use c_type_rules::scope::{Scopes, function_called, name_at, object_named};
-use c_syntax::{Annot, Body, Link, Place, Pred, PredKind, Range, Term, TermKind, Use};
 use std::alloc::Global;
 
 /// A name in a term: an object, or a constant of the library.

@@ -7,15 +7,16 @@ ghost use Rattle.c_syntax.specs.Statements.{One, plain_decl, plain_init};
 ghost use Rattle.c_model.specs.Typing.{declarable, typed_declaration, typed_declarations, typed_initialiser, with_object, with_objects};
 ghost use Rattle.c_type_rules.specs.Answers.{Answers};
 ghost use Rattle.c_type_rules.specs.Scopes.{plain_scopes};
+ghost use Rattle.c_typing.specs.Scopes.{at_file};
 ghost use Rattle.c_typing.specs.Trees.{plain_decls, plain_initialiser};
 
+use c_syntax::{CType, Decl, Expr, Init, Place};
 use c_type_rules::conversion::{copy_type, is_assigned, is_object_type};
 use c_type_rules::expression::type_expr;
 use c_type_rules::fault::{TypeFault, both, no_name, no_type};
 use c_type_rules::library::is_library_name;
 use c_type_rules::operator::in_type;
 use c_type_rules::scope::{Object, Scopes, is_declared, name_at};
-use c_syntax::{CType, Decl, Expr, Init, Place};
 use std::alloc::{AllocError, Global};
 
 fn initial(init: Init) -> Expr
@@ -90,7 +91,8 @@ fn type_declaration(alloc: Global, scopes: &Scopes, d: Decl) -> Result<Decl, Typ
 
 /// Brings a declared object in sight.
 pub fn declare(scopes: &mut Scopes, d: &Decl) -> Result<(), AllocError>
-    ensures { OnOk result (plain_scopes scopes.new ≡ with_object (plain_scopes scopes.old) (plain_decl d.now)) }
+    ensures seen { OnOk result (plain_scopes scopes.new ≡ with_object (plain_scopes scopes.old) (plain_decl d.now)) }
+    ensures file { at_file (plain_scopes scopes.new) ≡ at_file (plain_scopes scopes.old) }
 {
     scopes.objects.push(Object {
         name: d.name,
@@ -108,6 +110,7 @@ pub fn type_declarations(
 ) -> Result<Vec<Decl>, TypeFault>
     ensures typed { Answers plain_decls (typed_declarations (plain_scopes scopes.old) (map plain_decl list.items)) result }
     ensures behind { IfOk result (λ ds. plain_scopes scopes.new ≡ with_objects (plain_scopes scopes.old) (plain_decls ds)) }
+    ensures file { at_file (plain_scopes scopes.new) ≡ at_file (plain_scopes scopes.old) }
 {
     let mut done = Vec::new(alloc);
     for d in list {

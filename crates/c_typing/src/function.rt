@@ -1,7 +1,6 @@
 //! Functions (C99 6.9.1).
 
-ghost use Rattle.std.specs.Prelude.{◌≡◌, ℕ, IfOk, [], map, nat_eq, option_map};
-ghost use Rattle.indexmap.specs.IndexMap.{get};
+ghost use Rattle.std.specs.Prelude.{◌≡◌, IfOk, [], map, option_map};
 ghost use Rattle.c_syntax.specs.Ctypes.{plain_type};
 ghost use Rattle.c_syntax.specs.Statements.{plain_items, plain_stmt};
 ghost use Rattle.c_syntax.specs.Programs.{plain_func};
@@ -10,18 +9,31 @@ ghost use Rattle.c_model.specs.WellTypedPrograms.{around_body};
 ghost use Rattle.c_model.specs.ProgramTyping.{typed_body};
 ghost use Rattle.c_type_rules.specs.Answers.{Answers};
 ghost use Rattle.c_type_rules.specs.Scopes.{plain_scopes};
-ghost use Rattle.c_typing.specs.Functions.{checked_function, checked_functions, checked_parts, denoted, known, with_function, with_known};
+ghost use Rattle.c_typing.specs.Functions.{AnswersBehind, checked_parts, typed_file};
+ghost use Rattle.c_typing.specs.Scopes.{at_file};
 ghost use Rattle.c_typing.specs.Trees.{plain_block, plain_funcs};
 
-use crate::heading::{Denoted, check_heading, denoted, note_name, see_function};
+use crate::heading::{check_heading, denoted, note_name, see_function};
 use crate::parameter::check_parameters;
 use crate::statement::{Around, type_items};
-use c_syntax::{CType, Func, Item, Stmt, StmtKind};
+use c_syntax::{CType, Func, Item, Name, Stmt, StmtKind};
 use c_type_rules::conversion::copy_type;
-use c_type_rules::fault::TypeFault;
-use c_type_rules::scope::{Scopes, leave, mark_here};
+use c_type_rules::fault::{TypeFault, both, push};
+use c_type_rules::scope::Scopes;
 use indexmap::IndexMap;
 use std::alloc::Global;
+
+/// What is in sight before the first function.
+pub fn file_scopes(alloc: Global, names: Vec<Name>) -> Scopes
+    ensures { plain_scopes result ≡ record { names = names.items; functions = []; objects = []; innermost = 0 } }
+{
+    Scopes {
+        names,
+        functions: Vec::new(alloc),
+        objects: Vec::new(alloc),
+        innermost: 0,
+    }
+}
 
 /// The items of a body, whose scope is the function's.
 fn type_body_items(
@@ -31,16 +43,13 @@ fn type_body_items(
     items: Vec<Item>,
 ) -> Result<Vec<Item>, TypeFault>
     ensures typed { Answers plain_block (typed_items (plain_scopes scopes.old) (around_body (plain_type ctype.now)) (plain_items items.items)) result }
-    ensures same { IfOk result (λ _. plain_scopes scopes.new ≡ plain_scopes scopes.old) }
+    ensures file { at_file (plain_scopes scopes.new) ≡ at_file (plain_scopes scopes.old) }
 {
-    let mark = mark_here(scopes);
     let around = Around {
         result: copy_type(ctype),
         loops: false,
     };
-    let items = type_items(alloc, scopes, &around, items)?;
-    leave(scopes, mark);
-    Ok(items)
+    type_items(alloc, scopes, &around, items)
 }
 
 /// A body is a block (C99 6.9.1).
@@ -51,7 +60,7 @@ fn type_body(
     body: Option<Stmt>,
 ) -> Result<Option<Stmt>, TypeFault>
     ensures typed { Answers (option_map plain_stmt) (typed_body (plain_scopes scopes.old) (plain_type ctype.now) (option_map plain_stmt body)) result }
-    ensures same { IfOk result (λ _. plain_scopes scopes.new ≡ plain_scopes scopes.old) }
+    ensures file { at_file (plain_scopes scopes.new) ≡ at_file (plain_scopes scopes.old) }
 {
     match body {
         None => Ok(None),
@@ -71,11 +80,17 @@ fn type_body(
     }
 }
 
-/// The parameters and the body of a function that is in sight.
-fn type_parts(alloc: Global, scopes: &mut Scopes, f: Func) -> Result<Func, TypeFault>
-    ensures typed { Answers plain_func (checked_parts (plain_scopes scopes.old) (plain_func f)) result }
-    ensures same { IfOk result (λ _. plain_scopes scopes.new ≡ plain_scopes scopes.old) }
+/// The parameters and the body of a function that is in sight, where its heading has no fault.
+fn type_parts(
+    alloc: Global,
+    scopes: &mut Scopes,
+    heading: Result<(), TypeFault>,
+    f: Func,
+) -> Result<Func, TypeFault>
+    ensures typed { AnswersBehind heading (checked_parts (plain_scopes scopes.old) (plain_func f)) result }
+    ensures file { at_file (plain_scopes scopes.new) ≡ at_file (plain_scopes scopes.old) }
 {
+    heading?;
     let Func {
         place,
         name,
@@ -85,10 +100,8 @@ fn type_parts(alloc: Global, scopes: &mut Scopes, f: Func) -> Result<Func, TypeF
         body,
         close,
     } = f;
-    let mark = mark_here(scopes);
     check_parameters(scopes, &params)?;
     let body = type_body(alloc, scopes, &result, body)?;
-    leave(scopes, mark);
     Ok(Func {
         place,
         name,
@@ -100,39 +113,50 @@ fn type_parts(alloc: Global, scopes: &mut Scopes, f: Func) -> Result<Func, TypeF
     })
 }
 
-/// A function behind those in sight.
+/// Ends a function: no object is in sight.
+fn end_function(scopes: &mut Scopes)
+    ensures { plain_scopes scopes.new ≡ at_file (plain_scopes scopes.old) }
+{
+    scopes.objects.clear();
+    scopes.innermost = 0;
+}
+
+/// A function that is in sight, by what its heading is found to be. No object is in sight behind it.
 fn type_function(
     alloc: Global,
     scopes: &mut Scopes,
-    numbers: &IndexMap<u32, Denoted>,
-    names: &mut IndexMap<u32, bool>,
+    heading: Result<(), TypeFault>,
     f: Func,
 ) -> Result<Func, TypeFault>
-    ensures typed { Answers plain_func (checked_function (get nat_eq numbers.now) (get nat_eq names.old) (plain_scopes scopes.old) (plain_func f)) result }
-    ensures behind { IfOk result (λ _. plain_scopes scopes.new ≡ with_function (get nat_eq numbers.now) (plain_scopes scopes.old) (plain_func f)) }
-    ensures known { IfOk result (λ _. (x : ℕ) → get nat_eq names.new x ≡ with_known (get nat_eq names.old) (plain_func f) x) }
+    ensures typed { AnswersBehind heading (checked_parts (plain_scopes scopes.old) (plain_func f)) result }
+    ensures behind { plain_scopes scopes.new ≡ at_file (plain_scopes scopes.old) }
 {
-    check_heading(scopes, names, &f)?;
-    see_function(alloc, scopes, numbers, &f)?;
-    note_name(names, &f)?;
-    type_parts(alloc, scopes, f)
+    let typed = type_parts(alloc, scopes, heading, f);
+    end_function(scopes);
+    typed
 }
 
-/// Functions, each in sight of those behind it.
+/// Functions, each in sight of those behind it, and the names of the text as they were.
 pub fn type_functions(
     alloc: Global,
-    scopes: &mut Scopes,
+    names: Vec<Name>,
     funcs: Vec<Func>,
-) -> Result<Vec<Func>, TypeFault>
-    ensures typed { Answers plain_funcs (checked_functions (denoted (map plain_func funcs.items)) (known []) (plain_scopes scopes.old) (map plain_func funcs.items)) result }
-    ensures names { IfOk result (λ _. (plain_scopes scopes.new).names ≡ (plain_scopes scopes.old).names) }
+) -> Result<(Vec<Name>, Vec<Func>), TypeFault>
+    ensures typed { Answers (λ r. plain_funcs r.1) (typed_file names.items (map plain_func funcs.items)) result }
+    ensures names { IfOk result (λ r. r.0.items ≡ names.items) }
 {
     let numbers = denoted(alloc, &funcs)?;
-    let mut names = IndexMap::new(alloc);
-    let mut done = Vec::new(alloc);
+    let mut known = IndexMap::new(alloc);
+    let mut scopes = file_scopes(alloc, names);
+    let mut done = Ok(Vec::new(alloc));
     for f in funcs {
-        let f = type_function(alloc, scopes, &numbers, &mut names, f)?;
-        done.push(f)?;
+        let heading = check_heading(&scopes, &known, &f);
+        see_function(alloc, &mut scopes, &numbers, &f)?;
+        note_name(&mut known, &f)?;
+        let f = type_function(alloc, &mut scopes, heading, f);
+        done = push(both(done, f));
     }
-    Ok(done)
+    let Scopes { names, .. } = scopes;
+    let funcs = done?;
+    Ok((names, funcs))
 }

@@ -6,29 +6,28 @@ ghost use Rattle.indexmap.specs.IndexMap.{get};
 ghost use Rattle.c_syntax.specs.Ctypes.{plain_type};
 ghost use Rattle.c_syntax.specs.Statements.{plain_decl};
 ghost use Rattle.c_syntax.specs.Programs.{plain_func};
-ghost use Rattle.c_model.specs.Typing.{function_called};
 ghost use Rattle.c_model.specs.ProgramTyping.{same_types, types_of};
 ghost use Rattle.c_type_rules.specs.Answers.{Answers};
 ghost use Rattle.c_type_rules.specs.Scopes.{plain_scopes, plain_signature};
-ghost use Rattle.c_typing.specs.Functions.{checked_heading, declared, denoted, fits, fits_first, tells_more, was_defined, with_function, with_known, with_told};
+ghost use Rattle.c_typing.specs.Functions.{checked_heading, declared, denoted, fits, fits_types, has_type, tells_more, was_defined, with_function, with_known, with_told};
 
 use c_syntax::{CType, Decl, Func};
 use c_type_rules::conversion::{copy_type, same_type};
 use c_type_rules::fault::{TypeFault, no_name};
 use c_type_rules::library::is_library_name;
-use c_type_rules::scope::{Scopes, Signature, function_called, name_at};
+use c_type_rules::scope::{Scopes, Signature, name_at};
 use indexmap::IndexMap;
 use std::alloc::{AllocError, Global};
 
 /// What a call of a name denotes: the number of its definition, or of its first prototype where the file has no definition.
 #[derive(Clone, Copy, PartialEq, Eq, Debug)]
-pub struct Denoted {
+pub struct Callee {
     pub decl: u32,
     pub defined: bool,
 }
 
 /// Whether a function tells more of its name than those before it: it is the first, or the first definition.
-fn tells_more(numbers: &IndexMap<u32, Denoted>, f: &Func) -> bool
+fn tells_more(numbers: &IndexMap<u32, Callee>, f: &Func) -> bool
     ensures { result ≡ tells_more (get nat_eq numbers.now f.now.name) (plain_func f.now) }
 {
     match numbers.get(&f.name) {
@@ -38,11 +37,11 @@ fn tells_more(numbers: &IndexMap<u32, Denoted>, f: &Func) -> bool
 }
 
 /// Keeps what a function tells of its name.
-fn tell(numbers: &mut IndexMap<u32, Denoted>, f: &Func) -> Result<(), AllocError>
+fn tell(numbers: &mut IndexMap<u32, Callee>, f: &Func) -> Result<(), AllocError>
     ensures { OnOk result ((x : ℕ) → get nat_eq numbers.new x ≡ with_told (get nat_eq numbers.old) (plain_func f.now) x) }
 {
     if tells_more(numbers, f) {
-        let denoted = Denoted {
+        let denoted = Callee {
             decl: f.place.offset,
             defined: f.body.is_some(),
         };
@@ -52,7 +51,7 @@ fn tell(numbers: &mut IndexMap<u32, Denoted>, f: &Func) -> Result<(), AllocError
 }
 
 /// What each name of a function denotes.
-pub fn denoted(alloc: Global, funcs: &[Func]) -> Result<IndexMap<u32, Denoted>, AllocError>
+pub fn denoted(alloc: Global, funcs: &[Func]) -> Result<IndexMap<u32, Callee>, AllocError>
     ensures { IfOk result (λ m. (x : ℕ) → get nat_eq m x ≡ denoted (map plain_func funcs.now) x) }
 {
     let mut numbers = IndexMap::new(alloc);
@@ -81,14 +80,23 @@ fn same_types(types: &[CType], params: &[Decl]) -> bool
     right.is_empty()
 }
 
-/// Whether a function has the type of the first that is declared under its name (C99 6.7 p4).
-fn fits_first(before: &[Signature], f: &Func) -> bool
-    ensures { result ≡ fits_first (function_called f.now.name (map plain_signature before.now)) (plain_func f.now) }
+/// Whether a function has the type that its callers are told (C99 6.7.5.3 p15).
+fn has_type(g: &Signature, f: &Func) -> bool
+    ensures { result ≡ has_type (plain_signature g.now) (plain_func f.now) }
 {
-    match function_called(before, f.name) {
-        None => true,
-        Some(g) => same_type(&g.result, &f.result) && same_types(&g.params, &f.params),
+    same_type(&g.result, &f.result) && same_types(&g.params, &f.params)
+}
+
+/// Whether a function has the type of each that is declared under its name (C99 6.7 p4).
+fn fits_types(before: &[Signature], f: &Func) -> bool
+    ensures { result ≡ fits_types (map plain_signature before.now) (plain_func f.now) }
+{
+    for g in before {
+        if g.name == f.name && !has_type(g, f) {
+            return false;
+        }
     }
+    true
 }
 
 /// Whether a function fits those that are declared before it: it has their type, and is defined once (C99 6.7 p4, 6.9 p5).
@@ -97,7 +105,7 @@ fn fits(before: &[Signature], names: &IndexMap<u32, bool>, f: &Func) -> bool
 {
     match names.get(&f.name) {
         None => true,
-        Some(defined) => fits_first(before, f) && !(f.body.is_some() && *defined),
+        Some(defined) => fits_types(before, f) && !(f.body.is_some() && *defined),
     }
 }
 
@@ -152,14 +160,14 @@ fn types_of(alloc: Global, params: &[Decl]) -> Result<Vec<CType>, AllocError>
 /// What a function tells its callers.
 fn signature(
     alloc: Global,
-    numbers: &IndexMap<u32, Denoted>,
+    numbers: &IndexMap<u32, Callee>,
     f: &Func,
 ) -> Result<Signature, AllocError>
     ensures { IfOk result (λ s. plain_signature s ≡ declared (get nat_eq numbers.now f.now.name) (plain_func f.now)) }
 {
     let denoted = match numbers.get(&f.name) {
         Some(d) => *d,
-        None => Denoted {
+        None => Callee {
             decl: f.place.offset,
             defined: false,
         },
@@ -177,7 +185,7 @@ fn signature(
 pub fn see_function(
     alloc: Global,
     scopes: &mut Scopes,
-    numbers: &IndexMap<u32, Denoted>,
+    numbers: &IndexMap<u32, Callee>,
     f: &Func,
 ) -> Result<(), AllocError>
     ensures { OnOk result (plain_scopes scopes.new ≡ with_function (get nat_eq numbers.now) (plain_scopes scopes.old) (plain_func f.now)) }

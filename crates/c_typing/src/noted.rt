@@ -13,9 +13,9 @@ ghost use Rattle.c_typing.specs.Trees.{plain_block, plain_else_part, plain_for_f
 
 use crate::annotation::type_clauses;
 use crate::declaration::declare_all;
+use crate::function::file_scopes;
 use crate::heading::{denoted, see_function};
 use crate::parameter::see_parameters;
-use crate::program::file_scopes;
 use c_syntax::{Func, Item, Program, Stmt, StmtKind};
 use c_type_rules::fault::TypeFault;
 use c_type_rules::scope::{Scopes, enter, leave, mark_here};
@@ -259,6 +259,7 @@ fn note_functions(
     funcs: Vec<Func>,
 ) -> Result<Vec<Func>, TypeFault>
     ensures noted { Answers plain_funcs (noted_in_turn (denoted (map plain_func funcs.items)) (plain_scopes scopes.old) (map plain_func funcs.items)) result }
+    ensures names { IfOk result (λ _. (plain_scopes scopes.new).names ≡ (plain_scopes scopes.old).names) }
 {
     let numbers = denoted(alloc, &funcs)?;
     let mut done = Vec::new(alloc);

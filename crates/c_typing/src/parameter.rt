@@ -6,6 +6,7 @@ ghost use Rattle.c_model.specs.ProgramTyping.{typed_parameter, with_parameter, w
 ghost use Rattle.c_type_rules.specs.Answers.{Answers};
 ghost use Rattle.c_type_rules.specs.Scopes.{plain_scopes};
 ghost use Rattle.c_typing.specs.Functions.{checked_parameters};
+ghost use Rattle.c_typing.specs.Scopes.{at_file};
 
 use crate::declaration::{declarable, declare};
 use c_syntax::Decl;
@@ -29,7 +30,8 @@ fn check_parameter(scopes: &Scopes, d: &Decl) -> Result<(), TypeFault>
 
 /// Brings a parameter in sight, where it has a name.
 fn see_parameter(scopes: &mut Scopes, d: &Decl) -> Result<(), AllocError>
-    ensures { OnOk result (plain_scopes scopes.new ≡ with_parameter (plain_scopes scopes.old) (plain_decl d.now)) }
+    ensures seen { OnOk result (plain_scopes scopes.new ≡ with_parameter (plain_scopes scopes.old) (plain_decl d.now)) }
+    ensures file { at_file (plain_scopes scopes.new) ≡ at_file (plain_scopes scopes.old) }
 {
     if d.named { declare(scopes, d) } else { Ok(()) }
 }
@@ -38,6 +40,7 @@ fn see_parameter(scopes: &mut Scopes, d: &Decl) -> Result<(), AllocError>
 pub fn check_parameters(scopes: &mut Scopes, params: &[Decl]) -> Result<(), TypeFault>
     ensures checked { Answers (λ _. tt) (checked_parameters (plain_scopes scopes.old) (map plain_decl params.now)) result }
     ensures behind { OnOk result (plain_scopes scopes.new ≡ with_parameters (plain_scopes scopes.old) (map plain_decl params.now)) }
+    ensures file { at_file (plain_scopes scopes.new) ≡ at_file (plain_scopes scopes.old) }
 {
     let mut rest = params;
     'turn: while let [d, after @ ..] = rest {

@@ -1,32 +1,19 @@
 //! Whole texts (C99 6.9).
 
-ghost use Rattle.std.specs.Prelude.{◌≡◌, [], map, ◌&&◌, option_map};
+ghost use Rattle.std.specs.Prelude.{◌≡◌, map, ◌&&◌, option_map};
 ghost use Rattle.c_syntax.specs.Ctypes.{int_type};
 ghost use Rattle.c_syntax.specs.Programs.{plain_func, plain_program};
 ghost use Rattle.c_model.specs.Typing.{same_type};
 ghost use Rattle.c_model.specs.ProgramTyping.{has_no_parameters, main_fault, typed_unit};
 ghost use Rattle.c_type_rules.specs.Answers.{Answers, plain_fault};
-ghost use Rattle.c_type_rules.specs.Scopes.{plain_scopes};
 ghost use Rattle.c_typing.specs.Answers.{AnswersProgram};
 
 use crate::checked::{ProgramFault, Typed};
 use crate::function::type_functions;
 use c_syntax::{CInt, CType, Func, Name, Place, Program};
 use c_type_rules::fault::{Fault, TypeFault};
-use c_type_rules::scope::{Scopes, name_at};
+use c_type_rules::scope::name_at;
 use std::alloc::Global;
-
-/// What is in sight before the first function.
-pub fn file_scopes(alloc: Global, names: Vec<Name>) -> Scopes
-    ensures { plain_scopes result ≡ record { names = names.items; functions = []; objects = []; innermost = 0 } }
-{
-    Scopes {
-        names,
-        functions: Vec::new(alloc),
-        objects: Vec::new(alloc),
-        innermost: 0,
-    }
-}
 
 /// Names and types of a text.
 fn type_unit(alloc: Global, program: Program) -> Result<Program, TypeFault>
@@ -42,9 +29,7 @@ fn type_unit(alloc: Global, program: Program) -> Result<Program, TypeFault>
         funcs,
         strays,
     } = program;
-    let mut scopes = file_scopes(alloc, names);
-    let funcs = type_functions(alloc, &mut scopes, funcs)?;
-    let Scopes { names, .. } = scopes;
+    let (names, funcs) = type_functions(alloc, names, funcs)?;
     Ok(Program {
         names,
         texts,

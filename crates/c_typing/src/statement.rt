@@ -8,16 +8,16 @@ ghost use Rattle.c_model.specs.Checked.{Good, where_so};
 ghost use Rattle.c_model.specs.Typing.{behind, behind_first, condition, in_loop, inner, no_type, returned, typed, typed_condition, typed_else, typed_first, typed_item, typed_items, typed_maybe, typed_statement};
 ghost use Rattle.c_type_rules.specs.Answers.{Answers};
 ghost use Rattle.c_type_rules.specs.Scopes.{plain_scopes};
-ghost use Rattle.c_typing.specs.Scopes.{behind_items};
+ghost use Rattle.c_typing.specs.Scopes.{at_file, behind_items};
 ghost use Rattle.c_typing.specs.Trees.{plain_around, plain_block, plain_else_part, plain_for_first};
 
-use c_type_rules::conversion::{copy_type, is_assigned, is_scalar};
 use crate::declaration::type_declarations;
+use c_syntax::{CType, Expr, Item, Place, Stmt, StmtKind};
+use c_type_rules::conversion::{copy_type, is_assigned, is_scalar};
 use c_type_rules::expression::type_expr;
 use c_type_rules::fault::{TypeFault, no_type};
 use c_type_rules::operator::in_type;
 use c_type_rules::scope::{Scopes, enter, leave};
-use c_syntax::{CType, Expr, Item, Place, Stmt, StmtKind};
 use std::alloc::Global;
 
 /// Where a statement stands: what its function gives, and whether it is inside a loop.
@@ -133,6 +133,7 @@ pub fn type_statement(
 ) -> Result<Stmt, TypeFault>
     ensures typed { Answers plain_stmt (typed_statement (plain_scopes scopes.old) (plain_around around.now) (plain_stmt s)) result }
     ensures same { IfOk result (λ _. plain_scopes scopes.new ≡ plain_scopes scopes.old) }
+    ensures file { at_file (plain_scopes scopes.new) ≡ at_file (plain_scopes scopes.old) }
 {
     let Stmt { place, kind } = s;
     match kind {
@@ -216,6 +217,7 @@ fn type_else(
 ) -> Result<Option<Box<Stmt>>, TypeFault>
     ensures typed { Answers plain_else_part (typed_else (plain_scopes scopes.old) (plain_around around.now) (plain_else_part b)) result }
     ensures same { IfOk result (λ _. plain_scopes scopes.new ≡ plain_scopes scopes.old) }
+    ensures file { at_file (plain_scopes scopes.new) ≡ at_file (plain_scopes scopes.old) }
 {
     match b {
         None => Ok(None),
@@ -236,6 +238,7 @@ fn type_first(
 ) -> Result<Option<Box<Item>>, TypeFault>
     ensures typed { Answers plain_for_first (typed_first (plain_scopes scopes.old) (plain_around around.now) (plain_for_first first)) result }
     ensures behind { IfOk result (λ i. plain_scopes scopes.new ≡ behind_first (plain_scopes scopes.old) (plain_for_first i)) }
+    ensures file { at_file (plain_scopes scopes.new) ≡ at_file (plain_scopes scopes.old) }
 {
     match first {
         None => Ok(None),
@@ -256,6 +259,7 @@ fn type_item(
 ) -> Result<Item, TypeFault>
     ensures typed { Answers plain_item (typed_item (plain_scopes scopes.old) (plain_around around.now) (plain_item item)) result }
     ensures behind { IfOk result (λ i. plain_scopes scopes.new ≡ behind (plain_scopes scopes.old) (plain_item i)) }
+    ensures file { at_file (plain_scopes scopes.new) ≡ at_file (plain_scopes scopes.old) }
 {
     match item {
         Item::Declare(list) => {
@@ -280,6 +284,7 @@ pub fn type_items(
 ) -> Result<Vec<Item>, TypeFault>
     ensures typed { Answers plain_block (typed_items (plain_scopes scopes.old) (plain_around around.now) (plain_items items.items)) result }
     ensures behind { IfOk result (λ v. plain_scopes scopes.new ≡ behind_items (plain_scopes scopes.old) (plain_block v)) }
+    ensures file { at_file (plain_scopes scopes.new) ≡ at_file (plain_scopes scopes.old) }
 {
     let mut done = Vec::new(alloc);
     for item in items {
@@ -299,6 +304,7 @@ fn type_block(
 ) -> Result<Vec<Item>, TypeFault>
     ensures typed { Answers plain_block (typed_items (inner (plain_scopes scopes.old)) (plain_around around.now) (plain_items items.items)) result }
     ensures same { IfOk result (λ _. plain_scopes scopes.new ≡ plain_scopes scopes.old) }
+    ensures file { at_file (plain_scopes scopes.new) ≡ at_file (plain_scopes scopes.old) }
 {
     let mark = enter(scopes);
     let items = type_items(alloc, scopes, around, items)?;

@@ -1,4 +1,4 @@
-use Rattle.std.proofs.Common.{◌≡◌, rules, Err, ap, arith, []}
+use Rattle.std.proofs.Common.{◌≡◌, ◌∙◌, rules, Err, ap, arith, []}
 use Rattle.std.proofs.lemmas.List.{nil_from_length}
 use Rattle.c_syntax.specs.Statements.{plain_items}
 use Rattle.c_model.specs.Typing.{typed_items}
@@ -19,6 +19,7 @@ type_items-loop-item-preserved t c =
     let u' = plain_scopes c.type_item.new.scopes in (
       block_more s u u' (plain_around c.args.around.now) c.loop-item.done.items c.push.new.self.items c.in_ok-item.item c.in_ok-item.ensures.behind c.in_ok-push.ensures.items (plain_items c.args.items.items) c.loop-item.item-iterator.rest.items c.in-Some.item c.next.new.self.rest.items c.loop-item.invariant.0 c.in-Some.ensures.steps.0 c.in_ok-item.ensures.typed,
       sight_more s u u' c.loop-item.done.items c.push.new.self.items c.in_ok-item.item c.loop-item.invariant.1 c.in_ok-item.ensures.behind c.in_ok-push.ensures.items,
+      c.type_item.ensures.file ∙ c.loop-item.invariant.2,
     )
 
 pub type_items-returns-clause-typed : goal.type_items-returns-clause-typed
