@@ -296,8 +296,8 @@ module _ (w : Setting) (new slots : List Slot) (regs : List BlockValue) (old s :
         ∙ ap (up_to (length old.store)) (h.live ∙ ap (λ l. l ++ live_in w.outside) (live_of-append new slots) ∙ append_assoc (live_of new) (live_of slots) (live_in w.outside))
         ∙ up_to-behind (length old.store) (live_of new) (live_of slots ++ live_in w.outside) (above_of (length old.store) new from)
         ∙ up_to-all (length old.store) (live_of slots ++ live_in w.outside)
-          (all_up_to-append (length old.store) (live_of slots) (live_in w.outside) (up_to_of (length w.outside) (length old.store) slots stacked)
-          (all_up_to-more (length w.outside) (length old.store) (live_in w.outside) (stacked_base (length w.outside) (length old.store) slots stacked) (live-numbered w.outside)));
+        (all_up_to-append (length old.store) (live_of slots) (live_in w.outside) (up_to_of (length w.outside) (length old.store) slots stacked)
+        (all_up_to-more (length w.outside) (length old.store) (live_in w.outside) (stacked_base (length w.outside) (length old.store) slots stacked) (live-numbered w.outside)));
     outside = λ j lt. get-killed (length old.store) s.store j (omega (arith, lt, stacked_base (length w.outside) (length old.store) slots stacked)) ∙ h.outside j lt;
     stacked = subst (λ i. Stacked (length w.outside) i slots) (sym (length-killed (length old.store) s.store)) (stacked_more (length w.outside) (length old.store) (length s.store) slots longer stacked);
     apart = apart_behind new slots h.apart;

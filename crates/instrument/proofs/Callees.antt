@@ -139,9 +139,9 @@ module _ (p : TranslationUnit) (q : IsProgram p) (numbers : FunctionsHaveNumbers
         by (Some n) e false l =
             let d = (defined p [] p.funcs f.name n 0 i.function q.typed q.numbered first e).0 in
             let number : f.decl ≡ n =
-                c.decl ∙ ap (λ (g : Signature). g.decl) callee_is
-                ∙ ap (λ x. number_or (definition_of x p.funcs) (offset_of (first_of x p.funcs))) i.name
-                ∙ ap (λ o. number_or o (offset_of (first_of f.name p.funcs))) e in
+            c.decl ∙ ap (λ (g : Signature). g.decl) callee_is
+            ∙ ap (λ x. number_or (definition_of x p.funcs) (offset_of (first_of x p.funcs))) i.name
+            ∙ ap (λ o. number_or o (offset_of (first_of f.name p.funcs))) e in
             let found : definition_at f.decl p.funcs ≡ Some d.definition = ap (λ x. definition_at x p.funcs) number ∙ d.found in
             IsFunction d.definition l found
             (is_picked p (has_number f.decl) main p.funcs d.definition (parts_of p q numbers) (sym (definition_is f.decl p.funcs) ∙ found) 0)

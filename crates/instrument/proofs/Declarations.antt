@@ -1,12 +1,9 @@
 -- Declarations behind one another: their variables, and the births of their blocks.
 use Rattle.std.proofs.Common.{◌≡◌, ℕ, zero, suc, ◌+◌, ◌<◌, ◌≤◌, List, [], ◌∷◌, ◌++◌, length, drop, map, refl, sym, ap, ◌∙◌, arith, append_assoc}
 use Rattle.std.proofs.lemmas.List.{length-map, length-append, map-append, append-nil}
-use Rattle.c_syntax.specs.Ctypes.{plain_type}
-use Rattle.c_syntax.specs.declared.statement.Decl.{Decl}
-use Rattle.c_syntax.specs.Statements.{Declaration, BlockItem, Declare, Run, Asserts, BlockItems, Then, plain_decl}
+use Rattle.c_syntax.specs.Statements.{Declaration, BlockItem, Declare, Run, Asserts, BlockItems, Then}
 use Rattle.c_model.specs.Meaning.{declared_in}
 use Rattle.c_model.specs.Formed.{number_of}
-use Rattle.mon_syntax.specs.declared.tree.MonType.{MonType}
 use Rattle.mon_syntax.specs.declared.tree.MonType.TheVariants.{Ptr}
 use Rattle.mon_syntax.specs.declared.tree.Register.{Register}
 use Rattle.mon_syntax.specs.Trees as mon
@@ -16,7 +13,7 @@ use Rattle.instrument.specs.Expressions.{value_type, before}
 use Rattle.instrument.specs.Growth.{Grows}
 use Rattle.instrument.specs.Options.{declared_by}
 use Rattle.instrument.specs.Translation.{birth, births, death, deaths, own_name, pointer_name, pointer_types, pointers_from, register_name, value_types, values_from, with_born}
-use Rattle.instrument.proofs.Sequences.{before_assoc, grown}
+use Rattle.instrument.proofs.Sequences.{grown}
 
 -- ---- births
 
@@ -106,6 +103,7 @@ module _ (texts : List (List ℕ)) where
     types = types;
     registers = ap (map plain_register) registers ∙ map-append plain_register old.registers.items (r ∷ []) ∙ ap (λ x. map plain_register old.registers.items ++ x ∷ []) is;
   }
+
 -- ---- pointers to blocks
 
 types_left : (ds : List Declaration) (k : ℕ) → k < length ds → pointer_types (drop k ds) ≡ Ptr ∷ pointer_types (drop (k + 1) ds)
@@ -146,8 +144,8 @@ points_step count k old mid now r lt numbers types registers is h = record {
   registers = λ ds long.
       let next : suc (count + k) ≡ count + (k + 1) = omega arith in
       grown (map plain_register mid.registers.items) (record { kind = Ptr; name = pointer_name (count + k) } ∷ []) (pointers_from (count + (k + 1)) (drop (k + 1) ds))
-          (pointers_left ds k (count + k) (omega (arith, lt, long)) ∙ ap (λ n. record { kind = Ptr; name = pointer_name (count + k) } ∷ pointers_from n (drop (k + 1) ds)) next)
-          (ap (map plain_register) registers ∙ map-append plain_register mid.registers.items (r ∷ []) ∙ ap (λ x. map plain_register mid.registers.items ++ x ∷ []) is) (h.registers ds long);
+      (pointers_left ds k (count + k) (omega (arith, lt, long)) ∙ ap (λ n. record { kind = Ptr; name = pointer_name (count + k) } ∷ pointers_from n (drop (k + 1) ds)) next)
+      (ap (map plain_register) registers ∙ map-append plain_register mid.registers.items (r ∷ []) ∙ ap (λ x. map plain_register mid.registers.items ++ x ∷ []) is) (h.registers ds long);
 }
 
 pub points_types : (count k : ℕ) (old now : Variables) (ds : List Declaration) → count ≤ k → length ds ≡ count → Pointers count k old now → now.types.items ≡ old.types.items ++ pointer_types ds

@@ -1,6 +1,6 @@
 -- The functions of a program behind one another, and the body of one.
-use Rattle.std.proofs.Common.{◌≡◌, ℕ, suc, ◌+◌, ◌<◌, ◌^◌, Bool, true, false, if◌then◌else◌, List, [], ◌∷◌, ◌++◌, length, drop, map, get_or, Option, Some, None, option_map, refl, sym, ap, ◌∙◌, arith, append_assoc}
-use Rattle.std.proofs.lemmas.List.{append-nil, length-append, length-map, map-append}
+use Rattle.std.proofs.Common.{◌≡◌, ℕ, suc, ◌+◌, ◌<◌, Bool, true, false, if◌then◌else◌, List, [], ◌∷◌, ◌++◌, length, drop, map, get_or, Option, Some, None, option_map, refl, sym, ap, ◌∙◌, arith, append_assoc}
+use Rattle.std.proofs.lemmas.List.{length-append, length-map}
 use Rattle.c_syntax.specs.declared.program.Func.{Func}
 use Rattle.c_syntax.specs.declared.statement.Stmt.{Stmt}
 use Rattle.c_syntax.specs.Programs.{Function, TranslationUnit, plain_func}
@@ -9,8 +9,7 @@ use Rattle.c_model.specs.Meaning.{is_definition}
 use Rattle.c_model.specs.Library.{is_there}
 use Rattle.mon_syntax.specs.declared.tree.MonFunc.{MonFunc}
 use Rattle.mon_syntax.specs.declared.tree.MonType.{MonType}
-use Rattle.mon_syntax.specs.Trees.{MonFunction, MonStatements, plain_func as plain_monitored_func}
-use Rattle.instrument.specs.Limits.{FunctionHasNumbers, FunctionsHaveNumbers}
+use Rattle.mon_syntax.specs.Trees.{MonFunction, plain_func as plain_monitored_func}
 use Rattle.instrument.specs.Options.{statement_of}
 use Rattle.instrument.specs.Translation.{body_part, function_of, functions_from, with_born}
 use Rattle.instrument.proofs.Sequences.{left_at}

@@ -104,7 +104,6 @@ module _ (rs a b : List MonType) where
 -- ---- expressions
 
 module _ (w : Setting) (n : ℕ) (slots : List Slot) (scopes : Scopes) (sight : AreInSight slots scopes.objects) (now : State) (target : Target) (ready : Ready now.store slots scopes.objects) where
-
   -- the translation of an expression follows it, behind registers of these types
   abbrev pub Followed : Expression → CInt → List MonType → List BlockValue → Type 0
   Followed e k rs regs = Evaluates k now target (eval_with e w.call now) regs (length rs) (length (rs ++ temporaries e)) (runs w n target (setup w.numbers rs e) regs) (value w.numbers rs e)

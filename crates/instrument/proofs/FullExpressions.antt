@@ -185,7 +185,7 @@ module _ (p : TranslationUnit) (w : Setting) (n : ℕ) (h : Here) (scopes : Scop
       let to_int : to ≡ Int k = sym q.1 ∙ int in
       let from = cast_int to v k to_int q.2 in
       let source : on_outcome (on_outcome (on_outcome (evals_with es w.call s) (λ vs. w.call at2 f vs)) (λ x. give (converted to x))) tail ≡ on_outcome (on_outcome (evals_with es w.call s) (λ vs. w.call at2 f vs)) (λ x. tail (converted to x)) =
-          handed_on (on_outcome (evals_with es w.call s) (λ vs. w.call at2 f vs)) (λ x. give (converted to x)) tail in
+      handed_on (on_outcome (evals_with es w.call s) (λ vs. w.call at2 f vs)) (λ x. give (converted to x)) tail in
       subst (λ r. Follows w h on s r (runs w n t (before (called p w.numbers rs (Some (length (rs ++ arguments_temporaries es))) f es) code) regs)) (sym source)
       (value_called at2 v from.int f es (λ x. tail (converted to x)) code from.is pure q.0.0 q.0.1 l enough (λ z state there o after fit same re be la has.
       subst (λ x. Follows w h on state (tail (converted x (Integer z)) state) (runs w n there code after)) (sym to_int)

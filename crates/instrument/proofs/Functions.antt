@@ -149,10 +149,11 @@ arguments_bound w front rest [] (z ∷ zs) h f = absurd f
 arguments_bound w front rest (d ∷ ds) [] h f = absurd f
 arguments_bound w front rest (d ∷ ds) (z ∷ zs) h f =
     let more = front ++ Whole z ∷ [] in
-    let long : length more ≡ suc (length front) = length-append front (Whole z ∷ []) ∙ omega arith in
-    (f.0,
-    ap (slice_get (front ++ (wholes (z ∷ zs) ++ rest))) h.0 ∙ get-end front (wholes zs ++ rest) (Whole z),
-    subst (λ l. Bound w l ds zs) (append_assoc front (Whole z ∷ []) (wholes zs ++ rest)) (arguments_bound w more rest ds zs (subst (λ i. InOrder w.numbers i ds) (sym long) h.1) f.1))
+    let long : length more ≡ suc (length front) = length-append front (Whole z ∷ []) ∙ omega arith in (
+      f.0,
+      ap (slice_get (front ++ (wholes (z ∷ zs) ++ rest))) h.0 ∙ get-end front (wholes zs ++ rest) (Whole z),
+      subst (λ l. Bound w l ds zs) (append_assoc front (Whole z ∷ []) (wholes zs ++ rest)) (arguments_bound w more rest ds zs (subst (λ i. InOrder w.numbers i ds) (sym long) h.1) f.1),
+    )
 
 fit_long : (ks : List CInt) (zs : List ℤ) → AllFit ks zs → length zs ≡ length ks
 fit_long [] [] h = refl

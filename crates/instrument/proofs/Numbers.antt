@@ -114,8 +114,8 @@ placed front (d ∷ ds) low high less h =
     let whole : front ++ n ∷ [] ++ numbers_in ds ≡ front ++ (n ∷ numbers_in ds) = append_assoc front (n ∷ []) (numbers_in ds) in
     let long : length (front ++ n ∷ []) ≡ suc (length front) = length-end front n in
     let rest : ArePlaced (front ++ (n ∷ numbers_in ds)) (suc (length front)) ds =
-        subst (λ j. ArePlaced (front ++ (n ∷ numbers_in ds)) j ds) long
-        (subst (λ l. ArePlaced l (length (front ++ n ∷ [])) ds) whole (placed (front ++ n ∷ []) ds (suc n) high (less_end (suc n) front n (omega arith) (less_more n (suc n) front (omega arith) below)) h.1)) in
+    subst (λ j. ArePlaced (front ++ (n ∷ numbers_in ds)) j ds) long
+    (subst (λ l. ArePlaced l (length (front ++ n ∷ [])) ds) whole (placed (front ++ n ∷ []) ds (suc n) high (less_end (suc n) front n (omega arith) (less_more n (suc n) front (omega arith) below)) h.1)) in
     record {
       listed = (ap (slice_get (front ++ (n ∷ numbers_in ds))) (place_is front (numbers_in ds) n below) ∙ get_place front (numbers_in ds) n, rest.listed);
       in_order = (place_is front (numbers_in ds) n below, rest.in_order);
@@ -187,9 +187,10 @@ pub all_can_be_born : (numbers : List ℕ) (ds : List Declaration) (low high : �
 all_can_be_born numbers [] low high living b h o l = tt
 all_can_be_born numbers (d ∷ ds) low high living b h o l =
     let n = number_of d in
-    let le = in_bounds (suc n) high (numbers_in ds) b.1 in
-    (record { object = o.0; listed = l.0; new = outside_absent low high n living b.0 (omega (arith, le)) h },
-    all_can_be_born numbers ds (suc n) high (n ∷ living) b.1 (Under (omega arith), all_narrower low (suc n) high high living (omega (arith, b.0)) (omega arith) h) o.1 l.1)
+    let le = in_bounds (suc n) high (numbers_in ds) b.1 in (
+      record { object = o.0; listed = l.0; new = outside_absent low high n living b.0 (omega (arith, le)) h },
+      all_can_be_born numbers ds (suc n) high (n ∷ living) b.1 (Under (omega arith), all_narrower low (suc n) high high living (omega (arith, b.0)) (omega arith) h) o.1 l.1,
+    )
 
 -- the declarations of a block are some of those in its items
 own_between : (is : BlockItems) (low high : ℕ) → Between low (numbers_in (declared_in_items is)) high → Between low (numbers_in (declared_in is)) high
@@ -326,22 +327,25 @@ module _ (numbers : List ℕ) where
     can_declare (Empty at) s r low high living q b o l = tt
     can_declare (Eval at e) s r low high living q b o l = tt
     can_declare (Block at is) s r low high living q b o l =
-        let own = declared_in is in
-        (all_can_be_born numbers own low high living (own_between is low high b) o (items_objects (inner s) r is q) (own_listed numbers is l),
-        items_can_declare is (inner s) r low high (with_numbers own living) q b (born_live low high own own living (λ x i. i) (outside_live low high own living o)) l)
+        let own = declared_in is in (
+          all_can_be_born numbers own low high living (own_between is low high b) o (items_objects (inner s) r is q) (own_listed numbers is l),
+          items_can_declare is (inner s) r low high (with_numbers own living) q b (born_live low high own own living (λ x i. i) (outside_live low high own living o)) l,
+        )
     can_declare (If at e x y) s r low high living q b o l =
-        let p = parted_in low high (declared_within x) (declared_in_else y) b in
-        (can_declare x s r low p.middle living q.1 p.front (all_narrower low low high p.middle living (omega arith) (in_bounds p.middle high (numbers_in (declared_in_else y)) p.back) o) (listed_front numbers (declared_within x) (declared_in_else y) l),
-        else_can_declare y s r p.middle high living q.2 p.back (all_narrower low p.middle high high living (in_bounds low p.middle (numbers_in (declared_within x)) p.front) (omega arith) o) (listed_back numbers (declared_within x) (declared_in_else y) l))
+        let p = parted_in low high (declared_within x) (declared_in_else y) b in (
+          can_declare x s r low p.middle living q.1 p.front (all_narrower low low high p.middle living (omega arith) (in_bounds p.middle high (numbers_in (declared_in_else y)) p.back) o) (listed_front numbers (declared_within x) (declared_in_else y) l),
+          else_can_declare y s r p.middle high living q.2 p.back (all_narrower low p.middle high high living (in_bounds low p.middle (numbers_in (declared_within x)) p.front) (omega arith) o) (listed_back numbers (declared_within x) (declared_in_else y) l),
+        )
     can_declare (While at annots e x) s r low high living q b o l = can_declare x s (in_loop r) low high living q.1 b o l
     can_declare (Do at x e) s r low high living q b o l = can_declare x s (in_loop r) low high living q.0 b o l
     can_declare (For at annots first e step x) s r low high living q b o l =
         let p = parted_in low high (declared_in_first first) (declared_within x) b in
-        let f = first_between first low p.middle p.front in
-        (all_can_be_born numbers (declared_first first) low p.middle living f (all_narrower low low high p.middle living (omega arith) (in_bounds p.middle high (numbers_in (declared_within x)) p.back) o) (first_objects first (inner s) r q.0) (first_listed first (listed_front numbers (declared_in_first first) (declared_within x) l)),
-        can_declare x (behind_first (inner s) first) (in_loop r) p.middle high (with_numbers (declared_first first) living) q.3 p.back
-        (born_outside p.middle high low p.middle (declared_first first) living f (omega arith) (all_narrower low p.middle high high living (in_bounds low p.middle (numbers_in (declared_in_first first)) p.front) (omega arith) o))
-        (listed_back numbers (declared_in_first first) (declared_within x) l))
+        let f = first_between first low p.middle p.front in (
+          all_can_be_born numbers (declared_first first) low p.middle living f (all_narrower low low high p.middle living (omega arith) (in_bounds p.middle high (numbers_in (declared_within x)) p.back) o) (first_objects first (inner s) r q.0) (first_listed first (listed_front numbers (declared_in_first first) (declared_within x) l)),
+          can_declare x (behind_first (inner s) first) (in_loop r) p.middle high (with_numbers (declared_first first) living) q.3 p.back
+              (born_outside p.middle high low p.middle (declared_first first) living f (omega arith) (all_narrower low p.middle high high living (in_bounds low p.middle (numbers_in (declared_in_first first)) p.front) (omega arith) o))
+              (listed_back numbers (declared_in_first first) (declared_within x) l),
+        )
     can_declare (Break at) s r low high living q b o l = tt
     can_declare (Continue at) s r low high living q b o l = tt
     can_declare (Return at e) s r low high living q b o l = tt
@@ -353,24 +357,28 @@ module _ (numbers : List ℕ) where
     pub items_can_declare : (is : BlockItems) (s : Scopes) (r : Around) (low high : ℕ) (living : List ℕ) → ItemsTyped s r is → Between low (numbers_in (declared_in_items is)) high → AllLive low high (declared_in is) living → AllListed numbers (declared_in_items is) → ItemsCanDeclare numbers living is
     items_can_declare NoItem s r low high living q b o l = tt
     items_can_declare (Then (Declare ds) rest) s r low high living q b o l =
-        let p = parted_in low high ds (declared_in_items rest) b in
-        (tt, items_can_declare rest (with_objects s ds) r p.middle high living q.1 p.back
-        (live_behind low p.middle high (in_bounds low p.middle (numbers_in ds) p.front) (in_bounds p.middle high (numbers_in (declared_in_items rest)) p.back) ds (declared_in rest) p.front living o)
-        (listed_back numbers ds (declared_in_items rest) l))
+        let p = parted_in low high ds (declared_in_items rest) b in (
+          tt,
+          items_can_declare rest (with_objects s ds) r p.middle high living q.1 p.back
+              (live_behind low p.middle high (in_bounds low p.middle (numbers_in ds) p.front) (in_bounds p.middle high (numbers_in (declared_in_items rest)) p.back) ds (declared_in rest) p.front living o)
+              (listed_back numbers ds (declared_in_items rest) l),
+        )
     items_can_declare (Then (Run a) rest) s r low high living q b o l =
         let p = parted_in low high (declared_within a) (declared_in_items rest) b in
         let le = in_bounds low p.middle (numbers_in (declared_within a)) p.front in
-        let le2 = in_bounds p.middle high (numbers_in (declared_in_items rest)) p.back in
-        (can_declare a s r low p.middle living q.0 p.front (far_front low p.middle high le le2 rest (own_between rest p.middle high p.back) living o) (listed_front numbers (declared_within a) (declared_in_items rest) l),
-        items_can_declare rest s r p.middle high living q.1 p.back (live_back low p.middle high le le2 (declared_in rest) living o) (listed_back numbers (declared_within a) (declared_in_items rest) l))
+        let le2 = in_bounds p.middle high (numbers_in (declared_in_items rest)) p.back in (
+          can_declare a s r low p.middle living q.0 p.front (far_front low p.middle high le le2 rest (own_between rest p.middle high p.back) living o) (listed_front numbers (declared_within a) (declared_in_items rest) l),
+          items_can_declare rest s r p.middle high living q.1 p.back (live_back low p.middle high le le2 (declared_in rest) living o) (listed_back numbers (declared_within a) (declared_in_items rest) l),
+        )
     items_can_declare (Then (Asserts annots) rest) s r low high living q b o l = (tt, items_can_declare rest s r low high living q.1 b o l)
 
   -- the items of a body, whose scope is the function's
   pub body_can_declare : (is : BlockItems) (s : Scopes) (r : Around) (low high : ℕ) (living : List ℕ) → ItemsTyped s r is → Between low (numbers_in (declared_in_items is)) high → AllOutside low high living → AllListed numbers (declared_in_items is) → AllCanBeBorn numbers living (declared_in is) × ItemsCanDeclare numbers (with_numbers (declared_in is) living) is
   body_can_declare is s r low high living q b o l =
-      let own = declared_in is in
-      (all_can_be_born numbers own low high living (own_between is low high b) o (items_objects s r is q) (own_listed numbers is l),
-      items_can_declare is s r low high (with_numbers own living) q b (born_live low high own own living (λ x i. i) (outside_live low high own living o)) l)
+      let own = declared_in is in (
+        all_can_be_born numbers own low high living (own_between is low high b) o (items_objects s r is q) (own_listed numbers is l),
+        items_can_declare is s r low high (with_numbers own living) q b (born_live low high own own living (λ x i. i) (outside_live low high own living o)) l,
+      )
 
 pub in_order_front : (numbers : List ℕ) (j : ℕ) (ds es : List Declaration) → InOrder numbers j (ds ++ es) → InOrder numbers j ds
 in_order_front numbers j [] es h = tt

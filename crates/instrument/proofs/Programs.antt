@@ -99,9 +99,10 @@ less_ascends low low2 (n ∷ ns) le a = (omega (arith, le, a.0), a.1)
 all_parts : (p : TranslationUnit) (before fs : List Function) (low : ℕ) → before ++ fs ≡ p.funcs → FunctionsTyped p before fs → FunctionsFormed most_typed fs → FunctionsNamed p.names fs → Ascend low (numbers_of_all fs) → FunctionsHaveNumbers fs → Parts p fs
 all_parts p before [] low is typed formed named numbered numbers = tt
 all_parts p before (g ∷ fs) low is typed formed named numbered numbers =
-    let h = behind_function low g fs numbered in
-    (record { before = before; after = fs; is = is; typed = typed.0; formed = formed.0; named = named.0; low = low; numbered = ascend_front low (numbers_of g) (numbers_of_all fs) numbered; numbers = numbers.0 },
-    all_parts p (before ++ g ∷ []) fs (suc g.place.offset) (append_assoc before (g ∷ []) fs ∙ is) typed.1 formed.1 named.1 (less_ascends (suc g.place.offset) h.low2 (numbers_of_all fs) h.le h.is) numbers.1)
+    let h = behind_function low g fs numbered in (
+      record { before = before; after = fs; is = is; typed = typed.0; formed = formed.0; named = named.0; low = low; numbered = ascend_front low (numbers_of g) (numbers_of_all fs) numbered; numbers = numbers.0 },
+      all_parts p (before ++ g ∷ []) fs (suc g.place.offset) (append_assoc before (g ∷ []) fs ∙ is) typed.1 formed.1 named.1 (less_ascends (suc g.place.offset) h.low2 (numbers_of_all fs) h.le h.is) numbers.1,
+    )
 
 pub parts_of : (p : TranslationUnit) → IsProgram p → FunctionsHaveNumbers p.funcs → Parts p p.funcs
 parts_of p q numbers = all_parts p [] p.funcs 0 refl q.typed q.formed.functions q.named q.numbered numbers
@@ -306,12 +307,14 @@ defined p before (g ∷ fs) x n low h t a first e =
     by low2 rest le true true y z f =
         let number : g.place.offset ≡ n = cc in
         let named : g.name ≡ x = grind (arith, nat_tests) in
-        let here : nat_eq g.place.offset n ≡ true = grind (arith, nat_tests) in
-        (record {
-          definition = g;
-          found = ap (λ c. if c && nat_eq g.place.offset n then Some g else definition_at n fs) y ∙ ap (λ d. if d then Some g else definition_at n fs) here;
-          types = first_behind x before g h fs named first t.0.compatible;
-          name = named;
-        }, omega (arith, a.0, number))
+        let here : nat_eq g.place.offset n ≡ true = grind (arith, nat_tests) in (
+          record {
+            definition = g;
+            found = ap (λ c. if c && nat_eq g.place.offset n then Some g else definition_at n fs) y ∙ ap (λ d. if d then Some g else definition_at n fs) here;
+            types = first_behind x before g h fs named first t.0.compatible;
+            name = named;
+          },
+          omega (arith, a.0, number),
+        )
     by low2 rest le true false y z f = later low2 rest le f
     by low2 rest le false d y z f = later low2 rest le f

@@ -1,8 +1,7 @@
 -- Registers of variables have their types, and what is done at the births and deaths of their blocks is valid.
-use Rattle.std.proofs.Common.{◌≡◌, ℕ, suc, ◌+◌, ◌≤◌, pos, Bool, true, false, cond, nat_eq, List, [], ◌∷◌, ◌++◌, length, map, Option, Some, None, slice_get, max, refl, sym, ap, ◌∙◌, subst, arith, append_assoc}
-use Rattle.std.proofs.lemmas.List.{append-nil, length-append, length-map}
+use Rattle.std.proofs.Common.{◌≡◌, ℕ, suc, ◌+◌, ◌≤◌, pos, Bool, true, false, cond, nat_eq, List, [], ◌∷◌, ◌++◌, length, Option, Some, slice_get, refl, sym, ap, ◌∙◌, subst, arith, append_assoc}
+use Rattle.std.proofs.lemmas.List.{length-append, length-map}
 use Rattle.std.proofs.Math.Nat.{max-le}
-use Rattle.c_syntax.specs.Ctypes.{PlainType, Int}
 use Rattle.c_syntax.specs.Statements.{Declaration, ForFirst, NoFirst, First, Declare, Run, Asserts, BlockItems, NoItem, Then}
 use Rattle.c_model.specs.Integers.{size_of}
 use Rattle.c_model.specs.Meaning.{declared_in, declared_first}
@@ -14,14 +13,14 @@ use Rattle.mon_syntax.specs.declared.tree.MonType.TheVariants.{U64, Ptr}
 use Rattle.mon_syntax.specs.Trees.{MonStatements, NoStatement}
 use Rattle.mon_syntax.specs.Trees as tree
 use Rattle.mon_syntax.specs.Valid.{Types, Labels, Signature, IsExpression, AreStatements, has_no_step, depth_of_all}
-use Rattle.instrument.specs.Expressions.{register_type, value_type, before, register_of}
+use Rattle.instrument.specs.Expressions.{value_type, before, register_of}
 use Rattle.instrument.specs.Translation.{births, deaths, with_born, alive, value_types, pointer_types}
 use Rattle.instrument.proofs.Births.{int_of}
 use Rattle.instrument.proofs.Declared.{object_of, named_last}
 use Rattle.instrument.proofs.Functions.{InOrder}
 use Rattle.instrument.proofs.Numbers.{IsObject, AreObjects}
-use Rattle.instrument.proofs.Typed.{Begins, at_end, Seen, AreSeen, size_constant}
-use Rattle.instrument.proofs.ValidSetups.{no_step_before, deep_before, before_valid}
+use Rattle.instrument.proofs.Typed.{Begins, Seen, AreSeen, size_constant}
+use Rattle.instrument.proofs.ValidSetups.{deep_before, before_valid}
 
 -- ---- registers of variables
 
@@ -82,19 +81,21 @@ module _ (ts : Types) (numbers : List ℕ) (all : List Declaration) (long : leng
   have_variables front [] is order = tt
   have_variables front (d ∷ rest) is order =
       let next : all ≡ front ++ d ∷ [] ++ rest = is ∙ sym (append_assoc front (d ∷ []) rest) in
-      let number : length (front ++ d ∷ []) ≡ suc (length front) = omega (arith, length-append front (d ∷ [])) in
-      (record {
-        value =
-            ap (slice_get ts) order.0 ∙ ap (λ l. slice_get l (length front)) types_are
-            ∙ ap (λ l. slice_get (value_types l ++ (pointer_types all ++ begins.rest)) (length front)) is
-            ∙ value_there front rest d (pointer_types all ++ begins.rest);
-        pointer =
-            let values : length numbers ≡ length (value_types all) = long ∙ sym (length-map all (λ (e : Declaration). value_type e.ctype)) in
-            ap (λ j. slice_get ts (length numbers + j)) order.0 ∙ ap (λ n. slice_get ts (n + length front)) values
-            ∙ ap (λ l. slice_get l (length (value_types all) + length front)) types_are
-            ∙ behind_types (value_types all) (pointer_types all ++ begins.rest) (length front)
-            ∙ ap (λ l. slice_get (pointer_types l ++ begins.rest) (length front)) is ∙ pointer_there front rest d begins.rest;
-      }, have_variables (front ++ d ∷ []) rest next (subst (λ j. InOrder numbers j rest) (sym number) order.1))
+      let number : length (front ++ d ∷ []) ≡ suc (length front) = omega (arith, length-append front (d ∷ [])) in (
+        record {
+          value =
+              ap (slice_get ts) order.0 ∙ ap (λ l. slice_get l (length front)) types_are
+              ∙ ap (λ l. slice_get (value_types l ++ (pointer_types all ++ begins.rest)) (length front)) is
+              ∙ value_there front rest d (pointer_types all ++ begins.rest);
+          pointer =
+              let values : length numbers ≡ length (value_types all) = long ∙ sym (length-map all (λ (e : Declaration). value_type e.ctype)) in
+              ap (λ j. slice_get ts (length numbers + j)) order.0 ∙ ap (λ n. slice_get ts (n + length front)) values
+              ∙ ap (λ l. slice_get l (length (value_types all) + length front)) types_are
+              ∙ behind_types (value_types all) (pointer_types all ++ begins.rest) (length front)
+              ∙ ap (λ l. slice_get (pointer_types l ++ begins.rest) (length front)) is ∙ pointer_there front rest d begins.rest;
+        },
+        have_variables (front ++ d ∷ []) rest next (subst (λ j. InOrder numbers j rest) (sym number) order.1),
+      )
 
 -- ---- what is in sight
 

@@ -13,7 +13,7 @@ use Rattle.c_model.specs.Meaning.{is_definition, is_of_library, definition_at}
 use Rattle.c_model.specs.Typing.{Signature as Known, Scopes, name_at, library_function, of_library}
 use Rattle.c_model.specs.ProgramTyping.{signature, function_scopes}
 use Rattle.c_model.specs.ProgramTyping as typing
-use Rattle.c_model.specs.WellTyped.{HaveTypes, Calls}
+use Rattle.c_model.specs.WellTyped.{HaveTypes}
 use Rattle.c_model.specs.Formed.{IsProgram}
 use Rattle.mon_syntax.specs.declared.tree.MonType.TheVariants.{I32}
 use Rattle.mon_syntax.specs.Trees.{MonExpression, MonFunction, NoStatement}
@@ -22,7 +22,7 @@ use Rattle.mon_syntax.specs.Valid.{Types, Labels, Signature, TakesValue, AreArgu
 use Rattle.mon_syntax.specs.declared.tree.MonType.{MonType}
 use Rattle.instrument.specs.Limits.{FunctionsHaveNumbers}
 use Rattle.instrument.specs.Expressions.{register_type, value_type, one}
-use Rattle.instrument.specs.Translation.{function_name, index_of, first_of, library_call, call, result_of, value_types, values_from, function_of, functions_from}
+use Rattle.instrument.specs.Translation.{function_name, index_of, first_of, library_call, call, result_of, value_types, values_from, function_of}
 use Rattle.instrument.proofs.Functions.{parameter_ints}
 use Rattle.instrument.proofs.Numbers.{AreObjects, parameter_objects}
 use Rattle.instrument.proofs.Programs.{picked, index_by, IsPicked, has_number, definition_is, index_is, has_bytes, main_index_is}
@@ -154,27 +154,27 @@ module _ (p : TranslationUnit) (q : IsProgram p) (numbers : FunctionsHaveNumbers
           ints = c.I32 ∷ [];
           arguments = params put h;
           valid = λ r ls into args takes given.
-          chosen f r ls into args own
-          (subst (λ x. Chosen r ls into args x (bytes_eq name (codes "getchar")) (bytes_eq name (codes "exit"))) (sym ex)
-          ((subst (λ u. TakesValue ts into (result_of u)) (results put h) takes, first_valid args given), tt));
+              chosen f r ls into args own
+              (subst (λ x. Chosen r ls into args x (bytes_eq name (codes "getchar")) (bytes_eq name (codes "exit"))) (sym ex)
+              ((subst (λ u. TakesValue ts into (result_of u)) (results put h) takes, first_valid args given), tt));
         }
         by false true z ex ey ez h = record {
           ints = [];
           arguments = params get h;
           valid = λ r ls into args takes given.
-          chosen f r ls into args own
-          (subst (λ x. Chosen r ls into args x (bytes_eq name (codes "getchar")) (bytes_eq name (codes "exit"))) (sym ex)
-          (subst (λ y. Chosen r ls into args false y (bytes_eq name (codes "exit"))) (sym ey)
-          (subst (λ u. TakesValue ts into (result_of u)) (results get h) takes, tt)));
+              chosen f r ls into args own
+              (subst (λ x. Chosen r ls into args x (bytes_eq name (codes "getchar")) (bytes_eq name (codes "exit"))) (sym ex)
+              (subst (λ y. Chosen r ls into args false y (bytes_eq name (codes "exit"))) (sym ey)
+              (subst (λ u. TakesValue ts into (result_of u)) (results get h) takes, tt)));
         }
         by false false true ex ey ez h = record {
           ints = c.I32 ∷ [];
           arguments = params leave h;
           valid = λ r ls into args takes given.
-          chosen f r ls into args own
-          (subst (λ x. Chosen r ls into args x (bytes_eq name (codes "getchar")) (bytes_eq name (codes "exit"))) (sym ex)
-          (subst (λ y. Chosen r ls into args false y (bytes_eq name (codes "exit"))) (sym ey)
-          (subst (λ z. Chosen r ls into args false false z) (sym ez) (first_valid args given, tt))));
+              chosen f r ls into args own
+              (subst (λ x. Chosen r ls into args x (bytes_eq name (codes "getchar")) (bytes_eq name (codes "exit"))) (sym ex)
+              (subst (λ y. Chosen r ls into args false y (bytes_eq name (codes "exit"))) (sym ey)
+              (subst (λ z. Chosen r ls into args false false z) (sym ez) (first_valid args given, tt))));
         }
         by false false false ex ey ez h = absurd cc
 
@@ -184,10 +184,10 @@ module _ (p : TranslationUnit) (q : IsProgram p) (numbers : FunctionsHaveNumbers
       ints = ints;
       arguments = subst (λ l. HaveTypes l es) params types;
       valid = λ r ls into args takes given.
-      chosen f r ls into args own
-      (subst (λ x. Chosen r ls into args x (bytes_eq (name_at p.names f.name) (codes "getchar")) (bytes_eq (name_at p.names f.name) (codes "exit"))) (sym other.putchar)
-      (subst (λ y. Chosen r ls into args false y (bytes_eq (name_at p.names f.name) (codes "exit"))) (sym other.getchar)
-      (subst (λ z. Chosen r ls into args false false z) (sym other.exit) tt)));
+          chosen f r ls into args own
+          (subst (λ x. Chosen r ls into args x (bytes_eq (name_at p.names f.name) (codes "getchar")) (bytes_eq (name_at p.names f.name) (codes "exit"))) (sym other.putchar)
+          (subst (λ y. Chosen r ls into args false y (bytes_eq (name_at p.names f.name) (codes "exit"))) (sym other.getchar)
+          (subst (λ z. Chosen r ls into args false false z) (sym other.exit) tt)));
     }
 
     -- ---- all of them, in a function behind these

@@ -1,5 +1,5 @@
 -- Translated effects, calls and initialisations are valid: types, steps and depth.
-use Rattle.std.proofs.Common.{◌≡◌, ℕ, suc, ◌+◌, ◌≤◌, pos, Bool, true, false, if◌then◌else◌, List, [], ◌∷◌, ◌++◌, length, map, Option, Some, None, slice_get, max, refl, sym, ap, ◌∙◌, subst, arith}
+use Rattle.std.proofs.Common.{◌≡◌, ℕ, suc, ◌+◌, ◌≤◌, pos, Bool, true, false, if◌then◌else◌, List, [], ◌∷◌, ◌++◌, length, map, Option, Some, None, slice_get, refl, sym, ap, ◌∙◌, subst, arith}
 use Rattle.std.specs.Prelude.{bytes_eq, codes}
 use Rattle.c_syntax.specs.declared.place.Place.{Place}
 use Rattle.c_syntax.specs.declared.types.CInt.{CInt}
@@ -14,18 +14,18 @@ use Rattle.c_model.specs.Meaning.{bump_operator, is_of_library}
 use Rattle.c_model.specs.Conversions.{operation_type}
 use Rattle.c_model.specs.Typing.{Scopes, name_at}
 use Rattle.c_model.specs.WellTyped.{IsPlace, HaveTypes, Calls, WellTyped, AreWellTyped}
-use Rattle.c_model.specs.Formed.{IsPure, ArePure, IsPureOrCall, IsEffectOrCall, IsInitialiser, nodes_of, nodes_of_all}
+use Rattle.c_model.specs.Formed.{ArePure, IsPureOrCall, IsEffectOrCall, IsInitialiser, nodes_of, nodes_of_all}
 use Rattle.c_model.specs.WellTypedPrograms.{Initialises}
 use Rattle.mon_syntax.specs.declared.tree.MonType.{MonType}
 use Rattle.mon_syntax.specs.declared.tree.MonType.TheVariants.{I32}
 use Rattle.mon_syntax.specs.Trees.{MonExpression, MonStatement, MonStatements, NoStatement}
 use Rattle.mon_syntax.specs.Trees as tree
 use Rattle.mon_syntax.specs.Valid.{Types, Labels, Signature, HasType, TakesValue, AreArguments, IsExpression, AreStatements, has_no_step, depth, depth_of_all, open_parens, most_open_parens}
-use Rattle.instrument.specs.Limits.{HasLetters, ArgumentsHaveLetters, FullHasLetters, EffectHasLetters, InitialHasLetters}
+use Rattle.instrument.specs.Limits.{ArgumentsHaveLetters, FullHasLetters, EffectHasLetters, InitialHasLetters}
 use Rattle.instrument.specs.Expressions.{register_type, value_type, in_type, compound, before, one, set, setup, value, temporaries, register_of}
 use Rattle.instrument.specs.Translation.{arguments_temporaries, full_temporaries, effect_temporaries, initial_temporaries, arguments_setup, arguments, full_value, first_of, library_call, call, target, index_of, called, full_setup, effect, initialise, result_of}
 use Rattle.instrument.proofs.ExpressionTypes.{integer_int, cast_int}
-use Rattle.instrument.proofs.Typed.{Begins, begins_left, begins_right, begins_front, register_at, AreSeen, value_whole, in_typed, parens_in_type, parens_compound, some_nodes, seen, expression_valid, compound_typed, compound_valid}
+use Rattle.instrument.proofs.Typed.{Begins, begins_left, begins_right, register_at, AreSeen, value_whole, in_typed, parens_in_type, parens_compound, seen, expression_valid, compound_typed, compound_valid}
 use Rattle.instrument.proofs.ValidSetups.{no_step_before, no_step_setup, deep_before, deep_one, deep_set, deep_setup, deep_behind, before_valid, set_valid, setup_valid}
 
 -- ---- no step stands there
@@ -147,9 +147,10 @@ module _ (p : TranslationUnit) (gs : List Signature) (ts : Types) (result : Opti
   arguments_valid (Following e es) (k ∷ ks) rs types pure q l few b =
       let te = temporaries e in
       let here = begins_left rs te (arguments_temporaries es) ts b in
-      let rest = arguments_valid es ks (rs ++ te) types.1 pure.1 q.1 l.1 (omega (arith, few)) (begins_right rs te (arguments_temporaries es) ts b) in
-      (before_valid gs ts result ls (setup numbers rs e) (arguments_setup numbers (rs ++ te) es) (setup_valid gs ts result numbers scopes sees ls e k rs types.0 pure.0 q.0 l.0 (omega (arith, few)) here) rest.0,
-      (expression_valid ts numbers scopes sees e k rs types.0 pure.0 q.0 l.0 (omega (arith, few)) here, rest.1))
+      let rest = arguments_valid es ks (rs ++ te) types.1 pure.1 q.1 l.1 (omega (arith, few)) (begins_right rs te (arguments_temporaries es) ts b) in (
+        before_valid gs ts result ls (setup numbers rs e) (arguments_setup numbers (rs ++ te) es) (setup_valid gs ts result numbers scopes sees ls e k rs types.0 pure.0 q.0 l.0 (omega (arith, few)) here) rest.0,
+        (expression_valid ts numbers scopes sees e k rs types.0 pure.0 q.0 l.0 (omega (arith, few)) here, rest.1),
+      )
 
   called_valid : (f : Use) (u : PlainType) (es : Expressions) (into : Option ℕ) (rs : Types) → ArePure es → AreWellTyped scopes es → Calls scopes f u es → ArgumentsHaveLetters es → nodes_of_all es ≤ 800 → Begins (rs ++ arguments_temporaries es) ts → TakesValue ts into (result_of u) → Are (called p numbers rs into f es)
   called_valid f u es into rs pure q c l few b takes =
@@ -180,11 +181,13 @@ module _ (p : TranslationUnit) (gs : List Signature) (ts : Types) (result : Opti
       let v = value_called f u from.int es rs from.is pure q.0.0 q.0.1 l (omega (arith, few)) b in
       let r = tree.Register (length (rs ++ arguments_temporaries es)) in
       let here : slice_get ts (length (rs ++ arguments_temporaries es)) ≡ Some (value_type u) = v.1 ∙ ap (λ x. Some (value_type x)) (sym from.is) in
-      let deep = parens_in_type (value_type u) (value_type to) r in
-      (v.0, record {
-        typed = subst (λ x. HasType ts (in_type (value_type u) (value_type to) r) (value_type x)) to_int (in_typed ts (value_type u) (value_type to) r (value_whole u) (value_whole to) here);
-        within = omega (arith, deep);
-      })
+      let deep = parens_in_type (value_type u) (value_type to) r in (
+        v.0,
+        record {
+          typed = subst (λ x. HasType ts (in_type (value_type u) (value_type to) r) (value_type x)) to_int (in_typed ts (value_type u) (value_type to) r (value_whole u) (value_whole to) here);
+          within = omega (arith, deep);
+        },
+      )
   full_valid e k rs int pure q l few b = (setup_valid gs ts result numbers scopes sees ls e k rs int pure q l few b, expression_valid ts numbers scopes sees e k rs int pure q l few b)
 
   -- ---- effects

@@ -1,35 +1,31 @@
 -- The translation of a program is valid: its functions, each with a name of its own, one of which is `main`.
-use Rattle.std.proofs.Common.{◌≡◌, ℕ, suc, ◌+◌, ◌*◌, ◌<◌, ◌≤◌, ◌^◌, Bool, true, false, cond, if◌then◌else◌, nat_eq, List, [], ◌∷◌, ◌++◌, length, map, Option, Some, None, slice_get, refl, sym, ap, ◌∙◌, subst, arith, append_assoc}
-use Rattle.std.proofs.lemmas.List.{append-nil, length-map}
+use Rattle.std.proofs.Common.{◌≡◌, ℕ, suc, ◌+◌, ◌<◌, ◌≤◌, ◌^◌, Bool, true, false, cond, if◌then◌else◌, nat_eq, List, [], ◌∷◌, ◌++◌, length, map, Option, Some, refl, sym, ap, ◌∙◌, subst, arith}
+use Rattle.std.proofs.lemmas.List.{append-nil}
 use Rattle.std.proofs.lemmas.Bool.{eq-eqb}
 use Rattle.std.proofs.lemmas.Bool.Decides.{nat_tests}
 use Rattle.std.specs.Prelude.{bytes_eq, codes}
-use Rattle.c_syntax.specs.Ctypes.{int_type}
-use Rattle.c_syntax.specs.Statements.{Declaration, Statement, Block, BlockItems}
+use Rattle.c_syntax.specs.Statements.{Declaration, Statement, Block}
 use Rattle.c_syntax.specs.Programs.{Function, TranslationUnit}
-use Rattle.c_model.specs.Formed as form
-use Rattle.c_model.specs.Formed.{IsProgram, BodyFormed, number_of, declared_in_body, declared_in_items, most_typed}
+use Rattle.c_model.specs.Formed.{IsProgram, BodyFormed, declared_in_body, declared_in_items, most_typed}
 use Rattle.c_model.specs.Meaning.{is_definition, declared_in}
 use Rattle.c_model.specs.Typing.{Signature as Known, Scopes, name_at, with_object}
 use Rattle.c_model.specs.ProgramTyping.{signature, function_scopes, with_parameter, with_parameters}
 use Rattle.c_model.specs.WellTypedPrograms.{around_body}
-use Rattle.mon_syntax.specs.declared.tree.MonType.TheVariants.{I32}
-use Rattle.mon_syntax.specs.Trees.{MonFunction}
-use Rattle.mon_syntax.specs.Valid.{Types, Signature, AreStatements, IsFunction, AreFunctions, IsMain, IsValid, has_label, types_of, depth_of_all}
+use Rattle.mon_syntax.specs.Valid.{Types, Signature, AreStatements, IsFunction, AreFunctions, IsValid, has_label, depth_of_all}
 use Rattle.mon_syntax.specs.Names.{IsFreeName}
-use Rattle.instrument.specs.Limits.{HaveNumbers, FunctionsHaveNumbers}
-use Rattle.instrument.specs.Translation.{Spot, variables_of, variable_numbers, value_types, pointer_types, variable_types, body_temporaries, items_temporaries, with_born, with_variables, alive, body_part, statement, items, function_name, values_from, registers_of, result_of, function_of, functions_from, translated}
+use Rattle.instrument.specs.Limits.{FunctionsHaveNumbers}
+use Rattle.instrument.specs.Translation.{Spot, variables_of, variable_numbers, variable_types, body_temporaries, with_born, with_variables, alive, body_part, items, function_name, values_from, result_of, function_of, functions_from, translated}
 use Rattle.instrument.proofs.Names.{IsNumber, main_is_free, function_is_free, functions_differ}
 use Rattle.instrument.proofs.Functions.{InOrder}
-use Rattle.instrument.proofs.Numbers.{numbers_in, bounded, placed, AreObjects, parameter_objects}
+use Rattle.instrument.proofs.Numbers.{bounded, placed, AreObjects, parameter_objects}
 use Rattle.instrument.proofs.Programs.{Part, Parts, parts_of, is_picked, index_by, has_bytes, main_index_is}
 use Rattle.instrument.proofs.Bodies.{HasBody, has_body, numbers_long}
-use Rattle.instrument.proofs.Callees.{main, functions}
+use Rattle.instrument.proofs.Callees.{main}
 use Rattle.instrument.proofs.Runs.{is_main}
 use Rattle.instrument.proofs.Typed.{Begins}
 use Rattle.instrument.proofs.ValidBlocks.{HaveVariables, have_variables, variables_front, variables_back, own_variables, Sees, sees_one, point_born, deep_alive, alive_valid}
 use Rattle.instrument.proofs.Depths.{deep}
-use Rattle.instrument.proofs.ValidStatements.{Points, items_valid}
+use Rattle.instrument.proofs.ValidStatements.{items_valid}
 use Rattle.instrument.proofs.ValidCalls.{signatures, calls_valid}
 use Rattle.instrument.proofs.ValidRegisters.{AllOf, all_of, not_among, function_types, registers_valid}
 

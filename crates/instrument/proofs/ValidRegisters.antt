@@ -1,9 +1,9 @@
 -- The registers of translated functions: their names are free, and each has its own; and their types.
-use Rattle.std.proofs.Common.{◌≡◌, ℕ, suc, ◌+◌, ◌<◌, ◌≤◌, ◌^◌, Bool, true, false, ◌||◌, if◌then◌else◌, List, [], ◌∷◌, ◌++◌, length, map, refl, sym, ap, ◌∙◌, subst, arith, append_assoc}
-use Rattle.std.proofs.lemmas.List.{length-append, length-map, map-append}
+use Rattle.std.proofs.Common.{◌≡◌, ℕ, suc, ◌+◌, ◌<◌, ◌≤◌, ◌^◌, Bool, true, false, ◌||◌, if◌then◌else◌, List, [], ◌∷◌, ◌++◌, length, refl, sym, ap, ◌∙◌, arith, append_assoc}
+use Rattle.std.proofs.lemmas.List.{length-append, map-append}
 use Rattle.std.specs.Prelude.{bytes_eq}
 use Rattle.c_syntax.specs.Statements.{Declaration}
-use Rattle.c_syntax.specs.Programs.{Function, TranslationUnit}
+use Rattle.c_syntax.specs.Programs.{Function}
 use Rattle.c_model.specs.Typing.{name_at}
 use Rattle.c_model.specs.Formed.{IsName, AreNamed, AreNamedParameters, FunctionNamed, declared_in_body}
 use Rattle.mon_syntax.specs.declared.tree.MonType.TheVariants.{Ptr}
@@ -84,7 +84,7 @@ values_valid names k (d ∷ ds) before rest o le h go =
         },
         all_of (AboveValues k) (AboveValues (suc k)) before (λ w a. record { value = λ j other lt few. a.value j other (omega (arith, lt)) few; pointer = a.pointer; temporary = a.temporary }) h,
       )
-      (λ after g. go after (all_of (AboveValues (suc k + length ds)) (AboveValues (k + suc (length ds))) after (λ w a. record { value = λ j other lt few. a.value j other (omega (arith, lt)) few; pointer = a.pointer; temporary = a.temporary }) g)),
+          (λ after g. go after (all_of (AboveValues (suc k + length ds)) (AboveValues (k + suc (length ds))) after (λ w a. record { value = λ j other lt few. a.value j other (omega (arith, lt)) few; pointer = a.pointer; temporary = a.temporary }) g)),
     )
 
 -- ---- names of declarations

@@ -1,23 +1,23 @@
 -- Translated statements are valid: their labels, their loops, and the types of what stands in them.
-use Rattle.std.proofs.Common.{◌≡◌, ℕ, zero, suc, ◌+◌, ◌<◌, ◌≤◌, Bool, true, false, ◌||◌, List, [], ◌∷◌, ◌++◌, Option, Some, None, max, slice_get, refl, sym, ap, ◌∙◌, subst, arith, append_assoc}
+use Rattle.std.proofs.Common.{◌≡◌, ℕ, zero, suc, ◌+◌, ◌<◌, ◌≤◌, Bool, true, false, ◌||◌, List, [], ◌∷◌, ◌++◌, Option, Some, None, refl, sym, ap, ◌∙◌, subst, arith, append_assoc}
 use Rattle.std.proofs.Math.Nat.{le-max_left, le-max_right}
 use Rattle.std.specs.Prelude.{bytes_eq}
 use Rattle.c_syntax.specs.declared.types.CInt.{CInt}
 use Rattle.c_syntax.specs.Ctypes.{PlainType, Int}
 use Rattle.c_syntax.specs.Expressions.{Expression, type_of}
 use Rattle.c_syntax.specs.Annotations.{Annotation}
-use Rattle.c_syntax.specs.Statements.{Declaration, Statement, Empty, Eval, Block, If, While, Do, For, Break, Continue, Return, ElsePart, NoElse, Else, ForFirst, NoFirst, First, BlockItem, Declare, Run, Asserts, BlockItems, NoItem, Then}
+use Rattle.c_syntax.specs.Statements.{Declaration, Statement, Empty, Eval, Block, If, While, Do, For, Break, Continue, Return, ElsePart, NoElse, Else, ForFirst, NoFirst, First, Declare, Run, Asserts, BlockItems, NoItem, Then}
 use Rattle.c_syntax.specs.Programs.{TranslationUnit}
 use Rattle.c_model.specs.Formed as form
 use Rattle.c_model.specs.Formed.{number_of, declared_within, declared_in_else, declared_in_first, declared_in_item, declared_in_items, AreAsserts, IsFull, IsFullOrCall, IsFullEffect, IsFullEffectOrCall, AreInitialised, FirstFormed, StatementFormed, ElseFormed, ItemFormed, ItemsFormed}
 use Rattle.c_model.specs.Meaning.{declared_in, declared_first}
 use Rattle.c_model.specs.Typing.{Signature as Known, Scopes, Around, in_loop, inner, with_object, with_objects, behind_first}
 use Rattle.c_model.specs.WellTyped.{WellTyped}
-use Rattle.c_model.specs.WellTypedPrograms.{IsCondition, WhereAny, AreDeclared, Returned, StatementTyped, ElseTyped, ItemTyped, ItemsTyped, FirstTyped, AnnotationsTyped, StatementNoted, ElseNoted, ItemNoted, ItemsNoted}
+use Rattle.c_model.specs.WellTypedPrograms.{IsCondition, WhereAny, AreDeclared, Returned, StatementTyped, ElseTyped, ItemsTyped, FirstTyped, AnnotationsTyped, StatementNoted, ElseNoted, ItemsNoted}
 use Rattle.mon_syntax.specs.Trees.{MonExpression, MonStatement, MonStatements, NoStatement}
 use Rattle.mon_syntax.specs.Trees as tree
 use Rattle.mon_syntax.specs.Valid.{Types, Labels, Signature, IsExpression, AreStatements, ReturnsResult, has_label, has_no_step}
-use Rattle.instrument.specs.Limits.{Any, HasLetters, FullHasLetters, EffectHasLetters, InitialsHaveLetters, AreNumbered, HasNumbers, ElseHasNumbers, FirstHasNumbers, ItemHasNumbers, HaveNumbers}
+use Rattle.instrument.specs.Limits.{Any, HasLetters, FullHasLetters, EffectHasLetters, InitialsHaveLetters, AreNumbered, HasNumbers, ElseHasNumbers, FirstHasNumbers, HaveNumbers}
 use Rattle.instrument.specs.Expressions.{register_type, value_type, before, one, setup, temporaries, condition_of, assertions}
 use Rattle.instrument.specs.Translation.{Spot, any_temporaries, full_temporaries, effect_temporaries, initial_temporaries, declaration_temporaries, full_setup, full_value, effect, effect_if_any, initialise, initialise_all, leave_where_zero, test, test_if_any, returned, deaths, loop, end_label, next_label, with_variables, statement_temporaries, else_temporaries, first_temporaries, item_temporaries, items_temporaries, statement, else_part, first_part, item, items, result_of}
 use Rattle.instrument.specs.Translation as target
@@ -25,8 +25,8 @@ use Rattle.instrument.proofs.Names.{IsNumber, end_is_free, next_is_free, ends_di
 use Rattle.instrument.proofs.ExpressionTypes.{scalar_int, integer_int}
 use Rattle.instrument.proofs.Statements.{effect_or_call}
 use Rattle.instrument.proofs.Births.{int_of}
-use Rattle.instrument.proofs.Numbers.{IsObject, declared_objects, items_objects}
-use Rattle.instrument.proofs.Typed.{Begins, begins_left, begins_right, begins_front, AreSeen, condition_valid, assertion_valid}
+use Rattle.instrument.proofs.Numbers.{IsObject, declared_objects}
+use Rattle.instrument.proofs.Typed.{Begins, begins_left, begins_right, begins_front, condition_valid, assertion_valid}
 use Rattle.instrument.proofs.ValidSetups.{before_valid, setup_valid}
 use Rattle.instrument.proofs.ValidEffects.{CallsValid, effect_valid, full_valid, initialise_valid}
 use Rattle.instrument.proofs.ValidBlocks.{HaveVariables, variables_front, variables_back, own_variables, first_variables, Sees, sees_inner, sees_one, sees_behind, AllPoint, point_both, point_born, deaths_valid, alive_valid}

@@ -118,8 +118,8 @@ loop_body =
     Declare (declared 3 c.I32 (binary operator.Add (int 2) (int 2)) ∷ [])
     ∷ Run (statement.If (here 1) (binary operator.Eq (int 3) (int 1)) (statement.Return (here 1) (Some (int 2))) NoElse)
     ∷ Run (block (
-      Declare (declared 4 c.I32 (binary operator.Add (int 3) (number 1)) ∷ [])
-      ∷ Run (statement.If (here 1) (binary operator.Eq (int 4) (int 1)) (statement.Break (here 1)) NoElse) ∷ []))
+    Declare (declared 4 c.I32 (binary operator.Add (int 3) (number 1)) ∷ [])
+    ∷ Run (statement.If (here 1) (binary operator.Eq (int 4) (int 1)) (statement.Break (here 1)) NoElse) ∷ []))
     ∷ []
 
 abbrev half : Function
@@ -131,10 +131,10 @@ abbrev main : Function
 main = function 5 [] (
     Declare (declared 6 c.I32 (library 9 NoExpression) ∷ [])
     ∷ Run (statement.While (here 1) [] (binary operator.Gt (int 6) (number 0)) (block (
-      Declare (declared 7 c.I32 (Node (here 1) int_type (source.Call (record { name = 0; decl = 0 }) (Following (binary operator.Sub (int 6) (number 48)) NoExpression))) ∷ [])
-      ∷ Run (statement.If (here 1) (binary operator.Lt (int 7) (number 0)) (statement.Eval (here 1) (library 10 (Following (int 6) NoExpression))) NoElse)
-      ∷ effect (library 8 (Following (binary operator.Add (int 7) (number 48)) NoExpression))
-      ∷ effect (Node (here 1) int_type (source.Assign None (int 6) (library 9 NoExpression))) ∷ [])))
+    Declare (declared 7 c.I32 (Node (here 1) int_type (source.Call (record { name = 0; decl = 0 }) (Following (binary operator.Sub (int 6) (number 48)) NoExpression))) ∷ [])
+    ∷ Run (statement.If (here 1) (binary operator.Lt (int 7) (number 0)) (statement.Eval (here 1) (library 10 (Following (int 6) NoExpression))) NoElse)
+    ∷ effect (library 8 (Following (binary operator.Add (int 7) (number 48)) NoExpression))
+    ∷ effect (Node (here 1) int_type (source.Assign None (int 6) (library 9 NoExpression))) ∷ [])))
     ∷ Run (statement.Return (here 1) (Some (number 0))) ∷ [])
 
 abbrev halving : TranslationUnit
@@ -168,18 +168,18 @@ half_is : (function_of halving 1 0 half).body ≡ code (
     ∷ born 5
     ∷ Set 1 (constant 0)
     ∷ Labelled (code (Loop (code (leave_unless (operation mon.Lt (Register 1) (constant 9)) ∷ [])) (code (
-      Labelled (code (
-        born 6
-        ∷ Set 2 (operation mon.Add (Register 1) (Register 1))
-        ∷ only_if (operation mon.Eq (Register 2) (Register 0)) (dead 6 ∷ dead 5 ∷ dead 4 ∷ Return (Some (Register 1)) ∷ [])
-        ∷ born 7
-        ∷ Set 3 (operation mon.Add (Register 2) (constant 1))
-        ∷ only_if (operation mon.Eq (Register 3) (Register 0)) (dead 7 ∷ dead 6 ∷ Goto (codes "end_1") ∷ [])
-        ∷ dead 7
-        ∷ dead 6
-        ∷ [])) (codes "next_1")
-      ∷ Set 1 (operation mon.Add (Register 1) (constant 1))
-      ∷ [])) ∷ [])) (codes "end_1")
+    Labelled (code (
+    born 6
+    ∷ Set 2 (operation mon.Add (Register 1) (Register 1))
+    ∷ only_if (operation mon.Eq (Register 2) (Register 0)) (dead 6 ∷ dead 5 ∷ dead 4 ∷ Return (Some (Register 1)) ∷ [])
+    ∷ born 7
+    ∷ Set 3 (operation mon.Add (Register 2) (constant 1))
+    ∷ only_if (operation mon.Eq (Register 3) (Register 0)) (dead 7 ∷ dead 6 ∷ Goto (codes "end_1") ∷ [])
+    ∷ dead 7
+    ∷ dead 6
+    ∷ [])) (codes "next_1")
+    ∷ Set 1 (operation mon.Add (Register 1) (constant 1))
+    ∷ [])) ∷ [])) (codes "end_1")
     ∷ dead 5
     ∷ dead 4
     ∷ Return (Some (operation mon.Sub (constant 0) (constant 1)))
@@ -194,16 +194,16 @@ main_is : (function_of halving 1 1 main).body ≡ code (
     ∷ GetChar (Some 4)
     ∷ Set 0 (Register 4)
     ∷ Labelled (code (Loop (code (leave_unless (operation mon.Gt (Register 0) (constant 0)) ∷ [])) (code (
-      Labelled (code (
-        born 3
-        ∷ Call (Some 5) 0 (operation mon.Sub (Register 0) (constant 48) ∷ [])
-        ∷ Set 1 (Register 5)
-        ∷ only_if (operation mon.Lt (Register 1) (constant 0)) (Exit (Register 0) ∷ [])
-        ∷ PutChar None (operation mon.Add (Register 1) (constant 48))
-        ∷ GetChar (Some 6)
-        ∷ Set 0 (Register 6)
-        ∷ dead 3
-        ∷ [])) (codes "next_1") ∷ [])) ∷ [])) (codes "end_1")
+    Labelled (code (
+    born 3
+    ∷ Call (Some 5) 0 (operation mon.Sub (Register 0) (constant 48) ∷ [])
+    ∷ Set 1 (Register 5)
+    ∷ only_if (operation mon.Lt (Register 1) (constant 0)) (Exit (Register 0) ∷ [])
+    ∷ PutChar None (operation mon.Add (Register 1) (constant 48))
+    ∷ GetChar (Some 6)
+    ∷ Set 0 (Register 6)
+    ∷ dead 3
+    ∷ [])) (codes "next_1") ∷ [])) ∷ [])) (codes "end_1")
     ∷ dead 2
     ∷ Return (Some (constant 0))
     ∷ dead 2
@@ -280,7 +280,7 @@ abbrev printing : TranslationUnit
 printing = program byte_names (function 0 [] (
     Declare (declared 2 c.I32 (number 0) ∷ declared 3 c.U8 (Node (here 1) (Int c.U8) (source.Cast (Int c.U8) (number 65))) ∷ [])
     ∷ Run (statement.For (here 1) [] statement.NoFirst (Some (binary operator.Lt (int 2) (number 3))) (Some (Node (here 1) int_type (source.Bump PostUp (int 2)))) (block (
-      Run (statement.If (here 1) skips (statement.Continue (here 1)) NoElse) ∷ prints ∷ [])))
+    Run (statement.If (here 1) skips (statement.Continue (here 1)) NoElse) ∷ prints ∷ [])))
     ∷ wraps
     ∷ Run (statement.Return (here 1) (Some (Node (here 1) int_type (source.Choice (int 2) (promoted 3) (number 0))))) ∷ []) ∷ [])
 

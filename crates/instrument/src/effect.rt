@@ -135,7 +135,15 @@ pub fn effect(
         }
         ExprKind::Assign(Some(op), left, right) => {
             let register = target(scene.numbers, left)?;
-            assign_by(alloc, scene.numbers, *op, (register, &e.ctype), right, types, to)
+            assign_by(
+                alloc,
+                scene.numbers,
+                *op,
+                (register, &e.ctype),
+                right,
+                types,
+                to,
+            )
         }
         ExprKind::Bump(op, left) => {
             let register = target(scene.numbers, left)?;

@@ -51,7 +51,9 @@ pub fn register_of(numbers: &[u32], x: u32) -> Result<u32, AllocError>
 pub fn pointer_of(numbers: &[u32], register: u32) -> Result<u32, AllocError>
     ensures { IfOk result (λ r. r ≡ length numbers.now + register) }
 {
-    numbered(numbers.len())?.checked_add(register).ok_or(AllocError)
+    numbered(numbers.len())?
+        .checked_add(register)
+        .ok_or(AllocError)
 }
 
 /// A further register.

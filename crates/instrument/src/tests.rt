@@ -67,8 +67,8 @@ fn declaration(offset: u32, name: u32, k: CInt) -> Decl {
     }
 }
 
-/// A definition of a function of one parameter, `int`, with this number, and with an empty body.
-fn function(alloc: Global, offset: u32) -> Result<Func, AllocError> {
+/// A definition with this number, and with an empty body, of a function of one parameter, `int`, with that number.
+fn function(alloc: Global, offset: u32, parameter: u32) -> Result<Func, AllocError> {
     let place = Place {
         line: 1,
         column: 1,
@@ -78,7 +78,7 @@ fn function(alloc: Global, offset: u32) -> Result<Func, AllocError> {
         place,
         name: 0,
         result: CType::Int(CInt::I32),
-        params: vec![in alloc; declaration(offset + 1, 0, CInt::I32)]?,
+        params: vec![in alloc; declaration(parameter, 0, CInt::I32)]?,
         contract: None,
         body: Some(run(StmtKind::Block(Vec::new(alloc)))),
         close: HERE,
@@ -94,7 +94,7 @@ fn two_functions(alloc: Global) -> Result<Program, AllocError> {
         enums: Vec::new(alloc),
         typedefs: Vec::new(alloc),
         globals: Vec::new(alloc),
-        funcs: vec![in alloc; function(alloc, 20)?, function(alloc, 40)?]?,
+        funcs: vec![in alloc; function(alloc, 20, 21)?, function(alloc, 40, 41)?]?,
         strays: Vec::new(alloc),
     })
 }
@@ -147,7 +147,12 @@ fn spell_all(to: &mut Vec<u8>, es: &[MonExpr]) -> Result<(), AllocError> {
 }
 
 /// The letters of the birth or the death of a block.
-fn act(to: &mut Vec<u8>, into: Option<u32>, f: MemoryCall, args: &[MonExpr]) -> Result<(), AllocError> {
+fn act(
+    to: &mut Vec<u8>,
+    into: Option<u32>,
+    f: MemoryCall,
+    args: &[MonExpr],
+) -> Result<(), AllocError> {
     match f {
         MemoryCall::StoreBlock => to.push(b'!')?,
         MemoryCall::DeleteBlock => to.push(b'/')?,
@@ -334,7 +339,7 @@ fn a_call_has_the_index_of_its_function(rt: HostRuntime) -> Result<(), AllocErro
 fn parameters_come_first(rt: HostRuntime) -> Result<(), AllocError> {
     let alloc = rt.alloc();
     let texts = vec![in alloc; Name::new(Vec::from_slice(alloc, b"sum")?)]?;
-    let mut f = function(alloc, 20)?;
+    let mut f = function(alloc, 20, 21)?;
     let init = Some((HERE, Init::One(number(1))));
     let mut own = declaration(30, 0, CInt::I8);
     own.init = init;

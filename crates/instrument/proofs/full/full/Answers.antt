@@ -1,12 +1,10 @@
 use Rattle.std.proofs.Common.{◌≡◌, ◌++◌, ap, sym, subst, ◌∙◌}
-use Rattle.std.specs.Prelude.{IfOk, OnOk}
-use Rattle.c_syntax.specs.Ctypes.{plain_type}
+use Rattle.std.specs.Prelude.{IfOk}
 use Rattle.c_syntax.specs.Expressions.{plain_expr}
 use Rattle.c_syntax.specs.Programs.{plain_program}
-use Rattle.mon_syntax.specs.Trees.{MonExpression, MonStatements, plain_expr as plain_monitored, plain_stmts}
+use Rattle.mon_syntax.specs.Trees.{MonExpression, plain_expr as plain_monitored, plain_stmts}
 use Rattle.mon_syntax.specs.declared.tree.MonExpr.{MonExpr}
-use Rattle.mon_syntax.specs.declared.tree.MonType.{MonType}
-use Rattle.instrument.specs.Expressions.{before, in_type, value_type}
+use Rattle.instrument.specs.Expressions.{before, in_type}
 use Rattle.instrument.specs.Options.{direct_value}
 use Rattle.instrument.proofs.Trees.{on_ok, full_cast_setup, full_cast_value, full_cast_temporaries, full_cast_letters}
 use Rattle.instrument.proofs.full.full.Goals as goal

@@ -1,9 +1,8 @@
-use Rattle.std.proofs.Common.{◌≡◌, ◌++◌, [], ◌∷◌, true, false, length, map, refl, ap, subst, sym, ◌∙◌}
-use Rattle.std.proofs.lemmas.List.{append-nil, map-append}
+use Rattle.std.proofs.Common.{◌++◌, length, map, ap, sym, ◌∙◌}
+use Rattle.std.proofs.lemmas.List.{append-nil}
 use Rattle.c_syntax.specs.Programs.{plain_func, plain_program}
 use Rattle.mon_syntax.specs.Trees.{plain_func as plain_monitored_func}
-use Rattle.instrument.specs.Translation.{functions_from}
-use Rattle.instrument.proofs.Definitions.{no_definition, a_definition, from_none, from_one}
+use Rattle.instrument.proofs.Definitions.{no_definition, from_none}
 use Rattle.instrument.proofs.program.add.Goals as goal
 
 pub returns-in-None-clause-code : goal.returns-in-None-clause-code

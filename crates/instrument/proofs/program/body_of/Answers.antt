@@ -1,4 +1,4 @@
-use Rattle.std.proofs.Common.{◌≡◌, ℕ, List, [], map, option_map, ap, ◌∙◌}
+use Rattle.std.proofs.Common.{ℕ, List, [], map, option_map, ap, ◌∙◌}
 use Rattle.c_syntax.specs.Programs.{plain_program}
 use Rattle.c_syntax.specs.Statements.{plain_decl, plain_stmt}
 use Rattle.mon_syntax.specs.Trees.{NoStatement, plain_stmts}

@@ -1,4 +1,4 @@
-use Rattle.std.proofs.Common.{◌≡◌, ◌+◌, ◌++◌, length, drop, map, refl, ap, subst, sym, ◌∙◌}
+use Rattle.std.proofs.Common.{length, map, refl, ap, subst, sym, ◌∙◌}
 use Rattle.c_syntax.specs.Programs.{plain_func, plain_program}
 use Rattle.mon_syntax.specs.Trees.{plain_func as plain_monitored_func}
 use Rattle.instrument.specs.Limits.{FunctionsHaveNumbers}

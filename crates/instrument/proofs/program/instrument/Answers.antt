@@ -1,4 +1,4 @@
-use Rattle.std.proofs.Common.{length, sym, subst, ◌<◌, ◌^◌}
+use Rattle.std.proofs.Common.{sym, subst}
 use Rattle.c_syntax.specs.Programs.{plain_program}
 use Rattle.c_model.specs.Meaning.{run}
 use Rattle.c_model.specs.Reports.{Agrees}

@@ -1,4 +1,4 @@
-use Rattle.std.proofs.Common.{◌<◌, ◌^◌, length, sym, subst}
+use Rattle.std.proofs.Common.{◌<◌, ◌^◌, sym, subst}
 use Rattle.std.proofs.lemmas.List.{length-map}
 use Rattle.c_syntax.specs.Programs.{plain_func}
 use Rattle.instrument.proofs.program.translate.Goals as goal

@@ -12,7 +12,7 @@ use Rattle.mon_syntax.proofs.Rows.{if_is}
 use Rattle.instrument.specs.Limits.{HasNumbers, HaveNumbers}
 use Rattle.instrument.specs.Options.{plain_else_part, plain_first_part, plain_spot}
 use Rattle.instrument.specs.Expressions.{before, one, temporaries}
-use Rattle.instrument.specs.Translation.{Spot, any_temporaries, effect_temporaries, else_part, first_part, first_temporaries, item, item_temporaries, items, items_temporaries, statement, statement_temporaries, test_if_any}
+use Rattle.instrument.specs.Translation.{any_temporaries, effect_temporaries, else_part, first_part, first_temporaries, item, item_temporaries, items, items_temporaries, statement, statement_temporaries, test_if_any}
 use Rattle.instrument.proofs.Sequences.{left_at, none_left, all_there, complete, grown, more_behind, nothing}
 use Rattle.instrument.proofs.StatementTrees.{on_ok_then, block_stmt, if_stmt, for_stmt, do_stmt, if_code, do_code, turns_code, for_code, alive_code, declared_of_first, four_types}
 use Rattle.instrument.proofs.Trees.{on_ok}

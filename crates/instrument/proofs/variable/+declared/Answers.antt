@@ -1,4 +1,4 @@
-use Rattle.std.proofs.Common.{◌≡◌, ◌+◌, drop, refl, ap, sym, subst, ◌∙◌}
+use Rattle.std.proofs.Common.{refl, subst}
 use Rattle.std.specs.Prelude.{OnOk}
 use Rattle.c_syntax.specs.Statements.{Statement, plain_item, plain_items, plain_stmt}
 use Rattle.c_model.specs.Formed.{declared_within, declared_in_else, declared_in_first, declared_in_item, declared_in_items}
