@@ -1,5 +1,5 @@
 -- Functions one after another are those that the definition of a file types.
-use Rattle.std.proofs.Common.{◌≡◌, ℕ, refl, sym, ap, ◌∙◌, subst, List, [], ◌∷◌, ◌++◌, append_assoc, map, Option, Some, Bool, true, false, not, ◌&&◌, cond, Result, Ok, Err}
+use Rattle.std.proofs.Common.{◌≡◌, ℕ, refl, sym, ap, ◌∙◌, subst, List, [], ◌∷◌, ◌++◌, append_assoc, map, Option, Bool, true, false, not, ◌&&◌, cond, Result, Ok, Err}
 use Rattle.std.specs.Prelude.{Vec}
 use Rattle.std.specs.declared.alloc.Global.{Global}
 use Rattle.std.proofs.lemmas.List.{append-nil, map-append}
@@ -9,14 +9,14 @@ use Rattle.c_syntax.specs.Programs.{Function, TranslationUnit, plain_func}
 use Rattle.c_model.specs.Library.{is_library_name}
 use Rattle.c_model.specs.Checked.{Checked, Good, Bad, one_part, both_parts, where_so}
 use Rattle.c_model.specs.Typing.{no_name, no_type, Scopes, name_at, is_object_type, declarable}
-use Rattle.c_model.specs.ProgramTyping.{signature, is_compatible_with_all, typed_heading, typed_parameter, with_parameter, with_parameters, typed_parameters, function_scopes, typed_body, typed_function, typed_functions, noted_body, noted_functions}
+use Rattle.c_model.specs.ProgramTyping.{signature, is_compatible_with_all, typed_parameter, with_parameter, with_parameters, typed_parameters, function_scopes, typed_body, typed_function, typed_functions, noted_body, noted_functions}
 use Rattle.c_type_rules.specs.declared.fault.TypeFault.{TypeFault}
 use Rattle.c_type_rules.specs.declared.fault.TypeFault.TheVariants.{Refused, Memory}
 use Rattle.c_type_rules.specs.Answers.{Answers, Joined, Pushed}
 use Rattle.c_type_rules.proofs.Gives.{Gives, gives_where}
 use Rattle.c_type_rules.proofs.Least.{one_refused, one_then, both_refused}
 use Rattle.c_typing.specs.declared.heading.Callee.{Callee}
-use Rattle.c_typing.specs.Functions.{AnswersBehind, denoted, known, with_known, fits, checked_heading, with_function, checked_parameters, checked_parts, file_of, typed_file, noted_parts, noted_in_turn}
+use Rattle.c_typing.specs.Functions.{AnswersBehind, denoted, known, with_known, checked_heading, with_function, checked_parameters, checked_parts, file_of, typed_file, noted_parts, noted_in_turn}
 use Rattle.c_typing.specs.Scopes.{at_file}
 use Rattle.c_typing.specs.Trees.{plain_funcs}
 use Rattle.c_typing.proofs.Headings.{declared_is, known_snoc, fits_is}

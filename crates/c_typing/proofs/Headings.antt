@@ -7,7 +7,7 @@ use Rattle.c_model.specs.Library.{is_there}
 use Rattle.c_model.specs.Typing.{Signature}
 use Rattle.c_model.specs.ProgramTyping.{definition_of, first_of, number_or, offset_of, types_of, signature, same_signature, is_compatible, is_compatible_with_all}
 use Rattle.c_typing.specs.declared.heading.Callee.{Callee}
-use Rattle.c_typing.specs.Functions.{denoted_by, denoted, told, was_defined, known, with_known, fits_types, fits, decl_or, is_defined, declared}
+use Rattle.c_typing.specs.Functions.{denoted_by, denoted, told, was_defined, known, with_known, fits_types, fits, declared}
 
 -- ---- what names denote
 

@@ -1,18 +1,17 @@
 -- The typed body with its typed annotations is well typed.
-use Rattle.std.proofs.Common.{◌≡◌, ℤ, ℕ, refl, sym, ap, subst, List, [], ◌∷◌, map, Option, Some, None, Bool, true, false, cond, not}
+use Rattle.std.proofs.Common.{◌≡◌, ℤ, ℕ, refl, sym, subst, List, [], ◌∷◌, Option, Some, None, Bool, true, false, cond}
 use Rattle.c_syntax.specs.declared.place.Place.{Place}
 use Rattle.c_syntax.specs.declared.types.CInt.{CInt}
 use Rattle.c_syntax.specs.declared.annotation.Range.{Range}
 use Rattle.c_syntax.specs.Ctypes.{PlainType}
 use Rattle.c_syntax.specs.Annotations.{LogicTerm, Number, Letter, Variable, Binary, Predicate, Chain, Links, NoLink, Linked, ClauseBody, Truth, Annotation}
 use Rattle.c_syntax.specs.Statements.{Statement, Empty, Eval, Block, If, While, Do, For, Break, Continue, Return, ElsePart, NoElse, Else, BlockItem, Declare, Run, Asserts, BlockItems, NoItem, Then}
-use Rattle.c_syntax.specs.Programs.{Function, TranslationUnit}
-use Rattle.c_model.specs.Library.{is_library_name, library_constant, is_there}
-use Rattle.c_model.specs.Checked.{Good, faulty, one_part, where_so}
+use Rattle.c_model.specs.Library.{library_constant, is_there}
+use Rattle.c_model.specs.Checked.{Good, faulty, one_part}
 use Rattle.c_model.specs.Typing.{no_name, no_type, Object, Signature, Scopes, name_at, object_named, function_called, library_function, use_as, Around, in_loop, inner, behind, behind_first, typed_items}
-use Rattle.c_model.specs.ProgramTyping.{typed_body, term_named, typed_term, typed_links, typed_predicate, typed_clause, typed_annotations, noted_statement, noted_else, noted_item, noted_items, noted_body, noted_functions, noted_unit}
-use Rattle.c_model.specs.WellTypedPrograms.{StatementTyped, ElseTyped, ItemTyped, ItemsTyped, TermTyped, LinksTyped, PredicateTyped, ClauseTyped, AnnotationsTyped, StatementNoted, ElseNoted, ItemNoted, ItemsNoted, around_body, BodyTyped, FunctionsTyped, ProgramTyped}
-use Rattle.c_type_rules.proofs.Gives.{Gives, gives_of, gives_one, gives_both, gives_where}
+use Rattle.c_model.specs.ProgramTyping.{typed_body, term_named, typed_term, typed_links, typed_predicate, typed_clause, typed_annotations, noted_statement, noted_else, noted_item, noted_items, noted_body}
+use Rattle.c_model.specs.WellTypedPrograms.{StatementTyped, ElseTyped, ItemTyped, ItemsTyped, TermTyped, LinksTyped, PredicateTyped, ClauseTyped, AnnotationsTyped, StatementNoted, ElseNoted, ItemNoted, ItemsNoted, around_body, BodyTyped}
+use Rattle.c_type_rules.proofs.Gives.{Gives, gives_one, gives_both}
 use Rattle.c_typing.proofs.WellStatements.{items_well}
 
 -- ---- annotations

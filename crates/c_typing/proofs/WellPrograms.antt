@@ -1,5 +1,5 @@
 -- The typed program with its typed annotations is well typed.
-use Rattle.std.proofs.Common.{◌≡◌, ℕ, refl, sym, ap, ◌∙◌, subst, List, [], ◌∷◌, ◌++◌, append_assoc, map, Option, Some, None, Bool, true, false, cond, not, ◌&&◌, nat_eq}
+use Rattle.std.proofs.Common.{◌≡◌, ℕ, refl, sym, ap, ◌∙◌, subst, List, [], ◌∷◌, ◌++◌, map, Option, Some, None, Bool, true, false, cond, not, ◌&&◌, nat_eq}
 use Rattle.std.proofs.lemmas.List.{map-append}
 use Rattle.c_syntax.specs.declared.place.Place.{Place}
 use Rattle.c_syntax.specs.Ctypes.{PlainType}
@@ -8,9 +8,9 @@ use Rattle.c_syntax.specs.Programs.{Function, TranslationUnit}
 use Rattle.c_model.specs.Meaning.{is_definition}
 use Rattle.c_model.specs.Library.{is_library_name, is_there}
 use Rattle.c_model.specs.Checked.{Good, one_part, where_so}
-use Rattle.c_model.specs.Typing.{no_name, no_type, Signature, Scopes, name_at, same_type, is_object_type, declarable}
+use Rattle.c_model.specs.Typing.{no_type, Signature, Scopes, name_at, same_type, is_object_type, declarable}
 use Rattle.c_model.specs.ProgramTyping.{definition_of, first_of, number_or, offset_of, types_of, signature, same_types, is_compatible, is_compatible_with_all, typed_heading, typed_parameter, with_parameter, with_parameters, typed_parameters, function_scopes, typed_body, typed_function, typed_functions, typed_unit, noted_body, noted_functions, noted_unit}
-use Rattle.c_model.specs.WellTypedPrograms.{IsParameter, AreParameters, BodyTyped, FunctionTyped, FunctionsTyped, ProgramTyped}
+use Rattle.c_model.specs.WellTypedPrograms.{IsParameter, AreParameters, BodyTyped, FunctionsTyped, ProgramTyped}
 use Rattle.c_type_rules.proofs.Gives.{Gives, gives_of, gives_more, gives_one, gives_both, gives_where}
 use Rattle.c_type_rules.proofs.WellExpressions.{and_true, not_true}
 use Rattle.c_typing.proofs.WellStatements.{IsNew, declarable_well}

@@ -379,7 +379,8 @@ fn body(alloc: Global, n: u32) -> Result<Option<Vec<Item>>, AllocError> {
 }
 
 /// A function by its place, its name, its result, and the numbers of its parameters and its body.
-struct Case {
+#[derive(Drop)]
+struct Described {
     place: u32,
     number: u32,
     gives: CType,
@@ -387,8 +388,8 @@ struct Case {
     body: u32,
 }
 
-fn case(place: u32, number: u32, gives: CType, params: u32, body: u32) -> Case {
-    Case {
+fn case(place: u32, number: u32, gives: CType, params: u32, body: u32) -> Described {
+    Described {
         place,
         number,
         gives,
@@ -398,7 +399,7 @@ fn case(place: u32, number: u32, gives: CType, params: u32, body: u32) -> Case {
 }
 
 /// The answer for the functions of cases.
-fn functions_answer(alloc: Global, cases: [Case; 3]) -> Result<(u8, u32), AllocError> {
+fn functions_answer(alloc: Global, cases: [Described; 3]) -> Result<(u8, u32), AllocError> {
     let mut funcs = Vec::new(alloc);
     for c in cases {
         let params = parameters(alloc, c.params)?;
@@ -409,15 +410,15 @@ fn functions_answer(alloc: Global, cases: [Case; 3]) -> Result<(u8, u32), AllocE
 }
 
 /// `int f(int x);` at 10, `int f(int x) { return x; }` at 20, and `int main(void) { }` with these calls at 30.
-fn prototype() -> Case {
+fn prototype() -> Described {
     case(10, F, INT, 1, 0)
 }
 
-fn definition() -> Case {
+fn definition() -> Described {
     case(20, F, INT, 1, 1)
 }
 
-fn main_with(body: u32) -> Case {
+fn main_with(body: u32) -> Described {
     case(30, MAIN, INT, 0, body)
 }
 

@@ -1,5 +1,5 @@
 use Rattle.std.proofs.Common.{◌≡◌, ◌∙◌, [], sym, ap, subst, rules, map, Err}
-use Rattle.c_syntax.specs.Programs.{TranslationUnit, plain_func, plain_program}
+use Rattle.c_syntax.specs.Programs.{plain_func, plain_program}
 use Rattle.c_model.specs.Checked.{Good, one_part}
 use Rattle.c_model.specs.ProgramTyping.{noted_functions}
 use Rattle.c_type_rules.specs.Answers.{Answers}
