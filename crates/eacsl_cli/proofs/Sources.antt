@@ -1,10 +1,9 @@
 -- A source that isn't asked.
-use Rattle.std.proofs.Common.{◌≡◌, ℕ, List, [], Option, Some, None, refl, arith}
+use Rattle.std.proofs.Common.{◌≡◌, ℕ, List, [], Option, Some, None, refl, subst, arith}
 use Rattle.c_model.specs.declared.job.Job.{Job}
-use Rattle.c_model.specs.declared.job.Job.TheVariants.{Run, Instrument, Exec}
 use Rattle.c_model.specs.State.{Input, EndOfInput}
 use Rattle.mon_syntax.specs.Trees.{MonitoredProgram}
-use Rattle.c_machine.specs.Inputs.{taking, Untouched, IsInput, Ended}
+use Rattle.c_machine.specs.Inputs.{Taking, taking, Untouched, IsInput, Ended}
 use Rattle.eacsl_cli.specs.Answers.{TookWanted}
 use Rattle.eacsl_cli.specs.Sound.{LeavesSource}
 
@@ -23,7 +22,7 @@ nothing_taken m steps (Some left) faults = record { bytes = []; gave = (left, re
 
 -- no job asks more of it
 pub unasked_leaves : (job : Option Job) (left : Option (List ℕ)) (faults : ℕ) → LeavesSource job (taking left left faults faults)
-unasked_leaves None left faults = unasked
-unasked_leaves (Some (Run file steps rte)) left faults = tt
-unasked_leaves (Some (Instrument file rte)) left faults = unasked
-unasked_leaves (Some (Exec file steps)) left faults = tt
+unasked_leaves job left faults = record { unread = λ _. unasked }
+
+pub leaves_by : {job job' : Option Job} {source : Taking} → job ≡ job' → LeavesSource job source → LeavesSource job' source
+leaves_by {source = source} e l = subst (λ j. LeavesSource j source) e l

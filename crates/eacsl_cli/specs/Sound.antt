@@ -1,5 +1,5 @@
 -- What a call answers in which no port failed, and which statuses there are.
-use Rattle.std.specs.Prelude.{◌≡◌, ◌⊎◌, ℕ, ◌≤◌, ◌<◌, ⊤, false, List, length, Option, Some, None}
+use Rattle.std.specs.Prelude.{◌≡◌, ◌⊎◌, ℕ, ◌≤◌, ◌<◌, Bool, true, false, List, length, Option, Some, None}
 use Rattle.c_syntax.specs.Programs.{TranslationUnit, PlainRefusal}
 use Rattle.c_model.specs.declared.job.Job.{Job}
 use Rattle.c_model.specs.declared.job.Job.TheVariants.{Run, Instrument, Exec}
@@ -76,9 +76,13 @@ pub record IsStatus (before now : ℕ) (source : Taking) (status : ℕ) : Type 0
   -- where the source failed, that is the answer, unless a sink failed or memory was wanting
   pub source_fault : source.faults < source.faults' → (status ≡ 7) ⊎ (status ≡ 8) ⊎ (status ≡ 9)
 
+-- the job reads the program's input
+abbrev pub reads_input : Option Job → Bool
+reads_input None = false
+reads_input (Some (Run file steps rte)) = true
+reads_input (Some (Instrument file rte)) = false
+reads_input (Some (Exec file steps)) = true
+
 -- words without a job leave the source as it was, and so does `instrument`
-abbrev pub LeavesSource : Option Job → Taking → Type 0
-LeavesSource None source = Untouched source
-LeavesSource (Some (Run file steps rte)) source = ⊤
-LeavesSource (Some (Instrument file rte)) source = Untouched source
-LeavesSource (Some (Exec file steps)) source = ⊤
+pub record LeavesSource (job : Option Job) (source : Taking) : Type 0 where
+  pub unread : reads_input job ≡ false → Untouched source

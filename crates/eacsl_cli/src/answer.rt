@@ -114,7 +114,7 @@ fn execute<I: Source, O: Sink, E: Sink>(
     out: &mut O,
     err: &mut E,
 ) -> u8
-    ensures answered { Answered (AnswersOnInput (taking (I.left input.old) (I.left input.new) (I.faults input.old) (I.faults input.new)) (plain_program m.now) steps) (BeginsOnInput (taking (I.left input.old) (I.left input.new) (I.faults input.old) (I.faults input.new)) (plain_program m.now) steps) (change (O.told out.old) (O.told out.new) (O.faults out.old) (O.faults out.new)) (change (E.told err.old) (E.told err.new) (E.faults err.old) (E.faults err.new)) result }
+    ensures { Answered (AnswersOnInput (taking (I.left input.old) (I.left input.new) (I.faults input.old) (I.faults input.new)) (plain_program m.now) steps) (BeginsOnInput (taking (I.left input.old) (I.left input.new) (I.faults input.old) (I.faults input.new)) (plain_program m.now) steps) (change (O.told out.old) (O.told out.new) (O.faults out.old) (O.faults out.new)) (change (E.told err.old) (E.told err.new) (E.faults err.old) (E.faults err.new)) result }
 {
     let code = match lower(alloc, m) {
         Ok(code) => code,
@@ -147,7 +147,7 @@ pub fn run_text<I: Source, O: Sink, E: Sink>(
     err: &mut E,
 ) -> u8
     requires { length text.now ≤ 1048576 }
-    ensures answered { Answered (RunDue (taking (I.left input.old) (I.left input.new) (I.faults input.old) (I.faults input.new)) text.now steps) (RunBegins (taking (I.left input.old) (I.left input.new) (I.faults input.old) (I.faults input.new)) text.now steps) (change (O.told out.old) (O.told out.new) (O.faults out.old) (O.faults out.new)) (change (E.told err.old) (E.told err.new) (E.faults err.old) (E.faults err.new)) result }
+    ensures { Answered (RunDue (taking (I.left input.old) (I.left input.new) (I.faults input.old) (I.faults input.new)) text.now steps) (RunBegins (taking (I.left input.old) (I.left input.new) (I.faults input.old) (I.faults input.new)) text.now steps) (change (O.told out.old) (O.told out.new) (O.faults out.old) (O.faults out.new)) (change (E.told err.old) (E.told err.new) (E.faults err.old) (E.faults err.new)) result }
 {
     match translated(alloc, text) {
         Ok(m) => execute(alloc, &m, steps, input, out, err),
@@ -159,7 +159,7 @@ pub fn run_text<I: Source, O: Sink, E: Sink>(
 /// Writes the monitored text of the annotated program that a text spells, or says why the text is refused.
 pub fn instrument_text<O: Sink, E: Sink>(alloc: Global, text: &[u8], out: &mut O, err: &mut E) -> u8
     requires { length text.now ≤ 1048576 }
-    ensures answered { Answered (InstrumentDue text.now) (InstrumentBegins text.now) (change (O.told out.old) (O.told out.new) (O.faults out.old) (O.faults out.new)) (change (E.told err.old) (E.told err.new) (E.faults err.old) (E.faults err.new)) result }
+    ensures { Answered (InstrumentDue text.now) (InstrumentBegins text.now) (change (O.told out.old) (O.told out.new) (O.faults out.old) (O.faults out.new)) (change (E.told err.old) (E.told err.new) (E.faults err.old) (E.faults err.new)) result }
 {
     let m = match translated(alloc, text) {
         Ok(m) => m,
@@ -183,7 +183,7 @@ pub fn exec_text<I: Source, O: Sink, E: Sink>(
     err: &mut E,
 ) -> u8
     requires { length text.now ≤ 67108864 }
-    ensures answered { Answered (ExecDue (taking (I.left input.old) (I.left input.new) (I.faults input.old) (I.faults input.new)) text.now steps) (ExecBegins (taking (I.left input.old) (I.left input.new) (I.faults input.old) (I.faults input.new)) text.now steps) (change (O.told out.old) (O.told out.new) (O.faults out.old) (O.faults out.new)) (change (E.told err.old) (E.told err.new) (E.faults err.old) (E.faults err.new)) result }
+    ensures { Answered (ExecDue (taking (I.left input.old) (I.left input.new) (I.faults input.old) (I.faults input.new)) text.now steps) (ExecBegins (taking (I.left input.old) (I.left input.new) (I.faults input.old) (I.faults input.new)) text.now steps) (change (O.told out.old) (O.told out.new) (O.faults out.old) (O.faults out.new)) (change (E.told err.old) (E.told err.new) (E.faults err.old) (E.faults err.new)) result }
 {
     match read_monitored(alloc, text) {
         Ok(m) => execute(alloc, &m, steps, input, out, err),

@@ -1,9 +1,8 @@
-use Rattle.std.proofs.Common.{◌≡◌, refl, subst, map, Some, None, ◌∙◌, string_bytes}
+use Rattle.std.proofs.Common.{◌≡◌, refl, map, Some, None, ◌∙◌, string_bytes}
 use Rattle.c_model.specs.Words.{job_of}
-use Rattle.eacsl_cli.specs.Sound.{LeavesSource}
 use Rattle.eacsl_cli.proofs.Jobs.{memory_said, usage_said, missing_said, too_long_said, fault_said, file_answered}
 use Rattle.eacsl_cli.proofs.Soundness.{sound}
-use Rattle.eacsl_cli.proofs.Sources.{unasked, unasked_leaves}
+use Rattle.eacsl_cli.proofs.Sources.{unasked, unasked_leaves, leaves_by}
 use Rattle.eacsl_cli.proofs.Statuses.{answered_status}
 use Rattle.eacsl_cli.proofs.answer.eacsl.Goals as goal
 
@@ -89,7 +88,7 @@ returns-in-Err-clause-unread g c = unasked_leaves (job_of (map string_bytes c.ar
 pub returns-in-Ok-clause-unread : goal.returns-in-Ok-clause-unread
 returns-in-Ok-clause-unread g c =
     let e : Some c.in-Ok-Some.job ≡ job_of (map string_bytes c.args.words.items) = rw (c.in-Ok-Some.field-0-is, c.deref.ensures.value) at c.in-Ok-Some.ensures in
-    subst (λ job. LeavesSource job _) e c.do_job.ensures.unread
+    leaves_by e c.do_job.ensures.unread
 
 pub returns-in-Err-Missing-clause-unread : goal.returns-in-Err-Missing-clause-unread
 returns-in-Err-Missing-clause-unread g c = unasked_leaves (job_of (map string_bytes c.args.words.items)) _ _
