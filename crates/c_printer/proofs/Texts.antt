@@ -15,7 +15,7 @@ use Rattle.mon_syntax.specs.declared.tree.MonExpr.{MonExpr}
 use Rattle.mon_syntax.specs.declared.tree.MonType.{MonType}
 use Rattle.mon_syntax.specs.declared.tree.MonOp.{MonOp}
 use Rattle.mon_syntax.specs.Names.{constant_word, type_word}
-use Rattle.mon_syntax.specs.Trees.{MonExpression, Constant, Binary, Minus, Flip, Cast, Set, Assert, Return, PutChar, If, Loop, Labelled, MonStatements, MonRegister, MonFunction, plain_expr, plain_stmt, plain_stmts, plain_register, plain_func}
+use Rattle.mon_syntax.specs.Trees.{MonExpression, Constant, Binary, Minus, Flip, Cast, Set, Assert, Return, If, Loop, Labelled, MonStatements, MonRegister, MonFunction, plain_expr, plain_stmt, plain_stmts, plain_register, plain_func}
 use Rattle.mon_syntax.specs.Text.{Piece, FunctionNames, arguments_pieces, more_arguments, set_or_none, Word, Mark, escaped, is_plain, Registers, Quoted, blank, body_pieces, new_line, right_paren, statements_pieces, registers_pieces, more_parameters, function_pieces, functions_pieces, assert_arguments, call_pieces, expression_pieces, name_of, number_pieces, operator_mark, parameter_pieces, parameters_pieces, result_word, in_parens, semicolon, set_pieces, spelled, spelled_piece, statement_pieces}
 use Rattle.std.specs.Prelude.{Vec, Option, option_map}
 use Rattle.std.specs.declared.alloc.Global.{Global}
@@ -108,12 +108,6 @@ return_text rs e = ap (λ l. codes "return " ++ l) (spelled_append (expression_p
 
 pub at_return : (rs : Registers) (value : Option MonExpr) (e : MonExpr) → value ≡ Some e → spelled (statement_pieces [] rs 0 (Return (option_map plain_expr value))) ≡ codes "return " ++ (text rs (plain_expr e) ++ codes ";")
 at_return rs value e same = ap (λ v. spelled (statement_pieces [] rs 0 (Return (option_map plain_expr v)))) same ∙ return_text rs (plain_expr e)
-
-put_text : (rs : Registers) (r : ℕ) (e : MonExpression) → spelled (statement_pieces [] rs 0 (PutChar (Some r) e)) ≡ spelled (set_pieces (name_of rs r)) ++ spelled (call_pieces (codes "putchar") (expression_pieces rs e))
-put_text rs r e = spelled_append (set_pieces (name_of rs r)) (call_pieces (codes "putchar") (expression_pieces rs e))
-
-pub at_put : (rs : Registers) (o : Option ℕ) (r : ℕ) (e : MonExpression) → o ≡ Some r → spelled (statement_pieces [] rs 0 (PutChar o e)) ≡ spelled (set_pieces (name_of rs r)) ++ spelled (call_pieces (codes "putchar") (expression_pieces rs e))
-at_put rs o r e same = ap (λ x. spelled (statement_pieces [] rs 0 (PutChar x e))) same ∙ put_text rs r e
 
 in_parens_text : (inner behind : List Piece) → spelled ((inner ++ (right_paren ∷ [])) ++ behind) ≡ spelled inner ++ (41 ∷ spelled behind)
 in_parens_text inner behind =

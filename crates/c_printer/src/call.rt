@@ -19,6 +19,16 @@ pub fn set<O: Sink>(r: u32, named: &Named<'_>, to: &mut Writer, out: &mut O)
     to.write(out, b" = ");
 }
 
+// `R = `, where a register takes the value.
+fn target<O: Sink>(r: Option<u32>, named: &Named<'_>, to: &mut Writer, out: &mut O)
+    ensures { Printed (pipe_of (O.told out.old) to.old (O.faults out.old)) (pipe_of (O.told out.new) to.new (O.faults out.new)) (spelled (set_or_none (registers_of named.now) r)) }
+{
+    match r {
+        None => {}
+        Some(r) => set(r, named, to, out),
+    }
+}
+
 /// `NAME(e);`
 pub fn call<O: Sink>(callee: &[u8], e: &MonExpr, named: &Named<'_>, to: &mut Writer, out: &mut O)
     ensures { Printed (pipe_of (O.told out.old) to.old (O.faults out.old)) (pipe_of (O.told out.new) to.new (O.faults out.new)) (spelled (call_pieces callee.now (expression_pieces (registers_of named.now) (plain_expr e.now)))) }
@@ -39,13 +49,8 @@ pub fn put_char<O: Sink>(
 )
     ensures { Printed (pipe_of (O.told out.old) to.old (O.faults out.old)) (pipe_of (O.told out.new) to.new (O.faults out.new)) (spelled (statement_pieces [] (registers_of named.now) 0 (PutChar r (plain_expr e.now)))) }
 {
-    match r {
-        None => call(b"putchar", e, named, to, out),
-        Some(r) => {
-            set(r, named, to, out);
-            call(b"putchar", e, named, to, out);
-        }
-    }
+    target(r, named, to, out);
+    call(b"putchar", e, named, to, out);
 }
 
 /// The name of the function of a number, empty where there is none.
@@ -77,16 +82,6 @@ fn arguments<O: Sink>(list: &[MonExpr], named: &Named<'_>, to: &mut Writer, out:
             expression(first, named, to, out);
             more_arguments(rest, named, to, out);
         }
-    }
-}
-
-// `R = `, where a register takes the value.
-fn target<O: Sink>(r: Option<u32>, named: &Named<'_>, to: &mut Writer, out: &mut O)
-    ensures { Printed (pipe_of (O.told out.old) to.old (O.faults out.old)) (pipe_of (O.told out.new) to.new (O.faults out.new)) (spelled (set_or_none (registers_of named.now) r)) }
-{
-    match r {
-        None => {}
-        Some(r) => set(r, named, to, out),
     }
 }
 

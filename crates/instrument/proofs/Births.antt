@@ -1,5 +1,5 @@
 -- Births and deaths of variables: their blocks are born and die on both sides, with the same numbers.
-use Rattle.std.proofs.Common.{◌≡◌, ◌≢◌, ℕ, suc, ◌+◌, ◌<◌, ◌≤◌, pos, false, cond, nat_eq, if◌then◌else◌, List, [], ◌∷◌, ◌++◌, length, length-set, length-append, append_assoc, Option, Some, None, refl, sym, ap, ◌∙◌, subst, arith}
+use Rattle.std.proofs.Common.{◌≡◌, ◌≢◌, ℕ, suc, ◌+◌, ◌<◌, ◌≤◌, false, cond, nat_eq, List, [], ◌∷◌, ◌++◌, length, length-set, length-append, append_assoc, Option, Some, None, refl, sym, ap, ◌∙◌, subst, arith}
 use Rattle.std.proofs.lemmas.List.{append-nil}
 use Rattle.std.proofs.lemmas.Bool.Decides.{nat_tests}
 use Rattle.std.specs.Prelude.{slice_get, slice_set, map}
@@ -13,17 +13,16 @@ use Rattle.c_model.specs.Integers.{size_of, int_size}
 use Rattle.c_model.specs.Memory.{Into, new_block, full_at_stack_birth, standard_sizes, kill_from}
 use Rattle.c_model.specs.State.{State, Full, Over, Normal, Stop, on_outcome, birth, birth_of, births, back_to}
 use Rattle.c_model.specs.Formed.{number_of}
-use Rattle.mon_syntax.specs.declared.tree.MemoryCall.TheVariants.{DeleteBlock}
-use Rattle.mon_syntax.specs.Meaning.{Done, Stops, Next, then_do, at_next, writes, with_value, replied}
-use Rattle.mon_syntax.specs.Meaning.{◌>>=◌ as bind}
+use Rattle.mon_syntax.specs.Meaning.{Done, Stops, Next, then_do, at_next, writes}
 use Rattle.mon_syntax.specs.Meaning as monitored
-use Rattle.mon_syntax.specs.Memory.{Gives, Faults}
-use Rattle.mon_syntax.specs.Memories.{BlockValue, Whole, Points, Blocks, over_blocks, stack_block, act_on_blocks, dead_at}
+use Rattle.mon_syntax.specs.Memories.{BlockValue, Points, over_blocks}
 use Rattle.mon_syntax.proofs.FlatBlocks.{live_in, live-born}
-use Rattle.instrument.specs.Expressions.{register_of}
-use Rattle.instrument.specs.Translation as target
-use Rattle.instrument.specs.Translation.{deaths, with_born}
-use Rattle.instrument.proofs.Lives.{full-alike, deleted, up_to, AllUpTo, AllAbove, up_to-all, up_to-behind, all_up_to-append, all_up_to-more, live-numbered, live-killed, length-killed, get-killed}
+use Rattle.track_scopes.specs.Blocks.{register_of, deaths}
+use Rattle.track_scopes.specs.Lives.{SameBlocks, Point}
+use Rattle.track_scopes.proofs.Births.{same_born, birth_does, birth_is}
+use Rattle.track_scopes.proofs.Deaths.{all_die}
+use Rattle.track_scopes.specs.Blocks as target
+use Rattle.track_scopes.proofs.Lives.{up_to, AllUpTo, AllAbove, up_to-all, up_to-behind, all_up_to-append, all_up_to-more, live-numbered, live-killed, length-killed, get-killed}
 use Rattle.instrument.proofs.Variables.{Slot, Setting, count, value_at, pointer_at, scope_of, live_of, slot_of, Matches, AllMatch, Stacked, Related, Beside, AllKept, Held, get-front, get-front_same, get-end, get-below, get-set_same, stacked_base, stacked_more, kept_below, kept_trans, match_below, kept_behind, match_behind, apart_behind, live_of-append}
 use Rattle.instrument.proofs.Evaluating.{Target, Did, runs}
 use Rattle.instrument.proofs.Following.{Later, later_same, later_trans}
@@ -44,9 +43,9 @@ slots_born n (d ∷ ds) slots = slots_born (suc n) ds (slot_for n d ∷ slots)
 abbrev pub decls_of : List Slot → List ℕ
 decls_of slots = map (λ (v : Slot). v.decl) slots
 
--- the registers of their values
+-- the registers that point to their blocks
 abbrev pub registers_of : Setting → List Slot → List ℕ
-registers_of w slots = map (λ (v : Slot). value_at w v.decl) slots
+registers_of w slots = map (λ (v : Slot). pointer_at w v.decl) slots
 
 -- ---- what can be born: objects of the function, with numbers that no variable has that lives
 
@@ -144,18 +143,13 @@ module _ (w : Setting) (slots : List Slot) (regs : List BlockValue) (s : State) 
         registers = length-set regs p _ ∙ h.registers;
       }
 
+  same : SameBlocks s.store t.mem.store
+  same = record { born = sym b.long; live = h.live ∙ sym b.live }
+
   pub beside_born : Beside w (new ∷ slots) born_state born_target
-  beside_born = record {
-    long = length-append t.mem.store (new_block Stack (size_of d.ctype) ∷ []) ∙ ap (λ n. n + 1) b.long ∙ sym (length-append s.store (new_block Stack (size_of d.ctype) ∷ []));
-    live =
-        live-born t.mem.store (size_of d.ctype)
-        ∙ ap (λ i. record { number = i; size = size_of d.ctype } ∷ live_in t.mem.store) (omega (arith, b.long))
-        ∙ ap (λ u. record { number = suc (length s.store); size = size_of u } ∷ live_in t.mem.store) c.object
-        ∙ ap (λ l. record { number = suc (length s.store); size = int_size k } ∷ l) b.live;
-    frames = b.frames;
-    steps = b.steps;
-    input = b.input;
-  }
+  beside_born =
+      let both = same_born s.store t.mem.store (size_of d.ctype) same in
+      record { long = sym both.born; live = sym both.live ∙ related_born.live; frames = b.frames; steps = b.steps; input = b.input }
 
   pub later_born : Later slots s born_state []
   later_born = record {
@@ -165,15 +159,12 @@ module _ (w : Setting) (slots : List Slot) (regs : List BlockValue) (s : State) 
     kept = kept_below slots s.store born_state.store (length w.outside) (length s.store) h.stacked (λ j lt. get-front_same s.store (new_block Stack (size_of d.ctype) ∷ []) j lt);
   }
 
-  -- a block is born in the target where it is in the source
-  full_same : full_at_stack_birth standard_sizes t.mem.store (size_of d.ctype) ≡ full_at_stack_birth standard_sizes s.store (size_of d.ctype)
-  full_same = full-alike t.mem.store s.store (size_of d.ctype) b.long (b.live ∙ sym h.live)
-
   abbrev pub birth_runs : Option Segment → Did
-  birth_runs o = then_do (replied over_blocks (stack_block o (size_of d.ctype) t.mem) t) (λ v u. Done (Next (slice_set regs p v)) u [])
+  birth_runs o = birth_does w.numbers d regs t o
 
+  -- a block is born in the target where it is in the source
   pub target_birth : (n : ℕ) → monitored.exec over_blocks (target.birth w.numbers d) w.calls n regs t ≡ birth_runs (full_at_stack_birth standard_sizes s.store (size_of d.ctype))
-  target_birth n = ap birth_runs full_same
+  target_birth n = birth_is w.numbers w.calls n d regs s.store t same
 
 -- ---- births in order
 
@@ -231,27 +222,25 @@ module _ (w : Setting) (slots : List Slot) (regs : List BlockValue) (s : State) 
     pub runs_to : q ≡ Done (Next regs) to []
     pub beside : Beside w older s to
 
-  one_death : (v : Slot) (older : List Slot) (t : Target) → Matches w s.store regs v → Beside w (v ∷ older) s t → Dead older t (monitored.exec over_blocks (target.death w.numbers (value_at w v.decl)) w.calls n regs t)
-  one_death v older t m b =
-      let x = deleted t.mem.store v.block (int_size v.int) (live_of older ++ live_in w.outside) b.live in
-      let died : Blocks = record t.mem { store = dead_at v.block (slice_get t.mem.store v.block) t.mem.store } in
-      record {
-        to = record t { mem = died };
-        runs_to =
-            ap (λ o. with_value (bind o (λ a. Some (a ∷ []))) t.steps (λ vs. then_do (replied over_blocks (act_on_blocks DeleteBlock vs t.mem) t) (λ v u. Done (Next regs) u []))) m.pointer
-            ∙ ap (λ g. then_do (replied over_blocks (if g then Gives (Whole (pos 0)) died else Faults) t) (λ v u. Done (Next regs) u [])) x.index;
-        beside = record { long = x.long ∙ b.long; live = x.live; frames = b.frames; steps = b.steps; input = b.input };
-      }
+  points_of : (inner : List Slot) → AllMatch w s.store regs inner → Point regs (registers_of w inner) (live_of inner)
+  points_of [] m = tt
+  points_of (v ∷ inner) m = (m.0.pointer, points_of inner m.1)
 
-  pub deaths_run : (inner older : List Slot) (t : Target) → AllMatch w s.store regs inner → Beside w (inner ++ older) s t → Dead older t (runs w n t (deaths w.numbers (registers_of w inner)) regs)
-  deaths_run [] older t m b = record { to = t; runs_to = refl; beside = b }
-  deaths_run (v ∷ inner) older t m b =
-      let one = one_death v (inner ++ older) t m.0 b in
-      let rest = deaths_run inner older one.to m.1 one.beside in
+  pub deaths_run : (inner older : List Slot) (t : Target) → AllMatch w s.store regs inner → Beside w (inner ++ older) s t → Dead older t (runs w n t (deaths (registers_of w inner)) regs)
+  deaths_run inner older t m b =
+      let live : live_in t.mem.store ≡ live_of inner ++ (live_of older ++ live_in w.outside) =
+      b.live ∙ ap (λ l. l ++ live_in w.outside) (live_of-append inner older) ∙ append_assoc (live_of inner) (live_of older) (live_in w.outside) in
+      let x = all_die w.calls n regs (registers_of w inner) (live_of inner) (live_of older ++ live_in w.outside) t (points_of inner m) live in
       record {
-        to = rest.to;
-        runs_to = ap (λ q. then_do q (at_next (monitored.exec_all over_blocks (deaths w.numbers (registers_of w inner)) w.calls n))) one.runs_to ∙ ap (writes []) rest.runs_to;
-        beside = rest.beside;
+        to = x.to;
+        runs_to = x.does;
+        beside = record {
+          long = x.long ∙ b.long;
+          live = x.live;
+          frames = ap (λ (u : Target). u.mem.frames) x.rest ∙ b.frames;
+          steps = ap (λ (u : Target). u.steps) x.rest ∙ b.steps;
+          input = ap (λ (u : Target). u.input) x.rest ∙ b.input;
+        };
       }
 
 -- ---- the end of a block in the source

@@ -10,8 +10,9 @@ use Rattle.mon_syntax.specs.Meaning as monitored
 use Rattle.mon_syntax.specs.Memories.{BlockValue, Whole, over_blocks}
 use Rattle.mon_syntax.specs.Trees.{MonStatements}
 use Rattle.instrument.specs.Expressions.{before}
-use Rattle.instrument.specs.Translation as target
-use Rattle.instrument.specs.Translation.{alive, deaths, with_born, end_label, next_label}
+use Rattle.track_scopes.specs.Blocks as target
+use Rattle.instrument.specs.Translation.{alive, end_label, next_label}
+use Rattle.track_scopes.specs.Blocks.{deaths, with_born}
 use Rattle.instrument.proofs.Variables.{Slot, Setting, count, scope_of, Stacked, Related, Beside, AllMatch}
 use Rattle.instrument.proofs.Results.{written, written_then, before_is}
 use Rattle.instrument.proofs.Evaluating.{Target, Did, runs}
@@ -32,7 +33,7 @@ inside h new = record h { slots = new ++ h.slots }
 
 module _ (w : Setting) (h : Here) (n : ℕ) (old : State) (new : List Slot) (scope : old.scope ≡ scope_of h.slots) (calls : old.calls ≡ w.active) (stacked : Stacked (length w.outside) (length old.store) h.slots) (all_new : AllFrom (length old.store) new) where
   abbrev ends : Did → Did
-  ends q = then_do q (at_next (monitored.exec_all over_blocks (deaths w.numbers (registers_of w new)) w.calls n))
+  ends q = then_do q (at_next (monitored.exec_all over_blocks (deaths (registers_of w new)) w.calls n))
 
   -- the source leaves the block, and in the target its variables die where control comes to the end
   pub block_ends : (from : State) (r : Outcome (Unit {0})) (q : Did) → length old.store ≤ length from.store → Follows w (inside h new) Next from r q → Follows w h Next from (restored old r) (ends q)
@@ -72,13 +73,13 @@ module _ (w : Setting) (h : Here) (n : ℕ) (old : State) (new : List Slot) (sco
   block_ends from r q le (IsOver x s o d e l f) = IsOver x (back_to old s) o d (ap (restored old) e) l (ap ends f)
   block_ends from r q le (IsUndefined at s o e l ext) =
       IsUndefined at (back_to old s) o (ap (restored old) e) l
-      (extends_trans o (written q) (written (ends q)) ext (written_then q (at_next (monitored.exec_all over_blocks (deaths w.numbers (registers_of w new)) w.calls n))))
+      (extends_trans o (written q) (written (ends q)) ext (written_then q (at_next (monitored.exec_all over_blocks (deaths (registers_of w new)) w.calls n))))
 
 -- what stands between births and deaths
-pub alive_runs : (w : Setting) (n : ℕ) (t : Target) (ds : List Declaration) (a : MonStatements) (regs : List BlockValue) → runs w n t (alive w.numbers ds a) regs ≡ then_do (runs w n t (target.births w.numbers ds) regs) (at_next (λ r u. then_do (runs w n u a r) (at_next (monitored.exec_all over_blocks (deaths w.numbers (with_born w.numbers ds [])) w.calls n))))
+pub alive_runs : (w : Setting) (n : ℕ) (t : Target) (ds : List Declaration) (a : MonStatements) (regs : List BlockValue) → runs w n t (alive w.numbers ds a) regs ≡ then_do (runs w n t (target.births w.numbers ds) regs) (at_next (λ r u. then_do (runs w n u a r) (at_next (monitored.exec_all over_blocks (deaths (with_born w.numbers ds [])) w.calls n))))
 alive_runs w n t ds a regs =
-    before_is (target.births w.numbers ds) (before a (deaths w.numbers (with_born w.numbers ds []))) w.calls n regs t
-    ∙ ap (λ g. then_do (runs w n t (target.births w.numbers ds) regs) (at_next g)) (λ i r u. before_is a (deaths w.numbers (with_born w.numbers ds [])) w.calls n r u i)
+    before_is (target.births w.numbers ds) (before a (deaths (with_born w.numbers ds []))) w.calls n regs t
+    ∙ ap (λ g. then_do (runs w n t (target.births w.numbers ds) regs) (at_next g)) (λ i r u. before_is a (deaths (with_born w.numbers ds [])) w.calls n r u i)
 
 -- the variables of these declarations live besides, which are born in this state
 abbrev pub behind_births : Here → State → List Declaration → Here
@@ -92,10 +93,10 @@ module _ (w : Setting) (h : Here) (n : ℕ) (enough : count w + count w ≤ w.re
   code = alive w.numbers ds a
 
   abbrev rest : Did → Did
-  rest q = then_do q (at_next (monitored.exec_all over_blocks (deaths w.numbers (with_born w.numbers ds [])) w.calls n))
+  rest q = then_do q (at_next (monitored.exec_all over_blocks (deaths (with_born w.numbers ds [])) w.calls n))
 
   deaths_are : (q : Did) → rest q ≡ ends w h n s new related.scope related.calls related.stacked (born_are_new (length s.store) ds) q
-  deaths_are q = ap (λ rs. then_do q (at_next (monitored.exec_all over_blocks (deaths w.numbers rs) w.calls n))) (with_born-slots w (length s.store) ds [])
+  deaths_are q = ap (λ rs. then_do q (at_next (monitored.exec_all over_blocks (deaths rs) w.calls n))) (with_born-slots w (length s.store) ds [])
 
   pub block_follows : ((to : State) (after : List BlockValue) (u : Target) → Related w (slots_born (length s.store) ds h.slots) after to → Beside w (slots_born (length s.store) ds h.slots) to u → Later h.slots s to [] → Follows w (behind_births h s ds) Next to (m to) (runs w n u a after)) → Follows w h Next s (within (births ds >> m) s) (runs w n t code regs)
   block_follows inner =

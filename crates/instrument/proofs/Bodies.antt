@@ -19,7 +19,8 @@ use Rattle.mon_syntax.specs.Meaning.{Next}
 use Rattle.mon_syntax.specs.Meaning as monitored
 use Rattle.mon_syntax.specs.Memories.{BlockValue, over_blocks}
 use Rattle.instrument.specs.Limits.{BodyHasNumbers, HaveNumbers}
-use Rattle.instrument.specs.Translation.{Spot, with_born, with_variables, items, body_part, items_temporaries, variables_of, variable_numbers, variable_types, value_types, pointer_types, body_temporaries, values_from, pointers_from, temporaries_from}
+use Rattle.instrument.specs.Translation.{Spot, with_variables, items, body_part, items_temporaries, variables_of, variable_numbers, variable_types, value_types, pointer_types, body_temporaries, values_from, pointers_from, temporaries_from}
+use Rattle.track_scopes.specs.Blocks.{with_born}
 use Rattle.instrument.proofs.Variables.{Slot, Setting, slot_of, Related, Beside, IsSet}
 use Rattle.instrument.proofs.Evaluating.{Target, runs}
 use Rattle.instrument.proofs.Sight.{Ready}

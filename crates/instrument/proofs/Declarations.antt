@@ -12,7 +12,8 @@ use Rattle.instrument.specs.declared.variable.Variables.{Variables}
 use Rattle.instrument.specs.Expressions.{value_type, before}
 use Rattle.instrument.specs.Growth.{Grows}
 use Rattle.instrument.specs.Options.{declared_by}
-use Rattle.instrument.specs.Translation.{birth, births, death, deaths, own_name, pointer_name, pointer_types, pointers_from, register_name, value_types, values_from, with_born}
+use Rattle.instrument.specs.Translation.{own_name, pointer_name, pointer_types, pointers_from, register_name, value_types, values_from}
+use Rattle.track_scopes.specs.Blocks.{block_of, birth, births, death, deaths, with_born}
 use Rattle.instrument.proofs.Sequences.{grown}
 
 -- ---- births
@@ -25,9 +26,18 @@ born_behind : (numbers : List ℕ) (ds es : List Declaration) (live : List ℕ) 
 born_behind numbers [] es live = refl
 born_behind numbers (d ∷ ds) es live = born_behind numbers ds es _
 
-pub deaths_behind : (numbers a b : List ℕ) → deaths numbers (a ++ b) ≡ before (deaths numbers a) (deaths numbers b)
-deaths_behind numbers [] b = refl
-deaths_behind numbers (r ∷ a) b = ap (mon.Then (death numbers r)) (deaths_behind numbers a b)
+pub deaths_behind : (a b : List ℕ) → deaths (a ++ b) ≡ before (deaths a) (deaths b)
+deaths_behind [] b = refl
+deaths_behind (p ∷ a) b = ap (mon.Then (death p)) (deaths_behind a b)
+
+-- those that lived before stand behind
+pub born_front : (numbers : List ℕ) (ds : List Declaration) (live : List ℕ) → with_born numbers ds [] ++ live ≡ with_born numbers ds live
+born_front numbers [] live = refl
+born_front numbers (d ∷ ds) live =
+    let p = block_of numbers (number_of d) in
+    ap (λ l. l ++ live) (sym (born_front numbers ds (p ∷ [])))
+    ∙ append_assoc (with_born numbers ds []) (p ∷ []) live
+    ∙ born_front numbers ds (p ∷ live)
 
 declared_first : (i : BlockItem) (rest : BlockItems) → declared_in (Then i rest) ≡ declared_by i ++ declared_in rest
 declared_first (Declare ds) rest = refl

@@ -8,7 +8,7 @@ use Rattle.c_model.specs.Memory.{Store}
 use Rattle.c_model.specs.Meaning.{declared_in, declared_first}
 use Rattle.c_model.specs.Formed.{number_of}
 use Rattle.c_model.specs.Typing.{Object, or_else, object_named}
-use Rattle.instrument.proofs.Variables.{Slot, Setting, value_at, slot_of, IsSet, AllKept}
+use Rattle.instrument.proofs.Variables.{Slot, Setting, pointer_at, slot_of, IsSet, AllKept}
 use Rattle.instrument.proofs.Births.{slot_for, slots_born, decls_of, registers_of, Absent, AllCanBeBorn}
 use Rattle.instrument.proofs.Sight.{InSight, AreInSight, Ready, ready_later}
 
@@ -47,7 +47,7 @@ decls_of-born n (d ∷ ds) slots = decls_of-born (suc n) ds (slot_for n d ∷ sl
 
 pub registers_of-append : (w : Setting) (a b : List Slot) → registers_of w (a ++ b) ≡ registers_of w a ++ registers_of w b
 registers_of-append w [] b = refl
-registers_of-append w (v ∷ a) b = ap (λ l. value_at w v.decl ∷ l) (registers_of-append w a b)
+registers_of-append w (v ∷ a) b = ap (λ l. pointer_at w v.decl ∷ l) (registers_of-append w a b)
 
 pub slots_born-append : (n : ℕ) (ds : List Declaration) (inner around : List Slot) → slots_born n ds (inner ++ around) ≡ slots_born n ds inner ++ around
 slots_born-append n [] inner around = refl

@@ -13,7 +13,8 @@ use Rattle.mon_syntax.specs.Trees.{MonStatements, NoStatement}
 use Rattle.mon_syntax.specs.Trees as tree
 use Rattle.mon_syntax.specs.Valid.{Types, has_no_step, depth_of_all}
 use Rattle.instrument.specs.Expressions.{before, one, setup, temporaries, condition_of, assertions}
-use Rattle.instrument.specs.Translation.{Spot, in_loop, with_variables, any_temporaries, full_setup, full_value, effect_if_any, initialise, initialise_all, initial_temporaries, leave_where_zero, test, test_if_any, loop, deaths, returned, end_label, next_label, statement_temporaries, first_temporaries, item_temporaries, statement, else_part, first_part, item, items}
+use Rattle.instrument.specs.Translation.{Spot, in_loop, with_variables, any_temporaries, full_setup, full_value, effect_if_any, initialise, initialise_all, initial_temporaries, leave_where_zero, test, test_if_any, loop, returned, end_label, next_label, statement_temporaries, first_temporaries, item_temporaries, statement, else_part, first_part, item, items}
+use Rattle.track_scopes.specs.Blocks.{deaths}
 use Rattle.instrument.proofs.ValidSetups.{no_step_before, no_step_setup, deep_before, deep_one, deep_setup, deep_behind}
 use Rattle.instrument.proofs.ValidEffects.{no_step_effect, deep_full, deep_effect, deep_initialise}
 use Rattle.instrument.proofs.ValidBlocks.{deep_deaths, deep_alive}
@@ -51,8 +52,8 @@ deep_test_if_any numbers rs loops None f = omega arith
 deep_test_if_any numbers rs loops (Some e) f = deep_test numbers rs loops e f.small
 
 -- a jump behind deaths
-deep_jump : (numbers live : List ℕ) (l : List ℕ) (n : ℕ) → 1 ≤ n → depth_of_all (before (deaths numbers live) (one (tree.Goto l))) ≤ n
-deep_jump numbers live l n le = let d = deep_deaths numbers live in deep_before (deaths numbers live) (one (tree.Goto l)) n (omega (arith, d, le)) (deep_one (tree.Goto l) n le)
+deep_jump : (live : List ℕ) (l : List ℕ) (n : ℕ) → 1 ≤ n → depth_of_all (before (deaths live) (one (tree.Goto l))) ≤ n
+deep_jump live l n le = let d = deep_deaths live in deep_before (deaths live) (one (tree.Goto l)) n (omega (arith, d, le)) (deep_one (tree.Goto l) n le)
 
 -- a loop whose body is n deep
 deep_loop : (loops : ℕ) (front body behind : MonStatements) (n : ℕ) → depth_of_all front ≤ suc n → depth_of_all body ≤ n → depth_of_all behind ≤ suc n → depth_of_all (one (loop loops front body behind)) ≤ n + 3
@@ -76,15 +77,15 @@ module _ (p : TranslationUnit) (numbers : List ℕ) where
   deep_returned : (spot : Spot) (rs : Types) (e : Option Expression) → WhereAny (IsFullOrCall 800) e → depth_of_all (returned p numbers spot rs e) ≤ most_deep
   deep_returned spot rs None f =
       let live = spot.inside ++ spot.outside in
-      let d = deep_deaths numbers live in
-      deep_before (deaths numbers live) (one (tree.Return None)) most_deep (omega (arith, d)) (omega arith)
+      let d = deep_deaths live in
+      deep_before (deaths live) (one (tree.Return None)) most_deep (omega (arith, d)) (omega arith)
   deep_returned spot rs (Some e) f =
       let live = spot.inside ++ spot.outside in
       let x = deep_full p numbers rs e in
-      let y = deep_deaths numbers live in
+      let y = deep_deaths live in
       let s = f.small in
-      deep_before (full_setup p numbers rs e) (before (deaths numbers live) (one (tree.Return (Some (full_value numbers rs e))))) most_deep (omega (arith, x, s))
-      (deep_before (deaths numbers live) (one (tree.Return (Some (full_value numbers rs e)))) most_deep (omega (arith, y)) (omega arith))
+      deep_before (full_setup p numbers rs e) (before (deaths live) (one (tree.Return (Some (full_value numbers rs e))))) most_deep (omega (arith, x, s))
+      (deep_before (deaths live) (one (tree.Return (Some (full_value numbers rs e)))) most_deep (omega (arith, y)) (omega arith))
 
   deep_first : (spot : Spot) (rs : Types) (first : ForFirst) → FirstFormed 800 first → depth_of_all (first_part p numbers spot rs first) ≤ most_deep
   deep_first spot rs NoFirst f = omega arith
@@ -136,8 +137,8 @@ module _ (p : TranslationUnit) (numbers : List ℕ) where
         let d = deep_loop loops (test_if_any numbers r loops e) (statement p numbers (in_loop inside) s a) (effect_if_any p numbers u step) (4 * form.depth a + most_deep) (omega (arith, y)) x (omega (arith, z)) in
         let n = 4 * (1 + form.depth a) + most_deep in
         deep_alive numbers own (before (first_part p numbers inside rs first) whole) n (deep_before (first_part p numbers inside rs first) whole n (omega (arith, g)) (omega (arith, d))) (omega arith)
-    deep spot rs (Break at) f = deep_jump numbers spot.inside (end_label spot.loops) (4 * 1 + most_deep) (omega arith)
-    deep spot rs (Continue at) f = deep_jump numbers spot.inside (next_label spot.loops) (4 * 1 + most_deep) (omega arith)
+    deep spot rs (Break at) f = deep_jump spot.inside (end_label spot.loops) (4 * 1 + most_deep) (omega arith)
+    deep spot rs (Continue at) f = deep_jump spot.inside (next_label spot.loops) (4 * 1 + most_deep) (omega arith)
     deep spot rs (Return at e) f = let d = deep_returned spot rs e f in omega (arith, d)
 
     deep_else : (spot : Spot) (rs : Types) (b : ElsePart) → ElseFormed 800 b → depth_of_all (else_part p numbers spot rs b) ≤ 4 * form.depth_of_else b + most_deep

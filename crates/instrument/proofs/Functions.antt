@@ -19,10 +19,10 @@ use Rattle.mon_syntax.specs.Memory.{Gives, IsFull}
 use Rattle.mon_syntax.specs.Memories.{BlockValue, Whole, over_blocks, most_frames}
 use Rattle.mon_syntax.specs.Trees.{MonFunction, MonStatements}
 use Rattle.mon_syntax.proofs.FlatBlocks.{live_in}
-use Rattle.instrument.specs.Expressions.{register_of}
-use Rattle.instrument.specs.Translation as target
-use Rattle.instrument.specs.Translation.{alive, deaths, with_born, body_part, function_of, variable_numbers, variable_types}
-use Rattle.instrument.proofs.Lives.{length-killed}
+use Rattle.track_scopes.specs.Blocks.{register_of, deaths, with_born}
+use Rattle.track_scopes.specs.Blocks as target
+use Rattle.instrument.specs.Translation.{body_part, function_of, variable_numbers, variable_types}
+use Rattle.track_scopes.proofs.Lives.{length-killed}
 use Rattle.instrument.proofs.Variables.{Slot, Setting, Stacked, Related, Beside, get-end}
 use Rattle.instrument.proofs.Results.{written, writes_none, written_then}
 use Rattle.instrument.proofs.Evaluating.{Target, Did, runs}
@@ -66,7 +66,7 @@ module _ (w : Setting) (s from : State) (store : w.outside ≡ s.store) (active 
   entered = record s { calls = s.calls + 1; scope = [] }
 
   abbrev ended : Did → Result Target BlockValue
-  ended q = then_do (then_do q (at_next (monitored.exec_all over_blocks (deaths w.numbers (registers_of w ps)) w.calls n))) (at_return over_blocks)
+  ended q = then_do (then_do q (at_next (monitored.exec_all over_blocks (deaths (registers_of w ps)) w.calls n))) (at_return over_blocks)
 
   stacked : Stacked (length w.outside) (length entered.store) []
   stacked = omega (arith, ap (λ l. length l) store)
@@ -102,7 +102,7 @@ module _ (w : Setting) (s from : State) (store : w.outside ≡ s.store) (active 
   function_ends r q (GoesOn to regs t o m b l e g) =
       subst (λ x. Called s f.result (restored s (returned_by f x)) (ended q)) (sym e) (by f.result)
     where
-      dead : Dead w (ps ++ []) regs to n [] t (runs w n t (deaths w.numbers (registers_of w ps)) regs)
+      dead : Dead w (ps ++ []) regs to n [] t (runs w n t (deaths (registers_of w ps)) regs)
       dead = deaths_run w (ps ++ []) regs to n ps [] t m.all (subst (λ vs. Beside w vs to t) (sym (append-nil ps)) b)
 
       target_is : ended q ≡ Done (Whole (pos 0)) (left_frame over_blocks dead.to) o
@@ -129,9 +129,9 @@ module _ (w : Setting) (s from : State) (store : w.outside ≡ s.store) (active 
   function_ends r q (IsUndefined at to o e l ext) =
       HasNoMeaning at (back_to s to) o (ap (λ r. restored s (returned_by f r)) e) (l ∙ ap (λ x. x ++ o) output)
       (extends_trans o (written q) (written (ended q)) ext
-      (extends_trans (written q) (written (then_do q (at_next (monitored.exec_all over_blocks (deaths w.numbers (registers_of w ps)) w.calls n)))) (written (ended q))
-      (written_then q (at_next (monitored.exec_all over_blocks (deaths w.numbers (registers_of w ps)) w.calls n)))
-      (written_then (then_do q (at_next (monitored.exec_all over_blocks (deaths w.numbers (registers_of w ps)) w.calls n))) (at_return over_blocks))))
+      (extends_trans (written q) (written (then_do q (at_next (monitored.exec_all over_blocks (deaths (registers_of w ps)) w.calls n)))) (written (ended q))
+      (written_then q (at_next (monitored.exec_all over_blocks (deaths (registers_of w ps)) w.calls n)))
+      (written_then (then_do q (at_next (monitored.exec_all over_blocks (deaths (registers_of w ps)) w.calls n))) (at_return over_blocks))))
 
 -- ---- the registers in which a call begins
 
@@ -242,7 +242,7 @@ module _ (p : TranslationUnit) (main index : ℕ) (f : Function) (call : Callee)
       finish r = restored s (on_outcome (on_outcome r (λ _. mark None)) (λ _ s. returned_by f (body_with f.body call (suc n) s)))
 
       abbrev tail : Did → Result Target BlockValue
-      tail q = then_do (then_do q (at_next (λ r u. then_do (runs w n u body_code r) (at_next (monitored.exec_all over_blocks (deaths w.numbers (with_born w.numbers f.params [])) w.calls n))))) (at_return over_blocks)
+      tail q = then_do (then_do q (at_next (λ r u. then_do (runs w n u body_code r) (at_next (monitored.exec_all over_blocks (deaths (with_born w.numbers f.params [])) w.calls n))))) (at_return over_blocks)
 
       -- behind the frame
       framed : BearsAll w [] opens entered_source entered_target n at f.params (integers zs) → Called s f.result (finish (parameters at f.params (integers zs) entered_source)) (tail (runs w n entered_target (target.births w.numbers f.params) opens))
@@ -254,8 +254,8 @@ module _ (p : TranslationUnit) (main index : ℕ) (f : Function) (call : Callee)
           let did = runs w n u body_code regs in
           subst (λ r. Called s f.result r (tail (runs w n entered_target (target.births w.numbers f.params) opens))) (sym (ap finish e))
           (subst (λ q. Called s f.result (finish (Normal tt to)) q) (sym (ap tail x))
-          (subst (λ q. Called s f.result (finish (Normal tt to)) (then_do q (at_return over_blocks))) (sym (writes_none (then_do did (at_next (monitored.exec_all over_blocks (deaths w.numbers (with_born w.numbers f.params [])) w.calls n)))))
-          (subst (λ rs. Called s f.result (finish (Normal tt to)) (then_do (then_do did (at_next (monitored.exec_all over_blocks (deaths w.numbers rs) w.calls n))) (at_return over_blocks))) (sym (with_born-slots w (length s.store) f.params []))
+          (subst (λ q. Called s f.result (finish (Normal tt to)) (then_do q (at_return over_blocks))) (sym (writes_none (then_do did (at_next (monitored.exec_all over_blocks (deaths (with_born w.numbers f.params [])) w.calls n)))))
+          (subst (λ rs. Called s f.result (finish (Normal tt to)) (then_do (then_do did (at_next (monitored.exec_all over_blocks (deaths rs) w.calls n))) (at_return over_blocks))) (sym (with_born-slots w (length s.store) f.params []))
           (function_ends w s (marked to ms) refl refl f ps (born_are_new (length s.store) f.params) n l.longer l.spent (l.output ∙ append-nil s.output) _ did body_did))))
 
       -- the frame is there on both sides, or on none

@@ -1,5 +1,4 @@
 mod WorkedTranslations
-pub mod Lives
 pub mod Variables
 pub mod Results
 pub mod Integers

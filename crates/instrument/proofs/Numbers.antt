@@ -11,7 +11,7 @@ use Rattle.c_model.specs.Formed.{number_of, Ascend, declared_within, declared_in
 use Rattle.c_model.specs.Typing.{Scopes, Around, in_loop, inner, with_object, with_objects, is_object_type, behind_first}
 use Rattle.c_model.specs.ProgramTyping.{with_parameter}
 use Rattle.c_model.specs.WellTypedPrograms.{AreDeclared, AreParameters, StatementTyped, ElseTyped, ItemsTyped, FirstTyped}
-use Rattle.instrument.specs.Expressions.{register_of}
+use Rattle.track_scopes.specs.Blocks.{register_of}
 use Rattle.instrument.proofs.Births.{int_of, Absent, AllCanBeBorn}
 use Rattle.instrument.proofs.Declared.{with_numbers, CanDeclare, ElseCanDeclare, ItemsCanDeclare}
 use Rattle.instrument.proofs.Functions.{InOrder}

@@ -16,7 +16,7 @@ use Rattle.c_model.proofs.Blocks.{slice_get-slice_set_other}
 use Rattle.mon_syntax.specs.Meaning.{Done, Stops, Next, then_do, at_next, writes}
 use Rattle.mon_syntax.specs.Meaning as monitored
 use Rattle.mon_syntax.specs.Memories.{BlockValue, Whole, over_blocks}
-use Rattle.instrument.specs.Translation as target
+use Rattle.track_scopes.specs.Blocks as target
 use Rattle.instrument.proofs.Variables.{Slot, Setting, count, value_at, pointer_at, slot_of, Related, Beside, IsSet, AllKept, state_with, write_is, related_set, kept_set, beside_set, get-below, load_cell, get-set_same}
 use Rattle.instrument.proofs.Evaluating.{Target, runs}
 use Rattle.instrument.proofs.Following.{Later, later_same, later_trans}

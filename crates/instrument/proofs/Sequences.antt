@@ -24,6 +24,11 @@ pub stmts_push : (l : List MonStmt) (s : MonStmt) → plain_stmts (l ++ s ∷ []
 stmts_push [] s = refl
 stmts_push (a ∷ l) s = ap (Then (plain_stmt a)) (stmts_push l s)
 
+-- all statements of a vector moved onto another
+pub stmts_append : (l m : List MonStmt) → plain_stmts (l ++ m) ≡ before (plain_stmts l) (plain_stmts m)
+stmts_append [] m = refl
+stmts_append (a ∷ l) m = ap (Then (plain_stmt a)) (stmts_append l m)
+
 -- ---- a loop over a list: what is left of it, and what the loop keeps
 
 pub left_at : {A B : Type 0} (f : List A → B) (l : List A) (i : ℕ) (x y : A) → i < length l → x ≡ get_or l i x → x ≡ y → f (drop i l) ≡ f (y ∷ drop (i + 1) l)

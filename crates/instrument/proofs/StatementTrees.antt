@@ -20,7 +20,8 @@ use Rattle.mon_syntax.specs.Trees.{MonExpression, MonStatement, MonStatements, N
 use Rattle.mon_syntax.specs.Trees as tree
 use Rattle.instrument.specs.Options.{items_of_first, plain_else_part, plain_first_part}
 use Rattle.instrument.specs.Expressions.{before, one, setup, temporaries, condition_of}
-use Rattle.instrument.specs.Translation.{Spot, alive, any_temporaries, births, deaths, effect_if_any, else_part, end_label, first_part, first_temporaries, in_loop, loop, next_label, statement, statement_temporaries, test, test_if_any, with_born}
+use Rattle.instrument.specs.Translation.{Spot, alive, any_temporaries, effect_if_any, else_part, end_label, first_part, first_temporaries, in_loop, loop, next_label, statement, statement_temporaries, test, test_if_any}
+use Rattle.track_scopes.specs.Blocks.{births, deaths, with_born}
 use Rattle.instrument.proofs.Sequences.{before_assoc}
 
 -- what follows from a result
@@ -58,10 +59,10 @@ do_stmt s a e x is same = ap (λ y. Do s.place (plain_stmt y) (plain_expr e)) sa
 -- ---- their code
 
 -- variables that live as long as this is done
-pub alive_code : (numbers live inside : List ℕ) (ds : List Declaration) (f : List ℕ → MonStatements) (t t1 t2 t3 : MonStatements) → t1 ≡ before t (births numbers ds) → inside ≡ with_born numbers ds live → t2 ≡ before t1 (f inside) → t3 ≡ before t2 (deaths numbers (with_born numbers ds [])) → t3 ≡ before t (alive numbers ds (f (with_born numbers ds live)))
+pub alive_code : (numbers live inside : List ℕ) (ds : List Declaration) (f : List ℕ → MonStatements) (t t1 t2 t3 : MonStatements) → t1 ≡ before t (births numbers ds) → inside ≡ with_born numbers ds live → t2 ≡ before t1 (f inside) → t3 ≡ before t2 (deaths (with_born numbers ds [])) → t3 ≡ before t (alive numbers ds (f (with_born numbers ds live)))
 alive_code numbers live inside ds f t t1 t2 t3 born inside_is done dead =
     let a = f (with_born numbers ds live) in
-    let end = deaths numbers (with_born numbers ds []) in
+    let end = deaths (with_born numbers ds []) in
     dead
     ∙ (λ i. before (done i) end)
     ∙ before_assoc t1 (f inside) end
@@ -114,7 +115,7 @@ module _ (p : TranslationUnit) (numbers : List ℕ) (rs rs1 : List MonType) (spo
   turns s l e step a =
       one (loop (s.loops + 1) (test_if_any numbers l (s.loops + 1) e) (statement p numbers (in_loop s) (l ++ any_temporaries temporaries e) a) (effect_if_any p numbers (l ++ any_temporaries temporaries e ++ statement_temporaries a) step))
 
-  pub for_code : (annots : List Annotation) (first : ForFirst) (e step : Option Expression) (a : Statement) (ds : List Declaration) (inside : List ℕ) → ds ≡ declared_first first → t1 ≡ before t (births numbers ds) → inside ≡ with_born numbers ds spot.inside → t2 ≡ before t1 (first_part p numbers (within inside) rs first) → rs1 ≡ rs ++ first_temporaries first → t3 ≡ before t2 (turns (within inside) rs1 e step a) → t4 ≡ before t3 (deaths numbers (with_born numbers ds [])) → t4 ≡ before t (statement p numbers spot rs (For at annots first e step a))
+  pub for_code : (annots : List Annotation) (first : ForFirst) (e step : Option Expression) (a : Statement) (ds : List Declaration) (inside : List ℕ) → ds ≡ declared_first first → t1 ≡ before t (births numbers ds) → inside ≡ with_born numbers ds spot.inside → t2 ≡ before t1 (first_part p numbers (within inside) rs first) → rs1 ≡ rs ++ first_temporaries first → t3 ≡ before t2 (turns (within inside) rs1 e step a) → t4 ≡ before t3 (deaths (with_born numbers ds [])) → t4 ≡ before t (statement p numbers spot rs (For at annots first e step a))
   for_code annots first e step a ds inside ds_is born inside_is front types done dead =
       let all = λ (l : List ℕ). before (first_part p numbers (within l) rs first) (turns (within l) (rs ++ first_temporaries first) e step a) in
       let body : t3 ≡ before t1 (all inside) =

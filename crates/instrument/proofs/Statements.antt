@@ -25,7 +25,8 @@ use Rattle.mon_syntax.specs.Trees.{MonStatements, NoStatement}
 use Rattle.mon_syntax.specs.Trees as tree
 use Rattle.instrument.specs.Limits.{Any, HasLetters, FullHasLetters, EffectHasLetters, InitialHasLetters, InitialsHaveLetters, HasNumbers, ElseHasNumbers, FirstHasNumbers, HaveNumbers}
 use Rattle.instrument.specs.Expressions.{value, temporaries, setup, condition_of, before, one}
-use Rattle.instrument.specs.Translation.{Spot, full_temporaries, full_setup, full_value, effect_temporaries, any_temporaries, initial_temporaries, declaration_temporaries, statement_temporaries, else_temporaries, first_temporaries, item_temporaries, items_temporaries, deaths, with_born, with_variables, test, test_if_any, loop, effect_if_any, statement, else_part, first_part, item, items, end_label, next_label}
+use Rattle.instrument.specs.Translation.{Spot, full_temporaries, full_setup, full_value, effect_temporaries, any_temporaries, initial_temporaries, declaration_temporaries, statement_temporaries, else_temporaries, first_temporaries, item_temporaries, items_temporaries, with_variables, test, test_if_any, loop, effect_if_any, statement, else_part, first_part, item, items, end_label, next_label}
+use Rattle.track_scopes.specs.Blocks.{deaths, with_born}
 use Rattle.instrument.specs.Translation as target
 use Rattle.instrument.proofs.Variables.{Slot, Setting, count, Related, Beside, IsSet, AllMatch, kept_refl, related_same}
 use Rattle.instrument.proofs.Results.{writes_none, one_is, before_is}
@@ -95,15 +96,15 @@ match_front w s regs (v ∷ new) slots h = (h.0, match_front w s regs new slots 
 
 module _ (w : Setting) (n : ℕ) (spot : Spot) (h : Here) (at : At w spot h) (s : State) (regs : List BlockValue) (t : Target) (m : Related w h.slots regs s) (b : Beside w h.slots s t) where
   -- those born inside the loop
-  loop_dead : Dead w h.slots regs s n h.around t (runs w n t (deaths w.numbers spot.inside) regs)
+  loop_dead : Dead w h.slots regs s n h.around t (runs w n t (deaths spot.inside) regs)
   loop_dead =
-      subst (λ rs. Dead w h.slots regs s n h.around t (runs w n t (deaths w.numbers rs) regs)) (sym at.inside)
+      subst (λ rs. Dead w h.slots regs s n h.around t (runs w n t (deaths rs) regs)) (sym at.inside)
       (deaths_run w h.slots regs s n at.inner h.around t (match_front w s regs at.inner h.around (subst (AllMatch w s.store regs) at.slots m.all)) (subst (λ vs. Beside w vs s t) at.slots b))
 
   -- all of the call
-  call_dead : Dead w h.slots regs s n [] t (runs w n t (deaths w.numbers (spot.inside ++ spot.outside)) regs)
+  call_dead : Dead w h.slots regs s n [] t (runs w n t (deaths (spot.inside ++ spot.outside)) regs)
   call_dead =
-      subst (λ rs. Dead w h.slots regs s n [] t (runs w n t (deaths w.numbers rs) regs)) (sym (all_registers w spot h at))
+      subst (λ rs. Dead w h.slots regs s n [] t (runs w n t (deaths rs) regs)) (sym (all_registers w spot h at))
       (deaths_run w h.slots regs s n h.slots [] t m.all (subst (λ vs. Beside w vs s t) (sym (append-nil h.slots)) b))
 
   -- what stands behind deaths
@@ -116,17 +117,17 @@ module _ (w : Setting) (n : ℕ) (spot : Spot) (h : Here) (at : At w spot h) (s 
   goto_is : (living : List Slot) (d : MonStatements) (l k : List ℕ) (x : Dead w h.slots regs s n living t (runs w n t d regs)) → k ≡ l → runs w n t (before d (one (tree.Goto k))) regs ≡ Done (Goes l regs) x.to []
   goto_is living d l k x e = behind_deaths living d (one (tree.Goto k)) x ∙ one_is (tree.Goto k) w.calls n regs x.to ∙ ap (λ i. Done (Goes i regs) x.to []) e
 
-  pub break_follows : h.looped ≡ true → Follows w h Next s (Stop (Leaves state.Breaks) s) (runs w n t (before (deaths w.numbers spot.inside) (one (tree.Goto (end_label spot.loops)))) regs)
+  pub break_follows : h.looped ≡ true → Follows w h Next s (Stop (Leaves state.Breaks) s) (runs w n t (before (deaths spot.inside) (one (tree.Goto (end_label spot.loops)))) regs)
   break_follows looped =
-      Breaks s regs loop_dead.to [] looped m loop_dead.beside (later_same h.slots s) refl (goto_is h.around (deaths w.numbers spot.inside) (end_label h.loops) (end_label spot.loops) loop_dead (ap end_label at.loops))
+      Breaks s regs loop_dead.to [] looped m loop_dead.beside (later_same h.slots s) refl (goto_is h.around (deaths spot.inside) (end_label h.loops) (end_label spot.loops) loop_dead (ap end_label at.loops))
 
-  pub continue_follows : h.looped ≡ true → Follows w h Next s (Stop (Leaves state.Continues) s) (runs w n t (before (deaths w.numbers spot.inside) (one (tree.Goto (next_label spot.loops)))) regs)
+  pub continue_follows : h.looped ≡ true → Follows w h Next s (Stop (Leaves state.Continues) s) (runs w n t (before (deaths spot.inside) (one (tree.Goto (next_label spot.loops)))) regs)
   continue_follows looped =
-      Continues s regs loop_dead.to [] looped m loop_dead.beside (later_same h.slots s) refl (goto_is h.around (deaths w.numbers spot.inside) (next_label h.loops) (next_label spot.loops) loop_dead (ap next_label at.loops))
+      Continues s regs loop_dead.to [] looped m loop_dead.beside (later_same h.slots s) refl (goto_is h.around (deaths spot.inside) (next_label h.loops) (next_label spot.loops) loop_dead (ap next_label at.loops))
 
-  pub leave_follows : (v : Option ℤ) (e : Option tree.MonExpression) → IsResult h.result v → ((u : Target) → runs w n u (one (tree.Return e)) regs ≡ Done (monitored.Returns (option_map Whole v)) u []) → Follows w h Next s (Stop (Leaves (Returns (option_map Integer v))) s) (runs w n t (before (deaths w.numbers (spot.inside ++ spot.outside)) (one (tree.Return e))) regs)
+  pub leave_follows : (v : Option ℤ) (e : Option tree.MonExpression) → IsResult h.result v → ((u : Target) → runs w n u (one (tree.Return e)) regs ≡ Done (monitored.Returns (option_map Whole v)) u []) → Follows w h Next s (Stop (Leaves (Returns (option_map Integer v))) s) (runs w n t (before (deaths (spot.inside ++ spot.outside)) (one (tree.Return e))) regs)
   leave_follows v e i run =
-      IsLeft v s regs call_dead.to [] i m call_dead.beside (later_same h.slots s) refl (behind_deaths [] (deaths w.numbers (spot.inside ++ spot.outside)) (one (tree.Return e)) call_dead ∙ run call_dead.to)
+      IsLeft v s regs call_dead.to [] i m call_dead.beside (later_same h.slots s) refl (behind_deaths [] (deaths (spot.inside ++ spot.outside)) (one (tree.Return e)) call_dead ∙ run call_dead.to)
 
 -- ---- statements
 
@@ -190,7 +191,7 @@ module _ (p : TranslationUnit) (w : Setting) (n most : ℕ) (names : List (List 
       leave_follows w n spot h at from regs t m.related m.beside None None (subst (λ k. IsResult k None) (sym q) tt) (λ u. one_is (tree.Return None) w.calls n regs u)
   return_does h spot at s g rs (Some e) pure q l behind enough place = λ regs from t m le.
       let i = integer_int h.result q.2 in
-      let code = before (deaths w.numbers (spot.inside ++ spot.outside)) (one (tree.Return (Some (full_value w.numbers rs e)))) in
+      let code = before (deaths (spot.inside ++ spot.outside)) (one (tree.Return (Some (full_value w.numbers rs e)))) in
       follows_full p w n h s (scene_of h.slots s g) Next from t m.ready le rs behind regs m.related m.beside e i.int (λ v. stop (Leaves (Returns (Some v)))) code (q.1 ∙ i.is) pure.is q.0 l enough (λ z to u o after fit same r be la has.
       leave_follows w n spot h at to after u r be (Some z) (Some (full_value w.numbers rs e)) (subst (λ k. IsResult k (Some z)) (sym i.is) fit)
       (λ v. one_is (tree.Return (Some (full_value w.numbers rs e))) w.calls n after v ∙ ap (λ x. with_value x v.steps (λ y. Done (monitored.Returns (Some y)) v [])) has))

@@ -13,8 +13,9 @@ use Rattle.mon_syntax.specs.declared.tree.MonType.TheVariants.{U64, Ptr}
 use Rattle.mon_syntax.specs.Trees.{MonStatements, NoStatement}
 use Rattle.mon_syntax.specs.Trees as tree
 use Rattle.mon_syntax.specs.Valid.{Types, Labels, Signature, IsExpression, AreStatements, has_no_step, depth_of_all}
-use Rattle.instrument.specs.Expressions.{value_type, before, register_of}
-use Rattle.instrument.specs.Translation.{births, deaths, with_born, alive, value_types, pointer_types}
+use Rattle.instrument.specs.Expressions.{value_type, before}
+use Rattle.track_scopes.specs.Blocks.{register_of, block_of, births, deaths, with_born}
+use Rattle.instrument.specs.Translation.{alive, value_types, pointer_types}
 use Rattle.instrument.proofs.Births.{int_of}
 use Rattle.instrument.proofs.Declared.{object_of, named_last}
 use Rattle.instrument.proofs.Functions.{InOrder}
@@ -125,19 +126,19 @@ module _ (ts : Types) (numbers : List ℕ) (names : List (List ℕ)) (functions 
   sees_behind s [] ints h v = v
   sees_behind s (d ∷ ds) ints h v = sees_behind (with_object s d) ds ints.1 h.1 (sees_one s d ints.0 h.0 v)
 
--- ---- the variables that live point to their blocks
+-- ---- these registers point to blocks
 
-abbrev pub AllPoint : Types → List ℕ → List ℕ → Type 0
-AllPoint ts numbers [] = Unit {0}
-AllPoint ts numbers (r ∷ live) = (slice_get ts (length numbers + r) ≡ Some Ptr) × AllPoint ts numbers live
+abbrev pub AllPoint : Types → List ℕ → Type 0
+AllPoint ts [] = Unit {0}
+AllPoint ts (r ∷ live) = (slice_get ts r ≡ Some Ptr) × AllPoint ts live
 
-pub point_both : (ts : Types) (numbers a b : List ℕ) → AllPoint ts numbers a → AllPoint ts numbers b → AllPoint ts numbers (a ++ b)
-point_both ts numbers [] b h k = k
-point_both ts numbers (r ∷ a) b h k = (h.0, point_both ts numbers a b h.1 k)
+pub point_both : (ts : Types) (a b : List ℕ) → AllPoint ts a → AllPoint ts b → AllPoint ts (a ++ b)
+point_both ts [] b h k = k
+point_both ts (r ∷ a) b h k = (h.0, point_both ts a b h.1 k)
 
-pub point_born : (ts : Types) (numbers : List ℕ) (ds : List Declaration) (live : List ℕ) → HaveVariables ts numbers ds → AllPoint ts numbers live → AllPoint ts numbers (with_born numbers ds live)
+pub point_born : (ts : Types) (numbers : List ℕ) (ds : List Declaration) (live : List ℕ) → HaveVariables ts numbers ds → AllPoint ts live → AllPoint ts (with_born numbers ds live)
 point_born ts numbers [] live h k = k
-point_born ts numbers (d ∷ ds) live h k = point_born ts numbers ds (register_of numbers (number_of d) ∷ live) h.1 (h.0.pointer, k)
+point_born ts numbers (d ∷ ds) live h k = point_born ts numbers ds (block_of numbers (number_of d) ∷ live) h.1 (h.0.pointer, k)
 
 -- ---- births and deaths
 
@@ -145,24 +146,24 @@ no_step_births : (numbers : List ℕ) (ds : List Declaration) → has_no_step (b
 no_step_births numbers [] = refl
 no_step_births numbers (d ∷ ds) = no_step_births numbers ds
 
-pub no_step_deaths : (numbers live : List ℕ) → has_no_step (deaths numbers live) ≡ true
-no_step_deaths numbers [] = refl
-no_step_deaths numbers (r ∷ live) = no_step_deaths numbers live
+pub no_step_deaths : (live : List ℕ) → has_no_step (deaths live) ≡ true
+no_step_deaths [] = refl
+no_step_deaths (r ∷ live) = no_step_deaths live
 
 deep_births : (numbers : List ℕ) (ds : List Declaration) → depth_of_all (births numbers ds) ≤ 1
 deep_births numbers [] = omega arith
 deep_births numbers (d ∷ ds) = max-le (omega arith) (deep_births numbers ds)
 
-pub deep_deaths : (numbers live : List ℕ) → depth_of_all (deaths numbers live) ≤ 1
-deep_deaths numbers [] = omega arith
-deep_deaths numbers (r ∷ live) = max-le (omega arith) (deep_deaths numbers live)
+pub deep_deaths : (live : List ℕ) → depth_of_all (deaths live) ≤ 1
+deep_deaths [] = omega arith
+deep_deaths (r ∷ live) = max-le (omega arith) (deep_deaths live)
 
 pub deep_alive : (numbers : List ℕ) (ds : List Declaration) (a : MonStatements) (n : ℕ) → depth_of_all a ≤ n → 1 ≤ n → depth_of_all (alive numbers ds a) ≤ n
 deep_alive numbers ds a n h le =
     let x = deep_births numbers ds in
-    let y = deep_deaths numbers (with_born numbers ds []) in
-    deep_before (births numbers ds) (before a (deaths numbers (with_born numbers ds []))) n (omega (arith, x, le))
-    (deep_before a (deaths numbers (with_born numbers ds [])) n h (omega (arith, y, le)))
+    let y = deep_deaths (with_born numbers ds []) in
+    deep_before (births numbers ds) (before a (deaths (with_born numbers ds []))) n (omega (arith, x, le))
+    (deep_before a (deaths (with_born numbers ds [])) n h (omega (arith, y, le)))
 
 module _ (gs : List Signature) (ts : Types) (result : Option MonType) (ls : Labels) (numbers : List ℕ) where
   births_valid : (ds : List Declaration) → HaveVariables ts numbers ds → AreStatements gs ts result ls (births numbers ds)
@@ -171,13 +172,13 @@ module _ (gs : List Signature) (ts : Types) (result : Option MonType) (ls : Labe
       let size : IsExpression ts (tree.Constant U64 (pos (size_of d.ctype))) U64 = record { typed = (refl, size_constant d.ctype); within = omega arith } in
       (((size, tt), h.0.pointer), births_valid ds h.1)
 
-  pub deaths_valid : (live : List ℕ) → AllPoint ts numbers live → AreStatements gs ts result ls (deaths numbers live)
+  pub deaths_valid : (live : List ℕ) → AllPoint ts live → AreStatements gs ts result ls (deaths live)
   deaths_valid [] h = tt
   deaths_valid (r ∷ live) h =
-      let pointer : IsExpression ts (tree.Register (length numbers + r)) Ptr = record { typed = h.0; within = omega arith } in
+      let pointer : IsExpression ts (tree.Register r) Ptr = record { typed = h.0; within = omega arith } in
       (((pointer, tt), tt), deaths_valid live h.1)
 
   pub alive_valid : (ds : List Declaration) (a : MonStatements) → HaveVariables ts numbers ds → AreStatements gs ts result ls a → AreStatements gs ts result ls (alive numbers ds a)
   alive_valid ds a h k =
-      before_valid gs ts result ls (births numbers ds) (before a (deaths numbers (with_born numbers ds []))) (births_valid ds h)
-      (before_valid gs ts result ls a (deaths numbers (with_born numbers ds [])) k (deaths_valid (with_born numbers ds []) (point_born ts numbers ds [] h tt)))
+      before_valid gs ts result ls (births numbers ds) (before a (deaths (with_born numbers ds []))) (births_valid ds h)
+      (before_valid gs ts result ls a (deaths (with_born numbers ds [])) k (deaths_valid (with_born numbers ds []) (point_born ts numbers ds [] h tt)))

@@ -14,7 +14,8 @@ use Rattle.c_model.specs.WellTypedPrograms.{around_body}
 use Rattle.mon_syntax.specs.Valid.{Types, Signature, AreStatements, IsFunction, AreFunctions, IsValid, has_label, depth_of_all}
 use Rattle.mon_syntax.specs.Names.{IsFreeName}
 use Rattle.instrument.specs.Limits.{FunctionsHaveNumbers}
-use Rattle.instrument.specs.Translation.{Spot, variables_of, variable_numbers, variable_types, body_temporaries, with_born, with_variables, alive, body_part, items, function_name, values_from, result_of, function_of, functions_from, translated}
+use Rattle.instrument.specs.Translation.{Spot, variables_of, variable_numbers, variable_types, body_temporaries, with_variables, alive, body_part, items, function_name, values_from, result_of, function_of, functions_from, translated}
+use Rattle.track_scopes.specs.Blocks.{with_born}
 use Rattle.instrument.proofs.Names.{IsNumber, main_is_free, function_is_free, functions_differ}
 use Rattle.instrument.proofs.Functions.{InOrder}
 use Rattle.instrument.proofs.Numbers.{bounded, placed, AreObjects, parameter_objects}

@@ -19,7 +19,8 @@ use Rattle.mon_syntax.specs.Trees as tree
 use Rattle.mon_syntax.specs.Valid.{Types, Labels, Signature, IsExpression, AreStatements, ReturnsResult, has_label, has_no_step}
 use Rattle.instrument.specs.Limits.{Any, HasLetters, FullHasLetters, EffectHasLetters, InitialsHaveLetters, AreNumbered, HasNumbers, ElseHasNumbers, FirstHasNumbers, HaveNumbers}
 use Rattle.instrument.specs.Expressions.{register_type, value_type, before, one, setup, temporaries, condition_of, assertions}
-use Rattle.instrument.specs.Translation.{Spot, any_temporaries, full_temporaries, effect_temporaries, initial_temporaries, declaration_temporaries, full_setup, full_value, effect, effect_if_any, initialise, initialise_all, leave_where_zero, test, test_if_any, returned, deaths, loop, end_label, next_label, with_variables, statement_temporaries, else_temporaries, first_temporaries, item_temporaries, items_temporaries, statement, else_part, first_part, item, items, result_of}
+use Rattle.instrument.specs.Translation.{Spot, any_temporaries, full_temporaries, effect_temporaries, initial_temporaries, declaration_temporaries, full_setup, full_value, effect, effect_if_any, initialise, initialise_all, leave_where_zero, test, test_if_any, returned, loop, end_label, next_label, with_variables, statement_temporaries, else_temporaries, first_temporaries, item_temporaries, items_temporaries, statement, else_part, first_part, item, items, result_of}
+use Rattle.track_scopes.specs.Blocks.{deaths}
 use Rattle.instrument.specs.Translation as target
 use Rattle.instrument.proofs.Names.{IsNumber, end_is_free, next_is_free, ends_differ, nexts_differ, same_bytes}
 use Rattle.instrument.proofs.ExpressionTypes.{scalar_int, integer_int}
@@ -75,9 +76,9 @@ one_more_loop loops =
 -- ---- statements
 
 -- the blocks of the variables that live
-pub record Points (ts : Types) (numbers : List ℕ) (spot : Spot) : Type 0 where
-  pub inside : AllPoint ts numbers spot.inside
-  pub outside : AllPoint ts numbers spot.outside
+pub record Points (ts : Types) (spot : Spot) : Type 0 where
+  pub inside : AllPoint ts spot.inside
+  pub outside : AllPoint ts spot.outside
 
 module _ (p : TranslationUnit) (gs : List Signature) (ts : Types) (result : PlainType) (numbers : List ℕ) (names : List (List ℕ)) (functions : List Known) (calls : (s : Scopes) → s.names ≡ names → s.functions ≡ functions → CallsValid p gs ts s) where
   abbrev Are : Labels → MonStatements → Type 0
@@ -150,31 +151,31 @@ module _ (p : TranslationUnit) (gs : List Signature) (ts : Types) (result : Plai
 
   -- ---- what stands in which variables' lives
 
-  points_with : (spot : Spot) (ds : List Declaration) → Have ds → Points ts numbers spot → Points ts numbers (with_variables numbers ds spot)
+  points_with : (spot : Spot) (ds : List Declaration) → Have ds → Points ts spot → Points ts (with_variables numbers ds spot)
   points_with spot ds h k = record { inside = point_born ts numbers ds spot.inside h k.inside; outside = k.outside }
 
-  points_loop : (spot : Spot) → Points ts numbers spot → Points ts numbers (target.in_loop spot)
-  points_loop spot k = record { inside = tt; outside = point_both ts numbers spot.inside spot.outside k.inside k.outside }
+  points_loop : (spot : Spot) → Points ts spot → Points ts (target.in_loop spot)
+  points_loop spot k = record { inside = tt; outside = point_both ts spot.inside spot.outside k.inside k.outside }
 
-  jump_valid : (spot : Spot) (ls : Labels) (l : List ℕ) → Points ts numbers spot → has_label ls l ≡ true → Are ls (before (deaths numbers spot.inside) (one (tree.Goto l)))
-  jump_valid spot ls l k among = before_valid gs ts (result_of result) ls (deaths numbers spot.inside) (one (tree.Goto l)) (deaths_valid gs ts (result_of result) ls numbers spot.inside k.inside) (among, tt)
+  jump_valid : (spot : Spot) (ls : Labels) (l : List ℕ) → Points ts spot → has_label ls l ≡ true → Are ls (before (deaths spot.inside) (one (tree.Goto l)))
+  jump_valid spot ls l k among = before_valid gs ts (result_of result) ls (deaths spot.inside) (one (tree.Goto l)) (deaths_valid gs ts (result_of result) ls numbers spot.inside k.inside) (among, tt)
 
   -- the result of a function that isn't void
   returns_value : (e : MonExpression) (t : PlainType) (k : CInt) → t ≡ Int k → IsExpression ts e (register_type k) → ReturnsResult ts (result_of t) (Some e)
   returns_value e t k int h = subst (λ t. ReturnsResult ts (result_of t) (Some e)) (sym int) h
 
-  returned_valid : (spot : Spot) (s : Scopes) (v : See s) (ls : Labels) (rs : Types) (e : Option Expression) → Points ts numbers spot → WhereAny (IsFullOrCall 800) e → Returned s result e → Any FullHasLetters e → Begins (rs ++ any_temporaries full_temporaries e) ts → Are ls (returned p numbers spot rs e)
+  returned_valid : (spot : Spot) (s : Scopes) (v : See s) (ls : Labels) (rs : Types) (e : Option Expression) → Points ts spot → WhereAny (IsFullOrCall 800) e → Returned s result e → Any FullHasLetters e → Begins (rs ++ any_temporaries full_temporaries e) ts → Are ls (returned p numbers spot rs e)
   returned_valid spot s v ls rs None k f q l b =
       let live = spot.inside ++ spot.outside in
-      before_valid gs ts (result_of result) ls (deaths numbers live) (one (tree.Return None)) (deaths_valid gs ts (result_of result) ls numbers live (point_both ts numbers spot.inside spot.outside k.inside k.outside))
+      before_valid gs ts (result_of result) ls (deaths live) (one (tree.Return None)) (deaths_valid gs ts (result_of result) ls numbers live (point_both ts spot.inside spot.outside k.inside k.outside))
       (subst (λ t. ReturnsResult ts (result_of t) None) (sym q) tt, tt)
   returned_valid spot s v ls rs (Some e) k f q l b =
       let live = spot.inside ++ spot.outside in
       let i = integer_int result q.2 in
       let x = full_valid p gs ts (result_of result) numbers s v.sees (calls_at s v) ls e i.int rs (q.1 ∙ i.is) f.is q.0 l f.small b in
       let leaves = one (tree.Return (Some (full_value numbers rs e))) in
-      before_valid gs ts (result_of result) ls (full_setup p numbers rs e) (before (deaths numbers live) leaves) x.0
-      (before_valid gs ts (result_of result) ls (deaths numbers live) leaves (deaths_valid gs ts (result_of result) ls numbers live (point_both ts numbers spot.inside spot.outside k.inside k.outside))
+      before_valid gs ts (result_of result) ls (full_setup p numbers rs e) (before (deaths live) leaves) x.0
+      (before_valid gs ts (result_of result) ls (deaths live) leaves (deaths_valid gs ts (result_of result) ls numbers live (point_both ts spot.inside spot.outside k.inside k.outside))
       (returns_value (full_value numbers rs e) result i.int i.is x.1, tt))
 
   first_valid : (first : ForFirst) (s : Scopes) (v : See s) (r : Around) (spot : Spot) (ls : Labels) (rs : Types) → Have (declared_first first) → FirstFormed 800 first → FirstTyped s r first → FirstHasNumbers first → Begins (rs ++ first_temporaries first) ts → Are ls (first_part p numbers spot rs first)
@@ -192,7 +193,7 @@ module _ (p : TranslationUnit) (gs : List Signature) (ts : Types) (result : Plai
   -- ---- all statements
 
   mutual
-    statement_valid : (a : Statement) (s : Scopes) (v : See s) (r : Around) (spot : Spot) (k : Points ts numbers spot) (rs : Types) → r.result ≡ result → (r.loops ≡ true → 0 < spot.loops) → Have (declared_within a) → StatementFormed 800 a → StatementTyped s r a → StatementNoted s a → HasNumbers a → spot.loops + form.depth a ≤ 1000 → Begins (rs ++ statement_temporaries a) ts → Are (labels spot.loops) (statement p numbers spot rs a)
+    statement_valid : (a : Statement) (s : Scopes) (v : See s) (r : Around) (spot : Spot) (k : Points ts spot) (rs : Types) → r.result ≡ result → (r.loops ≡ true → 0 < spot.loops) → Have (declared_within a) → StatementFormed 800 a → StatementTyped s r a → StatementNoted s a → HasNumbers a → spot.loops + form.depth a ≤ 1000 → Begins (rs ++ statement_temporaries a) ts → Are (labels spot.loops) (statement p numbers spot rs a)
     statement_valid (Empty at) s v r spot k rs same o h f q m l d b = tt
     statement_valid (Eval at e) s v r spot k rs same o h f q m l d b = effect_at s v (labels spot.loops) e rs f q l b
     statement_valid (Block at body) s v r spot k rs same o h f q m l d b =
@@ -266,11 +267,11 @@ module _ (p : TranslationUnit) (gs : List Signature) (ts : Types) (result : Plai
     statement_valid (Continue at) s v r spot k rs same o h f q m l d b = jump_valid spot (labels spot.loops) (next_label spot.loops) k (inside_next spot.loops (o q))
     statement_valid (Return at e) s v r spot k rs same o h f q m l d b = returned_valid spot s v (labels spot.loops) rs e k f (subst (λ t. Returned s t e) same q) l b
 
-    else_valid : (y : ElsePart) (s : Scopes) (v : See s) (r : Around) (spot : Spot) (k : Points ts numbers spot) (rs : Types) → r.result ≡ result → (r.loops ≡ true → 0 < spot.loops) → Have (declared_in_else y) → ElseFormed 800 y → ElseTyped s r y → ElseNoted s y → ElseHasNumbers y → spot.loops + form.depth_of_else y ≤ 1000 → Begins (rs ++ else_temporaries y) ts → Are (labels spot.loops) (else_part p numbers spot rs y)
+    else_valid : (y : ElsePart) (s : Scopes) (v : See s) (r : Around) (spot : Spot) (k : Points ts spot) (rs : Types) → r.result ≡ result → (r.loops ≡ true → 0 < spot.loops) → Have (declared_in_else y) → ElseFormed 800 y → ElseTyped s r y → ElseNoted s y → ElseHasNumbers y → spot.loops + form.depth_of_else y ≤ 1000 → Begins (rs ++ else_temporaries y) ts → Are (labels spot.loops) (else_part p numbers spot rs y)
     else_valid NoElse s v r spot k rs same o h f q m l d b = tt
     else_valid (Else a) s v r spot k rs same o h f q m l d b = statement_valid a s v r spot k rs same o h f q m l d b
 
-    pub items_valid : (is : BlockItems) (s : Scopes) (v : See s) (r : Around) (spot : Spot) (k : Points ts numbers spot) (rs : Types) → r.result ≡ result → (r.loops ≡ true → 0 < spot.loops) → Have (declared_in_items is) → ItemsFormed 800 is → ItemsTyped s r is → ItemsNoted s is → HaveNumbers is → spot.loops + form.depth_of_items is ≤ 1000 → Begins (rs ++ items_temporaries is) ts → Are (labels spot.loops) (items p numbers spot rs is)
+    pub items_valid : (is : BlockItems) (s : Scopes) (v : See s) (r : Around) (spot : Spot) (k : Points ts spot) (rs : Types) → r.result ≡ result → (r.loops ≡ true → 0 < spot.loops) → Have (declared_in_items is) → ItemsFormed 800 is → ItemsTyped s r is → ItemsNoted s is → HaveNumbers is → spot.loops + form.depth_of_items is ≤ 1000 → Begins (rs ++ items_temporaries is) ts → Are (labels spot.loops) (items p numbers spot rs is)
     items_valid NoItem s v r spot k rs same o h f q m l d b = tt
     items_valid (Then (Declare ds) rest) s v r spot k rs same o h f q m l d b =
         let here = declaration_temporaries ds in

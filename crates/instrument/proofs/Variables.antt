@@ -17,8 +17,8 @@ use Rattle.c_model.proofs.Blocks.{slice_get-slice_set_same, slice_get-slice_set_
 use Rattle.mon_syntax.specs.Meaning as monitored
 use Rattle.mon_syntax.specs.Memories.{BlockValue, Whole, Points, Blocks, LiveBlock, over_blocks}
 use Rattle.mon_syntax.proofs.FlatBlocks.{live_in}
-use Rattle.instrument.specs.Expressions.{register_of}
-use Rattle.instrument.proofs.Lives.{live-set}
+use Rattle.track_scopes.specs.Blocks.{register_of}
+use Rattle.track_scopes.proofs.Lives.{live-set}
 
 -- the block of a variable on the stack, with its value where it has one
 abbrev pub cell_of : CInt → Option ℤ → Block

@@ -1,6 +1,6 @@
 -- Expressions and annotations in monitored C: each variable has a register, and each annotation is an assertion. What an expression
 -- evaluates only at times, as the right side of `&&`, stands in front of it, in an `if` that sets a temporary register.
-use Rattle.std.specs.Prelude.{ℕ, suc, pos, List, [], ◌∷◌, ◌++◌, length, cond, if◌then◌else◌, nat_eq}
+use Rattle.std.specs.Prelude.{ℕ, pos, List, [], ◌∷◌, ◌++◌, length, if◌then◌else◌}
 use Rattle.c_syntax.specs.declared.types.CInt.{CInt}
 use Rattle.c_syntax.specs.declared.types.CInt.TheVariants as c
 use Rattle.c_syntax.specs.declared.expression.UnOp.{UnOp}
@@ -23,6 +23,7 @@ use Rattle.mon_syntax.specs.declared.tree.MonType.TheVariants.{I8, U8, I16, U16,
 use Rattle.mon_syntax.specs.Trees.{MonExpression, Register, Constant, Binary, Minus, Flip, Cast, MonStatement, Set, Assert, If, MonStatements, NoStatement, Then}
 use Rattle.mon_syntax.specs.Checking.{same_type}
 use Rattle.mon_syntax.specs.Valid.{result_type}
+use Rattle.track_scopes.specs.Blocks.{register_of}
 
 -- ---- types and operators
 
@@ -108,11 +109,6 @@ compound op (Int k) (Int l) a b = compound_in op (register_type (operation_type 
 compound op _ _ a b = Constant I32 (pos 0)
 
 -- ---- expressions without effects
-
--- the register of a variable, by the number of its declaration: its place among those of the function
-abbrev pub register_of : List ℕ → ℕ → ℕ
-register_of [] x = 0
-register_of (n ∷ ns) x = cond (nat_eq n x) 0 (suc (register_of ns x))
 
 -- the types of the temporary registers that an expression takes, in order
 abbrev pub temporaries : Expression → List MonType

@@ -10,15 +10,14 @@ use Rattle.c_syntax.specs.Expressions.{Expression, Node, Expressions, NoExpressi
 use Rattle.c_syntax.specs.Statements as source_statement
 use Rattle.c_syntax.specs.Statements.{Initialiser, One, Declaration, Statement, ElsePart, NoElse, Else, ForFirst, NoFirst, First, BlockItem, Declare, Run, Asserts, BlockItems, NoItem}
 use Rattle.c_syntax.specs.Programs.{Function, TranslationUnit}
-use Rattle.c_model.specs.Integers.{size_of}
 use Rattle.c_model.specs.Meaning.{bump_operator, declared_in, declared_first, is_definition, is_of_library}
 use Rattle.c_model.specs.Typing.{name_at}
 use Rattle.c_model.specs.Formed.{number_of, declared_in_body}
 use Rattle.mon_syntax.specs.declared.tree.MonType.{MonType}
-use Rattle.mon_syntax.specs.declared.tree.MonType.TheVariants.{I32, U64, Ptr}
-use Rattle.mon_syntax.specs.declared.tree.MemoryCall.TheVariants.{StoreBlock, DeleteBlock}
-use Rattle.mon_syntax.specs.Trees.{MonExpression, Register, Constant, MonStatement, PutChar, GetChar, Exit, Act, Call, If, Loop, Labelled, Goto, Return, MonStatements, NoStatement, Then, MonRegister, MonFunction, MonitoredProgram}
-use Rattle.instrument.specs.Expressions.{register_type, value_type, in_type, compound, register_of, temporaries, value, before, one, set, condition_of, setup, assertions}
+use Rattle.mon_syntax.specs.declared.tree.MonType.TheVariants.{I32, Ptr}
+use Rattle.mon_syntax.specs.Trees.{MonExpression, Register, Constant, MonStatement, PutChar, GetChar, Exit, Call, If, Loop, Labelled, Goto, Return, MonStatements, NoStatement, Then, MonRegister, MonFunction, MonitoredProgram}
+use Rattle.instrument.specs.Expressions.{register_type, value_type, in_type, compound, temporaries, value, before, one, set, condition_of, setup, assertions}
+use Rattle.track_scopes.specs.Blocks.{register_of, births, deaths, with_born}
 
 -- ---- names
 
@@ -158,30 +157,9 @@ abbrev mutual
 
 -- ---- the blocks of variables, whose numbers these are
 
--- `p = __e_acsl_store_block(size);`
-abbrev pub birth : List ℕ → Declaration → MonStatement
-birth numbers d = Act (Some (length numbers + register_of numbers (number_of d))) StoreBlock (Constant U64 (pos (size_of d.ctype)) ∷ [])
-
-abbrev pub births : List ℕ → List Declaration → MonStatements
-births numbers [] = NoStatement
-births numbers (d ∷ ds) = Then (birth numbers d) (births numbers ds)
-
--- `__e_acsl_delete_block(p);`, for the variable with this register
-abbrev pub death : List ℕ → ℕ → MonStatement
-death numbers r = Act None DeleteBlock (Register (length numbers + r) ∷ [])
-
-abbrev pub deaths : List ℕ → List ℕ → MonStatements
-deaths numbers [] = NoStatement
-deaths numbers (r ∷ live) = Then (death numbers r) (deaths numbers live)
-
--- the registers of the variables that live, the youngest first, behind the births of these
-abbrev pub with_born : List ℕ → List Declaration → List ℕ → List ℕ
-with_born numbers [] live = live
-with_born numbers (d ∷ ds) live = with_born numbers ds (register_of numbers (number_of d) ∷ live)
-
 -- these variables live as long as this is done
 abbrev pub alive : List ℕ → List Declaration → MonStatements → MonStatements
-alive numbers ds a = before (births numbers ds) (before a (deaths numbers (with_born numbers ds [])))
+alive numbers ds a = before (births numbers ds) (before a (deaths (with_born numbers ds [])))
 
 -- ---- loops, around whose body stand so many
 
@@ -200,8 +178,8 @@ test_if_any numbers rs loops (Some e) = test numbers rs loops e
 abbrev pub loop : ℕ → MonStatements → MonStatements → MonStatements → MonStatement
 loop loops front body behind = Labelled (one (Loop front (Then (Labelled body (next_label loops)) behind))) (end_label loops)
 
--- Where a statement stands: how many loops stand around it, and the variables whose blocks live, by their registers, the youngest
--- first: those born inside the innermost loop, and the others of the function.
+-- Where a statement stands: how many loops stand around it, and the blocks of variables that live, by the registers that point to them,
+-- the youngest first: those born inside the innermost loop, and the others of the function.
 pub record Spot : Type 0 where
   pub loops : ℕ
   pub inside : List ℕ
@@ -257,9 +235,9 @@ module _ (p : TranslationUnit) (numbers : List ℕ) where
 
   -- all blocks of the function die in front of the `return`, and the value is in registers
   abbrev pub returned : Spot → List MonType → Option Expression → MonStatements
-  returned spot rs None = before (deaths numbers (spot.inside ++ spot.outside)) (one (Return None))
+  returned spot rs None = before (deaths (spot.inside ++ spot.outside)) (one (Return None))
   returned spot rs (Some e) =
-      before (full_setup rs e) (before (deaths numbers (spot.inside ++ spot.outside)) (one (Return (Some (full_value numbers rs e)))))
+      before (full_setup rs e) (before (deaths (spot.inside ++ spot.outside)) (one (Return (Some (full_value numbers rs e)))))
 
   abbrev mutual
     pub statement : Spot → List MonType → Statement → MonStatements
@@ -280,8 +258,8 @@ module _ (p : TranslationUnit) (numbers : List ℕ) where
         (one (loop (spot.loops + 1) (test_if_any numbers (rs ++ first_temporaries first) (spot.loops + 1) e)
         (statement (in_loop (with_variables numbers (declared_first first) spot)) (rs ++ first_temporaries first ++ any_temporaries temporaries e) a)
         (effect_if_any (rs ++ first_temporaries first ++ any_temporaries temporaries e ++ statement_temporaries a) behind))))
-    statement spot rs (source_statement.Break at) = before (deaths numbers spot.inside) (one (Goto (end_label spot.loops)))
-    statement spot rs (source_statement.Continue at) = before (deaths numbers spot.inside) (one (Goto (next_label spot.loops)))
+    statement spot rs (source_statement.Break at) = before (deaths spot.inside) (one (Goto (end_label spot.loops)))
+    statement spot rs (source_statement.Continue at) = before (deaths spot.inside) (one (Goto (next_label spot.loops)))
     statement spot rs (source_statement.Return at e) = returned spot rs e
 
     pub else_part : Spot → List MonType → ElsePart → MonStatements

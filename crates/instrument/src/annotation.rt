@@ -8,10 +8,10 @@ ghost use Rattle.instrument.specs.Limits.{IsNumbered, LinksHaveLetters, TermHasL
 ghost use Rattle.instrument.specs.Expressions.{assertion, chain, relation_operator, term};
 
 use crate::operator::operator_of;
-use crate::part::register_of;
 use c_syntax::{Annot, Body, Kind, Link, Pred, PredKind, Relation, Term, TermKind};
 use mon_syntax::{MonExpr, MonOp, MonStmt, MonType};
 use std::alloc::{AllocError, Global};
+use track_scopes::register::register_of;
 
 /// Translates a term, whose values fit 128 bits.
 pub fn term(alloc: Global, numbers: &[u32], t: &Term) -> Result<MonExpr, AllocError>

@@ -1,43 +1,17 @@
-//! The blocks of memory of variables: their births and deaths.
+//! The blocks of variables' memory: their births where a scope is entered, and their deaths where scopes are left.
 
-ghost use Rattle.std.specs.Prelude.{◌≡◌, [], IfOk, OnOk, map};
+ghost use Rattle.std.specs.Prelude.{◌≡◌, ◌++◌, [], IfOk, OnOk, map};
 ghost use Rattle.c_syntax.specs.Statements.{plain_decl, plain_item, plain_items};
 ghost use Rattle.c_model.specs.Meaning.{declared_in};
-ghost use Rattle.mon_syntax.specs.Trees.{plain_stmt, plain_stmts};
+ghost use Rattle.mon_syntax.specs.Trees.{plain_stmts};
+ghost use Rattle.track_scopes.specs.Blocks.{births, deaths, with_born};
 ghost use Rattle.instrument.specs.Expressions.{before};
 ghost use Rattle.instrument.specs.Options.{declared_by, items_of_first, plain_first_part};
-ghost use Rattle.instrument.specs.Translation.{birth, births, death, deaths, with_born};
 
-use crate::expression::size_constant;
-use crate::part::{pointer_of, register_of, then};
+use crate::part::then_all;
 use c_syntax::{Decl, Item};
-use mon_syntax::{MemoryCall, MonExpr, MonStmt};
+use mon_syntax::MonStmt;
 use std::alloc::{AllocError, Global};
-
-// The birth of a variable's block.
-fn birth(alloc: Global, numbers: &[u32], d: &Decl) -> Result<MonStmt, AllocError>
-    ensures { IfOk result (λ s. plain_stmt s ≡ birth numbers.now (plain_decl d.now)) }
-{
-    let pointer = pointer_of(numbers, register_of(numbers, d.place.offset)?)?;
-    let mut args = Vec::new(alloc);
-    args.push(size_constant(&d.ctype))?;
-    Ok(MonStmt::Act(Some(pointer), MemoryCall::StoreBlock, args))
-}
-
-/// The births of variables' blocks, in order.
-pub fn births(
-    alloc: Global,
-    numbers: &[u32],
-    decls: &[Decl],
-    to: &mut Vec<MonStmt>,
-) -> Result<(), AllocError>
-    ensures { OnOk result (plain_stmts to.new.items ≡ before (plain_stmts to.old.items) (births numbers.now (map plain_decl decls.now))) }
-{
-    'decls: for d in decls {
-        then(to, birth(alloc, numbers, d)?)?;
-    }
-    Ok(())
-}
 
 // What an item declares itself.
 fn declared_by(item: &Item) -> &[Decl]
@@ -50,97 +24,51 @@ fn declared_by(item: &Item) -> &[Decl]
     }
 }
 
-// The births of the variables that items of a block declare.
-fn births_in(
-    alloc: Global,
-    numbers: &[u32],
-    block: &[Item],
-    to: &mut Vec<MonStmt>,
-) -> Result<(), AllocError>
-    ensures { OnOk result (plain_stmts to.new.items ≡ before (plain_stmts to.old.items) (births numbers.now (declared_in (plain_items block.now)))) }
-{
-    'items: for item in block {
-        births(alloc, numbers, declared_by(item), to)?;
-    }
-    Ok(())
-}
-
-/// The variables that live, the youngest first, behind the births of these.
-pub fn born(numbers: &[u32], decls: &[Decl], live: &mut Vec<u32>) -> Result<(), AllocError>
-    ensures { OnOk result (live.new.items ≡ with_born numbers.now (map plain_decl decls.now) live.old.items) }
-{
-    'decls: for d in decls {
-        live.insert(0, register_of(numbers, d.place.offset)?)?;
-    }
-    Ok(())
-}
-
-// The variables that live behind the births of those that items of a block declare.
-fn born_in(
-    alloc: Global,
-    numbers: &[u32],
-    block: &[Item],
-    live: &[u32],
-) -> Result<Vec<u32>, AllocError>
-    ensures { IfOk result (λ all. all.items ≡ with_born numbers.now (declared_in (plain_items block.now)) live.now) }
-{
-    let mut all = Vec::from_slice(alloc, live)?;
-    'items: for item in block {
-        born(numbers, declared_by(item), &mut all)?;
-    }
-    Ok(all)
-}
-
-// The death of the block of the variable with this register.
-fn death(alloc: Global, numbers: &[u32], register: u32) -> Result<MonStmt, AllocError>
-    ensures { IfOk result (λ s. plain_stmt s ≡ death numbers.now register) }
-{
-    let mut args = Vec::new(alloc);
-    args.push(MonExpr::Register(pointer_of(numbers, register)?))?;
-    Ok(MonStmt::Act(None, MemoryCall::DeleteBlock, args))
-}
-
-/// The deaths of variables' blocks.
-pub fn deaths(
-    alloc: Global,
-    numbers: &[u32],
-    live: &[u32],
-    to: &mut Vec<MonStmt>,
-) -> Result<(), AllocError>
-    ensures { OnOk result (plain_stmts to.new.items ≡ before (plain_stmts to.old.items) (deaths numbers.now live.now)) }
-{
-    'live: for register in live {
-        then(to, death(alloc, numbers, *register)?)?;
-    }
-    Ok(())
-}
-
-/// The births at the entry of a block, and the variables that live behind them.
+/// Enters the scope of these variables: the blocks that live, by the registers that point to them, the youngest first, grow by theirs.
 pub fn enter(
     alloc: Global,
     numbers: &[u32],
-    block: &[Item],
-    live: &[u32],
+    decls: &[Decl],
+    live: &mut Vec<u32>,
     to: &mut Vec<MonStmt>,
-) -> Result<Vec<u32>, AllocError>
-    ensures born { OnOk result (plain_stmts to.new.items ≡ before (plain_stmts to.old.items) (births numbers.now (declared_in (plain_items block.now)))) }
-    ensures live { IfOk result (λ all. all.items ≡ with_born numbers.now (declared_in (plain_items block.now)) live.now) }
+) -> Result<(), AllocError>
+    ensures born { OnOk result (plain_stmts to.new.items ≡ before (plain_stmts to.old.items) (births numbers.now (map plain_decl decls.now))) }
+    ensures live { OnOk result (live.new.items ≡ with_born numbers.now (map plain_decl decls.now) live.old.items) }
 {
-    births_in(alloc, numbers, block, to)?;
-    born_in(alloc, numbers, block, live)
+    then_all(to, track_scopes::enter(alloc, numbers, decls, live)?)
 }
 
-/// The deaths at the end of a block.
-pub fn leave(
+/// Enters a block, and gives the blocks of its variables.
+pub fn enter_block(
     alloc: Global,
     numbers: &[u32],
     block: &[Item],
     to: &mut Vec<MonStmt>,
-) -> Result<(), AllocError>
-    ensures { OnOk result (plain_stmts to.new.items ≡ before (plain_stmts to.old.items) (deaths numbers.now (with_born numbers.now (declared_in (plain_items block.now)) []))) }
+) -> Result<Vec<u32>, AllocError>
+    ensures born { OnOk result (plain_stmts to.new.items ≡ before (plain_stmts to.old.items) (births numbers.now (declared_in (plain_items block.now)))) }
+    ensures own { IfOk result (λ own. own.items ≡ with_born numbers.now (declared_in (plain_items block.now)) []) }
 {
-    let own = born_in(alloc, numbers, block, &[])?;
-    deaths(alloc, numbers, &own, to)
+    let mut own = Vec::new(alloc);
+    'items: for item in block {
+        enter(alloc, numbers, declared_by(item), &mut own, to)?;
+    }
+    Ok(own)
+}
+
+/// Leaves scopes: these blocks die.
+pub fn leave(alloc: Global, blocks: &[u32], to: &mut Vec<MonStmt>) -> Result<(), AllocError>
+    ensures { OnOk result (plain_stmts to.new.items ≡ before (plain_stmts to.old.items) (deaths blocks.now)) }
+{
+    then_all(to, track_scopes::leave(alloc, blocks)?)
+}
+
+/// The blocks that live inside scopes: their own, and in front of which these lived.
+pub fn inside(alloc: Global, own: &[u32], around: &[u32]) -> Result<Vec<u32>, AllocError>
+    ensures { IfOk result (λ all. all.items ≡ own.now ++ around.now) }
+{
+    let mut all = Vec::from_slice(alloc, own)?;
+    all.extend_from_slice(around)?;
+    Ok(all)
 }
 
 /// What stands first in a `for`, as items of a block.

@@ -9,12 +9,13 @@ ghost use Rattle.instrument.specs.Expressions.{before};
 ghost use Rattle.instrument.specs.Translation.{arguments, arguments_setup, arguments_temporaries, call, called, first_of, index_of, library_call};
 
 use crate::expression::expression;
-use crate::part::{numbered, then};
+use crate::part::then;
 use crate::scene::Scene;
 use c_syntax::{Expr, Func, Program, Use};
 use c_type_rules::scope::name_at;
 use mon_syntax::{MonExpr, MonStmt, MonType};
 use std::alloc::{AllocError, Global};
+use track_scopes::register::numbered;
 
 // The index, among the definitions, of the one with this number.
 fn index_of(number: u32, funcs: &[Func]) -> usize

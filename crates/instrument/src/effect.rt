@@ -9,18 +9,20 @@ ghost use Rattle.c_model.specs.Meaning.{bump_operator};
 ghost use Rattle.mon_syntax.specs.declared.tree.MonType.TheVariants.{I32};
 ghost use Rattle.mon_syntax.specs.Trees.{Constant, Register, plain_expr as plain_monitored, plain_stmts};
 ghost use Rattle.instrument.specs.Limits.{Any, EffectHasLetters, FullHasLetters, HasLetters, InitialHasLetters, InitialsHaveLetters};
-ghost use Rattle.instrument.specs.Expressions.{before, compound, register_of, set, setup, temporaries, value};
+ghost use Rattle.instrument.specs.Expressions.{before, compound, set, setup, temporaries, value};
+ghost use Rattle.track_scopes.specs.Blocks.{register_of};
 ghost use Rattle.instrument.specs.Translation.{any_temporaries, declaration_temporaries, effect, effect_if_any, effect_temporaries, full_setup, full_temporaries, full_value, initial_temporaries, initialise, initialise_all, target};
 
 use crate::call::called;
 use crate::expression::expression;
 use crate::full::full;
 use crate::operator::compound;
-use crate::part::{register_of, then};
+use crate::part::then;
 use crate::scene::Scene;
 use c_syntax::{BinOp, BumpOp, CInt, CType, Decl, Expr, ExprKind, Init};
 use mon_syntax::{MonExpr, MonStmt, MonType};
 use std::alloc::{AllocError, Global};
+use track_scopes::register::register_of;
 
 // The register that is assigned to.
 fn target(numbers: &[u32], e: &Expr) -> Result<u32, AllocError>

@@ -1,34 +1,20 @@
 //! Expressions without effects (C99 6.5).
 
-ghost use Rattle.std.specs.Prelude.{◌≡◌, ◌++◌, IfOk, OnOk, pos};
-ghost use Rattle.c_syntax.specs.Ctypes.{plain_type};
+ghost use Rattle.std.specs.Prelude.{◌≡◌, ◌++◌, IfOk, OnOk};
 ghost use Rattle.c_syntax.specs.Expressions.{plain_expr};
-ghost use Rattle.c_model.specs.Integers.{size_of};
-ghost use Rattle.mon_syntax.specs.declared.tree.MonType.TheVariants.{I32, U64};
+ghost use Rattle.mon_syntax.specs.declared.tree.MonType.TheVariants.{I32};
 ghost use Rattle.mon_syntax.specs.Trees.{Constant, plain_expr as plain_monitored, plain_stmts};
 ghost use Rattle.instrument.specs.Limits.{HasLetters};
 ghost use Rattle.instrument.specs.Expressions.{before, setup, temporaries, value};
 
 use crate::conversion::value_type;
 use crate::operator::{binary, condition, in_type, truth, unary};
-use crate::part::{either_set, register_of, temporary};
-use c_syntax::{CInt, CType, Expr, ExprKind};
+use crate::part::{either_set, temporary};
+use c_syntax::{Expr, ExprKind};
 use mon_syntax::{MonExpr, MonStmt, MonType};
 use std::alloc::{AllocError, Global};
-
-/// The constant of an object's size in bytes (C99 6.5.3.4).
-pub fn size_constant(t: &CType) -> MonExpr
-    ensures { plain_monitored result ≡ Constant U64 (pos (size_of (plain_type t.now))) }
-{
-    let size = match t {
-        CType::Void => 0,
-        CType::Int(CInt::I8 | CInt::U8) => 1,
-        CType::Int(CInt::I16 | CInt::U16) => 2,
-        CType::Int(CInt::I32 | CInt::U32) => 4,
-        CType::Int(CInt::I64 | CInt::U64) => 8,
-    };
-    MonExpr::Constant(MonType::U64, size)
-}
+use track_scopes::register::register_of;
+use track_scopes::size::size_constant;
 
 fn number(n: i128) -> MonExpr
     ensures { plain_monitored result ≡ Constant I32 n }

@@ -3,10 +3,11 @@
 ghost use Rattle.std.specs.Prelude.{◌≡◌, ◌+◌, ◌++◌, [], ◌∷◌, IfOk, OnOk, length, pos};
 ghost use Rattle.mon_syntax.specs.Trees.{Constant, If, Register, plain_expr, plain_stmt, plain_stmts};
 ghost use Rattle.mon_syntax.specs.declared.tree.MonType.TheVariants.{I32};
-ghost use Rattle.instrument.specs.Expressions.{before, one, register_of, set};
+ghost use Rattle.instrument.specs.Expressions.{before, one, set};
 
 use mon_syntax::{MonExpr, MonStmt, MonType};
 use std::alloc::{AllocError, Global};
+use track_scopes::register::numbered;
 
 /// Puts one statement behind the others.
 #[tactic(auto, using(crate::proofs::Sequences::stmts_push))]
@@ -17,6 +18,14 @@ pub fn then(to: &mut Vec<MonStmt>, s: MonStmt) -> Result<(), AllocError>
     Ok(())
 }
 
+/// Puts these statements behind the others.
+#[tactic(auto, using(crate::proofs::Sequences::stmts_append))]
+pub fn then_all(to: &mut Vec<MonStmt>, mut code: Vec<MonStmt>) -> Result<(), AllocError>
+    ensures { OnOk result (plain_stmts to.new.items ≡ before (plain_stmts to.old.items) (plain_stmts code.items)) }
+{
+    to.append(&mut code)
+}
+
 /// The one statement alone.
 pub fn alone(alloc: Global, s: MonStmt) -> Result<Vec<MonStmt>, AllocError>
     ensures { IfOk result (λ code. plain_stmts code.items ≡ one (plain_stmt s)) }
@@ -24,36 +33,6 @@ pub fn alone(alloc: Global, s: MonStmt) -> Result<Vec<MonStmt>, AllocError>
     let mut code = Vec::new(alloc);
     code.push(s)?;
     Ok(code)
-}
-
-/// The number of a register or of a function. No memory holds more of them.
-pub fn numbered(index: usize) -> Result<u32, AllocError>
-    ensures { IfOk result (λ r. r ≡ index) }
-{
-    match u32::try_from(index) {
-        Ok(number) => Ok(number),
-        Err(_) => Err(AllocError),
-    }
-}
-
-/// The register of a variable's value, by the number of its declaration: its place among those of the function.
-pub fn register_of(numbers: &[u32], x: u32) -> Result<u32, AllocError>
-    ensures { IfOk result (λ r. r ≡ register_of numbers.now x) }
-{
-    let mut place = 0;
-    'numbers: while place < numbers.len() && numbers[place] != x {
-        place += 1;
-    }
-    numbered(place)
-}
-
-/// The register that points to the block of the variable with this register.
-pub fn pointer_of(numbers: &[u32], register: u32) -> Result<u32, AllocError>
-    ensures { IfOk result (λ r. r ≡ length numbers.now + register) }
-{
-    numbered(numbers.len())?
-        .checked_add(register)
-        .ok_or(AllocError)
 }
 
 /// A further register.

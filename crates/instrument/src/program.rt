@@ -17,7 +17,7 @@ ghost use Rattle.instrument.specs.Expressions.{before};
 ghost use Rattle.instrument.specs.Options.{plain_spot, statement_of};
 ghost use Rattle.instrument.specs.Translation.{alive, body_part, body_temporaries, function_name, function_of, functions_from, index_of_main, result_of, temporaries_from, translated};
 
-use crate::block::{births, born, deaths};
+use crate::block::{enter, leave};
 use crate::conversion::register_type;
 use crate::name::{function_name, temporary_name};
 use crate::scene::{Scene, Spot};
@@ -120,16 +120,15 @@ fn body_of(
     ensures numbers { IfOk result (λ _. BodyHasNumbers (plain_func f.now).body) }
 {
     let mut code = Vec::new(alloc);
-    births(alloc, scene.numbers, &f.params, &mut code)?;
     let mut inside = Vec::new(alloc);
-    born(scene.numbers, &f.params, &mut inside)?;
+    enter(alloc, scene.numbers, &f.params, &mut inside, &mut code)?;
     let spot = Spot {
         loops: 0,
         inside: &inside,
         outside: &[],
     };
     statement_of(alloc, scene, &spot, &f.body, types, &mut code)?;
-    deaths(alloc, scene.numbers, &inside, &mut code)?;
+    leave(alloc, &inside, &mut code)?;
     Ok(code)
 }
 

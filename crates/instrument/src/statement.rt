@@ -10,10 +10,11 @@ ghost use Rattle.mon_syntax.specs.Trees.{Goto, Labelled, Loop, Then, plain_expr 
 ghost use Rattle.instrument.specs.Limits.{Any, AreNumbered, EffectHasLetters, ElseHasNumbers, FirstHasNumbers, FullHasLetters, HasLetters, HasNumbers, HaveNumbers, ItemHasNumbers};
 ghost use Rattle.instrument.specs.Options.{plain_else_part, plain_first_part, plain_spot};
 ghost use Rattle.instrument.specs.Expressions.{assertions, before, condition_of, one, setup, temporaries};
-ghost use Rattle.instrument.specs.Translation.{alive, any_temporaries, deaths, effect_if_any, effect_temporaries, else_part, else_temporaries, end_label, first_part, first_temporaries, full_temporaries, in_loop, item, item_temporaries, items, items_temporaries, leave_where_zero, next_label, returned, statement, statement_temporaries, test, test_if_any, with_variables};
+ghost use Rattle.instrument.specs.Translation.{alive, any_temporaries, effect_if_any, effect_temporaries, else_part, else_temporaries, end_label, first_part, first_temporaries, full_temporaries, in_loop, item, item_temporaries, items, items_temporaries, leave_where_zero, next_label, returned, statement, statement_temporaries, test, test_if_any, with_variables};
+ghost use Rattle.track_scopes.specs.Blocks.{deaths};
 
 use crate::annotation::assertion;
-use crate::block::{deaths, enter, items_of, leave};
+use crate::block::{enter_block, inside, items_of, leave};
 use crate::conversion::value_type;
 use crate::effect::{effect, effect_if_any, initialise_all};
 use crate::expression::expression;
@@ -43,7 +44,7 @@ fn assertions(
 }
 
 // How many loops stand around the body of a loop. No memory holds a tree of more loops inside one another.
-fn inside(loops: u32) -> Result<u32, AllocError>
+fn one_more(loops: u32) -> Result<u32, AllocError>
     ensures { IfOk result (λ inner. inner ≡ loops + 1) }
 {
     loops.checked_add(1).ok_or(AllocError)
@@ -120,31 +121,20 @@ fn leave_unless_any(
 
 // `break` or `continue`: the blocks of the variables that are left die in front of it.
 #[tactic(auto, using(crate::proofs::Sequences::before_assoc))]
-fn jump(
-    alloc: Global,
-    numbers: &[u32],
-    live: &[u32],
-    label: Name,
-    to: &mut Vec<MonStmt>,
-) -> Result<(), AllocError>
-    ensures { OnOk result (plain_stmts to.new.items ≡ before (plain_stmts to.old.items) (before (deaths numbers.now live.now) (one (Goto label)))) }
+fn jump(alloc: Global, live: &[u32], label: Name, to: &mut Vec<MonStmt>) -> Result<(), AllocError>
+    ensures { OnOk result (plain_stmts to.new.items ≡ before (plain_stmts to.old.items) (before (deaths live.now) (one (Goto label)))) }
 {
-    deaths(alloc, numbers, live, to)?;
+    leave(alloc, live, to)?;
     then(to, MonStmt::Goto(label))
 }
 
 // The deaths of all blocks of a function.
 #[tactic(auto, using(crate::proofs::Sequences::before_assoc, crate::proofs::Declarations::deaths_behind))]
-fn all_deaths(
-    alloc: Global,
-    numbers: &[u32],
-    spot: &Spot<'_>,
-    to: &mut Vec<MonStmt>,
-) -> Result<(), AllocError>
-    ensures { OnOk result (plain_stmts to.new.items ≡ before (plain_stmts to.old.items) (deaths numbers.now (spot.now.inside.now ++ spot.now.outside.now))) }
+fn leave_all(alloc: Global, spot: &Spot<'_>, to: &mut Vec<MonStmt>) -> Result<(), AllocError>
+    ensures { OnOk result (plain_stmts to.new.items ≡ before (plain_stmts to.old.items) (deaths (spot.now.inside.now ++ spot.now.outside.now))) }
 {
-    deaths(alloc, numbers, spot.inside, to)?;
-    deaths(alloc, numbers, spot.outside, to)
+    leave(alloc, spot.inside, to)?;
+    leave(alloc, spot.outside, to)
 }
 
 // `return`: all blocks of the function die in front of it, and the value is in registers.
@@ -164,11 +154,11 @@ fn give_back(
     match e {
         Some(e) => {
             let value = full(alloc, scene, e, types, to)?;
-            all_deaths(alloc, scene.numbers, spot, to)?;
+            leave_all(alloc, spot, to)?;
             then(to, MonStmt::Return(Some(value)))
         }
         None => {
-            all_deaths(alloc, scene.numbers, spot, to)?;
+            leave_all(alloc, spot, to)?;
             then(to, MonStmt::Return(None))
         }
     }
@@ -201,9 +191,8 @@ fn round(
     ensures types { OnOk result (types.new.items ≡ types.old.items ++ statement_temporaries (plain_stmt s.now)) }
     ensures numbers { OnOk result (HasNumbers (plain_stmt s.now)) }
 {
-    let loops = inside(spot.loops)?;
-    let mut outside = Vec::from_slice(alloc, spot.inside)?;
-    outside.extend_from_slice(spot.outside)?;
+    let loops = one_more(spot.loops)?;
+    let outside = inside(alloc, spot.inside, spot.outside)?;
     let inner = Spot {
         loops,
         inside: &[],
@@ -249,37 +238,37 @@ pub fn statement(
             then(to, MonStmt::If(condition, first, second))
         }
         StmtKind::While(_, e, a) => {
-            let loops = inside(spot.loops)?;
+            let loops = one_more(spot.loops)?;
             let mut front = Vec::new(alloc);
             leave_unless(alloc, scene.numbers, loops, e, types, &mut front)?;
             let behind = round(alloc, scene, spot, a, types)?;
             then(to, repeat(alloc, loops, front, behind)?)
         }
         StmtKind::Do(a, e) => {
-            let loops = inside(spot.loops)?;
+            let loops = one_more(spot.loops)?;
             let mut behind = round(alloc, scene, spot, a, types)?;
             leave_unless(alloc, scene.numbers, loops, e, types, &mut behind)?;
             then(to, repeat(alloc, loops, Vec::new(alloc), behind)?)
         }
         StmtKind::For(_, first, e, step, a) => {
-            let own = items_of(first);
-            let inside = enter(alloc, scene.numbers, own, spot.inside, to)?;
+            let own = enter_block(alloc, scene.numbers, items_of(first), to)?;
+            let live = inside(alloc, &own, spot.inside)?;
             let around = Spot {
                 loops: spot.loops,
-                inside: &inside,
+                inside: &live,
                 outside: spot.outside,
             };
             first_part(alloc, scene, &around, first, types, to)?;
             turns(alloc, scene, &around, a, (e, step), types, to)?;
-            leave(alloc, scene.numbers, own, to)
+            leave(alloc, &own, to)
         }
         StmtKind::Break => {
             let label = end_label(alloc, spot.loops)?;
-            jump(alloc, scene.numbers, spot.inside, label, to)
+            jump(alloc, spot.inside, label, to)
         }
         StmtKind::Continue => {
             let label = next_label(alloc, spot.loops)?;
-            jump(alloc, scene.numbers, spot.inside, label, to)
+            jump(alloc, spot.inside, label, to)
         }
         StmtKind::Return(e) => give_back(alloc, scene, spot, e, types, to),
     }
@@ -319,14 +308,15 @@ fn block(
     ensures types { OnOk result (types.new.items ≡ types.old.items ++ items_temporaries (plain_items body.now)) }
     ensures numbers { OnOk result (HaveNumbers (plain_items body.now)) }
 {
-    let inside = enter(alloc, scene.numbers, body, spot.inside, to)?;
+    let own = enter_block(alloc, scene.numbers, body, to)?;
+    let live = inside(alloc, &own, spot.inside)?;
     let inner = Spot {
         loops: spot.loops,
-        inside: &inside,
+        inside: &live,
         outside: spot.outside,
     };
     items(alloc, scene, &inner, body, types, to)?;
-    leave(alloc, scene.numbers, body, to)
+    leave(alloc, &own, to)
 }
 
 // What stands first in a `for`, which may be left out.
@@ -365,7 +355,7 @@ fn turns(
     ensures numbers { OnOk result (Any HasLetters (option_map plain_expr controls.entry.0.now) × HasNumbers (plain_stmt a.now) × Any EffectHasLetters (option_map plain_expr controls.entry.1.now)) }
 {
     let (e, step) = controls;
-    let loops = inside(spot.loops)?;
+    let loops = one_more(spot.loops)?;
     let mut front = Vec::new(alloc);
     leave_unless_any(alloc, scene.numbers, loops, e, types, &mut front)?;
     let mut behind = round(alloc, scene, spot, a, types)?;

@@ -1,9 +1,12 @@
-use Rattle.c_printer.proofs.Written.{then, shown}
-use Rattle.c_printer.proofs.Texts.{at_put}
+use Rattle.std.proofs.Common.{codes}
 use Rattle.mon_syntax.specs.Trees.{plain_expr}
+use Rattle.mon_syntax.specs.Text.{call_pieces, expression_pieces, set_or_none}
 use Rattle.c_printer.specs.Registers.{registers_of}
+use Rattle.c_printer.proofs.Written.{then, shown}
+use Rattle.c_printer.proofs.Texts.{spelled_append}
 use Rattle.c_printer.proofs.call.put_char.Goals as goal
 
-pub returns-in-Some : goal.returns-in-Some
-returns-in-Some g c =
-    shown (at_put (registers_of c.args.named.now) c.args.r c.in-Some.r (plain_expr c.args.e.now) c.in-Some.is) (then c.set.ensures c.call-in-Some.ensures)
+pub returns : goal.returns
+returns g c =
+    let rs = registers_of c.args.named.now in
+    shown (spelled_append (set_or_none rs c.args.r) (call_pieces (codes "putchar") (expression_pieces rs (plain_expr c.args.e.now)))) (then c.target.ensures c.call.ensures)

@@ -4,7 +4,8 @@ use Rattle.c_syntax.specs.Statements.{plain_decl, plain_stmt}
 use Rattle.mon_syntax.specs.Trees.{NoStatement, plain_stmts}
 use Rattle.instrument.specs.Expressions.{before}
 use Rattle.instrument.specs.Options.{statement_of}
-use Rattle.instrument.specs.Translation.{alive, births, deaths, with_born}
+use Rattle.instrument.specs.Translation.{alive}
+use Rattle.track_scopes.specs.Blocks.{births, deaths, with_born}
 use Rattle.instrument.proofs.StatementTrees.{alive_code}
 use Rattle.instrument.proofs.Definitions.{body_is}
 use Rattle.instrument.proofs.program.body_of.Goals as goal
@@ -17,9 +18,9 @@ returns-clause-code c =
     let rs = c.args.types.now.items in
     let a = option_map plain_stmt c.args.f.now.body in
     let f = λ (l : List ℕ). statement_of p numbers (record { loops = 0; inside = l; outside = [] }) rs a in
-    let born = c.in_ok-births.ensures ∙ (λ i. before (plain_stmts (c.new-code.ensures.items i)) (births numbers (map plain_decl (c.deref.ensures.value i)))) in
-    let inside = c.in_ok-born.ensures ∙ (λ i. with_born numbers (map plain_decl (c.deref-2.ensures.value i)) (c.new-inside.ensures.items i)) in
-    let dead = c.in_ok-deaths.ensures ∙ ap (λ l. before (plain_stmts c.statement_of.new.to.items) (deaths numbers l)) (c.deref-4.ensures.value ∙ inside) in
-    alive_code numbers [] c.deref-3.result.now ds f NoStatement (plain_stmts c.births.new.to.items) (plain_stmts c.statement_of.new.to.items) (plain_stmts c.deaths.new.to.items)
-    born (c.deref-3.ensures.value ∙ inside) c.in_ok-statement_of.ensures.code dead
+    let born = c.in_ok-enter.ensures.born ∙ (λ i. before (plain_stmts (c.new-code.ensures.items i)) (births numbers (map plain_decl (c.deref.ensures.value i)))) in
+    let inside = c.in_ok-enter.ensures.live ∙ (λ i. with_born numbers (map plain_decl (c.deref.ensures.value i)) (c.new-inside.ensures.items i)) in
+    let dead = c.in_ok-leave.ensures ∙ ap (λ l. before (plain_stmts c.statement_of.new.to.items) (deaths l)) (c.deref-3.ensures.value ∙ inside) in
+    alive_code numbers [] c.deref-2.result.now ds f NoStatement (plain_stmts c.enter.new.to.items) (plain_stmts c.statement_of.new.to.items) (plain_stmts c.leave.new.to.items)
+    born (c.deref-2.ensures.value ∙ inside) c.in_ok-statement_of.ensures.code dead
     ∙ ap (alive numbers ds) (body_is p numbers ds rs a)

@@ -13,6 +13,8 @@ use Rattle.instrument.specs.Limits.{HasNumbers, HaveNumbers}
 use Rattle.instrument.specs.Options.{plain_else_part, plain_first_part, plain_spot}
 use Rattle.instrument.specs.Expressions.{before, one, temporaries}
 use Rattle.instrument.specs.Translation.{any_temporaries, effect_temporaries, else_part, first_part, first_temporaries, item, item_temporaries, items, items_temporaries, statement, statement_temporaries, test_if_any}
+use Rattle.track_scopes.specs.Blocks.{deaths}
+use Rattle.instrument.proofs.Declarations.{born_front}
 use Rattle.instrument.proofs.Sequences.{left_at, none_left, all_there, complete, grown, more_behind, nothing}
 use Rattle.instrument.proofs.StatementTrees.{on_ok_then, block_stmt, if_stmt, for_stmt, do_stmt, if_code, do_code, turns_code, for_code, alive_code, declared_of_first, four_types}
 use Rattle.instrument.proofs.Trees.{on_ok}
@@ -56,8 +58,10 @@ block-returns-clause-code t c =
     let spot = c.args.spot.now in
     let body = plain_items c.args.body.now in
     let f = λ (l : List ℕ). items p numbers (record { loops = spot.loops; inside = l; outside = spot.outside.now }) c.args.types.now.items body in
-    on_ok_then c.leave.result (λ last. alive_code numbers spot.inside.now c.deref.result.now (declared_in body) f (plain_stmts c.args.to.now.items) (plain_stmts c.enter.new.to.items) (plain_stmts c.items.new.to.items) (plain_stmts c.leave.new.to.items)
-    c.in_ok-inside.ensures.born (c.deref.ensures.value ∙ c.in_ok-inside.ensures.live) c.in_ok-items.ensures.code last)
+    let own = c.in_ok-own.ensures.own in
+    let live = c.deref-2.ensures.value ∙ c.in_ok-live.ensures ∙ ap (λ l. l ++ spot.inside.now) (c.deref.ensures.value ∙ own) ∙ born_front numbers (declared_in body) spot.inside.now in
+    on_ok_then c.leave.result (λ last. alive_code numbers spot.inside.now c.deref-2.result.now (declared_in body) f (plain_stmts c.args.to.now.items) (plain_stmts c.enter_block.new.to.items) (plain_stmts c.items.new.to.items) (plain_stmts c.leave.new.to.items)
+    c.in_ok-own.ensures.born live c.in_ok-items.ensures.code (last ∙ ap (λ l. before (plain_stmts c.items.new.to.items) (deaths l)) (c.deref-3.ensures.value ∙ own)))
     c.leave.ensures
 
 pub turns-returns-clause-code : goal.turns-returns-clause-code
@@ -134,31 +138,35 @@ statement-returns-in_ok-turns-in-For-clause-code t c =
     let p = plain_program c.args.scene.now.program.now in
     let numbers = c.args.scene.now.numbers.now in
     let spot = plain_spot c.args.spot.now in
-    let x = c.deref-in-For-2.result.now in
+    let x = c.deref-in-For-3.result.now in
     let rs = c.args.types.now.items in
     let t0 = plain_stmts c.args.to.now.items in
     let first = plain_first_part c.in-For.first in
-    subst (λ (y : Statement). OnOk c.leave.result (plain_stmts c.leave.new.to.items ≡ before t0 (statement p numbers spot rs y))) (for_stmt c.args.s.now c.in-For.field-0 c.in-For.first c.in-For.e c.in-For.step c.in-For.a x c.in-For.is c.deref-in-For-2.ensures)
+    let ds = declared_in (plain_items c.items_of.result.now) in
+    let own = c.in_ok-own-in-For.ensures.own in
+    let live = c.deref-in-For-2.ensures.value ∙ c.in_ok-live-in-For.ensures ∙ ap (λ l. l ++ c.args.spot.now.inside.now) (c.deref-in-For.ensures.value ∙ own) ∙ born_front numbers ds c.args.spot.now.inside.now in
+    subst (λ (y : Statement). OnOk c.leave.result (plain_stmts c.leave.new.to.items ≡ before t0 (statement p numbers spot rs y))) (for_stmt c.args.s.now c.in-For.field-0 c.in-For.first c.in-For.e c.in-For.step c.in-For.a x c.in-For.is c.deref-in-For-3.ensures)
     (on_ok_then c.leave.result (λ last.
-    for_code p numbers rs c.first_part.new.types.items spot t0 (plain_stmts c.enter.new.to.items) (plain_stmts c.first_part.new.to.items) (plain_stmts c.turns.new.to.items) (plain_stmts c.leave.new.to.items) c.args.s.now.place
-    (map plain_annot c.in-For.field-0.items) first (option_map plain_expr c.in-For.e) (option_map plain_expr c.in-For.step) (plain_stmt x) (declared_in (plain_items c.items_of-own.result.now)) c.deref-in-For.result.now
-    (ap declared_in c.items_of-own.ensures ∙ declared_of_first first) c.in_ok-inside-in-For.ensures.born (c.deref-in-For.ensures.value ∙ c.in_ok-inside-in-For.ensures.live)
-    c.in_ok-first_part-in-For.ensures.code c.in_ok-first_part-in-For.ensures.types c.in_ok-turns-in-For.ensures.code last)
+    for_code p numbers rs c.first_part.new.types.items spot t0 (plain_stmts c.enter_block.new.to.items) (plain_stmts c.first_part.new.to.items) (plain_stmts c.turns.new.to.items) (plain_stmts c.leave.new.to.items) c.args.s.now.place
+    (map plain_annot c.in-For.field-0.items) first (option_map plain_expr c.in-For.e) (option_map plain_expr c.in-For.step) (plain_stmt x) ds c.deref-in-For-2.result.now
+    (ap declared_in c.items_of.ensures ∙ declared_of_first first) c.in_ok-own-in-For.ensures.born live
+    c.in_ok-first_part-in-For.ensures.code c.in_ok-first_part-in-For.ensures.types c.in_ok-turns-in-For.ensures.code
+    (last ∙ ap (λ l. before (plain_stmts c.turns.new.to.items) (deaths l)) (c.deref-in-For-4.ensures.value ∙ own)))
     c.leave.ensures)
 
 pub statement-returns-in_ok-turns-in-For-clause-types : goal.statement-returns-in_ok-turns-in-For-clause-types
 statement-returns-in_ok-turns-in-For-clause-types t c =
-    let x = c.deref-in-For-2.result.now in
+    let x = c.deref-in-For-3.result.now in
     let rs = c.args.types.now.items in
     let first = plain_first_part c.in-For.first in
     let e = option_map plain_expr c.in-For.e in
     let step = option_map plain_expr c.in-For.step in
-    subst (λ (y : Statement). OnOk c.leave.result (c.turns.new.types.items ≡ rs ++ statement_temporaries y)) (for_stmt c.args.s.now c.in-For.field-0 c.in-For.first c.in-For.e c.in-For.step c.in-For.a x c.in-For.is c.deref-in-For-2.ensures)
+    subst (λ (y : Statement). OnOk c.leave.result (c.turns.new.types.items ≡ rs ++ statement_temporaries y)) (for_stmt c.args.s.now c.in-For.field-0 c.in-For.first c.in-For.e c.in-For.step c.in-For.a x c.in-For.is c.deref-in-For-3.ensures)
     (on_ok c.leave.result
     (four_types rs c.first_part.new.types.items c.turns.new.types.items (first_temporaries first) (any_temporaries temporaries e) (statement_temporaries (plain_stmt x)) (any_temporaries effect_temporaries step)
     c.in_ok-first_part-in-For.ensures.types c.in_ok-turns-in-For.ensures.types))
 
 pub statement-returns-in_ok-turns-in-For-clause-numbers : goal.statement-returns-in_ok-turns-in-For-clause-numbers
 statement-returns-in_ok-turns-in-For-clause-numbers t c =
-    subst (λ (y : Statement). OnOk c.leave.result (HasNumbers y)) (for_stmt c.args.s.now c.in-For.field-0 c.in-For.first c.in-For.e c.in-For.step c.in-For.a c.deref-in-For-2.result.now c.in-For.is c.deref-in-For-2.ensures)
+    subst (λ (y : Statement). OnOk c.leave.result (HasNumbers y)) (for_stmt c.args.s.now c.in-For.field-0 c.in-For.first c.in-For.e c.in-For.step c.in-For.a c.deref-in-For-3.result.now c.in-For.is c.deref-in-For-3.ensures)
     (on_ok c.leave.result (c.in_ok-first_part-in-For.ensures.numbers, c.in_ok-turns-in-For.ensures.numbers.0, c.in_ok-turns-in-For.ensures.numbers.1, c.in_ok-turns-in-For.ensures.numbers.2))

@@ -1,0 +1,4 @@
+pub mod Lives
+pub mod Sequences
+pub mod Births
+pub mod Deaths

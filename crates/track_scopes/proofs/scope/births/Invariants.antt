@@ -1,0 +1,7 @@
+use Rattle.std.proofs.Common.{◌≡◌, ◌++◌, drop, map}
+use Rattle.mon_syntax.specs.Trees.{plain_stmt}
+use Rattle.track_scopes.proofs.Sequences.{birth_at}
+use Rattle.track_scopes.proofs.scope.births.Given as goal
+
+abbrev pub invariant-decls : goal.invariant-decls
+invariant-decls l = map plain_stmt l.code.items ++ map (birth_at l.numbers) (drop l.d-index l.decls) ≡ map (birth_at l.numbers) l.decls

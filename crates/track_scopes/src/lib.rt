@@ -1,0 +1,13 @@
+//! The blocks of a function's variables in monitored C: they are born in order where a scope is entered, and die, the youngest
+//! first, where it is left.
+//!
+//! Where the same blocks live in the program and in monitored C, they do so behind the statements that are given here too.
+#![tactic(auto)]
+
+pub mod register;
+pub mod scope;
+pub mod size;
+#[cfg(test)]
+mod tests;
+
+pub use scope::{enter, leave};
