@@ -24,9 +24,6 @@ body_is p numbers params rs (Some a) = refl
 pub no_definition : (f : Func) → f.body ≡ None → is_definition (plain_func f) ≡ false
 no_definition f is = ap (λ (o : Option Stmt). is_there (option_map plain_stmt o)) is
 
-pub a_definition : (f : Func) (a : Stmt) → f.body ≡ Some a → is_definition (plain_func f) ≡ true
-a_definition f a is = ap (λ (o : Option Stmt). is_there (option_map plain_stmt o)) is
-
 module _ (p : TranslationUnit) (main : ℕ) where
   pub from_none : (k : ℕ) (f : Function) → is_definition f ≡ false → [] ≡ functions_from p main k (f ∷ [])
   from_none k f none = sym (ap (λ b. if b then function_of p main k f ∷ [] else []) none)

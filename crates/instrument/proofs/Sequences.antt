@@ -66,10 +66,3 @@ more_behind {t'} t part rs ts rest first put types kept = ap (λ r. before t' (r
 -- one more part of a list, behind which what is left begins with further registers
 pub grown_behind : {B : Type 0} {t' left all : List B} {rs' : List MonType} (t part : List B) (rs ts : List MonType) (rest : List MonType → List B) → left ≡ part ++ rest (rs ++ ts) → t' ≡ t ++ part → rs' ≡ rs ++ ts → t ++ left ≡ all → t' ++ rest rs' ≡ all
 grown_behind {t'} t part rs ts rest first put types kept = ap (λ r. t' ++ rest r) types ∙ grown t part (rest (rs ++ ts)) first put kept
-
--- ---- a loop over numbers
-
-pub number_left : {B : Type 0} (f : List ℕ → B) (l : List ℕ) (i y : ℕ) → i < length l → get_or l i 0 ≡ y → f (drop i l) ≡ f (y ∷ drop (i + 1) l)
-number_left f l i y lt same =
-    let next : suc i ≡ i + 1 = omega arith in
-    ap f (drop-cons l i 0 lt) ∙ ap (λ z. f (z ∷ drop (suc i) l)) same ∙ ap (λ j. f (y ∷ drop j l)) next

@@ -12,7 +12,7 @@ use Rattle.c_syntax.specs.declared.statement.StmtKind as code
 use Rattle.c_syntax.specs.Annotations.{Annotation, plain_annot}
 use Rattle.c_syntax.specs.Expressions.{Expression, plain_expr}
 use Rattle.c_syntax.specs.Programs.{TranslationUnit}
-use Rattle.c_syntax.specs.Statements.{Declaration, Statement, Block, If, While, Do, For, ElsePart, ForFirst, NoFirst, First, Declare, Run, Asserts, plain_items, plain_stmt, plain_stmt_kind}
+use Rattle.c_syntax.specs.Statements.{Declaration, Statement, Block, If, Do, For, ElsePart, ForFirst, NoFirst, First, Declare, Run, Asserts, plain_items, plain_stmt, plain_stmt_kind}
 use Rattle.c_syntax.proofs.Rows.{block_is}
 use Rattle.c_model.specs.Meaning.{declared_in, declared_first}
 use Rattle.mon_syntax.specs.declared.tree.MonType.{MonType}
@@ -50,9 +50,6 @@ for_stmt s annots first e step a x is same =
     ap (λ y. For s.place (map plain_annot annots.items) (plain_first_part first) (option_map plain_expr e) (option_map plain_expr step) (plain_stmt y)) same
     ∙ sym (ap (plain_stmt_kind s.place) is ∙ for_kind s.place annots first e step a)
 
-pub while_stmt : (s : Stmt) (annots : Vec Annot Global) (e : Expr) (a : Box Stmt Global) (x : Stmt) → s.kind ≡ code.While annots e a → x ≡ a.value → While s.place (map plain_annot annots.items) (plain_expr e) (plain_stmt x) ≡ plain_stmt s
-while_stmt s annots e a x is same = ap (λ y. While s.place (map plain_annot annots.items) (plain_expr e) (plain_stmt y)) same ∙ sym (ap (plain_stmt_kind s.place) is)
-
 pub do_stmt : (s : Stmt) (a : Box Stmt Global) (e : Expr) (x : Stmt) → s.kind ≡ code.Do a e → x ≡ a.value → Do s.place (plain_stmt x) (plain_expr e) ≡ plain_stmt s
 do_stmt s a e x is same = ap (λ y. Do s.place (plain_stmt y) (plain_expr e)) same ∙ sym (ap (plain_stmt_kind s.place) is)
 
@@ -86,13 +83,6 @@ module _ (p : TranslationUnit) (numbers : List ℕ) (rs rs1 rs2 : List MonType) 
       ∙ (λ i. before (first i) (one (tree.If (c_is i) (f_at i) (g_at i))))
       ∙ before_assoc t (setup numbers rs e) (one (tree.If (condition_of numbers rs e) (statement p numbers spot (rs ++ temporaries e) a) (else_part p numbers spot (rs ++ temporaries e ++ statement_temporaries a) b)))
 
-  -- a loop from its parts
-  pub while_code : (annots : List Annotation) (e : Expression) (a : Statement) (inner : ℕ) (front round : MonStatements) (whole : MonStatement) → inner ≡ spot.loops + 1 → front ≡ test numbers rs inner e → rs1 ≡ rs ++ temporaries e → round ≡ one (Labelled (statement p numbers (in_loop spot) rs1 a) (next_label (spot.loops + 1))) → whole ≡ Labelled (one (Loop front round)) (end_label inner) → t2 ≡ before t (one whole) → t2 ≡ before t (statement p numbers spot rs (While at annots e a))
-  while_code annots e a inner front round whole inner_is front_is types round_is whole_is last =
-      let front_at = front_is ∙ ap (λ k. test numbers rs k e) inner_is in
-      let round_at = round_is ∙ ap (λ l. one (Labelled (statement p numbers (in_loop spot) l a) (next_label (spot.loops + 1)))) types in
-      last ∙ ap (λ x. before t (one x)) whole_is ∙ (λ i. before t (one (Labelled (one (Loop (front_at i) (round_at i))) (end_label (inner_is i)))))
-
   pub do_code : (e : Expression) (a : Statement) (inner : ℕ) (round behind : MonStatements) (whole : MonStatement) → inner ≡ spot.loops + 1 → rs1 ≡ rs ++ statement_temporaries a → round ≡ one (Labelled (statement p numbers (in_loop spot) rs a) (next_label (spot.loops + 1))) → behind ≡ before round (test numbers rs1 inner e) → whole ≡ Labelled (one (Loop NoStatement behind)) (end_label inner) → t2 ≡ before t (one whole) → t2 ≡ before t (statement p numbers spot rs (Do at a e))
   do_code e a inner round behind whole inner_is types round_is behind_is whole_is last =
       let behind_at = behind_is ∙ (λ i. before (round_is i) (test numbers (types i) (inner_is i) e)) in
@@ -124,10 +114,6 @@ module _ (p : TranslationUnit) (numbers : List ℕ) (rs rs1 : List MonType) (spo
       ∙ ap (λ l. before t (alive numbers l (all (with_born numbers l spot.inside)))) ds_is
 
 -- ---- their registers
-
-pub three_types : (rs rs1 rs2 rs3 a b c : List MonType) → rs1 ≡ rs ++ a → rs2 ≡ rs1 ++ b → rs3 ≡ rs2 ++ c → rs3 ≡ rs ++ (a ++ b ++ c)
-three_types rs rs1 rs2 rs3 a b c x y z =
-    z ∙ ap (λ l. l ++ c) (y ∙ ap (λ l. l ++ b) x) ∙ ap (λ l. l ++ c) (append_assoc rs a b) ∙ append_assoc rs (a ++ b) c
 
 pub four_types : (rs rs1 rs2 a b c d : List MonType) → rs1 ≡ rs ++ a → rs2 ≡ rs1 ++ (b ++ c ++ d) → rs2 ≡ rs ++ (a ++ b ++ c ++ d)
 four_types rs rs1 rs2 a b c d x y =

@@ -66,10 +66,6 @@ module _ (p : TranslationUnit) (numbers : List ℕ) where
   no_step_effect rs (Node at t (Call f es)) = no_step_called rs None f es
   no_step_effect rs _ = refl
 
-  pub no_step_initialise : (rs : List MonType) (x : ℕ) (o : Option (Place × Initialiser)) → has_no_step (initialise p numbers rs x o) ≡ true
-  no_step_initialise rs x None = refl
-  no_step_initialise rs x (Some (at, One e)) = no_step_before (full_setup p numbers rs e) (set (register_of numbers x) (full_value numbers rs e)) (no_step_full rs e) refl
-
 -- ---- how deep they stand
 
 deep_library : (r : Option ℕ) (name : List ℕ) (args : List MonExpression) → depth_of_all (library_call r name args) ≤ 1

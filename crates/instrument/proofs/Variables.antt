@@ -164,9 +164,6 @@ same_all n regs = record { long = refl; below = λ j lt. refl }
 pub same_trans : (m n : ℕ) (a b c : List BlockValue) → m ≤ n → Same m a b → Same n b c → Same m a c
 same_trans m n a b c le h g = record { long = g.long ∙ h.long; below = λ j lt. g.below j (omega (arith, lt, le)) ∙ h.below j lt }
 
-pub same_lower : (m n : ℕ) (a b : List BlockValue) → m ≤ n → Same n a b → Same m a b
-same_lower m n a b le h = record { long = h.long; below = λ j lt. h.below j (omega (arith, lt, le)) }
-
 -- a register from n on gets a value
 pub same_set : (n r : ℕ) (regs : List BlockValue) (v : BlockValue) → n ≤ r → Same n regs (slice_set regs r v)
 same_set n r regs v le = record { long = length-set regs r v; below = λ j lt. slice_get-slice_set_other regs r j v (λ e. omega (arith, e, lt, le)) }

@@ -9,8 +9,8 @@ pub struct Scene<'a> {
     pub numbers: &'a [u32],
 }
 
-/// Where a statement stands: how many loops stand around it, and the variables whose blocks live, by their registers, the
-/// youngest first: those born inside the innermost loop, and the others of the function.
+/// Where a statement stands: how many loops stand around it, and the blocks of variables that live, by the registers that point
+/// to them, the youngest first: those born inside the innermost loop, and the others of the function.
 #[derive(Clone, Copy, Drop)]
 pub struct Spot<'a> {
     pub loops: u32,
