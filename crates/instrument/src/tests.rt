@@ -215,7 +215,7 @@ fn translated(alloc: Global, s: &Stmt) -> Result<Vec<u8>, AllocError> {
     };
     let spot = Spot {
         loops: 0,
-        inside: &[0],
+        inside: &[2],
         outside: &[],
     };
     let mut types = vec![in alloc; MonType::I32, MonType::I8, MonType::Ptr, MonType::Ptr]?;
