@@ -12,7 +12,7 @@ use c_model::operands::TypeUse;
 use c_model::vocabulary::Word;
 use c_syntax::fault::ReadFault;
 use c_syntax::{Expr, ExprKind, Place, Token, Use};
-use std::alloc::Global;
+use std::alloc::{AllocError, Global};
 
 /// `"," expr`, behind the arguments that are read.
 #[tactic(auto, unfolding(c_model::specs::ExpressionGrammar::next_argument))]
@@ -74,11 +74,11 @@ fn arguments<'a>(
 }
 
 /// The call of the name of a number.
-fn make_call(place: Place, f: u32, arguments: Vec<Expr>) -> Expr
-    ensures { plain_expr result ≡ read_as place (Call (use_of f) (expressions (map plain_expr arguments.items))) }
+fn make_call(alloc: Global, place: Place, f: u32, arguments: Vec<Expr>) -> Result<Expr, AllocError>
+    ensures { IfOk result (λ e. plain_expr e ≡ read_as place (Call (use_of f) (expressions (map plain_expr arguments.items)))) }
 {
     let callee = Use { name: f, decl: 0 };
-    read_as(place, ExprKind::Call(callee, arguments))
+    read_as(alloc, place, ExprKind::Call(callee, arguments))
 }
 
 /// `"(" .. ")"`, behind a name.
@@ -96,7 +96,7 @@ pub fn call_rest<'a>(
     let (place, rest) = skip(words, LEFT_PAREN, tokens)?;
     let (arguments, rest) = arguments(alloc, words, rest)?;
     let (_, rest) = skip(words, RIGHT_PAREN, rest)?;
-    Ok((make_call(place, f, arguments), first, rest))
+    Ok((make_call(alloc, place, f, arguments)?, first, rest))
 }
 
 /// What stands behind a name at the front of an expression or a call.
@@ -115,7 +115,7 @@ fn behind_name_or_callee<'a>(
         let (e, _, rest) = call_rest(alloc, words, f, first, tokens)?;
         Ok((e, rest))
     } else {
-        expression_rest(alloc, words, read_name(f, first).expression, tokens)
+        expression_rest(alloc, words, read_name(alloc, f, first)?.expression, tokens)
     }
 }
 

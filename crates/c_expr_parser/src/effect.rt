@@ -8,6 +8,7 @@ ghost use Rattle.c_expr_parser.specs.Reading.{Gives, plain_list, plain_operand};
 use crate::call::{call_rest, expression_or_call};
 use crate::expression::{
     ReadOperand, expression, expression_rest, operand, operand_but_name, read_as, read_name,
+    with_expression,
 };
 use crate::kinds::{LEFT_PAREN, NAME};
 use crate::tables::{ASSIGNMENTS, POSTFIX_BUMPS, PREFIX_BUMPS};
@@ -48,8 +49,7 @@ fn assigned<'a>(
 {
     let (op, place, rest) = marked(ASSIGNMENTS, tokens)?;
     let (right, rest) = assigned_value(alloc, words, op, rest)?;
-    let (left, right) = (Box::new(alloc, left)?, Box::new(alloc, right)?);
-    Ok((read_as(place, ExprKind::Assign(op, left, right)), rest))
+    with_expression(alloc, place, ExprKind::Assign(op, left, right), rest)
 }
 
 /// `++` or `--`, behind its operand.
@@ -64,10 +64,7 @@ fn bumped<'a>(
     ensures shorter { IfOk result (λ x. length x.1.now < length tokens.now) }
 {
     let (op, place, rest) = marked(POSTFIX_BUMPS, tokens)?;
-    Ok((
-        read_as(place, ExprKind::Bump(op, Box::new(alloc, x)?)),
-        rest,
-    ))
+    with_expression(alloc, place, ExprKind::Bump(op, x), rest)
 }
 
 /// What stands behind a unary expression.
@@ -153,7 +150,7 @@ fn bump_first<'a>(
 {
     let (op, place, rest) = marked(PREFIX_BUMPS, tokens)?;
     let (x, rest) = operand(alloc, words, TypeUse::Nothing, rest)?;
-    let bump = read_as(place, ExprKind::Bump(op, Box::new(alloc, x.expression)?));
+    let bump = read_as(alloc, place, ExprKind::Bump(op, x.expression))?;
     Ok((bump, place, rest))
 }
 
@@ -187,7 +184,7 @@ pub fn effect<'a>(
 {
     if next_is(words, NAME, tokens) {
         let (number, place, rest) = name(words, tokens)?;
-        effect_rest(alloc, words, read_name(number, place), rest)
+        effect_rest(alloc, words, read_name(alloc, number, place)?, rest)
     } else {
         effect_but_name(alloc, words, tokens)
     }
@@ -208,7 +205,7 @@ fn behind_name<'a>(
     if next_is(words, LEFT_PAREN, tokens) {
         call_rest(alloc, words, f, first, tokens)
     } else {
-        effect_rest(alloc, words, read_name(f, first), tokens)
+        effect_rest(alloc, words, read_name(alloc, f, first)?, tokens)
     }
 }
 

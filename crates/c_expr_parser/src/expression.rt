@@ -2,7 +2,7 @@
 
 ghost use Rattle.std.specs.Prelude.{◌≡◌, ◌≤◌, ◌<◌, length, IfOk};
 ghost use Rattle.c_syntax.specs.Expressions.{plain_expr, plain_kind};
-ghost use Rattle.grammar.specs.Syntax.{sees, one};
+ghost use Rattle.grammar.specs.Syntax.{gives, one, sees};
 ghost use Rattle.c_model.specs.ExpressionGrammar.{kind, placed, mark_entry, kinds_of, operators_at, read_as, read_name, read_operand, size_of_operand, joined, literal, cast_rest, sized_type, paren_rest, behind_paren, prefixed, sized, operand_but_name, operand_of, operand, joined_once, behind_operand, choice_rest, expression_rest, expression_of, expression};
 ghost use Rattle.c_expr_parser.specs.Reading.{Gives, plain_list, plain_operand, right_operand, more_joined};
 
@@ -29,56 +29,91 @@ pub struct ReadOperand {
 }
 
 /// An expression as it is read, whose type is set by typing.
-pub fn read_as(place: Place, kind: ExprKind) -> Expr
-    ensures { plain_expr result ≡ read_as place (plain_kind kind) }
+pub fn read_as(alloc: Global, place: Place, kind: ExprKind) -> Result<Expr, AllocError>
+    ensures { IfOk result (λ e. plain_expr e ≡ read_as place (plain_kind kind)) }
 {
-    Expr {
+    Ok(Expr {
         place,
-        kind,
+        kind: Box::new(alloc, kind)?,
         ctype: CType::Int(CInt::I32),
-    }
+    })
+}
+
+/// The expression of this kind, behind which these tokens are left.
+pub fn with_expression<'a>(
+    alloc: Global,
+    place: Place,
+    kind: ExprKind,
+    tokens: &'a [Token],
+) -> Result<(Expr, &'a [Token]), ReadFault>
+    ensures read { Gives (λ x. (plain_expr x.0, plain_list x.1.now)) result ((gives (read_as place (plain_kind kind))).parse (plain_list tokens.now)) }
+    ensures shorter { IfOk result (λ x. length x.1.now ≤ length tokens.now) }
+{
+    Ok((read_as(alloc, place, kind)?, tokens))
+}
+
+/// The operand of this kind and form, which begins at its place and behind which these tokens are left.
+fn with_operand<'a>(
+    alloc: Global,
+    place: Place,
+    kind: ExprKind,
+    form: Form,
+    tokens: &'a [Token],
+) -> Result<(ReadOperand, &'a [Token]), ReadFault>
+    ensures read { Gives (λ x. (plain_operand x.0, plain_list x.1.now)) result ((gives (read_operand (read_as place (plain_kind kind)) form place)).parse (plain_list tokens.now)) }
+    ensures shorter { IfOk result (λ x. length x.1.now ≤ length tokens.now) }
+{
+    let expression = read_as(alloc, place, kind)?;
+    let first = place;
+    let operand = ReadOperand {
+        expression,
+        form,
+        first,
+    };
+    Ok((operand, tokens))
 }
 
 /// A name that is used.
-pub fn read_name(name: u32, place: Place) -> ReadOperand
-    ensures { plain_operand result ≡ read_name (name, place) }
+pub fn read_name(alloc: Global, name: u32, place: Place) -> Result<ReadOperand, AllocError>
+    ensures { IfOk result (λ x. plain_operand x ≡ read_name (name, place)) }
 {
     let x = Use { name, decl: 0 };
-    ReadOperand {
-        expression: read_as(place, ExprKind::Variable(x)),
+    Ok(ReadOperand {
+        expression: read_as(alloc, place, ExprKind::Variable(x))?,
         form: Form::Primary,
         first: place,
-    }
+    })
 }
 
 /// An integer or character literal.
 #[tactic(auto, unfolding(c_model::specs::ExpressionGrammar::literal))]
-fn literal<'a>(words: &[Word], tokens: &'a [Token]) -> Result<(ReadOperand, &'a [Token]), ReadFault>
+fn literal<'a>(
+    alloc: Global,
+    words: &[Word],
+    tokens: &'a [Token],
+) -> Result<(ReadOperand, &'a [Token]), ReadFault>
     ensures read { Gives (λ x. (plain_operand x.0, plain_list x.1.now)) result ((literal words.now).parse (plain_list tokens.now)) }
     ensures shorter { IfOk result (λ x. length x.1.now < length tokens.now) }
 {
     if next_is(words, NUMBER, tokens) {
         let (value, ctype, place, rest) = number(tokens)?;
-        let literal = ReadOperand {
-            expression: read_as(place, ExprKind::Number(value, ctype)),
-            form: Form::Primary,
-            first: place,
-        };
-        Ok((literal, rest))
+        with_operand(
+            alloc,
+            place,
+            ExprKind::Number(value, ctype),
+            Form::Primary,
+            rest,
+        )
     } else {
         let (value, place, rest) = letter(tokens)?;
-        let literal = ReadOperand {
-            expression: read_as(place, ExprKind::Letter(value)),
-            form: Form::Primary,
-            first: place,
-        };
-        Ok((literal, rest))
+        with_operand(alloc, place, ExprKind::Letter(value), Form::Primary, rest)
     }
 }
 
 /// `type ")"`, behind `sizeof (`.
 #[tactic(auto, unfolding(c_model::specs::ExpressionGrammar::sized_type, c_model::specs::ExpressionGrammar::closed))]
 fn sized_type<'a>(
+    alloc: Global,
     words: &[Word],
     place: Place,
     tokens: &'a [Token],
@@ -88,12 +123,7 @@ fn sized_type<'a>(
 {
     let (t, rest) = type_of(words, tokens)?;
     let (_, rest) = skip(words, RIGHT_PAREN, rest)?;
-    let sized = ReadOperand {
-        expression: read_as(place, ExprKind::SizeOfType(t)),
-        form: Form::TypeName,
-        first: place,
-    };
-    Ok((sized, rest))
+    with_operand(alloc, place, ExprKind::SizeOfType(t), Form::TypeName, rest)
 }
 
 /// `type ")" cast`, behind `(`.
@@ -111,12 +141,13 @@ fn cast_rest<'a>(
     let (t, rest) = type_of(words, tokens)?;
     let (_, rest) = skip(words, RIGHT_PAREN, rest)?;
     let (x, rest) = operand(alloc, words, TypeUse::Casts, rest)?;
-    let cast = ReadOperand {
-        expression: read_as(place, ExprKind::Cast(t, Box::new(alloc, x.expression)?)),
-        form: Form::Cast,
-        first: place,
-    };
-    Ok((cast, rest))
+    with_operand(
+        alloc,
+        place,
+        ExprKind::Cast(t, x.expression),
+        Form::Cast,
+        rest,
+    )
 }
 
 /// `expr ")"`, behind `(`.
@@ -164,7 +195,7 @@ fn behind_paren<'a>(
         }
         TypeUse::Sizes => {
             if next_begins_type(words, tokens) {
-                sized_type(words, place, tokens)
+                sized_type(alloc, words, place, tokens)
             } else {
                 paren_rest(alloc, words, place, tokens)
             }
@@ -186,22 +217,27 @@ fn prefixed<'a>(
 {
     let (op, place, rest) = marked(UNARY, tokens)?;
     let (x, rest) = operand(alloc, words, TypeUse::Casts, rest)?;
-    let prefixed = ReadOperand {
-        expression: read_as(place, ExprKind::Unary(op, Box::new(alloc, x.expression)?)),
-        form: Form::Unary,
-        first: place,
-    };
-    Ok((prefixed, rest))
+    with_operand(
+        alloc,
+        place,
+        ExprKind::Unary(op, x.expression),
+        Form::Unary,
+        rest,
+    )
 }
 
-/// What `sizeof` is of.
-fn size_of_operand(alloc: Global, x: ReadOperand) -> Result<ExprKind, AllocError>
-    ensures { IfOk result (λ k. plain_kind k ≡ size_of_operand (plain_operand x)) }
+/// `sizeof` of the operand.
+fn size_of_operand(alloc: Global, place: Place, x: ReadOperand) -> Result<Expr, AllocError>
+    ensures { IfOk result (λ e. plain_expr e ≡ read_as place (size_of_operand (plain_operand x))) }
 {
     match x.form {
-        Form::TypeName => Ok(x.expression.kind),
+        Form::TypeName => Ok(Expr {
+            place,
+            kind: x.expression.kind,
+            ctype: CType::Int(CInt::I32),
+        }),
         Form::Primary | Form::Unary | Form::Cast => {
-            Ok(ExprKind::SizeOfExpr(Box::new(alloc, x.expression)?))
+            read_as(alloc, place, ExprKind::SizeOfExpr(x.expression))
         }
     }
 }
@@ -220,7 +256,7 @@ fn sized<'a>(
     let (place, rest) = skip(words, SIZEOF, tokens)?;
     let (x, rest) = operand(alloc, words, TypeUse::Sizes, rest)?;
     let sized = ReadOperand {
-        expression: read_as(place, size_of_operand(alloc, x)?),
+        expression: size_of_operand(alloc, place, x)?,
         form: Form::Unary,
         first: place,
     };
@@ -247,7 +283,7 @@ pub fn operand_but_name<'a>(
     } else if next_is(words, SIZEOF, tokens) {
         sized(alloc, words, tokens)
     } else {
-        literal(words, tokens)
+        literal(alloc, words, tokens)
     }
 }
 
@@ -265,7 +301,7 @@ pub fn operand<'a>(
 {
     if next_is(words, NAME, tokens) {
         let (number, place, rest) = name(words, tokens)?;
-        Ok((read_name(number, place), rest))
+        Ok((read_name(alloc, number, place)?, rest))
     } else {
         operand_but_name(alloc, words, type_use, tokens)
     }
@@ -302,20 +338,14 @@ fn next_is_operator(words: &[Word], level: u32, tokens: &[Token]) -> bool
     next_is_marked(words, operators_at(level), tokens)
 }
 
-fn joined(
-    alloc: Global,
-    connective: Connective,
-    left: Expr,
-    right: Expr,
-) -> Result<ExprKind, AllocError>
-    ensures { IfOk result (λ k. plain_kind k ≡ joined connective (plain_expr left) (plain_expr right)) }
+fn joined(connective: Connective, left: Expr, right: Expr) -> ExprKind
+    ensures { plain_kind result ≡ joined connective (plain_expr left) (plain_expr right) }
 {
-    let (left, right) = (Box::new(alloc, left)?, Box::new(alloc, right)?);
-    Ok(match connective {
+    match connective {
         Connective::Operator(op) => ExprKind::Binary(op, left, right),
         Connective::And => ExprKind::Both(left, right),
         Connective::Or => ExprKind::Either(left, right),
-    })
+    }
 }
 
 /// An operator of the level with its right operand.
@@ -334,10 +364,7 @@ fn joined_once<'a>(
 {
     let (connective, place, rest) = operator(level, tokens)?;
     let (right, rest) = right_operand(alloc, words, level, rest)?;
-    Ok((
-        read_as(place, joined(alloc, connective, left, right)?),
-        rest,
-    ))
+    with_expression(alloc, place, joined(connective, left, right), rest)
 }
 
 /// Operators of the level with their right operands.
@@ -401,9 +428,12 @@ fn choice_rest<'a>(
     let (first, rest) = expression(alloc, words, rest)?;
     let (_, rest) = skip(words, COLON, rest)?;
     let (second, rest) = expression(alloc, words, rest)?;
-    let (condition, first) = (Box::new(alloc, condition)?, Box::new(alloc, first)?);
-    let kind = ExprKind::Choice(condition, first, Box::new(alloc, second)?);
-    Ok((read_as(place, kind), rest))
+    with_expression(
+        alloc,
+        place,
+        ExprKind::Choice(condition, first, second),
+        rest,
+    )
 }
 
 /// The rest of an expression, behind its first operand.

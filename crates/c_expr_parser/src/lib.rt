@@ -18,6 +18,3 @@ pub mod vocabulary;
 
 pub use read::{one_expression, read_expr};
 pub use refusal::{refuse, refused, refused_word};
-
-#[cfg(test)]
-mod tests;

@@ -225,6 +225,3 @@ fn read_steps(text: &str) -> Option<u64>
         None
     }
 }
-
-#[cfg(test)]
-mod tests;

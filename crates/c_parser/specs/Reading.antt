@@ -1,24 +1,74 @@
 -- Parts of productions that functions of their own read, and the plain forms of what is read in parts.
-use Rattle.std.specs.Prelude.{ℕ, Bool, List, [], ◌∷◌, Option, Some, None}
-use Rattle.grammar.specs.Syntax.{Syntax, many, at_most}
+use Rattle.std.specs.Prelude.{ℕ, ◌-◌, Bool, List, [], ◌∷◌, Option, Some, None, option_map}
+use Rattle.grammar.specs.Syntax.{Syntax, gives, one, ◌then◌, many, at_most}
 use Rattle.c_syntax.specs.declared.place.Place.{Place}
 use Rattle.c_syntax.specs.Ctypes.{PlainType}
 use Rattle.c_syntax.specs.Tokens.{PlainToken}
-use Rattle.c_syntax.specs.Annotations.{LogicTerm, Annotation}
+use Rattle.c_syntax.specs.Annotations.{LogicTerm, Variable, Annotation}
 use Rattle.c_syntax.specs.declared.statement.Item.{Item}
-use Rattle.c_syntax.specs.Expressions.{Expression}
-use Rattle.c_syntax.specs.Statements.{Statement, Do, Declaration, ForFirst, NoFirst, First, plain_item}
+use Rattle.c_syntax.specs.Expressions.{Expression, plain_expr}
+use Rattle.c_syntax.specs.Statements.{Statement, Block, Do, For, Break, Continue, Declaration, ForFirst, NoFirst, First, plain_item, plain_stmt}
 use Rattle.c_syntax.specs.Programs.{Function}
 use Rattle.c_model.specs.Vocabulary.{Vocabulary}
+use Rattle.c_model.specs.declared.vocabulary.Keyword.TheVariants as keyword
 use Rattle.c_parser.specs.declared.counts.Counts as code
-use Rattle.c_model.specs.Punctuators.{comma}
-use Rattle.c_model.specs.ExpressionGrammar.{kind, mark_kind, kinds_of, expression_limit, most_in_expression}
-use Rattle.c_model.specs.ProgramGrammar.{Counts, first_function, sum_operators, sum_once, sum, assert_clause, ended, next_declarator, storage_words, storage_word, next_parameter, one_more_function}
+use Rattle.c_parser.specs.declared.loops.ForHeading as code_heading
+use Rattle.c_parser.specs.declared.program.Body.{Body}
+use Rattle.c_model.specs.Punctuators.{comma, semicolon, left_paren, left_brace, right_brace}
+use Rattle.c_model.specs.ExpressionGrammar.{kind, mark, reserved, placed, closed, use_of, mark_entry, mark_kind, kinds_of, expression_limit, most_in_expression, most_nested}
+use Rattle.c_model.specs.ProgramGrammar.{Counts, Counted, no_range, assertion, block_items, first_function, relations, term_name, sum_operators, sum_once, sum, assert_clause, ended, for_first, maybe_ended, for_behind, items, statement_in, next_declarator, storage_words, storage_word, next_parameter, one_more_function}
+
+-- what stands in front of the body of a `for`
+pub record ForHeading : Type 0 where
+  pub place : Place
+  pub first : ForFirst
+  pub condition : Option Expression
+  pub step : Option Expression
+
+abbrev pub for_with : ForHeading → Statement → Statement
+for_with h body = For h.place [] h.first h.condition h.step body
+
+-- no token, with a statement and the counts behind it
+abbrev pub counted : Statement → Counts → Syntax PlainToken (Statement × Counts)
+counted s n = gives (s, n)
 
 module _ (ws : Vocabulary) where
   -- an assert within the limit of its tokens
   unfoldable pub full_clause : ℕ → Syntax PlainToken Annotation
   full_clause n = at_most expression_limit most_in_expression (assert_clause ws n)
+
+  -- NAME
+  unfoldable pub name_term : Syntax PlainToken LogicTerm
+  name_term = one (placed (term_name ws)) then λ x. gives (Variable x.1 None no_range (use_of x.0))
+
+  -- "(" sum ")"
+  unfoldable pub sum_in_parentheses : Syntax PlainToken LogicTerm → Syntax PlainToken LogicTerm
+  sum_in_parentheses E = mark ws left_paren then λ _. E then λ t. closed ws t
+
+  -- relation sum ";", behind "assert" and the left sum
+  unfoldable pub assert_rest : ℕ → Place → LogicTerm → Syntax PlainToken Annotation
+  assert_rest n at left =
+      one (placed (mark_entry (relations ws))) then λ r. sum ws then λ right. mark ws semicolon then λ _. gives (assertion n at left r right)
+
+  -- "break" ";"
+  unfoldable pub break_statement : Counted
+  break_statement n = reserved ws keyword.Break then λ at. ended ws (Break at, n)
+
+  -- "continue" ";"
+  unfoldable pub continue_statement : Counted
+  continue_statement n = reserved ws keyword.Continue then λ at. ended ws (Continue at, n)
+
+  -- what stands in front of the body of a `for`
+  unfoldable pub for_heading : Counts → Syntax PlainToken (ForHeading × Counts)
+  for_heading n =
+      reserved ws keyword.For then λ at. mark ws left_paren then λ _. for_first ws n then λ first. maybe_ended ws then λ e. for_behind ws then λ behind.
+      gives (record { place = at; first = first.0; condition = e; step = behind }, first.1)
+
+  -- a function's body with the place of its closing brace; the number of the next annotation goes on from here
+  unfoldable pub function_body : ℕ → Syntax PlainToken ((Statement × Place) × ℕ)
+  function_body n =
+      mark ws left_brace then λ start. items ws (statement_in ws (most_nested - 1)) ([], record { annotation = n; declarators = 0 }) then λ x.
+      mark ws right_brace then λ close. gives ((Block start (block_items x.0), close), x.1.annotation)
 
   -- ";", behind a `do` with its condition
   abbrev pub ended_do : Place → Statement → Expression → Counts → Syntax PlainToken (Statement × Counts)
@@ -45,6 +95,17 @@ module _ (ws : Vocabulary) where
 abbrev pub plain_first : Option Item → ForFirst
 plain_first None = NoFirst
 plain_first (Some i) = First (plain_item i)
+
+abbrev pub plain_heading : code_heading.ForHeading → ForHeading
+plain_heading h = record {
+  place = h.place;
+  first = plain_first h.first;
+  condition = option_map plain_expr h.condition;
+  step = option_map plain_expr h.step;
+}
+
+abbrev pub plain_body : Body → Statement × Place
+plain_body b = (plain_stmt b.block, b.close)
 
 abbrev pub plain_counts : code.Counts → Counts
 plain_counts c = record { annotation = c.annotation; declarators = c.declarators }

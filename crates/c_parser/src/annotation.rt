@@ -1,11 +1,12 @@
 //! Annotations: asserts of a relation between two sums (ACSL 2.2, 2.4.1).
 
 ghost use Rattle.std.specs.Prelude.{◌≡◌, ◌≤◌, ◌<◌, length, None, IfOk, [], ◌∷◌};
+ghost use Rattle.grammar.specs.Syntax.{gives};
 ghost use Rattle.c_syntax.specs.Annotations.{plain_term, plain_term_kind, plain_annot};
 ghost use Rattle.c_syntax.specs.Statements.{Asserts, plain_item};
 ghost use Rattle.c_model.specs.ProgramGrammar.{no_range, assertion, atom, sum_once, sum_of, sum, assert_clause, annotation};
 ghost use Rattle.c_expr_parser.specs.Reading.{Gives, plain_list};
-ghost use Rattle.c_parser.specs.Reading.{plain_counts, more_terms, full_clause};
+ghost use Rattle.c_parser.specs.Reading.{plain_counts, name_term, sum_in_parentheses, more_terms, assert_rest, full_clause};
 
 use crate::counts::Counts;
 use crate::kinds::SEMICOLON;
@@ -21,7 +22,7 @@ use c_syntax::{
     Annot, BinOp, Body, Item, Kind, Link, Place, Pred, PredKind, Range, Relation, Term, TermKind,
     Token, Use,
 };
-use std::alloc::{AllocFailed, Global};
+use std::alloc::{AllocError, AllocFailed, Global};
 
 /// `+` and `-` of terms (ACSL 2.2.1).
 const SUM_OPERATORS: &[(u8, BinOp)] = &[(21, BinOp::Add), (22, BinOp::Sub)];
@@ -36,19 +37,64 @@ const RELATIONS: &[(u8, Relation)] = &[
 ];
 
 /// A term as it is read, whose type and range are set by later phases.
-fn read_term(place: Place, kind: TermKind) -> Term
-    ensures { plain_term result ≡ plain_term_kind place kind None no_range }
+fn read_term(alloc: Global, place: Place, kind: TermKind) -> Result<Term, AllocError>
+    ensures { IfOk result (λ t. plain_term t ≡ plain_term_kind place kind None no_range) }
 {
-    Term {
+    Ok(Term {
         place,
-        kind,
+        kind: Box::new(alloc, kind)?,
         ctype: None,
         range: Range { lo: 0, hi: 0 },
-    }
+    })
+}
+
+/// The term of this kind, behind which these tokens are left.
+fn with_term<'a>(
+    alloc: Global,
+    place: Place,
+    kind: TermKind,
+    tokens: &'a [Token],
+) -> Result<(Term, &'a [Token]), ReadFault>
+    ensures read { Gives (λ x. (plain_term x.0, plain_list x.1.now)) result ((gives (plain_term_kind place kind None no_range)).parse (plain_list tokens.now)) }
+    ensures shorter { IfOk result (λ x. length x.1.now ≤ length tokens.now) }
+{
+    Ok((read_term(alloc, place, kind)?, tokens))
+}
+
+/// `NAME`
+#[tactic(auto, unfolding(crate::specs::Reading::name_term))]
+fn name_term<'a>(
+    alloc: Global,
+    words: &[Word],
+    tokens: &'a [Token],
+) -> Result<(Term, &'a [Token]), ReadFault>
+    ensures read { Gives (λ x. (plain_term x.0, plain_list x.1.now)) result ((name_term words.now).parse (plain_list tokens.now)) }
+    ensures shorter { IfOk result (λ x. length x.1.now < length tokens.now) }
+{
+    let (name, place, rest) = term_name(words, tokens)?;
+    let x = Use { name, decl: 0 };
+    with_term(alloc, place, TermKind::Variable(x), rest)
+}
+
+/// `"(" sum ")"`
+#[tactic(auto, unfolding(crate::specs::Reading::sum_in_parentheses, c_model::specs::ExpressionGrammar::closed))]
+#[cycle(term)]
+fn sum_in_parentheses<'a>(
+    alloc: Global,
+    words: &[Word],
+    tokens: &'a [Token],
+) -> Result<(Term, &'a [Token]), ReadFault>
+    ensures read { Gives (λ x. (plain_term x.0, plain_list x.1.now)) result ((sum_in_parentheses words.now (sum words.now)).parse (plain_list tokens.now)) }
+    ensures shorter { IfOk result (λ x. length x.1.now < length tokens.now) }
+{
+    let (_, rest) = skip(words, LEFT_PAREN, tokens)?;
+    let (inner, rest) = sum(alloc, words, rest)?;
+    let (_, rest) = skip(words, RIGHT_PAREN, rest)?;
+    Ok((inner, rest))
 }
 
 /// A name, a literal, or a sum in parentheses.
-#[tactic(auto, unfolding(c_model::specs::ProgramGrammar::atom, c_model::specs::ExpressionGrammar::closed))]
+#[tactic(auto, unfolding(c_model::specs::ProgramGrammar::atom, crate::specs::Reading::name_term, crate::specs::Reading::sum_in_parentheses))]
 #[cycle(term)]
 fn atom<'a>(
     alloc: Global,
@@ -59,20 +105,15 @@ fn atom<'a>(
     ensures shorter { IfOk result (λ x. length x.1.now < length tokens.now) }
 {
     if next_is(words, NAME, tokens) {
-        let (name, place, rest) = term_name(words, tokens)?;
-        let x = Use { name, decl: 0 };
-        Ok((read_term(place, TermKind::Variable(x)), rest))
+        name_term(alloc, words, tokens)
     } else if next_is(words, NUMBER, tokens) {
         let (value, place, rest) = term_number(words, tokens)?;
-        Ok((read_term(place, TermKind::Number(value)), rest))
+        with_term(alloc, place, TermKind::Number(value), rest)
     } else if next_is(words, LETTER, tokens) {
         let (value, place, rest) = letter(tokens)?;
-        Ok((read_term(place, TermKind::Letter(value)), rest))
+        with_term(alloc, place, TermKind::Letter(value), rest)
     } else {
-        let (_, rest) = skip(words, LEFT_PAREN, tokens)?;
-        let (inner, rest) = sum(alloc, words, rest)?;
-        let (_, rest) = skip(words, RIGHT_PAREN, rest)?;
-        Ok((inner, rest))
+        sum_in_parentheses(alloc, words, tokens)
     }
 }
 
@@ -90,8 +131,7 @@ fn sum_once<'a>(
 {
     let (op, place, rest) = marked(SUM_OPERATORS, tokens)?;
     let (right, rest) = atom(alloc, words, rest)?;
-    let (left, right) = (Box::new(alloc, left)?, Box::new(alloc, right)?);
-    Ok((read_term(place, TermKind::Binary(op, left, right)), rest))
+    with_term(alloc, place, TermKind::Binary(op, left, right), rest)
 }
 
 /// The operators and operands behind the term that is read.
@@ -138,7 +178,7 @@ fn assertion(
     place: Place,
     left: Term,
     link: Link,
-) -> Result<Annot, AllocFailed<Link>>
+) -> Result<Annot, AllocError>
     ensures { IfOk result (λ a. plain_annot a ≡ assertion number place (plain_term left) (link.relation, link.place) (plain_term link.term)) }
 {
     let at = link.place;
@@ -150,13 +190,37 @@ fn assertion(
         place,
         body: Body::Truth(Pred {
             place: at,
-            kind: PredKind::Chain(left, links),
+            kind: Box::new(alloc, PredKind::Chain(left, links))?,
         }),
     })
 }
 
+/// `relation sum ";"`, behind `assert` at this place and the left sum.
+#[tactic(auto, unfolding(crate::specs::Reading::assert_rest))]
+fn assert_rest<'a>(
+    alloc: Global,
+    words: &[Word],
+    number: u32,
+    place: Place,
+    left: Term,
+    tokens: &'a [Token],
+) -> Result<(Annot, &'a [Token]), ReadFault>
+    ensures read { Gives (λ x. (plain_annot x.0, plain_list x.1.now)) result ((assert_rest words.now number place (plain_term left)).parse (plain_list tokens.now)) }
+    ensures shorter { IfOk result (λ x. length x.1.now < length tokens.now) }
+{
+    let (relation, at, rest) = marked(RELATIONS, tokens)?;
+    let (right, rest) = sum(alloc, words, rest)?;
+    let (_, rest) = skip(words, SEMICOLON, rest)?;
+    let link = Link {
+        place: at,
+        relation,
+        term: right,
+    };
+    Ok((assertion(alloc, number, place, left, link)?, rest))
+}
+
 /// `"assert" sum relation sum ";"`, with this number.
-#[tactic(auto, unfolding(c_model::specs::ProgramGrammar::assert_clause))]
+#[tactic(auto, unfolding(c_model::specs::ProgramGrammar::assert_clause, crate::specs::Reading::assert_rest))]
 fn assert_clause<'a>(
     alloc: Global,
     words: &[Word],
@@ -168,15 +232,7 @@ fn assert_clause<'a>(
 {
     let (place, rest) = assert_word(words, tokens)?;
     let (left, rest) = sum(alloc, words, rest)?;
-    let (relation, at, rest) = marked(RELATIONS, rest)?;
-    let (right, rest) = sum(alloc, words, rest)?;
-    let (_, rest) = skip(words, SEMICOLON, rest)?;
-    let link = Link {
-        place: at,
-        relation,
-        term: right,
-    };
-    Ok((assertion(alloc, number, place, left, link)?, rest))
+    assert_rest(alloc, words, number, place, left, rest)
 }
 
 /// The same, within the limit of its tokens.

@@ -15,6 +15,3 @@ mod statement;
 mod terminals;
 
 pub use read::{one_reading, read_program};
-
-#[cfg(test)]
-mod tests;

@@ -1,16 +1,15 @@
 //! Conditions, what stands in the parentheses of a `for`, and what is returned (C99 6.8.4, 6.8.5, 6.8.6.4).
 
-ghost use Rattle.std.specs.Prelude.{◌≡◌, option_map, [], IfOk};
+ghost use Rattle.std.specs.Prelude.{◌≡◌, option_map, IfOk};
 ghost use Rattle.c_syntax.specs.Expressions.{plain_expr};
-ghost use Rattle.c_syntax.specs.Statements.{plain_stmt, plain_item};
-ghost use Rattle.c_syntax.specs.Statements as statement;
-ghost use Rattle.c_model.specs.ProgramGrammar.{condition, for_first, maybe_ended, returned, for_behind};
+ghost use Rattle.c_syntax.specs.Statements.{plain_stmt, plain_stmt_kind};
+ghost use Rattle.c_model.specs.ProgramGrammar.{condition, effect_statement, for_first, maybe_ended, returned, for_behind};
 ghost use Rattle.c_expr_parser.specs.Reading.{Gives, plain_list};
-ghost use Rattle.c_parser.specs.Reading.{plain_first, plain_counts};
+ghost use Rattle.c_parser.specs.Reading.{plain_first, plain_counts, plain_heading, counted, for_heading, for_with};
 
 use crate::counts::Counts;
 use crate::declaration::declaration;
-use crate::kinds::SEMICOLON;
+use crate::kinds::{FOR, SEMICOLON};
 use crate::terminals::next_begins_effect;
 use c_expr_parser::full::{
     full_effect, full_effect_or_call, full_expression, full_expression_or_call,
@@ -37,15 +36,44 @@ pub fn condition<'a>(
     Ok((e, rest))
 }
 
-fn make_first(place: Place, e: Expr) -> Item
-    ensures { plain_item result ≡ statement.Run (statement.Eval place (plain_expr e)) }
+/// A statement at its place.
+pub fn statement_at(alloc: Global, place: Place, kind: StmtKind) -> Result<Stmt, AllocError>
+    ensures { IfOk result (λ s. plain_stmt s ≡ plain_stmt_kind place kind) }
 {
-    let kind = StmtKind::Eval(e);
-    Item::Run(Stmt { place, kind })
+    let kind = Box::new(alloc, kind)?;
+    Ok(Stmt { place, kind })
+}
+
+/// The statement of this kind, behind which these tokens are left.
+pub fn with_statement<'a>(
+    alloc: Global,
+    place: Place,
+    kind: StmtKind,
+    counts: Counts,
+    tokens: &'a [Token],
+) -> Result<(Stmt, Counts, &'a [Token]), ReadFault>
+    ensures { Gives (λ x. ((plain_stmt x.0, plain_counts x.1), plain_list x.2.now)) result ((counted (plain_stmt_kind place kind) (plain_counts counts)).parse (plain_list tokens.now)) }
+{
+    Ok((statement_at(alloc, place, kind)?, counts, tokens))
+}
+
+/// `( effect | call ) ";"`
+#[tactic(auto, unfolding(c_model::specs::ProgramGrammar::effect_statement, c_model::specs::ProgramGrammar::ended))]
+pub fn effect_statement<'a>(
+    alloc: Global,
+    words: &[Word],
+    counts: Counts,
+    tokens: &'a [Token],
+) -> Result<(Stmt, Counts, &'a [Token]), ReadFault>
+    ensures { Gives (λ x. ((plain_stmt x.0, plain_counts x.1), plain_list x.2.now)) result ((effect_statement words.now (plain_counts counts)).parse (plain_list tokens.now)) }
+{
+    let (e, place, rest) = full_effect_or_call(alloc, words, tokens)?;
+    let (_, rest) = skip(words, SEMICOLON, rest)?;
+    with_statement(alloc, place, StmtKind::Eval(e), counts, rest)
 }
 
 /// `decl | [ effect | call ] ";"`
-#[tactic(auto, unfolding(c_model::specs::ProgramGrammar::for_first, c_model::specs::ProgramGrammar::ended))]
+#[tactic(auto, unfolding(c_model::specs::ProgramGrammar::for_first, c_model::specs::ProgramGrammar::effect_statement, c_model::specs::ProgramGrammar::ended))]
 pub fn for_first<'a>(
     alloc: Global,
     words: &[Word],
@@ -58,9 +86,8 @@ pub fn for_first<'a>(
         let (item, counts, rest) = declaration(alloc, words, counts, tokens)?;
         Ok((Some(item), counts, rest))
     } else if next_begins_effect(words, tokens) {
-        let (e, place, rest) = full_effect_or_call(alloc, words, tokens)?;
-        let (_, rest) = skip(words, SEMICOLON, rest)?;
-        Ok((Some(make_first(place, e)), counts, rest))
+        let (s, counts, rest) = effect_statement(alloc, words, counts, tokens)?;
+        Ok((Some(Item::Run(s)), counts, rest))
     } else {
         let (_, rest) = skip(words, SEMICOLON, tokens)?;
         Ok((None, counts, rest))
@@ -124,41 +151,51 @@ pub fn for_behind<'a>(
     }
 }
 
-pub fn make_while(alloc: Global, place: Place, e: Expr, body: Stmt) -> Result<Stmt, AllocError>
-    ensures { IfOk result (λ s. plain_stmt s ≡ statement.While place [] (plain_expr e) (plain_stmt body)) }
-{
-    let body = Box::new(alloc, body)?;
-    let kind = StmtKind::While(Vec::new(alloc), e, body);
-    Ok(Stmt { place, kind })
+/// What stands in front of the body of a `for`.
+#[derive(Drop)]
+pub struct ForHeading {
+    pub place: Place,
+    pub first: Option<Item>,
+    pub condition: Option<Expr>,
+    pub step: Option<Expr>,
 }
 
-pub fn make_do(alloc: Global, place: Place, body: Stmt, e: Expr) -> Result<Stmt, AllocError>
-    ensures { IfOk result (λ s. plain_stmt s ≡ statement.Do place (plain_stmt body) (plain_expr e)) }
-{
-    let kind = StmtKind::Do(Box::new(alloc, body)?, e);
-    Ok(Stmt { place, kind })
-}
-
-pub fn make_for(
+/// `"for" "(" ( decl | [ effect | call ] ";" ) [ expr ] ";" [ effect ] ")"`
+#[tactic(auto, unfolding(crate::specs::Reading::for_heading))]
+pub fn for_heading<'a>(
     alloc: Global,
-    place: Place,
-    first: Option<Item>,
-    e: Option<Expr>,
-    step: Option<Expr>,
-    body: Stmt,
-) -> Result<Stmt, AllocError>
-    ensures { IfOk result (λ s. plain_stmt s ≡ statement.For place [] (plain_first first) (option_map plain_expr e) (option_map plain_expr step) (plain_stmt body)) }
+    words: &[Word],
+    counts: Counts,
+    tokens: &'a [Token],
+) -> Result<(ForHeading, Counts, &'a [Token]), ReadFault>
+    ensures { Gives (λ x. ((plain_heading x.0, plain_counts x.1), plain_list x.2.now)) result ((for_heading words.now (plain_counts counts)).parse (plain_list tokens.now)) }
 {
-    let body = Box::new(alloc, body)?;
+    let (place, rest) = skip(words, FOR, tokens)?;
+    let (_, rest) = skip(words, LEFT_PAREN, rest)?;
+    let (first, counts, rest) = for_first(alloc, words, counts, rest)?;
+    let (condition, rest) = maybe_ended(alloc, words, rest)?;
+    let (step, rest) = for_behind(alloc, words, rest)?;
+    let heading = ForHeading {
+        place,
+        first,
+        condition,
+        step,
+    };
+    Ok((heading, counts, rest))
+}
+
+/// The loop of a heading and a body.
+pub fn for_kind(alloc: Global, heading: ForHeading, body: Stmt) -> StmtKind
+    ensures { plain_stmt_kind heading.place result ≡ for_with (plain_heading heading) (plain_stmt body) }
+{
+    let ForHeading {
+        first,
+        condition,
+        step,
+        ..
+    } = heading;
     match first {
-        Some(item) => {
-            let item = Box::new(alloc, item)?;
-            let kind = StmtKind::For(Vec::new(alloc), Some(item), e, step, body);
-            Ok(Stmt { place, kind })
-        }
-        None => {
-            let kind = StmtKind::For(Vec::new(alloc), None, e, step, body);
-            Ok(Stmt { place, kind })
-        }
+        Some(item) => StmtKind::For(Vec::new(alloc), Some(item), condition, step, body),
+        None => StmtKind::For(Vec::new(alloc), None, condition, step, body),
     }
 }

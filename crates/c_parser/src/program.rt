@@ -6,7 +6,7 @@ ghost use Rattle.c_syntax.specs.Statements.{plain_decl, plain_stmt};
 ghost use Rattle.c_syntax.specs.Programs.{plain_func, plain_program};
 ghost use Rattle.c_model.specs.ProgramGrammar.{function_with, unit_with, storage_word, result_type, function_rest, function, one_more_function, unit};
 ghost use Rattle.c_expr_parser.specs.Reading.{Gives, plain_list};
-ghost use Rattle.c_parser.specs.Reading.{more_storage, more_functions};
+ghost use Rattle.c_parser.specs.Reading.{plain_body, more_storage, function_body, more_functions};
 
 use crate::counts::Counts;
 use crate::kinds::{CONST, LEFT_BRACE, RIGHT_BRACE, SEMICOLON, STATIC};
@@ -86,6 +86,13 @@ struct Heading {
     params: Vec<Decl>,
 }
 
+/// A function's body, with the place of its closing brace.
+#[derive(Drop)]
+pub struct Body {
+    pub block: Stmt,
+    pub close: Place,
+}
+
 fn make_function(heading: Heading, body: Option<Stmt>, close: Place) -> Func
     ensures { plain_func result ≡ function_with (plain_type heading.result) (heading.name, heading.place) (map plain_decl heading.params.items) (option_map plain_stmt body) close }
 {
@@ -100,8 +107,30 @@ fn make_function(heading: Heading, body: Option<Stmt>, close: Place) -> Func
     }
 }
 
+/// A body, behind which the number of the next annotation goes on from this one.
+#[tactic(auto, unfolding(crate::specs::Reading::function_body))]
+fn function_body<'a>(
+    alloc: Global,
+    words: &[Word],
+    number: u32,
+    tokens: &'a [Token],
+) -> Result<(Body, u32, &'a [Token]), ReadFault>
+    ensures { Gives (λ x. ((plain_body x.0, x.1), plain_list x.2.now)) result ((function_body words.now number).parse (plain_list tokens.now)) }
+{
+    let (start, rest) = skip(words, LEFT_BRACE, tokens)?;
+    let counts = Counts {
+        annotation: number,
+        declarators: 0,
+    };
+    let none = Vec::new(alloc);
+    let (all, counts, rest) = items(alloc, words, MOST_NESTED - 1, none, counts, rest)?;
+    let (close, rest) = skip(words, RIGHT_BRACE, rest)?;
+    let block = make_block(alloc, start, all)?;
+    Ok((Body { block, close }, counts.annotation, rest))
+}
+
 /// `";"`, or a body, behind which the number of the next annotation goes on from this one.
-#[tactic(auto, unfolding(c_model::specs::ProgramGrammar::function_rest))]
+#[tactic(auto, unfolding(c_model::specs::ProgramGrammar::function_rest, crate::specs::Reading::function_body))]
 fn function_rest<'a>(
     alloc: Global,
     words: &[Word],
@@ -115,26 +144,9 @@ fn function_rest<'a>(
         let (close, rest) = skip(words, SEMICOLON, tokens)?;
         Ok((make_function(heading, None, close), number, rest))
     } else {
-        let (start, rest) = skip(words, LEFT_BRACE, tokens)?;
-        let counts = Counts {
-            annotation: number,
-            declarators: 0,
-        };
-        let (all, counts, rest) = items(
-            alloc,
-            words,
-            MOST_NESTED - 1,
-            Vec::new(alloc),
-            counts,
-            rest,
-        )?;
-        let (close, rest) = skip(words, RIGHT_BRACE, rest)?;
-        let body = make_block(start, all);
-        Ok((
-            make_function(heading, Some(body), close),
-            counts.annotation,
-            rest,
-        ))
+        let (body, number, rest) = function_body(alloc, words, number, tokens)?;
+        let function = make_function(heading, Some(body.block), body.close);
+        Ok((function, number, rest))
     }
 }
 

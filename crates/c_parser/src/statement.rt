@@ -4,9 +4,9 @@ ghost use Rattle.std.specs.Prelude.{◌≡◌, map, IfOk};
 ghost use Rattle.c_syntax.specs.Expressions.{plain_expr};
 ghost use Rattle.c_syntax.specs.Statements.{plain_stmt, plain_item};
 ghost use Rattle.c_syntax.specs.Statements as statement;
-ghost use Rattle.c_model.specs.ProgramGrammar.{is_open, block_items, else_branch, else_part, selection, while_loop, do_loop, for_loop, jump, return_statement, item, items_once, items, block, empty_statement, effect_statement, statement_of, statement_in};
+ghost use Rattle.c_model.specs.ProgramGrammar.{is_open, block_items, else_branch, else_part, selection, while_loop, do_loop, for_loop, jump, return_statement, item, items_once, items, block, empty_statement, statement_of, statement_in};
 ghost use Rattle.c_expr_parser.specs.Reading.{Gives, plain_list};
-ghost use Rattle.c_parser.specs.Reading.{plain_counts, ended_do};
+ghost use Rattle.c_parser.specs.Reading.{plain_counts, break_statement, continue_statement, ended_do};
 
 use crate::annotation::annotation;
 use crate::counts::Counts;
@@ -15,11 +15,10 @@ use crate::kinds::{
     BREAK, CONTINUE, DO, ELSE, FOR, IF, LEFT_BRACE, RETURN, RIGHT_BRACE, SEMICOLON, WHILE,
 };
 use crate::loops::{
-    condition, for_behind, for_first, make_do, make_for, make_while, maybe_ended, returned,
+    condition, effect_statement, for_heading, for_kind, returned, statement_at, with_statement,
 };
 use crate::terminals::{next_begins_item, next_begins_statement, next_is_jump};
-use c_expr_parser::full::full_effect_or_call;
-use c_expr_parser::kinds::{ANNOT_OPEN, LEFT_PAREN};
+use c_expr_parser::kinds::ANNOT_OPEN;
 use c_expr_parser::terminals::{left, next_begins_type, next_is, skip};
 use c_model::vocabulary::Word;
 use c_syntax::fault::{Limit, ReadFault};
@@ -30,7 +29,7 @@ use std::alloc::{AllocError, Global};
 fn is_open(s: &Stmt) -> bool
     ensures { result ≡ is_open (plain_stmt s.now) }
 {
-    match &s.kind {
+    match &*s.kind {
         StmtKind::If(_, _, None) => true,
         StmtKind::If(_, _, Some(last)) => is_open(last),
         StmtKind::While(_, _, last) => is_open(last),
@@ -45,32 +44,10 @@ fn is_open(s: &Stmt) -> bool
     }
 }
 
-fn make_if(alloc: Global, place: Place, e: Expr, then: Stmt) -> Result<Stmt, AllocError>
-    ensures { IfOk result (λ s. plain_stmt s ≡ statement.If place (plain_expr e) (plain_stmt then) statement.NoElse) }
+pub fn make_block(alloc: Global, place: Place, all: Vec<Item>) -> Result<Stmt, AllocError>
+    ensures { IfOk result (λ s. plain_stmt s ≡ statement.Block place (block_items (map plain_item all.items))) }
 {
-    let kind = StmtKind::If(e, Box::new(alloc, then)?, None);
-    Ok(Stmt { place, kind })
-}
-
-fn make_if_else(
-    alloc: Global,
-    place: Place,
-    e: Expr,
-    then: Stmt,
-    otherwise: Stmt,
-) -> Result<Stmt, AllocError>
-    ensures { IfOk result (λ s. plain_stmt s ≡ statement.If place (plain_expr e) (plain_stmt then) (statement.Else (plain_stmt otherwise))) }
-{
-    let (then, otherwise) = (Box::new(alloc, then)?, Box::new(alloc, otherwise)?);
-    let kind = StmtKind::If(e, then, Some(otherwise));
-    Ok(Stmt { place, kind })
-}
-
-pub fn make_block(place: Place, all: Vec<Item>) -> Stmt
-    ensures { plain_stmt result ≡ statement.Block place (block_items (map plain_item all.items)) }
-{
-    let kind = StmtKind::Block(all);
-    Stmt { place, kind }
+    statement_at(alloc, place, StmtKind::Block(all))
 }
 
 fn make_run(s: Stmt) -> Item
@@ -79,9 +56,40 @@ fn make_run(s: Stmt) -> Item
     Item::Run(s)
 }
 
+/// `"break" ";"`
+#[tactic(auto, unfolding(crate::specs::Reading::break_statement, c_model::specs::ProgramGrammar::ended))]
+fn break_statement<'a>(
+    alloc: Global,
+    words: &[Word],
+    counts: Counts,
+    tokens: &'a [Token],
+) -> Result<(Stmt, Counts, &'a [Token]), ReadFault>
+    ensures { Gives (λ x. ((plain_stmt x.0, plain_counts x.1), plain_list x.2.now)) result ((break_statement words.now (plain_counts counts)).parse (plain_list tokens.now)) }
+{
+    let (place, rest) = skip(words, BREAK, tokens)?;
+    let (_, rest) = skip(words, SEMICOLON, rest)?;
+    with_statement(alloc, place, StmtKind::Break, counts, rest)
+}
+
+/// `"continue" ";"`
+#[tactic(auto, unfolding(crate::specs::Reading::continue_statement, c_model::specs::ProgramGrammar::ended))]
+fn continue_statement<'a>(
+    alloc: Global,
+    words: &[Word],
+    counts: Counts,
+    tokens: &'a [Token],
+) -> Result<(Stmt, Counts, &'a [Token]), ReadFault>
+    ensures { Gives (λ x. ((plain_stmt x.0, plain_counts x.1), plain_list x.2.now)) result ((continue_statement words.now (plain_counts counts)).parse (plain_list tokens.now)) }
+{
+    let (place, rest) = skip(words, CONTINUE, tokens)?;
+    let (_, rest) = skip(words, SEMICOLON, rest)?;
+    with_statement(alloc, place, StmtKind::Continue, counts, rest)
+}
+
 /// `"break" ";"` or `"continue" ";"`
-#[tactic(auto, unfolding(c_model::specs::ProgramGrammar::jump, c_model::specs::ProgramGrammar::ended))]
+#[tactic(auto, unfolding(c_model::specs::ProgramGrammar::jump, crate::specs::Reading::break_statement, crate::specs::Reading::continue_statement))]
 fn jump<'a>(
+    alloc: Global,
     words: &[Word],
     counts: Counts,
     tokens: &'a [Token],
@@ -89,15 +97,9 @@ fn jump<'a>(
     ensures { Gives (λ x. ((plain_stmt x.0, plain_counts x.1), plain_list x.2.now)) result ((jump words.now (plain_counts counts)).parse (plain_list tokens.now)) }
 {
     if next_is(words, BREAK, tokens) {
-        let (place, rest) = skip(words, BREAK, tokens)?;
-        let (_, rest) = skip(words, SEMICOLON, rest)?;
-        let kind = StmtKind::Break;
-        Ok((Stmt { place, kind }, counts, rest))
+        break_statement(alloc, words, counts, tokens)
     } else {
-        let (place, rest) = skip(words, CONTINUE, tokens)?;
-        let (_, rest) = skip(words, SEMICOLON, rest)?;
-        let kind = StmtKind::Continue;
-        Ok((Stmt { place, kind }, counts, rest))
+        continue_statement(alloc, words, counts, tokens)
     }
 }
 
@@ -113,13 +115,13 @@ fn return_statement<'a>(
 {
     let (place, rest) = skip(words, RETURN, tokens)?;
     let (e, rest) = returned(alloc, words, rest)?;
-    let kind = StmtKind::Return(e);
-    Ok((Stmt { place, kind }, counts, rest))
+    with_statement(alloc, place, StmtKind::Return(e), counts, rest)
 }
 
 /// `";"`
 #[tactic(auto, unfolding(c_model::specs::ProgramGrammar::empty_statement))]
 fn empty_statement<'a>(
+    alloc: Global,
     words: &[Word],
     counts: Counts,
     tokens: &'a [Token],
@@ -127,24 +129,7 @@ fn empty_statement<'a>(
     ensures { Gives (λ x. ((plain_stmt x.0, plain_counts x.1), plain_list x.2.now)) result ((empty_statement words.now (plain_counts counts)).parse (plain_list tokens.now)) }
 {
     let (place, rest) = skip(words, SEMICOLON, tokens)?;
-    let kind = StmtKind::Empty;
-    Ok((Stmt { place, kind }, counts, rest))
-}
-
-/// `( effect | call ) ";"`
-#[tactic(auto, unfolding(c_model::specs::ProgramGrammar::effect_statement, c_model::specs::ProgramGrammar::ended))]
-fn effect_statement<'a>(
-    alloc: Global,
-    words: &[Word],
-    counts: Counts,
-    tokens: &'a [Token],
-) -> Result<(Stmt, Counts, &'a [Token]), ReadFault>
-    ensures { Gives (λ x. ((plain_stmt x.0, plain_counts x.1), plain_list x.2.now)) result ((effect_statement words.now (plain_counts counts)).parse (plain_list tokens.now)) }
-{
-    let (e, place, rest) = full_effect_or_call(alloc, words, tokens)?;
-    let (_, rest) = skip(words, SEMICOLON, rest)?;
-    let kind = StmtKind::Eval(e);
-    Ok((Stmt { place, kind }, counts, rest))
+    with_statement(alloc, place, StmtKind::Empty, counts, rest)
 }
 
 /// `"else" stmt`, behind an `if` with its first branch.
@@ -164,8 +149,8 @@ fn else_branch<'a>(
 {
     let (_, rest) = skip(words, ELSE, tokens)?;
     let (otherwise, counts, rest) = statement(alloc, words, levels, counts, rest)?;
-    let whole = make_if_else(alloc, place, e, then, otherwise)?;
-    Ok((whole, counts, rest))
+    let kind = StmtKind::If(e, then, Some(otherwise));
+    with_statement(alloc, place, kind, counts, rest)
 }
 
 /// `[ "else" stmt ]`, which goes with the nearest `if`.
@@ -184,11 +169,11 @@ fn else_part<'a>(
     ensures { Gives (λ x. ((plain_stmt x.0, plain_counts x.1), plain_list x.2.now)) result ((else_part words.now (statement_in words.now levels) place (plain_expr e) (plain_stmt then, plain_counts counts)).parse (plain_list tokens.now)) }
 {
     if is_open(&then) {
-        Ok((make_if(alloc, place, e, then)?, counts, tokens))
+        with_statement(alloc, place, StmtKind::If(e, then, None), counts, tokens)
     } else if next_is(words, ELSE, tokens) {
         else_branch(alloc, words, levels, place, e, then, counts, tokens)
     } else {
-        Ok((make_if(alloc, place, e, then)?, counts, tokens))
+        with_statement(alloc, place, StmtKind::If(e, then, None), counts, tokens)
     }
 }
 
@@ -227,7 +212,8 @@ fn while_loop<'a>(
     let (place, rest) = skip(words, WHILE, tokens)?;
     let (e, rest) = condition(alloc, words, rest)?;
     let (body, counts, rest) = statement(alloc, words, levels, counts, rest)?;
-    Ok((make_while(alloc, place, e, body)?, counts, rest))
+    let kind = StmtKind::While(Vec::new(alloc), e, body);
+    with_statement(alloc, place, kind, counts, rest)
 }
 
 /// `";"`, behind a `do` with its condition.
@@ -244,7 +230,7 @@ fn ended_do<'a>(
     ensures { Gives (λ x. ((plain_stmt x.0, plain_counts x.1), plain_list x.2.now)) result ((ended_do words.now place (plain_stmt body) (plain_expr e) (plain_counts counts)).parse (plain_list tokens.now)) }
 {
     let (_, rest) = skip(words, SEMICOLON, tokens)?;
-    Ok((make_do(alloc, place, body, e)?, counts, rest))
+    with_statement(alloc, place, StmtKind::Do(body, e), counts, rest)
 }
 
 /// `"do" stmt "while" "(" expr ")" ";"`
@@ -268,7 +254,7 @@ fn do_loop<'a>(
 }
 
 /// `"for" "(" ( decl | [ effect | call ] ";" ) [ expr ] ";" [ effect ] ")" stmt`
-#[tactic(auto, unfolding(c_model::specs::ProgramGrammar::for_loop))]
+#[tactic(auto, unfolding(c_model::specs::ProgramGrammar::for_loop, crate::specs::Reading::for_heading))]
 #[cycle(statement)]
 #[inline(never)]
 fn for_loop<'a>(
@@ -280,14 +266,10 @@ fn for_loop<'a>(
 ) -> Result<(Stmt, Counts, &'a [Token]), ReadFault>
     ensures { Gives (λ x. ((plain_stmt x.0, plain_counts x.1), plain_list x.2.now)) result ((for_loop words.now (statement_in words.now levels) (plain_counts counts)).parse (plain_list tokens.now)) }
 {
-    let (place, rest) = skip(words, FOR, tokens)?;
-    let (_, rest) = skip(words, LEFT_PAREN, rest)?;
-    let (first, counts, rest) = for_first(alloc, words, counts, rest)?;
-    let (e, rest) = maybe_ended(alloc, words, rest)?;
-    let (step, rest) = for_behind(alloc, words, rest)?;
+    let (heading, counts, rest) = for_heading(alloc, words, counts, tokens)?;
     let (body, counts, rest) = statement(alloc, words, levels, counts, rest)?;
-    let whole = make_for(alloc, place, first, e, step, body)?;
-    Ok((whole, counts, rest))
+    let place = heading.place;
+    with_statement(alloc, place, for_kind(alloc, heading, body), counts, rest)
 }
 
 /// An annotation, a declaration or a statement.
@@ -370,7 +352,7 @@ fn block<'a>(
     let (place, rest) = skip(words, LEFT_BRACE, tokens)?;
     let (all, counts, rest) = items(alloc, words, levels, Vec::new(alloc), counts, rest)?;
     let (_, rest) = skip(words, RIGHT_BRACE, rest)?;
-    Ok((make_block(place, all), counts, rest))
+    Ok((make_block(alloc, place, all)?, counts, rest))
 }
 
 /// A statement in which statements stand at most so many levels deep, itself included.
@@ -396,7 +378,7 @@ fn statement<'a>(
     if next_is(words, LEFT_BRACE, tokens) {
         block(alloc, words, levels, counts, tokens)
     } else if next_is(words, SEMICOLON, tokens) {
-        empty_statement(words, counts, tokens)
+        empty_statement(alloc, words, counts, tokens)
     } else if next_is(words, IF, tokens) {
         selection(alloc, words, levels, counts, tokens)
     } else if next_is(words, WHILE, tokens) {
@@ -408,7 +390,7 @@ fn statement<'a>(
     } else if next_is(words, RETURN, tokens) {
         return_statement(alloc, words, counts, tokens)
     } else if next_is_jump(words, tokens) {
-        jump(words, counts, tokens)
+        jump(alloc, words, counts, tokens)
     } else {
         effect_statement(alloc, words, counts, tokens)
     }

@@ -8,6 +8,3 @@ mod read;
 mod refusal;
 
 pub use read::{about_texts, read_text};
-
-#[cfg(test)]
-mod tests;

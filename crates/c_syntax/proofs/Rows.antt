@@ -18,7 +18,7 @@ use Rattle.c_syntax.specs.Statements.{Block, Then, plain_item, plain_items, plai
 
 expr_row_is : {m : _} (row : Row_of-Expr m) → plain_expr_row row ≡ plain_exprs (items-the_row-Expr m row)
 expr_row_is end_of-Expr = refl
-expr_row_is (more_of-Expr at e t rest) = ap (Following (Node at (plain_type t) (plain_kind e))) (expr_row_is rest)
+expr_row_is (more_of-Expr at p e t rest) = ap (Following (Node at (plain_type t) (plain_kind e))) (expr_row_is rest)
 
 pub call_is : (at : Place) (t : PlainType) (f : Use) (v : Vec Expr Global) → Node at t (plain_kind (code.Call f v)) ≡ Node at t (Call f (plain_exprs v.items))
 call_is at t f v = ap (λ es. Node at t (Call f es)) (expr_row_is (hidden-the_row-Expr-0 v) ∙ ap plain_exprs (items_hidden-the_row-Expr-0 v))

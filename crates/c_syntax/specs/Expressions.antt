@@ -47,24 +47,24 @@ abbrev mutual
   plain_kind (code.Number n k) = Number n k
   plain_kind (code.Letter n) = Letter n
   plain_kind (code.Variable x) = Variable x
-  plain_kind (code.Unary' op p pa a ta) = Unary op (Node pa (plain_type ta) (plain_kind a))
-  plain_kind (code.Binary' op p pa a ta q pb b tb) = Binary op (Node pa (plain_type ta) (plain_kind a)) (Node pb (plain_type tb) (plain_kind b))
-  plain_kind (code.Both' p pa a ta q pb b tb) = Both (Node pa (plain_type ta) (plain_kind a)) (Node pb (plain_type tb) (plain_kind b))
-  plain_kind (code.Either' p pa a ta q pb b tb) = Either (Node pa (plain_type ta) (plain_kind a)) (Node pb (plain_type tb) (plain_kind b))
-  plain_kind (code.Choice' p pa a ta q pb b tb r pc c tc) = Choice (Node pa (plain_type ta) (plain_kind a)) (Node pb (plain_type tb) (plain_kind b)) (Node pc (plain_type tc) (plain_kind c))
-  plain_kind (code.Assign' op p pa a ta q pb b tb) = Assign op (Node pa (plain_type ta) (plain_kind a)) (Node pb (plain_type tb) (plain_kind b))
-  plain_kind (code.Bump' op p pa a ta) = Bump op (Node pa (plain_type ta) (plain_kind a))
+  plain_kind (code.Unary' op pa p a ta) = Unary op (Node pa (plain_type ta) (plain_kind a))
+  plain_kind (code.Binary' op pa p a ta pb q b tb) = Binary op (Node pa (plain_type ta) (plain_kind a)) (Node pb (plain_type tb) (plain_kind b))
+  plain_kind (code.Both' pa p a ta pb q b tb) = Both (Node pa (plain_type ta) (plain_kind a)) (Node pb (plain_type tb) (plain_kind b))
+  plain_kind (code.Either' pa p a ta pb q b tb) = Either (Node pa (plain_type ta) (plain_kind a)) (Node pb (plain_type tb) (plain_kind b))
+  plain_kind (code.Choice' pa p a ta pb q b tb pc r c tc) = Choice (Node pa (plain_type ta) (plain_kind a)) (Node pb (plain_type tb) (plain_kind b)) (Node pc (plain_type tc) (plain_kind c))
+  plain_kind (code.Assign' op pa p a ta pb q b tb) = Assign op (Node pa (plain_type ta) (plain_kind a)) (Node pb (plain_type tb) (plain_kind b))
+  plain_kind (code.Bump' op pa p a ta) = Bump op (Node pa (plain_type ta) (plain_kind a))
   plain_kind (code.Call' f shape row) = Call f (plain_expr_row row)
-  plain_kind (code.Cast' to p pa a ta) = Cast (plain_type to) (Node pa (plain_type ta) (plain_kind a))
+  plain_kind (code.Cast' to pa p a ta) = Cast (plain_type to) (Node pa (plain_type ta) (plain_kind a))
   plain_kind (code.SizeOfType u) = SizeOfType (plain_type u)
-  plain_kind (code.SizeOfExpr' p pa a ta) = SizeOfExpr (Node pa (plain_type ta) (plain_kind a))
+  plain_kind (code.SizeOfExpr' pa p a ta) = SizeOfExpr (Node pa (plain_type ta) (plain_kind a))
 
   pub plain_expr_row : {m : _} → Row_of-Expr m → Expressions
   plain_expr_row end_of-Expr = NoExpression
-  plain_expr_row (more_of-Expr at e t rest) = Following (Node at (plain_type t) (plain_kind e)) (plain_expr_row rest)
+  plain_expr_row (more_of-Expr at p e t rest) = Following (Node at (plain_type t) (plain_kind e)) (plain_expr_row rest)
 
 abbrev pub plain_expr : Expr → Expression
-plain_expr e = Node e.place (plain_type e.ctype) (plain_kind e.kind)
+plain_expr e = Node e.place (plain_type e.ctype) (plain_kind e.kind.value)
 
 abbrev pub plain_exprs : List Expr → Expressions
 plain_exprs [] = NoExpression

@@ -72,25 +72,25 @@ abbrev mutual
   plain_stmt_kind at code.Empty = Empty at
   plain_stmt_kind at (code.Eval e) = Eval at (plain_expr e)
   plain_stmt_kind at (code.Block' shape row) = Block at (plain_item_row row)
-  plain_stmt_kind at (code.If' e p pa a b) = If at (plain_expr e) (plain_stmt_kind pa a) (plain_else b)
-  plain_stmt_kind at (code.While' annots e p pa a) = While at (map plain_annot annots.items) (plain_expr e) (plain_stmt_kind pa a)
-  plain_stmt_kind at (code.Do' p pa a e) = Do at (plain_stmt_kind pa a) (plain_expr e)
-  plain_stmt_kind at (code.For' annots first e step p pa a) = For at (map plain_annot annots.items) (plain_first first) (option_map plain_expr e) (option_map plain_expr step) (plain_stmt_kind pa a)
+  plain_stmt_kind at (code.If' e pa p a b) = If at (plain_expr e) (plain_stmt_kind pa a) (plain_else b)
+  plain_stmt_kind at (code.While' annots e pa p a) = While at (map plain_annot annots.items) (plain_expr e) (plain_stmt_kind pa a)
+  plain_stmt_kind at (code.Do' pa p a e) = Do at (plain_stmt_kind pa a) (plain_expr e)
+  plain_stmt_kind at (code.For' annots first e step pa p a) = For at (map plain_annot annots.items) (plain_first first) (option_map plain_expr e) (option_map plain_expr step) (plain_stmt_kind pa a)
   plain_stmt_kind at code.Break = Break at
   plain_stmt_kind at code.Continue = Continue at
   plain_stmt_kind at (code.Return e) = Return at (option_map plain_expr e)
 
   pub plain_else : Held-StmtKind-If-2 → ElsePart
   plain_else code.StmtKind-If-2-None' = NoElse
-  plain_else (code.StmtKind-If-2-Some' p pa a) = Else (plain_stmt_kind pa a)
+  plain_else (code.StmtKind-If-2-Some' pa p a) = Else (plain_stmt_kind pa a)
 
   pub plain_first : Held-StmtKind-For-1 → ForFirst
   plain_first code.StmtKind-For-1-None' = NoFirst
-  plain_first (code.StmtKind-For-1-Some' p i) = First (plain_item i)
+  plain_first (code.StmtKind-For-1-Some' i) = First (plain_item i)
 
   pub plain_item : Item → BlockItem
   plain_item (item.Declare decls) = Declare (map plain_decl decls.items)
-  plain_item (item.Run' at s) = Run (plain_stmt_kind at s)
+  plain_item (item.Run' at p s) = Run (plain_stmt_kind at s)
   plain_item (item.Asserts annots) = Asserts (map plain_annot annots.items)
 
   pub plain_item_row : {m : _} → Row_of-Item m → BlockItems
@@ -98,7 +98,7 @@ abbrev mutual
   plain_item_row (more_of-Item i rest) = Then (plain_item i) (plain_item_row rest)
 
 abbrev pub plain_stmt : Stmt → Statement
-plain_stmt s = plain_stmt_kind s.place s.kind
+plain_stmt s = plain_stmt_kind s.place s.kind.value
 
 abbrev pub plain_items : List Item → BlockItems
 plain_items [] = NoItem

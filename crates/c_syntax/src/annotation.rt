@@ -41,7 +41,7 @@ pub enum Relation {
 #[cycle(term)]
 pub struct Term {
     pub place: Place,
-    pub kind: TermKind,
+    pub kind: Box<TermKind>,
     /// The C type of a term that reads a place; none for a mathematical integer.
     pub ctype: Option<CType>,
     /// The range of its values, by the inference of ranges; both bounds are 0 until then.
@@ -55,7 +55,7 @@ pub enum TermKind {
     /// A character literal, by its value as a `char`.
     Letter(i8),
     Variable(Use),
-    Binary(BinOp, Box<Term>, Box<Term>),
+    Binary(BinOp, Term, Term),
 }
 
 /// One step of a chain of relations: the relation's token, and the term behind it.
@@ -70,7 +70,7 @@ pub struct Link {
 #[derive(Drop)]
 pub struct Pred {
     pub place: Place,
-    pub kind: PredKind,
+    pub kind: Box<PredKind>,
 }
 
 #[derive(Drop)]

@@ -66,7 +66,7 @@ pub enum BumpOp {
 #[cycle(expr)]
 pub struct Expr {
     pub place: Place,
-    pub kind: ExprKind,
+    pub kind: Box<ExprKind>,
     /// The type of its value, by typing.
     pub ctype: CType,
 }
@@ -79,22 +79,22 @@ pub enum ExprKind {
     /// A character literal (C99 6.4.4.4), by its value as a `char`.
     Letter(i8),
     Variable(Use),
-    Unary(UnOp, Box<Expr>),
-    Binary(BinOp, Box<Expr>, Box<Expr>),
+    Unary(UnOp, Expr),
+    Binary(BinOp, Expr, Expr),
     /// `left && right` (C99 6.5.13).
-    Both(Box<Expr>, Box<Expr>),
+    Both(Expr, Expr),
     /// `left || right` (C99 6.5.14).
-    Either(Box<Expr>, Box<Expr>),
+    Either(Expr, Expr),
     /// `condition ? first : second` (C99 6.5.15).
-    Choice(Box<Expr>, Box<Expr>, Box<Expr>),
+    Choice(Expr, Expr, Expr),
     /// `left = right`, or `left op= right` where there is an operator (C99 6.5.16).
-    Assign(Option<BinOp>, Box<Expr>, Box<Expr>),
-    Bump(BumpOp, Box<Expr>),
+    Assign(Option<BinOp>, Expr, Expr),
+    Bump(BumpOp, Expr),
     Call(Use, Vec<Expr>),
     /// `(type) operand` (C99 6.5.4). Typing puts one around each operand that is converted (C99 6.3.1.8).
-    Cast(CType, Box<Expr>),
+    Cast(CType, Expr),
     /// `sizeof (type)` (C99 6.5.3.4).
     SizeOfType(CType),
     /// `sizeof operand` (C99 6.5.3.4).
-    SizeOfExpr(Box<Expr>),
+    SizeOfExpr(Expr),
 }

@@ -38,7 +38,7 @@ pub enum Item {
 #[cycle(stmt)]
 pub struct Stmt {
     pub place: Place,
-    pub kind: StmtKind,
+    pub kind: Box<StmtKind>,
 }
 
 #[derive(Drop)]
@@ -49,13 +49,13 @@ pub enum StmtKind {
     /// `e;`
     Eval(Expr),
     Block(Vec<Item>),
-    If(Expr, Box<Stmt>, Option<Box<Stmt>>),
+    If(Expr, Stmt, Option<Stmt>),
     /// `while`, with its annotations, its condition and its body (C99 6.8.5.1).
-    While(Vec<Annot>, Expr, Box<Stmt>),
+    While(Vec<Annot>, Expr, Stmt),
     /// `do`, with its body and its condition (C99 6.8.5.2).
-    Do(Box<Stmt>, Expr),
+    Do(Stmt, Expr),
     /// `for`, with its annotations, its declaration or first expression, its condition, its step and its body (C99 6.8.5.3).
-    For(Vec<Annot>, Option<Box<Item>>, Option<Expr>, Option<Expr>, Box<Stmt>),
+    For(Vec<Annot>, Option<Item>, Option<Expr>, Option<Expr>, Stmt),
     Break,
     Continue,
     Return(Option<Expr>),

@@ -7,6 +7,9 @@ use Rattle.c_parser.proofs.annotation.+term.Given as goal
 abbrev pub decreases-atom : goal.decreases-atom
 decreases-atom l = 10 * length l.tokens.now + 1
 
+abbrev pub decreases-sum_in_parentheses : goal.decreases-sum_in_parentheses
+decreases-sum_in_parentheses l = 10 * length l.tokens.now
+
 abbrev pub decreases-sum_once : goal.decreases-sum_once
 decreases-sum_once l = 10 * length l.tokens.now + 1
 

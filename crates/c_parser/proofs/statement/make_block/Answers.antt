@@ -1,5 +1,7 @@
+use Rattle.std.proofs.Common.{◌∙◌}
+use Rattle.std.proofs.lemmas.Result.{IfOk-weaker}
 use Rattle.c_parser.proofs.Rows.{block_is_read}
 use Rattle.c_parser.proofs.statement.make_block.Goals as goal
 
 pub returns : goal.returns
-returns c = block_is_read c.args.place c.args.all
+returns c = IfOk-weaker c.statement_at.result _ _ (λ s h. h ∙ block_is_read c.args.place c.args.all) c.statement_at.ensures
