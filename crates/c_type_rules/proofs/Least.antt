@@ -6,7 +6,7 @@ use Rattle.c_model.specs.Typing.{two}
 use Rattle.c_type_rules.specs.declared.fault.TypeFault.{TypeFault}
 use Rattle.c_type_rules.specs.declared.fault.TypeFault.TheVariants.{Refused, Memory}
 use Rattle.c_type_rules.specs.declared.fault.Fault as code
-use Rattle.c_type_rules.specs.Answers.{plain_fault, Answers, Joined}
+use Rattle.c_type_rules.specs.Answers.{plain_fault, Answers, both, first_of}
 
 lesser_assoc : (f g h : Fault) → lesser f (lesser g h) ≡ lesser (lesser f g) h
 lesser_assoc f g h = by (nat_lt (rank g) (rank f)) (nat_lt (rank h) (rank g)) (nat_lt (rank h) (rank f)) refl refl refl
@@ -31,6 +31,12 @@ lesser_is f g = by (nat_lt (rank (plain_fault g)) (rank (plain_fault f)))
     by true = refl
     by false = refl
 
+err_is : {T : Type 0} {f h : TypeFault} → ◌≡◌ {A = Result T TypeFault} (Err f) (Err h) → f ≡ h
+err_is j = cc
+
+ok_is : {T : Type 0} {x y : T} → ◌≡◌ {A = Result T TypeFault} (Ok x) (Ok y) → x ≡ y
+ok_is j = cc
+
 module _ {A B C : Type 0} (k : A → B → Checked C)
   where
     second : (t : A) (n : Checked B) (g : Fault) → refusing n ≡ Some g → refusing (both_parts (Good t) n k) ≡ Some g
@@ -50,16 +56,27 @@ module _ {A B C : Type 0} (k : A → B → Checked C)
         ap Some (least_append f fs g gs ∙ ap (λ x. lesser x (least g gs)) e1 ∙ ap (lesser f') d1)
 
     -- two parts of which one is refused
-    pub both_refused : {T U S : Type 0} (p : T → A) (q : U → B) (s : S → C) (m : Checked A) (n : Checked B) (a : Result T TypeFault) (b : Result U TypeFault) (h : TypeFault) → Answers p m a → Answers q n b → Joined a b (Err h) → Answers s (both_parts m n k) (Err h)
-    both_refused p q s m n (Ok t) (Ok u) h x y j = absurd j
-    both_refused p q s m n (Ok t) (Err (Refused g)) h x y j = rw (j, x) (second (p t) n (plain_fault g) y)
-    both_refused p q s m n (Ok t) (Err Memory) h x y j = rw j tt
-    both_refused p q s m n (Err (Refused f)) (Ok u) h x y j = rw (j, y) (only_first (q u) m (plain_fault f) x)
-    both_refused p q s m n (Err Memory) (Ok u) h x y j = rw j tt
-    both_refused p q s m n (Err (Refused f)) (Err (Refused g)) h x y j = rw j (together m n (plain_fault f) (plain_fault g) x y ∙ ap Some (sym (lesser_is f g)))
-    both_refused p q s m n (Err (Refused f)) (Err Memory) h x y j = rw j tt
-    both_refused p q s m n (Err Memory) (Err (Refused g)) h x y j = rw j tt
-    both_refused p q s m n (Err Memory) (Err Memory) h x y j = rw j tt
+    pub both_refused : {T S : Type 0} (p : T → A) (q : Unit {0} → B) (s : S → C) (m : Checked A) (n : Checked B) (a : Result T TypeFault) (b : Result (Unit {0}) TypeFault) (h : TypeFault)
+        → Answers p m a → Answers q n b → both a b ≡ Err h → Answers s (both_parts m n k) (Err h)
+    both_refused p q s m n (Ok t) (Ok u) h x y j = absurd cc
+    both_refused p q s m n (Ok t) (Err g) h x y j =
+        subst (λ e. Answers s (both_parts m n k) (Err e)) (err_is j) (subst (λ c. Answers s (both_parts c n k) (Err g)) (sym x) (by g y))
+      where
+        by : (g : TypeFault) → Answers q n (Err g) → Answers s (both_parts (Good (p t)) n k) (Err g)
+        by (Refused g) y = second (p t) n (plain_fault g) y
+        by Memory y = tt
+    both_refused p q s m n (Err f) (Ok u) h x y j =
+        subst (λ e. Answers s (both_parts m n k) (Err e)) (err_is j) (subst (λ c. Answers s (both_parts m c k) (Err f)) (sym y) (by f x))
+      where
+        by : (f : TypeFault) → Answers p m (Err f) → Answers s (both_parts m (Good (q u)) k) (Err f)
+        by (Refused f) x = only_first (q u) m (plain_fault f) x
+        by Memory x = tt
+    both_refused p q s m n (Err f) (Err g) h x y j = subst (λ e. Answers s (both_parts m n k) (Err e)) (err_is j) (by f g x y)
+      where
+        by : (f g : TypeFault) → Answers p m (Err f) → Answers q n (Err g) → Answers s (both_parts m n k) (Err (first_of f g))
+        by (Refused f) (Refused g) x y = together m n (plain_fault f) (plain_fault g) x y ∙ ap Some (sym (lesser_is f g))
+        by (Refused f) Memory x y = tt
+        by Memory g x y = tt
 
 -- one part that is refused
 pub one_refused : {A B S T : Type 0} (k : A → Checked B) (p : T → A) (s : S → B) (m : Checked A) (h : TypeFault) → Answers p m (Err h) → Answers s (one_part m k) (Err h)
@@ -72,9 +89,21 @@ pub one_then : {A B S T : Type 0} (k : A → Checked B) (p : T → A) (s : S →
 one_then k p s m t r is h = subst (λ c. Answers s (one_part c k) r) (sym is) h
 
 -- two parts as one
-pub both_answers : {A B T U : Type 0} (p : T → A) (q : U → B) (m : Checked A) (n : Checked B) (a : Result T TypeFault) (b : Result U TypeFault) (r : Result (T × U) TypeFault) → Answers p m a → Answers q n b → Joined a b r → Answers (λ x. (p x.0, q x.1)) (both_parts m n two) r
-both_answers p q m n a b (Ok x) ha hb j =
-    let ea : m ≡ Good (p x.0) = subst (Answers p m) j.0 ha in
-    let eb : n ≡ Good (q x.1) = subst (Answers q n) j.1 hb in
-    ap (λ c. both_parts c n two) ea ∙ ap (λ c. both_parts (Good (p x.0)) c two) eb
-both_answers {T = T} {U = U} p q m n a b (Err h) ha hb j = both_refused two p q (λ (x : T × U). (p x.0, q x.1)) m n a b h ha hb j
+pub both_answers : {A B T : Type 0} (p : T → A) (q : Unit {0} → B) (m : Checked A) (n : Checked B) (a : Result T TypeFault) (b : Result (Unit {0}) TypeFault) (r : Result T TypeFault)
+    → Answers p m a → Answers q n b → both a b ≡ r → Answers (λ x. (p x, q tt)) (both_parts m n two) r
+both_answers {T = T} p q m n a b (Err h) ha hb j = both_refused two p q (λ (x : T). (p x, q tt)) m n a b h ha hb j
+both_answers p q m n (Ok x) (Ok u) (Ok y) ha hb j =
+    ap (λ c. both_parts c n two) ha ∙ ap (λ c. both_parts (Good (p x)) c two) hb ∙ ap (λ z. Good (p z, q tt)) (ok_is j)
+both_answers p q m n (Ok x) (Err g) (Ok y) ha hb j = absurd cc
+both_answers p q m n (Err f) (Ok u) (Ok y) ha hb j = absurd cc
+both_answers p q m n (Err f) (Err g) (Ok y) ha hb j = absurd cc
+
+-- what is made of two parts
+pub both_made : {A B C T : Type 0} (f : A → B → C) (p : T → A) (q : Unit {0} → B) (m : Checked A) (n : Checked B) (a : Result T TypeFault) (b : Result (Unit {0}) TypeFault) (r : Result T TypeFault)
+    → Answers p m a → Answers q n b → both a b ≡ r → Answers (λ x. f (p x) (q tt)) (both_parts m n (λ x y. Good (f x y))) r
+both_made {T = T} f p q m n a b (Err h) ha hb j = both_refused (λ x y. Good (f x y)) p q (λ (x : T). f (p x) (q tt)) m n a b h ha hb j
+both_made f p q m n (Ok x) (Ok u) (Ok y) ha hb j =
+    ap (λ c. both_parts c n (λ x y. Good (f x y))) ha ∙ ap (λ c. both_parts (Good (p x)) c (λ x y. Good (f x y))) hb ∙ ap (λ z. Good (f (p z) (q tt))) (ok_is j)
+both_made f p q m n (Ok x) (Err g) (Ok y) ha hb j = absurd cc
+both_made f p q m n (Err g) (Ok u) (Ok y) ha hb j = absurd cc
+both_made f p q m n (Err g) (Err h) (Ok y) ha hb j = absurd cc

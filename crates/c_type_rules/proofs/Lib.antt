@@ -1,4 +1,7 @@
+pub mod InPlace
 pub mod Least
+pub mod Operators
+pub mod Signatures
 pub mod Calls
 pub mod Names
 pub mod Expressions

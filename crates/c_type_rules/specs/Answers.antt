@@ -1,6 +1,5 @@
 -- What a function returned is what the definition gives, unless memory was wanting.
-use Rattle.std.specs.Prelude.{◌≡◌, [], ◌∷◌, ◌++◌, Some, cond, nat_lt, Result, Ok, Err, Vec}
-use Rattle.std.specs.declared.alloc.Global.{Global}
+use Rattle.std.specs.Prelude.{◌≡◌, Some, cond, nat_lt, Result, Ok, Err}
 use Rattle.c_model.specs.Checked.{Checked, Good, refusing, rank}
 use Rattle.c_model.specs.Checked as plain
 use Rattle.c_type_rules.specs.declared.fault.Fault.{Fault}
@@ -22,18 +21,8 @@ first_of (Refused f) (Refused g) = Refused (cond (nat_lt (rank (plain_fault g)) 
 first_of (Refused f) Memory = Memory
 first_of Memory g = Memory
 
--- two answers as one
-abbrev pub Joined : {T U : Type 0} → Result T TypeFault → Result U TypeFault → Result (T × U) TypeFault → Type 0
-Joined a b (Ok p) = (a ≡ Ok p.0) × (b ≡ Ok p.1)
-Joined (Ok x) (Ok y) (Err h) = ⊥
-Joined (Ok x) (Err g) (Err h) = h ≡ g
-Joined (Err f) (Ok y) (Err h) = h ≡ f
-Joined (Err f) (Err g) (Err h) = h ≡ first_of f g
-
--- one more item behind a list, where both are there
-abbrev pub Pushed : {T : Type 0} → Result (Vec T Global × T) TypeFault → Result (Vec T Global) TypeFault → Type 0
-Pushed (Ok p) (Ok v) = v.items ≡ p.0.items ++ p.1 ∷ []
-Pushed (Ok p) (Err (Refused f)) = ⊥
-Pushed (Ok p) (Err Memory) = Unit {0}
-Pushed (Err f) (Ok v) = ⊥
-Pushed (Err f) (Err g) = g ≡ f
+-- an answer and that of another part, which tells no more than its fault, as one
+abbrev pub both : {T : Type 0} → Result T TypeFault → Result (Unit {0}) TypeFault → Result T TypeFault
+both a (Ok u) = a
+both (Ok x) (Err g) = Err g
+both (Err f) (Err g) = Err (first_of f g)

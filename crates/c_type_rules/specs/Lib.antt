@@ -1,3 +1,5 @@
 pub mod Answers
 pub mod Library
+pub mod Parts
 pub mod Scopes
+pub mod Signatures

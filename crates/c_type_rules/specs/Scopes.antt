@@ -1,30 +1,28 @@
 -- What is in sight, without vectors.
-use Rattle.std.specs.Prelude.{ℕ, ℤ, List, [], map, take, not, codes, bytes_eq, Option, Some, None, Vec, Result, Ok, Err}
-use Rattle.std.specs.declared.alloc.Global.{Global}
+use Rattle.std.specs.Prelude.{ℕ, ℤ, List, [], map, take, not, codes, bytes_eq, Option, Some, None, Result, Ok, Err}
 use Rattle.c_syntax.specs.declared.place.Place.{Place}
 use Rattle.c_syntax.specs.declared.types.CInt.{CInt}
-use Rattle.c_syntax.specs.declared.expression.Expr.{Expr}
 use Rattle.c_syntax.specs.Ctypes.{PlainType, plain_type}
-use Rattle.c_syntax.specs.Expressions.{Expressions, plain_exprs}
+use Rattle.c_syntax.specs.Expressions.{Expression, ExpressionKind, Number}
 use Rattle.c_model.specs.Library.{library_constant}
 use Rattle.c_model.specs.Checked.{Checked, Good, faulty, where_so}
 use Rattle.c_model.specs.Typing as plain
 use Rattle.c_type_rules.specs.declared.fault.TypeFault.{TypeFault}
 use Rattle.c_type_rules.specs.declared.scope.Object.{Object}
-use Rattle.c_type_rules.specs.declared.scope.Signature.{Signature}
+use Rattle.c_type_rules.specs.declared.signature.Signature.{Signature}
+use Rattle.c_type_rules.specs.Signatures.{plain_signature}
 use Rattle.c_type_rules.specs.declared.scope.Scopes.{Scopes}
 
 abbrev pub plain_object : Object → plain.Object
 plain_object b = record { name = b.name; decl = b.decl; ctype = plain_type b.ctype }
 
-abbrev pub plain_signature : Signature → plain.Signature
-plain_signature f = record { name = f.name; decl = f.decl; defined = f.defined; params = map plain_type f.params.items; result = plain_type f.result }
-
 abbrev pub plain_scopes : Scopes → plain.Scopes
-plain_scopes s = record { names = s.names.items; functions = map plain_signature s.functions.items; objects = map plain_object s.objects.items; innermost = s.innermost }
+plain_scopes s = record { names = s.names.items; functions = map plain_signature s.functions.signatures.items; objects = map plain_object s.objects.items; innermost = s.innermost }
 
-abbrev pub plain_vec : Vec Expr Global → Expressions
-plain_vec v = plain_exprs v.items
+-- an integer literal in its type
+abbrev pub literal_at : Place → ExpressionKind → Checked Expression
+literal_at at (Number n k) = plain.literal at n k
+literal_at at _ = faulty (plain.no_type at)
 
 -- the parameters' types of a callee, and none where it has a fault
 abbrev pub known_params : Result Signature TypeFault → List PlainType

@@ -2,42 +2,46 @@
 
 ghost use Rattle.std.specs.Prelude.{◌≡◌, IfOk, map};
 ghost use Rattle.c_syntax.specs.Ctypes.{plain_type};
-ghost use Rattle.c_syntax.specs.Expressions.{plain_expr};
-ghost use Rattle.c_model.specs.Typing.{argument, argument_for, call, callee, first_type, named};
+ghost use Rattle.c_syntax.specs.Expressions.{Call, Node, plain_expr, plain_exprs, plain_kind};
+ghost use Rattle.c_model.specs.Checked.{one_part};
+ghost use Rattle.c_model.specs.Typing.{argument, argument_for, call, callee, first_type, named, use_as};
 ghost use Rattle.c_type_rules.specs.Answers.{Answers};
 ghost use Rattle.c_type_rules.specs.Library.{signature_of};
-ghost use Rattle.c_type_rules.specs.Scopes.{callable, known_params, library_callee, plain_scopes, plain_signature, plain_vec};
+ghost use Rattle.c_type_rules.specs.Signatures.{plain_signature};
+ghost use Rattle.c_type_rules.specs.Scopes.{callable, known_params, library_callee, plain_scopes};
 
 use crate::conversion::{copy_type, is_assigned};
 use crate::fault::{TypeFault, no_name, no_type};
 use crate::library::{LibraryFunction, library_constant, library_function};
-use crate::operator::in_type;
-use crate::scope::{Scopes, Signature, copy_signature, function_called, name_at, object_named};
+use crate::operator::{in_type, put};
+use crate::scope::{Scopes, name_at, object_named};
+use crate::signature::{Signature, copy_signature};
 use c_syntax::{CInt, CType, Expr, ExprKind, Place, Use};
 use std::alloc::{AllocError, Global};
 
-/// A name: an object, or a constant of the library, in whose place its value stands.
-pub fn named(scopes: &Scopes, place: Place, name: u32) -> Result<Expr, TypeFault>
-    ensures { Answers plain_expr (named (plain_scopes scopes.now) place name) result }
+/// Puts what a name stands for in its place: an object, or the value of a constant of the library. Gives its type.
+pub fn mean(
+    scopes: &Scopes,
+    place: Place,
+    name: u32,
+    kind: &mut ExprKind,
+) -> Result<CType, TypeFault>
+    ensures { Answers (λ t. Node place (plain_type t) (plain_kind kind.new)) (named (plain_scopes scopes.now) place name) result }
 {
     if let Some(object) = object_named(&scopes.objects, name) {
         let decl = object.decl;
-        return Ok(Expr {
-            place,
-            kind: ExprKind::Variable(Use { name, decl }),
-            ctype: copy_type(&object.ctype),
-        });
+        put(kind, ExprKind::Variable(Use { name, decl }));
+        return Ok(copy_type(&object.ctype));
     }
-    if function_called(&scopes.functions, name).is_some() {
+    if scopes.functions.called(name).is_some() {
         return Err(no_type(place));
     }
     let bytes = name_at(&scopes.names, name);
     match library_constant(bytes) {
-        Some((k, n)) => Ok(Expr {
-            place,
-            kind: ExprKind::Number(n, Some(k)),
-            ctype: CType::Int(k),
-        }),
+        Some((k, n)) => {
+            put(kind, ExprKind::Number(n, Some(k)));
+            Ok(CType::Int(k))
+        }
         None => {
             if library_function(bytes).is_some() {
                 Err(no_type(place))
@@ -120,7 +124,7 @@ pub fn callee(
         return Err(no_type(place));
     }
     let bytes = name_at(&scopes.names, name);
-    match function_called(&scopes.functions, name) {
+    match scopes.functions.called(name) {
         Some(f) => {
             let f = copy_signature(alloc, f)?;
             callable(place, bytes, f)
@@ -139,42 +143,51 @@ pub fn known_params(callee: &Result<Signature, TypeFault>) -> &[CType]
     }
 }
 
-/// An argument in the type of its parameter (C99 6.5.2.2 p7).
-fn argument(alloc: Global, ctype: &CType, e: Expr) -> Result<Expr, TypeFault>
-    ensures { Answers plain_expr (argument (plain_type ctype.now) (plain_expr e)) result }
+/// Puts an argument in the type of its parameter (C99 6.5.2.2 p7).
+fn argument(alloc: Global, ctype: &CType, e: &mut Expr) -> Result<(), TypeFault>
+    ensures { Answers (λ _. plain_expr e.new) (argument (plain_type ctype.now) (plain_expr e.old)) result }
 {
     if is_assigned(&e.ctype, ctype) {
-        Ok(in_type(alloc, ctype, e)?)
+        in_type(alloc, ctype, e)?;
+        Ok(())
     } else {
         Err(no_type(e.place))
     }
 }
 
-/// An argument for the first of the parameters: one without a parameter has no demand of its own.
-pub fn argument_for(alloc: Global, params: &[CType], e: Expr) -> Result<Expr, TypeFault>
-    ensures { Answers plain_expr (argument_for (first_type (map plain_type params.now)) (plain_expr e)) result }
+/// Puts an argument in the type of the first of the parameters: one without a parameter has no demand of its own.
+pub fn argument_for(alloc: Global, params: &[CType], e: &mut Expr) -> Result<(), TypeFault>
+    ensures { Answers (λ _. plain_expr e.new) (argument_for (first_type (map plain_type params.now)) (plain_expr e.old)) result }
 {
     match params {
-        [] => Ok(e),
+        [] => Ok(()),
         [t, ..] => argument(alloc, t, e),
     }
 }
 
 /// The number of arguments is that of the parameters.
-pub fn call(place: Place, f: Signature, arguments: Vec<Expr>) -> Result<Expr, TypeFault>
-    ensures { Answers plain_expr (call place (plain_signature f) (plain_vec arguments)) result }
+fn called(place: Place, f: &Signature, arguments: &[Expr]) -> Result<CType, TypeFault>
+    ensures { Answers (λ t. Node place (plain_type t) (Call (use_as f.now.name f.now.decl) (plain_exprs arguments.now))) (call place (plain_signature f.now) (plain_exprs arguments.now)) result }
 {
     if arguments.len() == f.params.len() {
-        let x = Use {
-            name: f.name,
-            decl: f.decl,
-        };
-        Ok(Expr {
-            place,
-            kind: ExprKind::Call(x, arguments),
-            ctype: f.result,
-        })
+        Ok(copy_type(&f.result))
     } else {
         Err(no_type(place))
     }
+}
+
+/// A call, whose arguments have no fault.
+pub fn call(
+    alloc: Global,
+    scopes: &Scopes,
+    place: Place,
+    x: &mut Use,
+    arguments: &[Expr],
+) -> Result<CType, TypeFault>
+    ensures { Answers (λ t. Node place (plain_type t) (Call x.new (plain_exprs arguments.now))) (one_part (callee (plain_scopes scopes.now) place x.old.name) (λ f. call place f (plain_exprs arguments.now))) result }
+{
+    let f = callee(alloc, scopes, place, x.name)?;
+    x.name = f.name;
+    x.decl = f.decl;
+    called(place, &f, arguments)
 }

@@ -3,7 +3,7 @@
 ghost use Rattle.std.specs.Prelude.{◌≡◌};
 ghost use Rattle.c_model.specs.Checked.{rank};
 ghost use Rattle.c_type_rules.specs.declared.fault.TypeFault.TheVariants.{Refused, Memory};
-ghost use Rattle.c_type_rules.specs.Answers.{plain_fault, Joined, Pushed, first_of};
+ghost use Rattle.c_type_rules.specs.Answers.{both, first_of, plain_fault};
 
 use c_syntax::Place;
 use std::alloc::{AllocError, AllocFailed};
@@ -78,34 +78,15 @@ fn first_of(f: TypeFault, g: TypeFault) -> TypeFault
     }
 }
 
-/// Two answers as one.
-pub fn both<T: Drop, U: Drop>(
-    a: Result<T, TypeFault>,
-    b: Result<U, TypeFault>,
-) -> Result<(T, U), TypeFault>
-    ensures { Joined a b result }
+/// An answer and that of another part, which tells no more than its fault, as one.
+pub fn both<T: Drop>(a: Result<T, TypeFault>, b: Result<(), TypeFault>) -> Result<T, TypeFault>
+    ensures { result ≡ both a b }
 {
-    match a {
-        Ok(x) => match b {
-            Ok(y) => Ok((x, y)),
-            Err(g) => Err(g),
+    match b {
+        Ok(()) => a,
+        Err(g) => match a {
+            Ok(_x) => Err(g),
+            Err(f) => Err(first_of(f, g)),
         },
-        Err(f) => match b {
-            Ok(_y) => Err(f),
-            Err(g) => Err(first_of(f, g)),
-        },
-    }
-}
-
-/// One more item behind a list, where both are there.
-pub fn push<T: Drop>(two: Result<(Vec<T>, T), TypeFault>) -> Result<Vec<T>, TypeFault>
-    ensures { Pushed two result }
-{
-    match two {
-        Ok((mut list, item)) => match list.push(item) {
-            Ok(_) => Ok(list),
-            Err(_e) => Err(TypeFault::Memory),
-        },
-        Err(f) => Err(f),
     }
 }

@@ -12,7 +12,6 @@ pub mod fault;
 pub mod library;
 pub mod operator;
 pub mod scope;
-#[cfg(test)]
-mod tests;
+pub mod signature;
 
 pub use fault::{Fault, TypeFault};

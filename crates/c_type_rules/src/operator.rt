@@ -1,11 +1,14 @@
-//! What each form of an expression demands of its parts, which have no fault (C99 6.5).
+//! What each form of an expression demands of its parts, which have no fault (C99 6.5): the conversions of its operands in place, and
+//! the type that it has.
 
-ghost use Rattle.std.specs.Prelude.{◌≡◌, IfOk};
+ghost use Rattle.std.specs.Prelude.{◌≡◌, OnOk, Some, None, cond};
 ghost use Rattle.c_syntax.specs.declared.types.CInt.TheVariants.{U64};
 ghost use Rattle.c_syntax.specs.Ctypes.{Int, plain_type};
-ghost use Rattle.c_syntax.specs.Expressions.{plain_expr};
-ghost use Rattle.c_model.specs.Typing.{assign, assigned, binary, both_of, bump, cast, choice_of, compounded, either_of, in_type, in_int, is_place, literal, size_of_expression, size_of_type, unary};
+ghost use Rattle.c_syntax.specs.Expressions.{Assign, Binary, Both, Bump, Cast, Choice, Either, Node, SizeOfExpr, SizeOfType, Unary, place_of, plain_expr, plain_kind};
+ghost use Rattle.c_model.specs.Conversions.{common, is_shift, promoted};
+ghost use Rattle.c_model.specs.Typing.{assign, assigned, binary, both_of, bump, cast, choice_of, compounded, either_of, in_type, in_int, is_place, size_of_expression, size_of_type, unary};
 ghost use Rattle.c_type_rules.specs.Answers.{Answers};
+ghost use Rattle.c_type_rules.specs.Scopes.{literal_at};
 
 use crate::conversion::{
     choice_type, common, copy_type, fits, integer_of, is_assigned, is_cast, is_object_type,
@@ -14,26 +17,44 @@ use crate::conversion::{
 use crate::fault::{TypeFault, no_type};
 use c_syntax::{BinOp, BumpOp, CInt, CType, Expr, ExprKind, Place, UnOp};
 use std::alloc::{AllocError, Global};
+use std::mem::replace;
 
-/// An expression in a type: in a cast, where it has another (C99 6.3).
-pub fn in_type(alloc: Global, ctype: &CType, e: Expr) -> Result<Expr, AllocError>
-    ensures { IfOk result (λ r. plain_expr r ≡ in_type (plain_type ctype.now) (plain_expr e)) }
+/// Puts another kind in the place of one.
+pub fn put(kind: &mut ExprKind, by: ExprKind)
+    ensures { kind.new ≡ by }
+{
+    drop(replace(kind, by));
+}
+
+/// Puts a cast around an expression. Its box is there before the expression moves into it.
+fn cast_around(alloc: Global, ctype: &CType, e: &mut Expr) -> Result<(), AllocError>
+    ensures { OnOk result (plain_expr e.new ≡ Node (place_of (plain_expr e.old)) (plain_type ctype.now) (Cast (plain_type ctype.now) (plain_expr e.old))) }
+{
+    let kind = Box::new(alloc, ExprKind::Letter(0))?;
+    let place = e.place;
+    let around = Expr {
+        place,
+        kind,
+        ctype: copy_type(ctype),
+    };
+    let operand = replace(e, around);
+    put(&mut e.kind, ExprKind::Cast(copy_type(ctype), operand));
+    Ok(())
+}
+
+/// Puts an expression in a type: in a cast, where it has another (C99 6.3).
+pub fn in_type(alloc: Global, ctype: &CType, e: &mut Expr) -> Result<(), AllocError>
+    ensures { OnOk result (plain_expr e.new ≡ in_type (plain_type ctype.now) (plain_expr e.old)) }
 {
     if same_type(&e.ctype, ctype) {
-        Ok(e)
+        Ok(())
     } else {
-        let place = e.place;
-        let operand = Box::new(alloc, e)?;
-        Ok(Expr {
-            place,
-            kind: ExprKind::Cast(copy_type(ctype), operand),
-            ctype: copy_type(ctype),
-        })
+        cast_around(alloc, ctype, e)
     }
 }
 
-fn in_int(alloc: Global, k: CInt, e: Expr) -> Result<Expr, AllocError>
-    ensures { IfOk result (λ r. plain_expr r ≡ in_int k (plain_expr e)) }
+fn in_int(alloc: Global, k: CInt, e: &mut Expr) -> Result<(), AllocError>
+    ensures { OnOk result (plain_expr e.new ≡ in_int k (plain_expr e.old)) }
 {
     let ctype = CType::Int(k);
     in_type(alloc, &ctype, e)
@@ -43,126 +64,94 @@ fn in_int(alloc: Global, k: CInt, e: Expr) -> Result<Expr, AllocError>
 fn is_place(e: &Expr) -> bool
     ensures { result ≡ is_place (plain_expr e.now) }
 {
-    matches!(e.kind, ExprKind::Variable(_))
+    matches!(&*e.kind, ExprKind::Variable(_))
 }
 
 /// An integer literal has the first type that holds it (C99 6.4.4.1).
-pub fn literal(place: Place, n: i128, k: Option<CInt>) -> Result<Expr, TypeFault>
-    ensures { Answers plain_expr (literal place n k) result }
+pub fn literal(place: Place, kind: &ExprKind) -> Result<CType, TypeFault>
+    ensures { Answers (λ t. Node place (plain_type t) (plain_kind kind.now)) (literal_at place (plain_kind kind.now)) result }
 {
-    match k {
-        None => Err(no_type(place)),
-        Some(l) => {
-            if fits(l, n) {
-                Ok(Expr {
-                    place,
-                    kind: ExprKind::Number(n, Some(l)),
-                    ctype: CType::Int(l),
-                })
-            } else {
-                Err(no_type(place))
-            }
-        }
+    match kind {
+        ExprKind::Number(n, Some(k)) if fits(*k, *n) => Ok(CType::Int(*k)),
+        _ => Err(no_type(place)),
     }
 }
 
 /// Prefix operators (C99 6.5.3.3).
-pub fn unary(alloc: Global, place: Place, op: UnOp, a: Expr) -> Result<Expr, TypeFault>
-    ensures { Answers plain_expr (unary place op (plain_expr a)) result }
+pub fn unary(alloc: Global, place: Place, op: UnOp, a: &mut Expr) -> Result<CType, TypeFault>
+    ensures { Answers (λ t. Node place (plain_type t) (Unary op (plain_expr a.new))) (unary place op (plain_expr a.old)) result }
 {
     if matches!(op, UnOp::Not) {
-        if !is_scalar(&a.ctype) {
-            return Err(no_type(place));
+        if is_scalar(&a.ctype) {
+            Ok(CType::Int(CInt::I32))
+        } else {
+            Err(no_type(place))
         }
-        let a = Box::new(alloc, a)?;
-        Ok(Expr {
-            place,
-            kind: ExprKind::Unary(op, a),
-            ctype: CType::Int(CInt::I32),
-        })
     } else {
         match integer_of(&a.ctype) {
             None => Err(no_type(place)),
             Some(k) => {
-                let a = in_int(alloc, promoted(k), a)?;
-                let a = Box::new(alloc, a)?;
-                Ok(Expr {
-                    place,
-                    kind: ExprKind::Unary(op, a),
-                    ctype: CType::Int(promoted(k)),
-                })
+                in_int(alloc, promoted(k), a)?;
+                Ok(CType::Int(promoted(k)))
             }
         }
     }
 }
 
+/// The types that an operator takes its operands in: each promoted, or both in the common type.
+fn operand_types(op: BinOp, k: CInt, l: CInt) -> (CInt, CInt)
+    ensures first { result.0 ≡ cond (is_shift op) (promoted k) (common k l) }
+    ensures second { result.1 ≡ cond (is_shift op) (promoted l) (common k l) }
+{
+    if is_shift(op) {
+        (promoted(k), promoted(l))
+    } else {
+        (common(k, l), common(k, l))
+    }
+}
+
 /// Binary operators take integers (C99 6.5.5 to 6.5.12).
-pub fn binary(alloc: Global, place: Place, op: BinOp, a: Expr, b: Expr) -> Result<Expr, TypeFault>
-    ensures { Answers plain_expr (binary place op (plain_expr a) (plain_expr b)) result }
+pub fn binary(
+    alloc: Global,
+    place: Place,
+    op: BinOp,
+    a: &mut Expr,
+    b: &mut Expr,
+) -> Result<CType, TypeFault>
+    ensures { Answers (λ t. Node place (plain_type t) (Binary op (plain_expr a.new) (plain_expr b.new))) (binary place op (plain_expr a.old) (plain_expr b.old)) result }
 {
     match (integer_of(&a.ctype), integer_of(&b.ctype)) {
         (Some(k), Some(l)) => {
-            let first = if is_shift(op) {
-                promoted(k)
-            } else {
-                common(k, l)
-            };
-            let second = if is_shift(op) {
-                promoted(l)
-            } else {
-                common(k, l)
-            };
-            let a = in_int(alloc, first, a)?;
-            let b = in_int(alloc, second, b)?;
-            let a = Box::new(alloc, a)?;
-            let b = Box::new(alloc, b)?;
-            Ok(Expr {
-                place,
-                kind: ExprKind::Binary(op, a, b),
-                ctype: CType::Int(result_type(op, k, l)),
-            })
+            let (first, second) = operand_types(op, k, l);
+            in_int(alloc, first, a)?;
+            in_int(alloc, second, b)?;
+            Ok(CType::Int(result_type(op, k, l)))
         }
         (None, _) | (Some(_), None) => Err(no_type(place)),
     }
 }
 
-/// `a && b` (C99 6.5.13).
-pub fn both_of(alloc: Global, place: Place, a: Expr, b: Expr) -> Result<Expr, TypeFault>
-    ensures { Answers plain_expr (both_of place (plain_expr a) (plain_expr b)) result }
+/// `a && b` and `a || b` (C99 6.5.13, 6.5.14).
+pub fn truth_of(place: Place, a: &Expr, b: &Expr) -> Result<CType, TypeFault>
+    ensures both { Answers (λ t. Node place (plain_type t) (Both (plain_expr a.now) (plain_expr b.now))) (both_of place (plain_expr a.now) (plain_expr b.now)) result }
+    ensures either { Answers (λ t. Node place (plain_type t) (Either (plain_expr a.now) (plain_expr b.now))) (either_of place (plain_expr a.now) (plain_expr b.now)) result }
 {
     if is_scalar(&a.ctype) && is_scalar(&b.ctype) {
-        let a = Box::new(alloc, a)?;
-        let b = Box::new(alloc, b)?;
-        Ok(Expr {
-            place,
-            kind: ExprKind::Both(a, b),
-            ctype: CType::Int(CInt::I32),
-        })
-    } else {
-        Err(no_type(place))
-    }
-}
-
-/// `a || b` (C99 6.5.14).
-pub fn either_of(alloc: Global, place: Place, a: Expr, b: Expr) -> Result<Expr, TypeFault>
-    ensures { Answers plain_expr (either_of place (plain_expr a) (plain_expr b)) result }
-{
-    if is_scalar(&a.ctype) && is_scalar(&b.ctype) {
-        let a = Box::new(alloc, a)?;
-        let b = Box::new(alloc, b)?;
-        Ok(Expr {
-            place,
-            kind: ExprKind::Either(a, b),
-            ctype: CType::Int(CInt::I32),
-        })
+        Ok(CType::Int(CInt::I32))
     } else {
         Err(no_type(place))
     }
 }
 
 /// `a ? b : c` (C99 6.5.15).
-pub fn choice_of(alloc: Global, place: Place, a: Expr, b: Expr, c: Expr) -> Result<Expr, TypeFault>
-    ensures { Answers plain_expr (choice_of place (plain_expr a) (plain_expr b) (plain_expr c)) result }
+pub fn choice_of(
+    alloc: Global,
+    place: Place,
+    a: &Expr,
+    b: &mut Expr,
+    c: &mut Expr,
+) -> Result<CType, TypeFault>
+    ensures { Answers (λ t. Node place (plain_type t) (Choice (plain_expr a.now) (plain_expr b.new) (plain_expr c.new))) (choice_of place (plain_expr a.now) (plain_expr b.old) (plain_expr c.old)) result }
 {
     if !is_scalar(&a.ctype) {
         return Err(no_type(place));
@@ -170,52 +159,31 @@ pub fn choice_of(alloc: Global, place: Place, a: Expr, b: Expr, c: Expr) -> Resu
     match choice_type(&b.ctype, &c.ctype) {
         None => Err(no_type(place)),
         Some(ctype) => {
-            let b = in_type(alloc, &ctype, b)?;
-            let c = in_type(alloc, &ctype, c)?;
-            let a = Box::new(alloc, a)?;
-            let b = Box::new(alloc, b)?;
-            let c = Box::new(alloc, c)?;
-            Ok(Expr {
-                place,
-                kind: ExprKind::Choice(a, b, c),
-                ctype,
-            })
+            in_type(alloc, &ctype, b)?;
+            in_type(alloc, &ctype, c)?;
+            Ok(ctype)
         }
     }
 }
 
 /// `a = b` (C99 6.5.16.1).
-fn assigned(alloc: Global, place: Place, a: Expr, b: Expr) -> Result<Expr, TypeFault>
-    ensures { Answers plain_expr (assigned place (plain_expr a) (plain_expr b)) result }
+fn assigned(alloc: Global, place: Place, a: &Expr, b: &mut Expr) -> Result<CType, TypeFault>
+    ensures { Answers (λ t. Node place (plain_type t) (Assign None (plain_expr a.now) (plain_expr b.new))) (assigned place (plain_expr a.now) (plain_expr b.old)) result }
 {
-    if is_place(&a) && is_assigned(&b.ctype, &a.ctype) {
-        let ctype = copy_type(&a.ctype);
-        let b = in_type(alloc, &ctype, b)?;
-        let a = Box::new(alloc, a)?;
-        let b = Box::new(alloc, b)?;
-        Ok(Expr {
-            place,
-            kind: ExprKind::Assign(None, a, b),
-            ctype,
-        })
+    if is_place(a) && is_assigned(&b.ctype, &a.ctype) {
+        in_type(alloc, &a.ctype, b)?;
+        Ok(copy_type(&a.ctype))
     } else {
         Err(no_type(place))
     }
 }
 
 /// `a op= b` (C99 6.5.16.2).
-fn compounded(alloc: Global, place: Place, op: BinOp, a: Expr, b: Expr) -> Result<Expr, TypeFault>
-    ensures { Answers plain_expr (compounded place op (plain_expr a) (plain_expr b)) result }
+fn compounded(place: Place, op: BinOp, a: &Expr, b: &Expr) -> Result<CType, TypeFault>
+    ensures { Answers (λ t. Node place (plain_type t) (Assign (Some op) (plain_expr a.now) (plain_expr b.now))) (compounded place op (plain_expr a.now) (plain_expr b.now)) result }
 {
-    if is_place(&a) && integer_of(&a.ctype).is_some() && integer_of(&b.ctype).is_some() {
-        let ctype = copy_type(&a.ctype);
-        let a = Box::new(alloc, a)?;
-        let b = Box::new(alloc, b)?;
-        Ok(Expr {
-            place,
-            kind: ExprKind::Assign(Some(op), a, b),
-            ctype,
-        })
+    if is_place(a) && integer_of(&a.ctype).is_some() && integer_of(&b.ctype).is_some() {
+        Ok(copy_type(&a.ctype))
     } else {
         Err(no_type(place))
     }
@@ -226,46 +194,34 @@ pub fn assign(
     alloc: Global,
     place: Place,
     op: Option<BinOp>,
-    a: Expr,
-    b: Expr,
-) -> Result<Expr, TypeFault>
-    ensures { Answers plain_expr (assign place op (plain_expr a) (plain_expr b)) result }
+    a: &Expr,
+    b: &mut Expr,
+) -> Result<CType, TypeFault>
+    ensures { Answers (λ t. Node place (plain_type t) (Assign op (plain_expr a.now) (plain_expr b.new))) (assign place op (plain_expr a.now) (plain_expr b.old)) result }
 {
     match op {
         None => assigned(alloc, place, a, b),
-        Some(op) => compounded(alloc, place, op, a, b),
+        Some(op) => compounded(place, op, a, b),
     }
 }
 
 /// `++` and `--` (C99 6.5.2.4, 6.5.3.1).
-pub fn bump(alloc: Global, place: Place, op: BumpOp, a: Expr) -> Result<Expr, TypeFault>
-    ensures { Answers plain_expr (bump place op (plain_expr a)) result }
+pub fn bump(place: Place, _op: BumpOp, a: &Expr) -> Result<CType, TypeFault>
+    ensures { Answers (λ t. Node place (plain_type t) (Bump _op (plain_expr a.now))) (bump place _op (plain_expr a.now)) result }
 {
-    if is_place(&a) && integer_of(&a.ctype).is_some() {
-        let ctype = copy_type(&a.ctype);
-        let a = Box::new(alloc, a)?;
-        Ok(Expr {
-            place,
-            kind: ExprKind::Bump(op, a),
-            ctype,
-        })
+    if is_place(a) && integer_of(&a.ctype).is_some() {
+        Ok(copy_type(&a.ctype))
     } else {
         Err(no_type(place))
     }
 }
 
 /// Casts (C99 6.5.4).
-pub fn cast(alloc: Global, place: Place, to: CType, a: Expr) -> Result<Expr, TypeFault>
-    ensures { Answers plain_expr (cast place (plain_type to) (plain_expr a)) result }
+pub fn cast(place: Place, to: &CType, a: &Expr) -> Result<CType, TypeFault>
+    ensures { Answers (λ t. Node place (plain_type t) (Cast (plain_type to.now) (plain_expr a.now))) (cast place (plain_type to.now) (plain_expr a.now)) result }
 {
-    if is_cast(&a.ctype, &to) {
-        let ctype = copy_type(&to);
-        let a = Box::new(alloc, a)?;
-        Ok(Expr {
-            place,
-            kind: ExprKind::Cast(to, a),
-            ctype,
-        })
+    if is_cast(&a.ctype, to) {
+        Ok(copy_type(to))
     } else {
         Err(no_type(place))
     }
@@ -279,31 +235,22 @@ fn size_type() -> CType
 }
 
 /// `sizeof` of a type that has a size (C99 6.5.3.4).
-pub fn size_of_type(place: Place, t: CType) -> Result<Expr, TypeFault>
-    ensures { Answers plain_expr (size_of_type place (plain_type t)) result }
+pub fn size_of_type(place: Place, u: &CType) -> Result<CType, TypeFault>
+    ensures { Answers (λ t. Node place (plain_type t) (SizeOfType (plain_type u.now))) (size_of_type place (plain_type u.now)) result }
 {
-    if is_object_type(&t) {
-        Ok(Expr {
-            place,
-            kind: ExprKind::SizeOfType(t),
-            ctype: size_type(),
-        })
+    if is_object_type(u) {
+        Ok(size_type())
     } else {
         Err(no_type(place))
     }
 }
 
 /// `sizeof` of an expression that has a size (C99 6.5.3.4).
-pub fn size_of_expression(alloc: Global, place: Place, a: Expr) -> Result<Expr, TypeFault>
-    ensures { Answers plain_expr (size_of_expression place (plain_expr a)) result }
+pub fn size_of_expression(place: Place, a: &Expr) -> Result<CType, TypeFault>
+    ensures { Answers (λ t. Node place (plain_type t) (SizeOfExpr (plain_expr a.now))) (size_of_expression place (plain_expr a.now)) result }
 {
     if is_object_type(&a.ctype) {
-        let a = Box::new(alloc, a)?;
-        Ok(Expr {
-            place,
-            kind: ExprKind::SizeOfExpr(a),
-            ctype: size_type(),
-        })
+        Ok(size_type())
     } else {
         Err(no_type(place))
     }

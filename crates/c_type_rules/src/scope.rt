@@ -1,14 +1,12 @@
 //! What is in sight (C99 6.2.1).
 
-ghost use Rattle.std.specs.Prelude.{◌≡◌, IfOk, drop, length, map, option_map};
-ghost use Rattle.c_syntax.specs.Ctypes.{plain_type};
+ghost use Rattle.std.specs.Prelude.{◌≡◌, drop, length, map, option_map};
 ghost use Rattle.c_model.specs.Library.{is_there};
-ghost use Rattle.c_model.specs.Typing.{function_called, inner, name_at, object_named};
-ghost use Rattle.c_type_rules.specs.Scopes.{left, plain_object, plain_scopes, plain_signature};
+ghost use Rattle.c_model.specs.Typing.{inner, name_at, object_named};
+ghost use Rattle.c_type_rules.specs.Scopes.{left, plain_object, plain_scopes};
 
-use crate::conversion::copy_type;
+use crate::signature::Functions;
 use c_syntax::{CType, Name};
-use std::alloc::{AllocError, Global};
 
 /// An object, by its name and the number of its declaration.
 #[derive(Drop)]
@@ -18,24 +16,12 @@ pub struct Object {
     pub ctype: CType,
 }
 
-/// A declaration of a function: its name, and the number of the definition, or of the first prototype where the file has no
-/// definition.
-#[derive(Drop)]
-pub struct Signature {
-    pub name: u32,
-    pub decl: u32,
-    /// Whether the file defines the function.
-    pub defined: bool,
-    pub params: Vec<CType>,
-    pub result: CType,
-}
-
 /// The names of the text, the functions that are declared so far, and the visible objects: the newest last, those of the
 /// innermost scope from `innermost` on.
 #[derive(Drop)]
 pub struct Scopes {
     pub names: Vec<Name>,
-    pub functions: Vec<Signature>,
+    pub functions: Functions,
     pub objects: Vec<Object>,
     pub innermost: usize,
 }
@@ -70,18 +56,6 @@ pub fn object_named(objects: &[Object], name: u32) -> Option<&Object>
     found
 }
 
-/// The first declaration of a function.
-pub fn function_called(functions: &[Signature], name: u32) -> Option<&Signature>
-    ensures { option_map (λ f. plain_signature f.now) result ≡ function_called name (map plain_signature functions.now) }
-{
-    for function in functions {
-        if function.name == name {
-            return Some(function);
-        }
-    }
-    None
-}
-
 /// Whether the scope that begins there declares a name.
 pub fn is_declared(objects: &[Object], innermost: usize, name: u32) -> bool
     ensures { result ≡ is_there (object_named name (drop innermost (map plain_object objects.now))) }
@@ -90,30 +64,6 @@ pub fn is_declared(objects: &[Object], innermost: usize, name: u32) -> bool
         None => false,
         Some(part) => object_named(part, name).is_some(),
     }
-}
-
-/// A copy of types.
-fn copy_types(alloc: Global, types: &[CType]) -> Result<Vec<CType>, AllocError>
-    ensures { IfOk result (λ copy. map plain_type copy.items ≡ map plain_type types.now) }
-{
-    let mut copy = Vec::new(alloc);
-    for t in types {
-        copy.push(copy_type(t))?;
-    }
-    Ok(copy)
-}
-
-/// A copy of a signature.
-pub fn copy_signature(alloc: Global, f: &Signature) -> Result<Signature, AllocError>
-    ensures { IfOk result (λ copy. plain_signature copy ≡ plain_signature f.now) }
-{
-    Ok(Signature {
-        name: f.name,
-        decl: f.decl,
-        defined: f.defined,
-        params: copy_types(alloc, &f.params)?,
-        result: copy_type(&f.result),
-    })
 }
 
 /// What is around a block that begins here.

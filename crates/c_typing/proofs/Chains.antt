@@ -1,23 +1,25 @@
 -- Chains of relations, and annotations one after another.
-use Rattle.std.proofs.Common.{◌≡◌, List, [], ◌∷◌, ◌++◌, refl, sym, ap, ◌∙◌, subst, append_assoc, map, Result, Ok, Err}
+use Rattle.std.proofs.Common.{◌≡◌, List, [], ◌∷◌, ◌++◌, refl, sym, ap, ◌∙◌, subst, append_assoc, map, Result, option_map}
 use Rattle.std.specs.Prelude.{Vec}
 use Rattle.std.specs.declared.alloc.Global.{Global}
 use Rattle.c_syntax.specs.declared.annotation.Annot.{Annot}
 use Rattle.c_syntax.specs.declared.annotation.Link.{Link}
 use Rattle.c_syntax.specs.declared.annotation.Term.{Term}
-use Rattle.c_syntax.specs.declared.annotation.TermKind.{TermKind}
+use Rattle.c_syntax.specs.declared.annotation.TermKind as term
+use Rattle.c_syntax.specs.declared.expression.BinOp.{BinOp}
 use Rattle.c_syntax.specs.declared.annotation.Body.{Body}
 use Rattle.c_syntax.specs.declared.annotation.Pred.{Pred}
+use Rattle.c_syntax.specs.declared.annotation.PredKind.{PredKind}
 use Rattle.c_syntax.specs.declared.annotation.PredKind.TheVariants as code
-use Rattle.c_syntax.specs.Annotations.{LogicTerm, Chain, Links, NoLink, Linked, Annotation, plain_pred, plain_pred_kind, plain_body, plain_term, plain_links, plain_annot}
+use Rattle.c_syntax.specs.Ctypes.{plain_type}
+use Rattle.c_syntax.specs.Annotations.{LogicTerm, Binary, Chain, Links, NoLink, Linked, Annotation, plain_pred, plain_pred_kind, plain_body, plain_term, plain_term_kind, plain_links, plain_annot}
 use Rattle.c_model.specs.Checked.{Checked, Good, Bad, one_part, both_parts}
 use Rattle.c_model.specs.Typing.{Scopes}
 use Rattle.c_model.specs.ProgramTyping.{typed_term, typed_links, typed_predicate, typed_annotations, typed_clause}
 use Rattle.c_type_rules.specs.declared.fault.TypeFault.{TypeFault}
-use Rattle.c_type_rules.specs.declared.fault.TypeFault.TheVariants.{Refused, Memory}
-use Rattle.c_type_rules.specs.Answers.{Answers, Joined, Pushed}
-use Rattle.c_typing.specs.Trees.{plain_link, plain_chain}
-use Rattle.c_type_rules.proofs.Least.{both_refused}
+use Rattle.c_type_rules.specs.Answers.{Answers, both}
+use Rattle.c_typing.specs.Trees.{plain_link}
+use Rattle.c_type_rules.proofs.Least.{both_made}
 use Rattle.c_typing.proofs.Lists.{behind_parts, list_more}
 
 abbrev join : Links → Links → Links
@@ -54,30 +56,43 @@ plain_snoc : (xs : List Link) (l : Link) → plain_links (xs ++ l ∷ []) ≡ jo
 plain_snoc [] l = refl
 plain_snoc (x ∷ xs) l = ap (Linked x.place x.relation (plain_term x.term)) (plain_snoc xs l)
 
-module _ (s : Scopes) (xs : List Link) (l : Link)
-  where
-    -- one more step is typed
-    pub links_more : (d : Result (Vec Link Global) TypeFault) (r : Result Link TypeFault) (t : Result (Vec Link Global × Link) TypeFault) (d' : Result (Vec Link Global) TypeFault) → Answers plain_chain (typed_links s (plain_links xs)) d → Answers plain_link (link_checked s l) r → Joined d r t → Pushed t d' → Answers plain_chain (typed_links s (plain_links (xs ++ l ∷ []))) d'
-    links_more d r (Ok p) (Ok v) hd hr j q =
-        links_snoc s xs l
-        ∙ ap (λ c. both_parts c (link_checked s l) (λ ls m. Good (join ls m))) (subst (Answers plain_chain (typed_links s (plain_links xs))) j.0 hd)
-        ∙ ap (λ c. both_parts (Good (plain_links p.0.items)) c (λ ls m. Good (join ls m))) (subst (Answers plain_link (link_checked s l)) j.1 hr)
-        ∙ ap Good (sym (ap plain_links q ∙ plain_snoc p.0.items p.1))
-    links_more d r (Ok p) (Err (Refused f)) hd hr j q = absurd q
-    links_more d r (Ok p) (Err Memory) hd hr j q = tt
-    links_more d r (Err h) (Ok v) hd hr j q = absurd q
-    links_more d r (Err h) (Err h') hd hr j q =
-        subst (λ c. Answers plain_chain c (Err h')) (sym (links_snoc s xs l))
-        (subst (λ x. Answers plain_chain (both_parts (typed_links s (plain_links xs)) (link_checked s l) (λ ls m. Good (join ls m))) (Err x)) (sym q)
-        (both_refused (λ ls m. Good (join ls m)) plain_chain plain_link plain_chain (typed_links s (plain_links xs)) (link_checked s l) d r h hd hr j))
+-- an operator's term, whose parts are typed in their places
+pub binary_in_place : (s : Scopes) (t : Term) (op : BinOp) (a b a' b' : Term) (q r z : Result (Unit {0}) TypeFault) → t.kind.value ≡ term.Binary op a b → Answers (λ (u : Unit {0}). plain_term a') (typed_term s (plain_term a)) q → Answers (λ (u : Unit {0}). plain_term b') (typed_term s (plain_term b)) r
+    → z ≡ both q r → Answers (λ (u : Unit {0}). Binary t.place (option_map plain_type t.ctype) t.range op (plain_term a') (plain_term b')) (typed_term s (plain_term t)) z
+binary_in_place s t op a b a' b' q r z is ha hb j =
+    subst (λ x. Answers (λ (u : Unit {0}). Binary t.place (option_map plain_type t.ctype) t.range op (plain_term a') (plain_term b')) (typed_term s (plain_term_kind t.place x (option_map plain_type t.ctype) t.range)) z) (sym is)
+    (both_made (Binary t.place (option_map plain_type t.ctype) t.range op) (λ (u : Unit {0}). plain_term a') (λ (u : Unit {0}). plain_term b') (typed_term s (plain_term a)) (typed_term s (plain_term b)) q r z ha hb (sym j))
 
--- a term at a known variant
-pub term_at : (s : Scopes) (t : Term) (k : TermKind) (r : Result Term TypeFault) → t.kind ≡ k → Answers plain_term (typed_term s (plain_term (record t { kind = k }))) r → Answers plain_term (typed_term s (plain_term t)) r
-term_at s t k r is h = subst (λ x. Answers plain_term (typed_term s (plain_term (record t { kind = x }))) r) (sym is) h
+-- the terms of a predicate
+pub record ChainOf (k : PredKind) : Type 0 where
+  pub term : Term
+  pub links : Vec Link Global
+  pub is : k ≡ code.Chain term links
 
--- a predicate at its chain
-pub predicate_at : (s : Scopes) (p : Pred) (t : Term) (links : Vec Link Global) (r : Result Pred TypeFault) → p.kind ≡ code.Chain t links → Answers plain_pred (both_parts (typed_term s (plain_term t)) (typed_links s (plain_links links.items)) (λ t links. Good (Chain p.place t links))) r → Answers plain_pred (typed_predicate s (plain_pred p)) r
-predicate_at s p t links r is h = subst (λ k. Answers plain_pred (typed_predicate s (plain_pred_kind p.place k)) r) (sym is) h
+pub chain_of : (k : PredKind) → ChainOf k
+chain_of (code.Chain t links) = record { term = t; links = links; is = refl }
+
+-- a predicate, whose terms are typed in their places
+pub chain_in_place : (s : Scopes) (p : Pred) (t t' : Term) (links links' : Vec Link Global) (q r z : Result (Unit {0}) TypeFault) → p.kind.value ≡ code.Chain t links → Answers (λ (u : Unit {0}). plain_term t') (typed_term s (plain_term t)) q
+    → Answers (λ (u : Unit {0}). plain_links links'.items) (typed_links s (plain_links links.items)) r → z ≡ both q r → Answers (λ (u : Unit {0}). Chain p.place (plain_term t') (plain_links links'.items)) (typed_predicate s (plain_pred p)) z
+chain_in_place s p t t' links links' q r z is ha hb j =
+    subst (λ k. Answers (λ (u : Unit {0}). Chain p.place (plain_term t') (plain_links links'.items)) (typed_predicate s (plain_pred_kind p.place k)) z) (sym is)
+    (both_made (Chain p.place) (λ (u : Unit {0}). plain_term t') (λ (u : Unit {0}). plain_links links'.items) (typed_term s (plain_term t)) (typed_links s (plain_links links.items)) q r z ha hb (sym j))
+
+-- one more step is typed
+pub links_more : (s : Scopes) (xs ys : List Link) (x y : Link) (d r : Result (Unit {0}) TypeFault) → Answers (λ (u : Unit {0}). plain_links ys) (typed_links s (plain_links xs)) d → Answers (λ (u : Unit {0}). plain_link y) (link_checked s x) r
+    → Answers (λ (u : Unit {0}). plain_links (ys ++ y ∷ [])) (typed_links s (plain_links (xs ++ x ∷ []))) (both d r)
+links_more s xs ys x y d r hd hr =
+    subst (λ c. Answers (λ (u : Unit {0}). plain_links (ys ++ y ∷ [])) c (both d r)) (sym (links_snoc s xs x))
+    (subst (λ ls. Answers (λ (u : Unit {0}). ls) (both_parts (typed_links s (plain_links xs)) (link_checked s x) (λ ls m. Good (join ls m))) (both d r)) (sym (plain_snoc ys y))
+    (both_made join (λ (u : Unit {0}). plain_links ys) (λ (u : Unit {0}). plain_link y) (typed_links s (plain_links xs)) (link_checked s x) d r (both d r) hd hr refl))
+
+pub links_step : (s : Scopes) (xs xs' ys ys' : List Link) (x y : Link) (d r : Result (Unit {0}) TypeFault) → xs' ≡ xs ++ x ∷ [] → ys' ≡ ys ++ y ∷ [] → Answers (λ (u : Unit {0}). plain_links ys) (typed_links s (plain_links xs)) d → Answers (λ (u : Unit {0}). plain_link y) (link_checked s x) r
+    → Answers (λ (u : Unit {0}). plain_links ys') (typed_links s (plain_links xs')) (both d r)
+links_step s xs xs' ys ys' x y d r ex ey hd hr =
+    subst (λ zs. Answers (λ (u : Unit {0}). plain_links zs) (typed_links s (plain_links xs')) (both d r)) (sym ey)
+    (subst (λ zs. Answers (λ (u : Unit {0}). plain_links (ys ++ y ∷ [])) (typed_links s (plain_links zs)) (both d r)) (sym ex)
+    (links_more s xs ys x y d r hd hr))
 
 -- one more annotation is typed
 pub annotations_more : (s : Scopes) (all : List Annotation) (list done done' : List Annot) (a : Annot) (body : Body) (rest : List Annot) → typed_annotations s all ≡ behind_parts (map plain_annot done) (typed_annotations s (map plain_annot list)) → list ≡ a ∷ rest → typed_clause s (plain_body a.body) ≡ Good (plain_body body) → done' ≡ done ++ record a { body = body } ∷ [] → typed_annotations s all ≡ behind_parts (map plain_annot done') (typed_annotations s (map plain_annot rest))

@@ -1,24 +1,21 @@
 -- Functions one after another are those that the definition of a file types.
 use Rattle.std.proofs.Common.{◌≡◌, ℕ, refl, sym, ap, ◌∙◌, subst, List, [], ◌∷◌, ◌++◌, append_assoc, map, Option, Bool, true, false, not, ◌&&◌, cond, Result, Ok, Err}
-use Rattle.std.specs.Prelude.{Vec}
-use Rattle.std.specs.declared.alloc.Global.{Global}
 use Rattle.std.proofs.lemmas.List.{append-nil, map-append}
 use Rattle.c_syntax.specs.declared.program.Func.{Func}
 use Rattle.c_syntax.specs.Statements.{Declaration, Statement}
 use Rattle.c_syntax.specs.Programs.{Function, TranslationUnit, plain_func}
 use Rattle.c_model.specs.Library.{is_library_name}
 use Rattle.c_model.specs.Checked.{Checked, Good, Bad, one_part, both_parts, where_so}
-use Rattle.c_model.specs.Typing.{no_name, no_type, Scopes, name_at, is_object_type, declarable}
+use Rattle.c_model.specs.Typing.{no_name, no_type, Scopes, function_called, name_at, is_object_type, declarable}
 use Rattle.c_model.specs.ProgramTyping.{signature, is_compatible_with_all, typed_parameter, with_parameter, with_parameters, typed_parameters, function_scopes, typed_body, typed_function, typed_functions, noted_body, noted_functions}
 use Rattle.c_type_rules.specs.declared.fault.TypeFault.{TypeFault}
-use Rattle.c_type_rules.specs.declared.fault.TypeFault.TheVariants.{Refused, Memory}
-use Rattle.c_type_rules.specs.Answers.{Answers, Joined, Pushed}
+use Rattle.c_type_rules.specs.Answers.{Answers, both}
 use Rattle.c_type_rules.proofs.Gives.{Gives, gives_where}
-use Rattle.c_type_rules.proofs.Least.{one_refused, one_then, both_refused}
+use Rattle.c_type_rules.proofs.Least.{both_made, one_refused, one_then}
 use Rattle.c_typing.specs.declared.heading.Callee.{Callee}
+use Rattle.c_typing.specs.declared.heading.Noted.{Noted}
 use Rattle.c_typing.specs.Functions.{AnswersBehind, denoted, known, with_known, checked_heading, with_function, checked_parameters, checked_parts, file_of, typed_file, noted_parts, noted_in_turn}
 use Rattle.c_typing.specs.Scopes.{at_file}
-use Rattle.c_typing.specs.Trees.{plain_funcs}
 use Rattle.c_typing.proofs.Headings.{declared_is, known_snoc, fits_is}
 
 -- ---- parameters
@@ -117,9 +114,9 @@ functions_snoc p before (f ∷ fs) all g is =
     ∙ in_turn (typed_function (function_scopes p before f) before f) (typed_functions p (before ++ f ∷ []) fs) (typed_function (function_scopes p all g) all g)
 
 -- a function whose heading is found to be this
-heading_then : (m : Checked (Unit {0})) (c : Checked Function) (h : Result (Unit {0}) TypeFault) (r : Result Func TypeFault) → Answers (λ u. tt) m h → AnswersBehind h c r → Answers plain_func (one_part m (λ u. c)) r
-heading_then m c (Ok u) r is a = one_then (λ u. c) (λ (u : Unit {0}). tt) plain_func m u r is a
-heading_then m c (Err e) r is a = subst (Answers plain_func (one_part m (λ u. c))) (sym a) (one_refused (λ u. c) (λ (u : Unit {0}). tt) plain_func m e is)
+heading_then : (p : Unit {0} → Function) (m : Checked (Unit {0})) (c : Checked Function) (h r : Result (Unit {0}) TypeFault) → Answers (λ u. tt) m h → AnswersBehind h p c r → Answers p (one_part m (λ u. c)) r
+heading_then p m c (Ok u) r is a = one_then (λ u. c) (λ (u : Unit {0}). tt) p m u r is a
+heading_then p m c (Err e) r is a = subst (Answers p (one_part m (λ u. c))) (sym a) (one_refused (λ u. c) (λ (u : Unit {0}). tt) p m e is)
 
 -- a function behind others, as the definition has it
 function_is : (p : TranslationUnit) (before rest : List Function) (f : Function) → p.funcs ≡ before ++ f ∷ rest
@@ -131,19 +128,6 @@ function_is p before rest f is =
     by : (b : Bool) → one_part {A = Unit {0}} (where_so b (no_name f.place) (Good tt)) (λ u. checked_parts (function_scopes p before f) f) ≡ one_part (where_so b (no_name f.place) (Good f)) (typed_parts (function_scopes p before f))
     by true = parts_are (function_scopes p before f) f
     by false = refl
-
--- what is joined of functions, and one more
-joined : (whole m : Checked (List Function)) (c : Checked Function) (done done' : Result (Vec Func Global) TypeFault) (r : Result Func TypeFault) (two : Result (Vec Func Global × Func) TypeFault)
-    → whole ≡ both_parts m c (λ ts t. Good (ts ++ t ∷ [])) → Answers plain_funcs m done → Answers plain_func c r → Joined done r two → Pushed two done' → Answers plain_funcs whole done'
-joined whole m c d (Ok v) r (Ok p) is hd hr j q =
-    is ∙ ap (λ m. both_parts m c (λ ts t. Good (ts ++ t ∷ []))) (subst (Answers plain_funcs m) j.0 hd) ∙ ap (λ c. both_parts (Good (plain_funcs p.0)) c (λ ts t. Good (ts ++ t ∷ []))) (subst (Answers plain_func c) j.1 hr)
-    ∙ ap Good (sym (ap (map plain_func) q ∙ map-append plain_func p.0.items (p.1 ∷ [])))
-joined whole m c d (Err (Refused f)) r (Ok p) is hd hr j q = absurd q
-joined whole m c d (Err Memory) r (Ok p) is hd hr j q = tt
-joined whole m c d (Ok v) r (Err h) is hd hr j q = absurd q
-joined whole m c d (Err e) r (Err h) is hd hr j q =
-    subst (λ w. Answers plain_funcs w (Err e)) (sym is) (subst (λ x. Answers plain_funcs (both_parts m c (λ ts t. Good (ts ++ t ∷ []))) (Err x)) (sym q)
-    (both_refused (λ ts t. Good (ts ++ t ∷ [])) plain_funcs plain_func plain_funcs m c d r h hd hr j))
 
 module _ (p : TranslationUnit) (xs : List Func) (f : Func) (rest : List Func) (all : p.funcs ≡ map plain_func (xs ++ f ∷ rest))
   where
@@ -160,22 +144,34 @@ module _ (p : TranslationUnit) (xs : List Func) (f : Func) (rest : List Func) (a
         ∙ ap (λ fs. behind_functions p fs) (sym (map-append plain_func xs (f ∷ [])))
 
     -- which names are declared
-    pub names_more : (ns ns' : ℕ → Option Bool) → ((x : ℕ) → ns x ≡ known those_before x) → ((x : ℕ) → ns' x ≡ with_known ns (plain_func f) x) → (x : ℕ) → ns' x ≡ known (map plain_func (xs ++ f ∷ [])) x
-    names_more ns ns' is notes x =
-        notes x ∙ (λ i. with_known (λ x. is x i) (plain_func f) x) ∙ known_snoc those_before (plain_func f) x ∙ ap (λ fs. known fs x) (sym (map-append plain_func xs (f ∷ [])))
+    pub names_more : (ns ns' : ℕ → Option Noted) (s : Scopes) → ((x : ℕ) → ns x ≡ known those_before x) → s ≡ behind_functions p those_before → ((x : ℕ) → ns' x ≡ with_known (function_called f.name s.functions) ns (plain_func f) x)
+        → (x : ℕ) → ns' x ≡ known (map plain_func (xs ++ f ∷ [])) x
+    names_more ns ns' s is sees notes x =
+        notes x ∙ (λ i. with_known (function_called f.name (sees i).functions) (λ x. is x i) (plain_func f) x) ∙ known_snoc p.funcs (plain_func f) those_before x ∙ ap (λ fs. known fs x) (sym (map-append plain_func xs (f ∷ [])))
 
     -- what is found of one more function
-    pub functions_more : (ds : ℕ → Option Callee) (ns : ℕ → Option Bool) (s s' : Scopes) (h : Result (Unit {0}) TypeFault) (r : Result Func TypeFault) (done done' : Result (Vec Func Global) TypeFault) (two : Result (Vec Func Global × Func) TypeFault)
+    pub functions_more : (ds : ℕ → Option Callee) (ns : ℕ → Option Noted) (s s' : Scopes) (h r done : Result (Unit {0}) TypeFault) (ys : List Func) (y : Func)
         → ((x : ℕ) → ds x ≡ denoted p.funcs x) → ((x : ℕ) → ns x ≡ known those_before x) → s ≡ behind_functions p those_before → s' ≡ with_function ds s (plain_func f)
-        → Answers (λ u. tt) (checked_heading s ns (plain_func f)) h → AnswersBehind h (checked_parts s' (plain_func f)) r → Joined done r two → Pushed two done'
-        → Answers plain_funcs (typed_functions p [] those_before) done → Answers plain_funcs (typed_functions p [] (map plain_func (xs ++ f ∷ []))) done'
-    functions_more ds ns s s' h r done done' two told names is sees head parts j q so_far =
+        → Answers (λ u. tt) (checked_heading s ns (plain_func f)) h → AnswersBehind h (λ u. plain_func y) (checked_parts s' (plain_func f)) r
+        → Answers (λ (u : Unit {0}). map plain_func ys) (typed_functions p [] those_before) done → Answers (λ (u : Unit {0}). map plain_func (ys ++ y ∷ [])) (typed_functions p [] (map plain_func (xs ++ f ∷ []))) (both done r)
+    functions_more ds ns s s' h r done ys y told names is sees head parts so_far =
         let here : one_part (checked_heading s ns (plain_func f)) (λ u. checked_parts s' (plain_func f)) ≡ typed_function (function_scopes p those_before (plain_func f)) those_before (plain_func f) =
         (λ i. one_part (checked_heading (is i) (λ x. names x i) (plain_func f)) (λ u. checked_parts ((sees ∙ (λ j. with_function (λ x. told x j) (is j) (plain_func f))) i) (plain_func f)))
         ∙ function_is p those_before (map plain_func rest) (plain_func f) in_order in
-        joined (typed_functions p [] (map plain_func (xs ++ f ∷ []))) (typed_functions p [] those_before) (typed_function (function_scopes p those_before (plain_func f)) those_before (plain_func f)) done done' r two
-        (ap (typed_functions p []) (map-append plain_func xs (f ∷ [])) ∙ functions_snoc p [] those_before those_before (plain_func f) refl) so_far
-        (subst (λ c. Answers plain_func c r) here (heading_then (checked_heading s ns (plain_func f)) (checked_parts s' (plain_func f)) h r head parts)) j q
+        let one : Answers (λ (u : Unit {0}). plain_func y) (typed_function (function_scopes p those_before (plain_func f)) those_before (plain_func f)) r =
+        subst (λ c. Answers (λ (u : Unit {0}). plain_func y) c r) here (heading_then (λ (u : Unit {0}). plain_func y) (checked_heading s ns (plain_func f)) (checked_parts s' (plain_func f)) h r head parts) in
+        subst (λ c. Answers (λ (u : Unit {0}). map plain_func (ys ++ y ∷ [])) c (both done r)) (sym (ap (typed_functions p []) (map-append plain_func xs (f ∷ [])) ∙ functions_snoc p [] those_before those_before (plain_func f) refl))
+        (subst (λ fs. Answers (λ (u : Unit {0}). fs) (both_parts (typed_functions p [] those_before) (typed_function (function_scopes p those_before (plain_func f)) those_before (plain_func f)) (λ ts t. Good (ts ++ t ∷ []))) (both done r)) (sym (map-append plain_func ys (y ∷ [])))
+        (both_made (λ ts t. ts ++ t ∷ []) (λ (u : Unit {0}). map plain_func ys) (λ (u : Unit {0}). plain_func y) (typed_functions p [] those_before) (typed_function (function_scopes p those_before (plain_func f)) those_before (plain_func f)) done r (both done r) so_far one refl))
+
+    pub functions_step : (xs' : List Func) → xs' ≡ xs ++ f ∷ [] → (ds : ℕ → Option Callee) (ns : ℕ → Option Noted) (s s' : Scopes) (h r done : Result (Unit {0}) TypeFault) (ys ys' : List Func) (y : Func) → ys' ≡ ys ++ y ∷ []
+        → ((x : ℕ) → ds x ≡ denoted p.funcs x) → ((x : ℕ) → ns x ≡ known those_before x) → s ≡ behind_functions p those_before → s' ≡ with_function ds s (plain_func f)
+        → Answers (λ u. tt) (checked_heading s ns (plain_func f)) h → AnswersBehind h (λ u. plain_func y) (checked_parts s' (plain_func f)) r
+        → Answers (λ (u : Unit {0}). map plain_func ys) (typed_functions p [] those_before) done → Answers (λ (u : Unit {0}). map plain_func ys') (typed_functions p [] (map plain_func xs')) (both done r)
+    functions_step xs' ex ds ns s s' h r done ys ys' y ey told names is sees head parts so_far =
+        subst (λ zs. Answers (λ (u : Unit {0}). map plain_func zs) (typed_functions p [] (map plain_func xs')) (both done r)) (sym ey)
+        (subst (λ zs. Answers (λ (u : Unit {0}). map plain_func (ys ++ y ∷ [])) (typed_functions p [] (map plain_func zs)) (both done r)) (sym ex)
+        (functions_more ds ns s s' h r done ys y told names is sees head parts so_far))
 
 -- ---- annotations
 

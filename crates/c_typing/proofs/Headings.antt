@@ -1,13 +1,17 @@
 -- What is kept of functions tells of their names what the file does.
 use Rattle.std.proofs.Common.{◌≡◌, ℕ, refl, sym, ap, ◌∙◌, List, [], ◌∷◌, ◌++◌, map, Option, Some, None, Bool, true, false, not, ◌&&◌, ◌||◌, cond, nat_eq, arith}
 use Rattle.std.proofs.lemmas.Bool.Decides.{nat_tests}
+use Rattle.c_syntax.specs.declared.types.CInt.{CInt}
+use Rattle.c_syntax.specs.declared.types.CInt.TheVariants.{I8, U8, I16, U16, I32, U32, I64, U64}
+use Rattle.c_syntax.specs.Ctypes.{PlainType, Void, Int}
 use Rattle.c_syntax.specs.Programs.{Function}
 use Rattle.c_model.specs.Meaning.{is_definition}
 use Rattle.c_model.specs.Library.{is_there}
-use Rattle.c_model.specs.Typing.{Signature}
-use Rattle.c_model.specs.ProgramTyping.{definition_of, first_of, number_or, offset_of, types_of, signature, same_signature, is_compatible, is_compatible_with_all}
+use Rattle.c_model.specs.Typing.{Signature, function_called, same_int, same_type}
+use Rattle.c_model.specs.ProgramTyping.{definition_of, first_of, number_or, offset_of, types_of, signature, same_signature, same_types, is_compatible, is_compatible_with_all}
 use Rattle.c_typing.specs.declared.heading.Callee.{Callee}
-use Rattle.c_typing.specs.Functions.{denoted_by, denoted, told, was_defined, known, with_known, fits_types, fits, declared}
+use Rattle.c_typing.specs.declared.heading.Noted.{Noted}
+use Rattle.c_typing.specs.Functions.{denoted_by, denoted, told, was_defined, alike_with, known, is_alike, with_known, fits, declared}
 
 -- ---- what names denote
 
@@ -126,38 +130,261 @@ or_three : (a b c : Bool) → (a || (b || c)) ≡ ((a || b) || c)
 or_three true b c = refl
 or_three false b c = refl
 
-pub known_snoc : (fs : List Function) (g : Function) (x : ℕ) → with_known (known fs) g x ≡ known (fs ++ g ∷ []) x
-known_snoc [] g x = ap (λ b. cond (nat_eq g.name x) (Some b) None) (sym (or_false (is_definition g)))
-known_snoc (f ∷ fs) g x =
-    by (known fs x) (nat_eq g.name x) (nat_eq f.name x) ∙ ap (λ o. cond (nat_eq f.name x) (Some (is_definition f || was_defined o)) o) (known_snoc fs g x)
+and_true : (b : Bool) → (b && true) ≡ b
+and_true true = refl
+and_true false = refl
+
+eq_sym : (a b : ℕ) → nat_eq a b ≡ nat_eq b a
+eq_sym a b = grind arith
+
+alike_snoc : (g : Function) (fs : List Function) (f : Function) → alike_with g (fs ++ f ∷ []) ≡ (alike_with g fs && cond (nat_eq f.name g.name) (same_signature g f) true)
+alike_snoc g [] f = and_true (cond (nat_eq f.name g.name) (same_signature g f) true)
+alike_snoc g (h ∷ hs) f = ap (λ b. cond (nat_eq h.name g.name) (same_signature g h) true && b) (alike_snoc g hs f) ∙ by (cond (nat_eq h.name g.name) (same_signature g h) true)
   where
-    by : (o : Option Bool) (a b : Bool) → cond a (Some (was_defined (cond b (Some (is_definition f || was_defined o)) o) || is_definition g)) (cond b (Some (is_definition f || was_defined o)) o)
-        ≡ cond b (Some (is_definition f || was_defined (cond a (Some (was_defined o || is_definition g)) o))) (cond a (Some (was_defined o || is_definition g)) o)
-    by o true true = ap Some (sym (or_three (is_definition f) (was_defined o) (is_definition g)))
-    by o true false = refl
-    by o false true = refl
-    by o false false = refl
+    by : (b : Bool) → (b && (alike_with g hs && cond (nat_eq f.name g.name) (same_signature g f) true)) ≡ ((b && alike_with g hs) && cond (nat_eq f.name g.name) (same_signature g f) true)
+    by true = refl
+    by false = refl
 
--- ---- which declarations fit
-
--- the type, and the definitions: this one, those behind it, and the new one
-both_fit : (s types this those new : Bool) → ((s && not (this && new)) && (types && not (new && those))) ≡ ((s && types) && not (new && (this || those)))
-both_fit false types this those new = refl
-both_fit true false true those true = refl
-both_fit true false true those false = refl
-both_fit true false false those new = refl
-both_fit true true true true true = refl
-both_fit true true true false true = refl
-both_fit true true true true false = refl
-both_fit true true true false false = refl
-both_fit true true false those new = refl
+abbrev noted : Bool → Bool → Noted
+noted d a = record { defined = d; alike = a }
 
 module _ (all : List Function) (f : Function)
   where
-    abbrev types : List Function → Bool
-    types gs = fits_types (map (signature all) gs) f
+    abbrev first : List Function → Option Signature
+    first gs = function_called f.name (map (signature all) gs)
 
-    -- a function fits others where it has their type, and one of them and it are no definitions
+    -- its own name, with one more function
+    known_self : (gs : List Function) → known (gs ++ f ∷ []) f.name ≡ Some (noted (was_defined (known gs f.name) || is_definition f) (is_alike (first gs) (known gs f.name) f))
+    known_self [] =
+        let same : nat_eq f.name f.name ≡ true = grind (arith, nat_tests) in
+        ap (λ b. cond b (Some (noted (is_definition f || false) true)) None) same ∙ ap (λ b. Some (noted b true)) (or_false (is_definition f))
+    known_self (g ∷ gs) = by (known_self gs) (nat_eq g.name f.name) (eq_sym f.name g.name)
+      where
+        by : known (gs ++ f ∷ []) f.name ≡ Some (noted (was_defined (known gs f.name) || is_definition f) (is_alike (first gs) (known gs f.name) f)) → (b : Bool) → nat_eq f.name g.name ≡ b
+            → cond b (Some (noted (is_definition g || was_defined (known (gs ++ f ∷ []) f.name)) (alike_with g (gs ++ f ∷ [])))) (known (gs ++ f ∷ []) f.name)
+            ≡ Some (noted (was_defined (cond b (Some (noted (is_definition g || was_defined (known gs f.name)) (alike_with g gs))) (known gs f.name)) || is_definition f)
+            (is_alike (cond (nat_eq f.name g.name) (Some (signature all g)) (first gs)) (cond b (Some (noted (is_definition g || was_defined (known gs f.name)) (alike_with g gs))) (known gs f.name)) f))
+        by so true e =
+            ap (λ o. Some (noted (is_definition g || was_defined o) (alike_with g (gs ++ f ∷ [])))) so
+            ∙ ap (λ b. Some (noted b (alike_with g (gs ++ f ∷ [])))) (or_three (is_definition g) (was_defined (known gs f.name)) (is_definition f))
+            ∙ ap (λ b. Some (noted ((is_definition g || was_defined (known gs f.name)) || is_definition f) b)) (alike_snoc g gs f ∙ ap (λ b. alike_with g gs && cond b (same_signature g f) true) e)
+            ∙ ap (λ b. Some (noted ((is_definition g || was_defined (known gs f.name)) || is_definition f) (is_alike (cond b (Some (signature all g)) (first gs)) (Some (noted (is_definition g || was_defined (known gs f.name)) (alike_with g gs))) f))) (sym e)
+        by so false e = so ∙ ap (λ b. Some (noted (was_defined (known gs f.name) || is_definition f) (is_alike (cond b (Some (signature all g)) (first gs)) (known gs f.name) f))) (sym e)
+
+    -- another name
+    known_other : (x : ℕ) → nat_eq f.name x ≡ false → (gs : List Function) → known (gs ++ f ∷ []) x ≡ known gs x
+    known_other x e [] = ap (λ b. cond b (Some (noted (is_definition f || false) true)) None) e
+    known_other x e (g ∷ gs) = by (known_other x e gs) (nat_eq g.name x) refl
+      where
+        by : known (gs ++ f ∷ []) x ≡ known gs x → (b : Bool) → nat_eq g.name x ≡ b
+            → cond b (Some (noted (is_definition g || was_defined (known (gs ++ f ∷ []) x)) (alike_with g (gs ++ f ∷ [])))) (known (gs ++ f ∷ []) x) ≡ cond b (Some (noted (is_definition g || was_defined (known gs x)) (alike_with g gs))) (known gs x)
+        by so true t =
+            let other : nat_eq f.name g.name ≡ false = grind (arith, nat_tests, e, t) in
+            ap (λ o. Some (noted (is_definition g || was_defined o) (alike_with g (gs ++ f ∷ [])))) so
+            ∙ ap (λ b. Some (noted (is_definition g || was_defined (known gs x)) b)) (alike_snoc g gs f ∙ ap (λ b. alike_with g gs && cond b (same_signature g f) true) other ∙ and_true (alike_with g gs))
+        by so false t = so
+
+    pub known_snoc : (gs : List Function) (x : ℕ) → with_known (first gs) (known gs) f x ≡ known (gs ++ f ∷ []) x
+    known_snoc gs x = by (nat_eq f.name x) refl
+      where
+        by : (b : Bool) → nat_eq f.name x ≡ b → cond b (Some (noted (was_defined (known gs f.name) || is_definition f) (is_alike (first gs) (known gs f.name) f))) (known gs x) ≡ known (gs ++ f ∷ []) x
+        by true e = let same : f.name ≡ x = grind (arith, nat_tests, e) in sym (known_self gs) ∙ ap (known (gs ++ f ∷ [])) same
+        by false e = sym (known_other x e gs)
+
+-- ---- types are the same where they are equal
+
+int_equal : (k l : CInt) → same_int k l ≡ true → k ≡ l
+int_equal I8 I8 e = refl
+int_equal I8 U8 e = absurd cc
+int_equal I8 I16 e = absurd cc
+int_equal I8 U16 e = absurd cc
+int_equal I8 I32 e = absurd cc
+int_equal I8 U32 e = absurd cc
+int_equal I8 I64 e = absurd cc
+int_equal I8 U64 e = absurd cc
+int_equal U8 I8 e = absurd cc
+int_equal U8 U8 e = refl
+int_equal U8 I16 e = absurd cc
+int_equal U8 U16 e = absurd cc
+int_equal U8 I32 e = absurd cc
+int_equal U8 U32 e = absurd cc
+int_equal U8 I64 e = absurd cc
+int_equal U8 U64 e = absurd cc
+int_equal I16 I8 e = absurd cc
+int_equal I16 U8 e = absurd cc
+int_equal I16 I16 e = refl
+int_equal I16 U16 e = absurd cc
+int_equal I16 I32 e = absurd cc
+int_equal I16 U32 e = absurd cc
+int_equal I16 I64 e = absurd cc
+int_equal I16 U64 e = absurd cc
+int_equal U16 I8 e = absurd cc
+int_equal U16 U8 e = absurd cc
+int_equal U16 I16 e = absurd cc
+int_equal U16 U16 e = refl
+int_equal U16 I32 e = absurd cc
+int_equal U16 U32 e = absurd cc
+int_equal U16 I64 e = absurd cc
+int_equal U16 U64 e = absurd cc
+int_equal I32 I8 e = absurd cc
+int_equal I32 U8 e = absurd cc
+int_equal I32 I16 e = absurd cc
+int_equal I32 U16 e = absurd cc
+int_equal I32 I32 e = refl
+int_equal I32 U32 e = absurd cc
+int_equal I32 I64 e = absurd cc
+int_equal I32 U64 e = absurd cc
+int_equal U32 I8 e = absurd cc
+int_equal U32 U8 e = absurd cc
+int_equal U32 I16 e = absurd cc
+int_equal U32 U16 e = absurd cc
+int_equal U32 I32 e = absurd cc
+int_equal U32 U32 e = refl
+int_equal U32 I64 e = absurd cc
+int_equal U32 U64 e = absurd cc
+int_equal I64 I8 e = absurd cc
+int_equal I64 U8 e = absurd cc
+int_equal I64 I16 e = absurd cc
+int_equal I64 U16 e = absurd cc
+int_equal I64 I32 e = absurd cc
+int_equal I64 U32 e = absurd cc
+int_equal I64 I64 e = refl
+int_equal I64 U64 e = absurd cc
+int_equal U64 I8 e = absurd cc
+int_equal U64 U8 e = absurd cc
+int_equal U64 I16 e = absurd cc
+int_equal U64 U16 e = absurd cc
+int_equal U64 I32 e = absurd cc
+int_equal U64 U32 e = absurd cc
+int_equal U64 I64 e = absurd cc
+int_equal U64 U64 e = refl
+
+int_sym : (k l : CInt) → same_int k l ≡ same_int l k
+int_sym I8 I8 = refl
+int_sym I8 U8 = refl
+int_sym I8 I16 = refl
+int_sym I8 U16 = refl
+int_sym I8 I32 = refl
+int_sym I8 U32 = refl
+int_sym I8 I64 = refl
+int_sym I8 U64 = refl
+int_sym U8 I8 = refl
+int_sym U8 U8 = refl
+int_sym U8 I16 = refl
+int_sym U8 U16 = refl
+int_sym U8 I32 = refl
+int_sym U8 U32 = refl
+int_sym U8 I64 = refl
+int_sym U8 U64 = refl
+int_sym I16 I8 = refl
+int_sym I16 U8 = refl
+int_sym I16 I16 = refl
+int_sym I16 U16 = refl
+int_sym I16 I32 = refl
+int_sym I16 U32 = refl
+int_sym I16 I64 = refl
+int_sym I16 U64 = refl
+int_sym U16 I8 = refl
+int_sym U16 U8 = refl
+int_sym U16 I16 = refl
+int_sym U16 U16 = refl
+int_sym U16 I32 = refl
+int_sym U16 U32 = refl
+int_sym U16 I64 = refl
+int_sym U16 U64 = refl
+int_sym I32 I8 = refl
+int_sym I32 U8 = refl
+int_sym I32 I16 = refl
+int_sym I32 U16 = refl
+int_sym I32 I32 = refl
+int_sym I32 U32 = refl
+int_sym I32 I64 = refl
+int_sym I32 U64 = refl
+int_sym U32 I8 = refl
+int_sym U32 U8 = refl
+int_sym U32 I16 = refl
+int_sym U32 U16 = refl
+int_sym U32 I32 = refl
+int_sym U32 U32 = refl
+int_sym U32 I64 = refl
+int_sym U32 U64 = refl
+int_sym I64 I8 = refl
+int_sym I64 U8 = refl
+int_sym I64 I16 = refl
+int_sym I64 U16 = refl
+int_sym I64 I32 = refl
+int_sym I64 U32 = refl
+int_sym I64 I64 = refl
+int_sym I64 U64 = refl
+int_sym U64 I8 = refl
+int_sym U64 U8 = refl
+int_sym U64 I16 = refl
+int_sym U64 U16 = refl
+int_sym U64 I32 = refl
+int_sym U64 U32 = refl
+int_sym U64 I64 = refl
+int_sym U64 U64 = refl
+
+type_equal : (t u : PlainType) → same_type t u ≡ true → t ≡ u
+type_equal Void Void e = refl
+type_equal (Int k) (Int l) e = ap Int (int_equal k l e)
+type_equal Void (Int l) e = absurd cc
+type_equal (Int k) Void e = absurd cc
+
+type_sym : (t u : PlainType) → same_type t u ≡ same_type u t
+type_sym Void Void = refl
+type_sym (Int k) (Int l) = int_sym k l
+type_sym Void (Int l) = refl
+type_sym (Int k) Void = refl
+
+and_left : (a b : Bool) → (a && b) ≡ true → a ≡ true
+and_left true b e = refl
+and_left false b e = absurd cc
+
+and_right : (a b : Bool) → (a && b) ≡ true → b ≡ true
+and_right true b e = e
+and_right false b e = absurd cc
+
+types_equal : (ts us : List PlainType) → same_types ts us ≡ true → ts ≡ us
+types_equal [] [] e = refl
+types_equal (t ∷ ts) (u ∷ us) e = (λ i. type_equal t u (and_left (same_type t u) (same_types ts us) e) i ∷ types_equal ts us (and_right (same_type t u) (same_types ts us) e) i)
+types_equal [] (u ∷ us) e = absurd cc
+types_equal (t ∷ ts) [] e = absurd cc
+
+types_sym : (ts us : List PlainType) → same_types ts us ≡ same_types us ts
+types_sym [] [] = refl
+types_sym (t ∷ ts) (u ∷ us) = (λ i. type_sym t u i && types_sym ts us i)
+types_sym [] (u ∷ us) = refl
+types_sym (t ∷ ts) [] = refl
+
+-- a function of g's type has that of others exactly where g has
+same_by : (g f h : Function) → same_signature g f ≡ true → same_signature h f ≡ same_signature g h
+same_by g f h e =
+    let result = type_equal g.result f.result (and_left (same_type g.result f.result) (same_types (types_of g.params) (types_of f.params)) e) in
+    let params = types_equal (types_of g.params) (types_of f.params) (and_right (same_type g.result f.result) (same_types (types_of g.params) (types_of f.params)) e) in
+    (λ i. same_type h.result (sym result i) && same_types (types_of h.params) (sym params i)) ∙ (λ i. type_sym h.result g.result i && types_sym (types_of h.params) (types_of g.params) i)
+
+-- ---- which declarations fit
+
+module _ (all : List Function) (f : Function)
+  where
+    -- each of f's name has its type
+    abbrev types : List Function → Bool
+    types [] = true
+    types (g ∷ gs) = cond (nat_eq g.name f.name) (same_signature g f) true && types gs
+
+    -- the type, and the definitions: this one, those behind it, and the new one
+    both_fit : (s t this those new : Bool) → ((s && not (this && new)) && (t && not (new && those))) ≡ ((s && t) && not (new && (this || those)))
+    both_fit false t this those new = refl
+    both_fit true false true those true = refl
+    both_fit true false true those false = refl
+    both_fit true false false those new = refl
+    both_fit true true true true true = refl
+    both_fit true true true false true = refl
+    both_fit true true true true false = refl
+    both_fit true true true false false = refl
+    both_fit true true false those new = refl
+
     compatible_by : (gs : List Function) → is_compatible_with_all gs f ≡ (types gs && not (is_definition f && was_defined (known gs f.name)))
     compatible_by [] = by (is_definition f)
       where
@@ -167,27 +394,36 @@ module _ (all : List Function) (f : Function)
     compatible_by (g ∷ gs) = ap (λ b. is_compatible g f && b) (compatible_by gs) ∙ by (nat_eq g.name f.name)
       where
         by : (b : Bool) → (cond b (same_signature g f && not (is_definition g && is_definition f)) true && (types gs && not (is_definition f && was_defined (known gs f.name))))
-            ≡ ((cond b (same_signature g f) true && types gs) && not (is_definition f && was_defined (cond b (Some (is_definition g || was_defined (known gs f.name))) (known gs f.name))))
+            ≡ ((cond b (same_signature g f) true && types gs) && not (is_definition f && was_defined (cond b (Some (noted (is_definition g || was_defined (known gs f.name)) (alike_with g gs))) (known gs f.name))))
         by true = both_fit (same_signature g f) (types gs) (is_definition g) (was_defined (known gs f.name)) (is_definition f)
         by false = refl
 
-    -- no type is told of a name that isn't declared
-    unknown_types : (gs : List Function) → known gs f.name ≡ None → types gs ≡ true
-    unknown_types [] e = refl
-    unknown_types (g ∷ gs) e = by (nat_eq g.name f.name) (unknown_types gs) e
+    -- where f has the type of g, which has its name, the others have f's type exactly where they have g's
+    types_by : (g : Function) → g.name ≡ f.name → same_signature g f ≡ true → (gs : List Function) → types gs ≡ alike_with g gs
+    types_by g same e [] = refl
+    types_by g same e (h ∷ hs) =
+        (λ i. cond (nat_eq h.name (sym same i)) (same_by g f h e i) true && types_by g same e hs i)
+
+    first_types : (g : Function) (gs : List Function) → g.name ≡ f.name → (s : Bool) → same_signature g f ≡ s → (s && types gs) ≡ (alike_with g gs && s)
+    first_types g gs same true e = types_by g same e gs ∙ sym (and_true (alike_with g gs))
+    first_types g gs same false e = by (alike_with g gs)
       where
-        by : (b : Bool) → (known gs f.name ≡ None → types gs ≡ true) → cond b (Some (is_definition g || was_defined (known gs f.name))) (known gs f.name) ≡ None → (cond b (same_signature g f) true && types gs) ≡ true
-        by true rest e = absurd cc
-        by false rest e = rest e
+        by : (b : Bool) → false ≡ (b && false)
+        by true = refl
+        by false = refl
 
     -- what is kept of functions tells which of them fit
-    pub fits_is : (gs : List Function) → fits (map (signature all) gs) (known gs f.name) f ≡ is_compatible_with_all gs f
-    fits_is gs = by (known gs f.name) refl ∙ sym (compatible_by gs)
+    pub fits_is : (gs : List Function) → fits (function_called f.name (map (signature all) gs)) (known gs f.name) f ≡ is_compatible_with_all gs f
+    fits_is [] = refl
+    fits_is (g ∷ gs) = by (fits_is gs) (nat_eq g.name f.name) refl (eq_sym f.name g.name)
       where
-        none : (b : Bool) → true ≡ not (b && false)
-        none true = refl
-        none false = refl
-
-        by : (o : Option Bool) → known gs f.name ≡ o → fits (map (signature all) gs) o f ≡ (types gs && not (is_definition f && was_defined (known gs f.name)))
-        by None e = none (is_definition f) ∙ ap (λ b. b && not (is_definition f && false)) (sym (unknown_types gs e)) ∙ ap (λ o. types gs && not (is_definition f && was_defined o)) (sym e)
-        by (Some d) e = ap (λ o. types gs && not (is_definition f && was_defined o)) (sym e)
+        by : fits (function_called f.name (map (signature all) gs)) (known gs f.name) f ≡ is_compatible_with_all gs f → (b : Bool) → nat_eq g.name f.name ≡ b → nat_eq f.name g.name ≡ b
+            → fits (cond (nat_eq f.name g.name) (Some (signature all g)) (function_called f.name (map (signature all) gs))) (cond b (Some (noted (is_definition g || was_defined (known gs f.name)) (alike_with g gs))) (known gs f.name)) f
+            ≡ (cond b (same_signature g f && not (is_definition g && is_definition f)) true && is_compatible_with_all gs f)
+        by so true e t =
+            let same : g.name ≡ f.name = grind (arith, nat_tests, e) in
+            ap (λ b. fits (cond b (Some (signature all g)) (function_called f.name (map (signature all) gs))) (Some (noted (is_definition g || was_defined (known gs f.name)) (alike_with g gs))) f) t
+            ∙ ap (λ b. b && not (is_definition f && (is_definition g || was_defined (known gs f.name)))) (sym (first_types g gs same (same_signature g f) refl))
+            ∙ sym (both_fit (same_signature g f) (types gs) (is_definition g) (was_defined (known gs f.name)) (is_definition f))
+            ∙ ap (λ b. (same_signature g f && not (is_definition g && is_definition f)) && b) (sym (compatible_by gs))
+        by so false e t = ap (λ b. fits (cond b (Some (signature all g)) (function_called f.name (map (signature all) gs))) (known gs f.name) f) t ∙ so

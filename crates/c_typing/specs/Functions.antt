@@ -2,16 +2,16 @@
 -- so far, and what is in sight.
 use Rattle.std.specs.Prelude.{◌≡◌, ℕ, List, [], ◌∷◌, ◌++◌, nat_eq, Option, Some, None, Bool, true, false, not, ◌&&◌, ◌||◌, cond, Result, Ok, Err}
 use Rattle.c_syntax.specs.Statements.{Declaration}
-use Rattle.c_syntax.specs.declared.program.Func.{Func}
-use Rattle.c_syntax.specs.Programs.{Function, TranslationUnit, plain_func}
+use Rattle.c_syntax.specs.Programs.{Function, TranslationUnit}
 use Rattle.c_model.specs.Meaning.{is_definition}
 use Rattle.c_model.specs.Library.{is_library_name}
 use Rattle.c_model.specs.Checked.{Checked, Good, one_part, where_so}
-use Rattle.c_model.specs.Typing.{no_name, Signature, Scopes, name_at, same_type}
-use Rattle.c_model.specs.ProgramTyping.{definition_of, first_of, types_of, same_types, typed_parameter, with_parameter, with_parameters, typed_body, typed_functions, noted_body}
+use Rattle.c_model.specs.Typing.{no_name, Signature, Scopes, function_called, name_at, same_type}
+use Rattle.c_model.specs.ProgramTyping.{definition_of, first_of, types_of, same_signature, same_types, typed_parameter, with_parameter, with_parameters, typed_body, typed_functions, noted_body}
 use Rattle.c_type_rules.specs.declared.fault.TypeFault.{TypeFault}
 use Rattle.c_type_rules.specs.Answers.{Answers}
 use Rattle.c_typing.specs.declared.heading.Callee.{Callee}
+use Rattle.c_typing.specs.declared.heading.Noted.{Noted}
 
 -- ---- what names denote
 
@@ -38,37 +38,45 @@ with_told numbers f x = cond (nat_eq f.name x) (told (numbers x) f) (numbers x)
 
 -- ---- headings
 
-abbrev pub was_defined : Option Bool → Bool
+abbrev pub was_defined : Option Noted → Bool
 was_defined None = false
-was_defined (Some defined) = defined
+was_defined (Some n) = n.defined
 
--- of each name that functions declare, whether one of them defines it
-abbrev pub known : List Function → ℕ → Option Bool
+-- whether each of a function's name has its type
+abbrev pub alike_with : Function → List Function → Bool
+alike_with f [] = true
+alike_with f (g ∷ gs) = cond (nat_eq g.name f.name) (same_signature f g) true && alike_with f gs
+
+-- of each name that functions declare, whether one of them defines it, and whether all have the type of the first
+abbrev pub known : List Function → ℕ → Option Noted
 known [] x = None
-known (f ∷ fs) x = cond (nat_eq f.name x) (Some (is_definition f || was_defined (known fs x))) (known fs x)
-
--- the same with one more function
-abbrev pub with_known : (ℕ → Option Bool) → Function → ℕ → Option Bool
-with_known names f x = cond (nat_eq f.name x) (Some (was_defined (names x) || is_definition f)) (names x)
+known (f ∷ fs) x = cond (nat_eq f.name x) (Some (record { defined = is_definition f || was_defined (known fs x); alike = alike_with f fs })) (known fs x)
 
 -- whether a function has the type that its callers are told
 abbrev pub has_type : Signature → Function → Bool
 has_type g f = same_type g.result f.result && same_types g.params (types_of f.params)
 
--- whether a function has the type of each of its name
-abbrev pub fits_types : List Signature → Function → Bool
-fits_types [] f = true
-fits_types (g ∷ gs) f = cond (nat_eq g.name f.name) (has_type g f) true && fits_types gs f
+-- whether the declarations of a name have one type with one more, by the first of them
+abbrev pub is_alike : Option Signature → Option Noted → Function → Bool
+is_alike None o f = true
+is_alike (Some g) None f = true
+is_alike (Some g) (Some n) f = n.alike && has_type g f
 
--- whether a function fits those before it, by what is known of its name
-abbrev pub fits : List Signature → Option Bool → Function → Bool
-fits before None f = true
-fits before (Some defined) f = fits_types before f && not (is_definition f && defined)
+-- what is known of names with one more function
+abbrev pub with_known : Option Signature → (ℕ → Option Noted) → Function → ℕ → Option Noted
+with_known g names f x =
+    cond (nat_eq f.name x) (Some (record { defined = was_defined (names f.name) || is_definition f; alike = is_alike g (names f.name) f })) (names x)
+
+-- whether a function fits those before it, by the first of its name and by what is known of it
+abbrev pub fits : Option Signature → Option Noted → Function → Bool
+fits g None f = true
+fits None (Some n) f = true
+fits (Some g) (Some n) f = n.alike && has_type g f && not (is_definition f && n.defined)
 
 -- a function's name, among those in sight
-abbrev pub checked_heading : Scopes → (ℕ → Option Bool) → Function → Checked (Unit {0})
+abbrev pub checked_heading : Scopes → (ℕ → Option Noted) → Function → Checked (Unit {0})
 checked_heading s names f =
-    where_so (not (is_library_name (name_at s.names f.name)) && fits s.functions (names f.name) f) (no_name f.place) (Good tt)
+    where_so (not (is_library_name (name_at s.names f.name)) && fits (function_called f.name s.functions) (names f.name) f) (no_name f.place) (Good tt)
 
 abbrev pub decl_or : Option Callee → ℕ → ℕ
 decl_or None n = n
@@ -99,9 +107,9 @@ checked_parts s f =
     one_part (typed_body (with_parameters s f.params) f.result f.body) (λ b. Good (record f { body = b })))
 
 -- what is found of a function, by what is found of its heading
-abbrev pub AnswersBehind : Result (Unit {0}) TypeFault → Checked Function → Result Func TypeFault → Type 0
-AnswersBehind (Ok u) c result = Answers plain_func c result
-AnswersBehind (Err e) c result = result ≡ Err e
+abbrev pub AnswersBehind : Result (Unit {0}) TypeFault → (Unit {0} → Function) → Checked Function → Result (Unit {0}) TypeFault → Type 0
+AnswersBehind (Ok u) plain c result = Answers plain c result
+AnswersBehind (Err e) plain c result = result ≡ Err e
 
 -- a file with these names and functions
 abbrev pub file_of : List (List ℕ) → List Function → TranslationUnit

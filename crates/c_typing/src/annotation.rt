@@ -1,184 +1,124 @@
 //! Names of annotations (ACSL 2.2).
 
 ghost use Rattle.std.specs.Prelude.{◌≡◌, map};
-ghost use Rattle.c_syntax.specs.declared.annotation.PredKind.TheVariants.{Chain};
-ghost use Rattle.c_syntax.specs.declared.annotation.Body.TheVariants.{Truth};
+ghost use Rattle.std.specs.Box.{with_value};
 ghost use Rattle.c_syntax.specs.Annotations.{Linked, NoLink, plain_annot, plain_body, plain_links, plain_pred, plain_term};
 ghost use Rattle.c_model.specs.Checked.{Good, one_part};
 ghost use Rattle.c_model.specs.ProgramTyping.{term_named, typed_annotations, typed_clause, typed_links, typed_predicate, typed_term};
 ghost use Rattle.c_type_rules.specs.Answers.{Answers};
 ghost use Rattle.c_type_rules.specs.Scopes.{plain_scopes};
-ghost use Rattle.c_typing.specs.Trees.{plain_annots, plain_chain, plain_link};
+ghost use Rattle.c_typing.specs.Trees.{plain_link};
 
-use c_syntax::{Annot, Body, Link, Place, Pred, PredKind, Range, Term, TermKind, Use};
+use c_syntax::{Annot, Body, CType, Link, Pred, PredKind, Term, TermKind, Use};
 use c_type_rules::conversion::copy_type;
-use c_type_rules::fault::{TypeFault, both, no_name, no_type, push};
+use c_type_rules::fault::{TypeFault, both, no_name, no_type};
 use c_type_rules::library::{library_constant, library_function};
-use c_type_rules::scope::{Scopes, function_called, name_at, object_named};
-use std::alloc::Global;
+use c_type_rules::scope::{Scopes, name_at, object_named};
+use std::mem::replace;
+
+/// Puts another term in the place of one.
+fn put(t: &mut Term, kind: TermKind, ctype: Option<CType>)
+    ensures { t.new ≡ record t.old { kind = with_value t.old.kind kind; ctype = ctype } }
+{
+    drop(replace(&mut *t.kind, kind));
+    t.ctype = ctype;
+}
 
 /// A name in a term: an object, or a constant of the library.
-fn term_named(scopes: &Scopes, place: Place, range: Range, name: u32) -> Result<Term, TypeFault>
-    ensures { Answers plain_term (term_named (plain_scopes scopes.now) place range name) result }
+fn term_named(scopes: &Scopes, t: &mut Term, name: u32) -> Result<(), TypeFault>
+    ensures { Answers (λ _. plain_term t.new) (term_named (plain_scopes scopes.now) t.old.place t.old.range name) result }
 {
     if let Some(object) = object_named(&scopes.objects, name) {
         let decl = object.decl;
-        return Ok(Term {
-            place,
-            kind: TermKind::Variable(Use { name, decl }),
-            ctype: Some(copy_type(&object.ctype)),
-            range,
-        });
+        put(
+            t,
+            TermKind::Variable(Use { name, decl }),
+            Some(copy_type(&object.ctype)),
+        );
+        return Ok(());
     }
-    if function_called(&scopes.functions, name).is_some() {
-        return Err(no_type(place));
+    if scopes.functions.called(name).is_some() {
+        return Err(no_type(t.place));
     }
     let bytes = name_at(&scopes.names, name);
     match library_constant(bytes) {
-        Some((_, n)) => Ok(Term {
-            place,
-            kind: TermKind::Number(n),
-            ctype: None,
-            range,
-        }),
+        Some((_, n)) => {
+            put(t, TermKind::Number(n), None);
+            Ok(())
+        }
         None => {
             if library_function(bytes).is_some() {
-                Err(no_type(place))
+                Err(no_type(t.place))
             } else {
-                Err(no_name(place))
+                Err(no_name(t.place))
             }
         }
     }
 }
 
 #[cycle(term)]
-fn type_term(alloc: Global, scopes: &Scopes, t: Term) -> Result<Term, TypeFault>
-    ensures { Answers plain_term (typed_term (plain_scopes scopes.now) (plain_term t)) result }
+fn type_term(scopes: &Scopes, t: &mut Term) -> Result<(), TypeFault>
+    ensures { Answers (λ _. plain_term t.new) (typed_term (plain_scopes scopes.now) (plain_term t.old)) result }
 {
-    let Term {
-        place,
-        kind,
-        ctype,
-        range,
-    } = t;
-    match kind {
-        TermKind::Number(n) => Ok(Term {
-            place,
-            kind: TermKind::Number(n),
-            ctype,
-            range,
-        }),
-        TermKind::Letter(n) => Ok(Term {
-            place,
-            kind: TermKind::Letter(n),
-            ctype,
-            range,
-        }),
-        TermKind::Variable(x) => term_named(scopes, place, range, x.name),
-        TermKind::Binary(op, a, b) => {
-            let a = type_term(alloc, scopes, Box::into_inner(a));
-            let b = type_term(alloc, scopes, Box::into_inner(b));
-            let (a, b) = both(a, b)?;
-            let a = Box::new(alloc, a)?;
-            let b = Box::new(alloc, b)?;
-            Ok(Term {
-                place,
-                kind: TermKind::Binary(op, a, b),
-                ctype,
-                range,
-            })
+    match &mut *t.kind {
+        TermKind::Number(_) | TermKind::Letter(_) => Ok(()),
+        TermKind::Variable(x) => {
+            let name = x.name;
+            term_named(scopes, t, name)
+        }
+        TermKind::Binary(_op, a, b) => {
+            let first = type_term(scopes, a);
+            let second = type_term(scopes, b);
+            both(first, second)
         }
     }
 }
 
-fn type_link(alloc: Global, scopes: &Scopes, link: Link) -> Result<Link, TypeFault>
-    ensures { Answers plain_link (one_part (typed_term (plain_scopes scopes.now) (plain_term link.term)) (λ t. Good (Linked link.place link.relation t NoLink))) result }
+fn type_link(scopes: &Scopes, link: &mut Link) -> Result<(), TypeFault>
+    ensures { Answers (λ _. plain_link link.new) (one_part (typed_term (plain_scopes scopes.now) (plain_term link.old.term)) (λ t. Good (Linked link.old.place link.old.relation t NoLink))) result }
 {
-    let Link {
-        place,
-        relation,
-        term,
-    } = link;
-    let term = type_term(alloc, scopes, term)?;
-    Ok(Link {
-        place,
-        relation,
-        term,
-    })
+    type_term(scopes, &mut link.term)
 }
 
 /// The steps of a chain.
-fn type_links(alloc: Global, scopes: &Scopes, links: Vec<Link>) -> Result<Vec<Link>, TypeFault>
-    ensures { Answers plain_chain (typed_links (plain_scopes scopes.now) (plain_links links.items)) result }
+fn type_links(scopes: &Scopes, links: &mut Vec<Link>) -> Result<(), TypeFault>
+    ensures { Answers (λ _. plain_links links.new.items) (typed_links (plain_scopes scopes.now) (plain_links links.old.items)) result }
 {
-    let mut done = Ok(Vec::new(alloc));
-    for link in links {
-        let link = type_link(alloc, scopes, link);
-        done = push(both(done, link));
+    let mut done = Ok(());
+    for i in 0..links.len() {
+        let link = type_link(scopes, &mut links[i]);
+        done = both(done, link);
     }
     done
 }
 
-fn chain_of(kind: PredKind) -> (Term, Vec<Link>)
-    ensures { kind ≡ Chain result.0 result.1 }
+fn type_predicate(scopes: &Scopes, p: &mut Pred) -> Result<(), TypeFault>
+    ensures { Answers (λ _. plain_pred p.new) (typed_predicate (plain_scopes scopes.now) (plain_pred p.old)) result }
 {
-    match kind {
-        PredKind::Chain(t, links) => (t, links),
+    match &mut *p.kind {
+        PredKind::Chain(t, links) => {
+            let first = type_term(scopes, t);
+            let others = type_links(scopes, links);
+            both(first, others)
+        }
     }
 }
 
-fn type_predicate(alloc: Global, scopes: &Scopes, p: Pred) -> Result<Pred, TypeFault>
-    ensures { Answers plain_pred (typed_predicate (plain_scopes scopes.now) (plain_pred p)) result }
-{
-    let Pred { place, kind } = p;
-    let (t, links) = chain_of(kind);
-    let t = type_term(alloc, scopes, t);
-    let links = type_links(alloc, scopes, links);
-    let (t, links) = both(t, links)?;
-    Ok(Pred {
-        place,
-        kind: PredKind::Chain(t, links),
-    })
-}
-
-fn truth_of(body: Body) -> Pred
-    ensures { body ≡ Truth result }
+fn type_clause(scopes: &Scopes, body: &mut Body) -> Result<(), TypeFault>
+    ensures { Answers (λ _. plain_body body.new) (typed_clause (plain_scopes scopes.now) (plain_body body.old)) result }
 {
     match body {
-        Body::Truth(p) => p,
+        Body::Truth(p) => type_predicate(scopes, p),
     }
 }
 
-fn type_clause(alloc: Global, scopes: &Scopes, body: Body) -> Result<Body, TypeFault>
-    ensures { Answers plain_body (typed_clause (plain_scopes scopes.now) (plain_body body)) result }
+/// Types annotations in turn.
+pub fn type_clauses(scopes: &Scopes, annots: &mut Vec<Annot>) -> Result<(), TypeFault>
+    ensures { Answers (λ _. map plain_annot annots.new.items) (typed_annotations (plain_scopes scopes.now) (map plain_annot annots.old.items)) result }
 {
-    let p = type_predicate(alloc, scopes, truth_of(body))?;
-    Ok(Body::Truth(p))
-}
-
-/// Annotations in turn.
-pub fn type_clauses(
-    alloc: Global,
-    scopes: &Scopes,
-    annots: Vec<Annot>,
-) -> Result<Vec<Annot>, TypeFault>
-    ensures { Answers plain_annots (typed_annotations (plain_scopes scopes.now) (map plain_annot annots.items)) result }
-{
-    let mut done = Vec::new(alloc);
-    for annot in annots {
-        let Annot {
-            number,
-            kind,
-            place,
-            body,
-        } = annot;
-        let body = type_clause(alloc, scopes, body)?;
-        done.push(Annot {
-            number,
-            kind,
-            place,
-            body,
-        })?;
+    for i in 0..annots.len() {
+        let annot = &mut annots[i];
+        type_clause(scopes, &mut annot.body)?;
     }
-    Ok(done)
+    Ok(())
 }

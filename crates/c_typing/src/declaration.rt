@@ -1,16 +1,15 @@
 //! Declarations (C99 6.7).
 
-ghost use Rattle.std.specs.Prelude.{◌≡◌, IfOk, OnOk, map};
+ghost use Rattle.std.specs.Prelude.{◌≡◌, OnOk, Some, map};
 ghost use Rattle.c_syntax.specs.Ctypes.{plain_type};
-ghost use Rattle.c_syntax.specs.Expressions.{plain_expr};
-ghost use Rattle.c_syntax.specs.Statements.{One, plain_decl, plain_init};
+ghost use Rattle.c_syntax.specs.Statements.{plain_decl, plain_init};
 ghost use Rattle.c_model.specs.Typing.{declarable, typed_declaration, typed_declarations, typed_initialiser, with_object, with_objects};
 ghost use Rattle.c_type_rules.specs.Answers.{Answers};
 ghost use Rattle.c_type_rules.specs.Scopes.{plain_scopes};
 ghost use Rattle.c_typing.specs.Scopes.{at_file};
-ghost use Rattle.c_typing.specs.Trees.{plain_decls, plain_initialiser};
+ghost use Rattle.c_typing.specs.Trees.{plain_initialiser};
 
-use c_syntax::{CType, Decl, Expr, Init, Place};
+use c_syntax::{CType, Decl, Init, Place};
 use c_type_rules::conversion::{copy_type, is_assigned, is_object_type};
 use c_type_rules::expression::type_expr;
 use c_type_rules::fault::{TypeFault, both, no_name, no_type};
@@ -19,33 +18,40 @@ use c_type_rules::operator::in_type;
 use c_type_rules::scope::{Object, Scopes, is_declared, name_at};
 use std::alloc::{AllocError, Global};
 
-fn initial(init: Init) -> Expr
-    ensures { plain_init init ≡ One (plain_expr result) }
+/// What an object is initialised with, in its type (C99 6.7.8 p11).
+fn type_init(
+    alloc: Global,
+    scopes: &Scopes,
+    ctype: &CType,
+    place: Place,
+    init: &mut Init,
+) -> Result<(), TypeFault>
+    ensures { Answers (λ _. Some (place, plain_init init.new)) (typed_initialiser (plain_scopes scopes.now) (plain_type ctype.now) (Some (place, plain_init init.old))) result }
 {
     match init {
-        Init::One(e) => e,
+        Init::One(e) => {
+            type_expr(alloc, scopes, e)?;
+            if !is_assigned(&e.ctype, ctype) {
+                return Err(no_type(place));
+            }
+            in_type(alloc, ctype, e)?;
+            Ok(())
+        }
     }
 }
 
-/// What an object is initialised with, in its type (C99 6.7.8 p11).
+/// What an object is initialised with, where it is.
 fn type_initialiser(
     alloc: Global,
     scopes: &Scopes,
     ctype: &CType,
-    init: Option<(Place, Init)>,
-) -> Result<Option<(Place, Init)>, TypeFault>
-    ensures { Answers plain_initialiser (typed_initialiser (plain_scopes scopes.now) (plain_type ctype.now) (plain_initialiser init)) result }
+    init: &mut Option<(Place, Init)>,
+) -> Result<(), TypeFault>
+    ensures { Answers (λ _. plain_initialiser init.new) (typed_initialiser (plain_scopes scopes.now) (plain_type ctype.now) (plain_initialiser init.old)) result }
 {
     match init {
-        None => Ok(None),
-        Some((place, init)) => {
-            let e = type_expr(alloc, scopes, initial(init))?;
-            if !is_assigned(&e.ctype, ctype) {
-                return Err(no_type(place));
-            }
-            let e = in_type(alloc, ctype, e)?;
-            Ok(Some((place, Init::One(e))))
-        }
+        None => Ok(()),
+        Some((place, init)) => type_init(alloc, scopes, ctype, *place, init),
     }
 }
 
@@ -67,26 +73,13 @@ pub fn declarable(scopes: &Scopes, d: &Decl) -> Result<(), TypeFault>
 }
 
 /// A declaration: its name, and what it is initialised with, where its name isn't in sight yet (this profile).
-fn type_declaration(alloc: Global, scopes: &Scopes, d: Decl) -> Result<Decl, TypeFault>
-    ensures { Answers plain_decl (typed_declaration (plain_scopes scopes.now) (plain_decl d)) result }
+fn type_declaration(alloc: Global, scopes: &Scopes, d: &mut Decl) -> Result<(), TypeFault>
+    ensures { Answers (λ _. plain_decl d.new) (typed_declaration (plain_scopes scopes.now) (plain_decl d.old)) result }
 {
-    let checked = declarable(scopes, &d);
-    let Decl {
-        place,
-        name,
-        named,
-        ctype,
-        init,
-    } = d;
-    let init = type_initialiser(alloc, scopes, &ctype, init);
-    let (_unit, init) = both(checked, init)?;
-    Ok(Decl {
-        place,
-        name,
-        named,
-        ctype,
-        init,
-    })
+    let checked = declarable(scopes, d);
+    let ctype = copy_type(&d.ctype);
+    let init = type_initialiser(alloc, scopes, &ctype, &mut d.init);
+    both(checked, init)
 }
 
 /// Brings a declared object in sight.
@@ -102,23 +95,22 @@ pub fn declare(scopes: &mut Scopes, d: &Decl) -> Result<(), AllocError>
     Ok(())
 }
 
-/// Declarations, each in sight of those behind it.
+/// Types declarations, each in sight of those behind it.
 pub fn type_declarations(
     alloc: Global,
     scopes: &mut Scopes,
-    list: Vec<Decl>,
-) -> Result<Vec<Decl>, TypeFault>
-    ensures typed { Answers plain_decls (typed_declarations (plain_scopes scopes.old) (map plain_decl list.items)) result }
-    ensures behind { IfOk result (λ ds. plain_scopes scopes.new ≡ with_objects (plain_scopes scopes.old) (plain_decls ds)) }
+    list: &mut Vec<Decl>,
+) -> Result<(), TypeFault>
+    ensures typed { Answers (λ _. map plain_decl list.new.items) (typed_declarations (plain_scopes scopes.old) (map plain_decl list.old.items)) result }
+    ensures behind { OnOk result (plain_scopes scopes.new ≡ with_objects (plain_scopes scopes.old) (map plain_decl list.new.items)) }
     ensures file { at_file (plain_scopes scopes.new) ≡ at_file (plain_scopes scopes.old) }
 {
-    let mut done = Vec::new(alloc);
-    for d in list {
-        let d = type_declaration(alloc, scopes, d)?;
-        declare(scopes, &d)?;
-        done.push(d)?;
+    for i in 0..list.len() {
+        let d = &mut list[i];
+        type_declaration(alloc, scopes, d)?;
+        declare(scopes, d)?;
     }
-    Ok(done)
+    Ok(())
 }
 
 /// Brings declared objects in sight.

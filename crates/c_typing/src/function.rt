@@ -1,35 +1,37 @@
 //! Functions (C99 6.9.1).
 
-ghost use Rattle.std.specs.Prelude.{◌≡◌, IfOk, [], map, option_map};
+ghost use Rattle.std.specs.Prelude.{◌≡◌, ℕ, None, OnOk, Some, map, nat_eq, option_map};
+ghost use Rattle.indexmap.specs.IndexMap.{get};
 ghost use Rattle.c_syntax.specs.Ctypes.{plain_type};
-ghost use Rattle.c_syntax.specs.Statements.{plain_items, plain_stmt};
+ghost use Rattle.c_syntax.specs.Statements.{plain_items, plain_stmt, plain_stmt_kind};
+ghost use Rattle.c_syntax.specs.declared.place.Place.{Place};
 ghost use Rattle.c_syntax.specs.Programs.{plain_func};
 ghost use Rattle.c_model.specs.Typing.{typed_items};
 ghost use Rattle.c_model.specs.WellTypedPrograms.{around_body};
 ghost use Rattle.c_model.specs.ProgramTyping.{typed_body};
 ghost use Rattle.c_type_rules.specs.Answers.{Answers};
 ghost use Rattle.c_type_rules.specs.Scopes.{plain_scopes};
-ghost use Rattle.c_typing.specs.Functions.{AnswersBehind, checked_parts, typed_file};
-ghost use Rattle.c_typing.specs.Scopes.{at_file};
-ghost use Rattle.c_typing.specs.Trees.{plain_block, plain_funcs};
+ghost use Rattle.c_typing.specs.Functions.{AnswersBehind, checked_parts, denoted, typed_file};
+ghost use Rattle.c_typing.specs.Scopes.{at_file, no_scopes};
 
-use crate::heading::{check_heading, denoted, note_name, see_function};
+use crate::heading::{Callee, Noted, check_heading, denoted, note_name, see_function};
 use crate::parameter::check_parameters;
 use crate::statement::{Around, type_items};
 use c_syntax::{CType, Func, Item, Name, Stmt, StmtKind};
 use c_type_rules::conversion::copy_type;
-use c_type_rules::fault::{TypeFault, both, push};
+use c_type_rules::fault::{TypeFault, both};
 use c_type_rules::scope::Scopes;
+use c_type_rules::signature::Functions;
 use indexmap::IndexMap;
 use std::alloc::Global;
 
 /// What is in sight before the first function.
 pub fn file_scopes(alloc: Global, names: Vec<Name>) -> Scopes
-    ensures { plain_scopes result ≡ record { names = names.items; functions = []; objects = []; innermost = 0 } }
+    ensures { plain_scopes result ≡ no_scopes names.items }
 {
     Scopes {
         names,
-        functions: Vec::new(alloc),
+        functions: Functions::new(alloc),
         objects: Vec::new(alloc),
         innermost: 0,
     }
@@ -40,9 +42,9 @@ fn type_body_items(
     alloc: Global,
     scopes: &mut Scopes,
     ctype: &CType,
-    items: Vec<Item>,
-) -> Result<Vec<Item>, TypeFault>
-    ensures typed { Answers plain_block (typed_items (plain_scopes scopes.old) (around_body (plain_type ctype.now)) (plain_items items.items)) result }
+    items: &mut Vec<Item>,
+) -> Result<(), TypeFault>
+    ensures typed { Answers (λ _. plain_items items.new.items) (typed_items (plain_scopes scopes.old) (around_body (plain_type ctype.now)) (plain_items items.old.items)) result }
     ensures file { at_file (plain_scopes scopes.new) ≡ at_file (plain_scopes scopes.old) }
 {
     let around = Around {
@@ -53,30 +55,33 @@ fn type_body_items(
 }
 
 /// A body is a block (C99 6.9.1).
+fn type_body_kind(
+    alloc: Global,
+    scopes: &mut Scopes,
+    ctype: &CType,
+    kind: &mut StmtKind,
+) -> Result<(), TypeFault>
+    ensures typed { (at : Place) → Answers (λ _. Some (plain_stmt_kind at kind.new)) (typed_body (plain_scopes scopes.old) (plain_type ctype.now) (Some (plain_stmt_kind at kind.old))) result }
+    ensures file { at_file (plain_scopes scopes.new) ≡ at_file (plain_scopes scopes.old) }
+{
+    match kind {
+        StmtKind::Block(items) => type_body_items(alloc, scopes, ctype, items),
+        _ => Ok(()),
+    }
+}
+
 fn type_body(
     alloc: Global,
     scopes: &mut Scopes,
     ctype: &CType,
-    body: Option<Stmt>,
-) -> Result<Option<Stmt>, TypeFault>
-    ensures typed { Answers (option_map plain_stmt) (typed_body (plain_scopes scopes.old) (plain_type ctype.now) (option_map plain_stmt body)) result }
+    body: &mut Option<Stmt>,
+) -> Result<(), TypeFault>
+    ensures typed { Answers (λ _. option_map plain_stmt body.new) (typed_body (plain_scopes scopes.old) (plain_type ctype.now) (option_map plain_stmt body.old)) result }
     ensures file { at_file (plain_scopes scopes.new) ≡ at_file (plain_scopes scopes.old) }
 {
     match body {
-        None => Ok(None),
-        Some(s) => {
-            let Stmt { place, kind } = s;
-            match kind {
-                StmtKind::Block(items) => {
-                    let items = type_body_items(alloc, scopes, ctype, items)?;
-                    Ok(Some(Stmt {
-                        place,
-                        kind: StmtKind::Block(items),
-                    }))
-                }
-                kind => Ok(Some(Stmt { place, kind })),
-            }
-        }
+        None => Ok(()),
+        Some(s) => type_body_kind(alloc, scopes, ctype, &mut s.kind),
     }
 }
 
@@ -85,32 +90,15 @@ fn type_parts(
     alloc: Global,
     scopes: &mut Scopes,
     heading: Result<(), TypeFault>,
-    f: Func,
-) -> Result<Func, TypeFault>
-    ensures typed { AnswersBehind heading (checked_parts (plain_scopes scopes.old) (plain_func f)) result }
+    f: &mut Func,
+) -> Result<(), TypeFault>
+    ensures typed { AnswersBehind heading (λ _. plain_func f.new) (checked_parts (plain_scopes scopes.old) (plain_func f.old)) result }
     ensures file { at_file (plain_scopes scopes.new) ≡ at_file (plain_scopes scopes.old) }
 {
     heading?;
-    let Func {
-        place,
-        name,
-        result,
-        params,
-        contract,
-        body,
-        close,
-    } = f;
-    check_parameters(scopes, &params)?;
-    let body = type_body(alloc, scopes, &result, body)?;
-    Ok(Func {
-        place,
-        name,
-        result,
-        params,
-        contract,
-        body,
-        close,
-    })
+    check_parameters(scopes, &f.params)?;
+    let ctype = copy_type(&f.result);
+    type_body(alloc, scopes, &ctype, &mut f.body)
 }
 
 /// Ends a function: no object is in sight.
@@ -126,9 +114,9 @@ fn type_function(
     alloc: Global,
     scopes: &mut Scopes,
     heading: Result<(), TypeFault>,
-    f: Func,
-) -> Result<Func, TypeFault>
-    ensures typed { AnswersBehind heading (checked_parts (plain_scopes scopes.old) (plain_func f)) result }
+    f: &mut Func,
+) -> Result<(), TypeFault>
+    ensures typed { AnswersBehind heading (λ _. plain_func f.new) (checked_parts (plain_scopes scopes.old) (plain_func f.old)) result }
     ensures behind { plain_scopes scopes.new ≡ at_file (plain_scopes scopes.old) }
 {
     let typed = type_parts(alloc, scopes, heading, f);
@@ -136,27 +124,43 @@ fn type_function(
     typed
 }
 
-/// Functions, each in sight of those behind it, and the names of the text as they were.
+/// Types functions in turn, by what each name denotes in the file.
+fn type_each(
+    alloc: Global,
+    scopes: &mut Scopes,
+    numbers: &IndexMap<u32, Callee>,
+    known: &mut IndexMap<u32, Noted>,
+    funcs: &mut Vec<Func>,
+) -> Result<(), TypeFault>
+    requires start { plain_scopes scopes.old ≡ no_scopes scopes.old.names.items }
+    requires told { (x : ℕ) → get nat_eq numbers.now x ≡ denoted (map plain_func funcs.old.items) x }
+    requires none { (x : ℕ) → get nat_eq known.old x ≡ None }
+    ensures typed { Answers (λ _. map plain_func funcs.new.items) (typed_file scopes.old.names.items (map plain_func funcs.old.items)) result }
+    ensures names { OnOk result (scopes.new.names.items ≡ scopes.old.names.items) }
+{
+    let mut done = Ok(());
+    for i in 0..funcs.len() {
+        let f = &mut funcs[i];
+        let heading = check_heading(scopes, known, f);
+        note_name(&scopes.functions, known, f)?;
+        see_function(alloc, scopes, numbers, f)?;
+        let typed = type_function(alloc, scopes, heading, f);
+        done = both(done, typed);
+    }
+    done
+}
+
+/// Types functions, each in sight of those behind it. The names of the text stay as they were.
 pub fn type_functions(
     alloc: Global,
-    names: Vec<Name>,
-    funcs: Vec<Func>,
-) -> Result<(Vec<Name>, Vec<Func>), TypeFault>
-    ensures typed { Answers (λ r. plain_funcs r.1) (typed_file names.items (map plain_func funcs.items)) result }
-    ensures names { IfOk result (λ r. r.0.items ≡ names.items) }
+    scopes: &mut Scopes,
+    funcs: &mut Vec<Func>,
+) -> Result<(), TypeFault>
+    requires { plain_scopes scopes.old ≡ no_scopes scopes.old.names.items }
+    ensures typed { Answers (λ _. map plain_func funcs.new.items) (typed_file scopes.old.names.items (map plain_func funcs.old.items)) result }
+    ensures names { OnOk result (scopes.new.names.items ≡ scopes.old.names.items) }
 {
-    let numbers = denoted(alloc, &funcs)?;
+    let numbers = denoted(alloc, funcs)?;
     let mut known = IndexMap::new(alloc);
-    let mut scopes = file_scopes(alloc, names);
-    let mut done = Ok(Vec::new(alloc));
-    for f in funcs {
-        let heading = check_heading(&scopes, &known, &f);
-        see_function(alloc, &mut scopes, &numbers, &f)?;
-        note_name(&mut known, &f)?;
-        let f = type_function(alloc, &mut scopes, heading, f);
-        done = push(both(done, f));
-    }
-    let Scopes { names, .. } = scopes;
-    let funcs = done?;
-    Ok((names, funcs))
+    type_each(alloc, scopes, &numbers, &mut known, funcs)
 }

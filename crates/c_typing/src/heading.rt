@@ -6,16 +6,19 @@ ghost use Rattle.indexmap.specs.IndexMap.{get};
 ghost use Rattle.c_syntax.specs.Ctypes.{plain_type};
 ghost use Rattle.c_syntax.specs.Statements.{plain_decl};
 ghost use Rattle.c_syntax.specs.Programs.{plain_func};
+ghost use Rattle.c_model.specs.Typing.{function_called};
 ghost use Rattle.c_model.specs.ProgramTyping.{same_types, types_of};
 ghost use Rattle.c_type_rules.specs.Answers.{Answers};
-ghost use Rattle.c_type_rules.specs.Scopes.{plain_scopes, plain_signature};
-ghost use Rattle.c_typing.specs.Functions.{checked_heading, declared, denoted, fits, fits_types, has_type, tells_more, was_defined, with_function, with_known, with_told};
+ghost use Rattle.c_type_rules.specs.Scopes.{plain_scopes};
+ghost use Rattle.c_type_rules.specs.Signatures.{plain_signature};
+ghost use Rattle.c_typing.specs.Functions.{checked_heading, declared, denoted, fits, has_type, is_alike, tells_more, was_defined, with_function, with_known, with_told};
 
 use c_syntax::{CType, Decl, Func};
 use c_type_rules::conversion::{copy_type, same_type};
 use c_type_rules::fault::{TypeFault, no_name};
 use c_type_rules::library::is_library_name;
-use c_type_rules::scope::{Scopes, Signature, name_at};
+use c_type_rules::scope::{Scopes, name_at};
+use c_type_rules::signature::{Functions, Signature};
 use indexmap::IndexMap;
 use std::alloc::{AllocError, Global};
 
@@ -87,32 +90,32 @@ fn has_type(g: &Signature, f: &Func) -> bool
     same_type(&g.result, &f.result) && same_types(&g.params, &f.params)
 }
 
-/// Whether a function has the type of each that is declared under its name (C99 6.7 p4).
-fn fits_types(before: &[Signature], f: &Func) -> bool
-    ensures { result ≡ fits_types (map plain_signature before.now) (plain_func f.now) }
-{
-    for g in before {
-        if g.name == f.name && !has_type(g, f) {
-            return false;
-        }
-    }
-    true
+/// What is kept of a name that is declared.
+#[derive(Clone, Copy, PartialEq, Eq, Debug)]
+pub struct Noted {
+    /// Whether it is defined.
+    pub defined: bool,
+    /// Whether all its declarations have one type, so that the first tells the type of each.
+    pub alike: bool,
 }
 
 /// Whether a function fits those that are declared before it: it has their type, and is defined once (C99 6.7 p4, 6.9 p5).
-fn fits(before: &[Signature], names: &IndexMap<u32, bool>, f: &Func) -> bool
-    ensures { result ≡ fits (map plain_signature before.now) (get nat_eq names.now f.now.name) (plain_func f.now) }
+fn fits(functions: &Functions, names: &IndexMap<u32, Noted>, f: &Func) -> bool
+    ensures { result ≡ fits (function_called f.now.name (map plain_signature functions.now.signatures.items)) (get nat_eq names.now f.now.name) (plain_func f.now) }
 {
     match names.get(&f.name) {
         None => true,
-        Some(defined) => fits_types(before, f) && !(f.body.is_some() && *defined),
+        Some(noted) => match functions.called(f.name) {
+            None => true,
+            Some(g) => noted.alike && has_type(g, f) && !(f.body.is_some() && noted.defined),
+        },
     }
 }
 
 /// A function's name: none of the library's, and fitting those that are declared before it.
 pub fn check_heading(
     scopes: &Scopes,
-    names: &IndexMap<u32, bool>,
+    names: &IndexMap<u32, Noted>,
     f: &Func,
 ) -> Result<(), TypeFault>
     ensures { Answers (λ _. tt) (checked_heading (plain_scopes scopes.now) (get nat_eq names.now) (plain_func f.now)) result }
@@ -128,21 +131,41 @@ pub fn check_heading(
 }
 
 /// Whether a name is defined so far.
-fn was_defined(names: &IndexMap<u32, bool>, name: u32) -> bool
+fn was_defined(names: &IndexMap<u32, Noted>, name: u32) -> bool
     ensures { result ≡ was_defined (get nat_eq names.now name) }
 {
     match names.get(&name) {
         None => false,
-        Some(defined) => *defined,
+        Some(noted) => noted.defined,
     }
 }
 
-/// Keeps that a function's name is declared, and whether it is defined.
-pub fn note_name(names: &mut IndexMap<u32, bool>, f: &Func) -> Result<(), AllocError>
-    ensures { OnOk result ((x : ℕ) → get nat_eq names.new x ≡ with_known (get nat_eq names.old) (plain_func f.now) x) }
+/// Whether the declarations of a function's name have one type, with the function.
+fn is_alike(functions: &Functions, names: &IndexMap<u32, Noted>, f: &Func) -> bool
+    ensures { result ≡ is_alike (function_called f.now.name (map plain_signature functions.now.signatures.items)) (get nat_eq names.now f.now.name) (plain_func f.now) }
 {
-    let defined = was_defined(names, f.name) || f.body.is_some();
-    names.insert(f.name, defined)?;
+    match functions.called(f.name) {
+        None => true,
+        Some(g) => match names.get(&f.name) {
+            None => true,
+            Some(noted) => noted.alike && has_type(g, f),
+        },
+    }
+}
+
+/// Keeps that a function's name is declared behind these functions.
+pub fn note_name(
+    functions: &Functions,
+    names: &mut IndexMap<u32, Noted>,
+    f: &Func,
+) -> Result<(), AllocError>
+    ensures { OnOk result ((x : ℕ) → get nat_eq names.new x ≡ with_known (function_called f.now.name (map plain_signature functions.now.signatures.items)) (get nat_eq names.old) (plain_func f.now) x) }
+{
+    let noted = Noted {
+        defined: was_defined(names, f.name) || f.body.is_some(),
+        alike: is_alike(functions, names, f),
+    };
+    names.insert(f.name, noted)?;
     Ok(())
 }
 

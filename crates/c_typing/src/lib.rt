@@ -14,8 +14,6 @@ pub mod noted;
 pub mod parameter;
 pub mod program;
 pub mod statement;
-#[cfg(test)]
-mod tests;
 
 pub use c_type_rules::{Fault, TypeFault};
 pub use checked::{ProgramFault, Typed};

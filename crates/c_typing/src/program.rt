@@ -9,37 +9,23 @@ ghost use Rattle.c_type_rules.specs.Answers.{Answers, plain_fault};
 ghost use Rattle.c_typing.specs.Answers.{AnswersProgram};
 
 use crate::checked::{ProgramFault, Typed};
-use crate::function::type_functions;
+use crate::function::{file_scopes, type_functions};
 use c_syntax::{CInt, CType, Func, Name, Place, Program};
 use c_type_rules::fault::{Fault, TypeFault};
-use c_type_rules::scope::name_at;
+use c_type_rules::scope::{Scopes, name_at};
 use std::alloc::Global;
+use std::mem::replace;
 
 /// Names and types of a text.
-fn type_unit(alloc: Global, program: Program) -> Result<Program, TypeFault>
-    ensures { Answers plain_program (typed_unit (plain_program program)) result }
+fn type_unit(alloc: Global, program: &mut Program) -> Result<(), TypeFault>
+    ensures { Answers (λ _. plain_program program.new) (typed_unit (plain_program program.old)) result }
 {
-    let Program {
-        names,
-        texts,
-        structs,
-        enums,
-        typedefs,
-        globals,
-        funcs,
-        strays,
-    } = program;
-    let (names, funcs) = type_functions(alloc, names, funcs)?;
-    Ok(Program {
-        names,
-        texts,
-        structs,
-        enums,
-        typedefs,
-        globals,
-        funcs,
-        strays,
-    })
+    let names = replace(&mut program.names, Vec::new(alloc));
+    let mut scopes = file_scopes(alloc, names);
+    type_functions(alloc, &mut scopes, &mut program.funcs)?;
+    let Scopes { names, .. } = scopes;
+    program.names = names;
+    Ok(())
 }
 
 /// Whether a function's type is `int (void)`.
@@ -78,11 +64,12 @@ fn main_fault(names: &[Name], funcs: &[Func]) -> Option<Fault>
 pub fn type_program(alloc: Global, program: Program) -> Result<Typed, ProgramFault>
     ensures { AnswersProgram (plain_program program) result }
 {
-    let program = match type_unit(alloc, program) {
-        Ok(program) => program,
+    let mut program = program;
+    match type_unit(alloc, &mut program) {
+        Ok(()) => (),
         Err(TypeFault::Refused(fault)) => return Err(ProgramFault::Refused(fault)),
         Err(TypeFault::Memory) => return Err(ProgramFault::Memory),
-    };
+    }
     match main_fault(&program.names, &program.funcs) {
         None => Ok(Typed { program }),
         Some(fault) => Err(ProgramFault::NoMain(fault)),

@@ -1,87 +1,100 @@
-use Rattle.std.proofs.Common.{◌≡◌, rules, Err, ap, sym, subst, ◌∙◌, append_assoc, ◌++◌, [], ◌∷◌, map}
+use Rattle.std.proofs.Common.{◌≡◌, ◌+◌, take, rules, Err, sym, arith, ◌<◌, map, length, slice_set}
 use Rattle.c_syntax.specs.Ctypes.{plain_type}
-use Rattle.c_syntax.specs.Expressions.{plain_expr, plain_exprs}
-use Rattle.c_model.specs.Checked.{both_parts}
-use Rattle.c_model.specs.Typing.{typed, binary, both_of, either_of, choice_of, assign, callee, argument_for, first_type, rest_types, two}
+use Rattle.c_syntax.specs.Expressions.{Node, Choice, plain_expr, plain_exprs, plain_kind}
+use Rattle.c_syntax.specs.declared.types.CType.{CType}
+use Rattle.c_model.specs.Checked.{Good}
+use Rattle.c_model.specs.Typing.{typed}
 use Rattle.c_type_rules.specs.Answers.{Answers}
+use Rattle.c_type_rules.specs.Parts.{demanded, typed_call_parts, typed_parts}
 use Rattle.c_type_rules.specs.Scopes.{plain_scopes}
-use Rattle.c_type_rules.proofs.Least.{both_refused, both_answers, one_refused, one_then}
-use Rattle.c_type_rules.proofs.Expressions.{at_kind, at_call, call_refused, call_typed, params_more, argument_checked, arguments_more}
+use Rattle.c_type_rules.proofs.Expressions.{two_binary, two_both, two_either, two_assign, made_of_three, at_call_parts, call_refused, demand_refused, demand_typed, arguments_step, params_step}
+use Rattle.c_type_rules.proofs.InPlace.{done, seen, unvisited_step, within_step}
 use Rattle.c_type_rules.proofs.expression.+expression.Goals as goal
-use Rattle.c_type_rules.proofs.expression.+expression.Goals.{type_arguments-in-Ok, type_arguments-in-Err}
 
-pub type_expr-returns-in_err-a-in-Binary : goal.type_expr-returns-in_err-a-in-Binary
-type_expr-returns-in_err-a-in-Binary t c =
-    let e : c.from_residual-in_err-a-in-Binary.result ≡ Err c.in_err-a-in-Binary.field-0.0 = search rules in
+pub type_parts-returns-in-Binary : goal.type_parts-returns-in-Binary
+type_parts-returns-in-Binary t c =
     let s = plain_scopes c.args.scopes.now in
-    rw e (at_kind s c.args.e _ (Err c.in_err-a-in-Binary.field-0.0) c.in-Binary.is
-    (both_refused (binary c.args.e.place c.in-Binary.op) plain_expr plain_expr plain_expr (typed s (plain_expr c.in-Binary.a.value)) (typed s (plain_expr c.in-Binary.b.value)) c.type_expr-a.result c.type_expr-b.result _
-    (subst (λ x. Answers plain_expr (typed s (plain_expr x)) c.type_expr-a.result) c.into_inner-in-Binary.ensures c.type_expr-a.ensures)
-    (subst (λ x. Answers plain_expr (typed s (plain_expr x)) c.type_expr-b.result) c.into_inner-in-Binary-2.ensures c.type_expr-b.ensures)
-    c.in_err-a-in-Binary.ensures))
+    let ha : Answers (λ (u : Unit {0}). plain_expr c.type_expr-first.new.e) (typed s (plain_expr c.in-Binary.a)) c.type_expr-first.result = search rules in
+    let hb : Answers (λ (u : Unit {0}). plain_expr c.type_expr-second.new.e) (typed s (plain_expr c.in-Binary.b)) c.type_expr-second.result = search rules in
+    let whole = two_binary s (plain_expr c.in-Binary.a) (plain_expr c.in-Binary.b) (plain_expr c.type_expr-first.new.e) (plain_expr c.type_expr-second.new.e) c.type_expr-first.result c.type_expr-second.result c.both.result ha hb c.both.ensures c.in-Binary._op in
+    search (rules, whole)
 
-pub type_expr-returns-in_err-a-in-Both : goal.type_expr-returns-in_err-a-in-Both
-type_expr-returns-in_err-a-in-Both t c =
-    let e : c.from_residual-in_err-a-in-Both.result ≡ Err c.in_err-a-in-Both.field-0.0 = search rules in
+pub type_parts-returns-in-Both : goal.type_parts-returns-in-Both
+type_parts-returns-in-Both t c =
     let s = plain_scopes c.args.scopes.now in
-    rw e (at_kind s c.args.e _ (Err c.in_err-a-in-Both.field-0.0) c.in-Both.is
-    (both_refused (both_of c.args.e.place) plain_expr plain_expr plain_expr (typed s (plain_expr c.in-Both.a.value)) (typed s (plain_expr c.in-Both.b.value)) c.type_expr-a-in-Both.result c.type_expr-b-in-Both.result _
-    (subst (λ x. Answers plain_expr (typed s (plain_expr x)) c.type_expr-a-in-Both.result) c.into_inner-in-Both.ensures c.type_expr-a-in-Both.ensures)
-    (subst (λ x. Answers plain_expr (typed s (plain_expr x)) c.type_expr-b-in-Both.result) c.into_inner-in-Both-2.ensures c.type_expr-b-in-Both.ensures)
-    c.in_err-a-in-Both.ensures))
+    let ha : Answers (λ (u : Unit {0}). plain_expr c.type_expr-first-in-Both.new.e) (typed s (plain_expr c.in-Both.a)) c.type_expr-first-in-Both.result = search rules in
+    let hb : Answers (λ (u : Unit {0}). plain_expr c.type_expr-second-in-Both.new.e) (typed s (plain_expr c.in-Both.b)) c.type_expr-second-in-Both.result = search rules in
+    let whole = two_both s (plain_expr c.in-Both.a) (plain_expr c.in-Both.b) (plain_expr c.type_expr-first-in-Both.new.e) (plain_expr c.type_expr-second-in-Both.new.e) c.type_expr-first-in-Both.result c.type_expr-second-in-Both.result c.both-in-Both.result ha hb c.both-in-Both.ensures in
+    search (rules, whole)
 
-pub type_expr-returns-in_err-a-in-Either : goal.type_expr-returns-in_err-a-in-Either
-type_expr-returns-in_err-a-in-Either t c =
-    let e : c.from_residual-in_err-a-in-Either.result ≡ Err c.in_err-a-in-Either.field-0.0 = search rules in
+pub type_parts-returns-in-Either : goal.type_parts-returns-in-Either
+type_parts-returns-in-Either t c =
     let s = plain_scopes c.args.scopes.now in
-    rw e (at_kind s c.args.e _ (Err c.in_err-a-in-Either.field-0.0) c.in-Either.is
-    (both_refused (either_of c.args.e.place) plain_expr plain_expr plain_expr (typed s (plain_expr c.in-Either.a.value)) (typed s (plain_expr c.in-Either.b.value)) c.type_expr-a-in-Either.result c.type_expr-b-in-Either.result _
-    (subst (λ x. Answers plain_expr (typed s (plain_expr x)) c.type_expr-a-in-Either.result) c.into_inner-in-Either.ensures c.type_expr-a-in-Either.ensures)
-    (subst (λ x. Answers plain_expr (typed s (plain_expr x)) c.type_expr-b-in-Either.result) c.into_inner-in-Either-2.ensures c.type_expr-b-in-Either.ensures)
-    c.in_err-a-in-Either.ensures))
+    let ha : Answers (λ (u : Unit {0}). plain_expr c.type_expr-first-in-Either.new.e) (typed s (plain_expr c.in-Either.a)) c.type_expr-first-in-Either.result = search rules in
+    let hb : Answers (λ (u : Unit {0}). plain_expr c.type_expr-second-in-Either.new.e) (typed s (plain_expr c.in-Either.b)) c.type_expr-second-in-Either.result = search rules in
+    let whole = two_either s (plain_expr c.in-Either.a) (plain_expr c.in-Either.b) (plain_expr c.type_expr-first-in-Either.new.e) (plain_expr c.type_expr-second-in-Either.new.e) c.type_expr-first-in-Either.result c.type_expr-second-in-Either.result c.both-in-Either.result ha hb c.both-in-Either.ensures in
+    search (rules, whole)
 
-pub type_expr-returns-in_err-a-in-Assign : goal.type_expr-returns-in_err-a-in-Assign
-type_expr-returns-in_err-a-in-Assign t c =
-    let e : c.from_residual-in_err-a-in-Assign.result ≡ Err c.in_err-a-in-Assign.field-0.0 = search rules in
+pub type_parts-returns-in-Assign : goal.type_parts-returns-in-Assign
+type_parts-returns-in-Assign t c =
     let s = plain_scopes c.args.scopes.now in
-    rw e (at_kind s c.args.e _ (Err c.in_err-a-in-Assign.field-0.0) c.in-Assign.is
-    (both_refused (assign c.args.e.place c.in-Assign.op) plain_expr plain_expr plain_expr (typed s (plain_expr c.in-Assign.a.value)) (typed s (plain_expr c.in-Assign.b.value)) c.type_expr-a-in-Assign.result c.type_expr-b-in-Assign.result _
-    (subst (λ x. Answers plain_expr (typed s (plain_expr x)) c.type_expr-a-in-Assign.result) c.into_inner-in-Assign.ensures c.type_expr-a-in-Assign.ensures)
-    (subst (λ x. Answers plain_expr (typed s (plain_expr x)) c.type_expr-b-in-Assign.result) c.into_inner-in-Assign-2.ensures c.type_expr-b-in-Assign.ensures)
-    c.in_err-a-in-Assign.ensures))
+    let ha : Answers (λ (u : Unit {0}). plain_expr c.type_expr-first-in-Assign.new.e) (typed s (plain_expr c.in-Assign.a)) c.type_expr-first-in-Assign.result = search rules in
+    let hb : Answers (λ (u : Unit {0}). plain_expr c.type_expr-second-in-Assign.new.e) (typed s (plain_expr c.in-Assign.b)) c.type_expr-second-in-Assign.result = search rules in
+    let whole = two_assign s (plain_expr c.in-Assign.a) (plain_expr c.in-Assign.b) (plain_expr c.type_expr-first-in-Assign.new.e) (plain_expr c.type_expr-second-in-Assign.new.e) c.type_expr-first-in-Assign.result c.type_expr-second-in-Assign.result c.both-in-Assign.result ha hb c.both-in-Assign.ensures c.in-Assign._op in
+    search (rules, whole)
 
-pub type_expr-returns-in_err-a-in-Choice : goal.type_expr-returns-in_err-a-in-Choice
-type_expr-returns-in_err-a-in-Choice t c =
-    let e : c.from_residual-in_err-a-in-Choice.result ≡ Err c.in_err-a-in-Choice.field-0.0 = search rules in
+pub type_parts-returns-in-Choice : goal.type_parts-returns-in-Choice
+type_parts-returns-in-Choice t c =
     let s = plain_scopes c.args.scopes.now in
-    rw e (at_kind (plain_scopes c.args.scopes.now) c.args.e _ (Err c.in_err-a-in-Choice.field-0.0) c.in-Choice.is
-    (both_refused (λ x p. choice_of c.args.e.place x p.0 p.1) plain_expr (λ x. (plain_expr x.0, plain_expr x.1)) plain_expr (typed s (plain_expr c.in-Choice.a.value)) (both_parts (typed s (plain_expr c.in-Choice.b.value)) (typed s (plain_expr c.in-Choice.c.value)) two) _ _ _
-    (subst (λ x. Answers plain_expr (typed s (plain_expr x)) c.type_expr-a-in-Choice.result) c.into_inner-in-Choice.ensures c.type_expr-a-in-Choice.ensures)
-    (both_answers plain_expr plain_expr (typed s (plain_expr c.in-Choice.b.value)) (typed s (plain_expr c.in-Choice.c.value)) c.type_expr-b-in-Choice.result c.type_expr-c.result c.both-in-Choice.result (subst (λ x. Answers plain_expr (typed s (plain_expr x)) c.type_expr-b-in-Choice.result) c.into_inner-in-Choice-2.ensures c.type_expr-b-in-Choice.ensures) (subst (λ x. Answers plain_expr (typed s (plain_expr x)) c.type_expr-c.result) c.into_inner-in-Choice-3.ensures c.type_expr-c.ensures) c.both-in-Choice.ensures)
-    c.in_err-a-in-Choice.ensures))
+    let ha : Answers (λ (u : Unit {0}). plain_expr c.type_expr-first-in-Choice.new.e) (typed s (plain_expr c.in-Choice.a)) c.type_expr-first-in-Choice.result = search rules in
+    let hb : Answers (λ (u : Unit {0}). plain_expr c.type_expr-second-in-Choice.new.e) (typed s (plain_expr c.in-Choice.b)) c.type_expr-second-in-Choice.result = search rules in
+    let hc : Answers (λ (u : Unit {0}). plain_expr c.type_expr-third.new.e) (typed s (plain_expr c.in-Choice.c)) c.type_expr-third.result = search rules in
+    let whole = made_of_three Choice s (plain_expr c.in-Choice.a) (plain_expr c.in-Choice.b) (plain_expr c.in-Choice.c) (plain_expr c.type_expr-first-in-Choice.new.e) (plain_expr c.type_expr-second-in-Choice.new.e) (plain_expr c.type_expr-third.new.e)
+    c.type_expr-first-in-Choice.result c.type_expr-second-in-Choice.result c.type_expr-third.result c.both-in-Choice.result c.both-in-Choice-2.result ha hb hc c.both-in-Choice.ensures c.both-in-Choice-2.ensures in
+    search (rules, whole)
 
-pub type_expr-returns-in_err-f-in-Call : goal.type_expr-returns-in_err-f-in-Call
-type_expr-returns-in_err-f-in-Call t c =
-    let e : c.from_residual-in_err-f-in-Call.result ≡ Err c.in_err-f-in-Call.field-0.0 = search rules in
+pub type_parts-returns-in-Call : goal.type_parts-returns-in-Call
+type_parts-returns-in-Call t c =
     let s = plain_scopes c.args.scopes.now in
-    rw e (at_call (plain_scopes c.args.scopes.now) c.args.e c.in-Call.x c.in-Call.arguments (Err c.in_err-f-in-Call.field-0.0) c.in-Call.is
-    (call_refused s c.args.e.place (plain_exprs c.in-Call.arguments.items) (callee s c.args.e.place c.in-Call.x.name) c.callee-f.result c.type_arguments-arguments.result c.in_err-f-in-Call.field-0.0 c.callee-f.ensures (rw c.known_params.ensures at c.type_arguments-arguments.ensures) c.in_err-f-in-Call.ensures))
+    let h : Answers (λ (u : Unit {0}). plain_exprs c.type_call_parts.new.arguments.items) (typed_call_parts s c.args.place c.in-Call.x.name (plain_exprs c.in-Call.arguments.items)) c.type_call_parts.result = search rules in
+    let whole = at_call_parts s c.args.place c.args.kind.now c.in-Call.x c.in-Call.arguments c.type_call_parts.new.arguments c.type_call_parts.result c.in-Call.is h in
+    search (rules, whole)
 
-pub type_expr-returns-in_ok-f-in-Call : goal.type_expr-returns-in_ok-f-in-Call
-type_expr-returns-in_ok-f-in-Call t c =
+pub type_call_parts-returns-in_err-both : goal.type_call_parts-returns-in_err-both
+type_call_parts-returns-in_err-both t c =
+    let e : c.from_residual.result ≡ Err c.in_err-both.field-0.0 = search rules in
+    rw e (call_refused (plain_scopes c.args.scopes.now) c.args.place c.args.name (plain_exprs c.args.arguments.now.items) (plain_exprs c.type_arguments-typed.new.arguments.items) c.callee-f.result c.type_arguments-typed.result c.in_err-both.field-0.0 c.callee-f.ensures (rw c.known_params.ensures at c.type_arguments-typed.ensures) (sym c.in_err-both.ensures))
+
+pub type_expr-returns-in_err-ctype : goal.type_expr-returns-in_err-ctype
+type_expr-returns-in_err-ctype t c =
+    let e : c.from_residual-in_err-ctype.result ≡ Err c.in_err-ctype.field-0.0 = search rules in
     let s = plain_scopes c.args.scopes.now in
-    at_call (plain_scopes c.args.scopes.now) c.args.e c.in-Call.x c.in-Call.arguments c.call.result c.in-Call.is
-    (call_typed s c.args.e.place (plain_exprs c.in-Call.arguments.items) (callee s c.args.e.place c.in-Call.x.name) c.callee-f.result c.type_arguments-arguments.result c.in_ok-f-in-Call.f c.in_ok-f-in-Call.arguments c.call.result c.callee-f.ensures (rw c.known_params.ensures at c.type_arguments-arguments.ensures) c.in_ok-f-in-Call.ensures.0 c.in_ok-f-in-Call.ensures.1 c.call.ensures)
+    let parts : typed_parts s c.args.e.now.place (plain_kind c.args.e.now.kind.value) ≡ Good (plain_kind c.type_parts.new.kind) = search rules in
+    let bad : Answers (λ (u : CType). Node c.args.e.now.place (plain_type u) (plain_kind c.demand.new.kind)) (demanded s c.args.e.now.place (plain_kind c.type_parts.new.kind)) (Err c.in_err-ctype.field-0.0) = search rules in
+    let whole = demand_refused s c.args.e.now.place (plain_type c.args.e.now.ctype) (plain_kind c.args.e.now.kind.value) (plain_kind c.type_parts.new.kind) parts (λ (u : Unit {0}). plain_expr c.args.e.now) (λ (u : CType). Node c.args.e.now.place (plain_type u) (plain_kind c.demand.new.kind)) c.in_err-ctype.field-0.0 bad in
+    search (rules, e, whole)
 
-pub type_arguments-loop-e-preserved : goal.type_arguments-loop-e-preserved
-type_arguments-loop-e-preserved t c =
+pub type_expr-returns : goal.type_expr-returns
+type_expr-returns t c =
+    let s = plain_scopes c.args.scopes.now in
+    let parts : typed_parts s c.args.e.now.place (plain_kind c.args.e.now.kind.value) ≡ Good (plain_kind c.type_parts.new.kind) = search rules in
+    let good : demanded s c.args.e.now.place (plain_kind c.type_parts.new.kind) ≡ Good (Node c.args.e.now.place (plain_type c.in_ok-ctype.ctype) (plain_kind c.demand.new.kind)) = search rules in
+    demand_typed s c.args.e.now.place (plain_type c.args.e.now.ctype) (plain_kind c.args.e.now.kind.value) (plain_kind c.type_parts.new.kind) parts _ good
+
+pub type_arguments-loop-i-preserved : goal.type_arguments-loop-i-preserved
+type_arguments-loop-i-preserved t c =
     let s = plain_scopes c.args.scopes.now in
     let ts = map plain_type c.args.params.now in
-    let checked : Answers plain_expr (argument_checked s (map plain_type c.loop-e.rest.now) c.in-Some.e) c.match-type_expr.e = elim c.match-type_expr.branch [
-      | type_arguments-in-Ok w ↦ rw w.e-is (one_then (argument_for (first_type (map plain_type c.loop-e.rest.now))) plain_expr plain_expr (typed s (plain_expr c.in-Some.e)) w.in-Ok.e w.argument_for-e.result (rw w.in-Ok.is at c.type_expr.ensures) w.argument_for-e.ensures)
-      | type_arguments-in-Err w ↦ rw w.e-is (one_refused (argument_for (first_type (map plain_type c.loop-e.rest.now))) plain_expr plain_expr (typed s (plain_expr c.in-Some.e)) w.in-Err.fault (rw w.in-Err.is at c.type_expr.ensures))
-    ] in (
-      c.loop-e.invariant.0 ∙ ap (λ r. c.loop-e.yielded ++ r) c.in-Some.ensures.steps.0 ∙ sym (append_assoc c.loop-e.yielded (c.in-Some.e ∷ []) c.next.new.self.rest.items),
-      c.behind_first-rest.ensures ∙ ap rest_types c.loop-e.invariant.1 ∙ sym (params_more c.loop-e.yielded c.in-Some.e ts),
-      arguments_more s ts c.loop-e.yielded c.in-Some.e c.loop-e.done c.match-type_expr.e c.both.result c.push-done.result c.loop-e.invariant.2 (rw c.loop-e.invariant.1 at checked) c.both.ensures c.push-done.ensures,
-    )
+    let old = c.args.arguments.now.items in
+    let cur = c.loop-i.arguments.items in
+    let i = c.loop-i.i in
+    let x = c.index_mut.result.now in
+    let y = c.type_argument-e.new.e in
+    let lt : i < length cur = search (rules, arith) in
+    let was = seen old cur i x lt c.loop-i.invariant.unvisited c.index_mut.ensures.value in
+    record {
+      unvisited = unvisited_step old cur i y c.loop-i.invariant.unvisited;
+      within = within_step cur i y lt;
+      rest = params_step ts (take i old) (take (i + 1) old) x (map plain_type c.loop-i.rest.now) (map plain_type c.behind_first-rest.result.now) was c.loop-i.invariant.rest c.behind_first-rest.ensures;
+      done = rw c.both-done.ensures (arguments_step s ts (take i old) (take (i + 1) old) (take i cur) (take (i + 1) (slice_set cur i y)) x y c.loop-i.done c.type_argument-e.result was (done cur i y lt) c.loop-i.invariant.done (rw c.loop-i.invariant.rest at c.type_argument-e.ensures));
+    }

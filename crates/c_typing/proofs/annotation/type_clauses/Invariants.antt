@@ -1,9 +1,14 @@
-use Rattle.std.proofs.Common.{◌≡◌, map}
+use Rattle.std.proofs.Common.{◌≡◌, ◌≤◌, drop, length, map, take}
 use Rattle.c_syntax.specs.Annotations.{plain_annot}
 use Rattle.c_model.specs.ProgramTyping.{typed_annotations}
 use Rattle.c_type_rules.specs.Scopes.{plain_scopes}
+use Rattle.c_type_rules.proofs.InPlace.{Unvisited}
 use Rattle.c_typing.proofs.Lists.{behind_parts}
 use Rattle.c_typing.proofs.annotation.type_clauses.Given as goal
 
-abbrev pub invariant-loop-annot : goal.invariant-loop-annot
-invariant-loop-annot l = typed_annotations (plain_scopes l.scopes) (map plain_annot l.fn.annots.items) ≡ behind_parts (map plain_annot l.done.items) (typed_annotations (plain_scopes l.scopes) (map plain_annot l.annot-iterator.rest.items))
+abbrev pub invariant-loop-i : goal.invariant-loop-i
+invariant-loop-i l = record {
+  unvisited : Unvisited l.annots.items l.initial.annots.items l.i;
+  within : l.i ≤ length l.annots.items;
+  typed : typed_annotations (plain_scopes l.scopes) (map plain_annot l.initial.annots.items) ≡ behind_parts (map plain_annot (take l.i l.annots.items)) (typed_annotations (plain_scopes l.scopes) (map plain_annot (drop l.i l.initial.annots.items)));
+}

@@ -1,10 +1,21 @@
-use Rattle.std.proofs.Common.{ap, sym, ◌∙◌, append_assoc, ◌++◌, [], ◌∷◌}
+use Rattle.std.proofs.Common.{◌+◌, ◌<◌, rules, arith, length, slice_set, take}
 use Rattle.c_type_rules.specs.Scopes.{plain_scopes}
-use Rattle.c_typing.proofs.Chains.{links_more}
+use Rattle.c_typing.proofs.Chains.{links_step}
+use Rattle.c_type_rules.proofs.InPlace.{done, seen, unvisited_step, within_step}
 use Rattle.c_typing.proofs.annotation.type_links.Goals as goal
 
-pub loop-link-preserved : goal.loop-link-preserved
-loop-link-preserved c = (
-  c.loop-link.invariant.0 ∙ ap (λ r. c.loop-link.yielded ++ r) c.in-Some.ensures.steps.0 ∙ sym (append_assoc c.loop-link.yielded (c.in-Some.link ∷ []) c.next.new.self.rest.items),
-  links_more (plain_scopes c.args.scopes.now) c.loop-link.yielded c.in-Some.link c.loop-link.done c.type_link-link.result c.both.result c.push-done.result c.loop-link.invariant.1 c.type_link-link.ensures c.both.ensures c.push-done.ensures,
-)
+pub loop-i-preserved : goal.loop-i-preserved
+loop-i-preserved c =
+    let s = plain_scopes c.args.scopes.now in
+    let old = c.args.links.now.items in
+    let cur = c.loop-i.links.items in
+    let i = c.loop-i.i in
+    let x = c.index_mut.result.now in
+    let y = c.type_link-link.new.link in
+    let lt : i < length cur = search (rules, arith) in
+    let was = seen old cur i x lt c.loop-i.invariant.unvisited c.index_mut.ensures.value in
+    record {
+      unvisited = unvisited_step old cur i y c.loop-i.invariant.unvisited;
+      within = within_step cur i y lt;
+      done = rw c.both-done.ensures (links_step s (take i old) (take (i + 1) old) (take i cur) (take (i + 1) (slice_set cur i y)) x y c.loop-i.done c.type_link-link.result was (done cur i y lt) c.loop-i.invariant.done c.type_link-link.ensures);
+    }

@@ -1,15 +1,27 @@
-use Rattle.std.proofs.Common.{map, ◌∙◌}
+use Rattle.std.proofs.Common.{◌<◌, ◌+◌, rules, map, ◌∙◌, arith, drop, length, slice_set, take}
 use Rattle.c_syntax.specs.Statements.{plain_decl}
 use Rattle.c_type_rules.specs.Scopes.{plain_scopes}
 use Rattle.c_typing.proofs.Declarations.{declarations_more, objects_more}
+use Rattle.c_type_rules.proofs.InPlace.{done, left, unvisited_step, within_step}
 use Rattle.c_typing.proofs.declaration.type_declarations.Goals as goal
 
-pub loop-d-preserved : goal.loop-d-preserved
-loop-d-preserved c =
+pub loop-i-preserved : goal.loop-i-preserved
+loop-i-preserved c =
     let s = plain_scopes c.args.scopes.now in
-    let t = plain_scopes c.loop-d.scopes in
-    let t' = plain_scopes c.declare.new.scopes in (
-      declarations_more s t t' c.loop-d.done.items c.push.new.self.items c.in_ok-d.d c.in_ok-declare.ensures.seen c.in_ok-push.ensures.items (map plain_decl c.args.list.items) c.loop-d.d-iterator.rest.items c.in-Some.d c.next.new.self.rest.items c.loop-d.invariant.0 c.in-Some.ensures.steps.0 c.in_ok-d.ensures,
-      objects_more s t t' c.loop-d.done.items c.push.new.self.items c.in_ok-d.d c.in_ok-declare.ensures.seen c.in_ok-push.ensures.items c.loop-d.invariant.1,
-      c.declare.ensures.file ∙ c.loop-d.invariant.2,
-    )
+    let t = plain_scopes c.loop-i.scopes in
+    let t' = plain_scopes c.declare.new.scopes in
+    let old = c.args.list.now.items in
+    let cur = c.loop-i.list.items in
+    let i = c.loop-i.i in
+    let x = c.index_mut-d.result.now in
+    let y = c.type_declaration.new.d in
+    let lt : i < length cur = search (rules, arith) in
+    let next = done cur i y lt in
+    let rest = left old cur i x lt c.loop-i.invariant.unvisited c.index_mut-d.ensures.value in
+    record {
+      unvisited = unvisited_step old cur i y c.loop-i.invariant.unvisited;
+      within = within_step cur i y lt;
+      typed = declarations_more s t t' (take i cur) (take (i + 1) (slice_set cur i y)) y c.in_ok-declare.ensures.seen next (map plain_decl old) (drop i old) x (drop (i + 1) old) c.loop-i.invariant.typed rest c.in_ok-type_declaration.ensures;
+      sight = objects_more s t t' (take i cur) (take (i + 1) (slice_set cur i y)) y c.in_ok-declare.ensures.seen next c.loop-i.invariant.sight;
+      file = c.declare.ensures.file ∙ c.loop-i.invariant.file;
+    }

@@ -1,62 +1,71 @@
-use Rattle.std.proofs.Common.{◌≡◌, ◌∙◌, rules, Err, ap, arith, []}
-use Rattle.std.proofs.lemmas.List.{nil_from_length}
-use Rattle.c_syntax.specs.Statements.{plain_items}
-use Rattle.c_model.specs.Typing.{typed_items}
+use Rattle.std.proofs.Common.{◌≡◌, ◌+◌, ◌<◌, ◌≤◌, rules, ap, ◌∙◌, arith, drop, length, slice_set, take}
+use Rattle.c_syntax.specs.Expressions.{plain_expr}
+use Rattle.c_syntax.specs.Statements.{plain_items, plain_stmt}
+use Rattle.c_model.specs.Checked.{Good}
+use Rattle.c_model.specs.Typing.{behind_first, inner, typed_condition, typed_items, typed_statement}
+use Rattle.c_type_rules.specs.Answers.{Answers}
 use Rattle.c_type_rules.specs.Scopes.{plain_scopes}
-use Rattle.c_typing.specs.Trees.{plain_around}
+use Rattle.c_typing.specs.Trees.{plain_around, plain_for_first}
 use Rattle.c_typing.proofs.Blocks.{sight_more}
-use Rattle.c_typing.proofs.Statements.{block_refused, block_typed, do_refused, step_refused, body_refused, for_typed, block_more, block_done, block_left, for_left}
+use Rattle.c_type_rules.proofs.InPlace.{all_done, done, left, none_left, unvisited_step, within_step}
+use Rattle.c_typing.proofs.Statements.{block_done, block_in_place, block_left, block_more, do_in_place, for_left}
 use Rattle.c_typing.proofs.statement.+statement.Goals as goal
 
 pub type_block-returns-clause-same : goal.type_block-returns-clause-same
 type_block-returns-clause-same t c =
-    block_left (plain_scopes c.args.scopes.now) (plain_scopes c.enter-mark.new.scopes) (plain_scopes c.type_items.new.scopes) (plain_scopes c.leave.new.scopes) c.enter-mark.result.count c.enter-mark.result.innermost c.enter-mark.ensures.inner (ap (λ m. m.count) c.enter-mark.ensures.mark) (ap (λ m. m.innermost) c.enter-mark.ensures.mark) c.leave.ensures (plain_items c.in_ok-items.items.items) c.in_ok-items.ensures.behind
+    block_left (plain_scopes c.args.scopes.now) (plain_scopes c.enter-mark.new.scopes) (plain_scopes c.type_items.new.scopes) (plain_scopes c.leave.new.scopes) c.enter-mark.result.count c.enter-mark.result.innermost c.enter-mark.ensures.inner (ap (λ m. m.count) c.enter-mark.ensures.mark) (ap (λ m. m.innermost) c.enter-mark.ensures.mark) c.leave.ensures (plain_items c.type_items.new.items.items) c.in_ok-type_items.ensures.behind
 
-pub type_items-loop-item-preserved : goal.type_items-loop-item-preserved
-type_items-loop-item-preserved t c =
+pub type_items-loop-i-preserved : goal.type_items-loop-i-preserved
+type_items-loop-i-preserved t c =
     let s = plain_scopes c.args.scopes.now in
-    let u = plain_scopes c.loop-item.scopes in
-    let u' = plain_scopes c.type_item.new.scopes in (
-      block_more s u u' (plain_around c.args.around.now) c.loop-item.done.items c.push.new.self.items c.in_ok-item.item c.in_ok-item.ensures.behind c.in_ok-push.ensures.items (plain_items c.args.items.items) c.loop-item.item-iterator.rest.items c.in-Some.item c.next.new.self.rest.items c.loop-item.invariant.0 c.in-Some.ensures.steps.0 c.in_ok-item.ensures.typed,
-      sight_more s u u' c.loop-item.done.items c.push.new.self.items c.in_ok-item.item c.loop-item.invariant.1 c.in_ok-item.ensures.behind c.in_ok-push.ensures.items,
-      c.type_item.ensures.file ∙ c.loop-item.invariant.2,
-    )
+    let u = plain_scopes c.loop-i.scopes in
+    let u' = plain_scopes c.type_item.new.scopes in
+    let old = c.args.items.now.items in
+    let cur = c.loop-i.items.items in
+    let i = c.loop-i.i in
+    let x = c.index_mut.result.now in
+    let y = c.type_item.new.item in
+    let lt : i < length cur = search (rules, arith) in
+    let next = done cur i y lt in
+    let rest = left old cur i x lt c.loop-i.invariant.unvisited c.index_mut.ensures.value in
+    record {
+      unvisited = unvisited_step old cur i y c.loop-i.invariant.unvisited;
+      within = within_step cur i y lt;
+      typed = block_more s u u' (plain_around c.args.around.now) (take i cur) (take (i + 1) (slice_set cur i y)) y c.in_ok-type_item.ensures.behind next (plain_items old) (drop i old) x (drop (i + 1) old) c.loop-i.invariant.typed rest c.in_ok-type_item.ensures.typed;
+      sight = sight_more s u u' (take i cur) (take (i + 1) (slice_set cur i y)) y c.loop-i.invariant.sight c.in_ok-type_item.ensures.behind next;
+      file = c.type_item.ensures.file ∙ c.loop-i.invariant.file;
+    }
 
 pub type_items-returns-clause-typed : goal.type_items-returns-clause-typed
 type_items-returns-clause-typed t c =
-    let ok = c.loop-item.item-iterator.rest.ok in
-    let z = c.in-None.ensures.steps.0 in
-    let n : c.loop-item.item-iterator.rest.items ≡ [] = nil_from_length c.loop-item.item-iterator.rest.items (omega (arith, ok, z)) in
-    block_done (typed_items (plain_scopes c.args.scopes.now) (plain_around c.args.around.now) (plain_items c.args.items.items)) (plain_scopes c.loop-item.scopes) (plain_around c.args.around.now) c.loop-item.done.items c.loop-item.item-iterator.rest.items c.loop-item.invariant.0 n
+    let old = c.args.items.now.items in
+    let cur = c.loop-i.items.items in
+    let i = c.loop-i.i in
+    let long : length cur ≡ length old = c.loop-i.invariant.unvisited.0 in
+    let past : length old ≤ i = search (rules, arith) in
+    block_done (typed_items (plain_scopes c.args.scopes.now) (plain_around c.args.around.now) (plain_items old)) (plain_scopes c.loop-i.scopes) (plain_around c.args.around.now) (take i cur) (drop i old) c.loop-i.invariant.typed (none_left old i past)
+    ∙ ap (λ zs. Good (plain_items zs)) (all_done cur i (omega (arith, past, long)))
 
-pub type_statement-returns-in_err-items-in-Block-clause-typed : goal.type_statement-returns-in_err-items-in-Block-clause-typed
-type_statement-returns-in_err-items-in-Block-clause-typed t c =
-    let e : c.from_residual-in_err-items-in-Block.result ≡ Err c.in_err-items-in-Block.field-0.0 = search rules in
-    rw e (block_refused (plain_scopes c.args.scopes.now) (plain_around c.args.around.now) c.args.s c.in-Block.items c.in_err-items-in-Block.field-0.0 c.in-Block.is c.in_err-items-in-Block.ensures.typed)
+pub type_kind-returns-in-Block-clause-typed : goal.type_kind-returns-in-Block-clause-typed
+type_kind-returns-in-Block-clause-typed t c =
+    let s = plain_scopes c.args.scopes.now in
+    let r = plain_around c.args.around.now in
+    let h : Answers (λ (u : Unit {0}). plain_items c.type_block.new.items.items) (typed_items (inner s) r (plain_items c.in-Block.items.items)) c.type_block.result = search rules in
+    let whole = block_in_place s r c.args.place c.args.kind.now c.in-Block.items c.type_block.new.items c.type_block.result c.in-Block.is h in
+    search (rules, whole)
 
-pub type_statement-returns-in_ok-items-in-Block-clause-typed : goal.type_statement-returns-in_ok-items-in-Block-clause-typed
-type_statement-returns-in_ok-items-in-Block-clause-typed t c =
-    block_typed (plain_scopes c.args.scopes.now) (plain_around c.args.around.now) c.args.s c.in-Block.items c.in_ok-items-in-Block.items c.in-Block.is c.in_ok-items-in-Block.ensures.typed
+pub type_kind-returns-in_ok-type_statement-in-Do-clause-typed : goal.type_kind-returns-in_ok-type_statement-in-Do-clause-typed
+type_kind-returns-in_ok-type_statement-in-Do-clause-typed t c =
+    let s = plain_scopes c.args.scopes.now in
+    let r = plain_around c.args.around.now in
+    let good : typed_statement s (plain_around c.in_loop-inside-in-Do.result) (plain_stmt c.in-Do.a) ≡ Good (plain_stmt c.type_statement-in-Do.new.s) = search rules in
+    let h : Answers (λ (u : Unit {0}). plain_expr c.type_condition-in-Do.new.e) (typed_condition (plain_scopes c.type_statement-in-Do.new.scopes) (plain_expr c.in-Do.e)) c.type_condition-in-Do.result = search rules in
+    let whole = do_in_place s r c.args.place c.args.kind.now c.in-Do.a c.type_statement-in-Do.new.s c.in-Do.e c.type_condition-in-Do.new.e (plain_around c.in_loop-inside-in-Do.result) (plain_scopes c.type_statement-in-Do.new.scopes) c.type_condition-in-Do.result
+    c.in-Do.is c.in_loop-inside-in-Do.ensures good c.in_ok-type_statement-in-Do.ensures.same h in
+    search (rules, whole)
 
-pub type_statement-returns-in_err-e-in-Do-clause-typed : goal.type_statement-returns-in_err-e-in-Do-clause-typed
-type_statement-returns-in_err-e-in-Do-clause-typed t c =
-    let e : c.from_residual-in_err-e-in-Do.result ≡ Err c.in_err-e-in-Do.field-0.0 = search rules in
-    rw e (do_refused (plain_scopes c.args.scopes.now) (plain_around c.args.around.now) c.args.s c.in-Do.a c.in-Do.e c.into_inner-in-Do.result c.in_ok-a-in-Do.a (plain_around c.in_loop-inside-in-Do.result) (plain_scopes c.type_statement-in-Do.new.scopes) c.in_err-e-in-Do.field-0.0 c.in-Do.is c.in_loop-inside-in-Do.ensures c.into_inner-in-Do.ensures c.in_ok-a-in-Do.ensures.typed c.in_ok-a-in-Do.ensures.same c.in_err-e-in-Do.ensures)
-
-pub type_statement-returns-in_err-step-in-For-clause-typed : goal.type_statement-returns-in_err-step-in-For-clause-typed
-type_statement-returns-in_err-step-in-For-clause-typed t c =
-    let e : c.from_residual-in_err-step-in-For.result ≡ Err c.in_err-step-in-For.field-0.0 = search rules in
-    rw e (step_refused (plain_scopes c.args.scopes.now) (plain_around c.args.around.now) c.args.s c.in-For.annots c.in-For.first c.in-For.e c.in-For.step c.in-For.a c.in-For.is (plain_scopes c.enter-mark.new.scopes) (plain_scopes c.type_first.new.scopes) c.in_ok-first-in-For.first c.in_ok-e-in-For.e c.enter-mark.ensures.inner c.in_ok-first-in-For.ensures.typed c.in_ok-first-in-For.ensures.behind c.in_ok-e-in-For.ensures c.in_err-step-in-For.field-0.0 c.in_err-step-in-For.ensures)
-
-pub type_statement-returns-in_err-a-in-For-clause-typed : goal.type_statement-returns-in_err-a-in-For-clause-typed
-type_statement-returns-in_err-a-in-For-clause-typed t c =
-    let e : c.from_residual-in_err-a-in-For.result ≡ Err c.in_err-a-in-For.field-0.0 = search rules in
-    rw e (body_refused (plain_scopes c.args.scopes.now) (plain_around c.args.around.now) c.args.s c.in-For.annots c.in-For.first c.in-For.e c.in-For.step c.in-For.a c.in-For.is (plain_scopes c.enter-mark.new.scopes) (plain_scopes c.type_first.new.scopes) c.in_ok-first-in-For.first c.in_ok-e-in-For.e c.enter-mark.ensures.inner c.in_ok-first-in-For.ensures.typed c.in_ok-first-in-For.ensures.behind c.in_ok-e-in-For.ensures c.in_ok-step-in-For.step (plain_around c.in_loop-inside-in-For.result) c.into_inner-in-For.result c.in_ok-step-in-For.ensures c.in_loop-inside-in-For.ensures c.into_inner-in-For.ensures c.in_err-a-in-For.field-0.0 c.in_err-a-in-For.ensures.typed)
-
-pub type_statement-returns-in_ok-a-in-For-2-clause-typed : goal.type_statement-returns-in_ok-a-in-For-2-clause-typed
-type_statement-returns-in_ok-a-in-For-2-clause-typed t c =
-    for_typed (plain_scopes c.args.scopes.now) (plain_around c.args.around.now) c.args.s c.in-For.annots c.in-For.first c.in-For.e c.in-For.step c.in-For.a c.in-For.is (plain_scopes c.enter-mark.new.scopes) (plain_scopes c.type_first.new.scopes) c.in_ok-first-in-For.first c.in_ok-e-in-For.e c.enter-mark.ensures.inner c.in_ok-first-in-For.ensures.typed c.in_ok-first-in-For.ensures.behind c.in_ok-e-in-For.ensures c.in_ok-step-in-For.step (plain_around c.in_loop-inside-in-For.result) c.into_inner-in-For.result c.in_ok-step-in-For.ensures c.in_loop-inside-in-For.ensures c.into_inner-in-For.ensures c.in_ok-a-in-For.a c.in_ok-a-in-For-2.a c.in_ok-a-in-For.ensures.typed c.in_ok-a-in-For-2.ensures.ok
-
-pub type_statement-returns-in_ok-a-in-For-2-clause-same : goal.type_statement-returns-in_ok-a-in-For-2-clause-same
-type_statement-returns-in_ok-a-in-For-2-clause-same t c =
-    for_left (plain_scopes c.args.scopes.now) (plain_scopes c.enter-mark.new.scopes) (plain_scopes c.type_statement-in-For.new.scopes) (plain_scopes c.leave.new.scopes) c.enter-mark.result.count c.enter-mark.result.innermost c.enter-mark.ensures.inner (ap (λ m. m.count) c.enter-mark.ensures.mark) (ap (λ m. m.innermost) c.enter-mark.ensures.mark) c.leave.ensures c.in_ok-first-in-For.first (plain_scopes c.type_first.new.scopes) c.in_ok-a-in-For.ensures.same c.in_ok-first-in-For.ensures.behind
+pub type_kind-returns-in_ok-type_statement-in-For-clause-same : goal.type_kind-returns-in_ok-type_statement-in-For-clause-same
+type_kind-returns-in_ok-type_statement-in-For-clause-same t c =
+    let sight : plain_scopes c.type_first.new.scopes ≡ behind_first (plain_scopes c.enter-mark.new.scopes) (plain_for_first c.type_first.new.first) = search rules in
+    for_left (plain_scopes c.args.scopes.now) (plain_scopes c.enter-mark.new.scopes) (plain_scopes c.type_statement-in-For.new.scopes) (plain_scopes c.leave.new.scopes) c.enter-mark.result.count c.enter-mark.result.innermost c.enter-mark.ensures.inner (ap (λ m. m.count) c.enter-mark.ensures.mark) (ap (λ m. m.innermost) c.enter-mark.ensures.mark) c.leave.ensures
+    c.type_first.new.first (plain_scopes c.type_first.new.scopes) c.in_ok-type_statement-in-For.ensures.same sight
