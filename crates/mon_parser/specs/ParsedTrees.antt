@@ -4,12 +4,14 @@ use Rattle.mon_syntax.specs.Parsed.{NameUse, ParsedExpression, Name, Constant, B
 use Rattle.mon_parser.specs.declared.parsed.NameUse as code_name
 use Rattle.mon_parser.specs.declared.parsed.Literal as code_literal
 use Rattle.mon_parser.specs.declared.parsed.ParsedExpr.{ParsedExpr}
-use Rattle.mon_parser.specs.declared.parsed.ParsedExpr as expr
+use Rattle.mon_parser.specs.declared.parsed.ParsedExprKind.{ParsedExprKind}
+use Rattle.mon_parser.specs.declared.parsed.ParsedExprKind as expr
 use Rattle.mon_parser.specs.declared.parsed.ParsedArg.{ParsedArg}
 use Rattle.mon_parser.specs.declared.parsed.ParsedArg.TheVariants as arg
 use Rattle.mon_parser.specs.declared.parsed.ParsedCall as code_call
-use Rattle.mon_parser.specs.declared.parsed.ParsedStmt.{ParsedStmt, Row_of-ParsedStmt, end_of-ParsedStmt, more_of-ParsedStmt}
-use Rattle.mon_parser.specs.declared.parsed.ParsedStmt as stmt
+use Rattle.mon_parser.specs.declared.parsed.ParsedStmt.{ParsedStmt}
+use Rattle.mon_parser.specs.declared.parsed.ParsedStmtKind.{ParsedStmtKind, Row_of-ParsedStmt, end_of-ParsedStmt, more_of-ParsedStmt}
+use Rattle.mon_parser.specs.declared.parsed.ParsedStmtKind as stmt
 use Rattle.mon_parser.specs.declared.parsed.ParsedRegister as code_register
 use Rattle.mon_parser.specs.declared.parsed.ParsedFunc.{ParsedFunc}
 use Rattle.mon_parser.specs.declared.parsed.ParsedProgram as code_program
@@ -24,13 +26,16 @@ plain_literal l = if l.negative then neg_ℤ l.number else l.number
 abbrev pub past_i128 : ℤ
 past_i128 = pos (2 ^ 127)
 
+abbrev pub plain_expr_kind : ParsedExprKind → ParsedExpression
+plain_expr_kind (expr.Name x) = Name (plain_name x)
+plain_expr_kind (expr.Constant at t l) = Constant at t (plain_literal l)
+plain_expr_kind (expr.Binary' at op p a q b) = Binary at op (plain_expr_kind a) (plain_expr_kind b)
+plain_expr_kind (expr.Minus' at p a) = Minus at (plain_expr_kind a)
+plain_expr_kind (expr.Flip' at p a) = Flip at (plain_expr_kind a)
+plain_expr_kind (expr.Cast' at t p a) = Cast at t (plain_expr_kind a)
+
 abbrev pub plain_expr : ParsedExpr → ParsedExpression
-plain_expr (expr.Name x) = Name (plain_name x)
-plain_expr (expr.Constant at t l) = Constant at t (plain_literal l)
-plain_expr (expr.Binary' at op p a q b) = Binary at op (plain_expr a) (plain_expr b)
-plain_expr (expr.Minus' at p a) = Minus at (plain_expr a)
-plain_expr (expr.Flip' at p a) = Flip at (plain_expr a)
-plain_expr (expr.Cast' at t p a) = Cast at t (plain_expr a)
+plain_expr e = plain_expr_kind e.kind.value
 
 abbrev pub plain_arg : ParsedArg → ParsedArgument
 plain_arg (arg.Value e) = Value (plain_expr e)
@@ -41,19 +46,22 @@ abbrev pub plain_call : code_call.ParsedCall → ParsedCall
 plain_call c = record { callee = plain_name c.callee; place = c.place; arguments = map plain_arg c.arguments.items }
 
 abbrev mutual
-  pub plain_stmt : ParsedStmt → ParsedStatement
-  plain_stmt (stmt.Set x at e) = Set (plain_name x) at (plain_expr e)
-  plain_stmt (stmt.Take x at c) = Take (plain_name x) at (plain_call c)
-  plain_stmt (stmt.Call c) = Call (plain_call c)
-  plain_stmt (stmt.If' e p a q b) = If (plain_expr e) (plain_stmt_row a) (plain_stmt_row b)
-  plain_stmt (stmt.Loop' p a q b) = Loop (plain_stmt_row a) (plain_stmt_row b)
-  plain_stmt (stmt.Labelled' p a l) = Labelled (plain_stmt_row a) (plain_name l)
-  plain_stmt (stmt.Goto l) = Goto (plain_name l)
-  plain_stmt (stmt.Return at e) = Return at (option_map plain_expr e)
+  pub plain_stmt_kind : ParsedStmtKind → ParsedStatement
+  plain_stmt_kind (stmt.Set x at e) = Set (plain_name x) at (plain_expr e)
+  plain_stmt_kind (stmt.Take x at c) = Take (plain_name x) at (plain_call c)
+  plain_stmt_kind (stmt.Call c) = Call (plain_call c)
+  plain_stmt_kind (stmt.If' e p a q b) = If (plain_expr e) (plain_stmt_row a) (plain_stmt_row b)
+  plain_stmt_kind (stmt.Loop' p a q b) = Loop (plain_stmt_row a) (plain_stmt_row b)
+  plain_stmt_kind (stmt.Labelled' p a l) = Labelled (plain_stmt_row a) (plain_name l)
+  plain_stmt_kind (stmt.Goto l) = Goto (plain_name l)
+  plain_stmt_kind (stmt.Return at e) = Return at (option_map plain_expr e)
 
   pub plain_stmt_row : {m : _} → Row_of-ParsedStmt m → ParsedStatements
   plain_stmt_row end_of-ParsedStmt = NoStatement
-  plain_stmt_row (more_of-ParsedStmt a rest) = Then (plain_stmt a) (plain_stmt_row rest)
+  plain_stmt_row (more_of-ParsedStmt p a rest) = Then (plain_stmt_kind a) (plain_stmt_row rest)
+
+abbrev pub plain_stmt : ParsedStmt → ParsedStatement
+plain_stmt s = plain_stmt_kind s.kind.value
 
 abbrev pub plain_stmts : List ParsedStmt → ParsedStatements
 plain_stmts [] = NoStatement

@@ -1,10 +1,13 @@
 -- What a function returned is what the production gives, unless memory was wanting.
-use Rattle.std.specs.Prelude.{◌≡◌, ℕ, List, [], ◌∷◌, map, option_map, Result, Ok, Err}
-use Rattle.grammar.specs.Syntax.{Syntax, many, Fault, At, Over}
+use Rattle.std.specs.Prelude.{◌≡◌, ℕ, ◌-◌, ℤ, neg_ℤ, Bool, List, [], ◌∷◌, ◌++◌, map, Option, option_map, Result, Ok, Err, if◌then◌else◌}
+use Rattle.grammar.specs.Syntax.{Syntax, gives, one, ◌then◌, many, Fault, At, Over}
+use Rattle.c_syntax.specs.declared.place.Place.{Place}
 use Rattle.c_syntax.specs.declared.token.Token.{Token}
 use Rattle.c_syntax.specs.Tokens.{PlainToken, plain_token}
-use Rattle.mon_syntax.specs.Parsed.{ParsedArgument, ParsedStatement, ParsedRegister, ParsedFunction}
-use Rattle.mon_syntax.specs.Grammar.{Vocabulary, InBody, LoopRead, type_kind, mark_kind, comma, kind, first_statement, first_function, expression_limit, nesting_limit, next_argument, one_more, one_more_in_loop, register, next_parameter, one_more_function}
+use Rattle.mon_syntax.specs.declared.tree.MonType.{MonType}
+use Rattle.mon_syntax.specs.declared.tree.MonOp.{MonOp}
+use Rattle.mon_syntax.specs.Parsed.{NameUse, ParsedExpression, Constant, Binary, Cast, ParsedArgument, Value, Text, ParsedStatement, Call, If, Labelled, ParsedStatements, ParsedRegister, ParsedFunction}
+use Rattle.mon_syntax.specs.Grammar.{Vocabulary, InBody, LoopRead, nothing_read, parsed_list, type_kind, else_kind, mark_kind, comma, colon, semicolon, left_paren, right_paren, left_brace, right_brace, kind, first_statement, first_function, expression_limit, nesting_limit, fixed, mark, placed, number_of, text_of, is_one, name, signed_number, plain_operand, second_operand, expression, next_argument, call_of, ended, behind_name, one_more, body, one_more_in_loop, loop_end, statement_in, most_nested, register, parameter, next_parameter, parameters, function_body, one_more_function}
 use Rattle.mon_parser.specs.declared.statement.LoopRead as code_loop
 use Rattle.c_syntax.specs.declared.fault.Limit.{Limit}
 use Rattle.c_syntax.specs.declared.fault.Limit.TheVariants as limits
@@ -31,9 +34,9 @@ Gives view (Err e) read = Fails e read
 abbrev pub plain_loop : code_loop.LoopRead → LoopRead
 plain_loop x = record { before = map plain_stmt x.before.items; behind = option_map (λ v. map plain_stmt v.items) x.behind }
 
--- ---- repetitions, behind what is read
-
 module _ (ws : Vocabulary) where
+  -- ---- repetitions, behind what is read
+
   unfoldable pub more_arguments : List ParsedArgument → Syntax PlainToken (List ParsedArgument)
   more_arguments xs = many (kind ws) (λ _. mark_kind comma ∷ []) (next_argument ws) xs
 
@@ -51,3 +54,93 @@ module _ (ws : Vocabulary) where
 
   unfoldable pub more_functions : List ParsedFunction → Syntax PlainToken (List ParsedFunction)
   more_functions fs = many (kind ws) (λ _. first_function) (one_more_function ws) fs
+
+  -- ---- the ends of productions, behind what is read
+
+  -- a number, behind its sign where it has one
+  unfoldable pub unsigned_number : Bool → Syntax PlainToken ℤ
+  unsigned_number negative = one (placed number_of) then λ z. gives (if negative then neg_ℤ z.0 else z.0)
+
+  -- ")", behind an expression
+  unfoldable pub closed : ParsedExpression → Syntax PlainToken ParsedExpression
+  closed e = mark ws right_paren then λ _. gives e
+
+  -- an operation behind its operator
+  unfoldable pub right_operand : Syntax PlainToken ParsedExpression → ParsedExpression → Place → MonOp → Syntax PlainToken ParsedExpression
+  right_operand E left at op = E then λ right. closed (Binary at op left right)
+
+  -- a constant behind its parenthesis
+  unfoldable pub constant_value : Place → MonType → Syntax PlainToken ParsedExpression
+  constant_value at t = signed_number ws then λ z. closed (Constant at t z)
+
+  -- a cast behind its type and parenthesis
+  unfoldable pub cast_operand : Syntax PlainToken ParsedExpression → Place → MonType → Syntax PlainToken ParsedExpression
+  cast_operand E at t = E then λ e. closed (Cast at t e)
+
+  -- an operation whose first operand begins with no parenthesis
+  unfoldable pub plain_operation : Syntax PlainToken Place → Syntax PlainToken ParsedExpression → Syntax PlainToken ParsedExpression
+  plain_operation O E = plain_operand ws O then λ left. second_operand ws E left
+
+  unfoldable pub text_argument : Syntax PlainToken ParsedArgument
+  text_argument = one (placed text_of) then λ t. gives (Text t.1 t.0)
+
+  unfoldable pub value_argument : Syntax PlainToken ParsedArgument
+  value_argument = expression ws then λ e. gives (Value e)
+
+  -- a call whose value isn't taken, behind its name
+  unfoldable pub call_statement : Bool → NameUse → Syntax PlainToken ParsedStatement
+  call_statement some f = call_of ws some f then λ c. ended ws (Call c)
+
+  -- an assignment or a call
+  unfoldable pub named_statement : Bool → Syntax PlainToken ParsedStatement
+  named_statement no_step = name ws then λ x. behind_name ws no_step x
+
+  -- a selection behind `if (`
+  unfoldable pub condition : InBody ws → Syntax PlainToken ParsedStatement
+  condition S = expression ws then λ e. mark ws right_paren then λ _. body ws S then λ a. fixed ws else_kind then λ _. body ws S then λ b. gives (If e a b)
+
+  -- its bodies
+  unfoldable pub branches : InBody ws → ParsedExpression → Syntax PlainToken ParsedStatement
+  branches S e = body ws S then λ a. fixed ws else_kind then λ _. body ws S then λ b. gives (If e a b)
+
+  -- the second of them
+  unfoldable pub second_branch : InBody ws → ParsedExpression → ParsedStatements → Syntax PlainToken ParsedStatement
+  second_branch S e a = body ws S then λ b. gives (If e a b)
+
+  -- a loop behind `while (`
+  unfoldable pub forever : InBody ws → Syntax PlainToken ParsedStatement
+  forever S = one (placed is_one) then λ _. mark ws right_paren then λ _. mark ws left_brace then λ _. more_in_loop S nothing_read then λ x. loop_end ws x
+
+  -- its body
+  unfoldable pub loop_body : InBody ws → Syntax PlainToken ParsedStatement
+  loop_body S = mark ws left_brace then λ _. more_in_loop S nothing_read then λ x. loop_end ws x
+
+  -- a label behind its body
+  unfoldable pub label_behind : ParsedStatements → Syntax PlainToken ParsedStatement
+  label_behind a = name ws then λ l. mark ws colon then λ _. ended ws (Labelled a l)
+
+  -- ":" ";", behind a labelled body
+  unfoldable pub label_end : ParsedStatement → Syntax PlainToken ParsedStatement
+  label_end a = mark ws colon then λ _. ended ws a
+
+  -- a register behind its type
+  unfoldable pub named_register : List ParsedRegister → MonType → Syntax PlainToken (List ParsedRegister)
+  named_register rs t = name ws then λ x. mark ws semicolon then λ _. gives (rs ++ record { kind = t; name = x } ∷ [])
+
+  -- ";", behind a register
+  unfoldable pub register_end : List ParsedRegister → ParsedRegister → Syntax PlainToken (List ParsedRegister)
+  register_end rs one = mark ws semicolon then λ _. gives (rs ++ one ∷ [])
+
+  -- a parameter behind its comma
+  unfoldable pub one_more_parameter : List ParsedRegister → Syntax PlainToken (List ParsedRegister)
+  one_more_parameter ps = parameter ws then λ p. gives (ps ++ p ∷ [])
+
+  -- a function behind its name
+  unfoldable pub function_rest : Option MonType → NameUse → Syntax PlainToken ParsedFunction
+  function_rest r f = mark ws left_paren then λ _. parameters ws then λ ps. mark ws right_paren then λ _. function_body ws r f ps
+
+  -- its statements
+  unfoldable pub function_statements : Option MonType → NameUse → List ParsedRegister → List ParsedRegister → Syntax PlainToken ParsedFunction
+  function_statements r f ps rs =
+      more_statements (statement_in ws (most_nested ws - 1)) [] then λ xs. mark ws right_brace then λ _.
+      gives (record { result = r; name = f; parameters = ps; registers = rs; body = parsed_list xs })

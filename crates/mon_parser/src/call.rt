@@ -3,7 +3,7 @@
 ghost use Rattle.std.specs.Prelude.{◌≡◌, map, IfOk};
 ghost use Rattle.mon_syntax.specs.Grammar.{argument, next_argument, some_arguments, arguments, call_of};
 ghost use Rattle.mon_parser.specs.ParsedTrees.{plain_name, plain_arg, plain_call};
-ghost use Rattle.mon_parser.specs.Reading.{Gives, plain_list, more_arguments};
+ghost use Rattle.mon_parser.specs.Reading.{Gives, plain_list, more_arguments, text_argument, value_argument};
 
 use crate::expression::expression;
 use crate::kinds::{COMMA, LEFT_PAREN, NUMBER, RIGHT_PAREN, TEXT};
@@ -20,8 +20,34 @@ fn copy(alloc: Global, name: &Name) -> Result<Name, AllocError>
     Ok(Name::new(Vec::from_slice(alloc, name.bytes())?))
 }
 
+/// `STRING`
+#[tactic(auto, unfolding(crate::specs::Reading::text_argument))]
+fn text_argument<'a>(
+    alloc: Global,
+    words: &[Word],
+    tokens: &'a [Token],
+) -> Result<(ParsedArg, &'a [Token]), ReadFault>
+    ensures { Gives (λ x. (plain_arg x.0, plain_list x.1.now)) result ((text_argument words.now).parse (plain_list tokens.now)) }
+{
+    let (bytes, place, rest) = text(tokens)?;
+    Ok((ParsedArg::Text(place, copy(alloc, bytes)?), rest))
+}
+
+/// `expr`
+#[tactic(auto, unfolding(crate::specs::Reading::value_argument))]
+fn value_argument<'a>(
+    alloc: Global,
+    words: &[Word],
+    tokens: &'a [Token],
+) -> Result<(ParsedArg, &'a [Token]), ReadFault>
+    ensures { Gives (λ x. (plain_arg x.0, plain_list x.1.now)) result ((value_argument words.now).parse (plain_list tokens.now)) }
+{
+    let (value, rest) = expression(alloc, words, tokens)?;
+    Ok((ParsedArg::Value(value), rest))
+}
+
 /// `expr | NUMBER | STRING`
-#[tactic(auto, unfolding(mon_syntax::specs::Grammar::argument))]
+#[tactic(auto, unfolding(mon_syntax::specs::Grammar::argument, crate::specs::Reading::text_argument, crate::specs::Reading::value_argument))]
 fn argument<'a>(
     alloc: Global,
     words: &[Word],
@@ -33,11 +59,9 @@ fn argument<'a>(
         let (value, place, rest) = number(tokens)?;
         Ok((ParsedArg::Number(place, value), rest))
     } else if next_is(words, TEXT, tokens) {
-        let (bytes, place, rest) = text(tokens)?;
-        Ok((ParsedArg::Text(place, copy(alloc, bytes)?), rest))
+        text_argument(alloc, words, tokens)
     } else {
-        let (value, rest) = expression(alloc, words, tokens)?;
-        Ok((ParsedArg::Value(value), rest))
+        value_argument(alloc, words, tokens)
     }
 }
 

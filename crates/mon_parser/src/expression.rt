@@ -3,14 +3,14 @@
 ghost use Rattle.std.specs.Prelude.{◌≡◌};
 ghost use Rattle.mon_syntax.specs.Grammar.{signed_number, opened, constant, plain_operand, second_operand, negation, complement, cast, behind_two, behind_opened, other_expression, expression_in, expression, expression_but_name};
 ghost use Rattle.mon_parser.specs.ParsedTrees.{plain_literal, plain_expr};
-ghost use Rattle.mon_parser.specs.Reading.{Gives, plain_list};
+ghost use Rattle.mon_parser.specs.Reading.{Gives, plain_list, unsigned_number, closed, right_operand, constant_value, cast_operand, plain_operation};
 
 use crate::kinds::{CONSTANT, LEFT_PAREN, MINUS, NAME, RIGHT_PAREN, TILDE, TYPE};
-use crate::parsed::{Literal, ParsedExpr};
+use crate::parsed::{Literal, ParsedExpr, ParsedExprKind};
 use crate::terminals::{constant_word, left, name, next_is, number, operator, skip, type_name};
 use c_syntax::fault::{Limit, ReadFault};
 use c_syntax::{Place, Token};
-use mon_syntax::Word;
+use mon_syntax::{MonOp, MonType, Word};
 use std::alloc::Global;
 
 /// How many parentheses may be open at once in an expression.
@@ -34,8 +34,21 @@ fn opened<'a>(
     }
 }
 
+/// A number, behind its sign where it has one.
+#[tactic(auto, unfolding(crate::specs::Reading::unsigned_number))]
+fn unsigned_number<'a>(
+    words: &[Word],
+    negative: bool,
+    tokens: &'a [Token],
+) -> Result<(Literal, &'a [Token]), ReadFault>
+    ensures { Gives (λ x. (plain_literal x.0, plain_list x.1.now)) result ((unsigned_number words.now negative).parse (plain_list tokens.now)) }
+{
+    let (number, _, rest) = number(tokens)?;
+    Ok((Literal { negative, number }, rest))
+}
+
 /// `[ "-" ] NUMBER`
-#[tactic(auto, unfolding(mon_syntax::specs::Grammar::signed_number))]
+#[tactic(auto, unfolding(mon_syntax::specs::Grammar::signed_number, crate::specs::Reading::unsigned_number))]
 fn signed_number<'a>(
     words: &[Word],
     tokens: &'a [Token],
@@ -44,36 +57,61 @@ fn signed_number<'a>(
 {
     if next_is(words, MINUS, tokens) {
         let (_, rest) = skip(words, MINUS, tokens)?;
-        let (number, _, rest) = number(rest)?;
-        let negative = true;
-        Ok((Literal { negative, number }, rest))
+        unsigned_number(words, true, rest)
     } else {
-        let (number, _, rest) = number(tokens)?;
-        let negative = false;
-        Ok((Literal { negative, number }, rest))
+        unsigned_number(words, false, tokens)
     }
 }
 
+/// `")"`, behind an expression.
+#[tactic(auto, unfolding(crate::specs::Reading::closed))]
+fn closed<'a>(
+    words: &[Word],
+    e: ParsedExpr,
+    tokens: &'a [Token],
+) -> Result<(ParsedExpr, &'a [Token]), ReadFault>
+    ensures { Gives (λ x. (plain_expr x.0, plain_list x.1.now)) result ((closed words.now (plain_expr e)).parse (plain_list tokens.now)) }
+{
+    let (_, rest) = skip(words, RIGHT_PAREN, tokens)?;
+    Ok((e, rest))
+}
+
+/// `[ "-" ] NUMBER ")"`, the value of a constant of the type.
+#[tactic(auto, unfolding(crate::specs::Reading::constant_value))]
+fn constant_value<'a>(
+    alloc: Global,
+    words: &[Word],
+    place: Place,
+    kind: MonType,
+    tokens: &'a [Token],
+) -> Result<(ParsedExpr, &'a [Token]), ReadFault>
+    ensures { Gives (λ x. (plain_expr x.0, plain_list x.1.now)) result ((constant_value words.now place kind).parse (plain_list tokens.now)) }
+{
+    let (literal, rest) = signed_number(words, tokens)?;
+    let constant = ParsedExpr::new(alloc, ParsedExprKind::Constant(place, kind, literal))?;
+    closed(words, constant, rest)
+}
+
 /// `CONSTANT "(" [ "-" ] NUMBER ")"`
-#[tactic(auto, unfolding(mon_syntax::specs::Grammar::constant))]
+#[tactic(auto, unfolding(mon_syntax::specs::Grammar::constant, crate::specs::Reading::constant_value, crate::specs::Reading::closed))]
 #[inline(never)]
 fn constant<'a>(
+    alloc: Global,
     words: &[Word],
     room: u32,
     tokens: &'a [Token],
 ) -> Result<(ParsedExpr, &'a [Token]), ReadFault>
     ensures { Gives (λ x. (plain_expr x.0, plain_list x.1.now)) result ((constant words.now (opened words.now room)).parse (plain_list tokens.now)) }
 {
-    let (t, place, rest) = constant_word(words, tokens)?;
+    let (kind, place, rest) = constant_word(words, tokens)?;
     let (_, rest) = opened(words, room, rest)?;
-    let (literal, rest) = signed_number(words, rest)?;
-    let (_, rest) = skip(words, RIGHT_PAREN, rest)?;
-    Ok((ParsedExpr::Constant(place, t, literal), rest))
+    constant_value(alloc, words, place, kind, rest)
 }
 
 /// A first operand that begins with no parenthesis.
 #[tactic(auto, unfolding(mon_syntax::specs::Grammar::plain_operand))]
 fn plain_operand<'a>(
+    alloc: Global,
     words: &[Word],
     room: u32,
     tokens: &'a [Token],
@@ -82,14 +120,33 @@ fn plain_operand<'a>(
 {
     if next_is(words, NAME, tokens) {
         let (x, rest) = name(words, tokens)?;
-        Ok((ParsedExpr::Name(x), rest))
+        Ok((ParsedExpr::new(alloc, ParsedExprKind::Name(x))?, rest))
     } else {
-        constant(words, room, tokens)
+        constant(alloc, words, room, tokens)
     }
 }
 
+/// `expr ")"`, behind the operator and the left operand.
+#[tactic(auto, unfolding(crate::specs::Reading::right_operand))]
+#[cycle(expression)]
+fn right_operand<'a>(
+    alloc: Global,
+    words: &[Word],
+    room: u32,
+    left: ParsedExpr,
+    place: Place,
+    op: MonOp,
+    tokens: &'a [Token],
+) -> Result<(ParsedExpr, &'a [Token]), ReadFault>
+    ensures { Gives (λ x. (plain_expr x.0, plain_list x.1.now)) result ((right_operand words.now (expression_in words.now room) (plain_expr left) place op).parse (plain_list tokens.now)) }
+{
+    let (right, rest) = expression_in(alloc, words, room, tokens)?;
+    let operation = ParsedExpr::new(alloc, ParsedExprKind::Binary(place, op, left, right))?;
+    closed(words, operation, rest)
+}
+
 /// `operator expr ")"`
-#[tactic(auto, unfolding(mon_syntax::specs::Grammar::second_operand))]
+#[tactic(auto, unfolding(mon_syntax::specs::Grammar::second_operand, crate::specs::Reading::right_operand, crate::specs::Reading::closed))]
 #[cycle(expression)]
 #[inline(never)]
 fn second_operand<'a>(
@@ -102,14 +159,11 @@ fn second_operand<'a>(
     ensures { Gives (λ x. (plain_expr x.0, plain_list x.1.now)) result ((second_operand words.now (expression_in words.now room) (plain_expr left)).parse (plain_list tokens.now)) }
 {
     let (op, place, rest) = operator(tokens)?;
-    let (right, rest) = expression_in(alloc, words, room, rest)?;
-    let (_, rest) = skip(words, RIGHT_PAREN, rest)?;
-    let (left, right) = (Box::new(alloc, left)?, Box::new(alloc, right)?);
-    Ok((ParsedExpr::Binary(place, op, left, right), rest))
+    right_operand(alloc, words, room, left, place, op, rest)
 }
 
 /// `"-" expr ")"`
-#[tactic(auto, unfolding(mon_syntax::specs::Grammar::negation))]
+#[tactic(auto, unfolding(mon_syntax::specs::Grammar::negation, crate::specs::Reading::closed))]
 #[cycle(expression)]
 #[inline(never)]
 fn negation<'a>(
@@ -122,12 +176,12 @@ fn negation<'a>(
 {
     let (place, rest) = skip(words, MINUS, tokens)?;
     let (operand, rest) = expression_in(alloc, words, room, rest)?;
-    let (_, rest) = skip(words, RIGHT_PAREN, rest)?;
-    Ok((ParsedExpr::Minus(place, Box::new(alloc, operand)?), rest))
+    let operation = ParsedExpr::new(alloc, ParsedExprKind::Minus(place, operand))?;
+    closed(words, operation, rest)
 }
 
 /// `"~" expr ")"`
-#[tactic(auto, unfolding(mon_syntax::specs::Grammar::complement))]
+#[tactic(auto, unfolding(mon_syntax::specs::Grammar::complement, crate::specs::Reading::closed))]
 #[cycle(expression)]
 #[inline(never)]
 fn complement<'a>(
@@ -140,12 +194,30 @@ fn complement<'a>(
 {
     let (place, rest) = skip(words, TILDE, tokens)?;
     let (operand, rest) = expression_in(alloc, words, room, rest)?;
-    let (_, rest) = skip(words, RIGHT_PAREN, rest)?;
-    Ok((ParsedExpr::Flip(place, Box::new(alloc, operand)?), rest))
+    let operation = ParsedExpr::new(alloc, ParsedExprKind::Flip(place, operand))?;
+    closed(words, operation, rest)
+}
+
+/// `expr ")"`, which is cast to the type, by the place of the parenthesis before the type's.
+#[tactic(auto, unfolding(crate::specs::Reading::cast_operand))]
+#[cycle(expression)]
+fn cast_operand<'a>(
+    alloc: Global,
+    words: &[Word],
+    room: u32,
+    place: Place,
+    kind: MonType,
+    tokens: &'a [Token],
+) -> Result<(ParsedExpr, &'a [Token]), ReadFault>
+    ensures { Gives (λ x. (plain_expr x.0, plain_list x.1.now)) result ((cast_operand words.now (expression_in words.now room) place kind).parse (plain_list tokens.now)) }
+{
+    let (operand, rest) = expression_in(alloc, words, room, tokens)?;
+    let operation = ParsedExpr::new(alloc, ParsedExprKind::Cast(place, kind, operand))?;
+    closed(words, operation, rest)
 }
 
 /// `type ")" expr ")"`, by the place of the parenthesis before it.
-#[tactic(auto, unfolding(mon_syntax::specs::Grammar::cast))]
+#[tactic(auto, unfolding(mon_syntax::specs::Grammar::cast, crate::specs::Reading::cast_operand, crate::specs::Reading::closed))]
 #[cycle(expression)]
 fn cast<'a>(
     alloc: Global,
@@ -156,11 +228,9 @@ fn cast<'a>(
 ) -> Result<(ParsedExpr, &'a [Token]), ReadFault>
     ensures { Gives (λ x. (plain_expr x.0, plain_list x.1.now)) result ((cast words.now (expression_in words.now room) place).parse (plain_list tokens.now)) }
 {
-    let (t, _, rest) = type_name(words, tokens)?;
+    let (kind, _, rest) = type_name(words, tokens)?;
     let (_, rest) = skip(words, RIGHT_PAREN, rest)?;
-    let (operand, rest) = expression_in(alloc, words, room, rest)?;
-    let (_, rest) = skip(words, RIGHT_PAREN, rest)?;
-    Ok((ParsedExpr::Cast(place, t, Box::new(alloc, operand)?), rest))
+    cast_operand(alloc, words, room, place, kind, rest)
 }
 
 /// What stands behind two parentheses: a cast, or a first operand that begins with the second of them.
@@ -184,8 +254,23 @@ fn behind_two<'a>(
     }
 }
 
+/// A first operand that begins with no parenthesis, and what stands behind it.
+#[tactic(auto, unfolding(crate::specs::Reading::plain_operation))]
+#[cycle(expression)]
+fn plain_operation<'a>(
+    alloc: Global,
+    words: &[Word],
+    room: u32,
+    tokens: &'a [Token],
+) -> Result<(ParsedExpr, &'a [Token]), ReadFault>
+    ensures { Gives (λ x. (plain_expr x.0, plain_list x.1.now)) result ((plain_operation words.now (opened words.now room) (expression_in words.now room)).parse (plain_list tokens.now)) }
+{
+    let (left, rest) = plain_operand(alloc, words, room, tokens)?;
+    second_operand(alloc, words, room, left, rest)
+}
+
 /// What stands behind a parenthesis that was opened where so many more might be, up to its end.
-#[tactic(auto, using(crate::proofs::Steps::behind_is, crate::proofs::Steps::behind_none), unfolding(mon_syntax::specs::Grammar::behind_paren, mon_syntax::specs::Grammar::expression_in))]
+#[tactic(auto, using(crate::proofs::Steps::behind_is, crate::proofs::Steps::behind_none), unfolding(mon_syntax::specs::Grammar::behind_paren, mon_syntax::specs::Grammar::expression_in, crate::specs::Reading::plain_operation))]
 #[cycle(expression)]
 fn behind_opened<'a>(
     alloc: Global,
@@ -207,8 +292,7 @@ fn behind_opened<'a>(
         let (place, rest) = opened(words, room, tokens)?;
         behind_two(alloc, words, room, place, rest)
     } else {
-        let (left, rest) = plain_operand(words, room, tokens)?;
-        second_operand(alloc, words, room, left, rest)
+        plain_operation(alloc, words, room, tokens)
     }
 }
 
@@ -224,7 +308,7 @@ fn other_expression<'a>(
     ensures { Gives (λ x. (plain_expr x.0, plain_list x.1.now)) result ((other_expression words.now (opened words.now room) (behind_opened words.now room)).parse (plain_list tokens.now)) }
 {
     if next_is(words, CONSTANT, tokens) {
-        constant(words, room, tokens)
+        constant(alloc, words, room, tokens)
     } else {
         let (_, rest) = opened(words, room, tokens)?;
         behind_opened(alloc, words, room, rest)
@@ -244,7 +328,7 @@ fn expression_in<'a>(
 {
     if next_is(words, NAME, tokens) {
         let (x, rest) = name(words, tokens)?;
-        Ok((ParsedExpr::Name(x), rest))
+        Ok((ParsedExpr::new(alloc, ParsedExprKind::Name(x))?, rest))
     } else {
         other_expression(alloc, words, room, tokens)
     }

@@ -16,11 +16,8 @@ pub mod vocabulary;
 
 pub use kinds::word_at;
 pub use parsed::{
-    Literal, NameUse, ParsedArg, ParsedCall, ParsedExpr, ParsedFunc, ParsedProgram, ParsedRegister,
-    ParsedStmt,
+    Literal, NameUse, ParsedArg, ParsedCall, ParsedExpr, ParsedExprKind, ParsedFunc, ParsedProgram,
+    ParsedRegister, ParsedStmt, ParsedStmtKind,
 };
 pub use read::{one_reading, read_tokens};
 pub use refusal::{refused, refused_word};
-
-#[cfg(test)]
-mod tests;

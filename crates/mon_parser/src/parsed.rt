@@ -1,10 +1,11 @@
 //! The tree of a monitored text as it is read, with its places.
 
-ghost use Rattle.std.specs.Prelude.{◌≡◌, MatchOption};
-ghost use Rattle.mon_parser.specs.ParsedTrees.{plain_literal, past_i128};
+ghost use Rattle.std.specs.Prelude.{◌≡◌, MatchOption, IfOk};
+ghost use Rattle.mon_parser.specs.ParsedTrees.{plain_literal, past_i128, plain_expr, plain_expr_kind, plain_stmt, plain_stmt_kind};
 
 use c_syntax::{Name, Place};
 use mon_syntax::{MonOp, MonType};
+use std::alloc::{AllocError, Global};
 
 /// A name where it stands.
 #[derive(Clone, Copy, PartialEq, Eq, Debug)]
@@ -34,16 +35,33 @@ impl Literal {
     }
 }
 
-/// An expression. Its place is its operator's token for a binary one, the token behind its first parenthesis for a unary
-/// operator and a cast, and else its first token.
+/// An expression.
 #[derive(Drop)]
-pub enum ParsedExpr {
+#[cycle(expression)]
+pub struct ParsedExpr {
+    pub kind: Box<ParsedExprKind>,
+}
+
+/// What an expression is, and its place: its operator's token for a binary one, the token behind its first parenthesis
+/// for a unary operator and a cast, and else its first token.
+#[derive(Drop)]
+#[cycle(expression)]
+pub enum ParsedExprKind {
     Name(NameUse),
     Constant(Place, MonType, Literal),
-    Binary(Place, MonOp, Box<ParsedExpr>, Box<ParsedExpr>),
-    Minus(Place, Box<ParsedExpr>),
-    Flip(Place, Box<ParsedExpr>),
-    Cast(Place, MonType, Box<ParsedExpr>),
+    Binary(Place, MonOp, ParsedExpr, ParsedExpr),
+    Minus(Place, ParsedExpr),
+    Flip(Place, ParsedExpr),
+    Cast(Place, MonType, ParsedExpr),
+}
+
+impl ParsedExpr {
+    pub fn new(alloc: Global, kind: ParsedExprKind) -> Result<ParsedExpr, AllocError>
+        ensures { IfOk result (λ e. plain_expr e ≡ plain_expr_kind kind) }
+    {
+        let kind = Box::new(alloc, kind)?;
+        Ok(ParsedExpr { kind })
+    }
 }
 
 /// An argument of a call.
@@ -66,7 +84,14 @@ pub struct ParsedCall {
 
 /// A statement.
 #[derive(Drop)]
-pub enum ParsedStmt {
+#[cycle(statement)]
+pub struct ParsedStmt {
+    pub kind: Box<ParsedStmtKind>,
+}
+
+#[derive(Drop)]
+#[cycle(statement)]
+pub enum ParsedStmtKind {
     /// `R = e;` with the place of its `=`.
     Set(NameUse, Place, ParsedExpr),
     /// `R = f(..);` with the place of its `=`.
@@ -79,6 +104,15 @@ pub enum ParsedStmt {
     Goto(NameUse),
     /// The place of `return`, and its expression where there is one.
     Return(Place, Option<ParsedExpr>),
+}
+
+impl ParsedStmt {
+    pub fn new(alloc: Global, kind: ParsedStmtKind) -> Result<ParsedStmt, AllocError>
+        ensures { IfOk result (λ s. plain_stmt s ≡ plain_stmt_kind kind) }
+    {
+        let kind = Box::new(alloc, kind)?;
+        Ok(ParsedStmt { kind })
+    }
 }
 
 /// A parameter or another register: its type and its name.

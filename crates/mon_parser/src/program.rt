@@ -4,7 +4,7 @@ ghost use Rattle.std.specs.Prelude.{◌≡◌, map};
 ghost use Rattle.mon_syntax.specs.Grammar.{parsed_list, register, parameter, next_parameter, some_parameters, parameters, function_body, function, one_more_function, text};
 ghost use Rattle.mon_syntax.specs.Grammar as form;
 ghost use Rattle.mon_parser.specs.ParsedTrees.{plain_name, plain_stmt, plain_register, plain_func, plain_program};
-ghost use Rattle.mon_parser.specs.Reading.{Gives, plain_list, more_registers, more_parameters, more_functions};
+ghost use Rattle.mon_parser.specs.Reading.{Gives, plain_list, more_registers, more_parameters, more_functions, named_register, register_end, one_more_parameter, function_rest, function_statements};
 
 use crate::kinds::{
     COMMA, LEFT_BRACE, LEFT_PAREN, RIGHT_BRACE, RIGHT_PAREN, SEMICOLON, TYPE, VOID,
@@ -20,8 +20,38 @@ use std::alloc::Global;
 /// How deep statements may stand in one another, the function's body being 1 deep.
 const MOST_NESTED: u32 = 2000;
 
+/// `";"`, behind a register that comes behind those that are read.
+#[tactic(auto, unfolding(crate::specs::Reading::register_end))]
+fn register_end<'a>(
+    words: &[Word],
+    all: Vec<ParsedRegister>,
+    one: ParsedRegister,
+    tokens: &'a [Token],
+) -> Result<(Vec<ParsedRegister>, &'a [Token]), ReadFault>
+    ensures { Gives (λ x. (map plain_register x.0.items, plain_list x.1.now)) result ((register_end words.now (map plain_register all.items) (plain_register one)).parse (plain_list tokens.now)) }
+{
+    let mut all = all;
+    let (_, rest) = skip(words, SEMICOLON, tokens)?;
+    all.push(one)?;
+    Ok((all, rest))
+}
+
+/// `NAME ";"`, a register of the type behind those that are read.
+#[tactic(auto, unfolding(crate::specs::Reading::named_register, crate::specs::Reading::register_end))]
+fn named_register<'a>(
+    words: &[Word],
+    all: Vec<ParsedRegister>,
+    kind: MonType,
+    tokens: &'a [Token],
+) -> Result<(Vec<ParsedRegister>, &'a [Token]), ReadFault>
+    ensures { Gives (λ x. (map plain_register x.0.items, plain_list x.1.now)) result ((named_register words.now (map plain_register all.items) kind).parse (plain_list tokens.now)) }
+{
+    let (name, rest) = name(words, tokens)?;
+    register_end(words, all, ParsedRegister { kind, name }, rest)
+}
+
 /// `type NAME ";"`, behind those that are read.
-#[tactic(auto, unfolding(mon_syntax::specs::Grammar::register))]
+#[tactic(auto, unfolding(mon_syntax::specs::Grammar::register, crate::specs::Reading::named_register, crate::specs::Reading::register_end))]
 fn register<'a>(
     words: &[Word],
     all: Vec<ParsedRegister>,
@@ -29,12 +59,8 @@ fn register<'a>(
 ) -> Result<(Vec<ParsedRegister>, &'a [Token]), ReadFault>
     ensures { Gives (λ x. (map plain_register x.0.items, plain_list x.1.now)) result ((register words.now (map plain_register all.items)).parse (plain_list tokens.now)) }
 {
-    let mut all = all;
     let (kind, _, rest) = type_name(words, tokens)?;
-    let (name, rest) = name(words, rest)?;
-    let (_, rest) = skip(words, SEMICOLON, rest)?;
-    all.push(ParsedRegister { kind, name })?;
-    Ok((all, rest))
+    named_register(words, all, kind, rest)
 }
 
 /// The registers behind those that are read.
@@ -86,8 +112,23 @@ fn parameter<'a>(
     Ok((ParsedRegister { kind, name }, rest))
 }
 
+/// A parameter behind those that are read.
+#[tactic(auto, unfolding(crate::specs::Reading::one_more_parameter))]
+fn one_more_parameter<'a>(
+    words: &[Word],
+    all: Vec<ParsedRegister>,
+    tokens: &'a [Token],
+) -> Result<(Vec<ParsedRegister>, &'a [Token]), ReadFault>
+    ensures { Gives (λ x. (map plain_register x.0.items, plain_list x.1.now)) result ((one_more_parameter words.now (map plain_register all.items)).parse (plain_list tokens.now)) }
+{
+    let mut all = all;
+    let (one, rest) = parameter(words, tokens)?;
+    all.push(one)?;
+    Ok((all, rest))
+}
+
 /// `"," parameter`, behind those that are read.
-#[tactic(auto, unfolding(mon_syntax::specs::Grammar::next_parameter))]
+#[tactic(auto, unfolding(mon_syntax::specs::Grammar::next_parameter, crate::specs::Reading::one_more_parameter))]
 fn next_parameter<'a>(
     words: &[Word],
     all: Vec<ParsedRegister>,
@@ -95,11 +136,8 @@ fn next_parameter<'a>(
 ) -> Result<(Vec<ParsedRegister>, &'a [Token]), ReadFault>
     ensures { Gives (λ x. (map plain_register x.0.items, plain_list x.1.now)) result ((next_parameter words.now (map plain_register all.items)).parse (plain_list tokens.now)) }
 {
-    let mut all = all;
     let (_, rest) = skip(words, COMMA, tokens)?;
-    let (one, rest) = parameter(words, rest)?;
-    all.push(one)?;
-    Ok((all, rest))
+    one_more_parameter(words, all, rest)
 }
 
 /// The parameters behind those that are read.
@@ -172,8 +210,27 @@ fn make_function(
     }
 }
 
+/// The statements of a function with this result, name, parameters and registers.
+#[tactic(auto, unfolding(crate::specs::Reading::function_statements))]
+fn function_statements<'a>(
+    alloc: Global,
+    words: &[Word],
+    returned: Option<MonType>,
+    name: NameUse,
+    parameters: Vec<ParsedRegister>,
+    registers: Vec<ParsedRegister>,
+    tokens: &'a [Token],
+) -> Result<(ParsedFunc, &'a [Token]), ReadFault>
+    ensures { Gives (λ x. (plain_func x.0, plain_list x.1.now)) result ((function_statements words.now returned (plain_name name) (map plain_register parameters.items) (map plain_register registers.items)).parse (plain_list tokens.now)) }
+{
+    let (body, rest) = more_statements(alloc, words, MOST_NESTED - 1, Vec::new(alloc), tokens)?;
+    let (_, rest) = skip(words, RIGHT_BRACE, rest)?;
+    let function = make_function(returned, name, parameters, registers, body);
+    Ok((function, rest))
+}
+
 /// The body of a function with this result, name and parameters.
-#[tactic(auto, unfolding(mon_syntax::specs::Grammar::function_body, mon_syntax::specs::Grammar::registers, mon_syntax::specs::Grammar::statements, crate::specs::Reading::more_registers, crate::specs::Reading::more_statements))]
+#[tactic(auto, unfolding(mon_syntax::specs::Grammar::function_body, mon_syntax::specs::Grammar::registers, mon_syntax::specs::Grammar::statements, crate::specs::Reading::more_registers, crate::specs::Reading::more_statements, crate::specs::Reading::function_statements))]
 fn function_body<'a>(
     alloc: Global,
     words: &[Word],
@@ -186,13 +243,27 @@ fn function_body<'a>(
 {
     let (_, rest) = skip(words, LEFT_BRACE, tokens)?;
     let (registers, rest) = more_registers(words, Vec::new(alloc), rest)?;
-    let (body, rest) = more_statements(alloc, words, MOST_NESTED - 1, Vec::new(alloc), rest)?;
-    let (_, rest) = skip(words, RIGHT_BRACE, rest)?;
-    let function = make_function(returned, name, parameters, registers, body);
-    Ok((function, rest))
+    function_statements(alloc, words, returned, name, parameters, registers, rest)
 }
 
-#[tactic(auto, unfolding(mon_syntax::specs::Grammar::function))]
+/// A function behind its result and its name.
+#[tactic(auto, unfolding(crate::specs::Reading::function_rest))]
+fn function_rest<'a>(
+    alloc: Global,
+    words: &[Word],
+    returned: Option<MonType>,
+    name: NameUse,
+    tokens: &'a [Token],
+) -> Result<(ParsedFunc, &'a [Token]), ReadFault>
+    ensures { Gives (λ x. (plain_func x.0, plain_list x.1.now)) result ((function_rest words.now returned (plain_name name)).parse (plain_list tokens.now)) }
+{
+    let (_, rest) = skip(words, LEFT_PAREN, tokens)?;
+    let (parameters, rest) = parameters(alloc, words, rest)?;
+    let (_, rest) = skip(words, RIGHT_PAREN, rest)?;
+    function_body(alloc, words, returned, name, parameters, rest)
+}
+
+#[tactic(auto, unfolding(mon_syntax::specs::Grammar::function, crate::specs::Reading::function_rest))]
 fn function<'a>(
     alloc: Global,
     words: &[Word],
@@ -202,10 +273,7 @@ fn function<'a>(
 {
     let (returned, rest) = result_type(words, tokens)?;
     let (name, rest) = name(words, rest)?;
-    let (_, rest) = skip(words, LEFT_PAREN, rest)?;
-    let (parameters, rest) = parameters(alloc, words, rest)?;
-    let (_, rest) = skip(words, RIGHT_PAREN, rest)?;
-    function_body(alloc, words, returned, name, parameters, rest)
+    function_rest(alloc, words, returned, name, rest)
 }
 
 /// A function behind those that are read.

@@ -4,7 +4,7 @@ ghost use Rattle.std.specs.Prelude.{◌≡◌, map, IfOk};
 ghost use Rattle.mon_syntax.specs.Parsed as tree;
 ghost use Rattle.mon_syntax.specs.Grammar.{is_step_word, is_step, has_step, with_statement, parsed_list, ended, set_to_call, set_to_name, set_to, behind_name, one_more, body, selection, one_more_in_loop, loop_end, iteration, labelled, jump, returned, return_statement, statement_in};
 ghost use Rattle.mon_parser.specs.ParsedTrees.{plain_name, plain_expr, plain_stmt};
-ghost use Rattle.mon_parser.specs.Reading.{Gives, plain_list, plain_loop, more_statements, more_in_loop};
+ghost use Rattle.mon_parser.specs.Reading.{Gives, plain_list, plain_loop, more_statements, more_in_loop, call_statement, named_statement, condition, branches, second_branch, forever, loop_body, label_behind, label_end};
 
 use crate::call::call_of;
 use crate::expression::{expression, expression_but_name};
@@ -12,7 +12,7 @@ use crate::kinds::{
     ASSIGN, COLON, ELSE, GOTO, IF, LEFT_BRACE, LEFT_PAREN, NAME, RETURN, RIGHT_BRACE, RIGHT_PAREN,
     SEMICOLON, WHILE, word_at,
 };
-use crate::parsed::{NameUse, ParsedExpr, ParsedStmt};
+use crate::parsed::{NameUse, ParsedExpr, ParsedExprKind, ParsedStmt, ParsedStmtKind};
 use crate::terminals::{
     left, name, next_begins_expression, next_begins_statement, next_is, one, skip,
 };
@@ -41,8 +41,8 @@ fn is_step_word(word: Word) -> bool
 fn is_step(words: &[Word], statement: &ParsedStmt) -> bool
     ensures { result ≡ is_step words.now (plain_stmt statement.now) }
 {
-    match statement {
-        ParsedStmt::Call(call) => {
+    match &*statement.kind {
+        ParsedStmtKind::Call(call) => {
             is_step_word(word_at(words, call.callee.number)) && call.arguments.is_empty()
         }
         _ => false,
@@ -85,22 +85,35 @@ fn with_statement(
     }
 }
 
-fn make_if(condition: ParsedExpr, then: Vec<ParsedStmt>, otherwise: Vec<ParsedStmt>) -> ParsedStmt
-    ensures { plain_stmt result ≡ tree.If (plain_expr condition) (parsed_list (map plain_stmt then.items)) (parsed_list (map plain_stmt otherwise.items)) }
+fn make_if(
+    alloc: Global,
+    condition: ParsedExpr,
+    then: Vec<ParsedStmt>,
+    otherwise: Vec<ParsedStmt>,
+) -> Result<ParsedStmt, AllocError>
+    ensures { IfOk result (λ s. plain_stmt s ≡ tree.If (plain_expr condition) (parsed_list (map plain_stmt then.items)) (parsed_list (map plain_stmt otherwise.items))) }
 {
-    ParsedStmt::If(condition, then, otherwise)
+    ParsedStmt::new(alloc, ParsedStmtKind::If(condition, then, otherwise))
 }
 
-fn make_loop(before: Vec<ParsedStmt>, behind: Vec<ParsedStmt>) -> ParsedStmt
-    ensures { plain_stmt result ≡ tree.Loop (parsed_list (map plain_stmt before.items)) (parsed_list (map plain_stmt behind.items)) }
+fn make_loop(
+    alloc: Global,
+    before: Vec<ParsedStmt>,
+    behind: Vec<ParsedStmt>,
+) -> Result<ParsedStmt, AllocError>
+    ensures { IfOk result (λ s. plain_stmt s ≡ tree.Loop (parsed_list (map plain_stmt before.items)) (parsed_list (map plain_stmt behind.items))) }
 {
-    ParsedStmt::Loop(before, behind)
+    ParsedStmt::new(alloc, ParsedStmtKind::Loop(before, behind))
 }
 
-fn make_labelled(body: Vec<ParsedStmt>, label: NameUse) -> ParsedStmt
-    ensures { plain_stmt result ≡ tree.Labelled (parsed_list (map plain_stmt body.items)) (plain_name label) }
+fn make_labelled(
+    alloc: Global,
+    body: Vec<ParsedStmt>,
+    label: NameUse,
+) -> Result<ParsedStmt, AllocError>
+    ensures { IfOk result (λ s. plain_stmt s ≡ tree.Labelled (parsed_list (map plain_stmt body.items)) (plain_name label)) }
 {
-    ParsedStmt::Labelled(body, label)
+    ParsedStmt::new(alloc, ParsedStmtKind::Labelled(body, label))
 }
 
 /// `";"`, behind a statement.
@@ -128,7 +141,8 @@ fn set_to_call<'a>(
     ensures { Gives (λ x. (plain_stmt x.0, plain_list x.1.now)) result ((set_to_call words.now (plain_name target) place (plain_name callee)).parse (plain_list tokens.now)) }
 {
     let (call, rest) = call_of(alloc, words, false, callee, tokens)?;
-    ended(words, ParsedStmt::Take(target, place, call), rest)
+    let statement = ParsedStmt::new(alloc, ParsedStmtKind::Take(target, place, call))?;
+    ended(words, statement, rest)
 }
 
 /// Behind `NAME "=" NAME`.
@@ -146,8 +160,9 @@ fn set_to_name<'a>(
     if next_is(words, LEFT_PAREN, tokens) {
         set_to_call(alloc, words, target, place, x, tokens)
     } else {
-        let value = ParsedExpr::Name(x);
-        ended(words, ParsedStmt::Set(target, place, value), tokens)
+        let value = ParsedExpr::new(alloc, ParsedExprKind::Name(x))?;
+        let statement = ParsedStmt::new(alloc, ParsedStmtKind::Set(target, place, value))?;
+        ended(words, statement, tokens)
     }
 }
 
@@ -167,13 +182,29 @@ fn set_to<'a>(
         set_to_name(alloc, words, target, place, x, rest)
     } else {
         let (value, rest) = expression_but_name(alloc, words, tokens)?;
-        ended(words, ParsedStmt::Set(target, place, value), rest)
+        let statement = ParsedStmt::new(alloc, ParsedStmtKind::Set(target, place, value))?;
+        ended(words, statement, rest)
     }
 }
 
+/// A call whose value isn't taken, behind its name; it has an argument where it is to have one.
+#[tactic(auto, unfolding(crate::specs::Reading::call_statement))]
+fn call_statement<'a>(
+    alloc: Global,
+    words: &[Word],
+    some: bool,
+    callee: NameUse,
+    tokens: &'a [Token],
+) -> Result<(ParsedStmt, &'a [Token]), ReadFault>
+    ensures { Gives (λ x. (plain_stmt x.0, plain_list x.1.now)) result ((call_statement words.now some (plain_name callee)).parse (plain_list tokens.now)) }
+{
+    let (call, rest) = call_of(alloc, words, some, callee, tokens)?;
+    let statement = ParsedStmt::new(alloc, ParsedStmtKind::Call(call))?;
+    ended(words, statement, rest)
+}
+
 /// Behind a name: an assignment or a call, which is no `__e_acsl_step();` where it may be none.
-#[tactic(auto, unfolding(mon_syntax::specs::Grammar::behind_name))]
-#[inline(never)]
+#[tactic(auto, unfolding(mon_syntax::specs::Grammar::behind_name, crate::specs::Reading::call_statement))]
 fn behind_name<'a>(
     alloc: Global,
     words: &[Word],
@@ -188,19 +219,38 @@ fn behind_name<'a>(
         set_to(alloc, words, x, place, rest)
     } else {
         let some = no_step && is_step_word(word_at(words, x.number));
-        let (call, rest) = call_of(alloc, words, some, x, tokens)?;
-        ended(words, ParsedStmt::Call(call), rest)
+        call_statement(alloc, words, some, x, tokens)
     }
+}
+
+/// An assignment or a call, which is no `__e_acsl_step();` where it may be none.
+#[tactic(auto, unfolding(crate::specs::Reading::named_statement))]
+#[inline(never)]
+fn named_statement<'a>(
+    alloc: Global,
+    words: &[Word],
+    no_step: bool,
+    tokens: &'a [Token],
+) -> Result<(ParsedStmt, &'a [Token]), ReadFault>
+    ensures { Gives (λ x. (plain_stmt x.0, plain_list x.1.now)) result ((named_statement words.now no_step).parse (plain_list tokens.now)) }
+{
+    let (x, rest) = name(words, tokens)?;
+    behind_name(alloc, words, no_step, x, rest)
 }
 
 /// `"goto" NAME ";"`
 #[tactic(auto, unfolding(mon_syntax::specs::Grammar::jump))]
-fn jump<'a>(words: &[Word], tokens: &'a [Token]) -> Result<(ParsedStmt, &'a [Token]), ReadFault>
+fn jump<'a>(
+    alloc: Global,
+    words: &[Word],
+    tokens: &'a [Token],
+) -> Result<(ParsedStmt, &'a [Token]), ReadFault>
     ensures { Gives (λ x. (plain_stmt x.0, plain_list x.1.now)) result ((jump words.now).parse (plain_list tokens.now)) }
 {
     let (_, rest) = skip(words, GOTO, tokens)?;
     let (label, rest) = name(words, rest)?;
-    ended(words, ParsedStmt::Goto(label), rest)
+    let statement = ParsedStmt::new(alloc, ParsedStmtKind::Goto(label))?;
+    ended(words, statement, rest)
 }
 
 /// `[ expr ] ";"`, behind `return` at this place.
@@ -215,9 +265,11 @@ fn returned<'a>(
 {
     if next_begins_expression(words, tokens) {
         let (value, rest) = expression(alloc, words, tokens)?;
-        ended(words, ParsedStmt::Return(place, Some(value)), rest)
+        let statement = ParsedStmt::new(alloc, ParsedStmtKind::Return(place, Some(value)))?;
+        ended(words, statement, rest)
     } else {
-        ended(words, ParsedStmt::Return(place, None), tokens)
+        let statement = ParsedStmt::new(alloc, ParsedStmtKind::Return(place, None))?;
+        ended(words, statement, tokens)
     }
 }
 
@@ -237,6 +289,7 @@ fn return_statement<'a>(
 /// The end of a loop's body, which has its step.
 #[tactic(auto, unfolding(mon_syntax::specs::Grammar::loop_end))]
 fn loop_end<'a>(
+    alloc: Global,
     words: &[Word],
     read: LoopRead,
     tokens: &'a [Token],
@@ -247,7 +300,7 @@ fn loop_end<'a>(
     match behind {
         Some(behind) => {
             let (_, rest) = skip(words, RIGHT_BRACE, tokens)?;
-            Ok((make_loop(before, behind), rest))
+            Ok((make_loop(alloc, before, behind)?, rest))
         }
         None => Err(ReadFault::At(left(tokens))),
     }
@@ -309,8 +362,58 @@ fn body<'a>(
     Ok((all, rest))
 }
 
+/// The second body, behind the condition and the first one.
+#[tactic(auto, unfolding(crate::specs::Reading::second_branch))]
+#[cycle(statement)]
+fn second_branch<'a>(
+    alloc: Global,
+    words: &[Word],
+    levels: u32,
+    condition: ParsedExpr,
+    then: Vec<ParsedStmt>,
+    tokens: &'a [Token],
+) -> Result<(ParsedStmt, &'a [Token]), ReadFault>
+    ensures { Gives (λ x. (plain_stmt x.0, plain_list x.1.now)) result ((second_branch words.now (statement_in words.now levels) (plain_expr condition) (parsed_list (map plain_stmt then.items))).parse (plain_list tokens.now)) }
+{
+    let (otherwise, rest) = body(alloc, words, levels, tokens)?;
+    Ok((make_if(alloc, condition, then, otherwise)?, rest))
+}
+
+/// `body "else" body`, behind the condition.
+#[tactic(auto, unfolding(crate::specs::Reading::branches, crate::specs::Reading::second_branch))]
+#[cycle(statement)]
+fn branches<'a>(
+    alloc: Global,
+    words: &[Word],
+    levels: u32,
+    condition: ParsedExpr,
+    tokens: &'a [Token],
+) -> Result<(ParsedStmt, &'a [Token]), ReadFault>
+    ensures { Gives (λ x. (plain_stmt x.0, plain_list x.1.now)) result ((branches words.now (statement_in words.now levels) (plain_expr condition)).parse (plain_list tokens.now)) }
+{
+    let (then, rest) = body(alloc, words, levels, tokens)?;
+    let (_, rest) = skip(words, ELSE, rest)?;
+    second_branch(alloc, words, levels, condition, then, rest)
+}
+
+/// `expr ")" body "else" body`
+#[tactic(auto, unfolding(crate::specs::Reading::condition, crate::specs::Reading::branches))]
+#[cycle(statement)]
+fn condition<'a>(
+    alloc: Global,
+    words: &[Word],
+    levels: u32,
+    tokens: &'a [Token],
+) -> Result<(ParsedStmt, &'a [Token]), ReadFault>
+    ensures { Gives (λ x. (plain_stmt x.0, plain_list x.1.now)) result ((condition words.now (statement_in words.now levels)).parse (plain_list tokens.now)) }
+{
+    let (condition, rest) = expression(alloc, words, tokens)?;
+    let (_, rest) = skip(words, RIGHT_PAREN, rest)?;
+    branches(alloc, words, levels, condition, rest)
+}
+
 /// `"if" "(" expr ")" body "else" body`
-#[tactic(auto, unfolding(mon_syntax::specs::Grammar::selection))]
+#[tactic(auto, unfolding(mon_syntax::specs::Grammar::selection, crate::specs::Reading::condition))]
 #[cycle(statement)]
 #[inline(never)]
 fn selection<'a>(
@@ -323,12 +426,7 @@ fn selection<'a>(
 {
     let (_, rest) = skip(words, IF, tokens)?;
     let (_, rest) = skip(words, LEFT_PAREN, rest)?;
-    let (condition, rest) = expression(alloc, words, rest)?;
-    let (_, rest) = skip(words, RIGHT_PAREN, rest)?;
-    let (then, rest) = body(alloc, words, levels, rest)?;
-    let (_, rest) = skip(words, ELSE, rest)?;
-    let (otherwise, rest) = body(alloc, words, levels, rest)?;
-    Ok((make_if(condition, then, otherwise), rest))
+    condition(alloc, words, levels, rest)
 }
 
 #[tactic(auto, unfolding(mon_syntax::specs::Grammar::one_more_in_loop))]
@@ -368,8 +466,44 @@ fn more_in_loop<'a>(
     Ok((read, rest))
 }
 
-/// `"while" "(" "1" ")" body`, with exactly one step directly in the body.
-#[tactic(auto, unfolding(mon_syntax::specs::Grammar::iteration, crate::specs::Reading::more_in_loop))]
+/// The body of a loop, with exactly one step directly in it.
+#[tactic(auto, unfolding(crate::specs::Reading::loop_body))]
+#[cycle(statement)]
+fn loop_body<'a>(
+    alloc: Global,
+    words: &[Word],
+    levels: u32,
+    tokens: &'a [Token],
+) -> Result<(ParsedStmt, &'a [Token]), ReadFault>
+    ensures { Gives (λ x. (plain_stmt x.0, plain_list x.1.now)) result ((loop_body words.now (statement_in words.now levels)).parse (plain_list tokens.now)) }
+{
+    let (_, rest) = skip(words, LEFT_BRACE, tokens)?;
+    let nothing = LoopRead {
+        before: Vec::new(alloc),
+        behind: None,
+    };
+    let (read, rest) = more_in_loop(alloc, words, levels, nothing, rest)?;
+    loop_end(alloc, words, read, rest)
+}
+
+/// `"1" ")" body`
+#[tactic(auto, unfolding(crate::specs::Reading::forever, crate::specs::Reading::loop_body))]
+#[cycle(statement)]
+fn forever<'a>(
+    alloc: Global,
+    words: &[Word],
+    levels: u32,
+    tokens: &'a [Token],
+) -> Result<(ParsedStmt, &'a [Token]), ReadFault>
+    ensures { Gives (λ x. (plain_stmt x.0, plain_list x.1.now)) result ((forever words.now (statement_in words.now levels)).parse (plain_list tokens.now)) }
+{
+    let (_, rest) = one(tokens)?;
+    let (_, rest) = skip(words, RIGHT_PAREN, rest)?;
+    loop_body(alloc, words, levels, rest)
+}
+
+/// `"while" "(" "1" ")" body`
+#[tactic(auto, unfolding(mon_syntax::specs::Grammar::iteration, crate::specs::Reading::forever, crate::specs::Reading::more_in_loop))]
 #[cycle(statement)]
 #[inline(never)]
 fn iteration<'a>(
@@ -382,19 +516,38 @@ fn iteration<'a>(
 {
     let (_, rest) = skip(words, WHILE, tokens)?;
     let (_, rest) = skip(words, LEFT_PAREN, rest)?;
-    let (_, rest) = one(rest)?;
-    let (_, rest) = skip(words, RIGHT_PAREN, rest)?;
-    let (_, rest) = skip(words, LEFT_BRACE, rest)?;
-    let nothing = LoopRead {
-        before: Vec::new(alloc),
-        behind: None,
-    };
-    let (read, rest) = more_in_loop(alloc, words, levels, nothing, rest)?;
-    loop_end(words, read, rest)
+    forever(alloc, words, levels, rest)
+}
+
+/// `":" ";"`, behind a body and its label.
+#[tactic(auto, unfolding(crate::specs::Reading::label_end))]
+fn label_end<'a>(
+    words: &[Word],
+    statement: ParsedStmt,
+    tokens: &'a [Token],
+) -> Result<(ParsedStmt, &'a [Token]), ReadFault>
+    ensures { Gives (λ x. (plain_stmt x.0, plain_list x.1.now)) result ((label_end words.now (plain_stmt statement)).parse (plain_list tokens.now)) }
+{
+    let (_, rest) = skip(words, COLON, tokens)?;
+    ended(words, statement, rest)
+}
+
+/// `NAME ":" ";"`, behind the label's body.
+#[tactic(auto, unfolding(crate::specs::Reading::label_behind, crate::specs::Reading::label_end))]
+fn label_behind<'a>(
+    alloc: Global,
+    words: &[Word],
+    all: Vec<ParsedStmt>,
+    tokens: &'a [Token],
+) -> Result<(ParsedStmt, &'a [Token]), ReadFault>
+    ensures { Gives (λ x. (plain_stmt x.0, plain_list x.1.now)) result ((label_behind words.now (parsed_list (map plain_stmt all.items))).parse (plain_list tokens.now)) }
+{
+    let (label, rest) = name(words, tokens)?;
+    label_end(words, make_labelled(alloc, all, label)?, rest)
 }
 
 /// `body NAME ":" ";"`
-#[tactic(auto, unfolding(mon_syntax::specs::Grammar::labelled))]
+#[tactic(auto, unfolding(mon_syntax::specs::Grammar::labelled, crate::specs::Reading::label_behind))]
 #[cycle(statement)]
 #[inline(never)]
 fn labelled<'a>(
@@ -406,13 +559,11 @@ fn labelled<'a>(
     ensures { Gives (λ x. (plain_stmt x.0, plain_list x.1.now)) result ((labelled words.now (statement_in words.now levels)).parse (plain_list tokens.now)) }
 {
     let (all, rest) = body(alloc, words, levels, tokens)?;
-    let (label, rest) = name(words, rest)?;
-    let (_, rest) = skip(words, COLON, rest)?;
-    ended(words, make_labelled(all, label), rest)
+    label_behind(alloc, words, all, rest)
 }
 
 /// A statement in which statements stand at most so many levels deep, itself included; no `__e_acsl_step();` where it may be none.
-#[tactic(auto, using(crate::proofs::Steps::statement_is, crate::proofs::Steps::statement_over, crate::proofs::Steps::statement_at), unfolding(mon_syntax::specs::Grammar::statement_with))]
+#[tactic(auto, using(crate::proofs::Steps::statement_is, crate::proofs::Steps::statement_over, crate::proofs::Steps::statement_at), unfolding(mon_syntax::specs::Grammar::statement_with, crate::specs::Reading::named_statement))]
 #[cycle(statement)]
 fn statement<'a>(
     alloc: Global,
@@ -432,8 +583,7 @@ fn statement<'a>(
     }
     let levels = levels - 1;
     if next_is(words, NAME, tokens) {
-        let (x, rest) = name(words, tokens)?;
-        behind_name(alloc, words, no_step, x, rest)
+        named_statement(alloc, words, no_step, tokens)
     } else if next_is(words, LEFT_BRACE, tokens) {
         labelled(alloc, words, levels, tokens)
     } else if next_is(words, IF, tokens) {
@@ -441,7 +591,7 @@ fn statement<'a>(
     } else if next_is(words, WHILE, tokens) {
         iteration(alloc, words, levels, tokens)
     } else if next_is(words, GOTO, tokens) {
-        jump(words, tokens)
+        jump(alloc, words, tokens)
     } else {
         return_statement(alloc, words, tokens)
     }

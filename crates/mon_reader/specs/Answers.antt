@@ -1,12 +1,13 @@
 -- What the answers on a monitored text mean.
-use Rattle.std.specs.Prelude.{◌≡◌, ℕ, List, Err}
+use Rattle.std.specs.Prelude.{◌≡◌, ℕ, List, Some, None, Ok, Err}
 use Rattle.c_syntax.specs.declared.refusal.FrontFault.{FrontFault}
 use Rattle.c_syntax.specs.declared.refusal.FrontFault.TheVariants as front
 use Rattle.c_syntax.specs.Tokens.{PlainTokens}
 use Rattle.c_syntax.specs.Programs.{PlainRefusal, plain_refusal}
+use Rattle.mon_syntax.specs.Trees.{MonitoredProgram}
 use Rattle.mon_syntax.specs.Parsed.{ParsedProgram}
 use Rattle.mon_syntax.specs.Checking.{Fault}
-use Rattle.mon_syntax.specs.Spelled.{checked, check_refusal, IsMonitoredRefusal}
+use Rattle.mon_syntax.specs.Spelled.{checked, check_refusal, main_refusal, IsMonitoredRefusal}
 use Rattle.mon_parser.specs.Answers.{RefusesWith}
 use Rattle.mon_typing.specs.declared.fault.CheckFault.{CheckFault}
 use Rattle.mon_typing.specs.declared.fault.CheckFault.TheVariants.{BadName, BadType, Memory}
@@ -25,6 +26,20 @@ pub record IsCheckRefusal (ts : PlainTokens) (p : ParsedProgram) (r : PlainRefus
 abbrev pub HasFault : FrontFault → PlainTokens → ParsedProgram → Type 0
 HasFault front.Memory ts p = Unit {0}
 HasFault (front.Refused r) ts p = IsCheckRefusal ts p (plain_refusal r)
+
+-- A tree is refused for its first fault in names and types, or for want of `i32 main(void)` (E13).
+pub data IsTreeRefusal (ts : PlainTokens) (p : ParsedProgram) (r : PlainRefusal) : Type 0 where
+  ForFault : IsCheckRefusal ts p r → IsTreeRefusal ts p r
+  ForMain : (m : MonitoredProgram) → checked ts p ≡ Ok m → main_refusal ts.names p ≡ Some r → IsTreeRefusal ts p r
+
+abbrev pub RefusesTree : FrontFault → PlainTokens → ParsedProgram → Type 0
+RefusesTree front.Memory ts p = Unit {0}
+RefusesTree (front.Refused r) ts p = IsTreeRefusal ts p (plain_refusal r)
+
+-- a tree without a fault spells the program, and has its `main`
+pub record IsEntered (ts : PlainTokens) (p : ParsedProgram) (m : MonitoredProgram) : Type 0 where
+  pub is : checked ts p ≡ Ok m
+  pub main : main_refusal ts.names p ≡ None
 
 -- the refusal for a fault in names and types
 abbrev pub RefusesFault : PlainTokens → CheckFault → FrontFault → Type 0

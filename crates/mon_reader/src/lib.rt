@@ -9,6 +9,3 @@ mod read;
 mod refusal;
 
 pub use read::{about_texts, read_monitored};
-
-#[cfg(test)]
-mod tests;

@@ -6,7 +6,7 @@ ghost use Rattle.c_syntax.specs.Programs.{PlainRefusal};
 ghost use Rattle.mon_syntax.specs.Trees.{MonitoredProgram, plain_program};
 ghost use Rattle.mon_syntax.specs.Spelled.{Spells, IsMonitoredRefusal, checked};
 ghost use Rattle.mon_parser.specs.ParsedTrees as read;
-ghost use Rattle.mon_reader.specs.Answers.{Refuses, HasFault};
+ghost use Rattle.mon_reader.specs.Answers.{Refuses, HasFault, RefusesTree, IsEntered};
 
 use crate::entry::main_fault;
 use crate::refusal::{no_main, refuse};
@@ -29,6 +29,20 @@ fn checked(alloc: Global, tokens: &Tokens, tree: &ParsedProgram) -> Result<MonPr
     }
 }
 
+/// The program that a tree of the tokens spells, if it has no fault and has its `main`.
+fn entered(alloc: Global, tokens: &Tokens, tree: &ParsedProgram) -> Result<MonProgram, FrontFault>
+    ensures { MatchResult result (λ m. IsEntered (plain_tokens tokens.now) (read.plain_program tree.now) (plain_program m)) (λ e. RefusesTree e (plain_tokens tokens.now) (read.plain_program tree.now)) }
+{
+    let program = match checked(alloc, tokens, tree) {
+        Ok(program) => program,
+        Err(fault) => return Err(fault),
+    };
+    match main_fault(tokens.names.as_slice(), tree) {
+        None => Ok(program),
+        Some(place) => Err(no_main(alloc, place)),
+    }
+}
+
 /// The program that a monitored text spells, or the text's refusal: with code 1 or 2 for its tokens, 4 or 11 for its
 /// grammar, 5 for a name, 6 for a type, and 13 for want of `i32 main(void)`.
 pub fn read_monitored(alloc: Global, text: &[u8]) -> Result<MonProgram, FrontFault>
@@ -43,14 +57,7 @@ pub fn read_monitored(alloc: Global, text: &[u8]) -> Result<MonProgram, FrontFau
         Ok(tree) => tree,
         Err(fault) => return Err(fault),
     };
-    let program = match checked(alloc, &tokens, &tree) {
-        Ok(program) => program,
-        Err(fault) => return Err(fault),
-    };
-    match main_fault(tokens.names.as_slice(), &tree) {
-        None => Ok(program),
-        Some(place) => Err(no_main(alloc, place)),
-    }
+    entered(alloc, &tokens, &tree)
 }
 
 /// A text spells one program at most, and then it has no refusal, and it has one refusal at most.

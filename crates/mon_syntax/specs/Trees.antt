@@ -5,9 +5,11 @@ use Rattle.mon_syntax.specs.declared.tree.MonType.{MonType}
 use Rattle.mon_syntax.specs.declared.tree.MonOp.{MonOp}
 use Rattle.mon_syntax.specs.declared.tree.MemoryCall.{MemoryCall}
 use Rattle.mon_syntax.specs.declared.tree.MonExpr.{MonExpr}
-use Rattle.mon_syntax.specs.declared.tree.MonExpr as code
-use Rattle.mon_syntax.specs.declared.tree.MonStmt.{MonStmt, Row_of-MonStmt, end_of-MonStmt, more_of-MonStmt}
-use Rattle.mon_syntax.specs.declared.tree.MonStmt as stmt
+use Rattle.mon_syntax.specs.declared.tree.MonExprKind.{MonExprKind}
+use Rattle.mon_syntax.specs.declared.tree.MonExprKind as code
+use Rattle.mon_syntax.specs.declared.tree.MonStmt.{MonStmt}
+use Rattle.mon_syntax.specs.declared.tree.MonStmtKind.{MonStmtKind, Row_of-MonStmt, end_of-MonStmt, more_of-MonStmt}
+use Rattle.mon_syntax.specs.declared.tree.MonStmtKind as stmt
 use Rattle.mon_syntax.specs.declared.tree.Register as code_register
 use Rattle.mon_syntax.specs.declared.tree.MonFunc.{MonFunc}
 use Rattle.mon_syntax.specs.declared.tree.MonProgram.{MonProgram}
@@ -62,36 +64,42 @@ pub record MonFunction : Type 0 where
 pub record MonitoredProgram : Type 0 where
   pub functions : List MonFunction
 
+abbrev pub plain_expr_kind : MonExprKind → MonExpression
+plain_expr_kind (code.Register r) = Register r
+plain_expr_kind (code.Constant t z) = Constant t z
+plain_expr_kind (code.Binary' op t p a q b) = Binary op t (plain_expr_kind a) (plain_expr_kind b)
+plain_expr_kind (code.Minus' t p a) = Minus t (plain_expr_kind a)
+plain_expr_kind (code.Flip' t p a) = Flip t (plain_expr_kind a)
+plain_expr_kind (code.Cast' t p a) = Cast t (plain_expr_kind a)
+
 abbrev pub plain_expr : MonExpr → MonExpression
-plain_expr (code.Register r) = Register r
-plain_expr (code.Constant t z) = Constant t z
-plain_expr (code.Binary' op t p a q b) = Binary op t (plain_expr a) (plain_expr b)
-plain_expr (code.Minus' t p a) = Minus t (plain_expr a)
-plain_expr (code.Flip' t p a) = Flip t (plain_expr a)
-plain_expr (code.Cast' t p a) = Cast t (plain_expr a)
+plain_expr e = plain_expr_kind e.kind.value
 
 abbrev mutual
-  pub plain_stmt : MonStmt → MonStatement
-  plain_stmt (stmt.Set r e) = Set r (plain_expr e)
-  plain_stmt stmt.Step = Step
-  plain_stmt (stmt.Assert d v number line kind) = Assert (plain_expr d) (plain_expr v) number line kind
-  plain_stmt (stmt.PutChar r e) = PutChar r (plain_expr e)
-  plain_stmt (stmt.GetChar r) = GetChar r
-  plain_stmt (stmt.Exit e) = Exit (plain_expr e)
-  plain_stmt (stmt.PrintText bytes) = PrintText bytes
-  plain_stmt (stmt.PrintSigned e) = PrintSigned (plain_expr e)
-  plain_stmt (stmt.PrintUnsigned e) = PrintUnsigned (plain_expr e)
-  plain_stmt (stmt.Act r f args) = Act r f (map plain_expr args.items)
-  plain_stmt (stmt.Call r f args) = Call r f (map plain_expr args.items)
-  plain_stmt (stmt.If' e p a q b) = If (plain_expr e) (plain_stmt_row a) (plain_stmt_row b)
-  plain_stmt (stmt.Loop' p a q b) = Loop (plain_stmt_row a) (plain_stmt_row b)
-  plain_stmt (stmt.Labelled' p a label) = Labelled (plain_stmt_row a) label
-  plain_stmt (stmt.Goto label) = Goto label
-  plain_stmt (stmt.Return e) = Return (option_map plain_expr e)
+  pub plain_stmt_kind : MonStmtKind → MonStatement
+  plain_stmt_kind (stmt.Set r e) = Set r (plain_expr e)
+  plain_stmt_kind stmt.Step = Step
+  plain_stmt_kind (stmt.Assert d v number line kind) = Assert (plain_expr d) (plain_expr v) number line kind
+  plain_stmt_kind (stmt.PutChar r e) = PutChar r (plain_expr e)
+  plain_stmt_kind (stmt.GetChar r) = GetChar r
+  plain_stmt_kind (stmt.Exit e) = Exit (plain_expr e)
+  plain_stmt_kind (stmt.PrintText bytes) = PrintText bytes
+  plain_stmt_kind (stmt.PrintSigned e) = PrintSigned (plain_expr e)
+  plain_stmt_kind (stmt.PrintUnsigned e) = PrintUnsigned (plain_expr e)
+  plain_stmt_kind (stmt.Act r f args) = Act r f (map plain_expr args.items)
+  plain_stmt_kind (stmt.Call r f args) = Call r f (map plain_expr args.items)
+  plain_stmt_kind (stmt.If' e p a q b) = If (plain_expr e) (plain_stmt_row a) (plain_stmt_row b)
+  plain_stmt_kind (stmt.Loop' p a q b) = Loop (plain_stmt_row a) (plain_stmt_row b)
+  plain_stmt_kind (stmt.Labelled' p a label) = Labelled (plain_stmt_row a) label
+  plain_stmt_kind (stmt.Goto label) = Goto label
+  plain_stmt_kind (stmt.Return e) = Return (option_map plain_expr e)
 
   pub plain_stmt_row : {m : _} → Row_of-MonStmt m → MonStatements
   plain_stmt_row end_of-MonStmt = NoStatement
-  plain_stmt_row (more_of-MonStmt a rest) = Then (plain_stmt a) (plain_stmt_row rest)
+  plain_stmt_row (more_of-MonStmt p a rest) = Then (plain_stmt_kind a) (plain_stmt_row rest)
+
+abbrev pub plain_stmt : MonStmt → MonStatement
+plain_stmt s = plain_stmt_kind s.kind.value
 
 abbrev pub plain_stmts : List MonStmt → MonStatements
 plain_stmts [] = NoStatement

@@ -5,5 +5,8 @@ pub mod laws;
 pub mod tree;
 pub mod word;
 
-pub use tree::{MemoryCall, MonExpr, MonFunc, MonOp, MonProgram, MonStmt, MonType, Register};
+pub use tree::{
+    MemoryCall, MonExpr, MonExprKind, MonFunc, MonOp, MonProgram, MonStmt, MonStmtKind, MonType,
+    Register,
+};
 pub use word::{Runtime, Word};

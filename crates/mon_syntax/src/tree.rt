@@ -1,6 +1,10 @@
 //! The tree of a program in monitored C.
 
+ghost use Rattle.std.specs.Prelude.{◌≡◌, IfOk};
+ghost use Rattle.mon_syntax.specs.Trees.{plain_expr, plain_expr_kind, plain_stmt, plain_stmt_kind};
+
 use c_syntax::{Kind, Name};
+use std::alloc::{AllocError, Global};
 
 /// A type of registers: a whole-number type by its width in bits and its sign, or a pointer.
 #[derive(Clone, Copy, PartialEq, Eq, Debug)]
@@ -49,24 +53,47 @@ pub enum MemoryCall {
 
 /// An expression. It has no side effect.
 #[derive(Drop)]
-pub enum MonExpr {
+#[cycle(expression)]
+pub struct MonExpr {
+    pub kind: Box<MonExprKind>,
+}
+
+#[derive(Drop)]
+#[cycle(expression)]
+pub enum MonExprKind {
     /// A register, by its number in its function: the parameters come first.
     Register(u32),
     /// A value of a type, `I32(-1)`.
     Constant(MonType, i128),
     /// An operator on two operands of the type.
-    Binary(MonOp, MonType, Box<MonExpr>, Box<MonExpr>),
+    Binary(MonOp, MonType, MonExpr, MonExpr),
     /// `(-e)`, of an operand of the type.
-    Minus(MonType, Box<MonExpr>),
+    Minus(MonType, MonExpr),
     /// `(~e)`, of an operand of the type.
-    Flip(MonType, Box<MonExpr>),
+    Flip(MonType, MonExpr),
     /// `((t)e)`, the value of the type that is congruent to the operand's.
-    Cast(MonType, Box<MonExpr>),
+    Cast(MonType, MonExpr),
+}
+
+impl MonExpr {
+    pub fn new(alloc: Global, kind: MonExprKind) -> Result<MonExpr, AllocError>
+        ensures { IfOk result (λ e. plain_expr e ≡ plain_expr_kind kind) }
+    {
+        let kind = Box::new(alloc, kind)?;
+        Ok(MonExpr { kind })
+    }
 }
 
 /// A statement.
 #[derive(Drop)]
-pub enum MonStmt {
+#[cycle(statement)]
+pub struct MonStmt {
+    pub kind: Box<MonStmtKind>,
+}
+
+#[derive(Drop)]
+#[cycle(statement)]
+pub enum MonStmtKind {
     /// `R = e;`
     Set(u32, MonExpr),
     /// `__e_acsl_step();` where it isn't the step of a loop.
@@ -98,6 +125,15 @@ pub enum MonStmt {
     /// `goto LABEL;`: to the end of the body of that label, in which it stands.
     Goto(Name),
     Return(Option<MonExpr>),
+}
+
+impl MonStmt {
+    pub fn new(alloc: Global, kind: MonStmtKind) -> Result<MonStmt, AllocError>
+        ensures { IfOk result (λ s. plain_stmt s ≡ plain_stmt_kind kind) }
+    {
+        let kind = Box::new(alloc, kind)?;
+        Ok(MonStmt { kind })
+    }
 }
 
 /// A register: its type and its name.

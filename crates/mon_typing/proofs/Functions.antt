@@ -1,5 +1,5 @@
 -- The registers of a function, and a function from its parts.
-use Rattle.std.proofs.Common.{◌≡◌, ℕ, ◌+◌, ◌<◌, Bool, true, false, not, ◌&&◌, cond, List, [], ◌∷◌, ◌++◌, length, drop, get_or, map, reverse, nat_eq, Ok, refl, sym, ap, ◌∙◌, append_assoc, drop-cons, add-one}
+use Rattle.std.proofs.Common.{◌≡◌, ℕ, ◌+◌, ◌<◌, Bool, true, false, not, ◌&&◌, cond, List, [], ◌∷◌, ◌++◌, length, drop, get_or, map, nat_eq, Ok, Err, refl, sym, ap, ◌∙◌, append_assoc, drop-cons, add-one}
 use Rattle.std.proofs.lemmas.List.{append-nil, map-append}
 use Rattle.std.proofs.Math.Seq.{drop-append_seam}
 use Rattle.indexmap.specs.IndexMap.{insert_entry}
@@ -12,10 +12,12 @@ use Rattle.mon_syntax.specs.Parsed as plain
 use Rattle.mon_syntax.specs.Grammar.{Vocabulary, word_at}
 use Rattle.mon_syntax.specs.Checking.{Header, Checked, ◌>>=◌, name_fault, is_free, checked_registers, named_register, word_bytes, scope_of, function_of, checked_statements, checked_function}
 use Rattle.mon_parser.specs.declared.parsed.ParsedRegister.{ParsedRegister}
-use Rattle.mon_parser.specs.declared.parsed.ParsedFunc.{ParsedFunc}
-use Rattle.mon_parser.specs.declared.parsed.ParsedStmt.{ParsedStmt}
-use Rattle.mon_parser.specs.ParsedTrees.{plain_register, plain_func, plain_stmts}
+use Rattle.mon_parser.specs.ParsedTrees.{plain_register}
+use Rattle.mon_typing.specs.declared.fault.CheckFault.{CheckFault}
+use Rattle.mon_typing.specs.Answers.{Fails}
+use Rattle.mon_typing.specs.Functions.{registers_of, body_of, named_function}
 use Rattle.mon_typing.specs.Scopes.{numbered, is_new}
+use Rattle.mon_typing.proofs.Parts.{fails_after}
 use Rattle.mon_typing.proofs.Registers.{insert_new}
 
 abbrev Registers : Type 0
@@ -77,21 +79,33 @@ unfolding from
 known_are ws known all [] e = let f : known ≡ all = cc in sym f ∙ sym (append-nil known)
 known_are ws known all (r ∷ rs) e = behind_known ws known all r rs (is_new ws known r.name.number) (known_are ws (known ++ (r.name.number, r.kind) ∷ []) all rs) e
 
-pub function_checked : (names : List (List ℕ)) (ws : Vocabulary) (gs : List Header) (f : ParsedFunc) (ps ps1 rs rs1 : List ParsedRegister) (body : List ParsedStmt) (none known all : Registers) (around : List ℕ) (b : MonStatements) (name : List ℕ) (parameters named : List MonRegister)
-    → ps ≡ f.parameters.items → ps1 ≡ f.parameters.items → rs ≡ f.registers.items → rs1 ≡ f.registers.items → body ≡ f.body.items → none ≡ [] → around ≡ []
-    → checked_registers ws none (map plain_register ps) ≡ Ok known → checked_registers ws known (map plain_register rs) ≡ Ok all → checked_statements (scope_of names ws gs all) f.result (reverse around) (plain_stmts body) ≡ Ok b
-    → name ≡ word_bytes names f.name.number → parameters ≡ map (named_register names) (numbered (map plain_register ps1)) → named ≡ map (named_register names) (numbered (map plain_register rs1))
-    → checked_function names ws gs (plain_func f) ≡ Ok (record { result = f.result; name = name; parameters = parameters; registers = named; body = b })
-function_checked names ws gs f ps ps1 rs rs1 body none known all around b name parameters named is is1 p p1 q z o j k h n m m1 =
-    let j1 : checked_registers ws [] (map plain_register f.parameters.items) ≡ Ok known = (λ i. checked_registers ws (sym z i) (map plain_register (sym is i))) ∙ j in
-    let k1 : checked_registers ws known (map plain_register f.registers.items) ≡ Ok all = ap (λ (l : List ParsedRegister). checked_registers ws known (map plain_register l)) (sym p) ∙ k in
-    let h1 : checked_statements (scope_of names ws gs all) f.result [] (plain_stmts f.body.items) ≡ Ok b = (λ i. checked_statements (scope_of names ws gs all) f.result (reverse (sym o i)) (plain_stmts (sym q i))) ∙ h in
-    let first : known ≡ numbered (map plain_register f.parameters.items) = known_are ws [] known (map plain_register f.parameters.items) j1 in
-    let second : drop (length known) all ≡ numbered (map plain_register f.registers.items) =
-    ap (drop (length known)) (known_are ws known all (map plain_register f.registers.items) k1) ∙ drop-append_seam known (numbered (map plain_register f.registers.items)) in
-    let parameters_are : map (named_register names) known ≡ parameters = ap (map (named_register names)) first ∙ sym (m ∙ ap (λ (l : List ParsedRegister). map (named_register names) (numbered (map plain_register l))) is1) in
-    let registers_are : map (named_register names) (drop (length known) all) ≡ named = ap (map (named_register names)) second ∙ sym (m1 ∙ ap (λ (l : List ParsedRegister). map (named_register names) (numbered (map plain_register l))) p1) in
-    (λ i. j1 i >>= λ g. checked_registers ws g (map plain_register f.registers.items) >>= λ r. checked_statements (scope_of names ws gs r) f.result [] (plain_stmts f.body.items) >>= λ c. Ok (function_of names (plain_func f) g r c))
-    ∙ (λ i. k1 i >>= λ r. checked_statements (scope_of names ws gs r) f.result [] (plain_stmts f.body.items) >>= λ c. Ok (function_of names (plain_func f) known r c))
-    ∙ ap (λ (c : Checked MonStatements). c >>= λ c. Ok (function_of names (plain_func f) known all c)) h1
-    ∙ (λ i. Ok (record { result = f.result; name = sym n i; parameters = parameters_are i; registers = registers_are i; body = b }))
+from_second : {B C D : Type 0} (e : CheckFault) (c : Checked B) (h : B → Checked C) (k : B → C → Checked D) → Fails e (c >>= h) → Fails e (c >>= λ b. h b >>= k b)
+from_second e (Ok b) h k f = fails_after e (h b) (k b) f
+from_second {B} {C} {D} e (Err x) h k f = fails_after e (Err x) (λ (c : C). Err x) f
+
+body_ok : {A B : Type 0} (c : Checked A) (g : A → Checked B) (y : B) → (c >>= g) ≡ Ok y → (x : A) × (c ≡ Ok x) × (g x ≡ Ok y)
+body_ok (Ok x) g y e = (x, refl, e)
+body_ok (Err f) g y e = absurd cc
+
+all_fail : {A B C D : Type 0} (e : CheckFault) (c : Checked A) (g : A → Checked B) (h : B → Checked C) (k : A → B → C → Checked D) → Fails e ((c >>= g) >>= h) → Fails e (c >>= λ a. g a >>= λ b. h b >>= k a b)
+all_fail {A} {B} {C} {D} e (Ok a) g h k f = from_second e (g a) h (k a) f
+all_fail {A} {B} {C} {D} e (Err x) g h k f = fails_after e (Err x) (λ (c : C). Err x) f
+
+module _ (names : List (List ℕ)) (ws : Vocabulary) (gs : List Header) (f : plain.ParsedFunction) where
+  abbrev statements : Registers → Checked MonStatements
+  statements all = checked_statements (scope_of names ws gs all) f.result [] f.body
+
+  pub body_fails : (e : CheckFault) → Fails e (body_of names ws gs f) → Fails e (checked_function names ws gs f)
+  body_fails e k = all_fail e (checked_registers ws [] f.parameters) (λ ps. checked_registers ws ps f.registers) statements (λ ps rs body. Ok (function_of names f ps rs body)) k
+
+  pub function_checked : (body : MonStatements) → body_of names ws gs f ≡ Ok body → checked_function names ws gs f ≡ Ok (named_function names f body)
+  function_checked body h =
+      let s = body_ok (registers_of ws f) statements body h in
+      let all = s.0 in
+      let b = body_ok (checked_registers ws [] f.parameters) (λ ps. checked_registers ws ps f.registers) all s.1 in
+      let first : b.0 ≡ numbered f.parameters = known_are ws [] b.0 f.parameters b.1 in
+      let second : drop (length b.0) all ≡ numbered f.registers = ap (drop (length b.0)) (known_are ws b.0 all f.registers b.2) ∙ drop-append_seam b.0 (numbered f.registers) in
+      (λ i. b.1 i >>= λ ps. checked_registers ws ps f.registers >>= λ rs. statements rs >>= λ body. Ok (function_of names f ps rs body))
+      ∙ (λ i. b.2 i >>= λ rs. statements rs >>= λ body. Ok (function_of names f b.0 rs body))
+      ∙ ap (λ (c : Checked MonStatements). c >>= λ body. Ok (function_of names f b.0 all body)) s.2
+      ∙ (λ i. Ok (record { result = f.result; name = word_bytes names f.name.number; parameters = map (named_register names) (first i); registers = map (named_register names) (second i); body = body }))

@@ -110,11 +110,10 @@ one_more gs g firsts false e h x =
     lookup_last firsts g.name (length gs) x ∙ (λ i. or_else (h x i) (cond (eqb_sym x g.name i) (Some (length gs)) None)) ∙ new_first gs g (find_function 0 gs x) (eqb g.name x)
     ∙ ap (option_map number) (sym (find_last 0 gs g x))
 
-pub next_first : (hs more : List code.Header) (h : code.Header) (firsts firsts1 : List (ℕ × ℕ)) (n : ℕ) → more ≡ hs ++ h ∷ [] → n ≡ length hs → firsts1 ≡ with_first firsts h.name n → AreFirst hs firsts → AreFirst more firsts1
-next_first hs more h firsts firsts1 n is count with_it first x =
-    let all : map plain_header more ≡ map plain_header hs ++ plain_header h ∷ [] = ap (map plain_header) is ∙ map-append plain_header hs (h ∷ []) in
-    let m : n ≡ length (map plain_header hs) = count ∙ sym (length-map hs plain_header) in
-    ap (lookup (nat_eq x)) (with_it ∙ ap (with_first firsts h.name) m) ∙ one_more (map plain_header hs) (plain_header h) firsts (list_any (λ (x : ℕ × ℕ). nat_eq x.0 h.name) firsts) refl first x ∙ ap (λ gs. first_of gs x) (sym all)
+pub next_first : (hs more : List code.Header) (g : Header) (firsts firsts1 : List (ℕ × ℕ)) → map plain_header more ≡ map plain_header hs ++ g ∷ [] → firsts1 ≡ with_first firsts g.name (length hs) → AreFirst hs firsts → AreFirst more firsts1
+next_first hs more g firsts firsts1 all with_it first x =
+    let m : length hs ≡ length (map plain_header hs) = sym (length-map hs plain_header) in
+    ap (lookup (nat_eq x)) (with_it ∙ ap (with_first firsts g.name) m) ∙ one_more (map plain_header hs) g firsts (list_any (λ (x : ℕ × ℕ). nat_eq x.0 g.name) firsts) refl first x ∙ ap (λ gs. first_of gs x) (sym all)
 
 -- ---- the first function of a name is at its own number
 
@@ -162,13 +161,6 @@ first_within hs firsts x k first e = (first_found hs firsts x k first e).2.withi
 pub first_is : (hs : List code.Header) (firsts : List (ℕ × ℕ)) (x k : ℕ) (h : code.Header) → AreFirst hs firsts → Some k ≡ lookup (nat_eq x) firsts → h ≡ get_or hs k h → find_function 0 (map plain_header hs) x ≡ Some (k, plain_header h)
 first_is hs firsts x k h first e same = let f = first_found hs firsts x k first e in f.1 ∙ ap (λ g. Some (k, g)) (sym (f.2.is h same))
 
-none_first : (o : Found) → None ≡ option_map number o → o ≡ None
-none_first None e = refl
-none_first (Some r) e = absurd cc
-
-pub first_none : (hs : List code.Header) (firsts : List (ℕ × ℕ)) (x : ℕ) → AreFirst hs firsts → None ≡ lookup (nat_eq x) firsts → find_function 0 (map plain_header hs) x ≡ None
-first_none hs firsts x first e = none_first (find_function 0 (map plain_header hs) x) (e ∙ first x)
-
 abbrev noted : List (ℕ × ℕ) → ℕ → ℕ → Bool → List (ℕ × ℕ)
 noted es n v b = cond b es (es ++ (n, v) ∷ [])
 
@@ -178,9 +170,9 @@ noted_new es n v b h z = let k = sym (is_known n es) ∙ sym h ∙ z in insert_n
 pub noted_old : (es : List (ℕ × ℕ)) (n v : ℕ) (b : Bool) → b ≡ is_some (lookup (nat_eq n) es) → b ≡ true → es ≡ with_first es n v
 noted_old es n v b h z = sym (ap (noted es n v) (sym (is_known n es) ∙ sym h ∙ z))
 
-pub next_headers : (fs : List ParsedFunc) (i : ℕ) (f : ParsedFunc) (hs more : List code.Header) (h : code.Header) → i < length fs → f ≡ get_or fs i f → more ≡ hs ++ h ∷ [] → plain_header h ≡ header_of (plain_func f)
+pub next_headers : (fs : List ParsedFunc) (i : ℕ) (f : ParsedFunc) (hs more : List code.Header) → i < length fs → f ≡ get_or fs i f → map plain_header more ≡ map plain_header hs ++ header_of (plain_func f) ∷ []
     → map plain_header hs ≡ map header_of (map plain_func (take i fs)) → map plain_header more ≡ map header_of (map plain_func (take (i + 1) fs))
-next_headers fs i f hs more h lt at is same so_far =
+next_headers fs i f hs more lt at is so_far =
     let t : take (i + 1) fs ≡ take i fs ++ f ∷ [] = rw add-one (take-suc fs i f lt ∙ ap (λ (x : ParsedFunc). take i fs ++ x ∷ []) (sym at)) in
-    ap (map plain_header) is ∙ map-append plain_header hs (h ∷ []) ∙ (λ j. so_far j ++ same j ∷ [])
+    is ∙ (λ j. so_far j ++ header_of (plain_func f) ∷ [])
     ∙ sym (ap (λ (l : List ParsedFunc). map header_of (map plain_func l)) t ∙ ap (map header_of) (map-append plain_func (take i fs) (f ∷ [])) ∙ map-append header_of (map plain_func (take i fs)) (plain_func f ∷ []))

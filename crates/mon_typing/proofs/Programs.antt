@@ -7,11 +7,12 @@ use Rattle.mon_syntax.specs.declared.tree.MonFunc.{MonFunc}
 use Rattle.mon_syntax.specs.Trees as tree
 use Rattle.mon_syntax.specs.Trees.{MonFunction, MonitoredProgram}
 use Rattle.mon_syntax.specs.Grammar.{Vocabulary, word_at}
-use Rattle.mon_syntax.specs.Checking.{Header, Checked, ◌>>=◌, name_fault, is_free, find_function, header_of, checked_function, checked_functions, checked_program}
+use Rattle.mon_syntax.specs.Checking.{Header, Checked, ◌>>=◌, name_fault, is_free, find_function, header_of, checked_function, checked_functions}
 use Rattle.mon_parser.specs.declared.parsed.ParsedFunc.{ParsedFunc}
 use Rattle.mon_parser.specs.ParsedTrees.{plain_func}
 use Rattle.mon_typing.specs.declared.fault.CheckFault.{CheckFault}
 use Rattle.mon_typing.specs.Answers.{Fails}
+use Rattle.mon_typing.specs.Functions as checked
 use Rattle.mon_typing.specs.Headers.{is_at}
 use Rattle.mon_typing.proofs.Parts.{fails_after, fails_along}
 use Rattle.mon_typing.proofs.Registers.{eqb_sym}
@@ -78,7 +79,7 @@ module _ (names : List (List ℕ)) (ws : Vocabulary) (gs : List Header) where
   with_name : Bool → List ℕ → ParsedFunc → Functions → Checked (List MonFunction)
   with_name b before f fs = cond b (Ok tt) (name_fault {A = Unit {0}} f.name.place) >>= λ u. checked_function names ws gs (plain_func f) >>= λ g. from (name_of f ∷ before) fs >>= λ rest. Ok (g ∷ rest)
 
-  abbrev pub IsNew : ℕ → ParsedFunc → Bool
+  abbrev IsNew : ℕ → ParsedFunc → Bool
   IsNew i f = is_free (word_at ws (name_of f)) && is_at i (find_function 0 gs (name_of f))
 
   named_at : (fs : Functions) (i : ℕ) (f : ParsedFunc) (b : Bool) → gs ≡ headers fs → i < length fs → f ≡ get_or fs i f → IsNew i f ≡ b → from (names_before i fs) (drop i fs) ≡ with_name b (names_before i fs) f (drop (i + 1) fs)
@@ -88,14 +89,14 @@ module _ (names : List (List ℕ)) (ws : Vocabulary) (gs : List Header) where
       ap (λ c. is_free (word_at ws (name_of f)) && c) (sym (new_name fs i f lt at) ∙ ap (λ (hs : List Header). is_at i (find_function 0 hs (name_of f))) (sym are)) ∙ new in
       ap (from (names_before i fs)) (rest_is fs i f lt at) ∙ ap (λ c. with_name c (names_before i fs) f (drop (i + 1) fs)) e
 
-  pub next_function : (fs : Functions) (i : ℕ) (f : ParsedFunc) (done more : List MonFunc) (g : MonFunc) (total : Checked (List MonFunction)) → gs ≡ headers fs → i < length fs → f ≡ get_or fs i f → IsNew i f ≡ true
+  next_function : (fs : Functions) (i : ℕ) (f : ParsedFunc) (done more : List MonFunc) (g : MonFunc) (total : Checked (List MonFunction)) → gs ≡ headers fs → i < length fs → f ≡ get_or fs i f → IsNew i f ≡ true
       → checked_function names ws gs (plain_func f) ≡ Ok (tree.plain_func g) → more ≡ done ++ g ∷ [] → behind_functions done (from (names_before i fs) (drop i fs)) ≡ total → behind_functions more (from (names_before (i + 1) fs) (drop (i + 1) fs)) ≡ total
   unfolding with_name
   next_function fs i f done more g total are lt at new checked with_it so_far =
       (λ j. behind_functions (with_it j) (from (before_next fs i f lt at j) (drop (i + 1) fs))) ∙ sym (one_more done g (from (name_of f ∷ names_before i fs) (drop (i + 1) fs)))
       ∙ sym (ap (behind_functions done) (named_at fs i f true are lt at new ∙ ap (λ (c : Checked MonFunction). c >>= λ g. from (name_of f ∷ names_before i fs) (drop (i + 1) fs) >>= λ rest. Ok (g ∷ rest)) checked)) ∙ so_far
 
-  pub function_fails : (fs : Functions) (i : ℕ) (f : ParsedFunc) (done : List MonFunc) (e : CheckFault) (total : Checked (List MonFunction)) → gs ≡ headers fs → i < length fs → f ≡ get_or fs i f → IsNew i f ≡ true
+  function_fails : (fs : Functions) (i : ℕ) (f : ParsedFunc) (done : List MonFunc) (e : CheckFault) (total : Checked (List MonFunction)) → gs ≡ headers fs → i < length fs → f ≡ get_or fs i f → IsNew i f ≡ true
       → Fails e (checked_function names ws gs (plain_func f)) → behind_functions done (from (names_before i fs) (drop i fs)) ≡ total → Fails e total
   unfolding with_name
   function_fails fs i f done e total are lt at new fails so_far =
@@ -103,17 +104,31 @@ module _ (names : List (List ℕ)) (ws : Vocabulary) (gs : List Header) where
       (fails_after e (from (names_before i fs) (drop i fs)) (λ gs. Ok (map tree.plain_func done ++ gs))
       (fails_along e _ _ (named_at fs i f true are lt at new) (fails_after e (checked_function names ws gs (plain_func f)) (λ g. from (name_of f ∷ names_before i fs) (drop (i + 1) fs) >>= λ rest. Ok (g ∷ rest)) fails)))
 
-  pub name_clashes : (fs : Functions) (i : ℕ) (f : ParsedFunc) (done : List MonFunc) (total : Checked (List MonFunction)) → gs ≡ headers fs → i < length fs → f ≡ get_or fs i f → IsNew i f ≡ false
+  name_clashes : (fs : Functions) (i : ℕ) (f : ParsedFunc) (done : List MonFunc) (total : Checked (List MonFunction)) → gs ≡ headers fs → i < length fs → f ≡ get_or fs i f → IsNew i f ≡ false
       → behind_functions done (from (names_before i fs) (drop i fs)) ≡ total → total ≡ name_fault f.name.place
   unfolding with_name
   name_clashes fs i f done total are lt at old so_far = sym so_far ∙ ap (behind_functions done) (named_at fs i f false are lt at old)
 
--- the program of functions
-abbrev pub whole : Checked (List MonFunction) → Checked MonitoredProgram
-whole c = c >>= λ gs. Ok (record { functions = gs })
+  -- ---- the next function, whose name is new or not
 
-pub program_is : (names : List (List ℕ)) (ws : Vocabulary) (gs : List Header) (items fs fs1 : Functions) → fs ≡ items → fs1 ≡ items → gs ≡ headers fs → checked_program names ws (map plain_func items) ≡ whole (checked_functions names ws gs [] (map plain_func fs1))
-program_is names ws gs items fs fs1 p q are = λ i. whole (checked_functions names ws (sym (are ∙ ap headers p) i) [] (map plain_func (sym q i)))
+  abbrev chosen : Bool → ParsedFunc → Checked MonFunction
+  chosen b f = cond b (checked_function names ws gs (plain_func f)) (name_fault f.name.place)
 
-pub program_fails : (e : CheckFault) (c : Checked (List MonFunction)) → Fails e c → Fails e (whole c)
-program_fails e c fails = fails_after e c (λ gs. Ok (record { functions = gs })) fails
+  one_fails_at : (fs : Functions) (i : ℕ) (f : ParsedFunc) (done : List MonFunc) (e : CheckFault) (total : Checked (List MonFunction)) (b : Bool) → gs ≡ headers fs → i < length fs → f ≡ get_or fs i f → IsNew i f ≡ b
+      → Fails e (chosen b f) → behind_functions done (from (names_before i fs) (drop i fs)) ≡ total → Fails e total
+  one_fails_at fs i f done e total true are lt at new k so_far = function_fails fs i f done e total are lt at new k so_far
+  one_fails_at fs i f done e total false are lt at old k so_far =
+      fails_along e _ _ (name_clashes fs i f done total are lt at old so_far) (fails_after e (name_fault {A = MonFunction} f.name.place) (λ g. name_fault {A = List MonFunction} f.name.place) k)
+
+  pub one_fails : (fs : Functions) (i : ℕ) (f : ParsedFunc) (done : List MonFunc) (e : CheckFault) (total : Checked (List MonFunction)) → gs ≡ headers fs → i < length fs → f ≡ get_or fs i f
+      → Fails e (checked.next_function names ws gs i (plain_func f)) → behind_functions done (from (names_before i fs) (drop i fs)) ≡ total → Fails e total
+  one_fails fs i f done e total are lt at k so_far = one_fails_at fs i f done e total (IsNew i f) are lt at refl k so_far
+
+  one_checked_at : (fs : Functions) (i : ℕ) (f : ParsedFunc) (done more : List MonFunc) (g : MonFunc) (total : Checked (List MonFunction)) (b : Bool) → gs ≡ headers fs → i < length fs → f ≡ get_or fs i f → IsNew i f ≡ b
+      → chosen b f ≡ Ok (tree.plain_func g) → more ≡ done ++ g ∷ [] → behind_functions done (from (names_before i fs) (drop i fs)) ≡ total → behind_functions more (from (names_before (i + 1) fs) (drop (i + 1) fs)) ≡ total
+  one_checked_at fs i f done more g total true are lt at new k with_it so_far = next_function fs i f done more g total are lt at new k with_it so_far
+  one_checked_at fs i f done more g total false are lt at old k with_it so_far = absurd cc
+
+  pub one_checked : (fs : Functions) (i : ℕ) (f : ParsedFunc) (done more : List MonFunc) (g : MonFunc) (total : Checked (List MonFunction)) → gs ≡ headers fs → i < length fs → f ≡ get_or fs i f
+      → checked.next_function names ws gs i (plain_func f) ≡ Ok (tree.plain_func g) → more ≡ done ++ g ∷ [] → behind_functions done (from (names_before i fs) (drop i fs)) ≡ total → behind_functions more (from (names_before (i + 1) fs) (drop (i + 1) fs)) ≡ total
+  one_checked fs i f done more g total are lt at k with_it so_far = one_checked_at fs i f done more g total (IsNew i f) are lt at refl k with_it so_far

@@ -1,12 +1,13 @@
 -- The values of a call's arguments, one after another.
-use Rattle.std.proofs.Common.{◌≡◌, ℕ, ◌+◌, ◌<◌, List, [], ◌∷◌, ◌++◌, length, drop, get_or, Ok, Err, refl, sym, ap, ◌∙◌, append_assoc, drop-cons, add-one}
+use Rattle.std.proofs.Common.{◌≡◌, ℕ, ◌+◌, ◌<◌, ◌≤◌, List, [], ◌∷◌, ◌++◌, length, drop, get_or, Ok, Err, refl, sym, ap, ◌∙◌, append_assoc, drop-cons, add-one}
+use Rattle.std.proofs.lemmas.List.{append-nil, drop_all}
 use Rattle.c_syntax.specs.declared.place.Place.{Place}
 use Rattle.mon_syntax.specs.declared.tree.MonType.{MonType}
 use Rattle.mon_syntax.specs.declared.tree.MonType.TheVariants.{I8}
 use Rattle.mon_syntax.specs.Trees.{MonExpression}
 use Rattle.mon_syntax.specs.Valid.{Types}
 use Rattle.mon_syntax.specs.Parsed.{ParsedArgument}
-use Rattle.mon_syntax.specs.Checking.{Scope, Checked, ◌>>=◌, value_of_type, arguments_of}
+use Rattle.mon_syntax.specs.Checking.{Scope, Checked, ◌>>=◌, ◌>>◌, type_fault, value_of_type, others, no_more, arguments_of}
 use Rattle.mon_typing.specs.declared.fault.CheckFault.{CheckFault}
 use Rattle.mon_typing.specs.Answers.{Fails}
 use Rattle.mon_typing.specs.Arguments.{first_of}
@@ -52,3 +53,16 @@ module _ (s : Scope) (at : Place) where
       fails_along f _ _ (sym so_far)
       (fails_after f (arguments_of s at (drop i ts) xs) (λ es. Ok (done ++ es))
       (fails_along f _ _ (ap (λ (l : Types). arguments_of s at l xs) (at_next ts i d lt)) (fails_at s at (value_of_type s (get_or ts i d)) xs (others_behind (drop (i + 1) ts)) f fails)))
+
+  -- ---- no more of them
+
+  none_behind : (done : Values) (c : Checked (Unit {0})) → behind_values done (c >> type_fault at) ≡ (c >> type_fault at)
+  none_behind done (Ok u) = refl
+  none_behind done (Err e) = refl
+
+  ended : (done : Values) (xs : Arguments) → behind_values done (no_more s at xs []) ≡ no_more s at xs done
+  ended done [] = ap Ok (append-nil done)
+  ended done (x ∷ xs) = none_behind done (others s (x ∷ xs))
+
+  pub all_taken : (ts : Types) (i : ℕ) (xs : Arguments) (done : Values) (total : Checked Values) → length ts ≤ i → behind_values done (arguments_of s at (drop i ts) xs) ≡ total → no_more s at xs done ≡ total
+  all_taken ts i xs done total past so_far = sym (ended done xs) ∙ sym (ap (λ (l : Types). behind_values done (arguments_of s at l xs)) (drop_all i ts past)) ∙ so_far

@@ -1,10 +1,12 @@
 -- Arguments of calls, one after another.
-use Rattle.std.specs.Prelude.{ℕ, List, Ok}
+use Rattle.std.specs.Prelude.{ℕ, List, None, Ok}
+use Rattle.c_syntax.specs.declared.annotation.Kind.{Kind}
 use Rattle.c_syntax.specs.declared.place.Place.{Place}
 use Rattle.mon_syntax.specs.declared.tree.MonType.{MonType}
-use Rattle.mon_syntax.specs.Trees.{MonExpression}
+use Rattle.mon_syntax.specs.Trees as tree
+use Rattle.mon_syntax.specs.Trees.{MonExpression, MonStatement}
 use Rattle.mon_syntax.specs.Parsed.{ParsedArgument}
-use Rattle.mon_syntax.specs.Checking.{Scope, Checked, value_of_type, string, no_more, next}
+use Rattle.mon_syntax.specs.Checking.{Scope, Checked, ◌>>=◌, value_of_type, small_number, string, kind_named, no_more, next, arguments_of}
 
 -- the first argument, and the others
 abbrev pub first_of : {A : Type 0} → Scope → Place → (ParsedArgument → Checked A) → List ParsedArgument → Checked (A × List ParsedArgument)
@@ -17,3 +19,19 @@ only_value s at t xs = next s at (value_of_type s t) xs (λ e more. no_more s at
 -- a string, and no others
 abbrev pub only_string : Scope → Place → List ParsedArgument → Checked (List ℕ)
 only_string s at xs = next s at (string s) xs (λ w more. no_more s at more w.0)
+
+-- the kind of an annotation, and no others
+abbrev pub only_kind : Scope → Place → List ParsedArgument → Checked Kind
+only_kind s at xs = next s at (kind_named s) xs (λ k more. no_more s at more k)
+
+-- an assert's kind, behind its other arguments
+abbrev pub assert_kind : Scope → Place → MonExpression → MonExpression → ℕ → ℕ → List ParsedArgument → Checked MonStatement
+assert_kind s at d v n line xs = next s at (kind_named s) xs (λ k more. no_more s at more (tree.Assert d v n line k))
+
+-- its number, its line and its kind
+abbrev pub assert_numbers : Scope → Place → MonExpression → MonExpression → List ParsedArgument → Checked MonStatement
+assert_numbers s at d v xs = next s at (small_number s) xs (λ n more. next s at (small_number s) more (λ line rest. assert_kind s at d v n line rest))
+
+-- a call of the function of this number, which takes arguments of these types
+abbrev pub call_of_number : Scope → Place → ℕ → List MonType → List ParsedArgument → Checked MonStatement
+call_of_number s at n ts xs = arguments_of s at ts xs >>= λ es. Ok (tree.Call None n es)

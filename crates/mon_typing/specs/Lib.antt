@@ -2,6 +2,8 @@ pub mod Answers
 pub mod Headers
 pub mod Scopes
 pub mod Operators
+pub mod Statements
+pub mod Functions
 pub mod Arguments
 pub mod Within
 pub mod Laws

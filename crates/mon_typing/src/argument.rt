@@ -7,7 +7,7 @@ ghost use Rattle.mon_syntax.specs.Parsed.{ParsedArgument};
 ghost use Rattle.mon_syntax.specs.Checking.{value_of_type, small_number, string, kind_words, kind_of, kind_named, others, wrong_number, no_more, arguments_of};
 ghost use Rattle.mon_parser.specs.ParsedTrees as read;
 ghost use Rattle.mon_typing.specs.Answers.{Fails, Gives};
-ghost use Rattle.mon_typing.specs.Arguments.{first_of, only_value, only_string};
+ghost use Rattle.mon_typing.specs.Arguments.{first_of, only_kind, only_value, only_string};
 ghost use Rattle.mon_typing.specs.Scopes.{plain_scope};
 
 use crate::expression::{checked_expression, of_type, place_of};
@@ -188,7 +188,7 @@ pub fn next_number<'a>(
 }
 
 /// The first argument, the kind of an annotation, and the others.
-pub fn next_kind<'a>(
+fn next_kind<'a>(
     alloc: Global,
     scope: &Scope,
     place: Place,
@@ -200,6 +200,20 @@ pub fn next_kind<'a>(
         [] => Err(CheckFault::BadType(place)),
         [first, more @ ..] => Ok((kind_named(alloc, scope, first)?, more)),
     }
+}
+
+/// One argument, the kind of an annotation, and no others.
+pub fn only_kind(
+    alloc: Global,
+    scope: &Scope,
+    place: Place,
+    arguments: &[ParsedArg],
+) -> Result<Kind, CheckFault>
+    ensures { Gives (λ k. k) result (only_kind (plain_scope scope.now) place (map read.plain_arg arguments.now)) }
+{
+    let (kind, more) = next_kind(alloc, scope, place, arguments)?;
+    no_more(alloc, scope, place, more)?;
+    Ok(kind)
 }
 
 /// One argument, a value of the type, and no others.
@@ -236,6 +250,21 @@ pub fn only_string<'a>(
     }
 }
 
+/// The values, behind which there are no more arguments.
+#[tactic(auto, using(crate::proofs::Parts::more_fails, crate::proofs::Parts::none_more))]
+fn all_values(
+    alloc: Global,
+    scope: &Scope,
+    place: Place,
+    values: Vec<MonExpr>,
+    arguments: &[ParsedArg],
+) -> Result<Vec<MonExpr>, CheckFault>
+    ensures { Gives (λ v. map plain_expr v.items) result (no_more (plain_scope scope.now) place (map read.plain_arg arguments.now) (map plain_expr values.items)) }
+{
+    no_more(alloc, scope, place, arguments)?;
+    Ok(values)
+}
+
 /// Values of these types, and no other arguments.
 pub fn values_of(
     alloc: Global,
@@ -253,6 +282,5 @@ pub fn values_of(
         values.push(value)?;
         rest = more;
     }
-    no_more(alloc, scope, place, rest)?;
-    Ok(values)
+    all_values(alloc, scope, place, values, rest)
 }

@@ -1,23 +1,65 @@
 //! Calls: of the runtime, and of the functions of the program.
 
-ghost use Rattle.std.specs.Prelude.{◌≡◌, map};
-ghost use Rattle.mon_syntax.specs.Trees.{plain_stmt};
+ghost use Rattle.std.specs.Prelude.{◌≡◌, map, None};
+ghost use Rattle.mon_syntax.specs.Trees as tree;
+ghost use Rattle.mon_syntax.specs.Trees.{plain_expr, plain_stmt};
+ghost use Rattle.mon_syntax.specs.declared.tree.MonType.TheVariants.{I32, I64, U64};
 ghost use Rattle.mon_syntax.specs.Valid.{memory_parameters};
-ghost use Rattle.mon_syntax.specs.Checking.{assert_call, memory_call, runtime_call, named_call, call_of_word, checked_call};
+ghost use Rattle.mon_syntax.specs.Checking.{no_more, string, next, one_value, assert_call, memory_call, runtime_call, named_call, call_of_word, checked_call};
 ghost use Rattle.mon_parser.specs.ParsedTrees as read;
 ghost use Rattle.mon_typing.specs.Answers.{Gives};
+ghost use Rattle.mon_typing.specs.Arguments.{assert_kind, assert_numbers, call_of_number};
 ghost use Rattle.mon_typing.specs.Scopes.{plain_scope};
 
 use crate::argument::{
-    next_kind, next_number, next_value, no_more, only_string, only_value, values_of, wrong_number,
+    next_number, next_value, no_more, only_kind, only_string, only_value, values_of, wrong_number,
 };
 use crate::fault::CheckFault;
 use crate::scope::{Scope, function_called, is_main};
 use c_syntax::{Name, Place};
 use mon_parser::parsed::{NameUse, ParsedArg, ParsedCall};
 use mon_parser::word_at;
-use mon_syntax::{MemoryCall, MonStmt, MonType, Runtime, Word};
+use mon_syntax::{MemoryCall, MonExpr, MonStmt, MonStmtKind, MonType, Runtime, Word};
 use std::alloc::Global;
+
+/// Whether an annotation is defined, and whether it is true.
+#[derive(Drop)]
+struct Truth {
+    defined: MonExpr,
+    holds: MonExpr,
+}
+
+/// The kind of an assert, behind its other arguments.
+fn assert_kind(
+    alloc: Global,
+    scope: &Scope,
+    place: Place,
+    truth: Truth,
+    number: u32,
+    line: u32,
+    arguments: &[ParsedArg],
+) -> Result<MonStmt, CheckFault>
+    ensures { Gives plain_stmt result (assert_kind (plain_scope scope.now) place (plain_expr truth.defined) (plain_expr truth.holds) number line (map read.plain_arg arguments.now)) }
+{
+    let kind = only_kind(alloc, scope, place, arguments)?;
+    let assert = MonStmtKind::Assert(truth.defined, truth.holds, number, line, kind);
+    Ok(MonStmt::new(alloc, assert)?)
+}
+
+/// The number, the line and the kind of an assert.
+fn assert_numbers(
+    alloc: Global,
+    scope: &Scope,
+    place: Place,
+    truth: Truth,
+    arguments: &[ParsedArg],
+) -> Result<MonStmt, CheckFault>
+    ensures { Gives plain_stmt result (assert_numbers (plain_scope scope.now) place (plain_expr truth.defined) (plain_expr truth.holds) (map read.plain_arg arguments.now)) }
+{
+    let (number, more) = next_number(alloc, scope, place, arguments)?;
+    let (line, more) = next_number(alloc, scope, place, more)?;
+    assert_kind(alloc, scope, place, truth, number, line, more)
+}
 
 fn assert_call(
     alloc: Global,
@@ -29,11 +71,7 @@ fn assert_call(
 {
     let (defined, more) = next_value(alloc, scope, place, MonType::I32, arguments)?;
     let (holds, more) = next_value(alloc, scope, place, MonType::I32, more)?;
-    let (number, more) = next_number(alloc, scope, place, more)?;
-    let (line, more) = next_number(alloc, scope, place, more)?;
-    let (kind, more) = next_kind(alloc, scope, place, more)?;
-    no_more(alloc, scope, place, more)?;
-    Ok(MonStmt::Assert(defined, holds, number, line, kind))
+    assert_numbers(alloc, scope, place, Truth { defined, holds }, more)
 }
 
 /// The types of the arguments of a call on the memory.
@@ -56,7 +94,99 @@ fn memory_call(
     ensures { Gives plain_stmt result (memory_call (plain_scope scope.now) place (map read.plain_arg arguments.now) f) }
 {
     let values = values_of(alloc, scope, place, memory_parameters(f), arguments)?;
-    Ok(MonStmt::Act(None, f, values))
+    Ok(MonStmt::new(alloc, MonStmtKind::Act(None, f, values))?)
+}
+
+/// `__e_acsl_step();`
+fn step(
+    alloc: Global,
+    scope: &Scope,
+    place: Place,
+    arguments: &[ParsedArg],
+) -> Result<MonStmt, CheckFault>
+    ensures { Gives plain_stmt result (no_more (plain_scope scope.now) place (map read.plain_arg arguments.now) tree.Step) }
+{
+    no_more(alloc, scope, place, arguments)?;
+    Ok(MonStmt::new(alloc, MonStmtKind::Step)?)
+}
+
+/// `getchar();`
+fn get_char(
+    alloc: Global,
+    scope: &Scope,
+    place: Place,
+    arguments: &[ParsedArg],
+) -> Result<MonStmt, CheckFault>
+    ensures { Gives plain_stmt result (no_more (plain_scope scope.now) place (map read.plain_arg arguments.now) (tree.GetChar None)) }
+{
+    no_more(alloc, scope, place, arguments)?;
+    Ok(MonStmt::new(alloc, MonStmtKind::GetChar(None))?)
+}
+
+/// `putchar(e);`
+fn put_char(
+    alloc: Global,
+    scope: &Scope,
+    place: Place,
+    arguments: &[ParsedArg],
+) -> Result<MonStmt, CheckFault>
+    ensures { Gives plain_stmt result (one_value (plain_scope scope.now) place I32 (map read.plain_arg arguments.now) (tree.PutChar None)) }
+{
+    let byte = only_value(alloc, scope, place, MonType::I32, arguments)?;
+    Ok(MonStmt::new(alloc, MonStmtKind::PutChar(None, byte))?)
+}
+
+/// `exit(e);`
+fn exit(
+    alloc: Global,
+    scope: &Scope,
+    place: Place,
+    arguments: &[ParsedArg],
+) -> Result<MonStmt, CheckFault>
+    ensures { Gives plain_stmt result (one_value (plain_scope scope.now) place I32 (map read.plain_arg arguments.now) tree.Exit) }
+{
+    let status = only_value(alloc, scope, place, MonType::I32, arguments)?;
+    Ok(MonStmt::new(alloc, MonStmtKind::Exit(status))?)
+}
+
+/// `__e_acsl_print_i64(e);`
+fn print_signed(
+    alloc: Global,
+    scope: &Scope,
+    place: Place,
+    arguments: &[ParsedArg],
+) -> Result<MonStmt, CheckFault>
+    ensures { Gives plain_stmt result (one_value (plain_scope scope.now) place I64 (map read.plain_arg arguments.now) tree.PrintSigned) }
+{
+    let value = only_value(alloc, scope, place, MonType::I64, arguments)?;
+    Ok(MonStmt::new(alloc, MonStmtKind::PrintSigned(value))?)
+}
+
+/// `__e_acsl_print_u64(e);`
+fn print_unsigned(
+    alloc: Global,
+    scope: &Scope,
+    place: Place,
+    arguments: &[ParsedArg],
+) -> Result<MonStmt, CheckFault>
+    ensures { Gives plain_stmt result (one_value (plain_scope scope.now) place U64 (map read.plain_arg arguments.now) tree.PrintUnsigned) }
+{
+    let value = only_value(alloc, scope, place, MonType::U64, arguments)?;
+    Ok(MonStmt::new(alloc, MonStmtKind::PrintUnsigned(value))?)
+}
+
+/// `__e_acsl_print_text("..");`
+fn print_text(
+    alloc: Global,
+    scope: &Scope,
+    place: Place,
+    arguments: &[ParsedArg],
+) -> Result<MonStmt, CheckFault>
+    ensures { Gives plain_stmt result (next (plain_scope scope.now) place (string (plain_scope scope.now)) (map read.plain_arg arguments.now) (λ w more. no_more (plain_scope scope.now) place more (tree.PrintText w.0))) }
+{
+    let text = only_string(alloc, scope, place, arguments)?;
+    let text = Name::new(Vec::from_slice(alloc, text.bytes())?);
+    Ok(MonStmt::new(alloc, MonStmtKind::PrintText(text))?)
 }
 
 /// A call of the runtime, whose value isn't taken.
@@ -71,36 +201,14 @@ fn runtime_call(
     ensures { Gives plain_stmt result (runtime_call (plain_scope scope.now) (read.plain_name callee) place (map read.plain_arg arguments.now) runtime) }
 {
     match runtime {
-        Runtime::Step => {
-            no_more(alloc, scope, place, arguments)?;
-            Ok(MonStmt::Step)
-        }
+        Runtime::Step => step(alloc, scope, place, arguments),
         Runtime::Assert => assert_call(alloc, scope, place, arguments),
-        Runtime::PutChar => {
-            let byte = only_value(alloc, scope, place, MonType::I32, arguments)?;
-            Ok(MonStmt::PutChar(None, byte))
-        }
-        Runtime::GetChar => {
-            no_more(alloc, scope, place, arguments)?;
-            Ok(MonStmt::GetChar(None))
-        }
-        Runtime::Exit => {
-            let status = only_value(alloc, scope, place, MonType::I32, arguments)?;
-            Ok(MonStmt::Exit(status))
-        }
-        Runtime::PrintText => {
-            let text = only_string(alloc, scope, place, arguments)?;
-            let text = Name::new(Vec::from_slice(alloc, text.bytes())?);
-            Ok(MonStmt::PrintText(text))
-        }
-        Runtime::PrintSigned => {
-            let value = only_value(alloc, scope, place, MonType::I64, arguments)?;
-            Ok(MonStmt::PrintSigned(value))
-        }
-        Runtime::PrintUnsigned => {
-            let value = only_value(alloc, scope, place, MonType::U64, arguments)?;
-            Ok(MonStmt::PrintUnsigned(value))
-        }
+        Runtime::PutChar => put_char(alloc, scope, place, arguments),
+        Runtime::GetChar => get_char(alloc, scope, place, arguments),
+        Runtime::Exit => exit(alloc, scope, place, arguments),
+        Runtime::PrintText => print_text(alloc, scope, place, arguments),
+        Runtime::PrintSigned => print_signed(alloc, scope, place, arguments),
+        Runtime::PrintUnsigned => print_unsigned(alloc, scope, place, arguments),
         Runtime::StoreBlock => {
             memory_call(alloc, scope, place, arguments, MemoryCall::StoreBlock)
         }
@@ -109,6 +217,22 @@ fn runtime_call(
         }
         Runtime::Kept => Err(CheckFault::BadName(callee.place)),
     }
+}
+
+/// A call of the function with this number, by the arguments that it takes.
+fn call_of_number(
+    alloc: Global,
+    scope: &Scope,
+    place: Place,
+    number: u32,
+    kinds: &[MonType],
+    arguments: &[ParsedArg],
+) -> Result<MonStmt, CheckFault>
+    ensures { Gives plain_stmt result (call_of_number (plain_scope scope.now) place number kinds.now (map read.plain_arg arguments.now)) }
+{
+    let values = values_of(alloc, scope, place, kinds, arguments)?;
+    let call = MonStmtKind::Call(None, number, values);
+    Ok(MonStmt::new(alloc, call)?)
 }
 
 /// A call of a function of the program, whose value isn't taken. `main` isn't called.
@@ -125,8 +249,7 @@ fn named_call(
     if is_main(scope.names, callee.number) {
         return Err(wrong_number(alloc, scope, place, arguments));
     }
-    let values = values_of(alloc, scope, place, &header.parameters, arguments)?;
-    Ok(MonStmt::Call(None, number, values))
+    call_of_number(alloc, scope, place, number, &header.parameters, arguments)
 }
 
 /// A call whose value isn't taken.

@@ -3,6 +3,7 @@
 ghost use Rattle.std.specs.Prelude.{◌≡◌};
 ghost use Rattle.mon_syntax.specs.Trees.{plain_expr};
 ghost use Rattle.mon_syntax.specs.Checking.{place_of, checked_expression, of_type, condition};
+ghost use Rattle.mon_syntax.specs.Parsed as parsed;
 ghost use Rattle.mon_parser.specs.ParsedTrees as read;
 ghost use Rattle.mon_typing.specs.Answers.{Gives, plain_typed};
 ghost use Rattle.mon_typing.specs.Operators.{constant, binary, minus, flip, cast};
@@ -12,8 +13,8 @@ use crate::fault::CheckFault;
 use crate::scope::{Scope, register_of};
 use crate::types::{has_constant, is_arithmetic, is_whole, result_type, same_type};
 use c_syntax::Place;
-use mon_parser::parsed::{Literal, ParsedExpr};
-use mon_syntax::{MonExpr, MonOp, MonType};
+use mon_parser::parsed::{Literal, NameUse, ParsedExpr, ParsedExprKind};
+use mon_syntax::{MonExpr, MonExprKind, MonOp, MonType};
 use std::alloc::Global;
 
 /// An expression with its type.
@@ -22,23 +23,29 @@ pub type Typed = (MonExpr, MonType);
 pub fn place_of(e: &ParsedExpr) -> Place
     ensures { result ≡ place_of (read.plain_expr e.now) }
 {
-    match e {
-        ParsedExpr::Name(name) => name.place,
-        ParsedExpr::Constant(place, _, _) => *place,
-        ParsedExpr::Binary(place, _, _, _) => *place,
-        ParsedExpr::Minus(place, _) => *place,
-        ParsedExpr::Flip(place, _) => *place,
-        ParsedExpr::Cast(place, _, _) => *place,
+    match &*e.kind {
+        ParsedExprKind::Name(name) => name.place,
+        ParsedExprKind::Constant(place, _, _) => *place,
+        ParsedExprKind::Binary(place, _, _, _) => *place,
+        ParsedExprKind::Minus(place, _) => *place,
+        ParsedExprKind::Flip(place, _) => *place,
+        ParsedExprKind::Cast(place, _, _) => *place,
     }
 }
 
-fn constant(place: Place, kind: MonType, literal: Literal) -> Result<Typed, CheckFault>
+fn constant(
+    alloc: Global,
+    place: Place,
+    kind: MonType,
+    literal: Literal,
+) -> Result<Typed, CheckFault>
     ensures { Gives plain_typed result (constant place kind (read.plain_literal literal)) }
 {
     match literal.value() {
         Some(value) => {
             if has_constant(kind, value) {
-                Ok((MonExpr::Constant(kind, value), kind))
+                let constant = MonExpr::new(alloc, MonExprKind::Constant(kind, value))?;
+                Ok((constant, kind))
             } else {
                 Err(CheckFault::BadType(place))
             }
@@ -61,9 +68,8 @@ fn binary(
     if !same_type(kind, other) || !is_arithmetic(kind) {
         return Err(CheckFault::BadType(place));
     }
-    let a = Box::new(alloc, a)?;
-    let b = Box::new(alloc, b)?;
-    Ok((MonExpr::Binary(op, kind, a, b), result_type(op, kind)))
+    let value = MonExpr::new(alloc, MonExprKind::Binary(op, kind, a, b))?;
+    Ok((value, result_type(op, kind)))
 }
 
 fn minus(alloc: Global, place: Place, operand: Typed) -> Result<Typed, CheckFault>
@@ -73,7 +79,7 @@ fn minus(alloc: Global, place: Place, operand: Typed) -> Result<Typed, CheckFaul
     if !is_arithmetic(kind) {
         return Err(CheckFault::BadType(place));
     }
-    Ok((MonExpr::Minus(kind, Box::new(alloc, a)?), kind))
+    Ok((MonExpr::new(alloc, MonExprKind::Minus(kind, a))?, kind))
 }
 
 fn flip(alloc: Global, place: Place, operand: Typed) -> Result<Typed, CheckFault>
@@ -83,7 +89,7 @@ fn flip(alloc: Global, place: Place, operand: Typed) -> Result<Typed, CheckFault
     if !is_arithmetic(kind) {
         return Err(CheckFault::BadType(place));
     }
-    Ok((MonExpr::Flip(kind, Box::new(alloc, a)?), kind))
+    Ok((MonExpr::new(alloc, MonExprKind::Flip(kind, a))?, kind))
 }
 
 fn cast(alloc: Global, place: Place, kind: MonType, operand: Typed) -> Result<Typed, CheckFault>
@@ -93,7 +99,66 @@ fn cast(alloc: Global, place: Place, kind: MonType, operand: Typed) -> Result<Ty
     if !is_whole(from) || !is_whole(kind) {
         return Err(CheckFault::BadType(place));
     }
-    Ok((MonExpr::Cast(kind, Box::new(alloc, a)?), kind))
+    Ok((MonExpr::new(alloc, MonExprKind::Cast(kind, a))?, kind))
+}
+
+/// A register with its type.
+fn register(alloc: Global, scope: &Scope, name: NameUse) -> Result<Typed, CheckFault>
+    ensures { Gives plain_typed result (checked_expression (plain_scope scope.now) (parsed.Name (read.plain_name name))) }
+{
+    let (number, kind) = register_of(scope, name)?;
+    let register = MonExpr::new(alloc, MonExprKind::Register(number))?;
+    Ok((register, kind))
+}
+
+/// `(-e)`
+#[cycle(expression)]
+fn negated(alloc: Global, scope: &Scope, place: Place, a: &ParsedExpr) -> Result<Typed, CheckFault>
+    ensures { Gives plain_typed result (checked_expression (plain_scope scope.now) (parsed.Minus place (read.plain_expr a.now))) }
+{
+    let operand = checked_expression(alloc, scope, a)?;
+    minus(alloc, place, operand)
+}
+
+/// `(~e)`
+#[cycle(expression)]
+fn flipped(alloc: Global, scope: &Scope, place: Place, a: &ParsedExpr) -> Result<Typed, CheckFault>
+    ensures { Gives plain_typed result (checked_expression (plain_scope scope.now) (parsed.Flip place (read.plain_expr a.now))) }
+{
+    let operand = checked_expression(alloc, scope, a)?;
+    flip(alloc, place, operand)
+}
+
+/// `((t)e)`
+#[cycle(expression)]
+fn converted(
+    alloc: Global,
+    scope: &Scope,
+    place: Place,
+    kind: MonType,
+    a: &ParsedExpr,
+) -> Result<Typed, CheckFault>
+    ensures { Gives plain_typed result (checked_expression (plain_scope scope.now) (parsed.Cast place kind (read.plain_expr a.now))) }
+{
+    let operand = checked_expression(alloc, scope, a)?;
+    cast(alloc, place, kind, operand)
+}
+
+/// An operator on two operands.
+#[cycle(expression)]
+fn operation(
+    alloc: Global,
+    scope: &Scope,
+    place: Place,
+    op: MonOp,
+    a: &ParsedExpr,
+    b: &ParsedExpr,
+) -> Result<Typed, CheckFault>
+    ensures { Gives plain_typed result (checked_expression (plain_scope scope.now) (parsed.Binary place op (read.plain_expr a.now) (read.plain_expr b.now))) }
+{
+    let left = checked_expression(alloc, scope, a)?;
+    let right = checked_expression(alloc, scope, b)?;
+    binary(alloc, place, op, left, right)
 }
 
 /// The expression that is spelled, with its type.
@@ -101,29 +166,13 @@ fn cast(alloc: Global, place: Place, kind: MonType, operand: Typed) -> Result<Ty
 pub fn checked_expression(alloc: Global, scope: &Scope, e: &ParsedExpr) -> Result<Typed, CheckFault>
     ensures { Gives plain_typed result (checked_expression (plain_scope scope.now) (read.plain_expr e.now)) }
 {
-    match e {
-        ParsedExpr::Name(name) => {
-            let (number, kind) = register_of(scope, *name)?;
-            Ok((MonExpr::Register(number), kind))
-        }
-        ParsedExpr::Constant(place, kind, literal) => constant(*place, *kind, *literal),
-        ParsedExpr::Binary(place, op, a, b) => {
-            let left = checked_expression(alloc, scope, a)?;
-            let right = checked_expression(alloc, scope, b)?;
-            binary(alloc, *place, *op, left, right)
-        }
-        ParsedExpr::Minus(place, a) => {
-            let operand = checked_expression(alloc, scope, a)?;
-            minus(alloc, *place, operand)
-        }
-        ParsedExpr::Flip(place, a) => {
-            let operand = checked_expression(alloc, scope, a)?;
-            flip(alloc, *place, operand)
-        }
-        ParsedExpr::Cast(place, kind, a) => {
-            let operand = checked_expression(alloc, scope, a)?;
-            cast(alloc, *place, *kind, operand)
-        }
+    match &*e.kind {
+        ParsedExprKind::Name(name) => register(alloc, scope, *name),
+        ParsedExprKind::Constant(place, kind, literal) => constant(alloc, *place, *kind, *literal),
+        ParsedExprKind::Binary(place, op, a, b) => operation(alloc, scope, *place, *op, a, b),
+        ParsedExprKind::Minus(place, a) => negated(alloc, scope, *place, a),
+        ParsedExprKind::Flip(place, a) => flipped(alloc, scope, *place, a),
+        ParsedExprKind::Cast(place, kind, a) => converted(alloc, scope, *place, *kind, a),
     }
 }
 

@@ -1,12 +1,13 @@
 //! Functions and texts.
 
-ghost use Rattle.std.specs.Prelude.{◌≡◌, ◌&&◌, map, IfOk};
-ghost use Rattle.mon_syntax.specs.Trees.{plain_register, plain_func, plain_program};
-ghost use Rattle.mon_syntax.specs.Checking.{is_free, find_function, checked_registers, named_register, checked_function, checked_program};
+ghost use Rattle.std.specs.Prelude.{◌≡◌, ◌&&◌, [], map, IfOk};
+ghost use Rattle.mon_syntax.specs.Trees.{plain_stmts, plain_register, plain_func, plain_program};
+ghost use Rattle.mon_syntax.specs.Checking.{is_free, find_function, header_of, scope_of, checked_registers, named_register, checked_statements, checked_function, checked_functions, checked_program};
 ghost use Rattle.mon_syntax.specs.Grammar.{word_at};
 ghost use Rattle.mon_parser.specs.ParsedTrees as read;
 ghost use Rattle.mon_typing.specs.Answers.{Gives};
 ghost use Rattle.mon_typing.specs.Headers.{plain_header, is_at};
+ghost use Rattle.mon_typing.specs.Functions.{registers_behind, body_of, named_function, next_function};
 ghost use Rattle.mon_typing.specs.Scopes.{numbered, is_new};
 
 use crate::fault::CheckFault;
@@ -17,7 +18,7 @@ use c_syntax::Name;
 use indexmap::IndexMap;
 use mon_parser::parsed::{ParsedFunc, ParsedProgram, ParsedRegister};
 use mon_parser::word_at;
-use mon_syntax::{MonFunc, MonProgram, MonType, Register, Word};
+use mon_syntax::{MonFunc, MonProgram, MonStmt, MonType, Register, Word};
 use std::alloc::{AllocError, Global};
 
 /// Whether a register may be called so behind those that are known.
@@ -30,20 +31,31 @@ fn is_new(words: &[Word], known: &IndexMap<u32, MonType>, number: u32) -> bool
 /// The registers behind those that are known, by their names' numbers. Each has a free name of its own.
 fn checked_registers(
     words: &[Word],
-    known: IndexMap<u32, MonType>,
+    known: &mut IndexMap<u32, MonType>,
     registers: &[ParsedRegister],
-) -> Result<IndexMap<u32, MonType>, CheckFault>
-    ensures { Gives (λ known. known.entries) result (checked_registers words.now known.entries (map read.plain_register registers.now)) }
+) -> Result<(), CheckFault>
+    ensures { Gives (λ u. known.new.entries) result (checked_registers words.now known.old.entries (map read.plain_register registers.now)) }
 {
-    let mut known = known;
     'each: for register in registers {
         let name = register.name;
-        if !is_new(words, &known, name.number) {
+        if !is_new(words, known, name.number) {
             return Err(CheckFault::BadName(name.place));
         }
         known.insert(name.number, register.kind)?;
     }
-    Ok(known)
+    Ok(())
+}
+
+/// All registers of a function behind those that are known, the parameters first.
+fn registers_of(
+    words: &[Word],
+    known: &mut IndexMap<u32, MonType>,
+    f: &ParsedFunc,
+) -> Result<(), CheckFault>
+    ensures { Gives (λ u. known.new.entries) result (registers_behind words.now known.old.entries (read.plain_func f.now)) }
+{
+    checked_registers(words, known, &f.parameters)?;
+    checked_registers(words, known, &f.registers)
 }
 
 fn named_register(
@@ -74,7 +86,67 @@ fn named_registers(
     Ok(all)
 }
 
-/// A function among others. Its parameters may be used in its body like registers.
+/// The statements of a function with these registers, among others.
+fn statements_with(
+    alloc: Global,
+    names: &[Name],
+    words: &[Word],
+    functions: &Functions,
+    registers: &IndexMap<u32, MonType>,
+    f: &ParsedFunc,
+) -> Result<Vec<MonStmt>, CheckFault>
+    ensures { Gives (λ v. plain_stmts v.items) result (checked_statements (scope_of names.now words.now (map plain_header functions.now.headers.items) registers.now.entries) f.now.result [] (read.plain_stmts f.now.body.items)) }
+{
+    let scope = Scope {
+        names,
+        words,
+        functions,
+        registers,
+    };
+    let mut labels = Labels {
+        around: Vec::new(alloc),
+        closed: Vec::new(alloc),
+    };
+    checked_statements(alloc, &scope, f.result, &mut labels, &f.body)
+}
+
+/// The statements of a function among others. Its parameters may be used like registers.
+fn body_of(
+    alloc: Global,
+    names: &[Name],
+    words: &[Word],
+    functions: &Functions,
+    f: &ParsedFunc,
+) -> Result<Vec<MonStmt>, CheckFault>
+    ensures { Gives (λ v. plain_stmts v.items) result (body_of names.now words.now (map plain_header functions.now.headers.items) (read.plain_func f.now)) }
+{
+    let mut registers = IndexMap::new(alloc);
+    registers_of(words, &mut registers, f)?;
+    statements_with(alloc, names, words, functions, &registers, f)
+}
+
+/// A function with this body, and its names.
+fn named_function(
+    alloc: Global,
+    names: &[Name],
+    f: &ParsedFunc,
+    body: Vec<MonStmt>,
+) -> Result<MonFunc, AllocError>
+    ensures { IfOk result (λ g. plain_func g ≡ named_function names.now (read.plain_func f.now) (plain_stmts body.items)) }
+{
+    let name = name_at(alloc, names, f.name.number)?;
+    let parameters = named_registers(alloc, names, &f.parameters)?;
+    let registers = named_registers(alloc, names, &f.registers)?;
+    Ok(MonFunc {
+        result: f.result,
+        name,
+        parameters,
+        registers,
+        body,
+    })
+}
+
+/// A function among others.
 fn checked_function(
     alloc: Global,
     names: &[Name],
@@ -84,26 +156,8 @@ fn checked_function(
 ) -> Result<MonFunc, CheckFault>
     ensures { Gives plain_func result (checked_function names.now words.now (map plain_header functions.now.headers.items) (read.plain_func f.now)) }
 {
-    let known = checked_registers(words, IndexMap::new(alloc), &f.parameters)?;
-    let known = checked_registers(words, known, &f.registers)?;
-    let scope = Scope {
-        names,
-        words,
-        functions,
-        registers: &known,
-    };
-    let mut labels = Labels {
-        around: Vec::new(alloc),
-        closed: Vec::new(alloc),
-    };
-    let body = checked_statements(alloc, &scope, f.result, &mut labels, &f.body)?;
-    Ok(MonFunc {
-        result: f.result,
-        name: name_at(alloc, names, f.name.number)?,
-        parameters: named_registers(alloc, names, &f.parameters)?,
-        registers: named_registers(alloc, names, &f.registers)?,
-        body,
-    })
+    let body = body_of(alloc, names, words, functions, f)?;
+    Ok(named_function(alloc, names, f, body)?)
 }
 
 /// Whether the function with this number has a free name, and is the first of its name.
@@ -116,6 +170,42 @@ fn is_new_function(words: &[Word], functions: &Functions, name: u32, index: usiz
     }
 }
 
+/// The function with this number, whose name is new.
+fn next_function(
+    alloc: Global,
+    names: &[Name],
+    words: &[Word],
+    functions: &Functions,
+    index: usize,
+    f: &ParsedFunc,
+) -> Result<MonFunc, CheckFault>
+    ensures { Gives plain_func result (next_function names.now words.now (map plain_header functions.now.headers.items) index (read.plain_func f.now)) }
+{
+    if is_new_function(words, functions, f.name.number, index) {
+        checked_function(alloc, names, words, functions, f)
+    } else {
+        Err(CheckFault::BadName(f.name.place))
+    }
+}
+
+/// The functions of a text, by what they are to their callers.
+fn checked_functions(
+    alloc: Global,
+    names: &[Name],
+    words: &[Word],
+    functions: &Functions,
+    list: &[ParsedFunc],
+) -> Result<Vec<MonFunc>, CheckFault>
+    requires { map plain_header functions.now.headers.items ≡ map header_of (map read.plain_func list.now) }
+    ensures { Gives (λ v. map plain_func v.items) result (checked_functions names.now words.now (map plain_header functions.now.headers.items) [] (map read.plain_func list.now)) }
+{
+    let mut all = Vec::new(alloc);
+    'each: for (index, f) in list.iter().enumerate() {
+        all.push(next_function(alloc, names, words, functions, index, f)?)?;
+    }
+    Ok(all)
+}
+
 /// The program that a tree spells, by the text's names and what each of them is, or its first fault.
 pub fn checked_program(
     alloc: Global,
@@ -125,13 +215,9 @@ pub fn checked_program(
 ) -> Result<MonProgram, CheckFault>
     ensures { Gives plain_program result (checked_program names.now words.now (read.plain_program program.now)) }
 {
-    let all = Functions::new(alloc, &program.functions)?;
-    let mut functions = Vec::new(alloc);
-    'each: for (index, f) in program.functions.iter().enumerate() {
-        if !is_new_function(words, &all, f.name.number, index) {
-            return Err(CheckFault::BadName(f.name.place));
-        }
-        functions.push(checked_function(alloc, names, words, &all, f)?)?;
+    let headers = Functions::new(alloc, &program.functions)?;
+    match checked_functions(alloc, names, words, &headers, &program.functions) {
+        Ok(functions) => Ok(MonProgram { functions }),
+        Err(fault) => Err(fault),
     }
-    Ok(MonProgram { functions })
 }

@@ -1,6 +1,6 @@
 //! What functions are to their callers.
 
-ghost use Rattle.std.specs.Prelude.{◌≡◌, map, option_map, IfOk, OnOk};
+ghost use Rattle.std.specs.Prelude.{◌≡◌, ◌++◌, [], ◌∷◌, length, map, option_map, IfOk, OnOk};
 ghost use Rattle.mon_syntax.specs.Checking.{kinds_of, header_of, find_function};
 ghost use Rattle.mon_parser.specs.ParsedTrees.{plain_register, plain_func};
 ghost use Rattle.mon_typing.specs.Headers.{plain_header, AreFirst, with_first};
@@ -34,9 +34,8 @@ impl Functions {
     {
         let mut headers = Vec::new(alloc);
         let mut firsts = IndexMap::new(alloc);
-        'each: for (index, f) in list.iter().enumerate() {
-            headers.push(header_of(alloc, f)?)?;
-            note(&mut firsts, f.name.number, index)?;
+        'each: for f in list {
+            note_function(alloc, &mut headers, &mut firsts, f)?;
         }
         Ok(Functions { headers, firsts })
     }
@@ -80,5 +79,20 @@ fn note(firsts: &mut IndexMap<u32, usize>, name: u32, number: usize) -> Result<(
     if !firsts.contains_key(&name) {
         firsts.insert(name, number)?;
     }
+    Ok(())
+}
+
+/// A function behind those that are known, and its number where it is the first of its name.
+fn note_function(
+    alloc: Global,
+    headers: &mut Vec<Header>,
+    firsts: &mut IndexMap<u32, usize>,
+    f: &ParsedFunc,
+) -> Result<(), AllocError>
+    ensures headers { OnOk result (map plain_header headers.new.items ≡ map plain_header headers.old.items ++ header_of (plain_func f.now) ∷ []) }
+    ensures firsts { OnOk result (firsts.new.entries ≡ with_first firsts.old.entries f.now.name.number (length headers.old.items)) }
+{
+    note(firsts, f.name.number, headers.len())?;
+    headers.push(header_of(alloc, f)?)?;
     Ok(())
 }

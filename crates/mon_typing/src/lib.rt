@@ -12,8 +12,6 @@ pub mod header;
 pub mod laws;
 pub mod scope;
 pub mod statement;
-#[cfg(test)]
-mod tests;
 pub mod types;
 
 pub use fault::CheckFault;

@@ -1,14 +1,16 @@
 //! Statements, in a function of a result and inside bodies of labels.
 
-ghost use Rattle.std.specs.Prelude.{◌≡◌, ◌++◌, [], ◌∷◌, nat_eq, reverse, option_map, slice_get, OnOk};
+ghost use Rattle.std.specs.Prelude.{◌≡◌, ◌≤◌, ◌++◌, [], ◌∷◌, length, drop, nat_eq, reverse, Some, None, option_map, slice_get, Ok, OnOk};
 ghost use Rattle.std.specs.List.{list_any};
-ghost use Rattle.mon_syntax.specs.Trees.{plain_stmt, plain_stmts};
+ghost use Rattle.mon_syntax.specs.Trees as tree;
+ghost use Rattle.mon_syntax.specs.Trees.{MonStatements, plain_stmt, plain_stmts};
 ghost use Rattle.mon_syntax.specs.Valid.{memory_result};
-ghost use Rattle.mon_syntax.specs.Checking.{result_of, value_type, with_target, taken, returned, known_label, new_label, labels_in, labels_in_all, checked_statement, checked_statements};
+ghost use Rattle.mon_syntax.specs.Checking.{bytes_of, result_of, value_type, with_target, taken, returned, known_label, new_label, labels_in, labels_in_all, checked_statement, checked_statements};
 ghost use Rattle.mon_syntax.specs.Parsed as parsed;
 ghost use Rattle.mon_parser.specs.ParsedTrees as read;
-ghost use Rattle.mon_typing.specs.Answers.{Gives};
+ghost use Rattle.mon_typing.specs.Answers.{Fails, Gives};
 ghost use Rattle.mon_typing.specs.Scopes.{plain_scope};
+ghost use Rattle.mon_typing.specs.Statements.{checked_bodies};
 
 use crate::call::checked_call;
 use crate::expression::{checked_expression, condition, of_type};
@@ -16,9 +18,9 @@ use crate::fault::CheckFault;
 use crate::scope::{Scope, is_free, name_at, register_of};
 use crate::types::same_type;
 use c_syntax::Place;
-use mon_parser::parsed::{NameUse, ParsedExpr, ParsedStmt};
+use mon_parser::parsed::{NameUse, ParsedCall, ParsedExpr, ParsedStmt, ParsedStmtKind};
 use mon_parser::word_at;
-use mon_syntax::{MemoryCall, MonStmt, MonType};
+use mon_syntax::{MemoryCall, MonStmt, MonStmtKind, MonType};
 use std::alloc::Global;
 
 /// The labels around a statement, and those of the bodies behind which it stands, by their names' numbers.
@@ -54,24 +56,24 @@ fn result_of(scope: &Scope, number: u32) -> Option<MonType>
 fn value_type(scope: &Scope, call: &MonStmt) -> Option<MonType>
     ensures { result ≡ value_type (plain_scope scope.now) (plain_stmt call.now) }
 {
-    match call {
-        MonStmt::PutChar(_, _) | MonStmt::GetChar(_) => Some(MonType::I32),
-        MonStmt::Act(_, f, _) => memory_result(*f),
-        MonStmt::Call(_, number, _) => result_of(scope, *number),
+    match &*call.kind {
+        MonStmtKind::PutChar(_, _) | MonStmtKind::GetChar(_) => Some(MonType::I32),
+        MonStmtKind::Act(_, f, _) => memory_result(*f),
+        MonStmtKind::Call(_, number, _) => result_of(scope, *number),
         _ => None,
     }
 }
 
-/// The call, whose value the register takes.
-fn with_target(number: u32, call: MonStmt) -> MonStmt
-    ensures { plain_stmt result ≡ with_target number (plain_stmt call) }
+/// The register takes the value of the call.
+fn with_target(number: u32, call: &mut MonStmt)
+    ensures { plain_stmt call.new ≡ with_target number (plain_stmt call.old) }
 {
-    match call {
-        MonStmt::PutChar(_, byte) => MonStmt::PutChar(Some(number), byte),
-        MonStmt::GetChar(_) => MonStmt::GetChar(Some(number)),
-        MonStmt::Act(_, f, values) => MonStmt::Act(Some(number), f, values),
-        MonStmt::Call(_, f, values) => MonStmt::Call(Some(number), f, values),
-        other => other,
+    match &mut *call.kind {
+        MonStmtKind::PutChar(target, _) => *target = Some(number),
+        MonStmtKind::GetChar(target) => *target = Some(number),
+        MonStmtKind::Act(target, _, _) => *target = Some(number),
+        MonStmtKind::Call(target, _, _) => *target = Some(number),
+        _ => {}
     }
 }
 
@@ -88,12 +90,38 @@ fn taken(
     match value_type(scope, &call) {
         Some(given) => {
             if same_type(given, kind) {
-                Ok(with_target(number, call))
+                let mut call = call;
+                with_target(number, &mut call);
+                Ok(call)
             } else {
                 Err(CheckFault::BadType(place))
             }
         }
         None => Err(CheckFault::BadType(place)),
+    }
+}
+
+/// An expression of the type, whose value is given back.
+fn returned_value(
+    alloc: Global,
+    scope: &Scope,
+    kind: MonType,
+    place: Place,
+    e: &ParsedExpr,
+) -> Result<MonStmt, CheckFault>
+    ensures { Gives plain_stmt result (returned (plain_scope scope.now) (Some kind) place (Some (read.plain_expr e.now))) }
+{
+    let value = of_type(alloc, scope, kind, place, e)?;
+    Ok(MonStmt::new(alloc, MonStmtKind::Return(Some(value)))?)
+}
+
+/// The fault of an expression whose value is given back where none is.
+fn unwanted_value(alloc: Global, scope: &Scope, place: Place, e: &ParsedExpr) -> CheckFault
+    ensures { Fails result (returned (plain_scope scope.now) None place (Some (read.plain_expr e.now))) }
+{
+    match checked_expression(alloc, scope, e) {
+        Ok(_) => CheckFault::BadType(place),
+        Err(fault) => fault,
     }
 }
 
@@ -107,16 +135,10 @@ fn returned(
     ensures { Gives plain_stmt result (returned (plain_scope scope.now) result_type place (option_map read.plain_expr e.now)) }
 {
     match (result_type, e) {
-        (None, None) => Ok(MonStmt::Return(None)),
-        (None, Some(e)) => {
-            checked_expression(alloc, scope, e)?;
-            Err(CheckFault::BadType(place))
-        }
+        (None, None) => Ok(MonStmt::new(alloc, MonStmtKind::Return(None))?),
+        (None, Some(e)) => Err(unwanted_value(alloc, scope, place, e)),
         (Some(_), None) => Err(CheckFault::BadType(place)),
-        (Some(kind), Some(e)) => {
-            let value = of_type(alloc, scope, kind, place, e)?;
-            Ok(MonStmt::Return(Some(value)))
-        }
+        (Some(kind), Some(e)) => returned_value(alloc, scope, kind, place, e),
     }
 }
 
@@ -150,6 +172,45 @@ fn new_label(scope: &Scope, inside: &[u32], label: NameUse) -> Result<(), CheckF
     }
 }
 
+/// `R = e;`, which is the same in each function and in each body.
+fn assigned(
+    alloc: Global,
+    scope: &Scope,
+    register: NameUse,
+    place: Place,
+    e: &ParsedExpr,
+) -> Result<MonStmt, CheckFault>
+    ensures { Gives plain_stmt result (checked_statement (plain_scope scope.now) None [] (parsed.Set (read.plain_name register) place (read.plain_expr e.now))) }
+{
+    let (number, kind) = register_of(scope, register)?;
+    let value = of_type(alloc, scope, kind, place, e)?;
+    Ok(MonStmt::new(alloc, MonStmtKind::Set(number, value))?)
+}
+
+/// `R = f(..);`, which is the same in each function and in each body.
+fn assigned_call(
+    alloc: Global,
+    scope: &Scope,
+    register: NameUse,
+    place: Place,
+    call: &ParsedCall,
+) -> Result<MonStmt, CheckFault>
+    ensures { Gives plain_stmt result (checked_statement (plain_scope scope.now) None [] (parsed.Take (read.plain_name register) place (read.plain_call call.now))) }
+{
+    let target = register_of(scope, register)?;
+    let call = checked_call(alloc, scope, call)?;
+    taken(scope, target, place, call)
+}
+
+/// `goto LABEL;`, inside bodies of these labels.
+fn jump(alloc: Global, scope: &Scope, around: &[u32], label: NameUse) -> Result<MonStmt, CheckFault>
+    ensures { Gives plain_stmt result (checked_statement (plain_scope scope.now) None (reverse around.now) (parsed.Goto (read.plain_name label))) }
+{
+    known_label(around, label)?;
+    let label = name_at(alloc, scope.names, label.number)?;
+    Ok(MonStmt::new(alloc, MonStmtKind::Goto(label))?)
+}
+
 /// The statement that is spelled. The labels of its bodies go behind those that are closed.
 #[tactic(auto, using(mon_parser::proofs::Rows::if_is, mon_parser::proofs::Rows::loop_is, mon_parser::proofs::Rows::labelled_is))]
 #[cycle(statement)]
@@ -164,38 +225,131 @@ pub fn checked_statement(
     ensures around { OnOk result (labels.new.around.items ≡ labels.old.around.items) }
     ensures closed { OnOk result (labels.new.closed.items ≡ labels.old.closed.items ++ labels_in (read.plain_stmt s.now)) }
 {
-    match s {
-        ParsedStmt::Set(register, place, e) => {
-            let (number, kind) = register_of(scope, *register)?;
-            let value = of_type(alloc, scope, kind, *place, e)?;
-            Ok(MonStmt::Set(number, value))
+    match &*s.kind {
+        ParsedStmtKind::Set(register, place, e) => assigned(alloc, scope, *register, *place, e),
+        ParsedStmtKind::Take(register, place, call) => {
+            assigned_call(alloc, scope, *register, *place, call)
         }
-        ParsedStmt::Take(register, place, call) => {
-            let target = register_of(scope, *register)?;
-            let call = checked_call(alloc, scope, call)?;
-            taken(scope, target, *place, call)
+        ParsedStmtKind::Call(call) => checked_call(alloc, scope, call),
+        ParsedStmtKind::If(e, first, second) => {
+            selection(alloc, scope, result_type, labels, e, first, second)
         }
-        ParsedStmt::Call(call) => checked_call(alloc, scope, call),
-        ParsedStmt::If(e, first, second) => {
-            let e = condition(alloc, scope, e)?;
-            let first = checked_statements(alloc, scope, result_type, labels, first)?;
-            let second = checked_statements(alloc, scope, result_type, labels, second)?;
-            Ok(MonStmt::If(e, first, second))
+        ParsedStmtKind::Loop(before, behind) => {
+            iteration(alloc, scope, result_type, labels, before, behind)
         }
-        ParsedStmt::Loop(before, behind) => {
-            let before = checked_statements(alloc, scope, result_type, labels, before)?;
-            let behind = checked_statements(alloc, scope, result_type, labels, behind)?;
-            Ok(MonStmt::Loop(before, behind))
-        }
-        ParsedStmt::Labelled(body, label) => {
+        ParsedStmtKind::Labelled(body, label) => {
             labelled(alloc, scope, result_type, labels, body, *label)
         }
-        ParsedStmt::Goto(label) => {
-            known_label(&labels.around, *label)?;
-            Ok(MonStmt::Goto(name_at(alloc, scope.names, label.number)?))
-        }
-        ParsedStmt::Return(place, e) => returned(alloc, scope, result_type, *place, e),
+        ParsedStmtKind::Goto(label) => jump(alloc, scope, &labels.around, *label),
+        ParsedStmtKind::Return(place, e) => returned(alloc, scope, result_type, *place, e),
     }
+}
+
+/// Two bodies, one after the other.
+#[cycle(statement)]
+fn checked_bodies(
+    alloc: Global,
+    scope: &Scope,
+    result_type: Option<MonType>,
+    labels: &mut Labels,
+    first: &[ParsedStmt],
+    second: &[ParsedStmt],
+) -> Result<(Vec<MonStmt>, Vec<MonStmt>), CheckFault>
+    ensures spelled { Gives {A = MonStatements × MonStatements} (λ x. (plain_stmts x.0.items, plain_stmts x.1.items)) result (checked_bodies (plain_scope scope.now) result_type (reverse labels.old.around.items) (read.plain_stmts first.now) (read.plain_stmts second.now)) }
+    ensures around { OnOk result (labels.new.around.items ≡ labels.old.around.items) }
+    ensures closed { OnOk result (labels.new.closed.items ≡ labels.old.closed.items ++ (labels_in_all (read.plain_stmts first.now) ++ labels_in_all (read.plain_stmts second.now))) }
+{
+    let first = checked_statements(alloc, scope, result_type, labels, first)?;
+    let second = checked_statements(alloc, scope, result_type, labels, second)?;
+    Ok((first, second))
+}
+
+/// A condition and its two bodies.
+#[cycle(statement)]
+fn selection(
+    alloc: Global,
+    scope: &Scope,
+    result_type: Option<MonType>,
+    labels: &mut Labels,
+    e: &ParsedExpr,
+    first: &[ParsedStmt],
+    second: &[ParsedStmt],
+) -> Result<MonStmt, CheckFault>
+    ensures spelled { Gives plain_stmt result (checked_statement (plain_scope scope.now) result_type (reverse labels.old.around.items) (parsed.If (read.plain_expr e.now) (read.plain_stmts first.now) (read.plain_stmts second.now))) }
+    ensures around { OnOk result (labels.new.around.items ≡ labels.old.around.items) }
+    ensures closed { OnOk result (labels.new.closed.items ≡ labels.old.closed.items ++ (labels_in_all (read.plain_stmts first.now) ++ labels_in_all (read.plain_stmts second.now))) }
+{
+    let e = condition(alloc, scope, e)?;
+    let (first, second) = checked_bodies(alloc, scope, result_type, labels, first, second)?;
+    Ok(MonStmt::new(alloc, MonStmtKind::If(e, first, second))?)
+}
+
+/// A loop, by what stands before its step and what behind it.
+#[cycle(statement)]
+fn iteration(
+    alloc: Global,
+    scope: &Scope,
+    result_type: Option<MonType>,
+    labels: &mut Labels,
+    before: &[ParsedStmt],
+    behind: &[ParsedStmt],
+) -> Result<MonStmt, CheckFault>
+    ensures spelled { Gives plain_stmt result (checked_statement (plain_scope scope.now) result_type (reverse labels.old.around.items) (parsed.Loop (read.plain_stmts before.now) (read.plain_stmts behind.now))) }
+    ensures around { OnOk result (labels.new.around.items ≡ labels.old.around.items) }
+    ensures closed { OnOk result (labels.new.closed.items ≡ labels.old.closed.items ++ (labels_in_all (read.plain_stmts before.now) ++ labels_in_all (read.plain_stmts behind.now))) }
+{
+    let (before, behind) = checked_bodies(alloc, scope, result_type, labels, before, behind)?;
+    Ok(MonStmt::new(alloc, MonStmtKind::Loop(before, behind))?)
+}
+
+/// The label of a body is closed, which is new among those that were closed in it, from this one on.
+#[tactic(auto, using(crate::proofs::Statements::rest_is))]
+fn close_label(
+    scope: &Scope,
+    closed: &mut Vec<u32>,
+    from: usize,
+    label: NameUse,
+) -> Result<(), CheckFault>
+    requires { from ≤ length closed.old.items }
+    ensures new { Gives (λ u. tt) result (new_label (plain_scope scope.now) (drop from closed.old.items) (read.plain_name label)) }
+    ensures closed { OnOk result (closed.new.items ≡ closed.old.items ++ label.number ∷ []) }
+{
+    new_label(scope, &closed.as_slice()[from..], label)?;
+    closed.push(label.number)?;
+    Ok(())
+}
+
+/// A body with its label.
+fn make_labelled(
+    alloc: Global,
+    scope: &Scope,
+    body: Vec<MonStmt>,
+    label: u32,
+) -> Result<MonStmt, CheckFault>
+    ensures { Gives plain_stmt result (Ok (tree.Labelled (plain_stmts body.items) (bytes_of (plain_scope scope.now) label))) }
+{
+    let label = name_at(alloc, scope.names, label)?;
+    Ok(MonStmt::new(alloc, MonStmtKind::Labelled(body, label))?)
+}
+
+/// The statements of a body with this label.
+#[cycle(statement)]
+fn labelled_body(
+    alloc: Global,
+    scope: &Scope,
+    result_type: Option<MonType>,
+    labels: &mut Labels,
+    body: &[ParsedStmt],
+    label: u32,
+) -> Result<Vec<MonStmt>, CheckFault>
+    ensures spelled { Gives (λ v. plain_stmts v.items) result (checked_statements (plain_scope scope.now) result_type (label ∷ reverse labels.old.around.items) (read.plain_stmts body.now)) }
+    ensures around { OnOk result (labels.new.around.items ≡ labels.old.around.items) }
+    ensures closed { OnOk result (labels.new.closed.items ≡ labels.old.closed.items ++ labels_in_all (read.plain_stmts body.now)) }
+{
+    labels.around.push(label)?;
+    let body = checked_statements(alloc, scope, result_type, labels, body)?;
+    labels.around.pop();
+    Ok(body)
 }
 
 /// A body with its label behind it.
@@ -213,12 +367,9 @@ fn labelled(
     ensures closed { OnOk result (labels.new.closed.items ≡ labels.old.closed.items ++ (labels_in_all (read.plain_stmts body.now) ++ label.number ∷ [])) }
 {
     let from = labels.closed.len();
-    labels.around.push(label.number)?;
-    let body = checked_statements(alloc, scope, result_type, labels, body)?;
-    labels.around.pop();
-    new_label(scope, &labels.closed.as_slice()[from..], label)?;
-    labels.closed.push(label.number)?;
-    Ok(MonStmt::Labelled(body, name_at(alloc, scope.names, label.number)?))
+    let body = labelled_body(alloc, scope, result_type, labels, body, label.number)?;
+    close_label(scope, &mut labels.closed, from, label)?;
+    make_labelled(alloc, scope, body, label.number)
 }
 
 /// The statements that are spelled, in order.

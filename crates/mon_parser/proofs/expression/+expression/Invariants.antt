@@ -2,7 +2,10 @@ use Rattle.std.proofs.Common.{◌+◌, ◌*◌}
 use Rattle.mon_parser.proofs.expression.+expression.Given as goal
 
 abbrev pub decreases-second_operand : goal.decreases-second_operand
-decreases-second_operand l = 10 * l.room + 4
+decreases-second_operand l = 10 * l.room + 5
+
+abbrev pub decreases-right_operand : goal.decreases-right_operand
+decreases-right_operand l = 10 * l.room + 4
 
 abbrev pub decreases-negation : goal.decreases-negation
 decreases-negation l = 10 * l.room + 4
@@ -11,10 +14,16 @@ abbrev pub decreases-complement : goal.decreases-complement
 decreases-complement l = 10 * l.room + 4
 
 abbrev pub decreases-cast : goal.decreases-cast
-decreases-cast l = 10 * l.room + 4
+decreases-cast l = 10 * l.room + 5
+
+abbrev pub decreases-cast_operand : goal.decreases-cast_operand
+decreases-cast_operand l = 10 * l.room + 4
+
+abbrev pub decreases-plain_operation : goal.decreases-plain_operation
+decreases-plain_operation l = 10 * l.room + 6
 
 abbrev pub decreases-behind_two : goal.decreases-behind_two
-decreases-behind_two l = 10 * l.room + 5
+decreases-behind_two l = 10 * l.room + 6
 
 abbrev pub decreases-behind_opened : goal.decreases-behind_opened
 decreases-behind_opened l = 10 * l.room + 1

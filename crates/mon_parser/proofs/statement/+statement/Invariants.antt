@@ -11,10 +11,25 @@ abbrev pub decreases-labelled : goal.decreases-labelled
 decreases-labelled l = 10 * l.levels + 5
 
 abbrev pub decreases-iteration : goal.decreases-iteration
-decreases-iteration l = 10 * l.levels + 5
+decreases-iteration l = 10 * l.levels + 6
+
+abbrev pub decreases-forever : goal.decreases-forever
+decreases-forever l = 10 * l.levels + 5
+
+abbrev pub decreases-loop_body : goal.decreases-loop_body
+decreases-loop_body l = 10 * l.levels + 4
 
 abbrev pub decreases-selection : goal.decreases-selection
-decreases-selection l = 10 * l.levels + 5
+decreases-selection l = 10 * l.levels + 8
+
+abbrev pub decreases-condition : goal.decreases-condition
+decreases-condition l = 10 * l.levels + 7
+
+abbrev pub decreases-branches : goal.decreases-branches
+decreases-branches l = 10 * l.levels + 6
+
+abbrev pub decreases-second_branch : goal.decreases-second_branch
+decreases-second_branch l = 10 * l.levels + 5
 
 abbrev pub decreases-body : goal.decreases-body
 decreases-body l = 10 * l.levels + 4

@@ -1,5 +1,5 @@
-use Rattle.mon_parser.proofs.Rows.{labelled_list}
+use Rattle.mon_parser.proofs.Rows.{made, labelled_list}
 use Rattle.mon_parser.proofs.statement.make_labelled.Goals as goal
 
 pub returns : goal.returns
-returns c = labelled_list c.args.body c.args.label
+returns c = made (labelled_list c.args.body c.args.label) _ c.new.ensures
