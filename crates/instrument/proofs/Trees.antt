@@ -1,25 +1,23 @@
 -- The translation of a tree at a known variant.
-use Rattle.std.proofs.Common.{◌≡◌, ℕ, pos, List, ◌++◌, length, refl, ap, sym, subst, ◌∙◌}
-use Rattle.std.specs.Prelude.{Vec, Box, Result, Ok, Err, OnOk}
+use Rattle.std.proofs.Common.{◌≡◌, ℕ, List, ◌++◌, length, refl, ap, sym, subst, ◌∙◌}
+use Rattle.std.specs.Prelude.{Vec, Result, Ok, Err, OnOk}
 use Rattle.std.specs.declared.alloc.Global.{Global}
 use Rattle.c_syntax.specs.declared.expression.BinOp.{BinOp}
 use Rattle.c_syntax.specs.declared.expression.Use.{Use}
 use Rattle.c_syntax.specs.declared.expression.Expr.{Expr}
-use Rattle.c_syntax.specs.declared.expression.ExprKind.{ExprKind}
 use Rattle.c_syntax.specs.declared.expression.ExprKind as code
 use Rattle.c_syntax.specs.declared.place.Place.{Place}
 use Rattle.c_syntax.specs.declared.types.CType.{CType}
 use Rattle.c_syntax.specs.Ctypes.{PlainType, plain_type}
-use Rattle.c_syntax.specs.Expressions.{Expression, Node, Call, Cast, plain_expr, plain_exprs, plain_kind, type_of}
+use Rattle.c_syntax.specs.Expressions.{Expression, Node, Binary, Both, Either, Choice, Call, Cast, plain_expr, plain_exprs, plain_kind, type_of}
 use Rattle.c_syntax.specs.Programs.{TranslationUnit}
 use Rattle.c_syntax.proofs.Rows.{call_is}
 use Rattle.mon_syntax.specs.declared.tree.MonType.{MonType}
-use Rattle.mon_syntax.specs.declared.tree.MonType.TheVariants.{I32}
-use Rattle.mon_syntax.specs.Trees.{MonExpression, MonStatements, Constant, If}
+use Rattle.mon_syntax.specs.Trees.{MonExpression, MonStatements, If}
 use Rattle.instrument.specs.Limits.{FullHasLetters}
-use Rattle.instrument.specs.Options.{DirectHasLetters, direct_setup, direct_temporaries, direct_value}
+use Rattle.instrument.specs.Options.{DirectHasLetters, direct_setup, direct_temporaries, direct_value, both_set, either_set}
 use Rattle.instrument.specs.Translation.{full_setup, full_temporaries, full_value}
-use Rattle.instrument.specs.Expressions.{before, condition, in_type, one, set, setup, temporaries, truth, value, value_type}
+use Rattle.instrument.specs.Expressions.{before, condition_of, in_type, one, set, setup, temporaries, value, value_type}
 use Rattle.instrument.proofs.Sequences.{before_assoc}
 
 pub on_ok : {A E P : Type 0} (r : Result A E) → P → OnOk r P
@@ -27,7 +25,7 @@ on_ok (Ok a) p = p
 on_ok (Err e) p = tt
 
 -- a call by its arguments' list
-pub call_expr : (e : Expr) (f : Use) (args : Vec Expr Global) (l : List Expr) → e.kind ≡ code.Call f args → l ≡ args.items → Node e.place (plain_type e.ctype) (Call f (plain_exprs l)) ≡ plain_expr e
+pub call_expr : (e : Expr) (f : Use) (args : Vec Expr Global) (l : List Expr) → e.kind.value ≡ code.Call f args → l ≡ args.items → Node e.place (plain_type e.ctype) (Call f (plain_exprs l)) ≡ plain_expr e
 call_expr e f args l is same =
     ap (λ z. Node e.place (plain_type e.ctype) (Call f (plain_exprs z))) same
     ∙ sym (ap (λ k. Node e.place (plain_type e.ctype) (plain_kind k)) is ∙ call_is e.place (plain_type e.ctype) f args)
@@ -50,7 +48,7 @@ cast_letters : (at : Place) (t to : PlainType) (a : Expression) → DirectHasLet
 cast_letters at t to (Node at2 u (Call f es)) l = l
 cast_letters at t to _ l = l
 
-module _ (p : TranslationUnit) (numbers : List ℕ) (rs : List MonType) (e x : Expr) (to : CType) (a : Box Expr Global) (is : e.kind ≡ code.Cast to a) (same : x ≡ a.value) where
+module _ (p : TranslationUnit) (numbers : List ℕ) (rs : List MonType) (e x : Expr) (to : CType) (a : Expr) (is : e.kind.value ≡ code.Cast to a) (same : x ≡ a) where
   whole : Node e.place (plain_type e.ctype) (Cast (plain_type to) (plain_expr x)) ≡ plain_expr e
   whole = ap (λ y. Node e.place (plain_type e.ctype) (Cast (plain_type to) (plain_expr y))) same ∙ sym (ap (λ k. Node e.place (plain_type e.ctype) (plain_kind k)) is)
 
@@ -68,73 +66,31 @@ module _ (p : TranslationUnit) (numbers : List ℕ) (rs : List MonType) (e x : E
 
 -- ---- expressions
 
-module _ (numbers : List ℕ) (rs rs1 rs2 : List MonType) (t t1 t2 : MonStatements) (e : Expr) where
-  -- an expression's statements, from its kind
-  from_kind : (k : ExprKind) → e.kind ≡ k → before t (setup numbers rs (Node e.place (plain_type e.ctype) (plain_kind k))) ≡ before t (setup numbers rs (plain_expr e))
-  from_kind k is = ap (λ k. before t (setup numbers rs (Node e.place (plain_type e.ctype) (plain_kind k)))) (sym is)
+module _ (numbers : List ℕ) (rs rs1 : List MonType) (t t1 t2 : MonStatements) (at : Place) (u : PlainType) (a b : Expression) where
+  pub of_binary : {A E : Type 0} (r : Result A E) (op : BinOp) → t1 ≡ before t (setup numbers rs a) → rs1 ≡ rs ++ temporaries a → t2 ≡ before t1 (setup numbers rs1 b) → OnOk r (t2 ≡ before t (setup numbers rs (Node at u (Binary op a b))))
+  of_binary r op first types second =
+      on_ok r (second ∙ (λ i. before (first i) (setup numbers (types i) b)) ∙ before_assoc t (setup numbers rs a) (setup numbers (rs ++ temporaries a) b))
 
-  pub of_binary : {A E : Type 0} (r : Result A E) (op : BinOp) (a b : Box Expr Global) → e.kind ≡ code.Binary op a b → t1 ≡ before t (setup numbers rs (plain_expr a.value)) → rs1 ≡ rs ++ temporaries (plain_expr a.value) → t2 ≡ before t1 (setup numbers rs1 (plain_expr b.value)) → OnOk r (t2 ≡ before t (setup numbers rs (plain_expr e)))
-  of_binary r op a b is first types second =
-      on_ok r
-      (second
-      ∙ (λ i. before (first i) (setup numbers (types i) (plain_expr b.value)))
-      ∙ before_assoc t (setup numbers rs (plain_expr a.value)) (setup numbers (rs ++ temporaries (plain_expr a.value)) (plain_expr b.value))
-      ∙ from_kind (code.Binary op a b) is)
+  module _ (test : MonExpression) (first : t1 ≡ before t (setup numbers rs a)) (test_is : test ≡ condition_of numbers rs a) (types : rs1 ≡ rs ++ temporaries a) where
+    -- from what is made of the test
+    made : (f : MonExpression → List MonType → MonStatements) → t2 ≡ before t1 (f test rs1) → t2 ≡ before t (before (setup numbers rs a) (f (condition_of numbers rs a) (rs ++ temporaries a)))
+    made f last = last ∙ (λ i. before (first i) (f (test_is i) (types i))) ∙ before_assoc t (setup numbers rs a) (f (condition_of numbers rs a) (rs ++ temporaries a))
 
-  -- the `if` that makes the choice
-  abbrev choice_code : Box Expr Global → Box Expr Global → Box Expr Global → MonStatements
-  choice_code a b c =
-      let x = plain_expr a.value in
-      let y = plain_expr b.value in
-      let z = plain_expr c.value in
-      let register = length (rs ++ temporaries x ++ temporaries y ++ temporaries z) in
-      one (If (condition (value_type (plain_type a.value.ctype)) (value numbers rs x))
-      (before (setup numbers (rs ++ temporaries x) y) (set register (value numbers (rs ++ temporaries x) y)))
-      (before (setup numbers (rs ++ temporaries x ++ temporaries y) z) (set register (value numbers (rs ++ temporaries x ++ temporaries y) z))))
+    pub of_both : t2 ≡ before t1 (both_set numbers rs1 test b) → t2 ≡ before t (setup numbers rs (Node at u (Both a b)))
+    of_both last = made (λ m l. both_set numbers l m b) last
 
-  module _ (a b : Box Expr Global) (left test : MonExpression) (ka : MonType) (first : t1 ≡ before t (setup numbers rs (plain_expr a.value))) (left_is : left ≡ value numbers rs (plain_expr a.value)) (types : rs1 ≡ rs ++ temporaries (plain_expr a.value)) (ka_is : ka ≡ value_type (plain_type a.value.ctype)) (test_is : test ≡ condition ka left) where
-    tested : test ≡ condition (value_type (plain_type a.value.ctype)) (value numbers rs (plain_expr a.value))
-    tested = test_is ∙ (λ i. condition (ka_is i) (left_is i))
+    pub of_either : t2 ≡ before t1 (either_set numbers rs1 test b) → t2 ≡ before t (setup numbers rs (Node at u (Either a b)))
+    of_either last = made (λ m l. either_set numbers l m b) last
 
-    module _ (inside : MonStatements) (right right2 constant : MonExpression) (register : ℕ) (kb : MonType) (inside_is : inside ≡ setup numbers rs1 (plain_expr b.value)) (right_is : right ≡ value numbers rs1 (plain_expr b.value)) (types2 : rs2 ≡ rs1 ++ temporaries (plain_expr b.value)) (kb_is : kb ≡ value_type (plain_type b.value.ctype)) (right2_is : right2 ≡ truth kb right) (register_is : register ≡ length rs2) where
-      abbrev behind_left : List MonType
-      behind_left = rs ++ temporaries (plain_expr a.value)
+    -- the `if` that makes the choice
+    abbrev chosen : Expression → MonExpression → List MonType → MonStatements
+    chosen c m l =
+        let register = length (l ++ temporaries b ++ temporaries c) in
+        one (If m (before (setup numbers l b) (set register (value numbers l b))) (before (setup numbers (l ++ temporaries b) c) (set register (value numbers (l ++ temporaries b) c))))
 
-      abbrev behind_both : List MonType
-      behind_both = behind_left ++ temporaries (plain_expr b.value)
-
-      numbered : register ≡ length behind_both
-      numbered = register_is ∙ ap length types2 ∙ ap (λ l. length (l ++ temporaries (plain_expr b.value))) types
-
-      set_right : before inside (set register right2) ≡ before (setup numbers behind_left (plain_expr b.value)) (set (length behind_both) (truth (value_type (plain_type b.value.ctype)) (value numbers behind_left (plain_expr b.value))))
-      set_right =
-          let statements = inside_is ∙ ap (λ l. setup numbers l (plain_expr b.value)) types in
-          let truth_is = right2_is ∙ (λ i. truth (kb_is i) (right_is i)) ∙ ap (λ l. truth (value_type (plain_type b.value.ctype)) (value numbers l (plain_expr b.value))) types in
-          λ i. before (statements i) (set (numbered i) (truth_is i))
-
-      pub of_both : e.kind ≡ code.Both a b → constant ≡ Constant I32 (pos 0) → t2 ≡ before t1 (one (If test (before inside (set register right2)) (set register constant))) → t2 ≡ before t (setup numbers rs (plain_expr e))
-      of_both is constant_is last =
-          last
-          ∙ (λ i. before (first i) (one (If (tested i) (set_right i) (set (numbered i) (constant_is i)))))
-          ∙ before_assoc t (setup numbers rs (plain_expr a.value)) _
-          ∙ from_kind (code.Both a b) is
-
-      pub of_either : e.kind ≡ code.Either a b → constant ≡ Constant I32 (pos 1) → t2 ≡ before t1 (one (If test (set register constant) (before inside (set register right2)))) → t2 ≡ before t (setup numbers rs (plain_expr e))
-      of_either is constant_is last =
-          last
-          ∙ (λ i. before (first i) (one (If (tested i) (set (numbered i) (constant_is i)) (set_right i))))
-          ∙ before_assoc t (setup numbers rs (plain_expr a.value)) _
-          ∙ from_kind (code.Either a b) is
-
-    pub of_choice : (c : Box Expr Global) (on off : MonStatements) (x y : MonExpression) (rs3 : List MonType) (register : ℕ) → e.kind ≡ code.Choice a b c → on ≡ setup numbers rs1 (plain_expr b.value) → x ≡ value numbers rs1 (plain_expr b.value) → rs2 ≡ rs1 ++ temporaries (plain_expr b.value) → off ≡ setup numbers rs2 (plain_expr c.value) → y ≡ value numbers rs2 (plain_expr c.value) → rs3 ≡ rs2 ++ temporaries (plain_expr c.value) → register ≡ length rs3 → t2 ≡ before t1 (one (If test (before on (set register x)) (before off (set register y)))) → t2 ≡ before t (setup numbers rs (plain_expr e))
-    of_choice c on off x y rs3 register is on_is x_is types2 off_is y_is types3 register_is last =
-        let second : rs2 ≡ rs ++ temporaries (plain_expr a.value) ++ temporaries (plain_expr b.value) = types2 ∙ ap (λ l. l ++ temporaries (plain_expr b.value)) types in
-        let number : register ≡ length (rs ++ temporaries (plain_expr a.value) ++ temporaries (plain_expr b.value) ++ temporaries (plain_expr c.value)) = register_is ∙ ap length types3 ∙ ap (λ l. length (l ++ temporaries (plain_expr c.value))) second in
-        let on_at = on_is ∙ ap (λ l. setup numbers l (plain_expr b.value)) types in
-        let x_at = x_is ∙ ap (λ l. value numbers l (plain_expr b.value)) types in
-        let off_at = off_is ∙ ap (λ l. setup numbers l (plain_expr c.value)) second in
-        let y_at = y_is ∙ ap (λ l. value numbers l (plain_expr c.value)) second in
-        let chosen : t2 ≡ before (before t (setup numbers rs (plain_expr a.value))) (choice_code a b c) =
-        last
-        ∙ (λ i. before (first i) (one (If (tested i) (before (on_at i) (set (number i) (x_at i))) (before (off_at i) (set (number i) (y_at i)))))) in
-        chosen ∙ before_assoc t (setup numbers rs (plain_expr a.value)) (choice_code a b c) ∙ from_kind (code.Choice a b c) is
+    pub of_choice : (c : Expression) (rs2 rs3 : List MonType) (on off : MonStatements) (v w : MonExpression) (register : ℕ) → on ≡ setup numbers rs1 b → v ≡ value numbers rs1 b → rs2 ≡ rs1 ++ temporaries b → off ≡ setup numbers rs2 c → w ≡ value numbers rs2 c → rs3 ≡ rs2 ++ temporaries c → register ≡ length rs3 → t2 ≡ before t1 (one (If test (before on (set register v)) (before off (set register w)))) → t2 ≡ before t (setup numbers rs (Node at u (Choice a b c)))
+    of_choice c rs2 rs3 on off v w register on_is v_is types2 off_is w_is types3 register_is last =
+        let number : register ≡ length (rs1 ++ temporaries b ++ temporaries c) = register_is ∙ ap length types3 ∙ ap (λ l. length (l ++ temporaries c)) types2 in
+        let off_at = off_is ∙ ap (λ l. setup numbers l c) types2 in
+        let w_at = w_is ∙ ap (λ l. value numbers l c) types2 in
+        made (chosen c) (last ∙ (λ i. before t1 (one (If test (before (on_is i) (set (number i) (v_is i))) (before (off_at i) (set (number i) (w_at i)))))))

@@ -3,3 +3,4 @@ pub mod Translation
 pub mod Limits
 pub mod Options
 pub mod Growth
+pub mod Indices

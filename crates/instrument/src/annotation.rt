@@ -3,32 +3,38 @@
 ghost use Rattle.std.specs.Prelude.{◌≡◌, ◌≤◌, pos, IfOk};
 ghost use Rattle.c_syntax.specs.Annotations.{Chain, Truth, plain_annot, plain_body, plain_links, plain_pred, plain_term};
 ghost use Rattle.mon_syntax.specs.declared.tree.MonType.TheVariants.{I32, I128};
-ghost use Rattle.mon_syntax.specs.Trees.{Assert, Binary, Constant, plain_expr, plain_stmt};
+ghost use Rattle.mon_syntax.specs.Trees.{Assert, Binary, Cast, Constant, Register, plain_expr, plain_stmt_kind};
+ghost use Rattle.track_scopes.specs.Blocks.{register_of};
 ghost use Rattle.instrument.specs.Limits.{IsNumbered, LinksHaveLetters, TermHasLetters};
 ghost use Rattle.instrument.specs.Expressions.{assertion, chain, relation_operator, term};
 
-use crate::operator::operator_of;
+use crate::operator::{constant, operation, operator_of, register};
 use c_syntax::{Annot, Body, Kind, Link, Pred, PredKind, Relation, Term, TermKind};
-use mon_syntax::{MonExpr, MonOp, MonStmt, MonType};
+use mon_syntax::{MonExpr, MonExprKind, MonOp, MonStmtKind, MonType};
 use std::alloc::{AllocError, Global};
 use track_scopes::register::register_of;
+
+// The value of a variable in 128 bits.
+fn variable(alloc: Global, numbers: &[u32], x: u32) -> Result<MonExpr, AllocError>
+    ensures { IfOk result (λ m. plain_expr m ≡ Cast I128 (Register (register_of numbers.now x))) }
+{
+    let value = register(alloc, register_of(numbers, x)?)?;
+    MonExpr::new(alloc, MonExprKind::Cast(MonType::I128, value))
+}
 
 /// Translates a term, whose values fit 128 bits.
 pub fn term(alloc: Global, numbers: &[u32], t: &Term) -> Result<MonExpr, AllocError>
     ensures code { IfOk result (λ m. plain_expr m ≡ term numbers.now (plain_term t.now)) }
     ensures letters { IfOk result (λ _. TermHasLetters (plain_term t.now)) }
 {
-    match &t.kind {
-        TermKind::Number(n) => Ok(MonExpr::Constant(MonType::I128, *n)),
-        TermKind::Letter(n) => Ok(MonExpr::Constant(MonType::I128, i128::from(*n))),
-        TermKind::Variable(x) => {
-            let register = Box::new(alloc, MonExpr::Register(register_of(numbers, x.decl)?))?;
-            Ok(MonExpr::Cast(MonType::I128, register))
-        }
+    match &*t.kind {
+        TermKind::Number(n) => constant(alloc, MonType::I128, *n),
+        TermKind::Letter(n) => constant(alloc, MonType::I128, i128::from(*n)),
+        TermKind::Variable(x) => variable(alloc, numbers, x.decl),
         TermKind::Binary(op, a, b) => {
-            let left = Box::new(alloc, term(alloc, numbers, a)?)?;
-            let right = Box::new(alloc, term(alloc, numbers, b)?)?;
-            Ok(MonExpr::Binary(operator_of(*op), MonType::I128, left, right))
+            let left = term(alloc, numbers, a)?;
+            let right = term(alloc, numbers, b)?;
+            operation(alloc, operator_of(*op), MonType::I128, left, right)
         }
     }
 }
@@ -52,14 +58,15 @@ fn relation(alloc: Global, numbers: &[u32], left: &Term, link: &Link) -> Result<
     ensures left { IfOk result (λ _. TermHasLetters (plain_term left.now)) }
     ensures right { IfOk result (λ _. TermHasLetters (plain_term link.now.term)) }
 {
-    let first = Box::new(alloc, term(alloc, numbers, left)?)?;
-    let second = Box::new(alloc, term(alloc, numbers, &link.term)?)?;
-    Ok(MonExpr::Binary(
+    let first = term(alloc, numbers, left)?;
+    let second = term(alloc, numbers, &link.term)?;
+    operation(
+        alloc,
         relation_operator(link.relation),
         MonType::I128,
         first,
         second,
-    ))
+    )
 }
 
 // Whether each relation of a chain is true.
@@ -71,13 +78,13 @@ fn chain(alloc: Global, numbers: &[u32], left: &Term, links: &[Link]) -> Result<
     match links {
         [] => {
             let _ = term(alloc, numbers, left)?;
-            Ok(MonExpr::Constant(MonType::I32, 1))
+            constant(alloc, MonType::I32, 1)
         }
         [link] => relation(alloc, numbers, left, link),
         [link, rest @ ..] => {
-            let first = Box::new(alloc, relation(alloc, numbers, left, link)?)?;
-            let others = Box::new(alloc, chain(alloc, numbers, &link.term, rest)?)?;
-            Ok(MonExpr::Binary(MonOp::And, MonType::I32, first, others))
+            let first = relation(alloc, numbers, left, link)?;
+            let others = chain(alloc, numbers, &link.term, rest)?;
+            operation(alloc, MonOp::And, MonType::I32, first, others)
         }
     }
 }
@@ -95,28 +102,34 @@ fn predicate_of(body: &Body) -> &Pred
 fn parts_of(pred: &Pred) -> (&Term, &[Link])
     ensures { plain_pred pred.now ≡ Chain pred.now.place (plain_term result.0.now) (plain_links result.1.now) }
 {
-    match &pred.kind {
+    match &*pred.kind {
         PredKind::Chain(first, links) => (first, links),
     }
 }
 
 // The assertion of a predicate, with its number, its line and its kind. It is always defined, since every variable in
 // sight has a value.
-fn asserted(truth: MonExpr, number: u32, line: u32, kind: Kind) -> MonStmt
-    ensures code { plain_stmt result ≡ Assert (Constant I32 (pos 1)) (plain_expr truth) number line kind }
+fn asserted(
+    alloc: Global,
+    truth: MonExpr,
+    number: u32,
+    line: u32,
+    kind: Kind,
+) -> Result<MonStmtKind, AllocError>
+    ensures code { IfOk result (λ m. plain_stmt_kind m ≡ Assert (Constant I32 (pos 1)) (plain_expr truth) number line kind) }
     ensures number { number ≤ 4294967295 }
     ensures line { line ≤ 4294967295 }
 {
-    let defined = MonExpr::Constant(MonType::I32, 1);
-    MonStmt::Assert(defined, truth, number, line, kind)
+    let defined = constant(alloc, MonType::I32, 1)?;
+    Ok(MonStmtKind::Assert(defined, truth, number, line, kind))
 }
 
 /// Translates an annotation.
-pub fn assertion(alloc: Global, numbers: &[u32], annot: &Annot) -> Result<MonStmt, AllocError>
-    ensures code { IfOk result (λ m. plain_stmt m ≡ assertion numbers.now (plain_annot annot.now)) }
+pub fn assertion(alloc: Global, numbers: &[u32], annot: &Annot) -> Result<MonStmtKind, AllocError>
+    ensures code { IfOk result (λ m. plain_stmt_kind m ≡ assertion numbers.now (plain_annot annot.now)) }
     ensures numbered { IfOk result (λ _. IsNumbered (plain_annot annot.now)) }
 {
     let (first, links) = parts_of(predicate_of(&annot.body));
     let truth = chain(alloc, numbers, first, links)?;
-    Ok(asserted(truth, annot.number, annot.place.line, annot.kind))
+    asserted(alloc, truth, annot.number, annot.place.line, annot.kind)
 }

@@ -72,7 +72,7 @@ pub fn inside(alloc: Global, own: &[u32], around: &[u32]) -> Result<Vec<u32>, Al
 }
 
 /// What stands first in a `for`, as items of a block.
-pub fn items_of(first: &Option<Box<Item>>) -> &[Item]
+pub fn items_of(first: &Option<Item>) -> &[Item]
     ensures { plain_items result.now ≡ items_of_first (plain_first_part first.now) }
 {
     match first {

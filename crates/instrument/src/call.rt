@@ -2,51 +2,57 @@
 
 ghost use Rattle.std.specs.Prelude.{◌≡◌, ◌++◌, IfOk, None, OnOk, map};
 ghost use Rattle.c_syntax.specs.Expressions.{plain_exprs};
-ghost use Rattle.c_syntax.specs.Programs.{plain_func, plain_program};
-ghost use Rattle.mon_syntax.specs.Trees.{plain_expr as plain_monitored, plain_stmts};
+ghost use Rattle.c_syntax.specs.Programs.{plain_program};
+ghost use Rattle.mon_syntax.specs.Trees.{Exit, PutChar, plain_expr as plain_monitored, plain_stmts};
 ghost use Rattle.instrument.specs.Limits.{ArgumentsHaveLetters};
-ghost use Rattle.instrument.specs.Expressions.{before};
-ghost use Rattle.instrument.specs.Translation.{arguments, arguments_setup, arguments_temporaries, call, called, first_of, index_of, library_call};
+ghost use Rattle.instrument.specs.Expressions.{before, one};
+ghost use Rattle.instrument.specs.Translation.{arguments, arguments_setup, arguments_temporaries, call, called, first_of, library_call};
 
+use crate::definition::Definitions;
 use crate::expression::expression;
+use crate::operator::constant;
 use crate::part::then;
 use crate::scene::Scene;
-use c_syntax::{Expr, Func, Program, Use};
+use c_syntax::{Expr, Use};
 use c_type_rules::scope::name_at;
-use mon_syntax::{MonExpr, MonStmt, MonType};
+use mon_syntax::{MonExpr, MonStmt, MonStmtKind, MonType};
 use std::alloc::{AllocError, Global};
 use track_scopes::register::numbered;
 
-// The index, among the definitions, of the one with this number.
-fn index_of(number: u32, funcs: &[Func]) -> usize
-    ensures { result ≡ index_of number (map plain_func funcs.now) }
-{
-    let mut index = 0;
-    'funcs: for f in funcs {
-        if f.body.is_some() {
-            if f.place.offset == number {
-                return index;
-            }
-            index += 1;
-        }
-    }
-    index
-}
-
 // The first argument, 0 where there is none.
-fn first_of(mut args: Vec<MonExpr>) -> MonExpr
-    ensures { plain_monitored result ≡ first_of (map plain_monitored args.items) }
+fn first_of(alloc: Global, mut args: Vec<MonExpr>) -> Result<MonExpr, AllocError>
+    ensures { IfOk result (λ e. plain_monitored e ≡ first_of (map plain_monitored args.items)) }
 {
     if args.is_empty() {
-        MonExpr::Constant(MonType::I32, 0)
+        constant(alloc, MonType::I32, 0)
     } else {
-        args.swap_remove(0)
+        Ok(args.swap_remove(0))
     }
+}
+
+fn put_char(
+    alloc: Global,
+    into: Option<u32>,
+    args: Vec<MonExpr>,
+    to: &mut Vec<MonStmt>,
+) -> Result<(), AllocError>
+    ensures { OnOk result (plain_stmts to.new.items ≡ before (plain_stmts to.old.items) (one (PutChar into (first_of (map plain_monitored args.items))))) }
+{
+    let e = first_of(alloc, args)?;
+    then(alloc, to, MonStmtKind::PutChar(into, e))
+}
+
+fn exit(alloc: Global, args: Vec<MonExpr>, to: &mut Vec<MonStmt>) -> Result<(), AllocError>
+    ensures { OnOk result (plain_stmts to.new.items ≡ before (plain_stmts to.old.items) (one (Exit (first_of (map plain_monitored args.items))))) }
+{
+    let e = first_of(alloc, args)?;
+    then(alloc, to, MonStmtKind::Exit(e))
 }
 
 // A call of a function of the library, by its name.
 #[tactic(auto, using(crate::proofs::Sequences::before_none))]
 fn library_call(
+    alloc: Global,
     into: Option<u32>,
     name: &[u8],
     args: Vec<MonExpr>,
@@ -55,11 +61,11 @@ fn library_call(
     ensures { OnOk result (plain_stmts to.new.items ≡ before (plain_stmts to.old.items) (library_call into name.now (map plain_monitored args.items))) }
 {
     if name == b"putchar".as_slice() {
-        then(to, MonStmt::PutChar(into, first_of(args)))
+        put_char(alloc, into, args, to)
     } else if name == b"getchar".as_slice() {
-        then(to, MonStmt::GetChar(into))
+        then(alloc, to, MonStmtKind::GetChar(into))
     } else if name == b"exit".as_slice() {
-        then(to, MonStmt::Exit(first_of(args)))
+        exit(alloc, args, to)
     } else {
         Ok(())
     }
@@ -67,19 +73,26 @@ fn library_call(
 
 /// A call with the values of its arguments, and the register that takes its own.
 pub fn call(
-    program: &Program,
+    alloc: Global,
+    definitions: &Definitions<'_>,
     into: Option<u32>,
     f: Use,
     args: Vec<MonExpr>,
     to: &mut Vec<MonStmt>,
 ) -> Result<(), AllocError>
-    ensures { OnOk result (plain_stmts to.new.items ≡ before (plain_stmts to.old.items) (call (plain_program program.now) into f (map plain_monitored args.items))) }
+    ensures { OnOk result (plain_stmts to.new.items ≡ before (plain_stmts to.old.items) (call (plain_program definitions.now.program.now) into f (map plain_monitored args.items))) }
 {
     if f.decl == Use::LIBRARY {
-        library_call(into, name_at(&program.names, f.name), args, to)
+        library_call(
+            alloc,
+            into,
+            name_at(&definitions.program.names, f.name),
+            args,
+            to,
+        )
     } else {
-        let index = numbered(index_of(f.decl, &program.funcs))?;
-        then(to, MonStmt::Call(into, index, args))
+        let index = numbered(definitions.index_of(f.decl))?;
+        then(alloc, to, MonStmtKind::Call(into, index, args))
     }
 }
 
@@ -113,10 +126,10 @@ pub fn called(
     types: &mut Vec<MonType>,
     to: &mut Vec<MonStmt>,
 ) -> Result<(), AllocError>
-    ensures code { OnOk result (plain_stmts to.new.items ≡ before (plain_stmts to.old.items) (called (plain_program scene.now.program.now) scene.now.numbers.now types.old.items None f (plain_exprs args.now))) }
+    ensures code { OnOk result (plain_stmts to.new.items ≡ before (plain_stmts to.old.items) (called (plain_program scene.now.definitions.now.program.now) scene.now.numbers.now types.old.items None f (plain_exprs args.now))) }
     ensures types { OnOk result (types.new.items ≡ types.old.items ++ arguments_temporaries (plain_exprs args.now)) }
     ensures letters { OnOk result (ArgumentsHaveLetters (plain_exprs args.now)) }
 {
     let values = arguments(alloc, scene.numbers, args, types, to)?;
-    call(scene.program, None, f, values, to)
+    call(alloc, scene.definitions, None, f, values, to)
 }

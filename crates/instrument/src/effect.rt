@@ -16,11 +16,11 @@ ghost use Rattle.instrument.specs.Translation.{any_temporaries, declaration_temp
 use crate::call::called;
 use crate::expression::expression;
 use crate::full::full;
-use crate::operator::compound;
+use crate::operator::{compound, constant, register};
 use crate::part::then;
 use crate::scene::Scene;
 use c_syntax::{BinOp, BumpOp, CInt, CType, Decl, Expr, ExprKind, Init};
-use mon_syntax::{MonExpr, MonStmt, MonType};
+use mon_syntax::{MonStmt, MonStmtKind, MonType};
 use std::alloc::{AllocError, Global};
 use track_scopes::register::register_of;
 
@@ -28,7 +28,7 @@ use track_scopes::register::register_of;
 fn target(numbers: &[u32], e: &Expr) -> Result<u32, AllocError>
     ensures { IfOk result (λ r. r ≡ target numbers.now (plain_expr e.now)) }
 {
-    match &e.kind {
+    match &*e.kind {
         ExprKind::Variable(x) => register_of(numbers, x.decl),
         ExprKind::Number(_, _)
         | ExprKind::Letter(_)
@@ -56,33 +56,52 @@ fn assign(
     types: &mut Vec<MonType>,
     to: &mut Vec<MonStmt>,
 ) -> Result<(), AllocError>
-    ensures code { OnOk result (plain_stmts to.new.items ≡ before (plain_stmts to.old.items) (before (full_setup (plain_program scene.now.program.now) scene.now.numbers.now types.old.items (plain_expr e.now)) (set register (full_value scene.now.numbers.now types.old.items (plain_expr e.now))))) }
+    ensures code { OnOk result (plain_stmts to.new.items ≡ before (plain_stmts to.old.items) (before (full_setup (plain_program scene.now.definitions.now.program.now) scene.now.numbers.now types.old.items (plain_expr e.now)) (set register (full_value scene.now.numbers.now types.old.items (plain_expr e.now))))) }
     ensures types { OnOk result (types.new.items ≡ types.old.items ++ full_temporaries (plain_expr e.now)) }
     ensures letters { OnOk result (FullHasLetters (plain_expr e.now)) }
 {
     let value = full(alloc, scene, e, types, to)?;
-    then(to, MonStmt::Set(register, value))
+    then(alloc, to, MonStmtKind::Set(register, value))
 }
 
-// Gives a register, whose type this is, what the operator makes of its value and that of an expression.
+// Gives the variable that is assigned to the value of a full expression.
+fn assign_target(
+    alloc: Global,
+    scene: &Scene<'_>,
+    left: &Expr,
+    e: &Expr,
+    types: &mut Vec<MonType>,
+    to: &mut Vec<MonStmt>,
+) -> Result<(), AllocError>
+    ensures code { OnOk result (plain_stmts to.new.items ≡ before (plain_stmts to.old.items) (before (full_setup (plain_program scene.now.definitions.now.program.now) scene.now.numbers.now types.old.items (plain_expr e.now)) (set (target scene.now.numbers.now (plain_expr left.now)) (full_value scene.now.numbers.now types.old.items (plain_expr e.now))))) }
+    ensures types { OnOk result (types.new.items ≡ types.old.items ++ full_temporaries (plain_expr e.now)) }
+    ensures letters { OnOk result (FullHasLetters (plain_expr e.now)) }
+{
+    let number = target(scene.numbers, left)?;
+    assign(alloc, scene, number, e, types, to)
+}
+
+// Gives the variable that is assigned to, whose type this is, what the operator makes of its value and that of an expression.
 #[tactic(auto, using(crate::proofs::Sequences::before_assoc))]
 fn assign_by(
     alloc: Global,
     numbers: &[u32],
     op: BinOp,
-    left: (u32, &CType),
+    left: (&Expr, &CType),
     e: &Expr,
     types: &mut Vec<MonType>,
     to: &mut Vec<MonStmt>,
 ) -> Result<(), AllocError>
-    ensures code { OnOk result (plain_stmts to.new.items ≡ before (plain_stmts to.old.items) (before (setup numbers.now types.old.items (plain_expr e.now)) (set left.entry.0 (compound op (plain_type left.entry.1.now) (type_of (plain_expr e.now)) (Register left.entry.0) (value numbers.now types.old.items (plain_expr e.now)))))) }
+    ensures code { OnOk result (plain_stmts to.new.items ≡ before (plain_stmts to.old.items) (before (setup numbers.now types.old.items (plain_expr e.now)) (set (target numbers.now (plain_expr left.entry.0.now)) (compound op (plain_type left.entry.1.now) (type_of (plain_expr e.now)) (Register (target numbers.now (plain_expr left.entry.0.now))) (value numbers.now types.old.items (plain_expr e.now)))))) }
     ensures types { OnOk result (types.new.items ≡ types.old.items ++ temporaries (plain_expr e.now)) }
     ensures letters { OnOk result (HasLetters (plain_expr e.now)) }
 {
-    let (register, t) = left;
+    let (left, t) = left;
+    let number = target(numbers, left)?;
     let right = expression(alloc, numbers, e, types, to)?;
-    let value = compound(alloc, op, t, &e.ctype, MonExpr::Register(register), right)?;
-    then(to, MonStmt::Set(register, value))
+    let old = register(alloc, number)?;
+    let value = compound(alloc, op, t, &e.ctype, old, right)?;
+    then(alloc, to, MonStmtKind::Set(number, value))
 }
 
 fn bump_operator(op: BumpOp) -> BinOp
@@ -94,27 +113,23 @@ fn bump_operator(op: BumpOp) -> BinOp
     }
 }
 
-// `++` and `--` on a register, whose type this is.
+// `++` and `--` on a variable, whose type this is.
 fn bump(
     alloc: Global,
+    numbers: &[u32],
     op: BumpOp,
-    register: u32,
+    left: &Expr,
     t: &CType,
     to: &mut Vec<MonStmt>,
 ) -> Result<(), AllocError>
-    ensures { OnOk result (plain_stmts to.new.items ≡ before (plain_stmts to.old.items) (set register (compound (bump_operator op) (plain_type t.now) int_type (Register register) (Constant I32 (pos 1))))) }
+    ensures { OnOk result (plain_stmts to.new.items ≡ before (plain_stmts to.old.items) (set (target numbers.now (plain_expr left.now)) (compound (bump_operator op) (plain_type t.now) int_type (Register (target numbers.now (plain_expr left.now))) (Constant I32 (pos 1))))) }
 {
-    let one = MonExpr::Constant(MonType::I32, 1);
+    let number = target(numbers, left)?;
+    let old = register(alloc, number)?;
+    let one = constant(alloc, MonType::I32, 1)?;
     let int = CType::Int(CInt::I32);
-    let value = compound(
-        alloc,
-        bump_operator(op),
-        t,
-        &int,
-        MonExpr::Register(register),
-        one,
-    )?;
-    then(to, MonStmt::Set(register, value))
+    let value = compound(alloc, bump_operator(op), t, &int, old, one)?;
+    then(alloc, to, MonStmtKind::Set(number, value))
 }
 
 /// Translates an expression that stands for its effects. Nothing is left of one that has none.
@@ -126,31 +141,26 @@ pub fn effect(
     types: &mut Vec<MonType>,
     to: &mut Vec<MonStmt>,
 ) -> Result<(), AllocError>
-    ensures code { OnOk result (plain_stmts to.new.items ≡ before (plain_stmts to.old.items) (effect (plain_program scene.now.program.now) scene.now.numbers.now types.old.items (plain_expr e.now))) }
+    ensures code { OnOk result (plain_stmts to.new.items ≡ before (plain_stmts to.old.items) (effect (plain_program scene.now.definitions.now.program.now) scene.now.numbers.now types.old.items (plain_expr e.now))) }
     ensures types { OnOk result (types.new.items ≡ types.old.items ++ effect_temporaries (plain_expr e.now)) }
     ensures letters { OnOk result (EffectHasLetters (plain_expr e.now)) }
 {
-    match &e.kind {
+    match &*e.kind {
         ExprKind::Assign(None, left, right) => {
-            let register = target(scene.numbers, left)?;
-            assign(alloc, scene, register, right, types, to)
+            assign_target(alloc, scene, left, right, types, to)
         }
         ExprKind::Assign(Some(op), left, right) => {
-            let register = target(scene.numbers, left)?;
             assign_by(
                 alloc,
                 scene.numbers,
                 *op,
-                (register, &e.ctype),
+                (left, &e.ctype),
                 right,
                 types,
                 to,
             )
         }
-        ExprKind::Bump(op, left) => {
-            let register = target(scene.numbers, left)?;
-            bump(alloc, *op, register, &e.ctype, to)
-        }
+        ExprKind::Bump(op, left) => bump(alloc, scene.numbers, *op, left, &e.ctype, to),
         ExprKind::Call(f, args) => called(alloc, scene, *f, args, types, to),
         ExprKind::Number(_, _)
         | ExprKind::Letter(_)
@@ -175,7 +185,7 @@ pub fn effect_if_any(
     types: &mut Vec<MonType>,
     to: &mut Vec<MonStmt>,
 ) -> Result<(), AllocError>
-    ensures code { OnOk result (plain_stmts to.new.items ≡ before (plain_stmts to.old.items) (effect_if_any (plain_program scene.now.program.now) scene.now.numbers.now types.old.items (option_map plain_expr e.now))) }
+    ensures code { OnOk result (plain_stmts to.new.items ≡ before (plain_stmts to.old.items) (effect_if_any (plain_program scene.now.definitions.now.program.now) scene.now.numbers.now types.old.items (option_map plain_expr e.now))) }
     ensures types { OnOk result (types.new.items ≡ types.old.items ++ any_temporaries effect_temporaries (option_map plain_expr e.now)) }
     ensures letters { OnOk result (Any EffectHasLetters (option_map plain_expr e.now)) }
 {
@@ -203,7 +213,7 @@ fn initialise(
     types: &mut Vec<MonType>,
     to: &mut Vec<MonStmt>,
 ) -> Result<(), AllocError>
-    ensures code { OnOk result (plain_stmts to.new.items ≡ before (plain_stmts to.old.items) (initialise (plain_program scene.now.program.now) scene.now.numbers.now types.old.items d.now.place.offset (plain_decl d.now).init)) }
+    ensures code { OnOk result (plain_stmts to.new.items ≡ before (plain_stmts to.old.items) (initialise (plain_program scene.now.definitions.now.program.now) scene.now.numbers.now types.old.items d.now.place.offset (plain_decl d.now).init)) }
     ensures types { OnOk result (types.new.items ≡ types.old.items ++ initial_temporaries (plain_decl d.now).init) }
     ensures letters { OnOk result (InitialHasLetters (plain_decl d.now).init) }
 {
@@ -224,7 +234,7 @@ pub fn initialise_all(
     types: &mut Vec<MonType>,
     to: &mut Vec<MonStmt>,
 ) -> Result<(), AllocError>
-    ensures code { OnOk result (plain_stmts to.new.items ≡ before (plain_stmts to.old.items) (initialise_all (plain_program scene.now.program.now) scene.now.numbers.now types.old.items (map plain_decl decls.now))) }
+    ensures code { OnOk result (plain_stmts to.new.items ≡ before (plain_stmts to.old.items) (initialise_all (plain_program scene.now.definitions.now.program.now) scene.now.numbers.now types.old.items (map plain_decl decls.now))) }
     ensures types { OnOk result (types.new.items ≡ types.old.items ++ declaration_temporaries (map plain_decl decls.now)) }
     ensures letters { OnOk result (InitialsHaveLetters (map plain_decl decls.now)) }
 {

@@ -12,7 +12,7 @@ ghost use Rattle.instrument.specs.Translation.{arguments_temporaries, called, fu
 use crate::call::{arguments, call};
 use crate::conversion::value_type;
 use crate::expression::expression;
-use crate::operator::in_type;
+use crate::operator::{in_type, register};
 use crate::part::temporary;
 use crate::scene::Scene;
 use c_syntax::{Expr, ExprKind, Use};
@@ -30,14 +30,14 @@ fn value_called(
     to: &mut Vec<MonStmt>,
 ) -> Result<u32, AllocError>
     ensures register { IfOk result (λ r. r ≡ length (types.old.items ++ arguments_temporaries (plain_exprs args.now))) }
-    ensures setup { OnOk result (plain_stmts to.new.items ≡ before (plain_stmts to.old.items) (called (plain_program scene.now.program.now) scene.now.numbers.now types.old.items (Some (length (types.old.items ++ arguments_temporaries (plain_exprs args.now)))) callee.0 (plain_exprs args.now))) }
+    ensures setup { OnOk result (plain_stmts to.new.items ≡ before (plain_stmts to.old.items) (called (plain_program scene.now.definitions.now.program.now) scene.now.numbers.now types.old.items (Some (length (types.old.items ++ arguments_temporaries (plain_exprs args.now)))) callee.0 (plain_exprs args.now))) }
     ensures types { OnOk result (types.new.items ≡ types.old.items ++ (arguments_temporaries (plain_exprs args.now) ++ callee.1 ∷ [])) }
     ensures letters { OnOk result (ArgumentsHaveLetters (plain_exprs args.now)) }
 {
     let (f, kind) = callee;
     let values = arguments(alloc, scene.numbers, args, types, to)?;
     let register = temporary(types, kind)?;
-    call(scene.program, Some(register), f, values, to)?;
+    call(alloc, scene.definitions, Some(register), f, values, to)?;
     Ok(register)
 }
 
@@ -50,15 +50,15 @@ fn direct(
     to: &mut Vec<MonStmt>,
 ) -> Result<MonExpr, AllocError>
     ensures value { IfOk result (λ m. plain_monitored m ≡ direct_value scene.now.numbers.now types.old.items (plain_expr e.now)) }
-    ensures setup { OnOk result (plain_stmts to.new.items ≡ before (plain_stmts to.old.items) (direct_setup (plain_program scene.now.program.now) scene.now.numbers.now types.old.items (plain_expr e.now))) }
+    ensures setup { OnOk result (plain_stmts to.new.items ≡ before (plain_stmts to.old.items) (direct_setup (plain_program scene.now.definitions.now.program.now) scene.now.numbers.now types.old.items (plain_expr e.now))) }
     ensures types { OnOk result (types.new.items ≡ types.old.items ++ direct_temporaries (plain_expr e.now)) }
     ensures letters { OnOk result (DirectHasLetters (plain_expr e.now)) }
 {
-    match &e.kind {
+    match &*e.kind {
         ExprKind::Call(f, args) => {
             let callee = (*f, value_type(&e.ctype));
-            let register = value_called(alloc, scene, callee, args, types, to)?;
-            Ok(MonExpr::Register(register))
+            let number = value_called(alloc, scene, callee, args, types, to)?;
+            register(alloc, number)
         }
         ExprKind::Number(_, _)
         | ExprKind::Letter(_)
@@ -86,11 +86,11 @@ pub fn full(
     to: &mut Vec<MonStmt>,
 ) -> Result<MonExpr, AllocError>
     ensures value { IfOk result (λ m. plain_monitored m ≡ full_value scene.now.numbers.now types.old.items (plain_expr e.now)) }
-    ensures setup { OnOk result (plain_stmts to.new.items ≡ before (plain_stmts to.old.items) (full_setup (plain_program scene.now.program.now) scene.now.numbers.now types.old.items (plain_expr e.now))) }
+    ensures setup { OnOk result (plain_stmts to.new.items ≡ before (plain_stmts to.old.items) (full_setup (plain_program scene.now.definitions.now.program.now) scene.now.numbers.now types.old.items (plain_expr e.now))) }
     ensures types { OnOk result (types.new.items ≡ types.old.items ++ full_temporaries (plain_expr e.now)) }
     ensures letters { OnOk result (FullHasLetters (plain_expr e.now)) }
 {
-    match &e.kind {
+    match &*e.kind {
         ExprKind::Cast(t, a) => {
             let operand = direct(alloc, scene, a, types, to)?;
             in_type(alloc, value_type(&a.ctype), value_type(t), operand)

@@ -9,6 +9,7 @@ pub mod annotation;
 pub mod block;
 pub mod call;
 pub mod conversion;
+pub mod definition;
 pub mod effect;
 pub mod expression;
 pub mod full;
@@ -21,6 +22,3 @@ pub mod statement;
 pub mod variable;
 
 pub use program::instrument;
-
-#[cfg(test)]
-mod tests;

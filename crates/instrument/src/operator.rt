@@ -2,12 +2,12 @@
 
 ghost use Rattle.std.specs.Prelude.{◌≡◌, IfOk};
 ghost use Rattle.c_syntax.specs.Ctypes.{plain_type};
-ghost use Rattle.mon_syntax.specs.Trees.{Binary, plain_expr};
+ghost use Rattle.mon_syntax.specs.Trees.{Binary, Constant, Register, plain_expr};
 ghost use Rattle.instrument.specs.Expressions.{binary, compared, compound, compound_in, condition, in_type, operator_of, truth, unary};
 
 use crate::conversion::{operand_type, operation_type, register_type, result_type, same_type};
 use c_syntax::{BinOp, CType, UnOp};
-use mon_syntax::{MonExpr, MonOp, MonType};
+use mon_syntax::{MonExpr, MonExprKind, MonOp, MonType};
 use std::alloc::{AllocError, Global};
 
 /// The operator of registers that does what the operator does.
@@ -34,6 +34,20 @@ pub fn operator_of(op: BinOp) -> MonOp
     }
 }
 
+/// A value of a type.
+pub fn constant(alloc: Global, t: MonType, n: i128) -> Result<MonExpr, AllocError>
+    ensures { IfOk result (λ m. plain_expr m ≡ Constant t n) }
+{
+    MonExpr::new(alloc, MonExprKind::Constant(t, n))
+}
+
+/// The value of a register.
+pub fn register(alloc: Global, number: u32) -> Result<MonExpr, AllocError>
+    ensures { IfOk result (λ m. plain_expr m ≡ Register number) }
+{
+    MonExpr::new(alloc, MonExprKind::Register(number))
+}
+
 /// A value of the first type in the second.
 pub fn in_type(alloc: Global, from: MonType, to: MonType, e: MonExpr) -> Result<MonExpr, AllocError>
     ensures { IfOk result (λ m. plain_expr m ≡ in_type from to (plain_expr e)) }
@@ -41,12 +55,12 @@ pub fn in_type(alloc: Global, from: MonType, to: MonType, e: MonExpr) -> Result<
     if same_type(from, to) {
         Ok(e)
     } else {
-        Ok(MonExpr::Cast(to, Box::new(alloc, e)?))
+        MonExpr::new(alloc, MonExprKind::Cast(to, e))
     }
 }
 
-// An operator on two operands of a type.
-fn operation(
+/// An operator on two operands of a type.
+pub fn operation(
     alloc: Global,
     op: MonOp,
     t: MonType,
@@ -55,9 +69,7 @@ fn operation(
 ) -> Result<MonExpr, AllocError>
     ensures { IfOk result (λ m. plain_expr m ≡ Binary op t (plain_expr left) (plain_expr right)) }
 {
-    let left = Box::new(alloc, left)?;
-    let right = Box::new(alloc, right)?;
-    Ok(MonExpr::Binary(op, t, left, right))
+    MonExpr::new(alloc, MonExprKind::Binary(op, t, left, right))
 }
 
 // A value of the type compared with 0.
@@ -66,7 +78,8 @@ fn compared(alloc: Global, op: MonOp, t: MonType, e: MonExpr) -> Result<MonExpr,
 {
     let operand = operand_type(t);
     let value = in_type(alloc, t, operand, e)?;
-    operation(alloc, op, operand, value, MonExpr::Constant(operand, 0))
+    let nothing = constant(alloc, operand, 0)?;
+    operation(alloc, op, operand, value, nothing)
 }
 
 /// 1 where a value of the type isn't 0, else 0.
@@ -93,9 +106,9 @@ pub fn unary(alloc: Global, op: UnOp, t: MonType, e: MonExpr) -> Result<MonExpr,
 {
     match op {
         UnOp::Plus => Ok(e),
-        UnOp::Minus => Ok(MonExpr::Minus(t, Box::new(alloc, e)?)),
+        UnOp::Minus => MonExpr::new(alloc, MonExprKind::Minus(t, e)),
         UnOp::Not => compared(alloc, MonOp::Eq, t, e),
-        UnOp::Flip => Ok(MonExpr::Flip(t, Box::new(alloc, e)?)),
+        UnOp::Flip => MonExpr::new(alloc, MonExprKind::Flip(t, e)),
     }
 }
 
@@ -156,6 +169,6 @@ pub fn compound(
                 right,
             )
         }
-        (CType::Void, _) | (_, CType::Void) => Ok(MonExpr::Constant(MonType::I32, 0)),
+        (CType::Void, _) | (_, CType::Void) => constant(alloc, MonType::I32, 0),
     }
 }

@@ -1,20 +1,21 @@
 //! Statements and registers behind those that are there.
 
 ghost use Rattle.std.specs.Prelude.{◌≡◌, ◌+◌, ◌++◌, [], ◌∷◌, IfOk, OnOk, length, pos};
-ghost use Rattle.mon_syntax.specs.Trees.{Constant, If, Register, plain_expr, plain_stmt, plain_stmts};
+ghost use Rattle.mon_syntax.specs.Trees.{Constant, If, Register, plain_expr, plain_stmt_kind, plain_stmts};
 ghost use Rattle.mon_syntax.specs.declared.tree.MonType.TheVariants.{I32};
 ghost use Rattle.instrument.specs.Expressions.{before, one, set};
 
-use mon_syntax::{MonExpr, MonStmt, MonType};
+use crate::operator::register;
+use mon_syntax::{MonExpr, MonStmt, MonStmtKind, MonType};
 use std::alloc::{AllocError, Global};
 use track_scopes::register::numbered;
 
 /// Puts one statement behind the others.
 #[tactic(auto, using(crate::proofs::Sequences::stmts_push))]
-pub fn then(to: &mut Vec<MonStmt>, s: MonStmt) -> Result<(), AllocError>
-    ensures { OnOk result (plain_stmts to.new.items ≡ before (plain_stmts to.old.items) (one (plain_stmt s))) }
+pub fn then(alloc: Global, to: &mut Vec<MonStmt>, kind: MonStmtKind) -> Result<(), AllocError>
+    ensures { OnOk result (plain_stmts to.new.items ≡ before (plain_stmts to.old.items) (one (plain_stmt_kind kind))) }
 {
-    to.push(s)?;
+    to.push(MonStmt::new(alloc, kind)?)?;
     Ok(())
 }
 
@@ -27,11 +28,11 @@ pub fn then_all(to: &mut Vec<MonStmt>, mut code: Vec<MonStmt>) -> Result<(), All
 }
 
 /// The one statement alone.
-pub fn alone(alloc: Global, s: MonStmt) -> Result<Vec<MonStmt>, AllocError>
-    ensures { IfOk result (λ code. plain_stmts code.items ≡ one (plain_stmt s)) }
+pub fn alone(alloc: Global, kind: MonStmtKind) -> Result<Vec<MonStmt>, AllocError>
+    ensures { IfOk result (λ code. plain_stmts code.items ≡ one (plain_stmt_kind kind)) }
 {
     let mut code = Vec::new(alloc);
-    code.push(s)?;
+    then(alloc, &mut code, kind)?;
     Ok(code)
 }
 
@@ -45,20 +46,23 @@ pub fn temporary(types: &mut Vec<MonType>, kind: MonType) -> Result<u32, AllocEr
     Ok(number)
 }
 
-/// Sets a register in both parts of an `if`, behind the statements of each part.
+/// Sets a register in both parts of an `if`, behind the statements of each part, and gives its value.
 #[tactic(auto, using(mon_syntax::proofs::Rows::if_is))]
-pub fn either_set(
-    register: u32,
+pub fn choose(
+    alloc: Global,
+    number: u32,
     test: MonExpr,
     first: (Vec<MonStmt>, MonExpr),
     second: (Vec<MonStmt>, MonExpr),
     to: &mut Vec<MonStmt>,
-) -> Result<(), AllocError>
-    ensures { OnOk result (plain_stmts to.new.items ≡ before (plain_stmts to.old.items) (one (If (plain_expr test) (before (plain_stmts first.0.items) (set register (plain_expr first.1))) (before (plain_stmts second.0.items) (set register (plain_expr second.1)))))) }
+) -> Result<MonExpr, AllocError>
+    ensures value { IfOk result (λ m. plain_expr m ≡ Register number) }
+    ensures setup { OnOk result (plain_stmts to.new.items ≡ before (plain_stmts to.old.items) (one (If (plain_expr test) (before (plain_stmts first.0.items) (set number (plain_expr first.1))) (before (plain_stmts second.0.items) (set number (plain_expr second.1)))))) }
 {
     let (mut on, value) = first;
-    then(&mut on, MonStmt::Set(register, value))?;
+    then(alloc, &mut on, MonStmtKind::Set(number, value))?;
     let (mut off, value) = second;
-    then(&mut off, MonStmt::Set(register, value))?;
-    then(to, MonStmt::If(test, on, off))
+    then(alloc, &mut off, MonStmtKind::Set(number, value))?;
+    then(alloc, to, MonStmtKind::If(test, on, off))?;
+    register(alloc, number)
 }

@@ -19,6 +19,7 @@ ghost use Rattle.instrument.specs.Translation.{alive, body_part, body_temporarie
 
 use crate::block::{enter, leave};
 use crate::conversion::register_type;
+use crate::definition::Definitions;
 use crate::name::{function_name, temporary_name};
 use crate::scene::{Scene, Spot};
 use crate::statement::statement;
@@ -98,7 +99,7 @@ fn statement_of(
     types: &mut Vec<MonType>,
     to: &mut Vec<MonStmt>,
 ) -> Result<(), AllocError>
-    ensures code { OnOk result (plain_stmts to.new.items ≡ before (plain_stmts to.old.items) (statement_of (plain_program scene.now.program.now) scene.now.numbers.now (plain_spot spot.now) types.old.items (option_map plain_stmt body.now))) }
+    ensures code { OnOk result (plain_stmts to.new.items ≡ before (plain_stmts to.old.items) (statement_of (plain_program scene.now.definitions.now.program.now) scene.now.numbers.now (plain_spot spot.now) types.old.items (option_map plain_stmt body.now))) }
     ensures types { OnOk result (types.new.items ≡ types.old.items ++ body_temporaries (option_map plain_stmt body.now)) }
     ensures numbers { OnOk result (BodyHasNumbers (option_map plain_stmt body.now)) }
 {
@@ -115,7 +116,7 @@ fn body_of(
     f: &Func,
     types: &mut Vec<MonType>,
 ) -> Result<Vec<MonStmt>, AllocError>
-    ensures code { IfOk result (λ code. plain_stmts code.items ≡ alive scene.now.numbers.now (plain_func f.now).params (body_part (plain_program scene.now.program.now) scene.now.numbers.now (plain_func f.now).params types.old.items (plain_func f.now).body)) }
+    ensures code { IfOk result (λ code. plain_stmts code.items ≡ alive scene.now.numbers.now (plain_func f.now).params (body_part (plain_program scene.now.definitions.now.program.now) scene.now.numbers.now (plain_func f.now).params types.old.items (plain_func f.now).body)) }
     ensures types { OnOk result (types.new.items ≡ types.old.items ++ body_temporaries (plain_func f.now).body) }
     ensures numbers { IfOk result (λ _. BodyHasNumbers (plain_func f.now).body) }
 {
@@ -135,15 +136,16 @@ fn body_of(
 // Translates the definition with an index, where `main` has this index.
 fn function_of(
     alloc: Global,
-    p: &Program,
+    definitions: &Definitions<'_>,
     main: usize,
     index: usize,
     f: &Func,
 ) -> Result<MonFunc, AllocError>
-    ensures code { IfOk result (λ m. plain_monitored_func m ≡ function_of (plain_program p.now) main index (plain_func f.now)) }
+    ensures code { IfOk result (λ m. plain_monitored_func m ≡ function_of (plain_program definitions.now.program.now) main index (plain_func f.now)) }
     ensures numbers { IfOk result (λ _. FunctionHasNumbers (plain_func f.now)) }
 {
-    let (parameters, own) = variables_of(alloc, &p.names, f)?;
+    let name = name_of(alloc, &definitions.program.names, main, index, f)?;
+    let (parameters, own) = variables_of(alloc, &definitions.program.names, f)?;
     let Variables {
         numbers,
         mut types,
@@ -151,14 +153,14 @@ fn function_of(
     } = own;
     let first = types.len();
     let scene = Scene {
-        program: p,
+        definitions,
         numbers: &numbers,
     };
     let body = body_of(alloc, &scene, f, &mut types)?;
     temporaries(alloc, &types, first, &mut registers)?;
     Ok(MonFunc {
         result: result_of(&f.result),
-        name: name_of(alloc, &p.names, main, index, f)?,
+        name,
         parameters,
         registers,
         body,
@@ -168,18 +170,18 @@ fn function_of(
 // Translates a function where it is a definition, behind those that are there.
 fn add(
     alloc: Global,
-    p: &Program,
+    definitions: &Definitions<'_>,
     main: usize,
     f: &Func,
     to: &mut Vec<MonFunc>,
 ) -> Result<(), AllocError>
-    ensures code { OnOk result (map plain_monitored_func to.new.items ≡ map plain_monitored_func to.old.items ++ functions_from (plain_program p.now) main (length to.old.items) (plain_func f.now ∷ [])) }
+    ensures code { OnOk result (map plain_monitored_func to.new.items ≡ map plain_monitored_func to.old.items ++ functions_from (plain_program definitions.now.program.now) main (length to.old.items) (plain_func f.now ∷ [])) }
     ensures numbers { OnOk result (is_definition (plain_func f.now) ≡ true → FunctionHasNumbers (plain_func f.now)) }
 {
     match &f.body {
         Some(_) => {
             let index = to.len();
-            to.push(function_of(alloc, p, main, index, f)?)?;
+            to.push(function_of(alloc, definitions, main, index, f)?)?;
             Ok(())
         }
         None => Ok(()),
@@ -187,15 +189,16 @@ fn add(
 }
 
 // Translates the definitions.
-fn functions(alloc: Global, p: &Program) -> Result<Vec<MonFunc>, AllocError>
-    ensures code { IfOk result (λ fs. map plain_monitored_func fs.items ≡ functions_from (plain_program p.now) (index_of_main p.now.names.items (map plain_func p.now.funcs.items)) 0 (map plain_func p.now.funcs.items)) }
-    ensures numbers { IfOk result (λ _. FunctionsHaveNumbers (map plain_func p.now.funcs.items)) }
-    ensures few { length p.now.funcs.items < 2 ^ 64 }
+fn functions(alloc: Global, definitions: &Definitions<'_>) -> Result<Vec<MonFunc>, AllocError>
+    ensures code { IfOk result (λ fs. map plain_monitored_func fs.items ≡ functions_from (plain_program definitions.now.program.now) (index_of_main definitions.now.program.now.names.items (map plain_func definitions.now.program.now.funcs.items)) 0 (map plain_func definitions.now.program.now.funcs.items)) }
+    ensures numbers { IfOk result (λ _. FunctionsHaveNumbers (map plain_func definitions.now.program.now.funcs.items)) }
+    ensures few { length definitions.now.program.now.funcs.items < 2 ^ 64 }
 {
-    let main = index_of_main(&p.names, &p.funcs);
-    let mut functions = Vec::with_capacity(alloc, p.funcs.len())?;
-    'funcs: for f in &p.funcs {
-        add(alloc, p, main, f, &mut functions)?;
+    let program = definitions.program;
+    let main = index_of_main(&program.names, &program.funcs);
+    let mut functions = Vec::with_capacity(alloc, program.funcs.len())?;
+    'funcs: for f in &program.funcs {
+        add(alloc, definitions, main, f, &mut functions)?;
     }
     Ok(functions)
 }
@@ -206,7 +209,8 @@ fn translate(alloc: Global, p: &Program) -> Result<MonProgram, AllocError>
     ensures numbers { IfOk result (λ _. FunctionsHaveNumbers (plain_program p.now).funcs) }
     ensures few { length (plain_program p.now).funcs < 2 ^ 64 }
 {
-    let functions = functions(alloc, p)?;
+    let definitions = Definitions::new(alloc, p)?;
+    let functions = functions(alloc, &definitions)?;
     Ok(MonProgram { functions })
 }
 

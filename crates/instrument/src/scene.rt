@@ -1,11 +1,11 @@
 //! Where code that is translated stands.
 
-use c_syntax::Program;
+use crate::definition::Definitions;
 
-/// A function of a program: the numbers of its variables' declarations, in the order of their registers.
+/// A function of a program with its definitions: the numbers of its variables' declarations, in the order of their registers.
 #[derive(Clone, Copy, Drop)]
 pub struct Scene<'a> {
-    pub program: &'a Program,
+    pub definitions: &'a Definitions<'a>,
     pub numbers: &'a [u32],
 }
 

@@ -1,30 +1,28 @@
 //! Statements (C99 6.8).
 
-ghost use Rattle.std.specs.Prelude.{◌≡◌, ◌+◌, ◌++◌, IfOk, OnOk, map, option_map};
+ghost use Rattle.std.specs.Prelude.{◌≡◌, ◌+◌, ◌++◌, [], IfOk, OnOk, map, option_map};
 ghost use Rattle.c_syntax.specs.Annotations.{plain_annot};
 ghost use Rattle.c_syntax.specs.Expressions.{plain_expr};
 ghost use Rattle.c_syntax.specs.Programs.{plain_program};
 ghost use Rattle.c_syntax.specs.Statements.{plain_item, plain_items, plain_stmt};
-ghost use Rattle.c_model.specs.Meaning.{declared_in};
-ghost use Rattle.mon_syntax.specs.Trees.{Goto, Labelled, Loop, Then, plain_expr as plain_monitored, plain_stmt as plain_monitored_stmt, plain_stmts};
+ghost use Rattle.c_model.specs.Meaning.{declared_first, declared_in};
+ghost use Rattle.mon_syntax.specs.Trees.{Goto, If, Labelled, Loop, plain_expr as plain_monitored, plain_stmts};
 ghost use Rattle.instrument.specs.Limits.{Any, AreNumbered, EffectHasLetters, ElseHasNumbers, FirstHasNumbers, FullHasLetters, HasLetters, HasNumbers, HaveNumbers, ItemHasNumbers};
-ghost use Rattle.instrument.specs.Options.{plain_else_part, plain_first_part, plain_spot};
+ghost use Rattle.instrument.specs.Options.{do_loop, plain_else_part, plain_first_part, plain_spot, turns, while_loop, with_blocks};
 ghost use Rattle.instrument.specs.Expressions.{assertions, before, condition_of, one, setup, temporaries};
 ghost use Rattle.instrument.specs.Translation.{alive, any_temporaries, effect_if_any, effect_temporaries, else_part, else_temporaries, end_label, first_part, first_temporaries, full_temporaries, in_loop, item, item_temporaries, items, items_temporaries, leave_where_zero, next_label, returned, statement, statement_temporaries, test, test_if_any, with_variables};
-ghost use Rattle.track_scopes.specs.Blocks.{deaths};
+ghost use Rattle.track_scopes.specs.Blocks.{births, deaths, with_born};
 
 use crate::annotation::assertion;
 use crate::block::{enter_block, inside, items_of, leave};
-use crate::conversion::value_type;
 use crate::effect::{effect, effect_if_any, initialise_all};
-use crate::expression::expression;
+use crate::expression::condition_of;
 use crate::full::full;
 use crate::name::{end_label, next_label};
-use crate::operator::condition;
 use crate::part::{alone, then};
 use crate::scene::{Scene, Spot};
 use c_syntax::{Annot, Expr, Item, Name, Stmt, StmtKind};
-use mon_syntax::{MonExpr, MonStmt, MonType};
+use mon_syntax::{MonExpr, MonStmt, MonStmtKind, MonType};
 use std::alloc::{AllocError, Global};
 
 // The assertions of a list of annotations.
@@ -38,7 +36,7 @@ fn assertions(
     ensures numbered { OnOk result (AreNumbered (map plain_annot annots.now)) }
 {
     'annots: for annot in annots {
-        then(to, assertion(alloc, numbers, annot)?)?;
+        then(alloc, to, assertion(alloc, numbers, annot)?)?;
     }
     Ok(())
 }
@@ -48,23 +46,6 @@ fn one_more(loops: u32) -> Result<u32, AllocError>
     ensures { IfOk result (λ inner. inner ≡ loops + 1) }
 {
     loops.checked_add(1).ok_or(AllocError)
-}
-
-// The condition of an expression, behind what stands in front of it.
-fn condition_of(
-    alloc: Global,
-    numbers: &[u32],
-    e: &Expr,
-    types: &mut Vec<MonType>,
-    to: &mut Vec<MonStmt>,
-) -> Result<MonExpr, AllocError>
-    ensures value { IfOk result (λ m. plain_monitored m ≡ condition_of numbers.now types.old.items (plain_expr e.now)) }
-    ensures setup { OnOk result (plain_stmts to.new.items ≡ before (plain_stmts to.old.items) (setup numbers.now types.old.items (plain_expr e.now))) }
-    ensures types { OnOk result (types.new.items ≡ types.old.items ++ temporaries (plain_expr e.now)) }
-    ensures letters { OnOk result (HasLetters (plain_expr e.now)) }
-{
-    let value = expression(alloc, numbers, e, types, to)?;
-    condition(alloc, value_type(&e.ctype), value)
 }
 
 // The way out of a loop, where the condition is 0.
@@ -77,8 +58,12 @@ fn leave_where_zero(
 ) -> Result<(), AllocError>
     ensures { OnOk result (plain_stmts to.new.items ≡ before (plain_stmts to.old.items) (leave_where_zero loops (plain_monitored condition))) }
 {
-    let leave = alone(alloc, MonStmt::Goto(end_label(alloc, loops)?))?;
-    then(to, MonStmt::If(condition, Vec::new(alloc), leave))
+    let leave = alone(alloc, MonStmtKind::Goto(end_label(alloc, loops)?))?;
+    then(
+        alloc,
+        to,
+        MonStmtKind::If(condition, Vec::new(alloc), leave),
+    )
 }
 
 // The condition of a loop.
@@ -125,7 +110,21 @@ fn jump(alloc: Global, live: &[u32], label: Name, to: &mut Vec<MonStmt>) -> Resu
     ensures { OnOk result (plain_stmts to.new.items ≡ before (plain_stmts to.old.items) (before (deaths live.now) (one (Goto label)))) }
 {
     leave(alloc, live, to)?;
-    then(to, MonStmt::Goto(label))
+    then(alloc, to, MonStmtKind::Goto(label))
+}
+
+fn break_out(alloc: Global, spot: &Spot<'_>, to: &mut Vec<MonStmt>) -> Result<(), AllocError>
+    ensures { OnOk result (plain_stmts to.new.items ≡ before (plain_stmts to.old.items) (before (deaths spot.now.inside.now) (one (Goto (end_label spot.now.loops))))) }
+{
+    let label = end_label(alloc, spot.loops)?;
+    jump(alloc, spot.inside, label, to)
+}
+
+fn go_on(alloc: Global, spot: &Spot<'_>, to: &mut Vec<MonStmt>) -> Result<(), AllocError>
+    ensures { OnOk result (plain_stmts to.new.items ≡ before (plain_stmts to.old.items) (before (deaths spot.now.inside.now) (one (Goto (next_label spot.now.loops))))) }
+{
+    let label = next_label(alloc, spot.loops)?;
+    jump(alloc, spot.inside, label, to)
 }
 
 // The deaths of all blocks of a function.
@@ -147,7 +146,7 @@ fn give_back(
     types: &mut Vec<MonType>,
     to: &mut Vec<MonStmt>,
 ) -> Result<(), AllocError>
-    ensures code { OnOk result (plain_stmts to.new.items ≡ before (plain_stmts to.old.items) (returned (plain_program scene.now.program.now) scene.now.numbers.now (plain_spot spot.now) types.old.items (option_map plain_expr e.now))) }
+    ensures code { OnOk result (plain_stmts to.new.items ≡ before (plain_stmts to.old.items) (returned (plain_program scene.now.definitions.now.program.now) scene.now.numbers.now (plain_spot spot.now) types.old.items (option_map plain_expr e.now))) }
     ensures types { OnOk result (types.new.items ≡ types.old.items ++ any_temporaries full_temporaries (option_map plain_expr e.now)) }
     ensures letters { OnOk result (Any FullHasLetters (option_map plain_expr e.now)) }
 {
@@ -155,27 +154,28 @@ fn give_back(
         Some(e) => {
             let value = full(alloc, scene, e, types, to)?;
             leave_all(alloc, spot, to)?;
-            then(to, MonStmt::Return(Some(value)))
+            then(alloc, to, MonStmtKind::Return(Some(value)))
         }
         None => {
             leave_all(alloc, spot, to)?;
-            then(to, MonStmt::Return(None))
+            then(alloc, to, MonStmtKind::Return(None))
         }
     }
 }
 
 // A loop, from what stands in front of its step and behind it.
-#[tactic(auto, using(mon_syntax::proofs::Rows::labelled_is, mon_syntax::proofs::Rows::loop_is))]
 fn repeat(
     alloc: Global,
     loops: u32,
     front: Vec<MonStmt>,
     behind: Vec<MonStmt>,
-) -> Result<MonStmt, AllocError>
-    ensures { IfOk result (λ s. plain_monitored_stmt s ≡ Labelled (one (Loop (plain_stmts front.items) (plain_stmts behind.items))) (end_label loops)) }
+    to: &mut Vec<MonStmt>,
+) -> Result<(), AllocError>
+    ensures { OnOk result (plain_stmts to.new.items ≡ before (plain_stmts to.old.items) (one (Labelled (one (Loop (plain_stmts front.items) (plain_stmts behind.items))) (end_label loops)))) }
 {
-    let turns = alone(alloc, MonStmt::Loop(front, behind))?;
-    Ok(MonStmt::Labelled(turns, end_label(alloc, loops)?))
+    let label = end_label(alloc, loops)?;
+    let turns = alone(alloc, MonStmtKind::Loop(front, behind))?;
+    then(alloc, to, MonStmtKind::Labelled(turns, label))
 }
 
 // The body of a loop, behind which a `continue` goes on.
@@ -187,7 +187,7 @@ fn round(
     s: &Stmt,
     types: &mut Vec<MonType>,
 ) -> Result<Vec<MonStmt>, AllocError>
-    ensures code { IfOk result (λ code. plain_stmts code.items ≡ one (Labelled (statement (plain_program scene.now.program.now) scene.now.numbers.now (in_loop (plain_spot spot.now)) types.old.items (plain_stmt s.now)) (next_label (spot.now.loops + 1)))) }
+    ensures code { IfOk result (λ code. plain_stmts code.items ≡ one (Labelled (statement (plain_program scene.now.definitions.now.program.now) scene.now.numbers.now (in_loop (plain_spot spot.now)) types.old.items (plain_stmt s.now)) (next_label (spot.now.loops + 1)))) }
     ensures types { OnOk result (types.new.items ≡ types.old.items ++ statement_temporaries (plain_stmt s.now)) }
     ensures numbers { OnOk result (HasNumbers (plain_stmt s.now)) }
 {
@@ -198,8 +198,7 @@ fn round(
         inside: &[],
         outside: &outside,
     };
-    let mut body = Vec::new(alloc);
-    statement(alloc, scene, &inner, s, types, &mut body)?;
+    let body = apart(alloc, scene, &inner, s, types)?;
     labelled(alloc, loops, body)
 }
 
@@ -208,7 +207,10 @@ fn round(
 fn labelled(alloc: Global, loops: u32, body: Vec<MonStmt>) -> Result<Vec<MonStmt>, AllocError>
     ensures { IfOk result (λ code. plain_stmts code.items ≡ one (Labelled (plain_stmts body.items) (next_label loops))) }
 {
-    alone(alloc, MonStmt::Labelled(body, next_label(alloc, loops)?))
+    alone(
+        alloc,
+        MonStmtKind::Labelled(body, next_label(alloc, loops)?),
+    )
 }
 
 /// Translates a statement, behind the statements and the registers that are there.
@@ -221,76 +223,201 @@ pub fn statement(
     types: &mut Vec<MonType>,
     to: &mut Vec<MonStmt>,
 ) -> Result<(), AllocError>
-    ensures code { OnOk result (plain_stmts to.new.items ≡ before (plain_stmts to.old.items) (statement (plain_program scene.now.program.now) scene.now.numbers.now (plain_spot spot.now) types.old.items (plain_stmt s.now))) }
+    ensures code { OnOk result (plain_stmts to.new.items ≡ before (plain_stmts to.old.items) (statement (plain_program scene.now.definitions.now.program.now) scene.now.numbers.now (plain_spot spot.now) types.old.items (plain_stmt s.now))) }
     ensures types { OnOk result (types.new.items ≡ types.old.items ++ statement_temporaries (plain_stmt s.now)) }
     ensures numbers { OnOk result (HasNumbers (plain_stmt s.now)) }
 {
-    match &s.kind {
+    match &*s.kind {
         StmtKind::Empty => Ok(()),
         StmtKind::Eval(e) => effect(alloc, scene, e, types, to),
         StmtKind::Block(body) => block(alloc, scene, spot, body, types, to),
         StmtKind::If(e, a, b) => {
-            let condition = condition_of(alloc, scene.numbers, e, types, to)?;
-            let mut first = Vec::new(alloc);
-            statement(alloc, scene, spot, a, types, &mut first)?;
-            let mut second = Vec::new(alloc);
-            else_part(alloc, scene, spot, b, types, &mut second)?;
-            then(to, MonStmt::If(condition, first, second))
+            let first = tested(alloc, scene, spot, a, e, types, to)?;
+            branches(alloc, scene, spot, b, first, types, to)
         }
-        StmtKind::While(_, e, a) => {
-            let loops = one_more(spot.loops)?;
-            let mut front = Vec::new(alloc);
-            leave_unless(alloc, scene.numbers, loops, e, types, &mut front)?;
-            let behind = round(alloc, scene, spot, a, types)?;
-            then(to, repeat(alloc, loops, front, behind)?)
-        }
-        StmtKind::Do(a, e) => {
-            let loops = one_more(spot.loops)?;
-            let mut behind = round(alloc, scene, spot, a, types)?;
-            leave_unless(alloc, scene.numbers, loops, e, types, &mut behind)?;
-            then(to, repeat(alloc, loops, Vec::new(alloc), behind)?)
-        }
+        StmtKind::While(_, e, a) => while_loop(alloc, scene, spot, a, e, types, to),
+        StmtKind::Do(a, e) => do_loop(alloc, scene, spot, a, e, types, to),
         StmtKind::For(_, first, e, step, a) => {
-            let own = enter_block(alloc, scene.numbers, items_of(first), to)?;
-            let live = inside(alloc, &own, spot.inside)?;
-            let around = Spot {
-                loops: spot.loops,
-                inside: &live,
-                outside: spot.outside,
-            };
-            first_part(alloc, scene, &around, first, types, to)?;
-            turns(alloc, scene, &around, a, (e, step), types, to)?;
-            leave(alloc, &own, to)
+            let own = enter_for(alloc, scene, spot, first, types, to)?;
+            rest_of_for(alloc, scene, spot, own, a, (e, step), types, to)
         }
-        StmtKind::Break => {
-            let label = end_label(alloc, spot.loops)?;
-            jump(alloc, spot.inside, label, to)
-        }
-        StmtKind::Continue => {
-            let label = next_label(alloc, spot.loops)?;
-            jump(alloc, spot.inside, label, to)
-        }
+        StmtKind::Break => break_out(alloc, spot, to),
+        StmtKind::Continue => go_on(alloc, spot, to),
         StmtKind::Return(e) => give_back(alloc, scene, spot, e, types, to),
     }
 }
 
-// The `else` of an `if`, which may be left out.
+// A `while`.
+#[cycle(statement)]
+fn while_loop(
+    alloc: Global,
+    scene: &Scene<'_>,
+    spot: &Spot<'_>,
+    a: &Stmt,
+    e: &Expr,
+    types: &mut Vec<MonType>,
+    to: &mut Vec<MonStmt>,
+) -> Result<(), AllocError>
+    ensures code { OnOk result (plain_stmts to.new.items ≡ before (plain_stmts to.old.items) (statement (plain_program scene.now.definitions.now.program.now) scene.now.numbers.now (plain_spot spot.now) types.old.items (while_loop a.now e.now))) }
+    ensures types { OnOk result (types.new.items ≡ types.old.items ++ statement_temporaries (while_loop a.now e.now)) }
+    ensures numbers { OnOk result (HasNumbers (while_loop a.now e.now)) }
+{
+    let loops = one_more(spot.loops)?;
+    let mut front = Vec::new(alloc);
+    leave_unless(alloc, scene.numbers, loops, e, types, &mut front)?;
+    let behind = round(alloc, scene, spot, a, types)?;
+    repeat(alloc, loops, front, behind, to)
+}
+
+// A `do`.
+#[cycle(statement)]
+fn do_loop(
+    alloc: Global,
+    scene: &Scene<'_>,
+    spot: &Spot<'_>,
+    a: &Stmt,
+    e: &Expr,
+    types: &mut Vec<MonType>,
+    to: &mut Vec<MonStmt>,
+) -> Result<(), AllocError>
+    ensures code { OnOk result (plain_stmts to.new.items ≡ before (plain_stmts to.old.items) (statement (plain_program scene.now.definitions.now.program.now) scene.now.numbers.now (plain_spot spot.now) types.old.items (do_loop a.now e.now))) }
+    ensures types { OnOk result (types.new.items ≡ types.old.items ++ statement_temporaries (do_loop a.now e.now)) }
+    ensures numbers { OnOk result (HasNumbers (do_loop a.now e.now)) }
+{
+    let loops = one_more(spot.loops)?;
+    let mut behind = round(alloc, scene, spot, a, types)?;
+    leave_unless(alloc, scene.numbers, loops, e, types, &mut behind)?;
+    repeat(alloc, loops, Vec::new(alloc), behind, to)
+}
+
+// What stands first in a `for`, behind the births of its variables' blocks, which it gives.
+#[cycle(statement)]
+fn enter_for(
+    alloc: Global,
+    scene: &Scene<'_>,
+    spot: &Spot<'_>,
+    first: &Option<Item>,
+    types: &mut Vec<MonType>,
+    to: &mut Vec<MonStmt>,
+) -> Result<Vec<u32>, AllocError>
+    ensures own { IfOk result (λ own. own.items ≡ with_born scene.now.numbers.now (declared_first (plain_first_part first.now)) []) }
+    ensures code { OnOk result (plain_stmts to.new.items ≡ before (plain_stmts to.old.items) (before (births scene.now.numbers.now (declared_first (plain_first_part first.now))) (first_part (plain_program scene.now.definitions.now.program.now) scene.now.numbers.now (with_variables scene.now.numbers.now (declared_first (plain_first_part first.now)) (plain_spot spot.now)) types.old.items (plain_first_part first.now)))) }
+    ensures types { OnOk result (types.new.items ≡ types.old.items ++ first_temporaries (plain_first_part first.now)) }
+    ensures numbers { OnOk result (FirstHasNumbers (plain_first_part first.now)) }
+{
+    let own = enter_block(alloc, scene.numbers, items_of(first), to)?;
+    let live = inside(alloc, &own, spot.inside)?;
+    let around = Spot {
+        loops: spot.loops,
+        inside: &live,
+        outside: spot.outside,
+    };
+    first_part(alloc, scene, &around, first, types, to)?;
+    Ok(own)
+}
+
+// The rest of a `for`, with the deaths of its variables' blocks.
+#[cycle(statement)]
+fn rest_of_for(
+    alloc: Global,
+    scene: &Scene<'_>,
+    spot: &Spot<'_>,
+    own: Vec<u32>,
+    a: &Stmt,
+    controls: (&Option<Expr>, &Option<Expr>),
+    types: &mut Vec<MonType>,
+    to: &mut Vec<MonStmt>,
+) -> Result<(), AllocError>
+    ensures code { OnOk result (plain_stmts to.new.items ≡ before (plain_stmts to.old.items) (before (turns (plain_program scene.now.definitions.now.program.now) scene.now.numbers.now (with_blocks own.items (plain_spot spot.now)) types.old.items (option_map plain_expr controls.entry.0.now) (option_map plain_expr controls.entry.1.now) (plain_stmt a.now)) (deaths own.items))) }
+    ensures types { OnOk result (types.new.items ≡ types.old.items ++ (any_temporaries temporaries (option_map plain_expr controls.entry.0.now) ++ statement_temporaries (plain_stmt a.now) ++ any_temporaries effect_temporaries (option_map plain_expr controls.entry.1.now))) }
+    ensures numbers { OnOk result (Any HasLetters (option_map plain_expr controls.entry.0.now) × HasNumbers (plain_stmt a.now) × Any EffectHasLetters (option_map plain_expr controls.entry.1.now)) }
+{
+    let live = inside(alloc, &own, spot.inside)?;
+    let around = Spot {
+        loops: spot.loops,
+        inside: &live,
+        outside: spot.outside,
+    };
+    turns(alloc, scene, &around, a, controls, types, to)?;
+    leave(alloc, &own, to)
+}
+
+// The condition of an `if`, and its first branch.
+#[cycle(statement)]
+fn tested(
+    alloc: Global,
+    scene: &Scene<'_>,
+    spot: &Spot<'_>,
+    a: &Stmt,
+    e: &Expr,
+    types: &mut Vec<MonType>,
+    to: &mut Vec<MonStmt>,
+) -> Result<(MonExpr, Vec<MonStmt>), AllocError>
+    ensures condition { IfOk result (λ r. plain_monitored r.0 ≡ condition_of scene.now.numbers.now types.old.items (plain_expr e.now)) }
+    ensures first { IfOk result (λ r. plain_stmts r.1.items ≡ statement (plain_program scene.now.definitions.now.program.now) scene.now.numbers.now (plain_spot spot.now) (types.old.items ++ temporaries (plain_expr e.now)) (plain_stmt a.now)) }
+    ensures setup { OnOk result (plain_stmts to.new.items ≡ before (plain_stmts to.old.items) (setup scene.now.numbers.now types.old.items (plain_expr e.now))) }
+    ensures types { OnOk result (types.new.items ≡ types.old.items ++ (temporaries (plain_expr e.now) ++ statement_temporaries (plain_stmt a.now))) }
+    ensures numbers { OnOk result (HasLetters (plain_expr e.now) × HasNumbers (plain_stmt a.now)) }
+{
+    let condition = condition_of(alloc, scene.numbers, e, types, to)?;
+    let first = apart(alloc, scene, spot, a, types)?;
+    Ok((condition, first))
+}
+
+// An `if`, from its condition, its first branch and its `else`.
+#[cycle(statement)]
+fn branches(
+    alloc: Global,
+    scene: &Scene<'_>,
+    spot: &Spot<'_>,
+    b: &Option<Stmt>,
+    front: (MonExpr, Vec<MonStmt>),
+    types: &mut Vec<MonType>,
+    to: &mut Vec<MonStmt>,
+) -> Result<(), AllocError>
+    ensures code { OnOk result (plain_stmts to.new.items ≡ before (plain_stmts to.old.items) (one (If (plain_monitored front.0) (plain_stmts front.1.items) (else_part (plain_program scene.now.definitions.now.program.now) scene.now.numbers.now (plain_spot spot.now) types.old.items (plain_else_part b.now))))) }
+    ensures types { OnOk result (types.new.items ≡ types.old.items ++ else_temporaries (plain_else_part b.now)) }
+    ensures numbers { OnOk result (ElseHasNumbers (plain_else_part b.now)) }
+{
+    let second = else_part(alloc, scene, spot, b, types)?;
+    let (condition, first) = front;
+    then(alloc, to, MonStmtKind::If(condition, first, second))
+}
+
+// A statement apart.
+#[cycle(statement)]
+fn apart(
+    alloc: Global,
+    scene: &Scene<'_>,
+    spot: &Spot<'_>,
+    s: &Stmt,
+    types: &mut Vec<MonType>,
+) -> Result<Vec<MonStmt>, AllocError>
+    ensures code { IfOk result (λ code. plain_stmts code.items ≡ statement (plain_program scene.now.definitions.now.program.now) scene.now.numbers.now (plain_spot spot.now) types.old.items (plain_stmt s.now)) }
+    ensures types { OnOk result (types.new.items ≡ types.old.items ++ statement_temporaries (plain_stmt s.now)) }
+    ensures numbers { OnOk result (HasNumbers (plain_stmt s.now)) }
+{
+    let mut code = Vec::new(alloc);
+    statement(alloc, scene, spot, s, types, &mut code)?;
+    Ok(code)
+}
+
+// The `else` of an `if`, apart, which may be left out.
 #[cycle(statement)]
 fn else_part(
     alloc: Global,
     scene: &Scene<'_>,
     spot: &Spot<'_>,
-    b: &Option<Box<Stmt>>,
+    b: &Option<Stmt>,
     types: &mut Vec<MonType>,
-    to: &mut Vec<MonStmt>,
-) -> Result<(), AllocError>
-    ensures code { OnOk result (plain_stmts to.new.items ≡ before (plain_stmts to.old.items) (else_part (plain_program scene.now.program.now) scene.now.numbers.now (plain_spot spot.now) types.old.items (plain_else_part b.now))) }
+) -> Result<Vec<MonStmt>, AllocError>
+    ensures code { IfOk result (λ code. plain_stmts code.items ≡ else_part (plain_program scene.now.definitions.now.program.now) scene.now.numbers.now (plain_spot spot.now) types.old.items (plain_else_part b.now)) }
     ensures types { OnOk result (types.new.items ≡ types.old.items ++ else_temporaries (plain_else_part b.now)) }
     ensures numbers { OnOk result (ElseHasNumbers (plain_else_part b.now)) }
 {
     match b {
-        Some(b) => statement(alloc, scene, spot, b, types, to),
-        None => Ok(()),
+        Some(b) => apart(alloc, scene, spot, b, types),
+        None => Ok(Vec::new(alloc)),
     }
 }
 
@@ -304,7 +431,7 @@ fn block(
     types: &mut Vec<MonType>,
     to: &mut Vec<MonStmt>,
 ) -> Result<(), AllocError>
-    ensures code { OnOk result (plain_stmts to.new.items ≡ before (plain_stmts to.old.items) (alive scene.now.numbers.now (declared_in (plain_items body.now)) (items (plain_program scene.now.program.now) scene.now.numbers.now (with_variables scene.now.numbers.now (declared_in (plain_items body.now)) (plain_spot spot.now)) types.old.items (plain_items body.now)))) }
+    ensures code { OnOk result (plain_stmts to.new.items ≡ before (plain_stmts to.old.items) (alive scene.now.numbers.now (declared_in (plain_items body.now)) (items (plain_program scene.now.definitions.now.program.now) scene.now.numbers.now (with_variables scene.now.numbers.now (declared_in (plain_items body.now)) (plain_spot spot.now)) types.old.items (plain_items body.now)))) }
     ensures types { OnOk result (types.new.items ≡ types.old.items ++ items_temporaries (plain_items body.now)) }
     ensures numbers { OnOk result (HaveNumbers (plain_items body.now)) }
 {
@@ -325,11 +452,11 @@ fn first_part(
     alloc: Global,
     scene: &Scene<'_>,
     spot: &Spot<'_>,
-    first: &Option<Box<Item>>,
+    first: &Option<Item>,
     types: &mut Vec<MonType>,
     to: &mut Vec<MonStmt>,
 ) -> Result<(), AllocError>
-    ensures code { OnOk result (plain_stmts to.new.items ≡ before (plain_stmts to.old.items) (first_part (plain_program scene.now.program.now) scene.now.numbers.now (plain_spot spot.now) types.old.items (plain_first_part first.now))) }
+    ensures code { OnOk result (plain_stmts to.new.items ≡ before (plain_stmts to.old.items) (first_part (plain_program scene.now.definitions.now.program.now) scene.now.numbers.now (plain_spot spot.now) types.old.items (plain_first_part first.now))) }
     ensures types { OnOk result (types.new.items ≡ types.old.items ++ first_temporaries (plain_first_part first.now)) }
     ensures numbers { OnOk result (FirstHasNumbers (plain_first_part first.now)) }
 {
@@ -350,7 +477,7 @@ fn turns(
     types: &mut Vec<MonType>,
     to: &mut Vec<MonStmt>,
 ) -> Result<(), AllocError>
-    ensures code { OnOk result (plain_stmts to.new.items ≡ before (plain_stmts to.old.items) (one (Labelled (one (Loop (test_if_any scene.now.numbers.now types.old.items (spot.now.loops + 1) (option_map plain_expr controls.entry.0.now)) (Then (Labelled (statement (plain_program scene.now.program.now) scene.now.numbers.now (in_loop (plain_spot spot.now)) (types.old.items ++ any_temporaries temporaries (option_map plain_expr controls.entry.0.now)) (plain_stmt a.now)) (next_label (spot.now.loops + 1))) (effect_if_any (plain_program scene.now.program.now) scene.now.numbers.now (types.old.items ++ any_temporaries temporaries (option_map plain_expr controls.entry.0.now) ++ statement_temporaries (plain_stmt a.now)) (option_map plain_expr controls.entry.1.now))))) (end_label (spot.now.loops + 1))))) }
+    ensures code { OnOk result (plain_stmts to.new.items ≡ before (plain_stmts to.old.items) (turns (plain_program scene.now.definitions.now.program.now) scene.now.numbers.now (plain_spot spot.now) types.old.items (option_map plain_expr controls.entry.0.now) (option_map plain_expr controls.entry.1.now) (plain_stmt a.now))) }
     ensures types { OnOk result (types.new.items ≡ types.old.items ++ (any_temporaries temporaries (option_map plain_expr controls.entry.0.now) ++ statement_temporaries (plain_stmt a.now) ++ any_temporaries effect_temporaries (option_map plain_expr controls.entry.1.now))) }
     ensures numbers { OnOk result (Any HasLetters (option_map plain_expr controls.entry.0.now) × HasNumbers (plain_stmt a.now) × Any EffectHasLetters (option_map plain_expr controls.entry.1.now)) }
 {
@@ -360,7 +487,7 @@ fn turns(
     leave_unless_any(alloc, scene.numbers, loops, e, types, &mut front)?;
     let mut behind = round(alloc, scene, spot, a, types)?;
     effect_if_any(alloc, scene, step, types, &mut behind)?;
-    then(to, repeat(alloc, loops, front, behind)?)
+    repeat(alloc, loops, front, behind, to)
 }
 
 // Translates an item of a block.
@@ -373,7 +500,7 @@ fn item(
     types: &mut Vec<MonType>,
     to: &mut Vec<MonStmt>,
 ) -> Result<(), AllocError>
-    ensures code { OnOk result (plain_stmts to.new.items ≡ before (plain_stmts to.old.items) (item (plain_program scene.now.program.now) scene.now.numbers.now (plain_spot spot.now) types.old.items (plain_item i.now))) }
+    ensures code { OnOk result (plain_stmts to.new.items ≡ before (plain_stmts to.old.items) (item (plain_program scene.now.definitions.now.program.now) scene.now.numbers.now (plain_spot spot.now) types.old.items (plain_item i.now))) }
     ensures types { OnOk result (types.new.items ≡ types.old.items ++ item_temporaries (plain_item i.now)) }
     ensures numbers { OnOk result (ItemHasNumbers (plain_item i.now)) }
 {
@@ -394,7 +521,7 @@ fn items(
     types: &mut Vec<MonType>,
     to: &mut Vec<MonStmt>,
 ) -> Result<(), AllocError>
-    ensures code { OnOk result (plain_stmts to.new.items ≡ before (plain_stmts to.old.items) (items (plain_program scene.now.program.now) scene.now.numbers.now (plain_spot spot.now) types.old.items (plain_items block.now))) }
+    ensures code { OnOk result (plain_stmts to.new.items ≡ before (plain_stmts to.old.items) (items (plain_program scene.now.definitions.now.program.now) scene.now.numbers.now (plain_spot spot.now) types.old.items (plain_items block.now))) }
     ensures types { OnOk result (types.new.items ≡ types.old.items ++ items_temporaries (plain_items block.now)) }
     ensures numbers { OnOk result (HaveNumbers (plain_items block.now)) }
 {

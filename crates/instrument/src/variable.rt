@@ -60,7 +60,7 @@ fn declare_within(
 ) -> Result<(), AllocError>
     ensures { OnOk result (Grows texts.now to.old to.new (declared_within (plain_stmt s.now))) }
 {
-    match &s.kind {
+    match &*s.kind {
         StmtKind::Block(block) => declare_items(alloc, texts, block, to),
         StmtKind::If(_, a, b) => {
             declare_within(alloc, texts, a, to)?;
@@ -85,7 +85,7 @@ fn declare_within(
 fn declare_else(
     alloc: Global,
     texts: &[Name],
-    b: &Option<Box<Stmt>>,
+    b: &Option<Stmt>,
     to: &mut Variables,
 ) -> Result<(), AllocError>
     ensures { OnOk result (Grows texts.now to.old to.new (declared_in_else (plain_else_part b.now))) }
@@ -101,7 +101,7 @@ fn declare_else(
 fn declare_first(
     alloc: Global,
     texts: &[Name],
-    first: &Option<Box<Item>>,
+    first: &Option<Item>,
     to: &mut Variables,
 ) -> Result<(), AllocError>
     ensures { OnOk result (Grows texts.now to.old to.new (declared_in_first (plain_first_part first.now))) }

@@ -7,7 +7,5 @@
 pub mod register;
 pub mod scope;
 pub mod size;
-#[cfg(test)]
-mod tests;
 
 pub use scope::{enter, leave};

@@ -9,7 +9,7 @@ ghost use Rattle.track_scopes.specs.Lives.{Enters, Leaves};
 use crate::register::block_of;
 use crate::size::size_constant;
 use c_syntax::Decl;
-use mon_syntax::{MemoryCall, MonExpr, MonStmt};
+use mon_syntax::{MemoryCall, MonExpr, MonExprKind, MonStmt, MonStmtKind};
 use std::alloc::{AllocError, Global};
 
 // The birth of a variable's block.
@@ -18,8 +18,11 @@ fn birth(alloc: Global, numbers: &[u32], d: &Decl) -> Result<MonStmt, AllocError
 {
     let block = block_of(numbers, d.place.offset)?;
     let mut size = Vec::new(alloc);
-    size.push(size_constant(&d.ctype))?;
-    Ok(MonStmt::Act(Some(block), MemoryCall::StoreBlock, size))
+    size.push(size_constant(alloc, &d.ctype)?)?;
+    MonStmt::new(
+        alloc,
+        MonStmtKind::Act(Some(block), MemoryCall::StoreBlock, size),
+    )
 }
 
 // The births of variables' blocks, in order.
@@ -65,8 +68,11 @@ fn death(alloc: Global, block: u32) -> Result<MonStmt, AllocError>
     ensures { IfOk result (λ s. plain_stmt s ≡ death block) }
 {
     let mut pointer = Vec::new(alloc);
-    pointer.push(MonExpr::Register(block))?;
-    Ok(MonStmt::Act(None, MemoryCall::DeleteBlock, pointer))
+    pointer.push(MonExpr::new(alloc, MonExprKind::Register(block))?)?;
+    MonStmt::new(
+        alloc,
+        MonStmtKind::Act(None, MemoryCall::DeleteBlock, pointer),
+    )
 }
 
 /// The statements that leave scopes, of one block, of a loop's body or of the whole function: the deaths of the blocks that live in

@@ -10,11 +10,11 @@ use Rattle.instrument.proofs.effect.initialise_all.Goals as goal
 
 pub returns-clause-code : goal.returns-clause-code
 returns-clause-code c =
-    all_there (none_left (λ l. initialise_all (plain_program c.args.scene.now.program.now) c.args.scene.now.numbers.now c.decls.types.items (map plain_decl l)) c.args.decls.now c.decls.d-index c.decls-test.false) c.decls.invariant.0
+    all_there (none_left (λ l. initialise_all (plain_program c.args.scene.now.definitions.now.program.now) c.args.scene.now.numbers.now c.decls.types.items (map plain_decl l)) c.args.decls.now c.decls.d-index c.decls-test.false) c.decls.invariant.0
 
 pub decls-preserved : goal.decls-preserved
 decls-preserved c =
-    let p = plain_program c.args.scene.now.program.now in
+    let p = plain_program c.args.scene.now.definitions.now.program.now in
     let numbers = c.args.scene.now.numbers.now in
     let d = plain_decl c.d-item.result in
     let left = left_at (map plain_decl) c.args.decls.now c.decls.d-index _ _ c.decls-test.true c.d-item.is refl in (

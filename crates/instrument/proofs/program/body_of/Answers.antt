@@ -12,7 +12,7 @@ use Rattle.instrument.proofs.program.body_of.Goals as goal
 
 pub returns-clause-code : goal.returns-clause-code
 returns-clause-code c =
-    let p = plain_program c.args.scene.now.program.now in
+    let p = plain_program c.args.scene.now.definitions.now.program.now in
     let numbers = c.args.scene.now.numbers.now in
     let ds = map plain_decl c.args.f.now.params.items in
     let rs = c.args.types.now.items in

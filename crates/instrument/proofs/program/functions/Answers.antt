@@ -9,7 +9,7 @@ use Rattle.instrument.proofs.program.functions.Goals as goal
 
 pub returns-clause-code : goal.returns-clause-code
 returns-clause-code c =
-    let p = plain_program c.args.p.now in
+    let p = plain_program c.args.definitions.now.program.now in
     let fs = c.deref-f-items.result.now in
     complete (map plain_monitored_func c.funcs.functions.items) (none_left (λ l. functions_from p c.index_of_main-main.result (length c.funcs.functions.items) (map plain_func l)) fs c.funcs.f-index c.funcs-test.false) c.funcs.invariant.0
     ∙ ap (λ l. functions_from p c.index_of_main-main.result 0 (map plain_func l)) c.deref-f-items.ensures.value
@@ -25,6 +25,6 @@ pub funcs-preserved : goal.funcs-preserved
 funcs-preserved c =
     let fs = c.deref-f-items.result.now in
     let left = left_at (map plain_func) fs c.funcs.f-index _ _ c.funcs-test.true c.f-item.is refl in (
-      more_functions (plain_program c.args.p.now) c.index_of_main-main.result fs c.funcs.f-index c.f-item.result _ _ c.funcs-test.true c.f-item.is c.in_ok-add.ensures.code c.funcs.invariant.0,
+      more_functions (plain_program c.args.definitions.now.program.now) c.index_of_main-main.result fs c.funcs.f-index c.f-item.result _ _ c.funcs-test.true c.f-item.is c.in_ok-add.ensures.code c.funcs.invariant.0,
       λ rest. c.funcs.invariant.1 (subst FunctionsHaveNumbers (sym left) (c.in_ok-add.ensures.numbers, rest)),
     )

@@ -7,4 +7,4 @@ use Rattle.instrument.proofs.program.statement_of.Goals as goal
 
 pub returns-in-None-clause-code : goal.returns-in-None-clause-code
 returns-in-None-clause-code c =
-    nothing _ _ (ap (λ o. statement_of (plain_program c.args.scene.now.program.now) c.args.scene.now.numbers.now (plain_spot c.args.spot.now) c.args.types.now.items (option_map plain_stmt o)) c.in-None.is)
+    nothing _ _ (ap (λ o. statement_of (plain_program c.args.scene.now.definitions.now.program.now) c.args.scene.now.numbers.now (plain_spot c.args.spot.now) c.args.types.now.items (option_map plain_stmt o)) c.in-None.is)

@@ -1,4 +1,4 @@
-use Rattle.std.proofs.Common.{refl, subst}
+use Rattle.std.proofs.Common.{refl, subst, sym, ◌∙◌}
 use Rattle.std.specs.Prelude.{OnOk}
 use Rattle.c_syntax.specs.Statements.{Statement, plain_item, plain_items, plain_stmt}
 use Rattle.c_model.specs.Formed.{declared_within, declared_in_else, declared_in_first, declared_in_item, declared_in_items}
@@ -23,18 +23,18 @@ declare_items-returns t c = finish c.args.texts.now _ _ _ _ (none_left (λ l. de
 pub declare_within-returns-in-Block : goal.declare_within-returns-in-Block
 declare_within-returns-in-Block t c =
     subst (λ (x : Statement). OnOk c.declare_items.result (Grows c.args.texts.now c.args.to.now c.declare_items.new.to (declared_within x)))
-    (block_stmt c.args.s.now c.in-Block.block _ c.in-Block.is c.deref.ensures.value) c.declare_items.ensures
+    (block_stmt c.args.s.now c.in-Block.block _ (sym c.deref.ensures ∙ c.in-Block.is) c.deref-in-Block.ensures.value) c.declare_items.ensures
 
 pub declare_within-returns-in_ok-declare_within-in-If : goal.declare_within-returns-in_ok-declare_within-in-If
 declare_within-returns-in_ok-declare_within-in-If t c =
-    let x = c.deref-in-If.result.now in
+    let x = c.in-If.a in
     subst (λ (y : Statement). OnOk c.declare_else.result (Grows c.args.texts.now c.args.to.now c.declare_else.new.to (declared_within y)))
-    (if_stmt c.args.s.now c.in-If.field-0 c.in-If.a c.in-If.b x c.in-If.is c.deref-in-If.ensures)
+    (if_stmt c.args.s.now c.in-If.field-0 c.in-If.a c.in-If.b x (sym c.deref.ensures ∙ c.in-If.is) refl)
     (on_ok_then c.declare_else.result (grows_both c.args.texts.now _ _ _ (declared_within (plain_stmt x)) (declared_in_else (plain_else_part c.in-If.b)) c.in_ok-declare_within-in-If.ensures) c.declare_else.ensures)
 
 pub declare_within-returns-in_ok-declare_first-in-For : goal.declare_within-returns-in_ok-declare_first-in-For
 declare_within-returns-in_ok-declare_first-in-For t c =
-    let x = c.deref-in-For.result.now in
+    let x = c.in-For.a in
     subst (λ (y : Statement). OnOk c.declare_within-in-For.result (Grows c.args.texts.now c.args.to.now c.declare_within-in-For.new.to (declared_within y)))
-    (for_stmt c.args.s.now c.in-For.field-0 c.in-For.first c.in-For.field-2 c.in-For.field-3 c.in-For.a x c.in-For.is c.deref-in-For.ensures)
+    (for_stmt c.args.s.now c.in-For.field-0 c.in-For.first c.in-For.field-2 c.in-For.field-3 c.in-For.a x (sym c.deref.ensures ∙ c.in-For.is) refl)
     (on_ok_then c.declare_within-in-For.result (grows_both c.args.texts.now _ _ _ (declared_in_first (plain_first_part c.in-For.first)) (declared_within (plain_stmt x)) c.in_ok-declare_first-in-For.ensures) c.declare_within-in-For.ensures)

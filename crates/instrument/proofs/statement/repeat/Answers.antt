@@ -1,0 +1,11 @@
+use Rattle.std.proofs.Common.{ap, ◌∙◌}
+use Rattle.mon_syntax.specs.Trees.{Labelled, plain_stmts}
+use Rattle.mon_syntax.proofs.Rows.{labelled_is, loop_is}
+use Rattle.instrument.specs.Expressions.{before, one}
+use Rattle.instrument.proofs.StatementTrees.{on_ok_then}
+use Rattle.instrument.proofs.statement.repeat.Goals as goal
+
+pub returns : goal.returns
+returns c =
+    let whole = labelled_is c.in_ok-turns.turns c.in_ok-label.label ∙ (λ i. Labelled ((c.in_ok-turns.ensures ∙ ap one (loop_is c.args.front c.args.behind)) i) (c.in_ok-label.ensures i)) in
+    on_ok_then c.then.result (λ last. last ∙ ap (λ s. before (plain_stmts c.args.to.now.items) (one s)) whole) c.then.ensures
