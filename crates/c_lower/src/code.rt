@@ -6,7 +6,7 @@ use c_syntax::Kind;
 use mon_syntax::{MemoryCall, MonOp, MonType};
 
 /// One instruction of the stack machine. A jump says how many instructions it passes.
-#[derive(Clone, Copy, PartialEq, Eq, Debug)]
+#[derive(Clone, Copy)]
 pub enum Instr {
     /// A number onto the stack.
     Push(i64),
@@ -56,7 +56,7 @@ pub enum Instr {
 const _: () = prove!(std::mem::size_of::<Instr>() <= 16);
 
 /// Where a function begins in the code, and how many registers its calls have.
-#[derive(Clone, Copy, PartialEq, Eq, Debug)]
+#[derive(Clone, Copy)]
 pub struct Entry {
     pub start: usize,
     pub registers: usize,

@@ -1,12 +1,12 @@
 //! The code of expressions.
 
-ghost use Rattle.std.specs.Prelude.{◌≡◌, ◌++◌, map, OnOk};
+ghost use Rattle.std.specs.Prelude.{◌≡◌, ◌∷◌, ◌++◌, map, OnOk};
 ghost use Rattle.mon_syntax.specs.Trees.{plain_expr};
 ghost use Rattle.c_lower.specs.Code.{arguments_code, constant_code, expression_code};
 
 use crate::backward::Backward;
 use crate::code::Instr;
-use mon_syntax::MonExpr;
+use mon_syntax::{MonExpr, MonExprKind};
 use std::alloc::AllocError;
 
 // A number of at most 64 bits at once, another one by its high bits and then its 64 low ones.
@@ -23,30 +23,30 @@ fn emit_constant(code: &mut Backward, z: i128) -> Result<(), AllocError>
     }
 }
 
+/// Writes the code of an expression, and an instruction behind it that takes its value.
+#[cycle(expression)]
+pub fn emit_operand(code: &mut Backward, e: &MonExpr, taken_by: Instr) -> Result<(), AllocError>
+    ensures { OnOk result (code.new ≡ expression_code (plain_expr e.now) ++ taken_by ∷ code.old) }
+{
+    code.put(taken_by)?;
+    emit_expression(code, e)
+}
+
 /// Writes the code of an expression, whose operands come first, from left to right.
+#[cycle(expression)]
 pub fn emit_expression(code: &mut Backward, e: &MonExpr) -> Result<(), AllocError>
     ensures { OnOk result (code.new ≡ expression_code (plain_expr e.now) ++ code.old) }
 {
-    match e {
-        MonExpr::Register(r) => code.put(Instr::Get(*r)),
-        MonExpr::Constant(_, z) => emit_constant(code, *z),
-        MonExpr::Binary(op, t, a, b) => {
-            code.put(Instr::Binary(*op, *t))?;
-            emit_expression(code, b)?;
+    match &*e.kind {
+        MonExprKind::Register(r) => code.put(Instr::Get(*r)),
+        MonExprKind::Constant(_, z) => emit_constant(code, *z),
+        MonExprKind::Binary(op, t, a, b) => {
+            emit_operand(code, b, Instr::Binary(*op, *t))?;
             emit_expression(code, a)
         }
-        MonExpr::Minus(t, a) => {
-            code.put(Instr::Minus(*t))?;
-            emit_expression(code, a)
-        }
-        MonExpr::Flip(t, a) => {
-            code.put(Instr::Flip(*t))?;
-            emit_expression(code, a)
-        }
-        MonExpr::Cast(t, a) => {
-            code.put(Instr::Cast(*t))?;
-            emit_expression(code, a)
-        }
+        MonExprKind::Minus(t, a) => emit_operand(code, a, Instr::Minus(*t)),
+        MonExprKind::Flip(t, a) => emit_operand(code, a, Instr::Flip(*t)),
+        MonExprKind::Cast(t, a) => emit_operand(code, a, Instr::Cast(*t)),
     }
 }
 

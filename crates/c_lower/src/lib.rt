@@ -12,6 +12,3 @@ mod statements;
 
 pub use code::{Code, Entry, Instr};
 pub use program::lower;
-
-#[cfg(test)]
-mod tests;

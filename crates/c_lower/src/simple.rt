@@ -1,25 +1,17 @@
 //! The code of statements that hold no others.
 
 ghost use Rattle.std.specs.Prelude.{◌≡◌, ◌∷◌, [], ◌++◌, map, option_map, length, OnOk};
-ghost use Rattle.mon_syntax.specs.Trees.{Act, Assert, Call, Exit, GetChar, Goto, PrintSigned, PrintText, PutChar, Return, Set, plain_expr};
+ghost use Rattle.mon_syntax.specs.Trees.{Act, Assert, Call, GetChar, Goto, PrintText, PutChar, Return, plain_expr};
 ghost use Rattle.c_lower.specs.Code.{result_code, statement_code};
 ghost use Rattle.c_lower.specs.Labels.{open_labels};
 
 use crate::backward::Backward;
 use crate::code::Instr;
-use crate::expressions::{emit_arguments, emit_expression};
+use crate::expressions::{emit_arguments, emit_expression, emit_operand};
 use crate::labels::{Labels, behind_label};
 use c_syntax::Kind;
 use mon_syntax::{MemoryCall, MonExpr};
 use std::alloc::AllocError;
-
-/// `R = e;`
-pub fn emit_set(code: &mut Backward, r: u32, e: &MonExpr) -> Result<(), AllocError>
-    ensures { OnOk result (code.new ≡ statement_code (Set r (plain_expr e.now)) 0 [] ++ code.old) }
-{
-    code.put(Instr::Put(r))?;
-    emit_expression(code, e)
-}
 
 /// `__e_acsl_assert(d, v, number, line, kind);`
 pub fn emit_assert(
@@ -32,8 +24,7 @@ pub fn emit_assert(
 ) -> Result<(), AllocError>
     ensures { OnOk result (code.new ≡ statement_code (Assert (plain_expr d.now) (plain_expr v.now) number line kind) 0 [] ++ code.old) }
 {
-    code.put(Instr::Assert(number, line, kind))?;
-    emit_expression(code, v)?;
+    emit_operand(code, v, Instr::Assert(number, line, kind))?;
     emit_expression(code, d)
 }
 
@@ -52,8 +43,7 @@ pub fn emit_put_char(code: &mut Backward, r: Option<u32>, e: &MonExpr) -> Result
     ensures { OnOk result (code.new ≡ statement_code (PutChar r (plain_expr e.now)) 0 [] ++ code.old) }
 {
     code.put(result_of(r))?;
-    code.put(Instr::PutChar)?;
-    emit_expression(code, e)
+    emit_operand(code, e, Instr::PutChar)
 }
 
 /// `getchar();`, or `R = getchar();`
@@ -92,14 +82,6 @@ pub fn emit_call(
     emit_arguments(code, args)
 }
 
-/// `exit(e);`
-pub fn emit_exit(code: &mut Backward, e: &MonExpr) -> Result<(), AllocError>
-    ensures { OnOk result (code.new ≡ statement_code (Exit (plain_expr e.now)) 0 [] ++ code.old) }
-{
-    code.put(Instr::Exit)?;
-    emit_expression(code, e)
-}
-
 /// `__e_acsl_print_text("..");`
 pub fn emit_text(code: &mut Backward, bytes: &[u8]) -> Result<(), AllocError>
     ensures { OnOk result (code.new ≡ statement_code (PrintText bytes.now) 0 [] ++ code.old) }
@@ -110,14 +92,6 @@ pub fn emit_text(code: &mut Backward, bytes: &[u8]) -> Result<(), AllocError>
         code.put(Instr::PutByte(bytes[left]))?;
     }
     Ok(())
-}
-
-/// A number in decimal, whichever its sign.
-pub fn emit_number(code: &mut Backward, e: &MonExpr) -> Result<(), AllocError>
-    ensures { OnOk result (code.new ≡ statement_code (PrintSigned (plain_expr e.now)) 0 [] ++ code.old) }
-{
-    code.put(Instr::PutNumber)?;
-    emit_expression(code, e)
 }
 
 /// `goto LABEL;`: without a body of that label the machine faults there.

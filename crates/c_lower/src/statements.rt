@@ -1,7 +1,7 @@
 //! The code of statements.
 
 ghost use Rattle.std.specs.Prelude.{◌≡◌, ℕ, ◌+◌, ◌-◌, ◌≤◌, ◌<◌, List, ◌∷◌, ◌++◌, length, OnOk};
-ghost use Rattle.mon_syntax.specs.Trees.{plain_expr, plain_stmt, plain_stmts};
+ghost use Rattle.mon_syntax.specs.Trees.{If, Labelled, Loop, plain_expr, plain_stmt, plain_stmts};
 ghost use Rattle.c_lower.specs.declared.code.Instr.{Instr};
 ghost use Rattle.c_lower.specs.declared.code.Instr.TheVariants as instr;
 ghost use Rattle.c_lower.specs.Code.{expression_code, statement_code, statements_code};
@@ -9,13 +9,13 @@ ghost use Rattle.c_lower.specs.Labels.{open_labels};
 
 use crate::backward::Backward;
 use crate::code::Instr;
-use crate::expressions::emit_expression;
+use crate::expressions::{emit_expression, emit_operand};
 use crate::labels::Labels;
 use crate::simple::{
-    emit_act, emit_assert, emit_call, emit_exit, emit_get_char, emit_goto, emit_number,
-    emit_put_char, emit_return, emit_set, emit_text,
+    emit_act, emit_assert, emit_call, emit_get_char, emit_goto, emit_put_char, emit_return,
+    emit_text,
 };
-use mon_syntax::{MonExpr, MonStmt};
+use mon_syntax::{MonExpr, MonStmt, MonStmtKind};
 use std::alloc::AllocError;
 
 // A jump behind what was written since so many instructions stood.
@@ -47,45 +47,82 @@ fn close_loop(code: &mut Backward, end: usize, middle: usize) -> Result<(), Allo
     code.put(Instr::GoOn(behind + 1))
 }
 
+// The code of a choice: the second branch, the jump behind it, the first branch, and the test.
+#[cycle(statement)]
+fn emit_choice(
+    code: &mut Backward,
+    e: &MonExpr,
+    first: &[MonStmt],
+    second: &[MonStmt],
+    labels: &Labels<'_>,
+) -> Result<(), AllocError>
+    ensures { OnOk result (code.new ≡ statement_code (If (plain_expr e.now) (plain_stmts first.now) (plain_stmts second.now)) (length code.old) (open_labels labels.now) ++ code.old) }
+{
+    let end = code.len();
+    emit_statements(code, second, labels)?;
+    pass_since(code, end)?;
+    let middle = code.len();
+    emit_statements(code, first, labels)?;
+    emit_test(code, e, middle)
+}
+
+// The code of a loop: the jump back, what stands before the step, and what stands behind it.
+#[cycle(statement)]
+fn emit_loop(
+    code: &mut Backward,
+    before: &[MonStmt],
+    behind: &[MonStmt],
+    labels: &Labels<'_>,
+) -> Result<(), AllocError>
+    ensures { OnOk result (code.new ≡ statement_code (Loop (plain_stmts before.now) (plain_stmts behind.now)) (length code.old) (open_labels labels.now) ++ code.old) }
+{
+    let end = code.len();
+    code.put(Instr::GoBack(0))?;
+    emit_statements(code, before, labels)?;
+    let middle = code.len();
+    emit_statements(code, behind, labels)?;
+    close_loop(code, end, middle)
+}
+
+// The code of a body with a label behind its end.
+#[cycle(statement)]
+fn emit_labelled(
+    code: &mut Backward,
+    body: &[MonStmt],
+    label: &[u8],
+    labels: &Labels<'_>,
+) -> Result<(), AllocError>
+    ensures { OnOk result (code.new ≡ statement_code (Labelled (plain_stmts body.now) label.now) (length code.old) (open_labels labels.now) ++ code.old) }
+{
+    let inside = Labels::Inside(&*labels, label, code.len());
+    emit_statements(code, body, &inside)
+}
+
 /// Writes the code of a statement, in bodies with these labels.
 #[cycle(statement)]
 fn emit_statement(code: &mut Backward, s: &MonStmt, labels: &Labels<'_>) -> Result<(), AllocError>
     ensures { OnOk result (code.new ≡ statement_code (plain_stmt s.now) (length code.old) (open_labels labels.now) ++ code.old) }
 {
-    match s {
-        MonStmt::Set(r, e) => emit_set(code, *r, e),
-        MonStmt::Step => code.put(Instr::Step),
-        MonStmt::Assert(d, v, number, line, kind) => emit_assert(code, d, v, *number, *line, *kind),
-        MonStmt::PutChar(r, e) => emit_put_char(code, *r, e),
-        MonStmt::GetChar(r) => emit_get_char(code, *r),
-        MonStmt::Exit(e) => emit_exit(code, e),
-        MonStmt::PrintText(text) => emit_text(code, text.bytes()),
-        MonStmt::PrintSigned(e) => emit_number(code, e),
-        MonStmt::PrintUnsigned(e) => emit_number(code, e),
-        MonStmt::Act(r, f, args) => emit_act(code, *r, *f, args),
-        MonStmt::Call(r, f, args) => emit_call(code, *r, *f, args),
-        MonStmt::If(e, a, b) => {
-            let end = code.len();
-            emit_statements(code, b, labels)?;
-            pass_since(code, end)?;
-            let middle = code.len();
-            emit_statements(code, a, labels)?;
-            emit_test(code, e, middle)
+    match &*s.kind {
+        MonStmtKind::Set(r, e) => emit_operand(code, e, Instr::Put(*r)),
+        MonStmtKind::Step => code.put(Instr::Step),
+        MonStmtKind::Assert(d, v, number, line, kind) => {
+            emit_assert(code, d, v, *number, *line, *kind)
         }
-        MonStmt::Loop(before, behind) => {
-            let end = code.len();
-            code.put(Instr::GoBack(0))?;
-            emit_statements(code, before, labels)?;
-            let middle = code.len();
-            emit_statements(code, behind, labels)?;
-            close_loop(code, end, middle)
+        MonStmtKind::PutChar(r, e) => emit_put_char(code, *r, e),
+        MonStmtKind::GetChar(r) => emit_get_char(code, *r),
+        MonStmtKind::Exit(e) => emit_operand(code, e, Instr::Exit),
+        MonStmtKind::PrintText(text) => emit_text(code, text.bytes()),
+        MonStmtKind::PrintSigned(e) | MonStmtKind::PrintUnsigned(e) => {
+            emit_operand(code, e, Instr::PutNumber)
         }
-        MonStmt::Labelled(body, label) => {
-            let inside = Labels::Inside(&*labels, label.bytes(), code.len());
-            emit_statements(code, body, &inside)
-        }
-        MonStmt::Goto(label) => emit_goto(code, label.bytes(), labels),
-        MonStmt::Return(e) => emit_return(code, e),
+        MonStmtKind::Act(r, f, args) => emit_act(code, *r, *f, args),
+        MonStmtKind::Call(r, f, args) => emit_call(code, *r, *f, args),
+        MonStmtKind::If(e, a, b) => emit_choice(code, e, a, b, labels),
+        MonStmtKind::Loop(before, behind) => emit_loop(code, before, behind, labels),
+        MonStmtKind::Labelled(body, label) => emit_labelled(code, body, label.bytes(), labels),
+        MonStmtKind::Goto(label) => emit_goto(code, label.bytes(), labels),
+        MonStmtKind::Return(e) => emit_return(code, e),
     }
 }
 

@@ -13,4 +13,3 @@ pub mod Courses
 pub mod Measure
 pub mod Finished
 pub mod Depths
-pub mod Sound

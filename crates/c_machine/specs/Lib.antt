@@ -5,5 +5,4 @@ pub mod Reading
 pub mod Held
 pub mod Acts
 pub mod Whole
-pub mod Checked
 pub mod Runs

@@ -4,16 +4,12 @@
 mod arithmetic;
 mod blocks;
 mod calls;
-#[cfg(test)]
-mod checked;
 mod depth;
 mod machine;
 mod memory;
 mod quiet;
 mod reading;
 pub mod stop;
-#[cfg(test)]
-mod tests;
 mod turn;
 mod whole;
 mod writing;

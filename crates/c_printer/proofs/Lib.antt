@@ -1,5 +1,4 @@
 pub mod Behind
-pub mod Deeper
 pub mod Names
 pub mod Texts
 pub mod Written

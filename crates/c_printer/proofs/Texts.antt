@@ -7,20 +7,19 @@ use Rattle.std.specs.Prelude.{suc, pos, negsuc, false, ◌/◌, ◌%◌, if◌th
 use Rattle.std.proofs.lemmas.Fmt.{decimal_digit}
 use Rattle.mon_syntax.specs.declared.tree.MonFunc.{MonFunc}
 use Rattle.mon_syntax.specs.declared.tree.MonStmt.{MonStmt}
+use Rattle.mon_syntax.specs.declared.tree.MonStmtKind.{MonStmtKind}
 use Rattle.mon_syntax.specs.declared.tree.Register.{Register}
 use Rattle.std.specs.Prelude.{codes}
 use Rattle.c_syntax.specs.declared.annotation.Kind.{Kind}
 use Rattle.c_model.specs.Reports.{kind_word}
 use Rattle.mon_syntax.specs.declared.tree.MonExpr.{MonExpr}
+use Rattle.mon_syntax.specs.declared.tree.MonExprKind.{MonExprKind}
 use Rattle.mon_syntax.specs.declared.tree.MonType.{MonType}
 use Rattle.mon_syntax.specs.declared.tree.MonOp.{MonOp}
 use Rattle.mon_syntax.specs.Names.{constant_word, type_word}
-use Rattle.mon_syntax.specs.Trees.{MonExpression, Constant, Binary, Minus, Flip, Cast, Set, Assert, Return, If, Loop, Labelled, MonStatements, MonRegister, MonFunction, plain_expr, plain_stmt, plain_stmts, plain_register, plain_func}
+use Rattle.mon_syntax.specs.Trees.{MonExpression, Constant, Binary, Minus, Flip, Cast, Set, Assert, Return, If, Loop, Labelled, MonStatement, MonStatements, MonRegister, MonFunction, plain_expr, plain_expr_kind, plain_stmt, plain_stmt_kind, plain_stmts, plain_register, plain_func}
 use Rattle.mon_syntax.specs.Text.{Piece, FunctionNames, arguments_pieces, more_arguments, set_or_none, Word, Mark, escaped, is_plain, Registers, Quoted, blank, body_pieces, new_line, right_paren, statements_pieces, registers_pieces, more_parameters, function_pieces, functions_pieces, assert_arguments, call_pieces, expression_pieces, name_of, number_pieces, operator_mark, parameter_pieces, parameters_pieces, result_word, in_parens, semicolon, set_pieces, spelled, spelled_piece, statement_pieces}
-use Rattle.std.specs.Prelude.{Vec, Option, option_map}
-use Rattle.std.specs.declared.alloc.Global.{Global}
-use Rattle.mon_syntax.specs.declared.tree.MonStmt as code
-use Rattle.mon_syntax.proofs.Rows.{if_is, loop_is, labelled_is}
+use Rattle.std.specs.Prelude.{Option, option_map}
 use Rattle.c_printer.specs.Heads.{head_pieces}
 
 pub spelled_append : (a b : List Piece) → spelled (a ++ b) ≡ spelled a ++ spelled b
@@ -41,9 +40,12 @@ number_text (negsuc n) = ap (λ l. 45 ∷ l) (append-nil (decimal (suc n)))
 pub escaped_text : (b : ℕ) → is_plain b ≡ false → escaped b ≡ 92 ∷ (48 + b / 64) ∷ (48 + b / 8 % 8) ∷ (48 + b % 8) ∷ []
 escaped_text b other = ap (λ is. if is then b ∷ [] else 92 ∷ (48 + b / 64) ∷ (48 + b / 8 % 8) ∷ (48 + b % 8) ∷ []) other
 
-pub binary_text : (rs : Registers) (op : MonOp) (t : MonType) (a b : MonExpression) → text rs (Binary op t a b) ≡ codes "(" ++ (text rs a ++ (codes " " ++ (operator_mark op ++ (codes " " ++ (text rs b ++ codes ")")))))
+pub binary_text : (rs : Registers) (op : MonOp) (t : MonType) (a b : MonExpression) → text rs (Binary op t a b) ≡ (codes "(" ++ (text rs a ++ codes " ")) ++ (operator_mark op ++ (codes " " ++ (text rs b ++ codes ")")))
 binary_text rs op t a b =
-    ap (λ l. 40 ∷ l) (spelled_append (expression_pieces rs a) _ ∙ ap (λ l. text rs a ++ (32 ∷ (operator_mark op ++ (32 ∷ l)))) (spelled_append (expression_pieces rs b) _))
+    ap (λ l. 40 ∷ l)
+    (spelled_append (expression_pieces rs a) _
+    ∙ ap (λ l. text rs a ++ (32 ∷ (operator_mark op ++ (32 ∷ l)))) (spelled_append (expression_pieces rs b) _)
+    ∙ sym (append_assoc (text rs a) (codes " ") (operator_mark op ++ (codes " " ++ (text rs b ++ codes ")")))))
 
 pub minus_text : (rs : Registers) (t : MonType) (a : MonExpression) → text rs (Minus t a) ≡ codes "(-" ++ (text rs a ++ codes ")")
 minus_text rs t a = ap (λ l. 40 ∷ 45 ∷ l) (spelled_append (expression_pieces rs a) _)
@@ -51,12 +53,14 @@ minus_text rs t a = ap (λ l. 40 ∷ 45 ∷ l) (spelled_append (expression_piece
 pub flip_text : (rs : Registers) (t : MonType) (a : MonExpression) → text rs (Flip t a) ≡ codes "(~" ++ (text rs a ++ codes ")")
 flip_text rs t a = ap (λ l. 40 ∷ 126 ∷ l) (spelled_append (expression_pieces rs a) _)
 
-pub cast_text : (rs : Registers) (t : MonType) (a : MonExpression) → text rs (Cast t a) ≡ codes "((" ++ (type_word t ++ (codes ")" ++ (text rs a ++ codes ")")))
-cast_text rs t a = ap (λ l. 40 ∷ 40 ∷ (type_word t ++ (41 ∷ l))) (spelled_append (expression_pieces rs a) _)
+pub cast_text : (rs : Registers) (t : MonType) (a : MonExpression) → text rs (Cast t a) ≡ (codes "((" ++ (type_word t ++ codes ")")) ++ (text rs a ++ codes ")")
+cast_text rs t a =
+    ap (λ l. 40 ∷ 40 ∷ l)
+    (ap (λ l. type_word t ++ (41 ∷ l)) (spelled_append (expression_pieces rs a) _) ∙ sym (append_assoc (type_word t) (codes ")") (text rs a ++ codes ")")))
 
 -- the text of a tree that is known
-pub at_expression : (rs : Registers) (e x : MonExpr) {bytes : List ℕ} → e ≡ x → text rs (plain_expr x) ≡ bytes → text rs (plain_expr e) ≡ bytes
-at_expression rs e x same is = ap (λ y. text rs (plain_expr y)) same ∙ is
+pub at_expression : (rs : Registers) (e x : MonExprKind) {bytes : List ℕ} → e ≡ x → text rs (plain_expr_kind x) ≡ bytes → text rs (plain_expr_kind e) ≡ bytes
+at_expression rs e x same is = ap (λ y. text rs (plain_expr_kind y)) same ∙ is
 
 pub assignment_text : (rs : Registers) (r : ℕ) (e : MonExpression) → spelled (statement_pieces [] rs 0 (Set r e)) ≡ spelled (set_pieces (name_of rs r)) ++ (text rs e ++ codes ";")
 assignment_text rs r e =
@@ -148,24 +152,14 @@ no_body_text gs rs depth (s ∷ rest) none = absurd (omega (arith, none))
 
 -- ---- the text of a statement that is known
 
-abbrev pub statement_text : FunctionNames → Registers → ℕ → MonStmt → List ℕ
-statement_text gs rs depth s = spelled (statement_pieces gs rs depth (plain_stmt s))
+abbrev pub statement_text : FunctionNames → Registers → ℕ → MonStmtKind → List ℕ
+statement_text gs rs depth s = spelled (statement_pieces gs rs depth (plain_stmt_kind s))
 
-abbrev body_of : FunctionNames → Registers → ℕ → Vec MonStmt Global → List ℕ
-body_of gs rs depth a = spelled (body_pieces gs rs depth (plain_stmts a.items))
-
-abbrev lines_of : FunctionNames → Registers → ℕ → Vec MonStmt Global → List ℕ
-lines_of gs rs depth a = spelled (statements_pieces gs rs depth (plain_stmts a.items))
-
--- the first two arguments of an assertion
-abbrev start_text : Registers → MonExpression → MonExpression → List ℕ
-start_text rs d v = codes "__e_acsl_assert(" ++ (text rs d ++ (codes ", " ++ (text rs v ++ codes ", ")))
-
-pub at_assert : (gs : FunctionNames) (rs : Registers) (depth : ℕ) (s : MonStmt) (d v : MonExpr) (number line : ℕ) (kind : Kind) → s ≡ code.Assert d v number line kind → statement_text gs rs depth s ≡ start_text rs (plain_expr d) (plain_expr v) ++ end_text number line kind
-at_assert gs rs depth s d v number line kind same =
-    ap (λ x. statement_text gs rs depth x) same ∙ assertion_text rs (plain_expr d) (plain_expr v) number line kind ∙ regrouped
+-- the first two arguments of an assertion, each with what is around it, and then the last ones
+pub assertion_parts : (rs : Registers) (d v : MonExpression) (number line : ℕ) (kind : Kind) → spelled (statement_pieces [] rs 0 (Assert d v number line kind)) ≡ (codes "__e_acsl_assert(" ++ (text rs d ++ codes ", ")) ++ ((text rs v ++ codes ", ") ++ end_text number line kind)
+assertion_parts rs d v number line kind = assertion_text rs d v number line kind ∙ regrouped
   where
-    regrouped : codes "__e_acsl_assert(" ++ (text rs (plain_expr d) ++ (codes ", " ++ (text rs (plain_expr v) ++ (codes ", " ++ end_text number line kind)))) ≡ start_text rs (plain_expr d) (plain_expr v) ++ end_text number line kind
+    regrouped : codes "__e_acsl_assert(" ++ (text rs d ++ (codes ", " ++ (text rs v ++ (codes ", " ++ end_text number line kind)))) ≡ (codes "__e_acsl_assert(" ++ (text rs d ++ codes ", ")) ++ ((text rs v ++ codes ", ") ++ end_text number line kind)
     regrouped = simp append_assoc
 
 -- a body around it changes nothing
@@ -173,28 +167,22 @@ pub return_anywhere : (gs : FunctionNames) (rs : Registers) (depth : ℕ) (value
 return_anywhere gs rs depth None = refl
 return_anywhere gs rs depth (Some e) = refl
 
-pub at_if : (gs : FunctionNames) (rs : Registers) (depth : ℕ) (s : MonStmt) (e : MonExpr) (a b : Vec MonStmt Global) → s ≡ code.If e a b → statement_text gs rs depth s ≡ (codes "if (" ++ (text rs (plain_expr e) ++ codes ") ")) ++ (body_of gs rs depth a ++ (codes " else " ++ body_of gs rs depth b))
-at_if gs rs depth s e a b same =
-    ap (λ x. statement_text gs rs depth x) same
-    ∙ ap (λ x. spelled (statement_pieces gs rs depth x)) (if_is e a b)
-    ∙ if_text gs rs depth (plain_expr e) (plain_stmts a.items) (plain_stmts b.items)
-    ∙ ap (λ l. codes "if (" ++ l) (sym (append_assoc (text rs (plain_expr e)) (codes ") ") (body_of gs rs depth a ++ (codes " else " ++ body_of gs rs depth b))))
+pub choice_text : (gs : FunctionNames) (rs : Registers) (depth : ℕ) (e : MonExpression) (a b : MonStatements) → spelled (statement_pieces gs rs depth (If e a b)) ≡ (codes "if (" ++ (text rs e ++ codes ") ")) ++ (spelled (body_pieces gs rs depth a) ++ (codes " else " ++ spelled (body_pieces gs rs depth b)))
+choice_text gs rs depth e a b =
+    let branches = spelled (body_pieces gs rs depth a) ++ (codes " else " ++ spelled (body_pieces gs rs depth b)) in
+    if_text gs rs depth e a b ∙ ap (λ l. codes "if (" ++ l) (sym (append_assoc (text rs e) (codes ") ") branches))
 
-pub at_loop : (gs : FunctionNames) (rs : Registers) (depth : ℕ) (s : MonStmt) (a b : Vec MonStmt Global) → s ≡ code.Loop a b → statement_text gs rs depth s ≡ codes "while (1) {" ++ (lines_of gs rs (depth + 1) a ++ ((spelled_piece (new_line (depth + 1)) ++ codes "__e_acsl_step();") ++ (lines_of gs rs (depth + 1) b ++ (spelled_piece (new_line depth) ++ codes "}"))))
-at_loop gs rs depth s a b same =
-    let step = append_assoc (spelled_piece (new_line (depth + 1))) (codes "__e_acsl_step();") (lines_of gs rs (depth + 1) b ++ (spelled_piece (new_line depth) ++ codes "}")) in
-    ap (λ x. statement_text gs rs depth x) same
-    ∙ ap (λ x. spelled (statement_pieces gs rs depth x)) (loop_is a b)
-    ∙ loop_text gs rs depth (plain_stmts a.items) (plain_stmts b.items)
-    ∙ ap (λ l. codes "while (1) {" ++ (lines_of gs rs (depth + 1) a ++ l)) (sym step)
+pub turns_text : (gs : FunctionNames) (rs : Registers) (depth : ℕ) (a b : MonStatements) → spelled (statement_pieces gs rs depth (Loop a b)) ≡ codes "while (1) {" ++ (spelled (statements_pieces gs rs (depth + 1) a) ++ ((spelled_piece (new_line (depth + 1)) ++ codes "__e_acsl_step();") ++ (spelled (statements_pieces gs rs (depth + 1) b) ++ (spelled_piece (new_line depth) ++ codes "}"))))
+turns_text gs rs depth a b =
+    let behind = spelled (statements_pieces gs rs (depth + 1) b) ++ (spelled_piece (new_line depth) ++ codes "}") in
+    let step = append_assoc (spelled_piece (new_line (depth + 1))) (codes "__e_acsl_step();") behind in
+    loop_text gs rs depth a b ∙ ap (λ l. codes "while (1) {" ++ (spelled (statements_pieces gs rs (depth + 1) a) ++ l)) (sym step)
 
-pub at_labelled : (gs : FunctionNames) (rs : Registers) (depth : ℕ) (s : MonStmt) (a : Vec MonStmt Global) (label : List ℕ) → s ≡ code.Labelled a label → statement_text gs rs depth s ≡ body_of gs rs depth a ++ (codes " " ++ (label ++ codes ": ;"))
-at_labelled gs rs depth s a label same =
-    ap (λ x. statement_text gs rs depth x) same
-    ∙ ap (λ x. spelled (statement_pieces gs rs depth x)) (labelled_is a label)
-    ∙ labelled_text gs rs depth (plain_stmts a.items) label
+-- a statement of this form
+pub at_kind : (gs : FunctionNames) (rs : Registers) (depth : ℕ) (s k : MonStmtKind) (x : MonStatement) → s ≡ k → plain_stmt_kind k ≡ x → statement_text gs rs depth s ≡ spelled (statement_pieces gs rs depth x)
+at_kind gs rs depth s k x same is = ap (statement_text gs rs depth) same ∙ ap (λ y. spelled (statement_pieces gs rs depth y)) is
 
-pub statements_each : (gs : FunctionNames) (rs : Registers) (depth : ℕ) (s : MonStmt) (rest : List MonStmt) → spelled (statements_pieces gs rs depth (plain_stmts (s ∷ rest))) ≡ (spelled_piece (new_line depth) ++ statement_text gs rs depth s) ++ spelled (statements_pieces gs rs depth (plain_stmts rest))
+pub statements_each : (gs : FunctionNames) (rs : Registers) (depth : ℕ) (s : MonStmt) (rest : List MonStmt) → spelled (statements_pieces gs rs depth (plain_stmts (s ∷ rest))) ≡ (spelled_piece (new_line depth) ++ statement_text gs rs depth s.kind.value) ++ spelled (statements_pieces gs rs depth (plain_stmts rest))
 statements_each gs rs depth s rest =
     let line = spelled_piece (new_line depth) in
     let first : List Piece = statement_pieces gs rs depth (plain_stmt s) in
@@ -217,9 +205,11 @@ parameters_text (r ∷ rest) first some same =
     ∙ ap (λ x. spelled (parameter_pieces (plain_register x)) ++ spelled (more_parameters (map plain_register rest))) (sym same)
     ∙ ap (λ x. spelled (parameter_pieces (plain_register first)) ++ spelled (more_parameters (map plain_register x))) (sym others)
 
-pub head_text : (f : MonFunction) → spelled (head_pieces f) ≡ result_word f.result ++ (codes " " ++ (f.name ++ (codes "(" ++ (spelled (parameters_pieces f.parameters) ++ (codes ") {" ++ spelled (registers_pieces f.registers))))))
+pub head_text : (f : MonFunction) → spelled (head_pieces f) ≡ (result_word f.result ++ (codes " " ++ f.name)) ++ (codes "(" ++ (spelled (parameters_pieces f.parameters) ++ (codes ") {" ++ spelled (registers_pieces f.registers))))
 head_text f =
+    let rest = codes "(" ++ (spelled (parameters_pieces f.parameters) ++ (codes ") {" ++ spelled (registers_pieces f.registers))) in
     ap (λ l. result_word f.result ++ (32 ∷ (f.name ++ (40 ∷ l)))) (in_parens_text (parameters_pieces f.parameters) (blank ∷ Mark (codes "{") ∷ registers_pieces f.registers))
+    ∙ sym (append_assoc (result_word f.result) (codes " " ++ f.name) rest)
 
 pub function_text : (gs : FunctionNames) (f : MonFunction) → spelled (function_pieces gs f) ≡ spelled (head_pieces f) ++ (spelled (statements_pieces gs (f.parameters ++ f.registers) 1 f.body) ++ ((spelled_piece (new_line 0) ++ codes "}") ++ spelled_piece (new_line 0)))
 function_text gs f =

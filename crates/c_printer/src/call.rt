@@ -6,7 +6,7 @@ ghost use Rattle.mon_syntax.specs.Text.{arguments_pieces, call_pieces, expressio
 ghost use Rattle.c_printer.specs.Printing.{Printed, pipe_of};
 ghost use Rattle.c_printer.specs.Registers.{functions_of, registers_of};
 
-use crate::expression::{Named, expression, name};
+use crate::expression::{Named, between, expression, name};
 use crate::writer::Writer;
 use ea_ports::Sink;
 use mon_syntax::MonExpr;
@@ -34,9 +34,7 @@ pub fn call<O: Sink>(callee: &[u8], e: &MonExpr, named: &Named<'_>, to: &mut Wri
     ensures { Printed (pipe_of (O.told out.old) to.old (O.faults out.old)) (pipe_of (O.told out.new) to.new (O.faults out.new)) (spelled (call_pieces callee.now (expression_pieces (registers_of named.now) (plain_expr e.now)))) }
 {
     to.write(out, callee);
-    to.write(out, b"(");
-    expression(e, named, to, out);
-    to.write(out, b");");
+    between(b"(", e, b");", named, to, out);
 }
 
 /// `putchar(e);`, or `R = putchar(e);`

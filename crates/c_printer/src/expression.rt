@@ -1,6 +1,6 @@
 //! Expressions.
 
-ghost use Rattle.std.specs.Prelude.{◌≡◌, []};
+ghost use Rattle.std.specs.Prelude.{◌≡◌, [], ◌++◌};
 ghost use Rattle.mon_syntax.specs.Trees.{Constant, plain_expr};
 ghost use Rattle.mon_syntax.specs.Text.{expression_pieces, name_of, spelled};
 ghost use Rattle.c_printer.specs.Printing.{Printed, pipe_of};
@@ -10,7 +10,7 @@ use crate::strings::signed_number;
 use crate::words::{constant_word, operator_mark, type_word};
 use crate::writer::Writer;
 use ea_ports::Sink;
-use mon_syntax::{MonExpr, MonFunc, MonType, Register};
+use mon_syntax::{MonExpr, MonExprKind, MonFunc, MonType, Register};
 
 /// The functions of a program, and the registers of one of them, of which the parameters have the first numbers.
 #[derive(Clone, Copy)]
@@ -44,38 +44,41 @@ fn constant<O: Sink>(t: MonType, z: i128, to: &mut Writer, out: &mut O)
     to.write(out, b")");
 }
 
+/// An expression between other bytes.
+#[cycle(expression)]
+pub fn between<O: Sink>(
+    front: &[u8],
+    e: &MonExpr,
+    behind: &[u8],
+    named: &Named<'_>,
+    to: &mut Writer,
+    out: &mut O,
+)
+    ensures { Printed (pipe_of (O.told out.old) to.old (O.faults out.old)) (pipe_of (O.told out.new) to.new (O.faults out.new)) (front.now ++ (spelled (expression_pieces (registers_of named.now) (plain_expr e.now)) ++ behind.now)) }
+{
+    to.write(out, front);
+    expression(e, named, to, out);
+    to.write(out, behind);
+}
+
 /// An expression, in parentheses where it isn't a register or a constant.
+#[cycle(expression)]
 pub fn expression<O: Sink>(e: &MonExpr, named: &Named<'_>, to: &mut Writer, out: &mut O)
     ensures { Printed (pipe_of (O.told out.old) to.old (O.faults out.old)) (pipe_of (O.told out.new) to.new (O.faults out.new)) (spelled (expression_pieces (registers_of named.now) (plain_expr e.now))) }
 {
-    match e {
-        MonExpr::Register(r) => to.write(out, name(named, *r)),
-        MonExpr::Constant(t, z) => constant(*t, *z, to, out),
-        MonExpr::Binary(op, _, a, b) => {
-            to.write(out, b"(");
-            expression(a, named, to, out);
-            to.write(out, b" ");
+    match &*e.kind {
+        MonExprKind::Register(r) => to.write(out, name(named, *r)),
+        MonExprKind::Constant(t, z) => constant(*t, *z, to, out),
+        MonExprKind::Binary(op, _, a, b) => {
+            between(b"(", a, b" ", named, to, out);
             to.write(out, operator_mark(*op).as_bytes());
-            to.write(out, b" ");
-            expression(b, named, to, out);
-            to.write(out, b")");
+            between(b" ", b, b")", named, to, out);
         }
-        MonExpr::Minus(_, a) => {
-            to.write(out, b"(-");
-            expression(a, named, to, out);
-            to.write(out, b")");
-        }
-        MonExpr::Flip(_, a) => {
-            to.write(out, b"(~");
-            expression(a, named, to, out);
-            to.write(out, b")");
-        }
-        MonExpr::Cast(t, a) => {
-            to.write(out, b"((");
-            to.write(out, type_word(*t).as_bytes());
-            to.write(out, b")");
-            expression(a, named, to, out);
-            to.write(out, b")");
+        MonExprKind::Minus(_, a) => between(b"(-", a, b")", named, to, out),
+        MonExprKind::Flip(_, a) => between(b"(~", a, b")", named, to, out),
+        MonExprKind::Cast(t, a) => {
+            to.write_three(out, b"((", type_word(*t).as_bytes(), b")");
+            between(b"", a, b")", named, to, out);
         }
     }
 }

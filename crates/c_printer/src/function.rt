@@ -19,9 +19,7 @@ use mon_syntax::{MonFunc, Register};
 fn declared<O: Sink>(r: &Register, to: &mut Writer, out: &mut O)
     ensures { Printed (pipe_of (O.told out.old) to.old (O.faults out.old)) (pipe_of (O.told out.new) to.new (O.faults out.new)) (spelled (parameter_pieces (plain_register r.now))) }
 {
-    to.write(out, type_word(r.kind).as_bytes());
-    to.write(out, b" ");
-    to.write(out, r.name.bytes());
+    to.write_three(out, type_word(r.kind).as_bytes(), b" ", r.name.bytes());
 }
 
 // The parameters behind the first.
@@ -63,9 +61,7 @@ fn registers<O: Sink>(list: &[Register], to: &mut Writer, out: &mut O)
 fn head<O: Sink>(f: &MonFunc, to: &mut Writer, out: &mut O)
     ensures { Printed (pipe_of (O.told out.old) to.old (O.faults out.old)) (pipe_of (O.told out.new) to.new (O.faults out.new)) (spelled (head_pieces (plain_func f.now))) }
 {
-    to.write(out, result_word(f.result).as_bytes());
-    to.write(out, b" ");
-    to.write(out, f.name.bytes());
+    to.write_three(out, result_word(f.result).as_bytes(), b" ", f.name.bytes());
     to.write(out, b"(");
     parameters(&f.parameters, to, out);
     to.write(out, b") {");

@@ -8,8 +8,6 @@ mod line;
 mod program;
 mod statement;
 mod strings;
-#[cfg(test)]
-mod tests;
 mod words;
 mod writer;
 

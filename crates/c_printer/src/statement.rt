@@ -1,23 +1,21 @@
 //! Statements.
 
 ghost use Rattle.std.specs.Prelude.{[], ◌++◌, option_map, codes};
-ghost use Rattle.std.specs.Fmt.{decimal};
-ghost use Rattle.c_model.specs.Reports.{kind_word};
-ghost use Rattle.mon_syntax.specs.Trees.{Goto, PrintText, Return, Set, plain_expr, plain_stmt, plain_stmts};
-ghost use Rattle.mon_syntax.specs.Text.{Quoted, body_pieces, expression_pieces, new_line, spelled, spelled_piece, statement_pieces, statements_pieces};
+ghost use Rattle.mon_syntax.specs.Trees.{Assert, If, Labelled, Loop, PrintText, Return, Set, plain_expr, plain_stmt, plain_stmts};
+ghost use Rattle.mon_syntax.specs.Text.{body_pieces, new_line, spelled, spelled_piece, statement_pieces, statements_pieces};
 ghost use Rattle.c_printer.specs.Depths.{depth_of};
 ghost use Rattle.c_printer.specs.Printing.{Printed, pipe_of};
 ghost use Rattle.c_printer.specs.Registers.{functions_of, registers_of};
 
 use crate::call::{call, call_with, callee, put_char, set};
-use crate::expression::{Named, expression};
+use crate::expression::{Named, between, expression};
 use crate::line::{Depth, closing, line};
 use crate::strings::{number, string};
 use crate::words::{kind_word, memory_word};
 use crate::writer::Writer;
 use c_syntax::Kind;
 use ea_ports::Sink;
-use mon_syntax::{MonExpr, MonStmt};
+use mon_syntax::{MonExpr, MonStmt, MonStmtKind};
 
 // `R = e;`
 fn assignment<O: Sink>(r: u32, e: &MonExpr, named: &Named<'_>, to: &mut Writer, out: &mut O)
@@ -28,27 +26,21 @@ fn assignment<O: Sink>(r: u32, e: &MonExpr, named: &Named<'_>, to: &mut Writer, 
     to.write(out, b";");
 }
 
-// `__e_acsl_assert(d, v, `
-fn assertion_start<O: Sink>(
+// `__e_acsl_assert(d, v, A, L, "kind");`
+fn assertion<O: Sink>(
     d: &MonExpr,
     v: &MonExpr,
+    annotation: u32,
+    line: u32,
+    kind: Kind,
     named: &Named<'_>,
     to: &mut Writer,
     out: &mut O,
 )
-    ensures { Printed (pipe_of (O.told out.old) to.old (O.faults out.old)) (pipe_of (O.told out.new) to.new (O.faults out.new)) (codes "__e_acsl_assert(" ++ (spelled (expression_pieces (registers_of named.now) (plain_expr d.now)) ++ (codes ", " ++ (spelled (expression_pieces (registers_of named.now) (plain_expr v.now)) ++ codes ", ")))) }
+    ensures { Printed (pipe_of (O.told out.old) to.old (O.faults out.old)) (pipe_of (O.told out.new) to.new (O.faults out.new)) (spelled (statement_pieces [] (registers_of named.now) 0 (Assert (plain_expr d.now) (plain_expr v.now) annotation line kind))) }
 {
-    to.write(out, b"__e_acsl_assert(");
-    expression(d, named, to, out);
-    to.write(out, b", ");
-    expression(v, named, to, out);
-    to.write(out, b", ");
-}
-
-// `A, L, "kind");`
-fn assertion_end<O: Sink>(annotation: u32, line: u32, kind: Kind, to: &mut Writer, out: &mut O)
-    ensures { Printed (pipe_of (O.told out.old) to.old (O.faults out.old)) (pipe_of (O.told out.new) to.new (O.faults out.new)) (decimal annotation ++ (codes ", " ++ (decimal line ++ (codes ", " ++ (spelled_piece (Quoted (kind_word kind)) ++ codes ");"))))) }
-{
+    between(b"__e_acsl_assert(", d, b", ", named, to, out);
+    between(b"", v, b", ", named, to, out);
     number(annotation, to, out);
     to.write(out, b", ");
     number(line, to, out);
@@ -66,45 +58,14 @@ fn print_text<O: Sink>(bytes: &[u8], to: &mut Writer, out: &mut O)
     to.write(out, b");");
 }
 
-// ` LABEL: ;`
-fn label_end<O: Sink>(label: &[u8], to: &mut Writer, out: &mut O)
-    ensures { Printed (pipe_of (O.told out.old) to.old (O.faults out.old)) (pipe_of (O.told out.new) to.new (O.faults out.new)) (codes " " ++ (label.now ++ codes ": ;")) }
-{
-    to.write(out, b" ");
-    to.write(out, label);
-    to.write(out, b": ;");
-}
-
-// `goto LABEL;`
-fn goto<O: Sink>(label: &[u8], to: &mut Writer, out: &mut O)
-    ensures { Printed (pipe_of (O.told out.old) to.old (O.faults out.old)) (pipe_of (O.told out.new) to.new (O.faults out.new)) (spelled (statement_pieces [] [] 0 (Goto label.now))) }
-{
-    to.write(out, b"goto ");
-    to.write(out, label);
-    to.write(out, b";");
-}
-
 // `return e;`, or `return;`
 fn give_back<O: Sink>(value: &Option<MonExpr>, named: &Named<'_>, to: &mut Writer, out: &mut O)
     ensures { Printed (pipe_of (O.told out.old) to.old (O.faults out.old)) (pipe_of (O.told out.new) to.new (O.faults out.new)) (spelled (statement_pieces [] (registers_of named.now) 0 (Return (option_map plain_expr value.now)))) }
 {
     match value {
         None => to.write(out, b"return;"),
-        Some(e) => {
-            to.write(out, b"return ");
-            expression(e, named, to, out);
-            to.write(out, b";");
-        }
+        Some(e) => between(b"return ", e, b";", named, to, out),
     }
-}
-
-// `if (e) `
-fn condition<O: Sink>(e: &MonExpr, named: &Named<'_>, to: &mut Writer, out: &mut O)
-    ensures { Printed (pipe_of (O.told out.old) to.old (O.faults out.old)) (pipe_of (O.told out.new) to.new (O.faults out.new)) (codes "if (" ++ (spelled (expression_pieces (registers_of named.now) (plain_expr e.now)) ++ codes ") ")) }
-{
-    to.write(out, b"if (");
-    expression(e, named, to, out);
-    to.write(out, b") ");
 }
 
 // The step of a loop, on a line of its own.
@@ -134,6 +95,61 @@ fn body<O: Sink>(
         statements(stmts, &inner, named, to, out);
         closing(depth, to, out);
     }
+}
+
+// `if (e) { .. } else { .. }`
+#[cycle(statement)]
+fn choice<O: Sink>(
+    e: &MonExpr,
+    first: &[MonStmt],
+    second: &[MonStmt],
+    depth: &Depth<'_>,
+    named: &Named<'_>,
+    to: &mut Writer,
+    out: &mut O,
+)
+    ensures { Printed (pipe_of (O.told out.old) to.old (O.faults out.old)) (pipe_of (O.told out.new) to.new (O.faults out.new)) (spelled (statement_pieces (functions_of named.now) (registers_of named.now) (depth_of depth.now) (If (plain_expr e.now) (plain_stmts first.now) (plain_stmts second.now)))) }
+{
+    between(b"if (", e, b") ", named, to, out);
+    body(first, depth, named, to, out);
+    to.write(out, b" else ");
+    body(second, depth, named, to, out);
+}
+
+// `while (1) { .. __e_acsl_step(); .. }`
+#[cycle(statement)]
+fn repeated<O: Sink>(
+    before: &[MonStmt],
+    behind: &[MonStmt],
+    depth: &Depth<'_>,
+    named: &Named<'_>,
+    to: &mut Writer,
+    out: &mut O,
+)
+    ensures { Printed (pipe_of (O.told out.old) to.old (O.faults out.old)) (pipe_of (O.told out.new) to.new (O.faults out.new)) (spelled (statement_pieces (functions_of named.now) (registers_of named.now) (depth_of depth.now) (Loop (plain_stmts before.now) (plain_stmts behind.now)))) }
+{
+    let inner = Depth::Inside(&*depth);
+    to.write(out, b"while (1) {");
+    statements(before, &inner, named, to, out);
+    step_line(&inner, to, out);
+    statements(behind, &inner, named, to, out);
+    closing(depth, to, out);
+}
+
+// `{ .. } LABEL: ;`
+#[cycle(statement)]
+fn labelled<O: Sink>(
+    stmts: &[MonStmt],
+    label: &[u8],
+    depth: &Depth<'_>,
+    named: &Named<'_>,
+    to: &mut Writer,
+    out: &mut O,
+)
+    ensures { Printed (pipe_of (O.told out.old) to.old (O.faults out.old)) (pipe_of (O.told out.new) to.new (O.faults out.new)) (spelled (statement_pieces (functions_of named.now) (registers_of named.now) (depth_of depth.now) (Labelled (plain_stmts stmts.now) label.now))) }
+{
+    body(stmts, depth, named, to, out);
+    to.write_three(out, b" ", label, b": ;");
 }
 
 /// Statements, each on a line of its own.
@@ -167,42 +183,26 @@ fn statement<O: Sink>(
 )
     ensures { Printed (pipe_of (O.told out.old) to.old (O.faults out.old)) (pipe_of (O.told out.new) to.new (O.faults out.new)) (spelled (statement_pieces (functions_of named.now) (registers_of named.now) (depth_of depth.now) (plain_stmt s.now))) }
 {
-    match s {
-        MonStmt::Set(r, e) => assignment(*r, e, named, to, out),
-        MonStmt::Step => to.write(out, b"__e_acsl_step();"),
-        MonStmt::Assert(d, v, number, line, kind) => {
-            assertion_start(d, v, named, to, out);
-            assertion_end(*number, *line, *kind, to, out);
+    match &*s.kind {
+        MonStmtKind::Set(r, e) => assignment(*r, e, named, to, out),
+        MonStmtKind::Step => to.write(out, b"__e_acsl_step();"),
+        MonStmtKind::Assert(d, v, number, line, kind) => {
+            assertion(d, v, *number, *line, *kind, named, to, out);
         }
-        MonStmt::PutChar(r, e) => put_char(*r, e, named, to, out),
-        MonStmt::GetChar(r) => call_with(*r, b"getchar", &[], named, to, out),
-        MonStmt::Exit(e) => call(b"exit", e, named, to, out),
-        MonStmt::PrintText(bytes) => print_text(bytes.bytes(), to, out),
-        MonStmt::PrintSigned(e) => call(b"__e_acsl_print_i64", e, named, to, out),
-        MonStmt::PrintUnsigned(e) => call(b"__e_acsl_print_u64", e, named, to, out),
-        MonStmt::Act(r, f, list) => {
+        MonStmtKind::PutChar(r, e) => put_char(*r, e, named, to, out),
+        MonStmtKind::GetChar(r) => call_with(*r, b"getchar", &[], named, to, out),
+        MonStmtKind::Exit(e) => call(b"exit", e, named, to, out),
+        MonStmtKind::PrintText(bytes) => print_text(bytes.bytes(), to, out),
+        MonStmtKind::PrintSigned(e) => call(b"__e_acsl_print_i64", e, named, to, out),
+        MonStmtKind::PrintUnsigned(e) => call(b"__e_acsl_print_u64", e, named, to, out),
+        MonStmtKind::Act(r, f, list) => {
             call_with(*r, memory_word(*f).as_bytes(), list, named, to, out);
         }
-        MonStmt::Call(r, f, list) => call_with(*r, callee(named, *f), list, named, to, out),
-        MonStmt::If(e, a, b) => {
-            condition(e, named, to, out);
-            body(a, depth, named, to, out);
-            to.write(out, b" else ");
-            body(b, depth, named, to, out);
-        }
-        MonStmt::Loop(a, b) => {
-            let inner = Depth::Inside(&*depth);
-            to.write(out, b"while (1) {");
-            statements(a, &inner, named, to, out);
-            step_line(&inner, to, out);
-            statements(b, &inner, named, to, out);
-            closing(depth, to, out);
-        }
-        MonStmt::Labelled(a, label) => {
-            body(a, depth, named, to, out);
-            label_end(label.bytes(), to, out);
-        }
-        MonStmt::Goto(label) => goto(label.bytes(), to, out),
-        MonStmt::Return(value) => give_back(value, named, to, out),
+        MonStmtKind::Call(r, f, list) => call_with(*r, callee(named, *f), list, named, to, out),
+        MonStmtKind::If(e, a, b) => choice(e, a, b, depth, named, to, out),
+        MonStmtKind::Loop(a, b) => repeated(a, b, depth, named, to, out),
+        MonStmtKind::Labelled(a, label) => labelled(a, label.bytes(), depth, named, to, out),
+        MonStmtKind::Goto(label) => to.write_three(out, b"goto ", label.bytes(), b";"),
+        MonStmtKind::Return(value) => give_back(value, named, to, out),
     }
 }

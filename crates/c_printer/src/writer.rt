@@ -1,6 +1,6 @@
 //! What a text is written to.
 
-ghost use Rattle.std.specs.Prelude.{◌≡◌, ℕ, List, Option, MatchResult};
+ghost use Rattle.std.specs.Prelude.{◌≡◌, ◌++◌, ℕ, List, Option, MatchResult};
 ghost use Rattle.std.specs.Option.{is_some};
 ghost use Rattle.ea_ports.specs.Port.{more};
 ghost use Rattle.c_printer.specs.Printing.{PrintCut, Printed, begun, pipe_of};
@@ -35,6 +35,15 @@ impl Writer {
                 self.refusal = Some(fault);
             }
         }
+    }
+
+    /// Writes some bytes and others behind them.
+    pub fn write_three<O: Sink>(&mut self, out: &mut O, first: &[u8], second: &[u8], third: &[u8])
+        ensures { Printed (pipe_of (O.told out.old) self.old (O.faults out.old)) (pipe_of (O.told out.new) self.new (O.faults out.new)) (first.now ++ (second.now ++ third.now)) }
+    {
+        self.write(out, first);
+        self.write(out, second);
+        self.write(out, third);
     }
 
     /// Whether the sink refused.

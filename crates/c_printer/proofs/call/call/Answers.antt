@@ -7,4 +7,4 @@ use Rattle.c_printer.proofs.call.call.Goals as goal
 pub returns : goal.returns
 returns g c =
     shown (call_text c.args.callee.now (registers_of c.args.named.now) (plain_expr c.args.e.now))
-    (then c.write.ensures (then c.write-2.ensures (then c.expression.ensures c.write-3.ensures)))
+    (then c.write.ensures c.between.ensures)

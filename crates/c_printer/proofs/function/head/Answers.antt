@@ -5,9 +5,8 @@ use Rattle.c_printer.proofs.function.head.Goals as goal
 
 pub returns : goal.returns
 returns g c =
-    let word = rw (c.as_bytes.ensures.value, c.result_word.ensures) at c.write.ensures in
-    let name = rw c.bytes.ensures at c.write-3.ensures in
+    let front = rw (c.as_bytes.ensures.value, c.result_word.ensures, c.bytes.ensures) at c.write_three.ensures in
     let parameters = rw c.deref.ensures.value at c.parameters.ensures in
     let registers = rw c.deref-2.ensures.value at c.registers.ensures in
     shown (head_text (plain_func c.args.f.now))
-    (then word (then c.write-2.ensures (then name (then c.write-4.ensures (then parameters (then c.write-5.ensures registers))))))
+    (then front (then c.write.ensures (then parameters (then c.write-2.ensures registers))))

@@ -1,5 +1,0 @@
-use Rattle.c_printer.proofs.Written.{then}
-use Rattle.c_printer.proofs.statement.label_end.Goals as goal
-
-pub returns : goal.returns
-returns g c = then c.write.ensures (then c.write-2.ensures c.write-3.ensures)
