@@ -14,6 +14,3 @@ mod source;
 
 pub use monitored::mon_tokens;
 pub use source::tokens;
-
-#[cfg(test)]
-mod tests;

@@ -62,7 +62,7 @@ fn finish(alloc: Global, reading: Reading, end: Place) -> Result<Tokens, FrontFa
     ensures { Gives result (build (read_of reading) (Ended end)) }
 {
     let Reading { list, names } = reading;
-    let names = all_names(alloc, &names)?;
+    let names = all_names(alloc, names)?;
     Ok(Tokens { list, names, end })
 }
 

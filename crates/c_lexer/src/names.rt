@@ -28,12 +28,12 @@ pub fn number_name(
 }
 
 /// The names, in order.
-pub fn all_names(alloc: Global, names: &IndexSet<Vec<u8>>) -> Result<Vec<Name>, AllocError>
-    ensures { IfOk result (λ v. v.items ≡ seen names.now) }
+pub fn all_names(alloc: Global, names: IndexSet<Vec<u8>>) -> Result<Vec<Name>, AllocError>
+    ensures { IfOk result (λ v. v.items ≡ seen names) }
 {
     let mut all = Vec::new(alloc);
-    for name in names.as_slice() {
-        all.push(Name::new(Vec::from_slice(alloc, name)?))?;
+    for name in names {
+        all.push(Name::new(name))?;
     }
     Ok(all)
 }

@@ -120,17 +120,13 @@ fn add(
     }
 }
 
-/// What is read at the end of the text, which ends an annotation with `//@`.
-fn close(reading: Reading, end: Place, mode: Mode) -> Result<Reading, AllocError>
-    ensures { IfOk result (λ r. read_of r ≡ closed (read_of reading) end mode) }
+/// The end of the text, which ends an annotation with `//@`.
+fn close(reading: &mut Reading, end: Place, mode: Mode) -> Result<(), AllocError>
+    ensures { OnOk result (read_of reading.new ≡ closed (read_of reading.old) end mode) }
 {
-    let mut reading = reading;
     match mode {
-        Mode::Code | Mode::Block => Ok(reading),
-        Mode::Line => {
-            put(&mut reading, end, TokenKind::AnnotClose)?;
-            Ok(reading)
-        }
+        Mode::Code | Mode::Block => Ok(()),
+        Mode::Line => put(reading, end, TokenKind::AnnotClose),
     }
 }
 
@@ -138,12 +134,13 @@ fn close(reading: Reading, end: Place, mode: Mode) -> Result<Reading, AllocError
 fn finish(alloc: Global, reading: Reading, end: Place, mode: Mode) -> Result<Tokens, FrontFault>
     ensures { Gives result (build (read_of reading) (Ended end mode)) }
 {
-    let reading = close(reading, end, mode)?;
+    let mut reading = reading;
+    close(&mut reading, end, mode)?;
     if reading.list.len() > MOST_TOKENS {
         return Err(refuse(alloc, end, Fault::Limit, &[]));
     }
     let Reading { list, names } = reading;
-    let names = all_names(alloc, &names)?;
+    let names = all_names(alloc, names)?;
     Ok(Tokens { list, names, end })
 }
 

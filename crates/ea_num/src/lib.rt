@@ -17,6 +17,3 @@ pub use bits::{bit_and, bit_or, bit_xor};
 pub use conversions::{width_of, wrap};
 pub use products::{div, mul, rem};
 pub use shifts::{shl, shr};
-
-#[cfg(test)]
-mod tests;

@@ -14,8 +14,6 @@ mod files;
 mod host;
 mod memory;
 mod sure;
-#[cfg(test)]
-mod tests;
 
 pub use buffer::Buffer;
 pub use host::{FileFolder, ReadSource, WriteSink};

@@ -14,7 +14,7 @@ use std::marker::Model;
 const STACK_START: u32 = 0x4000_0000;
 
 /// How much room there is: the segments in bytes, and the calls that may be active at once.
-#[derive(Clone, Copy, PartialEq, Eq, Debug)]
+#[derive(Clone, Copy)]
 pub struct Sizes {
     pub globals: u32,
     pub stack: u32,
@@ -23,7 +23,7 @@ pub struct Sizes {
 }
 
 /// Why a block isn't born.
-#[derive(Clone, Copy, PartialEq, Eq, Debug)]
+#[derive(Clone, Copy)]
 pub enum BirthFault {
     /// There is no room in the segment, or no number is left.
     Full(Segment),
@@ -120,6 +120,3 @@ impl FlatMem {
         self.frames = self.frames.saturating_sub(1);
     }
 }
-
-#[cfg(test)]
-mod tests;

@@ -105,3 +105,7 @@ Fails (errors.Over limit n) read = read ≡ Err (Over (label limit) n)
 abbrev pub Gives : {X Y : Type 0} → (X → Y) → Result X ReadError → Result Y Fault → Type 0
 Gives view (Ok x) read = read ≡ Ok (view x)
 Gives view (Err e) read = Fails e read
+
+-- this was made, with these tokens left
+abbrev pub Makes : {X A B : Type 0} → (X → A × B) → Result X ReadError → A → B → Type 0
+Makes {A = A} {B} view result a b = let made : A × B = (a, b) in Gives view result (Ok made)

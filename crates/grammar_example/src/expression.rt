@@ -1,13 +1,25 @@
 //! Expressions.
 
 ghost use Rattle.std.specs.Prelude.{◌≡◌, ◌≤◌, ◌<◌, length, IfOk, [], ◌∷◌};
-ghost use Rattle.grammar_example.specs.Tree.{plain};
-ghost use Rattle.grammar_example.specs.Token.{Gives, kind, a_sign};
+ghost use Rattle.grammar_example.specs.Tree.{plain, plain_kind};
+ghost use Rattle.grammar_example.specs.Token.{Gives, Makes, kind, a_sign};
 ghost use Rattle.grammar_example.specs.Grammar.{in_parens, operand, chain_once, chain, expression, short_expression};
 
 use crate::token::{Kind, ReadError, Token, name, next_is, number, sign, skip, type_name};
-use crate::tree::Expr;
+use crate::tree::{Expr, ExprKind};
 use std::alloc::Global;
+
+// An expression of this kind, and the tokens behind it.
+fn read_as<'a>(
+    alloc: Global,
+    kind: ExprKind,
+    rest: &'a [Token],
+) -> Result<(Expr, &'a [Token]), ReadError>
+    ensures read { Makes (λ x. (plain x.0, x.1.now)) result (plain_kind kind) rest.now }
+    ensures rest { IfOk result (λ x. x.1.now ≡ rest.now) }
+{
+    Ok((Expr::new(alloc, kind)?, rest))
+}
 
 #[tactic(auto, unfolding(crate::specs::Grammar::in_parens))]
 #[cycle(expression)]
@@ -23,7 +35,7 @@ fn in_parens<'a>(
         let (target, rest) = type_name(types, tokens)?;
         let rest = skip(types, Kind::CloseParen, rest)?;
         let (inner, rest) = operand(alloc, types, rest)?;
-        Ok((Expr::Cast(target, Box::new(alloc, inner)?), rest))
+        read_as(alloc, ExprKind::Cast(target, inner), rest)
     } else {
         let (inner, rest) = expression(alloc, types, tokens)?;
         let rest = skip(types, Kind::CloseParen, rest)?;
@@ -43,10 +55,10 @@ fn operand<'a>(
 {
     if next_is(types, Kind::Name, tokens) {
         let (name, rest) = name(types, tokens)?;
-        Ok((Expr::Name(name), rest))
+        read_as(alloc, ExprKind::Name(name), rest)
     } else if next_is(types, Kind::Number, tokens) {
         let (number, rest) = number(tokens)?;
-        Ok((Expr::Number(number), rest))
+        read_as(alloc, ExprKind::Number(number), rest)
     } else {
         let rest = skip(types, Kind::OpenParen, tokens)?;
         in_parens(alloc, types, rest)
@@ -66,10 +78,7 @@ fn chain_once<'a>(
 {
     let (operator, rest) = sign(tokens)?;
     let (right, rest) = operand(alloc, types, rest)?;
-    Ok((
-        Expr::Binary(operator, Box::new(alloc, left)?, Box::new(alloc, right)?),
-        rest,
-    ))
+    read_as(alloc, ExprKind::Binary(operator, left, right), rest)
 }
 
 #[tactic(auto, using(crate::proofs::Expressions::chain_turn), unfolding(crate::specs::Grammar::chain))]

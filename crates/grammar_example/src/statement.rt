@@ -1,15 +1,15 @@
 //! Statements.
 
-ghost use Rattle.std.specs.Prelude.{◌≡◌, IfOk, [], ◌∷◌};
+ghost use Rattle.std.specs.Prelude.{◌≡◌, [], ◌∷◌};
 ghost use Rattle.grammar.specs.Syntax.{sees};
-ghost use Rattle.grammar_example.specs.Tree.{plain, plain_stmt, if_then, if_else, is_open};
-ghost use Rattle.grammar_example.specs.Token.{Gives, kind};
+ghost use Rattle.grammar_example.specs.Tree.{plain, plain_stmt, plain_stmt_kind, if_then, is_open};
+ghost use Rattle.grammar_example.specs.Token.{Gives, Makes, kind};
 ghost use Rattle.grammar_example.specs.Grammar.{first_statement, short_expression, empty_statement, value_statement, else_first, else_part, if_statement, statement_within};
 
 use crate::expression::expression;
 use crate::token::{Kind, Limit, ReadError, Token, is_type, next_is, skip};
-use crate::tree::{Expr, Stmt};
-use std::alloc::{AllocError, Global};
+use crate::tree::{Expr, Stmt, StmtKind};
+use std::alloc::Global;
 
 /// An expression of a statement has at most so many tokens.
 pub const LONGEST: usize = 9;
@@ -62,40 +62,45 @@ fn begins_statement(types: &[u32], tokens: &[Token]) -> bool
 fn ends_open(statement: &Stmt) -> bool
     ensures { result ≡ is_open (plain_stmt statement.now) }
 {
-    match statement {
-        Stmt::Empty | Stmt::Value(_) => false,
-        Stmt::If(_, _, None) => true,
-        Stmt::If(_, _, Some(last)) => ends_open(last),
+    match &*statement.kind {
+        StmtKind::Empty | StmtKind::Value(_) => false,
+        StmtKind::If(_, _, None) => true,
+        StmtKind::If(_, _, Some(last)) => ends_open(last),
     }
 }
 
-fn make_if(alloc: Global, condition: Expr, then: Stmt) -> Result<Stmt, AllocError>
-    ensures { IfOk result (λ s. plain_stmt s ≡ if_then (plain condition) (plain_stmt then)) }
+// A statement of this kind, and the tokens behind it.
+fn read_as<'a>(
+    alloc: Global,
+    kind: StmtKind,
+    rest: &'a [Token],
+) -> Result<(Stmt, &'a [Token]), ReadError>
+    ensures read { Makes (λ x. (plain_stmt x.0, x.1.now)) result (plain_stmt_kind kind) rest.now }
 {
-    Ok(Stmt::If(condition, Box::new(alloc, then)?, None))
+    Ok((Stmt::new(alloc, kind)?, rest))
 }
 
-fn make_if_else(
+fn read_if<'a>(
     alloc: Global,
     condition: Expr,
     then: Stmt,
-    otherwise: Stmt,
-) -> Result<Stmt, AllocError>
-    ensures { IfOk result (λ s. plain_stmt s ≡ if_else (plain condition) (plain_stmt then) (plain_stmt otherwise)) }
+    rest: &'a [Token],
+) -> Result<(Stmt, &'a [Token]), ReadError>
+    ensures read { Makes (λ x. (plain_stmt x.0, x.1.now)) result (if_then (plain condition) (plain_stmt then)) rest.now }
 {
-    Ok(Stmt::If(
-        condition,
-        Box::new(alloc, then)?,
-        Some(Box::new(alloc, otherwise)?),
-    ))
+    read_as(alloc, StmtKind::If(condition, then, None), rest)
 }
 
 #[tactic(auto, unfolding(crate::specs::Grammar::empty_statement))]
-fn empty_statement<'a>(types: &[u32], tokens: &'a [Token]) -> Result<(Stmt, &'a [Token]), ReadError>
+fn empty_statement<'a>(
+    alloc: Global,
+    types: &[u32],
+    tokens: &'a [Token],
+) -> Result<(Stmt, &'a [Token]), ReadError>
     ensures read { Gives (λ x. (plain_stmt x.0, x.1.now)) result ((empty_statement types.now).parse tokens.now) }
 {
     let rest = skip(types, Kind::Semicolon, tokens)?;
-    Ok((Stmt::Empty, rest))
+    read_as(alloc, StmtKind::Empty, rest)
 }
 
 #[tactic(auto, unfolding(crate::specs::Grammar::value_statement))]
@@ -108,7 +113,7 @@ fn value_statement<'a>(
 {
     let (read, rest) = short_expression(alloc, types, tokens)?;
     let rest = skip(types, Kind::Semicolon, rest)?;
-    Ok((Stmt::Value(read), rest))
+    read_as(alloc, StmtKind::Value(read), rest)
 }
 
 #[tactic(auto, unfolding(crate::specs::Grammar::else_first))]
@@ -125,7 +130,7 @@ fn else_first<'a>(
 {
     let rest = skip(types, Kind::Else, tokens)?;
     let (otherwise, rest) = statement_within(alloc, types, depth, rest)?;
-    Ok((make_if_else(alloc, condition, then, otherwise)?, rest))
+    read_as(alloc, StmtKind::If(condition, then, Some(otherwise)), rest)
 }
 
 #[tactic(auto, unfolding(crate::specs::Grammar::else_part))]
@@ -141,11 +146,11 @@ fn else_part<'a>(
     ensures read { Gives (λ x. (plain_stmt x.0, x.1.now)) result ((else_part types.now (statement_within types.now depth) (plain condition) (plain_stmt then)).parse tokens.now) }
 {
     if ends_open(&then) {
-        Ok((make_if(alloc, condition, then)?, tokens))
+        read_if(alloc, condition, then, tokens)
     } else if next_is(types, Kind::Else, tokens) {
         else_first(alloc, types, depth, condition, then, tokens)
     } else {
-        Ok((make_if(alloc, condition, then)?, tokens))
+        read_if(alloc, condition, then, tokens)
     }
 }
 
@@ -185,7 +190,7 @@ pub fn statement_within<'a>(
             Err(ReadError::At(tokens.len()))
         }
     } else if next_is(types, Kind::Semicolon, tokens) {
-        empty_statement(types, tokens)
+        empty_statement(alloc, types, tokens)
     } else if next_is(types, Kind::If, tokens) {
         if_statement(alloc, types, depth - 1, tokens)
     } else {

@@ -64,38 +64,3 @@ impl Placer {
         self.live.retain(|block| block.place != place);
     }
 }
-
-#[cfg(test)]
-mod tests {
-    use super::*;
-    use std::test::Fail;
-
-    #[test]
-    fn takes_least_places(rt: HostRuntime) -> Result<(), Fail> {
-        let mut placer = Placer::new(rt.alloc(), 4)?;
-        let first = placer.take(15).ok_or("full")?;
-        assert_eq!(rt; first, 0);
-        assert_eq!(rt; placer.take(16), Some(16));
-        assert_eq!(rt; placer.take(16), None);
-        placer.give(first);
-        for (length, place) in [(0, Some(0)), (15, Some(48)), (0, None)] {
-            assert_eq!(rt; placer.take(length), place, "at {length}");
-        }
-        Ok(())
-    }
-
-    #[test]
-    fn fills_gaps(rt: HostRuntime) -> Result<(), Fail> {
-        let mut placer = Placer::new(rt.alloc(), 8)?;
-        assert_eq!(rt; placer.take(15), Some(0));
-        let second = placer.take(31).ok_or("full")?;
-        assert_eq!(rt; second, 16);
-        assert_eq!(rt; placer.take(15), Some(48));
-        assert_eq!(rt; placer.take(16), Some(64));
-        placer.give(second);
-        for (length, place) in [(15, Some(16)), (16, Some(96)), (0, Some(32)), (0, None)] {
-            assert_eq!(rt; placer.take(length), place, "at {length}");
-        }
-        Ok(())
-    }
-}

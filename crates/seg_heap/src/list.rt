@@ -4,14 +4,14 @@ ghost use Rattle.std.specs.Prelude.{◌≡◌, ℕ, ◌*◌, ◌^◌, ◌<◌, �
 ghost use Rattle.seg_heap.specs.Placement.{Heap, rounded_size, end_of, IsFree, IsLeastPlace, AreApart, LiesBehind};
 
 /// A live block: where it begins in the segment, and its length, both in bytes.
-#[derive(Clone, Copy, PartialEq, Eq, Debug)]
+#[derive(Clone, Copy)]
 pub struct Live {
     pub place: u32,
     pub length: u32,
 }
 
 /// Where a new block goes: its place in bytes, and how many live blocks lie before it.
-#[derive(Clone, Copy, PartialEq, Eq, Debug)]
+#[derive(Clone, Copy)]
 pub struct Gap {
     pub place: u32,
     pub index: usize,

@@ -1,6 +1,7 @@
-use Rattle.std.proofs.Common.{◌≡◌, take}
-use Rattle.c_lexer.specs.Reading.{spelled}
+use Rattle.std.proofs.Common.{◌≡◌, ◌++◌}
+use Rattle.c_lexer.specs.Reading.{spelled, seen}
 use Rattle.c_lexer.proofs.names.all_names.Given as goal
 
+-- those that were moved out and those that are left are all
 abbrev pub invariant-loop-name : goal.invariant-loop-name
-invariant-loop-name l = l.all.items ≡ spelled (take l.name-index l.name-items)
+invariant-loop-name l = l.all.items ++ spelled l.name-iterator ≡ seen l.fn.names
