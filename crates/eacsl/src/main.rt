@@ -1,13 +1,8 @@
 //! `eacsl` runs annotated C: it checks each annotation as it is reached, and names the first that is false or undefined.
 #![tactic(auto)]
 
-mod answer;
-mod lines;
-#[cfg(test)]
-mod tests;
-
-use answer::eacsl;
 use ea_ports::{FileFolder, ReadSource, WriteSink};
+use eacsl_cli::eacsl;
 use std::process::ExitCode;
 use std::{env, io};
 

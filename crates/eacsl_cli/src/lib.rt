@@ -1,0 +1,7 @@
+//! The top call of `eacsl`: what the words of a command line ask for, over any folder, source and sinks.
+#![tactic(auto)]
+
+mod answer;
+mod lines;
+
+pub use answer::{eacsl, exec_text, instrument_text, run_text};
