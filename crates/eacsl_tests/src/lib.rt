@@ -1,0 +1,28 @@
+//! Tests of public calls of the layers, of what no text shows that `tests/run` gives to the program.
+//!
+//! A test is proved before it runs, and each `assert_eq!` in it costs seconds. So a module has few of them, in functions that its
+//! tests call with plain values.
+#![tactic(auto)]
+
+#[cfg(test)]
+mod example;
+#[cfg(test)]
+mod host;
+#[cfg(test)]
+mod lowering;
+#[cfg(test)]
+mod machine;
+#[cfg(test)]
+mod memory;
+#[cfg(test)]
+mod monitored;
+#[cfg(test)]
+mod numbers;
+#[cfg(test)]
+mod ports;
+#[cfg(test)]
+mod printing;
+#[cfg(test)]
+mod reading;
+#[cfg(test)]
+mod same;

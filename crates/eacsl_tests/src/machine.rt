@@ -1,0 +1,313 @@
+//! Runs of code on sources and sinks that fail, and of code that no valid program has.
+
+use crate::monitored::{add, code_of, code_of_body, constant, value};
+use crate::same::{same_bytes, same_number, same_numbers};
+use c_lower::{Code, lower};
+use c_machine::{Stop, run};
+use c_syntax::Segment;
+use ea_ports::{Failed, MemSink, MemSource, Source};
+use mon_syntax::{
+    MemoryCall, MonExpr, MonExprKind, MonOp, MonProgram, MonStmt, MonStmtKind, MonType,
+};
+use std::alloc::{AllocError, Global};
+use std::process::Abort;
+
+/// What a run came to: how it ended, the steps left, the number of instructions, what was written, and what the source gives
+/// then.
+#[derive(Drop)]
+struct Done {
+    stop: Stop,
+    left: u64,
+    turns: u64,
+    output: Vec<u8>,
+    next: u8,
+}
+
+fn next_byte(input: &mut MemSource) -> u8 {
+    match input.next() {
+        Ok(Some(byte)) => byte,
+        Ok(None) => b'-',
+        Err(Failed) => b'!',
+    }
+}
+
+/// Runs code on the input "ab", where the source fails at this call and the sink at that one.
+fn ran_on(
+    alloc: Global,
+    code: &Code,
+    steps: u64,
+    failing_read: u32,
+    failing_put: u32,
+) -> Result<Done, AllocError> {
+    let mut input = MemSource::new(b"ab".to_vec(alloc)?, [failing_read].to_vec(alloc)?);
+    let mut out = MemSink::new(alloc, [failing_put].to_vec(alloc)?);
+    let ran = run(alloc, code, steps, &mut input, &mut out);
+    Ok(Done {
+        stop: ran.stop,
+        left: ran.left,
+        turns: ran.turns,
+        output: out.bytes().to_vec(alloc)?,
+        next: next_byte(&mut input),
+    })
+}
+
+/// Runs code where no port fails.
+fn plainly(alloc: Global, code: &Code, steps: u64) -> Result<Done, AllocError> {
+    ran_on(alloc, code, steps, 9, 9)
+}
+
+/// An end as a word, with the value of an exit.
+fn end_word(stop: Stop) -> (&'static str, i128) {
+    match stop {
+        Stop::Exit(value) => ("exit", value),
+        Stop::Broken { .. } => ("broken", 0),
+        Stop::Spent => ("spent", 0),
+        Stop::Full(Segment::Stack) => ("full stack", 0),
+        Stop::Full(Segment::Frames) => ("full frames", 0),
+        Stop::Full(_) => ("full", 0),
+        Stop::Fault => ("fault", 0),
+        Stop::ReadFault => ("read fault", 0),
+        Stop::WriteFault => ("write fault", 0),
+        Stop::OutOfMemory => ("memory", 0),
+    }
+}
+
+fn ends_so(rt: &impl Abort, found: Stop, word: &str, value: i128) {
+    let (found_word, found_value) = end_word(found);
+    same_bytes(rt, found_word.as_bytes(), word.as_bytes());
+    same_numbers(rt, (found_value, 0), (value, 0));
+}
+
+fn counts(rt: &impl Abort, done: &Done, left: u64, turns: u64) {
+    same_number(rt, u128::from(done.left), u128::from(left));
+    same_number(rt, u128::from(done.turns), u128::from(turns));
+}
+
+/// Compares what a text comes to where no port fails.
+fn runs(
+    rt: &(impl Abort + AllocGlobal),
+    text: &str,
+    steps: u64,
+    end: (&str, i128),
+    numbers: (u64, u64),
+    output: &[u8],
+) -> Result<(), AllocError> {
+    let code = code_of(rt, text)?;
+    let whole = plainly(rt.alloc(), &code, steps)?;
+    ends_so(rt, whole.stop, end.0, end.1);
+    counts(rt, &whole, numbers.0, numbers.1);
+    same_bytes(rt, &whole.output, output);
+    Ok(())
+}
+
+const COUNTS: &str =
+    "#include <e_acsl.h>\ni32 main(void) { i32 x; { while (1) { if ((x < I32(3))) { } else { goto end; } \
+     __e_acsl_step(); x = (x + I32(1)); } } end: ; __e_acsl_print_i64(((i64)x)); return I32(7); }";
+
+const ENDLESS: &str = "#include <e_acsl.h>\ni32 main(void) { f(); } i32 f(void) { f(); }";
+
+const SUM: &str =
+    "#include <e_acsl.h>\ni32 f(i32 n) { i32 m; if (n) { m = f((n - I32(1))); return (n + m); } else { } return n; } \
+     i32 main(void) { i32 x; x = f(I32(5)); __e_acsl_print_i64(((i64)x)); return I32(0); }";
+
+#[test]
+fn steps_and_instructions_are_counted(rt: HostRuntime) -> Result<(), AllocError> {
+    runs(&rt, COUNTS, 100, ("exit", 7), (97, 44), b"3")?;
+    runs(&rt, COUNTS, 2, ("spent", 0), (0, 30), b"")?;
+    runs(&rt, ENDLESS, 70000, ("full frames", 0), (4464, 65536), b"")?;
+    runs(&rt, SUM, 100, ("exit", 0), (94, 67), b"15")
+}
+
+/// Compares what a run of 5,000 steps comes to, each of which writes a byte, where a call of the sink fails.
+fn writes(
+    rt: &(impl Abort + AllocGlobal),
+    failing_put: u32,
+    word: &str,
+    turns: u64,
+    length: u128,
+) -> Result<(), AllocError> {
+    let text =
+        "#include <e_acsl.h>\ni32 main(void) { while (1) { __e_acsl_step(); __e_acsl_print_text(\"x\"); } }";
+    let code = code_of(rt, text)?;
+    let written = ran_on(rt.alloc(), &code, 5000, 9, failing_put)?;
+    ends_so(rt, written.stop, word, 0);
+    counts(rt, &written, 0, turns);
+    same_number(rt, written.output.len() as u128, length);
+    Ok(())
+}
+
+#[test]
+fn output_is_put_in_pieces(rt: HostRuntime) -> Result<(), AllocError> {
+    writes(&rt, 9, "spent", 15003, 5000)?;
+    writes(&rt, 2, "write fault", 0, 4096)?;
+    writes(&rt, 1, "write fault", 0, 0)
+}
+
+/// Compares what a run comes to that writes its input, "ab", up to the end, reads once more, and writes that number; and what the
+/// source gives then, `-` for its end. These calls of the source and of the sink fail.
+fn copies(
+    rt: &(impl Abort + AllocGlobal),
+    failing: (u32, u32),
+    word: &str,
+    left: u64,
+    output: &[u8],
+    next: u8,
+) -> Result<(), AllocError> {
+    let text =
+        "#include <e_acsl.h>\ni32 main(void) { i32 c; { while (1) { c = getchar(); if ((c != I32(-1))) { } else { goto end; } \
+                __e_acsl_step(); putchar(c); } } end: ; c = getchar(); __e_acsl_print_i64(((i64)c)); return I32(0); }";
+    let code = code_of(rt, text)?;
+    let copied = ran_on(rt.alloc(), &code, 100, failing.0, failing.1)?;
+    ends_so(rt, copied.stop, word, 0);
+    same_number(rt, u128::from(copied.left), u128::from(left));
+    same_bytes(rt, &copied.output, output);
+    same_number(rt, u128::from(copied.next), u128::from(next));
+    Ok(())
+}
+
+#[test]
+fn the_source_is_asked_up_to_its_end(rt: HostRuntime) -> Result<(), AllocError> {
+    // Asked once more behind the end, the source would fail at the test's own call, the fifth then.
+    copies(&rt, (5, 9), "exit", 98, b"ab-1", b'-')?;
+    copies(&rt, (2, 9), "read fault", 99, b"a", b'b')?;
+    // The sink refuses what waits.
+    copies(&rt, (2, 1), "write fault", 0, b"", b'b')
+}
+
+#[test]
+fn code_without_main_faults(rt: HostRuntime) -> Result<(), AllocError> {
+    let functions = Vec::new(rt.alloc());
+    let code = lower(rt.alloc(), &MonProgram { functions })?;
+    let fault = plainly(rt.alloc(), &code, 5)?;
+    ends_so(&rt, fault.stop, "fault", 0);
+    counts(&rt, &fault, 5, 0);
+    Ok(())
+}
+
+/// `p = __e_acsl_store_block(SIZE);`, where `p` is register 0, and `__e_acsl_print_i64(p);`.
+fn store(alloc: Global, body: &mut Vec<MonStmt>, size: i128) -> Result<(), AllocError> {
+    let size = constant(alloc, MonType::U64, size)?;
+    add(
+        alloc,
+        body,
+        MonStmtKind::Act(Some(0), MemoryCall::StoreBlock, vec![in alloc; size]?),
+    )?;
+    let stored = value(alloc, 0)?;
+    add(alloc, body, MonStmtKind::PrintSigned(stored))
+}
+
+#[test]
+fn a_block_stands_where_the_one_before_stood(rt: HostRuntime) -> Result<(), AllocError> {
+    // A `ptr` is printed in no valid program.
+    let alloc = rt.alloc();
+    let mut body = Vec::new(alloc);
+    store(alloc, &mut body, 4)?;
+    let pointer = value(alloc, 0)?;
+    add(
+        alloc,
+        &mut body,
+        MonStmtKind::Act(None, MemoryCall::DeleteBlock, vec![in alloc; pointer]?),
+    )?;
+    store(alloc, &mut body, 16)?;
+    store(alloc, &mut body, 1)?;
+    let whole = plainly(alloc, &code_of_body(alloc, body)?, 100)?;
+    ends_so(&rt, whole.stop, "exit", 0);
+    same_bytes(&rt, &whole.output, b"5368709120966367641613958643744");
+    Ok(())
+}
+
+/// How a run ends that stores or deletes a block with these arguments.
+fn acted_so(
+    alloc: Global,
+    call: MemoryCall,
+    kind: MonType,
+    first: i128,
+    count: usize,
+) -> Result<Stop, AllocError> {
+    let mut arguments: Vec<MonExpr> = Vec::new(alloc);
+    for _argument in 0..count {
+        arguments.push(constant(alloc, kind, first)?)?;
+    }
+    let mut body = Vec::new(alloc);
+    add(alloc, &mut body, MonStmtKind::Act(None, call, arguments))?;
+    Ok(plainly(alloc, &code_of_body(alloc, body)?, 100)?.stop)
+}
+
+#[test]
+fn blocks_of_no_valid_program(rt: HostRuntime) -> Result<(), AllocError> {
+    let alloc = rt.alloc();
+    let store = MemoryCall::StoreBlock;
+    ends_so(&rt, acted_so(alloc, store, MonType::U64, 1, 1)?, "exit", 0);
+    ends_so(&rt, acted_so(alloc, store, MonType::U64, 1, 2)?, "fault", 0);
+    ends_so(
+        &rt,
+        acted_so(alloc, store, MonType::I32, -1, 1)?,
+        "fault",
+        0,
+    );
+    let huge = acted_so(alloc, store, MonType::I128, 1 << 64, 1)?;
+    ends_so(&rt, huge, "full stack", 0);
+    let delete = MemoryCall::DeleteBlock;
+    ends_so(
+        &rt,
+        acted_so(alloc, delete, MonType::I32, 0, 1)?,
+        "fault",
+        0,
+    );
+    Ok(())
+}
+
+/// What a run prints that prints an expression.
+fn printed(alloc: Global, e: MonExpr) -> Result<Vec<u8>, AllocError> {
+    let mut body = Vec::new(alloc);
+    add(alloc, &mut body, MonStmtKind::PrintSigned(e))?;
+    Ok(plainly(alloc, &code_of_body(alloc, body)?, 100)?.output)
+}
+
+/// Compares what an operator gives on two numbers of a type, as it is printed.
+fn computes(
+    rt: &(impl Abort + AllocGlobal),
+    op: MonOp,
+    kind: MonType,
+    left: i128,
+    right: i128,
+    wanted: &[u8],
+) -> Result<(), AllocError> {
+    let alloc = rt.alloc();
+    let left = constant(alloc, kind, left)?;
+    let right = constant(alloc, kind, right)?;
+    let e = MonExpr::new(alloc, MonExprKind::Binary(op, kind, left, right))?;
+    same_bytes(rt, &printed(alloc, e)?, wanted);
+    Ok(())
+}
+
+#[test]
+fn operators_of_types_that_no_valid_program_computes_in(rt: HostRuntime) -> Result<(), AllocError> {
+    computes(&rt, MonOp::And, MonType::I16, -2, 7, b"6")?;
+    computes(&rt, MonOp::Or, MonType::I16, -8, 3, b"-5")?;
+    computes(&rt, MonOp::Xor, MonType::I16, -1, 5, b"-6")?;
+    computes(&rt, MonOp::Ge, MonType::I8, 4, 4, b"1")?;
+    computes(&rt, MonOp::Ne, MonType::I8, 4, 4, b"0")
+}
+
+#[test]
+fn a_narrow_number_is_negated_and_flipped(rt: HostRuntime) -> Result<(), AllocError> {
+    let alloc = rt.alloc();
+    let number = constant(alloc, MonType::I8, 65)?;
+    let minus = MonExpr::new(alloc, MonExprKind::Minus(MonType::I8, number))?;
+    let flip = MonExpr::new(alloc, MonExprKind::Flip(MonType::I8, minus))?;
+    same_bytes(&rt, &printed(alloc, flip)?, b"64");
+    Ok(())
+}
+
+#[test]
+fn a_register_that_is_not_there_faults(rt: HostRuntime) -> Result<(), AllocError> {
+    let alloc = rt.alloc();
+    let none = value(alloc, 2)?;
+    let mut body = Vec::new(alloc);
+    add(alloc, &mut body, MonStmtKind::Exit(none))?;
+    let fault = plainly(alloc, &code_of_body(alloc, body)?, 100)?;
+    ends_so(&rt, fault.stop, "fault", 0);
+    counts(&rt, &fault, 100, 1);
+    Ok(())
+}
