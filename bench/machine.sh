@@ -83,18 +83,18 @@ instructions_of() {
 # the processor's instructions that so many more units take, each
 each() {
   local name=$1 units=$2 less=$3 more=$4
-  awk -v name="$name" -v units="$units" -v a="$(instructions_of "$top/crates/eacsl_cli/out/eacsl_cli" run "$less")" -v b="$(instructions_of "$top/crates/eacsl_cli/out/eacsl_cli" run "$more")" 'BEGIN { printf "%-34s %10.1f\n", name, (b - a) / units }'
+  awk -v name="$name" -v units="$units" -v a="$(instructions_of "$top/crates/eacsl/out/eacsl" run "$less")" -v b="$(instructions_of "$top/crates/eacsl/out/eacsl" run "$more")" 'BEGIN { printf "%-34s %10.1f\n", name, (b - a) / units }'
 }
 
-# builds the program where that is due, so that no figure holds a build
+# builds the proved program where that is due, so that no figure is of an unproved one
 least >"$scratch/least.c"
-"$top/eacsl" run "$scratch/least.c" 2>"$scratch/said" || { cat "$scratch/said" >&2; exit 1; }
+"$top/eacsl" --build >&2
 loop_of 5000000 >"$scratch/loop.c"
 fib_of 27 >"$scratch/fib.c"
 
 printf '%-34s %10s %12s %10s\n' what 'ms' 'peak (KiB)' 'ns each'
 line 'a program of 8 lines, eacsl run' 20 0 "$top/eacsl" run "$scratch/least.c"
-line 'the same without the launcher' 20 0 "$top/crates/eacsl_cli/out/eacsl_cli" run "$scratch/least.c"
+line 'the same without the launcher' 20 0 "$top/crates/eacsl/out/eacsl" run "$scratch/least.c"
 line 'a loop of 5,000,000 turns' 5 5000000 "$top/eacsl" run "$scratch/loop.c"
 line 'fib(27), 635,621 calls' 5 635621 "$top/eacsl" run "$scratch/fib.c"
 

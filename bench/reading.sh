@@ -8,9 +8,8 @@ top=$(cd -- "$(dirname -- "${BASH_SOURCE[0]}")/.." && pwd)
 scratch=$(mktemp -d)
 trap 'rm -rf "$scratch"' EXIT
 
-# builds the program where that is due, so that no figure holds a build
-echo 'int main(void) { return 0; }' >"$scratch/least.c"
-"$top/eacsl" run "$scratch/least.c" 2>"$scratch/said" || { cat "$scratch/said" >&2; exit 1; }
+# builds the proved program where that is due, so that no figure is of an unproved one
+"$top/eacsl" --build >&2
 
 python3 - "$top/eacsl" "$scratch" <<'P'
 import os, subprocess, sys
