@@ -9,8 +9,8 @@ use Rattle.c_syntax.specs.Programs.{Function, TranslationUnit}
 use Rattle.c_model.specs.Places.{first_place}
 use Rattle.c_model.specs.Meaning.{is_definition}
 use Rattle.c_model.specs.Library.{library_constant, is_library_name, is_there}
-use Rattle.c_model.specs.Checked.{Fault, Checked, Good, faulty, one_part, both_parts, where_so}
-use Rattle.c_model.specs.Typing.{no_name, no_type, Signature, Scopes, name_at, object_named, function_called, library_function, use_as, same_type, is_object_type, declarable, with_object, inner, behind, behind_first, typed_items}
+use Rattle.c_model.specs.Checked.{Fault, Checked, Good, given, one_part, both_parts, where_so}
+use Rattle.c_model.specs.Typing.{no_name, no_type, Signature, Scopes, name_at, object_named, use_as, same_type, is_object_type, declarable, with_object, inner, behind, behind_first, typed_items}
 
 -- ---- functions
 
@@ -126,17 +126,12 @@ main_fault names (f ∷ fs) =
 
 -- ---- annotations
 
--- a name in a term: an object, whose value is a mathematical integer, or a constant of the library
+-- a name in a term: an object, whose value is a mathematical integer, or a constant of the library; a function's name has no meaning in
+-- annotations (ACSL 2.2)
 abbrev pub term_named : Scopes → Place → Range → ℕ → Checked LogicTerm
 term_named s at r x = elim (object_named x s.objects) [
   | Some b ↦ Good (Variable at (Some b.ctype) r (use_as x b.decl))
-  | None ↦ elim (function_called x s.functions) [
-    | Some f ↦ faulty (no_type at)
-    | None ↦ elim (library_constant (name_at s.names x)) [
-      | Some c ↦ Good (Number at None r c.1)
-      | None ↦ cond (is_there (library_function x (name_at s.names x))) (faulty (no_type at)) (faulty (no_name at))
-    ]
-  ]
+  | None ↦ given (library_constant (name_at s.names x)) (no_name at) (λ c. Good (Number at None r c.1))
 ]
 
 abbrev pub typed_term : Scopes → LogicTerm → Checked LogicTerm

@@ -1,5 +1,5 @@
 -- Typing the names of asserts keeps the form of a program.
-use Rattle.std.proofs.Common.{◌≡◌, ℕ, ◌+◌, ◌-◌, ◌^◌, ◌≤◌, max, ℤ, pos, negsuc, ◌≤ℤ◌, Bool, true, false, cond, if◌then◌else◌, leb, List, [], ◌∷◌, ◌++◌, Option, Some, None, refl, sym, ap, subst, arith}
+use Rattle.std.proofs.Common.{◌≡◌, ℕ, ◌+◌, ◌-◌, ◌^◌, ◌≤◌, max, ℤ, pos, negsuc, ◌≤ℤ◌, Bool, true, false, if◌then◌else◌, leb, List, [], ◌∷◌, ◌++◌, Option, Some, None, refl, sym, ap, subst, arith}
 use Rattle.std.proofs.lemmas.Bool.{leb-true}
 use Rattle.std.proofs.lemmas.Int.{ints}
 use Rattle.std.specs.Prelude.{bytes_eq}
@@ -12,9 +12,9 @@ use Rattle.c_syntax.specs.Ctypes.{PlainType}
 use Rattle.c_syntax.specs.Annotations as logic
 use Rattle.c_syntax.specs.Annotations.{LogicTerm, Predicate, Chain, Links, NoLink, Linked, ClauseBody, Truth, Annotation}
 use Rattle.c_syntax.specs.Statements.{Statement, Empty, Eval, Block, If, While, Do, For, Break, Continue, Return, ElsePart, NoElse, Else, BlockItem, Declare, Run, Asserts, BlockItems, NoItem, Then}
-use Rattle.c_model.specs.Checked.{Good, faulty}
-use Rattle.c_model.specs.Library.{Constants, constants, constant_in, library_constant, is_there}
-use Rattle.c_model.specs.Typing.{no_name, no_type, Object, Signature, Scopes, name_at, object_named, function_called, library_function, use_as, inner, behind, behind_first}
+use Rattle.c_model.specs.Checked.{Good, given}
+use Rattle.c_model.specs.Library.{Constants, constants, constant_in, library_constant}
+use Rattle.c_model.specs.Typing.{no_name, Object, Scopes, name_at, object_named, use_as, inner, behind, behind_first}
 use Rattle.c_model.specs.ProgramTyping.{term_named, typed_term, typed_links, typed_predicate, typed_clause, typed_annotations, noted_statement, noted_else, noted_item, noted_items}
 use Rattle.c_model.specs.Formed.{IsLogicNumber, IsSumTerm, leaves_of_term, IsShortTerm, IsRelation, AreAsserts, depth, depth_of_else, depth_of_item, depth_of_items, StatementFormed, ElseFormed, ItemFormed, ItemsFormed, declared_within, declared_in_else, declared_in_first, declared_in_item, declared_in_items, most_typed}
 use Rattle.c_reader.proofs.KeptExpressions.{Holds, holds_one, holds_both, holds_more}
@@ -114,21 +114,16 @@ record IsSameTerm (t u : LogicTerm) : Type 0 where
 term_named_kept : (s : Scopes) (at : Place) (t : Option PlainType) (r : Range) (x : Use) → Holds (IsSameTerm (logic.Variable at t r x)) (term_named s at r x.name)
 term_named_kept s at t r x = by (object_named x.name s.objects)
   where
-    last : (b : Bool) → Holds (IsSameTerm (logic.Variable at t r x)) (cond b (faulty (no_type at)) (faulty (no_name at)))
-    last true = tt
-    last false = tt
-
-    constant : (o : Option (CInt × ℤ)) → library_constant (name_at s.names x.name) ≡ o → Holds (IsSameTerm (logic.Variable at t r x)) (elim o [ Some c ↦ Good (logic.Number at None r c.1) | None ↦ cond (is_there (library_function x.name (name_at s.names x.name))) (faulty (no_type at)) (faulty (no_name at)) ])
+    constant : (o : Option (CInt × ℤ)) → library_constant (name_at s.names x.name) ≡ o → Holds (IsSameTerm (logic.Variable at t r x)) (given o (no_name at) (λ c. Good (logic.Number at None r c.1)))
     constant (Some c) e = record { is = library_constant_is (name_at s.names x.name) c e; few = refl }
-    constant None e = last (is_there (library_function x.name (name_at s.names x.name)))
+    constant None e = tt
 
-    function : (o : Option Signature) → Holds (IsSameTerm (logic.Variable at t r x)) (elim o [ Some f ↦ faulty (no_type at) | None ↦ elim (library_constant (name_at s.names x.name)) [ Some c ↦ Good (logic.Number at None r c.1) | None ↦ cond (is_there (library_function x.name (name_at s.names x.name))) (faulty (no_type at)) (faulty (no_name at)) ] ])
-    function (Some f) = tt
-    function None = constant (library_constant (name_at s.names x.name)) refl
-
-    by : (o : Option Object) → Holds (IsSameTerm (logic.Variable at t r x)) (elim o [ Some b ↦ Good (logic.Variable at (Some b.ctype) r (use_as x.name b.decl)) | None ↦ elim (function_called x.name s.functions) [ Some f ↦ faulty (no_type at) | None ↦ elim (library_constant (name_at s.names x.name)) [ Some c ↦ Good (logic.Number at None r c.1) | None ↦ cond (is_there (library_function x.name (name_at s.names x.name))) (faulty (no_type at)) (faulty (no_name at)) ] ] ])
+    by : (o : Option Object) → Holds (IsSameTerm (logic.Variable at t r x)) (elim o [
+      | Some b ↦ Good (logic.Variable at (Some b.ctype) r (use_as x.name b.decl))
+      | None ↦ given (library_constant (name_at s.names x.name)) (no_name at) (λ c. Good (logic.Number at None r c.1))
+    ])
     by (Some b) = record { is = tt; few = refl }
-    by None = function (function_called x.name s.functions)
+    by None = constant (library_constant (name_at s.names x.name)) refl
 
 term_kept : (s : Scopes) (t : LogicTerm) → IsSumTerm t → Holds (IsSameTerm t) (typed_term s t)
 term_kept s (logic.Number at t r z) h = record { is = h; few = refl }

@@ -1,5 +1,5 @@
 -- The typed body with its typed annotations is well typed.
-use Rattle.std.proofs.Common.{◌≡◌, ℤ, ℕ, refl, sym, subst, List, [], ◌∷◌, Option, Some, None, Bool, true, false, cond}
+use Rattle.std.proofs.Common.{◌≡◌, ℤ, ℕ, refl, sym, subst, List, [], ◌∷◌, Option, Some, None}
 use Rattle.c_syntax.specs.declared.place.Place.{Place}
 use Rattle.c_syntax.specs.declared.types.CInt.{CInt}
 use Rattle.c_syntax.specs.declared.annotation.Range.{Range}
@@ -7,52 +7,26 @@ use Rattle.c_syntax.specs.Ctypes.{PlainType}
 use Rattle.c_syntax.specs.Annotations.{LogicTerm, Number, Letter, Variable, Binary, Predicate, Chain, Links, NoLink, Linked, ClauseBody, Truth, Annotation}
 use Rattle.c_syntax.specs.Statements.{Statement, Empty, Eval, Block, If, While, Do, For, Break, Continue, Return, ElsePart, NoElse, Else, BlockItem, Declare, Run, Asserts, BlockItems, NoItem, Then}
 use Rattle.c_model.specs.Library.{library_constant, is_there}
-use Rattle.c_model.specs.Checked.{Good, faulty, one_part}
-use Rattle.c_model.specs.Typing.{no_name, no_type, Object, Signature, Scopes, name_at, object_named, function_called, library_function, use_as, Around, in_loop, inner, behind, behind_first, typed_items}
+use Rattle.c_model.specs.Checked.{Good, given, one_part}
+use Rattle.c_model.specs.Typing.{no_name, Object, Scopes, name_at, object_named, use_as, Around, in_loop, inner, behind, behind_first, typed_items}
 use Rattle.c_model.specs.ProgramTyping.{typed_body, term_named, typed_term, typed_links, typed_predicate, typed_clause, typed_annotations, noted_statement, noted_else, noted_item, noted_items, noted_body}
 use Rattle.c_model.specs.WellTypedPrograms.{StatementTyped, ElseTyped, ItemTyped, ItemsTyped, TermTyped, LinksTyped, PredicateTyped, ClauseTyped, AnnotationsTyped, StatementNoted, ElseNoted, ItemNoted, ItemsNoted, around_body, BodyTyped}
-use Rattle.c_type_rules.proofs.Gives.{Gives, gives_one, gives_both}
+use Rattle.c_type_rules.proofs.Gives.{Gives, gives_one, gives_both, gives_given}
 use Rattle.c_typing.proofs.WellStatements.{items_well}
 
 -- ---- annotations
 
 -- a name in a term, by what it denotes
-pub by_name : (P : LogicTerm → Type 0) (s : Scopes) (at : Place) (r : Range) (x : ℕ) → ((b : Object) → object_named x s.objects ≡ Some b → P (Variable at (Some b.ctype) r (use_as x b.decl))) → ((c : CInt × ℤ) → library_constant (name_at s.names x) ≡ Some c → P (Number at None r c.1)) → Gives P (term_named s at r x)
+pub by_name : (P : LogicTerm → Type 0) (s : Scopes) (at : Place) (r : Range) (x : ℕ) → ((b : Object) → object_named x s.objects ≡ Some b → P (Variable at (Some b.ctype) r (use_as x b.decl)))
+    → ((c : CInt × ℤ) → library_constant (name_at s.names x) ≡ Some c → P (Number at None r c.1)) → Gives P (term_named s at r x)
 by_name P s at r x object constant = by (object_named x s.objects) refl
   where
-    by_library_name : (b : Bool) → Gives P (cond b (faulty (no_type at)) (faulty (no_name at)))
-    by_library_name true = tt
-    by_library_name false = tt
-
-    by_constant : (o : Option (CInt × ℤ)) → library_constant (name_at s.names x) ≡ o → Gives P (elim o [
-      | Some c ↦ Good (Number at None r c.1)
-      | None ↦ cond (is_there (library_function x (name_at s.names x))) (faulty (no_type at)) (faulty (no_name at))
-    ])
-    by_constant (Some c) e = constant c e
-    by_constant None e = by_library_name _
-
-    by_function : (o : Option Signature) → Gives P (elim o [
-      | Some f ↦ faulty (no_type at)
-      | None ↦ elim (library_constant (name_at s.names x)) [
-        | Some c ↦ Good (Number at None r c.1)
-        | None ↦ cond (is_there (library_function x (name_at s.names x))) (faulty (no_type at)) (faulty (no_name at))
-      ]
-    ])
-    by_function (Some f) = tt
-    by_function None = by_constant (library_constant (name_at s.names x)) refl
-
     by : (o : Option Object) → object_named x s.objects ≡ o → Gives P (elim o [
       | Some b ↦ Good (Variable at (Some b.ctype) r (use_as x b.decl))
-      | None ↦ elim (function_called x s.functions) [
-        | Some f ↦ faulty (no_type at)
-        | None ↦ elim (library_constant (name_at s.names x)) [
-          | Some c ↦ Good (Number at None r c.1)
-          | None ↦ cond (is_there (library_function x (name_at s.names x))) (faulty (no_type at)) (faulty (no_name at))
-        ]
-      ]
+      | None ↦ given (library_constant (name_at s.names x)) (no_name at) (λ c. Good (Number at None r c.1))
     ])
     by (Some b) e = object b e
-    by None e = by_function (function_called x s.functions)
+    by None e = gives_given P (library_constant (name_at s.names x)) (no_name at) (λ c. Good (Number at None r c.1)) constant
 
 term_well : (s : Scopes) (t : LogicTerm) → Gives (TermTyped s) (typed_term s t)
 term_well s (Number at c r n) = tt
@@ -114,7 +88,8 @@ mutual
       gives_one (IsNoted s a) (IsNoted s (Do at a e)) (noted_statement s a) (λ a. Good (Do at a e)) (statement_noted s a) (λ c w.
       record { noted = w.noted; kept = λ r h. (w.kept (in_loop r) h.0, h.1) })
   statement_noted s (For at annots first e step a) =
-      gives_one (AnnotationsTyped s) (IsNoted s (For at annots first e step a)) (typed_annotations s annots) (λ annots. one_part (noted_statement (behind_first (inner s) first) a) (λ a. Good (For at annots first e step a))) (annotations_well s annots) (λ n v.
+      gives_one (AnnotationsTyped s) (IsNoted s (For at annots first e step a)) (typed_annotations s annots)
+      (λ annots. one_part (noted_statement (behind_first (inner s) first) a) (λ a. Good (For at annots first e step a))) (annotations_well s annots) (λ n v.
       gives_one (IsNoted (behind_first (inner s) first) a) (IsNoted s (For at annots first e step a)) (noted_statement (behind_first (inner s) first) a) (λ a. Good (For at n first e step a)) (statement_noted (behind_first (inner s) first) a) (λ c w.
       record { noted = (v, w.noted); kept = λ r h. (h.0, h.1, h.2, w.kept (in_loop r) h.3) }))
   statement_noted s (Break at) = record { noted = tt; kept = λ r w. w }
@@ -154,7 +129,8 @@ body_itself P a h = record { well = h; there = refl }
 
 pub body_well : (s : Scopes) (t : PlainType) (b : Option Statement) → Gives (IsBody (BodyWell s t) b) (typed_body s t b)
 body_well s t (Some (Block at items)) =
-    gives_one (ItemsTyped s (around_body t)) (IsBody (BodyWell s t) (Some (Block at items))) (typed_items s (around_body t) items) (λ items. Good (Some (Block at items))) (items_well s (around_body t) items) (λ items w. record { well = w; there = refl })
+    gives_one (ItemsTyped s (around_body t)) (IsBody (BodyWell s t) (Some (Block at items))) (typed_items s (around_body t) items) (λ items. Good (Some (Block at items)))
+    (items_well s (around_body t) items) (λ items w. record { well = w; there = refl })
 body_well s t None = body_itself (BodyWell s t) _ tt
 body_well s t (Some (Empty at)) = body_itself (BodyWell s t) _ tt
 body_well s t (Some (Eval at e)) = body_itself (BodyWell s t) _ tt

@@ -11,8 +11,8 @@ ghost use Rattle.c_typing.specs.Trees.{plain_link};
 
 use c_syntax::{Annot, Body, CType, Link, Pred, PredKind, Term, TermKind, Use};
 use c_type_rules::conversion::copy_type;
-use c_type_rules::fault::{TypeFault, both, no_name, no_type};
-use c_type_rules::library::{library_constant, library_function};
+use c_type_rules::fault::{TypeFault, both, no_name};
+use c_type_rules::library::library_constant;
 use c_type_rules::scope::{Scopes, name_at, object_named};
 use std::mem::replace;
 
@@ -24,7 +24,7 @@ fn put(t: &mut Term, kind: TermKind, ctype: Option<CType>)
     t.ctype = ctype;
 }
 
-/// A name in a term: an object, or a constant of the library.
+/// A name in a term: an object, or a constant of the library (ACSL 2.2).
 fn term_named(scopes: &Scopes, t: &mut Term, name: u32) -> Result<(), TypeFault>
     ensures { Answers (λ _. plain_term t.new) (term_named (plain_scopes scopes.now) t.old.place t.old.range name) result }
 {
@@ -37,22 +37,12 @@ fn term_named(scopes: &Scopes, t: &mut Term, name: u32) -> Result<(), TypeFault>
         );
         return Ok(());
     }
-    if scopes.functions.called(name).is_some() {
-        return Err(no_type(t.place));
-    }
-    let bytes = name_at(&scopes.names, name);
-    match library_constant(bytes) {
+    match library_constant(name_at(&scopes.names, name)) {
         Some((_, n)) => {
             put(t, TermKind::Number(n), None);
             Ok(())
         }
-        None => {
-            if library_function(bytes).is_some() {
-                Err(no_type(t.place))
-            } else {
-                Err(no_name(t.place))
-            }
-        }
+        None => Err(no_name(t.place)),
     }
 }
 
