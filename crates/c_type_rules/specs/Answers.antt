@@ -15,6 +15,11 @@ Answers plain c (Ok t) = c ≡ Good (plain t)
 Answers plain c (Err (Refused f)) = refusing c ≡ Some (plain_fault f)
 Answers plain c (Err Memory) = Unit {0}
 
+-- a fault of the text: memory was not wanting
+abbrev pub IsRefusal : TypeFault → Type 0
+IsRefusal (Refused f) = Unit {0}
+IsRefusal Memory = ⊥
+
 -- the fault that comes of two
 abbrev pub first_of : TypeFault → TypeFault → TypeFault
 first_of (Refused f) (Refused g) = Refused (cond (nat_lt (rank (plain_fault g)) (rank (plain_fault f))) g f)

@@ -1,11 +1,11 @@
 //! Names and calls (C99 6.5.1, 6.5.2.2).
 
-ghost use Rattle.std.specs.Prelude.{◌≡◌, IfOk, map};
+ghost use Rattle.std.specs.Prelude.{◌≡◌, IfErr, IfOk, map};
 ghost use Rattle.c_syntax.specs.Ctypes.{plain_type};
 ghost use Rattle.c_syntax.specs.Expressions.{Call, Node, plain_expr, plain_exprs, plain_kind};
 ghost use Rattle.c_model.specs.Checked.{one_part};
 ghost use Rattle.c_model.specs.Typing.{argument, argument_for, call, callee, first_type, named, use_as};
-ghost use Rattle.c_type_rules.specs.Answers.{Answers};
+ghost use Rattle.c_type_rules.specs.Answers.{Answers, IsRefusal};
 ghost use Rattle.c_type_rules.specs.Library.{signature_of};
 ghost use Rattle.c_type_rules.specs.Signatures.{plain_signature};
 ghost use Rattle.c_type_rules.specs.Scopes.{callable, known_params, library_callee, plain_scopes};
@@ -26,7 +26,8 @@ pub fn mean(
     name: u32,
     kind: &mut ExprKind,
 ) -> Result<CType, TypeFault>
-    ensures { Answers (λ t. Node place (plain_type t) (plain_kind kind.new)) (named (plain_scopes scopes.now) place name) result }
+    ensures typed { Answers (λ t. Node place (plain_type t) (plain_kind kind.new)) (named (plain_scopes scopes.now) place name) result }
+    ensures sure { IfErr result IsRefusal }
 {
     if let Some(object) = object_named(&scopes.objects, name) {
         let decl = object.decl;
@@ -76,7 +77,8 @@ fn library_signature(alloc: Global, name: u32, f: LibraryFunction) -> Result<Sig
 
 /// A function that is called, where the file defines it and it isn't `main`.
 fn callable(place: Place, bytes: &[u8], f: Signature) -> Result<Signature, TypeFault>
-    ensures { Answers plain_signature (callable place bytes.now (plain_signature f)) result }
+    ensures callable { Answers plain_signature (callable place bytes.now (plain_signature f)) result }
+    ensures sure { IfErr result IsRefusal }
 {
     if !f.defined {
         return Err(no_name(place));
@@ -167,7 +169,9 @@ pub fn argument_for(alloc: Global, params: &[CType], e: &mut Expr) -> Result<(),
 
 /// The number of arguments is that of the parameters.
 fn called(place: Place, f: &Signature, arguments: &[Expr]) -> Result<CType, TypeFault>
-    ensures { Answers (λ t. Node place (plain_type t) (Call (use_as f.now.name f.now.decl) (plain_exprs arguments.now))) (call place (plain_signature f.now) (plain_exprs arguments.now)) result }
+    ensures typed { Answers (λ t. Node place (plain_type t) (Call (use_as f.now.name f.now.decl) (plain_exprs arguments.now)))
+        (call place (plain_signature f.now) (plain_exprs arguments.now)) result }
+    ensures sure { IfErr result IsRefusal }
 {
     if arguments.len() == f.params.len() {
         Ok(copy_type(&f.result))
@@ -184,7 +188,8 @@ pub fn call(
     x: &mut Use,
     arguments: &[Expr],
 ) -> Result<CType, TypeFault>
-    ensures { Answers (λ t. Node place (plain_type t) (Call x.new (plain_exprs arguments.now))) (one_part (callee (plain_scopes scopes.now) place x.old.name) (λ f. call place f (plain_exprs arguments.now))) result }
+    ensures { Answers (λ t. Node place (plain_type t) (Call x.new (plain_exprs arguments.now)))
+        (one_part (callee (plain_scopes scopes.now) place x.old.name) (λ f. call place f (plain_exprs arguments.now))) result }
 {
     let f = callee(alloc, scopes, place, x.name)?;
     x.name = f.name;

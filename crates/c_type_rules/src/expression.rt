@@ -105,7 +105,8 @@ fn type_arguments(
     arguments: &mut Vec<Expr>,
     params: &[CType],
 ) -> Result<(), TypeFault>
-    ensures { Answers (λ _. plain_exprs arguments.new.items) (typed_arguments (plain_scopes scopes.now) (map plain_type params.now) (plain_exprs arguments.old.items)) result }
+    ensures { Answers (λ _. plain_exprs arguments.new.items)
+        (typed_arguments (plain_scopes scopes.now) (map plain_type params.now) (plain_exprs arguments.old.items)) result }
 {
     let mut done = Ok(());
     let mut rest = params;
@@ -125,7 +126,8 @@ fn type_argument(
     e: &mut Expr,
     params: &[CType],
 ) -> Result<(), TypeFault>
-    ensures { Answers (λ _. plain_expr e.new) (one_part (typed (plain_scopes scopes.now) (plain_expr e.old)) (argument_for (first_type (map plain_type params.now)))) result }
+    ensures { Answers (λ _. plain_expr e.new)
+        (one_part (typed (plain_scopes scopes.now) (plain_expr e.old)) (argument_for (first_type (map plain_type params.now)))) result }
 {
     type_expr(alloc, scopes, e)?;
     argument_for(alloc, params, e)

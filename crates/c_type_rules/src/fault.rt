@@ -1,9 +1,9 @@
 //! Why a tree isn't typed.
 
-ghost use Rattle.std.specs.Prelude.{◌≡◌};
+ghost use Rattle.std.specs.Prelude.{◌≡◌, IfErr};
 ghost use Rattle.c_model.specs.Checked.{rank};
 ghost use Rattle.c_type_rules.specs.declared.fault.TypeFault.TheVariants.{Refused, Memory};
-ghost use Rattle.c_type_rules.specs.Answers.{both, first_of, plain_fault};
+ghost use Rattle.c_type_rules.specs.Answers.{IsRefusal, both, first_of, plain_fault};
 
 use c_syntax::Place;
 use std::alloc::{AllocError, AllocFailed};
@@ -61,7 +61,8 @@ fn rank(f: Fault) -> u64
 
 /// The first of two faults in the text.
 fn first_of(f: TypeFault, g: TypeFault) -> TypeFault
-    ensures { result ≡ first_of f g }
+    ensures is { result ≡ first_of f g }
+    ensures sure { IsRefusal f → IsRefusal g → IsRefusal result }
 {
     match f {
         TypeFault::Memory => TypeFault::Memory,
@@ -80,7 +81,8 @@ fn first_of(f: TypeFault, g: TypeFault) -> TypeFault
 
 /// An answer and that of another part, which tells no more than its fault, as one.
 pub fn both<T: Drop>(a: Result<T, TypeFault>, b: Result<(), TypeFault>) -> Result<T, TypeFault>
-    ensures { result ≡ both a b }
+    ensures is { result ≡ both a b }
+    ensures sure { IfErr a IsRefusal → IfErr b IsRefusal → IfErr result IsRefusal }
 {
     match b {
         Ok(()) => a,

@@ -1,13 +1,15 @@
 //! What each form of an expression demands of its parts, which have no fault (C99 6.5): the conversions of its operands in place, and
 //! the type that it has.
 
-ghost use Rattle.std.specs.Prelude.{◌≡◌, OnOk, Some, None, cond};
+ghost use Rattle.std.specs.Prelude.{◌≡◌, IfErr, OnOk, Some, None, cond};
 ghost use Rattle.c_syntax.specs.declared.types.CInt.TheVariants.{U64};
 ghost use Rattle.c_syntax.specs.Ctypes.{Int, plain_type};
-ghost use Rattle.c_syntax.specs.Expressions.{Assign, Binary, Both, Bump, Cast, Choice, Either, Node, SizeOfExpr, SizeOfType, Unary, place_of, plain_expr, plain_kind};
+ghost use Rattle.c_syntax.specs.Expressions.{Assign, Binary, Both, Bump, Cast, Choice, Either};
+ghost use Rattle.c_syntax.specs.Expressions.{Node, SizeOfExpr, SizeOfType, Unary, place_of, plain_expr, plain_kind};
 ghost use Rattle.c_model.specs.Conversions.{common, is_shift, promoted};
-ghost use Rattle.c_model.specs.Typing.{assign, assigned, binary, both_of, bump, cast, choice_of, compounded, either_of, in_type, in_int, is_place, size_of_expression, size_of_type, unary};
-ghost use Rattle.c_type_rules.specs.Answers.{Answers};
+ghost use Rattle.c_model.specs.Typing.{assign, assigned, binary, both_of, bump, cast, choice_of, compounded};
+ghost use Rattle.c_model.specs.Typing.{either_of, in_type, in_int, is_place, size_of_expression, size_of_type, unary};
+ghost use Rattle.c_type_rules.specs.Answers.{Answers, IsRefusal};
 ghost use Rattle.c_type_rules.specs.Scopes.{literal_at};
 
 use crate::conversion::{
@@ -69,7 +71,8 @@ fn is_place(e: &Expr) -> bool
 
 /// An integer literal has the first type that holds it (C99 6.4.4.1).
 pub fn literal(place: Place, kind: &ExprKind) -> Result<CType, TypeFault>
-    ensures { Answers (λ t. Node place (plain_type t) (plain_kind kind.now)) (literal_at place (plain_kind kind.now)) result }
+    ensures typed { Answers (λ t. Node place (plain_type t) (plain_kind kind.now)) (literal_at place (plain_kind kind.now)) result }
+    ensures sure { IfErr result IsRefusal }
 {
     match kind {
         ExprKind::Number(n, Some(k)) if fits(*k, *n) => Ok(CType::Int(*k)),
@@ -118,7 +121,8 @@ pub fn binary(
     a: &mut Expr,
     b: &mut Expr,
 ) -> Result<CType, TypeFault>
-    ensures { Answers (λ t. Node place (plain_type t) (Binary op (plain_expr a.new) (plain_expr b.new))) (binary place op (plain_expr a.old) (plain_expr b.old)) result }
+    ensures { Answers (λ t. Node place (plain_type t) (Binary op (plain_expr a.new) (plain_expr b.new)))
+        (binary place op (plain_expr a.old) (plain_expr b.old)) result }
 {
     match (integer_of(&a.ctype), integer_of(&b.ctype)) {
         (Some(k), Some(l)) => {
@@ -133,8 +137,11 @@ pub fn binary(
 
 /// `a && b` and `a || b` (C99 6.5.13, 6.5.14).
 pub fn truth_of(place: Place, a: &Expr, b: &Expr) -> Result<CType, TypeFault>
-    ensures both { Answers (λ t. Node place (plain_type t) (Both (plain_expr a.now) (plain_expr b.now))) (both_of place (plain_expr a.now) (plain_expr b.now)) result }
-    ensures either { Answers (λ t. Node place (plain_type t) (Either (plain_expr a.now) (plain_expr b.now))) (either_of place (plain_expr a.now) (plain_expr b.now)) result }
+    ensures both { Answers (λ t. Node place (plain_type t) (Both (plain_expr a.now) (plain_expr b.now)))
+        (both_of place (plain_expr a.now) (plain_expr b.now)) result }
+    ensures either { Answers (λ t. Node place (plain_type t) (Either (plain_expr a.now) (plain_expr b.now)))
+        (either_of place (plain_expr a.now) (plain_expr b.now)) result }
+    ensures sure { IfErr result IsRefusal }
 {
     if is_scalar(&a.ctype) && is_scalar(&b.ctype) {
         Ok(CType::Int(CInt::I32))
@@ -151,7 +158,8 @@ pub fn choice_of(
     b: &mut Expr,
     c: &mut Expr,
 ) -> Result<CType, TypeFault>
-    ensures { Answers (λ t. Node place (plain_type t) (Choice (plain_expr a.now) (plain_expr b.new) (plain_expr c.new))) (choice_of place (plain_expr a.now) (plain_expr b.old) (plain_expr c.old)) result }
+    ensures { Answers (λ t. Node place (plain_type t) (Choice (plain_expr a.now) (plain_expr b.new) (plain_expr c.new)))
+        (choice_of place (plain_expr a.now) (plain_expr b.old) (plain_expr c.old)) result }
 {
     if !is_scalar(&a.ctype) {
         return Err(no_type(place));
@@ -168,7 +176,8 @@ pub fn choice_of(
 
 /// `a = b` (C99 6.5.16.1).
 fn assigned(alloc: Global, place: Place, a: &Expr, b: &mut Expr) -> Result<CType, TypeFault>
-    ensures { Answers (λ t. Node place (plain_type t) (Assign None (plain_expr a.now) (plain_expr b.new))) (assigned place (plain_expr a.now) (plain_expr b.old)) result }
+    ensures { Answers (λ t. Node place (plain_type t) (Assign None (plain_expr a.now) (plain_expr b.new)))
+        (assigned place (plain_expr a.now) (plain_expr b.old)) result }
 {
     if is_place(a) && is_assigned(&b.ctype, &a.ctype) {
         in_type(alloc, &a.ctype, b)?;
@@ -180,7 +189,9 @@ fn assigned(alloc: Global, place: Place, a: &Expr, b: &mut Expr) -> Result<CType
 
 /// `a op= b` (C99 6.5.16.2).
 fn compounded(place: Place, op: BinOp, a: &Expr, b: &Expr) -> Result<CType, TypeFault>
-    ensures { Answers (λ t. Node place (plain_type t) (Assign (Some op) (plain_expr a.now) (plain_expr b.now))) (compounded place op (plain_expr a.now) (plain_expr b.now)) result }
+    ensures typed { Answers (λ t. Node place (plain_type t) (Assign (Some op) (plain_expr a.now) (plain_expr b.now)))
+        (compounded place op (plain_expr a.now) (plain_expr b.now)) result }
+    ensures sure { IfErr result IsRefusal }
 {
     if is_place(a) && integer_of(&a.ctype).is_some() && integer_of(&b.ctype).is_some() {
         Ok(copy_type(&a.ctype))
@@ -197,7 +208,8 @@ pub fn assign(
     a: &Expr,
     b: &mut Expr,
 ) -> Result<CType, TypeFault>
-    ensures { Answers (λ t. Node place (plain_type t) (Assign op (plain_expr a.now) (plain_expr b.new))) (assign place op (plain_expr a.now) (plain_expr b.old)) result }
+    ensures { Answers (λ t. Node place (plain_type t) (Assign op (plain_expr a.now) (plain_expr b.new)))
+        (assign place op (plain_expr a.now) (plain_expr b.old)) result }
 {
     match op {
         None => assigned(alloc, place, a, b),
@@ -207,7 +219,8 @@ pub fn assign(
 
 /// `++` and `--` (C99 6.5.2.4, 6.5.3.1).
 pub fn bump(place: Place, _op: BumpOp, a: &Expr) -> Result<CType, TypeFault>
-    ensures { Answers (λ t. Node place (plain_type t) (Bump _op (plain_expr a.now))) (bump place _op (plain_expr a.now)) result }
+    ensures typed { Answers (λ t. Node place (plain_type t) (Bump _op (plain_expr a.now))) (bump place _op (plain_expr a.now)) result }
+    ensures sure { IfErr result IsRefusal }
 {
     if is_place(a) && integer_of(&a.ctype).is_some() {
         Ok(copy_type(&a.ctype))
@@ -218,7 +231,9 @@ pub fn bump(place: Place, _op: BumpOp, a: &Expr) -> Result<CType, TypeFault>
 
 /// Casts (C99 6.5.4).
 pub fn cast(place: Place, to: &CType, a: &Expr) -> Result<CType, TypeFault>
-    ensures { Answers (λ t. Node place (plain_type t) (Cast (plain_type to.now) (plain_expr a.now))) (cast place (plain_type to.now) (plain_expr a.now)) result }
+    ensures typed { Answers (λ t. Node place (plain_type t) (Cast (plain_type to.now) (plain_expr a.now)))
+        (cast place (plain_type to.now) (plain_expr a.now)) result }
+    ensures sure { IfErr result IsRefusal }
 {
     if is_cast(&a.ctype, to) {
         Ok(copy_type(to))
@@ -236,7 +251,8 @@ fn size_type() -> CType
 
 /// `sizeof` of a type that has a size (C99 6.5.3.4).
 pub fn size_of_type(place: Place, u: &CType) -> Result<CType, TypeFault>
-    ensures { Answers (λ t. Node place (plain_type t) (SizeOfType (plain_type u.now))) (size_of_type place (plain_type u.now)) result }
+    ensures typed { Answers (λ t. Node place (plain_type t) (SizeOfType (plain_type u.now))) (size_of_type place (plain_type u.now)) result }
+    ensures sure { IfErr result IsRefusal }
 {
     if is_object_type(u) {
         Ok(size_type())
@@ -247,7 +263,8 @@ pub fn size_of_type(place: Place, u: &CType) -> Result<CType, TypeFault>
 
 /// `sizeof` of an expression that has a size (C99 6.5.3.4).
 pub fn size_of_expression(place: Place, a: &Expr) -> Result<CType, TypeFault>
-    ensures { Answers (λ t. Node place (plain_type t) (SizeOfExpr (plain_expr a.now))) (size_of_expression place (plain_expr a.now)) result }
+    ensures typed { Answers (λ t. Node place (plain_type t) (SizeOfExpr (plain_expr a.now))) (size_of_expression place (plain_expr a.now)) result }
+    ensures sure { IfErr result IsRefusal }
 {
     if is_object_type(&a.ctype) {
         Ok(size_type())

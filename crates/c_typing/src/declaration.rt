@@ -1,10 +1,10 @@
 //! Declarations (C99 6.7).
 
-ghost use Rattle.std.specs.Prelude.{◌≡◌, OnOk, Some, map};
+ghost use Rattle.std.specs.Prelude.{◌≡◌, IfErr, OnOk, Some, map};
 ghost use Rattle.c_syntax.specs.Ctypes.{plain_type};
 ghost use Rattle.c_syntax.specs.Statements.{plain_decl, plain_init};
 ghost use Rattle.c_model.specs.Typing.{declarable, typed_declaration, typed_declarations, typed_initialiser, with_object, with_objects};
-ghost use Rattle.c_type_rules.specs.Answers.{Answers};
+ghost use Rattle.c_type_rules.specs.Answers.{Answers, IsRefusal};
 ghost use Rattle.c_type_rules.specs.Scopes.{plain_scopes};
 ghost use Rattle.c_typing.specs.Scopes.{at_file};
 ghost use Rattle.c_typing.specs.Trees.{plain_initialiser};
@@ -26,7 +26,8 @@ fn type_init(
     place: Place,
     init: &mut Init,
 ) -> Result<(), TypeFault>
-    ensures { Answers (λ _. Some (place, plain_init init.new)) (typed_initialiser (plain_scopes scopes.now) (plain_type ctype.now) (Some (place, plain_init init.old))) result }
+    ensures { Answers (λ _. Some (place, plain_init init.new))
+        (typed_initialiser (plain_scopes scopes.now) (plain_type ctype.now) (Some (place, plain_init init.old))) result }
 {
     match init {
         Init::One(e) => {
@@ -47,7 +48,8 @@ fn type_initialiser(
     ctype: &CType,
     init: &mut Option<(Place, Init)>,
 ) -> Result<(), TypeFault>
-    ensures { Answers (λ _. plain_initialiser init.new) (typed_initialiser (plain_scopes scopes.now) (plain_type ctype.now) (plain_initialiser init.old)) result }
+    ensures { Answers (λ _. plain_initialiser init.new)
+        (typed_initialiser (plain_scopes scopes.now) (plain_type ctype.now) (plain_initialiser init.old)) result }
 {
     match init {
         None => Ok(()),
@@ -57,7 +59,8 @@ fn type_initialiser(
 
 /// A declared name: of an object type, once in its scope, and none of the library's (C99 6.7).
 pub fn declarable(scopes: &Scopes, d: &Decl) -> Result<(), TypeFault>
-    ensures { Answers (λ _. plain_decl d.now) (declarable (plain_scopes scopes.now) (plain_decl d.now)) result }
+    ensures checked { Answers (λ _. plain_decl d.now) (declarable (plain_scopes scopes.now) (plain_decl d.now)) result }
+    ensures sure { IfErr result IsRefusal }
 {
     if is_library_name(name_at(&scopes.names, d.name)) {
         return Err(no_name(d.place));

@@ -44,7 +44,8 @@ fn type_body_items(
     ctype: &CType,
     items: &mut Vec<Item>,
 ) -> Result<(), TypeFault>
-    ensures typed { Answers (λ _. plain_items items.new.items) (typed_items (plain_scopes scopes.old) (around_body (plain_type ctype.now)) (plain_items items.old.items)) result }
+    ensures typed { Answers (λ _. plain_items items.new.items)
+        (typed_items (plain_scopes scopes.old) (around_body (plain_type ctype.now)) (plain_items items.old.items)) result }
     ensures file { at_file (plain_scopes scopes.new) ≡ at_file (plain_scopes scopes.old) }
 {
     let around = Around {
@@ -61,7 +62,8 @@ fn type_body_kind(
     ctype: &CType,
     kind: &mut StmtKind,
 ) -> Result<(), TypeFault>
-    ensures typed { (at : Place) → Answers (λ _. Some (plain_stmt_kind at kind.new)) (typed_body (plain_scopes scopes.old) (plain_type ctype.now) (Some (plain_stmt_kind at kind.old))) result }
+    ensures typed { (at : Place) → Answers (λ _. Some (plain_stmt_kind at kind.new))
+        (typed_body (plain_scopes scopes.old) (plain_type ctype.now) (Some (plain_stmt_kind at kind.old))) result }
     ensures file { at_file (plain_scopes scopes.new) ≡ at_file (plain_scopes scopes.old) }
 {
     match kind {
@@ -76,7 +78,8 @@ fn type_body(
     ctype: &CType,
     body: &mut Option<Stmt>,
 ) -> Result<(), TypeFault>
-    ensures typed { Answers (λ _. option_map plain_stmt body.new) (typed_body (plain_scopes scopes.old) (plain_type ctype.now) (option_map plain_stmt body.old)) result }
+    ensures typed { Answers (λ _. option_map plain_stmt body.new)
+        (typed_body (plain_scopes scopes.old) (plain_type ctype.now) (option_map plain_stmt body.old)) result }
     ensures file { at_file (plain_scopes scopes.new) ≡ at_file (plain_scopes scopes.old) }
 {
     match body {

@@ -1,17 +1,18 @@
 //! Headings of functions: what each name denotes, which declarations of one name fit each other, and what each tells its callers
 //! (C99 6.2.1, 6.7.5.3, 6.9).
 
-ghost use Rattle.std.specs.Prelude.{◌≡◌, ℕ, IfOk, OnOk, map, nat_eq};
+ghost use Rattle.std.specs.Prelude.{◌≡◌, ℕ, IfErr, IfOk, OnOk, map, nat_eq};
 ghost use Rattle.indexmap.specs.IndexMap.{get};
 ghost use Rattle.c_syntax.specs.Ctypes.{plain_type};
 ghost use Rattle.c_syntax.specs.Statements.{plain_decl};
 ghost use Rattle.c_syntax.specs.Programs.{plain_func};
 ghost use Rattle.c_model.specs.Typing.{function_called};
 ghost use Rattle.c_model.specs.ProgramTyping.{same_types, types_of};
-ghost use Rattle.c_type_rules.specs.Answers.{Answers};
+ghost use Rattle.c_type_rules.specs.Answers.{Answers, IsRefusal};
 ghost use Rattle.c_type_rules.specs.Scopes.{plain_scopes};
 ghost use Rattle.c_type_rules.specs.Signatures.{plain_signature};
-ghost use Rattle.c_typing.specs.Functions.{checked_heading, declared, denoted, fits, has_type, is_alike, tells_more, was_defined, with_function, with_known, with_told};
+ghost use Rattle.c_typing.specs.Functions.{checked_heading, declared, denoted, fits, has_type, is_alike};
+ghost use Rattle.c_typing.specs.Functions.{tells_more, was_defined, with_function, with_known, with_told};
 
 use c_syntax::{CType, Decl, Func};
 use c_type_rules::conversion::{copy_type, same_type};
@@ -101,7 +102,8 @@ pub struct Noted {
 
 /// Whether a function fits those that are declared before it: it has their type, and is defined once (C99 6.7 p4, 6.9 p5).
 fn fits(functions: &Functions, names: &IndexMap<u32, Noted>, f: &Func) -> bool
-    ensures { result ≡ fits (function_called f.now.name (map plain_signature functions.now.signatures.items)) (get nat_eq names.now f.now.name) (plain_func f.now) }
+    ensures { result ≡ fits (function_called f.now.name (map plain_signature functions.now.signatures.items))
+        (get nat_eq names.now f.now.name) (plain_func f.now) }
 {
     match names.get(&f.name) {
         None => true,
@@ -118,7 +120,8 @@ pub fn check_heading(
     names: &IndexMap<u32, Noted>,
     f: &Func,
 ) -> Result<(), TypeFault>
-    ensures { Answers (λ _. tt) (checked_heading (plain_scopes scopes.now) (get nat_eq names.now) (plain_func f.now)) result }
+    ensures checked { Answers (λ _. tt) (checked_heading (plain_scopes scopes.now) (get nat_eq names.now) (plain_func f.now)) result }
+    ensures sure { IfErr result IsRefusal }
 {
     if is_library_name(name_at(&scopes.names, f.name)) {
         return Err(no_name(f.place));
@@ -142,7 +145,8 @@ fn was_defined(names: &IndexMap<u32, Noted>, name: u32) -> bool
 
 /// Whether the declarations of a function's name have one type, with the function.
 fn is_alike(functions: &Functions, names: &IndexMap<u32, Noted>, f: &Func) -> bool
-    ensures { result ≡ is_alike (function_called f.now.name (map plain_signature functions.now.signatures.items)) (get nat_eq names.now f.now.name) (plain_func f.now) }
+    ensures { result ≡ is_alike (function_called f.now.name (map plain_signature functions.now.signatures.items))
+        (get nat_eq names.now f.now.name) (plain_func f.now) }
 {
     match functions.called(f.name) {
         None => true,
@@ -159,7 +163,8 @@ pub fn note_name(
     names: &mut IndexMap<u32, Noted>,
     f: &Func,
 ) -> Result<(), AllocError>
-    ensures { OnOk result ((x : ℕ) → get nat_eq names.new x ≡ with_known (function_called f.now.name (map plain_signature functions.now.signatures.items)) (get nat_eq names.old) (plain_func f.now) x) }
+    ensures { OnOk result ((x : ℕ) → get nat_eq names.new x
+        ≡ with_known (function_called f.now.name (map plain_signature functions.now.signatures.items)) (get nat_eq names.old) (plain_func f.now) x) }
 {
     let noted = Noted {
         defined: was_defined(names, f.name) || f.body.is_some(),

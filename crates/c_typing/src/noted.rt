@@ -151,7 +151,8 @@ fn note_body_items(scopes: &mut Scopes, items: &mut Vec<Item>) -> Result<(), Typ
 
 /// A body is a block.
 fn note_body_kind(scopes: &mut Scopes, kind: &mut StmtKind) -> Result<(), TypeFault>
-    ensures noted { (at : Place) → Answers (λ _. Some (plain_stmt_kind at kind.new)) (noted_body (plain_scopes scopes.old) (Some (plain_stmt_kind at kind.old))) result }
+    ensures noted { (at : Place) → Answers (λ _. Some (plain_stmt_kind at kind.new))
+        (noted_body (plain_scopes scopes.old) (Some (plain_stmt_kind at kind.old))) result }
     ensures same { OnOk result (plain_scopes scopes.new ≡ plain_scopes scopes.old) }
 {
     match kind {
@@ -190,7 +191,8 @@ fn note_each(
     funcs: &mut Vec<Func>,
 ) -> Result<(), TypeFault>
     requires told { (x : ℕ) → get nat_eq numbers.now x ≡ denoted (map plain_func funcs.old.items) x }
-    ensures noted { Answers (λ _. map plain_func funcs.new.items) (noted_in_turn (denoted (map plain_func funcs.old.items)) (plain_scopes scopes.old) (map plain_func funcs.old.items)) result }
+    ensures noted { Answers (λ _. map plain_func funcs.new.items)
+        (noted_in_turn (denoted (map plain_func funcs.old.items)) (plain_scopes scopes.old) (map plain_func funcs.old.items)) result }
     ensures names { OnOk result ((plain_scopes scopes.new).names ≡ (plain_scopes scopes.old).names) }
 {
     for i in 0..funcs.len() {
@@ -207,7 +209,8 @@ fn note_functions(
     scopes: &mut Scopes,
     funcs: &mut Vec<Func>,
 ) -> Result<(), TypeFault>
-    ensures noted { Answers (λ _. map plain_func funcs.new.items) (noted_in_turn (denoted (map plain_func funcs.old.items)) (plain_scopes scopes.old) (map plain_func funcs.old.items)) result }
+    ensures noted { Answers (λ _. map plain_func funcs.new.items)
+        (noted_in_turn (denoted (map plain_func funcs.old.items)) (plain_scopes scopes.old) (map plain_func funcs.old.items)) result }
     ensures names { OnOk result ((plain_scopes scopes.new).names ≡ (plain_scopes scopes.old).names) }
 {
     let numbers = denoted(alloc, funcs)?;

@@ -1,9 +1,9 @@
 //! Parameters (C99 6.7.5.3), which stand in the scope of the function's body.
 
-ghost use Rattle.std.specs.Prelude.{◌≡◌, OnOk, map};
+ghost use Rattle.std.specs.Prelude.{◌≡◌, IfErr, OnOk, map};
 ghost use Rattle.c_syntax.specs.Statements.{plain_decl};
 ghost use Rattle.c_model.specs.ProgramTyping.{typed_parameter, with_parameter, with_parameters};
-ghost use Rattle.c_type_rules.specs.Answers.{Answers};
+ghost use Rattle.c_type_rules.specs.Answers.{Answers, IsRefusal};
 ghost use Rattle.c_type_rules.specs.Scopes.{plain_scopes};
 ghost use Rattle.c_typing.specs.Functions.{checked_parameters};
 ghost use Rattle.c_typing.specs.Scopes.{at_file};
@@ -17,7 +17,8 @@ use std::alloc::AllocError;
 
 /// A parameter is an object, whose name, where it has one, is new in its scope and none of the library's.
 fn check_parameter(scopes: &Scopes, d: &Decl) -> Result<(), TypeFault>
-    ensures { Answers (λ _. plain_decl d.now) (typed_parameter (plain_scopes scopes.now) (plain_decl d.now)) result }
+    ensures checked { Answers (λ _. plain_decl d.now) (typed_parameter (plain_scopes scopes.now) (plain_decl d.now)) result }
+    ensures sure { IfErr result IsRefusal }
 {
     if d.named {
         declarable(scopes, d)

@@ -1,12 +1,13 @@
 //! Statements (C99 6.8).
 
-ghost use Rattle.std.specs.Prelude.{◌≡◌, OnOk, option_map};
+ghost use Rattle.std.specs.Prelude.{◌≡◌, IfErr, OnOk, option_map};
 ghost use Rattle.c_syntax.specs.Ctypes.{plain_type};
 ghost use Rattle.c_syntax.specs.Expressions.{plain_expr};
 ghost use Rattle.c_syntax.specs.Statements.{Break, Continue, Return, plain_item, plain_items, plain_stmt, plain_stmt_kind};
 ghost use Rattle.c_model.specs.Checked.{Good, where_so};
-ghost use Rattle.c_model.specs.Typing.{behind, behind_first, condition, in_loop, inner, no_type, returned, typed, typed_condition, typed_else, typed_first, typed_item, typed_items, typed_maybe, typed_statement};
-ghost use Rattle.c_type_rules.specs.Answers.{Answers};
+ghost use Rattle.c_model.specs.Typing.{behind, behind_first, condition, in_loop, inner, no_type, returned, typed};
+ghost use Rattle.c_model.specs.Typing.{typed_condition, typed_else, typed_first, typed_item, typed_items, typed_maybe, typed_statement};
+ghost use Rattle.c_type_rules.specs.Answers.{Answers, IsRefusal};
 ghost use Rattle.c_type_rules.specs.Scopes.{plain_scopes};
 ghost use Rattle.c_typing.specs.Scopes.{at_file, behind_items};
 ghost use Rattle.c_typing.specs.Trees.{plain_around, plain_else_part, plain_for_first};
@@ -38,7 +39,8 @@ fn in_loop(around: &Around) -> Around
 
 /// A condition is a scalar (C99 6.8.4.1, 6.8.5).
 fn condition(e: &Expr) -> Result<(), TypeFault>
-    ensures { Answers (λ _. plain_expr e.now) (condition (plain_expr e.now)) result }
+    ensures checked { Answers (λ _. plain_expr e.now) (condition (plain_expr e.now)) result }
+    ensures sure { IfErr result IsRefusal }
 {
     if is_scalar(&e.ctype) {
         Ok(())
@@ -109,6 +111,7 @@ fn returned(
 fn jump(place: Place, around: &Around) -> Result<(), TypeFault>
     ensures breaks { Answers (λ _. Break place) (where_so around.now.loops (no_type place) (Good (Break place))) result }
     ensures continues { Answers (λ _. Continue place) (where_so around.now.loops (no_type place) (Good (Continue place))) result }
+    ensures sure { IfErr result IsRefusal }
 {
     if around.loops {
         Ok(())
@@ -141,7 +144,8 @@ fn type_kind(
     place: Place,
     kind: &mut StmtKind,
 ) -> Result<(), TypeFault>
-    ensures typed { Answers (λ _. plain_stmt_kind place kind.new) (typed_statement (plain_scopes scopes.old) (plain_around around.now) (plain_stmt_kind place kind.old)) result }
+    ensures typed { Answers (λ _. plain_stmt_kind place kind.new)
+        (typed_statement (plain_scopes scopes.old) (plain_around around.now) (plain_stmt_kind place kind.old)) result }
     ensures same { OnOk result (plain_scopes scopes.new ≡ plain_scopes scopes.old) }
     ensures file { at_file (plain_scopes scopes.new) ≡ at_file (plain_scopes scopes.old) }
 {
@@ -207,7 +211,8 @@ fn type_first(
     around: &Around,
     first: &mut Option<Item>,
 ) -> Result<(), TypeFault>
-    ensures typed { Answers (λ _. plain_for_first first.new) (typed_first (plain_scopes scopes.old) (plain_around around.now) (plain_for_first first.old)) result }
+    ensures typed { Answers (λ _. plain_for_first first.new)
+        (typed_first (plain_scopes scopes.old) (plain_around around.now) (plain_for_first first.old)) result }
     ensures behind { OnOk result (plain_scopes scopes.new ≡ behind_first (plain_scopes scopes.old) (plain_for_first first.new)) }
     ensures file { at_file (plain_scopes scopes.new) ≡ at_file (plain_scopes scopes.old) }
 {
@@ -243,7 +248,8 @@ pub fn type_items(
     around: &Around,
     items: &mut Vec<Item>,
 ) -> Result<(), TypeFault>
-    ensures typed { Answers (λ _. plain_items items.new.items) (typed_items (plain_scopes scopes.old) (plain_around around.now) (plain_items items.old.items)) result }
+    ensures typed { Answers (λ _. plain_items items.new.items)
+        (typed_items (plain_scopes scopes.old) (plain_around around.now) (plain_items items.old.items)) result }
     ensures behind { OnOk result (plain_scopes scopes.new ≡ behind_items (plain_scopes scopes.old) (plain_items items.new.items)) }
     ensures file { at_file (plain_scopes scopes.new) ≡ at_file (plain_scopes scopes.old) }
 {
@@ -261,7 +267,8 @@ fn type_block(
     around: &Around,
     items: &mut Vec<Item>,
 ) -> Result<(), TypeFault>
-    ensures typed { Answers (λ _. plain_items items.new.items) (typed_items (inner (plain_scopes scopes.old)) (plain_around around.now) (plain_items items.old.items)) result }
+    ensures typed { Answers (λ _. plain_items items.new.items)
+        (typed_items (inner (plain_scopes scopes.old)) (plain_around around.now) (plain_items items.old.items)) result }
     ensures same { OnOk result (plain_scopes scopes.new ≡ plain_scopes scopes.old) }
     ensures file { at_file (plain_scopes scopes.new) ≡ at_file (plain_scopes scopes.old) }
 {

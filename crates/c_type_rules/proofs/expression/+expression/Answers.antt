@@ -16,7 +16,8 @@ type_parts-returns-in-Binary t c =
     let s = plain_scopes c.args.scopes.now in
     let ha : Answers (λ (u : Unit {0}). plain_expr c.type_expr-first.new.e) (typed s (plain_expr c.in-Binary.a)) c.type_expr-first.result = search rules in
     let hb : Answers (λ (u : Unit {0}). plain_expr c.type_expr-second.new.e) (typed s (plain_expr c.in-Binary.b)) c.type_expr-second.result = search rules in
-    let whole = two_binary s (plain_expr c.in-Binary.a) (plain_expr c.in-Binary.b) (plain_expr c.type_expr-first.new.e) (plain_expr c.type_expr-second.new.e) c.type_expr-first.result c.type_expr-second.result c.both.result ha hb c.both.ensures c.in-Binary._op in
+    let whole = two_binary s (plain_expr c.in-Binary.a) (plain_expr c.in-Binary.b) (plain_expr c.type_expr-first.new.e) (plain_expr c.type_expr-second.new.e) c.type_expr-first.result
+    c.type_expr-second.result c.both.result ha hb c.both.ensures.is c.in-Binary._op in
     search (rules, whole)
 
 pub type_parts-returns-in-Both : goal.type_parts-returns-in-Both
@@ -24,7 +25,8 @@ type_parts-returns-in-Both t c =
     let s = plain_scopes c.args.scopes.now in
     let ha : Answers (λ (u : Unit {0}). plain_expr c.type_expr-first-in-Both.new.e) (typed s (plain_expr c.in-Both.a)) c.type_expr-first-in-Both.result = search rules in
     let hb : Answers (λ (u : Unit {0}). plain_expr c.type_expr-second-in-Both.new.e) (typed s (plain_expr c.in-Both.b)) c.type_expr-second-in-Both.result = search rules in
-    let whole = two_both s (plain_expr c.in-Both.a) (plain_expr c.in-Both.b) (plain_expr c.type_expr-first-in-Both.new.e) (plain_expr c.type_expr-second-in-Both.new.e) c.type_expr-first-in-Both.result c.type_expr-second-in-Both.result c.both-in-Both.result ha hb c.both-in-Both.ensures in
+    let whole = two_both s (plain_expr c.in-Both.a) (plain_expr c.in-Both.b) (plain_expr c.type_expr-first-in-Both.new.e) (plain_expr c.type_expr-second-in-Both.new.e) c.type_expr-first-in-Both.result
+    c.type_expr-second-in-Both.result c.both-in-Both.result ha hb c.both-in-Both.ensures.is in
     search (rules, whole)
 
 pub type_parts-returns-in-Either : goal.type_parts-returns-in-Either
@@ -32,7 +34,8 @@ type_parts-returns-in-Either t c =
     let s = plain_scopes c.args.scopes.now in
     let ha : Answers (λ (u : Unit {0}). plain_expr c.type_expr-first-in-Either.new.e) (typed s (plain_expr c.in-Either.a)) c.type_expr-first-in-Either.result = search rules in
     let hb : Answers (λ (u : Unit {0}). plain_expr c.type_expr-second-in-Either.new.e) (typed s (plain_expr c.in-Either.b)) c.type_expr-second-in-Either.result = search rules in
-    let whole = two_either s (plain_expr c.in-Either.a) (plain_expr c.in-Either.b) (plain_expr c.type_expr-first-in-Either.new.e) (plain_expr c.type_expr-second-in-Either.new.e) c.type_expr-first-in-Either.result c.type_expr-second-in-Either.result c.both-in-Either.result ha hb c.both-in-Either.ensures in
+    let whole = two_either s (plain_expr c.in-Either.a) (plain_expr c.in-Either.b) (plain_expr c.type_expr-first-in-Either.new.e) (plain_expr c.type_expr-second-in-Either.new.e)
+    c.type_expr-first-in-Either.result c.type_expr-second-in-Either.result c.both-in-Either.result ha hb c.both-in-Either.ensures.is in
     search (rules, whole)
 
 pub type_parts-returns-in-Assign : goal.type_parts-returns-in-Assign
@@ -40,7 +43,8 @@ type_parts-returns-in-Assign t c =
     let s = plain_scopes c.args.scopes.now in
     let ha : Answers (λ (u : Unit {0}). plain_expr c.type_expr-first-in-Assign.new.e) (typed s (plain_expr c.in-Assign.a)) c.type_expr-first-in-Assign.result = search rules in
     let hb : Answers (λ (u : Unit {0}). plain_expr c.type_expr-second-in-Assign.new.e) (typed s (plain_expr c.in-Assign.b)) c.type_expr-second-in-Assign.result = search rules in
-    let whole = two_assign s (plain_expr c.in-Assign.a) (plain_expr c.in-Assign.b) (plain_expr c.type_expr-first-in-Assign.new.e) (plain_expr c.type_expr-second-in-Assign.new.e) c.type_expr-first-in-Assign.result c.type_expr-second-in-Assign.result c.both-in-Assign.result ha hb c.both-in-Assign.ensures c.in-Assign._op in
+    let whole = two_assign s (plain_expr c.in-Assign.a) (plain_expr c.in-Assign.b) (plain_expr c.type_expr-first-in-Assign.new.e) (plain_expr c.type_expr-second-in-Assign.new.e)
+    c.type_expr-first-in-Assign.result c.type_expr-second-in-Assign.result c.both-in-Assign.result ha hb c.both-in-Assign.ensures.is c.in-Assign._op in
     search (rules, whole)
 
 pub type_parts-returns-in-Choice : goal.type_parts-returns-in-Choice
@@ -49,8 +53,9 @@ type_parts-returns-in-Choice t c =
     let ha : Answers (λ (u : Unit {0}). plain_expr c.type_expr-first-in-Choice.new.e) (typed s (plain_expr c.in-Choice.a)) c.type_expr-first-in-Choice.result = search rules in
     let hb : Answers (λ (u : Unit {0}). plain_expr c.type_expr-second-in-Choice.new.e) (typed s (plain_expr c.in-Choice.b)) c.type_expr-second-in-Choice.result = search rules in
     let hc : Answers (λ (u : Unit {0}). plain_expr c.type_expr-third.new.e) (typed s (plain_expr c.in-Choice.c)) c.type_expr-third.result = search rules in
-    let whole = made_of_three Choice s (plain_expr c.in-Choice.a) (plain_expr c.in-Choice.b) (plain_expr c.in-Choice.c) (plain_expr c.type_expr-first-in-Choice.new.e) (plain_expr c.type_expr-second-in-Choice.new.e) (plain_expr c.type_expr-third.new.e)
-    c.type_expr-first-in-Choice.result c.type_expr-second-in-Choice.result c.type_expr-third.result c.both-in-Choice.result c.both-in-Choice-2.result ha hb hc c.both-in-Choice.ensures c.both-in-Choice-2.ensures in
+    let whole = made_of_three Choice s (plain_expr c.in-Choice.a) (plain_expr c.in-Choice.b) (plain_expr c.in-Choice.c) (plain_expr c.type_expr-first-in-Choice.new.e)
+    (plain_expr c.type_expr-second-in-Choice.new.e) (plain_expr c.type_expr-third.new.e)
+    c.type_expr-first-in-Choice.result c.type_expr-second-in-Choice.result c.type_expr-third.result c.both-in-Choice.result c.both-in-Choice-2.result ha hb hc c.both-in-Choice.ensures.is c.both-in-Choice-2.ensures.is in
     search (rules, whole)
 
 pub type_parts-returns-in-Call : goal.type_parts-returns-in-Call
@@ -63,7 +68,8 @@ type_parts-returns-in-Call t c =
 pub type_call_parts-returns-in_err-both : goal.type_call_parts-returns-in_err-both
 type_call_parts-returns-in_err-both t c =
     let e : c.from_residual.result ≡ Err c.in_err-both.field-0.0 = search rules in
-    rw e (call_refused (plain_scopes c.args.scopes.now) c.args.place c.args.name (plain_exprs c.args.arguments.now.items) (plain_exprs c.type_arguments-typed.new.arguments.items) c.callee-f.result c.type_arguments-typed.result c.in_err-both.field-0.0 c.callee-f.ensures (rw c.known_params.ensures at c.type_arguments-typed.ensures) (sym c.in_err-both.ensures))
+    rw e (call_refused (plain_scopes c.args.scopes.now) c.args.place c.args.name (plain_exprs c.args.arguments.now.items) (plain_exprs c.type_arguments-typed.new.arguments.items) c.callee-f.result
+    c.type_arguments-typed.result c.in_err-both.field-0.0 c.callee-f.ensures (rw c.known_params.ensures at c.type_arguments-typed.ensures) (sym c.in_err-both.ensures.is))
 
 pub type_expr-returns-in_err-ctype : goal.type_expr-returns-in_err-ctype
 type_expr-returns-in_err-ctype t c =
@@ -71,7 +77,8 @@ type_expr-returns-in_err-ctype t c =
     let s = plain_scopes c.args.scopes.now in
     let parts : typed_parts s c.args.e.now.place (plain_kind c.args.e.now.kind.value) ≡ Good (plain_kind c.type_parts.new.kind) = search rules in
     let bad : Answers (λ (u : CType). Node c.args.e.now.place (plain_type u) (plain_kind c.demand.new.kind)) (demanded s c.args.e.now.place (plain_kind c.type_parts.new.kind)) (Err c.in_err-ctype.field-0.0) = search rules in
-    let whole = demand_refused s c.args.e.now.place (plain_type c.args.e.now.ctype) (plain_kind c.args.e.now.kind.value) (plain_kind c.type_parts.new.kind) parts (λ (u : Unit {0}). plain_expr c.args.e.now) (λ (u : CType). Node c.args.e.now.place (plain_type u) (plain_kind c.demand.new.kind)) c.in_err-ctype.field-0.0 bad in
+    let whole = demand_refused s c.args.e.now.place (plain_type c.args.e.now.ctype) (plain_kind c.args.e.now.kind.value) (plain_kind c.type_parts.new.kind) parts
+    (λ (u : Unit {0}). plain_expr c.args.e.now) (λ (u : CType). Node c.args.e.now.place (plain_type u) (plain_kind c.demand.new.kind)) c.in_err-ctype.field-0.0 bad in
     search (rules, e, whole)
 
 pub type_expr-returns : goal.type_expr-returns
@@ -96,5 +103,6 @@ type_arguments-loop-i-preserved t c =
       unvisited = unvisited_step old cur i y c.loop-i.invariant.unvisited;
       within = within_step cur i y lt;
       rest = params_step ts (take i old) (take (i + 1) old) x (map plain_type c.loop-i.rest.now) (map plain_type c.behind_first-rest.result.now) was c.loop-i.invariant.rest c.behind_first-rest.ensures;
-      done = rw c.both-done.ensures (arguments_step s ts (take i old) (take (i + 1) old) (take i cur) (take (i + 1) (slice_set cur i y)) x y c.loop-i.done c.type_argument-e.result was (done cur i y lt) c.loop-i.invariant.done (rw c.loop-i.invariant.rest at c.type_argument-e.ensures));
+      done = rw c.both-done.ensures.is (arguments_step s ts (take i old) (take (i + 1) old) (take i cur) (take (i + 1) (slice_set cur i y)) x y c.loop-i.done c.type_argument-e.result was
+          (done cur i y lt) c.loop-i.invariant.done (rw c.loop-i.invariant.rest at c.type_argument-e.ensures));
     }

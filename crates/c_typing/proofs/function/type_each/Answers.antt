@@ -30,8 +30,9 @@ loop-i-preserved c =
     record {
       unvisited = unvisited_step old cur i y c.loop-i.invariant.unvisited;
       within = within_step cur i y lt;
-      done = rw c.both-done.ensures (functions_step p (take i old) x rest all (take (i + 1) old) was ds ns s sees c.check_heading-heading.result c.type_function-typed.result c.loop-i.done (take i cur) (take (i + 1) (slice_set cur i y)) y (done cur i y lt)
-          told c.loop-i.invariant.known c.loop-i.invariant.sight c.in_ok-see_function.ensures c.check_heading-heading.ensures c.type_function-typed.ensures.typed c.loop-i.invariant.done);
+      done = rw c.both-done.ensures.is (functions_step p (take i old) x rest all (take (i + 1) old) was ds ns s sees c.check_heading-heading.result c.type_function-typed.result c.loop-i.done
+          (take i cur) (take (i + 1) (slice_set cur i y)) y (done cur i y lt)
+          told c.loop-i.invariant.known c.loop-i.invariant.sight c.in_ok-see_function.ensures c.check_heading-heading.ensures.checked c.type_function-typed.ensures.typed c.loop-i.invariant.done);
       known = λ z. names_more p (take i old) x rest all ns (get nat_eq c.note_name.new.names) s c.loop-i.invariant.known c.loop-i.invariant.sight c.in_ok-note_name.ensures z ∙ ap (λ fs. known (map plain_func fs) z) (sym was);
       sight = c.type_function-typed.ensures.behind ∙ sight_more p (take i old) x rest all ds s sees told c.loop-i.invariant.sight c.in_ok-see_function.ensures ∙ ap (λ fs. behind_functions p (map plain_func fs)) (sym was);
     }
