@@ -11,10 +11,11 @@ use Rattle.c_syntax.specs.declared.types.CType.{CType}
 use Rattle.c_syntax.proofs.Rows.{call_is}
 use Rattle.c_syntax.specs.declared.expression.Expr.{Expr}
 use Rattle.c_syntax.specs.Ctypes.{PlainType, Void, plain_type}
-use Rattle.c_syntax.specs.Expressions.{Expression, ExpressionKind, Node, Number, Letter, Variable, Unary, Binary, Both, Either, Choice, Assign, Bump, Call, Cast, SizeOfType, SizeOfExpr, Expressions, NoExpression, Following, plain_expr, plain_exprs, plain_kind}
+use Rattle.c_syntax.specs.Expressions.{Expression, ExpressionKind, Node, Number, Letter, Variable, Unary, Binary, Both, Either, Choice, Assign}
+use Rattle.c_syntax.specs.Expressions.{Bump, Call, Cast, SizeOfType, SizeOfExpr, Expressions, NoExpression, Following, plain_expr, plain_exprs, plain_kind}
 use Rattle.c_model.specs.Checked.{Fault, Checked, Good, Bad, one_part, both_parts, refusing}
 use Rattle.c_model.specs.Typing as plain
-use Rattle.c_model.specs.Typing.{typed, typed_arguments, argument_for, first_type, rest_types, callee, call, params_of, choice_of, two}
+use Rattle.c_model.specs.Typing.{typed, typed_arguments, argument_for, first_type, rest_types, callee, call, params_of, two}
 use Rattle.c_type_rules.specs.declared.fault.TypeFault.{TypeFault}
 use Rattle.c_type_rules.specs.declared.fault.TypeFault.TheVariants.{Refused, Memory}
 use Rattle.c_type_rules.specs.declared.signature.Signature.{Signature}
@@ -100,7 +101,8 @@ pub made_of_two : {C : Type 0} (f : Expression → Expression → C) (s : plain.
 made_of_two f s a b a' b' q r z ha hb j =
     made_of (λ (p : Expression × Expression). f p.0 p.1) (λ (u : Unit {0}). (a', b')) (both_parts (typed s a) (typed s b) two) z (both_answers (λ (u : Unit {0}). a') (λ (u : Unit {0}). b') (typed s a) (typed s b) q r z ha hb (sym j))
 
-pub made_of_three : {C : Type 0} (f : Expression → Expression → Expression → C) (s : plain.Scopes) (a b c a' b' c' : Expression) (q r t y z : Result (Unit {0}) TypeFault) → Answers (λ u. a') (typed s a) q → Answers (λ u. b') (typed s b) r → Answers (λ u. c') (typed s c) t
+pub made_of_three : {C : Type 0} (f : Expression → Expression → Expression → C) (s : plain.Scopes) (a b c a' b' c' : Expression) (q r t y z : Result (Unit {0}) TypeFault)
+    → Answers (λ u. a') (typed s a) q → Answers (λ u. b') (typed s b) r → Answers (λ u. c') (typed s c) t
     → y ≡ both r t → z ≡ both q y → Answers (λ (u : Unit {0}). f a' b' c') (one_part (both_parts (typed s a) (both_parts (typed s b) (typed s c) two) two) (λ p. Good (f p.0 (p.1).0 (p.1).1))) z
 made_of_three f s a b c a' b' c' q r t y z ha hb hc i j =
     made_of (λ (p : Expression × (Expression × Expression)). f p.0 (p.1).0 (p.1).1) (λ (u : Unit {0}). (a', (b', c'))) (both_parts (typed s a) (both_parts (typed s b) (typed s c) two) two) z
@@ -122,7 +124,8 @@ module _ (s : plain.Scopes) (a b a' b' : Expression) (q r z : Result (Unit {0}) 
     two_assign op = made_of_two (Assign op) s a b a' b' q r z ha hb j
 
 -- a call, by its vector
-pub at_call_parts : (s : plain.Scopes) (at : Place) (k : ExprKind) (x : Use) (v v' : Vec Expr Global) (r : Result (Unit {0}) TypeFault) → k ≡ code.Call x v → Answers (λ (u : Unit {0}). plain_exprs v'.items) (typed_call_parts s at x.name (plain_exprs v.items)) r
+pub at_call_parts : (s : plain.Scopes) (at : Place) (k : ExprKind) (x : Use) (v v' : Vec Expr Global) (r : Result (Unit {0}) TypeFault) → k ≡ code.Call x v
+    → Answers (λ (u : Unit {0}). plain_exprs v'.items) (typed_call_parts s at x.name (plain_exprs v.items)) r
     → Answers (λ (u : Unit {0}). plain_kind (code.Call x v')) (typed_parts s at (plain_kind k)) r
 at_call_parts s at k x v v' r is h =
     at_parts (λ (u : Unit {0}). plain_kind (code.Call x v')) s at k (code.Call x v) r is
@@ -164,21 +167,11 @@ module _ (s : plain.Scopes) (at : Place) (x : ℕ) (es es' : Expressions) (rc : 
         memory (Ok u) j = cc
         memory (Err g) j = cc
 
-        by : (q : Result Signature TypeFault) → rc ≡ q → Answers plain_signature c q → Answers (λ (u : Unit {0}). es') (typed_arguments s (known_params q) es) ra → both q ra ≡ Err h → Answers (λ (u : Unit {0}). es') (typed_call_parts s at x es) (Err h)
+        by : (q : Result Signature TypeFault) → rc ≡ q → Answers plain_signature c q → Answers (λ (u : Unit {0}). es') (typed_arguments s (known_params q) es) ra → both q ra ≡ Err h
+            → Answers (λ (u : Unit {0}). es') (typed_call_parts s at x es) (Err h)
         by (Ok f) e hc ha j = both_refused (λ f es. Good es) plain_signature (λ u. es') (λ (u : Unit {0}). es') c (typed_arguments s (params_of c) es) (Ok f) ra h hc (arguments_known (Ok f) hc ha (λ m. cc)) j
         by (Err (Refused f)) e hc ha j = both_refused (λ f es. Good es) plain_signature (λ u. es') (λ (u : Unit {0}). es') c (typed_arguments s (params_of c) es) (Err (Refused f)) ra h hc (arguments_known (Err (Refused f)) hc ha (λ m. cc)) j
         by (Err Memory) e hc ha j = subst (λ e. Answers (λ (u : Unit {0}). es') (typed_call_parts s at x es) (Err e)) (memory ra j) tt
-
-    -- a call whose function and arguments have no fault
-    pub call_parts_typed : (f : Signature) → Answers plain_signature c rc → Answers (λ (u : Unit {0}). es') (typed_arguments s (known_params rc) es) ra → both rc ra ≡ Ok f → typed_call_parts s at x es ≡ Good es'
-    call_parts_typed f hc ha j = by rc ra hc ha j
-      where
-        by : (q : Result Signature TypeFault) (r : Result (Unit {0}) TypeFault) → Answers plain_signature c q → Answers (λ (u : Unit {0}). es') (typed_arguments s (known_params q) es) r → both q r ≡ Ok f → typed_call_parts s at x es ≡ Good es'
-        by (Ok g) (Ok u) hc ha j =
-            ap (λ d. both_parts d (typed_arguments s (params_of d) es) (λ f es. Good es)) hc ∙ ap (λ d. both_parts (Good (plain_signature g)) d (λ f es. Good es)) ha
-        by (Ok g) (Err h) hc ha j = absurd cc
-        by (Err h) (Ok u) hc ha j = absurd cc
-        by (Err h) (Err g) hc ha j = absurd cc
 
 -- ---- lists of arguments
 
@@ -195,7 +188,8 @@ abbrev snoc : Expressions → Expression → Expressions
 snoc NoExpression e = Following e NoExpression
 snoc (Following x xs) e = Following x (snoc xs e)
 
-snoc_in_turn : (x : Checked Expression) (c : Checked Expressions) (d : Checked Expression) → both_parts x (both_parts c d (λ es e. Good (snoc es e))) (λ x es. Good (Following x es)) ≡ both_parts (both_parts x c (λ x es. Good (Following x es))) d (λ es e. Good (snoc es e))
+snoc_in_turn : (x : Checked Expression) (c : Checked Expressions) (d : Checked Expression)
+    → both_parts x (both_parts c d (λ es e. Good (snoc es e))) (λ x es. Good (Following x es)) ≡ both_parts (both_parts x c (λ x es. Good (Following x es))) d (λ es e. Good (snoc es e))
 snoc_in_turn (Good x) (Good es) (Good e) = refl
 snoc_in_turn (Good x) (Good es) (Bad g gs) = refl
 snoc_in_turn (Good x) (Bad f fs) (Good e) = refl
@@ -213,7 +207,8 @@ snoc_only (Bad f fs) = refl
 abbrev pub argument_checked : plain.Scopes → List PlainType → Expr → Checked Expression
 argument_checked s ts e = one_part (typed s (plain_expr e)) (argument_for (first_type ts))
 
-arguments_snoc : (s : plain.Scopes) (ts : List PlainType) (xs : List Expr) (e : Expr) → typed_arguments s ts (plain_exprs (xs ++ e ∷ [])) ≡ both_parts (typed_arguments s ts (plain_exprs xs)) (argument_checked s (params_behind xs ts) e) (λ es e. Good (snoc es e))
+arguments_snoc : (s : plain.Scopes) (ts : List PlainType) (xs : List Expr) (e : Expr)
+    → typed_arguments s ts (plain_exprs (xs ++ e ∷ [])) ≡ both_parts (typed_arguments s ts (plain_exprs xs)) (argument_checked s (params_behind xs ts) e) (λ es e. Good (snoc es e))
 arguments_snoc s ts [] e = snoc_only (argument_checked s ts e)
 arguments_snoc s ts (x ∷ xs) e =
     ap (λ c. both_parts (argument_checked s ts x) c (λ x es. Good (Following x es))) (arguments_snoc s (rest_types ts) xs e)
@@ -232,7 +227,8 @@ arguments_more s ts xs ys x y d r hd hr =
   where
     refused : (d r : Result (Unit {0}) TypeFault) (h : TypeFault) → Answers (λ (u : Unit {0}). plain_exprs ys) (typed_arguments s ts (plain_exprs xs)) d → Answers (λ (u : Unit {0}). plain_expr y) (argument_checked s (params_behind xs ts) x) r
         → both d r ≡ Err h → Answers (λ (u : Unit {0}). plain_exprs (ys ++ y ∷ [])) (both_parts (typed_arguments s ts (plain_exprs xs)) (argument_checked s (params_behind xs ts) x) (λ es e. Good (snoc es e))) (Err h)
-    refused d r h hd hr j = both_refused (λ es e. Good (snoc es e)) (λ u. plain_exprs ys) (λ u. plain_expr y) (λ (u : Unit {0}). plain_exprs (ys ++ y ∷ [])) (typed_arguments s ts (plain_exprs xs)) (argument_checked s (params_behind xs ts) x) d r h hd hr j
+    refused d r h hd hr j = both_refused (λ es e. Good (snoc es e)) (λ u. plain_exprs ys) (λ u. plain_expr y) (λ (u : Unit {0}). plain_exprs (ys ++ y ∷ [])) (typed_arguments s ts (plain_exprs xs))
+        (argument_checked s (params_behind xs ts) x) d r h hd hr j
 
     by : (d r : Result (Unit {0}) TypeFault) → Answers (λ (u : Unit {0}). plain_exprs ys) (typed_arguments s ts (plain_exprs xs)) d → Answers (λ (u : Unit {0}). plain_expr y) (argument_checked s (params_behind xs ts) x) r
         → Answers (λ (u : Unit {0}). plain_exprs (ys ++ y ∷ [])) (both_parts (typed_arguments s ts (plain_exprs xs)) (argument_checked s (params_behind xs ts) x) (λ es e. Good (snoc es e))) (both d r)

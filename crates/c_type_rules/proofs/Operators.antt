@@ -14,7 +14,8 @@ module _ (at : Place) (op : BinOp) (a b a' b' : Expression) (k l p q t : CInt) (
     operands_are : p ≡ cond (is_shift op) (promoted k) (common k l) → q ≡ cond (is_shift op) (promoted l) (common k l) → ◌≡◌ {A = Expression × Expression} (operands op k l a b) (in_int p a, in_int q b)
     operands_are ep eq = by (is_shift op) ∙ ap (λ m. (in_int m a, in_int (cond (is_shift op) (promoted l) (common k l)) b)) (sym ep) ∙ ap (λ m. (in_int p a, in_int m b)) (sym eq)
       where
-        by : (s : Bool) → ◌≡◌ {A = Expression × Expression} (cond s (in_int (promoted k) a, in_int (promoted l) b) (in_int (common k l) a, in_int (common k l) b)) (in_int (cond s (promoted k) (common k l)) a, in_int (cond s (promoted l) (common k l)) b)
+        by : (s : Bool) → ◌≡◌ {A = Expression × Expression} (cond s (in_int (promoted k) a, in_int (promoted l) b) (in_int (common k l) a, in_int (common k l) b))
+            (in_int (cond s (promoted k) (common k l)) a, in_int (cond s (promoted l) (common k l)) b)
         by true = refl
         by false = refl
 

@@ -1,7 +1,6 @@
 -- The functions in sight, and the number of the first of each name.
-use Rattle.std.proofs.Common.{◌≡◌, ℕ, zero, suc, ◌<◌, List, [], ◌∷◌, ◌++◌, refl, sym, ap, ◌∙◌, subst, arith, length, map, cond, nat_eq, get_or, take, Bool, true, false, is_some, Option, Some, None, option_map}
+use Rattle.std.proofs.Common.{◌≡◌, ℕ, zero, suc, ◌<◌, List, [], ◌∷◌, ◌++◌, refl, sym, ap, ◌∙◌, subst, arith, length, map, cond, nat_eq, get_or, Bool, true, false, is_some, Option, Some, None, option_map}
 use Rattle.std.proofs.lemmas.Bool.Decides.{nat_tests}
-use Rattle.std.proofs.Math.Seq.{take-append_seam}
 use Rattle.std.specs.Map.{lookup}
 use Rattle.c_model.specs.Typing.{function_called, or_else}
 use Rattle.c_type_rules.specs.declared.signature.Signature.{Signature}
@@ -50,7 +49,8 @@ none_called : (x : ℕ) (fs : List Signature) → first_number x fs ≡ None →
 none_called x [] e = refl
 none_called x (g ∷ gs) e = by (none_called x gs) (nat_eq x g.name) (first_number x gs) refl e
   where
-    by : (first_number x gs ≡ None → function_called x (map plain_signature gs) ≡ None) → (b : Bool) (o : Option ℕ) → first_number x gs ≡ o → cond b (Some 0) (option_map suc o) ≡ None → cond b (Some (plain_signature g)) (function_called x (map plain_signature gs)) ≡ None
+    by : (first_number x gs ≡ None → function_called x (map plain_signature gs) ≡ None) → (b : Bool) (o : Option ℕ) → first_number x gs ≡ o → cond b (Some 0) (option_map suc o) ≡ None
+        → cond b (Some (plain_signature g)) (function_called x (map plain_signature gs)) ≡ None
     by go true o eo e = absurd cc
     by go false None eo e = go eo
     by go false (Some m) eo e = absurd cc
@@ -105,7 +105,3 @@ first_new fs more f firsts firsts1 name n is named count fresh with_it first x =
         let t : nat_eq x f.name ≡ false = grind (arith, nat_tests, eb, named) in
         sym eo ∙ ap (λ b. cond b (Some (length fs)) None) (sym t)
     by false eb (Some m) eo = sym eo
-
--- without the last function all is as it was
-pub as_before : (fs more less : List Signature) (f : Signature) (n : ℕ) → more ≡ fs ++ f ∷ [] → n ≡ length fs → less ≡ take n more → less ≡ fs
-as_before fs more less f n is count e = e ∙ ap (take n) is ∙ ap (λ k. take k (fs ++ f ∷ [])) count ∙ take-append_seam fs (f ∷ [])

@@ -14,7 +14,10 @@ use Rattle.c_model.specs.Integers.{fits}
 use Rattle.c_model.specs.Conversions.{promoted, common, result_type}
 use Rattle.c_model.specs.Library.{Constants, constants, constant_in, library_constant, is_there}
 use Rattle.c_model.specs.Checked.{Good, faulty, one_part, both_parts, given, where_so}
-use Rattle.c_model.specs.Typing.{no_name, no_type, Object, Signature, Scopes, name_at, or_else, object_named, function_called, of_library, library_function, use_as, same_int, same_type, is_scalar, is_object_type, integer_of, in_type, in_int, is_assigned, is_cast, is_place, literal, named, is_not, unary, operands, binary, both_of, either_of, choice_type, choice_of, assign, bump, cast, size_of_expression, callee, first_type, rest_types, argument_for, count_of, call, params_of, two, typed, typed_arguments}
+use Rattle.c_model.specs.Typing.{no_name, no_type, Object, Signature, Scopes, name_at, or_else, object_named, function_called, of_library, library_function, use_as}
+use Rattle.c_model.specs.Typing.{same_int, same_type, is_scalar, is_object_type, integer_of, in_type, in_int, is_assigned, is_cast, is_place, literal}
+use Rattle.c_model.specs.Typing.{named, is_not, unary, operands, binary, both_of, either_of, choice_type, choice_of, assign, bump, cast}
+use Rattle.c_model.specs.Typing.{size_of_expression, callee, first_type, rest_types, argument_for, count_of, call, params_of, two, typed, typed_arguments}
 use Rattle.c_model.specs.WellTyped.{IsPromoted, IsPlace, IsInteger, CastTypes, HaveTypes, WellTyped, AreWellTyped}
 use Rattle.c_type_rules.proofs.Gives.{Gives, gives_one, gives_both, gives_given, gives_where, gives_self}
 
@@ -175,7 +178,8 @@ unary_well s at op a w = by (is_not op) refl
     by false e = gives_given (WellTyped s) (integer_of (type_of a)) _ _ (λ k i.
         let same = in_type_type (Int (promoted k)) a in (
           in_type_well s (Int (promoted k)) a w (integer_is (type_of a) k i),
-          subst (λ b. cond b ((Int (promoted k) ≡ int_type) × (is_scalar (type_of (in_int (promoted k) a)) ≡ true)) ((Int (promoted k) ≡ type_of (in_int (promoted k) a)) × IsPromoted (type_of (in_int (promoted k) a)))) (sym e) (sym same, is_promoted _ k same),
+          subst (λ b. cond b ((Int (promoted k) ≡ int_type) × (is_scalar (type_of (in_int (promoted k) a)) ≡ true))
+              ((Int (promoted k) ≡ type_of (in_int (promoted k) a)) × IsPromoted (type_of (in_int (promoted k) a)))) (sym e) (sym same, is_promoted _ k same),
         ))
 
 module _ (s : Scopes) (at : Place) (a b : Expression) (v : WellTyped s a) (w : WellTyped s b)
@@ -191,7 +195,8 @@ module _ (s : Scopes) (at : Place) (a b : Expression) (v : WellTyped s a) (w : W
               (is_promoted _ k x, is_promoted _ l y, sym x),
             )
 
-        common_types : WellTyped s (in_int (common k l) a) × WellTyped s (in_int (common k l) b) × (IsPromoted (type_of (in_int (common k l) a)) × IsPromoted (type_of (in_int (common k l) b)) × ((type_of (in_int (common k l) b) ≡ type_of (in_int (common k l) a)) × (Int (common k l) ≡ type_of (in_int (common k l) a))))
+        common_types : WellTyped s (in_int (common k l) a) × WellTyped s (in_int (common k l) b) ×
+            (IsPromoted (type_of (in_int (common k l) a)) × IsPromoted (type_of (in_int (common k l) b)) × ((type_of (in_int (common k l) b) ≡ type_of (in_int (common k l) a)) × (Int (common k l) ≡ type_of (in_int (common k l) a))))
         common_types =
             let x = in_type_type (Int (common k l)) a in
             let y = in_type_type (Int (common k l)) b in (
@@ -200,7 +205,8 @@ module _ (s : Scopes) (at : Place) (a b : Expression) (v : WellTyped s a) (w : W
               (common_is_promoted _ k l x, common_is_promoted _ k l y, (y ∙ sym x, sym x)),
             )
 
-        relation_types : WellTyped s (in_int (common k l) a) × WellTyped s (in_int (common k l) b) × (IsPromoted (type_of (in_int (common k l) a)) × IsPromoted (type_of (in_int (common k l) b)) × ((type_of (in_int (common k l) b) ≡ type_of (in_int (common k l) a)) × (int_type ≡ int_type)))
+        relation_types : WellTyped s (in_int (common k l) a) × WellTyped s (in_int (common k l) b) ×
+            (IsPromoted (type_of (in_int (common k l) a)) × IsPromoted (type_of (in_int (common k l) b)) × ((type_of (in_int (common k l) b) ≡ type_of (in_int (common k l) a)) × (int_type ≡ int_type)))
         relation_types = let c = common_types in (c.0, c.1, (c.2.0, c.2.1, (c.2.2.0, refl)))
 
     -- what an operator takes and gives
@@ -408,7 +414,8 @@ mutual
   arguments_well : (s : Scopes) (ts : List PlainType) (es : Expressions) → Gives (IsArgued s ts) (typed_arguments s ts es)
   arguments_well s ts NoExpression = none_argued s ts
   arguments_well s ts (Following e es) =
-      gives_both (λ e. (es : Expressions) → IsArgued s (rest_types ts) es → IsArgued s ts (Following e es)) (IsArgued s (rest_types ts)) (IsArgued s ts) (one_part (typed s e) (argument_for (first_type ts))) (typed_arguments s (rest_types ts) es) (λ e es. Good (Following e es))
+      gives_both (λ e. (es : Expressions) → IsArgued s (rest_types ts) es → IsArgued s ts (Following e es)) (IsArgued s (rest_types ts)) (IsArgued s ts)
+      (one_part (typed s e) (argument_for (first_type ts))) (typed_arguments s (rest_types ts) es) (λ e es. Good (Following e es))
       (gives_one (WellTyped s) (λ e. (es : Expressions) → IsArgued s (rest_types ts) es → IsArgued s ts (Following e es)) (typed s e) (argument_for (first_type ts)) (typed_well s e) (first_argued s ts))
       (arguments_well s (rest_types ts) es)
       (λ e es k a. k es a)

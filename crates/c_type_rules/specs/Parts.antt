@@ -2,7 +2,8 @@
 use Rattle.std.specs.Prelude.{ℕ}
 use Rattle.c_syntax.specs.declared.place.Place.{Place}
 use Rattle.c_syntax.specs.Ctypes.{int_type}
-use Rattle.c_syntax.specs.Expressions.{Expression, ExpressionKind, Expressions, Node, Number, Letter, Variable, Unary, Binary, Both, Either, Choice, Assign, Bump, Call, Cast, SizeOfType, SizeOfExpr}
+use Rattle.c_syntax.specs.Expressions.{Expression, ExpressionKind, Expressions, Node, Number, Letter, Variable, Unary, Binary}
+use Rattle.c_syntax.specs.Expressions.{Both, Either, Choice, Assign, Bump, Call, Cast, SizeOfType, SizeOfExpr}
 use Rattle.c_model.specs.Checked.{Checked, Good, one_part, both_parts}
 use Rattle.c_model.specs.Typing as plain
 use Rattle.c_model.specs.Typing.{Scopes, typed, typed_arguments, params_of, two}

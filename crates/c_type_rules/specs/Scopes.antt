@@ -17,7 +17,12 @@ abbrev pub plain_object : Object → plain.Object
 plain_object b = record { name = b.name; decl = b.decl; ctype = plain_type b.ctype }
 
 abbrev pub plain_scopes : Scopes → plain.Scopes
-plain_scopes s = record { names = s.names.items; functions = map plain_signature s.functions.signatures.items; objects = map plain_object s.objects.items; innermost = s.innermost }
+plain_scopes s = record {
+  names = s.names.items;
+  functions = map plain_signature s.functions.signatures.items;
+  objects = map plain_object s.objects.items;
+  innermost = s.innermost;
+}
 
 -- an integer literal in its type
 abbrev pub literal_at : Place → ExpressionKind → Checked Expression

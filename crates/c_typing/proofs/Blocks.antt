@@ -29,10 +29,6 @@ append_in_turn (Then i is) js ks = ap (Then i) (append_in_turn is js ks)
 abbrev pub behind_block : BlockItems → Checked BlockItems → Checked BlockItems
 behind_block done c = one_part c (λ rest. Good (append done rest))
 
-pub no_items : (c : Checked BlockItems) → behind_block NoItem c ≡ c
-no_items (Good a) = refl
-no_items (Bad f fs) = refl
-
 pub all_items : (done : BlockItems) → behind_block done (Good NoItem) ≡ Good done
 all_items done = ap Good (append_none done)
 
@@ -54,7 +50,8 @@ module _ (done : BlockItems) (m : Checked BlockItem) (rest : BlockItem → Check
     item_refused p s h a = one_refused (λ is. Good (append done is)) s s (one_part m (λ i. one_part (rest i) (λ is. Good (Then i is)))) h (one_refused (λ i. one_part (rest i) (λ is. Good (Then i is))) p s m h a)
 
 -- one more item is there
-pub items_more : (whole c : Checked BlockItems) (done done' : List Item) (x : Item) (m : Checked BlockItem) (rest : BlockItem → Checked BlockItems) → whole ≡ behind_block (plain_items done) c → c ≡ one_part m (λ i. one_part (rest i) (λ is. Good (Then i is))) → m ≡ Good (plain_item x) → done' ≡ done ++ x ∷ [] → whole ≡ behind_block (plain_items done') (rest (plain_item x))
+pub items_more : (whole c : Checked BlockItems) (done done' : List Item) (x : Item) (m : Checked BlockItem) (rest : BlockItem → Checked BlockItems) → whole ≡ behind_block (plain_items done) c
+    → c ≡ one_part m (λ i. one_part (rest i) (λ is. Good (Then i is))) → m ≡ Good (plain_item x) → done' ≡ done ++ x ∷ [] → whole ≡ behind_block (plain_items done') (rest (plain_item x))
 items_more whole c done done' x m rest before is good more =
     before ∙ ap (behind_block (plain_items done)) is ∙ next_item (plain_items done) m rest (plain_item x) good
     ∙ ap (λ is. behind_block is (rest (plain_item x))) (sym (ap plain_items more ∙ plain_snoc done x))

@@ -56,10 +56,12 @@ parts_left s u v count innermost ds counted kept sight ends =
 
 -- a function is refused
 pub functions_note_refused : {T U : Type 0} (p : T → Function) (q : U → List Function) (ds : ℕ → Option Callee) (s t t' : Scopes) (all : List Function) (list done : List Func) (f : Func) (rest : List Func) (h : TypeFault)
-    → noted_in_turn ds s all ≡ behind_parts (map plain_func done) (noted_in_turn ds t (map plain_func list)) → list ≡ f ∷ rest → t' ≡ with_function ds t (plain_func f) → Answers p (noted_parts t' (plain_func f)) (Err h) → Answers q (noted_in_turn ds s all) (Err h)
+    → noted_in_turn ds s all ≡ behind_parts (map plain_func done) (noted_in_turn ds t (map plain_func list)) → list ≡ f ∷ rest → t' ≡ with_function ds t (plain_func f)
+    → Answers p (noted_parts t' (plain_func f)) (Err h) → Answers q (noted_in_turn ds s all) (Err h)
 functions_note_refused p q ds s t t' all list done f rest h before is sight bad =
     subst (λ c. Answers q c (Err h)) (sym (before ∙ ap (λ fs. behind_parts (map plain_func done) (noted_in_turn ds t (map plain_func fs))) is))
-    (part_refused (map plain_func done) (noted_parts (with_function ds t (plain_func f)) (plain_func f)) (λ y. y) (λ y. noted_in_turn ds (with_function ds t (plain_func f)) (map plain_func rest)) p q h (subst (λ u. Answers p (noted_parts u (plain_func f)) (Err h)) sight bad))
+    (part_refused (map plain_func done) (noted_parts (with_function ds t (plain_func f)) (plain_func f)) (λ y. y) (λ y. noted_in_turn ds (with_function ds t (plain_func f)) (map plain_func rest)) p q
+    h (subst (λ u. Answers p (noted_parts u (plain_func f)) (Err h)) sight bad))
 
 -- one more function is noted
 pub functions_noted_more : (ds : ℕ → Option Callee) (s t t' t2 : Scopes) (all : List Function) (list done done' : List Func) (f x : Func) (rest : List Func)

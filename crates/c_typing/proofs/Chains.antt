@@ -36,7 +36,8 @@ module _ (l : Link)
     first_link (Good t) = refl
     first_link (Bad f fs) = refl
 
-    in_turn : (x : Checked LogicTerm) (c d : Checked Links) → both_parts x (both_parts c d (λ ls m. Good (join ls m))) (λ t rest. Good (Linked l.place l.relation t rest)) ≡ both_parts (both_parts x c (λ t rest. Good (Linked l.place l.relation t rest))) d (λ ls m. Good (join ls m))
+    in_turn : (x : Checked LogicTerm) (c d : Checked Links)
+        → both_parts x (both_parts c d (λ ls m. Good (join ls m))) (λ t rest. Good (Linked l.place l.relation t rest)) ≡ both_parts (both_parts x c (λ t rest. Good (Linked l.place l.relation t rest))) d (λ ls m. Good (join ls m))
     in_turn (Good x) (Good es) (Good e) = refl
     in_turn (Good x) (Good es) (Bad g gs) = refl
     in_turn (Good x) (Bad f fs) (Good e) = refl
@@ -57,7 +58,8 @@ plain_snoc [] l = refl
 plain_snoc (x ∷ xs) l = ap (Linked x.place x.relation (plain_term x.term)) (plain_snoc xs l)
 
 -- an operator's term, whose parts are typed in their places
-pub binary_in_place : (s : Scopes) (t : Term) (op : BinOp) (a b a' b' : Term) (q r z : Result (Unit {0}) TypeFault) → t.kind.value ≡ term.Binary op a b → Answers (λ (u : Unit {0}). plain_term a') (typed_term s (plain_term a)) q → Answers (λ (u : Unit {0}). plain_term b') (typed_term s (plain_term b)) r
+pub binary_in_place : (s : Scopes) (t : Term) (op : BinOp) (a b a' b' : Term) (q r z : Result (Unit {0}) TypeFault) → t.kind.value ≡ term.Binary op a b
+    → Answers (λ (u : Unit {0}). plain_term a') (typed_term s (plain_term a)) q → Answers (λ (u : Unit {0}). plain_term b') (typed_term s (plain_term b)) r
     → z ≡ both q r → Answers (λ (u : Unit {0}). Binary t.place (option_map plain_type t.ctype) t.range op (plain_term a') (plain_term b')) (typed_term s (plain_term t)) z
 binary_in_place s t op a b a' b' q r z is ha hb j =
     subst (λ x. Answers (λ (u : Unit {0}). Binary t.place (option_map plain_type t.ctype) t.range op (plain_term a') (plain_term b')) (typed_term s (plain_term_kind t.place x (option_map plain_type t.ctype) t.range)) z) (sym is)
@@ -87,7 +89,8 @@ links_more s xs ys x y d r hd hr =
     (subst (λ ls. Answers (λ (u : Unit {0}). ls) (both_parts (typed_links s (plain_links xs)) (link_checked s x) (λ ls m. Good (join ls m))) (both d r)) (sym (plain_snoc ys y))
     (both_made join (λ (u : Unit {0}). plain_links ys) (λ (u : Unit {0}). plain_link y) (typed_links s (plain_links xs)) (link_checked s x) d r (both d r) hd hr refl))
 
-pub links_step : (s : Scopes) (xs xs' ys ys' : List Link) (x y : Link) (d r : Result (Unit {0}) TypeFault) → xs' ≡ xs ++ x ∷ [] → ys' ≡ ys ++ y ∷ [] → Answers (λ (u : Unit {0}). plain_links ys) (typed_links s (plain_links xs)) d → Answers (λ (u : Unit {0}). plain_link y) (link_checked s x) r
+pub links_step : (s : Scopes) (xs xs' ys ys' : List Link) (x y : Link) (d r : Result (Unit {0}) TypeFault) → xs' ≡ xs ++ x ∷ [] → ys' ≡ ys ++ y ∷ []
+    → Answers (λ (u : Unit {0}). plain_links ys) (typed_links s (plain_links xs)) d → Answers (λ (u : Unit {0}). plain_link y) (link_checked s x) r
     → Answers (λ (u : Unit {0}). plain_links ys') (typed_links s (plain_links xs')) (both d r)
 links_step s xs xs' ys ys' x y d r ex ey hd hr =
     subst (λ zs. Answers (λ (u : Unit {0}). plain_links zs) (typed_links s (plain_links xs')) (both d r)) (sym ey)
@@ -95,6 +98,9 @@ links_step s xs xs' ys ys' x y d r ex ey hd hr =
     (links_more s xs ys x y d r hd hr))
 
 -- one more annotation is typed
-pub annotations_more : (s : Scopes) (all : List Annotation) (list done done' : List Annot) (a : Annot) (body : Body) (rest : List Annot) → typed_annotations s all ≡ behind_parts (map plain_annot done) (typed_annotations s (map plain_annot list)) → list ≡ a ∷ rest → typed_clause s (plain_body a.body) ≡ Good (plain_body body) → done' ≡ done ++ record a { body = body } ∷ [] → typed_annotations s all ≡ behind_parts (map plain_annot done') (typed_annotations s (map plain_annot rest))
+pub annotations_more : (s : Scopes) (all : List Annotation) (list done done' : List Annot) (a : Annot) (body : Body) (rest : List Annot)
+    → typed_annotations s all ≡ behind_parts (map plain_annot done) (typed_annotations s (map plain_annot list)) → list ≡ a ∷ rest → typed_clause s (plain_body a.body) ≡ Good (plain_body body)
+    → done' ≡ done ++ record a { body = body } ∷ [] → typed_annotations s all ≡ behind_parts (map plain_annot done') (typed_annotations s (map plain_annot rest))
 annotations_more s all list done done' a body rest before is good more =
-    list_more plain_annot (λ b. record (plain_annot a) { body = b }) (typed_annotations s all) (typed_annotations s (map plain_annot list)) done done' (record a { body = body }) (typed_clause s (plain_body a.body)) (λ b. typed_annotations s (map plain_annot rest)) (plain_body body) before (ap (λ l. typed_annotations s (map plain_annot l)) is) good refl more
+    list_more plain_annot (λ b. record (plain_annot a) { body = b }) (typed_annotations s all) (typed_annotations s (map plain_annot list)) done done' (record a { body = body })
+    (typed_clause s (plain_body a.body)) (λ b. typed_annotations s (map plain_annot rest)) (plain_body body) before (ap (λ l. typed_annotations s (map plain_annot l)) is) good refl more

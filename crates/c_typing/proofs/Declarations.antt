@@ -14,9 +14,12 @@ with_objects_snoc s (x ∷ xs) d = with_objects_snoc (with_object s x) xs d
 module _ (s t t' : Scopes) (done done' : List Decl) (x : Decl) (now : t' ≡ with_object t (plain_decl x)) (more : done' ≡ done ++ x ∷ [])
   where
     -- one more declaration is typed
-    pub declarations_more : (all : List Declaration) (list : List Decl) (d : Decl) (rest : List Decl) → typed_declarations s all ≡ behind_parts (map plain_decl done) (typed_declarations t (map plain_decl list)) → list ≡ d ∷ rest → typed_declaration t (plain_decl d) ≡ Good (plain_decl x) → typed_declarations s all ≡ behind_parts (map plain_decl done') (typed_declarations t' (map plain_decl rest))
+    pub declarations_more : (all : List Declaration) (list : List Decl) (d : Decl) (rest : List Decl)
+        → typed_declarations s all ≡ behind_parts (map plain_decl done) (typed_declarations t (map plain_decl list)) → list ≡ d ∷ rest → typed_declaration t (plain_decl d) ≡ Good (plain_decl x)
+        → typed_declarations s all ≡ behind_parts (map plain_decl done') (typed_declarations t' (map plain_decl rest))
     declarations_more all list d rest before is good =
-        list_more plain_decl (λ y. y) (typed_declarations s all) (typed_declarations t (map plain_decl list)) done done' x (typed_declaration t (plain_decl d)) (λ y. typed_declarations (with_object t y) (map plain_decl rest)) (plain_decl x) before (ap (λ ds. typed_declarations t (map plain_decl ds)) is) good refl more
+        list_more plain_decl (λ y. y) (typed_declarations s all) (typed_declarations t (map plain_decl list)) done done' x (typed_declaration t (plain_decl d))
+        (λ y. typed_declarations (with_object t y) (map plain_decl rest)) (plain_decl x) before (ap (λ ds. typed_declarations t (map plain_decl ds)) is) good refl more
         ∙ ap (λ u. behind_parts (map plain_decl done') (typed_declarations u (map plain_decl rest))) (sym now)
 
     pub objects_more : t ≡ with_objects s (map plain_decl done) → t' ≡ with_objects s (map plain_decl done')

@@ -161,8 +161,10 @@ module _ (p : TranslationUnit) (xs : List Func) (f : Func) (rest : List Func) (a
         let one : Answers (λ (u : Unit {0}). plain_func y) (typed_function (function_scopes p those_before (plain_func f)) those_before (plain_func f)) r =
         subst (λ c. Answers (λ (u : Unit {0}). plain_func y) c r) here (heading_then (λ (u : Unit {0}). plain_func y) (checked_heading s ns (plain_func f)) (checked_parts s' (plain_func f)) h r head parts) in
         subst (λ c. Answers (λ (u : Unit {0}). map plain_func (ys ++ y ∷ [])) c (both done r)) (sym (ap (typed_functions p []) (map-append plain_func xs (f ∷ [])) ∙ functions_snoc p [] those_before those_before (plain_func f) refl))
-        (subst (λ fs. Answers (λ (u : Unit {0}). fs) (both_parts (typed_functions p [] those_before) (typed_function (function_scopes p those_before (plain_func f)) those_before (plain_func f)) (λ ts t. Good (ts ++ t ∷ []))) (both done r)) (sym (map-append plain_func ys (y ∷ [])))
-        (both_made (λ ts t. ts ++ t ∷ []) (λ (u : Unit {0}). map plain_func ys) (λ (u : Unit {0}). plain_func y) (typed_functions p [] those_before) (typed_function (function_scopes p those_before (plain_func f)) those_before (plain_func f)) done r (both done r) so_far one refl))
+        (subst (λ fs. Answers (λ (u : Unit {0}). fs)
+        (both_parts (typed_functions p [] those_before) (typed_function (function_scopes p those_before (plain_func f)) those_before (plain_func f)) (λ ts t. Good (ts ++ t ∷ []))) (both done r)) (sym (map-append plain_func ys (y ∷ [])))
+        (both_made (λ ts t. ts ++ t ∷ []) (λ (u : Unit {0}). map plain_func ys) (λ (u : Unit {0}). plain_func y) (typed_functions p [] those_before)
+        (typed_function (function_scopes p those_before (plain_func f)) those_before (plain_func f)) done r (both done r) so_far one refl))
 
     pub functions_step : (xs' : List Func) → xs' ≡ xs ++ f ∷ [] → (ds : ℕ → Option Callee) (ns : ℕ → Option Noted) (s s' : Scopes) (h r done : Result (Unit {0}) TypeFault) (ys ys' : List Func) (y : Func) → ys' ≡ ys ++ y ∷ []
         → ((x : ℕ) → ds x ≡ denoted p.funcs x) → ((x : ℕ) → ns x ≡ known those_before x) → s ≡ behind_functions p those_before → s' ≡ with_function ds s (plain_func f)

@@ -168,7 +168,8 @@ module _ (all : List Function) (f : Function)
             ap (λ o. Some (noted (is_definition g || was_defined o) (alike_with g (gs ++ f ∷ [])))) so
             ∙ ap (λ b. Some (noted b (alike_with g (gs ++ f ∷ [])))) (or_three (is_definition g) (was_defined (known gs f.name)) (is_definition f))
             ∙ ap (λ b. Some (noted ((is_definition g || was_defined (known gs f.name)) || is_definition f) b)) (alike_snoc g gs f ∙ ap (λ b. alike_with g gs && cond b (same_signature g f) true) e)
-            ∙ ap (λ b. Some (noted ((is_definition g || was_defined (known gs f.name)) || is_definition f) (is_alike (cond b (Some (signature all g)) (first gs)) (Some (noted (is_definition g || was_defined (known gs f.name)) (alike_with g gs))) f))) (sym e)
+            ∙ ap (λ b. Some (noted ((is_definition g || was_defined (known gs f.name)) || is_definition f)
+            (is_alike (cond b (Some (signature all g)) (first gs)) (Some (noted (is_definition g || was_defined (known gs f.name)) (alike_with g gs))) f))) (sym e)
         by so false e = so ∙ ap (λ b. Some (noted (was_defined (known gs f.name) || is_definition f) (is_alike (cond b (Some (signature all g)) (first gs)) (known gs f.name) f))) (sym e)
 
     -- another name

@@ -10,10 +10,6 @@ use Rattle.c_type_rules.proofs.Least.{one_refused}
 abbrev pub behind_parts : {A : Type 0} → List A → Checked (List A) → Checked (List A)
 behind_parts done c = one_part c (λ rest. Good (done ++ rest))
 
-pub no_parts : {A : Type 0} (c : Checked (List A)) → behind_parts [] c ≡ c
-no_parts (Good a) = refl
-no_parts (Bad f fs) = refl
-
 pub all_parts : {A : Type 0} (done : List A) → behind_parts done (Good []) ≡ Good done
 all_parts done = ap Good (append-nil done)
 
@@ -32,7 +28,8 @@ module _ {A B : Type 0} (done : List A) (m : Checked B) (view : B → A) (rest :
     part_refused {S = S} p s h a = one_refused (λ (xs : List A). Good (done ++ xs)) s s (one_part m (λ x. one_part (rest x) (λ xs. Good (view x ∷ xs)))) h (one_refused (λ x. one_part (rest x) (λ xs. Good (view x ∷ xs))) p s m h a)
 
 -- one more part is there
-pub list_more : {X A B : Type 0} (plain : X → A) (view : B → A) (whole c : Checked (List A)) (done done' : List X) (x : X) (m : Checked B) (rest : B → Checked (List A)) (b : B) → whole ≡ behind_parts (map plain done) c → c ≡ one_part m (λ a. one_part (rest a) (λ xs. Good (view a ∷ xs))) → m ≡ Good b → view b ≡ plain x → done' ≡ done ++ x ∷ [] → whole ≡ behind_parts (map plain done') (rest b)
+pub list_more : {X A B : Type 0} (plain : X → A) (view : B → A) (whole c : Checked (List A)) (done done' : List X) (x : X) (m : Checked B) (rest : B → Checked (List A)) (b : B)
+    → whole ≡ behind_parts (map plain done) c → c ≡ one_part m (λ a. one_part (rest a) (λ xs. Good (view a ∷ xs))) → m ≡ Good b → view b ≡ plain x → done' ≡ done ++ x ∷ [] → whole ≡ behind_parts (map plain done') (rest b)
 list_more plain view whole c done done' x m rest b before is good same more =
     before ∙ ap (behind_parts (map plain done)) is ∙ next_part (map plain done) m view rest b good
     ∙ ap (λ ys. behind_parts ys (rest b)) (ap (λ y. map plain done ++ y ∷ []) same ∙ sym (ap (map plain) more ∙ map-append plain done (x ∷ [])))

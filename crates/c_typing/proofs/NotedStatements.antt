@@ -29,13 +29,15 @@ module _ (s : Scopes) (at : Place) (k : StmtKind)
 module _ (s t t' : Scopes) (done done' : List Item) (x : Item) (now : t' ≡ behind t (plain_item x)) (more : done' ≡ done ++ x ∷ [])
   where
     -- one more item is noted
-    pub block_more : (all : BlockItems) (list : List Item) (i : Item) (rest : List Item) → noted_items s all ≡ behind_block (plain_items done) (noted_items t (plain_items list)) → list ≡ i ∷ rest → noted_item t (plain_item i) ≡ Good (plain_item x) → noted_items s all ≡ behind_block (plain_items done') (noted_items t' (plain_items rest))
+    pub block_more : (all : BlockItems) (list : List Item) (i : Item) (rest : List Item) → noted_items s all ≡ behind_block (plain_items done) (noted_items t (plain_items list)) → list ≡ i ∷ rest
+        → noted_item t (plain_item i) ≡ Good (plain_item x) → noted_items s all ≡ behind_block (plain_items done') (noted_items t' (plain_items rest))
     block_more all list i rest before is good =
         items_more (noted_items s all) (noted_items t (plain_items list)) done done' x (noted_item t (plain_item i)) (λ y. noted_items (behind t y) (plain_items rest)) before (ap (λ l. noted_items t (plain_items l)) is) good more
         ∙ ap (λ q. behind_block (plain_items done') (noted_items q (plain_items rest))) (sym now)
 
 -- an item is refused
-pub items_refused : {T U : Type 0} (p : T → BlockItem) (q : U → BlockItems) (whole : Checked BlockItems) (t : Scopes) (done list : List Item) (i : Item) (rest : List Item) (h : TypeFault) → whole ≡ behind_block (plain_items done) (noted_items t (plain_items list)) → list ≡ i ∷ rest
+pub items_refused : {T U : Type 0} (p : T → BlockItem) (q : U → BlockItems) (whole : Checked BlockItems) (t : Scopes) (done list : List Item) (i : Item) (rest : List Item) (h : TypeFault)
+    → whole ≡ behind_block (plain_items done) (noted_items t (plain_items list)) → list ≡ i ∷ rest
     → Answers p (noted_item t (plain_item i)) (Err h) → Answers q whole (Err h)
 items_refused p q whole t done list i rest h before is bad =
     subst (λ c. Answers q c (Err h)) (sym (before ∙ ap (λ l. behind_block (plain_items done) (noted_items t (plain_items l))) is))

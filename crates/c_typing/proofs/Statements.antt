@@ -1,28 +1,24 @@
 -- Statements at a known variant.
-use Rattle.std.proofs.Common.{◌≡◌, ℕ, List, [], ◌∷◌, ◌++◌, refl, sym, ap, ◌∙◌, subst, map, length, Option, Some, None, option_map, Result, Err}
+use Rattle.std.proofs.Common.{◌≡◌, ℕ, List, [], ◌∷◌, ◌++◌, sym, ap, ◌∙◌, subst, length, Option, Result, Err}
 use Rattle.std.specs.Prelude.{Vec}
 use Rattle.std.specs.declared.alloc.Global.{Global}
 use Rattle.c_syntax.specs.declared.place.Place.{Place}
-use Rattle.c_syntax.specs.declared.annotation.Annot.{Annot}
 use Rattle.c_syntax.specs.declared.expression.Expr.{Expr}
 use Rattle.c_syntax.specs.declared.statement.Item.{Item}
-use Rattle.c_syntax.specs.declared.statement.Item.TheBlock.{back-StmtKind-For-1}
 use Rattle.c_syntax.specs.declared.statement.Stmt.{Stmt}
 use Rattle.c_syntax.specs.declared.statement.StmtKind.{StmtKind}
 use Rattle.c_syntax.specs.declared.statement.StmtKind as code
-use Rattle.c_syntax.specs.Annotations.{plain_annot}
-use Rattle.c_syntax.specs.Expressions.{Expression, plain_expr}
-use Rattle.c_syntax.specs.Statements.{Statement, Block, Do, For, BlockItem, BlockItems, plain_stmt, plain_stmt_kind, plain_first, plain_item, plain_items}
+use Rattle.c_syntax.specs.Expressions.{plain_expr}
+use Rattle.c_syntax.specs.Statements.{Block, Do, BlockItem, BlockItems, plain_stmt, plain_stmt_kind, plain_item, plain_items}
 use Rattle.c_syntax.proofs.Rows.{block_is}
 use Rattle.c_model.specs.Checked.{Checked, Good, one_part}
-use Rattle.c_model.specs.Typing.{Scopes, Around, in_loop, inner, behind, behind_first, typed, typed_condition, typed_maybe, typed_statement, typed_first, typed_item, typed_items}
+use Rattle.c_model.specs.Typing.{Scopes, Around, in_loop, inner, behind, behind_first, typed_condition, typed_statement, typed_item, typed_items}
 use Rattle.c_type_rules.specs.declared.fault.TypeFault.{TypeFault}
 use Rattle.c_type_rules.specs.Answers.{Answers}
 use Rattle.c_type_rules.specs.Scopes.{left}
 use Rattle.c_typing.specs.Scopes.{behind_items}
 use Rattle.c_typing.specs.Trees.{plain_for_first}
 use Rattle.c_type_rules.proofs.Expressions.{made_of}
-use Rattle.c_type_rules.proofs.Least.{one_refused}
 use Rattle.c_typing.proofs.Blocks.{behind_block, all_items, item_refused, items_more, left_block, left_for}
 
 module _ (s : Scopes) (r : Around) (at : Place) (k : StmtKind)
@@ -40,79 +36,24 @@ module _ (s : Scopes) (r : Around) (at : Place) (k : StmtKind)
         → Answers (λ (u : Unit {0}). plain_expr e') (typed_condition t (plain_expr e)) result → Answers (λ (u : Unit {0}). Do at (plain_stmt b') (plain_expr e')) (typed_statement s r (plain_stmt_kind at k)) result
     do_in_place b b' e e' r' t result is around good same h =
         let body : typed_statement s (in_loop r) (plain_stmt b) ≡ Good (plain_stmt b') = ap (λ q. typed_statement s q (plain_stmt b)) (sym around) ∙ good in
-        subst (λ c. Answers (λ (u : Unit {0}). Do at (plain_stmt b') (plain_expr e')) c result) (sym (ap (λ x. typed_statement s r (plain_stmt_kind at x)) is ∙ ap (λ c. one_part c (λ d. one_part (typed_condition s (plain_expr e)) (λ e. Good (Do at d e)))) body))
+        subst (λ c. Answers (λ (u : Unit {0}). Do at (plain_stmt b') (plain_expr e')) c result)
+        (sym (ap (λ x. typed_statement s r (plain_stmt_kind at x)) is ∙ ap (λ c. one_part c (λ d. one_part (typed_condition s (plain_expr e)) (λ e. Good (Do at d e)))) body))
         (made_of (Do at (plain_stmt b')) (λ (u : Unit {0}). plain_expr e') (typed_condition s (plain_expr e)) result (subst (λ u. Answers (λ (v : Unit {0}). plain_expr e') (typed_condition u (plain_expr e)) result) same h))
-
--- what stands first in a `for`
-first_is : (i : Option Item) → plain_first (back-StmtKind-For-1 i) ≡ plain_for_first i
-first_is None = refl
-first_is (Some i) = refl
-
-module _ (s : Scopes) (r : Around) (at : Place) (k : StmtKind) (annots : Vec Annot Global) (i : Option Item) (e step : Option Expr) (b : Stmt)
-    (is : k ≡ code.For annots i e step b)
-    (t u : Scopes) (j : Option Item) (e' : Option Expr)
-    (inside : t ≡ inner s)
-    (first : typed_first t r (plain_for_first i) ≡ Good (plain_for_first j))
-    (sight : u ≡ behind_first t (plain_for_first j))
-    (tested : typed_maybe (typed_condition u) (option_map plain_expr e) ≡ Good (option_map plain_expr e'))
-  where
-    in_sight : u ≡ behind_first (inner s) (plain_for_first j)
-    in_sight = sight ∙ ap (λ x. behind_first x (plain_for_first j)) inside
-
-    for_is : typed_statement s r (plain_stmt_kind at k) ≡ one_part (typed_maybe (typed u) (option_map plain_expr step)) (λ step. one_part (typed_statement u (in_loop r) (plain_stmt b)) (λ b. Good (For at (map plain_annot annots.items) (plain_for_first j) (option_map plain_expr e') step b)))
-    for_is =
-        let x : typed_first (inner s) r (plain_first (back-StmtKind-For-1 i)) ≡ Good (plain_for_first j) = ap (typed_first (inner s) r) (first_is i) ∙ ap (λ x. typed_first x r (plain_for_first i)) (sym inside) ∙ first in
-        ap (λ k. typed_statement s r (plain_stmt_kind at k)) is
-        ∙ ap (λ c. one_part c (λ first.
-        one_part (typed_maybe (typed_condition (behind_first (inner s) first)) (option_map plain_expr e)) (λ e.
-        one_part (typed_maybe (typed (behind_first (inner s) first)) (option_map plain_expr step)) (λ step.
-        one_part (typed_statement (behind_first (inner s) first) (in_loop r) (plain_stmt b)) (λ b. Good (For at (map plain_annot annots.items) first e step b)))))) x
-        ∙ ap (λ x.
-        one_part (typed_maybe (typed_condition x) (option_map plain_expr e)) (λ e.
-        one_part (typed_maybe (typed x) (option_map plain_expr step)) (λ step.
-        one_part (typed_statement x (in_loop r) (plain_stmt b)) (λ b. Good (For at (map plain_annot annots.items) (plain_for_first j) e step b))))) (sym in_sight)
-        ∙ ap (λ c. one_part c (λ e.
-        one_part (typed_maybe (typed u) (option_map plain_expr step)) (λ step.
-        one_part (typed_statement u (in_loop r) (plain_stmt b)) (λ b. Good (For at (map plain_annot annots.items) (plain_for_first j) e step b))))) tested
-
-    pub step_refused : {T U : Type 0} (p : T → Option Expression) (q : U → Statement) (h : TypeFault) → Answers p (typed_maybe (typed u) (option_map plain_expr step)) (Err h) → Answers q (typed_statement s r (plain_stmt_kind at k)) (Err h)
-    step_refused p q h bad =
-        subst (λ c. Answers q c (Err h)) (sym for_is)
-        (one_refused (λ step. one_part (typed_statement u (in_loop r) (plain_stmt b)) (λ b. Good (For at (map plain_annot annots.items) (plain_for_first j) (option_map plain_expr e') step b))) p q (typed_maybe (typed u) (option_map plain_expr step)) h bad)
-
-    module _ (step' : Option Expr) (r' : Around)
-        (stepped : typed_maybe (typed u) (option_map plain_expr step) ≡ Good (option_map plain_expr step'))
-        (around : r' ≡ in_loop r)
-      where
-        body_is : typed_statement s r (plain_stmt_kind at k) ≡ one_part (typed_statement u r' (plain_stmt b)) (λ b. Good (For at (map plain_annot annots.items) (plain_for_first j) (option_map plain_expr e') (option_map plain_expr step') b))
-        body_is =
-            for_is
-            ∙ ap (λ c. one_part c (λ step. one_part (typed_statement u (in_loop r) (plain_stmt b)) (λ b. Good (For at (map plain_annot annots.items) (plain_for_first j) (option_map plain_expr e') step b)))) stepped
-            ∙ ap (λ q. one_part (typed_statement u q (plain_stmt b)) (λ b. Good (For at (map plain_annot annots.items) (plain_for_first j) (option_map plain_expr e') (option_map plain_expr step') b))) (sym around)
-
-        pub body_refused : {T U : Type 0} (p : T → Statement) (q : U → Statement) (h : TypeFault) → Answers p (typed_statement u r' (plain_stmt b)) (Err h) → Answers q (typed_statement s r (plain_stmt_kind at k)) (Err h)
-        body_refused p q h bad =
-            subst (λ c. Answers q c (Err h)) (sym body_is)
-            (one_refused (λ b. Good (For at (map plain_annot annots.items) (plain_for_first j) (option_map plain_expr e') (option_map plain_expr step') b)) p q (typed_statement u r' (plain_stmt b)) h bad)
-
-        pub for_typed : (b' : Stmt) → typed_statement u r' (plain_stmt b) ≡ Good (plain_stmt b') → typed_statement s r (plain_stmt_kind at k) ≡ Good (plain_stmt_kind at (code.For annots j e' step' b'))
-        for_typed b' good =
-            body_is
-            ∙ ap (λ c. one_part c (λ b. Good (For at (map plain_annot annots.items) (plain_for_first j) (option_map plain_expr e') (option_map plain_expr step') b))) good
-            ∙ ap (λ i. Good (For at (map plain_annot annots.items) i (option_map plain_expr e') (option_map plain_expr step') (plain_stmt b'))) (sym (first_is j))
 
 -- ---- blocks
 
 module _ (s t t' : Scopes) (r : Around) (done done' : List Item) (x : Item) (now : t' ≡ behind t (plain_item x)) (more : done' ≡ done ++ x ∷ [])
   where
     -- one more item is typed
-    pub block_more : (all : BlockItems) (list : List Item) (i : Item) (rest : List Item) → typed_items s r all ≡ behind_block (plain_items done) (typed_items t r (plain_items list)) → list ≡ i ∷ rest → typed_item t r (plain_item i) ≡ Good (plain_item x) → typed_items s r all ≡ behind_block (plain_items done') (typed_items t' r (plain_items rest))
+    pub block_more : (all : BlockItems) (list : List Item) (i : Item) (rest : List Item) → typed_items s r all ≡ behind_block (plain_items done) (typed_items t r (plain_items list)) → list ≡ i ∷ rest
+        → typed_item t r (plain_item i) ≡ Good (plain_item x) → typed_items s r all ≡ behind_block (plain_items done') (typed_items t' r (plain_items rest))
     block_more all list i rest before is good =
         items_more (typed_items s r all) (typed_items t r (plain_items list)) done done' x (typed_item t r (plain_item i)) (λ y. typed_items (behind t y) r (plain_items rest)) before (ap (λ l. typed_items t r (plain_items l)) is) good more
         ∙ ap (λ u. behind_block (plain_items done') (typed_items u r (plain_items rest))) (sym now)
 
 -- an item is refused
-pub items_refused : {T U : Type 0} (p : T → BlockItem) (q : U → BlockItems) (whole : Checked BlockItems) (t : Scopes) (r : Around) (done list : List Item) (i : Item) (rest : List Item) (h : TypeFault) → whole ≡ behind_block (plain_items done) (typed_items t r (plain_items list)) → list ≡ i ∷ rest
+pub items_refused : {T U : Type 0} (p : T → BlockItem) (q : U → BlockItems) (whole : Checked BlockItems) (t : Scopes) (r : Around) (done list : List Item) (i : Item) (rest : List Item) (h : TypeFault)
+    → whole ≡ behind_block (plain_items done) (typed_items t r (plain_items list)) → list ≡ i ∷ rest
     → Answers p (typed_item t r (plain_item i)) (Err h) → Answers q whole (Err h)
 items_refused p q whole t r done list i rest h before is bad =
     subst (λ c. Answers q c (Err h)) (sym (before ∙ ap (λ l. behind_block (plain_items done) (typed_items t r (plain_items l))) is))

@@ -9,7 +9,8 @@ use Rattle.c_model.specs.Meaning.{is_definition}
 use Rattle.c_model.specs.Library.{is_library_name, is_there}
 use Rattle.c_model.specs.Checked.{Good, one_part, where_so}
 use Rattle.c_model.specs.Typing.{no_type, Signature, Scopes, name_at, same_type, is_object_type, declarable}
-use Rattle.c_model.specs.ProgramTyping.{definition_of, first_of, number_or, offset_of, types_of, signature, same_types, is_compatible, is_compatible_with_all, typed_heading, typed_parameter, with_parameter, with_parameters, typed_parameters, function_scopes, typed_body, typed_function, typed_functions, typed_unit, noted_body, noted_functions, noted_unit}
+use Rattle.c_model.specs.ProgramTyping.{definition_of, first_of, number_or, offset_of, types_of, signature, same_types, is_compatible, is_compatible_with_all, typed_heading, typed_parameter}
+use Rattle.c_model.specs.ProgramTyping.{with_parameter, with_parameters, typed_parameters, function_scopes, typed_body, typed_function, typed_functions, typed_unit, noted_body, noted_functions, noted_unit}
 use Rattle.c_model.specs.WellTypedPrograms.{IsParameter, AreParameters, BodyTyped, FunctionsTyped, ProgramTyped}
 use Rattle.c_type_rules.proofs.Gives.{Gives, gives_of, gives_more, gives_one, gives_both, gives_where}
 use Rattle.c_type_rules.proofs.WellExpressions.{and_true, not_true}

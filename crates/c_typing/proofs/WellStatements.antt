@@ -3,10 +3,12 @@ use Rattle.std.proofs.Common.{◌≡◌, refl, sym, subst, List, [], ◌∷◌, 
 use Rattle.c_syntax.specs.declared.place.Place.{Place}
 use Rattle.c_syntax.specs.Ctypes.{PlainType, Void}
 use Rattle.c_syntax.specs.Expressions.{Expression, type_of}
-use Rattle.c_syntax.specs.Statements.{Initialiser, One, Declaration, Statement, Empty, Eval, Block, If, While, Do, For, Break, Continue, Return, ElsePart, NoElse, Else, ForFirst, NoFirst, First, BlockItem, Declare, Run, Asserts, BlockItems, NoItem, Then}
+use Rattle.c_syntax.specs.Statements.{Initialiser, One, Declaration, Statement, Empty, Eval, Block, If, While, Do, For, Break, Continue, Return}
+use Rattle.c_syntax.specs.Statements.{ElsePart, NoElse, Else, ForFirst, NoFirst, First, BlockItem, Declare, Run, Asserts, BlockItems, NoItem, Then}
 use Rattle.c_model.specs.Library.{is_library_name, is_there}
 use Rattle.c_model.specs.Checked.{Checked, Good, one_part, where_so}
-use Rattle.c_model.specs.Typing.{no_type, Scopes, name_at, object_named, same_type, is_scalar, is_object_type, in_type, is_assigned, typed, condition, typed_condition, typed_maybe, typed_initialiser, declarable, with_object, typed_declaration, typed_declarations, Around, in_loop, inner, returned, behind, behind_first, typed_statement, typed_else, typed_first, typed_item, typed_items}
+use Rattle.c_model.specs.Typing.{no_type, Scopes, name_at, object_named, same_type, is_scalar, is_object_type, in_type, is_assigned, typed, condition, typed_condition, typed_maybe, typed_initialiser, declarable}
+use Rattle.c_model.specs.Typing.{with_object, typed_declaration, typed_declarations, Around, in_loop, inner, returned, behind, behind_first, typed_statement, typed_else, typed_first, typed_item, typed_items}
 use Rattle.c_model.specs.WellTyped.{WellTyped}
 use Rattle.c_model.specs.WellTypedPrograms.{IsCondition, WhereAny, Initialises, IsDeclared, AreDeclared, StatementTyped, ElseTyped, FirstTyped, ItemTyped, ItemsTyped}
 use Rattle.c_type_rules.proofs.Gives.{Gives, gives_one, gives_both, gives_where}
@@ -79,10 +81,13 @@ mutual
       one_part (typed_maybe (typed_condition (behind_first (inner s) first)) e) (λ e. one_part (typed_maybe (typed (behind_first (inner s) first)) step) (λ step.
       one_part (typed_statement (behind_first (inner s) first) (in_loop r) a) (λ a. Good (For at annots first e step a))))) (first_well (inner s) r first) (λ first u.
       gives_one (WhereAny (IsCondition (behind_first (inner s) first))) (StatementTyped s r) (typed_maybe (typed_condition (behind_first (inner s) first)) e) (λ e. one_part (typed_maybe (typed (behind_first (inner s) first)) step) (λ step.
-      one_part (typed_statement (behind_first (inner s) first) (in_loop r) a) (λ a. Good (For at annots first e step a)))) (maybe_well (IsCondition (behind_first (inner s) first)) (typed_condition (behind_first (inner s) first)) e (condition_well (behind_first (inner s) first))) (λ e v.
+      one_part (typed_statement (behind_first (inner s) first) (in_loop r) a) (λ a. Good (For at annots first e step a))))
+      (maybe_well (IsCondition (behind_first (inner s) first)) (typed_condition (behind_first (inner s) first)) e (condition_well (behind_first (inner s) first))) (λ e v.
       gives_one (WhereAny (WellTyped (behind_first (inner s) first))) (StatementTyped s r) (typed_maybe (typed (behind_first (inner s) first)) step) (λ step.
-      one_part (typed_statement (behind_first (inner s) first) (in_loop r) a) (λ a. Good (For at annots first e step a))) (maybe_well (WellTyped (behind_first (inner s) first)) (typed (behind_first (inner s) first)) step (typed_well (behind_first (inner s) first))) (λ step w.
-      gives_one (StatementTyped (behind_first (inner s) first) (in_loop r)) (StatementTyped s r) (typed_statement (behind_first (inner s) first) (in_loop r) a) (λ a. Good (For at annots first e step a)) (statement_well (behind_first (inner s) first) (in_loop r) a) (λ a x. (u, v, w, x)))))
+      one_part (typed_statement (behind_first (inner s) first) (in_loop r) a) (λ a. Good (For at annots first e step a)))
+      (maybe_well (WellTyped (behind_first (inner s) first)) (typed (behind_first (inner s) first)) step (typed_well (behind_first (inner s) first))) (λ step w.
+      gives_one (StatementTyped (behind_first (inner s) first) (in_loop r)) (StatementTyped s r) (typed_statement (behind_first (inner s) first) (in_loop r) a)
+      (λ a. Good (For at annots first e step a)) (statement_well (behind_first (inner s) first) (in_loop r) a) (λ a x. (u, v, w, x)))))
   statement_well s r (Break at) = gives_where (StatementTyped s r) r.loops _ _ (λ t. t)
   statement_well s r (Continue at) = gives_where (StatementTyped s r) r.loops _ _ (λ t. t)
   statement_well s r (Return at e) = gives_one (WhereAny (WellTyped s)) (StatementTyped s r) (typed_maybe (typed s) e) (returned at r.result) (maybe_well (WellTyped s) (typed s) e (typed_well s)) (returned_well s at r)

@@ -7,7 +7,8 @@ use Rattle.c_model.specs.Meaning.{is_definition}
 use Rattle.c_model.specs.Library.{is_library_name}
 use Rattle.c_model.specs.Checked.{Checked, Good, one_part, where_so}
 use Rattle.c_model.specs.Typing.{no_name, Signature, Scopes, function_called, name_at, same_type}
-use Rattle.c_model.specs.ProgramTyping.{definition_of, first_of, types_of, same_signature, same_types, typed_parameter, with_parameter, with_parameters, typed_body, typed_functions, noted_body}
+use Rattle.c_model.specs.ProgramTyping.{definition_of, first_of, types_of, same_signature, same_types, typed_parameter}
+use Rattle.c_model.specs.ProgramTyping.{with_parameter, with_parameters, typed_body, typed_functions, noted_body}
 use Rattle.c_type_rules.specs.declared.fault.TypeFault.{TypeFault}
 use Rattle.c_type_rules.specs.Answers.{Answers}
 use Rattle.c_typing.specs.declared.heading.Callee.{Callee}

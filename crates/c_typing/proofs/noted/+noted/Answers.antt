@@ -14,7 +14,9 @@ use Rattle.c_typing.proofs.noted.+noted.Goals as goal
 
 pub note_block-returns-clause-same : goal.note_block-returns-clause-same
 note_block-returns-clause-same t c =
-    block_left (plain_scopes c.args.scopes.now) (plain_scopes c.enter-mark.new.scopes) (plain_scopes c.note_items.new.scopes) (plain_scopes c.leave.new.scopes) c.enter-mark.result.count c.enter-mark.result.innermost c.enter-mark.ensures.inner (ap (λ m. m.count) c.enter-mark.ensures.mark) (ap (λ m. m.innermost) c.enter-mark.ensures.mark) c.leave.ensures (plain_items c.note_items.new.items.items) c.in_ok-note_items.ensures.behind
+    block_left (plain_scopes c.args.scopes.now) (plain_scopes c.enter-mark.new.scopes) (plain_scopes c.note_items.new.scopes) (plain_scopes c.leave.new.scopes) c.enter-mark.result.count
+    c.enter-mark.result.innermost c.enter-mark.ensures.inner (ap (λ m. m.count) c.enter-mark.ensures.mark) (ap (λ m. m.innermost) c.enter-mark.ensures.mark) c.leave.ensures
+    (plain_items c.note_items.new.items.items) c.in_ok-note_items.ensures.behind
 
 pub note_items-loop-i-preserved : goal.note_items-loop-i-preserved
 note_items-loop-i-preserved t c =
@@ -56,7 +58,8 @@ note_kind-returns-in-Block-clause-noted t c = λ at.
 pub note_kind-returns-in_ok-note_statement-in-For-clause-same : goal.note_kind-returns-in_ok-note_statement-in-For-clause-same
 note_kind-returns-in_ok-note_statement-in-For-clause-same t c =
     let sight : plain_scopes c.see_first.new.scopes ≡ behind_first (plain_scopes c.enter-mark.new.scopes) (plain_for_first c.in-For.first) = search rules in
-    for_left (plain_scopes c.args.scopes.now) (plain_scopes c.enter-mark.new.scopes) (plain_scopes c.note_statement-in-For.new.scopes) (plain_scopes c.leave.new.scopes) c.enter-mark.result.count c.enter-mark.result.innermost c.enter-mark.ensures.inner (ap (λ m. m.count) c.enter-mark.ensures.mark) (ap (λ m. m.innermost) c.enter-mark.ensures.mark) c.leave.ensures
+    for_left (plain_scopes c.args.scopes.now) (plain_scopes c.enter-mark.new.scopes) (plain_scopes c.note_statement-in-For.new.scopes) (plain_scopes c.leave.new.scopes) c.enter-mark.result.count
+    c.enter-mark.result.innermost c.enter-mark.ensures.inner (ap (λ m. m.count) c.enter-mark.ensures.mark) (ap (λ m. m.innermost) c.enter-mark.ensures.mark) c.leave.ensures
     c.in-For.first (plain_scopes c.see_first.new.scopes) c.in_ok-note_statement-in-For.ensures.same sight
 
 pub note_statement-returns-clause-noted : goal.note_statement-returns-clause-noted

@@ -41,6 +41,7 @@ returns-in_err-note_parts-clause-noted c =
     let lt : i < length cur = search (rules, arith) in
     let told : (x : ℕ) → get nat_eq c.args.numbers.now x ≡ denoted all x = c.requires.told in
     let sight : plain_scopes c.see_function.new.scopes ≡ with_function (denoted all) t (plain_func x) = c.in_ok-see_function.ensures ∙ (λ i. with_function (λ x. told x i) t (plain_func x)) in
-    let whole = functions_note_refused (λ (u : Unit {0}). plain_func c.note_parts.new.f) (λ (u : Unit {0}). all) (denoted all) (plain_scopes c.args.scopes.now) t (plain_scopes c.see_function.new.scopes) all (drop i old) (take i cur) x (drop (i + 1) old) c.in_err-note_parts.field-0.0
+    let whole = functions_note_refused (λ (u : Unit {0}). plain_func c.note_parts.new.f) (λ (u : Unit {0}). all) (denoted all) (plain_scopes c.args.scopes.now) t
+    (plain_scopes c.see_function.new.scopes) all (drop i old) (take i cur) x (drop (i + 1) old) c.in_err-note_parts.field-0.0
     c.loop-i.invariant.noted (left old cur i x lt c.loop-i.invariant.unvisited c.index_mut-f.ensures.value) sight c.in_err-note_parts.ensures.noted in
     search (rules, e, whole)

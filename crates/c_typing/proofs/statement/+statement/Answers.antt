@@ -13,7 +13,9 @@ use Rattle.c_typing.proofs.statement.+statement.Goals as goal
 
 pub type_block-returns-clause-same : goal.type_block-returns-clause-same
 type_block-returns-clause-same t c =
-    block_left (plain_scopes c.args.scopes.now) (plain_scopes c.enter-mark.new.scopes) (plain_scopes c.type_items.new.scopes) (plain_scopes c.leave.new.scopes) c.enter-mark.result.count c.enter-mark.result.innermost c.enter-mark.ensures.inner (ap (λ m. m.count) c.enter-mark.ensures.mark) (ap (λ m. m.innermost) c.enter-mark.ensures.mark) c.leave.ensures (plain_items c.type_items.new.items.items) c.in_ok-type_items.ensures.behind
+    block_left (plain_scopes c.args.scopes.now) (plain_scopes c.enter-mark.new.scopes) (plain_scopes c.type_items.new.scopes) (plain_scopes c.leave.new.scopes) c.enter-mark.result.count
+    c.enter-mark.result.innermost c.enter-mark.ensures.inner (ap (λ m. m.count) c.enter-mark.ensures.mark) (ap (λ m. m.innermost) c.enter-mark.ensures.mark) c.leave.ensures
+    (plain_items c.type_items.new.items.items) c.in_ok-type_items.ensures.behind
 
 pub type_items-loop-i-preserved : goal.type_items-loop-i-preserved
 type_items-loop-i-preserved t c =
@@ -31,7 +33,8 @@ type_items-loop-i-preserved t c =
     record {
       unvisited = unvisited_step old cur i y c.loop-i.invariant.unvisited;
       within = within_step cur i y lt;
-      typed = block_more s u u' (plain_around c.args.around.now) (take i cur) (take (i + 1) (slice_set cur i y)) y c.in_ok-type_item.ensures.behind next (plain_items old) (drop i old) x (drop (i + 1) old) c.loop-i.invariant.typed rest c.in_ok-type_item.ensures.typed;
+      typed = block_more s u u' (plain_around c.args.around.now) (take i cur) (take (i + 1) (slice_set cur i y)) y c.in_ok-type_item.ensures.behind next (plain_items old) (drop i old) x
+          (drop (i + 1) old) c.loop-i.invariant.typed rest c.in_ok-type_item.ensures.typed;
       sight = sight_more s u u' (take i cur) (take (i + 1) (slice_set cur i y)) y c.loop-i.invariant.sight c.in_ok-type_item.ensures.behind next;
       file = c.type_item.ensures.file ∙ c.loop-i.invariant.file;
     }
@@ -60,12 +63,14 @@ type_kind-returns-in_ok-type_statement-in-Do-clause-typed t c =
     let r = plain_around c.args.around.now in
     let good : typed_statement s (plain_around c.in_loop-inside-in-Do.result) (plain_stmt c.in-Do.a) ≡ Good (plain_stmt c.type_statement-in-Do.new.s) = search rules in
     let h : Answers (λ (u : Unit {0}). plain_expr c.type_condition-in-Do.new.e) (typed_condition (plain_scopes c.type_statement-in-Do.new.scopes) (plain_expr c.in-Do.e)) c.type_condition-in-Do.result = search rules in
-    let whole = do_in_place s r c.args.place c.args.kind.now c.in-Do.a c.type_statement-in-Do.new.s c.in-Do.e c.type_condition-in-Do.new.e (plain_around c.in_loop-inside-in-Do.result) (plain_scopes c.type_statement-in-Do.new.scopes) c.type_condition-in-Do.result
+    let whole = do_in_place s r c.args.place c.args.kind.now c.in-Do.a c.type_statement-in-Do.new.s c.in-Do.e c.type_condition-in-Do.new.e (plain_around c.in_loop-inside-in-Do.result)
+    (plain_scopes c.type_statement-in-Do.new.scopes) c.type_condition-in-Do.result
     c.in-Do.is c.in_loop-inside-in-Do.ensures good c.in_ok-type_statement-in-Do.ensures.same h in
     search (rules, whole)
 
 pub type_kind-returns-in_ok-type_statement-in-For-clause-same : goal.type_kind-returns-in_ok-type_statement-in-For-clause-same
 type_kind-returns-in_ok-type_statement-in-For-clause-same t c =
     let sight : plain_scopes c.type_first.new.scopes ≡ behind_first (plain_scopes c.enter-mark.new.scopes) (plain_for_first c.type_first.new.first) = search rules in
-    for_left (plain_scopes c.args.scopes.now) (plain_scopes c.enter-mark.new.scopes) (plain_scopes c.type_statement-in-For.new.scopes) (plain_scopes c.leave.new.scopes) c.enter-mark.result.count c.enter-mark.result.innermost c.enter-mark.ensures.inner (ap (λ m. m.count) c.enter-mark.ensures.mark) (ap (λ m. m.innermost) c.enter-mark.ensures.mark) c.leave.ensures
+    for_left (plain_scopes c.args.scopes.now) (plain_scopes c.enter-mark.new.scopes) (plain_scopes c.type_statement-in-For.new.scopes) (plain_scopes c.leave.new.scopes) c.enter-mark.result.count
+    c.enter-mark.result.innermost c.enter-mark.ensures.inner (ap (λ m. m.count) c.enter-mark.ensures.mark) (ap (λ m. m.innermost) c.enter-mark.ensures.mark) c.leave.ensures
     c.type_first.new.first (plain_scopes c.type_first.new.scopes) c.in_ok-type_statement-in-For.ensures.same sight

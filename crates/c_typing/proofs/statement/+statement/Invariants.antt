@@ -11,7 +11,8 @@ abbrev pub invariant-type_items-loop-i : goal.invariant-type_items-loop-i
 invariant-type_items-loop-i l = record {
   unvisited : goal.unvisited-type_items-loop-i l;
   within : l.i ≤ length l.items.items;
-  typed : typed_items (plain_scopes l.initial.scopes) (plain_around l.around) (plain_items l.initial.items.items) ≡ behind_block (plain_items (take l.i l.items.items)) (typed_items (plain_scopes l.scopes) (plain_around l.around) (plain_items (drop l.i l.initial.items.items)));
+  typed : typed_items (plain_scopes l.initial.scopes) (plain_around l.around) (plain_items l.initial.items.items)
+      ≡ behind_block (plain_items (take l.i l.items.items)) (typed_items (plain_scopes l.scopes) (plain_around l.around) (plain_items (drop l.i l.initial.items.items)));
   sight : plain_scopes l.scopes ≡ behind_items (plain_scopes l.initial.scopes) (plain_items (take l.i l.items.items));
   file : at_file (plain_scopes l.scopes) ≡ at_file (plain_scopes l.initial.scopes);
 }

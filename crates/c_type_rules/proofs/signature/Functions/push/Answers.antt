@@ -11,4 +11,7 @@ invariant_of-self-then-contains_key c =
 pub invariant_of-self-in-Ok : goal.invariant_of-self-in-Ok
 invariant_of-self-in-Ok c =
     let fresh : is_some (lookup (nat_eq c.args.signature.name) c.args.self.now.firsts.entries) ≡ false = search rules in
-    record { first = first_new c.args.self.now.signatures.items c.push.new.self.items c.args.signature c.args.self.now.firsts.entries c.insert.new.self.entries c.args.signature.name c.len-number.result c.in_ok-push.ensures.items refl (search rules) fresh c.in-Ok.ensures.updates.0 c.args.self.now.first }
+    record {
+      first = first_new c.args.self.now.signatures.items c.push.new.self.items c.args.signature c.args.self.now.firsts.entries c.insert.new.self.entries c.args.signature.name
+          c.len-number.result c.in_ok-push.ensures.items refl (search rules) fresh c.in-Ok.ensures.updates.0 c.args.self.now.first;
+    }
