@@ -1,9 +1,9 @@
 //! The flat memory of a run: its room, and the blocks that live in it.
 
-ghost use Rattle.std.specs.Prelude.{◌≡◌, ℕ, ◌-◌, ◌<◌, min, [], ◌∷◌, pos, if◌then◌else◌, IfOk, MatchResult};
+ghost use Rattle.std.specs.Prelude.{◌≡◌, ℕ, ◌-◌, ◌<◌, min, [], ◌∷◌, true, false, pos, if◌then◌else◌, IfOk, MatchResult};
 ghost use Rattle.mon_syntax.specs.Memory.{Gives, Faults};
 ghost use Rattle.mon_syntax.specs.Memories.{act_on_flat, delete_flat, enter_flat, flat_block, flat_start, full_at_flat_birth, store_flat};
-ghost use Rattle.c_machine.specs.Blocks.{EntersBy, RefusesBirth, Replies};
+ghost use Rattle.c_machine.specs.Blocks.{EntersBy, RefusesBirth, Replies, makes_block};
 
 use crate::stop::Stop;
 use c_syntax::{BlockKind, Segment};
@@ -135,7 +135,7 @@ impl Memory {
 
     // `__e_acsl_store_block(size)`
     fn store_block(&mut self, size: i128) -> Result<i128, Stop>
-        ensures { Replies (store_flat (size ∷ []) self.old) self.new result }
+        ensures { Replies true (store_flat (size ∷ []) self.old) self.new result }
     {
         if size < 0 {
             return Err(Stop::Fault);
@@ -149,7 +149,7 @@ impl Memory {
 
     // `__e_acsl_delete_block(pointer)`
     fn delete_block(&mut self, pointer: i128) -> Result<i128, Stop>
-        ensures { Replies (delete_flat (pointer ∷ []) self.old) self.new result }
+        ensures { Replies false (delete_flat (pointer ∷ []) self.old) self.new result }
     {
         if self.death(pointer) {
             return Ok(0);
@@ -159,7 +159,7 @@ impl Memory {
 
     /// A call of the runtime with one argument.
     pub fn act(&mut self, f: MemoryCall, argument: i128) -> Result<i128, Stop>
-        ensures { Replies (act_on_flat f (argument ∷ []) self.old) self.new result }
+        ensures { Replies (makes_block f) (act_on_flat f (argument ∷ []) self.old) self.new result }
     {
         match f {
             MemoryCall::StoreBlock => self.store_block(argument),

@@ -1,4 +1,4 @@
-use Rattle.std.proofs.Common.{rules, FitsSigned, refl}
+use Rattle.std.proofs.Common.{rules, FitsSigned, refl, arith}
 use Rattle.std.specs.Int.{w128}
 use Rattle.c_lower.specs.declared.code.Instr.TheVariants as instr
 use Rattle.c_machine.specs.Held.{from_top}
@@ -8,7 +8,7 @@ use Rattle.c_machine.proofs.Acted.{char_read}
 use Rattle.c_machine.proofs.machine.Machine.get_char.Goals as goal
 
 pub returns-then-cursor-len : goal.returns-then-cursor-len
-returns-then-cursor-len g c es port = starved_by es instr.GetChar c.args.self.now.cursor c.args.self.now _
+returns-then-cursor-len g c es port = starved_by es instr.GetChar c.args.self.now.cursor c.args.self.now _ (omega (arith, c.if-cursor-len.true, c.len.ensures, c.args.self.now.operands.ok))
 
 pub returns-in-Ok : goal.returns-in-Ok
 returns-in-Ok g c es port =

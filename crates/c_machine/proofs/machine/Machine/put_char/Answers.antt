@@ -37,4 +37,4 @@ returns-in-Err g c es feed =
     let port' = port_of (g.O.Sink.told c.byte.new.out) c.byte.new.self (g.O.Sink.faults c.byte.new.out) in
     rw c.refused.ensures (cut_by es instr.PutChar m.cursor m (c.low_byte-byte.result ∷ []) feed m.cursor m
     (λ input next. next (on_with over_flat (machine_of m.cursor m input) (pos (byte_of z) ∷ below))) port port' c.in-Err.fault
-    (λ input next. char_written (machine_of m.cursor m input) next es z c.low_byte-byte.result below c.in-Some.ensures.top byte) c.in-Err.ensures)
+    (λ input next. char_written (machine_of m.cursor m input) next es z c.low_byte-byte.result below c.in-Some.ensures.top byte) c.in-Err.ensures tt)

@@ -22,7 +22,7 @@ returns-in-Err g c es feed =
     let port' = port_of (g.O.Sink.told c.bytes.new.out) c.bytes.new.self (g.O.Sink.faults c.bytes.new.out) in
     rw c.refused.ensures (cut_by es instr.PutNumber m.cursor m c.as_bytes.result.now feed m.cursor m
     (λ input next. next (on_with over_flat (machine_of m.cursor m input) below)) port port' c.in-Err.fault
-    (λ input next. number_written (machine_of m.cursor m input) next es z c.as_bytes.result.now below c.in-Some.ensures.top text) c.in-Err.ensures)
+    (λ input next. number_written (machine_of m.cursor m input) next es z c.as_bytes.result.now below c.in-Some.ensures.top text) c.in-Err.ensures tt)
 
 pub returns-in-Ok : goal.returns-in-Ok
 returns-in-Ok g c es feed =
