@@ -94,10 +94,10 @@ module _ (m : MonitoredProgram) (steps : ℕ) (source : Taking) (told told' : Op
     reported : (end : Stop) (ran : machine.Ran) → RanAs code steps source (port_of told [] faults) (port_of told' [] faults') end ran → Reported end err result → Answered (AnswersOnInput source m steps) (BeginsOnInput source m steps) (change told told' faults faults') err result
     reported (stop.Exit z) ran r s = ended r s.said s.is s.settled
     reported (stop.Broken number line kind how) ran r s = ended r s.said s.is s.settled
-    reported stop.Spent ran r s = ended r s.said s.is s.settled
-    reported (stop.Full segment) ran r s = ended r s.said s.is s.settled
-    reported stop.Fault ran r s = ended r s.said s.is s.settled
-    reported stop.ReadFault ran r s = ended r s.said s.is s.settled
+    reported stop.Spent ran r s = ended r s.said s.is (Said s.told)
+    reported (stop.Full segment) ran r s = ended r s.said s.is (Said s.told)
+    reported stop.Fault ran r s = ended r s.said s.is (Said s.told)
+    reported stop.ReadFault ran r s = ended r s.said s.is (Said s.told)
     reported stop.WriteFault ran cut s = OutputFault cut.lost.sent s.status (cut_begins cut) cut.lost.told_is cut.lost.count s.told s.faults
     reported stop.OutOfMemory ran cut s = said_memory cut.lost.sent (cut_begins cut) cut.lost.told_is cut.lost.count s
 

@@ -6,7 +6,7 @@ use Rattle.c_machine.specs.declared.stop.Stop.{Stop}
 use Rattle.c_machine.specs.declared.stop.Stop.TheVariants as stop
 use Rattle.eacsl_cli.specs.Answers.{Change, IsSaid, memory_line}
 
--- the line was said with the status, or there was no memory for it, and that was said
+-- a line that is made when it is said: it was said with the status, or there was no memory for it, and that was said
 pub data IsSettled (line : List ℕ) (status : ℕ) (err : Change) (result : ℕ) : Type 0 where
   Said : IsSaid line status err result → IsSettled line status err result
   Wanting : IsSaid memory_line 9 err result → IsSettled line status err result
@@ -22,6 +22,12 @@ report_of stop.ReadFault = report ReadFault
 report_of stop.WriteFault = None
 report_of stop.OutOfMemory = None
 
+-- the report of the end was said, whose line takes no memory
+pub record IsTold (end : Stop) (err : Change) (result : ℕ) : Type 0 where
+  pub said : Report
+  pub is : report_of end ≡ Some said
+  pub told : IsSaid said.line said.status err result
+
 -- the report of the end was said, or there was no memory for its line
 pub record IsReported (end : Stop) (err : Change) (result : ℕ) : Type 0 where
   pub said : Report
@@ -34,13 +40,14 @@ pub record IsSilent (err : Change) (result : ℕ) : Type 0 where
   pub told : err.told' ≡ err.told
   pub faults : err.faults' ≡ err.faults
 
--- what is said of an end
+-- What is said of an end. Only the line of an exit and that of a broken annotation take memory, since numbers stand in them;
+-- any other line becomes that of status 9 only by the sink's own answer.
 abbrev pub Reported : Stop → Change → ℕ → Type 0
 Reported stop.WriteFault err result = IsSilent err result
 Reported stop.OutOfMemory err result = IsSaid memory_line 9 err result
 Reported (stop.Exit z) err result = IsReported (stop.Exit z) err result
 Reported (stop.Broken number line kind how) err result = IsReported (stop.Broken number line kind how) err result
-Reported stop.Spent err result = IsReported stop.Spent err result
-Reported (stop.Full segment) err result = IsReported (stop.Full segment) err result
-Reported stop.Fault err result = IsReported stop.Fault err result
-Reported stop.ReadFault err result = IsReported stop.ReadFault err result
+Reported stop.Spent err result = IsTold stop.Spent err result
+Reported (stop.Full segment) err result = IsTold (stop.Full segment) err result
+Reported stop.Fault err result = IsTold stop.Fault err result
+Reported stop.ReadFault err result = IsTold stop.ReadFault err result

@@ -9,7 +9,7 @@ ghost use Rattle.mon_syntax.specs.Trees.{plain_program};
 ghost use Rattle.c_reader.specs.Answers.{Refuses};
 ghost use Rattle.c_machine.specs.Inputs.{taking};
 ghost use Rattle.eacsl_cli.specs.Answers.{Answered, AnswersOnInput, Begins, BeginsOnInput, ExecBegins, ExecDue, InstrumentBegins, InstrumentDue, IsDue, IsSaid, IsTranslated, RunBegins, RunDue, TextBegins, TextDue, change, file_limit, memory_line};
-ghost use Rattle.eacsl_cli.specs.Settled.{IsReported, IsSettled, Reported};
+ghost use Rattle.eacsl_cli.specs.Settled.{IsReported, IsSettled, IsTold, Reported};
 ghost use Rattle.eacsl_cli.specs.Sound.{IsStatus, LeavesSource, Sound};
 
 use crate::lines::{broken_line, exit_line, refused_line, say};
@@ -64,7 +64,7 @@ fn report_broken<E: Sink>(
 
 // Says which segment is full.
 fn report_full<E: Sink>(segment: Segment, err: &mut E) -> u8
-    ensures { IsReported (Stop.Full segment) (change (E.told err.old) (E.told err.new) (E.faults err.old) (E.faults err.new)) result }
+    ensures { IsTold (Stop.Full segment) (change (E.told err.old) (E.told err.new) (E.faults err.old) (E.faults err.new)) result }
 {
     match segment {
         Segment::Heap => say(err, b"eacsl: full heap\n", 4),
