@@ -1,6 +1,6 @@
 //! The top call.
 
-ghost use Rattle.std.specs.Prelude.{◌≡◌, ◌≤◌, List, MatchResult, Some, length, map, string_bytes};
+ghost use Rattle.std.specs.Prelude.{◌≡◌, ◌≤◌, List, MatchResult, None, Some, length, map, string_bytes};
 ghost use Rattle.c_syntax.specs.Programs.{plain_refusal};
 ghost use Rattle.c_model.specs.Reports.{line_of, refused_words};
 ghost use Rattle.c_model.specs.WordLaws.{file_named};
@@ -278,6 +278,7 @@ pub fn eacsl<F: Folder, I: Source, O: Sink, E: Sink>(
     ensures status { IsStatus (F.faults files.old) (F.faults files.new) (taking (I.left input.old) (I.left input.new) (I.faults input.old) (I.faults input.new)) result }
     ensures kept { F.content files.new ≡ F.content files.old }
     ensures unread { LeavesSource (job_of (map string_bytes words.items)) (taking (I.left input.old) (I.left input.new) (I.faults input.old) (I.faults input.new)) }
+    ensures unfetched { job_of (map string_bytes words.items) ≡ None → files.new ≡ files.old }
 {
     let job = match read_words(alloc, &words) {
         Ok(Some(job)) => job,

@@ -2,7 +2,7 @@ use Rattle.std.proofs.Common.{◌≡◌, refl, map, Some, None, ◌∙◌, strin
 use Rattle.c_model.specs.Words.{job_of}
 use Rattle.eacsl_cli.proofs.Jobs.{memory_said, usage_said, missing_said, too_long_said, fault_said, file_answered}
 use Rattle.eacsl_cli.proofs.Soundness.{sound}
-use Rattle.eacsl_cli.proofs.Sources.{unasked, unasked_leaves, leaves_by}
+use Rattle.eacsl_cli.proofs.Sources.{unasked, unasked_leaves, leaves_by, has_job}
 use Rattle.eacsl_cli.proofs.Statuses.{answered_status}
 use Rattle.eacsl_cli.proofs.answer.eacsl.Goals as goal
 
@@ -101,3 +101,28 @@ returns-in-Err-Failed-clause-unread g c = unasked_leaves (job_of (map string_byt
 
 pub returns-clause-unread : goal.returns-clause-unread
 returns-clause-unread g c = unasked_leaves (job_of (map string_bytes c.args.words.items)) _ _
+
+pub returns-in-Ok-clause-unfetched : goal.returns-in-Ok-clause-unfetched
+returns-in-Ok-clause-unfetched g c none =
+    let e : Some c.in-Ok-Some.job ≡ job_of (map string_bytes c.args.words.items) = rw (c.in-Ok-Some.field-0-is, c.deref.ensures.value) at c.in-Ok-Some.ensures in
+    has_job e none
+
+pub returns-in-Err-Missing-clause-unfetched : goal.returns-in-Err-Missing-clause-unfetched
+returns-in-Err-Missing-clause-unfetched g c none =
+    let e : Some c.in-Ok-Some.job ≡ job_of (map string_bytes c.args.words.items) = rw (c.in-Ok-Some.field-0-is, c.deref.ensures.value) at c.in-Ok-Some.ensures in
+    has_job e none
+
+pub returns-in-Err-TooLong-clause-unfetched : goal.returns-in-Err-TooLong-clause-unfetched
+returns-in-Err-TooLong-clause-unfetched g c none =
+    let e : Some c.in-Ok-Some.job ≡ job_of (map string_bytes c.args.words.items) = rw (c.in-Ok-Some.field-0-is, c.deref.ensures.value) at c.in-Ok-Some.ensures in
+    has_job e none
+
+pub returns-in-Err-Failed-clause-unfetched : goal.returns-in-Err-Failed-clause-unfetched
+returns-in-Err-Failed-clause-unfetched g c none =
+    let e : Some c.in-Ok-Some.job ≡ job_of (map string_bytes c.args.words.items) = rw (c.in-Ok-Some.field-0-is, c.deref.ensures.value) at c.in-Ok-Some.ensures in
+    has_job e none
+
+pub returns-clause-unfetched : goal.returns-clause-unfetched
+returns-clause-unfetched g c none =
+    let e : Some c.in-Ok-Some.job ≡ job_of (map string_bytes c.args.words.items) = rw (c.in-Ok-Some.field-0-is, c.deref.ensures.value) at c.in-Ok-Some.ensures in
+    has_job e none
