@@ -3,5 +3,5 @@ pub mod Sayings
 pub mod Sources
 pub mod Due
 pub mod Jobs
-pub mod Soundness
+pub mod Completeness
 pub mod Statuses

@@ -5,7 +5,7 @@ use Rattle.c_model.specs.State.{Input, EndOfInput}
 use Rattle.mon_syntax.specs.Trees.{MonitoredProgram}
 use Rattle.c_machine.specs.Inputs.{Taking, taking, Untouched, IsInput, Ended}
 use Rattle.eacsl_cli.specs.Answers.{TookWanted}
-use Rattle.eacsl_cli.specs.Sound.{LeavesSource}
+use Rattle.eacsl_cli.specs.Complete.{LeavesSource}
 
 pub unasked : {left : Option (List ℕ)} {faults : ℕ} → Untouched (taking left left faults faults)
 unasked = record { left = refl; faults = refl }

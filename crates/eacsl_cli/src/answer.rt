@@ -10,7 +10,7 @@ ghost use Rattle.c_reader.specs.Answers.{Refuses};
 ghost use Rattle.c_machine.specs.Inputs.{taking};
 ghost use Rattle.eacsl_cli.specs.Answers.{Answered, AnswersOnInput, Begins, BeginsOnInput, ExecBegins, ExecDue, InstrumentBegins, InstrumentDue, IsDue, IsSaid, IsTranslated, RunBegins, RunDue, TextBegins, TextDue, change, file_limit, memory_line};
 ghost use Rattle.eacsl_cli.specs.Settled.{IsReported, IsSettled, IsTold, Reported};
-ghost use Rattle.eacsl_cli.specs.Sound.{IsStatus, LeavesSource, Sound};
+ghost use Rattle.eacsl_cli.specs.Complete.{Complete, IsStatus, LeavesSource};
 
 use crate::lines::{broken_line, exit_line, refused_line, say};
 use c_lower::lower;
@@ -271,7 +271,7 @@ pub fn eacsl<F: Folder, I: Source, O: Sink, E: Sink>(
         (change (O.told out.old) (O.told out.new) (O.faults out.old) (O.faults out.new))
         (change (E.told err.old) (E.told err.new) (E.faults err.old) (E.faults err.new))
         result }
-    ensures sound { Sound (map string_bytes words.items) (F.content files.old) (F.faults files.old) (F.faults files.new) (taking (I.left input.old) (I.left input.new) (I.faults input.old) (I.faults input.new))
+    ensures complete { Complete (map string_bytes words.items) (F.content files.old) (F.faults files.old) (F.faults files.new) (taking (I.left input.old) (I.left input.new) (I.faults input.old) (I.faults input.new))
         (change (O.told out.old) (O.told out.new) (O.faults out.old) (O.faults out.new))
         (change (E.told err.old) (E.told err.new) (E.faults err.old) (E.faults err.new))
         result }

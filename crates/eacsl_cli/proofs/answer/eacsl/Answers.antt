@@ -1,7 +1,7 @@
 use Rattle.std.proofs.Common.{◌≡◌, refl, map, Some, None, ◌∙◌, string_bytes}
 use Rattle.c_model.specs.Words.{job_of}
 use Rattle.eacsl_cli.proofs.Jobs.{memory_said, usage_said, missing_said, too_long_said, fault_said, file_answered}
-use Rattle.eacsl_cli.proofs.Soundness.{sound}
+use Rattle.eacsl_cli.proofs.Completeness.{complete}
 use Rattle.eacsl_cli.proofs.Sources.{unasked, unasked_leaves, leaves_by, has_job}
 use Rattle.eacsl_cli.proofs.Statuses.{answered_status}
 use Rattle.eacsl_cli.proofs.answer.eacsl.Goals as goal
@@ -37,26 +37,26 @@ returns-in-Err-Failed-clause-answered g c =
 pub returns-clause-answered : goal.returns-clause-answered
 returns-clause-answered g c = memory_said c.out_of_memory-in-Err-Memory.ensures
 
-pub returns-in-Ok-None-clause-sound : goal.returns-in-Ok-None-clause-sound
-returns-in-Ok-None-clause-sound g c = sound (returns-in-Ok-None-clause-answered g c)
+pub returns-in-Ok-None-clause-complete : goal.returns-in-Ok-None-clause-complete
+returns-in-Ok-None-clause-complete g c = complete (returns-in-Ok-None-clause-answered g c)
 
-pub returns-in-Err-clause-sound : goal.returns-in-Err-clause-sound
-returns-in-Err-clause-sound g c = sound (returns-in-Err-clause-answered g c)
+pub returns-in-Err-clause-complete : goal.returns-in-Err-clause-complete
+returns-in-Err-clause-complete g c = complete (returns-in-Err-clause-answered g c)
 
-pub returns-in-Ok-clause-sound : goal.returns-in-Ok-clause-sound
-returns-in-Ok-clause-sound g c = sound (returns-in-Ok-clause-answered g c)
+pub returns-in-Ok-clause-complete : goal.returns-in-Ok-clause-complete
+returns-in-Ok-clause-complete g c = complete (returns-in-Ok-clause-answered g c)
 
-pub returns-in-Err-Missing-clause-sound : goal.returns-in-Err-Missing-clause-sound
-returns-in-Err-Missing-clause-sound g c = sound (returns-in-Err-Missing-clause-answered g c)
+pub returns-in-Err-Missing-clause-complete : goal.returns-in-Err-Missing-clause-complete
+returns-in-Err-Missing-clause-complete g c = complete (returns-in-Err-Missing-clause-answered g c)
 
-pub returns-in-Err-TooLong-clause-sound : goal.returns-in-Err-TooLong-clause-sound
-returns-in-Err-TooLong-clause-sound g c = sound (returns-in-Err-TooLong-clause-answered g c)
+pub returns-in-Err-TooLong-clause-complete : goal.returns-in-Err-TooLong-clause-complete
+returns-in-Err-TooLong-clause-complete g c = complete (returns-in-Err-TooLong-clause-answered g c)
 
-pub returns-in-Err-Failed-clause-sound : goal.returns-in-Err-Failed-clause-sound
-returns-in-Err-Failed-clause-sound g c = sound (returns-in-Err-Failed-clause-answered g c)
+pub returns-in-Err-Failed-clause-complete : goal.returns-in-Err-Failed-clause-complete
+returns-in-Err-Failed-clause-complete g c = complete (returns-in-Err-Failed-clause-answered g c)
 
-pub returns-clause-sound : goal.returns-clause-sound
-returns-clause-sound g c = sound (returns-clause-answered g c)
+pub returns-clause-complete : goal.returns-clause-complete
+returns-clause-complete g c = complete (returns-clause-answered g c)
 
 pub returns-in-Ok-None-clause-status : goal.returns-in-Ok-None-clause-status
 returns-in-Ok-None-clause-status g c = answered_status (returns-in-Ok-None-clause-answered g c)

@@ -56,7 +56,7 @@ pub record IsAnswered (source : Taking) (Answers : Input → Answer → Type 0) 
   pub given : IsGiven answer out err status
 
 -- Of each job and text the answer that is due is given, or else memory was wanting.
-pub record Sound (words : List (List ℕ)) (content : Option (List ℕ → Option (List ℕ))) (before now : ℕ) (source : Taking) (out err : Change) (status : ℕ) : Type 0 where
+pub record Complete (words : List (List ℕ)) (content : Option (List ℕ → Option (List ℕ))) (before now : ℕ) (source : Taking) (out err : Change) (status : ℕ) : Type 0 where
   -- `run` of an accepted text: its one program's run, on the input that the source was
   pub runs : (file : List ℕ) (steps : ℕ) (text : List ℕ) (p : TranslationUnit) → IsAsked words content before now out err (Run file steps false) text → AcceptedText text p → (status ≡ 9) ⊎ IsAnswered source (λ input a. AnswersSource p input steps a) out err status
   -- `instrument` of an accepted text: the text of a program that translates its one program

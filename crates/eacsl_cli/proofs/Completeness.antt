@@ -18,7 +18,7 @@ use Rattle.mon_syntax.specs.Spelled.{Spells, IsMonitoredRefusal}
 use Rattle.mon_reader.proofs.Texts.{one_spelled, spelled_apart, one_monitored_refusal}
 use Rattle.c_machine.specs.Inputs.{Taking}
 use Rattle.eacsl_cli.specs.Answers.{Answer, AnswersRun, refused_answer, written_answer, file_limit, NeverFaults, Change, IsDue, Usage, NoFile, TooLong, FolderFault, OfText, Begins, RunDue, RunRefused, Runs, InstrumentDue, InstrumentRefused, Writes, ExecDue, ExecRefused, Executes, TextDue, Answered, Given, OutputFault, LineFault, NoMemory}
-use Rattle.eacsl_cli.specs.Sound.{Steady, IsGiven, answers_source, AnswersSource, IsAsked, IsAnswered, Sound}
+use Rattle.eacsl_cli.specs.Complete.{Steady, IsGiven, answers_source, AnswersSource, IsAsked, IsAnswered, Complete}
 
 -- ---- the answer to a translation is the answer to its source
 
@@ -125,8 +125,8 @@ exec_refusal {text = text} r h (Executes m y d) = absurd (spelled_apart text m r
 given_as : {a b : Answer} {out err : Change} {status : ℕ} → a ≡ b → IsGiven a out err status → IsGiven b out err status
 given_as {out = out} {err} {status} e g = subst (λ x. IsGiven x out err status) e g
 
-pub sound : {words : List (List ℕ)} {content : Option (List ℕ → Option (List ℕ))} {before now : ℕ} {source : Taking} {out err : Change} {status : ℕ} → Answered (IsDue words content before now source) (Begins words content before now source) out err status → Sound words content before now source out err status
-sound {words} {content} {before} {now} {source} {out} {err} {status} answered = record {
+pub complete : {words : List (List ℕ)} {content : Option (List ℕ → Option (List ℕ))} {before now : ℕ} {source : Taking} {out err : Change} {status : ℕ} → Answered (IsDue words content before now source) (Begins words content before now source) out err status → Complete words content before now source out err status
+complete {words} {content} {before} {now} {source} {out} {err} {status} answered = record {
   runs = λ file steps text p q x. elim (of_text q) [ inl n ↦ inl n | inr (a, d, g) ↦ inr (run_answer p x d g) ];
   instruments = λ file text p q x. elim (of_text q) [ inl n ↦ inl n | inr (a, d, g) ↦ let w = instrument_answer p x d.0 in inr (w.0, w.1, given_as w.2 g) ];
   executes = λ file steps text m q x. elim (of_text q) [ inl n ↦ inl n | inr (a, d, g) ↦ inr (exec_answer m x d g) ];
