@@ -1,5 +1,5 @@
 -- Where no piece of a C text begins, it is broken as its fault says.
-use Rattle.std.proofs.Common.{◌≡◌, ℕ, suc, ◌+◌, ◌-◌, ◌<◌, Bool, true, false, ◌&&◌, eqb, ltb, List, [], ◌∷◌, ◌++◌, length, take, drop, codes, Option, Some, None, option_map, Result, Ok, Err, inl, inr, refl, sym, ap, subst, ◌∙◌, arith, append_assoc, true≢false}
+use Rattle.std.proofs.Common.{◌≡◌, ℕ, suc, ◌+◌, ◌-◌, ◌<◌, Bool, true, false, ◌&&◌, eqb, ltb, List, [], ◌∷◌, ◌++◌, length, take, drop, codes, Option, Some, None, option_map, Result, Ok, Err, inl, inr, refl, sym, ap, subst, ◌∙◌, arith, append_assoc, length-append, true≢false}
 use Rattle.std.specs.Prelude.{bytes_eq, if◌then◌else◌}
 use Rattle.std.specs.List.{prefix_len, list_any}
 use Rattle.std.proofs.lemmas.Bool.{eqb-true, ltb-true, ltb-false}
@@ -24,10 +24,10 @@ use Rattle.c_model.proofs.CMarks.{of_mark, none_begins, in_either}
 use Rattle.c_model.proofs.CStrings.{len_skip, quote_is}
 use Rattle.c_model.proofs.CSpelling.{behind_is, code_is, of_literal, of_letter, of_string, of_comment, of_blank_block, of_block, of_directive}
 
-same_fault : (f g : Fault) → (let r : Result Found Fault = Err f in r) ≡ Err g → f ≡ g
+pub same_fault : (f g : Fault) → (let r : Result Found Fault = Err f in r) ≡ Err g → f ≡ g
 same_fault f g e = cc
 
-none_is : {A : Type 0} (x : A) → (let o : Option A = None in o) ≡ Some x → ⊥
+pub none_is : {A : Type 0} (x : A) → (let o : Option A = None in o) ≡ Some x → ⊥
 none_is x e = cc
 
 -- ---- names and numbers
@@ -43,7 +43,7 @@ name_breaks before m bs f begins e = elim (chosen (ltb 255 (length (word bs))) (
 ]
 
 -- the literal at a front would be all of the run, with what is behind it
-literal_run : (m : Mode) (bs : List ℕ) (v : ℕ) (t : Option CInt) (bytes behind : List ℕ) → bs ≡ bytes ++ behind → IsLiteral m v t bytes behind
+pub literal_run : (m : Mode) (bs : List ℕ) (v : ℕ) (t : Option CInt) (bytes behind : List ℕ) → bs ≡ bytes ++ behind → IsLiteral m v t bytes behind
     → (is_dotted m (drop (prefix_len is_part bs) bs) ≡ false) × (literal_of (take (prefix_len is_part bs) bs) ≡ Some (v, t))
 literal_run m bs v t bytes behind whole is =
     let run : prefix_len is_part bs ≡ length bytes = ap (prefix_len is_part) whole ∙ run_is is_part bytes behind is.parts is.ends in
@@ -70,15 +70,15 @@ number_breaks before m b bs f digit e = elim (chosen (is_dotted m (drop (prefix_
 
 -- ---- characters
 
-letter_there : (c : ℕ) (unit behind : List ℕ) → begins_with (39 ∷ []) (unit ++ 39 ∷ behind) ≡ false → unit_at (unit ++ 39 ∷ behind) ≡ Some (c, length unit - 1) → letter_of (unit ++ 39 ∷ behind) ≡ None → ⊥
+pub letter_is : (c : ℕ) (unit behind : List ℕ) → begins_with (39 ∷ []) (unit ++ 39 ∷ behind) ≡ false → unit_at (unit ++ 39 ∷ behind) ≡ Some (c, length unit - 1) → letter_of (unit ++ 39 ∷ behind) ≡ Some (c, length unit + 1)
 unfolding letter_of
-letter_there c [] behind other one none = true≢false other
-letter_there c (a ∷ as') behind other one none =
+letter_is c [] behind other one = absurd (true≢false other)
+letter_is c (a ∷ as') behind other one =
     let bs : List ℕ = (a ∷ as') ++ 39 ∷ behind in
     let many : (length (a ∷ as') - 1) + 1 ≡ length (a ∷ as') = omega arith in
     let closed : begins_with (39 ∷ []) (drop ((length (a ∷ as') - 1) + 1) bs) ≡ true = (λ i. begins_with (39 ∷ []) (drop (many i) bs)) ∙ ap (begins_with (39 ∷ [])) (behind_is (a ∷ as') (39 ∷ behind)) in
     let is : letter_of bs ≡ Some (c, (length (a ∷ as') - 1) + 2) = rw (other, one, closed) refl in
-    none_is (c, (length (a ∷ as') - 1) + 2) (sym none ∙ is)
+    is ∙ (let count : (length (a ∷ as') - 1) + 2 ≡ length (a ∷ as') + 1 = omega arith in λ i. Some (c, count i))
 
 letter_breaks : (before : List ℕ) (m : Mode) (b : ℕ) (bs : List ℕ) (f : Fault) → eqb b 39 ≡ true → letter_at bs ≡ Err f → Breaks before m f (b ∷ bs)
 unfolding letter_at of_letter
@@ -87,7 +87,7 @@ letter_breaks before m b bs f quote e = by (letter_of bs) refl e
     lacks : letter_of bs ≡ None → (c : ℕ) (bytes behind : List ℕ) → b ∷ bs ≡ bytes ++ behind → IsLetter c bytes behind → ⊥
     lacks l c bytes behind whole is =
         let split : bs ≡ is.unit ++ 39 ∷ behind = ap (drop 1) (whole ∙ ap (λ (t : List ℕ). t ++ behind) is.quoted) ∙ append_assoc is.unit (39 ∷ []) behind in
-        letter_there c is.unit behind is.other is.one (ap letter_of (sym split) ∙ l)
+        none_is (c, length is.unit + 1) (sym l ∙ ap letter_of split ∙ letter_is c is.unit behind is.other is.one)
 
     by : (r : Option (ℕ × ℕ)) → letter_of bs ≡ r → of_letter r ≡ Err f → Breaks before m f (b ∷ bs)
     by None l g = subst (λ (k : Fault). Breaks before m k (b ∷ bs)) (same_fault fault.Letter f g) (record { others = bs; joined = ap (λ (c : ℕ). c ∷ bs) (eqb-true b 39 quote); none = lacks l })
@@ -95,26 +95,26 @@ letter_breaks before m b bs f quote e = by (letter_of bs) refl e
 
 -- ---- strings
 
--- bytes and escapes up to a quote have that length
-units_len : (m : Mode) (us : List (List ℕ × ℕ)) (behind : List ℕ) → AreUnits m us (34 ∷ behind) → (n : ℕ) × (string_len m 0 (spelling_of us ++ (34 ∷ behind)) ≡ Some n)
-units_len m [] behind are = (1, refl)
+-- bytes and escapes up to a quote are all of a string
+pub units_len : (m : Mode) (us : List (List ℕ × ℕ)) (behind : List ℕ) → AreUnits m us (34 ∷ behind) → string_len m 0 (spelling_of us ++ (34 ∷ behind)) ≡ Some (length (spelling_of us) + 1)
+units_len m [] behind are = refl
 units_len m (u ∷ us) behind are = by u.0 are.0 (ap (λ (o : Option (ℕ × ℕ)). o) are.1) are.2 (units_len m us behind are.3)
   where
-    rest : List ℕ
-    rest = spelling_of us ++ (34 ∷ behind)
-
     by : (w : List ℕ) → 0 < length w → unit_in m (w ++ (spelling_of us ++ (34 ∷ behind))) ≡ Some (u.1, length w - 1) → begins_with (34 ∷ []) (w ++ (spelling_of us ++ (34 ∷ behind))) ≡ false
-        → (n : ℕ) × (string_len m 0 (spelling_of us ++ (34 ∷ behind)) ≡ Some n) → (n : ℕ) × (string_len m 0 ((w ++ spelling_of us) ++ (34 ∷ behind)) ≡ Some n)
+        → string_len m 0 (spelling_of us ++ (34 ∷ behind)) ≡ Some (length (spelling_of us) + 1) → string_len m 0 ((w ++ spelling_of us) ++ (34 ∷ behind)) ≡ Some (length (w ++ spelling_of us) + 1)
     by [] some one other more = absurd (omega arith)
     by (c ∷ cs) some one other more =
         let tail : List ℕ = spelling_of us ++ (34 ∷ behind) in
         let k : ℕ = length (c ∷ cs) - 1 in
+        let n : ℕ = length (spelling_of us) + 1 in
         let q : eqb c 34 ≡ false = quote_is c (cs ++ tail) ∙ other in
         let step : string_len m 0 (c ∷ (cs ++ tail)) ≡ option_map suc (string_len m k (cs ++ tail)) = rw (q, one) refl in
         let many : k ≡ length cs = omega arith in
-        let skip : string_len m k (cs ++ tail) ≡ option_map (λ j. k + j) (string_len m 0 tail) = len_skip m k (cs ++ tail) ∙ ap (λ (t : List ℕ). option_map (λ j. k + j) (string_len m 0 t)) ((λ i. drop (many i) (cs ++ tail)) ∙ behind_is cs tail) in
-        let total : string_len m 0 (c ∷ (cs ++ tail)) ≡ Some (suc (k + more.0)) = step ∙ ap (option_map suc) (skip ∙ ap (option_map (λ j. k + j)) more.1) in
-        (suc (k + more.0), ap (string_len m 0) (append_assoc (c ∷ cs) (spelling_of us) (34 ∷ behind)) ∙ total)
+        let past : drop k (cs ++ tail) ≡ tail = (λ i. drop (many i) (cs ++ tail)) ∙ behind_is cs tail in
+        let skip : string_len m k (cs ++ tail) ≡ option_map (λ j. k + j) (string_len m 0 tail) = len_skip m k (cs ++ tail) ∙ ap (λ (t : List ℕ). option_map (λ j. k + j) (string_len m 0 t)) past in
+        let total : string_len m 0 (c ∷ (cs ++ tail)) ≡ Some (suc (k + n)) = step ∙ ap (option_map suc) (skip ∙ ap (option_map (λ j. k + j)) more) in
+        let count : suc (k + n) ≡ length ((c ∷ cs) ++ spelling_of us) + 1 = omega (arith, length-append (c ∷ cs) (spelling_of us)) in
+        ap (string_len m 0) (append_assoc (c ∷ cs) (spelling_of us) (34 ∷ behind)) ∙ total ∙ ap (λ (j : ℕ). Some j) count
 
 string_breaks : (before : List ℕ) (m : Mode) (b : ℕ) (bs : List ℕ) (f : Fault) → eqb b 34 ≡ true → string_at m bs ≡ Err f → Breaks before m f (b ∷ bs)
 unfolding string_at of_string
@@ -123,8 +123,7 @@ string_breaks before m b bs f quote e = by (string_len m 0 bs) refl e
     lacks : string_len m 0 bs ≡ None → (bytes behind : List ℕ) → b ∷ bs ≡ bytes ++ behind → IsString m bytes behind → ⊥
     lacks l bytes behind whole is =
         let split : bs ≡ spelling_of is.units ++ (34 ∷ behind) = ap (drop 1) (whole ∙ ap (λ (t : List ℕ). t ++ behind) is.quoted) ∙ append_assoc (spelling_of is.units) (34 ∷ []) behind in
-        let len = units_len m is.units behind is.are in
-        none_is len.0 (sym l ∙ ap (string_len m 0) split ∙ len.1)
+        none_is (length (spelling_of is.units) + 1) (sym l ∙ ap (string_len m 0) split ∙ units_len m is.units behind is.are)
 
     by : (r : Option ℕ) → string_len m 0 bs ≡ r → of_string r ≡ Err f → Breaks before m f (b ∷ bs)
     by None l g = subst (λ (k : Fault). Breaks before m k (b ∷ bs)) (same_fault fault.Chars f g) (record { others = bs; joined = ap (λ (c : ℕ). c ∷ bs) (eqb-true b 34 quote); none = lacks l })
@@ -132,7 +131,7 @@ string_breaks before m b bs f quote e = by (string_len m 0 bs) refl e
 
 -- ---- comments
 
-no_suc : (o : Option ℕ) → option_map suc o ≡ None → o ≡ None
+pub no_suc : (o : Option ℕ) → option_map suc o ≡ None → o ≡ None
 no_suc None e = refl
 no_suc (Some n) e = absurd cc
 
@@ -247,7 +246,7 @@ c_none : (bs : List ℕ) (f : Fault) → c_mark_at bs ≡ Err f → (first_mark 
 unfolding c_mark_at of_mark
 c_none bs f e = none_found (first_mark 0 marks bs) f e
 
-NoMark : Mode → List ℕ → Fault → Type 0
+unfoldable pub NoMark : Mode → List ℕ → Fault → Type 0
 NoMark m bs f = ((q : List ℕ) → IsIn (marks_of m) q → begins_with q bs ≡ false) × (fault.Byte ≡ f)
 
 either_none : (bs : List ℕ) (f : Fault) (r : Option Found) → first_mark 45 annotation_marks bs ≡ r → (let o : Result Found Fault = elim r [ None ↦ c_mark_at bs | Some y ↦ Ok y ] in o) ≡ Err f
@@ -257,7 +256,7 @@ either_none bs f None is e =
     let c = c_none bs f e in
     (λ q there. elim (in_either marks annotation_marks q there) [ inl l ↦ none_begins 0 marks bs c.0 q l | inr r ↦ none_begins 45 annotation_marks bs is q r ], c.1)
 
-no_mark : (m : Mode) (bs : List ℕ) (f : Fault) → mark_at m bs ≡ Err f → NoMark m bs f
+pub no_mark : (m : Mode) (bs : List ℕ) (f : Fault) → mark_at m bs ≡ Err f → NoMark m bs f
 unfolding mark_at NoMark
 no_mark Code bs f e = let c = c_none bs f e in (none_begins 0 marks bs c.0, c.1)
 no_mark Block bs f e = either_none bs f (first_mark 45 annotation_marks bs) refl e

@@ -32,13 +32,13 @@ pieces_joined text = cut_joined 0 first_place true Code text
 
 -- each piece is at its place and spelled as its kind is, and what is broken is broken as its fault says
 abbrev AreSound : List ℕ → Mode → Pieces → Type 0
-AreSound before m (Ended at n) = at ≡ place_of before
+AreSound before m (Ended at n) = (at ≡ place_of before) × (n ≡ m)
 AreSound before m (Broken at f rest) = (at ≡ place_of before) × Breaks before m f rest
 AreSound before m (Cut at p bytes more) = (at ≡ place_of before) × Spells before m p bytes (bytes_of more) × AreSound (before ++ bytes) (mode_after m p) more
 
 cut_sound : (k : ℕ) (before : List ℕ) (m : Mode) (bs : List ℕ) → AreSound (before ++ take k bs) m (cut k (walk first_place before) (fresh_after true before) m bs)
 unfolding cut
-cut_sound k before m [] = rw (take_nil k, append-nil) (walk_place before)
+cut_sound k before m [] = rw (take_nil k, append-nil) (walk_place before, refl)
 cut_sound (suc k) before m (b ∷ bs) =
     let one = cut_sound k (before ++ b ∷ []) m bs in
     let two = subst (λ (at : Place). AreSound ((before ++ b ∷ []) ++ take k bs) m (cut k at (fresh_after true (before ++ b ∷ [])) m bs)) (walk-append first_place before (b ∷ [])) one in
@@ -63,7 +63,7 @@ pieces_sound : (text : List ℕ) → AreSound [] Code (pieces_of text)
 pieces_sound text = cut_sound 0 [] Code text
 
 sound_placed : (before : List ℕ) (m : Mode) (ps : Pieces) → AreSound before m ps → ArePlaced before ps
-sound_placed before m (Ended at n) h = h
+sound_placed before m (Ended at n) h = h.0
 sound_placed before m (Broken at f rest) h = h.0
 sound_placed before m (Cut at p bytes more) h = (h.0, sound_placed (before ++ bytes) (mode_after m p) more h.2)
 
@@ -71,7 +71,7 @@ pub pieces_placed : (text : List ℕ) → ArePlaced [] (pieces_of text)
 pieces_placed text = sound_placed [] Code (pieces_of text) (pieces_sound text)
 
 sound_spelled : (before : List ℕ) (m : Mode) (ps : Pieces) → AreSound before m ps → AreSpelled before m ps
-sound_spelled before m (Ended at n) h = tt
+sound_spelled before m (Ended at n) h = h.1
 sound_spelled before m (Broken at f rest) h = tt
 sound_spelled before m (Cut at p bytes more) h = (h.1, sound_spelled (before ++ bytes) (mode_after m p) more h.2)
 

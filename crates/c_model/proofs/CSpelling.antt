@@ -1,7 +1,8 @@
 -- Each piece of a C text is spelled as its kind is.
 use Rattle.std.proofs.Common.{◌≡◌, ℕ, zero, suc, ◌+◌, ◌-◌, ◌<◌, ◌≤◌, Bool, true, false, cond, ◌&&◌, ◌||◌, eqb, ltb, List, [], ◌∷◌, ◌++◌, length, take, drop, is_some, Option, Some, None, option_map, Result, Ok, Err, inl, inr, refl, sym, ap, subst, ◌∙◌, arith, append_assoc, length-append, true≢false}
 use Rattle.std.specs.List.{prefix_len, list_all}
-use Rattle.std.proofs.lemmas.Bool.{eqb-true, ltb-false}
+use Rattle.std.proofs.lemmas.Bool.{eqb-true, ltb-false, or_from}
+use Rattle.std.proofs.lemmas.Bool.Decides.{nat_tests}
 use Rattle.std.proofs.lemmas.List.{take-append-drop, length-take}
 use Rattle.c_syntax.specs.declared.types.CInt.{CInt}
 use Rattle.c_model.specs.declared.c_tokens.Mode.{Mode}
@@ -17,7 +18,7 @@ use Rattle.c_model.specs.Comments.{is_code, is_line, is_gap, ends_block, in_line
 use Rattle.c_model.specs.Literals.{literal_of, unit_at, letter_of, string_len}
 use Rattle.c_model.specs.Directives.{directive_line, directive_fault}
 use Rattle.c_model.specs.Pieces.{found, begins_name, word, is_outside, word_at, is_dotted, number_at, letter_at, string_at, comment_at, open_block, open_line, other_at, directive_at, mark_at, piece_at}
-use Rattle.c_model.specs.CTokenLaws.{HaveNoEnd, EndsComment, Spells}
+use Rattle.c_model.specs.CTokenLaws.{begins_comment, begins_annotation, ends_annotation, HaveNoEnd, EndsComment, Spells}
 use Rattle.c_model.proofs.Spelling.{chosen, and_true, run_passes, run_stops, some_run, run_within, begins_is, is_begun, front_is}
 use Rattle.c_model.proofs.CMarks.{mark_of}
 use Rattle.c_model.proofs.CStrings.{string_is}
@@ -109,13 +110,13 @@ unfoldable pub of_letter : Option (ℕ × ℕ) → Result Found Fault
 of_letter r = elim r [ None ↦ Err fault.Letter | Some x ↦ found (piece.Letter x.0) x.1 ]
 
 -- what a character literal is made of
-record Quoted (bs : List ℕ) (c n : ℕ) : Type 0 where
-  unit : List ℕ
-  behind : List ℕ
-  split : bs ≡ unit ++ (39 ∷ behind)
-  count : length unit + 1 ≡ n
-  other : begins_with (39 ∷ []) bs ≡ false
-  one : unit_at bs ≡ Some (c, length unit - 1)
+pub record Quoted (bs : List ℕ) (c n : ℕ) : Type 0 where
+  pub unit : List ℕ
+  pub behind : List ℕ
+  pub split : bs ≡ unit ++ (39 ∷ behind)
+  pub count : length unit + 1 ≡ n
+  pub other : begins_with (39 ∷ []) bs ≡ false
+  pub one : unit_at bs ≡ Some (c, length unit - 1)
 
 drop_len : (n : ℕ) (bs : List ℕ) (c : ℕ) (r : List ℕ) → drop n bs ≡ c ∷ r → n < length bs
 drop_len zero [] c r e = absurd cc
@@ -126,7 +127,7 @@ drop_len (suc n) (b ∷ bs) c r e = omega (arith, drop_len n bs c r e)
 some_pair : (a b : ℕ × ℕ) → (let o : Option (ℕ × ℕ) = Some a in o) ≡ Some b → a ≡ b
 some_pair a b e = cc
 
-quoted_of : (bs : List ℕ) (c n : ℕ) → letter_of bs ≡ Some (c, n) → Quoted bs c n
+pub quoted_of : (bs : List ℕ) (c n : ℕ) → letter_of bs ≡ Some (c, n) → Quoted bs c n
 unfolding letter_of
 quoted_of bs c n e = elim (chosen (begins_with (39 ∷ []) bs) None _ (Some (c, n)) e) [
   | inl h ↦ absurd (let f = h.1 in cc)
@@ -192,18 +193,18 @@ string_spells before m b bs x quote e = by (string_len m 0 bs) refl e
 -- ---- comments
 
 -- where a comment ends
-record Closed (bs : List ℕ) (n : ℕ) : Type 0 where
-  inside : List ℕ
-  behind : List ℕ
-  split : bs ≡ inside ++ (42 ∷ 47 ∷ behind)
-  count : length inside + 2 ≡ n
-  first : HaveNoEnd inside (42 ∷ 47 ∷ behind)
+pub record Closed (bs : List ℕ) (n : ℕ) : Type 0 where
+  pub inside : List ℕ
+  pub behind : List ℕ
+  pub split : bs ≡ inside ++ (42 ∷ 47 ∷ behind)
+  pub count : length inside + 2 ≡ n
+  pub first : HaveNoEnd inside (42 ∷ 47 ∷ behind)
 
-some_suc : (o : Option ℕ) (n : ℕ) → option_map suc o ≡ Some n → (k : ℕ) × (o ≡ Some k) × (suc k ≡ n)
+pub some_suc : (o : Option ℕ) (n : ℕ) → option_map suc o ≡ Some n → (k : ℕ) × (o ≡ Some k) × (suc k ≡ n)
 some_suc None n e = absurd cc
 some_suc (Some k) n e = (k, refl, cc)
 
-closed_of : (bs : List ℕ) (n : ℕ) → block_len bs ≡ Some n → Closed bs n
+pub closed_of : (bs : List ℕ) (n : ℕ) → block_len bs ≡ Some n → Closed bs n
 closed_of [] n e = absurd cc
 closed_of (b ∷ bs) n e = elim (chosen (begins_with (42 ∷ 47 ∷ []) (b ∷ bs)) (Some 2) (option_map suc (block_len bs)) (Some n) e) [
   | inl h ↦ record {
@@ -225,12 +226,18 @@ closed_of (b ∷ bs) n e = elim (chosen (begins_with (42 ∷ 47 ∷ []) (b ∷ b
       }
 ]
 
+-- what begins neither kind of annotation
+no_annotation : (m : Mode) (bs : List ℕ) → is_code m && begins_with (47 ∷ 42 ∷ 64 ∷ []) bs ≡ false → is_code m && begins_with (47 ∷ 47 ∷ 64 ∷ []) bs ≡ false → begins_annotation m bs ≡ false
+no_annotation Code bs block line = or_from _ _ block line
+no_annotation Block bs block line = refl
+no_annotation Line bs block line = refl
+
 unfoldable pub of_comment : Option ℕ → Result Found Fault
 of_comment r = elim r [ None ↦ Err fault.Comment | Some n ↦ found piece.Blank (n + 1) ]
 
-comment_spells : (before : List ℕ) (m : Mode) (bs : List ℕ) (x : Found) → m ≡ Code → begins_with (47 ∷ 42 ∷ []) bs ≡ true → comment_at (drop 2 bs) ≡ Ok x → SpelledAs before m bs x
+comment_spells : (before : List ℕ) (m : Mode) (bs : List ℕ) (x : Found) → m ≡ Code → begins_annotation m bs ≡ false → begins_with (47 ∷ 42 ∷ []) bs ≡ true → comment_at (drop 2 bs) ≡ Ok x → SpelledAs before m bs x
 unfolding comment_at of_comment
-comment_spells before m bs x code begins e = by (block_len (drop 2 bs)) refl e
+comment_spells before m bs x code plain begins e = by (block_len (drop 2 bs)) refl e
   where
     by : (r : Option ℕ) → block_len (drop 2 bs) ≡ r → of_comment r ≡ Ok x → SpelledAs before m bs x
     by None l f = absurd cc
@@ -238,7 +245,8 @@ comment_spells before m bs x code begins e = by (block_len (drop 2 bs)) refl e
         let h = closed_of (drop 2 bs) n l in
         let w : List ℕ = 47 ∷ 42 ∷ (h.inside ++ 42 ∷ 47 ∷ []) in
         let whole : bs ≡ w ++ h.behind = begins_is (47 ∷ 42 ∷ []) bs begins ∙ ap (λ (t : List ℕ). 47 ∷ 42 ∷ t) (h.split ∙ sym (append_assoc h.inside (42 ∷ 47 ∷ []) h.behind)) in
-        spelled before m bs piece.Blank (n + 1) x w h.behind f whole (omega (arith, length-append h.inside (42 ∷ 47 ∷ []), h.count)) (inr (inr (code, inl (record { inside = h.inside; joined = refl; first = h.first }))))
+        spelled before m bs piece.Blank (n + 1) x w h.behind f whole (omega (arith, length-append h.inside (42 ∷ 47 ∷ []), h.count))
+        (inr (inr (code, inl (record { inside = h.inside; joined = refl; first = h.first; no_annotation = (λ i. begins_annotation (sym code i) (sym whole i)) ∙ plain }))))
 
 -- the bytes of a comment with `//`
 or_false : (a b : Bool) → a || b ≡ false → (a ≡ false) × (b ≡ false)
@@ -260,6 +268,22 @@ comment_line m (b ∷ bs) = by (eqb b 10 || ends_block m (b ∷ bs)) refl (comme
     by : (t : Bool) → eqb b 10 || ends_block m (b ∷ bs) ≡ t → list_all in_line (take (comment_len m bs) bs) ≡ true → list_all in_line (take (cond t 0 (suc (comment_len m bs))) (b ∷ bs)) ≡ true
     by true e rest = refl
     by false e rest = rw ((or_false (eqb b 10) (ends_block m (b ∷ bs)) e).0) rest
+
+comment_first : (m : Mode) (bs : List ℕ) → m ≡ Block → HaveNoEnd (take (comment_len m bs) bs) (drop (comment_len m bs) bs)
+comment_first m [] block = tt
+comment_first m (b ∷ bs) block = by (eqb b 10 || ends_block m (b ∷ bs)) refl (comment_first m bs block)
+  where
+    ends : (m2 : Mode) → m2 ≡ Block → ends_block m2 (b ∷ bs) ≡ false → begins_with (42 ∷ 47 ∷ []) (b ∷ bs) ≡ false
+    ends Code is e = absurd cc
+    ends Block is e = e
+    ends Line is e = absurd cc
+
+    by : (t : Bool) → eqb b 10 || ends_block m (b ∷ bs) ≡ t → HaveNoEnd (take (comment_len m bs) bs) (drop (comment_len m bs) bs)
+        → HaveNoEnd (take (cond t 0 (suc (comment_len m bs))) (b ∷ bs)) (drop (cond t 0 (suc (comment_len m bs))) (b ∷ bs))
+    by true e rest = tt
+    by false e rest =
+        let here = ends m block (or_false (eqb b 10) (ends_block m (b ∷ bs)) e).1 in
+        (ap (λ (t : List ℕ). begins_with (42 ∷ 47 ∷ []) (b ∷ t)) (take-append-drop (comment_len m bs) bs) ∙ here, rest)
 
 comment_ends : (m : Mode) (bs : List ℕ) → EndsComment m (drop (comment_len m bs) bs)
 comment_ends m [] = tt
@@ -284,8 +308,8 @@ front_kept m (a ∷ b ∷ bs) e =
     no_end Block cs = refl
     no_end Line cs = refl
 
-line_spells : (before : List ℕ) (m : Mode) (bs : List ℕ) (x : Found) → begins_with (47 ∷ 47 ∷ []) bs ≡ true → found piece.Blank (comment_len m bs - 1) ≡ Ok x → SpelledAs before m bs x
-line_spells before m bs x begins e =
+line_spells : (before : List ℕ) (m : Mode) (bs : List ℕ) (x : Found) → begins_annotation m bs ≡ false → begins_with (47 ∷ 47 ∷ []) bs ≡ true → found piece.Blank (comment_len m bs - 1) ≡ Ok x → SpelledAs before m bs x
+line_spells before m bs x plain begins e =
     let n = comment_len m bs in
     let two = front_kept m bs begins in
     let len = take_len n bs (comment_within m bs) in
@@ -294,7 +318,9 @@ line_spells before m bs x begins e =
       inside = take two.0 (drop 2 bs);
       joined = start;
       line = comment_line m bs;
+      first = λ block. (subst (λ (t : List ℕ). HaveNoEnd t (drop n bs)) start (comment_first m bs block)).1.1;
       ends = comment_ends m bs;
+      no_annotation = ap (begins_annotation m) (take-append-drop n bs) ∙ plain;
     })))
 
 -- ---- annotations and directives
@@ -327,7 +353,7 @@ block_spells before m bs x code begins e = by (block_len (drop 3 bs)) refl e
     whole = begins_is (47 ∷ 42 ∷ 64 ∷ []) bs begins
 
     inner : (n : ℕ) (r : Option ℕ) → block_len (drop 3 bs) ≡ Some n → blank_block false (drop 3 bs) ≡ r → of_blank_block r ≡ Ok x → SpelledAs before m bs x
-    inner n None l g f = spelled before m bs (piece.Open Block) 2 x (47 ∷ 42 ∷ 64 ∷ []) (drop 3 bs) f whole refl (code, refl, ap is_some l)
+    inner n None l g f = spelled before m bs (piece.Open Block) 2 x (47 ∷ 42 ∷ 64 ∷ []) (drop 3 bs) f whole refl (code, refl, ap is_some l, g)
     inner n (Some k) l g f =
         let len = take_len k (drop 3 bs) (behind_comment false (drop 3 bs) k g) in
         let back : take k (drop 3 bs) ++ drop k (drop 3 bs) ≡ drop 3 bs = take-append-drop k (drop 3 bs) in
@@ -350,7 +376,7 @@ open_line_spells before m bs x code begins e =
           let back : take n rest ++ drop n rest ≡ rest = take-append-drop n rest in
           spelled before m bs piece.Blank (n + 2) x (47 ∷ 47 ∷ 64 ∷ take n rest) (drop n rest) h.1 (whole ∙ ap (λ (t : List ℕ). 47 ∷ 47 ∷ 64 ∷ t) (sym back)) (omega (arith, len))
           (inr (inr (code, inr (inr (inl (record { inside = take n rest; joined = refl; blank = ap is_blank_line back ∙ h.0; line = run_passes in_line rest; ends = run_stops in_line rest }))))))
-      | inr h ↦ spelled before m bs (piece.Open Line) 2 x (47 ∷ 47 ∷ 64 ∷ []) rest h.1 whole refl (code, refl)
+      | inr h ↦ spelled before m bs (piece.Open Line) 2 x (47 ∷ 47 ∷ 64 ∷ []) rest h.1 whole refl (code, refl, h.0)
     ]
 
 unfoldable pub of_directive : ℕ → Option Fault → Result Found Fault
@@ -378,32 +404,43 @@ directive_spells before m b bs x code fresh hash e = by (directive_fault (direct
           }))),
         )))
 
-mark_spells : (before : List ℕ) (m : Mode) (bs : List ℕ) (x : Found) → mark_at m bs ≡ Ok x → SpelledAs before m bs x
-mark_spells before m bs x e =
+mark_spells : (before : List ℕ) (m : Mode) (bs : List ℕ) (x : Found) → begins_comment m bs ≡ false → ends_annotation m bs ≡ false → mark_at m bs ≡ Ok x → SpelledAs before m bs x
+mark_spells before m bs x no_comment no_end e =
     let h = mark_of m bs x e in
     let whole = begins_is h.mark bs h.begins in
     spelled before m bs (piece.Mark h.place) (length h.mark - 1) x h.mark (drop (length h.mark) bs) (ap (λ (y : Found). let r : Result Found Fault = Ok y in r) (sym h.is)) whole (omega (arith, h.some)) (record {
       at = h.at;
       longest = λ q rest there g. h.longest q there (ap (begins_with q) (whole ∙ g) ∙ is_begun q rest);
+      no_comment = ap (begins_comment m) (sym whole) ∙ no_comment;
+      no_end = ap (ends_annotation m) (sym whole) ∙ no_end;
     })
 
 -- ---- pieces
 
-other_spells : (before : List ℕ) (m : Mode) (bs : List ℕ) (x : Found) → other_at m bs ≡ Ok x → SpelledAs before m bs x
+other_spells : (before : List ℕ) (m : Mode) (bs : List ℕ) (x : Found) → ends_annotation m bs ≡ false → other_at m bs ≡ Ok x → SpelledAs before m bs x
 unfolding other_at
-other_spells before m bs x e = elim (chosen (is_code m && begins_with (47 ∷ 42 ∷ 64 ∷ []) bs) (open_block (drop 3 bs)) _ (Ok x) e) [
+other_spells before m bs x no_end e = elim (chosen (is_code m && begins_with (47 ∷ 42 ∷ 64 ∷ []) bs) (open_block (drop 3 bs)) _ (Ok x) e) [
   | inl h ↦ let a = and_true (is_code m) _ h.0 in block_spells before m bs x (code_is m a.0) a.1 h.1
   | inr h1 ↦ elim (chosen (is_code m && begins_with (47 ∷ 47 ∷ 64 ∷ []) bs) (open_line (drop 3 bs)) _ (Ok x) h1.1) [
     | inl h ↦ let a = and_true (is_code m) _ h.0 in open_line_spells before m bs x (code_is m a.0) a.1 h.1
     | inr h2 ↦ elim (chosen (is_code m && begins_with (47 ∷ 42 ∷ []) bs) (comment_at (drop 2 bs)) _ (Ok x) h2.1) [
-      | inl h ↦ let a = and_true (is_code m) _ h.0 in comment_spells before m bs x (code_is m a.0) a.1 h.1
+      | inl h ↦ let a = and_true (is_code m) _ h.0 in comment_spells before m bs x (code_is m a.0) (no_annotation m bs h1.0 h2.0) a.1 h.1
       | inr h3 ↦ elim (chosen (begins_with (47 ∷ 47 ∷ []) bs) (found piece.Blank (comment_len m bs - 1)) (mark_at m bs) (Ok x) h3.1) [
-        | inl h ↦ line_spells before m bs x h.0 h.1
-        | inr h4 ↦ mark_spells before m bs x h4.1
+        | inl h ↦ line_spells before m bs x (no_annotation m bs h1.0 h2.0) h.0 h.1
+        | inr h4 ↦ mark_spells before m bs x (or_from _ _ h3.0 h4.0) no_end h4.1
       ]
     ]
   ]
 ]
+
+newline_is : (b : ℕ) (bs : List ℕ) → begins_with (10 ∷ []) (b ∷ bs) ≡ eqb b 10
+newline_is b bs = grind (arith, nat_tests)
+
+-- what isn't read as an annotation's end is none
+no_end : (m : Mode) (b : ℕ) (bs : List ℕ) → is_line m && eqb b 10 ≡ false → ends_block m (b ∷ bs) ≡ false → ends_annotation m (b ∷ bs) ≡ false
+no_end Code b bs line block = refl
+no_end Block b bs line block = block
+no_end Line b bs line block = newline_is b bs ∙ line
 
 close_line : (before : List ℕ) (m : Mode) (b : ℕ) (bs : List ℕ) (x : Found) → is_line m && eqb b 10 ≡ true → found piece.Close 0 ≡ Ok x → SpelledAs before m (b ∷ bs) x
 close_line before Code b bs x h e = absurd (true≢false (sym h))
@@ -423,7 +460,7 @@ piece_spells before m (b ∷ bs) x e = elim (chosen (is_line m && eqb b 10) (fou
   | inr h1 ↦ elim (chosen (ends_block m (b ∷ bs)) (found piece.Close 1) _ (Ok x) h1.1) [
     | inl h ↦ close_block before m (b ∷ bs) x h.0 h.1
     | inr h2 ↦ elim (chosen (is_gap m b) (found piece.Blank 0) _ (Ok x) h2.1) [
-      | inl h ↦ spelled before m (b ∷ bs) piece.Blank 0 x (b ∷ []) bs h.1 refl refl (inl (record { byte = b; alone = refl; blank = h.0 }))
+      | inl h ↦ spelled before m (b ∷ bs) piece.Blank 0 x (b ∷ []) bs h.1 refl refl (inl (record { byte = b; alone = refl; blank = h.0; no_end = no_end m b bs h1.0 h2.0 }))
       | inr h3 ↦ elim (chosen (begins_name m (b ∷ bs)) (word_at m (b ∷ bs)) _ (Ok x) h3.1) [
         | inl h ↦ word_spells before m b bs x h.0 h.1
         | inr h4 ↦ elim (chosen (is_digit b) (number_at m (b ∷ bs)) _ (Ok x) h4.1) [
@@ -437,7 +474,7 @@ piece_spells before m (b ∷ bs) x e = elim (chosen (is_line m && eqb b 10) (fou
                     let a = and_true (is_code m && starts_line before) (eqb b 35) h.0 in
                     let c = and_true (is_code m) (starts_line before) a.0 in
                     directive_spells before m b bs x (code_is m c.0) c.1 a.1 h.1
-                | inr h8 ↦ other_spells before m (b ∷ bs) x h8.1
+                | inr h8 ↦ other_spells before m (b ∷ bs) x (no_end m b bs h1.0 h2.0) h8.1
               ]
             ]
           ]

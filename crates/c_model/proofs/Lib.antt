@@ -19,6 +19,9 @@ pub mod CStrings
 pub mod CSpelling
 pub mod CBroken
 pub mod CPieceLaws
+pub mod COnePiece
+pub mod COneFault
+pub mod COnlyPieces
 pub mod RefusalLaws
 pub mod CRefusalLaws
 pub mod NameLaws

@@ -86,16 +86,33 @@ pub record IsString (m : Mode) (bytes behind : List ℕ) : Type 0 where
   pub quoted : bytes ≡ 34 ∷ spelling_of units ++ 34 ∷ []
   pub are : AreUnits m units (34 ∷ behind)
 
+-- `//` begins a comment, and so does `/*` in C (C99 6.4.9); or an annotation, which is a comment for C99
+abbrev pub begins_comment : Mode → List ℕ → Bool
+begins_comment m bs = (is_code m && begins_with (codes "/*") bs) || begins_with (codes "//") bs
+
+-- a comment of C that begins with `@` is an annotation (ACSL)
+abbrev pub begins_annotation : Mode → List ℕ → Bool
+begins_annotation m bs = is_code m && (begins_with (codes "/*@") bs || begins_with (codes "//@") bs)
+
+-- where the annotation ends: at `*/`, or at the line's end
+abbrev pub ends_annotation : Mode → List ℕ → Bool
+ends_annotation Code bs = false
+ends_annotation Block bs = begins_with (codes "*/") bs
+ends_annotation Line bs = begins_with (10 ∷ []) bs
+
 -- the operators of C, and those of annotations behind them
 abbrev pub marks_of : Mode → List (List ℕ)
 marks_of Code = marks
 marks_of Block = marks ++ annotation_marks
 marks_of Line = marks ++ annotation_marks
 
--- the operator at that place of the list, and no longer one begins there (C99 6.4 p4)
+-- the operator at that place of the list, and no longer one begins there (C99 6.4 p4); where no comment begins, and no annotation
+-- begins or ends
 pub record IsMark (m : Mode) (k : ℕ) (bytes behind : List ℕ) : Type 0 where
   pub at : slice_get (marks_of m) k ≡ Some bytes
   pub longest : (q rest : List ℕ) → IsIn (marks_of m) q → bytes ++ behind ≡ q ++ rest → length q ≤ length bytes
+  pub no_comment : begins_comment m (bytes ++ behind) ≡ false
+  pub no_end : ends_annotation m (bytes ++ behind) ≡ false
 
 -- ---- spelling: blanks and annotations
 
@@ -104,22 +121,26 @@ abbrev pub HaveNoEnd : List ℕ → List ℕ → Type 0
 HaveNoEnd [] behind = Unit {0}
 HaveNoEnd (b ∷ bs) behind = (begins_with (codes "*/") (b ∷ (bs ++ behind)) ≡ false) × HaveNoEnd bs behind
 
--- a comment ends at the first `*/` (C99 6.4.9)
+-- a comment ends at the first `*/` (C99 6.4.9), and isn't an annotation
 pub record IsComment (bytes behind : List ℕ) : Type 0 where
   pub inside : List ℕ
   pub joined : bytes ≡ codes "/*" ++ (inside ++ codes "*/")
   pub first : HaveNoEnd inside (codes "*/" ++ behind)
+  pub no_annotation : begins_annotation Code (bytes ++ behind) ≡ false
 
 -- behind a comment with `//` the line ends, or the annotation
 abbrev pub EndsComment : Mode → List ℕ → Type 0
 EndsComment m [] = Unit {0}
 EndsComment m (b ∷ bs) = (nat_eq b 10 || ends_block m (b ∷ bs)) ≡ true
 
+-- a comment with `//` is within its line, and within the annotation that it stands in; it isn't an annotation
 pub record IsLineComment (m : Mode) (bytes behind : List ℕ) : Type 0 where
   pub inside : List ℕ
   pub joined : bytes ≡ codes "//" ++ inside
   pub line : list_all in_line bytes ≡ true
+  pub first : m ≡ Block → HaveNoEnd inside behind
   pub ends : EndsComment m behind
+  pub no_annotation : begins_annotation m (bytes ++ behind) ≡ false
 
 -- a `/*@` annotation without a token
 pub record IsBlankBlock (bytes behind : List ℕ) : Type 0 where
@@ -144,23 +165,24 @@ pub record IsDirective (before bytes behind : List ℕ) : Type 0 where
   pub ends : Stops in_line behind
   pub sound : directive_fault (directive_line (line ++ behind)) ≡ None
 
--- a blank byte
-pub record IsBlankByte (m : Mode) (bytes : List ℕ) : Type 0 where
+-- a blank byte, with which no annotation ends
+pub record IsBlankByte (m : Mode) (bytes behind : List ℕ) : Type 0 where
   pub byte : ℕ
   pub alone : bytes ≡ byte ∷ []
   pub blank : is_gap m byte ≡ true
+  pub no_end : ends_annotation m (bytes ++ behind) ≡ false
 
 -- what the lexer passes over
 abbrev pub IsBlank : List ℕ → Mode → List ℕ → List ℕ → Type 0
 IsBlank before m bytes behind =
-    IsBlankByte m bytes ⊎ (IsLineComment m bytes behind
+    IsBlankByte m bytes behind ⊎ (IsLineComment m bytes behind
     ⊎ ((m ≡ Code) × (IsComment bytes behind ⊎ (IsBlankBlock bytes behind ⊎ (IsBlankLine bytes behind ⊎ IsDirective before bytes behind)))))
 
--- an annotation begins in C; one with `/*@` has its end
+-- an annotation with a token begins in C; one with `/*@` has its end
 abbrev pub IsOpen : Mode → Mode → List ℕ → List ℕ → Type 0
 IsOpen m Code bytes behind = ⊥
-IsOpen m Block bytes behind = (m ≡ Code) × (bytes ≡ codes "/*@") × (is_some (block_len behind) ≡ true)
-IsOpen m Line bytes behind = (m ≡ Code) × (bytes ≡ codes "//@")
+IsOpen m Block bytes behind = (m ≡ Code) × (bytes ≡ codes "/*@") × (is_some (block_len behind) ≡ true) × (blank_block false behind ≡ None)
+IsOpen m Line bytes behind = (m ≡ Code) × (bytes ≡ codes "//@") × (is_blank_line behind ≡ false)
 
 -- and ends at `*/`, or at the line's end
 abbrev pub IsClose : Mode → List ℕ → Type 0
@@ -180,11 +202,11 @@ Spells before m piece.Chars bytes behind = IsString m bytes behind
 Spells before m (piece.Mark k) bytes behind = IsMark m k bytes behind
 
 abbrev pub AreSpelled : List ℕ → Mode → Pieces → Type 0
-AreSpelled before m (Ended at n) = Unit {0}
+AreSpelled before m (Ended at n) = n ≡ m
 AreSpelled before m (Broken at f rest) = Unit {0}
 AreSpelled before m (Cut at p bytes more) = Spells before m p bytes (bytes_of more) × AreSpelled (before ++ bytes) (mode_after m p) more
 
--- each piece is spelled as its kind is
+-- each piece is spelled as its kind is, and the text ends in the mode behind them
 abbrev pub PiecesAreSpelled : Type 0
 PiecesAreSpelled = (text : List ℕ) → AreSpelled [] Code (pieces_of text)
 
@@ -267,6 +289,11 @@ AreBroken before m (Cut at p bytes more) = AreBroken (before ++ bytes) (mode_aft
 -- what is broken is broken as its fault says
 abbrev pub BreaksAreFaults : Type 0
 BreaksAreFaults = (text : List ℕ) → AreBroken [] Code (pieces_of text)
+
+-- pieces that meet all these laws are the pieces of the text that they make up, and no others
+abbrev pub OnlyTheseAreSpelled : Type 0
+OnlyTheseAreSpelled =
+    (text : List ℕ) (ps : Pieces) → bytes_of ps ≡ text → ArePlaced [] ps → AreSpelled [] Code ps → AreBroken [] Code ps → ps ≡ pieces_of text
 
 -- ---- integer literals
 

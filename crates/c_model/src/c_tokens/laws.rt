@@ -1,14 +1,15 @@
 //! What holds of every C text with annotations. No function here has anything to do.
 
-ghost use Rattle.c_model.specs.CTokenLaws.{PiecesAreTheText, PiecesArePlaced, PiecesAreSpelled, BreaksAreFaults, LiteralsAreIntegers, RefusedAtFirstFault, NamesInOrder, NamesDiffer, TokensAscend, StringsAreJoined, TokensAreFew, EndIsBehindTheText};
+ghost use Rattle.c_model.specs.CTokenLaws.{PiecesAreTheText, PiecesArePlaced, PiecesAreSpelled, BreaksAreFaults, OnlyTheseAreSpelled, LiteralsAreIntegers, RefusedAtFirstFault, NamesInOrder, NamesDiffer, TokensAscend, StringsAreJoined, TokensAreFew, EndIsBehindTheText};
 
 /// The pieces joined are the text, and each is at its place and spelled as its kind is. What is no piece is broken as its fault
-/// says.
+/// says. The pieces are the only ones of which all this holds.
 pub fn pieces_of_a_c_text()
     ensures joined { PiecesAreTheText }
     ensures placed { PiecesArePlaced }
     ensures spelled { PiecesAreSpelled }
     ensures broken { BreaksAreFaults }
+    ensures only { OnlyTheseAreSpelled }
 {}
 
 /// A literal has the value of its digits, and the first of C99's types that has this value.

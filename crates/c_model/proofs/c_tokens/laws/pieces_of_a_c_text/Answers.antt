@@ -1,4 +1,5 @@
 use Rattle.c_model.proofs.CPieceLaws.{pieces_joined, pieces_placed, pieces_spelled, pieces_broken}
+use Rattle.c_model.proofs.COnlyPieces.{only_pieces}
 use Rattle.c_model.proofs.c_tokens.laws.pieces_of_a_c_text.Goals as goal
 
 pub returns-clause-joined : goal.returns-clause-joined
@@ -12,3 +13,6 @@ returns-clause-spelled c = pieces_spelled
 
 pub returns-clause-broken : goal.returns-clause-broken
 returns-clause-broken c = pieces_broken
+
+pub returns-clause-only : goal.returns-clause-only
+returns-clause-only c = only_pieces
