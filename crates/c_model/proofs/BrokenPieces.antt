@@ -27,21 +27,21 @@ run_is p (b ∷ bs) behind all stop =
 
 -- ---- marks
 
-none_begins : (i : ℕ) (ms : List (List ℕ)) (bs : List ℕ) (f : Fault) → first_mark i ms bs ≡ Err f → (m : List ℕ) → IsIn ms m → begins_with m bs ≡ false
+pub none_begins : (i : ℕ) (ms : List (List ℕ)) (bs : List ℕ) (f : Fault) → first_mark i ms bs ≡ Err f → (m : List ℕ) → IsIn ms m → begins_with m bs ≡ false
 none_begins i [] bs f e m there = elim there [ ]
 none_begins i (o ∷ os) bs f e m there = elim (chosen (begins_with o bs) (found (piece.Mark i) (length o - 1)) (first_mark (i + 1) os bs) (Err f) e) [
   | inl h ↦ absurd (let k = h.1 in cc)
   | inr h ↦ elim there [ inl s ↦ sym (ap (λ (t : List ℕ). begins_with t bs) s) ∙ h.0 | inr t ↦ none_begins (i + 1) os bs f h.1 m t ]
 ]
 
-no_mark_fault : (i : ℕ) (ms : List (List ℕ)) (bs : List ℕ) (f : Fault) → first_mark i ms bs ≡ Err f → f ≡ fault.Byte
+pub no_mark_fault : (i : ℕ) (ms : List (List ℕ)) (bs : List ℕ) (f : Fault) → first_mark i ms bs ≡ Err f → f ≡ fault.Byte
 no_mark_fault i [] bs f e = sym (same_fault fault.Byte f e)
 no_mark_fault i (o ∷ os) bs f e = elim (chosen (begins_with o bs) (found (piece.Mark i) (length o - 1)) (first_mark (i + 1) os bs) (Err f) e) [
   | inl h ↦ absurd (let k = h.1 in cc)
   | inr h ↦ no_mark_fault (i + 1) os bs f h.1
 ]
 
-behind_is : (w rest : List ℕ) → drop (length w) (w ++ rest) ≡ rest
+pub behind_is : (w rest : List ℕ) → drop (length w) (w ++ rest) ≡ rest
 behind_is [] rest = refl
 behind_is (o ∷ os) rest = behind_is os rest
 
@@ -56,17 +56,17 @@ name_breaks before b bs f letter e =
       | inr h ↦ absurd (let k = h.1 in cc)
     ]
 
-digits_in : (bs : List ℕ) → list_all is_digit bs ≡ true → list_all in_literal bs ≡ true
+pub digits_in : (bs : List ℕ) → list_all is_digit bs ≡ true → list_all in_literal bs ≡ true
 digits_in [] all = refl
 digits_in (b ∷ bs) all = let h = and_true (is_digit b) (list_all is_digit bs) all in rw (digit_in b h.0) (digits_in bs h.1)
 
-literal_all : (bs : List ℕ) (v : ℕ) → list_all is_digit bs ≡ true → digits_value 10 bs ≡ v → v ≤ greatest_literal → literal_of bs ≡ Some v
+pub literal_all : (bs : List ℕ) (v : ℕ) → list_all is_digit bs ≡ true → digits_value 10 bs ≡ v → v ≤ greatest_literal → literal_of bs ≡ Some v
 unfolding literal_of
 literal_all bs v all value small =
     let fits : leb (digits_value 10 bs) greatest_literal ≡ true = le-leb _ _ (subst (λ (n : ℕ). n ≤ greatest_literal) (sym value) small) in
     (λ i. let o : Option ℕ = cond (all i && fits i) (Some (digits_value 10 bs)) None in o) ∙ ap Some value
 
-of_literal : ℕ → Option ℕ → Result Found Fault
+unfoldable pub of_literal : ℕ → Option ℕ → Result Found Fault
 of_literal n r = elim r [ None ↦ Err fault.Number | Some v ↦ found (piece.Number v) (n - 1) ]
 
 number_breaks : (before : List ℕ) (b : ℕ) (bs : List ℕ) (f : Fault) → is_digit b ≡ true → number_at (b ∷ bs) ≡ Err f → Breaks before f (b ∷ bs)
@@ -120,7 +120,7 @@ plain_clear b bs cs false false p1 q1 more escape e = absurd cc
 
 -- no quote stands among characters and escapes
 mutual
-  chars_clear : (bs cs : List ℕ) → chars_of bs ≡ Some cs → list_all in_string bs ≡ true
+  pub chars_clear : (bs cs : List ℕ) → chars_of bs ≡ Some cs → list_all in_string bs ≡ true
   chars_clear [] cs e = refl
   chars_clear (b ∷ bs) cs e = plain_clear b bs cs (is_plain b) (eqb b 92) refl refl (λ ds h. chars_clear bs ds h) (λ ds h. escape_clear bs ds h) e
 

@@ -22,6 +22,7 @@ pub mod CPieceLaws
 pub mod COnePiece
 pub mod COneFault
 pub mod COnlyPieces
+pub mod OnlyPieces
 pub mod RefusalLaws
 pub mod CRefusalLaws
 pub mod NameLaws

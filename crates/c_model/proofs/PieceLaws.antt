@@ -9,7 +9,7 @@ use Rattle.c_model.specs.declared.monitored_tokens.Fault.{Fault}
 use Rattle.c_model.specs.Characters.{is_blank}
 use Rattle.c_model.specs.Places.{next, walk, first_place}
 use Rattle.c_model.specs.MonitoredTokens.{Pieces, Ended, Broken, Cut, fresh_behind, fresh_after, piece_at, cut, pieces_of}
-use Rattle.c_model.specs.MonitoredTokenLaws.{bytes_of, in_line, place_of, starts_line, ArePlaced, Spells, AreSpelled, Breaks}
+use Rattle.c_model.specs.MonitoredTokenLaws.{bytes_of, in_line, place_of, starts_line, ArePlaced, Spells, AreSpelled, Breaks, AreBroken}
 use Rattle.c_model.proofs.Spelling.{piece_spells}
 use Rattle.c_model.proofs.BrokenPieces.{piece_breaks}
 
@@ -164,3 +164,11 @@ sound_spelled before (Cut at p bytes more) h = (h.1, sound_spelled (before ++ by
 
 pub pieces_spelled : (text : List ℕ) → AreSpelled [] (pieces_of text)
 pieces_spelled text = sound_spelled [] (pieces_of text) (pieces_sound text)
+
+sound_broken : (before : List ℕ) (ps : Pieces) → AreSound before ps → AreBroken before ps
+sound_broken before (Ended at) h = tt
+sound_broken before (Broken at f rest) h = h.1
+sound_broken before (Cut at p bytes more) h = sound_broken (before ++ bytes) more h.2
+
+pub pieces_broken : (text : List ℕ) → AreBroken [] (pieces_of text)
+pieces_broken text = sound_broken [] (pieces_of text) (pieces_sound text)

@@ -84,7 +84,7 @@ of_literal : ℕ → Option ℕ → Result Found Fault
 of_literal n r = elim r [ None ↦ Err fault.Number | Some v ↦ found (piece.Number v) (n - 1) ]
 
 -- what digits give is their value
-literal_some : (bs : List ℕ) (v : ℕ) → literal_of bs ≡ Some v → (list_all is_digit bs ≡ true) × (digits_value 10 bs ≡ v) × (v ≤ greatest_literal)
+pub literal_some : (bs : List ℕ) (v : ℕ) → literal_of bs ≡ Some v → (list_all is_digit bs ≡ true) × (digits_value 10 bs ≡ v) × (v ≤ greatest_literal)
 unfolding literal_of
 literal_some bs v e = elim (chosen (list_all is_digit bs && leb (digits_value 10 bs) greatest_literal) (Some (digits_value 10 bs)) None (Some v) e) [
   | inl h ↦
@@ -125,7 +125,7 @@ number_spells before b bs x digit e = by (literal_of (take (prefix_len in_litera
 -- ---- strings
 
 -- where a run stops before the end a quote stands
-run_quote : (bs : List ℕ) → prefix_len in_string bs < length bs → take (suc (prefix_len in_string bs)) bs ≡ take (prefix_len in_string bs) bs ++ 34 ∷ []
+pub run_quote : (bs : List ℕ) → prefix_len in_string bs < length bs → take (suc (prefix_len in_string bs)) bs ≡ take (prefix_len in_string bs) bs ++ 34 ∷ []
 run_quote [] h = absurd (omega arith)
 run_quote (b ∷ bs) h = by (eqb b 34) refl (run_quote bs) h
   where
@@ -135,7 +135,7 @@ run_quote (b ∷ bs) h = by (eqb b 34) refl (run_quote bs) h
     by true e rest lt = ap (λ (c : ℕ). c ∷ []) (eqb-true b 34 e)
     by false e rest lt = rw (← suc_is (prefix_len in_string bs)) (ap (λ (l : List ℕ). b ∷ l) (rest (omega arith)))
 
-there_is : (o : Option (List ℕ)) → is_some o ≡ true → (cs : List ℕ) × (o ≡ Some cs)
+pub there_is : (o : Option (List ℕ)) → is_some o ≡ true → (cs : List ℕ) × (o ≡ Some cs)
 there_is None e = absurd cc
 there_is (Some cs) e = (cs, refl)
 
@@ -227,16 +227,16 @@ later m [] q all h = elim h [ ]
 later m (r ∷ rs) q all (inl e) = subst (λ (t : List ℕ). begins_with m t ≡ false) e (not_true (begins_with m r) (and_true (not (begins_with m r)) (none_begun m rs) all).0)
 later m (r ∷ rs) q all (inr there) = later m rs q (and_true (not (begins_with m r)) (none_begun m rs) all).1 there
 
-record Marked (i : ℕ) (ms : List (List ℕ)) (bs : List ℕ) (x : Found) : Type 0 where
-  place : ℕ
-  mark : List ℕ
-  is : x ≡ record { piece = piece.Mark (place + i); more = length mark - 1 }
-  at : slice_get ms place ≡ Some mark
-  begins : begins_with mark bs ≡ true
-  some : 0 < length mark
-  longest : (q : List ℕ) → IsIn ms q → begins_with q bs ≡ true → length q ≤ length mark
+pub record Marked (i : ℕ) (ms : List (List ℕ)) (bs : List ℕ) (x : Found) : Type 0 where
+  pub place : ℕ
+  pub mark : List ℕ
+  pub is : x ≡ record { piece = piece.Mark (place + i); more = length mark - 1 }
+  pub at : slice_get ms place ≡ Some mark
+  pub begins : begins_with mark bs ≡ true
+  pub some : 0 < length mark
+  pub longest : (q : List ℕ) → IsIn ms q → begins_with q bs ≡ true → length q ≤ length mark
 
-marked : (i : ℕ) (ms : List (List ℕ)) (bs : List ℕ) (x : Found) → longest_first ms ≡ true → first_mark i ms bs ≡ Ok x → Marked i ms bs x
+pub marked : (i : ℕ) (ms : List (List ℕ)) (bs : List ℕ) (x : Found) → longest_first ms ≡ true → first_mark i ms bs ≡ Ok x → Marked i ms bs x
 unfolding longest_first
 marked i [] bs x first e = absurd cc
 marked i (m ∷ ms) bs x first e =
@@ -270,7 +270,7 @@ marked i (m ∷ ms) bs x first e =
           }
     ]
 
-marks_first : longest_first marks ≡ true
+pub marks_first : longest_first marks ≡ true
 unfolding longest_first none_begun marks
 marks_first = refl
 

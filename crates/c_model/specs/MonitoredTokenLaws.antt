@@ -168,6 +168,20 @@ Breaks before fault.Number bs = IsNoNumber bs
 Breaks before fault.Chars bs = IsNoString bs
 Breaks before fault.Directive bs = IsOtherLine before bs
 
+abbrev pub AreBroken : List ℕ → Pieces → Type 0
+AreBroken before (Ended at) = Unit {0}
+AreBroken before (Broken at f rest) = Breaks before f rest
+AreBroken before (Cut at p bytes more) = AreBroken (before ++ bytes) more
+
+-- what is broken is broken as its fault says
+abbrev pub BreaksAreFaults : Type 0
+BreaksAreFaults = (text : List ℕ) → AreBroken [] (pieces_of text)
+
+-- pieces that meet all these laws are the pieces of the text that they make up, and no others
+abbrev pub OnlyTheseAreSpelled : Type 0
+OnlyTheseAreSpelled =
+    (text : List ℕ) (ps : Pieces) → bytes_of ps ≡ text → ArePlaced [] ps → AreSpelled [] ps → AreBroken [] ps → ps ≡ pieces_of text
+
 -- ---- refusals
 
 -- the pieces make up front, and behind them rest is broken
