@@ -16,7 +16,8 @@ use Rattle.c_model.specs.Formed.{number_of}
 use Rattle.mon_syntax.specs.Meaning.{Done, Stops, Next, then_do, at_next, writes}
 use Rattle.mon_syntax.specs.Meaning as monitored
 use Rattle.mon_syntax.specs.Memories.{BlockValue, Points, over_blocks}
-use Rattle.mon_syntax.proofs.FlatBlocks.{live_in, live-born}
+use Rattle.mon_syntax.specs.LiveBlocks.{live_in}
+use Rattle.mon_syntax.proofs.FlatBlocks.{live-born}
 use Rattle.track_scopes.specs.Blocks.{register_of, deaths}
 use Rattle.track_scopes.specs.Lives.{SameBlocks, Point}
 use Rattle.track_scopes.proofs.Births.{same_born, birth_does, birth_is}

@@ -18,7 +18,7 @@ use Rattle.mon_syntax.specs.Meaning as monitored
 use Rattle.mon_syntax.specs.Memory.{Gives, IsFull}
 use Rattle.mon_syntax.specs.Memories.{BlockValue, Whole, over_blocks, most_frames}
 use Rattle.mon_syntax.specs.Trees.{MonFunction, MonStatements}
-use Rattle.mon_syntax.proofs.FlatBlocks.{live_in}
+use Rattle.mon_syntax.specs.LiveBlocks.{live_in}
 use Rattle.track_scopes.specs.Blocks.{register_of, deaths, with_born}
 use Rattle.track_scopes.specs.Blocks as target
 use Rattle.instrument.specs.Translation.{body_part, function_of, variable_numbers, variable_types}

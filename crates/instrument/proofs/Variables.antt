@@ -16,7 +16,7 @@ use Rattle.c_model.proofs.Cells.{value_from-bytes_from, length-bytes_of}
 use Rattle.c_model.proofs.Blocks.{slice_get-slice_set_same, slice_get-slice_set_other}
 use Rattle.mon_syntax.specs.Meaning as monitored
 use Rattle.mon_syntax.specs.Memories.{BlockValue, Whole, Points, Blocks, LiveBlock, over_blocks}
-use Rattle.mon_syntax.proofs.FlatBlocks.{live_in}
+use Rattle.mon_syntax.specs.LiveBlocks.{live_in}
 use Rattle.track_scopes.specs.Blocks.{register_of}
 use Rattle.track_scopes.proofs.Lives.{live-set}
 

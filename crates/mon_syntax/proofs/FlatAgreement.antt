@@ -16,11 +16,12 @@ use Rattle.mon_syntax.specs.declared.tree.MemoryCall.TheVariants.{StoreBlock, De
 use Rattle.mon_syntax.specs.Trees.{MonitoredProgram}
 use Rattle.mon_syntax.specs.Memory.{Reply, Gives, IsFull, Faults}
 use Rattle.mon_syntax.specs.Memories.{most_frames, BlockValue, Whole, Points, Blocks, integer_of, enter_blocks, stack_block, store_block, youngest, is_index, dead_at, delete_block, act_on_blocks, over_blocks, block_run, LiveBlock, Flat, taken_by, stack_end, pointer_to, enter_flat, full_at_flat_birth, flat_block, store_flat, delete_youngest, delete_flat, act_on_flat, over_flat, flat_run}
+use Rattle.mon_syntax.specs.LiveBlocks.{live_in}
 use Rattle.mon_syntax.specs.Valid.{IsValid}
 use Rattle.mon_syntax.specs.Following.{Kept, AllKept, Replied, Follows}
 use Rattle.mon_syntax.specs.Translates.{Translates}
 use Rattle.mon_syntax.proofs.Agreement.{runs_agree}
-use Rattle.mon_syntax.proofs.FlatBlocks.{live_in, taken-live, live-born, Dies, dies}
+use Rattle.mon_syntax.proofs.FlatBlocks.{taken-live, live-born, Dies, dies}
 
 -- ---- the relation
 

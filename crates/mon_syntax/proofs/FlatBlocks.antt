@@ -4,19 +4,7 @@ use Rattle.std.proofs.lemmas.Bool.{eqb-true}
 use Rattle.c_syntax.specs.declared.types.BlockKind.TheVariants.{Stack}
 use Rattle.c_model.specs.Memory.{Block, Store, new_block, rounded, stack_taken}
 use Rattle.mon_syntax.specs.Memories.{is_live_on_stack, youngest_from, youngest, is_index, dead_at, LiveBlock, taken_by}
-
--- a living block with its number
-abbrev noted : ℕ → Block → LiveBlock
-noted number b = record { number = number; size = b.size }
-
--- the blocks that live on the stack in front of those found before, the youngest first; the first block has the index k, and so the number k + 1
-abbrev pub live_from : ℕ → Store → List LiveBlock → List LiveBlock
-live_from k [] found = found
-live_from k (b ∷ bs) found = live_from (suc k) bs (if is_live_on_stack b then noted (suc k) b ∷ found else found)
-
--- the blocks of a store that live on the stack
-abbrev pub live_in : Store → List LiveBlock
-live_in store = live_from 0 store []
+use Rattle.mon_syntax.specs.LiveBlocks.{noted, live_from, live_in}
 
 -- ---- room
 

@@ -3,6 +3,7 @@ pub mod Arithmetic
 pub mod Memory
 pub mod Meaning
 pub mod Memories
+pub mod LiveBlocks
 pub mod Names
 pub mod Text
 pub mod Valid

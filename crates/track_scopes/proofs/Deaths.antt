@@ -8,7 +8,7 @@ use Rattle.mon_syntax.specs.Meaning.{◌>>=◌ as bind}
 use Rattle.mon_syntax.specs.Meaning as monitored
 use Rattle.mon_syntax.specs.Memory.{Gives, Faults}
 use Rattle.mon_syntax.specs.Memories.{BlockValue, Whole, Points, LiveBlock, over_blocks, act_on_blocks, dead_at, is_live_on_stack}
-use Rattle.mon_syntax.proofs.FlatBlocks.{live_from, live_in}
+use Rattle.mon_syntax.specs.LiveBlocks.{live_from, live_in}
 use Rattle.track_scopes.specs.Blocks.{death, deaths}
 use Rattle.track_scopes.specs.Lives.{MonitoredState, Did, with_store, Point, Leaves}
 use Rattle.track_scopes.proofs.Lives.{AllAbove, deleted, length-killed}

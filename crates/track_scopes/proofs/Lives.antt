@@ -6,10 +6,8 @@ use Rattle.c_syntax.specs.declared.types.Segment.{Segment}
 use Rattle.c_syntax.specs.declared.types.Segment.TheVariants as segment
 use Rattle.c_model.specs.Memory.{Block, Store, kill_from, rounded, stack_taken, full_at_stack_birth, standard_sizes, greatest_number}
 use Rattle.mon_syntax.specs.Memories.{is_live_on_stack, youngest_from, youngest, is_index, dead_at, LiveBlock, taken_by}
-use Rattle.mon_syntax.proofs.FlatBlocks.{live_from, live_in, taken-live, dies}
-
-abbrev noted : ℕ → Block → LiveBlock
-noted number b = record { number = number; size = b.size }
+use Rattle.mon_syntax.specs.LiveBlocks.{noted, live_from, live_in}
+use Rattle.mon_syntax.proofs.FlatBlocks.{taken-live, dies}
 
 -- ---- the oldest ones
 

@@ -9,7 +9,7 @@ use Rattle.mon_syntax.specs.Trees.{MonStatements}
 use Rattle.mon_syntax.specs.Meaning.{Result, Done, Stops, Flow, Next, exec_all}
 use Rattle.mon_syntax.specs.Meaning as monitored
 use Rattle.mon_syntax.specs.Memories.{BlockValue, Points, Blocks, LiveBlock, over_blocks}
-use Rattle.mon_syntax.proofs.FlatBlocks.{live_in}
+use Rattle.mon_syntax.specs.LiveBlocks.{live_in}
 use Rattle.track_scopes.specs.Blocks.{register_of, block_of}
 
 -- a state of monitored C, and what statements of it did

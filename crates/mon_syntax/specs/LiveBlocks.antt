@@ -1,0 +1,17 @@
+-- The blocks of a store that live on the stack, as flat memory lists them.
+use Rattle.std.specs.Prelude.{ℕ, suc, if◌then◌else◌, List, [], ◌∷◌}
+use Rattle.c_model.specs.Memory.{Block, Store}
+use Rattle.mon_syntax.specs.Memories.{is_live_on_stack, LiveBlock}
+
+-- a living block with its number
+abbrev pub noted : ℕ → Block → LiveBlock
+noted number b = record { number = number; size = b.size }
+
+-- the blocks that live on the stack in front of those found before, the youngest first; the first block has the index k, and so the number k + 1
+abbrev pub live_from : ℕ → Store → List LiveBlock → List LiveBlock
+live_from k [] found = found
+live_from k (b ∷ bs) found = live_from (suc k) bs (if is_live_on_stack b then noted (suc k) b ∷ found else found)
+
+-- the blocks of a store that live on the stack, the youngest first
+abbrev pub live_in : Store → List LiveBlock
+live_in store = live_from 0 store []
