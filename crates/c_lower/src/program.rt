@@ -98,11 +98,8 @@ fn written(
     Ok((code.into_code(), entries, main))
 }
 
-/// The stack code of a program, which does what the program does.
+/// The stack code of a program, which does what the program does. Which code that is, is free.
 pub fn lower(alloc: Global, m: &MonProgram) -> Result<Code, AllocError>
-    ensures code { IfOk result (λ code. code.instrs.items ≡ functions_code (plain_program m.now).functions) }
-    ensures entries { IfOk result (λ code. code.entries.items ≡ entries_from 0 (plain_program m.now).functions) }
-    ensures main { IfOk result (λ code. code.main ≡ entry_named (codes "main") 0 (plain_program m.now).functions) }
     ensures runs { IfOk result (λ code. RunsAs over_flat (plain_program m.now) code.entries.items code.main code.instrs.items) }
 {
     let (instrs, entries, main) = written(alloc, m)?;

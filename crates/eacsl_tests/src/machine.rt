@@ -12,13 +12,11 @@ use mon_syntax::{
 use std::alloc::{AllocError, Global};
 use std::process::Abort;
 
-/// What a run came to: how it ended, the steps left, the number of instructions, what was written, and what the source gives
-/// then.
+/// What a run came to: how it ended, the steps left, what was written, and what the source gives then.
 #[derive(Drop)]
 struct Done {
     stop: Stop,
     left: u64,
-    turns: u64,
     output: Vec<u8>,
     next: u8,
 }
@@ -45,7 +43,6 @@ fn ran_on(
     Ok(Done {
         stop: ran.stop,
         left: ran.left,
-        turns: ran.turns,
         output: out.bytes().to_vec(alloc)?,
         next: next_byte(&mut input),
     })
@@ -78,9 +75,24 @@ fn ends_so(rt: &impl Abort, found: Stop, word: &str, value: i128) {
     same_numbers(rt, (found_value, 0), (value, 0));
 }
 
-fn counts(rt: &impl Abort, done: &Done, left: u64, turns: u64) {
+fn leaves(rt: &impl Abort, done: &Done, left: u64) {
     same_number(rt, u128::from(done.left), u128::from(left));
-    same_number(rt, u128::from(done.turns), u128::from(turns));
+}
+
+/// Compares what code comes to where no port fails: how it ends, the steps left, and what it writes.
+pub fn comes_to(
+    rt: &(impl Abort + AllocGlobal),
+    code: &Code,
+    steps: u64,
+    end: (&str, i128),
+    left: u64,
+    output: &[u8],
+) -> Result<(), AllocError> {
+    let whole = plainly(rt.alloc(), code, steps)?;
+    ends_so(rt, whole.stop, end.0, end.1);
+    leaves(rt, &whole, left);
+    same_bytes(rt, &whole.output, output);
+    Ok(())
 }
 
 /// Compares what a text comes to where no port fails.
@@ -89,15 +101,10 @@ fn runs(
     text: &str,
     steps: u64,
     end: (&str, i128),
-    numbers: (u64, u64),
+    left: u64,
     output: &[u8],
 ) -> Result<(), AllocError> {
-    let code = code_of(rt, text)?;
-    let whole = plainly(rt.alloc(), &code, steps)?;
-    ends_so(rt, whole.stop, end.0, end.1);
-    counts(rt, &whole, numbers.0, numbers.1);
-    same_bytes(rt, &whole.output, output);
-    Ok(())
+    comes_to(rt, &code_of(rt, text)?, steps, end, left, output)
 }
 
 const COUNTS: &str =
@@ -111,11 +118,11 @@ const SUM: &str =
      i32 main(void) { i32 x; x = f(I32(5)); __e_acsl_print_i64(((i64)x)); return I32(0); }";
 
 #[test]
-fn steps_and_instructions_are_counted(rt: HostRuntime) -> Result<(), AllocError> {
-    runs(&rt, COUNTS, 100, ("exit", 7), (97, 44), b"3")?;
-    runs(&rt, COUNTS, 2, ("spent", 0), (0, 30), b"")?;
-    runs(&rt, ENDLESS, 70000, ("full frames", 0), (4464, 65536), b"")?;
-    runs(&rt, SUM, 100, ("exit", 0), (94, 67), b"15")
+fn steps_are_counted(rt: HostRuntime) -> Result<(), AllocError> {
+    runs(&rt, COUNTS, 100, ("exit", 7), 97, b"3")?;
+    runs(&rt, COUNTS, 2, ("spent", 0), 0, b"")?;
+    runs(&rt, ENDLESS, 70000, ("full frames", 0), 4464, b"")?;
+    runs(&rt, SUM, 100, ("exit", 0), 94, b"15")
 }
 
 /// Compares what a run of 5,000 steps comes to, each of which writes a byte, where a call of the sink fails.
@@ -123,7 +130,6 @@ fn writes(
     rt: &(impl Abort + AllocGlobal),
     failing_put: u32,
     word: &str,
-    turns: u64,
     length: u128,
 ) -> Result<(), AllocError> {
     let text =
@@ -131,16 +137,16 @@ fn writes(
     let code = code_of(rt, text)?;
     let written = ran_on(rt.alloc(), &code, 5000, 9, failing_put)?;
     ends_so(rt, written.stop, word, 0);
-    counts(rt, &written, 0, turns);
+    leaves(rt, &written, 0);
     same_number(rt, written.output.len() as u128, length);
     Ok(())
 }
 
 #[test]
 fn output_is_put_in_pieces(rt: HostRuntime) -> Result<(), AllocError> {
-    writes(&rt, 9, "spent", 15003, 5000)?;
-    writes(&rt, 2, "write fault", 0, 4096)?;
-    writes(&rt, 1, "write fault", 0, 0)
+    writes(&rt, 9, "spent", 5000)?;
+    writes(&rt, 2, "write fault", 4096)?;
+    writes(&rt, 1, "write fault", 0)
 }
 
 /// Compares what a run comes to that writes its input, "ab", up to the end, reads once more, and writes that number; and what the
@@ -180,7 +186,7 @@ fn code_without_main_faults(rt: HostRuntime) -> Result<(), AllocError> {
     let code = lower(rt.alloc(), &MonProgram { functions })?;
     let fault = plainly(rt.alloc(), &code, 5)?;
     ends_so(&rt, fault.stop, "fault", 0);
-    counts(&rt, &fault, 5, 0);
+    leaves(&rt, &fault, 5);
     Ok(())
 }
 
@@ -308,6 +314,6 @@ fn a_register_that_is_not_there_faults(rt: HostRuntime) -> Result<(), AllocError
     add(alloc, &mut body, MonStmtKind::Exit(none))?;
     let fault = plainly(alloc, &code_of_body(alloc, body)?, 100)?;
     ends_so(&rt, fault.stop, "fault", 0);
-    counts(&rt, &fault, 100, 1);
+    leaves(&rt, &fault, 100);
     Ok(())
 }

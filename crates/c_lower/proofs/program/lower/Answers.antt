@@ -21,8 +21,8 @@ invariant_of-result c =
     let sound = is_sound (codes "main") (plain_program c.args.m.now).functions in
     record { sound = ∣ by_parts (λ es main code. IsSound code es main) _ _ _ _ _ _ parts.entries parts.main parts.code sound ∣₁ }
 
-pub returns-clause-runs : goal.returns-clause-runs
-returns-clause-runs c =
+pub returns : goal.returns
+returns c =
     let m = plain_program c.args.m.now in
     let parts = c.in_ok-instrs.ensures in
-    by_parts (RunsAs over_flat m) _ _ _ _ _ _ parts.entries parts.main parts.code (lowered over_flat (λ z. refl) m)
+    record { runs = by_parts (RunsAs over_flat m) _ _ _ _ _ _ parts.entries parts.main parts.code (lowered over_flat (λ z. refl) m) }
