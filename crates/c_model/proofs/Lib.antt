@@ -35,3 +35,5 @@ pub mod Conversions
 pub mod OperatorResults
 pub mod Agreement
 pub mod Whole
+pub mod Signatures
+pub mod Faultless

@@ -15,9 +15,10 @@ use Rattle.c_syntax.specs.Programs.{Function, TranslationUnit}
 use Rattle.c_model.specs.Integers.{size_of, fits, is_signed, value_bits, bits_of, value_of_bits, convert, result_in, operate_in, operate_one_in}
 use Rattle.c_model.specs.Conversions.{is_shift, is_relation}
 use Rattle.c_model.specs.Memory.{Pointer, Into, Value, Integer, Block, Store, block_at, load, save}
-use Rattle.c_model.specs.State.{Input, State, Outcome, Normal, Stop, Evaluation, ◌>>=◌, ◌>>◌, done, step}
+use Rattle.c_model.specs.State.{Input, State, Fault, Outcome, Normal, Stop, Evaluation, ◌>>=◌, ◌>>◌, done, step}
 use Rattle.c_model.specs.Meaning.{Callee, choose, after_body, turns, condition_with, effect_with, call_of, eval, exec, function_named, main_with, start, ran, run, Ran}
 use Rattle.c_model.specs.Reports.{Agrees}
+use Rattle.c_model.specs.Formed.{IsProgram}
 use Rattle.c_model.specs.Growth.{Grows}
 use Rattle.c_model.specs.Steps.{steps_after}
 
@@ -152,6 +153,15 @@ OutputGrows = (p : TranslationUnit) (f : Option Function) (n : ℕ) → Grows (m
 -- a run leaves no more steps than it had
 abbrev pub RunsSpendSteps : Type 0
 RunsSpendSteps = (p : TranslationUnit) (input : Input) (n : ℕ) → (run p input n).left ≤ n
+
+-- No run of the program ends in a fault, which is no end that C has: it would come of a jump outside loops, a definition without a body,
+-- or a `main` that is missing or returns no number (C99 6.8.6.2, 6.8.6.3, 6.9.1, 5.1.2.2.1, 5.1.2.2.3).
+abbrev pub NeverFaults : TranslationUnit → Type 0
+NeverFaults p = (input : Input) (n : ℕ) → (run p input n).final ≡ Fault → ⊥
+
+-- so it is with each program of an accepted text
+abbrev pub ProgramsNeverFault : Type 0
+ProgramsNeverFault = (p : TranslationUnit) → IsProgram p → NeverFaults p
 
 -- ---- agreement
 

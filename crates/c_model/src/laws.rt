@@ -4,7 +4,7 @@ ghost use Rattle.c_model.specs.Laws.{BitsHoldValues, FittingResultsStand, Signed
 ghost use Rattle.c_model.specs.Laws.{ConversionsFit, ConversionsKeepValues, OperatorsFit, OperatorsOfOneFit};
 ghost use Rattle.c_model.specs.Laws.{SavedValuesLoad, SavesKeepBlocks, SavesKeepBytes, SavesKeepWhole, StatementsKeepWhole};
 ghost use Rattle.c_model.specs.Laws.{FuelIsEnough, StepsFall, LoopsTurn, DoLoopsTurn, ForLoopsTurn, RunsNeedNoFuel, RunsSpendSteps, OutputGrows};
-ghost use Rattle.c_model.specs.Laws.{AgreementIsReflexive, AgreementIsTransitive};
+ghost use Rattle.c_model.specs.Laws.{ProgramsNeverFault, AgreementIsReflexive, AgreementIsTransitive};
 
 /// Integers: a value is the value of its bits, a result that fits stands, one that does not is undefined in a signed
 /// type and wraps in an unsigned one. Conversions and operators give values of their types.
@@ -39,6 +39,11 @@ pub fn runs()
     ensures run { RunsNeedNoFuel }
     ensures left { RunsSpendSteps }
     ensures output { OutputGrows }
+{}
+
+/// Programs of accepted texts: no run of one ends in a fault.
+pub fn programs()
+    ensures faultless { ProgramsNeverFault }
 {}
 
 /// Agreement of runs: each agrees with itself, and what agrees with a run in two steps agrees with it.

@@ -5,7 +5,9 @@ use Rattle.c_syntax.specs.Statements.{Declaration}
 use Rattle.c_syntax.specs.Programs.{Function, TranslationUnit}
 use Rattle.c_model.specs.Vocabulary.{word_of}
 use Rattle.c_model.specs.Formed.{AreNamed, AreNamedParameters, FunctionsNamed, declared_in_body, numbers_of_all, Ascend, IsProgram}
+use Rattle.c_model.specs.Laws.{NeverFaults}
 use Rattle.c_model.specs.Phases.{vocabulary, AcceptedText}
+use Rattle.c_model.proofs.Faultless.{never_faults}
 use Rattle.c_typing.proofs.WellPrograms.{program_well}
 use Rattle.c_reader.proofs.Placed.{Between}
 use Rattle.c_reader.proofs.FormedDeclarations.{IsNewName}
@@ -59,3 +61,7 @@ accepted_is_program text p a =
       numbered = subst (Ascend 0) (sym (noted.numbers ∙ typed.numbers)) (ascend 0 lex.end (numbers_of_all a.tree.funcs) read.numbers);
       main = noted.main ∙ a.main;
     }
+
+-- no run of it ends in a fault
+pub accepted_never_faults : (text : List ℕ) (p : TranslationUnit) → AcceptedText text p → NeverFaults p
+accepted_never_faults text p a = never_faults p (accepted_is_program text p a)

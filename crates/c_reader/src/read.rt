@@ -4,6 +4,7 @@ ghost use Rattle.std.specs.Prelude.{ℕ, List, ◌≡◌, ◌<◌, length, IfOk,
 ghost use Rattle.c_syntax.specs.Tokens.{plain_tokens};
 ghost use Rattle.c_syntax.specs.Programs.{TranslationUnit, PlainRefusal, plain_program};
 ghost use Rattle.c_model.specs.Formed.{IsProgram};
+ghost use Rattle.c_model.specs.Laws.{NeverFaults};
 ghost use Rattle.c_model.specs.Phases.{AcceptedText, RefusedText};
 ghost use Rattle.c_reader.specs.Answers.{Refuses, IsTypedAs, HasFault};
 
@@ -51,10 +52,11 @@ pub fn read_text(alloc: Global, text: &[u8]) -> Result<Program, FrontFault>
 }
 
 /// A text has one program at most, and then it has no refusal, and it has one refusal at most. An accepted program is one that can be
-/// translated.
+/// translated, and no run of it ends in a fault.
 pub fn about_texts()
     ensures one { (text : List ℕ) (p q : TranslationUnit) → AcceptedText text p → AcceptedText text q → p ≡ q }
     ensures apart { (text : List ℕ) (p : TranslationUnit) (r : PlainRefusal) → AcceptedText text p → RefusedText text r → ⊥ }
     ensures single { (text : List ℕ) (r s : PlainRefusal) → RefusedText text r → RefusedText text s → r ≡ s }
     ensures program { (text : List ℕ) (p : TranslationUnit) → AcceptedText text p → IsProgram p }
+    ensures faultless { (text : List ℕ) (p : TranslationUnit) → AcceptedText text p → NeverFaults p }
 {}

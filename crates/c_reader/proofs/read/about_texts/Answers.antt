@@ -1,4 +1,4 @@
-use Rattle.c_reader.proofs.Programs.{accepted_is_program}
+use Rattle.c_reader.proofs.Programs.{accepted_is_program, accepted_never_faults}
 use Rattle.c_reader.proofs.Texts.{one_program, apart, one_refusal}
 use Rattle.c_reader.proofs.read.about_texts.Goals as goal
 
@@ -13,3 +13,6 @@ returns-clause-single c = one_refusal
 
 pub returns-clause-program : goal.returns-clause-program
 returns-clause-program c = accepted_is_program
+
+pub returns-clause-faultless : goal.returns-clause-faultless
+returns-clause-faultless c = accepted_never_faults
