@@ -9,6 +9,7 @@ use Rattle.c_model.specs.WordLaws.{file_named}
 use Rattle.c_model.specs.Phases.{AcceptedText, RefusedText}
 use Rattle.c_model.specs.State.{Input, Final, Exits, Broken, Undefined, Fault, Spent, Full, ReadFault}
 use Rattle.c_model.specs.Meaning.{Ran, run}
+use Rattle.c_model.specs.Laws.{NeverFaults}
 use Rattle.c_model.specs.Reports.{Report, report, agrees_at}
 use Rattle.c_reader.proofs.Texts.{one_program, apart, one_refusal}
 use Rattle.mon_syntax.specs.Trees.{MonitoredProgram}
@@ -17,7 +18,7 @@ use Rattle.mon_syntax.specs.Translates.{Translates}
 use Rattle.mon_syntax.specs.Spelled.{Spells, IsMonitoredRefusal}
 use Rattle.mon_reader.proofs.Texts.{one_spelled, spelled_apart, one_monitored_refusal}
 use Rattle.c_machine.specs.Inputs.{Taking}
-use Rattle.eacsl_cli.specs.Answers.{Answer, AnswersRun, refused_answer, written_answer, file_limit, NeverFaults, Change, IsDue, Usage, NoFile, TooLong, FolderFault, OfText, Begins, RunDue, RunRefused, Runs, InstrumentDue, InstrumentRefused, Writes, ExecDue, ExecRefused, Executes, TextDue, Answered, Given, OutputFault, LineFault, NoMemory}
+use Rattle.eacsl_cli.specs.Answers.{Answer, AnswersRun, refused_answer, written_answer, file_limit, Change, IsDue, Usage, NoFile, TooLong, FolderFault, OfText, Begins, RunDue, RunRefused, Runs, InstrumentDue, InstrumentRefused, Writes, ExecDue, ExecRefused, Executes, TextDue, Answered, Given, OutputFault, LineFault, NoMemory}
 use Rattle.eacsl_cli.specs.Complete.{Steady, IsGiven, answers_source, AnswersSource, IsAsked, IsAnswered, Complete}
 
 -- ---- the answer to a translation is the answer to its source

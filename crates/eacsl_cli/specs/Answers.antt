@@ -6,8 +6,9 @@ use Rattle.c_model.specs.declared.job.Job.TheVariants.{Run, Instrument, Exec}
 use Rattle.c_model.specs.Words.{job_of}
 use Rattle.c_model.specs.WordLaws.{file_named}
 use Rattle.c_model.specs.Phases.{AcceptedText, RefusedText}
-use Rattle.c_model.specs.State.{Input, InputFault, Fault, ReadFault}
-use Rattle.c_model.specs.Meaning.{Ran, run}
+use Rattle.c_model.specs.State.{Input, InputFault, ReadFault}
+use Rattle.c_model.specs.Meaning.{Ran}
+use Rattle.c_model.specs.Laws.{NeverFaults}
 use Rattle.c_model.specs.Reports.{Report, report, line_of, refused_words, Extends}
 use Rattle.mon_syntax.specs.Trees.{MonitoredProgram}
 use Rattle.mon_syntax.specs.Memories.{flat_run}
@@ -60,10 +61,6 @@ pub record AnswersRun (r : Ran) (a : Answer) : Type 0 where
 -- the answer that a monitored program was written: its text, and no line
 abbrev pub written_answer : MonitoredProgram → Answer
 written_answer m = record { status = 0; output = text_of m; line = [] }
-
--- no run of the program stops for a fault that the meaning of C doesn't name
-abbrev pub NeverFaults : TranslationUnit → Type 0
-NeverFaults p = (input : Input) (n : ℕ) → (run p input n).final ≡ Fault → ⊥
 
 -- The bytes that a run took from the source. It wanted each of them: on an input that faults in its place the run is a read fault.
 pub record TookWanted (source : Taking) (m : MonitoredProgram) (steps : ℕ) : Type 0 where
@@ -177,7 +174,6 @@ pub record IsTranslated (text : List ℕ) (m : MonitoredProgram) : Type 0 where
   pub program : TranslationUnit
   pub accepted : AcceptedText text program
   pub translates : Translates program m
-  pub sound : NeverFaults program
 
 -- How one line is put with a status: wholly, or the sink failed (8), or memory was wanting (9), with a beginning of the line.
 pub data IsSaid (line : List ℕ) (status : ℕ) (err : Change) (result : ℕ) : Type 0 where

@@ -8,5 +8,4 @@ returns c = record {
   program = source.plain_program c.in-Ok.program;
   accepted = c.in-Ok.ensures.accepted;
   translates = agreement_translates (source.plain_program c.in-Ok.program) (plain_program c.in_ok-m.m) c.in_ok-m.ensures.valid c.in_ok-m.ensures.agrees;
-  sound = c.in_ok-m.ensures.sound;
 }
