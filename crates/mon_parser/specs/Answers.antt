@@ -42,3 +42,8 @@ RefusesFault ts fault.Memory e = e ≡ front.Memory
 abbrev pub RefusesWord : {E : Type 0} → ℕ → Place → Result (Vec ℕ Global) E → FrontFault → Type 0
 RefusesWord code at (Ok word) e = RefusesWith (record { code = code; place = at; construct = word.items }) e
 RefusesWord code at (Err f) e = e ≡ front.Memory
+
+-- a refusal, and not out of memory
+abbrev pub IsRefusal : FrontFault → Type 0
+IsRefusal front.Memory = ⊥
+IsRefusal (front.Refused x) = Unit {0}

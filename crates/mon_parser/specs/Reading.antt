@@ -31,6 +31,12 @@ abbrev pub Gives : {X Y : Type 0} → (X → Y) → Result X ReadFault → Resul
 Gives view (Ok x) read = read ≡ Ok (view x)
 Gives view (Err e) read = Fails e read
 
+-- a fault of the tokens: a call that takes no memory is never out of it
+abbrev pub TakesNoMemory : ReadFault → Type 0
+TakesNoMemory (fault.At n) = Unit {0}
+TakesNoMemory (fault.Over limit n) = Unit {0}
+TakesNoMemory fault.Memory = ⊥
+
 abbrev pub plain_loop : code_loop.LoopRead → LoopRead
 plain_loop x = record { before = map plain_stmt x.before.items; behind = option_map (λ v. map plain_stmt v.items) x.behind }
 

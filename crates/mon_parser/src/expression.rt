@@ -1,9 +1,9 @@
 //! Expressions.
 
-ghost use Rattle.std.specs.Prelude.{◌≡◌};
+ghost use Rattle.std.specs.Prelude.{◌≡◌, IfErr};
 ghost use Rattle.mon_syntax.specs.Grammar.{signed_number, opened, constant, plain_operand, second_operand, negation, complement, cast, behind_two, behind_opened, other_expression, expression_in, expression, expression_but_name};
 ghost use Rattle.mon_parser.specs.ParsedTrees.{plain_literal, plain_expr};
-ghost use Rattle.mon_parser.specs.Reading.{Gives, plain_list, unsigned_number, closed, right_operand, constant_value, cast_operand, plain_operation};
+ghost use Rattle.mon_parser.specs.Reading.{Gives, TakesNoMemory, plain_list, unsigned_number, closed, right_operand, constant_value, cast_operand, plain_operation};
 
 use crate::kinds::{CONSTANT, LEFT_PAREN, MINUS, NAME, RIGHT_PAREN, TILDE, TYPE};
 use crate::parsed::{Literal, ParsedExpr, ParsedExprKind};
@@ -23,7 +23,8 @@ fn opened<'a>(
     room: u32,
     tokens: &'a [Token],
 ) -> Result<(Place, &'a [Token]), ReadFault>
-    ensures { Gives (λ x. (x.0, plain_list x.1.now)) result ((opened words.now room).parse (plain_list tokens.now)) }
+    ensures read { Gives (λ x. (x.0, plain_list x.1.now)) result ((opened words.now room).parse (plain_list tokens.now)) }
+    ensures sure { IfErr result TakesNoMemory }
 {
     if room > 0 {
         skip(words, LEFT_PAREN, tokens)
@@ -41,7 +42,8 @@ fn unsigned_number<'a>(
     negative: bool,
     tokens: &'a [Token],
 ) -> Result<(Literal, &'a [Token]), ReadFault>
-    ensures { Gives (λ x. (plain_literal x.0, plain_list x.1.now)) result ((unsigned_number words.now negative).parse (plain_list tokens.now)) }
+    ensures read { Gives (λ x. (plain_literal x.0, plain_list x.1.now)) result ((unsigned_number words.now negative).parse (plain_list tokens.now)) }
+    ensures sure { IfErr result TakesNoMemory }
 {
     let (number, _, rest) = number(tokens)?;
     Ok((Literal { negative, number }, rest))
@@ -53,7 +55,8 @@ fn signed_number<'a>(
     words: &[Word],
     tokens: &'a [Token],
 ) -> Result<(Literal, &'a [Token]), ReadFault>
-    ensures { Gives (λ x. (plain_literal x.0, plain_list x.1.now)) result ((signed_number words.now).parse (plain_list tokens.now)) }
+    ensures read { Gives (λ x. (plain_literal x.0, plain_list x.1.now)) result ((signed_number words.now).parse (plain_list tokens.now)) }
+    ensures sure { IfErr result TakesNoMemory }
 {
     if next_is(words, MINUS, tokens) {
         let (_, rest) = skip(words, MINUS, tokens)?;
@@ -70,7 +73,8 @@ fn closed<'a>(
     e: ParsedExpr,
     tokens: &'a [Token],
 ) -> Result<(ParsedExpr, &'a [Token]), ReadFault>
-    ensures { Gives (λ x. (plain_expr x.0, plain_list x.1.now)) result ((closed words.now (plain_expr e)).parse (plain_list tokens.now)) }
+    ensures read { Gives (λ x. (plain_expr x.0, plain_list x.1.now)) result ((closed words.now (plain_expr e)).parse (plain_list tokens.now)) }
+    ensures sure { IfErr result TakesNoMemory }
 {
     let (_, rest) = skip(words, RIGHT_PAREN, tokens)?;
     Ok((e, rest))

@@ -1,10 +1,10 @@
 //! Functions, and the whole text.
 
-ghost use Rattle.std.specs.Prelude.{◌≡◌, map};
+ghost use Rattle.std.specs.Prelude.{◌≡◌, map, IfErr};
 ghost use Rattle.mon_syntax.specs.Grammar.{parsed_list, register, parameter, next_parameter, some_parameters, parameters, function_body, function, one_more_function, text};
 ghost use Rattle.mon_syntax.specs.Grammar as form;
 ghost use Rattle.mon_parser.specs.ParsedTrees.{plain_name, plain_stmt, plain_register, plain_func, plain_program};
-ghost use Rattle.mon_parser.specs.Reading.{Gives, plain_list, more_registers, more_parameters, more_functions, named_register, register_end, one_more_parameter, function_rest, function_statements};
+ghost use Rattle.mon_parser.specs.Reading.{Gives, TakesNoMemory, plain_list, more_registers, more_parameters, more_functions, named_register, register_end, one_more_parameter, function_rest, function_statements};
 
 use crate::kinds::{
     COMMA, LEFT_BRACE, LEFT_PAREN, RIGHT_BRACE, RIGHT_PAREN, SEMICOLON, TYPE, VOID,
@@ -88,7 +88,8 @@ fn result_type<'a>(
     words: &[Word],
     tokens: &'a [Token],
 ) -> Result<(Option<MonType>, &'a [Token]), ReadFault>
-    ensures { Gives (λ x. (x.0, plain_list x.1.now)) result ((form.result words.now).parse (plain_list tokens.now)) }
+    ensures read { Gives (λ x. (x.0, plain_list x.1.now)) result ((form.result words.now).parse (plain_list tokens.now)) }
+    ensures sure { IfErr result TakesNoMemory }
 {
     if next_is(words, TYPE, tokens) {
         let (t, _, rest) = type_name(words, tokens)?;
@@ -105,7 +106,8 @@ fn parameter<'a>(
     words: &[Word],
     tokens: &'a [Token],
 ) -> Result<(ParsedRegister, &'a [Token]), ReadFault>
-    ensures { Gives (λ x. (plain_register x.0, plain_list x.1.now)) result ((parameter words.now).parse (plain_list tokens.now)) }
+    ensures read { Gives (λ x. (plain_register x.0, plain_list x.1.now)) result ((parameter words.now).parse (plain_list tokens.now)) }
+    ensures sure { IfErr result TakesNoMemory }
 {
     let (kind, _, rest) = type_name(words, tokens)?;
     let (name, rest) = name(words, rest)?;

@@ -1,13 +1,13 @@
 //! The refusal of tokens that aren't read.
 
-ghost use Rattle.std.specs.Prelude.{◌≡◌, map, slice_get, unsigned_abs, IfOk};
+ghost use Rattle.std.specs.Prelude.{◌≡◌, map, slice_get, unsigned_abs, IfOk, OnOk};
 ghost use Rattle.std.specs.Fmt.{decimal};
 ghost use Rattle.c_syntax.specs.Tokens.{plain_token_kind, plain_tokens};
 ghost use Rattle.c_model.specs.MonitoredTokens.{marks};
 ghost use Rattle.mon_syntax.specs.Spelled as form;
 ghost use Rattle.mon_syntax.specs.Spelled.{or_nothing, token_word, word_at, place_at, limit_word};
 ghost use Rattle.mon_parser.specs.Reading.{label, plain_list};
-ghost use Rattle.mon_parser.specs.Answers.{RefusesFault, RefusesWord};
+ghost use Rattle.mon_parser.specs.Answers.{RefusesFault, RefusesWord, IsRefusal};
 
 use c_syntax::fault::{Limit, ReadFault};
 use c_syntax::{FrontFault, Name, Place, Refusal, Token, TokenKind, Tokens};
@@ -109,9 +109,10 @@ fn limit_word(limit: Limit) -> &'static [u8]
     }
 }
 
-/// A refusal, or want of memory where its word is wanting.
+/// A refusal; out of memory exactly if there was none for its word.
 pub fn refused(code: u8, place: Place, word: Result<Vec<u8>, AllocError>) -> FrontFault
-    ensures { RefusesWord code place word result }
+    ensures word { RefusesWord code place word result }
+    ensures sure { OnOk word (IsRefusal result) }
 {
     match word {
         Ok(word) => FrontFault::Refused(Refusal {

@@ -1,10 +1,10 @@
 //! Statements.
 
-ghost use Rattle.std.specs.Prelude.{◌≡◌, map, IfOk};
+ghost use Rattle.std.specs.Prelude.{◌≡◌, map, IfOk, IfErr};
 ghost use Rattle.mon_syntax.specs.Parsed as tree;
 ghost use Rattle.mon_syntax.specs.Grammar.{is_step_word, is_step, has_step, with_statement, parsed_list, ended, set_to_call, set_to_name, set_to, behind_name, one_more, body, selection, one_more_in_loop, loop_end, iteration, labelled, jump, returned, return_statement, statement_in};
 ghost use Rattle.mon_parser.specs.ParsedTrees.{plain_name, plain_expr, plain_stmt};
-ghost use Rattle.mon_parser.specs.Reading.{Gives, plain_list, plain_loop, more_statements, more_in_loop, call_statement, named_statement, condition, branches, second_branch, forever, loop_body, label_behind, label_end};
+ghost use Rattle.mon_parser.specs.Reading.{Gives, TakesNoMemory, plain_list, plain_loop, more_statements, more_in_loop, call_statement, named_statement, condition, branches, second_branch, forever, loop_body, label_behind, label_end};
 
 use crate::call::call_of;
 use crate::expression::{expression, expression_but_name};
@@ -123,7 +123,8 @@ fn ended<'a>(
     statement: ParsedStmt,
     tokens: &'a [Token],
 ) -> Result<(ParsedStmt, &'a [Token]), ReadFault>
-    ensures { Gives (λ x. (plain_stmt x.0, plain_list x.1.now)) result ((ended words.now (plain_stmt statement)).parse (plain_list tokens.now)) }
+    ensures read { Gives (λ x. (plain_stmt x.0, plain_list x.1.now)) result ((ended words.now (plain_stmt statement)).parse (plain_list tokens.now)) }
+    ensures sure { IfErr result TakesNoMemory }
 {
     let (_, rest) = skip(words, SEMICOLON, tokens)?;
     Ok((statement, rest))
@@ -526,7 +527,8 @@ fn label_end<'a>(
     statement: ParsedStmt,
     tokens: &'a [Token],
 ) -> Result<(ParsedStmt, &'a [Token]), ReadFault>
-    ensures { Gives (λ x. (plain_stmt x.0, plain_list x.1.now)) result ((label_end words.now (plain_stmt statement)).parse (plain_list tokens.now)) }
+    ensures read { Gives (λ x. (plain_stmt x.0, plain_list x.1.now)) result ((label_end words.now (plain_stmt statement)).parse (plain_list tokens.now)) }
+    ensures sure { IfErr result TakesNoMemory }
 {
     let (_, rest) = skip(words, COLON, tokens)?;
     ended(words, statement, rest)

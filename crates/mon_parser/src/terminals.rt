@@ -1,11 +1,11 @@
 //! Single tokens, and tests of the next one.
 
-ghost use Rattle.std.specs.Prelude.{◌≡◌, length, [], ◌∷◌};
+ghost use Rattle.std.specs.Prelude.{◌≡◌, length, [], ◌∷◌, IfErr};
 ghost use Rattle.grammar.specs.Syntax.{sees, one};
 ghost use Rattle.c_syntax.specs.Tokens.{plain_token_kind};
 ghost use Rattle.mon_syntax.specs.Grammar.{kind, first_expression, first_argument, first_statement, first_function, fixed, placed, name, number_of, text_of, type_of, constant_of, operator_of, operator_mark, is_one, is_head, type_of_word, constant_of_word};
 ghost use Rattle.mon_parser.specs.ParsedTrees.{plain_name};
-ghost use Rattle.mon_parser.specs.Reading.{Gives, plain_list};
+ghost use Rattle.mon_parser.specs.Reading.{Gives, TakesNoMemory, plain_list};
 
 use crate::kinds::{
     CONSTANT, GOTO, HEAD, IF, LEFT_BRACE, LEFT_PAREN, NAME, NUMBER, RETURN, TEXT, TYPE, VOID,
@@ -86,7 +86,8 @@ pub fn skip<'a>(
     wanted: u32,
     tokens: &'a [Token],
 ) -> Result<(Place, &'a [Token]), ReadFault>
-    ensures { Gives (λ x. (x.0, plain_list x.1.now)) result ((fixed words.now wanted).parse (plain_list tokens.now)) }
+    ensures read { Gives (λ x. (x.0, plain_list x.1.now)) result ((fixed words.now wanted).parse (plain_list tokens.now)) }
+    ensures sure { IfErr result TakesNoMemory }
 {
     match tokens {
         [] => Err(ReadFault::At(0)),
@@ -103,7 +104,8 @@ pub fn skip<'a>(
 /// A name, or a word of the runtime.
 #[tactic(auto, unfolding(mon_syntax::specs::Grammar::name))]
 pub fn name<'a>(words: &[Word], tokens: &'a [Token]) -> Result<(NameUse, &'a [Token]), ReadFault>
-    ensures { Gives (λ x. (plain_name x.0, plain_list x.1.now)) result ((name words.now).parse (plain_list tokens.now)) }
+    ensures read { Gives (λ x. (plain_name x.0, plain_list x.1.now)) result ((name words.now).parse (plain_list tokens.now)) }
+    ensures sure { IfErr result TakesNoMemory }
 {
     match tokens {
         [] => Err(ReadFault::At(0)),
@@ -126,7 +128,8 @@ pub fn name<'a>(words: &[Word], tokens: &'a [Token]) -> Result<(NameUse, &'a [To
 
 /// A number without a sign.
 pub fn number(tokens: &[Token]) -> Result<(i128, Place, &[Token]), ReadFault>
-    ensures { Gives (λ x. ((x.0, x.1), plain_list x.2.now)) result ((one (placed number_of)).parse (plain_list tokens.now)) }
+    ensures read { Gives (λ x. ((x.0, x.1), plain_list x.2.now)) result ((one (placed number_of)).parse (plain_list tokens.now)) }
+    ensures sure { IfErr result TakesNoMemory }
 {
     match tokens {
         [] => Err(ReadFault::At(0)),
@@ -139,7 +142,8 @@ pub fn number(tokens: &[Token]) -> Result<(i128, Place, &[Token]), ReadFault>
 
 /// A string, by its bytes.
 pub fn text(tokens: &[Token]) -> Result<(&Name, Place, &[Token]), ReadFault>
-    ensures { Gives (λ x. ((x.0.now, x.1), plain_list x.2.now)) result ((one (placed text_of)).parse (plain_list tokens.now)) }
+    ensures read { Gives (λ x. ((x.0.now, x.1), plain_list x.2.now)) result ((one (placed text_of)).parse (plain_list tokens.now)) }
+    ensures sure { IfErr result TakesNoMemory }
 {
     match tokens {
         [] => Err(ReadFault::At(0)),
@@ -173,7 +177,8 @@ pub fn type_name<'a>(
     words: &[Word],
     tokens: &'a [Token],
 ) -> Result<(MonType, Place, &'a [Token]), ReadFault>
-    ensures { Gives (λ x. ((x.0, x.1), plain_list x.2.now)) result ((one (placed (type_of words.now))).parse (plain_list tokens.now)) }
+    ensures read { Gives (λ x. ((x.0, x.1), plain_list x.2.now)) result ((one (placed (type_of words.now))).parse (plain_list tokens.now)) }
+    ensures sure { IfErr result TakesNoMemory }
 {
     match tokens {
         [] => Err(ReadFault::At(0)),
@@ -207,7 +212,8 @@ pub fn constant_word<'a>(
     words: &[Word],
     tokens: &'a [Token],
 ) -> Result<(MonType, Place, &'a [Token]), ReadFault>
-    ensures { Gives (λ x. ((x.0, x.1), plain_list x.2.now)) result ((one (placed (constant_of words.now))).parse (plain_list tokens.now)) }
+    ensures read { Gives (λ x. ((x.0, x.1), plain_list x.2.now)) result ((one (placed (constant_of words.now))).parse (plain_list tokens.now)) }
+    ensures sure { IfErr result TakesNoMemory }
 {
     match tokens {
         [] => Err(ReadFault::At(0)),
@@ -253,7 +259,8 @@ fn operator_of(kind: &TokenKind) -> Option<MonOp>
 
 /// An operator of two operands.
 pub fn operator(tokens: &[Token]) -> Result<(MonOp, Place, &[Token]), ReadFault>
-    ensures { Gives (λ x. ((x.0, x.1), plain_list x.2.now)) result ((one (placed operator_of)).parse (plain_list tokens.now)) }
+    ensures read { Gives (λ x. ((x.0, x.1), plain_list x.2.now)) result ((one (placed operator_of)).parse (plain_list tokens.now)) }
+    ensures sure { IfErr result TakesNoMemory }
 {
     match tokens {
         [] => Err(ReadFault::At(0)),
@@ -266,7 +273,8 @@ pub fn operator(tokens: &[Token]) -> Result<(MonOp, Place, &[Token]), ReadFault>
 
 /// The number 1, by its place.
 pub fn one(tokens: &[Token]) -> Result<(Place, &[Token]), ReadFault>
-    ensures { Gives (λ x. ((tt, x.0), plain_list x.1.now)) result ((one (placed is_one)).parse (plain_list tokens.now)) }
+    ensures read { Gives (λ x. ((tt, x.0), plain_list x.1.now)) result ((one (placed is_one)).parse (plain_list tokens.now)) }
+    ensures sure { IfErr result TakesNoMemory }
 {
     match tokens {
         [] => Err(ReadFault::At(0)),
@@ -279,7 +287,8 @@ pub fn one(tokens: &[Token]) -> Result<(Place, &[Token]), ReadFault>
 
 /// The head of the text, on its first line.
 pub fn head<'a>(words: &[Word], tokens: &'a [Token]) -> Result<&'a [Token], ReadFault>
-    ensures { Gives (λ x. (tt, plain_list x.now)) result ((one (is_head words.now)).parse (plain_list tokens.now)) }
+    ensures read { Gives (λ x. (tt, plain_list x.now)) result ((one (is_head words.now)).parse (plain_list tokens.now)) }
+    ensures sure { IfErr result TakesNoMemory }
 {
     match tokens {
         [] => Err(ReadFault::At(0)),
