@@ -140,6 +140,10 @@ AtMostOne {T} {A} G = (ts : List T) (x y : A) → Accepts G ts x → Accepts G t
 abbrev pub FrontsBegin : {T A : Type 0} → Syntax T A → Type 0
 FrontsBegin {T} G = (a b : List T) → G.begun (a ++ b) → G.begun a
 
+-- every reading begins the production
+abbrev pub ReadingsBegin : {T A : Type 0} → Syntax T A → Type 0
+ReadingsBegin {T} {A} G = (a : List T) (x : A) → G.reads a x → G.begun a
+
 -- what is accepted is what is read to the end
 abbrev pub ReadsAccepted : {T A : Type 0} → Syntax T A → Type 0
 ReadsAccepted {T} {A} G = (ts : List T) (x : A) → Accepts G ts x → G.parse ts ≡ Ok (x, [])

@@ -1,7 +1,7 @@
 -- From what the productions gave to what the answers mean.
 use Rattle.std.proofs.Common.{◌≡◌, ℕ, suc, false, List, [], ◌∷◌, length, Result, Ok, Err, refl, sym, ap, subst, ◌∙◌}
 use Rattle.grammar.specs.Syntax.{Fault, At, Over}
-use Rattle.grammar.specs.Exact.{Refused, AtMostOne}
+use Rattle.grammar.specs.Exact.{Refused, AtMostOne, FrontsBegin, ReadingsBegin}
 use Rattle.grammar.proofs.Parts.{ok_is}
 use Rattle.grammar.proofs.Theorem.{found, refused, accepts, accepts_back, at_most_one}
 use Rattle.c_syntax.specs.declared.token.Token.{Token}
@@ -19,6 +19,12 @@ use Rattle.mon_syntax.proofs.ExactTexts.{text_exact}
 
 pub one : (ws : Vocabulary) → AtMostOne (text ws)
 one ws = at_most_one (text ws) false (head_kind ∷ []) (λ _. first_function) (text_exact ws)
+
+pub begun : (ws : Vocabulary) → ReadingsBegin (text ws)
+begun ws = (text_exact ws).begins
+
+pub fronts : (ws : Vocabulary) → FrontsBegin (text ws)
+fronts ws = (text_exact ws).fronts
 
 module _ (ts : PlainTokens) where
   abbrev parsed : Result (ParsedProgram × List PlainToken) Fault
