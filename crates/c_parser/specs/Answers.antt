@@ -1,5 +1,5 @@
 -- What the answers on the tokens of a text mean.
-use Rattle.std.specs.Prelude.{◌≡◌}
+use Rattle.std.specs.Prelude.{◌≡◌, []}
 use Rattle.grammar.specs.Syntax.{Fault}
 use Rattle.c_syntax.specs.Tokens.{PlainTokens}
 use Rattle.c_syntax.specs.Programs.{PlainRefusal, plain_refusal}
@@ -18,3 +18,7 @@ pub record IsGrammarRefusal (ts : PlainTokens) (r : PlainRefusal) : Type 0 where
 abbrev pub Refuses : FrontFault → PlainTokens → Type 0
 Refuses front.Memory ts = Unit {0}
 Refuses (front.Refused r) ts = IsGrammarRefusal ts (plain_refusal r)
+
+-- the tokens without their names, which a program took
+abbrev pub without_names : PlainTokens → PlainTokens
+without_names ts = record ts { names = [] }

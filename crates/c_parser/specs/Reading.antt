@@ -1,5 +1,7 @@
 -- Parts of productions that functions of their own read, and the plain forms of what is read in parts.
-use Rattle.std.specs.Prelude.{ℕ, ◌-◌, Bool, List, [], ◌∷◌, Option, Some, None, option_map}
+use Rattle.std.specs.Prelude.{ℕ, ◌-◌, Bool, List, [], ◌∷◌, map, Option, Some, None, option_map, Vec}
+use Rattle.std.specs.declared.alloc.Global.{Global}
+use Rattle.std.specs.Borrow.{Bor}
 use Rattle.grammar.specs.Syntax.{Syntax, gives, one, ◌then◌, many, at_most}
 use Rattle.c_syntax.specs.declared.place.Place.{Place}
 use Rattle.c_syntax.specs.Ctypes.{PlainType}
@@ -8,7 +10,9 @@ use Rattle.c_syntax.specs.Annotations.{LogicTerm, Variable, Annotation}
 use Rattle.c_syntax.specs.declared.statement.Item.{Item}
 use Rattle.c_syntax.specs.Expressions.{Expression, plain_expr}
 use Rattle.c_syntax.specs.Statements.{Statement, Block, Do, For, Break, Continue, Declaration, ForFirst, NoFirst, First, plain_item, plain_stmt}
-use Rattle.c_syntax.specs.Programs.{Function}
+use Rattle.c_syntax.specs.declared.program.Func.{Func}
+use Rattle.c_syntax.specs.declared.token.Token.{Token}
+use Rattle.c_syntax.specs.Programs.{Function, TranslationUnit, plain_func}
 use Rattle.c_model.specs.Vocabulary.{Vocabulary}
 use Rattle.c_model.specs.declared.vocabulary.Keyword.TheVariants as keyword
 use Rattle.c_parser.specs.declared.counts.Counts as code
@@ -16,7 +20,8 @@ use Rattle.c_parser.specs.declared.loops.ForHeading as code_heading
 use Rattle.c_parser.specs.declared.program.Body.{Body}
 use Rattle.c_model.specs.Punctuators.{comma, semicolon, left_paren, left_brace, right_brace}
 use Rattle.c_model.specs.ExpressionGrammar.{kind, mark, reserved, placed, closed, use_of, mark_entry, mark_kind, kinds_of, expression_limit, most_in_expression, most_nested}
-use Rattle.c_model.specs.ProgramGrammar.{Counts, Counted, no_range, assertion, block_items, first_function, relations, term_name, sum_operators, sum_once, sum, assert_clause, ended, for_first, maybe_ended, for_behind, items, statement_in, next_declarator, storage_words, storage_word, next_parameter, one_more_function}
+use Rattle.c_model.specs.ProgramGrammar.{Counts, Counted, no_range, assertion, block_items, first_function, relations, term_name, sum_operators, sum_once, sum, assert_clause, ended, for_first, maybe_ended, for_behind, items, statement_in, next_declarator, storage_words, storage_word, next_parameter, one_more_function, unit_with}
+use Rattle.c_expr_parser.specs.Reading.{plain_list}
 
 -- what stands in front of the body of a `for`
 pub record ForHeading : Type 0 where
@@ -106,6 +111,10 @@ plain_heading h = record {
 
 abbrev pub plain_body : Body → Statement × Place
 plain_body b = (plain_stmt b.block, b.close)
+
+-- functions in a text with these names, and the tokens behind them
+abbrev pub plain_unit : List (List ℕ) → Vec Func Global × Bor (List Token) → TranslationUnit × List PlainToken
+plain_unit names x = (unit_with names (map plain_func x.0.items), plain_list x.1.now)
 
 abbrev pub plain_counts : code.Counts → Counts
 plain_counts c = record { annotation = c.annotation; declarators = c.declarators }

@@ -1,12 +1,12 @@
 //! Functions and whole texts (C99 6.9).
 
-ghost use Rattle.std.specs.Prelude.{◌≡◌, ◌<◌, length, map, IfOk, option_map};
+ghost use Rattle.std.specs.Prelude.{ℕ, List, ◌≡◌, ◌<◌, length, map, IfOk, option_map};
 ghost use Rattle.c_syntax.specs.Ctypes.{plain_type};
 ghost use Rattle.c_syntax.specs.Statements.{plain_decl, plain_stmt};
 ghost use Rattle.c_syntax.specs.Programs.{plain_func, plain_program};
 ghost use Rattle.c_model.specs.ProgramGrammar.{function_with, unit_with, storage_word, result_type, function_rest, function, one_more_function, unit};
 ghost use Rattle.c_expr_parser.specs.Reading.{Gives, plain_list};
-ghost use Rattle.c_parser.specs.Reading.{plain_body, more_storage, function_body, more_functions};
+ghost use Rattle.c_parser.specs.Reading.{plain_body, plain_unit, more_storage, function_body, more_functions};
 
 use crate::counts::Counts;
 use crate::kinds::{CONST, LEFT_BRACE, RIGHT_BRACE, SEMICOLON, STATIC};
@@ -214,7 +214,7 @@ fn more_functions<'a>(
 }
 
 /// The program of these functions, with the names of its text.
-fn make_unit(alloc: Global, names: Vec<Name>, funcs: Vec<Func>) -> Program
+pub fn make_unit(alloc: Global, names: Vec<Name>, funcs: Vec<Func>) -> Program
     ensures { plain_program result ≡ unit_with names.items (map plain_func funcs.items) }
 {
     Program {
@@ -229,16 +229,15 @@ fn make_unit(alloc: Global, names: Vec<Name>, funcs: Vec<Func>) -> Program
     }
 }
 
-/// Functions and prototypes, as far as they go, in a text with these names.
+/// Functions and prototypes, as far as they go: those of the text, whatever its names.
 #[tactic(auto, unfolding(c_model::specs::ProgramGrammar::unit, crate::specs::Reading::more_functions))]
-pub fn unit<'a>(
+pub fn functions<'a>(
     alloc: Global,
     words: &[Word],
-    names: Vec<Name>,
     tokens: &'a [Token],
-) -> Result<(Program, &'a [Token]), ReadFault>
-    ensures { Gives (λ x. (plain_program x.0, plain_list x.1.now)) result ((unit words.now names.items).parse (plain_list tokens.now)) }
+) -> Result<(Vec<Func>, &'a [Token]), ReadFault>
+    ensures { (names : List (List ℕ)) → Gives (plain_unit names) result ((unit words.now names).parse (plain_list tokens.now)) }
 {
     let (funcs, _, rest) = more_functions(alloc, words, Vec::new(alloc), 1, tokens)?;
-    Ok((make_unit(alloc, names, funcs), rest))
+    Ok((funcs, rest))
 }

@@ -1,13 +1,17 @@
 -- From what a phase gave to what the text is.
-use Rattle.std.proofs.Common.{◌≡◌, ℕ, List, None, Ok, Err, sym, subst}
+use Rattle.std.proofs.Common.{◌≡◌, ℕ, List, None, Result, Ok, Err, sym, subst}
+use Rattle.std.specs.Prelude.{MatchResult}
 use Rattle.c_syntax.specs.declared.refusal.FrontFault.{FrontFault}
 use Rattle.c_syntax.specs.declared.refusal.FrontFault.TheVariants as front
 use Rattle.c_syntax.specs.Tokens.{PlainTokens}
+use Rattle.c_syntax.specs.declared.program.Program.{Program}
 use Rattle.c_syntax.specs.Programs.{TranslationUnit, plain_program}
 use Rattle.c_model.specs.CTokens.{tokens_of}
-use Rattle.c_model.specs.Checked.{Good}
+use Rattle.c_model.specs.Checked.{Fault, Good}
 use Rattle.c_model.specs.ProgramTyping.{typed_unit, main_fault, noted_unit}
-use Rattle.c_model.specs.Phases.{IsRead, AcceptedText, ByGrammar, ByNamesAndTypes, ForMain, ByAnnotations}
+use Rattle.c_model.specs.Phases.{IsRead, checked_refusal, AcceptedText, ByGrammar, ByNamesAndTypes, ForMain, ByAnnotations}
+use Rattle.c_lexer.specs.Reading as lexer
+use Rattle.c_expr_parser.specs.Answers.{RefusesWith}
 use Rattle.c_parser.specs.Answers as parser
 use Rattle.c_type_rules.specs.declared.fault.TypeFault.{TypeFault}
 use Rattle.c_type_rules.specs.declared.fault.TypeFault.TheVariants as fault
@@ -15,7 +19,7 @@ use Rattle.c_typing.specs.declared.checked.ProgramFault.{ProgramFault}
 use Rattle.c_typing.specs.declared.checked.ProgramFault.TheVariants as cause
 use Rattle.c_type_rules.specs.Answers.{plain_fault, Answers}
 use Rattle.c_typing.specs.Answers.{AnswersProgram}
-use Rattle.c_reader.specs.Answers.{Refuses, IsTypedAs, OfTypes, OfMain, OfAnnotations, HasFault, RefusesFault, RefusesProgram}
+use Rattle.c_reader.specs.Answers.{Refuses, HasTree, OfTokens, IsTypedAs, OfTypes, OfMain, OfAnnotations, HasFault, RefusesFault, RefusesProgram}
 
 -- ---- names and types
 
@@ -36,12 +40,26 @@ module _ (ts : PlainTokens) (tree : TranslationUnit) where
     pub typed_as : (p : TranslationUnit) → noted_unit typed ≡ Good p → IsTypedAs tree p
     typed_as p h = record { typed = typed; is = is; main = main; noted = h }
 
+-- ---- the tokens, which are read again for a word
+
+module _ (text : List ℕ) (f : Fault) where
+  pub word_again : (us : PlainTokens) (e : FrontFault) → tokens_of text ≡ Ok us → RefusesWith (checked_refusal us f) e → OfTokens text (λ ts. RefusesWith (checked_refusal ts f) e)
+  word_again us e k g ts has = let same : us ≡ ts = cc in subst (λ (t : PlainTokens). RefusesWith (checked_refusal t f) e) same g
+
+  pub never_again : (e : FrontFault) → lexer.Refuses e (tokens_of text) → OfTokens text (λ ts. RefusesWith (checked_refusal ts f) e)
+  never_again front.Memory k ts has = tt
+  never_again (front.Refused x) k ts has = absurd cc
+
 -- ---- the text
 
 module _ (text : List ℕ) (ts : PlainTokens) (has : tokens_of text ≡ Ok ts) where
   pub refused_by_grammar : (e : FrontFault) → parser.Refuses e ts → Refuses e text
   refused_by_grammar front.Memory g = tt
   refused_by_grammar (front.Refused x) g = ByGrammar ts g.fault has g.found g.is
+
+  pub tree_is : (r : Result Program FrontFault) → MatchResult r (λ p. IsRead ts (plain_program p)) (λ e. parser.Refuses e ts) → MatchResult r (λ p. HasTree text (plain_program p)) (λ e. Refuses e text)
+  tree_is (Ok p) g = record { tokens = ts; has = has; read = g }
+  tree_is (Err e) g = refused_by_grammar e g
 
   module _ (tree : TranslationUnit) (read : IsRead ts tree) where
     pub refused_by_check : (e : FrontFault) → HasFault e ts tree → Refuses e text

@@ -1,12 +1,13 @@
 -- What the answers on a C text mean.
-use Rattle.std.specs.Prelude.{◌≡◌, ℕ, List, Some, None}
+use Rattle.std.specs.Prelude.{◌≡◌, ℕ, List, Some, None, Ok}
 use Rattle.c_syntax.specs.declared.refusal.FrontFault.{FrontFault}
 use Rattle.c_syntax.specs.declared.refusal.FrontFault.TheVariants as front
 use Rattle.c_syntax.specs.Tokens.{PlainTokens}
 use Rattle.c_syntax.specs.Programs.{TranslationUnit, PlainRefusal, plain_refusal}
+use Rattle.c_model.specs.CTokens.{tokens_of}
 use Rattle.c_model.specs.Checked.{Fault, Good, refusing}
 use Rattle.c_model.specs.ProgramTyping.{typed_unit, main_fault, noted_unit}
-use Rattle.c_model.specs.Phases.{checked_refusal, main_refusal, RefusedText}
+use Rattle.c_model.specs.Phases.{IsRead, checked_refusal, main_refusal, RefusedText}
 use Rattle.c_expr_parser.specs.Answers.{RefusesWith}
 use Rattle.c_type_rules.specs.declared.fault.TypeFault.{TypeFault}
 use Rattle.c_type_rules.specs.declared.fault.TypeFault.TheVariants.{Refused, Memory}
@@ -18,6 +19,16 @@ use Rattle.c_type_rules.specs.Answers.{plain_fault}
 abbrev pub Refuses : FrontFault → List ℕ → Type 0
 Refuses front.Memory text = Unit {0}
 Refuses (front.Refused r) text = RefusedText text (plain_refusal r)
+
+-- the text's tokens are read as this tree
+pub record HasTree (text : List ℕ) (tree : TranslationUnit) : Type 0 where
+  pub tokens : PlainTokens
+  pub has : tokens_of text ≡ Ok tokens
+  pub read : IsRead tokens tree
+
+-- it holds of the text's tokens, if it has any
+abbrev pub OfTokens : List ℕ → (PlainTokens → Type 0) → Type 0
+OfTokens text P = (ts : PlainTokens) → tokens_of text ≡ Ok ts → P ts
 
 -- what names and types, `main` and the names of annotations make of a tree
 pub record IsTypedAs (tree p : TranslationUnit) : Type 0 where

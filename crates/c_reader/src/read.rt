@@ -1,31 +1,43 @@
 //! From a C text to its typed program.
 
 ghost use Rattle.std.specs.Prelude.{ℕ, List, ◌≡◌, ◌<◌, length, IfOk, IfErr, MatchResult};
-ghost use Rattle.c_syntax.specs.Tokens.{plain_tokens};
 ghost use Rattle.c_syntax.specs.Programs.{TranslationUnit, PlainRefusal, plain_program};
 ghost use Rattle.c_model.specs.Formed.{IsProgram};
 ghost use Rattle.c_model.specs.Laws.{NeverFaults};
 ghost use Rattle.c_model.specs.Phases.{AcceptedText, RefusedText};
-ghost use Rattle.c_reader.specs.Answers.{Refuses, IsTypedAs, HasFault};
+ghost use Rattle.c_reader.specs.Answers.{Refuses, HasTree, IsTypedAs, OfTokens, HasFault};
 
 use crate::refusal::{refuse, refuse_program};
 use c_lexer::tokens;
 use c_parser::read_program;
-use c_syntax::{FrontFault, Program, Tokens};
+use c_syntax::{FrontFault, Program};
 use c_typing::{type_annotations, type_program};
 use std::alloc::Global;
 
-/// The typed program of a tree of the tokens, if its names and types have no fault and it has `main`.
-fn typed(alloc: Global, tokens: &Tokens, tree: Program) -> Result<Program, FrontFault>
-    ensures { MatchResult result (λ p. IsTypedAs (plain_program tree) (plain_program p)) (λ e. HasFault e (plain_tokens tokens.now) (plain_program tree)) }
+/// The tree of a text, or its refusal.
+fn tree_of(alloc: Global, text: &[u8]) -> Result<Program, FrontFault>
+    requires { length text.now < 4294967295 }
+    ensures { MatchResult result (λ p. HasTree text.now (plain_program p)) (λ e. Refuses e text.now) }
+{
+    let mut tokens = match tokens(alloc, text) {
+        Ok(tokens) => tokens,
+        Err(fault) => return Err(fault),
+    };
+    read_program(alloc, &mut tokens)
+}
+
+/// The typed program of a tree of the text, if its names and types have no fault and it has `main`.
+fn typed(alloc: Global, text: &[u8], tree: Program) -> Result<Program, FrontFault>
+    requires { length text.now < 4294967295 }
+    ensures { MatchResult result (λ p. IsTypedAs (plain_program tree) (plain_program p)) (λ e. OfTokens text.now (λ ts. HasFault e ts (plain_program tree))) }
 {
     let typed = match type_program(alloc, tree) {
         Ok(typed) => typed,
-        Err(fault) => return Err(refuse_program(alloc, tokens, fault)),
+        Err(fault) => return Err(refuse_program(alloc, text, fault)),
     };
     match type_annotations(alloc, typed.program) {
         Ok(program) => Ok(program),
-        Err(fault) => Err(refuse(alloc, tokens, fault)),
+        Err(fault) => Err(refuse(alloc, text, fault)),
     }
 }
 
@@ -37,15 +49,11 @@ pub fn read_text(alloc: Global, text: &[u8]) -> Result<Program, FrontFault>
     ensures refused { IfErr result (λ e. Refuses e text.now) }
     ensures program { IfOk result (λ p. IsProgram (plain_program p)) }
 {
-    let tokens = match tokens(alloc, text) {
-        Ok(tokens) => tokens,
-        Err(fault) => return Err(fault),
-    };
-    let tree = match read_program(alloc, &tokens) {
+    let tree = match tree_of(alloc, text) {
         Ok(tree) => tree,
         Err(fault) => return Err(fault),
     };
-    match typed(alloc, &tokens, tree) {
+    match typed(alloc, text, tree) {
         Ok(program) => Ok(program),
         Err(fault) => Err(fault),
     }

@@ -1,15 +1,16 @@
 //! The refusals of a tree.
 
-ghost use Rattle.std.specs.Prelude.{◌≡◌};
+ghost use Rattle.std.specs.Prelude.{◌≡◌, ◌<◌, length};
 ghost use Rattle.c_syntax.specs.Tokens.{plain_tokens};
 ghost use Rattle.c_model.specs.TokenWords.{from_place};
 ghost use Rattle.c_model.specs.Phases.{checked_refusal, main_refusal};
 ghost use Rattle.c_expr_parser.specs.Reading.{plain_list};
 ghost use Rattle.c_expr_parser.specs.Answers.{RefusesWith};
 ghost use Rattle.c_type_rules.specs.Answers.{plain_fault};
-ghost use Rattle.c_reader.specs.Answers.{RefusesFault, RefusesProgram};
+ghost use Rattle.c_reader.specs.Answers.{OfTokens, RefusesFault, RefusesProgram};
 
 use c_expr_parser::refusal::{refused, refused_word};
+use c_lexer::tokens;
 use c_syntax::{FrontFault, Place, Token, Tokens};
 use c_typing::{Fault, ProgramFault, TypeFault};
 use std::alloc::Global;
@@ -37,6 +38,17 @@ fn refused_at(alloc: Global, tokens: &Tokens, fault: Fault) -> FrontFault
     refused(fault.code, fault.place, word)
 }
 
+/// The same, of a text that has tokens. They are read again, since its tree took their names.
+fn refused_in(alloc: Global, text: &[u8], fault: Fault) -> FrontFault
+    requires { length text.now < 4294967295 }
+    ensures { OfTokens text.now (λ ts. RefusesWith (checked_refusal ts (plain_fault fault)) result) }
+{
+    match tokens(alloc, text) {
+        Ok(tokens) => refused_at(alloc, &tokens, fault),
+        Err(fault) => fault,
+    }
+}
+
 /// The refusal of a tree for want of `main`.
 fn refused_main(alloc: Global, fault: Fault) -> FrontFault
     ensures { RefusesWith (main_refusal (plain_fault fault)) result }
@@ -44,22 +56,24 @@ fn refused_main(alloc: Global, fault: Fault) -> FrontFault
     refused(fault.code, fault.place, Vec::from_slice(alloc, b"main"))
 }
 
-/// The refusal of a tree for a fault in its names and types.
-pub fn refuse(alloc: Global, tokens: &Tokens, fault: TypeFault) -> FrontFault
-    ensures { RefusesFault (plain_tokens tokens.now) fault result }
+/// The refusal of a text for a fault in the names and types of its tree.
+pub fn refuse(alloc: Global, text: &[u8], fault: TypeFault) -> FrontFault
+    requires { length text.now < 4294967295 }
+    ensures { OfTokens text.now (λ ts. RefusesFault ts fault result) }
 {
     match fault {
-        TypeFault::Refused(fault) => refused_at(alloc, tokens, fault),
+        TypeFault::Refused(fault) => refused_in(alloc, text, fault),
         TypeFault::Memory => FrontFault::Memory,
     }
 }
 
-/// The refusal of a tree for a fault in its names and types, or for want of `main`.
-pub fn refuse_program(alloc: Global, tokens: &Tokens, fault: ProgramFault) -> FrontFault
-    ensures { RefusesProgram (plain_tokens tokens.now) fault result }
+/// The refusal of a text for a fault in the names and types of its tree, or for want of `main`.
+pub fn refuse_program(alloc: Global, text: &[u8], fault: ProgramFault) -> FrontFault
+    requires { length text.now < 4294967295 }
+    ensures { OfTokens text.now (λ ts. RefusesProgram ts fault result) }
 {
     match fault {
-        ProgramFault::Refused(fault) => refused_at(alloc, tokens, fault),
+        ProgramFault::Refused(fault) => refused_in(alloc, text, fault),
         ProgramFault::NoMain(fault) => refused_main(alloc, fault),
         ProgramFault::Memory => FrontFault::Memory,
     }
