@@ -14,8 +14,8 @@ use Rattle.mon_syntax.specs.Meaning.{Done, Stops, Next, with_value}
 use Rattle.mon_syntax.specs.Meaning.{◌>>=◌ as bind}
 use Rattle.mon_syntax.specs.Meaning as monitored
 use Rattle.mon_syntax.specs.Memories.{BlockValue, integer_of, over_blocks}
-use Rattle.instrument.specs.Limits.{IsNumbered, AreNumbered}
-use Rattle.instrument.specs.Expressions.{assertion, assertions}
+use Rattle.c_effects.specs.Letters.{IsNumbered, AreNumbered}
+use Rattle.c_effects.specs.Expressions.{assertion, assertions}
 use Rattle.instrument.proofs.Variables.{Setting, Related, Beside}
 use Rattle.instrument.proofs.Sight.{AreInSight, Ready, ready_later}
 use Rattle.instrument.proofs.Terms.{clause_says}

@@ -9,7 +9,7 @@ use Rattle.mon_syntax.specs.Meaning.{Done, Stops, Next, Goes, Returns, then_do, 
 use Rattle.mon_syntax.specs.Meaning as monitored
 use Rattle.mon_syntax.specs.Memories.{BlockValue, Whole, over_blocks}
 use Rattle.mon_syntax.specs.Trees.{MonStatements}
-use Rattle.instrument.specs.Expressions.{before}
+use Rattle.c_effects.specs.Expressions.{before}
 use Rattle.track_scopes.specs.Blocks as target
 use Rattle.instrument.specs.Translation.{alive, end_label, next_label}
 use Rattle.track_scopes.specs.Blocks.{deaths, with_born}

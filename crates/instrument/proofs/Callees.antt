@@ -26,8 +26,9 @@ use Rattle.mon_syntax.specs.Memories.{BlockValue, over_blocks}
 use Rattle.mon_syntax.specs.Trees.{MonExpression, MonFunction, MonStatements}
 use Rattle.mon_syntax.specs.Trees as tree
 use Rattle.instrument.specs.Limits.{FunctionsHaveNumbers}
-use Rattle.instrument.specs.Expressions.{one}
-use Rattle.instrument.specs.Translation.{function_of, functions_from, index_of, index_of_main, call}
+use Rattle.c_effects.specs.Expressions.{one}
+use Rattle.instrument.specs.Translation.{function_of, functions_from, index_of_main}
+use Rattle.c_effects.specs.Effects.{index_of, call}
 use Rattle.instrument.specs.Translation as target
 use Rattle.instrument.proofs.Variables.{Setting}
 use Rattle.instrument.proofs.Results.{one_is}

@@ -16,7 +16,7 @@ use Rattle.mon_syntax.specs.Meaning.{Result, Done, Stops, Next, then_do, given_t
 use Rattle.mon_syntax.specs.Memories.{BlockValue, Whole, over_blocks}
 use Rattle.mon_syntax.specs.Trees.{MonExpression}
 use Rattle.mon_syntax.specs.LiveBlocks.{live_in}
-use Rattle.instrument.specs.Translation.{call}
+use Rattle.c_effects.specs.Effects.{call}
 use Rattle.instrument.proofs.Variables.{Slot, Setting, Related, Beside, stacked_base, stacked_more, kept_below, match_below}
 use Rattle.instrument.proofs.Results.{written}
 use Rattle.instrument.proofs.Evaluating.{Target, Did, runs}

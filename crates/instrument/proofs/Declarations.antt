@@ -9,12 +9,12 @@ use Rattle.mon_syntax.specs.declared.tree.Register.{Register}
 use Rattle.mon_syntax.specs.Trees as mon
 use Rattle.mon_syntax.specs.Trees.{MonRegister, plain_register}
 use Rattle.instrument.specs.declared.variable.Variables.{Variables}
-use Rattle.instrument.specs.Expressions.{value_type, before}
+use Rattle.c_effects.specs.Expressions.{value_type, before}
 use Rattle.instrument.specs.Growth.{Grows}
 use Rattle.instrument.specs.Options.{declared_by}
 use Rattle.instrument.specs.Translation.{own_name, pointer_name, pointer_types, pointers_from, register_name, value_types, values_from}
 use Rattle.track_scopes.specs.Blocks.{block_of, birth, births, death, deaths, with_born}
-use Rattle.instrument.proofs.Sequences.{grown}
+use Rattle.c_effects.proofs.Sequences.{grown}
 
 -- ---- births
 

@@ -13,7 +13,7 @@ use Rattle.mon_syntax.specs.Trees.{MonFunction, plain_func as plain_monitored_fu
 use Rattle.instrument.specs.Options.{statement_of}
 use Rattle.instrument.specs.Translation.{body_part, function_of, functions_from}
 use Rattle.track_scopes.specs.Blocks.{with_born}
-use Rattle.instrument.proofs.Sequences.{left_at}
+use Rattle.c_effects.proofs.Sequences.{left_at}
 
 pub body_is : (p : TranslationUnit) (numbers : List ℕ) (params : List Declaration) (rs : List MonType) (a : Option Statement) → statement_of p numbers (record { loops = 0; inside = with_born numbers params []; outside = [] }) rs a ≡ body_part p numbers params rs a
 body_is p numbers params rs None = refl

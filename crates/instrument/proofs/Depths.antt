@@ -12,8 +12,9 @@ use Rattle.c_model.specs.WellTypedPrograms.{WhereAny}
 use Rattle.mon_syntax.specs.Trees.{MonStatements, NoStatement}
 use Rattle.mon_syntax.specs.Trees as tree
 use Rattle.mon_syntax.specs.Valid.{Types, has_no_step, depth_of_all}
-use Rattle.instrument.specs.Expressions.{before, one, setup, temporaries, condition_of, assertions}
-use Rattle.instrument.specs.Translation.{Spot, in_loop, with_variables, any_temporaries, full_setup, full_value, effect_if_any, initialise, initialise_all, initial_temporaries, leave_where_zero, test, test_if_any, loop, returned, end_label, next_label, statement_temporaries, first_temporaries, item_temporaries, statement, else_part, first_part, item, items}
+use Rattle.c_effects.specs.Expressions.{before, one, setup, temporaries, condition_of, assertions}
+use Rattle.instrument.specs.Translation.{Spot, in_loop, with_variables, leave_where_zero, test, test_if_any, loop, returned, end_label, next_label, statement_temporaries, first_temporaries, item_temporaries, statement, else_part, first_part, item, items}
+use Rattle.c_effects.specs.Effects.{any_temporaries, full_setup, full_value, effect_if_any, initialise, initialise_all, initial_temporaries}
 use Rattle.track_scopes.specs.Blocks.{deaths}
 use Rattle.instrument.proofs.ValidSetups.{no_step_before, no_step_setup, deep_before, deep_one, deep_setup, deep_behind}
 use Rattle.instrument.proofs.ValidEffects.{no_step_effect, deep_full, deep_effect, deep_initialise}

@@ -26,11 +26,11 @@ use Rattle.mon_syntax.specs.declared.tree.MonType.TheVariants as kind
 use Rattle.mon_syntax.specs.Meaning.{Next}
 use Rattle.mon_syntax.specs.Memories.{BlockValue, Whole}
 use Rattle.mon_syntax.specs.Trees.{MonExpression, Register, Constant, MonStatements, NoStatement}
-use Rattle.instrument.specs.Limits.{HasLetters, ArgumentsHaveLetters, FullHasLetters, EffectHasLetters}
-use Rattle.instrument.specs.Expressions.{register_type, temporaries, value, before, set, setup}
-use Rattle.instrument.specs.Expressions as spec
-use Rattle.instrument.specs.Translation.{arguments_temporaries, full_temporaries, effect_temporaries, called, full_setup, full_value, effect}
-use Rattle.instrument.specs.Translation as translation
+use Rattle.c_effects.specs.Letters.{HasLetters, ArgumentsHaveLetters, FullHasLetters, EffectHasLetters}
+use Rattle.c_effects.specs.Expressions.{register_type, temporaries, value, before, set, setup}
+use Rattle.c_effects.specs.Expressions as spec
+use Rattle.c_effects.specs.Effects.{arguments_temporaries, full_temporaries, effect_temporaries, called, full_setup, full_value, effect}
+use Rattle.c_effects.specs.Effects as translation
 use Rattle.instrument.proofs.Variables.{Slot, Setting, count, value_at, slot_of, Related, Beside, IsSet, Same, same_all, related_same, value_below, match_at, decl_at, object_is, read_is, write_is, state_with, related_set, kept_set, beside_set, store_with, load_cell, get-set_same, stacked_at}
 use Rattle.instrument.proofs.Values.{Has, compound_is}
 use Rattle.instrument.proofs.Results.{writes_none}
@@ -40,7 +40,7 @@ use Rattle.instrument.proofs.Sight.{Ready, IsDenoted, denoted}
 use Rattle.instrument.proofs.Sight as sight
 use Rattle.instrument.proofs.Expressions.{longer, evaluates}
 use Rattle.instrument.proofs.Purity.{Quiet, Gives, IsUndefined, pure_is_quiet}
-use Rattle.instrument.proofs.Sequences.{before_assoc, before_none}
+use Rattle.c_effects.proofs.Sequences.{before_assoc, before_none}
 use Rattle.instrument.proofs.Following.{Here, Later, later_trans, Follows, GoesOn, stays, follows_value, undefined_here, onward}
 use Rattle.instrument.proofs.FullExpressions.{handed_on, Scene, follows_called, follows_full}
 

@@ -15,7 +15,7 @@ use Rattle.mon_syntax.specs.Meaning as monitored
 use Rattle.mon_syntax.specs.Memories.{Blocks, BlockValue, Whole, integer_of, over_blocks}
 use Rattle.mon_syntax.specs.Trees.{MonExpression, Register, MonStatement, Set, MonStatements}
 use Rattle.mon_syntax.specs.Trees as tree
-use Rattle.instrument.specs.Expressions.{before, one, set}
+use Rattle.c_effects.specs.Expressions.{before, one, set}
 use Rattle.instrument.proofs.Results.{one_is, before_is, writes_none}
 use Rattle.instrument.proofs.Variables.{Setting, Same, same_all, same_trans, same_set, get-set_same}
 use Rattle.instrument.proofs.Values.{Has}

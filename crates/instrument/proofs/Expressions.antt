@@ -26,9 +26,9 @@ use Rattle.mon_syntax.specs.declared.tree.MonType.TheVariants as kind
 use Rattle.mon_syntax.specs.Trees.{MonExpression, Register, Constant, MonStatements, NoStatement}
 use Rattle.mon_syntax.specs.Meaning.{eval}
 use Rattle.mon_syntax.specs.Memories.{BlockValue, over_blocks}
-use Rattle.instrument.specs.Limits.{IsLetter, HasLetters}
-use Rattle.instrument.specs.Expressions.{register_type, value_type, before, set, setup, value, temporaries, condition, truth_of, condition_of, unary, binary, in_type}
-use Rattle.instrument.specs.Expressions as spec
+use Rattle.c_effects.specs.Letters.{IsLetter, HasLetters}
+use Rattle.c_effects.specs.Expressions.{register_type, value_type, before, set, setup, value, temporaries, condition, truth_of, condition_of, unary, binary, in_type}
+use Rattle.c_effects.specs.Expressions as spec
 use Rattle.instrument.proofs.Integers.{truth_fits}
 use Rattle.instrument.proofs.Variables.{Slot, Setting, count, value_at, decl_at, Related, Same, same_all, related_same, value_below, match_at, object_is, read_is}
 use Rattle.instrument.proofs.Sight.{AreInSight, Ready, denoted, has_value}

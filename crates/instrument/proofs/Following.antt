@@ -15,7 +15,7 @@ use Rattle.c_model.proofs.Agreement.{extends_trans}
 use Rattle.mon_syntax.specs.Meaning.{Done, Stops, Flow, Next, Goes, Returns, writes, then_do, at_next, choose}
 use Rattle.mon_syntax.specs.Memories.{BlockValue, Whole}
 use Rattle.mon_syntax.specs.Trees.{MonExpression, MonStatements}
-use Rattle.instrument.specs.Expressions.{before}
+use Rattle.c_effects.specs.Expressions.{before}
 use Rattle.instrument.specs.Translation.{end_label, next_label}
 use Rattle.instrument.proofs.Variables.{Slot, Setting, Related, Beside, AllKept, Same, same_all, kept_refl, kept_trans}
 use Rattle.instrument.proofs.Values.{Has}

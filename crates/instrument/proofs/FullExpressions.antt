@@ -23,9 +23,9 @@ use Rattle.mon_syntax.specs.Meaning.{◌>>=◌ as bind}
 use Rattle.mon_syntax.specs.Meaning as monitored
 use Rattle.mon_syntax.specs.Memories.{BlockValue, Whole, over_blocks}
 use Rattle.mon_syntax.specs.Trees.{MonExpression, Register, MonStatements}
-use Rattle.instrument.specs.Limits.{HasLetters, ArgumentsHaveLetters, FullHasLetters}
-use Rattle.instrument.specs.Expressions.{register_type, value_type, in_type, temporaries, value, before, setup}
-use Rattle.instrument.specs.Translation.{arguments_temporaries, full_temporaries, arguments_setup, arguments, full_value, call, called, full_setup}
+use Rattle.c_effects.specs.Letters.{HasLetters, ArgumentsHaveLetters, FullHasLetters}
+use Rattle.c_effects.specs.Expressions.{register_type, value_type, in_type, temporaries, value, before, setup}
+use Rattle.c_effects.specs.Effects.{arguments_temporaries, full_temporaries, arguments_setup, arguments, full_value, call, called, full_setup}
 use Rattle.instrument.proofs.Variables.{Slot, Setting, count, Related, Beside, Same, same_all, same_trans, same_set, related_same, get-set_same}
 use Rattle.instrument.proofs.Values.{Has, in_type_converts}
 use Rattle.instrument.proofs.Results.{written, writes_none, written_then, before_is}

@@ -21,7 +21,7 @@ use Rattle.mon_syntax.specs.Arithmetic.{wrap, operate, lowest_bits, minus, flipp
 use Rattle.mon_syntax.specs.Arithmetic as register
 use Rattle.mon_syntax.specs.Checking.{same_type}
 use Rattle.mon_syntax.proofs.Wrapping.{wrap-fitting}
-use Rattle.instrument.specs.Expressions.{register_type, operand_type, operator_of}
+use Rattle.c_effects.specs.Expressions.{register_type, operand_type, operator_of}
 
 -- ---- conversions are wraps
 

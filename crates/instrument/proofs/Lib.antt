@@ -15,14 +15,9 @@ pub mod Calls
 pub mod Parameters
 pub mod Functions
 pub mod FullExpressions
-pub mod Sequences
-pub mod Sizes
-pub mod Trees
-pub mod Chains
 pub mod Declarations
 pub mod StatementTrees
 pub mod Definitions
-pub mod Indices
 pub mod Effects
 pub mod Terms
 pub mod Asserts

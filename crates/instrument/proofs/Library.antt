@@ -18,9 +18,9 @@ use Rattle.mon_syntax.specs.Meaning.{Result, Done, Stops, Next, then_do, given_t
 use Rattle.mon_syntax.specs.Meaning.{◌>>=◌ as bind}
 use Rattle.mon_syntax.specs.Memories.{BlockValue, Whole, integer_of, over_blocks}
 use Rattle.mon_syntax.specs.Trees.{MonExpression, PutChar, GetChar, Exit, Call, MonStatements, NoStatement}
-use Rattle.instrument.specs.Expressions.{one}
+use Rattle.c_effects.specs.Expressions.{one}
 use Rattle.instrument.specs.Translation as target
-use Rattle.instrument.specs.Translation.{index_of, call}
+use Rattle.c_effects.specs.Effects.{index_of, call}
 use Rattle.instrument.proofs.Variables.{Setting}
 use Rattle.instrument.proofs.Values.{Has}
 use Rattle.instrument.proofs.Results.{one_is}

@@ -20,8 +20,8 @@ use Rattle.mon_syntax.specs.Meaning.{Result, Done, Stops, Flow, Next, Goes, Retu
 use Rattle.mon_syntax.specs.Meaning as monitored
 use Rattle.mon_syntax.specs.Memories.{BlockValue, Whole, over_blocks}
 use Rattle.mon_syntax.specs.Trees.{Goto, Labelled, Loop, MonStatements, NoStatement, Then}
-use Rattle.instrument.specs.Limits.{HasLetters}
-use Rattle.instrument.specs.Expressions.{value, temporaries, setup, condition_of, one}
+use Rattle.c_effects.specs.Letters.{HasLetters}
+use Rattle.c_effects.specs.Expressions.{value, temporaries, setup, condition_of, one}
 use Rattle.instrument.specs.Translation.{end_label, next_label, leave_where_zero, test, loop}
 use Rattle.instrument.proofs.Variables.{Slot, Setting, count, Related, Beside, same_all, related_same, kept_refl}
 use Rattle.instrument.proofs.Results.{written, writes_none, written_then, one_is, rest_first}

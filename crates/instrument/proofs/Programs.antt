@@ -12,7 +12,8 @@ use Rattle.c_model.specs.ProgramTyping.{definition_of, first_of, signature, type
 use Rattle.c_model.specs.WellTypedPrograms.{FunctionTyped, FunctionsTyped}
 use Rattle.c_model.specs.Formed.{Ascend, IsProgram, numbers_of, numbers_of_all, FunctionFormed, FunctionsFormed, FunctionNamed, FunctionsNamed, most_typed}
 use Rattle.instrument.specs.Limits.{FunctionHasNumbers, FunctionsHaveNumbers}
-use Rattle.instrument.specs.Translation.{function_of, functions_from, index_of, index_of_main}
+use Rattle.instrument.specs.Translation.{function_of, functions_from, index_of_main}
+use Rattle.c_effects.specs.Effects.{index_of}
 
 -- ---- types
 

@@ -6,7 +6,7 @@ use Rattle.mon_syntax.specs.Meaning.{Result, Done, Stops, Flow, Next, Goes, Retu
 use Rattle.mon_syntax.specs.Meaning as monitored
 use Rattle.mon_syntax.specs.Memories.{over_blocks}
 use Rattle.mon_syntax.specs.Trees.{MonStatement, MonStatements, NoStatement, Then}
-use Rattle.instrument.specs.Expressions.{before, one}
+use Rattle.c_effects.specs.Expressions.{before, one}
 
 -- the bytes that a part wrote
 abbrev pub written : {S A : Type 0} → Result S A → List ℕ

@@ -24,7 +24,7 @@ use Rattle.instrument.specs.Translation.{alive, function_of, functions_from, fun
 use Rattle.instrument.proofs.Variables.{Slot, Setting, Related, Beside}
 use Rattle.instrument.proofs.Results.{written, writes_none, written_then}
 use Rattle.instrument.proofs.Evaluating.{Target, Did, runs}
-use Rattle.instrument.proofs.Sequences.{before_none}
+use Rattle.c_effects.proofs.Sequences.{before_none}
 use Rattle.instrument.proofs.Following.{Follows, GoesOn, Breaks, Continues, IsLeft, IsOver, IsUndefined}
 use Rattle.instrument.proofs.Births.{slots_born}
 use Rattle.instrument.proofs.Parameters.{AllSet}

@@ -1,7 +1,7 @@
 -- The translation of a statement at a known variant.
 use Rattle.std.proofs.Common.{◌≡◌, ℕ, ◌+◌, List, [], map, Option, Some, None, option_map, ◌++◌, refl, ap, sym, ◌∙◌, append_assoc}
 use Rattle.std.proofs.lemmas.List.{append-nil}
-use Rattle.std.specs.Prelude.{Vec, Result, Ok, Err, OnOk}
+use Rattle.std.specs.Prelude.{Vec}
 use Rattle.std.specs.declared.alloc.Global.{Global}
 use Rattle.c_syntax.specs.declared.place.Place.{Place}
 use Rattle.c_syntax.specs.declared.annotation.Annot.{Annot}
@@ -16,19 +16,15 @@ use Rattle.c_syntax.specs.Statements.{Declaration, Statement, Block, If, Do, For
 use Rattle.c_syntax.proofs.Rows.{block_is}
 use Rattle.c_model.specs.Meaning.{declared_in, declared_first}
 use Rattle.mon_syntax.specs.declared.tree.MonType.{MonType}
-use Rattle.mon_syntax.specs.Trees.{MonExpression, MonStatement, MonStatements, NoStatement, Labelled, Loop, Then}
+use Rattle.mon_syntax.specs.Trees.{MonExpression, MonStatement, MonStatements, NoStatement, Labelled, Loop}
 use Rattle.mon_syntax.specs.Trees as tree
 use Rattle.instrument.specs.Options.{items_of_first, plain_else_part, plain_first_part, turns, with_blocks}
-use Rattle.instrument.specs.Expressions.{before, one, setup, temporaries, condition_of}
-use Rattle.instrument.specs.Translation.{Spot, alive, any_temporaries, effect_if_any, else_part, end_label, first_part, first_temporaries, in_loop, next_label, statement, statement_temporaries, test, test_if_any, with_variables}
+use Rattle.c_effects.specs.Expressions.{before, one, setup, temporaries, condition_of}
+use Rattle.instrument.specs.Translation.{Spot, alive, else_part, end_label, first_part, first_temporaries, in_loop, next_label, statement, statement_temporaries, test, test_if_any, with_variables}
+use Rattle.c_effects.specs.Effects.{any_temporaries, effect_if_any}
 use Rattle.track_scopes.specs.Blocks.{births, deaths, with_born}
 use Rattle.instrument.proofs.Declarations.{born_front}
-use Rattle.instrument.proofs.Sequences.{before_assoc}
-
--- what follows from a result
-pub on_ok_then : {A E P Q : Type 0} (r : Result A E) → (P → Q) → OnOk r P → OnOk r Q
-on_ok_then (Ok a) f p = f p
-on_ok_then (Err e) f p = tt
+use Rattle.c_effects.proofs.Sequences.{before_assoc}
 
 -- ---- the parts of statements
 

@@ -23,9 +23,11 @@ use Rattle.mon_syntax.specs.Meaning as monitored
 use Rattle.mon_syntax.specs.Memories.{BlockValue, Whole, over_blocks}
 use Rattle.mon_syntax.specs.Trees.{MonStatements, NoStatement}
 use Rattle.mon_syntax.specs.Trees as tree
-use Rattle.instrument.specs.Limits.{Any, HasLetters, FullHasLetters, EffectHasLetters, InitialHasLetters, InitialsHaveLetters, HasNumbers, ElseHasNumbers, FirstHasNumbers, HaveNumbers}
-use Rattle.instrument.specs.Expressions.{value, temporaries, setup, condition_of, before, one}
-use Rattle.instrument.specs.Translation.{Spot, full_temporaries, full_setup, full_value, effect_temporaries, any_temporaries, initial_temporaries, declaration_temporaries, statement_temporaries, else_temporaries, first_temporaries, item_temporaries, items_temporaries, with_variables, test, test_if_any, loop, effect_if_any, statement, else_part, first_part, item, items, end_label, next_label}
+use Rattle.c_effects.specs.Letters.{Any, HasLetters, FullHasLetters, EffectHasLetters, InitialHasLetters, InitialsHaveLetters}
+use Rattle.instrument.specs.Limits.{HasNumbers, ElseHasNumbers, FirstHasNumbers, HaveNumbers}
+use Rattle.c_effects.specs.Expressions.{value, temporaries, setup, condition_of, before, one}
+use Rattle.instrument.specs.Translation.{Spot, statement_temporaries, else_temporaries, first_temporaries, item_temporaries, items_temporaries, with_variables, test, test_if_any, loop, statement, else_part, first_part, item, items, end_label, next_label}
+use Rattle.c_effects.specs.Effects.{full_temporaries, full_setup, full_value, effect_temporaries, any_temporaries, initial_temporaries, declaration_temporaries, effect_if_any}
 use Rattle.track_scopes.specs.Blocks.{deaths, with_born}
 use Rattle.instrument.specs.Translation as target
 use Rattle.instrument.proofs.Variables.{Slot, Setting, count, Related, Beside, IsSet, AllMatch, kept_refl, related_same}
@@ -34,7 +36,7 @@ use Rattle.instrument.proofs.Evaluating.{Target, runs, if_runs}
 use Rattle.instrument.proofs.ExpressionTypes.{HasInt, scalar_int, integer_int}
 use Rattle.instrument.proofs.Sight.{AreInSight, ready_later, Meets, meets_later}
 use Rattle.instrument.proofs.Expressions.{longer, evaluates, test_is}
-use Rattle.instrument.proofs.Sequences.{before_assoc}
+use Rattle.c_effects.proofs.Sequences.{before_assoc}
 use Rattle.instrument.proofs.Following.{Here, Later, later_same, IsResult, Follows, Breaks, Continues, IsLeft, stays, follows_value, follows_choice, follows_then}
 use Rattle.instrument.proofs.Births.{slots_born, decls_of, registers_of, AllCanBeBorn, Dead, deaths_run}
 use Rattle.instrument.proofs.Blocks.{behind_births, block_follows, with_born-slots}

@@ -28,8 +28,8 @@ use Rattle.mon_syntax.specs.Meaning.{number_or_none}
 use Rattle.mon_syntax.specs.Meaning.{◌>>=◌ as bind}
 use Rattle.mon_syntax.specs.Memories.{BlockValue, Whole, integer_of, over_blocks}
 use Rattle.mon_syntax.proofs.Wrapping.{wrap-fitting}
-use Rattle.instrument.specs.Limits.{IsLetter, TermHasLetters, BodyHasLetters}
-use Rattle.instrument.specs.Expressions.{term, relation_operator, operator_of, truth_of_body}
+use Rattle.c_effects.specs.Letters.{IsLetter, TermHasLetters, BodyHasLetters}
+use Rattle.c_effects.specs.Expressions.{term, relation_operator, operator_of, truth_of_body}
 use Rattle.instrument.proofs.Variables.{Slot, Setting, find-slot, Related}
 use Rattle.instrument.proofs.Sight.{AreInSight, Ready, denoted, has_value}
 use Rattle.instrument.proofs.Values.{Has, operation}

@@ -31,8 +31,8 @@ use Rattle.mon_syntax.specs.Trees as tree
 use Rattle.mon_syntax.specs.Trees.{MonExpression}
 use Rattle.mon_syntax.specs.Checking.{same_type}
 use Rattle.mon_syntax.specs.Valid.{Types, HasType, has_constant, is_arithmetic, is_whole, is_relation, result_type, open_parens, IsExpression, IsStatement, Labels, Signature}
-use Rattle.instrument.specs.Limits.{IsLetter, HasLetters, TermHasLetters, BodyHasLetters, IsNumbered}
-use Rattle.instrument.specs.Expressions.{register_type, value_type, operand_type, operator_of, in_type, compared, condition, truth, unary, binary, compound_in, temporaries, value, truth_of, condition_of, term, relation_operator, truth_of_body, assertion}
+use Rattle.c_effects.specs.Letters.{IsLetter, HasLetters, TermHasLetters, BodyHasLetters, IsNumbered}
+use Rattle.c_effects.specs.Expressions.{register_type, value_type, operand_type, operator_of, in_type, compared, condition, truth, unary, binary, compound_in, temporaries, value, truth_of, condition_of, term, relation_operator, truth_of_body, assertion}
 use Rattle.track_scopes.specs.Blocks.{register_of}
 use Rattle.instrument.proofs.Integers.{operand_is}
 use Rattle.instrument.proofs.Values.{result_type_is}

@@ -13,7 +13,7 @@ use Rattle.mon_syntax.specs.declared.tree.MonType.TheVariants.{U64, Ptr}
 use Rattle.mon_syntax.specs.Trees.{MonStatements, NoStatement}
 use Rattle.mon_syntax.specs.Trees as tree
 use Rattle.mon_syntax.specs.Valid.{Types, Labels, Signature, IsExpression, AreStatements, has_no_step, depth_of_all}
-use Rattle.instrument.specs.Expressions.{value_type, before}
+use Rattle.c_effects.specs.Expressions.{value_type, before}
 use Rattle.track_scopes.specs.Blocks.{register_of, block_of, births, deaths, with_born}
 use Rattle.instrument.specs.Translation.{alive, value_types, pointer_types}
 use Rattle.instrument.proofs.Births.{int_of}

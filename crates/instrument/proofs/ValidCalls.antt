@@ -21,8 +21,9 @@ use Rattle.mon_syntax.specs.Trees as tree
 use Rattle.mon_syntax.specs.Valid.{Types, Labels, Signature, TakesValue, AreArguments, IsExpression, IsCall, AreStatements, signature_of, types_of}
 use Rattle.mon_syntax.specs.declared.tree.MonType.{MonType}
 use Rattle.instrument.specs.Limits.{FunctionsHaveNumbers}
-use Rattle.instrument.specs.Expressions.{register_type, value_type, one}
-use Rattle.instrument.specs.Translation.{function_name, index_of, first_of, library_call, call, result_of, value_types, values_from, function_of}
+use Rattle.c_effects.specs.Expressions.{register_type, value_type, one}
+use Rattle.instrument.specs.Translation.{function_name, result_of, value_types, values_from, function_of}
+use Rattle.c_effects.specs.Effects.{index_of, first_of, library_call, call}
 use Rattle.instrument.proofs.Functions.{parameter_ints}
 use Rattle.instrument.proofs.Numbers.{AreObjects, parameter_objects}
 use Rattle.instrument.proofs.Programs.{picked, index_by, IsPicked, has_number, definition_is, index_is, has_bytes, main_index_is}

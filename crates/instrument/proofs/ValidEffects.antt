@@ -21,10 +21,11 @@ use Rattle.mon_syntax.specs.declared.tree.MonType.TheVariants.{I32}
 use Rattle.mon_syntax.specs.Trees.{MonExpression, MonStatement, MonStatements, NoStatement}
 use Rattle.mon_syntax.specs.Trees as tree
 use Rattle.mon_syntax.specs.Valid.{Types, Labels, Signature, HasType, TakesValue, AreArguments, IsExpression, AreStatements, has_no_step, depth, depth_of_all, open_parens, most_open_parens}
-use Rattle.instrument.specs.Limits.{ArgumentsHaveLetters, FullHasLetters, EffectHasLetters, InitialHasLetters}
-use Rattle.instrument.specs.Expressions.{register_type, value_type, in_type, compound, before, one, set, setup, value, temporaries}
+use Rattle.c_effects.specs.Letters.{ArgumentsHaveLetters, FullHasLetters, EffectHasLetters, InitialHasLetters}
+use Rattle.c_effects.specs.Expressions.{register_type, value_type, in_type, compound, before, one, set, setup, value, temporaries}
 use Rattle.track_scopes.specs.Blocks.{register_of}
-use Rattle.instrument.specs.Translation.{arguments_temporaries, full_temporaries, effect_temporaries, initial_temporaries, arguments_setup, arguments, full_value, first_of, library_call, call, target, index_of, called, full_setup, effect, initialise, result_of}
+use Rattle.c_effects.specs.Effects.{arguments_temporaries, full_temporaries, effect_temporaries, initial_temporaries, arguments_setup, arguments, full_value, first_of, library_call, call, target, index_of, called, full_setup, effect, initialise}
+use Rattle.instrument.specs.Translation.{result_of}
 use Rattle.instrument.proofs.ExpressionTypes.{integer_int, cast_int}
 use Rattle.instrument.proofs.Typed.{Begins, begins_left, begins_right, register_at, AreSeen, value_whole, in_typed, parens_in_type, parens_compound, seen, expression_valid, compound_typed, compound_valid}
 use Rattle.instrument.proofs.ValidSetups.{no_step_before, no_step_setup, deep_before, deep_one, deep_set, deep_setup, deep_behind, before_valid, set_valid, setup_valid}

@@ -9,7 +9,7 @@ use Rattle.c_model.specs.Formed.{IsName, AreNamed, AreNamedParameters, FunctionN
 use Rattle.mon_syntax.specs.declared.tree.MonType.TheVariants.{Ptr}
 use Rattle.mon_syntax.specs.Trees.{MonRegister}
 use Rattle.mon_syntax.specs.Valid.{Types, AreRegisters, has_label, types_of}
-use Rattle.instrument.specs.Expressions.{value_type}
+use Rattle.c_effects.specs.Expressions.{value_type}
 use Rattle.instrument.specs.Translation.{register_name, pointer_name, temporary_name, own_name, value_types, pointer_types, variables_of, variable_types, body_temporaries, values_from, pointers_from, temporaries_from, registers_of}
 use Rattle.instrument.proofs.Names.{IsNumber, AllParts, register_is_free, registers_differ, pointer_is_free, pointers_differ, temporary_is_free, temporaries_differ, pointer_no_value, temporary_no_value, temporary_no_pointer}
 use Rattle.instrument.proofs.Bodies.{types_long}

@@ -12,8 +12,8 @@ use Rattle.mon_syntax.specs.declared.tree.MonType.TheVariants.{I32}
 use Rattle.mon_syntax.specs.Trees.{MonExpression, MonStatement, MonStatements, NoStatement, Then}
 use Rattle.mon_syntax.specs.Trees as tree
 use Rattle.mon_syntax.specs.Valid.{Types, Labels, Signature, IsExpression, AreStatements, has_no_step, depth, depth_of_all, is_step}
-use Rattle.instrument.specs.Limits.{HasLetters}
-use Rattle.instrument.specs.Expressions.{register_type, value_type, before, one, set, setup, value, temporaries, truth_of, condition_of}
+use Rattle.c_effects.specs.Letters.{HasLetters}
+use Rattle.c_effects.specs.Expressions.{register_type, value_type, before, one, set, setup, value, temporaries, truth_of, condition_of}
 use Rattle.instrument.proofs.ExpressionTypes.{scalar_int, cast_int, unary_at, binary_at}
 use Rattle.instrument.proofs.Typed.{Begins, begins_left, begins_right, begins_front, register_at, AreSeen, both_begin, choice_begins, some_nodes, expression_valid, condition_valid, truth_valid}
 

@@ -17,9 +17,11 @@ use Rattle.c_model.specs.WellTypedPrograms.{IsCondition, WhereAny, AreDeclared, 
 use Rattle.mon_syntax.specs.Trees.{MonExpression, MonStatement, MonStatements, NoStatement}
 use Rattle.mon_syntax.specs.Trees as tree
 use Rattle.mon_syntax.specs.Valid.{Types, Labels, Signature, IsExpression, AreStatements, ReturnsResult, has_label, has_no_step}
-use Rattle.instrument.specs.Limits.{Any, HasLetters, FullHasLetters, EffectHasLetters, InitialsHaveLetters, AreNumbered, HasNumbers, ElseHasNumbers, FirstHasNumbers, HaveNumbers}
-use Rattle.instrument.specs.Expressions.{register_type, value_type, before, one, setup, temporaries, condition_of, assertions}
-use Rattle.instrument.specs.Translation.{Spot, any_temporaries, full_temporaries, effect_temporaries, initial_temporaries, declaration_temporaries, full_setup, full_value, effect, effect_if_any, initialise, initialise_all, leave_where_zero, test, test_if_any, returned, loop, end_label, next_label, with_variables, statement_temporaries, else_temporaries, first_temporaries, item_temporaries, items_temporaries, statement, else_part, first_part, item, items, result_of}
+use Rattle.c_effects.specs.Letters.{Any, HasLetters, FullHasLetters, EffectHasLetters, InitialsHaveLetters, AreNumbered}
+use Rattle.instrument.specs.Limits.{HasNumbers, ElseHasNumbers, FirstHasNumbers, HaveNumbers}
+use Rattle.c_effects.specs.Expressions.{register_type, value_type, before, one, setup, temporaries, condition_of, assertions}
+use Rattle.instrument.specs.Translation.{Spot, leave_where_zero, test, test_if_any, returned, loop, end_label, next_label, with_variables, statement_temporaries, else_temporaries, first_temporaries, item_temporaries, items_temporaries, statement, else_part, first_part, item, items, result_of}
+use Rattle.c_effects.specs.Effects.{any_temporaries, full_temporaries, effect_temporaries, initial_temporaries, declaration_temporaries, full_setup, full_value, effect, effect_if_any, initialise, initialise_all}
 use Rattle.track_scopes.specs.Blocks.{deaths}
 use Rattle.instrument.specs.Translation as target
 use Rattle.instrument.proofs.Names.{IsNumber, end_is_free, next_is_free, ends_differ, nexts_differ, same_bytes}

@@ -23,8 +23,8 @@ use Rattle.mon_syntax.specs.Meaning.{◌>>=◌ as bind}
 use Rattle.mon_syntax.specs.Memories.{BlockValue, Whole, integer_of, over_blocks}
 use Rattle.mon_syntax.specs.Checking.{same_type}
 use Rattle.mon_syntax.specs.Valid.{result_type}
-use Rattle.instrument.specs.Expressions.{register_type, operand_type, operator_of, in_type, compared, condition, unary, binary, compound_in}
-use Rattle.instrument.specs.Expressions as target
+use Rattle.c_effects.specs.Expressions.{register_type, operand_type, operator_of, in_type, compared, condition, unary, binary, compound_in}
+use Rattle.c_effects.specs.Expressions as target
 use Rattle.instrument.proofs.Integers.{convert_is, wrap_is, promoted_fits, operand_is, same_kind, count_fits, operated, negated, flips}
 
 -- the expression has this number over the registers

@@ -28,7 +28,7 @@ use Rattle.mon_syntax.specs.declared.tree.MonType.TheVariants.{U8, I32, U64, Ptr
 use Rattle.mon_syntax.specs.declared.tree.MemoryCall.TheVariants.{StoreBlock, DeleteBlock}
 use Rattle.mon_syntax.specs.Trees.{Register, Constant, Binary, Cast, Set, PutChar, GetChar, Exit, Act, Call, If, Loop, Labelled, Goto, Return, MonExpression, MonStatement, MonStatements, NoStatement, Then, MonRegister, MonFunction}
 use Rattle.mon_syntax.specs.Memories.{block_run}
-use Rattle.instrument.specs.Expressions.{one, setup, value}
+use Rattle.c_effects.specs.Expressions.{one, setup, value}
 use Rattle.instrument.specs.Translation.{function_of, translated}
 
 -- ---- trees

@@ -1,86 +1,11 @@
 -- What the numbers of a tree's types bound, in the parts that are translated: the number and the line of an annotation are of 32
 -- bits, a letter is a value of `char`, and registers can be numbered.
-use Rattle.std.specs.Prelude.{◌≡◌, true, ◌<◌, ◌≤◌, ◌^◌, ◌++◌, length, ℤ, pos, negsuc, ◌≤ℤ◌, List, [], ◌∷◌, Option, Some, None}
-use Rattle.c_syntax.specs.declared.place.Place.{Place}
-use Rattle.c_syntax.specs.Expressions as source
-use Rattle.c_syntax.specs.Expressions.{Expression, Node, Expressions, NoExpression, Following}
-use Rattle.c_syntax.specs.Annotations as logic
-use Rattle.c_syntax.specs.Annotations.{LogicTerm, Predicate, Chain, Links, NoLink, Linked, ClauseBody, Truth, Annotation}
-use Rattle.c_syntax.specs.Statements.{Initialiser, One, Declaration, Statement, Eval, Block, If, While, Do, For, Return, ElsePart, NoElse, Else, ForFirst, NoFirst, First, BlockItem, Declare, Run, Asserts, BlockItems, NoItem, Then}
+use Rattle.std.specs.Prelude.{◌≡◌, true, ◌<◌, ◌^◌, ◌++◌, length, List, [], ◌∷◌, Option, Some, None}
+use Rattle.c_syntax.specs.Statements.{Statement, Eval, Block, If, While, Do, For, Return, ElsePart, NoElse, Else, ForFirst, NoFirst, First, BlockItem, Declare, Run, Asserts, BlockItems, NoItem, Then}
 use Rattle.c_syntax.specs.Programs.{Function}
 use Rattle.c_model.specs.Meaning.{is_definition}
+use Rattle.c_effects.specs.Letters.{Any, HasLetters, FullHasLetters, EffectHasLetters, InitialsHaveLetters, AreNumbered}
 use Rattle.instrument.specs.Translation.{variable_types, body_temporaries}
-
--- a value of `char`
-pub record IsLetter (z : ℤ) : Type 0 where
-  pub low : negsuc 127 ≤ℤ z
-  pub high : z ≤ℤ pos 127
-
--- ---- expressions
-
-abbrev pub HasLetters : Expression → Type 0
-HasLetters (Node at t (source.Letter n)) = IsLetter n
-HasLetters (Node at t (source.Unary op a)) = HasLetters a
-HasLetters (Node at t (source.Binary op a b)) = HasLetters a × HasLetters b
-HasLetters (Node at t (source.Both a b)) = HasLetters a × HasLetters b
-HasLetters (Node at t (source.Either a b)) = HasLetters a × HasLetters b
-HasLetters (Node at t (source.Choice a b c)) = HasLetters a × HasLetters b × HasLetters c
-HasLetters (Node at t (source.Cast to a)) = HasLetters a
-HasLetters _ = Unit {0}
-
-abbrev pub ArgumentsHaveLetters : Expressions → Type 0
-ArgumentsHaveLetters NoExpression = Unit {0}
-ArgumentsHaveLetters (Following e rest) = HasLetters e × ArgumentsHaveLetters rest
-
-abbrev pub FullHasLetters : Expression → Type 0
-FullHasLetters (Node at t (source.Call f es)) = ArgumentsHaveLetters es
-FullHasLetters (Node at t (source.Cast to (Node at2 u (source.Call f es)))) = ArgumentsHaveLetters es
-FullHasLetters e = HasLetters e
-
-abbrev pub EffectHasLetters : Expression → Type 0
-EffectHasLetters (Node at t (source.Assign None a b)) = FullHasLetters b
-EffectHasLetters (Node at t (source.Assign (Some op) a b)) = HasLetters b
-EffectHasLetters (Node at t (source.Call f es)) = ArgumentsHaveLetters es
-EffectHasLetters _ = Unit {0}
-
-abbrev pub Any : {A : Type 0} → (A → Type 0) → Option A → Type 0
-Any P None = Unit {0}
-Any P (Some x) = P x
-
-abbrev pub InitialHasLetters : Option (Place × Initialiser) → Type 0
-InitialHasLetters None = Unit {0}
-InitialHasLetters (Some (at, One e)) = FullHasLetters e
-
-abbrev pub InitialsHaveLetters : List Declaration → Type 0
-InitialsHaveLetters [] = Unit {0}
-InitialsHaveLetters (d ∷ ds) = InitialHasLetters d.init × InitialsHaveLetters ds
-
--- ---- annotations
-
-abbrev pub TermHasLetters : LogicTerm → Type 0
-TermHasLetters (logic.Number at t r n) = Unit {0}
-TermHasLetters (logic.Letter at t r n) = IsLetter n
-TermHasLetters (logic.Variable at t r x) = Unit {0}
-TermHasLetters (logic.Binary at t r op a b) = TermHasLetters a × TermHasLetters b
-
-abbrev pub LinksHaveLetters : Links → Type 0
-LinksHaveLetters NoLink = Unit {0}
-LinksHaveLetters (Linked at r t rest) = TermHasLetters t × LinksHaveLetters rest
-
-abbrev pub PredicateHasLetters : Predicate → Type 0
-PredicateHasLetters (Chain at t links) = TermHasLetters t × LinksHaveLetters links
-
-abbrev pub BodyHasLetters : ClauseBody → Type 0
-BodyHasLetters (Truth p) = PredicateHasLetters p
-
-pub record IsNumbered (a : Annotation) : Type 0 where
-  pub number : a.number ≤ 4294967295
-  pub line : a.place.line ≤ 4294967295
-  pub letters : BodyHasLetters a.body
-
-abbrev pub AreNumbered : List Annotation → Type 0
-AreNumbered [] = Unit {0}
-AreNumbered (a ∷ rest) = IsNumbered a × AreNumbered rest
 
 -- ---- statements
 

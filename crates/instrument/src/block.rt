@@ -5,10 +5,10 @@ ghost use Rattle.c_syntax.specs.Statements.{plain_decl, plain_item, plain_items}
 ghost use Rattle.c_model.specs.Meaning.{declared_in};
 ghost use Rattle.mon_syntax.specs.Trees.{plain_stmts};
 ghost use Rattle.track_scopes.specs.Blocks.{births, deaths, with_born};
-ghost use Rattle.instrument.specs.Expressions.{before};
+ghost use Rattle.c_effects.specs.Expressions.{before};
 ghost use Rattle.instrument.specs.Options.{declared_by, items_of_first, plain_first_part};
 
-use crate::part::then_all;
+use c_effects::part::then_all;
 use c_syntax::{Decl, Item};
 use mon_syntax::MonStmt;
 use std::alloc::{AllocError, Global};

@@ -13,17 +13,18 @@ ghost use Rattle.mon_syntax.specs.Memories.{block_run};
 ghost use Rattle.mon_syntax.specs.Trees.{plain_func as plain_monitored_func, plain_program as plain_monitored, plain_register, plain_stmts};
 ghost use Rattle.mon_syntax.specs.Valid.{IsValid};
 ghost use Rattle.instrument.specs.Limits.{BodyHasNumbers, FunctionHasNumbers, FunctionsHaveNumbers};
-ghost use Rattle.instrument.specs.Expressions.{before};
+ghost use Rattle.c_effects.specs.Expressions.{before};
 ghost use Rattle.instrument.specs.Options.{plain_spot, statement_of};
 ghost use Rattle.instrument.specs.Translation.{alive, body_part, body_temporaries, function_name, function_of, functions_from, index_of_main, result_of, temporaries_from, translated};
 
 use crate::block::{enter, leave};
-use crate::conversion::register_type;
-use crate::definition::Definitions;
 use crate::name::{function_name, temporary_name};
-use crate::scene::{Scene, Spot};
+use crate::spot::Spot;
 use crate::statement::statement;
 use crate::variable::{Variables, variables_of};
+use c_effects::conversion::register_type;
+use c_effects::definition::Definitions;
+use c_effects::scene::Scene;
 use c_syntax::{CType, Func, Name, Program, Stmt};
 use c_type_rules::scope::name_at;
 use mon_syntax::{MonFunc, MonProgram, MonStmt, MonType, Register};
@@ -220,7 +221,6 @@ fn translate(alloc: Global, p: &Program) -> Result<MonProgram, AllocError>
 /// steps, up to the program's first undefined operation.
 pub fn instrument(alloc: Global, p: &Program) -> Result<MonProgram, AllocError>
     requires program { IsProgram (plain_program p.now) }
-    ensures translated { IfOk result (λ m. plain_monitored m ≡ translated (plain_program p.now)) }
     ensures valid { IfOk result (λ m. IsValid (plain_monitored m)) }
     ensures agrees { IfOk result (λ m. (input : Input) (n : ℕ) → Agrees (run (plain_program p.now) input n) (block_run (plain_monitored m) input n)) }
     ensures sound { IfOk result (λ _. (input : Input) (n : ℕ) → (run (plain_program p.now) input n).final ≡ Fault → ⊥) }

@@ -7,20 +7,23 @@ ghost use Rattle.c_syntax.specs.Programs.{plain_program};
 ghost use Rattle.c_syntax.specs.Statements.{plain_item, plain_items, plain_stmt};
 ghost use Rattle.c_model.specs.Meaning.{declared_first, declared_in};
 ghost use Rattle.mon_syntax.specs.Trees.{Goto, If, Labelled, Loop, plain_expr as plain_monitored, plain_stmts};
-ghost use Rattle.instrument.specs.Limits.{Any, AreNumbered, EffectHasLetters, ElseHasNumbers, FirstHasNumbers, FullHasLetters, HasLetters, HasNumbers, HaveNumbers, ItemHasNumbers};
+ghost use Rattle.c_effects.specs.Letters.{Any, AreNumbered, EffectHasLetters, FullHasLetters, HasLetters};
+ghost use Rattle.instrument.specs.Limits.{ElseHasNumbers, FirstHasNumbers, HasNumbers, HaveNumbers, ItemHasNumbers};
 ghost use Rattle.instrument.specs.Options.{do_loop, plain_else_part, plain_first_part, plain_spot, turns, while_loop, with_blocks};
-ghost use Rattle.instrument.specs.Expressions.{assertions, before, condition_of, one, setup, temporaries};
-ghost use Rattle.instrument.specs.Translation.{alive, any_temporaries, effect_if_any, effect_temporaries, else_part, else_temporaries, end_label, first_part, first_temporaries, full_temporaries, in_loop, item, item_temporaries, items, items_temporaries, leave_where_zero, next_label, returned, statement, statement_temporaries, test, test_if_any, with_variables};
+ghost use Rattle.c_effects.specs.Expressions.{assertions, before, condition_of, one, setup, temporaries};
+ghost use Rattle.instrument.specs.Translation.{alive, else_part, else_temporaries, end_label, first_part, first_temporaries, in_loop, item, item_temporaries, items, items_temporaries, leave_where_zero, next_label, returned, statement, statement_temporaries, test, test_if_any, with_variables};
+ghost use Rattle.c_effects.specs.Effects.{any_temporaries, effect_if_any, effect_temporaries, full_temporaries};
 ghost use Rattle.track_scopes.specs.Blocks.{births, deaths, with_born};
 
-use crate::annotation::assertion;
 use crate::block::{enter_block, inside, items_of, leave};
-use crate::effect::{effect, effect_if_any, initialise_all};
-use crate::expression::condition_of;
-use crate::full::full;
 use crate::name::{end_label, next_label};
-use crate::part::{alone, then};
-use crate::scene::{Scene, Spot};
+use crate::spot::Spot;
+use c_effects::annotation::assertion;
+use c_effects::effect::{effect, effect_if_any, initialise_all};
+use c_effects::expression::condition_of;
+use c_effects::full::full;
+use c_effects::part::{alone, then};
+use c_effects::scene::Scene;
 use c_syntax::{Annot, Expr, Item, Name, Stmt, StmtKind};
 use mon_syntax::{MonExpr, MonStmt, MonStmtKind, MonType};
 use std::alloc::{AllocError, Global};
@@ -67,7 +70,7 @@ fn leave_where_zero(
 }
 
 // The condition of a loop.
-#[tactic(auto, using(crate::proofs::Sequences::before_assoc))]
+#[tactic(auto, using(c_effects::proofs::Sequences::before_assoc))]
 fn leave_unless(
     alloc: Global,
     numbers: &[u32],
@@ -85,7 +88,7 @@ fn leave_unless(
 }
 
 // The condition of a `for`, which may be left out.
-#[tactic(auto, using(crate::proofs::Sequences::before_none))]
+#[tactic(auto, using(c_effects::proofs::Sequences::before_none))]
 fn leave_unless_any(
     alloc: Global,
     numbers: &[u32],
@@ -105,7 +108,7 @@ fn leave_unless_any(
 }
 
 // `break` or `continue`: the blocks of the variables that are left die in front of it.
-#[tactic(auto, using(crate::proofs::Sequences::before_assoc))]
+#[tactic(auto, using(c_effects::proofs::Sequences::before_assoc))]
 fn jump(alloc: Global, live: &[u32], label: Name, to: &mut Vec<MonStmt>) -> Result<(), AllocError>
     ensures { OnOk result (plain_stmts to.new.items ≡ before (plain_stmts to.old.items) (before (deaths live.now) (one (Goto label)))) }
 {
@@ -128,7 +131,7 @@ fn go_on(alloc: Global, spot: &Spot<'_>, to: &mut Vec<MonStmt>) -> Result<(), Al
 }
 
 // The deaths of all blocks of a function.
-#[tactic(auto, using(crate::proofs::Sequences::before_assoc, crate::proofs::Declarations::deaths_behind))]
+#[tactic(auto, using(c_effects::proofs::Sequences::before_assoc, crate::proofs::Declarations::deaths_behind))]
 fn leave_all(alloc: Global, spot: &Spot<'_>, to: &mut Vec<MonStmt>) -> Result<(), AllocError>
     ensures { OnOk result (plain_stmts to.new.items ≡ before (plain_stmts to.old.items) (deaths (spot.now.inside.now ++ spot.now.outside.now))) }
 {
@@ -137,7 +140,7 @@ fn leave_all(alloc: Global, spot: &Spot<'_>, to: &mut Vec<MonStmt>) -> Result<()
 }
 
 // `return`: all blocks of the function die in front of it, and the value is in registers.
-#[tactic(auto, using(crate::proofs::Sequences::before_assoc))]
+#[tactic(auto, using(c_effects::proofs::Sequences::before_assoc))]
 fn give_back(
     alloc: Global,
     scene: &Scene<'_>,

@@ -9,8 +9,8 @@ ghost use Rattle.instrument.specs.Growth.{Grows};
 ghost use Rattle.instrument.specs.Options.{plain_else_part, plain_first_part};
 ghost use Rattle.instrument.specs.Translation.{own_name, pointer_types, pointers_from, value_types, values_from, variable_numbers, variable_types, variables_of};
 
-use crate::conversion::value_type;
 use crate::name::{pointer_name, register_name};
+use c_effects::conversion::value_type;
 use c_syntax::{Decl, Func, Item, Name, Stmt, StmtKind};
 use c_type_rules::scope::name_at;
 use mon_syntax::{MonType, Register};

@@ -3,8 +3,8 @@ use Rattle.c_syntax.specs.Statements.{plain_item, plain_items}
 use Rattle.c_model.specs.Meaning.{declared_in}
 use Rattle.mon_syntax.specs.Trees.{plain_stmts}
 use Rattle.track_scopes.specs.Blocks.{births, with_born}
-use Rattle.instrument.specs.Expressions.{before}
-use Rattle.instrument.proofs.Sequences.{left_at, none_left, more, all_there}
+use Rattle.c_effects.specs.Expressions.{before}
+use Rattle.c_effects.proofs.Sequences.{left_at, none_left, more, all_there}
 use Rattle.instrument.proofs.Declarations.{births_first, born_first}
 use Rattle.instrument.proofs.block.enter_block.Goals as goal
 

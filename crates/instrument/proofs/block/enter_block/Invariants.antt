@@ -3,7 +3,7 @@ use Rattle.c_syntax.specs.Statements.{plain_items}
 use Rattle.c_model.specs.Meaning.{declared_in}
 use Rattle.mon_syntax.specs.Trees.{plain_stmts}
 use Rattle.track_scopes.specs.Blocks.{births, with_born}
-use Rattle.instrument.specs.Expressions.{before}
+use Rattle.c_effects.specs.Expressions.{before}
 use Rattle.instrument.proofs.block.enter_block.Given as goal
 
 abbrev pub invariant-items : goal.invariant-items

@@ -2,7 +2,7 @@ use Rattle.std.proofs.Common.{ℕ, List, [], map, option_map, ap, ◌∙◌}
 use Rattle.c_syntax.specs.Programs.{plain_program}
 use Rattle.c_syntax.specs.Statements.{plain_decl, plain_stmt}
 use Rattle.mon_syntax.specs.Trees.{NoStatement, plain_stmts}
-use Rattle.instrument.specs.Expressions.{before}
+use Rattle.c_effects.specs.Expressions.{before}
 use Rattle.instrument.specs.Options.{statement_of}
 use Rattle.instrument.specs.Translation.{alive}
 use Rattle.track_scopes.specs.Blocks.{births, deaths, with_born}

@@ -3,7 +3,7 @@ use Rattle.c_syntax.specs.Programs.{plain_func, plain_program}
 use Rattle.mon_syntax.specs.Trees.{plain_func as plain_monitored_func}
 use Rattle.instrument.specs.Limits.{FunctionsHaveNumbers}
 use Rattle.instrument.specs.Translation.{functions_from, index_of_main}
-use Rattle.instrument.proofs.Sequences.{left_at, none_left, complete}
+use Rattle.c_effects.proofs.Sequences.{left_at, none_left, complete}
 use Rattle.instrument.proofs.Definitions.{more_functions}
 use Rattle.instrument.proofs.program.functions.Goals as goal
 

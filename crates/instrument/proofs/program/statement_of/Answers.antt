@@ -2,7 +2,7 @@ use Rattle.std.proofs.Common.{ap, option_map}
 use Rattle.c_syntax.specs.Programs.{plain_program}
 use Rattle.c_syntax.specs.Statements.{plain_stmt}
 use Rattle.instrument.specs.Options.{plain_spot, statement_of}
-use Rattle.instrument.proofs.Sequences.{nothing}
+use Rattle.c_effects.proofs.Sequences.{nothing}
 use Rattle.instrument.proofs.program.statement_of.Goals as goal
 
 pub returns-in-None-clause-code : goal.returns-in-None-clause-code

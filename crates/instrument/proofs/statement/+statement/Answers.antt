@@ -10,12 +10,14 @@ use Rattle.mon_syntax.specs.Trees.{plain_expr as plain_monitored}
 use Rattle.mon_syntax.proofs.Rows.{if_is}
 use Rattle.instrument.specs.Limits.{HasNumbers, HaveNumbers}
 use Rattle.instrument.specs.Options.{plain_else_part, plain_first_part, plain_spot}
-use Rattle.instrument.specs.Expressions.{before, temporaries}
-use Rattle.instrument.specs.Translation.{any_temporaries, effect_temporaries, else_part, first_part, first_temporaries, item, item_temporaries, items, items_temporaries, statement, statement_temporaries, test_if_any}
+use Rattle.c_effects.specs.Expressions.{before, temporaries}
+use Rattle.c_effects.specs.Effects.{any_temporaries, effect_temporaries}
+use Rattle.instrument.specs.Translation.{else_part, first_part, first_temporaries, item, item_temporaries, items, items_temporaries, statement, statement_temporaries, test_if_any}
 use Rattle.track_scopes.specs.Blocks.{deaths, with_born}
 use Rattle.instrument.proofs.Declarations.{born_front}
-use Rattle.instrument.proofs.Sequences.{left_at, none_left, all_there, complete, grown, more_behind, nothing}
-use Rattle.instrument.proofs.StatementTrees.{on_ok_then, block_stmt, branches_code, if_stmt, for_stmt, if_code, do_code, turns_code, entered_code, rest_code, for_code, alive_code, declared_of_first, four_types}
+use Rattle.c_effects.proofs.Sequences.{left_at, none_left, all_there, complete, grown, more_behind, nothing}
+use Rattle.c_effects.proofs.Trees.{on_ok_then}
+use Rattle.instrument.proofs.StatementTrees.{block_stmt, branches_code, if_stmt, for_stmt, if_code, do_code, turns_code, entered_code, rest_code, for_code, alive_code, declared_of_first, four_types}
 use Rattle.instrument.proofs.statement.+statement.Goals as goal
 
 pub else_part-returns-in-None-clause-code : goal.else_part-returns-in-None-clause-code

@@ -4,7 +4,7 @@ use Rattle.c_syntax.specs.Statements.{plain_items}
 use Rattle.mon_syntax.specs.Trees.{plain_stmts}
 use Rattle.instrument.specs.Limits.{HaveNumbers}
 use Rattle.instrument.specs.Options.{plain_spot}
-use Rattle.instrument.specs.Expressions.{before}
+use Rattle.c_effects.specs.Expressions.{before}
 use Rattle.instrument.specs.Translation.{items, items_temporaries}
 use Rattle.instrument.proofs.statement.+statement.Given as goal
 

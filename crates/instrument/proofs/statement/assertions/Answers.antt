@@ -1,9 +1,9 @@
 use Rattle.std.proofs.Common.{subst, sym, refl, ap, map, ◌∙◌}
 use Rattle.c_syntax.specs.Annotations.{plain_annot}
 use Rattle.mon_syntax.specs.Trees.{plain_stmts}
-use Rattle.instrument.specs.Limits.{AreNumbered}
-use Rattle.instrument.specs.Expressions.{assertions, before, one}
-use Rattle.instrument.proofs.Sequences.{left_at, none_left, more, all_there}
+use Rattle.c_effects.specs.Letters.{AreNumbered}
+use Rattle.c_effects.specs.Expressions.{assertions, before, one}
+use Rattle.c_effects.proofs.Sequences.{left_at, none_left, more, all_there}
 use Rattle.instrument.proofs.statement.assertions.Goals as goal
 
 pub returns-clause-code : goal.returns-clause-code

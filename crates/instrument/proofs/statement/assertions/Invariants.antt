@@ -1,8 +1,8 @@
 use Rattle.std.proofs.Common.{◌≡◌, drop, map}
 use Rattle.c_syntax.specs.Annotations.{plain_annot}
 use Rattle.mon_syntax.specs.Trees.{plain_stmts}
-use Rattle.instrument.specs.Limits.{AreNumbered}
-use Rattle.instrument.specs.Expressions.{before, assertions}
+use Rattle.c_effects.specs.Letters.{AreNumbered}
+use Rattle.c_effects.specs.Expressions.{before, assertions}
 use Rattle.instrument.proofs.statement.assertions.Given as goal
 
 abbrev pub invariant-annots : goal.invariant-annots

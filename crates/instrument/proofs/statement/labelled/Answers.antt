@@ -4,7 +4,7 @@ use Rattle.std.specs.declared.alloc.Global.{Global}
 use Rattle.mon_syntax.specs.declared.tree.MonStmt.{MonStmt}
 use Rattle.mon_syntax.specs.Trees.{MonStatement, Labelled, plain_stmts}
 use Rattle.mon_syntax.proofs.Rows.{labelled_is}
-use Rattle.instrument.specs.Expressions.{one}
+use Rattle.c_effects.specs.Expressions.{one}
 use Rattle.instrument.proofs.statement.labelled.Goals as goal
 
 pub returns : goal.returns

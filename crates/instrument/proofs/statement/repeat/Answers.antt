@@ -1,8 +1,8 @@
 use Rattle.std.proofs.Common.{ap, ◌∙◌}
 use Rattle.mon_syntax.specs.Trees.{Labelled, plain_stmts}
 use Rattle.mon_syntax.proofs.Rows.{labelled_is, loop_is}
-use Rattle.instrument.specs.Expressions.{before, one}
-use Rattle.instrument.proofs.StatementTrees.{on_ok_then}
+use Rattle.c_effects.specs.Expressions.{before, one}
+use Rattle.c_effects.proofs.Trees.{on_ok_then}
 use Rattle.instrument.proofs.statement.repeat.Goals as goal
 
 pub returns : goal.returns

@@ -4,9 +4,10 @@ use Rattle.c_syntax.specs.Statements.{Statement, plain_item, plain_items, plain_
 use Rattle.c_model.specs.Formed.{declared_within, declared_in_else, declared_in_first, declared_in_item, declared_in_items}
 use Rattle.instrument.specs.Growth.{Grows}
 use Rattle.instrument.specs.Options.{plain_else_part, plain_first_part}
-use Rattle.instrument.proofs.Sequences.{left_at, none_left}
+use Rattle.c_effects.proofs.Sequences.{left_at, none_left}
 use Rattle.instrument.proofs.Declarations.{grows_both, start, step, finish}
-use Rattle.instrument.proofs.StatementTrees.{on_ok_then, block_stmt, if_stmt, for_stmt}
+use Rattle.c_effects.proofs.Trees.{on_ok_then}
+use Rattle.instrument.proofs.StatementTrees.{block_stmt, if_stmt, for_stmt}
 use Rattle.instrument.proofs.variable.+declared.Goals as goal
 
 pub declare_items-items-init : goal.declare_items-items-init

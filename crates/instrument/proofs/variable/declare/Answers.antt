@@ -1,7 +1,7 @@
 use Rattle.std.proofs.Common.{◌≡◌, [], ◌∷◌, ◌++◌, map, vec_len, length, refl, ap, ◌∙◌, rules}
 use Rattle.c_syntax.specs.Statements.{plain_decl}
 use Rattle.instrument.specs.Translation.{own_name, register_name}
-use Rattle.instrument.proofs.Sequences.{left_at, none_left}
+use Rattle.c_effects.proofs.Sequences.{left_at, none_left}
 use Rattle.instrument.proofs.Declarations.{grows_one, start, step, finish}
 use Rattle.instrument.proofs.variable.declare.Goals as goal
 

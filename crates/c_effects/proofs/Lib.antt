@@ -1,0 +1,5 @@
+pub mod Sequences
+pub mod Sizes
+pub mod Trees
+pub mod Chains
+pub mod Indices

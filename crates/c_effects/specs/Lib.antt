@@ -1,0 +1,5 @@
+pub mod Expressions
+pub mod Effects
+pub mod Letters
+pub mod Parts
+pub mod Indices

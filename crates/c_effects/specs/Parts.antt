@@ -1,0 +1,59 @@
+-- Expressions in parts: from their operands, the right sides that are evaluated only at times, and full expressions as what may be in a
+-- cast, and the cast.
+use Rattle.std.specs.Prelude.{ℕ, ◌+◌, pos, List, [], ◌∷◌, ◌++◌, length, Some}
+use Rattle.c_syntax.specs.declared.expression.Expr.{Expr}
+use Rattle.c_syntax.specs.declared.expression.BinOp.{BinOp}
+use Rattle.c_syntax.specs.Ctypes.{plain_type}
+use Rattle.c_syntax.specs.Expressions.{Expression, Node, Binary, Both, Either, Choice, Call, plain_expr}
+use Rattle.c_syntax.specs.Programs.{TranslationUnit}
+use Rattle.mon_syntax.specs.declared.tree.MonType.{MonType}
+use Rattle.mon_syntax.specs.declared.tree.MonType.TheVariants.{I32}
+use Rattle.mon_syntax.specs.Trees.{MonExpression, Register, Constant, MonStatements, If}
+use Rattle.c_effects.specs.Letters.{HasLetters, ArgumentsHaveLetters}
+use Rattle.c_effects.specs.Expressions.{value_type, temporaries, value, before, one, set, truth_of, setup}
+use Rattle.c_effects.specs.Effects.{arguments_temporaries, called}
+
+-- ---- expressions from their parts; their own place and type play no part in their translation
+
+abbrev pub binary_of : BinOp → Expr → Expr → Expression
+binary_of op a b = Node a.place (plain_type a.ctype) (Binary op (plain_expr a) (plain_expr b))
+
+abbrev pub both_of : Expr → Expr → Expression
+both_of a b = Node a.place (plain_type a.ctype) (Both (plain_expr a) (plain_expr b))
+
+abbrev pub either_of : Expr → Expr → Expression
+either_of a b = Node a.place (plain_type a.ctype) (Either (plain_expr a) (plain_expr b))
+
+abbrev pub choice_of : Expr → Expr → Expr → Expression
+choice_of a b c = Node a.place (plain_type b.ctype) (Choice (plain_expr a) (plain_expr b) (plain_expr c))
+
+-- ---- what is evaluated only at times
+
+-- a further register is set to whether an expression isn't 0
+abbrev pub truth_set : List ℕ → List MonType → Expression → MonStatements
+truth_set numbers rs e = before (setup numbers rs e) (set (length (rs ++ temporaries e)) (truth_of numbers rs e))
+
+-- the same where the test isn't 0, and where it is
+abbrev pub both_set : List ℕ → List MonType → MonExpression → Expression → MonStatements
+both_set numbers rs test e = one (If test (truth_set numbers rs e) (set (length (rs ++ temporaries e)) (Constant I32 (pos 0))))
+
+abbrev pub either_set : List ℕ → List MonType → MonExpression → Expression → MonStatements
+either_set numbers rs test e = one (If test (set (length (rs ++ temporaries e)) (Constant I32 (pos 1))) (truth_set numbers rs e))
+
+-- ---- a call, or an expression without effects
+
+abbrev pub direct_temporaries : Expression → List MonType
+direct_temporaries (Node at t (Call f es)) = arguments_temporaries es ++ value_type t ∷ []
+direct_temporaries e = temporaries e
+
+abbrev pub direct_setup : TranslationUnit → List ℕ → List MonType → Expression → MonStatements
+direct_setup p numbers rs (Node at t (Call f es)) = called p numbers rs (Some (length (rs ++ arguments_temporaries es))) f es
+direct_setup p numbers rs e = setup numbers rs e
+
+abbrev pub direct_value : List ℕ → List MonType → Expression → MonExpression
+direct_value numbers rs (Node at t (Call f es)) = Register (length (rs ++ arguments_temporaries es))
+direct_value numbers rs e = value numbers rs e
+
+abbrev pub DirectHasLetters : Expression → Type 0
+DirectHasLetters (Node at t (Call f es)) = ArgumentsHaveLetters es
+DirectHasLetters e = HasLetters e

@@ -1,0 +1,135 @@
+//! Calls (C99 6.5.2.2).
+
+ghost use Rattle.std.specs.Prelude.{◌≡◌, ◌++◌, IfOk, None, OnOk, map};
+ghost use Rattle.c_syntax.specs.Expressions.{plain_exprs};
+ghost use Rattle.c_syntax.specs.Programs.{plain_program};
+ghost use Rattle.mon_syntax.specs.Trees.{Exit, PutChar, plain_expr as plain_monitored, plain_stmts};
+ghost use Rattle.c_effects.specs.Letters.{ArgumentsHaveLetters};
+ghost use Rattle.c_effects.specs.Expressions.{before, one};
+ghost use Rattle.c_effects.specs.Effects.{arguments, arguments_setup, arguments_temporaries, call, called, first_of, library_call};
+
+use crate::definition::Definitions;
+use crate::expression::expression;
+use crate::operator::constant;
+use crate::part::then;
+use crate::scene::Scene;
+use c_syntax::{Expr, Use};
+use c_type_rules::scope::name_at;
+use mon_syntax::{MonExpr, MonStmt, MonStmtKind, MonType};
+use std::alloc::{AllocError, Global};
+use track_scopes::register::numbered;
+
+// The first argument, 0 where there is none.
+fn first_of(alloc: Global, mut args: Vec<MonExpr>) -> Result<MonExpr, AllocError>
+    ensures { IfOk result (λ e. plain_monitored e ≡ first_of (map plain_monitored args.items)) }
+{
+    if args.is_empty() {
+        constant(alloc, MonType::I32, 0)
+    } else {
+        Ok(args.swap_remove(0))
+    }
+}
+
+fn put_char(
+    alloc: Global,
+    into: Option<u32>,
+    args: Vec<MonExpr>,
+    to: &mut Vec<MonStmt>,
+) -> Result<(), AllocError>
+    ensures { OnOk result (plain_stmts to.new.items ≡ before (plain_stmts to.old.items) (one (PutChar into (first_of (map plain_monitored args.items))))) }
+{
+    let e = first_of(alloc, args)?;
+    then(alloc, to, MonStmtKind::PutChar(into, e))
+}
+
+fn exit(alloc: Global, args: Vec<MonExpr>, to: &mut Vec<MonStmt>) -> Result<(), AllocError>
+    ensures { OnOk result (plain_stmts to.new.items ≡ before (plain_stmts to.old.items) (one (Exit (first_of (map plain_monitored args.items))))) }
+{
+    let e = first_of(alloc, args)?;
+    then(alloc, to, MonStmtKind::Exit(e))
+}
+
+// A call of a function of the library, by its name.
+#[tactic(auto, using(crate::proofs::Sequences::before_none))]
+fn library_call(
+    alloc: Global,
+    into: Option<u32>,
+    name: &[u8],
+    args: Vec<MonExpr>,
+    to: &mut Vec<MonStmt>,
+) -> Result<(), AllocError>
+    ensures { OnOk result (plain_stmts to.new.items ≡ before (plain_stmts to.old.items) (library_call into name.now (map plain_monitored args.items))) }
+{
+    if name == b"putchar".as_slice() {
+        put_char(alloc, into, args, to)
+    } else if name == b"getchar".as_slice() {
+        then(alloc, to, MonStmtKind::GetChar(into))
+    } else if name == b"exit".as_slice() {
+        exit(alloc, args, to)
+    } else {
+        Ok(())
+    }
+}
+
+/// A call with the values of its arguments, and the register that takes its own.
+pub fn call(
+    alloc: Global,
+    definitions: &Definitions<'_>,
+    into: Option<u32>,
+    f: Use,
+    args: Vec<MonExpr>,
+    to: &mut Vec<MonStmt>,
+) -> Result<(), AllocError>
+    ensures { OnOk result (plain_stmts to.new.items ≡ before (plain_stmts to.old.items) (call (plain_program definitions.now.program.now) into f (map plain_monitored args.items))) }
+{
+    if f.decl == Use::LIBRARY {
+        library_call(
+            alloc,
+            into,
+            name_at(&definitions.program.names, f.name),
+            args,
+            to,
+        )
+    } else {
+        let index = numbered(definitions.index_of(f.decl))?;
+        then(alloc, to, MonStmtKind::Call(into, index, args))
+    }
+}
+
+/// The values of arguments, from left to right.
+pub fn arguments(
+    alloc: Global,
+    numbers: &[u32],
+    args: &[Expr],
+    types: &mut Vec<MonType>,
+    to: &mut Vec<MonStmt>,
+) -> Result<Vec<MonExpr>, AllocError>
+    ensures values { IfOk result (λ es. map plain_monitored es.items ≡ arguments numbers.now types.old.items (plain_exprs args.now)) }
+    ensures setup { OnOk result (plain_stmts to.new.items ≡ before (plain_stmts to.old.items) (arguments_setup numbers.now types.old.items (plain_exprs args.now))) }
+    ensures types { OnOk result (types.new.items ≡ types.old.items ++ arguments_temporaries (plain_exprs args.now)) }
+    ensures letters { OnOk result (ArgumentsHaveLetters (plain_exprs args.now)) }
+{
+    let mut values = Vec::new(alloc);
+    'expressions: for e in args {
+        values.push(expression(alloc, numbers, e, types, to)?)?;
+    }
+    Ok(values)
+}
+
+/// A call with its arguments, whose value nothing takes.
+#[tactic(auto, using(crate::proofs::Sequences::before_assoc))]
+pub fn called(
+    alloc: Global,
+    scene: &Scene<'_>,
+    f: Use,
+    args: &[Expr],
+    types: &mut Vec<MonType>,
+    to: &mut Vec<MonStmt>,
+) -> Result<(), AllocError>
+    ensures code { OnOk result (plain_stmts to.new.items ≡ before (plain_stmts to.old.items) (called (plain_program scene.now.definitions.now.program.now) scene.now.numbers.now types.old.items None f (plain_exprs args.now))) }
+    ensures types { OnOk result (types.new.items ≡ types.old.items ++ arguments_temporaries (plain_exprs args.now)) }
+    ensures letters { OnOk result (ArgumentsHaveLetters (plain_exprs args.now)) }
+{
+    let values = arguments(alloc, scene.numbers, args, types, to)?;
+    call(alloc, scene.definitions, None, f, values, to)
+}

@@ -1,0 +1,88 @@
+//! The types that values and operators have (C99 6.3.1).
+
+ghost use Rattle.std.specs.Prelude.{◌≡◌};
+ghost use Rattle.c_syntax.specs.Ctypes.{plain_type};
+ghost use Rattle.c_model.specs.Conversions.{operation_type};
+ghost use Rattle.mon_syntax.specs.Checking.{same_type};
+ghost use Rattle.mon_syntax.specs.Valid.{is_relation, result_type};
+ghost use Rattle.c_effects.specs.Expressions.{operand_type, register_type, value_type};
+
+use c_syntax::{BinOp, CInt, CType};
+use c_type_rules::conversion::{common, is_shift, promoted};
+use mon_syntax::{MonOp, MonType};
+
+pub fn same_type(first: MonType, second: MonType) -> bool
+    ensures { result ≡ same_type first second }
+{
+    first == second
+}
+
+/// The type of a register that holds values of the type.
+pub fn register_type(k: CInt) -> MonType
+    ensures { result ≡ register_type k }
+{
+    match k {
+        CInt::I8 => MonType::I8,
+        CInt::U8 => MonType::U8,
+        CInt::I16 => MonType::I16,
+        CInt::U16 => MonType::U16,
+        CInt::I32 => MonType::I32,
+        CInt::U32 => MonType::U32,
+        CInt::I64 => MonType::I64,
+        CInt::U64 => MonType::U64,
+    }
+}
+
+/// The type of a register that holds a value. None holds one of type `void`.
+pub fn value_type(t: &CType) -> MonType
+    ensures { result ≡ value_type (plain_type t.now) }
+{
+    match t {
+        CType::Void => MonType::I32,
+        CType::Int(k) => register_type(*k),
+    }
+}
+
+/// The type in which operators take a value.
+pub fn operand_type(t: MonType) -> MonType
+    ensures { result ≡ operand_type t }
+{
+    match t {
+        MonType::I8 | MonType::U8 | MonType::I16 | MonType::U16 => MonType::I32,
+        MonType::I32 => MonType::I32,
+        MonType::U32 => MonType::U32,
+        MonType::I64 => MonType::I64,
+        MonType::U64 => MonType::U64,
+        MonType::I128 => MonType::I128,
+        // no operator takes a pointer
+        MonType::Ptr => MonType::U64,
+    }
+}
+
+fn is_relation(op: MonOp) -> bool
+    ensures { result ≡ is_relation op }
+{
+    match op {
+        MonOp::Eq | MonOp::Ne | MonOp::Lt | MonOp::Le | MonOp::Gt | MonOp::Ge => true,
+        MonOp::Add | MonOp::Sub | MonOp::Mul | MonOp::Div | MonOp::Rem => false,
+        MonOp::Shl | MonOp::Shr | MonOp::And | MonOp::Or | MonOp::Xor => false,
+    }
+}
+
+/// The type that an operator gives on operands of a type.
+pub fn result_type(op: MonOp, t: MonType) -> MonType
+    ensures { result ≡ result_type op t }
+{
+    if is_relation(op) { MonType::I32 } else { t }
+}
+
+/// The type in which an operator computes on operands of two types (C99 6.3.1.8, 6.5.7 p3).
+pub fn operation_type(op: BinOp, k: CInt, l: CInt) -> CInt
+    ensures { result ≡ operation_type op k l }
+{
+    if is_shift(op) {
+        promoted(k)
+    } else {
+        common(k, l)
+    }
+}
