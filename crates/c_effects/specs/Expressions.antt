@@ -1,3 +1,4 @@
+-- Ours: a choice of code; what it has to do is C99 6.5 and ACSL 2.2, by the theorem of this crate.
 -- Expressions and annotations in monitored C: each variable has a register, and each annotation is an assertion. What an expression
 -- evaluates only at times, as the right side of `&&`, stands in front of it, in an `if` that sets a temporary register.
 use Rattle.std.specs.Prelude.{ℕ, pos, List, [], ◌∷◌, ◌++◌, length, if◌then◌else◌}

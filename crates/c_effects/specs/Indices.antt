@@ -1,3 +1,4 @@
+-- Ours: the plain form of a map.
 -- The indices of a program's definitions, as a map keeps them by their numbers.
 use Rattle.std.specs.Prelude.{◌≡◌, ℕ, ◌+◌, List, Option, Some, None, if◌then◌else◌, nat_eq}
 use Rattle.c_syntax.specs.Programs.{Function}

@@ -1,3 +1,4 @@
+-- Ours, in words of the grammar of C99 6.5 that stands in c_model/specs/ExpressionGrammar.
 -- What the answers on the tokens of a text mean.
 use Rattle.std.specs.Prelude.{◌≡◌, ◌≤◌, ◌<◌, ℕ, List, length, drop, Result, Ok, Err, Vec}
 use Rattle.std.specs.declared.alloc.Global.{Global}

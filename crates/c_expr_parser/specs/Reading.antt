@@ -1,3 +1,4 @@
+-- Ours: how the code of a production compares with its grammar (C99 6.5, 6.7.2, in c_model/specs/ExpressionGrammar).
 -- What a function returned is what the production gives, unless memory was wanting.
 use Rattle.std.specs.Prelude.{◌≡◌, ◌≤◌, ◌+◌, ℕ, zero, suc, List, [], ◌∷◌, map, Result, Ok, Err}
 use Rattle.grammar.specs.Syntax.{Syntax, Fault, At, Over, ◌then◌, many}

@@ -1,3 +1,4 @@
+-- Ours: the plain form of a table, whose words are those of C99 6.4.1.
 -- A table of words, by their bytes.
 use Rattle.std.specs.Prelude.{ℕ, List, map}
 use Rattle.std.specs.Borrow.{Bor}

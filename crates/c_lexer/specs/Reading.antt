@@ -1,3 +1,4 @@
+-- Ours: how the code compares with the tokens that c_model defines (C99 6.4), and with those of monitored C.
 -- What a function read of a text is what the definition gives, unless memory was wanting.
 use Rattle.std.specs.Prelude.{◌≡◌, ◌≤◌, ℕ, List, map, Result, Ok, Err, MatchResult}
 use Rattle.std.specs.Global.{Vec}

@@ -1,3 +1,4 @@
+-- The bases are those of C99 6.4.4.1; the bounds of a piece are ours.
 -- What the functions over C texts say of bases and pieces.
 use Rattle.std.specs.Prelude.{◌≤◌, ℕ}
 use Rattle.c_model.specs.declared.c_tokens.Piece.{Piece}

@@ -1,3 +1,4 @@
+-- Ours: a view of the entries of Code.
 -- Entries by what comes behind them, as they are known while the code is written from its end.
 use Rattle.std.specs.Prelude.{ℕ, ◌-◌, List, [], ◌∷◌, length}
 use Rattle.mon_syntax.specs.Trees.{MonFunction}

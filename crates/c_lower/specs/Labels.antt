@@ -1,3 +1,4 @@
+-- Ours: the plain form of the labels that lowering carries along.
 -- The labels of the bodies around a statement, as a list.
 use Rattle.std.specs.Prelude.{List, [], ◌∷◌, ◌++◌}
 use Rattle.c_lower.specs.declared.labels.Labels.{Labels, Outside, Inside'}

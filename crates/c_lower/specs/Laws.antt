@@ -1,3 +1,4 @@
+-- Ours: laws of the runs that Machine defines.
 -- Laws that the runs of code meet.
 use Rattle.std.specs.Prelude.{◌≡◌, ℕ, List, Option}
 use Rattle.c_model.specs.State.{Input}

@@ -1,3 +1,4 @@
+-- Ours: the theorem of this crate.
 -- When code does what a program in monitored C means.
 use Rattle.std.specs.Prelude.{◌≡◌, ℕ, ℤ, List, Option, Some}
 use Rattle.c_model.specs.State.{Input}

@@ -1,3 +1,4 @@
+-- Ours: the plain form of what the code of Words keeps.
 -- What the reader of a command line has found so far: a file and the text of the option, each at most once.
 use Rattle.std.specs.Prelude.{ℕ, List, [], ◌∷◌, ◌++◌, Option, Some, None, option_copied, option_to_list}
 use Rattle.c_model.specs.declared.words.Found.{Found}

@@ -1,3 +1,4 @@
+-- Which laws these are is ours; a law that says what C99 6.4 says cites the section.
 -- What holds of every C text with annotations, in the text's own words.
 use Rattle.std.specs.Prelude.{◌≡◌, ◌↔◌, ◌≤◌, ◌<◌, ◌⊎◌, ℕ, ◌-◌, List, [], ◌∷◌, ◌++◌, length, nat_eq, ◌||◌, ◌&&◌, Bool, true, false, Option, Some, None, is_some, Ok, Err, slice_get, codes}
 use Rattle.std.specs.List.{list_all}

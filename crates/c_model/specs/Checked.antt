@@ -1,3 +1,4 @@
+-- Ours: no standard says which of several faults is reported.
 -- The faults of a tree's parts, and the one that refuses it.
 use Rattle.std.specs.Prelude.{ℕ, ◌+◌, ◌*◌, List, [], ◌∷◌, ◌++◌, Option, Some, None, Bool, true, false, cond, nat_lt}
 use Rattle.c_syntax.specs.declared.place.Place.{Place}

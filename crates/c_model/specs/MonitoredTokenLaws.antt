@@ -1,3 +1,4 @@
+-- Ours: laws of the tokens of monitored C.
 -- What holds of every monitored text, in the text's own words.
 use Rattle.std.specs.Prelude.{◌≡◌, ◌↔◌, ◌≤◌, ◌<◌, ◌⊎◌, ℕ, ◌+◌, List, [], ◌∷◌, ◌++◌, length, take, count_by, reverse, nat_eq, not, ◌&&◌, Bool, true, false, Some, Ok, Err, slice_get, bytes_eq}
 use Rattle.std.specs.List.{prefix_len, list_all, list_any}

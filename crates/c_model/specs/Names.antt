@@ -1,3 +1,4 @@
+-- Ours: what a name is C99 6.4.2.1 says, and its number is ours.
 -- The names of a text, each at its number, in order of first use.
 use Rattle.std.specs.Prelude.{ℕ, List, [], ◌∷◌, ◌++◌, if◌then◌else◌, bytes_eq}
 use Rattle.std.specs.List.{list_any, position_or_len}

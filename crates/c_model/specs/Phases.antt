@@ -1,3 +1,4 @@
+-- The order of the phases is ours: C99 5.1.1.2 has no refusals and no annotations.
 -- Which texts are accepted, with which program, and which are refused, why: by tokens, by grammar, by names and types, for want of
 -- `main`, and by the names of annotations, in this order.
 use Rattle.std.specs.Prelude.{◌≡◌, ℕ, List, length, map, Some, None, Result, Ok, Err, if◌then◌else◌, eqb, codes}

@@ -1,3 +1,4 @@
+-- Ours: a line ends at byte 10, and a column is a byte.
 -- Places in a text: lines and columns from 1, offsets from 0.
 use Rattle.std.specs.Prelude.{ℕ, ◌+◌, List, [], ◌∷◌, nat_eq, if◌then◌else◌}
 use Rattle.c_syntax.specs.declared.place.Place.{Place}

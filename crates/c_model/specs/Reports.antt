@@ -1,3 +1,4 @@
+-- Ours: the statuses and the lines of this program.
 -- What the program reports of a run, and when two runs agree.
 use Rattle.std.specs.Prelude.{◌≡◌, ℕ, List, [], ◌∷◌, ◌++◌, Option, Some, None, codes}
 use Rattle.std.specs.Fmt.{decimal, signed_decimal}

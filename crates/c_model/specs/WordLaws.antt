@@ -1,3 +1,4 @@
+-- Ours: laws of the command line that Words defines.
 -- What holds of every list of words.
 use Rattle.std.specs.Prelude.{◌≡◌, ◌≢◌, ℕ, ◌≤◌, ◌<◌, List, [], ◌∷◌, ◌++◌, length, Some, None, option_map, codes, false}
 use Rattle.std.specs.List.{Contains}

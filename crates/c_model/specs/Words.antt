@@ -1,3 +1,4 @@
+-- Ours: the command line of this program.
 -- The job that the words of a command line ask for. The first word is the command. Behind it stand, in any order,
 -- one file and each option of the command at most once. A `--` ends the options: each word behind it is an operand.
 use Rattle.std.specs.Prelude.{ℕ, nat_le, Bool, true, false, ◌&&◌, not, if◌then◌else◌, nat_eq, List, [], ◌∷◌, ◌++◌, Option, Some, None, codes, bytes_eq}

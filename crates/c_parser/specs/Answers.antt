@@ -1,3 +1,4 @@
+-- Ours, in words of the grammar of C99 6.7 to 6.9 that stands in c_model/specs/ProgramGrammar.
 -- What the answers on the tokens of a text mean.
 use Rattle.std.specs.Prelude.{◌≡◌, []}
 use Rattle.grammar.specs.Syntax.{Fault}

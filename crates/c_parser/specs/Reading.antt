@@ -1,3 +1,4 @@
+-- Ours: productions of C99 6.7 to 6.9 (c_model/specs/ProgramGrammar), cut as the code reads them.
 -- Parts of productions that functions of their own read, and the plain forms of what is read in parts.
 use Rattle.std.specs.Prelude.{ℕ, ◌-◌, Bool, List, [], ◌∷◌, map, Option, Some, None, option_map, Vec}
 use Rattle.std.specs.declared.alloc.Global.{Global}

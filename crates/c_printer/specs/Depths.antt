@@ -1,3 +1,4 @@
+-- Ours: the plain form of what the printer carries along.
 -- How many bodies are around a printed line.
 use Rattle.std.specs.Prelude.{ℕ, ◌+◌}
 use Rattle.c_printer.specs.declared.line.Depth.{Depth, Top, Inside'}

@@ -1,3 +1,4 @@
+-- Ours: a part of the text that mon_syntax/specs/Text defines.
 -- The head of a function in the text of a program.
 use Rattle.std.specs.Prelude.{List, ◌∷◌, ◌++◌, codes}
 use Rattle.mon_syntax.specs.Trees.{MonFunction}

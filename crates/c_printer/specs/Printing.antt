@@ -1,3 +1,4 @@
+-- Ours: how the bytes of a part come to a sink.
 -- What was written of a text into a sink and its writer.
 use Rattle.std.specs.Prelude.{◌≡◌, ℕ, List, [], Option, Some, None}
 use Rattle.ea_ports.specs.Port.{more}

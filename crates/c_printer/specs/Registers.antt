@@ -1,3 +1,4 @@
+-- Ours: how the printer finds a name by its number.
 -- The names in a printed statement: of the functions of its program, and of the registers of its own.
 use Rattle.std.specs.Prelude.{List, ◌++◌, map}
 use Rattle.mon_syntax.specs.declared.tree.MonFunc.{MonFunc}

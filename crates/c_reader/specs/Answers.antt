@@ -1,3 +1,4 @@
+-- Ours, in words of the phases of c_model/specs/Phases.
 -- What the answers on a C text mean.
 use Rattle.std.specs.Prelude.{◌≡◌, ℕ, List, Some, None, Ok}
 use Rattle.c_syntax.specs.declared.refusal.FrontFault.{FrontFault}

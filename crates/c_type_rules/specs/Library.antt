@@ -1,3 +1,4 @@
+-- The functions are those of C99 7.19.7.6, 7.19.7.9 and 7.20.4.3; the plain forms are ours.
 -- Tables of names, by their bytes, and the functions of the library that are built.
 use Rattle.std.specs.Prelude.{ℕ, ℤ, List, [], ◌∷◌, map}
 use Rattle.std.specs.Borrow.{Bor}

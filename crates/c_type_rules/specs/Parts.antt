@@ -1,3 +1,4 @@
+-- Ours: the typing of C99 6.5 (c_model/specs/Typing) in two steps, as the code does it.
 -- The typing of an expression by two steps: that of its parts, and what its form demands of them.
 use Rattle.std.specs.Prelude.{ℕ}
 use Rattle.c_syntax.specs.declared.place.Place.{Place}

@@ -1,3 +1,4 @@
+-- Ours: the plain form of scopes (C99 6.2.1).
 -- What is in sight, without vectors.
 use Rattle.std.specs.Prelude.{ℕ, ℤ, List, [], map, take, not, codes, bytes_eq, Option, Some, None, Result, Ok, Err}
 use Rattle.c_syntax.specs.declared.place.Place.{Place}

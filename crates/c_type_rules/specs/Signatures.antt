@@ -1,3 +1,4 @@
+-- Ours: the plain form of what a call asks of a function (C99 6.5.2.2).
 -- What functions tell their callers, and which is the first of a name.
 use Rattle.std.specs.Prelude.{◌≡◌, ℕ, suc, List, [], ◌∷◌, map, nat_eq, cond, Option, Some, None, option_map}
 use Rattle.std.specs.Map.{lookup}

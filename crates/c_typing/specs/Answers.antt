@@ -1,3 +1,4 @@
+-- Ours: how the code compares with the typing of C99 6.7 to 6.9 that stands in c_model/specs/ProgramTyping.
 -- What typing a program gives, each answer by its cause.
 use Rattle.std.specs.Prelude.{◌≡◌, map, Some, None, Result, Ok, Err}
 use Rattle.c_syntax.specs.Programs.{TranslationUnit, plain_func, plain_program}

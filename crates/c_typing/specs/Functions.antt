@@ -1,3 +1,4 @@
+-- Ours: the typing of C99 6.9 (c_model/specs/ProgramTyping) function by function, as the code does it.
 -- Functions one after another, in words of what is kept of those before: what each name denotes in the file, which names are declared
 -- so far, and what is in sight.
 use Rattle.std.specs.Prelude.{◌≡◌, ℕ, List, [], ◌∷◌, ◌++◌, nat_eq, Option, Some, None, Bool, true, false, not, ◌&&◌, ◌||◌, cond, Result, Ok, Err}

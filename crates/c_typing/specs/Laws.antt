@@ -1,3 +1,4 @@
+-- Ours: laws of the typing that c_model defines (C99 6.5 to 6.9).
 -- What holds of all trees that are typed.
 use Rattle.std.specs.Prelude.{◌≡◌}
 use Rattle.c_syntax.specs.Expressions.{Expression}

@@ -1,3 +1,4 @@
+-- Ours: how scopes grow, as C99 6.2.1 p7 says.
 -- What is in sight behind parts.
 use Rattle.std.specs.Prelude.{ℕ, List, []}
 use Rattle.c_syntax.specs.Statements.{BlockItems, NoItem, Then}

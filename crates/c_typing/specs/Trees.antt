@@ -1,3 +1,4 @@
+-- Ours: plain forms of parts of the trees of C99 6.8.
 -- Parts of trees, without boxes and vectors.
 use Rattle.std.specs.Prelude.{Option, Some, None, option_map}
 use Rattle.c_syntax.specs.declared.place.Place.{Place}

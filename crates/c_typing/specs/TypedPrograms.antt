@@ -1,3 +1,4 @@
+-- Ours: what a typed program keeps; its `main` is that of C99 5.1.2.2.1.
 -- What is known of a program whose C is typed.
 use Rattle.std.specs.Prelude.{◌≡◌, Some, None}
 use Rattle.c_syntax.specs.Programs.{TranslationUnit}

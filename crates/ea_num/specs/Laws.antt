@@ -1,3 +1,4 @@
+-- The operators are those of ACSL 2.2 on integers; the laws are ours.
 -- Laws of ranges: for operands in their ranges, the operator's value lies in its range.
 use Rattle.std.specs.Prelude.{◌≡◌, ℕ, ◌+◌, ◌-◌, ◌%◌, min, max, ◌<ℤ◌, ◌<◌, ◌≤◌, unsigned_abs, ◌^◌, ℤ, pos, neg_ℤ, ◌+ℤ◌, ◌-ℤ◌, ◌*ℤ◌, ◌≤ℤ◌, true, Option, Some, FitsSigned}
 use Rattle.std.specs.Int as int

@@ -1,3 +1,4 @@
+-- Ours: a buffer before a sink.
 -- What a sink tells, what waits for it, and its count of faults, over several puts.
 use Rattle.std.specs.Prelude.{◌≡◌, ℕ, List, ◌++◌, Option, Result, MatchResult}
 use Rattle.ea_ports.specs.Port.{more, Rose}

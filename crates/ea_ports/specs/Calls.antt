@@ -1,3 +1,4 @@
+-- Ours: ports for tests.
 -- The calls of a port in memory: which of them fail, how many were made and how many failed.
 use Rattle.std.specs.Prelude.{ℕ, Bool, List, ◌==◌, if◌then◌else◌}
 use Rattle.std.specs.List.{list_any}

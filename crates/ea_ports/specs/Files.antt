@@ -1,3 +1,4 @@
+-- Ours: ports for tests.
 -- Files in memory, each a name and its content.
 use Rattle.std.specs.Prelude.{ℕ, List, [], ◌∷◌, map, Option, Some, None, if◌then◌else◌, String, Vec, string_bytes}
 use Rattle.std.specs.Str.{bytes_eq}

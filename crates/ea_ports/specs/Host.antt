@@ -1,3 +1,4 @@
+-- Ours: the fields of the ports over the host's files and streams.
 -- What a contract sees of the adapters over the host.
 use Rattle.std.specs.Prelude.{ℕ}
 use Rattle.ea_ports.specs.declared.host.FileFolder.{FileFolder}

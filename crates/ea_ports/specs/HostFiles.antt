@@ -1,3 +1,4 @@
+-- Ours, in words of the library of the kit.
 -- What reads and writes of the host do to the bytes that a reader is known to have left and a writer to hold.
 use Rattle.std.specs.Prelude.{◌≡◌, ℕ, ◌<◌, ◌≤◌, ⊤, List, [], ◌∷◌, ◌++◌, take, length, Vec, Option, Some, None, IfSome, Result, Ok, Err}
 use Rattle.std.specs.Io.KnownBytes.{Keeps, Appends, Consumes, IsAtEnd}

@@ -1,3 +1,4 @@
+-- Ours: ports for tests.
 -- What a contract sees of the ports in memory whose listed calls fail.
 use Rattle.std.specs.Prelude.{ℕ, Bool, ◌&&◌, List, length, nat_lt}
 use Rattle.ea_ports.specs.Calls.{Calls, next_is_listed}

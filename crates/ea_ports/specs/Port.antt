@@ -1,3 +1,4 @@
+-- Ours: what the top call knows of the world outside.
 -- What the answers of a folder, a source and a sink say of what they tell and of their counts of faults.
 use Rattle.std.specs.Prelude.{◌≡◌, ℕ, ◌+◌, ◌-◌, ◌^◌, ◌<◌, ◌≤◌, min, ⊤, List, [], ◌∷◌, ◌++◌, take, length, Vec, Option, Some, None, IfSome, Result, Ok, Err}
 use Rattle.ea_ports.specs.declared.FetchFault.{FetchFault}

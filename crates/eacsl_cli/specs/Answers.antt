@@ -1,3 +1,4 @@
+-- Ours: the words of the top theorem.
 -- What the program answers: a status, the bytes on its output and a line on its error output, and what is due for its words.
 use Rattle.std.specs.Prelude.{◌≡◌, ◌⊎◌, ℕ, ◌≤◌, ◌<◌, List, [], length, take, Option, Some, None, IfSome, codes}
 use Rattle.c_syntax.specs.Programs.{TranslationUnit, PlainRefusal}

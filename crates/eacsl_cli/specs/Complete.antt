@@ -1,3 +1,4 @@
+-- Ours: the top theorem in words of the source alone.
 -- What a call answers in which no port failed, and which statuses there are.
 use Rattle.std.specs.Prelude.{◌≡◌, ◌⊎◌, ℕ, ◌≤◌, ◌<◌, Bool, true, false, List, length, Option, Some, None}
 use Rattle.c_syntax.specs.Programs.{TranslationUnit, PlainRefusal}

@@ -1,3 +1,4 @@
+-- Ours: steps on the way to the answers of Answers.
 -- How a line was said, where there may be no memory for it, and what the end of a run reports.
 use Rattle.std.specs.Prelude.{◌≡◌, ℕ, List, Option, Some, None}
 use Rattle.c_model.specs.State.{Exits, Broken, Fault, Spent, Full, ReadFault}

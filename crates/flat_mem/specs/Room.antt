@@ -1,3 +1,4 @@
+-- Ours: the room of this profile.
 -- What is taken of the room in flat memory, and when it is full.
 use Rattle.std.specs.Prelude.{◌≡◌, ℕ, ◌+◌, ◌-◌, ◌*◌, ◌%◌, ◌^◌, ◌≤◌, nat_le, nat_lt, if◌then◌else◌, Option, Some, None}
 use Rattle.c_syntax.specs.declared.types.Segment.{Segment}

@@ -1,3 +1,4 @@
+-- Ours: the words in which each parser is proved.
 -- What it means that a production is read exactly, and what follows for its answers.
 use Rattle.std.specs.Prelude.{◌≡◌, ℕ, suc, List, [], ◌∷◌, ◌++◌, length, Result, Ok, Err, ◌<◌, ◌≤◌, ◌⊎◌, Bool, true, false}
 use Rattle.grammar.specs.Syntax.{Syntax, Fault, At, Over, among, sees}

@@ -1,3 +1,4 @@
+-- Ours: the combinators of which the grammars of C and of monitored C are made.
 -- Grammars as values: what a production reads, what begins it, where it passes a limit, and how it is read from left to right.
 use Rattle.std.specs.Prelude.{◌≡◌, ℕ, zero, suc, ◌+◌, ◌-◌, ◌≤◌, List, [], ◌∷◌, ◌++◌, length, Result, Ok, Err, Option, Some, None, Bool, true, false, cond, ◌⊎◌, eqb, ltb}
 

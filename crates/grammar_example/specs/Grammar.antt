@@ -1,3 +1,4 @@
+-- Ours: a language made up as a model, in which `else` is as in C99 6.8.4.1.
 -- The grammar.
 --   expression = operand { ( "+" | "-" ) operand }
 --   operand = NAME | NUMBER | "(" TYPE ")" operand | "(" expression ")"

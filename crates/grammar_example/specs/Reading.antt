@@ -1,3 +1,4 @@
+-- Ours: the model language has no standard.
 -- What the answers of the public calls mean.
 use Rattle.std.specs.Prelude.{List}
 use Rattle.grammar.specs.Syntax.{Syntax}

@@ -1,3 +1,4 @@
+-- Ours: the model language has no standard.
 -- Kinds of tokens, and single tokens.
 use Rattle.std.specs.Prelude.{◌≡◌, ℕ, List, cond, Option, Some, None, Result, Ok, Err, eqb}
 use Rattle.grammar.specs.Syntax.{Syntax, Fault, At, Over, among, one}

@@ -1,3 +1,4 @@
+-- Ours: the model language has no standard.
 -- Trees without where they lie in memory.
 use Rattle.std.specs.Prelude.{ℕ, Bool, true, false}
 use Rattle.grammar_example.specs.declared.token.Operator.{Operator}

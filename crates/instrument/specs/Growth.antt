@@ -1,3 +1,4 @@
+-- Ours: what loops of the code have added so far.
 -- What stands behind the variables and the code that are there.
 use Rattle.std.specs.Prelude.{◌≡◌, ◌++◌, ℕ, List, length, map}
 use Rattle.c_syntax.specs.Statements.{Declaration}

@@ -1,3 +1,4 @@
+-- Ours: bounds that the trees have by their types.
 -- What the numbers of a tree's types bound, in the parts that are translated: the number and the line of an annotation are of 32
 -- bits, a letter is a value of `char`, and registers can be numbered.
 use Rattle.std.specs.Prelude.{◌≡◌, true, ◌<◌, ◌^◌, ◌++◌, length, List, [], ◌∷◌, Option, Some, None}

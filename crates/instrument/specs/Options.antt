@@ -1,3 +1,4 @@
+-- Ours: plain forms.
 -- The plain form of what the translation takes: of what may be left out of a statement, and of where a statement stands. And full
 -- expressions in parts: what may be in a cast, and the cast.
 use Rattle.std.specs.Prelude.{ℕ, ◌+◌, List, [], ◌++◌, Option, Some, None}

@@ -1,3 +1,4 @@
+-- Ours: a choice of code; what it has to do is C99 6.8 and 6.9, by the theorem of this crate.
 -- The program in monitored C that an annotated program becomes. A variable's value stands in a register, and another register points to
 -- its block of memory, which is born and dies where the variable's does.
 use Rattle.std.specs.Prelude.{ℕ, suc, ◌+◌, List, [], ◌∷◌, ◌++◌, length, take, map, Option, Some, None, if◌then◌else◌, nat_eq, codes, bytes_eq}

@@ -1,3 +1,4 @@
+-- Ours, in words of the grammar of monitored C that stands in mon_syntax/specs/Grammar.
 -- What the answers on the tokens of a text mean.
 use Rattle.std.specs.Prelude.{◌≡◌, ℕ, Result, Ok, Err, Vec}
 use Rattle.std.specs.declared.alloc.Global.{Global}

@@ -1,3 +1,4 @@
+-- Ours: plain forms.
 -- The plain form of the tree of a monitored text: without boxes and vectors.
 use Rattle.std.specs.Prelude.{ℤ, pos, neg_ℤ, ◌^◌, List, [], ◌∷◌, map, option_map, if◌then◌else◌}
 use Rattle.mon_syntax.specs.Parsed.{NameUse, ParsedExpression, Name, Constant, Binary, Minus, Flip, Cast, ParsedArgument, Value, Number, Text, ParsedCall, ParsedStatement, Set, Take, Call, If, Loop, Labelled, Goto, Return, ParsedStatements, NoStatement, Then, ParsedRegister, ParsedFunction, ParsedProgram}

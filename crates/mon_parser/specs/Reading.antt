@@ -1,3 +1,4 @@
+-- Ours: how the code of a production compares with its grammar (mon_syntax/specs/Grammar).
 -- What a function returned is what the production gives, unless memory was wanting.
 use Rattle.std.specs.Prelude.{◌≡◌, ℕ, ◌-◌, ℤ, neg_ℤ, Bool, List, [], ◌∷◌, ◌++◌, map, Option, option_map, Result, Ok, Err, if◌then◌else◌}
 use Rattle.grammar.specs.Syntax.{Syntax, gives, one, ◌then◌, many, Fault, At, Over}

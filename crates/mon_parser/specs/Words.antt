@@ -1,3 +1,4 @@
+-- Ours: the plain form of a table.
 -- A table of words, by their bytes.
 use Rattle.std.specs.Prelude.{ℕ, List, map}
 use Rattle.std.specs.Borrow.{Bor}

@@ -1,3 +1,4 @@
+-- Ours, in words of mon_syntax/specs/Spelled.
 -- What the answers on a monitored text mean.
 use Rattle.std.specs.Prelude.{◌≡◌, ℕ, List, Some, None, Ok, Err}
 use Rattle.c_syntax.specs.declared.refusal.FrontFault.{FrontFault}

@@ -1,3 +1,4 @@
+-- Ours: the rules of monitored C.
 -- Names and types of a monitored text (E5, E6), with the program that it spells. A part's own demand is asked where none of its
 -- parts has a fault, and the first fault in text order counts.
 use Rattle.std.specs.Prelude.{ℕ, suc, unsigned_abs, List, [], ◌∷◌, ◌++◌, map, Option, Some, None, Result, Ok, Err, Bool, true, false, not, ◌&&◌, if◌then◌else◌, nat_eq, nat_le, slice_get, codes, bytes_eq, drop, length}

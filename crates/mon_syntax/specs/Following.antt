@@ -1,3 +1,4 @@
+-- Ours: the relation of two memories.
 -- When one memory stands for another: wherever the first has an answer, the second has one that means the same.
 use Rattle.std.specs.Prelude.{◌≡◌, ℤ, List, [], ◌∷◌, Option, Some, None}
 use Rattle.mon_syntax.specs.declared.tree.MemoryCall.{MemoryCall}

@@ -1,3 +1,4 @@
+-- Ours: the shape is that of C99 6.5 to 6.9, the language is of our own making.
 -- The grammar of monitored texts, with the trees that are read:
 --
 --   text      = head { function }

@@ -1,3 +1,4 @@
+-- Ours: laws of the definitions of this crate.
 -- Laws that the definitions meet: of arithmetic, of runs over one memory, and of runs over two.
 use Rattle.std.specs.Prelude.{◌≡◌, ℕ, ◌*◌, ◌^◌, ◌≤◌, ℤ, pos, ◌+ℤ◌, true, List, [], codes}
 use Rattle.c_syntax.specs.Programs.{TranslationUnit}

@@ -1,3 +1,4 @@
+-- Ours: the meaning of monitored C.
 -- What a program in monitored C does, over any memory.
 use Rattle.std.specs.Prelude.{ℕ, zero, suc, ◌+◌, ◌-◌, ◌%◌, ℤ, pos, negsuc, List, [], ◌∷◌, ◌++◌, length, replicate, Option, Some, None, if◌then◌else◌, slice_get, slice_set, bytes_eq, codes}
 use Rattle.std.specs.Ordering.{int_eq}

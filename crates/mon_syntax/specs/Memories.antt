@@ -1,3 +1,4 @@
+-- Ours: blocks are those of C99 6.2.4, flat memory is that of the machine.
 -- The two memories of monitored programs: numbered blocks, and flat bytes.
 use Rattle.std.specs.Prelude.{ℕ, zero, suc, ◌+◌, ◌-◌, ◌*◌, ◌^◌, nat_lt, nat_le, nat_eq, Bool, false, ◌&&◌, if◌then◌else◌, ℤ, pos, List, [], ◌∷◌, ◌++◌, length, Option, Some, None, slice_get, slice_set}
 use Rattle.c_syntax.specs.declared.types.BlockKind.TheVariants.{Stack}

@@ -1,3 +1,4 @@
+-- Ours: what both memories have.
 -- What a memory is to a monitored program: its values, its numbers, the calls of the runtime that work on it, and the frames of calls.
 use Rattle.std.specs.Prelude.{ℤ, List, Option}
 use Rattle.c_syntax.specs.declared.types.Segment.{Segment}

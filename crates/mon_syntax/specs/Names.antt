@@ -1,3 +1,4 @@
+-- Ours: the names that monitored C keeps.
 -- The words of monitored C, and the names that are free.
 use Rattle.std.specs.Prelude.{◌≡◌, ℕ, ◌≤◌, List, [], ◌∷◌, length, Bool, false, true, codes, bytes_eq}
 use Rattle.std.specs.List.{list_any, AllByRecursion}

@@ -1,3 +1,4 @@
+-- Ours: the trees of monitored texts.
 -- The tree of a monitored text as it is read, with its places; a name is given by its number among the text's names.
 use Rattle.std.specs.Prelude.{ℕ, ℤ, List, Option}
 use Rattle.c_syntax.specs.declared.place.Place.{Place}

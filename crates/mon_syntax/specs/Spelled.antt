@@ -1,3 +1,4 @@
+-- Ours: the phases of a text in monitored C.
 -- Which texts are monitored programs, and which are refused, why: by tokens, by grammar, by names and types, and for want of `main`.
 use Rattle.std.specs.Prelude.{◌≡◌, ℕ, suc, unsigned_abs, List, [], ◌∷◌, length, map, Option, Some, None, Result, Ok, Err, Bool, false, true, ◌&&◌, eqb, if◌then◌else◌, slice_get, codes, bytes_eq}
 use Rattle.std.specs.Fmt.{decimal}

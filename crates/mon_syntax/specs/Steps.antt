@@ -1,3 +1,4 @@
+-- Ours: a view of how a part ended.
 -- The steps that are left behind a part of a run.
 use Rattle.std.specs.Prelude.{ℕ}
 use Rattle.mon_syntax.specs.Meaning.{State, Result, Done, Stops}

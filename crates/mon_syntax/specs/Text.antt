@@ -1,3 +1,4 @@
+-- Ours: how monitored C is printed.
 -- The text of a program in monitored C: one statement a line, indented by two blanks for each body around it.
 use Rattle.std.specs.Prelude.{ℕ, suc, ◌+◌, ◌*◌, ◌/◌, ◌%◌, ℤ, pos, negsuc, List, [], ◌∷◌, ◌++◌, replicate, Option, Some, None, Bool, not, ◌&&◌, if◌then◌else◌, nat_le, nat_eq, slice_get, codes, map}
 use Rattle.std.specs.Fmt.{decimal}

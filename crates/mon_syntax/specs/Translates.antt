@@ -1,3 +1,4 @@
+-- Ours: what the translation owes its source.
 -- When a program in monitored C is a translation of a program in annotated C.
 use Rattle.std.specs.Prelude.{ℕ}
 use Rattle.c_syntax.specs.Programs.{TranslationUnit}

@@ -1,3 +1,4 @@
+-- Ours: the trees of monitored C.
 -- The plain form of programs in monitored C: without boxes and vectors.
 use Rattle.std.specs.Prelude.{ℕ, ℤ, List, [], ◌∷◌, map, Option, option_map}
 use Rattle.c_syntax.specs.declared.annotation.Kind.{Kind}

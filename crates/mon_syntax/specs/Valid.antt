@@ -1,3 +1,4 @@
+-- Ours: the rules of monitored C, of its trees.
 -- Which programs in monitored C are valid: names, types, labels, the step of each loop, and limits.
 use Rattle.std.specs.Prelude.{◌≡◌, ℕ, suc, ◌≤◌, ◌<◌, max, ℤ, neg_ℤ, pos, ◌^◌, Bool, true, false, not, ◌&&◌, if◌then◌else◌, List, [], ◌∷◌, ◌++◌, map, Option, Some, None, slice_get, codes, bytes_eq}
 use Rattle.std.specs.Ordering.{int_eq}

@@ -1,3 +1,4 @@
+-- Ours: parts of mon_syntax/specs/Checking, as the code does them.
 -- Arguments of calls, one after another.
 use Rattle.std.specs.Prelude.{ℕ, List, None, Ok}
 use Rattle.c_syntax.specs.declared.annotation.Kind.{Kind}

@@ -1,3 +1,4 @@
+-- Ours: parts of mon_syntax/specs/Checking, as the code does them.
 -- Functions from what is checked of them.
 use Rattle.std.specs.Prelude.{ℕ, List, [], map, ◌&&◌, if◌then◌else◌}
 use Rattle.mon_syntax.specs.declared.tree.MonType.{MonType}

@@ -1,3 +1,4 @@
+-- Ours: plain forms, and parts of mon_syntax/specs/Checking.
 -- What functions are to their callers, and which is the first of a name.
 use Rattle.std.specs.Prelude.{◌≡◌, ℕ, List, Option, Some, None, option_map, map, [], ◌∷◌, ◌++◌, Bool, false, nat_eq, if◌then◌else◌}
 use Rattle.std.specs.List.{list_any}

@@ -1,3 +1,4 @@
+-- Ours: laws of mon_syntax/specs/Checking.
 -- A tree without a fault spells a valid program.
 use Rattle.std.specs.Prelude.{◌≡◌, ℕ, ◌≤◌, List, length, map, None, Ok, true}
 use Rattle.std.specs.List.{AllByRecursion}

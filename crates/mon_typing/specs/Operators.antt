@@ -1,3 +1,4 @@
+-- Ours: parts of mon_syntax/specs/Checking, as the code does them.
 -- Operators on operands that have no fault.
 use Rattle.std.specs.Prelude.{ℤ, Ok, ◌&&◌}
 use Rattle.c_syntax.specs.declared.place.Place.{Place}

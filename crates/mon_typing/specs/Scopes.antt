@@ -1,3 +1,4 @@
+-- Ours: plain forms.
 -- What is known of a text's names, without references.
 use Rattle.std.specs.Prelude.{ℕ, List, map, Bool, not, ◌&&◌, nat_eq}
 use Rattle.std.specs.List.{list_any}

@@ -1,3 +1,4 @@
+-- Ours: parts of mon_syntax/specs/Checking, as the code does them.
 -- Statements from what is checked of them.
 use Rattle.std.specs.Prelude.{ℕ, List, Option, Ok}
 use Rattle.mon_syntax.specs.declared.tree.MonType.{MonType}

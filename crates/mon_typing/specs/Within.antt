@@ -1,3 +1,4 @@
+-- Ours: what the grammar of monitored C keeps to.
 -- What a tree that is read keeps to besides names and types: the limits of this profile, the steps of its loops, the bytes of its
 -- strings, and the numbers of its names.
 use Rattle.std.specs.Prelude.{◌≡◌, ℕ, suc, ◌<◌, ◌≤◌, max, Option, Some, None, Bool, true, not, ◌&&◌}

@@ -1,3 +1,4 @@
+-- Ours: the order of bytes is that of the profile, little-endian.
 -- Numbers and their bytes, the lowest first.
 use Rattle.std.specs.Prelude.{ℕ, zero, suc, ◌+◌, ◌*◌, ◌/◌, ◌%◌, List, [], ◌∷◌, ◌++◌, length, take, drop, ◌==◌, ◌||◌, IsTrue}
 

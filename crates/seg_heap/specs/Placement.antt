@@ -1,3 +1,4 @@
+-- Ours: C99 7.20.3 leaves a block's place open.
 -- Where a block may lie in the heap's segment.
 use Rattle.std.specs.Prelude.{◌≡◌, ℕ, ◌+◌, ◌*◌, ◌/◌, ◌%◌, ◌≤◌, ◌⊎◌, not, ◌==◌, nat_lt, List, ◌∷◌, ◌++◌, All, AllPairs, Any, filter, length}
 use Rattle.std.specs.List.{AllWithin}

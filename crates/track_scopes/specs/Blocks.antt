@@ -1,3 +1,4 @@
+-- Lifetimes are those of C99 6.2.4; registers and statements are ours.
 -- The blocks of a function's variables in monitored C. A variable's value stands in a register, and another register points to its block
 -- of memory, which is born and dies where the variable's does.
 use Rattle.std.specs.Prelude.{ℕ, suc, ◌+◌, pos, List, [], ◌∷◌, length, cond, nat_eq, Some, None}

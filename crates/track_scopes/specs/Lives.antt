@@ -1,3 +1,4 @@
+-- Lifetimes are those of C99 6.2.4; the relation is ours.
 -- What it means that the same blocks live in a program and in monitored C, where scopes are entered and left.
 use Rattle.std.specs.Prelude.{◌≡◌, ◌≢◌, ℕ, ◌<◌, List, [], ◌∷◌, ◌++◌, length, option_map, Some, slice_get}
 use Rattle.c_syntax.specs.declared.types.Segment.{Segment}
