@@ -29,7 +29,7 @@ use Rattle.instrument.specs.Limits.{FunctionsHaveNumbers}
 use Rattle.c_effects.specs.Expressions.{one}
 use Rattle.instrument.specs.Translation.{function_of, functions_from, index_of_main}
 use Rattle.c_effects.specs.Effects.{index_of, call}
-use Rattle.instrument.specs.Translation as target
+use Rattle.c_effects.specs.Effects as effects
 use Rattle.instrument.proofs.Variables.{Setting}
 use Rattle.instrument.proofs.Results.{one_is}
 use Rattle.instrument.proofs.Evaluating.{Target, runs}
@@ -234,7 +234,7 @@ module _ (p : TranslationUnit) (q : IsProgram p) (numbers : FunctionsHaveNumbers
 
     code_is : (n : ℕ) (into : Option ℕ) (args : List MonExpression) (regs : List BlockValue) (t : Target) → runs w n t (call p into f args) regs ≡ monitored.exec over_blocks (tree.Call into (index_of f.decl p.funcs) args) w.calls n regs t
     code_is n into args regs t =
-        ap (λ b. runs w n t (if b then target.library_call into (name_at p.names f.name) args else one (tree.Call into (index_of f.decl p.funcs) args)) regs) l
+        ap (λ b. runs w n t (if b then effects.library_call into (name_at p.names f.name) args else one (tree.Call into (index_of f.decl p.funcs) args)) regs) l
         ∙ one_is (tree.Call into (index_of f.decl p.funcs) args) w.calls n regs t
 
     function_is : slice_get functions (index_of f.decl p.funcs) ≡ Some (function_of p main index g)

@@ -19,7 +19,7 @@ use Rattle.mon_syntax.specs.Meaning.{◌>>=◌ as bind}
 use Rattle.mon_syntax.specs.Memories.{BlockValue, Whole, integer_of, over_blocks}
 use Rattle.mon_syntax.specs.Trees.{MonExpression, PutChar, GetChar, Exit, Call, MonStatements, NoStatement}
 use Rattle.c_effects.specs.Expressions.{one}
-use Rattle.instrument.specs.Translation as target
+use Rattle.c_effects.specs.Effects as effects
 use Rattle.c_effects.specs.Effects.{index_of, call}
 use Rattle.instrument.proofs.Variables.{Setting}
 use Rattle.instrument.proofs.Values.{Has}
@@ -70,7 +70,7 @@ source_by a b c at vs = if a then put_char at vs else (if b then get_char at vs 
 
 abbrev target_by : Bool → Bool → Bool → Option ℕ → List MonExpression → MonStatements
 target_by a b c into args =
-    if a then one (PutChar into (target.first_of args)) else (if b then one (GetChar into) else (if c then one (Exit (target.first_of args)) else NoStatement))
+    if a then one (PutChar into (effects.first_of args)) else (if b then one (GetChar into) else (if c then one (Exit (effects.first_of args)) else NoStatement))
 
 -- a call of the library in the source, and its statements
 module _ (p : TranslationUnit) (w : Setting) (n depth : ℕ) (calls : w.call ≡ call_of p depth) (f : Use) (library : is_of_library f ≡ true) where
@@ -84,22 +84,22 @@ module _ (p : TranslationUnit) (w : Setting) (n depth : ℕ) (calls : w.call ≡
       by zero = ap (λ b. (if b then library_call at (slice_get p.names f.name) vs else stop (Over Spent)) s) library
       by (suc k) = ap (λ b. (if b then library_call at (slice_get p.names f.name) vs else call_with (definition_at f.decl p.funcs) (call_of p k) k at vs) s) library
 
-  code_is : (into : Option ℕ) (args : List MonExpression) → call p into f args ≡ target.library_call into name args
-  code_is into args = ap (λ b. if b then target.library_call into name args else one (Call into (index_of f.decl p.funcs) args)) library
+  code_is : (into : Option ℕ) (args : List MonExpression) → call p into f args ≡ effects.library_call into name args
+  code_is into args = ap (λ b. if b then effects.library_call into name args else one (Call into (index_of f.decl p.funcs) args)) library
 
   -- what the call does
   abbrev pub Does : List CInt → PlainType → Type 0
   Does ints result = (zs : List ℤ) → AllFit ints zs → (s : State) (t : Target) → Even s t → s.steps ≤ n → (at : Place) (into : Option ℕ) (regs : List BlockValue) (args : List MonExpression) → eval_all over_blocks args regs ≡ Some (wholes zs) → CallDoes s result (w.call at f (integers zs) s) into regs (runs w n t (call p into f args) regs)
 
   -- the same over what is known of the name
-  from_names : (ints : List CInt) (result : PlainType) → ((zs : List ℤ) → AllFit ints zs → (s : State) (t : Target) → Even s t → (at : Place) (into : Option ℕ) (regs : List BlockValue) (args : List MonExpression) → eval_all over_blocks args regs ≡ Some (wholes zs) → CallDoes s result (library_call at (slice_get p.names f.name) (integers zs) s) into regs (runs w n t (target.library_call into name args) regs)) → Does ints result
+  from_names : (ints : List CInt) (result : PlainType) → ((zs : List ℤ) → AllFit ints zs → (s : State) (t : Target) → Even s t → (at : Place) (into : Option ℕ) (regs : List BlockValue) (args : List MonExpression) → eval_all over_blocks args regs ≡ Some (wholes zs) → CallDoes s result (library_call at (slice_get p.names f.name) (integers zs) s) into regs (runs w n t (effects.library_call into name args) regs)) → Does ints result
   from_names ints result h zs fit s t even le at into regs args has =
       subst (λ r. CallDoes s result r into regs (runs w n t (call p into f args) regs)) (sym (source_is at (integers zs) s))
       (subst (λ a. CallDoes s result (library_call at (slice_get p.names f.name) (integers zs) s) into regs (runs w n t a regs)) (sym (code_is into args))
       (h zs fit s t even at into regs args has))
 
   -- the one argument
-  first_has : (args : List MonExpression) (regs : List BlockValue) (z : ℤ) → eval_all over_blocks args regs ≡ Some (Whole z ∷ []) → Has (target.first_of args) regs z
+  first_has : (args : List MonExpression) (regs : List BlockValue) (z : ℤ) → eval_all over_blocks args regs ≡ Some (Whole z ∷ []) → Has (effects.first_of args) regs z
   first_has [] regs z e = absurd cc
   first_has (a ∷ args) regs z e = by (eval over_blocks a regs) refl e
     where
@@ -116,7 +116,7 @@ module _ (p : TranslationUnit) (w : Setting) (n depth : ℕ) (calls : w.call ≡
   pub putchar_does : bytes_eq name (codes "putchar") ≡ true → Does (I32 ∷ []) int_type
   putchar_does e = from_names (I32 ∷ []) int_type by
     where
-      prints : (s : State) (t : Target) → Even s t → (at : Place) (into : Option ℕ) (regs : List BlockValue) (args : List MonExpression) (z : ℤ) → eval_all over_blocks args regs ≡ Some (Whole z ∷ []) → CallDoes s int_type (library_call at (slice_get p.names f.name) (Integer z ∷ []) s) into regs (runs w n t (target.library_call into name args) regs)
+      prints : (s : State) (t : Target) → Even s t → (at : Place) (into : Option ℕ) (regs : List BlockValue) (args : List MonExpression) (z : ℤ) → eval_all over_blocks args regs ≡ Some (Whole z ∷ []) → CallDoes s int_type (library_call at (slice_get p.names f.name) (Integer z ∷ []) s) into regs (runs w n t (effects.library_call into name args) regs)
       prints s t even at into regs args z has =
           let x = there p.names f.name 112 (117 ∷ 116 ∷ 99 ∷ 104 ∷ 97 ∷ 114 ∷ []) e in
           let byte = byte_of z in
@@ -126,14 +126,14 @@ module _ (p : TranslationUnit) (w : Setting) (n depth : ℕ) (calls : w.call ≡
           ∙ ap (λ a. source_by a (bytes_eq x.name (codes "getchar")) (bytes_eq x.name (codes "exit")) at (Integer z ∷ []) s) x.is in
           DoesCall (Done (Whole (pos byte)) t (byte ∷ []))
           (ap (λ a. runs w n t (target_by a (bytes_eq name (codes "getchar")) (bytes_eq name (codes "exit")) into args) regs) e
-          ∙ one_is (PutChar into (target.first_of args)) w.calls n regs t
+          ∙ one_is (PutChar into (effects.first_of args)) w.calls n regs t
           ∙ ap (λ o. with_value (bind o integer_of) t.steps (λ i. Done (Next (given_to into (Whole (pos (byte_of i))) regs)) t (byte_of i ∷ []))) (first_has args regs z has))
           (Gives (Some (pos byte)) (Whole (pos byte)) to t (byte ∷ []) (byte_fits byte (byte_below z)) refl
           (record { scope = refl; calls = refl; live = refl; below = λ j lt. refl; longer = omega arith; spent = omega arith; output = refl })
           (record { long = even.long; live = even.live; frames = even.frames; steps = even.steps; input = even.input })
           source refl)
 
-      by : (zs : List ℤ) → AllFit (I32 ∷ []) zs → (s : State) (t : Target) → Even s t → (at : Place) (into : Option ℕ) (regs : List BlockValue) (args : List MonExpression) → eval_all over_blocks args regs ≡ Some (wholes zs) → CallDoes s int_type (library_call at (slice_get p.names f.name) (integers zs) s) into regs (runs w n t (target.library_call into name args) regs)
+      by : (zs : List ℤ) → AllFit (I32 ∷ []) zs → (s : State) (t : Target) → Even s t → (at : Place) (into : Option ℕ) (regs : List BlockValue) (args : List MonExpression) → eval_all over_blocks args regs ≡ Some (wholes zs) → CallDoes s int_type (library_call at (slice_get p.names f.name) (integers zs) s) into regs (runs w n t (effects.library_call into name args) regs)
       by [] fit s t even at into regs args has = absurd fit
       by (z ∷ []) fit s t even at into regs args has = prints s t even at into regs args z has
       by (z ∷ y ∷ zs) fit s t even at into regs args has = absurd fit.1
@@ -161,7 +161,7 @@ module _ (p : TranslationUnit) (w : Setting) (n depth : ℕ) (calls : w.call ≡
   pub getchar_does : bytes_eq name (codes "putchar") ≡ false → bytes_eq name (codes "getchar") ≡ true → Does [] int_type
   getchar_does e1 e2 = from_names [] int_type by
     where
-      by : (zs : List ℤ) → AllFit [] zs → (s : State) (t : Target) → Even s t → (at : Place) (into : Option ℕ) (regs : List BlockValue) (args : List MonExpression) → eval_all over_blocks args regs ≡ Some (wholes zs) → CallDoes s int_type (library_call at (slice_get p.names f.name) (integers zs) s) into regs (runs w n t (target.library_call into name args) regs)
+      by : (zs : List ℤ) → AllFit [] zs → (s : State) (t : Target) → Even s t → (at : Place) (into : Option ℕ) (regs : List BlockValue) (args : List MonExpression) → eval_all over_blocks args regs ≡ Some (wholes zs) → CallDoes s int_type (library_call at (slice_get p.names f.name) (integers zs) s) into regs (runs w n t (effects.library_call into name args) regs)
       by (z ∷ zs) fit s t even at into regs args has = absurd fit
       by [] fit s t even at into regs args has =
           let x = there p.names f.name 103 (101 ∷ 116 ∷ 99 ∷ 104 ∷ 97 ∷ 114 ∷ []) e2 in
@@ -170,7 +170,7 @@ module _ (p : TranslationUnit) (w : Setting) (n depth : ℕ) (calls : w.call ≡
           ap (λ o. library_call at o [] s) x.found
           ∙ ap (λ a. source_by a (bytes_eq x.name (codes "getchar")) (bytes_eq x.name (codes "exit")) at [] s) (ap (λ y. bytes_eq y (codes "putchar")) (sym named) ∙ e1)
           ∙ ap (λ b. source_by false b (bytes_eq x.name (codes "exit")) at [] s) x.is in
-          let is : runs w n t (target.library_call into name args) regs ≡ then_do (reads s.input.bytes s.input.tail t) (takes into regs) =
+          let is : runs w n t (effects.library_call into name args) regs ≡ then_do (reads s.input.bytes s.input.tail t) (takes into regs) =
           ap (λ a. runs w n t (target_by a (bytes_eq name (codes "getchar")) (bytes_eq name (codes "exit")) into args) regs) e1
           ∙ ap (λ b. runs w n t (target_by false b (bytes_eq name (codes "exit")) into args) regs) e2
           ∙ one_is (GetChar into) w.calls n regs t
@@ -184,7 +184,7 @@ module _ (p : TranslationUnit) (w : Setting) (n depth : ℕ) (calls : w.call ≡
   pub exit_does : bytes_eq name (codes "putchar") ≡ false → bytes_eq name (codes "getchar") ≡ false → bytes_eq name (codes "exit") ≡ true → Does (I32 ∷ []) Void
   exit_does e1 e2 e3 = from_names (I32 ∷ []) Void by
     where
-      exits : (s : State) (t : Target) → Even s t → (at : Place) (into : Option ℕ) (regs : List BlockValue) (args : List MonExpression) (z : ℤ) → eval_all over_blocks args regs ≡ Some (Whole z ∷ []) → CallDoes s Void (library_call at (slice_get p.names f.name) (Integer z ∷ []) s) into regs (runs w n t (target.library_call into name args) regs)
+      exits : (s : State) (t : Target) → Even s t → (at : Place) (into : Option ℕ) (regs : List BlockValue) (args : List MonExpression) (z : ℤ) → eval_all over_blocks args regs ≡ Some (Whole z ∷ []) → CallDoes s Void (library_call at (slice_get p.names f.name) (Integer z ∷ []) s) into regs (runs w n t (effects.library_call into name args) regs)
       exits s t even at into regs args z has =
           let x = there p.names f.name 101 (120 ∷ 105 ∷ 116 ∷ []) e3 in
           let named : name ≡ x.name = ap (λ o. elim o as (λ _. List ℕ) [ None ↦ [] | Some w ↦ w ]) x.found in
@@ -198,11 +198,11 @@ module _ (p : TranslationUnit) (w : Setting) (n depth : ℕ) (calls : w.call ≡
           (ap (λ a. runs w n t (target_by a (bytes_eq name (codes "getchar")) (bytes_eq name (codes "exit")) into args) regs) e1
           ∙ ap (λ b. runs w n t (target_by false b (bytes_eq name (codes "exit")) into args) regs) e2
           ∙ ap (λ c. runs w n t (target_by false false c into args) regs) e3
-          ∙ one_is (Exit (target.first_of args)) w.calls n regs t
+          ∙ one_is (Exit (effects.first_of args)) w.calls n regs t
           ∙ ap (λ o. with_value (bind o integer_of) t.steps (λ i. Stops (Exits i) t.steps [])) (first_has args regs z has))
           (EndsRun (Exits z) s [] (λ h. absurd cc) source (sym (append-nil s.output)) (ap (λ k. Stops (Exits z) k []) even.steps))
 
-      by : (zs : List ℤ) → AllFit (I32 ∷ []) zs → (s : State) (t : Target) → Even s t → (at : Place) (into : Option ℕ) (regs : List BlockValue) (args : List MonExpression) → eval_all over_blocks args regs ≡ Some (wholes zs) → CallDoes s Void (library_call at (slice_get p.names f.name) (integers zs) s) into regs (runs w n t (target.library_call into name args) regs)
+      by : (zs : List ℤ) → AllFit (I32 ∷ []) zs → (s : State) (t : Target) → Even s t → (at : Place) (into : Option ℕ) (regs : List BlockValue) (args : List MonExpression) → eval_all over_blocks args regs ≡ Some (wholes zs) → CallDoes s Void (library_call at (slice_get p.names f.name) (integers zs) s) into regs (runs w n t (effects.library_call into name args) regs)
       by [] fit s t even at into regs args has = absurd fit
       by (z ∷ []) fit s t even at into regs args has = exits s t even at into regs args z has
       by (z ∷ y ∷ zs) fit s t even at into regs args has = absurd fit.1

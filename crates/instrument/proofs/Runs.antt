@@ -7,7 +7,7 @@ use Rattle.std.specs.Prelude.{slice_get, bytes_eq, codes}
 use Rattle.c_syntax.specs.Ctypes.{int_type}
 use Rattle.c_syntax.specs.Statements.{Declaration}
 use Rattle.c_syntax.specs.Programs.{Function, TranslationUnit}
-use Rattle.c_model.specs.State.{State, Mark, Input, Outcome, Normal, Stop, on_outcome, ◌>>◌, frame, births, mark, within, restored, back_to}
+use Rattle.c_model.specs.State.{State, Input, Outcome, ◌>>◌, frame, births, mark, within, restored}
 use Rattle.c_model.specs.State as source
 use Rattle.c_model.specs.Meaning.{is_definition, body_with, call_of, has_name, function_named, main_with, start, Ran, ran, run}
 use Rattle.c_model.specs.Reports.{Extends, Agrees}
@@ -15,7 +15,7 @@ use Rattle.c_model.specs.Typing.{name_at, same_type}
 use Rattle.c_model.specs.ProgramTyping.{main_fault, has_no_parameters, no_main}
 use Rattle.c_model.specs.Formed.{IsProgram}
 use Rattle.c_model.proofs.Agreement.{Agrees-same, extends_trans}
-use Rattle.mon_syntax.specs.Meaning.{Result, Done, Stops, Flow, Next, then_do, at_return, exit_of, registers, level, writes, body_runs, left_frame}
+use Rattle.mon_syntax.specs.Meaning.{Result, Done, Stops, Next, then_do, at_return, exit_of, registers, level, body_runs}
 use Rattle.mon_syntax.specs.Meaning as monitored
 use Rattle.mon_syntax.specs.Memories.{BlockValue, Whole, over_blocks, integer_of, block_run}
 use Rattle.mon_syntax.specs.Trees.{MonFunction}
@@ -150,16 +150,6 @@ module _ (w : Setting) (ps : List Slot) (s0 from : State) (empty : from.output �
       subst (λ r. Agrees (ran (restored s0 r)) (ended q)) (sym e)
       (record { rest = far.rest; is = ran_output end ∙ far.is ∙ ap (λ x. x ++ far.rest) (sym (l ∙ ap (λ x. x ++ o) empty)) })
 
-  -- the source's run is never over as a fault
-  ends_sound : (r : Outcome (Unit {0})) (q : Did) → Follows w (at_body ps int_type) Next from r q → (ran (restored s0 r)).final ≡ source.Fault → ⊥
-  ends_sound r q (GoesOn s regs t o m b l e e') f = let g : source.Exits (pos 0) ≡ source.Fault = subst (λ r. (ran (restored s0 r)).final ≡ source.Fault) e f in absurd cc
-  ends_sound r q (Breaks s regs t o i m b l e e') f = absurd cc
-  ends_sound r q (Continues s regs t o i m b l e e') f = absurd cc
-  ends_sound r q (IsLeft None s regs t o i m b l e e') f = absurd i
-  ends_sound r q (IsLeft (Some z) s regs t o i m b l e e') f = let g : source.Exits z ≡ source.Fault = subst (λ r. (ran (restored s0 r)).final ≡ source.Fault) e f in absurd cc
-  ends_sound r q (IsOver y s o d e l e') f = d (subst (λ r. (ran (restored s0 r)).final ≡ source.Fault) e f)
-  ends_sound r q (IsUndefined at s o e l ext) f = let g : source.Undefined at ≡ source.Fault = subst (λ r. (ran (restored s0 r)).final ≡ source.Fault) e f in absurd cc
-
 -- ---- the whole run
 
 module _ (p : TranslationUnit) (q : IsProgram p) (numbers : FunctionsHaveNumbers p.funcs) (input : Input) (n : ℕ) where
@@ -247,8 +237,3 @@ module _ (p : TranslationUnit) (q : IsProgram p) (numbers : FunctionsHaveNumbers
       subst (λ a. Agrees a (block_run (translated p) input n)) (sym source_is)
       (subst (λ b. Agrees (ran (restored (start input n) (body_with f.body (call_of p (suc n)) (suc n) entered))) b) (sym target_is)
       (ends_agree w ps (start input n) entered refl _ did body_does))
-
-  -- the source's run is never over as a fault
-  pub never_faults : (run p input n).final ≡ source.Fault → ⊥
-  never_faults e =
-      ends_sound w ps (start input n) entered refl _ did body_does (ap (λ (r : Ran). r.final) (sym source_is) ∙ e)

@@ -30,6 +30,7 @@ use Rattle.instrument.specs.Translation.{Spot, statement_temporaries, else_tempo
 use Rattle.c_effects.specs.Effects.{full_temporaries, full_setup, full_value, effect_temporaries, any_temporaries, initial_temporaries, declaration_temporaries, effect_if_any}
 use Rattle.track_scopes.specs.Blocks.{deaths, with_born}
 use Rattle.instrument.specs.Translation as target
+use Rattle.c_effects.specs.Effects as effects
 use Rattle.instrument.proofs.Variables.{Slot, Setting, count, Related, Beside, IsSet, AllMatch, kept_refl, related_same}
 use Rattle.instrument.proofs.Results.{writes_none, one_is, before_is}
 use Rattle.instrument.proofs.Evaluating.{Target, runs, if_runs}
@@ -160,7 +161,7 @@ module _ (p : TranslationUnit) (w : Setting) (n most : ℕ) (names : List (List 
   condition_int : (s : Scopes) (e : Expression) → IsCondition s e → HasInt (type_of e)
   condition_int s e c = scalar_int (type_of e) c.scalar
 
-  effect_does : (h : Here) (s : Scopes) (g : Stage h.slots s) (rs : List MonType) (e : Expression) → IsEffectOrCall e → WellTyped s e → EffectHasLetters e → count w + count w ≤ length rs → length (rs ++ effect_temporaries e) ≤ w.registers → DoSame h s (effect_with (Some e) w.call) (target.effect p w.numbers rs e)
+  effect_does : (h : Here) (s : Scopes) (g : Stage h.slots s) (rs : List MonType) (e : Expression) → IsEffectOrCall e → WellTyped s e → EffectHasLetters e → count w + count w ≤ length rs → length (rs ++ effect_temporaries e) ≤ w.registers → DoSame h s (effect_with (Some e) w.call) (effects.effect p w.numbers rs e)
   effect_does h s g rs e pure q l behind enough = λ regs from t m le.
       effect_follows p w n h s (scene_of h.slots s g) from t m.ready le rs behind regs m.related m.beside e pure q l enough
 
@@ -215,22 +216,22 @@ module _ (p : TranslationUnit) (w : Setting) (n most : ℕ) (names : List (List 
   objects_stage slots s [] x g = g
   objects_stage slots s (d ∷ ds) x g = objects_stage slots (with_object s d) ds x.1 (object_stage slots s d x.0 g)
 
-  declared_does : (h : Here) (ds : List Declaration) (s : Scopes) (rs : List MonType) (rest : Evaluation (Unit {0})) (code : MonStatements) → Stage h.slots s → HaveSlots h.slots ds → AreInitialised most ds → AreDeclared s ds → InitialsHaveLetters ds → count w + count w ≤ length rs → length (rs ++ declaration_temporaries ds) ≤ w.registers → DoSame h (with_objects s ds) rest code → DoSame h s (initialise_all ds w.call >> rest) (before (target.initialise_all p w.numbers rs ds) code)
+  declared_does : (h : Here) (ds : List Declaration) (s : Scopes) (rs : List MonType) (rest : Evaluation (Unit {0})) (code : MonStatements) → Stage h.slots s → HaveSlots h.slots ds → AreInitialised most ds → AreDeclared s ds → InitialsHaveLetters ds → count w + count w ≤ length rs → length (rs ++ declaration_temporaries ds) ≤ w.registers → DoSame h (with_objects s ds) rest code → DoSame h s (initialise_all ds w.call >> rest) (before (effects.initialise_all p w.numbers rs ds) code)
   declared_does h [] s rs rest code g x pure q l behind enough go = go
   declared_does h (d ∷ ds) s rs rest code g x pure q l behind enough go = λ regs from t m le.
       let here = initial_temporaries d.init in
       let next = rs ++ here in
       let long = two rs here (declaration_temporaries ds) in
       let later = declared_does h ds (with_object s d) next rest code (object_stage h.slots s d x.0 g) x.1 pure.1 q.1 l.1 (omega (arith, behind, longer rs here)) (omega (arith, long, enough)) go in
-      subst (λ r. Follows w h Next from r (runs w n t (before (before (target.initialise p w.numbers rs (number_of d) d.init) (target.initialise_all p w.numbers next ds)) code) regs)) (sym (handed_on (source.initialise d d.init w.call from) (λ _. initialise_all ds w.call) (λ _. rest)))
-      (subst (λ a. Follows w h Next from (on_outcome (source.initialise d d.init w.call from) (λ _. initialise_all ds w.call >> rest)) (runs w n t a regs)) (sym (before_assoc (target.initialise p w.numbers rs (number_of d) d.init) (target.initialise_all p w.numbers next ds) code))
+      subst (λ r. Follows w h Next from r (runs w n t (before (before (effects.initialise p w.numbers rs (number_of d) d.init) (effects.initialise_all p w.numbers next ds)) code) regs)) (sym (handed_on (source.initialise d d.init w.call from) (λ _. initialise_all ds w.call) (λ _. rest)))
+      (subst (λ a. Follows w h Next from (on_outcome (source.initialise d d.init w.call from) (λ _. initialise_all ds w.call >> rest)) (runs w n t a regs)) (sym (before_assoc (effects.initialise p w.numbers rs (number_of d) d.init) (effects.initialise_all p w.numbers next ds) code))
       (by regs from t m le d.init (omega (arith, long, longer next (declaration_temporaries ds), enough)) pure.0 q.0.init l.0
       (λ to u o after r be la is_set. later after to u (record { related = r; beside = be; ready = ready_declared to.store h.slots s.objects d x.0 is_set (ready_later from.store to.store h.slots s.objects la.kept m.ready) }) (omega (arith, le, la.spent)))))
     where
       after_it : MonStatements
-      after_it = before (target.initialise_all p w.numbers (rs ++ initial_temporaries d.init) ds) code
+      after_it = before (effects.initialise_all p w.numbers (rs ++ initial_temporaries d.init) ds) code
 
-      by : (regs : List BlockValue) (from : State) (t : Target) (m : Meets w h.slots s.objects regs from t) (le : from.steps ≤ n) → (o : Option (Place × Initialiser)) → length (rs ++ initial_temporaries o) ≤ w.registers → IsInitialiser most o → Initialises s d.ctype o → InitialHasLetters o → ((to : State) (u : Target) (out : List ℕ) (after : List BlockValue) → Related w h.slots after to → Beside w h.slots to u → Later h.slots from to out → IsSet to.store x.0.slot → Follows w h Next to ((initialise_all ds w.call >> rest) to) (runs w n u after_it after)) → Follows w h Next from (on_outcome (source.initialise d o w.call from) (λ _. initialise_all ds w.call >> rest)) (runs w n t (before (target.initialise p w.numbers rs (number_of d) o) after_it) regs)
+      by : (regs : List BlockValue) (from : State) (t : Target) (m : Meets w h.slots s.objects regs from t) (le : from.steps ≤ n) → (o : Option (Place × Initialiser)) → length (rs ++ initial_temporaries o) ≤ w.registers → IsInitialiser most o → Initialises s d.ctype o → InitialHasLetters o → ((to : State) (u : Target) (out : List ℕ) (after : List BlockValue) → Related w h.slots after to → Beside w h.slots to u → Later h.slots from to out → IsSet to.store x.0.slot → Follows w h Next to ((initialise_all ds w.call >> rest) to) (runs w n u after_it after)) → Follows w h Next from (on_outcome (source.initialise d o w.call from) (λ _. initialise_all ds w.call >> rest)) (runs w n t (before (effects.initialise p w.numbers rs (number_of d) o) after_it) regs)
       by regs from t m le None room i j k go = absurd i
       by regs from t m le (Some (at, One e)) room i j k go =
           initial_follows p w n h s (scene_of h.slots s g) from t m.ready le rs behind regs m.related m.beside d at e x.0.slot (initialise_all ds w.call >> rest) after_it x.0.found x.0.ctype i.is j.0 j.1 k room go
@@ -280,7 +281,7 @@ module _ (p : TranslationUnit) (w : Setting) (n most : ℕ) (names : List (List 
   first_then : (first : ForFirst) (s : Scopes) (r : Around) (h : Here) (spot : Spot) (rs : List MonType) (x : Evaluation (Unit {0})) (code : MonStatements) (old : State) → Stage (behind_births h old (declared_first first)).slots (inner s) → HaveSlots (behind_births h old (declared_first first)).slots (declared_first first) → FirstFormed most first → FirstTyped (inner s) r first → FirstHasNumbers first → count w + count w ≤ length rs → length (rs ++ first_temporaries first) ≤ w.registers → (Stage (behind_births h old (declared_first first)).slots (behind_first (inner s) first) → DoSame (behind_births h old (declared_first first)) (behind_first (inner s) first) x code) → DoSame (behind_births h old (declared_first first)) (inner s) (first_with first w.call (suc n) >> x) (before (first_part p w.numbers (with_variables w.numbers (declared_first first) spot) rs first) code)
   first_then NoFirst s r h spot rs x code old g have f q l behind enough go = go g
   first_then (First (Run (Eval at e))) s r h spot rs x code old g have f q l behind enough go =
-      in_order (behind_births h old []) (inner s) (effect_with (Some e) w.call) x (target.effect p w.numbers rs e) code (effect_does (behind_births h old []) (inner s) g rs e f.is q l behind enough) (go g)
+      in_order (behind_births h old []) (inner s) (effect_with (Some e) w.call) x (effects.effect p w.numbers rs e) code (effect_does (behind_births h old []) (inner s) g rs e f.is q l behind enough) (go g)
   first_then (First (Declare ds)) s r h spot rs x code old g have f q l behind enough go =
       declared_does (behind_births h old ds) ds (inner s) rs x code g have f q l behind enough (go (objects_stage (behind_births h old ds).slots (inner s) ds have g))
   first_then _ s r h spot rs x code old g have f q l behind enough go = absurd f

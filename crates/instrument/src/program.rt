@@ -7,7 +7,7 @@ ghost use Rattle.c_syntax.specs.Statements.{plain_stmt};
 ghost use Rattle.c_model.specs.Formed.{IsProgram};
 ghost use Rattle.c_model.specs.Meaning.{is_definition, run};
 ghost use Rattle.c_model.specs.Reports.{Agrees};
-ghost use Rattle.c_model.specs.State.{Fault, Input};
+ghost use Rattle.c_model.specs.State.{Input};
 ghost use Rattle.c_model.specs.Typing.{name_at};
 ghost use Rattle.mon_syntax.specs.Memories.{block_run};
 ghost use Rattle.mon_syntax.specs.Trees.{plain_func as plain_monitored_func, plain_program as plain_monitored, plain_register, plain_stmts};
@@ -223,7 +223,6 @@ pub fn instrument(alloc: Global, p: &Program) -> Result<MonProgram, AllocError>
     requires program { IsProgram (plain_program p.now) }
     ensures valid { IfOk result (λ m. IsValid (plain_monitored m)) }
     ensures agrees { IfOk result (λ m. (input : Input) (n : ℕ) → Agrees (run (plain_program p.now) input n) (block_run (plain_monitored m) input n)) }
-    ensures sound { IfOk result (λ _. (input : Input) (n : ℕ) → (run (plain_program p.now) input n).final ≡ Fault → ⊥) }
 {
     let m = translate(alloc, p)?;
     Ok(m)

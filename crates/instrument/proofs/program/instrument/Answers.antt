@@ -4,7 +4,7 @@ use Rattle.c_model.specs.Meaning.{run}
 use Rattle.c_model.specs.Reports.{Agrees}
 use Rattle.mon_syntax.specs.Memories.{block_run}
 use Rattle.mon_syntax.specs.Valid.{IsValid}
-use Rattle.instrument.proofs.Runs.{never_faults, translated_agrees}
+use Rattle.instrument.proofs.Runs.{translated_agrees}
 use Rattle.instrument.proofs.ValidPrograms.{translated_valid}
 use Rattle.instrument.proofs.program.instrument.Goals as goal
 
@@ -16,6 +16,3 @@ pub returns-clause-agrees : goal.returns-clause-agrees
 returns-clause-agrees c input n =
     subst (λ m. Agrees (run (plain_program c.args.p.now) input n) (block_run m input n)) (sym c.in_ok-m.ensures.translated)
     (translated_agrees (plain_program c.args.p.now) c.requires.program c.in_ok-m.ensures.numbers input n)
-
-pub returns-clause-sound : goal.returns-clause-sound
-returns-clause-sound c input n = never_faults (plain_program c.args.p.now) c.requires.program c.in_ok-m.ensures.numbers input n
