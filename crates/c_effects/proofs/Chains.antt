@@ -9,7 +9,9 @@ use Rattle.mon_syntax.specs.Trees.{MonExpression, Binary}
 use Rattle.c_effects.specs.Expressions.{chain, term, relation_operator}
 
 -- the first of at least two links
-pub chain_first : (numbers : List ℕ) (t : LogicTerm) (links : List Link) (link : Link) (a b : MonExpression) → link ≡ get_or links 0 link → 2 ≤ length links → a ≡ Binary (relation_operator link.relation) I128 (term numbers t) (term numbers (plain_term link.term)) → b ≡ chain numbers (plain_term link.term) (plain_links (take (length links - 1) (drop 1 links))) → Binary And I32 a b ≡ chain numbers t (plain_links links)
+pub chain_first : (numbers : List ℕ) (t : LogicTerm) (links : List Link) (link : Link) (a b : MonExpression) → link ≡ get_or links 0 link → 2 ≤ length links
+    → a ≡ Binary (relation_operator link.relation) I128 (term numbers t) (term numbers (plain_term link.term)) → b ≡ chain numbers (plain_term link.term) (plain_links (take (length links - 1) (drop 1 links)))
+    → Binary And I32 a b ≡ chain numbers t (plain_links links)
 chain_first numbers t [] link a b is le ea eb = absurd (omega arith)
 chain_first numbers t (l ∷ []) link a b is le ea eb = absurd (omega arith)
 chain_first numbers t (l ∷ m ∷ rest) link a b is le ea eb =

@@ -60,9 +60,11 @@ pub complete : {B : Type 0} {left all : List B} (t : List B) → left ≡ [] →
 complete t none kept = sym (append-nil t) ∙ ap (λ a. t ++ a) (sym none) ∙ kept
 
 -- one more part of the code stands there, behind which what is left begins with further registers
-pub more_behind : {t' left all : MonStatements} {rs' : List MonType} (t part : MonStatements) (rs ts : List MonType) (rest : List MonType → MonStatements) → left ≡ before part (rest (rs ++ ts)) → t' ≡ before t part → rs' ≡ rs ++ ts → before t left ≡ all → before t' (rest rs') ≡ all
+pub more_behind : {t' left all : MonStatements} {rs' : List MonType} (t part : MonStatements) (rs ts : List MonType) (rest : List MonType → MonStatements) → left ≡ before part (rest (rs ++ ts)) → t' ≡ before t part → rs' ≡ rs ++ ts
+    → before t left ≡ all → before t' (rest rs') ≡ all
 more_behind {t'} t part rs ts rest first put types kept = ap (λ r. before t' (rest r)) types ∙ more t part (rest (rs ++ ts)) first put kept
 
 -- one more part of a list, behind which what is left begins with further registers
-pub grown_behind : {B : Type 0} {t' left all : List B} {rs' : List MonType} (t part : List B) (rs ts : List MonType) (rest : List MonType → List B) → left ≡ part ++ rest (rs ++ ts) → t' ≡ t ++ part → rs' ≡ rs ++ ts → t ++ left ≡ all → t' ++ rest rs' ≡ all
+pub grown_behind : {B : Type 0} {t' left all : List B} {rs' : List MonType} (t part : List B) (rs ts : List MonType) (rest : List MonType → List B) → left ≡ part ++ rest (rs ++ ts) → t' ≡ t ++ part → rs' ≡ rs ++ ts → t ++ left ≡ all
+    → t' ++ rest rs' ≡ all
 grown_behind {t'} t part rs ts rest first put types kept = ap (λ r. t' ++ rest r) types ∙ grown t part (rest (rs ++ ts)) first put kept

@@ -93,7 +93,8 @@ module _ (numbers : List ℕ) (rs rs1 : List MonType) (t t1 t2 : MonStatements) 
         let register = length (l ++ temporaries b ++ temporaries c) in
         one (If m (before (setup numbers l b) (set register (value numbers l b))) (before (setup numbers (l ++ temporaries b) c) (set register (value numbers (l ++ temporaries b) c))))
 
-    pub of_choice : (c : Expression) (rs2 rs3 : List MonType) (on off : MonStatements) (v w : MonExpression) (register : ℕ) → on ≡ setup numbers rs1 b → v ≡ value numbers rs1 b → rs2 ≡ rs1 ++ temporaries b → off ≡ setup numbers rs2 c → w ≡ value numbers rs2 c → rs3 ≡ rs2 ++ temporaries c → register ≡ length rs3 → t2 ≡ before t1 (one (If test (before on (set register v)) (before off (set register w)))) → t2 ≡ before t (setup numbers rs (Node at u (Choice a b c)))
+    pub of_choice : (c : Expression) (rs2 rs3 : List MonType) (on off : MonStatements) (v w : MonExpression) (register : ℕ) → on ≡ setup numbers rs1 b → v ≡ value numbers rs1 b → rs2 ≡ rs1 ++ temporaries b → off ≡ setup numbers rs2 c
+        → w ≡ value numbers rs2 c → rs3 ≡ rs2 ++ temporaries c → register ≡ length rs3 → t2 ≡ before t1 (one (If test (before on (set register v)) (before off (set register w)))) → t2 ≡ before t (setup numbers rs (Node at u (Choice a b c)))
     of_choice c rs2 rs3 on off v w register on_is v_is types2 off_is w_is types3 register_is last =
         let number : register ≡ length (rs1 ++ temporaries b ++ temporaries c) = register_is ∙ ap length types3 ∙ ap (λ l. length (l ++ temporaries c)) types2 in
         let off_at = off_is ∙ ap (λ l. setup numbers l c) types2 in

@@ -21,7 +21,8 @@ use Rattle.mon_syntax.specs.declared.tree.MonOp.{MonOp}
 use Rattle.mon_syntax.specs.declared.tree.MonOp.TheVariants.{Add, Sub, Mul, Div, Rem, Shl, Shr, And, Or, Xor, Eq, Ne, Lt, Le, Gt, Ge}
 use Rattle.mon_syntax.specs.declared.tree.MonType.{MonType}
 use Rattle.mon_syntax.specs.declared.tree.MonType.TheVariants.{I8, U8, I16, U16, I32, U32, I64, U64, I128, Ptr}
-use Rattle.mon_syntax.specs.Trees.{MonExpression, Register, Constant, Binary, Minus, Flip, Cast, MonStatement, Set, Assert, If, MonStatements, NoStatement, Then}
+use Rattle.mon_syntax.specs.Trees.{MonExpression, Register, Constant, Binary, Minus, Flip, Cast, MonStatement, Set, Assert, If, MonStatements, NoStatement}
+use Rattle.mon_syntax.specs.Trees.{Then}
 use Rattle.mon_syntax.specs.Checking.{same_type}
 use Rattle.mon_syntax.specs.Valid.{result_type}
 use Rattle.track_scopes.specs.Blocks.{register_of}
@@ -171,8 +172,10 @@ setup numbers rs (Node at t (source.Either a b)) =
     (before (setup numbers (rs ++ temporaries a) b) (set (length (rs ++ temporaries a ++ temporaries b)) (truth_of numbers (rs ++ temporaries a) b)))))
 setup numbers rs (Node at t (source.Choice a b c)) =
     before (setup numbers rs a) (one (If (condition_of numbers rs a)
-    (before (setup numbers (rs ++ temporaries a) b) (set (length (rs ++ temporaries a ++ temporaries b ++ temporaries c)) (value numbers (rs ++ temporaries a) b)))
-    (before (setup numbers (rs ++ temporaries a ++ temporaries b) c) (set (length (rs ++ temporaries a ++ temporaries b ++ temporaries c)) (value numbers (rs ++ temporaries a ++ temporaries b) c)))))
+    (before (setup numbers (rs ++ temporaries a) b) (set (length (rs ++ temporaries a ++ temporaries b ++ temporaries c))
+        (value numbers (rs ++ temporaries a) b)))
+    (before (setup numbers (rs ++ temporaries a ++ temporaries b) c) (set (length (rs ++ temporaries a ++ temporaries b ++ temporaries c))
+        (value numbers (rs ++ temporaries a ++ temporaries b) c)))))
 setup numbers rs (Node at t (source.Cast to a)) = setup numbers rs a
 setup numbers rs _ = NoStatement
 

@@ -54,7 +54,8 @@ fn relation_operator(relation: Relation) -> MonOp
 
 // One relation of a chain.
 fn relation(alloc: Global, numbers: &[u32], left: &Term, link: &Link) -> Result<MonExpr, AllocError>
-    ensures code { IfOk result (λ m. plain_expr m ≡ Binary (relation_operator link.now.relation) I128 (term numbers.now (plain_term left.now)) (term numbers.now (plain_term link.now.term))) }
+    ensures code { IfOk result (λ m. plain_expr m ≡ Binary (relation_operator link.now.relation) I128 (term numbers.now (plain_term left.now))
+        (term numbers.now (plain_term link.now.term))) }
     ensures left { IfOk result (λ _. TermHasLetters (plain_term left.now)) }
     ensures right { IfOk result (λ _. TermHasLetters (plain_term link.now.term)) }
 {

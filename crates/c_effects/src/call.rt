@@ -80,7 +80,8 @@ pub fn call(
     args: Vec<MonExpr>,
     to: &mut Vec<MonStmt>,
 ) -> Result<(), AllocError>
-    ensures { OnOk result (plain_stmts to.new.items ≡ before (plain_stmts to.old.items) (call (plain_program definitions.now.program.now) into f (map plain_monitored args.items))) }
+    ensures { OnOk result (plain_stmts to.new.items ≡ before (plain_stmts to.old.items)
+        (call (plain_program definitions.now.program.now) into f (map plain_monitored args.items))) }
 {
     if f.decl == Use::LIBRARY {
         library_call(
@@ -105,7 +106,8 @@ pub fn arguments(
     to: &mut Vec<MonStmt>,
 ) -> Result<Vec<MonExpr>, AllocError>
     ensures values { IfOk result (λ es. map plain_monitored es.items ≡ arguments numbers.now types.old.items (plain_exprs args.now)) }
-    ensures setup { OnOk result (plain_stmts to.new.items ≡ before (plain_stmts to.old.items) (arguments_setup numbers.now types.old.items (plain_exprs args.now))) }
+    ensures setup { OnOk result (plain_stmts to.new.items ≡ before (plain_stmts to.old.items)
+        (arguments_setup numbers.now types.old.items (plain_exprs args.now))) }
     ensures types { OnOk result (types.new.items ≡ types.old.items ++ arguments_temporaries (plain_exprs args.now)) }
     ensures letters { OnOk result (ArgumentsHaveLetters (plain_exprs args.now)) }
 {
@@ -126,7 +128,8 @@ pub fn called(
     types: &mut Vec<MonType>,
     to: &mut Vec<MonStmt>,
 ) -> Result<(), AllocError>
-    ensures code { OnOk result (plain_stmts to.new.items ≡ before (plain_stmts to.old.items) (called (plain_program scene.now.definitions.now.program.now) scene.now.numbers.now types.old.items None f (plain_exprs args.now))) }
+    ensures code { OnOk result (plain_stmts to.new.items ≡ before (plain_stmts to.old.items)
+        (called (plain_program scene.now.definitions.now.program.now) scene.now.numbers.now types.old.items None f (plain_exprs args.now))) }
     ensures types { OnOk result (types.new.items ≡ types.old.items ++ arguments_temporaries (plain_exprs args.now)) }
     ensures letters { OnOk result (ArgumentsHaveLetters (plain_exprs args.now)) }
 {

@@ -11,7 +11,8 @@ ghost use Rattle.mon_syntax.specs.Trees.{Constant, Register, plain_expr as plain
 ghost use Rattle.c_effects.specs.Letters.{Any, EffectHasLetters, FullHasLetters, HasLetters, InitialHasLetters, InitialsHaveLetters};
 ghost use Rattle.c_effects.specs.Expressions.{before, compound, set, setup, temporaries, value};
 ghost use Rattle.track_scopes.specs.Blocks.{register_of};
-ghost use Rattle.c_effects.specs.Effects.{any_temporaries, declaration_temporaries, effect, effect_if_any, effect_temporaries, full_setup, full_temporaries, full_value, initial_temporaries, initialise, initialise_all, target};
+ghost use Rattle.c_effects.specs.Effects.{any_temporaries, declaration_temporaries, effect, effect_if_any, effect_temporaries, full_setup, full_temporaries};
+ghost use Rattle.c_effects.specs.Effects.{full_value, initial_temporaries, initialise, initialise_all, target};
 
 use crate::call::called;
 use crate::expression::expression;
@@ -56,7 +57,9 @@ fn assign(
     types: &mut Vec<MonType>,
     to: &mut Vec<MonStmt>,
 ) -> Result<(), AllocError>
-    ensures code { OnOk result (plain_stmts to.new.items ≡ before (plain_stmts to.old.items) (before (full_setup (plain_program scene.now.definitions.now.program.now) scene.now.numbers.now types.old.items (plain_expr e.now)) (set register (full_value scene.now.numbers.now types.old.items (plain_expr e.now))))) }
+    ensures code { OnOk result (plain_stmts to.new.items ≡ before (plain_stmts to.old.items)
+        (before (full_setup (plain_program scene.now.definitions.now.program.now) scene.now.numbers.now types.old.items (plain_expr e.now))
+        (set register (full_value scene.now.numbers.now types.old.items (plain_expr e.now))))) }
     ensures types { OnOk result (types.new.items ≡ types.old.items ++ full_temporaries (plain_expr e.now)) }
     ensures letters { OnOk result (FullHasLetters (plain_expr e.now)) }
 {
@@ -73,7 +76,9 @@ fn assign_target(
     types: &mut Vec<MonType>,
     to: &mut Vec<MonStmt>,
 ) -> Result<(), AllocError>
-    ensures code { OnOk result (plain_stmts to.new.items ≡ before (plain_stmts to.old.items) (before (full_setup (plain_program scene.now.definitions.now.program.now) scene.now.numbers.now types.old.items (plain_expr e.now)) (set (target scene.now.numbers.now (plain_expr left.now)) (full_value scene.now.numbers.now types.old.items (plain_expr e.now))))) }
+    ensures code { OnOk result (plain_stmts to.new.items ≡ before (plain_stmts to.old.items)
+        (before (full_setup (plain_program scene.now.definitions.now.program.now) scene.now.numbers.now types.old.items (plain_expr e.now))
+        (set (target scene.now.numbers.now (plain_expr left.now)) (full_value scene.now.numbers.now types.old.items (plain_expr e.now))))) }
     ensures types { OnOk result (types.new.items ≡ types.old.items ++ full_temporaries (plain_expr e.now)) }
     ensures letters { OnOk result (FullHasLetters (plain_expr e.now)) }
 {
@@ -92,7 +97,9 @@ fn assign_by(
     types: &mut Vec<MonType>,
     to: &mut Vec<MonStmt>,
 ) -> Result<(), AllocError>
-    ensures code { OnOk result (plain_stmts to.new.items ≡ before (plain_stmts to.old.items) (before (setup numbers.now types.old.items (plain_expr e.now)) (set (target numbers.now (plain_expr left.entry.0.now)) (compound op (plain_type left.entry.1.now) (type_of (plain_expr e.now)) (Register (target numbers.now (plain_expr left.entry.0.now))) (value numbers.now types.old.items (plain_expr e.now)))))) }
+    ensures code { OnOk result (plain_stmts to.new.items ≡ before (plain_stmts to.old.items) (before (setup numbers.now types.old.items (plain_expr e.now))
+        (set (target numbers.now (plain_expr left.entry.0.now)) (compound op (plain_type left.entry.1.now) (type_of (plain_expr e.now))
+        (Register (target numbers.now (plain_expr left.entry.0.now))) (value numbers.now types.old.items (plain_expr e.now)))))) }
     ensures types { OnOk result (types.new.items ≡ types.old.items ++ temporaries (plain_expr e.now)) }
     ensures letters { OnOk result (HasLetters (plain_expr e.now)) }
 {
@@ -122,7 +129,9 @@ fn bump(
     t: &CType,
     to: &mut Vec<MonStmt>,
 ) -> Result<(), AllocError>
-    ensures { OnOk result (plain_stmts to.new.items ≡ before (plain_stmts to.old.items) (set (target numbers.now (plain_expr left.now)) (compound (bump_operator op) (plain_type t.now) int_type (Register (target numbers.now (plain_expr left.now))) (Constant I32 (pos 1))))) }
+    ensures { OnOk result (plain_stmts to.new.items ≡ before (plain_stmts to.old.items)
+        (set (target numbers.now (plain_expr left.now)) (compound (bump_operator op) (plain_type t.now) int_type
+        (Register (target numbers.now (plain_expr left.now))) (Constant I32 (pos 1))))) }
 {
     let number = target(numbers, left)?;
     let old = register(alloc, number)?;
@@ -141,7 +150,8 @@ pub fn effect(
     types: &mut Vec<MonType>,
     to: &mut Vec<MonStmt>,
 ) -> Result<(), AllocError>
-    ensures code { OnOk result (plain_stmts to.new.items ≡ before (plain_stmts to.old.items) (effect (plain_program scene.now.definitions.now.program.now) scene.now.numbers.now types.old.items (plain_expr e.now))) }
+    ensures code { OnOk result (plain_stmts to.new.items ≡ before (plain_stmts to.old.items)
+        (effect (plain_program scene.now.definitions.now.program.now) scene.now.numbers.now types.old.items (plain_expr e.now))) }
     ensures types { OnOk result (types.new.items ≡ types.old.items ++ effect_temporaries (plain_expr e.now)) }
     ensures letters { OnOk result (EffectHasLetters (plain_expr e.now)) }
 {
@@ -185,7 +195,8 @@ pub fn effect_if_any(
     types: &mut Vec<MonType>,
     to: &mut Vec<MonStmt>,
 ) -> Result<(), AllocError>
-    ensures code { OnOk result (plain_stmts to.new.items ≡ before (plain_stmts to.old.items) (effect_if_any (plain_program scene.now.definitions.now.program.now) scene.now.numbers.now types.old.items (option_map plain_expr e.now))) }
+    ensures code { OnOk result (plain_stmts to.new.items ≡ before (plain_stmts to.old.items)
+        (effect_if_any (plain_program scene.now.definitions.now.program.now) scene.now.numbers.now types.old.items (option_map plain_expr e.now))) }
     ensures types { OnOk result (types.new.items ≡ types.old.items ++ any_temporaries effect_temporaries (option_map plain_expr e.now)) }
     ensures letters { OnOk result (Any EffectHasLetters (option_map plain_expr e.now)) }
 {
@@ -213,7 +224,8 @@ fn initialise(
     types: &mut Vec<MonType>,
     to: &mut Vec<MonStmt>,
 ) -> Result<(), AllocError>
-    ensures code { OnOk result (plain_stmts to.new.items ≡ before (plain_stmts to.old.items) (initialise (plain_program scene.now.definitions.now.program.now) scene.now.numbers.now types.old.items d.now.place.offset (plain_decl d.now).init)) }
+    ensures code { OnOk result (plain_stmts to.new.items ≡ before (plain_stmts to.old.items)
+        (initialise (plain_program scene.now.definitions.now.program.now) scene.now.numbers.now types.old.items d.now.place.offset (plain_decl d.now).init)) }
     ensures types { OnOk result (types.new.items ≡ types.old.items ++ initial_temporaries (plain_decl d.now).init) }
     ensures letters { OnOk result (InitialHasLetters (plain_decl d.now).init) }
 {
@@ -234,7 +246,8 @@ pub fn initialise_all(
     types: &mut Vec<MonType>,
     to: &mut Vec<MonStmt>,
 ) -> Result<(), AllocError>
-    ensures code { OnOk result (plain_stmts to.new.items ≡ before (plain_stmts to.old.items) (initialise_all (plain_program scene.now.definitions.now.program.now) scene.now.numbers.now types.old.items (map plain_decl decls.now))) }
+    ensures code { OnOk result (plain_stmts to.new.items ≡ before (plain_stmts to.old.items)
+        (initialise_all (plain_program scene.now.definitions.now.program.now) scene.now.numbers.now types.old.items (map plain_decl decls.now))) }
     ensures types { OnOk result (types.new.items ≡ types.old.items ++ declaration_temporaries (map plain_decl decls.now)) }
     ensures letters { OnOk result (InitialsHaveLetters (map plain_decl decls.now)) }
 {

@@ -70,7 +70,8 @@ fn prefixed(
     types: &mut Vec<MonType>,
     to: &mut Vec<MonStmt>,
 ) -> Result<MonExpr, AllocError>
-    ensures value { IfOk result (λ m. plain_monitored m ≡ unary op (value_type (type_of (plain_expr a.now))) (value numbers.now types.old.items (plain_expr a.now))) }
+    ensures value { IfOk result (λ m. plain_monitored m ≡ unary op (value_type (type_of (plain_expr a.now)))
+        (value numbers.now types.old.items (plain_expr a.now))) }
     ensures setup { OnOk result (plain_stmts to.new.items ≡ before (plain_stmts to.old.items) (setup numbers.now types.old.items (plain_expr a.now))) }
     ensures types { OnOk result (types.new.items ≡ types.old.items ++ temporaries (plain_expr a.now)) }
     ensures letters { OnOk result (HasLetters (plain_expr a.now)) }
@@ -89,7 +90,8 @@ fn cast(
     types: &mut Vec<MonType>,
     to: &mut Vec<MonStmt>,
 ) -> Result<MonExpr, AllocError>
-    ensures value { IfOk result (λ m. plain_monitored m ≡ in_type (value_type (type_of (plain_expr a.now))) (value_type (plain_type t.now)) (value numbers.now types.old.items (plain_expr a.now))) }
+    ensures value { IfOk result (λ m. plain_monitored m ≡ in_type (value_type (type_of (plain_expr a.now))) (value_type (plain_type t.now))
+        (value numbers.now types.old.items (plain_expr a.now))) }
     ensures setup { OnOk result (plain_stmts to.new.items ≡ before (plain_stmts to.old.items) (setup numbers.now types.old.items (plain_expr a.now))) }
     ensures types { OnOk result (types.new.items ≡ types.old.items ++ temporaries (plain_expr a.now)) }
     ensures letters { OnOk result (HasLetters (plain_expr a.now)) }
@@ -109,7 +111,8 @@ fn operated(
     to: &mut Vec<MonStmt>,
 ) -> Result<MonExpr, AllocError>
     ensures value { IfOk result (λ m. plain_monitored m ≡ value numbers.now types.old.items (binary_of op operands.entry.0.now operands.entry.1.now)) }
-    ensures setup { OnOk result (plain_stmts to.new.items ≡ before (plain_stmts to.old.items) (setup numbers.now types.old.items (binary_of op operands.entry.0.now operands.entry.1.now))) }
+    ensures setup { OnOk result (plain_stmts to.new.items ≡ before (plain_stmts to.old.items)
+        (setup numbers.now types.old.items (binary_of op operands.entry.0.now operands.entry.1.now))) }
     ensures types { OnOk result (types.new.items ≡ types.old.items ++ temporaries (binary_of op operands.entry.0.now operands.entry.1.now)) }
     ensures letters { OnOk result (HasLetters (binary_of op operands.entry.0.now operands.entry.1.now)) }
 {
@@ -175,7 +178,8 @@ fn choice(
     to: &mut Vec<MonStmt>,
 ) -> Result<MonExpr, AllocError>
     ensures value { IfOk result (λ m. plain_monitored m ≡ value numbers.now types.old.items (choice_of a.now values.entry.0.now values.entry.1.now)) }
-    ensures setup { OnOk result (plain_stmts to.new.items ≡ before (plain_stmts to.old.items) (setup numbers.now types.old.items (choice_of a.now values.entry.0.now values.entry.1.now))) }
+    ensures setup { OnOk result (plain_stmts to.new.items ≡ before (plain_stmts to.old.items)
+        (setup numbers.now types.old.items (choice_of a.now values.entry.0.now values.entry.1.now))) }
     ensures types { OnOk result (types.new.items ≡ types.old.items ++ temporaries (choice_of a.now values.entry.0.now values.entry.1.now)) }
     ensures letters { OnOk result (HasLetters (choice_of a.now values.entry.0.now values.entry.1.now)) }
 {
@@ -254,7 +258,8 @@ fn both(
     to: &mut Vec<MonStmt>,
 ) -> Result<MonExpr, AllocError>
     ensures value { IfOk result (λ m. plain_monitored m ≡ Register (length (types.old.items ++ temporaries (plain_expr right.now)))) }
-    ensures setup { OnOk result (plain_stmts to.new.items ≡ before (plain_stmts to.old.items) (both_set numbers.now types.old.items (plain_monitored test) (plain_expr right.now))) }
+    ensures setup { OnOk result (plain_stmts to.new.items ≡ before (plain_stmts to.old.items) (both_set numbers.now types.old.items (plain_monitored test)
+        (plain_expr right.now))) }
     ensures types { OnOk result (types.new.items ≡ types.old.items ++ (temporaries (plain_expr right.now) ++ I32 ∷ [])) }
     ensures letters { OnOk result (HasLetters (plain_expr right.now)) }
 {
@@ -276,7 +281,8 @@ fn either(
     to: &mut Vec<MonStmt>,
 ) -> Result<MonExpr, AllocError>
     ensures value { IfOk result (λ m. plain_monitored m ≡ Register (length (types.old.items ++ temporaries (plain_expr right.now)))) }
-    ensures setup { OnOk result (plain_stmts to.new.items ≡ before (plain_stmts to.old.items) (either_set numbers.now types.old.items (plain_monitored test) (plain_expr right.now))) }
+    ensures setup { OnOk result (plain_stmts to.new.items ≡ before (plain_stmts to.old.items) (either_set numbers.now types.old.items (plain_monitored test)
+        (plain_expr right.now))) }
     ensures types { OnOk result (types.new.items ≡ types.old.items ++ (temporaries (plain_expr right.now) ++ I32 ∷ [])) }
     ensures letters { OnOk result (HasLetters (plain_expr right.now)) }
 {

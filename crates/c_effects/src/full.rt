@@ -30,7 +30,9 @@ fn value_called(
     to: &mut Vec<MonStmt>,
 ) -> Result<u32, AllocError>
     ensures register { IfOk result (λ r. r ≡ length (types.old.items ++ arguments_temporaries (plain_exprs args.now))) }
-    ensures setup { OnOk result (plain_stmts to.new.items ≡ before (plain_stmts to.old.items) (called (plain_program scene.now.definitions.now.program.now) scene.now.numbers.now types.old.items (Some (length (types.old.items ++ arguments_temporaries (plain_exprs args.now)))) callee.0 (plain_exprs args.now))) }
+    ensures setup { OnOk result (plain_stmts to.new.items ≡ before (plain_stmts to.old.items)
+        (called (plain_program scene.now.definitions.now.program.now) scene.now.numbers.now types.old.items
+        (Some (length (types.old.items ++ arguments_temporaries (plain_exprs args.now)))) callee.0 (plain_exprs args.now))) }
     ensures types { OnOk result (types.new.items ≡ types.old.items ++ (arguments_temporaries (plain_exprs args.now) ++ callee.1 ∷ [])) }
     ensures letters { OnOk result (ArgumentsHaveLetters (plain_exprs args.now)) }
 {
@@ -50,7 +52,8 @@ fn direct(
     to: &mut Vec<MonStmt>,
 ) -> Result<MonExpr, AllocError>
     ensures value { IfOk result (λ m. plain_monitored m ≡ direct_value scene.now.numbers.now types.old.items (plain_expr e.now)) }
-    ensures setup { OnOk result (plain_stmts to.new.items ≡ before (plain_stmts to.old.items) (direct_setup (plain_program scene.now.definitions.now.program.now) scene.now.numbers.now types.old.items (plain_expr e.now))) }
+    ensures setup { OnOk result (plain_stmts to.new.items ≡ before (plain_stmts to.old.items)
+        (direct_setup (plain_program scene.now.definitions.now.program.now) scene.now.numbers.now types.old.items (plain_expr e.now))) }
     ensures types { OnOk result (types.new.items ≡ types.old.items ++ direct_temporaries (plain_expr e.now)) }
     ensures letters { OnOk result (DirectHasLetters (plain_expr e.now)) }
 {
@@ -86,7 +89,8 @@ pub fn full(
     to: &mut Vec<MonStmt>,
 ) -> Result<MonExpr, AllocError>
     ensures value { IfOk result (λ m. plain_monitored m ≡ full_value scene.now.numbers.now types.old.items (plain_expr e.now)) }
-    ensures setup { OnOk result (plain_stmts to.new.items ≡ before (plain_stmts to.old.items) (full_setup (plain_program scene.now.definitions.now.program.now) scene.now.numbers.now types.old.items (plain_expr e.now))) }
+    ensures setup { OnOk result (plain_stmts to.new.items ≡ before (plain_stmts to.old.items)
+        (full_setup (plain_program scene.now.definitions.now.program.now) scene.now.numbers.now types.old.items (plain_expr e.now))) }
     ensures types { OnOk result (types.new.items ≡ types.old.items ++ full_temporaries (plain_expr e.now)) }
     ensures letters { OnOk result (FullHasLetters (plain_expr e.now)) }
 {

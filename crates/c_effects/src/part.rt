@@ -57,7 +57,9 @@ pub fn choose(
     to: &mut Vec<MonStmt>,
 ) -> Result<MonExpr, AllocError>
     ensures value { IfOk result (λ m. plain_expr m ≡ Register number) }
-    ensures setup { OnOk result (plain_stmts to.new.items ≡ before (plain_stmts to.old.items) (one (If (plain_expr test) (before (plain_stmts first.0.items) (set number (plain_expr first.1))) (before (plain_stmts second.0.items) (set number (plain_expr second.1)))))) }
+    ensures setup { OnOk result (plain_stmts to.new.items ≡ before (plain_stmts to.old.items)
+        (one (If (plain_expr test) (before (plain_stmts first.0.items) (set number (plain_expr first.1)))
+        (before (plain_stmts second.0.items) (set number (plain_expr second.1)))))) }
 {
     let (mut on, value) = first;
     then(alloc, &mut on, MonStmtKind::Set(number, value))?;

@@ -31,14 +31,16 @@ module _ (w : Setting) (h : Here) (scopes : Scopes) (sight : AreInSight h.slots 
   judged_follows regs s t m b a true = stays w h regs s t m b
   judged_follows regs s t m b a false = IsOver (Broken a.number a.place.line a.kind how.False) s [] (λ h. absurd cc) refl (sym (append-nil s.output)) (ap (λ k. Stops (Broken a.number a.place.line a.kind how.False) k []) b.steps)
 
-  assertion_follows : (regs : List BlockValue) (s : State) (t : Target) → Related w h.slots regs s → Beside w h.slots s t → Ready s.store h.slots scopes.objects → (a : Annotation) → IsAssert a → ClauseTyped scopes a.body → IsNumbered a → Follows w h Next s (check a s) (monitored.exec over_blocks (assertion w.numbers a) w.calls n regs t)
+  assertion_follows : (regs : List BlockValue) (s : State) (t : Target) → Related w h.slots regs s → Beside w h.slots s t → Ready s.store h.slots scopes.objects → (a : Annotation) → IsAssert a → ClauseTyped scopes a.body → IsNumbered a
+      → Follows w h Next s (check a s) (monitored.exec over_blocks (assertion w.numbers a) w.calls n regs t)
   assertion_follows regs s t m b ready a p q l =
       let c = clause_says w h.slots scopes sight regs s m ready a.body p.body q l.letters in
       subst (λ r. Follows w h Next s r (monitored.exec over_blocks (assertion w.numbers a) w.calls n regs t)) (sym (ap (λ r. source.judged a r s) (c.source_is s.steps)))
       (subst (λ q. Follows w h Next s (source.judged a (Says c.says s.steps) s) (with_value (bind q integer_of) t.steps (answered a regs t))) (sym c.target_is)
       (judged_follows regs s t m b a c.says))
 
-  pub assertions_follow : (annots : List Annotation) → AreAsserts annots → AnnotationsTyped scopes annots → AreNumbered annots → (regs : List BlockValue) (s : State) (t : Target) → Related w h.slots regs s → Beside w h.slots s t → Ready s.store h.slots scopes.objects → Follows w h Next s (checks annots s) (monitored.exec_all over_blocks (assertions w.numbers annots) w.calls n regs t)
+  pub assertions_follow : (annots : List Annotation) → AreAsserts annots → AnnotationsTyped scopes annots → AreNumbered annots → (regs : List BlockValue) (s : State) (t : Target) → Related w h.slots regs s → Beside w h.slots s t
+      → Ready s.store h.slots scopes.objects → Follows w h Next s (checks annots s) (monitored.exec_all over_blocks (assertions w.numbers annots) w.calls n regs t)
   assertions_follow [] p q l regs s t m b ready = stays w h regs s t m b
   assertions_follow (a ∷ rest) p q l regs s t m b ready =
       follows_then w h Next s _ _ (checks rest) (monitored.exec_all over_blocks (assertions w.numbers rest) w.calls n)

@@ -24,7 +24,8 @@ use Rattle.track_scopes.proofs.Births.{same_born, birth_does, birth_is}
 use Rattle.track_scopes.proofs.Deaths.{all_die}
 use Rattle.track_scopes.specs.Blocks as target
 use Rattle.track_scopes.proofs.Lives.{up_to, AllUpTo, AllAbove, up_to-all, up_to-behind, all_up_to-append, all_up_to-more, live-numbered, live-killed, length-killed, get-killed}
-use Rattle.instrument.proofs.Variables.{Slot, Setting, count, value_at, pointer_at, scope_of, live_of, slot_of, Matches, AllMatch, Stacked, Related, Beside, AllKept, Held, get-front, get-front_same, get-end, get-below, get-set_same, stacked_base, stacked_more, kept_below, kept_trans, match_below, kept_behind, match_behind, apart_behind, live_of-append}
+use Rattle.instrument.proofs.Variables.{Slot, Setting, count, value_at, pointer_at, scope_of, live_of, slot_of, Matches, AllMatch, Stacked, Related, Beside, AllKept, Held, get-front, get-front_same, get-end, get-below, get-set_same, stacked_base}
+use Rattle.instrument.proofs.Variables.{stacked_more, kept_below, kept_trans, match_below, kept_behind, match_behind, apart_behind, live_of-append}
 use Rattle.instrument.proofs.Evaluating.{Target, Did, runs}
 use Rattle.instrument.proofs.Following.{Later, later_same, later_trans}
 use Rattle.c_model.proofs.Blocks.{slice_get-slice_set_other}
@@ -69,7 +70,8 @@ none_of x (v ∷ slots) h = ap (λ t. cond t (Some v) (slot_of x slots)) h.0 ∙
 
 -- ---- one birth
 
-module _ (w : Setting) (slots : List Slot) (regs : List BlockValue) (s : State) (t : Target) (h : Related w slots regs s) (b : Beside w slots s t) (enough : count w + count w ≤ w.registers) (d : Declaration) (c : CanBeBorn w.numbers (decls_of slots) d) where
+module _ (w : Setting) (slots : List Slot) (regs : List BlockValue) (s : State) (t : Target) (h : Related w slots regs s) (b : Beside w slots s t) (enough : count w + count w ≤ w.registers) (d : Declaration)
+    (c : CanBeBorn w.numbers (decls_of slots) d) where
   abbrev k : CInt
   k = int_of d.ctype
 
@@ -171,7 +173,8 @@ module _ (w : Setting) (slots : List Slot) (regs : List BlockValue) (s : State) 
 
 -- all are born on both sides, or something is full on both
 pub data Bears (w : Setting) (slots : List Slot) (regs : List BlockValue) (s : State) (t : Target) (n : ℕ) (ds : List Declaration) : Type 0 where
-  AllBorn : (to : State) (after : List BlockValue) (u : Target) → births ds s ≡ Normal tt to → runs w n t (target.births w.numbers ds) regs ≡ Done (Next after) u [] → Related w (slots_born (length s.store) ds slots) after to → Beside w (slots_born (length s.store) ds slots) to u → Later slots s to [] → Bears w slots regs s t n ds
+  AllBorn : (to : State) (after : List BlockValue) (u : Target) → births ds s ≡ Normal tt to → runs w n t (target.births w.numbers ds) regs ≡ Done (Next after) u [] → Related w (slots_born (length s.store) ds slots) after to
+      → Beside w (slots_born (length s.store) ds slots) to u → Later slots s to [] → Bears w slots regs s t n ds
   OneIsFull : (g : Segment) (to : State) → births ds s ≡ Stop (Over (Full g)) to → to.output ≡ s.output → runs w n t (target.births w.numbers ds) regs ≡ Stops (Full g) to.steps [] → Bears w slots regs s t n ds
 
 module _ (w : Setting) (n : ℕ) (enough : count w + count w ≤ w.registers) where
@@ -179,7 +182,9 @@ module _ (w : Setting) (n : ℕ) (enough : count w + count w ≤ w.registers) wh
   Bear slots regs s t ds = Bears w slots regs s t n ds
 
   -- one is born, and then the others
-  born_then : (slots : List Slot) (regs : List BlockValue) (s : State) (t : Target) (d : Declaration) (ds : List Declaration) (to : State) (after : List BlockValue) (u : Target) → birth d s ≡ Normal tt to → monitored.exec over_blocks (target.birth w.numbers d) w.calls n regs t ≡ Done (Next after) u [] → length to.store ≡ suc (length s.store) → Later slots s to [] → Bear (slot_for (length s.store) d ∷ slots) after to u ds → Bear slots regs s t (d ∷ ds)
+  born_then : (slots : List Slot) (regs : List BlockValue) (s : State) (t : Target) (d : Declaration) (ds : List Declaration) (to : State) (after : List BlockValue) (u : Target) → birth d s ≡ Normal tt to
+      → monitored.exec over_blocks (target.birth w.numbers d) w.calls n regs t ≡ Done (Next after) u [] → length to.store ≡ suc (length s.store) → Later slots s to [] → Bear (slot_for (length s.store) d ∷ slots) after to u ds
+      → Bear slots regs s t (d ∷ ds)
   born_then slots regs s t d ds to after u e f long l (AllBorn to2 after2 u2 e2 f2 m b l2) =
       AllBorn to2 after2 u2
       (ap (λ r. on_outcome r (λ _. births ds)) e ∙ e2)
@@ -196,10 +201,12 @@ module _ (w : Setting) (n : ℕ) (enough : count w + count w ≤ w.registers) wh
   pub births_follow : (ds : List Declaration) (slots : List Slot) (regs : List BlockValue) (s : State) (t : Target) → Related w slots regs s → Beside w slots s t → AllCanBeBorn w.numbers (decls_of slots) ds → Bear slots regs s t ds
   births_follow [] slots regs s t h b c = AllBorn s regs t refl refl h b (later_same slots s)
   births_follow (d ∷ ds) slots regs s t h b c =
-      by (λ o. births_follow ds (slot_for (length s.store) d ∷ slots) (born_registers w slots regs s t h b enough d c.0) (born_state w slots regs s t h b enough d c.0) (born_target w slots regs s t h b enough d c.0) (related_born w slots regs s t h b enough d c.0) (beside_born w slots regs s t h b enough d c.0) c.1)
+      by (λ o. births_follow ds (slot_for (length s.store) d ∷ slots) (born_registers w slots regs s t h b enough d c.0) (born_state w slots regs s t h b enough d c.0) (born_target w slots regs s t h b enough d c.0)
+          (related_born w slots regs s t h b enough d c.0) (beside_born w slots regs s t h b enough d c.0) c.1)
       (full_at_stack_birth standard_sizes s.store (size_of d.ctype)) refl
     where
-      by : (Unit {0} → Bear (slot_for (length s.store) d ∷ slots) (born_registers w slots regs s t h b enough d c.0) (born_state w slots regs s t h b enough d c.0) (born_target w slots regs s t h b enough d c.0) ds) → (o : Option Segment) → full_at_stack_birth standard_sizes s.store (size_of d.ctype) ≡ o → Bear slots regs s t (d ∷ ds)
+      by : (Unit {0} → Bear (slot_for (length s.store) d ∷ slots) (born_registers w slots regs s t h b enough d c.0) (born_state w slots regs s t h b enough d c.0) (born_target w slots regs s t h b enough d c.0) ds) → (o : Option Segment)
+          → full_at_stack_birth standard_sizes s.store (size_of d.ctype) ≡ o → Bear slots regs s t (d ∷ ds)
       by rest None e =
           born_then slots regs s t d ds (born_state w slots regs s t h b enough d c.0) (born_registers w slots regs s t h b enough d c.0) (born_target w slots regs s t h b enough d c.0)
           (ap (λ o. birth_of o d s) e)
@@ -273,7 +280,8 @@ born_from m n (d ∷ ds) slots le h = born_from m (suc n) ds (slot_for n d ∷ s
 pub born_are_new : (n : ℕ) (ds : List Declaration) → AllFrom n (slots_born n ds [])
 born_are_new n ds = born_from n n ds [] (omega arith) tt
 
-module _ (w : Setting) (new slots : List Slot) (regs : List BlockValue) (old s : State) (h : Related w (new ++ slots) regs s) (scope : old.scope ≡ scope_of slots) (calls : old.calls ≡ w.active) (stacked : Stacked (length w.outside) (length old.store) slots) (from : AllFrom (length old.store) new) (longer : length old.store ≤ length s.store) where
+module _ (w : Setting) (new slots : List Slot) (regs : List BlockValue) (old s : State) (h : Related w (new ++ slots) regs s) (scope : old.scope ≡ scope_of slots) (calls : old.calls ≡ w.active)
+    (stacked : Stacked (length w.outside) (length old.store) slots) (from : AllFrom (length old.store) new) (longer : length old.store ≤ length s.store) where
   n : ℕ
   n = length old.store
 
@@ -307,4 +315,5 @@ module _ (w : Setting) (new slots : List Slot) (regs : List BlockValue) (old s :
   }
     where
       kept_then : AllKept slots from_state.store s.store → AllKept slots from_state.store (kill_from (length old.store) s.store)
-      kept_then k = kept_trans slots from_state.store s.store (kill_from (length old.store) s.store) k (kept_below slots s.store (kill_from (length old.store) s.store) (length w.outside) (length old.store) stacked (λ j lt. get-killed (length old.store) s.store j lt))
+      kept_then k = kept_trans slots from_state.store s.store (kill_from (length old.store) s.store) k (kept_below slots s.store (kill_from (length old.store) s.store) (length w.outside) (length old.store) stacked
+          (λ j lt. get-killed (length old.store) s.store j lt))

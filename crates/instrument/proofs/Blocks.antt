@@ -31,7 +31,8 @@ match_front w s regs (v ∷ new) slots h = (h.0, match_front w s regs new slots 
 abbrev pub inside : Here → List Slot → Here
 inside h new = record h { slots = new ++ h.slots }
 
-module _ (w : Setting) (h : Here) (n : ℕ) (old : State) (new : List Slot) (scope : old.scope ≡ scope_of h.slots) (calls : old.calls ≡ w.active) (stacked : Stacked (length w.outside) (length old.store) h.slots) (all_new : AllFrom (length old.store) new) where
+module _ (w : Setting) (h : Here) (n : ℕ) (old : State) (new : List Slot) (scope : old.scope ≡ scope_of h.slots) (calls : old.calls ≡ w.active) (stacked : Stacked (length w.outside) (length old.store) h.slots)
+    (all_new : AllFrom (length old.store) new) where
   abbrev ends : Did → Did
   ends q = then_do q (at_next (monitored.exec_all over_blocks (deaths (registers_of w new)) w.calls n))
 
@@ -76,7 +77,8 @@ module _ (w : Setting) (h : Here) (n : ℕ) (old : State) (new : List Slot) (sco
       (extends_trans o (written q) (written (ends q)) ext (written_then q (at_next (monitored.exec_all over_blocks (deaths (registers_of w new)) w.calls n))))
 
 -- what stands between births and deaths
-pub alive_runs : (w : Setting) (n : ℕ) (t : Target) (ds : List Declaration) (a : MonStatements) (regs : List BlockValue) → runs w n t (alive w.numbers ds a) regs ≡ then_do (runs w n t (target.births w.numbers ds) regs) (at_next (λ r u. then_do (runs w n u a r) (at_next (monitored.exec_all over_blocks (deaths (with_born w.numbers ds [])) w.calls n))))
+pub alive_runs : (w : Setting) (n : ℕ) (t : Target) (ds : List Declaration) (a : MonStatements) (regs : List BlockValue)
+    → runs w n t (alive w.numbers ds a) regs ≡ then_do (runs w n t (target.births w.numbers ds) regs) (at_next (λ r u. then_do (runs w n u a r) (at_next (monitored.exec_all over_blocks (deaths (with_born w.numbers ds [])) w.calls n))))
 alive_runs w n t ds a regs =
     before_is (target.births w.numbers ds) (before a (deaths (with_born w.numbers ds []))) w.calls n regs t
     ∙ ap (λ g. then_do (runs w n t (target.births w.numbers ds) regs) (at_next g)) (λ i r u. before_is a (deaths (with_born w.numbers ds [])) w.calls n r u i)
@@ -85,7 +87,8 @@ alive_runs w n t ds a regs =
 abbrev pub behind_births : Here → State → List Declaration → Here
 behind_births h s ds = record h { slots = slots_born (length s.store) ds h.slots }
 
-module _ (w : Setting) (h : Here) (n : ℕ) (enough : count w + count w ≤ w.registers) (ds : List Declaration) (m : Evaluation (Unit {0})) (a : MonStatements) (regs : List BlockValue) (s : State) (t : Target) (related : Related w h.slots regs s) (beside : Beside w h.slots s t) (can : AllCanBeBorn w.numbers (decls_of h.slots) ds) where
+module _ (w : Setting) (h : Here) (n : ℕ) (enough : count w + count w ≤ w.registers) (ds : List Declaration) (m : Evaluation (Unit {0})) (a : MonStatements) (regs : List BlockValue) (s : State) (t : Target) (related : Related w h.slots regs s)
+    (beside : Beside w h.slots s t) (can : AllCanBeBorn w.numbers (decls_of h.slots) ds) where
   abbrev new : List Slot
   new = slots_born (length s.store) ds []
 
@@ -98,7 +101,8 @@ module _ (w : Setting) (h : Here) (n : ℕ) (enough : count w + count w ≤ w.re
   deaths_are : (q : Did) → rest q ≡ ends w h n s new related.scope related.calls related.stacked (born_are_new (length s.store) ds) q
   deaths_are q = ap (λ rs. then_do q (at_next (monitored.exec_all over_blocks (deaths rs) w.calls n))) (with_born-slots w (length s.store) ds [])
 
-  pub block_follows : ((to : State) (after : List BlockValue) (u : Target) → Related w (slots_born (length s.store) ds h.slots) after to → Beside w (slots_born (length s.store) ds h.slots) to u → Later h.slots s to [] → Follows w (behind_births h s ds) Next to (m to) (runs w n u a after)) → Follows w h Next s (within (births ds >> m) s) (runs w n t code regs)
+  pub block_follows : ((to : State) (after : List BlockValue) (u : Target) → Related w (slots_born (length s.store) ds h.slots) after to → Beside w (slots_born (length s.store) ds h.slots) to u → Later h.slots s to []
+      → Follows w (behind_births h s ds) Next to (m to) (runs w n u a after)) → Follows w h Next s (within (births ds >> m) s) (runs w n t code regs)
   block_follows inner =
       subst (λ q. Follows w h Next s (within (births ds >> m) s) q) (sym (alive_runs w n t ds a regs))
       (by (births_follow w n enough ds h.slots regs s t related beside can))

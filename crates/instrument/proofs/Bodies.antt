@@ -50,7 +50,8 @@ temporaries_long k [] = refl
 temporaries_long k (t ∷ ts) = ap suc (temporaries_long (suc k) ts)
 
 -- a value and a pointer for each variable, and the temporary registers
-pub registers_long : (p : TranslationUnit) (main index : ℕ) (f : Function) (call : Callee) (calls : monitored.Calls over_blocks) (n : ℕ) → how_many p main index f call calls n ≡ length (variables_of f) + length (variables_of f) + length (body_temporaries f.body)
+pub registers_long : (p : TranslationUnit) (main index : ℕ) (f : Function) (call : Callee) (calls : monitored.Calls over_blocks) (n : ℕ)
+    → how_many p main index f call calls n ≡ length (variables_of f) + length (variables_of f) + length (body_temporaries f.body)
 registers_long p main index f call calls n =
     let ds = declared_in_body f.body in
     let vs = variables_of f in
@@ -94,7 +95,8 @@ pub record IsNumbered (f : Function) (items : BlockItems) : Type 0 where
   pub born : AllCanBeBorn (variable_numbers f) (with_numbers f.params []) (declared_in items)
   pub items_declare : ItemsCanDeclare (variable_numbers f) (with_numbers (declared_in items) (with_numbers f.params [])) items
 
-pub is_numbered : (p : TranslationUnit) (f : Function) (part : Part p f) (items : BlockItems) → declared_in_body f.body ≡ declared_in_items items → ItemsTyped (with_parameters (function_scopes p part.before f) f.params) (around_body f.result) items → IsNumbered f items
+pub is_numbered : (p : TranslationUnit) (f : Function) (part : Part p f) (items : BlockItems) → declared_in_body f.body ≡ declared_in_items items → ItemsTyped (with_parameters (function_scopes p part.before f) f.params) (around_body f.result) items
+    → IsNumbered f items
 is_numbered p f part items body typed =
     let vars = f.params ++ declared_in_items items in
     let same : variables_of f ≡ vars = ap (λ l. f.params ++ l) body in
@@ -107,9 +109,11 @@ is_numbered p f part items body typed =
     let listed = subst (λ l. AllListed l vars) (sym numbers) places.listed in
     let ordered = subst (λ l. InOrder l 0 vars) (sym numbers) places.in_order in
     let outside : AllOutside parts.middle all.high (with_numbers f.params []) = born_outside parts.middle all.high first parts.middle f.params [] parts.front (omega arith) tt in
-    let declared = body_can_declare (variable_numbers f) items (with_parameters (function_scopes p part.before f) f.params) (around_body f.result) parts.middle all.high (with_numbers f.params []) typed parts.back outside (listed_back (variable_numbers f) f.params (declared_in_items items) listed) in
+    let declared = body_can_declare (variable_numbers f) items (with_parameters (function_scopes p part.before f) f.params) (around_body f.result) parts.middle all.high (with_numbers f.params []) typed parts.back outside
+        (listed_back (variable_numbers f) f.params (declared_in_items items) listed) in
     record {
-      parameters = all_can_be_born (variable_numbers f) f.params first parts.middle [] parts.front tt (parameter_objects (function_scopes p part.before f) f.params part.typed.params) (listed_front (variable_numbers f) f.params (declared_in_items items) listed);
+      parameters = all_can_be_born (variable_numbers f) f.params first parts.middle [] parts.front tt (parameter_objects (function_scopes p part.before f) f.params part.typed.params)
+          (listed_front (variable_numbers f) f.params (declared_in_items items) listed);
       in_order = in_order_front (variable_numbers f) 0 f.params (declared_in_items items) ordered;
       born = declared.0;
       items_declare = declared.1;
@@ -147,7 +151,8 @@ has_body p f part e = by f.body refl
     by (Some (Continue at)) g = absurd (subst (BodyFormed most_typed) g part.formed.body)
     by (Some (Return at x)) g = absurd (subst (BodyFormed most_typed) g part.formed.body)
 
-module _ (p : TranslationUnit) (main index : ℕ) (f : Function) (part : Part p f) (body : HasBody p f part) (call : Callee) (calls : monitored.Calls over_blocks) (n : ℕ) (all_calls : (outside : Store) (active : ℕ) (s : Scopes) → s.names ≡ p.names → s.functions ≡ map (signature p.funcs) (part.before ++ f ∷ []) → (u : Use) (t : PlainType) (es : Expressions) → Calls s u t es → IsCalled p (setting p main index f call calls n outside active) n u t es) where
+module _ (p : TranslationUnit) (main index : ℕ) (f : Function) (part : Part p f) (body : HasBody p f part) (call : Callee) (calls : monitored.Calls over_blocks) (n : ℕ) (all_calls : (outside : Store) (active : ℕ) (s : Scopes) → s.names ≡ p.names
+    → s.functions ≡ map (signature p.funcs) (part.before ++ f ∷ []) → (u : Use) (t : PlainType) (es : Expressions) → Calls s u t es → IsCalled p (setting p main index f call calls n outside active) n u t es) where
   numbered : IsNumbered f body.items
   numbered = is_numbered p f part body.items (ap declared_in_body body.is) body.typed
 
@@ -210,18 +215,21 @@ module _ (p : TranslationUnit) (main index : ℕ) (f : Function) (part : Part p 
         let c : length (body_temporaries f.body) ≡ length (items_temporaries body.items) = ap length temporaries_are in
         omega (arith, a, b, c, types_long f)
 
-    items_does : (regs : List BlockValue) (s : State) (t : Target) → Related w ps regs s → Beside w ps s t → AllSet s.store ps → s.steps ≤ n → Follows w here Next s (body_with (Some (Block body.at body.items)) call (suc n) s) (runs w n t (body_part p (variable_numbers f) f.params (variable_types f) (Some (Block body.at body.items))) regs)
+    items_does : (regs : List BlockValue) (s : State) (t : Target) → Related w ps regs s → Beside w ps s t → AllSet s.store ps → s.steps ≤ n
+        → Follows w here Next s (body_with (Some (Block body.at body.items)) call (suc n) s) (runs w n t (body_part p (variable_numbers f) f.params (variable_types f) (Some (Block body.at body.items))) regs)
     items_does regs s t m b a le =
         block_does p w n most_typed p.names (map (signature p.funcs) (part.before ++ f ∷ [])) (all_calls outside active) here scopes body_stage
         (let x = length-append (variable_types f) (items_temporaries body.items) in omega (arith, enough, room, x))
         (declared_in body.items) (items_with body.items call (suc n)) (items p (variable_numbers f) (with_variables (variable_numbers f) (declared_in body.items) spot) (variable_types f) body.items) can (λ old g2 have.
-        items_follow p w n most_typed p.names (map (signature p.funcs) (part.before ++ f ∷ [])) (all_calls outside active) body.items scopes (around_body f.result) (behind_births here old (declared_in body.items)) (with_variables (variable_numbers f) (declared_in body.items) spot) (variable_types f)
+        items_follow p w n most_typed p.names (map (signature p.funcs) (part.before ++ f ∷ [])) (all_calls outside active) body.items scopes (around_body f.result) (behind_births here old (declared_in body.items))
+            (with_variables (variable_numbers f) (declared_in body.items) spot) (variable_types f)
         (at_births w spot here old (declared_in body.items) stands) g2 have refl refl (items_can old) body.formed body.typed body.noted body.letters (omega (arith, room)) enough)
         regs s t (record { related = m; beside = b; ready = all_ready s.store ps scopes.objects a }) le
 
   pub body_follows : BodyFollows p main index f call calls n
   body_follows outside active regs s t m b a le =
-      subst (λ o. Follows (setting p main index f call calls n outside active) (at_body (parameter_slots p main index f call calls n outside) f.result) Next s (body_with o call (suc n) s) (runs (setting p main index f call calls n outside active) n t (body_part p (variable_numbers f) f.params (variable_types f) o) regs)) (sym body.is)
+      subst (λ o. Follows (setting p main index f call calls n outside active) (at_body (parameter_slots p main index f call calls n outside) f.result) Next s (body_with o call (suc n) s) (runs (setting p main index f call calls n outside active) n t
+          (body_part p (variable_numbers f) f.params (variable_types f) o) regs)) (sym body.is)
       (items_does outside active regs s t m b a le)
 
   -- what a call of the function needs

@@ -93,10 +93,12 @@ ints_of (d ∷ ds) o = ap (λ t. t ∷ types_of ds) o.0 ∙ ap (λ l. Int (int_o
 
 -- what a call with arguments of these types does
 abbrev AllDo : TranslationUnit → Setting → ℕ → Use → PlainType → List CInt → Type 0
-AllDo p w n f result ints = (zs : List ℤ) → AllFit ints zs → (s : State) (t : Target) → Even s t → s.steps ≤ n → (at : Place) (into : Option ℕ) (regs : List BlockValue) (args : List MonExpression) → eval_all over_blocks args regs ≡ Some (wholes zs) → CallDoes s result (w.call at f (integers zs) s) into regs (runs w n t (call p into f args) regs)
+AllDo p w n f result ints = (zs : List ℤ) → AllFit ints zs → (s : State) (t : Target) → Even s t → s.steps ≤ n → (at : Place) (into : Option ℕ) (regs : List BlockValue) (args : List MonExpression) → eval_all over_blocks args regs ≡ Some (wholes zs)
+    → CallDoes s result (w.call at f (integers zs) s) into regs (runs w n t (call p into f args) regs)
 
 -- by the signature that is called
-called_as : (p : TranslationUnit) (w : Setting) (n : ℕ) (f : Use) (t : PlainType) (es : Expressions) (params : List PlainType) (result : PlainType) (ints : List CInt) → HaveTypes params es → params ≡ map (λ k. Int k) ints → t ≡ result → AllDo p w n f result ints → IsCalled p w n f t es
+called_as : (p : TranslationUnit) (w : Setting) (n : ℕ) (f : Use) (t : PlainType) (es : Expressions) (params : List PlainType) (result : PlainType) (ints : List CInt) → HaveTypes params es → params ≡ map (λ k. Int k) ints → t ≡ result
+    → AllDo p w n f result ints → IsCalled p w n f t es
 called_as p w n f t es params result ints types same e does = record {
   ints = ints;
   arguments = subst (λ l. HaveTypes l es) same types;
@@ -111,7 +113,8 @@ module _ (p : TranslationUnit) (q : IsProgram p) (numbers : FunctionsHaveNumbers
   functions = functions_from p main 0 p.funcs
 
   -- in a function behind these
-  module _ (before after : List Function) (current : Function) (place : before ++ (current ∷ after) ≡ p.funcs) (s : Scopes) (names : s.names ≡ p.names) (signatures : s.functions ≡ map (signature p.funcs) (before ++ current ∷ [])) (f : Use) (t : PlainType) (es : Expressions) (c : Calls s f t es) where
+  module _ (before after : List Function) (current : Function) (place : before ++ (current ∷ after) ≡ p.funcs) (s : Scopes) (names : s.names ≡ p.names) (signatures : s.functions ≡ map (signature p.funcs) (before ++ current ∷ [])) (f : Use)
+      (t : PlainType) (es : Expressions) (c : Calls s f t es) where
     seen : List Function
     seen = before ++ current ∷ []
 
@@ -185,10 +188,12 @@ module _ (p : TranslationUnit) (q : IsProgram p) (numbers : FunctionsHaveNumbers
 
   -- the calls of all functions do the same
   abbrev pub CallsAt : ℕ → Type 0
-  CallsAt k = (w : Setting) → w.call ≡ call_of p (suc k) → w.calls ≡ level over_blocks functions k → (before after : List Function) (current : Function) → before ++ (current ∷ after) ≡ p.funcs → (s : Scopes) → s.names ≡ p.names → s.functions ≡ map (signature p.funcs) (before ++ current ∷ []) → (f : Use) (t : PlainType) (es : Expressions) → Calls s f t es → IsCalled p w k f t es
+  CallsAt k = (w : Setting) → w.call ≡ call_of p (suc k) → w.calls ≡ level over_blocks functions k → (before after : List Function) (current : Function) → before ++ (current ∷ after) ≡ p.funcs → (s : Scopes) → s.names ≡ p.names
+      → s.functions ≡ map (signature p.funcs) (before ++ current ∷ []) → (f : Use) (t : PlainType) (es : Expressions) → Calls s f t es → IsCalled p w k f t es
 
   -- calls of the library
-  library_called : (k : ℕ) (w : Setting) → w.call ≡ call_of p (suc k) → (f : Use) (t : PlainType) (es : Expressions) (callee : Signature) → is_of_library f ≡ true → library_function f.name (name_at p.names f.name) ≡ Some callee → t ≡ callee.result → HaveTypes callee.params es → IsCalled p w k f t es
+  library_called : (k : ℕ) (w : Setting) → w.call ≡ call_of p (suc k) → (f : Use) (t : PlainType) (es : Expressions) (callee : Signature) → is_of_library f ≡ true → library_function f.name (name_at p.names f.name) ≡ Some callee → t ≡ callee.result
+      → HaveTypes callee.params es → IsCalled p w k f t es
   library_called k w calls f t es callee l e result types = by (bytes_eq name (codes "putchar")) (bytes_eq name (codes "getchar")) (bytes_eq name (codes "exit")) refl refl refl e
     where
       name : List ℕ
@@ -209,14 +214,16 @@ module _ (p : TranslationUnit) (q : IsProgram p) (numbers : FunctionsHaveNumbers
           let same : sig ≡ callee = cc in
           called_as p w k f t es callee.params sig.result ints types (ap (λ (g : Signature). g.params) (sym same) ∙ params) (result ∙ ap (λ (g : Signature). g.result) (sym same)) does
 
-      by : (a b c : Bool) → bytes_eq name (codes "putchar") ≡ a → bytes_eq name (codes "getchar") ≡ b → bytes_eq name (codes "exit") ≡ c → (if a then Some put else (if b then Some get else (if c then Some leave else None))) ≡ Some callee → IsCalled p w k f t es
+      by : (a b c : Bool) → bytes_eq name (codes "putchar") ≡ a → bytes_eq name (codes "getchar") ≡ b → bytes_eq name (codes "exit") ≡ c → (if a then Some put else (if b then Some get else (if c then Some leave else None))) ≡ Some callee
+          → IsCalled p w k f t es
       by true b c x y z h = found put (I32 ∷ []) h refl (putchar_does p w k (suc k) calls f l x)
       by false true c x y z h = found get [] h refl (getchar_does p w k (suc k) calls f l x y)
       by false false true x y z h = found leave (I32 ∷ []) h refl (exit_does p w k (suc k) calls f l x y z)
       by false false false x y z h = absurd cc
 
   -- a call that the source doesn't make, with arguments of any types
-  nothing_called : (k : ℕ) (w : Setting) → w.call ≡ call_of p (suc k) → (f : Use) (t : PlainType) (es : Expressions) → is_of_library f ≡ true → IsOther (name_at p.names f.name) → (ints : List CInt) → HaveTypes (map (λ k. Int k) ints) es → IsCalled p w k f t es
+  nothing_called : (k : ℕ) (w : Setting) → w.call ≡ call_of p (suc k) → (f : Use) (t : PlainType) (es : Expressions) → is_of_library f ≡ true → IsOther (name_at p.names f.name) → (ints : List CInt) → HaveTypes (map (λ k. Int k) ints) es
+      → IsCalled p w k f t es
   nothing_called k w calls f t es l o ints types = record { ints = ints; arguments = types; does = nothing_does p w k (suc k) calls f l o.putchar o.getchar o.exit ints t }
 
   -- ---- a call of a function of the program
@@ -240,7 +247,8 @@ module _ (p : TranslationUnit) (q : IsProgram p) (numbers : FunctionsHaveNumbers
     function_is : slice_get functions (index_of f.decl p.funcs) ≡ Some (function_of p main index g)
     function_is = ap (slice_get functions) (index_is f.decl p.funcs) ∙ picked.translated
 
-    calls_run : (k : ℕ) → w.calls ≡ level over_blocks functions k → (into : Option ℕ) (args : List MonExpression) (vs : List BlockValue) (regs : List BlockValue) (t : Target) → eval_all over_blocks args regs ≡ Some vs → runs w k t (call p into f args) regs ≡ then_do (level over_blocks functions k (index_of f.decl p.funcs) vs t) (takes into regs)
+    calls_run : (k : ℕ) → w.calls ≡ level over_blocks functions k → (into : Option ℕ) (args : List MonExpression) (vs : List BlockValue) (regs : List BlockValue) (t : Target) → eval_all over_blocks args regs ≡ Some vs
+        → runs w k t (call p into f args) regs ≡ then_do (level over_blocks functions k (index_of f.decl p.funcs) vs t) (takes into regs)
     calls_run k calls into args vs regs t has =
         code_is k into args regs t
         ∙ ap (λ c. monitored.exec over_blocks (tree.Call into (index_of f.decl p.funcs) args) c k regs t) calls
@@ -270,7 +278,8 @@ module _ (p : TranslationUnit) (q : IsProgram p) (numbers : FunctionsHaveNumbers
         below (setting p main index g (call_of p (suc k)) (level over_blocks functions k) k outside active) refl refl part.before part.after g part.is s names signatures u t es c in
         DoesCall (level over_blocks functions (suc k) (index_of f.decl p.funcs) (wholes zs) t) (calls_run (suc k) calls_are into args (wholes zs) regs t has)
         (subst (λ r. Called s g.result r (level over_blocks functions (suc k) (index_of f.decl p.funcs) (wholes zs) t)) (sym (source_is (suc k) call_is at (integers zs) s))
-        (subst (λ o. Called s g.result (call_with (Some g) (call_of p (suc k)) (suc k) at (integers zs) s) (monitored.step_from t.steps (λ j. body_runs over_blocks o (level over_blocks functions k) k (wholes zs) (record t { steps = j })))) (sym function_is)
+        (subst (λ o. Called s g.result (call_with (Some g) (call_of p (suc k)) (suc k) at (integers zs) s) (monitored.step_from t.steps (λ j. body_runs over_blocks o (level over_blocks functions k) k (wholes zs) (record t { steps = j }))))
+            (sym function_is)
         (call_follows p main index g (call_of p (suc k)) (level over_blocks functions k) k
         (has_room p main index g part body (call_of p (suc k)) (level over_blocks functions k) k calls_below)
         (parameters_can p main index g part body (call_of p (suc k)) (level over_blocks functions k) k calls_below)
@@ -280,7 +289,8 @@ module _ (p : TranslationUnit) (q : IsProgram p) (numbers : FunctionsHaveNumbers
         zs fit at s t even le)))
 
   -- what is called, so deep
-  called_at : (k : ℕ) (w : Setting) → w.call ≡ call_of p (suc k) → (f : Use) (t : PlainType) (es : Expressions) (callee : Signature) → HaveTypes callee.params es → ((g : Function) → is_of_library f ≡ false → definition_at f.decl p.funcs ≡ Some g → IsPicked p (has_number f.decl) main 0 p.funcs g → AllDo p w k f g.result (parameter_ints g.params)) → IsResolved p main f t callee → IsCalled p w k f t es
+  called_at : (k : ℕ) (w : Setting) → w.call ≡ call_of p (suc k) → (f : Use) (t : PlainType) (es : Expressions) (callee : Signature) → HaveTypes callee.params es → ((g : Function) → is_of_library f ≡ false → definition_at f.decl p.funcs ≡ Some g
+      → IsPicked p (has_number f.decl) main 0 p.funcs g → AllDo p w k f g.result (parameter_ints g.params)) → IsResolved p main f t callee → IsCalled p w k f t es
   called_at k w call_is f t es callee types go (IsFunction g l found picked name params result) =
       let objects = parameter_objects (function_scopes p picked.part.before g) g.params picked.part.typed.params in
       called_as p w k f t es callee.params g.result (parameter_ints g.params) types (params ∙ ints_of g.params objects) result (go g l found picked)

@@ -81,7 +81,8 @@ pub data CallDoes (s : State) (result : PlainType) (r : Outcome Value) (into : O
 pub record IsCalled (p : TranslationUnit) (w : Setting) (n : ℕ) (f : Use) (result : PlainType) (es : Expressions) : Type 0 where
   pub ints : List CInt
   pub arguments : HaveTypes (map (λ k. Int k) ints) es
-  pub does : (zs : List ℤ) → AllFit ints zs → (s : State) (t : Target) → Even s t → s.steps ≤ n → (at : Place) (into : Option ℕ) (regs : List BlockValue) (args : List MonExpression) → eval_all over_blocks args regs ≡ Some (wholes zs) → CallDoes s result (w.call at f (integers zs) s) into regs (runs w n t (call p into f args) regs)
+  pub does : (zs : List ℤ) → AllFit ints zs → (s : State) (t : Target) → Even s t → s.steps ≤ n → (at : Place) (into : Option ℕ) (regs : List BlockValue) (args : List MonExpression) → eval_all over_blocks args regs ≡ Some (wholes zs)
+      → CallDoes s result (w.call at f (integers zs) s) into regs (runs w n t (call p into f args) regs)
 
 -- ---- between calls and statements
 

@@ -107,7 +107,8 @@ module _ (texts : List (List ℕ)) where
       }
 
   -- one more variable
-  pub grows_one : (old now : Variables) (d : Declaration) (r : Register) → now.numbers.items ≡ old.numbers.items ++ number_of d ∷ [] → now.types.items ≡ old.types.items ++ value_type d.ctype ∷ [] → now.registers.items ≡ old.registers.items ++ r ∷ [] → plain_register r ≡ record { kind = value_type d.ctype; name = register_name (length old.numbers.items) (own_name texts d) } → Grows texts old now (d ∷ [])
+  pub grows_one : (old now : Variables) (d : Declaration) (r : Register) → now.numbers.items ≡ old.numbers.items ++ number_of d ∷ [] → now.types.items ≡ old.types.items ++ value_type d.ctype ∷ [] → now.registers.items ≡ old.registers.items ++ r ∷ []
+      → plain_register r ≡ record { kind = value_type d.ctype; name = register_name (length old.numbers.items) (own_name texts d) } → Grows texts old now (d ∷ [])
   grows_one old now d r numbers types registers is = record {
     numbers = numbers;
     types = types;
@@ -147,7 +148,8 @@ points_start count old =
     let e : count + 0 ≡ count = omega arith in
     record { numbers = refl; types = λ ds long. refl; registers = λ ds long. ap (λ n. map plain_register old.registers.items ++ pointers_from n ds) e }
 
-pub points_step : (count k : ℕ) (old mid now : Variables) (r : Register) → k < count → now.numbers.items ≡ mid.numbers.items → now.types.items ≡ mid.types.items ++ Ptr ∷ [] → now.registers.items ≡ mid.registers.items ++ r ∷ [] → plain_register r ≡ record { kind = Ptr; name = pointer_name (count + k) } → Pointers count k old mid → Pointers count (k + 1) old now
+pub points_step : (count k : ℕ) (old mid now : Variables) (r : Register) → k < count → now.numbers.items ≡ mid.numbers.items → now.types.items ≡ mid.types.items ++ Ptr ∷ [] → now.registers.items ≡ mid.registers.items ++ r ∷ []
+    → plain_register r ≡ record { kind = Ptr; name = pointer_name (count + k) } → Pointers count k old mid → Pointers count (k + 1) old now
 points_step count k old mid now r lt numbers types registers is h = record {
   numbers = numbers ∙ h.numbers;
   types = λ ds long. grown mid.types.items (Ptr ∷ []) (pointer_types (drop (k + 1) ds)) (types_left ds k (omega (arith, lt, long))) types (h.types ds long);

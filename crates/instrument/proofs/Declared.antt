@@ -74,7 +74,8 @@ sight_behind numbers n ds slots objects c sight x b e =
     let i = sight x b e in
     record { slot = i.slot; found = seen_behind numbers n ds slots b.decl i.slot c i.found; ctype = i.ctype }
 
-pub ready_behind : (numbers : List ℕ) (n : ℕ) (ds : List Declaration) (slots : List Slot) (objects : List Object) (old new : Store) → AllCanBeBorn numbers (decls_of slots) ds → AreInSight slots objects → AllKept slots old new → Ready old slots objects → Ready new (slots_born n ds slots) objects
+pub ready_behind : (numbers : List ℕ) (n : ℕ) (ds : List Declaration) (slots : List Slot) (objects : List Object) (old new : Store) → AllCanBeBorn numbers (decls_of slots) ds → AreInSight slots objects → AllKept slots old new
+    → Ready old slots objects → Ready new (slots_born n ds slots) objects
 ready_behind numbers n ds slots objects old new c sight kept ready x b e v found =
     let i = sight x b e in
     let both : Some i.slot ≡ Some v = sym (seen_behind numbers n ds slots b.decl i.slot c i.found) ∙ found in

@@ -15,7 +15,8 @@ use Rattle.instrument.specs.Translation.{body_part, function_of, functions_from}
 use Rattle.track_scopes.specs.Blocks.{with_born}
 use Rattle.c_effects.proofs.Sequences.{left_at}
 
-pub body_is : (p : TranslationUnit) (numbers : List ℕ) (params : List Declaration) (rs : List MonType) (a : Option Statement) → statement_of p numbers (record { loops = 0; inside = with_born numbers params []; outside = [] }) rs a ≡ body_part p numbers params rs a
+pub body_is : (p : TranslationUnit) (numbers : List ℕ) (params : List Declaration) (rs : List MonType) (a : Option Statement)
+    → statement_of p numbers (record { loops = 0; inside = with_born numbers params []; outside = [] }) rs a ≡ body_part p numbers params rs a
 body_is p numbers params rs None = refl
 body_is p numbers params rs (Some a) = refl
 
@@ -34,12 +35,15 @@ module _ (p : TranslationUnit) (main : ℕ) where
   from_first : (k : ℕ) (f : Function) (fs : List Function) → functions_from p main k (f ∷ fs) ≡ functions_from p main k (f ∷ []) ++ functions_from p main (k + length (functions_from p main k (f ∷ []))) fs
   from_first k f fs = by (is_definition f)
     where
-      by : (b : Bool) → (if b then function_of p main k f ∷ functions_from p main (suc k) fs else functions_from p main k fs) ≡ (if b then function_of p main k f ∷ [] else []) ++ functions_from p main (k + length (if b then function_of p main k f ∷ [] else [])) fs
+      by : (b : Bool) → (if b then function_of p main k f ∷ functions_from p main (suc k) fs else functions_from p main k fs) ≡ (if b then function_of p main k f ∷ [] else []) ++ functions_from p main
+          (k + length (if b then function_of p main k f ∷ [] else [])) fs
       by true = let e : suc k ≡ k + 1 = omega arith in ap (λ j. function_of p main k f ∷ functions_from p main j fs) e
       by false = let e : k ≡ k + 0 = omega arith in ap (λ j. functions_from p main j fs) e
 
   -- one more function of a list
-  pub more_functions : (fs : List Func) (i : ℕ) (f : Func) (old new : List MonFunc) {all : List MonFunction} → i < length fs → f ≡ get_or fs i f → map plain_monitored_func new ≡ map plain_monitored_func old ++ functions_from p main (length old) (plain_func f ∷ []) → map plain_monitored_func old ++ functions_from p main (length old) (map plain_func (drop i fs)) ≡ all → map plain_monitored_func new ++ functions_from p main (length new) (map plain_func (drop (i + 1) fs)) ≡ all
+  pub more_functions : (fs : List Func) (i : ℕ) (f : Func) (old new : List MonFunc) {all : List MonFunction} → i < length fs → f ≡ get_or fs i f
+      → map plain_monitored_func new ≡ map plain_monitored_func old ++ functions_from p main (length old) (plain_func f ∷ []) → map plain_monitored_func old ++ functions_from p main (length old) (map plain_func (drop i fs)) ≡ all
+      → map plain_monitored_func new ++ functions_from p main (length new) (map plain_func (drop (i + 1) fs)) ≡ all
   more_functions fs i f old new lt is put kept =
       let here = functions_from p main (length old) (plain_func f ∷ []) in
       let rest = map plain_func (drop (i + 1) fs) in

@@ -13,7 +13,8 @@ use Rattle.mon_syntax.specs.Trees.{MonStatements, NoStatement}
 use Rattle.mon_syntax.specs.Trees as tree
 use Rattle.mon_syntax.specs.Valid.{Types, has_no_step, depth_of_all}
 use Rattle.c_effects.specs.Expressions.{before, one, setup, temporaries, condition_of, assertions}
-use Rattle.instrument.specs.Translation.{Spot, in_loop, with_variables, leave_where_zero, test, test_if_any, loop, returned, end_label, next_label, statement_temporaries, first_temporaries, item_temporaries, statement, else_part, first_part, item, items}
+use Rattle.instrument.specs.Translation.{Spot, in_loop, with_variables, leave_where_zero, test, test_if_any, loop, returned, end_label, next_label, statement_temporaries, first_temporaries, item_temporaries, statement, else_part, first_part, item}
+use Rattle.instrument.specs.Translation.{items}
 use Rattle.c_effects.specs.Effects.{any_temporaries, full_setup, full_value, effect_if_any, initialise, initialise_all, initial_temporaries}
 use Rattle.track_scopes.specs.Blocks.{deaths}
 use Rattle.instrument.proofs.ValidSetups.{no_step_before, no_step_setup, deep_before, deep_one, deep_setup, deep_behind}
@@ -73,7 +74,8 @@ module _ (p : TranslationUnit) (numbers : List ℕ) where
   deep_initials : (rs : Types) (ds : List Declaration) → AreInitialised 800 ds → depth_of_all (initialise_all p numbers rs ds) ≤ most_deep
   deep_initials rs [] f = omega arith
   deep_initials rs (d ∷ ds) f =
-      deep_before (initialise p numbers rs (number_of d) d.init) (initialise_all p numbers (rs ++ initial_temporaries d.init) ds) most_deep (deep_initialise p numbers rs (number_of d) d.init f.0) (deep_initials (rs ++ initial_temporaries d.init) ds f.1)
+      deep_before (initialise p numbers rs (number_of d) d.init) (initialise_all p numbers (rs ++ initial_temporaries d.init) ds) most_deep (deep_initialise p numbers rs (number_of d) d.init f.0)
+          (deep_initials (rs ++ initial_temporaries d.init) ds f.1)
 
   deep_returned : (spot : Spot) (rs : Types) (e : Option Expression) → WhereAny (IsFullOrCall 800) e → depth_of_all (returned p numbers spot rs e) ≤ most_deep
   deep_returned spot rs None f =
@@ -110,7 +112,8 @@ module _ (p : TranslationUnit) (numbers : List ℕ) where
         let n = 4 * max (form.depth a) (form.depth_of_else b) + most_deep in
         let m : max (depth_of_all (statement p numbers spot (rs ++ temporaries e) a)) (depth_of_all (else_part p numbers spot (rs ++ temporaries e ++ statement_temporaries a) b)) ≤ n = max-le (omega (arith, x, l)) (omega (arith, y, r)) in
         let s = f.0.small in
-        deep_behind numbers rs e (tree.If (condition_of numbers rs e) (statement p numbers spot (rs ++ temporaries e) a) (else_part p numbers spot (rs ++ temporaries e ++ statement_temporaries a) b)) (4 * (1 + max (form.depth a) (form.depth_of_else b)) + most_deep) (omega (arith, s)) (omega (arith, m))
+        deep_behind numbers rs e (tree.If (condition_of numbers rs e) (statement p numbers spot (rs ++ temporaries e) a) (else_part p numbers spot (rs ++ temporaries e ++ statement_temporaries a) b))
+            (4 * (1 + max (form.depth a) (form.depth_of_else b)) + most_deep) (omega (arith, s)) (omega (arith, m))
     deep spot rs (While at annots e a) f =
         let loops = spot.loops + 1 in
         let x = deep (in_loop spot) (rs ++ temporaries e) a f.2 in

@@ -31,7 +31,8 @@ use Rattle.c_effects.specs.Expressions.{register_type, temporaries, value, befor
 use Rattle.c_effects.specs.Expressions as spec
 use Rattle.c_effects.specs.Effects.{arguments_temporaries, full_temporaries, effect_temporaries, called, full_setup, full_value, effect}
 use Rattle.c_effects.specs.Effects as translation
-use Rattle.instrument.proofs.Variables.{Slot, Setting, count, value_at, slot_of, Related, Beside, IsSet, Same, same_all, related_same, value_below, match_at, decl_at, object_is, read_is, write_is, state_with, related_set, kept_set, beside_set, store_with, load_cell, get-set_same, stacked_at}
+use Rattle.instrument.proofs.Variables.{Slot, Setting, count, value_at, slot_of, Related, Beside, IsSet, Same, same_all, related_same, value_below, match_at, decl_at, object_is, read_is, write_is, state_with, related_set, kept_set, beside_set}
+use Rattle.instrument.proofs.Variables.{store_with, load_cell, get-set_same, stacked_at}
 use Rattle.instrument.proofs.Values.{Has, compound_is}
 use Rattle.instrument.proofs.Results.{writes_none}
 use Rattle.instrument.proofs.Evaluating.{Target, Did, runs, set_runs, behind_setup}
@@ -50,10 +51,12 @@ both_mapped : (k : CInt) (o : Option ℤ) → option_map (converted (Int k)) (op
 both_mapped k None = refl
 both_mapped k (Some z) = refl
 
-pub compound_value : (k l : CInt) (op : BinOp) (x y : ℤ) → compound (Int k) op (Integer x) (Int l) (Integer y) ≡ option_map (λ z. Integer (convert k z)) (operate_in (operation_type op k l) op (convert (operation_type op k l) x) (if is_shift op then y else convert (operation_type op k l) y))
+pub compound_value : (k l : CInt) (op : BinOp) (x y : ℤ) → compound (Int k) op (Integer x) (Int l) (Integer y) ≡ option_map (λ z. Integer (convert k z)) (operate_in (operation_type op k l) op (convert (operation_type op k l) x)
+    (if is_shift op then y else convert (operation_type op k l) y))
 compound_value k l op x y = by (operation_type op k l) (is_shift op)
   where
-    by : (m : CInt) (t : Bool) → option_map (converted (Int k)) (operate_values (Int m) op (converted (Int m) (Integer x)) (if t then Integer y else converted (Int m) (Integer y))) ≡ option_map (λ z. Integer (convert k z)) (operate_in m op (convert m x) (if t then y else convert m y))
+    by : (m : CInt) (t : Bool) → option_map (converted (Int k)) (operate_values (Int m) op (converted (Int m) (Integer x)) (if t then Integer y else converted (Int m) (Integer y))) ≡ option_map (λ z. Integer (convert k z))
+        (operate_in m op (convert m x) (if t then y else convert m y))
     by m true = both_mapped k (operate_in m op (convert m x) y)
     by m false = both_mapped k (operate_in m op (convert m x) (convert m y))
 
@@ -75,7 +78,8 @@ module _ (w : Setting) (slots : List Slot) (regs : List BlockValue) (s : State) 
   }
 
 -- what stands behind an assignment
-module _ (p : TranslationUnit) (w : Setting) (n : ℕ) (h : Here) (scopes : Scopes) (scene : Scene p w n h.slots scopes) (s : State) (t : Target) (ready : Ready s.store h.slots scopes.objects) (le : s.steps ≤ n) (rs : List MonType) (behind : count w + count w ≤ length rs) (regs : List BlockValue) (m : Related w h.slots regs s) (b : Beside w h.slots s t) where
+module _ (p : TranslationUnit) (w : Setting) (n : ℕ) (h : Here) (scopes : Scopes) (scene : Scene p w n h.slots scopes) (s : State) (t : Target) (ready : Ready s.store h.slots scopes.objects) (le : s.steps ≤ n) (rs : List MonType)
+    (behind : count w + count w ≤ length rs) (regs : List BlockValue) (m : Related w h.slots regs s) (b : Beside w h.slots s t) where
   abbrev does_as : Expression → MonStatements → Type 0
   does_as e a = Follows w h Next s ((eval_with e w.call >> done) s) (runs w n t a regs)
 
@@ -116,7 +120,8 @@ module _ (p : TranslationUnit) (w : Setting) (n : ℕ) (h : Here) (scopes : Scop
     abbrev Written : PlainType → Value → Value → State → Did → Type 0
     Written i j given to d = Follows w h Next to (on_outcome ((write at there i j >> give given) to) (λ _. done)) d
 
-    written_int : (room : count w + count w ≤ w.registers) (given : Value) (z : ℤ) (f : fits v.int z ≡ true) (to : State) (target : Target) (after : List BlockValue) (e : MonExpression) → Related w h.slots after to → Beside w h.slots to target → Has e after z → Written (Int v.int) (Integer z) given to (runs w n target (set (value_at w x.decl) e) after)
+    written_int : (room : count w + count w ≤ w.registers) (given : Value) (z : ℤ) (f : fits v.int z ≡ true) (to : State) (target : Target) (after : List BlockValue) (e : MonExpression) → Related w h.slots after to → Beside w h.slots to target
+        → Has e after z → Written (Int v.int) (Integer z) given to (runs w n target (set (value_at w x.decl) e) after)
     written_int room given z f to target after e re be has =
         GoesOn (state_with w h.slots after to re room x.decl v seen.found z f) (slice_set after (value_at w x.decl) (Whole z)) target []
         (related_set w h.slots after to re room x.decl v seen.found z f)
@@ -125,11 +130,13 @@ module _ (p : TranslationUnit) (w : Setting) (n : ℕ) (h : Here) (scopes : Scop
         (ap (λ r. on_outcome (on_outcome r (λ _. give given)) (λ _. done)) (write_is w h.slots after to re x.decl v seen.found at z))
         (set_runs w n target (value_at w x.decl) e after z has)
 
-    written : (room : count w + count w ≤ w.registers) (given : Value) (z : ℤ) (f : fits v.int z ≡ true) (to : State) (target : Target) (after : List BlockValue) (e : MonExpression) → Related w h.slots after to → Beside w h.slots to target → Has e after z → Written k (Integer z) given to (runs w n target (set (value_at w x.decl) e) after)
+    written : (room : count w + count w ≤ w.registers) (given : Value) (z : ℤ) (f : fits v.int z ≡ true) (to : State) (target : Target) (after : List BlockValue) (e : MonExpression) → Related w h.slots after to → Beside w h.slots to target
+        → Has e after z → Written k (Integer z) given to (runs w n target (set (value_at w x.decl) e) after)
     written room given z f to target after e re be has =
         subst (λ i. Written i (Integer z) given to (runs w n target (set (value_at w x.decl) e) after)) (sym seen.ctype) (written_int room given z f to target after e re be has)
 
-    assigned : (e : Expression) → IsPureOrCall e → WellTyped scopes e → type_of e ≡ k → FullHasLetters e → length (rs ++ full_temporaries e) ≤ w.registers → does_as (Node at k (Assign None variable e)) (before (full_setup p w.numbers rs e) (set (value_at w x.decl) (full_value w.numbers rs e)))
+    assigned : (e : Expression) → IsPureOrCall e → WellTyped scopes e → type_of e ≡ k → FullHasLetters e → length (rs ++ full_temporaries e) ≤ w.registers
+        → does_as (Node at k (Assign None variable e)) (before (full_setup p w.numbers rs e) (set (value_at w x.decl) (full_value w.numbers rs e)))
     assigned e pure q same l room =
         let given = λ (i : Value). write at there k i >> give i in
         let tail = λ (i : Value) (s : State). on_outcome (given i s) (λ _. done) in
@@ -153,7 +160,9 @@ module _ (p : TranslationUnit) (w : Setting) (n : ℕ) (h : Here) (scopes : Scop
     read_found = ap (λ i. read at there i s) seen.ctype ∙ read_is w h.slots regs s m x.decl v seen.found at old.known.value old.known.loads
 
     -- what an operator makes of the old value and another
-    combined : (room : count w + count w ≤ w.registers) (op : BinOp) (c : PlainType) (l : CInt) (y : ℤ) (e : MonExpression) (after : List BlockValue) (g : Value → Value) → c ≡ Int l → fits l y ≡ true → Same (length rs) regs after → Has e after y → Follows w h Next s (on_outcome ((defined at (compound k op (Integer old.known.value) c (Integer y)) >>= λ i. write at there k i >> give (g i)) s) (λ _. done)) (runs w n t (set (value_at w x.decl) (spec.compound op k c (Register (value_at w x.decl)) e)) after)
+    combined : (room : count w + count w ≤ w.registers) (op : BinOp) (c : PlainType) (l : CInt) (y : ℤ) (e : MonExpression) (after : List BlockValue) (g : Value → Value) → c ≡ Int l → fits l y ≡ true → Same (length rs) regs after → Has e after y
+        → Follows w h Next s (on_outcome ((defined at (compound k op (Integer old.known.value) c (Integer y)) >>= λ i. write at there k i >> give (g i)) s) (λ _. done))
+        (runs w n t (set (value_at w x.decl) (spec.compound op k c (Register (value_at w x.decl)) e)) after)
     combined room op c l y e after g c_int fy same has =
         subst (λ k2. FollowsIn k2 (compound k2 op (Integer old.known.value) c (Integer y)) (spec.compound op k2 c (Register (value_at w x.decl)) e)) (sym seen.ctype)
         (subst (λ c2. FollowsIn (Int v.int) (compound (Int v.int) op (Integer old.known.value) c2 (Integer y)) (spec.compound op (Int v.int) c2 (Register (value_at w x.decl)) e)) (sym c_int)
@@ -175,7 +184,8 @@ module _ (p : TranslationUnit) (w : Setting) (n : ℕ) (h : Here) (scopes : Scop
             written_int room (g (Integer (convert v.int z))) (convert v.int z) (fits-convert v.int z) s t after code (related_same w h.slots regs after s (length rs) behind same m) b
             (compound_is i v.int l op (Register (value_at w x.decl)) e after old.known.value y z old.known.fits fy some (old_there after same) has)
 
-    compounded : (op : BinOp) (e : Expression) → IsPure e → WellTyped scopes e → IsInteger (type_of e) → HasLetters e → length (rs ++ temporaries e) ≤ w.registers → does_as (Node at k (Assign (Some op) variable e)) (before (setup w.numbers rs e) (set (value_at w x.decl) (spec.compound op k (type_of e) (Register (value_at w x.decl)) (value w.numbers rs e))))
+    compounded : (op : BinOp) (e : Expression) → IsPure e → WellTyped scopes e → IsInteger (type_of e) → HasLetters e → length (rs ++ temporaries e) ≤ w.registers
+        → does_as (Node at k (Assign (Some op) variable e)) (before (setup w.numbers rs e) (set (value_at w x.decl) (spec.compound op k (type_of e) (Register (value_at w x.decl)) (value w.numbers rs e))))
     compounded op e pure q integer l room =
         let i = integer_int (type_of e) integer in
         let rest = λ (y : Value). defined at (compound k op (Integer old.known.value) (type_of e) y) >>= λ v. write at there k v >> give v in
@@ -193,7 +203,8 @@ module _ (p : TranslationUnit) (w : Setting) (n : ℕ) (h : Here) (scopes : Scop
     bumped : (op : BumpOp) → count w + count w ≤ w.registers → does_as (Node at k (Bump op variable)) (set (value_at w x.decl) (spec.compound (bump_operator op) k int_type (Register (value_at w x.decl)) (Constant kind.I32 (pos 1))))
     bumped op room =
         let code = set (value_at w x.decl) (spec.compound (bump_operator op) k int_type (Register (value_at w x.decl)) (Constant kind.I32 (pos 1))) in
-        let source : (eval_with (Node at k (Bump op variable)) w.call >> done) s ≡ on_outcome ((defined at (compound k (bump_operator op) (Integer old.known.value) int_type (Integer (pos 1))) >>= λ i. write at there k i >> give (bump_value op (Integer old.known.value) i)) s) (λ _. done) =
+        let source : (eval_with (Node at k (Bump op variable)) w.call >> done) s ≡ on_outcome ((defined at (compound k (bump_operator op) (Integer old.known.value) int_type (Integer (pos 1))) >>= λ i. write at there k i
+            >> give (bump_value op (Integer old.known.value) i)) s) (λ _. done) =
         ap (λ o. on_outcome (on_outcome o (λ p. read at p k >>= λ x. defined at (compound k (bump_operator op) x int_type (Integer (pos 1))) >>= λ v. write at p k v >> give (bump_value op x v))) (λ _. done)) object_found
         ∙ ap (λ o. on_outcome (on_outcome o (λ x. defined at (compound k (bump_operator op) x int_type (Integer (pos 1))) >>= λ v. write at there k v >> give (bump_value op x v))) (λ _. done)) read_found in
         subst (λ r. Follows w h Next s r (runs w n t code regs)) (sym source)
@@ -203,7 +214,8 @@ module _ (p : TranslationUnit) (w : Setting) (n : ℕ) (h : Here) (scopes : Scop
   place_assigned at k (Node pa u (Variable x)) e d pure q same l room = assigned at pa u k x d.1 e pure q same l room
   place_assigned at k _ e d pure q same l room = absurd d
 
-  place_compounded : (at : Place) (k : PlainType) (op : BinOp) (a e : Expression) → IsPlace scopes k a → IsPure e → WellTyped scopes e → IsInteger (type_of e) → HasLetters e → length (rs ++ temporaries e) ≤ w.registers → Does (Node at k (Assign (Some op) a e))
+  place_compounded : (at : Place) (k : PlainType) (op : BinOp) (a e : Expression) → IsPlace scopes k a → IsPure e → WellTyped scopes e → IsInteger (type_of e) → HasLetters e → length (rs ++ temporaries e) ≤ w.registers
+      → Does (Node at k (Assign (Some op) a e))
   place_compounded at k op (Node pa u (Variable x)) e d pure q integer l room = compounded at pa u k x d.1 op e pure q integer l room
   place_compounded at k op _ e d pure q integer l room = absurd d
 
@@ -229,7 +241,10 @@ module _ (p : TranslationUnit) (w : Setting) (n : ℕ) (h : Here) (scopes : Scop
 
   -- ---- initialisations, and what follows
 
-  pub initial_follows : (d : Declaration) (at : Place) (e : Expression) (v : Slot) (rest : Evaluation (Unit {0})) (code : MonStatements) → slot_of (number_of d) h.slots ≡ Some v → d.ctype ≡ Int v.int → IsPureOrCall e → WellTyped scopes e → type_of e ≡ d.ctype → FullHasLetters e → length (rs ++ full_temporaries e) ≤ w.registers → ((to : State) (there : Target) (o : List ℕ) (after : List BlockValue) → Related w h.slots after to → Beside w h.slots to there → Later h.slots s to o → IsSet to.store v → Follows w h Next to (rest to) (runs w n there code after)) → Follows w h Next s (on_outcome (initialise d (Some (at, One e)) w.call s) (λ _. rest)) (runs w n t (before (translation.initialise p w.numbers rs (number_of d) (Some (at, One e))) code) regs)
+  pub initial_follows : (d : Declaration) (at : Place) (e : Expression) (v : Slot) (rest : Evaluation (Unit {0})) (code : MonStatements) → slot_of (number_of d) h.slots ≡ Some v → d.ctype ≡ Int v.int → IsPureOrCall e → WellTyped scopes e
+      → type_of e ≡ d.ctype → FullHasLetters e → length (rs ++ full_temporaries e) ≤ w.registers → ((to : State) (there : Target) (o : List ℕ) (after : List BlockValue) → Related w h.slots after to → Beside w h.slots to there → Later h.slots s to o
+      → IsSet to.store v → Follows w h Next to (rest to) (runs w n there code after)) → Follows w h Next s (on_outcome (initialise d (Some (at, One e)) w.call s) (λ _. rest))
+      (runs w n t (before (translation.initialise p w.numbers rs (number_of d) (Some (at, One e))) code) regs)
   initial_follows d at e v rest code found int pure q same l room go =
       subst (λ r. Follows w h Next s r (runs w n t (before (translation.initialise p w.numbers rs (number_of d) (Some (at, One e))) code) regs)) (sym source)
       (subst (λ a. Follows w h Next s (on_outcome (eval_with e w.call s) tail) (runs w n t a regs)) (sym (before_assoc (full_setup p w.numbers rs e) sets code))
@@ -252,12 +267,16 @@ module _ (p : TranslationUnit) (w : Setting) (n : ℕ) (h : Here) (scopes : Scop
           ap (λ o. on_outcome (on_outcome o (λ p. eval_with e w.call >>= λ i. write at p d.ctype i)) (λ _. rest)) (object_is w h.slots regs s m (number_of d) v found at)
           ∙ handed_on (eval_with e w.call s) (λ i. write at there d.ctype i) (λ _. rest)
 
-      by : (z : ℤ) (to : State) (target : Target) (o : List ℕ) (after : List BlockValue) → fits v.int z ≡ true → Same (length rs) regs after → Related w h.slots after to → Beside w h.slots to target → Later h.slots s to o → Has (full_value w.numbers rs e) after z → Follows w h Next to (tail (Integer z) to) (runs w n target (before sets code) after)
+      by : (z : ℤ) (to : State) (target : Target) (o : List ℕ) (after : List BlockValue) → fits v.int z ≡ true → Same (length rs) regs after → Related w h.slots after to → Beside w h.slots to target → Later h.slots s to o
+          → Has (full_value w.numbers rs e) after z → Follows w h Next to (tail (Integer z) to) (runs w n target (before sets code) after)
       by z to target o after f same2 re be la has =
           let later = later_set w h.slots after to re room2 (number_of d) v found z f in
           subst (λ r. Follows w h Next to (on_outcome r (λ _. rest)) (runs w n target (before sets code) after)) (sym (ap (λ i. write at there i (Integer z) to) int ∙ write_is w h.slots after to re (number_of d) v found at z))
-          (subst (λ d2. Follows w h Next to (rest (state_with w h.slots after to re room2 (number_of d) v found z f)) d2) (sym (behind_setup w n target sets code after (slice_set after (value_at w (number_of d)) (Whole z)) (set_runs w n target (value_at w (number_of d)) (full_value w.numbers rs e) after z has) ∙ sym (writes_none (runs w n target code (slice_set after (value_at w (number_of d)) (Whole z))))))
-          (onward w h Next to (state_with w h.slots after to re room2 (number_of d) v found z f) [] (rest (state_with w h.slots after to re room2 (number_of d) v found z f)) (runs w n target code (slice_set after (value_at w (number_of d)) (Whole z))) later
+          (subst (λ d2. Follows w h Next to (rest (state_with w h.slots after to re room2 (number_of d) v found z f)) d2)
+              (sym (behind_setup w n target sets code after (slice_set after (value_at w (number_of d)) (Whole z)) (set_runs w n target (value_at w (number_of d)) (full_value w.numbers rs e) after z has)
+              ∙ sym (writes_none (runs w n target code (slice_set after (value_at w (number_of d)) (Whole z))))))
+          (onward w h Next to (state_with w h.slots after to re room2 (number_of d) v found z f) [] (rest (state_with w h.slots after to re room2 (number_of d) v found z f))
+              (runs w n target code (slice_set after (value_at w (number_of d)) (Whole z))) later
           (go (state_with w h.slots after to re room2 (number_of d) v found z f) target (o ++ []) (slice_set after (value_at w (number_of d)) (Whole z))
           (related_set w h.slots after to re room2 (number_of d) v found z f)
           (beside_set w h.slots after to re room2 (number_of d) v found z f h.slots target be)

@@ -30,7 +30,8 @@ Did = Result Target (Flow BlockValue)
 -- An expression of the type in a state of the source, and its translation over these registers: statements that change registers from
 -- the number `low` on alone, and then a value that depends on registers below `high` alone. Where the source has none, nothing is owed.
 pub data Evaluates (k : CInt) (s : State) (t : Target) (r : Outcome Value) (regs : List BlockValue) (low high : ℕ) (q : Did) (e : MonExpression) : Type 0 where
-  HasValue : (z : ℤ) → fits k z ≡ true → r ≡ Normal (Integer z) s → (after : List BlockValue) → Same low regs after → q ≡ Done (Next after) t [] → ((later : List BlockValue) → Same high after later → Has e later z) → Evaluates k s t r regs low high q e
+  HasValue : (z : ℤ) → fits k z ≡ true → r ≡ Normal (Integer z) s → (after : List BlockValue) → Same low regs after → q ≡ Done (Next after) t [] → ((later : List BlockValue) → Same high after later → Has e later z)
+      → Evaluates k s t r regs low high q e
   HasNone : (at : Place) → r ≡ Stop (Over (Undefined at)) s → Evaluates k s t r regs low high q e
 
 module _ (w : Setting) (n : ℕ) (t : Target) where
@@ -60,7 +61,9 @@ module _ (w : Setting) (n : ℕ) (t : Target) where
     Evaluated k r regs low high q e = Evaluates k s t r regs low high q e
 
     -- an expression, and what follows its value
-    pub onward_value : (k l : CInt) (r : Outcome Value) (f : Value → Evaluation Value) (regs : List BlockValue) (low mid high : ℕ) (a b : MonStatements) (e e' : MonExpression) → low ≤ mid → Evaluated k r regs low mid (runs a regs) e → ((z : ℤ) → fits k z ≡ true → (after : List BlockValue) → Same low regs after → ((later : List BlockValue) → Same mid after later → Has e later z) → Evaluated l (f (Integer z) s) after mid high (runs b after) e') → Evaluated l (on_outcome r f) regs low high (runs (before a b) regs) e'
+    pub onward_value : (k l : CInt) (r : Outcome Value) (f : Value → Evaluation Value) (regs : List BlockValue) (low mid high : ℕ) (a b : MonStatements) (e e' : MonExpression) → low ≤ mid → Evaluated k r regs low mid (runs a regs) e
+        → ((z : ℤ) → fits k z ≡ true → (after : List BlockValue) → Same low regs after → ((later : List BlockValue) → Same mid after later → Has e later z) → Evaluated l (f (Integer z) s) after mid high (runs b after) e')
+        → Evaluated l (on_outcome r f) regs low high (runs (before a b) regs) e'
     onward_value k l r f regs low mid high a b e e' le (HasNone at x) go = HasNone at (ap (λ r. on_outcome r f) x)
     onward_value k l r f regs low mid high a b e e' le (HasValue z fit x after same run has) go = by (go z fit after same has)
       where
@@ -74,7 +77,8 @@ module _ (w : Setting) (n : ℕ) (t : Target) where
       MakesValue : (v : ℤ) → fits l v ≡ true → o ≡ Normal (Integer v) s → ((later : List BlockValue) → P later → Has e' later v) → Makes l o P e'
       MakesNone : (at : Place) → o ≡ Stop (Over (Undefined at)) s → Makes l o P e'
 
-    pub changed : (k l : CInt) (r : Outcome Value) (f : Value → Evaluation Value) (regs : List BlockValue) (low high : ℕ) (q : Did) (e e' : MonExpression) → Evaluated k r regs low high q e → ((z : ℤ) → fits k z ≡ true → (after : List BlockValue) → Same low regs after → Makes l (f (Integer z) s) (λ later. Same high after later × Has e later z) e') → Evaluated l (on_outcome r f) regs low high q e'
+    pub changed : (k l : CInt) (r : Outcome Value) (f : Value → Evaluation Value) (regs : List BlockValue) (low high : ℕ) (q : Did) (e e' : MonExpression) → Evaluated k r regs low high q e
+        → ((z : ℤ) → fits k z ≡ true → (after : List BlockValue) → Same low regs after → Makes l (f (Integer z) s) (λ later. Same high after later × Has e later z) e') → Evaluated l (on_outcome r f) regs low high q e'
     changed k l r f regs low high q e e' (HasNone at x) go = HasNone at (ap (λ r. on_outcome r f) x)
     changed k l r f regs low high q e e' (HasValue z fit x after same run has) go = by (go z fit after same)
       where
@@ -85,20 +89,24 @@ module _ (w : Setting) (n : ℕ) (t : Target) where
     -- ---- temporary registers
 
     -- a value in a temporary register
-    pub stored : (l : CInt) (o : Outcome Value) (regs : List BlockValue) (mid r : ℕ) (e' : MonExpression) (v : ℤ) → r < length regs → mid ≤ r → fits l v ≡ true → o ≡ Normal (Integer v) s → Has e' regs v → Evaluated l o regs mid (suc r) (runs (set r e') regs) (Register r)
+    pub stored : (l : CInt) (o : Outcome Value) (regs : List BlockValue) (mid r : ℕ) (e' : MonExpression) (v : ℤ) → r < length regs → mid ≤ r → fits l v ≡ true → o ≡ Normal (Integer v) s → Has e' regs v
+        → Evaluated l o regs mid (suc r) (runs (set r e') regs) (Register r)
     stored l o regs mid r e' v lt le fit x h =
         HasValue v fit x (slice_set regs r (Whole v)) (same_set mid r regs (Whole v) le) (set_runs r e' regs v h)
         (λ later same. same.below r (omega arith) ∙ get-set_same regs r (Whole v) lt)
 
     -- the value of an expression in a temporary register, or what is made of it
-    pub then_stored : (k l : CInt) (r : Outcome Value) (f : Value → Evaluation Value) (regs : List BlockValue) (low mid u : ℕ) (a : MonStatements) (e e' : MonExpression) → low ≤ mid → mid ≤ u → u < length regs → Evaluated k r regs low mid (runs a regs) e → ((z : ℤ) → fits k z ≡ true → (later : List BlockValue) → Has e later z → (v : ℤ) × (fits l v ≡ true) × (f (Integer z) s ≡ Normal (Integer v) s) × Has e' later v) → Evaluated l (on_outcome r f) regs low (suc u) (runs (before a (set u e')) regs) (Register u)
+    pub then_stored : (k l : CInt) (r : Outcome Value) (f : Value → Evaluation Value) (regs : List BlockValue) (low mid u : ℕ) (a : MonStatements) (e e' : MonExpression) → low ≤ mid → mid ≤ u → u < length regs
+        → Evaluated k r regs low mid (runs a regs) e → ((z : ℤ) → fits k z ≡ true → (later : List BlockValue) → Has e later z → (v : ℤ) × (fits l v ≡ true) × (f (Integer z) s ≡ Normal (Integer v) s) × Has e' later v)
+        → Evaluated l (on_outcome r f) regs low (suc u) (runs (before a (set u e')) regs) (Register u)
     then_stored k l r f regs low mid u a e e' le lt long h go =
         onward_value k l r f regs low mid (suc u) a (set u e') e (Register u) le h (λ z fit after same has.
         let m = go z fit after (has after (same_all mid after)) in
         stored l (f (Integer z) s) after mid u e' m.0 (omega (arith, same.long)) lt m.1 m.2 m.3)
 
     -- 0 chooses the second on both sides
-    pub chosen : (l : CInt) (x z : ℤ) (a b : Evaluation Value) (regs : List BlockValue) (low high : ℕ) (p q : Did) (e : MonExpression) → int_eq z (pos 0) ≡ int_eq x (pos 0) → Evaluated l (a s) regs low high p e → Evaluated l (b s) regs low high q e → Evaluated l (choose (Integer x) a b s) regs low high (monitored.choose z p q) e
+    pub chosen : (l : CInt) (x z : ℤ) (a b : Evaluation Value) (regs : List BlockValue) (low high : ℕ) (p q : Did) (e : MonExpression) → int_eq z (pos 0) ≡ int_eq x (pos 0) → Evaluated l (a s) regs low high p e → Evaluated l (b s) regs low high q e
+        → Evaluated l (choose (Integer x) a b s) regs low high (monitored.choose z p q) e
     chosen l x z a b regs low high p q e same h g =
         subst (λ t. Evaluated l (choose (Integer x) a b s) regs low high (if t then q else p) e) (sym same) (by (int_eq x (pos 0)))
       where
@@ -107,7 +115,10 @@ module _ (w : Setting) (n : ℕ) (t : Target) where
         by false = h
 
     -- the condition of an `if`, and a temporary register that both its parts set
-    pub through_if : (k l : CInt) (r : Outcome Value) (x y : Evaluation Value) (regs : List BlockValue) (low mid high : ℕ) (a b c : MonStatements) (e c' e' : MonExpression) → low ≤ mid → Evaluated k r regs low mid (runs a regs) e → ((z : ℤ) (later : List BlockValue) → fits k z ≡ true → Has e later z → (i : ℤ) × Has c' later i × (int_eq i (pos 0) ≡ int_eq z (pos 0))) → ((after : List BlockValue) → Same low regs after → Evaluated l (x s) after mid high (runs b after) e') → ((after : List BlockValue) → Same low regs after → Evaluated l (y s) after mid high (runs c after) e') → Evaluated l (on_outcome r (λ v. choose v x y)) regs low high (runs (before a (one (tree.If c' b c))) regs) e'
+    pub through_if : (k l : CInt) (r : Outcome Value) (x y : Evaluation Value) (regs : List BlockValue) (low mid high : ℕ) (a b c : MonStatements) (e c' e' : MonExpression) → low ≤ mid → Evaluated k r regs low mid (runs a regs) e
+        → ((z : ℤ) (later : List BlockValue) → fits k z ≡ true → Has e later z → (i : ℤ) × Has c' later i × (int_eq i (pos 0) ≡ int_eq z (pos 0)))
+        → ((after : List BlockValue) → Same low regs after → Evaluated l (x s) after mid high (runs b after) e') → ((after : List BlockValue) → Same low regs after → Evaluated l (y s) after mid high (runs c after) e')
+        → Evaluated l (on_outcome r (λ v. choose v x y)) regs low high (runs (before a (one (tree.If c' b c))) regs) e'
     through_if k l r x y regs low mid high a b c e c' e' le h test go on =
         onward_value k l r (λ v. choose v x y) regs low mid high a (one (tree.If c' b c)) e e' le h (λ z fit after same has.
         let t = test z after fit (has after (same_all mid after)) in

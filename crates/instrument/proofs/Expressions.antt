@@ -63,11 +63,13 @@ module _ (w : Setting) (n : ℕ) (s : State) (target : Target) where
   constant k r regs low high t z f e = HasValue z f e regs (same_all low regs) refl (λ later same. refl)
 
   -- what an operator makes of its operands
-  makes : (at : Place) (k : CInt) (P : List BlockValue → Type 0) (e : MonExpression) (o : Option ℤ) → ((v : ℤ) → o ≡ Some v → fits k v ≡ true) → ((v : ℤ) → o ≡ Some v → (later : List BlockValue) → P later → Has e later v) → Makes w n target s k (defined at (option_map Integer o) s) P e
+  makes : (at : Place) (k : CInt) (P : List BlockValue → Type 0) (e : MonExpression) (o : Option ℤ) → ((v : ℤ) → o ≡ Some v → fits k v ≡ true) → ((v : ℤ) → o ≡ Some v → (later : List BlockValue) → P later → Has e later v)
+      → Makes w n target s k (defined at (option_map Integer o) s) P e
   makes at k P e None f h = MakesNone at refl
   makes at k P e (Some v) f h = MakesValue v (f v refl) refl (h v refl)
 
-  unary_follows : (at : Place) (op : UnOp) (t u : PlainType) (k : CInt) (r : Outcome Value) (regs : List BlockValue) (low high : ℕ) (q : Did) (e : MonExpression) → UnaryTypes op t u → t ≡ Int k → ((l : CInt) → u ≡ Int l → Evaluated l r regs low high q e) → Evaluated k (on_outcome r (λ x. defined at (operate_value t op x))) regs low high q (unary op (value_type u) e)
+  unary_follows : (at : Place) (op : UnOp) (t u : PlainType) (k : CInt) (r : Outcome Value) (regs : List BlockValue) (low high : ℕ) (q : Did) (e : MonExpression) → UnaryTypes op t u → t ≡ Int k
+      → ((l : CInt) → u ≡ Int l → Evaluated l r regs low high q e) → Evaluated k (on_outcome r (λ x. defined at (operate_value t op x))) regs low high q (unary op (value_type u) e)
   unary_follows at op t u k r regs low high q e types int h =
       let a = unary_at op t u k types int in
       changed w n target s a.operand k r (λ x. defined at (operate_value t op x)) regs low high q e (unary op (value_type u) e) (h a.operand a.is) (λ z f after same.
@@ -75,7 +77,10 @@ module _ (w : Setting) (n : ℕ) (s : State) (target : Target) where
       (λ v d. subst (λ i. fits i v ≡ true) a.result (fits-operate_one_in a.operand op z v f (sym (a.same z) ∙ d)))
       (λ v d later p. ap (λ u. eval over_blocks (unary op (value_type u) e) later) a.is ∙ unary_is a.operand op e later z v f (sym (a.same z) ∙ d) p.1))
 
-  binary_follows : (at : Place) (op : BinOp) (t u v : PlainType) (k : CInt) (r : Outcome Value) (right : Evaluation Value) (regs : List BlockValue) (low mid high : ℕ) (a b : MonStatements) (x y : MonExpression) → low ≤ mid → mid ≤ high → BinaryTypes op t u v → t ≡ Int k → ((l : CInt) → u ≡ Int l → Evaluated l r regs low mid (runs w n target a regs) x) → ((l : CInt) → v ≡ Int l → (after : List BlockValue) → Same low regs after → Evaluated l (right s) after mid high (runs w n target b after) y) → Evaluated k (on_outcome r (λ i. right >>= λ j. defined at (operate_values t op i j))) regs low high (runs w n target (before a b) regs) (binary op (value_type u) (value_type v) x y)
+  binary_follows : (at : Place) (op : BinOp) (t u v : PlainType) (k : CInt) (r : Outcome Value) (right : Evaluation Value) (regs : List BlockValue) (low mid high : ℕ) (a b : MonStatements) (x y : MonExpression) → low ≤ mid → mid ≤ high
+      → BinaryTypes op t u v → t ≡ Int k → ((l : CInt) → u ≡ Int l → Evaluated l r regs low mid (runs w n target a regs) x) → ((l : CInt) → v ≡ Int l → (after : List BlockValue) → Same low regs after
+      → Evaluated l (right s) after mid high (runs w n target b after) y) → Evaluated k (on_outcome r (λ i. right >>= λ j. defined at (operate_values t op i j))) regs low high (runs w n target (before a b) regs)
+      (binary op (value_type u) (value_type v) x y)
   binary_follows at op t u v k r right regs low mid high a b x y le le2 types int left_h right_h =
       let m = binary_at op t u v k types int in
       onward_value w n target s m.left k r (λ i. right >>= λ j. defined at (operate_values t op i j)) regs low mid high a b x (binary op (value_type u) (value_type v) x y) le (left_h m.left m.left_is) (λ i f after same has.
@@ -132,7 +137,8 @@ module _ (w : Setting) (n : ℕ) (slots : List Slot) (scopes : Scopes) (sight : 
   enough_for : (rs : List MonType) (regs after : List BlockValue) (t : ℕ) → Related w slots regs now → Same (length rs) regs after → suc t ≤ w.registers → t < length after
   enough_for rs regs after t h same le = omega (arith, same.long, h.registers, le)
 
-  module _ (at : Place) (t : PlainType) (a b : Expression) (k l : CInt) (rs : List MonType) (a_int : type_of a ≡ Int k) (b_int : type_of b ≡ Int l) (behind : count w + count w ≤ length rs) (enough : length (rs ++ (temporaries a ++ temporaries b ++ kind.I32 ∷ [])) ≤ w.registers) (a_follows : Follows a k rs) (b_follows : Follows b l (rs ++ temporaries a)) where
+  module _ (at : Place) (t : PlainType) (a b : Expression) (k l : CInt) (rs : List MonType) (a_int : type_of a ≡ Int k) (b_int : type_of b ≡ Int l) (behind : count w + count w ≤ length rs)
+      (enough : length (rs ++ (temporaries a ++ temporaries b ++ kind.I32 ∷ [])) ≤ w.registers) (a_follows : Follows a k rs) (b_follows : Follows b l (rs ++ temporaries a)) where
     abbrev last : ℕ
     last = length (rs ++ temporaries a ++ temporaries b)
 
@@ -140,16 +146,19 @@ module _ (w : Setting) (n : ℕ) (slots : List Slot) (scopes : Scopes) (sight : 
     long = next_long rs (temporaries a) (temporaries b) kind.I32
 
     -- the right side, whose truth is put into the register
-    right_follows : (regs after : List BlockValue) → Related w slots regs now → Same (length rs) regs after → Evaluates I32 now target ((eval_with b w.call >>= λ y. give (truth_value y)) now) after (length (rs ++ temporaries a)) (suc last) (runs w n target (before (setup w.numbers (rs ++ temporaries a) b) (set last (truth_of w.numbers (rs ++ temporaries a) b))) after) (Register last)
+    right_follows : (regs after : List BlockValue) → Related w slots regs now → Same (length rs) regs after → Evaluates I32 now target ((eval_with b w.call >>= λ y. give (truth_value y)) now) after (length (rs ++ temporaries a)) (suc last)
+        (runs w n target (before (setup w.numbers (rs ++ temporaries a) b) (set last (truth_of w.numbers (rs ++ temporaries a) b))) after) (Register last)
     right_follows regs after h same =
         then_stored w n target now l I32 (eval_with b w.call now) (λ y. give (truth_value y)) after (length (rs ++ temporaries a)) (length ((rs ++ temporaries a) ++ temporaries b)) last
         (setup w.numbers (rs ++ temporaries a) b) (value w.numbers (rs ++ temporaries a) b) (truth_of w.numbers (rs ++ temporaries a) b)
         (longer (rs ++ temporaries a) (temporaries b)) (omega arith) (enough_for rs regs after last h same (omega (arith, long, enough)))
         (b_follows after (after_holds rs regs after behind h same))
-        (λ z f later has. (truth (not (int_eq z (pos 0))), truth_fits (not (int_eq z (pos 0))), refl, ap (λ u. eval over_blocks (spec.truth (value_type u) (value w.numbers (rs ++ temporaries a) b)) later) b_int ∙ differs_from_zero l (value w.numbers (rs ++ temporaries a) b) later z f has))
+        (λ z f later has. (truth (not (int_eq z (pos 0))), truth_fits (not (int_eq z (pos 0))), refl, ap (λ u. eval over_blocks (spec.truth (value_type u) (value w.numbers (rs ++ temporaries a) b)) later) b_int
+            ∙ differs_from_zero l (value w.numbers (rs ++ temporaries a) b) later z f has))
 
     -- a constant that is put into it
-    constant_follows : (z : ℤ) → fits I32 z ≡ true → (regs after : List BlockValue) → Related w slots regs now → Same (length rs) regs after → Evaluates I32 now target (give (Integer z) now) after (length (rs ++ temporaries a)) (suc last) (runs w n target (set last (Constant kind.I32 z)) after) (Register last)
+    constant_follows : (z : ℤ) → fits I32 z ≡ true → (regs after : List BlockValue) → Related w slots regs now → Same (length rs) regs after
+        → Evaluates I32 now target (give (Integer z) now) after (length (rs ++ temporaries a)) (suc last) (runs w n target (set last (Constant kind.I32 z)) after) (Register last)
     constant_follows z f regs after h same =
         stored w n target now I32 (give (Integer z) now) after (length (rs ++ temporaries a)) last (Constant kind.I32 z) z (enough_for rs regs after last h same (omega (arith, long, enough)))
         (longer (rs ++ temporaries a) (temporaries b)) f refl refl
@@ -174,7 +183,9 @@ module _ (w : Setting) (n : ℕ) (slots : List Slot) (scopes : Scopes) (sight : 
         (λ after same. constant_follows (pos 1) refl regs after h same)
         (λ after same. right_follows regs after h same))
 
-  module _ (at : Place) (t : PlainType) (a b c : Expression) (k l : CInt) (rs : List MonType) (a_int : type_of a ≡ Int k) (behind : count w + count w ≤ length rs) (enough : length (rs ++ (temporaries a ++ temporaries b ++ temporaries c ++ value_type (type_of b) ∷ [])) ≤ w.registers) (a_follows : Follows a k rs) (b_follows : Follows b l (rs ++ temporaries a)) (c_follows : Follows c l (rs ++ temporaries a ++ temporaries b)) where
+  module _ (at : Place) (t : PlainType) (a b c : Expression) (k l : CInt) (rs : List MonType) (a_int : type_of a ≡ Int k) (behind : count w + count w ≤ length rs)
+      (enough : length (rs ++ (temporaries a ++ temporaries b ++ temporaries c ++ value_type (type_of b) ∷ [])) ≤ w.registers) (a_follows : Follows a k rs) (b_follows : Follows b l (rs ++ temporaries a))
+      (c_follows : Follows c l (rs ++ temporaries a ++ temporaries b)) where
     abbrev chosen_in : ℕ
     chosen_in = length (rs ++ temporaries a ++ temporaries b ++ temporaries c)
 
@@ -182,7 +193,10 @@ module _ (w : Setting) (n : ℕ) (slots : List Slot) (scopes : Scopes) (sight : 
     choice_long = third_long rs (temporaries a) (temporaries b) (temporaries c) (value_type (type_of b))
 
     -- the value of one of the parts, put into the register
-    part_follows : (e : Expression) (es : List MonType) (low : ℕ) → low ≤ length es → length (es ++ temporaries e) ≤ chosen_in → Follows e l es → (after : List BlockValue) → Related w slots after now → chosen_in < length after → ((regs : List BlockValue) → Evaluates l now target (eval_with e w.call now) regs (length es) (length (es ++ temporaries e)) (runs w n target (setup w.numbers es e) regs) (value w.numbers es e) → Evaluates l now target (eval_with e w.call now) regs low (length (es ++ temporaries e)) (runs w n target (setup w.numbers es e) regs) (value w.numbers es e)) → Evaluates l now target (eval_with e w.call now) after low (suc chosen_in) (runs w n target (before (setup w.numbers es e) (set chosen_in (value w.numbers es e))) after) (Register chosen_in)
+    part_follows : (e : Expression) (es : List MonType) (low : ℕ) → low ≤ length es → length (es ++ temporaries e) ≤ chosen_in → Follows e l es → (after : List BlockValue) → Related w slots after now → chosen_in < length after
+        → ((regs : List BlockValue) → Evaluates l now target (eval_with e w.call now) regs (length es) (length (es ++ temporaries e)) (runs w n target (setup w.numbers es e) regs) (value w.numbers es e)
+        → Evaluates l now target (eval_with e w.call now) regs low (length (es ++ temporaries e)) (runs w n target (setup w.numbers es e) regs) (value w.numbers es e))
+        → Evaluates l now target (eval_with e w.call now) after low (suc chosen_in) (runs w n target (before (setup w.numbers es e) (set chosen_in (value w.numbers es e))) after) (Register chosen_in)
     part_follows e es low le le2 f after h lt lower =
         subst (λ r. Evaluates l now target r after low (suc chosen_in) (runs w n target (before (setup w.numbers es e) (set chosen_in (value w.numbers es e))) after) (Register chosen_in)) (on_give (eval_with e w.call now))
         (then_stored w n target now l l (eval_with e w.call now) give after low (length (es ++ temporaries e)) chosen_in (setup w.numbers es e) (value w.numbers es e) (value w.numbers es e)
@@ -190,7 +204,8 @@ module _ (w : Setting) (n : ℕ) (slots : List Slot) (scopes : Scopes) (sight : 
         (λ z g later has. (z, g, refl, has)))
 
     -- registers below a lower number stay too
-    lower_same : (e : Expression) (es : List MonType) (low : ℕ) → low ≤ length es → (regs : List BlockValue) → Followed e l es regs → Evaluates l now target (eval_with e w.call now) regs low (length (es ++ temporaries e)) (runs w n target (setup w.numbers es e) regs) (value w.numbers es e)
+    lower_same : (e : Expression) (es : List MonType) (low : ℕ) → low ≤ length es → (regs : List BlockValue) → Followed e l es regs
+        → Evaluates l now target (eval_with e w.call now) regs low (length (es ++ temporaries e)) (runs w n target (setup w.numbers es e) regs) (value w.numbers es e)
     lower_same e es low le regs (HasNone at x) = HasNone at x
     lower_same e es low le regs (HasValue z f x after same run has) = HasValue z f x after (record { long = same.long; below = λ j lt. same.below j (omega (arith, lt, le)) }) run has
 
@@ -198,17 +213,21 @@ module _ (w : Setting) (n : ℕ) (slots : List Slot) (scopes : Scopes) (sight : 
     choice_follows regs h =
         subst (λ high. Evaluates l now target (eval_with (Node at t (Choice a b c)) w.call now) regs (length rs) high (runs w n target (setup w.numbers rs (Node at t (Choice a b c))) regs) (Register chosen_in)) (sym choice_long)
         (through_if w n target now k l (eval_with a w.call now) (eval_with b w.call) (eval_with c w.call) regs (length rs) (length (rs ++ temporaries a)) (suc chosen_in)
-        (setup w.numbers rs a) (before (setup w.numbers (rs ++ temporaries a) b) (set chosen_in (value w.numbers (rs ++ temporaries a) b))) (before (setup w.numbers (rs ++ temporaries a ++ temporaries b) c) (set chosen_in (value w.numbers (rs ++ temporaries a ++ temporaries b) c)))
+        (setup w.numbers rs a) (before (setup w.numbers (rs ++ temporaries a) b) (set chosen_in (value w.numbers (rs ++ temporaries a) b))) (before (setup w.numbers (rs ++ temporaries a ++ temporaries b) c)
+            (set chosen_in (value w.numbers (rs ++ temporaries a ++ temporaries b) c)))
         (value w.numbers rs a) (condition_of w.numbers rs a) (Register chosen_in) (longer rs (temporaries a)) (a_follows regs h)
         (λ z later f has. test_is (type_of a) k (value w.numbers rs a) later z a_int f has)
-        (λ after same. part_follows b (rs ++ temporaries a) (length (rs ++ temporaries a)) (omega arith) (longer (rs ++ temporaries a ++ temporaries b) (temporaries c)) b_follows after (after_holds rs regs after behind h same) (enough_for rs regs after chosen_in h same (omega (arith, choice_long, enough))) (λ regs f. f))
-        (λ after same. part_follows c (rs ++ temporaries a ++ temporaries b) (length (rs ++ temporaries a)) (longer (rs ++ temporaries a) (temporaries b)) (omega arith) c_follows after (after_holds rs regs after behind h same) (enough_for rs regs after chosen_in h same (omega (arith, choice_long, enough))) (λ regs f. lower_same c (rs ++ temporaries a ++ temporaries b) (length (rs ++ temporaries a)) (longer (rs ++ temporaries a) (temporaries b)) regs f)))
+        (λ after same. part_follows b (rs ++ temporaries a) (length (rs ++ temporaries a)) (omega arith) (longer (rs ++ temporaries a ++ temporaries b) (temporaries c)) b_follows after (after_holds rs regs after behind h same)
+            (enough_for rs regs after chosen_in h same (omega (arith, choice_long, enough))) (λ regs f. f))
+        (λ after same. part_follows c (rs ++ temporaries a ++ temporaries b) (length (rs ++ temporaries a)) (longer (rs ++ temporaries a) (temporaries b)) (omega arith) c_follows after (after_holds rs regs after behind h same)
+            (enough_for rs regs after chosen_in h same (omega (arith, choice_long, enough))) (λ regs f. lower_same c (rs ++ temporaries a ++ temporaries b) (length (rs ++ temporaries a)) (longer (rs ++ temporaries a) (temporaries b)) regs f)))
 
   cast_follows : (at : Place) (t to : PlainType) (a : Expression) (k : CInt) (rs : List MonType) → t ≡ to → t ≡ Int k → CastTypes to (type_of a) → ((l : CInt) → type_of a ≡ Int l → Follows a l rs) → Follows (Node at t (Cast to a)) k rs
   cast_follows at t to a k rs same int types f regs h =
       let to_int : to ≡ Int k = sym same ∙ int in
       let from = cast_int to (type_of a) k to_int types in
-      changed w n target now from.int k (eval_with a w.call now) (λ x. give (converted to x)) regs (length rs) (length (rs ++ temporaries a)) (runs w n target (setup w.numbers rs a) regs) (value w.numbers rs a) (in_type (value_type (type_of a)) (value_type to) (value w.numbers rs a)) (f from.int from.is regs h) (λ z g after same2.
+      changed w n target now from.int k (eval_with a w.call now) (λ x. give (converted to x)) regs (length rs) (length (rs ++ temporaries a)) (runs w n target (setup w.numbers rs a) regs) (value w.numbers rs a)
+          (in_type (value_type (type_of a)) (value_type to) (value w.numbers rs a)) (f from.int from.is regs h) (λ z g after same2.
       MakesValue (convert k z) (fits-convert k z) (ap (λ to. Normal (converted to (Integer z)) now) to_int) (λ later p.
       ap (λ u. eval over_blocks (in_type (value_type u) (value_type to) (value w.numbers rs a)) later) from.is
       ∙ ap (λ u. eval over_blocks (in_type (register_type from.int) (value_type u) (value w.numbers rs a)) later) to_int
@@ -227,7 +246,8 @@ module _ (w : Setting) (n : ℕ) (slots : List Slot) (scopes : Scopes) (sight : 
   evaluates (Node at t (Binary op a b)) k rs int p q l behind enough regs h =
       let more = two_long rs (temporaries a) (temporaries b) in
       subst (λ high. Evaluates k now target (eval_with (Node at t (Binary op a b)) w.call now) regs (length rs) high (runs w n target (setup w.numbers rs (Node at t (Binary op a b))) regs) (value w.numbers rs (Node at t (Binary op a b)))) more
-      (binary_follows w n now target at op t (type_of a) (type_of b) k (eval_with a w.call now) (eval_with b w.call) regs (length rs) (length (rs ++ temporaries a)) (length ((rs ++ temporaries a) ++ temporaries b)) (setup w.numbers rs a) (setup w.numbers (rs ++ temporaries a) b) (value w.numbers rs a) (value w.numbers (rs ++ temporaries a) b)
+      (binary_follows w n now target at op t (type_of a) (type_of b) k (eval_with a w.call now) (eval_with b w.call) regs (length rs) (length (rs ++ temporaries a)) (length ((rs ++ temporaries a) ++ temporaries b)) (setup w.numbers rs a)
+          (setup w.numbers (rs ++ temporaries a) b) (value w.numbers rs a) (value w.numbers (rs ++ temporaries a) b)
       (longer rs (temporaries a)) (longer (rs ++ temporaries a) (temporaries b)) q.2 int
       (λ i e. evaluates a i rs e p.0 q.0 l.0 behind (omega (arith, longer (rs ++ temporaries a) (temporaries b), more, enough)) regs h)
       (λ i e after same. evaluates b i (rs ++ temporaries a) e p.1 q.1 l.1 (omega (arith, longer rs (temporaries a), behind)) (omega (arith, more, enough)) after (after_holds rs regs after behind h same)))
@@ -258,7 +278,8 @@ module _ (w : Setting) (n : ℕ) (slots : List Slot) (scopes : Scopes) (sight : 
   evaluates (Node at t (SizeOfType u)) k rs int p q l behind enough regs h =
       constant w n now target k (Normal (Integer (pos (size_of u))) now) regs (length rs) (length (rs ++ [])) kind.U64 (pos (size_of u)) (subst (λ i. fits i (pos (size_of u)) ≡ true) (same_int_type U64 k (sym q.0 ∙ int)) (size_fits u)) refl
   evaluates (Node at t (SizeOfExpr a)) k rs int p q l behind enough regs h =
-      constant w n now target k (Normal (Integer (pos (size_of (type_of a)))) now) regs (length rs) (length (rs ++ [])) kind.U64 (pos (size_of (type_of a))) (subst (λ i. fits i (pos (size_of (type_of a))) ≡ true) (same_int_type U64 k (sym q.1 ∙ int)) (size_fits (type_of a))) refl
+      constant w n now target k (Normal (Integer (pos (size_of (type_of a)))) now) regs (length rs) (length (rs ++ [])) kind.U64 (pos (size_of (type_of a))) (subst (λ i. fits i (pos (size_of (type_of a))) ≡ true) (same_int_type U64 k (sym q.1 ∙ int))
+          (size_fits (type_of a))) refl
   evaluates (Node at t (Assign op a b)) k rs int p q l behind enough regs h = absurd p
   evaluates (Node at t (Bump op a)) k rs int p q l behind enough regs h = absurd p
   evaluates (Node at t (Call f args)) k rs int p q l behind enough regs h = absurd p

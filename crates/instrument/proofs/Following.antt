@@ -50,9 +50,12 @@ IsResult (Int k) (Some z) = fits k z ≡ true
 -- returns. Behind an undefined operation the target may do anything.
 pub data Follows (w : Setting) (h : Here) (on : List BlockValue → Flow BlockValue) (from : State) (r : Outcome (Unit {0})) (q : Did) : Type 0 where
   GoesOn : (s : State) (regs : List BlockValue) (t : Target) (o : List ℕ) → Related w h.slots regs s → Beside w h.slots s t → Later h.slots from s o → r ≡ Normal tt s → q ≡ Done (on regs) t o → Follows w h on from r q
-  Breaks : (s : State) (regs : List BlockValue) (t : Target) (o : List ℕ) → h.looped ≡ true → Related w h.slots regs s → Beside w h.around s t → Later h.slots from s o → r ≡ Stop (Leaves source.Breaks) s → q ≡ Done (Goes (end_label h.loops) regs) t o → Follows w h on from r q
-  Continues : (s : State) (regs : List BlockValue) (t : Target) (o : List ℕ) → h.looped ≡ true → Related w h.slots regs s → Beside w h.around s t → Later h.slots from s o → r ≡ Stop (Leaves source.Continues) s → q ≡ Done (Goes (next_label h.loops) regs) t o → Follows w h on from r q
-  IsLeft : (v : Option ℤ) (s : State) (regs : List BlockValue) (t : Target) (o : List ℕ) → IsResult h.result v → Related w h.slots regs s → Beside w [] s t → Later h.slots from s o → r ≡ Stop (Leaves (source.Returns (option_map Integer v))) s → q ≡ Done (Returns (option_map Whole v)) t o → Follows w h on from r q
+  Breaks : (s : State) (regs : List BlockValue) (t : Target) (o : List ℕ) → h.looped ≡ true → Related w h.slots regs s → Beside w h.around s t → Later h.slots from s o → r ≡ Stop (Leaves source.Breaks) s → q ≡ Done (Goes (end_label h.loops) regs) t o
+      → Follows w h on from r q
+  Continues : (s : State) (regs : List BlockValue) (t : Target) (o : List ℕ) → h.looped ≡ true → Related w h.slots regs s → Beside w h.around s t → Later h.slots from s o → r ≡ Stop (Leaves source.Continues) s
+      → q ≡ Done (Goes (next_label h.loops) regs) t o → Follows w h on from r q
+  IsLeft : (v : Option ℤ) (s : State) (regs : List BlockValue) (t : Target) (o : List ℕ) → IsResult h.result v → Related w h.slots regs s → Beside w [] s t → Later h.slots from s o → r ≡ Stop (Leaves (source.Returns (option_map Integer v))) s
+      → q ≡ Done (Returns (option_map Whole v)) t o → Follows w h on from r q
   IsOver : (e : Final) (s : State) (o : List ℕ) → e ≢ Fault → r ≡ Stop (Over e) s → s.output ≡ from.output ++ o → q ≡ Stops e s.steps o → Follows w h on from r q
   IsUndefined : (at : Place) (s : State) (o : List ℕ) → r ≡ Stop (Over (Undefined at)) s → s.output ≡ from.output ++ o → Extends o (written q) → Follows w h on from r q
 
@@ -93,7 +96,8 @@ module _ (w : Setting) (h : Here) where
   undefined_here on s r q at e = IsUndefined at s [] e (sym (append-nil s.output)) (record { rest = written q; is = refl })
 
   -- 0 chooses the second on both sides
-  pub follows_choice : (on : List BlockValue → Flow BlockValue) (from s : State) (z i : ℤ) (a b : Evaluation (Unit {0})) (p q : Did) → int_eq i (pos 0) ≡ int_eq z (pos 0) → Follow on from (a s) p → Follow on from (b s) q → Follow on from (source_meaning.choose (Integer z) a b s) (choose i p q)
+  pub follows_choice : (on : List BlockValue → Flow BlockValue) (from s : State) (z i : ℤ) (a b : Evaluation (Unit {0})) (p q : Did) → int_eq i (pos 0) ≡ int_eq z (pos 0) → Follow on from (a s) p → Follow on from (b s) q
+      → Follow on from (source_meaning.choose (Integer z) a b s) (choose i p q)
   follows_choice on from s z i a b p q same f k =
       subst (λ t. Follow on from (source_meaning.choose (Integer z) a b s) (cond t q p)) (sym same) (by (int_eq z (pos 0)))
     where
@@ -102,7 +106,9 @@ module _ (w : Setting) (h : Here) where
       by false = f
 
   -- the value of an expression, and then what follows
-  pub follows_value : (on : List BlockValue → Flow BlockValue) (k : CInt) (n : ℕ) (s : State) (t : Target) (r : Outcome Value) (f : Value → Evaluation (Unit {0})) (regs : List BlockValue) (low high : ℕ) (a b : MonStatements) (e : MonExpression) → Evaluates k s t r regs low high (runs w n t a regs) e → ((z : ℤ) → fits k z ≡ true → (after : List BlockValue) → Same low regs after → Has e after z → Follow on s (f (Integer z) s) (runs w n t b after)) → Follow on s (on_outcome r f) (runs w n t (before a b) regs)
+  pub follows_value : (on : List BlockValue → Flow BlockValue) (k : CInt) (n : ℕ) (s : State) (t : Target) (r : Outcome Value) (f : Value → Evaluation (Unit {0})) (regs : List BlockValue) (low high : ℕ) (a b : MonStatements) (e : MonExpression)
+      → Evaluates k s t r regs low high (runs w n t a regs) e → ((z : ℤ) → fits k z ≡ true → (after : List BlockValue) → Same low regs after → Has e after z → Follow on s (f (Integer z) s) (runs w n t b after))
+      → Follow on s (on_outcome r f) (runs w n t (before a b) regs)
   follows_value on k n s t r f regs low high a b e (HasNone at x) go =
       undefined_here on s (on_outcome r f) (runs w n t (before a b) regs) at (ap (λ r. on_outcome r f) x)
   follows_value on k n s t r f regs low high a b e (HasValue z fit x after same run has) go =
@@ -111,7 +117,8 @@ module _ (w : Setting) (h : Here) where
       (go z fit after same (has after (same_all high after))))
 
   -- a statement, and then what follows
-  pub follows_then : (on : List BlockValue → Flow BlockValue) (from : State) (r : Outcome (Unit {0})) (q : Did) (f : Evaluation (Unit {0})) (g : List BlockValue → Target → Did) → Follow Next from r q → ((s : State) (regs : List BlockValue) (t : Target) (o : List ℕ) → Related w h.slots regs s → Beside w h.slots s t → Later h.slots from s o → Follow on s (f s) (g regs t)) → Follow on from (on_outcome r (λ _. f)) (then_do q (at_next g))
+  pub follows_then : (on : List BlockValue → Flow BlockValue) (from : State) (r : Outcome (Unit {0})) (q : Did) (f : Evaluation (Unit {0})) (g : List BlockValue → Target → Did) → Follow Next from r q
+      → ((s : State) (regs : List BlockValue) (t : Target) (o : List ℕ) → Related w h.slots regs s → Beside w h.slots s t → Later h.slots from s o → Follow on s (f s) (g regs t)) → Follow on from (on_outcome r (λ _. f)) (then_do q (at_next g))
   follows_then on from r q f g (GoesOn s regs t o m b l e e') k =
       subst (λ r. Follow on from (on_outcome r (λ _. f)) (then_do q (at_next g))) (sym e)
       (subst (λ q. Follow on from (f s) (then_do q (at_next g))) (sym e')
@@ -134,7 +141,8 @@ outside_loops h = record h { looped = false }
 abbrev pub standing : Here → List Slot → Bool → ℕ → Here
 standing h around looped loops = record h { around = around; looped = looped; loops = loops }
 
-pub anywhere : (w : Setting) (h : Here) (around : List Slot) (looped : Bool) (loops : ℕ) (on : List BlockValue → Flow BlockValue) (from : State) (r : Outcome (Unit {0})) (q : Did) → Follows w (outside_loops h) on from r q → Follows w (standing h around looped loops) on from r q
+pub anywhere : (w : Setting) (h : Here) (around : List Slot) (looped : Bool) (loops : ℕ) (on : List BlockValue → Flow BlockValue) (from : State) (r : Outcome (Unit {0})) (q : Did) → Follows w (outside_loops h) on from r q
+    → Follows w (standing h around looped loops) on from r q
 anywhere w h around looped loops on from r q (GoesOn s regs t o m b l e f) = GoesOn s regs t o m b l e f
 anywhere w h around looped loops on from r q (Breaks s regs t o i m b l e f) = absurd cc
 anywhere w h around looped loops on from r q (Continues s regs t o i m b l e f) = absurd cc

@@ -46,11 +46,14 @@ handed_on (Stop e s) f g = refl
 
 -- the values of arguments of these types, and their translations, which change temporary registers alone
 pub data EvaluatesAll (ks : List CInt) (s : State) (t : Target) (r : Outcome (List Value)) (regs : List BlockValue) (low high : ℕ) (q : Did) (es : List MonExpression) : Type 0 where
-  HaveValues : (zs : List ℤ) → AllFit ks zs → r ≡ Normal (integers zs) s → (after : List BlockValue) → Same low regs after → q ≡ Done (Next after) t [] → ((later : List BlockValue) → Same high after later → eval_all over_blocks es later ≡ Some (wholes zs)) → EvaluatesAll ks s t r regs low high q es
+  HaveValues : (zs : List ℤ) → AllFit ks zs → r ≡ Normal (integers zs) s → (after : List BlockValue) → Same low regs after → q ≡ Done (Next after) t []
+      → ((later : List BlockValue) → Same high after later → eval_all over_blocks es later ≡ Some (wholes zs)) → EvaluatesAll ks s t r regs low high q es
   HaveNone : (at : Place) → r ≡ Stop (Over (Undefined at)) s → EvaluatesAll ks s t r regs low high q es
 
 -- the first argument, and the others
-one_more : (w : Setting) (n : ℕ) (s : State) (t : Target) (k : CInt) (ks : List CInt) (r : Outcome Value) (others : Evaluation (List Value)) (regs : List BlockValue) (low mid high : ℕ) (a b : MonStatements) (e : MonExpression) (es : List MonExpression) → low ≤ mid → mid ≤ high → Evaluates k s t r regs low mid (runs w n t a regs) e → ((after : List BlockValue) → Same low regs after → EvaluatesAll ks s t (others s) after mid high (runs w n t b after) es) → EvaluatesAll (k ∷ ks) s t (on_outcome r (λ v. others >>= λ vs. give (v ∷ vs))) regs low high (runs w n t (before a b) regs) (e ∷ es)
+one_more : (w : Setting) (n : ℕ) (s : State) (t : Target) (k : CInt) (ks : List CInt) (r : Outcome Value) (others : Evaluation (List Value)) (regs : List BlockValue) (low mid high : ℕ) (a b : MonStatements) (e : MonExpression)
+    (es : List MonExpression) → low ≤ mid → mid ≤ high → Evaluates k s t r regs low mid (runs w n t a regs) e → ((after : List BlockValue) → Same low regs after → EvaluatesAll ks s t (others s) after mid high (runs w n t b after) es)
+    → EvaluatesAll (k ∷ ks) s t (on_outcome r (λ v. others >>= λ vs. give (v ∷ vs))) regs low high (runs w n t (before a b) regs) (e ∷ es)
 one_more w n s t k ks r others regs low mid high a b e es le le2 (evaluating.HasNone at x) go = HaveNone at (ap (λ r. on_outcome r (λ v. others >>= λ vs. give (v ∷ vs))) x)
 one_more w n s t k ks r others regs low mid high a b e es le le2 (evaluating.HasValue z fit x after same run has) go = by (go after same)
   where
@@ -66,7 +69,9 @@ one_more w n s t k ks r others regs low mid high a b e es le le2 (evaluating.Has
         ap (λ o. bind o (λ v. bind (eval_all over_blocks es later) (λ vs. Some (v ∷ vs)))) first ∙ ap (λ o. bind o (λ vs. Some (Whole z ∷ vs))) (has2 later same3))
 
 module _ (w : Setting) (n : ℕ) (slots : List Slot) (scopes : Scopes) (sight : AreInSight slots scopes.objects) (s : State) (t : Target) (ready : Ready s.store slots scopes.objects) where
-  pub arguments_follow : (es : Expressions) (ks : List CInt) (rs : List MonType) → HaveTypes (map (λ k. Int k) ks) es → ArePure es → AreWellTyped scopes es → ArgumentsHaveLetters es → count w + count w ≤ length rs → length (rs ++ arguments_temporaries es) ≤ w.registers → (regs : List BlockValue) → Related w slots regs s → EvaluatesAll ks s t (evals_with es w.call s) regs (length rs) (length (rs ++ arguments_temporaries es)) (runs w n t (arguments_setup w.numbers rs es) regs) (arguments w.numbers rs es)
+  pub arguments_follow : (es : Expressions) (ks : List CInt) (rs : List MonType) → HaveTypes (map (λ k. Int k) ks) es → ArePure es → AreWellTyped scopes es → ArgumentsHaveLetters es → count w + count w ≤ length rs
+      → length (rs ++ arguments_temporaries es) ≤ w.registers → (regs : List BlockValue) → Related w slots regs s
+      → EvaluatesAll ks s t (evals_with es w.call s) regs (length rs) (length (rs ++ arguments_temporaries es)) (runs w n t (arguments_setup w.numbers rs es) regs) (arguments w.numbers rs es)
   arguments_follow NoExpression [] rs types p q l behind enough regs h = HaveValues [] tt refl regs (same_all (length rs) regs) refl (λ later same. refl)
   arguments_follow NoExpression (k ∷ ks) rs types p q l behind enough regs h = absurd types
   arguments_follow (Following e es) [] rs types p q l behind enough regs h = absurd types
@@ -75,7 +80,8 @@ module _ (w : Setting) (n : ℕ) (slots : List Slot) (scopes : Scopes) (sight : 
       let ts = arguments_temporaries es in
       let more : length (rs ++ (te ++ ts)) ≡ length (rs ++ te ++ ts) = omega (arith, length-append (rs ++ te) ts, length-append rs te, length-append rs (te ++ ts), length-append te ts) in
       subst (λ high. EvaluatesAll (k ∷ ks) s t (evals_with (Following e es) w.call s) regs (length rs) high (runs w n t (arguments_setup w.numbers rs (Following e es)) regs) (arguments w.numbers rs (Following e es))) (sym more)
-      (one_more w n s t k ks (eval_with e w.call s) (evals_with es w.call) regs (length rs) (length (rs ++ te)) (length (rs ++ te ++ ts)) (setup w.numbers rs e) (arguments_setup w.numbers (rs ++ te) es) (value w.numbers rs e) (arguments w.numbers (rs ++ te) es) (longer rs te) (longer (rs ++ te) ts)
+      (one_more w n s t k ks (eval_with e w.call s) (evals_with es w.call) regs (length rs) (length (rs ++ te)) (length (rs ++ te ++ ts)) (setup w.numbers rs e) (arguments_setup w.numbers (rs ++ te) es) (value w.numbers rs e)
+          (arguments w.numbers (rs ++ te) es) (longer rs te) (longer (rs ++ te) ts)
       (evaluates w n slots scopes sight s t ready e k rs types.0 p.0 q.0 l.0 behind (omega (arith, more, enough, longer (rs ++ te) ts)) regs h)
       (λ after same. arguments_follow es ks (rs ++ te) types.1 p.1 q.1 l.1 (omega (arith, behind, longer rs te)) (omega (arith, more, enough)) after (related_same w slots regs after s (length rs) behind same h)))
 
@@ -86,9 +92,12 @@ pub record Scene (p : TranslationUnit) (w : Setting) (n : ℕ) (slots : List Slo
   pub sight : AreInSight slots scopes.objects
   pub calls : (f : Use) (t : PlainType) (es : Expressions) → Calls scopes f t es → IsCalled p w n f t es
 
-module _ (p : TranslationUnit) (w : Setting) (n : ℕ) (h : Here) (scopes : Scopes) (scene : Scene p w n h.slots scopes) (on : List BlockValue → Flow BlockValue) (s : State) (t : Target) (ready : Ready s.store h.slots scopes.objects) (le : s.steps ≤ n) (rs : List MonType) (behind : count w + count w ≤ length rs) (regs : List BlockValue) (m : Related w h.slots regs s) (b : Beside w h.slots s t) where
+module _ (p : TranslationUnit) (w : Setting) (n : ℕ) (h : Here) (scopes : Scopes) (scene : Scene p w n h.slots scopes) (on : List BlockValue → Flow BlockValue) (s : State) (t : Target) (ready : Ready s.store h.slots scopes.objects) (le : s.steps ≤ n)
+    (rs : List MonType) (behind : count w + count w ≤ length rs) (regs : List BlockValue) (m : Related w h.slots regs s) (b : Beside w h.slots s t) where
   -- what a call came to, and what follows
-  behind_call : (result : PlainType) (r : Outcome Value) (tail : Value → Evaluation (Unit {0})) (into : Option ℕ) (after : List BlockValue) (d : Did) (code : MonStatements) → Same (length rs) regs after → CallDoes s result r into after d → ((z : Option ℤ) (v : BlockValue) (to : State) (u : Target) (o : List ℕ) → IsResult result z → Alike z v → Related w h.slots after to → Beside w h.slots to u → Later h.slots s to o → Follows w h on to (tail (value_of z) to) (runs w n u code (given_to into v after))) → Follows w h on s (on_outcome r tail) (then_do d (at_next (monitored.exec_all over_blocks code w.calls n)))
+  behind_call : (result : PlainType) (r : Outcome Value) (tail : Value → Evaluation (Unit {0})) (into : Option ℕ) (after : List BlockValue) (d : Did) (code : MonStatements) → Same (length rs) regs after → CallDoes s result r into after d
+      → ((z : Option ℤ) (v : BlockValue) (to : State) (u : Target) (o : List ℕ) → IsResult result z → Alike z v → Related w h.slots after to → Beside w h.slots to u → Later h.slots s to o
+      → Follows w h on to (tail (value_of z) to) (runs w n u code (given_to into v after))) → Follows w h on s (on_outcome r tail) (then_do d (at_next (monitored.exec_all over_blocks code w.calls n)))
   behind_call result r tail into after d code same (CallsNothing at x) go = undefined_here w h on s (on_outcome r tail) (then_do d (at_next (monitored.exec_all over_blocks code w.calls n))) at (ap (λ r. on_outcome r tail) x)
   behind_call result r tail into after d code same (DoesCall q is c) go =
       subst (λ d. Follows w h on s (on_outcome r tail) (then_do d (at_next (monitored.exec_all over_blocks code w.calls n)))) (sym is) (by c)
@@ -102,17 +111,22 @@ module _ (p : TranslationUnit) (w : Setting) (n : ℕ) (h : Here) (scopes : Scop
       by : Called s result r q → Follows w h on s (on_outcome r tail) (then_do (then_do q (takes into after)) (at_next (monitored.exec_all over_blocks code w.calls n)))
       by (Gives z v to u o i like back is_even e f) =
           subst (λ r. Follows w h on s (on_outcome r tail) (then_do (then_do q (takes into after)) (at_next (monitored.exec_all over_blocks code w.calls n)))) (sym e)
-          (subst (λ d. Follows w h on s (tail (value_of z) to) d) (sym (ap (λ q. then_do (then_do q (takes into after)) (at_next (monitored.exec_all over_blocks code w.calls n))) f ∙ ap (λ l. writes l (runs w n u code (given_to into v after))) (append-nil o)))
+          (subst (λ d. Follows w h on s (tail (value_of z) to) d) (sym (ap (λ q. then_do (then_do q (takes into after)) (at_next (monitored.exec_all over_blocks code w.calls n))) f ∙ ap (λ l. writes l (runs w n u code (given_to into v after)))
+              (append-nil o)))
           (onward w h on s to o (tail (value_of z) to) (runs w n u code (given_to into v after)) (later_back w h.slots after s related to o back)
           (go z v to u o i like (related_back w h.slots after s related to o back) (beside_back w h.slots after s related to o back u is_even) (later_back w h.slots after s related to o back))))
       by (EndsRun x to o d e l f) =
           IsOver x to o d (ap (λ r. on_outcome r tail) e) l (ap (λ q. then_do (then_do q (takes into after)) (at_next (monitored.exec_all over_blocks code w.calls n))) f)
       by (HasNoMeaning at to o e l ext) =
           IsUndefined at to o (ap (λ r. on_outcome r tail) e) l
-          (extends_trans o (written q) _ ext (extends_trans (written q) (written (then_do q (takes into after))) _ (written_then q (takes into after)) (written_then (then_do q (takes into after)) (at_next (monitored.exec_all over_blocks code w.calls n)))))
+          (extends_trans o (written q) _ ext (extends_trans (written q) (written (then_do q (takes into after))) _ (written_then q (takes into after))
+              (written_then (then_do q (takes into after)) (at_next (monitored.exec_all over_blocks code w.calls n)))))
 
   -- a call with its arguments, and what follows
-  pub follows_called : (at : Place) (u : PlainType) (f : Use) (es : Expressions) (into : Option ℕ) (tail : Value → Evaluation (Unit {0})) (code : MonStatements) → ArePure es → AreWellTyped scopes es → Calls scopes f u es → ArgumentsHaveLetters es → length (rs ++ arguments_temporaries es) ≤ w.registers → ((z : Option ℤ) (v : BlockValue) (to : State) (there : Target) (o : List ℕ) (after : List BlockValue) → IsResult u z → Alike z v → Same (length rs) regs after → Related w h.slots after to → Beside w h.slots to there → Later h.slots s to o → Follows w h on to (tail (value_of z) to) (runs w n there code (given_to into v after))) → Follows w h on s (on_outcome (on_outcome (evals_with es w.call s) (λ vs. w.call at f vs)) tail) (runs w n t (before (called p w.numbers rs into f es) code) regs)
+  pub follows_called : (at : Place) (u : PlainType) (f : Use) (es : Expressions) (into : Option ℕ) (tail : Value → Evaluation (Unit {0})) (code : MonStatements) → ArePure es → AreWellTyped scopes es → Calls scopes f u es → ArgumentsHaveLetters es
+      → length (rs ++ arguments_temporaries es) ≤ w.registers → ((z : Option ℤ) (v : BlockValue) (to : State) (there : Target) (o : List ℕ) (after : List BlockValue) → IsResult u z → Alike z v → Same (length rs) regs after
+      → Related w h.slots after to → Beside w h.slots to there → Later h.slots s to o → Follows w h on to (tail (value_of z) to) (runs w n there code (given_to into v after)))
+      → Follows w h on s (on_outcome (on_outcome (evals_with es w.call s) (λ vs. w.call at f vs)) tail) (runs w n t (before (called p w.numbers rs into f es) code) regs)
   follows_called at u f es into tail code pure q c l enough go =
       subst (λ r. Follows w h on s r (runs w n t (before (called p w.numbers rs into f es) code) regs)) (sym (handed_on (evals_with es w.call s) (λ vs. w.call at f vs) tail))
       (subst (λ d. Follows w h on s (on_outcome (evals_with es w.call s) (λ vs s. on_outcome (w.call at f vs s) tail)) d) (sym code_is)
@@ -136,7 +150,8 @@ module _ (p : TranslationUnit) (w : Setting) (n : ℕ) (h : Here) (scopes : Scop
       source_tail : List Value → Evaluation (Unit {0})
       source_tail vs s = on_outcome (w.call at f vs s) tail
 
-      by : EvaluatesAll target.ints s t (evals_with es w.call s) regs (length rs) (length (rs ++ arguments_temporaries es)) (runs w n t setup_code regs) (arguments w.numbers rs es) → Follows w h on s (on_outcome (evals_with es w.call s) source_tail) (goes_on (then_do (runs w n t setup_code regs) (at_next (monitored.exec_all over_blocks calls_code w.calls n))))
+      by : EvaluatesAll target.ints s t (evals_with es w.call s) regs (length rs) (length (rs ++ arguments_temporaries es)) (runs w n t setup_code regs) (arguments w.numbers rs es)
+          → Follows w h on s (on_outcome (evals_with es w.call s) source_tail) (goes_on (then_do (runs w n t setup_code regs) (at_next (monitored.exec_all over_blocks calls_code w.calls n))))
       by (HaveNone x e) = undefined_here w h on s _ _ x (ap (λ r. on_outcome r source_tail) e)
       by (HaveValues zs fit e after same run has) =
           subst (λ r. Follows w h on s (on_outcome r source_tail) (goes_on (then_do (runs w n t setup_code regs) (at_next (monitored.exec_all over_blocks calls_code w.calls n))))) (sym e)
@@ -150,17 +165,21 @@ module _ (p : TranslationUnit) (w : Setting) (n : ℕ) (h : Here) (scopes : Scop
 
   -- what goes on with the value of one, in a state that may be a later one
   abbrev pub GoesOnWith : CInt → (Value → Evaluation (Unit {0})) → MonExpression → MonStatements → Type 0
-  GoesOnWith k tail e code = (z : ℤ) (to : State) (there : Target) (o : List ℕ) (after : List BlockValue) → fits k z ≡ true → Same (length rs) regs after → Related w h.slots after to → Beside w h.slots to there → Later h.slots s to o → Has e after z → Follows w h on to (tail (Integer z) to) (runs w n there code after)
+  GoesOnWith k tail e code = (z : ℤ) (to : State) (there : Target) (o : List ℕ) (after : List BlockValue) → fits k z ≡ true → Same (length rs) regs after → Related w h.slots after to → Beside w h.slots to there → Later h.slots s to o → Has e after z
+      → Follows w h on to (tail (Integer z) to) (runs w n there code after)
 
   -- without effects
-  pub follows_pure : (e : Expression) (k : CInt) (tail : Value → Evaluation (Unit {0})) (code : MonStatements) → type_of e ≡ Int k → IsPure e → WellTyped scopes e → HasLetters e → length (rs ++ temporaries e) ≤ w.registers → GoesOnWith k tail (value w.numbers rs e) code → Follows w h on s (on_outcome (eval_with e w.call s) tail) (runs w n t (before (setup w.numbers rs e) code) regs)
+  pub follows_pure : (e : Expression) (k : CInt) (tail : Value → Evaluation (Unit {0})) (code : MonStatements) → type_of e ≡ Int k → IsPure e → WellTyped scopes e → HasLetters e → length (rs ++ temporaries e) ≤ w.registers
+      → GoesOnWith k tail (value w.numbers rs e) code → Follows w h on s (on_outcome (eval_with e w.call s) tail) (runs w n t (before (setup w.numbers rs e) code) regs)
   follows_pure e k tail code int pure q l enough go =
       follows_value w h on k n s t (eval_with e w.call s) tail regs (length rs) (length (rs ++ temporaries e)) (setup w.numbers rs e) code (value w.numbers rs e)
       (evaluates w n h.slots scopes scene.sight s t ready e k rs int pure q l behind enough regs m)
       (λ z fit after same has. go z s t [] after fit same (related_same w h.slots regs after s (length rs) behind same m) b (later_same h.slots s) has)
 
   -- a call of a function that gives a value, which a register takes
-  value_called : (at : Place) (u : PlainType) (k : CInt) (f : Use) (es : Expressions) (tail : Value → Evaluation (Unit {0})) (code : MonStatements) → u ≡ Int k → ArePure es → AreWellTyped scopes es → Calls scopes f u es → ArgumentsHaveLetters es → length (rs ++ (arguments_temporaries es ++ value_type u ∷ [])) ≤ w.registers → GoesOnWith k tail (Register (length (rs ++ arguments_temporaries es))) code → Follows w h on s (on_outcome (on_outcome (evals_with es w.call s) (λ vs. w.call at f vs)) tail) (runs w n t (before (called p w.numbers rs (Some (length (rs ++ arguments_temporaries es))) f es) code) regs)
+  value_called : (at : Place) (u : PlainType) (k : CInt) (f : Use) (es : Expressions) (tail : Value → Evaluation (Unit {0})) (code : MonStatements) → u ≡ Int k → ArePure es → AreWellTyped scopes es → Calls scopes f u es → ArgumentsHaveLetters es
+      → length (rs ++ (arguments_temporaries es ++ value_type u ∷ [])) ≤ w.registers → GoesOnWith k tail (Register (length (rs ++ arguments_temporaries es))) code
+      → Follows w h on s (on_outcome (on_outcome (evals_with es w.call s) (λ vs. w.call at f vs)) tail) (runs w n t (before (called p w.numbers rs (Some (length (rs ++ arguments_temporaries es))) f es) code) regs)
   value_called at u k f es tail code int pure q c l enough go =
       follows_called at u f es (Some r) tail code pure q c l (omega (arith, enough, long)) by
     where
@@ -170,7 +189,8 @@ module _ (p : TranslationUnit) (w : Setting) (n : ℕ) (h : Here) (scopes : Scop
       long : length (rs ++ (arguments_temporaries es ++ value_type u ∷ [])) ≡ suc r
       long = omega (arith, length-append rs (arguments_temporaries es ++ value_type u ∷ []), length-append (arguments_temporaries es) (value_type u ∷ []), length-append rs (arguments_temporaries es))
 
-      by : (z : Option ℤ) (v : BlockValue) (to : State) (there : Target) (o : List ℕ) (after : List BlockValue) → IsResult u z → Alike z v → Same (length rs) regs after → Related w h.slots after to → Beside w h.slots to there → Later h.slots s to o → Follows w h on to (tail (value_of z) to) (runs w n there code (given_to (Some r) v after))
+      by : (z : Option ℤ) (v : BlockValue) (to : State) (there : Target) (o : List ℕ) (after : List BlockValue) → IsResult u z → Alike z v → Same (length rs) regs after → Related w h.slots after to → Beside w h.slots to there → Later h.slots s to o
+          → Follows w h on to (tail (value_of z) to) (runs w n there code (given_to (Some r) v after))
       by None v to there o after i like same re be la = absurd (subst (λ x. IsResult x None) int i)
       by (Some z) v to there o after i like same re be la =
           let taken = slice_set after r v in
@@ -179,7 +199,8 @@ module _ (p : TranslationUnit) (w : Setting) (n : ℕ) (h : Here) (scopes : Scop
           go z to there o taken (subst (λ x. IsResult x (Some z)) int i) (same_trans (length rs) (length rs) regs after taken (omega arith) same changed)
           (related_same w h.slots after taken to (length rs) behind changed re) be la there_is
 
-  pub follows_full : (e : Expression) (k : CInt) (tail : Value → Evaluation (Unit {0})) (code : MonStatements) → type_of e ≡ Int k → IsPureOrCall e → WellTyped scopes e → FullHasLetters e → length (rs ++ full_temporaries e) ≤ w.registers → GoesOnWith k tail (full_value w.numbers rs e) code → Follows w h on s (on_outcome (eval_with e w.call s) tail) (runs w n t (before (full_setup p w.numbers rs e) code) regs)
+  pub follows_full : (e : Expression) (k : CInt) (tail : Value → Evaluation (Unit {0})) (code : MonStatements) → type_of e ≡ Int k → IsPureOrCall e → WellTyped scopes e → FullHasLetters e → length (rs ++ full_temporaries e) ≤ w.registers
+      → GoesOnWith k tail (full_value w.numbers rs e) code → Follows w h on s (on_outcome (eval_with e w.call s) tail) (runs w n t (before (full_setup p w.numbers rs e) code) regs)
   follows_full (Node at u (Call f es)) k tail code int pure q l enough go = value_called at u k f es tail code int pure q.0 q.1 l enough go
   follows_full (Node at u (Cast to (Node at2 v (Call f es)))) k tail code int pure q l enough go =
       let to_int : to ≡ Int k = sym q.1 ∙ int in

@@ -60,7 +60,8 @@ abbrev pub at_body : List Slot → PlainType → Here
 at_body slots result = record { slots = slots; around = []; looped = false; loops = 0; result = result }
 
 -- where a call begins, with a frame
-module _ (w : Setting) (s from : State) (store : w.outside ≡ s.store) (active : w.active ≡ s.calls + 1) (f : Function) (ps : List Slot) (all_new : AllFrom (length s.store) ps) (n : ℕ) (longer : length s.store ≤ length from.store) (spent : from.steps ≤ s.steps) (output : from.output ≡ s.output) where
+module _ (w : Setting) (s from : State) (store : w.outside ≡ s.store) (active : w.active ≡ s.calls + 1) (f : Function) (ps : List Slot) (all_new : AllFrom (length s.store) ps) (n : ℕ) (longer : length s.store ≤ length from.store)
+    (spent : from.steps ≤ s.steps) (output : from.output ≡ s.output) where
   -- the state of the source with the frame
   abbrev entered : State
   entered = record s { calls = s.calls + 1; scope = [] }
@@ -186,9 +187,11 @@ module _ (p : TranslationUnit) (main index : ℕ) (f : Function) (call : Callee)
 
   -- the body does the same on both sides, from its parameters on
   abbrev pub BodyFollows : Type 0
-  BodyFollows = (outside : Store) (active : ℕ) (regs : List BlockValue) (s : State) (t : Target) → Related (setting outside active) (parameter_slots outside) regs s → Beside (setting outside active) (parameter_slots outside) s t → AllSet s.store (parameter_slots outside) → s.steps ≤ n → Follows (setting outside active) (at_body (parameter_slots outside) f.result) Next s (body_with f.body call (suc n) s) (runs (setting outside active) n t body_code regs)
+  BodyFollows = (outside : Store) (active : ℕ) (regs : List BlockValue) (s : State) (t : Target) → Related (setting outside active) (parameter_slots outside) regs s → Beside (setting outside active) (parameter_slots outside) s t
+      → AllSet s.store (parameter_slots outside) → s.steps ≤ n → Follows (setting outside active) (at_body (parameter_slots outside) f.result) Next s (body_with f.body call (suc n) s) (runs (setting outside active) n t body_code regs)
 
-  module _ (enough : length (variable_numbers f) + length (variable_numbers f) ≤ how_many) (can : AllCanBeBorn (variable_numbers f) [] f.params) (in_order : InOrder (variable_numbers f) 0 f.params) (few : length f.params ≤ length (variable_numbers f)) (body : BodyFollows) (zs : List ℤ) (fit : AllFit (parameter_ints f.params) zs) (at : Place) where
+  module _ (enough : length (variable_numbers f) + length (variable_numbers f) ≤ how_many) (can : AllCanBeBorn (variable_numbers f) [] f.params) (in_order : InOrder (variable_numbers f) 0 f.params)
+      (few : length f.params ≤ length (variable_numbers f)) (body : BodyFollows) (zs : List ℤ) (fit : AllFit (parameter_ints f.params) zs) (at : Place) where
     abbrev opens : List BlockValue
     opens = registers (Whole (pos 0)) how_many (wholes zs)
 
@@ -263,7 +266,8 @@ module _ (p : TranslationUnit) (main index : ℕ) (f : Function) (call : Callee)
       source_with b = restored s (on_outcome (on_outcome (on_outcome (on_outcome (framed_by b s) (λ _. alone)) (λ _. parameters at f.params (integers zs))) (λ _. mark None)) (λ _ s. returned_by f (body_with f.body call (suc n) s)))
 
       abbrev target_with : Bool → Result Target BlockValue
-      target_with b = then_do (replied over_blocks (if b then Gives (Whole (pos 0)) (record t.mem { frames = t.mem.frames + 1 }) else IsFull segment.Frames) t) (λ v u. then_do (monitored.exec_all over_blocks function.body calls_below n opens u) (at_return over_blocks))
+      target_with b = then_do (replied over_blocks (if b then Gives (Whole (pos 0)) (record t.mem { frames = t.mem.frames + 1 }) else IsFull segment.Frames) t) (λ v u. then_do (monitored.exec_all over_blocks function.body calls_below n opens u)
+          (at_return over_blocks))
 
       both : (b : Bool) → Called s f.result (source_with b) (target_with b)
       both true =

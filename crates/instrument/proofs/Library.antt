@@ -89,10 +89,12 @@ module _ (p : TranslationUnit) (w : Setting) (n depth : ℕ) (calls : w.call ≡
 
   -- what the call does
   abbrev pub Does : List CInt → PlainType → Type 0
-  Does ints result = (zs : List ℤ) → AllFit ints zs → (s : State) (t : Target) → Even s t → s.steps ≤ n → (at : Place) (into : Option ℕ) (regs : List BlockValue) (args : List MonExpression) → eval_all over_blocks args regs ≡ Some (wholes zs) → CallDoes s result (w.call at f (integers zs) s) into regs (runs w n t (call p into f args) regs)
+  Does ints result = (zs : List ℤ) → AllFit ints zs → (s : State) (t : Target) → Even s t → s.steps ≤ n → (at : Place) (into : Option ℕ) (regs : List BlockValue) (args : List MonExpression) → eval_all over_blocks args regs ≡ Some (wholes zs)
+      → CallDoes s result (w.call at f (integers zs) s) into regs (runs w n t (call p into f args) regs)
 
   -- the same over what is known of the name
-  from_names : (ints : List CInt) (result : PlainType) → ((zs : List ℤ) → AllFit ints zs → (s : State) (t : Target) → Even s t → (at : Place) (into : Option ℕ) (regs : List BlockValue) (args : List MonExpression) → eval_all over_blocks args regs ≡ Some (wholes zs) → CallDoes s result (library_call at (slice_get p.names f.name) (integers zs) s) into regs (runs w n t (effects.library_call into name args) regs)) → Does ints result
+  from_names : (ints : List CInt) (result : PlainType) → ((zs : List ℤ) → AllFit ints zs → (s : State) (t : Target) → Even s t → (at : Place) (into : Option ℕ) (regs : List BlockValue) (args : List MonExpression)
+      → eval_all over_blocks args regs ≡ Some (wholes zs) → CallDoes s result (library_call at (slice_get p.names f.name) (integers zs) s) into regs (runs w n t (effects.library_call into name args) regs)) → Does ints result
   from_names ints result h zs fit s t even le at into regs args has =
       subst (λ r. CallDoes s result r into regs (runs w n t (call p into f args) regs)) (sym (source_is at (integers zs) s))
       (subst (λ a. CallDoes s result (library_call at (slice_get p.names f.name) (integers zs) s) into regs (runs w n t a regs)) (sym (code_is into args))
@@ -116,7 +118,8 @@ module _ (p : TranslationUnit) (w : Setting) (n depth : ℕ) (calls : w.call ≡
   pub putchar_does : bytes_eq name (codes "putchar") ≡ true → Does (I32 ∷ []) int_type
   putchar_does e = from_names (I32 ∷ []) int_type by
     where
-      prints : (s : State) (t : Target) → Even s t → (at : Place) (into : Option ℕ) (regs : List BlockValue) (args : List MonExpression) (z : ℤ) → eval_all over_blocks args regs ≡ Some (Whole z ∷ []) → CallDoes s int_type (library_call at (slice_get p.names f.name) (Integer z ∷ []) s) into regs (runs w n t (effects.library_call into name args) regs)
+      prints : (s : State) (t : Target) → Even s t → (at : Place) (into : Option ℕ) (regs : List BlockValue) (args : List MonExpression) (z : ℤ) → eval_all over_blocks args regs ≡ Some (Whole z ∷ [])
+          → CallDoes s int_type (library_call at (slice_get p.names f.name) (Integer z ∷ []) s) into regs (runs w n t (effects.library_call into name args) regs)
       prints s t even at into regs args z has =
           let x = there p.names f.name 112 (117 ∷ 116 ∷ 99 ∷ 104 ∷ 97 ∷ 114 ∷ []) e in
           let byte = byte_of z in
@@ -133,7 +136,8 @@ module _ (p : TranslationUnit) (w : Setting) (n depth : ℕ) (calls : w.call ≡
           (record { long = even.long; live = even.live; frames = even.frames; steps = even.steps; input = even.input })
           source refl)
 
-      by : (zs : List ℤ) → AllFit (I32 ∷ []) zs → (s : State) (t : Target) → Even s t → (at : Place) (into : Option ℕ) (regs : List BlockValue) (args : List MonExpression) → eval_all over_blocks args regs ≡ Some (wholes zs) → CallDoes s int_type (library_call at (slice_get p.names f.name) (integers zs) s) into regs (runs w n t (effects.library_call into name args) regs)
+      by : (zs : List ℤ) → AllFit (I32 ∷ []) zs → (s : State) (t : Target) → Even s t → (at : Place) (into : Option ℕ) (regs : List BlockValue) (args : List MonExpression) → eval_all over_blocks args regs ≡ Some (wholes zs)
+          → CallDoes s int_type (library_call at (slice_get p.names f.name) (integers zs) s) into regs (runs w n t (effects.library_call into name args) regs)
       by [] fit s t even at into regs args has = absurd fit
       by (z ∷ []) fit s t even at into regs args has = prints s t even at into regs args z has
       by (z ∷ y ∷ zs) fit s t even at into regs args has = absurd fit.1
@@ -154,14 +158,16 @@ module _ (p : TranslationUnit) (w : Setting) (n depth : ℕ) (calls : w.call ≡
       (record { scope = refl; calls = refl; live = refl; below = λ j lt. refl; longer = omega arith; spent = omega arith; output = sym (append-nil s.output) })
       (record { long = even.long; live = even.live; frames = even.frames; steps = even.steps; input = refl }) refl refl
 
-  read_runs : (o : Option (ℤ × Input)) (t : Target) (into : Option ℕ) (regs : List BlockValue) → with_read o t.steps (λ z input. Done (Next (given_to into (Whole z) regs)) (record t { input = input }) []) ≡ then_do (with_read o t.steps (λ z input. Done (Whole z) (record t { input = input }) [])) (takes into regs)
+  read_runs : (o : Option (ℤ × Input)) (t : Target) (into : Option ℕ) (regs : List BlockValue) → with_read o t.steps (λ z input. Done (Next (given_to into (Whole z) regs)) (record t { input = input }) []) ≡ then_do
+      (with_read o t.steps (λ z input. Done (Whole z) (record t { input = input }) [])) (takes into regs)
   read_runs None t into regs = refl
   read_runs (Some (z, input)) t into regs = refl
 
   pub getchar_does : bytes_eq name (codes "putchar") ≡ false → bytes_eq name (codes "getchar") ≡ true → Does [] int_type
   getchar_does e1 e2 = from_names [] int_type by
     where
-      by : (zs : List ℤ) → AllFit [] zs → (s : State) (t : Target) → Even s t → (at : Place) (into : Option ℕ) (regs : List BlockValue) (args : List MonExpression) → eval_all over_blocks args regs ≡ Some (wholes zs) → CallDoes s int_type (library_call at (slice_get p.names f.name) (integers zs) s) into regs (runs w n t (effects.library_call into name args) regs)
+      by : (zs : List ℤ) → AllFit [] zs → (s : State) (t : Target) → Even s t → (at : Place) (into : Option ℕ) (regs : List BlockValue) (args : List MonExpression) → eval_all over_blocks args regs ≡ Some (wholes zs)
+          → CallDoes s int_type (library_call at (slice_get p.names f.name) (integers zs) s) into regs (runs w n t (effects.library_call into name args) regs)
       by (z ∷ zs) fit s t even at into regs args has = absurd fit
       by [] fit s t even at into regs args has =
           let x = there p.names f.name 103 (101 ∷ 116 ∷ 99 ∷ 104 ∷ 97 ∷ 114 ∷ []) e2 in
@@ -184,7 +190,8 @@ module _ (p : TranslationUnit) (w : Setting) (n depth : ℕ) (calls : w.call ≡
   pub exit_does : bytes_eq name (codes "putchar") ≡ false → bytes_eq name (codes "getchar") ≡ false → bytes_eq name (codes "exit") ≡ true → Does (I32 ∷ []) Void
   exit_does e1 e2 e3 = from_names (I32 ∷ []) Void by
     where
-      exits : (s : State) (t : Target) → Even s t → (at : Place) (into : Option ℕ) (regs : List BlockValue) (args : List MonExpression) (z : ℤ) → eval_all over_blocks args regs ≡ Some (Whole z ∷ []) → CallDoes s Void (library_call at (slice_get p.names f.name) (Integer z ∷ []) s) into regs (runs w n t (effects.library_call into name args) regs)
+      exits : (s : State) (t : Target) → Even s t → (at : Place) (into : Option ℕ) (regs : List BlockValue) (args : List MonExpression) (z : ℤ) → eval_all over_blocks args regs ≡ Some (Whole z ∷ [])
+          → CallDoes s Void (library_call at (slice_get p.names f.name) (Integer z ∷ []) s) into regs (runs w n t (effects.library_call into name args) regs)
       exits s t even at into regs args z has =
           let x = there p.names f.name 101 (120 ∷ 105 ∷ 116 ∷ []) e3 in
           let named : name ≡ x.name = ap (λ o. elim o as (λ _. List ℕ) [ None ↦ [] | Some w ↦ w ]) x.found in
@@ -202,7 +209,8 @@ module _ (p : TranslationUnit) (w : Setting) (n depth : ℕ) (calls : w.call ≡
           ∙ ap (λ o. with_value (bind o integer_of) t.steps (λ i. Stops (Exits i) t.steps [])) (first_has args regs z has))
           (EndsRun (Exits z) s [] (λ h. absurd cc) source (sym (append-nil s.output)) (ap (λ k. Stops (Exits z) k []) even.steps))
 
-      by : (zs : List ℤ) → AllFit (I32 ∷ []) zs → (s : State) (t : Target) → Even s t → (at : Place) (into : Option ℕ) (regs : List BlockValue) (args : List MonExpression) → eval_all over_blocks args regs ≡ Some (wholes zs) → CallDoes s Void (library_call at (slice_get p.names f.name) (integers zs) s) into regs (runs w n t (effects.library_call into name args) regs)
+      by : (zs : List ℤ) → AllFit (I32 ∷ []) zs → (s : State) (t : Target) → Even s t → (at : Place) (into : Option ℕ) (regs : List BlockValue) (args : List MonExpression) → eval_all over_blocks args regs ≡ Some (wholes zs)
+          → CallDoes s Void (library_call at (slice_get p.names f.name) (integers zs) s) into regs (runs w n t (effects.library_call into name args) regs)
       by [] fit s t even at into regs args has = absurd fit
       by (z ∷ []) fit s t even at into regs args has = exits s t even at into regs args z has
       by (z ∷ y ∷ zs) fit s t even at into regs args has = absurd fit.1

@@ -103,7 +103,8 @@ module _ (w : Setting) (slots : List Slot) (result : PlainType) (loops : ℕ) wh
   body_breaks regs t o g = ap (Done (Goes (end_label loops) regs) t) (append-nil (o ++ []) ∙ append-nil o)
 
   -- a loop's body, and then what comes behind it
-  follows_body : (from : State) (r : Outcome (Unit {0})) (q : Did) (again : Evaluation (Unit {0})) (g : Go) → Follows w in_body Next from r q → ((s : State) (regs : List BlockValue) (t : Target) (o : List ℕ) → Related w slots regs s → Beside w slots s t → Later slots from s o → Turns s (again s) (g regs t)) → Turns from (after_body r again) (then_do (then_do q (at_label (next_label loops))) (at_next g))
+  follows_body : (from : State) (r : Outcome (Unit {0})) (q : Did) (again : Evaluation (Unit {0})) (g : Go) → Follows w in_body Next from r q → ((s : State) (regs : List BlockValue) (t : Target) (o : List ℕ) → Related w slots regs s
+      → Beside w slots s t → Later slots from s o → Turns s (again s) (g regs t)) → Turns from (after_body r again) (then_do (then_do q (at_label (next_label loops))) (at_next g))
   follows_body from r q again g (GoesOn s regs t o m b l e e') k =
       subst (λ r. Turns from (after_body r again) (then_do (then_do q (at_label (next_label loops))) (at_next g))) (sym e)
       (subst (λ q. Turns from (again s) q) (sym (ap (λ q. then_do (then_do q (at_label (next_label loops))) (at_next g)) e' ∙ body_on regs t o g))
@@ -139,7 +140,9 @@ module _ (w : Setting) (slots : List Slot) (result : PlainType) (loops : ℕ) wh
   follows_label from r q (IsUndefined at s o e l ext) = IsUndefined at s o e l (extends_trans o (written q) _ ext (written_then q (at_label (end_label loops))))
 
   -- a whole loop, from its turns
-  pub loop_follows : (n : ℕ) (around : List Slot) (looped : Bool) (outer : ℕ) (from : State) (r : Outcome (Unit {0})) (regs : List BlockValue) (t : Target) (front a b : MonStatements) → Turns from r (monitored.turns over_blocks n (monitored.exec_all over_blocks front w.calls n) (monitored.exec_all over_blocks (Then (Labelled a (next_label loops)) b) w.calls n) regs t) → Follows w (standing in_turn around looped outer) Next from r (runs w n t (one (loop loops front a b)) regs)
+  pub loop_follows : (n : ℕ) (around : List Slot) (looped : Bool) (outer : ℕ) (from : State) (r : Outcome (Unit {0})) (regs : List BlockValue) (t : Target) (front a b : MonStatements)
+      → Turns from r (monitored.turns over_blocks n (monitored.exec_all over_blocks front w.calls n) (monitored.exec_all over_blocks (Then (Labelled a (next_label loops)) b) w.calls n) regs t)
+      → Follows w (standing in_turn around looped outer) Next from r (runs w n t (one (loop loops front a b)) regs)
   loop_follows n around looped outer from r regs t front a b h =
       let round = Loop front (Then (Labelled a (next_label loops)) b) in
       subst (λ q. Follows w (standing in_turn around looped outer) Next from r q) (sym (one_is (loop loops front a b) w.calls n regs t ∙ ap (λ q. then_do q (at_label (end_label loops))) (one_is round w.calls n regs t)))
@@ -153,7 +156,8 @@ module _ (w : Setting) (slots : List Slot) (result : PlainType) (loops : ℕ) wh
 
     -- a condition of the source and the target's statements for it, which leave the loop where it is 0
     pub record Tests (condition : Evaluation Value) (front : MonStatements) : Type 0 where
-      pub goes : (regs : List BlockValue) (s : State) (t : Target) → Meet regs s t → (turn : Evaluation (Unit {0})) (go : Go) → ((after : List BlockValue) → Meet after s t → Turns s (turn s) (go after t)) → Turns s (on_outcome (condition s) (λ v. source.choose v turn done)) (then_do (runs w n t front regs) (at_next go))
+      pub goes : (regs : List BlockValue) (s : State) (t : Target) → Meet regs s t → (turn : Evaluation (Unit {0})) (go : Go) → ((after : List BlockValue) → Meet after s t → Turns s (turn s) (go after t))
+          → Turns s (on_outcome (condition s) (λ v. source.choose v turn done)) (then_do (runs w n t front regs) (at_next go))
 
     -- a condition that is left out is true
     pub no_test : Tests (give (Integer (pos 1))) NoStatement
@@ -161,13 +165,15 @@ module _ (w : Setting) (slots : List Slot) (result : PlainType) (loops : ℕ) wh
       goes = λ regs s t m turn go k. subst (λ q. Turns s (turn s) q) (sym (writes_none (go regs t))) (k regs m);
     }
 
-    module _ (sight : AreInSight slots scopes.objects) (e : Expression) (rs : List MonType) (k : CInt) (int : type_of e ≡ Int k) (p : IsPure e) (q : WellTyped scopes e) (l : HasLetters e) (behind : count w + count w ≤ length rs) (enough : length (rs ++ temporaries e) ≤ w.registers) where
+    module _ (sight : AreInSight slots scopes.objects) (e : Expression) (rs : List MonType) (k : CInt) (int : type_of e ≡ Int k) (p : IsPure e) (q : WellTyped scopes e) (l : HasLetters e) (behind : count w + count w ≤ length rs)
+        (enough : length (rs ++ temporaries e) ≤ w.registers) where
       module _ (regs : List BlockValue) (s : State) (t : Target) (m : Meet regs s t) (turn : Evaluation (Unit {0})) (go : Go) (goes : (after : List BlockValue) → Meet after s t → Turns s (turn s) (go after t)) where
         abbrev Tested : Outcome Value → Did → Type 0
         Tested r d = Turns s (on_outcome r (λ v. source.choose v turn done)) (then_do d (at_next go))
 
         -- the jump, where the condition is 0
-        jump_follows : (z : ℤ) (after : List BlockValue) → Meet after s t → (i : ℤ) → int_eq i (pos 0) ≡ int_eq z (pos 0) → Turns s (source.choose (Integer z) turn done s) (then_do (choose i (runs w n t NoStatement after) (runs w n t (one (Goto (end_label loops))) after)) (at_next go))
+        jump_follows : (z : ℤ) (after : List BlockValue) → Meet after s t → (i : ℤ) → int_eq i (pos 0) ≡ int_eq z (pos 0)
+            → Turns s (source.choose (Integer z) turn done s) (then_do (choose i (runs w n t NoStatement after) (runs w n t (one (Goto (end_label loops))) after)) (at_next go))
         jump_follows z after g i same =
             subst (λ q. Turns s (source.choose (Integer z) turn done s) q) (sym (then_choice i (runs w n t NoStatement after) (runs w n t (one (Goto (end_label loops))) after) (at_next go)))
             (follows_choice w in_turn (Goes (end_label loops)) s s z i turn done _ _ same
@@ -194,7 +200,8 @@ module _ (w : Setting) (slots : List Slot) (result : PlainType) (loops : ℕ) wh
 
     -- ---- turns
 
-    module _ (condition : Evaluation Value) (body : Evaluation (Unit {0})) (a : MonStatements) (body_follows : (regs : List BlockValue) (s : State) (t : Target) → Meet regs s t → s.steps ≤ n → Follows w in_body Next s (body s) (runs w n t a regs)) where
+    module _ (condition : Evaluation Value) (body : Evaluation (Unit {0})) (a : MonStatements) (body_follows : (regs : List BlockValue) (s : State) (t : Target) → Meet regs s t → s.steps ≤ n
+        → Follows w in_body Next s (body s) (runs w n t a regs)) where
       abbrev labelled : MonStatements → monitored.Does over_blocks
       labelled b = monitored.exec_all over_blocks (Then (Labelled a (next_label loops)) b) w.calls n
 
@@ -203,7 +210,9 @@ module _ (w : Setting) (slots : List Slot) (result : PlainType) (loops : ℕ) wh
       spent s f q e x = IsOver Spent s [] (λ h. absurd cc) (ap (λ k. on_outcome (step_from k s) (λ _. f)) e) (sym (append-nil s.output)) x
 
       -- the step, the body, what stands behind it, and the other turns
-      round_follows : (b : MonStatements) (again : Evaluation (Unit {0})) (others : Go) (regs : List BlockValue) (s : State) (t : Target) (k : ℕ) → s.steps ≡ suc k → Meet regs s t → s.steps ≤ n → ((to : State) (after : List BlockValue) (u : Target) → Meet after to u → to.steps ≤ k → Turns to (again to) (then_do (runs w n u b after) (at_next others))) → Turns s ((step >> λ s. after_body (body s) again) s) (then_do (labelled b regs (target_stepped t k)) (at_next others))
+      round_follows : (b : MonStatements) (again : Evaluation (Unit {0})) (others : Go) (regs : List BlockValue) (s : State) (t : Target) (k : ℕ) → s.steps ≡ suc k → Meet regs s t → s.steps ≤ n
+          → ((to : State) (after : List BlockValue) (u : Target) → Meet after to u → to.steps ≤ k → Turns to (again to) (then_do (runs w n u b after) (at_next others)))
+          → Turns s ((step >> λ s. after_body (body s) again) s) (then_do (labelled b regs (target_stepped t k)) (at_next others))
       round_follows b again others regs s t k e m le go =
           let s1 = stepped s k in
           let t1 = target_stepped t k in
@@ -216,7 +225,8 @@ module _ (w : Setting) (slots : List Slot) (result : PlainType) (loops : ℕ) wh
           (λ to after u o re be l. go to after u (meets_later w slots scopes.objects regs after s1 to t1 u l.kept m1 re be) l.spent))))
 
       -- `while` and `for`
-      module _ (front : MonStatements) (front_tests : Tests condition front) (behind : Evaluation (Unit {0})) (b : MonStatements) (behind_follows : (regs : List BlockValue) (s : State) (t : Target) → Meet regs s t → s.steps ≤ n → Follows w in_turn Next s (behind s) (runs w n t b regs)) where
+      module _ (front : MonStatements) (front_tests : Tests condition front) (behind : Evaluation (Unit {0})) (b : MonStatements) (behind_follows : (regs : List BlockValue) (s : State) (t : Target) → Meet regs s t → s.steps ≤ n
+          → Follows w in_turn Next s (behind s) (runs w n t b regs)) where
         abbrev turn : ℕ → Evaluation (Unit {0})
         turn j = step >> λ s. after_body (body s) (behind >> source.turns j condition body behind)
 
@@ -227,7 +237,8 @@ module _ (w : Setting) (slots : List Slot) (result : PlainType) (loops : ℕ) wh
         abbrev next_turn : ℕ → Go
         next_turn j r u = monitored.step_from u.steps (λ k. then_do (labelled b r (target_stepped u k)) (at_next (others j)))
 
-        turn_follows : (j : ℕ) (regs : List BlockValue) (s : State) (t : Target) → Meet regs s t → s.steps ≤ suc j → s.steps ≤ n → ((to : State) (after : List BlockValue) (u : Target) → Meet after to u → to.steps ≤ j → to.steps ≤ n → Turns to (source.turns (suc j) condition body behind to) (others j after u)) → Turns s (turn (suc j) s) (next_turn j regs t)
+        turn_follows : (j : ℕ) (regs : List BlockValue) (s : State) (t : Target) → Meet regs s t → s.steps ≤ suc j → s.steps ≤ n → ((to : State) (after : List BlockValue) (u : Target) → Meet after to u → to.steps ≤ j → to.steps ≤ n
+            → Turns to (source.turns (suc j) condition body behind to) (others j after u)) → Turns s (turn (suc j) s) (next_turn j regs t)
         turn_follows j regs s t m le ln go = subst (λ i. Turns s (turn (suc j) s) (monitored.step_from i (λ k. then_do (labelled b regs (target_stepped t k)) (at_next (others j))))) (sym m.beside.steps) (by s.steps refl)
           where
             by : (i : ℕ) → s.steps ≡ i → Turns s (turn (suc j) s) (monitored.step_from i (λ k. then_do (labelled b regs (target_stepped t k)) (at_next (others j))))
@@ -238,7 +249,8 @@ module _ (w : Setting) (slots : List Slot) (result : PlainType) (loops : ℕ) wh
                 (λ to2 after2 u2 o re be l. go to2 after2 u2 (meets_later w slots scopes.objects after after2 to to2 u u2 l.kept m2 re be) (omega (arith, e, le, l2, l.spent)) (omega (arith, e, ln, l2, l.spent))))
 
         pub turns_follow : (j : ℕ) (regs : List BlockValue) (s : State) (t : Target) → Meet regs s t → s.steps ≤ j → s.steps ≤ n → Turns s (source.turns (suc j) condition body behind s) (others j regs t)
-        turns_follow zero regs s t m le ln = front_tests.goes regs s t m (turn 0) (λ r u. Stops Spent 0 []) (λ after m2. spent s (λ s. after_body (body s) (behind >> source.turns 0 condition body behind)) (Stops Spent 0 []) (omega (arith, le)) (ap (λ k. Stops Spent k []) (omega (arith, le))))
+        turns_follow zero regs s t m le ln = front_tests.goes regs s t m (turn 0) (λ r u. Stops Spent 0 []) (λ after m2. spent s (λ s. after_body (body s) (behind >> source.turns 0 condition body behind)) (Stops Spent 0 []) (omega (arith, le))
+            (ap (λ k. Stops Spent k []) (omega (arith, le))))
         turns_follow (suc j) regs s t m le ln =
             front_tests.goes regs s t m (turn (suc j)) (next_turn j) (λ after m2.
             turn_follows j after s t m2 le ln (λ to after2 u m3 l3 l4. turns_follow j after2 to u m3 l3 l4))
@@ -255,7 +267,8 @@ module _ (w : Setting) (slots : List Slot) (result : PlainType) (loops : ℕ) wh
             (subst (λ i. Turns s (source.do_turns (suc (suc j)) condition body s) (monitored.step_from i (λ k. then_do (labelled b regs (target_stepped t k)) (at_next (do_others j))))) (sym m.beside.steps)
             (by (λ to after u m2 l2 l3. do_turns_follow j after to u m2 l2 l3) s.steps refl))
           where
-            by : ((to : State) (after : List BlockValue) (u : Target) → Meet after to u → to.steps ≤ j → to.steps ≤ n → Turns to (source.do_turns (suc j) condition body to) (do_others j after u)) → (i : ℕ) → s.steps ≡ i → Turns s (source.do_turns (suc (suc j)) condition body s) (monitored.step_from i (λ k. then_do (labelled b regs (target_stepped t k)) (at_next (do_others j))))
+            by : ((to : State) (after : List BlockValue) (u : Target) → Meet after to u → to.steps ≤ j → to.steps ≤ n → Turns to (source.do_turns (suc j) condition body to) (do_others j after u)) → (i : ℕ) → s.steps ≡ i
+                → Turns s (source.do_turns (suc (suc j)) condition body s) (monitored.step_from i (λ k. then_do (labelled b regs (target_stepped t k)) (at_next (do_others j))))
             by rest zero e = spent s (λ s. after_body (body s) (condition >>= λ v. source.choose v (source.do_turns (suc j) condition body) done)) (Stops Spent 0 []) e (ap (λ k. Stops Spent k []) (sym e))
             by rest (suc k) e =
                 round_follows b (condition >>= λ v. source.choose v (source.do_turns (suc j) condition body) done) (do_others j) regs s t k e m ln (λ to after u m2 l2.

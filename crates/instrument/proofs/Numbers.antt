@@ -323,7 +323,8 @@ module _ (numbers : List ℕ) where
   first_objects (First (Asserts annots)) s r q = tt
 
   mutual
-    pub can_declare : (a : Statement) (s : Scopes) (r : Around) (low high : ℕ) (living : List ℕ) → StatementTyped s r a → Between low (numbers_in (declared_within a)) high → AllOutside low high living → AllListed numbers (declared_within a) → CanDeclare numbers living a
+    pub can_declare : (a : Statement) (s : Scopes) (r : Around) (low high : ℕ) (living : List ℕ) → StatementTyped s r a → Between low (numbers_in (declared_within a)) high → AllOutside low high living → AllListed numbers (declared_within a)
+        → CanDeclare numbers living a
     can_declare (Empty at) s r low high living q b o l = tt
     can_declare (Eval at e) s r low high living q b o l = tt
     can_declare (Block at is) s r low high living q b o l =
@@ -333,15 +334,18 @@ module _ (numbers : List ℕ) where
         )
     can_declare (If at e x y) s r low high living q b o l =
         let p = parted_in low high (declared_within x) (declared_in_else y) b in (
-          can_declare x s r low p.middle living q.1 p.front (all_narrower low low high p.middle living (omega arith) (in_bounds p.middle high (numbers_in (declared_in_else y)) p.back) o) (listed_front numbers (declared_within x) (declared_in_else y) l),
-          else_can_declare y s r p.middle high living q.2 p.back (all_narrower low p.middle high high living (in_bounds low p.middle (numbers_in (declared_within x)) p.front) (omega arith) o) (listed_back numbers (declared_within x) (declared_in_else y) l),
+          can_declare x s r low p.middle living q.1 p.front (all_narrower low low high p.middle living (omega arith) (in_bounds p.middle high (numbers_in (declared_in_else y)) p.back) o)
+              (listed_front numbers (declared_within x) (declared_in_else y) l),
+          else_can_declare y s r p.middle high living q.2 p.back (all_narrower low p.middle high high living (in_bounds low p.middle (numbers_in (declared_within x)) p.front) (omega arith) o)
+              (listed_back numbers (declared_within x) (declared_in_else y) l),
         )
     can_declare (While at annots e x) s r low high living q b o l = can_declare x s (in_loop r) low high living q.1 b o l
     can_declare (Do at x e) s r low high living q b o l = can_declare x s (in_loop r) low high living q.0 b o l
     can_declare (For at annots first e step x) s r low high living q b o l =
         let p = parted_in low high (declared_in_first first) (declared_within x) b in
         let f = first_between first low p.middle p.front in (
-          all_can_be_born numbers (declared_first first) low p.middle living f (all_narrower low low high p.middle living (omega arith) (in_bounds p.middle high (numbers_in (declared_within x)) p.back) o) (first_objects first (inner s) r q.0) (first_listed first (listed_front numbers (declared_in_first first) (declared_within x) l)),
+          all_can_be_born numbers (declared_first first) low p.middle living f (all_narrower low low high p.middle living (omega arith) (in_bounds p.middle high (numbers_in (declared_within x)) p.back) o) (first_objects first (inner s) r q.0)
+              (first_listed first (listed_front numbers (declared_in_first first) (declared_within x) l)),
           can_declare x (behind_first (inner s) first) (in_loop r) p.middle high (with_numbers (declared_first first) living) q.3 p.back
               (born_outside p.middle high low p.middle (declared_first first) living f (omega arith) (all_narrower low p.middle high high living (in_bounds low p.middle (numbers_in (declared_in_first first)) p.front) (omega arith) o))
               (listed_back numbers (declared_in_first first) (declared_within x) l),
@@ -350,11 +354,13 @@ module _ (numbers : List ℕ) where
     can_declare (Continue at) s r low high living q b o l = tt
     can_declare (Return at e) s r low high living q b o l = tt
 
-    pub else_can_declare : (b : ElsePart) (s : Scopes) (r : Around) (low high : ℕ) (living : List ℕ) → ElseTyped s r b → Between low (numbers_in (declared_in_else b)) high → AllOutside low high living → AllListed numbers (declared_in_else b) → ElseCanDeclare numbers living b
+    pub else_can_declare : (b : ElsePart) (s : Scopes) (r : Around) (low high : ℕ) (living : List ℕ) → ElseTyped s r b → Between low (numbers_in (declared_in_else b)) high → AllOutside low high living → AllListed numbers (declared_in_else b)
+        → ElseCanDeclare numbers living b
     else_can_declare NoElse s r low high living q b o l = tt
     else_can_declare (Else a) s r low high living q b o l = can_declare a s r low high living q b o l
 
-    pub items_can_declare : (is : BlockItems) (s : Scopes) (r : Around) (low high : ℕ) (living : List ℕ) → ItemsTyped s r is → Between low (numbers_in (declared_in_items is)) high → AllLive low high (declared_in is) living → AllListed numbers (declared_in_items is) → ItemsCanDeclare numbers living is
+    pub items_can_declare : (is : BlockItems) (s : Scopes) (r : Around) (low high : ℕ) (living : List ℕ) → ItemsTyped s r is → Between low (numbers_in (declared_in_items is)) high → AllLive low high (declared_in is) living
+        → AllListed numbers (declared_in_items is) → ItemsCanDeclare numbers living is
     items_can_declare NoItem s r low high living q b o l = tt
     items_can_declare (Then (Declare ds) rest) s r low high living q b o l =
         let p = parted_in low high ds (declared_in_items rest) b in (
@@ -373,7 +379,8 @@ module _ (numbers : List ℕ) where
     items_can_declare (Then (Asserts annots) rest) s r low high living q b o l = (tt, items_can_declare rest s r low high living q.1 b o l)
 
   -- the items of a body, whose scope is the function's
-  pub body_can_declare : (is : BlockItems) (s : Scopes) (r : Around) (low high : ℕ) (living : List ℕ) → ItemsTyped s r is → Between low (numbers_in (declared_in_items is)) high → AllOutside low high living → AllListed numbers (declared_in_items is) → AllCanBeBorn numbers living (declared_in is) × ItemsCanDeclare numbers (with_numbers (declared_in is) living) is
+  pub body_can_declare : (is : BlockItems) (s : Scopes) (r : Around) (low high : ℕ) (living : List ℕ) → ItemsTyped s r is → Between low (numbers_in (declared_in_items is)) high → AllOutside low high living → AllListed numbers (declared_in_items is)
+      → AllCanBeBorn numbers living (declared_in is) × ItemsCanDeclare numbers (with_numbers (declared_in is) living) is
   body_can_declare is s r low high living q b o l =
       let own = declared_in is in (
         all_can_be_born numbers own low high living (own_between is low high b) o (items_objects s r is q) (own_listed numbers is l),

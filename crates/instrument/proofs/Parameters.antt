@@ -47,11 +47,13 @@ set_as_is (b ∷ l) (suc k) a e = ap (λ x. b ∷ x) (set_as_is l k a e)
 
 -- all are born on both sides, or something is full on both
 pub data BearsAll (w : Setting) (slots : List Slot) (regs : List BlockValue) (s : State) (t : Target) (n : ℕ) (at : Place) (ds : List Declaration) (vs : List Value) : Type 0 where
-  AllBorn : (to : State) (after : List BlockValue) (u : Target) → parameters at ds vs s ≡ Normal tt to → runs w n t (target.births w.numbers ds) regs ≡ Done (Next after) u [] → Related w (slots_born (length s.store) ds slots) after to → Beside w (slots_born (length s.store) ds slots) to u → AllSet to.store (slots_born (length s.store) ds slots) → Later slots s to [] → BearsAll w slots regs s t n at ds vs
+  AllBorn : (to : State) (after : List BlockValue) (u : Target) → parameters at ds vs s ≡ Normal tt to → runs w n t (target.births w.numbers ds) regs ≡ Done (Next after) u [] → Related w (slots_born (length s.store) ds slots) after to
+      → Beside w (slots_born (length s.store) ds slots) to u → AllSet to.store (slots_born (length s.store) ds slots) → Later slots s to [] → BearsAll w slots regs s t n at ds vs
   OneIsFull : (g : Segment) (to : State) → parameters at ds vs s ≡ Stop (Over (Full g)) to → to.output ≡ s.output → runs w n t (target.births w.numbers ds) regs ≡ Stops (Full g) to.steps [] → BearsAll w slots regs s t n at ds vs
 
 -- a parameter with its value
-module _ (w : Setting) (slots : List Slot) (regs : List BlockValue) (s : State) (t : Target) (h : Related w slots regs s) (b : Beside w slots s t) (enough : count w + count w ≤ w.registers) (d : Declaration) (c : CanBeBorn w.numbers (decls_of slots) d) (z : ℤ) (f : fits (int_of d.ctype) z ≡ true) (bound : slice_get regs (value_at w (number_of d)) ≡ Some (Whole z)) where
+module _ (w : Setting) (slots : List Slot) (regs : List BlockValue) (s : State) (t : Target) (h : Related w slots regs s) (b : Beside w slots s t) (enough : count w + count w ≤ w.registers) (d : Declaration)
+    (c : CanBeBorn w.numbers (decls_of slots) d) (z : ℤ) (f : fits (int_of d.ctype) z ≡ true) (bound : slice_get regs (value_at w (number_of d)) ≡ Some (Whole z)) where
   abbrev x : ℕ
   x = number_of d
 
@@ -123,7 +125,9 @@ module _ (w : Setting) (n : ℕ) (enough : count w + count w ≤ w.registers) (a
   abbrev Bear : List Slot → List BlockValue → State → Target → List Declaration → List Value → Type 0
   Bear slots regs s t ds vs = BearsAll w slots regs s t n at ds vs
 
-  born_then : (slots : List Slot) (regs : List BlockValue) (s : State) (t : Target) (d : Declaration) (ds : List Declaration) (v : Value) (vs : List Value) (to : State) (after : List BlockValue) (u : Target) → on_outcome (birth d s) (λ _. write_youngest at d.ctype v) ≡ Normal tt to → monitored.exec over_blocks (target.birth w.numbers d) w.calls n regs t ≡ Done (Next after) u [] → length to.store ≡ suc (length s.store) → Later slots s to [] → Bear (slot_for (length s.store) d ∷ slots) after to u ds vs → Bear slots regs s t (d ∷ ds) (v ∷ vs)
+  born_then : (slots : List Slot) (regs : List BlockValue) (s : State) (t : Target) (d : Declaration) (ds : List Declaration) (v : Value) (vs : List Value) (to : State) (after : List BlockValue) (u : Target)
+      → on_outcome (birth d s) (λ _. write_youngest at d.ctype v) ≡ Normal tt to → monitored.exec over_blocks (target.birth w.numbers d) w.calls n regs t ≡ Done (Next after) u [] → length to.store ≡ suc (length s.store) → Later slots s to []
+      → Bear (slot_for (length s.store) d ∷ slots) after to u ds vs → Bear slots regs s t (d ∷ ds) (v ∷ vs)
   born_then slots regs s t d ds v vs to after u e f long l (AllBorn to2 after2 u2 e2 f2 m b a l2) =
       AllBorn to2 after2 u2
       (ap (λ r. on_outcome r (λ _. parameters at ds vs)) e ∙ e2)
@@ -139,26 +143,31 @@ module _ (w : Setting) (n : ℕ) (enough : count w + count w ≤ w.registers) (a
       (ap (λ q. then_do q (at_next (monitored.exec_all over_blocks (target.births w.numbers ds) w.calls n))) f ∙ ap (writes []) f2)
 
   -- the registers of the other parameters stay
-  bound_others : (regs after : List BlockValue) (ds : List Declaration) (zs : List ℤ) (living : List ℕ) → ((y : ℕ) → value_at w y < count w → slice_get after (value_at w y) ≡ slice_get regs (value_at w y)) → AllCanBeBorn w.numbers living ds → Bound w regs ds zs → Bound w after ds zs
+  bound_others : (regs after : List BlockValue) (ds : List Declaration) (zs : List ℤ) (living : List ℕ) → ((y : ℕ) → value_at w y < count w → slice_get after (value_at w y) ≡ slice_get regs (value_at w y)) → AllCanBeBorn w.numbers living ds
+      → Bound w regs ds zs → Bound w after ds zs
   bound_others regs after [] [] living same c h = tt
   bound_others regs after [] (z ∷ zs) living same c h = absurd h
   bound_others regs after (d ∷ ds) [] living same c h = absurd h
   bound_others regs after (d ∷ ds) (z ∷ zs) living same c h =
       (h.0, same (number_of d) (get-below w.numbers (value_at w (number_of d)) (number_of d) c.0.listed) ∙ h.1, bound_others regs after ds zs (number_of d ∷ living) same c.1 h.2)
 
-  pub parameters_follow : (ds : List Declaration) (zs : List ℤ) (slots : List Slot) (regs : List BlockValue) (s : State) (t : Target) → Related w slots regs s → Beside w slots s t → AllCanBeBorn w.numbers (decls_of slots) ds → Bound w regs ds zs → AllSet s.store slots → Bear slots regs s t ds (integers zs)
+  pub parameters_follow : (ds : List Declaration) (zs : List ℤ) (slots : List Slot) (regs : List BlockValue) (s : State) (t : Target) → Related w slots regs s → Beside w slots s t → AllCanBeBorn w.numbers (decls_of slots) ds → Bound w regs ds zs
+      → AllSet s.store slots → Bear slots regs s t ds (integers zs)
   parameters_follow [] [] slots regs s t h b c bound a = AllBorn s regs t refl refl h b a (later_same slots s)
   parameters_follow [] (z ∷ zs) slots regs s t h b c bound a = absurd bound
   parameters_follow (d ∷ ds) [] slots regs s t h b c bound a = absurd bound
   parameters_follow (d ∷ ds) (z ∷ zs) slots regs s t h b c bound a =
-      by (λ o. parameters_follow ds zs (slot_for (length s.store) d ∷ slots) (bound_registers w slots regs s t h b enough d c.0 z bound.0 bound.1) (bound_state w slots regs s t h b enough d c.0 z bound.0 bound.1) (bound_target w slots regs s t h b enough d c.0 z bound.0 bound.1) (bound_related w slots regs s t h b enough d c.0 z bound.0 bound.1) (bound_beside w slots regs s t h b enough d c.0 z bound.0 bound.1) c.1
+      by (λ o. parameters_follow ds zs (slot_for (length s.store) d ∷ slots) (bound_registers w slots regs s t h b enough d c.0 z bound.0 bound.1) (bound_state w slots regs s t h b enough d c.0 z bound.0 bound.1)
+          (bound_target w slots regs s t h b enough d c.0 z bound.0 bound.1) (bound_related w slots regs s t h b enough d c.0 z bound.0 bound.1) (bound_beside w slots regs s t h b enough d c.0 z bound.0 bound.1) c.1
       (bound_others regs (bound_registers w slots regs s t h b enough d c.0 z bound.0 bound.1) ds zs (number_of d ∷ decls_of slots) (value_stays w slots regs s t h b enough d c.0 z bound.0 bound.1) c.1 bound.2)
       (bound_set w slots regs s t h b enough d c.0 z bound.0 bound.1 a))
       (full_at_stack_birth standard_sizes s.store (size_of d.ctype)) refl
     where
-      by : (Unit {0} → Bear (slot_for (length s.store) d ∷ slots) (bound_registers w slots regs s t h b enough d c.0 z bound.0 bound.1) (bound_state w slots regs s t h b enough d c.0 z bound.0 bound.1) (bound_target w slots regs s t h b enough d c.0 z bound.0 bound.1) ds (integers zs)) → (o : Option Segment) → full_at_stack_birth standard_sizes s.store (size_of d.ctype) ≡ o → Bear slots regs s t (d ∷ ds) (integers (z ∷ zs))
+      by : (Unit {0} → Bear (slot_for (length s.store) d ∷ slots) (bound_registers w slots regs s t h b enough d c.0 z bound.0 bound.1) (bound_state w slots regs s t h b enough d c.0 z bound.0 bound.1)
+          (bound_target w slots regs s t h b enough d c.0 z bound.0 bound.1) ds (integers zs)) → (o : Option Segment) → full_at_stack_birth standard_sizes s.store (size_of d.ctype) ≡ o → Bear slots regs s t (d ∷ ds) (integers (z ∷ zs))
       by rest None e =
-          born_then slots regs s t d ds (Integer z) (integers zs) (bound_state w slots regs s t h b enough d c.0 z bound.0 bound.1) (bound_registers w slots regs s t h b enough d c.0 z bound.0 bound.1) (bound_target w slots regs s t h b enough d c.0 z bound.0 bound.1)
+          born_then slots regs s t d ds (Integer z) (integers zs) (bound_state w slots regs s t h b enough d c.0 z bound.0 bound.1) (bound_registers w slots regs s t h b enough d c.0 z bound.0 bound.1)
+              (bound_target w slots regs s t h b enough d c.0 z bound.0 bound.1)
           (bound_source w slots regs s t h b enough d c.0 z bound.0 bound.1 at e)
           (target_birth w slots regs s t h b enough d c.0 n ∙ ap (birth_runs w slots regs s t h b enough d c.0) e)
           (bound_long w slots regs s t h b enough d c.0 z bound.0 bound.1)

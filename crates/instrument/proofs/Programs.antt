@@ -97,7 +97,8 @@ less_ascends : (low low2 : ℕ) (ns : List ℕ) → low ≤ low2 → Ascend low2
 less_ascends low low2 [] le a = tt
 less_ascends low low2 (n ∷ ns) le a = (omega (arith, le, a.0), a.1)
 
-all_parts : (p : TranslationUnit) (before fs : List Function) (low : ℕ) → before ++ fs ≡ p.funcs → FunctionsTyped p before fs → FunctionsFormed most_typed fs → FunctionsNamed p.names fs → Ascend low (numbers_of_all fs) → FunctionsHaveNumbers fs → Parts p fs
+all_parts : (p : TranslationUnit) (before fs : List Function) (low : ℕ) → before ++ fs ≡ p.funcs → FunctionsTyped p before fs → FunctionsFormed most_typed fs → FunctionsNamed p.names fs → Ascend low (numbers_of_all fs) → FunctionsHaveNumbers fs
+    → Parts p fs
 all_parts p before [] low is typed formed named numbered numbers = tt
 all_parts p before (g ∷ fs) low is typed formed named numbered numbers =
     let h = behind_function low g fs numbered in (
@@ -288,7 +289,8 @@ pub record IsDefined (x n : ℕ) (fs : List Function) (h : Function) : Type 0 wh
   pub types : SameTypes h definition
   pub name : definition.name ≡ x
 
-pub defined : (p : TranslationUnit) (before fs : List Function) (x n low : ℕ) (h : Function) → FunctionsTyped p before fs → Ascend low (numbers_of_all fs) → first_of x (before ++ fs) ≡ Some h → definition_of x fs ≡ Some n → IsDefined x n fs h × (low ≤ n)
+pub defined : (p : TranslationUnit) (before fs : List Function) (x n low : ℕ) (h : Function) → FunctionsTyped p before fs → Ascend low (numbers_of_all fs) → first_of x (before ++ fs) ≡ Some h → definition_of x fs ≡ Some n
+    → IsDefined x n fs h × (low ≤ n)
 defined p before [] x n low h t a first e = absurd cc
 defined p before (g ∷ fs) x n low h t a first e =
     let more = behind_function low g fs a in
@@ -304,7 +306,8 @@ defined p before (g ∷ fs) x n low h t a first e =
         let apart : nat_eq g.place.offset n ≡ false = let ge = i.1 in grind (arith, nat_tests) in
         (record { definition = i.0.definition; found = skipped (is_definition g) (nat_eq g.place.offset n) apart ∙ i.0.found; types = i.0.types; name = i.0.name }, let ge = i.1 in omega (arith, a.0, le, ge))
 
-    by : (low2 : ℕ) → (definition_of x fs ≡ Some n → IsDefined x n fs h × (low2 ≤ n)) → suc g.place.offset ≤ low2 → (c d : Bool) → is_definition g ≡ c → nat_eq g.name x ≡ d → cond (c && d) (Some g.place.offset) (definition_of x fs) ≡ Some n → IsDefined x n (g ∷ fs) h × (low ≤ n)
+    by : (low2 : ℕ) → (definition_of x fs ≡ Some n → IsDefined x n fs h × (low2 ≤ n)) → suc g.place.offset ≤ low2 → (c d : Bool) → is_definition g ≡ c → nat_eq g.name x ≡ d → cond (c && d) (Some g.place.offset) (definition_of x fs) ≡ Some n
+        → IsDefined x n (g ∷ fs) h × (low ≤ n)
     by low2 rest le true true y z f =
         let number : g.place.offset ≡ n = cc in
         let named : g.name ≡ x = grind (arith, nat_tests) in

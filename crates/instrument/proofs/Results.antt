@@ -50,13 +50,15 @@ one_is a calls n regs s = last (monitored.exec over_blocks a calls n regs s)
     last (Stops e n o) = refl
 
 -- what a part leads to, by way of its rest or at once
-pub rest_first : (q : Result Target (Flow over_blocks.Val)) (whole rest behind : monitored.Does over_blocks) → ((r : List over_blocks.Val) (t : Target) → whole r t ≡ then_do (rest r t) (at_next behind)) → then_do q (at_next whole) ≡ then_do (then_do q (at_next rest)) (at_next behind)
+pub rest_first : (q : Result Target (Flow over_blocks.Val)) (whole rest behind : monitored.Does over_blocks) → ((r : List over_blocks.Val) (t : Target) → whole r t ≡ then_do (rest r t) (at_next behind))
+    → then_do q (at_next whole) ≡ then_do (then_do q (at_next rest)) (at_next behind)
 rest_first (Done (Next r) t o) whole rest behind h = ap (writes o) (h r t) ∙ sym (then_writes o (rest r t) (at_next behind))
 rest_first (Done (Goes l r) t o) whole rest behind h = sym (ap (Done (Goes l r) t) (append-nil (o ++ [])))
 rest_first (Done (Returns v) t o) whole rest behind h = sym (ap (Done (Returns v) t) (append-nil (o ++ [])))
 rest_first (Stops e n o) whole rest behind h = refl
 
-pub before_is : (a b : MonStatements) (calls : monitored.Calls over_blocks) (n : ℕ) (regs : List over_blocks.Val) (s : Target) → monitored.exec_all over_blocks (before a b) calls n regs s ≡ then_do (monitored.exec_all over_blocks a calls n regs s) (at_next (monitored.exec_all over_blocks b calls n))
+pub before_is : (a b : MonStatements) (calls : monitored.Calls over_blocks) (n : ℕ) (regs : List over_blocks.Val) (s : Target)
+    → monitored.exec_all over_blocks (before a b) calls n regs s ≡ then_do (monitored.exec_all over_blocks a calls n regs s) (at_next (monitored.exec_all over_blocks b calls n))
 before_is NoStatement b calls n regs s = sym (writes_none (monitored.exec_all over_blocks b calls n regs s))
 before_is (Then a rest) b calls n regs s =
     rest_first (monitored.exec over_blocks a calls n regs s) (monitored.exec_all over_blocks (before rest b) calls n) (monitored.exec_all over_blocks rest calls n) (monitored.exec_all over_blocks b calls n) (λ r t. before_is rest b calls n r t)

@@ -55,7 +55,8 @@ is_main names (f ∷ fs) e = by (λ h. is_main names fs h) (is_definition f && b
     typed true false x y h = absurd cc
     typed false b x y h = absurd cc
 
-    by : (main_fault names fs ≡ None → IsMain names fs) → (t : Bool) → (is_definition f && bytes_eq (name_at names f.name) (codes "main")) ≡ t → cond t (cond (same_type f.result int_type && has_no_parameters f.params) None (Some (no_main f.place))) (main_fault names fs) ≡ None → IsMain names (f ∷ fs)
+    by : (main_fault names fs ≡ None → IsMain names fs) → (t : Bool) → (is_definition f && bytes_eq (name_at names f.name) (codes "main")) ≡ t
+        → cond t (cond (same_type f.result int_type && has_no_parameters f.params) None (Some (no_main f.place))) (main_fault names fs) ≡ None → IsMain names (f ∷ fs)
     by rest true x h =
         let y = typed (same_type f.result int_type) (has_no_parameters f.params) refl refl h in
         record { function = f; first = ap (λ t. if t then Some f else picked (has_bytes names (codes "main")) fs) x; result = y.0; params = y.1 }
@@ -95,7 +96,9 @@ module _ (p : TranslationUnit) (m : ℕ) where
   target_finds k [] f e h = absurd cc
   target_finds k (g ∷ fs) f e h = by (λ j x y. target_finds j fs f x y) (is_definition g) (test g) refl refl e h
     where
-      by : ((j : ℕ) → m ≡ j + index_by test fs → picked test fs ≡ Some f → monitored.function_named over_blocks (codes "main") (functions_from p m j fs) ≡ Some (function_of p m m f)) → (a b : Bool) → is_definition g ≡ a → test g ≡ b → m ≡ k + (if a then (if b then 0 else suc (index_by test fs)) else index_by test fs) → (if a && b then Some g else picked test fs) ≡ Some f → monitored.function_named over_blocks (codes "main") (functions_from p m k (g ∷ fs)) ≡ Some (function_of p m m f)
+      by : ((j : ℕ) → m ≡ j + index_by test fs → picked test fs ≡ Some f → monitored.function_named over_blocks (codes "main") (functions_from p m j fs) ≡ Some (function_of p m m f)) → (a b : Bool) → is_definition g ≡ a → test g ≡ b
+          → m ≡ k + (if a then (if b then 0 else suc (index_by test fs)) else index_by test fs) → (if a && b then Some g else picked test fs) ≡ Some f
+          → monitored.function_named over_blocks (codes "main") (functions_from p m k (g ∷ fs)) ≡ Some (function_of p m m f)
       by rest true true x y i j =
           let same : g ≡ f = cc in
           let here : m ≡ k = omega (arith, i) in

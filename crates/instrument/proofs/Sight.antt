@@ -41,7 +41,8 @@ pub record HasValue (w : Setting) (regs : List BlockValue) (s : State) (x : ℕ)
   pub known : Known w s.store regs v
   pub register : slice_get regs (value_at w x) ≡ Some (Whole known.value)
 
-pub has_value : (w : Setting) (slots : List Slot) (scopes : Scopes) (regs : List BlockValue) (s : State) → Related w slots regs s → Ready s.store slots scopes.objects → (x : Use) (t : PlainType) (d : Denotes scopes x t) (v : Slot) → slot_of x.decl slots ≡ Some v → HasValue w regs s x.decl v
+pub has_value : (w : Setting) (slots : List Slot) (scopes : Scopes) (regs : List BlockValue) (s : State) → Related w slots regs s → Ready s.store slots scopes.objects → (x : Use) (t : PlainType) (d : Denotes scopes x t) (v : Slot)
+    → slot_of x.decl slots ≡ Some v → HasValue w regs s x.decl v
 has_value w slots scopes regs s h ready x t d v found =
     let k = known w s.store regs v (match_at w s.store regs x.decl slots v h.all found) (ready x.name d.object d.found v (ap (λ n. slot_of n slots) (sym d.decl) ∙ found)) in
     record { known = k; register = ap (λ n. slice_get regs (value_at w n)) (sym (decl_at x.decl slots v found)) ∙ k.register }
@@ -53,5 +54,6 @@ pub record Meets (w : Setting) (slots : List Slot) (objects : List Object) (regs
   pub beside : Beside w slots s t
   pub ready : Ready s.store slots objects
 
-pub meets_later : (w : Setting) (slots : List Slot) (objects : List Object) (regs after : List BlockValue) (s to : State) (t u : Target) → AllKept slots s.store to.store → Meets w slots objects regs s t → Related w slots after to → Beside w slots to u → Meets w slots objects after to u
+pub meets_later : (w : Setting) (slots : List Slot) (objects : List Object) (regs after : List BlockValue) (s to : State) (t u : Target) → AllKept slots s.store to.store → Meets w slots objects regs s t → Related w slots after to
+    → Beside w slots to u → Meets w slots objects after to u
 meets_later w slots objects regs after s to t u kept m r b = record { related = r; beside = b; ready = ready_later s.store to.store slots objects kept m.ready }

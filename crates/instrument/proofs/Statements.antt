@@ -26,7 +26,8 @@ use Rattle.mon_syntax.specs.Trees as tree
 use Rattle.c_effects.specs.Letters.{Any, HasLetters, FullHasLetters, EffectHasLetters, InitialHasLetters, InitialsHaveLetters}
 use Rattle.instrument.specs.Limits.{HasNumbers, ElseHasNumbers, FirstHasNumbers, HaveNumbers}
 use Rattle.c_effects.specs.Expressions.{value, temporaries, setup, condition_of, before, one}
-use Rattle.instrument.specs.Translation.{Spot, statement_temporaries, else_temporaries, first_temporaries, item_temporaries, items_temporaries, with_variables, test, test_if_any, loop, statement, else_part, first_part, item, items, end_label, next_label}
+use Rattle.instrument.specs.Translation.{Spot, statement_temporaries, else_temporaries, first_temporaries, item_temporaries, items_temporaries, with_variables, test, test_if_any, loop, statement, else_part, first_part, item, items, end_label}
+use Rattle.instrument.specs.Translation.{next_label}
 use Rattle.c_effects.specs.Effects.{full_temporaries, full_setup, full_value, effect_temporaries, any_temporaries, initial_temporaries, declaration_temporaries, effect_if_any}
 use Rattle.track_scopes.specs.Blocks.{deaths, with_born}
 use Rattle.instrument.specs.Translation as target
@@ -46,7 +47,8 @@ use Rattle.instrument.proofs.FullExpressions.{handed_on, Scene, follows_full}
 use Rattle.instrument.proofs.Effects.{effect_follows, initial_follows}
 use Rattle.instrument.proofs.Asserts.{assertions_follow}
 use Rattle.instrument.proofs.Loops.{Tests, tests, no_test, turns_follow, do_turns_follow, loop_follows, in_body, in_turn}
-use Rattle.instrument.proofs.Declared.{CanDeclare, ElseCanDeclare, ItemsCanDeclare, decls_of-born, registers_of-append, slots_born-append, sight_behind, ready_behind, HasSlot, HaveSlots, born_have_slots, have_front, have_behind, sight_declared, ready_declared}
+use Rattle.instrument.proofs.Declared.{CanDeclare, ElseCanDeclare, ItemsCanDeclare, decls_of-born, registers_of-append, slots_born-append, sight_behind, ready_behind, HasSlot, HaveSlots, born_have_slots, have_front, have_behind, sight_declared}
+use Rattle.instrument.proofs.Declared.{ready_declared}
 
 pub effect_or_call : (e : Expression) → IsEffect e → IsEffectOrCall e
 effect_or_call (Node at t (Call f es)) h = absurd h
@@ -62,7 +64,8 @@ module _ (rs a b : List MonType) where
   three c = omega (arith, length-append rs (a ++ b ++ c), length-append (a ++ b) c, length-append a b, length-append (rs ++ a ++ b) c, length-append (rs ++ a) b, length-append rs a)
 
   pub four : (c d : List MonType) → length (rs ++ (a ++ b ++ c ++ d)) ≡ length (rs ++ a ++ b ++ c ++ d)
-  four c d = omega (arith, length-append rs (a ++ b ++ c ++ d), length-append (a ++ b ++ c) d, length-append (a ++ b) c, length-append a b, length-append (rs ++ a ++ b ++ c) d, length-append (rs ++ a ++ b) c, length-append (rs ++ a) b, length-append rs a)
+  four c d = omega (arith, length-append rs (a ++ b ++ c ++ d), length-append (a ++ b ++ c) d, length-append (a ++ b) c, length-append a b, length-append (rs ++ a ++ b ++ c) d, length-append (rs ++ a ++ b) c, length-append (rs ++ a) b,
+      length-append rs a)
 
 -- ---- where statements stand
 
@@ -128,13 +131,15 @@ module _ (w : Setting) (n : ℕ) (spot : Spot) (h : Here) (at : At w spot h) (s 
   continue_follows looped =
       Continues s regs loop_dead.to [] looped m loop_dead.beside (later_same h.slots s) refl (goto_is h.around (deaths spot.inside) (next_label h.loops) (next_label spot.loops) loop_dead (ap next_label at.loops))
 
-  pub leave_follows : (v : Option ℤ) (e : Option tree.MonExpression) → IsResult h.result v → ((u : Target) → runs w n u (one (tree.Return e)) regs ≡ Done (monitored.Returns (option_map Whole v)) u []) → Follows w h Next s (Stop (Leaves (Returns (option_map Integer v))) s) (runs w n t (before (deaths (spot.inside ++ spot.outside)) (one (tree.Return e))) regs)
+  pub leave_follows : (v : Option ℤ) (e : Option tree.MonExpression) → IsResult h.result v → ((u : Target) → runs w n u (one (tree.Return e)) regs ≡ Done (monitored.Returns (option_map Whole v)) u [])
+      → Follows w h Next s (Stop (Leaves (Returns (option_map Integer v))) s) (runs w n t (before (deaths (spot.inside ++ spot.outside)) (one (tree.Return e))) regs)
   leave_follows v e i run =
       IsLeft v s regs call_dead.to [] i m call_dead.beside (later_same h.slots s) refl (behind_deaths [] (deaths (spot.inside ++ spot.outside)) (one (tree.Return e)) call_dead ∙ run call_dead.to)
 
 -- ---- statements
 
-module _ (p : TranslationUnit) (w : Setting) (n most : ℕ) (names : List (List ℕ)) (functions : List Signature) (all_calls : (s : Scopes) → s.names ≡ names → s.functions ≡ functions → (f : Use) (t : PlainType) (es : Expressions) → Calls s f t es → IsCalled p w n f t es) where
+module _ (p : TranslationUnit) (w : Setting) (n most : ℕ) (names : List (List ℕ)) (functions : List Signature) (all_calls : (s : Scopes) → s.names ≡ names → s.functions ≡ functions → (f : Use) (t : PlainType) (es : Expressions) → Calls s f t es
+    → IsCalled p w n f t es) where
   -- what the typing sees, among the variables that live
   pub record Stage (slots : List Slot) (s : Scopes) : Type 0 where
     pub sight : AreInSight slots s.objects
@@ -161,25 +166,30 @@ module _ (p : TranslationUnit) (w : Setting) (n most : ℕ) (names : List (List 
   condition_int : (s : Scopes) (e : Expression) → IsCondition s e → HasInt (type_of e)
   condition_int s e c = scalar_int (type_of e) c.scalar
 
-  effect_does : (h : Here) (s : Scopes) (g : Stage h.slots s) (rs : List MonType) (e : Expression) → IsEffectOrCall e → WellTyped s e → EffectHasLetters e → count w + count w ≤ length rs → length (rs ++ effect_temporaries e) ≤ w.registers → DoSame h s (effect_with (Some e) w.call) (effects.effect p w.numbers rs e)
+  effect_does : (h : Here) (s : Scopes) (g : Stage h.slots s) (rs : List MonType) (e : Expression) → IsEffectOrCall e → WellTyped s e → EffectHasLetters e → count w + count w ≤ length rs → length (rs ++ effect_temporaries e) ≤ w.registers
+      → DoSame h s (effect_with (Some e) w.call) (effects.effect p w.numbers rs e)
   effect_does h s g rs e pure q l behind enough = λ regs from t m le.
       effect_follows p w n h s (scene_of h.slots s g) from t m.ready le rs behind regs m.related m.beside e pure q l enough
 
-  effect_if_any_does : (h : Here) (s : Scopes) (g : Stage h.slots s) (rs : List MonType) (e : Option Expression) → WhereAny (IsFullEffect most) e → WhereAny (WellTyped s) e → Any EffectHasLetters e → count w + count w ≤ length rs → length (rs ++ any_temporaries effect_temporaries e) ≤ w.registers → DoSame h s (effect_with e w.call) (effect_if_any p w.numbers rs e)
+  effect_if_any_does : (h : Here) (s : Scopes) (g : Stage h.slots s) (rs : List MonType) (e : Option Expression) → WhereAny (IsFullEffect most) e → WhereAny (WellTyped s) e → Any EffectHasLetters e → count w + count w ≤ length rs
+      → length (rs ++ any_temporaries effect_temporaries e) ≤ w.registers → DoSame h s (effect_with e w.call) (effect_if_any p w.numbers rs e)
   effect_if_any_does h s g rs None pure q l behind enough = λ regs from t m le. stays w h regs from t m.related m.beside
   effect_if_any_does h s g rs (Some e) pure q l behind enough = effect_does h s g rs e (effect_or_call e pure.is) q l behind enough
 
-  test_does : (slots : List Slot) (result : PlainType) (loops : ℕ) (s : Scopes) (g : Stage slots s) (rs : List MonType) (e : Expression) → IsFull most e → IsCondition s e → HasLetters e → count w + count w ≤ length rs → length (rs ++ temporaries e) ≤ w.registers → Tests w slots result loops n s (eval_with e w.call) (test w.numbers rs loops e)
+  test_does : (slots : List Slot) (result : PlainType) (loops : ℕ) (s : Scopes) (g : Stage slots s) (rs : List MonType) (e : Expression) → IsFull most e → IsCondition s e → HasLetters e → count w + count w ≤ length rs
+      → length (rs ++ temporaries e) ≤ w.registers → Tests w slots result loops n s (eval_with e w.call) (test w.numbers rs loops e)
   test_does slots result loops s g rs e pure q l behind enough =
       let i = condition_int s e q in
       tests w slots result loops n s g.sight e rs i.int i.is pure.is q.typed l behind enough
 
-  test_if_any_does : (slots : List Slot) (result : PlainType) (loops : ℕ) (s : Scopes) (g : Stage slots s) (rs : List MonType) (e : Option Expression) → WhereAny (IsFull most) e → WhereAny (IsCondition s) e → Any HasLetters e → count w + count w ≤ length rs → length (rs ++ any_temporaries temporaries e) ≤ w.registers → Tests w slots result loops n s (condition_with e w.call) (test_if_any w.numbers rs loops e)
+  test_if_any_does : (slots : List Slot) (result : PlainType) (loops : ℕ) (s : Scopes) (g : Stage slots s) (rs : List MonType) (e : Option Expression) → WhereAny (IsFull most) e → WhereAny (IsCondition s) e → Any HasLetters e
+      → count w + count w ≤ length rs → length (rs ++ any_temporaries temporaries e) ≤ w.registers → Tests w slots result loops n s (condition_with e w.call) (test_if_any w.numbers rs loops e)
   test_if_any_does slots result loops s g rs None pure q l behind enough = no_test w slots result loops n s
   test_if_any_does slots result loops s g rs (Some e) pure q l behind enough = test_does slots result loops s g rs e pure q l behind enough
 
   -- `if`
-  choice_does : (h : Here) (s : Scopes) (g : Stage h.slots s) (rs : List MonType) (e : Expression) (x y : Evaluation (Unit {0})) (a b : MonStatements) → IsFull most e → IsCondition s e → HasLetters e → count w + count w ≤ length rs → length (rs ++ temporaries e) ≤ w.registers → DoSame h s x a → DoSame h s y b → DoSame h s (λ s. on_outcome (eval_with e w.call s) (λ v. source.choose v x y)) (before (setup w.numbers rs e) (one (tree.If (condition_of w.numbers rs e) a b)))
+  choice_does : (h : Here) (s : Scopes) (g : Stage h.slots s) (rs : List MonType) (e : Expression) (x y : Evaluation (Unit {0})) (a b : MonStatements) → IsFull most e → IsCondition s e → HasLetters e → count w + count w ≤ length rs
+      → length (rs ++ temporaries e) ≤ w.registers → DoSame h s x a → DoSame h s y b → DoSame h s (λ s. on_outcome (eval_with e w.call s) (λ v. source.choose v x y)) (before (setup w.numbers rs e) (one (tree.If (condition_of w.numbers rs e) a b)))
   choice_does h s g rs e x y a b pure q l behind enough f k = λ regs from t m le.
       let i = condition_int s e q in
       follows_value w h Next i.int n from t (eval_with e w.call from) (λ v. source.choose v x y) regs (length rs) (length (rs ++ temporaries e)) (setup w.numbers rs e) (one (tree.If (condition_of w.numbers rs e) a b)) (value w.numbers rs e)
@@ -189,7 +199,8 @@ module _ (p : TranslationUnit) (w : Setting) (n most : ℕ) (names : List (List 
       subst (λ d. Follows w h Next from (source.choose (Integer z) x y from) d) (sym (if_runs w n t (condition_of w.numbers rs e) a b after c.0 c.1))
       (follows_choice w h Next from from z c.0 x y _ _ c.2 (f after from t m2 le) (k after from t m2 le)))
 
-  return_does : (h : Here) (spot : Spot) (at : At w spot h) (s : Scopes) (g : Stage h.slots s) (rs : List MonType) (e : Option Expression) → WhereAny (IsFullOrCall most) e → Returned s h.result e → Any FullHasLetters e → count w + count w ≤ length rs → length (rs ++ any_temporaries full_temporaries e) ≤ w.registers → (at_place : Place) → DoSame h s (exec_with (Return at_place e) w.call (suc n)) (target.returned p w.numbers spot rs e)
+  return_does : (h : Here) (spot : Spot) (at : At w spot h) (s : Scopes) (g : Stage h.slots s) (rs : List MonType) (e : Option Expression) → WhereAny (IsFullOrCall most) e → Returned s h.result e → Any FullHasLetters e → count w + count w ≤ length rs
+      → length (rs ++ any_temporaries full_temporaries e) ≤ w.registers → (at_place : Place) → DoSame h s (exec_with (Return at_place e) w.call (suc n)) (target.returned p w.numbers spot rs e)
   return_does h spot at s g rs None pure q l behind enough place = λ regs from t m le.
       leave_follows w n spot h at from regs t m.related m.beside None None (subst (λ k. IsResult k None) (sym q) tt) (λ u. one_is (tree.Return None) w.calls n regs u)
   return_does h spot at s g rs (Some e) pure q l behind enough place = λ regs from t m le.
@@ -216,22 +227,29 @@ module _ (p : TranslationUnit) (w : Setting) (n most : ℕ) (names : List (List 
   objects_stage slots s [] x g = g
   objects_stage slots s (d ∷ ds) x g = objects_stage slots (with_object s d) ds x.1 (object_stage slots s d x.0 g)
 
-  declared_does : (h : Here) (ds : List Declaration) (s : Scopes) (rs : List MonType) (rest : Evaluation (Unit {0})) (code : MonStatements) → Stage h.slots s → HaveSlots h.slots ds → AreInitialised most ds → AreDeclared s ds → InitialsHaveLetters ds → count w + count w ≤ length rs → length (rs ++ declaration_temporaries ds) ≤ w.registers → DoSame h (with_objects s ds) rest code → DoSame h s (initialise_all ds w.call >> rest) (before (effects.initialise_all p w.numbers rs ds) code)
+  declared_does : (h : Here) (ds : List Declaration) (s : Scopes) (rs : List MonType) (rest : Evaluation (Unit {0})) (code : MonStatements) → Stage h.slots s → HaveSlots h.slots ds → AreInitialised most ds → AreDeclared s ds → InitialsHaveLetters ds
+      → count w + count w ≤ length rs → length (rs ++ declaration_temporaries ds) ≤ w.registers → DoSame h (with_objects s ds) rest code → DoSame h s (initialise_all ds w.call >> rest) (before (effects.initialise_all p w.numbers rs ds) code)
   declared_does h [] s rs rest code g x pure q l behind enough go = go
   declared_does h (d ∷ ds) s rs rest code g x pure q l behind enough go = λ regs from t m le.
       let here = initial_temporaries d.init in
       let next = rs ++ here in
       let long = two rs here (declaration_temporaries ds) in
       let later = declared_does h ds (with_object s d) next rest code (object_stage h.slots s d x.0 g) x.1 pure.1 q.1 l.1 (omega (arith, behind, longer rs here)) (omega (arith, long, enough)) go in
-      subst (λ r. Follows w h Next from r (runs w n t (before (before (effects.initialise p w.numbers rs (number_of d) d.init) (effects.initialise_all p w.numbers next ds)) code) regs)) (sym (handed_on (source.initialise d d.init w.call from) (λ _. initialise_all ds w.call) (λ _. rest)))
-      (subst (λ a. Follows w h Next from (on_outcome (source.initialise d d.init w.call from) (λ _. initialise_all ds w.call >> rest)) (runs w n t a regs)) (sym (before_assoc (effects.initialise p w.numbers rs (number_of d) d.init) (effects.initialise_all p w.numbers next ds) code))
+      subst (λ r. Follows w h Next from r (runs w n t (before (before (effects.initialise p w.numbers rs (number_of d) d.init) (effects.initialise_all p w.numbers next ds)) code) regs))
+          (sym (handed_on (source.initialise d d.init w.call from) (λ _. initialise_all ds w.call) (λ _. rest)))
+      (subst (λ a. Follows w h Next from (on_outcome (source.initialise d d.init w.call from) (λ _. initialise_all ds w.call >> rest)) (runs w n t a regs))
+          (sym (before_assoc (effects.initialise p w.numbers rs (number_of d) d.init) (effects.initialise_all p w.numbers next ds) code))
       (by regs from t m le d.init (omega (arith, long, longer next (declaration_temporaries ds), enough)) pure.0 q.0.init l.0
-      (λ to u o after r be la is_set. later after to u (record { related = r; beside = be; ready = ready_declared to.store h.slots s.objects d x.0 is_set (ready_later from.store to.store h.slots s.objects la.kept m.ready) }) (omega (arith, le, la.spent)))))
+      (λ to u o after r be la is_set. later after to u (record { related = r; beside = be; ready = ready_declared to.store h.slots s.objects d x.0 is_set (ready_later from.store to.store h.slots s.objects la.kept m.ready) })
+          (omega (arith, le, la.spent)))))
     where
       after_it : MonStatements
       after_it = before (effects.initialise_all p w.numbers (rs ++ initial_temporaries d.init) ds) code
 
-      by : (regs : List BlockValue) (from : State) (t : Target) (m : Meets w h.slots s.objects regs from t) (le : from.steps ≤ n) → (o : Option (Place × Initialiser)) → length (rs ++ initial_temporaries o) ≤ w.registers → IsInitialiser most o → Initialises s d.ctype o → InitialHasLetters o → ((to : State) (u : Target) (out : List ℕ) (after : List BlockValue) → Related w h.slots after to → Beside w h.slots to u → Later h.slots from to out → IsSet to.store x.0.slot → Follows w h Next to ((initialise_all ds w.call >> rest) to) (runs w n u after_it after)) → Follows w h Next from (on_outcome (source.initialise d o w.call from) (λ _. initialise_all ds w.call >> rest)) (runs w n t (before (effects.initialise p w.numbers rs (number_of d) o) after_it) regs)
+      by : (regs : List BlockValue) (from : State) (t : Target) (m : Meets w h.slots s.objects regs from t) (le : from.steps ≤ n) → (o : Option (Place × Initialiser)) → length (rs ++ initial_temporaries o) ≤ w.registers → IsInitialiser most o
+          → Initialises s d.ctype o → InitialHasLetters o → ((to : State) (u : Target) (out : List ℕ) (after : List BlockValue) → Related w h.slots after to → Beside w h.slots to u → Later h.slots from to out → IsSet to.store x.0.slot
+          → Follows w h Next to ((initialise_all ds w.call >> rest) to) (runs w n u after_it after))
+          → Follows w h Next from (on_outcome (source.initialise d o w.call from) (λ _. initialise_all ds w.call >> rest)) (runs w n t (before (effects.initialise p w.numbers rs (number_of d) o) after_it) regs)
       by regs from t m le None room i j k go = absurd i
       by regs from t m le (Some (at, One e)) room i j k go =
           initial_follows p w n h s (scene_of h.slots s g) from t m.ready le rs behind regs m.related m.beside d at e x.0.slot (initialise_all ds w.call >> rest) after_it x.0.found x.0.ctype i.is j.0 j.1 k room go
@@ -239,7 +257,8 @@ module _ (p : TranslationUnit) (w : Setting) (n most : ℕ) (names : List (List 
   -- ---- blocks
 
   -- variables are born, and live while this is done
-  pub block_does : (h : Here) (s : Scopes) (g : Stage h.slots s) (room : count w + count w ≤ w.registers) (ds : List Declaration) (x : Evaluation (Unit {0})) (a : MonStatements) → AllCanBeBorn w.numbers (decls_of h.slots) ds → ((old : State) → Stage (behind_births h old ds).slots s → HaveSlots (behind_births h old ds).slots ds → DoSame (behind_births h old ds) s x a) → DoSame h s (within (births ds >> x)) (target.alive w.numbers ds a)
+  pub block_does : (h : Here) (s : Scopes) (g : Stage h.slots s) (room : count w + count w ≤ w.registers) (ds : List Declaration) (x : Evaluation (Unit {0})) (a : MonStatements) → AllCanBeBorn w.numbers (decls_of h.slots) ds
+      → ((old : State) → Stage (behind_births h old ds).slots s → HaveSlots (behind_births h old ds).slots ds → DoSame (behind_births h old ds) s x a) → DoSame h s (within (births ds >> x)) (target.alive w.numbers ds a)
   block_does h s g room ds x a c f = λ regs from t m le.
       block_follows w h n room ds x a regs from t m.related m.beside c (λ to after u r b l.
       f from (record { sight = sight_behind w.numbers (length from.store) ds h.slots s.objects c g.sight; names_are = g.names_are; functions_are = g.functions_are })
@@ -257,7 +276,9 @@ module _ (p : TranslationUnit) (w : Setting) (n most : ℕ) (names : List (List 
       (statement p w.numbers (target.in_loop spot) (rs ++ any_temporaries temporaries e) a)
       (effect_if_any p w.numbers (rs ++ any_temporaries temporaries e ++ statement_temporaries a) step))
 
-  for_does : (h : Here) (spot : Spot) (s : Scopes) (g : Stage h.slots s) (rs : List MonType) (e step : Option Expression) (a : Statement) → WhereAny (IsFull most) e → WhereAny (IsCondition s) e → Any HasLetters e → WhereAny (IsFullEffect most) step → WhereAny (WellTyped s) step → Any EffectHasLetters step → count w + count w ≤ length rs → length (rs ++ any_temporaries temporaries e ++ statement_temporaries a ++ any_temporaries effect_temporaries step) ≤ w.registers → DoSame (in_body w h.slots h.result (spot.loops + 1)) s (exec_with a w.call (suc n)) (statement p w.numbers (target.in_loop spot) (rs ++ any_temporaries temporaries e) a) → DoSame h s (for_turns e step a) (for_code spot rs e step a)
+  for_does : (h : Here) (spot : Spot) (s : Scopes) (g : Stage h.slots s) (rs : List MonType) (e step : Option Expression) (a : Statement) → WhereAny (IsFull most) e → WhereAny (IsCondition s) e → Any HasLetters e → WhereAny (IsFullEffect most) step
+      → WhereAny (WellTyped s) step → Any EffectHasLetters step → count w + count w ≤ length rs → length (rs ++ any_temporaries temporaries e ++ statement_temporaries a ++ any_temporaries effect_temporaries step) ≤ w.registers
+      → DoSame (in_body w h.slots h.result (spot.loops + 1)) s (exec_with a w.call (suc n)) (statement p w.numbers (target.in_loop spot) (rs ++ any_temporaries temporaries e) a) → DoSame h s (for_turns e step a) (for_code spot rs e step a)
   for_does h spot s g rs e step a e_full e_typed e_letters step_full step_typed step_letters behind enough body = λ regs from t m le.
       let te = any_temporaries temporaries e in
       let ta = statement_temporaries a in
@@ -276,9 +297,14 @@ module _ (p : TranslationUnit) (w : Setting) (n most : ℕ) (names : List (List 
   -- what stands first, and then the loop
   abbrev BodyDoes : ForFirst → Scopes → Here → Spot → List MonType → Option Expression → Statement → Type 0
   BodyDoes first s h spot rs e a =
-      (old : State) → Stage (behind_births h old (declared_first first)).slots (behind_first (inner s) first) → DoSame (in_body w (behind_births h old (declared_first first)).slots h.result (spot.loops + 1)) (behind_first (inner s) first) (exec_with a w.call (suc n)) (statement p w.numbers (target.in_loop (with_variables w.numbers (declared_first first) spot)) (rs ++ first_temporaries first ++ any_temporaries temporaries e) a)
+      (old : State) → Stage (behind_births h old (declared_first first)).slots (behind_first (inner s) first)
+          → DoSame (in_body w (behind_births h old (declared_first first)).slots h.result (spot.loops + 1)) (behind_first (inner s) first) (exec_with a w.call (suc n))
+          (statement p w.numbers (target.in_loop (with_variables w.numbers (declared_first first) spot)) (rs ++ first_temporaries first ++ any_temporaries temporaries e) a)
 
-  first_then : (first : ForFirst) (s : Scopes) (r : Around) (h : Here) (spot : Spot) (rs : List MonType) (x : Evaluation (Unit {0})) (code : MonStatements) (old : State) → Stage (behind_births h old (declared_first first)).slots (inner s) → HaveSlots (behind_births h old (declared_first first)).slots (declared_first first) → FirstFormed most first → FirstTyped (inner s) r first → FirstHasNumbers first → count w + count w ≤ length rs → length (rs ++ first_temporaries first) ≤ w.registers → (Stage (behind_births h old (declared_first first)).slots (behind_first (inner s) first) → DoSame (behind_births h old (declared_first first)) (behind_first (inner s) first) x code) → DoSame (behind_births h old (declared_first first)) (inner s) (first_with first w.call (suc n) >> x) (before (first_part p w.numbers (with_variables w.numbers (declared_first first) spot) rs first) code)
+  first_then : (first : ForFirst) (s : Scopes) (r : Around) (h : Here) (spot : Spot) (rs : List MonType) (x : Evaluation (Unit {0})) (code : MonStatements) (old : State) → Stage (behind_births h old (declared_first first)).slots (inner s)
+      → HaveSlots (behind_births h old (declared_first first)).slots (declared_first first) → FirstFormed most first → FirstTyped (inner s) r first → FirstHasNumbers first → count w + count w ≤ length rs
+      → length (rs ++ first_temporaries first) ≤ w.registers → (Stage (behind_births h old (declared_first first)).slots (behind_first (inner s) first) → DoSame (behind_births h old (declared_first first)) (behind_first (inner s) first) x code)
+      → DoSame (behind_births h old (declared_first first)) (inner s) (first_with first w.call (suc n) >> x) (before (first_part p w.numbers (with_variables w.numbers (declared_first first) spot) rs first) code)
   first_then NoFirst s r h spot rs x code old g have f q l behind enough go = go g
   first_then (First (Run (Eval at e))) s r h spot rs x code old g have f q l behind enough go =
       in_order (behind_births h old []) (inner s) (effect_with (Some e) w.call) x (effects.effect p w.numbers rs e) code (effect_does (behind_births h old []) (inner s) g rs e f.is q l behind enough) (go g)
@@ -286,7 +312,11 @@ module _ (p : TranslationUnit) (w : Setting) (n most : ℕ) (names : List (List 
       declared_does (behind_births h old ds) ds (inner s) rs x code g have f q l behind enough (go (objects_stage (behind_births h old ds).slots (inner s) ds have g))
   first_then _ s r h spot rs x code old g have f q l behind enough go = absurd f
 
-  for_follows : (at : Place) (annots : List Annotation) (first : ForFirst) (s : Scopes) (r : Around) (h : Here) (spot : Spot) (rs : List MonType) (e step : Option Expression) (a : Statement) → Stage h.slots s → AllCanBeBorn w.numbers (decls_of h.slots) (declared_first first) → FirstFormed most first → FirstTyped (inner s) r first → FirstHasNumbers first → WhereAny (IsFull most) e → WhereAny (IsCondition (behind_first (inner s) first)) e → Any HasLetters e → WhereAny (IsFullEffect most) step → WhereAny (WellTyped (behind_first (inner s) first)) step → Any EffectHasLetters step → count w + count w ≤ length rs → length (rs ++ statement_temporaries (For at annots first e step a)) ≤ w.registers → BodyDoes first s h spot rs e a → DoSame h s (exec_with (For at annots first e step a) w.call (suc n)) (statement p w.numbers spot rs (For at annots first e step a))
+  for_follows : (at : Place) (annots : List Annotation) (first : ForFirst) (s : Scopes) (r : Around) (h : Here) (spot : Spot) (rs : List MonType) (e step : Option Expression) (a : Statement) → Stage h.slots s
+      → AllCanBeBorn w.numbers (decls_of h.slots) (declared_first first) → FirstFormed most first → FirstTyped (inner s) r first → FirstHasNumbers first → WhereAny (IsFull most) e → WhereAny (IsCondition (behind_first (inner s) first)) e
+      → Any HasLetters e → WhereAny (IsFullEffect most) step → WhereAny (WellTyped (behind_first (inner s) first)) step → Any EffectHasLetters step → count w + count w ≤ length rs
+      → length (rs ++ statement_temporaries (For at annots first e step a)) ≤ w.registers → BodyDoes first s h spot rs e a
+      → DoSame h s (exec_with (For at annots first e step a) w.call (suc n)) (statement p w.numbers spot rs (For at annots first e step a))
   for_follows at annots first s r h spot rs e step a g c f_formed f_typed f_letters e_full e_typed e_letters step_full step_typed step_letters behind enough body = λ regs from t m le.
       let ds = declared_first first in
       let spot2 = with_variables w.numbers ds spot in
@@ -311,12 +341,15 @@ module _ (p : TranslationUnit) (w : Setting) (n most : ℕ) (names : List (List 
   -- ---- all statements
 
   mutual
-    pub statement_follows : (a : Statement) (s : Scopes) (r : Around) (h : Here) (spot : Spot) (rs : List MonType) → At w spot h → Stage h.slots s → r.result ≡ h.result → r.loops ≡ h.looped → CanDeclare w.numbers (decls_of h.slots) a → StatementFormed most a → StatementTyped s r a → StatementNoted s a → HasNumbers a → count w + count w ≤ length rs → length (rs ++ statement_temporaries a) ≤ w.registers → DoSame h s (exec_with a w.call (suc n)) (statement p w.numbers spot rs a)
+    pub statement_follows : (a : Statement) (s : Scopes) (r : Around) (h : Here) (spot : Spot) (rs : List MonType) → At w spot h → Stage h.slots s → r.result ≡ h.result → r.loops ≡ h.looped → CanDeclare w.numbers (decls_of h.slots) a
+        → StatementFormed most a → StatementTyped s r a → StatementNoted s a → HasNumbers a → count w + count w ≤ length rs → length (rs ++ statement_temporaries a) ≤ w.registers
+        → DoSame h s (exec_with a w.call (suc n)) (statement p w.numbers spot rs a)
     statement_follows (Empty at) s r h spot rs stands g result looped c f q m l behind enough = λ regs from t x le. stays w h regs from t x.related x.beside
     statement_follows (Eval at e) s r h spot rs stands g result looped c f q m l behind enough = effect_does h s g rs e f.is q l behind enough
     statement_follows (Block at body) s r h spot rs stands g result looped c f q m l behind enough =
         block_does h s g (omega (arith, behind, enough, longer rs (items_temporaries body))) (declared_in body) (items_with body w.call (suc n)) (items p w.numbers (with_variables w.numbers (declared_in body) spot) rs body) c.0 (λ old g2 have.
-        items_follow body (inner s) r (behind_births h old (declared_in body)) (with_variables w.numbers (declared_in body) spot) rs (at_births w spot h old (declared_in body) stands) (inner_stage (behind_births h old (declared_in body)).slots s g2) have result looped
+        items_follow body (inner s) r (behind_births h old (declared_in body)) (with_variables w.numbers (declared_in body) spot) rs (at_births w spot h old (declared_in body) stands) (inner_stage (behind_births h old (declared_in body)).slots s g2)
+            have result looped
         (subst (λ living. ItemsCanDeclare w.numbers living body) (sym (decls_of-born (length old.store) (declared_in body) h.slots)) c.1) f q m l behind enough)
     statement_follows (If at e a b) s r h spot rs stands g result looped c f q m l behind enough =
         let te = temporaries e in
@@ -366,11 +399,14 @@ module _ (p : TranslationUnit) (w : Setting) (n most : ℕ) (names : List (List 
     statement_follows (Continue at) s r h spot rs stands g result looped c f q m l behind enough = λ regs from t x le. continue_follows w n spot h stands from regs t x.related x.beside (sym looped ∙ q)
     statement_follows (Return at e) s r h spot rs stands g result looped c f q m l behind enough = return_does h spot stands s g rs e f (subst (λ k. Returned s k e) result q) l behind enough at
 
-    pub else_follows : (b : ElsePart) (s : Scopes) (r : Around) (h : Here) (spot : Spot) (rs : List MonType) → At w spot h → Stage h.slots s → r.result ≡ h.result → r.loops ≡ h.looped → ElseCanDeclare w.numbers (decls_of h.slots) b → ElseFormed most b → ElseTyped s r b → ElseNoted s b → ElseHasNumbers b → count w + count w ≤ length rs → length (rs ++ else_temporaries b) ≤ w.registers → DoSame h s (else_with b w.call (suc n)) (else_part p w.numbers spot rs b)
+    pub else_follows : (b : ElsePart) (s : Scopes) (r : Around) (h : Here) (spot : Spot) (rs : List MonType) → At w spot h → Stage h.slots s → r.result ≡ h.result → r.loops ≡ h.looped → ElseCanDeclare w.numbers (decls_of h.slots) b
+        → ElseFormed most b → ElseTyped s r b → ElseNoted s b → ElseHasNumbers b → count w + count w ≤ length rs → length (rs ++ else_temporaries b) ≤ w.registers → DoSame h s (else_with b w.call (suc n)) (else_part p w.numbers spot rs b)
     else_follows NoElse s r h spot rs stands g result looped c f q m l behind enough = λ regs from t x le. stays w h regs from t x.related x.beside
     else_follows (Else a) s r h spot rs stands g result looped c f q m l behind enough = statement_follows a s r h spot rs stands g result looped c f q m l behind enough
 
-    pub items_follow : (is : BlockItems) (s : Scopes) (r : Around) (h : Here) (spot : Spot) (rs : List MonType) → At w spot h → Stage h.slots s → HaveSlots h.slots (declared_in is) → r.result ≡ h.result → r.loops ≡ h.looped → ItemsCanDeclare w.numbers (decls_of h.slots) is → ItemsFormed most is → ItemsTyped s r is → ItemsNoted s is → HaveNumbers is → count w + count w ≤ length rs → length (rs ++ items_temporaries is) ≤ w.registers → DoSame h s (items_with is w.call (suc n)) (items p w.numbers spot rs is)
+    pub items_follow : (is : BlockItems) (s : Scopes) (r : Around) (h : Here) (spot : Spot) (rs : List MonType) → At w spot h → Stage h.slots s → HaveSlots h.slots (declared_in is) → r.result ≡ h.result → r.loops ≡ h.looped
+        → ItemsCanDeclare w.numbers (decls_of h.slots) is → ItemsFormed most is → ItemsTyped s r is → ItemsNoted s is → HaveNumbers is → count w + count w ≤ length rs → length (rs ++ items_temporaries is) ≤ w.registers
+        → DoSame h s (items_with is w.call (suc n)) (items p w.numbers spot rs is)
     items_follow NoItem s r h spot rs stands g have result looped c f q m l behind enough = λ regs from t x le. stays w h regs from t x.related x.beside
     items_follow (Then (Declare ds) rest) s r h spot rs stands g have result looped c f q m l behind enough =
         let td = declaration_temporaries ds in
@@ -378,7 +414,8 @@ module _ (p : TranslationUnit) (w : Setting) (n most : ℕ) (names : List (List 
         let all = two rs td tr in
         let x = have_front h.slots ds (declared_in rest) have in
         declared_does h ds s rs (items_with rest w.call (suc n)) (items p w.numbers spot (rs ++ td) rest) g x f.0 q.0 l.0 behind (omega (arith, enough, all, longer (rs ++ td) tr))
-        (items_follow rest (with_objects s ds) r h spot (rs ++ td) stands (objects_stage h.slots s ds x g) (have_behind h.slots ds (declared_in rest) have) result looped c.1 f.1 q.1 m.1 l.1 (omega (arith, behind, longer rs td)) (omega (arith, enough, all)))
+        (items_follow rest (with_objects s ds) r h spot (rs ++ td) stands (objects_stage h.slots s ds x g) (have_behind h.slots ds (declared_in rest) have) result looped c.1 f.1 q.1 m.1 l.1 (omega (arith, behind, longer rs td))
+            (omega (arith, enough, all)))
     items_follow (Then (Run a) rest) s r h spot rs stands g have result looped c f q m l behind enough =
         let ta = statement_temporaries a in
         let tr = items_temporaries rest in

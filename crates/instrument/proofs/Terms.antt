@@ -98,7 +98,8 @@ record Means (names : List ℕ) (t : LogicTerm) (s : State) (regs : List BlockVa
   target_is : Has (term names t) regs value
 
 -- a sum or a difference
-combined : (names : List ℕ) (at : Place) (r : Range) (c : Option PlainType) (op : BinOp) (a b : LogicTerm) (s : State) (regs : List BlockValue) (z : ℤ) (p : Means names a s regs) (q : Means names b s regs) → leaves_of_term a + leaves_of_term b ≤ 400 → Within (leaves_of_term a * most + leaves_of_term b * most) z → compute op p.value q.value ≡ Some (Mathematical z) → operate (operator_of op) I128 p.value q.value ≡ Some (wrap I128 z) → Means names (Binary at c r op a b) s regs
+combined : (names : List ℕ) (at : Place) (r : Range) (c : Option PlainType) (op : BinOp) (a b : LogicTerm) (s : State) (regs : List BlockValue) (z : ℤ) (p : Means names a s regs) (q : Means names b s regs) → leaves_of_term a + leaves_of_term b ≤ 400
+    → Within (leaves_of_term a * most + leaves_of_term b * most) z → compute op p.value q.value ≡ Some (Mathematical z) → operate (operator_of op) I128 p.value q.value ≡ Some (wrap I128 z) → Means names (Binary at c r op a b) s regs
 combined names at r c op a b s regs z p q short fits e f = record {
   value = z;
   within = within;

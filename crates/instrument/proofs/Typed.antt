@@ -32,7 +32,8 @@ use Rattle.mon_syntax.specs.Trees.{MonExpression}
 use Rattle.mon_syntax.specs.Checking.{same_type}
 use Rattle.mon_syntax.specs.Valid.{Types, HasType, has_constant, is_arithmetic, is_whole, is_relation, result_type, open_parens, IsExpression, IsStatement, Labels, Signature}
 use Rattle.c_effects.specs.Letters.{IsLetter, HasLetters, TermHasLetters, BodyHasLetters, IsNumbered}
-use Rattle.c_effects.specs.Expressions.{register_type, value_type, operand_type, operator_of, in_type, compared, condition, truth, unary, binary, compound_in, temporaries, value, truth_of, condition_of, term, relation_operator, truth_of_body, assertion}
+use Rattle.c_effects.specs.Expressions.{register_type, value_type, operand_type, operator_of, in_type, compared, condition, truth, unary, binary, compound_in, temporaries, value, truth_of, condition_of, term, relation_operator, truth_of_body}
+use Rattle.c_effects.specs.Expressions.{assertion}
 use Rattle.track_scopes.specs.Blocks.{register_of}
 use Rattle.instrument.proofs.Integers.{operand_is}
 use Rattle.instrument.proofs.Values.{result_type_is}
@@ -247,7 +248,8 @@ few_parens numbers rs (Node at t (Binary op a b)) =
     let q = few_parens numbers (rs ++ temporaries a) b in
     let s = parens_in_type (value_type (type_of b)) (value_type (type_of a)) (value numbers (rs ++ temporaries a) b) in
     let one : max 1 (open_parens (value numbers (rs ++ temporaries a) b)) ≤ 2 * nodes_of b = max-le (omega (arith, some_nodes b)) q in
-    let m : max (open_parens (value numbers rs a)) (open_parens (in_type (value_type (type_of b)) (value_type (type_of a)) (value numbers (rs ++ temporaries a) b))) ≤ 2 * nodes_of a + 2 * nodes_of b + 1 = max-le (omega (arith, p)) (omega (arith, s, one)) in
+    let m : max (open_parens (value numbers rs a)) (open_parens (in_type (value_type (type_of b)) (value_type (type_of a)) (value numbers (rs ++ temporaries a) b))) ≤ 2 * nodes_of a + 2 * nodes_of b + 1 =
+        max-le (omega (arith, p)) (omega (arith, s, one)) in
     omega (arith, m)
 few_parens numbers rs (Node at t (Both a b)) = omega arith
 few_parens numbers rs (Node at t (Either a b)) = omega arith
@@ -329,7 +331,8 @@ module _ (ts : Types) where
       subst (λ l. HasType ts (compared mon.Eq (value_type u) e) (register_type l)) (same_int_type c.I32 k (sym h.0 ∙ int))
       (compared_typed mon.Eq (value_type u) e (value_whole u) refl (subst (HasType ts e) (ap value_type (sym i.is)) (g i.int i.is)))
 
-  binary_typed : (op : BinOp) (t u v : PlainType) (k : CInt) (a b : MonExpression) → BinaryTypes op t u v → t ≡ Int k → ((l : CInt) → u ≡ Int l → HasType ts a (register_type l)) → ((l : CInt) → v ≡ Int l → HasType ts b (register_type l)) → HasType ts (binary op (value_type u) (value_type v) a b) (register_type k)
+  binary_typed : (op : BinOp) (t u v : PlainType) (k : CInt) (a b : MonExpression) → BinaryTypes op t u v → t ≡ Int k → ((l : CInt) → u ≡ Int l → HasType ts a (register_type l)) → ((l : CInt) → v ≡ Int l → HasType ts b (register_type l))
+      → HasType ts (binary op (value_type u) (value_type v) a b) (register_type k)
   binary_typed op t u v k a b h int f g =
       let m = binary_at op t u v k h int in
       let left = value_type u in (
@@ -339,7 +342,8 @@ module _ (ts : Types) where
         in_typed (value_type v) left b (value_whole v) (value_whole u) (subst (HasType ts b) (ap value_type (sym m.right_is)) (g m.right m.right_is)),
       )
 
-  pub compound_typed : (op : BinOp) (k l : CInt) (a b : MonExpression) → HasType ts a (register_type k) → HasType ts b (register_type l) → HasType ts (compound_in op (register_type (operation_type op k l)) (register_type k) (register_type l) a b) (register_type k)
+  pub compound_typed : (op : BinOp) (k l : CInt) (a b : MonExpression) → HasType ts a (register_type k) → HasType ts b (register_type l)
+      → HasType ts (compound_in op (register_type (operation_type op k l)) (register_type k) (register_type l) a b) (register_type k)
   compound_typed op k l a b f g =
       let i = operation_type op k l in
       let m = register_type i in
@@ -352,7 +356,8 @@ module _ (ts : Types) where
 
   pub choice_begins : (x y z : Expression) (t : MonType) (rs : Types) → Begins (rs ++ (temporaries x ++ temporaries y ++ temporaries z ++ t ∷ [])) ts → Begins (rs ++ temporaries x ++ temporaries y ++ temporaries z ++ t ∷ []) ts
   choice_begins x y z t rs h =
-      subst (λ l. Begins l ts) (sym (append_assoc rs (temporaries x ++ temporaries y ++ temporaries z) (t ∷ [])) ∙ ap (λ l. l ++ t ∷ []) (sym (append_assoc rs (temporaries x ++ temporaries y) (temporaries z)) ∙ ap (λ l. l ++ temporaries z) (sym (append_assoc rs (temporaries x) (temporaries y))))) h
+      subst (λ l. Begins l ts) (sym (append_assoc rs (temporaries x ++ temporaries y ++ temporaries z) (t ∷ [])) ∙ ap (λ l. l ++ t ∷ []) (sym (append_assoc rs (temporaries x ++ temporaries y) (temporaries z)) ∙ ap (λ l. l ++ temporaries z)
+          (sym (append_assoc rs (temporaries x) (temporaries y))))) h
 
   module _ (numbers : List ℕ) (scopes : Scopes) (sees : AreSeen ts numbers scopes.objects) where
     -- the variable that a name denotes
@@ -408,7 +413,8 @@ module _ (ts : Types) where
         record { typed = truth_typed (value_type (type_of e)) (value numbers rs e) (value_whole (type_of e)) (subst (HasType ts (value numbers rs e)) (ap value_type (sym int)) (typed e k rs int p q l b)); within = omega (arith, m, few) }
 
     -- `op=` on a register
-    pub compound_valid : (op : BinOp) (k i : CInt) (r : ℕ) (e : Expression) (rs : Types) → slice_get ts r ≡ Some (register_type k) → type_of e ≡ Int i → IsPure e → WellTyped scopes e → HasLetters e → nodes_of e ≤ 800 → Begins (rs ++ temporaries e) ts → IsExpression ts (compound_in op (register_type (operation_type op k i)) (register_type k) (register_type i) (tree.Register r) (value numbers rs e)) (register_type k)
+    pub compound_valid : (op : BinOp) (k i : CInt) (r : ℕ) (e : Expression) (rs : Types) → slice_get ts r ≡ Some (register_type k) → type_of e ≡ Int i → IsPure e → WellTyped scopes e → HasLetters e → nodes_of e ≤ 800 → Begins (rs ++ temporaries e) ts
+        → IsExpression ts (compound_in op (register_type (operation_type op k i)) (register_type k) (register_type i) (tree.Register r) (value numbers rs e)) (register_type k)
     compound_valid op k i r e rs reg int p q l few b =
         let m = parens_compound op (register_type (operation_type op k i)) (register_type k) (register_type i) (tree.Register r) (value numbers rs e) (2 * nodes_of e) (omega arith) (few_parens numbers rs e) (omega (arith, some_nodes e)) in
         record { typed = compound_typed op k i (tree.Register r) (value numbers rs e) reg (typed e i rs int p q l b); within = omega (arith, m, few) }
@@ -439,7 +445,8 @@ module _ (ts : Types) where
         let m : max (open_parens (term numbers a)) (open_parens (term numbers b)) ≤ leaves_of_term a + leaves_of_term b = max-le (omega (arith, few_parens_of_term a, one_leaf b)) (omega (arith, few_parens_of_term b, one_leaf a)) in
         omega (arith, m)
 
-    relation_valid : (r : Relation) (a b : LogicTerm) → IsShortTerm a → IsShortTerm b → TermTyped scopes a → TermTyped scopes b → TermHasLetters a → TermHasLetters b → IsExpression ts (tree.Binary (relation_operator r) I128 (term numbers a) (term numbers b)) I32
+    relation_valid : (r : Relation) (a b : LogicTerm) → IsShortTerm a → IsShortTerm b → TermTyped scopes a → TermTyped scopes b → TermHasLetters a → TermHasLetters b
+        → IsExpression ts (tree.Binary (relation_operator r) I128 (term numbers a) (term numbers b)) I32
     relation_valid r a b p q f g l m =
         let deep : max (open_parens (term numbers a)) (open_parens (term numbers b)) ≤ 401 = max-le (omega (arith, few_parens_of_term a, p.short)) (omega (arith, few_parens_of_term b, q.short)) in
         record { typed = (relation_gives r I128, refl, term_typed a p.is f l, term_typed b q.is g m); within = omega (arith, deep) }

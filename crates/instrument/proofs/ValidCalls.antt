@@ -53,7 +53,8 @@ same_index : (test other : Function → Bool) (fs : List Function) (f g : Functi
 same_index test other [] f g e h i = absurd cc
 same_index test other (a ∷ fs) f g e h i = by (λ x y z. same_index test other fs f g x y z) (is_definition a) (test a) (other a) refl e h i
   where
-    by : (picked test fs ≡ Some f → picked other fs ≡ Some g → index_by test fs ≡ index_by other fs → other f ≡ true) → (x y z : Bool) → other a ≡ z → (if x && y then Some a else picked test fs) ≡ Some f → (if x && z then Some a else picked other fs) ≡ Some g → (if x then (if y then 0 else suc (index_by test fs)) else index_by test fs) ≡ (if x then (if z then 0 else suc (index_by other fs)) else index_by other fs) → other f ≡ true
+    by : (picked test fs ≡ Some f → picked other fs ≡ Some g → index_by test fs ≡ index_by other fs → other f ≡ true) → (x y z : Bool) → other a ≡ z → (if x && y then Some a else picked test fs) ≡ Some f
+        → (if x && z then Some a else picked other fs) ≡ Some g → (if x then (if y then 0 else suc (index_by test fs)) else index_by test fs) ≡ (if x then (if z then 0 else suc (index_by other fs)) else index_by other fs) → other f ≡ true
     by rest true true true is e h i = let same : a ≡ f = cc in ap other (sym same) ∙ is
     by rest true true false is e h i = absurd cc
     by rest true false true is e h i = absurd cc
@@ -83,7 +84,8 @@ module _ (p : TranslationUnit) (q : IsProgram p) (numbers : FunctionsHaveNumbers
   module _ (ts : Types) where
     -- ---- a function of the program
 
-    function_called : (f : Use) (t : PlainType) (es : Expressions) (callee : Known) (g : Function) → is_of_library f ≡ false → definition_at f.decl p.funcs ≡ Some g → IsPicked p (has_number f.decl) m 0 p.funcs g → bytes_eq (name_at p.names g.name) (codes "main") ≡ false → callee.params ≡ typing.types_of g.params → t ≡ g.result → HaveTypes callee.params es → CallValid p signatures ts f t es
+    function_called : (f : Use) (t : PlainType) (es : Expressions) (callee : Known) (g : Function) → is_of_library f ≡ false → definition_at f.decl p.funcs ≡ Some g → IsPicked p (has_number f.decl) m 0 p.funcs g
+        → bytes_eq (name_at p.names g.name) (codes "main") ≡ false → callee.params ≡ typing.types_of g.params → t ≡ g.result → HaveTypes callee.params es → CallValid p signatures ts f t es
     function_called f t es callee g own found i other params result types = record {
       ints = parameter_ints g.params;
       arguments = subst (λ l. HaveTypes l es) (params ∙ ints_of g.params objects) types;
@@ -105,7 +107,8 @@ module _ (p : TranslationUnit) (q : IsProgram p) (numbers : FunctionsHaveNumbers
         named : bytes_eq callee_code.name (codes "main") ≡ false
         named = ap (λ b. bytes_eq (if b then codes "main" else function_name (0 + index_by (has_number f.decl) p.funcs) (name_at p.names g.name)) (codes "main")) (not_main f.decl g found other)
 
-        valid : (into_result : Option MonType) (ls : Labels) (into : Option ℕ) (args : List MonExpression) → TakesValue ts into (result_of t) → AreArguments ts args (map register_type (parameter_ints g.params)) → AreStatements signatures ts into_result ls (call p into f args)
+        valid : (into_result : Option MonType) (ls : Labels) (into : Option ℕ) (args : List MonExpression) → TakesValue ts into (result_of t) → AreArguments ts args (map register_type (parameter_ints g.params))
+            → AreStatements signatures ts into_result ls (call p into f args)
         valid into_result ls into args takes given =
             let is_call : IsCall signatures ts into index args = record {
               callee = signature_of callee_code;
@@ -126,10 +129,13 @@ module _ (p : TranslationUnit) (q : IsProgram p) (numbers : FunctionsHaveNumbers
     abbrev Chosen : Option MonType → Labels → Option ℕ → List MonExpression → Bool → Bool → Bool → Type 0
     Chosen result ls into args x y z = AreStatements signatures ts result ls (if x then one (tree.PutChar into (first_of args)) else (if y then one (tree.GetChar into) else (if z then one (tree.Exit (first_of args)) else NoStatement)))
 
-    chosen : (f : Use) (result : Option MonType) (ls : Labels) (into : Option ℕ) (args : List MonExpression) → is_of_library f ≡ true → Chosen result ls into args (bytes_eq (name_at p.names f.name) (codes "putchar")) (bytes_eq (name_at p.names f.name) (codes "getchar")) (bytes_eq (name_at p.names f.name) (codes "exit")) → AreStatements signatures ts result ls (call p into f args)
+    chosen : (f : Use) (result : Option MonType) (ls : Labels) (into : Option ℕ) (args : List MonExpression) → is_of_library f ≡ true
+        → Chosen result ls into args (bytes_eq (name_at p.names f.name) (codes "putchar")) (bytes_eq (name_at p.names f.name) (codes "getchar")) (bytes_eq (name_at p.names f.name) (codes "exit"))
+        → AreStatements signatures ts result ls (call p into f args)
     chosen f result ls into args own h = subst (λ b. AreStatements signatures ts result ls (if b then library_call into (name_at p.names f.name) args else one (tree.Call into (index_of f.decl p.funcs) args))) (sym own) h
 
-    library_called : (f : Use) (t : PlainType) (es : Expressions) (callee : Known) → is_of_library f ≡ true → library_function f.name (name_at p.names f.name) ≡ Some callee → t ≡ callee.result → HaveTypes callee.params es → CallValid p signatures ts f t es
+    library_called : (f : Use) (t : PlainType) (es : Expressions) (callee : Known) → is_of_library f ≡ true → library_function f.name (name_at p.names f.name) ≡ Some callee → t ≡ callee.result → HaveTypes callee.params es
+        → CallValid p signatures ts f t es
     library_called f t es callee own found result types = by (bytes_eq name (codes "putchar")) (bytes_eq name (codes "getchar")) (bytes_eq name (codes "exit")) refl refl refl found
       where
         name : List ℕ
@@ -150,7 +156,8 @@ module _ (p : TranslationUnit) (q : IsProgram p) (numbers : FunctionsHaveNumbers
         results : (sig : Known) → Some sig ≡ Some callee → t ≡ sig.result
         results sig h = let same : sig ≡ callee = cc in result ∙ ap (λ (g : Known). g.result) (sym same)
 
-        by : (x y z : Bool) → bytes_eq name (codes "putchar") ≡ x → bytes_eq name (codes "getchar") ≡ y → bytes_eq name (codes "exit") ≡ z → (if x then Some put else (if y then Some get else (if z then Some leave else None))) ≡ Some callee → CallValid p signatures ts f t es
+        by : (x y z : Bool) → bytes_eq name (codes "putchar") ≡ x → bytes_eq name (codes "getchar") ≡ y → bytes_eq name (codes "exit") ≡ z → (if x then Some put else (if y then Some get else (if z then Some leave else None))) ≡ Some callee
+            → CallValid p signatures ts f t es
         by true y z ex ey ez h = record {
           ints = c.I32 ∷ [];
           arguments = params put h;
@@ -180,7 +187,8 @@ module _ (p : TranslationUnit) (q : IsProgram p) (numbers : FunctionsHaveNumbers
         by false false false ex ey ez h = absurd cc
 
     -- what the source doesn't call
-    nothing_called : (f : Use) (t : PlainType) (es : Expressions) (callee : Known) (ints : List CInt) → is_of_library f ≡ true → IsOther (name_at p.names f.name) → callee.params ≡ map (λ k. Int k) ints → HaveTypes callee.params es → CallValid p signatures ts f t es
+    nothing_called : (f : Use) (t : PlainType) (es : Expressions) (callee : Known) (ints : List CInt) → is_of_library f ≡ true → IsOther (name_at p.names f.name) → callee.params ≡ map (λ k. Int k) ints → HaveTypes callee.params es
+        → CallValid p signatures ts f t es
     nothing_called f t es callee ints own other params types = record {
       ints = ints;
       arguments = subst (λ l. HaveTypes l es) params types;

@@ -138,7 +138,8 @@ module _ (p : TranslationUnit) (gs : List Signature) (ts : Types) (result : Opti
   abbrev sets_valid : (r : ℕ) (e : MonExpression) (t : MonType) → slice_get ts r ≡ Some t → IsExpression ts e t → Are (set r e)
   sets_valid = set_valid gs ts result numbers scopes sees ls
 
-  arguments_valid : (es : Expressions) (ks : List CInt) (rs : Types) → HaveTypes (map (λ k. Int k) ks) es → ArePure es → AreWellTyped scopes es → ArgumentsHaveLetters es → nodes_of_all es ≤ 800 → Begins (rs ++ arguments_temporaries es) ts → Are (arguments_setup numbers rs es) × AreArguments ts (arguments numbers rs es) (map register_type ks)
+  arguments_valid : (es : Expressions) (ks : List CInt) (rs : Types) → HaveTypes (map (λ k. Int k) ks) es → ArePure es → AreWellTyped scopes es → ArgumentsHaveLetters es → nodes_of_all es ≤ 800 → Begins (rs ++ arguments_temporaries es) ts
+      → Are (arguments_setup numbers rs es) × AreArguments ts (arguments numbers rs es) (map register_type ks)
   arguments_valid NoExpression [] rs types pure q l few b = (tt, tt)
   arguments_valid NoExpression (k ∷ ks) rs types pure q l few b = absurd types
   arguments_valid (Following e es) [] rs types pure q l few b = absurd types
@@ -150,7 +151,8 @@ module _ (p : TranslationUnit) (gs : List Signature) (ts : Types) (result : Opti
         (expression_valid ts numbers scopes sees e k rs types.0 pure.0 q.0 l.0 (omega (arith, few)) here, rest.1),
       )
 
-  called_valid : (f : Use) (u : PlainType) (es : Expressions) (into : Option ℕ) (rs : Types) → ArePure es → AreWellTyped scopes es → Calls scopes f u es → ArgumentsHaveLetters es → nodes_of_all es ≤ 800 → Begins (rs ++ arguments_temporaries es) ts → TakesValue ts into (result_of u) → Are (called p numbers rs into f es)
+  called_valid : (f : Use) (u : PlainType) (es : Expressions) (into : Option ℕ) (rs : Types) → ArePure es → AreWellTyped scopes es → Calls scopes f u es → ArgumentsHaveLetters es → nodes_of_all es ≤ 800 → Begins (rs ++ arguments_temporaries es) ts
+      → TakesValue ts into (result_of u) → Are (called p numbers rs into f es)
   called_valid f u es into rs pure q c l few b takes =
       let v = calls f u es c in
       let args = arguments_valid es v.ints rs v.arguments pure q l few b in
@@ -163,7 +165,8 @@ module _ (p : TranslationUnit) (gs : List Signature) (ts : Types) (result : Opti
   FullValid rs e k = Are (full_setup p numbers rs e) × IsExpression ts (full_value numbers rs e) (register_type k)
 
   -- a call whose value a register takes
-  value_called : (f : Use) (u : PlainType) (k : CInt) (es : Expressions) (rs : Types) → u ≡ Int k → ArePure es → AreWellTyped scopes es → Calls scopes f u es → ArgumentsHaveLetters es → nodes_of_all es ≤ 800 → Begins (rs ++ (arguments_temporaries es ++ value_type u ∷ [])) ts → Are (called p numbers rs (Some (length (rs ++ arguments_temporaries es))) f es) × (slice_get ts (length (rs ++ arguments_temporaries es)) ≡ Some (register_type k))
+  value_called : (f : Use) (u : PlainType) (k : CInt) (es : Expressions) (rs : Types) → u ≡ Int k → ArePure es → AreWellTyped scopes es → Calls scopes f u es → ArgumentsHaveLetters es → nodes_of_all es ≤ 800
+      → Begins (rs ++ (arguments_temporaries es ++ value_type u ∷ [])) ts → Are (called p numbers rs (Some (length (rs ++ arguments_temporaries es))) f es) × (slice_get ts (length (rs ++ arguments_temporaries es)) ≡ Some (register_type k))
   value_called f u k es rs int pure q c l few b =
       let ta = arguments_temporaries es in
       let reg : slice_get ts (length (rs ++ ta)) ≡ Some (register_type k) = register_at (rs ++ ta) ts (value_type u) (begins_right rs ta (value_type u ∷ []) ts b) ∙ ap (λ x. Some (value_type x)) int in
@@ -194,7 +197,8 @@ module _ (p : TranslationUnit) (gs : List Signature) (ts : Types) (result : Opti
   bump_parens op k r = let m = parens_compound op (register_type (operation_type op k c.I32)) (register_type k) I32 (tree.Register r) (tree.Constant I32 (pos 1)) 1 (omega arith) (omega arith) (omega arith) in omega (arith, m)
 
   -- a variable is set to the value of a full expression
-  pub assigned_valid : (r : ℕ) (e : Expression) (k : CInt) (rs : Types) → slice_get ts r ≡ Some (register_type k) → type_of e ≡ Int k → IsPureOrCall e → WellTyped scopes e → FullHasLetters e → nodes_of e ≤ 800 → Begins (rs ++ full_temporaries e) ts → Are (before (full_setup p numbers rs e) (set r (full_value numbers rs e)))
+  pub assigned_valid : (r : ℕ) (e : Expression) (k : CInt) (rs : Types) → slice_get ts r ≡ Some (register_type k) → type_of e ≡ Int k → IsPureOrCall e → WellTyped scopes e → FullHasLetters e → nodes_of e ≤ 800 → Begins (rs ++ full_temporaries e) ts
+      → Are (before (full_setup p numbers rs e) (set r (full_value numbers rs e)))
   assigned_valid r e k rs reg int pure q l few b =
       let v = full_valid e k rs int pure q l few b in
       before_valid gs ts result ls (full_setup p numbers rs e) (set r (full_value numbers rs e)) v.0 (sets_valid r (full_value numbers rs e) (register_type k) reg v.1)
@@ -225,6 +229,7 @@ module _ (p : TranslationUnit) (gs : List Signature) (ts : Types) (result : Opti
   effect_valid _ rs pure q l few b = tt
 
   -- an object of the type is initialised
-  pub initialise_valid : (x : ℕ) (t : PlainType) (k : CInt) (o : Option (Place × Initialiser)) (rs : Types) → t ≡ Int k → slice_get ts (register_of numbers x) ≡ Some (register_type k) → IsInitialiser 800 o → Initialises scopes t o → InitialHasLetters o → Begins (rs ++ initial_temporaries o) ts → Are (initialise p numbers rs x o)
+  pub initialise_valid : (x : ℕ) (t : PlainType) (k : CInt) (o : Option (Place × Initialiser)) (rs : Types) → t ≡ Int k → slice_get ts (register_of numbers x) ≡ Some (register_type k) → IsInitialiser 800 o → Initialises scopes t o
+      → InitialHasLetters o → Begins (rs ++ initial_temporaries o) ts → Are (initialise p numbers rs x o)
   initialise_valid x t k None rs int reg f q l b = absurd f
   initialise_valid x t k (Some (at, One e)) rs int reg f q l b = assigned_valid (register_of numbers x) e k rs reg (q.1 ∙ int) f.is q.0 l f.small b

@@ -153,7 +153,8 @@ module _ (p : TranslationUnit) (q : IsProgram p) (numbers : FunctionsHaveNumbers
   functions_valid [] k ws parts few h = tt
   functions_valid (f ∷ fs) k ws parts few h = by (is_definition f) refl (λ j us le g. functions_valid fs j us parts.1 le g)
     where
-      by : (b : Bool) → is_definition f ≡ b → ((j : ℕ) (us : List (List ℕ)) → IsNumber (j + length fs) → AllOf (Above j) us → AreFunctions gs us (functions_from p m j fs)) → AreFunctions gs ws (if b then function_of p m k f ∷ functions_from p m (suc k) fs else functions_from p m k fs)
+      by : (b : Bool) → is_definition f ≡ b → ((j : ℕ) (us : List (List ℕ)) → IsNumber (j + length fs) → AllOf (Above j) us → AreFunctions gs us (functions_from p m j fs))
+          → AreFunctions gs ws (if b then function_of p m k f ∷ functions_from p m (suc k) fs else functions_from p m k fs)
       by true e rest = (
         function_valid f parts.0 e k (omega (arith, few)),
         new_name k (name_at p.names f.name) ws (omega (arith, few)) h,

@@ -70,7 +70,8 @@ OwnParts names [] = Unit {0}
 OwnParts names (d ∷ ds) = AllParts (own_name names d) × OwnParts names ds
 
 -- values, and other registers behind them
-values_valid : (names : List (List ℕ)) (k : ℕ) (ds : List Declaration) (before : List (List ℕ)) (rest : List MonRegister) → OwnParts names ds → IsNumber (k + length ds) → AllOf (AboveValues k) before → ((after : List (List ℕ)) → AllOf (AboveValues (k + length ds)) after → AreRegisters after rest) → AreRegisters before (values_from names k ds ++ rest)
+values_valid : (names : List (List ℕ)) (k : ℕ) (ds : List Declaration) (before : List (List ℕ)) (rest : List MonRegister) → OwnParts names ds → IsNumber (k + length ds) → AllOf (AboveValues k) before
+    → ((after : List (List ℕ)) → AllOf (AboveValues (k + length ds)) after → AreRegisters after rest) → AreRegisters before (values_from names k ds ++ rest)
 values_valid names k [] before rest o le h go = go before (all_of (AboveValues k) (AboveValues (k + 0)) before (λ w a. record { value = λ j name lt few. a.value j name (omega (arith, lt)) few; pointer = a.pointer; temporary = a.temporary }) h)
 values_valid names k (d ∷ ds) before rest o le h go =
     let name = own_name names d in (
@@ -84,7 +85,8 @@ values_valid names k (d ∷ ds) before rest o le h go =
         },
         all_of (AboveValues k) (AboveValues (suc k)) before (λ w a. record { value = λ j other lt few. a.value j other (omega (arith, lt)) few; pointer = a.pointer; temporary = a.temporary }) h,
       )
-          (λ after g. go after (all_of (AboveValues (suc k + length ds)) (AboveValues (k + suc (length ds))) after (λ w a. record { value = λ j other lt few. a.value j other (omega (arith, lt)) few; pointer = a.pointer; temporary = a.temporary }) g)),
+          (λ after g. go after (all_of (AboveValues (suc k + length ds)) (AboveValues (k + suc (length ds))) after (λ w a. record { value = λ j other lt few. a.value j other (omega (arith, lt)) few; pointer = a.pointer; temporary = a.temporary })
+              g)),
     )
 
 -- ---- names of declarations

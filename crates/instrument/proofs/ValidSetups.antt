@@ -88,7 +88,8 @@ deep_setup numbers rs (Node at t (Choice a b c)) =
     let q = deep_setup numbers r b in
     let u = deep_setup numbers s c in
     let one = some_nodes b in
-    deep_choice (setup numbers rs a) (condition_of numbers rs a) (before (setup numbers r b) (set last (value numbers r b))) (before (setup numbers s c) (set last (value numbers s c))) (nodes_of b + nodes_of c) (suc (nodes_of a + (nodes_of b + nodes_of c))) (omega (arith, p))
+    deep_choice (setup numbers rs a) (condition_of numbers rs a) (before (setup numbers r b) (set last (value numbers r b))) (before (setup numbers s c) (set last (value numbers s c))) (nodes_of b + nodes_of c)
+        (suc (nodes_of a + (nodes_of b + nodes_of c))) (omega (arith, p))
     (deep_then_set (setup numbers r b) last (value numbers r b) (nodes_of b + nodes_of c) (omega (arith, q)) (omega (arith, one)))
     (deep_then_set (setup numbers s c) last (value numbers s c) (nodes_of b + nodes_of c) (omega (arith, u)) (omega (arith, one)))
     (omega arith)
@@ -159,7 +160,8 @@ module _ (gs : List Signature) (ts : Types) (result : Option MonType) (numbers :
       (setup_valid x i.int rs i.is p.0 q.0 l.0 (omega (arith, few)) first) (
         (
           condition_valid ts numbers scopes sees x i.int rs i.is p.0 q.0 l.0 (omega (arith, few)) first,
-          behind_setup (setup numbers r y) (set (length (r ++ temporaries y)) (truth_of numbers r y)) (setup_valid y j.int r j.is p.1 q.1 l.1 (omega (arith, few)) second) (set_valid (length (r ++ temporaries y)) (truth_of numbers r y) I32 last (truth_valid ts numbers scopes sees y j.int r j.is p.1 q.1 l.1 (omega (arith, few)) second)),
+          behind_setup (setup numbers r y) (set (length (r ++ temporaries y)) (truth_of numbers r y)) (setup_valid y j.int r j.is p.1 q.1 l.1 (omega (arith, few)) second) (set_valid (length (r ++ temporaries y)) (truth_of numbers r y) I32 last
+              (truth_valid ts numbers scopes sees y j.int r j.is p.1 q.1 l.1 (omega (arith, few)) second)),
           set_valid (length (r ++ temporaries y)) (tree.Constant I32 (pos 0)) I32 last zero_valid,
         ),
         tt,
@@ -176,7 +178,8 @@ module _ (gs : List Signature) (ts : Types) (result : Option MonType) (numbers :
         (
           condition_valid ts numbers scopes sees x i.int rs i.is p.0 q.0 l.0 (omega (arith, few)) first,
           set_valid (length (r ++ temporaries y)) (tree.Constant I32 (pos 1)) I32 last one_valid,
-          behind_setup (setup numbers r y) (set (length (r ++ temporaries y)) (truth_of numbers r y)) (setup_valid y j.int r j.is p.1 q.1 l.1 (omega (arith, few)) second) (set_valid (length (r ++ temporaries y)) (truth_of numbers r y) I32 last (truth_valid ts numbers scopes sees y j.int r j.is p.1 q.1 l.1 (omega (arith, few)) second)),
+          behind_setup (setup numbers r y) (set (length (r ++ temporaries y)) (truth_of numbers r y)) (setup_valid y j.int r j.is p.1 q.1 l.1 (omega (arith, few)) second) (set_valid (length (r ++ temporaries y)) (truth_of numbers r y) I32 last
+              (truth_valid ts numbers scopes sees y j.int r j.is p.1 q.1 l.1 (omega (arith, few)) second)),
         ),
         tt,
       )
@@ -195,8 +198,10 @@ module _ (gs : List Signature) (ts : Types) (result : Option MonType) (numbers :
       (setup_valid x i.int rs i.is p.0 q.0 l.0 (omega (arith, few)) first) (
         (
           condition_valid ts numbers scopes sees x i.int rs i.is p.0 q.0 l.0 (omega (arith, few)) first,
-          behind_setup (setup numbers r y) (set number (value numbers r y)) (setup_valid y k r y_int p.1 q.1 l.1 (omega (arith, few)) second) (set_valid number (value numbers r y) (register_type k) last (expression_valid ts numbers scopes sees y k r y_int p.1 q.1 l.1 (omega (arith, few)) second)),
-          behind_setup (setup numbers s z) (set number (value numbers s z)) (setup_valid z k s (q.5 ∙ int) p.2 q.2 l.2 (omega (arith, few)) third) (set_valid number (value numbers s z) (register_type k) last (expression_valid ts numbers scopes sees z k s (q.5 ∙ int) p.2 q.2 l.2 (omega (arith, few)) third)),
+          behind_setup (setup numbers r y) (set number (value numbers r y)) (setup_valid y k r y_int p.1 q.1 l.1 (omega (arith, few)) second) (set_valid number (value numbers r y) (register_type k) last
+              (expression_valid ts numbers scopes sees y k r y_int p.1 q.1 l.1 (omega (arith, few)) second)),
+          behind_setup (setup numbers s z) (set number (value numbers s z)) (setup_valid z k s (q.5 ∙ int) p.2 q.2 l.2 (omega (arith, few)) third) (set_valid number (value numbers s z) (register_type k) last
+              (expression_valid ts numbers scopes sees z k s (q.5 ∙ int) p.2 q.2 l.2 (omega (arith, few)) third)),
         ),
         tt,
       )

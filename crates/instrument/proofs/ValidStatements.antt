@@ -9,7 +9,8 @@ use Rattle.c_syntax.specs.Annotations.{Annotation}
 use Rattle.c_syntax.specs.Statements.{Declaration, Statement, Empty, Eval, Block, If, While, Do, For, Break, Continue, Return, ElsePart, NoElse, Else, ForFirst, NoFirst, First, Declare, Run, Asserts, BlockItems, NoItem, Then}
 use Rattle.c_syntax.specs.Programs.{TranslationUnit}
 use Rattle.c_model.specs.Formed as form
-use Rattle.c_model.specs.Formed.{number_of, declared_within, declared_in_else, declared_in_first, declared_in_item, declared_in_items, AreAsserts, IsFull, IsFullOrCall, IsFullEffect, IsFullEffectOrCall, AreInitialised, FirstFormed, StatementFormed, ElseFormed, ItemFormed, ItemsFormed}
+use Rattle.c_model.specs.Formed.{number_of, declared_within, declared_in_else, declared_in_first, declared_in_item, declared_in_items, AreAsserts, IsFull, IsFullOrCall, IsFullEffect, IsFullEffectOrCall, AreInitialised, FirstFormed, StatementFormed}
+use Rattle.c_model.specs.Formed.{ElseFormed, ItemFormed, ItemsFormed}
 use Rattle.c_model.specs.Meaning.{declared_in, declared_first}
 use Rattle.c_model.specs.Typing.{Signature as Known, Scopes, Around, in_loop, inner, with_object, with_objects, behind_first}
 use Rattle.c_model.specs.WellTyped.{WellTyped}
@@ -20,7 +21,8 @@ use Rattle.mon_syntax.specs.Valid.{Types, Labels, Signature, IsExpression, AreSt
 use Rattle.c_effects.specs.Letters.{Any, HasLetters, FullHasLetters, EffectHasLetters, InitialsHaveLetters, AreNumbered}
 use Rattle.instrument.specs.Limits.{HasNumbers, ElseHasNumbers, FirstHasNumbers, HaveNumbers}
 use Rattle.c_effects.specs.Expressions.{register_type, value_type, before, one, setup, temporaries, condition_of, assertions}
-use Rattle.instrument.specs.Translation.{Spot, leave_where_zero, test, test_if_any, returned, loop, end_label, next_label, with_variables, statement_temporaries, else_temporaries, first_temporaries, item_temporaries, items_temporaries, statement, else_part, first_part, item, items, result_of}
+use Rattle.instrument.specs.Translation.{Spot, leave_where_zero, test, test_if_any, returned, loop, end_label, next_label, with_variables, statement_temporaries, else_temporaries, first_temporaries, item_temporaries, items_temporaries, statement}
+use Rattle.instrument.specs.Translation.{else_part, first_part, item, items, result_of}
 use Rattle.c_effects.specs.Effects.{any_temporaries, full_temporaries, effect_temporaries, initial_temporaries, declaration_temporaries, full_setup, full_value, effect, effect_if_any, initialise, initialise_all}
 use Rattle.track_scopes.specs.Blocks.{deaths}
 use Rattle.instrument.specs.Translation as target
@@ -98,7 +100,8 @@ module _ (p : TranslationUnit) (gs : List Signature) (ts : Types) (result : Plai
   effect_at : (s : Scopes) (v : See s) (ls : Labels) (e : Expression) (rs : Types) → IsFullEffectOrCall 800 e → WellTyped s e → EffectHasLetters e → Begins (rs ++ effect_temporaries e) ts → Are ls (effect p numbers rs e)
   effect_at s v ls e rs f q l b = effect_valid p gs ts (result_of result) numbers s v.sees (calls_at s v) ls e rs f.is q l f.small b
 
-  effect_if_any_at : (s : Scopes) (v : See s) (ls : Labels) (e : Option Expression) (rs : Types) → WhereAny (IsFullEffect 800) e → WhereAny (WellTyped s) e → Any EffectHasLetters e → Begins (rs ++ any_temporaries effect_temporaries e) ts → Are ls (effect_if_any p numbers rs e)
+  effect_if_any_at : (s : Scopes) (v : See s) (ls : Labels) (e : Option Expression) (rs : Types) → WhereAny (IsFullEffect 800) e → WhereAny (WellTyped s) e → Any EffectHasLetters e → Begins (rs ++ any_temporaries effect_temporaries e) ts
+      → Are ls (effect_if_any p numbers rs e)
   effect_if_any_at s v ls None rs f q l b = tt
   effect_if_any_at s v ls (Some e) rs f q l b = effect_at s v ls e rs (record { is = effect_or_call e f.is; small = f.small }) q l b
 
@@ -108,7 +111,8 @@ module _ (p : TranslationUnit) (gs : List Signature) (ts : Types) (result : Plai
       before_valid gs ts (result_of result) ls (setup numbers rs e) (leave_where_zero loops (condition_of numbers rs e)) (setup_valid gs ts (result_of result) numbers s v.sees ls e i.int rs i.is f.is q.typed l f.small b)
       ((condition_valid ts numbers s v.sees e i.int rs i.is f.is q.typed l f.small b, tt, (jump, tt)), tt)
 
-  test_if_any_at : (s : Scopes) (v : See s) (ls : Labels) (loops : ℕ) (e : Option Expression) (rs : Types) → has_label ls (end_label loops) ≡ true → WhereAny (IsFull 800) e → WhereAny (IsCondition s) e → Any HasLetters e → Begins (rs ++ any_temporaries temporaries e) ts → Are ls (test_if_any numbers rs loops e)
+  test_if_any_at : (s : Scopes) (v : See s) (ls : Labels) (loops : ℕ) (e : Option Expression) (rs : Types) → has_label ls (end_label loops) ≡ true → WhereAny (IsFull 800) e → WhereAny (IsCondition s) e → Any HasLetters e
+      → Begins (rs ++ any_temporaries temporaries e) ts → Are ls (test_if_any numbers rs loops e)
   test_if_any_at s v ls loops None rs jump f q l b = tt
   test_if_any_at s v ls loops (Some e) rs jump f q l b = test_at s v ls loops e rs jump f q l b
 
@@ -117,7 +121,8 @@ module _ (p : TranslationUnit) (gs : List Signature) (ts : Types) (result : Plai
   assertions_valid s v ls (a ∷ l) f q k = (assertion_valid ts numbers s v.sees gs (result_of result) ls a f.0 q.0 k.0, assertions_valid s v ls l f.1 q.1 k.1)
 
   -- declarations, of which each sees those in front
-  initials_valid : (ds : List Declaration) (s : Scopes) (v : See s) (ls : Labels) (rs : Types) → Have ds → AreInitialised 800 ds → AreDeclared s ds → InitialsHaveLetters ds → Begins (rs ++ declaration_temporaries ds) ts → Are ls (initialise_all p numbers rs ds)
+  initials_valid : (ds : List Declaration) (s : Scopes) (v : See s) (ls : Labels) (rs : Types) → Have ds → AreInitialised 800 ds → AreDeclared s ds → InitialsHaveLetters ds → Begins (rs ++ declaration_temporaries ds) ts
+      → Are ls (initialise_all p numbers rs ds)
   initials_valid [] s v ls rs h f q l b = tt
   initials_valid (d ∷ ds) s v ls rs h f q l b =
       let here = initial_temporaries d.init in
@@ -133,7 +138,8 @@ module _ (p : TranslationUnit) (gs : List Signature) (ts : Types) (result : Plai
   abbrev ended : ℕ → Labels
   ended loops = end_label (loops + 1) ∷ labels loops
 
-  loop_valid : (loops : ℕ) (front body behind : MonStatements) → IsNumber (loops + 1) → has_no_step front ≡ true → has_no_step behind ≡ true → Are (ended loops) front → Are (labels (loops + 1)) body → Are (ended loops) behind → Are (labels loops) (one (loop (loops + 1) front body behind))
+  loop_valid : (loops : ℕ) (front body behind : MonStatements) → IsNumber (loops + 1) → has_no_step front ≡ true → has_no_step behind ≡ true → Are (ended loops) front → Are (labels (loops + 1)) body → Are (ended loops) behind
+      → Are (labels loops) (one (loop (loops + 1) front body behind))
   loop_valid loops front body behind le f g front_valid body_valid behind_valid =
       let inside = subst (λ ls. Are ls body) (one_more_loop loops) body_valid in (
         (
@@ -166,7 +172,8 @@ module _ (p : TranslationUnit) (gs : List Signature) (ts : Types) (result : Plai
   returns_value : (e : MonExpression) (t : PlainType) (k : CInt) → t ≡ Int k → IsExpression ts e (register_type k) → ReturnsResult ts (result_of t) (Some e)
   returns_value e t k int h = subst (λ t. ReturnsResult ts (result_of t) (Some e)) (sym int) h
 
-  returned_valid : (spot : Spot) (s : Scopes) (v : See s) (ls : Labels) (rs : Types) (e : Option Expression) → Points ts spot → WhereAny (IsFullOrCall 800) e → Returned s result e → Any FullHasLetters e → Begins (rs ++ any_temporaries full_temporaries e) ts → Are ls (returned p numbers spot rs e)
+  returned_valid : (spot : Spot) (s : Scopes) (v : See s) (ls : Labels) (rs : Types) (e : Option Expression) → Points ts spot → WhereAny (IsFullOrCall 800) e → Returned s result e → Any FullHasLetters e
+      → Begins (rs ++ any_temporaries full_temporaries e) ts → Are ls (returned p numbers spot rs e)
   returned_valid spot s v ls rs None k f q l b =
       let live = spot.inside ++ spot.outside in
       before_valid gs ts (result_of result) ls (deaths live) (one (tree.Return None)) (deaths_valid gs ts (result_of result) ls numbers live (point_both ts spot.inside spot.outside k.inside k.outside))
@@ -180,7 +187,8 @@ module _ (p : TranslationUnit) (gs : List Signature) (ts : Types) (result : Plai
       (before_valid gs ts (result_of result) ls (deaths live) leaves (deaths_valid gs ts (result_of result) ls numbers live (point_both ts spot.inside spot.outside k.inside k.outside))
       (returns_value (full_value numbers rs e) result i.int i.is x.1, tt))
 
-  first_valid : (first : ForFirst) (s : Scopes) (v : See s) (r : Around) (spot : Spot) (ls : Labels) (rs : Types) → Have (declared_first first) → FirstFormed 800 first → FirstTyped s r first → FirstHasNumbers first → Begins (rs ++ first_temporaries first) ts → Are ls (first_part p numbers spot rs first)
+  first_valid : (first : ForFirst) (s : Scopes) (v : See s) (r : Around) (spot : Spot) (ls : Labels) (rs : Types) → Have (declared_first first) → FirstFormed 800 first → FirstTyped s r first → FirstHasNumbers first
+      → Begins (rs ++ first_temporaries first) ts → Are ls (first_part p numbers spot rs first)
   first_valid NoFirst s v r spot ls rs h f q l b = tt
   first_valid (First (Run (Eval at e))) s v r spot ls rs h f q l b = effect_at s v ls e rs f q l b
   first_valid (First (Declare ds)) s v r spot ls rs h f q l b = initials_valid ds s v ls rs h f q l b
@@ -195,7 +203,8 @@ module _ (p : TranslationUnit) (gs : List Signature) (ts : Types) (result : Plai
   -- ---- all statements
 
   mutual
-    statement_valid : (a : Statement) (s : Scopes) (v : See s) (r : Around) (spot : Spot) (k : Points ts spot) (rs : Types) → r.result ≡ result → (r.loops ≡ true → 0 < spot.loops) → Have (declared_within a) → StatementFormed 800 a → StatementTyped s r a → StatementNoted s a → HasNumbers a → spot.loops + form.depth a ≤ 1000 → Begins (rs ++ statement_temporaries a) ts → Are (labels spot.loops) (statement p numbers spot rs a)
+    statement_valid : (a : Statement) (s : Scopes) (v : See s) (r : Around) (spot : Spot) (k : Points ts spot) (rs : Types) → r.result ≡ result → (r.loops ≡ true → 0 < spot.loops) → Have (declared_within a) → StatementFormed 800 a
+        → StatementTyped s r a → StatementNoted s a → HasNumbers a → spot.loops + form.depth a ≤ 1000 → Begins (rs ++ statement_temporaries a) ts → Are (labels spot.loops) (statement p numbers spot rs a)
     statement_valid (Empty at) s v r spot k rs same o h f q m l d b = tt
     statement_valid (Eval at e) s v r spot k rs same o h f q m l d b = effect_at s v (labels spot.loops) e rs f q l b
     statement_valid (Block at body) s v r spot k rs same o h f q m l d b =
@@ -263,17 +272,20 @@ module _ (p : TranslationUnit) (gs : List Signature) (ts : Types) (result : Plai
         (first_valid first t w r inside (labels spot.loops) rs own f.1 q.0 l.0 one_of)
         (loop_valid spot.loops tested body behind (omega (arith, d)) (no_step_test_if_any numbers (rs ++ tf) loops e) (no_step_effect_if_any p numbers (rs ++ tf ++ te ++ ta) step)
         (test_if_any_at u x (ended spot.loops) loops e (rs ++ tf) (own_end spot.loops) f.2 q.1 l.1 second)
-        (statement_valid a u x (in_loop r) (target.in_loop inside) (points_loop inside points) (rs ++ tf ++ te) same (λ t. omega arith) (variables_back ts numbers (declared_in_first first) (declared_within a) h) f.4 q.3 m.1 l.2 (omega (arith, d)) third)
+        (statement_valid a u x (in_loop r) (target.in_loop inside) (points_loop inside points) (rs ++ tf ++ te) same (λ t. omega arith) (variables_back ts numbers (declared_in_first first) (declared_within a) h) f.4 q.3 m.1 l.2
+            (omega (arith, d)) third)
         (effect_if_any_at u x (ended spot.loops) step (rs ++ tf ++ te ++ ta) f.3 q.2 l.3 all)))
     statement_valid (Break at) s v r spot k rs same o h f q m l d b = jump_valid spot (labels spot.loops) (end_label spot.loops) k (inside_end spot.loops (o q))
     statement_valid (Continue at) s v r spot k rs same o h f q m l d b = jump_valid spot (labels spot.loops) (next_label spot.loops) k (inside_next spot.loops (o q))
     statement_valid (Return at e) s v r spot k rs same o h f q m l d b = returned_valid spot s v (labels spot.loops) rs e k f (subst (λ t. Returned s t e) same q) l b
 
-    else_valid : (y : ElsePart) (s : Scopes) (v : See s) (r : Around) (spot : Spot) (k : Points ts spot) (rs : Types) → r.result ≡ result → (r.loops ≡ true → 0 < spot.loops) → Have (declared_in_else y) → ElseFormed 800 y → ElseTyped s r y → ElseNoted s y → ElseHasNumbers y → spot.loops + form.depth_of_else y ≤ 1000 → Begins (rs ++ else_temporaries y) ts → Are (labels spot.loops) (else_part p numbers spot rs y)
+    else_valid : (y : ElsePart) (s : Scopes) (v : See s) (r : Around) (spot : Spot) (k : Points ts spot) (rs : Types) → r.result ≡ result → (r.loops ≡ true → 0 < spot.loops) → Have (declared_in_else y) → ElseFormed 800 y → ElseTyped s r y
+        → ElseNoted s y → ElseHasNumbers y → spot.loops + form.depth_of_else y ≤ 1000 → Begins (rs ++ else_temporaries y) ts → Are (labels spot.loops) (else_part p numbers spot rs y)
     else_valid NoElse s v r spot k rs same o h f q m l d b = tt
     else_valid (Else a) s v r spot k rs same o h f q m l d b = statement_valid a s v r spot k rs same o h f q m l d b
 
-    pub items_valid : (is : BlockItems) (s : Scopes) (v : See s) (r : Around) (spot : Spot) (k : Points ts spot) (rs : Types) → r.result ≡ result → (r.loops ≡ true → 0 < spot.loops) → Have (declared_in_items is) → ItemsFormed 800 is → ItemsTyped s r is → ItemsNoted s is → HaveNumbers is → spot.loops + form.depth_of_items is ≤ 1000 → Begins (rs ++ items_temporaries is) ts → Are (labels spot.loops) (items p numbers spot rs is)
+    pub items_valid : (is : BlockItems) (s : Scopes) (v : See s) (r : Around) (spot : Spot) (k : Points ts spot) (rs : Types) → r.result ≡ result → (r.loops ≡ true → 0 < spot.loops) → Have (declared_in_items is) → ItemsFormed 800 is
+        → ItemsTyped s r is → ItemsNoted s is → HaveNumbers is → spot.loops + form.depth_of_items is ≤ 1000 → Begins (rs ++ items_temporaries is) ts → Are (labels spot.loops) (items p numbers spot rs is)
     items_valid NoItem s v r spot k rs same o h f q m l d b = tt
     items_valid (Then (Declare ds) rest) s v r spot k rs same o h f q m l d b =
         let here = declaration_temporaries ds in
@@ -281,7 +293,8 @@ module _ (p : TranslationUnit) (gs : List Signature) (ts : Types) (result : Plai
         let right = le-max_right 0 (form.depth_of_items rest) in
         before_valid gs ts (result_of result) (labels spot.loops) (initialise_all p numbers rs ds) (items p numbers spot (rs ++ here) rest)
         (initials_valid ds s v (labels spot.loops) rs own f.0 q.0 l.0 (begins_left rs here (items_temporaries rest) ts b))
-        (items_valid rest (with_objects s ds) (sees_behind ts numbers names functions s ds (declared_objects s ds q.0) own v) r spot k (rs ++ here) same o (variables_back ts numbers ds (declared_in_items rest) h) f.1 q.1 m.1 l.1 (omega (arith, d, right)) (begins_right rs here (items_temporaries rest) ts b))
+        (items_valid rest (with_objects s ds) (sees_behind ts numbers names functions s ds (declared_objects s ds q.0) own v) r spot k (rs ++ here) same o (variables_back ts numbers ds (declared_in_items rest) h) f.1 q.1 m.1 l.1
+            (omega (arith, d, right)) (begins_right rs here (items_temporaries rest) ts b))
     items_valid (Then (Run a) rest) s v r spot k rs same o h f q m l d b =
         let here = statement_temporaries a in
         let left = le-max_left (form.depth a) (form.depth_of_items rest) in

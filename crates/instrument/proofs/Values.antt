@@ -108,7 +108,8 @@ right_fits k l op x y v f same h = by (is_shift op) refl
     by true s = count_fits k op x y v s h
     by false s = subst (λ i. fits i y ≡ true) (same s) f
 
-pub binary_is : (k l : CInt) (op : BinOp) (a b : MonExpression) (regs : List BlockValue) (x y v : ℤ) → fits k x ≡ true → fits l y ≡ true → (is_shift op ≡ false → l ≡ k) → operate_in k op x y ≡ Some v → Has a regs x → Has b regs y → Has (binary op (register_type k) (register_type l) a b) regs v
+pub binary_is : (k l : CInt) (op : BinOp) (a b : MonExpression) (regs : List BlockValue) (x y v : ℤ) → fits k x ≡ true → fits l y ≡ true → (is_shift op ≡ false → l ≡ k) → operate_in k op x y ≡ Some v → Has a regs x → Has b regs y
+    → Has (binary op (register_type k) (register_type l) a b) regs v
 binary_is k l op a b regs x y v f g same h p q =
     let fit = right_fits k l op x y v g same h in
     operation (operator_of op) (register_type k) a (in_type (register_type l) (register_type k) b) regs x y p (in_type_keeps (register_type l) (register_type k) b regs y (wrap_is k y fit) q)
@@ -133,7 +134,8 @@ result_type_is operator.Gt k = refl
 result_type_is operator.Ge k = refl
 
 -- the operands converted to the type m, and the result to that of the left side
-pub compound_is : (m k l : CInt) (op : BinOp) (a b : MonExpression) (regs : List BlockValue) (x y v : ℤ) → fits k x ≡ true → fits l y ≡ true → operate_in m op (convert m x) (if is_shift op then y else convert m y) ≡ Some v → Has a regs x → Has b regs y → Has (compound_in op (register_type m) (register_type k) (register_type l) a b) regs (convert k v)
+pub compound_is : (m k l : CInt) (op : BinOp) (a b : MonExpression) (regs : List BlockValue) (x y v : ℤ) → fits k x ≡ true → fits l y ≡ true → operate_in m op (convert m x) (if is_shift op then y else convert m y) ≡ Some v → Has a regs x
+    → Has b regs y → Has (compound_in op (register_type m) (register_type k) (register_type l) a b) regs (convert k v)
 compound_is m k l op a b regs x y v f g h p q = by (is_shift op) refl h
   where
     right : MonExpression

@@ -318,7 +318,8 @@ pub value_below : (w : Setting) (store : Store) (regs : List BlockValue) (v : Sl
 value_below w store regs v m = get-below w.numbers (value_at w v.decl) v.decl m.number
 
 -- where the block and the register of a variable stay
-pub stays_matched : (w : Setting) (old new : Store) (regs after : List BlockValue) (v : Slot) → slice_get new v.block ≡ slice_get old v.block → slice_get after (value_at w v.decl) ≡ slice_get regs (value_at w v.decl) → slice_get after (pointer_at w v.decl) ≡ slice_get regs (pointer_at w v.decl) → Matches w old regs v → Matches w new after v
+pub stays_matched : (w : Setting) (old new : Store) (regs after : List BlockValue) (v : Slot) → slice_get new v.block ≡ slice_get old v.block → slice_get after (value_at w v.decl) ≡ slice_get regs (value_at w v.decl)
+    → slice_get after (pointer_at w v.decl) ≡ slice_get regs (pointer_at w v.decl) → Matches w old regs v → Matches w new after v
 stays_matched w old new regs after v block value pointer m = record {
   number = m.number;
   content = m.content;
@@ -432,12 +433,14 @@ module _ (w : Setting) (slots : List Slot) (regs : List BlockValue) (s : State) 
     outside = λ j lt. slice_get-slice_set_other s.store v.block j (cell_of v.int (Some z)) (λ e. omega (arith, e, lt, above_outside (length w.outside) (length s.store) x slots v h.stacked found)) ∙ h.outside j lt;
     stacked = subst (λ n. Stacked (length w.outside) n slots) (sym (length-set s.store v.block (cell_of v.int (Some z)))) h.stacked;
     apart = h.apart;
-    all = set_matches w s.store regs x v z f (match_at w s.store regs x slots v h.all found) (decl_at x slots v found) (stacked_at (length w.outside) (length s.store) x slots v h.stacked found) (omega (arith, enough, h.registers)) slots (length w.outside) (length s.store) h.stacked h.apart found h.all;
+    all = set_matches w s.store regs x v z f (match_at w s.store regs x slots v h.all found) (decl_at x slots v found) (stacked_at (length w.outside) (length s.store) x slots v h.stacked found) (omega (arith, enough, h.registers)) slots
+        (length w.outside) (length s.store) h.stacked h.apart found h.all;
     registers = length-set regs (value_at w x) (Whole z) ∙ h.registers;
   }
 
   pub kept_set : AllKept slots s.store (store_with s.store v z)
-  kept_set = set_kept w s.store regs x v z f (match_at w s.store regs x slots v h.all found) (decl_at x slots v found) (stacked_at (length w.outside) (length s.store) x slots v h.stacked found) (omega (arith, enough, h.registers)) slots (length w.outside) (length s.store) h.stacked found
+  kept_set = set_kept w s.store regs x v z f (match_at w s.store regs x slots v h.all found) (decl_at x slots v found) (stacked_at (length w.outside) (length s.store) x slots v h.stacked found) (omega (arith, enough, h.registers)) slots
+      (length w.outside) (length s.store) h.stacked found
 
   pub beside_set : (living : List Slot) (t : monitored.State Blocks) → Beside w living s t → Beside w living state_with t
   beside_set living t b = record {

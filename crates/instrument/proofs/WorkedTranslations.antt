@@ -304,7 +304,8 @@ false_claim = record {
   number = 1;
   kind = clause.Assert;
   place = here 7;
-  body = Truth (Chain (here 7) (logic.Binary (here 7) None no_range operator.Add (logic.Variable (here 7) (Some int_type) no_range (record { name = 2; decl = 2 })) (logic.Number (here 7) None no_range (pos 1))) (Linked (here 7) relation.Eq (logic.Number (here 7) None no_range (pos 3)) NoLink));
+  body = Truth (Chain (here 7) (logic.Binary (here 7) None no_range operator.Add (logic.Variable (here 7) (Some int_type) no_range (record { name = 2; decl = 2 })) (logic.Number (here 7) None no_range (pos 1)))
+      (Linked (here 7) relation.Eq (logic.Number (here 7) None no_range (pos 3)) NoLink));
 }
 
 abbrev claiming : TranslationUnit

@@ -2,7 +2,8 @@
 -- What the numbers of a tree's types bound, in the parts that are translated: the number and the line of an annotation are of 32
 -- bits, a letter is a value of `char`, and registers can be numbered.
 use Rattle.std.specs.Prelude.{◌≡◌, true, ◌<◌, ◌^◌, ◌++◌, length, List, [], ◌∷◌, Option, Some, None}
-use Rattle.c_syntax.specs.Statements.{Statement, Eval, Block, If, While, Do, For, Return, ElsePart, NoElse, Else, ForFirst, NoFirst, First, BlockItem, Declare, Run, Asserts, BlockItems, NoItem, Then}
+use Rattle.c_syntax.specs.Statements.{Statement, Eval, Block, If, While, Do, For, Return, ElsePart, NoElse, Else, ForFirst, NoFirst, First, BlockItem, Declare}
+use Rattle.c_syntax.specs.Statements.{Run, Asserts, BlockItems, NoItem, Then}
 use Rattle.c_syntax.specs.Programs.{Function}
 use Rattle.c_model.specs.Meaning.{is_definition}
 use Rattle.c_effects.specs.Letters.{Any, HasLetters, FullHasLetters, EffectHasLetters, InitialsHaveLetters, AreNumbered}

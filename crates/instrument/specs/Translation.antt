@@ -6,15 +6,18 @@ use Rattle.std.specs.Fmt.{decimal}
 use Rattle.c_syntax.specs.Ctypes.{PlainType, Void, Int}
 use Rattle.c_syntax.specs.Expressions.{Expression}
 use Rattle.c_syntax.specs.Statements as source_statement
-use Rattle.c_syntax.specs.Statements.{Declaration, Statement, ElsePart, NoElse, Else, ForFirst, NoFirst, First, BlockItem, Declare, Run, Asserts, BlockItems, NoItem}
+use Rattle.c_syntax.specs.Statements.{Declaration, Statement, ElsePart, NoElse, Else, ForFirst, NoFirst, First, BlockItem, Declare, Run, Asserts, BlockItems}
+use Rattle.c_syntax.specs.Statements.{NoItem}
 use Rattle.c_syntax.specs.Programs.{Function, TranslationUnit}
 use Rattle.c_model.specs.Meaning.{declared_in, declared_first, is_definition}
 use Rattle.c_model.specs.Typing.{name_at}
 use Rattle.c_model.specs.Formed.{number_of, declared_in_body}
 use Rattle.mon_syntax.specs.declared.tree.MonType.{MonType}
 use Rattle.mon_syntax.specs.declared.tree.MonType.TheVariants.{Ptr}
-use Rattle.mon_syntax.specs.Trees.{MonExpression, MonStatement, If, Loop, Labelled, Goto, Return, MonStatements, NoStatement, Then, MonRegister, MonFunction, MonitoredProgram}
-use Rattle.c_effects.specs.Effects.{any_temporaries, declaration_temporaries, effect_temporaries, full_temporaries, full_setup, full_value, effect, effect_if_any, initialise_all}
+use Rattle.mon_syntax.specs.Trees.{MonExpression, MonStatement, If, Loop, Labelled, Goto, Return, MonStatements, NoStatement, Then, MonRegister, MonFunction}
+use Rattle.mon_syntax.specs.Trees.{MonitoredProgram}
+use Rattle.c_effects.specs.Effects.{any_temporaries, declaration_temporaries, effect_temporaries, full_temporaries, full_setup, full_value, effect}
+use Rattle.c_effects.specs.Effects.{effect_if_any, initialise_all}
 use Rattle.c_effects.specs.Expressions.{register_type, value_type, temporaries, before, one, condition_of, setup, assertions}
 use Rattle.track_scopes.specs.Blocks.{births, deaths, with_born}
 

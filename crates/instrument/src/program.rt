@@ -15,7 +15,8 @@ ghost use Rattle.mon_syntax.specs.Valid.{IsValid};
 ghost use Rattle.instrument.specs.Limits.{BodyHasNumbers, FunctionHasNumbers, FunctionsHaveNumbers};
 ghost use Rattle.c_effects.specs.Expressions.{before};
 ghost use Rattle.instrument.specs.Options.{plain_spot, statement_of};
-ghost use Rattle.instrument.specs.Translation.{alive, body_part, body_temporaries, function_name, function_of, functions_from, index_of_main, result_of, temporaries_from, translated};
+ghost use Rattle.instrument.specs.Translation.{alive, body_part, body_temporaries, function_name, function_of, functions_from, index_of_main, result_of};
+ghost use Rattle.instrument.specs.Translation.{temporaries_from, translated};
 
 use crate::block::{enter, leave};
 use crate::name::{function_name, temporary_name};
@@ -100,7 +101,9 @@ fn statement_of(
     types: &mut Vec<MonType>,
     to: &mut Vec<MonStmt>,
 ) -> Result<(), AllocError>
-    ensures code { OnOk result (plain_stmts to.new.items ≡ before (plain_stmts to.old.items) (statement_of (plain_program scene.now.definitions.now.program.now) scene.now.numbers.now (plain_spot spot.now) types.old.items (option_map plain_stmt body.now))) }
+    ensures code { OnOk result (plain_stmts to.new.items ≡ before (plain_stmts to.old.items)
+        (statement_of (plain_program scene.now.definitions.now.program.now) scene.now.numbers.now (plain_spot spot.now) types.old.items
+        (option_map plain_stmt body.now))) }
     ensures types { OnOk result (types.new.items ≡ types.old.items ++ body_temporaries (option_map plain_stmt body.now)) }
     ensures numbers { OnOk result (BodyHasNumbers (option_map plain_stmt body.now)) }
 {
@@ -117,7 +120,9 @@ fn body_of(
     f: &Func,
     types: &mut Vec<MonType>,
 ) -> Result<Vec<MonStmt>, AllocError>
-    ensures code { IfOk result (λ code. plain_stmts code.items ≡ alive scene.now.numbers.now (plain_func f.now).params (body_part (plain_program scene.now.definitions.now.program.now) scene.now.numbers.now (plain_func f.now).params types.old.items (plain_func f.now).body)) }
+    ensures code { IfOk result (λ code. plain_stmts code.items ≡ alive scene.now.numbers.now (plain_func f.now).params
+        (body_part (plain_program scene.now.definitions.now.program.now) scene.now.numbers.now (plain_func f.now).params types.old.items
+        (plain_func f.now).body)) }
     ensures types { OnOk result (types.new.items ≡ types.old.items ++ body_temporaries (plain_func f.now).body) }
     ensures numbers { IfOk result (λ _. BodyHasNumbers (plain_func f.now).body) }
 {
@@ -176,7 +181,8 @@ fn add(
     f: &Func,
     to: &mut Vec<MonFunc>,
 ) -> Result<(), AllocError>
-    ensures code { OnOk result (map plain_monitored_func to.new.items ≡ map plain_monitored_func to.old.items ++ functions_from (plain_program definitions.now.program.now) main (length to.old.items) (plain_func f.now ∷ [])) }
+    ensures code { OnOk result (map plain_monitored_func to.new.items ≡ map plain_monitored_func to.old.items ++ functions_from
+        (plain_program definitions.now.program.now) main (length to.old.items) (plain_func f.now ∷ [])) }
     ensures numbers { OnOk result (is_definition (plain_func f.now) ≡ true → FunctionHasNumbers (plain_func f.now)) }
 {
     match &f.body {
@@ -191,7 +197,9 @@ fn add(
 
 // Translates the definitions.
 fn functions(alloc: Global, definitions: &Definitions<'_>) -> Result<Vec<MonFunc>, AllocError>
-    ensures code { IfOk result (λ fs. map plain_monitored_func fs.items ≡ functions_from (plain_program definitions.now.program.now) (index_of_main definitions.now.program.now.names.items (map plain_func definitions.now.program.now.funcs.items)) 0 (map plain_func definitions.now.program.now.funcs.items)) }
+    ensures code { IfOk result (λ fs. map plain_monitored_func fs.items ≡ functions_from (plain_program definitions.now.program.now)
+        (index_of_main definitions.now.program.now.names.items (map plain_func definitions.now.program.now.funcs.items)) 0
+        (map plain_func definitions.now.program.now.funcs.items)) }
     ensures numbers { IfOk result (λ _. FunctionsHaveNumbers (map plain_func definitions.now.program.now.funcs.items)) }
     ensures few { length definitions.now.program.now.funcs.items < 2 ^ 64 }
 {

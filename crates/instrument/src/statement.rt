@@ -11,7 +11,9 @@ ghost use Rattle.c_effects.specs.Letters.{Any, AreNumbered, EffectHasLetters, Fu
 ghost use Rattle.instrument.specs.Limits.{ElseHasNumbers, FirstHasNumbers, HasNumbers, HaveNumbers, ItemHasNumbers};
 ghost use Rattle.instrument.specs.Options.{do_loop, plain_else_part, plain_first_part, plain_spot, turns, while_loop, with_blocks};
 ghost use Rattle.c_effects.specs.Expressions.{assertions, before, condition_of, one, setup, temporaries};
-ghost use Rattle.instrument.specs.Translation.{alive, else_part, else_temporaries, end_label, first_part, first_temporaries, in_loop, item, item_temporaries, items, items_temporaries, leave_where_zero, next_label, returned, statement, statement_temporaries, test, test_if_any, with_variables};
+ghost use Rattle.instrument.specs.Translation.{alive, else_part, else_temporaries, end_label, first_part, first_temporaries, in_loop, item, item_temporaries};
+ghost use Rattle.instrument.specs.Translation.{items, items_temporaries, leave_where_zero, next_label, returned, statement, statement_temporaries, test};
+ghost use Rattle.instrument.specs.Translation.{test_if_any, with_variables};
 ghost use Rattle.c_effects.specs.Effects.{any_temporaries, effect_if_any, effect_temporaries, full_temporaries};
 ghost use Rattle.track_scopes.specs.Blocks.{births, deaths, with_born};
 
@@ -97,7 +99,8 @@ fn leave_unless_any(
     types: &mut Vec<MonType>,
     to: &mut Vec<MonStmt>,
 ) -> Result<(), AllocError>
-    ensures code { OnOk result (plain_stmts to.new.items ≡ before (plain_stmts to.old.items) (test_if_any numbers.now types.old.items loops (option_map plain_expr e.now))) }
+    ensures code { OnOk result (plain_stmts to.new.items ≡ before (plain_stmts to.old.items)
+        (test_if_any numbers.now types.old.items loops (option_map plain_expr e.now))) }
     ensures types { OnOk result (types.new.items ≡ types.old.items ++ any_temporaries temporaries (option_map plain_expr e.now)) }
     ensures letters { OnOk result (Any HasLetters (option_map plain_expr e.now)) }
 {
@@ -117,14 +120,16 @@ fn jump(alloc: Global, live: &[u32], label: Name, to: &mut Vec<MonStmt>) -> Resu
 }
 
 fn break_out(alloc: Global, spot: &Spot<'_>, to: &mut Vec<MonStmt>) -> Result<(), AllocError>
-    ensures { OnOk result (plain_stmts to.new.items ≡ before (plain_stmts to.old.items) (before (deaths spot.now.inside.now) (one (Goto (end_label spot.now.loops))))) }
+    ensures { OnOk result (plain_stmts to.new.items ≡ before (plain_stmts to.old.items)
+        (before (deaths spot.now.inside.now) (one (Goto (end_label spot.now.loops))))) }
 {
     let label = end_label(alloc, spot.loops)?;
     jump(alloc, spot.inside, label, to)
 }
 
 fn go_on(alloc: Global, spot: &Spot<'_>, to: &mut Vec<MonStmt>) -> Result<(), AllocError>
-    ensures { OnOk result (plain_stmts to.new.items ≡ before (plain_stmts to.old.items) (before (deaths spot.now.inside.now) (one (Goto (next_label spot.now.loops))))) }
+    ensures { OnOk result (plain_stmts to.new.items ≡ before (plain_stmts to.old.items)
+        (before (deaths spot.now.inside.now) (one (Goto (next_label spot.now.loops))))) }
 {
     let label = next_label(alloc, spot.loops)?;
     jump(alloc, spot.inside, label, to)
@@ -149,7 +154,9 @@ fn give_back(
     types: &mut Vec<MonType>,
     to: &mut Vec<MonStmt>,
 ) -> Result<(), AllocError>
-    ensures code { OnOk result (plain_stmts to.new.items ≡ before (plain_stmts to.old.items) (returned (plain_program scene.now.definitions.now.program.now) scene.now.numbers.now (plain_spot spot.now) types.old.items (option_map plain_expr e.now))) }
+    ensures code { OnOk result (plain_stmts to.new.items ≡ before (plain_stmts to.old.items)
+        (returned (plain_program scene.now.definitions.now.program.now) scene.now.numbers.now (plain_spot spot.now) types.old.items
+        (option_map plain_expr e.now))) }
     ensures types { OnOk result (types.new.items ≡ types.old.items ++ any_temporaries full_temporaries (option_map plain_expr e.now)) }
     ensures letters { OnOk result (Any FullHasLetters (option_map plain_expr e.now)) }
 {
@@ -174,7 +181,8 @@ fn repeat(
     behind: Vec<MonStmt>,
     to: &mut Vec<MonStmt>,
 ) -> Result<(), AllocError>
-    ensures { OnOk result (plain_stmts to.new.items ≡ before (plain_stmts to.old.items) (one (Labelled (one (Loop (plain_stmts front.items) (plain_stmts behind.items))) (end_label loops)))) }
+    ensures { OnOk result (plain_stmts to.new.items ≡ before (plain_stmts to.old.items)
+        (one (Labelled (one (Loop (plain_stmts front.items) (plain_stmts behind.items))) (end_label loops)))) }
 {
     let label = end_label(alloc, loops)?;
     let turns = alone(alloc, MonStmtKind::Loop(front, behind))?;
@@ -190,7 +198,9 @@ fn round(
     s: &Stmt,
     types: &mut Vec<MonType>,
 ) -> Result<Vec<MonStmt>, AllocError>
-    ensures code { IfOk result (λ code. plain_stmts code.items ≡ one (Labelled (statement (plain_program scene.now.definitions.now.program.now) scene.now.numbers.now (in_loop (plain_spot spot.now)) types.old.items (plain_stmt s.now)) (next_label (spot.now.loops + 1)))) }
+    ensures code { IfOk result (λ code. plain_stmts code.items ≡ one
+        (Labelled (statement (plain_program scene.now.definitions.now.program.now) scene.now.numbers.now (in_loop (plain_spot spot.now)) types.old.items
+        (plain_stmt s.now)) (next_label (spot.now.loops + 1)))) }
     ensures types { OnOk result (types.new.items ≡ types.old.items ++ statement_temporaries (plain_stmt s.now)) }
     ensures numbers { OnOk result (HasNumbers (plain_stmt s.now)) }
 {
@@ -226,7 +236,8 @@ pub fn statement(
     types: &mut Vec<MonType>,
     to: &mut Vec<MonStmt>,
 ) -> Result<(), AllocError>
-    ensures code { OnOk result (plain_stmts to.new.items ≡ before (plain_stmts to.old.items) (statement (plain_program scene.now.definitions.now.program.now) scene.now.numbers.now (plain_spot spot.now) types.old.items (plain_stmt s.now))) }
+    ensures code { OnOk result (plain_stmts to.new.items ≡ before (plain_stmts to.old.items)
+        (statement (plain_program scene.now.definitions.now.program.now) scene.now.numbers.now (plain_spot spot.now) types.old.items (plain_stmt s.now))) }
     ensures types { OnOk result (types.new.items ≡ types.old.items ++ statement_temporaries (plain_stmt s.now)) }
     ensures numbers { OnOk result (HasNumbers (plain_stmt s.now)) }
 {
@@ -261,7 +272,9 @@ fn while_loop(
     types: &mut Vec<MonType>,
     to: &mut Vec<MonStmt>,
 ) -> Result<(), AllocError>
-    ensures code { OnOk result (plain_stmts to.new.items ≡ before (plain_stmts to.old.items) (statement (plain_program scene.now.definitions.now.program.now) scene.now.numbers.now (plain_spot spot.now) types.old.items (while_loop a.now e.now))) }
+    ensures code { OnOk result (plain_stmts to.new.items ≡ before (plain_stmts to.old.items)
+        (statement (plain_program scene.now.definitions.now.program.now) scene.now.numbers.now (plain_spot spot.now) types.old.items
+        (while_loop a.now e.now))) }
     ensures types { OnOk result (types.new.items ≡ types.old.items ++ statement_temporaries (while_loop a.now e.now)) }
     ensures numbers { OnOk result (HasNumbers (while_loop a.now e.now)) }
 {
@@ -283,7 +296,8 @@ fn do_loop(
     types: &mut Vec<MonType>,
     to: &mut Vec<MonStmt>,
 ) -> Result<(), AllocError>
-    ensures code { OnOk result (plain_stmts to.new.items ≡ before (plain_stmts to.old.items) (statement (plain_program scene.now.definitions.now.program.now) scene.now.numbers.now (plain_spot spot.now) types.old.items (do_loop a.now e.now))) }
+    ensures code { OnOk result (plain_stmts to.new.items ≡ before (plain_stmts to.old.items)
+        (statement (plain_program scene.now.definitions.now.program.now) scene.now.numbers.now (plain_spot spot.now) types.old.items (do_loop a.now e.now))) }
     ensures types { OnOk result (types.new.items ≡ types.old.items ++ statement_temporaries (do_loop a.now e.now)) }
     ensures numbers { OnOk result (HasNumbers (do_loop a.now e.now)) }
 {
@@ -304,7 +318,11 @@ fn enter_for(
     to: &mut Vec<MonStmt>,
 ) -> Result<Vec<u32>, AllocError>
     ensures own { IfOk result (λ own. own.items ≡ with_born scene.now.numbers.now (declared_first (plain_first_part first.now)) []) }
-    ensures code { OnOk result (plain_stmts to.new.items ≡ before (plain_stmts to.old.items) (before (births scene.now.numbers.now (declared_first (plain_first_part first.now))) (first_part (plain_program scene.now.definitions.now.program.now) scene.now.numbers.now (with_variables scene.now.numbers.now (declared_first (plain_first_part first.now)) (plain_spot spot.now)) types.old.items (plain_first_part first.now)))) }
+    ensures code { OnOk result (plain_stmts to.new.items ≡ before (plain_stmts to.old.items)
+        (before (births scene.now.numbers.now (declared_first (plain_first_part first.now)))
+        (first_part (plain_program scene.now.definitions.now.program.now) scene.now.numbers.now
+        (with_variables scene.now.numbers.now (declared_first (plain_first_part first.now)) (plain_spot spot.now)) types.old.items
+        (plain_first_part first.now)))) }
     ensures types { OnOk result (types.new.items ≡ types.old.items ++ first_temporaries (plain_first_part first.now)) }
     ensures numbers { OnOk result (FirstHasNumbers (plain_first_part first.now)) }
 {
@@ -331,9 +349,14 @@ fn rest_of_for(
     types: &mut Vec<MonType>,
     to: &mut Vec<MonStmt>,
 ) -> Result<(), AllocError>
-    ensures code { OnOk result (plain_stmts to.new.items ≡ before (plain_stmts to.old.items) (before (turns (plain_program scene.now.definitions.now.program.now) scene.now.numbers.now (with_blocks own.items (plain_spot spot.now)) types.old.items (option_map plain_expr controls.entry.0.now) (option_map plain_expr controls.entry.1.now) (plain_stmt a.now)) (deaths own.items))) }
-    ensures types { OnOk result (types.new.items ≡ types.old.items ++ (any_temporaries temporaries (option_map plain_expr controls.entry.0.now) ++ statement_temporaries (plain_stmt a.now) ++ any_temporaries effect_temporaries (option_map plain_expr controls.entry.1.now))) }
-    ensures numbers { OnOk result (Any HasLetters (option_map plain_expr controls.entry.0.now) × HasNumbers (plain_stmt a.now) × Any EffectHasLetters (option_map plain_expr controls.entry.1.now)) }
+    ensures code { OnOk result (plain_stmts to.new.items ≡ before (plain_stmts to.old.items)
+        (before (turns (plain_program scene.now.definitions.now.program.now) scene.now.numbers.now (with_blocks own.items (plain_spot spot.now)) types.old.items
+        (option_map plain_expr controls.entry.0.now) (option_map plain_expr controls.entry.1.now) (plain_stmt a.now)) (deaths own.items))) }
+    ensures types { OnOk result (types.new.items ≡ types.old.items ++
+        (any_temporaries temporaries (option_map plain_expr controls.entry.0.now) ++ statement_temporaries (plain_stmt a.now) ++ any_temporaries
+        effect_temporaries (option_map plain_expr controls.entry.1.now))) }
+    ensures numbers { OnOk result (Any HasLetters (option_map plain_expr controls.entry.0.now) × HasNumbers (plain_stmt a.now)
+        × Any EffectHasLetters (option_map plain_expr controls.entry.1.now)) }
 {
     let live = inside(alloc, &own, spot.inside)?;
     let around = Spot {
@@ -357,8 +380,10 @@ fn tested(
     to: &mut Vec<MonStmt>,
 ) -> Result<(MonExpr, Vec<MonStmt>), AllocError>
     ensures condition { IfOk result (λ r. plain_monitored r.0 ≡ condition_of scene.now.numbers.now types.old.items (plain_expr e.now)) }
-    ensures first { IfOk result (λ r. plain_stmts r.1.items ≡ statement (plain_program scene.now.definitions.now.program.now) scene.now.numbers.now (plain_spot spot.now) (types.old.items ++ temporaries (plain_expr e.now)) (plain_stmt a.now)) }
-    ensures setup { OnOk result (plain_stmts to.new.items ≡ before (plain_stmts to.old.items) (setup scene.now.numbers.now types.old.items (plain_expr e.now))) }
+    ensures first { IfOk result (λ r. plain_stmts r.1.items ≡ statement (plain_program scene.now.definitions.now.program.now) scene.now.numbers.now
+        (plain_spot spot.now) (types.old.items ++ temporaries (plain_expr e.now)) (plain_stmt a.now)) }
+    ensures setup { OnOk result (plain_stmts to.new.items ≡ before (plain_stmts to.old.items)
+        (setup scene.now.numbers.now types.old.items (plain_expr e.now))) }
     ensures types { OnOk result (types.new.items ≡ types.old.items ++ (temporaries (plain_expr e.now) ++ statement_temporaries (plain_stmt a.now))) }
     ensures numbers { OnOk result (HasLetters (plain_expr e.now) × HasNumbers (plain_stmt a.now)) }
 {
@@ -378,7 +403,9 @@ fn branches(
     types: &mut Vec<MonType>,
     to: &mut Vec<MonStmt>,
 ) -> Result<(), AllocError>
-    ensures code { OnOk result (plain_stmts to.new.items ≡ before (plain_stmts to.old.items) (one (If (plain_monitored front.0) (plain_stmts front.1.items) (else_part (plain_program scene.now.definitions.now.program.now) scene.now.numbers.now (plain_spot spot.now) types.old.items (plain_else_part b.now))))) }
+    ensures code { OnOk result (plain_stmts to.new.items ≡ before (plain_stmts to.old.items)
+        (one (If (plain_monitored front.0) (plain_stmts front.1.items) (else_part (plain_program scene.now.definitions.now.program.now) scene.now.numbers.now
+        (plain_spot spot.now) types.old.items (plain_else_part b.now))))) }
     ensures types { OnOk result (types.new.items ≡ types.old.items ++ else_temporaries (plain_else_part b.now)) }
     ensures numbers { OnOk result (ElseHasNumbers (plain_else_part b.now)) }
 {
@@ -396,7 +423,8 @@ fn apart(
     s: &Stmt,
     types: &mut Vec<MonType>,
 ) -> Result<Vec<MonStmt>, AllocError>
-    ensures code { IfOk result (λ code. plain_stmts code.items ≡ statement (plain_program scene.now.definitions.now.program.now) scene.now.numbers.now (plain_spot spot.now) types.old.items (plain_stmt s.now)) }
+    ensures code { IfOk result (λ code. plain_stmts code.items ≡ statement (plain_program scene.now.definitions.now.program.now) scene.now.numbers.now
+        (plain_spot spot.now) types.old.items (plain_stmt s.now)) }
     ensures types { OnOk result (types.new.items ≡ types.old.items ++ statement_temporaries (plain_stmt s.now)) }
     ensures numbers { OnOk result (HasNumbers (plain_stmt s.now)) }
 {
@@ -414,7 +442,8 @@ fn else_part(
     b: &Option<Stmt>,
     types: &mut Vec<MonType>,
 ) -> Result<Vec<MonStmt>, AllocError>
-    ensures code { IfOk result (λ code. plain_stmts code.items ≡ else_part (plain_program scene.now.definitions.now.program.now) scene.now.numbers.now (plain_spot spot.now) types.old.items (plain_else_part b.now)) }
+    ensures code { IfOk result (λ code. plain_stmts code.items ≡ else_part (plain_program scene.now.definitions.now.program.now) scene.now.numbers.now
+        (plain_spot spot.now) types.old.items (plain_else_part b.now)) }
     ensures types { OnOk result (types.new.items ≡ types.old.items ++ else_temporaries (plain_else_part b.now)) }
     ensures numbers { OnOk result (ElseHasNumbers (plain_else_part b.now)) }
 {
@@ -434,7 +463,9 @@ fn block(
     types: &mut Vec<MonType>,
     to: &mut Vec<MonStmt>,
 ) -> Result<(), AllocError>
-    ensures code { OnOk result (plain_stmts to.new.items ≡ before (plain_stmts to.old.items) (alive scene.now.numbers.now (declared_in (plain_items body.now)) (items (plain_program scene.now.definitions.now.program.now) scene.now.numbers.now (with_variables scene.now.numbers.now (declared_in (plain_items body.now)) (plain_spot spot.now)) types.old.items (plain_items body.now)))) }
+    ensures code { OnOk result (plain_stmts to.new.items ≡ before (plain_stmts to.old.items) (alive scene.now.numbers.now (declared_in (plain_items body.now))
+        (items (plain_program scene.now.definitions.now.program.now) scene.now.numbers.now
+        (with_variables scene.now.numbers.now (declared_in (plain_items body.now)) (plain_spot spot.now)) types.old.items (plain_items body.now)))) }
     ensures types { OnOk result (types.new.items ≡ types.old.items ++ items_temporaries (plain_items body.now)) }
     ensures numbers { OnOk result (HaveNumbers (plain_items body.now)) }
 {
@@ -459,7 +490,9 @@ fn first_part(
     types: &mut Vec<MonType>,
     to: &mut Vec<MonStmt>,
 ) -> Result<(), AllocError>
-    ensures code { OnOk result (plain_stmts to.new.items ≡ before (plain_stmts to.old.items) (first_part (plain_program scene.now.definitions.now.program.now) scene.now.numbers.now (plain_spot spot.now) types.old.items (plain_first_part first.now))) }
+    ensures code { OnOk result (plain_stmts to.new.items ≡ before (plain_stmts to.old.items)
+        (first_part (plain_program scene.now.definitions.now.program.now) scene.now.numbers.now (plain_spot spot.now) types.old.items
+        (plain_first_part first.now))) }
     ensures types { OnOk result (types.new.items ≡ types.old.items ++ first_temporaries (plain_first_part first.now)) }
     ensures numbers { OnOk result (FirstHasNumbers (plain_first_part first.now)) }
 {
@@ -480,9 +513,14 @@ fn turns(
     types: &mut Vec<MonType>,
     to: &mut Vec<MonStmt>,
 ) -> Result<(), AllocError>
-    ensures code { OnOk result (plain_stmts to.new.items ≡ before (plain_stmts to.old.items) (turns (plain_program scene.now.definitions.now.program.now) scene.now.numbers.now (plain_spot spot.now) types.old.items (option_map plain_expr controls.entry.0.now) (option_map plain_expr controls.entry.1.now) (plain_stmt a.now))) }
-    ensures types { OnOk result (types.new.items ≡ types.old.items ++ (any_temporaries temporaries (option_map plain_expr controls.entry.0.now) ++ statement_temporaries (plain_stmt a.now) ++ any_temporaries effect_temporaries (option_map plain_expr controls.entry.1.now))) }
-    ensures numbers { OnOk result (Any HasLetters (option_map plain_expr controls.entry.0.now) × HasNumbers (plain_stmt a.now) × Any EffectHasLetters (option_map plain_expr controls.entry.1.now)) }
+    ensures code { OnOk result (plain_stmts to.new.items ≡ before (plain_stmts to.old.items)
+        (turns (plain_program scene.now.definitions.now.program.now) scene.now.numbers.now (plain_spot spot.now) types.old.items
+        (option_map plain_expr controls.entry.0.now) (option_map plain_expr controls.entry.1.now) (plain_stmt a.now))) }
+    ensures types { OnOk result (types.new.items ≡ types.old.items ++
+        (any_temporaries temporaries (option_map plain_expr controls.entry.0.now) ++ statement_temporaries (plain_stmt a.now) ++ any_temporaries
+        effect_temporaries (option_map plain_expr controls.entry.1.now))) }
+    ensures numbers { OnOk result (Any HasLetters (option_map plain_expr controls.entry.0.now) × HasNumbers (plain_stmt a.now)
+        × Any EffectHasLetters (option_map plain_expr controls.entry.1.now)) }
 {
     let (e, step) = controls;
     let loops = one_more(spot.loops)?;
@@ -503,7 +541,8 @@ fn item(
     types: &mut Vec<MonType>,
     to: &mut Vec<MonStmt>,
 ) -> Result<(), AllocError>
-    ensures code { OnOk result (plain_stmts to.new.items ≡ before (plain_stmts to.old.items) (item (plain_program scene.now.definitions.now.program.now) scene.now.numbers.now (plain_spot spot.now) types.old.items (plain_item i.now))) }
+    ensures code { OnOk result (plain_stmts to.new.items ≡ before (plain_stmts to.old.items)
+        (item (plain_program scene.now.definitions.now.program.now) scene.now.numbers.now (plain_spot spot.now) types.old.items (plain_item i.now))) }
     ensures types { OnOk result (types.new.items ≡ types.old.items ++ item_temporaries (plain_item i.now)) }
     ensures numbers { OnOk result (ItemHasNumbers (plain_item i.now)) }
 {
@@ -524,7 +563,8 @@ fn items(
     types: &mut Vec<MonType>,
     to: &mut Vec<MonStmt>,
 ) -> Result<(), AllocError>
-    ensures code { OnOk result (plain_stmts to.new.items ≡ before (plain_stmts to.old.items) (items (plain_program scene.now.definitions.now.program.now) scene.now.numbers.now (plain_spot spot.now) types.old.items (plain_items block.now))) }
+    ensures code { OnOk result (plain_stmts to.new.items ≡ before (plain_stmts to.old.items)
+        (items (plain_program scene.now.definitions.now.program.now) scene.now.numbers.now (plain_spot spot.now) types.old.items (plain_items block.now))) }
     ensures types { OnOk result (types.new.items ≡ types.old.items ++ items_temporaries (plain_items block.now)) }
     ensures numbers { OnOk result (HaveNumbers (plain_items block.now)) }
 {

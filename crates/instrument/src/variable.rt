@@ -7,7 +7,8 @@ ghost use Rattle.c_model.specs.Formed.{declared_in_body, declared_in_else, decla
 ghost use Rattle.mon_syntax.specs.Trees.{plain_register};
 ghost use Rattle.instrument.specs.Growth.{Grows};
 ghost use Rattle.instrument.specs.Options.{plain_else_part, plain_first_part};
-ghost use Rattle.instrument.specs.Translation.{own_name, pointer_types, pointers_from, value_types, values_from, variable_numbers, variable_types, variables_of};
+ghost use Rattle.instrument.specs.Translation.{own_name, pointer_types, pointers_from, value_types, values_from, variable_numbers, variable_types};
+ghost use Rattle.instrument.specs.Translation.{variables_of};
 
 use crate::name::{pointer_name, register_name};
 use c_effects::conversion::value_type;
@@ -163,8 +164,10 @@ fn declare_body(
 // The registers that point to the blocks of the variables.
 fn point(alloc: Global, to: &mut Variables) -> Result<(), AllocError>
     ensures numbers { OnOk result (to.new.numbers.items ≡ to.old.numbers.items) }
-    ensures types { OnOk result ((ds : List Declaration) → length ds ≡ length to.old.numbers.items → to.new.types.items ≡ to.old.types.items ++ pointer_types ds) }
-    ensures registers { OnOk result ((ds : List Declaration) → length ds ≡ length to.old.numbers.items → map plain_register to.new.registers.items ≡ map plain_register to.old.registers.items ++ pointers_from (length ds) ds) }
+    ensures types { OnOk result ((ds : List Declaration) → length ds ≡ length to.old.numbers.items
+        → to.new.types.items ≡ to.old.types.items ++ pointer_types ds) }
+    ensures registers { OnOk result ((ds : List Declaration) → length ds ≡ length to.old.numbers.items
+        → map plain_register to.new.registers.items ≡ map plain_register to.old.registers.items ++ pointers_from (length ds) ds) }
 {
     let count = to.numbers.len();
     'variables: for k in 0..count {
@@ -200,7 +203,8 @@ pub fn variables_of(
     ensures parameters { IfOk result (λ r. map plain_register r.0.items ≡ values_from texts.now 0 (plain_func f.now).params) }
     ensures numbers { IfOk result (λ r. r.1.numbers.items ≡ variable_numbers (plain_func f.now)) }
     ensures types { IfOk result (λ r. r.1.types.items ≡ variable_types (plain_func f.now)) }
-    ensures registers { IfOk result (λ r. map plain_register r.1.registers.items ≡ values_from texts.now (length (plain_func f.now).params) (declared_in_body (plain_func f.now).body) ++ pointers_from (length (variables_of (plain_func f.now))) (variables_of (plain_func f.now))) }
+    ensures registers { IfOk result (λ r. map plain_register r.1.registers.items ≡ values_from texts.now (length (plain_func f.now).params)
+        (declared_in_body (plain_func f.now).body) ++ pointers_from (length (variables_of (plain_func f.now))) (variables_of (plain_func f.now))) }
 {
     let Variables {
         numbers,

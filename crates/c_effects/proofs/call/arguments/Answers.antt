@@ -35,7 +35,8 @@ expressions-preserved c =
     let left = left_at plain_exprs c.args.args.now c.expressions.e-index _ _ c.expressions-test.true c.e-item.is refl in
     let pushed = ap (map plain_monitored) c.in_ok-push.ensures.items ∙ map-append plain_monitored c.expressions.values.items (c.in_ok-expression.field-0 ∷ []) ∙ ap (λ v. values ++ v ∷ []) c.in_ok-expression.ensures.value in (
       grown_behind values (value numbers rs e ∷ []) rs (temporaries e) (λ l. arguments numbers l rest) (ap (arguments numbers rs) left) pushed c.in_ok-expression.ensures.types c.expressions.invariant.0,
-      more_behind (plain_stmts c.expressions.to.items) (setup numbers rs e) rs (temporaries e) (λ l. arguments_setup numbers l rest) (ap (arguments_setup numbers rs) left) c.in_ok-expression.ensures.setup c.in_ok-expression.ensures.types c.expressions.invariant.1,
+      more_behind (plain_stmts c.expressions.to.items) (setup numbers rs e) rs (temporaries e) (λ l. arguments_setup numbers l rest) (ap (arguments_setup numbers rs) left) c.in_ok-expression.ensures.setup c.in_ok-expression.ensures.types
+          c.expressions.invariant.1,
       grown rs (temporaries e) (arguments_temporaries rest) (ap arguments_temporaries left) c.in_ok-expression.ensures.types c.expressions.invariant.2,
       λ l. c.expressions.invariant.3 (subst ArgumentsHaveLetters (sym left) (c.in_ok-expression.ensures.letters, l)),
     )

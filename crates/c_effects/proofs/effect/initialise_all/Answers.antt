@@ -18,7 +18,8 @@ decls-preserved c =
     let numbers = c.args.scene.now.numbers.now in
     let d = plain_decl c.d-item.result in
     let left = left_at (map plain_decl) c.args.decls.now c.decls.d-index _ _ c.decls-test.true c.d-item.is refl in (
-      more_behind (plain_stmts c.decls.to.items) (initialise p numbers c.decls.types.items (number_of d) d.init) c.decls.types.items (initial_temporaries d.init) (λ rs. initialise_all p numbers rs (map plain_decl (drop (c.decls.d-index + 1) c.args.decls.now)))
+      more_behind (plain_stmts c.decls.to.items) (initialise p numbers c.decls.types.items (number_of d) d.init) c.decls.types.items (initial_temporaries d.init)
+          (λ rs. initialise_all p numbers rs (map plain_decl (drop (c.decls.d-index + 1) c.args.decls.now)))
           (ap (initialise_all p numbers c.decls.types.items) left) c.in_ok-initialise.ensures.code c.in_ok-initialise.ensures.types c.decls.invariant.0,
       grown c.decls.types.items (initial_temporaries d.init) _ (ap declaration_temporaries left) c.in_ok-initialise.ensures.types c.decls.invariant.1,
       λ rest. c.decls.invariant.2 (subst InitialsHaveLetters (sym left) (c.in_ok-initialise.ensures.letters, rest)),

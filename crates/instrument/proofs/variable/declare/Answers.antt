@@ -16,7 +16,8 @@ decls-preserved c =
     let name = c.in_ok-name.ensures ∙ ap (register_name c.len.result) c.own_name.ensures ∙ ap (λ k. register_name k (own_name texts d)) (c.len.ensures ∙ z) in
     let left = left_at (map plain_decl) c.args.decls.now c.decls.d-index _ _ c.decls-test.true c.d-item.is refl in
     step texts _ c.decls.to _ _ _ (d ∷ []) _ left
-    (grows_one texts c.decls.to _ d _ c.in_ok-push.ensures.items (c.in_ok-push-2.ensures.items ∙ ap (λ t. c.decls.to.types.items ++ t ∷ []) c.value_type-kind.ensures) c.in_ok-push-3.ensures.items (λ i. record { kind = c.value_type-kind.ensures i; name = name i }))
+    (grows_one texts c.decls.to _ d _ c.in_ok-push.ensures.items (c.in_ok-push-2.ensures.items ∙ ap (λ t. c.decls.to.types.items ++ t ∷ []) c.value_type-kind.ensures) c.in_ok-push-3.ensures.items
+        (λ i. record { kind = c.value_type-kind.ensures i; name = name i }))
     c.decls.invariant
 
 pub returns : goal.returns
