@@ -173,9 +173,9 @@ setup numbers rs (Node at t (source.Either a b)) =
 setup numbers rs (Node at t (source.Choice a b c)) =
     before (setup numbers rs a) (one (If (condition_of numbers rs a)
     (before (setup numbers (rs ++ temporaries a) b) (set (length (rs ++ temporaries a ++ temporaries b ++ temporaries c))
-        (value numbers (rs ++ temporaries a) b)))
+    (value numbers (rs ++ temporaries a) b)))
     (before (setup numbers (rs ++ temporaries a ++ temporaries b) c) (set (length (rs ++ temporaries a ++ temporaries b ++ temporaries c))
-        (value numbers (rs ++ temporaries a ++ temporaries b) c)))))
+    (value numbers (rs ++ temporaries a ++ temporaries b) c)))))
 setup numbers rs (Node at t (source.Cast to a)) = setup numbers rs a
 setup numbers rs _ = NoStatement
 

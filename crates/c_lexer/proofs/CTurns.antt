@@ -26,7 +26,8 @@ unfolding cut
 cut_one at fresh m [] p n lt e = absurd (omega arith)
 cut_one at fresh m (b ∷ bs) p n lt e =
     let one : cut 0 at fresh m (b ∷ bs) ≡ Cut at p (take (suc n) (b ∷ bs)) (cut n (next at b) (fresh_behind fresh b) (mode_after m p) bs) = rw (e, cut) refl in
-    let two : cut 0 at fresh m (b ∷ bs) ≡ Cut at p (take (suc n) (b ∷ bs)) (cut 0 (walk at (take (suc n) (b ∷ bs))) (fresh_after fresh (take (suc n) (b ∷ bs))) (mode_after m p) (drop (suc n) (b ∷ bs))) = one ∙ ap (Cut at p (take (suc n) (b ∷ bs))) (cut_skip n (next at b) (fresh_behind fresh b) (mode_after m p) bs) in
+    let two : cut 0 at fresh m (b ∷ bs) ≡ Cut at p (take (suc n) (b ∷ bs)) (cut 0 (walk at (take (suc n) (b ∷ bs))) (fresh_after fresh (take (suc n) (b ∷ bs))) (mode_after m p) (drop (suc n) (b ∷ bs))) = one ∙ ap (Cut at p (take (suc n) (b ∷ bs)))
+    (cut_skip n (next at b) (fresh_behind fresh b) (mode_after m p) bs) in
     rw add-one two
 
 pub cut_broken : (at : Place) (fresh : Bool) (m : Mode) (bs : List ℕ) (f : Fault) → 0 < length bs → piece_at m fresh bs ≡ Err f → cut 0 at fresh m bs ≡ Broken at f bs
@@ -45,7 +46,8 @@ with_string_last (x ∷ []) t at bs = refl
 with_string_last (x ∷ y ∷ ts) t at bs = ap (λ (r : List PlainToken). x ∷ r) (with_string_last (y ∷ ts) t at bs)
 
 -- one turn of the loop
-pub goes_on : (r r2 : Read) (at : Place) (fresh : Bool) (m : Mode) (bs rest bytes : List ℕ) (pos n : ℕ) (p : Piece) (total : Result PlainTokens PlainRefusal) → rest ≡ drop pos bs → n < length rest → piece_at m fresh rest ≡ Ok (record { piece = p; more = n })
+pub goes_on : (r r2 : Read) (at : Place) (fresh : Bool) (m : Mode) (bs rest bytes : List ℕ) (pos n : ℕ) (p : Piece) (total : Result PlainTokens PlainRefusal) → rest ≡ drop pos bs → n < length rest
+    → piece_at m fresh rest ≡ Ok (record { piece = p; more = n })
     → bytes ≡ take (n + 1) rest → r2 ≡ add r at p bytes → ltb most_tokens (length r2.list) ≡ false
     → build r (cut 0 at fresh m (drop pos bs)) ≡ total → build r2 (cut 0 (walk at bytes) (fresh_after fresh bytes) (mode_after m p) (drop (pos + (n + 1)) bs)) ≡ total
 unfolding build
@@ -54,7 +56,8 @@ goes_on r r2 at fresh m bs rest bytes pos n p total e lt q b a within so_far =
     let one : build r (cut 0 at fresh m rest) ≡ build r2 (cut 0 (walk at bytes) (fresh_after fresh bytes) (mode_after m p) (drop (n + 1) rest)) = rw (cut_one at fresh m rest p n lt q, ← b, ← a, within) refl in
     ap (λ (l : List ℕ). build r2 (cut 0 (walk at bytes) (fresh_after fresh bytes) (mode_after m p) l)) (sym left) ∙ sym one ∙ ap (λ (l : List ℕ). build r (cut 0 at fresh m l)) e ∙ so_far
 
-pub too_many : (r r2 : Read) (at : Place) (fresh : Bool) (m : Mode) (bs rest bytes : List ℕ) (pos n : ℕ) (p : Piece) (total : Result PlainTokens PlainRefusal) → rest ≡ drop pos bs → n < length rest → piece_at m fresh rest ≡ Ok (record { piece = p; more = n })
+pub too_many : (r r2 : Read) (at : Place) (fresh : Bool) (m : Mode) (bs rest bytes : List ℕ) (pos n : ℕ) (p : Piece) (total : Result PlainTokens PlainRefusal) → rest ≡ drop pos bs → n < length rest
+    → piece_at m fresh rest ≡ Ok (record { piece = p; more = n })
     → bytes ≡ take (n + 1) rest → r2 ≡ add r at p bytes → ltb most_tokens (length r2.list) ≡ true
     → build r (cut 0 at fresh m (drop pos bs)) ≡ total → total ≡ Err (refused at fault.Limit [])
 unfolding build

@@ -26,7 +26,8 @@ unfolding cut
 cut_one at fresh [] p n lt e = absurd (omega arith)
 cut_one at fresh (b ∷ bs) p n lt e =
     let one : cut 0 at fresh (b ∷ bs) ≡ Cut at p (take (suc n) (b ∷ bs)) (cut n (next at b) (fresh_behind fresh b) bs) = rw (e, cut) refl in
-    let two : cut 0 at fresh (b ∷ bs) ≡ Cut at p (take (suc n) (b ∷ bs)) (cut 0 (walk at (take (suc n) (b ∷ bs))) (fresh_after fresh (take (suc n) (b ∷ bs))) (drop (suc n) (b ∷ bs))) = one ∙ ap (Cut at p (take (suc n) (b ∷ bs))) (cut_skip n (next at b) (fresh_behind fresh b) bs) in
+    let two : cut 0 at fresh (b ∷ bs) ≡ Cut at p (take (suc n) (b ∷ bs)) (cut 0 (walk at (take (suc n) (b ∷ bs))) (fresh_after fresh (take (suc n) (b ∷ bs))) (drop (suc n) (b ∷ bs))) = one ∙ ap (Cut at p (take (suc n) (b ∷ bs)))
+    (cut_skip n (next at b) (fresh_behind fresh b) bs) in
     rw add-one two
 
 pub cut_broken : (at : Place) (fresh : Bool) (bs : List ℕ) (f : Fault) → 0 < length bs → piece_at fresh bs ≡ Err f → cut 0 at fresh bs ≡ Broken at f bs

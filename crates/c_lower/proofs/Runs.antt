@@ -10,10 +10,12 @@ use Rattle.c_syntax.specs.declared.types.How.TheVariants as how
 use Rattle.c_model.specs.Integers.{byte_of}
 use Rattle.c_model.specs.Operators.{floor_quotient}
 use Rattle.c_model.specs.State.{Input, Final, Exits, Broken, Fault, Spent, Full, ReadFault}
-use Rattle.mon_syntax.specs.Trees.{MonExpression, Register, Constant, Binary, Minus, Flip, Cast, MonStatement, Set, Step, Assert, PutChar, GetChar, Exit, PrintText, PrintSigned, PrintUnsigned, Act, Call, If, Loop, Labelled, Goto, Return, MonStatements, NoStatement, Then}
+use Rattle.mon_syntax.specs.Trees.{MonExpression, Register, Constant, Binary, Minus, Flip, Cast, MonStatement, Set, Step, Assert, PutChar, GetChar, Exit, PrintText, PrintSigned, PrintUnsigned, Act, Call, If, Loop, Labelled, Goto, Return}
+use Rattle.mon_syntax.specs.Trees.{MonStatements, NoStatement, Then}
 use Rattle.mon_syntax.specs.Arithmetic.{wrap, operate, minus, flipped}
 use Rattle.mon_syntax.specs.Memory.{Memory, Reply, Gives, IsFull, Faults}
-use Rattle.mon_syntax.specs.Meaning.{State, Result, Done, Stops, Flow, Next, Goes, Returns, writes, then_do, at_next, at_label, ◌>>=◌, with_value, choose, step_from, given_to, got, with_read, number_or_none, eval, eval_all, eval_number, replied, Calls, Does, turns, exec, exec_all}
+use Rattle.mon_syntax.specs.Meaning.{State, Result, Done, Stops, Flow, Next, Goes, Returns, writes, then_do, at_next, at_label, ◌>>=◌, with_value, choose, step_from, given_to, got, with_read, number_or_none, eval, eval_all, eval_number, replied}
+use Rattle.mon_syntax.specs.Meaning.{Calls, Does, turns, exec, exec_all}
 use Rattle.c_lower.specs.declared.code.Entry.{Entry}
 use Rattle.c_lower.specs.declared.code.Instr.{Instr}
 use Rattle.c_lower.specs.declared.code.Instr.TheVariants as instr

@@ -56,7 +56,8 @@ fn emit_choice(
     second: &[MonStmt],
     labels: &Labels<'_>,
 ) -> Result<(), AllocError>
-    ensures { OnOk result (code.new ≡ statement_code (If (plain_expr e.now) (plain_stmts first.now) (plain_stmts second.now)) (length code.old) (open_labels labels.now) ++ code.old) }
+    ensures { OnOk result (code.new ≡ statement_code (If (plain_expr e.now) (plain_stmts first.now) (plain_stmts second.now)) (length code.old)
+        (open_labels labels.now) ++ code.old) }
 {
     let end = code.len();
     emit_statements(code, second, labels)?;
@@ -74,7 +75,8 @@ fn emit_loop(
     behind: &[MonStmt],
     labels: &Labels<'_>,
 ) -> Result<(), AllocError>
-    ensures { OnOk result (code.new ≡ statement_code (Loop (plain_stmts before.now) (plain_stmts behind.now)) (length code.old) (open_labels labels.now) ++ code.old) }
+    ensures { OnOk result (code.new ≡ statement_code (Loop (plain_stmts before.now) (plain_stmts behind.now)) (length code.old) (open_labels labels.now)
+        ++ code.old) }
 {
     let end = code.len();
     code.put(Instr::GoBack(0))?;

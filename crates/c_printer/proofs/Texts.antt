@@ -17,8 +17,11 @@ use Rattle.mon_syntax.specs.declared.tree.MonExprKind.{MonExprKind}
 use Rattle.mon_syntax.specs.declared.tree.MonType.{MonType}
 use Rattle.mon_syntax.specs.declared.tree.MonOp.{MonOp}
 use Rattle.mon_syntax.specs.Names.{constant_word, type_word}
-use Rattle.mon_syntax.specs.Trees.{MonExpression, Constant, Binary, Minus, Flip, Cast, Set, Assert, Return, If, Loop, Labelled, MonStatement, MonStatements, MonRegister, MonFunction, plain_expr, plain_expr_kind, plain_stmt, plain_stmt_kind, plain_stmts, plain_register, plain_func}
-use Rattle.mon_syntax.specs.Text.{Piece, FunctionNames, arguments_pieces, more_arguments, set_or_none, Word, Mark, escaped, is_plain, Registers, Quoted, blank, body_pieces, new_line, right_paren, statements_pieces, registers_pieces, more_parameters, function_pieces, functions_pieces, assert_arguments, call_pieces, expression_pieces, name_of, number_pieces, operator_mark, parameter_pieces, parameters_pieces, result_word, in_parens, semicolon, set_pieces, spelled, spelled_piece, statement_pieces}
+use Rattle.mon_syntax.specs.Trees.{MonExpression, Constant, Binary, Minus, Flip, Cast, Set, Assert, Return, If, Loop, Labelled, MonStatement, MonStatements, MonRegister, MonFunction, plain_expr, plain_expr_kind, plain_stmt, plain_stmt_kind}
+use Rattle.mon_syntax.specs.Trees.{plain_stmts, plain_register, plain_func}
+use Rattle.mon_syntax.specs.Text.{Piece, FunctionNames, arguments_pieces, more_arguments, set_or_none, Word, Mark, escaped, is_plain, Registers, Quoted, blank, body_pieces, new_line, right_paren, statements_pieces, registers_pieces, more_parameters}
+use Rattle.mon_syntax.specs.Text.{function_pieces, functions_pieces, assert_arguments, call_pieces, expression_pieces, name_of, number_pieces, operator_mark, parameter_pieces, parameters_pieces, result_word, in_parens, semicolon, set_pieces, spelled}
+use Rattle.mon_syntax.specs.Text.{spelled_piece, statement_pieces}
 use Rattle.std.specs.Prelude.{Option, option_map}
 use Rattle.c_printer.specs.Heads.{head_pieces}
 
@@ -74,7 +77,8 @@ pub no_arguments_text : (rs : Registers) (l : List MonExpr) → length l < 1 →
 no_arguments_text rs [] none = refl
 no_arguments_text rs (e ∷ rest) none = absurd (omega (arith, none))
 
-pub arguments_text : (rs : Registers) (l : List MonExpr) (first : MonExpr) → 1 ≤ length l → first ≡ get_or l 0 first → spelled (arguments_pieces rs (map plain_expr l)) ≡ text rs (plain_expr first) ++ spelled (more_arguments rs (map plain_expr (take (length l - 1) (drop 1 l))))
+pub arguments_text : (rs : Registers) (l : List MonExpr) (first : MonExpr) → 1 ≤ length l → first ≡ get_or l 0 first
+    → spelled (arguments_pieces rs (map plain_expr l)) ≡ text rs (plain_expr first) ++ spelled (more_arguments rs (map plain_expr (take (length l - 1) (drop 1 l))))
 arguments_text rs [] first some same = absurd (omega (arith, some))
 arguments_text rs (e ∷ rest) first some same =
     let count : length (e ∷ rest) - 1 ≡ length rest = omega arith in
@@ -95,13 +99,16 @@ abbrev end_text : ℕ → ℕ → Kind → List ℕ
 end_text number line kind =
     decimal number ++ (codes ", " ++ (decimal line ++ (codes ", " ++ (spelled_piece (Quoted (kind_word kind)) ++ codes ");"))))
 
-pub assertion_text : (rs : Registers) (d v : MonExpression) (number line : ℕ) (kind : Kind) → spelled (statement_pieces [] rs 0 (Assert d v number line kind)) ≡ codes "__e_acsl_assert(" ++ (text rs d ++ (codes ", " ++ (text rs v ++ (codes ", " ++ end_text number line kind))))
+pub assertion_text : (rs : Registers) (d v : MonExpression) (number line : ℕ) (kind : Kind) → spelled (statement_pieces [] rs 0 (Assert d v number line kind)) ≡ codes "__e_acsl_assert(" ++
+    (text rs d ++ (codes ", " ++ (text rs v ++ (codes ", " ++ end_text number line kind))))
 assertion_text rs d v number line kind = ap (λ l. codes "__e_acsl_assert(" ++ l) (spelled_append (assert_arguments rs d v number line (kind_word kind)) _ ∙ ap (λ l. l ++ codes ");") arguments ∙ behind)
   where
-    arguments : spelled (assert_arguments rs d v number line (kind_word kind)) ≡ text rs d ++ (codes ", " ++ (text rs v ++ (codes ", " ++ (decimal number ++ (codes ", " ++ (decimal line ++ (codes ", " ++ (spelled_piece (Quoted (kind_word kind)) ++ []))))))))
+    arguments : spelled (assert_arguments rs d v number line (kind_word kind)) ≡ text rs d ++ (codes ", " ++
+        (text rs v ++ (codes ", " ++ (decimal number ++ (codes ", " ++ (decimal line ++ (codes ", " ++ (spelled_piece (Quoted (kind_word kind)) ++ []))))))))
     arguments = spelled_append (expression_pieces rs d) _ ∙ ap (λ l. text rs d ++ (codes ", " ++ l)) (spelled_append (expression_pieces rs v) _)
 
-    behind : (text rs d ++ (codes ", " ++ (text rs v ++ (codes ", " ++ (decimal number ++ (codes ", " ++ (decimal line ++ (codes ", " ++ (spelled_piece (Quoted (kind_word kind)) ++ []))))))))) ++ codes ");" ≡ text rs d ++ (codes ", " ++ (text rs v ++ (codes ", " ++ end_text number line kind)))
+    behind : (text rs d ++ (codes ", " ++ (text rs v ++ (codes ", " ++ (decimal number ++ (codes ", " ++ (decimal line ++ (codes ", " ++ (spelled_piece (Quoted (kind_word kind)) ++ []))))))))) ++ codes ");" ≡ text rs d ++
+        (codes ", " ++ (text rs v ++ (codes ", " ++ end_text number line kind)))
     behind = simp append_assoc
 
 pub register_text : (r : MonRegister) → spelled (parameter_pieces r) ≡ type_word r.kind ++ (codes " " ++ r.name)
@@ -117,12 +124,14 @@ in_parens_text : (inner behind : List Piece) → spelled ((inner ++ (right_paren
 in_parens_text inner behind =
     spelled_append (inner ++ (right_paren ∷ [])) behind ∙ ap (λ l. l ++ spelled behind) (spelled_append inner (right_paren ∷ [])) ∙ append_assoc (spelled inner) (41 ∷ []) (spelled behind)
 
-pub if_text : (gs : FunctionNames) (rs : Registers) (depth : ℕ) (e : MonExpression) (a b : MonStatements) → spelled (statement_pieces gs rs depth (If e a b)) ≡ codes "if (" ++ (text rs e ++ (codes ") " ++ (spelled (body_pieces gs rs depth a) ++ (codes " else " ++ spelled (body_pieces gs rs depth b)))))
+pub if_text : (gs : FunctionNames) (rs : Registers) (depth : ℕ) (e : MonExpression) (a b : MonStatements)
+    → spelled (statement_pieces gs rs depth (If e a b)) ≡ codes "if (" ++ (text rs e ++ (codes ") " ++ (spelled (body_pieces gs rs depth a) ++ (codes " else " ++ spelled (body_pieces gs rs depth b)))))
 if_text gs rs depth e a b =
     let otherwise : List Piece = blank ∷ Word (codes "else") ∷ blank ∷ body_pieces gs rs depth b in
     ap (λ l. codes "if (" ++ l) (in_parens_text (expression_pieces rs e) (blank ∷ (body_pieces gs rs depth a ++ otherwise)) ∙ ap (λ l. text rs e ++ (41 ∷ 32 ∷ l)) (spelled_append (body_pieces gs rs depth a) otherwise))
 
-pub loop_text : (gs : FunctionNames) (rs : Registers) (depth : ℕ) (a b : MonStatements) → spelled (statement_pieces gs rs depth (Loop a b)) ≡ codes "while (1) {" ++ (spelled (statements_pieces gs rs (depth + 1) a) ++ (spelled_piece (new_line (depth + 1)) ++ (codes "__e_acsl_step();" ++ (spelled (statements_pieces gs rs (depth + 1) b) ++ (spelled_piece (new_line depth) ++ codes "}")))))
+pub loop_text : (gs : FunctionNames) (rs : Registers) (depth : ℕ) (a b : MonStatements) → spelled (statement_pieces gs rs depth (Loop a b)) ≡ codes "while (1) {" ++
+    (spelled (statements_pieces gs rs (depth + 1) a) ++ (spelled_piece (new_line (depth + 1)) ++ (codes "__e_acsl_step();" ++ (spelled (statements_pieces gs rs (depth + 1) b) ++ (spelled_piece (new_line depth) ++ codes "}")))))
 loop_text gs rs depth a b =
     let end : List Piece = new_line depth ∷ Mark (codes "}") ∷ [] in
     let step : List Piece = new_line (depth + 1) ∷ (call_pieces (codes "__e_acsl_step") [] ++ (statements_pieces gs rs (depth + 1) b ++ end)) in
@@ -135,14 +144,16 @@ pub labelled_text : (gs : FunctionNames) (rs : Registers) (depth : ℕ) (a : Mon
 labelled_text gs rs depth a label =
     spelled_append (body_pieces gs rs depth a) (blank ∷ Word label ∷ Mark (codes ":") ∷ blank ∷ semicolon ∷ [])
 
-body_cons_text : (gs : FunctionNames) (rs : Registers) (depth : ℕ) (s : MonStmt) (rest : List MonStmt) → spelled (body_pieces gs rs depth (plain_stmts (s ∷ rest))) ≡ codes "{" ++ (spelled (statements_pieces gs rs (depth + 1) (plain_stmts (s ∷ rest))) ++ (spelled_piece (new_line depth) ++ codes "}"))
+body_cons_text : (gs : FunctionNames) (rs : Registers) (depth : ℕ) (s : MonStmt) (rest : List MonStmt)
+    → spelled (body_pieces gs rs depth (plain_stmts (s ∷ rest))) ≡ codes "{" ++ (spelled (statements_pieces gs rs (depth + 1) (plain_stmts (s ∷ rest))) ++ (spelled_piece (new_line depth) ++ codes "}"))
 body_cons_text gs rs depth s rest =
     let end : List Piece = new_line depth ∷ Mark (codes "}") ∷ [] in
     let first : List Piece = statement_pieces gs rs (depth + 1) (plain_stmt s) in
     let others : List Piece = statements_pieces gs rs (depth + 1) (plain_stmts rest) in
     ap (λ l. 123 ∷ spelled (new_line (depth + 1) ∷ l)) (sym (append_assoc first others end)) ∙ ap (λ l. 123 ∷ l) (spelled_append (new_line (depth + 1) ∷ (first ++ others)) end)
 
-pub body_text : (gs : FunctionNames) (rs : Registers) (depth : ℕ) (l : List MonStmt) → 0 < length l → spelled (body_pieces gs rs depth (plain_stmts l)) ≡ codes "{" ++ (spelled (statements_pieces gs rs (depth + 1) (plain_stmts l)) ++ (spelled_piece (new_line depth) ++ codes "}"))
+pub body_text : (gs : FunctionNames) (rs : Registers) (depth : ℕ) (l : List MonStmt) → 0 < length l → spelled (body_pieces gs rs depth (plain_stmts l)) ≡ codes "{" ++ (spelled (statements_pieces gs rs (depth + 1) (plain_stmts l)) ++
+    (spelled_piece (new_line depth) ++ codes "}"))
 body_text gs rs depth [] some = absurd (omega (arith, some))
 body_text gs rs depth (s ∷ rest) some = body_cons_text gs rs depth s rest
 
@@ -156,7 +167,8 @@ abbrev pub statement_text : FunctionNames → Registers → ℕ → MonStmtKind 
 statement_text gs rs depth s = spelled (statement_pieces gs rs depth (plain_stmt_kind s))
 
 -- the first two arguments of an assertion, each with what is around it, and then the last ones
-pub assertion_parts : (rs : Registers) (d v : MonExpression) (number line : ℕ) (kind : Kind) → spelled (statement_pieces [] rs 0 (Assert d v number line kind)) ≡ (codes "__e_acsl_assert(" ++ (text rs d ++ codes ", ")) ++ ((text rs v ++ codes ", ") ++ end_text number line kind)
+pub assertion_parts : (rs : Registers) (d v : MonExpression) (number line : ℕ) (kind : Kind) → spelled (statement_pieces [] rs 0 (Assert d v number line kind)) ≡ (codes "__e_acsl_assert(" ++ (text rs d ++ codes ", ")) ++
+    ((text rs v ++ codes ", ") ++ end_text number line kind)
 assertion_parts rs d v number line kind = assertion_text rs d v number line kind ∙ regrouped
   where
     regrouped : codes "__e_acsl_assert(" ++ (text rs d ++ (codes ", " ++ (text rs v ++ (codes ", " ++ end_text number line kind)))) ≡ (codes "__e_acsl_assert(" ++ (text rs d ++ codes ", ")) ++ ((text rs v ++ codes ", ") ++ end_text number line kind)
@@ -167,12 +179,14 @@ pub return_anywhere : (gs : FunctionNames) (rs : Registers) (depth : ℕ) (value
 return_anywhere gs rs depth None = refl
 return_anywhere gs rs depth (Some e) = refl
 
-pub choice_text : (gs : FunctionNames) (rs : Registers) (depth : ℕ) (e : MonExpression) (a b : MonStatements) → spelled (statement_pieces gs rs depth (If e a b)) ≡ (codes "if (" ++ (text rs e ++ codes ") ")) ++ (spelled (body_pieces gs rs depth a) ++ (codes " else " ++ spelled (body_pieces gs rs depth b)))
+pub choice_text : (gs : FunctionNames) (rs : Registers) (depth : ℕ) (e : MonExpression) (a b : MonStatements)
+    → spelled (statement_pieces gs rs depth (If e a b)) ≡ (codes "if (" ++ (text rs e ++ codes ") ")) ++ (spelled (body_pieces gs rs depth a) ++ (codes " else " ++ spelled (body_pieces gs rs depth b)))
 choice_text gs rs depth e a b =
     let branches = spelled (body_pieces gs rs depth a) ++ (codes " else " ++ spelled (body_pieces gs rs depth b)) in
     if_text gs rs depth e a b ∙ ap (λ l. codes "if (" ++ l) (sym (append_assoc (text rs e) (codes ") ") branches))
 
-pub turns_text : (gs : FunctionNames) (rs : Registers) (depth : ℕ) (a b : MonStatements) → spelled (statement_pieces gs rs depth (Loop a b)) ≡ codes "while (1) {" ++ (spelled (statements_pieces gs rs (depth + 1) a) ++ ((spelled_piece (new_line (depth + 1)) ++ codes "__e_acsl_step();") ++ (spelled (statements_pieces gs rs (depth + 1) b) ++ (spelled_piece (new_line depth) ++ codes "}"))))
+pub turns_text : (gs : FunctionNames) (rs : Registers) (depth : ℕ) (a b : MonStatements) → spelled (statement_pieces gs rs depth (Loop a b)) ≡ codes "while (1) {" ++
+    (spelled (statements_pieces gs rs (depth + 1) a) ++ ((spelled_piece (new_line (depth + 1)) ++ codes "__e_acsl_step();") ++ (spelled (statements_pieces gs rs (depth + 1) b) ++ (spelled_piece (new_line depth) ++ codes "}"))))
 turns_text gs rs depth a b =
     let behind = spelled (statements_pieces gs rs (depth + 1) b) ++ (spelled_piece (new_line depth) ++ codes "}") in
     let step = append_assoc (spelled_piece (new_line (depth + 1))) (codes "__e_acsl_step();") behind in
@@ -182,7 +196,8 @@ turns_text gs rs depth a b =
 pub at_kind : (gs : FunctionNames) (rs : Registers) (depth : ℕ) (s k : MonStmtKind) (x : MonStatement) → s ≡ k → plain_stmt_kind k ≡ x → statement_text gs rs depth s ≡ spelled (statement_pieces gs rs depth x)
 at_kind gs rs depth s k x same is = ap (statement_text gs rs depth) same ∙ ap (λ y. spelled (statement_pieces gs rs depth y)) is
 
-pub statements_each : (gs : FunctionNames) (rs : Registers) (depth : ℕ) (s : MonStmt) (rest : List MonStmt) → spelled (statements_pieces gs rs depth (plain_stmts (s ∷ rest))) ≡ (spelled_piece (new_line depth) ++ statement_text gs rs depth s.kind.value) ++ spelled (statements_pieces gs rs depth (plain_stmts rest))
+pub statements_each : (gs : FunctionNames) (rs : Registers) (depth : ℕ) (s : MonStmt) (rest : List MonStmt)
+    → spelled (statements_pieces gs rs depth (plain_stmts (s ∷ rest))) ≡ (spelled_piece (new_line depth) ++ statement_text gs rs depth s.kind.value) ++ spelled (statements_pieces gs rs depth (plain_stmts rest))
 statements_each gs rs depth s rest =
     let line = spelled_piece (new_line depth) in
     let first : List Piece = statement_pieces gs rs depth (plain_stmt s) in
@@ -196,7 +211,8 @@ no_parameters_text [] none = refl
 no_parameters_text (r ∷ rest) none = absurd (omega (arith, none))
 
 -- the first parameter and the others
-pub parameters_text : (l : List Register) (first : Register) → 1 ≤ length l → first ≡ get_or l 0 first → spelled (parameters_pieces (map plain_register l)) ≡ spelled (parameter_pieces (plain_register first)) ++ spelled (more_parameters (map plain_register (take (length l - 1) (drop 1 l))))
+pub parameters_text : (l : List Register) (first : Register) → 1 ≤ length l → first ≡ get_or l 0 first
+    → spelled (parameters_pieces (map plain_register l)) ≡ spelled (parameter_pieces (plain_register first)) ++ spelled (more_parameters (map plain_register (take (length l - 1) (drop 1 l))))
 parameters_text [] first some same = absurd (omega (arith, some))
 parameters_text (r ∷ rest) first some same =
     let count : length (r ∷ rest) - 1 ≡ length rest = omega arith in
@@ -211,7 +227,8 @@ head_text f =
     ap (λ l. result_word f.result ++ (32 ∷ (f.name ++ (40 ∷ l)))) (in_parens_text (parameters_pieces f.parameters) (blank ∷ Mark (codes "{") ∷ registers_pieces f.registers))
     ∙ sym (append_assoc (result_word f.result) (codes " " ++ f.name) rest)
 
-pub function_text : (gs : FunctionNames) (f : MonFunction) → spelled (function_pieces gs f) ≡ spelled (head_pieces f) ++ (spelled (statements_pieces gs (f.parameters ++ f.registers) 1 f.body) ++ ((spelled_piece (new_line 0) ++ codes "}") ++ spelled_piece (new_line 0)))
+pub function_text : (gs : FunctionNames) (f : MonFunction) → spelled (function_pieces gs f) ≡ spelled (head_pieces f) ++ (spelled (statements_pieces gs (f.parameters ++ f.registers) 1 f.body) ++
+    ((spelled_piece (new_line 0) ++ codes "}") ++ spelled_piece (new_line 0)))
 function_text gs f =
     let end : List Piece = new_line 0 ∷ Mark (codes "}") ∷ new_line 0 ∷ [] in
     let code : List Piece = statements_pieces gs (f.parameters ++ f.registers) 1 f.body in
@@ -222,7 +239,8 @@ function_text gs f =
 
 -- ---- lists of parts
 
-pub registers_each : (r : Register) (rest : List Register) → spelled (registers_pieces (map plain_register (r ∷ rest))) ≡ (spelled_piece (new_line 1) ++ (spelled (parameter_pieces (plain_register r)) ++ codes ";")) ++ spelled (registers_pieces (map plain_register rest))
+pub registers_each : (r : Register) (rest : List Register) → spelled (registers_pieces (map plain_register (r ∷ rest))) ≡ (spelled_piece (new_line 1) ++ (spelled (parameter_pieces (plain_register r)) ++ codes ";")) ++ spelled
+    (registers_pieces (map plain_register rest))
 registers_each r rest = simp append_assoc
 
 pub parameters_each : (r : Register) (rest : List Register) → spelled (more_parameters (map plain_register (r ∷ rest))) ≡ (codes ", " ++ spelled (parameter_pieces (plain_register r))) ++ spelled (more_parameters (map plain_register rest))

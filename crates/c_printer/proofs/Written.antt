@@ -117,7 +117,8 @@ module _ {text : List ℕ} {told : Option (List ℕ)} {faults : ℕ} {q : Pipe} 
   pieces_put (Shut other p1 _) q0 = absurd (none-some other p1)
 
   -- and then the rest was put, or the sink refused it
-  pub ends_put : (told' : Option (List ℕ)) (none : List ℕ) (faults' : ℕ) (r : Result (Unit {0}) SinkFault) → Printed (pipe_of told begun faults) q text → q.refusal ≡ None → none ≡ [] → MatchResult r (λ _. Wrote q.port (port_of told' none faults') []) (λ fault. Lost q.port told' faults' [] fault) → MatchResult r (λ _. (told' ≡ more told text) × (faults' ≡ faults)) (λ fault. PrintCut text told told' faults faults' fault)
+  pub ends_put : (told' : Option (List ℕ)) (none : List ℕ) (faults' : ℕ) (r : Result (Unit {0}) SinkFault) → Printed (pipe_of told begun faults) q text → q.refusal ≡ None → none ≡ []
+      → MatchResult r (λ _. Wrote q.port (port_of told' none faults') []) (λ fault. Lost q.port told' faults' [] fault) → MatchResult r (λ _. (told' ≡ more told text) × (faults' ≡ faults)) (λ fault. PrintCut text told told' faults faults' fault)
   ends_put told' none faults' r printed q0 empty rest = MatchResult-weaker r rest all_put last_cut
     where
       pieces : Wrote (port_of told [] faults) q.port text

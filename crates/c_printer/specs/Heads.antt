@@ -7,4 +7,5 @@ use Rattle.mon_syntax.specs.Text.{Piece, Word, Mark, blank, in_parens, parameter
 -- up to the registers, of which each is declared on a line of its own
 abbrev pub head_pieces : MonFunction → List Piece
 head_pieces f =
-    Word (result_word f.result) ∷ blank ∷ Word f.name ∷ (in_parens (parameters_pieces f.parameters) ++ (blank ∷ Mark (codes "{") ∷ registers_pieces f.registers))
+    Word (result_word f.result) ∷ blank ∷ Word f.name ∷ (in_parens (parameters_pieces f.parameters) ++
+    (blank ∷ Mark (codes "{") ∷ registers_pieces f.registers))

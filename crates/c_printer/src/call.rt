@@ -2,7 +2,8 @@
 
 ghost use Rattle.std.specs.Prelude.{◌≡◌, [], ◌++◌, map};
 ghost use Rattle.mon_syntax.specs.Trees.{PutChar, plain_expr};
-ghost use Rattle.mon_syntax.specs.Text.{arguments_pieces, call_pieces, expression_pieces, function_name, more_arguments, name_of, set_or_none, set_pieces, spelled, statement_pieces};
+ghost use Rattle.mon_syntax.specs.Text.{arguments_pieces, call_pieces, expression_pieces, function_name, more_arguments, name_of, set_or_none, set_pieces};
+ghost use Rattle.mon_syntax.specs.Text.{spelled, statement_pieces};
 ghost use Rattle.c_printer.specs.Printing.{Printed, pipe_of};
 ghost use Rattle.c_printer.specs.Registers.{functions_of, registers_of};
 
@@ -13,7 +14,8 @@ use mon_syntax::MonExpr;
 
 /// `R = `
 pub fn set<O: Sink>(r: u32, named: &Named<'_>, to: &mut Writer, out: &mut O)
-    ensures { Printed (pipe_of (O.told out.old) to.old (O.faults out.old)) (pipe_of (O.told out.new) to.new (O.faults out.new)) (spelled (set_pieces (name_of (registers_of named.now) r))) }
+    ensures { Printed (pipe_of (O.told out.old) to.old (O.faults out.old)) (pipe_of (O.told out.new) to.new (O.faults out.new))
+        (spelled (set_pieces (name_of (registers_of named.now) r))) }
 {
     to.write(out, name(named, r));
     to.write(out, b" = ");
@@ -21,7 +23,8 @@ pub fn set<O: Sink>(r: u32, named: &Named<'_>, to: &mut Writer, out: &mut O)
 
 // `R = `, where a register takes the value.
 fn target<O: Sink>(r: Option<u32>, named: &Named<'_>, to: &mut Writer, out: &mut O)
-    ensures { Printed (pipe_of (O.told out.old) to.old (O.faults out.old)) (pipe_of (O.told out.new) to.new (O.faults out.new)) (spelled (set_or_none (registers_of named.now) r)) }
+    ensures { Printed (pipe_of (O.told out.old) to.old (O.faults out.old)) (pipe_of (O.told out.new) to.new (O.faults out.new))
+        (spelled (set_or_none (registers_of named.now) r)) }
 {
     match r {
         None => {}
@@ -31,7 +34,8 @@ fn target<O: Sink>(r: Option<u32>, named: &Named<'_>, to: &mut Writer, out: &mut
 
 /// `NAME(e);`
 pub fn call<O: Sink>(callee: &[u8], e: &MonExpr, named: &Named<'_>, to: &mut Writer, out: &mut O)
-    ensures { Printed (pipe_of (O.told out.old) to.old (O.faults out.old)) (pipe_of (O.told out.new) to.new (O.faults out.new)) (spelled (call_pieces callee.now (expression_pieces (registers_of named.now) (plain_expr e.now)))) }
+    ensures { Printed (pipe_of (O.told out.old) to.old (O.faults out.old)) (pipe_of (O.told out.new) to.new (O.faults out.new))
+        (spelled (call_pieces callee.now (expression_pieces (registers_of named.now) (plain_expr e.now)))) }
 {
     to.write(out, callee);
     between(b"(", e, b");", named, to, out);
@@ -45,7 +49,8 @@ pub fn put_char<O: Sink>(
     to: &mut Writer,
     out: &mut O,
 )
-    ensures { Printed (pipe_of (O.told out.old) to.old (O.faults out.old)) (pipe_of (O.told out.new) to.new (O.faults out.new)) (spelled (statement_pieces [] (registers_of named.now) 0 (PutChar r (plain_expr e.now)))) }
+    ensures { Printed (pipe_of (O.told out.old) to.old (O.faults out.old)) (pipe_of (O.told out.new) to.new (O.faults out.new))
+        (spelled (statement_pieces [] (registers_of named.now) 0 (PutChar r (plain_expr e.now)))) }
 {
     target(r, named, to, out);
     call(b"putchar", e, named, to, out);
@@ -63,7 +68,8 @@ pub fn callee<'a>(named: &Named<'a>, f: u32) -> &'a [u8]
 
 // The arguments behind the first.
 fn more_arguments<O: Sink>(list: &[MonExpr], named: &Named<'_>, to: &mut Writer, out: &mut O)
-    ensures { Printed (pipe_of (O.told out.old) to.old (O.faults out.old)) (pipe_of (O.told out.new) to.new (O.faults out.new)) (spelled (more_arguments (registers_of named.now) (map plain_expr list.now))) }
+    ensures { Printed (pipe_of (O.told out.old) to.old (O.faults out.old)) (pipe_of (O.told out.new) to.new (O.faults out.new))
+        (spelled (more_arguments (registers_of named.now) (map plain_expr list.now))) }
 {
     'list: for e in list {
         to.write(out, b", ");
@@ -72,7 +78,8 @@ fn more_arguments<O: Sink>(list: &[MonExpr], named: &Named<'_>, to: &mut Writer,
 }
 
 fn arguments<O: Sink>(list: &[MonExpr], named: &Named<'_>, to: &mut Writer, out: &mut O)
-    ensures { Printed (pipe_of (O.told out.old) to.old (O.faults out.old)) (pipe_of (O.told out.new) to.new (O.faults out.new)) (spelled (arguments_pieces (registers_of named.now) (map plain_expr list.now))) }
+    ensures { Printed (pipe_of (O.told out.old) to.old (O.faults out.old)) (pipe_of (O.told out.new) to.new (O.faults out.new))
+        (spelled (arguments_pieces (registers_of named.now) (map plain_expr list.now))) }
 {
     match list {
         [] => {}
@@ -92,7 +99,8 @@ pub fn call_with<O: Sink>(
     to: &mut Writer,
     out: &mut O,
 )
-    ensures { Printed (pipe_of (O.told out.old) to.old (O.faults out.old)) (pipe_of (O.told out.new) to.new (O.faults out.new)) (spelled (set_or_none (registers_of named.now) r ++ call_pieces callee.now (arguments_pieces (registers_of named.now) (map plain_expr list.now)))) }
+    ensures { Printed (pipe_of (O.told out.old) to.old (O.faults out.old)) (pipe_of (O.told out.new) to.new (O.faults out.new))
+        (spelled (set_or_none (registers_of named.now) r ++ call_pieces callee.now (arguments_pieces (registers_of named.now) (map plain_expr list.now)))) }
 {
     target(r, named, to, out);
     to.write(out, callee);

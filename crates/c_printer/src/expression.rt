@@ -36,7 +36,8 @@ pub fn name<'a>(named: &Named<'a>, r: u32) -> &'a [u8]
 
 // `I32(-1)`
 fn constant<O: Sink>(t: MonType, z: i128, to: &mut Writer, out: &mut O)
-    ensures { Printed (pipe_of (O.told out.old) to.old (O.faults out.old)) (pipe_of (O.told out.new) to.new (O.faults out.new)) (spelled (expression_pieces [] (Constant t z))) }
+    ensures { Printed (pipe_of (O.told out.old) to.old (O.faults out.old)) (pipe_of (O.told out.new) to.new (O.faults out.new))
+        (spelled (expression_pieces [] (Constant t z))) }
 {
     to.write(out, constant_word(t).as_bytes());
     to.write(out, b"(");
@@ -54,7 +55,8 @@ pub fn between<O: Sink>(
     to: &mut Writer,
     out: &mut O,
 )
-    ensures { Printed (pipe_of (O.told out.old) to.old (O.faults out.old)) (pipe_of (O.told out.new) to.new (O.faults out.new)) (front.now ++ (spelled (expression_pieces (registers_of named.now) (plain_expr e.now)) ++ behind.now)) }
+    ensures { Printed (pipe_of (O.told out.old) to.old (O.faults out.old)) (pipe_of (O.told out.new) to.new (O.faults out.new))
+        (front.now ++ (spelled (expression_pieces (registers_of named.now) (plain_expr e.now)) ++ behind.now)) }
 {
     to.write(out, front);
     expression(e, named, to, out);
@@ -64,7 +66,8 @@ pub fn between<O: Sink>(
 /// An expression, in parentheses where it isn't a register or a constant.
 #[cycle(expression)]
 pub fn expression<O: Sink>(e: &MonExpr, named: &Named<'_>, to: &mut Writer, out: &mut O)
-    ensures { Printed (pipe_of (O.told out.old) to.old (O.faults out.old)) (pipe_of (O.told out.new) to.new (O.faults out.new)) (spelled (expression_pieces (registers_of named.now) (plain_expr e.now))) }
+    ensures { Printed (pipe_of (O.told out.old) to.old (O.faults out.old)) (pipe_of (O.told out.new) to.new (O.faults out.new))
+        (spelled (expression_pieces (registers_of named.now) (plain_expr e.now))) }
 {
     match &*e.kind {
         MonExprKind::Register(r) => to.write(out, name(named, *r)),

@@ -17,14 +17,16 @@ use mon_syntax::{MonFunc, Register};
 
 // A register with its type.
 fn declared<O: Sink>(r: &Register, to: &mut Writer, out: &mut O)
-    ensures { Printed (pipe_of (O.told out.old) to.old (O.faults out.old)) (pipe_of (O.told out.new) to.new (O.faults out.new)) (spelled (parameter_pieces (plain_register r.now))) }
+    ensures { Printed (pipe_of (O.told out.old) to.old (O.faults out.old)) (pipe_of (O.told out.new) to.new (O.faults out.new))
+        (spelled (parameter_pieces (plain_register r.now))) }
 {
     to.write_three(out, type_word(r.kind).as_bytes(), b" ", r.name.bytes());
 }
 
 // The parameters behind the first.
 fn more_parameters<O: Sink>(list: &[Register], to: &mut Writer, out: &mut O)
-    ensures { Printed (pipe_of (O.told out.old) to.old (O.faults out.old)) (pipe_of (O.told out.new) to.new (O.faults out.new)) (spelled (more_parameters (map plain_register list.now))) }
+    ensures { Printed (pipe_of (O.told out.old) to.old (O.faults out.old)) (pipe_of (O.told out.new) to.new (O.faults out.new))
+        (spelled (more_parameters (map plain_register list.now))) }
 {
     'list: for r in list {
         to.write(out, b", ");
@@ -34,7 +36,8 @@ fn more_parameters<O: Sink>(list: &[Register], to: &mut Writer, out: &mut O)
 
 // The parameters, or `void` where there are none.
 fn parameters<O: Sink>(list: &[Register], to: &mut Writer, out: &mut O)
-    ensures { Printed (pipe_of (O.told out.old) to.old (O.faults out.old)) (pipe_of (O.told out.new) to.new (O.faults out.new)) (spelled (parameters_pieces (map plain_register list.now))) }
+    ensures { Printed (pipe_of (O.told out.old) to.old (O.faults out.old)) (pipe_of (O.told out.new) to.new (O.faults out.new))
+        (spelled (parameters_pieces (map plain_register list.now))) }
 {
     match list {
         [] => to.write(out, b"void"),
@@ -47,7 +50,8 @@ fn parameters<O: Sink>(list: &[Register], to: &mut Writer, out: &mut O)
 
 // The other registers, each on a line of its own.
 fn registers<O: Sink>(list: &[Register], to: &mut Writer, out: &mut O)
-    ensures { Printed (pipe_of (O.told out.old) to.old (O.faults out.old)) (pipe_of (O.told out.new) to.new (O.faults out.new)) (spelled (registers_pieces (map plain_register list.now))) }
+    ensures { Printed (pipe_of (O.told out.old) to.old (O.faults out.old)) (pipe_of (O.told out.new) to.new (O.faults out.new))
+        (spelled (registers_pieces (map plain_register list.now))) }
 {
     let depth = Depth::Inside(&Depth::Top);
     'list: for r in list {
@@ -59,7 +63,8 @@ fn registers<O: Sink>(list: &[Register], to: &mut Writer, out: &mut O)
 
 // The head of a function, with its registers.
 fn head<O: Sink>(f: &MonFunc, to: &mut Writer, out: &mut O)
-    ensures { Printed (pipe_of (O.told out.old) to.old (O.faults out.old)) (pipe_of (O.told out.new) to.new (O.faults out.new)) (spelled (head_pieces (plain_func f.now))) }
+    ensures { Printed (pipe_of (O.told out.old) to.old (O.faults out.old)) (pipe_of (O.told out.new) to.new (O.faults out.new))
+        (spelled (head_pieces (plain_func f.now))) }
 {
     to.write_three(out, result_word(f.result).as_bytes(), b" ", f.name.bytes());
     to.write(out, b"(");
@@ -70,7 +75,8 @@ fn head<O: Sink>(f: &MonFunc, to: &mut Writer, out: &mut O)
 
 // A function among all of a program.
 fn function<O: Sink>(f: &MonFunc, all: &[MonFunc], to: &mut Writer, out: &mut O)
-    ensures { Printed (pipe_of (O.told out.old) to.old (O.faults out.old)) (pipe_of (O.told out.new) to.new (O.faults out.new)) (spelled (function_pieces (names_of all.now) (plain_func f.now))) }
+    ensures { Printed (pipe_of (O.told out.old) to.old (O.faults out.old)) (pipe_of (O.told out.new) to.new (O.faults out.new))
+        (spelled (function_pieces (names_of all.now) (plain_func f.now))) }
 {
     let named = Named {
         functions: all,
@@ -86,7 +92,8 @@ fn function<O: Sink>(f: &MonFunc, all: &[MonFunc], to: &mut Writer, out: &mut O)
 
 /// The functions, one after another.
 pub fn functions<O: Sink>(list: &[MonFunc], to: &mut Writer, out: &mut O)
-    ensures { Printed (pipe_of (O.told out.old) to.old (O.faults out.old)) (pipe_of (O.told out.new) to.new (O.faults out.new)) (spelled (functions_pieces (names_of list.now) (map plain_func list.now))) }
+    ensures { Printed (pipe_of (O.told out.old) to.old (O.faults out.old)) (pipe_of (O.told out.new) to.new (O.faults out.new))
+        (spelled (functions_pieces (names_of list.now) (map plain_func list.now))) }
 {
     'list: for f in list {
         function(f, list, to, out);

@@ -17,7 +17,8 @@ pub enum Depth<'a> {
 
 // Two blanks for each body around a line.
 fn indent<O: Sink>(depth: &Depth<'_>, to: &mut Writer, out: &mut O)
-    ensures { Printed (pipe_of (O.told out.old) to.old (O.faults out.old)) (pipe_of (O.told out.new) to.new (O.faults out.new)) (replicate (2 * depth_of depth.now) 32) }
+    ensures { Printed (pipe_of (O.told out.old) to.old (O.faults out.old)) (pipe_of (O.told out.new) to.new (O.faults out.new))
+        (replicate (2 * depth_of depth.now) 32) }
 {
     match depth {
         Depth::Top => {}
@@ -30,7 +31,8 @@ fn indent<O: Sink>(depth: &Depth<'_>, to: &mut Writer, out: &mut O)
 
 /// The end of a line, and the blanks in front of the next one.
 pub fn line<O: Sink>(depth: &Depth<'_>, to: &mut Writer, out: &mut O)
-    ensures { Printed (pipe_of (O.told out.old) to.old (O.faults out.old)) (pipe_of (O.told out.new) to.new (O.faults out.new)) (spelled_piece (new_line (depth_of depth.now))) }
+    ensures { Printed (pipe_of (O.told out.old) to.old (O.faults out.old)) (pipe_of (O.told out.new) to.new (O.faults out.new))
+        (spelled_piece (new_line (depth_of depth.now))) }
 {
     to.write(out, b"\n");
     indent(depth, to, out);
@@ -38,7 +40,8 @@ pub fn line<O: Sink>(depth: &Depth<'_>, to: &mut Writer, out: &mut O)
 
 /// The line that ends a body, up to its brace.
 pub fn closing<O: Sink>(depth: &Depth<'_>, to: &mut Writer, out: &mut O)
-    ensures { Printed (pipe_of (O.told out.old) to.old (O.faults out.old)) (pipe_of (O.told out.new) to.new (O.faults out.new)) (spelled_piece (new_line (depth_of depth.now)) ++ codes "}") }
+    ensures { Printed (pipe_of (O.told out.old) to.old (O.faults out.old)) (pipe_of (O.told out.new) to.new (O.faults out.new))
+        (spelled_piece (new_line (depth_of depth.now)) ++ codes "}") }
 {
     line(depth, to, out);
     to.write(out, b"}");

@@ -19,7 +19,8 @@ use mon_syntax::{MonExpr, MonStmt, MonStmtKind};
 
 // `R = e;`
 fn assignment<O: Sink>(r: u32, e: &MonExpr, named: &Named<'_>, to: &mut Writer, out: &mut O)
-    ensures { Printed (pipe_of (O.told out.old) to.old (O.faults out.old)) (pipe_of (O.told out.new) to.new (O.faults out.new)) (spelled (statement_pieces [] (registers_of named.now) 0 (Set r (plain_expr e.now)))) }
+    ensures { Printed (pipe_of (O.told out.old) to.old (O.faults out.old)) (pipe_of (O.told out.new) to.new (O.faults out.new))
+        (spelled (statement_pieces [] (registers_of named.now) 0 (Set r (plain_expr e.now)))) }
 {
     set(r, named, to, out);
     expression(e, named, to, out);
@@ -37,7 +38,8 @@ fn assertion<O: Sink>(
     to: &mut Writer,
     out: &mut O,
 )
-    ensures { Printed (pipe_of (O.told out.old) to.old (O.faults out.old)) (pipe_of (O.told out.new) to.new (O.faults out.new)) (spelled (statement_pieces [] (registers_of named.now) 0 (Assert (plain_expr d.now) (plain_expr v.now) annotation line kind))) }
+    ensures { Printed (pipe_of (O.told out.old) to.old (O.faults out.old)) (pipe_of (O.told out.new) to.new (O.faults out.new))
+        (spelled (statement_pieces [] (registers_of named.now) 0 (Assert (plain_expr d.now) (plain_expr v.now) annotation line kind))) }
 {
     between(b"__e_acsl_assert(", d, b", ", named, to, out);
     between(b"", v, b", ", named, to, out);
@@ -51,7 +53,8 @@ fn assertion<O: Sink>(
 
 // `__e_acsl_print_text("..");`
 fn print_text<O: Sink>(bytes: &[u8], to: &mut Writer, out: &mut O)
-    ensures { Printed (pipe_of (O.told out.old) to.old (O.faults out.old)) (pipe_of (O.told out.new) to.new (O.faults out.new)) (spelled (statement_pieces [] [] 0 (PrintText bytes.now))) }
+    ensures { Printed (pipe_of (O.told out.old) to.old (O.faults out.old)) (pipe_of (O.told out.new) to.new (O.faults out.new))
+        (spelled (statement_pieces [] [] 0 (PrintText bytes.now))) }
 {
     to.write(out, b"__e_acsl_print_text(");
     string(bytes, to, out);
@@ -60,7 +63,8 @@ fn print_text<O: Sink>(bytes: &[u8], to: &mut Writer, out: &mut O)
 
 // `return e;`, or `return;`
 fn give_back<O: Sink>(value: &Option<MonExpr>, named: &Named<'_>, to: &mut Writer, out: &mut O)
-    ensures { Printed (pipe_of (O.told out.old) to.old (O.faults out.old)) (pipe_of (O.told out.new) to.new (O.faults out.new)) (spelled (statement_pieces [] (registers_of named.now) 0 (Return (option_map plain_expr value.now)))) }
+    ensures { Printed (pipe_of (O.told out.old) to.old (O.faults out.old)) (pipe_of (O.told out.new) to.new (O.faults out.new))
+        (spelled (statement_pieces [] (registers_of named.now) 0 (Return (option_map plain_expr value.now)))) }
 {
     match value {
         None => to.write(out, b"return;"),
@@ -70,7 +74,8 @@ fn give_back<O: Sink>(value: &Option<MonExpr>, named: &Named<'_>, to: &mut Write
 
 // The step of a loop, on a line of its own.
 fn step_line<O: Sink>(depth: &Depth<'_>, to: &mut Writer, out: &mut O)
-    ensures { Printed (pipe_of (O.told out.old) to.old (O.faults out.old)) (pipe_of (O.told out.new) to.new (O.faults out.new)) (spelled_piece (new_line (depth_of depth.now)) ++ codes "__e_acsl_step();") }
+    ensures { Printed (pipe_of (O.told out.old) to.old (O.faults out.old)) (pipe_of (O.told out.new) to.new (O.faults out.new))
+        (spelled_piece (new_line (depth_of depth.now)) ++ codes "__e_acsl_step();") }
 {
     line(depth, to, out);
     to.write(out, b"__e_acsl_step();");
@@ -85,7 +90,8 @@ fn body<O: Sink>(
     to: &mut Writer,
     out: &mut O,
 )
-    ensures { Printed (pipe_of (O.told out.old) to.old (O.faults out.old)) (pipe_of (O.told out.new) to.new (O.faults out.new)) (spelled (body_pieces (functions_of named.now) (registers_of named.now) (depth_of depth.now) (plain_stmts stmts.now))) }
+    ensures { Printed (pipe_of (O.told out.old) to.old (O.faults out.old)) (pipe_of (O.told out.new) to.new (O.faults out.new))
+        (spelled (body_pieces (functions_of named.now) (registers_of named.now) (depth_of depth.now) (plain_stmts stmts.now))) }
 {
     if stmts.is_empty() {
         to.write(out, b"{ }");
@@ -108,7 +114,9 @@ fn choice<O: Sink>(
     to: &mut Writer,
     out: &mut O,
 )
-    ensures { Printed (pipe_of (O.told out.old) to.old (O.faults out.old)) (pipe_of (O.told out.new) to.new (O.faults out.new)) (spelled (statement_pieces (functions_of named.now) (registers_of named.now) (depth_of depth.now) (If (plain_expr e.now) (plain_stmts first.now) (plain_stmts second.now)))) }
+    ensures { Printed (pipe_of (O.told out.old) to.old (O.faults out.old)) (pipe_of (O.told out.new) to.new (O.faults out.new))
+        (spelled (statement_pieces (functions_of named.now) (registers_of named.now) (depth_of depth.now)
+        (If (plain_expr e.now) (plain_stmts first.now) (plain_stmts second.now)))) }
 {
     between(b"if (", e, b") ", named, to, out);
     body(first, depth, named, to, out);
@@ -126,7 +134,9 @@ fn repeated<O: Sink>(
     to: &mut Writer,
     out: &mut O,
 )
-    ensures { Printed (pipe_of (O.told out.old) to.old (O.faults out.old)) (pipe_of (O.told out.new) to.new (O.faults out.new)) (spelled (statement_pieces (functions_of named.now) (registers_of named.now) (depth_of depth.now) (Loop (plain_stmts before.now) (plain_stmts behind.now)))) }
+    ensures { Printed (pipe_of (O.told out.old) to.old (O.faults out.old)) (pipe_of (O.told out.new) to.new (O.faults out.new))
+        (spelled (statement_pieces (functions_of named.now) (registers_of named.now) (depth_of depth.now)
+        (Loop (plain_stmts before.now) (plain_stmts behind.now)))) }
 {
     let inner = Depth::Inside(&*depth);
     to.write(out, b"while (1) {");
@@ -146,7 +156,8 @@ fn labelled<O: Sink>(
     to: &mut Writer,
     out: &mut O,
 )
-    ensures { Printed (pipe_of (O.told out.old) to.old (O.faults out.old)) (pipe_of (O.told out.new) to.new (O.faults out.new)) (spelled (statement_pieces (functions_of named.now) (registers_of named.now) (depth_of depth.now) (Labelled (plain_stmts stmts.now) label.now))) }
+    ensures { Printed (pipe_of (O.told out.old) to.old (O.faults out.old)) (pipe_of (O.told out.new) to.new (O.faults out.new))
+        (spelled (statement_pieces (functions_of named.now) (registers_of named.now) (depth_of depth.now) (Labelled (plain_stmts stmts.now) label.now))) }
 {
     body(stmts, depth, named, to, out);
     to.write_three(out, b" ", label, b": ;");
@@ -161,7 +172,8 @@ pub fn statements<O: Sink>(
     to: &mut Writer,
     out: &mut O,
 )
-    ensures { Printed (pipe_of (O.told out.old) to.old (O.faults out.old)) (pipe_of (O.told out.new) to.new (O.faults out.new)) (spelled (statements_pieces (functions_of named.now) (registers_of named.now) (depth_of depth.now) (plain_stmts stmts.now))) }
+    ensures { Printed (pipe_of (O.told out.old) to.old (O.faults out.old)) (pipe_of (O.told out.new) to.new (O.faults out.new))
+        (spelled (statements_pieces (functions_of named.now) (registers_of named.now) (depth_of depth.now) (plain_stmts stmts.now))) }
 {
     'stmts: for s in stmts {
         if to.is_shut() {
@@ -181,7 +193,8 @@ fn statement<O: Sink>(
     to: &mut Writer,
     out: &mut O,
 )
-    ensures { Printed (pipe_of (O.told out.old) to.old (O.faults out.old)) (pipe_of (O.told out.new) to.new (O.faults out.new)) (spelled (statement_pieces (functions_of named.now) (registers_of named.now) (depth_of depth.now) (plain_stmt s.now))) }
+    ensures { Printed (pipe_of (O.told out.old) to.old (O.faults out.old)) (pipe_of (O.told out.new) to.new (O.faults out.new))
+        (spelled (statement_pieces (functions_of named.now) (registers_of named.now) (depth_of depth.now) (plain_stmt s.now))) }
 {
     match &*s.kind {
         MonStmtKind::Set(r, e) => assignment(*r, e, named, to, out),

@@ -30,7 +30,8 @@ fn string_byte<O: Sink>(byte: u8, to: &mut Writer, out: &mut O)
 
 /// A string with these bytes, in its quotes.
 pub fn string<O: Sink>(bytes: &[u8], to: &mut Writer, out: &mut O)
-    ensures { Printed (pipe_of (O.told out.old) to.old (O.faults out.old)) (pipe_of (O.told out.new) to.new (O.faults out.new)) (spelled_piece (Quoted bytes.now)) }
+    ensures { Printed (pipe_of (O.told out.old) to.old (O.faults out.old)) (pipe_of (O.told out.new) to.new (O.faults out.new))
+        (spelled_piece (Quoted bytes.now)) }
 {
     to.write(out, b"\"");
     'bytes: for byte in bytes {

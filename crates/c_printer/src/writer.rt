@@ -39,7 +39,8 @@ impl Writer {
 
     /// Writes some bytes and others behind them.
     pub fn write_three<O: Sink>(&mut self, out: &mut O, first: &[u8], second: &[u8], third: &[u8])
-        ensures { Printed (pipe_of (O.told out.old) self.old (O.faults out.old)) (pipe_of (O.told out.new) self.new (O.faults out.new)) (first.now ++ (second.now ++ third.now)) }
+        ensures { Printed (pipe_of (O.told out.old) self.old (O.faults out.old)) (pipe_of (O.told out.new) self.new (O.faults out.new))
+            (first.now ++ (second.now ++ third.now)) }
     {
         self.write(out, first);
         self.write(out, second);
@@ -55,7 +56,8 @@ impl Writer {
 
     /// Puts the bytes that wait, unless the sink refused.
     pub fn finish<O: Sink>(&mut self, out: &mut O) -> Result<(), SinkFault>
-        ensures { (text : List ℕ) (told : Option (List ℕ)) (faults : ℕ) → Printed (pipe_of told begun faults) (pipe_of (O.told out.old) self.old (O.faults out.old)) text → MatchResult result
+        ensures { (text : List ℕ) (told : Option (List ℕ)) (faults : ℕ)
+            → Printed (pipe_of told begun faults) (pipe_of (O.told out.old) self.old (O.faults out.old)) text → MatchResult result
             (λ _. (O.told out.new ≡ more told text) × (O.faults out.new ≡ faults))
             (λ fault. PrintCut text told (O.told out.new) faults (O.faults out.new) fault) }
     {

@@ -78,14 +78,16 @@ bounded-beyond r z l out = by (range_in_bits 127 r) refl
     by false e = refl
 
 -- what the code of a hull gives
-pub hull_of_code : (a b c d lo hi : ℤ) → FitsSigned w128 a → FitsSigned w128 b → FitsSigned w128 c → FitsSigned w128 d → lo ≡ int_min (int_min a b) (int_min c d) → hi ≡ int_max (int_max a b) (int_max c d) → from_to (to_z w128 (of_z w128 lo)) (to_z w128 (of_z w128 hi)) ≡ hull_of_four a b c d
+pub hull_of_code : (a b c d lo hi : ℤ) → FitsSigned w128 a → FitsSigned w128 b → FitsSigned w128 c → FitsSigned w128 d → lo ≡ int_min (int_min a b) (int_min c d) → hi ≡ int_max (int_max a b) (int_max c d)
+    → from_to (to_z w128 (of_z w128 lo)) (to_z w128 (of_z w128 hi)) ≡ hull_of_four a b c d
 hull_of_code a b c d lo hi p q r s e f =
     let m : FitsSigned w128 lo = rw e (int_min-fits (int_min a b) (int_min c d) (int_min-fits a b p q) (int_min-fits c d r s)) in
     let n : FitsSigned w128 hi = rw f (int_max-fits (int_max a b) (int_max c d) (int_max-fits a b p q) (int_max-fits c d r s)) in
     rw (to_z-of_z w128 lo m, to_z-of_z w128 hi n, e, f) refl
 
 -- what the code of a hull gives where the four numbers are computed
-pub hull_of_some : (p q r s w x y z : ℤ) (h : Range) → FitsSigned w128 p × (w ≡ p) → FitsSigned w128 q × (x ≡ q) → FitsSigned w128 r × (y ≡ r) → FitsSigned w128 s × (z ≡ s) → h ≡ hull_of_four (to_z w128 (of_z w128 w)) (to_z w128 (of_z w128 x)) (to_z w128 (of_z w128 y)) (to_z w128 (of_z w128 z)) → Some h ≡ bounded (hull_of_four p q r s)
+pub hull_of_some : (p q r s w x y z : ℤ) (h : Range) → FitsSigned w128 p × (w ≡ p) → FitsSigned w128 q × (x ≡ q) → FitsSigned w128 r × (y ≡ r) → FitsSigned w128 s × (z ≡ s)
+    → h ≡ hull_of_four (to_z w128 (of_z w128 w)) (to_z w128 (of_z w128 x)) (to_z w128 (of_z w128 y)) (to_z w128 (of_z w128 z)) → Some h ≡ bounded (hull_of_four p q r s)
 hull_of_some p q r s w x y z h d e f g is =
     let dw : FitsSigned w128 w = rw d.1 d.0 in
     let ex : FitsSigned w128 x = rw e.1 e.0 in

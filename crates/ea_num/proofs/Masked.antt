@@ -1,5 +1,6 @@
 -- Operators on bits lie in their ranges, and act on each bit.
-use Rattle.std.proofs.Common.{◌≡◌, ℕ, zero, suc, ◌+◌, ◌-◌, ◌*◌, ◌%◌, ◌<◌, ◌≤◌, ◌^◌, ℤ, pos, negsuc, neg_ℤ, ◌≤ℤ◌, Bool, true, false, cond, nat_lt, min, max, refl, sym, ap, ◌∙◌, subst, arith, ◌&&◌, Some, FitsSigned, to_z, of_z, ◌-ℤ◌, bit_and, bit_or, bit_xor}
+use Rattle.std.proofs.Common.{◌≡◌, ℕ, zero, suc, ◌+◌, ◌-◌, ◌*◌, ◌%◌, ◌<◌, ◌≤◌, ◌^◌, ℤ, pos, negsuc, neg_ℤ, ◌≤ℤ◌, Bool, true, false, cond, nat_lt, min, max, refl, sym, ap, ◌∙◌, subst, arith, ◌&&◌, Some, FitsSigned, to_z, of_z, ◌-ℤ◌, bit_and, bit_or}
+use Rattle.std.proofs.Common.{bit_xor}
 use Rattle.std.specs.Prelude.{int_le}
 use Rattle.std.specs.Int.{w128, int_min, bit_at}
 use Rattle.std.specs.Int.Signed.{mag}
@@ -272,7 +273,8 @@ pub greatest_of_code : (n : ℕ) → n ≤ 127 → to_z w128 (1 * 2 ^ n % 2 ^ 12
 greatest_of_code n h = let p = power_of_code n h in rw p.0 (to_z_pos w128 (2 ^ n - 1) (omega (arith, p.1, pow_pos n)))
 
 -- the numbers of so many bits, with a sign
-pub signed_bits_of_code : (a b : Range) (n : ℕ) (hi : ℤ) → n ≤ 127 → hi ≡ pos (2 ^ n - 1) → (is_nonnegative a && is_nonnegative b) ≡ false → from_to (to_z w128 (of_z w128 (to_z w128 (of_z w128 (pos 0 -ℤ to_z w128 (of_z w128 hi))) -ℤ pos 1))) (to_z w128 (of_z w128 hi)) ≡ bits_range a b n
+pub signed_bits_of_code : (a b : Range) (n : ℕ) (hi : ℤ) → n ≤ 127 → hi ≡ pos (2 ^ n - 1) → (is_nonnegative a && is_nonnegative b) ≡ false
+    → from_to (to_z w128 (of_z w128 (to_z w128 (of_z w128 (pos 0 -ℤ to_z w128 (of_z w128 hi))) -ℤ pos 1))) (to_z w128 (of_z w128 hi)) ≡ bits_range a b n
 signed_bits_of_code a b n hi h f t =
     let p = power_of_code n h in
     let q = pow_pos n in

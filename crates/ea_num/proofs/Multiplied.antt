@@ -1,5 +1,6 @@
 -- Products, quotients and remainders lie in their ranges.
-use Rattle.std.proofs.Common.{◌≡◌, ℕ, zero, suc, ◌-◌, ◌/◌, ◌%◌, ◌<◌, ◌≤◌, ◌^◌, ℤ, pos, negsuc, neg_ℤ, ◌*ℤ◌, ◌≤ℤ◌, ◌<ℤ◌, Bool, true, false, cond, refl, arith, ◌⊎◌, inl, inr, ◌&&◌, Some, None, int_div, int_rem, unsigned_abs, FitsSigned, to_z, of_z, sym, ap}
+use Rattle.std.proofs.Common.{◌≡◌, ℕ, zero, suc, ◌-◌, ◌/◌, ◌%◌, ◌<◌, ◌≤◌, ◌^◌, ℤ, pos, negsuc, neg_ℤ, ◌*ℤ◌, ◌≤ℤ◌, ◌<ℤ◌, Bool, true, false, cond, refl, arith, ◌⊎◌, inl, inr, ◌&&◌, Some, None, int_div, int_rem, unsigned_abs, FitsSigned, to_z, of_z}
+use Rattle.std.proofs.Common.{sym, ap}
 use Rattle.std.specs.Prelude.{int_lt, int_le}
 use Rattle.std.specs.Ordering.{int_eq}
 use Rattle.std.specs.Int.{w128, int_min, int_max}
@@ -170,7 +171,8 @@ division_truncates x y q r d e =
     rw (← p.same, ← s.same) (record { whole = quot-rem x y; near = rem_below x y p.nonzero; toward_zero = abs-product_of_quotient x y })
 
 -- what the code of a remainder gives
-pub remainder_of_code : (a b : Range) (lo hi : ℤ) (d : ℕ) → FitsSigned w128 lo → FitsSigned w128 hi → (of_z w128 a.lo ≡ 2 ^ 127 → ⊥) → d ≡ greatest_abs b - 1 → lo ≡ least_remainder a.lo d → hi ≡ greatest_remainder a.hi d → Some (from_to (to_z w128 (of_z w128 lo)) (to_z w128 (of_z w128 hi))) ≡ remainder_range a b
+pub remainder_of_code : (a b : Range) (lo hi : ℤ) (d : ℕ) → FitsSigned w128 lo → FitsSigned w128 hi → (of_z w128 a.lo ≡ 2 ^ 127 → ⊥) → d ≡ greatest_abs b - 1 → lo ≡ least_remainder a.lo d → hi ≡ greatest_remainder a.hi d
+    → Some (from_to (to_z w128 (of_z w128 lo)) (to_z w128 (of_z w128 hi))) ≡ remainder_range a b
 remainder_of_code a b lo hi d p q out e f g =
     rw (to_z-of_z w128 lo p, to_z-of_z w128 hi q, not_least a.lo out, ← e, ← f, ← g) (sym (bounded-within (from_to lo hi) p q))
   where

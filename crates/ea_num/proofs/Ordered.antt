@@ -5,7 +5,8 @@ use Rattle.std.specs.Int.{int_min, int_max}
 use Rattle.std.proofs.lemmas.Int.{ints, clamps}
 use Rattle.c_syntax.specs.declared.annotation.Range.{Range}
 use Rattle.c_model.specs.Operators.{complement}
-use Rattle.c_model.specs.Ranges.{IsRange, LiesIn, from_to, bounded, is_nonnegative, hull_of_four, sum_range, difference_range, negation_range, complement_range, product_range, greatest_abs, least_i128, quotients, quotient_range, least_remainder, greatest_remainder, remainders, remainder_range, power_of_count, shift_left_range, shifted_by_count, shift_right_range, bits_of_both, bits_range, common_bits, bitwise_and_range, bitwise_or_range, bitwise_xor_range}
+use Rattle.c_model.specs.Ranges.{IsRange, LiesIn, from_to, bounded, is_nonnegative, hull_of_four, sum_range, difference_range, negation_range, complement_range, product_range, greatest_abs, least_i128, quotients, quotient_range, least_remainder}
+use Rattle.c_model.specs.Ranges.{greatest_remainder, remainders, remainder_range, power_of_count, shift_left_range, shifted_by_count, shift_right_range, bits_of_both, bits_range, common_bits, bitwise_and_range, bitwise_or_range, bitwise_xor_range}
 use Rattle.ea_num.specs.Laws.{KeepsRanges, KeepsRange}
 use Rattle.ea_num.proofs.Bounded.{bounded_some}
 use Rattle.ea_num.proofs.Linear.{sums_lie, differences_lie, negations_lie, complements_lie}

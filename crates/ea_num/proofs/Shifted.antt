@@ -136,7 +136,8 @@ shifts_round_down x z k e = subst (IsFloor x (2 ^ k)) (some_same (floor_quotient
 pub powers_of_code : (k : Range) (lo hi : ℤ) → IsRange k → FitsSigned w128 lo → FitsSigned w128 hi → lo ≡ power_of_count k.lo → hi ≡ power_of_count k.hi → IsRange (from_to (to_z w128 (of_z w128 lo)) (to_z w128 (of_z w128 hi)))
 powers_of_code k lo hi h p q e f = rw (to_z-of_z w128 lo p, to_z-of_z w128 hi q, e, f) (record { ordered = power_of_count-monotone k.lo k.hi h.ordered })
 
-pub shift_left_of_code : (a k : Range) (lo hi : ℤ) (r : Option Range) → FitsSigned w128 lo → FitsSigned w128 hi → int_lt (pos 126) k.hi ≡ false → lo ≡ power_of_count k.lo → hi ≡ power_of_count k.hi → r ≡ product_range a (from_to (to_z w128 (of_z w128 lo)) (to_z w128 (of_z w128 hi))) → r ≡ shift_left_range a k
+pub shift_left_of_code : (a k : Range) (lo hi : ℤ) (r : Option Range) → FitsSigned w128 lo → FitsSigned w128 hi → int_lt (pos 126) k.hi ≡ false → lo ≡ power_of_count k.lo → hi ≡ power_of_count k.hi
+    → r ≡ product_range a (from_to (to_z w128 (of_z w128 lo)) (to_z w128 (of_z w128 hi))) → r ≡ shift_left_range a k
 shift_left_of_code a k lo hi r p q small e f is =
     let t : int_le k.hi (pos 126) ≡ true = grind (arith, ints) in
     rw (is, to_z-of_z w128 lo p, to_z-of_z w128 hi q, e, f, t) refl

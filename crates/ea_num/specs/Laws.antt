@@ -1,6 +1,7 @@
 -- The operators are those of ACSL 2.2 on integers; the laws are ours.
 -- Laws of ranges: for operands in their ranges, the operator's value lies in its range.
-use Rattle.std.specs.Prelude.{◌≡◌, ℕ, ◌+◌, ◌-◌, ◌%◌, min, max, ◌<ℤ◌, ◌<◌, ◌≤◌, unsigned_abs, ◌^◌, ℤ, pos, neg_ℤ, ◌+ℤ◌, ◌-ℤ◌, ◌*ℤ◌, ◌≤ℤ◌, true, Option, Some, FitsSigned}
+use Rattle.std.specs.Prelude.{◌≡◌, ℕ, ◌+◌, ◌-◌, ◌%◌, min, max, ◌<ℤ◌, ◌<◌, ◌≤◌, unsigned_abs, ◌^◌, ℤ, pos, neg_ℤ, ◌+ℤ◌, ◌-ℤ◌, ◌*ℤ◌, ◌≤ℤ◌, true, Option, Some}
+use Rattle.std.specs.Prelude.{FitsSigned}
 use Rattle.std.specs.Int as int
 use Rattle.c_syntax.specs.declared.annotation.Range.{Range}
 use Rattle.c_syntax.specs.declared.types.CInt.{CInt}
@@ -8,7 +9,9 @@ use Rattle.c_syntax.specs.declared.types.Width.{Width}
 use Rattle.c_syntax.specs.declared.types.Width.TheVariants.{W32, W64, W128}
 use Rattle.c_model.specs.Integers.{int_size, fits}
 use Rattle.c_model.specs.Operators.{complement, quotient, remainder, shift_left, shift_right, bit_of, bitwise_and, bitwise_or, bitwise_xor}
-use Rattle.c_model.specs.Ranges.{IsRange, LiesIn, IsWithin128, sum_range, difference_range, negation_range, complement_range, product_range, quotient_range, remainder_range, shift_left_range, shift_right_range, bitwise_and_range, bitwise_or_range, bitwise_xor_range, width_of_range, wrapped}
+use Rattle.c_model.specs.Ranges.{IsRange, LiesIn, IsWithin128, sum_range, difference_range, negation_range, complement_range, product_range, quotient_range}
+use Rattle.c_model.specs.Ranges.{remainder_range, shift_left_range, shift_right_range, bitwise_and_range, bitwise_or_range, bitwise_xor_range, width_of_range}
+use Rattle.c_model.specs.Ranges.{wrapped}
 
 -- the range of an operator, where there is one, has a number in it
 abbrev pub KeepsRanges : (Range → Range → Option Range) → Type 0

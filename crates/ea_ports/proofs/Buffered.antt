@@ -40,7 +40,8 @@ refused_count before now Failed h = h
 refused_count before now Memory h = h
 
 -- the bytes that waited and these were put, or the sink refused
-pub put_all : (told told' : Option (List ℕ)) (waiting bytes all : List ℕ) (faults faults' : ℕ) (r : Result (Unit {0}) SinkFault) → all ≡ waiting ++ bytes → Puts told told' all r → SinkCount faults faults' r → MatchResult r (λ _. Wrote (port_of told waiting faults) (port_of told' [] faults') bytes) (λ fault. Lost (port_of told waiting faults) told' faults' bytes fault)
+pub put_all : (told told' : Option (List ℕ)) (waiting bytes all : List ℕ) (faults faults' : ℕ) (r : Result (Unit {0}) SinkFault) → all ≡ waiting ++ bytes → Puts told told' all r → SinkCount faults faults' r
+    → MatchResult r (λ _. Wrote (port_of told waiting faults) (port_of told' [] faults') bytes) (λ fault. Lost (port_of told waiting faults) told' faults' bytes fault)
 put_all told told' waiting bytes all faults faults' (Ok done) same put count = record {
   sent = all;
   told_is = put;

@@ -32,7 +32,8 @@ module _ (types : List ℕ) where
   refused text (errors.At n) h = unread (statement_within types 3) _ false first_statement more_statement (within_solid types 3) text n h
   refused text (errors.Over limit n) h = refused_over (statement_within types 3) false first_statement more_statement (within_exact types 3) text (label limit) n h
 
-  pub answered : {X : Type 0} (view : X → Plan × List Token) (text : List Token) (r : Result X ReadError) → Gives view r ((statement_within types 3).parse text) → MatchResult r (λ x. Found (limited_statement types) text (view x).0 (view x).1) (λ e. RefusedBy (limited_statement types) text e)
+  pub answered : {X : Type 0} (view : X → Plan × List Token) (text : List Token) (r : Result X ReadError) → Gives view r ((statement_within types 3).parse text)
+      → MatchResult r (λ x. Found (limited_statement types) text (view x).0 (view x).1) (λ e. RefusedBy (limited_statement types) text e)
   answered view text (Ok x) h = found (limited_statement types) false first_statement more_statement limited_exact text (view x).0 (view x).1 (limited_is text ∙ h)
   answered view text (Err e) h = refused text e h
 

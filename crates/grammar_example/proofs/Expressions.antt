@@ -13,20 +13,24 @@ abbrev pub more_expression : List ℕ
 more_expression = a_sign ∷ []
 
 module _ (types : List ℕ) where
-  in_parens_good : (n : ℕ) (E E' O O' : Syntax Token Tree) → IsGood (kind types) n E E' false first_expression (λ _. more_expression) → IsGood (kind types) n O O' false first_expression (λ _. []) → IsGood (kind types) n (in_parens types E O) (in_parens types E' O') false (a_type ∷ first_expression) (λ _. [])
+  in_parens_good : (n : ℕ) (E E' O O' : Syntax Token Tree) → IsGood (kind types) n E E' false first_expression (λ _. more_expression) → IsGood (kind types) n O O' false first_expression (λ _. [])
+      → IsGood (kind types) n (in_parens types E O) (in_parens types E' O') false (a_type ∷ first_expression) (λ _. [])
   unfolding in_parens
   in_parens_good n E E' O O' e o =
       declared (either (a_type ∷ []) (seq (type_good types) (λ t. seq (token_good types close_paren) (λ _. seq o (λ x. given _) refl) refl) refl) (seq e (λ x. seq (token_good types close_paren) (λ _. given _) refl) refl) refl) refl
 
-  operand_of_good : (n : ℕ) (E E' : Syntax Token Tree) (O O' : Unit {0} → Syntax Token Tree) → IsGood (kind types) n E E' false first_expression (λ _. more_expression) → ((s : Unit {0}) → IsGood (kind types) n (O s) (O' s) false first_expression (λ _. [])) → (s : Unit {0}) → IsGood (kind types) (suc n) (operand_of types E O s) (operand_of types E' O' s) false first_expression (λ _. [])
+  operand_of_good : (n : ℕ) (E E' : Syntax Token Tree) (O O' : Unit {0} → Syntax Token Tree) → IsGood (kind types) n E E' false first_expression (λ _. more_expression)
+      → ((s : Unit {0}) → IsGood (kind types) n (O s) (O' s) false first_expression (λ _. [])) → (s : Unit {0}) → IsGood (kind types) (suc n) (operand_of types E O s) (operand_of types E' O' s) false first_expression (λ _. [])
   unfolding operand_of
   operand_of_good n E E' O O' e o s =
-      declared (either (a_name ∷ []) (seq (name_good types) (λ w. given _) refl) (either (a_number ∷ []) (seq (number_good types) (λ m. given _) refl) (after (token_good types open_paren) (λ _. in_parens_good n E E' (O s) (O' s) e (o s)) refl) refl) refl) refl
+      declared (either (a_name ∷ []) (seq (name_good types) (λ w. given _) refl) (either (a_number ∷ []) (seq (number_good types) (λ m. given _) refl) (after (token_good types open_paren) (λ _. in_parens_good n E E' (O s) (O' s) e (o s)) refl) refl)
+      refl) refl
 
   module _ (n : ℕ) (E E' : Syntax Token Tree) (e : IsGood (kind types) n E E' false first_expression (λ _. more_expression)) where
     pub operand_good : IsGood (kind types) (suc n) (operand types E) (operand types E') false first_expression (λ _. [])
     unfolding operand
-    operand_good = knot_both (suc n) false first_expression (λ _. []) (operand_of types E) (operand_of types E') (λ k O O' o. operand_of_good k E E O O' (same e.here) o) (λ k O O' o. operand_of_good k E' E' O O' (same e.there) o) (λ O O' o s. operand_of_good n E E' O O' e (λ u. one_lower (o u)) s) tt
+    operand_good = knot_both (suc n) false first_expression (λ _. []) (operand_of types E) (operand_of types E') (λ k O O' o. operand_of_good k E E O O' (same e.here) o) (λ k O O' o. operand_of_good k E' E' O O' (same e.there) o)
+        (λ O O' o s. operand_of_good n E E' O O' e (λ u. one_lower (o u)) s) tt
 
     pub chain_once_good : (x : Tree) → IsGood (kind types) (suc n) (chain_once types E x) (chain_once types E' x) false (a_sign ∷ []) (λ _. [])
     unfolding chain_once
@@ -36,7 +40,8 @@ module _ (types : List ℕ) where
     unfolding chain
     chain_good x = again_and_again (a_sign ∷ []) chain_once_good refl x
 
-  expression_of_good : (n : ℕ) (E E' : Unit {0} → Syntax Token Tree) → ((s : Unit {0}) → IsGood (kind types) n (E s) (E' s) false first_expression (λ _. more_expression)) → (s : Unit {0}) → IsGood (kind types) (suc n) (expression_of types E s) (expression_of types E' s) false first_expression (λ _. more_expression)
+  expression_of_good : (n : ℕ) (E E' : Unit {0} → Syntax Token Tree) → ((s : Unit {0}) → IsGood (kind types) n (E s) (E' s) false first_expression (λ _. more_expression)) → (s : Unit {0})
+      → IsGood (kind types) (suc n) (expression_of types E s) (expression_of types E' s) false first_expression (λ _. more_expression)
   unfolding expression_of
   expression_of_good n E E' e s = declared (seq (operand_good n (E s) (E' s) (e s)) (chain_good n (E s) (E' s) (e s)) refl) refl
 
@@ -57,6 +62,7 @@ module _ (types : List ℕ) where
   short_expression_good = counted length_limit 9 (same expression_exact)
 
   -- one turn of a chain
-  pub chain_turn : (x y : Tree) (ts rest : List Token) → sees (kind types) (a_sign ∷ []) ts ≡ true → (chain_once types (expression types) x).parse ts ≡ Ok (y, rest) → (chain types (expression types) x).parse ts ≡ (chain types (expression types) y).parse rest
+  pub chain_turn : (x y : Tree) (ts rest : List Token) → sees (kind types) (a_sign ∷ []) ts ≡ true → (chain_once types (expression types) x).parse ts ≡ Ok (y, rest)
+      → (chain types (expression types) x).parse ts ≡ (chain types (expression types) y).parse rest
   unfolding chain
   chain_turn x y ts rest s e = turn (a_sign ∷ []) (chain_once types (expression types)) (λ z. (chain_once_good 0 (expression types) (expression types) (same expression_exact) z).here) refl x y ts rest s e

@@ -3,13 +3,15 @@ use Rattle.std.proofs.Common.{◌≡◌, ℕ, zero, suc, Bool, true, false, cond
 use Rattle.grammar.specs.Syntax.{Syntax, among, one, ◌then◌}
 use Rattle.grammar.specs.Exact.{IsExact}
 use Rattle.grammar.proofs.Productions.{same}
-use Rattle.grammar.proofs.Solid.{IsSolid, lower, one_solid, gives_solid, seq_solid, behind, either_solid, listed, many_solid, knot_solid, knot_solid_to, at_most_solid, deep_solid, seq_solid_to, tail_solid_to, widened_solid, behind_to, made_solid, either_solid_to, maybe_solid_to, solid_opens}
+use Rattle.grammar.proofs.Solid.{IsSolid, lower, one_solid, gives_solid, seq_solid, behind, either_solid, listed, many_solid, knot_solid, knot_solid_to, at_most_solid, deep_solid, seq_solid_to, tail_solid_to, widened_solid, behind_to, made_solid}
+use Rattle.grammar.proofs.Solid.{either_solid_to, maybe_solid_to, solid_opens}
 use Rattle.grammar_example.specs.declared.token.Operator.{Operator}
 use Rattle.grammar_example.specs.declared.token.Token.{Token}
 use Rattle.grammar_example.specs.declared.token.Token.TheVariants as tokens
 use Rattle.grammar_example.specs.Tree.{Tree, Plan, if_then, if_else, empty, is_open}
 use Rattle.grammar_example.specs.Token.{a_name, a_type, a_number, a_sign, open_paren, close_paren, a_semicolon, an_if, an_else, kind, name_of, type_of, number_of, operator_of, length_limit, depth_limit}
-use Rattle.grammar_example.specs.Grammar.{first_expression, first_statement, in_parens, operand_of, operand, chain_once, chain, expression_of, expression, short_expression, empty_statement, value_statement, else_first, else_part, if_statement, statement_of, statement, statement_within}
+use Rattle.grammar_example.specs.Grammar.{first_expression, first_statement, in_parens, operand_of, operand, chain_once, chain, expression_of, expression, short_expression, empty_statement, value_statement, else_first, else_part, if_statement}
+use Rattle.grammar_example.specs.Grammar.{statement_of, statement, statement_within}
 use Rattle.grammar_example.proofs.Tokens.{token_solid, name_good, type_good, number_good, operator_good}
 use Rattle.grammar_example.proofs.Expressions.{more_expression, operand_good, expression_exact, expression_is, operand_is}
 use Rattle.grammar_example.proofs.Statements.{more_statement, first_else, within_else, within_same, clash_else, no_part, statement_exact, statement_is, statement_within_exact}
@@ -87,16 +89,20 @@ module _ (types : List ℕ) where
     in_parens_solid : (O : Syntax Token Tree) → IsSolid (kind types) n O true false first_expression (λ _. []) → IsSolid (kind types) n (in_parens types (expression types) O) true false (a_type ∷ first_expression) (λ _. [])
     unfolding in_parens
     in_parens_solid O o =
-        listed (either_solid (a_type ∷ []) (seq_solid type_solid (λ t. seq_solid (token_solid types close_paren) (λ _. seq_solid o (λ x. gives_solid _) refl) refl) refl) (seq_solid e (λ x. seq_solid (token_solid types close_paren) (λ _. gives_solid _) refl) refl) refl refl) refl
+        listed (either_solid (a_type ∷ []) (seq_solid type_solid (λ t. seq_solid (token_solid types close_paren) (λ _. seq_solid o (λ x. gives_solid _) refl) refl) refl)
+        (seq_solid e (λ x. seq_solid (token_solid types close_paren) (λ _. gives_solid _) refl) refl) refl refl) refl
 
-  operand_of_solid : (n : ℕ) → IsSolid (kind types) n (expression types) true false first_expression (λ _. more_expression) → (O : Unit {0} → Syntax Token Tree) → ((s : Unit {0}) → IsSolid (kind types) n (O s) true false first_expression (λ _. [])) → (s : Unit {0}) → IsSolid (kind types) (suc n) (operand_of types (expression types) O s) true false first_expression (λ _. [])
+  operand_of_solid : (n : ℕ) → IsSolid (kind types) n (expression types) true false first_expression (λ _. more_expression) → (O : Unit {0} → Syntax Token Tree) → ((s : Unit {0}) → IsSolid (kind types) n (O s) true false first_expression (λ _. []))
+      → (s : Unit {0}) → IsSolid (kind types) (suc n) (operand_of types (expression types) O s) true false first_expression (λ _. [])
   unfolding operand_of
   operand_of_solid n e O o s =
-      listed (either_solid (a_name ∷ []) (seq_solid name_solid (λ w. gives_solid _) refl) (either_solid (a_number ∷ []) (seq_solid number_solid (λ m. gives_solid _) refl) (behind (token_solid types open_paren) (λ _. in_parens_solid n e (O s) (o s)) refl) refl refl) refl refl) refl
+      listed (either_solid (a_name ∷ []) (seq_solid name_solid (λ w. gives_solid _) refl) (either_solid (a_number ∷ []) (seq_solid number_solid (λ m. gives_solid _) refl)
+      (behind (token_solid types open_paren) (λ _. in_parens_solid n e (O s) (o s)) refl) refl refl) refl refl) refl
 
   operand_solid : (n : ℕ) → IsSolid (kind types) n (expression types) true false first_expression (λ _. more_expression) → IsSolid (kind types) (suc n) (operand types (expression types)) true false first_expression (λ _. [])
   operand_solid n e =
-      knot_solid_to {S = Unit {0}} (suc n) refl (λ _. (operand_good types 0 (expression types) (expression types) (same (expression_exact types))).here) (λ _. operand_is types) (λ k lt o. operand_of_solid k (lower k (omega arith) e) (λ _. operand types (expression types)) o) (suc n) (omega arith) tt
+      knot_solid_to {S = Unit {0}} (suc n) refl (λ _. (operand_good types 0 (expression types) (expression types) (same (expression_exact types))).here) (λ _. operand_is types)
+      (λ k lt o. operand_of_solid k (lower k (omega arith) e) (λ _. operand types (expression types)) o) (suc n) (omega arith) tt
 
   chain_once_solid : (n : ℕ) → IsSolid (kind types) n (expression types) true false first_expression (λ _. more_expression) → (x : Tree) → IsSolid (kind types) (suc n) (chain_once types (expression types) x) true false (a_sign ∷ []) (λ _. [])
   unfolding chain_once
@@ -106,7 +112,8 @@ module _ (types : List ℕ) where
   unfolding chain
   chain_solid n e x = listed (many_solid (a_sign ∷ []) refl refl (suc n) (chain_once_solid n e) x) refl
 
-  expression_of_solid : (n : ℕ) → ((s : Unit {0}) → IsSolid (kind types) n (expression types) true false first_expression (λ _. more_expression)) → (s : Unit {0}) → IsSolid (kind types) (suc n) (expression_of types (λ _. expression types) s) true false first_expression (λ _. more_expression)
+  expression_of_solid : (n : ℕ) → ((s : Unit {0}) → IsSolid (kind types) n (expression types) true false first_expression (λ _. more_expression)) → (s : Unit {0})
+      → IsSolid (kind types) (suc n) (expression_of types (λ _. expression types) s) true false first_expression (λ _. more_expression)
   unfolding expression_of
   expression_of_solid n e s = listed (seq_solid (operand_solid n (e s)) (chain_solid n (e s)) refl) refl
 
@@ -143,7 +150,8 @@ module _ (types : List ℕ) where
     unfolding if_statement
     if_statement_solid = behind_to (token_solid types an_if) (λ _. seq_solid_to (token_solid types open_paren) (λ _. seq_solid_to short_expression_solid (λ e. seq_solid_to (token_solid types close_paren) (λ _. if_body_solid e) refl) refl) refl) refl
 
-  statement_of_solid : (n : ℕ) (S : Unit {0} → Syntax Token Plan) → ((s : Unit {0}) → IsSolid (kind types) n (S s) true false first_statement more_statement) → (s : Unit {0}) → IsSolid (kind types) (suc n) (statement_of types S s) true false first_statement more_statement
+  statement_of_solid : (n : ℕ) (S : Unit {0} → Syntax Token Plan) → ((s : Unit {0}) → IsSolid (kind types) n (S s) true false first_statement more_statement) → (s : Unit {0})
+      → IsSolid (kind types) (suc n) (statement_of types S s) true false first_statement more_statement
   unfolding statement_of
   statement_of_solid n S s u =
       either_solid_to (a_semicolon ∷ []) empty_statement_solid

@@ -74,7 +74,8 @@ module _ (types : List ℕ) where
     unfolding if_statement
     if_statement_good = after_to (token_good types an_if) (λ _. seq_to (token_good types open_paren) (λ _. seq_to (short_expression_good types) (λ e. seq_to (token_good types close_paren) (λ _. if_body_good e) refl) refl) refl) refl
 
-  pub statement_of_good : (n : ℕ) (S S' : Unit {0} → Syntax Token Plan) → ((s : Unit {0}) → IsGood (kind types) n (S s) (S' s) false first_statement more_statement) → (s : Unit {0}) → IsGood (kind types) (suc n) (statement_of types S s) (statement_of types S' s) false first_statement more_statement
+  pub statement_of_good : (n : ℕ) (S S' : Unit {0} → Syntax Token Plan) → ((s : Unit {0}) → IsGood (kind types) n (S s) (S' s) false first_statement more_statement) → (s : Unit {0})
+      → IsGood (kind types) (suc n) (statement_of types S s) (statement_of types S' s) false first_statement more_statement
   unfolding statement_of
   statement_of_good n S S' s u =
       either_to (a_semicolon ∷ []) empty_statement_good

@@ -8,7 +8,8 @@ use Rattle.std.specs.Prelude.{ℕ, zero, suc, List, [], ◌∷◌, cond}
 use Rattle.grammar.specs.Syntax.{Syntax, gives, one, ◌then◌, choice, many, knot, deep, at_most}
 use Rattle.grammar_example.specs.declared.token.Token.{Token}
 use Rattle.grammar_example.specs.Tree.{Tree, name, number, cast, binary, Plan, empty, value, if_then, if_else, is_open}
-use Rattle.grammar_example.specs.Token.{a_name, a_type, a_number, a_sign, open_paren, close_paren, a_semicolon, an_if, an_else, kind, token, name_of, type_of, number_of, operator_of, length_limit, depth_limit}
+use Rattle.grammar_example.specs.Token.{a_name, a_type, a_number, a_sign, open_paren, close_paren, a_semicolon, an_if, an_else, kind, token, name_of, type_of}
+use Rattle.grammar_example.specs.Token.{number_of, operator_of, length_limit, depth_limit}
 
 abbrev pub first_expression : List ℕ
 first_expression = a_name ∷ a_number ∷ open_paren ∷ []
@@ -20,10 +21,12 @@ first_statement = a_semicolon ∷ an_if ∷ first_expression
 module _ (types : List ℕ) where
   -- behind "(": a type and what is cast to it, or an expression
   unfoldable pub in_parens : Syntax Token Tree → Syntax Token Tree → Syntax Token Tree
-  in_parens E O = choice (kind types) (a_type ∷ []) (one (type_of types) then λ t. token types close_paren then λ _. O then λ x. gives (cast t x)) (E then λ x. token types close_paren then λ _. gives x)
+  in_parens E O = choice (kind types) (a_type ∷ []) (one (type_of types) then λ t. token types close_paren then λ _. O then λ x. gives (cast t x))
+      (E then λ x. token types close_paren then λ _. gives x)
 
   unfoldable pub operand_of : Syntax Token Tree → (Unit {0} → Syntax Token Tree) → Unit {0} → Syntax Token Tree
-  operand_of E O s = choice (kind types) (a_name ∷ []) (one (name_of types) then λ w. gives (name w)) (choice (kind types) (a_number ∷ []) (one number_of then λ n. gives (number n)) (token types open_paren then λ _. in_parens E (O s)))
+  operand_of E O s = choice (kind types) (a_name ∷ []) (one (name_of types) then λ w. gives (name w))
+      (choice (kind types) (a_number ∷ []) (one number_of then λ n. gives (number n)) (token types open_paren then λ _. in_parens E (O s)))
 
   unfoldable pub operand : Syntax Token Tree → Syntax Token Tree
   operand E = knot (operand_of E) tt
@@ -58,7 +61,8 @@ module _ (types : List ℕ) where
   else_part S e s = cond (is_open s) (gives (if_then e s)) (choice (kind types) (an_else ∷ []) (else_first S e s) (gives (if_then e s)))
 
   unfoldable pub if_statement : Syntax Token Plan → Syntax Token Plan
-  if_statement S = token types an_if then λ _. token types open_paren then λ _. short_expression then λ e. token types close_paren then λ _. S then λ s. else_part S e s
+  if_statement S = token types an_if then λ _. token types open_paren then λ _. short_expression then λ e. token types close_paren then λ _. S then λ s.
+      else_part S e s
 
   unfoldable pub statement_of : (Unit {0} → Syntax Token Plan) → Unit {0} → Syntax Token Plan
   statement_of S s = choice (kind types) (a_semicolon ∷ []) empty_statement (choice (kind types) (an_if ∷ []) (if_statement (S s)) value_statement)

@@ -28,7 +28,8 @@ fn in_parens<'a>(
     types: &[u32],
     tokens: &'a [Token],
 ) -> Result<(Expr, &'a [Token]), ReadError>
-    ensures read { Gives (λ x. (plain x.0, x.1.now)) result ((in_parens types.now (expression types.now) (operand types.now (expression types.now))).parse tokens.now) }
+    ensures read { Gives (λ x. (plain x.0, x.1.now)) result ((in_parens types.now (expression types.now) (operand types.now (expression types.now))).parse
+        tokens.now) }
     ensures shorter { IfOk result (λ x. length x.1.now < length tokens.now) }
 {
     if next_is(types, Kind::TypeName, tokens) {

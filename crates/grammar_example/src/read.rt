@@ -17,7 +17,8 @@ pub fn read_statement<'a>(
     types: &[u32],
     tokens: &'a [Token],
 ) -> Result<(Stmt, &'a [Token]), ReadError>
-    ensures { MatchResult result (λ x. Found (limited_statement types.now) tokens.now (plain_stmt x.0) x.1.now) (λ e. RefusedBy (limited_statement types.now) tokens.now e) }
+    ensures { MatchResult result (λ x. Found (limited_statement types.now) tokens.now (plain_stmt x.0) x.1.now)
+        (λ e. RefusedBy (limited_statement types.now) tokens.now e) }
 {
     statement_within(alloc, types, DEEPEST, tokens)
 }
@@ -25,7 +26,8 @@ pub fn read_statement<'a>(
 /// The statement that the tokens are as a whole.
 #[tactic(auto, using(crate::proofs::Answers::more_left, crate::proofs::Answers::none_accepted))]
 pub fn read_whole(alloc: Global, types: &[u32], tokens: &[Token]) -> Result<Stmt, ReadError>
-    ensures { MatchResult result (λ s. Accepts (limited_statement types.now) tokens.now (plain_stmt s)) (λ e. NoneAccepted (limited_statement types.now) tokens.now e) }
+    ensures { MatchResult result (λ s. Accepts (limited_statement types.now) tokens.now (plain_stmt s))
+        (λ e. NoneAccepted (limited_statement types.now) tokens.now e) }
 {
     match statement_within(alloc, types, DEEPEST, tokens) {
         Ok((statement, rest)) => {

@@ -4,7 +4,8 @@ ghost use Rattle.std.specs.Prelude.{◌≡◌, [], ◌∷◌};
 ghost use Rattle.grammar.specs.Syntax.{sees};
 ghost use Rattle.grammar_example.specs.Tree.{plain, plain_stmt, plain_stmt_kind, if_then, is_open};
 ghost use Rattle.grammar_example.specs.Token.{Gives, Makes, kind};
-ghost use Rattle.grammar_example.specs.Grammar.{first_statement, short_expression, empty_statement, value_statement, else_first, else_part, if_statement, statement_within};
+ghost use Rattle.grammar_example.specs.Grammar.{first_statement, short_expression, empty_statement, value_statement, else_first, else_part, if_statement};
+ghost use Rattle.grammar_example.specs.Grammar.{statement_within};
 
 use crate::expression::expression;
 use crate::token::{Kind, Limit, ReadError, Token, is_type, next_is, skip};
@@ -126,7 +127,8 @@ fn else_first<'a>(
     then: Stmt,
     tokens: &'a [Token],
 ) -> Result<(Stmt, &'a [Token]), ReadError>
-    ensures read { Gives (λ x. (plain_stmt x.0, x.1.now)) result ((else_first types.now (statement_within types.now depth) (plain condition) (plain_stmt then)).parse tokens.now) }
+    ensures read { Gives (λ x. (plain_stmt x.0, x.1.now)) result
+        ((else_first types.now (statement_within types.now depth) (plain condition) (plain_stmt then)).parse tokens.now) }
 {
     let rest = skip(types, Kind::Else, tokens)?;
     let (otherwise, rest) = statement_within(alloc, types, depth, rest)?;
@@ -143,7 +145,8 @@ fn else_part<'a>(
     then: Stmt,
     tokens: &'a [Token],
 ) -> Result<(Stmt, &'a [Token]), ReadError>
-    ensures read { Gives (λ x. (plain_stmt x.0, x.1.now)) result ((else_part types.now (statement_within types.now depth) (plain condition) (plain_stmt then)).parse tokens.now) }
+    ensures read { Gives (λ x. (plain_stmt x.0, x.1.now)) result
+        ((else_part types.now (statement_within types.now depth) (plain condition) (plain_stmt then)).parse tokens.now) }
 {
     if ends_open(&then) {
         read_if(alloc, condition, then, tokens)

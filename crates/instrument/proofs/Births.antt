@@ -202,7 +202,7 @@ module _ (w : Setting) (n : ℕ) (enough : count w + count w ≤ w.registers) wh
   births_follow [] slots regs s t h b c = AllBorn s regs t refl refl h b (later_same slots s)
   births_follow (d ∷ ds) slots regs s t h b c =
       by (λ o. births_follow ds (slot_for (length s.store) d ∷ slots) (born_registers w slots regs s t h b enough d c.0) (born_state w slots regs s t h b enough d c.0) (born_target w slots regs s t h b enough d c.0)
-          (related_born w slots regs s t h b enough d c.0) (beside_born w slots regs s t h b enough d c.0) c.1)
+      (related_born w slots regs s t h b enough d c.0) (beside_born w slots regs s t h b enough d c.0) c.1)
       (full_at_stack_birth standard_sizes s.store (size_of d.ctype)) refl
     where
       by : (Unit {0} → Bear (slot_for (length s.store) d ∷ slots) (born_registers w slots regs s t h b enough d c.0) (born_state w slots regs s t h b enough d c.0) (born_target w slots regs s t h b enough d c.0) ds) → (o : Option Segment)

@@ -110,7 +110,7 @@ is_numbered p f part items body typed =
     let ordered = subst (λ l. InOrder l 0 vars) (sym numbers) places.in_order in
     let outside : AllOutside parts.middle all.high (with_numbers f.params []) = born_outside parts.middle all.high first parts.middle f.params [] parts.front (omega arith) tt in
     let declared = body_can_declare (variable_numbers f) items (with_parameters (function_scopes p part.before f) f.params) (around_body f.result) parts.middle all.high (with_numbers f.params []) typed parts.back outside
-        (listed_back (variable_numbers f) f.params (declared_in_items items) listed) in
+    (listed_back (variable_numbers f) f.params (declared_in_items items) listed) in
     record {
       parameters = all_can_be_born (variable_numbers f) f.params first parts.middle [] parts.front tt (parameter_objects (function_scopes p part.before f) f.params part.typed.params)
           (listed_front (variable_numbers f) f.params (declared_in_items items) listed);
@@ -222,14 +222,14 @@ module _ (p : TranslationUnit) (main index : ℕ) (f : Function) (part : Part p 
         (let x = length-append (variable_types f) (items_temporaries body.items) in omega (arith, enough, room, x))
         (declared_in body.items) (items_with body.items call (suc n)) (items p (variable_numbers f) (with_variables (variable_numbers f) (declared_in body.items) spot) (variable_types f) body.items) can (λ old g2 have.
         items_follow p w n most_typed p.names (map (signature p.funcs) (part.before ++ f ∷ [])) (all_calls outside active) body.items scopes (around_body f.result) (behind_births here old (declared_in body.items))
-            (with_variables (variable_numbers f) (declared_in body.items) spot) (variable_types f)
+        (with_variables (variable_numbers f) (declared_in body.items) spot) (variable_types f)
         (at_births w spot here old (declared_in body.items) stands) g2 have refl refl (items_can old) body.formed body.typed body.noted body.letters (omega (arith, room)) enough)
         regs s t (record { related = m; beside = b; ready = all_ready s.store ps scopes.objects a }) le
 
   pub body_follows : BodyFollows p main index f call calls n
   body_follows outside active regs s t m b a le =
       subst (λ o. Follows (setting p main index f call calls n outside active) (at_body (parameter_slots p main index f call calls n outside) f.result) Next s (body_with o call (suc n) s) (runs (setting p main index f call calls n outside active) n t
-          (body_part p (variable_numbers f) f.params (variable_types f) o) regs)) (sym body.is)
+      (body_part p (variable_numbers f) f.params (variable_types f) o) regs)) (sym body.is)
       (items_does outside active regs s t m b a le)
 
   -- what a call of the function needs

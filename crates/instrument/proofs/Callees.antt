@@ -279,7 +279,7 @@ module _ (p : TranslationUnit) (q : IsProgram p) (numbers : FunctionsHaveNumbers
         DoesCall (level over_blocks functions (suc k) (index_of f.decl p.funcs) (wholes zs) t) (calls_run (suc k) calls_are into args (wholes zs) regs t has)
         (subst (λ r. Called s g.result r (level over_blocks functions (suc k) (index_of f.decl p.funcs) (wholes zs) t)) (sym (source_is (suc k) call_is at (integers zs) s))
         (subst (λ o. Called s g.result (call_with (Some g) (call_of p (suc k)) (suc k) at (integers zs) s) (monitored.step_from t.steps (λ j. body_runs over_blocks o (level over_blocks functions k) k (wholes zs) (record t { steps = j }))))
-            (sym function_is)
+        (sym function_is)
         (call_follows p main index g (call_of p (suc k)) (level over_blocks functions k) k
         (has_room p main index g part body (call_of p (suc k)) (level over_blocks functions k) k calls_below)
         (parameters_can p main index g part body (call_of p (suc k)) (level over_blocks functions k) k calls_below)

@@ -75,7 +75,7 @@ module _ (p : TranslationUnit) (numbers : List ℕ) where
   deep_initials rs [] f = omega arith
   deep_initials rs (d ∷ ds) f =
       deep_before (initialise p numbers rs (number_of d) d.init) (initialise_all p numbers (rs ++ initial_temporaries d.init) ds) most_deep (deep_initialise p numbers rs (number_of d) d.init f.0)
-          (deep_initials (rs ++ initial_temporaries d.init) ds f.1)
+      (deep_initials (rs ++ initial_temporaries d.init) ds f.1)
 
   deep_returned : (spot : Spot) (rs : Types) (e : Option Expression) → WhereAny (IsFullOrCall 800) e → depth_of_all (returned p numbers spot rs e) ≤ most_deep
   deep_returned spot rs None f =
@@ -113,7 +113,7 @@ module _ (p : TranslationUnit) (numbers : List ℕ) where
         let m : max (depth_of_all (statement p numbers spot (rs ++ temporaries e) a)) (depth_of_all (else_part p numbers spot (rs ++ temporaries e ++ statement_temporaries a) b)) ≤ n = max-le (omega (arith, x, l)) (omega (arith, y, r)) in
         let s = f.0.small in
         deep_behind numbers rs e (tree.If (condition_of numbers rs e) (statement p numbers spot (rs ++ temporaries e) a) (else_part p numbers spot (rs ++ temporaries e ++ statement_temporaries a) b))
-            (4 * (1 + max (form.depth a) (form.depth_of_else b)) + most_deep) (omega (arith, s)) (omega (arith, m))
+        (4 * (1 + max (form.depth a) (form.depth_of_else b)) + most_deep) (omega (arith, s)) (omega (arith, m))
     deep spot rs (While at annots e a) f =
         let loops = spot.loops + 1 in
         let x = deep (in_loop spot) (rs ++ temporaries e) a f.2 in

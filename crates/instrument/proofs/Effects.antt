@@ -204,7 +204,7 @@ module _ (p : TranslationUnit) (w : Setting) (n : ℕ) (h : Here) (scopes : Scop
     bumped op room =
         let code = set (value_at w x.decl) (spec.compound (bump_operator op) k int_type (Register (value_at w x.decl)) (Constant kind.I32 (pos 1))) in
         let source : (eval_with (Node at k (Bump op variable)) w.call >> done) s ≡ on_outcome ((defined at (compound k (bump_operator op) (Integer old.known.value) int_type (Integer (pos 1))) >>= λ i. write at there k i
-            >> give (bump_value op (Integer old.known.value) i)) s) (λ _. done) =
+        >> give (bump_value op (Integer old.known.value) i)) s) (λ _. done) =
         ap (λ o. on_outcome (on_outcome o (λ p. read at p k >>= λ x. defined at (compound k (bump_operator op) x int_type (Integer (pos 1))) >>= λ v. write at p k v >> give (bump_value op x v))) (λ _. done)) object_found
         ∙ ap (λ o. on_outcome (on_outcome o (λ x. defined at (compound k (bump_operator op) x int_type (Integer (pos 1))) >>= λ v. write at there k v >> give (bump_value op x v))) (λ _. done)) read_found in
         subst (λ r. Follows w h Next s r (runs w n t code regs)) (sym source)
@@ -273,10 +273,10 @@ module _ (p : TranslationUnit) (w : Setting) (n : ℕ) (h : Here) (scopes : Scop
           let later = later_set w h.slots after to re room2 (number_of d) v found z f in
           subst (λ r. Follows w h Next to (on_outcome r (λ _. rest)) (runs w n target (before sets code) after)) (sym (ap (λ i. write at there i (Integer z) to) int ∙ write_is w h.slots after to re (number_of d) v found at z))
           (subst (λ d2. Follows w h Next to (rest (state_with w h.slots after to re room2 (number_of d) v found z f)) d2)
-              (sym (behind_setup w n target sets code after (slice_set after (value_at w (number_of d)) (Whole z)) (set_runs w n target (value_at w (number_of d)) (full_value w.numbers rs e) after z has)
-              ∙ sym (writes_none (runs w n target code (slice_set after (value_at w (number_of d)) (Whole z))))))
+          (sym (behind_setup w n target sets code after (slice_set after (value_at w (number_of d)) (Whole z)) (set_runs w n target (value_at w (number_of d)) (full_value w.numbers rs e) after z has)
+          ∙ sym (writes_none (runs w n target code (slice_set after (value_at w (number_of d)) (Whole z))))))
           (onward w h Next to (state_with w h.slots after to re room2 (number_of d) v found z f) [] (rest (state_with w h.slots after to re room2 (number_of d) v found z f))
-              (runs w n target code (slice_set after (value_at w (number_of d)) (Whole z))) later
+          (runs w n target code (slice_set after (value_at w (number_of d)) (Whole z))) later
           (go (state_with w h.slots after to re room2 (number_of d) v found z f) target (o ++ []) (slice_set after (value_at w (number_of d)) (Whole z))
           (related_set w h.slots after to re room2 (number_of d) v found z f)
           (beside_set w h.slots after to re room2 (number_of d) v found z f h.slots target be)

@@ -153,8 +153,13 @@ module _ (w : Setting) (n : ℕ) (slots : List Slot) (scopes : Scopes) (sight : 
         (setup w.numbers (rs ++ temporaries a) b) (value w.numbers (rs ++ temporaries a) b) (truth_of w.numbers (rs ++ temporaries a) b)
         (longer (rs ++ temporaries a) (temporaries b)) (omega arith) (enough_for rs regs after last h same (omega (arith, long, enough)))
         (b_follows after (after_holds rs regs after behind h same))
-        (λ z f later has. (truth (not (int_eq z (pos 0))), truth_fits (not (int_eq z (pos 0))), refl, ap (λ u. eval over_blocks (spec.truth (value_type u) (value w.numbers (rs ++ temporaries a) b)) later) b_int
-            ∙ differs_from_zero l (value w.numbers (rs ++ temporaries a) b) later z f has))
+        (λ z f later has. (
+          truth (not (int_eq z (pos 0))),
+          truth_fits (not (int_eq z (pos 0))),
+          refl,
+          ap (λ u. eval over_blocks (spec.truth (value_type u) (value w.numbers (rs ++ temporaries a) b)) later) b_int
+              ∙ differs_from_zero l (value w.numbers (rs ++ temporaries a) b) later z f has,
+        ))
 
     -- a constant that is put into it
     constant_follows : (z : ℤ) → fits I32 z ≡ true → (regs after : List BlockValue) → Related w slots regs now → Same (length rs) regs after
@@ -214,20 +219,20 @@ module _ (w : Setting) (n : ℕ) (slots : List Slot) (scopes : Scopes) (sight : 
         subst (λ high. Evaluates l now target (eval_with (Node at t (Choice a b c)) w.call now) regs (length rs) high (runs w n target (setup w.numbers rs (Node at t (Choice a b c))) regs) (Register chosen_in)) (sym choice_long)
         (through_if w n target now k l (eval_with a w.call now) (eval_with b w.call) (eval_with c w.call) regs (length rs) (length (rs ++ temporaries a)) (suc chosen_in)
         (setup w.numbers rs a) (before (setup w.numbers (rs ++ temporaries a) b) (set chosen_in (value w.numbers (rs ++ temporaries a) b))) (before (setup w.numbers (rs ++ temporaries a ++ temporaries b) c)
-            (set chosen_in (value w.numbers (rs ++ temporaries a ++ temporaries b) c)))
+        (set chosen_in (value w.numbers (rs ++ temporaries a ++ temporaries b) c)))
         (value w.numbers rs a) (condition_of w.numbers rs a) (Register chosen_in) (longer rs (temporaries a)) (a_follows regs h)
         (λ z later f has. test_is (type_of a) k (value w.numbers rs a) later z a_int f has)
         (λ after same. part_follows b (rs ++ temporaries a) (length (rs ++ temporaries a)) (omega arith) (longer (rs ++ temporaries a ++ temporaries b) (temporaries c)) b_follows after (after_holds rs regs after behind h same)
-            (enough_for rs regs after chosen_in h same (omega (arith, choice_long, enough))) (λ regs f. f))
+        (enough_for rs regs after chosen_in h same (omega (arith, choice_long, enough))) (λ regs f. f))
         (λ after same. part_follows c (rs ++ temporaries a ++ temporaries b) (length (rs ++ temporaries a)) (longer (rs ++ temporaries a) (temporaries b)) (omega arith) c_follows after (after_holds rs regs after behind h same)
-            (enough_for rs regs after chosen_in h same (omega (arith, choice_long, enough))) (λ regs f. lower_same c (rs ++ temporaries a ++ temporaries b) (length (rs ++ temporaries a)) (longer (rs ++ temporaries a) (temporaries b)) regs f)))
+        (enough_for rs regs after chosen_in h same (omega (arith, choice_long, enough))) (λ regs f. lower_same c (rs ++ temporaries a ++ temporaries b) (length (rs ++ temporaries a)) (longer (rs ++ temporaries a) (temporaries b)) regs f)))
 
   cast_follows : (at : Place) (t to : PlainType) (a : Expression) (k : CInt) (rs : List MonType) → t ≡ to → t ≡ Int k → CastTypes to (type_of a) → ((l : CInt) → type_of a ≡ Int l → Follows a l rs) → Follows (Node at t (Cast to a)) k rs
   cast_follows at t to a k rs same int types f regs h =
       let to_int : to ≡ Int k = sym same ∙ int in
       let from = cast_int to (type_of a) k to_int types in
       changed w n target now from.int k (eval_with a w.call now) (λ x. give (converted to x)) regs (length rs) (length (rs ++ temporaries a)) (runs w n target (setup w.numbers rs a) regs) (value w.numbers rs a)
-          (in_type (value_type (type_of a)) (value_type to) (value w.numbers rs a)) (f from.int from.is regs h) (λ z g after same2.
+      (in_type (value_type (type_of a)) (value_type to) (value w.numbers rs a)) (f from.int from.is regs h) (λ z g after same2.
       MakesValue (convert k z) (fits-convert k z) (ap (λ to. Normal (converted to (Integer z)) now) to_int) (λ later p.
       ap (λ u. eval over_blocks (in_type (value_type u) (value_type to) (value w.numbers rs a)) later) from.is
       ∙ ap (λ u. eval over_blocks (in_type (register_type from.int) (value_type u) (value w.numbers rs a)) later) to_int
@@ -247,7 +252,7 @@ module _ (w : Setting) (n : ℕ) (slots : List Slot) (scopes : Scopes) (sight : 
       let more = two_long rs (temporaries a) (temporaries b) in
       subst (λ high. Evaluates k now target (eval_with (Node at t (Binary op a b)) w.call now) regs (length rs) high (runs w n target (setup w.numbers rs (Node at t (Binary op a b))) regs) (value w.numbers rs (Node at t (Binary op a b)))) more
       (binary_follows w n now target at op t (type_of a) (type_of b) k (eval_with a w.call now) (eval_with b w.call) regs (length rs) (length (rs ++ temporaries a)) (length ((rs ++ temporaries a) ++ temporaries b)) (setup w.numbers rs a)
-          (setup w.numbers (rs ++ temporaries a) b) (value w.numbers rs a) (value w.numbers (rs ++ temporaries a) b)
+      (setup w.numbers (rs ++ temporaries a) b) (value w.numbers rs a) (value w.numbers (rs ++ temporaries a) b)
       (longer rs (temporaries a)) (longer (rs ++ temporaries a) (temporaries b)) q.2 int
       (λ i e. evaluates a i rs e p.0 q.0 l.0 behind (omega (arith, longer (rs ++ temporaries a) (temporaries b), more, enough)) regs h)
       (λ i e after same. evaluates b i (rs ++ temporaries a) e p.1 q.1 l.1 (omega (arith, longer rs (temporaries a), behind)) (omega (arith, more, enough)) after (after_holds rs regs after behind h same)))
@@ -279,7 +284,7 @@ module _ (w : Setting) (n : ℕ) (slots : List Slot) (scopes : Scopes) (sight : 
       constant w n now target k (Normal (Integer (pos (size_of u))) now) regs (length rs) (length (rs ++ [])) kind.U64 (pos (size_of u)) (subst (λ i. fits i (pos (size_of u)) ≡ true) (same_int_type U64 k (sym q.0 ∙ int)) (size_fits u)) refl
   evaluates (Node at t (SizeOfExpr a)) k rs int p q l behind enough regs h =
       constant w n now target k (Normal (Integer (pos (size_of (type_of a)))) now) regs (length rs) (length (rs ++ [])) kind.U64 (pos (size_of (type_of a))) (subst (λ i. fits i (pos (size_of (type_of a))) ≡ true) (same_int_type U64 k (sym q.1 ∙ int))
-          (size_fits (type_of a))) refl
+      (size_fits (type_of a))) refl
   evaluates (Node at t (Assign op a b)) k rs int p q l behind enough regs h = absurd p
   evaluates (Node at t (Bump op a)) k rs int p q l behind enough regs h = absurd p
   evaluates (Node at t (Call f args)) k rs int p q l behind enough regs h = absurd p

@@ -81,7 +81,7 @@ module _ (w : Setting) (n : ℕ) (slots : List Slot) (scopes : Scopes) (sight : 
       let more : length (rs ++ (te ++ ts)) ≡ length (rs ++ te ++ ts) = omega (arith, length-append (rs ++ te) ts, length-append rs te, length-append rs (te ++ ts), length-append te ts) in
       subst (λ high. EvaluatesAll (k ∷ ks) s t (evals_with (Following e es) w.call s) regs (length rs) high (runs w n t (arguments_setup w.numbers rs (Following e es)) regs) (arguments w.numbers rs (Following e es))) (sym more)
       (one_more w n s t k ks (eval_with e w.call s) (evals_with es w.call) regs (length rs) (length (rs ++ te)) (length (rs ++ te ++ ts)) (setup w.numbers rs e) (arguments_setup w.numbers (rs ++ te) es) (value w.numbers rs e)
-          (arguments w.numbers (rs ++ te) es) (longer rs te) (longer (rs ++ te) ts)
+      (arguments w.numbers (rs ++ te) es) (longer rs te) (longer (rs ++ te) ts)
       (evaluates w n slots scopes sight s t ready e k rs types.0 p.0 q.0 l.0 behind (omega (arith, more, enough, longer (rs ++ te) ts)) regs h)
       (λ after same. arguments_follow es ks (rs ++ te) types.1 p.1 q.1 l.1 (omega (arith, behind, longer rs te)) (omega (arith, more, enough)) after (related_same w slots regs after s (length rs) behind same h)))
 
@@ -112,7 +112,7 @@ module _ (p : TranslationUnit) (w : Setting) (n : ℕ) (h : Here) (scopes : Scop
       by (Gives z v to u o i like back is_even e f) =
           subst (λ r. Follows w h on s (on_outcome r tail) (then_do (then_do q (takes into after)) (at_next (monitored.exec_all over_blocks code w.calls n)))) (sym e)
           (subst (λ d. Follows w h on s (tail (value_of z) to) d) (sym (ap (λ q. then_do (then_do q (takes into after)) (at_next (monitored.exec_all over_blocks code w.calls n))) f ∙ ap (λ l. writes l (runs w n u code (given_to into v after)))
-              (append-nil o)))
+          (append-nil o)))
           (onward w h on s to o (tail (value_of z) to) (runs w n u code (given_to into v after)) (later_back w h.slots after s related to o back)
           (go z v to u o i like (related_back w h.slots after s related to o back) (beside_back w h.slots after s related to o back u is_even) (later_back w h.slots after s related to o back))))
       by (EndsRun x to o d e l f) =
@@ -120,7 +120,7 @@ module _ (p : TranslationUnit) (w : Setting) (n : ℕ) (h : Here) (scopes : Scop
       by (HasNoMeaning at to o e l ext) =
           IsUndefined at to o (ap (λ r. on_outcome r tail) e) l
           (extends_trans o (written q) _ ext (extends_trans (written q) (written (then_do q (takes into after))) _ (written_then q (takes into after))
-              (written_then (then_do q (takes into after)) (at_next (monitored.exec_all over_blocks code w.calls n)))))
+          (written_then (then_do q (takes into after)) (at_next (monitored.exec_all over_blocks code w.calls n)))))
 
   -- a call with its arguments, and what follows
   pub follows_called : (at : Place) (u : PlainType) (f : Use) (es : Expressions) (into : Option ℕ) (tail : Value → Evaluation (Unit {0})) (code : MonStatements) → ArePure es → AreWellTyped scopes es → Calls scopes f u es → ArgumentsHaveLetters es

@@ -158,7 +158,7 @@ module _ (w : Setting) (n : ℕ) (enough : count w + count w ≤ w.registers) (a
   parameters_follow (d ∷ ds) [] slots regs s t h b c bound a = absurd bound
   parameters_follow (d ∷ ds) (z ∷ zs) slots regs s t h b c bound a =
       by (λ o. parameters_follow ds zs (slot_for (length s.store) d ∷ slots) (bound_registers w slots regs s t h b enough d c.0 z bound.0 bound.1) (bound_state w slots regs s t h b enough d c.0 z bound.0 bound.1)
-          (bound_target w slots regs s t h b enough d c.0 z bound.0 bound.1) (bound_related w slots regs s t h b enough d c.0 z bound.0 bound.1) (bound_beside w slots regs s t h b enough d c.0 z bound.0 bound.1) c.1
+      (bound_target w slots regs s t h b enough d c.0 z bound.0 bound.1) (bound_related w slots regs s t h b enough d c.0 z bound.0 bound.1) (bound_beside w slots regs s t h b enough d c.0 z bound.0 bound.1) c.1
       (bound_others regs (bound_registers w slots regs s t h b enough d c.0 z bound.0 bound.1) ds zs (number_of d ∷ decls_of slots) (value_stays w slots regs s t h b enough d c.0 z bound.0 bound.1) c.1 bound.2)
       (bound_set w slots regs s t h b enough d c.0 z bound.0 bound.1 a))
       (full_at_stack_birth standard_sizes s.store (size_of d.ctype)) refl
@@ -167,7 +167,7 @@ module _ (w : Setting) (n : ℕ) (enough : count w + count w ≤ w.registers) (a
           (bound_target w slots regs s t h b enough d c.0 z bound.0 bound.1) ds (integers zs)) → (o : Option Segment) → full_at_stack_birth standard_sizes s.store (size_of d.ctype) ≡ o → Bear slots regs s t (d ∷ ds) (integers (z ∷ zs))
       by rest None e =
           born_then slots regs s t d ds (Integer z) (integers zs) (bound_state w slots regs s t h b enough d c.0 z bound.0 bound.1) (bound_registers w slots regs s t h b enough d c.0 z bound.0 bound.1)
-              (bound_target w slots regs s t h b enough d c.0 z bound.0 bound.1)
+          (bound_target w slots regs s t h b enough d c.0 z bound.0 bound.1)
           (bound_source w slots regs s t h b enough d c.0 z bound.0 bound.1 at e)
           (target_birth w slots regs s t h b enough d c.0 n ∙ ap (birth_runs w slots regs s t h b enough d c.0) e)
           (bound_long w slots regs s t h b enough d c.0 z bound.0 bound.1)

@@ -64,8 +64,17 @@ module _ (rs a b : List MonType) where
   three c = omega (arith, length-append rs (a ++ b ++ c), length-append (a ++ b) c, length-append a b, length-append (rs ++ a ++ b) c, length-append (rs ++ a) b, length-append rs a)
 
   pub four : (c d : List MonType) → length (rs ++ (a ++ b ++ c ++ d)) ≡ length (rs ++ a ++ b ++ c ++ d)
-  four c d = omega (arith, length-append rs (a ++ b ++ c ++ d), length-append (a ++ b ++ c) d, length-append (a ++ b) c, length-append a b, length-append (rs ++ a ++ b ++ c) d, length-append (rs ++ a ++ b) c, length-append (rs ++ a) b,
-      length-append rs a)
+  four c d = omega (
+    arith,
+    length-append rs (a ++ b ++ c ++ d),
+    length-append (a ++ b ++ c) d,
+    length-append (a ++ b) c,
+    length-append a b,
+    length-append (rs ++ a ++ b ++ c) d,
+    length-append (rs ++ a ++ b) c,
+    length-append (rs ++ a) b,
+    length-append rs a,
+  )
 
 -- ---- where statements stand
 
@@ -236,12 +245,12 @@ module _ (p : TranslationUnit) (w : Setting) (n most : ℕ) (names : List (List 
       let long = two rs here (declaration_temporaries ds) in
       let later = declared_does h ds (with_object s d) next rest code (object_stage h.slots s d x.0 g) x.1 pure.1 q.1 l.1 (omega (arith, behind, longer rs here)) (omega (arith, long, enough)) go in
       subst (λ r. Follows w h Next from r (runs w n t (before (before (effects.initialise p w.numbers rs (number_of d) d.init) (effects.initialise_all p w.numbers next ds)) code) regs))
-          (sym (handed_on (source.initialise d d.init w.call from) (λ _. initialise_all ds w.call) (λ _. rest)))
+      (sym (handed_on (source.initialise d d.init w.call from) (λ _. initialise_all ds w.call) (λ _. rest)))
       (subst (λ a. Follows w h Next from (on_outcome (source.initialise d d.init w.call from) (λ _. initialise_all ds w.call >> rest)) (runs w n t a regs))
-          (sym (before_assoc (effects.initialise p w.numbers rs (number_of d) d.init) (effects.initialise_all p w.numbers next ds) code))
+      (sym (before_assoc (effects.initialise p w.numbers rs (number_of d) d.init) (effects.initialise_all p w.numbers next ds) code))
       (by regs from t m le d.init (omega (arith, long, longer next (declaration_temporaries ds), enough)) pure.0 q.0.init l.0
       (λ to u o after r be la is_set. later after to u (record { related = r; beside = be; ready = ready_declared to.store h.slots s.objects d x.0 is_set (ready_later from.store to.store h.slots s.objects la.kept m.ready) })
-          (omega (arith, le, la.spent)))))
+      (omega (arith, le, la.spent)))))
     where
       after_it : MonStatements
       after_it = before (effects.initialise_all p w.numbers (rs ++ initial_temporaries d.init) ds) code
@@ -298,8 +307,8 @@ module _ (p : TranslationUnit) (w : Setting) (n most : ℕ) (names : List (List 
   abbrev BodyDoes : ForFirst → Scopes → Here → Spot → List MonType → Option Expression → Statement → Type 0
   BodyDoes first s h spot rs e a =
       (old : State) → Stage (behind_births h old (declared_first first)).slots (behind_first (inner s) first)
-          → DoSame (in_body w (behind_births h old (declared_first first)).slots h.result (spot.loops + 1)) (behind_first (inner s) first) (exec_with a w.call (suc n))
-          (statement p w.numbers (target.in_loop (with_variables w.numbers (declared_first first) spot)) (rs ++ first_temporaries first ++ any_temporaries temporaries e) a)
+      → DoSame (in_body w (behind_births h old (declared_first first)).slots h.result (spot.loops + 1)) (behind_first (inner s) first) (exec_with a w.call (suc n))
+      (statement p w.numbers (target.in_loop (with_variables w.numbers (declared_first first) spot)) (rs ++ first_temporaries first ++ any_temporaries temporaries e) a)
 
   first_then : (first : ForFirst) (s : Scopes) (r : Around) (h : Here) (spot : Spot) (rs : List MonType) (x : Evaluation (Unit {0})) (code : MonStatements) (old : State) → Stage (behind_births h old (declared_first first)).slots (inner s)
       → HaveSlots (behind_births h old (declared_first first)).slots (declared_first first) → FirstFormed most first → FirstTyped (inner s) r first → FirstHasNumbers first → count w + count w ≤ length rs
@@ -349,7 +358,7 @@ module _ (p : TranslationUnit) (w : Setting) (n most : ℕ) (names : List (List 
     statement_follows (Block at body) s r h spot rs stands g result looped c f q m l behind enough =
         block_does h s g (omega (arith, behind, enough, longer rs (items_temporaries body))) (declared_in body) (items_with body w.call (suc n)) (items p w.numbers (with_variables w.numbers (declared_in body) spot) rs body) c.0 (λ old g2 have.
         items_follow body (inner s) r (behind_births h old (declared_in body)) (with_variables w.numbers (declared_in body) spot) rs (at_births w spot h old (declared_in body) stands) (inner_stage (behind_births h old (declared_in body)).slots s g2)
-            have result looped
+        have result looped
         (subst (λ living. ItemsCanDeclare w.numbers living body) (sym (decls_of-born (length old.store) (declared_in body) h.slots)) c.1) f q m l behind enough)
     statement_follows (If at e a b) s r h spot rs stands g result looped c f q m l behind enough =
         let te = temporaries e in
@@ -415,7 +424,7 @@ module _ (p : TranslationUnit) (w : Setting) (n most : ℕ) (names : List (List 
         let x = have_front h.slots ds (declared_in rest) have in
         declared_does h ds s rs (items_with rest w.call (suc n)) (items p w.numbers spot (rs ++ td) rest) g x f.0 q.0 l.0 behind (omega (arith, enough, all, longer (rs ++ td) tr))
         (items_follow rest (with_objects s ds) r h spot (rs ++ td) stands (objects_stage h.slots s ds x g) (have_behind h.slots ds (declared_in rest) have) result looped c.1 f.1 q.1 m.1 l.1 (omega (arith, behind, longer rs td))
-            (omega (arith, enough, all)))
+        (omega (arith, enough, all)))
     items_follow (Then (Run a) rest) s r h spot rs stands g have result looped c f q m l behind enough =
         let ta = statement_temporaries a in
         let tr = items_temporaries rest in

@@ -249,7 +249,7 @@ few_parens numbers rs (Node at t (Binary op a b)) =
     let s = parens_in_type (value_type (type_of b)) (value_type (type_of a)) (value numbers (rs ++ temporaries a) b) in
     let one : max 1 (open_parens (value numbers (rs ++ temporaries a) b)) ≤ 2 * nodes_of b = max-le (omega (arith, some_nodes b)) q in
     let m : max (open_parens (value numbers rs a)) (open_parens (in_type (value_type (type_of b)) (value_type (type_of a)) (value numbers (rs ++ temporaries a) b))) ≤ 2 * nodes_of a + 2 * nodes_of b + 1 =
-        max-le (omega (arith, p)) (omega (arith, s, one)) in
+    max-le (omega (arith, p)) (omega (arith, s, one)) in
     omega (arith, m)
 few_parens numbers rs (Node at t (Both a b)) = omega arith
 few_parens numbers rs (Node at t (Either a b)) = omega arith
@@ -357,7 +357,7 @@ module _ (ts : Types) where
   pub choice_begins : (x y z : Expression) (t : MonType) (rs : Types) → Begins (rs ++ (temporaries x ++ temporaries y ++ temporaries z ++ t ∷ [])) ts → Begins (rs ++ temporaries x ++ temporaries y ++ temporaries z ++ t ∷ []) ts
   choice_begins x y z t rs h =
       subst (λ l. Begins l ts) (sym (append_assoc rs (temporaries x ++ temporaries y ++ temporaries z) (t ∷ [])) ∙ ap (λ l. l ++ t ∷ []) (sym (append_assoc rs (temporaries x ++ temporaries y) (temporaries z)) ∙ ap (λ l. l ++ temporaries z)
-          (sym (append_assoc rs (temporaries x) (temporaries y))))) h
+      (sym (append_assoc rs (temporaries x) (temporaries y))))) h
 
   module _ (numbers : List ℕ) (scopes : Scopes) (sees : AreSeen ts numbers scopes.objects) where
     -- the variable that a name denotes

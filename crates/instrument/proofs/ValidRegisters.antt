@@ -86,7 +86,7 @@ values_valid names k (d ∷ ds) before rest o le h go =
         all_of (AboveValues k) (AboveValues (suc k)) before (λ w a. record { value = λ j other lt few. a.value j other (omega (arith, lt)) few; pointer = a.pointer; temporary = a.temporary }) h,
       )
           (λ after g. go after (all_of (AboveValues (suc k + length ds)) (AboveValues (k + suc (length ds))) after (λ w a. record { value = λ j other lt few. a.value j other (omega (arith, lt)) few; pointer = a.pointer; temporary = a.temporary })
-              g)),
+          g)),
     )
 
 -- ---- names of declarations

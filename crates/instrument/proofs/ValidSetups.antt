@@ -89,7 +89,7 @@ deep_setup numbers rs (Node at t (Choice a b c)) =
     let u = deep_setup numbers s c in
     let one = some_nodes b in
     deep_choice (setup numbers rs a) (condition_of numbers rs a) (before (setup numbers r b) (set last (value numbers r b))) (before (setup numbers s c) (set last (value numbers s c))) (nodes_of b + nodes_of c)
-        (suc (nodes_of a + (nodes_of b + nodes_of c))) (omega (arith, p))
+    (suc (nodes_of a + (nodes_of b + nodes_of c))) (omega (arith, p))
     (deep_then_set (setup numbers r b) last (value numbers r b) (nodes_of b + nodes_of c) (omega (arith, q)) (omega (arith, one)))
     (deep_then_set (setup numbers s c) last (value numbers s c) (nodes_of b + nodes_of c) (omega (arith, u)) (omega (arith, one)))
     (omega arith)

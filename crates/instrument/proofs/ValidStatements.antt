@@ -273,7 +273,7 @@ module _ (p : TranslationUnit) (gs : List Signature) (ts : Types) (result : Plai
         (loop_valid spot.loops tested body behind (omega (arith, d)) (no_step_test_if_any numbers (rs ++ tf) loops e) (no_step_effect_if_any p numbers (rs ++ tf ++ te ++ ta) step)
         (test_if_any_at u x (ended spot.loops) loops e (rs ++ tf) (own_end spot.loops) f.2 q.1 l.1 second)
         (statement_valid a u x (in_loop r) (target.in_loop inside) (points_loop inside points) (rs ++ tf ++ te) same (λ t. omega arith) (variables_back ts numbers (declared_in_first first) (declared_within a) h) f.4 q.3 m.1 l.2
-            (omega (arith, d)) third)
+        (omega (arith, d)) third)
         (effect_if_any_at u x (ended spot.loops) step (rs ++ tf ++ te ++ ta) f.3 q.2 l.3 all)))
     statement_valid (Break at) s v r spot k rs same o h f q m l d b = jump_valid spot (labels spot.loops) (end_label spot.loops) k (inside_end spot.loops (o q))
     statement_valid (Continue at) s v r spot k rs same o h f q m l d b = jump_valid spot (labels spot.loops) (next_label spot.loops) k (inside_next spot.loops (o q))
@@ -294,7 +294,7 @@ module _ (p : TranslationUnit) (gs : List Signature) (ts : Types) (result : Plai
         before_valid gs ts (result_of result) (labels spot.loops) (initialise_all p numbers rs ds) (items p numbers spot (rs ++ here) rest)
         (initials_valid ds s v (labels spot.loops) rs own f.0 q.0 l.0 (begins_left rs here (items_temporaries rest) ts b))
         (items_valid rest (with_objects s ds) (sees_behind ts numbers names functions s ds (declared_objects s ds q.0) own v) r spot k (rs ++ here) same o (variables_back ts numbers ds (declared_in_items rest) h) f.1 q.1 m.1 l.1
-            (omega (arith, d, right)) (begins_right rs here (items_temporaries rest) ts b))
+        (omega (arith, d, right)) (begins_right rs here (items_temporaries rest) ts b))
     items_valid (Then (Run a) rest) s v r spot k rs same o h f q m l d b =
         let here = statement_temporaries a in
         let left = le-max_left (form.depth a) (form.depth_of_items rest) in

@@ -27,7 +27,8 @@ pub halves : (bytes : List ℕ) (at n m power : ℕ) → power ≡ 256 ^ n → a
 halves bytes at n m power is le =
     let size : length (bytes_at bytes at n) ≡ n = length-take-le n (drop at bytes) (omega (arith, length-drop at bytes, le)) in
     let whole = ap number_of (bytes_at-add bytes at n m) ∙ number_of-append (bytes_at bytes at n) (bytes_at bytes (at + n) m) in
-    let factor : 256 ^ length (bytes_at bytes at n) * number_of (bytes_at bytes (at + n) m) ≡ power * number_of (bytes_at bytes (at + n) m) = ap (λ k. 256 ^ k * number_of (bytes_at bytes (at + n) m)) size ∙ ap (λ p. p * number_of (bytes_at bytes (at + n) m)) (sym is) in
+    let factor : 256 ^ length (bytes_at bytes at n) * number_of (bytes_at bytes (at + n) m) ≡ power * number_of (bytes_at bytes (at + n) m) = ap (λ k. 256 ^ k * number_of (bytes_at bytes (at + n) m)) size
+    ∙ ap (λ p. p * number_of (bytes_at bytes (at + n) m)) (sym is) in
     omega (arith, whole, factor)
 
 -- the bytes that `to_le_bytes` gives, from byte i on
@@ -110,7 +111,8 @@ number_at-stored bytes at width n le =
     ap (λ w. number_of (bytes_at (with_bytes bytes at (bytes_of width n)) at w)) (sym size) ∙ ap number_of (bytes_at-with_bytes bytes at (bytes_of width n) (omega (arith, le))) ∙ number_of-bytes_of width n
 
 -- bytes that lie apart from those written stay
-pub bytes_at-with_bytes_apart : (bytes : List ℕ) (at : ℕ) (new : List ℕ) (other width : ℕ) → at + length new ≤ length bytes → (other + width ≤ at) ⊎ (at + length new ≤ other) → bytes_at (with_bytes bytes at new) other width ≡ bytes_at bytes other width
+pub bytes_at-with_bytes_apart : (bytes : List ℕ) (at : ℕ) (new : List ℕ) (other width : ℕ) → at + length new ≤ length bytes → (other + width ≤ at) ⊎ (at + length new ≤ other)
+    → bytes_at (with_bytes bytes at new) other width ≡ bytes_at bytes other width
 bytes_at-with_bytes_apart bytes at new other width le apart =
     let long = length-with_bytes bytes at new le in
     same_lists _ _ (omega (arith, long, length-take width (drop other (with_bytes bytes at new)), length-take width (drop other bytes), length-drop other (with_bytes bytes at new), length-drop other bytes))

@@ -31,7 +31,8 @@ impl Model for Seg {
 
     ghost view = { λ s. slots_items s.slots };
 
-    ghost invariant = { λ s. IsFull s.slots × (lease_ptr s.lease ≡ slots_ptr s.slots) × (lease_len s.lease ≡ slots_len s.slots) × (lease_heap s.lease ≡ s.alloc) };
+    ghost invariant = { λ s. IsFull s.slots × (lease_ptr s.lease ≡ slots_ptr s.slots) × (lease_len s.lease ≡ slots_len s.slots)
+        × (lease_heap s.lease ≡ s.alloc) };
 }
 
 impl Seg {

@@ -32,7 +32,8 @@ module _ {X : Type 0} where
 
   -- a front that passes and a rest that doesn't
   filter_front : (p : X → Bool) (xs : List X) (i : ℕ) → All (λ x. p x ≡ true) (take i xs) → All (λ x. p x ≡ false) (drop i xs) → filter p xs ≡ take i xs
-  filter_front p xs i h k = ap (filter p) (sym (take-append-drop i xs)) ∙ filter-append p (take i xs) (drop i xs) ∙ ap (λ ys. ys ++ filter p (drop i xs)) (filter_all p (take i xs) h) ∙ ap (λ ys. take i xs ++ ys) (filter_none p (drop i xs) k) ∙ append-nil (take i xs)
+  filter_front p xs i h k = ap (filter p) (sym (take-append-drop i xs)) ∙ filter-append p (take i xs) (drop i xs) ∙ ap (λ ys. ys ++ filter p (drop i xs)) (filter_all p (take i xs) h) ∙ ap (λ ys. take i xs ++ ys) (filter_none p (drop i xs) k)
+      ∙ append-nil (take i xs)
 
   filter_back : (p : X → Bool) (xs : List X) (i : ℕ) → All (λ x. p x ≡ false) (take i xs) → All (λ x. p x ≡ true) (drop i xs) → filter p xs ≡ drop i xs
   filter_back p xs i h k = ap (filter p) (sym (take-append-drop i xs)) ∙ filter-append p (take i xs) (drop i xs) ∙ ap (λ ys. ys ++ filter p (drop i xs)) (filter_none p (take i xs) h) ∙ filter_all p (drop i xs) k
@@ -93,7 +94,8 @@ module _ (units size place index : ℕ) (live : List Live) (sound : AreApart (re
       }
 
 -- a block more has a record's room
-pub room_left : (units size place index capacity : ℕ) (live : List Live) → Keeps (record { units = units; live = live }) capacity → IsLeastPlace (record { units = units; live = live }) size place × LiesBehind live size place index → length live < capacity
+pub room_left : (units size place index capacity : ℕ) (live : List Live) → Keeps (record { units = units; live = live }) capacity → IsLeastPlace (record { units = units; live = live }) size place × LiesBehind live size place index
+    → length live < capacity
 room_left units size place index capacity live keeps gap =
     let block : Live = record { place = place; length = size } in
     let more = count_fits (record { units = units; live = insert live index block }) (inserted_apart units size place index live keeps.apart gap.1 gap.0.free.aligned gap.0.free.within) in

@@ -19,7 +19,8 @@ behind_block live units end index d sound lt le k e low high =
     (cases_eq index k)
 
 -- a place behind the first blocks, with the rest behind it, is clear
-pub clear_between : (live : List Live) (size place index : ℕ) → AllWithin (λ block. end_of block ≤ place) live 0 index → AllWithin (λ block. place + rounded_size size ≤ block.place) live index (length live) → All (λ block. (place + rounded_size size ≤ block.place) ⊎ (end_of block ≤ place)) live
+pub clear_between : (live : List Live) (size place index : ℕ) → AllWithin (λ block. end_of block ≤ place) live 0 index → AllWithin (λ block. place + rounded_size size ≤ block.place) live index (length live)
+    → All (λ block. (place + rounded_size size ≤ block.place) ⊎ (end_of block ≤ place)) live
 clear_between live size place index before behind k d lt = ⊎_elim (λ low. inr (before k d (omega arith) low)) (λ high. inl (behind k d high lt)) (cases_lt k index)
 
 module _ (live : List Live) (units size place index : ℕ) (sound : AreApart (record { units = units; live = live })) (aligned : place % 16 ≡ 0)
@@ -34,7 +35,8 @@ module _ (live : List Live) (units size place index : ℕ) (sound : AreApart (re
       )
 
   -- it goes on behind a block
-  pub passed : (d : Live) (next : ℕ) → index < length live → place ≤ (get_or live index d).place → (get_or live index d).place < place + rounded_size size → next ≡ end_of (get_or live index d) → (other : ℕ) → IsFree (record { units = units; live = live }) size other → next ≤ other
+  pub passed : (d : Live) (next : ℕ) → index < length live → place ≤ (get_or live index d).place → (get_or live index d).place < place + rounded_size size → next ≡ end_of (get_or live index d) → (other : ℕ)
+      → IsFree (record { units = units; live = live }) size other → next ≤ other
   passed d next lt low full is other free =
       let from : place ≤ other = least other free in
       ⊎_elim (λ c. absurd (omega (arith, c, from, full))) (λ c. omega (arith, c, is)) (free.clear index d lt)
@@ -48,7 +50,8 @@ module _ (live : List Live) (units size place index : ℕ) (sound : AreApart (re
       (cases_lt k index)
 
 -- the blocks behind one block
-pub passed_behind : (live : List Live) (units next index : ℕ) (d : Live) → AreApart (record { units = units; live = live }) → index < length live → next ≡ end_of (get_or live index d) → AllWithin (λ block. next ≤ block.place) live (index + 1) (length live)
+pub passed_behind : (live : List Live) (units next index : ℕ) (d : Live) → AreApart (record { units = units; live = live }) → index < length live → next ≡ end_of (get_or live index d)
+    → AllWithin (λ block. next ≤ block.place) live (index + 1) (length live)
 passed_behind live units next index d sound lt is k e low high =
     let far : end_of (get_or live index e) ≤ (get_or live k e).place = sound.apart index k e (omega (arith, low)) high in
     let same = ap (λ b. end_of b) (get_or_default live index d e lt) in

@@ -38,7 +38,8 @@ module _ (heap : Heap) (place size : ℕ) where
       ⊎_elim (λ same. absurd (other same))
       (⊎_elim
       (λ before. Contains-append_left (blocks_before heap place) (new ∷ blocks_behind heap place) block (Contains-filter (λ b. nat_lt b.place place) heap.live block c (lt-ltb block.place place before)))
-      (λ behind. Contains-append_right (blocks_before heap place) (new ∷ blocks_behind heap place) block (Contains-cons new block (blocks_behind heap place) (Contains-filter (λ b. nat_lt place b.place) heap.live block c (lt-ltb place block.place behind)))))
+      (λ behind. Contains-append_right (blocks_before heap place) (new ∷ blocks_behind heap place) block
+      (Contains-cons new block (blocks_behind heap place) (Contains-filter (λ b. nat_lt place b.place) heap.live block c (lt-ltb place block.place behind)))))
       (cases_order block.place place)
 
   -- and no other block is

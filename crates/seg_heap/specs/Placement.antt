@@ -53,7 +53,11 @@ blocks_behind heap place = filter (λ block. nat_lt place block.place) heap.live
 
 -- With one more block, in its order of place.
 abbrev pub with_block : Heap → ℕ → ℕ → Heap
-with_block heap place length = record { units = heap.units; live = blocks_before heap place ++ (record { place = place; length = length } ∷ blocks_behind heap place) }
+with_block heap place length = record {
+  units = heap.units;
+  live =
+      blocks_before heap place ++ (record { place = place; length = length } ∷ blocks_behind heap place);
+}
 
 -- Without the block that begins here.
 abbrev pub without_block : Heap → ℕ → Heap

@@ -37,7 +37,8 @@ birth_does numbers d regs t o =
     then_do (replied over_blocks (stack_block o (size_of d.ctype) t.mem) t) (λ v u. Done (Next (slice_set regs (block_of numbers (number_of d)) v)) u [])
 
 -- a block is born in monitored C where it is in the program
-pub birth_is : (numbers : List ℕ) (calls : monitored.Calls over_blocks) (n : ℕ) (d : Declaration) (regs : List BlockValue) (store : Store) (t : MonitoredState) → SameBlocks store t.mem.store → exec over_blocks (target.birth numbers d) calls n regs t ≡ birth_does numbers d regs t (full_at_stack_birth standard_sizes store (size_of d.ctype))
+pub birth_is : (numbers : List ℕ) (calls : monitored.Calls over_blocks) (n : ℕ) (d : Declaration) (regs : List BlockValue) (store : Store) (t : MonitoredState) → SameBlocks store t.mem.store
+    → exec over_blocks (target.birth numbers d) calls n regs t ≡ birth_does numbers d regs t (full_at_stack_birth standard_sizes store (size_of d.ctype))
 birth_is numbers calls n d regs store t same =
     ap (birth_does numbers d regs t) (full-alike t.mem.store store (size_of d.ctype) (sym same.born) (sym same.live))
 
@@ -102,7 +103,9 @@ module _ (numbers : List ℕ) (calls : monitored.Calls over_blocks) (n : ℕ) (d
     others_after : (r : ℕ) → r ≢ block_of numbers x → slice_get born_registers r ≡ slice_get regs r
     others_after r apart = slice_get-slice_set_other regs (block_of numbers x) r _ apart
 
-    then_born : (ds : List Declaration) → full_at_stack_birth standard_sizes s.store (size_of d.ctype) ≡ None → Births numbers ds born_registers born_state born_target (exec_all over_blocks (target.births numbers ds) calls n born_registers born_target) → Births numbers (d ∷ ds) regs s t (exec_all over_blocks (target.births numbers (d ∷ ds)) calls n regs t)
+    then_born : (ds : List Declaration) → full_at_stack_birth standard_sizes s.store (size_of d.ctype) ≡ None
+        → Births numbers ds born_registers born_state born_target (exec_all over_blocks (target.births numbers ds) calls n born_registers born_target)
+        → Births numbers (d ∷ ds) regs s t (exec_all over_blocks (target.births numbers (d ∷ ds)) calls n regs t)
     then_born ds none (AllAre to after u e f b) =
         AllAre to after u
         (ap (λ o. on_outcome (birth_of o d s) (λ _. births ds)) none ∙ e)

@@ -37,7 +37,8 @@ module _ (calls : monitored.Calls over_blocks) (n : ℕ) (regs : List BlockValue
     pub long : length to.mem.store ≡ length t.mem.store
     pub rest : to ≡ with_store to.mem.store t
 
-  dies_at : (p k size : ℕ) (older : List LiveBlock) (t : MonitoredState) → slice_get regs p ≡ Some (Points (Into (suc k) 0)) → live_in t.mem.store ≡ record { number = suc k; size = size } ∷ older → Die older t (exec over_blocks (death p) calls n regs t)
+  dies_at : (p k size : ℕ) (older : List LiveBlock) (t : MonitoredState) → slice_get regs p ≡ Some (Points (Into (suc k) 0)) → live_in t.mem.store ≡ record { number = suc k; size = size } ∷ older
+      → Die older t (exec over_blocks (death p) calls n regs t)
   dies_at p k size older t points live =
       let x = deleted t.mem.store k size older live in
       let died = with_store (dead_at k (slice_get t.mem.store k) t.mem.store) t in

@@ -84,7 +84,8 @@ killed_from k (suc n) (b ∷ bs) found =
     let number : k + suc n ≡ suc k + n = omega arith in
     by (λ more. subst (λ m. live_from (suc k) (kill_from n bs) (up_to m more) ≡ up_to m (live_from (suc k) bs more)) (sym number) (killed_from (suc k) n bs more)) (is_live_on_stack b)
   where
-    by : ((more : List LiveBlock) → live_from (suc k) (kill_from n bs) (up_to (k + suc n) more) ≡ up_to (k + suc n) (live_from (suc k) bs more)) → (t : Bool) → live_from (suc k) (kill_from n bs) (if t then noted (suc k) b ∷ up_to (k + suc n) found else up_to (k + suc n) found) ≡ up_to (k + suc n) (live_from (suc k) bs (if t then noted (suc k) b ∷ found else found))
+    by : ((more : List LiveBlock) → live_from (suc k) (kill_from n bs) (up_to (k + suc n) more) ≡ up_to (k + suc n) (live_from (suc k) bs more)) → (t : Bool)
+        → live_from (suc k) (kill_from n bs) (if t then noted (suc k) b ∷ up_to (k + suc n) found else up_to (k + suc n) found) ≡ up_to (k + suc n) (live_from (suc k) bs (if t then noted (suc k) b ∷ found else found))
     by go true = ap (live_from (suc k) (kill_from n bs)) (sym (kept (k + suc n) (noted (suc k) b) found (omega arith))) ∙ go (noted (suc k) b ∷ found)
     by go false = go found
 
@@ -141,7 +142,8 @@ youngest_is : (k : ℕ) (bs : Store) (found : List LiveBlock) → youngest_from 
 youngest_is k [] found = refl
 youngest_is k (b ∷ bs) found = by (λ more. youngest_is (suc k) bs more) (is_live_on_stack b)
   where
-    by : ((more : List LiveBlock) → youngest_from (suc k) bs (index_of_head more) ≡ index_of_head (live_from (suc k) bs more)) → (t : Bool) → youngest_from (suc k) bs (if t then Some k else index_of_head found) ≡ index_of_head (live_from (suc k) bs (if t then noted (suc k) b ∷ found else found))
+    by : ((more : List LiveBlock) → youngest_from (suc k) bs (index_of_head more) ≡ index_of_head (live_from (suc k) bs more)) → (t : Bool)
+        → youngest_from (suc k) bs (if t then Some k else index_of_head found) ≡ index_of_head (live_from (suc k) bs (if t then noted (suc k) b ∷ found else found))
     by go true = ap (λ i. youngest_from (suc k) bs (Some i)) (omega arith) ∙ go (noted (suc k) b ∷ found)
     by go false = go found
 

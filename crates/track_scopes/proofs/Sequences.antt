@@ -32,7 +32,8 @@ deaths_are (s ∷ l) (p ∷ ps) e =
     (λ i. Then (one i) (deaths_are l ps others i))
 
 -- one more is pushed
-pub pushed : {A : Type 0} (f : A → MonStatement) (done : List MonStmt) (s : MonStmt) (all : List A) (i : ℕ) (z x : A) (whole : List MonStatement) → i < length all → x ≡ get_or all i z → plain_stmt s ≡ f x → map plain_stmt done ++ map f (drop i all) ≡ whole → map plain_stmt (done ++ s ∷ []) ++ map f (drop (i + 1) all) ≡ whole
+pub pushed : {A : Type 0} (f : A → MonStatement) (done : List MonStmt) (s : MonStmt) (all : List A) (i : ℕ) (z x : A) (whole : List MonStatement) → i < length all → x ≡ get_or all i z → plain_stmt s ≡ f x
+    → map plain_stmt done ++ map f (drop i all) ≡ whole → map plain_stmt (done ++ s ∷ []) ++ map f (drop (i + 1) all) ≡ whole
 pushed f done s all i z x whole lt e is kept =
     let next : suc i ≡ i + 1 = omega arith in
     ap (λ l. l ++ map f (drop (i + 1) all)) (map-append plain_stmt done (s ∷ []) ∙ ap (λ z. map plain_stmt done ++ z ∷ []) (is ∙ ap f e))

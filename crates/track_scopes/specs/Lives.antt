@@ -64,13 +64,15 @@ pub record AreBorn (numbers : List ℕ) (ds : List Declaration) (regs after : Li
 
 -- all are born on both sides, or the same is full
 pub data Births (numbers : List ℕ) (ds : List Declaration) (regs : List BlockValue) (s : State) (t : MonitoredState) (q : Did) : Type 0 where
-  AllAre : (to : State) (after : List BlockValue) (u : MonitoredState) → births ds s ≡ Normal tt to → q ≡ Done (Next after) u [] → AreBorn numbers ds regs after s to t u → Births numbers ds regs s t q
+  AllAre : (to : State) (after : List BlockValue) (u : MonitoredState) → births ds s ≡ Normal tt to → q ≡ Done (Next after) u []
+      → AreBorn numbers ds regs after s to t u → Births numbers ds regs s t q
   OneIsFull : (g : Segment) (to : State) → births ds s ≡ Stop (Over (Full g)) to → q ≡ Stops (Full g) t.steps [] → Births numbers ds regs s t q
 
 -- Statements enter the scope of these variables: where the same blocks live on both sides, so they do behind the variables' births.
 abbrev pub Enters : List ℕ → List Declaration → MonStatements → Type 0
 Enters numbers ds code =
-    (calls : monitored.Calls over_blocks) (n : ℕ) (regs : List BlockValue) (s : State) (t : MonitoredState) → SameBlocks s.store t.mem.store → HaveBlocks numbers regs ds
+    (calls : monitored.Calls over_blocks) (n : ℕ) (regs : List BlockValue) (s : State) (t : MonitoredState) → SameBlocks s.store t.mem.store
+    → HaveBlocks numbers regs ds
     → Births numbers ds regs s t (exec_all over_blocks code calls n regs t)
 
 -- ---- the ways out
@@ -93,6 +95,7 @@ pub record AreDead (store : Store) (regs : List BlockValue) (t : MonitoredState)
 -- and live, the youngest first, just those blocks live behind the statements that live in the program behind the scopes.
 abbrev pub Leaves : List ℕ → MonStatements → Type 0
 Leaves blocks code =
-    (calls : monitored.Calls over_blocks) (n : ℕ) (regs : List BlockValue) (old s : State) (t : MonitoredState) (inside : List LiveBlock) → SameBlocks s.store t.mem.store
+    (calls : monitored.Calls over_blocks) (n : ℕ) (regs : List BlockValue) (old s : State) (t : MonitoredState) (inside : List LiveBlock)
+    → SameBlocks s.store t.mem.store
     → live_in s.store ≡ inside ++ live_in (back_to old s).store → Point regs blocks inside
     → AreDead (back_to old s).store regs t (exec_all over_blocks code calls n regs t)

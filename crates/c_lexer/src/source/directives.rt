@@ -4,7 +4,8 @@ ghost use Rattle.std.specs.Prelude.{◌≡◌, ◌≤◌, ◌||◌, length, take
 ghost use Rattle.std.specs.List.{prefix_len, list_all, list_any};
 ghost use Rattle.c_model.specs.declared.c_tokens.Fault.TheVariants.{Directive};
 ghost use Rattle.c_model.specs.Characters.{is_blank, is_digit};
-ghost use Rattle.c_model.specs.Directives.{past_blanks, front_word, past_word, directive_line, is_file, ends_marker, is_marker, headers, len_before, is_closed, include_fault, directive_fault};
+ghost use Rattle.c_model.specs.Directives.{past_blanks, front_word, past_word, directive_line, is_file, ends_marker, is_marker, headers, len_before, is_closed};
+ghost use Rattle.c_model.specs.Directives.{include_fault, directive_fault};
 
 use super::chars::string_len;
 use super::words::is_among;

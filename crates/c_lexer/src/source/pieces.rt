@@ -2,7 +2,8 @@
 
 ghost use Rattle.std.specs.Prelude.{◌≡◌, ◌≤◌, ◌<◌, ◌+◌, length, map, drop, IfOk, IfSome};
 ghost use Rattle.c_model.specs.MonitoredTokens.{marks};
-ghost use Rattle.c_model.specs.Pieces.{is_dotted, number_at, letter_at, string_at, first_mark, annotation_marks, c_mark_at, mark_at, comment_at, open_block, open_line, other_at, directive_at, piece_at, mode_after};
+ghost use Rattle.c_model.specs.Pieces.{is_dotted, number_at, letter_at, string_at, first_mark, annotation_marks, c_mark_at, mark_at, comment_at, open_block};
+ghost use Rattle.c_model.specs.Pieces.{open_line, other_at, directive_at, piece_at, mode_after};
 ghost use Rattle.c_lexer.specs.Source.{FitsPiece};
 
 use super::chars::{letter_of, string_len};

@@ -2,7 +2,8 @@
 
 ghost use Rattle.std.specs.Prelude.{◌≡◌, ◌≤◌, ◌<◌, length, map, bytes_eq, IfOk};
 ghost use Rattle.std.specs.List.{list_any};
-ghost use Rattle.c_model.specs.Pieces.{outside_in_c, outside_in_annotations, backslash_names, is_reserved, is_outside, begins_with_nondigit, begins_name, word, word_at};
+ghost use Rattle.c_model.specs.Pieces.{outside_in_c, outside_in_annotations, backslash_names, is_reserved, is_outside, begins_with_nondigit, begins_name, word};
+ghost use Rattle.c_model.specs.Pieces.{word_at};
 ghost use Rattle.c_lexer.specs.Source.{FitsPiece};
 
 use super::comments::is_code;

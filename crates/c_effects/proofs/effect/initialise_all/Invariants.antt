@@ -10,6 +10,6 @@ use Rattle.c_effects.proofs.effect.initialise_all.Given as goal
 abbrev pub invariant-decls : goal.invariant-decls
 invariant-decls l =
     (before (plain_stmts l.to.items) (initialise_all (plain_program l.scene.definitions.now.program.now) l.scene.numbers.now l.types.items (map plain_decl (drop l.d-index l.decls))) ≡ before (plain_stmts l.initial.to.items)
-        (initialise_all (plain_program l.scene.definitions.now.program.now) l.scene.numbers.now l.initial.types.items (map plain_decl l.decls)))
+    (initialise_all (plain_program l.scene.definitions.now.program.now) l.scene.numbers.now l.initial.types.items (map plain_decl l.decls)))
     × (l.types.items ++ declaration_temporaries (map plain_decl (drop l.d-index l.decls)) ≡ l.initial.types.items ++ declaration_temporaries (map plain_decl l.decls))
     × (InitialsHaveLetters (map plain_decl (drop l.d-index l.decls)) → InitialsHaveLetters (map plain_decl l.decls))

@@ -37,20 +37,20 @@ expression-choice-requires t c =
 pub operated-returns-clause-setup : goal.operated-returns-clause-setup
 operated-returns-clause-setup t c =
     of_binary c.args.numbers.now c.args.types.now.items c.expression.new.types.items (plain_stmts c.args.to.now.items) (plain_stmts c.expression.new.to.items) (plain_stmts c.expression-2.new.to.items) c.args.operands.0.now.place
-        (plain_type c.args.operands.0.now.ctype) (plain_expr c.args.operands.0.now) (plain_expr c.args.operands.1.now)
+    (plain_type c.args.operands.0.now.ctype) (plain_expr c.args.operands.0.now) (plain_expr c.args.operands.1.now)
     c.binary.result c.args.op c.in_ok-left.ensures.setup c.in_ok-left.ensures.types c.in_ok-right.ensures.setup
 
 pub and-returns-clause-setup : goal.and-returns-clause-setup
 and-returns-clause-setup t c =
     on_ok_then c.both.result (of_both c.args.numbers.now c.args.types.now.items c.condition_of.new.types.items (plain_stmts c.args.to.now.items) (plain_stmts c.condition_of.new.to.items) (plain_stmts c.both.new.to.items) c.args.a.now.place
-        (plain_type c.args.a.now.ctype) (plain_expr c.args.a.now) (plain_expr c.args.b.now)
+    (plain_type c.args.a.now.ctype) (plain_expr c.args.a.now) (plain_expr c.args.b.now)
     (plain_monitored c.in_ok-test.test) c.in_ok-test.ensures.setup c.in_ok-test.ensures.value c.in_ok-test.ensures.types)
     c.both.ensures.setup
 
 pub or-returns-clause-setup : goal.or-returns-clause-setup
 or-returns-clause-setup t c =
     on_ok_then c.either.result (of_either c.args.numbers.now c.args.types.now.items c.condition_of.new.types.items (plain_stmts c.args.to.now.items) (plain_stmts c.condition_of.new.to.items) (plain_stmts c.either.new.to.items) c.args.a.now.place
-        (plain_type c.args.a.now.ctype) (plain_expr c.args.a.now) (plain_expr c.args.b.now)
+    (plain_type c.args.a.now.ctype) (plain_expr c.args.a.now) (plain_expr c.args.b.now)
     (plain_monitored c.in_ok-test.test) c.in_ok-test.ensures.setup c.in_ok-test.ensures.value c.in_ok-test.ensures.types)
     c.either.ensures.setup
 
@@ -59,7 +59,7 @@ choice-returns-clause-setup t c =
     let first = c.in_ok-first in
     let second = c.in_ok-second in
     on_ok_then c.choose.result (of_choice c.args.numbers.now c.args.types.now.items c.condition_of.new.types.items (plain_stmts c.args.to.now.items) (plain_stmts c.condition_of.new.to.items) (plain_stmts c.choose.new.to.items) c.args.a.now.place
-        (plain_type c.args.values.0.now.ctype) (plain_expr c.args.a.now) (plain_expr c.args.values.0.now)
+    (plain_type c.args.values.0.now.ctype) (plain_expr c.args.a.now) (plain_expr c.args.values.0.now)
     (plain_monitored c.in_ok-test.test) c.in_ok-test.ensures.setup c.in_ok-test.ensures.value c.in_ok-test.ensures.types
     (plain_expr c.args.values.1.now) c.apart.new.types.items c.apart-2.new.types.items (plain_stmts first.first.0.items) (plain_stmts second.second.0.items) (plain_monitored first.first.1) (plain_monitored second.second.1) c.in_ok-number.number
     first.ensures.setup first.ensures.value first.ensures.types second.ensures.setup second.ensures.value second.ensures.types c.in_ok-number.ensures.number)

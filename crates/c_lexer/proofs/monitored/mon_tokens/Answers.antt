@@ -20,7 +20,10 @@ pub returns-in-Err : goal.returns-in-Err
 returns-in-Err c =
     let left = ap length c.behind-rest.ensures in
     let len = length-drop c.turn.pos c.args.text.now in
-    record { exact = refuses c.refuse.result _ _ c.refuse.ensures (breaks (read_of c.turn.reading) c.turn.place c.turn.fresh c.args.text.now c.behind-rest.result.now c.turn.pos c.in-Err.fault _ c.behind-rest.ensures (omega arith) (sym c.in-Err.ensures.value) c.turn.invariant.same) }
+    record {
+      exact = refuses c.refuse.result _ _ c.refuse.ensures (breaks (read_of c.turn.reading) c.turn.place c.turn.fresh c.args.text.now c.behind-rest.result.now c.turn.pos c.in-Err.fault _ c.behind-rest.ensures (omega arith)
+          (sym c.in-Err.ensures.value) c.turn.invariant.same);
+    }
 
 pub turn-preserved : goal.turn-preserved
 turn-preserved c =
@@ -31,7 +34,8 @@ turn-preserved c =
     record {
       same =
           (λ i. build (read_of c.add.new.reading) (cut 0 (c.walk-place.ensures.value i) (c.fresh_after-fresh.ensures i) (drop (c.turn.pos + (c.in-Ok.field-0.more + 1)) c.args.text.now)))
-          ∙ goes_on (read_of c.turn.reading) (read_of c.add.new.reading) c.turn.place c.turn.fresh c.args.text.now c.behind-rest.result.now c.front-bytes.result.now c.turn.pos c.in-Ok.field-0.more c.in-Ok.field-0.piece _ c.behind-rest.ensures c.in-Ok.ensures.within (sym c.in-Ok.ensures.value) c.front-bytes.ensures c.in_ok-add-in-Ok.ensures.ok c.turn.invariant.same;
+          ∙ goes_on (read_of c.turn.reading) (read_of c.add.new.reading) c.turn.place c.turn.fresh c.args.text.now c.behind-rest.result.now c.front-bytes.result.now c.turn.pos c.in-Ok.field-0.more c.in-Ok.field-0.piece _ c.behind-rest.ensures
+          c.in-Ok.ensures.within (sym c.in-Ok.ensures.value) c.front-bytes.ensures c.in_ok-add-in-Ok.ensures.ok c.turn.invariant.same;
       within = omega arith;
       offset = omega (arith, length-take (c.in-Ok.field-0.more + 1) c.behind-rest.result.now);
       line = omega (arith, length-take (c.in-Ok.field-0.more + 1) c.behind-rest.result.now);

@@ -9,4 +9,5 @@ use Rattle.c_lexer.proofs.source.put_string.Goals as goal
 
 pub returns-in-Some-clause-ok : goal.returns-in-Some-clause-ok
 returns-in-Some-clause-ok c =
-    on_ok_weaker c.join.result (λ e. e ∙ sym (with_string_last (map plain_token c.pop.new.self.items) (plain_token c.in-Some.last) c.args.place c.args.bytes.items) ∙ ap (λ (ts : List PlainToken). with_string ts c.args.place c.args.bytes.items) (sym (map-append plain_token c.pop.new.self.items (c.in-Some.last ∷ []))) ∙ ap (λ (ts : List Token). with_string (map plain_token ts) c.args.place c.args.bytes.items) (sym c.in-Some.ensures.items)) c.join.ensures.ok
+    on_ok_weaker c.join.result (λ e. e ∙ sym (with_string_last (map plain_token c.pop.new.self.items) (plain_token c.in-Some.last) c.args.place c.args.bytes.items) ∙ ap (λ (ts : List PlainToken). with_string ts c.args.place c.args.bytes.items)
+    (sym (map-append plain_token c.pop.new.self.items (c.in-Some.last ∷ []))) ∙ ap (λ (ts : List Token). with_string (map plain_token ts) c.args.place c.args.bytes.items) (sym c.in-Some.ensures.items)) c.join.ensures.ok

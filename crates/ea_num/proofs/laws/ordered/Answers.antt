@@ -1,4 +1,5 @@
-use Rattle.ea_num.proofs.Ordered.{sum_range-ordered, difference_range-ordered, negation_range-ordered, complement_range-ordered, product_range-ordered, quotient_range-ordered, remainder_range-ordered, shift_left_range-ordered, shift_right_range-ordered, bitwise_and_range-ordered, bitwise_or_range-ordered, bitwise_xor_range-ordered}
+use Rattle.ea_num.proofs.Ordered.{sum_range-ordered, difference_range-ordered, negation_range-ordered, complement_range-ordered, product_range-ordered, quotient_range-ordered, remainder_range-ordered, shift_left_range-ordered}
+use Rattle.ea_num.proofs.Ordered.{shift_right_range-ordered, bitwise_and_range-ordered, bitwise_or_range-ordered, bitwise_xor_range-ordered}
 use Rattle.ea_num.proofs.laws.ordered.Goals as goal
 
 pub returns-clause-sums : goal.returns-clause-sums

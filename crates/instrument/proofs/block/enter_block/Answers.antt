@@ -24,6 +24,6 @@ items-preserved c =
           (c.in_ok-enter.ensures.born ∙ ap (λ ds. before (plain_stmts c.items.to.items) (births numbers ds)) c.declared_by.ensures) c.items.invariant.0,
       ap (with_born numbers (declared_in rest)) (c.in_ok-enter.ensures.live ∙ ap (λ ds. with_born numbers ds c.items.own.items) c.declared_by.ensures)
           ∙ sym (left_at (λ l. with_born numbers (declared_in (plain_items l)) c.items.own.items) c.args.block.now c.items.item-index _ _ c.items-test.true c.item-item.is refl
-              ∙ born_first numbers (plain_item c.item-item.result) rest c.items.own.items)
+          ∙ born_first numbers (plain_item c.item-item.result) rest c.items.own.items)
           ∙ c.items.invariant.1,
     )

@@ -9,4 +9,4 @@ returns c =
     let name = c.args.name.now in
     c.new.ensures ∙ c.truncate.ensures.items
     ∙ ap (take 255) (c.in_ok-extend_from_slice.ensures.items ∙ ap (λ l. l ++ name) (c.in_ok-push.ensures.items ∙ ap (λ l. l ++ codes "_") c.in_ok-bytes.ensures) ∙ append_assoc (word ++ digits) (codes "_") name
-        ∙ append_assoc word digits (codes "_" ++ name))
+    ∙ append_assoc word digits (codes "_" ++ name))

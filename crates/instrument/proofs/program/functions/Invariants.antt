@@ -8,5 +8,5 @@ use Rattle.instrument.proofs.program.functions.Given as goal
 abbrev pub invariant-funcs : goal.invariant-funcs
 invariant-funcs l =
     (map plain_monitored_func l.functions.items ++ functions_from (plain_program l.definitions.program.now) l.main (length l.functions.items) (map plain_func (drop l.f-index l.f-items)) ≡ functions_from (plain_program l.definitions.program.now)
-        l.main 0 (map plain_func l.f-items))
+    l.main 0 (map plain_func l.f-items))
     × (FunctionsHaveNumbers (map plain_func (drop l.f-index l.f-items)) → FunctionsHaveNumbers (map plain_func l.f-items))

@@ -31,7 +31,7 @@ first_part-returns-in-None-clause-code t c =
 pub items-returns-clause-code : goal.items-returns-clause-code
 items-returns-clause-code t c =
     all_there (none_left (λ l. items (plain_program c.args.scene.now.definitions.now.program.now) c.args.scene.now.numbers.now (plain_spot c.args.spot.now) c.items.types.items (plain_items l)) c.args.block.now c.items.i-index c.items-test.false)
-        c.items.invariant.0
+    c.items.invariant.0
 
 pub items-returns-clause-types : goal.items-returns-clause-types
 items-returns-clause-types t c = complete c.items.types.items (none_left (λ l. items_temporaries (plain_items l)) c.args.block.now c.items.i-index c.items-test.false) c.items.invariant.1
@@ -62,7 +62,7 @@ block-returns-clause-code t c =
     let own = c.in_ok-own.ensures.own in
     let live = c.deref-2.ensures.value ∙ c.in_ok-live.ensures ∙ ap (λ l. l ++ spot.inside.now) (c.deref.ensures.value ∙ own) ∙ born_front numbers (declared_in body) spot.inside.now in
     on_ok_then c.leave.result (λ last. alive_code numbers spot.inside.now c.deref-2.result.now (declared_in body) f (plain_stmts c.args.to.now.items) (plain_stmts c.enter_block.new.to.items) (plain_stmts c.items.new.to.items)
-        (plain_stmts c.leave.new.to.items)
+    (plain_stmts c.leave.new.to.items)
     c.in_ok-own.ensures.born live c.in_ok-items.ensures.code (last ∙ ap (λ l. before (plain_stmts c.items.new.to.items) (deaths l)) (c.deref-3.ensures.value ∙ own)))
     c.leave.ensures
 
@@ -75,7 +75,7 @@ turns-returns-clause-code t c =
     let e = option_map plain_expr c.args.controls.0.now in
     on_ok_then c.repeat.result
     (turns_code p numbers rs c.leave_unless_any.new.types.items c.round.new.types.items (plain_spot c.args.spot.now) t0 t0 (plain_stmts c.repeat.new.to.items) c.args.a.now.place e (option_map plain_expr c.args.controls.1.now)
-        (plain_stmt c.args.a.now) c.in_ok-loops.loops
+    (plain_stmt c.args.a.now) c.in_ok-loops.loops
     (plain_stmts c.leave_unless_any.new.to.items) (plain_stmts c.in_ok-behind.behind.items) (plain_stmts c.effect_if_any.new.to.items)
     c.in_ok-loops.ensures
     (c.in_ok-leave_unless_any.ensures.code ∙ ap (λ l. before (plain_stmts l) (test_if_any numbers rs c.in_ok-loops.loops e)) c.new-front.ensures.items)
@@ -85,12 +85,12 @@ turns-returns-clause-code t c =
 pub statement-returns-in-Empty-clause-code : goal.statement-returns-in-Empty-clause-code
 statement-returns-in-Empty-clause-code t c =
     nothing _ _ (ap (λ k. statement (plain_program c.args.scene.now.definitions.now.program.now) c.args.scene.now.numbers.now (plain_spot c.args.spot.now) c.args.types.now.items (plain_stmt_kind c.args.s.now.place k))
-        (sym c.deref.ensures ∙ c.in-Empty.is))
+    (sym c.deref.ensures ∙ c.in-Empty.is))
 
 pub statement-returns-in-Block-clause-code : goal.statement-returns-in-Block-clause-code
 statement-returns-in-Block-clause-code t c =
     subst (λ (x : Statement). OnOk c.block.result (plain_stmts c.block.new.to.items ≡ before (plain_stmts c.args.to.now.items) (statement (plain_program c.args.scene.now.definitions.now.program.now) c.args.scene.now.numbers.now
-        (plain_spot c.args.spot.now) c.args.types.now.items x)))
+    (plain_spot c.args.spot.now) c.args.types.now.items x)))
     (block_stmt c.args.s.now c.in-Block.body _ (sym c.deref.ensures ∙ c.in-Block.is) c.deref-in-Block.ensures.value) c.block.ensures.code
 
 pub statement-returns-in-Block-clause-types : goal.statement-returns-in-Block-clause-types
@@ -109,7 +109,7 @@ do_loop-returns-clause-code t c =
     let t0 = plain_stmts c.args.to.now.items in
     on_ok_then c.repeat.result
     (do_code (plain_program c.args.scene.now.definitions.now.program.now) c.args.scene.now.numbers.now rs c.round.new.types.items rs (plain_spot c.args.spot.now) t0 t0 (plain_stmts c.repeat.new.to.items) a.place (plain_expr c.args.e.now)
-        (plain_stmt a) c.in_ok-loops.loops
+    (plain_stmt a) c.in_ok-loops.loops
     (plain_stmts c.new.result.items) (plain_stmts c.in_ok-behind.behind.items) (plain_stmts c.leave_unless.new.to.items)
     c.in_ok-loops.ensures c.in_ok-behind.ensures.types (ap plain_stmts c.new.ensures.items) c.in_ok-behind.ensures.code c.in_ok-leave_unless.ensures.code)
     c.repeat.ensures
@@ -122,7 +122,7 @@ pub enter_for-returns-clause-code : goal.enter_for-returns-clause-code
 enter_for-returns-clause-code t c =
     let first = plain_first_part c.args.first.now in
     entered_code (plain_program c.args.scene.now.definitions.now.program.now) c.args.scene.now.numbers.now c.args.types.now.items c.args.types.now.items (plain_spot c.args.spot.now) (plain_stmts c.args.to.now.items)
-        (plain_stmts c.enter_block.new.to.items) (plain_stmts c.first_part.new.to.items)
+    (plain_stmts c.enter_block.new.to.items) (plain_stmts c.first_part.new.to.items)
     first (declared_in (plain_items c.items_of.result.now)) c.in_ok-own.own.items c.deref-2.result.now
     (ap declared_in c.items_of.ensures ∙ declared_of_first first) c.in_ok-own.ensures.born c.in_ok-own.ensures.own
     (c.deref-2.ensures.value ∙ c.in_ok-live.ensures ∙ ap (λ l. l ++ c.args.spot.now.inside.now) c.deref.ensures.value)
@@ -131,7 +131,7 @@ enter_for-returns-clause-code t c =
 pub rest_of_for-returns-clause-code : goal.rest_of_for-returns-clause-code
 rest_of_for-returns-clause-code t c =
     on_ok_then c.leave.result (rest_code (plain_program c.args.scene.now.definitions.now.program.now) c.args.scene.now.numbers.now c.args.types.now.items (plain_spot c.args.spot.now) (plain_stmts c.args.to.now.items)
-        (plain_stmts c.turns.new.to.items) (plain_stmts c.leave.new.to.items)
+    (plain_stmts c.turns.new.to.items) (plain_stmts c.leave.new.to.items)
     (option_map plain_expr c.args.controls.0.now) (option_map plain_expr c.args.controls.1.now) (plain_stmt c.args.a.now) c.args.own.items c.deref-2.result.now c.deref-3.result.now
     (c.deref-2.ensures.value ∙ c.in_ok-live.ensures ∙ ap (λ l. l ++ c.args.spot.now.inside.now) c.deref.ensures.value) c.deref-3.ensures.value c.in_ok-turns.ensures.code)
     c.leave.ensures
@@ -148,9 +148,9 @@ statement-returns-in_ok-first-in-If-clause-code t c =
     let p = plain_program c.args.scene.now.definitions.now.program.now in
     let first = c.in_ok-first-in-If in
     subst (λ (y : Statement). OnOk c.branches.result (plain_stmts c.branches.new.to.items ≡ before (plain_stmts c.args.to.now.items) (statement p c.args.scene.now.numbers.now (plain_spot c.args.spot.now) c.args.types.now.items y)))
-        (if_stmt c.args.s.now c.in-If.e c.in-If.a c.in-If.b c.in-If.a (sym c.deref.ensures ∙ c.in-If.is) refl)
+    (if_stmt c.args.s.now c.in-If.e c.in-If.a c.in-If.b c.in-If.a (sym c.deref.ensures ∙ c.in-If.is) refl)
     (on_ok_then c.branches.result (if_code p c.args.scene.now.numbers.now c.args.types.now.items c.tested.new.types.items (plain_spot c.args.spot.now) (plain_stmts c.args.to.now.items) (plain_stmts c.tested.new.to.items)
-        (plain_stmts c.branches.new.to.items) c.args.s.now.place
+    (plain_stmts c.branches.new.to.items) c.args.s.now.place
     (plain_expr c.in-If.e) (plain_stmt c.in-If.a) (plain_else_part c.in-If.b) (plain_monitored first.first.0) (plain_stmts first.first.1.items)
     first.ensures.condition first.ensures.first first.ensures.setup first.ensures.types)
     c.branches.ensures.code)
@@ -162,7 +162,7 @@ statement-returns-in_ok-own-in-For-clause-code t c =
     let first = plain_first_part c.in-For.first in
     let t0 = plain_stmts c.args.to.now.items in
     subst (λ (y : Statement). OnOk c.rest_of_for.result (plain_stmts c.rest_of_for.new.to.items ≡ before t0 (statement p c.args.scene.now.numbers.now spot c.args.types.now.items y)))
-        (for_stmt c.args.s.now c.in-For.field-0 c.in-For.first c.in-For.e c.in-For.step c.in-For.a c.in-For.a (sym c.deref.ensures ∙ c.in-For.is) refl)
+    (for_stmt c.args.s.now c.in-For.field-0 c.in-For.first c.in-For.e c.in-For.step c.in-For.a c.in-For.a (sym c.deref.ensures ∙ c.in-For.is) refl)
     (on_ok_then c.rest_of_for.result (λ last.
     for_code p c.args.scene.now.numbers.now c.args.types.now.items c.enter_for.new.types.items spot t0 (plain_stmts c.enter_for.new.to.items) (plain_stmts c.rest_of_for.new.to.items) first c.args.s.now.place
     (map plain_annot c.in-For.field-0.items) (option_map plain_expr c.in-For.e) (option_map plain_expr c.in-For.step) (plain_stmt c.in-For.a) c.in_ok-own-in-For.own.items

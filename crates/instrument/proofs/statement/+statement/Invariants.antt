@@ -11,6 +11,6 @@ use Rattle.instrument.proofs.statement.+statement.Given as goal
 abbrev pub invariant-items-items : goal.invariant-items-items
 invariant-items-items l =
     (before (plain_stmts l.to.items) (items (plain_program l.scene.definitions.now.program.now) l.scene.numbers.now (plain_spot l.spot) l.types.items (plain_items (drop l.i-index l.block))) ≡ before (plain_stmts l.initial.to.items)
-        (items (plain_program l.scene.definitions.now.program.now) l.scene.numbers.now (plain_spot l.spot) l.initial.types.items (plain_items l.block)))
+    (items (plain_program l.scene.definitions.now.program.now) l.scene.numbers.now (plain_spot l.spot) l.initial.types.items (plain_items l.block)))
     × (l.types.items ++ items_temporaries (plain_items (drop l.i-index l.block)) ≡ l.initial.types.items ++ items_temporaries (plain_items l.block))
     × (HaveNumbers (plain_items (drop l.i-index l.block)) → HaveNumbers (plain_items l.block))

@@ -17,7 +17,7 @@ decls-preserved c =
     let left = left_at (map plain_decl) c.args.decls.now c.decls.d-index _ _ c.decls-test.true c.d-item.is refl in
     step texts _ c.decls.to _ _ _ (d ∷ []) _ left
     (grows_one texts c.decls.to _ d _ c.in_ok-push.ensures.items (c.in_ok-push-2.ensures.items ∙ ap (λ t. c.decls.to.types.items ++ t ∷ []) c.value_type-kind.ensures) c.in_ok-push-3.ensures.items
-        (λ i. record { kind = c.value_type-kind.ensures i; name = name i }))
+    (λ i. record { kind = c.value_type-kind.ensures i; name = name i }))
     c.decls.invariant
 
 pub returns : goal.returns

@@ -24,7 +24,8 @@ found c = subst (Found _ _ _ _) c.deref.ensures.value c.in_ok-gap.ensures
 apart : (c : goal.After-unwrap) → AreApart (record { units = c.self.inside.units; live = c.insert.new.self.items })
 apart c =
     let gap = found c in
-    subst (λ l. AreApart (record { units = c.self.inside.units; live = l })) (sym (items c)) (inserted_apart c.self.inside.units c.args.length c.in_ok-gap.gap.place c.in_ok-gap.gap.index c.self.inside.live.items c.self.invariant.apart gap.1 gap.0.free.aligned gap.0.free.within)
+    subst (λ l. AreApart (record { units = c.self.inside.units; live = l })) (sym (items c)) (inserted_apart c.self.inside.units c.args.length c.in_ok-gap.gap.place c.in_ok-gap.gap.index c.self.inside.live.items c.self.invariant.apart gap.1
+    gap.0.free.aligned gap.0.free.within)
 
 pub invariant_of-self : goal.invariant_of-self
 invariant_of-self c = record { apart = apart c; small = c.self.invariant.small; room = omega (arith, c.self.invariant.room, c.insert.ensures.capacity) }
