@@ -13,6 +13,12 @@ Fails (BadName at) checked = checked ≡ name_fault at
 Fails (BadType at) checked = checked ≡ type_fault at
 Fails Memory checked = Unit {0}
 
+-- a fault of the text: a call that takes no memory is never out of it
+abbrev pub TakesNoMemory : CheckFault → Type 0
+TakesNoMemory (BadName at) = Unit {0}
+TakesNoMemory (BadType at) = Unit {0}
+TakesNoMemory Memory = ⊥
+
 abbrev pub Gives : {X A : Type 0} → (X → A) → Result X CheckFault → Checked A → Type 0
 Gives view (Ok x) checked = checked ≡ Ok (view x)
 Gives view (Err e) checked = Fails e checked

@@ -15,7 +15,7 @@ plain_scope s = record {
   names = s.names.now;
   words = s.words.now;
   functions = map plain_header s.functions.now.headers.items;
-  registers = s.registers.now.entries;
+  registers = s.registers.now.kinds.entries;
 }
 
 -- registers by their names' numbers

@@ -12,6 +12,7 @@ ghost use Rattle.mon_typing.specs.Scopes.{numbered, is_new};
 
 use crate::fault::CheckFault;
 use crate::header::Functions;
+use crate::register::Registers;
 use crate::scope::{Scope, is_free, name_at};
 use crate::statement::{Labels, checked_statements};
 use c_syntax::Name;
@@ -92,10 +93,10 @@ fn statements_with(
     names: &[Name],
     words: &[Word],
     functions: &Functions,
-    registers: &IndexMap<u32, MonType>,
+    registers: &Registers,
     f: &ParsedFunc,
 ) -> Result<Vec<MonStmt>, CheckFault>
-    ensures { Gives (λ v. plain_stmts v.items) result (checked_statements (scope_of names.now words.now (map plain_header functions.now.headers.items) registers.now.entries) f.now.result [] (read.plain_stmts f.now.body.items)) }
+    ensures { Gives (λ v. plain_stmts v.items) result (checked_statements (scope_of names.now words.now (map plain_header functions.now.headers.items) registers.now.kinds.entries) f.now.result [] (read.plain_stmts f.now.body.items)) }
 {
     let scope = Scope {
         names,
@@ -120,8 +121,9 @@ fn body_of(
 ) -> Result<Vec<MonStmt>, CheckFault>
     ensures { Gives (λ v. plain_stmts v.items) result (body_of names.now words.now (map plain_header functions.now.headers.items) (read.plain_func f.now)) }
 {
-    let mut registers = IndexMap::new(alloc);
-    registers_of(words, &mut registers, f)?;
+    let mut kinds = IndexMap::new(alloc);
+    registers_of(words, &mut kinds, f)?;
+    let registers = Registers::new(kinds)?;
     statements_with(alloc, names, words, functions, &registers, f)
 }
 
@@ -165,7 +167,7 @@ fn is_new_function(words: &[Word], functions: &Functions, name: u32, index: usiz
     ensures { result ≡ (is_free (word_at words.now name) && is_at index (find_function 0 (map plain_header functions.now.headers.items) name)) }
 {
     match functions.find(name) {
-        Some((first, _)) => is_free(word_at(words, name)) && first == index,
+        Some((first, _)) => is_free(word_at(words, name)) && first as usize == index,
         None => false,
     }
 }

@@ -23,7 +23,7 @@ pub struct Header {
 pub struct Functions {
     pub headers: Vec<Header>,
     /// The number of the first function of each name.
-    pub firsts: IndexMap<u32, usize>,
+    pub firsts: IndexMap<u32, u32>,
     ghost first: { AreFirst headers.items firsts.entries },
 }
 
@@ -41,11 +41,11 @@ impl Functions {
     }
 
     /// The first function of the name, by its number in the program.
-    pub fn find(&self, name: u32) -> Option<(usize, &Header)>
+    pub fn find(&self, name: u32) -> Option<(u32, &Header)>
         ensures { find_function 0 (map plain_header self.now.headers.items) name ≡ option_map (λ x. (x.0, plain_header x.1.now)) result }
     {
         match self.firsts.get(&name) {
-            Some(number) => Some((*number, &self.headers[*number])),
+            Some(number) => Some((*number, &self.headers[*number as usize])),
             None => None,
         }
     }
@@ -73,10 +73,13 @@ fn header_of(alloc: Global, f: &ParsedFunc) -> Result<Header, AllocError>
 }
 
 /// The number of a function is that of its name where it is the first of that name.
-fn note(firsts: &mut IndexMap<u32, usize>, name: u32, number: usize) -> Result<(), AllocError>
+fn note(firsts: &mut IndexMap<u32, u32>, name: u32, number: usize) -> Result<(), AllocError>
     ensures { OnOk result (firsts.new.entries ≡ with_first firsts.old.entries name number) }
 {
     if !firsts.contains_key(&name) {
+        let Ok(number) = u32::try_from(number) else {
+            return Err(AllocError);
+        };
         firsts.insert(name, number)?;
     }
     Ok(())
@@ -86,7 +89,7 @@ fn note(firsts: &mut IndexMap<u32, usize>, name: u32, number: usize) -> Result<(
 fn note_function(
     alloc: Global,
     headers: &mut Vec<Header>,
-    firsts: &mut IndexMap<u32, usize>,
+    firsts: &mut IndexMap<u32, u32>,
     f: &ParsedFunc,
 ) -> Result<(), AllocError>
     ensures headers { OnOk result (map plain_header headers.new.items ≡ map plain_header headers.old.items ++ header_of (plain_func f.now) ∷ []) }

@@ -10,6 +10,7 @@ pub mod fault;
 pub mod function;
 pub mod header;
 pub mod laws;
+pub mod register;
 pub mod scope;
 pub mod statement;
 pub mod types;

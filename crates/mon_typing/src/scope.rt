@@ -1,27 +1,27 @@
 //! What is known of a text's names.
 
-ghost use Rattle.std.specs.Prelude.{◌≡◌, IfOk, bytes_eq, codes};
+ghost use Rattle.std.specs.Prelude.{◌≡◌, IfOk, IfErr, bytes_eq, codes};
 ghost use Rattle.mon_syntax.specs.Checking.{word_bytes, register_of, function_called, is_free};
 ghost use Rattle.mon_parser.specs.ParsedTrees.{plain_name};
-ghost use Rattle.mon_typing.specs.Answers.{Gives};
+ghost use Rattle.mon_typing.specs.Answers.{Gives, TakesNoMemory};
 ghost use Rattle.mon_typing.specs.Headers.{plain_header};
 ghost use Rattle.mon_typing.specs.Scopes.{plain_scope};
 
 use crate::fault::CheckFault;
 use crate::header::{Functions, Header};
+use crate::register::Registers;
 use c_syntax::Name;
-use indexmap::IndexMap;
 use mon_parser::parsed::NameUse;
 use mon_syntax::{MonType, Word};
 use std::alloc::{AllocError, Global};
 
-/// The names of the text and what they are, the functions, and the registers by their names' numbers.
+/// The names of the text and what they are, the functions, and the registers.
 #[derive(Clone, Copy, Drop)]
 pub struct Scope<'a> {
     pub names: &'a [Name],
     pub words: &'a [Word],
     pub functions: &'a Functions,
-    pub registers: &'a IndexMap<u32, MonType>,
+    pub registers: &'a Registers,
 }
 
 /// Whether the name of a number is `main`.
@@ -53,13 +53,11 @@ pub fn name_at(alloc: Global, names: &[Name], number: u32) -> Result<Name, Alloc
 
 /// A register by its number in the function, with its type.
 pub fn register_of(scope: &Scope, name: NameUse) -> Result<(u32, MonType), CheckFault>
-    ensures { Gives (λ r. r) result (register_of (plain_scope scope.now) (plain_name name)) }
+    ensures typed { Gives (λ r. r) result (register_of (plain_scope scope.now) (plain_name name)) }
+    ensures sure { IfErr result TakesNoMemory }
 {
-    match scope.registers.get_full(&name.number) {
-        Some((index, _, kind)) => match u32::try_from(index) {
-            Ok(number) => Ok((number, *kind)),
-            Err(_) => Err(CheckFault::Memory),
-        },
+    match scope.registers.kinds.get_full(&name.number) {
+        Some((index, _, kind)) => Ok((index as u32, *kind)),
         None => Err(CheckFault::BadName(name.place)),
     }
 }
@@ -69,13 +67,11 @@ pub fn function_called<'a>(
     scope: &Scope<'a>,
     name: NameUse,
 ) -> Result<(u32, &'a Header), CheckFault>
-    ensures { Gives (λ x. (x.0, plain_header x.1.now)) result (function_called (plain_scope scope.now) (plain_name name)) }
+    ensures typed { Gives (λ x. (x.0, plain_header x.1.now)) result (function_called (plain_scope scope.now) (plain_name name)) }
+    ensures sure { IfErr result TakesNoMemory }
 {
-    let Some((index, header)) = scope.functions.find(name.number) else {
-        return Err(CheckFault::BadName(name.place));
-    };
-    match u32::try_from(index) {
-        Ok(number) => Ok((number, header)),
-        Err(_) => Err(CheckFault::Memory),
+    match scope.functions.find(name.number) {
+        Some(found) => Ok(found),
+        None => Err(CheckFault::BadName(name.place)),
     }
 }

@@ -1,6 +1,6 @@
 //! Statements, in a function of a result and inside bodies of labels.
 
-ghost use Rattle.std.specs.Prelude.{◌≡◌, ◌≤◌, ◌++◌, [], ◌∷◌, length, drop, nat_eq, reverse, Some, None, option_map, slice_get, Ok, OnOk};
+ghost use Rattle.std.specs.Prelude.{◌≡◌, ◌≤◌, ◌++◌, [], ◌∷◌, length, drop, nat_eq, reverse, Some, None, option_map, slice_get, Ok, OnOk, IfErr};
 ghost use Rattle.std.specs.List.{list_any};
 ghost use Rattle.mon_syntax.specs.Trees as tree;
 ghost use Rattle.mon_syntax.specs.Trees.{MonStatements, plain_stmt, plain_stmts};
@@ -8,7 +8,7 @@ ghost use Rattle.mon_syntax.specs.Valid.{memory_result};
 ghost use Rattle.mon_syntax.specs.Checking.{bytes_of, result_of, value_type, with_target, taken, returned, known_label, new_label, labels_in, labels_in_all, checked_statement, checked_statements};
 ghost use Rattle.mon_syntax.specs.Parsed as parsed;
 ghost use Rattle.mon_parser.specs.ParsedTrees as read;
-ghost use Rattle.mon_typing.specs.Answers.{Fails, Gives};
+ghost use Rattle.mon_typing.specs.Answers.{Fails, Gives, TakesNoMemory};
 ghost use Rattle.mon_typing.specs.Scopes.{plain_scope};
 ghost use Rattle.mon_typing.specs.Statements.{checked_bodies};
 
@@ -84,7 +84,8 @@ fn taken(
     place: Place,
     call: MonStmt,
 ) -> Result<MonStmt, CheckFault>
-    ensures { Gives plain_stmt result (taken (plain_scope scope.now) register place (plain_stmt call)) }
+    ensures typed { Gives plain_stmt result (taken (plain_scope scope.now) register place (plain_stmt call)) }
+    ensures sure { IfErr result TakesNoMemory }
 {
     let (number, kind) = register;
     match value_type(scope, &call) {
@@ -151,7 +152,8 @@ fn is_among(labels: &[u32], number: u32) -> bool
 /// The label of a body around it.
 #[tactic(auto, using(crate::proofs::Labels::any_reversed))]
 fn known_label(around: &[u32], label: NameUse) -> Result<(), CheckFault>
-    ensures { Gives (λ u. tt) result (known_label (reverse around.now) (read.plain_name label)) }
+    ensures known { Gives (λ u. tt) result (known_label (reverse around.now) (read.plain_name label)) }
+    ensures sure { IfErr result TakesNoMemory }
 {
     if is_among(around, label.number) {
         Ok(())
@@ -162,7 +164,8 @@ fn known_label(around: &[u32], label: NameUse) -> Result<(), CheckFault>
 
 /// The label of a body in which these labels stand.
 fn new_label(scope: &Scope, inside: &[u32], label: NameUse) -> Result<(), CheckFault>
-    ensures { Gives (λ u. tt) result (new_label (plain_scope scope.now) inside.now (read.plain_name label)) }
+    ensures new { Gives (λ u. tt) result (new_label (plain_scope scope.now) inside.now (read.plain_name label)) }
+    ensures sure { IfErr result TakesNoMemory }
 {
     let free = is_free(word_at(scope.words, label.number));
     if free && !is_among(inside, label.number) {
