@@ -1,2 +1,6 @@
 pub mod Phases
+pub mod Lexed
+pub mod WithinExpressions
+pub mod WithinStatements
+pub mod WithinTexts
 pub mod Texts

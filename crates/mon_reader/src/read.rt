@@ -1,9 +1,10 @@
 //! From a monitored text to its program.
 
-ghost use Rattle.std.specs.Prelude.{ℕ, List, ◌≡◌, ◌<◌, length, Ok, MatchResult};
+ghost use Rattle.std.specs.Prelude.{ℕ, List, ◌≡◌, ◌<◌, length, Ok, MatchResult, IfOk};
 ghost use Rattle.c_syntax.specs.Tokens.{plain_tokens};
 ghost use Rattle.c_syntax.specs.Programs.{PlainRefusal};
 ghost use Rattle.mon_syntax.specs.Trees.{MonitoredProgram, plain_program};
+ghost use Rattle.mon_syntax.specs.Valid.{IsValid};
 ghost use Rattle.mon_syntax.specs.Spelled.{Spells, IsMonitoredRefusal, checked};
 ghost use Rattle.mon_parser.specs.ParsedTrees as read;
 ghost use Rattle.mon_reader.specs.Answers.{Refuses, HasFault, RefusesTree, IsEntered};
@@ -43,11 +44,12 @@ fn entered(alloc: Global, tokens: &Tokens, tree: &ParsedProgram) -> Result<MonPr
     }
 }
 
-/// The program that a monitored text spells, or the text's refusal: with code 1 or 2 for its tokens, 4 or 11 for its
+/// The program that a monitored text spells, which is valid, or the text's refusal: with code 1 or 2 for its tokens, 4 or 11 for its
 /// grammar, 5 for a name, 6 for a type, and 13 for want of `i32 main(void)`.
 pub fn read_monitored(alloc: Global, text: &[u8]) -> Result<MonProgram, FrontFault>
     requires { length text.now < 4294967295 }
-    ensures { MatchResult result (λ m. Spells text.now (plain_program m)) (λ e. Refuses e text.now) }
+    ensures spelled { MatchResult result (λ m. Spells text.now (plain_program m)) (λ e. Refuses e text.now) }
+    ensures valid { IfOk result (λ m. IsValid (plain_program m)) }
 {
     let tokens = match mon_tokens(alloc, text) {
         Ok(tokens) => tokens,
@@ -60,8 +62,9 @@ pub fn read_monitored(alloc: Global, text: &[u8]) -> Result<MonProgram, FrontFau
     entered(alloc, &tokens, &tree)
 }
 
-/// A text spells one program at most, and then it has no refusal, and it has one refusal at most.
+/// A text spells one program at most, which is valid, and then it has no refusal, and it has one refusal at most.
 pub fn about_texts()
+    ensures valid { (text : List ℕ) (m : MonitoredProgram) → Spells text m → IsValid m }
     ensures one_spelled { (text : List ℕ) (m n : MonitoredProgram) → Spells text m → Spells text n → m ≡ n }
     ensures spelled_apart { (text : List ℕ) (m : MonitoredProgram) (r : PlainRefusal) → Spells text m → IsMonitoredRefusal text r → ⊥ }
     ensures one_monitored_refusal { (text : List ℕ) (r s : PlainRefusal) → IsMonitoredRefusal text r → IsMonitoredRefusal text s → r ≡ s }
