@@ -68,7 +68,15 @@ fn type_body_kind(
 {
     match kind {
         StmtKind::Block(items) => type_body_items(alloc, scopes, ctype, items),
-        _ => Ok(()),
+        StmtKind::Empty
+        | StmtKind::Eval(_)
+        | StmtKind::If(..)
+        | StmtKind::While(..)
+        | StmtKind::Do(..)
+        | StmtKind::For(..)
+        | StmtKind::Break
+        | StmtKind::Continue
+        | StmtKind::Return(_) => Ok(()),
     }
 }
 

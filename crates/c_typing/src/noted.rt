@@ -157,7 +157,15 @@ fn note_body_kind(scopes: &mut Scopes, kind: &mut StmtKind) -> Result<(), TypeFa
 {
     match kind {
         StmtKind::Block(items) => note_body_items(scopes, items),
-        _ => Ok(()),
+        StmtKind::Empty
+        | StmtKind::Eval(_)
+        | StmtKind::If(..)
+        | StmtKind::While(..)
+        | StmtKind::Do(..)
+        | StmtKind::For(..)
+        | StmtKind::Break
+        | StmtKind::Continue
+        | StmtKind::Return(_) => Ok(()),
     }
 }
 
