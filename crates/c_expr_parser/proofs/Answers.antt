@@ -3,9 +3,9 @@ use Rattle.std.proofs.Common.{◌≡◌, ℕ, zero, suc, ◌+◌, ◌-◌, ◌<�
 use Rattle.std.proofs.lemmas.List.{length-map}
 use Rattle.std.proofs.Math.Seq.{drop-nil}
 use Rattle.grammar.specs.Syntax.{Fault, At, Over}
-use Rattle.grammar.specs.Exact.{Found, IsExact, AtMostOne, FrontsBegin}
+use Rattle.grammar.specs.Exact.{Found, IsExact, AtMostOne, ReadingsBegin, FrontsBegin}
 use Rattle.grammar.proofs.Bounds.{rest_below}
-use Rattle.grammar.proofs.Theorem.{found, refused_over, rest_is, rest_within_text, at_most_one, fronts_begin}
+use Rattle.grammar.proofs.Theorem.{found, refused_over, rest_is, rest_within_text, at_most_one, readings_begin, fronts_begin}
 use Rattle.c_syntax.specs.declared.token.Token.{Token}
 use Rattle.c_syntax.specs.Expressions.{Expression}
 use Rattle.c_syntax.specs.Tokens.{PlainToken, PlainTokens, plain_token}
@@ -27,6 +27,9 @@ full_exact ws = (full_expression_good ws).here
 
 pub one : (ws : Vocabulary) → AtMostOne (full_expression ws)
 one ws = at_most_one (full_expression ws) false first_expression (λ _. more_expression) (full_exact ws)
+
+pub begun : (ws : Vocabulary) → ReadingsBegin (full_expression ws)
+begun ws = readings_begin (full_expression ws) false first_expression (λ _. more_expression) (full_exact ws)
 
 pub fronts : (ws : Vocabulary) → FrontsBegin (full_expression ws)
 fronts ws = fronts_begin (full_expression ws) false first_expression (λ _. more_expression) (full_exact ws)

@@ -18,6 +18,7 @@ use Rattle.c_model.specs.declared.operands.TypeUse.TheVariants.{Casts, Sizes, No
 use Rattle.c_model.specs.Vocabulary.{Vocabulary}
 use Rattle.c_model.specs.Punctuators.{question, colon, comma, left_paren, right_paren}
 use Rattle.c_model.specs.ExpressionGrammar.{name_kind, number_kind, letter_kind, keyword_kind, mark_kind, kind, kinds_of, unary_operators, operators_at, levels, assignment_operators, prefix_bumps, postfix_bumps, first_type, first_expression, first_effect, expression_limit, most_in_expression, ReadOperand, Operand, closed, literal, cast_rest, sized_type, paren_rest, behind_paren, prefixed, sized, operand_but_name, operand_of, operand, joined_once, behind_operand, choice_rest, expression_rest, expression_of, expression, next_argument, arguments, call_rest, behind_name_or_callee, expression_or_call, assigned_value, assigned, bumped, behind_unary, behind_primary, behind_form, effect_rest, bump_first, effect_but_name, effect, behind_name, effect_or_call, full_expression, full_expression_or_call, full_effect, full_effect_or_call}
+use Rattle.c_expr_parser.proofs.Unlimited.{expression_free, expression_or_call_free, effect_free, effect_or_call_free}
 use Rattle.c_expr_parser.proofs.ExactTokens.{IsRead, AreRead, fixed_good, name_good, number_good, letter_good, marks_good}
 use Rattle.c_expr_parser.proofs.ExactTypes.{apart_none, enlarged, type_good}
 
@@ -269,16 +270,16 @@ module _ (ws : Vocabulary) where
 
   pub full_expression_good : IsRead ws (full_expression ws) false first_expression more_expression
   unfolding full_expression
-  full_expression_good = counted expression_limit most_in_expression expression_good
+  full_expression_good = counted expression_limit most_in_expression (expression_free ws) (expression_free ws) expression_good
 
   pub full_expression_or_call_good : IsRead ws (full_expression_or_call ws) false first_expression more_or_call
   unfolding full_expression_or_call
-  full_expression_or_call_good = counted expression_limit most_in_expression expression_or_call_good
+  full_expression_or_call_good = counted expression_limit most_in_expression (expression_or_call_free ws) (expression_or_call_free ws) expression_or_call_good
 
   pub full_effect_good : IsRead ws (full_effect ws) false first_effect more_effect
   unfolding full_effect
-  full_effect_good = counted expression_limit most_in_expression effect_good
+  full_effect_good = counted expression_limit most_in_expression (effect_free ws) (effect_free ws) effect_good
 
   pub full_effect_or_call_good : IsRead ws (full_effect_or_call ws) false first_effect more_effect
   unfolding full_effect_or_call
-  full_effect_or_call_good = counted expression_limit most_in_expression effect_or_call_good
+  full_effect_or_call_good = counted expression_limit most_in_expression (effect_or_call_free ws) (effect_or_call_free ws) effect_or_call_good

@@ -1,5 +1,6 @@
 pub mod ExactTokens
 pub mod ExactTypes
+pub mod Unlimited
 pub mod ExactExpressions
 pub mod Words
 pub mod Steps

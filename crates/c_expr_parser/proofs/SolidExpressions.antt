@@ -16,6 +16,7 @@ use Rattle.c_model.specs.declared.operands.TypeUse.TheVariants.{Casts, Sizes, No
 use Rattle.c_model.specs.Vocabulary.{Vocabulary, no_words}
 use Rattle.c_model.specs.Punctuators.{question, colon, left_paren, right_paren}
 use Rattle.c_model.specs.ExpressionGrammar.{fixed, name_kind, number_kind, letter_kind, type_name_kind, keyword_kind, mark_kind, kind, kinds_of, unary_operators, operators_at, levels, first_integer_words, first_base, first_type, first_expression, words_behind, expression_limit, most_in_expression, Operand, integer_word, integer_words, type_name, base, consts, type_words, closed, literal, cast_rest, sized_type, paren_rest, behind_paren, prefixed, sized, operand_but_name, operand_of, operand, joined_once, behind_operand, choice_rest, expression_rest, expression_of, expression, full_expression}
+use Rattle.c_expr_parser.proofs.Unlimited.{expression_free}
 use Rattle.c_expr_parser.proofs.ExactTypes.{apart_none, words_fit, words_within, more_type}
 use Rattle.c_expr_parser.proofs.ExactExpressions.{kinds_below, AreApart, levels_apart, more_expression, first_but_name, both_true, operand_good, expression_exact, expression_is, expression_good, operand_is}
 use Rattle.c_expr_parser.proofs.Steps.{consts_turn, consts_ends}
@@ -201,7 +202,7 @@ module _ (ws : Vocabulary) where
 
   full_solid : (n : ℕ) → Solid ws n (full_expression ws) true false first_expression more_expression
   unfolding full_expression
-  full_solid n = at_most_solid expression_limit most_in_expression (expression_solid n)
+  full_solid n = at_most_solid expression_limit most_in_expression (expression_free ws) (expression_solid n)
 
   -- the tokens before a refused one are no expression
   pub full_unread : (ts : List PlainToken) (n : ℕ) → (full_expression ws).parse ts ≡ Err (At n) → Unread (full_expression ws) ts n

@@ -21,6 +21,11 @@ abbrev pub RefusesWith : PlainRefusal → FrontFault → Type 0
 RefusesWith r front.Memory = Unit {0}
 RefusesWith r (front.Refused x) = plain_refusal x ≡ r
 
+-- it is no want of memory
+abbrev pub IsGiven : FrontFault → Type 0
+IsGiven front.Memory = ⊥
+IsGiven (front.Refused x) = Unit {0}
+
 -- the refusal for a fault
 abbrev pub RefusesFault : PlainTokens → ReadFault → FrontFault → Type 0
 RefusesFault ts (fault.At n) e = RefusesWith (syntax_refusal ts (At n)) e

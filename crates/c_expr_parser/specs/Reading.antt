@@ -35,6 +35,12 @@ abbrev pub Gives : {X Y : Type 0} → (X → Y) → Result X ReadFault → Resul
 Gives view (Ok x) read = read ≡ Ok (view x)
 Gives view (Err e) read = Fails e read
 
+-- it is no want of memory
+abbrev pub TakesNoMemory : ReadFault → Type 0
+TakesNoMemory (fault.At n) = Unit {0}
+TakesNoMemory (fault.Over limit n) = Unit {0}
+TakesNoMemory fault.Memory = ⊥
+
 -- so many tokens are left at most
 abbrev pub LeftWithin : ReadFault → ℕ → Type 0
 LeftWithin (fault.At n) most = n ≤ most

@@ -1,10 +1,10 @@
 //! Expressions (C99 6.5).
 
-ghost use Rattle.std.specs.Prelude.{◌≡◌, ◌≤◌, ◌<◌, length, IfOk};
+ghost use Rattle.std.specs.Prelude.{◌≡◌, ◌≤◌, ◌<◌, length, IfOk, IfErr};
 ghost use Rattle.c_syntax.specs.Expressions.{plain_expr, plain_kind};
 ghost use Rattle.grammar.specs.Syntax.{gives, one, sees};
 ghost use Rattle.c_model.specs.ExpressionGrammar.{kind, placed, mark_entry, kinds_of, operators_at, read_as, read_name, read_operand, size_of_operand, joined, literal, cast_rest, sized_type, paren_rest, behind_paren, prefixed, sized, operand_but_name, operand_of, operand, joined_once, behind_operand, choice_rest, expression_rest, expression_of, expression};
-ghost use Rattle.c_expr_parser.specs.Reading.{Gives, plain_list, plain_operand, right_operand, more_joined};
+ghost use Rattle.c_expr_parser.specs.Reading.{Gives, TakesNoMemory, plain_list, plain_operand, right_operand, more_joined};
 
 use crate::kinds::{COLON, LEFT_PAREN, NAME, NUMBER, QUESTION, RIGHT_PAREN};
 use crate::tables::{LEVELS, UNARY, operators_at};
@@ -328,6 +328,7 @@ fn right_operand<'a>(
 fn operator(level: u32, tokens: &[Token]) -> Result<(Connective, Place, &[Token]), ReadFault>
     ensures read { Gives (λ x. ((x.0, x.1), plain_list x.2.now)) result ((one (placed (mark_entry (operators_at level)))).parse (plain_list tokens.now)) }
     ensures shorter { IfOk result (λ x. length x.2.now < length tokens.now) }
+    ensures sure { IfErr result TakesNoMemory }
 {
     marked(operators_at(level), tokens)
 }

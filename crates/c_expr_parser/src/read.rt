@@ -1,7 +1,7 @@
 //! From the tokens of a text to the expression at a place.
 
 ghost use Rattle.std.specs.Prelude.{◌≡◌, ◌≤◌, length, MatchResult};
-ghost use Rattle.grammar.specs.Exact.{AtMostOne, FrontsBegin, Same};
+ghost use Rattle.grammar.specs.Exact.{AtMostOne, ReadingsBegin, FrontsBegin, Same};
 ghost use Rattle.c_syntax.specs.Expressions.{plain_expr};
 ghost use Rattle.c_syntax.specs.Tokens.{plain_tokens};
 ghost use Rattle.c_model.specs.Vocabulary.{Vocabulary};
@@ -29,10 +29,11 @@ pub fn read_expr(alloc: Global, tokens: &Tokens, at: usize) -> Result<(Expr, usi
     }
 }
 
-/// Tokens are at most one expression, what begins the tokens that begin one begins one, and an expression is what its
-/// production says.
+/// Tokens are at most one expression, an expression begins one, what begins the tokens that begin one begins one, and an expression is
+/// what its production says.
 pub fn one_expression()
     ensures one { (words : Vocabulary) → AtMostOne (full_expression words) }
+    ensures begun { (words : Vocabulary) → ReadingsBegin (full_expression words) }
     ensures fronts { (words : Vocabulary) → FrontsBegin (full_expression words) }
     ensures form { (words : Vocabulary) → Same (expression words) (expression_of words (expression words)) }
 {}

@@ -9,7 +9,7 @@ ghost use Rattle.c_model.specs.TokenWords as form;
 ghost use Rattle.c_model.specs.TokenWords.{or_nothing, mark_word, token_word, word_at, place_at};
 ghost use Rattle.c_model.specs.Phases.{limit_word};
 ghost use Rattle.c_expr_parser.specs.Reading.{label, plain_list};
-ghost use Rattle.c_expr_parser.specs.Answers.{RefusesFault, RefusesWord};
+ghost use Rattle.c_expr_parser.specs.Answers.{IsGiven, RefusesFault, RefusesWord};
 
 use c_syntax::fault::{Limit, ReadFault};
 use c_syntax::{FrontFault, Name, Place, Refusal, Token, TokenKind, Tokens};
@@ -135,7 +135,8 @@ fn limit_word(limit: Limit) -> &'static [u8]
 
 /// A refusal, or want of memory where its word is wanting.
 pub fn refused(code: u8, place: Place, word: Result<Vec<u8>, AllocError>) -> FrontFault
-    ensures { RefusesWord code place word result }
+    ensures word { RefusesWord code place word result }
+    ensures sure { IfOk word (λ _. IsGiven result) }
 {
     match word {
         Ok(word) => FrontFault::Refused(Refusal {

@@ -1,10 +1,10 @@
 //! Single tokens, and tests of the next one.
 
-ghost use Rattle.std.specs.Prelude.{◌≡◌, ◌<◌, length, IfOk, [], ◌∷◌};
+ghost use Rattle.std.specs.Prelude.{◌≡◌, ◌<◌, length, IfOk, IfErr, [], ◌∷◌};
 ghost use Rattle.grammar.specs.Syntax.{among, sees, one};
 ghost use Rattle.c_syntax.specs.Tokens.{plain_token_kind};
 ghost use Rattle.c_model.specs.ExpressionGrammar.{kind, first_type, first_expression, fixed, placed, name, number_of, letter_of, entry, mark_entry, kinds_of};
-ghost use Rattle.c_expr_parser.specs.Reading.{Gives, plain_list};
+ghost use Rattle.c_expr_parser.specs.Reading.{Gives, TakesNoMemory, plain_list};
 
 use crate::kinds::{
     EXCLAMATION, FIRST_MARK, LEFT_PAREN, LETTER, MINUS, NAME, NUMBER, PLUS, TILDE, TYPE_NAME, kind,
@@ -94,6 +94,7 @@ pub fn skip<'a>(
 ) -> Result<(Place, &'a [Token]), ReadFault>
     ensures read { Gives (λ x. (x.0, plain_list x.1.now)) result ((fixed words.now wanted).parse (plain_list tokens.now)) }
     ensures shorter { IfOk result (λ x. length x.1.now < length tokens.now) }
+    ensures sure { IfErr result TakesNoMemory }
 {
     match tokens {
         [] => Err(ReadFault::At(0)),
@@ -111,6 +112,7 @@ pub fn skip<'a>(
 pub fn name<'a>(words: &[Word], tokens: &'a [Token]) -> Result<(u32, Place, &'a [Token]), ReadFault>
     ensures read { Gives (λ x. ((x.0, x.1), plain_list x.2.now)) result ((name words.now).parse (plain_list tokens.now)) }
     ensures shorter { IfOk result (λ x. length x.2.now < length tokens.now) }
+    ensures sure { IfErr result TakesNoMemory }
 {
     match tokens {
         [] => Err(ReadFault::At(0)),
@@ -131,6 +133,7 @@ pub fn name<'a>(words: &[Word], tokens: &'a [Token]) -> Result<(u32, Place, &'a 
 pub fn number(tokens: &[Token]) -> Result<(i128, Option<CInt>, Place, &[Token]), ReadFault>
     ensures read { Gives (λ x. (((x.0, x.1), x.2), plain_list x.3.now)) result ((one (placed number_of)).parse (plain_list tokens.now)) }
     ensures shorter { IfOk result (λ x. length x.3.now < length tokens.now) }
+    ensures sure { IfErr result TakesNoMemory }
 {
     match tokens {
         [] => Err(ReadFault::At(0)),
@@ -145,6 +148,7 @@ pub fn number(tokens: &[Token]) -> Result<(i128, Option<CInt>, Place, &[Token]),
 pub fn letter(tokens: &[Token]) -> Result<(i8, Place, &[Token]), ReadFault>
     ensures read { Gives (λ x. ((x.0, x.1), plain_list x.2.now)) result ((one (placed letter_of)).parse (plain_list tokens.now)) }
     ensures shorter { IfOk result (λ x. length x.2.now < length tokens.now) }
+    ensures sure { IfErr result TakesNoMemory }
 {
     match tokens {
         [] => Err(ReadFault::At(0)),
@@ -185,6 +189,7 @@ pub fn marked<'a, T: Copy>(
 ) -> Result<(T, Place, &'a [Token]), ReadFault>
     ensures read { Gives (λ x. ((x.0, x.1), plain_list x.2.now)) result ((one (placed (mark_entry table.now))).parse (plain_list tokens.now)) }
     ensures shorter { IfOk result (λ x. length x.2.now < length tokens.now) }
+    ensures sure { IfErr result TakesNoMemory }
 {
     match tokens {
         [] => Err(ReadFault::At(0)),

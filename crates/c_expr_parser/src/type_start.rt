@@ -1,11 +1,11 @@
 //! The first word of a type, and the type behind it (C99 6.7.2, 6.7.6).
 
-ghost use Rattle.std.specs.Prelude.{◌≡◌, ◌≤◌, ◌<◌, length, IfOk, option_map};
+ghost use Rattle.std.specs.Prelude.{◌≡◌, ◌≤◌, ◌<◌, length, IfOk, IfErr, option_map};
 ghost use Rattle.grammar.specs.Syntax.{one};
 ghost use Rattle.c_syntax.specs.Ctypes.{plain_type};
 ghost use Rattle.c_syntax.specs.Tokens.{plain_token_kind};
 ghost use Rattle.c_model.specs.ExpressionGrammar.{placed, type_start_of, type_start, type_behind};
-ghost use Rattle.c_expr_parser.specs.Reading.{Gives, plain_list, plain_start, plain_started};
+ghost use Rattle.c_expr_parser.specs.Reading.{Gives, TakesNoMemory, plain_list, plain_start, plain_started};
 
 use crate::kinds::word_at;
 use crate::terminals::left;
@@ -57,6 +57,7 @@ pub fn type_start<'a>(
 ) -> Result<(TypeStart, u32, Place, &'a [Token]), ReadFault>
     ensures read { Gives (λ x. (((plain_start x.0, x.1), x.2), plain_list x.3.now)) result ((one (placed (type_start words.now))).parse (plain_list tokens.now)) }
     ensures shorter { IfOk result (λ x. length x.3.now < length tokens.now) }
+    ensures sure { IfErr result TakesNoMemory }
 {
     match tokens {
         [] => Err(ReadFault::At(0)),
@@ -76,6 +77,7 @@ pub fn type_behind<'a>(
 ) -> Result<(CType, &'a [Token]), ReadFault>
     ensures read { Gives (λ t. (plain_type t.0, plain_list t.1.now)) result ((type_behind words.now (plain_start start)).parse (plain_list tokens.now)) }
     ensures shorter { IfOk result (λ t. length t.1.now ≤ length tokens.now) }
+    ensures sure { IfErr result TakesNoMemory }
 {
     match start {
         TypeStart::Const => type_of(words, tokens),

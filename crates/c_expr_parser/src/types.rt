@@ -1,12 +1,12 @@
 //! Types (C99 6.7.2, 6.7.6).
 
-ghost use Rattle.std.specs.Prelude.{◌≡◌, ◌≤◌, ◌<◌, length, IfOk, option_map};
+ghost use Rattle.std.specs.Prelude.{◌≡◌, ◌≤◌, ◌<◌, length, IfOk, IfErr, option_map};
 ghost use Rattle.grammar.specs.Syntax.{among, sees, one};
 ghost use Rattle.c_syntax.specs.Ctypes.{PlainType, Int, plain_type};
 ghost use Rattle.c_syntax.specs.Tokens.{plain_token_kind};
 ghost use Rattle.c_model.specs.Vocabulary.{sign_with, size_with, words_with, signed_or_not, integer_type};
 ghost use Rattle.c_model.specs.ExpressionGrammar.{kind, placed, signs_behind, sizes_behind, words_behind, next_words, integer_word, integer_words, type_name_of, type_name_word_of, type_name, base, consts, type_words};
-ghost use Rattle.c_expr_parser.specs.Reading.{Gives, plain_list, more_words};
+ghost use Rattle.c_expr_parser.specs.Reading.{Gives, TakesNoMemory, plain_list, more_words};
 
 use crate::kinds::{TYPE_NAME, kind, word_at};
 use crate::terminals::{left, next_is, skip};
@@ -87,6 +87,7 @@ fn integer_word<'a>(
 ) -> Result<(IntegerWords, &'a [Token]), ReadFault>
     ensures read { Gives (λ y. (y.0, plain_list y.1.now)) result ((integer_word words.now x).parse (plain_list tokens.now)) }
     ensures shorter { IfOk result (λ y. length y.1.now < length tokens.now) }
+    ensures sure { IfErr result TakesNoMemory }
 {
     match tokens {
         [] => Err(ReadFault::At(0)),
@@ -146,6 +147,7 @@ pub fn more_words<'a>(
 ) -> Result<(IntegerWords, &'a [Token]), ReadFault>
     ensures read { Gives (λ y. (y.0, plain_list y.1.now)) result ((more_words words.now x).parse (plain_list tokens.now)) }
     ensures shorter { IfOk result (λ y. length y.1.now ≤ length tokens.now) }
+    ensures sure { IfErr result TakesNoMemory }
 {
     let mut x = x;
     let mut rest = tokens;
@@ -185,6 +187,7 @@ pub fn integer_type(x: IntegerWords) -> CInt
 fn integer_words<'a>(words: &[Word], tokens: &'a [Token]) -> Result<(CType, &'a [Token]), ReadFault>
     ensures read { Gives (λ t. (plain_type t.0, plain_list t.1.now)) result ((integer_words words.now).parse (plain_list tokens.now)) }
     ensures shorter { IfOk result (λ t. length t.1.now < length tokens.now) }
+    ensures sure { IfErr result TakesNoMemory }
 {
     let (first, rest) = integer_word(words, NO_WORDS, tokens)?;
     let (all, rest) = more_words(words, first, rest)?;
@@ -208,6 +211,7 @@ fn type_name_of(words: &[Word], kind: &TokenKind) -> Option<CInt>
 fn type_name<'a>(words: &[Word], tokens: &'a [Token]) -> Result<(CType, &'a [Token]), ReadFault>
     ensures read { Gives (λ t. (plain_type t.0, plain_list t.1.now)) result ((type_name words.now).parse (plain_list tokens.now)) }
     ensures shorter { IfOk result (λ t. length t.1.now < length tokens.now) }
+    ensures sure { IfErr result TakesNoMemory }
 {
     match tokens {
         [] => Err(ReadFault::At(0)),
@@ -223,6 +227,7 @@ fn type_name<'a>(words: &[Word], tokens: &'a [Token]) -> Result<(CType, &'a [Tok
 pub fn base<'a>(words: &[Word], tokens: &'a [Token]) -> Result<(CType, &'a [Token]), ReadFault>
     ensures read { Gives (λ t. (plain_type t.0, plain_list t.1.now)) result ((base words.now).parse (plain_list tokens.now)) }
     ensures shorter { IfOk result (λ t. length t.1.now < length tokens.now) }
+    ensures sure { IfErr result TakesNoMemory }
 {
     if next_is(words, VOID, tokens) {
         let (_, rest) = skip(words, VOID, tokens)?;
@@ -240,6 +245,7 @@ pub fn consts<'a>(words: &[Word], tokens: &'a [Token]) -> Result<&'a [Token], Re
     ensures none { Gives (λ r. (tt {0}, plain_list r.now)) result ((consts words.now (tt {0})).parse (plain_list tokens.now)) }
     ensures some { (t : PlainType) → Gives (λ r. (t, plain_list r.now)) result ((consts words.now t).parse (plain_list tokens.now)) }
     ensures shorter { IfOk result (λ r. length r.now ≤ length tokens.now) }
+    ensures sure { IfErr result TakesNoMemory }
 {
     let mut rest = tokens;
     'turn: while next_is(words, CONST, rest) {
@@ -254,6 +260,7 @@ pub fn consts<'a>(words: &[Word], tokens: &'a [Token]) -> Result<&'a [Token], Re
 pub fn type_of<'a>(words: &[Word], tokens: &'a [Token]) -> Result<(CType, &'a [Token]), ReadFault>
     ensures read { Gives (λ t. (plain_type t.0, plain_list t.1.now)) result ((type_words words.now).parse (plain_list tokens.now)) }
     ensures shorter { IfOk result (λ t. length t.1.now < length tokens.now) }
+    ensures sure { IfErr result TakesNoMemory }
 {
     let rest = consts(words, tokens)?;
     let (t, rest) = base(words, rest)?;

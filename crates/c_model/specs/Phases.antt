@@ -1,10 +1,10 @@
 -- The order of the phases is ours: C99 5.1.1.2 has no refusals and no annotations.
 -- Which texts are accepted, with which program, and which are refused, why: by tokens, by grammar, by names and types, for want of
 -- `main`, and by the names of annotations, in this order.
-use Rattle.std.specs.Prelude.{◌≡◌, ℕ, List, length, map, Some, None, Result, Ok, Err, if◌then◌else◌, eqb, codes}
+use Rattle.std.specs.Prelude.{◌≡◌, ℕ, List, map, Some, None, Ok, Err, if◌then◌else◌, eqb, codes}
 use Rattle.grammar.specs.Syntax as grammar
 use Rattle.grammar.specs.Exact.{Accepts, Refused}
-use Rattle.c_syntax.specs.Tokens.{PlainToken, PlainTokens}
+use Rattle.c_syntax.specs.Tokens.{PlainTokens}
 use Rattle.c_syntax.specs.Programs.{TranslationUnit, PlainRefusal}
 use Rattle.c_model.specs.CTokens.{tokens_of}
 use Rattle.c_model.specs.Vocabulary.{Vocabulary, word_of}
@@ -24,17 +24,10 @@ IsRead ts p = Accepts (unit (vocabulary ts) ts.names) ts.list p
 abbrev pub limit_word : ℕ → List ℕ
 limit_word limit = if eqb limit expression_limit then codes "expression" else codes "nesting"
 
--- the fault at which reading from left to right stops: the grammar's, or that tokens are left behind what is read
-abbrev pub StopsWith : {A : Type 0} → Result (A × List PlainToken) grammar.Fault → grammar.Fault → Type 0
-StopsWith (Ok x) f = f ≡ grammar.At (length x.1)
-StopsWith (Err e) f = f ≡ e
-
--- The tokens are no program: the fault's token can't follow those before it, or it is the first that passes a limit. Reading from left
--- to right stops there, and tells which limit that is where a token passes two.
+-- The tokens are no program: the fault's token can't follow those before it, or it is the first that passes a limit.
 pub record IsSyntaxFault (ts : PlainTokens) (f : grammar.Fault) : Type 0 where
   pub refused : Refused (unit (vocabulary ts) ts.names) ts.list f
   pub unread : (p : TranslationUnit) → IsRead ts p → ⊥
-  pub stops : StopsWith ((unit (vocabulary ts) ts.names).parse ts.list) f
 
 -- E4 at the first token that can't follow those before it, or E11 at one that passes a limit
 abbrev pub syntax_refusal : PlainTokens → grammar.Fault → PlainRefusal

@@ -1,9 +1,9 @@
 -- From what the productions gave to what the answers mean.
 use Rattle.std.proofs.Common.{◌≡◌, ℕ, suc, true, List, [], ◌∷◌, length, Result, Ok, Err, refl, sym, ap, subst, ◌∙◌}
 use Rattle.grammar.specs.Syntax.{Fault, At, Over}
-use Rattle.grammar.specs.Exact.{AtMostOne, IsExact}
+use Rattle.grammar.specs.Exact.{AtMostOne, ReadingsBegin, FrontsBegin, OneLimit, IsExact}
 use Rattle.grammar.proofs.Parts.{ok_is}
-use Rattle.grammar.proofs.Theorem.{found, refused, accepts, accepts_back}
+use Rattle.grammar.proofs.Theorem.{found, refused, accepts, accepts_back, readings_begin, fronts_begin, one_limit}
 use Rattle.c_syntax.specs.declared.token.Token.{Token}
 use Rattle.c_syntax.specs.Tokens.{PlainToken, PlainTokens, plain_token}
 use Rattle.c_syntax.specs.Programs.{TranslationUnit}
@@ -14,7 +14,7 @@ use Rattle.c_syntax.specs.declared.fault.ReadFault.TheVariants as fault
 use Rattle.c_model.specs.Vocabulary.{Vocabulary}
 use Rattle.c_model.specs.ExpressionGrammar.{kind}
 use Rattle.c_model.specs.ProgramGrammar.{first_function, unit}
-use Rattle.c_model.specs.Phases.{vocabulary, IsRead, StopsWith, IsSyntaxFault, syntax_refusal}
+use Rattle.c_model.specs.Phases.{vocabulary, IsRead, IsSyntaxFault, syntax_refusal}
 use Rattle.c_expr_parser.specs.Reading.{plain_list, label, Fails}
 use Rattle.c_expr_parser.specs.Answers.{RefusesWith, RefusesFault}
 use Rattle.c_parser.specs.Answers.{Refuses}
@@ -25,6 +25,15 @@ one ws names = one_unit ws names
 
 unit_exact : (ws : Vocabulary) (names : List (List ℕ)) → IsExact (kind ws) (unit ws names) true first_function (λ _. first_function)
 unit_exact ws names = (unit_good ws names).here
+
+pub begun : (ws : Vocabulary) (names : List (List ℕ)) → ReadingsBegin (unit ws names)
+begun ws names = readings_begin (unit ws names) true first_function (λ _. first_function) (unit_exact ws names)
+
+pub fronts : (ws : Vocabulary) (names : List (List ℕ)) → FrontsBegin (unit ws names)
+fronts ws names = fronts_begin (unit ws names) true first_function (λ _. first_function) (unit_exact ws names)
+
+pub limits : (ws : Vocabulary) (names : List (List ℕ)) → OneLimit (unit ws names)
+limits ws names = one_limit (unit ws names) true first_function (λ _. first_function) (unit_exact ws names)
 
 module _ (ts : PlainTokens) where
   abbrev parsed : Result (TranslationUnit × List PlainToken) Fault
@@ -40,9 +49,6 @@ module _ (ts : PlainTokens) where
   not_read : (r : Result (TranslationUnit × List PlainToken) Fault) → parsed ≡ r → ((p : TranslationUnit) → r ≡ Ok (p, []) → ⊥) → (p : TranslationUnit) → IsRead ts p → ⊥
   not_read r e h p a = h p (sym e ∙ accepted_is p a)
 
-  stopped : (r : Result (TranslationUnit × List PlainToken) Fault) (f : Fault) → parsed ≡ r → StopsWith r f → StopsWith parsed f
-  stopped r f e h = subst (λ (x : Result (TranslationUnit × List PlainToken) Fault). StopsWith x f) (sym e) h
-
   grammar_refused : (f : Fault) → IsSyntaxFault ts f → (e : FrontFault) → RefusesWith (syntax_refusal ts f) e → Refuses e ts
   grammar_refused f h front.Memory g = tt
   grammar_refused f h (front.Refused x) g = record { fault = f; found = h; is = g }
@@ -51,7 +57,6 @@ module _ (ts : PlainTokens) where
   fault_given f k = grammar_refused f (record {
     refused = refused (unit (vocabulary ts) ts.names) true first_function (λ _. first_function) (unit_exact (vocabulary ts) ts.names) ts.list f k;
     unread = not_read (Err f) k (λ p q. cc);
-    stops = stopped (Err f) f k refl;
   })
 
   -- a fault was given
@@ -67,7 +72,6 @@ module _ (ts : PlainTokens) where
       grammar_refused (At (length (t ∷ rest))) (record {
         refused = record { front = f.front; rest = t ∷ rest; longest = f.longest; place = refl; within = f.within };
         unread = not_read (Ok (p, t ∷ rest)) k (λ q same. let none : t ∷ rest ≡ [] = ap (λ (x : TranslationUnit × List PlainToken). x.1) (ok_is (p, t ∷ rest) (q, []) same) in cc);
-        stops = stopped (Ok (p, t ∷ rest)) (At (length (t ∷ rest))) k refl;
       }) e g
 
 -- ---- the same of the slices that were read

@@ -6,6 +6,7 @@ use Rattle.grammar.specs.Exact.{IsExact, IsGood}
 use Rattle.grammar.proofs.Sets.{within, apart}
 use Rattle.grammar.proofs.Parts.{widen, none_exact, gives_exact}
 use Rattle.grammar.proofs.Bounds.{then_good, same_good}
+use Rattle.grammar.proofs.Labels.{Unlimited, late_gives, late_one, late_then, late_choice, late_many, late_knot}
 use Rattle.grammar.proofs.Productions.{seq, after, either, again_and_again, declared, given, same, counted, knot_exact, knot_is, seq_to, made, either_to, maybe_to}
 use Rattle.c_syntax.specs.declared.place.Place.{Place}
 use Rattle.c_syntax.specs.Ctypes.{PlainType}
@@ -22,6 +23,7 @@ use Rattle.c_model.specs.Punctuators.{assign, semicolon, comma, left_paren, righ
 use Rattle.c_model.specs.ExpressionGrammar.{name_kind, number_kind, letter_kind, annot_open_kind, annot_close_kind, keyword_kind, mark_kind, word_kind, token_kind, kind, placed, kinds_of, first_type, first_expression, first_effect, expression_limit, most_in_expression, name}
 use Rattle.c_model.specs.ProgramGrammar.{first_statement, first_item, is_open, Counts, Counted, most_declarators, declared_name, declarator, next_declarator, declaration, is_assert, assert_word, is_term_name, term_name, term_number, sum_operators, relations, atom, sum_once, sum_of, sum, assert_clause, annotation, ended, condition, else_branch, else_part, selection, while_loop, do_loop, for_first, maybe_ended, returned, for_behind, for_loop, jump, return_statement, item, items_once, items, block, empty_statement, effect_statement, statement_of}
 use Rattle.c_expr_parser.proofs.ExactTokens.{IsRead, AreRead, fixed_good, name_good, letter_good, marks_good, placed_good}
+use Rattle.c_expr_parser.proofs.Unlimited.{closed_free}
 use Rattle.c_expr_parser.proofs.ExactTypes.{enlarged, type_good}
 use Rattle.c_expr_parser.proofs.ExactExpressions.{more_or_call, closed_good, full_expression_good, full_expression_or_call_good, full_effect_good, full_effect_or_call_good}
 
@@ -92,10 +94,37 @@ module _ (ws : Vocabulary) where
   clause_good n =
       declared (seq assert_good (λ a. seq sum_good (λ x. seq (marks_good ws (relations ws)) (λ r. seq sum_good (λ y. seq (fixed_good ws (mark_kind semicolon)) (λ _. given _) refl) refl) refl) refl) refl) refl
 
+  -- no token of a clause passes a limit
+
+  atom_free : {E : Syntax PlainToken LogicTerm} → Unlimited E → Unlimited (atom ws E)
+  unfolding atom
+  atom_free e =
+      late_choice (kind ws) (name_kind ∷ []) (late_then (late_one _) (λ x. late_gives _))
+      (late_choice (kind ws) (number_kind ∷ []) (late_then (late_one _) (λ x. late_gives _))
+      (late_choice (kind ws) (letter_kind ∷ []) (late_then (late_one _) (λ x. late_gives _))
+      (late_then (late_one _) (λ _. late_then e (λ t. closed_free ws t)))))
+
+  sum_once_free : {E : Syntax PlainToken LogicTerm} → Unlimited E → (x : LogicTerm) → Unlimited (sum_once ws E x)
+  unfolding sum_once
+  sum_once_free e x = late_then (late_one _) (λ op. late_then (atom_free e) (λ t. late_gives _))
+
+  sum_of_free : {E : Syntax PlainToken LogicTerm} → Unlimited E → Unlimited (sum_of ws E)
+  unfolding sum_of
+  sum_of_free e = late_then (atom_free e) (λ t. late_many (kind ws) (λ _. kinds_of (sum_operators ws)) (sum_once_free e) t)
+
+  sum_free : Unlimited (sum ws)
+  unfolding sum
+  sum_free = late_knot {S = Unit {0}} (λ E e u. sum_of_free (e u)) tt
+
+  clause_free : (n : ℕ) → Unlimited (assert_clause ws n)
+  unfolding assert_clause
+  clause_free n =
+      late_then (late_one _) (λ a. late_then sum_free (λ left. late_then (late_one _) (λ r. late_then sum_free (λ right. late_then (late_one _) (λ _. late_gives _)))))
+
   annotation_good : (n : Counts) → IsRead ws (annotation ws n) false (annot_open_kind ∷ []) []
   unfolding annotation
   annotation_good n =
-      declared (seq (fixed_good ws annot_open_kind) (λ _. seq (counted expression_limit most_in_expression (clause_good n.annotation)) (λ a. seq (fixed_good ws annot_close_kind) (λ _. given _) refl) refl) refl) refl
+      declared (seq (fixed_good ws annot_open_kind) (λ _. seq (counted expression_limit most_in_expression (clause_free n.annotation) (clause_free n.annotation) (clause_good n.annotation)) (λ a. seq (fixed_good ws annot_close_kind) (λ _. given _) refl) refl) refl) refl
 
   -- ---- declarations
 

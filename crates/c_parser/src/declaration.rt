@@ -1,11 +1,11 @@
 //! Declarations (C99 6.7).
 
-ghost use Rattle.std.specs.Prelude.{◌≡◌, ◌<◌, length, map, IfOk, [], ◌∷◌};
+ghost use Rattle.std.specs.Prelude.{◌≡◌, ◌<◌, length, map, IfOk, IfErr, [], ◌∷◌};
 ghost use Rattle.c_syntax.specs.Ctypes.{plain_type};
 ghost use Rattle.c_syntax.specs.Expressions.{plain_expr};
 ghost use Rattle.c_syntax.specs.Statements.{plain_decl, plain_item};
 ghost use Rattle.c_model.specs.ProgramGrammar.{most_declarators, initialised, declared_name, declarator, next_declarator, declaration};
-ghost use Rattle.c_expr_parser.specs.Reading.{Gives, plain_list};
+ghost use Rattle.c_expr_parser.specs.Reading.{Gives, TakesNoMemory, plain_list};
 ghost use Rattle.c_parser.specs.Reading.{plain_counts, more_declarators};
 
 use crate::counts::Counts;
@@ -31,6 +31,7 @@ fn declared_name<'a>(
 ) -> Result<(u32, Place, &'a [Token]), ReadFault>
     ensures read { Gives (λ x. ((x.0, x.1), plain_list x.2.now)) result ((declared_name words.now (plain_counts counts)).parse (plain_list tokens.now)) }
     ensures few { IfOk result (λ x. counts.declarators < most_declarators) }
+    ensures sure { IfErr result TakesNoMemory }
 {
     if counts.declarators < MOST_DECLARATORS {
         name(words, tokens)

@@ -1,11 +1,11 @@
 //! Parameters of functions (C99 6.7.5.3).
 
-ghost use Rattle.std.specs.Prelude.{◌≡◌, map, []};
+ghost use Rattle.std.specs.Prelude.{◌≡◌, map, [], IfErr};
 ghost use Rattle.c_syntax.specs.Ctypes.{plain_type};
 ghost use Rattle.c_syntax.specs.Statements.{plain_decl};
 ghost use Rattle.c_model.specs.ExpressionGrammar.{closed};
 ghost use Rattle.c_model.specs.ProgramGrammar.{parameter_with, parameter_name, void_parameter, parameter_behind, parameter, next_parameter, more_parameters, first_parameter, parameters};
-ghost use Rattle.c_expr_parser.specs.Reading.{Gives, plain_list, plain_start};
+ghost use Rattle.c_expr_parser.specs.Reading.{Gives, TakesNoMemory, plain_list, plain_start};
 ghost use Rattle.c_parser.specs.Reading.{further_parameters};
 
 use crate::kinds::CONST;
@@ -40,7 +40,8 @@ fn parameter_name<'a>(
     place: Place,
     tokens: &'a [Token],
 ) -> Result<(Decl, &'a [Token]), ReadFault>
-    ensures { Gives (λ x. (plain_decl x.0, plain_list x.1.now)) result ((parameter_name words.now (plain_type ctype) (number, place)).parse (plain_list tokens.now)) }
+    ensures read { Gives (λ x. (plain_decl x.0, plain_list x.1.now)) result ((parameter_name words.now (plain_type ctype) (number, place)).parse (plain_list tokens.now)) }
+    ensures sure { IfErr result TakesNoMemory }
 {
     if next_is(words, NAME, tokens) {
         let (number, place, rest) = name(words, tokens)?;
@@ -58,7 +59,8 @@ fn void_parameter<'a>(
     place: Place,
     tokens: &'a [Token],
 ) -> Result<(Decl, &'a [Token]), ReadFault>
-    ensures { Gives (λ x. (plain_decl x.0, plain_list x.1.now)) result ((void_parameter words.now (number, place)).parse (plain_list tokens.now)) }
+    ensures read { Gives (λ x. (plain_decl x.0, plain_list x.1.now)) result ((void_parameter words.now (number, place)).parse (plain_list tokens.now)) }
+    ensures sure { IfErr result TakesNoMemory }
 {
     if next_is(words, CONST, tokens) {
         let (_, rest) = skip(words, CONST, tokens)?;
@@ -79,7 +81,8 @@ fn parameter_behind<'a>(
     place: Place,
     tokens: &'a [Token],
 ) -> Result<(Decl, &'a [Token]), ReadFault>
-    ensures { Gives (λ x. (plain_decl x.0, plain_list x.1.now)) result ((parameter_behind words.now (plain_start start) (number, place)).parse (plain_list tokens.now)) }
+    ensures read { Gives (λ x. (plain_decl x.0, plain_list x.1.now)) result ((parameter_behind words.now (plain_start start) (number, place)).parse (plain_list tokens.now)) }
+    ensures sure { IfErr result TakesNoMemory }
 {
     match start {
         TypeStart::Void => void_parameter(words, number, place, tokens),
@@ -93,7 +96,8 @@ fn parameter_behind<'a>(
 /// `type [ NAME ]`
 #[tactic(auto, unfolding(c_model::specs::ProgramGrammar::parameter))]
 fn parameter<'a>(words: &[Word], tokens: &'a [Token]) -> Result<(Decl, &'a [Token]), ReadFault>
-    ensures { Gives (λ x. (plain_decl x.0, plain_list x.1.now)) result ((parameter words.now).parse (plain_list tokens.now)) }
+    ensures read { Gives (λ x. (plain_decl x.0, plain_list x.1.now)) result ((parameter words.now).parse (plain_list tokens.now)) }
+    ensures sure { IfErr result TakesNoMemory }
 {
     let (start, number, place, rest) = type_start(words, tokens)?;
     parameter_behind(words, start, number, place, rest)

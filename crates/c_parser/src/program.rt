@@ -1,11 +1,11 @@
 //! Functions and whole texts (C99 6.9).
 
-ghost use Rattle.std.specs.Prelude.{ℕ, List, ◌≡◌, ◌<◌, length, map, IfOk, option_map};
+ghost use Rattle.std.specs.Prelude.{ℕ, List, ◌≡◌, ◌<◌, length, map, IfOk, IfErr, option_map};
 ghost use Rattle.c_syntax.specs.Ctypes.{plain_type};
 ghost use Rattle.c_syntax.specs.Statements.{plain_decl, plain_stmt};
 ghost use Rattle.c_syntax.specs.Programs.{plain_func, plain_program};
 ghost use Rattle.c_model.specs.ProgramGrammar.{function_with, unit_with, storage_word, result_type, function_rest, function, one_more_function, unit};
-ghost use Rattle.c_expr_parser.specs.Reading.{Gives, plain_list};
+ghost use Rattle.c_expr_parser.specs.Reading.{Gives, TakesNoMemory, plain_list};
 ghost use Rattle.c_parser.specs.Reading.{plain_body, plain_unit, more_storage, function_body, more_functions};
 
 use crate::counts::Counts;
@@ -33,6 +33,7 @@ fn storage_word<'a>(
 ) -> Result<(bool, &'a [Token]), ReadFault>
     ensures read { Gives (λ x. (x.0, plain_list x.1.now)) result ((storage_word words.now seen).parse (plain_list tokens.now)) }
     ensures shorter { IfOk result (λ x. length x.1.now < length tokens.now) }
+    ensures sure { IfErr result TakesNoMemory }
 {
     if next_is(words, STATIC, tokens) {
         if seen {
@@ -54,7 +55,8 @@ fn more_storage<'a>(
     seen: bool,
     tokens: &'a [Token],
 ) -> Result<(bool, &'a [Token]), ReadFault>
-    ensures { Gives (λ x. (x.0, plain_list x.1.now)) result ((more_storage words.now seen).parse (plain_list tokens.now)) }
+    ensures read { Gives (λ x. (x.0, plain_list x.1.now)) result ((more_storage words.now seen).parse (plain_list tokens.now)) }
+    ensures sure { IfErr result TakesNoMemory }
 {
     let mut seen = seen;
     let mut rest = tokens;
@@ -69,7 +71,8 @@ fn more_storage<'a>(
 /// `{ "static" | "const" } base { "const" }`
 #[tactic(auto, unfolding(c_model::specs::ProgramGrammar::result_type, crate::specs::Reading::more_storage))]
 fn result_type<'a>(words: &[Word], tokens: &'a [Token]) -> Result<(CType, &'a [Token]), ReadFault>
-    ensures { Gives (λ x. (plain_type x.0, plain_list x.1.now)) result ((result_type words.now).parse (plain_list tokens.now)) }
+    ensures read { Gives (λ x. (plain_type x.0, plain_list x.1.now)) result ((result_type words.now).parse (plain_list tokens.now)) }
+    ensures sure { IfErr result TakesNoMemory }
 {
     let (_, rest) = more_storage(words, false, tokens)?;
     let (t, rest) = base(words, rest)?;

@@ -1,7 +1,7 @@
 //! From the tokens of a text of annotated C to its tree, or to its refusal.
 
 ghost use Rattle.std.specs.Prelude.{ℕ, List, ◌≡◌, MatchResult};
-ghost use Rattle.grammar.specs.Exact.{AtMostOne};
+ghost use Rattle.grammar.specs.Exact.{AtMostOne, ReadingsBegin, FrontsBegin, OneLimit};
 ghost use Rattle.c_syntax.specs.Tokens.{plain_tokens};
 ghost use Rattle.c_syntax.specs.Programs.{plain_program};
 ghost use Rattle.c_model.specs.Vocabulary.{Vocabulary};
@@ -39,7 +39,11 @@ pub fn read_program(alloc: Global, tokens: &mut Tokens) -> Result<Program, Front
     }
 }
 
-/// Tokens are read in one way at most.
+/// Tokens are read in one way at most. A program begins one, and so does what begins the tokens that begin one. No token passes two
+/// limits.
 pub fn one_reading()
-    ensures { (words : Vocabulary) (names : List (List ℕ)) → AtMostOne (unit words names) }
+    ensures one { (words : Vocabulary) (names : List (List ℕ)) → AtMostOne (unit words names) }
+    ensures begun { (words : Vocabulary) (names : List (List ℕ)) → ReadingsBegin (unit words names) }
+    ensures fronts { (words : Vocabulary) (names : List (List ℕ)) → FrontsBegin (unit words names) }
+    ensures limits { (words : Vocabulary) (names : List (List ℕ)) → OneLimit (unit words names) }
 {}

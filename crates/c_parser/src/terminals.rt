@@ -1,11 +1,11 @@
 //! Single tokens of annotations, and tests of the next token.
 
-ghost use Rattle.std.specs.Prelude.{◌≡◌, ◌<◌, length, IfOk, [], ◌∷◌};
+ghost use Rattle.std.specs.Prelude.{◌≡◌, ◌<◌, length, IfOk, IfErr, [], ◌∷◌};
 ghost use Rattle.grammar.specs.Syntax.{among, sees, one};
 ghost use Rattle.c_model.specs.declared.vocabulary.Keyword.TheVariants as keyword;
 ghost use Rattle.c_model.specs.ExpressionGrammar.{kind, keyword_kind, placed, first_type, first_effect};
 ghost use Rattle.c_model.specs.ProgramGrammar.{first_statement, first_item, first_function, storage_words, assert_word, term_name, term_number};
-ghost use Rattle.c_expr_parser.specs.Reading.{Gives, plain_list};
+ghost use Rattle.c_expr_parser.specs.Reading.{Gives, TakesNoMemory, plain_list};
 
 use crate::kinds::{
     BREAK, CONST, CONTINUE, DO, FOR, IF, LEFT_BRACE, RETURN, SEMICOLON, SIZEOF, STATIC, VOID, WHILE,
@@ -26,6 +26,7 @@ pub fn assert_word<'a>(
 ) -> Result<(Place, &'a [Token]), ReadFault>
     ensures read { Gives (λ x. ((tt, x.0), plain_list x.1.now)) result ((one (placed (assert_word words.now))).parse (plain_list tokens.now)) }
     ensures shorter { IfOk result (λ x. length x.1.now < length tokens.now) }
+    ensures sure { IfErr result TakesNoMemory }
 {
     match tokens {
         [] => Err(ReadFault::At(0)),
@@ -46,6 +47,7 @@ pub fn term_name<'a>(
 ) -> Result<(u32, Place, &'a [Token]), ReadFault>
     ensures read { Gives (λ x. ((x.0, x.1), plain_list x.2.now)) result ((one (placed (term_name words.now))).parse (plain_list tokens.now)) }
     ensures shorter { IfOk result (λ x. length x.2.now < length tokens.now) }
+    ensures sure { IfErr result TakesNoMemory }
 {
     match tokens {
         [] => Err(ReadFault::At(0)),
@@ -69,6 +71,7 @@ pub fn term_number<'a>(
 ) -> Result<(i128, Place, &'a [Token]), ReadFault>
     ensures read { Gives (λ x. ((x.0, x.1), plain_list x.2.now)) result ((one (placed (term_number words.now))).parse (plain_list tokens.now)) }
     ensures shorter { IfOk result (λ x. length x.2.now < length tokens.now) }
+    ensures sure { IfErr result TakesNoMemory }
 {
     match tokens {
         [] => Err(ReadFault::At(0)),

@@ -1,13 +1,15 @@
 -- A text has one answer: its program, or its refusal.
 use Rattle.std.proofs.Common.{◌≡◌, ℕ, List, Option, Some, None, Result, Ok, Err, refl, sym, ap, subst, ◌∙◌}
 use Rattle.grammar.specs.Syntax as grammar
+use Rattle.grammar.proofs.OneAnswer.{one_fault}
 use Rattle.c_syntax.specs.Tokens.{PlainToken, PlainTokens}
 use Rattle.c_syntax.specs.Programs.{TranslationUnit, PlainRefusal}
 use Rattle.c_model.specs.CTokens.{tokens_of}
 use Rattle.c_model.specs.Checked.{Fault, Checked, Good, Bad, least, refusing}
 use Rattle.c_model.specs.ProgramTyping.{typed_unit, main_fault, noted_unit}
 use Rattle.c_model.specs.ProgramGrammar.{unit}
-use Rattle.c_model.specs.Phases.{vocabulary, IsRead, StopsWith, IsSyntaxFault, syntax_refusal, checked_refusal, main_refusal, AcceptedText, RefusedText, ByTokens, ByGrammar, ByNamesAndTypes, ForMain, ByAnnotations}
+use Rattle.c_model.specs.Phases.{vocabulary, IsRead, IsSyntaxFault, syntax_refusal, checked_refusal, main_refusal, AcceptedText, RefusedText, ByTokens, ByGrammar, ByNamesAndTypes, ForMain, ByAnnotations}
+use Rattle.c_parser.proofs.Answers.{fronts, limits}
 use Rattle.c_parser.proofs.ExactPrograms.{one_unit}
 
 abbrev pub Answer : Type 0
@@ -72,15 +74,14 @@ broken_apart text r ts e k = cc
 one_broken : (text : List ℕ) (r s : PlainRefusal) → tokens_of text ≡ Err r → tokens_of text ≡ Err s → r ≡ s
 one_broken text r s e k = cc
 
-one_stop : {A : Type 0} (w : Result (A × List PlainToken) grammar.Fault) (f g : grammar.Fault) → StopsWith w f → StopsWith w g → f ≡ g
-one_stop (Ok x) f g e k = e ∙ sym k
-one_stop (Err y) f g e k = e ∙ sym k
+one_syntax_fault : (ts : PlainTokens) (f g : grammar.Fault) → IsSyntaxFault ts f → IsSyntaxFault ts g → f ≡ g
+one_syntax_fault ts f g x y = one_fault (unit (vocabulary ts) ts.names) (fronts (vocabulary ts) ts.names) ts.list (limits (vocabulary ts) ts.names) f g x.refused y.refused
 
 both_unread : (text : List ℕ) (a b : Answer) → IsUnread text a → IsUnread text b → a ≡ b
 both_unread text a b x y =
     let same = one_tokens text y.tokens x.tokens y.has x.has in
     let moved = subst (λ (ts : PlainTokens). IsSyntaxFault ts y.fault) same y.found in
-    let fault = one_stop ((unit (vocabulary x.tokens) x.tokens.names).parse x.tokens.list) x.fault y.fault x.found.stops moved.stops in
+    let fault = one_syntax_fault x.tokens x.fault y.fault x.found moved in
     x.is ∙ (λ i. Err (syntax_refusal (sym same i) (fault i))) ∙ sym y.is
 
 unread_apart : (text : List ℕ) (a b : Answer) → IsUnread text a → HasTree text b → ⊥

@@ -1,6 +1,6 @@
 -- Recursion by a bound: two neighbouring bounds agree on short texts, and so any bound that is large enough does.
 use Rattle.std.proofs.Common.{◌≡◌, ℕ, zero, suc, ◌+◌, ◌-◌, ◌<◌, ◌≤◌, Bool, true, false, List, [], ◌∷◌, ◌++◌, length, Result, Ok, Err, refl, sym, ◌∙◌, ap, subst, ◌⊎◌, inl, inr, arith, length-append}
-use Rattle.grammar.specs.Syntax.{Syntax, Fault, At, Over, sees, none, gives, ◌then◌, choice, loop, limit, many, ◌>>=◌}
+use Rattle.grammar.specs.Syntax.{Syntax, Fault, At, Over, among, sees, none, gives, ◌then◌, choice, loop, limit, many, ◌>>=◌}
 use Rattle.grammar.specs.Exact.{Takes, Fails, Overs, Late, RunsOut, IsExact, IsGood}
 use Rattle.grammar.proofs.Sets.{within, apart, within_self}
 use Rattle.grammar.proofs.Parts.{ThenFits, ChoiceFits, nil_front, none_exact, gives_exact, then_exact, choice_exact}
@@ -275,6 +275,15 @@ module _ {T : Type 0} (K : T → ℕ) where
         let m = b.0 + suc (length a) in
         rw (agree_of m a (omega arith)) ((good m).here.runs a (begun_le b.0 m a (omega arith) b.1))
 
+    limit_single : (a : List T) (x y : A) → (limit F).reads a x → (limit F).reads a y → x ≡ y
+    limit_single a x y r s = let m = r.0 + s.0 in (good m).here.single a x y (reads_le r.0 m a x (omega arith) r.1) (reads_le s.0 m a y (omega arith) s.1)
+
+    limit_goes_on : (a : List T) (x : A) (t : T) (u : List T) → (limit F).reads a x → (limit F).begun (a ++ (t ∷ u)) → among (K t) (more x) ≡ true
+    limit_goes_on a x t u r b = let m = r.0 + b.0 in (good m).here.goes_on a x t u (reads_le r.0 m a x (omega arith) r.1) (begun_le b.0 m (a ++ (t ∷ u)) (omega arith) b.1)
+
+    limit_one_limit : (i j : ℕ) (a : List T) (t : T) → (limit F).late i a t → (limit F).late j a t → i ≡ j
+    limit_one_limit i j a t l k = let m = l.0 + k.0 in (good m).here.one_limit i j a t (late_le l.0 m i a t (omega arith) l.1) (late_le k.0 m j a t (omega arith) k.1)
+
     pub limit_exact : IsExact K (limit F) null first more
     limit_exact = record {
       takes = limit_takes;
@@ -289,6 +298,9 @@ module _ {T : Type 0} (K : T → ℕ) where
       empty = (0, (good 0).here.empty);
       starts = λ t ts b. (good b.0).here.starts t ts b.1;
       filled = λ x r. (good r.0).here.filled x r.1;
+      single = limit_single;
+      goes_on = limit_goes_on;
+      one_limit = limit_one_limit;
     }
 
   -- a bound, and no bound

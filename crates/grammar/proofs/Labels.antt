@@ -6,6 +6,10 @@ use Rattle.grammar.specs.Syntax.{Syntax, none, gives, one, ◌then◌, choice, l
 pub record EachLate {T A : Type 0} (G : Syntax T A) (P : ℕ → T → Type 0) : Type 0 where
   pub holds : (i : ℕ) (a : List T) (t : T) → G.late i a t → P i t
 
+-- no token of G passes a limit
+abbrev pub Unlimited : {T A : Type 0} → Syntax T A → Type 0
+Unlimited G = EachLate G (λ i t. ⊥)
+
 module _ {T : Type 0} {P : ℕ → T → Type 0} where
   pub late_none : {A : Type 0} → EachLate (none {A = A}) P
   late_none = record { holds = λ i a t l. absurd l }

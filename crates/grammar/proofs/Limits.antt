@@ -7,6 +7,7 @@ use Rattle.grammar.specs.Syntax.{Syntax, Fault, At, Over, among, sees, deep, at_
 use Rattle.grammar.specs.Exact.{SameHead, Takes, Fails, Overs, Late, RunsOut, IsExact, IsGood}
 use Rattle.grammar.proofs.Sets.{sees_same}
 use Rattle.grammar.proofs.Parts.{nil_front, front_parts}
+use Rattle.grammar.proofs.Labels.{Unlimited}
 
 module _ {T : Type 0} (K : T → ℕ) where
   deep_fails : {A : Type 0} (label : ℕ) (ks : List ℕ) (G : Syntax T A) → G.begun [] → (b : Bool) (ts : List T) (n : ℕ) → sees K ks ts ≡ b → (deep label K ks G).parse ts ≡ Err (At n) → Fails (deep label K ks G).parse (deep label K ks G).begun ts n
@@ -28,7 +29,7 @@ module _ {T : Type 0} (K : T → ℕ) where
   deep_ok label ks G false ts x r s e = let k : (deep label K ks G).parse ts ≡ Err (At (length ts)) = rw s refl in cc
 
   -- one too deep: G is the production without the limit, and each token of its first set begins it
-  module _ {A : Type 0} (label : ℕ) (ks : List ℕ) (G : Syntax T A) (m1 more : A → List ℕ) (g : IsExact K G false ks m1) (opens : (t : T) → among (K t) ks ≡ true → G.begun (t ∷ [])) where
+  module _ {A : Type 0} (label : ℕ) (ks : List ℕ) (G : Syntax T A) (more : A → List ℕ) (g : IsExact K G false ks more) (opens : (t : T) → among (K t) ks ≡ true → G.begun (t ∷ [])) where
     deep_again : (a : List T) (x : A) (b : List T) → G.reads a x → ((deep label K ks G).parse (a ++ b) ≡ Ok (x, b)) ⊎ Late ((deep label K ks G).parse (a ++ b)) (suc (length b))
     deep_again [] x b r = absurd (let e = g.filled x r in cc)
     deep_again (t ∷ a) x b r = inr (record { label = label; left = suc (length (a ++ b)); enough = omega (arith, length-append a b); is = rw (g.starts t a (g.begins (t ∷ a) x r)) refl })
@@ -54,6 +55,9 @@ module _ {T : Type 0} (K : T → ℕ) where
       empty = g.empty;
       starts = g.starts;
       filled = g.filled;
+      single = g.single;
+      goes_on = g.goes_on;
+      one_limit = λ i j a t l k. l.0 ∙ sym k.0;
     }
 
   -- a token that is not refused at once begins the production
@@ -314,8 +318,14 @@ module _ {T : Type 0} (K : T → ℕ) {A : Type 0} (label n : ℕ) (G : Syntax T
   at_most_late_begins i a t (inl l) = g.late_begins i a t l
   at_most_late_begins i a t (inr l) = l.2
 
-  pub at_most_exact : IsExact K (at_most label n G) null first more
-  at_most_exact = record {
+  -- the limit is the only one, if no token of G passes any
+  at_most_one_limit : Unlimited G → (i j : ℕ) (a : List T) (t : T) → (at_most label n G).late i a t → (at_most label n G).late j a t → i ≡ j
+  at_most_one_limit free i j a t (inl l) k = absurd (free.holds i a t l)
+  at_most_one_limit free i j a t (inr l) (inl k) = absurd (free.holds j a t k)
+  at_most_one_limit free i j a t (inr l) (inr k) = l.0 ∙ sym k.0
+
+  pub at_most_exact : Unlimited G → IsExact K (at_most label n G) null first more
+  at_most_exact free = record {
     takes = at_most_takes;
     fails = at_most_fails;
     overs = at_most_overs;
@@ -328,6 +338,9 @@ module _ {T : Type 0} (K : T → ℕ) {A : Type 0} (label n : ℕ) (G : Syntax T
     empty = g.empty;
     starts = g.starts;
     filled = λ x r. g.filled x r.0;
+    single = λ a x y r s. g.single a x y r.0 s.0;
+    goes_on = λ a x t u r b. g.goes_on a x t u r.0 b;
+    one_limit = at_most_one_limit free;
   }
 
   -- ---- no more than n + 1 tokens need be read
@@ -432,10 +445,10 @@ module _ {T : Type 0} (K : T → ℕ) {A : Type 0} (label most n : ℕ) (G H : S
   at_most_late_back b l i a t lt (inl h) = inl (l i a t lt h)
   at_most_late_back b l i a t lt (inr h) = inr (h.0, h.1, b (a ++ (t ∷ [])) (omega (arith, length-append a (t ∷ []))) h.2)
 
-  pub at_most_good : IsGood K n G H null first more → IsGood K n (at_most label most G) (at_most label most H) null first more
-  at_most_good g = record {
-    here = at_most_exact K label most G null first more g.here;
-    there = at_most_exact K label most H null first more g.there;
+  pub at_most_good : Unlimited G → Unlimited H → IsGood K n G H null first more → IsGood K n (at_most label most G) (at_most label most H) null first more
+  at_most_good free free' g = record {
+    here = at_most_exact K label most G null first more g.here free;
+    there = at_most_exact K label most H null first more g.there free';
     reads = λ a x r. (g.reads a x r.0, r.1);
     begun = g.begun;
     late = at_most_late g.begun g.late;

@@ -1,5 +1,6 @@
 -- The parts of a grammar are read exactly.
 use Rattle.std.proofs.Common.{◌≡◌, ℕ, suc, Bool, true, false, cond, List, [], ◌∷◌, ◌++◌, length, Result, Ok, Err, Option, Some, None, refl, sym, ◌∙◌, ap, subst, ◌⊎◌, inl, inr, append_assoc, arith, length-append}
+use Rattle.std.proofs.lemmas.List.{append-nil}
 use Rattle.grammar.specs.Syntax.{Syntax, among, sees, none, gives, one, one_at, ◌then◌, choice, ◌>>=◌, Fault, At, Over}
 use Rattle.grammar.specs.Exact.{SameHead, Takes, Fails, Overs, Late, RunsOut, IsExact}
 use Rattle.grammar.proofs.Sets.{within, apart, not_both, within_among, apart_among, sees_within, sees_same, same_head}
@@ -39,6 +40,33 @@ front_parts (t ∷ a) b (u ∷ c) d e =
     behind (inl p) same = inl (p.0, rw (same, p.1) refl)
     behind (inr p) same = inr (p.0, rw (same, p.1) refl, p.2)
 
+-- the same, with what stands behind both
+parted : {T : Type 0} (a b c d : List T) → a ++ b ≡ c ++ d → ((e : List T) × (c ≡ a ++ e) × (b ≡ e ++ d)) ⊎ ((e : List T) × (a ≡ c ++ e) × (d ≡ e ++ b))
+parted [] b c d e = inl (c, refl, e)
+parted (t ∷ a) b [] d e = inr (t ∷ a, refl, sym e)
+parted (t ∷ a) b (u ∷ c) d e =
+    let same : t ≡ u = cc in
+    let rest : a ++ b ≡ c ++ d = cc in
+    behind (parted a b c d rest) same
+  where
+    behind : ((e : List _) × (c ≡ a ++ e) × (b ≡ e ++ d)) ⊎ ((e : List _) × (a ≡ c ++ e) × (d ≡ e ++ b)) → t ≡ u → ((e : List _) × (u ∷ c ≡ t ∷ a ++ e) × (b ≡ e ++ d)) ⊎ ((e : List _) × (t ∷ a ≡ u ∷ c ++ e) × (d ≡ e ++ b))
+    behind (inl p) same = inl (p.0, rw (same, p.1) refl, p.2)
+    behind (inr p) same = inr (p.0, rw (same, p.1) refl, p.2)
+
+same_rest : {T : Type 0} (a b c : List T) → a ++ b ≡ a ++ c → b ≡ c
+same_rest [] b c e = e
+same_rest (t ∷ a) b c e = let rest : a ++ b ≡ a ++ c = cc in same_rest a b c rest
+
+no_end : {T : Type 0} (a : List T) (t : T) (u : List T) → a ++ (t ∷ u) ≡ [] → ⊥
+no_end [] t u e = cc
+no_end (v ∷ a) t u e = cc
+
+abbrev value : {A : Type 0} → A → Option A
+value x = Some x
+
+value_is : {A : Type 0} (x y : A) → value x ≡ value y → x ≡ y
+value_is x y e = cc
+
 -- What a sequence asks of its parts, whose values are in R where the second part is empty.
 pub record ThenFits (A B : Type 0) (R : A → B → Type 0) (n1 : Bool) (f1 : List ℕ) (m1 : A → List ℕ) (n2 : Bool) (f2 : A → List ℕ) (m2 : A → B → List ℕ) (null : Bool) (first : List ℕ) (more : B → List ℕ) : Type 0 where
   pub clash : (x : A) → apart (f2 x) (m1 x) ≡ true
@@ -75,6 +103,9 @@ module _ {T : Type 0} (K : T → ℕ) where
     empty = refl;
     starts = λ t ts h. absurd cc;
     filled = λ x h. absurd h;
+    single = λ a x y r s. absurd r;
+    goes_on = λ a x t u r b. absurd r;
+    one_limit = λ i j a t l k. absurd l;
   }
 
   pub gives_exact : {A : Type 0} (x : A) → IsExact K (gives x) true [] (λ y. [])
@@ -95,6 +126,9 @@ module _ {T : Type 0} (K : T → ℕ) where
     empty = refl;
     starts = λ t ts h. absurd cc;
     filled = λ y h. refl;
+    single = λ a y z r s. sym r.1 ∙ s.1;
+    goes_on = λ a y t u r b. absurd (no_end a t u b);
+    one_limit = λ i j a t l k. absurd l;
   }
 
   -- ---- one token
@@ -149,6 +183,17 @@ module _ {T : Type 0} (K : T → ℕ) where
   one_fronts f (t ∷ a) b (inl e) = absurd cc
   one_fronts f (t ∷ a) b (inr w) = let e = w.2 in let z : a ≡ [] = nil_front a b cc in let same : t ≡ w.0 = cc in inr (w.0, w.1, rw (same, z) refl, w.3)
 
+  one_single : {A : Type 0} (f : T → Option A) (a : List T) (x y : A) → (one f).reads a x → (one f).reads a y → x ≡ y
+  one_single f a x y r s =
+      let e = r.1 in
+      let k = s.1 in
+      let same : r.0 ≡ s.0 = cc in
+      value_is x y (sym r.2 ∙ ap f same ∙ s.2)
+
+  one_goes_on : {A : Type 0} (f : T → Option A) (ks : List ℕ) (a : List T) (x : A) (t : T) (u : List T) → (one f).reads a x → (one f).begun (a ++ (t ∷ u)) → among (K t) ks ≡ true
+  one_goes_on f ks a x t u r (inl e) = absurd (no_end a t u e)
+  one_goes_on f ks a x t u r (inr w) = absurd (omega (arith, ap length r.1, ap length w.2, length-append a (t ∷ u)))
+
   pub one_exact : {A : Type 0} (f : T → Option A) (ks : List ℕ) → ((t : T) (x : A) → f t ≡ Some x → among (K t) ks ≡ true) → IsExact K (one f) false ks (λ x. [])
   one_exact f ks h = record {
     takes = one_ok f;
@@ -163,6 +208,9 @@ module _ {T : Type 0} (K : T → ℕ) where
     empty = inl refl;
     starts = one_starts f ks h;
     filled = λ x r. absurd (let e = r.1 in cc);
+    single = one_single f;
+    goes_on = one_goes_on f [];
+    one_limit = λ i j a t l k. absurd l;
   }
 
   -- ---- a sequence
@@ -306,6 +354,86 @@ module _ {T : Type 0} (K : T → ℕ) where
     then_fronts a b (inl s) = inl (g.fronts a b s)
     then_fronts a b (inr r) = fronts_second a b r.0 r.1 r.2 r.4 r.5 (front_parts a b r.0 r.1 r.3)
 
+    -- ---- one value, and what goes on behind it
+
+    clash_behind : (b : List T) (x : A) (v : T) (e : List T) → G.reads b x → G.begun (b ++ (v ∷ e)) → (ts : List T) → (H x).begun (v ∷ ts) → ⊥
+    clash_behind b x v e r bg ts bh = apart_among (f2 x) (m1 x) (K v) (fit.clash x) ((h x).starts v ts bh) (g.goes_on b x v e r bg)
+
+    no_longer : (b c b' c' e : List T) (x : A) → G.reads b x → G.begun b' → b' ≡ b ++ e → c ≡ e ++ c' → (H x).begun c → e ≡ []
+    no_longer b c b' c' [] x r bg p q bh = refl
+    no_longer b c b' c' (v ∷ e) x r bg p q bh = absurd (clash_behind b x v e r (subst (λ (w : List T). G.begun w) p bg) (e ++ c') (subst (λ (w : List T). (H x).begun w) q bh))
+
+    -- a text is parted in one way at most
+    same_parts : (b c b' c' : List T) (x x' : A) → G.reads b x → G.reads b' x' → (H x).begun c → (H x').begun c' → b ++ c ≡ b' ++ c' → (b ≡ b') × (c ≡ c')
+    same_parts b c b' c' x x' r r' bh bh' e =
+        elim (parted b c b' c' e) [
+          | inl p ↦
+              let z = no_longer b c b' c' p.0 x r (g.begins b' x' r') p.1 p.2 bh in
+              (sym (p.1 ∙ ap (λ (w : List T). b ++ w) z ∙ append-nil b), p.2 ∙ ap (λ (w : List T). w ++ c') z)
+          | inr p ↦
+              let z = no_longer b' c' b c p.0 x' r' (g.begins b x r) p.1 p.2 bh' in
+              (p.1 ∙ ap (λ (w : List T). b' ++ w) z ∙ append-nil b', sym (p.2 ∙ ap (λ (w : List T). w ++ c) z))
+        ]
+
+    same_value : (b b' : List T) (x x' : A) → b ≡ b' → G.reads b x → G.reads b' x' → x ≡ x'
+    same_value b b' x x' p r r' = g.single b' x x' (subst (λ (w : List T). G.reads w x) p r) r'
+
+    then_single : (a : List T) (y z : B) → (G then H).reads a y → (G then H).reads a z → y ≡ z
+    then_single a y z (b, c, x, e, r, s) (b', c', x', e', r', s') =
+        let p = same_parts b c b' c' x x' r r' ((h x).begins c y s) ((h x').begins c' z s') (sym e ∙ e') in
+        let v = same_value b b' x x' p.0 r r' in
+        (h x').single c' y z (subst (λ (w : List T). (H x').reads w y) p.1 (subst (λ (w : A). (H w).reads c y) v s)) s'
+
+    past_both : (b c : List T) (x : A) (y : B) (t : T) (u : List T) → G.reads b x → (H x).reads c y → G.begun (b ++ (c ++ (t ∷ u))) → among (K t) (more y) ≡ true
+    past_both b [] x y t u r s bg = within_among (m1 x) (more y) (K t) (fit.over x y ((h x).filled y s) (ends x y s)) (g.goes_on b x t u r bg)
+    past_both b (v ∷ c) x y t u r s bg = absurd (clash_behind b x v (c ++ (t ∷ u)) r bg c ((h x).begins (v ∷ c) y s))
+
+    past_first : (b c : List T) (x : A) (y : B) (t : T) (u : List T) (v : T) (e rest : List T) → G.reads b x → (H x).reads c y → G.begun (b ++ (v ∷ e)) → c ++ (t ∷ u) ≡ v ∷ rest → among (K t) (more y) ≡ true
+    past_first b [] x y t u v e rest r s bg q =
+        let same : v ≡ t = cc in
+        past_both b [] x y t e r s (subst (λ (w : T). G.begun (b ++ (w ∷ e))) same bg)
+    past_first b (w ∷ c) x y t u v e rest r s bg q =
+        let same : w ≡ v = cc in
+        absurd (clash_behind b x v e r bg c (subst (λ (k : T). (H x).begun (k ∷ c)) same ((h x).begins (w ∷ c) y s)))
+
+    past_second : (b b' c c' : List T) (x x' : A) (y : B) (t : T) (u : List T) → b ≡ b' → c' ≡ c ++ (t ∷ u) → G.reads b x → G.reads b' x' → (H x).reads c y → (H x').begun c' → among (K t) (more y) ≡ true
+    past_second b b' c c' x x' y t u p q r r' s bh =
+        let v = same_value b b' x x' p r r' in
+        let begun = subst (λ (w : A). (H w).begun (c ++ (t ∷ u))) (sym v) (subst (λ (w : List T). (H x').begun w) q bh) in
+        within_among (m2 x y) (more y) (K t) (fit.late x y) ((h x).goes_on c y t u s begun)
+
+    past_parts : (b c b' c' : List T) (x x' : A) (y : B) (t : T) (u : List T) → G.reads b x → G.reads b' x' → (H x).reads c y → (H x').begun c' → ((e : List T) × (b' ≡ b ++ e) × (c ++ (t ∷ u) ≡ e ++ c')) ⊎ ((e : List T) × (b ≡ b' ++ e) × (c' ≡ e ++ (c ++ (t ∷ u)))) → among (K t) (more y) ≡ true
+    past_parts b c b' c' x x' y t u r r' s bh (inl ([], p, q)) = past_second b b' c c' x x' y t u (sym (p ∙ append-nil b)) (sym q) r r' s bh
+    past_parts b c b' c' x x' y t u r r' s bh (inl (v ∷ e, p, q)) = past_first b c x y t u v e (e ++ c') r s (subst (λ (w : List T). G.begun w) p (g.begins b' x' r')) q
+    past_parts b c b' c' x x' y t u r r' s bh (inr ([], p, q)) = past_second b b' c c' x x' y t u (p ∙ append-nil b') q r r' s bh
+    past_parts b c b' c' x x' y t u r r' s bh (inr (v ∷ e, p, q)) = absurd (clash_behind b' x' v e r' (subst (λ (w : List T). G.begun w) p (g.begins b x r)) (e ++ (c ++ (t ∷ u))) (subst (λ (w : List T). (H x').begun w) q bh))
+
+    then_goes_on : (a : List T) (y : B) (t : T) (u : List T) → (G then H).reads a y → (G then H).begun (a ++ (t ∷ u)) → among (K t) (more y) ≡ true
+    then_goes_on a y t u (b, c, x, e, r, s) (inl bg) = past_both b c x y t u r s (subst (λ (w : List T). G.begun w) (ap (λ (w : List T). w ++ (t ∷ u)) e ∙ append_assoc b c (t ∷ u)) bg)
+    then_goes_on a y t u (b, c, x, e, r, s) (inr (b', c', x', e', r', bh)) =
+        past_parts b c b' c' x x' y t u r r' s bh (parted b (c ++ (t ∷ u)) b' c' (sym (ap (λ (w : List T). w ++ (t ∷ u)) e ∙ append_assoc b c (t ∷ u)) ∙ e'))
+
+    late_in_both : (b c : List T) (x : A) (t : T) → G.reads b x → (H x).begun (c ++ (t ∷ [])) → G.begun (b ++ (c ++ (t ∷ []))) → ⊥
+    late_in_both b [] x t r bh bg = clash_behind b x t [] r bg [] bh
+    late_in_both b (v ∷ c) x t r bh bg = clash_behind b x v (c ++ (t ∷ [])) r bg (c ++ (t ∷ [])) bh
+
+    late_parts : (a : List T) (t : T) (b c : List T) (x : A) → a ≡ b ++ c → G.reads b x → (H x).begun (c ++ (t ∷ [])) → G.begun (a ++ (t ∷ [])) → ⊥
+    late_parts a t b c x e r bh bg = late_in_both b c x t r bh (subst (λ (w : List T). G.begun w) (ap (λ (w : List T). w ++ (t ∷ [])) e ∙ append_assoc b c (t ∷ [])) bg)
+
+    one_second : (i j : ℕ) (t : T) (b c b' c' : List T) (x x' : A) → b ++ c ≡ b' ++ c' → G.reads b x → G.reads b' x' → (H x).late i c t → (H x').late j c' t → i ≡ j
+    one_second i j t b c b' c' x x' e r r' l k =
+        let whole = sym (append_assoc b c (t ∷ [])) ∙ ap (λ (w : List T). w ++ (t ∷ [])) e ∙ append_assoc b' c' (t ∷ []) in
+        let p = same_parts b (c ++ (t ∷ [])) b' (c' ++ (t ∷ [])) x x' r r' ((h x).late_begins i c t l) ((h x').late_begins j c' t k) whole in
+        let v = same_value b b' x x' p.0 r r' in
+        let rest : c ≡ c' = same_rest b' c c' (ap (λ (w : List T). w ++ c) (sym p.0) ∙ e) in
+        (h x').one_limit i j c' t (subst (λ (w : List T). (H x').late i w t) rest (subst (λ (w : A). (H w).late i c t) v l)) k
+
+    then_one_limit : (i j : ℕ) (a : List T) (t : T) → (G then H).late i a t → (G then H).late j a t → i ≡ j
+    then_one_limit i j a t (inl l) (inl k) = g.one_limit i j a t l k
+    then_one_limit i j a t (inl l) (inr (b, c, x, e, r, k)) = absurd (late_parts a t b c x e r ((h x).late_begins j c t k) (g.late_begins i a t l))
+    then_one_limit i j a t (inr (b, c, x, e, r, l)) (inl k) = absurd (late_parts a t b c x e r ((h x).late_begins i c t l) (g.late_begins j a t k))
+    then_one_limit i j a t (inr (b, c, x, e, r, l)) (inr (b', c', x', e', r', k)) = one_second i j t b c b' c' x x' (sym e ∙ e') r r' l k
+
     pub then_exact : IsExact K (G then H) null first more
     then_exact = record {
       takes = then_takes;
@@ -320,6 +448,9 @@ module _ {T : Type 0} (K : T → ℕ) where
       empty = inl g.empty;
       starts = then_starts;
       filled = λ y r. filled_both r.2 y r.0 r.1 r.3 r.4 r.5;
+      single = then_single;
+      goes_on = then_goes_on;
+      one_limit = then_one_limit;
     }
 
   -- ---- alternatives
@@ -413,6 +544,45 @@ module _ {T : Type 0} (K : T → ℕ) where
     choice_filled x (inl r) = absurd (let e = g.filled x r in let f = fit.solid in cc)
     choice_filled x (inr r) = fit.empty (h.filled x r)
 
+    -- ---- one value, and what goes on behind it
+
+    first_apart : (t : T) (ts us : List T) → G.begun (t ∷ ts) → H.begun (t ∷ us) → ⊥
+    first_apart t ts us bg bh = apart_among f2 ks (K t) fit.clash (h.starts t us bh) (within_among f1 ks (K t) fit.taken (g.starts t ts bg))
+
+    read_apart : (a : List T) (x y : A) → G.reads a x → H.reads a y → ⊥
+    read_apart [] x y r s = let e = g.filled x r in let f = fit.solid in cc
+    read_apart (t ∷ a) x y r s = first_apart t a a (g.begins (t ∷ a) x r) (h.begins (t ∷ a) y s)
+
+    choice_single : (a : List T) (x y : A) → (choice K ks G H).reads a x → (choice K ks G H).reads a y → x ≡ y
+    choice_single a x y (inl r) (inl s) = g.single a x y r s
+    choice_single a x y (inl r) (inr s) = absurd (read_apart a x y r s)
+    choice_single a x y (inr r) (inl s) = absurd (read_apart a y x s r)
+    choice_single a x y (inr r) (inr s) = h.single a x y r s
+
+    past_read : (a : List T) (x : A) (t : T) (u : List T) → G.reads a x → H.begun (a ++ (t ∷ u)) → ⊥
+    past_read [] x t u r b = let e = g.filled x r in let f = fit.solid in cc
+    past_read (v ∷ a) x t u r b = first_apart v a (a ++ (t ∷ u)) (g.begins (v ∷ a) x r) b
+
+    past_other : (a : List T) (x : A) (t : T) (u : List T) → H.reads a x → G.begun (a ++ (t ∷ u)) → among (K t) (more x) ≡ true
+    past_other [] x t u r b = within_among ks (more x) (K t) (fit.greedy x (h.filled x r) (ends x r)) (within_among f1 ks (K t) fit.taken (g.starts t u b))
+    past_other (v ∷ a) x t u r b = absurd (first_apart v (a ++ (t ∷ u)) a b (h.begins (v ∷ a) x r))
+
+    choice_goes_on : (a : List T) (x : A) (t : T) (u : List T) → (choice K ks G H).reads a x → (choice K ks G H).begun (a ++ (t ∷ u)) → among (K t) (more x) ≡ true
+    choice_goes_on a x t u (inl r) (inl b) = within_among (m1 x) (more x) (K t) (fit.over1 x) (g.goes_on a x t u r b)
+    choice_goes_on a x t u (inl r) (inr b) = absurd (past_read a x t u r b)
+    choice_goes_on a x t u (inr r) (inl b) = past_other a x t u r b
+    choice_goes_on a x t u (inr r) (inr b) = within_among (m2 x) (more x) (K t) (fit.over2 x) (h.goes_on a x t u r b)
+
+    late_apart : (a : List T) (t : T) → G.begun (a ++ (t ∷ [])) → H.begun (a ++ (t ∷ [])) → ⊥
+    late_apart [] t b c = first_apart t [] [] b c
+    late_apart (v ∷ a) t b c = first_apart v (a ++ (t ∷ [])) (a ++ (t ∷ [])) b c
+
+    choice_one_limit : (i j : ℕ) (a : List T) (t : T) → (choice K ks G H).late i a t → (choice K ks G H).late j a t → i ≡ j
+    choice_one_limit i j a t (inl l) (inl k) = g.one_limit i j a t l k
+    choice_one_limit i j a t (inl l) (inr k) = absurd (late_apart a t (g.late_begins i a t l) (h.late_begins j a t k))
+    choice_one_limit i j a t (inr l) (inl k) = absurd (late_apart a t (g.late_begins j a t k) (h.late_begins i a t l))
+    choice_one_limit i j a t (inr l) (inr k) = h.one_limit i j a t l k
+
     pub choice_exact : IsExact K (choice K ks G H) null first more
     choice_exact = record {
       takes = choice_takes;
@@ -427,6 +597,9 @@ module _ {T : Type 0} (K : T → ℕ) where
       empty = inr h.empty;
       starts = choice_starts;
       filled = choice_filled;
+      single = choice_single;
+      goes_on = choice_goes_on;
+      one_limit = choice_one_limit;
     }
 
   -- ---- larger sets do no harm
@@ -445,4 +618,7 @@ module _ {T : Type 0} (K : T → ℕ) where
     empty = g.empty;
     starts = λ t ts b. within_among f1 first (K t) f (g.starts t ts b);
     filled = λ x r. n (g.filled x r);
+    single = g.single;
+    goes_on = λ a x t u r b. within_among (m1 x) (more x) (K t) (m x) (g.goes_on a x t u r b);
+    one_limit = g.one_limit;
   }

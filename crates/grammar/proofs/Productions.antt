@@ -6,6 +6,7 @@ use Rattle.grammar.specs.Exact.{IsExact, IsGood}
 use Rattle.grammar.proofs.Sets.{within, apart, cond_true, within_self, within_joined_right, within_left, within_right}
 use Rattle.grammar.proofs.Parts.{none_exact, gives_exact, one_exact, widen}
 use Rattle.grammar.proofs.Bounds.{LoopFits, same_good, then_good, after_good, choice_good, many_good, many_is, limit_exact, limit_good}
+use Rattle.grammar.proofs.Labels.{Unlimited}
 use Rattle.grammar.proofs.Limits.{deep_exact, at_most_good}
 
 abbrev pub and : Bool → Bool → Bool
@@ -121,12 +122,12 @@ module _ {T : Type 0} {K : T → ℕ} where
   token {A} {n} f ks h = same_good K n (one f) false ks (λ _. []) (one_exact K f ks h)
 
   -- a production that stands one too deep for the limit with this label, each of whose first tokens begins it
-  pub too_deep : {A : Type 0} {n : ℕ} (label : ℕ) (ks : List ℕ) {G : Syntax T A} {m1 more : A → List ℕ} → IsExact K G false ks m1 → ((t : T) → among (K t) ks ≡ true → G.begun (t ∷ [])) → IsGood K n (deep label K ks G) (deep label K ks G) false ks more
-  too_deep {A} {n} label ks {G} {m1} {more} g o = same_good K n (deep label K ks G) false ks more (deep_exact K label ks G m1 more g o)
+  pub too_deep : {A : Type 0} {n : ℕ} (label : ℕ) (ks : List ℕ) {G : Syntax T A} {more : A → List ℕ} → IsExact K G false ks more → ((t : T) → among (K t) ks ≡ true → G.begun (t ∷ [])) → IsGood K n (deep label K ks G) (deep label K ks G) false ks more
+  too_deep {A} {n} label ks {G} {more} g o = same_good K n (deep label K ks G) false ks more (deep_exact K label ks G more g o)
 
-  -- at most so many tokens
-  pub counted : {A : Type 0} {n : ℕ} (label most : ℕ) {G H : Syntax T A} {null : Bool} {first : List ℕ} {more : A → List ℕ} → IsGood K n G H null first more → IsGood K n (at_most label most G) (at_most label most H) null first more
-  counted {A} {n} label most {G} {H} {null} {first} {more} g = at_most_good K label most n G H null first more g
+  -- at most so many tokens of a production without limits
+  pub counted : {A : Type 0} {n : ℕ} (label most : ℕ) {G H : Syntax T A} {null : Bool} {first : List ℕ} {more : A → List ℕ} → Unlimited G → Unlimited H → IsGood K n G H null first more → IsGood K n (at_most label most G) (at_most label most H) null first more
+  counted {A} {n} label most {G} {H} {null} {first} {more} free free' g = at_most_good K label most n G H null first more free free' g
 
   -- at the bound 0 nothing is read
   pub none_good : {A : Type 0} (H : Syntax T A) (null : Bool) (first : List ℕ) (more : A → List ℕ) → IsExact K H null first more → IsGood K 0 none H null first more
@@ -314,6 +315,9 @@ recast {T} {A} {K} {J} {G} {null} {first} first' f g = record {
   empty = g.empty;
   starts = λ t ts b. f t (g.starts t ts b);
   filled = g.filled;
+  single = g.single;
+  goes_on = λ a x t u r b. g.goes_on a x t u r b;
+  one_limit = g.one_limit;
 }
   where
     blind : (b : List T) → sees K [] b ≡ false

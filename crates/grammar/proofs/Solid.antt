@@ -6,6 +6,7 @@ use Rattle.grammar.specs.Exact.{SameHead, Late, IsExact, Unread}
 use Rattle.grammar.proofs.Sets.{within, apart, within_among, apart_among, cond_true, within_self, within_left, within_right, within_both, within_joined, among_either}
 use Rattle.grammar.proofs.Parts.{bind_err, chosen, ChoiceFits, gives_exact, choice_exact, widen}
 use Rattle.grammar.proofs.Bounds.{LoopFits, many_exact, turn_exact, turned_exact, many_is, rest_below, rest_within, split_same}
+use Rattle.grammar.proofs.Labels.{Unlimited}
 use Rattle.grammar.proofs.Limits.{place, at_most_exact, at_most_answer, front_short, below, capped_in, opened}
 use Rattle.grammar.proofs.Productions.{and, empties, turns_fit, seq, either, again_and_again, same, seq_to, made, either_to, maybe_to, tail_to, widened}
 use Rattle.grammar.proofs.Theorem.{refused_at}
@@ -254,9 +255,9 @@ module _ {T : Type 0} {K : T → ℕ} where
           let same : m ≡ length ts = cc in
           rw (front_empty ts f r s (sym same ∙ l)) refl
 
-  pub at_most_solid : {A : Type 0} {n : ℕ} (label most : ℕ) {G : Syntax T A} {lead null : Bool} {first : List ℕ} {more : A → List ℕ} → IsSolid K n G lead null first more → IsSolid K n (at_most label most G) lead null first more
-  at_most_solid {A} {n} label most {G} {lead} {null} {first} {more} g = record {
-    exact = at_most_exact K label most G null first more g.exact;
+  pub at_most_solid : {A : Type 0} {n : ℕ} (label most : ℕ) {G : Syntax T A} {lead null : Bool} {first : List ℕ} {more : A → List ℕ} → Unlimited G → IsSolid K n G lead null first more → IsSolid K n (at_most label most G) lead null first more
+  at_most_solid {A} {n} label most {G} {lead} {null} {first} {more} free g = record {
+    exact = at_most_exact K label most G null first more g.exact free;
     led = g.led;
     opens = λ ld t ts lt a q. elim (at_most_answer K label most G null first more g.exact (t ∷ ts)) [ inl p ↦ g.opens ld t ts lt a (sym p.1 ∙ q) | inr p ↦ let z : Err (Over label (length (t ∷ ts) - most)) ≡ Err (At (suc (length ts))) = sym p.1 ∙ q in cc ];
     cut = λ ts m f r lt q s l.

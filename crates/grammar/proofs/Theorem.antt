@@ -3,7 +3,7 @@ use Rattle.std.proofs.Common.{◌≡◌, ℕ, suc, ◌≤◌, Bool, List, [], �
 use Rattle.std.proofs.lemmas.List.{append-nil}
 use Rattle.std.proofs.Math.Seq.{drop-append_seam}
 use Rattle.grammar.specs.Syntax.{Syntax, Fault, At, Over}
-use Rattle.grammar.specs.Exact.{SameHead, Late, RunsOut, IsExact, WithinLimits, Found, RefusedAt, RefusedOver, Refused, AtMostOne, FrontsBegin, ReadsAccepted, AcceptsRead}
+use Rattle.grammar.specs.Exact.{SameHead, Late, RunsOut, IsExact, WithinLimits, Found, RefusedAt, RefusedOver, Refused, AtMostOne, FrontsBegin, ReadingsBegin, ReadsAccepted, AcceptsRead, OneLimit}
 use Rattle.grammar.proofs.Parts.{ok_is}
 
 head_only : {T : Type 0} (t : T) (ts r : List T) → r ≡ t ∷ ts → SameHead r (t ∷ [])
@@ -119,6 +119,13 @@ module _ {T : Type 0} {K : T → ℕ} {A : Type 0} (G : Syntax T A) (null : Bool
 
   pub fronts_begin : FrontsBegin G
   fronts_begin = g.fronts
+
+  pub readings_begin : ReadingsBegin G
+  readings_begin = g.begins
+
+  -- no token passes two limits
+  pub one_limit : OneLimit G
+  one_limit = g.one_limit
 
   -- where no limit is passed, a reading of tokens is the only one
   pub one_reading : (ts : List T) (x y : A) → WithinLimits G ts → G.reads ts x → G.reads ts y → x ≡ y

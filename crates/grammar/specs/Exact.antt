@@ -68,6 +68,12 @@ pub record IsExact {T : Type 0} (K : T → ℕ) {A : Type 0} (G : Syntax T A) (n
   pub empty : G.begun []
   pub starts : (t : T) (ts : List T) → G.begun (t ∷ ts) → among (K t) first ≡ true
   pub filled : (x : A) → G.reads [] x → null ≡ true
+  -- tokens are a reading with one value at most
+  pub single : (a : List T) (x y : A) → G.reads a x → G.reads a y → x ≡ y
+  -- what goes on behind a complete reading is a token of the kinds that its value can go on with
+  pub goes_on : (a : List T) (x : A) (t : T) (u : List T) → G.reads a x → G.begun (a ++ (t ∷ u)) → among (K t) (more x) ≡ true
+  -- no token passes two limits
+  pub one_limit : (i j : ℕ) (a : List T) (t : T) → G.late i a t → G.late j a t → i ≡ j
 
 -- Both are exact, H reads, begins and limits what G does, and on texts below n tokens they are the same.
 pub record IsGood {T : Type 0} (K : T → ℕ) {A : Type 0} (n : ℕ) (G H : Syntax T A) (null : Bool) (first : List ℕ) (more : A → List ℕ) : Type 0 where

@@ -2,6 +2,7 @@
 use Rattle.std.proofs.Common.{◌≡◌, ℕ, suc, true, false, List, [], ◌∷◌, Ok, refl}
 use Rattle.grammar.specs.Syntax.{Syntax, sees}
 use Rattle.grammar.specs.Exact.{IsExact, IsGood}
+use Rattle.grammar.proofs.Labels.{Unlimited, late_gives, late_one, late_then, late_choice, late_many, late_knot}
 use Rattle.grammar.proofs.Productions.{seq, after, either, again_and_again, declared, given, same, counted, one_lower, knot_exact, knot_is, knot_both, turn}
 use Rattle.grammar_example.specs.declared.token.Token.{Token}
 use Rattle.grammar_example.specs.Tree.{Tree}
@@ -57,9 +58,42 @@ module _ (types : List ℕ) where
   unfolding operand
   operand_is = knot_is false first_expression (λ _. []) (operand_of types (expression types)) (λ k O O' o. operand_of_good k (expression types) (expression types) O O' (same expression_exact) o) tt
 
+  -- ---- no token of an expression passes a limit
+
+  in_parens_free : {E O : Syntax Token Tree} → Unlimited E → Unlimited O → Unlimited (in_parens types E O)
+  unfolding in_parens
+  in_parens_free e o =
+      late_choice (kind types) (a_type ∷ []) (late_then (late_one _) (λ t. late_then (late_one _) (λ _. late_then o (λ x. late_gives _)))) (late_then e (λ x. late_then (late_one _) (λ _. late_gives _)))
+
+  operand_of_free : {E : Syntax Token Tree} {O : Unit {0} → Syntax Token Tree} → Unlimited E → ((s : Unit {0}) → Unlimited (O s)) → (s : Unit {0}) → Unlimited (operand_of types E O s)
+  unfolding operand_of
+  operand_of_free e o s =
+      late_choice (kind types) (a_name ∷ []) (late_then (late_one _) (λ w. late_gives _))
+      (late_choice (kind types) (a_number ∷ []) (late_then (late_one _) (λ n. late_gives _)) (late_then (late_one _) (λ _. in_parens_free e (o s))))
+
+  operand_free : {E : Syntax Token Tree} → Unlimited E → Unlimited (operand types E)
+  unfolding operand
+  operand_free e = late_knot {S = Unit {0}} (λ O o s. operand_of_free e o s) tt
+
+  chain_once_free : {E : Syntax Token Tree} → Unlimited E → (x : Tree) → Unlimited (chain_once types E x)
+  unfolding chain_once
+  chain_once_free e x = late_then (late_one _) (λ op. late_then (operand_free e) (λ y. late_gives _))
+
+  chain_free : {E : Syntax Token Tree} → Unlimited E → (x : Tree) → Unlimited (chain types E x)
+  unfolding chain
+  chain_free e x = late_many (kind types) (λ _. a_sign ∷ []) (chain_once_free e) x
+
+  expression_of_free : {E : Unit {0} → Syntax Token Tree} → ((s : Unit {0}) → Unlimited (E s)) → (s : Unit {0}) → Unlimited (expression_of types E s)
+  unfolding expression_of
+  expression_of_free e s = late_then (operand_free (e s)) (λ x. chain_free (e s) x)
+
+  pub expression_free : Unlimited (expression types)
+  unfolding expression
+  expression_free = late_knot {S = Unit {0}} (λ E e s. expression_of_free e s) tt
+
   pub short_expression_good : {n : ℕ} → IsGood (kind types) n (short_expression types) (short_expression types) false first_expression (λ _. more_expression)
   unfolding short_expression
-  short_expression_good = counted length_limit 9 (same expression_exact)
+  short_expression_good = counted length_limit 9 expression_free expression_free (same expression_exact)
 
   -- one turn of a chain
   pub chain_turn : (x y : Tree) (ts rest : List Token) → sees (kind types) (a_sign ∷ []) ts ≡ true → (chain_once types (expression types) x).parse ts ≡ Ok (y, rest)

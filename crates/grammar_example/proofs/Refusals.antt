@@ -13,7 +13,7 @@ use Rattle.grammar_example.specs.Token.{a_name, a_type, a_number, a_sign, open_p
 use Rattle.grammar_example.specs.Grammar.{first_expression, first_statement, in_parens, operand_of, operand, chain_once, chain, expression_of, expression, short_expression, empty_statement, value_statement, else_first, else_part, if_statement}
 use Rattle.grammar_example.specs.Grammar.{statement_of, statement, statement_within}
 use Rattle.grammar_example.proofs.Tokens.{token_solid, name_good, type_good, number_good, operator_good}
-use Rattle.grammar_example.proofs.Expressions.{more_expression, operand_good, expression_exact, expression_is, operand_is}
+use Rattle.grammar_example.proofs.Expressions.{expression_free, more_expression, operand_good, expression_exact, expression_is, operand_is}
 use Rattle.grammar_example.proofs.Statements.{more_statement, first_else, within_else, within_same, clash_else, no_part, statement_exact, statement_is, statement_within_exact}
 
 module _ (types : List ℕ) where
@@ -122,7 +122,7 @@ module _ (types : List ℕ) where
 
   short_expression_solid : {n : ℕ} → IsSolid (kind types) n (short_expression types) true false first_expression (λ _. more_expression)
   unfolding short_expression
-  short_expression_solid {n} = at_most_solid length_limit 9 (expression_solid n)
+  short_expression_solid {n} = at_most_solid length_limit 9 (expression_free types) (expression_solid n)
 
   empty_statement_solid : {n : ℕ} → IsSolid (kind types) n (empty_statement types) true false (a_semicolon ∷ []) (λ _. [])
   unfolding empty_statement

@@ -1,5 +1,14 @@
-use Rattle.c_parser.proofs.Answers.{one}
+use Rattle.c_parser.proofs.Answers.{one, begun, fronts, limits}
 use Rattle.c_parser.proofs.read.one_reading.Goals as goal
 
-pub returns : goal.returns
-returns c = one
+pub returns-clause-one : goal.returns-clause-one
+returns-clause-one c = one
+
+pub returns-clause-begun : goal.returns-clause-begun
+returns-clause-begun c = begun
+
+pub returns-clause-fronts : goal.returns-clause-fronts
+returns-clause-fronts c = fronts
+
+pub returns-clause-limits : goal.returns-clause-limits
+returns-clause-limits c = limits

@@ -14,7 +14,7 @@ returns-in-Ok-typed-clause-program c =
     let p = plain_program c.in-Ok-typed.program in
     accepted_is_program c.args.text.now p (accepted_as c.args.text.now t.tokens t.has (plain_program c.in-Ok.tree) t.read p c.in-Ok-typed.ensures)
 
-pub returns-clause-refused : goal.returns-clause-refused
-returns-clause-refused c =
+pub returns-in-Err-typed-clause-refused : goal.returns-in-Err-typed-clause-refused
+returns-in-Err-typed-clause-refused c =
     let t = c.in-Ok.ensures in
     refused_by_check c.args.text.now t.tokens t.has (plain_program c.in-Ok.tree) t.read c.in-Err-typed.fault (c.in-Err-typed.ensures t.tokens t.has)

@@ -1,0 +1,208 @@
+-- No token of an expression, an effect or a call passes a limit: the limit of their tokens is set where they stand in no other.
+use Rattle.std.proofs.Common.{ℕ, zero, suc, List, [], ◌∷◌, Option, Some, None}
+use Rattle.grammar.specs.Syntax.{Syntax}
+use Rattle.grammar.proofs.Labels.{Unlimited, late_gives, late_one, late_then, late_choice, late_many, late_knot}
+use Rattle.c_syntax.specs.declared.place.Place.{Place}
+use Rattle.c_syntax.specs.declared.expression.BinOp.{BinOp}
+use Rattle.c_syntax.specs.Expressions.{Expression}
+use Rattle.c_syntax.specs.Tokens.{PlainToken}
+use Rattle.c_model.specs.declared.operands.Form.{Form}
+use Rattle.c_model.specs.declared.operands.Form.TheVariants as form
+use Rattle.c_model.specs.declared.operands.TypeUse.{TypeUse}
+use Rattle.c_model.specs.declared.operands.TypeUse.TheVariants.{Casts, Sizes, Nothing}
+use Rattle.c_model.specs.declared.vocabulary.Keyword.TheVariants as keyword
+use Rattle.c_model.specs.declared.vocabulary.IntegerWords.{IntegerWords}
+use Rattle.c_model.specs.Vocabulary.{Vocabulary}
+use Rattle.c_model.specs.Punctuators.{question, comma, left_paren}
+use Rattle.c_model.specs.ExpressionGrammar.{name_kind, number_kind, type_name_kind, keyword_kind, mark_kind, kind, kinds_of, unary_operators, operators_at, levels, assignment_operators, prefix_bumps, postfix_bumps, first_type, first_expression, words_behind, ReadOperand, Operand, integer_word, integer_words, type_name, base, consts, type_words, closed, literal, cast_rest, sized_type, paren_rest, behind_paren, prefixed, sized, operand_but_name, operand_of, operand, joined_once, behind_operand, choice_rest, expression_rest, expression_of, expression, next_argument, arguments, call_rest, behind_name_or_callee, expression_or_call, assigned_value, assigned, bumped, behind_unary, behind_primary, behind_form, effect_rest, bump_first, effect_but_name, effect, behind_name, effect_or_call}
+
+module _ (ws : Vocabulary) where
+  -- ---- types
+
+  integer_word_free : (x : IntegerWords) → Unlimited (integer_word ws x)
+  unfolding integer_word
+  integer_word_free x = late_then (late_one _) (λ y. late_gives _)
+
+  integer_words_free : Unlimited (integer_words ws)
+  unfolding integer_words
+  integer_words_free = late_then (integer_word_free _) (λ x. late_then (late_many (kind ws) words_behind integer_word_free x) (λ y. late_gives _))
+
+  base_free : Unlimited (base ws)
+  unfolding base type_name
+  base_free =
+      late_choice (kind ws) (keyword_kind keyword.Void ∷ []) (late_then (late_one _) (λ _. late_gives _))
+      (late_choice (kind ws) (type_name_kind ∷ []) (late_then (late_one _) (λ t. late_gives _)) integer_words_free)
+
+  consts_free : {A : Type 0} (x : A) → Unlimited (consts ws x)
+  unfolding consts
+  consts_free x = late_many (kind ws) (λ _. keyword_kind keyword.Const ∷ []) (λ y. late_then (late_one _) (λ _. late_gives y)) x
+
+  type_free : Unlimited (type_words ws)
+  unfolding type_words
+  type_free = late_then (consts_free _) (λ _. late_then base_free (λ t. consts_free t))
+
+  -- ---- operands
+
+  pub closed_free : {A : Type 0} (x : A) → Unlimited (closed ws x)
+  unfolding closed
+  closed_free x = late_then (late_one _) (λ _. late_gives _)
+
+  literal_free : Unlimited (literal ws)
+  unfolding literal
+  literal_free = late_choice (kind ws) (number_kind ∷ []) (late_then (late_one _) (λ n. late_gives _)) (late_then (late_one _) (λ z. late_gives _))
+
+  sized_type_free : (at : Place) → Unlimited (sized_type ws at)
+  unfolding sized_type
+  sized_type_free at = late_then type_free (λ t. closed_free _)
+
+  module _ {E : Syntax PlainToken Expression} (e : Unlimited E) where
+    paren_rest_free : (at : Place) → Unlimited (paren_rest ws E at)
+    unfolding paren_rest
+    paren_rest_free at = late_then e (λ x. closed_free _)
+
+    module _ {O : Operand ws} (o : (u : TypeUse) → Unlimited (O u)) where
+      cast_rest_free : (at : Place) → Unlimited (cast_rest ws O at)
+      unfolding cast_rest
+      cast_rest_free at = late_then type_free (λ t. late_then (late_one _) (λ _. late_then (o Casts) (λ x. late_gives _)))
+
+      behind_paren_free : (u : TypeUse) (at : Place) → Unlimited (behind_paren ws E O u at)
+      unfolding behind_paren
+      behind_paren_free Casts at = late_choice (kind ws) first_type (cast_rest_free at) (paren_rest_free at)
+      behind_paren_free Sizes at = late_choice (kind ws) first_type (sized_type_free at) (paren_rest_free at)
+      behind_paren_free Nothing at = paren_rest_free at
+
+      prefixed_free : Unlimited (prefixed ws O)
+      unfolding prefixed
+      prefixed_free = late_then (late_one _) (λ op. late_then (o Casts) (λ x. late_gives _))
+
+      sized_free : Unlimited (sized ws O)
+      unfolding sized
+      sized_free = late_then (late_one _) (λ at. late_then (o Sizes) (λ x. late_gives _))
+
+      but_name_free : (u : TypeUse) → Unlimited (operand_but_name ws E O u)
+      unfolding operand_but_name
+      but_name_free u =
+          late_choice (kind ws) (mark_kind left_paren ∷ []) (late_then (late_one _) (λ at. behind_paren_free u at))
+          (late_choice (kind ws) (kinds_of unary_operators) prefixed_free
+          (late_choice (kind ws) (keyword_kind keyword.Sizeof ∷ []) sized_free literal_free))
+
+      operand_of_free : (u : TypeUse) → Unlimited (operand_of ws E O u)
+      unfolding operand_of
+      operand_of_free u = late_choice (kind ws) (name_kind ∷ []) (late_then (late_one _) (λ x. late_gives _)) (but_name_free u)
+
+    operand_free : (u : TypeUse) → Unlimited (operand ws E u)
+    unfolding operand
+    operand_free u = late_knot (λ O o v. operand_of_free o v) u
+
+    -- ---- expressions
+
+    joined_free : (l : ℕ) {R : Syntax PlainToken Expression} (x : Expression) → Unlimited R → Unlimited (joined_once ws l R x)
+    unfolding joined_once
+    joined_free l x r = late_then (late_one _) (λ op. late_then r (λ y. late_gives _))
+
+    behind_free : (l : ℕ) (x : Expression) → Unlimited (behind_operand ws E l x)
+    unfolding behind_operand
+    behind_free zero x = late_gives x
+    behind_free (suc l) x =
+        late_then (behind_free l x)
+        (λ y. late_many (kind ws) (λ _. kinds_of (operators_at l)) (λ z. joined_free l z (late_then (operand_free Casts) (λ w. behind_free l w.expression))) y)
+
+    choice_rest_free : (x : Expression) → Unlimited (choice_rest ws E x)
+    unfolding choice_rest
+    choice_rest_free x = late_then (late_one _) (λ at. late_then e (λ y. late_then (late_one _) (λ _. late_then e (λ z. late_gives _))))
+
+    rest_free : (x : Expression) → Unlimited (expression_rest ws E x)
+    unfolding expression_rest
+    rest_free x = late_then (behind_free levels x) (λ y. late_choice (kind ws) (mark_kind question ∷ []) (choice_rest_free y) (late_gives y))
+
+    expression_of_free : Unlimited (expression_of ws E)
+    unfolding expression_of
+    expression_of_free = late_then (operand_free Casts) (λ x. rest_free x.expression)
+
+  pub expression_free : Unlimited (expression ws)
+  unfolding expression
+  expression_free = late_knot {S = Unit {0}} (λ E e u. expression_of_free (e u)) tt
+
+  rests_free : (x : Expression) → Unlimited (expression_rest ws (expression ws) x)
+  rests_free x = rest_free expression_free x
+
+  first_operand_free : Unlimited (operand_but_name ws (expression ws) (operand ws (expression ws)) Casts)
+  first_operand_free = but_name_free expression_free (λ u. operand_free expression_free u) Casts
+
+  -- ---- calls
+
+  next_argument_free : (es : List Expression) → Unlimited (next_argument ws es)
+  unfolding next_argument
+  next_argument_free es = late_then (late_one _) (λ _. late_then expression_free (λ e. late_gives _))
+
+  arguments_free : Unlimited (arguments ws)
+  unfolding arguments
+  arguments_free =
+      late_choice (kind ws) first_expression (late_then expression_free (λ e. late_many (kind ws) (λ _. mark_kind comma ∷ []) next_argument_free _)) (late_gives _)
+
+  call_rest_free : (f : ℕ × Place) → Unlimited (call_rest ws f)
+  unfolding call_rest
+  call_rest_free f = late_then (late_one _) (λ at. late_then arguments_free (λ es. closed_free _))
+
+  behind_callee_free : (x : ℕ × Place) → Unlimited (behind_name_or_callee ws x)
+  unfolding behind_name_or_callee
+  behind_callee_free x = late_choice (kind ws) (mark_kind left_paren ∷ []) (late_then (call_rest_free x) (λ c. late_gives _)) (rests_free _)
+
+  pub expression_or_call_free : Unlimited (expression_or_call ws)
+  unfolding expression_or_call
+  expression_or_call_free =
+      late_choice (kind ws) (name_kind ∷ []) (late_then (late_one _) (λ x. behind_callee_free x)) (late_then first_operand_free (λ x. rests_free x.expression))
+
+  -- ---- effects
+
+  assigned_value_free : (op : Option BinOp) → Unlimited (assigned_value ws op)
+  unfolding assigned_value
+  assigned_value_free None = expression_or_call_free
+  assigned_value_free (Some op) = expression_free
+
+  assigned_free : (x : Expression) → Unlimited (assigned ws x)
+  unfolding assigned
+  assigned_free x = late_then (late_one _) (λ op. late_then (assigned_value_free op.0) (λ y. late_gives _))
+
+  bumped_free : (x : Expression) → Unlimited (bumped ws x)
+  unfolding bumped
+  bumped_free x = late_then (late_one _) (λ op. late_gives _)
+
+  behind_unary_free : (x : Expression) → Unlimited (behind_unary ws x)
+  unfolding behind_unary
+  behind_unary_free x = late_choice (kind ws) (kinds_of assignment_operators) (assigned_free x) (rests_free x)
+
+  behind_primary_free : (x : Expression) → Unlimited (behind_primary ws x)
+  unfolding behind_primary
+  behind_primary_free x = late_choice (kind ws) (kinds_of postfix_bumps) (bumped_free x) (behind_unary_free x)
+
+  behind_form_free : (f : Form) (x : Expression) → Unlimited (behind_form ws f x)
+  unfolding behind_form
+  behind_form_free form.Primary x = behind_primary_free x
+  behind_form_free form.Unary x = behind_unary_free x
+  behind_form_free form.Cast x = rests_free x
+  behind_form_free form.TypeName x = rests_free x
+
+  effect_rest_free : (x : ReadOperand) → Unlimited (effect_rest ws x)
+  unfolding effect_rest
+  effect_rest_free x = late_then (behind_form_free x.form x.expression) (λ e. late_gives _)
+
+  bump_first_free : Unlimited (bump_first ws)
+  unfolding bump_first
+  bump_first_free = late_then (late_one _) (λ op. late_then (operand_free expression_free Nothing) (λ x. late_gives _))
+
+  effect_but_name_free : Unlimited (effect_but_name ws)
+  unfolding effect_but_name
+  effect_but_name_free = late_choice (kind ws) (kinds_of prefix_bumps) bump_first_free (late_then first_operand_free (λ x. effect_rest_free x))
+
+  pub effect_free : Unlimited (effect ws)
+  unfolding effect
+  effect_free = late_choice (kind ws) (name_kind ∷ []) (late_then (late_one _) (λ x. effect_rest_free _)) effect_but_name_free
+
+  behind_name_free : (x : ℕ × Place) → Unlimited (behind_name ws x)
+  unfolding behind_name
+  behind_name_free x = late_choice (kind ws) (mark_kind left_paren ∷ []) (call_rest_free x) (effect_rest_free _)
+
+  pub effect_or_call_free : Unlimited (effect_or_call ws)
+  unfolding effect_or_call
+  effect_or_call_free = late_choice (kind ws) (name_kind ∷ []) (late_then (late_one _) (λ x. behind_name_free x)) effect_but_name_free
