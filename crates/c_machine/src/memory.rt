@@ -6,6 +6,7 @@ ghost use Rattle.mon_syntax.specs.Memories.{act_on_flat, delete_flat, enter_flat
 ghost use Rattle.c_machine.specs.Blocks.{EntersBy, RefusesBirth, Replies, makes_block};
 
 use crate::stop::Stop;
+use c_model::limits::{GLOBALS_BYTES, HEAP_BYTES, MOST_FRAMES, STACK_BYTES};
 use c_syntax::{BlockKind, Segment};
 use flat_mem::{BirthFault, FlatMem, Sizes};
 use mon_syntax::MemoryCall;
@@ -14,10 +15,10 @@ use std::marker::Model;
 
 // The sizes of the standard profile.
 const SIZES: Sizes = Sizes {
-    globals: 1_048_576,
-    stack: 1_048_576,
-    heap: 16_777_216,
-    frames: 65_536,
+    globals: GLOBALS_BYTES,
+    stack: STACK_BYTES,
+    heap: HEAP_BYTES,
+    frames: MOST_FRAMES,
 };
 
 /// A block that lives on the stack: its number, and its size in bytes.

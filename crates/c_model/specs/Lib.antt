@@ -37,3 +37,4 @@ pub mod CTokenLaws
 pub mod TokenWords
 pub mod Phases
 pub mod Ranges
+pub mod Limits

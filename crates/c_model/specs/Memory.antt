@@ -5,6 +5,7 @@ use Rattle.c_syntax.specs.declared.types.BlockKind.TheVariants.{Global, Literal,
 use Rattle.c_syntax.specs.declared.types.Segment.{Segment}
 use Rattle.c_syntax.specs.declared.types.Segment.TheVariants as segment
 use Rattle.c_syntax.specs.Ctypes.{PlainType, Void, Int}
+use Rattle.c_model.specs.Limits.{globals_bytes, stack_bytes, heap_bytes}
 use Rattle.c_model.specs.Integers.{size_of, align_of, bits_of, value_of_bits, int_size}
 
 -- null, or a place in a block: its number, from 1, and the offset in bytes
@@ -124,7 +125,7 @@ pub record Sizes : Type 0 where
   pub heap : ℕ
 
 abbrev pub standard_sizes : Sizes
-standard_sizes = record { globals = 1048576; stack = 1048576; heap = 16777216 }
+standard_sizes = record { globals = globals_bytes; stack = stack_bytes; heap = heap_bytes }
 
 -- the greatest number of a block
 abbrev pub greatest_number : ℕ

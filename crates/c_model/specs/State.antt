@@ -8,6 +8,7 @@ use Rattle.c_syntax.specs.declared.types.Segment.TheVariants.{Frames}
 use Rattle.c_syntax.specs.declared.types.BlockKind.TheVariants as block
 use Rattle.c_syntax.specs.Ctypes.{PlainType}
 use Rattle.c_syntax.specs.Statements.{Declaration}
+use Rattle.c_model.specs.Limits.{most_frames}
 use Rattle.c_model.specs.Integers.{size_of}
 use Rattle.c_model.specs.Memory.{Pointer, Into, Value, Integer, new_block, Store, load, save, kill_from, standard_sizes, full_at_stack_birth}
 
@@ -166,7 +167,7 @@ alone = λ s. Normal tt (record s { scope = []; marks = [] })
 
 -- one more call is active, 65,536 at most
 abbrev pub frame : Evaluation (Unit {0})
-frame = λ s. cond (nat_lt s.calls 65536) (Normal tt (record s { calls = s.calls + 1 })) (Stop (Over (Full Frames)) s)
+frame = λ s. cond (nat_lt s.calls most_frames) (Normal tt (record s { calls = s.calls + 1 })) (Stop (Over (Full Frames)) s)
 
 -- a passage of a label
 abbrev pub mark : Option ℕ → Evaluation (Unit {0})

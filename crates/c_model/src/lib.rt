@@ -4,6 +4,7 @@
 pub mod c_tokens;
 pub mod job;
 pub mod laws;
+pub mod limits;
 pub mod monitored_tokens;
 pub mod operands;
 pub mod vocabulary;

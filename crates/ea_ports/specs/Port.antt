@@ -7,6 +7,10 @@ use Rattle.ea_ports.specs.declared.SinkFault.{SinkFault}
 use Rattle.ea_ports.specs.declared.SinkFault.TheVariants.{Failed as sink_failed, Memory as sink_memory}
 use Rattle.ea_ports.specs.declared.Failed.{Failed}
 
+-- a folder is asked for files of so many bytes at most
+abbrev pub most_fetched : ℕ
+most_fetched = 67108864
+
 -- one more, up to the last value of a `u64`
 abbrev pub raised : ℕ → ℕ
 raised count = min (count + 1) (2 ^ 64 - 1)

@@ -3,7 +3,7 @@ ghost use Rattle.std.specs.Prelude.{◌≡◌, ◌+◌, ◌<◌, ◌≤◌, None
 ghost use Rattle.std.specs.Io.KnownBytes.{WriteAppends};
 ghost use Rattle.std.specs.IoError.{error_kind};
 ghost use Rattle.std.specs.declared.io.Error.{Error};
-ghost use Rattle.ea_ports.specs.Port.{Fetches, FolderCount, Puts, FailsOnBytes, SinkCount, Takes, SourceCount};
+ghost use Rattle.ea_ports.specs.Port.{FailsOnBytes, Fetches, FolderCount, Puts, SinkCount, SourceCount, Takes, most_fetched};
 ghost use Rattle.ea_ports.specs.HostFiles.{fault_of, FollowsOpened, ReadsWithin, LosesAtMost, ReadsPiece, Reads, Writes};
 
 use crate::{Failed, FetchFault, Folder, Sink, SinkFault, Source};
@@ -41,7 +41,7 @@ impl<R: Files + Clone + Drop> Folder for FileFolder<R> {
     ghost faults = { folder_faults };
 
     fn fetch(&mut self, alloc: Global, name: &str, limit: usize) -> Result<Vec<u8>, FetchFault>
-        requires { limit ≤ 67108864 }
+        requires { limit ≤ most_fetched }
         ensures bytes { Fetches None name.now limit result }
         ensures count { FolderCount None (folder_faults self.old) (folder_faults self.new) result }
 
@@ -76,7 +76,7 @@ fn content_of_opened<F: Read + Drop>(
     alloc: Global,
     limit: usize,
 ) -> Result<Vec<u8>, FetchFault>
-    requires { limit ≤ 67108864 }
+    requires { limit ≤ most_fetched }
     ensures { FollowsOpened F.remaining limit opened result }
 {
     match opened {
@@ -87,7 +87,7 @@ fn content_of_opened<F: Read + Drop>(
 
 // All that a reader has left, where that is at most `limit` bytes. It reads at most one byte more.
 fn read_within<F: Read>(file: &mut F, alloc: Global, limit: usize) -> Result<Vec<u8>, FetchFault>
-    requires { limit ≤ 67108864 }
+    requires { limit ≤ most_fetched }
     ensures content { ReadsWithin (F.remaining file.old) limit result }
     ensures limited { LosesAtMost (F.remaining file.old) (F.remaining file.new) (limit + 1) }
 {

@@ -3,7 +3,7 @@
 #![tactic(auto)]
 
 ghost use Rattle.std.specs.Prelude.{◌≡◌, ℕ, ◌≤◌, List, Option};
-ghost use Rattle.ea_ports.specs.Port.{Puts, FailsOnBytes, SinkCount, Takes, SourceCount, Fetches, FolderCount};
+ghost use Rattle.ea_ports.specs.Port.{FailsOnBytes, Fetches, FolderCount, Puts, SinkCount, SourceCount, Takes, most_fetched};
 
 use std::alloc::Global;
 use thiserror::Error;
@@ -57,7 +57,7 @@ pub trait Folder {
 
     /// The whole content under `name`, of at most `limit` bytes. The limit is at most 64 MiB.
     fn fetch(&mut self, alloc: Global, name: &str, limit: usize) -> Result<Vec<u8>, FetchFault>
-        requires { limit ≤ 67108864 }
+        requires { limit ≤ most_fetched }
         ensures bytes { Fetches (content self.old) name.now limit result }
         ensures kept { content self.new ≡ content self.old }
         ensures count { FolderCount (content self.old) (faults self.old) (faults self.new) result };

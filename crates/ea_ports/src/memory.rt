@@ -1,6 +1,6 @@
 // Ports in memory whose listed calls fail. The first call has the number 1.
 ghost use Rattle.std.specs.Prelude.{◌≡◌, ◌≤◌, ◌↔◌, [], Some, IsTrue, IsErr, OnErr};
-ghost use Rattle.ea_ports.specs.Port.{Puts, FailsOnBytes, SinkCount, Takes, SourceCount, Fetches, FolderCount};
+ghost use Rattle.ea_ports.specs.Port.{FailsOnBytes, Fetches, FolderCount, Puts, SinkCount, SourceCount, Takes, most_fetched};
 ghost use Rattle.ea_ports.specs.Files.{content_of, named_contents};
 ghost use Rattle.ea_ports.specs.Calls.{no_calls, next_is_listed, after_call};
 ghost use Rattle.ea_ports.specs.Memory.{put_fails};
@@ -45,7 +45,7 @@ impl Folder for MemFolder {
     ghost faults = { λ folder. folder.calls.failed };
 
     fn fetch(&mut self, alloc: Global, name: &str, limit: usize) -> Result<Vec<u8>, FetchFault>
-        requires { limit ≤ 67108864 }
+        requires { limit ≤ most_fetched }
         ensures bytes { Fetches (Some (content_of self.old.files)) name.now limit result }
         ensures kept { Some (content_of self.new.files) ≡ Some (content_of self.old.files) }
         ensures count { FolderCount (Some (content_of self.old.files)) self.old.calls.failed self.new.calls.failed result }

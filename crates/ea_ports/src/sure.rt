@@ -1,6 +1,6 @@
 // Ports in memory that never fail, save for want of memory: their counts are the constant 0.
 ghost use Rattle.std.specs.Prelude.{◌≡◌, ◌≤◌, [], Some, OnErr};
-ghost use Rattle.ea_ports.specs.Port.{Puts, FailsOnBytes, SinkCount, Fetches, FolderCount};
+ghost use Rattle.ea_ports.specs.Port.{FailsOnBytes, Fetches, FolderCount, Puts, SinkCount, most_fetched};
 ghost use Rattle.ea_ports.specs.Files.{content_of, named_contents};
 
 use crate::files::fetch_from;
@@ -38,7 +38,7 @@ impl Folder for SureFolder {
     ghost faults = { λ _. 0 };
 
     fn fetch(&mut self, alloc: Global, name: &str, limit: usize) -> Result<Vec<u8>, FetchFault>
-        requires { limit ≤ 67108864 }
+        requires { limit ≤ most_fetched }
         ensures bytes { Fetches (Some (content_of self.old)) name.now limit result }
         ensures count { FolderCount (Some (content_of self.old)) 0 0 result }
 

@@ -4,6 +4,7 @@ use Rattle.std.specs.Prelude.{◌≡◌, ◌⊎◌, ℕ, ◌≤◌, ◌<◌, Lis
 use Rattle.c_syntax.specs.Programs.{TranslationUnit, PlainRefusal}
 use Rattle.c_model.specs.declared.job.Job.{Job}
 use Rattle.c_model.specs.declared.job.Job.TheVariants.{Run, Instrument, Exec}
+use Rattle.c_model.specs.Limits.{most_annotated, most_monitored}
 use Rattle.c_model.specs.Words.{job_of}
 use Rattle.c_model.specs.WordLaws.{file_named}
 use Rattle.c_model.specs.Phases.{AcceptedText, RefusedText}
@@ -47,11 +48,11 @@ refused_answer r = silent 2 (refused_words r)
 abbrev pub memory_line : List ℕ
 memory_line = line_of (codes "out of memory")
 
--- an annotated file has at most 1 MiB, a monitored one at most 64 MiB
+-- the most bytes of a job's file
 abbrev pub file_limit : Job → ℕ
-file_limit (Run file steps rte) = 1048576
-file_limit (Instrument file rte) = 1048576
-file_limit (Exec file steps) = 67108864
+file_limit (Run file steps rte) = most_annotated
+file_limit (Instrument file rte) = most_annotated
+file_limit (Exec file steps) = most_monitored
 
 -- the answer to a run: its report, and all that it printed
 pub record AnswersRun (r : Ran) (a : Answer) : Type 0 where

@@ -2,6 +2,7 @@
 
 ghost use Rattle.std.specs.Prelude.{◌≡◌, ◌≤◌, List, MatchResult, None, Some, length, map, string_bytes};
 ghost use Rattle.c_syntax.specs.Programs.{plain_refusal};
+ghost use Rattle.c_model.specs.Limits.{most_annotated, most_monitored};
 ghost use Rattle.c_model.specs.Reports.{line_of, refused_words};
 ghost use Rattle.c_model.specs.WordLaws.{file_named};
 ghost use Rattle.c_model.specs.Words.{job_of};
@@ -15,6 +16,7 @@ ghost use Rattle.eacsl_cli.specs.Complete.{Complete, IsStatus, LeavesSource};
 use crate::lines::{broken_line, exit_line, refused_line, say};
 use c_lower::lower;
 use c_machine::{Stop, run};
+use c_model::limits::{MOST_ANNOTATED, MOST_MONITORED};
 use c_model::{FileName, Job, read_words};
 use c_printer::print;
 use c_reader::read_text;
@@ -24,11 +26,6 @@ use instrument::instrument;
 use mon_reader::read_monitored;
 use mon_syntax::MonProgram;
 use std::alloc::{AllocError, Global};
-
-// The most bytes of an annotated file, and of a monitored one.
-const ANNOTATED_LIMIT: usize = 1_048_576;
-
-const MONITORED_LIMIT: usize = 67_108_864;
 
 // Says that memory is wanting.
 fn out_of_memory<E: Sink>(err: &mut E) -> u8
@@ -126,7 +123,7 @@ fn execute<I: Source, O: Sink, E: Sink>(
 
 // Translates the annotated program that a text spells into monitored C.
 fn translated(alloc: Global, text: &[u8]) -> Result<MonProgram, FrontFault>
-    requires { length text.now ≤ 1048576 }
+    requires { length text.now ≤ most_annotated }
     ensures { MatchResult result (λ m. IsTranslated text.now (plain_program m)) (λ fault. Refuses fault text.now) }
 {
     let program = match read_text(alloc, text) {
@@ -146,7 +143,7 @@ pub fn run_text<I: Source, O: Sink, E: Sink>(
     out: &mut O,
     err: &mut E,
 ) -> u8
-    requires { length text.now ≤ 1048576 }
+    requires { length text.now ≤ most_annotated }
     ensures { Answered (RunDue (taking (I.left input.old) (I.left input.new) (I.faults input.old) (I.faults input.new)) text.now steps) (RunBegins (taking (I.left input.old) (I.left input.new) (I.faults input.old) (I.faults input.new)) text.now steps) (change (O.told out.old) (O.told out.new) (O.faults out.old) (O.faults out.new)) (change (E.told err.old) (E.told err.new) (E.faults err.old) (E.faults err.new)) result }
 {
     match translated(alloc, text) {
@@ -158,7 +155,7 @@ pub fn run_text<I: Source, O: Sink, E: Sink>(
 
 /// Writes the monitored text of the annotated program that a text spells, or says why the text is refused.
 pub fn instrument_text<O: Sink, E: Sink>(alloc: Global, text: &[u8], out: &mut O, err: &mut E) -> u8
-    requires { length text.now ≤ 1048576 }
+    requires { length text.now ≤ most_annotated }
     ensures { Answered (InstrumentDue text.now) (InstrumentBegins text.now) (change (O.told out.old) (O.told out.new) (O.faults out.old) (O.faults out.new)) (change (E.told err.old) (E.told err.new) (E.faults err.old) (E.faults err.new)) result }
 {
     let m = match translated(alloc, text) {
@@ -182,7 +179,7 @@ pub fn exec_text<I: Source, O: Sink, E: Sink>(
     out: &mut O,
     err: &mut E,
 ) -> u8
-    requires { length text.now ≤ 67108864 }
+    requires { length text.now ≤ most_monitored }
     ensures { Answered (ExecDue (taking (I.left input.old) (I.left input.new) (I.faults input.old) (I.faults input.new)) text.now steps) (ExecBegins (taking (I.left input.old) (I.left input.new) (I.faults input.old) (I.faults input.new)) text.now steps) (change (O.told out.old) (O.told out.new) (O.faults out.old) (O.faults out.new)) (change (E.told err.old) (E.told err.new) (E.faults err.old) (E.faults err.new)) result }
 {
     match read_monitored(alloc, text) {
@@ -228,9 +225,9 @@ fn limit_of(job: &Job) -> usize
     ensures { result ≡ file_limit job.now }
 {
     match job {
-        Job::Run { .. } => ANNOTATED_LIMIT,
-        Job::Instrument { .. } => ANNOTATED_LIMIT,
-        Job::Exec { .. } => MONITORED_LIMIT,
+        Job::Run { .. } => MOST_ANNOTATED,
+        Job::Instrument { .. } => MOST_ANNOTATED,
+        Job::Exec { .. } => MOST_MONITORED,
     }
 }
 

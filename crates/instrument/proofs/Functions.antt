@@ -8,6 +8,7 @@ use Rattle.c_syntax.specs.declared.types.Segment.TheVariants as segment
 use Rattle.c_syntax.specs.Ctypes.{PlainType, Void, Int}
 use Rattle.c_syntax.specs.Statements.{Declaration}
 use Rattle.c_syntax.specs.Programs.{Function, TranslationUnit}
+use Rattle.c_model.specs.Limits.{most_frames}
 use Rattle.c_model.specs.Memory.{Value, Store}
 use Rattle.c_model.specs.State.{State, Mark, Spent, Full, Over, Outcome, Normal, Stop, Evaluation, on_outcome, ◌>>◌, step_from, frame, alone, mark, within, restored, back_to}
 use Rattle.c_model.specs.Meaning.{Callee, parameters, body_with, returned_by, at_close, call_with}
@@ -16,7 +17,7 @@ use Rattle.c_model.proofs.Agreement.{extends_trans}
 use Rattle.mon_syntax.specs.Meaning.{Result, Done, Stops, Next, Goes, Returns, then_do, at_next, at_return, body_runs, left_frame, registers, writes, replied}
 use Rattle.mon_syntax.specs.Meaning as monitored
 use Rattle.mon_syntax.specs.Memory.{Gives, IsFull}
-use Rattle.mon_syntax.specs.Memories.{BlockValue, Whole, over_blocks, most_frames}
+use Rattle.mon_syntax.specs.Memories.{BlockValue, Whole, over_blocks}
 use Rattle.mon_syntax.specs.Trees.{MonFunction, MonStatements}
 use Rattle.mon_syntax.specs.LiveBlocks.{live_in}
 use Rattle.track_scopes.specs.Blocks.{register_of, deaths, with_born}

@@ -6,6 +6,7 @@ use Rattle.c_syntax.specs.declared.types.BlockKind.TheVariants.{Stack}
 use Rattle.c_syntax.specs.declared.types.Segment.{Segment}
 use Rattle.c_syntax.specs.declared.types.Segment.TheVariants as segment
 use Rattle.c_syntax.specs.Programs.{TranslationUnit}
+use Rattle.c_model.specs.Limits.{most_frames}
 use Rattle.c_model.specs.Memory.{Null, Into, Store, Block, new_block, rounded, stack_taken, standard_sizes, greatest_number, full_at_stack_birth}
 use Rattle.c_model.specs.State.{Input}
 use Rattle.c_model.specs.Meaning as source
@@ -15,7 +16,7 @@ use Rattle.mon_syntax.specs.declared.tree.MemoryCall.{MemoryCall}
 use Rattle.mon_syntax.specs.declared.tree.MemoryCall.TheVariants.{StoreBlock, DeleteBlock}
 use Rattle.mon_syntax.specs.Trees.{MonitoredProgram}
 use Rattle.mon_syntax.specs.Memory.{Reply, Gives, IsFull, Faults}
-use Rattle.mon_syntax.specs.Memories.{most_frames, BlockValue, Whole, Points, Blocks, integer_of, enter_blocks, stack_block, store_block, youngest, is_index, dead_at, delete_block, act_on_blocks, over_blocks, block_run, LiveBlock, Flat, taken_by, stack_end, pointer_to, enter_flat, full_at_flat_birth, flat_block, store_flat, delete_youngest, delete_flat, act_on_flat, over_flat, flat_run}
+use Rattle.mon_syntax.specs.Memories.{BlockValue, Whole, Points, Blocks, integer_of, enter_blocks, stack_block, store_block, youngest, is_index, dead_at, delete_block, act_on_blocks, over_blocks, block_run, LiveBlock, Flat, taken_by, stack_end, pointer_to, enter_flat, full_at_flat_birth, flat_block, store_flat, delete_youngest, delete_flat, act_on_flat, over_flat, flat_run}
 use Rattle.mon_syntax.specs.LiveBlocks.{live_in}
 use Rattle.mon_syntax.specs.Valid.{IsValid}
 use Rattle.mon_syntax.specs.Following.{Kept, AllKept, Replied, Follows}

@@ -4,6 +4,7 @@ use Rattle.std.specs.Prelude.{ℕ, zero, suc, ◌+◌, ◌-◌, ◌*◌, ◌^◌
 use Rattle.c_syntax.specs.declared.types.BlockKind.TheVariants.{Stack}
 use Rattle.c_syntax.specs.declared.types.Segment.{Segment}
 use Rattle.c_syntax.specs.declared.types.Segment.TheVariants as segment
+use Rattle.c_model.specs.Limits.{most_frames}
 use Rattle.c_model.specs.Memory.{Pointer, Into, Block, Store, new_block, is_stack, rounded, standard_sizes, greatest_number, full_at_stack_birth}
 use Rattle.c_model.specs.State.{Input}
 use Rattle.c_model.specs.Meaning.{Ran}
@@ -12,10 +13,6 @@ use Rattle.mon_syntax.specs.declared.tree.MemoryCall.TheVariants.{StoreBlock, De
 use Rattle.mon_syntax.specs.Trees.{MonitoredProgram}
 use Rattle.mon_syntax.specs.Memory.{Memory, Reply, Gives, IsFull, Faults}
 use Rattle.mon_syntax.specs.Meaning.{run}
-
--- how many calls are active at most, `main` included
-abbrev pub most_frames : ℕ
-most_frames = 65536
 
 -- ---- numbered blocks
 
