@@ -12,7 +12,7 @@ ghost use Rattle.c_expr_parser.specs.Reading.{label, plain_list};
 ghost use Rattle.c_expr_parser.specs.Answers.{IsGiven, RefusesFault, RefusesWord};
 
 use c_syntax::fault::{Limit, ReadFault};
-use c_syntax::{FrontFault, Name, Place, Refusal, Token, TokenKind, Tokens};
+use c_syntax::{FrontFault, Name, Place, Refusal, Token, TokenKind, Tokens, code};
 use std::alloc::{AllocError, Global};
 
 /// How many punctuators there are (C99 6.4.6); those of annotations alone follow.
@@ -156,12 +156,12 @@ pub fn refuse(alloc: Global, tokens: &Tokens, fault: ReadFault) -> FrontFault
         ReadFault::At(n) => {
             let rest = last(n, tokens.list.as_slice());
             let word = refused_word(alloc, tokens.names.as_slice(), rest);
-            refused(4, place_at(tokens.end, rest), word)
+            refused(code::GRAMMAR, place_at(tokens.end, rest), word)
         }
         ReadFault::Over(limit, n) => {
             let rest = last(n, tokens.list.as_slice());
             let word = Vec::from_slice(alloc, limit_word(limit));
-            refused(11, place_at(tokens.end, rest), word)
+            refused(code::LIMIT, place_at(tokens.end, rest), word)
         }
         ReadFault::Memory => FrontFault::Memory,
     }

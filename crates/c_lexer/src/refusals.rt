@@ -5,7 +5,7 @@ ghost use Rattle.c_model.specs.MonitoredTokens.{hex_digit, first_byte, code_of, 
 ghost use Rattle.c_lexer.specs.Reading.{IsRefusal};
 
 use c_model::monitored_tokens::Fault;
-use c_syntax::{FrontFault, Name, Place, Refusal};
+use c_syntax::{FrontFault, Name, Place, Refusal, code};
 use std::alloc::{AllocError, Global};
 
 fn hex_digit(digit: u8) -> u8
@@ -29,8 +29,8 @@ fn code_of(fault: Fault) -> u8
     ensures { result ≡ code_of fault }
 {
     match fault {
-        Fault::Byte => 1,
-        Fault::Name | Fault::Number | Fault::Chars | Fault::Directive => 2,
+        Fault::Byte => code::BYTE,
+        Fault::Name | Fault::Number | Fault::Chars | Fault::Directive => code::TOKEN,
     }
 }
 

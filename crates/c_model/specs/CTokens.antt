@@ -1,6 +1,7 @@
 -- The tokens of a C text with annotations (C99 6.4, ACSL), or the refusal of its first fault: the text is cut into pieces with their
 -- places, and the pieces make tokens.
 use Rattle.std.specs.Prelude.{ℕ, pos, List, [], ◌∷◌, ◌++◌, length, drop, Result, Ok, Err, nat_lt, if◌then◌else◌, codes}
+use Rattle.c_syntax.specs.RefusalCodes.{byte_code, token_code, profile_code, limit_code}
 use Rattle.c_syntax.specs.declared.place.Place.{Place}
 use Rattle.c_syntax.specs.Tokens as token
 use Rattle.c_syntax.specs.Tokens.{PlainToken, PlainTokens}
@@ -52,16 +53,16 @@ add r at (piece.Mark k) bs = put r at (token.Mark k)
 -- ---- refusals
 
 abbrev pub code_of : Fault → ℕ
-code_of fault.Byte = 1
-code_of fault.Comment = 2
-code_of fault.Name = 2
-code_of fault.Number = 2
-code_of fault.Letter = 2
-code_of fault.Chars = 2
-code_of fault.Directive = 2
-code_of fault.OutsideWord = 3
-code_of fault.OutsideDirective = 3
-code_of fault.Limit = 11
+code_of fault.Byte = byte_code
+code_of fault.Comment = token_code
+code_of fault.Name = token_code
+code_of fault.Number = token_code
+code_of fault.Letter = token_code
+code_of fault.Chars = token_code
+code_of fault.Directive = token_code
+code_of fault.OutsideWord = profile_code
+code_of fault.OutsideDirective = profile_code
+code_of fault.Limit = limit_code
 
 abbrev pub word_of : Fault → List ℕ → List ℕ
 word_of fault.Byte rest = first_byte rest

@@ -4,6 +4,7 @@
 use Rattle.std.specs.Prelude.{ℕ, zero, suc, ◌+◌, ◌-◌, ◌*◌, ◌/◌, ◌%◌, ◌^◌, pos, List, [], ◌∷◌, ◌++◌, length, take, drop, Option, Some, None, is_some, unwrap_or, Result, Ok, Err, Bool, true, not, ◌||◌, ◌&&◌, nat_le, nat_lt, nat_eq, if◌then◌else◌, codes}
 use Rattle.std.specs.List.{prefix_len, list_all}
 use Rattle.std.specs.Str.Parse.{digits_value}
+use Rattle.c_syntax.specs.RefusalCodes.{byte_code, token_code}
 use Rattle.c_syntax.specs.declared.place.Place.{Place}
 use Rattle.c_syntax.specs.Tokens.{PlainTokenKind, Word, Number, Chars, Mark, Head, PlainToken, PlainTokens}
 use Rattle.c_syntax.specs.Programs.{PlainRefusal}
@@ -188,11 +189,11 @@ first_byte [] = []
 first_byte (b ∷ bs) = hex_digit (b / 16) ∷ hex_digit (b % 16) ∷ []
 
 abbrev pub code_of : Fault → ℕ
-code_of fault.Byte = 1
-code_of fault.Name = 2
-code_of fault.Number = 2
-code_of fault.Chars = 2
-code_of fault.Directive = 2
+code_of fault.Byte = byte_code
+code_of fault.Name = token_code
+code_of fault.Number = token_code
+code_of fault.Chars = token_code
+code_of fault.Directive = token_code
 
 abbrev pub word_of : Fault → List ℕ → List ℕ
 word_of fault.Byte rest = first_byte rest

@@ -4,6 +4,7 @@
 use Rattle.std.specs.Prelude.{◌≡◌, ℕ, List, map, Some, None, Ok, Err, if◌then◌else◌, eqb, codes}
 use Rattle.grammar.specs.Syntax as grammar
 use Rattle.grammar.specs.Exact.{Accepts, Refused}
+use Rattle.c_syntax.specs.RefusalCodes.{grammar_code, limit_code}
 use Rattle.c_syntax.specs.Tokens.{PlainTokens}
 use Rattle.c_syntax.specs.Programs.{TranslationUnit, PlainRefusal}
 use Rattle.c_model.specs.CTokens.{tokens_of}
@@ -31,8 +32,8 @@ pub record IsSyntaxFault (ts : PlainTokens) (f : grammar.Fault) : Type 0 where
 
 -- E4 at the first token that can't follow those before it, or E11 at one that passes a limit
 abbrev pub syntax_refusal : PlainTokens → grammar.Fault → PlainRefusal
-syntax_refusal ts (grammar.At n) = refused_at ts 4 (last n ts.list)
-syntax_refusal ts (grammar.Over limit n) = record { code = 11; place = place_at ts.end (last n ts.list); construct = limit_word limit }
+syntax_refusal ts (grammar.At n) = refused_at ts grammar_code (last n ts.list)
+syntax_refusal ts (grammar.Over limit n) = record { code = limit_code; place = place_at ts.end (last n ts.list); construct = limit_word limit }
 
 -- a fault of names or types, at its token
 abbrev pub checked_refusal : PlainTokens → Fault → PlainRefusal

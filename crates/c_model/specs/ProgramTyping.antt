@@ -1,5 +1,6 @@
 -- The typing of functions, of whole texts and of their annotations (C99 6.9, ACSL 2.2): phase by phase, where the first with a fault refuses.
 use Rattle.std.specs.Prelude.{ℕ, List, [], ◌∷◌, ◌++◌, map, nat_eq, Option, Some, None, Bool, true, false, not, ◌&&◌, cond, codes, bytes_eq}
+use Rattle.c_syntax.specs.RefusalCodes.{main_code}
 use Rattle.c_syntax.specs.declared.place.Place.{Place}
 use Rattle.c_syntax.specs.declared.annotation.Range.{Range}
 use Rattle.c_syntax.specs.Ctypes.{PlainType, int_type}
@@ -110,7 +111,7 @@ typed_unit p = one_part (typed_functions p [] p.funcs) (λ fs. Good (record p { 
 -- ---- `main`
 
 abbrev pub no_main : Place → Fault
-no_main at = record { code = 13; place = at }
+no_main at = record { code = main_code; place = at }
 
 abbrev pub has_no_parameters : List Declaration → Bool
 has_no_parameters [] = true

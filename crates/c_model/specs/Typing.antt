@@ -2,6 +2,7 @@
 -- name, with code 6 of a type. In the typed tree each use has its declaration, each expression its type, and each operand that is
 -- converted stands in a cast.
 use Rattle.std.specs.Prelude.{ℕ, suc, ℤ, List, [], ◌∷◌, ◌++◌, length, drop, Option, Some, None, Bool, true, false, not, ◌&&◌, cond, if◌then◌else◌, nat_eq, slice_get, codes, bytes_eq}
+use Rattle.c_syntax.specs.RefusalCodes.{name_code, type_code}
 use Rattle.c_syntax.specs.declared.place.Place.{Place}
 use Rattle.c_syntax.specs.declared.types.CInt.{CInt}
 use Rattle.c_syntax.specs.declared.types.CInt.TheVariants.{I8, U8, I16, U16, I32, U32, I64, U64}
@@ -20,10 +21,10 @@ use Rattle.c_model.specs.Checked.{Fault, Checked, Good, Bad, faulty, one_part, b
 
 -- a name without a fitting declaration, and a demand on types that isn't met
 abbrev pub no_name : Place → Fault
-no_name at = record { code = 5; place = at }
+no_name at = record { code = name_code; place = at }
 
 abbrev pub no_type : Place → Fault
-no_type at = record { code = 6; place = at }
+no_type at = record { code = type_code; place = at }
 
 -- ---- what is in sight (C99 6.2.1)
 

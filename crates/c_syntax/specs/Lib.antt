@@ -4,3 +4,4 @@ pub mod Annotations
 pub mod Statements
 pub mod Programs
 pub mod Tokens
+pub mod RefusalCodes

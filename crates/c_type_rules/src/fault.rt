@@ -1,11 +1,12 @@
 //! Why a tree isn't typed.
 
 ghost use Rattle.std.specs.Prelude.{◌≡◌, IfErr};
+ghost use Rattle.c_syntax.specs.RefusalCodes.{name_code, type_code};
 ghost use Rattle.c_model.specs.Checked.{rank};
 ghost use Rattle.c_type_rules.specs.declared.fault.TypeFault.TheVariants.{Refused, Memory};
 ghost use Rattle.c_type_rules.specs.Answers.{IsRefusal, both, first_of, plain_fault};
 
-use c_syntax::Place;
+use c_syntax::{Place, code};
 use std::alloc::{AllocError, AllocFailed};
 
 /// A fault: the number of its code, and its place.
@@ -41,16 +42,16 @@ impl<T: Drop> From<AllocFailed<T>> for TypeFault {
 
 /// A name without a fitting declaration (E5).
 pub fn no_name(place: Place) -> TypeFault
-    ensures { result ≡ Refused (record { code = 5; place = place }) }
+    ensures { result ≡ Refused (record { code = name_code; place = place }) }
 {
-    TypeFault::Refused(Fault { code: 5, place })
+    TypeFault::Refused(Fault { code: code::NAME, place })
 }
 
 /// A demand on types that isn't met (E6).
 pub fn no_type(place: Place) -> TypeFault
-    ensures { result ≡ Refused (record { code = 6; place = place }) }
+    ensures { result ≡ Refused (record { code = type_code; place = place }) }
 {
-    TypeFault::Refused(Fault { code: 6, place })
+    TypeFault::Refused(Fault { code: code::TYPE, place })
 }
 
 fn rank(f: Fault) -> u64

@@ -10,7 +10,7 @@ ghost use Rattle.c_typing.specs.Answers.{AnswersProgram};
 
 use crate::checked::{ProgramFault, Typed};
 use crate::function::{file_scopes, type_functions};
-use c_syntax::{CInt, CType, Func, Name, Place, Program};
+use c_syntax::{CInt, CType, Func, Name, Place, Program, code};
 use c_type_rules::fault::{Fault, TypeFault};
 use c_type_rules::scope::{Scopes, name_at};
 use std::alloc::Global;
@@ -45,13 +45,13 @@ fn main_fault(names: &[Name], funcs: &[Func]) -> Option<Fault>
                 return None;
             }
             return Some(Fault {
-                code: 13,
+                code: code::MAIN,
                 place: f.place,
             });
         }
     }
     Some(Fault {
-        code: 13,
+        code: code::MAIN,
         place: Place {
             line: 1,
             column: 1,

@@ -10,7 +10,7 @@ ghost use Rattle.mon_parser.specs.Reading.{label, plain_list};
 ghost use Rattle.mon_parser.specs.Answers.{RefusesFault, RefusesWord, IsRefusal};
 
 use c_syntax::fault::{Limit, ReadFault};
-use c_syntax::{FrontFault, Name, Place, Refusal, Token, TokenKind, Tokens};
+use c_syntax::{FrontFault, Name, Place, Refusal, Token, TokenKind, Tokens, code};
 use std::alloc::{AllocError, Global};
 
 /// The text of this number in the table, or nothing.
@@ -132,12 +132,12 @@ pub fn refuse(alloc: Global, tokens: &Tokens, fault: ReadFault) -> FrontFault
         ReadFault::At(n) => {
             let rest = last(n, tokens.list.as_slice());
             let word = refused_word(alloc, tokens.names.as_slice(), rest);
-            refused(4, place_at(tokens.end, rest), word)
+            refused(code::GRAMMAR, place_at(tokens.end, rest), word)
         }
         ReadFault::Over(limit, n) => {
             let rest = last(n, tokens.list.as_slice());
             let word = Vec::from_slice(alloc, limit_word(limit));
-            refused(11, place_at(tokens.end, rest), word)
+            refused(code::LIMIT, place_at(tokens.end, rest), word)
         }
         ReadFault::Memory => FrontFault::Memory,
     }

@@ -1,6 +1,7 @@
 -- Ours, in words of mon_syntax/specs/Spelled.
 -- What the answers on a monitored text mean.
 use Rattle.std.specs.Prelude.{◌≡◌, ℕ, List, Some, None, Ok, Err}
+use Rattle.c_syntax.specs.RefusalCodes.{name_code, type_code}
 use Rattle.c_syntax.specs.declared.refusal.FrontFault.{FrontFault}
 use Rattle.c_syntax.specs.declared.refusal.FrontFault.TheVariants as front
 use Rattle.c_syntax.specs.Tokens.{PlainTokens}
@@ -44,6 +45,6 @@ pub record IsEntered (ts : PlainTokens) (p : ParsedProgram) (m : MonitoredProgra
 
 -- the refusal for a fault in names and types
 abbrev pub RefusesFault : PlainTokens → CheckFault → FrontFault → Type 0
-RefusesFault ts (BadName at) e = RefusesWith (check_refusal ts (record { code = 5; place = at })) e
-RefusesFault ts (BadType at) e = RefusesWith (check_refusal ts (record { code = 6; place = at })) e
+RefusesFault ts (BadName at) e = RefusesWith (check_refusal ts (record { code = name_code; place = at })) e
+RefusesFault ts (BadType at) e = RefusesWith (check_refusal ts (record { code = type_code; place = at })) e
 RefusesFault ts Memory e = e ≡ front.Memory

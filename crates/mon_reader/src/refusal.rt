@@ -7,7 +7,7 @@ ghost use Rattle.mon_parser.specs.Reading.{plain_list};
 ghost use Rattle.mon_parser.specs.Answers.{RefusesWith};
 ghost use Rattle.mon_reader.specs.Answers.{RefusesFault};
 
-use c_syntax::{FrontFault, Place, Token, Tokens};
+use c_syntax::{FrontFault, Place, Token, Tokens, code};
 use mon_parser::{refused, refused_word};
 use mon_typing::CheckFault;
 use std::alloc::Global;
@@ -40,8 +40,8 @@ pub fn refuse(alloc: Global, tokens: &Tokens, fault: CheckFault) -> FrontFault
     ensures { RefusesFault (plain_tokens tokens.now) fault result }
 {
     match fault {
-        CheckFault::BadName(place) => refused_at(alloc, tokens, 5, place),
-        CheckFault::BadType(place) => refused_at(alloc, tokens, 6, place),
+        CheckFault::BadName(place) => refused_at(alloc, tokens, code::NAME, place),
+        CheckFault::BadType(place) => refused_at(alloc, tokens, code::TYPE, place),
         CheckFault::Memory => FrontFault::Memory,
     }
 }
@@ -50,5 +50,5 @@ pub fn refuse(alloc: Global, tokens: &Tokens, fault: CheckFault) -> FrontFault
 pub fn no_main(alloc: Global, place: Place) -> FrontFault
     ensures { RefusesWith (no_main place) result }
 {
-    refused(13, place, Vec::from_slice(alloc, b"main"))
+    refused(code::MAIN, place, Vec::from_slice(alloc, b"main"))
 }

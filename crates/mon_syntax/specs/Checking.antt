@@ -3,6 +3,7 @@
 -- parts has a fault, and the first fault in text order counts.
 use Rattle.std.specs.Prelude.{ℕ, suc, unsigned_abs, List, [], ◌∷◌, ◌++◌, map, Option, Some, None, Result, Ok, Err, Bool, true, false, not, ◌&&◌, if◌then◌else◌, nat_eq, nat_le, slice_get, codes, bytes_eq, drop, length}
 use Rattle.std.specs.List.{list_any}
+use Rattle.c_syntax.specs.RefusalCodes.{name_code, type_code}
 use Rattle.c_syntax.specs.declared.place.Place.{Place}
 use Rattle.c_syntax.specs.declared.annotation.Kind.{Kind}
 use Rattle.c_syntax.specs.declared.annotation.Kind.TheVariants.{Assert, Requires, Assumes, Ensures, Complete, Disjoint, Invariant, Variant, Rte}
@@ -29,10 +30,10 @@ abbrev pub Checked : Type 0 → Type 0
 Checked A = Result A Fault
 
 abbrev pub name_fault : {A : Type 0} → Place → Checked A
-name_fault at = Err (record { code = 5; place = at })
+name_fault at = Err (record { code = name_code; place = at })
 
 abbrev pub type_fault : {A : Type 0} → Place → Checked A
-type_fault at = Err (record { code = 6; place = at })
+type_fault at = Err (record { code = type_code; place = at })
 
 infixl 10 ◌>>=◌
 abbrev pub ◌>>=◌ : {A B : Type 0} → Checked A → (A → Checked B) → Checked B

@@ -4,6 +4,7 @@ use Rattle.std.specs.Prelude.{◌≡◌, ℕ, suc, unsigned_abs, List, [], ◌�
 use Rattle.std.specs.Fmt.{decimal}
 use Rattle.grammar.specs.Syntax as grammar
 use Rattle.grammar.specs.Exact.{Accepts, Refused}
+use Rattle.c_syntax.specs.RefusalCodes.{grammar_code, limit_code, main_code}
 use Rattle.c_syntax.specs.declared.place.Place.{Place}
 use Rattle.c_syntax.specs.Tokens as token
 use Rattle.c_syntax.specs.Tokens.{PlainTokenKind, PlainToken, PlainTokens}
@@ -64,8 +65,8 @@ abbrev pub limit_word : ℕ → List ℕ
 limit_word limit = if eqb limit expression_limit then codes "expression" else codes "nesting"
 
 abbrev pub grammar_refusal : PlainTokens → grammar.Fault → PlainRefusal
-grammar_refusal ts (grammar.At n) = refused_at ts 4 (last n ts.list)
-grammar_refusal ts (grammar.Over limit n) = record { code = 11; place = place_at ts.end (last n ts.list); construct = limit_word limit }
+grammar_refusal ts (grammar.At n) = refused_at ts grammar_code (last n ts.list)
+grammar_refusal ts (grammar.Over limit n) = record { code = limit_code; place = place_at ts.end (last n ts.list); construct = limit_word limit }
 
 -- what the words of a text are
 abbrev pub vocabulary : PlainTokens → Vocabulary
@@ -86,7 +87,7 @@ checked ts p = checked_program ts.names (vocabulary ts) p
 -- ---- E13: no `main`, or one that isn't `i32 main(void)`
 
 abbrev pub no_main : Place → PlainRefusal
-no_main at = record { code = 13; place = at; construct = codes "main" }
+no_main at = record { code = main_code; place = at; construct = codes "main" }
 
 abbrev pub is_i32 : Option MonType → Bool
 is_i32 None = false

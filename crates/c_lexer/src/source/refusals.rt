@@ -9,22 +9,22 @@ use super::directives::{directive_line, front_word};
 use super::words::word;
 use crate::refusals::first_byte;
 use c_model::c_tokens::Fault;
-use c_syntax::{FrontFault, Name, Place, Refusal};
+use c_syntax::{FrontFault, Name, Place, Refusal, code};
 use std::alloc::{AllocError, Global};
 
 fn code_of(fault: Fault) -> u8
     ensures { result ≡ code_of fault }
 {
     match fault {
-        Fault::Byte => 1,
+        Fault::Byte => code::BYTE,
         Fault::Comment
         | Fault::Name
         | Fault::Number
         | Fault::Letter
         | Fault::Chars
-        | Fault::Directive => 2,
-        Fault::OutsideWord | Fault::OutsideDirective => 3,
-        Fault::Limit => 11,
+        | Fault::Directive => code::TOKEN,
+        Fault::OutsideWord | Fault::OutsideDirective => code::PROFILE,
+        Fault::Limit => code::LIMIT,
     }
 }
 

@@ -1,0 +1,34 @@
+-- Ours: the codes of refusals, as they stand after `E` in a report.
+use Rattle.std.specs.Prelude.{ℕ}
+
+-- a byte that begins no token
+abbrev pub byte_code : ℕ
+byte_code = 1
+
+-- a broken token: an unclosed comment, a literal, a name or a directive of no right form
+abbrev pub token_code : ℕ
+token_code = 2
+
+-- a word or directive that is outside the profile
+abbrev pub profile_code : ℕ
+profile_code = 3
+
+-- a token that can't follow those before it
+abbrev pub grammar_code : ℕ
+grammar_code = 4
+
+-- a name without a fitting declaration
+abbrev pub name_code : ℕ
+name_code = 5
+
+-- a demand on types that isn't met
+abbrev pub type_code : ℕ
+type_code = 6
+
+-- a limit that is passed
+abbrev pub limit_code : ℕ
+limit_code = 11
+
+-- no `main`, or one of another form
+abbrev pub main_code : ℕ
+main_code = 13
