@@ -5,6 +5,7 @@ pub mod Memory
 pub mod State
 pub mod Logic
 pub mod Meaning
+pub mod Statuses
 pub mod Reports
 pub mod Words
 pub mod Arguments

@@ -9,6 +9,7 @@ use Rattle.c_syntax.specs.declared.types.How.TheVariants as how
 use Rattle.c_syntax.specs.declared.types.Segment.{Segment}
 use Rattle.c_syntax.specs.declared.types.Segment.TheVariants.{Heap, Stack, Frames, Numbers}
 use Rattle.c_syntax.specs.Programs.{PlainRefusal}
+use Rattle.c_model.specs.Statuses.{exited_status, broken_status, full_status, spent_status, fault_status, read_fault_status}
 use Rattle.c_model.specs.State.{Final, Exits, Broken, Undefined, Fault, Spent, Full, ReadFault}
 use Rattle.c_model.specs.Meaning.{Ran}
 
@@ -52,13 +53,13 @@ refused_words r = codes "refused E" ++ (decimal r.code ++ (codes " at " ++ (deci
 
 -- the report of an end; an undefined operation has none
 abbrev pub report : Final → Option Report
-report (Exits k) = Some (record { status = 0; line = line_of (codes "exit " ++ signed_decimal k) })
-report (Broken number line kind how) = Some (record { status = 1; line = line_of (broken_words number line kind how) })
+report (Exits k) = Some (record { status = exited_status; line = line_of (codes "exit " ++ signed_decimal k) })
+report (Broken number line kind how) = Some (record { status = broken_status; line = line_of (broken_words number line kind how) })
 report (Undefined at) = None
-report Fault = Some (record { status = 6; line = line_of (codes "fault") })
-report Spent = Some (record { status = 5; line = line_of (codes "steps spent") })
-report (Full segment) = Some (record { status = 4; line = line_of (codes "full " ++ segment_word segment) })
-report ReadFault = Some (record { status = 7; line = line_of (codes "read fault") })
+report Fault = Some (record { status = fault_status; line = line_of (codes "fault") })
+report Spent = Some (record { status = spent_status; line = line_of (codes "steps spent") })
+report (Full segment) = Some (record { status = full_status; line = line_of (codes "full " ++ segment_word segment) })
+report ReadFault = Some (record { status = read_fault_status; line = line_of (codes "read fault") })
 
 -- b goes on from what a printed
 pub record Extends (a b : List ℕ) : Type 0 where

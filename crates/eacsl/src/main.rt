@@ -2,7 +2,7 @@
 #![tactic(auto)]
 
 use ea_ports::{FileFolder, ReadSource, WriteSink};
-use eacsl_cli::eacsl;
+use eacsl_cli::{eacsl, status};
 use std::process::ExitCode;
 use std::{env, io};
 
@@ -14,8 +14,8 @@ fn words(rt: &HostRuntime) -> io::Result<Vec<String>> {
 fn main(rt: HostRuntime) -> ExitCode {
     let words = match words(&rt) {
         Ok(words) => words,
-        Err(error) if error.kind() == io::ErrorKind::OutOfMemory => return ExitCode::from(9),
-        Err(_) => return ExitCode::from(13),
+        Err(error) if error.kind() == io::ErrorKind::OutOfMemory => return ExitCode::from(status::OUT_OF_MEMORY),
+        Err(_) => return ExitCode::from(status::NO_WORDS),
     };
     let mut input = ReadSource::new(rt.stdin());
     let mut out = WriteSink::new(rt.stdout());

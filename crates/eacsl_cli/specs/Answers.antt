@@ -11,6 +11,7 @@ use Rattle.c_model.specs.Phases.{AcceptedText, RefusedText}
 use Rattle.c_model.specs.State.{Input, InputFault, ReadFault}
 use Rattle.c_model.specs.Meaning.{Ran}
 use Rattle.c_model.specs.Laws.{NeverFaults}
+use Rattle.c_model.specs.Statuses.{exited_status, refused_status, usage_status, read_fault_status, write_fault_status, no_memory_status, no_file_status, too_long_status}
 use Rattle.c_model.specs.Reports.{Report, report, line_of, refused_words, Extends}
 use Rattle.mon_syntax.specs.Trees.{MonitoredProgram}
 use Rattle.mon_syntax.specs.Memories.{flat_run}
@@ -30,19 +31,19 @@ abbrev pub silent : ℕ → List ℕ → Answer
 silent status words = record { status = status; output = []; line = line_of words }
 
 abbrev pub usage_answer : Answer
-usage_answer = silent 3 (codes "usage")
+usage_answer = silent usage_status (codes "usage")
 
 abbrev pub read_fault_answer : Answer
-read_fault_answer = silent 7 (codes "read fault")
+read_fault_answer = silent read_fault_status (codes "read fault")
 
 abbrev pub no_file_answer : Answer
-no_file_answer = silent 10 (codes "no file")
+no_file_answer = silent no_file_status (codes "no file")
 
 abbrev pub too_long_answer : Answer
-too_long_answer = silent 11 (codes "file too long")
+too_long_answer = silent too_long_status (codes "file too long")
 
 abbrev pub refused_answer : PlainRefusal → Answer
-refused_answer r = silent 2 (refused_words r)
+refused_answer r = silent refused_status (refused_words r)
 
 -- the line of status 9
 abbrev pub memory_line : List ℕ
@@ -62,7 +63,7 @@ pub record AnswersRun (r : Ran) (a : Answer) : Type 0 where
 
 -- the answer that a monitored program was written: its text, and no line
 abbrev pub written_answer : MonitoredProgram → Answer
-written_answer m = record { status = 0; output = text_of m; line = [] }
+written_answer m = record { status = exited_status; output = text_of m; line = [] }
 
 -- The bytes that a run took from the source. It wanted each of them: on an input that faults in its place the run is a read fault.
 pub record TookWanted (source : Taking) (m : MonitoredProgram) (steps : ℕ) : Type 0 where
@@ -167,9 +168,9 @@ IsLine Due sent line = ((a : Answer) × Due a × (sent ≡ a.output) × (line �
 -- output a beginning of a line: none where the output failed, and that of an answer only behind the answer's whole output.
 pub data Answered (Due : Answer → Type 0) (Begin : List ℕ → Type 0) (out err : Change) (status : ℕ) : Type 0 where
   Given : (a : Answer) → Due a → status ≡ a.status → out.told' ≡ more out.told a.output → out.faults' ≡ out.faults → err.told' ≡ more err.told a.line → err.faults' ≡ err.faults → Answered Due Begin out err status
-  OutputFault : (sent : List ℕ) → status ≡ 8 → Begin sent → out.told' ≡ more out.told sent → Rose out.faults out.faults' → err.told' ≡ err.told → err.faults' ≡ err.faults → Answered Due Begin out err status
-  LineFault : (sent line : List ℕ) (k : ℕ) → status ≡ 8 → Begin sent → out.told' ≡ more out.told sent → out.faults' ≡ out.faults → IsLine Due sent line → err.told' ≡ more err.told (take k line) → Rose err.faults err.faults' → Answered Due Begin out err status
-  NoMemory : (sent line : List ℕ) (k : ℕ) → status ≡ 9 → Begin sent → out.told' ≡ more out.told sent → out.faults' ≡ out.faults → IsLine Due sent line → err.told' ≡ more err.told (take k line) → err.faults' ≡ err.faults → Answered Due Begin out err status
+  OutputFault : (sent : List ℕ) → status ≡ write_fault_status → Begin sent → out.told' ≡ more out.told sent → Rose out.faults out.faults' → err.told' ≡ err.told → err.faults' ≡ err.faults → Answered Due Begin out err status
+  LineFault : (sent line : List ℕ) (k : ℕ) → status ≡ write_fault_status → Begin sent → out.told' ≡ more out.told sent → out.faults' ≡ out.faults → IsLine Due sent line → err.told' ≡ more err.told (take k line) → Rose err.faults err.faults' → Answered Due Begin out err status
+  NoMemory : (sent line : List ℕ) (k : ℕ) → status ≡ no_memory_status → Begin sent → out.told' ≡ more out.told sent → out.faults' ≡ out.faults → IsLine Due sent line → err.told' ≡ more err.told (take k line) → err.faults' ≡ err.faults → Answered Due Begin out err status
 
 -- the program translates that of an accepted text
 pub record IsTranslated (text : List ℕ) (m : MonitoredProgram) : Type 0 where
@@ -180,5 +181,5 @@ pub record IsTranslated (text : List ℕ) (m : MonitoredProgram) : Type 0 where
 -- How one line is put with a status: wholly, or the sink failed (8), or memory was wanting (9), with a beginning of the line.
 pub data IsSaid (line : List ℕ) (status : ℕ) (err : Change) (result : ℕ) : Type 0 where
   Whole : result ≡ status → err.told' ≡ more err.told line → err.faults' ≡ err.faults → IsSaid line status err result
-  Failed : (k : ℕ) → result ≡ 8 → err.told' ≡ more err.told (take k line) → Rose err.faults err.faults' → IsSaid line status err result
-  Wanting : (k : ℕ) → result ≡ 9 → err.told' ≡ more err.told (take k line) → err.faults' ≡ err.faults → IsSaid line status err result
+  Failed : (k : ℕ) → result ≡ write_fault_status → err.told' ≡ more err.told (take k line) → Rose err.faults err.faults' → IsSaid line status err result
+  Wanting : (k : ℕ) → result ≡ no_memory_status → err.told' ≡ more err.told (take k line) → err.faults' ≡ err.faults → IsSaid line status err result

@@ -9,6 +9,7 @@ use Rattle.c_model.specs.WordLaws.{file_named}
 use Rattle.c_model.specs.Phases.{AcceptedText, RefusedText}
 use Rattle.c_model.specs.State.{Input}
 use Rattle.c_model.specs.Meaning.{Ran, run}
+use Rattle.c_model.specs.Statuses.{read_fault_status, write_fault_status, no_memory_status, too_long_status}
 use Rattle.c_model.specs.Reports.{Report, report}
 use Rattle.mon_syntax.specs.Trees.{MonitoredProgram}
 use Rattle.mon_syntax.specs.Memories.{flat_run}
@@ -59,23 +60,23 @@ pub record IsAnswered (source : Taking) (Answers : Input → Answer → Type 0) 
 -- Of each job and text the answer that is due is given, or else memory was wanting.
 pub record Complete (words : List (List ℕ)) (content : Option (List ℕ → Option (List ℕ))) (before now : ℕ) (source : Taking) (out err : Change) (status : ℕ) : Type 0 where
   -- `run` of an accepted text: its one program's run, on the input that the source was
-  pub runs : (file : List ℕ) (steps : ℕ) (text : List ℕ) (p : TranslationUnit) → IsAsked words content before now out err (Run file steps false) text → AcceptedText text p → (status ≡ 9) ⊎ IsAnswered source (λ input a. AnswersSource p input steps a) out err status
+  pub runs : (file : List ℕ) (steps : ℕ) (text : List ℕ) (p : TranslationUnit) → IsAsked words content before now out err (Run file steps false) text → AcceptedText text p → (status ≡ no_memory_status) ⊎ IsAnswered source (λ input a. AnswersSource p input steps a) out err status
   -- `instrument` of an accepted text: the text of a program that translates its one program
-  pub instruments : (file : List ℕ) (text : List ℕ) (p : TranslationUnit) → IsAsked words content before now out err (Instrument file false) text → AcceptedText text p → (status ≡ 9) ⊎ ((m : MonitoredProgram) × Translates p m × IsGiven (written_answer m) out err status)
+  pub instruments : (file : List ℕ) (text : List ℕ) (p : TranslationUnit) → IsAsked words content before now out err (Instrument file false) text → AcceptedText text p → (status ≡ no_memory_status) ⊎ ((m : MonitoredProgram) × Translates p m × IsGiven (written_answer m) out err status)
   -- `exec` of a text that spells a program: its run, on the input that the source was
-  pub executes : (file : List ℕ) (steps : ℕ) (text : List ℕ) (m : MonitoredProgram) → IsAsked words content before now out err (Exec file steps) text → Spells text m → (status ≡ 9) ⊎ IsAnswered source (λ input a. AnswersRun (flat_run m input steps) a) out err status
+  pub executes : (file : List ℕ) (steps : ℕ) (text : List ℕ) (m : MonitoredProgram) → IsAsked words content before now out err (Exec file steps) text → Spells text m → (status ≡ no_memory_status) ⊎ IsAnswered source (λ input a. AnswersRun (flat_run m input steps) a) out err status
   -- any other text: its one refusal
-  pub run_refuses : (file : List ℕ) (steps : ℕ) (text : List ℕ) (r : PlainRefusal) → IsAsked words content before now out err (Run file steps false) text → RefusedText text r → (status ≡ 9) ⊎ IsGiven (refused_answer r) out err status
-  pub instrument_refuses : (file : List ℕ) (text : List ℕ) (r : PlainRefusal) → IsAsked words content before now out err (Instrument file false) text → RefusedText text r → (status ≡ 9) ⊎ IsGiven (refused_answer r) out err status
-  pub exec_refuses : (file : List ℕ) (steps : ℕ) (text : List ℕ) (r : PlainRefusal) → IsAsked words content before now out err (Exec file steps) text → IsMonitoredRefusal text r → (status ≡ 9) ⊎ IsGiven (refused_answer r) out err status
+  pub run_refuses : (file : List ℕ) (steps : ℕ) (text : List ℕ) (r : PlainRefusal) → IsAsked words content before now out err (Run file steps false) text → RefusedText text r → (status ≡ no_memory_status) ⊎ IsGiven (refused_answer r) out err status
+  pub instrument_refuses : (file : List ℕ) (text : List ℕ) (r : PlainRefusal) → IsAsked words content before now out err (Instrument file false) text → RefusedText text r → (status ≡ no_memory_status) ⊎ IsGiven (refused_answer r) out err status
+  pub exec_refuses : (file : List ℕ) (steps : ℕ) (text : List ℕ) (r : PlainRefusal) → IsAsked words content before now out err (Exec file steps) text → IsMonitoredRefusal text r → (status ≡ no_memory_status) ⊎ IsGiven (refused_answer r) out err status
 
 -- a status of the program, and what shows it
 pub record IsStatus (before now : ℕ) (source : Taking) (status : ℕ) : Type 0 where
-  pub most : status ≤ 11
+  pub most : status ≤ too_long_status
   -- a read fault comes only where the folder or the source failed
-  pub read_fault : status ≡ 7 → Rose before now ⊎ Rose source.faults source.faults'
+  pub read_fault : status ≡ read_fault_status → Rose before now ⊎ Rose source.faults source.faults'
   -- where the source failed, that is the answer, unless a sink failed or memory was wanting
-  pub source_fault : source.faults < source.faults' → (status ≡ 7) ⊎ (status ≡ 8) ⊎ (status ≡ 9)
+  pub source_fault : source.faults < source.faults' → (status ≡ read_fault_status) ⊎ (status ≡ write_fault_status) ⊎ (status ≡ no_memory_status)
 
 -- the job reads the program's input
 abbrev pub reads_input : Option Job → Bool

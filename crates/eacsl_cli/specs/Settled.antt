@@ -2,6 +2,7 @@
 -- How a line was said, where there may be no memory for it, and what the end of a run reports.
 use Rattle.std.specs.Prelude.{◌≡◌, ℕ, List, Option, Some, None}
 use Rattle.c_model.specs.State.{Exits, Broken, Fault, Spent, Full, ReadFault}
+use Rattle.c_model.specs.Statuses.{write_fault_status, no_memory_status}
 use Rattle.c_model.specs.Reports.{Report, report}
 use Rattle.c_machine.specs.declared.stop.Stop.{Stop}
 use Rattle.c_machine.specs.declared.stop.Stop.TheVariants as stop
@@ -10,7 +11,7 @@ use Rattle.eacsl_cli.specs.Answers.{Change, IsSaid, memory_line}
 -- a line that is made when it is said: it was said with the status, or there was no memory for it, and that was said
 pub data IsSettled (line : List ℕ) (status : ℕ) (err : Change) (result : ℕ) : Type 0 where
   Said : IsSaid line status err result → IsSettled line status err result
-  Wanting : IsSaid memory_line 9 err result → IsSettled line status err result
+  Wanting : IsSaid memory_line no_memory_status err result → IsSettled line status err result
 
 -- the report of an end; there is none where the sink refused, and where memory was wanting
 abbrev pub report_of : Stop → Option Report
@@ -37,7 +38,7 @@ pub record IsReported (end : Stop) (err : Change) (result : ℕ) : Type 0 where
 
 -- nothing is said where the output failed
 pub record IsSilent (err : Change) (result : ℕ) : Type 0 where
-  pub status : result ≡ 8
+  pub status : result ≡ write_fault_status
   pub told : err.told' ≡ err.told
   pub faults : err.faults' ≡ err.faults
 
@@ -45,7 +46,7 @@ pub record IsSilent (err : Change) (result : ℕ) : Type 0 where
 -- any other line becomes that of status 9 only by the sink's own answer.
 abbrev pub Reported : Stop → Change → ℕ → Type 0
 Reported stop.WriteFault err result = IsSilent err result
-Reported stop.OutOfMemory err result = IsSaid memory_line 9 err result
+Reported stop.OutOfMemory err result = IsSaid memory_line no_memory_status err result
 Reported (stop.Exit z) err result = IsReported (stop.Exit z) err result
 Reported (stop.Broken number line kind how) err result = IsReported (stop.Broken number line kind how) err result
 Reported stop.Spent err result = IsTold stop.Spent err result

@@ -4,6 +4,7 @@ ghost use Rattle.std.specs.Prelude.{◌≡◌, ◌≤◌, List, MatchResult, Non
 ghost use Rattle.c_syntax.specs.Programs.{plain_refusal};
 ghost use Rattle.c_model.specs.Limits.{most_annotated, most_monitored};
 ghost use Rattle.c_model.specs.Reports.{line_of, refused_words};
+ghost use Rattle.c_model.specs.Statuses.{no_memory_status, refused_status};
 ghost use Rattle.c_model.specs.WordLaws.{file_named};
 ghost use Rattle.c_model.specs.Words.{job_of};
 ghost use Rattle.mon_syntax.specs.Trees.{plain_program};
@@ -13,6 +14,7 @@ ghost use Rattle.eacsl_cli.specs.Answers.{Answered, AnswersOnInput, Begins, Begi
 ghost use Rattle.eacsl_cli.specs.Settled.{IsReported, IsSettled, IsTold, Reported};
 ghost use Rattle.eacsl_cli.specs.Complete.{Complete, IsStatus, LeavesSource};
 
+use crate::status;
 use crate::lines::{broken_line, exit_line, refused_line, say};
 use c_lower::lower;
 use c_machine::{Stop, run};
@@ -29,16 +31,16 @@ use std::alloc::{AllocError, Global};
 
 // Says that memory is wanting.
 fn out_of_memory<E: Sink>(err: &mut E) -> u8
-    ensures { IsSaid memory_line 9 (change (E.told err.old) (E.told err.new) (E.faults err.old) (E.faults err.new)) result }
+    ensures { IsSaid memory_line no_memory_status (change (E.told err.old) (E.told err.new) (E.faults err.old) (E.faults err.new)) result }
 {
-    say(err, b"eacsl: out of memory\n", 9)
+    say(err, b"eacsl: out of memory\n", status::OUT_OF_MEMORY)
 }
 
 fn report_exit<E: Sink>(alloc: Global, value: i128, err: &mut E) -> u8
     ensures { IsReported (Stop.Exit value) (change (E.told err.old) (E.told err.new) (E.faults err.old) (E.faults err.new)) result }
 {
     match exit_line(alloc, value) {
-        Ok(line) => say(err, line.as_bytes(), 0),
+        Ok(line) => say(err, line.as_bytes(), status::EXITED),
         Err(_) => out_of_memory(err),
     }
 }
@@ -54,7 +56,7 @@ fn report_broken<E: Sink>(
     ensures { IsReported (Stop.Broken number line kind how) (change (E.told err.old) (E.told err.new) (E.faults err.old) (E.faults err.new)) result }
 {
     match broken_line(alloc, number, line, kind, how) {
-        Ok(line) => say(err, &line, 1),
+        Ok(line) => say(err, &line, status::BROKEN),
         Err(_) => out_of_memory(err),
     }
 }
@@ -64,10 +66,10 @@ fn report_full<E: Sink>(segment: Segment, err: &mut E) -> u8
     ensures { IsTold (Stop.Full segment) (change (E.told err.old) (E.told err.new) (E.faults err.old) (E.faults err.new)) result }
 {
     match segment {
-        Segment::Heap => say(err, b"eacsl: full heap\n", 4),
-        Segment::Stack => say(err, b"eacsl: full stack\n", 4),
-        Segment::Frames => say(err, b"eacsl: full frames\n", 4),
-        Segment::Numbers => say(err, b"eacsl: full numbers\n", 4),
+        Segment::Heap => say(err, b"eacsl: full heap\n", status::FULL),
+        Segment::Stack => say(err, b"eacsl: full stack\n", status::FULL),
+        Segment::Frames => say(err, b"eacsl: full frames\n", status::FULL),
+        Segment::Numbers => say(err, b"eacsl: full numbers\n", status::FULL),
     }
 }
 
@@ -83,21 +85,21 @@ fn report_stop<E: Sink>(alloc: Global, stop: Stop, err: &mut E) -> u8
             kind,
             how,
         } => report_broken(alloc, number, line, kind, how, err),
-        Stop::Spent => say(err, b"eacsl: steps spent\n", 5),
+        Stop::Spent => say(err, b"eacsl: steps spent\n", status::SPENT),
         Stop::Full(segment) => report_full(segment, err),
-        Stop::Fault => say(err, b"eacsl: fault\n", 6),
-        Stop::ReadFault => say(err, b"eacsl: read fault\n", 7),
-        Stop::WriteFault => 8,
+        Stop::Fault => say(err, b"eacsl: fault\n", status::FAULT),
+        Stop::ReadFault => say(err, b"eacsl: read fault\n", status::READ_FAULT),
+        Stop::WriteFault => status::WRITE_FAULT,
         Stop::OutOfMemory => out_of_memory(err),
     }
 }
 
 // Says why a text is refused.
 fn refuse<E: Sink>(alloc: Global, refusal: &Refusal, err: &mut E) -> u8
-    ensures { IsSettled (line_of (refused_words (plain_refusal refusal.now))) 2 (change (E.told err.old) (E.told err.new) (E.faults err.old) (E.faults err.new)) result }
+    ensures { IsSettled (line_of (refused_words (plain_refusal refusal.now))) refused_status (change (E.told err.old) (E.told err.new) (E.faults err.old) (E.faults err.new)) result }
 {
     match refused_line(alloc, refusal) {
-        Ok(line) => say(err, &line, 2),
+        Ok(line) => say(err, &line, status::REFUSED),
         Err(_) => out_of_memory(err),
     }
 }
@@ -164,8 +166,8 @@ pub fn instrument_text<O: Sink, E: Sink>(alloc: Global, text: &[u8], out: &mut O
         Err(FrontFault::Memory) => return out_of_memory(err),
     };
     match print(&m, out) {
-        Ok(()) => 0,
-        Err(SinkFault::Failed) => 8,
+        Ok(()) => status::EXITED,
+        Err(SinkFault::Failed) => status::WRITE_FAULT,
         Err(SinkFault::Memory) => out_of_memory(err),
     }
 }
@@ -279,14 +281,14 @@ pub fn eacsl<F: Folder, I: Source, O: Sink, E: Sink>(
 {
     let job = match read_words(alloc, &words) {
         Ok(Some(job)) => job,
-        Ok(None) => return say(err, b"eacsl: usage\n", 3),
+        Ok(None) => return say(err, b"eacsl: usage\n", status::USAGE),
         Err(_) => return out_of_memory(err),
     };
     match files.fetch(alloc, file_name(&job).text(), limit_of(&job)) {
         Ok(text) => do_job(alloc, &job, &text, input, out, err),
-        Err(FetchFault::Missing) => say(err, b"eacsl: no file\n", 10),
-        Err(FetchFault::TooLong) => say(err, b"eacsl: file too long\n", 11),
-        Err(FetchFault::Failed) => say(err, b"eacsl: read fault\n", 7),
+        Err(FetchFault::Missing) => say(err, b"eacsl: no file\n", status::NO_FILE),
+        Err(FetchFault::TooLong) => say(err, b"eacsl: file too long\n", status::TOO_LONG),
+        Err(FetchFault::Failed) => say(err, b"eacsl: read fault\n", status::READ_FAULT),
         Err(FetchFault::Memory) => out_of_memory(err),
     }
 }

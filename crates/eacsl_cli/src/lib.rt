@@ -3,5 +3,6 @@
 
 mod answer;
 mod lines;
+pub mod status;
 
 pub use answer::{eacsl, exec_text, instrument_text, run_text};

@@ -6,6 +6,7 @@ ghost use Rattle.c_syntax.specs.Programs.{plain_refusal};
 ghost use Rattle.c_model.specs.Reports.{broken_words, how_word, line_of, refused_words};
 ghost use Rattle.eacsl_cli.specs.Answers.{IsSaid, change};
 
+use crate::status;
 use c_printer::kind_word;
 use c_syntax::{How, Kind, Refusal};
 use ea_ports::{Sink, SinkFault};
@@ -67,7 +68,7 @@ pub fn say<E: Sink>(err: &mut E, line: &[u8], status: u8) -> u8
 {
     match err.put(line) {
         Ok(()) => status,
-        Err(SinkFault::Failed) => 8,
-        Err(SinkFault::Memory) => 9,
+        Err(SinkFault::Failed) => status::WRITE_FAULT,
+        Err(SinkFault::Memory) => status::OUT_OF_MEMORY,
     }
 }
