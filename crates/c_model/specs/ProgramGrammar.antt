@@ -29,9 +29,9 @@ use Rattle.c_syntax.specs.declared.annotation.Relation.TheVariants as relation
 use Rattle.c_syntax.specs.Ctypes.{PlainType, Void}
 use Rattle.c_syntax.specs.Expressions.{Expression}
 use Rattle.c_syntax.specs.Annotations as logic
-use Rattle.c_syntax.specs.Annotations.{LogicTerm, Predicate, Chain, Links, NoLink, Linked, ClauseBody, Truth, Annotation}
+use Rattle.c_syntax.specs.Annotations.{LogicTerm, Chain, NoLink, Linked, Truth, Annotation}
 use Rattle.c_syntax.specs.Statements as statement
-use Rattle.c_syntax.specs.Statements.{Initialiser, One, Declaration, Statement, ElsePart, NoElse, ForFirst, NoFirst, First, BlockItem, BlockItems, NoItem, Then}
+use Rattle.c_syntax.specs.Statements.{One, Declaration, Statement, ElsePart, NoElse, ForFirst, NoFirst, First, BlockItem, BlockItems, NoItem, Then}
 use Rattle.c_syntax.specs.Programs.{Function, TranslationUnit}
 use Rattle.c_syntax.specs.Tokens as token
 use Rattle.c_syntax.specs.Tokens.{PlainTokenKind, PlainToken}
@@ -78,10 +78,6 @@ abbrev mutual
   pub is_open_else : ElsePart → Bool
   is_open_else NoElse = true
   is_open_else (statement.Else a) = is_open a
-
--- what a statement can go on with
-abbrev pub else_behind : Statement → List ℕ
-else_behind a = cond (is_open a) (keyword_kind keyword.Else ∷ []) []
 
 -- ranges are set by a later phase
 abbrev pub no_range : Range

@@ -137,11 +137,6 @@ condition s e = of_type s I32 (place_of e) e
 
 -- ---- arguments
 
-abbrev pub argument_place : ParsedArgument → Place
-argument_place (Value e) = place_of e
-argument_place (Number at z) = at
-argument_place (Text at bytes) = at
-
 abbrev pub value_of_type : Scope → MonType → ParsedArgument → Checked MonExpression
 value_of_type s t (Value e) = of_type s t (place_of e) e
 value_of_type s t (Number at z) = type_fault at
