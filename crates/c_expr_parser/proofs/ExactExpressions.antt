@@ -17,7 +17,10 @@ use Rattle.c_model.specs.declared.operands.TypeUse.{TypeUse}
 use Rattle.c_model.specs.declared.operands.TypeUse.TheVariants.{Casts, Sizes, Nothing}
 use Rattle.c_model.specs.Vocabulary.{Vocabulary}
 use Rattle.c_model.specs.Punctuators.{question, colon, comma, left_paren, right_paren}
-use Rattle.c_model.specs.ExpressionGrammar.{name_kind, number_kind, letter_kind, keyword_kind, mark_kind, kind, kinds_of, unary_operators, operators_at, levels, assignment_operators, prefix_bumps, postfix_bumps, first_type, first_expression, first_effect, expression_limit, most_in_expression, ReadOperand, Operand, closed, literal, cast_rest, sized_type, paren_rest, behind_paren, prefixed, sized, operand_but_name, operand_of, operand, joined_once, behind_operand, choice_rest, expression_rest, expression_of, expression, next_argument, arguments, call_rest, behind_name_or_callee, expression_or_call, assigned_value, assigned, bumped, behind_unary, behind_primary, behind_form, effect_rest, bump_first, effect_but_name, effect, behind_name, effect_or_call, full_expression, full_expression_or_call, full_effect, full_effect_or_call}
+use Rattle.c_model.specs.ExpressionGrammar.{name_kind, number_kind, letter_kind, keyword_kind, mark_kind, kind, kinds_of, unary_operators, operators_at, levels, assignment_operators, prefix_bumps, postfix_bumps, first_type, first_expression}
+use Rattle.c_model.specs.ExpressionGrammar.{first_effect, expression_limit, most_in_expression, ReadOperand, Operand, closed, literal, cast_rest, sized_type, paren_rest, behind_paren, prefixed, sized, operand_but_name, operand_of, operand}
+use Rattle.c_model.specs.ExpressionGrammar.{joined_once, behind_operand, choice_rest, expression_rest, expression_of, expression, next_argument, arguments, call_rest, behind_name_or_callee, expression_or_call, assigned_value, assigned, bumped}
+use Rattle.c_model.specs.ExpressionGrammar.{behind_unary, behind_primary, behind_form, effect_rest, bump_first, effect_but_name, effect, behind_name, effect_or_call, full_expression, full_expression_or_call, full_effect, full_effect_or_call}
 use Rattle.c_expr_parser.proofs.Unlimited.{expression_free, expression_or_call_free, effect_free, effect_or_call_free}
 use Rattle.c_expr_parser.proofs.ExactTokens.{IsRead, AreRead, fixed_good, name_good, number_good, letter_good, marks_good}
 use Rattle.c_expr_parser.proofs.ExactTypes.{apart_none, enlarged, type_good}
@@ -107,7 +110,8 @@ module _ (ws : Vocabulary) where
     unfolding operand_of
     operand_of_good u = declared (either (name_kind ∷ []) (seq (name_good ws) (λ x. given _) refl) (but_name_good u) refl) refl
 
-  operand_step : {E : Syntax PlainToken Expression} → IsExact (kind ws) E false first_expression (λ _. more_expression) → (k : ℕ) (U U' : Operand ws) → ((u : TypeUse) → AreRead ws k (U u) (U' u) false first_expression []) → (u : TypeUse) → AreRead ws (suc k) (operand_of ws E U u) (operand_of ws E U' u) false first_expression []
+  operand_step : {E : Syntax PlainToken Expression} → IsExact (kind ws) E false first_expression (λ _. more_expression) → (k : ℕ) (U U' : Operand ws) → ((u : TypeUse) → AreRead ws k (U u) (U' u) false first_expression []) → (u : TypeUse)
+      → AreRead ws (suc k) (operand_of ws E U u) (operand_of ws E U' u) false first_expression []
   operand_step e k U U' o u = operand_of_good (same e) o u
 
   pub operand_good : {n : ℕ} {E E' : Syntax PlainToken Expression} → AreRead ws n E E' false first_expression more_expression → (u : TypeUse) → AreRead ws (suc n) (operand ws E u) (operand ws E' u) false first_expression []
@@ -119,10 +123,13 @@ module _ (ws : Vocabulary) where
 
   module _ {n : ℕ} {E E' : Syntax PlainToken Expression} (e : AreRead ws n E E' false first_expression more_expression) where
     -- the right operand of an operator, where what stands behind it is read exactly
-    right_good : (l : ℕ) → ((x : Expression) → AreRead ws (suc n) (behind_operand ws E l x) (behind_operand ws E' l x) true (kinds_below l) (kinds_below l)) → AreRead ws (suc n) (operand ws E Casts then λ z. behind_operand ws E l z.expression) (operand ws E' Casts then λ z. behind_operand ws E' l z.expression) false first_expression (kinds_below l)
+    right_good : (l : ℕ) → ((x : Expression) → AreRead ws (suc n) (behind_operand ws E l x) (behind_operand ws E' l x) true (kinds_below l) (kinds_below l))
+        → AreRead ws (suc n) (operand ws E Casts then λ z. behind_operand ws E l z.expression) (operand ws E' Casts then λ z. behind_operand ws E' l z.expression) false first_expression (kinds_below l)
     right_good l b = enlarged ws first_expression (kinds_below l) (seq (operand_good e Casts) (λ z. b z.expression) (apart_none (kinds_below l))) refl (λ x. within_both (kinds_below l) [] (kinds_below l) (within_self (kinds_below l)) refl)
 
-    pub joined_good : (l : ℕ) → ((x : Expression) → AreRead ws (suc n) (behind_operand ws E l x) (behind_operand ws E' l x) true (kinds_below l) (kinds_below l)) → (x : Expression) → AreRead ws (suc n) (joined_once ws l (operand ws E Casts then λ z. behind_operand ws E l z.expression) x) (joined_once ws l (operand ws E' Casts then λ z. behind_operand ws E' l z.expression) x) false (kinds_of (operators_at l)) (kinds_below l)
+    pub joined_good : (l : ℕ) → ((x : Expression) → AreRead ws (suc n) (behind_operand ws E l x) (behind_operand ws E' l x) true (kinds_below l) (kinds_below l)) → (x : Expression)
+        → AreRead ws (suc n) (joined_once ws l (operand ws E Casts then λ z. behind_operand ws E l z.expression) x) (joined_once ws l (operand ws E' Casts then λ z. behind_operand ws E' l z.expression) x) false (kinds_of (operators_at l))
+        (kinds_below l)
     unfolding joined_once
     joined_good l b x =
         enlarged ws (kinds_of (operators_at l)) (kinds_below l) (seq (marks_good ws (operators_at l)) (λ p. seq (right_good l b) (λ y. given _) refl) refl)
@@ -130,7 +137,8 @@ module _ (ws : Vocabulary) where
         (λ y. within_both (kinds_below l) [] (kinds_below l) (within_self (kinds_below l)) refl)
 
     -- behind the operators of the levels below l, those of the level l
-    level_good : (l : ℕ) → apart (kinds_of (operators_at l)) (kinds_below l) ≡ true → ((x : Expression) → AreRead ws (suc n) (behind_operand ws E l x) (behind_operand ws E' l x) true (kinds_below l) (kinds_below l)) → (x : Expression) → AreRead ws (suc n) (behind_operand ws E (suc l) x) (behind_operand ws E' (suc l) x) true (kinds_below (suc l)) (kinds_below (suc l))
+    level_good : (l : ℕ) → apart (kinds_of (operators_at l)) (kinds_below l) ≡ true → ((x : Expression) → AreRead ws (suc n) (behind_operand ws E l x) (behind_operand ws E' l x) true (kinds_below l) (kinds_below l)) → (x : Expression)
+        → AreRead ws (suc n) (behind_operand ws E (suc l) x) (behind_operand ws E' (suc l) x) true (kinds_below (suc l)) (kinds_below (suc l))
     unfolding behind_operand
     level_good l a b x =
         let ks = kinds_of (operators_at l) in
@@ -157,7 +165,8 @@ module _ (ws : Vocabulary) where
   unfolding expression_of
   expression_of_good e = declared (seq (operand_good e Casts) (λ x. rest_good e x.expression) refl) refl
 
-  expression_step : (k : ℕ) (U U' : Unit {0} → Syntax PlainToken Expression) → ((s : Unit {0}) → AreRead ws k (U s) (U' s) false first_expression more_expression) → (s : Unit {0}) → AreRead ws (suc k) (expression_of ws (U s)) (expression_of ws (U' s)) false first_expression more_expression
+  expression_step : (k : ℕ) (U U' : Unit {0} → Syntax PlainToken Expression) → ((s : Unit {0}) → AreRead ws k (U s) (U' s) false first_expression more_expression) → (s : Unit {0})
+      → AreRead ws (suc k) (expression_of ws (U s)) (expression_of ws (U' s)) false first_expression more_expression
   expression_step k U U' e s = expression_of_good (e s)
 
   pub expression_exact : IsExact (kind ws) (expression ws) false first_expression (λ _. more_expression)
@@ -197,7 +206,8 @@ module _ (ws : Vocabulary) where
   arguments_good : IsRead ws (arguments ws) true first_expression (mark_kind comma ∷ first_expression ++ more_expression)
   unfolding arguments
   arguments_good =
-      declared (either first_expression (declared {first = first_expression} {more = mark_kind comma ∷ more_expression} (seq expression_good (λ e. again_and_again (mark_kind comma ∷ []) next_argument_good refl (e ∷ [])) refl) refl) (given []) refl) refl
+      declared (either first_expression (declared {first = first_expression} {more = mark_kind comma ∷ more_expression} (seq expression_good (λ e. again_and_again (mark_kind comma ∷ []) next_argument_good refl (e ∷ [])) refl) refl) (given []) refl)
+      refl
 
   call_rest_good : (f : ℕ × Place) → IsRead ws (call_rest ws f) false (mark_kind left_paren ∷ []) []
   unfolding call_rest

@@ -21,7 +21,8 @@ use Rattle.c_model.specs.declared.vocabulary.SizeWords.TheVariants as size
 use Rattle.c_model.specs.declared.vocabulary.SizeWords.{SizeWords}
 use Rattle.c_model.specs.declared.vocabulary.IntegerWords.{IntegerWords}
 use Rattle.c_model.specs.Vocabulary.{Vocabulary, word_at, sign_with, size_with, words_with}
-use Rattle.c_model.specs.ExpressionGrammar.{name_kind, number_kind, letter_kind, type_name_kind, keyword_kind, mark_kind, word_kind, token_kind, kind, placed, number_of, letter_of, entry, mark_entry, kinds_of, first_type, signs_behind, sizes_behind, words_behind, keyword_of, next_words, type_name_word_of, type_name_of, TypeStart, type_start_of, type_start, fixed, name_of, name}
+use Rattle.c_model.specs.ExpressionGrammar.{name_kind, number_kind, letter_kind, type_name_kind, keyword_kind, mark_kind, word_kind, token_kind, kind, placed, number_of, letter_of, entry, mark_entry, kinds_of, first_type, signs_behind, sizes_behind}
+use Rattle.c_model.specs.ExpressionGrammar.{words_behind, keyword_of, next_words, type_name_word_of, type_name_of, TypeStart, type_start_of, type_start, fixed, name_of, name}
 
 -- a production is read exactly, with these sets: where it can be empty, what begins it, and what a reading can go on with
 abbrev pub IsRead : {A : Type 0} → Vocabulary → Syntax PlainToken A → Bool → List ℕ → List ℕ → Type 0
@@ -86,7 +87,8 @@ words_among x k y e = by_sign (sign_with x.sign k) refl e
     by_size (Some z) is h = among_right (keyword_kind k) (signs_behind x.sign) (sizes_behind x.size) (sizes_among x.size k z is)
     by_size None is h = absurd cc
 
-    by_sign : (o : Option SignWords) → sign_with x.sign k ≡ o → elim o [ Some s ↦ Some (record { sign = s; size = x.size }) | None ↦ option_map (λ z. record { sign = x.sign; size = z }) (size_with x.size k) ] ≡ Some y → among (keyword_kind k) (words_behind x) ≡ true
+    by_sign : (o : Option SignWords) → sign_with x.sign k ≡ o → elim o [ Some s ↦ Some (record { sign = s; size = x.size }) | None ↦ option_map (λ z. record { sign = x.sign; size = z }) (size_with x.size k) ] ≡ Some y
+        → among (keyword_kind k) (words_behind x) ≡ true
     by_sign (Some s) is h = among_left (keyword_kind k) (signs_behind x.sign) (sizes_behind x.size) (signs_among x.sign k s is)
     by_sign None is h = by_size (size_with x.size k) refl h
 

@@ -14,7 +14,8 @@ use Rattle.c_model.specs.declared.vocabulary.SizeWords.{SizeWords}
 use Rattle.c_model.specs.declared.vocabulary.SizeWords.TheVariants as size
 use Rattle.c_model.specs.declared.vocabulary.IntegerWords.{IntegerWords}
 use Rattle.c_model.specs.Vocabulary.{Vocabulary, no_words}
-use Rattle.c_model.specs.ExpressionGrammar.{type_name_kind, keyword_kind, kind, first_integer_words, first_base, first_type, signs_behind, sizes_behind, words_behind, integer_word, integer_words, type_name, base, consts, type_words, TypeStart, ConstStart, VoidStart, NameStart, IntegerStart, type_behind}
+use Rattle.c_model.specs.ExpressionGrammar.{type_name_kind, keyword_kind, kind, first_integer_words, first_base, first_type, signs_behind, sizes_behind, words_behind, integer_word, integer_words, type_name, base, consts, type_words, TypeStart}
+use Rattle.c_model.specs.ExpressionGrammar.{ConstStart, VoidStart, NameStart, IntegerStart, type_behind}
 use Rattle.c_expr_parser.proofs.ExactTokens.{AreRead, fixed_good, next_words_good, type_name_good}
 
 pub apart_none : (xs : List ℕ) → apart xs [] ≡ true
@@ -22,7 +23,8 @@ apart_none [] = refl
 apart_none (x ∷ xs) = apart_none xs
 
 -- larger sets do no harm
-pub enlarged : {A : Type 0} (ws : Vocabulary) {n : ℕ} {G H : Syntax PlainToken A} {null : Bool} {f : List ℕ} {m : A → List ℕ} (first more : List ℕ) → IsGood (kind ws) n G H null f m → within f first ≡ true → ((x : A) → within (m x) more ≡ true) → AreRead ws n G H null first more
+pub enlarged : {A : Type 0} (ws : Vocabulary) {n : ℕ} {G H : Syntax PlainToken A} {null : Bool} {f : List ℕ} {m : A → List ℕ} (first more : List ℕ) → IsGood (kind ws) n G H null f m → within f first ≡ true → ((x : A) → within (m x) more ≡ true)
+    → AreRead ws n G H null first more
 enlarged ws {n} {G} {H} {null} {f} {m} first more g w v = record {
   here = widen (kind ws) G null f m null first (λ _. more) g.here (λ h. h) w v;
   there = widen (kind ws) H null f m null first (λ _. more) g.there (λ h. h) w v;
@@ -77,7 +79,8 @@ module _ (ws : Vocabulary) where
   integer_words_good : {n : ℕ} → AreRead ws n (integer_words ws) (integer_words ws) false first_integer_words first_integer_words
   unfolding integer_words
   integer_words_good =
-      declared (seq (integer_word_good no_words) (λ x. seq (enlarged ws first_integer_words first_integer_words (again_and_again_to words_behind words_behind (integer_word_good) words_fit x) (words_within x) words_within) (λ y. given _) refl) refl) refl
+      declared (seq (integer_word_good no_words) (λ x. seq (enlarged ws first_integer_words first_integer_words (again_and_again_to words_behind words_behind (integer_word_good) words_fit x) (words_within x) words_within) (λ y. given _) refl) refl)
+      refl
 
   pub base_good : {n : ℕ} → AreRead ws n (base ws) (base ws) false first_base first_integer_words
   unfolding base type_name

@@ -57,7 +57,8 @@ module _ (ws : Vocabulary) where
   behind_fails zero x ts e h f = absurd (omega arith)
   behind_fails (suc l) x ts e h f = again e (λ d k. let is : suc l - 1 ≡ l = omega arith in let k' = subst (λ (m : ℕ). (behind_operand ws (expression ws) m x).parse ts ≡ Err d) is k in rw k' refl) f
 
-  pub joined_turn : (l : ℕ) (x y : Expression) (ts rest : List PlainToken) → sees (kind ws) (kinds_of (operators_at l)) ts ≡ true → (joined_once ws l (right_operand ws l) x).parse ts ≡ Ok (y, rest) → (more_joined ws l x).parse ts ≡ (more_joined ws l y).parse rest
+  pub joined_turn : (l : ℕ) (x y : Expression) (ts rest : List PlainToken) → sees (kind ws) (kinds_of (operators_at l)) ts ≡ true → (joined_once ws l (right_operand ws l) x).parse ts ≡ Ok (y, rest)
+      → (more_joined ws l x).parse ts ≡ (more_joined ws l y).parse rest
   unfolding more_joined
   joined_turn l x y ts rest s e = turn (kinds_of (operators_at l)) (joined_once ws l (right_operand ws l)) (λ z. (once_good l z).here) (once_fits l) x y ts rest s e
 

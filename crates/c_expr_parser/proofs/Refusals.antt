@@ -18,7 +18,8 @@ nothing_dropped zero = refl
 nothing_dropped (suc k) = refl
 
 -- the last tokens of one more
-last_step : (n : ℕ) (t : PlainToken) (ts : List PlainToken) (b : Bool) → eqb n (suc (length ts)) ≡ b → n ≤ suc (length ts) → (n ≤ length ts → last n ts ≡ drop (length ts - n) ts) → (if b then t ∷ ts else last n ts) ≡ drop (suc (length ts) - n) (t ∷ ts)
+last_step : (n : ℕ) (t : PlainToken) (ts : List PlainToken) (b : Bool) → eqb n (suc (length ts)) ≡ b → n ≤ suc (length ts) → (n ≤ length ts → last n ts ≡ drop (length ts - n) ts)
+    → (if b then t ∷ ts else last n ts) ≡ drop (suc (length ts) - n) (t ∷ ts)
 last_step n t ts true is h go = let e = eqb-true n (suc (length ts)) is in let z : suc (length ts) - n ≡ 0 = omega (arith, e) in rw z refl
 last_step n t ts false is h go =
     let ne : n ≡ suc (length ts) → ⊥ = (λ e. let q = eq-eqb n (suc (length ts)) e in cc) in

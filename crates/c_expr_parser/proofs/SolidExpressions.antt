@@ -15,7 +15,9 @@ use Rattle.c_model.specs.declared.operands.TypeUse.{TypeUse}
 use Rattle.c_model.specs.declared.operands.TypeUse.TheVariants.{Casts, Sizes, Nothing}
 use Rattle.c_model.specs.Vocabulary.{Vocabulary, no_words}
 use Rattle.c_model.specs.Punctuators.{question, colon, left_paren, right_paren}
-use Rattle.c_model.specs.ExpressionGrammar.{fixed, name_kind, number_kind, letter_kind, type_name_kind, keyword_kind, mark_kind, kind, kinds_of, unary_operators, operators_at, levels, first_integer_words, first_base, first_type, first_expression, words_behind, expression_limit, most_in_expression, Operand, integer_word, integer_words, type_name, base, consts, type_words, closed, literal, cast_rest, sized_type, paren_rest, behind_paren, prefixed, sized, operand_but_name, operand_of, operand, joined_once, behind_operand, choice_rest, expression_rest, expression_of, expression, full_expression}
+use Rattle.c_model.specs.ExpressionGrammar.{fixed, name_kind, number_kind, letter_kind, type_name_kind, keyword_kind, mark_kind, kind, kinds_of, unary_operators, operators_at, levels, first_integer_words, first_base, first_type, first_expression}
+use Rattle.c_model.specs.ExpressionGrammar.{words_behind, expression_limit, most_in_expression, Operand, integer_word, integer_words, type_name, base, consts, type_words, closed, literal, cast_rest, sized_type, paren_rest, behind_paren, prefixed}
+use Rattle.c_model.specs.ExpressionGrammar.{sized, operand_but_name, operand_of, operand, joined_once, behind_operand, choice_rest, expression_rest, expression_of, expression, full_expression}
 use Rattle.c_expr_parser.proofs.Unlimited.{expression_free}
 use Rattle.c_expr_parser.proofs.ExactTypes.{apart_none, words_fit, words_within, more_type}
 use Rattle.c_expr_parser.proofs.ExactExpressions.{kinds_below, AreApart, levels_apart, more_expression, first_but_name, both_true, operand_good, expression_exact, expression_is, expression_good, operand_is}
@@ -23,7 +25,8 @@ use Rattle.c_expr_parser.proofs.Steps.{consts_turn, consts_ends}
 use Rattle.c_expr_parser.proofs.TakenTokens.{Solid, fixed_solid, name_solid, number_solid, letter_solid, marks_solid, next_words_solid, type_name_solid}
 
 -- the same kinds, given one by one
-relisted : {A : Type 0} (ws : Vocabulary) {n : ℕ} {G : Syntax PlainToken A} {lead null : Bool} {f : List ℕ} {m : A → List ℕ} (first more : List ℕ) → IsSolid (kind ws) n G lead null f m → (lead ≡ true → within first f ≡ true) → within f first ≡ true → ((x : A) → within (m x) more ≡ true) → Solid ws n G lead null first more
+relisted : {A : Type 0} (ws : Vocabulary) {n : ℕ} {G : Syntax PlainToken A} {lead null : Bool} {f : List ℕ} {m : A → List ℕ} (first more : List ℕ) → IsSolid (kind ws) n G lead null f m → (lead ≡ true → within first f ≡ true) → within f first ≡ true
+    → ((x : A) → within (m x) more ≡ true) → Solid ws n G lead null first more
 relisted ws {n} {G} {lead} {null} {f} {m} first more g back forth over = record {
   exact = widen (kind ws) G null f m null first (λ _. more) g.exact (λ h. h) forth over;
   led = g.led;
@@ -158,25 +161,29 @@ module _ (ws : Vocabulary) where
     operand_solid u =
         knot_solid_to {S = TypeUse} (suc n) refl (λ v. (operand_good ws (expression_good ws) v).here) (λ v. operand_is ws v) (λ k lt o v. operand_of_solid (lower k (omega (arith, lt)) e) o v) (suc n) (omega arith) u
 
-    right_solid : (l : ℕ) → ((x : Expression) → Solid ws (suc n) (behind_operand ws (expression ws) l x) false true (kinds_below l) (kinds_below l)) → Solid ws (suc n) (operand ws (expression ws) Casts then λ z. behind_operand ws (expression ws) l z.expression) true false first_expression (kinds_below l)
+    right_solid : (l : ℕ) → ((x : Expression) → Solid ws (suc n) (behind_operand ws (expression ws) l x) false true (kinds_below l) (kinds_below l))
+        → Solid ws (suc n) (operand ws (expression ws) Casts then λ z. behind_operand ws (expression ws) l z.expression) true false first_expression (kinds_below l)
     right_solid l b =
         relisted ws first_expression (kinds_below l) (seq_solid (operand_solid Casts) (λ z. b z.expression) (apart_none (kinds_below l))) (λ _. refl) refl
         (λ x. within_both (kinds_below l) [] (kinds_below l) (within_self (kinds_below l)) refl)
 
-    joined_solid : (l : ℕ) → ((x : Expression) → Solid ws (suc n) (behind_operand ws (expression ws) l x) false true (kinds_below l) (kinds_below l)) → (x : Expression) → Solid ws (suc n) (joined_once ws l (operand ws (expression ws) Casts then λ z. behind_operand ws (expression ws) l z.expression) x) true false (kinds_of (operators_at l)) (kinds_below l)
+    joined_solid : (l : ℕ) → ((x : Expression) → Solid ws (suc n) (behind_operand ws (expression ws) l x) false true (kinds_below l) (kinds_below l)) → (x : Expression)
+        → Solid ws (suc n) (joined_once ws l (operand ws (expression ws) Casts then λ z. behind_operand ws (expression ws) l z.expression) x) true false (kinds_of (operators_at l)) (kinds_below l)
     unfolding joined_once
     joined_solid l b x =
         relisted ws (kinds_of (operators_at l)) (kinds_below l) (seq_solid (marks_solid ws (operators_at l)) (λ p. seq_solid (right_solid l b) (λ y. gives_solid _) refl) refl)
         (λ _. within_left (kinds_of (operators_at l)) []) (within_both (kinds_of (operators_at l)) [] (kinds_of (operators_at l)) (within_self (kinds_of (operators_at l))) refl)
         (λ y. within_both (kinds_below l) [] (kinds_below l) (within_self (kinds_below l)) refl)
 
-    level_solid : (l : ℕ) → apart (kinds_of (operators_at l)) (kinds_below l) ≡ true → ((x : Expression) → Solid ws (suc n) (behind_operand ws (expression ws) l x) false true (kinds_below l) (kinds_below l)) → (x : Expression) → Solid ws (suc n) (behind_operand ws (expression ws) (suc l) x) false true (kinds_below (suc l)) (kinds_below (suc l))
+    level_solid : (l : ℕ) → apart (kinds_of (operators_at l)) (kinds_below l) ≡ true → ((x : Expression) → Solid ws (suc n) (behind_operand ws (expression ws) l x) false true (kinds_below l) (kinds_below l)) → (x : Expression)
+        → Solid ws (suc n) (behind_operand ws (expression ws) (suc l) x) false true (kinds_below (suc l)) (kinds_below (suc l))
     unfolding behind_operand
     level_solid l a b x =
         let ks = kinds_of (operators_at l) in
         let below = kinds_below l in
         let all = within_both ks below (below ++ ks) (within_right below ks) (within_left below ks) in
-        relisted ws (below ++ ks) (below ++ ks) (seq_solid (b x) (λ y. many_solid ks (both_true (apart ks below) (within ks ks) a (within_self ks)) (within_self ks) (suc n) (joined_solid l b) y) a) (λ _. within_self (below ++ ks)) (within_self (below ++ ks))
+        relisted ws (below ++ ks) (below ++ ks) (seq_solid (b x) (λ y. many_solid ks (both_true (apart ks below) (within ks ks) a (within_self ks)) (within_self ks) (suc n) (joined_solid l b) y) a) (λ _. within_self (below ++ ks))
+        (within_self (below ++ ks))
         (λ y. within_both (ks ++ below) below (below ++ ks) all (within_left below ks))
 
     behind_solid : (l : ℕ) → AreApart l → (x : Expression) → Solid ws (suc n) (behind_operand ws (expression ws) l x) false true (kinds_below l) (kinds_below l)

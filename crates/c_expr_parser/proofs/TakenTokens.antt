@@ -20,7 +20,8 @@ use Rattle.c_model.specs.declared.vocabulary.SizeWords.{SizeWords}
 use Rattle.c_model.specs.declared.vocabulary.SizeWords.TheVariants as size
 use Rattle.c_model.specs.declared.vocabulary.IntegerWords.{IntegerWords}
 use Rattle.c_model.specs.Vocabulary.{Vocabulary, word_at, sign_with, size_with, words_with}
-use Rattle.c_model.specs.ExpressionGrammar.{name_kind, number_kind, letter_kind, type_name_kind, keyword_kind, mark_kind, word_kind, token_kind, kind, placed, number_of, letter_of, entry, mark_entry, kinds_of, signs_behind, sizes_behind, words_behind, first_integer_words, keyword_of, next_words, type_name_word_of, type_name_of, fixed, name_of, name}
+use Rattle.c_model.specs.ExpressionGrammar.{name_kind, number_kind, letter_kind, type_name_kind, keyword_kind, mark_kind, word_kind, token_kind, kind, placed, number_of, letter_of, entry, mark_entry, kinds_of, signs_behind, sizes_behind}
+use Rattle.c_model.specs.ExpressionGrammar.{words_behind, first_integer_words, keyword_of, next_words, type_name_word_of, type_name_of, fixed, name_of, name}
 use Rattle.c_expr_parser.proofs.ExactTokens.{fixed_good, name_good, number_good, letter_good, marks_good, next_words_good, type_name_good}
 use Rattle.c_expr_parser.proofs.ExactTypes.{words_within}
 
@@ -188,7 +189,8 @@ module _ (ws : Vocabulary) where
   pub fixed_solid : {n : ℕ} (k : ℕ) → Solid ws n (fixed ws k) true false (k ∷ []) []
   fixed_solid k = one_solid _ (k ∷ []) (fixed_taken k) (fixed_good ws {n = 0} k).here
 
-  placed_taken : {A : Type 0} (f : PlainTokenKind → Option A) (ks : List ℕ) → ((k : PlainTokenKind) → among (token_kind ws k) ks ≡ true → (x : A) × (f k ≡ Some x)) → (t : PlainToken) → among (kind ws t) ks ≡ true → (y : A × Place) × (placed f t ≡ Some y)
+  placed_taken : {A : Type 0} (f : PlainTokenKind → Option A) (ks : List ℕ) → ((k : PlainTokenKind) → among (token_kind ws k) ks ≡ true → (x : A) × (f k ≡ Some x)) → (t : PlainToken) → among (kind ws t) ks ≡ true
+      → (y : A × Place) × (placed f t ≡ Some y)
   placed_taken f ks h t e = let w = h t.kind e in ((w.0, t.place), rw (w.1, placed) refl)
 
   name_taken : (t : PlainTokenKind) → among (token_kind ws t) (name_kind ∷ []) ≡ true → (m : ℕ) × (name_of ws t ≡ Some m)

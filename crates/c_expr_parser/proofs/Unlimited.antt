@@ -14,7 +14,10 @@ use Rattle.c_model.specs.declared.vocabulary.Keyword.TheVariants as keyword
 use Rattle.c_model.specs.declared.vocabulary.IntegerWords.{IntegerWords}
 use Rattle.c_model.specs.Vocabulary.{Vocabulary}
 use Rattle.c_model.specs.Punctuators.{question, comma, left_paren}
-use Rattle.c_model.specs.ExpressionGrammar.{name_kind, number_kind, type_name_kind, keyword_kind, mark_kind, kind, kinds_of, unary_operators, operators_at, levels, assignment_operators, prefix_bumps, postfix_bumps, first_type, first_expression, words_behind, ReadOperand, Operand, integer_word, integer_words, type_name, base, consts, type_words, closed, literal, cast_rest, sized_type, paren_rest, behind_paren, prefixed, sized, operand_but_name, operand_of, operand, joined_once, behind_operand, choice_rest, expression_rest, expression_of, expression, next_argument, arguments, call_rest, behind_name_or_callee, expression_or_call, assigned_value, assigned, bumped, behind_unary, behind_primary, behind_form, effect_rest, bump_first, effect_but_name, effect, behind_name, effect_or_call}
+use Rattle.c_model.specs.ExpressionGrammar.{name_kind, number_kind, type_name_kind, keyword_kind, mark_kind, kind, kinds_of, unary_operators, operators_at, levels, assignment_operators, prefix_bumps, postfix_bumps, first_type, first_expression}
+use Rattle.c_model.specs.ExpressionGrammar.{words_behind, ReadOperand, Operand, integer_word, integer_words, type_name, base, consts, type_words, closed, literal, cast_rest, sized_type, paren_rest, behind_paren, prefixed, sized, operand_but_name}
+use Rattle.c_model.specs.ExpressionGrammar.{operand_of, operand, joined_once, behind_operand, choice_rest, expression_rest, expression_of, expression, next_argument, arguments, call_rest, behind_name_or_callee, expression_or_call, assigned_value}
+use Rattle.c_model.specs.ExpressionGrammar.{assigned, bumped, behind_unary, behind_primary, behind_form, effect_rest, bump_first, effect_but_name, effect, behind_name, effect_or_call}
 
 module _ (ws : Vocabulary) where
   -- ---- types

@@ -10,7 +10,8 @@ use Rattle.c_syntax.specs.declared.token.Token.{Token}
 use Rattle.c_syntax.specs.Expressions.{Expression}
 use Rattle.c_syntax.specs.Tokens.{PlainToken, plain_token}
 use Rattle.c_model.specs.Vocabulary.{Vocabulary}
-use Rattle.c_model.specs.ExpressionGrammar.{kind, first_expression, first_effect, expression_limit, most_in_expression, expression, expression_or_call, effect, effect_or_call, full_expression, full_expression_or_call, full_effect, full_effect_or_call}
+use Rattle.c_model.specs.ExpressionGrammar.{kind, first_expression, first_effect, expression_limit, most_in_expression, expression, expression_or_call, effect, effect_or_call, full_expression, full_expression_or_call, full_effect}
+use Rattle.c_model.specs.ExpressionGrammar.{full_effect_or_call}
 use Rattle.c_syntax.specs.declared.fault.ReadFault.{ReadFault}
 use Rattle.c_syntax.specs.declared.fault.ReadFault.TheVariants as fault
 use Rattle.c_expr_parser.specs.Reading.{plain_list, label, Fails, LeftWithin, Resumed}
@@ -61,9 +62,11 @@ module _ {A : Type 0} (ws : Vocabulary) (G : Syntax PlainToken A) (first more : 
     far_long = length-map far plain_token ∙ drop_long (most_in_expression + 1) ts
 
     pub over : (x : A) (rest : List Token) → G.parse (plain_list near) ≡ Ok (x, plain_list rest) → length rest ≡ 0 → limited.parse (plain_list ts) ≡ Err (Over expression_limit (length ts - (most_in_expression + 1) + 1))
-    over x rest e z = near_ok_ends (kind ws) expression_limit most_in_expression G false first (λ _. more) g (plain_list ts) (plain_list near) (plain_list far) parts long x (plain_list rest) e (omega (arith, z, length-map rest plain_token)) ∙ ap (λ (k : ℕ). Err (Over expression_limit (k + 1))) far_long
+    over x rest e z = near_ok_ends (kind ws) expression_limit most_in_expression G false first (λ _. more) g (plain_list ts) (plain_list near) (plain_list far) parts long x (plain_list rest) e (omega (arith, z, length-map rest plain_token))
+        ∙ ap (λ (k : ℕ). Err (Over expression_limit (k + 1))) far_long
 
-    pub goes_on : (x : A) (rest : List Token) → G.parse (plain_list near) ≡ Ok (x, plain_list rest) → (length rest ≡ 0 → ⊥) → length rest ≤ most_in_expression + 1 → limited.parse (plain_list ts) ≡ Ok (x, plain_list (drop (most_in_expression + 1 - length rest) ts))
+    pub goes_on : (x : A) (rest : List Token) → G.parse (plain_list near) ≡ Ok (x, plain_list rest) → (length rest ≡ 0 → ⊥) → length rest ≤ most_in_expression + 1
+        → limited.parse (plain_list ts) ≡ Ok (x, plain_list (drop (most_in_expression + 1 - length rest) ts))
     goes_on x rest e z l =
         let r = length-map rest plain_token in
         let k : length (plain_list ts) - (length (plain_list rest) + length (plain_list far)) ≡ most_in_expression + 1 - length rest = omega (arith, r, far_long, length-map ts plain_token, h, l) in
@@ -71,9 +74,12 @@ module _ {A : Type 0} (ws : Vocabulary) (G : Syntax PlainToken A) (first more : 
         ∙ ap (λ (n : ℕ). Ok (x, drop n (plain_list ts))) k ∙ ap (λ (w : List PlainToken). Ok (x, w)) (sym (map_drop plain_token (most_in_expression + 1 - length rest) ts))
 
     pub fails : (e r : ReadFault) → Fails e (G.parse (plain_list near)) → Resumed e (length ts - (most_in_expression + 1)) r → Fails r (limited.parse (plain_list ts))
-    fails (fault.At zero) r f q = rw q (near_at_ends (kind ws) expression_limit most_in_expression G false first (λ _. more) g (plain_list ts) (plain_list near) (plain_list far) parts long f ∙ ap (λ (k : ℕ). Err (Over expression_limit (k + 1))) far_long)
-    fails (fault.At (suc n)) r f q = rw q (near_at (kind ws) expression_limit most_in_expression G false first (λ _. more) g (plain_list ts) (plain_list near) (plain_list far) parts long (suc n) f (λ z. absurd cc) ∙ ap (λ (k : ℕ). Err (At (suc n + k))) far_long)
-    fails (fault.Over limit n) r f q = rw q (near_over (kind ws) expression_limit most_in_expression G false first (λ _. more) g (plain_list ts) (plain_list near) (plain_list far) parts long (label limit) n f ∙ ap (λ (k : ℕ). Err (Over (label limit) (n + k))) far_long)
+    fails (fault.At zero) r f q = rw q (near_at_ends (kind ws) expression_limit most_in_expression G false first (λ _. more) g (plain_list ts) (plain_list near) (plain_list far) parts long f
+        ∙ ap (λ (k : ℕ). Err (Over expression_limit (k + 1))) far_long)
+    fails (fault.At (suc n)) r f q = rw q (near_at (kind ws) expression_limit most_in_expression G false first (λ _. more) g (plain_list ts) (plain_list near) (plain_list far) parts long (suc n) f (λ z. absurd cc)
+        ∙ ap (λ (k : ℕ). Err (At (suc n + k))) far_long)
+    fails (fault.Over limit n) r f q = rw q (near_over (kind ws) expression_limit most_in_expression G false first (λ _. more) g (plain_list ts) (plain_list near) (plain_list far) parts long (label limit) n f
+        ∙ ap (λ (k : ℕ). Err (Over (label limit) (n + k))) far_long)
     fails fault.Memory r f q = rw q tt
 
   pub bound : (ts : List Token) (e : ReadFault) → Fails e (G.parse (plain_list ts)) → LeftWithin e (length ts)
@@ -85,53 +91,68 @@ pub full_expression_whole : (ws : Vocabulary) (ts : List Token) → length ts �
 unfolding full_expression
 full_expression_whole ws ts h = whole ws (expression ws) first_expression more_expression (expression_good ws).here ts h
 
-pub full_expression_behind : (ws : Vocabulary) (ts near : List Token) (x : Expression) (rest r : List Token) → near ≡ take (most_in_expression + 1) ts → most_in_expression < length ts → (expression ws).parse (plain_list near) ≡ Ok (x, plain_list rest) → (length rest ≡ 0 → ⊥) → length rest ≤ length near → r ≡ drop (most_in_expression + 1 - length rest) ts → (full_expression ws).parse (plain_list ts) ≡ Ok (x, plain_list r)
+pub full_expression_behind : (ws : Vocabulary) (ts near : List Token) (x : Expression) (rest r : List Token) → near ≡ take (most_in_expression + 1) ts → most_in_expression < length ts
+    → (expression ws).parse (plain_list near) ≡ Ok (x, plain_list rest) → (length rest ≡ 0 → ⊥) → length rest ≤ length near → r ≡ drop (most_in_expression + 1 - length rest) ts → (full_expression ws).parse (plain_list ts) ≡ Ok (x, plain_list r)
 unfolding full_expression
-full_expression_behind ws ts near x rest r is h e z l d = rw d (goes_on ws (expression ws) first_expression more_expression (expression_good ws).here ts near is h x rest e z (omega (arith, l, ap length is, take_long (most_in_expression + 1) ts (omega (arith, h)))))
+full_expression_behind ws ts near x rest r is h e z l d = rw d (goes_on ws (expression ws) first_expression more_expression (expression_good ws).here ts near is h x rest e z
+    (omega (arith, l, ap length is, take_long (most_in_expression + 1) ts (omega (arith, h)))))
 
-pub full_expression_over : (ws : Vocabulary) (ts near : List Token) (x : Expression) (rest : List Token) → near ≡ take (most_in_expression + 1) ts → most_in_expression < length ts → (expression ws).parse (plain_list near) ≡ Ok (x, plain_list rest) → length rest ≡ 0 → (full_expression ws).parse (plain_list ts) ≡ Err (Over expression_limit (length ts - (most_in_expression + 1) + 1))
+pub full_expression_over : (ws : Vocabulary) (ts near : List Token) (x : Expression) (rest : List Token) → near ≡ take (most_in_expression + 1) ts → most_in_expression < length ts → (expression ws).parse (plain_list near) ≡ Ok (x, plain_list rest)
+    → length rest ≡ 0 → (full_expression ws).parse (plain_list ts) ≡ Err (Over expression_limit (length ts - (most_in_expression + 1) + 1))
 unfolding full_expression
 full_expression_over ws ts near x rest is h e z = over ws (expression ws) first_expression more_expression (expression_good ws).here ts near is h x rest e z
 
-pub full_expression_fails : (ws : Vocabulary) (ts near : List Token) (e r : ReadFault) → near ≡ take (most_in_expression + 1) ts → most_in_expression < length ts → Fails e ((expression ws).parse (plain_list near)) → Resumed e (length ts - (most_in_expression + 1)) r → Fails r ((full_expression ws).parse (plain_list ts))
+pub full_expression_fails : (ws : Vocabulary) (ts near : List Token) (e r : ReadFault) → near ≡ take (most_in_expression + 1) ts → most_in_expression < length ts → Fails e ((expression ws).parse (plain_list near))
+    → Resumed e (length ts - (most_in_expression + 1)) r → Fails r ((full_expression ws).parse (plain_list ts))
 unfolding full_expression
 full_expression_fails ws ts near e r is h f q = fails ws (expression ws) first_expression more_expression (expression_good ws).here ts near is h e r f q
 
-pub full_expression_bound : (ws : Vocabulary) (ts near : List Token) (e : ReadFault) → near ≡ take (most_in_expression + 1) ts → most_in_expression < length ts → Fails e ((expression ws).parse (plain_list near)) → LeftWithin e (most_in_expression + 1)
+pub full_expression_bound : (ws : Vocabulary) (ts near : List Token) (e : ReadFault) → near ≡ take (most_in_expression + 1) ts → most_in_expression < length ts → Fails e ((expression ws).parse (plain_list near))
+    → LeftWithin e (most_in_expression + 1)
 full_expression_bound ws ts near e is h f = subst (λ (k : ℕ). LeftWithin e k) (ap length is ∙ take_long (most_in_expression + 1) ts (omega (arith, h))) (bound ws (expression ws) first_expression more_expression (expression_good ws).here near e f)
 
 pub full_expression_or_call_whole : (ws : Vocabulary) (ts : List Token) → length ts ≤ most_in_expression → (full_expression_or_call ws).parse (plain_list ts) ≡ (expression_or_call ws).parse (plain_list ts)
 unfolding full_expression_or_call
 full_expression_or_call_whole ws ts h = whole ws (expression_or_call ws) first_expression more_or_call (expression_or_call_good ws).here ts h
 
-pub full_expression_or_call_behind : (ws : Vocabulary) (ts near : List Token) (x : Expression) (rest r : List Token) → near ≡ take (most_in_expression + 1) ts → most_in_expression < length ts → (expression_or_call ws).parse (plain_list near) ≡ Ok (x, plain_list rest) → (length rest ≡ 0 → ⊥) → length rest ≤ length near → r ≡ drop (most_in_expression + 1 - length rest) ts → (full_expression_or_call ws).parse (plain_list ts) ≡ Ok (x, plain_list r)
+pub full_expression_or_call_behind : (ws : Vocabulary) (ts near : List Token) (x : Expression) (rest r : List Token) → near ≡ take (most_in_expression + 1) ts → most_in_expression < length ts
+    → (expression_or_call ws).parse (plain_list near) ≡ Ok (x, plain_list rest) → (length rest ≡ 0 → ⊥) → length rest ≤ length near → r ≡ drop (most_in_expression + 1 - length rest) ts
+    → (full_expression_or_call ws).parse (plain_list ts) ≡ Ok (x, plain_list r)
 unfolding full_expression_or_call
-full_expression_or_call_behind ws ts near x rest r is h e z l d = rw d (goes_on ws (expression_or_call ws) first_expression more_or_call (expression_or_call_good ws).here ts near is h x rest e z (omega (arith, l, ap length is, take_long (most_in_expression + 1) ts (omega (arith, h)))))
+full_expression_or_call_behind ws ts near x rest r is h e z l d = rw d (goes_on ws (expression_or_call ws) first_expression more_or_call (expression_or_call_good ws).here ts near is h x rest e z
+    (omega (arith, l, ap length is, take_long (most_in_expression + 1) ts (omega (arith, h)))))
 
-pub full_expression_or_call_over : (ws : Vocabulary) (ts near : List Token) (x : Expression) (rest : List Token) → near ≡ take (most_in_expression + 1) ts → most_in_expression < length ts → (expression_or_call ws).parse (plain_list near) ≡ Ok (x, plain_list rest) → length rest ≡ 0 → (full_expression_or_call ws).parse (plain_list ts) ≡ Err (Over expression_limit (length ts - (most_in_expression + 1) + 1))
+pub full_expression_or_call_over : (ws : Vocabulary) (ts near : List Token) (x : Expression) (rest : List Token) → near ≡ take (most_in_expression + 1) ts → most_in_expression < length ts
+    → (expression_or_call ws).parse (plain_list near) ≡ Ok (x, plain_list rest) → length rest ≡ 0 → (full_expression_or_call ws).parse (plain_list ts) ≡ Err (Over expression_limit (length ts - (most_in_expression + 1) + 1))
 unfolding full_expression_or_call
 full_expression_or_call_over ws ts near x rest is h e z = over ws (expression_or_call ws) first_expression more_or_call (expression_or_call_good ws).here ts near is h x rest e z
 
-pub full_expression_or_call_fails : (ws : Vocabulary) (ts near : List Token) (e r : ReadFault) → near ≡ take (most_in_expression + 1) ts → most_in_expression < length ts → Fails e ((expression_or_call ws).parse (plain_list near)) → Resumed e (length ts - (most_in_expression + 1)) r → Fails r ((full_expression_or_call ws).parse (plain_list ts))
+pub full_expression_or_call_fails : (ws : Vocabulary) (ts near : List Token) (e r : ReadFault) → near ≡ take (most_in_expression + 1) ts → most_in_expression < length ts → Fails e ((expression_or_call ws).parse (plain_list near))
+    → Resumed e (length ts - (most_in_expression + 1)) r → Fails r ((full_expression_or_call ws).parse (plain_list ts))
 unfolding full_expression_or_call
 full_expression_or_call_fails ws ts near e r is h f q = fails ws (expression_or_call ws) first_expression more_or_call (expression_or_call_good ws).here ts near is h e r f q
 
-pub full_expression_or_call_bound : (ws : Vocabulary) (ts near : List Token) (e : ReadFault) → near ≡ take (most_in_expression + 1) ts → most_in_expression < length ts → Fails e ((expression_or_call ws).parse (plain_list near)) → LeftWithin e (most_in_expression + 1)
-full_expression_or_call_bound ws ts near e is h f = subst (λ (k : ℕ). LeftWithin e k) (ap length is ∙ take_long (most_in_expression + 1) ts (omega (arith, h))) (bound ws (expression_or_call ws) first_expression more_or_call (expression_or_call_good ws).here near e f)
+pub full_expression_or_call_bound : (ws : Vocabulary) (ts near : List Token) (e : ReadFault) → near ≡ take (most_in_expression + 1) ts → most_in_expression < length ts → Fails e ((expression_or_call ws).parse (plain_list near))
+    → LeftWithin e (most_in_expression + 1)
+full_expression_or_call_bound ws ts near e is h f = subst (λ (k : ℕ). LeftWithin e k) (ap length is ∙ take_long (most_in_expression + 1) ts (omega (arith, h))) (bound ws (expression_or_call ws) first_expression more_or_call
+    (expression_or_call_good ws).here near e f)
 
 pub full_effect_whole : (ws : Vocabulary) (ts : List Token) → length ts ≤ most_in_expression → (full_effect ws).parse (plain_list ts) ≡ (effect ws).parse (plain_list ts)
 unfolding full_effect
 full_effect_whole ws ts h = whole ws (effect ws) first_effect more_effect (effect_good ws).here ts h
 
-pub full_effect_behind : (ws : Vocabulary) (ts near : List Token) (x : Expression × Place) (rest r : List Token) → near ≡ take (most_in_expression + 1) ts → most_in_expression < length ts → (effect ws).parse (plain_list near) ≡ Ok (x, plain_list rest) → (length rest ≡ 0 → ⊥) → length rest ≤ length near → r ≡ drop (most_in_expression + 1 - length rest) ts → (full_effect ws).parse (plain_list ts) ≡ Ok (x, plain_list r)
+pub full_effect_behind : (ws : Vocabulary) (ts near : List Token) (x : Expression × Place) (rest r : List Token) → near ≡ take (most_in_expression + 1) ts → most_in_expression < length ts
+    → (effect ws).parse (plain_list near) ≡ Ok (x, plain_list rest) → (length rest ≡ 0 → ⊥) → length rest ≤ length near → r ≡ drop (most_in_expression + 1 - length rest) ts → (full_effect ws).parse (plain_list ts) ≡ Ok (x, plain_list r)
 unfolding full_effect
 full_effect_behind ws ts near x rest r is h e z l d = rw d (goes_on ws (effect ws) first_effect more_effect (effect_good ws).here ts near is h x rest e z (omega (arith, l, ap length is, take_long (most_in_expression + 1) ts (omega (arith, h)))))
 
-pub full_effect_over : (ws : Vocabulary) (ts near : List Token) (x : Expression × Place) (rest : List Token) → near ≡ take (most_in_expression + 1) ts → most_in_expression < length ts → (effect ws).parse (plain_list near) ≡ Ok (x, plain_list rest) → length rest ≡ 0 → (full_effect ws).parse (plain_list ts) ≡ Err (Over expression_limit (length ts - (most_in_expression + 1) + 1))
+pub full_effect_over : (ws : Vocabulary) (ts near : List Token) (x : Expression × Place) (rest : List Token) → near ≡ take (most_in_expression + 1) ts → most_in_expression < length ts → (effect ws).parse (plain_list near) ≡ Ok (x, plain_list rest)
+    → length rest ≡ 0 → (full_effect ws).parse (plain_list ts) ≡ Err (Over expression_limit (length ts - (most_in_expression + 1) + 1))
 unfolding full_effect
 full_effect_over ws ts near x rest is h e z = over ws (effect ws) first_effect more_effect (effect_good ws).here ts near is h x rest e z
 
-pub full_effect_fails : (ws : Vocabulary) (ts near : List Token) (e r : ReadFault) → near ≡ take (most_in_expression + 1) ts → most_in_expression < length ts → Fails e ((effect ws).parse (plain_list near)) → Resumed e (length ts - (most_in_expression + 1)) r → Fails r ((full_effect ws).parse (plain_list ts))
+pub full_effect_fails : (ws : Vocabulary) (ts near : List Token) (e r : ReadFault) → near ≡ take (most_in_expression + 1) ts → most_in_expression < length ts → Fails e ((effect ws).parse (plain_list near))
+    → Resumed e (length ts - (most_in_expression + 1)) r → Fails r ((full_effect ws).parse (plain_list ts))
 unfolding full_effect
 full_effect_fails ws ts near e r is h f q = fails ws (effect ws) first_effect more_effect (effect_good ws).here ts near is h e r f q
 
@@ -142,17 +163,23 @@ pub full_effect_or_call_whole : (ws : Vocabulary) (ts : List Token) → length t
 unfolding full_effect_or_call
 full_effect_or_call_whole ws ts h = whole ws (effect_or_call ws) first_effect more_effect (effect_or_call_good ws).here ts h
 
-pub full_effect_or_call_behind : (ws : Vocabulary) (ts near : List Token) (x : Expression × Place) (rest r : List Token) → near ≡ take (most_in_expression + 1) ts → most_in_expression < length ts → (effect_or_call ws).parse (plain_list near) ≡ Ok (x, plain_list rest) → (length rest ≡ 0 → ⊥) → length rest ≤ length near → r ≡ drop (most_in_expression + 1 - length rest) ts → (full_effect_or_call ws).parse (plain_list ts) ≡ Ok (x, plain_list r)
+pub full_effect_or_call_behind : (ws : Vocabulary) (ts near : List Token) (x : Expression × Place) (rest r : List Token) → near ≡ take (most_in_expression + 1) ts → most_in_expression < length ts
+    → (effect_or_call ws).parse (plain_list near) ≡ Ok (x, plain_list rest) → (length rest ≡ 0 → ⊥) → length rest ≤ length near → r ≡ drop (most_in_expression + 1 - length rest) ts
+    → (full_effect_or_call ws).parse (plain_list ts) ≡ Ok (x, plain_list r)
 unfolding full_effect_or_call
-full_effect_or_call_behind ws ts near x rest r is h e z l d = rw d (goes_on ws (effect_or_call ws) first_effect more_effect (effect_or_call_good ws).here ts near is h x rest e z (omega (arith, l, ap length is, take_long (most_in_expression + 1) ts (omega (arith, h)))))
+full_effect_or_call_behind ws ts near x rest r is h e z l d = rw d (goes_on ws (effect_or_call ws) first_effect more_effect (effect_or_call_good ws).here ts near is h x rest e z
+    (omega (arith, l, ap length is, take_long (most_in_expression + 1) ts (omega (arith, h)))))
 
-pub full_effect_or_call_over : (ws : Vocabulary) (ts near : List Token) (x : Expression × Place) (rest : List Token) → near ≡ take (most_in_expression + 1) ts → most_in_expression < length ts → (effect_or_call ws).parse (plain_list near) ≡ Ok (x, plain_list rest) → length rest ≡ 0 → (full_effect_or_call ws).parse (plain_list ts) ≡ Err (Over expression_limit (length ts - (most_in_expression + 1) + 1))
+pub full_effect_or_call_over : (ws : Vocabulary) (ts near : List Token) (x : Expression × Place) (rest : List Token) → near ≡ take (most_in_expression + 1) ts → most_in_expression < length ts
+    → (effect_or_call ws).parse (plain_list near) ≡ Ok (x, plain_list rest) → length rest ≡ 0 → (full_effect_or_call ws).parse (plain_list ts) ≡ Err (Over expression_limit (length ts - (most_in_expression + 1) + 1))
 unfolding full_effect_or_call
 full_effect_or_call_over ws ts near x rest is h e z = over ws (effect_or_call ws) first_effect more_effect (effect_or_call_good ws).here ts near is h x rest e z
 
-pub full_effect_or_call_fails : (ws : Vocabulary) (ts near : List Token) (e r : ReadFault) → near ≡ take (most_in_expression + 1) ts → most_in_expression < length ts → Fails e ((effect_or_call ws).parse (plain_list near)) → Resumed e (length ts - (most_in_expression + 1)) r → Fails r ((full_effect_or_call ws).parse (plain_list ts))
+pub full_effect_or_call_fails : (ws : Vocabulary) (ts near : List Token) (e r : ReadFault) → near ≡ take (most_in_expression + 1) ts → most_in_expression < length ts → Fails e ((effect_or_call ws).parse (plain_list near))
+    → Resumed e (length ts - (most_in_expression + 1)) r → Fails r ((full_effect_or_call ws).parse (plain_list ts))
 unfolding full_effect_or_call
 full_effect_or_call_fails ws ts near e r is h f q = fails ws (effect_or_call ws) first_effect more_effect (effect_or_call_good ws).here ts near is h e r f q
 
-pub full_effect_or_call_bound : (ws : Vocabulary) (ts near : List Token) (e : ReadFault) → near ≡ take (most_in_expression + 1) ts → most_in_expression < length ts → Fails e ((effect_or_call ws).parse (plain_list near)) → LeftWithin e (most_in_expression + 1)
+pub full_effect_or_call_bound : (ws : Vocabulary) (ts near : List Token) (e : ReadFault) → near ≡ take (most_in_expression + 1) ts → most_in_expression < length ts → Fails e ((effect_or_call ws).parse (plain_list near))
+    → LeftWithin e (most_in_expression + 1)
 full_effect_or_call_bound ws ts near e is h f = subst (λ (k : ℕ). LeftWithin e k) (ap length is ∙ take_long (most_in_expression + 1) ts (omega (arith, h))) (bound ws (effect_or_call ws) first_effect more_effect (effect_or_call_good ws).here near e f)

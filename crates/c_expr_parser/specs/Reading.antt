@@ -10,7 +10,9 @@ use Rattle.c_model.specs.declared.vocabulary.IntegerWords.{IntegerWords}
 use Rattle.c_model.specs.declared.operands.TypeUse.TheVariants.{Casts}
 use Rattle.c_model.specs.Vocabulary.{Vocabulary}
 use Rattle.c_model.specs.Punctuators.{comma}
-use Rattle.c_model.specs.ExpressionGrammar.{TypeStart, ConstStart, VoidStart, NameStart, IntegerStart, ReadOperand, kind, mark_kind, kinds_of, operators_at, words_behind, integer_word, operand, behind_operand, joined_once, expression, next_argument, expression_limit, nesting_limit}
+use Rattle.c_model.specs.ExpressionGrammar.{TypeStart, ConstStart, VoidStart, NameStart, IntegerStart, ReadOperand, kind, mark_kind, kinds_of, operators_at}
+use Rattle.c_model.specs.ExpressionGrammar.{words_behind, integer_word, operand, behind_operand, joined_once, expression, next_argument, expression_limit}
+use Rattle.c_model.specs.ExpressionGrammar.{nesting_limit}
 use Rattle.c_expr_parser.specs.declared.expression.ReadOperand as code_operand
 use Rattle.c_expr_parser.specs.declared.type_start.TypeStart as code_start
 use Rattle.c_expr_parser.specs.declared.type_start.TypeStart.TheVariants as start

@@ -22,7 +22,8 @@ fn next_argument<'a>(
     all: Vec<Expr>,
     tokens: &'a [Token],
 ) -> Result<(Vec<Expr>, &'a [Token]), ReadFault>
-    ensures read { Gives (λ x. (map plain_expr x.0.items, plain_list x.1.now)) result ((next_argument words.now (map plain_expr all.items)).parse (plain_list tokens.now)) }
+    ensures read { Gives (λ x. (map plain_expr x.0.items, plain_list x.1.now)) result
+        ((next_argument words.now (map plain_expr all.items)).parse (plain_list tokens.now)) }
     ensures shorter { IfOk result (λ x. length x.1.now < length tokens.now) }
 {
     let mut all = all;
@@ -40,7 +41,8 @@ fn more_arguments<'a>(
     all: Vec<Expr>,
     tokens: &'a [Token],
 ) -> Result<(Vec<Expr>, &'a [Token]), ReadFault>
-    ensures read { Gives (λ x. (map plain_expr x.0.items, plain_list x.1.now)) result ((more_arguments words.now (map plain_expr all.items)).parse (plain_list tokens.now)) }
+    ensures read { Gives (λ x. (map plain_expr x.0.items, plain_list x.1.now)) result ((more_arguments words.now (map plain_expr all.items)).parse
+        (plain_list tokens.now)) }
     ensures shorter { IfOk result (λ x. length x.1.now ≤ length tokens.now) }
 {
     let mut all = all;

@@ -2,7 +2,8 @@
 
 ghost use Rattle.std.specs.Prelude.{◌≡◌, ◌≤◌, ◌<◌, length, IfOk};
 ghost use Rattle.c_syntax.specs.Expressions.{plain_expr};
-ghost use Rattle.c_model.specs.ExpressionGrammar.{assigned_value, assigned, bumped, behind_unary, behind_primary, behind_form, effect_rest, bump_first, effect_but_name, effect, behind_name, effect_or_call};
+ghost use Rattle.c_model.specs.ExpressionGrammar.{assigned_value, assigned, bumped, behind_unary, behind_primary, behind_form, effect_rest, bump_first};
+ghost use Rattle.c_model.specs.ExpressionGrammar.{effect_but_name, effect, behind_name, effect_or_call};
 ghost use Rattle.c_expr_parser.specs.Reading.{Gives, plain_list, plain_operand};
 
 use crate::call::{call_rest, expression_or_call};

@@ -3,7 +3,9 @@
 ghost use Rattle.std.specs.Prelude.{◌≡◌, ◌≤◌, ◌<◌, length, IfOk, IfErr};
 ghost use Rattle.c_syntax.specs.Expressions.{plain_expr, plain_kind};
 ghost use Rattle.grammar.specs.Syntax.{gives, one, sees};
-ghost use Rattle.c_model.specs.ExpressionGrammar.{kind, placed, mark_entry, kinds_of, operators_at, read_as, read_name, read_operand, size_of_operand, joined, literal, cast_rest, sized_type, paren_rest, behind_paren, prefixed, sized, operand_but_name, operand_of, operand, joined_once, behind_operand, choice_rest, expression_rest, expression_of, expression};
+ghost use Rattle.c_model.specs.ExpressionGrammar.{kind, placed, mark_entry, kinds_of, operators_at, read_as, read_name, read_operand, size_of_operand, joined};
+ghost use Rattle.c_model.specs.ExpressionGrammar.{literal, cast_rest, sized_type, paren_rest, behind_paren, prefixed, sized, operand_but_name, operand_of};
+ghost use Rattle.c_model.specs.ExpressionGrammar.{operand, joined_once, behind_operand, choice_rest, expression_rest, expression_of, expression};
 ghost use Rattle.c_expr_parser.specs.Reading.{Gives, TakesNoMemory, plain_list, plain_operand, right_operand, more_joined};
 
 use crate::kinds::{COLON, LEFT_PAREN, NAME, NUMBER, QUESTION, RIGHT_PAREN};
@@ -60,7 +62,8 @@ fn with_operand<'a>(
     form: Form,
     tokens: &'a [Token],
 ) -> Result<(ReadOperand, &'a [Token]), ReadFault>
-    ensures read { Gives (λ x. (plain_operand x.0, plain_list x.1.now)) result ((gives (read_operand (read_as place (plain_kind kind)) form place)).parse (plain_list tokens.now)) }
+    ensures read { Gives (λ x. (plain_operand x.0, plain_list x.1.now)) result ((gives (read_operand (read_as place (plain_kind kind)) form place)).parse
+        (plain_list tokens.now)) }
     ensures shorter { IfOk result (λ x. length x.1.now ≤ length tokens.now) }
 {
     let expression = read_as(alloc, place, kind)?;
@@ -135,7 +138,8 @@ fn cast_rest<'a>(
     place: Place,
     tokens: &'a [Token],
 ) -> Result<(ReadOperand, &'a [Token]), ReadFault>
-    ensures read { Gives (λ x. (plain_operand x.0, plain_list x.1.now)) result ((cast_rest words.now (operand words.now (expression words.now)) place).parse (plain_list tokens.now)) }
+    ensures read { Gives (λ x. (plain_operand x.0, plain_list x.1.now)) result ((cast_rest words.now (operand words.now (expression words.now)) place).parse
+        (plain_list tokens.now)) }
     ensures shorter { IfOk result (λ x. length x.1.now < length tokens.now) }
 {
     let (t, rest) = type_of(words, tokens)?;
@@ -159,7 +163,8 @@ fn paren_rest<'a>(
     place: Place,
     tokens: &'a [Token],
 ) -> Result<(ReadOperand, &'a [Token]), ReadFault>
-    ensures read { Gives (λ x. (plain_operand x.0, plain_list x.1.now)) result ((paren_rest words.now (expression words.now) place).parse (plain_list tokens.now)) }
+    ensures read { Gives (λ x. (plain_operand x.0, plain_list x.1.now)) result
+        ((paren_rest words.now (expression words.now) place).parse (plain_list tokens.now)) }
     ensures shorter { IfOk result (λ x. length x.1.now < length tokens.now) }
 {
     let (inner, rest) = expression(alloc, words, tokens)?;
@@ -182,7 +187,8 @@ fn behind_paren<'a>(
     place: Place,
     tokens: &'a [Token],
 ) -> Result<(ReadOperand, &'a [Token]), ReadFault>
-    ensures read { Gives (λ x. (plain_operand x.0, plain_list x.1.now)) result ((behind_paren words.now (expression words.now) (operand words.now (expression words.now)) type_use place).parse (plain_list tokens.now)) }
+    ensures read { Gives (λ x. (plain_operand x.0, plain_list x.1.now)) result
+        ((behind_paren words.now (expression words.now) (operand words.now (expression words.now)) type_use place).parse (plain_list tokens.now)) }
     ensures shorter { IfOk result (λ x. length x.1.now < length tokens.now) }
 {
     match type_use {
@@ -212,7 +218,8 @@ fn prefixed<'a>(
     words: &[Word],
     tokens: &'a [Token],
 ) -> Result<(ReadOperand, &'a [Token]), ReadFault>
-    ensures read { Gives (λ x. (plain_operand x.0, plain_list x.1.now)) result ((prefixed words.now (operand words.now (expression words.now))).parse (plain_list tokens.now)) }
+    ensures read { Gives (λ x. (plain_operand x.0, plain_list x.1.now)) result ((prefixed words.now (operand words.now (expression words.now))).parse
+        (plain_list tokens.now)) }
     ensures shorter { IfOk result (λ x. length x.1.now < length tokens.now) }
 {
     let (op, place, rest) = marked(UNARY, tokens)?;
@@ -250,7 +257,8 @@ fn sized<'a>(
     words: &[Word],
     tokens: &'a [Token],
 ) -> Result<(ReadOperand, &'a [Token]), ReadFault>
-    ensures read { Gives (λ x. (plain_operand x.0, plain_list x.1.now)) result ((sized words.now (operand words.now (expression words.now))).parse (plain_list tokens.now)) }
+    ensures read { Gives (λ x. (plain_operand x.0, plain_list x.1.now)) result ((sized words.now (operand words.now (expression words.now))).parse
+        (plain_list tokens.now)) }
     ensures shorter { IfOk result (λ x. length x.1.now < length tokens.now) }
 {
     let (place, rest) = skip(words, SIZEOF, tokens)?;
@@ -272,7 +280,8 @@ pub fn operand_but_name<'a>(
     type_use: TypeUse,
     tokens: &'a [Token],
 ) -> Result<(ReadOperand, &'a [Token]), ReadFault>
-    ensures read { Gives (λ x. (plain_operand x.0, plain_list x.1.now)) result ((operand_but_name words.now (expression words.now) (operand words.now (expression words.now)) type_use).parse (plain_list tokens.now)) }
+    ensures read { Gives (λ x. (plain_operand x.0, plain_list x.1.now)) result
+        ((operand_but_name words.now (expression words.now) (operand words.now (expression words.now)) type_use).parse (plain_list tokens.now)) }
     ensures shorter { IfOk result (λ x. length x.1.now < length tokens.now) }
 {
     if next_is(words, LEFT_PAREN, tokens) {
@@ -296,7 +305,8 @@ pub fn operand<'a>(
     type_use: TypeUse,
     tokens: &'a [Token],
 ) -> Result<(ReadOperand, &'a [Token]), ReadFault>
-    ensures read { Gives (λ x. (plain_operand x.0, plain_list x.1.now)) result ((operand words.now (expression words.now) type_use).parse (plain_list tokens.now)) }
+    ensures read { Gives (λ x. (plain_operand x.0, plain_list x.1.now)) result
+        ((operand words.now (expression words.now) type_use).parse (plain_list tokens.now)) }
     ensures shorter { IfOk result (λ x. length x.1.now < length tokens.now) }
 {
     if next_is(words, NAME, tokens) {
@@ -360,7 +370,8 @@ fn joined_once<'a>(
     tokens: &'a [Token],
 ) -> Result<(Expr, &'a [Token]), ReadFault>
     requires { level ≤ 10 }
-    ensures read { Gives (λ x. (plain_expr x.0, plain_list x.1.now)) result ((joined_once words.now level (right_operand words.now level) (plain_expr left)).parse (plain_list tokens.now)) }
+    ensures read { Gives (λ x. (plain_expr x.0, plain_list x.1.now)) result
+        ((joined_once words.now level (right_operand words.now level) (plain_expr left)).parse (plain_list tokens.now)) }
     ensures shorter { IfOk result (λ x. length x.1.now < length tokens.now) }
 {
     let (connective, place, rest) = operator(level, tokens)?;
@@ -403,7 +414,8 @@ fn behind_operand<'a>(
     tokens: &'a [Token],
 ) -> Result<(Expr, &'a [Token]), ReadFault>
     requires { level ≤ 10 }
-    ensures read { Gives (λ x. (plain_expr x.0, plain_list x.1.now)) result ((behind_operand words.now (expression words.now) level (plain_expr left)).parse (plain_list tokens.now)) }
+    ensures read { Gives (λ x. (plain_expr x.0, plain_list x.1.now)) result ((behind_operand words.now (expression words.now) level (plain_expr left)).parse
+        (plain_list tokens.now)) }
     ensures shorter { IfOk result (λ x. length x.1.now ≤ length tokens.now) }
 {
     if level == 0 {
@@ -422,7 +434,8 @@ fn choice_rest<'a>(
     condition: Expr,
     tokens: &'a [Token],
 ) -> Result<(Expr, &'a [Token]), ReadFault>
-    ensures read { Gives (λ x. (plain_expr x.0, plain_list x.1.now)) result ((choice_rest words.now (expression words.now) (plain_expr condition)).parse (plain_list tokens.now)) }
+    ensures read { Gives (λ x. (plain_expr x.0, plain_list x.1.now)) result ((choice_rest words.now (expression words.now) (plain_expr condition)).parse
+        (plain_list tokens.now)) }
     ensures shorter { IfOk result (λ x. length x.1.now < length tokens.now) }
 {
     let (place, rest) = skip(words, QUESTION, tokens)?;
@@ -446,7 +459,8 @@ pub fn expression_rest<'a>(
     left: Expr,
     tokens: &'a [Token],
 ) -> Result<(Expr, &'a [Token]), ReadFault>
-    ensures read { Gives (λ x. (plain_expr x.0, plain_list x.1.now)) result ((expression_rest words.now (expression words.now) (plain_expr left)).parse (plain_list tokens.now)) }
+    ensures read { Gives (λ x. (plain_expr x.0, plain_list x.1.now)) result ((expression_rest words.now (expression words.now) (plain_expr left)).parse
+        (plain_list tokens.now)) }
     ensures shorter { IfOk result (λ x. length x.1.now ≤ length tokens.now) }
 {
     let (left, rest) = behind_operand(alloc, words, LEVELS, left, tokens)?;

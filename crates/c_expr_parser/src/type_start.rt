@@ -55,7 +55,8 @@ pub fn type_start<'a>(
     words: &[Word],
     tokens: &'a [Token],
 ) -> Result<(TypeStart, u32, Place, &'a [Token]), ReadFault>
-    ensures read { Gives (λ x. (((plain_start x.0, x.1), x.2), plain_list x.3.now)) result ((one (placed (type_start words.now))).parse (plain_list tokens.now)) }
+    ensures read { Gives (λ x. (((plain_start x.0, x.1), x.2), plain_list x.3.now)) result
+        ((one (placed (type_start words.now))).parse (plain_list tokens.now)) }
     ensures shorter { IfOk result (λ x. length x.3.now < length tokens.now) }
     ensures sure { IfErr result TakesNoMemory }
 {

@@ -5,7 +5,8 @@ ghost use Rattle.grammar.specs.Syntax.{among, sees, one};
 ghost use Rattle.c_syntax.specs.Ctypes.{PlainType, Int, plain_type};
 ghost use Rattle.c_syntax.specs.Tokens.{plain_token_kind};
 ghost use Rattle.c_model.specs.Vocabulary.{sign_with, size_with, words_with, signed_or_not, integer_type};
-ghost use Rattle.c_model.specs.ExpressionGrammar.{kind, placed, signs_behind, sizes_behind, words_behind, next_words, integer_word, integer_words, type_name_of, type_name_word_of, type_name, base, consts, type_words};
+ghost use Rattle.c_model.specs.ExpressionGrammar.{kind, placed, signs_behind, sizes_behind, words_behind, next_words, integer_word, integer_words};
+ghost use Rattle.c_model.specs.ExpressionGrammar.{type_name_of, type_name_word_of, type_name, base, consts, type_words};
 ghost use Rattle.c_expr_parser.specs.Reading.{Gives, TakesNoMemory, plain_list, more_words};
 
 use crate::kinds::{TYPE_NAME, kind, word_at};

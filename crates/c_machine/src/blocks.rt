@@ -17,7 +17,8 @@ impl Machine {
     pub fn act(&mut self, f: MemoryCall, count: usize, stop: &mut Stop) -> bool
         requires fit { IsFit self.old.cursor self.old }
         requires place { self.old.cursor.place < 2 ^ 63 }
-        ensures { (es : List entry.Entry) (ports : Ports) → Acts es (Instr.Act f count) self.old.cursor self.old self.new.cursor self.new ports ports (ended_by result stop.new) }
+        ensures { (es : List entry.Entry) (ports : Ports) → Acts es (Instr.Act f count) self.old.cursor self.old self.new.cursor self.new ports ports
+            (ended_by result stop.new) }
     {
         if count != 1 {
             *stop = Stop::Fault;
@@ -57,7 +58,8 @@ impl Cursor {
     ) -> bool
         requires fit { IsFit self.old machine.old }
         requires place { self.old.place < 2 ^ 63 }
-        ensures { (es : List entry.Entry) (ports : Ports) → Acts es (Instr.Act f count) self.old machine.old self.new machine.new ports ports (ended_by result stop.new) }
+        ensures { (es : List entry.Entry) (ports : Ports) → Acts es (Instr.Act f count) self.old machine.old self.new machine.new ports ports
+            (ended_by result stop.new) }
     {
         machine.cursor = *self;
         let goes_on = machine.act(f, count, stop);

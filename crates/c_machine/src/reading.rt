@@ -28,7 +28,8 @@ impl Reader {
 
     /// The next byte, or -1 at the end.
     pub fn next<I: Source>(&mut self, input: &mut I) -> Result<i128, Failed>
-        ensures { Reads (feed_of (I.left input.old) (I.faults input.old) self.old.ended) (feed_of (I.left input.new) (I.faults input.new) self.new.ended) result }
+        ensures { Reads (feed_of (I.left input.old) (I.faults input.old) self.old.ended) (feed_of (I.left input.new) (I.faults input.new) self.new.ended)
+            result }
     {
         if self.ended {
             return Ok(-1);
@@ -55,7 +56,9 @@ impl Machine {
     ) -> bool
         requires fit { IsFit self.old.cursor self.old }
         requires place { self.old.cursor.place < 2 ^ 63 }
-        ensures { (es : List entry.Entry) (port : Port) → Acts es Instr.GetChar self.old.cursor self.old self.new.cursor self.new (ports_of (feed_of (I.left input.old) (I.faults input.old) reader.old.ended) port) (ports_of (feed_of (I.left input.new) (I.faults input.new) reader.new.ended) port) (ended_by result stop.new) }
+        ensures { (es : List entry.Entry) (port : Port) → Acts es Instr.GetChar self.old.cursor self.old self.new.cursor self.new
+            (ports_of (feed_of (I.left input.old) (I.faults input.old) reader.old.ended) port)
+            (ports_of (feed_of (I.left input.new) (I.faults input.new) reader.new.ended) port) (ended_by result stop.new) }
     {
         let mut cursor = self.cursor;
         if cursor.height == self.operands.len() {
@@ -89,7 +92,9 @@ impl Cursor {
     ) -> bool
         requires fit { IsFit self.old machine.old }
         requires place { self.old.place < 2 ^ 63 }
-        ensures { (es : List entry.Entry) (port : Port) → Acts es Instr.GetChar self.old machine.old self.new machine.new (ports_of (feed_of (I.left input.old) (I.faults input.old) reader.old.ended) port) (ports_of (feed_of (I.left input.new) (I.faults input.new) reader.new.ended) port) (ended_by result stop.new) }
+        ensures { (es : List entry.Entry) (port : Port) → Acts es Instr.GetChar self.old machine.old self.new machine.new
+            (ports_of (feed_of (I.left input.old) (I.faults input.old) reader.old.ended) port)
+            (ports_of (feed_of (I.left input.new) (I.faults input.new) reader.new.ended) port) (ended_by result stop.new) }
     {
         machine.cursor = *self;
         let goes_on = machine.get_char(reader, input, stop);

@@ -30,7 +30,10 @@ impl Cursor {
         requires fit { IsFit self.old machine.old }
         requires place { self.old.place < 2 ^ 63 }
         requires jumps { (to : ℕ) → target self.old.place instr.now ≡ Some to → to < 2 ^ 63 }
-        ensures { Acts entries.now instr.now self.old machine.old self.new machine.new (ports_of (feed_of (I.left input.old) (I.faults input.old) reader.old.ended) (port_of (O.told out.old) waiting.old (O.faults out.old))) (ports_of (feed_of (I.left input.new) (I.faults input.new) reader.new.ended) (port_of (O.told out.new) waiting.new (O.faults out.new))) (ended_by result stop.new) }
+        ensures { Acts entries.now instr.now self.old machine.old self.new machine.new
+            (ports_of (feed_of (I.left input.old) (I.faults input.old) reader.old.ended) (port_of (O.told out.old) waiting.old (O.faults out.old)))
+            (ports_of (feed_of (I.left input.new) (I.faults input.new) reader.new.ended) (port_of (O.told out.new) waiting.new (O.faults out.new)))
+            (ended_by result stop.new) }
     {
         match instr {
             Instr::Push(z) => self.push_number(*z, machine, stop),

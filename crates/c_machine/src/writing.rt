@@ -35,7 +35,9 @@ impl Machine {
     ) -> bool
         requires fit { IsFit self.old.cursor self.old }
         requires place { self.old.cursor.place < 2 ^ 63 }
-        ensures { (es : List entry.Entry) (feed : Feed) → Acts es (Instr.PutByte byte) self.old.cursor self.old self.new.cursor self.new (ports_of feed (port_of (O.told out.old) waiting.old (O.faults out.old))) (ports_of feed (port_of (O.told out.new) waiting.new (O.faults out.new))) (ended_by result stop.new) }
+        ensures { (es : List entry.Entry) (feed : Feed) → Acts es (Instr.PutByte byte) self.old.cursor self.old self.new.cursor self.new
+            (ports_of feed (port_of (O.told out.old) waiting.old (O.faults out.old))) (ports_of feed (port_of (O.told out.new) waiting.new (O.faults out.new)))
+            (ended_by result stop.new) }
     {
         match waiting.byte(out, byte) {
             Ok(()) => {
@@ -54,7 +56,9 @@ impl Machine {
     pub fn put_char<O: Sink>(&mut self, waiting: &mut Buffer, out: &mut O, stop: &mut Stop) -> bool
         requires fit { IsFit self.old.cursor self.old }
         requires place { self.old.cursor.place < 2 ^ 63 }
-        ensures { (es : List entry.Entry) (feed : Feed) → Acts es Instr.PutChar self.old.cursor self.old self.new.cursor self.new (ports_of feed (port_of (O.told out.old) waiting.old (O.faults out.old))) (ports_of feed (port_of (O.told out.new) waiting.new (O.faults out.new))) (ended_by result stop.new) }
+        ensures { (es : List entry.Entry) (feed : Feed) → Acts es Instr.PutChar self.old.cursor self.old self.new.cursor self.new
+            (ports_of feed (port_of (O.told out.old) waiting.old (O.faults out.old))) (ports_of feed (port_of (O.told out.new) waiting.new (O.faults out.new)))
+            (ended_by result stop.new) }
     {
         let mut cursor = self.cursor;
         match cursor.pop(self) {
@@ -89,7 +93,9 @@ impl Machine {
     ) -> bool
         requires fit { IsFit self.old.cursor self.old }
         requires place { self.old.cursor.place < 2 ^ 63 }
-        ensures { (es : List entry.Entry) (feed : Feed) → Acts es Instr.PutNumber self.old.cursor self.old self.new.cursor self.new (ports_of feed (port_of (O.told out.old) waiting.old (O.faults out.old))) (ports_of feed (port_of (O.told out.new) waiting.new (O.faults out.new))) (ended_by result stop.new) }
+        ensures { (es : List entry.Entry) (feed : Feed) → Acts es Instr.PutNumber self.old.cursor self.old self.new.cursor self.new
+            (ports_of feed (port_of (O.told out.old) waiting.old (O.faults out.old))) (ports_of feed (port_of (O.told out.new) waiting.new (O.faults out.new)))
+            (ended_by result stop.new) }
     {
         let mut cursor = self.cursor;
         match cursor.pop(self) {
@@ -129,7 +135,9 @@ impl Cursor {
     ) -> bool
         requires fit { IsFit self.old machine.old }
         requires place { self.old.place < 2 ^ 63 }
-        ensures { (es : List entry.Entry) (feed : Feed) → Acts es (Instr.PutByte byte) self.old machine.old self.new machine.new (ports_of feed (port_of (O.told out.old) waiting.old (O.faults out.old))) (ports_of feed (port_of (O.told out.new) waiting.new (O.faults out.new))) (ended_by result stop.new) }
+        ensures { (es : List entry.Entry) (feed : Feed) → Acts es (Instr.PutByte byte) self.old machine.old self.new machine.new
+            (ports_of feed (port_of (O.told out.old) waiting.old (O.faults out.old))) (ports_of feed (port_of (O.told out.new) waiting.new (O.faults out.new)))
+            (ended_by result stop.new) }
     {
         machine.cursor = *self;
         let goes_on = machine.put_byte(byte, waiting, out, stop);
@@ -148,7 +156,9 @@ impl Cursor {
     ) -> bool
         requires fit { IsFit self.old machine.old }
         requires place { self.old.place < 2 ^ 63 }
-        ensures { (es : List entry.Entry) (feed : Feed) → Acts es Instr.PutChar self.old machine.old self.new machine.new (ports_of feed (port_of (O.told out.old) waiting.old (O.faults out.old))) (ports_of feed (port_of (O.told out.new) waiting.new (O.faults out.new))) (ended_by result stop.new) }
+        ensures { (es : List entry.Entry) (feed : Feed) → Acts es Instr.PutChar self.old machine.old self.new machine.new
+            (ports_of feed (port_of (O.told out.old) waiting.old (O.faults out.old))) (ports_of feed (port_of (O.told out.new) waiting.new (O.faults out.new)))
+            (ended_by result stop.new) }
     {
         machine.cursor = *self;
         let goes_on = machine.put_char(waiting, out, stop);
@@ -167,7 +177,9 @@ impl Cursor {
     ) -> bool
         requires fit { IsFit self.old machine.old }
         requires place { self.old.place < 2 ^ 63 }
-        ensures { (es : List entry.Entry) (feed : Feed) → Acts es Instr.PutNumber self.old machine.old self.new machine.new (ports_of feed (port_of (O.told out.old) waiting.old (O.faults out.old))) (ports_of feed (port_of (O.told out.new) waiting.new (O.faults out.new))) (ended_by result stop.new) }
+        ensures { (es : List entry.Entry) (feed : Feed) → Acts es Instr.PutNumber self.old machine.old self.new machine.new
+            (ports_of feed (port_of (O.told out.old) waiting.old (O.faults out.old))) (ports_of feed (port_of (O.told out.new) waiting.new (O.faults out.new)))
+            (ended_by result stop.new) }
     {
         machine.cursor = *self;
         let goes_on = machine.put_number(waiting, out, stop);

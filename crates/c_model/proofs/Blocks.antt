@@ -1,5 +1,6 @@
 -- Saves and loads: what is saved is loaded again, and all else stands.
-use Rattle.std.proofs.Common.{◌≡◌, ℕ, zero, suc, ◌+◌, ◌-◌, ◌≤◌, ◌≢◌, ℤ, Bool, true, false, not, ◌&&◌, if◌then◌else◌, nat_le, List, [], ◌∷◌, ◌++◌, length, take, drop, Option, Some, None, slice_get, slice_set, refl, sym, ap, ◌∙◌, subst, arith, append_assoc}
+use Rattle.std.proofs.Common.{◌≡◌, ℕ, zero, suc, ◌+◌, ◌-◌, ◌≤◌, ◌≢◌, ℤ, Bool, true, false, not, ◌&&◌, if◌then◌else◌, nat_le, List, [], ◌∷◌, ◌++◌, length, take, drop, Option, Some, None, slice_get, slice_set, refl, sym, ap, ◌∙◌, subst, arith}
+use Rattle.std.proofs.Common.{append_assoc}
 use Rattle.std.proofs.lemmas.Bool.{leb-true}
 use Rattle.std.proofs.lemmas.List.{take_at, length-take-le, length-append, length-drop, drop-drop, length-replicate}
 use Rattle.std.proofs.Math.Seq.{drop-append_seam}
@@ -115,7 +116,8 @@ same_but_at b offset n bytes few le = record {
 
     -- behind the bytes that were written
     rest : drop (offset + length bytes) (take offset b.bytes ++ (bytes ++ drop (offset + length bytes) b.bytes)) ≡ drop (offset + length bytes) b.bytes
-    rest = rw (sym (append_assoc (take offset b.bytes) bytes (drop (offset + length bytes) b.bytes))) (subst (λ x. drop x (first ++ drop (offset + length bytes) b.bytes) ≡ drop (offset + length bytes) b.bytes) long (drop-append_seam first (drop (offset + length bytes) b.bytes)))
+    rest = rw (sym (append_assoc (take offset b.bytes) bytes (drop (offset + length bytes) b.bytes))) (subst (λ x. drop x (first ++ drop (offset + length bytes) b.bytes) ≡ drop (offset + length bytes) b.bytes) long
+        (drop-append_seam first (drop (offset + length bytes) b.bytes)))
 
     farther : (xs : List Byte) → drop (n - length bytes) (drop (offset + length bytes) xs) ≡ drop (offset + n) xs
     farther xs = drop-drop (n - length bytes) (offset + length bytes) xs ∙ (let e : offset + length bytes + (n - length bytes) ≡ offset + n = omega (arith, few) in ap (λ x. drop x xs) e)
@@ -123,7 +125,8 @@ same_but_at b offset n bytes few le = record {
     behind : drop (offset + n) (take offset b.bytes ++ (bytes ++ drop (offset + length bytes) b.bytes)) ≡ drop (offset + n) b.bytes
     behind = sym (farther _) ∙ ap (drop (n - length bytes)) rest ∙ farther b.bytes
 
-pub other_bytes-saved : (store saved : Store) (n offset : ℕ) (t : PlainType) (v : Value) → AreWhole store → save store (Into n offset) t v ≡ Some saved → (b written : Block) → block_at store n ≡ Some b → block_at saved n ≡ Some written → SameButAt offset (size_of t) b written
+pub other_bytes-saved : (store saved : Store) (n offset : ℕ) (t : PlainType) (v : Value) → AreWhole store → save store (Into n offset) t v ≡ Some saved → (b written : Block) → block_at store n ≡ Some b → block_at saved n ≡ Some written
+    → SameButAt offset (size_of t) b written
 other_bytes-saved store saved zero offset t v w e b written found found' = absurd cc
 other_bytes-saved store saved (suc n) offset t v w e b written found found' =
     let s = saved_parts store saved n offset t v e in

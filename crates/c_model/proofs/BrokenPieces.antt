@@ -1,5 +1,6 @@
 -- Where no piece of a monitored text begins, it is broken as its fault says.
-use Rattle.std.proofs.Common.{◌≡◌, ℕ, ◌+◌, ◌-◌, ◌≤◌, Bool, true, false, cond, ◌&&◌, eqb, leb, ltb, List, [], ◌∷◌, ◌++◌, length, take, drop, is_some, Option, Some, None, Result, Err, inl, inr, refl, sym, ap, subst, ◌∙◌, arith, append_assoc, length-append, true≢false}
+use Rattle.std.proofs.Common.{◌≡◌, ℕ, ◌+◌, ◌-◌, ◌≤◌, Bool, true, false, cond, ◌&&◌, eqb, leb, ltb, List, [], ◌∷◌, ◌++◌, length, take, drop, is_some, Option, Some, None, Result, Err, inl, inr, refl, sym, ap, subst, ◌∙◌, arith, append_assoc}
+use Rattle.std.proofs.Common.{length-append, true≢false}
 use Rattle.std.specs.List.{prefix_len, list_all}
 use Rattle.std.specs.Str.Parse.{digits_value}
 use Rattle.std.proofs.lemmas.Bool.{eqb-true, ltb-true, le-leb, lt-ltb}
@@ -9,7 +10,8 @@ use Rattle.c_model.specs.declared.monitored_tokens.Found.{Found}
 use Rattle.c_model.specs.declared.monitored_tokens.Fault.{Fault}
 use Rattle.c_model.specs.declared.monitored_tokens.Fault.TheVariants as fault
 use Rattle.c_model.specs.Characters.{is_blank, is_digit, is_nondigit, is_part, in_literal, begins_with}
-use Rattle.c_model.specs.MonitoredTokens.{found, word_at, greatest_literal, literal_of, number_at, is_plain, is_octal, octal_value, octal_byte, in_front, in_string, chars_of, escape_of, string_at, ends_line, head_line, head_at, marks, first_mark, piece_at}
+use Rattle.c_model.specs.MonitoredTokens.{found, word_at, greatest_literal, literal_of, number_at, is_plain, is_octal, octal_value, octal_byte, in_front, in_string, chars_of, escape_of, string_at, ends_line, head_line, head_at, marks, first_mark}
+use Rattle.c_model.specs.MonitoredTokens.{piece_at}
 use Rattle.c_model.specs.MonitoredTokenLaws.{starts_line, Stops, IsNumber, IsString, IsIn, IsHead, Breaks}
 use Rattle.c_model.proofs.Spelling.{chosen, and_true, is_begun, front_is, digit_in}
 

@@ -1,5 +1,6 @@
 -- What is spelled as a piece of a C text is the piece that is found there.
-use Rattle.std.proofs.Common.{◌≡◌, ℕ, zero, suc, ◌+◌, ◌-◌, ◌<◌, ◌≤◌, Bool, true, false, not, ◌&&◌, ◌||◌, eqb, leb, ltb, List, [], ◌∷◌, ◌++◌, length, take, drop, slice_get, is_some, Option, Some, None, option_map, Result, Ok, Err, inl, inr, refl, sym, ap, subst, ◌∙◌, arith, append_assoc, length-append, eq-eqb, true≢false}
+use Rattle.std.proofs.Common.{◌≡◌, ℕ, zero, suc, ◌+◌, ◌-◌, ◌<◌, ◌≤◌, Bool, true, false, not, ◌&&◌, ◌||◌, eqb, leb, ltb, List, [], ◌∷◌, ◌++◌, length, take, drop, slice_get, is_some, Option, Some, None, option_map, Result, Ok, Err, inl, inr, refl, sym}
+use Rattle.std.proofs.Common.{ap, subst, ◌∙◌, arith, append_assoc, length-append, eq-eqb, true≢false}
 use Rattle.std.specs.Prelude.{bytes_eq}
 use Rattle.std.specs.List.{prefix_len, list_all}
 use Rattle.std.proofs.lemmas.Bool.{eqb-true, leb-true, ne_eqb, lt-leb, le-ltb, or_cases, or_parts, or_from, and_cases, and_left, and_right, not-true}
@@ -17,7 +18,8 @@ use Rattle.c_model.specs.MonitoredTokenLaws.{starts_line, IsIn}
 use Rattle.c_model.specs.Comments.{is_code, is_line, is_gap, ends_block, in_line, block_len, comment_len, comment_behind, blank_block, is_blank_line}
 use Rattle.c_model.specs.Literals.{is_digit_of, literal_of, letter_of, string_len}
 use Rattle.c_model.specs.Pieces.{found, begins_name, word, is_outside, word_at, is_dotted, number_at, letter_at, string_at, annotation_marks, mark_at, comment_at, open_block, open_line, other_at, directive_at, piece_at}
-use Rattle.c_model.specs.CTokenLaws.{IsName, IsLiteral, IsLetter, spelling_of, IsString, begins_comment, begins_annotation, ends_annotation, marks_of, IsMark, HaveNoEnd, EndsComment, IsComment, IsLineComment, IsBlankBlock, IsBlankLine, IsDirective, IsBlankByte, Spells, HaveBase}
+use Rattle.c_model.specs.CTokenLaws.{IsName, IsLiteral, IsLetter, spelling_of, IsString, begins_comment, begins_annotation, ends_annotation, marks_of, IsMark, HaveNoEnd, EndsComment, IsComment, IsLineComment, IsBlankBlock, IsBlankLine, IsDirective}
+use Rattle.c_model.specs.CTokenLaws.{IsBlankByte, Spells, HaveBase}
 use Rattle.c_model.proofs.Spelling.{chosen, and_true, begins_is, is_begun, begun_front, front_is}
 use Rattle.c_model.proofs.BrokenPieces.{run_is}
 use Rattle.c_model.proofs.CMarks.{mark_of}

@@ -44,10 +44,12 @@ cut_sound (suc k) before m (b ∷ bs) =
     let two = subst (λ (at : Place). AreSound ((before ++ b ∷ []) ++ take k bs) m (cut k at (fresh_after true (before ++ b ∷ [])) m bs)) (walk-append first_place before (b ∷ [])) one in
     let three = subst (λ (fresh : Bool). AreSound ((before ++ b ∷ []) ++ take k bs) m (cut k (next (walk first_place before) b) fresh m bs)) (fresh-append true before (b ∷ [])) two in
     subst (λ (l : List ℕ). AreSound l m (cut k (next (walk first_place before) b) (fresh_behind (fresh_after true before) b) m bs)) (append_assoc before (b ∷ []) (take k bs)) three
-cut_sound zero before m (b ∷ bs) = subst (λ (l : List ℕ). AreSound l m (cut 0 (walk first_place before) (fresh_after true before) m (b ∷ bs))) (sym (append-nil before)) (by (piece_at m (fresh_after true before) (b ∷ bs)) refl (λ n m2. cut_sound n (before ++ b ∷ []) m2 bs))
+cut_sound zero before m (b ∷ bs) = subst (λ (l : List ℕ). AreSound l m (cut 0 (walk first_place before) (fresh_after true before) m (b ∷ bs))) (sym (append-nil before))
+    (by (piece_at m (fresh_after true before) (b ∷ bs)) refl (λ n m2. cut_sound n (before ++ b ∷ []) m2 bs))
   where
     by : (r : Result Found Fault) → piece_at m (fresh_after true before) (b ∷ bs) ≡ r
-        → ((n : ℕ) (m2 : Mode) → AreSound ((before ++ b ∷ []) ++ take n bs) m2 (cut n (walk first_place (before ++ b ∷ [])) (fresh_after true (before ++ b ∷ [])) m2 bs)) → AreSound before m (cut 0 (walk first_place before) (fresh_after true before) m (b ∷ bs))
+        → ((n : ℕ) (m2 : Mode) → AreSound ((before ++ b ∷ []) ++ take n bs) m2 (cut n (walk first_place (before ++ b ∷ [])) (fresh_after true (before ++ b ∷ [])) m2 bs))
+        → AreSound before m (cut 0 (walk first_place before) (fresh_after true before) m (b ∷ bs))
     by (Err f) e rest = rw (e, cut) (walk_place before, piece_breaks before m b bs f (ap (λ (fresh : Bool). piece_at m fresh (b ∷ bs)) (sym (fresh_starts before)) ∙ e))
     by (Ok x) e rest =
         let m2 = mode_after m x.piece in

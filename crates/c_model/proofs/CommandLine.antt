@@ -1,5 +1,6 @@
 -- The words of a command line, read from left to right.
-use Rattle.std.proofs.Common.{◌≡◌, ◌≢◌, ℕ, ◌<◌, ◌≤◌, ◌^◌, nat_le, nat_eq, Bool, true, false, List, [], ◌∷◌, ◌++◌, length, Option, Some, None, Result, Ok, Err, option_copied, MatchOption, get_or, refl, ap, sym, ◌∙◌, arith, Bor, eq-eqb, if◌then◌else◌, lit<}
+use Rattle.std.proofs.Common.{◌≡◌, ◌≢◌, ℕ, ◌<◌, ◌≤◌, ◌^◌, nat_le, nat_eq, Bool, true, false, List, [], ◌∷◌, ◌++◌, length, Option, Some, None, Result, Ok, Err, option_copied, MatchOption, get_or, refl, ap, sym, ◌∙◌, arith, Bor, eq-eqb, if◌then◌else◌}
+use Rattle.std.proofs.Common.{lit<}
 use Rattle.std.specs.Str.{all_ascii_digits}
 use Rattle.std.specs.Str.Parse.{digits_value, ParsesUnsigned}
 use Rattle.std.specs.Result.{OkIff, result_ok}
@@ -16,7 +17,8 @@ without_front-append : (front text : List ℕ) → without_front front (front ++
 without_front-append [] text = refl
 without_front-append (c ∷ front) text = rw (eq-eqb c c refl) (without_front-append front text)
 
-lacks_more : (b c : ℕ) (front text : List ℕ) (same : Bool) → nat_eq b c ≡ same → ((rest : List ℕ) → b ∷ text ≢ c ∷ (front ++ rest)) → (((rest : List ℕ) → text ≢ front ++ rest) → without_front front text ≡ None) → (if same then without_front front text else None) ≡ None
+lacks_more : (b c : ℕ) (front text : List ℕ) (same : Bool) → nat_eq b c ≡ same → ((rest : List ℕ) → b ∷ text ≢ c ∷ (front ++ rest)) → (((rest : List ℕ) → text ≢ front ++ rest) → without_front front text ≡ None)
+    → (if same then without_front front text else None) ≡ None
 lacks_more b c front text true same lacks more = more (λ rest e. lacks rest (ap (λ x. x ∷ text) (eqb-true b c same) ∙ ap (λ xs. c ∷ xs) e))
 lacks_more b c front text false same lacks more = refl
 
@@ -42,13 +44,15 @@ pub number_ok : (text : List ℕ) (n : ℕ) → all_ascii_digits text ≡ true �
 number_ok [] n digits some is = absurd (omega arith)
 number_ok (c ∷ text) n digits some is = rw (digits, ← is) refl
 
-number_err : (text : List ℕ) (digits small : Bool) → all_ascii_digits text ≡ digits → nat_le (digits_value 10 text) 1000000000000 ≡ small → ¬ ((all_ascii_digits text ≡ true) × (0 < length text) × (digits_value 10 text < 2 ^ 64)) → step_number text ≡ None
+number_err : (text : List ℕ) (digits small : Bool) → all_ascii_digits text ≡ digits → nat_le (digits_value 10 text) 1000000000000 ≡ small → ¬ ((all_ascii_digits text ≡ true) × (0 < length text) × (digits_value 10 text < 2 ^ 64))
+    → step_number text ≡ None
 number_err [] digits small d s lacks = refl
 number_err (c ∷ text) false small d s lacks = rw d refl
 number_err (c ∷ text) true false d s lacks = rw (d, s) refl
 number_err (c ∷ text) true true d s lacks = absurd (lacks (d, omega arith, within _ (leb-true _ _ s)))
 
-parsed : {E : Type 0} (text : List ℕ) (r : Result ℕ E) → OkIff r ((all_ascii_digits text ≡ true) × (0 < length text) × (digits_value 10 text < 2 ^ 64)) (digits_value 10 text) → step_number text ≡ (result_ok r >>= λ n. if nat_le n 1000000000000 then Some n else None)
+parsed : {E : Type 0} (text : List ℕ) (r : Result ℕ E) → OkIff r ((all_ascii_digits text ≡ true) × (0 < length text) × (digits_value 10 text < 2 ^ 64)) (digits_value 10 text)
+    → step_number text ≡ (result_ok r >>= λ n. if nat_le n 1000000000000 then Some n else None)
 parsed text (Ok n) ((digits, some, fits), is) = number_ok text n digits some is
 parsed text (Err e) lacks = number_err text _ _ refl refl lacks
 

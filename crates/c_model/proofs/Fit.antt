@@ -6,13 +6,17 @@ use Rattle.c_syntax.specs.Ctypes.{PlainType, Void, Int, int_type}
 use Rattle.c_syntax.specs.Annotations.{Annotation, ClauseBody, Truth, Chain, Links, NoLink, Linked}
 use Rattle.c_syntax.specs.declared.annotation.Relation.{Relation}
 use Rattle.c_syntax.specs.Expressions.{Expression, Node, Number, Letter, Variable, Unary, Binary, Both, Either, Choice, Assign, Bump, Call, Cast, SizeOfType, SizeOfExpr, Expressions, NoExpression, Following, type_of}
-use Rattle.c_syntax.specs.Statements.{Initialiser, One, Declaration, Statement, Empty, Eval, Block, If, While, Do, For, Break, Continue, Return, ElsePart, NoElse, Else, ForFirst, NoFirst, First, BlockItem, Declare, Run, Asserts, BlockItems, NoItem, Then}
+use Rattle.c_syntax.specs.Statements.{Initialiser, One, Declaration, Statement, Empty, Eval, Block, If, While, Do, For, Break, Continue, Return, ElsePart, NoElse, Else, ForFirst, NoFirst, First, BlockItem, Declare, Run, Asserts, BlockItems, NoItem}
+use Rattle.c_syntax.specs.Statements.{Then}
 use Rattle.c_syntax.specs.Programs.{Function, TranslationUnit}
 use Rattle.c_model.specs.Integers.{size_of, byte_of}
 use Rattle.c_model.specs.Memory.{Pointer, Into, Value, Integer, NoValue, Store, load, save, standard_sizes, full_at_stack_birth}
-use Rattle.c_model.specs.State.{InputTail, EndOfInput, InputFault, Input, State, Breaks, Continues, Returns, End, Leaves, Over, Exits, Undefined, Fault, Outcome, Normal, Stop, Evaluation, on_outcome, ◌>>=◌, ◌>>◌, give, done, stop, defined, step_from, step, read_byte, print, find, start_of, object, read, put_store, write, birth_of, birth, births, write_youngest, alone, frame, mark, restored, within}
+use Rattle.c_model.specs.State.{InputTail, EndOfInput, InputFault, Input, State, Breaks, Continues, Returns, End, Leaves, Over, Exits, Undefined, Fault, Outcome, Normal, Stop, Evaluation, on_outcome, ◌>>=◌, ◌>>◌, give, done, stop, defined, step_from}
+use Rattle.c_model.specs.State.{step, read_byte, print, find, start_of, object, read, put_store, write, birth_of, birth, births, write_youngest, alone, frame, mark, restored, within}
 use Rattle.c_model.specs.Logic.{TermValue, Mathematical, Answer, Says, SaysNothing, OutOfSteps, lazily, related, term, chain, clause, judged, check, checks}
-use Rattle.c_model.specs.Meaning.{Callee, operate_value, operate_values, converted, compound, bump_operator, bump_value, is_zero, choose, truth_value, size_value, eval_with, place_with, evals_with, after_body, turns, do_turns, declared_in, declared_first, initialise, initialise_all, condition_with, effect_with, exec_with, else_with, first_with, item_with, items_with, put_char, get_char, exit_with, library_call, definition_at, parameters, body_with, at_close, returned_by, call_with, is_of_library, call_of, eval, exec, main_with, function_named, start, ran, run}
+use Rattle.c_model.specs.Meaning.{Callee, operate_value, operate_values, converted, compound, bump_operator, bump_value, is_zero, choose, truth_value, size_value, eval_with, place_with, evals_with, after_body, turns, do_turns, declared_in}
+use Rattle.c_model.specs.Meaning.{declared_first, initialise, initialise_all, condition_with, effect_with, exec_with, else_with, first_with, item_with, items_with, put_char, get_char, exit_with, library_call, definition_at, parameters, body_with}
+use Rattle.c_model.specs.Meaning.{at_close, returned_by, call_with, is_of_library, call_of, eval, exec, main_with, function_named, start, ran, run}
 use Rattle.c_model.specs.Laws.{for_turns}
 use Rattle.c_model.specs.Steps.{steps_after, Fit, CalleesFit}
 
@@ -193,7 +197,8 @@ fit_after_body k m m' f f' h g = record {
   spends = λ s le. (fit_body_outcome k s.steps (m s) f f' le (h.spends s le) g).1;
 }
 
-pub fit_turns : (m n k : ℕ) (test test' : Evaluation Value) (body body' behind behind' : Evaluation (Unit {0})) → k < m → k < n → Fit k test test' → Fit k body body' → Fit k behind behind' → Fit k (turns m test body behind) (turns n test' body' behind')
+pub fit_turns : (m n k : ℕ) (test test' : Evaluation Value) (body body' behind behind' : Evaluation (Unit {0})) → k < m → k < n → Fit k test test' → Fit k body body' → Fit k behind behind'
+    → Fit k (turns m test body behind) (turns n test' body' behind')
 fit_turns zero n k test test' body body' behind behind' lm ln ft fb fs = absurd (omega arith)
 fit_turns (suc m) zero k test test' body body' behind behind' lm ln ft fb fs = absurd (omega arith)
 fit_turns (suc m) (suc n) k test test' body body' behind behind' lm ln ft fb fs =
@@ -249,9 +254,11 @@ mutual
   fit_eval (Node at t (Assign None a b)) k call call' h =
       fit_bind k _ _ _ _ (fit_place a k call call') (λ p. fit_bind k _ _ _ _ (fit_eval b k call call' h) (λ v. fit_write_give k at p t v))
   fit_eval (Node at t (Assign (Some op) a b)) k call call' h =
-      fit_bind k _ _ _ _ (fit_place a k call call') (λ p. fit_bind k _ _ _ _ (fit_read k at p t) (λ x. fit_bind k _ _ _ _ (fit_eval b k call call' h) (λ y. fit_bind k _ _ _ _ (fit_defined k at (compound t op x (type_of b) y)) (λ v. fit_write_give k at p t v))))
+      fit_bind k _ _ _ _ (fit_place a k call call') (λ p. fit_bind k _ _ _ _ (fit_read k at p t) (λ x. fit_bind k _ _ _ _ (fit_eval b k call call' h) (λ y. fit_bind k _ _ _ _ (fit_defined k at (compound t op x (type_of b) y))
+      (λ v. fit_write_give k at p t v))))
   fit_eval (Node at t (Bump op a)) k call call' h =
-      fit_bind k _ _ _ _ (fit_place a k call call') (λ p. fit_bind k _ _ _ _ (fit_read k at p t) (λ x. fit_bind k _ _ _ _ (fit_defined k at (compound t (bump_operator op) x int_type (Integer (pos 1)))) (λ v. fit_then k _ _ _ _ (fit_write k at p t v) (fit_give k (bump_value op x v)))))
+      fit_bind k _ _ _ _ (fit_place a k call call') (λ p. fit_bind k _ _ _ _ (fit_read k at p t) (λ x. fit_bind k _ _ _ _ (fit_defined k at (compound t (bump_operator op) x int_type (Integer (pos 1))))
+      (λ v. fit_then k _ _ _ _ (fit_write k at p t v) (fit_give k (bump_value op x v)))))
   fit_eval (Node at t (Call f args)) k call call' h = fit_bind k _ _ _ _ (fit_evals args k call call' h) (λ vs. h at f vs)
   fit_eval (Node at t (Cast to a)) k call call' h = fit_bind k _ _ _ _ (fit_eval a k call call' h) (λ x. fit_give k (converted to x))
   fit_eval (Node at t (SizeOfType u)) k call call' h = fit_give k (size_value u)
@@ -434,7 +441,8 @@ run_at p input n m l = ap ran (fuel_main p (function_named p (codes "main") p.fu
 -- ---- loops
 
 -- turns with less and with more fuel are the same from few enough steps
-turn_again : (k n : ℕ) (test : Evaluation Value) (body behind : Evaluation (Unit {0})) → k ≤ n → Fit k test test → Fit k body body → Fit k behind behind → Fit k (turns (suc n) test body behind) (test >>= λ v. choose v (step >> λ t. after_body (body t) (behind >> turns (suc n) test body behind)) done)
+turn_again : (k n : ℕ) (test : Evaluation Value) (body behind : Evaluation (Unit {0})) → k ≤ n → Fit k test test → Fit k body body → Fit k behind behind
+    → Fit k (turns (suc n) test body behind) (test >>= λ v. choose v (step >> λ t. after_body (body t) (behind >> turns (suc n) test body behind)) done)
 turn_again k n test body behind l ft fb fs =
     fit_bind k test test _ _ ft (λ v. fit_choose k v _ _ done done (fit_step k _ _ (λ j lt.
     fit_after_body j body body (behind >> turns n test body behind) (behind >> turns (suc n) test body behind) (fit_less j k (omega (arith, lt)) fb)
@@ -442,7 +450,8 @@ turn_again k n test body behind l ft fb fs =
     (fit_turns n (suc n) j test test body body behind behind (omega (arith, lt)) (omega (arith, lt)) (fit_less j k (omega (arith, lt)) ft) (fit_less j k (omega (arith, lt)) fb) (fit_less j k (omega (arith, lt)) fs))))) (fit_give k tt))
 
 -- a `while` is one turn and then the loop again
-pub one_turn : (p : TranslationUnit) (at : Place) (annots : List Annotation) (e : Expression) (a : Statement) (n : ℕ) (s : State) → s.steps < n → exec p n (While at annots e a) s ≡ (eval p n e >>= λ v. choose v (step >> λ t. after_body (exec p n a t) (exec p n (While at annots e a))) done) s
+pub one_turn : (p : TranslationUnit) (at : Place) (annots : List Annotation) (e : Expression) (a : Statement) (n : ℕ) (s : State) → s.steps < n
+    → exec p n (While at annots e a) s ≡ (eval p n e >>= λ v. choose v (step >> λ t. after_body (exec p n a t) (exec p n (While at annots e a))) done) s
 one_turn p at annots e a zero s l = absurd (omega arith)
 one_turn p at annots e a (suc n) s l =
     let k = s.steps in
@@ -467,7 +476,8 @@ one_do_turn p at a e (suc n) s l =
     (fit_do_turns n (suc n) j test test body body (omega (arith, lt)) (omega (arith, lt)) (fit_less j k (omega (arith, lt)) ft) (fit_less j k (omega (arith, lt)) fb)) (fit_give j tt))))).same s (omega arith)
 
 -- the turns of a `for` are one turn, what stands behind the body, and then the turns again
-pub one_for_turn : (p : TranslationUnit) (e behind : Option Expression) (a : Statement) (n : ℕ) (s : State) → s.steps < n → for_turns p n e behind a s ≡ (condition_with e (call_of p n) >>= λ v. choose v (step >> λ t. after_body (exec p n a t) (effect_with behind (call_of p n) >> for_turns p n e behind a)) done) s
+pub one_for_turn : (p : TranslationUnit) (e behind : Option Expression) (a : Statement) (n : ℕ) (s : State) → s.steps < n
+    → for_turns p n e behind a s ≡ (condition_with e (call_of p n) >>= λ v. choose v (step >> λ t. after_body (exec p n a t) (effect_with behind (call_of p n) >> for_turns p n e behind a)) done) s
 one_for_turn p e behind a zero s l = absurd (omega arith)
 one_for_turn p e behind a (suc n) s l =
     let k = s.steps in

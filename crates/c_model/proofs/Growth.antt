@@ -6,13 +6,17 @@ use Rattle.c_syntax.specs.declared.types.Segment.{Segment}
 use Rattle.c_syntax.specs.Ctypes.{PlainType, Void, Int, int_type}
 use Rattle.c_syntax.specs.Annotations.{Annotation}
 use Rattle.c_syntax.specs.Expressions.{Expression, Node, Number, Letter, Variable, Unary, Binary, Both, Either, Choice, Assign, Bump, Call, Cast, SizeOfType, SizeOfExpr, Expressions, NoExpression, Following, type_of}
-use Rattle.c_syntax.specs.Statements.{Initialiser, One, Declaration, Statement, Empty, Eval, Block, If, While, Do, For, Break, Continue, Return, ElsePart, NoElse, Else, ForFirst, NoFirst, First, BlockItem, Declare, Run, Asserts, BlockItems, NoItem, Then}
+use Rattle.c_syntax.specs.Statements.{Initialiser, One, Declaration, Statement, Empty, Eval, Block, If, While, Do, For, Break, Continue, Return, ElsePart, NoElse, Else, ForFirst, NoFirst, First, BlockItem, Declare, Run, Asserts, BlockItems, NoItem}
+use Rattle.c_syntax.specs.Statements.{Then}
 use Rattle.c_syntax.specs.Programs.{Function, TranslationUnit}
 use Rattle.c_model.specs.Integers.{size_of, byte_of}
 use Rattle.c_model.specs.Memory.{Pointer, Into, Value, Integer, NoValue, Store, load, save, standard_sizes, full_at_stack_birth}
-use Rattle.c_model.specs.State.{InputTail, EndOfInput, InputFault, State, Breaks, Continues, Returns, End, Leaves, Over, Exits, Undefined, Fault, Spent, Outcome, Normal, Stop, Evaluation, on_outcome, ◌>>=◌, ◌>>◌, give, done, stop, defined, step_from, step, read_byte, print, find, start_of, object, read, put_store, write, birth_of, birth, births, write_youngest, alone, frame, mark, restored, within}
+use Rattle.c_model.specs.State.{InputTail, EndOfInput, InputFault, State, Breaks, Continues, Returns, End, Leaves, Over, Exits, Undefined, Fault, Spent, Outcome, Normal, Stop, Evaluation, on_outcome, ◌>>=◌, ◌>>◌, give, done, stop, defined, step_from}
+use Rattle.c_model.specs.State.{step, read_byte, print, find, start_of, object, read, put_store, write, birth_of, birth, births, write_youngest, alone, frame, mark, restored, within}
 use Rattle.c_model.specs.Logic.{Answer, Says, SaysNothing, OutOfSteps, clause, judged, check, checks}
-use Rattle.c_model.specs.Meaning.{Callee, operate_value, operate_values, converted, compound, bump_operator, bump_value, is_zero, choose, truth_value, size_value, eval_with, place_with, evals_with, after_body, turns, do_turns, declared_in, declared_first, initialise, initialise_all, condition_with, effect_with, exec_with, else_with, first_with, item_with, items_with, put_char, get_char, exit_with, library_call, definition_at, parameters, body_with, at_close, returned_by, call_with, is_of_library, call_of, main_with}
+use Rattle.c_model.specs.Meaning.{Callee, operate_value, operate_values, converted, compound, bump_operator, bump_value, is_zero, choose, truth_value, size_value, eval_with, place_with, evals_with, after_body, turns, do_turns, declared_in}
+use Rattle.c_model.specs.Meaning.{declared_first, initialise, initialise_all, condition_with, effect_with, exec_with, else_with, first_with, item_with, items_with, put_char, get_char, exit_with, library_call, definition_at, parameters, body_with}
+use Rattle.c_model.specs.Meaning.{at_close, returned_by, call_with, is_of_library, call_of, main_with}
 use Rattle.c_model.specs.Growth.{output_after, Grown, Grows, CalleeGrows}
 
 pub grown_same : {A : Type 0} (o : List ℕ) (r : Outcome A) → output_after r ≡ o → Grown o r
@@ -146,12 +150,14 @@ body_run o (Stop (Over e) s) again g h = record { rest = g.rest; is = g.is }
 pub grows_turns : (n : ℕ) (test : Evaluation Value) (body behind : Evaluation (Unit {0})) → Grows test → Grows body → Grows behind → Grows (turns n test body behind)
 grows_turns zero test body behind t b h = grows_stop (Over Spent)
 grows_turns (suc n) test body behind t b h =
-    grows_bind test _ t (λ v. grows_choose v _ _ (grows_bind step (λ _ s. after_body (body s) (behind >> turns n test body behind)) grows_step (λ _. record { at = λ s. body_run s.output (body s) (behind >> turns n test body behind) (b.at s) (grows_then behind _ h (grows_turns n test body behind t b h)) })) (grows_give tt))
+    grows_bind test _ t (λ v. grows_choose v _ _ (grows_bind step (λ _ s. after_body (body s) (behind >> turns n test body behind)) grows_step
+    (λ _. record { at = λ s. body_run s.output (body s) (behind >> turns n test body behind) (b.at s) (grows_then behind _ h (grows_turns n test body behind t b h)) })) (grows_give tt))
 
 pub grows_do_turns : (n : ℕ) (test : Evaluation Value) (body : Evaluation (Unit {0})) → Grows test → Grows body → Grows (do_turns n test body)
 grows_do_turns zero test body t b = grows_stop (Over Spent)
 grows_do_turns (suc n) test body t b =
-    grows_bind step (λ _ s. after_body (body s) (test >>= λ v. choose v (do_turns n test body) done)) grows_step (λ _. record { at = λ s. body_run s.output (body s) (test >>= λ v. choose v (do_turns n test body) done) (b.at s) (grows_bind test _ t (λ v. grows_choose v _ _ (grows_do_turns n test body t b) (grows_give tt))) })
+    grows_bind step (λ _ s. after_body (body s) (test >>= λ v. choose v (do_turns n test body) done)) grows_step
+    (λ _. record { at = λ s. body_run s.output (body s) (test >>= λ v. choose v (do_turns n test body) done) (b.at s) (grows_bind test _ t (λ v. grows_choose v _ _ (grows_do_turns n test body t b) (grows_give tt))) })
 
 -- ---- expressions
 
@@ -193,7 +199,8 @@ mutual
   grows_eval (Node at t (Assign (Some op) a b)) call h =
       grows_bind _ _ (grows_place a call) (λ p. grows_bind _ _ (grows_read at p t) (λ x. grows_bind _ _ (grows_eval b call h) (λ y. grows_bind _ _ (grows_defined at (compound t op x (type_of b) y)) (λ v. grows_write_give at p t v))))
   grows_eval (Node at t (Bump op a)) call h =
-      grows_bind _ _ (grows_place a call) (λ p. grows_bind _ _ (grows_read at p t) (λ x. grows_bind _ _ (grows_defined at (compound t (bump_operator op) x int_type (Integer (pos 1)))) (λ v. grows_then _ _ (grows_write at p t v) (grows_give (bump_value op x v)))))
+      grows_bind _ _ (grows_place a call) (λ p. grows_bind _ _ (grows_read at p t) (λ x. grows_bind _ _ (grows_defined at (compound t (bump_operator op) x int_type (Integer (pos 1))))
+      (λ v. grows_then _ _ (grows_write at p t v) (grows_give (bump_value op x v)))))
   grows_eval (Node at t (Call f args)) call h = grows_bind _ _ (grows_evals args call h) (λ vs. h at f vs)
   grows_eval (Node at t (Cast to a)) call h = grows_bind _ _ (grows_eval a call h) (λ x. grows_give (converted to x))
   grows_eval (Node at t (SizeOfType u)) call h = grows_give (size_value u)

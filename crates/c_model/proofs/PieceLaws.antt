@@ -133,9 +133,11 @@ cut_sound (suc k) before (b ∷ bs) =
     let two = subst (λ (at : Place). AreSound ((before ++ b ∷ []) ++ take k bs) (cut k at (fresh_after true (before ++ b ∷ [])) bs)) (walk-append first_place before (b ∷ [])) one in
     let three = subst (λ (fresh : Bool). AreSound ((before ++ b ∷ []) ++ take k bs) (cut k (next (walk first_place before) b) fresh bs)) (fresh-append true before (b ∷ [])) two in
     subst (λ (l : List ℕ). AreSound l (cut k (next (walk first_place before) b) (fresh_behind (fresh_after true before) b) bs)) (append_assoc before (b ∷ []) (take k bs)) three
-cut_sound zero before (b ∷ bs) = subst (λ (l : List ℕ). AreSound l (cut 0 (walk first_place before) (fresh_after true before) (b ∷ bs))) (sym (append-nil before)) (by (piece_at (fresh_after true before) (b ∷ bs)) refl (λ n. cut_sound n (before ++ b ∷ []) bs))
+cut_sound zero before (b ∷ bs) = subst (λ (l : List ℕ). AreSound l (cut 0 (walk first_place before) (fresh_after true before) (b ∷ bs))) (sym (append-nil before))
+    (by (piece_at (fresh_after true before) (b ∷ bs)) refl (λ n. cut_sound n (before ++ b ∷ []) bs))
   where
-    by : (r : Result Found Fault) → piece_at (fresh_after true before) (b ∷ bs) ≡ r → ((n : ℕ) → AreSound ((before ++ b ∷ []) ++ take n bs) (cut n (walk first_place (before ++ b ∷ [])) (fresh_after true (before ++ b ∷ [])) bs)) → AreSound before (cut 0 (walk first_place before) (fresh_after true before) (b ∷ bs))
+    by : (r : Result Found Fault) → piece_at (fresh_after true before) (b ∷ bs) ≡ r → ((n : ℕ) → AreSound ((before ++ b ∷ []) ++ take n bs) (cut n (walk first_place (before ++ b ∷ [])) (fresh_after true (before ++ b ∷ [])) bs))
+        → AreSound before (cut 0 (walk first_place before) (fresh_after true before) (b ∷ bs))
     by (Err f) e rest = rw (e, cut) (walk_place before, piece_breaks before b bs f (ap (λ (fresh : Bool). piece_at fresh (b ∷ bs)) (sym (fresh_starts before)) ∙ e))
     by (Ok x) e rest =
         let one = rest x.more in

@@ -5,13 +5,17 @@ use Rattle.c_syntax.specs.declared.types.Segment.{Segment}
 use Rattle.c_syntax.specs.Ctypes.{PlainType, Void, Int, int_type}
 use Rattle.c_syntax.specs.Annotations.{Annotation}
 use Rattle.c_syntax.specs.Expressions.{Expression, Node, Number, Letter, Variable, Unary, Binary, Both, Either, Choice, Assign, Bump, Call, Cast, SizeOfType, SizeOfExpr, Expressions, NoExpression, Following, type_of}
-use Rattle.c_syntax.specs.Statements.{Initialiser, One, Declaration, Statement, Empty, Eval, Block, If, While, Do, For, Break, Continue, Return, ElsePart, NoElse, Else, ForFirst, NoFirst, First, BlockItem, Declare, Run, Asserts, BlockItems, NoItem, Then}
+use Rattle.c_syntax.specs.Statements.{Initialiser, One, Declaration, Statement, Empty, Eval, Block, If, While, Do, For, Break, Continue, Return, ElsePart, NoElse, Else, ForFirst, NoFirst, First, BlockItem, Declare, Run, Asserts, BlockItems, NoItem}
+use Rattle.c_syntax.specs.Statements.{Then}
 use Rattle.c_syntax.specs.Programs.{Function, TranslationUnit}
 use Rattle.c_model.specs.Integers.{size_of, byte_of}
 use Rattle.c_model.specs.Memory.{Pointer, Into, Value, Integer, NoValue, Store, load, save, standard_sizes, full_at_stack_birth}
-use Rattle.c_model.specs.State.{InputTail, EndOfInput, InputFault, State, Breaks, Continues, Returns, End, Leaves, Over, Exits, Undefined, Fault, Spent, Outcome, Normal, Stop, Evaluation, on_outcome, ◌>>=◌, ◌>>◌, give, done, stop, defined, step_from, step, read_byte, print, find, start_of, object, read, put_store, write, birth_of, birth, births, write_youngest, alone, frame, mark, restored, within}
+use Rattle.c_model.specs.State.{InputTail, EndOfInput, InputFault, State, Breaks, Continues, Returns, End, Leaves, Over, Exits, Undefined, Fault, Spent, Outcome, Normal, Stop, Evaluation, on_outcome, ◌>>=◌, ◌>>◌, give, done, stop, defined, step_from}
+use Rattle.c_model.specs.State.{step, read_byte, print, find, start_of, object, read, put_store, write, birth_of, birth, births, write_youngest, alone, frame, mark, restored, within}
 use Rattle.c_model.specs.Logic.{Answer, Says, SaysNothing, OutOfSteps, clause, judged, check, checks}
-use Rattle.c_model.specs.Meaning.{Callee, operate_value, operate_values, converted, compound, bump_operator, bump_value, is_zero, choose, truth_value, size_value, eval_with, place_with, evals_with, after_body, turns, do_turns, declared_in, declared_first, initialise, initialise_all, condition_with, effect_with, exec_with, else_with, first_with, item_with, items_with, put_char, get_char, exit_with, library_call, definition_at, parameters, body_with, at_close, returned_by, call_with, is_of_library, call_of, main_with}
+use Rattle.c_model.specs.Meaning.{Callee, operate_value, operate_values, converted, compound, bump_operator, bump_value, is_zero, choose, truth_value, size_value, eval_with, place_with, evals_with, after_body, turns, do_turns, declared_in}
+use Rattle.c_model.specs.Meaning.{declared_first, initialise, initialise_all, condition_with, effect_with, exec_with, else_with, first_with, item_with, items_with, put_char, get_char, exit_with, library_call, definition_at, parameters, body_with}
+use Rattle.c_model.specs.Meaning.{at_close, returned_by, call_with, is_of_library, call_of, main_with}
 use Rattle.c_model.specs.Laws.{AreWhole, store_after, KeepsWhole, CalleeKeepsWhole}
 use Rattle.c_model.proofs.Blocks.{whole-saved, whole-append, whole-new_block, whole-kill_from}
 use Rattle.c_syntax.specs.declared.types.BlockKind.TheVariants as block
@@ -135,12 +139,14 @@ body_whole (Stop (Over e) s) again w h = w
 pub whole_turns : (n : ℕ) (test : Evaluation Value) (body behind : Evaluation (Unit {0})) → KeepsWhole test → KeepsWhole body → KeepsWhole behind → KeepsWhole (turns n test body behind)
 whole_turns zero test body behind t b h = whole_stop (Over Spent)
 whole_turns (suc n) test body behind t b h =
-    whole_bind test _ t (λ v. whole_choose v _ _ (whole_bind step (λ _ s. after_body (body s) (behind >> turns n test body behind)) whole_step (λ _. record { at = λ s w. body_whole (body s) (behind >> turns n test body behind) (b.at s w) (whole_then behind _ h (whole_turns n test body behind t b h)) })) (whole_give tt))
+    whole_bind test _ t (λ v. whole_choose v _ _ (whole_bind step (λ _ s. after_body (body s) (behind >> turns n test body behind)) whole_step
+    (λ _. record { at = λ s w. body_whole (body s) (behind >> turns n test body behind) (b.at s w) (whole_then behind _ h (whole_turns n test body behind t b h)) })) (whole_give tt))
 
 pub whole_do_turns : (n : ℕ) (test : Evaluation Value) (body : Evaluation (Unit {0})) → KeepsWhole test → KeepsWhole body → KeepsWhole (do_turns n test body)
 whole_do_turns zero test body t b = whole_stop (Over Spent)
 whole_do_turns (suc n) test body t b =
-    whole_bind step (λ _ s. after_body (body s) (test >>= λ v. choose v (do_turns n test body) done)) whole_step (λ _. record { at = λ s w. body_whole (body s) (test >>= λ v. choose v (do_turns n test body) done) (b.at s w) (whole_bind test _ t (λ v. whole_choose v _ _ (whole_do_turns n test body t b) (whole_give tt))) })
+    whole_bind step (λ _ s. after_body (body s) (test >>= λ v. choose v (do_turns n test body) done)) whole_step
+    (λ _. record { at = λ s w. body_whole (body s) (test >>= λ v. choose v (do_turns n test body) done) (b.at s w) (whole_bind test _ t (λ v. whole_choose v _ _ (whole_do_turns n test body t b) (whole_give tt))) })
 
 -- ---- expressions
 
@@ -182,7 +188,8 @@ mutual
   whole_eval (Node at t (Assign (Some op) a b)) call h =
       whole_bind _ _ (whole_place a call) (λ p. whole_bind _ _ (whole_read at p t) (λ x. whole_bind _ _ (whole_eval b call h) (λ y. whole_bind _ _ (whole_defined at (compound t op x (type_of b) y)) (λ v. whole_write_give at p t v))))
   whole_eval (Node at t (Bump op a)) call h =
-      whole_bind _ _ (whole_place a call) (λ p. whole_bind _ _ (whole_read at p t) (λ x. whole_bind _ _ (whole_defined at (compound t (bump_operator op) x int_type (Integer (pos 1)))) (λ v. whole_then _ _ (whole_write at p t v) (whole_give (bump_value op x v)))))
+      whole_bind _ _ (whole_place a call) (λ p. whole_bind _ _ (whole_read at p t) (λ x. whole_bind _ _ (whole_defined at (compound t (bump_operator op) x int_type (Integer (pos 1))))
+      (λ v. whole_then _ _ (whole_write at p t v) (whole_give (bump_value op x v)))))
   whole_eval (Node at t (Call f args)) call h = whole_bind _ _ (whole_evals args call h) (λ vs. h at f vs)
   whole_eval (Node at t (Cast to a)) call h = whole_bind _ _ (whole_eval a call h) (λ x. whole_give (converted to x))
   whole_eval (Node at t (SizeOfType u)) call h = whole_give (size_value u)

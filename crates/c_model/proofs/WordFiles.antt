@@ -10,7 +10,8 @@ use Rattle.std.proofs.lemmas.Bool.{leb-true, le-leb}
 use Rattle.std.proofs.lemmas.Fmt.{digits_decimal, digits_value-decimal, decimal_nonempty}
 use Rattle.c_model.specs.declared.job.Job.{Job}
 use Rattle.c_model.specs.declared.job.Job.TheVariants.{Run, Instrument, Exec}
-use Rattle.c_model.specs.Words.{Argument, Operand, Steps, ◌>>=◌, before_dashes, behind_dashes, without_front, argument, arguments, with_value, operands, step_values, is_empty, step_number, steps_of, file_of, run_of, exec_of, without_options, instrument_of, job_of}
+use Rattle.c_model.specs.Words.{Argument, Operand, Steps, ◌>>=◌, before_dashes, behind_dashes, without_front, argument, arguments, with_value, operands, step_values, is_empty, step_number, steps_of, file_of, run_of, exec_of, without_options}
+use Rattle.c_model.specs.Words.{instrument_of, job_of}
 use Rattle.c_model.specs.WordLaws.{file_named, steps_asked, IsFromWords}
 use Rattle.c_model.proofs.CommandLine.{own, within, number_ok}
 
@@ -109,7 +110,8 @@ operand_is None None word x e = cc
 argument_is : (word : List ℕ) → IsOperandOf word (argument word)
 argument_is word = operand_is (without_front (codes "--steps=") word) (without_front (codes "-") word) word
 
-finds_first : (a : Argument) (word : List ℕ) (more : List Argument) (words : List (List ℕ)) → IsOperandOf word (Some a) → ((x : List ℕ) → Contains (operands more) x → Contains words x) → (x : List ℕ) → Contains (operands (a ∷ more)) x → Contains (word ∷ words) x
+finds_first : (a : Argument) (word : List ℕ) (more : List Argument) (words : List (List ℕ)) → IsOperandOf word (Some a) → ((x : List ℕ) → Contains (operands more) x → Contains words x) → (x : List ℕ) → Contains (operands (a ∷ more)) x
+    → Contains (word ∷ words) x
 finds_first (Operand w) word more words is h x k =
     elim (in_cons w (operands more) x k) [ inl e ↦ subst (λ v. Contains (v ∷ words) x) (e ∙ is w refl) (first x words) | inr j ↦ later word words x (h x j) ]
 finds_first (Steps value) word more words is h x k = later word words x (h x k)
@@ -127,7 +129,8 @@ finds_none found x e k = let same : found ≡ [] = cc in subst (λ f. Contains (
 mutual
   arguments-finds : (words : List (List ℕ)) → Finds (arguments words) words
   arguments-finds [] = finds_none
-  arguments-finds (word ∷ words) = finds_test (bytes_eq word (codes "--steps")) (with_value words) (argument word >>= λ first. arguments words >>= λ more. Some (first ∷ more)) (word ∷ words) (λ found x e k. later word words x (with_value-finds words found x e k)) (finds_cons (argument word) word (arguments words) words (argument_is word) (arguments-finds words))
+  arguments-finds (word ∷ words) = finds_test (bytes_eq word (codes "--steps")) (with_value words) (argument word >>= λ first. arguments words >>= λ more. Some (first ∷ more)) (word ∷ words)
+      (λ found x e k. later word words x (with_value-finds words found x e k)) (finds_cons (argument word) word (arguments words) words (argument_is word) (arguments-finds words))
 
   with_value-finds : (words : List (List ℕ)) → Finds (with_value words) words
   with_value-finds [] = λ found x e k. cc
@@ -155,7 +158,8 @@ abbrev FoundAmong : Option (List Argument) → List (List ℕ) → Type 0
 FoundAmong m words = (found : List Argument) (x : List ℕ) → m ≡ Some found → Contains (operands found) x → Contains words x
 
 -- the only operand stands among the words
-from_operand : (found : List Argument) (behind words : List (List ℕ)) → FoundAmong (Some found) words → ((x : List ℕ) → Contains behind x → Contains words x) → (file : List ℕ) (steps : ℕ) → file_of (operands found ++ behind) ≡ Some file → steps ≤ 1000000000000 → IsFromWords words file steps
+from_operand : (found : List Argument) (behind words : List (List ℕ)) → FoundAmong (Some found) words → ((x : List ℕ) → Contains behind x → Contains words x) → (file : List ℕ) (steps : ℕ) → file_of (operands found ++ behind) ≡ Some file
+    → steps ≤ 1000000000000 → IsFromWords words file steps
 from_operand found behind words h k file steps e small =
     let only = file_of-only (operands found ++ behind) file e in
     let among : Contains (operands found ++ behind) file = subst (λ ws. Contains ws file) (sym only.only) (first file []) in
@@ -166,7 +170,9 @@ from_operand found behind words h k file steps e small =
       not_dash = only.not_dash;
     }
 
-timed_from : (make : List ℕ → ℕ → Job) → ((f : List ℕ) (n : ℕ) → (file_named (make f n) ≡ f) × (steps_asked (make f n) ≡ n)) → (m : Option (List Argument)) (behind words : List (List ℕ)) → FoundAmong m words → ((x : List ℕ) → Contains behind x → Contains words x) → (job : Job) → (m >>= λ found. file_of (operands found ++ behind) >>= λ file. steps_of (step_values found) >>= λ steps. Some (make file steps)) ≡ Some job → IsFromWords words (file_named job) (steps_asked job)
+timed_from : (make : List ℕ → ℕ → Job) → ((f : List ℕ) (n : ℕ) → (file_named (make f n) ≡ f) × (steps_asked (make f n) ≡ n)) → (m : Option (List Argument)) (behind words : List (List ℕ)) → FoundAmong m words
+    → ((x : List ℕ) → Contains behind x → Contains words x) → (job : Job) → (m >>= λ found. file_of (operands found ++ behind) >>= λ file. steps_of (step_values found) >>= λ steps. Some (make file steps)) ≡ Some job
+    → IsFromWords words (file_named job) (steps_asked job)
 timed_from make is None behind words h k job e = absurd cc
 timed_from make is (Some found) behind words h k job e =
     let p = parts_of make (file_of (operands found ++ behind)) (steps_of (step_values found)) job e in
@@ -175,7 +181,8 @@ timed_from make is (Some found) behind words h k job e =
     let asked : steps_asked job ≡ p.count = ap steps_asked (sym p.job_is) ∙ (is p.name p.count).1 in
     rw (named, asked) q
 
-untimed_from : (m : Option (List Argument)) (behind words : List (List ℕ)) → FoundAmong m words → ((x : List ℕ) → Contains behind x → Contains words x) → (job : Job) → (m >>= λ found. file_of (operands found ++ behind) >>= λ file. without_options (step_values found) (Instrument file false)) ≡ Some job → IsFromWords words (file_named job) (steps_asked job)
+untimed_from : (m : Option (List Argument)) (behind words : List (List ℕ)) → FoundAmong m words → ((x : List ℕ) → Contains behind x → Contains words x) → (job : Job)
+    → (m >>= λ found. file_of (operands found ++ behind) >>= λ file. without_options (step_values found) (Instrument file false)) ≡ Some job → IsFromWords words (file_named job) (steps_asked job)
 untimed_from None behind words h k job e = absurd cc
 untimed_from (Some found) behind words h k job e =
     let p = file_without (file_of (operands found ++ behind)) (step_values found) job e in
@@ -197,7 +204,8 @@ exec_from words job e = timed_from Exec (λ f n. (refl, refl)) (arguments (befor
 instrument_from : (words : List (List ℕ)) (job : Job) → instrument_of words ≡ Some job → IsFromWords words (file_named job) (steps_asked job)
 instrument_from words job e = untimed_from (arguments (before_dashes words)) (behind_dashes words) words (found_among words) (behind_among words) job e
 
-command_test : (a b c : Bool) (command : List ℕ) (words : List (List ℕ)) (job : Job) → (if a then run_of words else (if b then instrument_of words else (if c then exec_of words else None))) ≡ Some job → IsFromWords (command ∷ words) (file_named job) (steps_asked job)
+command_test : (a b c : Bool) (command : List ℕ) (words : List (List ℕ)) (job : Job) → (if a then run_of words else (if b then instrument_of words else (if c then exec_of words else None))) ≡ Some job
+    → IsFromWords (command ∷ words) (file_named job) (steps_asked job)
 command_test true b c command words job e = behind command words job (run_from words job e)
 command_test false true c command words job e = behind command words job (instrument_from words job e)
 command_test false false true command words job e = behind command words job (exec_from words job e)
@@ -213,7 +221,8 @@ exec_at None steps = refl
 exec_at (Some f) None = refl
 exec_at (Some f) (Some n) = refl
 
-exec_with : (m : Option (List Argument)) (behind : List (List ℕ)) → (m >>= λ found. file_of (operands found ++ behind) >>= λ file. steps_of (step_values found) >>= λ steps. Some (Exec file steps)) ≡ option_map (λ job. Exec (file_named job) (steps_asked job)) (m >>= λ found. file_of (operands found ++ behind) >>= λ file. steps_of (step_values found) >>= λ steps. Some (Run file steps false))
+exec_with : (m : Option (List Argument)) (behind : List (List ℕ)) → (m >>= λ found. file_of (operands found ++ behind) >>= λ file. steps_of (step_values found) >>= λ steps. Some (Exec file steps)) ≡ option_map
+    (λ job. Exec (file_named job) (steps_asked job)) (m >>= λ found. file_of (operands found ++ behind) >>= λ file. steps_of (step_values found) >>= λ steps. Some (Run file steps false))
 exec_with None behind = refl
 exec_with (Some found) behind = exec_at (file_of (operands found ++ behind)) (steps_of (step_values found))
 

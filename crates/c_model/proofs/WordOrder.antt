@@ -56,7 +56,8 @@ joins_absurd rest whole found e = cc
 mutual
   arguments-append : (a back : List (List ℕ)) → Joins (arguments a) (arguments back) (arguments (a ++ back))
   arguments-append [] back = joins_nil (arguments back)
-  arguments-append (word ∷ a) back = joins_test (bytes_eq word (codes "--steps")) (with_value a) (argument word >>= λ first. arguments a >>= λ more. Some (first ∷ more)) (arguments back) (with_value (a ++ back)) (argument word >>= λ first. arguments (a ++ back) >>= λ more. Some (first ∷ more)) (with_value-append a back) (joins_cons (argument word) (arguments a) (arguments back) (arguments (a ++ back)) (arguments-append a back))
+  arguments-append (word ∷ a) back = joins_test (bytes_eq word (codes "--steps")) (with_value a) (argument word >>= λ first. arguments a >>= λ more. Some (first ∷ more)) (arguments back) (with_value (a ++ back))
+      (argument word >>= λ first. arguments (a ++ back) >>= λ more. Some (first ∷ more)) (with_value-append a back) (joins_cons (argument word) (arguments a) (arguments back) (arguments (a ++ back)) (arguments-append a back))
 
   with_value-append : (a back : List (List ℕ)) → Joins (with_value a) (arguments back) (with_value (a ++ back))
   with_value-append [] back = joins_absurd (arguments back) (with_value back)
@@ -99,7 +100,15 @@ values_apart : (a b c : List Argument) → step_values (a ++ (b ++ c)) ≡ step_
 values_apart a b c = simp step_values-append
 
 job_with-swap : (a b c : List Argument) (behind : List (List ℕ)) → job_with (a ++ (b ++ c)) behind ≡ job_with (b ++ (a ++ c)) behind
-job_with-swap a b c behind = rw (operands_apart a b c behind, operands_apart b a c behind, values_apart a b c, values_apart b a c, file_of-swap (operands a) (operands b) (operands c ++ behind), steps_of-swap (step_values a) (step_values b) (step_values c)) refl
+job_with-swap a b c behind = rw (
+  operands_apart a b c behind,
+  operands_apart b a c behind,
+  values_apart a b c,
+  values_apart b a c,
+  file_of-swap (operands a) (operands b) (operands c ++ behind),
+  steps_of-swap (step_values a) (step_values b)
+      (step_values c),
+) refl
 
 bind-bind : {B : Type 0} (m : Option (List Argument)) (found : List Argument) (next : List Argument → Option B) → ((m >>= λ more. Some (found ++ more)) >>= next) ≡ (m >>= λ more. next (found ++ more))
 bind-bind None found next = refl
@@ -158,7 +167,9 @@ bad_option : (m : Option (List Argument)) (found : List Argument) (value : List 
 bad_option None found value behind e = refl
 bad_option (Some more) found value behind e = bad_value found value more behind e
 
-forms_at : (t : Bool) (found : List Argument) (value : List ℕ) (back : List (List ℕ)) → bytes_eq value (codes "--") ≡ t → (arguments (before_dashes (with_steps value ∷ back)) >>= λ more. job_with (found ++ more) (behind_dashes (with_steps value ∷ back))) ≡ (arguments (before_dashes (codes "--steps" ∷ (value ∷ back))) >>= λ more. job_with (found ++ more) (behind_dashes (codes "--steps" ∷ (value ∷ back))))
+forms_at : (t : Bool) (found : List Argument) (value : List ℕ) (back : List (List ℕ)) → bytes_eq value (codes "--") ≡ t
+    → (arguments (before_dashes (with_steps value ∷ back)) >>= λ more. job_with (found ++ more) (behind_dashes (with_steps value ∷ back))) ≡ (arguments (before_dashes (codes "--steps" ∷ (value ∷ back))) >>= λ more. job_with (found ++ more)
+    (behind_dashes (codes "--steps" ∷ (value ∷ back))))
 forms_at false found value back e = rw e refl
 forms_at true found value back e =
     rw e (bad_option (arguments (before_dashes back)) found value (behind_dashes back) (dashes_are_no_number value e))
@@ -179,13 +190,15 @@ AreArguments-append a b h k = record {
 abbrev one_option : (value : List ℕ) → AreArguments (with_steps value ∷ [])
 one_option value = record { no_dashes = refl; found = Steps value ∷ []; are = refl }
 
-twice_apart : (a : List Argument) (first : List ℕ) (b : List Argument) (second : List ℕ) (more : List Argument) → step_values ((a ++ (Steps first ∷ (b ++ (Steps second ∷ [])))) ++ more) ≡ step_values a ++ (first ∷ (step_values b ++ (second ∷ step_values more)))
+twice_apart : (a : List Argument) (first : List ℕ) (b : List Argument) (second : List ℕ) (more : List Argument)
+    → step_values ((a ++ (Steps first ∷ (b ++ (Steps second ∷ [])))) ++ more) ≡ step_values a ++ (first ∷ (step_values b ++ (second ∷ step_values more)))
 twice_apart a first b second more = simp (step_values-append, append_assoc)
 
 regroup : (a : List (List ℕ)) (x : List ℕ) (b : List (List ℕ)) (y : List ℕ) (c : List (List ℕ)) → (a ++ (x ∷ (b ++ (y ∷ [])))) ++ c ≡ a ++ (x ∷ (b ++ (y ∷ c)))
 regroup a x b y c = simp append_assoc
 
-pub option_once : (front : List (List ℕ)) (first : List ℕ) (between : List (List ℕ)) (second : List ℕ) (back : List (List ℕ)) → AreArguments front → AreArguments between → run_of (front ++ (with_steps first ∷ (between ++ (with_steps second ∷ back)))) ≡ None
+pub option_once : (front : List (List ℕ)) (first : List ℕ) (between : List (List ℕ)) (second : List ℕ) (back : List (List ℕ)) → AreArguments front → AreArguments between
+    → run_of (front ++ (with_steps first ∷ (between ++ (with_steps second ∷ back)))) ≡ None
 option_once front first between second back h k =
     let words : List (List ℕ) = front ++ (with_steps first ∷ (between ++ (with_steps second ∷ []))) in
     let are : AreArguments words = AreArguments-append front _ h (AreArguments-append (with_steps first ∷ []) _ (one_option first) (AreArguments-append between _ k (one_option second))) in

@@ -17,7 +17,8 @@ use Rattle.c_model.specs.Memory.{Integer, Number, Block as StoredBlock}
 use Rattle.c_model.specs.State.{State, Exits, Broken, Undefined, Spent, Full, ReadFault, Over, Normal, Stop}
 use Rattle.c_model.specs.Meaning.{eval, start, run}
 use Rattle.c_model.specs.Reports.{report}
-use Rattle.c_model.proofs.WorkedTrees.{place, literal, letter, variable, binary, assignment, bump, call, library_call, int_variable, int_parameter, items_of, literal_term, variable_term, assertion, definition, unit_of, input_of, failing_behind, no_input}
+use Rattle.c_model.proofs.WorkedTrees.{place, literal, letter, variable, binary, assignment, bump, call, library_call, int_variable, int_parameter, items_of, literal_term, variable_term, assertion, definition, unit_of, input_of, failing_behind}
+use Rattle.c_model.proofs.WorkedTrees.{no_input}
 
 -- ---- programs
 

@@ -16,7 +16,8 @@ use Rattle.c_syntax.specs.Programs.{TranslationUnit}
 use Rattle.c_model.specs.State.{Exits, Broken, Undefined, Spent}
 use Rattle.c_model.specs.Meaning.{run}
 use Rattle.c_model.specs.Reports.{report}
-use Rattle.c_model.proofs.WorkedTrees.{place, literal, letter, typed_variable, variable, binary, assignment, compound_assignment, bump, cast, putchar_call, object_of, int_variable, items_of, literal_term, variable_term, binary_term, assertion, main_alone, no_input}
+use Rattle.c_model.proofs.WorkedTrees.{place, literal, letter, typed_variable, variable, binary, assignment, compound_assignment, bump, cast, putchar_call, object_of, int_variable, items_of, literal_term, variable_term, binary_term, assertion}
+use Rattle.c_model.proofs.WorkedTrees.{main_alone, no_input}
 
 -- ---- programs
 
@@ -30,7 +31,8 @@ use Rattle.c_model.proofs.WorkedTrees.{place, literal, letter, typed_variable, v
 abbrev adds_and_asserts : TranslationUnit
 adds_and_asserts = main_alone (codes "main" ∷ codes "x" ∷ codes "putchar" ∷ []) (place 1 5 4) (place 1 16 15) (place 6 1 83) (
     Declare (int_variable (place 2 7 23) 1 (place 2 9 25) (literal (place 2 11 27) 2) ∷ []) ∷
-    Asserts (assertion 1 (place 3 7 36) (Chain (place 3 20 49) (binary_term (place 3 16 45) Add (variable_term (place 3 14 43) 1 23) (literal_term (place 3 18 47) 1)) (Linked (place 3 20 49) relation.Eq (literal_term (place 3 23 52) 3) NoLink)) ∷ []) ∷
+    Asserts (assertion 1 (place 3 7 36) (Chain (place 3 20 49) (binary_term (place 3 16 45) Add (variable_term (place 3 14 43) 1 23) (literal_term (place 3 18 47) 1)) (Linked (place 3 20 49) relation.Eq (literal_term (place 3 23 52) 3) NoLink)) ∷ [])
+    ∷
     Run (Eval (place 4 3 57) (putchar_call (place 4 10 64) 2 (letter (place 4 11 65) 65))) ∷
     Run (Return (place 5 3 73) (Some (literal (place 5 10 80) 0))) ∷
     [])
@@ -102,12 +104,14 @@ counts_down = main_alone (codes "main" ∷ codes "n" ∷ codes "s" ∷ codes "pu
     Run (If (place 5 5 65) (binary (place 5 11 71) Eq (variable (place 5 9 69) 1 23) (literal (place 5 14 74) 2)) (Block (place 5 17 77) (items_of (
     Run (Eval (place 6 7 85) (putchar_call (place 6 14 92) 3 (letter (place 6 15 93) 98))) ∷
     []))) (Else (Block (place 7 12 110) (items_of (
-    Run (If (place 8 7 118) (binary (place 8 13 124) Lt (variable (place 8 11 122) 1 23) (literal (place 8 15 126) 2)) (Eval (place 8 18 129) (putchar_call (place 8 25 136) 3 (letter (place 8 26 137) 99))) (Else (Eval (place 8 37 148) (putchar_call (place 8 44 155) 3 (letter (place 8 45 156) 97))))) ∷
+    Run (If (place 8 7 118) (binary (place 8 13 124) Lt (variable (place 8 11 122) 1 23) (literal (place 8 15 126) 2)) (Eval (place 8 18 129) (putchar_call (place 8 25 136) 3 (letter (place 8 26 137) 99)))
+    (Else (Eval (place 8 37 148) (putchar_call (place 8 44 155) 3 (letter (place 8 45 156) 97))))) ∷
     []))))) ∷
     Run (Eval (place 10 5 172) (assignment (place 10 7 174) (variable (place 10 5 172) 2 36) (binary (place 10 11 178) Sub (variable (place 10 9 176) 2 36) (variable (place 10 13 180) 1 23)))) ∷
     Run (Eval (place 11 5 187) (assignment (place 11 7 189) (variable (place 11 5 187) 1 23) (binary (place 11 11 193) Sub (variable (place 11 9 191) 1 23) (literal (place 11 13 195) 1)))) ∷
     [])))) ∷
-    Asserts (assertion 1 (place 13 7 208) (Chain (place 13 20 221) (binary_term (place 13 16 217) Sub (literal_term (place 13 14 215) 0) (literal_term (place 13 18 219) 7)) (Linked (place 13 20 221) relation.Lt (variable_term (place 13 22 223) 2 36) (Linked (place 13 24 225) relation.Le (binary_term (place 13 29 230) Sub (literal_term (place 13 27 228) 0) (literal_term (place 13 31 232) 6)) (Linked (place 13 33 234) relation.Lt (variable_term (place 13 35 236) 1 23) NoLink)))) ∷ []) ∷
+    Asserts (assertion 1 (place 13 7 208) (Chain (place 13 20 221) (binary_term (place 13 16 217) Sub (literal_term (place 13 14 215) 0) (literal_term (place 13 18 219) 7)) (Linked (place 13 20 221) relation.Lt (variable_term (place 13 22 223) 2 36)
+    (Linked (place 13 24 225) relation.Le (binary_term (place 13 29 230) Sub (literal_term (place 13 27 228) 0) (literal_term (place 13 31 232) 6)) (Linked (place 13 33 234) relation.Lt (variable_term (place 13 35 236) 1 23) NoLink)))) ∷ []) ∷
     Run (Return (place 14 3 241) (Some (variable (place 14 10 248) 2 36))) ∷
     [])
 
@@ -129,7 +133,8 @@ counts_down = main_alone (codes "main" ∷ codes "n" ∷ codes "s" ∷ codes "pu
 abbrev leaves_loops : TranslationUnit
 leaves_loops = main_alone (codes "main" ∷ codes "n" ∷ codes "i" ∷ codes "putchar" ∷ []) (place 1 5 4) (place 1 16 15) (place 14 1 214) (
     Declare (int_variable (place 2 7 23) 1 (place 2 9 25) (literal (place 2 11 27) 0) ∷ []) ∷
-    Run (For (place 3 3 32) [] (First (Declare (int_variable (place 3 12 41) 2 (place 3 14 43) (literal (place 3 16 45) 0) ∷ []))) (Some (binary (place 3 21 50) Lt (variable (place 3 19 48) 2 41) (literal (place 3 23 52) 9))) (Some (bump (place 3 27 56) PostUp (variable (place 3 26 55) 2 41))) (Block (place 3 31 60) (items_of (
+    Run (For (place 3 3 32) [] (First (Declare (int_variable (place 3 12 41) 2 (place 3 14 43) (literal (place 3 16 45) 0) ∷ []))) (Some (binary (place 3 21 50) Lt (variable (place 3 19 48) 2 41) (literal (place 3 23 52) 9)))
+    (Some (bump (place 3 27 56) PostUp (variable (place 3 26 55) 2 41))) (Block (place 3 31 60) (items_of (
     Run (If (place 4 5 66) (binary (place 4 11 72) Eq (variable (place 4 9 70) 2 41) (literal (place 4 14 75) 1)) (Continue (place 4 17 78)) NoElse) ∷
     Run (If (place 5 5 92) (binary (place 5 11 98) Eq (variable (place 5 9 96) 2 41) (literal (place 5 14 101) 4)) (Break (place 5 17 104)) NoElse) ∷
     Run (Eval (place 6 5 115) (putchar_call (place 6 12 122) 3 (binary (place 6 17 127) Add (letter (place 6 13 123) 48) (variable (place 6 19 129) 2 41)))) ∷
@@ -152,7 +157,8 @@ leaves_loops = main_alone (codes "main" ∷ codes "n" ∷ codes "i" ∷ codes "p
 abbrev computes_in_types : TranslationUnit
 computes_in_types = main_alone (codes "main" ∷ codes "c" ∷ codes "u" ∷ []) (place 1 5 4) (place 1 16 15) (place 6 1 140) (
     Declare (object_of (Int U8) (place 2 17 33) 1 (place 2 19 35) (cast U8 (literal (place 2 21 37) 200)) ∷ []) ∷
-    Declare (object_of (Int U64) (place 3 17 58) 2 (place 3 19 60) (Node (place 3 30 71) (Int U64) (Binary Add (Node (place 3 21 62) (Int U64) (SizeOfExpr (typed_variable (place 3 28 69) U8 1 33))) (Node (place 3 32 73) (Int U64) (SizeOfType (Int I64))))) ∷ []) ∷
+    Declare (object_of (Int U64) (place 3 17 58) 2 (place 3 19 60) (Node (place 3 30 71) (Int U64) (Binary Add (Node (place 3 21 62) (Int U64) (SizeOfExpr (typed_variable (place 3 28 69) U8 1 33)))
+    (Node (place 3 32 73) (Int U64) (SizeOfType (Int I64))))) ∷ []) ∷
     Run (Eval (place 4 3 89) (Node (place 4 5 91) (Int U8) (Assign (Some Add) (typed_variable (place 4 3 89) U8 1 33) (literal (place 4 8 94) 100)))) ∷
     Run (Return (place 5 3 101) (Some (cast I32 (Node (place 5 29 127) (Int U64) (Choice
     (Node (place 5 18 116) int_type (Both

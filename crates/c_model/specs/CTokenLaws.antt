@@ -1,6 +1,7 @@
 -- Which laws these are is ours; a law that says what C99 6.4 says cites the section.
 -- What holds of every C text with annotations, in the text's own words.
-use Rattle.std.specs.Prelude.{◌≡◌, ◌↔◌, ◌≤◌, ◌<◌, ◌⊎◌, ℕ, ◌-◌, List, [], ◌∷◌, ◌++◌, length, nat_eq, ◌||◌, ◌&&◌, Bool, true, false, Option, Some, None, is_some, Ok, Err, slice_get, codes}
+use Rattle.std.specs.Prelude.{◌≡◌, ◌↔◌, ◌≤◌, ◌<◌, ◌⊎◌, ℕ, ◌-◌, List, [], ◌∷◌, ◌++◌, length, nat_eq, ◌||◌, ◌&&◌, Bool, true, false, Option, Some, None, is_some}
+use Rattle.std.specs.Prelude.{Ok, Err, slice_get, codes}
 use Rattle.std.specs.List.{list_all}
 use Rattle.std.specs.Str.Parse.{digits_value}
 use Rattle.c_syntax.specs.declared.types.CInt.{CInt}

@@ -1,6 +1,7 @@
 -- Directives (C99 6.10): a line whose first byte behind blanks is `#`. There is no preprocessor: a null directive, a line marker and
 -- the `#include` of four headers are blank lines (this profile).
-use Rattle.std.specs.Prelude.{ℕ, suc, List, [], ◌∷◌, length, take, drop, Option, Some, None, Bool, true, false, not, ◌||◌, ◌&&◌, nat_lt, nat_eq, if◌then◌else◌, codes, bytes_eq}
+use Rattle.std.specs.Prelude.{ℕ, suc, List, [], ◌∷◌, length, take, drop, Option, Some, None, Bool, true, false, not, ◌||◌, ◌&&◌, nat_lt, nat_eq, if◌then◌else◌}
+use Rattle.std.specs.Prelude.{codes, bytes_eq}
 use Rattle.std.specs.List.{prefix_len, list_all, list_any}
 use Rattle.c_model.specs.declared.c_tokens.Mode.TheVariants.{Code}
 use Rattle.c_model.specs.declared.c_tokens.Fault.{Fault}

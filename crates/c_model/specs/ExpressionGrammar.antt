@@ -26,7 +26,8 @@ use Rattle.c_syntax.specs.declared.expression.BinOp.TheVariants.{Add, Sub, Mul, 
 use Rattle.c_syntax.specs.declared.expression.BumpOp.{BumpOp}
 use Rattle.c_syntax.specs.declared.expression.BumpOp.TheVariants.{PreUp, PreDown, PostUp, PostDown}
 use Rattle.c_syntax.specs.Ctypes.{PlainType, Void, Int, int_type}
-use Rattle.c_syntax.specs.Expressions.{Expression, Node, ExpressionKind, Number, Letter, Variable, Unary, Binary, Both, Either, Choice, Assign, Bump, Call, Cast, SizeOfType, SizeOfExpr, Expressions, NoExpression, Following}
+use Rattle.c_syntax.specs.Expressions.{Expression, Node, ExpressionKind, Number, Letter, Variable, Unary, Binary, Both, Either, Choice, Assign, Bump, Call}
+use Rattle.c_syntax.specs.Expressions.{Cast, SizeOfType, SizeOfExpr, Expressions, NoExpression, Following}
 use Rattle.c_syntax.specs.Tokens as token
 use Rattle.c_syntax.specs.Tokens.{PlainTokenKind, PlainToken}
 use Rattle.c_model.specs.declared.operands.Form.{Form}
@@ -45,7 +46,10 @@ use Rattle.c_model.specs.declared.vocabulary.SizeWords.{SizeWords}
 use Rattle.c_model.specs.declared.vocabulary.SizeWords.TheVariants as size
 use Rattle.c_model.specs.declared.vocabulary.IntegerWords.{IntegerWords}
 use Rattle.c_model.specs.Vocabulary.{Vocabulary, word_at, no_words, words_with, integer_type}
-use Rattle.c_model.specs.Punctuators.{increment, decrement, shift_left, shift_right, less_equal, greater_equal, equal, not_equal, and_and, or_or, shift_left_assign, shift_right_assign, add_assign, subtract_assign, multiply_assign, divide_assign, remainder_assign, and_assign, or_assign, xor_assign, plus, minus, times, divide, percent, less, greater, assign, exclamation, tilde, ampersand, bar, caret, question, colon, comma, left_paren, right_paren}
+use Rattle.c_model.specs.Punctuators.{increment, decrement, shift_left, shift_right, less_equal, greater_equal, equal, not_equal, and_and, or_or}
+use Rattle.c_model.specs.Punctuators.{shift_left_assign, shift_right_assign, add_assign, subtract_assign, multiply_assign, divide_assign, remainder_assign}
+use Rattle.c_model.specs.Punctuators.{and_assign, or_assign, xor_assign, plus, minus, times, divide, percent, less, greater, assign, exclamation, tilde}
+use Rattle.c_model.specs.Punctuators.{ampersand, bar, caret, question, colon, comma, left_paren, right_paren}
 
 -- ---- limits (this profile), by their labels
 
@@ -397,7 +401,8 @@ module _ (ws : Vocabulary) where
 
   -- type ")" cast, behind "("
   unfoldable pub cast_rest : Operand → Place → Syntax PlainToken ReadOperand
-  cast_rest O at = type_words then λ t. mark right_paren then λ _. O type_use.Casts then λ x. gives (read_operand (read_as at (Cast t x.expression)) form.Cast at)
+  cast_rest O at = type_words then λ t. mark right_paren then λ _. O type_use.Casts then λ x. gives
+      (read_operand (read_as at (Cast t x.expression)) form.Cast at)
 
   -- type ")", behind "(" of `sizeof`
   unfoldable pub sized_type : Place → Syntax PlainToken ReadOperand
@@ -415,7 +420,8 @@ module _ (ws : Vocabulary) where
 
   -- ( "+" | "-" | "!" | "~" ) cast
   unfoldable pub prefixed : Operand → Syntax PlainToken ReadOperand
-  prefixed O = one (placed (mark_entry unary_operators)) then λ o. O type_use.Casts then λ x. gives (read_operand (read_as o.1 (Unary o.0 x.expression)) form.Unary o.1)
+  prefixed O = one (placed (mark_entry unary_operators)) then λ o. O type_use.Casts then λ x. gives
+      (read_operand (read_as o.1 (Unary o.0 x.expression)) form.Unary o.1)
 
   -- "sizeof" unary | "sizeof" "(" type ")" (C99 6.5.3.4)
   unfoldable pub sized : Operand → Syntax PlainToken ReadOperand

@@ -6,10 +6,12 @@ use Rattle.c_syntax.specs.declared.place.Place.{Place}
 use Rattle.c_syntax.specs.declared.expression.BinOp.{BinOp}
 use Rattle.c_syntax.specs.declared.expression.BinOp.TheVariants.{Add, Sub}
 use Rattle.c_syntax.specs.declared.annotation.Kind.TheVariants.{Assert}
-use Rattle.c_syntax.specs.Expressions.{Expression, Node, Number, Letter, Variable, Unary, Binary, Both, Either, Choice, Assign, Bump, Call, Cast, SizeOfType, SizeOfExpr, Expressions, NoExpression, Following}
+use Rattle.c_syntax.specs.Expressions.{Expression, Node, Number, Letter, Variable, Unary, Binary, Both, Either, Choice, Assign, Bump, Call, Cast, SizeOfType}
+use Rattle.c_syntax.specs.Expressions.{SizeOfExpr, Expressions, NoExpression, Following}
 use Rattle.c_syntax.specs.Annotations as logic
 use Rattle.c_syntax.specs.Annotations.{LogicTerm, Predicate, Chain, Links, NoLink, Linked, ClauseBody, Truth, Annotation}
-use Rattle.c_syntax.specs.Statements.{Initialiser, One, Declaration, Statement, Empty, Eval, Block, If, While, Do, For, Break, Continue, Return, ElsePart, NoElse, Else, ForFirst, NoFirst, First, BlockItem, Declare, Run, Asserts, BlockItems, NoItem, Then}
+use Rattle.c_syntax.specs.Statements.{Initialiser, One, Declaration, Statement, Empty, Eval, Block, If, While, Do, For, Break, Continue, Return, ElsePart}
+use Rattle.c_syntax.specs.Statements.{NoElse, Else, ForFirst, NoFirst, First, BlockItem, Declare, Run, Asserts, BlockItems, NoItem, Then}
 use Rattle.c_syntax.specs.Programs.{Function, TranslationUnit}
 use Rattle.c_model.specs.Characters.{is_part}
 use Rattle.c_model.specs.ExpressionGrammar.{most_nested}

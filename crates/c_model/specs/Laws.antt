@@ -1,5 +1,6 @@
 -- Laws that the definitions meet: of integers and memory, of runs, and of the order of runs.
-use Rattle.std.specs.Prelude.{◌≡◌, ℕ, ◌+◌, ◌%◌, ◌^◌, ◌<◌, ◌≤◌, ◌≢◌, ℤ, pos, true, false, if◌then◌else◌, List, [], ◌∷◌, length, take, drop, Option, Some, None, codes}
+use Rattle.std.specs.Prelude.{◌≡◌, ℕ, ◌+◌, ◌%◌, ◌^◌, ◌<◌, ◌≤◌, ◌≢◌, ℤ, pos, true, false, if◌then◌else◌, List, [], ◌∷◌, length, take, drop, Option, Some, None}
+use Rattle.std.specs.Prelude.{codes}
 use Rattle.c_syntax.specs.declared.place.Place.{Place}
 use Rattle.c_syntax.specs.declared.types.CInt.{CInt}
 use Rattle.c_syntax.specs.Ctypes.{PlainType, Int}
@@ -16,7 +17,8 @@ use Rattle.c_model.specs.Integers.{size_of, fits, is_signed, value_bits, bits_of
 use Rattle.c_model.specs.Conversions.{is_shift, is_relation}
 use Rattle.c_model.specs.Memory.{Pointer, Into, Value, Integer, Block, Store, block_at, load, save}
 use Rattle.c_model.specs.State.{Input, State, Fault, Outcome, Normal, Stop, Evaluation, ◌>>=◌, ◌>>◌, done, step}
-use Rattle.c_model.specs.Meaning.{Callee, choose, after_body, turns, condition_with, effect_with, call_of, eval, exec, function_named, main_with, start, ran, run, Ran}
+use Rattle.c_model.specs.Meaning.{Callee, choose, after_body, turns, condition_with, effect_with, call_of, eval, exec, function_named, main_with, start, ran}
+use Rattle.c_model.specs.Meaning.{run, Ran}
 use Rattle.c_model.specs.Reports.{Agrees}
 use Rattle.c_model.specs.Formed.{IsProgram}
 use Rattle.c_model.specs.Growth.{Grows}
@@ -62,7 +64,8 @@ type_of_one _ k = k
 
 -- a defined result on values of a type is a value of the result's type; a count of bits may be any number
 abbrev pub OperatorsFit : Type 0
-OperatorsFit = (k : CInt) (op : BinOp) (x y w : ℤ) → fits k x ≡ true → (is_shift op ≡ false → fits k y ≡ true) → operate_in k op x y ≡ Some w → fits (type_of_result op k) w ≡ true
+OperatorsFit = (k : CInt) (op : BinOp) (x y w : ℤ) → fits k x ≡ true → (is_shift op ≡ false → fits k y ≡ true) → operate_in k op x y ≡ Some w
+    → fits (type_of_result op k) w ≡ true
 
 -- the same of operators of one operand
 abbrev pub OperatorsOfOneFit : Type 0
@@ -77,11 +80,13 @@ AreWhole (b ∷ bs) = (length b.bytes ≡ b.size) × AreWhole bs
 
 -- what is saved is loaded again (C99 6.5.16)
 abbrev pub SavedValuesLoad : Type 0
-SavedValuesLoad = (store saved : Store) (p : Pointer) (k : CInt) (z : ℤ) → AreWhole store → fits k z ≡ true → save store p (Int k) (Integer z) ≡ Some saved → load saved p (Int k) ≡ Some (Integer z)
+SavedValuesLoad = (store saved : Store) (p : Pointer) (k : CInt) (z : ℤ) → AreWhole store → fits k z ≡ true → save store p (Int k) (Integer z) ≡ Some saved
+    → load saved p (Int k) ≡ Some (Integer z)
 
 -- a save changes no other block
 abbrev pub SavesKeepBlocks : Type 0
-SavesKeepBlocks = (store saved : Store) (n offset : ℕ) (t : PlainType) (v : Value) → save store (Into n offset) t v ≡ Some saved → (m : ℕ) → m ≢ n → block_at saved m ≡ block_at store m
+SavesKeepBlocks = (store saved : Store) (n offset : ℕ) (t : PlainType) (v : Value) → save store (Into n offset) t v ≡ Some saved → (m : ℕ) → m ≢ n
+    → block_at saved m ≡ block_at store m
 
 -- the same block but for so many bytes at the offset
 pub record SameButAt (offset size : ℕ) (b written : Block) : Type 0 where
@@ -94,7 +99,8 @@ pub record SameButAt (offset size : ℕ) (b written : Block) : Type 0 where
 
 -- a save changes no byte of its block outside the object
 abbrev pub SavesKeepBytes : Type 0
-SavesKeepBytes = (store saved : Store) (n offset : ℕ) (t : PlainType) (v : Value) → AreWhole store → save store (Into n offset) t v ≡ Some saved → (b written : Block) → block_at store n ≡ Some b → block_at saved n ≡ Some written → SameButAt offset (size_of t) b written
+SavesKeepBytes = (store saved : Store) (n offset : ℕ) (t : PlainType) (v : Value) → AreWhole store → save store (Into n offset) t v ≡ Some saved
+    → (b written : Block) → block_at store n ≡ Some b → block_at saved n ≡ Some written → SameButAt offset (size_of t) b written
 
 -- a save leaves each block its number of bytes
 abbrev pub SavesKeepWhole : Type 0
@@ -128,11 +134,13 @@ StepsFall = (p : TranslationUnit) (a : Statement) (n : ℕ) (s : State) → s.st
 
 -- a `while` is one turn and then the loop again (C99 6.8.5.1)
 abbrev pub LoopsTurn : Type 0
-LoopsTurn = (p : TranslationUnit) (at : Place) (annots : List Annotation) (e : Expression) (a : Statement) (n : ℕ) (s : State) → s.steps < n → exec p n (While at annots e a) s ≡ (eval p n e >>= λ v. choose v (step >> λ t. after_body (exec p n a t) (exec p n (While at annots e a))) done) s
+LoopsTurn = (p : TranslationUnit) (at : Place) (annots : List Annotation) (e : Expression) (a : Statement) (n : ℕ) (s : State) → s.steps < n
+    → exec p n (While at annots e a) s ≡ (eval p n e >>= λ v. choose v (step >> λ t. after_body (exec p n a t) (exec p n (While at annots e a))) done) s
 
 -- a `do` is a step, its body and its condition, and then the loop again where that isn't 0 (C99 6.8.5.2)
 abbrev pub DoLoopsTurn : Type 0
-DoLoopsTurn = (p : TranslationUnit) (at : Place) (a : Statement) (e : Expression) (n : ℕ) (s : State) → s.steps < n → exec p n (Do at a e) s ≡ (step >> λ t. after_body (exec p n a t) (eval p n e >>= λ v. choose v (exec p n (Do at a e)) done)) s
+DoLoopsTurn = (p : TranslationUnit) (at : Place) (a : Statement) (e : Expression) (n : ℕ) (s : State) → s.steps < n
+    → exec p n (Do at a e) s ≡ (step >> λ t. after_body (exec p n a t) (eval p n e >>= λ v. choose v (exec p n (Do at a e)) done)) s
 
 -- the turns of a `for`
 abbrev pub for_turns : TranslationUnit → ℕ → Option Expression → Option Expression → Statement → Evaluation (Unit {0})
@@ -140,11 +148,14 @@ for_turns p n e behind a = turns n (condition_with e (call_of p n)) (exec p n a)
 
 -- they are one turn, what stands behind the body, and then the turns again (C99 6.8.5.3)
 abbrev pub ForLoopsTurn : Type 0
-ForLoopsTurn = (p : TranslationUnit) (e behind : Option Expression) (a : Statement) (n : ℕ) (s : State) → s.steps < n → for_turns p n e behind a s ≡ (condition_with e (call_of p n) >>= λ v. choose v (step >> λ t. after_body (exec p n a t) (effect_with behind (call_of p n) >> for_turns p n e behind a)) done) s
+ForLoopsTurn = (p : TranslationUnit) (e behind : Option Expression) (a : Statement) (n : ℕ) (s : State) → s.steps < n
+    → for_turns p n e behind a s ≡ (condition_with e (call_of p n) >>=
+    λ v. choose v (step >> λ t. after_body (exec p n a t) (effect_with behind (call_of p n) >> for_turns p n e behind a)) done) s
 
 -- a run is the same with any number of turns above its steps
 abbrev pub RunsNeedNoFuel : Type 0
-RunsNeedNoFuel = (p : TranslationUnit) (input : Input) (n m : ℕ) → n < m → run p input n ≡ ran (main_with (function_named p (codes "main") p.funcs) (call_of p m) m (start input n))
+RunsNeedNoFuel = (p : TranslationUnit) (input : Input) (n m : ℕ) → n < m
+    → run p input n ≡ ran (main_with (function_named p (codes "main") p.funcs) (call_of p m) m (start input n))
 
 -- the output of a call of main only grows
 abbrev pub OutputGrows : Type 0

@@ -1,5 +1,6 @@
 -- Integer literals (C99 6.4.4.1), character literals (6.4.4.4) and string literals (6.4.5).
-use Rattle.std.specs.Prelude.{ℕ, zero, suc, ◌+◌, ◌-◌, ℤ, pos, negsuc, List, [], ◌∷◌, take, drop, Option, Some, None, option_map, Bool, true, false, ◌||◌, ◌&&◌, nat_le, nat_lt, nat_eq, if◌then◌else◌, codes}
+use Rattle.std.specs.Prelude.{ℕ, zero, suc, ◌+◌, ◌-◌, ℤ, pos, negsuc, List, [], ◌∷◌, take, drop, Option, Some, None, option_map, Bool, true, false, ◌||◌, ◌&&◌}
+use Rattle.std.specs.Prelude.{nat_le, nat_lt, nat_eq, if◌then◌else◌, codes}
 use Rattle.std.specs.List.{prefix_len}
 use Rattle.std.specs.Char.{digit_value}
 use Rattle.std.specs.Str.Parse.{digits_value}

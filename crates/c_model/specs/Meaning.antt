@@ -1,5 +1,6 @@
 -- What expressions, statements and whole programs do (C99 6.5, 6.8, 5.1.2.2.3; evaluation goes from left to right).
-use Rattle.std.specs.Prelude.{ℕ, zero, suc, pos, Bool, false, cond, not, ◌&&◌, if◌then◌else◌, nat_eq, List, [], ◌∷◌, ◌++◌, Option, Some, None, option_map, slice_get, codes, bytes_eq}
+use Rattle.std.specs.Prelude.{ℕ, zero, suc, pos, Bool, false, cond, not, ◌&&◌, if◌then◌else◌, nat_eq, List, [], ◌∷◌, ◌++◌, Option, Some, None, option_map}
+use Rattle.std.specs.Prelude.{slice_get, codes, bytes_eq}
 use Rattle.std.specs.Ordering.{int_eq}
 use Rattle.c_syntax.specs.declared.place.Place.{Place}
 use Rattle.c_syntax.specs.declared.expression.Use.{Use}
@@ -9,13 +10,17 @@ use Rattle.c_syntax.specs.declared.expression.BinOp.TheVariants as operator
 use Rattle.c_syntax.specs.declared.expression.BumpOp.{BumpOp}
 use Rattle.c_syntax.specs.declared.expression.BumpOp.TheVariants.{PreUp, PreDown, PostUp, PostDown}
 use Rattle.c_syntax.specs.Ctypes.{PlainType, Void, Int, int_type}
-use Rattle.c_syntax.specs.Expressions.{Expression, Node, Number, Letter, Variable, Unary, Binary, Both, Either, Choice, Assign, Bump, Call, Cast, SizeOfType, SizeOfExpr, Expressions, NoExpression, Following, type_of}
-use Rattle.c_syntax.specs.Statements.{Initialiser, One, Declaration, Statement, Empty, Eval, Block, If, While, Do, For, Break, Continue, Return, ElsePart, NoElse, Else, ForFirst, NoFirst, First, BlockItem, Declare, Run, Asserts, BlockItems, NoItem, Then}
+use Rattle.c_syntax.specs.Expressions.{Expression, Node, Number, Letter, Variable, Unary, Binary, Both, Either, Choice, Assign, Bump, Call, Cast, SizeOfType}
+use Rattle.c_syntax.specs.Expressions.{SizeOfExpr, Expressions, NoExpression, Following, type_of}
+use Rattle.c_syntax.specs.Statements.{Initialiser, One, Declaration, Statement, Empty, Eval, Block, If, While, Do, For, Break, Continue, Return, ElsePart}
+use Rattle.c_syntax.specs.Statements.{NoElse, Else, ForFirst, NoFirst, First, BlockItem, Declare, Run, Asserts, BlockItems, NoItem, Then}
 use Rattle.c_syntax.specs.Programs.{Function, TranslationUnit}
 use Rattle.c_model.specs.Integers.{size_of, convert, truth, operate, operate_one, byte_of}
 use Rattle.c_model.specs.Conversions.{operation_type, is_shift}
 use Rattle.c_model.specs.Memory.{Pointer, Value, Integer, NoValue}
-use Rattle.c_model.specs.State.{Input, State, Breaks, Continues, Returns, Final, Exits, Undefined, Fault, Spent, Leaves, Over, Outcome, Normal, Stop, Evaluation, ◌>>=◌, ◌>>◌, give, done, stop, defined, step, print, read_byte, object, read, write, write_youngest, birth, births, alone, frame, mark, within}
+use Rattle.c_model.specs.State.{Input, State, Breaks, Continues, Returns, Final, Exits, Undefined, Fault, Spent, Leaves, Over, Outcome, Normal, Stop}
+use Rattle.c_model.specs.State.{Evaluation, ◌>>=◌, ◌>>◌, give, done, stop, defined, step, print, read_byte, object, read, write, write_youngest, birth, births}
+use Rattle.c_model.specs.State.{alone, frame, mark, within}
 use Rattle.c_model.specs.Library.{is_there}
 use Rattle.c_model.specs.Logic.{checks}
 

@@ -1,6 +1,7 @@
 -- Ours: laws of the tokens of monitored C.
 -- What holds of every monitored text, in the text's own words.
-use Rattle.std.specs.Prelude.{◌≡◌, ◌↔◌, ◌≤◌, ◌<◌, ◌⊎◌, ℕ, ◌+◌, List, [], ◌∷◌, ◌++◌, length, take, count_by, reverse, nat_eq, not, ◌&&◌, Bool, true, false, Some, Ok, Err, slice_get, bytes_eq}
+use Rattle.std.specs.Prelude.{◌≡◌, ◌↔◌, ◌≤◌, ◌<◌, ◌⊎◌, ℕ, ◌+◌, List, [], ◌∷◌, ◌++◌, length, take, count_by, reverse, nat_eq, not, ◌&&◌, Bool, true, false, Some}
+use Rattle.std.specs.Prelude.{Ok, Err, slice_get, bytes_eq}
 use Rattle.std.specs.List.{prefix_len, list_all, list_any}
 use Rattle.std.specs.Str.Parse.{digits_value}
 use Rattle.c_syntax.specs.declared.place.Place.{Place}
@@ -12,7 +13,8 @@ use Rattle.c_model.specs.declared.monitored_tokens.Fault.{Fault}
 use Rattle.c_model.specs.declared.monitored_tokens.Fault.TheVariants as fault
 use Rattle.c_model.specs.Characters.{is_blank, is_digit, is_nondigit, is_part, in_literal, begins_with}
 use Rattle.c_model.specs.Names.{with_name, name_number}
-use Rattle.c_model.specs.MonitoredTokens.{Pieces, Ended, Broken, Cut, greatest_literal, chars_of, ends_line, head_line, marks, refused, pieces_of, monitored_tokens}
+use Rattle.c_model.specs.MonitoredTokens.{Pieces, Ended, Broken, Cut, greatest_literal, chars_of, ends_line, head_line, marks, refused, pieces_of}
+use Rattle.c_model.specs.MonitoredTokens.{monitored_tokens}
 
 -- ---- pieces and places
 
@@ -239,4 +241,5 @@ NamesDiffer = (text : List ℕ) (tokens : PlainTokens) → monitored_tokens text
 
 -- the number that a word gets is its place among the names, whatever names come later
 abbrev pub NumbersAreOfNames : Type 0
-NumbersAreOfNames = (names : List (List ℕ)) (w : List ℕ) (later : List (List ℕ)) → slice_get (with_names (with_name names w) later) (name_number names w) ≡ Some w
+NumbersAreOfNames = (names : List (List ℕ)) (w : List ℕ) (later : List (List ℕ))
+    → slice_get (with_names (with_name names w) later) (name_number names w) ≡ Some w

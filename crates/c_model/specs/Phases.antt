@@ -62,6 +62,9 @@ pub record AcceptedText (text : List ℕ) (p : TranslationUnit) : Type 0 where
 pub data RefusedText (text : List ℕ) (r : PlainRefusal) : Type 0 where
   ByTokens : tokens_of text ≡ Err r → RefusedText text r
   ByGrammar : (ts : PlainTokens) (f : grammar.Fault) → tokens_of text ≡ Ok ts → IsSyntaxFault ts f → r ≡ syntax_refusal ts f → RefusedText text r
-  ByNamesAndTypes : (ts : PlainTokens) (tree : TranslationUnit) (f : Fault) → tokens_of text ≡ Ok ts → IsRead ts tree → refusing (typed_unit tree) ≡ Some f → r ≡ checked_refusal ts f → RefusedText text r
-  ForMain : (ts : PlainTokens) (tree typed : TranslationUnit) (f : Fault) → IsTyped text ts tree typed → main_fault typed.names typed.funcs ≡ Some f → r ≡ main_refusal f → RefusedText text r
-  ByAnnotations : (ts : PlainTokens) (tree typed : TranslationUnit) (f : Fault) → IsTyped text ts tree typed → main_fault typed.names typed.funcs ≡ None → refusing (noted_unit typed) ≡ Some f → r ≡ checked_refusal ts f → RefusedText text r
+  ByNamesAndTypes : (ts : PlainTokens) (tree : TranslationUnit) (f : Fault) → tokens_of text ≡ Ok ts → IsRead ts tree → refusing (typed_unit tree) ≡ Some f
+      → r ≡ checked_refusal ts f → RefusedText text r
+  ForMain : (ts : PlainTokens) (tree typed : TranslationUnit) (f : Fault) → IsTyped text ts tree typed → main_fault typed.names typed.funcs ≡ Some f
+      → r ≡ main_refusal f → RefusedText text r
+  ByAnnotations : (ts : PlainTokens) (tree typed : TranslationUnit) (f : Fault) → IsTyped text ts tree typed → main_fault typed.names typed.funcs ≡ None
+      → refusing (noted_unit typed) ≡ Some f → r ≡ checked_refusal ts f → RefusedText text r

@@ -1,5 +1,6 @@
 -- The pieces of a C text with annotations: names, literals, operators, blanks, and the ends of annotations (C99 6.4, ACSL).
-use Rattle.std.specs.Prelude.{ℕ, zero, suc, ◌+◌, ◌-◌, List, [], ◌∷◌, length, take, drop, Option, Some, None, Result, Ok, Err, Bool, true, false, not, ◌||◌, ◌&&◌, nat_lt, nat_eq, if◌then◌else◌, codes, bytes_eq}
+use Rattle.std.specs.Prelude.{ℕ, zero, suc, ◌+◌, ◌-◌, List, [], ◌∷◌, length, take, drop, Option, Some, None, Result, Ok, Err, Bool, true, false, not, ◌||◌}
+use Rattle.std.specs.Prelude.{◌&&◌, nat_lt, nat_eq, if◌then◌else◌, codes, bytes_eq}
 use Rattle.std.specs.List.{prefix_len, list_any}
 use Rattle.c_syntax.specs.declared.place.Place.{Place}
 use Rattle.c_model.specs.declared.c_tokens.Mode.{Mode}

@@ -5,13 +5,15 @@ use Rattle.c_syntax.specs.declared.place.Place.{Place}
 use Rattle.c_syntax.specs.declared.annotation.Range.{Range}
 use Rattle.c_syntax.specs.Ctypes.{PlainType, int_type}
 use Rattle.c_syntax.specs.Annotations.{LogicTerm, Number, Letter, Variable, Binary, Predicate, Chain, Links, NoLink, Linked, ClauseBody, Truth, Annotation}
-use Rattle.c_syntax.specs.Statements.{Declaration, Statement, Empty, Eval, Block, If, While, Do, For, Break, Continue, Return, ElsePart, NoElse, Else, BlockItem, Declare, Run, Asserts, BlockItems, NoItem, Then}
+use Rattle.c_syntax.specs.Statements.{Declaration, Statement, Empty, Eval, Block, If, While, Do, For, Break, Continue, Return, ElsePart, NoElse, Else}
+use Rattle.c_syntax.specs.Statements.{BlockItem, Declare, Run, Asserts, BlockItems, NoItem, Then}
 use Rattle.c_syntax.specs.Programs.{Function, TranslationUnit}
 use Rattle.c_model.specs.Places.{first_place}
 use Rattle.c_model.specs.Meaning.{is_definition}
 use Rattle.c_model.specs.Library.{library_constant, is_library_name, is_there}
 use Rattle.c_model.specs.Checked.{Fault, Checked, Good, given, one_part, both_parts, where_so}
-use Rattle.c_model.specs.Typing.{no_name, no_type, Signature, Scopes, name_at, object_named, use_as, same_type, is_object_type, declarable, with_object, inner, behind, behind_first, typed_items}
+use Rattle.c_model.specs.Typing.{no_name, no_type, Signature, Scopes, name_at, object_named, use_as, same_type, is_object_type, declarable, with_object, inner}
+use Rattle.c_model.specs.Typing.{behind, behind_first, typed_items}
 
 -- ---- functions
 

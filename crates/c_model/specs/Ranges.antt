@@ -1,6 +1,7 @@
 -- The operators are those of ACSL 2.2 on integers; their ranges are ours.
 -- The range of an operator on unbounded integers, from the ranges of its operands: there is one where it lies within signed 128 bits.
-use Rattle.std.specs.Prelude.{ℕ, zero, suc, ◌-◌, ◌^◌, max, ℤ, pos, neg_ℤ, ◌+ℤ◌, ◌-ℤ◌, ◌*ℤ◌, ◌≤ℤ◌, Bool, ◌&&◌, if◌then◌else◌, nat_lt, int_lt, int_le, unsigned_abs, FitsSigned, Option, Some, None}
+use Rattle.std.specs.Prelude.{ℕ, zero, suc, ◌-◌, ◌^◌, max, ℤ, pos, neg_ℤ, ◌+ℤ◌, ◌-ℤ◌, ◌*ℤ◌, ◌≤ℤ◌, Bool, ◌&&◌, if◌then◌else◌, nat_lt, int_lt, int_le}
+use Rattle.std.specs.Prelude.{unsigned_abs, FitsSigned, Option, Some, None}
 use Rattle.std.specs.Ordering.{int_eq}
 use Rattle.std.specs.Int.{w128, int_min, int_max}
 use Rattle.std.specs.Int.Signed.{mag}

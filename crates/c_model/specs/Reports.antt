@@ -45,11 +45,13 @@ segment_word Numbers = codes "numbers"
 
 -- annotation A, line L: KIND is HOW
 abbrev pub broken_words : ℕ → ℕ → Kind → How → List ℕ
-broken_words number line kind how = codes "annotation " ++ (decimal number ++ (codes ", line " ++ (decimal line ++ (codes ": " ++ (kind_word kind ++ (codes " is " ++ how_word how))))))
+broken_words number line kind how = codes "annotation " ++ (decimal number ++
+    (codes ", line " ++ (decimal line ++ (codes ": " ++ (kind_word kind ++ (codes " is " ++ how_word how))))))
 
 -- refused EC at L:C: WORD
 abbrev pub refused_words : PlainRefusal → List ℕ
-refused_words r = codes "refused E" ++ (decimal r.code ++ (codes " at " ++ (decimal r.place.line ++ (codes ":" ++ (decimal r.place.column ++ (codes ": " ++ r.construct))))))
+refused_words r = codes "refused E" ++
+    (decimal r.code ++ (codes " at " ++ (decimal r.place.line ++ (codes ":" ++ (decimal r.place.column ++ (codes ": " ++ r.construct))))))
 
 -- the report of an end; an undefined operation has none
 abbrev pub report : Final → Option Report

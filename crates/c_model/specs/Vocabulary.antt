@@ -3,7 +3,8 @@ use Rattle.std.specs.Prelude.{ℕ, List, [], ◌∷◌, Option, Some, None, opti
 use Rattle.c_syntax.specs.declared.types.CInt.{CInt}
 use Rattle.c_syntax.specs.declared.types.CInt.TheVariants.{I8, U8, I16, U16, I32, U32, I64, U64}
 use Rattle.c_model.specs.declared.vocabulary.Keyword.{Keyword}
-use Rattle.c_model.specs.declared.vocabulary.Keyword.TheVariants.{Char, Short, Int, Long, Signed, Unsigned, Void, Const, Static, If, Else, While, Do, For, Break, Continue, Return, Sizeof, Kept}
+use Rattle.c_model.specs.declared.vocabulary.Keyword.TheVariants.{Char, Short, Int, Long, Signed, Unsigned, Void, Const, Static, If, Else, While, Do, For}
+use Rattle.c_model.specs.declared.vocabulary.Keyword.TheVariants.{Break, Continue, Return, Sizeof, Kept}
 use Rattle.c_model.specs.declared.vocabulary.Word.{Word}
 use Rattle.c_model.specs.declared.vocabulary.Word.TheVariants as word
 use Rattle.c_model.specs.declared.vocabulary.SignWords.{SignWords}
@@ -35,7 +36,8 @@ kept_keywords =
 
 -- types of the library (C99 7.17), and words of annotations (ACSL)
 abbrev pub other_words : Words
-other_words = (codes "size_t", word.TypeName U64) ∷ (codes "ptrdiff_t", word.TypeName I64) ∷ (codes "assert", word.Assert) ∷ (codes "integer", word.Integer) ∷ []
+other_words = (codes "size_t", word.TypeName U64) ∷ (codes "ptrdiff_t", word.TypeName I64) ∷ (codes "assert", word.Assert) ∷ (codes "integer", word.Integer)
+    ∷ []
 
 abbrev pub found_in : Words → List ℕ → Word → Word
 found_in [] w other = other

@@ -7,10 +7,12 @@ use Rattle.c_syntax.specs.declared.expression.Use.{Use}
 use Rattle.c_syntax.specs.declared.expression.UnOp.{UnOp}
 use Rattle.c_syntax.specs.declared.expression.BinOp.{BinOp}
 use Rattle.c_syntax.specs.Ctypes.{PlainType, Void, Int, int_type}
-use Rattle.c_syntax.specs.Expressions.{Expression, Node, Number, Letter, Variable, Unary, Binary, Both, Either, Choice, Assign, Bump, Call, Cast, SizeOfType, SizeOfExpr, Expressions, NoExpression, Following, type_of}
+use Rattle.c_syntax.specs.Expressions.{Expression, Node, Number, Letter, Variable, Unary, Binary, Both, Either, Choice, Assign, Bump, Call, Cast, SizeOfType}
+use Rattle.c_syntax.specs.Expressions.{SizeOfExpr, Expressions, NoExpression, Following, type_of}
 use Rattle.c_model.specs.Integers.{fits}
 use Rattle.c_model.specs.Conversions.{promoted, is_shift, is_relation}
-use Rattle.c_model.specs.Typing.{Object, Signature, Scopes, name_at, or_else, object_named, function_called, library_function, is_scalar, is_object_type, is_not}
+use Rattle.c_model.specs.Typing.{Object, Signature, Scopes, name_at, or_else, object_named, function_called, library_function, is_scalar, is_object_type}
+use Rattle.c_model.specs.Typing.{is_not}
 
 -- a use of an object in sight, whose type this is
 pub record Denotes (s : Scopes) (x : Use) (t : PlainType) : Type 0 where

@@ -6,7 +6,8 @@ use Rattle.c_syntax.specs.Ctypes.{PlainType, Void}
 use Rattle.c_syntax.specs.Expressions.{Expression, type_of}
 use Rattle.c_syntax.specs.Annotations as logic
 use Rattle.c_syntax.specs.Annotations.{LogicTerm, Predicate, Chain, Links, NoLink, Linked, ClauseBody, Truth, Annotation}
-use Rattle.c_syntax.specs.Statements.{Initialiser, One, Declaration, Statement, Empty, Eval, Block, If, While, Do, For, Break, Continue, Return, ElsePart, NoElse, Else, ForFirst, NoFirst, First, BlockItem, Declare, Run, Asserts, BlockItems, NoItem, Then}
+use Rattle.c_syntax.specs.Statements.{Initialiser, One, Declaration, Statement, Empty, Eval, Block, If, While, Do, For, Break, Continue, Return, ElsePart}
+use Rattle.c_syntax.specs.Statements.{NoElse, Else, ForFirst, NoFirst, First, BlockItem, Declare, Run, Asserts, BlockItems, NoItem, Then}
 use Rattle.c_syntax.specs.Programs.{Function, TranslationUnit}
 use Rattle.c_model.specs.Library.{is_library_name}
 use Rattle.c_model.specs.Typing.{Scopes, name_at, object_named, is_scalar, is_object_type, Around, in_loop, inner, with_object, behind, behind_first}

@@ -22,11 +22,13 @@ OrderIsFree = (a b back : List (List ℕ)) → AreArguments a → AreArguments b
 
 -- `--steps=N` is the same as `--steps N`
 abbrev pub FormsAgree : Type 0
-FormsAgree = (front : List (List ℕ)) (value : List ℕ) (back : List (List ℕ)) → AreArguments front → run_of (front ++ (with_steps value ∷ back)) ≡ run_of (front ++ (codes "--steps" ∷ (value ∷ back)))
+FormsAgree = (front : List (List ℕ)) (value : List ℕ) (back : List (List ℕ)) → AreArguments front
+    → run_of (front ++ (with_steps value ∷ back)) ≡ run_of (front ++ (codes "--steps" ∷ (value ∷ back)))
 
 -- an option twice has no value
 abbrev pub OptionOnce : Type 0
-OptionOnce = (front : List (List ℕ)) (first : List ℕ) (between : List (List ℕ)) (second : List ℕ) (back : List (List ℕ)) → AreArguments front → AreArguments between → run_of (front ++ (with_steps first ∷ (between ++ (with_steps second ∷ back)))) ≡ None
+OptionOnce = (front : List (List ℕ)) (first : List ℕ) (between : List (List ℕ)) (second : List ℕ) (back : List (List ℕ)) → AreArguments front
+    → AreArguments between → run_of (front ++ (with_steps first ∷ (between ++ (with_steps second ∷ back)))) ≡ None
 
 -- behind `--` each word is an operand: alone it is the file, and two have no value
 abbrev pub DashesEndOptions : Type 0

@@ -47,7 +47,8 @@ argument word = elim (without_front (codes "--steps=") word) [ Some value ↦ So
 abbrev mutual
   pub arguments : List (List ℕ) → Option (List Argument)
   arguments [] = Some []
-  arguments (word ∷ words) = if bytes_eq word (codes "--steps") then with_value words else (argument word >>= λ first. arguments words >>= λ more. Some (first ∷ more))
+  arguments (word ∷ words) = if bytes_eq word (codes "--steps") then with_value words else (argument word >>= λ first. arguments words >>=
+      λ more. Some (first ∷ more))
 
   pub with_value : List (List ℕ) → Option (List Argument)
   with_value [] = None

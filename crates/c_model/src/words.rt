@@ -2,7 +2,8 @@
 
 ghost use Rattle.std.specs.Prelude.{◌≡◌, ◌++◌, [], ◌∷◌, None, Some, map, IfOk, option_map, option_copied, option_to_list, string_bytes, codes, false};
 ghost use Rattle.c_model.specs.declared.job.Job.TheVariants.{Run, Instrument, Exec};
-ghost use Rattle.c_model.specs.Words.{argument, before_dashes, behind_dashes, exec_of, file_of, instrument_of, job_of, run_of, step_number, steps_of, without_front};
+ghost use Rattle.c_model.specs.Words.{argument, before_dashes, behind_dashes, exec_of, file_of, instrument_of, job_of, run_of, step_number, steps_of};
+ghost use Rattle.c_model.specs.Words.{without_front};
 ghost use Rattle.c_model.specs.Arguments.{found_in, found_with, plain_found, plain_given};
 
 pub mod laws;

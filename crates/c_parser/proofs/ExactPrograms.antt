@@ -15,7 +15,8 @@ use Rattle.c_model.specs.declared.vocabulary.Keyword.TheVariants as keyword
 use Rattle.c_model.specs.Vocabulary.{Vocabulary}
 use Rattle.c_model.specs.Punctuators.{semicolon, comma, left_paren, right_paren, left_brace, right_brace}
 use Rattle.c_model.specs.ExpressionGrammar.{name_kind, keyword_kind, mark_kind, kind, first_type, nesting_limit, most_nested, TypeStart, ConstStart, VoidStart, NameStart, IntegerStart, type_behind}
-use Rattle.c_model.specs.ProgramGrammar.{first_statement, first_function, statement_in, parameter_name, void_parameter, parameter_behind, parameter, next_parameter, more_parameters, first_parameter, parameters, storage_words, storage_word, result_type, function_rest, function, one_more_function, unit}
+use Rattle.c_model.specs.ProgramGrammar.{first_statement, first_function, statement_in, parameter_name, void_parameter, parameter_behind, parameter, next_parameter, more_parameters, first_parameter, parameters, storage_words, storage_word}
+use Rattle.c_model.specs.ProgramGrammar.{result_type, function_rest, function, one_more_function, unit}
 use Rattle.c_expr_parser.proofs.ExactTokens.{IsRead, fixed_good, name_good, type_start_good}
 use Rattle.c_expr_parser.proofs.ExactTypes.{enlarged, apart_none, type_behind_good, base_good, consts_good, more_type}
 use Rattle.c_expr_parser.proofs.ExactExpressions.{closed_good}
@@ -124,7 +125,8 @@ module _ (ws : Vocabulary) where
   unfolding function_rest
   function_rest_good t f params n =
       declared (either (mark_kind semicolon ∷ []) (seq (fixed_good ws (mark_kind semicolon)) (λ at. given _) refl)
-      (seq (fixed_good ws (mark_kind left_brace)) (λ start. seq (items_good ws (statement_good (most_nested - 1)) ([], record { annotation = n; declarators = 0 })) (λ x. seq (fixed_good ws (mark_kind right_brace)) (λ close. given _) refl) refl) refl) refl) refl
+      (seq (fixed_good ws (mark_kind left_brace)) (λ start. seq (items_good ws (statement_good (most_nested - 1)) ([], record { annotation = n; declarators = 0 })) (λ x. seq (fixed_good ws (mark_kind right_brace)) (λ close. given _) refl) refl) refl)
+      refl) refl
 
   function_good : (n : ℕ) → IsRead ws (function ws n) false first_function []
   unfolding function

@@ -20,8 +20,11 @@ use Rattle.c_model.specs.declared.vocabulary.Word.{Word}
 use Rattle.c_model.specs.declared.vocabulary.Word.TheVariants as word
 use Rattle.c_model.specs.Vocabulary.{Vocabulary, word_at}
 use Rattle.c_model.specs.Punctuators.{assign, semicolon, comma, left_paren, right_paren, left_brace, right_brace}
-use Rattle.c_model.specs.ExpressionGrammar.{name_kind, number_kind, letter_kind, annot_open_kind, annot_close_kind, keyword_kind, mark_kind, word_kind, token_kind, kind, placed, kinds_of, first_type, first_expression, first_effect, expression_limit, most_in_expression, name}
-use Rattle.c_model.specs.ProgramGrammar.{first_statement, first_item, is_open, Counts, Counted, most_declarators, declared_name, declarator, next_declarator, declaration, is_assert, assert_word, is_term_name, term_name, term_number, sum_operators, relations, atom, sum_once, sum_of, sum, assert_clause, annotation, ended, condition, else_branch, else_part, selection, while_loop, do_loop, for_first, maybe_ended, returned, for_behind, for_loop, jump, return_statement, item, items_once, items, block, empty_statement, effect_statement, statement_of}
+use Rattle.c_model.specs.ExpressionGrammar.{name_kind, number_kind, letter_kind, annot_open_kind, annot_close_kind, keyword_kind, mark_kind, word_kind, token_kind, kind, placed, kinds_of, first_type, first_expression, first_effect, expression_limit}
+use Rattle.c_model.specs.ExpressionGrammar.{most_in_expression, name}
+use Rattle.c_model.specs.ProgramGrammar.{first_statement, first_item, is_open, Counts, Counted, most_declarators, declared_name, declarator, next_declarator, declaration, is_assert, assert_word, is_term_name, term_name, term_number, sum_operators}
+use Rattle.c_model.specs.ProgramGrammar.{relations, atom, sum_once, sum_of, sum, assert_clause, annotation, ended, condition, else_branch, else_part, selection, while_loop, do_loop, for_first, maybe_ended, returned, for_behind, for_loop, jump}
+use Rattle.c_model.specs.ProgramGrammar.{return_statement, item, items_once, items, block, empty_statement, effect_statement, statement_of}
 use Rattle.c_expr_parser.proofs.ExactTokens.{IsRead, AreRead, fixed_good, name_good, letter_good, marks_good, placed_good}
 use Rattle.c_expr_parser.proofs.Unlimited.{closed_free}
 use Rattle.c_expr_parser.proofs.ExactTypes.{enlarged, type_good}
@@ -75,7 +78,8 @@ module _ (ws : Vocabulary) where
     unfolding sum_of
     sum_of_good = declared (seq atom_good (λ t. again_and_again (kinds_of (sum_operators ws)) sum_once_good refl t) refl) refl
 
-  sum_step : (k : ℕ) (U U' : Unit {0} → Syntax PlainToken LogicTerm) → ((s : Unit {0}) → AreRead ws k (U s) (U' s) false first_sum (kinds_of (sum_operators ws))) → (s : Unit {0}) → AreRead ws (suc k) (sum_of ws (U s)) (sum_of ws (U' s)) false first_sum (kinds_of (sum_operators ws))
+  sum_step : (k : ℕ) (U U' : Unit {0} → Syntax PlainToken LogicTerm) → ((s : Unit {0}) → AreRead ws k (U s) (U' s) false first_sum (kinds_of (sum_operators ws))) → (s : Unit {0})
+      → AreRead ws (suc k) (sum_of ws (U s)) (sum_of ws (U' s)) false first_sum (kinds_of (sum_operators ws))
   sum_step k U U' e s = sum_of_good (e s)
 
   pub sum_exact : IsExact (kind ws) (sum ws) false first_sum (λ _. kinds_of (sum_operators ws))
@@ -124,7 +128,8 @@ module _ (ws : Vocabulary) where
   annotation_good : (n : Counts) → IsRead ws (annotation ws n) false (annot_open_kind ∷ []) []
   unfolding annotation
   annotation_good n =
-      declared (seq (fixed_good ws annot_open_kind) (λ _. seq (counted expression_limit most_in_expression (clause_free n.annotation) (clause_free n.annotation) (clause_good n.annotation)) (λ a. seq (fixed_good ws annot_close_kind) (λ _. given _) refl) refl) refl) refl
+      declared (seq (fixed_good ws annot_open_kind) (λ _. seq (counted expression_limit most_in_expression (clause_free n.annotation) (clause_free n.annotation) (clause_good n.annotation))
+      (λ a. seq (fixed_good ws annot_close_kind) (λ _. given _) refl) refl) refl) refl
 
   -- ---- declarations
 
@@ -253,7 +258,8 @@ module _ (ws : Vocabulary) {S : Counted} (s : ReadsStatements ws S) where
 
   else_part_good : (at : Place) (e : Expression) (x : Statement × Counts) (b : Bool) → is_open x.0 ≡ b → IsGood (kind ws) 0 (else_part ws S at e x) (else_part ws S at e x) true (first_else b) more_statement
   unfolding else_part
-  else_part_good at e x true is = rw is (same_good (kind ws) 0 (gives (if_alone at e x)) true [] more_statement (widen (kind ws) (gives (if_alone at e x)) true [] (λ _. []) true [] more_statement (gives_exact (kind ws) (if_alone at e x)) (λ h. h) refl (λ y. refl)))
+  else_part_good at e x true is = rw is (same_good (kind ws) 0 (gives (if_alone at e x)) true [] more_statement (widen (kind ws) (gives (if_alone at e x)) true [] (λ _. []) true [] more_statement (gives_exact (kind ws) (if_alone at e x))
+      (λ h. h) refl (λ y. refl)))
   else_part_good at e x false is = rw is (maybe_to an_else (if_alone at e x) (else_branch_good at e x) refl (λ y. within_same (is_open y.0)) refl)
 
   no_else : (at : Place) (e : Expression) (x y : Statement × Counts) (b : Bool) → (cond b (gives (if_alone at e x)) (choice (kind ws) an_else (else_branch ws S at e x) (gives (if_alone at e x)))).reads [] y → if_alone at e x ≡ y
@@ -267,7 +273,8 @@ module _ (ws : Vocabulary) {S : Counted} (s : ReadsStatements ws S) where
 
   branches_good : (at : Place) (e : Expression) (k : Counts) → IsGood (kind ws) 0 (S k then λ x. else_part ws S at e x) (S k then λ x. else_part ws S at e x) false first_statement more_statement
   branches_good at e k =
-      then_good (kind ws) 0 (S k) (S k) (λ x. else_part ws S at e x) (λ x. else_part ws S at e x) false first_statement more_statement true (λ x. first_else (is_open x.0)) (λ x y. more_statement y) false first_statement more_statement (λ x y. if_alone at e x ≡ y) (no_part at e) (no_part at e) (record {
+      then_good (kind ws) 0 (S k) (S k) (λ x. else_part ws S at e x) (λ x. else_part ws S at e x) false first_statement more_statement true (λ x. first_else (is_open x.0)) (λ x y. more_statement y) false first_statement more_statement
+      (λ x y. if_alone at e x ≡ y) (no_part at e) (no_part at e) (record {
         clash = λ x. clash_else (is_open x.0);
         late = λ x y. within_same (is_open y.0);
         over = λ x y h is. rw (← is) (within_else (is_open x.0));
@@ -303,7 +310,8 @@ module _ (ws : Vocabulary) {S : Counted} (s : ReadsStatements ws S) where
   unfolding statement_of
   statement_of_good k =
       either_to (mark_kind left_brace ∷ []) (block_good k)
-      (either_to (mark_kind semicolon ∷ []) {first = mark_kind semicolon ∷ keyword_kind keyword.If ∷ keyword_kind keyword.While ∷ keyword_kind keyword.Do ∷ keyword_kind keyword.For ∷ keyword_kind keyword.Return ∷ jumps ++ first_effect} (empty_good ws k)
+      (either_to (mark_kind semicolon ∷ []) {first = mark_kind semicolon ∷ keyword_kind keyword.If ∷ keyword_kind keyword.While ∷ keyword_kind keyword.Do ∷ keyword_kind keyword.For ∷ keyword_kind keyword.Return ∷ jumps ++ first_effect}
+      (empty_good ws k)
       (either_to (keyword_kind keyword.If ∷ []) {first = keyword_kind keyword.If ∷ keyword_kind keyword.While ∷ keyword_kind keyword.Do ∷ keyword_kind keyword.For ∷ keyword_kind keyword.Return ∷ jumps ++ first_effect} (selection_good k)
       (either_to (keyword_kind keyword.While ∷ []) {first = keyword_kind keyword.While ∷ keyword_kind keyword.Do ∷ keyword_kind keyword.For ∷ keyword_kind keyword.Return ∷ jumps ++ first_effect} (while_good k)
       (either_to (keyword_kind keyword.Do ∷ []) {first = keyword_kind keyword.Do ∷ keyword_kind keyword.For ∷ keyword_kind keyword.Return ∷ jumps ++ first_effect} (do_good k)

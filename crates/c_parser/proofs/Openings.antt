@@ -13,7 +13,8 @@ use Rattle.c_model.specs.declared.vocabulary.Word.TheVariants as word
 use Rattle.c_model.specs.declared.operands.TypeUse.TheVariants.{Casts}
 use Rattle.c_model.specs.Vocabulary.{Vocabulary, word_at}
 use Rattle.c_model.specs.Punctuators.{semicolon, left_paren, left_brace}
-use Rattle.c_model.specs.ExpressionGrammar.{name_kind, number_kind, letter_kind, keyword_kind, mark_kind, word_kind, token_kind, kind, placed, number_of, letter_of, entry, mark_entry, kinds_of, unary_operators, prefix_bumps, first_expression, first_effect, fixed, name, literal, operand, expression, prefixed, sized, operand_but_name, bump_first, effect_but_name, effect_or_call, full_effect_or_call}
+use Rattle.c_model.specs.ExpressionGrammar.{name_kind, number_kind, letter_kind, keyword_kind, mark_kind, word_kind, token_kind, kind, placed, number_of, letter_of, entry, mark_entry, kinds_of, unary_operators, prefix_bumps, first_expression}
+use Rattle.c_model.specs.ExpressionGrammar.{first_effect, fixed, name, literal, operand, expression, prefixed, sized, operand_but_name, bump_first, effect_but_name, effect_or_call, full_effect_or_call}
 use Rattle.c_model.specs.ProgramGrammar.{first_statement, Counts, Counted, block, empty_statement, selection, while_loop, do_loop, for_loop, return_statement, jump, effect_statement, statement_of}
 
 -- the kind of a word is below those of the punctuators
@@ -162,7 +163,8 @@ module _ (ws : Vocabulary) where
       by tokens.AnnotClose at h = other tokens.AnnotClose at (omega arith) h
       by (tokens.Head k n) at h = other (tokens.Head k n) at (omega arith) h
 
-  operand_cases : (t : PlainToken) → among (kind ws t) (number_kind ∷ letter_kind ∷ mark_kind left_paren ∷ kinds_of unary_operators ++ keyword_kind keyword.Sizeof ∷ []) ≡ true → (operand_but_name ws (expression ws) (operand ws (expression ws)) Casts).begun (t ∷ [])
+  operand_cases : (t : PlainToken) → among (kind ws t) (number_kind ∷ letter_kind ∷ mark_kind left_paren ∷ kinds_of unary_operators ++ keyword_kind keyword.Sizeof ∷ []) ≡ true
+      → (operand_but_name ws (expression ws) (operand ws (expression ws)) Casts).begun (t ∷ [])
   unfolding operand_but_name prefixed sized literal
   operand_cases t =
       first_or _ (kind ws t) number_kind _ (λ h. inr (inr (inr (inl (inl (number_begins t h))))))

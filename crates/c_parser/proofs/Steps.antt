@@ -13,7 +13,8 @@ use Rattle.c_syntax.specs.Programs.{Function}
 use Rattle.c_model.specs.Vocabulary.{Vocabulary}
 use Rattle.c_model.specs.Punctuators.{comma}
 use Rattle.c_model.specs.ExpressionGrammar.{kind, mark_kind, kinds_of, nesting_limit}
-use Rattle.c_model.specs.ProgramGrammar.{Counts, first_statement, first_item, first_function, sum_operators, sum_once, sum, next_declarator, items_once, items, statement_of, statement_in, storage_words, storage_word, next_parameter, one_more_function}
+use Rattle.c_model.specs.ProgramGrammar.{Counts, first_statement, first_item, first_function, sum_operators, sum_once, sum, next_declarator, items_once, items, statement_of, statement_in, storage_words, storage_word, next_parameter}
+use Rattle.c_model.specs.ProgramGrammar.{one_more_function}
 use Rattle.c_syntax.specs.declared.fault.ReadFault.{ReadFault}
 use Rattle.c_expr_parser.specs.Reading.{plain_list, Fails}
 use Rattle.c_expr_parser.proofs.Steps.{again}
@@ -83,11 +84,13 @@ module _ (ws : Vocabulary) where
   unfolding more_storage
   storage_ends x ts s = many_is (kind ws) (storage_words ws) (storage_words ws) (λ _ _. []) (storage_words ws) (storage_fit ws) (storage_word ws) (λ z. (storage_word_good ws z).here) x ts ∙ rw s refl
 
-  pub declarators_turn : (t : PlainType) (x y : List Declaration × Counts) (ts rest : List PlainToken) → sees (kind ws) (mark_kind comma ∷ []) ts ≡ true → (next_declarator ws t x).parse ts ≡ Ok (y, rest) → (more_declarators ws t x).parse ts ≡ (more_declarators ws t y).parse rest
+  pub declarators_turn : (t : PlainType) (x y : List Declaration × Counts) (ts rest : List PlainToken) → sees (kind ws) (mark_kind comma ∷ []) ts ≡ true → (next_declarator ws t x).parse ts ≡ Ok (y, rest)
+      → (more_declarators ws t x).parse ts ≡ (more_declarators ws t y).parse rest
   unfolding more_declarators
   declarators_turn t x y ts rest s e = turn (mark_kind comma ∷ []) (next_declarator ws t) (λ z. (next_declarator_good ws t z).here) refl x y ts rest s e
 
-  pub declarators_fails : (t : PlainType) (x : List Declaration × Counts) (ts : List PlainToken) (e : ReadFault) → sees (kind ws) (mark_kind comma ∷ []) ts ≡ true → Fails e ((next_declarator ws t x).parse ts) → Fails e ((more_declarators ws t x).parse ts)
+  pub declarators_fails : (t : PlainType) (x : List Declaration × Counts) (ts : List PlainToken) (e : ReadFault) → sees (kind ws) (mark_kind comma ∷ []) ts ≡ true → Fails e ((next_declarator ws t x).parse ts)
+      → Fails e ((more_declarators ws t x).parse ts)
   unfolding more_declarators
   declarators_fails t x ts e s = again e (λ f. turn_fails (mark_kind comma ∷ []) (next_declarator ws t) (λ z. (next_declarator_good ws t z).here) refl x ts f s)
 
@@ -129,7 +132,8 @@ module _ (ws : Vocabulary) where
   functions_shorter x y ts rest e = shorter ws (one_more_function ws x) (one_more_function_good ws x) ts rest y e
 
   module _ (d : ℕ) where
-    pub items_turn : (x y : List BlockItem × Counts) (ts rest : List PlainToken) → sees (kind ws) first_item ts ≡ true → (items_once ws (statement_in ws d) x).parse ts ≡ Ok (y, rest) → (items ws (statement_in ws d) x).parse ts ≡ (items ws (statement_in ws d) y).parse rest
+    pub items_turn : (x y : List BlockItem × Counts) (ts rest : List PlainToken) → sees (kind ws) first_item ts ≡ true → (items_once ws (statement_in ws d) x).parse ts ≡ Ok (y, rest)
+        → (items ws (statement_in ws d) x).parse ts ≡ (items ws (statement_in ws d) y).parse rest
     unfolding items
     items_turn x y ts rest s e = turn first_item (items_once ws (statement_in ws d)) (λ z. (items_once_good ws (statement_good ws d) z).here) refl x y ts rest s e
 

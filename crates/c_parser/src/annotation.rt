@@ -126,7 +126,8 @@ fn sum_once<'a>(
     left: Term,
     tokens: &'a [Token],
 ) -> Result<(Term, &'a [Token]), ReadFault>
-    ensures read { Gives (λ x. (plain_term x.0, plain_list x.1.now)) result ((sum_once words.now (sum words.now) (plain_term left)).parse (plain_list tokens.now)) }
+    ensures read { Gives (λ x. (plain_term x.0, plain_list x.1.now)) result ((sum_once words.now (sum words.now) (plain_term left)).parse
+        (plain_list tokens.now)) }
     ensures shorter { IfOk result (λ x. length x.1.now < length tokens.now) }
 {
     let (op, place, rest) = marked(SUM_OPERATORS, tokens)?;
@@ -205,7 +206,8 @@ fn assert_rest<'a>(
     left: Term,
     tokens: &'a [Token],
 ) -> Result<(Annot, &'a [Token]), ReadFault>
-    ensures read { Gives (λ x. (plain_annot x.0, plain_list x.1.now)) result ((assert_rest words.now number place (plain_term left)).parse (plain_list tokens.now)) }
+    ensures read { Gives (λ x. (plain_annot x.0, plain_list x.1.now)) result ((assert_rest words.now number place (plain_term left)).parse
+        (plain_list tokens.now)) }
     ensures shorter { IfOk result (λ x. length x.1.now < length tokens.now) }
 {
     let (relation, at, rest) = marked(RELATIONS, tokens)?;
@@ -273,7 +275,8 @@ pub fn annotation<'a>(
     counts: Counts,
     tokens: &'a [Token],
 ) -> Result<(Item, Counts, &'a [Token]), ReadFault>
-    ensures { Gives (λ x. ((plain_item x.0, plain_counts x.1), plain_list x.2.now)) result ((annotation words.now (plain_counts counts)).parse (plain_list tokens.now)) }
+    ensures { Gives (λ x. ((plain_item x.0, plain_counts x.1), plain_list x.2.now)) result
+        ((annotation words.now (plain_counts counts)).parse (plain_list tokens.now)) }
 {
     if counts.annotation == u32::MAX {
         return Err(ReadFault::Memory);

@@ -71,7 +71,8 @@ fn declarator<'a>(
     counts: Counts,
     tokens: &'a [Token],
 ) -> Result<(Vec<Decl>, Counts, &'a [Token]), ReadFault>
-    ensures { Gives (λ x. ((map plain_decl x.0.items, plain_counts x.1), plain_list x.2.now)) result ((declarator words.now (plain_type ctype.now) (map plain_decl all.items, plain_counts counts)).parse (plain_list tokens.now)) }
+    ensures { Gives (λ x. ((map plain_decl x.0.items, plain_counts x.1), plain_list x.2.now)) result
+        ((declarator words.now (plain_type ctype.now) (map plain_decl all.items, plain_counts counts)).parse (plain_list tokens.now)) }
 {
     let mut all = all;
     let (name, place, rest) = declared_name(words, counts, tokens)?;
@@ -95,7 +96,8 @@ fn next_declarator<'a>(
     counts: Counts,
     tokens: &'a [Token],
 ) -> Result<(Vec<Decl>, Counts, &'a [Token]), ReadFault>
-    ensures { Gives (λ x. ((map plain_decl x.0.items, plain_counts x.1), plain_list x.2.now)) result ((next_declarator words.now (plain_type ctype.now) (map plain_decl all.items, plain_counts counts)).parse (plain_list tokens.now)) }
+    ensures { Gives (λ x. ((map plain_decl x.0.items, plain_counts x.1), plain_list x.2.now)) result
+        ((next_declarator words.now (plain_type ctype.now) (map plain_decl all.items, plain_counts counts)).parse (plain_list tokens.now)) }
 {
     let (_, rest) = skip(words, COMMA, tokens)?;
     declarator(alloc, words, ctype, all, counts, rest)
@@ -111,7 +113,8 @@ fn more_declarators<'a>(
     counts: Counts,
     tokens: &'a [Token],
 ) -> Result<(Vec<Decl>, Counts, &'a [Token]), ReadFault>
-    ensures { Gives (λ x. ((map plain_decl x.0.items, plain_counts x.1), plain_list x.2.now)) result ((more_declarators words.now (plain_type ctype.now) (map plain_decl all.items, plain_counts counts)).parse (plain_list tokens.now)) }
+    ensures { Gives (λ x. ((map plain_decl x.0.items, plain_counts x.1), plain_list x.2.now)) result
+        ((more_declarators words.now (plain_type ctype.now) (map plain_decl all.items, plain_counts counts)).parse (plain_list tokens.now)) }
 {
     let mut all = all;
     let mut counts = counts;
@@ -133,7 +136,8 @@ pub fn declaration<'a>(
     counts: Counts,
     tokens: &'a [Token],
 ) -> Result<(Item, Counts, &'a [Token]), ReadFault>
-    ensures { Gives (λ x. ((plain_item x.0, plain_counts x.1), plain_list x.2.now)) result ((declaration words.now (plain_counts counts)).parse (plain_list tokens.now)) }
+    ensures { Gives (λ x. ((plain_item x.0, plain_counts x.1), plain_list x.2.now)) result
+        ((declaration words.now (plain_counts counts)).parse (plain_list tokens.now)) }
 {
     let (ctype, rest) = type_of(words, tokens)?;
     let (first, counts, rest) = declarator(alloc, words, &ctype, Vec::new(alloc), counts, rest)?;

@@ -52,7 +52,8 @@ pub fn with_statement<'a>(
     counts: Counts,
     tokens: &'a [Token],
 ) -> Result<(Stmt, Counts, &'a [Token]), ReadFault>
-    ensures { Gives (λ x. ((plain_stmt x.0, plain_counts x.1), plain_list x.2.now)) result ((counted (plain_stmt_kind place kind) (plain_counts counts)).parse (plain_list tokens.now)) }
+    ensures { Gives (λ x. ((plain_stmt x.0, plain_counts x.1), plain_list x.2.now)) result ((counted (plain_stmt_kind place kind) (plain_counts counts)).parse
+        (plain_list tokens.now)) }
 {
     Ok((statement_at(alloc, place, kind)?, counts, tokens))
 }
@@ -65,7 +66,8 @@ pub fn effect_statement<'a>(
     counts: Counts,
     tokens: &'a [Token],
 ) -> Result<(Stmt, Counts, &'a [Token]), ReadFault>
-    ensures { Gives (λ x. ((plain_stmt x.0, plain_counts x.1), plain_list x.2.now)) result ((effect_statement words.now (plain_counts counts)).parse (plain_list tokens.now)) }
+    ensures { Gives (λ x. ((plain_stmt x.0, plain_counts x.1), plain_list x.2.now)) result
+        ((effect_statement words.now (plain_counts counts)).parse (plain_list tokens.now)) }
 {
     let (e, place, rest) = full_effect_or_call(alloc, words, tokens)?;
     let (_, rest) = skip(words, SEMICOLON, rest)?;
@@ -80,7 +82,8 @@ pub fn for_first<'a>(
     counts: Counts,
     tokens: &'a [Token],
 ) -> Result<(Option<Item>, Counts, &'a [Token]), ReadFault>
-    ensures { Gives (λ x. ((plain_first x.0, plain_counts x.1), plain_list x.2.now)) result ((for_first words.now (plain_counts counts)).parse (plain_list tokens.now)) }
+    ensures { Gives (λ x. ((plain_first x.0, plain_counts x.1), plain_list x.2.now)) result
+        ((for_first words.now (plain_counts counts)).parse (plain_list tokens.now)) }
 {
     if next_begins_type(words, tokens) {
         let (item, counts, rest) = declaration(alloc, words, counts, tokens)?;
@@ -168,7 +171,8 @@ pub fn for_heading<'a>(
     counts: Counts,
     tokens: &'a [Token],
 ) -> Result<(ForHeading, Counts, &'a [Token]), ReadFault>
-    ensures { Gives (λ x. ((plain_heading x.0, plain_counts x.1), plain_list x.2.now)) result ((for_heading words.now (plain_counts counts)).parse (plain_list tokens.now)) }
+    ensures { Gives (λ x. ((plain_heading x.0, plain_counts x.1), plain_list x.2.now)) result
+        ((for_heading words.now (plain_counts counts)).parse (plain_list tokens.now)) }
 {
     let (place, rest) = skip(words, FOR, tokens)?;
     let (_, rest) = skip(words, LEFT_PAREN, rest)?;

@@ -4,7 +4,8 @@ ghost use Rattle.std.specs.Prelude.{◌≡◌, map, [], IfErr};
 ghost use Rattle.c_syntax.specs.Ctypes.{plain_type};
 ghost use Rattle.c_syntax.specs.Statements.{plain_decl};
 ghost use Rattle.c_model.specs.ExpressionGrammar.{closed};
-ghost use Rattle.c_model.specs.ProgramGrammar.{parameter_with, parameter_name, void_parameter, parameter_behind, parameter, next_parameter, more_parameters, first_parameter, parameters};
+ghost use Rattle.c_model.specs.ProgramGrammar.{parameter_with, parameter_name, void_parameter, parameter_behind, parameter, next_parameter, more_parameters};
+ghost use Rattle.c_model.specs.ProgramGrammar.{first_parameter, parameters};
 ghost use Rattle.c_expr_parser.specs.Reading.{Gives, TakesNoMemory, plain_list, plain_start};
 ghost use Rattle.c_parser.specs.Reading.{further_parameters};
 
@@ -40,7 +41,8 @@ fn parameter_name<'a>(
     place: Place,
     tokens: &'a [Token],
 ) -> Result<(Decl, &'a [Token]), ReadFault>
-    ensures read { Gives (λ x. (plain_decl x.0, plain_list x.1.now)) result ((parameter_name words.now (plain_type ctype) (number, place)).parse (plain_list tokens.now)) }
+    ensures read { Gives (λ x. (plain_decl x.0, plain_list x.1.now)) result ((parameter_name words.now (plain_type ctype) (number, place)).parse
+        (plain_list tokens.now)) }
     ensures sure { IfErr result TakesNoMemory }
 {
     if next_is(words, NAME, tokens) {
@@ -81,7 +83,8 @@ fn parameter_behind<'a>(
     place: Place,
     tokens: &'a [Token],
 ) -> Result<(Decl, &'a [Token]), ReadFault>
-    ensures read { Gives (λ x. (plain_decl x.0, plain_list x.1.now)) result ((parameter_behind words.now (plain_start start) (number, place)).parse (plain_list tokens.now)) }
+    ensures read { Gives (λ x. (plain_decl x.0, plain_list x.1.now)) result ((parameter_behind words.now (plain_start start) (number, place)).parse
+        (plain_list tokens.now)) }
     ensures sure { IfErr result TakesNoMemory }
 {
     match start {
@@ -110,7 +113,8 @@ fn next_parameter<'a>(
     all: Vec<Decl>,
     tokens: &'a [Token],
 ) -> Result<(Vec<Decl>, &'a [Token]), ReadFault>
-    ensures { Gives (λ x. (map plain_decl x.0.items, plain_list x.1.now)) result ((next_parameter words.now (map plain_decl all.items)).parse (plain_list tokens.now)) }
+    ensures { Gives (λ x. (map plain_decl x.0.items, plain_list x.1.now)) result ((next_parameter words.now (map plain_decl all.items)).parse
+        (plain_list tokens.now)) }
 {
     let mut all = all;
     let (_, rest) = skip(words, COMMA, tokens)?;
@@ -126,7 +130,8 @@ fn further_parameters<'a>(
     all: Vec<Decl>,
     tokens: &'a [Token],
 ) -> Result<(Vec<Decl>, &'a [Token]), ReadFault>
-    ensures { Gives (λ x. (map plain_decl x.0.items, plain_list x.1.now)) result ((further_parameters words.now (map plain_decl all.items)).parse (plain_list tokens.now)) }
+    ensures { Gives (λ x. (map plain_decl x.0.items, plain_list x.1.now)) result ((further_parameters words.now (map plain_decl all.items)).parse
+        (plain_list tokens.now)) }
 {
     let mut all = all;
     let mut rest = tokens;
@@ -146,7 +151,8 @@ fn more_parameters<'a>(
     first: Decl,
     tokens: &'a [Token],
 ) -> Result<(Vec<Decl>, &'a [Token]), ReadFault>
-    ensures { Gives (λ x. (map plain_decl x.0.items, plain_list x.1.now)) result ((more_parameters words.now (plain_decl first)).parse (plain_list tokens.now)) }
+    ensures { Gives (λ x. (map plain_decl x.0.items, plain_list x.1.now)) result
+        ((more_parameters words.now (plain_decl first)).parse (plain_list tokens.now)) }
 {
     let mut all = Vec::new(alloc);
     all.push(first)?;
@@ -178,7 +184,8 @@ fn first_parameter<'a>(
     place: Place,
     tokens: &'a [Token],
 ) -> Result<(Vec<Decl>, &'a [Token]), ReadFault>
-    ensures { Gives (λ x. (map plain_decl x.0.items, plain_list x.1.now)) result ((first_parameter words.now (plain_start start) (number, place)).parse (plain_list tokens.now)) }
+    ensures { Gives (λ x. (map plain_decl x.0.items, plain_list x.1.now)) result ((first_parameter words.now (plain_start start) (number, place)).parse
+        (plain_list tokens.now)) }
 {
     match start {
         TypeStart::Void => {

@@ -97,7 +97,8 @@ pub struct Body {
 }
 
 fn make_function(heading: Heading, body: Option<Stmt>, close: Place) -> Func
-    ensures { plain_func result ≡ function_with (plain_type heading.result) (heading.name, heading.place) (map plain_decl heading.params.items) (option_map plain_stmt body) close }
+    ensures { plain_func result ≡ function_with (plain_type heading.result) (heading.name, heading.place) (map plain_decl heading.params.items)
+        (option_map plain_stmt body) close }
 {
     Func {
         place: heading.place,
@@ -141,7 +142,9 @@ fn function_rest<'a>(
     number: u32,
     tokens: &'a [Token],
 ) -> Result<(Func, u32, &'a [Token]), ReadFault>
-    ensures { Gives (λ x. ((plain_func x.0, x.1), plain_list x.2.now)) result ((function_rest words.now (plain_type heading.result) (heading.name, heading.place) (map plain_decl heading.params.items) number).parse (plain_list tokens.now)) }
+    ensures { Gives (λ x. ((plain_func x.0, x.1), plain_list x.2.now)) result
+        ((function_rest words.now (plain_type heading.result) (heading.name, heading.place) (map plain_decl heading.params.items) number).parse
+        (plain_list tokens.now)) }
 {
     if next_is(words, SEMICOLON, tokens) {
         let (close, rest) = skip(words, SEMICOLON, tokens)?;
@@ -185,7 +188,8 @@ fn one_more_function<'a>(
     number: u32,
     tokens: &'a [Token],
 ) -> Result<(Vec<Func>, u32, &'a [Token]), ReadFault>
-    ensures { Gives (λ x. ((map plain_func x.0.items, x.1), plain_list x.2.now)) result ((one_more_function words.now (map plain_func all.items, number)).parse (plain_list tokens.now)) }
+    ensures { Gives (λ x. ((map plain_func x.0.items, x.1), plain_list x.2.now)) result ((one_more_function words.now (map plain_func all.items, number)).parse
+        (plain_list tokens.now)) }
 {
     let mut all = all;
     let (one, number, rest) = function(alloc, words, number, tokens)?;
@@ -202,7 +206,8 @@ fn more_functions<'a>(
     number: u32,
     tokens: &'a [Token],
 ) -> Result<(Vec<Func>, u32, &'a [Token]), ReadFault>
-    ensures { Gives (λ x. ((map plain_func x.0.items, x.1), plain_list x.2.now)) result ((more_functions words.now (map plain_func all.items, number)).parse (plain_list tokens.now)) }
+    ensures { Gives (λ x. ((map plain_func x.0.items, x.1), plain_list x.2.now)) result ((more_functions words.now (map plain_func all.items, number)).parse
+        (plain_list tokens.now)) }
 {
     let mut all = all;
     let mut number = number;

@@ -4,7 +4,8 @@ ghost use Rattle.std.specs.Prelude.{◌≡◌, map, IfOk};
 ghost use Rattle.c_syntax.specs.Expressions.{plain_expr};
 ghost use Rattle.c_syntax.specs.Statements.{plain_stmt, plain_item};
 ghost use Rattle.c_syntax.specs.Statements as statement;
-ghost use Rattle.c_model.specs.ProgramGrammar.{is_open, block_items, else_branch, else_part, selection, while_loop, do_loop, for_loop, jump, return_statement, item, items_once, items, block, empty_statement, statement_of, statement_in};
+ghost use Rattle.c_model.specs.ProgramGrammar.{is_open, block_items, else_branch, else_part, selection, while_loop, do_loop, for_loop, jump, return_statement};
+ghost use Rattle.c_model.specs.ProgramGrammar.{item, items_once, items, block, empty_statement, statement_of, statement_in};
 ghost use Rattle.c_expr_parser.specs.Reading.{Gives, plain_list};
 ghost use Rattle.c_parser.specs.Reading.{plain_counts, break_statement, continue_statement, ended_do};
 
@@ -64,7 +65,8 @@ fn break_statement<'a>(
     counts: Counts,
     tokens: &'a [Token],
 ) -> Result<(Stmt, Counts, &'a [Token]), ReadFault>
-    ensures { Gives (λ x. ((plain_stmt x.0, plain_counts x.1), plain_list x.2.now)) result ((break_statement words.now (plain_counts counts)).parse (plain_list tokens.now)) }
+    ensures { Gives (λ x. ((plain_stmt x.0, plain_counts x.1), plain_list x.2.now)) result
+        ((break_statement words.now (plain_counts counts)).parse (plain_list tokens.now)) }
 {
     let (place, rest) = skip(words, BREAK, tokens)?;
     let (_, rest) = skip(words, SEMICOLON, rest)?;
@@ -79,7 +81,8 @@ fn continue_statement<'a>(
     counts: Counts,
     tokens: &'a [Token],
 ) -> Result<(Stmt, Counts, &'a [Token]), ReadFault>
-    ensures { Gives (λ x. ((plain_stmt x.0, plain_counts x.1), plain_list x.2.now)) result ((continue_statement words.now (plain_counts counts)).parse (plain_list tokens.now)) }
+    ensures { Gives (λ x. ((plain_stmt x.0, plain_counts x.1), plain_list x.2.now)) result
+        ((continue_statement words.now (plain_counts counts)).parse (plain_list tokens.now)) }
 {
     let (place, rest) = skip(words, CONTINUE, tokens)?;
     let (_, rest) = skip(words, SEMICOLON, rest)?;
@@ -94,7 +97,8 @@ fn jump<'a>(
     counts: Counts,
     tokens: &'a [Token],
 ) -> Result<(Stmt, Counts, &'a [Token]), ReadFault>
-    ensures { Gives (λ x. ((plain_stmt x.0, plain_counts x.1), plain_list x.2.now)) result ((jump words.now (plain_counts counts)).parse (plain_list tokens.now)) }
+    ensures { Gives (λ x. ((plain_stmt x.0, plain_counts x.1), plain_list x.2.now)) result
+        ((jump words.now (plain_counts counts)).parse (plain_list tokens.now)) }
 {
     if next_is(words, BREAK, tokens) {
         break_statement(alloc, words, counts, tokens)
@@ -111,7 +115,8 @@ fn return_statement<'a>(
     counts: Counts,
     tokens: &'a [Token],
 ) -> Result<(Stmt, Counts, &'a [Token]), ReadFault>
-    ensures { Gives (λ x. ((plain_stmt x.0, plain_counts x.1), plain_list x.2.now)) result ((return_statement words.now (plain_counts counts)).parse (plain_list tokens.now)) }
+    ensures { Gives (λ x. ((plain_stmt x.0, plain_counts x.1), plain_list x.2.now)) result
+        ((return_statement words.now (plain_counts counts)).parse (plain_list tokens.now)) }
 {
     let (place, rest) = skip(words, RETURN, tokens)?;
     let (e, rest) = returned(alloc, words, rest)?;
@@ -126,7 +131,8 @@ fn empty_statement<'a>(
     counts: Counts,
     tokens: &'a [Token],
 ) -> Result<(Stmt, Counts, &'a [Token]), ReadFault>
-    ensures { Gives (λ x. ((plain_stmt x.0, plain_counts x.1), plain_list x.2.now)) result ((empty_statement words.now (plain_counts counts)).parse (plain_list tokens.now)) }
+    ensures { Gives (λ x. ((plain_stmt x.0, plain_counts x.1), plain_list x.2.now)) result
+        ((empty_statement words.now (plain_counts counts)).parse (plain_list tokens.now)) }
 {
     let (place, rest) = skip(words, SEMICOLON, tokens)?;
     with_statement(alloc, place, StmtKind::Empty, counts, rest)
@@ -145,7 +151,8 @@ fn else_branch<'a>(
     counts: Counts,
     tokens: &'a [Token],
 ) -> Result<(Stmt, Counts, &'a [Token]), ReadFault>
-    ensures { Gives (λ x. ((plain_stmt x.0, plain_counts x.1), plain_list x.2.now)) result ((else_branch words.now (statement_in words.now levels) place (plain_expr e) (plain_stmt then, plain_counts counts)).parse (plain_list tokens.now)) }
+    ensures { Gives (λ x. ((plain_stmt x.0, plain_counts x.1), plain_list x.2.now)) result
+        ((else_branch words.now (statement_in words.now levels) place (plain_expr e) (plain_stmt then, plain_counts counts)).parse (plain_list tokens.now)) }
 {
     let (_, rest) = skip(words, ELSE, tokens)?;
     let (otherwise, counts, rest) = statement(alloc, words, levels, counts, rest)?;
@@ -166,7 +173,8 @@ fn else_part<'a>(
     counts: Counts,
     tokens: &'a [Token],
 ) -> Result<(Stmt, Counts, &'a [Token]), ReadFault>
-    ensures { Gives (λ x. ((plain_stmt x.0, plain_counts x.1), plain_list x.2.now)) result ((else_part words.now (statement_in words.now levels) place (plain_expr e) (plain_stmt then, plain_counts counts)).parse (plain_list tokens.now)) }
+    ensures { Gives (λ x. ((plain_stmt x.0, plain_counts x.1), plain_list x.2.now)) result
+        ((else_part words.now (statement_in words.now levels) place (plain_expr e) (plain_stmt then, plain_counts counts)).parse (plain_list tokens.now)) }
 {
     if is_open(&then) {
         with_statement(alloc, place, StmtKind::If(e, then, None), counts, tokens)
@@ -188,7 +196,8 @@ fn selection<'a>(
     counts: Counts,
     tokens: &'a [Token],
 ) -> Result<(Stmt, Counts, &'a [Token]), ReadFault>
-    ensures { Gives (λ x. ((plain_stmt x.0, plain_counts x.1), plain_list x.2.now)) result ((selection words.now (statement_in words.now levels) (plain_counts counts)).parse (plain_list tokens.now)) }
+    ensures { Gives (λ x. ((plain_stmt x.0, plain_counts x.1), plain_list x.2.now)) result
+        ((selection words.now (statement_in words.now levels) (plain_counts counts)).parse (plain_list tokens.now)) }
 {
     let (place, rest) = skip(words, IF, tokens)?;
     let (e, rest) = condition(alloc, words, rest)?;
@@ -207,7 +216,8 @@ fn while_loop<'a>(
     counts: Counts,
     tokens: &'a [Token],
 ) -> Result<(Stmt, Counts, &'a [Token]), ReadFault>
-    ensures { Gives (λ x. ((plain_stmt x.0, plain_counts x.1), plain_list x.2.now)) result ((while_loop words.now (statement_in words.now levels) (plain_counts counts)).parse (plain_list tokens.now)) }
+    ensures { Gives (λ x. ((plain_stmt x.0, plain_counts x.1), plain_list x.2.now)) result
+        ((while_loop words.now (statement_in words.now levels) (plain_counts counts)).parse (plain_list tokens.now)) }
 {
     let (place, rest) = skip(words, WHILE, tokens)?;
     let (e, rest) = condition(alloc, words, rest)?;
@@ -227,7 +237,8 @@ fn ended_do<'a>(
     counts: Counts,
     tokens: &'a [Token],
 ) -> Result<(Stmt, Counts, &'a [Token]), ReadFault>
-    ensures { Gives (λ x. ((plain_stmt x.0, plain_counts x.1), plain_list x.2.now)) result ((ended_do words.now place (plain_stmt body) (plain_expr e) (plain_counts counts)).parse (plain_list tokens.now)) }
+    ensures { Gives (λ x. ((plain_stmt x.0, plain_counts x.1), plain_list x.2.now)) result
+        ((ended_do words.now place (plain_stmt body) (plain_expr e) (plain_counts counts)).parse (plain_list tokens.now)) }
 {
     let (_, rest) = skip(words, SEMICOLON, tokens)?;
     with_statement(alloc, place, StmtKind::Do(body, e), counts, rest)
@@ -244,7 +255,8 @@ fn do_loop<'a>(
     counts: Counts,
     tokens: &'a [Token],
 ) -> Result<(Stmt, Counts, &'a [Token]), ReadFault>
-    ensures { Gives (λ x. ((plain_stmt x.0, plain_counts x.1), plain_list x.2.now)) result ((do_loop words.now (statement_in words.now levels) (plain_counts counts)).parse (plain_list tokens.now)) }
+    ensures { Gives (λ x. ((plain_stmt x.0, plain_counts x.1), plain_list x.2.now)) result
+        ((do_loop words.now (statement_in words.now levels) (plain_counts counts)).parse (plain_list tokens.now)) }
 {
     let (place, rest) = skip(words, DO, tokens)?;
     let (body, counts, rest) = statement(alloc, words, levels, counts, rest)?;
@@ -264,7 +276,8 @@ fn for_loop<'a>(
     counts: Counts,
     tokens: &'a [Token],
 ) -> Result<(Stmt, Counts, &'a [Token]), ReadFault>
-    ensures { Gives (λ x. ((plain_stmt x.0, plain_counts x.1), plain_list x.2.now)) result ((for_loop words.now (statement_in words.now levels) (plain_counts counts)).parse (plain_list tokens.now)) }
+    ensures { Gives (λ x. ((plain_stmt x.0, plain_counts x.1), plain_list x.2.now)) result
+        ((for_loop words.now (statement_in words.now levels) (plain_counts counts)).parse (plain_list tokens.now)) }
 {
     let (heading, counts, rest) = for_heading(alloc, words, counts, tokens)?;
     let (body, counts, rest) = statement(alloc, words, levels, counts, rest)?;
@@ -282,7 +295,8 @@ fn item<'a>(
     counts: Counts,
     tokens: &'a [Token],
 ) -> Result<(Item, Counts, &'a [Token]), ReadFault>
-    ensures { Gives (λ x. ((plain_item x.0, plain_counts x.1), plain_list x.2.now)) result ((item words.now (statement_in words.now levels) (plain_counts counts)).parse (plain_list tokens.now)) }
+    ensures { Gives (λ x. ((plain_item x.0, plain_counts x.1), plain_list x.2.now)) result
+        ((item words.now (statement_in words.now levels) (plain_counts counts)).parse (plain_list tokens.now)) }
 {
     if next_is(words, ANNOT_OPEN, tokens) {
         annotation(alloc, words, counts, tokens)
@@ -304,7 +318,8 @@ fn items_once<'a>(
     counts: Counts,
     tokens: &'a [Token],
 ) -> Result<(Vec<Item>, Counts, &'a [Token]), ReadFault>
-    ensures { Gives (λ x. ((map plain_item x.0.items, plain_counts x.1), plain_list x.2.now)) result ((items_once words.now (statement_in words.now levels) (map plain_item all.items, plain_counts counts)).parse (plain_list tokens.now)) }
+    ensures { Gives (λ x. ((map plain_item x.0.items, plain_counts x.1), plain_list x.2.now)) result
+        ((items_once words.now (statement_in words.now levels) (map plain_item all.items, plain_counts counts)).parse (plain_list tokens.now)) }
 {
     let mut all = all;
     let (one, counts, rest) = item(alloc, words, levels, counts, tokens)?;
@@ -323,7 +338,8 @@ pub fn items<'a>(
     counts: Counts,
     tokens: &'a [Token],
 ) -> Result<(Vec<Item>, Counts, &'a [Token]), ReadFault>
-    ensures { Gives (λ x. ((map plain_item x.0.items, plain_counts x.1), plain_list x.2.now)) result ((items words.now (statement_in words.now levels) (map plain_item all.items, plain_counts counts)).parse (plain_list tokens.now)) }
+    ensures { Gives (λ x. ((map plain_item x.0.items, plain_counts x.1), plain_list x.2.now)) result
+        ((items words.now (statement_in words.now levels) (map plain_item all.items, plain_counts counts)).parse (plain_list tokens.now)) }
 {
     let mut all = all;
     let mut counts = counts;
@@ -347,7 +363,8 @@ fn block<'a>(
     counts: Counts,
     tokens: &'a [Token],
 ) -> Result<(Stmt, Counts, &'a [Token]), ReadFault>
-    ensures { Gives (λ x. ((plain_stmt x.0, plain_counts x.1), plain_list x.2.now)) result ((block words.now (statement_in words.now levels) (plain_counts counts)).parse (plain_list tokens.now)) }
+    ensures { Gives (λ x. ((plain_stmt x.0, plain_counts x.1), plain_list x.2.now)) result
+        ((block words.now (statement_in words.now levels) (plain_counts counts)).parse (plain_list tokens.now)) }
 {
     let (place, rest) = skip(words, LEFT_BRACE, tokens)?;
     let (all, counts, rest) = items(alloc, words, levels, Vec::new(alloc), counts, rest)?;
@@ -365,7 +382,8 @@ fn statement<'a>(
     counts: Counts,
     tokens: &'a [Token],
 ) -> Result<(Stmt, Counts, &'a [Token]), ReadFault>
-    ensures { Gives (λ x. ((plain_stmt x.0, plain_counts x.1), plain_list x.2.now)) result ((statement_in words.now levels (plain_counts counts)).parse (plain_list tokens.now)) }
+    ensures { Gives (λ x. ((plain_stmt x.0, plain_counts x.1), plain_list x.2.now)) result ((statement_in words.now levels (plain_counts counts)).parse
+        (plain_list tokens.now)) }
 {
     if levels == 0 {
         return if next_begins_statement(words, tokens) {

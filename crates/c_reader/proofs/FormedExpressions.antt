@@ -16,7 +16,10 @@ use Rattle.c_model.specs.declared.operands.Connective.TheVariants.{Operator, And
 use Rattle.c_model.specs.declared.vocabulary.Keyword.TheVariants as keyword
 use Rattle.c_model.specs.Vocabulary.{Vocabulary}
 use Rattle.c_model.specs.Punctuators.{question, colon, comma, left_paren, right_paren}
-use Rattle.c_model.specs.ExpressionGrammar.{name_kind, number_kind, keyword_kind, mark_kind, kind, unary_operators, operators_at, levels, assignment_operators, prefix_bumps, postfix_bumps, kinds_of, first_type, first_expression, read_as, kind_of, joined, expressions, ReadOperand, size_of_operand, fixed, name, type_words, Operand, closed, literal, cast_rest, sized_type, paren_rest, behind_paren, prefixed, sized, operand_but_name, operand_of, operand, joined_once, behind_operand, choice_rest, expression_rest, expression_of, expression, behind_name_or_callee, expression_or_call, assigned_value, assigned, bumped, behind_unary, behind_primary, behind_form, effect_rest, bump_first, effect_but_name, effect, next_argument, arguments, call_rest, behind_name, effect_or_call, full_expression, full_expression_or_call, full_effect, full_effect_or_call}
+use Rattle.c_model.specs.ExpressionGrammar.{name_kind, number_kind, keyword_kind, mark_kind, kind, unary_operators, operators_at, levels, assignment_operators, prefix_bumps, postfix_bumps, kinds_of, first_type, first_expression, read_as, kind_of}
+use Rattle.c_model.specs.ExpressionGrammar.{joined, expressions, ReadOperand, size_of_operand, fixed, name, type_words, Operand, closed, literal, cast_rest, sized_type, paren_rest, behind_paren, prefixed, sized, operand_but_name, operand_of, operand}
+use Rattle.c_model.specs.ExpressionGrammar.{joined_once, behind_operand, choice_rest, expression_rest, expression_of, expression, behind_name_or_callee, expression_or_call, assigned_value, assigned, bumped, behind_unary, behind_primary, behind_form}
+use Rattle.c_model.specs.ExpressionGrammar.{effect_rest, bump_first, effect_but_name, effect, next_argument, arguments, call_rest, behind_name, effect_or_call, full_expression, full_expression_or_call, full_effect, full_effect_or_call}
 use Rattle.c_model.specs.Formed.{IsPure, ArePure, nodes_of, nodes_of_all, IsFull, most_read}
 use Rattle.c_reader.proofs.ReadForms.{IsPureOrCall, IsEffect, IsEffectOrCall, IsFullOrCall, IsFullEffect, IsFullEffectOrCall}
 
@@ -253,7 +256,8 @@ module _ (size : ℕ) (ws : Vocabulary) where
 
     choice_each : (k : ℕ) (x : Expression) → IsPart k x → Each size (choice_rest ws E x) (λ j y. IsPart (k + j) y)
     unfolding choice_rest
-    choice_each k x p = each_then (each_fixed (mark_kind question)) (λ i at h. each_then e (λ j y q. each_then (each_fixed (mark_kind colon)) (λ m _ _. each_then e (λ n z r. each_gives _ (record { is = (p.is, q.is, r.is); small = omega (arith, h, p.small, q.small, r.small) })))))
+    choice_each k x p = each_then (each_fixed (mark_kind question)) (λ i at h. each_then e (λ j y q. each_then (each_fixed (mark_kind colon))
+        (λ m _ _. each_then e (λ n z r. each_gives _ (record { is = (p.is, q.is, r.is); small = omega (arith, h, p.small, q.small, r.small) })))))
 
     expression_rest_each : (k : ℕ) (x : Expression) → IsPart k x → Each size (expression_rest ws E x) (λ j y. IsPart (k + j) y)
     unfolding expression_rest

@@ -11,7 +11,8 @@ use Rattle.c_model.specs.declared.vocabulary.Keyword.TheVariants as keyword
 use Rattle.c_model.specs.Vocabulary.{Vocabulary}
 use Rattle.c_model.specs.Punctuators.{semicolon, comma, left_paren, right_paren, left_brace, right_brace}
 use Rattle.c_model.specs.ExpressionGrammar.{name_kind, keyword_kind, mark_kind, kind, placed, mark, reserved, consts, type_start, type_behind, TypeStart, VoidStart, ConstStart, NameStart, IntegerStart, most_nested}
-use Rattle.c_model.specs.ProgramGrammar.{Counts, first_function, block_items, parameter_with, function_with, result_type, parameter_name, void_parameter, parameter_behind, parameter, next_parameter, more_parameters, first_parameter, parameters, function_rest, function, one_more_function, unit}
+use Rattle.c_model.specs.ProgramGrammar.{Counts, first_function, block_items, parameter_with, function_with, result_type, parameter_name, void_parameter, parameter_behind, parameter, next_parameter, more_parameters, first_parameter, parameters}
+use Rattle.c_model.specs.ProgramGrammar.{function_rest, function, one_more_function, unit}
 use Rattle.c_model.specs.Formed.{declared_in_body, declared_in_items, number_of, numbers_of, numbers_of_all}
 use Rattle.c_reader.proofs.ReadForms.{FunctionRead, FunctionsRead, ProgramRead}
 use Rattle.c_reader.proofs.FormedTerms.{placed_at}
@@ -153,7 +154,8 @@ module _ (size : ℕ) (ws : Vocabulary) where
     numbers = (p.from, numbers_joined (suc f.1.offset) m n ds [] (between_lower (suc f.1.offset) k (map number_of ds) m (omega (arith, p.to)) h.numbers) le);
   }
 
-  definition_is : (l k m i n : ℕ) (t : PlainType) (f : ℕ × Place) (ds : List Declaration) (start close : Place) (x : List BlockItem × Counts) → IsNameWithin size ws l k f → AreParameters k m ds → m ≤ i → AreItems size ws most_nested i 0 n x → IsFunction l n (function_with t f ds (Some (Block start (block_items x.0))) close)
+  definition_is : (l k m i n : ℕ) (t : PlainType) (f : ℕ × Place) (ds : List Declaration) (start close : Place) (x : List BlockItem × Counts) → IsNameWithin size ws l k f → AreParameters k m ds → m ≤ i → AreItems size ws most_nested i 0 n x
+      → IsFunction l n (function_with t f ds (Some (Block start (block_items x.0))) close)
   definition_is l k m i n t f ds start close x p h le b =
       let body = declared_in_items (block_items x.0) in
       record {

@@ -9,7 +9,8 @@ use Rattle.c_model.specs.declared.vocabulary.Keyword.TheVariants as keyword
 use Rattle.c_model.specs.Vocabulary.{Vocabulary}
 use Rattle.c_model.specs.Punctuators.{semicolon, left_paren, right_paren, left_brace, right_brace}
 use Rattle.c_model.specs.ExpressionGrammar.{annot_open_kind, annot_close_kind, keyword_kind, mark_kind, kind, first_type, first_expression, first_effect, fixed, mark, reserved, closed}
-use Rattle.c_model.specs.ProgramGrammar.{Counts, Counted, first_item, is_open, block_items, annotation, ended, condition, else_branch, else_part, selection, while_loop, do_loop, for_first, maybe_ended, returned, for_behind, for_loop, jump, return_statement, item, items_once, items, block, empty_statement, effect_statement, statement_of, statement_in}
+use Rattle.c_model.specs.ProgramGrammar.{Counts, Counted, first_item, is_open, block_items, annotation, ended, condition, else_branch, else_part, selection, while_loop, do_loop, for_first, maybe_ended, returned, for_behind, for_loop, jump}
+use Rattle.c_model.specs.ProgramGrammar.{return_statement, item, items_once, items, block, empty_statement, effect_statement, statement_of, statement_in}
 use Rattle.c_model.specs.WellTypedPrograms.{WhereAny}
 use Rattle.c_model.specs.Formed.{IsFull, depth, depth_of_item, depth_of_items, declared_within, declared_in_first, declared_in_item, declared_in_items, most_read}
 use Rattle.c_reader.proofs.ReadForms.{IsFullOrCall, IsFullEffect, FirstRead, StatementRead, ItemRead, ItemsRead}
@@ -128,7 +129,8 @@ module _ (size : ℕ) (ws : Vocabulary) where
 
   return_from : (d l : ℕ) (c : Counts) → From size l (return_statement ws c) (IsWithin (suc d) l c.declarators)
   unfolding return_statement
-  return_from d l c = from_then (from_any (reserved ws keyword.Return)) (λ m at le. from_then (returned_from m) (λ n e p. from_gives _ (record { is = p.is; deep = omega arith; declares = declares_none size ws l c.declarators n (omega (arith, le, p.on)) })))
+  return_from d l c = from_then (from_any (reserved ws keyword.Return)) (λ m at le. from_then (returned_from m)
+      (λ n e p. from_gives _ (record { is = p.is; deep = omega arith; declares = declares_none size ws l c.declarators n (omega (arith, le, p.on)) })))
 
   empty_from : (d l : ℕ) (c : Counts) → From size l (empty_statement ws c) (IsWithin (suc d) l c.declarators)
   unfolding empty_statement
@@ -136,7 +138,8 @@ module _ (size : ℕ) (ws : Vocabulary) where
 
   effect_from : (d l : ℕ) (c : Counts) → From size l (effect_statement ws c) (IsWithin (suc d) l c.declarators)
   unfolding effect_statement
-  effect_from d l c = from_then (from_each (full_call_each size ws)) (λ m e p. ended_from (IsWithin (suc d) l c.declarators) _ (λ n le. record { is = p.2; deep = omega arith; declares = declares_none size ws l c.declarators n (omega (arith, le, p.1)) }))
+  effect_from d l c = from_then (from_each (full_call_each size ws)) (λ m e p. ended_from (IsWithin (suc d) l c.declarators) _
+      (λ n le. record { is = p.2; deep = omega arith; declares = declares_none size ws l c.declarators n (omega (arith, le, p.1)) }))
 
   -- ---- statements in statements
 
@@ -153,7 +156,8 @@ module _ (size : ℕ) (ws : Vocabulary) where
     unfolding items_once
     once_from l c m x h = from_then (item_from m x.1) (λ n i p. from_gives _ (record {
       are = all_behind (IsItem d) x.0 i.0 h.are p.item;
-      declares = subst (λ (ds : List Declaration). Declares size ws l c ds n i.1.declarators) (sym (declared_behind x.0 i.0)) (declares_joined size ws l c m x.1.declarators n i.1.declarators (declared_in_items (block_items x.0)) (declared_in_item i.0) h.declares p.declares);
+      declares = subst (λ (ds : List Declaration). Declares size ws l c ds n i.1.declarators) (sym (declared_behind x.0 i.0)) (declares_joined size ws l c m x.1.declarators n i.1.declarators (declared_in_items (block_items x.0))
+          (declared_in_item i.0) h.declares p.declares);
     }))
 
     pub items_from : (l c m : ℕ) (x : List BlockItem × Counts) → AreItems d l c m x → From size m (items ws S x) (AreItems d l c)

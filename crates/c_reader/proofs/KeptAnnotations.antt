@@ -16,7 +16,8 @@ use Rattle.c_model.specs.Checked.{Good, given}
 use Rattle.c_model.specs.Library.{Constants, constants, constant_in, library_constant}
 use Rattle.c_model.specs.Typing.{no_name, Object, Scopes, name_at, object_named, use_as, inner, behind, behind_first}
 use Rattle.c_model.specs.ProgramTyping.{term_named, typed_term, typed_links, typed_predicate, typed_clause, typed_annotations, noted_statement, noted_else, noted_item, noted_items}
-use Rattle.c_model.specs.Formed.{IsLogicNumber, IsSumTerm, leaves_of_term, IsShortTerm, IsRelation, AreAsserts, depth, depth_of_else, depth_of_item, depth_of_items, StatementFormed, ElseFormed, ItemFormed, ItemsFormed, declared_within, declared_in_else, declared_in_first, declared_in_item, declared_in_items, most_typed}
+use Rattle.c_model.specs.Formed.{IsLogicNumber, IsSumTerm, leaves_of_term, IsShortTerm, IsRelation, AreAsserts, depth, depth_of_else, depth_of_item, depth_of_items, StatementFormed, ElseFormed, ItemFormed, ItemsFormed, declared_within}
+use Rattle.c_model.specs.Formed.{declared_in_else, declared_in_first, declared_in_item, declared_in_items, most_typed}
 use Rattle.c_reader.proofs.KeptExpressions.{Holds, holds_one, holds_both, holds_more}
 
 -- ---- constants of the library
@@ -138,7 +139,8 @@ short_kept s t h = holds_more (IsSameTerm t) IsShortTerm (typed_term s t) (λ x 
 clause_kept : (s : Scopes) (b : ClauseBody) → IsRelation b → Holds IsRelation (typed_clause s b)
 clause_kept s (Truth (Chain at t (Linked at2 r u NoLink))) h =
     holds_one (λ (p : Predicate). IsRelation (Truth p)) IsRelation (typed_predicate s (Chain at t (Linked at2 r u NoLink))) (λ p. Good (Truth p))
-    (holds_both IsShortTerm (λ (l : Links). (x : LogicTerm) → IsShortTerm x → IsRelation (Truth (Chain at x l))) (λ (p : Predicate). IsRelation (Truth p)) (typed_term s t) (typed_links s (Linked at2 r u NoLink)) (λ x l. Good (Chain at x l)) (short_kept s t h.0)
+    (holds_both IsShortTerm (λ (l : Links). (x : LogicTerm) → IsShortTerm x → IsRelation (Truth (Chain at x l))) (λ (p : Predicate). IsRelation (Truth p)) (typed_term s t) (typed_links s (Linked at2 r u NoLink)) (λ x l. Good (Chain at x l))
+    (short_kept s t h.0)
     (holds_both IsShortTerm (λ (l : Links). l ≡ NoLink) (λ (l : Links). (x : LogicTerm) → IsShortTerm x → IsRelation (Truth (Chain at x l))) (typed_term s u) (typed_links s NoLink) (λ y l. Good (Linked at2 r y l)) (short_kept s u h.1) refl
     (λ y l p e x q. subst (λ (m : Links). IsRelation (Truth (Chain at x (Linked at2 r y m)))) (sym e) (q, p)))
     (λ x l p f. f x p)) (λ p q. q)
@@ -181,7 +183,8 @@ mutual
   statement_noted : (s : Scopes) (a : Statement) → StatementFormed most_typed a → Holds (IsNotedAs a) (noted_statement s a)
   statement_noted s (Empty at) h = record { is = tt; deep = refl; same = refl }
   statement_noted s (Eval at e) h = record { is = h; deep = refl; same = refl }
-  statement_noted s (Block at items) h = holds_one (AreNotedItems items) (IsNotedAs (Block at items)) (noted_items (inner s) items) (λ x. Good (Block at x)) (items_noted (inner s) items h) (λ x p. record { is = p.are; deep = ap (λ n. 1 + n) p.deep; same = p.same })
+  statement_noted s (Block at items) h = holds_one (AreNotedItems items) (IsNotedAs (Block at items)) (noted_items (inner s) items) (λ x. Good (Block at x)) (items_noted (inner s) items h)
+      (λ x p. record { is = p.are; deep = ap (λ n. 1 + n) p.deep; same = p.same })
   statement_noted s (If at e a b) h =
       holds_one (IsNotedAs a) (IsNotedAs (If at e a b)) (noted_statement s a) _ (statement_noted s a h.1) (λ x p.
       holds_one (IsNotedElse b) (IsNotedAs (If at e a b)) (noted_else s b) (λ y. Good (If at e x y)) (else_noted s b h.2) (λ y q. record { is = (h.0, p.is, q.is); deep = λ i. 1 + max (p.deep i) (q.deep i); same = λ i. p.same i ++ q.same i }))
@@ -191,7 +194,8 @@ mutual
   statement_noted s (Do at a e) h = holds_one (IsNotedAs a) (IsNotedAs (Do at a e)) (noted_statement s a) (λ x. Good (Do at x e)) (statement_noted s a h.0) (λ x p. record { is = (p.is, h.1); deep = ap (λ n. 1 + n) p.deep; same = p.same })
   statement_noted s (For at annots first e b a) h =
       holds_one (λ xs. xs ≡ []) (IsNotedAs (For at annots first e b a)) (typed_annotations s annots) _ (none_noted s annots h.0) (λ xs n.
-      holds_one (IsNotedAs a) (IsNotedAs (For at annots first e b a)) (noted_statement (behind_first (inner s) first) a) (λ x. Good (For at xs first e b x)) (statement_noted (behind_first (inner s) first) a h.4) (λ x p. record { is = (n, h.1, h.2, h.3, p.is); deep = ap (λ k. 1 + k) p.deep; same = ap (λ ds. declared_in_first first ++ ds) p.same }))
+      holds_one (IsNotedAs a) (IsNotedAs (For at annots first e b a)) (noted_statement (behind_first (inner s) first) a) (λ x. Good (For at xs first e b x)) (statement_noted (behind_first (inner s) first) a h.4)
+      (λ x p. record { is = (n, h.1, h.2, h.3, p.is); deep = ap (λ k. 1 + k) p.deep; same = ap (λ ds. declared_in_first first ++ ds) p.same }))
   statement_noted s (Break at) h = record { is = tt; deep = refl; same = refl }
   statement_noted s (Continue at) h = record { is = tt; deep = refl; same = refl }
   statement_noted s (Return at e) h = record { is = h; deep = refl; same = refl }
@@ -209,4 +213,5 @@ mutual
   items_noted s NoItem h = record { are = tt; deep = refl; same = refl }
   items_noted s (Then i rest) h =
       holds_one (IsNotedItem i) (AreNotedItems (Then i rest)) (noted_item s i) _ (item_noted s i h.0) (λ x p.
-      holds_one (AreNotedItems rest) (AreNotedItems (Then i rest)) (noted_items (behind s x) rest) (λ xs. Good (Then x xs)) (items_noted (behind s x) rest h.1) (λ xs q. record { are = (p.is, q.are); deep = λ k. max (p.deep k) (q.deep k); same = λ k. p.same k ++ q.same k }))
+      holds_one (AreNotedItems rest) (AreNotedItems (Then i rest)) (noted_items (behind s x) rest) (λ xs. Good (Then x xs)) (items_noted (behind s x) rest h.1)
+      (λ xs q. record { are = (p.is, q.are); deep = λ k. max (p.deep k) (q.deep k); same = λ k. p.same k ++ q.same k }))

@@ -9,7 +9,8 @@ use Rattle.c_syntax.specs.Expressions.{Expression, Node, Number, Letter, Variabl
 use Rattle.c_model.specs.Checked.{Fault, Checked, Good, Bad, faulty, one_part, both_parts, given, where_so}
 use Rattle.c_model.specs.Conversions.{promoted, common, is_shift, result_type}
 use Rattle.c_model.specs.Library.{library_constant, is_there}
-use Rattle.c_model.specs.Typing.{no_name, no_type, Object, Scopes, Signature, object_named, function_called, library_function, name_at, use_as, is_not, is_scalar, integer_of, same_type, in_type, in_int, named, literal, unary, binary, both_of, either_of, choice_of, choice_type, assign, bump, cast, size_of_expression, callee, argument_for, first_type, rest_types, params_of, call, two, typed, typed_arguments}
+use Rattle.c_model.specs.Typing.{no_name, no_type, Object, Scopes, Signature, object_named, function_called, library_function, name_at, use_as, is_not, is_scalar, integer_of, same_type, in_type, in_int, named, literal, unary, binary, both_of}
+use Rattle.c_model.specs.Typing.{either_of, choice_of, choice_type, assign, bump, cast, size_of_expression, callee, argument_for, first_type, rest_types, params_of, call, two, typed, typed_arguments}
 use Rattle.c_model.specs.Formed.{IsPure, ArePure, IsPureOrCall, IsEffect, IsEffectOrCall, nodes_of, nodes_of_all, IsFull, IsFullEffect, IsFullEffectOrCall, most_read, most_typed}
 use Rattle.c_reader.proofs.ReadForms as read
 
@@ -79,18 +80,35 @@ named_kept s at x = by (object_named x s.objects)
     constant (Some c) = record { is = tt; small = omega arith }
     constant None = last (is_there (library_function x (name_at s.names x)))
 
-    function : (o : Option Signature) → Holds (IsKept 1) (elim o [ Some f ↦ faulty (no_type at) | None ↦ elim (library_constant (name_at s.names x)) [ Some c ↦ Good (Node at (Int c.0) (Number c.1 (Some c.0))) | None ↦ cond (is_there (library_function x (name_at s.names x))) (faulty (no_type at)) (faulty (no_name at)) ] ])
+    function : (o : Option Signature)
+        → Holds (IsKept 1) (elim o [
+          | Some f ↦ faulty (no_type at)
+          | None ↦ elim (library_constant (name_at s.names x)) [
+            | Some c ↦ Good (Node at (Int c.0) (Number c.1 (Some c.0)))
+            | None ↦ cond (is_there (library_function x (name_at s.names x)))
+                (faulty (no_type at)) (faulty (no_name at))
+          ]
+        ])
     function (Some f) = tt
     function None = constant (library_constant (name_at s.names x))
 
-    by : (o : Option Object) → Holds (IsKept 1) (elim o [ Some b ↦ Good (Node at b.ctype (Variable (use_as x b.decl))) | None ↦ elim (function_called x s.functions) [ Some f ↦ faulty (no_type at) | None ↦ elim (library_constant (name_at s.names x)) [ Some c ↦ Good (Node at (Int c.0) (Number c.1 (Some c.0))) | None ↦ cond (is_there (library_function x (name_at s.names x))) (faulty (no_type at)) (faulty (no_name at)) ] ] ])
+    by : (o : Option Object)
+        → Holds (IsKept 1) (elim o [
+          | Some b ↦ Good (Node at b.ctype (Variable (use_as x b.decl)))
+          | None ↦ elim (function_called x s.functions) [
+            | Some f ↦ faulty (no_type at)
+            | None ↦ elim (library_constant (name_at s.names x))
+                [ Some c ↦ Good (Node at (Int c.0) (Number c.1 (Some c.0))) | None ↦ cond (is_there (library_function x (name_at s.names x))) (faulty (no_type at)) (faulty (no_name at)) ]
+          ]
+        ])
     by (Some b) = record { is = tt; small = omega arith }
     by None = function (function_called x s.functions)
 
 unary_kept : (at : Place) (op : UnOp) (n : ℕ) (a : Expression) → IsKept n a → Holds (IsKept (suc n)) (unary at op a)
 unary_kept at op n a p = by (is_not op)
   where
-    by : (b : Bool) → Holds (IsKept (suc n)) (if b then where_so (is_scalar (type_of a)) (no_type at) (Good (Node at int_type (Unary op a))) else given (integer_of (type_of a)) (no_type at) (λ k. Good (Node at (Int (promoted k)) (Unary op (in_int (promoted k) a)))))
+    by : (b : Bool) → Holds (IsKept (suc n)) (if b then where_so (is_scalar (type_of a)) (no_type at) (Good (Node at int_type (Unary op a))) else given (integer_of (type_of a)) (no_type at)
+        (λ k. Good (Node at (Int (promoted k)) (Unary op (in_int (promoted k) a)))))
     by true = where_kept (suc n) _ _ _ p.is (omega (arith, p.small))
     by false = holds_given (IsKept (suc n)) (integer_of (type_of a)) _ _ (λ k. let c = int_cast n (promoted k) a p in record { is = c.is; small = omega (arith, c.small) })
 
@@ -100,7 +118,8 @@ binary_kept at op n m a b p q = holds_given (IsKept (suc (n + m))) (integer_of (
     both : (k l : CInt) (t : PlainType) → IsKept (suc (n + m)) (Node at t (Binary op (in_int k a) (in_int l b)))
     both k l t = let c = int_cast n k a p in let d = int_cast m l b q in record { is = (c.is, d.is); small = omega (arith, c.small, d.small) }
 
-    by : (k l : CInt) (s : Bool) → IsKept (suc (n + m)) (let x : Expression × Expression = if s then (in_int (promoted k) a, in_int (promoted l) b) else (in_int (common k l) a, in_int (common k l) b) in Node at (Int (result_type op k l)) (Binary op x.0 x.1))
+    by : (k l : CInt) (s : Bool) → IsKept (suc (n + m)) (let x : Expression × Expression = if s then (in_int (promoted k) a, in_int (promoted l) b) else (in_int (common k l) a, in_int (common k l) b) in Node at (Int (result_type op k l))
+        (Binary op x.0 x.1))
     by k l true = both (promoted k) (promoted l) _
     by k l false = both (common k l) (common k l) _
 
@@ -125,7 +144,8 @@ typed_kept s (Node at t (Either a b)) h =
     holds_both (IsKept (nodes_of a)) (IsKept (nodes_of b)) (IsKept (suc (nodes_of a + nodes_of b))) (typed s a) (typed s b) (either_of at) (typed_kept s a h.0) (typed_kept s b h.1)
     (λ x y p q. where_kept (suc (nodes_of a + nodes_of b)) _ _ _ (p.is, q.is) (omega (arith, p.small, q.small)))
 typed_kept s (Node at t (Choice a b c)) h =
-    holds_both (IsKept (nodes_of a)) (λ (p : Expression × Expression). IsKept (nodes_of b) p.0 × IsKept (nodes_of c) p.1) (IsKept (suc (nodes_of a + (nodes_of b + nodes_of c)))) (typed s a) (both_parts (typed s b) (typed s c) two) (λ x p. choice_of at x p.0 p.1) (typed_kept s a h.0)
+    holds_both (IsKept (nodes_of a)) (λ (p : Expression × Expression). IsKept (nodes_of b) p.0 × IsKept (nodes_of c) p.1) (IsKept (suc (nodes_of a + (nodes_of b + nodes_of c)))) (typed s a) (both_parts (typed s b) (typed s c) two)
+    (λ x p. choice_of at x p.0 p.1) (typed_kept s a h.0)
     (holds_both (IsKept (nodes_of b)) (IsKept (nodes_of c)) (λ (p : Expression × Expression). IsKept (nodes_of b) p.0 × IsKept (nodes_of c) p.1) (typed s b) (typed s c) two (typed_kept s b h.1) (typed_kept s c h.2) (λ x y p q. (p, q)))
     (λ x y p q. choice_kept at (nodes_of a) (nodes_of b) (nodes_of c) x y.0 y.1 p q.0 q.1)
 typed_kept s (Node at t (Assign op a b)) h = absurd h
@@ -238,7 +258,8 @@ value_of n u t p = by (same_type (type_of t) u)
 
 call_value : (s : Scopes) (at : Place) (x : ℕ) (es : Expressions) → ArePure es → Holds (IsKeptCallAlone (suc (nodes_of_all es))) (both_parts (callee s at x) (typed_arguments s (params_of (callee s at x)) es) (call at))
 call_value s at x es h =
-    holds_both (λ g. Unit {0}) (AreKept (nodes_of_all es)) (IsKeptCallAlone (suc (nodes_of_all es))) (callee s at x) (typed_arguments s (params_of (callee s at x)) es) (call at) (holds_any (callee s at x)) (arguments_kept s (params_of (callee s at x)) es h)
+    holds_both (λ g. Unit {0}) (AreKept (nodes_of_all es)) (IsKeptCallAlone (suc (nodes_of_all es))) (callee s at x) (typed_arguments s (params_of (callee s at x)) es) (call at) (holds_any (callee s at x))
+    (arguments_kept s (params_of (callee s at x)) es h)
     (λ g xs _ p. holds_where (IsKeptCallAlone (suc (nodes_of_all es))) _ _ (Good (Node at g.result (Call (use_as g.name g.decl) xs))) (record { value = p.are; effect = p.are; small = omega (arith, p.small) }))
 
 plain_value : (s : Scopes) (e : Expression) → IsPure e → Holds (IsKeptValue (nodes_of e)) (typed s e)
@@ -325,9 +346,11 @@ effect_kept s (Node at t (Both a b)) h = plain_effect s (Node at t (Both a b)) h
 effect_kept s (Node at t (Either a b)) h = plain_effect s (Node at t (Either a b)) h
 effect_kept s (Node at t (Choice a b c)) h = plain_effect s (Node at t (Choice a b c)) h
 effect_kept s (Node at t (Assign None a b)) h =
-    holds_both (IsKept (nodes_of a)) (IsKeptValue (nodes_of b)) (IsKeptEffect (suc (nodes_of a + nodes_of b))) (typed s a) (typed s b) (assign at None) (typed_kept s a h.0) (value_kept s b h.1) (λ x y p q. assign_kept at (nodes_of a) (nodes_of b) x y p q)
+    holds_both (IsKept (nodes_of a)) (IsKeptValue (nodes_of b)) (IsKeptEffect (suc (nodes_of a + nodes_of b))) (typed s a) (typed s b) (assign at None) (typed_kept s a h.0) (value_kept s b h.1)
+    (λ x y p q. assign_kept at (nodes_of a) (nodes_of b) x y p q)
 effect_kept s (Node at t (Assign (Some op) a b)) h =
-    holds_both (IsKept (nodes_of a)) (IsKept (nodes_of b)) (IsKeptEffect (suc (nodes_of a + nodes_of b))) (typed s a) (typed s b) (assign at (Some op)) (typed_kept s a h.0) (typed_kept s b h.1) (λ x y p q. compound_kept at op (nodes_of a) (nodes_of b) x y p q)
+    holds_both (IsKept (nodes_of a)) (IsKept (nodes_of b)) (IsKeptEffect (suc (nodes_of a + nodes_of b))) (typed s a) (typed s b) (assign at (Some op)) (typed_kept s a h.0) (typed_kept s b h.1)
+    (λ x y p q. compound_kept at op (nodes_of a) (nodes_of b) x y p q)
 effect_kept s (Node at t (Bump op a)) h =
     holds_one (IsKept (nodes_of a)) (IsKeptEffect (suc (nodes_of a))) (typed s a) (bump at op) (typed_kept s a h) (λ x p. where_effect (suc (nodes_of a)) _ _ _ p.is (omega (arith, p.small)))
 effect_kept s (Node at t (Call f es)) h = absurd h
@@ -352,7 +375,8 @@ call_kept s (Node at t (Choice a b c)) h = more_call s (Node at t (Choice a b c)
 call_kept s (Node at t (Assign None a b)) h = more_call s (Node at t (Assign None a b)) h
 call_kept s (Node at t (Assign (Some op) a b)) h = more_call s (Node at t (Assign (Some op) a b)) h
 call_kept s (Node at t (Bump op a)) h = more_call s (Node at t (Bump op a)) h
-call_kept s (Node at t (Call f es)) h = holds_more (IsKeptCallAlone (suc (nodes_of_all es))) (IsKeptCall (suc (nodes_of_all es))) (typed s (Node at t (Call f es))) (λ t p. record { is = p.effect; small = omega (arith, p.small) }) (call_value s at f.name es h)
+call_kept s (Node at t (Call f es)) h = holds_more (IsKeptCallAlone (suc (nodes_of_all es))) (IsKeptCall (suc (nodes_of_all es))) (typed s (Node at t (Call f es))) (λ t p. record { is = p.effect; small = omega (arith, p.small) })
+    (call_value s at f.name es h)
 call_kept s (Node at t (Cast to a)) h = more_call s (Node at t (Cast to a)) h
 call_kept s (Node at t (SizeOfType u)) h = more_call s (Node at t (SizeOfType u)) h
 call_kept s (Node at t (SizeOfExpr a)) h = more_call s (Node at t (SizeOfExpr a)) h

@@ -8,9 +8,11 @@ use Rattle.c_syntax.specs.Programs.{Function, TranslationUnit}
 use Rattle.c_model.specs.Library.{is_there}
 use Rattle.c_model.specs.Checked.{Good, one_part, where_so}
 use Rattle.c_model.specs.Typing.{Scopes, name_at, no_type, is_object_type, declarable, same_type, typed_items}
-use Rattle.c_model.specs.ProgramTyping.{no_main, has_no_parameters, function_scopes, with_parameter, with_parameters, typed_heading, typed_parameter, typed_parameters, typed_body, typed_function, typed_functions, typed_unit, main_fault, noted_items, noted_body, noted_functions, noted_unit}
+use Rattle.c_model.specs.ProgramTyping.{no_main, has_no_parameters, function_scopes, with_parameter, with_parameters, typed_heading, typed_parameter, typed_parameters, typed_body, typed_function, typed_functions, typed_unit, main_fault, noted_items}
+use Rattle.c_model.specs.ProgramTyping.{noted_body, noted_functions, noted_unit}
 use Rattle.c_model.specs.WellTypedPrograms.{around_body}
-use Rattle.c_model.specs.Formed.{IsName, depth, depth_of_items, BodyFormed, FunctionFormed, FunctionsFormed, ProgramFormed, AreNamed, AreNamedParameters, declared_in_body, FunctionNamed, FunctionsNamed, number_of, numbers_of, numbers_of_all, most_typed}
+use Rattle.c_model.specs.Formed.{IsName, depth, depth_of_items, BodyFormed, FunctionFormed, FunctionsFormed, ProgramFormed, AreNamed, AreNamedParameters, declared_in_body, FunctionNamed, FunctionsNamed, number_of, numbers_of, numbers_of_all}
+use Rattle.c_model.specs.Formed.{most_typed}
 use Rattle.c_reader.proofs.ReadForms.{BodyRead, FunctionRead, FunctionsRead, ProgramRead}
 use Rattle.c_reader.proofs.KeptExpressions.{Holds, holds_one, holds_both, holds_where, holds_at}
 use Rattle.c_reader.proofs.KeptStatements.{bare, SameDeclared, declarable_is, AreSameItems, items_kept}
@@ -91,7 +93,8 @@ parameters_are s (d ∷ ds) =
 function_kept : (s : Scopes) (before : List Function) (f : Function) → FunctionRead f → Holds (KeptFunction f) (typed_function s before f)
 function_kept s before f h =
     holds_one (λ g. g ≡ f) (KeptFunction f) (typed_heading s before f) _ (holds_where (λ g. g ≡ f) _ _ (Good f) refl) (λ g e.
-    subst (λ (g : Function). Holds (KeptFunction f) (one_part (typed_parameters s g.params) (λ params. one_part (typed_body (with_parameters s params) g.result g.body) (λ b. let x : Function = record g { params = params; body = b } in Good x)))) (sym e) (
+    subst (λ (g : Function). Holds (KeptFunction f) (one_part (typed_parameters s g.params) (λ params. one_part (typed_body (with_parameters s params) g.result g.body) (λ b. let x : Function = record g { params = params; body = b } in Good x))))
+    (sym e) (
     holds_one (λ ps. ps ≡ f.params) (KeptFunction f) (typed_parameters s f.params) _ (parameters_are s f.params) (λ ps q.
     subst (λ (ps : List Declaration). Holds (KeptFunction f) (one_part (typed_body (with_parameters s ps) f.result f.body) (λ b. let x : Function = record f { params = ps; body = b } in Good x))) (sym q) (
     holds_one (KeptBody f.body) (KeptFunction f) (typed_body (with_parameters s f.params) f.result f.body) _ (body_kept (with_parameters s f.params) f.result f.body h.body) (λ b k. with_body f b h.no_contract k)))))

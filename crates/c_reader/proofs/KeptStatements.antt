@@ -4,12 +4,15 @@ use Rattle.std.proofs.lemmas.List.{map-append}
 use Rattle.c_syntax.specs.declared.place.Place.{Place}
 use Rattle.c_syntax.specs.Ctypes.{PlainType}
 use Rattle.c_syntax.specs.Expressions.{Expression}
-use Rattle.c_syntax.specs.Statements.{Initialiser, One, Declaration, Statement, Empty, Eval, Block, If, While, Do, For, Break, Continue, Return, ElsePart, NoElse, Else, ForFirst, NoFirst, First, BlockItem, Declare, Run, Asserts, BlockItems, NoItem, Then}
+use Rattle.c_syntax.specs.Statements.{Initialiser, One, Declaration, Statement, Empty, Eval, Block, If, While, Do, For, Break, Continue, Return, ElsePart, NoElse, Else, ForFirst, NoFirst, First, BlockItem, Declare, Run, Asserts, BlockItems, NoItem}
+use Rattle.c_syntax.specs.Statements.{Then}
 use Rattle.c_model.specs.Checked.{Checked, Good, where_so}
 use Rattle.c_model.specs.Library.{is_library_name, is_there}
-use Rattle.c_model.specs.Typing.{no_name, no_type, name_at, object_named, is_object_type, Scopes, Around, in_loop, inner, behind, behind_first, typed, condition, typed_condition, typed_maybe, typed_initialiser, declarable, typed_declaration, typed_declarations, with_object, returned, in_type, typed_statement, typed_else, typed_first, typed_item, typed_items}
+use Rattle.c_model.specs.Typing.{no_name, no_type, name_at, object_named, is_object_type, Scopes, Around, in_loop, inner, behind, behind_first, typed, condition, typed_condition, typed_maybe, typed_initialiser, declarable, typed_declaration}
+use Rattle.c_model.specs.Typing.{typed_declarations, with_object, returned, in_type, typed_statement, typed_else, typed_first, typed_item, typed_items}
 use Rattle.c_model.specs.WellTypedPrograms.{WhereAny}
-use Rattle.c_model.specs.Formed.{depth, depth_of_else, depth_of_item, depth_of_items, IsFull, IsFullEffect, IsFullEffectOrCall, IsInitialiser, AreInitialised, FirstFormed, StatementFormed, ElseFormed, ItemFormed, ItemsFormed, declared_within, declared_in_else, declared_in_first, declared_in_item, declared_in_items, most_read, most_typed}
+use Rattle.c_model.specs.Formed.{depth, depth_of_else, depth_of_item, depth_of_items, IsFull, IsFullEffect, IsFullEffectOrCall, IsInitialiser, AreInitialised, FirstFormed, StatementFormed, ElseFormed, ItemFormed, ItemsFormed, declared_within}
+use Rattle.c_model.specs.Formed.{declared_in_else, declared_in_first, declared_in_item, declared_in_items, most_read, most_typed}
 use Rattle.c_reader.proofs.ReadForms as read
 use Rattle.c_reader.proofs.KeptExpressions.{Holds, holds_one, holds_both, holds_where, holds_more, IsKept, IsKeptValue, value_of, full_kept, full_value_kept, full_effect_kept, full_call_kept}
 
@@ -49,7 +52,8 @@ record KeptDeclarations (ds es : List Declaration) : Type 0 where
 initialiser_kept : (s : Scopes) (t : PlainType) (i : Option (Place × Initialiser)) → read.IsInitialiser i → Holds (IsInitialiser most_typed) (typed_initialiser s t i)
 initialiser_kept s t None h = absurd h
 initialiser_kept s t (Some (at, One e)) h =
-    holds_one (IsKeptValue 400) (IsInitialiser most_typed) (typed s e) _ (full_value_kept s e h) (λ x p. holds_where (IsInitialiser most_typed) _ _ (Good (Some (at, One (in_type t x)))) (let c = value_of 400 t x p in record { is = c.is; small = omega (arith, c.small) }))
+    holds_one (IsKeptValue 400) (IsInitialiser most_typed) (typed s e) _ (full_value_kept s e h) (λ x p. holds_where (IsInitialiser most_typed) _ _ (Good (Some (at, One (in_type t x))))
+    (let c = value_of 400 t x p in record { is = c.is; small = omega (arith, c.small) }))
 
 -- a declaration stays as it is
 pub declarable_is : (s : Scopes) (d : Declaration) → Holds (λ x. x ≡ d) (declarable s d)
@@ -139,7 +143,12 @@ mutual
   statement_kept s r (If at e a b) h =
       holds_one (IsFull most_typed) (IsSame (If at e a b)) (typed_condition s e) _ (condition_kept s e h.0) (λ x p.
       holds_one (IsSame a) (IsSame (If at e a b)) (typed_statement s r a) _ (statement_kept s r a h.1) (λ y q.
-      holds_one (IsSameElse b) (IsSame (If at e a b)) (typed_else s r b) (λ z. Good (If at x y z)) (else_kept s r b h.2) (λ z w. record { is = (p, q.is, w.is); deep = λ i. 1 + max (q.deep i) (w.deep i); same = same_joined (declared_within a) (declared_in_else b) (declared_within y) (declared_in_else z) q.same w.same })))
+      holds_one (IsSameElse b) (IsSame (If at e a b)) (typed_else s r b) (λ z. Good (If at x y z)) (else_kept s r b h.2) (λ z w. record {
+        is = (p, q.is, w.is);
+        deep = λ i. 1 + max (q.deep i) (w.deep i);
+        same = same_joined (declared_within a)
+            (declared_in_else b) (declared_within y) (declared_in_else z) q.same w.same;
+      })))
   statement_kept s r (While at annots e a) h =
       holds_one (IsFull most_typed) (IsSame (While at annots e a)) (typed_condition s e) _ (condition_kept s e h.1) (λ x p.
       holds_one (IsSame a) (IsSame (While at annots e a)) (typed_statement s (in_loop r) a) (λ y. Good (While at annots x y)) (statement_kept s (in_loop r) a h.2) (λ y q. record { is = (h.0, p, q.is); deep = ap (λ n. 1 + n) q.deep; same = q.same }))
@@ -151,7 +160,8 @@ mutual
       let t = behind_first (inner s) f in
       holds_one (WhereAny (IsFull most_typed)) (IsSame (For at annots first e b a)) (typed_maybe (typed_condition t) e) _ (maybe_kept (IsFull most_read) (IsFull most_typed) (typed_condition t) e (condition_kept t) h.2) (λ x q.
       holds_one (WhereAny (IsFullEffect most_typed)) (IsSame (For at annots first e b a)) (typed_maybe (typed t) b) _ (maybe_kept read.IsFullEffect (IsFullEffect most_typed) (typed t) b (full_effect_kept t) h.3) (λ y w.
-      holds_one (IsSame a) (IsSame (For at annots first e b a)) (typed_statement t (in_loop r) a) (λ z. Good (For at annots f x y z)) (statement_kept t (in_loop r) a h.4) (λ z v. record { is = (h.0, p.is, q, w, v.is); deep = ap (λ n. 1 + n) v.deep; same = same_joined (declared_in_first first) (declared_within a) (declared_in_first f) (declared_within z) p.same v.same }))))
+      holds_one (IsSame a) (IsSame (For at annots first e b a)) (typed_statement t (in_loop r) a) (λ z. Good (For at annots f x y z)) (statement_kept t (in_loop r) a h.4)
+      (λ z v. record { is = (h.0, p.is, q, w, v.is); deep = ap (λ n. 1 + n) v.deep; same = same_joined (declared_in_first first) (declared_within a) (declared_in_first f) (declared_within z) p.same v.same }))))
   statement_kept s r (Break at) h = holds_where (IsSame (Break at)) _ _ (Good (Break at)) (record { is = tt; deep = refl; same = refl })
   statement_kept s r (Continue at) h = holds_where (IsSame (Continue at)) _ _ (Good (Continue at)) (record { is = tt; deep = refl; same = refl })
   statement_kept s r (Return at e) h =
@@ -170,4 +180,5 @@ mutual
   items_kept s r NoItem h = record { are = tt; deep = refl; same = refl }
   items_kept s r (Then i rest) h =
       holds_one (IsSameItem i) (AreSameItems (Then i rest)) (typed_item s r i) _ (item_kept s r i h.0) (λ x p.
-      holds_one (AreSameItems rest) (AreSameItems (Then i rest)) (typed_items (behind s x) r rest) (λ xs. Good (Then x xs)) (items_kept (behind s x) r rest h.1) (λ xs q. record { are = (p.is, q.are); deep = λ k. max (p.deep k) (q.deep k); same = same_joined (declared_in_item i) (declared_in_items rest) (declared_in_item x) (declared_in_items xs) p.same q.same }))
+      holds_one (AreSameItems rest) (AreSameItems (Then i rest)) (typed_items (behind s x) r rest) (λ xs. Good (Then x xs)) (items_kept (behind s x) r rest h.1)
+      (λ xs q. record { are = (p.is, q.are); deep = λ k. max (p.deep k) (q.deep k); same = same_joined (declared_in_item i) (declared_in_items rest) (declared_in_item x) (declared_in_items xs) p.same q.same }))

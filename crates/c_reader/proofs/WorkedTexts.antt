@@ -10,12 +10,17 @@ use Rattle.c_syntax.specs.Programs.{TranslationUnit, PlainRefusal}
 use Rattle.c_model.specs.MonitoredTokens.{marks}
 use Rattle.c_model.specs.Literals.{digits_at, suffix_of, body_of, literal_of, escape_at, unit_at, letter_of}
 use Rattle.c_model.specs.Directives.{is_file, ends_marker, headers, include_fault, directive_fault}
-use Rattle.c_model.specs.Pieces.{outside_in_c, outside_in_annotations, backslash_names, is_outside, word_at, number_at, letter_at, string_at, annotation_marks, c_mark_at, mark_at, comment_at, open_block, open_line, other_at, directive_at, piece_at, cut}
+use Rattle.c_model.specs.Pieces.{outside_in_c, outside_in_annotations, backslash_names, is_outside, word_at, number_at, letter_at, string_at, annotation_marks, c_mark_at, mark_at, comment_at, open_block, open_line, other_at, directive_at, piece_at}
+use Rattle.c_model.specs.Pieces.{cut}
 use Rattle.c_model.specs.CTokens.{add, build, tokens_of}
 use Rattle.c_model.specs.Vocabulary.{word_of}
 use Rattle.c_model.specs.Library.{library_constant, is_library_name}
-use Rattle.c_model.specs.ExpressionGrammar.{integer_word, integer_words, type_name, base, consts, type_words, type_behind, closed, literal, cast_rest, sized_type, paren_rest, behind_paren, prefixed, sized, operand_but_name, operand_of, operand, joined_once, behind_operand, choice_rest, expression_rest, expression_of, expression, next_argument, arguments, call_rest, behind_name_or_callee, expression_or_call, assigned_value, assigned, bumped, behind_unary, behind_primary, behind_form, effect_rest, bump_first, effect_but_name, effect, behind_name, effect_or_call, full_expression, full_expression_or_call, full_effect, full_effect_or_call}
-use Rattle.c_model.specs.ProgramGrammar.{atom, sum_once, sum_of, sum, assert_clause, annotation, declared_name, declarator, next_declarator, declaration, ended, condition, else_branch, else_part, selection, while_loop, do_loop, for_first, maybe_ended, for_behind, for_loop, jump, returned, return_statement, item, items_once, items, block, empty_statement, effect_statement, statement_of, statement_in, storage_word, result_type, parameter_name, void_parameter, parameter_behind, parameter, next_parameter, more_parameters, first_parameter, parameters, function_rest, function, one_more_function, unit}
+use Rattle.c_model.specs.ExpressionGrammar.{integer_word, integer_words, type_name, base, consts, type_words, type_behind, closed, literal, cast_rest, sized_type, paren_rest, behind_paren, prefixed, sized, operand_but_name, operand_of, operand}
+use Rattle.c_model.specs.ExpressionGrammar.{joined_once, behind_operand, choice_rest, expression_rest, expression_of, expression, next_argument, arguments, call_rest, behind_name_or_callee, expression_or_call, assigned_value, assigned, bumped}
+use Rattle.c_model.specs.ExpressionGrammar.{behind_unary, behind_primary, behind_form, effect_rest, bump_first, effect_but_name, effect, behind_name, effect_or_call, full_expression, full_expression_or_call, full_effect, full_effect_or_call}
+use Rattle.c_model.specs.ProgramGrammar.{atom, sum_once, sum_of, sum, assert_clause, annotation, declared_name, declarator, next_declarator, declaration, ended, condition, else_branch, else_part, selection, while_loop, do_loop, for_first}
+use Rattle.c_model.specs.ProgramGrammar.{maybe_ended, for_behind, for_loop, jump, returned, return_statement, item, items_once, items, block, empty_statement, effect_statement, statement_of, statement_in, storage_word, result_type, parameter_name}
+use Rattle.c_model.specs.ProgramGrammar.{void_parameter, parameter_behind, parameter, next_parameter, more_parameters, first_parameter, parameters, function_rest, function, one_more_function, unit}
 use Rattle.c_model.specs.State.{EndOfInput, Final, Exits, Broken, Undefined}
 use Rattle.c_model.specs.Meaning.{run}
 use Rattle.c_model.specs.Phases.{vocabulary, syntax_refusal}
@@ -68,7 +73,13 @@ programs :
     Ok (Exits (pos 1), []) ∷
     Ok (Exits (pos 1), []) ∷
     Ok (Broken 2 1 clause.Assert how.False, []) ∷ []
-unfolding tokens_of build cut piece_at add marks digits_at suffix_of body_of literal_of escape_at unit_at letter_of is_file ends_marker headers include_fault directive_fault outside_in_c outside_in_annotations backslash_names is_outside word_at number_at letter_at string_at annotation_marks c_mark_at mark_at comment_at open_block open_line other_at directive_at integer_word integer_words type_name base consts type_words type_behind closed literal cast_rest sized_type paren_rest behind_paren prefixed sized operand_but_name operand_of operand joined_once behind_operand choice_rest expression_rest expression_of expression next_argument arguments call_rest behind_name_or_callee expression_or_call assigned_value assigned bumped behind_unary behind_primary behind_form effect_rest bump_first effect_but_name effect behind_name effect_or_call full_expression full_expression_or_call full_effect full_effect_or_call atom sum_once sum_of sum assert_clause annotation declared_name declarator next_declarator declaration ended condition else_branch else_part selection while_loop do_loop for_first maybe_ended for_behind for_loop jump returned return_statement item items_once items block empty_statement effect_statement statement_of statement_in storage_word result_type parameter_name void_parameter parameter_behind parameter next_parameter more_parameters first_parameter parameters function_rest function one_more_function unit word_of library_constant is_library_name
+unfolding tokens_of build cut piece_at add marks digits_at suffix_of body_of literal_of escape_at unit_at letter_of is_file ends_marker headers include_fault directive_fault outside_in_c outside_in_annotations backslash_names is_outside word_at
+    number_at letter_at string_at annotation_marks c_mark_at mark_at comment_at open_block open_line other_at directive_at integer_word integer_words type_name base consts type_words type_behind closed literal cast_rest sized_type paren_rest
+    behind_paren prefixed sized operand_but_name operand_of operand joined_once behind_operand choice_rest expression_rest expression_of expression next_argument arguments call_rest behind_name_or_callee expression_or_call assigned_value assigned
+    bumped behind_unary behind_primary behind_form effect_rest bump_first effect_but_name effect behind_name effect_or_call full_expression full_expression_or_call full_effect full_effect_or_call atom sum_once sum_of sum assert_clause annotation
+    declared_name declarator next_declarator declaration ended condition else_branch else_part selection while_loop do_loop for_first maybe_ended for_behind for_loop jump returned return_statement item items_once items block empty_statement
+    effect_statement statement_of statement_in storage_word result_type parameter_name void_parameter parameter_behind parameter next_parameter more_parameters first_parameter parameters function_rest function one_more_function unit word_of
+    library_constant is_library_name
 programs = refl
 
 -- texts that are refused
@@ -108,7 +119,13 @@ refusals :
     refusal 6 (place 1 18 17) (codes "continue") ∷
     refusal 6 (place 1 25 24) (decimal 18446744073709551615) ∷
     refusal 5 (place 1 29 28) (codes "x") ∷ []
-unfolding tokens_of build cut piece_at add marks digits_at suffix_of body_of literal_of escape_at unit_at letter_of is_file ends_marker headers include_fault directive_fault outside_in_c outside_in_annotations backslash_names is_outside word_at number_at letter_at string_at annotation_marks c_mark_at mark_at comment_at open_block open_line other_at directive_at integer_word integer_words type_name base consts type_words type_behind closed literal cast_rest sized_type paren_rest behind_paren prefixed sized operand_but_name operand_of operand joined_once behind_operand choice_rest expression_rest expression_of expression next_argument arguments call_rest behind_name_or_callee expression_or_call assigned_value assigned bumped behind_unary behind_primary behind_form effect_rest bump_first effect_but_name effect behind_name effect_or_call full_expression full_expression_or_call full_effect full_effect_or_call atom sum_once sum_of sum assert_clause annotation declared_name declarator next_declarator declaration ended condition else_branch else_part selection while_loop do_loop for_first maybe_ended for_behind for_loop jump returned return_statement item items_once items block empty_statement effect_statement statement_of statement_in storage_word result_type parameter_name void_parameter parameter_behind parameter next_parameter more_parameters first_parameter parameters function_rest function one_more_function unit word_of library_constant is_library_name
+unfolding tokens_of build cut piece_at add marks digits_at suffix_of body_of literal_of escape_at unit_at letter_of is_file ends_marker headers include_fault directive_fault outside_in_c outside_in_annotations backslash_names is_outside word_at
+    number_at letter_at string_at annotation_marks c_mark_at mark_at comment_at open_block open_line other_at directive_at integer_word integer_words type_name base consts type_words type_behind closed literal cast_rest sized_type paren_rest
+    behind_paren prefixed sized operand_but_name operand_of operand joined_once behind_operand choice_rest expression_rest expression_of expression next_argument arguments call_rest behind_name_or_callee expression_or_call assigned_value assigned
+    bumped behind_unary behind_primary behind_form effect_rest bump_first effect_but_name effect behind_name effect_or_call full_expression full_expression_or_call full_effect full_effect_or_call atom sum_once sum_of sum assert_clause annotation
+    declared_name declarator next_declarator declaration ended condition else_branch else_part selection while_loop do_loop for_first maybe_ended for_behind for_loop jump returned return_statement item items_once items block empty_statement
+    effect_statement statement_of statement_in storage_word result_type parameter_name void_parameter parameter_behind parameter next_parameter more_parameters first_parameter parameters function_rest function one_more_function unit word_of
+    library_constant is_library_name
 refusals = refl
 
 -- functions, their prototypes and calls, and declarations in blocks
@@ -128,7 +145,13 @@ calls :
     Ok (Exits (pos 1), 41 ∷ 97 ∷ 98 ∷ 99 ∷ []) ∷
     Ok (Exits (pos 7), []) ∷
     Ok (Broken 1 1 clause.Assert how.False, 104 ∷ []) ∷ []
-unfolding tokens_of build cut piece_at add marks digits_at suffix_of body_of literal_of escape_at unit_at letter_of is_file ends_marker headers include_fault directive_fault outside_in_c outside_in_annotations backslash_names is_outside word_at number_at letter_at string_at annotation_marks c_mark_at mark_at comment_at open_block open_line other_at directive_at integer_word integer_words type_name base consts type_words type_behind closed literal cast_rest sized_type paren_rest behind_paren prefixed sized operand_but_name operand_of operand joined_once behind_operand choice_rest expression_rest expression_of expression next_argument arguments call_rest behind_name_or_callee expression_or_call assigned_value assigned bumped behind_unary behind_primary behind_form effect_rest bump_first effect_but_name effect behind_name effect_or_call full_expression full_expression_or_call full_effect full_effect_or_call atom sum_once sum_of sum assert_clause annotation declared_name declarator next_declarator declaration ended condition else_branch else_part selection while_loop do_loop for_first maybe_ended for_behind for_loop jump returned return_statement item items_once items block empty_statement effect_statement statement_of statement_in storage_word result_type parameter_name void_parameter parameter_behind parameter next_parameter more_parameters first_parameter parameters function_rest function one_more_function unit word_of library_constant is_library_name
+unfolding tokens_of build cut piece_at add marks digits_at suffix_of body_of literal_of escape_at unit_at letter_of is_file ends_marker headers include_fault directive_fault outside_in_c outside_in_annotations backslash_names is_outside word_at
+    number_at letter_at string_at annotation_marks c_mark_at mark_at comment_at open_block open_line other_at directive_at integer_word integer_words type_name base consts type_words type_behind closed literal cast_rest sized_type paren_rest
+    behind_paren prefixed sized operand_but_name operand_of operand joined_once behind_operand choice_rest expression_rest expression_of expression next_argument arguments call_rest behind_name_or_callee expression_or_call assigned_value assigned
+    bumped behind_unary behind_primary behind_form effect_rest bump_first effect_but_name effect behind_name effect_or_call full_expression full_expression_or_call full_effect full_effect_or_call atom sum_once sum_of sum assert_clause annotation
+    declared_name declarator next_declarator declaration ended condition else_branch else_part selection while_loop do_loop for_first maybe_ended for_behind for_loop jump returned return_statement item items_once items block empty_statement
+    effect_statement statement_of statement_in storage_word result_type parameter_name void_parameter parameter_behind parameter next_parameter more_parameters first_parameter parameters function_rest function one_more_function unit word_of
+    library_constant is_library_name
 calls = refl
 
 -- texts that are refused for their functions, calls and declarations
@@ -162,5 +185,11 @@ refused_calls :
     refusal 5 (place 1 55 54) (codes "i") ∷
     refusal 13 (place 1 1 0) (codes "main") ∷
     refusal 13 (place 1 5 4) (codes "main") ∷ []
-unfolding tokens_of build cut piece_at add marks digits_at suffix_of body_of literal_of escape_at unit_at letter_of is_file ends_marker headers include_fault directive_fault outside_in_c outside_in_annotations backslash_names is_outside word_at number_at letter_at string_at annotation_marks c_mark_at mark_at comment_at open_block open_line other_at directive_at integer_word integer_words type_name base consts type_words type_behind closed literal cast_rest sized_type paren_rest behind_paren prefixed sized operand_but_name operand_of operand joined_once behind_operand choice_rest expression_rest expression_of expression next_argument arguments call_rest behind_name_or_callee expression_or_call assigned_value assigned bumped behind_unary behind_primary behind_form effect_rest bump_first effect_but_name effect behind_name effect_or_call full_expression full_expression_or_call full_effect full_effect_or_call atom sum_once sum_of sum assert_clause annotation declared_name declarator next_declarator declaration ended condition else_branch else_part selection while_loop do_loop for_first maybe_ended for_behind for_loop jump returned return_statement item items_once items block empty_statement effect_statement statement_of statement_in storage_word result_type parameter_name void_parameter parameter_behind parameter next_parameter more_parameters first_parameter parameters function_rest function one_more_function unit word_of library_constant is_library_name
+unfolding tokens_of build cut piece_at add marks digits_at suffix_of body_of literal_of escape_at unit_at letter_of is_file ends_marker headers include_fault directive_fault outside_in_c outside_in_annotations backslash_names is_outside word_at
+    number_at letter_at string_at annotation_marks c_mark_at mark_at comment_at open_block open_line other_at directive_at integer_word integer_words type_name base consts type_words type_behind closed literal cast_rest sized_type paren_rest
+    behind_paren prefixed sized operand_but_name operand_of operand joined_once behind_operand choice_rest expression_rest expression_of expression next_argument arguments call_rest behind_name_or_callee expression_or_call assigned_value assigned
+    bumped behind_unary behind_primary behind_form effect_rest bump_first effect_but_name effect behind_name effect_or_call full_expression full_expression_or_call full_effect full_effect_or_call atom sum_once sum_of sum assert_clause annotation
+    declared_name declarator next_declarator declaration ended condition else_branch else_part selection while_loop do_loop for_first maybe_ended for_behind for_loop jump returned return_statement item items_once items block empty_statement
+    effect_statement statement_of statement_in storage_word result_type parameter_name void_parameter parameter_behind parameter next_parameter more_parameters first_parameter parameters function_rest function one_more_function unit word_of
+    library_constant is_library_name
 refused_calls = refl

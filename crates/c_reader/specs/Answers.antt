@@ -41,8 +41,10 @@ pub record IsTypedAs (tree p : TranslationUnit) : Type 0 where
 -- why they make nothing of it
 pub data IsCheckRefusal (ts : PlainTokens) (tree : TranslationUnit) (r : PlainRefusal) : Type 0 where
   OfTypes : (f : Fault) → refusing (typed_unit tree) ≡ Some f → r ≡ checked_refusal ts f → IsCheckRefusal ts tree r
-  OfMain : (typed : TranslationUnit) (f : Fault) → typed_unit tree ≡ Good typed → main_fault typed.names typed.funcs ≡ Some f → r ≡ main_refusal f → IsCheckRefusal ts tree r
-  OfAnnotations : (typed : TranslationUnit) (f : Fault) → typed_unit tree ≡ Good typed → main_fault typed.names typed.funcs ≡ None → refusing (noted_unit typed) ≡ Some f → r ≡ checked_refusal ts f → IsCheckRefusal ts tree r
+  OfMain : (typed : TranslationUnit) (f : Fault) → typed_unit tree ≡ Good typed → main_fault typed.names typed.funcs ≡ Some f → r ≡ main_refusal f
+      → IsCheckRefusal ts tree r
+  OfAnnotations : (typed : TranslationUnit) (f : Fault) → typed_unit tree ≡ Good typed → main_fault typed.names typed.funcs ≡ None
+      → refusing (noted_unit typed) ≡ Some f → r ≡ checked_refusal ts f → IsCheckRefusal ts tree r
 
 abbrev pub HasFault : FrontFault → PlainTokens → TranslationUnit → Type 0
 HasFault front.Memory ts tree = Unit {0}

@@ -46,7 +46,8 @@ abbrev pub plain_term_kind : Place → TermKind → Option PlainType → Range �
 plain_term_kind at (term.Number n) t r = Number at t r n
 plain_term_kind at (term.Letter n) t r = Letter at t r n
 plain_term_kind at (term.Variable x) t r = Variable at t r x
-plain_term_kind at (term.Binary' op pa p a ta ra pb q b tb rb) t r = Binary at t r op (plain_term_kind pa a (option_map plain_type ta) ra) (plain_term_kind pb b (option_map plain_type tb) rb)
+plain_term_kind at (term.Binary' op pa p a ta ra pb q b tb rb) t r = Binary at t r op (plain_term_kind pa a (option_map plain_type ta) ra)
+    (plain_term_kind pb b (option_map plain_type tb) rb)
 
 abbrev pub plain_term : Term → LogicTerm
 plain_term t = plain_term_kind t.place t.kind.value (option_map plain_type t.ctype) t.range

@@ -75,7 +75,8 @@ abbrev mutual
   plain_stmt_kind at (code.If' e pa p a b) = If at (plain_expr e) (plain_stmt_kind pa a) (plain_else b)
   plain_stmt_kind at (code.While' annots e pa p a) = While at (map plain_annot annots.items) (plain_expr e) (plain_stmt_kind pa a)
   plain_stmt_kind at (code.Do' pa p a e) = Do at (plain_stmt_kind pa a) (plain_expr e)
-  plain_stmt_kind at (code.For' annots first e step pa p a) = For at (map plain_annot annots.items) (plain_first first) (option_map plain_expr e) (option_map plain_expr step) (plain_stmt_kind pa a)
+  plain_stmt_kind at (code.For' annots first e step pa p a) = For at (map plain_annot annots.items) (plain_first first) (option_map plain_expr e)
+      (option_map plain_expr step) (plain_stmt_kind pa a)
   plain_stmt_kind at code.Break = Break at
   plain_stmt_kind at code.Continue = Continue at
   plain_stmt_kind at (code.Return e) = Return at (option_map plain_expr e)

@@ -3,8 +3,8 @@
 //! A tree of a text has the text's places. Parts that a later phase fills in are said at their field.
 #![tactic(auto)]
 
-pub mod code;
 pub mod annotation;
+pub mod code;
 pub mod expression;
 pub mod fault;
 pub mod name;

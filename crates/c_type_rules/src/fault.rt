@@ -44,14 +44,20 @@ impl<T: Drop> From<AllocFailed<T>> for TypeFault {
 pub fn no_name(place: Place) -> TypeFault
     ensures { result ≡ Refused (record { code = name_code; place = place }) }
 {
-    TypeFault::Refused(Fault { code: code::NAME, place })
+    TypeFault::Refused(Fault {
+        code: code::NAME,
+        place,
+    })
 }
 
 /// A demand on types that isn't met (E6).
 pub fn no_type(place: Place) -> TypeFault
     ensures { result ≡ Refused (record { code = type_code; place = place }) }
 {
-    TypeFault::Refused(Fault { code: code::TYPE, place })
+    TypeFault::Refused(Fault {
+        code: code::TYPE,
+        place,
+    })
 }
 
 fn rank(f: Fault) -> u64

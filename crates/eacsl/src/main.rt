@@ -14,7 +14,9 @@ fn words(rt: &HostRuntime) -> io::Result<Vec<String>> {
 fn main(rt: HostRuntime) -> ExitCode {
     let words = match words(&rt) {
         Ok(words) => words,
-        Err(error) if error.kind() == io::ErrorKind::OutOfMemory => return ExitCode::from(status::OUT_OF_MEMORY),
+        Err(error) if error.kind() == io::ErrorKind::OutOfMemory => return ExitCode::from(
+            status::OUT_OF_MEMORY,
+        ),
         Err(_) => return ExitCode::from(status::NO_WORDS),
     };
     let mut input = ReadSource::new(rt.stdin());

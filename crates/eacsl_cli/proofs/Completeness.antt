@@ -18,7 +18,8 @@ use Rattle.mon_syntax.specs.Translates.{Translates}
 use Rattle.mon_syntax.specs.Spelled.{Spells, IsMonitoredRefusal}
 use Rattle.mon_reader.proofs.Texts.{one_spelled, spelled_apart, one_monitored_refusal}
 use Rattle.c_machine.specs.Inputs.{Taking}
-use Rattle.eacsl_cli.specs.Answers.{Answer, AnswersRun, refused_answer, written_answer, file_limit, Change, IsDue, Usage, NoFile, TooLong, FolderFault, OfText, Begins, RunDue, RunRefused, Runs, InstrumentDue, InstrumentRefused, Writes, ExecDue, ExecRefused, Executes, TextDue, Answered, Given, OutputFault, LineFault, NoMemory}
+use Rattle.eacsl_cli.specs.Answers.{Answer, AnswersRun, refused_answer, written_answer, file_limit, Change, IsDue, Usage, NoFile, TooLong, FolderFault, OfText, Begins, RunDue, RunRefused, Runs, InstrumentDue, InstrumentRefused, Writes, ExecDue}
+use Rattle.eacsl_cli.specs.Answers.{ExecRefused, Executes, TextDue, Answered, Given, OutputFault, LineFault, NoMemory}
 use Rattle.eacsl_cli.specs.Complete.{Steady, IsGiven, answers_source, AnswersSource, IsAsked, IsAnswered, Complete}
 
 -- ---- the answer to a translation is the answer to its source
@@ -67,7 +68,8 @@ told_none {files} {file = file} {file'} {text} c h e i =
     let k : files file ≡ None = subst (λ x. files x ≡ None) e j in
     absurd cc
 
-told_long : {files : List ℕ → Option (List ℕ)} {content : Option (List ℕ → Option (List ℕ))} {file file' text : List ℕ} {limit limit' : ℕ} → content ≡ Some files → files file ≡ Some text → length text ≤ limit → file' ≡ file → limit' ≡ limit → IfSome content (λ f. (bytes : List ℕ) × (f file' ≡ Some bytes) × (limit' < length bytes)) → ⊥
+told_long : {files : List ℕ → Option (List ℕ)} {content : Option (List ℕ → Option (List ℕ))} {file file' text : List ℕ} {limit limit' : ℕ} → content ≡ Some files → files file ≡ Some text → length text ≤ limit → file' ≡ file → limit' ≡ limit
+    → IfSome content (λ f. (bytes : List ℕ) × (f file' ≡ Some bytes) × (limit' < length bytes)) → ⊥
 told_long {files} {file = file} {file'} {text} {limit} {limit'} c h l e n i =
     let j : IfSome (Some files) (λ f. (bytes : List ℕ) × (f file' ≡ Some bytes) × (limit' < length bytes)) = subst (λ o. IfSome o (λ f. (bytes : List ℕ) × (f file' ≡ Some bytes) × (limit' < length bytes))) c i in
     let k : files file ≡ Some j.0 = subst (λ x. files x ≡ Some j.0) e j.1 in
@@ -88,7 +90,8 @@ module _ {words : List (List ℕ)} {content : Option (List ℕ → Option (List 
       subst (λ x. TextDue source x text a) same (subst (λ x. TextDue source job' x a) told d)
 
 -- where no count rose, an answer that is due was given, or memory was wanting
-settled : {Due : Answer → Type 0} {Begin : List ℕ → Type 0} {out err : Change} {status : ℕ} → Steady out.faults out.faults' → Steady err.faults err.faults' → Answered Due Begin out err status → (status ≡ 9) ⊎ ((a : Answer) × Due a × IsGiven a out err status)
+settled : {Due : Answer → Type 0} {Begin : List ℕ → Type 0} {out err : Change} {status : ℕ} → Steady out.faults out.faults' → Steady err.faults err.faults' → Answered Due Begin out err status
+    → (status ≡ 9) ⊎ ((a : Answer) × Due a × IsGiven a out err status)
 settled o e (Given a d s t f t' f') = inr (a, d, record { status_is = s; output_is = t; line_is = t' })
 settled o e (OutputFault sent s b t f t' f') = absurd (o f)
 settled o e (LineFault sent line k s b t f l t' f') = absurd (e f')
@@ -96,7 +99,8 @@ settled o e (NoMemory sent line k s b t f l t' f') = inl s
 
 -- ---- of what is due for a text
 
-run_answer : {source : Taking} {text : List ℕ} {steps : ℕ} {a : Answer} {out err : Change} {status : ℕ} (p : TranslationUnit) → AcceptedText text p → RunDue source text steps a → IsGiven a out err status → IsAnswered source (λ input b. AnswersSource p input steps b) out err status
+run_answer : {source : Taking} {text : List ℕ} {steps : ℕ} {a : Answer} {out err : Change} {status : ℕ} (p : TranslationUnit) → AcceptedText text p → RunDue source text steps a → IsGiven a out err status
+    → IsAnswered source (λ input b. AnswersSource p input steps b) out err status
 run_answer {text = text} p x (RunRefused r h u e) g = absurd (apart text p r x h)
 run_answer {text = text} {steps} {a} p x (Runs q m y t s d) g =
     let same : q ≡ p = one_program text q p y x in
@@ -114,7 +118,8 @@ instrument_refusal : {text : List ℕ} {a : Answer} (r : PlainRefusal) → Refus
 instrument_refusal {text} r h (InstrumentRefused s k e) = e ∙ ap refused_answer (one_refusal text s r k h)
 instrument_refusal {text} r h (Writes q m y t e) = absurd (apart text q r y h)
 
-exec_answer : {source : Taking} {text : List ℕ} {steps : ℕ} {a : Answer} {out err : Change} {status : ℕ} (m : MonitoredProgram) → Spells text m → ExecDue source text steps a → IsGiven a out err status → IsAnswered source (λ input b. AnswersRun (flat_run m input steps) b) out err status
+exec_answer : {source : Taking} {text : List ℕ} {steps : ℕ} {a : Answer} {out err : Change} {status : ℕ} (m : MonitoredProgram) → Spells text m → ExecDue source text steps a → IsGiven a out err status
+    → IsAnswered source (λ input b. AnswersRun (flat_run m input steps) b) out err status
 exec_answer {text = text} m x (ExecRefused r h u e) g = absurd (spelled_apart text m r x h)
 exec_answer {text = text} {steps} {a} m x (Executes n y d) g =
     record { input = d.input; was = d.was; answer = a; answers = subst (λ u. AnswersRun (flat_run u d.input steps) a) (one_spelled text n m y x) d.answers; given = g }
@@ -126,7 +131,8 @@ exec_refusal {text = text} r h (Executes m y d) = absurd (spelled_apart text m r
 given_as : {a b : Answer} {out err : Change} {status : ℕ} → a ≡ b → IsGiven a out err status → IsGiven b out err status
 given_as {out = out} {err} {status} e g = subst (λ x. IsGiven x out err status) e g
 
-pub complete : {words : List (List ℕ)} {content : Option (List ℕ → Option (List ℕ))} {before now : ℕ} {source : Taking} {out err : Change} {status : ℕ} → Answered (IsDue words content before now source) (Begins words content before now source) out err status → Complete words content before now source out err status
+pub complete : {words : List (List ℕ)} {content : Option (List ℕ → Option (List ℕ))} {before now : ℕ} {source : Taking} {out err : Change} {status : ℕ}
+    → Answered (IsDue words content before now source) (Begins words content before now source) out err status → Complete words content before now source out err status
 complete {words} {content} {before} {now} {source} {out} {err} {status} answered = record {
   runs = λ file steps text p q x. elim (of_text q) [ inl n ↦ inl n | inr (a, d, g) ↦ inr (run_answer p x d g) ];
   instruments = λ file text p q x. elim (of_text q) [ inl n ↦ inl n | inr (a, d, g) ↦ let w = instrument_answer p x d.0 in inr (w.0, w.1, given_as w.2 g) ];

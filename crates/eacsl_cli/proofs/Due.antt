@@ -25,13 +25,15 @@ use Rattle.c_machine.specs.declared.stop.Ran as machine
 use Rattle.c_machine.specs.Inputs.{Taking, taking, Untouched, EndsAsRead}
 use Rattle.c_machine.specs.Reading.{fault_behind}
 use Rattle.c_machine.specs.Whole.{FaultsBehind, TookBytes, RanAs, RanTo, RunCut}
-use Rattle.eacsl_cli.specs.Answers.{Answer, AnswersRun, refused_answer, written_answer, memory_line, Change, change, IsSaid, Answered, Given, OutputFault, TookWanted, AnswersOnInput, BeginsOnInput, IsTranslated, RunDue, RunRefused, Runs, RunBegins, InstrumentDue, InstrumentRefused, Writes, InstrumentBegins, ExecDue, ExecRefused, Executes, ExecBegins}
+use Rattle.eacsl_cli.specs.Answers.{Answer, AnswersRun, refused_answer, written_answer, memory_line, Change, change, IsSaid, Answered, Given, OutputFault, TookWanted, AnswersOnInput, BeginsOnInput, IsTranslated, RunDue, RunRefused, Runs, RunBegins}
+use Rattle.eacsl_cli.specs.Answers.{InstrumentDue, InstrumentRefused, Writes, InstrumentBegins, ExecDue, ExecRefused, Executes, ExecBegins}
 use Rattle.eacsl_cli.specs.Settled.{IsSettled, Said, Wanting, Reported}
 use Rattle.eacsl_cli.proofs.Sayings.{said_answer, said_memory, answered_by}
 use Rattle.eacsl_cli.proofs.Sources.{unasked_input, nothing_taken}
 
 -- the line of an answer that is due was said, or there was no memory for it
-settled_answer : {Due : Answer → Type 0} {Begin : List ℕ → Type 0} {out err : Change} {result : ℕ} (a : Answer) → Due a → Begin a.output → out.told' ≡ more out.told a.output → out.faults' ≡ out.faults → IsSettled a.line a.status err result → Answered Due Begin out err result
+settled_answer : {Due : Answer → Type 0} {Begin : List ℕ → Type 0} {out err : Change} {result : ℕ} (a : Answer) → Due a → Begin a.output → out.told' ≡ more out.told a.output → out.faults' ≡ out.faults → IsSettled a.line a.status err result
+    → Answered Due Begin out err result
 settled_answer a d b t f (Said s) = said_answer a d b t f s
 settled_answer a d b t f (Wanting s) = said_memory a.output b t f s
 
@@ -89,10 +91,12 @@ module _ (m : MonitoredProgram) (steps : ℕ) (source : Taking) (told told' : Op
 
   module _ (err : Change) (result : ℕ) where
     -- the run came to an end, and that was reported
-    ended : {end : Final} {ran : machine.Ran} → RanTo code steps source (port_of told [] faults) (port_of told' [] faults') end ran → (said : Report) → report end ≡ Some said → IsSettled said.line said.status err result → Answered (AnswersOnInput source m steps) (BeginsOnInput source m steps) (change told told' faults faults') err result
+    ended : {end : Final} {ran : machine.Ran} → RanTo code steps source (port_of told [] faults) (port_of told' [] faults') end ran → (said : Report) → report end ≡ Some said → IsSettled said.line said.status err result
+        → Answered (AnswersOnInput source m steps) (BeginsOnInput source m steps) (change told told' faults faults') err result
     ended r said e s = settled_answer (answer_of said r.wrote.sent) (answers r said e) (sent_begins r) r.wrote.told_is r.wrote.faults_is s
 
-    reported : (end : Stop) (ran : machine.Ran) → RanAs code steps source (port_of told [] faults) (port_of told' [] faults') end ran → Reported end err result → Answered (AnswersOnInput source m steps) (BeginsOnInput source m steps) (change told told' faults faults') err result
+    reported : (end : Stop) (ran : machine.Ran) → RanAs code steps source (port_of told [] faults) (port_of told' [] faults') end ran → Reported end err result
+        → Answered (AnswersOnInput source m steps) (BeginsOnInput source m steps) (change told told' faults faults') err result
     reported (stop.Exit z) ran r s = ended r s.said s.is s.settled
     reported (stop.Broken number line kind how) ran r s = ended r s.said s.is s.settled
     reported stop.Spent ran r s = ended r s.said s.is (Said s.told)
@@ -102,11 +106,13 @@ module _ (m : MonitoredProgram) (steps : ℕ) (source : Taking) (told told' : Op
     reported stop.WriteFault ran cut s = OutputFault cut.lost.sent s.status (cut_begins cut) cut.lost.told_is cut.lost.count s.told s.faults
     reported stop.OutOfMemory ran cut s = said_memory cut.lost.sent (cut_begins cut) cut.lost.told_is cut.lost.count s
 
-    pub run_reported : (ran : machine.Ran) → RanAs code steps source (port_of told [] faults) (port_of told' [] faults') ran.stop ran → Reported ran.stop err result → Answered (AnswersOnInput source m steps) (BeginsOnInput source m steps) (change told told' faults faults') err result
+    pub run_reported : (ran : machine.Ran) → RanAs code steps source (port_of told [] faults) (port_of told' [] faults') ran.stop ran → Reported ran.stop err result
+        → Answered (AnswersOnInput source m steps) (BeginsOnInput source m steps) (change told told' faults faults') err result
     run_reported ran r s = reported ran.stop ran r s
 
 -- there was no memory to begin
-pub run_not_begun : (m : MonitoredProgram) (steps : ℕ) {left : Option (List ℕ)} {count : ℕ} {told : Option (List ℕ)} {faults : ℕ} {err : Change} {result : ℕ} → IsSaid memory_line 9 err result → Answered (AnswersOnInput (taking left left count count) m steps) (BeginsOnInput (taking left left count count) m steps) (change told told faults faults) err result
+pub run_not_begun : (m : MonitoredProgram) (steps : ℕ) {left : Option (List ℕ)} {count : ℕ} {told : Option (List ℕ)} {faults : ℕ} {err : Change} {result : ℕ} → IsSaid memory_line 9 err result
+    → Answered (AnswersOnInput (taking left left count count) m steps) (BeginsOnInput (taking left left count count) m steps) (change told told faults faults) err result
 run_not_begun m steps {left} {count} {told} s =
     let i = unasked_input left count in
     said_memory [] (record { input = i.0; was = i.1; took = nothing_taken m steps left count; begins = record { rest = (flat_run m i.0 steps).output; is = refl } }) (sym (more-nil told)) refl s
@@ -122,17 +128,20 @@ module _ {source : Taking} {text : List ℕ} {err : Change} {result : ℕ} where
     pub run_unread : IsSaid memory_line 9 err result → Answered (RunDue source text steps) (RunBegins source text steps) (change told told faults faults) err result
     run_unread s = said_memory [] (inl refl) (sym (more-nil told)) refl s
 
-    pub exec_refused : (r : PlainRefusal) → IsMonitoredRefusal text r → Untouched source → IsSettled (line_of (refused_words r)) 2 err result → Answered (ExecDue source text steps) (ExecBegins source text steps) (change told told faults faults) err result
+    pub exec_refused : (r : PlainRefusal) → IsMonitoredRefusal text r → Untouched source → IsSettled (line_of (refused_words r)) 2 err result
+        → Answered (ExecDue source text steps) (ExecBegins source text steps) (change told told faults faults) err result
     exec_refused r h u s = settled_answer (refused_answer r) (ExecRefused r h u refl) (inl refl) (sym (more-nil told)) refl s
 
     pub exec_unread : IsSaid memory_line 9 err result → Answered (ExecDue source text steps) (ExecBegins source text steps) (change told told faults faults) err result
     exec_unread s = said_memory [] (inl refl) (sym (more-nil told)) refl s
 
   module _ {told told' : Option (List ℕ)} {faults faults' : ℕ} where
-    pub run_executed : {steps : ℕ} (m : MonitoredProgram) → IsTranslated text m → Answered (AnswersOnInput source m steps) (BeginsOnInput source m steps) (change told told' faults faults') err result → Answered (RunDue source text steps) (RunBegins source text steps) (change told told' faults faults') err result
+    pub run_executed : {steps : ℕ} (m : MonitoredProgram) → IsTranslated text m → Answered (AnswersOnInput source m steps) (BeginsOnInput source m steps) (change told told' faults faults') err result
+        → Answered (RunDue source text steps) (RunBegins source text steps) (change told told' faults faults') err result
     run_executed m t x = answered_by (λ _ d. Runs t.program m t.accepted t.translates (accepted_never_faults text t.program t.accepted) d) (λ _ b. inr (t.program, m, t.accepted, t.translates, b)) x
 
-    pub exec_executed : {steps : ℕ} (m : MonitoredProgram) → Spells text m → Answered (AnswersOnInput source m steps) (BeginsOnInput source m steps) (change told told' faults faults') err result → Answered (ExecDue source text steps) (ExecBegins source text steps) (change told told' faults faults') err result
+    pub exec_executed : {steps : ℕ} (m : MonitoredProgram) → Spells text m → Answered (AnswersOnInput source m steps) (BeginsOnInput source m steps) (change told told' faults faults') err result
+        → Answered (ExecDue source text steps) (ExecBegins source text steps) (change told told' faults faults') err result
     exec_executed m t x = answered_by (λ _ d. Executes m t d) (λ _ b. inr (m, t, b)) x
 
 module _ {text : List ℕ} {err : Change} {result : ℕ} where
@@ -145,11 +154,13 @@ module _ {text : List ℕ} {err : Change} {result : ℕ} where
 
   module _ {told told' : Option (List ℕ)} {faults faults' : ℕ} where
     -- a beginning of the text was put, and memory was wanting
-    pub write_wanting : (m : MonitoredProgram) → IsTranslated text m → (sent : List ℕ) → Extends sent (text_of m) → told' ≡ more told sent → faults' ≡ faults → IsSaid memory_line 9 err result → Answered (InstrumentDue text) (InstrumentBegins text) (change told told' faults faults') err result
+    pub write_wanting : (m : MonitoredProgram) → IsTranslated text m → (sent : List ℕ) → Extends sent (text_of m) → told' ≡ more told sent → faults' ≡ faults → IsSaid memory_line 9 err result
+        → Answered (InstrumentDue text) (InstrumentBegins text) (change told told' faults faults') err result
     write_wanting m t sent b w f s = said_memory sent (inr (t.program, m, t.accepted, t.translates, b)) w f s
 
     -- no input was read besides
-    pub unread_besides : {source : Taking} → Untouched source → Answered (InstrumentDue text) (InstrumentBegins text) (change told told' faults faults') err result → Answered (λ a. InstrumentDue text a × Untouched source) (InstrumentBegins text) (change told told' faults faults') err result
+    pub unread_besides : {source : Taking} → Untouched source → Answered (InstrumentDue text) (InstrumentBegins text) (change told told' faults faults') err result
+        → Answered (λ a. InstrumentDue text a × Untouched source) (InstrumentBegins text) (change told told' faults faults') err result
     unread_besides u x = answered_by (λ _ d. (d, u)) (λ _ b. b) x
 
 module _ {text : List ℕ} {told told' t' : Option (List ℕ)} {faults faults' n : ℕ} (m : MonitoredProgram) (t : IsTranslated text m) where

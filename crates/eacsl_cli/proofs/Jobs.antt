@@ -14,29 +14,36 @@ use Rattle.eacsl_cli.proofs.Sayings.{said_answer, said_memory, answered_by}
 
 module _ {words : List (List ℕ)} {content : Option (List ℕ → Option (List ℕ))} {before now : ℕ} {source : Taking} {told : Option (List ℕ)} {faults : ℕ} {err : Change} {result : ℕ} where
   -- an answer without output was said
-  silent_said : (status : ℕ) (line : List ℕ) → IsDue words content before now source (silent status line) → IsSaid (line_of line) status err result → Answered (IsDue words content before now source) (Begins words content before now source) (change told told faults faults) err result
+  silent_said : (status : ℕ) (line : List ℕ) → IsDue words content before now source (silent status line) → IsSaid (line_of line) status err result
+      → Answered (IsDue words content before now source) (Begins words content before now source) (change told told faults faults) err result
   silent_said status line d s = said_answer (silent status line) d (Nothing refl) (sym (more-nil told)) refl s
 
   -- nothing was put, for want of memory
   pub memory_said : IsSaid memory_line 9 err result → Answered (IsDue words content before now source) (Begins words content before now source) (change told told faults faults) err result
   memory_said s = said_memory [] (Nothing refl) (sym (more-nil told)) refl s
 
-  pub usage_said : None ≡ job_of words → now ≡ before → Untouched source → IsSaid (line_of (codes "usage")) 3 err result → Answered (IsDue words content before now source) (Begins words content before now source) (change told told faults faults) err result
+  pub usage_said : None ≡ job_of words → now ≡ before → Untouched source → IsSaid (line_of (codes "usage")) 3 err result
+      → Answered (IsDue words content before now source) (Begins words content before now source) (change told told faults faults) err result
   usage_said e n u s = silent_said 3 (codes "usage") (Usage (sym e) n u refl) s
 
   module _ (j : Job) (name : List ℕ) (limit : ℕ) (e : Some j ≡ job_of words) (m : name ≡ file_named j) (k : limit ≡ file_limit j) (u : Untouched source) where
-    pub missing_said : IfSome content (λ files. files name ≡ None) → RefusalCount content before now → IsSaid (line_of (codes "no file")) 10 err result → Answered (IsDue words content before now source) (Begins words content before now source) (change told told faults faults) err result
+    pub missing_said : IfSome content (λ files. files name ≡ None) → RefusalCount content before now → IsSaid (line_of (codes "no file")) 10 err result
+        → Answered (IsDue words content before now source) (Begins words content before now source) (change told told faults faults) err result
     missing_said h n s = silent_said 10 (codes "no file") (NoFile j (sym e) (subst (λ x. IfSome content (λ files. files x ≡ None)) m h) n u refl) s
 
-    pub too_long_said : IfSome content (λ files. (bytes : List ℕ) × (files name ≡ Some bytes) × (limit < length bytes)) → RefusalCount content before now → IsSaid (line_of (codes "file too long")) 11 err result → Answered (IsDue words content before now source) (Begins words content before now source) (change told told faults faults) err result
+    pub too_long_said : IfSome content (λ files. (bytes : List ℕ) × (files name ≡ Some bytes) × (limit < length bytes)) → RefusalCount content before now → IsSaid (line_of (codes "file too long")) 11 err result
+        → Answered (IsDue words content before now source) (Begins words content before now source) (change told told faults faults) err result
     too_long_said h n s =
-        silent_said 11 (codes "file too long") (TooLong j (sym e) (subst (λ x. IfSome content (λ files. (bytes : List ℕ) × (files (file_named j) ≡ Some bytes) × (x < length bytes))) k (subst (λ x. IfSome content (λ files. (bytes : List ℕ) × (files x ≡ Some bytes) × (limit < length bytes))) m h)) n u refl) s
+        silent_said 11 (codes "file too long") (TooLong j (sym e) (subst (λ x. IfSome content (λ files. (bytes : List ℕ) × (files (file_named j) ≡ Some bytes) × (x < length bytes))) k
+        (subst (λ x. IfSome content (λ files. (bytes : List ℕ) × (files x ≡ Some bytes) × (limit < length bytes))) m h)) n u refl) s
 
     pub fault_said : Rose before now → IsSaid (line_of (codes "read fault")) 7 err result → Answered (IsDue words content before now source) (Begins words content before now source) (change told told faults faults) err result
     fault_said n s = silent_said 7 (codes "read fault") (FolderFault j (sym e) n u refl) s
 
 -- what is due for the text of the file is due for the words
-pub file_answered : {words : List (List ℕ)} {content : Option (List ℕ → Option (List ℕ))} {before now : ℕ} {source : Taking} {out err : Change} {result : ℕ} (j : Job) (name text text' : List ℕ) (limit : ℕ) → Some j ≡ job_of words → name ≡ file_named j → limit ≡ file_limit j → text' ≡ text → (length text ≤ limit) × IfSome content (λ files. files name ≡ Some text) → now ≡ before → Answered (TextDue source j text') (TextBegins source j text') out err result → Answered (IsDue words content before now source) (Begins words content before now source) out err result
+pub file_answered : {words : List (List ℕ)} {content : Option (List ℕ → Option (List ℕ))} {before now : ℕ} {source : Taking} {out err : Change} {result : ℕ} (j : Job) (name text text' : List ℕ) (limit : ℕ) → Some j ≡ job_of words
+    → name ≡ file_named j → limit ≡ file_limit j → text' ≡ text → (length text ≤ limit) × IfSome content (λ files. files name ≡ Some text) → now ≡ before → Answered (TextDue source j text') (TextBegins source j text') out err result
+    → Answered (IsDue words content before now source) (Begins words content before now source) out err result
 file_answered {words} {content} {before} {now} {source} j name text text' limit e m k t h n a = answered_by due begin (rw t at a)
   where
     told : IfSome content (λ files. files (file_named j) ≡ Some text)

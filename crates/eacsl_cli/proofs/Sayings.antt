@@ -18,7 +18,8 @@ module _ {Due : Answer → Type 0} {Begin : List ℕ → Type 0} {out err : Chan
   said_memory sent b t f (Wanting k s t' f') = NoMemory sent memory_line k s b t f (inr refl) t' f'
 
 -- what is due or begins by one rule does so by another
-pub answered_by : {Due Due' : Answer → Type 0} {Begin Begin' : List ℕ → Type 0} {out err : Change} {result : ℕ} → ((a : Answer) → Due a → Due' a) → ((sent : List ℕ) → Begin sent → Begin' sent) → Answered Due Begin out err result → Answered Due' Begin' out err result
+pub answered_by : {Due Due' : Answer → Type 0} {Begin Begin' : List ℕ → Type 0} {out err : Change} {result : ℕ} → ((a : Answer) → Due a → Due' a) → ((sent : List ℕ) → Begin sent → Begin' sent) → Answered Due Begin out err result
+    → Answered Due' Begin' out err result
 answered_by {Due} {Due'} d b (Given a h s t f t' f') = Given a (d a h) s t f t' f'
 answered_by {Due} {Due'} d b (OutputFault sent s h t f t' f') = OutputFault sent s (b sent h) t f t' f'
 answered_by {Due} {Due'} d b (LineFault sent line k s h t f l t' f') = LineFault sent line k s (b sent h) t f (line_by l) t' f'

@@ -8,7 +8,8 @@ use Rattle.mon_syntax.specs.Trees.{MonitoredProgram}
 use Rattle.mon_syntax.specs.Memories.{flat_run}
 use Rattle.ea_ports.specs.Port.{Rose}
 use Rattle.c_machine.specs.Inputs.{Taking, Untouched, EndsAsRead}
-use Rattle.eacsl_cli.specs.Answers.{Answer, Change, AnswersOnInput, IsDue, Usage, NoFile, TooLong, FolderFault, OfText, Begins, TextDue, RunRefused, Runs, InstrumentRefused, Writes, ExecRefused, Executes, Answered, Given, OutputFault, LineFault, NoMemory}
+use Rattle.eacsl_cli.specs.Answers.{Answer, Change, AnswersOnInput, IsDue, Usage, NoFile, TooLong, FolderFault, OfText, Begins, TextDue, RunRefused, Runs, InstrumentRefused, Writes, ExecRefused, Executes, Answered, Given, OutputFault, LineFault}
+use Rattle.eacsl_cli.specs.Answers.{NoMemory}
 use Rattle.eacsl_cli.specs.Complete.{IsStatus}
 
 -- what the status of a report tells of the end

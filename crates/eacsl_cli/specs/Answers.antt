@@ -11,7 +11,8 @@ use Rattle.c_model.specs.Phases.{AcceptedText, RefusedText}
 use Rattle.c_model.specs.State.{Input, InputFault, ReadFault}
 use Rattle.c_model.specs.Meaning.{Ran}
 use Rattle.c_model.specs.Laws.{NeverFaults}
-use Rattle.c_model.specs.Statuses.{exited_status, refused_status, usage_status, read_fault_status, write_fault_status, no_memory_status, no_file_status, too_long_status}
+use Rattle.c_model.specs.Statuses.{exited_status, refused_status, usage_status, read_fault_status, write_fault_status, no_memory_status, no_file_status}
+use Rattle.c_model.specs.Statuses.{too_long_status}
 use Rattle.c_model.specs.Reports.{Report, report, line_of, refused_words, Extends}
 use Rattle.mon_syntax.specs.Trees.{MonitoredProgram}
 use Rattle.mon_syntax.specs.Memories.{flat_run}
@@ -92,7 +93,8 @@ pub record BeginsOnInput (source : Taking) (m : MonitoredProgram) (steps : ℕ) 
 -- to the source's first undefined operation this is the source's own run.
 pub data RunDue (source : Taking) (text : List ℕ) (steps : ℕ) (a : Answer) : Type 0 where
   RunRefused : (r : PlainRefusal) → RefusedText text r → Untouched source → a ≡ refused_answer r → RunDue source text steps a
-  Runs : (p : TranslationUnit) (m : MonitoredProgram) → AcceptedText text p → Translates p m → NeverFaults p → AnswersOnInput source m steps a → RunDue source text steps a
+  Runs : (p : TranslationUnit) (m : MonitoredProgram) → AcceptedText text p → Translates p m → NeverFaults p → AnswersOnInput source m steps a
+      → RunDue source text steps a
 
 -- `instrument`: the text is refused, or it is accepted, and a program in monitored C that translates it is written
 pub data InstrumentDue (text : List ℕ) (a : Answer) : Type 0 where
@@ -135,17 +137,21 @@ pub data IsDue (words : List (List ℕ)) (content : Option (List ℕ → Option 
   -- the words have no job
   Usage : job_of words ≡ None → now ≡ before → Untouched source → a ≡ usage_answer → IsDue words content before now source a
   -- nothing stands under the name
-  NoFile : (job : Job) → job_of words ≡ Some job → IfSome content (λ files. files (file_named job) ≡ None) → RefusalCount content before now → Untouched source → a ≡ no_file_answer → IsDue words content before now source a
+  NoFile : (job : Job) → job_of words ≡ Some job → IfSome content (λ files. files (file_named job) ≡ None) → RefusalCount content before now → Untouched source
+      → a ≡ no_file_answer → IsDue words content before now source a
   -- the file is longer than the limit
-  TooLong : (job : Job) → job_of words ≡ Some job → IfSome content (λ files. (bytes : List ℕ) × (files (file_named job) ≡ Some bytes) × (file_limit job < length bytes)) → RefusalCount content before now → Untouched source → a ≡ too_long_answer → IsDue words content before now source a
+  TooLong : (job : Job) → job_of words ≡ Some job → IfSome content (λ files. (bytes : List ℕ) × (files (file_named job) ≡ Some bytes)
+      × (file_limit job < length bytes)) → RefusalCount content before now → Untouched source → a ≡ too_long_answer → IsDue words content before now source a
   -- the folder failed
   FolderFault : (job : Job) → job_of words ≡ Some job → Rose before now → Untouched source → a ≡ read_fault_answer → IsDue words content before now source a
   -- what is due for the text of the file
-  OfText : (job : Job) (text : List ℕ) → job_of words ≡ Some job → IfSome content (λ files. files (file_named job) ≡ Some text) → length text ≤ file_limit job → now ≡ before → TextDue source job text a → IsDue words content before now source a
+  OfText : (job : Job) (text : List ℕ) → job_of words ≡ Some job → IfSome content (λ files. files (file_named job) ≡ Some text) → length text ≤ file_limit job
+      → now ≡ before → TextDue source job text a → IsDue words content before now source a
 
 pub data Begins (words : List (List ℕ)) (content : Option (List ℕ → Option (List ℕ))) (before now : ℕ) (source : Taking) (sent : List ℕ) : Type 0 where
   Nothing : sent ≡ [] → Begins words content before now source sent
-  BeginsText : (job : Job) (text : List ℕ) → job_of words ≡ Some job → IfSome content (λ files. files (file_named job) ≡ Some text) → length text ≤ file_limit job → now ≡ before → TextBegins source job text sent → Begins words content before now source sent
+  BeginsText : (job : Job) (text : List ℕ) → job_of words ≡ Some job → IfSome content (λ files. files (file_named job) ≡ Some text)
+      → length text ≤ file_limit job → now ≡ before → TextBegins source job text sent → Begins words content before now source sent
 
 -- ---- answers
 
@@ -167,10 +173,14 @@ IsLine Due sent line = ((a : Answer) × Due a × (sent ≡ a.output) × (line �
 -- or a sink failed (8), or memory was wanting (9). At 8 and 9 the output has a beginning of what is due, and the error
 -- output a beginning of a line: none where the output failed, and that of an answer only behind the answer's whole output.
 pub data Answered (Due : Answer → Type 0) (Begin : List ℕ → Type 0) (out err : Change) (status : ℕ) : Type 0 where
-  Given : (a : Answer) → Due a → status ≡ a.status → out.told' ≡ more out.told a.output → out.faults' ≡ out.faults → err.told' ≡ more err.told a.line → err.faults' ≡ err.faults → Answered Due Begin out err status
-  OutputFault : (sent : List ℕ) → status ≡ write_fault_status → Begin sent → out.told' ≡ more out.told sent → Rose out.faults out.faults' → err.told' ≡ err.told → err.faults' ≡ err.faults → Answered Due Begin out err status
-  LineFault : (sent line : List ℕ) (k : ℕ) → status ≡ write_fault_status → Begin sent → out.told' ≡ more out.told sent → out.faults' ≡ out.faults → IsLine Due sent line → err.told' ≡ more err.told (take k line) → Rose err.faults err.faults' → Answered Due Begin out err status
-  NoMemory : (sent line : List ℕ) (k : ℕ) → status ≡ no_memory_status → Begin sent → out.told' ≡ more out.told sent → out.faults' ≡ out.faults → IsLine Due sent line → err.told' ≡ more err.told (take k line) → err.faults' ≡ err.faults → Answered Due Begin out err status
+  Given : (a : Answer) → Due a → status ≡ a.status → out.told' ≡ more out.told a.output → out.faults' ≡ out.faults → err.told' ≡ more err.told a.line
+      → err.faults' ≡ err.faults → Answered Due Begin out err status
+  OutputFault : (sent : List ℕ) → status ≡ write_fault_status → Begin sent → out.told' ≡ more out.told sent → Rose out.faults out.faults' → err.told' ≡ err.told
+      → err.faults' ≡ err.faults → Answered Due Begin out err status
+  LineFault : (sent line : List ℕ) (k : ℕ) → status ≡ write_fault_status → Begin sent → out.told' ≡ more out.told sent → out.faults' ≡ out.faults
+      → IsLine Due sent line → err.told' ≡ more err.told (take k line) → Rose err.faults err.faults' → Answered Due Begin out err status
+  NoMemory : (sent line : List ℕ) (k : ℕ) → status ≡ no_memory_status → Begin sent → out.told' ≡ more out.told sent → out.faults' ≡ out.faults
+      → IsLine Due sent line → err.told' ≡ more err.told (take k line) → err.faults' ≡ err.faults → Answered Due Begin out err status
 
 -- the program translates that of an accepted text
 pub record IsTranslated (text : List ℕ) (m : MonitoredProgram) : Type 0 where

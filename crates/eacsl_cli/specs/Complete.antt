@@ -39,7 +39,8 @@ abbrev pub AnswersSource : TranslationUnit → Input → ℕ → Answer → Type
 AnswersSource p input steps a = answers_source (report (run p input steps).final) p input steps a
 
 -- The words have a job on a file that the folder tells, and no port failed.
-pub record IsAsked (words : List (List ℕ)) (content : Option (List ℕ → Option (List ℕ))) (before now : ℕ) (out err : Change) (job : Job) (text : List ℕ) : Type 0 where
+pub record IsAsked (words : List (List ℕ)) (content : Option (List ℕ → Option (List ℕ))) (before now : ℕ) (out err : Change) (job : Job)
+    (text : List ℕ) : Type 0 where
   pub files : List ℕ → Option (List ℕ)
   pub tells : content ≡ Some files
   pub job_is : job_of words ≡ Some job
@@ -58,17 +59,24 @@ pub record IsAnswered (source : Taking) (Answers : Input → Answer → Type 0) 
   pub given : IsGiven answer out err status
 
 -- Of each job and text the answer that is due is given, or else memory was wanting.
-pub record Complete (words : List (List ℕ)) (content : Option (List ℕ → Option (List ℕ))) (before now : ℕ) (source : Taking) (out err : Change) (status : ℕ) : Type 0 where
+pub record Complete (words : List (List ℕ)) (content : Option (List ℕ → Option (List ℕ))) (before now : ℕ) (source : Taking) (out err : Change)
+    (status : ℕ) : Type 0 where
   -- `run` of an accepted text: its one program's run, on the input that the source was
-  pub runs : (file : List ℕ) (steps : ℕ) (text : List ℕ) (p : TranslationUnit) → IsAsked words content before now out err (Run file steps false) text → AcceptedText text p → (status ≡ no_memory_status) ⊎ IsAnswered source (λ input a. AnswersSource p input steps a) out err status
+  pub runs : (file : List ℕ) (steps : ℕ) (text : List ℕ) (p : TranslationUnit) → IsAsked words content before now out err (Run file steps false) text
+      → AcceptedText text p → (status ≡ no_memory_status) ⊎ IsAnswered source (λ input a. AnswersSource p input steps a) out err status
   -- `instrument` of an accepted text: the text of a program that translates its one program
-  pub instruments : (file : List ℕ) (text : List ℕ) (p : TranslationUnit) → IsAsked words content before now out err (Instrument file false) text → AcceptedText text p → (status ≡ no_memory_status) ⊎ ((m : MonitoredProgram) × Translates p m × IsGiven (written_answer m) out err status)
+  pub instruments : (file : List ℕ) (text : List ℕ) (p : TranslationUnit) → IsAsked words content before now out err (Instrument file false) text
+      → AcceptedText text p → (status ≡ no_memory_status) ⊎ ((m : MonitoredProgram) × Translates p m × IsGiven (written_answer m) out err status)
   -- `exec` of a text that spells a program: its run, on the input that the source was
-  pub executes : (file : List ℕ) (steps : ℕ) (text : List ℕ) (m : MonitoredProgram) → IsAsked words content before now out err (Exec file steps) text → Spells text m → (status ≡ no_memory_status) ⊎ IsAnswered source (λ input a. AnswersRun (flat_run m input steps) a) out err status
+  pub executes : (file : List ℕ) (steps : ℕ) (text : List ℕ) (m : MonitoredProgram) → IsAsked words content before now out err (Exec file steps) text
+      → Spells text m → (status ≡ no_memory_status) ⊎ IsAnswered source (λ input a. AnswersRun (flat_run m input steps) a) out err status
   -- any other text: its one refusal
-  pub run_refuses : (file : List ℕ) (steps : ℕ) (text : List ℕ) (r : PlainRefusal) → IsAsked words content before now out err (Run file steps false) text → RefusedText text r → (status ≡ no_memory_status) ⊎ IsGiven (refused_answer r) out err status
-  pub instrument_refuses : (file : List ℕ) (text : List ℕ) (r : PlainRefusal) → IsAsked words content before now out err (Instrument file false) text → RefusedText text r → (status ≡ no_memory_status) ⊎ IsGiven (refused_answer r) out err status
-  pub exec_refuses : (file : List ℕ) (steps : ℕ) (text : List ℕ) (r : PlainRefusal) → IsAsked words content before now out err (Exec file steps) text → IsMonitoredRefusal text r → (status ≡ no_memory_status) ⊎ IsGiven (refused_answer r) out err status
+  pub run_refuses : (file : List ℕ) (steps : ℕ) (text : List ℕ) (r : PlainRefusal) → IsAsked words content before now out err (Run file steps false) text
+      → RefusedText text r → (status ≡ no_memory_status) ⊎ IsGiven (refused_answer r) out err status
+  pub instrument_refuses : (file : List ℕ) (text : List ℕ) (r : PlainRefusal) → IsAsked words content before now out err (Instrument file false) text
+      → RefusedText text r → (status ≡ no_memory_status) ⊎ IsGiven (refused_answer r) out err status
+  pub exec_refuses : (file : List ℕ) (steps : ℕ) (text : List ℕ) (r : PlainRefusal) → IsAsked words content before now out err (Exec file steps) text
+      → IsMonitoredRefusal text r → (status ≡ no_memory_status) ⊎ IsGiven (refused_answer r) out err status
 
 -- a status of the program, and what shows it
 pub record IsStatus (before now : ℕ) (source : Taking) (status : ℕ) : Type 0 where

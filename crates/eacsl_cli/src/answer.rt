@@ -10,12 +10,13 @@ ghost use Rattle.c_model.specs.Words.{job_of};
 ghost use Rattle.mon_syntax.specs.Trees.{plain_program};
 ghost use Rattle.c_reader.specs.Answers.{Refuses};
 ghost use Rattle.c_machine.specs.Inputs.{taking};
-ghost use Rattle.eacsl_cli.specs.Answers.{Answered, AnswersOnInput, Begins, BeginsOnInput, ExecBegins, ExecDue, InstrumentBegins, InstrumentDue, IsDue, IsSaid, IsTranslated, RunBegins, RunDue, TextBegins, TextDue, change, file_limit, memory_line};
+ghost use Rattle.eacsl_cli.specs.Answers.{Answered, AnswersOnInput, Begins, BeginsOnInput, ExecBegins, ExecDue, InstrumentBegins, InstrumentDue, IsDue, IsSaid};
+ghost use Rattle.eacsl_cli.specs.Answers.{IsTranslated, RunBegins, RunDue, TextBegins, TextDue, change, file_limit, memory_line};
 ghost use Rattle.eacsl_cli.specs.Settled.{IsReported, IsSettled, IsTold, Reported};
 ghost use Rattle.eacsl_cli.specs.Complete.{Complete, IsStatus, LeavesSource};
 
-use crate::status;
 use crate::lines::{broken_line, exit_line, refused_line, say};
+use crate::status;
 use c_lower::lower;
 use c_machine::{Stop, run};
 use c_model::limits::{MOST_ANNOTATED, MOST_MONITORED};
@@ -96,7 +97,8 @@ fn report_stop<E: Sink>(alloc: Global, stop: Stop, err: &mut E) -> u8
 
 // Says why a text is refused.
 fn refuse<E: Sink>(alloc: Global, refusal: &Refusal, err: &mut E) -> u8
-    ensures { IsSettled (line_of (refused_words (plain_refusal refusal.now))) refused_status (change (E.told err.old) (E.told err.new) (E.faults err.old) (E.faults err.new)) result }
+    ensures { IsSettled (line_of (refused_words (plain_refusal refusal.now))) refused_status (change (E.told err.old) (E.told err.new) (E.faults err.old)
+        (E.faults err.new)) result }
 {
     match refused_line(alloc, refusal) {
         Ok(line) => say(err, &line, status::REFUSED),
@@ -113,7 +115,10 @@ fn execute<I: Source, O: Sink, E: Sink>(
     out: &mut O,
     err: &mut E,
 ) -> u8
-    ensures { Answered (AnswersOnInput (taking (I.left input.old) (I.left input.new) (I.faults input.old) (I.faults input.new)) (plain_program m.now) steps) (BeginsOnInput (taking (I.left input.old) (I.left input.new) (I.faults input.old) (I.faults input.new)) (plain_program m.now) steps) (change (O.told out.old) (O.told out.new) (O.faults out.old) (O.faults out.new)) (change (E.told err.old) (E.told err.new) (E.faults err.old) (E.faults err.new)) result }
+    ensures { Answered (AnswersOnInput (taking (I.left input.old) (I.left input.new) (I.faults input.old) (I.faults input.new)) (plain_program m.now) steps)
+        (BeginsOnInput (taking (I.left input.old) (I.left input.new) (I.faults input.old) (I.faults input.new)) (plain_program m.now) steps)
+        (change (O.told out.old) (O.told out.new) (O.faults out.old) (O.faults out.new)) (change (E.told err.old) (E.told err.new) (E.faults err.old)
+        (E.faults err.new)) result }
 {
     let code = match lower(alloc, m) {
         Ok(code) => code,
@@ -146,7 +151,10 @@ pub fn run_text<I: Source, O: Sink, E: Sink>(
     err: &mut E,
 ) -> u8
     requires { length text.now ≤ most_annotated }
-    ensures { Answered (RunDue (taking (I.left input.old) (I.left input.new) (I.faults input.old) (I.faults input.new)) text.now steps) (RunBegins (taking (I.left input.old) (I.left input.new) (I.faults input.old) (I.faults input.new)) text.now steps) (change (O.told out.old) (O.told out.new) (O.faults out.old) (O.faults out.new)) (change (E.told err.old) (E.told err.new) (E.faults err.old) (E.faults err.new)) result }
+    ensures { Answered (RunDue (taking (I.left input.old) (I.left input.new) (I.faults input.old) (I.faults input.new)) text.now steps)
+        (RunBegins (taking (I.left input.old) (I.left input.new) (I.faults input.old) (I.faults input.new)) text.now steps)
+        (change (O.told out.old) (O.told out.new) (O.faults out.old) (O.faults out.new)) (change (E.told err.old) (E.told err.new) (E.faults err.old)
+        (E.faults err.new)) result }
 {
     match translated(alloc, text) {
         Ok(m) => execute(alloc, &m, steps, input, out, err),
@@ -158,7 +166,8 @@ pub fn run_text<I: Source, O: Sink, E: Sink>(
 /// Writes the monitored text of the annotated program that a text spells, or says why the text is refused.
 pub fn instrument_text<O: Sink, E: Sink>(alloc: Global, text: &[u8], out: &mut O, err: &mut E) -> u8
     requires { length text.now ≤ most_annotated }
-    ensures { Answered (InstrumentDue text.now) (InstrumentBegins text.now) (change (O.told out.old) (O.told out.new) (O.faults out.old) (O.faults out.new)) (change (E.told err.old) (E.told err.new) (E.faults err.old) (E.faults err.new)) result }
+    ensures { Answered (InstrumentDue text.now) (InstrumentBegins text.now) (change (O.told out.old) (O.told out.new) (O.faults out.old) (O.faults out.new))
+        (change (E.told err.old) (E.told err.new) (E.faults err.old) (E.faults err.new)) result }
 {
     let m = match translated(alloc, text) {
         Ok(m) => m,
@@ -182,7 +191,10 @@ pub fn exec_text<I: Source, O: Sink, E: Sink>(
     err: &mut E,
 ) -> u8
     requires { length text.now ≤ most_monitored }
-    ensures { Answered (ExecDue (taking (I.left input.old) (I.left input.new) (I.faults input.old) (I.faults input.new)) text.now steps) (ExecBegins (taking (I.left input.old) (I.left input.new) (I.faults input.old) (I.faults input.new)) text.now steps) (change (O.told out.old) (O.told out.new) (O.faults out.old) (O.faults out.new)) (change (E.told err.old) (E.told err.new) (E.faults err.old) (E.faults err.new)) result }
+    ensures { Answered (ExecDue (taking (I.left input.old) (I.left input.new) (I.faults input.old) (I.faults input.new)) text.now steps)
+        (ExecBegins (taking (I.left input.old) (I.left input.new) (I.faults input.old) (I.faults input.new)) text.now steps)
+        (change (O.told out.old) (O.told out.new) (O.faults out.old) (O.faults out.new)) (change (E.told err.old) (E.told err.new) (E.faults err.old)
+        (E.faults err.new)) result }
 {
     match read_monitored(alloc, text) {
         Ok(m) => execute(alloc, &m, steps, input, out, err),
@@ -201,7 +213,10 @@ fn do_job<I: Source, O: Sink, E: Sink>(
     err: &mut E,
 ) -> u8
     requires { length text.now ≤ file_limit job.now }
-    ensures answered { Answered (TextDue (taking (I.left input.old) (I.left input.new) (I.faults input.old) (I.faults input.new)) job.now text.now) (TextBegins (taking (I.left input.old) (I.left input.new) (I.faults input.old) (I.faults input.new)) job.now text.now) (change (O.told out.old) (O.told out.new) (O.faults out.old) (O.faults out.new)) (change (E.told err.old) (E.told err.new) (E.faults err.old) (E.faults err.new)) result }
+    ensures answered { Answered (TextDue (taking (I.left input.old) (I.left input.new) (I.faults input.old) (I.faults input.new)) job.now text.now)
+        (TextBegins (taking (I.left input.old) (I.left input.new) (I.faults input.old) (I.faults input.new)) job.now text.now)
+        (change (O.told out.old) (O.told out.new) (O.faults out.old) (O.faults out.new)) (change (E.told err.old) (E.told err.new) (E.faults err.old)
+        (E.faults err.new)) result }
     ensures unread { LeavesSource (Some job.now) (taking (I.left input.old) (I.left input.new) (I.faults input.old) (I.faults input.new)) }
 {
     match job {
@@ -265,18 +280,23 @@ pub fn eacsl<F: Folder, I: Source, O: Sink, E: Sink>(
     err: &mut E,
 ) -> u8
     ensures answered { Answered
-        (IsDue (map string_bytes words.items) (F.content files.old) (F.faults files.old) (F.faults files.new) (taking (I.left input.old) (I.left input.new) (I.faults input.old) (I.faults input.new)))
-        (Begins (map string_bytes words.items) (F.content files.old) (F.faults files.old) (F.faults files.new) (taking (I.left input.old) (I.left input.new) (I.faults input.old) (I.faults input.new)))
+        (IsDue (map string_bytes words.items) (F.content files.old) (F.faults files.old) (F.faults files.new)
+        (taking (I.left input.old) (I.left input.new) (I.faults input.old) (I.faults input.new)))
+        (Begins (map string_bytes words.items) (F.content files.old) (F.faults files.old) (F.faults files.new)
+        (taking (I.left input.old) (I.left input.new) (I.faults input.old) (I.faults input.new)))
         (change (O.told out.old) (O.told out.new) (O.faults out.old) (O.faults out.new))
         (change (E.told err.old) (E.told err.new) (E.faults err.old) (E.faults err.new))
         result }
-    ensures complete { Complete (map string_bytes words.items) (F.content files.old) (F.faults files.old) (F.faults files.new) (taking (I.left input.old) (I.left input.new) (I.faults input.old) (I.faults input.new))
+    ensures complete { Complete (map string_bytes words.items) (F.content files.old) (F.faults files.old) (F.faults files.new)
+        (taking (I.left input.old) (I.left input.new) (I.faults input.old) (I.faults input.new))
         (change (O.told out.old) (O.told out.new) (O.faults out.old) (O.faults out.new))
         (change (E.told err.old) (E.told err.new) (E.faults err.old) (E.faults err.new))
         result }
-    ensures status { IsStatus (F.faults files.old) (F.faults files.new) (taking (I.left input.old) (I.left input.new) (I.faults input.old) (I.faults input.new)) result }
+    ensures status { IsStatus (F.faults files.old) (F.faults files.new) (taking (I.left input.old) (I.left input.new) (I.faults input.old) (I.faults input.new))
+        result }
     ensures kept { F.content files.new ≡ F.content files.old }
-    ensures unread { LeavesSource (job_of (map string_bytes words.items)) (taking (I.left input.old) (I.left input.new) (I.faults input.old) (I.faults input.new)) }
+    ensures unread { LeavesSource (job_of (map string_bytes words.items)) (taking (I.left input.old) (I.left input.new) (I.faults input.old)
+        (I.faults input.new)) }
     ensures unfetched { job_of (map string_bytes words.items) ≡ None → files.new ≡ files.old }
 {
     let job = match read_words(alloc, &words) {

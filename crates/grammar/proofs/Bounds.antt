@@ -55,15 +55,19 @@ module _ {T : Type 0} (K : T → ℕ) where
   rest_below G first more g ts x [] rest e r = absurd (let f = g.filled x r in cc)
   rest_below G first more g ts x (t ∷ front) rest e r = omega (arith, ap length e, length-append front rest)
 
-  module _ {A B : Type 0} (n : ℕ) (G G' : Syntax T A) (H H' : A → Syntax T B) (n1 : Bool) (f1 : List ℕ) (m1 : A → List ℕ) (n2 : Bool) (f2 : A → List ℕ) (m2 : A → B → List ℕ) (null : Bool) (first : List ℕ) (more : B → List ℕ) (R : A → B → Type 0) (ends : (x : A) (y : B) → (H x).reads [] y → R x y) (ends' : (x : A) (y : B) → (H' x).reads [] y → R x y) (fit : ThenFits A B R n1 f1 m1 n2 f2 m2 null first more) where
-    then_reads_back : (m k : ℕ) → ((a : List T) (x : A) → length a < m → G'.reads a x → G.reads a x) → ((x : A) (a : List T) (y : B) → length a < k → (H' x).reads a y → (H x).reads a y) → (a : List T) (y : B) → ((b c : List T) (x : A) → a ≡ b ++ c → G'.reads b x → (length b < m) × (length c < k)) → (G' then H').reads a y → (G then H).reads a y
+  module _ {A B : Type 0} (n : ℕ) (G G' : Syntax T A) (H H' : A → Syntax T B) (n1 : Bool) (f1 : List ℕ) (m1 : A → List ℕ) (n2 : Bool) (f2 : A → List ℕ) (m2 : A → B → List ℕ) (null : Bool) (first : List ℕ) (more : B → List ℕ) (R : A → B
+      → Type 0) (ends : (x : A) (y : B) → (H x).reads [] y → R x y) (ends' : (x : A) (y : B) → (H' x).reads [] y → R x y) (fit : ThenFits A B R n1 f1 m1 n2 f2 m2 null first more) where
+    then_reads_back : (m k : ℕ) → ((a : List T) (x : A) → length a < m → G'.reads a x → G.reads a x) → ((x : A) (a : List T) (y : B) → length a < k → (H' x).reads a y → (H x).reads a y) → (a : List T) (y : B)
+        → ((b c : List T) (x : A) → a ≡ b ++ c → G'.reads b x → (length b < m) × (length c < k)) → (G' then H').reads a y → (G then H).reads a y
     then_reads_back m k p q a y w r = let l = w r.0 r.1 r.2 r.3 r.4 in (r.0, r.1, r.2, r.3, p r.0 r.2 l.0 r.4, q r.2 r.1 y l.1 r.5)
 
-    then_begun_back : (m k : ℕ) → ((a : List T) (x : A) → length a < m → G'.reads a x → G.reads a x) → ((a : List T) → length a < m → G'.begun a → G.begun a) → ((x : A) (a : List T) → length a < k → (H' x).begun a → (H x).begun a) → (a : List T) → length a < m → ((b c : List T) (x : A) → a ≡ b ++ c → G'.reads b x → (length b < m) × (length c < k)) → (G' then H').begun a → (G then H).begun a
+    then_begun_back : (m k : ℕ) → ((a : List T) (x : A) → length a < m → G'.reads a x → G.reads a x) → ((a : List T) → length a < m → G'.begun a → G.begun a) → ((x : A) (a : List T) → length a < k → (H' x).begun a → (H x).begun a) → (a : List T)
+        → length a < m → ((b c : List T) (x : A) → a ≡ b ++ c → G'.reads b x → (length b < m) × (length c < k)) → (G' then H').begun a → (G then H).begun a
     then_begun_back m k p q s a lt w (inl b) = inl (q a lt b)
     then_begun_back m k p q s a lt w (inr r) = let l = w r.0 r.1 r.2 r.3 r.4 in inr (r.0, r.1, r.2, r.3, p r.0 r.2 l.0 r.4, s r.2 r.1 l.1 r.5)
 
-    then_late_back : (m k : ℕ) → ((a : List T) (x : A) → length a < m → G'.reads a x → G.reads a x) → ((i : ℕ) (a : List T) (t : T) → suc (length a) < m → G'.late i a t → G.late i a t) → ((x : A) (i : ℕ) (a : List T) (t : T) → suc (length a) < k → (H' x).late i a t → (H x).late i a t) → (i : ℕ) (a : List T) (t : T) → suc (length a) < m → ((b c : List T) (x : A) → a ≡ b ++ c → G'.reads b x → (length b < m) × (suc (length c) < k)) → (G' then H').late i a t → (G then H).late i a t
+    then_late_back : (m k : ℕ) → ((a : List T) (x : A) → length a < m → G'.reads a x → G.reads a x) → ((i : ℕ) (a : List T) (t : T) → suc (length a) < m → G'.late i a t → G.late i a t) → ((x : A) (i : ℕ) (a : List T) (t : T) → suc (length a) < k
+        → (H' x).late i a t → (H x).late i a t) → (i : ℕ) (a : List T) (t : T) → suc (length a) < m → ((b c : List T) (x : A) → a ≡ b ++ c → G'.reads b x → (length b < m) × (suc (length c) < k)) → (G' then H').late i a t → (G then H).late i a t
     then_late_back m k p q s i a t lt w (inl b) = inl (q i a t lt b)
     then_late_back m k p q s i a t lt w (inr r) = let l = w r.0 r.1 r.2 r.3 r.4 in inr (r.0, r.1, r.2, r.3, p r.0 r.2 l.0 r.4, s r.2 i r.1 t l.1 r.5)
 
@@ -74,7 +78,8 @@ module _ {T : Type 0} (K : T → ℕ) where
     then_begun p q s a (inl b) = inl (q a b)
     then_begun p q s a (inr r) = inr (r.0, r.1, r.2, r.3, p r.0 r.2 r.4, s r.2 r.1 r.5)
 
-    then_late : ((a : List T) (x : A) → G.reads a x → G'.reads a x) → ((i : ℕ) (a : List T) (t : T) → G.late i a t → G'.late i a t) → ((x : A) (i : ℕ) (a : List T) (t : T) → (H x).late i a t → (H' x).late i a t) → (i : ℕ) (a : List T) (t : T) → (G then H).late i a t → (G' then H').late i a t
+    then_late : ((a : List T) (x : A) → G.reads a x → G'.reads a x) → ((i : ℕ) (a : List T) (t : T) → G.late i a t → G'.late i a t) → ((x : A) (i : ℕ) (a : List T) (t : T) → (H x).late i a t → (H' x).late i a t) → (i : ℕ) (a : List T) (t : T)
+        → (G then H).late i a t → (G' then H').late i a t
     then_late p q s i a t (inl b) = inl (q i a t b)
     then_late p q s i a t (inr r) = inr (r.0, r.1, r.2, r.3, p r.0 r.2 r.4, s r.2 i r.1 t r.5)
 
@@ -95,7 +100,8 @@ module _ {T : Type 0} (K : T → ℕ) where
     }
 
   -- behind at least one token the bound is one less
-  module _ {A B : Type 0} (n : ℕ) (G G' : Syntax T A) (H H' : A → Syntax T B) (f1 : List ℕ) (m1 : A → List ℕ) (n2 : Bool) (f2 : A → List ℕ) (m2 : A → B → List ℕ) (first : List ℕ) (more : B → List ℕ) (R : A → B → Type 0) (ends : (x : A) (y : B) → (H x).reads [] y → R x y) (ends' : (x : A) (y : B) → (H' x).reads [] y → R x y) (fit : ThenFits A B R false f1 m1 n2 f2 m2 false first more) where
+  module _ {A B : Type 0} (n : ℕ) (G G' : Syntax T A) (H H' : A → Syntax T B) (f1 : List ℕ) (m1 : A → List ℕ) (n2 : Bool) (f2 : A → List ℕ) (m2 : A → B → List ℕ) (first : List ℕ) (more : B → List ℕ) (R : A → B → Type 0) (ends : (x : A) (y : B)
+      → (H x).reads [] y → R x y) (ends' : (x : A) (y : B) → (H' x).reads [] y → R x y) (fit : ThenFits A B R false f1 m1 n2 f2 m2 false first more) where
     pub after_good : IsGood K (suc n) G G' false f1 m1 → ((x : A) → IsGood K n (H x) (H' x) n2 (f2 x) (m2 x)) → IsGood K (suc n) (G then H) (G' then H') false first more
     after_good g h = record {
       here = then_exact K G H false f1 m1 n2 f2 m2 false first more g.here (λ x. (h x).here) R ends fit;
@@ -107,13 +113,18 @@ module _ {T : Type 0} (K : T → ℕ) where
           let t = g.there.takes ts x.0 x.1 e in
           let less = rest_below G' f1 m1 g.there ts x.0 t.front x.1 t.parts t.is in
           (h x.0).agree x.1 (omega arith)));
-      reads_back = λ a y lt. then_reads_back n G G' H H' false f1 m1 n2 f2 m2 false first more R ends ends' fit (suc n) n g.reads_back (λ x. (h x).reads_back) a y (λ b c x e r. let less = rest_below G' f1 m1 g.there a x b c e r in let l = front_within a b c e in (omega arith, omega arith));
-      begun_back = λ a lt. then_begun_back n G G' H H' false f1 m1 n2 f2 m2 false first more R ends ends' fit (suc n) n g.reads_back g.begun_back (λ x. (h x).begun_back) a lt (λ b c x e r. let less = rest_below G' f1 m1 g.there a x b c e r in let l = front_within a b c e in (omega arith, omega arith));
-      late_back = λ i a t lt. then_late_back n G G' H H' false f1 m1 n2 f2 m2 false first more R ends ends' fit (suc n) n g.reads_back g.late_back (λ x. (h x).late_back) i a t lt (λ b c x e r. let less = rest_below G' f1 m1 g.there a x b c e r in let l = front_within a b c e in (omega arith, omega arith));
+      reads_back = λ a y lt. then_reads_back n G G' H H' false f1 m1 n2 f2 m2 false first more R ends ends' fit (suc n) n g.reads_back (λ x. (h x).reads_back) a y (λ b c x e r. let less = rest_below G' f1 m1 g.there a x b c e r in let l =
+          front_within a b c e in (omega arith, omega arith));
+      begun_back = λ a lt. then_begun_back n G G' H H' false f1 m1 n2 f2 m2 false first more R ends ends' fit (suc n) n g.reads_back g.begun_back (λ x. (h x).begun_back) a lt (λ b c x e r. let less = rest_below G' f1 m1 g.there a x b c e r in let l =
+          front_within a b c e in (omega arith, omega arith));
+      late_back = λ i a t lt. then_late_back n G G' H H' false f1 m1 n2 f2 m2 false first more R ends ends' fit (suc n) n g.reads_back g.late_back (λ x. (h x).late_back) i a t lt (λ b c x e r. let less = rest_below G' f1 m1 g.there a x b c e r in
+          let l = front_within a b c e in (omega arith, omega arith));
     }
 
-  module _ {A : Type 0} (n : ℕ) (ks : List ℕ) (G G' H H' : Syntax T A) (n1 : Bool) (f1 : List ℕ) (m1 : A → List ℕ) (n2 : Bool) (f2 : List ℕ) (m2 : A → List ℕ) (null : Bool) (first : List ℕ) (more : A → List ℕ) (R : A → Type 0) (ends : (x : A) → H.reads [] x → R x) (ends' : (x : A) → H'.reads [] x → R x) (fit : ChoiceFits A R ks n1 f1 m1 n2 f2 m2 null first more) where
-    choice_reads_back : ((a : List T) (x : A) → length a < n → G'.reads a x → G.reads a x) → ((a : List T) (x : A) → length a < n → H'.reads a x → H.reads a x) → (a : List T) (x : A) → length a < n → (choice K ks G' H').reads a x → (choice K ks G H).reads a x
+  module _ {A : Type 0} (n : ℕ) (ks : List ℕ) (G G' H H' : Syntax T A) (n1 : Bool) (f1 : List ℕ) (m1 : A → List ℕ) (n2 : Bool) (f2 : List ℕ) (m2 : A → List ℕ) (null : Bool) (first : List ℕ) (more : A → List ℕ) (R : A → Type 0) (ends : (x : A)
+      → H.reads [] x → R x) (ends' : (x : A) → H'.reads [] x → R x) (fit : ChoiceFits A R ks n1 f1 m1 n2 f2 m2 null first more) where
+    choice_reads_back : ((a : List T) (x : A) → length a < n → G'.reads a x → G.reads a x) → ((a : List T) (x : A) → length a < n → H'.reads a x → H.reads a x) → (a : List T) (x : A) → length a < n → (choice K ks G' H').reads a x
+        → (choice K ks G H).reads a x
     choice_reads_back p q a x lt (inl r) = inl (p a x lt r)
     choice_reads_back p q a x lt (inr r) = inr (q a x lt r)
 
@@ -121,7 +132,8 @@ module _ {T : Type 0} (K : T → ℕ) where
     choice_begun_back p q a lt (inl r) = inl (p a lt r)
     choice_begun_back p q a lt (inr r) = inr (q a lt r)
 
-    choice_late_back : ((i : ℕ) (a : List T) (t : T) → suc (length a) < n → G'.late i a t → G.late i a t) → ((i : ℕ) (a : List T) (t : T) → suc (length a) < n → H'.late i a t → H.late i a t) → (i : ℕ) (a : List T) (t : T) → suc (length a) < n → (choice K ks G' H').late i a t → (choice K ks G H).late i a t
+    choice_late_back : ((i : ℕ) (a : List T) (t : T) → suc (length a) < n → G'.late i a t → G.late i a t) → ((i : ℕ) (a : List T) (t : T) → suc (length a) < n → H'.late i a t → H.late i a t) → (i : ℕ) (a : List T) (t : T) → suc (length a) < n
+        → (choice K ks G' H').late i a t → (choice K ks G H).late i a t
     choice_late_back p q i a t lt (inl r) = inl (p i a t lt r)
     choice_late_back p q i a t lt (inr r) = inr (q i a t lt r)
 
@@ -257,7 +269,8 @@ module _ {T : Type 0} (K : T → ℕ) where
               let same : t2.front ≡ t.front = split_front ts t2.front t.front (t2.token ∷ t2.rest) (t.token ∷ t.rest) t2.parts t.parts (sym t2.left ∙ t.left) in
               let rest : t2.token ∷ t2.rest ≡ t.token ∷ t.rest = split_rest ts t2.front t.front (t2.token ∷ t2.rest) (t.token ∷ t.rest) t2.parts t.parts (sym t2.left ∙ t.left) in
               let token : t2.token ≡ t.token = cc in
-              agree_of m (t.front ++ (t.token ∷ u)) (omega arith) ∙ subst (λ (w : List T). (F m).parse (w ++ (t.token ∷ u)) ≡ Err (Over i (suc (length u)))) same (subst (λ (v : T). (F m).parse (t2.front ++ (v ∷ u)) ≡ Err (Over i (suc (length u)))) token (t2.local u));
+              agree_of m (t.front ++ (t.token ∷ u)) (omega arith) ∙ subst (λ (w : List T). (F m).parse (w ++ (t.token ∷ u)) ≡ Err (Over i (suc (length u)))) same
+              (subst (λ (v : T). (F m).parse (t2.front ++ (v ∷ u)) ≡ Err (Over i (suc (length u)))) token (t2.local u));
         }
 
     limit_again : (a : List T) (x : A) (b : List T) → (limit F).reads a x → sees K (more x) b ≡ false → ((limit F).parse (a ++ b) ≡ Ok (x, b)) ⊎ Late ((limit F).parse (a ++ b)) (suc (length b))
@@ -347,7 +360,18 @@ module _ {T : Type 0} (K : T → ℕ) where
     -- one more turn
     loop_grows : (step : A → Syntax T A) → ((x : A) → IsExact K (step x) false (f x) (m x)) → (n : ℕ) (x : A) → IsGood K n (loop K n ks step x) (loop K (suc n) ks step x) true (ks x) more
     loop_grows step g zero x =
-        record { here = loop_exact ks f m more step g fit zero x; there = loop_exact ks f m more step g fit (suc zero) x; reads = r; begun = b; late = l; agree = λ ts lt. absurd (omega arith); reads_back = λ a y lt. absurd (omega arith); begun_back = λ a lt. absurd (omega arith); late_back = λ i a t lt. absurd (omega arith) }
+        record {
+          here = loop_exact ks f m more step g fit zero x;
+          there = loop_exact ks f m more step g fit (suc zero) x;
+          reads = r;
+          begun = b;
+          late = l;
+          agree = λ ts lt. absurd (omega arith);
+          reads_back = λ a y lt. absurd (omega arith);
+          begun_back =
+              λ a lt. absurd (omega arith);
+          late_back = λ i a t lt. absurd (omega arith);
+        }
       where
         r : (a : List T) (y : A) → (loop K zero ks step x).reads a y → (loop K (suc zero) ks step x).reads a y
         r a y (inl h) = absurd h
@@ -361,23 +385,29 @@ module _ {T : Type 0} (K : T → ℕ) where
         l i a t (inl h) = absurd h
         l i a t (inr h) = inr h
     loop_grows step g (suc n) x =
-        let once = after_good n (step x) (step x) (λ y. loop K n ks step y) (λ y. loop K (suc n) ks step y) (f x) (m x) true ks (λ _ z. more z) (f x) more (λ y z. y ≡ z) (turns ks f m step g n) (turns ks f m step g (suc n)) (loop_once ks f m more x fit) (same_good (suc n) (step x) false (f x) (m x) (g x)) (λ y. loop_grows step g n y) in
-        choice_good (suc n) (ks x) (step x then λ y. loop K n ks step y) (step x then λ y. loop K (suc n) ks step y) (gives x) (gives x) false (f x) more true [] (λ y. []) true (ks x) more (λ y. x ≡ y) (λ y r. r.1) (λ y r. r.1) (loop_more ks f m more x fit) once (same_good (suc n) (gives x) true [] (λ y. []) (gives_exact K x))
+        let once = after_good n (step x) (step x) (λ y. loop K n ks step y) (λ y. loop K (suc n) ks step y) (f x) (m x) true ks (λ _ z. more z) (f x) more (λ y z. y ≡ z) (turns ks f m step g n) (turns ks f m step g (suc n))
+        (loop_once ks f m more x fit) (same_good (suc n) (step x) false (f x) (m x) (g x)) (λ y. loop_grows step g n y) in
+        choice_good (suc n) (ks x) (step x then λ y. loop K n ks step y) (step x then λ y. loop K (suc n) ks step y) (gives x) (gives x) false (f x) more true [] (λ y. []) true (ks x) more (λ y. x ≡ y) (λ y r. r.1) (λ y r. r.1)
+        (loop_more ks f m more x fit) once (same_good (suc n) (gives x) true [] (λ y. []) (gives_exact K x))
 
     -- the same number of turns, of another step
     loop_good : (step step' : A → Syntax T A) (k : ℕ) → ((x : A) → IsGood K k (step x) (step' x) false (f x) (m x)) → (n : ℕ) (x : A) → IsGood K k (loop K n ks step x) (loop K n ks step' x) true (ks x) more
     loop_good step step' k g zero x =
-        choice_good k (ks x) none none (gives x) (gives x) false [] (λ y. []) true [] (λ y. []) true (ks x) more (λ y. x ≡ y) (λ y r. r.1) (λ y r. r.1) (loop_zero ks more x (fit.greedy x)) (same_good k none false [] (λ y. []) (none_exact K)) (same_good k (gives x) true [] (λ y. []) (gives_exact K x))
+        choice_good k (ks x) none none (gives x) (gives x) false [] (λ y. []) true [] (λ y. []) true (ks x) more (λ y. x ≡ y) (λ y r. r.1) (λ y r. r.1) (loop_zero ks more x (fit.greedy x)) (same_good k none false [] (λ y. []) (none_exact K))
+        (same_good k (gives x) true [] (λ y. []) (gives_exact K x))
     loop_good step step' k g (suc n) x =
-        let once = then_good k (step x) (step' x) (λ y. loop K n ks step y) (λ y. loop K n ks step' y) false (f x) (m x) true ks (λ _ z. more z) false (f x) more (λ y z. y ≡ z) (turns ks f m step (λ y. (g y).here) n) (turns ks f m step' (λ y. (g y).there) n) (loop_once ks f m more x fit) (g x) (λ y. loop_good step step' k g n y) in
-        choice_good k (ks x) (step x then λ y. loop K n ks step y) (step' x then λ y. loop K n ks step' y) (gives x) (gives x) false (f x) more true [] (λ y. []) true (ks x) more (λ y. x ≡ y) (λ y r. r.1) (λ y r. r.1) (loop_more ks f m more x fit) once (same_good k (gives x) true [] (λ y. []) (gives_exact K x))
+        let once = then_good k (step x) (step' x) (λ y. loop K n ks step y) (λ y. loop K n ks step' y) false (f x) (m x) true ks (λ _ z. more z) false (f x) more (λ y z. y ≡ z) (turns ks f m step (λ y. (g y).here) n)
+        (turns ks f m step' (λ y. (g y).there) n) (loop_once ks f m more x fit) (g x) (λ y. loop_good step step' k g n y) in
+        choice_good k (ks x) (step x then λ y. loop K n ks step y) (step' x then λ y. loop K n ks step' y) (gives x) (gives x) false (f x) more true [] (λ y. []) true (ks x) more (λ y. x ≡ y) (λ y r. r.1) (λ y r. r.1)
+        (loop_more ks f m more x fit) once (same_good k (gives x) true [] (λ y. []) (gives_exact K x))
 
     pub many_exact : (step : A → Syntax T A) → ((x : A) → IsExact K (step x) false (f x) (m x)) → (x : A) → IsExact K (many K ks step x) true (ks x) more
     many_exact step g x = limit_exact (λ n. loop K n ks step x) true (ks x) more (λ n. loop_grows step g n x)
 
     -- a turn and the repetition behind it, or no turn
     pub turn_exact : (step : A → Syntax T A) → ((x : A) → IsExact K (step x) false (f x) (m x)) → (x : A) → IsExact K (step x then λ y. many K ks step y) false (f x) more
-    turn_exact step g x = then_exact K (step x) (λ y. many K ks step y) false (f x) (m x) true ks (λ _ z. more z) false (f x) more (g x) (λ y. many_exact step g y) (λ y z. y ≡ z) (λ y z r. turns ks f m step g r.0 y z r.1) (loop_once ks f m more x fit)
+    turn_exact step g x = then_exact K (step x) (λ y. many K ks step y) false (f x) (m x) true ks (λ _ z. more z) false (f x) more (g x) (λ y. many_exact step g y) (λ y z. y ≡ z) (λ y z r. turns ks f m step g r.0 y z r.1)
+        (loop_once ks f m more x fit)
 
     pub turned_exact : (step : A → Syntax T A) → ((x : A) → IsExact K (step x) false (f x) (m x)) → (x : A) → IsExact K (choice K (ks x) (step x then λ y. many K ks step y) (gives x)) true (ks x) more
     turned_exact step g x = choice_exact K (ks x) (step x then λ y. many K ks step y) (gives x) false (f x) more true [] (λ y. []) true (ks x) more (turn_exact step g x) (gives_exact K x) (λ y. x ≡ y) (λ y r. r.1) (loop_more ks f m more x fit)
@@ -400,5 +430,7 @@ module _ {T : Type 0} (K : T → ℕ) where
     pub many_is : (step : A → Syntax T A) → ((x : A) → IsExact K (step x) false (f x) (m x)) → (x : A) (ts : List T) → (many K ks step x).parse ts ≡ (choice K (ks x) (step x then λ y. many K ks step y) (gives x)).parse ts
     many_is step g x ts =
         let lim : (y : A) → IsGood K (length ts) (loop K (length ts) ks step y) (many K ks step y) true (ks y) more = λ y. limit_good (λ n. loop K n ks step y) true (ks y) more (λ n. loop_grows step g n y) (length ts) in
-        let once = after_good (length ts) (step x) (step x) (λ y. loop K (length ts) ks step y) (λ y. many K ks step y) (f x) (m x) true ks (λ _ z. more z) (f x) more (λ y z. y ≡ z) (turns ks f m step g (length ts)) (λ y z r. turns ks f m step g r.0 y z r.1) (loop_once ks f m more x fit) (same_good (suc (length ts)) (step x) false (f x) (m x) (g x)) lim in
-        (choice_good (suc (length ts)) (ks x) (step x then λ y. loop K (length ts) ks step y) (step x then λ y. many K ks step y) (gives x) (gives x) false (f x) more true [] (λ y. []) true (ks x) more (λ y. x ≡ y) (λ y r. r.1) (λ y r. r.1) (loop_more ks f m more x fit) once (same_good (suc (length ts)) (gives x) true [] (λ y. []) (gives_exact K x))).agree ts (omega arith)
+        let once = after_good (length ts) (step x) (step x) (λ y. loop K (length ts) ks step y) (λ y. many K ks step y) (f x) (m x) true ks (λ _ z. more z) (f x) more (λ y z. y ≡ z) (turns ks f m step g (length ts))
+        (λ y z r. turns ks f m step g r.0 y z r.1) (loop_once ks f m more x fit) (same_good (suc (length ts)) (step x) false (f x) (m x) (g x)) lim in
+        (choice_good (suc (length ts)) (ks x) (step x then λ y. loop K (length ts) ks step y) (step x then λ y. many K ks step y) (gives x) (gives x) false (f x) more true [] (λ y. []) true (ks x) more (λ y. x ≡ y) (λ y r. r.1) (λ y r. r.1)
+        (loop_more ks f m more x fit) once (same_good (suc (length ts)) (gives x) true [] (λ y. []) (gives_exact K x))).agree ts (omega arith)

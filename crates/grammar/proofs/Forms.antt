@@ -80,7 +80,8 @@ module _ {T : Type 0} (K : T → ℕ) {A : Type 0} (ks js : List ℕ) where
   parts_begun G G' H H' f g a (inl r) = inl (f a r)
   parts_begun G G' H H' f g a (inr r) = inr (g a r)
 
-  parts_late : (G G' H H' : Syntax T A) → ((i : ℕ) (a : List T) (t : T) → G.late i a t → G'.late i a t) → ((i : ℕ) (a : List T) (t : T) → H.late i a t → H'.late i a t) → (i : ℕ) (a : List T) (t : T) → (choice K ks G H).late i a t → (choice K js G' H').late i a t
+  parts_late : (G G' H H' : Syntax T A) → ((i : ℕ) (a : List T) (t : T) → G.late i a t → G'.late i a t) → ((i : ℕ) (a : List T) (t : T) → H.late i a t → H'.late i a t) → (i : ℕ) (a : List T) (t : T) → (choice K ks G H).late i a t
+      → (choice K js G' H').late i a t
   parts_late G G' H H' f g i a t (inl r) = inl (f i a t r)
   parts_late G G' H H' f g i a t (inr r) = inr (g i a t r)
 
@@ -102,21 +103,32 @@ pub other_part : {T : Type 0} (K : T → ℕ) {A : Type 0} (ks js : List ℕ) (G
 other_part K ks js G h = both_parts K ks js (unchanged G) h
 
 pub joined : {T A : Type 0} {F G H : Syntax T A} → Same F G → Same G H → Same F H
-joined s t = record { reads = λ a x r. t.reads a x (s.reads a x r); reads_back = λ a x r. s.reads_back a x (t.reads_back a x r); begun = λ a b. t.begun a (s.begun a b); begun_back = λ a b. s.begun_back a (t.begun_back a b); late = λ i a v l. t.late i a v (s.late i a v l); late_back = λ i a v l. s.late_back i a v (t.late_back i a v l) }
+joined s t = record {
+  reads = λ a x r. t.reads a x (s.reads a x r);
+  reads_back = λ a x r. s.reads_back a x (t.reads_back a x r);
+  begun = λ a b. t.begun a (s.begun a b);
+  begun_back = λ a b. s.begun_back a (t.begun_back a b);
+  late =
+      λ i a v l. t.late i a v (s.late i a v l);
+  late_back = λ i a v l. s.late_back i a v (t.late_back i a v l);
+}
 
 pub reversed : {T A : Type 0} {G H : Syntax T A} → Same G H → Same H G
 reversed s = record { reads = s.reads_back; reads_back = s.reads; begun = s.begun_back; begun_back = s.begun; late = s.late_back; late_back = s.late }
 
 -- sequences are the same where their parts are
 module _ {T A B : Type 0} where
-  sequence_reads : (G G' : Syntax T A) (H H' : A → Syntax T B) → ((a : List T) (x : A) → G.reads a x → G'.reads a x) → ((x : A) (a : List T) (y : B) → (H x).reads a y → (H' x).reads a y) → (a : List T) (y : B) → (G then H).reads a y → (G' then H').reads a y
+  sequence_reads : (G G' : Syntax T A) (H H' : A → Syntax T B) → ((a : List T) (x : A) → G.reads a x → G'.reads a x) → ((x : A) (a : List T) (y : B) → (H x).reads a y → (H' x).reads a y) → (a : List T) (y : B) → (G then H).reads a y
+      → (G' then H').reads a y
   sequence_reads G G' H H' f g a y (b, c, x, e, r, s) = (b, c, x, e, f b x r, g x c y s)
 
-  sequence_begun : (G G' : Syntax T A) (H H' : A → Syntax T B) → ((a : List T) (x : A) → G.reads a x → G'.reads a x) → ((a : List T) → G.begun a → G'.begun a) → ((x : A) (a : List T) → (H x).begun a → (H' x).begun a) → (a : List T) → (G then H).begun a → (G' then H').begun a
+  sequence_begun : (G G' : Syntax T A) (H H' : A → Syntax T B) → ((a : List T) (x : A) → G.reads a x → G'.reads a x) → ((a : List T) → G.begun a → G'.begun a) → ((x : A) (a : List T) → (H x).begun a → (H' x).begun a) → (a : List T)
+      → (G then H).begun a → (G' then H').begun a
   sequence_begun G G' H H' f g h a (inl b) = inl (g a b)
   sequence_begun G G' H H' f g h a (inr (b, c, x, e, r, s)) = inr (b, c, x, e, f b x r, h x c s)
 
-  sequence_late : (G G' : Syntax T A) (H H' : A → Syntax T B) → ((a : List T) (x : A) → G.reads a x → G'.reads a x) → ((i : ℕ) (a : List T) (t : T) → G.late i a t → G'.late i a t) → ((x : A) (i : ℕ) (a : List T) (t : T) → (H x).late i a t → (H' x).late i a t) → (i : ℕ) (a : List T) (t : T) → (G then H).late i a t → (G' then H').late i a t
+  sequence_late : (G G' : Syntax T A) (H H' : A → Syntax T B) → ((a : List T) (x : A) → G.reads a x → G'.reads a x) → ((i : ℕ) (a : List T) (t : T) → G.late i a t → G'.late i a t)
+      → ((x : A) (i : ℕ) (a : List T) (t : T) → (H x).late i a t → (H' x).late i a t) → (i : ℕ) (a : List T) (t : T) → (G then H).late i a t → (G' then H').late i a t
   sequence_late G G' H H' f g h i a t (inl b) = inl (g i a t b)
   sequence_late G G' H H' f g h i a t (inr (b, c, x, e, r, s)) = inr (b, c, x, e, f b x r, h x i c t s)
 
@@ -182,7 +194,8 @@ module _ {T : Type 0} (K : T → ℕ) {A : Type 0} (ks : A → List ℕ) (step :
 
 -- ---- what stands in itself is the same as its production
 
-module _ {T : Type 0} {K : T → ℕ} {S A : Type 0} (null : Bool) (first : List ℕ) (more : A → List ℕ) (F : (S → Syntax T A) → S → Syntax T A) (step : (k : ℕ) (U U' : S → Syntax T A) → ((s : S) → IsGood K k (U s) (U' s) null first more) → (s : S) → IsGood K (suc k) (F U s) (F U' s) null first more) where
+module _ {T : Type 0} {K : T → ℕ} {S A : Type 0} (null : Bool) (first : List ℕ) (more : A → List ℕ) (F : (S → Syntax T A) → S → Syntax T A) (step : (k : ℕ) (U U' : S → Syntax T A) → ((s : S) → IsGood K k (U s) (U' s) null first more) → (s : S)
+    → IsGood K (suc k) (F U s) (F U' s) null first more) where
   turn_good : (k : ℕ) (s : S) → IsGood K (suc k) (F (knot_at F k) s) (F (knot F) s) null first more
   turn_good k s = step k (knot_at F k) (knot F) (λ u. limit_good K (λ n. knot_at F n u) null first more (λ n. knot_grows null first more F step n u) k) s
 

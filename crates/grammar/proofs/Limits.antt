@@ -16,7 +16,8 @@ module _ {T : Type 0} (K : T → ℕ) where
       let k : (deep label K ks G).parse ts ≡ Err (At (length ts)) = rw s refl in
       record { front = []; rest = ts; parts = refl; left = cc; is = z; local = λ u h. let v : sees K ks u ≡ false = sym (sees_same K ks ts u h) ∙ s in rw v refl }
 
-  deep_overs : {A : Type 0} (label : ℕ) (ks : List ℕ) (G : Syntax T A) → ((t : T) → among (K t) ks ≡ true → G.begun (t ∷ [])) → (b : Bool) (ts : List T) (i n : ℕ) → sees K ks ts ≡ b → (deep label K ks G).parse ts ≡ Err (Over i n) → Overs (deep label K ks G).parse (deep label K ks G).late ts i n
+  deep_overs : {A : Type 0} (label : ℕ) (ks : List ℕ) (G : Syntax T A) → ((t : T) → among (K t) ks ≡ true → G.begun (t ∷ [])) → (b : Bool) (ts : List T) (i n : ℕ) → sees K ks ts ≡ b → (deep label K ks G).parse ts ≡ Err (Over i n)
+      → Overs (deep label K ks G).parse (deep label K ks G).late ts i n
   deep_overs label ks G o false ts i n s e = absurd (let k : (deep label K ks G).parse ts ≡ Err (At (length ts)) = rw s refl in cc)
   deep_overs label ks G o true [] i n s e = absurd cc
   deep_overs label ks G o true (t ∷ ts) i n s e =
@@ -143,7 +144,8 @@ above a b = decided (ltb a b) refl
 
 module _ {T : Type 0} (K : T → ℕ) {A : Type 0} (label n : ℕ) (G : Syntax T A) (null : Bool) (first : List ℕ) (more : A → List ℕ) (g : IsExact K G null first more) where
   -- where f and t are begun, reading goes past t, or a limit is passed at t or before
-  far_ok : (f : List T) (t : T) (u : List T) (x : A) (front rest : List T) → G.begun (f ++ (t ∷ [])) → ((v : List T) → SameHead rest v → G.parse (front ++ v) ≡ Ok (x, v)) → ((e : List T) × (front ≡ (f ++ (t ∷ [])) ++ e)) ⊎ ((e : List T) × (f ++ (t ∷ []) ≡ front ++ e) × (rest ≡ e ++ u)) → f ++ (t ∷ u) ≡ front ++ rest → length rest ≤ length u
+  far_ok : (f : List T) (t : T) (u : List T) (x : A) (front rest : List T) → G.begun (f ++ (t ∷ [])) → ((v : List T) → SameHead rest v → G.parse (front ++ v) ≡ Ok (x, v)) → ((e : List T) × (front ≡ (f ++ (t ∷ [])) ++ e))
+      ⊎ ((e : List T) × (f ++ (t ∷ []) ≡ front ++ e) × (rest ≡ e ++ u)) → f ++ (t ∷ u) ≡ front ++ rest → length rest ≤ length u
   far_ok f t u x front rest b l (inl p) e = omega (arith, ap length e, ap length p.1, length-append front rest, length-append (f ++ (t ∷ [])) p.0, length-append f (t ∷ []), length-append f (t ∷ u))
   far_ok f t u x front rest b l (inr ([], p, q)) e = omega (arith, ap length q)
   far_ok f t u x front rest b l (inr (v ∷ vs, p, q)) e =
@@ -152,7 +154,8 @@ module _ {T : Type 0} (K : T → ℕ) {A : Type 0} (label n : ℕ) (G : Syntax T
       let none : v ∷ vs ≡ [] = subst (λ (r : Result (A × List T) Fault). RunsOut r) stops out in
       absurd cc
 
-  far_at : (f : List T) (t : T) (u : List T) (front rest : List T) → G.begun (f ++ (t ∷ [])) → ((v : List T) → SameHead rest v → G.parse (front ++ v) ≡ Err (At (length v))) → ((e : List T) × (front ≡ (f ++ (t ∷ [])) ++ e)) ⊎ ((e : List T) × (f ++ (t ∷ []) ≡ front ++ e) × (rest ≡ e ++ u)) → f ++ (t ∷ u) ≡ front ++ rest → length rest ≤ length u
+  far_at : (f : List T) (t : T) (u : List T) (front rest : List T) → G.begun (f ++ (t ∷ [])) → ((v : List T) → SameHead rest v → G.parse (front ++ v) ≡ Err (At (length v))) → ((e : List T) × (front ≡ (f ++ (t ∷ [])) ++ e))
+      ⊎ ((e : List T) × (f ++ (t ∷ []) ≡ front ++ e) × (rest ≡ e ++ u)) → f ++ (t ∷ u) ≡ front ++ rest → length rest ≤ length u
   far_at f t u front rest b l (inl p) e = omega (arith, ap length e, ap length p.1, length-append front rest, length-append (f ++ (t ∷ [])) p.0, length-append f (t ∷ []), length-append f (t ∷ u))
   far_at f t u front rest b l (inr ([], p, q)) e = omega (arith, ap length q)
   far_at f t u front rest b l (inr (v ∷ vs, p, q)) e =
@@ -188,7 +191,8 @@ module _ {T : Type 0} (K : T → ℕ) {A : Type 0} (label n : ℕ) (G : Syntax T
   past f t r (Err (Over i m)) e le =
       let w = g.overs (f ++ (t ∷ r)) i m e in
       let l = w.left in
-      past_begun f t r w.front (w.token ∷ w.rest) (g.fronts w.front (w.token ∷ []) (g.late_begins i w.front w.token w.is)) (omega arith) (front_parts (f ++ (t ∷ [])) r w.front (w.token ∷ w.rest) (same_parting f t r w.front (w.token ∷ w.rest) w.parts))
+      past_begun f t r w.front (w.token ∷ w.rest) (g.fronts w.front (w.token ∷ []) (g.late_begins i w.front w.token w.is)) (omega arith)
+      (front_parts (f ++ (t ∷ [])) r w.front (w.token ∷ w.rest) (same_parting f t r w.front (w.token ∷ w.rest) w.parts))
 
   pub below : (a b : List T) → length a ≤ n → ltb (n + length b) (length (a ++ b)) ≡ false
   below a b le = le-ltb (n + length b) (length (a ++ b)) (omega (arith, length-append a b))
@@ -199,7 +203,8 @@ module _ {T : Type 0} (K : T → ℕ) {A : Type 0} (label n : ℕ) (G : Syntax T
   behind_n : (f : List T) (t : T) (u : List T) → length f ≡ n → length (f ++ (t ∷ u)) - n ≡ suc (length u)
   behind_n f t u e = omega (arith, e, length-append f (t ∷ u))
 
-  pub at_most_answer : (ts : List T) → ((ltb (n + place (G.parse ts)) (length ts) ≡ false) × ((at_most label n G).parse ts ≡ G.parse ts)) ⊎ ((ltb (n + place (G.parse ts)) (length ts) ≡ true) × ((at_most label n G).parse ts ≡ Err (Over label (length ts - n))))
+  pub at_most_answer : (ts : List T) → ((ltb (n + place (G.parse ts)) (length ts) ≡ false) × ((at_most label n G).parse ts ≡ G.parse ts))
+      ⊎ ((ltb (n + place (G.parse ts)) (length ts) ≡ true) × ((at_most label n G).parse ts ≡ Err (Over label (length ts - n))))
   at_most_answer ts = elim (uncut label n (length ts) (G.parse ts) (ltb (n + place (G.parse ts)) (length ts)) refl) [ inl p ↦ inl p | inr p ↦ inr p ]
 
   pub front_short : (ts front rest : List T) (p : ℕ) → ts ≡ front ++ rest → p ≡ length rest → ltb (n + p) (length ts) ≡ false → length front ≤ n
@@ -248,7 +253,8 @@ module _ {T : Type 0} (K : T → ℕ) {A : Type 0} (label n : ℕ) (G : Syntax T
       let q : place (G.parse (f ++ (t ∷ r))) ≡ w.left = ap (λ (z : List T). place (G.parse z)) whole ∙ ap place w.is in
       omega (arith, q, length-append e r)
 
-  late_before : (i : ℕ) (f : List T) (t : T) (r u front rest : List T) (v : T) → place (G.parse (f ++ (t ∷ r))) ≤ length r → G.late i front v → length u ≤ length rest → ((e : List T) × (f ++ (t ∷ []) ≡ (front ++ (v ∷ [])) ++ e)) ⊎ ((e : List T) × (front ++ (v ∷ []) ≡ (f ++ (t ∷ [])) ++ e) × (u ≡ e ++ rest)) → ⊥
+  late_before : (i : ℕ) (f : List T) (t : T) (r u front rest : List T) (v : T) → place (G.parse (f ++ (t ∷ r))) ≤ length r → G.late i front v → length u ≤ length rest → ((e : List T) × (f ++ (t ∷ []) ≡ (front ++ (v ∷ [])) ++ e))
+      ⊎ ((e : List T) × (front ++ (v ∷ []) ≡ (f ++ (t ∷ [])) ++ e) × (u ≡ e ++ rest)) → ⊥
   late_before i f t r u front rest v le l k (inl p) = no_late i f t r front rest v le l p.0 p.1
   late_before i f t r u front rest v le l k (inr ([], p, q)) = no_late i f t r front rest v le l [] (sym (p ∙ append-nil (f ++ (t ∷ []))) ∙ sym (append-nil (front ++ (v ∷ []))))
   late_before i f t r u front rest v le l k (inr (x ∷ e, p, q)) = omega (arith, ap length q, length-append e rest, k)
@@ -361,14 +367,16 @@ module _ {T : Type 0} (K : T → ℕ) {A : Type 0} (label n : ℕ) (G : Syntax T
   kept_at p s front (v ∷ vs) le e h l =
       let whole : p ++ s ≡ front ++ (v ∷ vs ++ s) = ap (λ (z : List T). z ++ s) e ∙ append_assoc front (v ∷ vs) s in
       let short : length front ≤ n = omega (arith, ap length e, length-append front (v ∷ vs)) in
-      ap (at_most label n G).parse whole ∙ ap (capped label n (length (front ++ (v ∷ vs ++ s)))) (l (v ∷ vs ++ s) refl) ∙ capped_in label n (length (front ++ (v ∷ vs ++ s))) (Err (At (length (v ∷ vs ++ s)))) (below front (v ∷ vs ++ s) short) ∙ ap (λ (m : ℕ). Err (At m)) (length-append (v ∷ vs) s)
+      ap (at_most label n G).parse whole ∙ ap (capped label n (length (front ++ (v ∷ vs ++ s)))) (l (v ∷ vs ++ s) refl) ∙ capped_in label n (length (front ++ (v ∷ vs ++ s))) (Err (At (length (v ∷ vs ++ s)))) (below front (v ∷ vs ++ s) short)
+      ∙ ap (λ (m : ℕ). Err (At m)) (length-append (v ∷ vs) s)
 
   kept_over : (p s : List T) (i m : ℕ) → length p ≤ suc n → Overs G.parse G.late p i m → (at_most label n G).parse (p ++ s) ≡ Err (Over i (m + length s))
   kept_over p s i m le w =
       let whole : p ++ s ≡ w.front ++ (w.token ∷ (w.rest ++ s)) = ap (λ (z : List T). z ++ s) w.parts ∙ append_assoc w.front (w.token ∷ w.rest) s in
       let short : length w.front ≤ n = omega (arith, ap length w.parts, length-append w.front (w.token ∷ w.rest)) in
       let l = w.left in
-      ap (at_most label n G).parse whole ∙ ap (capped label n (length (w.front ++ (w.token ∷ (w.rest ++ s))))) (w.local (w.rest ++ s)) ∙ capped_in label n (length (w.front ++ (w.token ∷ (w.rest ++ s)))) (Err (Over i (suc (length (w.rest ++ s))))) (below w.front (w.token ∷ (w.rest ++ s)) short) ∙ ap (λ (k : ℕ). Err (Over i k)) (omega (arith, length-append w.rest s))
+      ap (at_most label n G).parse whole ∙ ap (capped label n (length (w.front ++ (w.token ∷ (w.rest ++ s))))) (w.local (w.rest ++ s)) ∙ capped_in label n (length (w.front ++ (w.token ∷ (w.rest ++ s)))) (Err (Over i (suc (length (w.rest ++ s)))))
+      (below w.front (w.token ∷ (w.rest ++ s)) short) ∙ ap (λ (k : ℕ). Err (Over i k)) (omega (arith, length-append w.rest s))
 
   -- what took n + 1 tokens, or wants more behind them, passes the limit
   ran_out : (p s : List T) → length p ≡ suc n → G.begun p → place (G.parse p) ≡ 0 → (at_most label n G).parse (p ++ s) ≡ Err (Over label (suc (length s)))
@@ -441,7 +449,8 @@ module _ {T : Type 0} (K : T → ℕ) {A : Type 0} (label most n : ℕ) (G H : S
   at_most_late b l i a t (inl h) = inl (l i a t h)
   at_most_late b l i a t (inr h) = inr (h.0, h.1, b (a ++ (t ∷ [])) h.2)
 
-  at_most_late_back : ((a : List T) → length a < n → H.begun a → G.begun a) → ((i : ℕ) (a : List T) (t : T) → suc (length a) < n → H.late i a t → G.late i a t) → (i : ℕ) (a : List T) (t : T) → suc (length a) < n → (at_most label most H).late i a t → (at_most label most G).late i a t
+  at_most_late_back : ((a : List T) → length a < n → H.begun a → G.begun a) → ((i : ℕ) (a : List T) (t : T) → suc (length a) < n → H.late i a t → G.late i a t) → (i : ℕ) (a : List T) (t : T) → suc (length a) < n → (at_most label most H).late i a t
+      → (at_most label most G).late i a t
   at_most_late_back b l i a t lt (inl h) = inl (l i a t lt h)
   at_most_late_back b l i a t lt (inr h) = inr (h.0, h.1, b (a ++ (t ∷ [])) (omega (arith, length-append a (t ∷ []))) h.2)
 

@@ -224,7 +224,8 @@ module _ {T : Type 0} (K : T → ℕ) where
   runs_then (Err (At n)) f h k = h
   runs_then (Err (Over i n)) f h k = tt
 
-  module _ {A B : Type 0} (G : Syntax T A) (H : A → Syntax T B) (n1 : Bool) (f1 : List ℕ) (m1 : A → List ℕ) (n2 : Bool) (f2 : A → List ℕ) (m2 : A → B → List ℕ) (null : Bool) (first : List ℕ) (more : B → List ℕ) (g : IsExact K G n1 f1 m1) (h : (x : A) → IsExact K (H x) n2 (f2 x) (m2 x)) (R : A → B → Type 0) (ends : (x : A) (y : B) → (H x).reads [] y → R x y) (fit : ThenFits A B R n1 f1 m1 n2 f2 m2 null first more) where
+  module _ {A B : Type 0} (G : Syntax T A) (H : A → Syntax T B) (n1 : Bool) (f1 : List ℕ) (m1 : A → List ℕ) (n2 : Bool) (f2 : A → List ℕ) (m2 : A → B → List ℕ) (null : Bool) (first : List ℕ) (more : B → List ℕ) (g : IsExact K G n1 f1 m1) (h : (x : A)
+      → IsExact K (H x) n2 (f2 x) (m2 x)) (R : A → B → Type 0) (ends : (x : A) (y : B) → (H x).reads [] y → R x y) (fit : ThenFits A B R n1 f1 m1 n2 f2 m2 null first more) where
     then_takes : (ts : List T) (y : B) (rest : List T) → (G then H).parse ts ≡ Ok (y, rest) → Takes (G then H).parse (G then H).reads ts y rest
     then_takes ts y rest e =
         let b = bind_ok (G.parse ts) (λ x. (H x.0).parse x.1) (y, rest) e in
@@ -270,7 +271,8 @@ module _ {T : Type 0} (K : T → ℕ) where
     null_stops : (x : A) (y : B) (c b : List T) → (H x).reads c y → sees K (more y) b ≡ false → c ≡ [] → sees K (m1 x) b ≡ false
     null_stops x y c b r s e = let r0 = subst (λ (w : List T). (H x).reads w y) e r in sees_within K (m1 x) (more y) b (fit.over x y ((h x).filled y r0) (ends x y r0)) s
 
-    again_ok : (a : List T) (y : B) (b a1 a2 : List T) (x : A) → a ≡ a1 ++ a2 → (H x).reads a2 y → sees K (m2 x y) b ≡ false → (G.parse (a1 ++ (a2 ++ b)) ≡ Ok (x, a2 ++ b)) ⊎ Late (G.parse (a1 ++ (a2 ++ b))) (suc (length (a2 ++ b))) → ((G then H).parse (a ++ b) ≡ Ok (y, b)) ⊎ Late ((G then H).parse (a ++ b)) (suc (length b))
+    again_ok : (a : List T) (y : B) (b a1 a2 : List T) (x : A) → a ≡ a1 ++ a2 → (H x).reads a2 y → sees K (m2 x y) b ≡ false → (G.parse (a1 ++ (a2 ++ b)) ≡ Ok (x, a2 ++ b)) ⊎ Late (G.parse (a1 ++ (a2 ++ b))) (suc (length (a2 ++ b)))
+        → ((G then H).parse (a ++ b) ≡ Ok (y, b)) ⊎ Late ((G then H).parse (a ++ b)) (suc (length b))
     again_ok a y b a1 a2 x e r s (inl l1) = rw (e, append_assoc a1 a2 b, l1) ((h x).again a2 y b r s)
     again_ok a y b a1 a2 x e r s (inr w) = let q = w.is in inr (record { label = w.label; left = w.left; enough = let k = w.enough in omega (arith, length-append a2 b); is = rw (e, append_assoc a1 a2 b, q) refl })
 
@@ -284,7 +286,8 @@ module _ {T : Type 0} (K : T → ℕ) where
     late_clear x [] t u b = begins_apart x t [] b
     late_clear x (v ∷ c) t u b = begins_apart x v (c ++ (t ∷ [])) b
 
-    lates_ok : (i : ℕ) (a : List T) (t : T) (u a1 a2 : List T) (x : A) → a ≡ a1 ++ a2 → (H x).late i a2 t → (G.parse (a1 ++ (a2 ++ (t ∷ u))) ≡ Ok (x, a2 ++ (t ∷ u))) ⊎ Late (G.parse (a1 ++ (a2 ++ (t ∷ u)))) (suc (length (a2 ++ (t ∷ u)))) → Late ((G then H).parse (a ++ (t ∷ u))) (suc (length u))
+    lates_ok : (i : ℕ) (a : List T) (t : T) (u a1 a2 : List T) (x : A) → a ≡ a1 ++ a2 → (H x).late i a2 t → (G.parse (a1 ++ (a2 ++ (t ∷ u))) ≡ Ok (x, a2 ++ (t ∷ u))) ⊎ Late (G.parse (a1 ++ (a2 ++ (t ∷ u)))) (suc (length (a2 ++ (t ∷ u))))
+        → Late ((G then H).parse (a ++ (t ∷ u))) (suc (length u))
     lates_ok i a t u a1 a2 x e l (inl l1) = rw (e, append_assoc a1 a2 (t ∷ u), l1) ((h x).lates i a2 t u l)
     lates_ok i a t u a1 a2 x e l (inr w) = let q = w.is in record { label = w.label; left = w.left; enough = let k = w.enough in omega (arith, length-append a2 (t ∷ u)); is = rw (e, append_assoc a1 a2 (t ∷ u), q) refl }
 
@@ -402,7 +405,8 @@ module _ {T : Type 0} (K : T → ℕ) where
         let begun = subst (λ (w : A). (H w).begun (c ++ (t ∷ u))) (sym v) (subst (λ (w : List T). (H x').begun w) q bh) in
         within_among (m2 x y) (more y) (K t) (fit.late x y) ((h x).goes_on c y t u s begun)
 
-    past_parts : (b c b' c' : List T) (x x' : A) (y : B) (t : T) (u : List T) → G.reads b x → G.reads b' x' → (H x).reads c y → (H x').begun c' → ((e : List T) × (b' ≡ b ++ e) × (c ++ (t ∷ u) ≡ e ++ c')) ⊎ ((e : List T) × (b ≡ b' ++ e) × (c' ≡ e ++ (c ++ (t ∷ u)))) → among (K t) (more y) ≡ true
+    past_parts : (b c b' c' : List T) (x x' : A) (y : B) (t : T) (u : List T) → G.reads b x → G.reads b' x' → (H x).reads c y → (H x').begun c' → ((e : List T) × (b' ≡ b ++ e) × (c ++ (t ∷ u) ≡ e ++ c'))
+        ⊎ ((e : List T) × (b ≡ b' ++ e) × (c' ≡ e ++ (c ++ (t ∷ u)))) → among (K t) (more y) ≡ true
     past_parts b c b' c' x x' y t u r r' s bh (inl ([], p, q)) = past_second b b' c c' x x' y t u (sym (p ∙ append-nil b)) (sym q) r r' s bh
     past_parts b c b' c' x x' y t u r r' s bh (inl (v ∷ e, p, q)) = past_first b c x y t u v e (e ++ c') r s (subst (λ (w : List T). G.begun w) p (g.begins b' x' r')) q
     past_parts b c b' c' x x' y t u r r' s bh (inr ([], p, q)) = past_second b b' c c' x x' y t u (p ∙ append-nil b') q r r' s bh
@@ -455,7 +459,8 @@ module _ {T : Type 0} (K : T → ℕ) where
 
   -- ---- alternatives
 
-  module _ {A : Type 0} (ks : List ℕ) (G H : Syntax T A) (n1 : Bool) (f1 : List ℕ) (m1 : A → List ℕ) (n2 : Bool) (f2 : List ℕ) (m2 : A → List ℕ) (null : Bool) (first : List ℕ) (more : A → List ℕ) (g : IsExact K G n1 f1 m1) (h : IsExact K H n2 f2 m2) (R : A → Type 0) (ends : (x : A) → H.reads [] x → R x) (fit : ChoiceFits A R ks n1 f1 m1 n2 f2 m2 null first more) where
+  module _ {A : Type 0} (ks : List ℕ) (G H : Syntax T A) (n1 : Bool) (f1 : List ℕ) (m1 : A → List ℕ) (n2 : Bool) (f2 : List ℕ) (m2 : A → List ℕ) (null : Bool) (first : List ℕ) (more : A
+      → List ℕ) (g : IsExact K G n1 f1 m1) (h : IsExact K H n2 f2 m2) (R : A → Type 0) (ends : (x : A) → H.reads [] x → R x) (fit : ChoiceFits A R ks n1 f1 m1 n2 f2 m2 null first more) where
     same_sight : (ts front rest u : List T) → ts ≡ front ++ rest → SameHead rest u → sees K ks (front ++ u) ≡ sees K ks ts
     same_sight ts front rest u e s = rw e (sym (sees_same K ks (front ++ rest) (front ++ u) (same_head front rest u s)))
 
@@ -604,7 +609,8 @@ module _ {T : Type 0} (K : T → ℕ) where
 
   -- ---- larger sets do no harm
 
-  pub widen : {A : Type 0} (G : Syntax T A) (n1 : Bool) (f1 : List ℕ) (m1 : A → List ℕ) (null : Bool) (first : List ℕ) (more : A → List ℕ) → IsExact K G n1 f1 m1 → (n1 ≡ true → null ≡ true) → within f1 first ≡ true → ((x : A) → within (m1 x) (more x) ≡ true) → IsExact K G null first more
+  pub widen : {A : Type 0} (G : Syntax T A) (n1 : Bool) (f1 : List ℕ) (m1 : A → List ℕ) (null : Bool) (first : List ℕ) (more : A → List ℕ) → IsExact K G n1 f1 m1 → (n1 ≡ true → null ≡ true) → within f1 first ≡ true
+      → ((x : A) → within (m1 x) (more x) ≡ true) → IsExact K G null first more
   widen G n1 f1 m1 null first more g n f m = record {
     takes = g.takes;
     fails = g.fails;

@@ -29,7 +29,8 @@ turns_fit ks f m e =
     record { clash = λ x y. p.0; taken = λ x. p.1; over = λ x y. within_right ks m; greedy = λ x. within_left ks m }
 
 module _ {T : Type 0} {K : T → ℕ} where
-  pub seq : {A B : Type 0} {n : ℕ} {G G' : Syntax T A} {H H' : A → Syntax T B} {n1 n2 : Bool} {f1 m1 f2 m2 : List ℕ} → IsGood K n G G' n1 f1 (λ _. m1) → ((x : A) → IsGood K n (H x) (H' x) n2 f2 (λ _. m2)) → apart f2 m1 ≡ true → IsGood K n (G then H) (G' then H') (and n1 n2) (f1 ++ empties n1 f2) (λ _. m2 ++ empties n2 m1)
+  pub seq : {A B : Type 0} {n : ℕ} {G G' : Syntax T A} {H H' : A → Syntax T B} {n1 n2 : Bool} {f1 m1 f2 m2 : List ℕ} → IsGood K n G G' n1 f1 (λ _. m1) → ((x : A) → IsGood K n (H x) (H' x) n2 f2 (λ _. m2)) → apart f2 m1 ≡ true
+      → IsGood K n (G then H) (G' then H') (and n1 n2) (f1 ++ empties n1 f2) (λ _. m2 ++ empties n2 m1)
   seq {A} {B} {n} {G} {G'} {H} {H'} {n1} {n2} {f1} {m1} {f2} {m2} g h e =
       then_good K n G G' H H' n1 f1 (λ _. m1) n2 (λ _. f2) (λ _ _. m2) (and n1 n2) (f1 ++ empties n1 f2) (λ _. m2 ++ empties n2 m1) (λ _ _. Unit {0}) (λ _ _ _. tt) (λ _ _ _. tt) (record {
         clash = λ x. e;
@@ -41,7 +42,8 @@ module _ {T : Type 0} {K : T → ℕ} where
       }) g h
 
   -- behind a token
-  pub after : {A B : Type 0} {n : ℕ} {G G' : Syntax T A} {H H' : A → Syntax T B} {n2 : Bool} {f1 m1 f2 m2 : List ℕ} → IsGood K (suc n) G G' false f1 (λ _. m1) → ((x : A) → IsGood K n (H x) (H' x) n2 f2 (λ _. m2)) → apart f2 m1 ≡ true → IsGood K (suc n) (G then H) (G' then H') false f1 (λ _. m2 ++ empties n2 m1)
+  pub after : {A B : Type 0} {n : ℕ} {G G' : Syntax T A} {H H' : A → Syntax T B} {n2 : Bool} {f1 m1 f2 m2 : List ℕ} → IsGood K (suc n) G G' false f1 (λ _. m1) → ((x : A) → IsGood K n (H x) (H' x) n2 f2 (λ _. m2)) → apart f2 m1 ≡ true
+      → IsGood K (suc n) (G then H) (G' then H') false f1 (λ _. m2 ++ empties n2 m1)
   after {A} {B} {n} {G} {G'} {H} {H'} {n2} {f1} {m1} {f2} {m2} g h e =
       after_good K n G G' H H' f1 (λ _. m1) n2 (λ _. f2) (λ _ _. m2) f1 (λ _. m2 ++ empties n2 m1) (λ _ _. Unit {0}) (λ _ _ _. tt) (λ _ _ _. tt) (record {
         clash = λ x. e;
@@ -52,7 +54,8 @@ module _ {T : Type 0} {K : T → ℕ} where
         empty = λ t u. absurd cc;
       }) g h
 
-  pub either : {A : Type 0} {n : ℕ} (ks : List ℕ) {G G' H H' : Syntax T A} {n2 : Bool} {f1 m1 f2 m2 : List ℕ} → IsGood K n G G' false f1 (λ _. m1) → IsGood K n H H' n2 f2 (λ _. m2) → and (within f1 ks) (apart f2 ks) ≡ true → IsGood K n (choice K ks G H) (choice K ks G' H') n2 (f1 ++ f2) (λ _. m1 ++ (m2 ++ empties n2 ks))
+  pub either : {A : Type 0} {n : ℕ} (ks : List ℕ) {G G' H H' : Syntax T A} {n2 : Bool} {f1 m1 f2 m2 : List ℕ} → IsGood K n G G' false f1 (λ _. m1) → IsGood K n H H' n2 f2 (λ _. m2) → and (within f1 ks) (apart f2 ks) ≡ true
+      → IsGood K n (choice K ks G H) (choice K ks G' H') n2 (f1 ++ f2) (λ _. m1 ++ (m2 ++ empties n2 ks))
   either {A} {n} ks {G} {G'} {H} {H'} {n2} {f1} {m1} {f2} {m2} g h e =
       let p = cond_true (within f1 ks) (apart f2 ks) e in
       choice_good K n ks G G' H H' false f1 (λ _. m1) n2 f2 (λ _. m2) n2 (f1 ++ f2) (λ _. m1 ++ (m2 ++ empties n2 ks)) (λ _. Unit {0}) (λ _ _. tt) (λ _ _. tt) (record {
@@ -68,12 +71,14 @@ module _ {T : Type 0} {K : T → ℕ} where
       }) g h
 
   -- a repetition, where the kinds are the same at each turn
-  pub again_and_again : {A : Type 0} {n : ℕ} (ks : List ℕ) {f m : List ℕ} {step step' : A → Syntax T A} → ((x : A) → IsGood K n (step x) (step' x) false f (λ _. m)) → and (apart ks m) (within f ks) ≡ true → (x : A) → IsGood K n (many K (λ _. ks) step x) (many K (λ _. ks) step' x) true ks (λ _. ks ++ m)
+  pub again_and_again : {A : Type 0} {n : ℕ} (ks : List ℕ) {f m : List ℕ} {step step' : A → Syntax T A} → ((x : A) → IsGood K n (step x) (step' x) false f (λ _. m)) → and (apart ks m) (within f ks) ≡ true → (x : A)
+      → IsGood K n (many K (λ _. ks) step x) (many K (λ _. ks) step' x) true ks (λ _. ks ++ m)
   again_and_again {A} {n} ks {f} {m} {step} {step'} g e x =
       many_good K (λ _. ks) (λ _. f) (λ _ _. m) (λ _. ks ++ m) (turns_fit ks f m e) step step' n g x
 
   -- a repetition, where they depend on the value before each turn
-  pub again_and_again_to : {A : Type 0} {n : ℕ} (ks : A → List ℕ) {f : A → List ℕ} {m : A → A → List ℕ} (more : A → List ℕ) {step step' : A → Syntax T A} → ((x : A) → IsGood K n (step x) (step' x) false (f x) (m x)) → LoopFits A ks f m more → (x : A) → IsGood K n (many K ks step x) (many K ks step' x) true (ks x) more
+  pub again_and_again_to : {A : Type 0} {n : ℕ} (ks : A → List ℕ) {f : A → List ℕ} {m : A → A → List ℕ} (more : A → List ℕ) {step step' : A → Syntax T A} → ((x : A) → IsGood K n (step x) (step' x) false (f x) (m x)) → LoopFits A ks f m more → (x : A)
+      → IsGood K n (many K ks step x) (many K ks step' x) true (ks x) more
   again_and_again_to {A} {n} ks {f} {m} more {step} {step'} g fit x = many_good K ks f m more fit step step' n g x
 
   -- larger sets do no harm
@@ -126,7 +131,8 @@ module _ {T : Type 0} {K : T → ℕ} where
   too_deep {A} {n} label ks {G} {more} g o = same_good K n (deep label K ks G) false ks more (deep_exact K label ks G more g o)
 
   -- at most so many tokens of a production without limits
-  pub counted : {A : Type 0} {n : ℕ} (label most : ℕ) {G H : Syntax T A} {null : Bool} {first : List ℕ} {more : A → List ℕ} → Unlimited G → Unlimited H → IsGood K n G H null first more → IsGood K n (at_most label most G) (at_most label most H) null first more
+  pub counted : {A : Type 0} {n : ℕ} (label most : ℕ) {G H : Syntax T A} {null : Bool} {first : List ℕ} {more : A → List ℕ} → Unlimited G → Unlimited H → IsGood K n G H null first more
+      → IsGood K n (at_most label most G) (at_most label most H) null first more
   counted {A} {n} label most {G} {H} {null} {first} {more} free free' g = at_most_good K label most n G H null first more free free' g
 
   -- at the bound 0 nothing is read
@@ -146,7 +152,8 @@ module _ {T : Type 0} {K : T → ℕ} where
 
   -- ---- recursion
 
-  module _ {S A : Type 0} (null : Bool) (first : List ℕ) (more : A → List ℕ) (F : (S → Syntax T A) → S → Syntax T A) (step : (k : ℕ) (U U' : S → Syntax T A) → ((s : S) → IsGood K k (U s) (U' s) null first more) → (s : S) → IsGood K (suc k) (F U s) (F U' s) null first more) where
+  module _ {S A : Type 0} (null : Bool) (first : List ℕ) (more : A → List ℕ) (F : (S → Syntax T A) → S → Syntax T A) (step : (k : ℕ) (U U' : S → Syntax T A) → ((s : S) → IsGood K k (U s) (U' s) null first more) → (s : S)
+      → IsGood K (suc k) (F U s) (F U' s) null first more) where
     nothing : (n : ℕ) → IsGood K n none none null first more
     nothing n = same_good K n none null first more (widen K none false [] (λ _. []) null first more (none_exact K) (λ e. absurd cc) refl (λ x. refl))
 
@@ -162,7 +169,9 @@ module _ {T : Type 0} {K : T → ℕ} where
     knot_is s ts = (step (length ts) (knot_at F (length ts)) (knot F) (λ u. limit_good K (λ n. knot_at F n u) null first more (λ n. knot_grows n u) (length ts)) s).agree ts (omega arith)
 
   -- recursion inside a production that itself depends on one still open
-  module _ {S A : Type 0} (n : ℕ) (null : Bool) (first : List ℕ) (more : A → List ℕ) (F F' : (S → Syntax T A) → S → Syntax T A) (step : (k : ℕ) (U U' : S → Syntax T A) → ((s : S) → IsGood K k (U s) (U' s) null first more) → (s : S) → IsGood K (suc k) (F U s) (F U' s) null first more) (step' : (k : ℕ) (U U' : S → Syntax T A) → ((s : S) → IsGood K k (U s) (U' s) null first more) → (s : S) → IsGood K (suc k) (F' U s) (F' U' s) null first more) (both : (U U' : S → Syntax T A) → ((s : S) → IsGood K n (U s) (U' s) null first more) → (s : S) → IsGood K n (F U s) (F' U' s) null first more) where
+  module _ {S A : Type 0} (n : ℕ) (null : Bool) (first : List ℕ) (more : A → List ℕ) (F F' : (S → Syntax T A) → S → Syntax T A) (step : (k : ℕ) (U U' : S → Syntax T A) → ((s : S) → IsGood K k (U s) (U' s) null first more) → (s : S)
+      → IsGood K (suc k) (F U s) (F U' s) null first more) (step' : (k : ℕ) (U U' : S → Syntax T A) → ((s : S) → IsGood K k (U s) (U' s) null first more) → (s : S) → IsGood K (suc k) (F' U s) (F' U' s) null first more) (both : (U U' : S → Syntax T A)
+      → ((s : S) → IsGood K n (U s) (U' s) null first more) → (s : S) → IsGood K n (F U s) (F' U' s) null first more) where
     at_both : (k : ℕ) (s : S) → IsGood K n (knot_at F k s) (knot_at F' k s) null first more
     at_both zero s = nothing null first more F step n
     at_both (suc k) s = both (knot_at F k) (knot_at F' k) (at_both k) s
@@ -182,27 +191,32 @@ module _ {T : Type 0} {K : T → ℕ} where
 
   -- ---- one turn of a repetition
 
-  pub turn : {A : Type 0} (ks : List ℕ) {f m : List ℕ} (step : A → Syntax T A) → ((x : A) → IsExact K (step x) false f (λ _. m)) → and (apart ks m) (within f ks) ≡ true → (x y : A) (ts rest : List T) → sees K ks ts ≡ true → (step x).parse ts ≡ Ok (y, rest) → (many K (λ _. ks) step x).parse ts ≡ (many K (λ _. ks) step y).parse rest
+  pub turn : {A : Type 0} (ks : List ℕ) {f m : List ℕ} (step : A → Syntax T A) → ((x : A) → IsExact K (step x) false f (λ _. m)) → and (apart ks m) (within f ks) ≡ true → (x y : A) (ts rest : List T) → sees K ks ts ≡ true
+      → (step x).parse ts ≡ Ok (y, rest) → (many K (λ _. ks) step x).parse ts ≡ (many K (λ _. ks) step y).parse rest
   turn {A} ks {f} {m} step g e x y ts rest s r =
       many_is K (λ _. ks) (λ _. f) (λ _ _. m) (λ _. ks ++ m) (turns_fit ks f m e) step g x ts ∙ rw (s, r) refl
 
   -- a turn that fails, and no turn
-  pub turn_fails : {A : Type 0} (ks : List ℕ) {f m : List ℕ} (step : A → Syntax T A) → ((x : A) → IsExact K (step x) false f (λ _. m)) → and (apart ks m) (within f ks) ≡ true → (x : A) (ts : List T) (d : Fault) → sees K ks ts ≡ true → (step x).parse ts ≡ Err d → (many K (λ _. ks) step x).parse ts ≡ Err d
+  pub turn_fails : {A : Type 0} (ks : List ℕ) {f m : List ℕ} (step : A → Syntax T A) → ((x : A) → IsExact K (step x) false f (λ _. m)) → and (apart ks m) (within f ks) ≡ true → (x : A) (ts : List T) (d : Fault) → sees K ks ts ≡ true
+      → (step x).parse ts ≡ Err d → (many K (λ _. ks) step x).parse ts ≡ Err d
   turn_fails {A} ks {f} {m} step g e x ts d s r =
       many_is K (λ _. ks) (λ _. f) (λ _ _. m) (λ _. ks ++ m) (turns_fit ks f m e) step g x ts ∙ rw (s, r) refl
 
-  pub turn_ends : {A : Type 0} (ks : List ℕ) {f m : List ℕ} (step : A → Syntax T A) → ((x : A) → IsExact K (step x) false f (λ _. m)) → and (apart ks m) (within f ks) ≡ true → (x : A) (ts : List T) → sees K ks ts ≡ false → (many K (λ _. ks) step x).parse ts ≡ Ok (x, ts)
+  pub turn_ends : {A : Type 0} (ks : List ℕ) {f m : List ℕ} (step : A → Syntax T A) → ((x : A) → IsExact K (step x) false f (λ _. m)) → and (apart ks m) (within f ks) ≡ true → (x : A) (ts : List T) → sees K ks ts ≡ false
+      → (many K (λ _. ks) step x).parse ts ≡ Ok (x, ts)
   turn_ends {A} ks {f} {m} step g e x ts s =
       many_is K (λ _. ks) (λ _. f) (λ _ _. m) (λ _. ks ++ m) (turns_fit ks f m e) step g x ts ∙ rw s refl
 
   -- the same, where the kinds depend on the value
-  pub turn_to : {A : Type 0} (ks : A → List ℕ) {f : A → List ℕ} {m : A → A → List ℕ} {more : A → List ℕ} (step : A → Syntax T A) → ((x : A) → IsExact K (step x) false (f x) (m x)) → LoopFits A ks f m more → (x y : A) (ts rest : List T) → sees K (ks x) ts ≡ true → (step x).parse ts ≡ Ok (y, rest) → (many K ks step x).parse ts ≡ (many K ks step y).parse rest
+  pub turn_to : {A : Type 0} (ks : A → List ℕ) {f : A → List ℕ} {m : A → A → List ℕ} {more : A → List ℕ} (step : A → Syntax T A) → ((x : A) → IsExact K (step x) false (f x) (m x)) → LoopFits A ks f m more → (x y : A) (ts rest : List T)
+      → sees K (ks x) ts ≡ true → (step x).parse ts ≡ Ok (y, rest) → (many K ks step x).parse ts ≡ (many K ks step y).parse rest
   turn_to {A} ks {f} {m} {more} step g fit x y ts rest s r = many_is K ks f m more fit step g x ts ∙ rw (s, r) refl
 
   -- ---- sets that depend on what was read
 
   -- what follows isn't empty
-  pub seq_to : {A B : Type 0} {n : ℕ} {G G' : Syntax T A} {H H' : A → Syntax T B} {f1 m1 f2 : List ℕ} {more : B → List ℕ} → IsGood K n G G' false f1 (λ _. m1) → ((x : A) → IsGood K n (H x) (H' x) false f2 more) → apart f2 m1 ≡ true → IsGood K n (G then H) (G' then H') false f1 more
+  pub seq_to : {A B : Type 0} {n : ℕ} {G G' : Syntax T A} {H H' : A → Syntax T B} {f1 m1 f2 : List ℕ} {more : B → List ℕ} → IsGood K n G G' false f1 (λ _. m1) → ((x : A) → IsGood K n (H x) (H' x) false f2 more) → apart f2 m1 ≡ true
+      → IsGood K n (G then H) (G' then H') false f1 more
   seq_to {A} {B} {n} {G} {G'} {H} {H'} {f1} {m1} {f2} {more} g h e =
       then_good K n G G' H H' false f1 (λ _. m1) false (λ _. f2) (λ _ y. more y) false f1 more (λ _ _. Unit {0}) (λ _ _ _. tt) (λ _ _ _. tt) (record {
         clash = λ x. e;
@@ -214,7 +228,8 @@ module _ {T : Type 0} {K : T → ℕ} where
       }) g h
 
   -- the same, behind a token
-  pub after_to : {A B : Type 0} {n : ℕ} {G G' : Syntax T A} {H H' : A → Syntax T B} {f1 m1 f2 : List ℕ} {more : B → List ℕ} → IsGood K (suc n) G G' false f1 (λ _. m1) → ((x : A) → IsGood K n (H x) (H' x) false f2 more) → apart f2 m1 ≡ true → IsGood K (suc n) (G then H) (G' then H') false f1 more
+  pub after_to : {A B : Type 0} {n : ℕ} {G G' : Syntax T A} {H H' : A → Syntax T B} {f1 m1 f2 : List ℕ} {more : B → List ℕ} → IsGood K (suc n) G G' false f1 (λ _. m1) → ((x : A) → IsGood K n (H x) (H' x) false f2 more) → apart f2 m1 ≡ true
+      → IsGood K (suc n) (G then H) (G' then H') false f1 more
   after_to {A} {B} {n} {G} {G'} {H} {H'} {f1} {m1} {f2} {more} g h e =
       after_good K n G G' H H' f1 (λ _. m1) false (λ _. f2) (λ _ y. more y) f1 more (λ _ _. Unit {0}) (λ _ _ _. tt) (λ _ _ _. tt) (record {
         clash = λ x. e;
@@ -226,7 +241,8 @@ module _ {T : Type 0} {K : T → ℕ} where
       }) g h
 
   -- a value made of what was read
-  pub made : {A B : Type 0} {n : ℕ} {G G' : Syntax T A} {f1 : List ℕ} {m1 : A → List ℕ} {more : B → List ℕ} (f : A → B) → IsGood K n G G' false f1 m1 → ((x : A) → within (m1 x) (more (f x)) ≡ true) → IsGood K n (G then λ x. gives (f x)) (G' then λ x. gives (f x)) false f1 more
+  pub made : {A B : Type 0} {n : ℕ} {G G' : Syntax T A} {f1 : List ℕ} {m1 : A → List ℕ} {more : B → List ℕ} (f : A → B) → IsGood K n G G' false f1 m1 → ((x : A) → within (m1 x) (more (f x)) ≡ true)
+      → IsGood K n (G then λ x. gives (f x)) (G' then λ x. gives (f x)) false f1 more
   made {A} {B} {n} {G} {G'} {f1} {m1} {more} f g e =
       then_good K n G G' (λ x. gives (f x)) (λ x. gives (f x)) false f1 m1 true (λ _. []) (λ _ _. []) false f1 more (λ x y. f x ≡ y) (λ x y r. r.1) (λ x y r. r.1) (record {
         clash = λ x. refl;
@@ -238,7 +254,9 @@ module _ {T : Type 0} {K : T → ℕ} where
       }) g (λ x. same_good K n (gives (f x)) true [] (λ _. []) (gives_exact K (f x)))
 
   -- alternatives of which none is empty
-  pub either_to : {A : Type 0} {n : ℕ} (ks : List ℕ) {G G' H H' : Syntax T A} {f1 f2 : List ℕ} {m1 m2 : A → List ℕ} {first : List ℕ} {more : A → List ℕ} → IsGood K n G G' false f1 m1 → IsGood K n H H' false f2 m2 → and (within f1 ks) (and (apart f2 ks) (and (within f1 first) (within f2 first))) ≡ true → ((x : A) → within (m1 x) (more x) ≡ true) → ((x : A) → within (m2 x) (more x) ≡ true) → IsGood K n (choice K ks G H) (choice K ks G' H') false first more
+  pub either_to : {A : Type 0} {n : ℕ} (ks : List ℕ) {G G' H H' : Syntax T A} {f1 f2 : List ℕ} {m1 m2 : A → List ℕ} {first : List ℕ} {more : A → List ℕ} → IsGood K n G G' false f1 m1 → IsGood K n H H' false f2 m2
+      → and (within f1 ks) (and (apart f2 ks) (and (within f1 first) (within f2 first))) ≡ true → ((x : A) → within (m1 x) (more x) ≡ true) → ((x : A) → within (m2 x) (more x) ≡ true)
+      → IsGood K n (choice K ks G H) (choice K ks G' H') false first more
   either_to {A} {n} ks {G} {G'} {H} {H'} {f1} {f2} {m1} {m2} {first} {more} g h e o1 o2 =
       let p = cond_true (within f1 ks) _ e in
       let q = cond_true (apart f2 ks) _ p.1 in
@@ -256,7 +274,8 @@ module _ {T : Type 0} {K : T → ℕ} where
       }) g h
 
   -- an optional part behind which a given value stands
-  pub maybe_to : {A : Type 0} {n : ℕ} (ks : List ℕ) {G G' : Syntax T A} {f1 : List ℕ} {m1 : A → List ℕ} {more : A → List ℕ} (x : A) → IsGood K n G G' false f1 m1 → within f1 ks ≡ true → ((y : A) → within (m1 y) (more y) ≡ true) → within ks (more x) ≡ true → IsGood K n (choice K ks G (gives x)) (choice K ks G' (gives x)) true f1 more
+  pub maybe_to : {A : Type 0} {n : ℕ} (ks : List ℕ) {G G' : Syntax T A} {f1 : List ℕ} {m1 : A → List ℕ} {more : A → List ℕ} (x : A) → IsGood K n G G' false f1 m1 → within f1 ks ≡ true → ((y : A) → within (m1 y) (more y) ≡ true)
+      → within ks (more x) ≡ true → IsGood K n (choice K ks G (gives x)) (choice K ks G' (gives x)) true f1 more
   maybe_to {A} {n} ks {G} {G'} {f1} {m1} {more} x g e o k =
       choice_good K n ks G G' (gives x) (gives x) false f1 m1 true [] (λ _. []) true f1 more (λ y. x ≡ y) (λ y r. r.1) (λ y r. r.1) (record {
         solid = refl;
@@ -271,7 +290,8 @@ module _ {T : Type 0} {K : T → ℕ} where
       }) g (same_good K n (gives x) true [] (λ _. []) (gives_exact K x))
 
   -- what follows may be empty, and then gives f of the value before it
-  pub tail_to : {A B : Type 0} {n : ℕ} {G G' : Syntax T A} {H H' : A → Syntax T B} {f1 : List ℕ} {m1 : A → List ℕ} {f2 : A → List ℕ} {more : B → List ℕ} (f : A → B) → IsGood K n G G' false f1 m1 → ((x : A) → IsGood K n (H x) (H' x) true (f2 x) more) → ((x : A) (y : B) → (H x).reads [] y → f x ≡ y) → ((x : A) (y : B) → (H' x).reads [] y → f x ≡ y) → ((x : A) → apart (f2 x) (m1 x) ≡ true) → ((x : A) → within (m1 x) (more (f x)) ≡ true) → IsGood K n (G then H) (G' then H') false f1 more
+  pub tail_to : {A B : Type 0} {n : ℕ} {G G' : Syntax T A} {H H' : A → Syntax T B} {f1 : List ℕ} {m1 : A → List ℕ} {f2 : A → List ℕ} {more : B → List ℕ} (f : A → B) → IsGood K n G G' false f1 m1 → ((x : A) → IsGood K n (H x) (H' x) true (f2 x) more)
+      → ((x : A) (y : B) → (H x).reads [] y → f x ≡ y) → ((x : A) (y : B) → (H' x).reads [] y → f x ≡ y) → ((x : A) → apart (f2 x) (m1 x) ≡ true) → ((x : A) → within (m1 x) (more (f x)) ≡ true) → IsGood K n (G then H) (G' then H') false f1 more
   tail_to {A} {B} {n} {G} {G'} {H} {H'} {f1} {m1} {f2} {more} f g h ends ends' c o =
       then_good K n G G' H H' false f1 m1 true f2 (λ _. more) false f1 more (λ x y. f x ≡ y) ends ends' (record {
         clash = c;

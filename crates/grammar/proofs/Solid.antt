@@ -51,7 +51,8 @@ module _ {T : Type 0} {K : T → ℕ} where
   pub lower : {A : Type 0} {n : ℕ} {G : Syntax T A} {lead null : Bool} {first : List ℕ} {more : A → List ℕ} (k : ℕ) → k ≤ n → IsSolid K n G lead null first more → IsSolid K k G lead null first more
   lower k le g = record { exact = g.exact; led = g.led; opens = λ h t ts lt. g.opens h t ts (omega arith); cut = λ ts m f r lt. g.cut ts m f r (omega arith) }
 
-  pub as_parsed : {A : Type 0} {n : ℕ} {G G' : Syntax T A} {lead null : Bool} {first : List ℕ} {more : A → List ℕ} → ((ts : List T) → G'.parse ts ≡ G.parse ts) → IsExact K G' null first more → IsSolid K n G lead null first more → IsSolid K n G' lead null first more
+  pub as_parsed : {A : Type 0} {n : ℕ} {G G' : Syntax T A} {lead null : Bool} {first : List ℕ} {more : A → List ℕ} → ((ts : List T) → G'.parse ts ≡ G.parse ts) → IsExact K G' null first more → IsSolid K n G lead null first more
+      → IsSolid K n G' lead null first more
   as_parsed p e g = record {
     exact = e;
     led = g.led;
@@ -82,7 +83,8 @@ module _ {T : Type 0} {K : T → ℕ} where
   -- ---- a sequence
 
   -- tokens that were read are read alone
-  alone : {A : Type 0} (G : Syntax T A) (null : Bool) (first : List ℕ) (more : A → List ℕ) (a r : List T) (x : A) (y : A × List T) → IsExact K G null first more → G.parse (a ++ r) ≡ Ok y → (G.parse (a ++ []) ≡ Ok (x, [])) ⊎ Late (G.parse (a ++ [])) 1 → G.parse (a ++ []) ≡ Ok (x, [])
+  alone : {A : Type 0} (G : Syntax T A) (null : Bool) (first : List ℕ) (more : A → List ℕ) (a r : List T) (x : A) (y : A × List T) → IsExact K G null first more → G.parse (a ++ r) ≡ Ok y → (G.parse (a ++ []) ≡ Ok (x, [])) ⊎ Late (G.parse (a ++ [])) 1
+      → G.parse (a ++ []) ≡ Ok (x, [])
   alone G null first more a r x y g e (inl p) = p
   alone G null first more a r x y g e (inr w) =
       let o = g.overs (a ++ []) w.label w.left w.is in
@@ -90,12 +92,15 @@ module _ {T : Type 0} {K : T → ℕ} where
       let same : a ++ r ≡ o.front ++ (o.token ∷ (o.rest ++ r)) = ap (λ (z : List T). z ++ r) (sym (append-nil a) ∙ o.parts) ∙ append_assoc o.front (o.token ∷ o.rest) r in
       absurd (let q : G.parse (a ++ r) ≡ Err (Over w.label (suc (length (o.rest ++ r)))) = ap G.parse same ∙ l in cc)
 
-  seq_cut : {A : Type 0} (G : Syntax T A) (n1 : Bool) (f1 : List ℕ) (m1 : A → List ℕ) (x : A) (front r1 f2 r : List T) → IsExact K G n1 f1 m1 → G.reads front x → ((u : List T) → SameHead r1 u → G.parse (front ++ u) ≡ Ok (x, u)) → r1 ≡ f2 ++ r → G.parse (front ++ f2) ≡ Ok (x, f2)
+  seq_cut : {A : Type 0} (G : Syntax T A) (n1 : Bool) (f1 : List ℕ) (m1 : A → List ℕ) (x : A) (front r1 f2 r : List T) → IsExact K G n1 f1 m1 → G.reads front x → ((u : List T) → SameHead r1 u → G.parse (front ++ u) ≡ Ok (x, u)) → r1 ≡ f2 ++ r
+      → G.parse (front ++ f2) ≡ Ok (x, f2)
   seq_cut G n1 f1 m1 x front r1 [] r g is local e = alone G n1 f1 m1 front r1 x (x, r1) g (local r1 (same_self r1)) (g.again front x [] is refl)
   seq_cut G n1 f1 m1 x front r1 (t ∷ f2) r g is local e = local (t ∷ f2) (rw e refl)
 
-  module _ {A B : Type 0} (G : Syntax T A) (H : A → Syntax T B) (l1 l2 n1 n2 : Bool) (f1 : List ℕ) (f2 : A → List ℕ) (m1 : A → List ℕ) (m2 : A → B → List ℕ) (null : Bool) (first : List ℕ) (more : B → List ℕ) (e : IsExact K (G then H) null first more) (same_first : l1 ≡ true → within first f1 ≡ true) (same_null : n1 ≡ false → null ≡ false) where
-    then_cut : (n k : ℕ) → IsSolid K n G l1 n1 f1 m1 → ((x : A) → IsSolid K k (H x) l2 n2 (f2 x) (m2 x)) → (ts : List T) (m : ℕ) (f r : List T) → length ts < n → ((x : A) (front rest : List T) → ts ≡ front ++ rest → G.reads front x → length rest < k) → (G then H).parse ts ≡ Err (At m) → ts ≡ f ++ r → m ≡ length r → (G then H).parse f ≡ Err (At 0)
+  module _ {A B : Type 0} (G : Syntax T A) (H : A → Syntax T B) (l1 l2 n1 n2 : Bool) (f1 : List ℕ) (f2 : A → List ℕ) (m1 : A → List ℕ) (m2 : A → B → List ℕ) (null : Bool) (first : List ℕ) (more : B
+      → List ℕ) (e : IsExact K (G then H) null first more) (same_first : l1 ≡ true → within first f1 ≡ true) (same_null : n1 ≡ false → null ≡ false) where
+    then_cut : (n k : ℕ) → IsSolid K n G l1 n1 f1 m1 → ((x : A) → IsSolid K k (H x) l2 n2 (f2 x) (m2 x)) → (ts : List T) (m : ℕ) (f r : List T) → length ts < n → ((x : A) (front rest : List T) → ts ≡ front ++ rest → G.reads front x → length rest < k)
+        → (G then H).parse ts ≡ Err (At m) → ts ≡ f ++ r → m ≡ length r → (G then H).parse f ≡ Err (At 0)
     then_cut n k g h ts m f r lt below q s l =
         elim (bind_err (G.parse ts) (λ x. (H x.0).parse x.1) (At m) q) [
           | inl e1 ↦ rw (g.cut ts m f r lt e1 s l) refl
@@ -110,7 +115,8 @@ module _ {T : Type 0} {K : T → ℕ} where
               rw (f-is, c1) c2
         ]
 
-    then_opens : (n k : ℕ) → IsSolid K n G l1 n1 f1 m1 → ((x : A) → IsSolid K k (H x) l2 n2 (f2 x) (m2 x)) → l1 ≡ true → (t : T) (ts : List T) → length (t ∷ ts) < n → among (K t) first ≡ true → (G then H).parse (t ∷ ts) ≡ Err (At (suc (length ts))) → ⊥
+    then_opens : (n k : ℕ) → IsSolid K n G l1 n1 f1 m1 → ((x : A) → IsSolid K k (H x) l2 n2 (f2 x) (m2 x)) → l1 ≡ true → (t : T) (ts : List T) → length (t ∷ ts) < n → among (K t) first ≡ true → (G then H).parse (t ∷ ts) ≡ Err (At (suc (length ts)))
+        → ⊥
     then_opens n k g h ld t ts lt a q =
         elim (bind_err (G.parse (t ∷ ts)) (λ x. (H x.0).parse x.1) (At (suc (length ts))) q) [
           | inl e1 ↦ g.opens ld t ts lt (within_among first f1 (K t) (same_first ld) a) e1
@@ -143,7 +149,8 @@ module _ {T : Type 0} {K : T → ℕ} where
 
   -- ---- alternatives
 
-  module _ {A : Type 0} (ks : List ℕ) (G H : Syntax T A) (l2 n2 : Bool) (f1 f2 : List ℕ) (m1 m2 : A → List ℕ) (null : Bool) (first : List ℕ) (more : A → List ℕ) (e : IsExact K (choice K ks G H) null first more) (taken : within f1 ks ≡ true) (exactly : within ks f1 ≡ true) (clash : apart f2 ks ≡ true) (same_first : within first (f1 ++ f2) ≡ true) (led : l2 ≡ true → null ≡ false) (n : ℕ) (g : IsSolid K n G true false f1 m1) (h : IsSolid K n H l2 n2 f2 m2) where
+  module _ {A : Type 0} (ks : List ℕ) (G H : Syntax T A) (l2 n2 : Bool) (f1 f2 : List ℕ) (m1 m2 : A → List ℕ) (null : Bool) (first : List ℕ) (more : A → List ℕ) (e : IsExact K (choice K ks G H) null first more) (taken : within f1 ks ≡ true)
+      (exactly : within ks f1 ≡ true) (clash : apart f2 ks ≡ true) (same_first : within first (f1 ++ f2) ≡ true) (led : l2 ≡ true → null ≡ false) (n : ℕ) (g : IsSolid K n G true false f1 m1) (h : IsSolid K n H l2 n2 f2 m2) where
     sees_front : (t : T) (f r ts : List T) → ts ≡ (t ∷ f) ++ r → sees K ks (t ∷ f) ≡ sees K ks ts
     sees_front t f r ts s = rw s refl
 
@@ -180,21 +187,26 @@ module _ {T : Type 0} {K : T → ℕ} where
 
   -- ---- with sets that follow from the parts
 
-  pub seq_solid : {A B : Type 0} {n : ℕ} {G : Syntax T A} {H : A → Syntax T B} {l1 l2 n1 n2 : Bool} {f1 m1 f2 m2 : List ℕ} → IsSolid K n G l1 n1 f1 (λ _. m1) → ((x : A) → IsSolid K n (H x) l2 n2 f2 (λ _. m2)) → apart f2 m1 ≡ true → IsSolid K n (G then H) l1 (and n1 n2) (f1 ++ empties n1 f2) (λ _. m2 ++ empties n2 m1)
+  pub seq_solid : {A B : Type 0} {n : ℕ} {G : Syntax T A} {H : A → Syntax T B} {l1 l2 n1 n2 : Bool} {f1 m1 f2 m2 : List ℕ} → IsSolid K n G l1 n1 f1 (λ _. m1) → ((x : A) → IsSolid K n (H x) l2 n2 f2 (λ _. m2)) → apart f2 m1 ≡ true
+      → IsSolid K n (G then H) l1 (and n1 n2) (f1 ++ empties n1 f2) (λ _. m2 ++ empties n2 m1)
   seq_solid {A} {B} {n} {G} {H} {l1} {l2} {n1} {n2} {f1} {m1} {f2} {m2} g h c =
-      then_solid G H l1 l2 n1 n2 f1 (λ _. f2) (λ _. m1) (λ _ _. m2) (and n1 n2) (f1 ++ empties n1 f2) (λ _. m2 ++ empties n2 m1) (seq {n = 0} (same g.exact) (λ x. same (h x).exact) c).here (λ ld. first_of_led f1 f2 n1 (g.led ld)) (and_false n1 n2) n g h
+      then_solid G H l1 l2 n1 n2 f1 (λ _. f2) (λ _. m1) (λ _ _. m2) (and n1 n2) (f1 ++ empties n1 f2) (λ _. m2 ++ empties n2 m1) (seq {n = 0} (same g.exact) (λ x. same (h x).exact) c).here (λ ld. first_of_led f1 f2 n1 (g.led ld))
+      (and_false n1 n2) n g h
 
-  pub behind : {A B : Type 0} {n : ℕ} {G : Syntax T A} {H : A → Syntax T B} {l2 n2 : Bool} {f1 m1 f2 m2 : List ℕ} → IsSolid K (suc n) G true false f1 (λ _. m1) → ((x : A) → IsSolid K n (H x) l2 n2 f2 (λ _. m2)) → apart f2 m1 ≡ true → IsSolid K (suc n) (G then H) true false (f1 ++ []) (λ _. m2 ++ empties n2 m1)
+  pub behind : {A B : Type 0} {n : ℕ} {G : Syntax T A} {H : A → Syntax T B} {l2 n2 : Bool} {f1 m1 f2 m2 : List ℕ} → IsSolid K (suc n) G true false f1 (λ _. m1) → ((x : A) → IsSolid K n (H x) l2 n2 f2 (λ _. m2)) → apart f2 m1 ≡ true
+      → IsSolid K (suc n) (G then H) true false (f1 ++ []) (λ _. m2 ++ empties n2 m1)
   behind {A} {B} {n} {G} {H} {l2} {n2} {f1} {m1} {f2} {m2} g h c =
       after_solid G H true l2 false n2 f1 (λ _. f2) (λ _. m1) (λ _ _. m2) false (f1 ++ []) (λ _. m2 ++ empties n2 m1) (seq {n = 0} (same g.exact) (λ x. same (h x).exact) c).here (λ ld. first_of_led f1 f2 false refl) (and_false false n2) n refl g h
 
-  pub either_solid : {A : Type 0} {n : ℕ} (ks : List ℕ) {G H : Syntax T A} {l2 n2 : Bool} {f1 m1 f2 m2 : List ℕ} → IsSolid K n G true false f1 (λ _. m1) → IsSolid K n H l2 n2 f2 (λ _. m2) → and (within f1 ks) (apart f2 ks) ≡ true → within ks f1 ≡ true → IsSolid K n (choice K ks G H) l2 n2 (f1 ++ f2) (λ _. m1 ++ (m2 ++ empties n2 ks))
+  pub either_solid : {A : Type 0} {n : ℕ} (ks : List ℕ) {G H : Syntax T A} {l2 n2 : Bool} {f1 m1 f2 m2 : List ℕ} → IsSolid K n G true false f1 (λ _. m1) → IsSolid K n H l2 n2 f2 (λ _. m2) → and (within f1 ks) (apart f2 ks) ≡ true
+      → within ks f1 ≡ true → IsSolid K n (choice K ks G H) l2 n2 (f1 ++ f2) (λ _. m1 ++ (m2 ++ empties n2 ks))
   either_solid {A} {n} ks {G} {H} {l2} {n2} {f1} {m1} {f2} {m2} g h c x =
       let p = cond_true (within f1 ks) (apart f2 ks) c in
       choice_solid ks G H l2 n2 f1 f2 (λ _. m1) (λ _. m2) n2 (f1 ++ f2) (λ _. m1 ++ (m2 ++ empties n2 ks)) (either {n = 0} ks (same g.exact) (same h.exact) c).here p.0 x p.1 (within_self (f1 ++ f2)) (h.led) n g h
 
   -- the same kinds, in another order
-  pub listed : {A : Type 0} {n : ℕ} {G : Syntax T A} {lead null : Bool} {f1 m1 first more : List ℕ} → IsSolid K n G lead null f1 (λ _. m1) → and (within f1 first) (and (within first f1) (within m1 more)) ≡ true → IsSolid K n G lead null first (λ _. more)
+  pub listed : {A : Type 0} {n : ℕ} {G : Syntax T A} {lead null : Bool} {f1 m1 first more : List ℕ} → IsSolid K n G lead null f1 (λ _. m1) → and (within f1 first) (and (within first f1) (within m1 more)) ≡ true
+      → IsSolid K n G lead null first (λ _. more)
   listed {A} {n} {G} {lead} {null} {f1} {m1} {first} {more} g c =
       let p = cond_true (within f1 first) _ c in
       let q = cond_true (within first f1) (within m1 more) p.1 in
@@ -206,16 +218,29 @@ module _ {T : Type 0} {K : T → ℕ} where
       }
 
   -- a repetition
-  again_solid : {A : Type 0} (ks f m : List ℕ) (S : Syntax T A) (R : A → Syntax T A) (x : A) → within f ks ≡ true → within ks f ≡ true → (n : ℕ) → IsSolid K n (S then R) true false (f ++ []) (λ _. (ks ++ m) ++ m) → IsSolid K n (choice K ks (S then R) (gives x)) false true ks (λ _. ks ++ m)
+  again_solid : {A : Type 0} (ks f m : List ℕ) (S : Syntax T A) (R : A → Syntax T A) (x : A) → within f ks ≡ true → within ks f ≡ true → (n : ℕ) → IsSolid K n (S then R) true false (f ++ []) (λ _. (ks ++ m) ++ m)
+      → IsSolid K n (choice K ks (S then R) (gives x)) false true ks (λ _. ks ++ m)
   again_solid {A} ks f m S R x t o n g =
       let taken : within (f ++ []) ks ≡ true = rw append-nil t in
       let opened : within ks (f ++ []) ≡ true = rw append-nil o in
       let over : within ((ks ++ m) ++ m) (ks ++ m) ≡ true = within_both (ks ++ m) m (ks ++ m) (within_self (ks ++ m)) (within_right ks m) in
-      let fit : ChoiceFits A (λ _. Unit {0}) ks false (f ++ []) (λ _. (ks ++ m) ++ m) true [] (λ _. []) true ks (λ _. ks ++ m) = record { solid = refl; taken = taken; clash = refl; over1 = λ y. over; over2 = λ y. refl; greedy = λ y e _. within_left ks m; begin1 = taken; begin2 = refl; empty = λ e. refl } in
+      let fit : ChoiceFits A (λ _. Unit {0}) ks false (f ++ []) (λ _. (ks ++ m) ++ m) true [] (λ _. []) true ks (λ _. ks ++ m) = record {
+        solid = refl;
+        taken = taken;
+        clash = refl;
+        over1 = λ y. over;
+        over2 = λ y. refl;
+        greedy =
+            λ y e _. within_left ks m;
+        begin1 = taken;
+        begin2 = refl;
+        empty = λ e. refl;
+      } in
       let e = choice_exact K ks (S then R) (gives x) false (f ++ []) (λ _. (ks ++ m) ++ m) true [] (λ _. []) true ks (λ _. ks ++ m) g.exact (gives_exact K x) (λ _. Unit {0}) (λ _ _. tt) fit in
       choice_solid ks (S then R) (gives x) false true (f ++ []) [] (λ _. (ks ++ m) ++ m) (λ _. []) true ks (λ _. ks ++ m) e taken opened refl (within_joined ks (f ++ []) [] opened) (λ h. absurd cc) n g (gives_solid x)
 
-  pub many_solid : {A : Type 0} (ks : List ℕ) {f m : List ℕ} {step : A → Syntax T A} → and (apart ks m) (within f ks) ≡ true → within ks f ≡ true → (n : ℕ) → ((x : A) → IsSolid K n (step x) true false f (λ _. m)) → (x : A) → IsSolid K n (many K (λ _. ks) step x) false true ks (λ _. ks ++ m)
+  pub many_solid : {A : Type 0} (ks : List ℕ) {f m : List ℕ} {step : A → Syntax T A} → and (apart ks m) (within f ks) ≡ true → within ks f ≡ true → (n : ℕ) → ((x : A) → IsSolid K n (step x) true false f (λ _. m)) → (x : A)
+      → IsSolid K n (many K (λ _. ks) step x) false true ks (λ _. ks ++ m)
   many_solid {A} ks {f} {m} {step} c o zero g x = solid_zero false (λ h. absurd cc) (again_and_again {n = 0} ks (λ y. same (g y).exact) c x).here
   many_solid {A} ks {f} {m} {step} c o (suc n) g x =
       let p = cond_true (apart ks m) (within f ks) c in
@@ -227,12 +252,14 @@ module _ {T : Type 0} {K : T → ℕ} where
   -- ---- recursion
 
   -- what is read as its production says, if that is solid one token further wherever it is itself
-  pub knot_solid : {S A : Type 0} {G F : S → Syntax T A} {null : Bool} {first : List ℕ} {more : A → List ℕ} → null ≡ false → ((s : S) → IsExact K (G s) null first more) → ((s : S) (ts : List T) → (G s).parse ts ≡ (F s).parse ts) → ((n : ℕ) → ((s : S) → IsSolid K n (G s) true null first more) → (s : S) → IsSolid K (suc n) (F s) true null first more) → (n : ℕ) (s : S) → IsSolid K n (G s) true null first more
+  pub knot_solid : {S A : Type 0} {G F : S → Syntax T A} {null : Bool} {first : List ℕ} {more : A → List ℕ} → null ≡ false → ((s : S) → IsExact K (G s) null first more) → ((s : S) (ts : List T) → (G s).parse ts ≡ (F s).parse ts)
+      → ((n : ℕ) → ((s : S) → IsSolid K n (G s) true null first more) → (s : S) → IsSolid K (suc n) (F s) true null first more) → (n : ℕ) (s : S) → IsSolid K n (G s) true null first more
   knot_solid nn e p step zero s = solid_zero true (λ _. nn) (e s)
   knot_solid nn e p step (suc n) s = as_parsed (p s) (e s) (step n (λ u. knot_solid nn e p step n u) s)
 
   -- the same, up to a bound
-  pub knot_solid_to : {S A : Type 0} {G F : S → Syntax T A} {null : Bool} {first : List ℕ} {more : A → List ℕ} (top : ℕ) → null ≡ false → ((s : S) → IsExact K (G s) null first more) → ((s : S) (ts : List T) → (G s).parse ts ≡ (F s).parse ts) → ((n : ℕ) → n < top → ((s : S) → IsSolid K n (G s) true null first more) → (s : S) → IsSolid K (suc n) (F s) true null first more) → (n : ℕ) → n ≤ top → (s : S) → IsSolid K n (G s) true null first more
+  pub knot_solid_to : {S A : Type 0} {G F : S → Syntax T A} {null : Bool} {first : List ℕ} {more : A → List ℕ} (top : ℕ) → null ≡ false → ((s : S) → IsExact K (G s) null first more) → ((s : S) (ts : List T) → (G s).parse ts ≡ (F s).parse ts)
+      → ((n : ℕ) → n < top → ((s : S) → IsSolid K n (G s) true null first more) → (s : S) → IsSolid K (suc n) (F s) true null first more) → (n : ℕ) → n ≤ top → (s : S) → IsSolid K n (G s) true null first more
   knot_solid_to top nn e p step zero le s = solid_zero true (λ _. nn) (e s)
   knot_solid_to top nn e p step (suc n) le s = as_parsed (p s) (e s) (step n (omega arith) (λ u. knot_solid_to top nn e p step n (omega arith) u) s)
 
@@ -259,7 +286,11 @@ module _ {T : Type 0} {K : T → ℕ} where
   at_most_solid {A} {n} label most {G} {lead} {null} {first} {more} free g = record {
     exact = at_most_exact K label most G null first more g.exact free;
     led = g.led;
-    opens = λ ld t ts lt a q. elim (at_most_answer K label most G null first more g.exact (t ∷ ts)) [ inl p ↦ g.opens ld t ts lt a (sym p.1 ∙ q) | inr p ↦ let z : Err (Over label (length (t ∷ ts) - most)) ≡ Err (At (suc (length ts))) = sym p.1 ∙ q in cc ];
+    opens = λ ld t ts lt a q. elim (at_most_answer K label most G null first more g.exact (t ∷ ts)) [
+      | inl p ↦ g.opens ld t ts lt a (sym p.1 ∙ q)
+      | inr p ↦ let z : Err (Over label (length (t ∷ ts) - most)) ≡ Err (At (suc (length ts))) = sym p.1
+          ∙ q in cc
+    ];
     cut = λ ts m f r lt q s l.
         elim (at_most_answer K label most G null first more g.exact ts) [
           | inl p ↦
@@ -273,47 +304,57 @@ module _ {T : Type 0} {K : T → ℕ} where
 
   -- ---- sets that depend on what was read
 
-  pub seq_solid_to : {A B : Type 0} {n : ℕ} {G : Syntax T A} {H : A → Syntax T B} {l1 l2 : Bool} {f1 m1 f2 : List ℕ} {more : B → List ℕ} → IsSolid K n G l1 false f1 (λ _. m1) → ((x : A) → IsSolid K n (H x) l2 false f2 more) → apart f2 m1 ≡ true → IsSolid K n (G then H) l1 false f1 more
+  pub seq_solid_to : {A B : Type 0} {n : ℕ} {G : Syntax T A} {H : A → Syntax T B} {l1 l2 : Bool} {f1 m1 f2 : List ℕ} {more : B → List ℕ} → IsSolid K n G l1 false f1 (λ _. m1) → ((x : A) → IsSolid K n (H x) l2 false f2 more) → apart f2 m1 ≡ true
+      → IsSolid K n (G then H) l1 false f1 more
   seq_solid_to {A} {B} {n} {G} {H} {l1} {l2} {f1} {m1} {f2} {more} g h c =
       then_solid G H l1 l2 false false f1 (λ _. f2) (λ _. m1) (λ _. more) false f1 more (seq_to {n = 0} (same g.exact) (λ x. same (h x).exact) c).here (λ ld. within_self f1) (λ e. e) n g h
 
-  pub behind_to : {A B : Type 0} {n : ℕ} {G : Syntax T A} {H : A → Syntax T B} {l2 : Bool} {f1 m1 f2 : List ℕ} {more : B → List ℕ} → IsSolid K (suc n) G true false f1 (λ _. m1) → ((x : A) → IsSolid K n (H x) l2 false f2 more) → apart f2 m1 ≡ true → IsSolid K (suc n) (G then H) true false f1 more
+  pub behind_to : {A B : Type 0} {n : ℕ} {G : Syntax T A} {H : A → Syntax T B} {l2 : Bool} {f1 m1 f2 : List ℕ} {more : B → List ℕ} → IsSolid K (suc n) G true false f1 (λ _. m1) → ((x : A) → IsSolid K n (H x) l2 false f2 more) → apart f2 m1 ≡ true
+      → IsSolid K (suc n) (G then H) true false f1 more
   behind_to {A} {B} {n} {G} {H} {l2} {f1} {m1} {f2} {more} g h c =
       after_solid G H true l2 false false f1 (λ _. f2) (λ _. m1) (λ _. more) false f1 more (seq_to {n = 0} (same g.exact) (λ x. same (h x).exact) c).here (λ ld. within_self f1) (λ e. e) n refl g h
 
-  pub made_solid : {A B : Type 0} {n : ℕ} {G : Syntax T A} {l1 : Bool} {f1 : List ℕ} {m1 : A → List ℕ} {more : B → List ℕ} (f : A → B) → IsSolid K n G l1 false f1 m1 → ((x : A) → within (m1 x) (more (f x)) ≡ true) → IsSolid K n (G then λ x. gives (f x)) l1 false f1 more
+  pub made_solid : {A B : Type 0} {n : ℕ} {G : Syntax T A} {l1 : Bool} {f1 : List ℕ} {m1 : A → List ℕ} {more : B → List ℕ} (f : A → B) → IsSolid K n G l1 false f1 m1 → ((x : A) → within (m1 x) (more (f x)) ≡ true)
+      → IsSolid K n (G then λ x. gives (f x)) l1 false f1 more
   made_solid {A} {B} {n} {G} {l1} {f1} {m1} {more} f g e =
       then_solid G (λ x. gives (f x)) l1 false false true f1 (λ _. []) m1 (λ _ _. []) false f1 more (made {n = 0} f (same g.exact) e).here (λ ld. within_self f1) (λ h. h) n g (λ x. gives_solid (f x))
 
-  pub either_solid_to : {A : Type 0} {n : ℕ} (ks : List ℕ) {G H : Syntax T A} {l2 : Bool} {f1 f2 : List ℕ} {m1 m2 : A → List ℕ} {first : List ℕ} {more : A → List ℕ} → IsSolid K n G true false f1 m1 → IsSolid K n H l2 false f2 m2 → and (within f1 ks) (and (apart f2 ks) (and (within f1 first) (within f2 first))) ≡ true → and (within ks f1) (within first (f1 ++ f2)) ≡ true → ((x : A) → within (m1 x) (more x) ≡ true) → ((x : A) → within (m2 x) (more x) ≡ true) → IsSolid K n (choice K ks G H) l2 false first more
+  pub either_solid_to : {A : Type 0} {n : ℕ} (ks : List ℕ) {G H : Syntax T A} {l2 : Bool} {f1 f2 : List ℕ} {m1 m2 : A → List ℕ} {first : List ℕ} {more : A → List ℕ} → IsSolid K n G true false f1 m1 → IsSolid K n H l2 false f2 m2
+      → and (within f1 ks) (and (apart f2 ks) (and (within f1 first) (within f2 first))) ≡ true → and (within ks f1) (within first (f1 ++ f2)) ≡ true → ((x : A) → within (m1 x) (more x) ≡ true) → ((x : A) → within (m2 x) (more x) ≡ true)
+      → IsSolid K n (choice K ks G H) l2 false first more
   either_solid_to {A} {n} ks {G} {H} {l2} {f1} {f2} {m1} {m2} {first} {more} g h c d o1 o2 =
       let p = cond_true (within f1 ks) _ c in
       let q = cond_true (apart f2 ks) _ p.1 in
       let r = cond_true (within ks f1) (within first (f1 ++ f2)) d in
       choice_solid ks G H l2 false f1 f2 m1 m2 false first more (either_to {n = 0} ks (same g.exact) (same h.exact) c o1 o2).here p.0 r.0 q.0 r.1 (λ _. refl) n g h
 
-  pub maybe_solid_to : {A : Type 0} {n : ℕ} (ks : List ℕ) {G : Syntax T A} {f1 : List ℕ} {m1 : A → List ℕ} {more : A → List ℕ} (x : A) → IsSolid K n G true false f1 m1 → within f1 ks ≡ true → within ks f1 ≡ true → ((y : A) → within (m1 y) (more y) ≡ true) → within ks (more x) ≡ true → IsSolid K n (choice K ks G (gives x)) false true f1 more
+  pub maybe_solid_to : {A : Type 0} {n : ℕ} (ks : List ℕ) {G : Syntax T A} {f1 : List ℕ} {m1 : A → List ℕ} {more : A → List ℕ} (x : A) → IsSolid K n G true false f1 m1 → within f1 ks ≡ true → within ks f1 ≡ true
+      → ((y : A) → within (m1 y) (more y) ≡ true) → within ks (more x) ≡ true → IsSolid K n (choice K ks G (gives x)) false true f1 more
   maybe_solid_to {A} {n} ks {G} {f1} {m1} {more} x g c d o k =
       choice_solid ks G (gives x) false true f1 [] m1 (λ _. []) true f1 more (maybe_to {n = 0} ks x (same g.exact) c o k).here c d refl (within_left f1 []) (λ h. absurd cc) n g (gives_solid x)
 
-  pub tail_solid_to : {A B : Type 0} {n : ℕ} {G : Syntax T A} {H : A → Syntax T B} {l1 l2 : Bool} {f1 : List ℕ} {m1 : A → List ℕ} {f2 : A → List ℕ} {more : B → List ℕ} (f : A → B) → IsSolid K n G l1 false f1 m1 → ((x : A) → IsSolid K n (H x) l2 true (f2 x) more) → ((x : A) (y : B) → (H x).reads [] y → f x ≡ y) → ((x : A) → apart (f2 x) (m1 x) ≡ true) → ((x : A) → within (m1 x) (more (f x)) ≡ true) → IsSolid K n (G then H) l1 false f1 more
+  pub tail_solid_to : {A B : Type 0} {n : ℕ} {G : Syntax T A} {H : A → Syntax T B} {l1 l2 : Bool} {f1 : List ℕ} {m1 : A → List ℕ} {f2 : A → List ℕ} {more : B → List ℕ} (f : A → B) → IsSolid K n G l1 false f1 m1
+      → ((x : A) → IsSolid K n (H x) l2 true (f2 x) more) → ((x : A) (y : B) → (H x).reads [] y → f x ≡ y) → ((x : A) → apart (f2 x) (m1 x) ≡ true) → ((x : A) → within (m1 x) (more (f x)) ≡ true) → IsSolid K n (G then H) l1 false f1 more
   tail_solid_to {A} {B} {n} {G} {H} {l1} {l2} {f1} {m1} {f2} {more} f g h ends c o =
       then_solid G H l1 l2 false true f1 f2 m1 (λ _. more) false f1 more (tail_to {n = 0} f (same g.exact) (λ x. same (h x).exact) ends ends c o).here (λ ld. within_self f1) (λ e. e) n g h
 
   -- a repetition, where the kinds depend on the value before each turn
-  pub many_solid_to : {A : Type 0} (ks : A → List ℕ) {f : A → List ℕ} {m : A → A → List ℕ} {more : A → List ℕ} {step : A → Syntax T A} → LoopFits A ks f m more → ((x : A) → within (ks x) (f x) ≡ true) → (n : ℕ) → ((x : A) → IsSolid K n (step x) true false (f x) (m x)) → (x : A) → IsSolid K n (many K ks step x) false true (ks x) more
+  pub many_solid_to : {A : Type 0} (ks : A → List ℕ) {f : A → List ℕ} {m : A → A → List ℕ} {more : A → List ℕ} {step : A → Syntax T A} → LoopFits A ks f m more → ((x : A) → within (ks x) (f x) ≡ true) → (n : ℕ)
+      → ((x : A) → IsSolid K n (step x) true false (f x) (m x)) → (x : A) → IsSolid K n (many K ks step x) false true (ks x) more
   many_solid_to {A} ks {f} {m} {more} {step} fit o zero g x = solid_zero false (λ h. absurd cc) (many_exact K ks f m more fit step (λ y. (g y).exact) x)
   many_solid_to {A} ks {f} {m} {more} {step} fit o (suc n) g x =
       let rest : (y : A) → IsSolid K n (many K ks step y) false true (ks y) more = λ y. many_solid_to ks fit o n (λ z. lower n (omega arith) (g z)) y in
       let once = after_solid (step x) (λ y. many K ks step y) true false false true (f x) ks (m x) (λ _. more) false (f x) more (turn_exact K ks f m more fit step (λ y. (g y).exact) x) (λ _. within_self (f x)) (λ e. e) n refl (g x) rest in
       as_parsed (many_is K ks f m more fit step (λ y. (g y).exact) x) (many_exact K ks f m more fit step (λ y. (g y).exact) x)
-      (choice_solid (ks x) (step x then λ y. many K ks step y) (gives x) false true (f x) [] more (λ _. []) true (ks x) more (turned_exact K ks f m more fit step (λ y. (g y).exact) x) (fit.taken x) (o x) refl (within_joined (ks x) (f x) [] (o x)) (λ h. absurd cc) (suc n) once (gives_solid x))
+      (choice_solid (ks x) (step x then λ y. many K ks step y) (gives x) false true (f x) [] more (λ _. []) true (ks x) more (turned_exact K ks f m more fit step (λ y. (g y).exact) x) (fit.taken x) (o x) refl (within_joined (ks x) (f x) [] (o x))
+      (λ h. absurd cc) (suc n) once (gives_solid x))
 
   pub widened_solid : {A : Type 0} {n : ℕ} {G : Syntax T A} {lead null : Bool} {first : List ℕ} {m more : A → List ℕ} → IsSolid K n G lead null first m → ((x : A) → within (m x) (more x) ≡ true) → IsSolid K n G lead null first more
   widened_solid {A} {n} {G} {lead} {null} {first} {m} {more} g e = record { exact = (widened {n = 0} (same g.exact) e).here; led = g.led; opens = g.opens; cut = g.cut }
 
   -- where a token can't follow, what stands before it is no reading
-  pub no_reading : {A : Type 0} (G : Syntax T A) (lead null : Bool) (first : List ℕ) (more : A → List ℕ) → ((n : ℕ) → IsSolid K n G lead null first more) → (ts : List T) (m : ℕ) (f r : List T) → G.parse ts ≡ Err (At m) → ts ≡ f ++ r → m ≡ length r → (x : A) → G.reads f x → ⊥
+  pub no_reading : {A : Type 0} (G : Syntax T A) (lead null : Bool) (first : List ℕ) (more : A → List ℕ) → ((n : ℕ) → IsSolid K n G lead null first more) → (ts : List T) (m : ℕ) (f r : List T) → G.parse ts ≡ Err (At m) → ts ≡ f ++ r → m ≡ length r
+      → (x : A) → G.reads f x → ⊥
   no_reading {A} G lead null first more g ts m f r e s l x is =
       let w = g (suc (length ts)) in
       let c = w.cut ts m f r (omega arith) e s l in

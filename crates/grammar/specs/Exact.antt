@@ -57,7 +57,8 @@ pub record IsExact {T : Type 0} (K : T → ℕ) {A : Type 0} (G : Syntax T A) (n
   pub fails : (ts : List T) (n : ℕ) → G.parse ts ≡ Err (At n) → Fails G.parse G.begun ts n
   pub overs : (ts : List T) (i n : ℕ) → G.parse ts ≡ Err (Over i n) → Overs G.parse G.late ts i n
   -- a reading is read again, whatever follows that can't go on with it
-  pub again : (a : List T) (x : A) (b : List T) → G.reads a x → sees K (more x) b ≡ false → (G.parse (a ++ b) ≡ Ok (x, b)) ⊎ Late (G.parse (a ++ b)) (suc (length b))
+  pub again : (a : List T) (x : A) (b : List T) → G.reads a x → sees K (more x) b ≡ false
+      → (G.parse (a ++ b) ≡ Ok (x, b)) ⊎ Late (G.parse (a ++ b)) (suc (length b))
   -- no late token is read over
   pub lates : (i : ℕ) (a : List T) (t : T) (u : List T) → G.late i a t → Late (G.parse (a ++ (t ∷ u))) (suc (length u))
   -- a late token can follow

@@ -1,6 +1,7 @@
 -- Ours: the combinators of which the grammars of C and of monitored C are made.
 -- Grammars as values: what a production reads, what begins it, where it passes a limit, and how it is read from left to right.
-use Rattle.std.specs.Prelude.{◌≡◌, ℕ, zero, suc, ◌+◌, ◌-◌, ◌≤◌, List, [], ◌∷◌, ◌++◌, length, Result, Ok, Err, Option, Some, None, Bool, true, false, cond, ◌⊎◌, eqb, ltb}
+use Rattle.std.specs.Prelude.{◌≡◌, ℕ, zero, suc, ◌+◌, ◌-◌, ◌≤◌, List, [], ◌∷◌, ◌++◌, length, Result, Ok, Err, Option, Some, None, Bool, true, false, cond, ◌⊎◌}
+use Rattle.std.specs.Prelude.{eqb, ltb}
 
 -- So many tokens are left at the fault: the first of them can't follow (`At`), or it passes the limit with this label (`Over`).
 pub data Fault : Type 0 where

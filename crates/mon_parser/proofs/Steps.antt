@@ -6,7 +6,8 @@ use Rattle.grammar.proofs.Productions.{turn, turn_fails, turn_ends}
 use Rattle.c_syntax.specs.declared.token.Token.{Token}
 use Rattle.c_syntax.specs.Tokens.{PlainToken, plain_token}
 use Rattle.mon_syntax.specs.Parsed.{ParsedArgument, ParsedStatement, ParsedRegister, ParsedFunction}
-use Rattle.mon_syntax.specs.Grammar.{Vocabulary, LoopRead, left_paren, comma, type_kind, mark_kind, kind, first_statement, first_function, expression_limit, nesting_limit, mark, opened, behind_paren, behind_opened, next_argument, one_more, one_more_in_loop, statement_with, statement_in, register, next_parameter, one_more_function}
+use Rattle.mon_syntax.specs.Grammar.{Vocabulary, LoopRead, left_paren, comma, type_kind, mark_kind, kind, first_statement, first_function, expression_limit, nesting_limit, mark, opened, behind_paren, behind_opened, next_argument, one_more}
+use Rattle.mon_syntax.specs.Grammar.{one_more_in_loop, statement_with, statement_in, register, next_parameter, one_more_function}
 use Rattle.c_syntax.specs.declared.fault.ReadFault.{ReadFault}
 use Rattle.c_syntax.specs.declared.fault.ReadFault.TheVariants as fault
 use Rattle.mon_parser.specs.Reading.{plain_list, label, Fails, more_arguments, more_statements, more_in_loop, more_registers, more_parameters, more_functions}
@@ -140,11 +141,13 @@ module _ (ws : Vocabulary) where
   functions_shorter x y ts rest e = shorter ws (one_more_function ws x) (one_more_function_good ws x) ts rest y e
 
   module _ (n : ℕ) where
-    pub statements_turn : (x y : List ParsedStatement) (ts rest : List PlainToken) → sees (kind ws) first_statement ts ≡ true → (one_more ws (statement_in ws n) x).parse ts ≡ Ok (y, rest) → (more_statements ws (statement_in ws n) x).parse ts ≡ (more_statements ws (statement_in ws n) y).parse rest
+    pub statements_turn : (x y : List ParsedStatement) (ts rest : List PlainToken) → sees (kind ws) first_statement ts ≡ true → (one_more ws (statement_in ws n) x).parse ts ≡ Ok (y, rest)
+        → (more_statements ws (statement_in ws n) x).parse ts ≡ (more_statements ws (statement_in ws n) y).parse rest
     unfolding more_statements
     statements_turn x y ts rest s e = turn first_statement (one_more ws (statement_in ws n)) (λ z. (one_more_good ws (statement_good ws n) z).here) refl x y ts rest s e
 
-    pub statements_fails : (x : List ParsedStatement) (ts : List PlainToken) (e : ReadFault) → sees (kind ws) first_statement ts ≡ true → Fails e ((one_more ws (statement_in ws n) x).parse ts) → Fails e ((more_statements ws (statement_in ws n) x).parse ts)
+    pub statements_fails : (x : List ParsedStatement) (ts : List PlainToken) (e : ReadFault) → sees (kind ws) first_statement ts ≡ true → Fails e ((one_more ws (statement_in ws n) x).parse ts)
+        → Fails e ((more_statements ws (statement_in ws n) x).parse ts)
     unfolding more_statements
     statements_fails x ts e s = again e (λ d. turn_fails first_statement (one_more ws (statement_in ws n)) (λ z. (one_more_good ws (statement_good ws n) z).here) refl x ts d s)
 
@@ -155,7 +158,8 @@ module _ (ws : Vocabulary) where
     pub statements_shorter : (x y : List ParsedStatement) (ts rest : List Token) → (one_more ws (statement_in ws n) x).parse (plain_list ts) ≡ Ok (y, plain_list rest) → length rest < length ts
     statements_shorter x y ts rest e = shorter ws (one_more ws (statement_in ws n) x) (one_more_good ws (statement_good ws n) x) ts rest y e
 
-    pub loop_turn : (x y : LoopRead) (ts rest : List PlainToken) → sees (kind ws) first_statement ts ≡ true → (one_more_in_loop ws (statement_in ws n) x).parse ts ≡ Ok (y, rest) → (more_in_loop ws (statement_in ws n) x).parse ts ≡ (more_in_loop ws (statement_in ws n) y).parse rest
+    pub loop_turn : (x y : LoopRead) (ts rest : List PlainToken) → sees (kind ws) first_statement ts ≡ true → (one_more_in_loop ws (statement_in ws n) x).parse ts ≡ Ok (y, rest)
+        → (more_in_loop ws (statement_in ws n) x).parse ts ≡ (more_in_loop ws (statement_in ws n) y).parse rest
     unfolding more_in_loop
     loop_turn x y ts rest s e = turn first_statement (one_more_in_loop ws (statement_in ws n)) (λ z. (one_more_in_loop_good ws (statement_good ws n) z).here) refl x y ts rest s e
 

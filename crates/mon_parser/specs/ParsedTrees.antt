@@ -1,7 +1,9 @@
 -- Ours: plain forms.
 -- The plain form of the tree of a monitored text: without boxes and vectors.
 use Rattle.std.specs.Prelude.{ℤ, pos, neg_ℤ, ◌^◌, List, [], ◌∷◌, map, option_map, if◌then◌else◌}
-use Rattle.mon_syntax.specs.Parsed.{NameUse, ParsedExpression, Name, Constant, Binary, Minus, Flip, Cast, ParsedArgument, Value, Number, Text, ParsedCall, ParsedStatement, Set, Take, Call, If, Loop, Labelled, Goto, Return, ParsedStatements, NoStatement, Then, ParsedRegister, ParsedFunction, ParsedProgram}
+use Rattle.mon_syntax.specs.Parsed.{NameUse, ParsedExpression, Name, Constant, Binary, Minus, Flip, Cast, ParsedArgument, Value, Number, Text, ParsedCall}
+use Rattle.mon_syntax.specs.Parsed.{ParsedStatement, Set, Take, Call, If, Loop, Labelled, Goto, Return, ParsedStatements, NoStatement, Then, ParsedRegister}
+use Rattle.mon_syntax.specs.Parsed.{ParsedFunction, ParsedProgram}
 use Rattle.mon_parser.specs.declared.parsed.NameUse as code_name
 use Rattle.mon_parser.specs.declared.parsed.Literal as code_literal
 use Rattle.mon_parser.specs.declared.parsed.ParsedExpr.{ParsedExpr}

@@ -7,8 +7,13 @@ use Rattle.c_syntax.specs.declared.token.Token.{Token}
 use Rattle.c_syntax.specs.Tokens.{PlainToken, plain_token}
 use Rattle.mon_syntax.specs.declared.tree.MonType.{MonType}
 use Rattle.mon_syntax.specs.declared.tree.MonOp.{MonOp}
-use Rattle.mon_syntax.specs.Parsed.{NameUse, ParsedExpression, Constant, Binary, Cast, ParsedArgument, Value, Text, ParsedStatement, Call, If, Labelled, ParsedStatements, ParsedRegister, ParsedFunction}
-use Rattle.mon_syntax.specs.Grammar.{Vocabulary, InBody, LoopRead, nothing_read, parsed_list, type_kind, else_kind, mark_kind, comma, colon, semicolon, left_paren, right_paren, left_brace, right_brace, kind, first_statement, first_function, expression_limit, nesting_limit, fixed, mark, placed, number_of, text_of, is_one, name, signed_number, plain_operand, second_operand, expression, next_argument, call_of, ended, behind_name, one_more, body, one_more_in_loop, loop_end, statement_in, most_nested, register, parameter, next_parameter, parameters, function_body, one_more_function}
+use Rattle.mon_syntax.specs.Parsed.{NameUse, ParsedExpression, Constant, Binary, Cast, ParsedArgument, Value, Text, ParsedStatement, Call, If, Labelled}
+use Rattle.mon_syntax.specs.Parsed.{ParsedStatements, ParsedRegister, ParsedFunction}
+use Rattle.mon_syntax.specs.Grammar.{Vocabulary, InBody, LoopRead, nothing_read, parsed_list, type_kind, else_kind, mark_kind, comma, colon, semicolon}
+use Rattle.mon_syntax.specs.Grammar.{left_paren, right_paren, left_brace, right_brace, kind, first_statement, first_function, expression_limit, nesting_limit}
+use Rattle.mon_syntax.specs.Grammar.{fixed, mark, placed, number_of, text_of, is_one, name, signed_number, plain_operand, second_operand, expression}
+use Rattle.mon_syntax.specs.Grammar.{next_argument, call_of, ended, behind_name, one_more, body, one_more_in_loop, loop_end, statement_in, most_nested}
+use Rattle.mon_syntax.specs.Grammar.{register, parameter, next_parameter, parameters, function_body, one_more_function}
 use Rattle.mon_parser.specs.declared.statement.LoopRead as code_loop
 use Rattle.c_syntax.specs.declared.fault.Limit.{Limit}
 use Rattle.c_syntax.specs.declared.fault.Limit.TheVariants as limits

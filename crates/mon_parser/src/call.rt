@@ -73,7 +73,8 @@ fn next_argument<'a>(
     all: Vec<ParsedArg>,
     tokens: &'a [Token],
 ) -> Result<(Vec<ParsedArg>, &'a [Token]), ReadFault>
-    ensures { Gives (λ x. (map plain_arg x.0.items, plain_list x.1.now)) result ((next_argument words.now (map plain_arg all.items)).parse (plain_list tokens.now)) }
+    ensures { Gives (λ x. (map plain_arg x.0.items, plain_list x.1.now)) result
+        ((next_argument words.now (map plain_arg all.items)).parse (plain_list tokens.now)) }
 {
     let mut all = all;
     let (_, rest) = skip(words, COMMA, tokens)?;
@@ -90,7 +91,8 @@ fn more_arguments<'a>(
     all: Vec<ParsedArg>,
     tokens: &'a [Token],
 ) -> Result<(Vec<ParsedArg>, &'a [Token]), ReadFault>
-    ensures { Gives (λ x. (map plain_arg x.0.items, plain_list x.1.now)) result ((more_arguments words.now (map plain_arg all.items)).parse (plain_list tokens.now)) }
+    ensures { Gives (λ x. (map plain_arg x.0.items, plain_list x.1.now)) result
+        ((more_arguments words.now (map plain_arg all.items)).parse (plain_list tokens.now)) }
 {
     let mut all = all;
     let mut rest = tokens;

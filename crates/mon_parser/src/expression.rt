@@ -1,9 +1,11 @@
 //! Expressions.
 
 ghost use Rattle.std.specs.Prelude.{◌≡◌, IfErr};
-ghost use Rattle.mon_syntax.specs.Grammar.{signed_number, opened, constant, plain_operand, second_operand, negation, complement, cast, behind_two, behind_opened, other_expression, expression_in, expression, expression_but_name};
+ghost use Rattle.mon_syntax.specs.Grammar.{signed_number, opened, constant, plain_operand, second_operand, negation, complement, cast, behind_two};
+ghost use Rattle.mon_syntax.specs.Grammar.{behind_opened, other_expression, expression_in, expression, expression_but_name};
 ghost use Rattle.mon_parser.specs.ParsedTrees.{plain_literal, plain_expr};
-ghost use Rattle.mon_parser.specs.Reading.{Gives, TakesNoMemory, plain_list, unsigned_number, closed, right_operand, constant_value, cast_operand, plain_operation};
+ghost use Rattle.mon_parser.specs.Reading.{Gives, TakesNoMemory, plain_list, unsigned_number, closed, right_operand, constant_value, cast_operand};
+ghost use Rattle.mon_parser.specs.Reading.{plain_operation};
 
 use crate::kinds::{CONSTANT, LEFT_PAREN, MINUS, NAME, RIGHT_PAREN, TILDE, TYPE};
 use crate::parsed::{Literal, ParsedExpr, ParsedExprKind};
@@ -142,7 +144,8 @@ fn right_operand<'a>(
     op: MonOp,
     tokens: &'a [Token],
 ) -> Result<(ParsedExpr, &'a [Token]), ReadFault>
-    ensures { Gives (λ x. (plain_expr x.0, plain_list x.1.now)) result ((right_operand words.now (expression_in words.now room) (plain_expr left) place op).parse (plain_list tokens.now)) }
+    ensures { Gives (λ x. (plain_expr x.0, plain_list x.1.now)) result
+        ((right_operand words.now (expression_in words.now room) (plain_expr left) place op).parse (plain_list tokens.now)) }
 {
     let (right, rest) = expression_in(alloc, words, room, tokens)?;
     let operation = ParsedExpr::new(alloc, ParsedExprKind::Binary(place, op, left, right))?;
@@ -160,7 +163,8 @@ fn second_operand<'a>(
     left: ParsedExpr,
     tokens: &'a [Token],
 ) -> Result<(ParsedExpr, &'a [Token]), ReadFault>
-    ensures { Gives (λ x. (plain_expr x.0, plain_list x.1.now)) result ((second_operand words.now (expression_in words.now room) (plain_expr left)).parse (plain_list tokens.now)) }
+    ensures { Gives (λ x. (plain_expr x.0, plain_list x.1.now)) result ((second_operand words.now (expression_in words.now room) (plain_expr left)).parse
+        (plain_list tokens.now)) }
 {
     let (op, place, rest) = operator(tokens)?;
     right_operand(alloc, words, room, left, place, op, rest)
@@ -213,7 +217,8 @@ fn cast_operand<'a>(
     kind: MonType,
     tokens: &'a [Token],
 ) -> Result<(ParsedExpr, &'a [Token]), ReadFault>
-    ensures { Gives (λ x. (plain_expr x.0, plain_list x.1.now)) result ((cast_operand words.now (expression_in words.now room) place kind).parse (plain_list tokens.now)) }
+    ensures { Gives (λ x. (plain_expr x.0, plain_list x.1.now)) result ((cast_operand words.now (expression_in words.now room) place kind).parse
+        (plain_list tokens.now)) }
 {
     let (operand, rest) = expression_in(alloc, words, room, tokens)?;
     let operation = ParsedExpr::new(alloc, ParsedExprKind::Cast(place, kind, operand))?;
@@ -248,7 +253,8 @@ fn behind_two<'a>(
     place: Place,
     tokens: &'a [Token],
 ) -> Result<(ParsedExpr, &'a [Token]), ReadFault>
-    ensures { Gives (λ x. (plain_expr x.0, plain_list x.1.now)) result ((behind_two words.now (expression_in words.now room) (behind_opened words.now room) place).parse (plain_list tokens.now)) }
+    ensures { Gives (λ x. (plain_expr x.0, plain_list x.1.now)) result
+        ((behind_two words.now (expression_in words.now room) (behind_opened words.now room) place).parse (plain_list tokens.now)) }
 {
     if next_is(words, TYPE, tokens) {
         cast(alloc, words, room, place, tokens)
@@ -267,7 +273,8 @@ fn plain_operation<'a>(
     room: u32,
     tokens: &'a [Token],
 ) -> Result<(ParsedExpr, &'a [Token]), ReadFault>
-    ensures { Gives (λ x. (plain_expr x.0, plain_list x.1.now)) result ((plain_operation words.now (opened words.now room) (expression_in words.now room)).parse (plain_list tokens.now)) }
+    ensures { Gives (λ x. (plain_expr x.0, plain_list x.1.now)) result ((plain_operation words.now (opened words.now room) (expression_in words.now room)).parse
+        (plain_list tokens.now)) }
 {
     let (left, rest) = plain_operand(alloc, words, room, tokens)?;
     second_operand(alloc, words, room, left, rest)
@@ -309,7 +316,8 @@ fn other_expression<'a>(
     room: u32,
     tokens: &'a [Token],
 ) -> Result<(ParsedExpr, &'a [Token]), ReadFault>
-    ensures { Gives (λ x. (plain_expr x.0, plain_list x.1.now)) result ((other_expression words.now (opened words.now room) (behind_opened words.now room)).parse (plain_list tokens.now)) }
+    ensures { Gives (λ x. (plain_expr x.0, plain_list x.1.now)) result
+        ((other_expression words.now (opened words.now room) (behind_opened words.now room)).parse (plain_list tokens.now)) }
 {
     if next_is(words, CONSTANT, tokens) {
         constant(alloc, words, room, tokens)

@@ -1,10 +1,12 @@
 //! Functions, and the whole text.
 
 ghost use Rattle.std.specs.Prelude.{◌≡◌, map, IfErr};
-ghost use Rattle.mon_syntax.specs.Grammar.{parsed_list, register, parameter, next_parameter, some_parameters, parameters, function_body, function, one_more_function, text};
+ghost use Rattle.mon_syntax.specs.Grammar.{parsed_list, register, parameter, next_parameter, some_parameters, parameters, function_body, function};
+ghost use Rattle.mon_syntax.specs.Grammar.{one_more_function, text};
 ghost use Rattle.mon_syntax.specs.Grammar as form;
 ghost use Rattle.mon_parser.specs.ParsedTrees.{plain_name, plain_stmt, plain_register, plain_func, plain_program};
-ghost use Rattle.mon_parser.specs.Reading.{Gives, TakesNoMemory, plain_list, more_registers, more_parameters, more_functions, named_register, register_end, one_more_parameter, function_rest, function_statements};
+ghost use Rattle.mon_parser.specs.Reading.{Gives, TakesNoMemory, plain_list, more_registers, more_parameters, more_functions, named_register, register_end};
+ghost use Rattle.mon_parser.specs.Reading.{one_more_parameter, function_rest, function_statements};
 
 use crate::kinds::{
     COMMA, LEFT_BRACE, LEFT_PAREN, RIGHT_BRACE, RIGHT_PAREN, SEMICOLON, TYPE, VOID,
@@ -28,7 +30,8 @@ fn register_end<'a>(
     one: ParsedRegister,
     tokens: &'a [Token],
 ) -> Result<(Vec<ParsedRegister>, &'a [Token]), ReadFault>
-    ensures { Gives (λ x. (map plain_register x.0.items, plain_list x.1.now)) result ((register_end words.now (map plain_register all.items) (plain_register one)).parse (plain_list tokens.now)) }
+    ensures { Gives (λ x. (map plain_register x.0.items, plain_list x.1.now)) result
+        ((register_end words.now (map plain_register all.items) (plain_register one)).parse (plain_list tokens.now)) }
 {
     let mut all = all;
     let (_, rest) = skip(words, SEMICOLON, tokens)?;
@@ -44,7 +47,8 @@ fn named_register<'a>(
     kind: MonType,
     tokens: &'a [Token],
 ) -> Result<(Vec<ParsedRegister>, &'a [Token]), ReadFault>
-    ensures { Gives (λ x. (map plain_register x.0.items, plain_list x.1.now)) result ((named_register words.now (map plain_register all.items) kind).parse (plain_list tokens.now)) }
+    ensures { Gives (λ x. (map plain_register x.0.items, plain_list x.1.now)) result ((named_register words.now (map plain_register all.items) kind).parse
+        (plain_list tokens.now)) }
 {
     let (name, rest) = name(words, tokens)?;
     register_end(words, all, ParsedRegister { kind, name }, rest)
@@ -57,7 +61,8 @@ fn register<'a>(
     all: Vec<ParsedRegister>,
     tokens: &'a [Token],
 ) -> Result<(Vec<ParsedRegister>, &'a [Token]), ReadFault>
-    ensures { Gives (λ x. (map plain_register x.0.items, plain_list x.1.now)) result ((register words.now (map plain_register all.items)).parse (plain_list tokens.now)) }
+    ensures { Gives (λ x. (map plain_register x.0.items, plain_list x.1.now)) result
+        ((register words.now (map plain_register all.items)).parse (plain_list tokens.now)) }
 {
     let (kind, _, rest) = type_name(words, tokens)?;
     named_register(words, all, kind, rest)
@@ -70,7 +75,8 @@ fn more_registers<'a>(
     all: Vec<ParsedRegister>,
     tokens: &'a [Token],
 ) -> Result<(Vec<ParsedRegister>, &'a [Token]), ReadFault>
-    ensures { Gives (λ x. (map plain_register x.0.items, plain_list x.1.now)) result ((more_registers words.now (map plain_register all.items)).parse (plain_list tokens.now)) }
+    ensures { Gives (λ x. (map plain_register x.0.items, plain_list x.1.now)) result ((more_registers words.now (map plain_register all.items)).parse
+        (plain_list tokens.now)) }
 {
     let mut all = all;
     let mut rest = tokens;
@@ -121,7 +127,8 @@ fn one_more_parameter<'a>(
     all: Vec<ParsedRegister>,
     tokens: &'a [Token],
 ) -> Result<(Vec<ParsedRegister>, &'a [Token]), ReadFault>
-    ensures { Gives (λ x. (map plain_register x.0.items, plain_list x.1.now)) result ((one_more_parameter words.now (map plain_register all.items)).parse (plain_list tokens.now)) }
+    ensures { Gives (λ x. (map plain_register x.0.items, plain_list x.1.now)) result ((one_more_parameter words.now (map plain_register all.items)).parse
+        (plain_list tokens.now)) }
 {
     let mut all = all;
     let (one, rest) = parameter(words, tokens)?;
@@ -136,7 +143,8 @@ fn next_parameter<'a>(
     all: Vec<ParsedRegister>,
     tokens: &'a [Token],
 ) -> Result<(Vec<ParsedRegister>, &'a [Token]), ReadFault>
-    ensures { Gives (λ x. (map plain_register x.0.items, plain_list x.1.now)) result ((next_parameter words.now (map plain_register all.items)).parse (plain_list tokens.now)) }
+    ensures { Gives (λ x. (map plain_register x.0.items, plain_list x.1.now)) result ((next_parameter words.now (map plain_register all.items)).parse
+        (plain_list tokens.now)) }
 {
     let (_, rest) = skip(words, COMMA, tokens)?;
     one_more_parameter(words, all, rest)
@@ -149,7 +157,8 @@ fn more_parameters<'a>(
     all: Vec<ParsedRegister>,
     tokens: &'a [Token],
 ) -> Result<(Vec<ParsedRegister>, &'a [Token]), ReadFault>
-    ensures { Gives (λ x. (map plain_register x.0.items, plain_list x.1.now)) result ((more_parameters words.now (map plain_register all.items)).parse (plain_list tokens.now)) }
+    ensures { Gives (λ x. (map plain_register x.0.items, plain_list x.1.now)) result ((more_parameters words.now (map plain_register all.items)).parse
+        (plain_list tokens.now)) }
 {
     let mut all = all;
     let mut rest = tokens;
@@ -201,7 +210,14 @@ fn make_function(
     registers: Vec<ParsedRegister>,
     body: Vec<ParsedStmt>,
 ) -> ParsedFunc
-    ensures { plain_func result ≡ record { result = returned; name = plain_name name; parameters = map plain_register parameters.items; registers = map plain_register registers.items; body = parsed_list (map plain_stmt body.items) } }
+    ensures { plain_func result ≡ record {
+      result = returned;
+      name = plain_name name;
+      parameters = map plain_register parameters.items;
+      registers =
+          map plain_register registers.items;
+      body = parsed_list (map plain_stmt body.items);
+    } }
 {
     ParsedFunc {
         result: returned,
@@ -223,7 +239,9 @@ fn function_statements<'a>(
     registers: Vec<ParsedRegister>,
     tokens: &'a [Token],
 ) -> Result<(ParsedFunc, &'a [Token]), ReadFault>
-    ensures { Gives (λ x. (plain_func x.0, plain_list x.1.now)) result ((function_statements words.now returned (plain_name name) (map plain_register parameters.items) (map plain_register registers.items)).parse (plain_list tokens.now)) }
+    ensures { Gives (λ x. (plain_func x.0, plain_list x.1.now)) result
+        ((function_statements words.now returned (plain_name name) (map plain_register parameters.items) (map plain_register registers.items)).parse
+        (plain_list tokens.now)) }
 {
     let (body, rest) = more_statements(alloc, words, MOST_NESTED - 1, Vec::new(alloc), tokens)?;
     let (_, rest) = skip(words, RIGHT_BRACE, rest)?;
@@ -241,7 +259,8 @@ fn function_body<'a>(
     parameters: Vec<ParsedRegister>,
     tokens: &'a [Token],
 ) -> Result<(ParsedFunc, &'a [Token]), ReadFault>
-    ensures { Gives (λ x. (plain_func x.0, plain_list x.1.now)) result ((function_body words.now returned (plain_name name) (map plain_register parameters.items)).parse (plain_list tokens.now)) }
+    ensures { Gives (λ x. (plain_func x.0, plain_list x.1.now)) result
+        ((function_body words.now returned (plain_name name) (map plain_register parameters.items)).parse (plain_list tokens.now)) }
 {
     let (_, rest) = skip(words, LEFT_BRACE, tokens)?;
     let (registers, rest) = more_registers(words, Vec::new(alloc), rest)?;
@@ -286,7 +305,8 @@ fn one_more_function<'a>(
     all: Vec<ParsedFunc>,
     tokens: &'a [Token],
 ) -> Result<(Vec<ParsedFunc>, &'a [Token]), ReadFault>
-    ensures { Gives (λ x. (map plain_func x.0.items, plain_list x.1.now)) result ((one_more_function words.now (map plain_func all.items)).parse (plain_list tokens.now)) }
+    ensures { Gives (λ x. (map plain_func x.0.items, plain_list x.1.now)) result ((one_more_function words.now (map plain_func all.items)).parse
+        (plain_list tokens.now)) }
 {
     let mut all = all;
     let (one, rest) = function(alloc, words, tokens)?;
@@ -302,7 +322,8 @@ fn more_functions<'a>(
     all: Vec<ParsedFunc>,
     tokens: &'a [Token],
 ) -> Result<(Vec<ParsedFunc>, &'a [Token]), ReadFault>
-    ensures { Gives (λ x. (map plain_func x.0.items, plain_list x.1.now)) result ((more_functions words.now (map plain_func all.items)).parse (plain_list tokens.now)) }
+    ensures { Gives (λ x. (map plain_func x.0.items, plain_list x.1.now)) result ((more_functions words.now (map plain_func all.items)).parse
+        (plain_list tokens.now)) }
 {
     let mut all = all;
     let mut rest = tokens;

@@ -2,9 +2,12 @@
 
 ghost use Rattle.std.specs.Prelude.{◌≡◌, map, IfOk, IfErr};
 ghost use Rattle.mon_syntax.specs.Parsed as tree;
-ghost use Rattle.mon_syntax.specs.Grammar.{is_step_word, is_step, has_step, with_statement, parsed_list, ended, set_to_call, set_to_name, set_to, behind_name, one_more, body, selection, one_more_in_loop, loop_end, iteration, labelled, jump, returned, return_statement, statement_in};
+ghost use Rattle.mon_syntax.specs.Grammar.{is_step_word, is_step, has_step, with_statement, parsed_list, ended, set_to_call, set_to_name, set_to, behind_name};
+ghost use Rattle.mon_syntax.specs.Grammar.{one_more, body, selection, one_more_in_loop, loop_end, iteration, labelled, jump, returned, return_statement};
+ghost use Rattle.mon_syntax.specs.Grammar.{statement_in};
 ghost use Rattle.mon_parser.specs.ParsedTrees.{plain_name, plain_expr, plain_stmt};
-ghost use Rattle.mon_parser.specs.Reading.{Gives, TakesNoMemory, plain_list, plain_loop, more_statements, more_in_loop, call_statement, named_statement, condition, branches, second_branch, forever, loop_body, label_behind, label_end};
+ghost use Rattle.mon_parser.specs.Reading.{Gives, TakesNoMemory, plain_list, plain_loop, more_statements, more_in_loop, call_statement, named_statement};
+ghost use Rattle.mon_parser.specs.Reading.{condition, branches, second_branch, forever, loop_body, label_behind, label_end};
 
 use crate::call::call_of;
 use crate::expression::{expression, expression_but_name};
@@ -91,7 +94,8 @@ fn make_if(
     then: Vec<ParsedStmt>,
     otherwise: Vec<ParsedStmt>,
 ) -> Result<ParsedStmt, AllocError>
-    ensures { IfOk result (λ s. plain_stmt s ≡ tree.If (plain_expr condition) (parsed_list (map plain_stmt then.items)) (parsed_list (map plain_stmt otherwise.items))) }
+    ensures { IfOk result (λ s. plain_stmt s ≡ tree.If (plain_expr condition) (parsed_list (map plain_stmt then.items))
+        (parsed_list (map plain_stmt otherwise.items))) }
 {
     ParsedStmt::new(alloc, ParsedStmtKind::If(condition, then, otherwise))
 }
@@ -139,7 +143,8 @@ fn set_to_call<'a>(
     callee: NameUse,
     tokens: &'a [Token],
 ) -> Result<(ParsedStmt, &'a [Token]), ReadFault>
-    ensures { Gives (λ x. (plain_stmt x.0, plain_list x.1.now)) result ((set_to_call words.now (plain_name target) place (plain_name callee)).parse (plain_list tokens.now)) }
+    ensures { Gives (λ x. (plain_stmt x.0, plain_list x.1.now)) result ((set_to_call words.now (plain_name target) place (plain_name callee)).parse
+        (plain_list tokens.now)) }
 {
     let (call, rest) = call_of(alloc, words, false, callee, tokens)?;
     let statement = ParsedStmt::new(alloc, ParsedStmtKind::Take(target, place, call))?;
@@ -156,7 +161,8 @@ fn set_to_name<'a>(
     x: NameUse,
     tokens: &'a [Token],
 ) -> Result<(ParsedStmt, &'a [Token]), ReadFault>
-    ensures { Gives (λ x. (plain_stmt x.0, plain_list x.1.now)) result ((set_to_name words.now (plain_name target) place (plain_name x)).parse (plain_list tokens.now)) }
+    ensures { Gives (λ x. (plain_stmt x.0, plain_list x.1.now)) result ((set_to_name words.now (plain_name target) place (plain_name x)).parse
+        (plain_list tokens.now)) }
 {
     if next_is(words, LEFT_PAREN, tokens) {
         set_to_call(alloc, words, target, place, x, tokens)
@@ -316,7 +322,8 @@ fn one_more<'a>(
     all: Vec<ParsedStmt>,
     tokens: &'a [Token],
 ) -> Result<(Vec<ParsedStmt>, &'a [Token]), ReadFault>
-    ensures { Gives (λ x. (map plain_stmt x.0.items, plain_list x.1.now)) result ((one_more words.now (statement_in words.now levels) (map plain_stmt all.items)).parse (plain_list tokens.now)) }
+    ensures { Gives (λ x. (map plain_stmt x.0.items, plain_list x.1.now)) result
+        ((one_more words.now (statement_in words.now levels) (map plain_stmt all.items)).parse (plain_list tokens.now)) }
 {
     let mut all = all;
     let (one, rest) = statement(alloc, words, levels, false, tokens)?;
@@ -334,7 +341,8 @@ pub fn more_statements<'a>(
     all: Vec<ParsedStmt>,
     tokens: &'a [Token],
 ) -> Result<(Vec<ParsedStmt>, &'a [Token]), ReadFault>
-    ensures { Gives (λ x. (map plain_stmt x.0.items, plain_list x.1.now)) result ((more_statements words.now (statement_in words.now levels) (map plain_stmt all.items)).parse (plain_list tokens.now)) }
+    ensures { Gives (λ x. (map plain_stmt x.0.items, plain_list x.1.now)) result
+        ((more_statements words.now (statement_in words.now levels) (map plain_stmt all.items)).parse (plain_list tokens.now)) }
 {
     let mut all = all;
     let mut rest = tokens;
@@ -355,7 +363,8 @@ fn body<'a>(
     levels: u32,
     tokens: &'a [Token],
 ) -> Result<(Vec<ParsedStmt>, &'a [Token]), ReadFault>
-    ensures { Gives (λ x. (parsed_list (map plain_stmt x.0.items), plain_list x.1.now)) result ((body words.now (statement_in words.now levels)).parse (plain_list tokens.now)) }
+    ensures { Gives (λ x. (parsed_list (map plain_stmt x.0.items), plain_list x.1.now)) result
+        ((body words.now (statement_in words.now levels)).parse (plain_list tokens.now)) }
 {
     let (_, rest) = skip(words, LEFT_BRACE, tokens)?;
     let (all, rest) = more_statements(alloc, words, levels, Vec::new(alloc), rest)?;
@@ -374,7 +383,9 @@ fn second_branch<'a>(
     then: Vec<ParsedStmt>,
     tokens: &'a [Token],
 ) -> Result<(ParsedStmt, &'a [Token]), ReadFault>
-    ensures { Gives (λ x. (plain_stmt x.0, plain_list x.1.now)) result ((second_branch words.now (statement_in words.now levels) (plain_expr condition) (parsed_list (map plain_stmt then.items))).parse (plain_list tokens.now)) }
+    ensures { Gives (λ x. (plain_stmt x.0, plain_list x.1.now)) result
+        ((second_branch words.now (statement_in words.now levels) (plain_expr condition) (parsed_list (map plain_stmt then.items))).parse
+        (plain_list tokens.now)) }
 {
     let (otherwise, rest) = body(alloc, words, levels, tokens)?;
     Ok((make_if(alloc, condition, then, otherwise)?, rest))
@@ -390,7 +401,8 @@ fn branches<'a>(
     condition: ParsedExpr,
     tokens: &'a [Token],
 ) -> Result<(ParsedStmt, &'a [Token]), ReadFault>
-    ensures { Gives (λ x. (plain_stmt x.0, plain_list x.1.now)) result ((branches words.now (statement_in words.now levels) (plain_expr condition)).parse (plain_list tokens.now)) }
+    ensures { Gives (λ x. (plain_stmt x.0, plain_list x.1.now)) result ((branches words.now (statement_in words.now levels) (plain_expr condition)).parse
+        (plain_list tokens.now)) }
 {
     let (then, rest) = body(alloc, words, levels, tokens)?;
     let (_, rest) = skip(words, ELSE, rest)?;
@@ -439,7 +451,8 @@ fn one_more_in_loop<'a>(
     read: LoopRead,
     tokens: &'a [Token],
 ) -> Result<(LoopRead, &'a [Token]), ReadFault>
-    ensures { Gives (λ x. (plain_loop x.0, plain_list x.1.now)) result ((one_more_in_loop words.now (statement_in words.now levels) (plain_loop read)).parse (plain_list tokens.now)) }
+    ensures { Gives (λ x. (plain_loop x.0, plain_list x.1.now)) result ((one_more_in_loop words.now (statement_in words.now levels) (plain_loop read)).parse
+        (plain_list tokens.now)) }
 {
     let (one, rest) = statement(alloc, words, levels, has_step(&read), tokens)?;
     Ok((with_statement(alloc, words, read, one)?, rest))
@@ -455,7 +468,8 @@ fn more_in_loop<'a>(
     read: LoopRead,
     tokens: &'a [Token],
 ) -> Result<(LoopRead, &'a [Token]), ReadFault>
-    ensures { Gives (λ x. (plain_loop x.0, plain_list x.1.now)) result ((more_in_loop words.now (statement_in words.now levels) (plain_loop read)).parse (plain_list tokens.now)) }
+    ensures { Gives (λ x. (plain_loop x.0, plain_list x.1.now)) result ((more_in_loop words.now (statement_in words.now levels) (plain_loop read)).parse
+        (plain_list tokens.now)) }
 {
     let mut read = read;
     let mut rest = tokens;
@@ -542,7 +556,8 @@ fn label_behind<'a>(
     all: Vec<ParsedStmt>,
     tokens: &'a [Token],
 ) -> Result<(ParsedStmt, &'a [Token]), ReadFault>
-    ensures { Gives (λ x. (plain_stmt x.0, plain_list x.1.now)) result ((label_behind words.now (parsed_list (map plain_stmt all.items))).parse (plain_list tokens.now)) }
+    ensures { Gives (λ x. (plain_stmt x.0, plain_list x.1.now)) result ((label_behind words.now (parsed_list (map plain_stmt all.items))).parse
+        (plain_list tokens.now)) }
 {
     let (label, rest) = name(words, tokens)?;
     label_end(words, make_labelled(alloc, all, label)?, rest)

@@ -3,7 +3,8 @@
 ghost use Rattle.std.specs.Prelude.{◌≡◌, length, [], ◌∷◌, IfErr};
 ghost use Rattle.grammar.specs.Syntax.{sees, one};
 ghost use Rattle.c_syntax.specs.Tokens.{plain_token_kind};
-ghost use Rattle.mon_syntax.specs.Grammar.{kind, first_expression, first_argument, first_statement, first_function, fixed, placed, name, number_of, text_of, type_of, constant_of, operator_of, operator_mark, is_one, is_head, type_of_word, constant_of_word};
+ghost use Rattle.mon_syntax.specs.Grammar.{kind, first_expression, first_argument, first_statement, first_function, fixed, placed, name, number_of, text_of};
+ghost use Rattle.mon_syntax.specs.Grammar.{type_of, constant_of, operator_of, operator_mark, is_one, is_head, type_of_word, constant_of_word};
 ghost use Rattle.mon_parser.specs.ParsedTrees.{plain_name};
 ghost use Rattle.mon_parser.specs.Reading.{Gives, TakesNoMemory, plain_list};
 

@@ -90,7 +90,8 @@ module _ (size : ℕ) (ws : Vocabulary) where
 
     cast_each : 0 < n → (at : Place) → Each (cast ws E at) (Few (suc n))
     unfolding cast
-    cast_each le at = after (one (placed (type_of ws))) (λ t. after (mark ws right_paren) (λ _. within_then e (λ x p. after (mark ws right_paren) (λ _. within_gives _ (let m : max 1 (open_parens x) ≤ n = max-le (omega (arith, le)) p in omega (arith, m))))))
+    cast_each le at = after (one (placed (type_of ws))) (λ t. after (mark ws right_paren) (λ _. within_then e
+        (λ x p. after (mark ws right_paren) (λ _. within_gives _ (let m : max 1 (open_parens x) ≤ n = max-le (omega (arith, le)) p in omega (arith, m))))))
 
     two_each : {B : Syntax PlainToken ParsedExpression} → Each B (Few n) → 0 < n → (at : Place) → Each (behind_two ws E B at) (Few (suc n))
     unfolding behind_two

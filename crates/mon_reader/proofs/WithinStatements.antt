@@ -168,7 +168,8 @@ module _ (size : ℕ) (ws : Vocabulary) where
     selection_each : (no_step : Bool) → Each size ws (selection ws S) (IsNested (suc n) no_step)
     unfolding selection
     selection_each no_step =
-        after size ws (fixed ws if_kind) (λ _. after size ws (mark ws left_paren) (λ _. within_then (expression_each size ws) (λ e h. after size ws (mark ws right_paren) (λ _. within_then body_each (λ a p. after size ws (fixed ws else_kind) (λ _. within_then body_each (λ b q. within_gives _ (
+        after size ws (fixed ws if_kind) (λ _. after size ws (mark ws left_paren) (λ _. within_then (expression_each size ws)
+        (λ e h. after size ws (mark ws right_paren) (λ _. within_then body_each (λ a p. after size ws (fixed ws else_kind) (λ _. within_then body_each (λ b q. within_gives _ (
         let m : max (depth_of_all a) (depth_of_all b) ≤ n = max-le p.deep q.deep in
         record { within = (h, p.within, q.within); deep = omega (arith, m); plain = λ _. refl; room = omega arith }))))))))
 

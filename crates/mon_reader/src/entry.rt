@@ -37,7 +37,8 @@ fn has_none(parameters: &[ParsedRegister]) -> bool
 
 /// The name of a function `main` that has another result or parameters.
 fn fault_of(f: &ParsedFunc) -> Option<Place>
-    ensures { option_map no_main result ≡ (if is_i32 f.now.result && has_none (map plain_register f.now.parameters.items) then None else Some (no_main f.now.name.place)) }
+    ensures { option_map no_main result ≡ (if is_i32 f.now.result && has_none (map plain_register f.now.parameters.items) then None else Some
+        (no_main f.now.name.place)) }
 {
     if is_i32(f.result) && has_none(&f.parameters) {
         None

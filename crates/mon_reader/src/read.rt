@@ -21,7 +21,8 @@ use std::alloc::Global;
 
 /// The program that a tree of the tokens spells, if its names and types have no fault.
 fn checked(alloc: Global, tokens: &Tokens, tree: &ParsedProgram) -> Result<MonProgram, FrontFault>
-    ensures { MatchResult result (λ m. checked (plain_tokens tokens.now) (read.plain_program tree.now) ≡ Ok (plain_program m)) (λ e. HasFault e (plain_tokens tokens.now) (read.plain_program tree.now)) }
+    ensures { MatchResult result (λ m. checked (plain_tokens tokens.now) (read.plain_program tree.now) ≡ Ok (plain_program m))
+        (λ e. HasFault e (plain_tokens tokens.now) (read.plain_program tree.now)) }
 {
     let words = vocabulary(alloc, tokens.names.as_slice())?;
     match checked_program(alloc, tokens.names.as_slice(), words.as_slice(), tree) {
@@ -32,7 +33,8 @@ fn checked(alloc: Global, tokens: &Tokens, tree: &ParsedProgram) -> Result<MonPr
 
 /// The program that a tree of the tokens spells, if it has no fault and has its `main`.
 fn entered(alloc: Global, tokens: &Tokens, tree: &ParsedProgram) -> Result<MonProgram, FrontFault>
-    ensures { MatchResult result (λ m. IsEntered (plain_tokens tokens.now) (read.plain_program tree.now) (plain_program m)) (λ e. RefusesTree e (plain_tokens tokens.now) (read.plain_program tree.now)) }
+    ensures { MatchResult result (λ m. IsEntered (plain_tokens tokens.now) (read.plain_program tree.now) (plain_program m))
+        (λ e. RefusesTree e (plain_tokens tokens.now) (read.plain_program tree.now)) }
 {
     let program = match checked(alloc, tokens, tree) {
         Ok(program) => program,

@@ -7,10 +7,12 @@ use Rattle.c_syntax.specs.declared.types.How.TheVariants as how
 use Rattle.c_model.specs.Integers.{byte_of}
 use Rattle.c_model.specs.State.{Input, Final, Exits, Broken, Undefined, Fault, Spent, Full, ReadFault}
 use Rattle.c_model.specs.Reports.{Extends, Agrees}
-use Rattle.mon_syntax.specs.Trees.{MonExpression, Register, Constant, Binary, Minus, Flip, Cast, MonStatement, Set, Step, Assert, PutChar, GetChar, Exit, PrintText, PrintSigned, PrintUnsigned, Act, Call, If, Loop, Labelled, Goto, Return, MonStatements, NoStatement, Then, MonFunction, MonitoredProgram}
+use Rattle.mon_syntax.specs.Trees.{MonExpression, Register, Constant, Binary, Minus, Flip, Cast, MonStatement, Set, Step, Assert, PutChar, GetChar, Exit, PrintText, PrintSigned, PrintUnsigned, Act, Call, If, Loop, Labelled, Goto, Return}
+use Rattle.mon_syntax.specs.Trees.{MonStatements, NoStatement, Then, MonFunction, MonitoredProgram}
 use Rattle.mon_syntax.specs.Arithmetic.{wrap, operate, minus, flipped}
 use Rattle.mon_syntax.specs.Memory.{Memory, Reply, Gives, IsFull, Faults}
-use Rattle.mon_syntax.specs.Meaning.{State, Result, Done, Stops, Flow, Next, Goes, Returns, writes, then_do, at_next, at_label, ◌>>=◌, with_value, choose, step_from, registers, given_to, got, with_read, number_or_none, eval, eval_all, eval_number, replied, Calls, Does, turns, exec, exec_all, left_frame, at_return, body_runs, level, exit_of, ran, function_named, run}
+use Rattle.mon_syntax.specs.Meaning.{State, Result, Done, Stops, Flow, Next, Goes, Returns, writes, then_do, at_next, at_label, ◌>>=◌, with_value, choose, step_from, registers, given_to, got, with_read, number_or_none, eval, eval_all, eval_number}
+use Rattle.mon_syntax.specs.Meaning.{replied, Calls, Does, turns, exec, exec_all, left_frame, at_return, body_runs, level, exit_of, ran, function_named, run}
 use Rattle.mon_syntax.specs.Following.{Kept, AllKept, Replied, Follows}
 
 -- ---- what is written
@@ -138,7 +140,8 @@ module _ (L F : Memory) (S : Follows L F) where
   related_later w u Q o (Done a s p) (Stops e n q) le r = r
   related_later w u Q o (Stops e n p) y le r = stops_as-writes e n o p y r
 
-  related_then : {A B A' B' : Type 0} (w : S.World) (Q : S.World → A → B → Type 0) (Q' : S.World → A' → B' → Type 0) (x : Result (State L.Mem) A) (y : Result (State F.Mem) B) (f : A → State L.Mem → Result (State L.Mem) A') (g : B → State F.Mem → Result (State F.Mem) B') → Related w Q x y → ((u : S.World) (a : A) (b : B) (s : State L.Mem) (t : State F.Mem) → S.Later w u → Alike u s t → Q u a b → Related u Q' (f a s) (g b t)) → Related w Q' (then_do x f) (then_do y g)
+  related_then : {A B A' B' : Type 0} (w : S.World) (Q : S.World → A → B → Type 0) (Q' : S.World → A' → B' → Type 0) (x : Result (State L.Mem) A) (y : Result (State F.Mem) B) (f : A → State L.Mem → Result (State L.Mem) A') (g : B → State F.Mem
+      → Result (State F.Mem) B') → Related w Q x y → ((u : S.World) (a : A) (b : B) (s : State L.Mem) (t : State F.Mem) → S.Later w u → Alike u s t → Q u a b → Related u Q' (f a s) (g b t)) → Related w Q' (then_do x f) (then_do y g)
   related_then w Q Q' (Done a s o) (Done b t p) f g r go =
       let k = related_later w r.0 Q' o (f a s) (g b t) r.1 (go r.0 a b s t r.1 r.2 r.3) in
       subst (λ l. Related w Q' (writes o (f a s)) (writes l (g b t))) (sym r.4) k
@@ -148,7 +151,8 @@ module _ (L F : Memory) (S : Follows L F) where
   related_done : {A B : Type 0} (w : S.World) (Q : S.World → A → B → Type 0) (a : A) (b : B) (s : State L.Mem) (t : State F.Mem) (o : List ℕ) → Alike w s t → Q w a b → Related w Q (Done a s o) (Done b t o)
   related_done w Q a b s t o k h = (w, S.later_refl w, k, h, refl)
 
-  related_value : {A B A' B' : Type 0} (w : S.World) (P : A → B → Type 0) (Q : S.World → A' → B' → Type 0) (a : Option A) (b : Option B) (m n : ℕ) (f : A → Result (State L.Mem) A') (g : B → Result (State F.Mem) B') → Kept P a b → ((x : A) (y : B) → P x y → Related w Q (f x) (g y)) → Related w Q (with_value a m f) (with_value b n g)
+  related_value : {A B A' B' : Type 0} (w : S.World) (P : A → B → Type 0) (Q : S.World → A' → B' → Type 0) (a : Option A) (b : Option B) (m n : ℕ) (f : A → Result (State L.Mem) A') (g : B → Result (State F.Mem) B') → Kept P a b
+      → ((x : A) (y : B) → P x y → Related w Q (f x) (g y)) → Related w Q (with_value a m f) (with_value b n g)
   related_value w P Q None b m n f g k go = record { rest = output_of (with_value b n g); is = refl }
   related_value w P Q (Some a) None m n f g k go = absurd k
   related_value w P Q (Some a) (Some b) m n f g k go = go a b k
@@ -236,7 +240,8 @@ module _ (L F : Memory) (S : Follows L F) where
   next_alike f g h w (Returns v) (Goes l q) s t k e = absurd e
   next_alike f g h w (Returns v) (Returns x) s t k e = related_done w SameFlow (Returns v) (Returns x) s t [] k e
 
-  label_choice : (w : S.World) (l : List ℕ) (b : Bool) (r : List L.Val) (q : List F.Val) (s : State L.Mem) (t : State F.Mem) → Alike w s t → Registers w r q → Related w SameFlow (if b then Done (Next r) s [] else Done (Goes l r) s []) (if b then Done (Next q) t [] else Done (Goes l q) t [])
+  label_choice : (w : S.World) (l : List ℕ) (b : Bool) (r : List L.Val) (q : List F.Val) (s : State L.Mem) (t : State F.Mem) → Alike w s t → Registers w r q
+      → Related w SameFlow (if b then Done (Next r) s [] else Done (Goes l r) s []) (if b then Done (Next q) t [] else Done (Goes l q) t [])
   label_choice w l true r q s t k e = related_done w SameFlow (Next r) (Next q) s t [] k e
   label_choice w l false r q s t k e = related_done w SameFlow (Goes l r) (Goes l q) s t [] k (refl, e)
 
@@ -312,7 +317,8 @@ module _ (L F : Memory) (S : Follows L F) where
     exec_alike (Assert e1 e2 number line kind) c d n h w xs ys s t k l =
         related_value w (λ i j. i ≡ j) SameFlow _ _ s.steps t.steps _ _ (kept_eval_number e1 w xs ys k) (λ i j q.
         related_value w (λ i j. i ≡ j) SameFlow _ _ s.steps t.steps _ _ (kept_eval_number e2 w xs ys k) (λ i' j' q'.
-        choose_alike w SameFlow i j _ _ _ _ q (choose_alike w SameFlow i' j' _ _ _ _ q' (related_done w SameFlow (Next xs) (Next ys) s t [] l k) (ap (λ z. Stops (Broken number line kind how.False) z []) (sym l.1))) (ap (λ z. Stops (Broken number line kind how.Undefined) z []) (sym l.1))))
+        choose_alike w SameFlow i j _ _ _ _ q (choose_alike w SameFlow i' j' _ _ _ _ q' (related_done w SameFlow (Next xs) (Next ys) s t [] l k) (ap (λ z. Stops (Broken number line kind how.False) z []) (sym l.1)))
+        (ap (λ z. Stops (Broken number line kind how.Undefined) z []) (sym l.1))))
     exec_alike (PutChar r e) c d n h w xs ys s t k l =
         related_value w (λ i j. i ≡ j) SameFlow _ _ s.steps t.steps _ _ (kept_eval_number e w xs ys k) (λ i j q.
         (w, S.later_refl w, l, kept_given (S.Same w) r xs ys _ _ k (subst (λ z. S.Same w (L.number (pos (byte_of i))) (F.number (pos (byte_of z)))) q (S.number w (pos (byte_of i)))), ap (λ z. byte_of z ∷ []) (sym q)))
@@ -371,11 +377,13 @@ module _ (L F : Memory) (S : Follows L F) where
   return_alike w (Returns (Some v)) (Returns None) s t k e = absurd e
   return_alike w (Returns (Some v)) (Returns (Some x)) s t k e = (w, S.later_refl w, left_alike w s t k, e, refl)
 
-  body_alike : (o : Option MonFunction) (c : Calls L) (d : Calls F) (n : ℕ) → CallsAlike c d → (w : S.World) (xs : List L.Val) (ys : List F.Val) (s : State L.Mem) (t : State F.Mem) → Registers w xs ys → Alike w s t → Related w S.Same (body_runs L o c n xs s) (body_runs F o d n ys t)
+  body_alike : (o : Option MonFunction) (c : Calls L) (d : Calls F) (n : ℕ) → CallsAlike c d → (w : S.World) (xs : List L.Val) (ys : List F.Val) (s : State L.Mem) (t : State F.Mem) → Registers w xs ys → Alike w s t
+      → Related w S.Same (body_runs L o c n xs s) (body_runs F o d n ys t)
   body_alike None c d n h w xs ys s t k l = record { rest = []; is = refl }
   body_alike (Some f) c d n h w xs ys s t k l =
       related_then w S.Same S.Same _ _ _ _ (replied_alike w _ _ s t l (S.enter w s.mem t.mem l.0)) (λ u v z s1 t1 le e r.
-      related_then u SameFlow S.Same _ _ (at_return L) (at_return F) (exec_all_alike f.body c d n h u _ _ s1 t1 (kept_registers (S.Same u) (L.number (pos 0)) (F.number (pos 0)) _ xs ys (S.number u (pos 0)) (registers_later w u xs ys le k)) e) (λ u2 a b s2 t2 le2 e2 r2. return_alike u2 a b s2 t2 e2 r2))
+      related_then u SameFlow S.Same _ _ (at_return L) (at_return F) (exec_all_alike f.body c d n h u _ _ s1 t1 (kept_registers (S.Same u) (L.number (pos 0)) (F.number (pos 0)) _ xs ys (S.number u (pos 0)) (registers_later w u xs ys le k)) e)
+      (λ u2 a b s2 t2 le2 e2 r2. return_alike u2 a b s2 t2 e2 r2))
 
   level_alike : (fs : List MonFunction) (n : ℕ) → CallsAlike (level L fs n) (level F fs n)
   level_alike fs zero f w xs ys s t k l = refl

@@ -4,7 +4,8 @@ use Rattle.grammar.specs.Exact.{IsExact}
 use Rattle.grammar.proofs.Productions.{seq, either, again_and_again, declared, given}
 use Rattle.mon_syntax.specs.declared.tree.MonType.{MonType}
 use Rattle.mon_syntax.specs.Parsed.{NameUse, ParsedRegister, ParsedFunction}
-use Rattle.mon_syntax.specs.Grammar.{Vocabulary, comma, semicolon, left_paren, right_paren, left_brace, right_brace, type_kind, void_kind, head_kind, mark_kind, kind, first_function, register, registers, result, parameter, next_parameter, some_parameters, parameters, function_body, function, one_more_function, text}
+use Rattle.mon_syntax.specs.Grammar.{Vocabulary, comma, semicolon, left_paren, right_paren, left_brace, right_brace, type_kind, void_kind, head_kind, mark_kind, kind, first_function, register, registers, result, parameter, next_parameter}
+use Rattle.mon_syntax.specs.Grammar.{some_parameters, parameters, function_body, function, one_more_function, text}
 use Rattle.mon_syntax.proofs.ExactTokens.{IsRead, fixed_good, type_good, head_good}
 use Rattle.mon_syntax.proofs.ExactExpressions.{named_good}
 use Rattle.mon_syntax.proofs.ExactStatements.{statements_good, statement_good}

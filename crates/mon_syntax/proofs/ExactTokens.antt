@@ -13,7 +13,9 @@ use Rattle.mon_syntax.specs.declared.tree.MonOp.{MonOp}
 use Rattle.mon_syntax.specs.declared.tree.MonOp.TheVariants.{Add, Sub, Mul, Div, Rem, Shl, Shr, And, Or, Xor, Eq, Ne, Lt, Le, Gt, Ge}
 use Rattle.mon_syntax.specs.declared.word.Word.{Word}
 use Rattle.mon_syntax.specs.declared.word.Word.TheVariants as word
-use Rattle.mon_syntax.specs.Grammar.{Vocabulary, shift_left, shift_right, less_equal, greater_equal, equal, not_equal, plus, minus, times, divide, percent, less, greater, ampersand, bar, caret, name_kind, type_kind, constant_kind, number_kind, text_kind, head_kind, mark_kind, word_kind, word_at, token_kind, kind, placed, number_of, text_of, type_of_word, type_of, constant_of_word, constant_of, operator_of, first_operator, fixed, name_of, is_one, is_head}
+use Rattle.mon_syntax.specs.Grammar.{Vocabulary, shift_left, shift_right, less_equal, greater_equal, equal, not_equal, plus, minus, times, divide, percent, less, greater, ampersand, bar, caret, name_kind, type_kind, constant_kind, number_kind}
+use Rattle.mon_syntax.specs.Grammar.{text_kind, head_kind, mark_kind, word_kind, word_at, token_kind, kind, placed, number_of, text_of, type_of_word, type_of, constant_of_word, constant_of, operator_of, first_operator, fixed, name_of, is_one}
+use Rattle.mon_syntax.specs.Grammar.{is_head}
 
 -- a production is read exactly, with these sets: where it can be empty, what begins it, and what a reading can go on with
 abbrev pub IsRead : {A : Type 0} → Vocabulary → Syntax PlainToken A → Bool → List ℕ → List ℕ → Type 0
@@ -105,7 +107,8 @@ module _ (ws : Vocabulary) where
       head_among t x e = tested t (eqb (kind ws t) head_kind) (eqb t.place.line 1) x e
 
   -- one mark of the operators' list
-  operator_step : (m k : ℕ) (op : MonOp) (rest : Option MonOp) {x : MonOp} → among (mark_kind k) first_operator ≡ true → (rest ≡ Some x → among (mark_kind m) first_operator ≡ true) → (if eqb m k then Some op else rest) ≡ Some x → among (mark_kind m) first_operator ≡ true
+  operator_step : (m k : ℕ) (op : MonOp) (rest : Option MonOp) {x : MonOp} → among (mark_kind k) first_operator ≡ true → (rest ≡ Some x → among (mark_kind m) first_operator ≡ true) → (if eqb m k then Some op else rest) ≡ Some x
+      → among (mark_kind m) first_operator ≡ true
   operator_step m k op rest {x} h go e = tested (eqb m k) refl e
     where
       tested : (b : Bool) → eqb m k ≡ b → (if b then Some op else rest) ≡ Some x → among (mark_kind m) first_operator ≡ true

@@ -1,5 +1,6 @@
 -- Flat memory stands for numbered blocks, so that what agrees with a run over blocks is translated.
-use Rattle.std.proofs.Common.{◌≡◌, ℕ, zero, suc, ◌+◌, ◌-◌, ℤ, pos, negsuc, Bool, true, false, nat_lt, nat_le, if◌then◌else◌, List, [], ◌∷◌, ◌++◌, length, length-append, append_assoc, Option, Some, None, slice_get, slice_set, refl, sym, ap, ◌∙◌, subst, arith}
+use Rattle.std.proofs.Common.{◌≡◌, ℕ, zero, suc, ◌+◌, ◌-◌, ℤ, pos, negsuc, Bool, true, false, nat_lt, nat_le, if◌then◌else◌, List, [], ◌∷◌, ◌++◌, length, length-append, append_assoc, Option, Some, None, slice_get, slice_set, refl, sym, ap, ◌∙◌}
+use Rattle.std.proofs.Common.{subst, arith}
 use Rattle.std.proofs.lemmas.List.{append-nil}
 use Rattle.std.proofs.lemmas.Bool.{eq-eqb}
 use Rattle.c_syntax.specs.declared.types.BlockKind.TheVariants.{Stack}
@@ -16,7 +17,8 @@ use Rattle.mon_syntax.specs.declared.tree.MemoryCall.{MemoryCall}
 use Rattle.mon_syntax.specs.declared.tree.MemoryCall.TheVariants.{StoreBlock, DeleteBlock}
 use Rattle.mon_syntax.specs.Trees.{MonitoredProgram}
 use Rattle.mon_syntax.specs.Memory.{Reply, Gives, IsFull, Faults}
-use Rattle.mon_syntax.specs.Memories.{BlockValue, Whole, Points, Blocks, integer_of, enter_blocks, stack_block, store_block, youngest, is_index, dead_at, delete_block, act_on_blocks, over_blocks, block_run, LiveBlock, Flat, taken_by, stack_end, pointer_to, enter_flat, full_at_flat_birth, flat_block, store_flat, delete_youngest, delete_flat, act_on_flat, over_flat, flat_run}
+use Rattle.mon_syntax.specs.Memories.{BlockValue, Whole, Points, Blocks, integer_of, enter_blocks, stack_block, store_block, youngest, is_index, dead_at, delete_block, act_on_blocks, over_blocks, block_run, LiveBlock, Flat, taken_by, stack_end}
+use Rattle.mon_syntax.specs.Memories.{pointer_to, enter_flat, full_at_flat_birth, flat_block, store_flat, delete_youngest, delete_flat, act_on_flat, over_flat, flat_run}
 use Rattle.mon_syntax.specs.LiveBlocks.{live_in}
 use Rattle.mon_syntax.specs.Valid.{IsValid}
 use Rattle.mon_syntax.specs.Following.{Kept, AllKept, Replied, Follows}

@@ -4,7 +4,8 @@ use Rattle.std.specs.Ordering.{int_eq}
 use Rattle.c_model.specs.State.{Input, Spent}
 use Rattle.mon_syntax.specs.Trees.{MonStatement, Set, Step, Assert, PutChar, GetChar, Exit, PrintText, PrintSigned, PrintUnsigned, Act, Call, If, Loop, Labelled, Goto, Return, MonStatements, NoStatement, Then, MonFunction, MonitoredProgram}
 use Rattle.mon_syntax.specs.Memory.{Memory, Reply, Gives, IsFull, Faults}
-use Rattle.mon_syntax.specs.Meaning.{State, Result, Done, Stops, Flow, Next, Goes, Returns, writes, then_do, at_next, at_label, with_value, choose, step_from, got, with_read, eval, eval_all, eval_number, replied, Calls, Does, turns, exec, exec_all, at_return, body_runs, level, exit_of, ran, function_named, run}
+use Rattle.mon_syntax.specs.Meaning.{State, Result, Done, Stops, Flow, Next, Goes, Returns, writes, then_do, at_next, at_label, with_value, choose, step_from, got, with_read, eval, eval_all, eval_number, replied, Calls, Does, turns, exec, exec_all}
+use Rattle.mon_syntax.specs.Meaning.{at_return, body_runs, level, exit_of, ran, function_named, run}
 use Rattle.mon_syntax.specs.Steps.{steps_after}
 
 -- ---- results
@@ -202,7 +203,8 @@ module _ (M : Memory) where
   run_spends p mem input n = omega (arith, left-ran (main_at p n mem input n), (fit_main p n n mem input n (omega arith) (omega arith)).1)
 
   -- a run is the same with any number of turns and calls from its steps on
-  pub run_at : (p : MonitoredProgram) (mem : M.Mem) (input : Input) (n k : ℕ) → n ≤ k → run M p mem input n ≡ ran M (body_runs M (function_named M (codes "main") p.functions) (level M p.functions k) k [] (record { mem = mem; steps = n; input = input }))
+  pub run_at : (p : MonitoredProgram) (mem : M.Mem) (input : Input) (n k : ℕ) → n ≤ k → run M p mem input n ≡ ran M (body_runs M (function_named M (codes "main") p.functions) (level M p.functions k) k []
+      (record { mem = mem; steps = n; input = input }))
   run_at p mem input n k l = ap (ran M) (fit_main p n k mem input n (omega arith) l).0
 
   -- what a statement does is the same with any number of turns and calls from the steps on
@@ -216,7 +218,8 @@ module _ (M : Memory) where
       (fit_exec a s.steps n n (level M fs n) (level M fs n) l l (fit_level fs n n s.steps l l) regs s (omega arith)).1
 
   -- a loop is one turn and then the loop again
-  pub one_turn : (fs : List MonFunction) (a b : MonStatements) (n : ℕ) (regs : List M.Val) (s : State M.Mem) → s.steps ≤ n → exec M (Loop a b) (level M fs n) n regs s ≡ turn (exec_all M a (level M fs n) n) (exec_all M b (level M fs n) n) (exec M (Loop a b) (level M fs n) n) regs s
+  pub one_turn : (fs : List MonFunction) (a b : MonStatements) (n : ℕ) (regs : List M.Val) (s : State M.Mem) → s.steps ≤ n
+      → exec M (Loop a b) (level M fs n) n regs s ≡ turn (exec_all M a (level M fs n) n) (exec_all M b (level M fs n) n) (exec M (Loop a b) (level M fs n) n) regs s
   one_turn fs a b n regs s l = by n (exec_all M a (level M fs n) n) (exec_all M b (level M fs n) n) l (fits a) (fits b)
     where
       fits : (x : MonStatements) → FitDoes s.steps (exec_all M x (level M fs n) n) (exec_all M x (level M fs n) n)

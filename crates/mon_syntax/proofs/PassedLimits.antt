@@ -8,7 +8,11 @@ use Rattle.c_syntax.specs.declared.place.Place.{Place}
 use Rattle.c_syntax.specs.Tokens.{PlainToken}
 use Rattle.mon_syntax.specs.declared.tree.MonType.{MonType}
 use Rattle.mon_syntax.specs.Parsed.{NameUse, ParsedExpression, ParsedArgument, ParsedStatement, ParsedRegister, ParsedFunction}
-use Rattle.mon_syntax.specs.Grammar.{Vocabulary, minus, tilde, comma, left_paren, name_kind, type_kind, constant_kind, void_kind, if_kind, while_kind, goto_kind, number_kind, text_kind, left_brace, mark_kind, word_at, kind, assign, first_expression, first_argument, first_statement, first_function, expression_limit, nesting_limit, LoopRead, has_step, is_step_word, mark, name, signed_number, constant, other_expression, expression_with, second_operand, negation, complement, cast, behind_two, plain_operand, behind_paren, opened, behind_opened, expression_in, expression, expression_but_name, argument, next_argument, some_arguments, arguments, call_of, InBody, ended, set_to_call, set_to_name, set_to, behind_name, one_more, statements, body, selection, one_more_in_loop, loop_end, iteration, labelled, jump, returned, return_statement, statement_with, statement_in, register, registers, result, parameter, next_parameter, some_parameters, parameters, function_body, function, one_more_function, text}
+use Rattle.mon_syntax.specs.Grammar.{Vocabulary, minus, tilde, comma, left_paren, name_kind, type_kind, constant_kind, void_kind, if_kind, while_kind, goto_kind, number_kind, text_kind, left_brace, mark_kind, word_at, kind, assign, first_expression}
+use Rattle.mon_syntax.specs.Grammar.{first_argument, first_statement, first_function, expression_limit, nesting_limit, LoopRead, has_step, is_step_word, mark, name, signed_number, constant, other_expression, expression_with, second_operand, negation}
+use Rattle.mon_syntax.specs.Grammar.{complement, cast, behind_two, plain_operand, behind_paren, opened, behind_opened, expression_in, expression, expression_but_name, argument, next_argument, some_arguments, arguments, call_of, InBody, ended}
+use Rattle.mon_syntax.specs.Grammar.{set_to_call, set_to_name, set_to, behind_name, one_more, statements, body, selection, one_more_in_loop, loop_end, iteration, labelled, jump, returned, return_statement, statement_with, statement_in, register}
+use Rattle.mon_syntax.specs.Grammar.{registers, result, parameter, next_parameter, some_parameters, parameters, function_body, function, one_more_function, text}
 use Rattle.mon_syntax.proofs.ExactTokens.{fixed_good}
 use Rattle.mon_syntax.proofs.ExactExpressions.{paren, none_good}
 use Rattle.mon_syntax.proofs.ExactStatements.{statement_with_good}

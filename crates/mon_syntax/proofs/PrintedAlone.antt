@@ -1,5 +1,6 @@
 -- Each piece of a valid program's text stands alone.
-use Rattle.std.proofs.Common.{◌≡◌, ℕ, zero, suc, ◌+◌, ◌*◌, ◌^◌, ◌<◌, ◌≤◌, Bool, true, false, not, ◌&&◌, ◌||◌, eqb, leb, List, [], ◌∷◌, ◌++◌, length, map, replicate, slice_get, codes, ℤ, pos, negsuc, neg_ℤ, int_le, Option, Some, None, refl, sym, ap, subst, ◌∙◌, arith, true≢false}
+use Rattle.std.proofs.Common.{◌≡◌, ℕ, zero, suc, ◌+◌, ◌*◌, ◌^◌, ◌<◌, ◌≤◌, Bool, true, false, not, ◌&&◌, ◌||◌, eqb, leb, List, [], ◌∷◌, ◌++◌, length, map, replicate, slice_get, codes, ℤ, pos, negsuc, neg_ℤ, int_le, Option, Some, None, refl, sym, ap}
+use Rattle.std.proofs.Common.{subst, ◌∙◌, arith, true≢false}
 use Rattle.std.specs.Prelude.{bytes_eq}
 use Rattle.std.specs.Ordering.{int_eq}
 use Rattle.std.specs.Fmt.{decimal}
@@ -25,9 +26,12 @@ use Rattle.mon_syntax.specs.declared.tree.MonOp.{MonOp}
 use Rattle.mon_syntax.specs.declared.tree.MonOp.TheVariants.{Add, Sub, Mul, Div, Rem, Shl, Shr, And, Or, Xor, Eq, Ne, Lt, Le, Gt, Ge}
 use Rattle.mon_syntax.specs.Names.{type_word, constant_word, IsFreeName}
 use Rattle.mon_syntax.specs.Arithmetic.{least, greatest, fits}
-use Rattle.mon_syntax.specs.Trees.{MonExpression, Register, Constant, Binary, Minus, Flip, Cast, MonStatement, Set, Step, Assert, PutChar, GetChar, Exit, PrintText, PrintSigned, PrintUnsigned, Act, Call, If, Loop, Labelled, Goto, Return, MonStatements, NoStatement, Then, MonRegister, MonFunction}
-use Rattle.mon_syntax.specs.Text.{Word, Quoted, Mark, spelled, blank, new_line, left_paren, right_paren, semicolon, operator_mark, Registers, name_of, call_pieces, set_or_none, expression_pieces, more_arguments, arguments_pieces, assert_arguments, memory_word, FunctionNames, function_name, body_pieces, statement_pieces, statements_pieces, result_word, more_parameters, parameters_pieces, registers_pieces, function_pieces, functions_pieces}
-use Rattle.mon_syntax.specs.Valid.{Types, is_whole, has_constant, HasType, Labels, has_label, IsExpression, greatest_number, memory_parameters, memory_result, TakesValue, AreArguments, Signature, ReturnsResult, IsStatement, AreStatements, AreRegisters, types_of, signature_of, IsFunction, AreFunctions}
+use Rattle.mon_syntax.specs.Trees.{MonExpression, Register, Constant, Binary, Minus, Flip, Cast, MonStatement, Set, Step, Assert, PutChar, GetChar, Exit, PrintText, PrintSigned, PrintUnsigned, Act, Call, If, Loop, Labelled, Goto, Return}
+use Rattle.mon_syntax.specs.Trees.{MonStatements, NoStatement, Then, MonRegister, MonFunction}
+use Rattle.mon_syntax.specs.Text.{Word, Quoted, Mark, spelled, blank, new_line, left_paren, right_paren, semicolon, operator_mark, Registers, name_of, call_pieces, set_or_none, expression_pieces, more_arguments, arguments_pieces, assert_arguments}
+use Rattle.mon_syntax.specs.Text.{memory_word, FunctionNames, function_name, body_pieces, statement_pieces, statements_pieces, result_word, more_parameters, parameters_pieces, registers_pieces, function_pieces, functions_pieces}
+use Rattle.mon_syntax.specs.Valid.{Types, is_whole, has_constant, HasType, Labels, has_label, IsExpression, greatest_number, memory_parameters, memory_result, TakesValue, AreArguments, Signature, ReturnsResult, IsStatement, AreStatements}
+use Rattle.mon_syntax.specs.Valid.{AreRegisters, types_of, signature_of, IsFunction, AreFunctions}
 use Rattle.mon_syntax.proofs.PrintedPieces.{is_word, IsAlone, AreAlone}
 use Rattle.mon_syntax.proofs.PrintedForms.{Pieces, binary_is, closed_is, ended_is, argument_is, arguments_are, assert_is, if_is, loop_is, labelled_is, body_is, then_is, function_is}
 

@@ -208,7 +208,8 @@ module _ (names : List (List ℕ)) (ws : Vocabulary) (words : AreWords names ws)
   condition_checked : (e : MonExpression) (t : MonType) (x : ParsedExpression) → checked_expression scope x ≡ Ok (e, t) → value_of_type scope t (parsed.Value x) ≡ Ok e
   condition_checked e t x p = rw (p, same_types t) refl
 
-  assert_checked : (d v : MonExpression) (n l : ℕ) (k : Kind) (u : NameUse) (at n_at l_at k_at : Place) (x y : ParsedExpression) → checked_expression scope x ≡ Ok (d, I32) → checked_expression scope y ≡ Ok (v, I32) → n ≤ greatest_number → l ≤ greatest_number
+  assert_checked : (d v : MonExpression) (n l : ℕ) (k : Kind) (u : NameUse) (at n_at l_at k_at : Place) (x y : ParsedExpression) → checked_expression scope x ≡ Ok (d, I32) → checked_expression scope y ≡ Ok (v, I32) → n ≤ greatest_number
+      → l ≤ greatest_number
       → runtime_call scope u at (parsed.Value x ∷ parsed.Value y ∷ parsed.Number n_at (pos n) ∷ parsed.Number l_at (pos l) ∷ parsed.Text k_at (kind_word k) ∷ []) runtime.Assert ≡ Ok (Assert d v n l k)
   assert_checked d v n l k u at n_at l_at k_at x y p q g h = rw (condition_checked d I32 x p, condition_checked v I32 y q, number_checked n_at n g, number_checked l_at l h, kind_checked k_at k) refl
 

@@ -8,7 +8,9 @@ use Rattle.c_syntax.specs.Tokens as token
 use Rattle.c_syntax.specs.Tokens.{PlainToken}
 use Rattle.c_model.specs.MonitoredTokens as made
 use Rattle.mon_syntax.specs.Parsed.{ParsedExpression, ParsedStatement, If, Loop, Labelled, Goto, Return}
-use Rattle.mon_syntax.specs.Grammar.{Vocabulary, InBody, LoopRead, nothing_read, is_step, parsed_list, colon, semicolon, left_paren, right_paren, left_brace, right_brace, name_kind, if_kind, else_kind, while_kind, goto_kind, return_kind, mark_kind, word_kind, word_at, kind, is_one, first_expression, first_statement, expression_in, expression, one_more, statements, body, selection, one_more_in_loop, loop_end, iteration, labelled, jump, returned, return_statement, statement_with, statement_in}
+use Rattle.mon_syntax.specs.Grammar.{Vocabulary, InBody, LoopRead, nothing_read, is_step, parsed_list, colon, semicolon, left_paren, right_paren, left_brace, right_brace, name_kind, if_kind, else_kind, while_kind, goto_kind, return_kind, mark_kind}
+use Rattle.mon_syntax.specs.Grammar.{word_kind, word_at, kind, is_one, first_expression, first_statement, expression_in, expression, one_more, statements, body, selection, one_more_in_loop, loop_end, iteration, labelled, jump, returned}
+use Rattle.mon_syntax.specs.Grammar.{return_statement, statement_with, statement_in}
 use Rattle.mon_syntax.proofs.ExactStatements.{one_more_good, one_more_in_loop_good, statement_good}
 use Rattle.mon_syntax.proofs.PrintedSteps.{mark_read, fixed_read, placed_read, name_read, sees_mark, sees_word}
 use Rattle.mon_syntax.proofs.PrintedExpressions.{Begins}
@@ -41,7 +43,8 @@ module _ (ws : Vocabulary) (n : ℕ) where
   unfolding one_more
   one_read xs ts e = rw e refl
 
-  statements_turn : (xs : List ParsedStatement) (x : ParsedStatement) (ts mid : List PlainToken) → sees (kind ws) first_statement ts ≡ true → (S false).parse ts ≡ Ok (x, mid) → (more_statements xs).parse ts ≡ (more_statements (xs ++ (x ∷ []))).parse mid
+  statements_turn : (xs : List ParsedStatement) (x : ParsedStatement) (ts mid : List PlainToken) → sees (kind ws) first_statement ts ≡ true → (S false).parse ts ≡ Ok (x, mid)
+      → (more_statements xs).parse ts ≡ (more_statements (xs ++ (x ∷ []))).parse mid
   statements_turn xs x ts mid s e = turn first_statement (one_more ws S) (λ z. (one_more_good ws (statement_good ws n) z).here) refl xs (xs ++ (x ∷ [])) ts mid s (one_read xs ts e)
 
   statements_end : (xs : List ParsedStatement) (ts : List PlainToken) → sees (kind ws) first_statement ts ≡ false → (more_statements xs).parse ts ≡ Ok (xs, ts)
@@ -65,7 +68,8 @@ module _ (ws : Vocabulary) (n : ℕ) where
   abbrev pub behind_step : List ParsedStatement → List ParsedStatement → LoopRead
   behind_step before xs = record { before = before; behind = Some xs }
 
-  one_before : (xs : List ParsedStatement) (x : ParsedStatement) (ts : List PlainToken) {mid : List PlainToken} → is_step ws x ≡ false → (S false).parse ts ≡ Ok (x, mid) → (one_more_in_loop ws S (before_step xs)).parse ts ≡ Ok (before_step (xs ++ (x ∷ [])), mid)
+  one_before : (xs : List ParsedStatement) (x : ParsedStatement) (ts : List PlainToken) {mid : List PlainToken} → is_step ws x ≡ false → (S false).parse ts ≡ Ok (x, mid)
+      → (one_more_in_loop ws S (before_step xs)).parse ts ≡ Ok (before_step (xs ++ (x ∷ [])), mid)
   unfolding one_more_in_loop
   one_before xs x ts h e = rw (e, h) refl
 
@@ -73,7 +77,8 @@ module _ (ws : Vocabulary) (n : ℕ) where
   unfolding one_more_in_loop
   the_step xs x ts h e = rw (e, h) refl
 
-  one_behind : (before xs : List ParsedStatement) (x : ParsedStatement) (ts : List PlainToken) {mid : List PlainToken} → (S true).parse ts ≡ Ok (x, mid) → (one_more_in_loop ws S (behind_step before xs)).parse ts ≡ Ok (behind_step before (xs ++ (x ∷ [])), mid)
+  one_behind : (before xs : List ParsedStatement) (x : ParsedStatement) (ts : List PlainToken) {mid : List PlainToken} → (S true).parse ts ≡ Ok (x, mid)
+      → (one_more_in_loop ws S (behind_step before xs)).parse ts ≡ Ok (behind_step before (xs ++ (x ∷ [])), mid)
   unfolding one_more_in_loop
   one_behind before xs x ts e = rw e refl
 
@@ -83,13 +88,15 @@ module _ (ws : Vocabulary) (n : ℕ) where
       loop_turn (before_step xs) (before_step (xs ++ (y ∷ []))) ts h.0 h.1 (one_before xs y ts free.0 (h.2 false refl)) ∙ loop_before ys (xs ++ (y ∷ [])) h.0 rest free.1 h.3
       ∙ ap (λ (l : List ParsedStatement). (more_in_loop (before_step l)).parse rest) (append_assoc xs (y ∷ []) ys)
 
-  loop_behind : (before ys xs : List ParsedStatement) (ts rest : List PlainToken) → AreNoSteps ws ys → AreRead ws n ys ts rest → sees (kind ws) first_statement rest ≡ false → (more_in_loop (behind_step before xs)).parse ts ≡ Ok (behind_step before (xs ++ ys), rest)
+  loop_behind : (before ys xs : List ParsedStatement) (ts rest : List PlainToken) → AreNoSteps ws ys → AreRead ws n ys ts rest → sees (kind ws) first_statement rest ≡ false
+      → (more_in_loop (behind_step before xs)).parse ts ≡ Ok (behind_step before (xs ++ ys), rest)
   loop_behind before [] xs ts rest free h s = ap (more_in_loop (behind_step before xs)).parse h ∙ loop_stops (behind_step before xs) rest s ∙ ap (λ (l : List ParsedStatement). Ok (behind_step before l, rest)) (sym (append-nil xs))
   loop_behind before (y ∷ ys) xs ts rest free h s =
       loop_turn (behind_step before xs) (behind_step before (xs ++ (y ∷ []))) ts h.0 h.1 (one_behind before xs y ts (h.2 true free.0)) ∙ loop_behind before ys (xs ++ (y ∷ [])) h.0 rest free.1 h.3 s
       ∙ ap (λ (l : List ParsedStatement). Ok (behind_step before l, rest)) (append_assoc xs (y ∷ []) ys)
 
-  loop_read : (xs ys : List ParsedStatement) (x : ParsedStatement) (ts us : List PlainToken) {vs rest : List PlainToken} → AreNoSteps ws xs → AreRead ws n xs ts us → sees (kind ws) first_statement us ≡ true → is_step ws x ≡ true → (S false).parse us ≡ Ok (x, vs) → AreNoSteps ws ys → AreRead ws n ys vs rest → sees (kind ws) first_statement rest ≡ false → (more_in_loop nothing_read).parse ts ≡ Ok (behind_step xs ys, rest)
+  loop_read : (xs ys : List ParsedStatement) (x : ParsedStatement) (ts us : List PlainToken) {vs rest : List PlainToken} → AreNoSteps ws xs → AreRead ws n xs ts us → sees (kind ws) first_statement us ≡ true → is_step ws x ≡ true
+      → (S false).parse us ≡ Ok (x, vs) → AreNoSteps ws ys → AreRead ws n ys vs rest → sees (kind ws) first_statement rest ≡ false → (more_in_loop nothing_read).parse ts ≡ Ok (behind_step xs ys, rest)
   loop_read xs ys x ts us {vs} {rest} before front s step e after back stop = loop_before xs [] ts us before front ∙ loop_turn (before_step xs) (behind_step xs []) us vs s (the_step xs x us step e) ∙ loop_behind xs ys [] vs rest after back stop
 
   -- ---- bodies
@@ -98,7 +105,8 @@ module _ (ws : Vocabulary) (n : ℕ) where
   unfolding statements
   list_read xs ts {rest} h s = statements_read xs [] ts rest h s
 
-  pub body_read : (xs : List ParsedStatement) {at end : Place} {ts us r rest : List PlainToken} → ts ≡ made.token at (token.Mark left_brace) ∷ us → AreRead ws n xs us r → r ≡ made.token end (token.Mark right_brace) ∷ rest → (body ws S).parse ts ≡ Ok (parsed_list xs, rest)
+  pub body_read : (xs : List ParsedStatement) {at end : Place} {ts us r rest : List PlainToken} → ts ≡ made.token at (token.Mark left_brace) ∷ us → AreRead ws n xs us r → r ≡ made.token end (token.Mark right_brace) ∷ rest
+      → (body ws S).parse ts ≡ Ok (parsed_list xs, rest)
   unfolding body
   body_read xs {us = us} t h c = rw (mark_read ws left_brace t, list_read xs us h (sees_mark ws right_brace c first_statement false refl), mark_read ws right_brace c) refl
 
@@ -127,7 +135,8 @@ module _ (ws : Vocabulary) (n : ℕ) where
       ) refl
 
   pub iteration_read : (k : ℕ) (xs ys : List ParsedStatement) (x : ParsedStatement) (t6 : List PlainToken) {at opening one closing start end : Place} {ts t1 t2 t3 t4 t5 t7 r rest : List PlainToken}
-      → ts ≡ made.token at (token.Word k) ∷ t1 → word_kind (word_at ws k) ≡ while_kind → t1 ≡ made.token opening (token.Mark left_paren) ∷ t2 → t2 ≡ made.token one (token.Number (pos 1) None) ∷ t3 → t3 ≡ made.token closing (token.Mark right_paren) ∷ t4
+      → ts ≡ made.token at (token.Word k) ∷ t1 → word_kind (word_at ws k) ≡ while_kind → t1 ≡ made.token opening (token.Mark left_paren) ∷ t2 → t2 ≡ made.token one (token.Number (pos 1) None) ∷ t3
+      → t3 ≡ made.token closing (token.Mark right_paren) ∷ t4
       → t4 ≡ made.token start (token.Mark left_brace) ∷ t5 → AreNoSteps ws xs → AreRead ws n xs t5 t6 → sees (kind ws) first_statement t6 ≡ true → is_step ws x ≡ true → (S false).parse t6 ≡ Ok (x, t7)
       → AreNoSteps ws ys → AreRead ws n ys t7 r → r ≡ made.token end (token.Mark right_brace) ∷ rest
       → (no_step : Bool) → (statement_with ws S no_step).parse ts ≡ Ok (Loop (parsed_list xs) (parsed_list ys), rest)
@@ -165,7 +174,8 @@ module _ (ws : Vocabulary) (n : ℕ) where
 
   -- ---- jumps
 
-  pub jump_read : (k m : ℕ) {at label end : Place} {ts t1 t2 rest : List PlainToken} → ts ≡ made.token at (token.Word k) ∷ t1 → word_kind (word_at ws k) ≡ goto_kind → t1 ≡ made.token label (token.Word m) ∷ t2 → word_kind (word_at ws m) ≡ name_kind → t2 ≡ made.token end (token.Mark semicolon) ∷ rest
+  pub jump_read : (k m : ℕ) {at label end : Place} {ts t1 t2 rest : List PlainToken} → ts ≡ made.token at (token.Word k) ∷ t1 → word_kind (word_at ws k) ≡ goto_kind → t1 ≡ made.token label (token.Word m) ∷ t2 → word_kind (word_at ws m) ≡ name_kind
+      → t2 ≡ made.token end (token.Mark semicolon) ∷ rest
       → (no_step : Bool) → (statement_with ws S no_step).parse ts ≡ Ok (Goto (record { place = label; number = m }), rest)
   unfolding statement_with jump
   jump_read k m {label = label} t w t1 v t2 no_step =
@@ -192,6 +202,7 @@ module _ (ws : Vocabulary) (n : ℕ) where
     unfolding returned
     return_read u no_step = rw (return_is no_step, sees_mark ws semicolon u first_expression false refl, ended_read ws (Return at None) u) refl
 
-    pub return_value_read : {end : Place} {r rest : List PlainToken} {e : ParsedExpression} → Begins ws us → (expression_in ws 2000).parse us ≡ Ok (e, r) → r ≡ made.token end (token.Mark semicolon) ∷ rest → (no_step : Bool) → (statement_with ws S no_step).parse ts ≡ Ok (Return at (Some e), rest)
+    pub return_value_read : {end : Place} {r rest : List PlainToken} {e : ParsedExpression} → Begins ws us → (expression_in ws 2000).parse us ≡ Ok (e, r) → r ≡ made.token end (token.Mark semicolon) ∷ rest → (no_step : Bool)
+        → (statement_with ws S no_step).parse ts ≡ Ok (Return at (Some e), rest)
     unfolding returned expression
     return_value_read {e = e} b p r no_step = rw (return_is no_step, b first_expression true refl refl refl, p, ended_read ws (Return at (Some e)) r) refl

@@ -7,7 +7,8 @@ use Rattle.c_syntax.specs.Tokens as token
 use Rattle.c_syntax.specs.Tokens.{PlainToken}
 use Rattle.c_model.specs.MonitoredTokens as made
 use Rattle.mon_syntax.specs.Parsed.{NameUse, ParsedExpression, Name, ParsedArgument, Value, Number, Text, ParsedCall, ParsedStatement, Set, Take, Call}
-use Rattle.mon_syntax.specs.Grammar.{Vocabulary, InBody, is_step_word, assign, semicolon, comma, left_paren, right_paren, name_kind, number_kind, text_kind, mark_kind, word_kind, word_at, kind, number_of, text_of, first_argument, expression_in, expression, expression_but_name, opened, behind_opened, other_expression, argument, next_argument, some_arguments, arguments, call_of, ended, set_to_call, set_to_name, set_to, behind_name, statement_with}
+use Rattle.mon_syntax.specs.Grammar.{Vocabulary, InBody, is_step_word, assign, semicolon, comma, left_paren, right_paren, name_kind, number_kind, text_kind, mark_kind, word_kind, word_at, kind, number_of, text_of, first_argument, expression_in}
+use Rattle.mon_syntax.specs.Grammar.{expression, expression_but_name, opened, behind_opened, other_expression, argument, next_argument, some_arguments, arguments, call_of, ended, set_to_call, set_to_name, set_to, behind_name, statement_with}
 use Rattle.mon_syntax.proofs.ExactExpressions.{next_argument_good}
 use Rattle.mon_syntax.proofs.PrintedSteps.{mark_read, placed_read, name_read, sees_mark, sees_word}
 use Rattle.mon_syntax.proofs.PrintedExpressions.{Begins}
@@ -36,17 +37,20 @@ module _ (ws : Vocabulary) where
   abbrev pub more_arguments : List ParsedArgument → Syntax PlainToken (List ParsedArgument)
   more_arguments = many (kind ws) (λ _. mark_kind comma ∷ []) (next_argument ws)
 
-  comma_read : (xs : List ParsedArgument) {at : Place} {ts more rest : List PlainToken} {x : ParsedArgument} → ts ≡ made.token at (token.Mark comma) ∷ more → (argument ws).parse more ≡ Ok (x, rest) → (next_argument ws xs).parse ts ≡ Ok (xs ++ (x ∷ []), rest)
+  comma_read : (xs : List ParsedArgument) {at : Place} {ts more rest : List PlainToken} {x : ParsedArgument} → ts ≡ made.token at (token.Mark comma) ∷ more → (argument ws).parse more ≡ Ok (x, rest)
+      → (next_argument ws xs).parse ts ≡ Ok (xs ++ (x ∷ []), rest)
   unfolding next_argument
   comma_read xs t e = rw (mark_read ws comma t, e) refl
 
-  pub next_read : (xs : List ParsedArgument) {at : Place} {ts more rest : List PlainToken} {x : ParsedArgument} → ts ≡ made.token at (token.Mark comma) ∷ more → (argument ws).parse more ≡ Ok (x, rest) → (more_arguments xs).parse ts ≡ (more_arguments (xs ++ (x ∷ []))).parse rest
+  pub next_read : (xs : List ParsedArgument) {at : Place} {ts more rest : List PlainToken} {x : ParsedArgument} → ts ≡ made.token at (token.Mark comma) ∷ more → (argument ws).parse more ≡ Ok (x, rest)
+      → (more_arguments xs).parse ts ≡ (more_arguments (xs ++ (x ∷ []))).parse rest
   next_read xs {at} {ts} {more} {rest} {x} t e = turn (mark_kind comma ∷ []) (next_argument ws) (λ z. (next_argument_good ws z).here) refl xs (xs ++ (x ∷ [])) ts rest (sees_mark ws comma t (mark_kind comma ∷ []) true refl) (comma_read xs t e)
 
   pub no_more_read : (xs : List ParsedArgument) {at : Place} {ts rest : List PlainToken} → ts ≡ made.token at (token.Mark right_paren) ∷ rest → (more_arguments xs).parse ts ≡ Ok (xs, ts)
   no_more_read xs {at} {ts} {rest} t = turn_ends (mark_kind comma ∷ []) (next_argument ws) (λ z. (next_argument_good ws z).here) refl xs ts (sees_mark ws right_paren t (mark_kind comma ∷ []) false refl)
 
-  pub arguments_read : (ts : List PlainToken) {r rest : List PlainToken} {x : ParsedArgument} {xs : List ParsedArgument} → sees (kind ws) first_argument ts ≡ true → (argument ws).parse ts ≡ Ok (x, r) → (more_arguments (x ∷ [])).parse r ≡ Ok (xs, rest) → (arguments ws false).parse ts ≡ Ok (xs, rest)
+  pub arguments_read : (ts : List PlainToken) {r rest : List PlainToken} {x : ParsedArgument} {xs : List ParsedArgument} → sees (kind ws) first_argument ts ≡ true → (argument ws).parse ts ≡ Ok (x, r)
+      → (more_arguments (x ∷ [])).parse r ≡ Ok (xs, rest) → (arguments ws false).parse ts ≡ Ok (xs, rest)
   unfolding arguments some_arguments
   arguments_read ts s e m = rw (s, e, m) refl
 
@@ -54,7 +58,8 @@ module _ (ws : Vocabulary) where
   unfolding arguments
   no_argument_read t = rw (sees_mark ws right_paren t first_argument false refl) refl
 
-  pub call_read : (f : NameUse) {at end : Place} {ts us r rest : List PlainToken} {xs : List ParsedArgument} → ts ≡ made.token at (token.Mark left_paren) ∷ us → (arguments ws false).parse us ≡ Ok (xs, r) → r ≡ made.token end (token.Mark right_paren) ∷ rest → (call_of ws false f).parse ts ≡ Ok (record { callee = f; place = at; arguments = xs }, rest)
+  pub call_read : (f : NameUse) {at end : Place} {ts us r rest : List PlainToken} {xs : List ParsedArgument} → ts ≡ made.token at (token.Mark left_paren) ∷ us → (arguments ws false).parse us ≡ Ok (xs, r)
+      → r ≡ made.token end (token.Mark right_paren) ∷ rest → (call_of ws false f).parse ts ≡ Ok (record { callee = f; place = at; arguments = xs }, rest)
   unfolding call_of
   call_read f t e c = rw (mark_read ws left_paren t, e, mark_read ws right_paren c) refl
 
@@ -65,17 +70,21 @@ module _ (ws : Vocabulary) where
   -- ---- statements that begin with a name
 
   module _ (S : InBody ws) (no_step : Bool) where
-    pub name_statement : (n : ℕ) {at : Place} {ts us rest : List PlainToken} {a : ParsedStatement} → ts ≡ made.token at (token.Word n) ∷ us → word_kind (word_at ws n) ≡ name_kind → (behind_name ws no_step (record { place = at; number = n })).parse us ≡ Ok (a, rest) → (statement_with ws S no_step).parse ts ≡ Ok (a, rest)
+    pub name_statement : (n : ℕ) {at : Place} {ts us rest : List PlainToken} {a : ParsedStatement} → ts ≡ made.token at (token.Word n) ∷ us → word_kind (word_at ws n) ≡ name_kind
+        → (behind_name ws no_step (record { place = at; number = n })).parse us ≡ Ok (a, rest) → (statement_with ws S no_step).parse ts ≡ Ok (a, rest)
     unfolding statement_with
     name_statement n t w e = rw (sees_word ws n name_kind t w (name_kind ∷ []) true refl, name_read ws n t w, e) refl
 
     -- NAME(..);
-    pub call_behind : (x : NameUse) {opening end : Place} {ts us r rest : List PlainToken} {c : ParsedCall} → no_step && is_step_word (word_at ws x.number) ≡ false → ts ≡ made.token opening (token.Mark left_paren) ∷ us → (call_of ws false x).parse ts ≡ Ok (c, r) → r ≡ made.token end (token.Mark semicolon) ∷ rest → (behind_name ws no_step x).parse ts ≡ Ok (Call c, rest)
+    pub call_behind : (x : NameUse) {opening end : Place} {ts us r rest : List PlainToken} {c : ParsedCall} → no_step && is_step_word (word_at ws x.number) ≡ false → ts ≡ made.token opening (token.Mark left_paren) ∷ us
+        → (call_of ws false x).parse ts ≡ Ok (c, r) → r ≡ made.token end (token.Mark semicolon) ∷ rest → (behind_name ws no_step x).parse ts ≡ Ok (Call c, rest)
     unfolding behind_name
     call_behind x {c = c} flag t e s = rw (sees_mark ws left_paren t (mark_kind assign ∷ []) false refl, flag, e, ended_read (Call c) s) refl
 
     -- = NAME(..);
-    pub take_behind : (x : NameUse) (n : ℕ) {at to opening end : Place} {ts us vs zs r rest : List PlainToken} {c : ParsedCall} → ts ≡ made.token at (token.Mark assign) ∷ us → us ≡ made.token to (token.Word n) ∷ vs → word_kind (word_at ws n) ≡ name_kind → vs ≡ made.token opening (token.Mark left_paren) ∷ zs → (call_of ws false (record { place = to; number = n })).parse vs ≡ Ok (c, r) → r ≡ made.token end (token.Mark semicolon) ∷ rest → (behind_name ws no_step x).parse ts ≡ Ok (Take x at c, rest)
+    pub take_behind : (x : NameUse) (n : ℕ) {at to opening end : Place} {ts us vs zs r rest : List PlainToken} {c : ParsedCall} → ts ≡ made.token at (token.Mark assign) ∷ us → us ≡ made.token to (token.Word n) ∷ vs
+        → word_kind (word_at ws n) ≡ name_kind → vs ≡ made.token opening (token.Mark left_paren) ∷ zs → (call_of ws false (record { place = to; number = n })).parse vs ≡ Ok (c, r) → r ≡ made.token end (token.Mark semicolon) ∷ rest
+        → (behind_name ws no_step x).parse ts ≡ Ok (Take x at c, rest)
     unfolding behind_name set_to set_to_name set_to_call
     take_behind x n {at} {c = c} t u w v e s =
         rw (
@@ -89,7 +98,8 @@ module _ (ws : Vocabulary) where
         ) refl
 
     -- = NAME;
-    pub set_name_behind : (x : NameUse) (n : ℕ) {at to end : Place} {ts us vs rest : List PlainToken} → ts ≡ made.token at (token.Mark assign) ∷ us → us ≡ made.token to (token.Word n) ∷ vs → word_kind (word_at ws n) ≡ name_kind → vs ≡ made.token end (token.Mark semicolon) ∷ rest → (behind_name ws no_step x).parse ts ≡ Ok (Set x at (Name (record { place = to; number = n })), rest)
+    pub set_name_behind : (x : NameUse) (n : ℕ) {at to end : Place} {ts us vs rest : List PlainToken} → ts ≡ made.token at (token.Mark assign) ∷ us → us ≡ made.token to (token.Word n) ∷ vs → word_kind (word_at ws n) ≡ name_kind
+        → vs ≡ made.token end (token.Mark semicolon) ∷ rest → (behind_name ws no_step x).parse ts ≡ Ok (Set x at (Name (record { place = to; number = n })), rest)
     unfolding behind_name set_to set_to_name
     set_name_behind x n {at} {to} t u w s =
         rw (
@@ -102,6 +112,7 @@ module _ (ws : Vocabulary) where
         ) refl
 
     -- = EXPRESSION;
-    pub set_behind : (x : NameUse) {at end : Place} {ts us r rest : List PlainToken} {e : ParsedExpression} → ts ≡ made.token at (token.Mark assign) ∷ us → sees (kind ws) (name_kind ∷ []) us ≡ false → (other_expression ws (opened ws 2000) (behind_opened ws 2000)).parse us ≡ Ok (e, r) → r ≡ made.token end (token.Mark semicolon) ∷ rest → (behind_name ws no_step x).parse ts ≡ Ok (Set x at e, rest)
+    pub set_behind : (x : NameUse) {at end : Place} {ts us r rest : List PlainToken} {e : ParsedExpression} → ts ≡ made.token at (token.Mark assign) ∷ us → sees (kind ws) (name_kind ∷ []) us ≡ false
+        → (other_expression ws (opened ws 2000) (behind_opened ws 2000)).parse us ≡ Ok (e, r) → r ≡ made.token end (token.Mark semicolon) ∷ rest → (behind_name ws no_step x).parse ts ≡ Ok (Set x at e, rest)
     unfolding behind_name set_to expression_but_name
     set_behind x {at} {e = e} t u p s = rw (sees_mark ws assign t (mark_kind assign ∷ []) true refl, mark_read ws assign t, u, p, ended_read (Set x at e) s) refl

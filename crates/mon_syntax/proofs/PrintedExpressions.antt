@@ -18,7 +18,8 @@ use Rattle.mon_syntax.specs.Text.{Registers, name_of, number_pieces, expression_
 use Rattle.mon_syntax.specs.Valid.{Types, is_arithmetic, is_whole, result_type, HasType, open_parens}
 use Rattle.mon_syntax.specs.Parsed as parsed
 use Rattle.mon_syntax.specs.Parsed.{ParsedExpression}
-use Rattle.mon_syntax.specs.Grammar.{Vocabulary, minus, tilde, left_paren, right_paren, name_kind, type_kind, constant_kind, mark_kind, word_kind, word_at, kind, number_of, type_of_word, type_of, constant_of_word, constant_of, operator_of, signed_number, constant, other_expression, expression_with, second_operand, negation, complement, cast, behind_two, plain_operand, behind_paren, opened, behind_opened, expression_in}
+use Rattle.mon_syntax.specs.Grammar.{Vocabulary, minus, tilde, left_paren, right_paren, name_kind, type_kind, constant_kind, mark_kind, word_kind, word_at, kind, number_of, type_of_word, type_of, constant_of_word, constant_of, operator_of}
+use Rattle.mon_syntax.specs.Grammar.{signed_number, constant, other_expression, expression_with, second_operand, negation, complement, cast, behind_two, plain_operand, behind_paren, opened, behind_opened, expression_in}
 use Rattle.mon_syntax.specs.Checking.{Header, same_type, find_register, scope_of, checked_expression}
 use Rattle.mon_syntax.proofs.PrintedPieces.{punctuator, AreTokens}
 use Rattle.mon_syntax.proofs.PrintedForms.{Pieces, binary_is, closed_is}
@@ -40,19 +41,23 @@ same_types Ptr = refl
 
 module _ (ws : Vocabulary) where
   module _ {at : Place} {ts more : List PlainToken} where
-    negation_read : (E : Syntax PlainToken ParsedExpression) {x : ParsedExpression} {end : Place} {r rest : List PlainToken} → ts ≡ made.token at (token.Mark minus) ∷ more → E.parse more ≡ Ok (x, r) → r ≡ made.token end (token.Mark right_paren) ∷ rest → (negation ws E).parse ts ≡ Ok (parsed.Minus at x, rest)
+    negation_read : (E : Syntax PlainToken ParsedExpression) {x : ParsedExpression} {end : Place} {r rest : List PlainToken} → ts ≡ made.token at (token.Mark minus) ∷ more → E.parse more ≡ Ok (x, r)
+        → r ≡ made.token end (token.Mark right_paren) ∷ rest → (negation ws E).parse ts ≡ Ok (parsed.Minus at x, rest)
     unfolding negation
     negation_read E t e c = rw (mark_read ws minus t, e, mark_read ws right_paren c) refl
 
-    complement_read : (E : Syntax PlainToken ParsedExpression) {x : ParsedExpression} {end : Place} {r rest : List PlainToken} → ts ≡ made.token at (token.Mark tilde) ∷ more → E.parse more ≡ Ok (x, r) → r ≡ made.token end (token.Mark right_paren) ∷ rest → (complement ws E).parse ts ≡ Ok (parsed.Flip at x, rest)
+    complement_read : (E : Syntax PlainToken ParsedExpression) {x : ParsedExpression} {end : Place} {r rest : List PlainToken} → ts ≡ made.token at (token.Mark tilde) ∷ more → E.parse more ≡ Ok (x, r)
+        → r ≡ made.token end (token.Mark right_paren) ∷ rest → (complement ws E).parse ts ≡ Ok (parsed.Flip at x, rest)
     unfolding complement
     complement_read E t e c = rw (mark_read ws tilde t, e, mark_read ws right_paren c) refl
 
-    second_read : (E : Syntax PlainToken ParsedExpression) (op : MonOp) (left : ParsedExpression) {x : ParsedExpression} {end : Place} {r rest : List PlainToken} → ts ≡ made.token at (token.Mark (punctuator (text.operator_mark op))) ∷ more → E.parse more ≡ Ok (x, r) → r ≡ made.token end (token.Mark right_paren) ∷ rest → (second_operand ws E left).parse ts ≡ Ok (parsed.Binary at op left x, rest)
+    second_read : (E : Syntax PlainToken ParsedExpression) (op : MonOp) (left : ParsedExpression) {x : ParsedExpression} {end : Place} {r rest : List PlainToken} → ts ≡ made.token at (token.Mark (punctuator (text.operator_mark op))) ∷ more
+        → E.parse more ≡ Ok (x, r) → r ≡ made.token end (token.Mark right_paren) ∷ rest → (second_operand ws E left).parse ts ≡ Ok (parsed.Binary at op left x, rest)
     unfolding second_operand
     second_read E op left t e c = rw (placed_read ws operator_of (token.Mark (punctuator (text.operator_mark op))) op t (operator_mark_is op), e, mark_read ws right_paren c) refl
 
-  cast_read : (E : Syntax PlainToken ParsedExpression) (place : Place) (k : MonType) (n : ℕ) {at close end : Place} {ts us more r rest : List PlainToken} {x : ParsedExpression} → ts ≡ made.token at (token.Word n) ∷ us → word_at ws n ≡ word.TypeName k → us ≡ made.token close (token.Mark right_paren) ∷ more → E.parse more ≡ Ok (x, r) → r ≡ made.token end (token.Mark right_paren) ∷ rest → (cast ws E place).parse ts ≡ Ok (parsed.Cast place k x, rest)
+  cast_read : (E : Syntax PlainToken ParsedExpression) (place : Place) (k : MonType) (n : ℕ) {at close end : Place} {ts us more r rest : List PlainToken} {x : ParsedExpression} → ts ≡ made.token at (token.Word n) ∷ us → word_at ws n ≡ word.TypeName k
+      → us ≡ made.token close (token.Mark right_paren) ∷ more → E.parse more ≡ Ok (x, r) → r ≡ made.token end (token.Mark right_paren) ∷ rest → (cast ws E place).parse ts ≡ Ok (parsed.Cast place k x, rest)
   unfolding cast
   cast_read E place k n t w u e c = rw (placed_read ws (type_of ws) (token.Word n) k t (ap type_of_word w), mark_read ws right_paren u, e, mark_read ws right_paren c) refl
 
@@ -66,7 +71,8 @@ module _ (ws : Vocabulary) where
   unfolding signed_number
   negative_read n t u = rw (sees_mark ws minus t (mark_kind minus ∷ []) true refl, mark_read ws minus t, placed_read ws number_of (token.Number (pos (suc n)) None) (pos (suc n)) u refl) refl
 
-  constant_read : (O : Syntax PlainToken Place) (k : MonType) (z : ℤ) (n : ℕ) {at opening close : Place} {ts us vs r rest : List PlainToken} → ts ≡ made.token at (token.Word n) ∷ us → word_at ws n ≡ word.Constant k → O.parse us ≡ Ok (opening, vs) → (signed_number ws).parse vs ≡ Ok (z, r) → r ≡ made.token close (token.Mark right_paren) ∷ rest → (constant ws O).parse ts ≡ Ok (parsed.Constant at k z, rest)
+  constant_read : (O : Syntax PlainToken Place) (k : MonType) (z : ℤ) (n : ℕ) {at opening close : Place} {ts us vs r rest : List PlainToken} → ts ≡ made.token at (token.Word n) ∷ us → word_at ws n ≡ word.Constant k → O.parse us ≡ Ok (opening, vs)
+      → (signed_number ws).parse vs ≡ Ok (z, r) → r ≡ made.token close (token.Mark right_paren) ∷ rest → (constant ws O).parse ts ≡ Ok (parsed.Constant at k z, rest)
   unfolding constant
   constant_read O k z n t w o e c = rw (placed_read ws (constant_of ws) (token.Word n) k t (ap constant_of_word w), o, e, mark_read ws right_paren c) refl
 
@@ -83,7 +89,8 @@ module _ (ws : Vocabulary) where
   unfolding behind_opened behind_paren expression_in
   tilde_behind m t = rw (sees_mark ws tilde t (mark_kind minus ∷ []) false refl, sees_mark ws tilde t (mark_kind tilde ∷ []) true refl) refl
 
-  cast_behind : (m n : ℕ) {at to : Place} {ts us more : List PlainToken} → 0 < m → ts ≡ made.token at (token.Mark left_paren) ∷ us → us ≡ made.token to (token.Word n) ∷ more → word_kind (word_at ws n) ≡ type_kind → (behind_opened ws (suc m)).parse ts ≡ (cast ws (expression_in ws m) at).parse us
+  cast_behind : (m n : ℕ) {at to : Place} {ts us more : List PlainToken} → 0 < m → ts ≡ made.token at (token.Mark left_paren) ∷ us → us ≡ made.token to (token.Word n) ∷ more → word_kind (word_at ws n) ≡ type_kind
+      → (behind_opened ws (suc m)).parse ts ≡ (cast ws (expression_in ws m) at).parse us
   unfolding behind_opened behind_paren behind_two expression_in
   cast_behind m n some t u w =
       rw (
@@ -289,7 +296,8 @@ module _ (names : List (List ℕ)) (ws : Vocabulary) (words : AreWords names ws)
       let x = expression_is a m k _ g.1 (omega arith) h.2 g.3 in
       let y = expression_is b m k _ x.after.1 (omega arith) h.3 x.after.3 in
       let is = behind_suc ws m g.1 ∙ x.first ∙ second_read ws (expression_in ws m) op x.tree x.after.2 y.parsed y.after.2 in
-      paren_is (suc m) (Binary op k a b) t more (parsed.Binary x.after.0 op x.tree y.tree) y.after.1 (omega arith) g.2 is (x.begins (type_kind ∷ []) false refl refl refl) y.after.3 (binary_checked op k t a b x.after.0 x.tree y.tree x.checked y.checked h.1 h.0) (λ z. z)
+      paren_is (suc m) (Binary op k a b) t more (parsed.Binary x.after.0 op x.tree y.tree) y.after.1 (omega arith) g.2 is (x.begins (type_kind ∷ []) false refl refl refl) y.after.3
+      (binary_checked op k t a b x.after.0 x.tree y.tree x.checked y.checked h.1 h.0) (λ z. z)
   expression_is (Minus k a) zero t more ts le h g = absurd (omega arith)
   expression_is (Minus k a) (suc m) t more ts le h g0 =
       let g = subst (λ (l : Pieces). AreTokens names (text.left_paren ∷ text.Mark (codes "-") ∷ l) ts) (closed_is rs more a) g0 in

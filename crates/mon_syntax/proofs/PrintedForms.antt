@@ -3,7 +3,8 @@ use Rattle.std.proofs.Common.{◌≡◌, ℕ, ◌+◌, List, [], ◌∷◌, ◌+
 use Rattle.mon_syntax.specs.declared.tree.MonType.{MonType}
 use Rattle.mon_syntax.specs.declared.tree.MonOp.{MonOp}
 use Rattle.mon_syntax.specs.Trees.{MonExpression, Binary, MonStatement, If, Loop, Labelled, MonStatements, Then, MonFunction}
-use Rattle.mon_syntax.specs.Text.{Piece, Word, Number, Quoted, Mark, blank, new_line, left_paren, right_paren, semicolon, operator_mark, Registers, expression_pieces, more_arguments, assert_arguments, FunctionNames, body_pieces, statement_pieces, statements_pieces, result_word, parameters_pieces, registers_pieces, function_pieces}
+use Rattle.mon_syntax.specs.Text.{Piece, Word, Number, Quoted, Mark, blank, new_line, left_paren, right_paren, semicolon, operator_mark, Registers, expression_pieces, more_arguments, assert_arguments, FunctionNames, body_pieces, statement_pieces}
+use Rattle.mon_syntax.specs.Text.{statements_pieces, result_word, parameters_pieces, registers_pieces, function_pieces}
 
 abbrev pub Pieces : Type 0
 Pieces = List Piece
@@ -11,7 +12,8 @@ Pieces = List Piece
 module _ (rs : Registers) (more : Pieces) where
   -- ---- expressions
 
-  pub binary_is : (op : MonOp) (t : MonType) (a b : MonExpression) → expression_pieces rs (Binary op t a b) ++ more ≡ left_paren ∷ (expression_pieces rs a ++ (blank ∷ Mark (operator_mark op) ∷ blank ∷ (expression_pieces rs b ++ (right_paren ∷ more))))
+  pub binary_is : (op : MonOp) (t : MonType) (a b : MonExpression) → expression_pieces rs (Binary op t a b) ++ more ≡ left_paren ∷
+      (expression_pieces rs a ++ (blank ∷ Mark (operator_mark op) ∷ blank ∷ (expression_pieces rs b ++ (right_paren ∷ more))))
   binary_is op t a b =
       let A = expression_pieces rs a in
       let B = expression_pieces rs b in
@@ -69,7 +71,8 @@ module _ (gs : FunctionNames) (rs : Registers) (more : Pieces) where
 
   pub loop_is : (depth : ℕ) (a b : MonStatements)
       → statement_pieces gs rs depth (Loop a b) ++ more
-      ≡ Word (codes "while") ∷ blank ∷ left_paren ∷ Number 1 ∷ right_paren ∷ blank ∷ Mark (codes "{") ∷ (statements_pieces gs rs (depth + 1) a ++ (new_line (depth + 1) ∷ Word (codes "__e_acsl_step") ∷ left_paren ∷ right_paren ∷ semicolon ∷ (statements_pieces gs rs (depth + 1) b ++ (new_line depth ∷ Mark (codes "}") ∷ more))))
+      ≡ Word (codes "while") ∷ blank ∷ left_paren ∷ Number 1 ∷ right_paren ∷ blank ∷ Mark (codes "{") ∷ (statements_pieces gs rs (depth + 1) a ++ (new_line (depth + 1) ∷ Word (codes "__e_acsl_step") ∷ left_paren ∷ right_paren ∷ semicolon ∷
+      (statements_pieces gs rs (depth + 1) b ++ (new_line depth ∷ Mark (codes "}") ∷ more))))
   loop_is depth a b =
       let A = statements_pieces gs rs (depth + 1) a in
       let B = statements_pieces gs rs (depth + 1) b in
@@ -100,7 +103,8 @@ module _ (gs : FunctionNames) (rs : Registers) (more : Pieces) where
 
 pub function_is : (gs : FunctionNames) (f : MonFunction) (more : Pieces)
     → function_pieces gs f ++ more
-    ≡ Word (result_word f.result) ∷ blank ∷ Word f.name ∷ left_paren ∷ (parameters_pieces f.parameters ++ (right_paren ∷ blank ∷ Mark (codes "{") ∷ (registers_pieces f.registers ++ (statements_pieces gs (f.parameters ++ f.registers) 1 f.body ++ (new_line 0 ∷ Mark (codes "}") ∷ new_line 0 ∷ more)))))
+    ≡ Word (result_word f.result) ∷ blank ∷ Word f.name ∷ left_paren ∷ (parameters_pieces f.parameters ++
+    (right_paren ∷ blank ∷ Mark (codes "{") ∷ (registers_pieces f.registers ++ (statements_pieces gs (f.parameters ++ f.registers) 1 f.body ++ (new_line 0 ∷ Mark (codes "}") ∷ new_line 0 ∷ more)))))
 function_is gs f more =
     let P = parameters_pieces f.parameters in
     let R = registers_pieces f.registers in

@@ -20,7 +20,8 @@ use Rattle.mon_syntax.specs.Text.{Registers, FunctionNames, function_name, state
 use Rattle.mon_syntax.specs.Valid.{has_label, Signature, depth_of_all, types_of, signature_of, IsFunction, AreFunctions}
 use Rattle.mon_syntax.specs.Parsed.{ParsedStatement, ParsedRegister, ParsedFunction}
 use Rattle.mon_syntax.specs.Grammar as form
-use Rattle.mon_syntax.specs.Grammar.{Vocabulary, left_paren, right_paren, left_brace, right_brace, name_kind, type_kind, void_kind, mark_kind, word_kind, word_at, kind, type_of_word, type_of, first_function, first_statement, parsed_list, registers, parameters, function_body, function}
+use Rattle.mon_syntax.specs.Grammar.{Vocabulary, left_paren, right_paren, left_brace, right_brace, name_kind, type_kind, void_kind, mark_kind, word_kind, word_at, kind, type_of_word, type_of, first_function, first_statement, parsed_list, registers}
+use Rattle.mon_syntax.specs.Grammar.{parameters, function_body, function}
 use Rattle.mon_syntax.specs.Checking.{Header, find_function, scope_of, checked_registers, named_register, checked_statements, kinds_of, word_bytes, function_of, result_of, checked_function}
 use Rattle.mon_syntax.proofs.PrintedPieces.{AreTokens, is_same}
 use Rattle.mon_syntax.proofs.PrintedForms.{Pieces, function_is}
@@ -149,7 +150,8 @@ module _ (ws : Vocabulary) where
   body_begins n [] ts h e = sees_mark ws right_brace (h ∙ e) (type_kind ∷ []) false refl
   body_begins n (x ∷ xs) ts h e = sees_no_type ts h.1
 
-  function_read : (r : Option MonType) (k : ℕ) (ps rs : List ParsedRegister) (xs : List ParsedStatement) (ts t3 : List PlainToken) {to opening closing start end : Place} {t1 t2 t4 t5 t6 : List PlainToken} (t7 : List PlainToken) {t8 rest : List PlainToken}
+  function_read : (r : Option MonType) (k : ℕ) (ps rs : List ParsedRegister) (xs : List ParsedStatement) (ts t3 : List PlainToken) {to opening closing start end : Place} {t1 t2 t4 t5 t6 : List PlainToken}
+      (t7 : List PlainToken) {t8 rest : List PlainToken}
       → (form.result ws).parse ts ≡ Ok (r, t1) → t1 ≡ made.token to (token.Word k) ∷ t2 → word_kind (word_at ws k) ≡ name_kind
       → t2 ≡ made.token opening (token.Mark left_paren) ∷ t3
       → (parameters ws).parse t3 ≡ Ok (ps, t4) → t4 ≡ made.token closing (token.Mark right_paren) ∷ t5 → t5 ≡ made.token start (token.Mark left_brace) ∷ t6

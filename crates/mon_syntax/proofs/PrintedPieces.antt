@@ -1,5 +1,6 @@
 -- The pieces of a text, each alone where it stands, are read as its tokens, in their order.
-use Rattle.std.proofs.Common.{◌≡◌, ℕ, suc, ◌+◌, ◌-◌, ◌*◌, ◌/◌, ◌%◌, ◌<◌, ◌≤◌, Bool, true, false, cond, not, ◌&&◌, ◌||◌, leb, ltb, List, [], ◌∷◌, ◌++◌, length, take, slice_get, codes, pos, Option, Some, None, Ok, refl, sym, ap, subst, ◌∙◌, arith, append_assoc, length-append, eq-eqb}
+use Rattle.std.proofs.Common.{◌≡◌, ℕ, suc, ◌+◌, ◌-◌, ◌*◌, ◌/◌, ◌%◌, ◌<◌, ◌≤◌, Bool, true, false, cond, not, ◌&&◌, ◌||◌, leb, ltb, List, [], ◌∷◌, ◌++◌, length, take, slice_get, codes, pos, Option, Some, None, Ok, refl, sym, ap, subst, ◌∙◌, arith}
+use Rattle.std.proofs.Common.{append_assoc, length-append, eq-eqb}
 use Rattle.std.specs.Prelude.{bytes_eq}
 use Rattle.std.specs.Fmt.{decimal}
 use Rattle.std.specs.List.{prefix_len, list_all, list_any, AllByRecursion}
@@ -17,12 +18,14 @@ use Rattle.c_model.specs.declared.monitored_tokens.Piece.TheVariants as piece
 use Rattle.c_model.specs.Characters.{is_blank, is_digit, is_nondigit, is_part, in_literal}
 use Rattle.c_model.specs.Places.{next, walk, first_place}
 use Rattle.c_model.specs.Names.{with_name, name_number}
-use Rattle.c_model.specs.MonitoredTokens.{found, word_at, greatest_literal, literal_of, number_at, is_plain, is_octal, octal_byte, in_string, chars_of, string_at, head_line, head_at, piece_at, fresh_behind, fresh_after, Cut, cut, Read, token, add, inside, build, nothing_read, monitored_tokens}
+use Rattle.c_model.specs.MonitoredTokens.{found, word_at, greatest_literal, literal_of, number_at, is_plain, is_octal, octal_byte, in_string, chars_of, string_at, head_line, head_at, piece_at, fresh_behind, fresh_after, Cut, cut, Read, token, add}
+use Rattle.c_model.specs.MonitoredTokens.{inside, build, nothing_read, monitored_tokens}
 use Rattle.c_model.specs.MonitoredTokenLaws.{Stops, with_names}
 use Rattle.c_model.proofs.Spelling.{and_true, front_is, digit_in}
 use Rattle.c_model.proofs.NameLaws.{number_points}
 use Rattle.mon_syntax.specs.Names.{begins_name}
-use Rattle.mon_syntax.specs.Grammar.{shift_left, shift_right, less_equal, greater_equal, equal, not_equal, plus, minus, times, divide, percent, less, greater, assign, tilde, ampersand, bar, caret, colon, semicolon, comma, left_paren, right_paren, left_brace, right_brace}
+use Rattle.mon_syntax.specs.Grammar.{shift_left, shift_right, less_equal, greater_equal, equal, not_equal, plus, minus, times, divide, percent, less, greater, assign, tilde, ampersand, bar, caret, colon, semicolon, comma, left_paren, right_paren}
+use Rattle.mon_syntax.specs.Grammar.{left_brace, right_brace}
 use Rattle.mon_syntax.specs.Text as text
 use Rattle.mon_syntax.specs.Text.{escaped, quoted, spelled_piece, spelled, new_line}
 
@@ -299,7 +302,8 @@ build_cut : (r : Read) (at : Place) (q : Piece) (bytes : List ℕ) (more : _) �
 unfolding build
 build_cut r at q bytes more = refl
 
-one_cut : (q : Piece) (xs bs : List ℕ) (r : Read) (at : Place) (fresh : Bool) → 0 < length xs → piece_at fresh (xs ++ bs) ≡ found q (length xs - 1) → build r (cut 0 at fresh (xs ++ bs)) ≡ build (add r at q xs) (cut 0 (walk at xs) (fresh_after fresh xs) bs)
+one_cut : (q : Piece) (xs bs : List ℕ) (r : Read) (at : Place) (fresh : Bool) → 0 < length xs → piece_at fresh (xs ++ bs) ≡ found q (length xs - 1)
+    → build r (cut 0 at fresh (xs ++ bs)) ≡ build (add r at q xs) (cut 0 (walk at xs) (fresh_after fresh xs) bs)
 one_cut q [] bs r at fresh some e = absurd (omega arith)
 one_cut q (x ∷ xs) bs r at fresh some e =
     let back : length (x ∷ xs) - 1 ≡ length xs = omega arith in

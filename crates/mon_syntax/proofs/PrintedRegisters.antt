@@ -111,12 +111,14 @@ module _ (names : List (List ℕ)) where
     abbrev more_registers : List ParsedRegister → Syntax PlainToken (List ParsedRegister)
     more_registers = many (kind ws) (λ _. type_kind ∷ []) (register ws)
 
-    one_register : (xs : List ParsedRegister) (t : MonType) (n m : ℕ) {at to end : Place} {ts us vs rest : List PlainToken} → ts ≡ made.token at (token.Word n) ∷ us → word_at ws n ≡ word.TypeName t → us ≡ made.token to (token.Word m) ∷ vs → word_kind (word_at ws m) ≡ name_kind → vs ≡ made.token end (token.Mark semicolon) ∷ rest
+    one_register : (xs : List ParsedRegister) (t : MonType) (n m : ℕ) {at to end : Place} {ts us vs rest : List PlainToken} → ts ≡ made.token at (token.Word n) ∷ us → word_at ws n ≡ word.TypeName t → us ≡ made.token to (token.Word m) ∷ vs
+        → word_kind (word_at ws m) ≡ name_kind → vs ≡ made.token end (token.Mark semicolon) ∷ rest
         → (register ws xs).parse ts ≡ Ok (xs ++ (record { kind = t; name = record { place = to; number = m } } ∷ []), rest)
     unfolding register
     one_register xs t n m a w b v c = rw (placed_read ws (type_of ws) (token.Word n) t a (ap type_of_word w), name_read ws m b v, mark_read ws semicolon c) refl
 
-    registers_turn : (xs : List ParsedRegister) (x : ParsedRegister) (ts mid : List PlainToken) → sees (kind ws) (type_kind ∷ []) ts ≡ true → (register ws xs).parse ts ≡ Ok (xs ++ (x ∷ []), mid) → (more_registers xs).parse ts ≡ (more_registers (xs ++ (x ∷ []))).parse mid
+    registers_turn : (xs : List ParsedRegister) (x : ParsedRegister) (ts mid : List PlainToken) → sees (kind ws) (type_kind ∷ []) ts ≡ true → (register ws xs).parse ts ≡ Ok (xs ++ (x ∷ []), mid)
+        → (more_registers xs).parse ts ≡ (more_registers (xs ++ (x ∷ []))).parse mid
     registers_turn xs x ts mid s e = turn (type_kind ∷ []) (register ws) (λ z. (register_good ws z).here) refl xs (xs ++ (x ∷ [])) ts mid s e
 
     registers_end : (xs : List ParsedRegister) (ts : List PlainToken) → sees (kind ws) (type_kind ∷ []) ts ≡ false → (more_registers xs).parse ts ≡ Ok (xs, ts)

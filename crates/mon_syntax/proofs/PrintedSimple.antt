@@ -107,7 +107,8 @@ module _ (names : List (List ℕ)) (ws : Vocabulary) (words : AreWords names ws)
         rest = c.rest;
         after = c.after;
         begins = sees_word ws (number w) name_kind t name first_statement true refl;
-        parsed = λ no_step h. name_statement ws (statement_in ws n) no_step (number w) t name (call_behind ws (statement_in ws n) no_step u (ap (λ x. no_step && is_step_word x) word_is ∙ ap (λ (b : Bool). no_step && b) flag ∙ h) c.is (c.read u) c.ends);
+        parsed = λ no_step h. name_statement ws (statement_in ws n) no_step (number w) t name (call_behind ws (statement_in ws n) no_step u (ap (λ x. no_step && is_step_word x) word_is ∙ ap (λ (b : Bool). no_step && b) flag ∙ h) c.is
+            (c.read u) c.ends);
         step = ap (λ x. is_step_word x && has_no_argument c.arguments_list) word_is ∙ c.step;
         checked = ap (λ x. call_of_word scope call x) word_is ∙ c.checked there at;
         fresh = λ v _ _. refl;
@@ -157,10 +158,12 @@ module _ (names : List (List ℕ)) (ws : Vocabulary) (words : AreWords names ws)
   taken_or_not n (Some r) (Some t) w k a arguments ls more ts is named no_word no_step target value h inner g =
       take_is n r t w k (a None) (a (Some r)) arguments ls more ts is named h value (target r) (no_step (Some r)) inner g
 
-  set_checked : (r : ℕ) (t : MonType) (e : MonExpression) (ls : Labels) (x_at at : Place) (x : ParsedExpression) → slice_get types r ≡ Some t → checked_expression scope x ≡ Ok (e, t) → checked_statement scope result (numbers ls) (parsed.Set (record { place = x_at; number = number (name_of rs r) }) at x) ≡ Ok (Set r e)
+  set_checked : (r : ℕ) (t : MonType) (e : MonExpression) (ls : Labels) (x_at at : Place) (x : ParsedExpression) → slice_get types r ≡ Some t → checked_expression scope x ≡ Ok (e, t)
+      → checked_statement scope result (numbers ls) (parsed.Set (record { place = x_at; number = number (name_of rs r) }) at x) ≡ Ok (Set r e)
   set_checked r t e ls x_at at x h p = rw ((found r t h).0, p, same_types t) refl
 
-  set_read : (n : ℕ) (no_step : Bool) (e : MonExpression) (t : MonType) (more : Pieces) (u : NameUse) {at end : Place} {ts : List PlainToken} (us : List PlainToken) {rest : List PlainToken} → ts ≡ made.token at (token.Mark assign) ∷ us → (x : Whole e t more us) → x.rest ≡ made.token end (token.Mark semicolon) ∷ rest
+  set_read : (n : ℕ) (no_step : Bool) (e : MonExpression) (t : MonType) (more : Pieces) (u : NameUse) {at end : Place} {ts : List PlainToken} (us : List PlainToken) {rest : List PlainToken} → ts ≡ made.token at (token.Mark assign) ∷ us
+      → (x : Whole e t more us) → x.rest ≡ made.token end (token.Mark semicolon) ∷ rest
       → (behind_name ws no_step u).parse ts ≡ Ok (parsed.Set u at x.tree, rest)
   set_read n no_step e t more u {at} {end} {ts} us {rest} h x s = by (name_or_other e)
     where
@@ -200,7 +203,8 @@ module _ (names : List (List ℕ)) (ws : Vocabulary) (words : AreWords names ws)
   goto_checked : (l : List ℕ) (ls : Labels) (at : Place) → has_label ls l ≡ true → slice_get names (number l) ≡ Some l → checked_statement scope result (numbers ls) (parsed.Goto (record { place = at; number = number l })) ≡ Ok (Goto l)
   goto_checked l ls at h there = rw (label_known ls l h, call_form.bytes_are names ws words functions types rs regs found (number l) l there) refl
 
-  pub goto_is : (n : ℕ) (l : List ℕ) (ls : Labels) (more : Pieces) (ts : List PlainToken) → AreNames ls → has_label ls l ≡ true → AreTokens names (text.Word (codes "goto") ∷ text.blank ∷ text.Word l ∷ text.semicolon ∷ more) ts → IsStatementAs n (Goto l) ls more ts
+  pub goto_is : (n : ℕ) (l : List ℕ) (ls : Labels) (more : Pieces) (ts : List PlainToken) → AreNames ls → has_label ls l ≡ true → AreTokens names (text.Word (codes "goto") ∷ text.blank ∷ text.Word l ∷ text.semicolon ∷ more) ts
+      → IsStatementAs n (Goto l) ls more ts
   goto_is n l ls more ts labels h a =
       let goto_kind_is = ap word_kind (words _ _ a.0 ∙ goto_word) in
       let to = a.1.3 in
@@ -243,7 +247,8 @@ module _ (names : List (List ℕ)) (ws : Vocabulary) (words : AreWords names ws)
   value_returned : (t : MonType) (e : MonExpression) (at : Place) (x : ParsedExpression) → checked_expression scope x ≡ Ok (e, t) → returned scope (Some t) at (Some x) ≡ Ok (Return (Some e))
   value_returned t e at x p = rw (p, same_types t) refl
 
-  pub return_value_is : (n : ℕ) (e : MonExpression) (ls : Labels) (more : Pieces) (ts : List PlainToken) → ReturnsResult types result (Some e) → AreTokens names (text.Word (codes "return") ∷ text.blank ∷ ((expression_pieces rs e ++ (text.semicolon ∷ [])) ++ more)) ts → IsStatementAs n (Return (Some e)) ls more ts
+  pub return_value_is : (n : ℕ) (e : MonExpression) (ls : Labels) (more : Pieces) (ts : List PlainToken) → ReturnsResult types result (Some e)
+      → AreTokens names (text.Word (codes "return") ∷ text.blank ∷ ((expression_pieces rs e ++ (text.semicolon ∷ [])) ++ more)) ts → IsStatementAs n (Return (Some e)) ls more ts
   return_value_is n e ls more ts h a0 =
       let a = subst (λ (l : Pieces). AreTokens names (text.Word (codes "return") ∷ text.blank ∷ l) ts) (ended_is rs more e) a0 in
       let return_kind_is = ap word_kind (words _ _ a.0 ∙ return_word) in

@@ -191,7 +191,8 @@ module _ (names : List (List ℕ)) (ws : Vocabulary) (words : AreWords names ws)
 
   -- ---- statements with bodies
 
-  if_checked : (e : MonExpression) (a b : MonStatements) (ls : Labels) (x : ParsedExpression) (y z : ParsedStatements) → checked_expression the_scope x ≡ Ok (e, I32) → checked_statements the_scope result (numbers ls) y ≡ Ok a → checked_statements the_scope result (numbers ls) z ≡ Ok b
+  if_checked : (e : MonExpression) (a b : MonStatements) (ls : Labels) (x : ParsedExpression) (y z : ParsedStatements) → checked_expression the_scope x ≡ Ok (e, I32) → checked_statements the_scope result (numbers ls) y ≡ Ok a
+      → checked_statements the_scope result (numbers ls) z ≡ Ok b
       → checked_statement the_scope result (numbers ls) (parsed.If x y z) ≡ Ok (If e a b)
   if_checked e a b ls x y z p q r = rw (p, q, r) refl
 
@@ -235,7 +236,8 @@ module _ (names : List (List ℕ)) (ws : Vocabulary) (words : AreWords names ws)
       let x : IsStatementAs m Step [] more ts = simple.call_is names ws words functions types rs regs found result m (codes "__e_acsl_step") (word.Runtime runtime.Step) Step [] more ts a.1.1 step_word refl refl a.0 a.1.2 c in
       record { tree = x.tree; rest = x.rest; after = x.after; begins = x.begins; is = x.step; read = statement_suc ws m false ts ∙ x.parsed false refl }
 
-  loop_checked : (a b : MonStatements) (ls : Labels) (y z : ParsedStatements) → checked_statements the_scope result (numbers ls) y ≡ Ok a → checked_statements the_scope result (numbers ls) z ≡ Ok b → checked_statement the_scope result (numbers ls) (parsed.Loop y z) ≡ Ok (Loop a b)
+  loop_checked : (a b : MonStatements) (ls : Labels) (y z : ParsedStatements) → checked_statements the_scope result (numbers ls) y ≡ Ok a → checked_statements the_scope result (numbers ls) z ≡ Ok b
+      → checked_statement the_scope result (numbers ls) (parsed.Loop y z) ≡ Ok (Loop a b)
   loop_checked a b ls y z p q = rw (p, q) refl
 
   loop_as : (n : ℕ) (a b : MonStatements) (ls : Labels) (depth : ℕ) (more : Pieces) (ts : List PlainToken) → 0 < n → has_no_step a ≡ true → has_no_step b ≡ true
@@ -263,7 +265,8 @@ module _ (names : List (List ℕ)) (ws : Vocabulary) (words : AreWords names ws)
         fresh = λ l k there. any_join (nat_eq (the_number l)) (labels_in_all (parsed_list x.trees)) (labels_in_all (parsed_list y.trees)) (x.fresh l k there) (y.fresh l k there);
       }
 
-  labelled_checked : (a : MonStatements) (l : List ℕ) (ls : Labels) (at : Place) (y : ParsedStatements) → checked_statements the_scope result (numbers (l ∷ ls)) y ≡ Ok a → word_at ws (the_number l) ≡ word.Name → list_any (nat_eq (the_number l)) (labels_in_all y) ≡ false → bytes_of the_scope (the_number l) ≡ l
+  labelled_checked : (a : MonStatements) (l : List ℕ) (ls : Labels) (at : Place) (y : ParsedStatements) → checked_statements the_scope result (numbers (l ∷ ls)) y ≡ Ok a → word_at ws (the_number l) ≡ word.Name
+      → list_any (nat_eq (the_number l)) (labels_in_all y) ≡ false → bytes_of the_scope (the_number l) ≡ l
       → checked_statement the_scope result (numbers ls) (parsed.Labelled y (record { place = at; number = the_number l })) ≡ Ok (Labelled a l)
   labelled_checked a l ls at y p w f b = rw (p, w, f, b) refl
 
@@ -321,8 +324,10 @@ module _ (names : List (List ℕ)) (ws : Vocabulary) (words : AreWords names ws)
       simple.call_is names ws words functions types rs regs found result n w (word.Runtime r) a ls more ts us is refl flag there t c
 
   -- a call with a value
-  value_as : (n : ℕ) (w : List ℕ) (r : Runtime) (t : MonType) (e : MonExpression) (f : MonExpression → MonStatement) (ls : Labels) (more : Pieces) (ts : List PlainToken) → word_of w ≡ word.Runtime r → form.is_step_word (word.Runtime r) ≡ false → valid.is_step (f e) ≡ false
-      → ((u : NameUse) (at : Place) (xs : List ParsedArgument) → runtime_call the_scope u at xs r ≡ one_value the_scope at t xs f) → IsExpression types e t → AreTokens names (call_pieces w (expression_pieces rs e) ++ more) ts → IsStatementAs n (f e) ls more ts
+  value_as : (n : ℕ) (w : List ℕ) (r : Runtime) (t : MonType) (e : MonExpression) (f : MonExpression → MonStatement) (ls : Labels) (more : Pieces) (ts : List PlainToken) → word_of w ≡ word.Runtime r → form.is_step_word (word.Runtime r) ≡ false
+      → valid.is_step (f e) ≡ false
+      → ((u : NameUse) (at : Place) (xs : List ParsedArgument) → runtime_call the_scope u at xs r ≡ one_value the_scope at t xs f) → IsExpression types e t → AreTokens names (call_pieces w (expression_pieces rs e) ++ more) ts
+      → IsStatementAs n (f e) ls more ts
   value_as n w r t e f ls more ts is no_word no_step same h a =
       runtime_as n w r (f e) ls more ts a.1.1 is (no_word ∙ sym no_step) a.0 a.1.0 a.1.2
       (call_form.value_call names ws words functions types rs regs found w r t e f more a.1.1 same no_step h a.1.3)

@@ -106,10 +106,12 @@ one_read f t x more h = rw (h, one_at) refl
 
 module _ (ws : Vocabulary) where
   pub mark_read : (m : ℕ) {at : Place} {ts more : List PlainToken} → ts ≡ made.token at (token.Mark m) ∷ more → (mark ws m).parse ts ≡ Ok (at, more)
-  mark_read m {at} {ts} {more} e = ap (mark ws m).parse e ∙ one_read (λ (t : PlainToken). cond (eqb (kind ws t) (mark_kind m)) (Some t.place) None) (made.token at (token.Mark m)) at more (ap (λ (b : Bool). cond b (Some at) None) (eq-eqb (mark_kind m) (mark_kind m) refl))
+  mark_read m {at} {ts} {more} e = ap (mark ws m).parse e ∙ one_read (λ (t : PlainToken). cond (eqb (kind ws t) (mark_kind m)) (Some t.place) None) (made.token at (token.Mark m)) at more
+      (ap (λ (b : Bool). cond b (Some at) None) (eq-eqb (mark_kind m) (mark_kind m) refl))
 
   pub fixed_read : (k n : ℕ) {at : Place} {ts more : List PlainToken} → ts ≡ made.token at (token.Word n) ∷ more → word_kind (word_at ws n) ≡ k → (fixed ws k).parse ts ≡ Ok (at, more)
-  fixed_read k n {at} {ts} {more} e h = ap (fixed ws k).parse e ∙ one_read (λ (t : PlainToken). cond (eqb (kind ws t) k) (Some t.place) None) (made.token at (token.Word n)) at more (ap (λ (b : Bool). cond b (Some at) None) (eq-eqb (word_kind (word_at ws n)) k h))
+  fixed_read k n {at} {ts} {more} e h = ap (fixed ws k).parse e ∙ one_read (λ (t : PlainToken). cond (eqb (kind ws t) k) (Some t.place) None) (made.token at (token.Word n)) at more
+      (ap (λ (b : Bool). cond b (Some at) None) (eq-eqb (word_kind (word_at ws n)) k h))
 
   pub placed_read : {A : Type 0} (f : PlainTokenKind → Option A) (k : PlainTokenKind) (x : A) {at : Place} {ts more : List PlainToken} → ts ≡ made.token at k ∷ more → f k ≡ Some x → (one (placed f)).parse ts ≡ Ok ((x, at), more)
   placed_read {A} f k x {at} {ts} {more} e h = ap (one (placed f)).parse e ∙ one_read (placed f) (made.token at k) (x, at) more (rw (h, placed) refl)

@@ -8,7 +8,8 @@ use Rattle.c_model.specs.State.{Input, EndOfInput, Final, Exits, Broken, Fault, 
 use Rattle.c_model.specs.Meaning.{Ran}
 use Rattle.mon_syntax.specs.declared.tree.MonType.TheVariants.{I8, U8, I32, U32, I64, U64, I128}
 use Rattle.mon_syntax.specs.declared.tree.MonOp.TheVariants.{Add, Sub, Mul, Div, Rem, Shl, Shr, And, Or, Xor, Eq, Gt}
-use Rattle.mon_syntax.specs.Trees.{MonExpression, Register, Constant, Binary, Minus, Flip, Cast, MonStatement, Set, Step, Assert, PutChar, Exit, PrintText, PrintSigned, PrintUnsigned, If, Loop, Labelled, Goto, Return, MonStatements, NoStatement, Then, MonRegister, MonitoredProgram}
+use Rattle.mon_syntax.specs.Trees.{MonExpression, Register, Constant, Binary, Minus, Flip, Cast, MonStatement, Set, Step, Assert, PutChar, Exit, PrintText, PrintSigned, PrintUnsigned, If, Loop, Labelled, Goto, Return, MonStatements, NoStatement}
+use Rattle.mon_syntax.specs.Trees.{Then, MonRegister, MonitoredProgram}
 use Rattle.mon_syntax.specs.Arithmetic.{least, wrap, operate, minus, flipped}
 use Rattle.mon_syntax.specs.Meaning.{run}
 use Rattle.mon_syntax.specs.Memories.{block_run, over_flat, flat_run}

@@ -49,7 +49,8 @@ signed_fits g m v low high l = by (nat_lt m (suc g)) refl
 abbrev IsWrapped : ℕ → ℤ → ℤ → ℤ → ℤ → Type 0
 IsWrapped n lo hi z v = (int_le lo v && int_le v hi ≡ true) × AreCongruent n v z
 
-signed_wrapped : (g : ℕ) (z v : ℤ) → (nat_lt (remainder z (suc g + suc g)) (suc g) ≡ true → v ≡ pos (remainder z (suc g + suc g))) → (nat_lt (remainder z (suc g + suc g)) (suc g) ≡ false → v ≡ negsuc (suc g + suc g - suc (remainder z (suc g + suc g)))) → IsWrapped (suc g + suc g) (negsuc g) (pos g) z v
+signed_wrapped : (g : ℕ) (z v : ℤ) → (nat_lt (remainder z (suc g + suc g)) (suc g) ≡ true → v ≡ pos (remainder z (suc g + suc g)))
+    → (nat_lt (remainder z (suc g + suc g)) (suc g) ≡ false → v ≡ negsuc (suc g + suc g - suc (remainder z (suc g + suc g)))) → IsWrapped (suc g + suc g) (negsuc g) (pos g) z v
 signed_wrapped g z v low high =
     let n = suc g + suc g in
     let m = remainder z n in

@@ -1,7 +1,8 @@
 -- Ours: the rules of monitored C.
 -- Names and types of a monitored text (E5, E6), with the program that it spells. A part's own demand is asked where none of its
 -- parts has a fault, and the first fault in text order counts.
-use Rattle.std.specs.Prelude.{ℕ, suc, unsigned_abs, List, [], ◌∷◌, ◌++◌, map, Option, Some, None, Result, Ok, Err, Bool, true, false, not, ◌&&◌, if◌then◌else◌, nat_eq, nat_le, slice_get, codes, bytes_eq, drop, length}
+use Rattle.std.specs.Prelude.{ℕ, suc, unsigned_abs, List, [], ◌∷◌, ◌++◌, map, Option, Some, None, Result, Ok, Err, Bool, true, false, not, ◌&&◌, if◌then◌else◌}
+use Rattle.std.specs.Prelude.{nat_eq, nat_le, slice_get, codes, bytes_eq, drop, length}
 use Rattle.std.specs.List.{list_any}
 use Rattle.c_syntax.specs.RefusalCodes.{name_code, type_code}
 use Rattle.c_syntax.specs.declared.place.Place.{Place}
@@ -17,7 +18,9 @@ use Rattle.mon_syntax.specs.declared.word.Word.{Word}
 use Rattle.mon_syntax.specs.declared.word.Word.TheVariants as word
 use Rattle.mon_syntax.specs.Trees as tree
 use Rattle.mon_syntax.specs.Trees.{MonExpression, MonStatement, MonStatements, MonRegister, MonFunction, MonitoredProgram}
-use Rattle.mon_syntax.specs.Parsed.{NameUse, ParsedExpression, Name, Constant, Binary, Minus, Flip, Cast, ParsedArgument, Value, Number, Text, ParsedCall, ParsedStatement, Set, Take, Call, If, Loop, Labelled, Goto, Return, ParsedStatements, NoStatement, Then, ParsedRegister, ParsedFunction, ParsedProgram}
+use Rattle.mon_syntax.specs.Parsed.{NameUse, ParsedExpression, Name, Constant, Binary, Minus, Flip, Cast, ParsedArgument, Value, Number, Text, ParsedCall}
+use Rattle.mon_syntax.specs.Parsed.{ParsedStatement, Set, Take, Call, If, Loop, Labelled, Goto, Return, ParsedStatements, NoStatement, Then, ParsedRegister}
+use Rattle.mon_syntax.specs.Parsed.{ParsedFunction, ParsedProgram}
 use Rattle.mon_syntax.specs.Valid.{Types, is_arithmetic, is_whole, result_type, has_constant, greatest_number, memory_parameters, memory_result}
 use Rattle.mon_syntax.specs.Grammar.{Vocabulary, word_at}
 

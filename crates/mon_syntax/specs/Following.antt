@@ -19,7 +19,8 @@ AllKept Q (x ∷ xs) (y ∷ ys) = Q x y × AllKept Q xs ys
 
 -- the answers of a change of two memories, in a world: values and memories that are related in a later world, or the same
 -- full segment; nothing is asked of the second where the first faults
-abbrev pub Replied : {LM LV FM FV : Type 0} (World : Type 0) → (World → World → Type 0) → (World → LV → FV → Type 0) → (World → LM → FM → Type 0) → World → Reply LM LV → Reply FM FV → Type 0
+abbrev pub Replied : {LM LV FM FV : Type 0} (World : Type 0) → (World → World → Type 0) → (World → LV → FV → Type 0) → (World → LM → FM → Type 0) → World
+    → Reply LM LV → Reply FM FV → Type 0
 Replied World Later Same Holds w (Gives v m) (Gives x n) = (u : World) × Later w u × Same u v x × Holds u m n
 Replied World Later Same Holds w (Gives v m) (IsFull h) = ⊥
 Replied World Later Same Holds w (Gives v m) Faults = ⊥
@@ -43,6 +44,7 @@ pub record Follows (L F : Memory) : Type 1 where
   pub number : (w : World) (z : ℤ) → Same w (L.number z) (F.number z)
   pub number_of : (w : World) (a : L.Val) (b : F.Val) → Same w a b → Kept (λ i j. i ≡ j) (L.number_of a) (F.number_of b)
   -- each operation keeps this
-  pub act : (w : World) (f : MemoryCall) (xs : List L.Val) (ys : List F.Val) (m : L.Mem) (n : F.Mem) → AllKept (Same w) xs ys → Holds w m n → Replied World Later Same Holds w (L.act f xs m) (F.act f ys n)
+  pub act : (w : World) (f : MemoryCall) (xs : List L.Val) (ys : List F.Val) (m : L.Mem) (n : F.Mem) → AllKept (Same w) xs ys → Holds w m n
+      → Replied World Later Same Holds w (L.act f xs m) (F.act f ys n)
   pub enter : (w : World) (m : L.Mem) (n : F.Mem) → Holds w m n → Replied World Later Same Holds w (L.enter m) (F.enter n)
   pub leave : (w : World) (m : L.Mem) (n : F.Mem) → Holds w m n → Holds w (L.leave m) (F.leave n)

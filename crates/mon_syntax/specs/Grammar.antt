@@ -15,7 +15,8 @@
 --
 -- The head stands on the first line. The body of `while` has exactly one statement `__e_acsl_step();` directly in it. Statements are
 -- at most 2,000 deep, the function's body being 1 deep, and at most 2,000 parentheses are open at once in an expression.
-use Rattle.std.specs.Prelude.{ℕ, zero, suc, ◌+◌, ◌-◌, ℤ, pos, neg_ℤ, List, [], ◌∷◌, ◌++◌, Option, Some, None, Bool, true, false, ◌&&◌, cond, eqb, if◌then◌else◌, slice_get}
+use Rattle.std.specs.Prelude.{ℕ, zero, suc, ◌+◌, ◌-◌, ℤ, pos, neg_ℤ, List, [], ◌∷◌, ◌++◌, Option, Some, None, Bool, true, false, ◌&&◌, cond, eqb, if◌then◌else◌}
+use Rattle.std.specs.Prelude.{slice_get}
 use Rattle.std.specs.Ordering.{int_eq}
 use Rattle.grammar.specs.Syntax.{Syntax, none, gives, one, ◌then◌, choice, many, deep}
 use Rattle.c_syntax.specs.declared.place.Place.{Place}
@@ -27,7 +28,9 @@ use Rattle.mon_syntax.specs.declared.tree.MonOp.TheVariants.{Add, Sub, Mul, Div,
 use Rattle.mon_syntax.specs.declared.word.Runtime.TheVariants as runtime
 use Rattle.mon_syntax.specs.declared.word.Word.{Word}
 use Rattle.mon_syntax.specs.declared.word.Word.TheVariants as word
-use Rattle.mon_syntax.specs.Parsed.{NameUse, ParsedExpression, Name, Constant, Binary, Minus, Flip, Cast, ParsedArgument, Value, Number, Text, ParsedCall, ParsedStatement, Set, Take, Call, If, Loop, Labelled, Goto, Return, ParsedStatements, NoStatement, Then, ParsedRegister, ParsedFunction, ParsedProgram}
+use Rattle.mon_syntax.specs.Parsed.{NameUse, ParsedExpression, Name, Constant, Binary, Minus, Flip, Cast, ParsedArgument, Value, Number, Text, ParsedCall}
+use Rattle.mon_syntax.specs.Parsed.{ParsedStatement, Set, Take, Call, If, Loop, Labelled, Goto, Return, ParsedStatements, NoStatement, Then, ParsedRegister}
+use Rattle.mon_syntax.specs.Parsed.{ParsedFunction, ParsedProgram}
 
 -- ---- tokens
 
@@ -457,7 +460,8 @@ module _ (ws : Vocabulary) where
 
   unfoldable pub selection : InBody → Syntax PlainToken ParsedStatement
   selection S =
-      fixed if_kind then λ _. mark left_paren then λ _. expression then λ e. mark right_paren then λ _. body S then λ a. fixed else_kind then λ _. body S then λ b.
+      fixed if_kind then λ _. mark left_paren then λ _. expression then λ e. mark right_paren then λ _. body S then λ a. fixed else_kind then λ _. body S then
+      λ b.
       gives (If e a b)
 
   unfoldable pub one_more_in_loop : InBody → LoopRead → Syntax PlainToken LoopRead

@@ -41,19 +41,26 @@ FittingValuesStand = (t : MonType) (z : ℤ) → fits t z ≡ true → wrap t z 
 
 -- more turns and deeper calls than steps change nothing
 abbrev pub FuelIsEnough : Memory → Type 0
-FuelIsEnough M = (fs : List MonFunction) (a : MonStatement) (k n : ℕ) (regs : List M.Val) (s : State M.Mem) → s.steps ≤ k → s.steps ≤ n → exec M a (level M fs k) k regs s ≡ exec M a (level M fs n) n regs s
+FuelIsEnough M = (fs : List MonFunction) (a : MonStatement) (k n : ℕ) (regs : List M.Val) (s : State M.Mem) → s.steps ≤ k → s.steps ≤ n
+    → exec M a (level M fs k) k regs s ≡ exec M a (level M fs n) n regs s
 
 -- no step is gained
 abbrev pub StepsFall : Memory → Type 0
-StepsFall M = (fs : List MonFunction) (a : MonStatement) (n : ℕ) (regs : List M.Val) (s : State M.Mem) → s.steps ≤ n → steps_after (exec M a (level M fs n) n regs s) ≤ s.steps
+StepsFall M = (fs : List MonFunction) (a : MonStatement) (n : ℕ) (regs : List M.Val) (s : State M.Mem) → s.steps ≤ n
+    → steps_after (exec M a (level M fs n) n regs s) ≤ s.steps
 
 -- a loop is one turn and then the loop again: what stands before the step, the step, what stands behind it
 abbrev pub LoopsTurn : Memory → Type 0
-LoopsTurn M = (fs : List MonFunction) (a b : MonStatements) (n : ℕ) (regs : List M.Val) (s : State M.Mem) → s.steps ≤ n → exec M (Loop a b) (level M fs n) n regs s ≡ then_do (exec_all M a (level M fs n) n regs s) (at_next (λ r t. step_from t.steps (λ k. then_do (exec_all M b (level M fs n) n r (record t { steps = k })) (at_next (exec M (Loop a b) (level M fs n) n)))))
+LoopsTurn M = (fs : List MonFunction) (a b : MonStatements) (n : ℕ) (regs : List M.Val) (s : State M.Mem) → s.steps ≤ n
+    → exec M (Loop a b) (level M fs n) n regs s ≡ then_do (exec_all M a (level M fs n) n regs s)
+    (at_next (λ r t. step_from t.steps (λ k. then_do (exec_all M b (level M fs n) n r (record t { steps = k }))
+    (at_next (exec M (Loop a b) (level M fs n) n)))))
 
 -- a run is the same with any number of turns and calls from its steps on
 abbrev pub RunsNeedNoFuel : Memory → Type 0
-RunsNeedNoFuel M = (m : MonitoredProgram) (mem : M.Mem) (input : Input) (n k : ℕ) → n ≤ k → run M m mem input n ≡ ran M (body_runs M (function_named M (codes "main") m.functions) (level M m.functions k) k [] (record { mem = mem; steps = n; input = input }))
+RunsNeedNoFuel M = (m : MonitoredProgram) (mem : M.Mem) (input : Input) (n k : ℕ) → n ≤ k
+    → run M m mem input n ≡ ran M (body_runs M (function_named M (codes "main") m.functions) (level M m.functions k) k []
+    (record { mem = mem; steps = n; input = input }))
 
 -- a run leaves no more steps than it had
 abbrev pub RunsSpendSteps : Memory → Type 0
@@ -67,7 +74,8 @@ BlocksAgreeWithFlat = (m : MonitoredProgram) (input : Input) (n : ℕ) → Agree
 
 -- a valid program that does over blocks what the source does is a translation of it
 abbrev pub AgreementTranslates : Type 0
-AgreementTranslates = (p : TranslationUnit) (m : MonitoredProgram) → IsValid m → ((input : Input) (n : ℕ) → Agrees (source.run p input n) (block_run m input n)) → Translates p m
+AgreementTranslates = (p : TranslationUnit) (m : MonitoredProgram) → IsValid m → ((input : Input) (n : ℕ) → Agrees (source.run p input n) (block_run m input n))
+    → Translates p m
 
 -- ---- texts
 

@@ -1,13 +1,16 @@
 -- Ours: the meaning of monitored C.
 -- What a program in monitored C does, over any memory.
-use Rattle.std.specs.Prelude.{ℕ, zero, suc, ◌+◌, ◌-◌, ◌%◌, ℤ, pos, negsuc, List, [], ◌∷◌, ◌++◌, length, replicate, Option, Some, None, if◌then◌else◌, slice_get, slice_set, bytes_eq, codes}
+use Rattle.std.specs.Prelude.{ℕ, zero, suc, ◌+◌, ◌-◌, ◌%◌, ℤ, pos, negsuc, List, [], ◌∷◌, ◌++◌, length, replicate, Option, Some, None, if◌then◌else◌, slice_get}
+use Rattle.std.specs.Prelude.{slice_set, bytes_eq, codes}
 use Rattle.std.specs.Ordering.{int_eq}
 use Rattle.std.specs.Fmt.{signed_decimal}
 use Rattle.c_syntax.specs.declared.types.How.TheVariants as how
 use Rattle.c_model.specs.Integers.{byte_of}
 use Rattle.c_model.specs.State.{Input, InputTail, EndOfInput, InputFault, Final, Exits, Broken, Fault, Spent, Full, ReadFault}
 use Rattle.c_model.specs.Meaning.{Ran}
-use Rattle.mon_syntax.specs.Trees.{MonExpression, Register, Constant, Binary, Minus, Flip, Cast, MonStatement, Set, Step, Assert, PutChar, GetChar, Exit, PrintText, PrintSigned, PrintUnsigned, Act, Call, If, Loop, Labelled, Goto, Return, MonStatements, NoStatement, Then, MonFunction, MonitoredProgram}
+use Rattle.mon_syntax.specs.Trees.{MonExpression, Register, Constant, Binary, Minus, Flip, Cast, MonStatement, Set, Step, Assert, PutChar, GetChar, Exit}
+use Rattle.mon_syntax.specs.Trees.{PrintText, PrintSigned, PrintUnsigned, Act, Call, If, Loop, Labelled, Goto, Return, MonStatements, NoStatement, Then}
+use Rattle.mon_syntax.specs.Trees.{MonFunction, MonitoredProgram}
 use Rattle.mon_syntax.specs.Arithmetic.{wrap, operate, minus, flipped}
 use Rattle.mon_syntax.specs.Memory.{Memory, Reply, Gives, IsFull, Faults}
 
@@ -190,7 +193,8 @@ module _ (M : Memory) where
   abbrev pub body_runs : Option MonFunction → Calls → ℕ → List M.Val → State M.Mem → Result (State M.Mem) M.Val
   body_runs None calls n args s = Stops Fault s.steps []
   body_runs (Some f) calls n args s =
-      then_do (replied (M.enter s.mem) s) (λ v t. then_do (exec_all f.body calls n (registers (M.number (pos 0)) (length f.parameters + length f.registers) args) t) at_return)
+      then_do (replied (M.enter s.mem) s) (λ v t. then_do (exec_all f.body calls n
+      (registers (M.number (pos 0)) (length f.parameters + length f.registers) args) t) at_return)
 
   -- a call, where calls go at most n deep and each loop makes at most n turns
   abbrev pub level : List MonFunction → ℕ → Calls

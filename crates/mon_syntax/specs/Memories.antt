@@ -1,6 +1,7 @@
 -- Ours: blocks are those of C99 6.2.4, flat memory is that of the machine.
 -- The two memories of monitored programs: numbered blocks, and flat bytes.
-use Rattle.std.specs.Prelude.{ℕ, zero, suc, ◌+◌, ◌-◌, ◌*◌, ◌^◌, nat_lt, nat_le, nat_eq, Bool, false, ◌&&◌, if◌then◌else◌, ℤ, pos, List, [], ◌∷◌, ◌++◌, length, Option, Some, None, slice_get, slice_set}
+use Rattle.std.specs.Prelude.{ℕ, zero, suc, ◌+◌, ◌-◌, ◌*◌, ◌^◌, nat_lt, nat_le, nat_eq, Bool, false, ◌&&◌, if◌then◌else◌, ℤ, pos, List, [], ◌∷◌, ◌++◌, length}
+use Rattle.std.specs.Prelude.{Option, Some, None, slice_get, slice_set}
 use Rattle.c_syntax.specs.declared.types.BlockKind.TheVariants.{Stack}
 use Rattle.c_syntax.specs.declared.types.Segment.{Segment}
 use Rattle.c_syntax.specs.declared.types.Segment.TheVariants as segment
@@ -131,7 +132,11 @@ full_at_flat_birth f size =
 abbrev pub flat_block : Option Segment → ℕ → Flat → Reply Flat ℤ
 flat_block (Some full) size f = IsFull full
 flat_block None size f =
-    Gives (pos (pointer_to (f.births + 1) (stack_end f.live))) (record f { births = f.births + 1; live = record { number = f.births + 1; size = size } ∷ f.live })
+    Gives (pos (pointer_to (f.births + 1) (stack_end f.live))) (record f {
+      births = f.births + 1;
+      live =
+          record { number = f.births + 1; size = size } ∷ f.live;
+    })
 
 abbrev pub store_flat : List ℤ → Flat → Reply Flat ℤ
 store_flat (pos size ∷ []) f = flat_block (full_at_flat_birth f size) size f

@@ -1,6 +1,7 @@
 -- Ours: the phases of a text in monitored C.
 -- Which texts are monitored programs, and which are refused, why: by tokens, by grammar, by names and types, and for want of `main`.
-use Rattle.std.specs.Prelude.{◌≡◌, ℕ, suc, unsigned_abs, List, [], ◌∷◌, length, map, Option, Some, None, Result, Ok, Err, Bool, false, true, ◌&&◌, eqb, if◌then◌else◌, slice_get, codes, bytes_eq}
+use Rattle.std.specs.Prelude.{◌≡◌, ℕ, suc, unsigned_abs, List, [], ◌∷◌, length, map, Option, Some, None, Result, Ok, Err, Bool, false, true, ◌&&◌, eqb}
+use Rattle.std.specs.Prelude.{if◌then◌else◌, slice_get, codes, bytes_eq}
 use Rattle.std.specs.Fmt.{decimal}
 use Rattle.grammar.specs.Syntax as grammar
 use Rattle.grammar.specs.Exact.{Accepts, Refused}
@@ -118,6 +119,9 @@ pub record Spells (text : List ℕ) (m : MonitoredProgram) : Type 0 where
 -- the text is refused, by the first of four phases that finds a fault
 pub data IsMonitoredRefusal (text : List ℕ) (r : PlainRefusal) : Type 0 where
   ByTokens : monitored_tokens text ≡ Err r → IsMonitoredRefusal text r
-  ByGrammar : (ts : PlainTokens) (f : grammar.Fault) → monitored_tokens text ≡ Ok ts → Refused (form.text (vocabulary ts)) ts.list f → ((p : ParsedProgram) → IsRead ts p → ⊥) → r ≡ grammar_refusal ts f → IsMonitoredRefusal text r
-  ByNamesAndTypes : (ts : PlainTokens) (p : ParsedProgram) (f : Fault) → monitored_tokens text ≡ Ok ts → IsRead ts p → checked ts p ≡ Err f → r ≡ check_refusal ts f → IsMonitoredRefusal text r
-  ForMain : (ts : PlainTokens) (p : ParsedProgram) (m : MonitoredProgram) → monitored_tokens text ≡ Ok ts → IsRead ts p → checked ts p ≡ Ok m → main_refusal ts.names p ≡ Some r → IsMonitoredRefusal text r
+  ByGrammar : (ts : PlainTokens) (f : grammar.Fault) → monitored_tokens text ≡ Ok ts → Refused (form.text (vocabulary ts)) ts.list f
+      → ((p : ParsedProgram) → IsRead ts p → ⊥) → r ≡ grammar_refusal ts f → IsMonitoredRefusal text r
+  ByNamesAndTypes : (ts : PlainTokens) (p : ParsedProgram) (f : Fault) → monitored_tokens text ≡ Ok ts → IsRead ts p → checked ts p ≡ Err f
+      → r ≡ check_refusal ts f → IsMonitoredRefusal text r
+  ForMain : (ts : PlainTokens) (p : ParsedProgram) (m : MonitoredProgram) → monitored_tokens text ≡ Ok ts → IsRead ts p → checked ts p ≡ Ok m
+      → main_refusal ts.names p ≡ Some r → IsMonitoredRefusal text r

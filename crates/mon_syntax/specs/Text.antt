@@ -1,6 +1,7 @@
 -- Ours: how monitored C is printed.
 -- The text of a program in monitored C: one statement a line, indented by two blanks for each body around it.
-use Rattle.std.specs.Prelude.{ℕ, suc, ◌+◌, ◌*◌, ◌/◌, ◌%◌, ℤ, pos, negsuc, List, [], ◌∷◌, ◌++◌, replicate, Option, Some, None, Bool, not, ◌&&◌, if◌then◌else◌, nat_le, nat_eq, slice_get, codes, map}
+use Rattle.std.specs.Prelude.{ℕ, suc, ◌+◌, ◌*◌, ◌/◌, ◌%◌, ℤ, pos, negsuc, List, [], ◌∷◌, ◌++◌, replicate, Option, Some, None, Bool, not, ◌&&◌, if◌then◌else◌}
+use Rattle.std.specs.Prelude.{nat_le, nat_eq, slice_get, codes, map}
 use Rattle.std.specs.Fmt.{decimal}
 use Rattle.c_model.specs.Reports.{kind_word}
 use Rattle.mon_syntax.specs.declared.tree.MonType.{MonType}
@@ -8,7 +9,9 @@ use Rattle.mon_syntax.specs.declared.tree.MonOp.{MonOp}
 use Rattle.mon_syntax.specs.declared.tree.MonOp.TheVariants.{Add, Sub, Mul, Div, Rem, Shl, Shr, And, Or, Xor, Eq, Ne, Lt, Le, Gt, Ge}
 use Rattle.mon_syntax.specs.declared.tree.MemoryCall.{MemoryCall}
 use Rattle.mon_syntax.specs.declared.tree.MemoryCall.TheVariants.{StoreBlock, DeleteBlock}
-use Rattle.mon_syntax.specs.Trees.{MonExpression, Register, Constant, Binary, Minus, Flip, Cast, MonStatement, Set, Step, Assert, PutChar, GetChar, Exit, PrintText, PrintSigned, PrintUnsigned, Act, Call, If, Loop, Labelled, Goto, Return, MonStatements, NoStatement, Then, MonRegister, MonFunction, MonitoredProgram}
+use Rattle.mon_syntax.specs.Trees.{MonExpression, Register, Constant, Binary, Minus, Flip, Cast, MonStatement, Set, Step, Assert, PutChar, GetChar, Exit}
+use Rattle.mon_syntax.specs.Trees.{PrintText, PrintSigned, PrintUnsigned, Act, Call, If, Loop, Labelled, Goto, Return, MonStatements, NoStatement, Then}
+use Rattle.mon_syntax.specs.Trees.{MonRegister, MonFunction, MonitoredProgram}
 use Rattle.mon_syntax.specs.Names.{type_word, constant_word}
 
 -- ---- pieces of a text
@@ -174,10 +177,12 @@ abbrev mutual
   statement_pieces gs rs depth (Act r f args) = set_or_none rs r ++ call_pieces (memory_word f) (arguments_pieces rs args)
   statement_pieces gs rs depth (Call r f args) = set_or_none rs r ++ call_pieces (function_name gs f) (arguments_pieces rs args)
   statement_pieces gs rs depth (If e a b) =
-      Word (codes "if") ∷ blank ∷ (in_parens (expression_pieces rs e) ++ (blank ∷ (body_pieces gs rs depth a ++ (blank ∷ Word (codes "else") ∷ blank ∷ body_pieces gs rs depth b))))
+      Word (codes "if") ∷ blank ∷ (in_parens (expression_pieces rs e) ++
+      (blank ∷ (body_pieces gs rs depth a ++ (blank ∷ Word (codes "else") ∷ blank ∷ body_pieces gs rs depth b))))
   statement_pieces gs rs depth (Loop a b) =
       Word (codes "while") ∷ blank ∷ (in_parens (Number 1 ∷ []) ++ (blank ∷ Mark (codes "{") ∷ (statements_pieces gs rs (depth + 1) a
-      ++ (new_line (depth + 1) ∷ (call_pieces (codes "__e_acsl_step") [] ++ (statements_pieces gs rs (depth + 1) b ++ (new_line depth ∷ Mark (codes "}") ∷ [])))))))
+      ++ (new_line (depth + 1) ∷ (call_pieces (codes "__e_acsl_step") [] ++
+      (statements_pieces gs rs (depth + 1) b ++ (new_line depth ∷ Mark (codes "}") ∷ [])))))))
   statement_pieces gs rs depth (Labelled a l) = body_pieces gs rs depth a ++ (blank ∷ Word l ∷ Mark (codes ":") ∷ blank ∷ semicolon ∷ [])
   statement_pieces gs rs depth (Goto l) = word_statement (codes "goto") (Word l ∷ [])
   statement_pieces gs rs depth (Return None) = Word (codes "return") ∷ semicolon ∷ []
@@ -187,7 +192,8 @@ abbrev mutual
   pub body_pieces : FunctionNames → Registers → ℕ → MonStatements → List Piece
   body_pieces gs rs depth NoStatement = Mark (codes "{") ∷ blank ∷ Mark (codes "}") ∷ []
   body_pieces gs rs depth (Then a rest) =
-      Mark (codes "{") ∷ new_line (depth + 1) ∷ (statement_pieces gs rs (depth + 1) a ++ (statements_pieces gs rs (depth + 1) rest ++ (new_line depth ∷ Mark (codes "}") ∷ [])))
+      Mark (codes "{") ∷ new_line (depth + 1) ∷ (statement_pieces gs rs (depth + 1) a ++
+      (statements_pieces gs rs (depth + 1) rest ++ (new_line depth ∷ Mark (codes "}") ∷ [])))
 
   -- each statement on a line of its own
   pub statements_pieces : FunctionNames → Registers → ℕ → MonStatements → List Piece

@@ -1,6 +1,7 @@
 -- Ours: the rules of monitored C, of its trees.
 -- Which programs in monitored C are valid: names, types, labels, the step of each loop, and limits.
-use Rattle.std.specs.Prelude.{◌≡◌, ℕ, suc, ◌≤◌, ◌<◌, max, ℤ, neg_ℤ, pos, ◌^◌, Bool, true, false, not, ◌&&◌, if◌then◌else◌, List, [], ◌∷◌, ◌++◌, map, Option, Some, None, slice_get, codes, bytes_eq}
+use Rattle.std.specs.Prelude.{◌≡◌, ℕ, suc, ◌≤◌, ◌<◌, max, ℤ, neg_ℤ, pos, ◌^◌, Bool, true, false, not, ◌&&◌, if◌then◌else◌, List, [], ◌∷◌, ◌++◌, map, Option}
+use Rattle.std.specs.Prelude.{Some, None, slice_get, codes, bytes_eq}
 use Rattle.std.specs.Ordering.{int_eq}
 use Rattle.std.specs.List.{list_any, AllByRecursion}
 use Rattle.mon_syntax.specs.declared.tree.MonType.{MonType}
@@ -9,7 +10,9 @@ use Rattle.mon_syntax.specs.declared.tree.MonOp.{MonOp}
 use Rattle.mon_syntax.specs.declared.tree.MonOp.TheVariants.{Add, Sub, Mul, Div, Rem, Shl, Shr, And, Or, Xor, Eq, Ne, Lt, Le, Gt, Ge}
 use Rattle.mon_syntax.specs.declared.tree.MemoryCall.{MemoryCall}
 use Rattle.mon_syntax.specs.declared.tree.MemoryCall.TheVariants.{StoreBlock, DeleteBlock}
-use Rattle.mon_syntax.specs.Trees.{MonExpression, Register, Constant, Binary, Minus, Flip, Cast, MonStatement, Set, Step, Assert, PutChar, GetChar, Exit, PrintText, PrintSigned, PrintUnsigned, Act, Call, If, Loop, Labelled, Goto, Return, MonStatements, NoStatement, Then, MonRegister, MonFunction, MonitoredProgram}
+use Rattle.mon_syntax.specs.Trees.{MonExpression, Register, Constant, Binary, Minus, Flip, Cast, MonStatement, Set, Step, Assert, PutChar, GetChar, Exit}
+use Rattle.mon_syntax.specs.Trees.{PrintText, PrintSigned, PrintUnsigned, Act, Call, If, Loop, Labelled, Goto, Return, MonStatements, NoStatement, Then}
+use Rattle.mon_syntax.specs.Trees.{MonRegister, MonFunction, MonitoredProgram}
 use Rattle.mon_syntax.specs.Arithmetic.{fits}
 use Rattle.mon_syntax.specs.Names.{IsFreeName}
 
@@ -184,7 +187,8 @@ abbrev mutual
   pub IsStatement : List Signature → Types → Option MonType → Labels → MonStatement → Type 0
   IsStatement gs ts result ls (Set r e) = (t : MonType) × (slice_get ts r ≡ Some t) × IsExpression ts e t
   IsStatement gs ts result ls Step = Unit {0}
-  IsStatement gs ts result ls (Assert d v number line kind) = IsExpression ts d I32 × IsExpression ts v I32 × (number ≤ greatest_number) × (line ≤ greatest_number)
+  IsStatement gs ts result ls (Assert d v number line kind) = IsExpression ts d I32 × IsExpression ts v I32 × (number ≤ greatest_number)
+      × (line ≤ greatest_number)
   IsStatement gs ts result ls (PutChar r e) = TakesValue ts r (Some I32) × IsExpression ts e I32
   IsStatement gs ts result ls (GetChar r) = TakesValue ts r (Some I32)
   IsStatement gs ts result ls (Exit e) = IsExpression ts e I32

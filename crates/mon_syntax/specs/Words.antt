@@ -11,7 +11,8 @@ Words = List (List ℕ × Word)
 
 abbrev pub type_words : Words
 type_words =
-    (codes "i8", TypeName I8) ∷ (codes "u8", TypeName U8) ∷ (codes "i16", TypeName I16) ∷ (codes "u16", TypeName U16) ∷ (codes "i32", TypeName I32) ∷ (codes "u32", TypeName U32)
+    (codes "i8", TypeName I8) ∷ (codes "u8", TypeName U8) ∷ (codes "i16", TypeName I16) ∷ (codes "u16", TypeName U16) ∷ (codes "i32", TypeName I32) ∷
+    (codes "u32", TypeName U32)
     ∷ (codes "i64", TypeName I64) ∷ (codes "u64", TypeName U64) ∷ (codes "i128", TypeName I128) ∷ (codes "ptr", TypeName Ptr) ∷ []
 
 abbrev pub constant_words : Words

@@ -1,5 +1,6 @@
 -- The functions of a text, and which is the first of each name.
-use Rattle.std.proofs.Common.{◌≡◌, ℕ, zero, suc, ◌+◌, ◌<◌, Bool, true, false, not, ◌||◌, cond, eqb, eqb-true, List, [], ◌∷◌, ◌++◌, length, map, take, add-one, Option, Some, None, option_map, slice_get, get_or, nat_eq, is_some, refl, sym, ap, subst, ◌∙◌, arith}
+use Rattle.std.proofs.Common.{◌≡◌, ℕ, zero, suc, ◌+◌, ◌<◌, Bool, true, false, not, ◌||◌, cond, eqb, eqb-true, List, [], ◌∷◌, ◌++◌, length, map, take, add-one, Option, Some, None, option_map, slice_get, get_or, nat_eq, is_some, refl, sym, ap, subst}
+use Rattle.std.proofs.Common.{◌∙◌, arith}
 use Rattle.std.proofs.lemmas.List.{map-append, length-map}
 use Rattle.std.proofs.Math.Seq.{take-suc}
 use Rattle.std.specs.List.{list_any}

@@ -28,7 +28,8 @@ next_is s at f (x ∷ xs) go = next_after (f x) xs go
 
 -- ---- arguments that are taken, and that fail
 
-pub takes : {A B : Type 0} (s : Scope) (at : Place) (f : ParsedArgument → Checked A) (xs : List ParsedArgument) (go : A → List ParsedArgument → Checked B) (x : A) (more : List ParsedArgument) → first_of s at f xs ≡ Ok (x, more) → next s at f xs go ≡ go x more
+pub takes : {A B : Type 0} (s : Scope) (at : Place) (f : ParsedArgument → Checked A) (xs : List ParsedArgument) (go : A → List ParsedArgument → Checked B) (x : A) (more : List ParsedArgument) → first_of s at f xs ≡ Ok (x, more)
+    → next s at f xs go ≡ go x more
 takes {A} s at f xs go x more h = next_is s at f xs go ∙ ap (λ (c : Checked (A × List ParsedArgument)). c >>= λ (y : A × List ParsedArgument). go y.0 y.1) h
 
 pub fails_after : {A B : Type 0} (e : CheckFault) (c : Checked A) (go : A → Checked B) → Fails e c → Fails e (c >>= go)

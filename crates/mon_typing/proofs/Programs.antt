@@ -90,7 +90,8 @@ module _ (names : List (List ℕ)) (ws : Vocabulary) (gs : List Header) where
       ap (from (names_before i fs)) (rest_is fs i f lt at) ∙ ap (λ c. with_name c (names_before i fs) f (drop (i + 1) fs)) e
 
   next_function : (fs : Functions) (i : ℕ) (f : ParsedFunc) (done more : List MonFunc) (g : MonFunc) (total : Checked (List MonFunction)) → gs ≡ headers fs → i < length fs → f ≡ get_or fs i f → IsNew i f ≡ true
-      → checked_function names ws gs (plain_func f) ≡ Ok (tree.plain_func g) → more ≡ done ++ g ∷ [] → behind_functions done (from (names_before i fs) (drop i fs)) ≡ total → behind_functions more (from (names_before (i + 1) fs) (drop (i + 1) fs)) ≡ total
+      → checked_function names ws gs (plain_func f) ≡ Ok (tree.plain_func g) → more ≡ done ++ g ∷ [] → behind_functions done (from (names_before i fs) (drop i fs)) ≡ total
+      → behind_functions more (from (names_before (i + 1) fs) (drop (i + 1) fs)) ≡ total
   unfolding with_name
   next_function fs i f done more g total are lt at new checked with_it so_far =
       (λ j. behind_functions (with_it j) (from (before_next fs i f lt at j) (drop (i + 1) fs))) ∙ sym (one_more done g (from (name_of f ∷ names_before i fs) (drop (i + 1) fs)))
@@ -130,5 +131,6 @@ module _ (names : List (List ℕ)) (ws : Vocabulary) (gs : List Header) where
   one_checked_at fs i f done more g total false are lt at old k with_it so_far = absurd cc
 
   pub one_checked : (fs : Functions) (i : ℕ) (f : ParsedFunc) (done more : List MonFunc) (g : MonFunc) (total : Checked (List MonFunction)) → gs ≡ headers fs → i < length fs → f ≡ get_or fs i f
-      → checked.next_function names ws gs i (plain_func f) ≡ Ok (tree.plain_func g) → more ≡ done ++ g ∷ [] → behind_functions done (from (names_before i fs) (drop i fs)) ≡ total → behind_functions more (from (names_before (i + 1) fs) (drop (i + 1) fs)) ≡ total
+      → checked.next_function names ws gs i (plain_func f) ≡ Ok (tree.plain_func g) → more ≡ done ++ g ∷ [] → behind_functions done (from (names_before i fs) (drop i fs)) ≡ total
+      → behind_functions more (from (names_before (i + 1) fs) (drop (i + 1) fs)) ≡ total
   one_checked fs i f done more g total are lt at k with_it so_far = one_checked_at fs i f done more g total (IsNew i f) are lt at refl k with_it so_far

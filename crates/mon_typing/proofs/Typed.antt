@@ -17,7 +17,9 @@ use Rattle.mon_syntax.specs.Parsed.{NameUse, ParsedExpression, Name, Constant, B
 use Rattle.mon_syntax.specs.Grammar.{word_at, is_step_word, has_no_argument}
 use Rattle.mon_syntax.specs.Valid as valid
 use Rattle.mon_syntax.specs.Valid.{Types, HasType, IsExpression, Labels, TakesValue, AreArguments, Signature, IsStatement, is_arithmetic, is_whole, memory_parameters, result_type, has_constant, greatest_number}
-use Rattle.mon_syntax.specs.Checking.{Header, Scope, Typed, Checked, ◌>>=◌, ◌>>◌, demanded, same_type, type_fault, find_register, find_function, or_fault, register_of, function_called, bytes_of, word_bytes, result_of, place_of, checked_expression, of_type, value_of_type, small_number, string, kind_named, others, wrong_number, no_more, next, assert_call, one_value, arguments_of, memory_call, runtime_call, named_call, call_of_word, checked_call, taken, returned}
+use Rattle.mon_syntax.specs.Checking.{Header, Scope, Typed, Checked, ◌>>=◌, ◌>>◌, demanded, same_type, type_fault, find_register, find_function, or_fault, register_of, function_called, bytes_of, word_bytes, result_of, place_of, checked_expression}
+use Rattle.mon_syntax.specs.Checking.{of_type, value_of_type, small_number, string, kind_named, others, wrong_number, no_more, next, assert_call, one_value, arguments_of, memory_call, runtime_call, named_call, call_of_word, checked_call, taken}
+use Rattle.mon_syntax.specs.Checking.{returned}
 use Rattle.mon_typing.specs.Within.{open_parens, HasFewParens, IsArgumentWithin, HasFewParensWhereAny}
 use Rattle.mon_typing.proofs.Headers.{Stands, stands}
 use Rattle.mon_typing.proofs.Holds.{Holds, holds_behind, holds_where, holds_all, first_true, second_true}
@@ -203,7 +205,8 @@ module _ (s : Scope) where
     runtime_valid f at xs runtime.PutChar w = one_valid at I32 xs (tree.PutChar None) w (λ e p. ((tt, p), refl, refl))
     runtime_valid f at xs runtime.GetChar w = more_valid (IsCall false) at xs (tree.GetChar None) (tt, refl, refl)
     runtime_valid f at xs runtime.Exit w = one_valid at I32 xs tree.Exit w (λ e p. (p, refl, refl))
-    runtime_valid f at xs runtime.PrintText w = next_valid (λ v. AllByRecursion (λ b. b < 256) v.0) (IsCall false) at (string s) xs (λ v more. no_more s at more (tree.PrintText v.0)) w string_valid (λ v more p u. more_valid (IsCall false) at more (tree.PrintText v.0) (p, refl, refl))
+    runtime_valid f at xs runtime.PrintText w = next_valid (λ v. AllByRecursion (λ b. b < 256) v.0) (IsCall false) at (string s) xs (λ v more. no_more s at more (tree.PrintText v.0)) w string_valid
+        (λ v more p u. more_valid (IsCall false) at more (tree.PrintText v.0) (p, refl, refl))
     runtime_valid f at xs runtime.PrintSigned w = one_valid at I64 xs tree.PrintSigned w (λ e p. (p, refl, refl))
     runtime_valid f at xs runtime.PrintUnsigned w = one_valid at U64 xs tree.PrintUnsigned w (λ e p. (p, refl, refl))
     runtime_valid f at xs runtime.StoreBlock w = memory_valid at xs StoreBlock w

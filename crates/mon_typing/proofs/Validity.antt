@@ -1,5 +1,6 @@
 -- What is checked is valid.
-use Rattle.std.proofs.Common.{◌≡◌, ℕ, suc, ◌<◌, ◌≤◌, max, Bool, true, false, not, ◌&&◌, ◌||◌, cond, List, [], ◌∷◌, ◌++◌, map, length, drop, Option, Some, None, slice_get, Ok, Err, nat_eq, eqb, eqb-true, eq-eqb, codes, bytes_eq, refl, sym, ap, subst, ◌∙◌, true≢false, arith}
+use Rattle.std.proofs.Common.{◌≡◌, ℕ, suc, ◌<◌, ◌≤◌, max, Bool, true, false, not, ◌&&◌, ◌||◌, cond, List, [], ◌∷◌, ◌++◌, map, length, drop, Option, Some, None, slice_get, Ok, Err, nat_eq, eqb, eqb-true, eq-eqb, codes, bytes_eq, refl, sym, ap, subst}
+use Rattle.std.proofs.Common.{◌∙◌, true≢false, arith}
 use Rattle.std.specs.List.{list_any, AllByRecursion}
 use Rattle.std.proofs.lemmas.List.{map-append}
 use Rattle.std.proofs.lemmas.List.Folds.{list_any-append}
@@ -15,7 +16,8 @@ use Rattle.mon_syntax.specs.Words.{word_of}
 use Rattle.mon_syntax.specs.Grammar.{Vocabulary, word_at, is_step, is_step_word, has_no_argument}
 use Rattle.mon_syntax.specs.Valid as valid
 use Rattle.mon_syntax.specs.Valid.{Types, IsExpression, IsStatement, AreStatements, AreRegisters, Signature, IsFunction, AreFunctions, IsMain, IsValid, has_label, types_of, signature_of}
-use Rattle.mon_syntax.specs.Checking.{Header, Scope, Checked, ◌>>=◌, ◌>>◌, name_fault, is_free, register_of, of_type, place_of, condition, checked_call, taken, labels_in, labels_in_all, checked_statement, checked_statements, checked_registers, named_register, word_bytes, kinds_of, header_of, scope_of, function_of, checked_function, checked_functions}
+use Rattle.mon_syntax.specs.Checking.{Header, Scope, Checked, ◌>>=◌, ◌>>◌, name_fault, is_free, register_of, of_type, place_of, condition, checked_call, taken, labels_in, labels_in_all, checked_statement, checked_statements, checked_registers}
+use Rattle.mon_syntax.specs.Checking.{named_register, word_bytes, kinds_of, header_of, scope_of, function_of, checked_function, checked_functions}
 use Rattle.mon_syntax.specs.Spelled.{no_main, is_i32, has_none, main_refusal}
 use Rattle.mon_typing.specs.Within.{depth, depth_of_all, has_no_step, IsWithin, AreWithin, IsFunctionWithin}
 use Rattle.mon_typing.specs.Laws.{AreNames, CheckedIsValid}
@@ -110,8 +112,10 @@ module _ (names : List (List ℕ)) (are : AreNames names) (hs : List Header) (rs
         holds_behind (GoodAll ls b) (Good ls (Loop a b)) (checked_statements scope t ls b) (λ y. Ok (tree.Loop x y)) (statements_valid ls b w.3 below (apart_second ls (labels_in_all a) (labels_in_all b) apart)) (λ y r.
         ((q.2 ∙ w.0, r.2 ∙ w.1, q.0, r.0), (λ i. suc (max 1 (max (q.1 i) (r.1 i)))), refl)))
     statement_valid ls (Labelled a l) w below apart =
-        holds_if (GoodAll (l.number ∷ ls) a) (Good ls (Labelled a l)) (is_free (word_at words l.number) && not (list_any (nat_eq l.number) (labels_in_all a))) l.place (checked_statements scope t (l.number ∷ ls) a) (λ x. tree.Labelled x (word_bytes names l.number))
-        (λ h. statements_valid (l.number ∷ ls) a w.1 (w.0, below) (apart_inside l.number ls (labels_in_all a) (not_false (list_any (nat_eq l.number) (labels_in_all a)) (second_true (is_free (word_at words l.number)) (not (list_any (nat_eq l.number) (labels_in_all a))) h)) (apart_first ls (labels_in_all a) (l.number ∷ []) apart)))
+        holds_if (GoodAll (l.number ∷ ls) a) (Good ls (Labelled a l)) (is_free (word_at words l.number) && not (list_any (nat_eq l.number) (labels_in_all a))) l.place (checked_statements scope t (l.number ∷ ls) a)
+        (λ x. tree.Labelled x (word_bytes names l.number))
+        (λ h. statements_valid (l.number ∷ ls) a w.1 (w.0, below) (apart_inside l.number ls (labels_in_all a)
+        (not_false (list_any (nat_eq l.number) (labels_in_all a)) (second_true (is_free (word_at words l.number)) (not (list_any (nat_eq l.number) (labels_in_all a))) h)) (apart_first ls (labels_in_all a) (l.number ∷ []) apart)))
         (λ h x p. (
           (
             name.free_name names l.number w.0 are.words (first_true (is_free (word_at words l.number)) (not (list_any (nat_eq l.number) (labels_in_all a))) h),
@@ -184,7 +188,8 @@ kinds_numbered [] = refl
 kinds_numbered (r ∷ rs) = ap (λ (ts : Types). r.kind ∷ ts) (kinds_numbered rs)
 
 -- parameters, and the other registers behind them
-both_at : (ws : Vocabulary) (r : ParsedRegister) (a b : List ParsedRegister) (known : List (ℕ × MonType)) (new : Bool) → checked_registers ws (known ++ (r.name.number, r.kind) ∷ []) (a ++ b) ≡ (checked_registers ws (known ++ (r.name.number, r.kind) ∷ []) a >>= λ k. checked_registers ws k b)
+both_at : (ws : Vocabulary) (r : ParsedRegister) (a b : List ParsedRegister) (known : List (ℕ × MonType)) (new : Bool)
+    → checked_registers ws (known ++ (r.name.number, r.kind) ∷ []) (a ++ b) ≡ (checked_registers ws (known ++ (r.name.number, r.kind) ∷ []) a >>= λ k. checked_registers ws k b)
     → cond new (checked_registers ws (known ++ (r.name.number, r.kind) ∷ []) (a ++ b)) (name_fault r.name.place) ≡ (cond new (checked_registers ws (known ++ (r.name.number, r.kind) ∷ []) a) (name_fault r.name.place) >>= λ k. checked_registers ws k b)
 both_at ws r a b known true e = e
 both_at ws r a b known false e = refl
@@ -287,7 +292,8 @@ module _ (names : List (List ℕ)) (are : AreNames names) (hs : List Header) whe
   main_at f w g gs true false k r rest of go m i n h = absurd cc
   main_at f w g gs false k l r rest of go m i n h = let later = go h in record { number = suc later.number; main = later.main; has = later.has; is_main = later.is_main }
 
-  functions_valid : (fs : List ParsedFunction) (before : List ℕ) (gs : List MonFunction) → AllByRecursion (IsFunctionWithin ws (length names)) fs → AllByRecursion (λ l. l < length names) before → checked_functions names ws hs before fs ≡ Ok gs → AreValid before fs gs
+  functions_valid : (fs : List ParsedFunction) (before : List ℕ) (gs : List MonFunction) → AllByRecursion (IsFunctionWithin ws (length names)) fs → AllByRecursion (λ l. l < length names) before → checked_functions names ws hs before fs ≡ Ok gs
+      → AreValid before fs gs
   functions_valid [] before gs w below e = let none : [] ≡ gs = cc in subst (AreValid before []) none (tt, refl, λ h. absurd cc)
   functions_valid (f ∷ fs) before gs w below e =
       let free : Bool = is_free (word_at ws f.name.number) in

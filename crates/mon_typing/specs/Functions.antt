@@ -5,7 +5,8 @@ use Rattle.mon_syntax.specs.declared.tree.MonType.{MonType}
 use Rattle.mon_syntax.specs.Trees.{MonStatements, MonFunction}
 use Rattle.mon_syntax.specs.Parsed.{ParsedFunction}
 use Rattle.mon_syntax.specs.Grammar.{Vocabulary, word_at}
-use Rattle.mon_syntax.specs.Checking.{Header, Checked, ◌>>=◌, name_fault, is_free, find_function, checked_registers, named_register, word_bytes, scope_of, checked_statements, checked_function}
+use Rattle.mon_syntax.specs.Checking.{Header, Checked, ◌>>=◌, name_fault, is_free, find_function, checked_registers, named_register, word_bytes, scope_of}
+use Rattle.mon_syntax.specs.Checking.{checked_statements, checked_function}
 use Rattle.mon_typing.specs.Headers.{is_at}
 use Rattle.mon_typing.specs.Scopes.{numbered}
 

@@ -27,7 +27,8 @@ pub record AreNames (names : List (List ℕ)) : Type 0 where
   pub distinct : AreDistinct names
 
 abbrev pub CheckedIsValid : Type 0
-CheckedIsValid = (names : List (List ℕ)) (p : ParsedProgram) (m : MonitoredProgram) → AreNames names → IsProgramWithin (map word_of names) (length names) p → checked_program names (map word_of names) p ≡ Ok m → main_refusal names p ≡ None → IsValid m
+CheckedIsValid = (names : List (List ℕ)) (p : ParsedProgram) (m : MonitoredProgram) → AreNames names → IsProgramWithin (map word_of names) (length names) p
+    → checked_program names (map word_of names) p ≡ Ok m → main_refusal names p ≡ None → IsValid m
 
 -- the names of a text's tokens are such names
 abbrev pub TokensHaveNames : Type 0

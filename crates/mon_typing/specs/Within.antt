@@ -3,7 +3,9 @@
 -- strings, and the numbers of its names.
 use Rattle.std.specs.Prelude.{◌≡◌, ℕ, suc, ◌<◌, ◌≤◌, max, Option, Some, None, Bool, true, not, ◌&&◌}
 use Rattle.std.specs.List.{AllByRecursion}
-use Rattle.mon_syntax.specs.Parsed.{ParsedExpression, Name, Constant, Binary, Minus, Flip, Cast, ParsedArgument, Value, Number, Text, ParsedStatement, Set, Take, Call, If, Loop, Labelled, Goto, Return, ParsedStatements, NoStatement, Then, ParsedRegister, ParsedFunction, ParsedProgram}
+use Rattle.mon_syntax.specs.Parsed.{ParsedExpression, Name, Constant, Binary, Minus, Flip, Cast, ParsedArgument, Value, Number, Text, ParsedStatement, Set}
+use Rattle.mon_syntax.specs.Parsed.{Take, Call, If, Loop, Labelled, Goto, Return, ParsedStatements, NoStatement, Then, ParsedRegister, ParsedFunction}
+use Rattle.mon_syntax.specs.Parsed.{ParsedProgram}
 use Rattle.mon_syntax.specs.Grammar.{Vocabulary, is_step}
 use Rattle.mon_syntax.specs.Valid.{most_open_parens, most_nested}
 

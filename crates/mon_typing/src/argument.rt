@@ -164,7 +164,8 @@ pub fn next_value<'a>(
     kind: MonType,
     arguments: &'a [ParsedArg],
 ) -> Result<(MonExpr, &'a [ParsedArg]), CheckFault>
-    ensures { let s = plain_scope scope.now in Gives {A = MonExpression × List ParsedArgument} (λ x. (plain_expr x.0, map read.plain_arg x.1.now)) result (first_of s place (value_of_type s kind) (map read.plain_arg arguments.now)) }
+    ensures { let s = plain_scope scope.now in Gives {A = MonExpression × List ParsedArgument} (λ x. (plain_expr x.0, map read.plain_arg x.1.now)) result
+        (first_of s place (value_of_type s kind) (map read.plain_arg arguments.now)) }
 {
     match arguments {
         [] => Err(CheckFault::BadType(place)),
@@ -179,7 +180,8 @@ pub fn next_number<'a>(
     place: Place,
     arguments: &'a [ParsedArg],
 ) -> Result<(u32, &'a [ParsedArg]), CheckFault>
-    ensures { let s = plain_scope scope.now in Gives {A = ℕ × List ParsedArgument} (λ x. (x.0, map read.plain_arg x.1.now)) result (first_of s place (small_number s) (map read.plain_arg arguments.now)) }
+    ensures { let s = plain_scope scope.now in Gives {A = ℕ × List ParsedArgument} (λ x. (x.0, map read.plain_arg x.1.now)) result
+        (first_of s place (small_number s) (map read.plain_arg arguments.now)) }
 {
     match arguments {
         [] => Err(CheckFault::BadType(place)),
@@ -194,7 +196,8 @@ fn next_kind<'a>(
     place: Place,
     arguments: &'a [ParsedArg],
 ) -> Result<(Kind, &'a [ParsedArg]), CheckFault>
-    ensures { let s = plain_scope scope.now in Gives {A = Kind × List ParsedArgument} (λ x. (x.0, map read.plain_arg x.1.now)) result (first_of s place (kind_named s) (map read.plain_arg arguments.now)) }
+    ensures { let s = plain_scope scope.now in Gives {A = Kind × List ParsedArgument} (λ x. (x.0, map read.plain_arg x.1.now)) result
+        (first_of s place (kind_named s) (map read.plain_arg arguments.now)) }
 {
     match arguments {
         [] => Err(CheckFault::BadType(place)),
@@ -259,7 +262,8 @@ fn all_values(
     values: Vec<MonExpr>,
     arguments: &[ParsedArg],
 ) -> Result<Vec<MonExpr>, CheckFault>
-    ensures { Gives (λ v. map plain_expr v.items) result (no_more (plain_scope scope.now) place (map read.plain_arg arguments.now) (map plain_expr values.items)) }
+    ensures { Gives (λ v. map plain_expr v.items) result (no_more (plain_scope scope.now) place (map read.plain_arg arguments.now)
+        (map plain_expr values.items)) }
 {
     no_more(alloc, scope, place, arguments)?;
     Ok(values)

@@ -39,7 +39,8 @@ fn assert_kind(
     line: u32,
     arguments: &[ParsedArg],
 ) -> Result<MonStmt, CheckFault>
-    ensures { Gives plain_stmt result (assert_kind (plain_scope scope.now) place (plain_expr truth.defined) (plain_expr truth.holds) number line (map read.plain_arg arguments.now)) }
+    ensures { Gives plain_stmt result (assert_kind (plain_scope scope.now) place (plain_expr truth.defined) (plain_expr truth.holds) number line
+        (map read.plain_arg arguments.now)) }
 {
     let kind = only_kind(alloc, scope, place, arguments)?;
     let assert = MonStmtKind::Assert(truth.defined, truth.holds, number, line, kind);
@@ -54,7 +55,8 @@ fn assert_numbers(
     truth: Truth,
     arguments: &[ParsedArg],
 ) -> Result<MonStmt, CheckFault>
-    ensures { Gives plain_stmt result (assert_numbers (plain_scope scope.now) place (plain_expr truth.defined) (plain_expr truth.holds) (map read.plain_arg arguments.now)) }
+    ensures { Gives plain_stmt result (assert_numbers (plain_scope scope.now) place (plain_expr truth.defined) (plain_expr truth.holds)
+        (map read.plain_arg arguments.now)) }
 {
     let (number, more) = next_number(alloc, scope, place, arguments)?;
     let (line, more) = next_number(alloc, scope, place, more)?;
@@ -182,7 +184,8 @@ fn print_text(
     place: Place,
     arguments: &[ParsedArg],
 ) -> Result<MonStmt, CheckFault>
-    ensures { Gives plain_stmt result (next (plain_scope scope.now) place (string (plain_scope scope.now)) (map read.plain_arg arguments.now) (λ w more. no_more (plain_scope scope.now) place more (tree.PrintText w.0))) }
+    ensures { Gives plain_stmt result (next (plain_scope scope.now) place (string (plain_scope scope.now)) (map read.plain_arg arguments.now)
+        (λ w more. no_more (plain_scope scope.now) place more (tree.PrintText w.0))) }
 {
     let text = only_string(alloc, scope, place, arguments)?;
     let text = Name::new(Vec::from_slice(alloc, text.bytes())?);

@@ -2,7 +2,8 @@
 
 ghost use Rattle.std.specs.Prelude.{◌≡◌, ◌&&◌, [], map, IfOk};
 ghost use Rattle.mon_syntax.specs.Trees.{plain_stmts, plain_register, plain_func, plain_program};
-ghost use Rattle.mon_syntax.specs.Checking.{is_free, find_function, header_of, scope_of, checked_registers, named_register, checked_statements, checked_function, checked_functions, checked_program};
+ghost use Rattle.mon_syntax.specs.Checking.{is_free, find_function, header_of, scope_of, checked_registers, named_register, checked_statements};
+ghost use Rattle.mon_syntax.specs.Checking.{checked_function, checked_functions, checked_program};
 ghost use Rattle.mon_syntax.specs.Grammar.{word_at};
 ghost use Rattle.mon_parser.specs.ParsedTrees as read;
 ghost use Rattle.mon_typing.specs.Answers.{Gives};
@@ -96,7 +97,9 @@ fn statements_with(
     registers: &Registers,
     f: &ParsedFunc,
 ) -> Result<Vec<MonStmt>, CheckFault>
-    ensures { Gives (λ v. plain_stmts v.items) result (checked_statements (scope_of names.now words.now (map plain_header functions.now.headers.items) registers.now.kinds.entries) f.now.result [] (read.plain_stmts f.now.body.items)) }
+    ensures { Gives (λ v. plain_stmts v.items) result (checked_statements
+        (scope_of names.now words.now (map plain_header functions.now.headers.items) registers.now.kinds.entries) f.now.result []
+        (read.plain_stmts f.now.body.items)) }
 {
     let scope = Scope {
         names,
@@ -199,7 +202,8 @@ fn checked_functions(
     list: &[ParsedFunc],
 ) -> Result<Vec<MonFunc>, CheckFault>
     requires { map plain_header functions.now.headers.items ≡ map header_of (map read.plain_func list.now) }
-    ensures { Gives (λ v. map plain_func v.items) result (checked_functions names.now words.now (map plain_header functions.now.headers.items) [] (map read.plain_func list.now)) }
+    ensures { Gives (λ v. map plain_func v.items) result (checked_functions names.now words.now (map plain_header functions.now.headers.items) []
+        (map read.plain_func list.now)) }
 {
     let mut all = Vec::new(alloc);
     'each: for (index, f) in list.iter().enumerate() {

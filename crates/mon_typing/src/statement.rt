@@ -5,7 +5,8 @@ ghost use Rattle.std.specs.List.{list_any};
 ghost use Rattle.mon_syntax.specs.Trees as tree;
 ghost use Rattle.mon_syntax.specs.Trees.{MonStatements, plain_stmt, plain_stmts};
 ghost use Rattle.mon_syntax.specs.Valid.{memory_result};
-ghost use Rattle.mon_syntax.specs.Checking.{bytes_of, result_of, value_type, with_target, taken, returned, known_label, new_label, labels_in, labels_in_all, checked_statement, checked_statements};
+ghost use Rattle.mon_syntax.specs.Checking.{bytes_of, result_of, value_type, with_target, taken, returned, known_label, new_label, labels_in, labels_in_all};
+ghost use Rattle.mon_syntax.specs.Checking.{checked_statement, checked_statements};
 ghost use Rattle.mon_syntax.specs.Parsed as parsed;
 ghost use Rattle.mon_parser.specs.ParsedTrees as read;
 ghost use Rattle.mon_typing.specs.Answers.{Fails, Gives, TakesNoMemory};
@@ -183,7 +184,8 @@ fn assigned(
     place: Place,
     e: &ParsedExpr,
 ) -> Result<MonStmt, CheckFault>
-    ensures { Gives plain_stmt result (checked_statement (plain_scope scope.now) None [] (parsed.Set (read.plain_name register) place (read.plain_expr e.now))) }
+    ensures { Gives plain_stmt result (checked_statement (plain_scope scope.now) None []
+        (parsed.Set (read.plain_name register) place (read.plain_expr e.now))) }
 {
     let (number, kind) = register_of(scope, register)?;
     let value = of_type(alloc, scope, kind, place, e)?;
@@ -198,7 +200,8 @@ fn assigned_call(
     place: Place,
     call: &ParsedCall,
 ) -> Result<MonStmt, CheckFault>
-    ensures { Gives plain_stmt result (checked_statement (plain_scope scope.now) None [] (parsed.Take (read.plain_name register) place (read.plain_call call.now))) }
+    ensures { Gives plain_stmt result (checked_statement (plain_scope scope.now) None []
+        (parsed.Take (read.plain_name register) place (read.plain_call call.now))) }
 {
     let target = register_of(scope, register)?;
     let call = checked_call(alloc, scope, call)?;
@@ -224,7 +227,8 @@ pub fn checked_statement(
     labels: &mut Labels,
     s: &ParsedStmt,
 ) -> Result<MonStmt, CheckFault>
-    ensures spelled { Gives plain_stmt result (checked_statement (plain_scope scope.now) result_type (reverse labels.old.around.items) (read.plain_stmt s.now)) }
+    ensures spelled { Gives plain_stmt result (checked_statement (plain_scope scope.now) result_type (reverse labels.old.around.items)
+        (read.plain_stmt s.now)) }
     ensures around { OnOk result (labels.new.around.items ≡ labels.old.around.items) }
     ensures closed { OnOk result (labels.new.closed.items ≡ labels.old.closed.items ++ labels_in (read.plain_stmt s.now)) }
 {
@@ -258,9 +262,11 @@ fn checked_bodies(
     first: &[ParsedStmt],
     second: &[ParsedStmt],
 ) -> Result<(Vec<MonStmt>, Vec<MonStmt>), CheckFault>
-    ensures spelled { Gives {A = MonStatements × MonStatements} (λ x. (plain_stmts x.0.items, plain_stmts x.1.items)) result (checked_bodies (plain_scope scope.now) result_type (reverse labels.old.around.items) (read.plain_stmts first.now) (read.plain_stmts second.now)) }
+    ensures spelled { Gives {A = MonStatements × MonStatements} (λ x. (plain_stmts x.0.items, plain_stmts x.1.items)) result
+        (checked_bodies (plain_scope scope.now) result_type (reverse labels.old.around.items) (read.plain_stmts first.now) (read.plain_stmts second.now)) }
     ensures around { OnOk result (labels.new.around.items ≡ labels.old.around.items) }
-    ensures closed { OnOk result (labels.new.closed.items ≡ labels.old.closed.items ++ (labels_in_all (read.plain_stmts first.now) ++ labels_in_all (read.plain_stmts second.now))) }
+    ensures closed { OnOk result (labels.new.closed.items ≡ labels.old.closed.items ++ (labels_in_all (read.plain_stmts first.now) ++ labels_in_all
+        (read.plain_stmts second.now))) }
 {
     let first = checked_statements(alloc, scope, result_type, labels, first)?;
     let second = checked_statements(alloc, scope, result_type, labels, second)?;
@@ -278,9 +284,11 @@ fn selection(
     first: &[ParsedStmt],
     second: &[ParsedStmt],
 ) -> Result<MonStmt, CheckFault>
-    ensures spelled { Gives plain_stmt result (checked_statement (plain_scope scope.now) result_type (reverse labels.old.around.items) (parsed.If (read.plain_expr e.now) (read.plain_stmts first.now) (read.plain_stmts second.now))) }
+    ensures spelled { Gives plain_stmt result (checked_statement (plain_scope scope.now) result_type (reverse labels.old.around.items)
+        (parsed.If (read.plain_expr e.now) (read.plain_stmts first.now) (read.plain_stmts second.now))) }
     ensures around { OnOk result (labels.new.around.items ≡ labels.old.around.items) }
-    ensures closed { OnOk result (labels.new.closed.items ≡ labels.old.closed.items ++ (labels_in_all (read.plain_stmts first.now) ++ labels_in_all (read.plain_stmts second.now))) }
+    ensures closed { OnOk result (labels.new.closed.items ≡ labels.old.closed.items ++ (labels_in_all (read.plain_stmts first.now) ++ labels_in_all
+        (read.plain_stmts second.now))) }
 {
     let e = condition(alloc, scope, e)?;
     let (first, second) = checked_bodies(alloc, scope, result_type, labels, first, second)?;
@@ -297,9 +305,11 @@ fn iteration(
     before: &[ParsedStmt],
     behind: &[ParsedStmt],
 ) -> Result<MonStmt, CheckFault>
-    ensures spelled { Gives plain_stmt result (checked_statement (plain_scope scope.now) result_type (reverse labels.old.around.items) (parsed.Loop (read.plain_stmts before.now) (read.plain_stmts behind.now))) }
+    ensures spelled { Gives plain_stmt result (checked_statement (plain_scope scope.now) result_type (reverse labels.old.around.items)
+        (parsed.Loop (read.plain_stmts before.now) (read.plain_stmts behind.now))) }
     ensures around { OnOk result (labels.new.around.items ≡ labels.old.around.items) }
-    ensures closed { OnOk result (labels.new.closed.items ≡ labels.old.closed.items ++ (labels_in_all (read.plain_stmts before.now) ++ labels_in_all (read.plain_stmts behind.now))) }
+    ensures closed { OnOk result (labels.new.closed.items ≡ labels.old.closed.items ++ (labels_in_all (read.plain_stmts before.now) ++ labels_in_all
+        (read.plain_stmts behind.now))) }
 {
     let (before, behind) = checked_bodies(alloc, scope, result_type, labels, before, behind)?;
     Ok(MonStmt::new(alloc, MonStmtKind::Loop(before, behind))?)
@@ -345,7 +355,8 @@ fn labelled_body(
     body: &[ParsedStmt],
     label: u32,
 ) -> Result<Vec<MonStmt>, CheckFault>
-    ensures spelled { Gives (λ v. plain_stmts v.items) result (checked_statements (plain_scope scope.now) result_type (label ∷ reverse labels.old.around.items) (read.plain_stmts body.now)) }
+    ensures spelled { Gives (λ v. plain_stmts v.items) result (checked_statements (plain_scope scope.now) result_type (label ∷ reverse labels.old.around.items)
+        (read.plain_stmts body.now)) }
     ensures around { OnOk result (labels.new.around.items ≡ labels.old.around.items) }
     ensures closed { OnOk result (labels.new.closed.items ≡ labels.old.closed.items ++ labels_in_all (read.plain_stmts body.now)) }
 {
@@ -365,7 +376,8 @@ fn labelled(
     body: &[ParsedStmt],
     label: NameUse,
 ) -> Result<MonStmt, CheckFault>
-    ensures spelled { Gives plain_stmt result (checked_statement (plain_scope scope.now) result_type (reverse labels.old.around.items) (parsed.Labelled (read.plain_stmts body.now) (read.plain_name label))) }
+    ensures spelled { Gives plain_stmt result (checked_statement (plain_scope scope.now) result_type (reverse labels.old.around.items)
+        (parsed.Labelled (read.plain_stmts body.now) (read.plain_name label))) }
     ensures around { OnOk result (labels.new.around.items ≡ labels.old.around.items) }
     ensures closed { OnOk result (labels.new.closed.items ≡ labels.old.closed.items ++ (labels_in_all (read.plain_stmts body.now) ++ label.number ∷ [])) }
 {
@@ -384,7 +396,8 @@ pub fn checked_statements(
     labels: &mut Labels,
     list: &[ParsedStmt],
 ) -> Result<Vec<MonStmt>, CheckFault>
-    ensures spelled { Gives (λ v. plain_stmts v.items) result (checked_statements (plain_scope scope.now) result_type (reverse labels.old.around.items) (read.plain_stmts list.now)) }
+    ensures spelled { Gives (λ v. plain_stmts v.items) result (checked_statements (plain_scope scope.now) result_type (reverse labels.old.around.items)
+        (read.plain_stmts list.now)) }
     ensures around { OnOk result (labels.new.around.items ≡ labels.old.around.items) }
     ensures closed { OnOk result (labels.new.closed.items ≡ labels.old.closed.items ++ labels_in_all (read.plain_stmts list.now)) }
 {

@@ -1,6 +1,7 @@
 //! What holds of every C text with annotations. No function here has anything to do.
 
-ghost use Rattle.c_model.specs.CTokenLaws.{PiecesAreTheText, PiecesArePlaced, PiecesAreSpelled, BreaksAreFaults, OnlyTheseAreSpelled, LiteralsAreIntegers, RefusedAtFirstFault, NamesInOrder, NamesDiffer, TokensAscend, StringsAreJoined, TokensAreFew, EndIsBehindTheText};
+ghost use Rattle.c_model.specs.CTokenLaws.{PiecesAreTheText, PiecesArePlaced, PiecesAreSpelled, BreaksAreFaults, OnlyTheseAreSpelled, LiteralsAreIntegers};
+ghost use Rattle.c_model.specs.CTokenLaws.{RefusedAtFirstFault, NamesInOrder, NamesDiffer, TokensAscend, StringsAreJoined, TokensAreFew, EndIsBehindTheText};
 
 /// The pieces joined are the text, and each is at its place and spelled as its kind is. What is no piece is broken as its fault
 /// says. The pieces are the only ones of which all this holds.

@@ -1,6 +1,7 @@
 //! What holds of every monitored text. No function here has anything to do.
 
-ghost use Rattle.c_model.specs.MonitoredTokenLaws.{PiecesAreTheText, PiecesArePlaced, PiecesAreSpelled, BreaksAreFaults, OnlyTheseAreSpelled, RefusedAtFirstFault, NamesInOrder, NamesDiffer, NumbersAreOfNames};
+ghost use Rattle.c_model.specs.MonitoredTokenLaws.{PiecesAreTheText, PiecesArePlaced, PiecesAreSpelled, BreaksAreFaults, OnlyTheseAreSpelled};
+ghost use Rattle.c_model.specs.MonitoredTokenLaws.{RefusedAtFirstFault, NamesInOrder, NamesDiffer, NumbersAreOfNames};
 
 /// The pieces joined are the text, and each is at its place and spelled as its kind is. What is no piece is broken as its fault
 /// says. The pieces are the only ones of which all this holds.

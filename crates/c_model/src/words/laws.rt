@@ -1,6 +1,7 @@
 //! What holds of every command line, whatever reads it.
 
-ghost use Rattle.c_model.specs.WordLaws.{DashesEndOptions, ExecTakesWordsOfRun, FormsAgree, JobsAreFromWords, LeadingZeros, NumbersAreRead, OneFileBehindDashes, OptionOnce, OrderIsFree};
+ghost use Rattle.c_model.specs.WordLaws.{DashesEndOptions, ExecTakesWordsOfRun, FormsAgree, JobsAreFromWords, LeadingZeros, NumbersAreRead};
+ghost use Rattle.c_model.specs.WordLaws.{OneFileBehindDashes, OptionOnce, OrderIsFree};
 
 /// The order of options and operands doesn't matter, and the two forms of an option are the same.
 pub fn arguments_in_any_order()

@@ -33,7 +33,8 @@ abbrev pub decreases-items : goal.decreases-items
 decreases-items l = 10 * l.levels + 3
 
 abbrev pub invariant-items-turn : goal.invariant-items-turn
-invariant-items-turn l = (items l.words (statement_in l.words l.levels) (map plain_item l.all.items, plain_counts l.counts)).parse (plain_list l.rest) ≡ (items l.words (statement_in l.words l.levels) (map plain_item l.fn.all.items, plain_counts l.fn.counts)).parse (plain_list l.fn.tokens)
+invariant-items-turn l = (items l.words (statement_in l.words l.levels) (map plain_item l.all.items, plain_counts l.counts)).parse (plain_list l.rest) ≡
+    (items l.words (statement_in l.words l.levels) (map plain_item l.fn.all.items, plain_counts l.fn.counts)).parse (plain_list l.fn.tokens)
 
 abbrev pub decreases-items-turn : goal.decreases-items-turn
 decreases-items-turn l = length l.rest

@@ -17,17 +17,20 @@ returns-in-Err-clause-answered g c = memory_said c.out_of_memory.ensures
 pub returns-in-Ok-clause-answered : goal.returns-in-Ok-clause-answered
 returns-in-Ok-clause-answered g c =
     let e : Some c.in-Ok-Some.job ≡ job_of (map string_bytes c.args.words.items) = rw (c.in-Ok-Some.field-0-is, c.deref.ensures.value) at c.in-Ok-Some.ensures in
-    file_answered c.in-Ok-Some.job c.text.result.now c.in-Ok.text.items c.deref-in-Ok.result.now c.limit_of.result e (c.text.ensures ∙ c.file_name.ensures) c.limit_of.ensures c.deref-in-Ok.ensures.value c.in-Ok.ensures.bytes c.in-Ok.ensures.count c.do_job.ensures.answered
+    file_answered c.in-Ok-Some.job c.text.result.now c.in-Ok.text.items c.deref-in-Ok.result.now c.limit_of.result e (c.text.ensures ∙ c.file_name.ensures) c.limit_of.ensures c.deref-in-Ok.ensures.value c.in-Ok.ensures.bytes c.in-Ok.ensures.count
+    c.do_job.ensures.answered
 
 pub returns-in-Err-Missing-clause-answered : goal.returns-in-Err-Missing-clause-answered
 returns-in-Err-Missing-clause-answered g c =
     let e : Some c.in-Ok-Some.job ≡ job_of (map string_bytes c.args.words.items) = rw (c.in-Ok-Some.field-0-is, c.deref.ensures.value) at c.in-Ok-Some.ensures in
-    missing_said c.in-Ok-Some.job c.text.result.now c.limit_of.result e (c.text.ensures ∙ c.file_name.ensures) c.limit_of.ensures unasked (rw c.in-Err-Missing.field-0-is at c.in-Err-Missing.ensures.bytes) (rw c.in-Err-Missing.field-0-is at c.in-Err-Missing.ensures.count) c.say-in-Err-Missing.ensures
+    missing_said c.in-Ok-Some.job c.text.result.now c.limit_of.result e (c.text.ensures ∙ c.file_name.ensures) c.limit_of.ensures unasked (rw c.in-Err-Missing.field-0-is at c.in-Err-Missing.ensures.bytes)
+    (rw c.in-Err-Missing.field-0-is at c.in-Err-Missing.ensures.count) c.say-in-Err-Missing.ensures
 
 pub returns-in-Err-TooLong-clause-answered : goal.returns-in-Err-TooLong-clause-answered
 returns-in-Err-TooLong-clause-answered g c =
     let e : Some c.in-Ok-Some.job ≡ job_of (map string_bytes c.args.words.items) = rw (c.in-Ok-Some.field-0-is, c.deref.ensures.value) at c.in-Ok-Some.ensures in
-    too_long_said c.in-Ok-Some.job c.text.result.now c.limit_of.result e (c.text.ensures ∙ c.file_name.ensures) c.limit_of.ensures unasked (rw c.in-Err-TooLong.field-0-is at c.in-Err-TooLong.ensures.bytes) (rw c.in-Err-TooLong.field-0-is at c.in-Err-TooLong.ensures.count) c.say-in-Err-TooLong.ensures
+    too_long_said c.in-Ok-Some.job c.text.result.now c.limit_of.result e (c.text.ensures ∙ c.file_name.ensures) c.limit_of.ensures unasked (rw c.in-Err-TooLong.field-0-is at c.in-Err-TooLong.ensures.bytes)
+    (rw c.in-Err-TooLong.field-0-is at c.in-Err-TooLong.ensures.count) c.say-in-Err-TooLong.ensures
 
 pub returns-in-Err-Failed-clause-answered : goal.returns-in-Err-Failed-clause-answered
 returns-in-Err-Failed-clause-answered g c =

@@ -47,7 +47,8 @@ abbrev pub decreases-more_statements : goal.decreases-more_statements
 decreases-more_statements l = 10 * l.levels + 3
 
 abbrev pub invariant-more_statements-turn : goal.invariant-more_statements-turn
-invariant-more_statements-turn l = (more_statements l.words (statement_in l.words l.levels) (map plain_stmt l.all.items)).parse (plain_list l.rest) ≡ (more_statements l.words (statement_in l.words l.levels) (map plain_stmt l.fn.all.items)).parse (plain_list l.fn.tokens)
+invariant-more_statements-turn l = (more_statements l.words (statement_in l.words l.levels) (map plain_stmt l.all.items)).parse (plain_list l.rest) ≡ (more_statements l.words (statement_in l.words l.levels) (map plain_stmt l.fn.all.items)).parse
+    (plain_list l.fn.tokens)
 
 abbrev pub decreases-more_statements-turn : goal.decreases-more_statements-turn
 decreases-more_statements-turn l = length l.rest

@@ -14,11 +14,13 @@ use Rattle.mon_typing.proofs.argument.values_of.Goals as goal
 pub returns-in_err-value : goal.returns-in_err-value
 returns-in_err-value c =
     let e : c.from_residual.result ≡ Err c.in_err-value.field-0.0 = search rules in
-    rw e (value_fails (plain_scope c.args.scope.now) c.args.place c.args.kinds.now c.each.kind-index no_type (map plain_arg c.each.rest.now) (map plain_expr c.each.values.items) c.in_err-value.field-0.0 _ c.each-test.true c.in_err-value.ensures c.each.invariant)
+    rw e (value_fails (plain_scope c.args.scope.now) c.args.place c.args.kinds.now c.each.kind-index no_type (map plain_arg c.each.rest.now) (map plain_expr c.each.values.items) c.in_err-value.field-0.0 _ c.each-test.true c.in_err-value.ensures
+    c.each.invariant)
 
 pub each-preserved : goal.each-preserved
 each-preserved c =
-    next_value (plain_scope c.args.scope.now) c.args.place c.args.kinds.now c.each.kind-index no_type (map plain_arg c.each.rest.now) (map plain_arg c.in_ok-value.more.now) (map plain_expr c.each.values.items) (map plain_expr c.push.new.self.items) (plain_expr c.in_ok-value.value) _
+    next_value (plain_scope c.args.scope.now) c.args.place c.args.kinds.now c.each.kind-index no_type (map plain_arg c.each.rest.now) (map plain_arg c.in_ok-value.more.now) (map plain_expr c.each.values.items) (map plain_expr c.push.new.self.items)
+    (plain_expr c.in_ok-value.value) _
     c.each-test.true c.in_ok-value.ensures (ap (map plain_expr) c.in_ok-push.ensures.items ∙ map-append plain_expr c.each.values.items (c.in_ok-value.value ∷ [])) c.each.invariant
 
 pub returns : goal.returns

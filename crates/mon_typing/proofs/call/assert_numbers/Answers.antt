@@ -12,11 +12,13 @@ pub returns-in_err-line : goal.returns-in_err-line
 returns-in_err-line c =
     let s = plain_scope c.args.scope.now in
     let e : c.from_residual-in_err-line.result ≡ Err c.in_err-line.field-0.0 = search rules in
-    rw e (second_fails s c.args.place (small_number s) (small_number s) (λ n line. assert_kind s c.args.place (plain_expr c.args.truth.defined) (plain_expr c.args.truth.holds) n line) (map plain_arg c.args.arguments.now) (map plain_arg c.in_ok-number.more.now) c.in_ok-number.number c.in_err-line.field-0.0 c.in_ok-number.ensures c.in_err-line.ensures)
+    rw e (second_fails s c.args.place (small_number s) (small_number s) (λ n line. assert_kind s c.args.place (plain_expr c.args.truth.defined) (plain_expr c.args.truth.holds) n line) (map plain_arg c.args.arguments.now)
+    (map plain_arg c.in_ok-number.more.now) c.in_ok-number.number c.in_err-line.field-0.0 c.in_ok-number.ensures c.in_err-line.ensures)
 
 pub returns : goal.returns
 returns c =
     let s = plain_scope c.args.scope.now in
     subst (λ (x : Checked MonStatement). Gives plain_stmt c.assert_kind.result x)
-    (sym (both_taken s c.args.place (small_number s) (small_number s) (λ n line. assert_kind s c.args.place (plain_expr c.args.truth.defined) (plain_expr c.args.truth.holds) n line) (map plain_arg c.args.arguments.now) (map plain_arg c.in_ok-number.more.now) (map plain_arg c.in_ok-line.more.now) c.in_ok-number.number c.in_ok-line.line c.in_ok-number.ensures c.in_ok-line.ensures))
+    (sym (both_taken s c.args.place (small_number s) (small_number s) (λ n line. assert_kind s c.args.place (plain_expr c.args.truth.defined) (plain_expr c.args.truth.holds) n line) (map plain_arg c.args.arguments.now)
+    (map plain_arg c.in_ok-number.more.now) (map plain_arg c.in_ok-line.more.now) c.in_ok-number.number c.in_ok-line.line c.in_ok-number.ensures c.in_ok-line.ensures))
     c.assert_kind.ensures

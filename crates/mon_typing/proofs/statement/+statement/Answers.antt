@@ -36,11 +36,13 @@ checked_statement-returns-in-Loop-clause-closed t c =
 pub checked_bodies-returns-in_err-second-clause-spelled : goal.checked_bodies-returns-in_err-second-clause-spelled
 checked_bodies-returns-in_err-second-clause-spelled t c =
     let e : c.from_residual-in_err-second.result ≡ Err c.in_err-second.field-0.0 = search rules in
-    rw e (second_fails (plain_scope c.args.scope.now) c.args.result_type c.args.labels.now.around.items c.args.first.now c.args.second.now c.checked_statements.new.labels.around.items _ c.in_err-second.field-0.0 c.in_ok-first.ensures.around c.in_ok-first.ensures.spelled c.in_err-second.ensures.spelled)
+    rw e (second_fails (plain_scope c.args.scope.now) c.args.result_type c.args.labels.now.around.items c.args.first.now c.args.second.now c.checked_statements.new.labels.around.items _ c.in_err-second.field-0.0 c.in_ok-first.ensures.around
+    c.in_ok-first.ensures.spelled c.in_err-second.ensures.spelled)
 
 pub checked_bodies-returns-clause-spelled : goal.checked_bodies-returns-clause-spelled
 checked_bodies-returns-clause-spelled t c =
-    both_checked (plain_scope c.args.scope.now) c.args.result_type c.args.labels.now.around.items c.args.first.now c.args.second.now c.checked_statements.new.labels.around.items c.in_ok-first.first c.in_ok-second.second c.in_ok-first.ensures.around c.in_ok-first.ensures.spelled c.in_ok-second.ensures.spelled
+    both_checked (plain_scope c.args.scope.now) c.args.result_type c.args.labels.now.around.items c.args.first.now c.args.second.now c.checked_statements.new.labels.around.items c.in_ok-first.first c.in_ok-second.second c.in_ok-first.ensures.around
+    c.in_ok-first.ensures.spelled c.in_ok-second.ensures.spelled
 
 pub checked_bodies-returns-clause-closed : goal.checked_bodies-returns-clause-closed
 checked_bodies-returns-clause-closed t c = labels_of_two c.args.labels.now.closed.items c.checked_statements.new.labels.closed.items c.checked_statements-2.new.labels.closed.items _ _ c.in_ok-first.ensures.closed c.in_ok-second.ensures.closed
@@ -52,7 +54,8 @@ selection-returns-in_err-first-clause-spelled t c =
 
 pub selection-returns-clause-spelled : goal.selection-returns-clause-spelled
 selection-returns-clause-spelled t c =
-    if_checked (plain_scope c.args.scope.now) c.args.result_type c.args.labels.now.around.items (plain_expr c.args.e.now) c.args.first.now c.args.second.now c.in_ok-e.e c.in_ok-first.first c.in_ok-first.second c.in_ok-new.field-0 c.in_ok-e.ensures c.in_ok-first.ensures.spelled c.in_ok-new.ensures
+    if_checked (plain_scope c.args.scope.now) c.args.result_type c.args.labels.now.around.items (plain_expr c.args.e.now) c.args.first.now c.args.second.now c.in_ok-e.e c.in_ok-first.first c.in_ok-first.second c.in_ok-new.field-0 c.in_ok-e.ensures
+    c.in_ok-first.ensures.spelled c.in_ok-new.ensures
 
 pub iteration-returns-in_err-before-clause-spelled : goal.iteration-returns-in_err-before-clause-spelled
 iteration-returns-in_err-before-clause-spelled t c =
@@ -65,7 +68,8 @@ iteration-returns-clause-spelled t c =
 
 pub checked_statements-each-preserved : goal.checked_statements-each-preserved
 checked_statements-each-preserved t c = record {
-  same = next_checked (plain_scope c.args.scope.now) c.args.result_type c.args.labels.now.around.items c.args.list.now c.each.one-index c.one-item.result c.each.labels.around.items c.each.all.items c.push.new.self.items c.in_ok-one.one _ c.each-test.true c.one-item.is c.each.invariant.around c.in_ok-one.ensures.spelled c.in_ok-push.ensures.items c.each.invariant.same;
+  same = next_checked (plain_scope c.args.scope.now) c.args.result_type c.args.labels.now.around.items c.args.list.now c.each.one-index c.one-item.result c.each.labels.around.items c.each.all.items c.push.new.self.items c.in_ok-one.one _
+      c.each-test.true c.one-item.is c.each.invariant.around c.in_ok-one.ensures.spelled c.in_ok-push.ensures.items c.each.invariant.same;
   around = c.in_ok-one.ensures.around ∙ c.each.invariant.around;
   closed = next_labels c.args.list.now c.each.one-index c.one-item.result c.each.labels.closed.items c.checked_statement.new.labels.closed.items _ c.each-test.true c.one-item.is c.in_ok-one.ensures.closed c.each.invariant.closed;
 }
@@ -76,7 +80,8 @@ checked_statements-returns-clause-spelled t c = all_checked (plain_scope c.args.
 pub labelled_body-returns-in_err-body-clause-spelled : goal.labelled_body-returns-in_err-body-clause-spelled
 labelled_body-returns-in_err-body-clause-spelled t c =
     let e : c.from_residual-in_err-body.result ≡ Err c.in_err-body.field-0.0 = search rules in
-    rw e (fails_along c.in_err-body.field-0.0 _ _ (inside_label (plain_scope c.args.scope.now) c.args.result_type c.args.labels.now.around.items c.push.new.self.items c.args.body.now c.args.label c.in_ok-push.ensures.items) c.in_err-body.ensures.spelled)
+    rw e (fails_along c.in_err-body.field-0.0 _ _ (inside_label (plain_scope c.args.scope.now) c.args.result_type c.args.labels.now.around.items c.push.new.self.items c.args.body.now c.args.label c.in_ok-push.ensures.items)
+    c.in_err-body.ensures.spelled)
 
 pub labelled_body-returns-clause-spelled : goal.labelled_body-returns-clause-spelled
 labelled_body-returns-clause-spelled t c =
