@@ -1,4 +1,4 @@
--- The indices of a program's definitions, noted one behind another.
+-- The indices of a program's definitions, noted one after another.
 use Rattle.std.proofs.Common.{◌≡◌, ℕ, suc, ◌+◌, Bool, true, false, if◌then◌else◌, List, ◌∷◌, Option, Some, None, is_some, option_map, nat_eq, refl, ap, ◌∙◌, sym, arith}
 use Rattle.c_syntax.specs.declared.statement.Stmt.{Stmt}
 use Rattle.c_syntax.specs.Programs.{Function}

@@ -1,4 +1,4 @@
--- Statements behind one another.
+-- Statements one after another.
 use Rattle.std.proofs.Common.{◌≡◌, ℕ, suc, ◌+◌, ◌<◌, ◌≤◌, List, [], ◌∷◌, ◌++◌, length, length-drop, drop, get_or, refl, ap, sym, ◌∙◌, arith}
 use Rattle.std.proofs.lemmas.List.{nil_from_length, append-nil, append_assoc}
 use Rattle.std.proofs.Math.Seq.{drop-cons}
@@ -59,12 +59,12 @@ grown t part rest first put kept =
 pub complete : {B : Type 0} {left all : List B} (t : List B) → left ≡ [] → t ++ left ≡ all → t ≡ all
 complete t none kept = sym (append-nil t) ∙ ap (λ a. t ++ a) (sym none) ∙ kept
 
--- one more part of the code stands there, behind which what is left begins with further registers
+-- one more part of the code stands there, after which what is left begins with further registers
 pub more_behind : {t' left all : MonStatements} {rs' : List MonType} (t part : MonStatements) (rs ts : List MonType) (rest : List MonType → MonStatements) → left ≡ before part (rest (rs ++ ts)) → t' ≡ before t part → rs' ≡ rs ++ ts
     → before t left ≡ all → before t' (rest rs') ≡ all
 more_behind {t'} t part rs ts rest first put types kept = ap (λ r. before t' (rest r)) types ∙ more t part (rest (rs ++ ts)) first put kept
 
--- one more part of a list, behind which what is left begins with further registers
+-- one more part of a list, after which what is left begins with further registers
 pub grown_behind : {B : Type 0} {t' left all : List B} {rs' : List MonType} (t part : List B) (rs ts : List MonType) (rest : List MonType → List B) → left ≡ part ++ rest (rs ++ ts) → t' ≡ t ++ part → rs' ≡ rs ++ ts → t ++ left ≡ all
     → t' ++ rest rs' ≡ all
 grown_behind {t'} t part rs ts rest first put types kept = ap (λ r. t' ++ rest r) types ∙ grown t part (rest (rs ++ ts)) first put kept

@@ -1,5 +1,5 @@
 -- What effects become: calls, assignments, increments and initialisers, the full expressions whose values they take, and the temporary
--- registers of both. Statements are put in front of the values that they set up.
+-- registers of both. Statements are put before the values that they set up.
 use Rattle.std.specs.Prelude.{ℕ, suc, ◌+◌, pos, List, [], ◌∷◌, ◌++◌, length, Option, Some, None, if◌then◌else◌, nat_eq, codes, bytes_eq}
 use Rattle.c_syntax.specs.declared.place.Place.{Place}
 use Rattle.c_syntax.specs.declared.expression.Use.{Use}
@@ -36,7 +36,7 @@ full_temporaries (Node at t (source.Call f es)) = arguments_temporaries es ++ va
 full_temporaries (Node at t (source.Cast to (Node at2 u (source.Call f es)))) = arguments_temporaries es ++ value_type u ∷ []
 full_temporaries e = temporaries e
 
--- what stands in front of the arguments' values, and these, from left to right
+-- what stands before the arguments' values, and these, from left to right
 abbrev pub arguments_setup : List ℕ → List MonType → Expressions → MonStatements
 arguments_setup numbers rs NoExpression = NoStatement
 arguments_setup numbers rs (Following e es) = before (setup numbers rs e) (arguments_setup numbers (rs ++ temporaries e) es)
@@ -45,7 +45,7 @@ abbrev pub arguments : List ℕ → List MonType → Expressions → List MonExp
 arguments numbers rs NoExpression = []
 arguments numbers rs (Following e es) = value numbers rs e ∷ arguments numbers (rs ++ temporaries e) es
 
--- the value of a full expression, behind what stands in front of it
+-- the value of a full expression, after what stands before it
 abbrev pub full_value : List ℕ → List MonType → Expression → MonExpression
 full_value numbers rs (Node at t (source.Call f es)) = Register (length (rs ++ arguments_temporaries es))
 full_value numbers rs (Node at t (source.Cast to (Node at2 u (source.Call f es)))) =
@@ -99,7 +99,7 @@ module _ (p : TranslationUnit) (numbers : List ℕ) where
   abbrev pub called : List MonType → Option ℕ → Use → Expressions → MonStatements
   called rs r f es = before (arguments_setup numbers rs es) (call p r f (arguments numbers rs es))
 
-  -- what stands in front of the value of a full expression
+  -- what stands before the value of a full expression
   abbrev pub full_setup : List MonType → Expression → MonStatements
   full_setup rs (Node at t (source.Call f es)) = called rs (Some (length (rs ++ arguments_temporaries es))) f es
   full_setup rs (Node at t (source.Cast to (Node at2 u (source.Call f es)))) = called rs (Some (length (rs ++ arguments_temporaries es))) f es

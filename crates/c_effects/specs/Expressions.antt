@@ -1,6 +1,6 @@
 -- Ours: a choice of code; what it has to do is C99 6.5 and ACSL 2.2, by the theorem of this crate.
 -- Expressions and annotations in monitored C: each variable has a register, and each annotation is an assertion. What an expression
--- evaluates only at times, as the right side of `&&`, stands in front of it, in an `if` that sets a temporary register.
+-- evaluates only at times, as the right side of `&&`, stands before it, in an `if` that sets a temporary register.
 use Rattle.std.specs.Prelude.{ℕ, pos, List, [], ◌∷◌, ◌++◌, length, if◌then◌else◌}
 use Rattle.c_syntax.specs.declared.types.CInt.{CInt}
 use Rattle.c_syntax.specs.declared.types.CInt.TheVariants as c
@@ -122,7 +122,7 @@ temporaries (Node at t (source.Choice a b c)) = temporaries a ++ temporaries b +
 temporaries (Node at t (source.Cast to a)) = temporaries a
 temporaries _ = []
 
--- the value of an expression, over the variables of these numbers, behind registers of these types
+-- the value of an expression, over the variables of these numbers, after registers of these types
 abbrev pub value : List ℕ → List MonType → Expression → MonExpression
 value numbers rs (Node at t (source.Number n k)) = Constant (value_type t) n
 value numbers rs (Node at t (source.Letter n)) = Constant (value_type t) n
@@ -158,7 +158,7 @@ truth_of numbers rs e = truth (value_type (type_of e)) (value numbers rs e)
 abbrev pub condition_of : List ℕ → List MonType → Expression → MonExpression
 condition_of numbers rs e = condition (value_type (type_of e)) (value numbers rs e)
 
--- what stands in front of the value of an expression
+-- what stands before the value of an expression
 abbrev pub setup : List ℕ → List MonType → Expression → MonStatements
 setup numbers rs (Node at t (source.Unary op a)) = setup numbers rs a
 setup numbers rs (Node at t (source.Binary op a b)) = before (setup numbers rs a) (setup numbers (rs ++ temporaries a) b)

@@ -4,12 +4,12 @@ use Rattle.std.specs.Prelude.{◌≡◌, ℕ, ◌+◌, List, Option, Some, None,
 use Rattle.c_syntax.specs.Programs.{Function}
 use Rattle.c_effects.specs.Effects.{index_of}
 
--- the index that was found, or else one of those behind so many
+-- the index that was found, or else one of those after so many
 abbrev pub index_from : Option ℕ → ℕ → ℕ → ℕ
 index_from None count behind = count + behind
 index_from (Some index) count behind = index
 
--- by these indices, and behind so many definitions, each definition has its index
+-- by these indices, and after so many definitions, each definition has its index
 abbrev pub AreIndices : (ℕ → Option ℕ) → ℕ → List Function → Type 0
 AreIndices found count funcs = (n : ℕ) → index_from (found n) count 0 ≡ index_of n funcs
 

@@ -99,7 +99,7 @@ fn predicate_of(body: &Body) -> &Pred
     }
 }
 
-// The first term of a chain, and the relations behind it.
+// The first term of a chain, and the relations after it.
 fn parts_of(pred: &Pred) -> (&Term, &[Link])
     ensures { plain_pred pred.now ≡ Chain pred.now.place (plain_term result.0.now) (plain_links result.1.now) }
 {

@@ -26,8 +26,8 @@ fn variable(alloc: Global, numbers: &[u32], x: u32) -> Result<MonExpr, AllocErro
     register(alloc, register_of(numbers, x)?)
 }
 
-/// Translates an expression without effects: its statements stand behind those that are there, and the types of its temporary
-/// registers behind those of the registers that are there. In place of the value of any other expression stands 0.
+/// Translates an expression without effects: its statements stand after those that are there, and the types of its temporary
+/// registers after those of the registers that are there. In place of the value of any other expression stands 0.
 #[cycle(expression)]
 #[tactic(auto, using(crate::proofs::Sequences::before_none))]
 pub fn expression(
@@ -191,7 +191,7 @@ fn choice(
     choose(alloc, number, test, first, second, to)
 }
 
-/// The condition of an expression, behind what stands in front of it.
+/// The condition of an expression, after what stands before it.
 #[cycle(expression)]
 pub fn condition_of(
     alloc: Global,

@@ -79,8 +79,8 @@ fn direct(
     }
 }
 
-/// Translates a full expression: its statements stand behind those that are there, and the types of its temporary registers
-/// behind those of the registers that are there.
+/// Translates a full expression: its statements stand after those that are there, and the types of its temporary registers
+/// after those of the registers that are there.
 pub fn full(
     alloc: Global,
     scene: &Scene<'_>,

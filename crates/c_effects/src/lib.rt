@@ -1,7 +1,7 @@
 //! Effects out of expressions, and expressions without effects, over the registers of monitored C.
 //!
-//! What is evaluated only at times, as the right side of `&&`, stands in an `if` in front of its expression, which sets a
-//! temporary register. So the statements of an expression stand in front of a value that has no effect.
+//! What is evaluated only at times, as the right side of `&&`, stands in an `if` before its expression, which sets a
+//! temporary register. So the statements of an expression stand before a value that has no effect.
 #![tactic(auto)]
 
 pub mod annotation;

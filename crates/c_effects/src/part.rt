@@ -1,4 +1,4 @@
-//! Statements and registers behind those that are there.
+//! Statements and registers after those that are there.
 
 ghost use Rattle.std.specs.Prelude.{◌≡◌, ◌+◌, ◌++◌, [], ◌∷◌, IfOk, OnOk, length, pos};
 ghost use Rattle.mon_syntax.specs.Trees.{Constant, If, Register, plain_expr, plain_stmt_kind, plain_stmts};
@@ -10,7 +10,7 @@ use mon_syntax::{MonExpr, MonStmt, MonStmtKind, MonType};
 use std::alloc::{AllocError, Global};
 use track_scopes::register::numbered;
 
-/// Puts one statement behind the others.
+/// Puts one statement after the others.
 #[tactic(auto, using(crate::proofs::Sequences::stmts_push))]
 pub fn then(alloc: Global, to: &mut Vec<MonStmt>, kind: MonStmtKind) -> Result<(), AllocError>
     ensures { OnOk result (plain_stmts to.new.items ≡ before (plain_stmts to.old.items) (one (plain_stmt_kind kind))) }
@@ -19,7 +19,7 @@ pub fn then(alloc: Global, to: &mut Vec<MonStmt>, kind: MonStmtKind) -> Result<(
     Ok(())
 }
 
-/// Puts these statements behind the others.
+/// Puts these statements after the others.
 #[tactic(auto, using(crate::proofs::Sequences::stmts_append))]
 pub fn then_all(to: &mut Vec<MonStmt>, mut code: Vec<MonStmt>) -> Result<(), AllocError>
     ensures { OnOk result (plain_stmts to.new.items ≡ before (plain_stmts to.old.items) (plain_stmts code.items)) }
@@ -46,7 +46,7 @@ pub fn temporary(types: &mut Vec<MonType>, kind: MonType) -> Result<u32, AllocEr
     Ok(number)
 }
 
-/// Sets a register in both parts of an `if`, behind the statements of each part, and gives its value.
+/// Sets a register in both parts of an `if`, after the statements of each part, and gives its value.
 #[tactic(auto, using(mon_syntax::proofs::Rows::if_is))]
 pub fn choose(
     alloc: Global,

@@ -40,7 +40,7 @@ drop_drop m (suc n) [] = drop-nil m ∙ sym (drop-nil (suc n + m))
 drop_drop m (suc n) (t ∷ ts) = let e : suc n + m ≡ suc (n + m) = omega arith in rw e (drop_drop m n ts)
 
 module _ (ts : PlainTokens) (at : ℕ) (start : at ≤ length ts.list) where
-  -- what is left is what stands behind a place
+  -- what is left is what stands after a place
   behind_is : (e : Expression) (rest : List PlainToken) (k : ℕ) → expression_at ts at ≡ Ok (e, rest) → k + length rest ≡ length ts.list → rest ≡ drop k ts.list
   behind_is e rest k h l =
       let shorter = rest_within_text (full_expression (vocabulary ts)) false first_expression (λ _. more_expression) (full_exact (vocabulary ts)) (drop at ts.list) e rest h in

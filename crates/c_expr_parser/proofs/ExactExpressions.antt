@@ -47,7 +47,7 @@ more_expression = kinds_below levels ++ mark_kind question ∷ []
 abbrev pub more_or_call : List ℕ
 more_or_call = mark_kind left_paren ∷ more_expression
 
--- what can stand behind a unary expression, and behind a primary one
+-- what can stand after a unary expression, and after a primary one
 abbrev pub behind_unary_kinds : List ℕ
 behind_unary_kinds = kinds_of assignment_operators ++ more_expression
 
@@ -122,7 +122,7 @@ module _ (ws : Vocabulary) where
   -- ---- operators by level
 
   module _ {n : ℕ} {E E' : Syntax PlainToken Expression} (e : AreRead ws n E E' false first_expression more_expression) where
-    -- the right operand of an operator, where what stands behind it is read exactly
+    -- the right operand of an operator, where what stands after it is read exactly
     right_good : (l : ℕ) → ((x : Expression) → AreRead ws (suc n) (behind_operand ws E l x) (behind_operand ws E' l x) true (kinds_below l) (kinds_below l))
         → AreRead ws (suc n) (operand ws E Casts then λ z. behind_operand ws E l z.expression) (operand ws E' Casts then λ z. behind_operand ws E' l z.expression) false first_expression (kinds_below l)
     right_good l b = enlarged ws first_expression (kinds_below l) (seq (operand_good e Casts) (λ z. b z.expression) (apart_none (kinds_below l))) refl (λ x. within_both (kinds_below l) [] (kinds_below l) (within_self (kinds_below l)) refl)
@@ -136,7 +136,7 @@ module _ (ws : Vocabulary) where
         (within_both (kinds_of (operators_at l)) [] (kinds_of (operators_at l)) (within_self (kinds_of (operators_at l))) refl)
         (λ y. within_both (kinds_below l) [] (kinds_below l) (within_self (kinds_below l)) refl)
 
-    -- behind the operators of the levels below l, those of the level l
+    -- after the operators of the levels below l, those of the level l
     level_good : (l : ℕ) → apart (kinds_of (operators_at l)) (kinds_below l) ≡ true → ((x : Expression) → AreRead ws (suc n) (behind_operand ws E l x) (behind_operand ws E' l x) true (kinds_below l) (kinds_below l)) → (x : Expression)
         → AreRead ws (suc n) (behind_operand ws E (suc l) x) (behind_operand ws E' (suc l) x) true (kinds_below (suc l)) (kinds_below (suc l))
     unfolding behind_operand

@@ -96,7 +96,7 @@ module _ (ws : Vocabulary) where
   unfolding type_words
   type_good = declared (seq (consts_good (tt {0})) (λ _. seq base_good (λ t. consts_good t) refl) refl) refl
 
-  -- a type behind its first word
+  -- a type after its first word
   pub type_behind_good : {n : ℕ} (s : TypeStart) → AreRead ws n (type_behind ws s) (type_behind ws s) true first_type more_type
   unfolding type_behind
   type_behind_good ConstStart = declared type_good refl

@@ -111,7 +111,7 @@ module _ (ws : Vocabulary) where
   unfolding literal
   literal_solid = listed (either_solid (number_kind ∷ []) (seq_solid (number_solid ws) (λ x. gives_solid _) refl) (seq_solid (letter_solid ws) (λ z. gives_solid _) refl) refl refl) refl
 
-  -- what can stand behind "("
+  -- what can stand after "("
   abbrev first_in_paren : TypeUse → List ℕ
   first_in_paren Casts = first_type ++ first_expression
   first_in_paren Sizes = first_type ++ first_expression

@@ -13,7 +13,7 @@ among_joined k (x ∷ xs) ys = tested (eqb k x) (among_joined k xs ys)
     tested true h = refl
     tested false h = h
 
--- tables one behind another
+-- tables one after another
 pub the_word : (w : List ℕ) (a b d e : Word) → a ≡ name_or_logic w → b ≡ found_in other_words w a → d ≡ found_in kept_keywords w b → e ≡ found_in keywords w d → e ≡ word_of w
 unfolding word_of
 the_word w a b d e p q r s = s ∙ ap (found_in keywords w) (r ∙ ap (found_in kept_keywords w) (q ∙ ap (found_in other_words w) p))

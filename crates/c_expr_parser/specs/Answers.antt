@@ -16,12 +16,12 @@ use Rattle.c_model.specs.Phases.{vocabulary, syntax_refusal}
 use Rattle.c_model.specs.ExpressionGrammar.{full_expression}
 use Rattle.c_expr_parser.specs.Reading.{label}
 
--- the refusal, unless memory was wanting
+-- the refusal, unless memory ran out
 abbrev pub RefusesWith : PlainRefusal → FrontFault → Type 0
 RefusesWith r front.Memory = Unit {0}
 RefusesWith r (front.Refused x) = plain_refusal x ≡ r
 
--- it is no want of memory
+-- it is no being out of memory
 abbrev pub IsGiven : FrontFault → Type 0
 IsGiven front.Memory = ⊥
 IsGiven (front.Refused x) = Unit {0}
@@ -64,7 +64,7 @@ pub record IsRefusedAt (ts : PlainTokens) (at : ℕ) (r : PlainRefusal) : Type 0
   pub refused : NotRead (full_expression (vocabulary ts)) (drop at ts.list) fault
   pub is : r ≡ syntax_refusal ts fault
 
--- nothing is said where memory was wanting
+-- nothing is said when memory ran out
 abbrev pub RefusesAt : PlainTokens → ℕ → FrontFault → Type 0
 RefusesAt ts at front.Memory = Unit {0}
 RefusesAt ts at (front.Refused r) = IsRefusedAt ts at (plain_refusal r)

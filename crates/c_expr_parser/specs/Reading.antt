@@ -1,5 +1,5 @@
 -- Ours: how the code of a production compares with its grammar (C99 6.5, 6.7.2, in c_model/specs/ExpressionGrammar).
--- What a function returned is what the production gives, unless memory was wanting.
+-- What a function returned is what the production gives, unless memory ran out.
 use Rattle.std.specs.Prelude.{◌≡◌, ◌≤◌, ◌+◌, ℕ, zero, suc, List, [], ◌∷◌, map, Result, Ok, Err}
 use Rattle.grammar.specs.Syntax.{Syntax, Fault, At, Over, ◌then◌, many}
 use Rattle.c_syntax.specs.declared.token.Token.{Token}
@@ -37,7 +37,7 @@ abbrev pub Gives : {X Y : Type 0} → (X → Y) → Result X ReadFault → Resul
 Gives view (Ok x) read = read ≡ Ok (view x)
 Gives view (Err e) read = Fails e read
 
--- it is no want of memory
+-- it is no being out of memory
 abbrev pub TakesNoMemory : ReadFault → Type 0
 TakesNoMemory (fault.At n) = Unit {0}
 TakesNoMemory (fault.Over limit n) = Unit {0}
@@ -49,7 +49,7 @@ LeftWithin (fault.At n) most = n ≤ most
 LeftWithin (fault.Over limit n) most = n ≤ most
 LeftWithin fault.Memory most = Unit {0}
 
--- the fault of a text of which so many tokens stand behind those that were read, one more than an expression may have
+-- the fault of a text of which so many tokens stand after those that were read, one more than an expression may have
 abbrev pub Resumed : ReadFault → ℕ → ReadFault → Type 0
 Resumed (fault.At zero) far r = r ≡ fault.Over limits.Expression (far + 1)
 Resumed (fault.At (suc n)) far r = r ≡ fault.At (suc n + far)
@@ -69,7 +69,7 @@ plain_start (start.Integer x) = IntegerStart x
 abbrev pub plain_started : code_start.TypeStart × ℕ → TypeStart × ℕ
 plain_started x = (plain_start x.0, x.1)
 
--- ---- repetitions, behind what is read
+-- ---- repetitions, after what is read
 
 module _ (ws : Vocabulary) where
   unfoldable pub more_words : IntegerWords → Syntax PlainToken IntegerWords

@@ -14,7 +14,7 @@ use c_syntax::fault::ReadFault;
 use c_syntax::{Expr, ExprKind, Place, Token, Use};
 use std::alloc::{AllocError, Global};
 
-/// `"," expr`, behind the arguments that are read.
+/// `"," expr`, after the arguments that are read.
 #[tactic(auto, unfolding(c_model::specs::ExpressionGrammar::next_argument))]
 fn next_argument<'a>(
     alloc: Global,
@@ -33,7 +33,7 @@ fn next_argument<'a>(
     Ok((all, rest))
 }
 
-/// The arguments behind those that are read.
+/// The arguments after those that are read.
 #[tactic(auto, using(crate::proofs::Steps::arguments_turn, crate::proofs::Steps::arguments_fails, crate::proofs::Steps::arguments_ends))]
 fn more_arguments<'a>(
     alloc: Global,
@@ -83,7 +83,7 @@ fn make_call(alloc: Global, place: Place, f: u32, arguments: Vec<Expr>) -> Resul
     read_as(alloc, place, ExprKind::Call(callee, arguments))
 }
 
-/// `"(" .. ")"`, behind a name.
+/// `"(" .. ")"`, after a name.
 #[tactic(auto, unfolding(c_model::specs::ExpressionGrammar::call_rest, c_model::specs::ExpressionGrammar::closed))]
 pub fn call_rest<'a>(
     alloc: Global,
@@ -101,7 +101,7 @@ pub fn call_rest<'a>(
     Ok((make_call(alloc, place, f, arguments)?, first, rest))
 }
 
-/// What stands behind a name at the front of an expression or a call.
+/// What stands after a name at the front of an expression or a call.
 #[tactic(auto, unfolding(c_model::specs::ExpressionGrammar::behind_name_or_callee))]
 fn behind_name_or_callee<'a>(
     alloc: Global,

@@ -53,7 +53,7 @@ fn assigned<'a>(
     with_expression(alloc, place, ExprKind::Assign(op, left, right), rest)
 }
 
-/// `++` or `--`, behind its operand.
+/// `++` or `--`, after its operand.
 #[tactic(auto, unfolding(c_model::specs::ExpressionGrammar::bumped))]
 fn bumped<'a>(
     alloc: Global,
@@ -68,7 +68,7 @@ fn bumped<'a>(
     with_expression(alloc, place, ExprKind::Bump(op, x), rest)
 }
 
-/// What stands behind a unary expression.
+/// What stands after a unary expression.
 #[tactic(auto, unfolding(c_model::specs::ExpressionGrammar::behind_unary))]
 fn behind_unary<'a>(
     alloc: Global,
@@ -86,7 +86,7 @@ fn behind_unary<'a>(
     }
 }
 
-/// What stands behind a primary expression.
+/// What stands after a primary expression.
 #[tactic(auto, unfolding(c_model::specs::ExpressionGrammar::behind_primary))]
 fn behind_primary<'a>(
     alloc: Global,
@@ -104,7 +104,7 @@ fn behind_primary<'a>(
     }
 }
 
-/// What stands behind an expression of the form.
+/// What stands after an expression of the form.
 #[tactic(auto, unfolding(c_model::specs::ExpressionGrammar::behind_form))]
 fn behind_form<'a>(
     alloc: Global,
@@ -123,7 +123,7 @@ fn behind_form<'a>(
     }
 }
 
-/// The rest of an effect, behind its first operand.
+/// The rest of an effect, after its first operand.
 #[tactic(auto, unfolding(c_model::specs::ExpressionGrammar::effect_rest))]
 fn effect_rest<'a>(
     alloc: Global,
@@ -191,7 +191,7 @@ pub fn effect<'a>(
     }
 }
 
-/// What stands behind a name at the front of a statement.
+/// What stands after a name at the front of a statement.
 #[tactic(auto, unfolding(c_model::specs::ExpressionGrammar::behind_name))]
 fn behind_name<'a>(
     alloc: Global,

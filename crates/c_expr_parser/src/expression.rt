@@ -41,7 +41,7 @@ pub fn read_as(alloc: Global, place: Place, kind: ExprKind) -> Result<Expr, Allo
     })
 }
 
-/// The expression of this kind, behind which these tokens are left.
+/// The expression of this kind, after which these tokens are left.
 pub fn with_expression<'a>(
     alloc: Global,
     place: Place,
@@ -54,7 +54,7 @@ pub fn with_expression<'a>(
     Ok((read_as(alloc, place, kind)?, tokens))
 }
 
-/// The operand of this kind and form, which begins at its place and behind which these tokens are left.
+/// The operand of this kind and form, which begins at its place and after which these tokens are left.
 fn with_operand<'a>(
     alloc: Global,
     place: Place,
@@ -113,7 +113,7 @@ fn literal<'a>(
     }
 }
 
-/// `type ")"`, behind `sizeof (`.
+/// `type ")"`, after `sizeof (`.
 #[tactic(auto, unfolding(c_model::specs::ExpressionGrammar::sized_type, c_model::specs::ExpressionGrammar::closed))]
 fn sized_type<'a>(
     alloc: Global,
@@ -129,7 +129,7 @@ fn sized_type<'a>(
     with_operand(alloc, place, ExprKind::SizeOfType(t), Form::TypeName, rest)
 }
 
-/// `type ")" cast`, behind `(`.
+/// `type ")" cast`, after `(`.
 #[tactic(auto, unfolding(c_model::specs::ExpressionGrammar::cast_rest))]
 #[cycle(expression)]
 fn cast_rest<'a>(
@@ -154,7 +154,7 @@ fn cast_rest<'a>(
     )
 }
 
-/// `expr ")"`, behind `(`.
+/// `expr ")"`, after `(`.
 #[tactic(auto, unfolding(c_model::specs::ExpressionGrammar::paren_rest, c_model::specs::ExpressionGrammar::closed))]
 #[cycle(expression)]
 fn paren_rest<'a>(
@@ -177,7 +177,7 @@ fn paren_rest<'a>(
     Ok((x, rest))
 }
 
-/// What stands behind `(`.
+/// What stands after `(`.
 #[tactic(auto, unfolding(c_model::specs::ExpressionGrammar::behind_paren))]
 #[cycle(expression)]
 fn behind_paren<'a>(
@@ -403,7 +403,7 @@ fn more_joined<'a>(
     Ok((left, rest))
 }
 
-/// What stands behind an operand: operators of the levels below this one, with their right operands.
+/// What stands after an operand: operators of the levels below this one, with their right operands.
 #[tactic(auto, using(crate::proofs::Levels::behind_none, crate::proofs::Levels::behind_level, crate::proofs::Levels::behind_fails))]
 #[cycle(expression)]
 fn behind_operand<'a>(
@@ -425,7 +425,7 @@ fn behind_operand<'a>(
     more_joined(alloc, words, level - 1, left, rest)
 }
 
-/// `"?" expr ":" expr`, behind the condition.
+/// `"?" expr ":" expr`, after the condition.
 #[tactic(auto, unfolding(c_model::specs::ExpressionGrammar::choice_rest))]
 #[cycle(expression)]
 fn choice_rest<'a>(
@@ -450,7 +450,7 @@ fn choice_rest<'a>(
     )
 }
 
-/// The rest of an expression, behind its first operand.
+/// The rest of an expression, after its first operand.
 #[tactic(auto, unfolding(c_model::specs::ExpressionGrammar::expression_rest))]
 #[cycle(expression)]
 pub fn expression_rest<'a>(

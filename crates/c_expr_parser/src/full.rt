@@ -50,7 +50,7 @@ pub fn window(tokens: &[Token]) -> &[Token]
     &tokens[..MOST + 1]
 }
 
-/// What stands behind an expression, of whose text's first `MOST + 1` tokens so many are left.
+/// What stands after an expression, of whose text's first `MOST + 1` tokens so many are left.
 pub fn behind(tokens: &[Token], left: usize) -> &[Token]
     requires many { most_in_expression < length tokens.now }
     requires within { left ≤ most_in_expression + 1 }

@@ -14,7 +14,7 @@ use crate::vocabulary::vocabulary;
 use c_syntax::{Expr, FrontFault, Tokens};
 use std::alloc::Global;
 
-/// The expression that stands at a place of the tokens, counted from 0, and the place of the first token behind it; or its
+/// The expression that stands at a place of the tokens, counted from 0, and the place of the first token after it; or its
 /// refusal, with code 4 at the first token that can't follow those before it, and with code 11 at the 401st of an expression.
 pub fn read_expr(alloc: Global, tokens: &Tokens, at: usize) -> Result<(Expr, usize), FrontFault>
     requires { at ≤ length tokens.now.list.items }

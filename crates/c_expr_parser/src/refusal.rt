@@ -52,7 +52,7 @@ fn annotation_spelling(mark: u8) -> &'static [u8]
     entry(&[b"<==>", b"==>", b"^^", b".."], mark)
 }
 
-/// A punctuator by its number, those of annotations alone behind the others.
+/// A punctuator by its number, those of annotations alone after the others.
 #[tactic(auto, unfolding(c_model::specs::MonitoredTokens::marks))]
 pub(crate) fn mark_word(mark: u8) -> &'static [u8]
     ensures { result.now ≡ mark_word mark }
@@ -133,7 +133,7 @@ fn limit_word(limit: Limit) -> &'static [u8]
     }
 }
 
-/// A refusal, or want of memory where its word is wanting.
+/// A refusal, or out of memory if its word is.
 pub fn refused(code: u8, place: Place, word: Result<Vec<u8>, AllocError>) -> FrontFault
     ensures word { RefusesWord code place word result }
     ensures sure { IfOk word (λ _. IsGiven result) }

@@ -14,10 +14,10 @@ pub const UNARY: &[(u8, UnOp)] = &[
     (30, UnOp::Flip),
 ];
 
-/// `++` and `--` in front of their operand (C99 6.5.3.1).
+/// `++` and `--` before their operand (C99 6.5.3.1).
 pub const PREFIX_BUMPS: &[(u8, BumpOp)] = &[(2, BumpOp::PreUp), (3, BumpOp::PreDown)];
 
-/// `++` and `--` behind their operand (C99 6.5.2.4).
+/// `++` and `--` after their operand (C99 6.5.2.4).
 pub const POSTFIX_BUMPS: &[(u8, BumpOp)] = &[(2, BumpOp::PostUp), (3, BumpOp::PostDown)];
 
 /// `=`, and `op=` (C99 6.5.16).

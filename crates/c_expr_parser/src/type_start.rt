@@ -1,4 +1,4 @@
-//! The first word of a type, and the type behind it (C99 6.7.2, 6.7.6).
+//! The first word of a type, and the type after it (C99 6.7.2, 6.7.6).
 
 ghost use Rattle.std.specs.Prelude.{◌≡◌, ◌≤◌, ◌<◌, length, IfOk, IfErr, option_map};
 ghost use Rattle.grammar.specs.Syntax.{one};
@@ -69,7 +69,7 @@ pub fn type_start<'a>(
     }
 }
 
-/// The type behind its first word.
+/// The type after its first word.
 #[tactic(auto, unfolding(c_model::specs::ExpressionGrammar::type_behind, crate::specs::Reading::more_words))]
 pub fn type_behind<'a>(
     words: &[Word],

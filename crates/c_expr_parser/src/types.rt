@@ -139,7 +139,7 @@ fn next_goes_on(words: &[Word], x: IntegerWords, tokens: &[Token]) -> bool
     }
 }
 
-/// The words of an integer type behind those that are read.
+/// The words of an integer type after those that are read.
 #[tactic(auto, using(crate::proofs::Steps::words_turn, crate::proofs::Steps::words_fails, crate::proofs::Steps::words_ends))]
 pub fn more_words<'a>(
     words: &[Word],

@@ -4,7 +4,7 @@ use Rattle.std.specs.Prelude.{unwrap_or}
 use Rattle.std.proofs.lemmas.List.{append-nil}
 use Rattle.c_model.specs.MonitoredTokens.{chars_of, in_front}
 
--- the bytes vs in front of those that are left
+-- the bytes vs before those that are left
 abbrev pub behind_chars : List ℕ → Option (List ℕ) → Option (List ℕ)
 behind_chars vs None = None
 behind_chars vs (Some cs) = Some (vs ++ cs)

@@ -8,7 +8,7 @@ use Rattle.std.proofs.lemmas.Bool.{lt-leb, le-leb}
 use Rattle.c_model.specs.Characters.{is_digit}
 use Rattle.c_model.specs.MonitoredTokens.{greatest_literal, literal_of}
 
--- the value of digits behind digits of value v
+-- the value of digits after digits of value v
 abbrev pub literal_from : ℕ → List ℕ → Option ℕ
 literal_from v bs = if list_all is_digit bs && nat_le (digits_value_after 10 v bs) greatest_literal then Some (digits_value_after 10 v bs) else None
 

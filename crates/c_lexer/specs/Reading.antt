@@ -1,5 +1,5 @@
 -- Ours: how the code compares with the tokens that c_model defines (C99 6.4), and with those of monitored C.
--- What a function read of a text is what the definition gives, unless memory was wanting.
+-- What a function read of a text is what the definition gives, unless memory ran out.
 use Rattle.std.specs.Prelude.{◌≡◌, ◌≤◌, ℕ, List, map, Result, Ok, Err, MatchResult}
 use Rattle.std.specs.Global.{Vec}
 use Rattle.indexmap.specs.IndexSet.{IndexSet}
@@ -13,12 +13,12 @@ use Rattle.c_model.specs.declared.monitored_tokens.Piece.TheVariants as piece
 use Rattle.c_model.specs.MonitoredTokens.{Read, greatest_literal}
 use Rattle.c_lexer.specs.declared.reading.Reading.{Reading}
 
--- a fault is this refusal, unless memory was wanting
+-- a fault is this refusal, unless memory ran out
 abbrev pub IsRefusal : FrontFault → PlainRefusal → Type 0
 IsRefusal (Refused r) x = plain_refusal r ≡ x
 IsRefusal Memory x = Unit {0}
 
--- the definition gives the refusal, unless memory was wanting
+-- the definition gives the refusal, unless memory ran out
 abbrev pub Refuses : {Y : Type 0} → FrontFault → Result Y PlainRefusal → Type 0
 Refuses (Refused r) read = read ≡ Err (plain_refusal r)
 Refuses Memory read = Unit {0}

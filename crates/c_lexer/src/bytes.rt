@@ -84,7 +84,7 @@ pub fn line_len(bytes: &[u8]) -> usize
     bytes.iter().take_while(|b| in_line(**b)).count()
 }
 
-/// How many bytes stand in front of a quote.
+/// How many bytes stand before a quote.
 pub fn string_len(bytes: &[u8]) -> usize
     ensures run { result ≡ prefix_len in_string bytes.now }
     ensures within { result ≤ length bytes.now }
@@ -116,7 +116,7 @@ pub fn ends_line(bytes: &[u8]) -> bool
     true
 }
 
-/// What stands behind the first n bytes.
+/// What stands after the first n bytes.
 pub fn behind(bytes: &[u8], n: usize) -> &[u8]
     requires { n ≤ length bytes.now }
     ensures { result.now ≡ drop n bytes.now }

@@ -23,7 +23,7 @@ fn octal_byte(a: u8, b: u8, c: u8) -> Option<u8>
     }
 }
 
-/// The byte of the escape behind a `\`.
+/// The byte of the escape after a `\`.
 fn escape_at(bytes: &[u8]) -> Option<u8>
     ensures value { MatchOption result (escape_of bytes.now ≡ None) (λ c. escape_of bytes.now ≡ in_front (Some c) (chars_of (drop 3 bytes.now))) }
     ensures within { IfSome result (λ _. 3 ≤ length bytes.now) }
@@ -88,7 +88,7 @@ pub fn chars_of(alloc: Global, bytes: &[u8]) -> Result<Vec<u8>, AllocError>
     Ok(values)
 }
 
-/// A string, given what is behind its first quote.
+/// A string, given what is after its first quote.
 #[tactic(auto, unfolding(c_model::specs::MonitoredTokens::string_at))]
 pub fn string_at(bytes: &[u8]) -> Result<Found, Fault>
     ensures value { result ≡ string_at bytes.now }

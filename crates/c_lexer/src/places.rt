@@ -7,7 +7,7 @@ ghost use Rattle.c_model.specs.MonitoredTokens.{fresh_behind, fresh_after};
 use crate::bytes::is_blank;
 use c_syntax::Place;
 
-/// The place behind a byte.
+/// The place after a byte.
 fn next(place: Place, b: u8) -> Place
     requires line { place.line < 2 ^ 32 - 1 }
     requires column { place.column < 2 ^ 32 - 1 }
@@ -29,7 +29,7 @@ fn next(place: Place, b: u8) -> Place
     }
 }
 
-/// The place behind bytes.
+/// The place after bytes.
 pub fn walk(place: Place, bytes: &[u8]) -> Place
     requires line { place.line + length bytes.now < 2 ^ 32 }
     requires column { place.column + length bytes.now < 2 ^ 32 }
@@ -52,7 +52,7 @@ fn fresh_behind(fresh: bool, b: u8) -> bool
     b == 10 || (fresh && is_blank(b))
 }
 
-/// Whether only blanks stand in the line behind bytes.
+/// Whether only blanks stand in the line after bytes.
 pub fn fresh_after(fresh: bool, bytes: &[u8]) -> bool
     ensures { result ≡ fresh_after fresh bytes.now }
 {

@@ -47,7 +47,7 @@ fn word_of(alloc: Global, fault: Fault, rest: &[u8]) -> Result<Vec<u8>, AllocErr
     }
 }
 
-/// The refusal at a place, or want of memory.
+/// The refusal at a place, or that memory ran out.
 pub fn refuse(alloc: Global, place: Place, fault: Fault, rest: &[u8]) -> FrontFault
     ensures { IsRefusal result (refused place fault rest.now) }
 {

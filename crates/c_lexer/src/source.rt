@@ -30,7 +30,7 @@ use std::alloc::{AllocError, Global};
 
 const MOST_TOKENS: usize = 200_000;
 
-/// What is behind the first byte.
+/// What is after the first byte.
 fn tail(bytes: &[u8]) -> &[u8]
     ensures { result.now ≡ drop 1 bytes.now }
 {
@@ -40,7 +40,7 @@ fn tail(bytes: &[u8]) -> &[u8]
     }
 }
 
-/// Puts back the last token, with a string behind it, which joins it where that is a string.
+/// Puts back the last token, with a string after it, which joins it where that is a string.
 fn join(list: &mut Vec<Token>, last: Token, place: Place, bytes: Vec<u8>) -> Result<(), AllocError>
     ensures ok { OnOk result (map plain_token list.new.items ≡ map plain_token list.old.items ++ joined (plain_token last) place bytes.items) }
     ensures most { OnOk result (vec_len list.new ≤ vec_len list.old + 2) }

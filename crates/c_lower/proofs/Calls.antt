@@ -120,7 +120,7 @@ module _ (M : Memory) (es : List Entry) (code : List Instr) where
 
   -- ---- bodies
 
-  -- the place behind the statements of a body
+  -- the place after the statements of a body
   abbrev body_end : MonFunction → Entry → ℕ → ℕ
   body_end f e behind = e.start + length (statements_code f.body (2 + behind) [])
 
@@ -142,7 +142,7 @@ module _ (M : Memory) (es : List Entry) (code : List Instr) where
 
     -- ---- calls
 
-    -- the beginning of a call's body: its frame goes back behind the call
+    -- the beginning of a call's body: its frame goes back after the call
     abbrev entered : Moment → ℕ → ℕ → List M.Val → M.Mem → ℕ → Moment
     entered c p start regs m k =
         record { place = start; stack = c.stack; registers = regs; frames = record { back = p + 1; registers = c.registers } ∷ c.frames; mem = m; steps = k; input = c.input }

@@ -88,11 +88,11 @@ module _ (code : List Instr) where
   abbrev Empty : ℕ → Type 0
   Empty p = operands_behind 0 (take p code) ≡ Some 0
 
-  -- behind code that leaves so many operands
+  -- after code that leaves so many operands
   operands_on : (p n : ℕ) (is : List Instr) → Empty p → HasAt code p is → Leads 0 is n → operands_behind 0 (take (p + length is) code) ≡ Some n
   operands_on p n is e h l = ap (operands_behind 0) (take_has code p is h) ∙ leads_on 0 0 n (take p code) is e l
 
-  -- behind code that leaves none
+  -- after code that leaves none
   empty_on : (p : ℕ) (is : List Instr) → Empty p → HasAt code p is → Leads 0 is 0 → Empty (p + length is)
   empty_on p is e h l = operands_on p 0 is e h l
 

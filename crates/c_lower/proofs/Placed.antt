@@ -1,4 +1,4 @@
--- Code in its place, where functions begin, and how many instructions come behind the ends of open labels.
+-- Code in its place, where functions begin, and how many instructions come after the ends of open labels.
 use Rattle.std.proofs.Common.{◌≡◌, ℕ, zero, suc, ◌+◌, ◌<◌, ◌≤◌, ℤ, pos, negsuc, ◌+ℤ◌, ◌*ℤ◌, List, [], ◌∷◌, ◌++◌, length, Option, Some, None, Bool, true, false, refl, sym, ap, ◌∙◌, subst, arith, append_assoc, length-append, le_trans}
 use Rattle.std.specs.Prelude.{◌^◌, slice_get, bytes_eq, if◌then◌else◌, unsigned_abs}
 use Rattle.std.specs.Int.{int_rem_euclid}
@@ -38,7 +38,7 @@ has_join code p (i ∷ a) b g h =
     let e : p + length (i ∷ a) ≡ p + 1 + length a = omega arith in
     (g.0, has_join code (p + 1) a b g.1 (subst (λ n. HasAt code n b) e h))
 
--- behind what stands in front of them
+-- after what stands before them
 pub has_behind : (is front : List Instr) → HasAt (front ++ is) (length front) is
 has_behind [] front = tt
 has_behind (i ∷ is) front =

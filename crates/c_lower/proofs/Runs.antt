@@ -290,7 +290,7 @@ module _ (M : Memory) (es : List Entry) (code : List Instr) where
   lands_later c p1 r1 s1 total r s o p None l k = comes_reach c (came c p1 r1 s1) o (Over Fault s.steps p) l k
   lands_later c p1 r1 s1 total r s o p (Some a) l k = comes_on c (came c p1 r1 s1) (came c (total - a) r s) o p l k
 
-  -- what comes behind
+  -- what comes after
   after_comes : (c : Moment) (p1 : ℕ) (r1 : List M.Val) (s1 : State M.Mem) (o : List ℕ) (p : ℕ) (ls : List OpenLabel) (total : ℕ) (x : Outcome)
       → Comes c o (came c p1 r1 s1) → s1.steps ≤ c.steps → Performs (came c p1 r1 s1) p ls total x → Performs c p ls total (writes o x)
   after_comes c p1 r1 s1 o p ls total (Done (Next r) s q) l le k =
@@ -599,7 +599,7 @@ module _ (M : Memory) (es : List Entry) (code : List Instr) where
   -- ---- statements
 
   module _ (keeps : KeepsNumbers M) (calls : Calls M) (n : ℕ) (calls_run : CallsRun calls n) where
-    -- the value of an expression, from its code in front of other code
+    -- the value of an expression, from its code before other code
     value_here : (e : MonExpression) (c : Moment) (rest : List Instr) → HasAt code c.place (expression_code e ++ rest)
         → GivesOne c (length (expression_code e)) (eval M e c.registers)
     value_here e c rest has = expression_runs keeps e c (has_front code c.place (expression_code e) rest has)

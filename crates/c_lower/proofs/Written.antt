@@ -5,7 +5,7 @@ use Rattle.c_lower.specs.declared.code.Instr.{Instr}
 use Rattle.c_lower.specs.declared.code.Instr.TheVariants as instr
 use Rattle.c_lower.specs.Code.{OpenLabel, expression_code, choice_code, statement_code, statements_code}
 
--- a statement's code in front of other code
+-- a statement's code before other code
 abbrev pub in_front : MonStatement → List OpenLabel → List Instr → List Instr
 in_front a ls old = statement_code a (length old) ls ++ old
 
@@ -13,7 +13,7 @@ choice_flat : (ce ca cb old : List Instr)
     → ce ++ (instr.SkipIfZero (length ca + 1) ∷ (ca ++ (instr.GoOn (length cb) ∷ (cb ++ old)))) ≡ choice_code ce ca cb ++ old
 choice_flat ce ca cb old = sym (simp append_assoc)
 
--- the second branch, the jump behind it, the first branch, and the test
+-- the second branch, the jump after it, the first branch, and the test
 pub if_written : (e : MonExpression) (a b : MonStatements) (ls : List OpenLabel) (old c1 c2 c3 : List Instr) (n0 n2 : ℕ) → n0 ≡ length old
     → c1 ≡ statements_code b (length old) ls ++ old → c2 ≡ instr.GoOn (length c1 - n0) ∷ c1 → n2 ≡ length c2
     → c3 ≡ statements_code a (length c2) ls ++ c2
@@ -38,7 +38,7 @@ loop_flat : (before behind old : List Instr) (n : ℕ)
     ≡ (instr.GoOn (length behind + 1) ∷ (instr.Step ∷ (behind ++ (before ++ instr.GoBack n ∷ [])))) ++ old
 loop_flat before behind old n = sym (simp append_assoc)
 
--- the jump back, what stands before the step, and what stands behind it; what the step and the first jump make of them
+-- the jump back, what stands before the step, and what stands after it; what the step and the first jump make of them
 pub loop_written : (a b : MonStatements) (ls : List OpenLabel) (old c1 c2 c3 : List Instr) (n0 n2 : ℕ) → n0 ≡ length old → c1 ≡ instr.GoBack 0 ∷ old
     → c2 ≡ statements_code a (length c1) ls ++ c1 → n2 ≡ length c2 → c3 ≡ statements_code b (length c2) ls ++ c2
     → (front : List Instr) × (c3 ≡ front ++ instr.GoBack 0 ∷ old)

@@ -1,5 +1,5 @@
 -- Ours: a view of the entries of Code.
--- Entries by what comes behind them, as they are known while the code is written from its end.
+-- Entries by what comes after them, as they are known while the code is written from its end.
 use Rattle.std.specs.Prelude.{ℕ, ◌-◌, List, [], ◌∷◌, length}
 use Rattle.mon_syntax.specs.Trees.{MonFunction}
 use Rattle.c_lower.specs.declared.code.Entry.{Entry}

@@ -1,4 +1,4 @@
-//! Code that grows at its front, so that a jump to what comes behind knows its length when it is written.
+//! Code that grows at its front, so that a jump to what comes after knows its length when it is written.
 
 ghost use Rattle.std.specs.Prelude.{◌≡◌, ◌<◌, List, [], ◌∷◌, ◌++◌, length, reverse, OnOk};
 ghost use Rattle.c_lower.specs.declared.code.Instr.{Instr};
@@ -34,7 +34,7 @@ impl Backward {
         self.items.len()
     }
 
-    /// Writes an instruction in front of the others.
+    /// Writes an instruction before the others.
     pub fn put(&mut self, instr: Instr) -> Result<(), AllocError>
         ensures { OnOk result (self.new ≡ instr ∷ self.old) }
     {
@@ -42,7 +42,7 @@ impl Backward {
         Ok(())
     }
 
-    /// Writes over the instruction behind which so many come.
+    /// Writes over the instruction after which so many come.
     pub fn patch(&mut self, behind: usize, instr: Instr)
         requires { behind < length self.old }
         ensures { (front back : List Instr) (x : Instr) → self.old ≡ front ++ x ∷ back → behind ≡ length back → self.new ≡ front ++ instr ∷ back }

@@ -10,7 +10,7 @@ use mon_syntax::{MemoryCall, MonOp, MonType};
 pub enum Instr {
     /// A number onto the stack.
     Push(i64),
-    /// 64 more bits behind those of the topmost number.
+    /// 64 more bits after those of the topmost number.
     Extend(u64),
     /// A register's value onto the stack.
     Get(u32),

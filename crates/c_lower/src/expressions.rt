@@ -23,7 +23,7 @@ fn emit_constant(code: &mut Backward, z: i128) -> Result<(), AllocError>
     }
 }
 
-/// Writes the code of an expression, and an instruction behind it that takes its value.
+/// Writes the code of an expression, and an instruction after it that takes its value.
 #[cycle(expression)]
 pub fn emit_operand(code: &mut Backward, e: &MonExpr, taken_by: Instr) -> Result<(), AllocError>
     ensures { OnOk result (code.new ≡ expression_code (plain_expr e.now) ++ taken_by ∷ code.old) }

@@ -4,14 +4,14 @@ ghost use Rattle.std.specs.Prelude.{◌≡◌};
 ghost use Rattle.c_lower.specs.Code.{behind_label};
 ghost use Rattle.c_lower.specs.Labels.{open_labels};
 
-/// The labels of the bodies around a statement, with how many instructions come behind each body's end: a chain on the stack.
+/// The labels of the bodies around a statement, with how many instructions come after each body's end: a chain on the stack.
 #[derive(Clone, Copy)]
 pub enum Labels<'a> {
     Outside,
     Inside(&'a Labels<'a>, &'a [u8], usize),
 }
 
-/// How many instructions come behind the end of the innermost body with this label.
+/// How many instructions come after the end of the innermost body with this label.
 pub fn behind_label(labels: &Labels<'_>, label: &[u8]) -> Option<usize>
     ensures { result ≡ behind_label (open_labels labels.now) label.now }
 {

@@ -14,7 +14,7 @@ use crate::statements::emit_statements;
 use mon_syntax::{MonFunc, MonProgram};
 use std::alloc::{AllocError, Global};
 
-// The code of a function, in front of that of the functions behind it. A body that comes to its end returns 0.
+// The code of a function, before that of the functions after it. A body that comes to its end returns 0.
 fn emit_function(code: &mut Backward, f: &MonFunc) -> Result<(), AllocError>
     ensures { OnOk result (code.new ≡ function_code (plain_func f.now) (length code.old) ++ code.old) }
 {

@@ -18,7 +18,7 @@ use crate::simple::{
 use mon_syntax::{MonExpr, MonStmt, MonStmtKind};
 use std::alloc::AllocError;
 
-// A jump behind what was written since so many instructions stood.
+// A jump after what was written since so many instructions stood.
 fn pass_since(code: &mut Backward, since: usize) -> Result<(), AllocError>
     requires { since ≤ length code.old }
     ensures { OnOk result (code.new ≡ instr.GoOn (length code.old - since) ∷ code.old) }
@@ -35,7 +35,7 @@ fn emit_test(code: &mut Backward, e: &MonExpr, since: usize) -> Result<(), Alloc
     emit_expression(code, e)
 }
 
-// A loop around what was written: the jump back has so many instructions behind it, and what stands before the step as many as `middle`.
+// A loop around what was written: the jump back has so many instructions after it, and what stands before the step as many as `middle`.
 fn close_loop(code: &mut Backward, end: usize, middle: usize) -> Result<(), AllocError>
     requires { (end < middle) × (middle ≤ length code.old) }
     ensures { (front back : List Instr) (x : Instr) → code.old ≡ front ++ x ∷ back → end ≡ length back
@@ -47,7 +47,7 @@ fn close_loop(code: &mut Backward, end: usize, middle: usize) -> Result<(), Allo
     code.put(Instr::GoOn(behind + 1))
 }
 
-// The code of a choice: the second branch, the jump behind it, the first branch, and the test.
+// The code of a choice: the second branch, the jump after it, the first branch, and the test.
 #[cycle(statement)]
 fn emit_choice(
     code: &mut Backward,
@@ -67,7 +67,7 @@ fn emit_choice(
     emit_test(code, e, middle)
 }
 
-// The code of a loop: the jump back, what stands before the step, and what stands behind it.
+// The code of a loop: the jump back, what stands before the step, and what stands after it.
 #[cycle(statement)]
 fn emit_loop(
     code: &mut Backward,
@@ -86,7 +86,7 @@ fn emit_loop(
     close_loop(code, end, middle)
 }
 
-// The code of a body with a label behind its end.
+// The code of a body with a label after its end.
 #[cycle(statement)]
 fn emit_labelled(
     code: &mut Backward,

@@ -5,7 +5,7 @@ ghost use Rattle.c_lower.specs.Sound.{operands_taken, operands_given, operands_b
 
 use c_lower::Instr;
 
-// How many operands there are behind an instruction that finds so many.
+// How many operands there are after an instruction that finds so many.
 fn behind(instr: &Instr, count: usize) -> usize
     requires { count < usize.MAX }
     ensures exact { operands_taken instr.now ≤ count → result ≡ count - operands_taken instr.now + operands_given instr.now }

@@ -12,7 +12,7 @@ use crate::stop::Stop;
 use c_lower::Instr;
 use ea_ports::{Failed, Source};
 
-/// Reads an input up to its end, behind which the source isn't asked again.
+/// Reads an input up to its end, after which the source isn't asked again.
 #[derive(Drop)]
 pub struct Reader {
     ended: bool,

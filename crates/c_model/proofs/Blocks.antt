@@ -114,7 +114,7 @@ same_but_at b offset n bytes few le = record {
     long : length first ≡ offset + length bytes
     long = length-append (take offset b.bytes) bytes ∙ ap (λ x. x + length bytes) (length-take-le offset b.bytes (omega (arith, le)))
 
-    -- behind the bytes that were written
+    -- after the bytes that were written
     rest : drop (offset + length bytes) (take offset b.bytes ++ (bytes ++ drop (offset + length bytes) b.bytes)) ≡ drop (offset + length bytes) b.bytes
     rest = rw (sym (append_assoc (take offset b.bytes) bytes (drop (offset + length bytes) b.bytes))) (subst (λ x. drop x (first ++ drop (offset + length bytes) b.bytes) ≡ drop (offset + length bytes) b.bytes) long
         (drop-append_seam first (drop (offset + length bytes) b.bytes)))

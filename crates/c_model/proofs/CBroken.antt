@@ -43,7 +43,7 @@ name_breaks before m bs f begins e = elim (chosen (ltb 255 (length (word bs))) (
   ]
 ]
 
--- the literal at a front would be all of the run, with what is behind it
+-- the literal at a front would be all of the run, with what is after it
 pub literal_run : (m : Mode) (bs : List ℕ) (v : ℕ) (t : Option CInt) (bytes behind : List ℕ) → bs ≡ bytes ++ behind → IsLiteral m v t bytes behind
     → (is_dotted m (drop (prefix_len is_part bs) bs) ≡ false) × (literal_of (take (prefix_len is_part bs) bs) ≡ Some (v, t))
 literal_run m bs v t bytes behind whole is =

@@ -86,7 +86,7 @@ same_start c zero bs h = absurd (omega arith)
 same_start c (suc n) [] h = refl
 same_start c (suc n) (b ∷ bs) h = refl
 
--- the literal behind its prefix
+-- the literal after its prefix
 integer : (base : ℕ) (prefix bs bytes : List ℕ) (v : ℕ) (t : Option CInt) → bytes ≡ prefix ++ bs → HaveBase base prefix (take (digits_len base bs) bs) → BodyIs base bs v t → IsInteger v t bytes
 integer base prefix bs bytes v t joined based h =
     let n = digits_len base bs in

@@ -40,7 +40,7 @@ cut_some zero at fresh m (b ∷ bs) = by (piece_at m fresh (b ∷ bs)) refl (λ 
     by (Err f) e rest = rw (e, cut) tt
     by (Ok x) e rest = rw (e, cut) (let some : 0 < length (b ∷ take x.more bs) = omega arith in some, rest x.more (mode_after m x.piece))
 
--- ---- what is put behind a list
+-- ---- what is put after a list
 
 abbrev AllBelow : ℕ → List PlainToken → Type 0
 AllBelow n [] = Unit {0}
@@ -68,7 +68,7 @@ apart_push [] t other apart = tt
 apart_push (u ∷ []) t other apart = (ap (λ (b : Bool). is_string u.kind && b) other ∙ and_false (is_string u.kind), tt)
 apart_push (u ∷ v ∷ ts) t other apart = (apart.0, apart_push (v ∷ ts) t other apart.1)
 
--- a string behind one token: its place and kind stay
+-- a string after one token: its place and kind stay
 record Joins (t : PlainToken) (at : Place) (bs : List ℕ) : Type 0 where
   first : PlainToken
   others : List PlainToken
@@ -92,7 +92,7 @@ joins t at bs = by t.kind t.place
     by token.AnnotClose p = record { first = _; others = _; is = refl; place = refl; kind = refl; below = λ n h g. (h, (g, tt)); ascend = λ h. (h, tt); apart = (refl, tt) }
     by (token.Head k n) p = record { first = _; others = _; is = refl; place = refl; kind = refl; below = λ n h g. (h, (g, tt)); ascend = λ h. (h, tt); apart = (refl, tt) }
 
--- the first token of a list with a string behind it
+-- the first token of a list with a string after it
 record Begins (u : PlainToken) (ts : List PlainToken) : Type 0 where
   first : PlainToken
   others : List PlainToken
@@ -125,7 +125,7 @@ string_apart (t ∷ u ∷ ts) at bs apart =
     let rest = string_apart (u ∷ ts) at bs apart.1 in
     subst (λ (l : List PlainToken). StringsApart (t ∷ l)) (sym b.is) (ap (λ (c : Bool). is_string t.kind && c) b.kind ∙ apart.0, subst StringsApart b.is rest)
 
--- ---- what is read, behind so many bytes
+-- ---- what is read, after so many bytes
 
 record InOrder (n : ℕ) (ts : List PlainToken) : Type 0 where
   below : AllBelow n ts
@@ -162,7 +162,7 @@ closed_in_order n r at Line h e = let d = put_in_order n (suc n) r.list at token
 same_tokens : (x y : PlainTokens) → (let r : Result PlainTokens PlainRefusal = Ok x in r) ≡ Ok y → x ≡ y
 same_tokens x y e = cc
 
--- what holds of the tokens of pieces behind these bytes
+-- what holds of the tokens of pieces after these bytes
 record Listed (before : List ℕ) (ps : Pieces) (tokens : PlainTokens) : Type 0 where
   ascend : Ascend tokens.list
   apart : StringsApart tokens.list

@@ -20,7 +20,7 @@ unfolding cut
 cut_past [] r at fresh m = refl
 cut_past (b ∷ w) r at fresh m = cut_past w r (next at b) (fresh_behind fresh b) m
 
--- the text behind these bytes, cut
+-- the text after these bytes, cut
 abbrev cut_behind : List ℕ → Mode → List ℕ → Pieces
 cut_behind before m bs = cut 0 (walk first_place before) (fresh_after true before) m bs
 

@@ -16,7 +16,7 @@ use Rattle.c_model.proofs.CPieceLaws.{pieces_joined, pieces_placed}
 same_refusal : (x y : PlainRefusal) → (let r : Result PlainTokens PlainRefusal = Err x in r) ≡ Err y → x ≡ y
 same_refusal x y e = cc
 
--- the parts of a refusal, from pieces whose first is behind these bytes
+-- the parts of a refusal, from pieces whose first is after these bytes
 record Faulty (before : List ℕ) (start : Read) (ps : Pieces) (x : PlainRefusal) : Type 0 where
   front : List ℕ
   read : Read

@@ -32,7 +32,7 @@ pub behind_is : (w r : List ℕ) → drop (length w) (w ++ r) ≡ r
 behind_is [] r = refl
 behind_is (b ∷ w) r = behind_is w r
 
--- a piece that is found is spelled by the bytes w in front of r
+-- a piece that is found is spelled by the bytes w before r
 spelled : (before : List ℕ) (m : Mode) (bs : List ℕ) (p : Piece) (n : ℕ) (x : Found) (w r : List ℕ) → found p n ≡ Ok x → bs ≡ w ++ r → length w ≡ suc n → Spells before m p w r → SpelledAs before m bs x
 unfolding SpelledAs
 spelled before m bs p n x w r e split len h =

@@ -43,7 +43,7 @@ pub record StringIs (m : Mode) (bs : List ℕ) (n : ℕ) : Type 0 where
   pub count : length spelling + 1 ≡ n
   pub are : AreUnits m units (34 ∷ behind)
 
--- one unit, and the string behind it
+-- one unit, and the string after it
 with_unit : (m : Mode) (b : ℕ) (bs : List ℕ) (u : ℕ × ℕ) (i n : ℕ) → eqb b 34 ≡ false → unit_in m (b ∷ bs) ≡ Some u → suc (u.1 + i) ≡ n → StringIs m (drop u.1 bs) i → StringIs m (b ∷ bs) n
 with_unit m b bs u i n other is total rest =
     let w : List ℕ = b ∷ take u.1 bs in

@@ -519,7 +519,7 @@ gives_call f call n at vs g =
     (gives_then _ _ (gives_then _ _ (gives_then _ _ gives_frame gives_alone) (gives_parameters at f.params vs)) (gives_mark None))
     (record { at = λ s. returned_well f (body_with f.body call n s) (g.at s) })))
 
--- a definition, with the functions in front of it and behind it, and what is known of it
+-- a definition, with the functions before it and after it, and what is known of it
 record IsPlaced (p : TranslationUnit) (f : Function) : Type 0 where
   pub before : List Function
   pub after : List Function

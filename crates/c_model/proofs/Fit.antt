@@ -475,7 +475,7 @@ one_do_turn p at a e (suc n) s l =
     (fit_bind j test test _ _ (fit_less j k (omega (arith, lt)) ft) (λ v. fit_choose j v _ _ done done
     (fit_do_turns n (suc n) j test test body body (omega (arith, lt)) (omega (arith, lt)) (fit_less j k (omega (arith, lt)) ft) (fit_less j k (omega (arith, lt)) fb)) (fit_give j tt))))).same s (omega arith)
 
--- the turns of a `for` are one turn, what stands behind the body, and then the turns again
+-- the turns of a `for` are one turn, what stands after the body, and then the turns again
 pub one_for_turn : (p : TranslationUnit) (e behind : Option Expression) (a : Statement) (n : ℕ) (s : State) → s.steps < n
     → for_turns p n e behind a s ≡ (condition_with e (call_of p n) >>= λ v. choose v (step >> λ t. after_body (exec p n a t) (effect_with behind (call_of p n) >> for_turns p n e behind a)) done) s
 one_for_turn p e behind a zero s l = absurd (omega arith)

@@ -257,7 +257,7 @@ unfolding cut
 cut_past [] r at fresh = refl
 cut_past (b ∷ w) r at fresh = cut_past w r (next at b) (fresh_behind fresh b)
 
--- the text behind these bytes, cut
+-- the text after these bytes, cut
 abbrev cut_behind : List ℕ → List ℕ → Pieces
 cut_behind before bs = cut 0 (walk first_place before) (fresh_after true before) bs
 

@@ -11,7 +11,7 @@ use Rattle.c_model.proofs.PieceLaws.{AreSound, pieces_joined, pieces_sound}
 same_refusal : (x y : PlainRefusal) → (let r : Result PlainTokens PlainRefusal = Err x in r) ≡ Err y → x ≡ y
 same_refusal x y e = cc
 
--- the parts of a refusal, from pieces whose first is behind these bytes
+-- the parts of a refusal, from pieces whose first is after these bytes
 record Broke (before : List ℕ) (ps : Pieces) (x : PlainRefusal) : Type 0 where
   front : List ℕ
   rest : List ℕ

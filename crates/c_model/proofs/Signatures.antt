@@ -61,7 +61,7 @@ compatible h g x e f c =
 
 -- ---- numbers that ascend
 
--- behind a part, whose numbers are less
+-- after a part, whose numbers are less
 pub record IsHigher (low : ℕ) (b : List ℕ) : Type 0 where
   pub low2 : ℕ
   pub le : low ≤ low2
@@ -71,7 +71,7 @@ ascend_back : (low : ℕ) (a b : List ℕ) → Ascend low (a ++ b) → IsHigher 
 ascend_back low [] b h = record { low2 = low; le = omega arith; is = h }
 ascend_back low (n ∷ a) b h = let x = ascend_back (suc n) a b h.1 in record { low2 = x.low2; le = omega (arith, x.le, h.0); is = x.is }
 
--- the numbers behind a function are above its own
+-- the numbers after a function are above its own
 behind_function : (low : ℕ) (f : Function) (fs : List Function) → Ascend low (numbers_of f ++ numbers_of_all fs) → IsHigher (suc f.place.offset) (numbers_of_all fs)
 behind_function low f fs h = ascend_back (suc f.place.offset) _ (numbers_of_all fs) h.1
 
@@ -106,7 +106,7 @@ first_more x (g ∷ hs) more h e = by (λ f. first_more x hs more h f) (nat_eq g
     by rest true f = f
     by rest false f = rest f
 
--- where a declaration of the name stands in front, one behind it has its type
+-- where a declaration of the name stands in front, one after it has its type
 compatible_all : (before : List Function) (g h : Function) (x : ℕ) → g.name ≡ x → is_compatible_with_all before g ≡ true → first_of x before ≡ Some h → SameTypes h g
 compatible_all [] g h x n c e = absurd cc
 compatible_all (b ∷ before) g h x n c e =

@@ -6,7 +6,7 @@ use Rattle.c_model.specs.declared.job.Job.TheVariants.{Run}
 use Rattle.c_model.specs.Words.{Argument, Operand, Steps, ◌>>=◌, before_dashes, behind_dashes, argument, arguments, with_value, operands, step_values, step_number, steps_of, file_of, run_of}
 use Rattle.c_model.specs.WordLaws.{AreArguments, with_steps}
 
--- the words in front of `--` and behind it, past words that are none
+-- the words before `--` and after it, past words that are none
 
 tails : (t : Bool) (word : List ℕ) (found words : List (List ℕ)) → (if t then [] else word ∷ found) ≡ word ∷ words → (t ≡ false) × (found ≡ words)
 tails true word found words e = cc
@@ -73,7 +73,7 @@ step_values-append [] b = refl
 step_values-append (Operand word ∷ a) b = step_values-append a b
 step_values-append (Steps value ∷ a) b = ap (λ words. value ∷ words) (step_values-append a b)
 
--- the job of arguments and of the words behind `--`
+-- the job of arguments and of the words after `--`
 abbrev pub job_with : List Argument → List (List ℕ) → Option Job
 job_with found behind = file_of (operands found ++ behind) >>= λ file. steps_of (step_values found) >>= λ steps. Some (Run file steps false)
 
@@ -118,7 +118,7 @@ bind_same : {B : Type 0} (m : Option (List Argument)) (f g : List Argument → O
 bind_same None f g h = refl
 bind_same (Some more) f g h = h more
 
--- the job of words behind arguments
+-- the job of words after arguments
 run_of-append : (a back : List (List ℕ)) (h : AreArguments a) → run_of (a ++ back) ≡ (arguments (before_dashes back) >>= λ more. job_with (h.found ++ more) (behind_dashes back))
 run_of-append a back h =
     rw (before_dashes-append a back h.no_dashes, behind_dashes-append a back h.no_dashes, arguments-append a (before_dashes back) h.found h.are)

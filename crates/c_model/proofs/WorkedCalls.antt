@@ -61,7 +61,7 @@ counts_factors = unit_of (codes "factorial" ∷ codes "n" ∷ codes "m" ∷ code
     []) ∷
     [])
 
--- a block's variable that hides another one behind its declaration
+-- a block's variable that hides another one after its declaration
 --     int main(void) {
 --       int x = 1;
 --       {
@@ -280,7 +280,7 @@ run-echoes = refl
 run-echoes-nothing : run echoes no_input 10000000 ≡ record { final = Exits (negsuc 0); output = []; left = 10000000 }
 run-echoes-nothing = refl
 
--- the fault comes where a byte is asked for behind the last one
+-- the fault comes where a byte is asked for after the last one
 run-echoes-fault : run echoes (failing_behind (codes "ab")) 10000000 ≡ record { final = ReadFault; output = codes "ab"; left = 9999998 }
 run-echoes-fault = refl
 
@@ -293,7 +293,7 @@ run-falls_off = refl
 run-asserts_in_a_call : run asserts_in_a_call no_input 10000000 ≡ record { final = Broken 1 2 Assert how.False; output = codes "c"; left = 9999998 }
 run-asserts_in_a_call = refl
 
--- arguments are evaluated in front of the step
+-- arguments are evaluated before the step
 run-divides_in_arguments : run divides_in_arguments no_input 0 ≡ record { final = Undefined (place 2 29 62); output = []; left = 0 }
 run-divides_in_arguments = refl
 
@@ -306,7 +306,7 @@ run-sees_another = refl
 abbrev seven_minus_four : Expression
 seven_minus_four = call int_type (place 3 16 74) 0 4 (literal (place 3 17 75) 7 ∷ literal (place 3 20 78) 4 ∷ [])
 
--- the block of a parameter of type int, behind its call
+-- the block of a parameter of type int, after its call
 abbrev dead_block : ℕ → StoredBlock
 dead_block n = record { kind = Stack; size = 4; live = false; bytes = Number n ∷ Number 0 ∷ Number 0 ∷ Number 0 ∷ []; place = 0 }
 
@@ -327,7 +327,7 @@ eval-seven_minus_four-last = refl
 eval-seven_minus_four-full : eval subtracts 10 seven_minus_four (busy 65536 5) ≡ Stop (Over (Full Frames)) (busy 65536 4)
 eval-seven_minus_four-full = refl
 
--- the step is due in front of the frame
+-- the step is due before the frame
 eval-seven_minus_four-spent : eval subtracts 10 seven_minus_four (busy 65536 0) ≡ Stop (Over Spent) (busy 65536 0)
 eval-seven_minus_four-spent = refl
 

@@ -153,7 +153,7 @@ main_alone names at opening closing items = unit_of names (definition int_type a
 abbrev pub input_of : List ℕ → Input
 input_of bytes = record { bytes = bytes; tail = EndOfInput }
 
--- an input that fails behind these bytes
+-- an input that fails after these bytes
 abbrev pub failing_behind : List ℕ → Input
 failing_behind bytes = record { bytes = bytes; tail = InputFault }
 

@@ -12,7 +12,7 @@ use Rattle.c_model.specs.Checked.{Good, refusing}
 use Rattle.c_model.specs.ProgramTyping.{typed_unit, main_fault, noted_unit}
 use Rattle.c_model.proofs.WorkedTrees.{place, literal, variable, binary, bump, call, int_variable, parameter, int_parameter, unnamed_parameter, items_of, literal_term, read_term, variable_term, assertion, definition, prototype, unit_of}
 
--- as it is read a use has the number 0, and behind typing that of its declaration
+-- as it is read a use has the number 0, and after typing that of its declaration
 abbrev as_read : ℕ → ℕ
 as_read n = 0
 
@@ -21,7 +21,7 @@ as_typed n = n
 
 -- ---- accepted files, by the numbers of uses
 
--- a call in sight of two prototypes, with the definition behind it
+-- a call in sight of two prototypes, with the definition after it
 --     int f(int n);
 --     int f(int);
 --     int main(void) { return f(1); }
@@ -151,7 +151,7 @@ calls_nothing = unit_of (codes "f" ∷ codes "n" ∷ codes "main" ∷ []) (
     []) ∷
     [])
 
--- a call in front of the first declaration (C99 6.2.1 p7)
+-- a call before the first declaration (C99 6.2.1 p7)
 --     int main(void) { return f(1); }
 --     int f(int n) { return n; }
 abbrev calls_ahead : TranslationUnit
@@ -260,7 +260,7 @@ declares_twice = unit_of (codes "main" ∷ codes "a" ∷ []) (
     []) ∷
     [])
 
--- a name behind the block that declares it
+-- a name after the block that declares it
 --     int main(void) {
 --       {
 --         int a = 1;
@@ -339,7 +339,7 @@ declares_main_alone = unit_of (codes "main" ∷ codes "f" ∷ []) (
     []) ∷
     [])
 
--- `main` is defined behind its declaration
+-- `main` is defined after its declaration
 --     int main(void);
 --     int main(void) { return 0; }
 abbrev defines_main_behind : TranslationUnit

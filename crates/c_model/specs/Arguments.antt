@@ -30,6 +30,6 @@ found_with found more = do
   steps ← at_most_one (option_to_list found.steps ++ step_values more)
   Some (record { file = file; steps = steps })
 
--- what words in front of `--` give together with what was found before
+-- what words before `--` give together with what was found before
 abbrev pub found_in : PlainFound → List (List ℕ) → Option PlainFound
 found_in found words = arguments words >>= λ more. found_with found more

@@ -31,7 +31,7 @@ bytes_of (Ended at m) = []
 bytes_of (Broken at f rest) = rest
 bytes_of (Cut at p bytes more) = bytes ++ bytes_of more
 
--- each piece is at the place behind the bytes before it
+-- each piece is at the place after the bytes before it
 abbrev pub ArePlaced : List ℕ → Pieces → Type 0
 ArePlaced before (Ended at m) = at ≡ place_of before
 ArePlaced before (Broken at f rest) = at ≡ place_of before
@@ -102,7 +102,7 @@ ends_annotation Code bs = false
 ends_annotation Block bs = begins_with (codes "*/") bs
 ends_annotation Line bs = begins_with (10 ∷ []) bs
 
--- the operators of C, and those of annotations behind them
+-- the operators of C, and those of annotations after them
 abbrev pub marks_of : Mode → List (List ℕ)
 marks_of Code = marks
 marks_of Block = marks ++ annotation_marks
@@ -130,7 +130,7 @@ pub record IsComment (bytes behind : List ℕ) : Type 0 where
   pub first : HaveNoEnd inside (codes "*/" ++ behind)
   pub no_annotation : begins_annotation Code (bytes ++ behind) ≡ false
 
--- behind a comment with `//` the line ends, or the annotation
+-- after a comment with `//` the line ends, or the annotation
 abbrev pub EndsComment : Mode → List ℕ → Type 0
 EndsComment m [] = Unit {0}
 EndsComment m (b ∷ bs) = (nat_eq b 10 || ends_block m (b ∷ bs)) ≡ true
@@ -192,7 +192,7 @@ IsClose Code bytes = ⊥
 IsClose Block bytes = bytes ≡ codes "*/"
 IsClose Line bytes = bytes ≡ 10 ∷ []
 
--- what a piece of each kind is, given what stands before and behind it
+-- what a piece of each kind is, given what stands before and after it
 abbrev pub Spells : List ℕ → Mode → Piece → List ℕ → List ℕ → Type 0
 Spells before m piece.Blank bytes behind = IsBlank before m bytes behind
 Spells before m (piece.Open n) bytes behind = IsOpen m n bytes behind
@@ -208,7 +208,7 @@ AreSpelled before m (Ended at n) = n ≡ m
 AreSpelled before m (Broken at f rest) = Unit {0}
 AreSpelled before m (Cut at p bytes more) = Spells before m p bytes (bytes_of more) × AreSpelled (before ++ bytes) (mode_after m p) more
 
--- each piece is spelled as its kind is, and the text ends in the mode behind them
+-- each piece is spelled as its kind is, and the text ends in the mode after them
 abbrev pub PiecesAreSpelled : Type 0
 PiecesAreSpelled = (text : List ℕ) → AreSpelled [] Code (pieces_of text)
 
@@ -227,7 +227,7 @@ pub record BeginsNone (before : List ℕ) (m : Mode) (bs : List ℕ) : Type 0 wh
   pub no_directive : is_code m && starts_line before && nat_eq first 35 ≡ false
   pub no_mark : (q : List ℕ) → IsIn (marks_of m) q → begins_with q bs ≡ false
 
--- a `/*` in C, and no `*/` behind it
+-- a `/*` in C, and no `*/` after it
 pub record IsUnclosed (m : Mode) (bs : List ℕ) : Type 0 where
   pub code : m ≡ Code
   pub others : List ℕ
@@ -329,7 +329,7 @@ LiteralsAreIntegers = (bytes : List ℕ) (v : ℕ) (t : Option CInt) → literal
 
 -- ---- refusals
 
--- r is read from the pieces that make up front, each within the limit, and ps are those behind them
+-- r is read from the pieces that make up front, each within the limit, and ps are those after them
 abbrev pub ReadUpTo : Read → Pieces → List ℕ → Read → Pieces → Type 0
 ReadUpTo start (Ended at m) front r ps = (front ≡ []) × (r ≡ start) × (ps ≡ Ended at m)
 ReadUpTo start (Broken at f rest) front r ps = (front ≡ []) × (r ≡ start) × (ps ≡ Broken at f rest)
@@ -383,7 +383,7 @@ NamesDiffer = (text : List ℕ) (tokens : PlainTokens) → tokens_of text ≡ Ok
 
 -- ---- the list of tokens
 
--- each token begins behind the one before
+-- each token begins after the one before
 abbrev pub Ascend : List PlainToken → Type 0
 Ascend [] = Unit {0}
 Ascend (t ∷ []) = Unit {0}

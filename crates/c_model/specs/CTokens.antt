@@ -21,7 +21,7 @@ use Rattle.c_model.specs.Pieces.{word, Pieces, Ended, Broken, Cut, pieces_of}
 
 -- ---- tokens
 
--- a string literal behind the last token, which it joins where that is one (C99 6.4.5 p4)
+-- a string literal after the last token, which it joins where that is one (C99 6.4.5 p4)
 abbrev pub joined : PlainToken → Place → List ℕ → List PlainToken
 joined t at bs = elim t.kind [
   | token.Chars cs ↦ monitored.token t.place (token.Chars (cs ++ bs)) ∷ []
@@ -39,7 +39,7 @@ with_string [] at bs = monitored.token at (token.Chars bs) ∷ []
 with_string (t ∷ []) at bs = joined t at bs
 with_string (t ∷ u ∷ ts) at bs = t ∷ with_string (u ∷ ts) at bs
 
--- the token of a piece behind those that are read
+-- the token of a piece after those that are read
 unfoldable pub add : Read → Place → Piece → List ℕ → Read
 add r at piece.Blank bs = r
 add r at (piece.Open m) bs = put r at token.AnnotOpen
@@ -95,7 +95,7 @@ closed r at Code = r
 closed r at Block = r
 closed r at Line = put r at token.AnnotClose
 
--- the tokens of the pieces, behind those of r
+-- the tokens of the pieces, after those of r
 unfoldable pub build : Read → Pieces → Result PlainTokens PlainRefusal
 build r (Ended at m) = limited (closed r at m) at (Ok (whole (closed r at m) at))
 build r (Broken at f rest) = Err (refused at f rest)

@@ -46,7 +46,7 @@ comment_len m (b ∷ bs) = if nat_eq b 10 || ends_block m (b ∷ bs) then 0 else
 
 -- ---- annotations without a token: blanks, `@` and comments with `//` alone
 
--- whether a comment is open behind the byte at the front; nothing where this begins a token
+-- whether a comment is open after the byte at the front; nothing where this begins a token
 abbrev pub comment_behind : Bool → List ℕ → Option Bool
 comment_behind is_open [] = None
 comment_behind is_open (b ∷ bs) =
@@ -54,14 +54,14 @@ comment_behind is_open (b ∷ bs) =
     else (if is_gap Block b then Some false
     else (if begins_with (codes "//") (b ∷ bs) then Some true else None))
 
--- the bytes behind `/*@` up to the first `*/` and with it, where they have no token; whether a comment is open
+-- the bytes after `/*@` up to the first `*/` and with it, where they have no token; whether a comment is open
 abbrev pub blank_block : Bool → List ℕ → Option ℕ
 blank_block is_open [] = None
 blank_block is_open (b ∷ bs) =
     if begins_with (codes "*/") (b ∷ bs) then Some 2
     else elim (comment_behind is_open (b ∷ bs)) [ None ↦ None | Some c ↦ option_map suc (blank_block c bs) ]
 
--- whether the bytes behind `//@` up to the line's end have no token
+-- whether the bytes after `//@` up to the line's end have no token
 abbrev pub is_blank_line : List ℕ → Bool
 is_blank_line [] = true
 is_blank_line (b ∷ bs) = nat_eq b 10 || (if is_gap Line b then is_blank_line bs else begins_with (codes "//") (b ∷ bs))

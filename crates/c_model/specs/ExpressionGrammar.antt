@@ -204,7 +204,7 @@ assignment_operators =
     ∷ (subtract_assign, Some Sub) ∷ (shift_left_assign, Some Shl) ∷ (shift_right_assign, Some Shr) ∷ (and_assign, Some BitAnd)
     ∷ (xor_assign, Some BitXor) ∷ (or_assign, Some BitOr) ∷ []
 
--- in front of their operand, and behind it (C99 6.5.3.1, 6.5.2.4)
+-- before their operand, and after it (C99 6.5.3.1, 6.5.2.4)
 abbrev pub prefix_bumps : List (ℕ × BumpOp)
 prefix_bumps = (increment, PreUp) ∷ (decrement, PreDown) ∷ []
 
@@ -377,7 +377,7 @@ module _ (ws : Vocabulary) where
   type_start (token.Word n) = option_map (λ b. (b, n)) (type_start_of (word_at ws n))
   type_start _ = None
 
-  -- a type behind its first word
+  -- a type after its first word
   unfoldable pub type_behind : TypeStart → Syntax PlainToken PlainType
   type_behind ConstStart = type_words
   type_behind VoidStart = consts Void
@@ -389,7 +389,7 @@ module _ (ws : Vocabulary) where
   abbrev pub Operand : Type 1
   Operand = TypeUse → Syntax PlainToken ReadOperand
 
-  -- ")", behind what is read
+  -- ")", after what is read
   unfoldable pub closed : {A : Type 0} → A → Syntax PlainToken A
   closed x = mark right_paren then λ _. gives x
 
@@ -399,20 +399,20 @@ module _ (ws : Vocabulary) where
       choice (kind ws) (number_kind ∷ []) (one (placed number_of) then λ n. gives (read_operand (read_as n.1 (Number n.0.0 n.0.1)) form.Primary n.1))
       (one (placed letter_of) then λ z. gives (read_operand (read_as z.1 (Letter z.0)) form.Primary z.1))
 
-  -- type ")" cast, behind "("
+  -- type ")" cast, after "("
   unfoldable pub cast_rest : Operand → Place → Syntax PlainToken ReadOperand
   cast_rest O at = type_words then λ t. mark right_paren then λ _. O type_use.Casts then λ x. gives
       (read_operand (read_as at (Cast t x.expression)) form.Cast at)
 
-  -- type ")", behind "(" of `sizeof`
+  -- type ")", after "(" of `sizeof`
   unfoldable pub sized_type : Place → Syntax PlainToken ReadOperand
   sized_type at = type_words then λ t. closed (read_operand (read_as at (SizeOfType t)) form.TypeName at)
 
-  -- expr ")", behind "("
+  -- expr ")", after "("
   unfoldable pub paren_rest : Syntax PlainToken Expression → Place → Syntax PlainToken ReadOperand
   paren_rest E at = E then λ e. closed (read_operand e form.Primary at)
 
-  -- what stands behind "("
+  -- what stands after "("
   unfoldable pub behind_paren : Syntax PlainToken Expression → Operand → TypeUse → Place → Syntax PlainToken ReadOperand
   behind_paren E O type_use.Casts at = choice (kind ws) first_type (cast_rest O at) (paren_rest E at)
   behind_paren E O type_use.Sizes at = choice (kind ws) first_type (sized_type at) (paren_rest E at)
@@ -441,22 +441,22 @@ module _ (ws : Vocabulary) where
   unfoldable pub operand : Syntax PlainToken Expression → Operand
   operand E = knot (operand_of E)
 
-  -- an operator of the level with its right operand R, behind the left one
+  -- an operator of the level with its right operand R, after the left one
   unfoldable pub joined_once : ℕ → Syntax PlainToken Expression → Expression → Syntax PlainToken Expression
   joined_once l R left = one (placed (mark_entry (operators_at l))) then λ o. R then λ right. gives (read_as o.1 (joined o.0 left right))
 
-  -- what stands behind an operand: operators of the levels below l with their right operands
+  -- what stands after an operand: operators of the levels below l with their right operands
   unfoldable pub behind_operand : Syntax PlainToken Expression → ℕ → Expression → Syntax PlainToken Expression
   behind_operand E zero x = gives x
   behind_operand E (suc l) x =
       behind_operand E l x then λ y.
       many (kind ws) (λ _. kinds_of (operators_at l)) (joined_once l (operand E type_use.Casts then λ z. behind_operand E l z.expression)) y
 
-  -- "?" expr ":" expr, behind the condition (C99 6.5.15)
+  -- "?" expr ":" expr, after the condition (C99 6.5.15)
   unfoldable pub choice_rest : Syntax PlainToken Expression → Expression → Syntax PlainToken Expression
   choice_rest E x = mark question then λ at. E then λ y. mark colon then λ _. E then λ z. gives (read_as at (Choice x y z))
 
-  -- the rest of an expression, behind its first operand
+  -- the rest of an expression, after its first operand
   unfoldable pub expression_rest : Syntax PlainToken Expression → Expression → Syntax PlainToken Expression
   expression_rest E x = behind_operand E levels x then λ y. choice (kind ws) (mark_kind question ∷ []) (choice_rest E y) (gives y)
 
@@ -477,11 +477,11 @@ module _ (ws : Vocabulary) where
       choice (kind ws) first_expression (expression then λ e. many (kind ws) (λ _. mark_kind comma ∷ []) next_argument (e ∷ []))
       (gives [])
 
-  -- "(" .. ")", behind a name
+  -- "(" .. ")", after a name
   unfoldable pub call_rest : ℕ × Place → Syntax PlainToken (Expression × Place)
   call_rest f = mark left_paren then λ at. arguments then λ es. closed (read_as at (Call (use_of f.0) (expressions es)), f.1)
 
-  -- what stands behind a name at the front of an expression or a call
+  -- what stands after a name at the front of an expression or a call
   unfoldable pub behind_name_or_callee : ℕ × Place → Syntax PlainToken Expression
   behind_name_or_callee x =
       choice (kind ws) (mark_kind left_paren ∷ []) (call_rest x then λ c. gives c.0) (expression_rest expression (read_name x).expression)
@@ -499,11 +499,11 @@ module _ (ws : Vocabulary) where
   assigned_value None = expression_or_call
   assigned_value (Some op) = expression
 
-  -- assign-op and what is assigned, behind a unary expression
+  -- assign-op and what is assigned, after a unary expression
   unfoldable pub assigned : Expression → Syntax PlainToken Expression
   assigned left = one (placed (mark_entry assignment_operators)) then λ o. assigned_value o.0 then λ right. gives (read_as o.1 (Assign o.0 left right))
 
-  -- "++" | "--", behind a primary expression
+  -- "++" | "--", after a primary expression
   unfoldable pub bumped : Expression → Syntax PlainToken Expression
   bumped x = one (placed (mark_entry postfix_bumps)) then λ o. gives (read_as o.1 (Bump o.0 x))
 
@@ -513,14 +513,14 @@ module _ (ws : Vocabulary) where
   unfoldable pub behind_primary : Expression → Syntax PlainToken Expression
   behind_primary x = choice (kind ws) (kinds_of postfix_bumps) (bumped x) (behind_unary x)
 
-  -- what stands behind an expression of the form
+  -- what stands after an expression of the form
   unfoldable pub behind_form : Form → Expression → Syntax PlainToken Expression
   behind_form form.Primary x = behind_primary x
   behind_form form.Unary x = behind_unary x
   behind_form form.Cast x = expression_rest expression x
   behind_form form.TypeName x = expression_rest expression x
 
-  -- the rest of an effect, behind its first operand
+  -- the rest of an effect, after its first operand
   unfoldable pub effect_rest : ReadOperand → Syntax PlainToken (Expression × Place)
   effect_rest x = behind_form x.form x.expression then λ e. gives (e, x.first)
 
@@ -536,7 +536,7 @@ module _ (ws : Vocabulary) where
   unfoldable pub effect : Syntax PlainToken (Expression × Place)
   effect = choice (kind ws) (name_kind ∷ []) (name then λ x. effect_rest (read_name x)) effect_but_name
 
-  -- what stands behind a name at the front of a statement
+  -- what stands after a name at the front of a statement
   unfoldable pub behind_name : ℕ × Place → Syntax PlainToken (Expression × Place)
   behind_name x = choice (kind ws) (mark_kind left_paren ∷ []) (call_rest x) (effect_rest (read_name x))
 

@@ -319,7 +319,7 @@ abbrev pub numbers_of_all : List Function → List ℕ
 numbers_of_all [] = []
 numbers_of_all (f ∷ fs) = numbers_of f ++ numbers_of_all fs
 
--- each number is above those in front of it, and not below this one
+-- each number is above those before it, and not below this one
 abbrev pub Ascend : ℕ → List ℕ → Type 0
 Ascend least [] = Unit {0}
 Ascend least (n ∷ ns) = (least ≤ n) × Ascend (suc n) ns

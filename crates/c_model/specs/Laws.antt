@@ -146,7 +146,7 @@ DoLoopsTurn = (p : TranslationUnit) (at : Place) (a : Statement) (e : Expression
 abbrev pub for_turns : TranslationUnit → ℕ → Option Expression → Option Expression → Statement → Evaluation (Unit {0})
 for_turns p n e behind a = turns n (condition_with e (call_of p n)) (exec p n a) (effect_with behind (call_of p n))
 
--- they are one turn, what stands behind the body, and then the turns again (C99 6.8.5.3)
+-- they are one turn, what stands after the body, and then the turns again (C99 6.8.5.3)
 abbrev pub ForLoopsTurn : Type 0
 ForLoopsTurn = (p : TranslationUnit) (e behind : Option Expression) (a : Statement) (n : ℕ) (s : State) → s.steps < n
     → for_turns p n e behind a s ≡ (condition_with e (call_of p n) >>=

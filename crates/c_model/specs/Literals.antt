@@ -75,7 +75,7 @@ body_of base bs = do
   suffix ← suffix_of (drop digits.1 bs)
   Some (digits.0, first_fitting (types_of (nat_eq base 10) suffix.0 suffix.1) digits.0)
 
--- all of bs is a literal: hexadecimal behind `0x`, else octal behind a `0`, which is a digit of it, else decimal
+-- all of bs is a literal: hexadecimal after `0x`, else octal after a `0`, which is a digit of it, else decimal
 unfoldable pub literal_of : List ℕ → Option (ℕ × Option CInt)
 literal_of bs =
     if begins_with (codes "0x") bs || begins_with (codes "0X") bs then body_of 16 (drop 2 bs)
@@ -83,7 +83,7 @@ literal_of bs =
 
 -- ---- characters
 
--- what the letter or mark behind a `\` stands for (6.4.4.4 p3)
+-- what the letter or mark after a `\` stands for (6.4.4.4 p3)
 abbrev pub simple_escape : ℕ → Option ℕ
 simple_escape c =
     if nat_eq c 110 then Some 10
@@ -95,7 +95,7 @@ simple_escape c =
     else (if nat_eq c 118 then Some 11
     else (if nat_eq c 92 || nat_eq c 39 || nat_eq c 34 || nat_eq c 63 then Some c else None)))))))
 
--- an escape, given what is behind its `\`: the byte that it stands for, and how many bytes are behind the `\`. It is up to three
+-- an escape, given what is after its `\`: the byte that it stands for, and how many bytes are after the `\`. It is up to three
 -- octal digits, `x` and hexadecimal digits, or simple; its value is at most 255
 unfoldable pub escape_at : List ℕ → Option (ℕ × ℕ)
 escape_at [] = None
@@ -104,12 +104,12 @@ escape_at (c ∷ cs) =
     else (if nat_eq c 120 then option_map (λ d. (d.0, d.1 + 1)) (digits_at 16 255 cs)
     else option_map (λ v. (v, 1)) (simple_escape c))
 
--- a byte or an escape: the byte that it stands for, and how many bytes are behind its first. A line's end is none
+-- a byte or an escape: the byte that it stands for, and how many bytes are after its first. A line's end is none
 unfoldable pub unit_at : List ℕ → Option (ℕ × ℕ)
 unit_at [] = None
 unit_at (b ∷ bs) = if nat_eq b 10 then None else (if nat_eq b 92 then escape_at bs else Some (b, 0))
 
--- a character literal, given what is behind its first quote: one byte or escape and a quote, or nothing. The byte, and how many
+-- a character literal, given what is after its first quote: one byte or escape and a quote, or nothing. The byte, and how many
 -- bytes there are
 unfoldable pub letter_of : List ℕ → Option (ℕ × ℕ)
 letter_of bs =
@@ -129,7 +129,7 @@ signed_char b = if nat_lt b 128 then pos b else negsuc (255 - b)
 abbrev pub unit_in : Mode → List ℕ → Option (ℕ × ℕ)
 unit_in m bs = if ends_block m bs then None else unit_at bs
 
--- a string literal, given what is behind its first quote: bytes and escapes up to the next quote, or nothing. How many bytes there
+-- a string literal, given what is after its first quote: bytes and escapes up to the next quote, or nothing. How many bytes there
 -- are with that quote; k of them still belong to the byte or escape before
 abbrev pub string_len : Mode → ℕ → List ℕ → Option ℕ
 string_len m k [] = None

@@ -166,7 +166,7 @@ abbrev mutual
 
 -- ---- statements
 
--- a loop's body, and then what comes behind it; a `break` ends the loop (C99 6.8.6.2, 6.8.6.3)
+-- a loop's body, and then what comes after it; a `break` ends the loop (C99 6.8.6.2, 6.8.6.3)
 abbrev pub after_body : Outcome (Unit {0}) → Evaluation (Unit {0}) → Outcome (Unit {0})
 after_body (Normal u s) again = again s
 after_body (Stop (Leaves Continues) s) again = again s
@@ -174,7 +174,7 @@ after_body (Stop (Leaves Breaks) s) again = Normal tt s
 after_body (Stop (Leaves (Returns v)) s) again = Stop (Leaves (Returns v)) s
 after_body (Stop (Over e) s) again = Stop (Over e) s
 
--- at most n turns of a `while` or a `for`: the condition, a step, the body, and what stands behind it (C99 6.8.5.1, 6.8.5.3)
+-- at most n turns of a `while` or a `for`: the condition, a step, the body, and what stands after it (C99 6.8.5.1, 6.8.5.3)
 abbrev pub turns : ℕ → Evaluation Value → Evaluation (Unit {0}) → Evaluation (Unit {0}) → Evaluation (Unit {0})
 turns zero test body behind = stop (Over Spent)
 turns (suc n) test body behind = do

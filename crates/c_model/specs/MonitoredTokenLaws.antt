@@ -27,7 +27,7 @@ bytes_of (Cut at p bytes more) = bytes ++ bytes_of more
 abbrev pub in_line : ℕ → Bool
 in_line b = not (nat_eq b 10)
 
--- the place behind these bytes: each byte 10 ends a line, and columns count the bytes behind the last of them
+-- the place after these bytes: each byte 10 ends a line, and columns count the bytes after the last of them
 abbrev pub place_of : List ℕ → Place
 place_of before = record {
   line = 1 + count_by (λ b. nat_eq b 10) before;
@@ -39,7 +39,7 @@ place_of before = record {
 abbrev pub starts_line : List ℕ → Bool
 starts_line before = list_all is_blank (take (prefix_len in_line (reverse before)) (reverse before))
 
--- each piece is at the place behind the bytes before it
+-- each piece is at the place after the bytes before it
 abbrev pub ArePlaced : List ℕ → Pieces → Type 0
 ArePlaced before (Ended at) = at ≡ place_of before
 ArePlaced before (Broken at f rest) = at ≡ place_of before
@@ -104,7 +104,7 @@ pub record IsBlank (bytes : List ℕ) : Type 0 where
   pub alone : bytes ≡ byte ∷ []
   pub blank : is_blank byte ≡ true
 
--- what a piece of each kind is, given what stands before and behind it
+-- what a piece of each kind is, given what stands before and after it
 abbrev pub Spells : List ℕ → Piece → List ℕ → List ℕ → Type 0
 Spells before piece.Blank bytes behind = IsBlank bytes
 Spells before piece.Word bytes behind = IsName bytes behind
@@ -187,7 +187,7 @@ OnlyTheseAreSpelled =
 
 -- ---- refusals
 
--- the pieces make up front, and behind them rest is broken
+-- the pieces make up front, and after them rest is broken
 abbrev pub BreakBehind : Pieces → List ℕ → Fault → List ℕ → Type 0
 BreakBehind (Ended at) front f rest = ⊥
 BreakBehind (Broken at g end) front f rest = (front ≡ []) × (g ≡ f) × (end ≡ rest)
@@ -223,7 +223,7 @@ words_of (Ended at) = []
 words_of (Broken at f rest) = []
 words_of (Cut at p bytes more) = word_then p bytes (words_of more)
 
--- each that isn't among the names yet goes behind them
+-- each that isn't among the names yet goes after them
 abbrev pub with_names : List (List ℕ) → List (List ℕ) → List (List ℕ)
 with_names names [] = names
 with_names names (w ∷ ws) = with_names (with_name names w) ws

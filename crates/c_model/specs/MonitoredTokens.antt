@@ -20,7 +20,7 @@ use Rattle.c_model.specs.Names.{with_name, name_number}
 
 -- ---- pieces
 
--- a piece, with so many bytes behind its first
+-- a piece, with so many bytes after its first
 abbrev pub found : Piece → ℕ → Result Found Fault
 found p n = Ok (record { piece = p; more = n })
 
@@ -58,7 +58,7 @@ octal_value a b c = 64 * (a - 48) + 8 * (b - 48) + (c - 48)
 abbrev pub octal_byte : ℕ → ℕ → ℕ → Option ℕ
 octal_byte a b c = if is_octal a && is_octal b && is_octal c && nat_le (octal_value a b c) 255 then Some (octal_value a b c) else None
 
--- c in front of the bytes, where there are any
+-- c before the bytes, where there are any
 abbrev pub in_front : Option ℕ → Option (List ℕ) → Option (List ℕ)
 in_front None cs = None
 in_front (Some c) None = None
@@ -71,18 +71,18 @@ abbrev mutual
   chars_of [] = Some []
   chars_of (b ∷ bs) = if is_plain b then in_front (Some b) (chars_of bs) else (if nat_eq b 92 then escape_of bs else None)
 
-  -- behind a `\`
+  -- after a `\`
   pub escape_of : List ℕ → Option (List ℕ)
   escape_of [] = None
   escape_of (a ∷ []) = None
   escape_of (a ∷ b ∷ []) = None
   escape_of (a ∷ b ∷ c ∷ bs) = in_front (octal_byte a b c) (chars_of bs)
 
--- what stands in front of a closing quote
+-- what stands before a closing quote
 abbrev pub in_string : ℕ → Bool
 in_string b = not (nat_eq b 34)
 
--- a string, given what is behind its first quote: characters and escapes up to the next quote
+-- a string, given what is after its first quote: characters and escapes up to the next quote
 unfoldable pub string_at : List ℕ → Result Found Fault
 string_at bs =
     if nat_lt (prefix_len in_string bs) (length bs) && is_some (chars_of (take (prefix_len in_string bs) bs))
@@ -131,16 +131,16 @@ piece_at fresh (b ∷ bs) =
     else (if fresh && nat_eq b 35 then head_at (b ∷ bs)
     else first_mark 0 marks (b ∷ bs)))))
 
--- whether only blanks stand in the line behind a byte
+-- whether only blanks stand in the line after a byte
 abbrev pub fresh_behind : Bool → ℕ → Bool
 fresh_behind fresh b = nat_eq b 10 || (fresh && is_blank b)
 
--- the same behind bytes
+-- the same after bytes
 abbrev pub fresh_after : Bool → List ℕ → Bool
 fresh_after fresh [] = fresh
 fresh_after fresh (b ∷ bs) = fresh_after (fresh_behind fresh b) bs
 
--- the pieces of a text, in order: it ends, or something broken stands behind them
+-- the pieces of a text, in order: it ends, or something broken stands after them
 pub data Pieces : Type 0 where
   Ended : (at : Place) → Pieces
   Broken : (at : Place) (f : Fault) (rest : List ℕ) → Pieces
@@ -209,7 +209,7 @@ refused at f rest = record { code = code_of f; place = at; construct = word_of f
 abbrev pub whole : Read → Place → PlainTokens
 whole r at = record { list = r.list; names = r.names; end = at }
 
--- the tokens of the pieces, behind those of r
+-- the tokens of the pieces, after those of r
 unfoldable pub build : Read → Pieces → Result PlainTokens PlainRefusal
 build r (Ended at) = Ok (whole r at)
 build r (Broken at f rest) = Err (refused at f rest)

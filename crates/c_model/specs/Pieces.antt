@@ -17,7 +17,7 @@ use Rattle.c_model.specs.Comments.{is_code, is_line, is_gap, ends_block, in_line
 use Rattle.c_model.specs.Literals.{literal_of, letter_of, string_len}
 use Rattle.c_model.specs.Directives.{directive_line, directive_fault}
 
--- a piece, with so many bytes behind its first
+-- a piece, with so many bytes after its first
 abbrev pub found : Piece → ℕ → Result Found Fault
 found p n = Ok (record { piece = p; more = n })
 
@@ -63,7 +63,7 @@ abbrev pub begins_name : Mode → List ℕ → Bool
 begins_name m [] = false
 begins_name m (b ∷ bs) = is_nondigit b || (not (is_code m) && nat_eq b 92 && begins_with_nondigit bs)
 
--- a name is its first byte and all the letters, digits and `_` that follow one another behind it
+-- a name is its first byte and all the letters, digits and `_` that follow one another after it
 abbrev pub word : List ℕ → List ℕ
 word [] = []
 word (b ∷ bs) = b ∷ take (prefix_len is_part bs) bs
@@ -117,18 +117,18 @@ mark_at m bs =
 
 -- ---- comments, annotations and directives
 
--- a comment with `/*`, given what is behind these
+-- a comment with `/*`, given what is after these
 unfoldable pub comment_at : List ℕ → Result Found Fault
 comment_at bs = elim (block_len bs) [ None ↦ Err fault.Comment | Some n ↦ found piece.Blank (n + 1) ]
 
--- an annotation with `/*@`, given what is behind these
+-- an annotation with `/*@`, given what is after these
 unfoldable pub open_block : List ℕ → Result Found Fault
 open_block bs = elim (block_len bs) [
   | None ↦ Err fault.Comment
   | Some n ↦ elim (blank_block false bs) [ None ↦ found (piece.Open Block) 2 | Some k ↦ found piece.Blank (k + 2) ]
 ]
 
--- an annotation with `//@`, given what is behind these
+-- an annotation with `//@`, given what is after these
 unfoldable pub open_line : List ℕ → Result Found Fault
 open_line bs = if is_blank_line bs then found piece.Blank (prefix_len in_line bs + 2) else found (piece.Open Line) 2
 
@@ -141,7 +141,7 @@ other_at m bs =
     else (if begins_with (codes "//") bs then found piece.Blank (comment_len m bs - 1)
     else mark_at m bs)))
 
--- a directive, given what is behind its `#`
+-- a directive, given what is after its `#`
 unfoldable pub directive_at : List ℕ → Result Found Fault
 directive_at bs = elim (directive_fault (directive_line bs)) [
   | None ↦ found piece.Blank (prefix_len in_line bs)
@@ -175,7 +175,7 @@ mode_after m (piece.Letter b) = m
 mode_after m piece.Chars = m
 mode_after m (piece.Mark k) = m
 
--- the pieces in order: the text ends, or something broken stands behind them
+-- the pieces in order: the text ends, or something broken stands after them
 pub data Pieces : Type 0 where
   Ended : (at : Place) (m : Mode) → Pieces
   Broken : (at : Place) (f : Fault) (rest : List ℕ) → Pieces

@@ -6,7 +6,7 @@ use Rattle.c_syntax.specs.declared.place.Place.{Place}
 abbrev pub first_place : Place
 first_place = record { line = 1; column = 1; offset = 0 }
 
--- the place behind a byte
+-- the place after a byte
 abbrev pub next : Place → ℕ → Place
 next at b =
     if nat_eq b 10

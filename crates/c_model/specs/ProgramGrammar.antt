@@ -106,7 +106,7 @@ pub record Counts : Type 0 where
   pub annotation : ℕ
   pub declarators : ℕ
 
--- how a statement is read, with the counts in front of it and behind it
+-- how a statement is read, with the counts before it and after it
 abbrev pub Counted : Type 1
 Counted = Counts → Syntax PlainToken (Statement × Counts)
 
@@ -203,7 +203,7 @@ module _ (ws : Vocabulary) where
       one (placed assert_word) then λ a. sum then λ left. one (placed (mark_entry relations)) then λ r. sum then λ right.
       mark ws semicolon then λ _. gives (assertion n a.1 left r right)
 
-  -- an annotation, which takes the next number and gives the one behind
+  -- an annotation, which takes the next number and gives the one after
   unfoldable pub annotation : Counts → Syntax PlainToken (BlockItem × Counts)
   annotation n =
       fixed ws annot_open_kind then λ _. at_most expression_limit most_in_expression (assert_clause n.annotation) then λ a.
@@ -215,7 +215,7 @@ module _ (ws : Vocabulary) where
   unfoldable pub declared_name : Counts → Syntax PlainToken (ℕ × Place)
   declared_name n = cond (ltb n.declarators most_declarators) (name ws) none
 
-  -- NAME "=" ( expr | call ), behind these of the same declaration
+  -- NAME "=" ( expr | call ), after these of the same declaration
   unfoldable pub declarator : PlainType → List Declaration × Counts → Syntax PlainToken (List Declaration × Counts)
   declarator t x =
       declared_name x.1 then λ y. mark ws assign then λ equals. full_expression_or_call ws then λ e.
@@ -232,7 +232,7 @@ module _ (ws : Vocabulary) where
 
   -- ---- statements; S stands for a statement inside another
 
-  -- ";", behind a statement
+  -- ";", after a statement
   unfoldable pub ended : {A : Type 0} → A → Syntax PlainToken A
   ended x = mark ws semicolon then λ _. gives x
 
@@ -300,7 +300,7 @@ module _ (ws : Vocabulary) where
   unfoldable pub items_once : Counted → List BlockItem × Counts → Syntax PlainToken (List BlockItem × Counts)
   items_once S x = item S x.1 then λ i. gives (x.0 ++ i.0 ∷ [], i.1)
 
-  -- { item }, behind the items x
+  -- { item }, after the items x
   unfoldable pub items : Counted → List BlockItem × Counts → Syntax PlainToken (List BlockItem × Counts)
   items S x = many (kind ws) (λ _. first_item) (items_once S) x
 
@@ -332,7 +332,7 @@ module _ (ws : Vocabulary) where
 
   -- ---- functions and texts (C99 6.9)
 
-  -- what may stand in front of a type at file scope, where "static" is read or not
+  -- what may stand before a type at file scope, where "static" is read or not
   abbrev pub storage_words : Bool → List ℕ
   storage_words true = keyword_kind keyword.Const ∷ []
   storage_words false = keyword_kind keyword.Static ∷ keyword_kind keyword.Const ∷ []
@@ -346,18 +346,18 @@ module _ (ws : Vocabulary) where
   unfoldable pub result_type : Syntax PlainToken PlainType
   result_type = many (kind ws) storage_words storage_word false then λ _. base ws then λ t. consts ws t
 
-  -- [ NAME ], behind a parameter's type whose first word this is
+  -- [ NAME ], after a parameter's type whose first word this is
   unfoldable pub parameter_name : PlainType → ℕ × Place → Syntax PlainToken Declaration
   parameter_name t first =
       choice (kind ws) (name_kind ∷ []) (name ws then λ x. gives (parameter_with t x true)) (gives (parameter_with t first false))
 
-  -- behind "void" that begins a parameter, which is no "void" alone
+  -- after "void" that begins a parameter, which is no "void" alone
   unfoldable pub void_parameter : ℕ × Place → Syntax PlainToken Declaration
   void_parameter first =
       choice (kind ws) (keyword_kind keyword.Const ∷ []) (reserved ws keyword.Const then λ _. consts ws Void then λ t. parameter_name t first)
       (name ws then λ x. gives (parameter_with Void x true))
 
-  -- a parameter behind its first word
+  -- a parameter after its first word
   unfoldable pub parameter_behind : TypeStart → ℕ × Place → Syntax PlainToken Declaration
   parameter_behind VoidStart first = void_parameter first
   parameter_behind start first = type_behind ws start then λ t. parameter_name t first
@@ -368,11 +368,11 @@ module _ (ws : Vocabulary) where
   unfoldable pub next_parameter : List Declaration → Syntax PlainToken (List Declaration)
   next_parameter ps = mark ws comma then λ _. parameter then λ p. gives (ps ++ p ∷ [])
 
-  -- { "," parameter } ")", behind the first one
+  -- { "," parameter } ")", after the first one
   unfoldable pub more_parameters : Declaration → Syntax PlainToken (List Declaration)
   more_parameters p = many (kind ws) (λ _. mark_kind comma ∷ []) next_parameter (p ∷ []) then λ ps. closed ws ps
 
-  -- what stands behind the first word: "void" may be all there is
+  -- what stands after the first word: "void" may be all there is
   unfoldable pub first_parameter : TypeStart → ℕ × Place → Syntax PlainToken (List Declaration)
   first_parameter VoidStart first =
       choice (kind ws) (mark_kind right_paren ∷ []) (closed ws []) (void_parameter first then λ p. more_parameters p)

@@ -57,7 +57,7 @@ same_types _ _ = false
 abbrev pub same_signature : Function → Function → Bool
 same_signature f g = same_type f.result g.result && same_types (types_of f.params) (types_of g.params)
 
--- whether a declaration may stand behind another of its name: of the same type, and one of the two no definition (C99 6.7 p4, 6.9 p5)
+-- whether a declaration may stand after another of its name: of the same type, and one of the two no definition (C99 6.7 p4, 6.9 p5)
 abbrev pub is_compatible : Function → Function → Bool
 is_compatible f g = cond (nat_eq f.name g.name) (same_signature f g && not (is_definition f && is_definition g)) true
 
@@ -74,7 +74,7 @@ typed_heading s before f =
 abbrev pub typed_parameter : Scopes → Declaration → Checked Declaration
 typed_parameter s d = cond d.named (declarable s d) (where_so (is_object_type d.ctype) (no_type d.place) (Good d))
 
--- what is in sight behind a parameter
+-- what is in sight after a parameter
 abbrev pub with_parameter : Scopes → Declaration → Scopes
 with_parameter s d = cond d.named (with_object s d) s
 
@@ -86,7 +86,7 @@ abbrev pub typed_parameters : Scopes → List Declaration → Checked (List Decl
 typed_parameters s [] = Good []
 typed_parameters s (d ∷ ds) = one_part (typed_parameter s d) (λ d. one_part (typed_parameters (with_parameter s d) ds) (λ ds. Good (d ∷ ds)))
 
--- what is in sight in a function, itself included, behind these that stand before it (C99 6.2.1 p4, p7)
+-- what is in sight in a function, itself included, after these that stand before it (C99 6.2.1 p4, p7)
 abbrev pub function_scopes : TranslationUnit → List Function → Function → Scopes
 function_scopes p before f = record { names = p.names; functions = map (signature p.funcs) (before ++ f ∷ []); objects = []; innermost = 0 }
 
@@ -100,7 +100,7 @@ typed_function s before f =
     one_part (typed_heading s before f) (λ f. one_part (typed_parameters s f.params) (λ params.
     one_part (typed_body (with_parameters s params) f.result f.body) (λ b. Good (record f { params = params; body = b }))))
 
--- the functions behind these
+-- the functions after these
 abbrev pub typed_functions : TranslationUnit → List Function → List Function → Checked (List Function)
 typed_functions p before [] = Good []
 typed_functions p before (f ∷ fs) =

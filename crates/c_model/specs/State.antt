@@ -22,7 +22,7 @@ pub record Mark : Type 0 where
   pub scope : Scope
   pub store : Store
 
--- what comes behind the bytes of an input
+-- what comes after the bytes of an input
 pub data InputTail : Type 0 where
   EndOfInput : InputTail
   InputFault : InputTail
@@ -173,7 +173,7 @@ frame = λ s. cond (nat_lt s.calls most_frames) (Normal tt (record s { calls = s
 abbrev pub mark : Option ℕ → Evaluation (Unit {0})
 mark label = λ s. Normal tt (record s { marks = record { label = label; scope = s.scope; store = s.store } ∷ s.marks })
 
--- the state behind a block or a call: what was born inside is dead, and the names, marks and calls from before are back
+-- the state after a block or a call: what was born inside is dead, and the names, marks and calls from before are back
 abbrev pub back_to : State → State → State
 back_to old s = record s { store = kill_from (length old.store) s.store; scope = old.scope; marks = old.marks; calls = old.calls }
 

@@ -13,7 +13,7 @@ abbrev pub or_nothing : Option (List ℕ) → List ℕ
 or_nothing None = []
 or_nothing (Some w) = w
 
--- a punctuator, by its place in the list of all, the annotations' own behind the others
+-- a punctuator, by its place in the list of all, the annotations' own after the others
 abbrev pub mark_word : ℕ → List ℕ
 mark_word m = if nat_lt m (length marks) then or_nothing (slice_get marks m) else or_nothing (slice_get annotation_marks (m - length marks))
 

@@ -239,7 +239,7 @@ callee s at x = elim (object_named x s.objects) [
 abbrev pub argument : PlainType → Expression → Checked Expression
 argument t e = where_so (is_assigned (type_of e) t) (no_type (place_of e)) (Good (in_type t e))
 
--- the parameter behind those of the list
+-- the parameter after those of the list
 abbrev pub first_type : List PlainType → Option PlainType
 first_type [] = None
 first_type (t ∷ ts) = Some t
@@ -351,13 +351,13 @@ abbrev pub returned : Place → PlainType → Option Expression → Checked Stat
 returned at t None = where_so (same_type t Void) (no_type at) (Good (Return at None))
 returned at t (Some e) = where_so (is_assigned (type_of e) t) (no_type at) (Good (Return at (Some (in_type t e))))
 
--- what is in sight behind an item
+-- what is in sight after an item
 abbrev pub behind : Scopes → BlockItem → Scopes
 behind s (Declare ds) = with_objects s ds
 behind s (Run a) = s
 behind s (Asserts annots) = s
 
--- what is in sight behind the first part of a `for`
+-- what is in sight after the first part of a `for`
 abbrev pub behind_first : Scopes → ForFirst → Scopes
 behind_first s NoFirst = s
 behind_first s (First i) = behind s i

@@ -151,14 +151,14 @@ abbrev pub AreParameters : Scopes → List Declaration → Type 0
 AreParameters s [] = Unit {0}
 AreParameters s (d ∷ ds) = IsParameter s d × AreParameters (with_parameter s d) ds
 
--- a function behind these, with those in sight: its name is none of the library's
+-- a function after these, with those in sight: its name is none of the library's
 pub record FunctionTyped (s : Scopes) (before : List Function) (f : Function) : Type 0 where
   pub own_name : is_library_name (name_at s.names f.name) ≡ false
   pub compatible : is_compatible_with_all before f ≡ true
   pub params : AreParameters s f.params
   pub body : BodyTyped (with_parameters s f.params) f.result f.body
 
--- functions behind these
+-- functions after these
 abbrev pub FunctionsTyped : TranslationUnit → List Function → List Function → Type 0
 FunctionsTyped p before [] = Unit {0}
 FunctionsTyped p before (f ∷ fs) = FunctionTyped (function_scopes p before f) before f × FunctionsTyped p (before ++ f ∷ []) fs

@@ -30,7 +30,7 @@ abbrev pub OptionOnce : Type 0
 OptionOnce = (front : List (List ℕ)) (first : List ℕ) (between : List (List ℕ)) (second : List ℕ) (back : List (List ℕ)) → AreArguments front
     → AreArguments between → run_of (front ++ (with_steps first ∷ (between ++ (with_steps second ∷ back)))) ≡ None
 
--- behind `--` each word is an operand: alone it is the file, and two have no value
+-- after `--` each word is an operand: alone it is the file, and two have no value
 abbrev pub DashesEndOptions : Type 0
 DashesEndOptions = (word : List ℕ) → word ≢ [] → word ≢ codes "-" → run_of (codes "--" ∷ (word ∷ [])) ≡ Some (Run word 10000000 false)
 

@@ -1,13 +1,13 @@
 -- Ours: the command line of this program.
--- The job that the words of a command line ask for. The first word is the command. Behind it stand, in any order,
--- one file and each option of the command at most once. A `--` ends the options: each word behind it is an operand.
+-- The job that the words of a command line ask for. The first word is the command. After it stand, in any order,
+-- one file and each option of the command at most once. A `--` ends the options: each word after it is an operand.
 use Rattle.std.specs.Prelude.{ℕ, nat_le, Bool, true, false, ◌&&◌, not, if◌then◌else◌, nat_eq, List, [], ◌∷◌, ◌++◌, Option, Some, None, codes, bytes_eq}
 use Rattle.std.specs.Str.{all_ascii_digits}
 use Rattle.std.specs.Str.Parse.{digits_value}
 use Rattle.c_model.specs.declared.job.Job.{Job}
 use Rattle.c_model.specs.declared.job.Job.TheVariants.{Run, Instrument, Exec}
 
--- what stands behind a command: an operand, or the option `--steps` with its value
+-- what stands after a command: an operand, or the option `--steps` with its value
 pub data Argument : Type 0 where
   Operand : List ℕ → Argument
   Steps : List ℕ → Argument
@@ -18,12 +18,12 @@ abbrev pub ◌>>=◌ : {A B : Type 0} → Option A → (A → Option B) → Opti
 None >>= next = None
 (Some a) >>= next = next a
 
--- the words in front of the first `--`, all where there is none
+-- the words before the first `--`, all where there is none
 abbrev pub before_dashes : List (List ℕ) → List (List ℕ)
 before_dashes [] = []
 before_dashes (word ∷ words) = if bytes_eq word (codes "--") then [] else word ∷ before_dashes words
 
--- the words behind the first `--`, a second `--` among them, and none where there is no `--`
+-- the words after the first `--`, a second `--` among them, and none where there is no `--`
 abbrev pub behind_dashes : List (List ℕ) → List (List ℕ)
 behind_dashes [] = []
 behind_dashes (word ∷ words) = if bytes_eq word (codes "--") then words else behind_dashes words
@@ -42,8 +42,8 @@ operand word = elim (without_front (codes "-") word) [ Some rest ↦ None | None
 abbrev pub argument : List ℕ → Option Argument
 argument word = elim (without_front (codes "--steps=") word) [ Some value ↦ Some (Steps value) | None ↦ operand word ]
 
--- The arguments of the words in front of `--`. The value of `--steps` is the next word, whatever it looks like. Where
--- none comes next, as directly in front of `--`, there are no arguments.
+-- The arguments of the words before `--`. The value of `--steps` is the next word, whatever it looks like. Where
+-- none comes next, as directly before `--`, there are no arguments.
 abbrev mutual
   pub arguments : List (List ℕ) → Option (List Argument)
   arguments [] = Some []
@@ -85,7 +85,7 @@ file_of [] = None
 file_of (word ∷ []) = if is_empty word then None else (if bytes_eq word (codes "-") then None else Some word)
 file_of (word ∷ again ∷ more) = None
 
--- the job of the words behind a command with the option `--steps`
+-- the job of the words after a command with the option `--steps`
 abbrev pub timed : (List ℕ → ℕ → Job) → List (List ℕ) → Option Job
 timed job words = do
   found ← arguments (before_dashes words)
@@ -104,7 +104,7 @@ abbrev pub without_options : List (List ℕ) → Job → Option Job
 without_options [] job = Some job
 without_options (value ∷ more) job = None
 
--- the job of the words behind `instrument`, which has no option
+-- the job of the words after `instrument`, which has no option
 abbrev pub instrument_of : List (List ℕ) → Option Job
 instrument_of words = do
   found ← arguments (before_dashes words)

@@ -18,7 +18,7 @@ pub enum Piece {
     Head,
 }
 
-/// A piece at the front of a text, with so many bytes behind its first.
+/// A piece at the front of a text, with so many bytes after its first.
 #[derive(Clone, Copy, PartialEq, Eq, Debug)]
 pub struct Found {
     pub piece: Piece,

@@ -43,7 +43,7 @@ pub fn read_words(alloc: Global, words: &[String]) -> Result<Option<Job>, AllocE
     }
 }
 
-// The job of the words behind `run`.
+// The job of the words after `run`.
 fn read_run(alloc: Global, words: &[String]) -> Result<Option<Job>, AllocError>
     ensures { IfOk result (λ job. job ≡ run_of (map string_bytes words.now)) }
 {
@@ -60,7 +60,7 @@ fn read_run(alloc: Global, words: &[String]) -> Result<Option<Job>, AllocError>
     }
 }
 
-// The job of the words behind `exec`.
+// The job of the words after `exec`.
 fn read_exec(alloc: Global, words: &[String]) -> Result<Option<Job>, AllocError>
     ensures { IfOk result (λ job. job ≡ exec_of (map string_bytes words.now)) }
 {
@@ -73,7 +73,7 @@ fn read_exec(alloc: Global, words: &[String]) -> Result<Option<Job>, AllocError>
     }
 }
 
-// The job of the words behind `instrument`.
+// The job of the words after `instrument`.
 fn read_instrument(alloc: Global, words: &[String]) -> Result<Option<Job>, AllocError>
     ensures { IfOk result (λ job. job ≡ instrument_of (map string_bytes words.now)) }
 {
@@ -86,7 +86,7 @@ fn read_instrument(alloc: Global, words: &[String]) -> Result<Option<Job>, Alloc
     }
 }
 
-// The file and the number of steps of the words behind a command with the option `--steps`.
+// The file and the number of steps of the words after a command with the option `--steps`.
 fn timed_parts(words: &[String]) -> Option<(&str, u64)>
     ensures run { option_map (λ parts. Run parts.0.now parts.1 false) result ≡ run_of (map string_bytes words.now) }
     ensures exec { option_map (λ parts. Exec parts.0.now parts.1) result ≡ exec_of (map string_bytes words.now) }
@@ -98,7 +98,7 @@ fn timed_parts(words: &[String]) -> Option<(&str, u64)>
     Some((file, steps))
 }
 
-// The file of the words behind a command without options.
+// The file of the words after a command without options.
 fn untimed_part(words: &[String]) -> Option<&str>
     ensures { option_map (λ file. Instrument file.now false) result ≡ instrument_of (map string_bytes words.now) }
 {
@@ -111,7 +111,7 @@ fn untimed_part(words: &[String]) -> Option<&str>
     }
 }
 
-// The words in front of the first `--` and those behind it.
+// The words before the first `--` and those after it.
 fn split_at_dashes(words: &[String]) -> (&[String], &[String])
     ensures before { map string_bytes result.0.now ≡ before_dashes (map string_bytes words.now) }
     ensures behind { map string_bytes result.1.now ≡ behind_dashes (map string_bytes words.now) }
@@ -124,7 +124,7 @@ fn split_at_dashes(words: &[String]) -> (&[String], &[String])
     (words, &words[words.len()..])
 }
 
-// What the words in front of `--` give.
+// What the words before `--` give.
 fn read_arguments(words: &[String]) -> Option<Found<'_>>
     ensures { option_map plain_found result ≡ found_in (record { file = None; steps = None }) (map string_bytes words.now) }
 {

@@ -23,7 +23,7 @@ use Rattle.c_expr_parser.proofs.ExactExpressions.{closed_good}
 use Rattle.c_parser.proofs.ExactStatements.{ReadsStatements, more_statement, statement_of_good, items_good}
 use Rattle.c_parser.proofs.Openings.{opens}
 
--- what may stand in front of a type at file scope
+-- what may stand before a type at file scope
 abbrev storage : List ℕ
 storage = keyword_kind keyword.Static ∷ keyword_kind keyword.Const ∷ []
 
@@ -74,7 +74,7 @@ module _ (ws : Vocabulary) where
   unfolding more_parameters
   more_parameters_good p = declared (seq (again_and_again (mark_kind comma ∷ []) next_parameter_good refl (p ∷ [])) (λ ps. closed_good ws ps) refl) refl
 
-  -- what stands behind the first word of the parameters
+  -- what stands after the first word of the parameters
   abbrev behind_first : List ℕ
   behind_first = name_kind ∷ mark_kind comma ∷ mark_kind right_paren ∷ first_type
 

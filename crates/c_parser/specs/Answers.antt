@@ -15,7 +15,7 @@ pub record IsGrammarRefusal (ts : PlainTokens) (r : PlainRefusal) : Type 0 where
   pub found : IsSyntaxFault ts fault
   pub is : r ≡ syntax_refusal ts fault
 
--- nothing is said where memory was wanting
+-- nothing is said when memory ran out
 abbrev pub Refuses : FrontFault → PlainTokens → Type 0
 Refuses front.Memory ts = Unit {0}
 Refuses (front.Refused r) ts = IsGrammarRefusal ts (plain_refusal r)

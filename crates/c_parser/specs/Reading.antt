@@ -27,7 +27,7 @@ use Rattle.c_model.specs.ProgramGrammar.{assert_clause, ended, for_first, maybe_
 use Rattle.c_model.specs.ProgramGrammar.{storage_word, next_parameter, one_more_function, unit_with}
 use Rattle.c_expr_parser.specs.Reading.{plain_list}
 
--- what stands in front of the body of a `for`
+-- what stands before the body of a `for`
 pub record ForHeading : Type 0 where
   pub place : Place
   pub first : ForFirst
@@ -37,7 +37,7 @@ pub record ForHeading : Type 0 where
 abbrev pub for_with : ForHeading → Statement → Statement
 for_with h body = For h.place [] h.first h.condition h.step body
 
--- no token, with a statement and the counts behind it
+-- no token, with a statement and the counts after it
 abbrev pub counted : Statement → Counts → Syntax PlainToken (Statement × Counts)
 counted s n = gives (s, n)
 
@@ -54,7 +54,7 @@ module _ (ws : Vocabulary) where
   unfoldable pub sum_in_parentheses : Syntax PlainToken LogicTerm → Syntax PlainToken LogicTerm
   sum_in_parentheses E = mark ws left_paren then λ _. E then λ t. closed ws t
 
-  -- relation sum ";", behind "assert" and the left sum
+  -- relation sum ";", after "assert" and the left sum
   unfoldable pub assert_rest : ℕ → Place → LogicTerm → Syntax PlainToken Annotation
   assert_rest n at left =
       one (placed (mark_entry (relations ws))) then λ r. sum ws then λ right. mark ws semicolon then λ _. gives (assertion n at left r right)
@@ -67,7 +67,7 @@ module _ (ws : Vocabulary) where
   unfoldable pub continue_statement : Counted
   continue_statement n = reserved ws keyword.Continue then λ at. ended ws (Continue at, n)
 
-  -- what stands in front of the body of a `for`
+  -- what stands before the body of a `for`
   unfoldable pub for_heading : Counts → Syntax PlainToken (ForHeading × Counts)
   for_heading n =
       reserved ws keyword.For then λ at. mark ws left_paren then λ _. for_first ws n then λ first. maybe_ended ws then λ e. for_behind ws then λ behind.
@@ -79,11 +79,11 @@ module _ (ws : Vocabulary) where
       mark ws left_brace then λ start. items ws (statement_in ws (most_nested - 1)) ([], record { annotation = n; declarators = 0 }) then λ x.
       mark ws right_brace then λ close. gives ((Block start (block_items x.0), close), x.1.annotation)
 
-  -- ";", behind a `do` with its condition
+  -- ";", after a `do` with its condition
   abbrev pub ended_do : Place → Statement → Expression → Counts → Syntax PlainToken (Statement × Counts)
   ended_do at a e n = ended ws (Do at a e, n)
 
-  -- ---- repetitions, behind what is read
+  -- ---- repetitions, after what is read
 
   unfoldable pub more_terms : LogicTerm → Syntax PlainToken LogicTerm
   more_terms t = many (kind ws) (λ _. kinds_of (sum_operators ws)) (sum_once ws (sum ws)) t
@@ -116,7 +116,7 @@ plain_heading h = record {
 abbrev pub plain_body : Body → Statement × Place
 plain_body b = (plain_stmt b.block, b.close)
 
--- functions in a text with these names, and the tokens behind them
+-- functions in a text with these names, and the tokens after them
 abbrev pub plain_unit : List (List ℕ) → Vec Func Global × Bor (List Token) → TranslationUnit × List PlainToken
 plain_unit names x = (unit_with names (map plain_func x.0.items), plain_list x.1.now)
 

@@ -48,7 +48,7 @@ fn read_term(alloc: Global, place: Place, kind: TermKind) -> Result<Term, AllocE
     })
 }
 
-/// The term of this kind, behind which these tokens are left.
+/// The term of this kind, after which these tokens are left.
 fn with_term<'a>(
     alloc: Global,
     place: Place,
@@ -117,7 +117,7 @@ fn atom<'a>(
     }
 }
 
-/// `+` or `-` and its right operand, behind the left one.
+/// `+` or `-` and its right operand, after the left one.
 #[tactic(auto, unfolding(c_model::specs::ProgramGrammar::sum_once))]
 #[cycle(term)]
 fn sum_once<'a>(
@@ -135,7 +135,7 @@ fn sum_once<'a>(
     with_term(alloc, place, TermKind::Binary(op, left, right), rest)
 }
 
-/// The operators and operands behind the term that is read.
+/// The operators and operands after the term that is read.
 #[tactic(auto, using(crate::proofs::Steps::terms_turn, crate::proofs::Steps::terms_fails, crate::proofs::Steps::terms_ends))]
 #[cycle(term)]
 fn more_terms<'a>(
@@ -196,7 +196,7 @@ fn assertion(
     })
 }
 
-/// `relation sum ";"`, behind `assert` at this place and the left sum.
+/// `relation sum ";"`, after `assert` at this place and the left sum.
 #[tactic(auto, unfolding(crate::specs::Reading::assert_rest))]
 fn assert_rest<'a>(
     alloc: Global,
@@ -267,7 +267,7 @@ fn make_asserts(alloc: Global, clause: Annot) -> Result<Item, AllocFailed<Annot>
     Ok(Item::Asserts(clauses))
 }
 
-/// An annotation, which takes the next number and gives the one behind. Of more than 2^32 - 2 there is no number: then memory is wanting.
+/// An annotation, which takes the next number and gives the one after. Of more than 2^32 - 2 there is no number: then memory runs out.
 #[tactic(auto, unfolding(c_model::specs::ProgramGrammar::annotation, crate::specs::Reading::full_clause))]
 pub fn annotation<'a>(
     alloc: Global,

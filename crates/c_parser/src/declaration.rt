@@ -61,7 +61,7 @@ fn initialised(ctype: CType, name: u32, place: Place, equals: Place, e: Expr) ->
     }
 }
 
-/// `NAME "=" ( expr | call )`, behind the declarators of the same declaration.
+/// `NAME "=" ( expr | call )`, after the declarators of the same declaration.
 #[tactic(auto, unfolding(c_model::specs::ProgramGrammar::declarator))]
 fn declarator<'a>(
     alloc: Global,
@@ -103,7 +103,7 @@ fn next_declarator<'a>(
     declarator(alloc, words, ctype, all, counts, rest)
 }
 
-/// The declarators of the same declaration behind those that are read.
+/// The declarators of the same declaration after those that are read.
 #[tactic(auto, using(crate::proofs::Steps::declarators_turn, crate::proofs::Steps::declarators_fails, crate::proofs::Steps::declarators_ends, crate::proofs::Steps::declarators_shorter))]
 fn more_declarators<'a>(
     alloc: Global,

@@ -44,7 +44,7 @@ pub fn statement_at(alloc: Global, place: Place, kind: StmtKind) -> Result<Stmt,
     Ok(Stmt { place, kind })
 }
 
-/// The statement of this kind, behind which these tokens are left.
+/// The statement of this kind, after which these tokens are left.
 pub fn with_statement<'a>(
     alloc: Global,
     place: Place,
@@ -154,7 +154,7 @@ pub fn for_behind<'a>(
     }
 }
 
-/// What stands in front of the body of a `for`.
+/// What stands before the body of a `for`.
 #[derive(Drop)]
 pub struct ForHeading {
     pub place: Place,

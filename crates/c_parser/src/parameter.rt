@@ -32,7 +32,7 @@ fn parameter_with(ctype: CType, name: u32, place: Place, named: bool) -> Decl
     }
 }
 
-/// `[ NAME ]`, behind a parameter's type whose first word has this number and place.
+/// `[ NAME ]`, after a parameter's type whose first word has this number and place.
 #[tactic(auto, unfolding(c_model::specs::ProgramGrammar::parameter_name))]
 fn parameter_name<'a>(
     words: &[Word],
@@ -53,7 +53,7 @@ fn parameter_name<'a>(
     }
 }
 
-/// A parameter behind `void`, which stands at this place.
+/// A parameter after `void`, which stands at this place.
 #[tactic(auto, unfolding(c_model::specs::ProgramGrammar::void_parameter))]
 fn void_parameter<'a>(
     words: &[Word],
@@ -74,7 +74,7 @@ fn void_parameter<'a>(
     }
 }
 
-/// A parameter behind its first word.
+/// A parameter after its first word.
 #[tactic(auto, unfolding(c_model::specs::ProgramGrammar::parameter_behind))]
 fn parameter_behind<'a>(
     words: &[Word],
@@ -106,7 +106,7 @@ fn parameter<'a>(words: &[Word], tokens: &'a [Token]) -> Result<(Decl, &'a [Toke
     parameter_behind(words, start, number, place, rest)
 }
 
-/// `"," parameter`, behind the parameters that are read.
+/// `"," parameter`, after the parameters that are read.
 #[tactic(auto, unfolding(c_model::specs::ProgramGrammar::next_parameter))]
 fn next_parameter<'a>(
     words: &[Word],
@@ -123,7 +123,7 @@ fn next_parameter<'a>(
     Ok((all, rest))
 }
 
-/// The parameters behind those that are read.
+/// The parameters after those that are read.
 #[tactic(auto, using(crate::proofs::Steps::parameters_turn, crate::proofs::Steps::parameters_fails, crate::proofs::Steps::parameters_ends, crate::proofs::Steps::parameters_shorter))]
 fn further_parameters<'a>(
     words: &[Word],
@@ -143,7 +143,7 @@ fn further_parameters<'a>(
     Ok((all, rest))
 }
 
-/// `{ "," parameter } ")"`, behind the first one.
+/// `{ "," parameter } ")"`, after the first one.
 #[tactic(auto, unfolding(c_model::specs::ProgramGrammar::more_parameters, crate::specs::Reading::further_parameters, c_model::specs::ExpressionGrammar::closed))]
 fn more_parameters<'a>(
     alloc: Global,
@@ -161,7 +161,7 @@ fn more_parameters<'a>(
     Ok((all, rest))
 }
 
-/// `")"`, behind which there are no parameters.
+/// `")"`, after which there are no parameters.
 #[tactic(auto, unfolding(c_model::specs::ExpressionGrammar::closed))]
 fn no_parameters<'a>(
     alloc: Global,
@@ -174,7 +174,7 @@ fn no_parameters<'a>(
     Ok((Vec::new(alloc), rest))
 }
 
-/// What stands behind the first word, where `void` may be all there is.
+/// What stands after the first word, where `void` may be all there is.
 #[tactic(auto, unfolding(c_model::specs::ProgramGrammar::first_parameter))]
 fn first_parameter<'a>(
     alloc: Global,

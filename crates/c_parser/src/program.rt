@@ -48,7 +48,7 @@ fn storage_word<'a>(
     }
 }
 
-/// The words in front of a type behind those that are read.
+/// The words before a type after those that are read.
 #[tactic(auto, using(crate::proofs::Steps::storage_turn, crate::proofs::Steps::storage_fails, crate::proofs::Steps::storage_ends))]
 fn more_storage<'a>(
     words: &[Word],
@@ -80,7 +80,7 @@ fn result_type<'a>(words: &[Word], tokens: &'a [Token]) -> Result<(CType, &'a [T
     Ok((t, rest))
 }
 
-/// What stands in front of a function's body: its result, its name with its place, and its parameters.
+/// What stands before a function's body: its result, its name with its place, and its parameters.
 #[derive(Drop)]
 struct Heading {
     result: CType,
@@ -111,7 +111,7 @@ fn make_function(heading: Heading, body: Option<Stmt>, close: Place) -> Func
     }
 }
 
-/// A body, behind which the number of the next annotation goes on from this one.
+/// A body, after which the number of the next annotation goes on from this one.
 #[tactic(auto, unfolding(crate::specs::Reading::function_body))]
 fn function_body<'a>(
     alloc: Global,
@@ -133,7 +133,7 @@ fn function_body<'a>(
     Ok((Body { block, close }, counts.annotation, rest))
 }
 
-/// `";"`, or a body, behind which the number of the next annotation goes on from this one.
+/// `";"`, or a body, after which the number of the next annotation goes on from this one.
 #[tactic(auto, unfolding(c_model::specs::ProgramGrammar::function_rest, crate::specs::Reading::function_body))]
 fn function_rest<'a>(
     alloc: Global,
@@ -197,7 +197,7 @@ fn one_more_function<'a>(
     Ok((all, number, rest))
 }
 
-/// The functions and prototypes behind those that are read.
+/// The functions and prototypes after those that are read.
 #[tactic(auto, using(crate::proofs::Steps::functions_turn, crate::proofs::Steps::functions_fails, crate::proofs::Steps::functions_ends, crate::proofs::Steps::functions_shorter))]
 fn more_functions<'a>(
     alloc: Global,

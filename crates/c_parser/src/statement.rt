@@ -1,4 +1,4 @@
-//! Statements (C99 6.8), which take the counts in front of them and give those behind.
+//! Statements (C99 6.8), which take the counts before them and give those after.
 
 ghost use Rattle.std.specs.Prelude.{◌≡◌, map, IfOk};
 ghost use Rattle.c_syntax.specs.Expressions.{plain_expr};
@@ -138,7 +138,7 @@ fn empty_statement<'a>(
     with_statement(alloc, place, StmtKind::Empty, counts, rest)
 }
 
-/// `"else" stmt`, behind an `if` with its first branch.
+/// `"else" stmt`, after an `if` with its first branch.
 #[tactic(auto, unfolding(c_model::specs::ProgramGrammar::else_branch))]
 #[cycle(statement)]
 fn else_branch<'a>(
@@ -226,7 +226,7 @@ fn while_loop<'a>(
     with_statement(alloc, place, kind, counts, rest)
 }
 
-/// `";"`, behind a `do` with its condition.
+/// `";"`, after a `do` with its condition.
 #[tactic(auto, unfolding(c_model::specs::ProgramGrammar::ended))]
 fn ended_do<'a>(
     alloc: Global,
@@ -327,7 +327,7 @@ fn items_once<'a>(
     Ok((all, counts, rest))
 }
 
-/// The items behind those that are read.
+/// The items after those that are read.
 #[tactic(auto, using(crate::proofs::Steps::items_turn, crate::proofs::Steps::items_fails, crate::proofs::Steps::items_ends, crate::proofs::Steps::items_shorter))]
 #[cycle(statement)]
 pub fn items<'a>(

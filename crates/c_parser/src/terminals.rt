@@ -168,7 +168,7 @@ pub fn next_is_jump(words: &[Word], tokens: &[Token]) -> bool
     }
 }
 
-/// Whether a word comes next that may stand in front of a type at file scope, where `static` was read or not.
+/// Whether a word comes next that may stand before a type at file scope, where `static` was read or not.
 pub fn next_is_storage(words: &[Word], seen: bool, tokens: &[Token]) -> bool
     ensures { result ≡ sees (kind words.now) (storage_words words.now seen) (plain_list tokens.now) }
 {

@@ -19,7 +19,7 @@ abbrev fault_or : SinkFault → Option SinkFault → SinkFault
 fault_or other None = other
 fault_or other (Some fault) = fault
 
--- ---- two parts, one behind the other
+-- ---- two parts, one after the other
 
 behind_whole : {p q r : Pipe} {a b : List ℕ} → p.refusal ≡ None → q.refusal ≡ None → Wrote p.port q.port a → Printed q r b → Printed p r (a ++ b)
 behind_whole p0 q0 w (Whole _ r0 v) = Whole p0 r0 (wrote_wrote w v)

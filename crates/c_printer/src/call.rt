@@ -66,7 +66,7 @@ pub fn callee<'a>(named: &Named<'a>, f: u32) -> &'a [u8]
     }
 }
 
-// The arguments behind the first.
+// The arguments after the first.
 fn more_arguments<O: Sink>(list: &[MonExpr], named: &Named<'_>, to: &mut Writer, out: &mut O)
     ensures { Printed (pipe_of (O.told out.old) to.old (O.faults out.old)) (pipe_of (O.told out.new) to.new (O.faults out.new))
         (spelled (more_arguments (registers_of named.now) (map plain_expr list.now))) }

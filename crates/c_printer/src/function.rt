@@ -23,7 +23,7 @@ fn declared<O: Sink>(r: &Register, to: &mut Writer, out: &mut O)
     to.write_three(out, type_word(r.kind).as_bytes(), b" ", r.name.bytes());
 }
 
-// The parameters behind the first.
+// The parameters after the first.
 fn more_parameters<O: Sink>(list: &[Register], to: &mut Writer, out: &mut O)
     ensures { Printed (pipe_of (O.told out.old) to.old (O.faults out.old)) (pipe_of (O.told out.new) to.new (O.faults out.new))
         (spelled (more_parameters (map plain_register list.now))) }

@@ -1,4 +1,4 @@
-//! The ends of lines, and the blanks in front of the next.
+//! The ends of lines, and the blanks before the next.
 
 ghost use Rattle.std.specs.Prelude.{◌*◌, ◌++◌, replicate, codes};
 ghost use Rattle.mon_syntax.specs.Text.{new_line, spelled_piece};
@@ -29,7 +29,7 @@ fn indent<O: Sink>(depth: &Depth<'_>, to: &mut Writer, out: &mut O)
     }
 }
 
-/// The end of a line, and the blanks in front of the next one.
+/// The end of a line, and the blanks before the next one.
 pub fn line<O: Sink>(depth: &Depth<'_>, to: &mut Writer, out: &mut O)
     ensures { Printed (pipe_of (O.told out.old) to.old (O.faults out.old)) (pipe_of (O.told out.new) to.new (O.faults out.new))
         (spelled_piece (new_line (depth_of depth.now))) }

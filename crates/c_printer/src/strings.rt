@@ -47,7 +47,7 @@ pub fn number<O: Sink>(n: u32, to: &mut Writer, out: &mut O)
     to.write(out, itoa::Buffer::new().format(n).as_bytes());
 }
 
-/// A number in decimal, behind a `-` where it is below 0.
+/// A number in decimal, after a `-` where it is below 0.
 pub fn signed_number<O: Sink>(z: i128, to: &mut Writer, out: &mut O)
     ensures { Printed (pipe_of (O.told out.old) to.old (O.faults out.old)) (pipe_of (O.told out.new) to.new (O.faults out.new)) (spelled (number_pieces z)) }
 {

@@ -37,7 +37,7 @@ impl Writer {
         }
     }
 
-    /// Writes some bytes and others behind them.
+    /// Writes some bytes and others after them.
     pub fn write_three<O: Sink>(&mut self, out: &mut O, first: &[u8], second: &[u8], third: &[u8])
         ensures { Printed (pipe_of (O.told out.old) self.old (O.faults out.old)) (pipe_of (O.told out.new) self.new (O.faults out.new))
             (first.now ++ (second.now ++ third.now)) }

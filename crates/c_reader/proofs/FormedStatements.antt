@@ -43,7 +43,7 @@ declared_behind [] i = append-nil (declared_in_item i)
 declared_behind (j ∷ l) i = ap (λ (w : List Declaration). declared_in_item j ++ w) (declared_behind l i) ∙ sym (append_assoc (declared_in_item j) (declared_in_items (block_items l)) (declared_in_item i))
 
 module _ (size : ℕ) (ws : Vocabulary) where
-  -- a statement d deep at most, behind the offset l and c declarators of its function
+  -- a statement d deep at most, after the offset l and c declarators of its function
   pub record IsWithin (d l c n : ℕ) (x : Statement × Counts) : Type 0 where
     pub is : StatementRead x.0
     pub deep : depth x.0 ≤ d

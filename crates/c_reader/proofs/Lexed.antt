@@ -202,7 +202,7 @@ tokens_lexed text tokens e = build_lexed nothing_read (pieces_of text) tokens tt
 
 -- ---- places
 
--- the offset behind the last token
+-- the offset after the last token
 abbrev last_end : ℕ → List PlainToken → ℕ
 last_end l [] = l
 last_end l (t ∷ ts) = last_end (suc t.place.offset) ts

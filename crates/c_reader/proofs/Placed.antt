@@ -5,12 +5,12 @@ use Rattle.grammar.specs.Syntax.{Syntax, none, gives, one, ◌then◌, choice, l
 use Rattle.c_syntax.specs.Tokens.{PlainToken}
 use Rattle.c_reader.proofs.FormedExpressions.{IsLexed, Each}
 
--- tokens from the offset l on, each behind the one before, up to the offset n
+-- tokens from the offset l on, each after the one before, up to the offset n
 abbrev pub Reach : ℕ → List PlainToken → ℕ → Type 0
 Reach l [] n = l ≡ n
 Reach l (t ∷ ts) n = (l ≤ t.place.offset) × Reach (suc t.place.offset) ts n
 
--- each value that G reads of such tokens from the offset l on is P at the offset behind them
+-- each value that G reads of such tokens from the offset l on is P at the offset after them
 pub record From (size l : ℕ) {A : Type 0} (G : Syntax PlainToken A) (P : ℕ → A → Type 0) : Type 0 where
   pub holds : (a : List PlainToken) (x : A) (n : ℕ) → AllByRecursion (IsLexed size) a → Reach l a n → G.reads a x → P n x
 
@@ -43,7 +43,7 @@ from_gives {size} {l} {A} {P} x p = record {
   holds = λ a y n o s r. let end : l ≡ n = subst (λ (w : List PlainToken). Reach l w n) r.0 s in subst (λ m. P m y) end (subst (P l) r.1 p);
 }
 
--- a token, from its place to behind it
+-- a token, from its place to after it
 pub from_one : {size l : ℕ} {A : Type 0} {P : ℕ → A → Type 0} (f : PlainToken → Option A) → ((t : PlainToken) (x : A) → IsLexed size t → l ≤ t.place.offset → f t ≡ Some x → P (suc t.place.offset) x) → From size l (one f) P
 from_one {size} {l} {A} {P} f h = record {
   holds = λ a x n o s r.

@@ -16,7 +16,7 @@ use Rattle.c_typing.specs.declared.checked.ProgramFault.{ProgramFault}
 use Rattle.c_typing.specs.declared.checked.ProgramFault.TheVariants as cause
 use Rattle.c_type_rules.specs.Answers.{plain_fault}
 
--- a refusal is the text's; nothing is said where memory was wanting
+-- a refusal is the text's; nothing is said when memory ran out
 abbrev pub Refuses : FrontFault → List ℕ → Type 0
 Refuses front.Memory text = Unit {0}
 Refuses (front.Refused r) text = RefusedText text (plain_refusal r)

@@ -21,7 +21,7 @@ pub record Declaration : Type 0 where
   pub name : ℕ
   pub named : Bool
   pub ctype : PlainType
-  -- the place of its `=`, and what stands behind it
+  -- the place of its `=`, and what stands after it
   pub init : Option (Place × Initialiser)
 
 mutual

@@ -58,7 +58,7 @@ pub enum TermKind {
     Binary(BinOp, Term, Term),
 }
 
-/// One step of a chain of relations: the relation's token, and the term behind it.
+/// One step of a chain of relations: the relation's token, and the term after it.
 #[derive(Drop)]
 pub struct Link {
     pub place: Place,

@@ -51,7 +51,7 @@ pub enum BinOp {
     Ge,
 }
 
-/// `++` and `--` in front of their operand (C99 6.5.3.1) and behind it (C99 6.5.2.4).
+/// `++` and `--` before their operand (C99 6.5.3.1) and after it (C99 6.5.2.4).
 #[derive(Clone, Copy, PartialEq, Eq, Debug)]
 pub enum BumpOp {
     PreUp,

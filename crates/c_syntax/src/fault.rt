@@ -16,7 +16,7 @@ pub enum Limit {
 
 #[derive(Clone, Copy, PartialEq, Eq, Debug, Drop)]
 pub enum ReadFault {
-    /// The first of so many tokens that are left can't follow, or one was wanting behind the last.
+    /// The first of so many tokens that are left can't follow, or one was wanting after the last.
     At(usize),
     /// The first of so many tokens that are left passes the limit.
     Over(Limit, usize),

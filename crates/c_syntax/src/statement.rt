@@ -20,7 +20,7 @@ pub struct Decl {
     /// Whether it has a name.
     pub named: bool,
     pub ctype: CType,
-    /// The place of its `=`, and what stands behind it.
+    /// The place of its `=`, and what stands after it.
     pub init: Option<(Place, Init)>,
 }
 

@@ -13,7 +13,7 @@ pub enum TokenKind {
     Number(i128, Option<CInt>),
     /// A character literal by its value as a signed `char` (C99 6.4.4.4).
     Letter(i8),
-    /// A string literal by its bytes, without the 0 behind them (C99 6.4.5).
+    /// A string literal by its bytes, without the 0 after them (C99 6.4.5).
     Chars(Name),
     /// A punctuator (C99 6.4.6), by its place in the list of all, from 0.
     Mark(u8),
@@ -39,6 +39,6 @@ pub struct Tokens {
     pub list: Vec<Token>,
     /// The distinct names of the text in order of first use.
     pub names: Vec<Name>,
-    /// The place behind the last byte.
+    /// The place after the last byte.
     pub end: Place,
 }

@@ -175,7 +175,7 @@ module _ (s : plain.Scopes) (at : Place) (x : ℕ) (es es' : Expressions) (rc : 
 
 -- ---- lists of arguments
 
--- the parameters behind as many arguments
+-- the parameters after as many arguments
 abbrev pub params_behind : {A : Type 0} → List A → List PlainType → List PlainType
 params_behind [] ts = ts
 params_behind (x ∷ xs) ts = params_behind xs (rest_types ts)

@@ -42,7 +42,7 @@ module _ {A : Type 0}
     pub done : (cur : List A) (i : ℕ) (y : A) → i < length cur → take (i + 1) (slice_set cur i y) ≡ take i cur ++ y ∷ []
     done cur i y lt = take_more_set cur i y lt
 
-    -- behind the last
+    -- after the last
     pub none_left : (old : List A) (i : ℕ) → length old ≤ i → drop i old ≡ []
     none_left old i le = drop_all i old le
 

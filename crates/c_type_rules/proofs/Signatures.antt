@@ -87,7 +87,7 @@ first_kept fs more f firsts is known first x =
         let there : is_some (lookup (nat_eq x) firsts) ≡ true = subst (λ y. is_some (lookup (nat_eq y) firsts) ≡ true) (sym same) known in
         let z : false ≡ true = ap is_some (sym eo) ∙ there in absurd cc
 
--- a new name has the function behind all
+-- a new name has the function after all
 pub first_new : (fs more : List Signature) (f : Signature) (firsts firsts1 : List (ℕ × ℕ)) (name n : ℕ) → more ≡ fs ++ f ∷ [] → name ≡ f.name → n ≡ length fs → is_some (lookup (nat_eq name) firsts) ≡ false
     → ((x : ℕ) → lookup (nat_eq x) firsts1 ≡ cond (nat_eq name x) (Some n) (lookup (nat_eq x) firsts)) → AreFirst fs firsts → AreFirst more firsts1
 first_new fs more f firsts firsts1 name n is named count fresh with_it first x =

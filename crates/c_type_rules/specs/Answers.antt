@@ -1,5 +1,5 @@
 -- Ours: how the code compares with the typing of C99 6.5 that stands in c_model/specs/Typing.
--- What a function returned is what the definition gives, unless memory was wanting.
+-- What a function returned is what the definition gives, unless memory ran out.
 use Rattle.std.specs.Prelude.{◌≡◌, Some, cond, nat_lt, Result, Ok, Err}
 use Rattle.c_model.specs.Checked.{Checked, Good, refusing, rank}
 use Rattle.c_model.specs.Checked as plain

@@ -51,6 +51,6 @@ built_or_not at w (Some f) = callable at w f
 abbrev pub library_callee : Place → ℕ → List ℕ → Checked plain.Signature
 library_callee at x w = built_or_not at w (plain.library_function x w)
 
--- what is in sight behind a block, around which so many objects are
+-- what is in sight after a block, around which so many objects are
 abbrev pub left : ℕ → ℕ → plain.Scopes → plain.Scopes
 left count innermost s = record s { objects = take count s.objects; innermost = innermost }

@@ -133,7 +133,7 @@ fn type_argument(
     argument_for(alloc, params, e)
 }
 
-/// The parameters behind the first.
+/// The parameters after the first.
 fn behind_first(params: &[CType]) -> &[CType]
     ensures { map plain_type result.now ≡ rest_types (map plain_type params.now) }
 {

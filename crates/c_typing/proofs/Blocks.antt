@@ -1,4 +1,4 @@
--- Blocks: their items one after another, and what is in sight behind them.
+-- Blocks: their items one after another, and what is in sight after them.
 use Rattle.std.proofs.Common.{◌≡◌, ℕ, List, [], ◌∷◌, ◌++◌, refl, sym, ap, ◌∙◌, append_assoc, length, Bool, true, false, cond, Err}
 use Rattle.std.proofs.lemmas.List.{append-nil}
 use Rattle.std.proofs.Math.Seq.{take-append_seam}
@@ -25,7 +25,7 @@ append_in_turn : (is js ks : BlockItems) → append (append is js) ks ≡ append
 append_in_turn NoItem js ks = refl
 append_in_turn (Then i is) js ks = ap (Then i) (append_in_turn is js ks)
 
--- items in front of those of a block
+-- items before those of a block
 abbrev pub behind_block : BlockItems → Checked BlockItems → Checked BlockItems
 behind_block done c = one_part c (λ rest. Good (append done rest))
 
@@ -60,13 +60,13 @@ behind_snoc : (s : Scopes) (is : BlockItems) (i : BlockItem) → behind_items s 
 behind_snoc s NoItem i = refl
 behind_snoc s (Then j js) i = behind_snoc (behind s j) js i
 
--- what is in sight behind one more item
+-- what is in sight after one more item
 pub sight_more : (s t t' : Scopes) (done done' : List Item) (x : Item) → t ≡ behind_items s (plain_items done) → t' ≡ behind t (plain_item x) → done' ≡ done ++ x ∷ [] → t' ≡ behind_items s (plain_items done')
 sight_more s t t' done done' x before now more =
     now ∙ ap (λ u. behind u (plain_item x)) before ∙ sym (behind_snoc s (plain_items done) (plain_item x))
     ∙ ap (behind_items s) (sym (ap plain_items more ∙ plain_snoc done x))
 
--- ---- what is in sight behind a block
+-- ---- what is in sight after a block
 
 -- more objects, and another innermost scope
 abbrev wider : Scopes → ℕ → List Object → Scopes
@@ -108,7 +108,7 @@ widens_first s t (First i) w = widens_behind s t i w
 left_wider : (s t : Scopes) → Widens s t → left (length s.objects) s.innermost t ≡ s
 left_wider s t w = ap (left (length s.objects) s.innermost) w.is ∙ ap (λ os. record s { objects = os }) (take-append_seam s.objects w.more)
 
--- behind a block what was in sight before it is
+-- after a block what was in sight before it is
 pub left_block : (s : Scopes) (is : BlockItems) → left (length s.objects) s.innermost (behind_items (inner s) is) ≡ s
 left_block s is = left_wider s _ (widens_items s (inner s) is (widens_inner s))
 

@@ -49,7 +49,7 @@ module _ (s : Scopes) (at : Place) (k : StmtKind) (v w : Vec Item Global) (resul
         (subst (λ b. Answers (λ (u : Unit {0}). Some b) (noted_body s (Some (Block at (plain_items v.items)))) result) (sym (block_is at w))
         (made_of (λ is. Some (Block at is)) (λ (u : Unit {0}). plain_items w.items) (noted_items s (plain_items v.items)) result h))
 
--- behind a function's parameters and its body is what was before them
+-- after a function's parameters and its body is what was before them
 pub parts_left : (s u v : Scopes) (count innermost : ℕ) (ds : List Declaration) → count ≡ length s.objects → innermost ≡ s.innermost → u ≡ with_parameters s ds → v ≡ left count innermost u → v ≡ s
 parts_left s u v count innermost ds counted kept sight ends =
     ends ∙ ap (λ n. left n innermost u) counted ∙ ap (λ n. left (length s.objects) n u) kept ∙ ap (left (length s.objects) s.innermost) sight ∙ left_parameters s ds

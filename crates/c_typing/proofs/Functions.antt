@@ -67,7 +67,7 @@ parts_are s f =
     by (Good u) = refl
     by (Bad g gs) = refl
 
--- what is in sight behind these functions of a file
+-- what is in sight after these functions of a file
 abbrev pub behind_functions : TranslationUnit → List Function → Scopes
 behind_functions p before = record { names = p.names; functions = map (signature p.funcs) before; objects = []; innermost = 0 }
 
@@ -118,7 +118,7 @@ heading_then : (p : Unit {0} → Function) (m : Checked (Unit {0})) (c : Checked
 heading_then p m c (Ok u) r is a = one_then (λ u. c) (λ (u : Unit {0}). tt) p m u r is a
 heading_then p m c (Err e) r is a = subst (Answers p (one_part m (λ u. c))) (sym a) (one_refused (λ u. c) (λ (u : Unit {0}). tt) p m e is)
 
--- a function behind others, as the definition has it
+-- a function after others, as the definition has it
 function_is : (p : TranslationUnit) (before rest : List Function) (f : Function) → p.funcs ≡ before ++ f ∷ rest
     → one_part (checked_heading (behind_functions p before) (known before) f) (λ u. checked_parts (with_function (denoted p.funcs) (behind_functions p before) f) f) ≡ typed_function (function_scopes p before f) before f
 function_is p before rest f is =
@@ -137,7 +137,7 @@ module _ (p : TranslationUnit) (xs : List Func) (f : Func) (rest : List Func) (a
     in_order : p.funcs ≡ those_before ++ plain_func f ∷ map plain_func rest
     in_order = all ∙ map-append plain_func xs (f ∷ rest)
 
-    -- what is in sight behind one more function
+    -- what is in sight after one more function
     pub sight_more : (ds : ℕ → Option Callee) (s s' : Scopes) → ((x : ℕ) → ds x ≡ denoted p.funcs x) → s ≡ behind_functions p those_before → s' ≡ with_function ds s (plain_func f) → at_file s' ≡ behind_functions p (map plain_func (xs ++ f ∷ []))
     sight_more ds s s' told is sees =
         ap at_file (sees ∙ (λ i. with_function (λ x. told x i) (is i) (plain_func f)) ∙ sight_is p those_before (map plain_func rest) (plain_func f) in_order)

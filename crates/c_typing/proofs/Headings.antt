@@ -15,7 +15,7 @@ use Rattle.c_typing.specs.Functions.{denoted_by, denoted, told, was_defined, ali
 
 -- ---- what names denote
 
--- what a name denotes behind these functions
+-- what a name denotes after these functions
 abbrev pub told_from : Option Callee → List Function → ℕ → Option Callee
 told_from o [] x = o
 told_from o (f ∷ fs) x = told_from (cond (nat_eq f.name x) (told o f) o) fs x
@@ -374,7 +374,7 @@ module _ (all : List Function) (f : Function)
     types [] = true
     types (g ∷ gs) = cond (nat_eq g.name f.name) (same_signature g f) true && types gs
 
-    -- the type, and the definitions: this one, those behind it, and the new one
+    -- the type, and the definitions: this one, those after it, and the new one
     both_fit : (s t this those new : Bool) → ((s && not (this && new)) && (t && not (new && those))) ≡ ((s && t) && not (new && (this || those)))
     both_fit false t this those new = refl
     both_fit true false true those true = refl

@@ -6,7 +6,7 @@ use Rattle.c_type_rules.specs.declared.fault.TypeFault.{TypeFault}
 use Rattle.c_type_rules.specs.Answers.{Answers}
 use Rattle.c_type_rules.proofs.Least.{one_refused}
 
--- parts in front of those of a list
+-- parts before those of a list
 abbrev pub behind_parts : {A : Type 0} → List A → Checked (List A) → Checked (List A)
 behind_parts done c = one_part c (λ rest. Good (done ++ rest))
 

@@ -92,7 +92,7 @@ is_defined (Some d) = d.defined
 abbrev pub declared : Option Callee → Function → Signature
 declared o f = record { name = f.name; decl = decl_or o f.place.offset; defined = is_defined o; params = types_of f.params; result = f.result }
 
--- what is in sight behind a function's heading
+-- what is in sight after a function's heading
 abbrev pub with_function : (ℕ → Option Callee) → Scopes → Function → Scopes
 with_function numbers s f = record s { functions = s.functions ++ declared (numbers f.name) f ∷ [] }
 

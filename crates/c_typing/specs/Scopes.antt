@@ -1,10 +1,10 @@
 -- Ours: how scopes grow, as C99 6.2.1 p7 says.
--- What is in sight behind parts.
+-- What is in sight after parts.
 use Rattle.std.specs.Prelude.{ℕ, List, []}
 use Rattle.c_syntax.specs.Statements.{BlockItems, NoItem, Then}
 use Rattle.c_model.specs.Typing.{Scopes, behind}
 
--- what is in sight behind items
+-- what is in sight after items
 abbrev pub behind_items : Scopes → BlockItems → Scopes
 behind_items s NoItem = s
 behind_items s (Then i rest) = behind_items (behind s i) rest

@@ -98,7 +98,7 @@ pub fn declare(scopes: &mut Scopes, d: &Decl) -> Result<(), AllocError>
     Ok(())
 }
 
-/// Types declarations, each in sight of those behind it.
+/// Types declarations, each in sight of those after it.
 pub fn type_declarations(
     alloc: Global,
     scopes: &mut Scopes,

@@ -120,7 +120,7 @@ fn end_function(scopes: &mut Scopes)
     scopes.innermost = 0;
 }
 
-/// A function that is in sight, by what its heading is found to be. No object is in sight behind it.
+/// A function that is in sight, by what its heading is found to be. No object is in sight after it.
 fn type_function(
     alloc: Global,
     scopes: &mut Scopes,
@@ -161,7 +161,7 @@ fn type_each(
     done
 }
 
-/// Types functions, each in sight of those behind it. The names of the text stay as they were.
+/// Types functions, each in sight of those after it. The names of the text stay as they were.
 pub fn type_functions(
     alloc: Global,
     scopes: &mut Scopes,

@@ -157,7 +157,7 @@ fn is_alike(functions: &Functions, names: &IndexMap<u32, Noted>, f: &Func) -> bo
     }
 }
 
-/// Keeps that a function's name is declared behind these functions.
+/// Keeps that a function's name is declared after these functions.
 pub fn note_name(
     functions: &Functions,
     names: &mut IndexMap<u32, Noted>,
@@ -209,7 +209,7 @@ fn signature(
     })
 }
 
-/// Brings a function in sight: of itself, and of those behind it (C99 6.2.1 p7).
+/// Brings a function in sight: of itself, and of those after it (C99 6.2.1 p7).
 pub fn see_function(
     alloc: Global,
     scopes: &mut Scopes,

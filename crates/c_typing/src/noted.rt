@@ -46,7 +46,7 @@ fn see_first(scopes: &mut Scopes, first: &Option<Item>) -> Result<(), AllocError
     }
 }
 
-/// Types the annotations of a statement, or gives their first fault. What was in sight before is in sight behind it.
+/// Types the annotations of a statement, or gives their first fault. What was in sight before is in sight after it.
 #[cycle(noted)]
 pub fn note_statement(scopes: &mut Scopes, s: &mut Stmt) -> Result<(), TypeFault>
     ensures noted { Answers (λ _. plain_stmt s.new) (noted_statement (plain_scopes scopes.old) (plain_stmt s.old)) result }
@@ -114,7 +114,7 @@ fn note_item(scopes: &mut Scopes, item: &mut Item) -> Result<(), TypeFault>
     }
 }
 
-/// Types the annotations of the items of a block, each in sight of those behind it.
+/// Types the annotations of the items of a block, each in sight of those after it.
 #[cycle(noted)]
 fn note_items(scopes: &mut Scopes, items: &mut Vec<Item>) -> Result<(), TypeFault>
     ensures noted { Answers (λ _. plain_items items.new.items) (noted_items (plain_scopes scopes.old) (plain_items items.old.items)) result }
@@ -211,7 +211,7 @@ fn note_each(
     Ok(())
 }
 
-/// The annotations of functions, each in sight of those behind it.
+/// The annotations of functions, each in sight of those after it.
 fn note_functions(
     alloc: Global,
     scopes: &mut Scopes,

@@ -37,7 +37,7 @@ fn see_parameter(scopes: &mut Scopes, d: &Decl) -> Result<(), AllocError>
     if d.named { declare(scopes, d) } else { Ok(()) }
 }
 
-/// Checks parameters, and brings each in sight of those behind it.
+/// Checks parameters, and brings each in sight of those after it.
 pub fn check_parameters(scopes: &mut Scopes, params: &[Decl]) -> Result<(), TypeFault>
     ensures checked { Answers (λ _. tt) (checked_parameters (plain_scopes scopes.old) (map plain_decl params.now)) result }
     ensures behind { OnOk result (plain_scopes scopes.new ≡ with_parameters (plain_scopes scopes.old) (map plain_decl params.now)) }

@@ -120,7 +120,7 @@ fn jump(place: Place, around: &Around) -> Result<(), TypeFault>
     }
 }
 
-/// Types a statement, or gives its first fault. What was in sight before is in sight behind it.
+/// Types a statement, or gives its first fault. What was in sight before is in sight after it.
 #[cycle(statement)]
 pub fn type_statement(
     alloc: Global,
@@ -240,7 +240,7 @@ fn type_item(
     }
 }
 
-/// Types the items of a block, each in sight of those behind it.
+/// Types the items of a block, each in sight of those after it.
 #[cycle(statement)]
 pub fn type_items(
     alloc: Global,

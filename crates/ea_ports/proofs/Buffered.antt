@@ -65,7 +65,7 @@ last_set (x ∷ y ∷ room) n byte h =
     let f : length (y ∷ room) ≡ (n - 1) + 1 = omega (arith, h) in
     rw e (ap (λ l. x ∷ l) (last_set (y ∷ room) (n - 1) byte f))
 
--- bytes behind those at which the sink refused are lost too
+-- bytes after those at which the sink refused are lost too
 pub lost_more : {p : Port} {told : Option (List ℕ)} {faults : ℕ} {fault : SinkFault} {a : List ℕ} (b : List ℕ) → Lost p told faults a fault → Lost p told faults (a ++ b) fault
 lost_more {p} {a = a} b v = record {
   sent = v.sent;

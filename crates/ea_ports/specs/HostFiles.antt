@@ -31,7 +31,7 @@ FollowsOpened remaining limit (Err error) result = result ≡ Err (fault_of (err
 abbrev pub LosesAtMost : Option (List ℕ) → Option (List ℕ) → ℕ → Type 0
 LosesAtMost left rest most = (lost : List ℕ) × Consumes left rest lost × (length lost ≤ most)
 
--- one read puts its piece behind the bytes that are there, and is empty only at the end
+-- one read puts its piece after the bytes that are there, and is empty only at the end
 abbrev pub ReadsPiece : Option (List ℕ) → Option (List ℕ) → List ℕ → List ℕ → Result ℕ FetchFault → Type 0
 ReadsPiece left rest old new (Ok n) =
     (piece : List ℕ) × (new ≡ old ++ piece) × (length piece ≡ n) × Consumes left rest piece × (n ≡ 0 → IsAtEnd rest)
@@ -44,7 +44,7 @@ Reads old new (Ok (Some byte)) = Consumes old new (byte ∷ [])
 Reads old new (Ok None) = Consumes old new [] × IsAtEnd new
 Reads old new (Err fault) = Keeps old new
 
--- all bytes go behind those that a writer is known to hold, or a prefix of them at an error
+-- all bytes go after those that a writer is known to hold, or a prefix of them at an error
 abbrev pub Writes : {T E : Type 0} → Option (List ℕ) → Option (List ℕ) → List ℕ → Result T E → Type 0
 Writes old new bytes (Ok done) = Appends old new bytes
 Writes old new bytes (Err fault) = (k : ℕ) × Appends old new (take k bytes)

@@ -19,7 +19,7 @@ raised count = min (count + 1) (2 ^ 64 - 1)
 abbrev pub Rose : ℕ → ℕ → Type 0
 Rose before now = (before ≤ now) × (raised before ≤ now)
 
--- these bytes behind what is told; what isn't told stays so
+-- these bytes after what is told; what isn't told stays so
 abbrev pub more : Option (List ℕ) → List ℕ → Option (List ℕ)
 more None bytes = None
 more (Some old) bytes = Some (old ++ bytes)

@@ -18,7 +18,7 @@ fn content<'a>(files: &'a [(String, Vec<u8>)], name: &str) -> Option<&'a [u8]>
     None
 }
 
-// A fetch from these files, which doesn't fail save for want of memory.
+// A fetch from these files, which doesn't fail save for being out of memory.
 pub fn fetch_from(
     files: &[(String, Vec<u8>)],
     alloc: Global,

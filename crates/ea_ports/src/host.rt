@@ -16,7 +16,7 @@ use std::{fs, io};
 const PIECE: usize = 4096;
 
 /// A folder over the host's files, each name a path. Besides the errors of the host it counts a file that is
-/// absent or over the limit, and want of memory not at all.
+/// absent or over the limit, and being out of memory not at all.
 #[derive(Drop)]
 pub struct FileFolder<R> {
     rt: R,
@@ -101,7 +101,7 @@ fn read_within<F: Read>(file: &mut F, alloc: Global, limit: usize) -> Result<Vec
     Err(FetchFault::TooLong)
 }
 
-// One read of at most `room` bytes, put behind those that are there. It gives their number, 0 at the end.
+// One read of at most `room` bytes, put after those that are there. It gives their number, 0 at the end.
 fn read_piece<F: Read>(file: &mut F, bytes: &mut Vec<u8>, room: usize) -> Result<usize, FetchFault>
     requires some { 0 < room }
     requires most { room ≤ PIECE }

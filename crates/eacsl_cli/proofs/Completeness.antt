@@ -89,7 +89,7 @@ module _ {words : List (List ℕ)} {content : Option (List ℕ → Option (List 
       let told : text' ≡ text = told_text asked.tells asked.holds (ap file_named same) h in
       subst (λ x. TextDue source x text a) same (subst (λ x. TextDue source job' x a) told d)
 
--- where no count rose, an answer that is due was given, or memory was wanting
+-- where no count rose, an answer that is due was given, or memory ran out
 settled : {Due : Answer → Type 0} {Begin : List ℕ → Type 0} {out err : Change} {status : ℕ} → Steady out.faults out.faults' → Steady err.faults err.faults' → Answered Due Begin out err status
     → (status ≡ 9) ⊎ ((a : Answer) × Due a × IsGiven a out err status)
 settled o e (Given a d s t f t' f') = inr (a, d, record { status_is = s; output_is = t; line_is = t' })

@@ -124,7 +124,7 @@ module _ {source : Taking} {text : List ℕ} {err : Change} {result : ℕ} where
     pub run_refused : (r : PlainRefusal) → RefusedText text r → Untouched source → IsSettled (line_of (refused_words r)) 2 err result → Answered (RunDue source text steps) (RunBegins source text steps) (change told told faults faults) err result
     run_refused r h u s = settled_answer (refused_answer r) (RunRefused r h u refl) (inl refl) (sym (more-nil told)) refl s
 
-    -- nothing was put, for want of memory
+    -- nothing was put, for being out of memory
     pub run_unread : IsSaid memory_line 9 err result → Answered (RunDue source text steps) (RunBegins source text steps) (change told told faults faults) err result
     run_unread s = said_memory [] (inl refl) (sym (more-nil told)) refl s
 
@@ -153,7 +153,7 @@ module _ {text : List ℕ} {err : Change} {result : ℕ} where
     instrument_unread s = said_memory [] (inl refl) (sym (more-nil told)) refl s
 
   module _ {told told' : Option (List ℕ)} {faults faults' : ℕ} where
-    -- a beginning of the text was put, and memory was wanting
+    -- a beginning of the text was put, and memory ran out
     pub write_wanting : (m : MonitoredProgram) → IsTranslated text m → (sent : List ℕ) → Extends sent (text_of m) → told' ≡ more told sent → faults' ≡ faults → IsSaid memory_line 9 err result
         → Answered (InstrumentDue text) (InstrumentBegins text) (change told told' faults faults') err result
     write_wanting m t sent b w f s = said_memory sent (inr (t.program, m, t.accepted, t.translates, b)) w f s

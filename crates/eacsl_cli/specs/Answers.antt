@@ -165,13 +165,13 @@ pub record Change : Type 0 where
 abbrev pub change : Option (List ℕ) → Option (List ℕ) → ℕ → ℕ → Change
 change told told' faults faults' = record { told = told; told' = told'; faults = faults; faults' = faults' }
 
--- a line that may be put behind an output: that of an answer due, whose output this is, or that of status 9
+-- a line that may be put after an output: that of an answer due, whose output this is, or that of status 9
 abbrev pub IsLine : (Answer → Type 0) → List ℕ → List ℕ → Type 0
 IsLine Due sent line = ((a : Answer) × Due a × (sent ≡ a.output) × (line ≡ a.line)) ⊎ (line ≡ memory_line)
 
 -- How the program answers where these answers are due and these bytes begin the output due: an answer that is due is given,
--- or a sink failed (8), or memory was wanting (9). At 8 and 9 the output has a beginning of what is due, and the error
--- output a beginning of a line: none where the output failed, and that of an answer only behind the answer's whole output.
+-- or a sink failed (8), or memory ran out (9). At 8 and 9 the output has a beginning of what is due, and the error
+-- output a beginning of a line: none where the output failed, and that of an answer only after the answer's whole output.
 pub data Answered (Due : Answer → Type 0) (Begin : List ℕ → Type 0) (out err : Change) (status : ℕ) : Type 0 where
   Given : (a : Answer) → Due a → status ≡ a.status → out.told' ≡ more out.told a.output → out.faults' ≡ out.faults → err.told' ≡ more err.told a.line
       → err.faults' ≡ err.faults → Answered Due Begin out err status
@@ -188,7 +188,7 @@ pub record IsTranslated (text : List ℕ) (m : MonitoredProgram) : Type 0 where
   pub accepted : AcceptedText text program
   pub translates : Translates program m
 
--- How one line is put with a status: wholly, or the sink failed (8), or memory was wanting (9), with a beginning of the line.
+-- How one line is put with a status: wholly, or the sink failed (8), or memory ran out (9), with a beginning of the line.
 pub data IsSaid (line : List ℕ) (status : ℕ) (err : Change) (result : ℕ) : Type 0 where
   Whole : result ≡ status → err.told' ≡ more err.told line → err.faults' ≡ err.faults → IsSaid line status err result
   Failed : (k : ℕ) → result ≡ write_fault_status → err.told' ≡ more err.told (take k line) → Rose err.faults err.faults' → IsSaid line status err result

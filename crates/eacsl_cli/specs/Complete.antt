@@ -58,7 +58,7 @@ pub record IsAnswered (source : Taking) (Answers : Input → Answer → Type 0) 
   pub answers : Answers input answer
   pub given : IsGiven answer out err status
 
--- Of each job and text the answer that is due is given, or else memory was wanting.
+-- Of each job and text the answer that is due is given, or else memory ran out.
 pub record Complete (words : List (List ℕ)) (content : Option (List ℕ → Option (List ℕ))) (before now : ℕ) (source : Taking) (out err : Change)
     (status : ℕ) : Type 0 where
   -- `run` of an accepted text: its one program's run, on the input that the source was
@@ -83,7 +83,7 @@ pub record IsStatus (before now : ℕ) (source : Taking) (status : ℕ) : Type 0
   pub most : status ≤ too_long_status
   -- a read fault comes only where the folder or the source failed
   pub read_fault : status ≡ read_fault_status → Rose before now ⊎ Rose source.faults source.faults'
-  -- where the source failed, that is the answer, unless a sink failed or memory was wanting
+  -- where the source failed, that is the answer, unless a sink failed or memory ran out
   pub source_fault : source.faults < source.faults' → (status ≡ read_fault_status) ⊎ (status ≡ write_fault_status) ⊎ (status ≡ no_memory_status)
 
 -- the job reads the program's input

@@ -13,7 +13,7 @@ pub data IsSettled (line : List ℕ) (status : ℕ) (err : Change) (result : ℕ
   Said : IsSaid line status err result → IsSettled line status err result
   Wanting : IsSaid memory_line no_memory_status err result → IsSettled line status err result
 
--- the report of an end; there is none where the sink refused, and where memory was wanting
+-- the report of an end; there is none where the sink refused, and where memory ran out
 abbrev pub report_of : Stop → Option Report
 report_of (stop.Exit z) = report (Exits z)
 report_of (stop.Broken number line kind how) = report (Broken number line kind how)

@@ -30,7 +30,7 @@ use mon_reader::read_monitored;
 use mon_syntax::MonProgram;
 use std::alloc::{AllocError, Global};
 
-// Says that memory is wanting.
+// Says that memory ran out.
 fn out_of_memory<E: Sink>(err: &mut E) -> u8
     ensures { IsSaid memory_line no_memory_status (change (E.told err.old) (E.told err.new) (E.faults err.old) (E.faults err.new)) result }
 {
@@ -263,7 +263,7 @@ fn limit_of(job: &Job) -> usize
 /// | 3 | `usage`: the words have no job |
 /// | 4 | `full SEGMENT`: the run wants more room than there is |
 /// | 5 | `steps spent` |
-/// | 6 | `fault`: the machine faulted; for `run` only behind an undefined operation of the source |
+/// | 6 | `fault`: the machine faulted; for `run` only after an undefined operation of the source |
 /// | 7 | `read fault`: the folder failed, or `input` did |
 /// | 8 | none, or a part of a line: `out` or `err` failed |
 /// | 9 | `out of memory`, or a part of a line |

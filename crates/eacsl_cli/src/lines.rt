@@ -62,7 +62,7 @@ pub fn refused_line(alloc: Global, refusal: &Refusal) -> Result<Vec<u8>, AllocEr
 }
 
 /// Puts a line, and says with which status the program ends: the one given, or 8 where the sink failed, or 9 where
-/// memory was wanting.
+/// memory ran out.
 pub fn say<E: Sink>(err: &mut E, line: &[u8], status: u8) -> u8
     ensures { IsSaid line.now status (change (E.told err.old) (E.told err.new) (E.faults err.old) (E.faults err.new)) result }
 {

@@ -11,7 +11,7 @@ use grammar_example::tree::{Expr, ExprKind, Stmt, StmtKind};
 use std::alloc::{AllocError, Global};
 use std::process::Abort;
 
-/// How tokens are read: the tokens behind the statement, or those left where it is refused, at a token, by its length or its
+/// How tokens are read: the tokens after the statement, or those left where it is refused, at a token, by its length or its
 /// depth.
 fn outcome(alloc: Global, tokens: &[Token]) -> (char, usize) {
     match read_statement(alloc, &[], tokens) {

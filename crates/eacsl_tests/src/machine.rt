@@ -173,7 +173,7 @@ fn copies(
 
 #[test]
 fn the_source_is_asked_up_to_its_end(rt: HostRuntime) -> Result<(), AllocError> {
-    // Asked once more behind the end, the source would fail at the test's own call, the fifth then.
+    // Asked once more after the end, the source would fail at the test's own call, the fifth then.
     copies(&rt, (5, 9), "exit", 98, b"ab-1", b'-')?;
     copies(&rt, (2, 9), "read fault", 99, b"a", b'b')?;
     // The sink refuses what waits.

@@ -39,7 +39,7 @@ fn a_name_has_one_number(rt: HostRuntime) {
     same_number(&rt, u128::from(tokens.end.offset), 24);
 }
 
-/// Compares the place behind the longest expression at a place, or 1,000 and the code of its refusal.
+/// Compares the place after the longest expression at a place, or 1,000 and the code of its refusal.
 fn ends(rt: &(impl Abort + AllocGlobal), text: &str, at: usize, wanted: u128) {
     let tokens = tokens_of(rt, text);
     if at > tokens.list.len() {

@@ -99,7 +99,7 @@ module _ {T : Type 0} (K : T → ℕ) where
       late_back = λ i a t lt. then_late_back n n g.reads_back g.late_back (λ x. (h x).late_back) i a t lt (λ b c x e r. let l = front_within a b c e in (omega arith, omega arith));
     }
 
-  -- behind at least one token the bound is one less
+  -- after at least one token the bound is one less
   module _ {A B : Type 0} (n : ℕ) (G G' : Syntax T A) (H H' : A → Syntax T B) (f1 : List ℕ) (m1 : A → List ℕ) (n2 : Bool) (f2 : A → List ℕ) (m2 : A → B → List ℕ) (first : List ℕ) (more : B → List ℕ) (R : A → B → Type 0) (ends : (x : A) (y : B)
       → (H x).reads [] y → R x y) (ends' : (x : A) (y : B) → (H' x).reads [] y → R x y) (fit : ThenFits A B R false f1 m1 n2 f2 m2 false first more) where
     pub after_good : IsGood K (suc n) G G' false f1 m1 → ((x : A) → IsGood K n (H x) (H' x) n2 (f2 x) (m2 x)) → IsGood K (suc n) (G then H) (G' then H') false first more
@@ -404,7 +404,7 @@ module _ {T : Type 0} (K : T → ℕ) where
     pub many_exact : (step : A → Syntax T A) → ((x : A) → IsExact K (step x) false (f x) (m x)) → (x : A) → IsExact K (many K ks step x) true (ks x) more
     many_exact step g x = limit_exact (λ n. loop K n ks step x) true (ks x) more (λ n. loop_grows step g n x)
 
-    -- a turn and the repetition behind it, or no turn
+    -- a turn and the repetition after it, or no turn
     pub turn_exact : (step : A → Syntax T A) → ((x : A) → IsExact K (step x) false (f x) (m x)) → (x : A) → IsExact K (step x then λ y. many K ks step y) false (f x) more
     turn_exact step g x = then_exact K (step x) (λ y. many K ks step y) false (f x) (m x) true ks (λ _ z. more z) false (f x) more (g x) (λ y. many_exact step g y) (λ y z. y ≡ z) (λ y z r. turns ks f m step g r.0 y z r.1)
         (loop_once ks f m more x fit)

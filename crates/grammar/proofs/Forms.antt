@@ -142,7 +142,7 @@ module _ {T A B : Type 0} where
     late_back = sequence_late G' G H' H g.reads_back g.late_back (λ x. (h x).late_back);
   }
 
--- ---- a repetition is no turn, or a turn and the repetition behind it
+-- ---- a repetition is no turn, or a turn and the repetition after it
 
 module _ {T : Type 0} (K : T → ℕ) {A : Type 0} (ks : A → List ℕ) (step : A → Syntax T A) where
   abbrev turned : A → Syntax T A

@@ -128,7 +128,7 @@ parted_at n [] lt = absurd (omega arith)
 parted_at zero (t ∷ ts) lt = ([], t, ts, refl, refl)
 parted_at (suc n) (t ∷ ts) lt = let p = parted_at n ts (omega arith) in (t ∷ p.0, p.1, p.2, ap (λ w. t ∷ w) p.3, ap suc p.4)
 
--- a text parted behind f and t, and elsewhere
+-- a text parted after f and t, and elsewhere
 same_parting : {T : Type 0} (f : List T) (t : T) (u front rest : List T) → f ++ (t ∷ u) ≡ front ++ rest → (f ++ (t ∷ [])) ++ u ≡ front ++ rest
 same_parting f t u front rest e = append_assoc f (t ∷ []) u ∙ e
 
@@ -267,7 +267,7 @@ module _ {T : Type 0} (K : T → ℕ) {A : Type 0} (label n : ℕ) (G : Syntax T
       let l = o.left in
       absurd (late_before w.label f t r u o.front o.rest o.token le o.is (omega arith) (front_parts (o.front ++ (o.token ∷ [])) o.rest (f ++ (t ∷ [])) u (append_assoc o.front (o.token ∷ []) o.rest ∙ sym o.parts ∙ sym (append_assoc f (t ∷ []) u))))
 
-  -- the answer behind the n-th token does not depend on what follows
+  -- the answer after the n-th token does not depend on what follows
   over_at : (f : List T) (t : T) (u : List T) → length f ≡ n → place (G.parse (f ++ (t ∷ u))) ≤ length u → (at_most label n G).parse (f ++ (t ∷ u)) ≡ Err (Over label (suc (length u)))
   over_at f t u e le = capped_out label n (length (f ++ (t ∷ u))) (G.parse (f ++ (t ∷ u))) (beyond f t u (place (G.parse (f ++ (t ∷ u)))) e le) ∙ ap (λ (k : ℕ). Err (Over label k)) (behind_n f t u e)
 
@@ -378,7 +378,7 @@ module _ {T : Type 0} (K : T → ℕ) {A : Type 0} (label n : ℕ) (G : Syntax T
       ap (at_most label n G).parse whole ∙ ap (capped label n (length (w.front ++ (w.token ∷ (w.rest ++ s))))) (w.local (w.rest ++ s)) ∙ capped_in label n (length (w.front ++ (w.token ∷ (w.rest ++ s)))) (Err (Over i (suc (length (w.rest ++ s)))))
       (below w.front (w.token ∷ (w.rest ++ s)) short) ∙ ap (λ (k : ℕ). Err (Over i k)) (omega (arith, length-append w.rest s))
 
-  -- what took n + 1 tokens, or wants more behind them, passes the limit
+  -- what took n + 1 tokens, or wants more after them, passes the limit
   ran_out : (p s : List T) → length p ≡ suc n → G.begun p → place (G.parse p) ≡ 0 → (at_most label n G).parse (p ++ s) ≡ Err (Over label (suc (length s)))
   ran_out p s e b z =
       let c = last_of p (omega (arith, e)) in

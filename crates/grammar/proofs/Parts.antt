@@ -40,7 +40,7 @@ front_parts (t ∷ a) b (u ∷ c) d e =
     behind (inl p) same = inl (p.0, rw (same, p.1) refl)
     behind (inr p) same = inr (p.0, rw (same, p.1) refl, p.2)
 
--- the same, with what stands behind both
+-- the same, with what stands after both
 parted : {T : Type 0} (a b c d : List T) → a ++ b ≡ c ++ d → ((e : List T) × (c ≡ a ++ e) × (b ≡ e ++ d)) ⊎ ((e : List T) × (a ≡ c ++ e) × (d ≡ e ++ b))
 parted [] b c d e = inl (c, refl, e)
 parted (t ∷ a) b [] d e = inr (t ∷ a, refl, sym e)
@@ -357,7 +357,7 @@ module _ {T : Type 0} (K : T → ℕ) where
     then_fronts a b (inl s) = inl (g.fronts a b s)
     then_fronts a b (inr r) = fronts_second a b r.0 r.1 r.2 r.4 r.5 (front_parts a b r.0 r.1 r.3)
 
-    -- ---- one value, and what goes on behind it
+    -- ---- one value, and what goes on after it
 
     clash_behind : (b : List T) (x : A) (v : T) (e : List T) → G.reads b x → G.begun (b ++ (v ∷ e)) → (ts : List T) → (H x).begun (v ∷ ts) → ⊥
     clash_behind b x v e r bg ts bh = apart_among (f2 x) (m1 x) (K v) (fit.clash x) ((h x).starts v ts bh) (g.goes_on b x v e r bg)
@@ -549,7 +549,7 @@ module _ {T : Type 0} (K : T → ℕ) where
     choice_filled x (inl r) = absurd (let e = g.filled x r in let f = fit.solid in cc)
     choice_filled x (inr r) = fit.empty (h.filled x r)
 
-    -- ---- one value, and what goes on behind it
+    -- ---- one value, and what goes on after it
 
     first_apart : (t : T) (ts us : List T) → G.begun (t ∷ ts) → H.begun (t ∷ us) → ⊥
     first_apart t ts us bg bh = apart_among f2 ks (K t) fit.clash (h.starts t us bh) (within_among f1 ks (K t) fit.taken (g.starts t ts bg))

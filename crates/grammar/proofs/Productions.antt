@@ -41,7 +41,7 @@ module _ {T : Type 0} {K : T → ℕ} where
         empty = λ t u. rw (t, u) refl;
       }) g h
 
-  -- behind a token
+  -- after a token
   pub after : {A B : Type 0} {n : ℕ} {G G' : Syntax T A} {H H' : A → Syntax T B} {n2 : Bool} {f1 m1 f2 m2 : List ℕ} → IsGood K (suc n) G G' false f1 (λ _. m1) → ((x : A) → IsGood K n (H x) (H' x) n2 f2 (λ _. m2)) → apart f2 m1 ≡ true
       → IsGood K (suc n) (G then H) (G' then H') false f1 (λ _. m2 ++ empties n2 m1)
   after {A} {B} {n} {G} {G'} {H} {H'} {n2} {f1} {m1} {f2} {m2} g h e =
@@ -118,7 +118,7 @@ module _ {T : Type 0} {K : T → ℕ} where
     late_back = λ i a t lt. g.late_back i a t (omega arith);
   }
 
-  -- the same, for the parts of what stands behind a token
+  -- the same, for the parts of what stands after a token
   pub one_lower : {A : Type 0} {n : ℕ} {G H : Syntax T A} {null : Bool} {first : List ℕ} {more : A → List ℕ} → IsGood K (suc n) G H null first more → IsGood K n G H null first more
   one_lower {A} {n} g = lowered n (omega arith) g
 
@@ -227,7 +227,7 @@ module _ {T : Type 0} {K : T → ℕ} where
         empty = λ t u. absurd cc;
       }) g h
 
-  -- the same, behind a token
+  -- the same, after a token
   pub after_to : {A B : Type 0} {n : ℕ} {G G' : Syntax T A} {H H' : A → Syntax T B} {f1 m1 f2 : List ℕ} {more : B → List ℕ} → IsGood K (suc n) G G' false f1 (λ _. m1) → ((x : A) → IsGood K n (H x) (H' x) false f2 more) → apart f2 m1 ≡ true
       → IsGood K (suc n) (G then H) (G' then H') false f1 more
   after_to {A} {B} {n} {G} {G'} {H} {H'} {f1} {m1} {f2} {more} g h e =
@@ -273,7 +273,7 @@ module _ {T : Type 0} {K : T → ℕ} where
         empty = λ t. absurd cc;
       }) g h
 
-  -- an optional part behind which a given value stands
+  -- an optional part after which a given value stands
   pub maybe_to : {A : Type 0} {n : ℕ} (ks : List ℕ) {G G' : Syntax T A} {f1 : List ℕ} {m1 : A → List ℕ} {more : A → List ℕ} (x : A) → IsGood K n G G' false f1 m1 → within f1 ks ≡ true → ((y : A) → within (m1 y) (more y) ≡ true)
       → within ks (more x) ≡ true → IsGood K n (choice K ks G (gives x)) (choice K ks G' (gives x)) true f1 more
   maybe_to {A} {n} ks {G} {G'} {f1} {m1} {more} x g e o k =

@@ -93,7 +93,7 @@ module _ {T : Type 0} {Good : T → Type 0} where
   pub within_one : {A : Type 0} {P : A → Type 0} (f : T → Option A) → ((t : T) (x : A) → Good t → f t ≡ Some x → P x) → EachWithin Good (one f) P
   within_one f h = record { holds = λ a x o r w. h r.0 x (subst (AllByRecursion Good) r.1 o).0 r.2 }
 
-  -- what is late in the second part of a sequence is late behind the first
+  -- what is late in the second part of a sequence is late after the first
   pub within_then : {A B : Type 0} {G : Syntax T A} {H : A → Syntax T B} {P : A → Type 0} {Q : B → Type 0} → EachWithin Good G P → ((x : A) → P x → EachWithin Good (H x) Q) → EachWithin Good (G then H) Q
   within_then g h = record {
     holds = λ a y o r w.

@@ -26,7 +26,7 @@ front_empty : {A : Type 0} (ts : List A) (f r : List A) → ts ≡ f ++ r → le
 front_empty ts [] r e l = refl
 front_empty ts (x ∷ f) r e l = absurd (omega (arith, ap length e, length-append f r))
 
--- what the second part read stands behind the first
+-- what the second part read stands after the first
 second_front : {T : Type 0} (ts a r1 f r : List T) (f2 r2 : List T) → ts ≡ a ++ r1 → r1 ≡ f2 ++ r2 → ts ≡ f ++ r → length r2 ≡ length r → f ≡ a ++ f2
 second_front ts a r1 f r f2 r2 p q s l = (split_same f (a ++ f2) r r2 (sym s ∙ p ∙ rw q (sym (append_assoc a f2 r2))) (sym l)).0
 

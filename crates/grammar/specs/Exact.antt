@@ -10,14 +10,14 @@ SameHead [] (u ∷ us) = ⊥
 SameHead (t ∷ ts) [] = ⊥
 SameHead (t ∷ ts) (u ∷ us) = t ≡ u
 
--- p read x and left rest: its tokens are a reading, and p saw no more than one token behind them
+-- p read x and left rest: its tokens are a reading, and p saw no more than one token after them
 pub record Takes {T A : Type 0} (p : List T → Result (A × List T) Fault) (R : List T → A → Type 0) (ts : List T) (x : A) (rest : List T) : Type 0 where
   pub front : List T
   pub parts : ts ≡ front ++ rest
   pub is : R front x
   pub local : (u : List T) → SameHead rest u → p (front ++ u) ≡ Ok (x, u)
 
--- p stopped with n tokens left: those before are begun, and p saw no more than one token behind them
+-- p stopped with n tokens left: those before are begun, and p saw no more than one token after them
 pub record Fails {T A : Type 0} (p : List T → Result (A × List T) Fault) (B : List T → Type 0) (ts : List T) (n : ℕ) : Type 0 where
   pub front : List T
   pub rest : List T
@@ -26,7 +26,7 @@ pub record Fails {T A : Type 0} (p : List T → Result (A × List T) Fault) (B :
   pub is : B front
   pub local : (u : List T) → SameHead rest u → p (front ++ u) ≡ Err (At (length u))
 
--- p stopped at the limit with this label with n tokens left: the first of them is late, whatever comes behind it
+-- p stopped at the limit with this label with n tokens left: the first of them is late, whatever comes after it
 pub record Overs {T A : Type 0} (p : List T → Result (A × List T) Fault) (L : ℕ → List T → T → Type 0) (ts : List T) (label n : ℕ) : Type 0 where
   pub front : List T
   pub token : T
@@ -71,7 +71,7 @@ pub record IsExact {T : Type 0} (K : T → ℕ) {A : Type 0} (G : Syntax T A) (n
   pub filled : (x : A) → G.reads [] x → null ≡ true
   -- tokens are a reading with one value at most
   pub single : (a : List T) (x y : A) → G.reads a x → G.reads a y → x ≡ y
-  -- what goes on behind a complete reading is a token of the kinds that its value can go on with
+  -- what goes on after a complete reading is a token of the kinds that its value can go on with
   pub goes_on : (a : List T) (x : A) (t : T) (u : List T) → G.reads a x → G.begun (a ++ (t ∷ u)) → among (K t) (more x) ≡ true
   -- no token passes two limits
   pub one_limit : (i j : ℕ) (a : List T) (t : T) → G.late i a t → G.late j a t → i ≡ j

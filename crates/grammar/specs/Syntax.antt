@@ -29,9 +29,9 @@ pub record Syntax (T A : Type 0) : Type 1 where
   pub reads : List T → A → Type 0
   -- these tokens begin a reading
   pub begun : List T → Type 0
-  -- behind these tokens this token passes the limit with this label
+  -- after these tokens this token passes the limit with this label
   pub late : ℕ → List T → T → Type 0
-  -- the value of the longest reading at the front, and the tokens behind it
+  -- the value of the longest reading at the front, and the tokens after it
   pub parse : List T → Result (A × List T) Fault
 
 abbrev pub one_at : {T A : Type 0} → (T → Option A) → List T → Result (A × List T) Fault
@@ -42,13 +42,13 @@ abbrev is_empty : {T : Type 0} → List T → Bool
 is_empty [] = true
 is_empty (t ∷ ts) = false
 
--- an answer that took more than n of the tokens passes the limit at the token behind n
+-- an answer that took more than n of the tokens passes the limit at the token after n
 abbrev pub capped : {T A : Type 0} → ℕ → ℕ → ℕ → Result (A × List T) Fault → Result (A × List T) Fault
 capped label n l (Ok x) = cond (ltb (n + length x.1) l) (Err (Over label (l - n))) (Ok x)
 capped label n l (Err (At m)) = cond (ltb (n + m) l) (Err (Over label (l - n))) (Err (At m))
 capped label n l (Err (Over i m)) = cond (ltb (n + m) l) (Err (Over label (l - n))) (Err (Over i m))
 
--- the answer for a text of which s is the rest behind the one token too many that was read
+-- the answer for a text of which s is the rest after the one token too many that was read
 abbrev pub resumed : {T A : Type 0} → ℕ → List T → Result (A × List T) Fault → Result (A × List T) Fault
 resumed label s (Ok x) = cond (is_empty x.1) (Err (Over label (suc (length s)))) (Ok (x.0, x.1 ++ s))
 resumed label s (Err (At zero)) = Err (Over label (suc (length s)))

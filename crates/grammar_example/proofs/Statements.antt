@@ -18,7 +18,7 @@ else_if b = cond b (an_else ∷ []) []
 abbrev pub more_statement : Plan → List ℕ
 more_statement s = else_if (is_open s)
 
--- and then an `else` behind it is its own
+-- and then an `else` after it is its own
 abbrev pub first_else : Bool → List ℕ
 first_else b = cond b [] (an_else ∷ [])
 

@@ -19,7 +19,7 @@ first_statement = a_semicolon ∷ an_if ∷ first_expression
 
 -- E stands for an expression and O for an operand, S for a statement; they are closed below.
 module _ (types : List ℕ) where
-  -- behind "(": a type and what is cast to it, or an expression
+  -- after "(": a type and what is cast to it, or an expression
   unfoldable pub in_parens : Syntax Token Tree → Syntax Token Tree → Syntax Token Tree
   in_parens E O = choice (kind types) (a_type ∷ []) (one (type_of types) then λ t. token types close_paren then λ _. O then λ x. gives (cast t x))
       (E then λ x. token types close_paren then λ _. gives x)

@@ -28,7 +28,7 @@ pub data Plan : Type 0 where
   if_then : Tree → Plan → Plan
   if_else : Tree → Plan → Plan → Plan
 
--- an `else` behind it would belong to it
+-- an `else` after it would belong to it
 abbrev pub is_open : Plan → Bool
 is_open empty = false
 is_open (value e) = false

@@ -9,7 +9,7 @@ use crate::token::{Kind, ReadError, Token, name, next_is, number, sign, skip, ty
 use crate::tree::{Expr, ExprKind};
 use std::alloc::Global;
 
-// An expression of this kind, and the tokens behind it.
+// An expression of this kind, and the tokens after it.
 fn read_as<'a>(
     alloc: Global,
     kind: ExprKind,

@@ -11,7 +11,7 @@ use crate::token::{ReadError, Token};
 use crate::tree::Stmt;
 use std::alloc::Global;
 
-/// The statement at the front of the tokens, where these names are types, and the tokens behind it.
+/// The statement at the front of the tokens, where these names are types, and the tokens after it.
 pub fn read_statement<'a>(
     alloc: Global,
     types: &[u32],

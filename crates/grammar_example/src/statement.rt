@@ -70,7 +70,7 @@ fn ends_open(statement: &Stmt) -> bool
     }
 }
 
-// A statement of this kind, and the tokens behind it.
+// A statement of this kind, and the tokens after it.
 fn read_as<'a>(
     alloc: Global,
     kind: StmtKind,

@@ -127,7 +127,7 @@ pub fn next_is(types: &[u32], wanted: Kind, tokens: &[Token]) -> bool
     }
 }
 
-/// The tokens behind one of this kind.
+/// The tokens after one of this kind.
 pub fn skip<'a>(types: &[u32], wanted: Kind, tokens: &'a [Token]) -> Result<&'a [Token], ReadError>
     ensures read { Gives (λ r. (tt, r.now)) result ((token types.now (code wanted)).parse tokens.now) }
     ensures shorter { IfOk result (λ r. length r.now < length tokens.now) }

@@ -34,7 +34,7 @@ abbrev pub int_of : PlainType → CInt
 int_of Void = I32
 int_of (Int k) = k
 
--- the variables that live behind the births of these, whose blocks have the indices from n on
+-- the variables that live after the births of these, whose blocks have the indices from n on
 abbrev pub slot_for : ℕ → Declaration → Slot
 slot_for n d = record { decl = number_of d; block = n; int = int_of d.ctype }
 

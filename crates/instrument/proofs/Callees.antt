@@ -112,7 +112,7 @@ module _ (p : TranslationUnit) (q : IsProgram p) (numbers : FunctionsHaveNumbers
   abbrev pub functions : List MonFunction
   functions = functions_from p main 0 p.funcs
 
-  -- in a function behind these
+  -- in a function after these
   module _ (before after : List Function) (current : Function) (place : before ++ (current ∷ after) ≡ p.funcs) (s : Scopes) (names : s.names ≡ p.names) (signatures : s.functions ≡ map (signature p.funcs) (before ++ current ∷ [])) (f : Use)
       (t : PlainType) (es : Expressions) (c : Calls s f t es) where
     seen : List Function

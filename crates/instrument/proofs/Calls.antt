@@ -30,7 +30,7 @@ pub record Even (s : State) (t : Target) : Type 0 where
   pub steps : t.steps ≡ s.steps
   pub input : t.input ≡ s.input
 
--- a state of the source behind a call: all blocks that were there are as they were, and those born in the call are dead
+-- a state of the source after a call: all blocks that were there are as they were, and those born in the call are dead
 pub record CameBack (from to : State) (o : List ℕ) : Type 0 where
   pub scope : to.scope ≡ from.scope
   pub calls : to.calls ≡ from.calls

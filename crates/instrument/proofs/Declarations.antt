@@ -1,4 +1,4 @@
--- Declarations behind one another: their variables, and the births of their blocks.
+-- Declarations one after another: their variables, and the births of their blocks.
 use Rattle.std.proofs.Common.{◌≡◌, ℕ, zero, suc, ◌+◌, ◌<◌, ◌≤◌, List, [], ◌∷◌, ◌++◌, length, drop, map, refl, sym, ap, ◌∙◌, arith, append_assoc}
 use Rattle.std.proofs.lemmas.List.{length-map, length-append, map-append, append-nil}
 use Rattle.c_syntax.specs.Statements.{Declaration, BlockItem, Declare, Run, Asserts, BlockItems, Then}
@@ -30,7 +30,7 @@ pub deaths_behind : (a b : List ℕ) → deaths (a ++ b) ≡ before (deaths a) (
 deaths_behind [] b = refl
 deaths_behind (p ∷ a) b = ap (mon.Then (death p)) (deaths_behind a b)
 
--- those that lived before stand behind
+-- those that lived before stand after
 pub born_front : (numbers : List ℕ) (ds : List Declaration) (live : List ℕ) → with_born numbers ds [] ++ live ≡ with_born numbers ds live
 born_front numbers [] live = refl
 born_front numbers (d ∷ ds) live =
@@ -137,7 +137,7 @@ none_of [] (suc k) le = refl
 none_of (d ∷ ds) zero le = absurd (omega arith)
 none_of (d ∷ ds) (suc k) le = none_of ds k (omega (arith, le))
 
--- so many of the pointers stand behind the registers that were there
+-- so many of the pointers stand after the registers that were there
 pub record Pointers (count k : ℕ) (old now : Variables) : Type 0 where
   pub numbers : now.numbers.items ≡ old.numbers.items
   pub types : (ds : List Declaration) → length ds ≡ count → now.types.items ++ pointer_types (drop k ds) ≡ old.types.items ++ pointer_types ds

@@ -14,7 +14,7 @@ use Rattle.instrument.proofs.Sight.{InSight, AreInSight, Ready, ready_later}
 
 -- ---- what can be declared in statements, where variables of these numbers live
 
--- the numbers of those that live behind the births of these
+-- the numbers of those that live after the births of these
 abbrev pub with_numbers : List Declaration → List ℕ → List ℕ
 with_numbers [] living = living
 with_numbers (d ∷ ds) living = with_numbers ds (number_of d ∷ living)

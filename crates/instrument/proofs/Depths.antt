@@ -53,7 +53,7 @@ deep_test_if_any : (numbers : List ℕ) (rs : Types) (loops : ℕ) (e : Option E
 deep_test_if_any numbers rs loops None f = omega arith
 deep_test_if_any numbers rs loops (Some e) f = deep_test numbers rs loops e f.small
 
--- a jump behind deaths
+-- a jump after deaths
 deep_jump : (live : List ℕ) (l : List ℕ) (n : ℕ) → 1 ≤ n → depth_of_all (before (deaths live) (one (tree.Goto l))) ≤ n
 deep_jump live l n le = let d = deep_deaths live in deep_before (deaths live) (one (tree.Goto l)) n (omega (arith, d, le)) (deep_one (tree.Goto l) n le)
 

@@ -77,7 +77,7 @@ module _ (w : Setting) (slots : List Slot) (regs : List BlockValue) (s : State) 
     loads = load_cell (store_with s.store v z) v z f (get-set_same s.store v.block _ (stacked_at (length w.outside) (length s.store) x slots v m.stacked found));
   }
 
--- what stands behind an assignment
+-- what stands after an assignment
 module _ (p : TranslationUnit) (w : Setting) (n : ℕ) (h : Here) (scopes : Scopes) (scene : Scene p w n h.slots scopes) (s : State) (t : Target) (ready : Ready s.store h.slots scopes.objects) (le : s.steps ≤ n) (rs : List MonType)
     (behind : count w + count w ≤ length rs) (regs : List BlockValue) (m : Related w h.slots regs s) (b : Beside w h.slots s t) where
   abbrev does_as : Expression → MonStatements → Type 0

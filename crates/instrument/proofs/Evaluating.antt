@@ -1,4 +1,4 @@
--- How the translation of an expression follows it, and how this goes on from part to part: the statements in front of a value change
+-- How the translation of an expression follows it, and how this goes on from part to part: the statements before a value change
 -- temporary registers alone, and then the value is the source's.
 use Rattle.std.proofs.Common.{◌≡◌, ℕ, suc, ◌<◌, ◌≤◌, ℤ, pos, Bool, true, false, cond, List, [], length, if◌then◌else◌, sym, ap, ◌∙◌, subst, arith}
 use Rattle.std.specs.Ordering.{int_eq}
@@ -38,7 +38,7 @@ module _ (w : Setting) (n : ℕ) (t : Target) where
   abbrev pub runs : MonStatements → List BlockValue → Did
   runs a regs = monitored.exec_all over_blocks a w.calls n regs t
 
-  -- ---- statements behind others
+  -- ---- statements after others
 
   pub behind_setup : (a b : MonStatements) (regs after : List BlockValue) → runs a regs ≡ Done (Next after) t [] → runs (before a b) regs ≡ runs b after
   behind_setup a b regs after e =

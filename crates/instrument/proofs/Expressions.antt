@@ -1,4 +1,4 @@
--- Expressions without effects: where the source has a value, the target has the same behind the statements in front of it.
+-- Expressions without effects: where the source has a value, the target has the same after the statements before it.
 use Rattle.std.proofs.Common.{◌≡◌, ℕ, suc, ◌+◌, ◌<◌, ◌≤◌, ℤ, pos, negsuc, true, not, List, [], ◌∷◌, ◌++◌, length, Option, Some, None, option_map, refl, sym, ap, ◌∙◌, subst, arith}
 use Rattle.std.proofs.lemmas.Int.{ints}
 use Rattle.std.proofs.lemmas.Bool.{lt-ltb}
@@ -95,7 +95,7 @@ module _ (w : Setting) (n : ℕ) (s : State) (target : Target) where
 -- ---- numbers of registers
 
 module _ (rs a b : List MonType) where
-  -- the temporaries of two parts, in front and behind
+  -- the temporaries of two parts, in front and after
   two_long : length (rs ++ a ++ b) ≡ length (rs ++ (a ++ b))
   two_long = omega (arith, length-append (rs ++ a) b, length-append rs a, length-append rs (a ++ b), length-append a b)
 
@@ -109,7 +109,7 @@ module _ (rs a b : List MonType) where
 -- ---- expressions
 
 module _ (w : Setting) (n : ℕ) (slots : List Slot) (scopes : Scopes) (sight : AreInSight slots scopes.objects) (now : State) (target : Target) (ready : Ready now.store slots scopes.objects) where
-  -- the translation of an expression follows it, behind registers of these types
+  -- the translation of an expression follows it, after registers of these types
   abbrev pub Followed : Expression → CInt → List MonType → List BlockValue → Type 0
   Followed e k rs regs = Evaluates k now target (eval_with e w.call now) regs (length rs) (length (rs ++ temporaries e)) (runs w n target (setup w.numbers rs e) regs) (value w.numbers rs e)
 
@@ -130,7 +130,7 @@ module _ (w : Setting) (n : ℕ) (slots : List Slot) (scopes : Scopes) (sight : 
       regs (same_all (length rs) regs) refl
       (λ later same2. same2.below (value_at w x.decl) (omega (arith, below, behind, length-append {A = MonType} rs [])) ∙ v.register)
 
-  -- the second part of an expression begins behind the first
+  -- the second part of an expression begins after the first
   after_holds : (rs : List MonType) (regs after : List BlockValue) → count w + count w ≤ length rs → Related w slots regs now → Same (length rs) regs after → Related w slots after now
   after_holds rs regs after behind h same = related_same w slots regs after now (length rs) behind same h
 

@@ -47,7 +47,7 @@ IsResult (Int k) (Some z) = fits k z ≡ true
 
 -- From a state, the target's statements did what the source's did, where the source goes on, leaves a loop or its body, returns, or is
 -- over. Where it leaves a loop, the blocks of the variables born inside are dead in the target, and those of all variables where it
--- returns. Behind an undefined operation the target may do anything.
+-- returns. After an undefined operation the target may do anything.
 pub data Follows (w : Setting) (h : Here) (on : List BlockValue → Flow BlockValue) (from : State) (r : Outcome (Unit {0})) (q : Did) : Type 0 where
   GoesOn : (s : State) (regs : List BlockValue) (t : Target) (o : List ℕ) → Related w h.slots regs s → Beside w h.slots s t → Later h.slots from s o → r ≡ Normal tt s → q ≡ Done (on regs) t o → Follows w h on from r q
   Breaks : (s : State) (regs : List BlockValue) (t : Target) (o : List ℕ) → h.looped ≡ true → Related w h.slots regs s → Beside w h.around s t → Later h.slots from s o → r ≡ Stop (Leaves source.Breaks) s → q ≡ Done (Goes (end_label h.loops) regs) t o

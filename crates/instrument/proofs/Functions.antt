@@ -207,7 +207,7 @@ module _ (p : TranslationUnit) (main index : ℕ) (f : Function) (call : Callee)
     bound : (w : Setting) → w.numbers ≡ variable_numbers f → Bound w opens f.params zs
     bound w same = arguments_bound w [] (replicate (how_many - length (wholes zs)) (Whole (pos 0))) f.params zs (subst (λ l. InOrder l 0 f.params) (sym same) in_order) fit
 
-    -- the source's call with its step and its frame behind it, and the target's
+    -- the source's call with its step and its frame after it, and the target's
     abbrev inside_source : Evaluation Value
     inside_source = frame >> alone >> parameters at f.params (integers zs) >> mark None >> λ s. returned_by f (body_with f.body call (suc n) s)
 
@@ -248,7 +248,7 @@ module _ (p : TranslationUnit) (main index : ℕ) (f : Function) (call : Callee)
       abbrev tail : Did → Result Target BlockValue
       tail q = then_do (then_do q (at_next (λ r u. then_do (runs w n u body_code r) (at_next (monitored.exec_all over_blocks (deaths (with_born w.numbers f.params [])) w.calls n))))) (at_return over_blocks)
 
-      -- behind the frame
+      -- after the frame
       framed : BearsAll w [] opens entered_source entered_target n at f.params (integers zs) → Called s f.result (finish (parameters at f.params (integers zs) entered_source)) (tail (runs w n entered_target (target.births w.numbers f.params) opens))
       framed (OneIsFull g to e o x) =
           EndsRun (Full g) (back_to s to) [] (λ h. absurd cc) (ap finish e) (o ∙ sym (append-nil s.output)) (ap tail x)
@@ -280,7 +280,7 @@ module _ (p : TranslationUnit) (main index : ℕ) (f : Function) (call : Callee)
       pub called_inside : Called s f.result (within inside_source s) (inside_target t)
       called_inside = subst (λ b. Called s f.result (within inside_source s) (target_with b)) (ap (λ k. nat_lt k most_frames) (sym even.frames)) (both (nat_lt s.calls 65536))
 
-    -- with its step; what comes behind a step has one less
+    -- with its step; what comes after a step has one less
     abbrev with_step : State → ℕ → State
     with_step s k = record s { steps = k }
 

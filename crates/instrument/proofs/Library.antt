@@ -51,7 +51,7 @@ there names x first rest e = by (slice_get names x) refl e
     by None f g = absurd cc
     by (Some w) f g = record { name = w; found = f; is = g }
 
--- ---- the state behind
+-- ---- the state after
 
 same_state : (s : State) → CameBack s s []
 same_state s = record {

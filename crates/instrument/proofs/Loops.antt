@@ -1,4 +1,4 @@
--- Loops, turn by turn: the condition in front, the step, the body, and what stands behind it.
+-- Loops, turn by turn: the condition in front, the step, the body, and what stands after it.
 use Rattle.std.proofs.Common.{◌≡◌, ℕ, zero, suc, ◌+◌, ◌≤◌, ℤ, pos, Bool, true, false, cond, List, [], ◌++◌, length, option_map, refl, sym, ap, ◌∙◌, subst, arith}
 use Rattle.std.proofs.lemmas.List.{append-nil}
 use Rattle.std.proofs.lemmas.Slice.Eq.{bytes_eq-Decides}
@@ -89,7 +89,7 @@ module _ (w : Setting) (slots : List Slot) (result : PlainType) (loops : ℕ) wh
   abbrev pub Go : Type 0
   Go = List BlockValue → Target → Did
 
-  -- ---- the body, behind which a `continue` goes on
+  -- ---- the body, after which a `continue` goes on
 
   body_on : (regs : List BlockValue) (t : Target) (o : List ℕ) (g : Go) → then_do (then_do (Done (Next regs) t o) (at_label (next_label loops))) (at_next g) ≡ writes o (g regs t)
   body_on regs t o g = ap (λ o. writes o (g regs t)) (append-nil o)
@@ -102,7 +102,7 @@ module _ (w : Setting) (slots : List Slot) (result : PlainType) (loops : ℕ) wh
   body_breaks : (regs : List BlockValue) (t : Target) (o : List ℕ) (g : Go) → then_do (then_do (Done (Goes (end_label loops) regs) t o) (at_label (next_label loops))) (at_next g) ≡ Done (Goes (end_label loops) regs) t o
   body_breaks regs t o g = ap (Done (Goes (end_label loops) regs) t) (append-nil (o ++ []) ∙ append-nil o)
 
-  -- a loop's body, and then what comes behind it
+  -- a loop's body, and then what comes after it
   follows_body : (from : State) (r : Outcome (Unit {0})) (q : Did) (again : Evaluation (Unit {0})) (g : Go) → Follows w in_body Next from r q → ((s : State) (regs : List BlockValue) (t : Target) (o : List ℕ) → Related w slots regs s
       → Beside w slots s t → Later slots from s o → Turns s (again s) (g regs t)) → Turns from (after_body r again) (then_do (then_do q (at_label (next_label loops))) (at_next g))
   follows_body from r q again g (GoesOn s regs t o m b l e e') k =
@@ -123,7 +123,7 @@ module _ (w : Setting) (slots : List Slot) (result : PlainType) (loops : ℕ) wh
       let labelled = then_do q (at_label (next_label loops)) in
       IsUndefined at s o (ap (λ r. after_body r again) e) l (extends_trans o (written labelled) _ (extends_trans o (written q) _ ext (written_then q (at_label (next_label loops)))) (written_then labelled (at_next g)))
 
-  -- ---- the label behind the loop catches the jump
+  -- ---- the label after the loop catches the jump
 
   caught : (regs : List BlockValue) (t : Target) (o : List ℕ) → then_do (Done (Goes (end_label loops) regs) t o) (at_label (end_label loops)) ≡ Done (Next regs) t o
   caught regs t o =
@@ -209,7 +209,7 @@ module _ (w : Setting) (slots : List Slot) (result : PlainType) (loops : ℕ) wh
       spent : (s : State) (f : Evaluation (Unit {0})) (q : Did) → s.steps ≡ 0 → q ≡ Stops Spent s.steps [] → Turns s ((step >> f) s) q
       spent s f q e x = IsOver Spent s [] (λ h. absurd cc) (ap (λ k. on_outcome (step_from k s) (λ _. f)) e) (sym (append-nil s.output)) x
 
-      -- the step, the body, what stands behind it, and the other turns
+      -- the step, the body, what stands after it, and the other turns
       round_follows : (b : MonStatements) (again : Evaluation (Unit {0})) (others : Go) (regs : List BlockValue) (s : State) (t : Target) (k : ℕ) → s.steps ≡ suc k → Meet regs s t → s.steps ≤ n
           → ((to : State) (after : List BlockValue) (u : Target) → Meet after to u → to.steps ≤ k → Turns to (again to) (then_do (runs w n u b after) (at_next others)))
           → Turns s ((step >> λ s. after_body (body s) again) s) (then_do (labelled b regs (target_stepped t k)) (at_next others))

@@ -38,7 +38,7 @@ pub in_bounds : (low high : ℕ) (ns : List ℕ) → Between low ns high → low
 in_bounds low high [] h = h
 in_bounds low high (n ∷ ns) h = let le = in_bounds (suc n) high ns h.1 in omega (arith, le, h.0)
 
--- two parts, one behind the other
+-- two parts, one after the other
 pub record IsParted (low : ℕ) (a b : List ℕ) (high : ℕ) : Type 0 where
   pub middle : ℕ
   pub front : Between low a middle
@@ -101,7 +101,7 @@ get_place : (front rest : List ℕ) (n : ℕ) → slice_get (front ++ n ∷ rest
 get_place [] rest n = refl
 get_place (m ∷ front) rest n = get_place front rest n
 
--- declarations in their order, behind these numbers
+-- declarations in their order, after these numbers
 pub record ArePlaced (numbers : List ℕ) (j : ℕ) (ds : List Declaration) : Type 0 where
   pub listed : AllListed numbers ds
   pub in_order : InOrder numbers j ds
@@ -254,7 +254,7 @@ of_append x (d ∷ a) b (IsSecond h) = by (of_append x a b h)
     by (IsFirst i) = IsFirst (IsSecond i)
     by (IsSecond i) = IsSecond i
 
--- in front of the other items, among which the block's other declarations are
+-- before the other items, among which the block's other declarations are
 module _ (low middle high : ℕ) (le : low ≤ middle) (le2 : middle ≤ high) where
   far_front : (rest : BlockItems) → Between middle (numbers_in (declared_in rest)) high → (xs : List ℕ) → AllLive low high (declared_in rest) xs → AllOutside low middle xs
   far_front rest b [] h = tt
@@ -272,7 +272,7 @@ module _ (low middle high : ℕ) (le : low ≤ middle) (le2 : middle ≤ high) w
       by (IsFar o) = IsFar (narrower low middle high high x le (omega arith) o)
       by (IsOwn i) = IsOwn i
 
-  -- behind declarations of the block
+  -- after declarations of the block
   live_behind : (ds es : List Declaration) → Between low (numbers_in ds) middle → (xs : List ℕ) → AllLive low high (ds ++ es) xs → AllLive middle high es xs
   live_behind ds es b [] h = tt
   live_behind ds es b (x ∷ xs) h = (by h.0, live_behind ds es b xs h.1)
@@ -285,7 +285,7 @@ module _ (low middle high : ℕ) (le : low ≤ middle) (le2 : middle ≤ high) w
       by (IsFar o) = IsFar (narrower low middle high high x le (omega arith) o)
       by (IsOwn i) = split (of_append x ds es i)
 
--- behind the births of a block
+-- after the births of a block
 outside_live : (low high : ℕ) (ds : List Declaration) (xs : List ℕ) → AllOutside low high xs → AllLive low high ds xs
 outside_live low high ds [] h = tt
 outside_live low high ds (x ∷ xs) h = (IsFar h.0, outside_live low high ds xs h.1)

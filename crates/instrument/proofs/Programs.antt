@@ -58,7 +58,7 @@ compatible h g x e f c =
 
 -- ---- a function in its place
 
--- a function of the program, with those in front of it and behind it, and what is known of it
+-- a function of the program, with those before it and after it, and what is known of it
 pub record Part (p : TranslationUnit) (f : Function) : Type 0 where
   pub before : List Function
   pub after : List Function
@@ -74,7 +74,7 @@ ascend_front : (low : ℕ) (a b : List ℕ) → Ascend low (a ++ b) → Ascend l
 ascend_front low [] b h = tt
 ascend_front low (n ∷ a) b h = (h.0, ascend_front (suc n) a b h.1)
 
--- behind a part, whose numbers are less
+-- after a part, whose numbers are less
 pub record IsHigher (low : ℕ) (b : List ℕ) : Type 0 where
   pub low2 : ℕ
   pub le : low ≤ low2
@@ -84,7 +84,7 @@ ascend_back : (low : ℕ) (a b : List ℕ) → Ascend low (a ++ b) → IsHigher 
 ascend_back low [] b h = record { low2 = low; le = omega arith; is = h }
 ascend_back low (n ∷ a) b h = let x = ascend_back (suc n) a b h.1 in record { low2 = x.low2; le = omega (arith, x.le, h.0); is = x.is }
 
--- the numbers behind a function are above its own
+-- the numbers after a function are above its own
 behind_function : (low : ℕ) (f : Function) (fs : List Function) → Ascend low (numbers_of f ++ numbers_of_all fs) → IsHigher (suc f.place.offset) (numbers_of_all fs)
 behind_function low f fs h = ascend_back (suc f.place.offset) _ (numbers_of_all fs) h.1
 
@@ -234,7 +234,7 @@ first_more x (g ∷ hs) more h e = by (λ f. first_more x hs more h f) (nat_eq g
     by rest true f = f
     by rest false f = rest f
 
--- a declaration is typed behind some others
+-- a declaration is typed after some others
 pub record IsTyped (p : TranslationUnit) (h : Function) : Type 0 where
   pub before : List Function
   pub typed : FunctionTyped (function_scopes p before h) before h
@@ -247,7 +247,7 @@ typed_at p before (g ∷ fs) x h t e = by (λ f. typed_at p (before ++ g ∷ [])
     by rest true f = let same : g ≡ h = cc in subst (IsTyped p) same (record { before = before; typed = t.0 })
     by rest false f = rest f
 
--- where a declaration of the name stands in front, one behind it has its type
+-- where a declaration of the name stands in front, one after it has its type
 compatible_all : (before : List Function) (g h : Function) (x : ℕ) → g.name ≡ x → is_compatible_with_all before g ≡ true → first_of x before ≡ Some h → SameTypes h g
 compatible_all [] g h x n c e = absurd cc
 compatible_all (b ∷ before) g h x n c e =

@@ -122,7 +122,7 @@ module _ (w : Setting) (n : ℕ) (spot : Spot) (h : Here) (at : At w spot h) (s 
       subst (λ rs. Dead w h.slots regs s n [] t (runs w n t (deaths rs) regs)) (sym (all_registers w spot h at))
       (deaths_run w h.slots regs s n h.slots [] t m.all (subst (λ vs. Beside w vs s t) (sym (append-nil h.slots)) b))
 
-  -- what stands behind deaths
+  -- what stands after deaths
   behind_deaths : (living : List Slot) (d a : MonStatements) (x : Dead w h.slots regs s n living t (runs w n t d regs)) → runs w n t (before d a) regs ≡ runs w n x.to a regs
   behind_deaths living d a x =
       before_is d a w.calls n regs t
@@ -165,7 +165,7 @@ module _ (p : TranslationUnit) (w : Setting) (n most : ℕ) (names : List (List 
   abbrev pub DoSame : Here → Scopes → Evaluation (Unit {0}) → MonStatements → Type 0
   DoSame h s x a = (regs : List BlockValue) (from : State) (t : Target) → Meets w h.slots s.objects regs from t → from.steps ≤ n → Follows w h Next from (x from) (runs w n t a regs)
 
-  -- one part behind another
+  -- one part after another
   in_order : (h : Here) (s : Scopes) (x y : Evaluation (Unit {0})) (a b : MonStatements) → DoSame h s x a → DoSame h s y b → DoSame h s (x >> y) (before a b)
   in_order h s x y a b f g = λ regs from t m le.
       subst (λ q. Follows w h Next from ((x >> y) from) q) (sym (before_is a b w.calls n regs t))

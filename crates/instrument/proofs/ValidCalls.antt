@@ -199,7 +199,7 @@ module _ (p : TranslationUnit) (q : IsProgram p) (numbers : FunctionsHaveNumbers
           (subst (λ z. Chosen r ls into args false false z) (sym other.exit) tt)));
     }
 
-    -- ---- all of them, in a function behind these
+    -- ---- all of them, in a function after these
 
     pub calls_valid : (before after : List Function) (current : Function) → before ++ (current ∷ after) ≡ p.funcs → (s : Scopes) → s.names ≡ p.names → s.functions ≡ map (signature p.funcs) (before ++ current ∷ []) → CallsValid p signatures ts s
     calls_valid before after current place s names known f t es k = by (resolved p q numbers before after current place s names known f t es k)

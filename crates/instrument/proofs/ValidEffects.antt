@@ -104,7 +104,7 @@ module _ (p : TranslationUnit) (numbers : List ℕ) where
   deep_full rs (Node at t (Cast to (Node at2 u (Call f es)))) = deep_called rs (Some (length (rs ++ arguments_temporaries es))) f es (suc (suc (nodes_of_all es))) (omega arith)
   deep_full rs e = deep_setup numbers rs e
 
-  -- a statement behind what stands in front of it
+  -- a statement after what stands before it
   pub deep_behind_full : (rs : List MonType) (e : Expression) (s : MonStatement) (n : ℕ) → nodes_of e ≤ n → depth s ≤ n → depth_of_all (before (full_setup p numbers rs e) (one s)) ≤ n
   deep_behind_full rs e s n few le = let d = deep_full rs e in deep_before (full_setup p numbers rs e) (one s) n (omega (arith, d, few)) (deep_one s n le)
 

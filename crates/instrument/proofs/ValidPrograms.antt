@@ -127,7 +127,7 @@ module _ (p : TranslationUnit) (q : IsProgram p) (numbers : FunctionsHaveNumbers
 
   -- ---- all of them
 
-  -- the names of functions in front, of which none with these numbers is one, nor `main` where it is behind
+  -- the names of functions in front, of which none with these numbers is one, nor `main` where it is after
   record Above (k : ℕ) (w : List ℕ) : Type 0 where
     pub other : (j : ℕ) (name : List ℕ) → k ≤ j → IsNumber j → bytes_eq (function_name j name) w ≡ false
     pub first : k ≤ m → bytes_eq (codes "main") w ≡ false

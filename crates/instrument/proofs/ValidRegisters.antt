@@ -69,7 +69,7 @@ abbrev OwnParts : List (List ℕ) → List Declaration → Type 0
 OwnParts names [] = Unit {0}
 OwnParts names (d ∷ ds) = AllParts (own_name names d) × OwnParts names ds
 
--- values, and other registers behind them
+-- values, and other registers after them
 values_valid : (names : List (List ℕ)) (k : ℕ) (ds : List Declaration) (before : List (List ℕ)) (rest : List MonRegister) → OwnParts names ds → IsNumber (k + length ds) → AllOf (AboveValues k) before
     → ((after : List (List ℕ)) → AllOf (AboveValues (k + length ds)) after → AreRegisters after rest) → AreRegisters before (values_from names k ds ++ rest)
 values_valid names k [] before rest o le h go = go before (all_of (AboveValues k) (AboveValues (k + 0)) before (λ w a. record { value = λ j name lt few. a.value j name (omega (arith, lt)) few; pointer = a.pointer; temporary = a.temporary }) h)

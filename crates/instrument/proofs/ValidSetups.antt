@@ -1,4 +1,4 @@
--- What stands in front of translated expressions is valid: types, steps and depth.
+-- What stands before translated expressions is valid: types, steps and depth.
 use Rattle.std.proofs.Common.{◌≡◌, ℕ, suc, ◌+◌, ◌≤◌, pos, Bool, true, false, not, ◌&&◌, List, [], ◌∷◌, ◌++◌, length, Option, Some, slice_get, max, refl, sym, ap, ◌∙◌, arith}
 use Rattle.std.proofs.Math.Nat.{max-le, le-max_left, le-max_right}
 use Rattle.c_syntax.specs.declared.types.CInt.{CInt}
@@ -55,7 +55,7 @@ deep_set r e n le = deep_one (tree.Set r e) n le
 deep_if : (c : MonExpression) (a b : MonStatements) (n m : ℕ) → depth_of_all a ≤ n → depth_of_all b ≤ n → suc n ≤ m → depth_of_all (one (tree.If c a b)) ≤ m
 deep_if c a b n m h k le = let x : max (depth_of_all a) (depth_of_all b) ≤ n = max-le h k in deep_one (tree.If c a b) m (omega (arith, x, le))
 
--- statements behind which an `if` stands
+-- statements after which an `if` stands
 deep_choice : (front : MonStatements) (c : MonExpression) (a b : MonStatements) (n m : ℕ) → depth_of_all front ≤ m → depth_of_all a ≤ n → depth_of_all b ≤ n → suc n ≤ m → depth_of_all (before front (one (tree.If c a b))) ≤ m
 deep_choice front c a b n m f h k le = deep_before front (one (tree.If c a b)) m f (deep_if c a b n m h k le)
 
@@ -103,7 +103,7 @@ deep_setup numbers rs (Node at t (Assign op a b)) = omega arith
 deep_setup numbers rs (Node at t (Bump op a)) = omega arith
 deep_setup numbers rs (Node at t (Call f es)) = omega arith
 
--- a statement behind what stands in front of it
+-- a statement after what stands before it
 pub deep_behind : (numbers : List ℕ) (rs : List MonType) (e : Expression) (s : MonStatement) (n : ℕ) → nodes_of e ≤ n → depth s ≤ n → depth_of_all (before (setup numbers rs e) (one s)) ≤ n
 deep_behind numbers rs e s n few le = deep_before (setup numbers rs e) (one s) n (omega (arith, deep_setup numbers rs e, few)) (deep_one s n le)
 
@@ -130,7 +130,7 @@ module _ (gs : List Signature) (ts : Types) (result : Option MonType) (numbers :
   one_valid : IsExpression ts (tree.Constant I32 (pos 1)) I32
   one_valid = record { typed = (refl, refl); within = omega arith }
 
-  -- the temporary register behind both sides
+  -- the temporary register after both sides
   last_of_two : (x y : Expression) (rs : Types) → Begins (rs ++ (temporaries x ++ temporaries y ++ I32 ∷ [])) ts → slice_get ts (length (rs ++ temporaries x ++ temporaries y)) ≡ Some I32
   last_of_two x y rs b = register_at (rs ++ temporaries x ++ temporaries y) ts I32 (both_begin ts x y rs b)
 

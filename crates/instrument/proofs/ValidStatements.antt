@@ -134,7 +134,7 @@ module _ (p : TranslationUnit) (gs : List Signature) (ts : Types) (result : Plai
 
   -- ---- loops
 
-  -- the labels behind a loop's step, and those of its body
+  -- the labels after a loop's step, and those of its body
   abbrev ended : ℕ → Labels
   ended loops = end_label (loops + 1) ∷ labels loops
 

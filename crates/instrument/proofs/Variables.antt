@@ -1,4 +1,4 @@
--- Variables in their blocks and in their registers, and the temporary registers behind them.
+-- Variables in their blocks and in their registers, and the temporary registers after them.
 use Rattle.std.proofs.Common.{◌≡◌, ◌≢◌, ℕ, zero, suc, ◌+◌, ◌<◌, ◌≤◌, ℤ, Bool, true, false, cond, nat_eq, List, [], ◌∷◌, ◌++◌, length, length-set, Option, Some, None, refl, sym, ap, ◌∙◌, subst, arith}
 use Rattle.std.proofs.lemmas.List.{take_all}
 use Rattle.std.proofs.lemmas.Bool.Decides.{nat_tests}
@@ -83,7 +83,7 @@ abbrev pub AllMatch : Setting → Store → List BlockValue → List Slot → Ty
 AllMatch w store regs [] = Unit {0}
 AllMatch w store regs (v ∷ vs) = Matches w store regs v × AllMatch w store regs vs
 
--- older variables have blocks in front of those of younger ones, between these indices
+-- older variables have blocks before those of younger ones, between these indices
 abbrev pub Stacked : ℕ → ℕ → List Slot → Type 0
 Stacked base n [] = base ≤ n
 Stacked base n (v ∷ vs) = (v.block < n) × Stacked base v.block vs
@@ -491,7 +491,7 @@ match_below w a b regs base n [] k h m = tt
 match_below w a b regs base n (v ∷ slots) k h m =
     (stays_matched w a b regs regs v (h v.block k.0) refl refl m.0, match_below w a b regs base v.block slots k.1 (λ j lt. h j (omega (arith, lt, k.0))) m.1)
 
--- ---- variables in front of others
+-- ---- variables before others
 
 pub kept_behind : (new slots : List Slot) (a b : Store) → AllKept (new ++ slots) a b → AllKept slots a b
 kept_behind [] slots a b h = h

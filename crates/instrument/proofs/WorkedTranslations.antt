@@ -77,7 +77,7 @@ program names fs = record { names = names; texts = []; structs = []; enums = [];
 abbrev no_input : Input
 no_input = record { bytes = []; tail = EndOfInput }
 
--- ---- `b && x`, where `b` is an unsigned char: the right side stands in an `if`, which sets the register 4, behind those of the blocks
+-- ---- `b && x`, where `b` is an unsigned char: the right side stands in an `if`, which sets the register 4, after those of the blocks
 
 abbrev both : Expression
 both = Node (here 1) int_type (source.Both (variable c.U8 3) (int 2))

@@ -1,5 +1,5 @@
 -- Ours: what loops of the code have added so far.
--- What stands behind the variables and the code that are there.
+-- What stands after the variables and the code that are there.
 use Rattle.std.specs.Prelude.{◌≡◌, ◌++◌, ℕ, List, length, map}
 use Rattle.c_syntax.specs.Statements.{Declaration}
 use Rattle.c_model.specs.Formed.{number_of}

@@ -32,13 +32,13 @@ while_loop a e = While a.place [] (plain_expr e) (plain_stmt a)
 abbrev pub do_loop : Stmt → Expr → Statement
 do_loop a e = Do a.place (plain_stmt a) (plain_expr e)
 
--- the loop of a `for`, behind what stands first in it
+-- the loop of a `for`, after what stands first in it
 abbrev pub turns : TranslationUnit → List ℕ → Spot → List MonType → Option Expression → Option Expression → Statement → MonStatements
 turns p numbers spot rs e step a =
     one (loop (spot.loops + 1) (test_if_any numbers rs (spot.loops + 1) e) (statement p numbers (in_loop spot) (rs ++ any_temporaries temporaries e) a)
     (effect_if_any p numbers (rs ++ any_temporaries temporaries e ++ statement_temporaries a) step))
 
--- behind the births of these blocks
+-- after the births of these blocks
 abbrev pub with_blocks : List ℕ → Spot → Spot
 with_blocks own spot = record spot { inside = own ++ spot.inside }
 

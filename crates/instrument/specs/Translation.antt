@@ -105,7 +105,7 @@ abbrev pub test_if_any : List ℕ → List MonType → ℕ → Option Expression
 test_if_any numbers rs loops None = NoStatement
 test_if_any numbers rs loops (Some e) = test numbers rs loops e
 
--- what stands in front of the step, the body, and what stands behind it
+-- what stands before the step, the body, and what stands after it
 abbrev pub loop : ℕ → MonStatements → MonStatements → MonStatements → MonStatement
 loop loops front body behind = Labelled (one (Loop front (Then (Labelled body (next_label loops)) behind))) (end_label loops)
 
@@ -120,7 +120,7 @@ pub record Spot : Type 0 where
 abbrev pub in_loop : Spot → Spot
 in_loop spot = record { loops = spot.loops + 1; inside = []; outside = spot.inside ++ spot.outside }
 
--- behind the births of these variables
+-- after the births of these variables
 abbrev pub with_variables : List ℕ → List Declaration → Spot → Spot
 with_variables numbers ds spot = record spot { inside = with_born numbers ds spot.inside }
 
@@ -129,7 +129,7 @@ with_variables numbers ds spot = record spot { inside = with_born numbers ds spo
 module _ (p : TranslationUnit) (numbers : List ℕ) where
   -- ---- statements
 
-  -- all blocks of the function die in front of the `return`, and the value is in registers
+  -- all blocks of the function die before the `return`, and the value is in registers
   abbrev pub returned : Spot → List MonType → Option Expression → MonStatements
   returned spot rs None = before (deaths (spot.inside ++ spot.outside)) (one (Return None))
   returned spot rs (Some e) =

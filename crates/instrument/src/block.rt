@@ -62,7 +62,7 @@ pub fn leave(alloc: Global, blocks: &[u32], to: &mut Vec<MonStmt>) -> Result<(),
     then_all(to, track_scopes::leave(alloc, blocks)?)
 }
 
-/// The blocks that live inside scopes: their own, and in front of which these lived.
+/// The blocks that live inside scopes: their own, and before which these lived.
 pub fn inside(alloc: Global, own: &[u32], around: &[u32]) -> Result<Vec<u32>, AllocError>
     ensures { IfOk result (λ all. all.items ≡ own.now ++ around.now) }
 {

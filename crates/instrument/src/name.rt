@@ -9,7 +9,7 @@ use std::alloc::{AllocError, Global};
 
 const MOST_IN_NAME: usize = 255;
 
-// A word, and a number behind it.
+// A word, and a number after it.
 fn numbered(alloc: Global, word: &[u8], number: usize) -> Result<Vec<u8>, AllocError>
     ensures { IfOk result (λ bytes. bytes.items ≡ word.now ++ decimal number) }
 {
@@ -26,7 +26,7 @@ fn short(alloc: Global, word: &[u8], number: usize) -> Result<Name, AllocError>
     Ok(Name::new(numbered(alloc, word, number)?))
 }
 
-// The same with a name behind it, as far as there is room.
+// The same with a name after it, as far as there is room.
 fn long(alloc: Global, word: &[u8], number: usize, name: &[u8]) -> Result<Name, AllocError>
     ensures { IfOk result (λ bytes. bytes ≡ take 255 (word.now ++ (decimal number ++ (codes "_" ++ name.now)))) }
 {

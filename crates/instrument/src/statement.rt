@@ -110,7 +110,7 @@ fn leave_unless_any(
     }
 }
 
-// `break` or `continue`: the blocks of the variables that are left die in front of it.
+// `break` or `continue`: the blocks of the variables that are left die before it.
 #[tactic(auto, using(c_effects::proofs::Sequences::before_assoc))]
 fn jump(alloc: Global, live: &[u32], label: Name, to: &mut Vec<MonStmt>) -> Result<(), AllocError>
     ensures { OnOk result (plain_stmts to.new.items ≡ before (plain_stmts to.old.items) (before (deaths live.now) (one (Goto label)))) }
@@ -144,7 +144,7 @@ fn leave_all(alloc: Global, spot: &Spot<'_>, to: &mut Vec<MonStmt>) -> Result<()
     leave(alloc, spot.outside, to)
 }
 
-// `return`: all blocks of the function die in front of it, and the value is in registers.
+// `return`: all blocks of the function die before it, and the value is in registers.
 #[tactic(auto, using(c_effects::proofs::Sequences::before_assoc))]
 fn give_back(
     alloc: Global,
@@ -173,7 +173,7 @@ fn give_back(
     }
 }
 
-// A loop, from what stands in front of its step and behind it.
+// A loop, from what stands before its step and after it.
 fn repeat(
     alloc: Global,
     loops: u32,
@@ -189,7 +189,7 @@ fn repeat(
     then(alloc, to, MonStmtKind::Labelled(turns, label))
 }
 
-// The body of a loop, behind which a `continue` goes on.
+// The body of a loop, after which a `continue` goes on.
 #[cycle(statement)]
 fn round(
     alloc: Global,
@@ -215,7 +215,7 @@ fn round(
     labelled(alloc, loops, body)
 }
 
-// Statements behind which a `continue` goes on.
+// Statements after which a `continue` goes on.
 #[tactic(auto, using(mon_syntax::proofs::Rows::labelled_is))]
 fn labelled(alloc: Global, loops: u32, body: Vec<MonStmt>) -> Result<Vec<MonStmt>, AllocError>
     ensures { IfOk result (λ code. plain_stmts code.items ≡ one (Labelled (plain_stmts body.items) (next_label loops))) }
@@ -226,7 +226,7 @@ fn labelled(alloc: Global, loops: u32, body: Vec<MonStmt>) -> Result<Vec<MonStmt
     )
 }
 
-/// Translates a statement, behind the statements and the registers that are there.
+/// Translates a statement, after the statements and the registers that are there.
 #[cycle(statement)]
 pub fn statement(
     alloc: Global,
@@ -307,7 +307,7 @@ fn do_loop(
     repeat(alloc, loops, Vec::new(alloc), behind, to)
 }
 
-// What stands first in a `for`, behind the births of its variables' blocks, which it gives.
+// What stands first in a `for`, after the births of its variables' blocks, which it gives.
 #[cycle(statement)]
 fn enter_for(
     alloc: Global,

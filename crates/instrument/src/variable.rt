@@ -32,7 +32,7 @@ fn own_name<'a>(texts: &'a [Name], d: &Decl) -> &'a [u8]
     if d.named { name_at(texts, d.name) } else { &[] }
 }
 
-// A variable for each declaration, behind those that are there.
+// A variable for each declaration, after those that are there.
 fn declare(
     alloc: Global,
     texts: &[Name],

@@ -1,5 +1,5 @@
 -- Ours: how the code of a production compares with its grammar (mon_syntax/specs/Grammar).
--- What a function returned is what the production gives, unless memory was wanting.
+-- What a function returned is what the production gives, unless memory ran out.
 use Rattle.std.specs.Prelude.{◌≡◌, ℕ, ◌-◌, ℤ, neg_ℤ, Bool, List, [], ◌∷◌, ◌++◌, map, Option, option_map, Result, Ok, Err, if◌then◌else◌}
 use Rattle.grammar.specs.Syntax.{Syntax, gives, one, ◌then◌, many, Fault, At, Over}
 use Rattle.c_syntax.specs.declared.place.Place.{Place}
@@ -47,7 +47,7 @@ abbrev pub plain_loop : code_loop.LoopRead → LoopRead
 plain_loop x = record { before = map plain_stmt x.before.items; behind = option_map (λ v. map plain_stmt v.items) x.behind }
 
 module _ (ws : Vocabulary) where
-  -- ---- repetitions, behind what is read
+  -- ---- repetitions, after what is read
 
   unfoldable pub more_arguments : List ParsedArgument → Syntax PlainToken (List ParsedArgument)
   more_arguments xs = many (kind ws) (λ _. mark_kind comma ∷ []) (next_argument ws) xs
@@ -67,25 +67,25 @@ module _ (ws : Vocabulary) where
   unfoldable pub more_functions : List ParsedFunction → Syntax PlainToken (List ParsedFunction)
   more_functions fs = many (kind ws) (λ _. first_function) (one_more_function ws) fs
 
-  -- ---- the ends of productions, behind what is read
+  -- ---- the ends of productions, after what is read
 
-  -- a number, behind its sign where it has one
+  -- a number, after its sign where it has one
   unfoldable pub unsigned_number : Bool → Syntax PlainToken ℤ
   unsigned_number negative = one (placed number_of) then λ z. gives (if negative then neg_ℤ z.0 else z.0)
 
-  -- ")", behind an expression
+  -- ")", after an expression
   unfoldable pub closed : ParsedExpression → Syntax PlainToken ParsedExpression
   closed e = mark ws right_paren then λ _. gives e
 
-  -- an operation behind its operator
+  -- an operation after its operator
   unfoldable pub right_operand : Syntax PlainToken ParsedExpression → ParsedExpression → Place → MonOp → Syntax PlainToken ParsedExpression
   right_operand E left at op = E then λ right. closed (Binary at op left right)
 
-  -- a constant behind its parenthesis
+  -- a constant after its parenthesis
   unfoldable pub constant_value : Place → MonType → Syntax PlainToken ParsedExpression
   constant_value at t = signed_number ws then λ z. closed (Constant at t z)
 
-  -- a cast behind its type and parenthesis
+  -- a cast after its type and parenthesis
   unfoldable pub cast_operand : Syntax PlainToken ParsedExpression → Place → MonType → Syntax PlainToken ParsedExpression
   cast_operand E at t = E then λ e. closed (Cast at t e)
 
@@ -99,7 +99,7 @@ module _ (ws : Vocabulary) where
   unfoldable pub value_argument : Syntax PlainToken ParsedArgument
   value_argument = expression ws then λ e. gives (Value e)
 
-  -- a call whose value isn't taken, behind its name
+  -- a call whose value isn't taken, after its name
   unfoldable pub call_statement : Bool → NameUse → Syntax PlainToken ParsedStatement
   call_statement some f = call_of ws some f then λ c. ended ws (Call c)
 
@@ -107,7 +107,7 @@ module _ (ws : Vocabulary) where
   unfoldable pub named_statement : Bool → Syntax PlainToken ParsedStatement
   named_statement no_step = name ws then λ x. behind_name ws no_step x
 
-  -- a selection behind `if (`
+  -- a selection after `if (`
   unfoldable pub condition : InBody ws → Syntax PlainToken ParsedStatement
   condition S = expression ws then λ e. mark ws right_paren then λ _. body ws S then λ a. fixed ws else_kind then λ _. body ws S then λ b. gives (If e a b)
 
@@ -119,7 +119,7 @@ module _ (ws : Vocabulary) where
   unfoldable pub second_branch : InBody ws → ParsedExpression → ParsedStatements → Syntax PlainToken ParsedStatement
   second_branch S e a = body ws S then λ b. gives (If e a b)
 
-  -- a loop behind `while (`
+  -- a loop after `while (`
   unfoldable pub forever : InBody ws → Syntax PlainToken ParsedStatement
   forever S = one (placed is_one) then λ _. mark ws right_paren then λ _. mark ws left_brace then λ _. more_in_loop S nothing_read then λ x. loop_end ws x
 
@@ -127,27 +127,27 @@ module _ (ws : Vocabulary) where
   unfoldable pub loop_body : InBody ws → Syntax PlainToken ParsedStatement
   loop_body S = mark ws left_brace then λ _. more_in_loop S nothing_read then λ x. loop_end ws x
 
-  -- a label behind its body
+  -- a label after its body
   unfoldable pub label_behind : ParsedStatements → Syntax PlainToken ParsedStatement
   label_behind a = name ws then λ l. mark ws colon then λ _. ended ws (Labelled a l)
 
-  -- ":" ";", behind a labelled body
+  -- ":" ";", after a labelled body
   unfoldable pub label_end : ParsedStatement → Syntax PlainToken ParsedStatement
   label_end a = mark ws colon then λ _. ended ws a
 
-  -- a register behind its type
+  -- a register after its type
   unfoldable pub named_register : List ParsedRegister → MonType → Syntax PlainToken (List ParsedRegister)
   named_register rs t = name ws then λ x. mark ws semicolon then λ _. gives (rs ++ record { kind = t; name = x } ∷ [])
 
-  -- ";", behind a register
+  -- ";", after a register
   unfoldable pub register_end : List ParsedRegister → ParsedRegister → Syntax PlainToken (List ParsedRegister)
   register_end rs one = mark ws semicolon then λ _. gives (rs ++ one ∷ [])
 
-  -- a parameter behind its comma
+  -- a parameter after its comma
   unfoldable pub one_more_parameter : List ParsedRegister → Syntax PlainToken (List ParsedRegister)
   one_more_parameter ps = parameter ws then λ p. gives (ps ++ p ∷ [])
 
-  -- a function behind its name
+  -- a function after its name
   unfoldable pub function_rest : Option MonType → NameUse → Syntax PlainToken ParsedFunction
   function_rest r f = mark ws left_paren then λ _. parameters ws then λ ps. mark ws right_paren then λ _. function_body ws r f ps
 

@@ -65,7 +65,7 @@ fn argument<'a>(
     }
 }
 
-/// `"," argument`, behind those that are read.
+/// `"," argument`, after those that are read.
 #[tactic(auto, unfolding(mon_syntax::specs::Grammar::next_argument))]
 fn next_argument<'a>(
     alloc: Global,
@@ -83,7 +83,7 @@ fn next_argument<'a>(
     Ok((all, rest))
 }
 
-/// The arguments behind those that are read.
+/// The arguments after those that are read.
 #[tactic(auto, using(crate::proofs::Steps::arguments_turn, crate::proofs::Steps::arguments_fails, crate::proofs::Steps::arguments_ends, crate::proofs::Steps::arguments_shorter))]
 fn more_arguments<'a>(
     alloc: Global,

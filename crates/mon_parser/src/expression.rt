@@ -37,7 +37,7 @@ fn opened<'a>(
     }
 }
 
-/// A number, behind its sign where it has one.
+/// A number, after its sign where it has one.
 #[tactic(auto, unfolding(crate::specs::Reading::unsigned_number))]
 fn unsigned_number<'a>(
     words: &[Word],
@@ -68,7 +68,7 @@ fn signed_number<'a>(
     }
 }
 
-/// `")"`, behind an expression.
+/// `")"`, after an expression.
 #[tactic(auto, unfolding(crate::specs::Reading::closed))]
 fn closed<'a>(
     words: &[Word],
@@ -132,7 +132,7 @@ fn plain_operand<'a>(
     }
 }
 
-/// `expr ")"`, behind the operator and the left operand.
+/// `expr ")"`, after the operator and the left operand.
 #[tactic(auto, unfolding(crate::specs::Reading::right_operand))]
 #[cycle(expression)]
 fn right_operand<'a>(
@@ -242,7 +242,7 @@ fn cast<'a>(
     cast_operand(alloc, words, room, place, kind, rest)
 }
 
-/// What stands behind two parentheses: a cast, or a first operand that begins with the second of them.
+/// What stands after two parentheses: a cast, or a first operand that begins with the second of them.
 #[tactic(auto, unfolding(mon_syntax::specs::Grammar::behind_two))]
 #[cycle(expression)]
 #[inline(never)]
@@ -264,7 +264,7 @@ fn behind_two<'a>(
     }
 }
 
-/// A first operand that begins with no parenthesis, and what stands behind it.
+/// A first operand that begins with no parenthesis, and what stands after it.
 #[tactic(auto, unfolding(crate::specs::Reading::plain_operation))]
 #[cycle(expression)]
 fn plain_operation<'a>(
@@ -280,7 +280,7 @@ fn plain_operation<'a>(
     second_operand(alloc, words, room, left, rest)
 }
 
-/// What stands behind a parenthesis that was opened where so many more might be, up to its end.
+/// What stands after a parenthesis that was opened where so many more might be, up to its end.
 #[tactic(auto, using(crate::proofs::Steps::behind_is, crate::proofs::Steps::behind_none), unfolding(mon_syntax::specs::Grammar::behind_paren, mon_syntax::specs::Grammar::expression_in, crate::specs::Reading::plain_operation))]
 #[cycle(expression)]
 fn behind_opened<'a>(

@@ -42,7 +42,7 @@ pub struct ParsedExpr {
     pub kind: Box<ParsedExprKind>,
 }
 
-/// What an expression is, and its place: its operator's token for a binary one, the token behind its first parenthesis
+/// What an expression is, and its place: its operator's token for a binary one, the token after its first parenthesis
 /// for a unary operator and a cast, and else its first token.
 #[derive(Drop)]
 #[cycle(expression)]
@@ -98,7 +98,7 @@ pub enum ParsedStmtKind {
     Take(NameUse, Place, ParsedCall),
     Call(ParsedCall),
     If(ParsedExpr, Vec<ParsedStmt>, Vec<ParsedStmt>),
-    /// What stands before the loop's step, and what behind it.
+    /// What stands before the loop's step, and what after it.
     Loop(Vec<ParsedStmt>, Vec<ParsedStmt>),
     Labelled(Vec<ParsedStmt>, NameUse),
     Goto(NameUse),

@@ -22,7 +22,7 @@ use std::alloc::Global;
 /// How deep statements may stand in one another, the function's body being 1 deep.
 const MOST_NESTED: u32 = 2000;
 
-/// `";"`, behind a register that comes behind those that are read.
+/// `";"`, after a register that comes after those that are read.
 #[tactic(auto, unfolding(crate::specs::Reading::register_end))]
 fn register_end<'a>(
     words: &[Word],
@@ -39,7 +39,7 @@ fn register_end<'a>(
     Ok((all, rest))
 }
 
-/// `NAME ";"`, a register of the type behind those that are read.
+/// `NAME ";"`, a register of the type after those that are read.
 #[tactic(auto, unfolding(crate::specs::Reading::named_register, crate::specs::Reading::register_end))]
 fn named_register<'a>(
     words: &[Word],
@@ -54,7 +54,7 @@ fn named_register<'a>(
     register_end(words, all, ParsedRegister { kind, name }, rest)
 }
 
-/// `type NAME ";"`, behind those that are read.
+/// `type NAME ";"`, after those that are read.
 #[tactic(auto, unfolding(mon_syntax::specs::Grammar::register, crate::specs::Reading::named_register, crate::specs::Reading::register_end))]
 fn register<'a>(
     words: &[Word],
@@ -68,7 +68,7 @@ fn register<'a>(
     named_register(words, all, kind, rest)
 }
 
-/// The registers behind those that are read.
+/// The registers after those that are read.
 #[tactic(auto, using(crate::proofs::Steps::registers_turn, crate::proofs::Steps::registers_fails, crate::proofs::Steps::registers_ends, crate::proofs::Steps::registers_shorter))]
 fn more_registers<'a>(
     words: &[Word],
@@ -120,7 +120,7 @@ fn parameter<'a>(
     Ok((ParsedRegister { kind, name }, rest))
 }
 
-/// A parameter behind those that are read.
+/// A parameter after those that are read.
 #[tactic(auto, unfolding(crate::specs::Reading::one_more_parameter))]
 fn one_more_parameter<'a>(
     words: &[Word],
@@ -136,7 +136,7 @@ fn one_more_parameter<'a>(
     Ok((all, rest))
 }
 
-/// `"," parameter`, behind those that are read.
+/// `"," parameter`, after those that are read.
 #[tactic(auto, unfolding(mon_syntax::specs::Grammar::next_parameter, crate::specs::Reading::one_more_parameter))]
 fn next_parameter<'a>(
     words: &[Word],
@@ -150,7 +150,7 @@ fn next_parameter<'a>(
     one_more_parameter(words, all, rest)
 }
 
-/// The parameters behind those that are read.
+/// The parameters after those that are read.
 #[tactic(auto, using(crate::proofs::Steps::parameters_turn, crate::proofs::Steps::parameters_fails, crate::proofs::Steps::parameters_ends, crate::proofs::Steps::parameters_shorter))]
 fn more_parameters<'a>(
     words: &[Word],
@@ -267,7 +267,7 @@ fn function_body<'a>(
     function_statements(alloc, words, returned, name, parameters, registers, rest)
 }
 
-/// A function behind its result and its name.
+/// A function after its result and its name.
 #[tactic(auto, unfolding(crate::specs::Reading::function_rest))]
 fn function_rest<'a>(
     alloc: Global,
@@ -297,7 +297,7 @@ fn function<'a>(
     function_rest(alloc, words, returned, name, rest)
 }
 
-/// A function behind those that are read.
+/// A function after those that are read.
 #[tactic(auto, unfolding(mon_syntax::specs::Grammar::one_more_function))]
 fn one_more_function<'a>(
     alloc: Global,
@@ -314,7 +314,7 @@ fn one_more_function<'a>(
     Ok((all, rest))
 }
 
-/// The functions behind those that are read.
+/// The functions after those that are read.
 #[tactic(auto, using(crate::proofs::Steps::functions_turn, crate::proofs::Steps::functions_fails, crate::proofs::Steps::functions_ends, crate::proofs::Steps::functions_shorter))]
 fn more_functions<'a>(
     alloc: Global,

@@ -24,7 +24,7 @@ use c_syntax::{Place, Token};
 use mon_syntax::{Runtime, Word};
 use std::alloc::{AllocError, AllocFailed, Global};
 
-/// The statements of a loop that are read so far: those before its step, and those behind it where it is read.
+/// The statements of a loop that are read so far: those before its step, and those after it where it is read.
 #[derive(Drop)]
 struct LoopRead {
     before: Vec<ParsedStmt>,
@@ -120,7 +120,7 @@ fn make_labelled(
     ParsedStmt::new(alloc, ParsedStmtKind::Labelled(body, label))
 }
 
-/// `";"`, behind a statement.
+/// `";"`, after a statement.
 #[tactic(auto, unfolding(mon_syntax::specs::Grammar::ended))]
 fn ended<'a>(
     words: &[Word],
@@ -151,7 +151,7 @@ fn set_to_call<'a>(
     ended(words, statement, rest)
 }
 
-/// Behind `NAME "=" NAME`.
+/// After `NAME "=" NAME`.
 #[tactic(auto, unfolding(mon_syntax::specs::Grammar::set_to_name))]
 fn set_to_name<'a>(
     alloc: Global,
@@ -173,7 +173,7 @@ fn set_to_name<'a>(
     }
 }
 
-/// Behind `NAME "="`.
+/// After `NAME "="`.
 #[tactic(auto, unfolding(mon_syntax::specs::Grammar::set_to))]
 fn set_to<'a>(
     alloc: Global,
@@ -194,7 +194,7 @@ fn set_to<'a>(
     }
 }
 
-/// A call whose value isn't taken, behind its name; it has an argument where it is to have one.
+/// A call whose value isn't taken, after its name; it has an argument where it is to have one.
 #[tactic(auto, unfolding(crate::specs::Reading::call_statement))]
 fn call_statement<'a>(
     alloc: Global,
@@ -210,7 +210,7 @@ fn call_statement<'a>(
     ended(words, statement, rest)
 }
 
-/// Behind a name: an assignment or a call, which is no `__e_acsl_step();` where it may be none.
+/// After a name: an assignment or a call, which is no `__e_acsl_step();` where it may be none.
 #[tactic(auto, unfolding(mon_syntax::specs::Grammar::behind_name, crate::specs::Reading::call_statement))]
 fn behind_name<'a>(
     alloc: Global,
@@ -260,7 +260,7 @@ fn jump<'a>(
     ended(words, statement, rest)
 }
 
-/// `[ expr ] ";"`, behind `return` at this place.
+/// `[ expr ] ";"`, after `return` at this place.
 #[tactic(auto, unfolding(mon_syntax::specs::Grammar::returned))]
 fn returned<'a>(
     alloc: Global,
@@ -331,7 +331,7 @@ fn one_more<'a>(
     Ok((all, rest))
 }
 
-/// The statements behind those that are read.
+/// The statements after those that are read.
 #[tactic(auto, using(crate::proofs::Steps::statements_turn, crate::proofs::Steps::statements_fails, crate::proofs::Steps::statements_ends, crate::proofs::Steps::statements_shorter))]
 #[cycle(statement)]
 pub fn more_statements<'a>(
@@ -372,7 +372,7 @@ fn body<'a>(
     Ok((all, rest))
 }
 
-/// The second body, behind the condition and the first one.
+/// The second body, after the condition and the first one.
 #[tactic(auto, unfolding(crate::specs::Reading::second_branch))]
 #[cycle(statement)]
 fn second_branch<'a>(
@@ -391,7 +391,7 @@ fn second_branch<'a>(
     Ok((make_if(alloc, condition, then, otherwise)?, rest))
 }
 
-/// `body "else" body`, behind the condition.
+/// `body "else" body`, after the condition.
 #[tactic(auto, unfolding(crate::specs::Reading::branches, crate::specs::Reading::second_branch))]
 #[cycle(statement)]
 fn branches<'a>(
@@ -458,7 +458,7 @@ fn one_more_in_loop<'a>(
     Ok((with_statement(alloc, words, read, one)?, rest))
 }
 
-/// The statements of a loop behind those that are read.
+/// The statements of a loop after those that are read.
 #[tactic(auto, using(crate::proofs::Steps::loop_turn, crate::proofs::Steps::loop_fails, crate::proofs::Steps::loop_ends, crate::proofs::Steps::loop_shorter))]
 #[cycle(statement)]
 fn more_in_loop<'a>(
@@ -534,7 +534,7 @@ fn iteration<'a>(
     forever(alloc, words, levels, rest)
 }
 
-/// `":" ";"`, behind a body and its label.
+/// `":" ";"`, after a body and its label.
 #[tactic(auto, unfolding(crate::specs::Reading::label_end))]
 fn label_end<'a>(
     words: &[Word],
@@ -548,7 +548,7 @@ fn label_end<'a>(
     ended(words, statement, rest)
 }
 
-/// `NAME ":" ";"`, behind the label's body.
+/// `NAME ":" ";"`, after the label's body.
 #[tactic(auto, unfolding(crate::specs::Reading::label_behind, crate::specs::Reading::label_end))]
 fn label_behind<'a>(
     alloc: Global,

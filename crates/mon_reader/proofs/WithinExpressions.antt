@@ -46,7 +46,7 @@ module _ (size : ℕ) (ws : Vocabulary) where
   abbrev pub Each : {A : Type 0} → Syntax PlainToken A → (A → Type 0) → Type 0
   Each G P = EachWithin (IsLexed size) G P
 
-  -- a part of which nothing is known, and another behind it
+  -- a part of which nothing is known, and another after it
   pub after : {A B : Type 0} (G : Syntax PlainToken A) {H : A → Syntax PlainToken B} {Q : B → Type 0} → ((x : A) → Each (H x) Q) → Each (G then H) Q
   after G h = within_then within_any (λ x _. h x)
 

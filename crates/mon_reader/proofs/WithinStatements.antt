@@ -134,7 +134,7 @@ module _ (size : ℕ) (ws : Vocabulary) where
   no_part : (n : ℕ) → IsPart n []
   no_part n = record { nested = record { within = tt; deep = omega arith }; plain = refl }
 
-  -- what stands behind the step, which is itself a statement of the body
+  -- what stands after the step, which is itself a statement of the body
   abbrev IsBehind : ℕ → Option (List ParsedStatement) → Type 0
   IsBehind n None = Unit {0}
   IsBehind n (Some xs) = IsPart n xs × (0 < n)

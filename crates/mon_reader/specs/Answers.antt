@@ -14,7 +14,7 @@ use Rattle.mon_parser.specs.Answers.{RefusesWith}
 use Rattle.mon_typing.specs.declared.fault.CheckFault.{CheckFault}
 use Rattle.mon_typing.specs.declared.fault.CheckFault.TheVariants.{BadName, BadType, Memory}
 
--- a refusal is the text's; nothing is said where memory was wanting
+-- a refusal is the text's; nothing is said when memory ran out
 abbrev pub Refuses : FrontFault → List ℕ → Type 0
 Refuses front.Memory text = Unit {0}
 Refuses (front.Refused r) text = IsMonitoredRefusal text (plain_refusal r)

@@ -25,12 +25,12 @@ output-writes : {S A : Type 0} (o : List ℕ) (x : Result S A) → output_of (wr
 output-writes o (Done a s p) = refl
 output-writes o (Stops e n p) = refl
 
--- what a part wrote stands in front of what is written after it
+-- what a part wrote stands before what is written after it
 extends-then : {S A B : Type 0} (x : Result S A) (go : A → S → Result S B) → Extends (output_of x) (output_of (then_do x go))
 extends-then (Done a s o) go = record { rest = output_of (go a s); is = output-writes o (go a s) }
 extends-then (Stops e n o) go = record { rest = []; is = sym (append-nil o) }
 
--- what a part does where another stops so: the same, or anything behind the same output where the other is undefined
+-- what a part does where another stops so: the same, or anything after the same output where the other is undefined
 abbrev StopsAs : {S A : Type 0} → Final → ℕ → List ℕ → Result S A → Type 0
 StopsAs (Exits z) n o r = r ≡ Stops (Exits z) n o
 StopsAs (Broken number line kind how) n o r = r ≡ Stops (Broken number line kind how) n o
@@ -134,7 +134,7 @@ module _ (L F : Memory) (S : Follows L F) where
   Related w Q (Done a s o) (Stops e n p) = ⊥
   Related w Q (Stops e n o) r = StopsAs e n o r
 
-  -- from a later world, and behind some output
+  -- from a later world, and after some output
   related_later : {A B : Type 0} (w u : S.World) (Q : S.World → A → B → Type 0) (o : List ℕ) (x : Result (State L.Mem) A) (y : Result (State F.Mem) B) → S.Later w u → Related u Q x y → Related w Q (writes o x) (writes o y)
   related_later w u Q o (Done a s p) (Done b t q) le r = (r.0, S.later_trans w u r.0 le r.1, r.2, r.3, ap (λ l. o ++ l) r.4)
   related_later w u Q o (Done a s p) (Stops e n q) le r = r
@@ -281,7 +281,7 @@ module _ (L F : Memory) (S : Follows L F) where
       by None = ap (λ k. Stops ReadFault k []) (sym d)
       by (Some (z, r)) = h z r
 
-  -- the value of a call goes to a register, in the world behind the call
+  -- the value of a call goes to a register, in the world after the call
   value_alike : (x : Option ℕ) (w : S.World) (xs : List L.Val) (ys : List F.Val) (r : Result (State L.Mem) L.Val) (q : Result (State F.Mem) F.Val)
       → Registers w xs ys → Related w S.Same r q
       → Related w SameFlow (then_do r (λ v s. Done (Next (given_to x v xs)) s [])) (then_do q (λ v s. Done (Next (given_to x v ys)) s []))

@@ -15,7 +15,7 @@ use Rattle.mon_syntax.proofs.ExactTokens.{IsRead, fixed_good, name_good, number_
 abbrev pub paren : List ℕ
 paren = mark_kind left_paren ∷ []
 
--- what can stand behind one
+-- what can stand after one
 abbrev pub first_behind : List ℕ
 first_behind = mark_kind minus ∷ mark_kind tilde ∷ first_expression
 

@@ -54,7 +54,7 @@ Same w (Whole z) y = z ≡ y
 Same w (Points Null) y = pos 0 ≡ y
 Same w (Points (Into number offset)) y = PointsTo w number offset y
 
--- each live block stands behind the older ones
+-- each live block stands after the older ones
 abbrev Stand : World → List LiveBlock → Type 0
 Stand w [] = Unit {0}
 Stand w (b ∷ older) = (address_of w b.number ≡ Some (stack_end older)) × Stand w older

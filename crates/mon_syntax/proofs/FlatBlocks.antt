@@ -65,7 +65,7 @@ pub record Dies (k i : ℕ) (bs : Store) (found : List LiveBlock) : Type 0 where
   pub was : live_from k bs found ≡ record { number = suc (k + i); size = size } ∷ older
   pub is : live_from k (dead_at i (slice_get bs i) bs) found ≡ older
 
--- what was found stands in front of the index k
+-- what was found stands before the index k
 abbrev IsBelow : ℕ → Option ℕ → Type 0
 IsBelow k None = Unit {0}
 IsBelow k (Some j) = j < k

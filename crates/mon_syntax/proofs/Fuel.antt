@@ -78,7 +78,7 @@ module _ (M : Memory) where
   fit_next k f g h (Goes i r) s l = (refl, omega arith)
   fit_next k f g h (Returns v) s l = (refl, omega arith)
 
-  -- one turn: what stands before the step, the step, what stands behind it, and the other turns
+  -- one turn: what stands before the step, the step, what stands after it, and the other turns
   abbrev turn : Does M → Does M → Does M → Does M
   turn before behind again regs s =
       then_do (before regs s) (at_next (λ r t. step_from t.steps (λ k. then_do (behind r (record t { steps = k })) (at_next again))))

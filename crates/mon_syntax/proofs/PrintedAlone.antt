@@ -148,7 +148,7 @@ module _ (bs : List ℕ) where
   unfolding piece_at marks
   alone_right_brace = (omega arith, both _ refl refl)
 
-  -- in front of a blank
+  -- before a blank
   alone_assign : IsAlone (Mark (codes "=")) (32 ∷ bs)
   unfolding piece_at marks
   alone_assign = (omega arith, both _ refl refl)
@@ -172,12 +172,12 @@ module _ (bs : List ℕ) where
   alone_operator Gt = (omega arith, both _ refl refl)
   alone_operator Ge = (omega arith, both _ refl refl)
 
-  -- a minus in front of a byte with which it makes no longer punctuator
+  -- a minus before a byte with which it makes no longer punctuator
   alone_minus : (b : ℕ) → eqb 45 b ≡ false → eqb 62 b ≡ false → eqb 61 b ≡ false → IsAlone (Mark (codes "-")) (b ∷ bs)
   unfolding piece_at marks
   alone_minus b m g e = (omega arith, both _ (rw (m, g, e) refl) (rw (m, g, e) refl))
 
--- what a minus stands alone in front of
+-- what a minus stands alone before
 record IsClear (bs : List ℕ) : Type 0 where
   first : ℕ
   others : List ℕ
@@ -486,7 +486,7 @@ pub registers_alone : (rs : List MonRegister) (before : List (List ℕ)) (more :
 registers_alone [] before more h m = m
 registers_alone (r ∷ rs) before more h m = (line_blank 1, ((type_is_word r.kind, refl), (refl, ((free_word r.name h.0, refl), (alone_semicolon _, registers_alone rs (r.name ∷ before) more h.2 m)))))
 
--- a name in front of what stands behind a parameter
+-- a name before what stands after a parameter
 parameter_stop : (ps : Registers) (more : Pieces) → Stops is_part (spelled (more_parameters ps ++ (right_paren ∷ more)))
 parameter_stop [] more = refl
 parameter_stop (p ∷ ps) more = refl
@@ -503,7 +503,7 @@ parameters_alone [] rest more h m = ((refl, refl), (alone_right_paren _, m))
 parameters_alone (p ∷ ps) rest more h m =
     ((type_is_word p.kind, refl), (refl, ((free_word p.name h.0, parameter_stop ps more), more_parameters_alone ps rest (p.name ∷ []) more h.2 m)))
 
--- registers behind parameters
+-- registers after parameters
 registers_behind : (ps rs : Registers) (before : List (List ℕ)) (more : Pieces) → AreRegisters before (ps ++ rs) → AreAlone more
     → AreAlone (registers_pieces rs ++ more)
 registers_behind [] rs before more h m = registers_alone rs before more h m

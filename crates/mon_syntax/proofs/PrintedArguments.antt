@@ -109,7 +109,7 @@ module _ (names : List (List ℕ)) (ws : Vocabulary) (words : AreWords names ws)
   abbrev pub call_with : List ℕ → Place → Place → List ParsedArgument → ParsedCall
   call_with w at opening xs = record { callee = record { place = at; number = number w }; place = opening; arguments = xs }
 
-  -- behind a name, which is a word of that kind, its arguments and `;` are read, and the call checks as the statement
+  -- after a name, which is a word of that kind, its arguments and `;` are read, and the call checks as the statement
   pub record IsCallAs (w : List ℕ) (k : Word) (a : MonStatement) (more : Pieces) (ts : List PlainToken) : Type 0 where
     pub opening : Place
     pub inner : List PlainToken
@@ -255,7 +255,7 @@ module _ (names : List (List ℕ)) (ws : Vocabulary) (words : AreWords names ws)
 
   -- ---- calls with arguments of the types of parameters
 
-  -- arguments behind the first one, up to the end of the call
+  -- arguments after the first one, up to the end of the call
   record AreMoreAs (es : List MonExpression) (ps : Types) (more : Pieces) (ts : List PlainToken) : Type 0 where
     trees : List ParsedArgument
     behind : List PlainToken

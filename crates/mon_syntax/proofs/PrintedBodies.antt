@@ -61,7 +61,7 @@ module _ (ws : Vocabulary) (n : ℕ) where
   statements_read (y ∷ ys) xs ts rest h s =
       statements_turn xs y ts h.0 h.1 (h.2 false refl) ∙ statements_read ys (xs ++ (y ∷ [])) h.0 rest h.3 s ∙ ap (λ (l : List ParsedStatement). Ok (l, rest)) (append_assoc xs (y ∷ []) ys)
 
-  -- the statements of a loop in front of its step, and behind it
+  -- the statements of a loop before its step, and after it
   abbrev pub before_step : List ParsedStatement → LoopRead
   before_step xs = record { before = xs; behind = None }
 

@@ -33,7 +33,7 @@ module _ (ws : Vocabulary) where
       let is : sees (kind ws) (text_kind ∷ []) ts ≡ true = ap (sees (kind ws) (text_kind ∷ [])) t in
       rw (no, is, placed_read ws text_of (token.Chars bytes) bytes t refl) refl
 
-  -- arguments behind those that are read
+  -- arguments after those that are read
   abbrev pub more_arguments : List ParsedArgument → Syntax PlainToken (List ParsedArgument)
   more_arguments = many (kind ws) (λ _. mark_kind comma ∷ []) (next_argument ws)
 

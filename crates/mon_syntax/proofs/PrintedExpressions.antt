@@ -76,7 +76,7 @@ module _ (ws : Vocabulary) where
   unfolding constant
   constant_read O k z n t w o e c = rw (placed_read ws (constant_of ws) (token.Word n) k t (ap constant_of_word w), o, e, mark_read ws right_paren c) refl
 
-  -- what stands behind a parenthesis
+  -- what stands after a parenthesis
   behind_suc : (m : ℕ) (ts : List PlainToken) → (behind_opened ws (suc m)).parse ts ≡ (behind_paren ws (opened ws m) (behind_opened ws m)).parse ts
   unfolding behind_opened
   behind_suc m ts = refl
@@ -195,7 +195,7 @@ AreFound names types rs regs = (r : ℕ) (t : MonType) → slice_get types r ≡
 
 module _ (names : List (List ℕ)) (ws : Vocabulary) (words : AreWords names ws) (functions : List Header)
     (types : Types) (rs : Registers) (regs : List (ℕ × MonType)) (found : AreFound names types rs regs) where
-  -- with n parentheses left the tokens are read as the expression of its type, up to those of the pieces behind it
+  -- with n parentheses left the tokens are read as the expression of its type, up to those of the pieces after it
   pub record IsReadAs (n : ℕ) (e : MonExpression) (t : MonType) (more : Pieces) (ts : List PlainToken) : Type 0 where
     pub tree : ParsedExpression
     pub rest : List PlainToken

@@ -1,4 +1,4 @@
--- The pieces of each form in front of others, as one list.
+-- The pieces of each form before others, as one list.
 use Rattle.std.proofs.Common.{◌≡◌, ℕ, ◌+◌, List, [], ◌∷◌, ◌++◌, codes, sym, ap, ◌∙◌, append_assoc}
 use Rattle.mon_syntax.specs.declared.tree.MonType.{MonType}
 use Rattle.mon_syntax.specs.declared.tree.MonOp.{MonOp}
@@ -28,7 +28,7 @@ module _ (rs : Registers) (more : Pieces) where
   pub ended_is : (e : MonExpression) → (expression_pieces rs e ++ (semicolon ∷ [])) ++ more ≡ expression_pieces rs e ++ (semicolon ∷ more)
   ended_is e = append_assoc (expression_pieces rs e) (semicolon ∷ []) more
 
-  -- an argument and those behind it
+  -- an argument and those after it
   pub argument_is : (e : MonExpression) (es : List MonExpression)
       → (expression_pieces rs e ++ more_arguments rs es) ++ more ≡ expression_pieces rs e ++ (more_arguments rs es ++ more)
   argument_is e es = append_assoc (expression_pieces rs e) (more_arguments rs es) more

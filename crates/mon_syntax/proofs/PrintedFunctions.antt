@@ -193,7 +193,7 @@ module _ (names : List (List ℕ)) (ws : Vocabulary) (words : AreWords names ws)
   function_checked f tree result name known ps rs parameters_are registers_are body_is =
       rw (parameters_are, registers_are, body_is) (ap Ok (function_back f tree result name known ps rs))
 
-  -- the tokens are read as the function, up to those of the pieces behind it
+  -- the tokens are read as the function, up to those of the pieces after it
   pub record IsFunctionAs (f : MonFunction) (more : Pieces) (ts : List PlainToken) : Type 0 where
     pub tree : ParsedFunction
     pub rest : List PlainToken

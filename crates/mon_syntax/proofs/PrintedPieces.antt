@@ -50,7 +50,7 @@ punctuator m = number_in punctuators m
 abbrev pub is_word : List ℕ → Bool
 is_word w = begins_name w && (list_all is_part w && leb (length w) 255)
 
--- the piece is read as itself in front of these bytes
+-- the piece is read as itself before these bytes
 abbrev pub IsAlone : text.Piece → List ℕ → Type 0
 IsAlone text.Head bs = ⊥
 IsAlone (text.Word w) bs = (is_word w ≡ true) × Stops is_part bs
@@ -340,7 +340,7 @@ words (text.Quoted bytes ∷ ps) = words ps
 words (text.Mark m ∷ ps) = words ps
 words (text.Blanks b ∷ ps) = words ps
 
--- behind what is read, the text is read as tokens of the pieces
+-- after what is read, the text is read as tokens of the pieces
 record AreRead (r : Read) (names : List (List ℕ)) (at : Place) (fresh : Bool) (ps : List text.Piece) : Type 0 where
   tokens : List PlainToken
   end : Place
@@ -350,7 +350,7 @@ record AreRead (r : Read) (names : List (List ℕ)) (at : Place) (fresh : Bool) 
 with_token : Read → Place → PlainTokenKind → List (List ℕ) → Read
 with_token r at k names = record { names = names; list = r.list ++ (token at k ∷ []) }
 
--- behind a token
+-- after a token
 behind_token : (r : Read) (names next_names : List (List ℕ)) (at : Place) (fresh : Bool) (k : PlainTokenKind) (q : Piece) (xs : List ℕ) (ps : List text.Piece)
     → 0 < length xs → piece_at fresh (xs ++ spelled ps) ≡ found q (length xs - 1) → add r at q xs ≡ with_token r at k next_names → (rest : AreRead (with_token r at k next_names) names (walk at xs) (fresh_after fresh xs) ps)
     → build r (cut 0 at fresh (xs ++ spelled ps)) ≡ Ok (record { list = r.list ++ (token at k ∷ rest.tokens); names = names; end = rest.end })

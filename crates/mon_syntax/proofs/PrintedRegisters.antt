@@ -212,7 +212,7 @@ module _ (names : List (List ℕ)) where
         turn_ends (mark_kind comma ∷ []) (next_parameter ws) (λ z. (next_parameter_good ws z).here) refl xs ts
         (sees_mark ws right_paren t (mark_kind comma ∷ []) false refl)
 
-    -- parameters that stand in front of these registers
+    -- parameters that stand before these registers
     pub record AreParametersAs (ps : Registers) (before : List (List ℕ)) (more : Pieces) (Read : List ParsedRegister → List PlainToken → Type 0) : Type 0 where
       pub trees : List ParsedRegister
       pub behind : List PlainToken
@@ -225,7 +225,7 @@ module _ (names : List (List ℕ)) where
       pub kinds : kinds_of trees ≡ types_of ps
       pub checked : (ks : List (ℕ × MonType)) → AreApart before ks → checked_registers ws ks trees ≡ Ok (ks ++ map entry ps)
 
-    -- the parameter in front of others is new, and they are checked behind it
+    -- the parameter before others is new, and they are checked after it
     parameter_checked : (p : MonRegister) (ps : Registers) (before : List (List ℕ)) (at : Place) (trees : List ParsedRegister)
         → word_at ws (number p.name) ≡ word.Name → IsKnown p.name → has_label before p.name ≡ false
         → ((ks : List (ℕ × MonType)) → AreApart (p.name ∷ before) ks → checked_registers ws ks trees ≡ Ok (ks ++ map entry ps))
@@ -322,7 +322,7 @@ module _ (names : List (List ℕ)) where
           checked = parameter_checked p ps [] name.1.0 others.trees name_is name.0 h.1 others.checked;
         }
 
-    -- ---- registers behind parameters
+    -- ---- registers after parameters
 
     pub record AreBehind (rest : Registers) (ks : List (ℕ × MonType)) : Type 0 where
       pub before : List (List ℕ)

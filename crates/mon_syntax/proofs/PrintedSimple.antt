@@ -82,7 +82,7 @@ module _ (names : List (List ℕ)) (ws : Vocabulary) (words : AreWords names ws)
   abbrev pub AreNames : Labels → Type 0
   AreNames ls = (w : List ℕ) → has_label ls w ≡ true → word_of w ≡ word.Name
 
-  -- with statements n deep in it the tokens are read as the statement, up to those of the pieces behind it
+  -- with statements n deep in it the tokens are read as the statement, up to those of the pieces after it
   pub record IsStatementAs (n : ℕ) (a : MonStatement) (ls : Labels) (more : Pieces) (ts : List PlainToken) : Type 0 where
     pub tree : ParsedStatement
     pub rest : List PlainToken

@@ -81,7 +81,7 @@ module _ (names : List (List ℕ)) (ws : Vocabulary) (words : AreWords names ws)
       ap (λ (m : ℕ). nat_eq (number names w) m || list_any (nat_eq (number names w)) bs) is ∙ ap
       (λ (t : Bool). t || list_any (nat_eq (number names w)) bs) differ ∙ others w known k.1
 
-  -- the tokens are read as these functions, behind functions of those names
+  -- the tokens are read as these functions, after functions of those names
   record AreFunctionsAs (before : List (List ℕ)) (fs : List MonFunction) (ts : List PlainToken) : Type 0 where
     trees : List ParsedFunction
     read : (xs : List ParsedFunction) → (more_functions xs).parse ts ≡ Ok (xs ++ trees, [])
@@ -107,7 +107,7 @@ module _ (names : List (List ℕ)) (ws : Vocabulary) (words : AreWords names ws)
       let none : has_none tree.parameters ≡ true = none_left tree.parameters (kinds ∙ ap types_of main.no_parameters) in
       rw (bytes, result ∙ main.result, none) refl
 
-  -- a function in front of `main`
+  -- a function before `main`
   before_main : (f m : MonFunction) (fs : List MonFunction) (before : List (List ℕ)) (i : ℕ) (tree : ParsedFunction) (trees : List ParsedFunction)
       → tree.name.number ≡ number names f.name → IsKnown names f.name → AreFunctions gs (f.name ∷ before) fs → slice_get fs i ≡ Some m → IsMain m
       → main_refusal names trees ≡ None → main_refusal names (tree ∷ trees) ≡ None

@@ -68,7 +68,7 @@ flat_run-subtracts = refl
 flat_run-no_step : flat_run subtracts no_input 0 ≡ ends Spent [] 0
 flat_run-no_step = refl
 
--- ---- a function that calls itself, and stands behind its first call
+-- ---- a function that calls itself, and stands after its first call
 
 abbrev counts_down : MonitoredProgram
 counts_down = program (
@@ -137,7 +137,7 @@ text-gets : text_of gets ≡
     ++ line (codes "}"))))))))))
 text-gets = refl
 
--- behind the last byte it gives -1, again and again
+-- after the last byte it gives -1, again and again
 block_run-gets : block_run gets (input_of (codes "hi") EndOfInput) 5 ≡ ends (Exits (negsuc 0)) (codes "hi") 5
 block_run-gets = refl
 
@@ -219,7 +219,7 @@ block_run-no_pointer = refl
 flat_run-no_pointer : flat_run (with_blocks (born 0 24 ∷ dies 1 ∷ [])) no_input 5 ≡ ends Fault [] 5
 flat_run-no_pointer = refl
 
--- the first block stands at the start of the stack, and another behind its 24 bytes and the byte behind them, in units of 16
+-- the first block stands at the start of the stack, and another after its 24 bytes and the byte after them, in units of 16
 first_birth : act_on_flat StoreBlock (pos 24 ∷ []) flat_start ≡ Gives (pos (1 * 2 ^ 32 + 1073741824)) (record { frames = 0; births = 1; live = record { number = 1; size = 24 } ∷ [] })
 first_birth = refl
 

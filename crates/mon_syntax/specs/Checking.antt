@@ -372,7 +372,7 @@ checked_function names ws gs f = do
 abbrev pub new_function : Vocabulary → List ℕ → NameUse → Checked (Unit {0})
 new_function ws before x = if is_free (word_at ws x.number) && not (list_any (nat_eq x.number) before) then Ok tt else name_fault x.place
 
--- functions behind those of these names' numbers
+-- functions after those of these names' numbers
 abbrev pub checked_functions : List (List ℕ) → Vocabulary → List Header → List ℕ → List ParsedFunction → Checked (List MonFunction)
 checked_functions names ws gs before [] = Ok []
 checked_functions names ws gs before (f ∷ fs) = do

@@ -261,7 +261,7 @@ abbrev pub parsed_list : List ParsedStatement → ParsedStatements
 parsed_list [] = NoStatement
 parsed_list (a ∷ rest) = Then a (parsed_list rest)
 
--- the statements of a loop that are read so far: those before its step, and those behind it where it is read
+-- the statements of a loop that are read so far: those before its step, and those after it where it is read
 pub record LoopRead : Type 0 where
   pub before : List ParsedStatement
   pub behind : Option (List ParsedStatement)
@@ -324,7 +324,7 @@ module _ (ws : Vocabulary) where
   unfoldable pub name : Syntax PlainToken NameUse
   name = one (placed name_of) then λ x. gives (record { place = x.1; number = x.0 })
 
-  -- ---- expressions; O stands for a parenthesis that is opened, B for what stands behind it, up to its end
+  -- ---- expressions; O stands for a parenthesis that is opened, B for what stands after it, up to its end
 
   -- [ "-" ] NUMBER
   unfoldable pub signed_number : Syntax PlainToken ℤ
@@ -359,7 +359,7 @@ module _ (ws : Vocabulary) where
   unfoldable pub cast : Syntax PlainToken ParsedExpression → Place → Syntax PlainToken ParsedExpression
   cast E at = one (placed (type_of ws)) then λ t. mark right_paren then λ _. E then λ e. mark right_paren then λ _. gives (Cast at t.0 e)
 
-  -- what stands behind two parentheses: a cast, or a first operand that begins with the second of them
+  -- what stands after two parentheses: a cast, or a first operand that begins with the second of them
   unfoldable pub behind_two : Syntax PlainToken ParsedExpression → Syntax PlainToken ParsedExpression → Place → Syntax PlainToken ParsedExpression
   behind_two E B at = choice (kind ws) (type_kind ∷ []) (cast E at) (B then λ left. second_operand E left)
 
@@ -367,7 +367,7 @@ module _ (ws : Vocabulary) where
   unfoldable pub plain_operand : Syntax PlainToken Place → Syntax PlainToken ParsedExpression
   plain_operand O = choice (kind ws) (name_kind ∷ []) (name then λ x. gives (Name x)) (constant O)
 
-  -- what stands behind a parenthesis, up to its end
+  -- what stands after a parenthesis, up to its end
   unfoldable pub behind_paren : Syntax PlainToken Place → Syntax PlainToken ParsedExpression → Syntax PlainToken ParsedExpression
   behind_paren O B =
       choice (kind ws) (mark_kind minus ∷ []) (negation (expression_with O B))
@@ -380,7 +380,7 @@ module _ (ws : Vocabulary) where
   opened zero = deep expression_limit (kind ws) (mark_kind left_paren ∷ []) (mark left_paren)
   opened (suc n) = mark left_paren
 
-  -- what stands behind a parenthesis that was opened where n more might be
+  -- what stands after a parenthesis that was opened where n more might be
   unfoldable pub behind_opened : ℕ → Syntax PlainToken ParsedExpression
   behind_opened zero = none
   behind_opened (suc n) = behind_paren (opened n) (behind_opened n)
@@ -427,22 +427,22 @@ module _ (ws : Vocabulary) where
   abbrev pub InBody : Type 1
   InBody = Bool → Syntax PlainToken ParsedStatement
 
-  -- ";", behind a statement
+  -- ";", after a statement
   unfoldable pub ended : ParsedStatement → Syntax PlainToken ParsedStatement
   ended a = mark semicolon then λ _. gives a
 
   unfoldable pub set_to_call : NameUse → Place → NameUse → Syntax PlainToken ParsedStatement
   set_to_call x at f = call_of false f then λ c. ended (Take x at c)
 
-  -- behind NAME "=" NAME
+  -- after NAME "=" NAME
   unfoldable pub set_to_name : NameUse → Place → NameUse → Syntax PlainToken ParsedStatement
   set_to_name x at y = choice (kind ws) (mark_kind left_paren ∷ []) (set_to_call x at y) (ended (Set x at (Name y)))
 
-  -- behind NAME "="
+  -- after NAME "="
   unfoldable pub set_to : NameUse → Place → Syntax PlainToken ParsedStatement
   set_to x at = choice (kind ws) (name_kind ∷ []) (name then λ y. set_to_name x at y) (expression_but_name then λ e. ended (Set x at e))
 
-  -- behind a NAME
+  -- after a NAME
   unfoldable pub behind_name : Bool → NameUse → Syntax PlainToken ParsedStatement
   behind_name no_step x =
       choice (kind ws) (mark_kind assign ∷ []) (mark assign then λ at. set_to x at)

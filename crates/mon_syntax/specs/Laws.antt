@@ -49,7 +49,7 @@ abbrev pub StepsFall : Memory → Type 0
 StepsFall M = (fs : List MonFunction) (a : MonStatement) (n : ℕ) (regs : List M.Val) (s : State M.Mem) → s.steps ≤ n
     → steps_after (exec M a (level M fs n) n regs s) ≤ s.steps
 
--- a loop is one turn and then the loop again: what stands before the step, the step, what stands behind it
+-- a loop is one turn and then the loop again: what stands before the step, the step, what stands after it
 abbrev pub LoopsTurn : Memory → Type 0
 LoopsTurn M = (fs : List MonFunction) (a b : MonStatements) (n : ℕ) (regs : List M.Val) (s : State M.Mem) → s.steps ≤ n
     → exec M (Loop a b) (level M fs n) n regs s ≡ then_do (exec_all M a (level M fs n) n regs s)

@@ -7,7 +7,7 @@ use Rattle.mon_syntax.specs.Memories.{is_live_on_stack, LiveBlock}
 abbrev pub noted : ℕ → Block → LiveBlock
 noted number b = record { number = number; size = b.size }
 
--- the blocks that live on the stack in front of those found before, the youngest first; the first block has the index k, and so the number k + 1
+-- the blocks that live on the stack before those found before, the youngest first; the first block has the index k, and so the number k + 1
 abbrev pub live_from : ℕ → Store → List LiveBlock → List LiveBlock
 live_from k [] found = found
 live_from k (b ∷ bs) found = live_from (suc k) bs (if is_live_on_stack b then noted (suc k) b ∷ found else found)

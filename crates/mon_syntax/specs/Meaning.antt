@@ -83,7 +83,7 @@ abbrev pub given_to : {V : Type 0} → Option ℕ → V → List V → List V
 given_to None v regs = regs
 given_to (Some r) v regs = slice_set regs r v
 
--- what is behind the bytes of an input: -1 at its end, and nothing at a fault, which stays
+-- what is after the bytes of an input: -1 at its end, and nothing at a fault, which stays
 abbrev pub got_behind : InputTail → Option (ℤ × Input)
 got_behind EndOfInput = Some (negsuc 0, record { bytes = []; tail = EndOfInput })
 got_behind InputFault = None
@@ -143,7 +143,7 @@ module _ (M : Memory) where
   abbrev pub judged : ℤ → ℤ → Final → Final → Result (State M.Mem) (Flow M.Val) → ℕ → Result (State M.Mem) (Flow M.Val)
   judged d v undefined false_ go n = choose d (choose v go (Stops false_ n [])) (Stops undefined n [])
 
-  -- at most n turns of a loop: what stands before its step, the step, what stands behind it
+  -- at most n turns of a loop: what stands before its step, the step, what stands after it
   abbrev pub turns : ℕ → Does → Does → Does
   turns zero before behind regs s = then_do (before regs s) (at_next (λ r t. Stops Spent 0 []))
   turns (suc n) before behind regs s =

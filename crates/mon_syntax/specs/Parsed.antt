@@ -10,7 +10,7 @@ pub record NameUse : Type 0 where
   pub place : Place
   pub number : ℕ
 
--- The place of an expression is its operator's token for a binary one, the token behind its first parenthesis for a unary
+-- The place of an expression is its operator's token for a binary one, the token after its first parenthesis for a unary
 -- operator and a cast, and else its first token.
 pub data ParsedExpression : Type 0 where
   Name : NameUse → ParsedExpression
@@ -39,7 +39,7 @@ mutual
     Take : NameUse → Place → ParsedCall → ParsedStatement
     Call : ParsedCall → ParsedStatement
     If : ParsedExpression → ParsedStatements → ParsedStatements → ParsedStatement
-    -- what stands before the loop's step, and what behind it
+    -- what stands before the loop's step, and what after it
     Loop : ParsedStatements → ParsedStatements → ParsedStatement
     Labelled : ParsedStatements → NameUse → ParsedStatement
     Goto : NameUse → ParsedStatement

@@ -1,5 +1,5 @@
 -- Ours: a view of how a part ended.
--- The steps that are left behind a part of a run.
+-- The steps that are left after a part of a run.
 use Rattle.std.specs.Prelude.{ℕ}
 use Rattle.mon_syntax.specs.Meaning.{State, Result, Done, Stops}
 

@@ -53,7 +53,7 @@ spelled (p ∷ ps) = spelled_piece p ++ spelled ps
 abbrev pub blank : Piece
 blank = Blanks (32 ∷ [])
 
--- the end of a line, and the blanks in front of the next one, inside so many bodies
+-- the end of a line, and the blanks before the next one, inside so many bodies
 abbrev pub new_line : ℕ → Piece
 new_line depth = Blanks (10 ∷ replicate (2 * depth) 32)
 
@@ -128,7 +128,7 @@ abbrev pub set_or_none : Registers → Option ℕ → List Piece
 set_or_none rs None = []
 set_or_none rs (Some r) = set_pieces (name_of rs r)
 
--- arguments behind the first one
+-- arguments after the first one
 abbrev pub more_arguments : Registers → List MonExpression → List Piece
 more_arguments rs [] = []
 more_arguments rs (e ∷ es) = comma ++ (expression_pieces rs e ++ more_arguments rs es)

@@ -40,7 +40,7 @@ mutual
     -- a call of the function with this number
     Call : Option ℕ → ℕ → List MonExpression → MonStatement
     If : MonExpression → MonStatements → MonStatements → MonStatement
-    -- what stands before the loop's step, and what behind it
+    -- what stands before the loop's step, and what after it
     Loop : MonStatements → MonStatements → MonStatement
     Labelled : MonStatements → List ℕ → MonStatement
     Goto : List ℕ → MonStatement

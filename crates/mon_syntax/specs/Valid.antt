@@ -253,7 +253,7 @@ pub record IsFunction (gs : List Signature) (f : MonFunction) : Type 0 where
   -- the body itself is 1 deep
   pub within : suc (depth_of_all f.body) ≤ most_nested
 
--- functions behind those of these names, each with a name of its own
+-- functions after those of these names, each with a name of its own
 abbrev pub AreFunctions : List Signature → List (List ℕ) → List MonFunction → Type 0
 AreFunctions gs before [] = Unit {0}
 AreFunctions gs before (f ∷ fs) = IsFunction gs f × (has_label before f.name ≡ false) × AreFunctions gs (f.name ∷ before) fs

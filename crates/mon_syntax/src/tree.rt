@@ -118,7 +118,7 @@ pub enum MonStmtKind {
     /// `f(..);`, or `R = f(..);`: a call of the function with this number in the program.
     Call(Option<u32>, u32, Vec<MonExpr>),
     If(MonExpr, Vec<MonStmt>, Vec<MonStmt>),
-    /// `while (1) { .. __e_acsl_step(); .. }`: what stands before the loop's step, and what behind it.
+    /// `while (1) { .. __e_acsl_step(); .. }`: what stands before the loop's step, and what after it.
     Loop(Vec<MonStmt>, Vec<MonStmt>),
     /// `{ .. } LABEL: ;`
     Labelled(Vec<MonStmt>, Name),

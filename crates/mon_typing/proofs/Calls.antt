@@ -17,7 +17,7 @@ module _ (s : Scope) (at : Place) where
   pub only_value_fails : (t : MonType) (xs more : Arguments) (v : MonExpression) (e : CheckFault) → first_of s at (value_of_type s t) xs ≡ Ok (v, more) → Fails e (no_more {A = Unit {0}} s at more tt) → Fails e (only_value s at t xs)
   only_value_fails t xs more v e h k = fails_along e _ _ (takes s at (value_of_type s t) xs (λ x rest. no_more s at rest x) v more h) (more_fails s at more v e k)
 
-  -- ---- an argument and another one, behind which a statement goes on
+  -- ---- an argument and another one, after which a statement goes on
 
   module _ {A B : Type 0} (f : ParsedArgument → Checked A) (g : ParsedArgument → Checked B) (go : A → B → Arguments → Checked MonStatement) where
     abbrev two : Arguments → Checked MonStatement

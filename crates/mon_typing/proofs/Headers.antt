@@ -90,7 +90,7 @@ first_of gs x = option_map number (find_function 0 gs x)
 abbrev Firsts : Headers → List (ℕ × ℕ) → Type 0
 Firsts gs firsts = (x : ℕ) → lookup (nat_eq x) firsts ≡ first_of gs x
 
--- behind functions of the name, and where there is none
+-- after functions of the name, and where there is none
 old_first : (gs : Headers) (g : Header) (x : ℕ) (o : Found) (b : Bool) (l : Option ℕ) → eqb g.name x ≡ b → l ≡ option_map number o → (b ≡ true → is_some l ≡ true) → l ≡ option_map number (or_else o (cond b (Some (0 + length gs, g)) None))
 old_first gs g x None true None e h some = absurd (let z = some refl in cc)
 old_first gs g x None true (Some k) e h some = absurd cc

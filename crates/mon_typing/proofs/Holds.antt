@@ -15,7 +15,7 @@ pub holds_where : {B : Type 0} (Q : B → Type 0) (b : Bool) (at : Place) (c : C
 holds_where Q true at c h = h refl
 holds_where Q false at c h = tt
 
--- a part that is demanded behind another, on which nothing else hangs
+-- a part that is demanded after another, on which nothing else hangs
 pub holds_if : {A B : Type 0} (P : A → Type 0) (Q : B → Type 0) (b : Bool) (at : Place) (c : Checked A) (k : A → B) → (b ≡ true → Holds P c) → (b ≡ true → (a : A) → P a → Q (k a))
     → Holds Q (c >>= λ x. cond b (Ok tt) (name_fault {A = Unit {0}} at) >> Ok (k x))
 holds_if P Q true at c k p h = holds_behind P Q c (λ x. Ok (k x)) (p refl) (h refl)

@@ -1,4 +1,4 @@
--- Statements behind others.
+-- Statements after others.
 use Rattle.std.proofs.Common.{◌≡◌, List, [], ◌∷◌, ◌++◌, Ok, refl, ap}
 use Rattle.mon_syntax.specs.declared.tree.MonStmt.{MonStmt}
 use Rattle.mon_syntax.specs.Trees.{MonStatements, NoStatement, Then, plain_stmt, plain_stmts}
@@ -16,6 +16,6 @@ pub behind_one : (done : List MonStmt) (a : MonStmt) (xs : MonStatements) → be
 behind_one [] a xs = refl
 behind_one (b ∷ rest) a xs = ap (Then (plain_stmt b)) (behind_one rest a xs)
 
--- what is checked behind statements that are checked
+-- what is checked after statements that are checked
 abbrev pub checked_behind : List MonStmt → Checked MonStatements → Checked MonStatements
 checked_behind done c = c >>= λ xs. Ok (behind done xs)

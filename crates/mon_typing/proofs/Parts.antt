@@ -12,7 +12,7 @@ faulty_after : {A : Type 0} (c : Checked (Unit {0})) (at : Place) (a : A) → c 
 faulty_after (Ok u) at a = refl
 faulty_after (Err e) at a = refl
 
--- no more arguments, behind which a value is given
+-- no more arguments, after which a value is given
 pub no_more_is : {A : Type 0} (s : Scope) (at : Place) (xs : List ParsedArgument) (a : A) → no_more s at xs a ≡ (no_more {A = Unit {0}} s at xs tt >>= λ u. Ok a)
 no_more_is s at [] a = refl
 no_more_is s at (x ∷ xs) a = faulty_after (others s (x ∷ xs)) at a
@@ -21,7 +21,7 @@ next_after : {A B : Type 0} (c : Checked A) (more : List ParsedArgument) (go : A
 next_after (Ok a) more go = refl
 next_after (Err e) more go = refl
 
--- the first argument, and what goes on behind it
+-- the first argument, and what goes on after it
 pub next_is : {A B : Type 0} (s : Scope) (at : Place) (f : ParsedArgument → Checked A) (xs : List ParsedArgument) (go : A → List ParsedArgument → Checked B) → next s at f xs go ≡ (first_of s at f xs >>= λ (x : A × List ParsedArgument). go x.0 x.1)
 next_is s at f [] go = refl
 next_is s at f (x ∷ xs) go = next_after (f x) xs go

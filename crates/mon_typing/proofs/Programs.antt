@@ -32,7 +32,7 @@ name_of f = f.name.number
 abbrev pub names_before : ℕ → Functions → List ℕ
 names_before i fs = reverse (map name_of (take i fs))
 
--- what is checked behind functions that are checked
+-- what is checked after functions that are checked
 abbrev pub behind_functions : List MonFunc → Checked (List MonFunction) → Checked (List MonFunction)
 behind_functions done c = c >>= λ gs. Ok (map tree.plain_func done ++ gs)
 
@@ -65,7 +65,7 @@ before_next fs i f lt at =
 rest_is : (fs : Functions) (i : ℕ) (f : ParsedFunc) → i < length fs → f ≡ get_or fs i f → drop i fs ≡ f ∷ drop (i + 1) fs
 rest_is fs i f lt at = rw add-one (drop-cons fs i f lt ∙ ap (λ (x : ParsedFunc). x ∷ drop (suc i) fs) (sym at))
 
--- ---- a function behind others
+-- ---- a function after others
 
 one_more : (done : List MonFunc) (g : MonFunc) (c : Checked (List MonFunction)) → behind_functions done (c >>= λ rest. Ok (tree.plain_func g ∷ rest)) ≡ behind_functions (done ++ g ∷ []) c
 one_more done g (Ok rest) = ap Ok (sym (append_assoc (map tree.plain_func done) (tree.plain_func g ∷ []) rest) ∙ ap (λ (l : List MonFunction). l ++ rest) (sym (map-append tree.plain_func done (g ∷ []))))

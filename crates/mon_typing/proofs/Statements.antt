@@ -34,7 +34,7 @@ Body = Vec ParsedStmt Global
 abbrev Written : Type 0
 Written = Vec MonStmt Global
 
--- the labels of a part, behind those of the part before
+-- the labels of a part, after those of the part before
 pub labels_of_two : (c0 c1 c2 a b : List ℕ) → c1 ≡ c0 ++ a → c2 ≡ c1 ++ b → c2 ≡ c0 ++ (a ++ b)
 labels_of_two c0 c1 c2 a b h k = k ∙ ap (λ (c : List ℕ). c ++ b) h ∙ append_assoc c0 a b
 
@@ -68,7 +68,7 @@ module _ (sc : Scope) (t : Option MonType) (r : List ℕ) where
       let second : all r w ≡ Ok (tree.plain_stmts b.items) = ap (λ (n : List ℕ). all n w) (sym o) ∙ l in
       λ i. k i >>= λ a. second i >>= λ b. Ok (a, b)
 
-  -- what goes on behind two bodies
+  -- what goes on after two bodies
   behind_both : (c d : Checked MonStatements) (go : MonStatements → MonStatements → Checked MonStatement) → (c >>= λ x. d >>= λ y. go x y) ≡ (c >>= (λ x. d >>= λ y. Ok (x, y)) >>= λ (p : MonStatements × MonStatements). go p.0 p.1)
   behind_both (Ok x) (Ok y) go = refl
   behind_both (Ok x) (Err e) go = refl
@@ -98,7 +98,7 @@ module _ (sc : Scope) (t : Option MonType) (r : List ℕ) where
   loop_checked v w a b m k n =
       loop_is_behind v w ∙ ap (λ (c : Checked (MonStatements × MonStatements)). c >>= λ (p : MonStatements × MonStatements). Ok (tree.Loop p.0 p.1)) k ∙ ap Ok (sym (n ∙ written.loop_is a b))
 
-  -- ---- a list of statements, one of which is checked behind others
+  -- ---- a list of statements, one of which is checked after others
 
   one_more : (done : List MonStmt) (m : MonStmt) (c : Checked MonStatements) → checked_behind done (c >>= λ xs. Ok (tree.Then (tree.plain_stmt m) xs)) ≡ checked_behind (done ++ m ∷ []) c
   one_more done m (Ok xs) = ap Ok (sym (behind_one done m xs))

@@ -187,7 +187,7 @@ kinds_numbered : (rs : List ParsedRegister) → kinds (numbered rs) ≡ kinds_of
 kinds_numbered [] = refl
 kinds_numbered (r ∷ rs) = ap (λ (ts : Types). r.kind ∷ ts) (kinds_numbered rs)
 
--- parameters, and the other registers behind them
+-- parameters, and the other registers after them
 both_at : (ws : Vocabulary) (r : ParsedRegister) (a b : List ParsedRegister) (known : List (ℕ × MonType)) (new : Bool)
     → checked_registers ws (known ++ (r.name.number, r.kind) ∷ []) (a ++ b) ≡ (checked_registers ws (known ++ (r.name.number, r.kind) ∷ []) a >>= λ k. checked_registers ws k b)
     → cond new (checked_registers ws (known ++ (r.name.number, r.kind) ∷ []) (a ++ b)) (name_fault r.name.place) ≡ (cond new (checked_registers ws (known ++ (r.name.number, r.kind) ∷ []) a) (name_fault r.name.place) >>= λ k. checked_registers ws k b)

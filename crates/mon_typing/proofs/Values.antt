@@ -19,7 +19,7 @@ Arguments = List ParsedArgument
 abbrev Values : Type 0
 Values = List MonExpression
 
--- what is checked behind values that are checked
+-- what is checked after values that are checked
 abbrev pub behind_values : Values → Checked Values → Checked Values
 behind_values done c = c >>= λ es. Ok (done ++ es)
 

@@ -1,5 +1,5 @@
 -- Ours: how the code compares with mon_syntax/specs/Checking.
--- What a function returned is what the definition gives, unless memory was wanting.
+-- What a function returned is what the definition gives, unless memory ran out.
 use Rattle.std.specs.Prelude.{◌≡◌, Result, Ok, Err}
 use Rattle.mon_syntax.specs.Checking.{Checked, Typed, name_fault, type_fault}
 use Rattle.mon_syntax.specs.declared.tree.MonType.{MonType}

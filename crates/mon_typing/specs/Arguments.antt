@@ -25,7 +25,7 @@ only_string s at xs = next s at (string s) xs (λ w more. no_more s at more w.0)
 abbrev pub only_kind : Scope → Place → List ParsedArgument → Checked Kind
 only_kind s at xs = next s at (kind_named s) xs (λ k more. no_more s at more k)
 
--- an assert's kind, behind its other arguments
+-- an assert's kind, after its other arguments
 abbrev pub assert_kind : Scope → Place → MonExpression → MonExpression → ℕ → ℕ → List ParsedArgument → Checked MonStatement
 assert_kind s at d v n line xs = next s at (kind_named s) xs (λ k more. no_more s at more (tree.Assert d v n line k))
 

@@ -10,7 +10,7 @@ use Rattle.mon_syntax.specs.Checking.{checked_statements, checked_function}
 use Rattle.mon_typing.specs.Headers.{is_at}
 use Rattle.mon_typing.specs.Scopes.{numbered}
 
--- all registers of a function behind those that are known, by their names' numbers, the parameters first
+-- all registers of a function after those that are known, by their names' numbers, the parameters first
 abbrev pub registers_behind : Vocabulary → List (ℕ × MonType) → ParsedFunction → Checked (List (ℕ × MonType))
 registers_behind ws known f = checked_registers ws known f.parameters >>= λ ps. checked_registers ws ps f.registers
 

@@ -253,7 +253,7 @@ pub fn only_string<'a>(
     }
 }
 
-/// The values, behind which there are no more arguments.
+/// The values, after which there are no more arguments.
 #[tactic(auto, using(crate::proofs::Parts::more_fails, crate::proofs::Parts::none_more))]
 fn all_values(
     alloc: Global,

@@ -29,7 +29,7 @@ struct Truth {
     holds: MonExpr,
 }
 
-/// The kind of an assert, behind its other arguments.
+/// The kind of an assert, after its other arguments.
 fn assert_kind(
     alloc: Global,
     scope: &Scope,

@@ -23,14 +23,14 @@ use mon_parser::word_at;
 use mon_syntax::{MonFunc, MonProgram, MonStmt, MonType, Register, Word};
 use std::alloc::{AllocError, Global};
 
-/// Whether a register may be called so behind those that are known.
+/// Whether a register may be called so after those that are known.
 fn is_new(words: &[Word], known: &IndexMap<u32, MonType>, number: u32) -> bool
     ensures { result ≡ is_new words.now known.now.entries number }
 {
     is_free(word_at(words, number)) && !known.contains_key(&number)
 }
 
-/// The registers behind those that are known, by their names' numbers. Each has a free name of its own.
+/// The registers after those that are known, by their names' numbers. Each has a free name of its own.
 fn checked_registers(
     words: &[Word],
     known: &mut IndexMap<u32, MonType>,
@@ -48,7 +48,7 @@ fn checked_registers(
     Ok(())
 }
 
-/// All registers of a function behind those that are known, the parameters first.
+/// All registers of a function after those that are known, the parameters first.
 fn registers_of(
     words: &[Word],
     known: &mut IndexMap<u32, MonType>,

@@ -85,7 +85,7 @@ fn note(firsts: &mut IndexMap<u32, u32>, name: u32, number: usize) -> Result<(),
     Ok(())
 }
 
-/// A function behind those that are known, and its number where it is the first of its name.
+/// A function after those that are known, and its number where it is the first of its name.
 fn note_function(
     alloc: Global,
     headers: &mut Vec<Header>,

@@ -24,7 +24,7 @@ use mon_parser::word_at;
 use mon_syntax::{MemoryCall, MonStmt, MonStmtKind, MonType};
 use std::alloc::Global;
 
-/// The labels around a statement, and those of the bodies behind which it stands, by their names' numbers.
+/// The labels around a statement, and those of the bodies after which it stands, by their names' numbers.
 #[derive(Drop)]
 pub struct Labels {
     /// Those of the bodies in which it stands, the innermost last.
@@ -217,7 +217,7 @@ fn jump(alloc: Global, scope: &Scope, around: &[u32], label: NameUse) -> Result<
     Ok(MonStmt::new(alloc, MonStmtKind::Goto(label))?)
 }
 
-/// The statement that is spelled. The labels of its bodies go behind those that are closed.
+/// The statement that is spelled. The labels of its bodies go after those that are closed.
 #[tactic(auto, using(mon_parser::proofs::Rows::if_is, mon_parser::proofs::Rows::loop_is, mon_parser::proofs::Rows::labelled_is))]
 #[cycle(statement)]
 pub fn checked_statement(
@@ -295,7 +295,7 @@ fn selection(
     Ok(MonStmt::new(alloc, MonStmtKind::If(e, first, second))?)
 }
 
-/// A loop, by what stands before its step and what behind it.
+/// A loop, by what stands before its step and what after it.
 #[cycle(statement)]
 fn iteration(
     alloc: Global,
@@ -366,7 +366,7 @@ fn labelled_body(
     Ok(body)
 }
 
-/// A body with its label behind it.
+/// A body with its label after it.
 #[cycle(statement)]
 fn labelled(
     alloc: Global,

@@ -45,7 +45,7 @@ low_first i (suc k) n =
 pub le_bytes_16 : (n : ℕ) → to_le_bytes w128 n ≡ bytes_of 16 n
 le_bytes_16 n = let whole : n / 1 ≡ n = omega arith in low_first 0 16 n ∙ ap (bytes_of 16) whole
 
--- bytes written behind bytes just written
+-- bytes written after bytes just written
 pub with_bytes-with_bytes : (bytes : List ℕ) (at : ℕ) (first second : List ℕ) → at + length first + length second ≤ length bytes → with_bytes (with_bytes bytes at first) (at + length first) second ≡ with_bytes bytes at (first ++ second)
 with_bytes-with_bytes bytes at first second le = same_lists _ _ (search (rules, places)) (λ k d h. grind (arith, places))
 

@@ -16,7 +16,7 @@ bytes_of (suc width) n = (n % 256) ∷ bytes_of width (n / 256)
 abbrev pub bytes_at : List ℕ → ℕ → ℕ → List ℕ
 bytes_at bytes at width = take width (drop at bytes)
 
--- The list with other bytes from a place on: those before and behind stay.
+-- The list with other bytes from a place on: those before and after stay.
 abbrev pub with_bytes : List ℕ → ℕ → List ℕ → List ℕ
 with_bytes bytes at new = take at bytes ++ (new ++ drop (at + length new) bytes)
 

@@ -18,7 +18,7 @@ behind_block live units end index d sound lt le k e low high =
     omega (arith, far, at))
     (cases_eq index k)
 
--- a place behind the first blocks, with the rest behind it, is clear
+-- a place after the first blocks, with the rest after it, is clear
 pub clear_between : (live : List Live) (size place index : ℕ) → AllWithin (λ block. end_of block ≤ place) live 0 index → AllWithin (λ block. place + rounded_size size ≤ block.place) live index (length live)
     → All (λ block. (place + rounded_size size ≤ block.place) ⊎ (end_of block ≤ place)) live
 clear_between live size place index before behind k d lt = ⊎_elim (λ low. inr (before k d (omega arith) low)) (λ high. inl (behind k d high lt)) (cases_lt k index)
@@ -34,7 +34,7 @@ module _ (live : List Live) (units size place index : ℕ) (sound : AreApart (re
         record { count = omega (arith, lt); before = before; behind = behind },
       )
 
-  -- it goes on behind a block
+  -- it goes on after a block
   pub passed : (d : Live) (next : ℕ) → index < length live → place ≤ (get_or live index d).place → (get_or live index d).place < place + rounded_size size → next ≡ end_of (get_or live index d) → (other : ℕ)
       → IsFree (record { units = units; live = live }) size other → next ≤ other
   passed d next lt low full is other free =
@@ -49,7 +49,7 @@ module _ (live : List Live) (units size place index : ℕ) (sound : AreApart (re
       let moved = ap (λ i. end_of (get_or live i e)) same ∙ ap (λ b. end_of b) (get_or_default live index e d lt) in omega (arith, moved, is))
       (cases_lt k index)
 
--- the blocks behind one block
+-- the blocks after one block
 pub passed_behind : (live : List Live) (units next index : ℕ) (d : Live) → AreApart (record { units = units; live = live }) → index < length live → next ≡ end_of (get_or live index d)
     → AllWithin (λ block. next ≤ block.place) live (index + 1) (length live)
 passed_behind live units next index d sound lt is k e low high =

@@ -13,7 +13,7 @@ pub record Heap : Type 0 where
 abbrev pub rounded_size : ℕ → ℕ
 rounded_size length = 16 * (length / 16 + 1)
 
--- The first byte behind a block's units.
+-- The first byte after a block's units.
 abbrev pub end_of : Live → ℕ
 end_of block = block.place + rounded_size block.length
 
@@ -44,7 +44,7 @@ pub record Keeps (heap : Heap) (capacity : ℕ) : Type 0 where
 abbrev pub IsStart : Heap → ℕ → Type 0
 IsStart heap place = Any (λ block. block.place ≡ place) heap.live
 
--- The blocks that begin before a place, and behind it.
+-- The blocks that begin before a place, and after it.
 abbrev pub blocks_before : Heap → ℕ → List Live
 blocks_before heap place = filter (λ block. nat_lt block.place place) heap.live
 
@@ -63,7 +63,7 @@ with_block heap place length = record {
 abbrev pub without_block : Heap → ℕ → Heap
 without_block heap place = record { units = heap.units; live = filter (λ block. not (block.place == place)) heap.live }
 
--- A block of this length at this place lies behind the first `index` blocks, and the rest behind it.
+-- A block of this length at this place lies after the first `index` blocks, and the rest after it.
 pub record LiesBehind (live : List Live) (size place index : ℕ) : Type 0 where
   pub count : index ≤ length live
   pub before : AllWithin (λ block. end_of block ≤ place) live 0 index

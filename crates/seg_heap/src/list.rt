@@ -25,7 +25,7 @@ pub fn rounded_size(length: u64) -> u64
     16 * (length / 16 + 1)
 }
 
-/// The first byte behind the block's units.
+/// The first byte after the block's units.
 pub fn end_of(block: Live) -> u64
     ensures { result ≡ end_of block }
 {

@@ -1,4 +1,4 @@
--- Statements behind one another, as a loop pushes them onto a vector.
+-- Statements one after another, as a loop pushes them onto a vector.
 use Rattle.std.proofs.Common.{◌≡◌, ℕ, suc, ◌+◌, ◌<◌, ◌≤◌, List, [], ◌∷◌, ◌++◌, length, length-drop, drop, map, get_or, refl, sym, ap, ◌∙◌, arith, append_assoc}
 use Rattle.std.proofs.lemmas.List.{map-append, nil_from_length, append-nil}
 use Rattle.std.proofs.Math.Seq.{drop-cons}

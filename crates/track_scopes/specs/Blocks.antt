@@ -14,7 +14,7 @@ abbrev pub register_of : List ℕ → ℕ → ℕ
 register_of [] x = 0
 register_of (n ∷ ns) x = cond (nat_eq n x) 0 (suc (register_of ns x))
 
--- the register that points to its block: these stand behind all registers of variables' values
+-- the register that points to its block: these stand after all registers of variables' values
 abbrev pub block_of : List ℕ → ℕ → ℕ
 block_of numbers x = length numbers + register_of numbers x
 
@@ -34,7 +34,7 @@ abbrev pub deaths : List ℕ → MonStatements
 deaths [] = NoStatement
 deaths (p ∷ live) = Then (death p) (deaths live)
 
--- the blocks that live behind the births of these variables, by the registers that point to them, the youngest first
+-- the blocks that live after the births of these variables, by the registers that point to them, the youngest first
 abbrev pub with_born : List ℕ → List Declaration → List ℕ → List ℕ
 with_born numbers [] live = live
 with_born numbers (d ∷ ds) live = with_born numbers ds (block_of numbers (number_of d) ∷ live)

@@ -68,7 +68,7 @@ pub data Births (numbers : List ℕ) (ds : List Declaration) (regs : List BlockV
       → AreBorn numbers ds regs after s to t u → Births numbers ds regs s t q
   OneIsFull : (g : Segment) (to : State) → births ds s ≡ Stop (Over (Full g)) to → q ≡ Stops (Full g) t.steps [] → Births numbers ds regs s t q
 
--- Statements enter the scope of these variables: where the same blocks live on both sides, so they do behind the variables' births.
+-- Statements enter the scope of these variables: where the same blocks live on both sides, so they do after the variables' births.
 abbrev pub Enters : List ℕ → List Declaration → MonStatements → Type 0
 Enters numbers ds code =
     (calls : monitored.Calls over_blocks) (n : ℕ) (regs : List BlockValue) (s : State) (t : MonitoredState) → SameBlocks s.store t.mem.store
@@ -92,7 +92,7 @@ pub record AreDead (store : Store) (regs : List BlockValue) (t : MonitoredState)
   pub rest : to ≡ with_store to.mem.store t
 
 -- Statements leave scopes, which the program entered in the state `old`. Where these registers point to the blocks that were born since
--- and live, the youngest first, just those blocks live behind the statements that live in the program behind the scopes.
+-- and live, the youngest first, just those blocks live after the statements that live in the program after the scopes.
 abbrev pub Leaves : List ℕ → MonStatements → Type 0
 Leaves blocks code =
     (calls : monitored.Calls over_blocks) (n : ℕ) (regs : List BlockValue) (old s : State) (t : MonitoredState) (inside : List LiveBlock)

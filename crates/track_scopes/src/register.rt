@@ -1,4 +1,4 @@
-//! The registers of a function's variables: those of their values, and behind these those that point to their blocks.
+//! The registers of a function's variables: those of their values, and after these those that point to their blocks.
 
 ghost use Rattle.std.specs.Prelude.{◌≡◌, ◌+◌, IfOk, length};
 ghost use Rattle.track_scopes.specs.Blocks.{block_of, register_of};

@@ -36,7 +36,7 @@ fn births(alloc: Global, numbers: &[u32], decls: &[Decl]) -> Result<Vec<MonStmt>
     Ok(code)
 }
 
-// The blocks that live, the youngest first, behind the births of these.
+// The blocks that live, the youngest first, after the births of these.
 fn add_born(numbers: &[u32], decls: &[Decl], live: &mut Vec<u32>) -> Result<(), AllocError>
     ensures { OnOk result (live.new.items ≡ with_born numbers.now (map plain_decl decls.now) live.old.items) }
 {

@@ -10,7 +10,7 @@ use crate::bytes::{begins_with, behind, front, is_octal};
 use c_model::c_tokens::Mode;
 use std::alloc::{AllocError, Global};
 
-/// What the letter or mark behind a `\` stands for.
+/// What the letter or mark after a `\` stands for.
 fn simple_escape(c: u8) -> Option<u8>
     ensures { result ≡ simple_escape c }
 {
@@ -58,7 +58,7 @@ fn byte_at(base: Base, bytes: &[u8]) -> Option<(u8, usize)>
     }
 }
 
-/// An escape, given what is behind its `\`: its byte, and how many bytes it has there.
+/// An escape, given what is after its `\`: its byte, and how many bytes it has there.
 #[tactic(auto, unfolding(c_model::specs::Literals::escape_at))]
 fn escape_at(bytes: &[u8]) -> Option<(u8, usize)>
     ensures value { result ≡ escape_at bytes.now }
@@ -84,7 +84,7 @@ fn escape_at(bytes: &[u8]) -> Option<(u8, usize)>
     }
 }
 
-/// A byte or an escape: its byte, and how many bytes are behind its first.
+/// A byte or an escape: its byte, and how many bytes are after its first.
 #[tactic(auto, unfolding(c_model::specs::Literals::unit_at))]
 fn unit_at(bytes: &[u8]) -> Option<(u8, usize)>
     ensures value { result ≡ unit_at bytes.now }
@@ -104,7 +104,7 @@ fn unit_at(bytes: &[u8]) -> Option<(u8, usize)>
     }
 }
 
-/// A character literal, given what is behind its first quote: its byte, and how many bytes it has there.
+/// A character literal, given what is after its first quote: its byte, and how many bytes it has there.
 #[tactic(auto, unfolding(c_model::specs::Literals::letter_of))]
 pub fn letter_of(bytes: &[u8]) -> Option<(u8, usize)>
     ensures value { result ≡ letter_of bytes.now }
@@ -148,7 +148,7 @@ fn unit_in(mode: Mode, bytes: &[u8]) -> Option<(u8, usize)>
     }
 }
 
-/// How many bytes a string literal has, given what is behind its first quote.
+/// How many bytes a string literal has, given what is after its first quote.
 #[tactic(auto, using(crate::proofs::Strings::len_stops, crate::proofs::Strings::len_breaks))]
 pub fn string_len(mode: Mode, bytes: &[u8]) -> Option<usize>
     ensures value { result ≡ string_len mode 0 bytes.now }
@@ -167,7 +167,7 @@ pub fn string_len(mode: Mode, bytes: &[u8]) -> Option<usize>
     }
 }
 
-/// The bytes that a string literal stands for, given what is behind its first quote.
+/// The bytes that a string literal stands for, given what is after its first quote.
 #[tactic(auto, using(crate::proofs::Strings::bytes_stop, crate::proofs::Strings::bytes_break))]
 pub fn string_bytes(alloc: Global, bytes: &[u8]) -> Result<Vec<u8>, AllocError>
     ensures { IfOk result (λ v. v.items ≡ string_bytes 0 bytes.now) }

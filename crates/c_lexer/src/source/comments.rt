@@ -82,7 +82,7 @@ pub fn comment_len(mode: Mode, bytes: &[u8]) -> usize
     n
 }
 
-/// Whether a comment is open behind the first byte; none where this begins a token.
+/// Whether a comment is open after the first byte; none where this begins a token.
 fn comment_behind(is_open: bool, bytes: &[u8]) -> Option<bool>
     ensures { result ≡ comment_behind is_open bytes.now }
 {
@@ -102,7 +102,7 @@ fn comment_behind(is_open: bool, bytes: &[u8]) -> Option<bool>
     }
 }
 
-/// How many bytes there are behind `/*@` up to the first `*/` and with it, where they have no token.
+/// How many bytes there are after `/*@` up to the first `*/` and with it, where they have no token.
 pub fn blank_block(bytes: &[u8]) -> Option<usize>
     ensures value { result ≡ blank_block false bytes.now }
     ensures within { IfSome result (λ n. n ≤ length bytes.now) }
@@ -124,7 +124,7 @@ pub fn blank_block(bytes: &[u8]) -> Option<usize>
     None
 }
 
-/// Whether the bytes behind `//@` have no token up to the line's end.
+/// Whether the bytes after `//@` have no token up to the line's end.
 pub fn is_blank_line(bytes: &[u8]) -> bool
     ensures { result ≡ is_blank_line bytes.now }
 {

@@ -61,7 +61,7 @@ fn digits_len(base: Base, bytes: &[u8]) -> usize
     bytes.iter().take_while(|b| is_digit_of(base, **b)).count()
 }
 
-/// The value with a 0 behind it, where that is at most so much.
+/// The value with a 0 after it, where that is at most so much.
 fn times_base(base: Base, most: u128, value: u128) -> Option<u128>
     ensures { MatchOption result (most < value * base_of base) (λ v. (v ≡ value * base_of base) × (v ≤ most)) }
 {

@@ -26,7 +26,7 @@ fn number_len(bytes: &[u8]) -> usize
     bytes.iter().take_while(|b| is_digit(**b)).count()
 }
 
-/// What is behind the blanks at the front.
+/// What is after the blanks at the front.
 fn past_blanks(bytes: &[u8]) -> &[u8]
     ensures value { result.now ≡ past_blanks bytes.now }
     ensures within { length result.now ≤ length bytes.now }
@@ -41,14 +41,14 @@ pub fn front_word(bytes: &[u8]) -> &[u8]
     front(bytes, word_len(bytes))
 }
 
-/// What is behind these, and behind blanks.
+/// What is after these, and after blanks.
 fn past_word(bytes: &[u8]) -> &[u8]
     ensures { result.now ≡ past_word bytes.now }
 {
     past_blanks(behind(bytes, word_len(bytes)))
 }
 
-/// The line behind a `#`, without the blanks at its front.
+/// The line after a `#`, without the blanks at its front.
 pub fn directive_line(bytes: &[u8]) -> &[u8]
     ensures { result.now ≡ directive_line bytes.now }
 {
@@ -86,7 +86,7 @@ fn is_file(bytes: &[u8]) -> bool
     }
 }
 
-/// Whether the bytes may stand behind a marker's number.
+/// Whether the bytes may stand after a marker's number.
 #[tactic(auto, unfolding(c_model::specs::Directives::ends_marker))]
 fn ends_marker(bytes: &[u8]) -> bool
     ensures { result ≡ ends_marker bytes.now }
@@ -97,7 +97,7 @@ fn ends_marker(bytes: &[u8]) -> bool
     }
 }
 
-/// Whether the bytes are a line marker's number and what may stand behind it.
+/// Whether the bytes are a line marker's number and what may stand after it.
 fn is_marker(bytes: &[u8]) -> bool
     ensures { result ≡ is_marker bytes.now }
 {
@@ -105,7 +105,7 @@ fn is_marker(bytes: &[u8]) -> bool
     0 < n && ends_marker(behind(bytes, n))
 }
 
-/// How many bytes stand in front of the first byte c.
+/// How many bytes stand before the first byte c.
 fn len_before(c: u8, bytes: &[u8]) -> usize
     ensures run { result ≡ len_before c bytes.now }
     ensures within { result ≤ length bytes.now }
@@ -113,7 +113,7 @@ fn len_before(c: u8, bytes: &[u8]) -> usize
     bytes.iter().take_while(|b| **b != c).count()
 }
 
-/// Whether there is a byte c with only blanks behind the first.
+/// Whether there is a byte c with only blanks after the first.
 fn is_closed(c: u8, bytes: &[u8]) -> bool
     ensures { result ≡ is_closed c bytes.now }
 {
@@ -130,7 +130,7 @@ fn is_header(bytes: &[u8]) -> bool
     is_among(&[b"stdio.h", b"stdlib.h", b"stddef.h", b"limits.h"], name)
 }
 
-/// What is wrong with `#include`, given what is behind the word.
+/// What is wrong with `#include`, given what is after the word.
 #[tactic(auto, unfolding(c_model::specs::Directives::include_fault))]
 fn include_fault(bytes: &[u8]) -> Option<Fault>
     ensures { result ≡ include_fault bytes.now }

@@ -16,7 +16,7 @@ use super::words::{begins_name, word_at};
 use crate::bytes::{begins_with, behind, front, is_digit, line_len, word_len};
 use c_model::c_tokens::{Fault, Found, Mode, Piece};
 
-/// Whether a `.` stands there that no literal may have behind it.
+/// Whether a `.` stands there that no literal may have after it.
 fn is_dotted(mode: Mode, bytes: &[u8]) -> bool
     ensures { result ≡ is_dotted mode bytes.now }
 {
@@ -136,7 +136,7 @@ fn mark_at(mode: Mode, bytes: &[u8]) -> Result<Found, Fault>
     }
 }
 
-/// A comment, given what is behind its `/*`.
+/// A comment, given what is after its `/*`.
 #[tactic(auto, unfolding(c_model::specs::Pieces::comment_at))]
 fn comment_at(bytes: &[u8]) -> Result<Found, Fault>
     ensures value { result ≡ comment_at bytes.now }
@@ -152,7 +152,7 @@ fn comment_at(bytes: &[u8]) -> Result<Found, Fault>
     }
 }
 
-/// An annotation, given what is behind its `/*@`: its beginning, or all of it where it has no token.
+/// An annotation, given what is after its `/*@`: its beginning, or all of it where it has no token.
 #[tactic(auto, unfolding(c_model::specs::Pieces::open_block))]
 fn open_block(bytes: &[u8]) -> Result<Found, Fault>
     ensures value { result ≡ open_block bytes.now }
@@ -174,7 +174,7 @@ fn open_block(bytes: &[u8]) -> Result<Found, Fault>
     }
 }
 
-/// An annotation, given what is behind its `//@`: its beginning, or all of it where it has no token.
+/// An annotation, given what is after its `//@`: its beginning, or all of it where it has no token.
 #[tactic(auto, unfolding(c_model::specs::Pieces::open_line))]
 fn open_line(bytes: &[u8]) -> Result<Found, Fault>
     ensures value { result ≡ open_line bytes.now }
@@ -218,7 +218,7 @@ fn other_at(mode: Mode, bytes: &[u8]) -> Result<Found, Fault>
     }
 }
 
-/// A directive, given what is behind its `#`.
+/// A directive, given what is after its `#`.
 #[tactic(auto, unfolding(c_model::specs::Pieces::directive_at))]
 fn directive_at(bytes: &[u8]) -> Result<Found, Fault>
     ensures value { result ≡ directive_at bytes.now }
@@ -274,7 +274,7 @@ pub fn piece_at(mode: Mode, fresh: bool, bytes: &[u8]) -> Result<Found, Fault>
     }
 }
 
-/// Where the bytes behind a piece stand.
+/// Where the bytes after a piece stand.
 pub fn mode_after(mode: Mode, piece: Piece) -> Mode
     ensures { result ≡ mode_after mode piece }
 {

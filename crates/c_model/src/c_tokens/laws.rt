@@ -29,7 +29,7 @@ pub fn names_of_a_c_text()
     ensures distinct { NamesDiffer }
 {}
 
-/// Each token begins behind the one before, no string follows a string, there are at most 200,000, and the end is that of the text.
+/// Each token begins after the one before, no string follows a string, there are at most 200,000, and the end is that of the text.
 pub fn tokens_of_a_c_text()
     ensures ascend { TokensAscend }
     ensures joined { StringsAreJoined }

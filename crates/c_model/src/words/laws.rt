@@ -10,7 +10,7 @@ pub fn arguments_in_any_order()
     ensures once { OptionOnce }
 {}
 
-/// Behind `--` each word is an operand.
+/// After `--` each word is an operand.
 pub fn operands_behind_dashes()
     ensures any_word { DashesEndOptions }
     ensures one_word { OneFileBehindDashes }
