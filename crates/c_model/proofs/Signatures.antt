@@ -72,7 +72,7 @@ ascend_back low [] b h = record { low2 = low; le = omega arith; is = h }
 ascend_back low (n ∷ a) b h = let x = ascend_back (suc n) a b h.1 in record { low2 = x.low2; le = omega (arith, x.le, h.0); is = x.is }
 
 -- the numbers after a function are above its own
-behind_function : (low : ℕ) (f : Function) (fs : List Function) → Ascend low (numbers_of f ++ numbers_of_all fs) → IsHigher (suc f.place.offset) (numbers_of_all fs)
+pub behind_function : (low : ℕ) (f : Function) (fs : List Function) → Ascend low (numbers_of f ++ numbers_of_all fs) → IsHigher (suc f.place.offset) (numbers_of_all fs)
 behind_function low f fs h = ascend_back (suc f.place.offset) _ (numbers_of_all fs) h.1
 
 -- ---- the function that a name calls
@@ -107,7 +107,7 @@ first_more x (g ∷ hs) more h e = by (λ f. first_more x hs more h f) (nat_eq g
     by rest false f = rest f
 
 -- where a declaration of the name stands in front, one after it has its type
-compatible_all : (before : List Function) (g h : Function) (x : ℕ) → g.name ≡ x → is_compatible_with_all before g ≡ true → first_of x before ≡ Some h → SameTypes h g
+pub compatible_all : (before : List Function) (g h : Function) (x : ℕ) → g.name ≡ x → is_compatible_with_all before g ≡ true → first_of x before ≡ Some h → SameTypes h g
 compatible_all [] g h x n c e = absurd cc
 compatible_all (b ∷ before) g h x n c e =
     let parts = both_true (is_compatible b g) (is_compatible_with_all before g) c in
@@ -120,7 +120,7 @@ compatible_all (b ∷ before) g h x n c e =
         subst (λ i. SameTypes i g) same (compatible b g x named n c2)
     by rest c2 false y f = rest f
 
-first_behind : (x : ℕ) (before : List Function) (g h : Function) (fs : List Function) → g.name ≡ x → first_of x (before ++ (g ∷ fs)) ≡ Some h → is_compatible_with_all before g ≡ true → SameTypes h g
+pub first_behind : (x : ℕ) (before : List Function) (g h : Function) (fs : List Function) → g.name ≡ x → first_of x (before ++ (g ∷ fs)) ≡ Some h → is_compatible_with_all before g ≡ true → SameTypes h g
 first_behind x before g h fs n e c = by (first_of x before) refl
   where
     none : (bs : List Function) → first_of x bs ≡ None → first_of x (bs ++ (g ∷ fs)) ≡ Some g

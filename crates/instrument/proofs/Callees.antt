@@ -38,7 +38,8 @@ use Rattle.instrument.proofs.Births.{int_of}
 use Rattle.instrument.proofs.Functions.{parameter_ints, setting, call_follows}
 use Rattle.instrument.proofs.Library.{putchar_does, getchar_does, exit_does, nothing_does}
 use Rattle.instrument.proofs.Numbers.{AreObjects, parameter_objects}
-use Rattle.instrument.proofs.Programs.{Part, index_by, IsPicked, parts_of, is_picked, has_number, definition_is, index_is, IsSigned, signed, first_more, typed_at, defined}
+use Rattle.c_model.proofs.Signatures.{IsSigned, signed, first_more, defined}
+use Rattle.instrument.proofs.Programs.{Part, index_by, IsPicked, parts_of, is_picked, has_number, definition_is, index_is, typed_at}
 use Rattle.instrument.proofs.Bodies.{has_body, body_follows, has_room, parameters_can, parameters_in_order, few_parameters}
 
 -- ---- names of the library

@@ -29,7 +29,8 @@ use Rattle.instrument.proofs.Following.{Follows, GoesOn, Breaks, Continues, IsLe
 use Rattle.instrument.proofs.Births.{slots_born}
 use Rattle.instrument.proofs.Parameters.{AllSet}
 use Rattle.instrument.proofs.Functions.{setting, parameter_slots, how_many, at_body, body_code}
-use Rattle.instrument.proofs.Programs.{same_type_is, picked, index_by, IsPicked, parts_of, is_picked, has_bytes, main_index_is}
+use Rattle.c_model.proofs.Signatures.{same_type_is}
+use Rattle.instrument.proofs.Programs.{picked, index_by, IsPicked, parts_of, is_picked, has_bytes, main_index_is}
 use Rattle.instrument.proofs.Bodies.{has_body, body_follows}
 use Rattle.instrument.proofs.Callees.{main, functions, calls_at}
 
