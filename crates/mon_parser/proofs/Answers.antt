@@ -1,7 +1,7 @@
 -- From what the productions gave to what the answers mean.
 use Rattle.std.proofs.Common.{◌≡◌, ℕ, suc, false, List, [], ◌∷◌, length, Result, Ok, Err, refl, sym, ap, subst, ◌∙◌}
 use Rattle.grammar.specs.Syntax.{Fault, At, Over}
-use Rattle.grammar.specs.Exact.{Refused, AtMostOne, FrontsBegin, ReadingsBegin}
+use Rattle.grammar.specs.Exact.{Refused, AtMostOne, FrontsBegin, ReadingsBegin, OneLimit}
 use Rattle.grammar.proofs.Parts.{ok_is}
 use Rattle.grammar.proofs.Theorem.{found, refused, accepts, accepts_back, at_most_one}
 use Rattle.c_syntax.specs.declared.token.Token.{Token}
@@ -25,6 +25,9 @@ begun ws = (text_exact ws).begins
 
 pub fronts : (ws : Vocabulary) → FrontsBegin (text ws)
 fronts ws = (text_exact ws).fronts
+
+pub limits : (ws : Vocabulary) → OneLimit (text ws)
+limits ws = (text_exact ws).one_limit
 
 module _ (ts : PlainTokens) where
   abbrev parsed : Result (ParsedProgram × List PlainToken) Fault

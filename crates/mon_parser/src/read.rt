@@ -1,7 +1,7 @@
 //! From the tokens of a monitored text to its tree, or to its refusal.
 
 ghost use Rattle.std.specs.Prelude.{◌≡◌, MatchResult};
-ghost use Rattle.grammar.specs.Exact.{AtMostOne, FrontsBegin, ReadingsBegin};
+ghost use Rattle.grammar.specs.Exact.{AtMostOne, FrontsBegin, OneLimit, ReadingsBegin};
 ghost use Rattle.c_syntax.specs.Tokens.{plain_tokens};
 ghost use Rattle.mon_syntax.specs.Grammar.{Vocabulary, text};
 ghost use Rattle.mon_syntax.specs.Spelled.{IsRead};
@@ -36,8 +36,10 @@ pub fn read_tokens(alloc: Global, tokens: &Tokens) -> Result<ParsedProgram, Fron
 }
 
 /// Tokens are read in one way at most. What is read begins a text, and so does what stands before tokens that, with it, begin one.
+/// No token passes two limits.
 pub fn one_reading()
     ensures one { (words : Vocabulary) → AtMostOne (text words) }
     ensures begun { (words : Vocabulary) → ReadingsBegin (text words) }
     ensures fronts { (words : Vocabulary) → FrontsBegin (text words) }
+    ensures limits { (words : Vocabulary) → OneLimit (text words) }
 {}

@@ -13,7 +13,6 @@ use Rattle.mon_syntax.specs.Grammar.{text}
 use Rattle.mon_syntax.specs.Checking.{Checked}
 use Rattle.mon_syntax.specs.Spelled.{vocabulary, IsRead, grammar_refusal, checked, check_refusal, main_refusal, Spells, IsMonitoredRefusal, ByTokens, ByGrammar, ByNamesAndTypes, ForMain}
 use Rattle.mon_syntax.proofs.ExactTexts.{text_exact}
-use Rattle.mon_syntax.proofs.PassedLimits.{one_limit}
 use Rattle.mon_parser.proofs.Answers.{one}
 
 abbrev Answer : Type 0
@@ -68,7 +67,7 @@ one_broken : (source : List ℕ) (r s : PlainRefusal) → monitored_tokens sourc
 one_broken source r s e k = cc
 
 one_grammar_fault : (ts : PlainTokens) (f g : grammar.Fault) → Refused (text (vocabulary ts)) ts.list f → Refused (text (vocabulary ts)) ts.list g → f ≡ g
-one_grammar_fault ts = one_fault (text (vocabulary ts)) (fronts_begin (text (vocabulary ts)) _ _ _ (text_exact (vocabulary ts))) ts.list (one_limit (vocabulary ts))
+one_grammar_fault ts = one_fault (text (vocabulary ts)) (fronts_begin (text (vocabulary ts)) _ _ _ (text_exact (vocabulary ts))) ts.list ((text_exact (vocabulary ts)).one_limit)
 
 both_unread : (source : List ℕ) (a b : Answer) → IsUnread source a → IsUnread source b → a ≡ b
 both_unread source a b x y =

@@ -8,7 +8,6 @@ pub mod ExactTokens
 pub mod ExactExpressions
 pub mod ExactStatements
 pub mod ExactTexts
-pub mod PassedLimits
 pub mod PrintedPieces
 pub mod PrintedForms
 pub mod PrintedAlone

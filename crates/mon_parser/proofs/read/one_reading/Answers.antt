@@ -1,4 +1,4 @@
-use Rattle.mon_parser.proofs.Answers.{one, begun, fronts}
+use Rattle.mon_parser.proofs.Answers.{one, begun, fronts, limits}
 use Rattle.mon_parser.proofs.read.one_reading.Goals as goal
 
 pub returns-clause-one : goal.returns-clause-one
@@ -9,3 +9,6 @@ returns-clause-begun c = begun
 
 pub returns-clause-fronts : goal.returns-clause-fronts
 returns-clause-fronts c = fronts
+
+pub returns-clause-limits : goal.returns-clause-limits
+returns-clause-limits c = limits
