@@ -5,6 +5,7 @@ ghost use Rattle.c_syntax.specs.Tokens.{plain_token};
 ghost use Rattle.c_model.specs.Vocabulary.{word_at};
 ghost use Rattle.c_model.specs.ExpressionGrammar.{keyword_kind, kind, word_kind};
 
+use c_model::punctuator;
 use c_model::vocabulary::{Keyword, Word};
 use c_syntax::{Token, TokenKind};
 
@@ -26,30 +27,68 @@ pub const ANNOT_CLOSE: u32 = 7;
 
 pub const HEAD: u32 = 8;
 
+pub const CHAR: u32 = 10;
+
+pub const SHORT: u32 = 11;
+
+pub const INT: u32 = 12;
+
+pub const LONG: u32 = 13;
+
+pub const SIGNED: u32 = 14;
+
+pub const UNSIGNED: u32 = 15;
+
+pub const VOID: u32 = 16;
+
+pub const CONST: u32 = 17;
+
+pub const STATIC: u32 = 18;
+
+pub const IF: u32 = 19;
+
+pub const ELSE: u32 = 20;
+
+pub const WHILE: u32 = 21;
+
+pub const DO: u32 = 22;
+
+pub const FOR: u32 = 23;
+
+pub const BREAK: u32 = 24;
+
+pub const CONTINUE: u32 = 25;
+
+pub const RETURN: u32 = 26;
+
+pub const SIZEOF: u32 = 27;
+
+pub const KEPT: u32 = 28;
+
 /// The kind of the first punctuator in the list of all; the others follow.
 pub const FIRST_MARK: u32 = 30;
 
-pub const INCREMENT: u32 = FIRST_MARK + 2;
+pub const INCREMENT: u32 = FIRST_MARK + punctuator::INCREMENT as u32;
 
-pub const DECREMENT: u32 = FIRST_MARK + 3;
+pub const DECREMENT: u32 = FIRST_MARK + punctuator::DECREMENT as u32;
 
-pub const PLUS: u32 = FIRST_MARK + 21;
+pub const PLUS: u32 = FIRST_MARK + punctuator::PLUS as u32;
 
-pub const MINUS: u32 = FIRST_MARK + 22;
+pub const MINUS: u32 = FIRST_MARK + punctuator::MINUS as u32;
 
-pub const EXCLAMATION: u32 = FIRST_MARK + 29;
+pub const EXCLAMATION: u32 = FIRST_MARK + punctuator::EXCLAMATION as u32;
 
-pub const TILDE: u32 = FIRST_MARK + 30;
+pub const TILDE: u32 = FIRST_MARK + punctuator::TILDE as u32;
 
-pub const QUESTION: u32 = FIRST_MARK + 34;
+pub const QUESTION: u32 = FIRST_MARK + punctuator::QUESTION as u32;
 
-pub const COLON: u32 = FIRST_MARK + 35;
+pub const COLON: u32 = FIRST_MARK + punctuator::COLON as u32;
 
-pub const COMMA: u32 = FIRST_MARK + 37;
+pub const COMMA: u32 = FIRST_MARK + punctuator::COMMA as u32;
 
-pub const LEFT_PAREN: u32 = FIRST_MARK + 39;
+pub const LEFT_PAREN: u32 = FIRST_MARK + punctuator::LEFT_PAREN as u32;
 
-pub const RIGHT_PAREN: u32 = FIRST_MARK + 40;
+pub const RIGHT_PAREN: u32 = FIRST_MARK + punctuator::RIGHT_PAREN as u32;
 
 /// What the name of a number is.
 pub fn word_at(words: &[Word], number: u32) -> Word
@@ -65,25 +104,25 @@ pub fn keyword_kind(keyword: Keyword) -> u32
     ensures { result ≡ keyword_kind keyword }
 {
     match keyword {
-        Keyword::Char => 10,
-        Keyword::Short => 11,
-        Keyword::Int => 12,
-        Keyword::Long => 13,
-        Keyword::Signed => 14,
-        Keyword::Unsigned => 15,
-        Keyword::Void => 16,
-        Keyword::Const => 17,
-        Keyword::Static => 18,
-        Keyword::If => 19,
-        Keyword::Else => 20,
-        Keyword::While => 21,
-        Keyword::Do => 22,
-        Keyword::For => 23,
-        Keyword::Break => 24,
-        Keyword::Continue => 25,
-        Keyword::Return => 26,
-        Keyword::Sizeof => 27,
-        Keyword::Kept => 28,
+        Keyword::Char => CHAR,
+        Keyword::Short => SHORT,
+        Keyword::Int => INT,
+        Keyword::Long => LONG,
+        Keyword::Signed => SIGNED,
+        Keyword::Unsigned => UNSIGNED,
+        Keyword::Void => VOID,
+        Keyword::Const => CONST,
+        Keyword::Static => STATIC,
+        Keyword::If => IF,
+        Keyword::Else => ELSE,
+        Keyword::While => WHILE,
+        Keyword::Do => DO,
+        Keyword::For => FOR,
+        Keyword::Break => BREAK,
+        Keyword::Continue => CONTINUE,
+        Keyword::Return => RETURN,
+        Keyword::Sizeof => SIZEOF,
+        Keyword::Kept => KEPT,
     }
 }
 

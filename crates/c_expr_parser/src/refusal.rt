@@ -11,12 +11,10 @@ ghost use Rattle.c_model.specs.Phases.{limit_word};
 ghost use Rattle.c_expr_parser.specs.Reading.{label, plain_list};
 ghost use Rattle.c_expr_parser.specs.Answers.{IsGiven, RefusesFault, RefusesWord};
 
+use c_model::punctuator::{COUNT, SPELLINGS};
 use c_syntax::fault::{Limit, ReadFault};
 use c_syntax::{FrontFault, Name, Place, Refusal, Token, TokenKind, Tokens, code};
 use std::alloc::{AllocError, Global};
-
-/// How many punctuators there are (C99 6.4.6); those of annotations alone follow.
-const MARKS: u8 = 45;
 
 /// The text of this number in the table, or nothing.
 fn entry<'a>(table: &[&'a [u8]], number: u8) -> &'a [u8]
@@ -33,15 +31,7 @@ fn entry<'a>(table: &[&'a [u8]], number: u8) -> &'a [u8]
 fn spelling(mark: u8) -> &'static [u8]
     ensures { result.now ≡ or_nothing (slice_get marks mark) }
 {
-    entry(
-        &[
-            b"<<=", b">>=", b"++", b"--", b"->", b"<<", b">>", b"<=", b">=", b"==", b"!=", b"&&",
-            b"||", b"+=", b"-=", b"*=", b"/=", b"%=", b"&=", b"|=", b"^=", b"+", b"-", b"*", b"/",
-            b"%", b"<", b">", b"=", b"!", b"~", b"&", b"|", b"^", b"?", b":", b";", b",", b".",
-            b"(", b")", b"[", b"]", b"{", b"}",
-        ],
-        mark,
-    )
+    entry(SPELLINGS, mark)
 }
 
 /// A punctuator of annotations alone by its number among these.
@@ -57,10 +47,10 @@ fn annotation_spelling(mark: u8) -> &'static [u8]
 pub(crate) fn mark_word(mark: u8) -> &'static [u8]
     ensures { result.now ≡ mark_word mark }
 {
-    if mark < MARKS {
+    if mark < COUNT {
         spelling(mark)
     } else {
-        annotation_spelling(mark - MARKS)
+        annotation_spelling(mark - COUNT)
     }
 }
 

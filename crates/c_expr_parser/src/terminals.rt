@@ -7,8 +7,8 @@ ghost use Rattle.c_model.specs.ExpressionGrammar.{kind, first_type, first_expres
 ghost use Rattle.c_expr_parser.specs.Reading.{Gives, TakesNoMemory, plain_list};
 
 use crate::kinds::{
-    EXCLAMATION, FIRST_MARK, LEFT_PAREN, LETTER, MINUS, NAME, NUMBER, PLUS, TILDE, TYPE_NAME, kind,
-    word_at, word_kind,
+    CHAR, CONST, EXCLAMATION, FIRST_MARK, LEFT_PAREN, LETTER, MINUS, NAME, NUMBER, PLUS, SIZEOF,
+    TILDE, TYPE_NAME, UNSIGNED, VOID, kind, word_at, word_kind,
 };
 use c_model::vocabulary::Word;
 use c_syntax::fault::ReadFault;
@@ -37,7 +37,7 @@ pub fn next_begins_type(words: &[Word], tokens: &[Token]) -> bool
         [] => false,
         [token, ..] => {
             let k = kind(words, token);
-            k == 17 || k == 16 || k == TYPE_NAME || (10 <= k && k <= 15)
+            k == CONST || k == VOID || k == TYPE_NAME || (CHAR <= k && k <= UNSIGNED)
         }
     }
 }
@@ -57,7 +57,7 @@ pub fn next_begins_expression(words: &[Word], tokens: &[Token]) -> bool
                 || k == MINUS
                 || k == EXCLAMATION
                 || k == TILDE
-                || k == 27
+                || k == SIZEOF
         }
     }
 }

@@ -9,7 +9,7 @@ ghost use Rattle.c_model.specs.ExpressionGrammar.{kind, placed, signs_behind, si
 ghost use Rattle.c_model.specs.ExpressionGrammar.{type_name_of, type_name_word_of, type_name, base, consts, type_words};
 ghost use Rattle.c_expr_parser.specs.Reading.{Gives, TakesNoMemory, plain_list, more_words};
 
-use crate::kinds::{TYPE_NAME, kind, word_at};
+use crate::kinds::{CHAR, INT, LONG, SHORT, SIGNED, TYPE_NAME, UNSIGNED, kind, word_at};
 use crate::terminals::{left, next_is, skip};
 use c_model::vocabulary::{IntegerWords, Keyword, SignWords, SizeWords, Word};
 use c_syntax::fault::ReadFault;
@@ -103,7 +103,7 @@ fn sign_goes_on(sign: SignWords, kind: u32) -> bool
     ensures { result ≡ among kind (signs_behind sign) }
 {
     match sign {
-        SignWords::Nothing => kind == 14 || kind == 15,
+        SignWords::Nothing => kind == SIGNED || kind == UNSIGNED,
         SignWords::Signed | SignWords::Unsigned => false,
     }
 }
@@ -112,12 +112,12 @@ fn size_goes_on(size: SizeWords, kind: u32) -> bool
     ensures { result ≡ among kind (sizes_behind size) }
 {
     match size {
-        SizeWords::Nothing => 10 <= kind && kind <= 13,
-        SizeWords::Short => kind == 12,
-        SizeWords::Int => kind == 11 || kind == 13,
-        SizeWords::Long => kind == 12 || kind == 13,
-        SizeWords::LongInt => kind == 13,
-        SizeWords::LongLong => kind == 12,
+        SizeWords::Nothing => CHAR <= kind && kind <= LONG,
+        SizeWords::Short => kind == INT,
+        SizeWords::Int => kind == SHORT || kind == LONG,
+        SizeWords::Long => kind == INT || kind == LONG,
+        SizeWords::LongInt => kind == LONG,
+        SizeWords::LongLong => kind == INT,
         SizeWords::Char | SizeWords::ShortInt | SizeWords::LongLongInt => false,
     }
 }

@@ -8,6 +8,7 @@ use crate::bytes::{begins_with, behind, ends_line, is_blank, is_digit, is_nondig
 use crate::chars::string_at;
 use crate::numbers::number_at;
 use c_model::monitored_tokens::{Fault, Found, Piece};
+use c_model::punctuator::SPELLINGS;
 
 const MOST_IN_NAME: usize = 255;
 
@@ -76,15 +77,7 @@ fn mark_at(bytes: &[u8]) -> Result<Found, Fault>
     ensures within { IfOk result (λ x. x.more < length bytes.now) }
     ensures fits { IfOk result (λ x. FitsPiece x.piece) }
 {
-    first_mark(
-        &[
-            b"<<=", b">>=", b"++", b"--", b"->", b"<<", b">>", b"<=", b">=", b"==", b"!=", b"&&",
-            b"||", b"+=", b"-=", b"*=", b"/=", b"%=", b"&=", b"|=", b"^=", b"+", b"-", b"*", b"/",
-            b"%", b"<", b">", b"=", b"!", b"~", b"&", b"|", b"^", b"?", b":", b";", b",", b".",
-            b"(", b")", b"[", b"]", b"{", b"}",
-        ],
-        bytes,
-    )
+    first_mark(SPELLINGS, bytes)
 }
 
 /// The piece at the front, given whether only blanks stand before it in its line.

@@ -7,6 +7,7 @@ pub mod laws;
 pub mod limits;
 pub mod monitored_tokens;
 pub mod operands;
+pub mod punctuator;
 pub mod vocabulary;
 pub mod words;
 

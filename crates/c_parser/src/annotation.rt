@@ -16,6 +16,7 @@ use c_expr_parser::kinds::{
     ANNOT_CLOSE, ANNOT_OPEN, LEFT_PAREN, LETTER, NAME, NUMBER, RIGHT_PAREN,
 };
 use c_expr_parser::terminals::{letter, marked, next_is, next_is_marked, skip};
+use c_model::punctuator;
 use c_model::vocabulary::Word;
 use c_syntax::fault::ReadFault;
 use c_syntax::{
@@ -25,15 +26,18 @@ use c_syntax::{
 use std::alloc::{AllocError, AllocFailed, Global};
 
 /// `+` and `-` of terms (ACSL 2.2.1).
-const SUM_OPERATORS: &[(u8, BinOp)] = &[(21, BinOp::Add), (22, BinOp::Sub)];
+const SUM_OPERATORS: &[(u8, BinOp)] = &[
+    (punctuator::PLUS, BinOp::Add),
+    (punctuator::MINUS, BinOp::Sub),
+];
 
 const RELATIONS: &[(u8, Relation)] = &[
-    (26, Relation::Lt),
-    (27, Relation::Gt),
-    (7, Relation::Le),
-    (8, Relation::Ge),
-    (9, Relation::Eq),
-    (10, Relation::Ne),
+    (punctuator::LESS, Relation::Lt),
+    (punctuator::GREATER, Relation::Gt),
+    (punctuator::LESS_EQUAL, Relation::Le),
+    (punctuator::GREATER_EQUAL, Relation::Ge),
+    (punctuator::EQUAL, Relation::Eq),
+    (punctuator::NOT_EQUAL, Relation::Ne),
 ];
 
 /// A term as it is read, whose type and range are set by later phases.

@@ -4,6 +4,7 @@ ghost use Rattle.std.specs.Prelude.{◌≡◌};
 ghost use Rattle.c_syntax.specs.Tokens.{plain_token};
 ghost use Rattle.mon_syntax.specs.Grammar.{kind, word_at, word_kind};
 
+use c_model::punctuator;
 use c_syntax::{Token, TokenKind};
 use mon_syntax::Word;
 
@@ -38,25 +39,25 @@ pub const FOREIGN: u32 = 13;
 // The kind of the first punctuator in the list of all; the others follow.
 const FIRST_MARK: u32 = 20;
 
-pub const MINUS: u32 = FIRST_MARK + 22;
+pub const MINUS: u32 = FIRST_MARK + punctuator::MINUS as u32;
 
-pub const ASSIGN: u32 = FIRST_MARK + 28;
+pub const ASSIGN: u32 = FIRST_MARK + punctuator::ASSIGN as u32;
 
-pub const TILDE: u32 = FIRST_MARK + 30;
+pub const TILDE: u32 = FIRST_MARK + punctuator::TILDE as u32;
 
-pub const COLON: u32 = FIRST_MARK + 35;
+pub const COLON: u32 = FIRST_MARK + punctuator::COLON as u32;
 
-pub const SEMICOLON: u32 = FIRST_MARK + 36;
+pub const SEMICOLON: u32 = FIRST_MARK + punctuator::SEMICOLON as u32;
 
-pub const COMMA: u32 = FIRST_MARK + 37;
+pub const COMMA: u32 = FIRST_MARK + punctuator::COMMA as u32;
 
-pub const LEFT_PAREN: u32 = FIRST_MARK + 39;
+pub const LEFT_PAREN: u32 = FIRST_MARK + punctuator::LEFT_PAREN as u32;
 
-pub const RIGHT_PAREN: u32 = FIRST_MARK + 40;
+pub const RIGHT_PAREN: u32 = FIRST_MARK + punctuator::RIGHT_PAREN as u32;
 
-pub const LEFT_BRACE: u32 = FIRST_MARK + 43;
+pub const LEFT_BRACE: u32 = FIRST_MARK + punctuator::LEFT_BRACE as u32;
 
-pub const RIGHT_BRACE: u32 = FIRST_MARK + 44;
+pub const RIGHT_BRACE: u32 = FIRST_MARK + punctuator::RIGHT_BRACE as u32;
 
 /// What the name of a number is.
 pub fn word_at(words: &[Word], number: u32) -> Word

@@ -9,6 +9,7 @@ ghost use Rattle.mon_syntax.specs.Spelled.{or_nothing, token_word, word_at, plac
 ghost use Rattle.mon_parser.specs.Reading.{label, plain_list};
 ghost use Rattle.mon_parser.specs.Answers.{RefusesFault, RefusesWord, IsRefusal};
 
+use c_model::punctuator::SPELLINGS;
 use c_syntax::fault::{Limit, ReadFault};
 use c_syntax::{FrontFault, Name, Place, Refusal, Token, TokenKind, Tokens, code};
 use std::alloc::{AllocError, Global};
@@ -28,15 +29,7 @@ fn entry<'a>(table: &[&'a [u8]], number: u8) -> &'a [u8]
 pub fn spelling(mark: u8) -> &'static [u8]
     ensures { result.now ≡ or_nothing (slice_get marks mark) }
 {
-    entry(
-        &[
-            b"<<=", b">>=", b"++", b"--", b"->", b"<<", b">>", b"<=", b">=", b"==", b"!=", b"&&",
-            b"||", b"+=", b"-=", b"*=", b"/=", b"%=", b"&=", b"|=", b"^=", b"+", b"-", b"*", b"/",
-            b"%", b"<", b">", b"=", b"!", b"~", b"&", b"|", b"^", b"?", b":", b";", b",", b".",
-            b"(", b")", b"[", b"]", b"{", b"}",
-        ],
-        mark,
-    )
+    entry(SPELLINGS, mark)
 }
 
 fn decimal(alloc: Global, value: i128) -> Result<Vec<u8>, AllocError>

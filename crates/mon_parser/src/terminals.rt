@@ -13,6 +13,7 @@ use crate::kinds::{
     WHILE, kind, word_at, word_kind,
 };
 use crate::parsed::NameUse;
+use c_model::punctuator;
 use c_syntax::fault::ReadFault;
 use c_syntax::{Name, Place, Token, TokenKind};
 use mon_syntax::{MonOp, MonType, Word};
@@ -229,22 +230,22 @@ fn operator_mark(mark: u8) -> Option<MonOp>
     ensures { result ≡ operator_mark mark }
 {
     match mark {
-        21 => Some(MonOp::Add),
-        22 => Some(MonOp::Sub),
-        23 => Some(MonOp::Mul),
-        24 => Some(MonOp::Div),
-        25 => Some(MonOp::Rem),
-        5 => Some(MonOp::Shl),
-        6 => Some(MonOp::Shr),
-        31 => Some(MonOp::And),
-        32 => Some(MonOp::Or),
-        33 => Some(MonOp::Xor),
-        9 => Some(MonOp::Eq),
-        10 => Some(MonOp::Ne),
-        26 => Some(MonOp::Lt),
-        7 => Some(MonOp::Le),
-        27 => Some(MonOp::Gt),
-        8 => Some(MonOp::Ge),
+        punctuator::PLUS => Some(MonOp::Add),
+        punctuator::MINUS => Some(MonOp::Sub),
+        punctuator::TIMES => Some(MonOp::Mul),
+        punctuator::DIVIDE => Some(MonOp::Div),
+        punctuator::PERCENT => Some(MonOp::Rem),
+        punctuator::SHIFT_LEFT => Some(MonOp::Shl),
+        punctuator::SHIFT_RIGHT => Some(MonOp::Shr),
+        punctuator::AMPERSAND => Some(MonOp::And),
+        punctuator::BAR => Some(MonOp::Or),
+        punctuator::CARET => Some(MonOp::Xor),
+        punctuator::EQUAL => Some(MonOp::Eq),
+        punctuator::NOT_EQUAL => Some(MonOp::Ne),
+        punctuator::LESS => Some(MonOp::Lt),
+        punctuator::LESS_EQUAL => Some(MonOp::Le),
+        punctuator::GREATER => Some(MonOp::Gt),
+        punctuator::GREATER_EQUAL => Some(MonOp::Ge),
         _ => None,
     }
 }

@@ -15,6 +15,7 @@ use super::literals::literal_of;
 use super::words::{begins_name, word_at};
 use crate::bytes::{begins_with, behind, front, is_digit, line_len, word_len};
 use c_model::c_tokens::{Fault, Found, Mode, Piece};
+use c_model::punctuator::SPELLINGS;
 
 /// Whether a `.` stands there that no literal may have after it.
 fn is_dotted(mode: Mode, bytes: &[u8]) -> bool
@@ -103,16 +104,7 @@ fn c_mark_at(bytes: &[u8]) -> Result<Found, Fault>
     ensures within { IfOk result (λ x. x.more < length bytes.now) }
     ensures fits { IfOk result (λ x. FitsPiece x.piece) }
 {
-    let found = first_mark(
-        0,
-        &[
-            b"<<=", b">>=", b"++", b"--", b"->", b"<<", b">>", b"<=", b">=", b"==", b"!=", b"&&",
-            b"||", b"+=", b"-=", b"*=", b"/=", b"%=", b"&=", b"|=", b"^=", b"+", b"-", b"*", b"/",
-            b"%", b"<", b">", b"=", b"!", b"~", b"&", b"|", b"^", b"?", b":", b";", b",", b".",
-            b"(", b")", b"[", b"]", b"{", b"}",
-        ],
-        bytes,
-    );
+    let found = first_mark(0, SPELLINGS, bytes);
     match found {
         None => Err(Fault::Byte),
         Some(found) => Ok(found),
