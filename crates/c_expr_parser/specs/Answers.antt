@@ -21,7 +21,7 @@ abbrev pub RefusesWith : PlainRefusal → FrontFault → Type 0
 RefusesWith r front.Memory = Unit {0}
 RefusesWith r (front.Refused x) = plain_refusal x ≡ r
 
--- it is no being out of memory
+-- it is not out of memory
 abbrev pub IsGiven : FrontFault → Type 0
 IsGiven front.Memory = ⊥
 IsGiven (front.Refused x) = Unit {0}

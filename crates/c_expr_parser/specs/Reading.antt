@@ -37,7 +37,7 @@ abbrev pub Gives : {X Y : Type 0} → (X → Y) → Result X ReadFault → Resul
 Gives view (Ok x) read = read ≡ Ok (view x)
 Gives view (Err e) read = Fails e read
 
--- it is no being out of memory
+-- it is not out of memory
 abbrev pub TakesNoMemory : ReadFault → Type 0
 TakesNoMemory (fault.At n) = Unit {0}
 TakesNoMemory (fault.Over limit n) = Unit {0}

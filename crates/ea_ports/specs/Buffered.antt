@@ -21,7 +21,7 @@ pub record Wrote (p q : Port) (bytes : List ℕ) : Type 0 where
   pub bytes_are : p.waiting ++ bytes ≡ sent ++ q.waiting
   pub faults_is : q.faults ≡ p.faults
 
--- the count where a sink refuses: it rose where the sink failed, and is as before at being out of memory
+-- the count where a sink refuses: it rose where the sink failed, and is as before if memory ran out
 abbrev pub FaultCount : ℕ → ℕ → SinkFault → Type 0
 FaultCount before now Failed = Rose before now
 FaultCount before now Memory = now ≡ before

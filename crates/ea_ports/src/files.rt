@@ -18,7 +18,7 @@ fn content<'a>(files: &'a [(String, Vec<u8>)], name: &str) -> Option<&'a [u8]>
     None
 }
 
-// A fetch from these files, which doesn't fail save for being out of memory.
+// A fetch from these files, which fails only when memory runs out.
 pub fn fetch_from(
     files: &[(String, Vec<u8>)],
     alloc: Global,

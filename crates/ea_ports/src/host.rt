@@ -16,7 +16,7 @@ use std::{fs, io};
 const PIECE: usize = 4096;
 
 /// A folder over the host's files, each name a path. Besides the errors of the host it counts a file that is
-/// absent or over the limit, and being out of memory not at all.
+/// absent or over the limit, and running out of memory not at all.
 #[derive(Drop)]
 pub struct FileFolder<R> {
     rt: R,

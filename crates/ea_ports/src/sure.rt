@@ -1,4 +1,4 @@
-// Ports in memory that never fail, save for being out of memory: their counts are the constant 0.
+// Ports in memory that never fail, but when memory runs out: their counts are the constant 0.
 ghost use Rattle.std.specs.Prelude.{◌≡◌, ◌≤◌, [], Some, OnErr};
 ghost use Rattle.ea_ports.specs.Port.{FailsOnBytes, Fetches, FolderCount, Puts, SinkCount, most_fetched};
 ghost use Rattle.ea_ports.specs.Files.{content_of, named_contents};

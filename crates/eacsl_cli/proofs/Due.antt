@@ -124,7 +124,7 @@ module _ {source : Taking} {text : List ℕ} {err : Change} {result : ℕ} where
     pub run_refused : (r : PlainRefusal) → RefusedText text r → Untouched source → IsSettled (line_of (refused_words r)) 2 err result → Answered (RunDue source text steps) (RunBegins source text steps) (change told told faults faults) err result
     run_refused r h u s = settled_answer (refused_answer r) (RunRefused r h u refl) (inl refl) (sym (more-nil told)) refl s
 
-    -- nothing was put, for being out of memory
+    -- nothing was put, since memory ran out
     pub run_unread : IsSaid memory_line 9 err result → Answered (RunDue source text steps) (RunBegins source text steps) (change told told faults faults) err result
     run_unread s = said_memory [] (inl refl) (sym (more-nil told)) refl s
 

@@ -18,7 +18,7 @@ module _ {words : List (List ℕ)} {content : Option (List ℕ → Option (List 
       → Answered (IsDue words content before now source) (Begins words content before now source) (change told told faults faults) err result
   silent_said status line d s = said_answer (silent status line) d (Nothing refl) (sym (more-nil told)) refl s
 
-  -- nothing was put, for being out of memory
+  -- nothing was put, since memory ran out
   pub memory_said : IsSaid memory_line 9 err result → Answered (IsDue words content before now source) (Begins words content before now source) (change told told faults faults) err result
   memory_said s = said_memory [] (Nothing refl) (sym (more-nil told)) refl s
 

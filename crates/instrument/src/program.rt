@@ -223,7 +223,7 @@ fn translate(alloc: Global, p: &Program) -> Result<MonProgram, AllocError>
     Ok(MonProgram { functions })
 }
 
-/// Translates a program into monitored C. Only being out of memory can keep it from that.
+/// Translates a program into monitored C. Only running out of memory can keep it from that.
 ///
 /// The translation is valid. Over numbered blocks it does what the program does, on every input and with every number of
 /// steps, up to the program's first undefined operation.
