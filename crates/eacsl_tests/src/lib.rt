@@ -5,8 +5,6 @@
 #![tactic(auto)]
 
 #[cfg(test)]
-mod example;
-#[cfg(test)]
 mod host;
 #[cfg(test)]
 mod lowering;

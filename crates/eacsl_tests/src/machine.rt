@@ -1,7 +1,7 @@
 //! Runs of code on sources and sinks that fail, and of code that no valid program has.
 
 use crate::monitored::{add, code_of, code_of_body, constant, value};
-use crate::same::{same_bytes, same_number, same_numbers};
+use crate::same::{made, same_bytes, same_number, same_numbers};
 use c_lower::{Code, lower};
 use c_machine::{Stop, run};
 use c_syntax::Segment;
@@ -9,7 +9,6 @@ use ea_ports::{Failed, MemSink, MemSource, Source};
 use mon_syntax::{
     MemoryCall, MonExpr, MonExprKind, MonOp, MonProgram, MonStmt, MonStmtKind, MonType,
 };
-use std::alloc::{AllocError, Global};
 use std::process::Abort;
 
 /// What a run came to: how it ended, the steps left, what was written, and what the source gives then.
@@ -31,26 +30,28 @@ fn next_byte(input: &mut MemSource) -> u8 {
 
 /// Runs code on the input "ab", where the source fails at this call and the sink at that one.
 fn ran_on(
-    alloc: Global,
+    rt: &(impl Abort + AllocGlobal),
     code: &Code,
     steps: u64,
     failing_read: u32,
     failing_put: u32,
-) -> Result<Done, AllocError> {
-    let mut input = MemSource::new(b"ab".to_vec(alloc)?, [failing_read].to_vec(alloc)?);
-    let mut out = MemSink::new(alloc, [failing_put].to_vec(alloc)?);
+) -> Done {
+    let alloc = rt.alloc();
+    let bytes = made(rt, b"ab".to_vec(alloc));
+    let mut input = MemSource::new(bytes, made(rt, [failing_read].to_vec(alloc)));
+    let mut out = MemSink::new(alloc, made(rt, [failing_put].to_vec(alloc)));
     let ran = run(alloc, code, steps, &mut input, &mut out);
-    Ok(Done {
+    Done {
         stop: ran.stop,
         left: ran.left,
-        output: out.bytes().to_vec(alloc)?,
+        output: made(rt, out.bytes().to_vec(alloc)),
         next: next_byte(&mut input),
-    })
+    }
 }
 
 /// Runs code where no port fails.
-fn plainly(alloc: Global, code: &Code, steps: u64) -> Result<Done, AllocError> {
-    ran_on(alloc, code, steps, 9, 9)
+fn plainly(rt: &(impl Abort + AllocGlobal), code: &Code, steps: u64) -> Done {
+    ran_on(rt, code, steps, 9, 9)
 }
 
 /// An end as a word, with the value of an exit.
@@ -87,12 +88,11 @@ pub fn comes_to(
     end: (&str, i128),
     left: u64,
     output: &[u8],
-) -> Result<(), AllocError> {
-    let whole = plainly(rt.alloc(), code, steps)?;
+) {
+    let whole = plainly(rt, code, steps);
     ends_so(rt, whole.stop, end.0, end.1);
     leaves(rt, &whole, left);
     same_bytes(rt, &whole.output, output);
-    Ok(())
 }
 
 /// Compares what a text comes to where no port fails.
@@ -103,8 +103,8 @@ fn runs(
     end: (&str, i128),
     left: u64,
     output: &[u8],
-) -> Result<(), AllocError> {
-    comes_to(rt, &code_of(rt, text)?, steps, end, left, output)
+) {
+    comes_to(rt, &code_of(rt, text), steps, end, left, output);
 }
 
 const COUNTS: &str =
@@ -118,35 +118,29 @@ const SUM: &str =
      i32 main(void) { i32 x; x = f(I32(5)); __e_acsl_print_i64(((i64)x)); return I32(0); }";
 
 #[test]
-fn steps_are_counted(rt: HostRuntime) -> Result<(), AllocError> {
-    runs(&rt, COUNTS, 100, ("exit", 7), 97, b"3")?;
-    runs(&rt, COUNTS, 2, ("spent", 0), 0, b"")?;
-    runs(&rt, ENDLESS, 70000, ("full frames", 0), 4464, b"")?;
-    runs(&rt, SUM, 100, ("exit", 0), 94, b"15")
+fn steps_are_counted(rt: HostRuntime) {
+    runs(&rt, COUNTS, 100, ("exit", 7), 97, b"3");
+    runs(&rt, COUNTS, 2, ("spent", 0), 0, b"");
+    runs(&rt, ENDLESS, 70000, ("full frames", 0), 4464, b"");
+    runs(&rt, SUM, 100, ("exit", 0), 94, b"15");
 }
 
 /// Compares what a run of 5,000 steps comes to, each of which writes a byte, where a call of the sink fails.
-fn writes(
-    rt: &(impl Abort + AllocGlobal),
-    failing_put: u32,
-    word: &str,
-    length: u128,
-) -> Result<(), AllocError> {
+fn writes(rt: &(impl Abort + AllocGlobal), failing_put: u32, word: &str, length: u128) {
     let text =
         "#include <e_acsl.h>\ni32 main(void) { while (1) { __e_acsl_step(); __e_acsl_print_text(\"x\"); } }";
-    let code = code_of(rt, text)?;
-    let written = ran_on(rt.alloc(), &code, 5000, 9, failing_put)?;
+    let code = code_of(rt, text);
+    let written = ran_on(rt, &code, 5000, 9, failing_put);
     ends_so(rt, written.stop, word, 0);
     leaves(rt, &written, 0);
     same_number(rt, written.output.len() as u128, length);
-    Ok(())
 }
 
 #[test]
-fn output_is_put_in_pieces(rt: HostRuntime) -> Result<(), AllocError> {
-    writes(&rt, 9, "spent", 5000)?;
-    writes(&rt, 2, "write fault", 4096)?;
-    writes(&rt, 1, "write fault", 0)
+fn output_is_put_in_pieces(rt: HostRuntime) {
+    writes(&rt, 9, "spent", 5000);
+    writes(&rt, 2, "write fault", 4096);
+    writes(&rt, 1, "write fault", 0);
 }
 
 /// Compares what a run comes to that writes its input, "ab", up to the end, reads once more, and writes that number; and what the
@@ -158,116 +152,104 @@ fn copies(
     left: u64,
     output: &[u8],
     next: u8,
-) -> Result<(), AllocError> {
+) {
     let text =
         "#include <e_acsl.h>\ni32 main(void) { i32 c; { while (1) { c = getchar(); if ((c != I32(-1))) { } else { goto end; } \
                 __e_acsl_step(); putchar(c); } } end: ; c = getchar(); __e_acsl_print_i64(((i64)c)); return I32(0); }";
-    let code = code_of(rt, text)?;
-    let copied = ran_on(rt.alloc(), &code, 100, failing.0, failing.1)?;
+    let code = code_of(rt, text);
+    let copied = ran_on(rt, &code, 100, failing.0, failing.1);
     ends_so(rt, copied.stop, word, 0);
     same_number(rt, u128::from(copied.left), u128::from(left));
     same_bytes(rt, &copied.output, output);
     same_number(rt, u128::from(copied.next), u128::from(next));
-    Ok(())
 }
 
 #[test]
-fn the_source_is_asked_up_to_its_end(rt: HostRuntime) -> Result<(), AllocError> {
+fn the_source_is_asked_up_to_its_end(rt: HostRuntime) {
     // Asked once more after the end, the source would fail at the test's own call, the fifth then.
-    copies(&rt, (5, 9), "exit", 98, b"ab-1", b'-')?;
-    copies(&rt, (2, 9), "read fault", 99, b"a", b'b')?;
+    copies(&rt, (5, 9), "exit", 98, b"ab-1", b'-');
+    copies(&rt, (2, 9), "read fault", 99, b"a", b'b');
     // The sink refuses what waits.
-    copies(&rt, (2, 1), "write fault", 0, b"", b'b')
+    copies(&rt, (2, 1), "write fault", 0, b"", b'b');
 }
 
 #[test]
-fn code_without_main_faults(rt: HostRuntime) -> Result<(), AllocError> {
+fn code_without_main_faults(rt: HostRuntime) {
     let functions = Vec::new(rt.alloc());
-    let code = lower(rt.alloc(), &MonProgram { functions })?;
-    let fault = plainly(rt.alloc(), &code, 5)?;
-    ends_so(&rt, fault.stop, "fault", 0);
-    leaves(&rt, &fault, 5);
-    Ok(())
+    let code = made(&rt, lower(rt.alloc(), &MonProgram { functions }));
+    comes_to(&rt, &code, 5, ("fault", 0), 5, b"");
+}
+
+/// `__e_acsl_store_block` or `__e_acsl_delete_block` with an argument, whose value goes to this register.
+fn act(
+    rt: &(impl Abort + AllocGlobal),
+    body: &mut Vec<MonStmt>,
+    into: Option<u32>,
+    call: MemoryCall,
+    argument: MonExpr,
+) {
+    let arguments = made(rt, vec![in rt.alloc(); argument]);
+    add(rt, body, MonStmtKind::Act(into, call, arguments));
 }
 
 /// `p = __e_acsl_store_block(SIZE);`, where `p` is register 0, and `__e_acsl_print_i64(p);`.
-fn store(alloc: Global, body: &mut Vec<MonStmt>, size: i128) -> Result<(), AllocError> {
-    let size = constant(alloc, MonType::U64, size)?;
-    add(
-        alloc,
-        body,
-        MonStmtKind::Act(Some(0), MemoryCall::StoreBlock, vec![in alloc; size]?),
-    )?;
-    let stored = value(alloc, 0)?;
-    add(alloc, body, MonStmtKind::PrintSigned(stored))
+fn store(rt: &(impl Abort + AllocGlobal), body: &mut Vec<MonStmt>, size: i128) {
+    let size = constant(rt, MonType::U64, size);
+    act(rt, body, Some(0), MemoryCall::StoreBlock, size);
+    add(rt, body, MonStmtKind::PrintSigned(value(rt, 0)));
 }
 
 #[test]
-fn a_block_stands_where_the_one_before_stood(rt: HostRuntime) -> Result<(), AllocError> {
+fn a_block_stands_where_the_one_before_stood(rt: HostRuntime) {
     // A `ptr` is printed in no valid program.
-    let alloc = rt.alloc();
-    let mut body = Vec::new(alloc);
-    store(alloc, &mut body, 4)?;
-    let pointer = value(alloc, 0)?;
-    add(
-        alloc,
-        &mut body,
-        MonStmtKind::Act(None, MemoryCall::DeleteBlock, vec![in alloc; pointer]?),
-    )?;
-    store(alloc, &mut body, 16)?;
-    store(alloc, &mut body, 1)?;
-    let whole = plainly(alloc, &code_of_body(alloc, body)?, 100)?;
-    ends_so(&rt, whole.stop, "exit", 0);
-    same_bytes(&rt, &whole.output, b"5368709120966367641613958643744");
-    Ok(())
+    let mut body = Vec::new(rt.alloc());
+    store(&rt, &mut body, 4);
+    let pointer = value(&rt, 0);
+    act(&rt, &mut body, None, MemoryCall::DeleteBlock, pointer);
+    store(&rt, &mut body, 16);
+    store(&rt, &mut body, 1);
+    let code = code_of_body(&rt, body);
+    let output = b"5368709120966367641613958643744";
+    comes_to(&rt, &code, 100, ("exit", 0), 100, output);
 }
 
-/// How a run ends that stores or deletes a block with these arguments.
-fn acted_so(
-    alloc: Global,
+/// Compares how a run ends that stores or deletes a block with a constant as its only argument.
+fn acts(
+    rt: &(impl Abort + AllocGlobal),
     call: MemoryCall,
     kind: MonType,
-    first: i128,
-    count: usize,
-) -> Result<Stop, AllocError> {
-    let mut arguments: Vec<MonExpr> = Vec::new(alloc);
-    for _argument in 0..count {
-        arguments.push(constant(alloc, kind, first)?)?;
-    }
-    let mut body = Vec::new(alloc);
-    add(alloc, &mut body, MonStmtKind::Act(None, call, arguments))?;
-    Ok(plainly(alloc, &code_of_body(alloc, body)?, 100)?.stop)
+    argument: i128,
+    word: &str,
+) {
+    let mut body = Vec::new(rt.alloc());
+    act(rt, &mut body, None, call, constant(rt, kind, argument));
+    comes_to(rt, &code_of_body(rt, body), 100, (word, 0), 100, b"");
 }
 
 #[test]
-fn blocks_of_no_valid_program(rt: HostRuntime) -> Result<(), AllocError> {
-    let alloc = rt.alloc();
+fn blocks_of_no_valid_program(rt: HostRuntime) {
     let store = MemoryCall::StoreBlock;
-    ends_so(&rt, acted_so(alloc, store, MonType::U64, 1, 1)?, "exit", 0);
-    ends_so(&rt, acted_so(alloc, store, MonType::U64, 1, 2)?, "fault", 0);
-    ends_so(
-        &rt,
-        acted_so(alloc, store, MonType::I32, -1, 1)?,
-        "fault",
-        0,
-    );
-    let huge = acted_so(alloc, store, MonType::I128, 1 << 64, 1)?;
-    ends_so(&rt, huge, "full stack", 0);
-    let delete = MemoryCall::DeleteBlock;
-    ends_so(
-        &rt,
-        acted_so(alloc, delete, MonType::I32, 0, 1)?,
-        "fault",
-        0,
-    );
-    Ok(())
+    acts(&rt, store, MonType::U64, 1, "exit");
+    acts(&rt, store, MonType::I32, -1, "fault");
+    acts(&rt, store, MonType::I128, 1 << 64, "full stack");
+    acts(&rt, MemoryCall::DeleteBlock, MonType::I32, 0, "fault");
 }
 
-/// What a run prints that prints an expression.
-fn printed(alloc: Global, e: MonExpr) -> Result<Vec<u8>, AllocError> {
-    let mut body = Vec::new(alloc);
-    add(alloc, &mut body, MonStmtKind::PrintSigned(e))?;
-    Ok(plainly(alloc, &code_of_body(alloc, body)?, 100)?.output)
+#[test]
+fn a_block_has_one_size(rt: HostRuntime) {
+    let mut sizes = made(&rt, vec![in rt.alloc(); constant(&rt, MonType::U64, 1)]);
+    made(&rt, sizes.push(constant(&rt, MonType::U64, 1)));
+    let mut body = Vec::new(rt.alloc());
+    let stored = MonStmtKind::Act(None, MemoryCall::StoreBlock, sizes);
+    add(&rt, &mut body, stored);
+    comes_to(&rt, &code_of_body(&rt, body), 100, ("fault", 0), 100, b"");
+}
+
+/// Compares what a run prints that prints an expression.
+fn prints(rt: &(impl Abort + AllocGlobal), e: MonExpr, wanted: &[u8]) {
+    let mut body = Vec::new(rt.alloc());
+    add(rt, &mut body, MonStmtKind::PrintSigned(e));
+    comes_to(rt, &code_of_body(rt, body), 100, ("exit", 0), 100, wanted);
 }
 
 /// Compares what an operator gives on two numbers of a type, as it is printed.
@@ -275,45 +257,35 @@ fn computes(
     rt: &(impl Abort + AllocGlobal),
     op: MonOp,
     kind: MonType,
-    left: i128,
-    right: i128,
+    operands: (i128, i128),
     wanted: &[u8],
-) -> Result<(), AllocError> {
-    let alloc = rt.alloc();
-    let left = constant(alloc, kind, left)?;
-    let right = constant(alloc, kind, right)?;
-    let e = MonExpr::new(alloc, MonExprKind::Binary(op, kind, left, right))?;
-    same_bytes(rt, &printed(alloc, e)?, wanted);
-    Ok(())
+) {
+    let left = constant(rt, kind, operands.0);
+    let right = constant(rt, kind, operands.1);
+    let e = MonExpr::new(rt.alloc(), MonExprKind::Binary(op, kind, left, right));
+    prints(rt, made(rt, e), wanted);
 }
 
 #[test]
-fn operators_of_types_that_no_valid_program_computes_in(rt: HostRuntime) -> Result<(), AllocError> {
-    computes(&rt, MonOp::And, MonType::I16, -2, 7, b"6")?;
-    computes(&rt, MonOp::Or, MonType::I16, -8, 3, b"-5")?;
-    computes(&rt, MonOp::Xor, MonType::I16, -1, 5, b"-6")?;
-    computes(&rt, MonOp::Ge, MonType::I8, 4, 4, b"1")?;
-    computes(&rt, MonOp::Ne, MonType::I8, 4, 4, b"0")
+fn operators_of_types_that_no_valid_program_computes_in(rt: HostRuntime) {
+    computes(&rt, MonOp::And, MonType::I16, (-2, 7), b"6");
+    computes(&rt, MonOp::Or, MonType::I16, (-8, 3), b"-5");
+    computes(&rt, MonOp::Xor, MonType::I16, (-1, 5), b"-6");
+    computes(&rt, MonOp::Ge, MonType::I8, (4, 4), b"1");
+    computes(&rt, MonOp::Ne, MonType::I8, (4, 4), b"0");
 }
 
 #[test]
-fn a_narrow_number_is_negated_and_flipped(rt: HostRuntime) -> Result<(), AllocError> {
-    let alloc = rt.alloc();
-    let number = constant(alloc, MonType::I8, 65)?;
-    let minus = MonExpr::new(alloc, MonExprKind::Minus(MonType::I8, number))?;
-    let flip = MonExpr::new(alloc, MonExprKind::Flip(MonType::I8, minus))?;
-    same_bytes(&rt, &printed(alloc, flip)?, b"64");
-    Ok(())
+fn a_narrow_number_is_negated_and_flipped(rt: HostRuntime) {
+    let number = constant(&rt, MonType::I8, 65);
+    let minus = MonExpr::new(rt.alloc(), MonExprKind::Minus(MonType::I8, number));
+    let flip = MonExprKind::Flip(MonType::I8, made(&rt, minus));
+    prints(&rt, made(&rt, MonExpr::new(rt.alloc(), flip)), b"64");
 }
 
 #[test]
-fn a_register_that_is_not_there_faults(rt: HostRuntime) -> Result<(), AllocError> {
-    let alloc = rt.alloc();
-    let none = value(alloc, 2)?;
-    let mut body = Vec::new(alloc);
-    add(alloc, &mut body, MonStmtKind::Exit(none))?;
-    let fault = plainly(alloc, &code_of_body(alloc, body)?, 100)?;
-    ends_so(&rt, fault.stop, "fault", 0);
-    leaves(&rt, &fault, 100);
-    Ok(())
+fn a_register_that_is_not_there_faults(rt: HostRuntime) {
+    let mut body = Vec::new(rt.alloc());
+    add(&rt, &mut body, MonStmtKind::Exit(value(&rt, 2)));
+    comes_to(&rt, &code_of_body(&rt, body), 100, ("fault", 0), 100, b"");
 }

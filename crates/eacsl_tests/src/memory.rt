@@ -1,19 +1,17 @@
 //! Room in flat memory, regions of bytes, and places in the heap.
 
-ghost use Rattle.std.specs.Prelude.{◌≡◌, ◌+◌, ◌%◌, ◌<◌, ◌≤◌, length};
+ghost use Rattle.std.specs.Prelude.{◌≡◌, ◌+◌, ◌%◌, ◌<◌, ◌≤◌, Some, length};
 ghost use Rattle.flat_mem.specs.Room.{IsSizes};
 
-use crate::same::{same_bytes, same_number};
+use crate::same::{made, same_bytes, same_number};
 use c_syntax::{BlockKind, Segment};
 use flat_mem::{BirthFault, FlatMem, Sizes};
 use raw_seg::Seg;
 use raw_seg::steps::Steps;
 use seg_heap::Placer;
-use std::alloc::AllocError;
 use std::marker::Brand;
 use std::process::Abort;
 use std::sync::ledger::{Blank, Ledger};
-use std::test::Fail;
 
 /// The sizes of the profile.
 fn standard() -> Sizes
@@ -45,19 +43,28 @@ fn same_pointers(rt: &impl Abort, found: [u64; 4], wanted: [u64; 4]) {
     assert_eq!(rt; found, wanted);
 }
 
+fn place_of(rt: &impl Abort, found: Option<u32>) -> u32
+    ensures { found ≡ Some result }
+{
+    match found {
+        Some(place) => place,
+        None => panic!(rt; "full"),
+    }
+}
+
 fn is_place(rt: &impl Abort, found: Option<u32>, wanted: Option<u32>) {
     assert_eq!(rt; found, wanted);
 }
 
 #[test]
-fn blocks_are_born_while_there_is_room(rt: HostRuntime) -> Result<(), AllocError> {
-    let mut numbers = FlatMem::new(rt.alloc(), standard(), 4_294_967_294)?;
+fn blocks_are_born_while_there_is_room(rt: HostRuntime) {
+    let mut numbers = made(&rt, FlatMem::new(rt.alloc(), standard(), 4_294_967_294));
     same_pointers(
         &rt,
         births(&mut numbers, [4, 4, 4, 4]),
         [0xFFFF_FFFF_4000_0000, 1, 1, 1],
     );
-    let mut stack = FlatMem::new(rt.alloc(), standard(), 0)?;
+    let mut stack = made(&rt, FlatMem::new(rt.alloc(), standard(), 0));
     let most = 18_446_744_073_709_551_615;
     let pointers = births(&mut stack, [1_048_560 - 16, 16, 15, most]);
     same_pointers(
@@ -66,16 +73,15 @@ fn blocks_are_born_while_there_is_room(rt: HostRuntime) -> Result<(), AllocError
         [0x0000_0001_4000_0000, 2, 0x0000_0002_400F_FFF0, 2],
     );
     same_number(&rt, u128::from(stack.stack_end()), 0x4000_0000 + 1_048_576);
-    Ok(())
 }
 
 #[test]
-fn frames_are_counted(rt: HostRuntime) -> Result<(), AllocError> {
+fn frames_are_counted(rt: HostRuntime) {
     let sizes = Sizes {
         frames: 2,
         ..standard()
     };
-    let mut memory = FlatMem::new(rt.alloc(), sizes, 0)?;
+    let mut memory = made(&rt, FlatMem::new(rt.alloc(), sizes, 0));
     let mut entered: u128 = 0;
     for _call in 0..4 {
         if memory.enter_frame() == Ok(()) {
@@ -83,12 +89,11 @@ fn frames_are_counted(rt: HostRuntime) -> Result<(), AllocError> {
         }
     }
     same_number(&rt, entered, 2);
-    Ok(())
 }
 
 #[test]
-fn a_region_stores_its_own_bytes(rt: HostRuntime) -> Result<(), AllocError> {
-    let mut seg = Seg::new(rt.alloc(), 32)?;
+fn a_region_stores_its_own_bytes(rt: HostRuntime) {
+    let mut seg = made(&rt, Seg::new(rt.alloc(), 32));
     same_number(&rt, seg.len() as u128, 32);
     seg.store(8, 4, 0x01020304);
     same_number(&rt, seg.load(8, 1), 4);
@@ -99,7 +104,6 @@ fn a_region_stores_its_own_bytes(rt: HostRuntime) -> Result<(), AllocError> {
     same_number(&rt, seg.load(24, 8), 0x0102030405060708);
     seg.store(12, 2, 0x12345);
     same_number(&rt, seg.load(8, 8), 0x2345_0102_0304);
-    Ok(())
 }
 
 /// The word from a place on, for a caller that counts nothing.
@@ -115,8 +119,8 @@ fn word_of<L: Ledger>(seg: &Seg, at: usize, blank: Blank) -> u64
 }
 
 #[test]
-fn a_region_is_filled_and_copied(rt: HostRuntime) -> Result<(), AllocError> {
-    let mut seg = Seg::new(rt.alloc(), 80)?;
+fn a_region_is_filled_and_copied(rt: HostRuntime) {
+    let mut seg = made(&rt, Seg::new(rt.alloc(), 80));
     seg.fill(3, 75, 7);
     seg.set_word(8, 0x0807060504030201);
     let word = word_of::<Brand>(&seg, 8, Blank::new(1));
@@ -126,13 +130,12 @@ fn a_region_is_filled_and_copied(rt: HostRuntime) -> Result<(), AllocError> {
     let mut copy = [0; 6];
     seg.copy_out(12, &mut copy);
     same_bytes(&rt, &copy, &[5, 6, 7, 8, 7, 7]);
-    Ok(())
 }
 
 #[test]
-fn a_block_takes_the_least_place(rt: HostRuntime) -> Result<(), Fail> {
-    let mut placer = Placer::new(rt.alloc(), 4)?;
-    let first = placer.take(15).ok_or("full")?;
+fn a_block_takes_the_least_place(rt: HostRuntime) {
+    let mut placer = made(&rt, Placer::new(rt.alloc(), 4));
+    let first = place_of(&rt, placer.take(15));
     same_number(&rt, u128::from(first), 0);
     is_place(&rt, placer.take(16), Some(16));
     is_place(&rt, placer.take(16), None);
@@ -140,14 +143,13 @@ fn a_block_takes_the_least_place(rt: HostRuntime) -> Result<(), Fail> {
     is_place(&rt, placer.take(0), Some(0));
     is_place(&rt, placer.take(15), Some(48));
     is_place(&rt, placer.take(0), None);
-    Ok(())
 }
 
 #[test]
-fn gaps_are_filled(rt: HostRuntime) -> Result<(), Fail> {
-    let mut placer = Placer::new(rt.alloc(), 8)?;
+fn gaps_are_filled(rt: HostRuntime) {
+    let mut placer = made(&rt, Placer::new(rt.alloc(), 8));
     is_place(&rt, placer.take(15), Some(0));
-    let second = placer.take(31).ok_or("full")?;
+    let second = place_of(&rt, placer.take(31));
     same_number(&rt, u128::from(second), 16);
     is_place(&rt, placer.take(15), Some(48));
     is_place(&rt, placer.take(16), Some(64));
@@ -156,5 +158,4 @@ fn gaps_are_filled(rt: HostRuntime) -> Result<(), Fail> {
     is_place(&rt, placer.take(16), Some(96));
     is_place(&rt, placer.take(0), Some(32));
     is_place(&rt, placer.take(0), None);
-    Ok(())
 }

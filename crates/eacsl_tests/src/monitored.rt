@@ -1,12 +1,12 @@
 //! Programs in monitored C, most of them read from texts.
 
+use crate::same::made;
 use c_lower::{Code, lower};
 use c_syntax::Name;
 use mon_reader::read_monitored;
 use mon_syntax::{
     MonExpr, MonExprKind, MonFunc, MonProgram, MonStmt, MonStmtKind, MonType, Register,
 };
-use std::alloc::{AllocError, Global};
 use std::process::Abort;
 
 /// The program of a text, which is accepted.
@@ -21,48 +21,54 @@ pub fn program_of(rt: &(impl Abort + AllocGlobal), text: &str) -> MonProgram {
 }
 
 /// The code of a text, which is accepted.
-pub fn code_of(rt: &(impl Abort + AllocGlobal), text: &str) -> Result<Code, AllocError> {
-    lower(rt.alloc(), &program_of(rt, text))
+pub fn code_of(rt: &(impl Abort + AllocGlobal), text: &str) -> Code {
+    made(rt, lower(rt.alloc(), &program_of(rt, text)))
 }
 
 /// The code of `i32 main(void)` with two registers and this body, which needs not be valid.
-pub fn code_of_body(alloc: Global, body: Vec<MonStmt>) -> Result<Code, AllocError> {
-    let mut registers = Vec::new(alloc);
-    registers.push(register(alloc)?)?;
-    registers.push(register(alloc)?)?;
-    let mut functions = Vec::new(alloc);
-    functions.push(MonFunc {
+pub fn code_of_body(rt: &(impl Abort + AllocGlobal), body: Vec<MonStmt>) -> Code {
+    let mut registers = Vec::new(rt.alloc());
+    made(rt, registers.push(register(rt)));
+    made(rt, registers.push(register(rt)));
+    let mut functions = Vec::new(rt.alloc());
+    let main = MonFunc {
         result: Some(MonType::I32),
-        name: name(alloc, b"main")?,
-        parameters: Vec::new(alloc),
+        name: name(rt, b"main"),
+        parameters: Vec::new(rt.alloc()),
         registers,
         body,
-    })?;
-    lower(alloc, &MonProgram { functions })
+    };
+    made(rt, functions.push(main));
+    made(rt, lower(rt.alloc(), &MonProgram { functions }))
 }
 
-pub fn name(alloc: Global, bytes: &[u8]) -> Result<Name, AllocError> {
-    Ok(Name::new(bytes.to_vec(alloc)?))
+pub fn name(rt: &(impl Abort + AllocGlobal), bytes: &[u8]) -> Name {
+    Name::new(made(rt, bytes.to_vec(rt.alloc())))
 }
 
-fn register(alloc: Global) -> Result<Register, AllocError> {
-    Ok(Register {
+fn register(rt: &(impl Abort + AllocGlobal)) -> Register {
+    Register {
         kind: MonType::I32,
-        name: name(alloc, b"x")?,
-    })
+        name: name(rt, b"x"),
+    }
 }
 
-pub fn constant(alloc: Global, kind: MonType, value: i128) -> Result<MonExpr, AllocError> {
-    MonExpr::new(alloc, MonExprKind::Constant(kind, value))
+pub fn constant(rt: &(impl Abort + AllocGlobal), kind: MonType, value: i128) -> MonExpr {
+    made(
+        rt,
+        MonExpr::new(rt.alloc(), MonExprKind::Constant(kind, value)),
+    )
 }
 
-pub fn value(alloc: Global, register: u32) -> Result<MonExpr, AllocError> {
-    MonExpr::new(alloc, MonExprKind::Register(register))
+pub fn value(rt: &(impl Abort + AllocGlobal), register: u32) -> MonExpr {
+    made(
+        rt,
+        MonExpr::new(rt.alloc(), MonExprKind::Register(register)),
+    )
 }
 
 /// Adds a statement to a body.
-pub fn add(alloc: Global, body: &mut Vec<MonStmt>, kind: MonStmtKind) -> Result<(), AllocError> {
-    let s = MonStmt::new(alloc, kind)?;
-    body.push(s)?;
-    Ok(())
+pub fn add(rt: &(impl Abort + AllocGlobal), body: &mut Vec<MonStmt>, kind: MonStmtKind) {
+    let s = made(rt, MonStmt::new(rt.alloc(), kind));
+    made(rt, body.push(s));
 }

@@ -2,12 +2,11 @@
 
 ghost use Rattle.c_model.specs.Ranges.{IsRange};
 
-use crate::same::same_numbers;
+use crate::same::{made, same_numbers};
 use c_syntax::{CInt, Range, Width};
 use ea_num::{
     add, bit_and, bit_or, bit_xor, div, flip, mul, neg, rem, shl, shr, sub, width_of, wrap,
 };
-use std::alloc::AllocError;
 use std::process::Abort;
 
 /// An operator or a type, the bounds of two operands, and the bounds of the range that is wanted. What takes one operand has a
@@ -183,10 +182,9 @@ fn holds(rt: &impl Abort, row: &[&str]) {
 }
 
 #[test]
-fn ranges_are_those_of_the_rows(rt: HostRuntime) -> Result<(), AllocError> {
+fn ranges_are_those_of_the_rows(rt: HostRuntime) {
     for row in ROWS.split('\n') {
-        let words: Vec<&str> = row.split(' ').collect(rt.alloc())?;
+        let words: Vec<&str> = made(&rt, row.split(' ').collect(rt.alloc()));
         holds(&rt, &words);
     }
-    Ok(())
 }

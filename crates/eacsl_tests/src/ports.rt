@@ -2,27 +2,26 @@
 
 ghost use Rattle.std.specs.Prelude.{◌≤◌};
 
-use crate::same::{same_bytes, same_number};
+use crate::same::{made, same_bytes, same_number};
 use ea_ports::{
     Buffer, Failed, FetchFault, Folder, MemFolder, MemSink, MemSource, Sink, SinkFault, Source,
     SureFolder, SureSink, SureSource,
 };
-use std::alloc::{AllocError, Global};
 use std::process::Abort;
 
-fn file(alloc: Global, name: &str, content: &str) -> Result<(String, Vec<u8>), AllocError> {
-    let name = String::from_str(alloc, name)?;
-    let content = content.as_bytes().to_vec(alloc)?;
-    Ok((name, content))
+fn file(rt: &(impl Abort + AllocGlobal), name: &str, content: &str) -> (String, Vec<u8>) {
+    let name = made(rt, String::from_str(rt.alloc(), name));
+    let content = made(rt, content.as_bytes().to_vec(rt.alloc()));
+    (name, content)
 }
 
 /// `a.c` twice, of which the first counts, and an empty `b.c`.
-fn files(alloc: Global) -> Result<Vec<(String, Vec<u8>)>, AllocError> {
-    let mut files = Vec::new(alloc);
+fn files(rt: &(impl Abort + AllocGlobal)) -> Vec<(String, Vec<u8>)> {
+    let mut files = Vec::new(rt.alloc());
     for (name, content) in [("a.c", "int x;"), ("a.c", "char y;"), ("b.c", "")] {
-        files.push(file(alloc, name, content)?)?;
+        made(rt, files.push(file(rt, name, content)));
     }
-    Ok(files)
+    files
 }
 
 fn fault_word(fault: FetchFault) -> &'static str {
@@ -80,8 +79,8 @@ fn put_byte(put: Result<(), SinkFault>) -> u8 {
 }
 
 #[test]
-fn a_sure_folder_gives_the_first_entry(rt: HostRuntime) -> Result<(), AllocError> {
-    let mut folder = SureFolder::new(files(rt.alloc())?);
+fn a_sure_folder_gives_the_first_entry(rt: HostRuntime) {
+    let mut folder = SureFolder::new(files(&rt));
     let rows = [
         ("a.c", 6, "int x;"),
         ("a.c", 5, "long"),
@@ -89,13 +88,12 @@ fn a_sure_folder_gives_the_first_entry(rt: HostRuntime) -> Result<(), AllocError
         ("a.", 9, "missing"),
     ];
     fetches(&rt, &mut folder, &rows);
-    Ok(())
 }
 
 #[test]
-fn a_folder_fails_at_the_listed_calls(rt: HostRuntime) -> Result<(), AllocError> {
-    let failing = [2, 4].to_vec(rt.alloc())?;
-    let mut folder = MemFolder::new(files(rt.alloc())?, failing);
+fn a_folder_fails_at_the_listed_calls(rt: HostRuntime) {
+    let failing = made(&rt, [2, 4].to_vec(rt.alloc()));
+    let mut folder = MemFolder::new(files(&rt), failing);
     let rows = [
         ("a.c", 6, "int x;"),
         ("a.c", 6, "failed"),
@@ -104,22 +102,19 @@ fn a_folder_fails_at_the_listed_calls(rt: HostRuntime) -> Result<(), AllocError>
         ("none", 9, "missing"),
     ];
     fetches(&rt, &mut folder, &rows);
-    Ok(())
 }
 
 #[test]
-fn a_sure_source_gives_each_byte_and_then_the_end(rt: HostRuntime) -> Result<(), AllocError> {
-    let mut source = SureSource::new(b"ab".to_vec(rt.alloc())?);
+fn a_sure_source_gives_each_byte_and_then_the_end(rt: HostRuntime) {
+    let mut source = SureSource::new(made(&rt, b"ab".to_vec(rt.alloc())));
     gives(&rt, &mut source, b"ab--");
-    Ok(())
 }
 
 #[test]
-fn a_source_fails_at_the_listed_calls(rt: HostRuntime) -> Result<(), AllocError> {
-    let failing = [1, 3, 5].to_vec(rt.alloc())?;
-    let mut source = MemSource::new(b"ab".to_vec(rt.alloc())?, failing);
+fn a_source_fails_at_the_listed_calls(rt: HostRuntime) {
+    let failing = made(&rt, [1, 3, 5].to_vec(rt.alloc()));
+    let mut source = MemSource::new(made(&rt, b"ab".to_vec(rt.alloc())), failing);
     gives(&rt, &mut source, b"!a!b!-");
-    Ok(())
 }
 
 #[test]
@@ -130,11 +125,11 @@ fn a_sure_sink_keeps_what_was_put(rt: HostRuntime) {
 }
 
 #[test]
-fn a_sink_fails_at_the_listed_calls(rt: HostRuntime) -> Result<(), AllocError> {
-    let mut sink = MemSink::new(rt.alloc(), [2, 3].to_vec(rt.alloc())?);
+fn a_sink_fails_at_the_listed_calls(rt: HostRuntime) {
+    let failing = made(&rt, [2, 3].to_vec(rt.alloc()));
+    let mut sink = MemSink::new(rt.alloc(), failing);
     puts(&rt, &mut sink, "ab cd  e", b".!..");
     same_bytes(&rt, sink.bytes(), b"abe");
-    Ok(())
 }
 
 /// Fills a buffer but for its last byte, puts more than fits, and ends it; the rest is given later. The line says what came of it.
@@ -158,9 +153,9 @@ fn fill(sink: &mut MemSink) -> [u8; 5] {
 }
 
 #[test]
-fn a_buffer_puts_whole_pieces_and_the_rest(rt: HostRuntime) -> Result<(), AllocError> {
-    let mut sink = MemSink::new(rt.alloc(), [2].to_vec(rt.alloc())?);
+fn a_buffer_puts_whole_pieces_and_the_rest(rt: HostRuntime) {
+    let failing = made(&rt, [2].to_vec(rt.alloc()));
+    let mut sink = MemSink::new(rt.alloc(), failing);
     same_bytes(&rt, &fill(&mut sink), b"..!..");
     same_number(&rt, sink.bytes().len() as u128, 4097);
-    Ok(())
 }

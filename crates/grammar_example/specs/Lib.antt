@@ -1,4 +1,0 @@
-pub mod Tree
-pub mod Token
-pub mod Grammar
-pub mod Reading
