@@ -14,10 +14,12 @@ use Rattle.c_syntax.specs.declared.refusal.FrontFault.TheVariants as front
 use Rattle.c_syntax.specs.declared.fault.ReadFault.{ReadFault}
 use Rattle.c_syntax.specs.declared.fault.ReadFault.TheVariants as fault
 use Rattle.c_model.specs.Vocabulary.{Vocabulary}
-use Rattle.c_model.specs.Phases.{vocabulary, syntax_refusal}
+use Rattle.c_model.specs.Phases.{vocabulary}
+use Rattle.c_model.specs.TokenWords.{syntax_refusal}
 use Rattle.c_model.specs.ExpressionGrammar.{kind, first_expression, full_expression}
-use Rattle.c_expr_parser.specs.Reading.{plain_list, label, Fails}
-use Rattle.c_expr_parser.specs.Answers.{RefusesWith, RefusesFault, NotRead, expression_at, IsReadAt, RefusesAt}
+use Rattle.token_reader.specs.Reading.{plain_list, label, Fails}
+use Rattle.c_expr_parser.specs.Answers.{NotRead, expression_at, IsReadAt, RefusesAt}
+use Rattle.token_reader.specs.Answers.{RefusesWith, RefusesFault}
 use Rattle.c_expr_parser.proofs.ExactExpressions.{more_expression, full_expression_good}
 use Rattle.c_expr_parser.proofs.SolidExpressions.{full_unread}
 use Rattle.c_expr_parser.proofs.Windows.{map_drop, drop_long}

@@ -21,7 +21,8 @@ use Rattle.c_model.specs.declared.vocabulary.SizeWords.TheVariants as size
 use Rattle.c_model.specs.declared.vocabulary.SizeWords.{SizeWords}
 use Rattle.c_model.specs.declared.vocabulary.IntegerWords.{IntegerWords}
 use Rattle.c_model.specs.Vocabulary.{Vocabulary, word_at, sign_with, size_with, words_with}
-use Rattle.c_model.specs.ExpressionGrammar.{name_kind, number_kind, letter_kind, type_name_kind, keyword_kind, mark_kind, word_kind, token_kind, kind, placed, number_of, letter_of, entry, mark_entry, kinds_of, first_type, signs_behind, sizes_behind}
+use Rattle.c_model.specs.ExpressionGrammar.{name_kind, number_kind, letter_kind, type_name_kind, keyword_kind, mark_kind, word_kind, token_kind, kind, number_of, letter_of, kinds_of, first_type, signs_behind, sizes_behind}
+use Rattle.c_model.specs.Terminals.{placed, entry, mark_entry}
 use Rattle.c_model.specs.ExpressionGrammar.{words_behind, keyword_of, next_words, type_name_word_of, type_name_of, TypeStart, type_start_of, type_start, fixed, name_of, name}
 
 -- a production is read exactly, with these sets: where it can be empty, what begins it, and what a reading can go on with

@@ -8,8 +8,9 @@ use Rattle.c_syntax.specs.Tokens.{PlainToken}
 use Rattle.c_model.specs.Vocabulary.{Vocabulary}
 use Rattle.c_model.specs.ExpressionGrammar.{kind, kinds_of, operators_at, joined_once, behind_operand, expression}
 use Rattle.c_syntax.specs.declared.fault.ReadFault.{ReadFault}
-use Rattle.c_expr_parser.specs.Reading.{Fails, right_operand, more_joined}
-use Rattle.c_expr_parser.proofs.Steps.{again}
+use Rattle.c_expr_parser.specs.Reading.{right_operand, more_joined}
+use Rattle.token_reader.specs.Reading.{Fails}
+use Rattle.token_reader.proofs.Faults.{again}
 use Rattle.c_expr_parser.proofs.ExactTokens.{IsRead}
 use Rattle.c_expr_parser.proofs.ExactExpressions.{kinds_below, AreApart, both_true, joined_good, behind_good, expression_good}
 

@@ -16,7 +16,8 @@ use Rattle.c_model.specs.declared.operands.TypeUse.TheVariants.{Casts, Sizes, No
 use Rattle.c_model.specs.Vocabulary.{Vocabulary, no_words}
 use Rattle.c_model.specs.Punctuators.{question, colon, left_paren, right_paren}
 use Rattle.c_model.specs.ExpressionGrammar.{fixed, name_kind, number_kind, letter_kind, type_name_kind, keyword_kind, mark_kind, kind, kinds_of, unary_operators, operators_at, levels, first_integer_words, first_base, first_type, first_expression}
-use Rattle.c_model.specs.ExpressionGrammar.{words_behind, expression_limit, most_in_expression, Operand, integer_word, integer_words, type_name, base, consts, type_words, closed, literal, cast_rest, sized_type, paren_rest, behind_paren, prefixed}
+use Rattle.c_model.specs.ExpressionGrammar.{words_behind, most_in_expression, Operand, integer_word, integer_words, type_name, base, consts, type_words, closed, literal, cast_rest, sized_type, paren_rest, behind_paren, prefixed}
+use Rattle.c_model.specs.Terminals.{expression_limit}
 use Rattle.c_model.specs.ExpressionGrammar.{sized, operand_but_name, operand_of, operand, joined_once, behind_operand, choice_rest, expression_rest, expression_of, expression, full_expression}
 use Rattle.c_expr_parser.proofs.Unlimited.{expression_free}
 use Rattle.c_expr_parser.proofs.ExactTypes.{apart_none, words_fit, words_within, more_type}

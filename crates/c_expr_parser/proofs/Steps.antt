@@ -1,6 +1,6 @@
 -- What a production gives, step by step.
-use Rattle.std.proofs.Common.{◌≡◌, ℕ, true, false, List, [], ◌∷◌, Result, Ok, Err, refl, ◌∙◌}
-use Rattle.grammar.specs.Syntax.{Fault, At, Over, sees, gives, ◌then◌}
+use Rattle.std.proofs.Common.{◌≡◌, ℕ, true, false, List, [], ◌∷◌, Ok, refl, ◌∙◌}
+use Rattle.grammar.specs.Syntax.{sees, gives, ◌then◌}
 use Rattle.grammar.proofs.Productions.{seq, given, turn, turn_fails, turn_ends, turn_to}
 use Rattle.grammar.proofs.Bounds.{many_is}
 use Rattle.c_syntax.specs.declared.place.Place.{Place}
@@ -13,15 +13,12 @@ use Rattle.c_syntax.specs.Expressions.{Expression}
 use Rattle.c_model.specs.ExpressionGrammar.{keyword_kind, mark_kind, next_argument, kind, fixed, reserved, words_behind, integer_word, consts}
 use Rattle.c_syntax.specs.declared.fault.ReadFault.{ReadFault}
 use Rattle.c_syntax.specs.declared.fault.ReadFault.TheVariants as fault
-use Rattle.c_expr_parser.specs.Reading.{label, Fails, more_words, more_arguments}
+use Rattle.c_expr_parser.specs.Reading.{more_words, more_arguments}
+use Rattle.token_reader.specs.Reading.{Fails}
+use Rattle.token_reader.proofs.Faults.{again}
 use Rattle.c_expr_parser.proofs.ExactTokens.{IsRead, fixed_good}
 use Rattle.c_expr_parser.proofs.ExactTypes.{words_fit, integer_word_good}
 use Rattle.c_expr_parser.proofs.ExactExpressions.{next_argument_good}
-
-pub again : {Y : Type 0} {r s : Result Y Fault} (e : ReadFault) → ((d : Fault) → r ≡ Err d → s ≡ Err d) → Fails e r → Fails e s
-again (fault.At n) f h = f (At n) h
-again (fault.Over limit n) f h = f (Over (label limit) n) h
-again fault.Memory f h = tt
 
 module _ (ws : Vocabulary) where
   word_exact : (x : IntegerWords) → IsRead ws (integer_word ws x) false (words_behind x) []

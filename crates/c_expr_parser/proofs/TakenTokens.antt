@@ -20,7 +20,8 @@ use Rattle.c_model.specs.declared.vocabulary.SizeWords.{SizeWords}
 use Rattle.c_model.specs.declared.vocabulary.SizeWords.TheVariants as size
 use Rattle.c_model.specs.declared.vocabulary.IntegerWords.{IntegerWords}
 use Rattle.c_model.specs.Vocabulary.{Vocabulary, word_at, sign_with, size_with, words_with}
-use Rattle.c_model.specs.ExpressionGrammar.{name_kind, number_kind, letter_kind, type_name_kind, keyword_kind, mark_kind, word_kind, token_kind, kind, placed, number_of, letter_of, entry, mark_entry, kinds_of, signs_behind, sizes_behind}
+use Rattle.c_model.specs.ExpressionGrammar.{name_kind, number_kind, letter_kind, type_name_kind, keyword_kind, mark_kind, word_kind, token_kind, kind, number_of, letter_of, kinds_of, signs_behind, sizes_behind}
+use Rattle.c_model.specs.Terminals.{placed, entry, mark_entry}
 use Rattle.c_model.specs.ExpressionGrammar.{words_behind, first_integer_words, keyword_of, next_words, type_name_word_of, type_name_of, fixed, name_of, name}
 use Rattle.c_expr_parser.proofs.ExactTokens.{fixed_good, name_good, number_good, letter_good, marks_good, next_words_good, type_name_good}
 use Rattle.c_expr_parser.proofs.ExactTypes.{words_within}

@@ -10,11 +10,13 @@ use Rattle.c_syntax.specs.declared.token.Token.{Token}
 use Rattle.c_syntax.specs.Expressions.{Expression}
 use Rattle.c_syntax.specs.Tokens.{PlainToken, plain_token}
 use Rattle.c_model.specs.Vocabulary.{Vocabulary}
-use Rattle.c_model.specs.ExpressionGrammar.{kind, first_expression, first_effect, expression_limit, most_in_expression, expression, expression_or_call, effect, effect_or_call, full_expression, full_expression_or_call, full_effect}
+use Rattle.c_model.specs.ExpressionGrammar.{kind, first_expression, first_effect, most_in_expression, expression, expression_or_call, effect, effect_or_call, full_expression, full_expression_or_call, full_effect}
+use Rattle.c_model.specs.Terminals.{expression_limit}
 use Rattle.c_model.specs.ExpressionGrammar.{full_effect_or_call}
 use Rattle.c_syntax.specs.declared.fault.ReadFault.{ReadFault}
 use Rattle.c_syntax.specs.declared.fault.ReadFault.TheVariants as fault
-use Rattle.c_expr_parser.specs.Reading.{plain_list, label, Fails, LeftWithin, Resumed}
+use Rattle.c_expr_parser.specs.Reading.{LeftWithin, Resumed}
+use Rattle.token_reader.specs.Reading.{plain_list, label, Fails}
 use Rattle.c_expr_parser.proofs.ExactExpressions.{more_expression, more_or_call, more_effect, expression_good, expression_or_call_good, effect_good, effect_or_call_good}
 
 take_drop : {T : Type 0} (n : ℕ) (ts : List T) → ts ≡ take n ts ++ drop n ts

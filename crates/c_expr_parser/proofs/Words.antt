@@ -3,7 +3,8 @@ use Rattle.std.proofs.Common.{◌≡◌, ℕ, Bool, true, false, cond, eqb, List
 use Rattle.std.specs.Prelude.{◌||◌}
 use Rattle.grammar.specs.Syntax.{among}
 use Rattle.c_model.specs.declared.vocabulary.Word.{Word}
-use Rattle.c_model.specs.Vocabulary.{keywords, kept_keywords, other_words, found_in, name_or_logic, word_of}
+use Rattle.c_model.specs.Vocabulary.{keywords, kept_keywords, other_words, name_or_logic, word_of}
+use Rattle.c_model.specs.Terminals.{found_in}
 
 pub among_joined : (k : ℕ) (xs ys : List ℕ) → (among k xs || among k ys) ≡ among k (xs ++ ys)
 among_joined k [] ys = refl

@@ -1,9 +1,8 @@
--- Ours: how the code of a production compares with its grammar (C99 6.5, 6.7.2, in c_model/specs/ExpressionGrammar).
--- What a function returned is what the production gives, unless memory ran out.
-use Rattle.std.specs.Prelude.{◌≡◌, ◌≤◌, ◌+◌, ℕ, zero, suc, List, [], ◌∷◌, map, Result, Ok, Err}
-use Rattle.grammar.specs.Syntax.{Syntax, Fault, At, Over, ◌then◌, many}
-use Rattle.c_syntax.specs.declared.token.Token.{Token}
-use Rattle.c_syntax.specs.Tokens.{PlainToken, plain_token}
+-- Ours: productions of C99 6.5 and 6.7.2 (c_model/specs/ExpressionGrammar), cut as the code reads them.
+-- Faults within the limit of an expression, the plain forms of what is read in parts, and repetitions.
+use Rattle.std.specs.Prelude.{◌≡◌, ◌≤◌, ◌+◌, ℕ, zero, suc, List, [], ◌∷◌}
+use Rattle.grammar.specs.Syntax.{Syntax, ◌then◌, many}
+use Rattle.c_syntax.specs.Tokens.{PlainToken}
 use Rattle.c_syntax.specs.Ctypes.{Int}
 use Rattle.c_syntax.specs.Expressions.{Expression, plain_expr}
 use Rattle.c_model.specs.declared.vocabulary.IntegerWords.{IntegerWords}
@@ -11,37 +10,13 @@ use Rattle.c_model.specs.declared.operands.TypeUse.TheVariants.{Casts}
 use Rattle.c_model.specs.Vocabulary.{Vocabulary}
 use Rattle.c_model.specs.Punctuators.{comma}
 use Rattle.c_model.specs.ExpressionGrammar.{TypeStart, ConstStart, VoidStart, NameStart, IntegerStart, ReadOperand, kind, mark_kind, kinds_of, operators_at}
-use Rattle.c_model.specs.ExpressionGrammar.{words_behind, integer_word, operand, behind_operand, joined_once, expression, next_argument, expression_limit}
-use Rattle.c_model.specs.ExpressionGrammar.{nesting_limit}
+use Rattle.c_model.specs.ExpressionGrammar.{words_behind, integer_word, operand, behind_operand, joined_once, expression, next_argument}
 use Rattle.c_expr_parser.specs.declared.expression.ReadOperand as code_operand
 use Rattle.c_expr_parser.specs.declared.type_start.TypeStart as code_start
 use Rattle.c_expr_parser.specs.declared.type_start.TypeStart.TheVariants as start
-use Rattle.c_syntax.specs.declared.fault.Limit.{Limit}
 use Rattle.c_syntax.specs.declared.fault.Limit.TheVariants as limits
 use Rattle.c_syntax.specs.declared.fault.ReadFault.{ReadFault}
 use Rattle.c_syntax.specs.declared.fault.ReadFault.TheVariants as fault
-
-abbrev pub plain_list : List Token → List PlainToken
-plain_list ts = map plain_token ts
-
-abbrev pub label : Limit → ℕ
-label limits.Expression = expression_limit
-label limits.Nesting = nesting_limit
-
-abbrev pub Fails : {Y : Type 0} → ReadFault → Result Y Fault → Type 0
-Fails (fault.At n) read = read ≡ Err (At n)
-Fails (fault.Over limit n) read = read ≡ Err (Over (label limit) n)
-Fails fault.Memory read = Unit {0}
-
-abbrev pub Gives : {X Y : Type 0} → (X → Y) → Result X ReadFault → Result Y Fault → Type 0
-Gives view (Ok x) read = read ≡ Ok (view x)
-Gives view (Err e) read = Fails e read
-
--- it is not out of memory
-abbrev pub TakesNoMemory : ReadFault → Type 0
-TakesNoMemory (fault.At n) = Unit {0}
-TakesNoMemory (fault.Over limit n) = Unit {0}
-TakesNoMemory fault.Memory = ⊥
 
 -- so many tokens are left at most
 abbrev pub LeftWithin : ReadFault → ℕ → Type 0

@@ -3,7 +3,8 @@
 ghost use Rattle.std.specs.Prelude.{◌≡◌, ◌≤◌, ◌<◌, length, map, IfOk};
 ghost use Rattle.c_syntax.specs.Expressions.{Call, plain_expr};
 ghost use Rattle.c_model.specs.ExpressionGrammar.{next_argument, arguments, call_rest, behind_name_or_callee, expression_or_call, read_as, use_of, expressions};
-ghost use Rattle.c_expr_parser.specs.Reading.{Gives, plain_list, more_arguments};
+ghost use Rattle.c_expr_parser.specs.Reading.{more_arguments};
+ghost use Rattle.token_reader.specs.Reading.{Gives, plain_list};
 
 use crate::expression::{expression, expression_rest, operand_but_name, read_as, read_name};
 use crate::kinds::{COMMA, LEFT_PAREN, NAME, RIGHT_PAREN};

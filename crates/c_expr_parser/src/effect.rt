@@ -4,7 +4,8 @@ ghost use Rattle.std.specs.Prelude.{◌≡◌, ◌≤◌, ◌<◌, length, IfOk}
 ghost use Rattle.c_syntax.specs.Expressions.{plain_expr};
 ghost use Rattle.c_model.specs.ExpressionGrammar.{assigned_value, assigned, bumped, behind_unary, behind_primary, behind_form, effect_rest, bump_first};
 ghost use Rattle.c_model.specs.ExpressionGrammar.{effect_but_name, effect, behind_name, effect_or_call};
-ghost use Rattle.c_expr_parser.specs.Reading.{Gives, plain_list, plain_operand};
+ghost use Rattle.c_expr_parser.specs.Reading.{plain_operand};
+ghost use Rattle.token_reader.specs.Reading.{Gives, plain_list};
 
 use crate::call::{call_rest, expression_or_call};
 use crate::expression::{
@@ -13,12 +14,13 @@ use crate::expression::{
 };
 use crate::kinds::{LEFT_PAREN, NAME};
 use crate::tables::{ASSIGNMENTS, POSTFIX_BUMPS, PREFIX_BUMPS};
-use crate::terminals::{marked, name, next_is, next_is_marked};
+use crate::terminals::{name, next_is, next_is_marked};
 use c_model::operands::{Form, TypeUse};
 use c_model::vocabulary::Word;
 use c_syntax::fault::ReadFault;
 use c_syntax::{BinOp, Expr, ExprKind, Place, Token};
 use std::alloc::Global;
+use token_reader::terminals::marked;
 
 /// What is assigned: by `=` an expression or a call, and by another operator an expression.
 #[tactic(auto, unfolding(c_model::specs::ExpressionGrammar::assigned_value))]

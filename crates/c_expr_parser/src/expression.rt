@@ -3,24 +3,23 @@
 ghost use Rattle.std.specs.Prelude.{◌≡◌, ◌≤◌, ◌<◌, length, IfOk, IfErr};
 ghost use Rattle.c_syntax.specs.Expressions.{plain_expr, plain_kind};
 ghost use Rattle.grammar.specs.Syntax.{gives, one, sees};
-ghost use Rattle.c_model.specs.ExpressionGrammar.{kind, placed, mark_entry, kinds_of, operators_at, read_as, read_name, read_operand, size_of_operand, joined};
+ghost use Rattle.c_model.specs.ExpressionGrammar.{kind, kinds_of, operators_at, read_as, read_name, read_operand, size_of_operand, joined};
+ghost use Rattle.c_model.specs.Terminals.{placed, mark_entry};
 ghost use Rattle.c_model.specs.ExpressionGrammar.{literal, cast_rest, sized_type, paren_rest, behind_paren, prefixed, sized, operand_but_name, operand_of};
 ghost use Rattle.c_model.specs.ExpressionGrammar.{operand, joined_once, behind_operand, choice_rest, expression_rest, expression_of, expression};
-ghost use Rattle.c_expr_parser.specs.Reading.{Gives, TakesNoMemory, plain_list, plain_operand, right_operand, more_joined};
+ghost use Rattle.c_expr_parser.specs.Reading.{plain_operand, right_operand, more_joined};
+ghost use Rattle.token_reader.specs.Reading.{Gives, TakesNoMemory, plain_list};
 
-use crate::kinds::{COLON, LEFT_PAREN, NAME, NUMBER, QUESTION, RIGHT_PAREN};
+use crate::kinds::{COLON, LEFT_PAREN, NAME, NUMBER, QUESTION, RIGHT_PAREN, SIZEOF};
 use crate::tables::{LEVELS, UNARY, operators_at};
-use crate::terminals::{
-    letter, marked, name, next_begins_type, next_is, next_is_marked, number, skip,
-};
+use crate::terminals::{letter, name, next_begins_type, next_is, next_is_marked, number, skip};
 use crate::types::type_of;
 use c_model::operands::{Connective, Form, TypeUse};
 use c_model::vocabulary::Word;
 use c_syntax::fault::ReadFault;
 use c_syntax::{CInt, CType, Expr, ExprKind, Place, Token, Use};
 use std::alloc::{AllocError, Global};
-
-const SIZEOF: u32 = 27;
+use token_reader::terminals::marked;
 
 /// An operand with its form and the place of its first token.
 #[derive(Drop)]

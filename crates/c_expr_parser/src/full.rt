@@ -5,7 +5,8 @@ ghost use Rattle.c_syntax.specs.Expressions.{plain_expr};
 ghost use Rattle.c_model.specs.ExpressionGrammar.{most_in_expression, full_expression, full_expression_or_call, full_effect, full_effect_or_call};
 ghost use Rattle.c_syntax.specs.declared.fault.ReadFault.TheVariants.{Over};
 ghost use Rattle.c_syntax.specs.declared.fault.Limit.TheVariants.{Expression};
-ghost use Rattle.c_expr_parser.specs.Reading.{Gives, LeftWithin, Resumed, plain_list};
+ghost use Rattle.c_expr_parser.specs.Reading.{LeftWithin, Resumed};
+ghost use Rattle.token_reader.specs.Reading.{Gives, plain_list};
 
 use crate::call::expression_or_call;
 use crate::effect::{effect, effect_or_call};

@@ -72,6 +72,8 @@ pub const INCREMENT: u32 = FIRST_MARK + punctuator::INCREMENT as u32;
 
 pub const DECREMENT: u32 = FIRST_MARK + punctuator::DECREMENT as u32;
 
+pub const ASSIGN: u32 = FIRST_MARK + punctuator::ASSIGN as u32;
+
 pub const PLUS: u32 = FIRST_MARK + punctuator::PLUS as u32;
 
 pub const MINUS: u32 = FIRST_MARK + punctuator::MINUS as u32;
@@ -84,11 +86,17 @@ pub const QUESTION: u32 = FIRST_MARK + punctuator::QUESTION as u32;
 
 pub const COLON: u32 = FIRST_MARK + punctuator::COLON as u32;
 
+pub const SEMICOLON: u32 = FIRST_MARK + punctuator::SEMICOLON as u32;
+
 pub const COMMA: u32 = FIRST_MARK + punctuator::COMMA as u32;
 
 pub const LEFT_PAREN: u32 = FIRST_MARK + punctuator::LEFT_PAREN as u32;
 
 pub const RIGHT_PAREN: u32 = FIRST_MARK + punctuator::RIGHT_PAREN as u32;
+
+pub const LEFT_BRACE: u32 = FIRST_MARK + punctuator::LEFT_BRACE as u32;
+
+pub const RIGHT_BRACE: u32 = FIRST_MARK + punctuator::RIGHT_BRACE as u32;
 
 /// What the name of a number is.
 pub fn word_at(words: &[Word], number: u32) -> Word

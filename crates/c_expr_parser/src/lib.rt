@@ -3,18 +3,23 @@
 //! A function for each production of the grammar reads the tokens.
 #![tactic(auto)]
 
+// What single tokens stand for.
+pub mod kinds;
+mod tables;
+pub mod terminals;
+pub mod vocabulary;
+
+// Types.
+pub mod type_start;
+pub mod types;
+
+// Expressions and effects, inside others.
 mod call;
 mod effect;
 mod expression;
+
+// Those that stand in no other, and the public call.
 pub mod full;
-pub mod kinds;
 mod read;
-pub mod refusal;
-mod tables;
-pub mod terminals;
-pub mod type_start;
-pub mod types;
-pub mod vocabulary;
 
 pub use read::{one_expression, read_expr};
-pub use refusal::{refuse, refused, refused_word};

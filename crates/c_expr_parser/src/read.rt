@@ -9,10 +9,10 @@ ghost use Rattle.c_model.specs.ExpressionGrammar.{expression, expression_of, ful
 ghost use Rattle.c_expr_parser.specs.Answers.{IsReadAt, RefusesAt};
 
 use crate::full::full_expression;
-use crate::refusal::refuse;
 use crate::vocabulary::vocabulary;
 use c_syntax::{Expr, FrontFault, Tokens};
 use std::alloc::Global;
+use token_reader::refusal::refuse;
 
 /// The expression that stands at a place of the tokens, counted from 0, and the place of the first token after it; or its
 /// refusal, with code 4 at the first token that can't follow those before it, and with code 11 at the 401st of an expression.

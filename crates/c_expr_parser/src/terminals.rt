@@ -2,9 +2,9 @@
 
 ghost use Rattle.std.specs.Prelude.{◌≡◌, ◌<◌, length, IfOk, IfErr, [], ◌∷◌};
 ghost use Rattle.grammar.specs.Syntax.{among, sees, one};
-ghost use Rattle.c_syntax.specs.Tokens.{plain_token_kind};
-ghost use Rattle.c_model.specs.ExpressionGrammar.{kind, first_type, first_expression, fixed, placed, name, number_of, letter_of, entry, mark_entry, kinds_of};
-ghost use Rattle.c_expr_parser.specs.Reading.{Gives, TakesNoMemory, plain_list};
+ghost use Rattle.c_model.specs.ExpressionGrammar.{kind, first_type, first_expression, fixed, name, number_of, letter_of, kinds_of};
+ghost use Rattle.c_model.specs.Terminals.{placed};
+ghost use Rattle.token_reader.specs.Reading.{Gives, TakesNoMemory, plain_list};
 
 use crate::kinds::{
     CHAR, CONST, EXCLAMATION, FIRST_MARK, LEFT_PAREN, LETTER, MINUS, NAME, NUMBER, PLUS, SIZEOF,
@@ -13,13 +13,7 @@ use crate::kinds::{
 use c_model::vocabulary::Word;
 use c_syntax::fault::ReadFault;
 use c_syntax::{CInt, Place, Token, TokenKind};
-
-/// How many tokens are left.
-pub fn left(tokens: &[Token]) -> usize
-    ensures { result ≡ length (plain_list tokens.now) }
-{
-    tokens.len()
-}
+use token_reader::terminals::left;
 
 pub fn next_is(words: &[Word], wanted: u32, tokens: &[Token]) -> bool
     ensures { result ≡ sees (kind words.now) (wanted ∷ []) (plain_list tokens.now) }
@@ -30,15 +24,34 @@ pub fn next_is(words: &[Word], wanted: u32, tokens: &[Token]) -> bool
     }
 }
 
+/// Whether a token of this kind begins a type.
+pub fn begins_type(kind: u32) -> bool
+    ensures { result ≡ among kind first_type }
+{
+    kind == CONST || kind == VOID || kind == TYPE_NAME || (CHAR <= kind && kind <= UNSIGNED)
+}
+
+/// Whether a token of this kind begins an expression.
+pub fn begins_expression(kind: u32) -> bool
+    ensures { result ≡ among kind first_expression }
+{
+    kind == NAME
+        || kind == NUMBER
+        || kind == LETTER
+        || kind == LEFT_PAREN
+        || kind == PLUS
+        || kind == MINUS
+        || kind == EXCLAMATION
+        || kind == TILDE
+        || kind == SIZEOF
+}
+
 pub fn next_begins_type(words: &[Word], tokens: &[Token]) -> bool
     ensures { result ≡ sees (kind words.now) first_type (plain_list tokens.now) }
 {
     match tokens {
         [] => false,
-        [token, ..] => {
-            let k = kind(words, token);
-            k == CONST || k == VOID || k == TYPE_NAME || (CHAR <= k && k <= UNSIGNED)
-        }
+        [token, ..] => begins_type(kind(words, token)),
     }
 }
 
@@ -47,18 +60,7 @@ pub fn next_begins_expression(words: &[Word], tokens: &[Token]) -> bool
 {
     match tokens {
         [] => false,
-        [token, ..] => {
-            let k = kind(words, token);
-            k == NAME
-                || k == NUMBER
-                || k == LETTER
-                || k == LEFT_PAREN
-                || k == PLUS
-                || k == MINUS
-                || k == EXCLAMATION
-                || k == TILDE
-                || k == SIZEOF
-        }
+        [token, ..] => begins_expression(kind(words, token)),
     }
 }
 
@@ -155,47 +157,6 @@ pub fn letter(tokens: &[Token]) -> Result<(i8, Place, &[Token]), ReadFault>
         [token, rest @ ..] => match &token.kind {
             TokenKind::Letter(value) => Ok((*value, token.place, rest)),
             _ => Err(ReadFault::At(left(tokens))),
-        },
-    }
-}
-
-/// What stands in the table for a punctuator.
-fn entry<T: Copy>(mark: u8, table: &[(u8, T)]) -> Option<T>
-    ensures { result ≡ entry mark table.now }
-{
-    let mut rest = table;
-    'turn: while let [entry, after @ ..] = rest {
-        if mark == entry.0 {
-            return Some(entry.1);
-        }
-        rest = after;
-    }
-    None
-}
-
-fn mark_entry<T: Copy>(table: &[(u8, T)], kind: &TokenKind) -> Option<T>
-    ensures { result ≡ mark_entry table.now (plain_token_kind kind.now) }
-{
-    match kind {
-        TokenKind::Mark(mark) => entry(*mark, table),
-        _ => None,
-    }
-}
-
-/// A punctuator of the table, by what it stands for.
-pub fn marked<'a, T: Copy>(
-    table: &[(u8, T)],
-    tokens: &'a [Token],
-) -> Result<(T, Place, &'a [Token]), ReadFault>
-    ensures read { Gives (λ x. ((x.0, x.1), plain_list x.2.now)) result ((one (placed (mark_entry table.now))).parse (plain_list tokens.now)) }
-    ensures shorter { IfOk result (λ x. length x.2.now < length tokens.now) }
-    ensures sure { IfErr result TakesNoMemory }
-{
-    match tokens {
-        [] => Err(ReadFault::At(0)),
-        [token, rest @ ..] => match mark_entry(table, &token.kind) {
-            Some(found) => Ok((found, token.place, rest)),
-            None => Err(ReadFault::At(left(tokens))),
         },
     }
 }

@@ -4,15 +4,17 @@ ghost use Rattle.std.specs.Prelude.{◌≡◌, ◌≤◌, ◌<◌, length, IfOk,
 ghost use Rattle.grammar.specs.Syntax.{one};
 ghost use Rattle.c_syntax.specs.Ctypes.{plain_type};
 ghost use Rattle.c_syntax.specs.Tokens.{plain_token_kind};
-ghost use Rattle.c_model.specs.ExpressionGrammar.{placed, type_start_of, type_start, type_behind};
-ghost use Rattle.c_expr_parser.specs.Reading.{Gives, TakesNoMemory, plain_list, plain_start, plain_started};
+ghost use Rattle.c_model.specs.ExpressionGrammar.{type_start_of, type_start, type_behind};
+ghost use Rattle.c_model.specs.Terminals.{placed};
+ghost use Rattle.c_expr_parser.specs.Reading.{plain_start, plain_started};
+ghost use Rattle.token_reader.specs.Reading.{Gives, TakesNoMemory, plain_list};
 
 use crate::kinds::word_at;
-use crate::terminals::left;
 use crate::types::{NO_WORDS, consts, integer_type, more_words, type_of, words_with};
 use c_model::vocabulary::{IntegerWords, Keyword, Word};
 use c_syntax::fault::ReadFault;
 use c_syntax::{CInt, CType, Place, Token, TokenKind};
+use token_reader::terminals::left;
 
 /// The first word of a type.
 #[derive(Clone, Copy)]
@@ -34,7 +36,7 @@ fn type_start_of(words: &[Word], word: Word) -> Option<TypeStart>
             Some(x) => Some(TypeStart::Integer(x)),
             None => None,
         },
-        _ => None,
+        Word::Assert | Word::Integer | Word::Logic | Word::Name => None,
     }
 }
 

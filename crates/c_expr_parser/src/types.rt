@@ -5,19 +5,20 @@ ghost use Rattle.grammar.specs.Syntax.{among, sees, one};
 ghost use Rattle.c_syntax.specs.Ctypes.{PlainType, Int, plain_type};
 ghost use Rattle.c_syntax.specs.Tokens.{plain_token_kind};
 ghost use Rattle.c_model.specs.Vocabulary.{sign_with, size_with, words_with, signed_or_not, integer_type};
-ghost use Rattle.c_model.specs.ExpressionGrammar.{kind, placed, signs_behind, sizes_behind, words_behind, next_words, integer_word, integer_words};
+ghost use Rattle.c_model.specs.ExpressionGrammar.{kind, signs_behind, sizes_behind, words_behind, next_words, integer_word, integer_words};
+ghost use Rattle.c_model.specs.Terminals.{placed};
 ghost use Rattle.c_model.specs.ExpressionGrammar.{type_name_of, type_name_word_of, type_name, base, consts, type_words};
-ghost use Rattle.c_expr_parser.specs.Reading.{Gives, TakesNoMemory, plain_list, more_words};
+ghost use Rattle.c_expr_parser.specs.Reading.{more_words};
+ghost use Rattle.token_reader.specs.Reading.{Gives, TakesNoMemory, plain_list};
 
-use crate::kinds::{CHAR, INT, LONG, SHORT, SIGNED, TYPE_NAME, UNSIGNED, kind, word_at};
-use crate::terminals::{left, next_is, skip};
+use crate::kinds::{
+    CHAR, CONST, INT, LONG, SHORT, SIGNED, TYPE_NAME, UNSIGNED, VOID, kind, word_at,
+};
+use crate::terminals::{next_is, skip};
 use c_model::vocabulary::{IntegerWords, Keyword, SignWords, SizeWords, Word};
 use c_syntax::fault::ReadFault;
 use c_syntax::{CInt, CType, Token, TokenKind};
-
-const VOID: u32 = 16;
-
-const CONST: u32 = 17;
+use token_reader::terminals::left;
 
 /// No word of an integer type.
 pub const NO_WORDS: IntegerWords = IntegerWords {

@@ -1,26 +1,13 @@
 //! What the names of a text are (C99 6.4.1, 7.17).
 
 ghost use Rattle.std.specs.Prelude.{◌≡◌, map, IfOk};
-ghost use Rattle.c_model.specs.Vocabulary.{keywords, kept_keywords, other_words, found_in, name_or_logic, word_of};
-ghost use Rattle.c_expr_parser.specs.Words.{plain_words};
+ghost use Rattle.c_model.specs.Vocabulary.{keywords, kept_keywords, other_words, name_or_logic, word_of};
+ghost use Rattle.c_model.specs.Terminals.{found_in};
 
 use c_model::vocabulary::{Keyword, Word};
 use c_syntax::{CInt, Name};
 use std::alloc::{AllocError, Global};
-
-/// The word of these bytes, and another where the table has none.
-fn found_in(table: &[(&[u8], Word)], bytes: &[u8], other: Word) -> Word
-    ensures { result ≡ found_in (plain_words table.now) bytes.now other }
-{
-    let mut rest = table;
-    'turn: while let [entry, after @ ..] = rest {
-        if entry.0 == bytes {
-            return entry.1;
-        }
-        rest = after;
-    }
-    other
-}
+use token_reader::words::found_in;
 
 fn keyword(bytes: &[u8], other: Word) -> Word
     ensures { result ≡ found_in keywords bytes.now other }

@@ -46,24 +46,19 @@ use Rattle.c_model.specs.declared.vocabulary.SizeWords.{SizeWords}
 use Rattle.c_model.specs.declared.vocabulary.SizeWords.TheVariants as size
 use Rattle.c_model.specs.declared.vocabulary.IntegerWords.{IntegerWords}
 use Rattle.c_model.specs.Vocabulary.{Vocabulary, word_at, no_words, words_with, integer_type}
+use Rattle.c_model.specs.Terminals.{expression_limit, placed, mark_entry}
 use Rattle.c_model.specs.Punctuators.{increment, decrement, shift_left, shift_right, less_equal, greater_equal, equal, not_equal, and_and, or_or}
 use Rattle.c_model.specs.Punctuators.{shift_left_assign, shift_right_assign, add_assign, subtract_assign, multiply_assign, divide_assign, remainder_assign}
 use Rattle.c_model.specs.Punctuators.{and_assign, or_assign, xor_assign, plus, minus, times, divide, percent, less, greater, assign, exclamation, tilde}
 use Rattle.c_model.specs.Punctuators.{ampersand, bar, caret, question, colon, comma, left_paren, right_paren}
 
--- ---- limits (this profile), by their labels
+-- ---- limits (this profile)
 
 -- how many tokens an expression has at most that stands in no other
-abbrev pub expression_limit : ℕ
-expression_limit = 0
-
 abbrev pub most_in_expression : ℕ
 most_in_expression = 400
 
 -- how deep statements stand at most in one another
-abbrev pub nesting_limit : ℕ
-nesting_limit = 1
-
 abbrev pub most_nested : ℕ
 most_nested = 200
 
@@ -141,10 +136,6 @@ token_kind ws (token.Head k n) = head_kind
 abbrev pub kind : Vocabulary → PlainToken → ℕ
 kind ws t = token_kind ws t.kind
 
--- a token whose kind has a value, with its place
-abbrev pub placed : {A : Type 0} → (PlainTokenKind → Option A) → PlainToken → Option (A × Place)
-placed f t = elim (f t.kind) [ Some x ↦ Some (x, t.place) | None ↦ None ]
-
 -- ---- what single tokens stand for
 
 -- NUMBER: an integer literal with its type (C99 6.4.4.1)
@@ -156,15 +147,6 @@ number_of _ = None
 abbrev pub letter_of : PlainTokenKind → Option ℤ
 letter_of (token.Letter z) = Some z
 letter_of _ = None
-
--- what is looked up in a table by a number
-abbrev pub entry : {A : Type 0} → ℕ → List (ℕ × A) → Option A
-entry n [] = None
-entry n (x ∷ xs) = cond (eqb n x.0) (Some x.1) (entry n xs)
-
-abbrev pub mark_entry : {A : Type 0} → List (ℕ × A) → PlainTokenKind → Option A
-mark_entry table (token.Mark m) = entry m table
-mark_entry table _ = None
 
 -- the kinds of the punctuators of a table
 abbrev pub kinds_of : {A : Type 0} → List (ℕ × A) → List ℕ

@@ -17,6 +17,7 @@ pub mod Characters
 pub mod Places
 pub mod Names
 pub mod Punctuators
+pub mod Terminals
 pub mod Vocabulary
 pub mod ExpressionGrammar
 pub mod ProgramGrammar

@@ -1,19 +1,17 @@
 -- The order of the phases is ours: C99 5.1.1.2 has no refusals and no annotations.
 -- Which texts are accepted, with which program, and which are refused, why: by tokens, by grammar, by names and types, for want of
 -- `main`, and by the names of annotations, in this order.
-use Rattle.std.specs.Prelude.{◌≡◌, ℕ, List, map, Some, None, Ok, Err, if◌then◌else◌, eqb, codes}
+use Rattle.std.specs.Prelude.{◌≡◌, ℕ, List, map, Some, None, Ok, Err, codes}
 use Rattle.grammar.specs.Syntax as grammar
 use Rattle.grammar.specs.Exact.{Accepts, Refused}
-use Rattle.c_syntax.specs.RefusalCodes.{grammar_code, limit_code}
 use Rattle.c_syntax.specs.Tokens.{PlainTokens}
 use Rattle.c_syntax.specs.Programs.{TranslationUnit, PlainRefusal}
 use Rattle.c_model.specs.CTokens.{tokens_of}
 use Rattle.c_model.specs.Vocabulary.{Vocabulary, word_of}
-use Rattle.c_model.specs.ExpressionGrammar.{expression_limit}
 use Rattle.c_model.specs.ProgramGrammar.{unit}
 use Rattle.c_model.specs.Checked.{Fault, Good, refusing}
 use Rattle.c_model.specs.ProgramTyping.{typed_unit, main_fault, noted_unit}
-use Rattle.c_model.specs.TokenWords.{word_at, from_place, last, place_at, refused_at}
+use Rattle.c_model.specs.TokenWords.{refused_at_place, syntax_refusal}
 
 abbrev pub vocabulary : PlainTokens → Vocabulary
 vocabulary ts = map word_of ts.names
@@ -22,22 +20,14 @@ vocabulary ts = map word_of ts.names
 abbrev pub IsRead : PlainTokens → TranslationUnit → Type 0
 IsRead ts p = Accepts (unit (vocabulary ts) ts.names) ts.list p
 
-abbrev pub limit_word : ℕ → List ℕ
-limit_word limit = if eqb limit expression_limit then codes "expression" else codes "nesting"
-
 -- The tokens are no program: the fault's token can't follow those before it, or it is the first that passes a limit.
 pub record IsSyntaxFault (ts : PlainTokens) (f : grammar.Fault) : Type 0 where
   pub refused : Refused (unit (vocabulary ts) ts.names) ts.list f
   pub unread : (p : TranslationUnit) → IsRead ts p → ⊥
 
--- E4 at the first token that can't follow those before it, or E11 at one that passes a limit
-abbrev pub syntax_refusal : PlainTokens → grammar.Fault → PlainRefusal
-syntax_refusal ts (grammar.At n) = refused_at ts grammar_code (last n ts.list)
-syntax_refusal ts (grammar.Over limit n) = record { code = limit_code; place = place_at ts.end (last n ts.list); construct = limit_word limit }
-
 -- a fault of names or types, at its token
 abbrev pub checked_refusal : PlainTokens → Fault → PlainRefusal
-checked_refusal ts f = record { code = f.code; place = f.place; construct = word_at ts.names (from_place f.place ts.list) }
+checked_refusal ts f = refused_at_place ts f.code f.place
 
 -- E13
 abbrev pub main_refusal : Fault → PlainRefusal

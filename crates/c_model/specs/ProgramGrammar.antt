@@ -41,9 +41,10 @@ use Rattle.c_model.specs.declared.vocabulary.Word.TheVariants as word
 use Rattle.c_model.specs.Vocabulary.{Vocabulary, word_at}
 use Rattle.c_model.specs.Punctuators.{less_equal, greater_equal, equal, not_equal, plus, minus, less, greater, assign, semicolon, comma, left_paren}
 use Rattle.c_model.specs.Punctuators.{right_paren, left_brace, right_brace}
-use Rattle.c_model.specs.ExpressionGrammar.{name_kind, number_kind, letter_kind, annot_open_kind, annot_close_kind, keyword_kind, mark_kind, kind, placed}
-use Rattle.c_model.specs.ExpressionGrammar.{letter_of, mark_entry, kinds_of, first_type, first_expression, first_effect, use_of, expression_limit}
-use Rattle.c_model.specs.ExpressionGrammar.{most_in_expression, nesting_limit, most_nested, fixed, mark, reserved, name, base, consts, type_words, closed}
+use Rattle.c_model.specs.ExpressionGrammar.{name_kind, number_kind, letter_kind, annot_open_kind, annot_close_kind, keyword_kind, mark_kind, kind}
+use Rattle.c_model.specs.Terminals.{placed, mark_entry, expression_limit, nesting_limit}
+use Rattle.c_model.specs.ExpressionGrammar.{letter_of, kinds_of, first_type, first_expression, first_effect, use_of}
+use Rattle.c_model.specs.ExpressionGrammar.{most_in_expression, most_nested, fixed, mark, reserved, name, base, consts, type_words, closed}
 use Rattle.c_model.specs.ExpressionGrammar.{full_expression, full_expression_or_call, full_effect, full_effect_or_call, type_start, type_behind, TypeStart}
 use Rattle.c_model.specs.ExpressionGrammar.{VoidStart}
 

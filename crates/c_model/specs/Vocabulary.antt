@@ -1,5 +1,5 @@
 -- What the words of C are (C99 6.4.1, 6.7.2, 7.17).
-use Rattle.std.specs.Prelude.{ℕ, List, [], ◌∷◌, Option, Some, None, option_map, if◌then◌else◌, nat_eq, slice_get, codes, bytes_eq}
+use Rattle.std.specs.Prelude.{ℕ, List, [], ◌∷◌, Option, Some, None, option_map, if◌then◌else◌, nat_eq, slice_get, codes}
 use Rattle.c_syntax.specs.declared.types.CInt.{CInt}
 use Rattle.c_syntax.specs.declared.types.CInt.TheVariants.{I8, U8, I16, U16, I32, U32, I64, U64}
 use Rattle.c_model.specs.declared.vocabulary.Keyword.{Keyword}
@@ -12,6 +12,7 @@ use Rattle.c_model.specs.declared.vocabulary.SignWords.TheVariants as sign
 use Rattle.c_model.specs.declared.vocabulary.SizeWords.{SizeWords}
 use Rattle.c_model.specs.declared.vocabulary.SizeWords.TheVariants as size
 use Rattle.c_model.specs.declared.vocabulary.IntegerWords.{IntegerWords}
+use Rattle.c_model.specs.Terminals.{found_in}
 
 abbrev pub Words : Type 0
 Words = List (List ℕ × Word)
@@ -38,10 +39,6 @@ kept_keywords =
 abbrev pub other_words : Words
 other_words = (codes "size_t", word.TypeName U64) ∷ (codes "ptrdiff_t", word.TypeName I64) ∷ (codes "assert", word.Assert) ∷ (codes "integer", word.Integer)
     ∷ []
-
-abbrev pub found_in : Words → List ℕ → Word → Word
-found_in [] w other = other
-found_in (x ∷ xs) w other = if bytes_eq x.0 w then x.1 else found_in xs w other
 
 -- a word that begins with `\` stands in annotations alone
 abbrev pub name_or_logic : List ℕ → Word

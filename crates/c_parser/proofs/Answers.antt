@@ -14,9 +14,10 @@ use Rattle.c_syntax.specs.declared.fault.ReadFault.TheVariants as fault
 use Rattle.c_model.specs.Vocabulary.{Vocabulary}
 use Rattle.c_model.specs.ExpressionGrammar.{kind}
 use Rattle.c_model.specs.ProgramGrammar.{first_function, unit}
-use Rattle.c_model.specs.Phases.{vocabulary, IsRead, IsSyntaxFault, syntax_refusal}
-use Rattle.c_expr_parser.specs.Reading.{plain_list, label, Fails}
-use Rattle.c_expr_parser.specs.Answers.{RefusesWith, RefusesFault}
+use Rattle.c_model.specs.Phases.{vocabulary, IsRead, IsSyntaxFault}
+use Rattle.c_model.specs.TokenWords.{syntax_refusal}
+use Rattle.token_reader.specs.Reading.{plain_list, label, Fails}
+use Rattle.token_reader.specs.Answers.{RefusesWith, RefusesFault}
 use Rattle.c_parser.specs.Answers.{Refuses}
 use Rattle.c_parser.proofs.ExactPrograms.{unit_good, one_unit}
 

@@ -5,9 +5,11 @@ use Rattle.c_syntax.specs.declared.token.Token.{Token}
 use Rattle.c_syntax.specs.declared.fault.ReadFault.{ReadFault}
 use Rattle.c_syntax.specs.Annotations.{Annotation}
 use Rattle.c_model.specs.Vocabulary.{Vocabulary}
-use Rattle.c_model.specs.ExpressionGrammar.{name_kind, expression_limit, most_in_expression}
+use Rattle.c_model.specs.ExpressionGrammar.{name_kind, most_in_expression}
+use Rattle.c_model.specs.Terminals.{expression_limit}
 use Rattle.c_model.specs.ProgramGrammar.{assert_clause}
-use Rattle.c_expr_parser.specs.Reading.{plain_list, Fails, LeftWithin, Resumed}
+use Rattle.c_expr_parser.specs.Reading.{LeftWithin, Resumed}
+use Rattle.token_reader.specs.Reading.{plain_list, Fails}
 use Rattle.c_expr_parser.proofs.Windows.{take_long, whole, over, goes_on, fails, bound}
 use Rattle.c_parser.specs.Reading.{full_clause}
 use Rattle.c_parser.proofs.ExactStatements.{clause_good}

@@ -14,7 +14,8 @@ use Rattle.c_syntax.specs.Programs.{Function}
 use Rattle.c_model.specs.declared.vocabulary.Keyword.TheVariants as keyword
 use Rattle.c_model.specs.Vocabulary.{Vocabulary}
 use Rattle.c_model.specs.Punctuators.{semicolon, comma, left_paren, right_paren, left_brace, right_brace}
-use Rattle.c_model.specs.ExpressionGrammar.{name_kind, keyword_kind, mark_kind, kind, first_type, nesting_limit, most_nested, TypeStart, ConstStart, VoidStart, NameStart, IntegerStart, type_behind}
+use Rattle.c_model.specs.ExpressionGrammar.{name_kind, keyword_kind, mark_kind, kind, first_type, most_nested, TypeStart, ConstStart, VoidStart, NameStart, IntegerStart, type_behind}
+use Rattle.c_model.specs.Terminals.{nesting_limit}
 use Rattle.c_model.specs.ProgramGrammar.{first_statement, first_function, statement_in, parameter_name, void_parameter, parameter_behind, parameter, next_parameter, more_parameters, first_parameter, parameters, storage_words, storage_word}
 use Rattle.c_model.specs.ProgramGrammar.{result_type, function_rest, function, one_more_function, unit}
 use Rattle.c_expr_parser.proofs.ExactTokens.{IsRead, fixed_good, name_good, type_start_good}

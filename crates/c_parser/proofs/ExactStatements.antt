@@ -20,7 +20,8 @@ use Rattle.c_model.specs.declared.vocabulary.Word.{Word}
 use Rattle.c_model.specs.declared.vocabulary.Word.TheVariants as word
 use Rattle.c_model.specs.Vocabulary.{Vocabulary, word_at}
 use Rattle.c_model.specs.Punctuators.{assign, semicolon, comma, left_paren, right_paren, left_brace, right_brace}
-use Rattle.c_model.specs.ExpressionGrammar.{name_kind, number_kind, letter_kind, annot_open_kind, annot_close_kind, keyword_kind, mark_kind, word_kind, token_kind, kind, placed, kinds_of, first_type, first_expression, first_effect, expression_limit}
+use Rattle.c_model.specs.ExpressionGrammar.{name_kind, number_kind, letter_kind, annot_open_kind, annot_close_kind, keyword_kind, mark_kind, word_kind, token_kind, kind, kinds_of, first_type, first_expression, first_effect}
+use Rattle.c_model.specs.Terminals.{placed, expression_limit}
 use Rattle.c_model.specs.ExpressionGrammar.{most_in_expression, name}
 use Rattle.c_model.specs.ProgramGrammar.{first_statement, first_item, is_open, Counts, Counted, most_declarators, declared_name, declarator, next_declarator, declaration, is_assert, assert_word, is_term_name, term_name, term_number, sum_operators}
 use Rattle.c_model.specs.ProgramGrammar.{relations, atom, sum_once, sum_of, sum, assert_clause, annotation, ended, condition, else_branch, else_part, selection, while_loop, do_loop, for_first, maybe_ended, returned, for_behind, for_loop, jump}

@@ -13,7 +13,8 @@ use Rattle.c_model.specs.declared.vocabulary.Word.TheVariants as word
 use Rattle.c_model.specs.declared.operands.TypeUse.TheVariants.{Casts}
 use Rattle.c_model.specs.Vocabulary.{Vocabulary, word_at}
 use Rattle.c_model.specs.Punctuators.{semicolon, left_paren, left_brace}
-use Rattle.c_model.specs.ExpressionGrammar.{name_kind, number_kind, letter_kind, keyword_kind, mark_kind, word_kind, token_kind, kind, placed, number_of, letter_of, entry, mark_entry, kinds_of, unary_operators, prefix_bumps, first_expression}
+use Rattle.c_model.specs.ExpressionGrammar.{name_kind, number_kind, letter_kind, keyword_kind, mark_kind, word_kind, token_kind, kind, number_of, letter_of, kinds_of, unary_operators, prefix_bumps, first_expression}
+use Rattle.c_model.specs.Terminals.{placed, entry, mark_entry}
 use Rattle.c_model.specs.ExpressionGrammar.{first_effect, fixed, name, literal, operand, expression, prefixed, sized, operand_but_name, bump_first, effect_but_name, effect_or_call, full_effect_or_call}
 use Rattle.c_model.specs.ProgramGrammar.{first_statement, Counts, Counted, block, empty_statement, selection, while_loop, do_loop, for_loop, return_statement, jump, effect_statement, statement_of}
 

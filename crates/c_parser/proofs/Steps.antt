@@ -12,12 +12,13 @@ use Rattle.c_syntax.specs.Statements.{BlockItem, Declaration}
 use Rattle.c_syntax.specs.Programs.{Function}
 use Rattle.c_model.specs.Vocabulary.{Vocabulary}
 use Rattle.c_model.specs.Punctuators.{comma}
-use Rattle.c_model.specs.ExpressionGrammar.{kind, mark_kind, kinds_of, nesting_limit}
+use Rattle.c_model.specs.ExpressionGrammar.{kind, mark_kind, kinds_of}
+use Rattle.c_model.specs.Terminals.{nesting_limit}
 use Rattle.c_model.specs.ProgramGrammar.{Counts, first_statement, first_item, first_function, sum_operators, sum_once, sum, next_declarator, items_once, items, statement_of, statement_in, storage_words, storage_word, next_parameter}
 use Rattle.c_model.specs.ProgramGrammar.{one_more_function}
 use Rattle.c_syntax.specs.declared.fault.ReadFault.{ReadFault}
-use Rattle.c_expr_parser.specs.Reading.{plain_list, Fails}
-use Rattle.c_expr_parser.proofs.Steps.{again}
+use Rattle.token_reader.specs.Reading.{plain_list, Fails}
+use Rattle.token_reader.proofs.Faults.{again}
 use Rattle.c_expr_parser.proofs.ExactTokens.{IsRead}
 use Rattle.c_parser.specs.Reading.{more_terms, more_declarators, more_storage, further_parameters, more_functions}
 use Rattle.c_parser.proofs.ExactStatements.{sum_good, sum_once_good, next_declarator_good, items_once_good}

@@ -6,7 +6,8 @@ use Rattle.c_syntax.specs.Tokens.{PlainTokens}
 use Rattle.c_syntax.specs.Programs.{PlainRefusal, plain_refusal}
 use Rattle.c_syntax.specs.declared.refusal.FrontFault.{FrontFault}
 use Rattle.c_syntax.specs.declared.refusal.FrontFault.TheVariants as front
-use Rattle.c_model.specs.Phases.{IsSyntaxFault, syntax_refusal}
+use Rattle.c_model.specs.Phases.{IsSyntaxFault}
+use Rattle.c_model.specs.TokenWords.{syntax_refusal}
 
 -- The tokens are refused by the grammar: they are no program, and the refusal names the first token that can't follow
 -- those before it (E4) or that passes a limit (E11).

@@ -20,12 +20,13 @@ use Rattle.c_parser.specs.declared.counts.Counts as code
 use Rattle.c_parser.specs.declared.loops.ForHeading as code_heading
 use Rattle.c_parser.specs.declared.program.Body.{Body}
 use Rattle.c_model.specs.Punctuators.{comma, semicolon, left_paren, left_brace, right_brace}
-use Rattle.c_model.specs.ExpressionGrammar.{kind, mark, reserved, placed, closed, use_of, mark_entry, mark_kind, kinds_of, expression_limit, most_in_expression}
+use Rattle.c_model.specs.ExpressionGrammar.{kind, mark, reserved, closed, use_of, mark_kind, kinds_of, most_in_expression}
+use Rattle.c_model.specs.Terminals.{placed, mark_entry, expression_limit}
 use Rattle.c_model.specs.ExpressionGrammar.{most_nested}
 use Rattle.c_model.specs.ProgramGrammar.{Counts, Counted, no_range, assertion, block_items, first_function, relations, term_name, sum_operators, sum_once, sum}
 use Rattle.c_model.specs.ProgramGrammar.{assert_clause, ended, for_first, maybe_ended, for_behind, items, statement_in, next_declarator, storage_words}
 use Rattle.c_model.specs.ProgramGrammar.{storage_word, next_parameter, one_more_function, unit_with}
-use Rattle.c_expr_parser.specs.Reading.{plain_list}
+use Rattle.token_reader.specs.Reading.{plain_list}
 
 -- what stands before the body of a `for`
 pub record ForHeading : Type 0 where

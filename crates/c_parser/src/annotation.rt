@@ -5,17 +5,16 @@ ghost use Rattle.grammar.specs.Syntax.{gives};
 ghost use Rattle.c_syntax.specs.Annotations.{plain_term, plain_term_kind, plain_annot};
 ghost use Rattle.c_syntax.specs.Statements.{Asserts, plain_item};
 ghost use Rattle.c_model.specs.ProgramGrammar.{no_range, assertion, atom, sum_once, sum_of, sum, assert_clause, annotation};
-ghost use Rattle.c_expr_parser.specs.Reading.{Gives, plain_list};
+ghost use Rattle.token_reader.specs.Reading.{Gives, plain_list};
 ghost use Rattle.c_parser.specs.Reading.{plain_counts, name_term, sum_in_parentheses, more_terms, assert_rest, full_clause};
 
 use crate::counts::Counts;
-use crate::kinds::SEMICOLON;
 use crate::terminals::{assert_word, term_name, term_number};
 use c_expr_parser::full::{MOST, behind, passed, resumed, window};
 use c_expr_parser::kinds::{
-    ANNOT_CLOSE, ANNOT_OPEN, LEFT_PAREN, LETTER, NAME, NUMBER, RIGHT_PAREN,
+    ANNOT_CLOSE, ANNOT_OPEN, LEFT_PAREN, LETTER, NAME, NUMBER, RIGHT_PAREN, SEMICOLON,
 };
-use c_expr_parser::terminals::{letter, marked, next_is, next_is_marked, skip};
+use c_expr_parser::terminals::{letter, next_is, next_is_marked, skip};
 use c_model::punctuator;
 use c_model::vocabulary::Word;
 use c_syntax::fault::ReadFault;
@@ -24,6 +23,7 @@ use c_syntax::{
     Token, Use,
 };
 use std::alloc::{AllocError, AllocFailed, Global};
+use token_reader::terminals::marked;
 
 /// `+` and `-` of terms (ACSL 2.2.1).
 const SUM_OPERATORS: &[(u8, BinOp)] = &[

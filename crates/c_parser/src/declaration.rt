@@ -5,19 +5,19 @@ ghost use Rattle.c_syntax.specs.Ctypes.{plain_type};
 ghost use Rattle.c_syntax.specs.Expressions.{plain_expr};
 ghost use Rattle.c_syntax.specs.Statements.{plain_decl, plain_item};
 ghost use Rattle.c_model.specs.ProgramGrammar.{most_declarators, initialised, declared_name, declarator, next_declarator, declaration};
-ghost use Rattle.c_expr_parser.specs.Reading.{Gives, TakesNoMemory, plain_list};
+ghost use Rattle.token_reader.specs.Reading.{Gives, TakesNoMemory, plain_list};
 ghost use Rattle.c_parser.specs.Reading.{plain_counts, more_declarators};
 
 use crate::counts::Counts;
-use crate::kinds::{ASSIGN, SEMICOLON};
 use c_expr_parser::full::full_expression_or_call;
-use c_expr_parser::kinds::COMMA;
-use c_expr_parser::terminals::{left, name, next_is, skip};
+use c_expr_parser::kinds::{ASSIGN, COMMA, SEMICOLON};
+use c_expr_parser::terminals::{name, next_is, skip};
 use c_expr_parser::types::type_of;
 use c_model::vocabulary::Word;
 use c_syntax::fault::ReadFault;
 use c_syntax::{CType, Decl, Expr, Init, Item, Place, Token};
 use std::alloc::Global;
+use token_reader::terminals::left;
 
 /// How many declarators a function has at most.
 const MOST_DECLARATORS: u32 = 1000;

@@ -3,15 +3,19 @@
 //! A function for each production of the grammar reads the tokens.
 #![tactic(auto)]
 
-mod annotation;
+// What single tokens stand for, and what is counted along a text.
 mod counts;
+mod terminals;
+
+// What stands in a function.
+mod annotation;
 mod declaration;
-mod kinds;
 mod loops;
+mod statement;
+
+// Functions and whole texts.
 mod parameter;
 mod program;
 mod read;
-mod statement;
-mod terminals;
 
 pub use read::{one_reading, read_program};

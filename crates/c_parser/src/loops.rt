@@ -4,17 +4,16 @@ ghost use Rattle.std.specs.Prelude.{◌≡◌, option_map, IfOk};
 ghost use Rattle.c_syntax.specs.Expressions.{plain_expr};
 ghost use Rattle.c_syntax.specs.Statements.{plain_stmt, plain_stmt_kind};
 ghost use Rattle.c_model.specs.ProgramGrammar.{condition, effect_statement, for_first, maybe_ended, returned, for_behind};
-ghost use Rattle.c_expr_parser.specs.Reading.{Gives, plain_list};
+ghost use Rattle.token_reader.specs.Reading.{Gives, plain_list};
 ghost use Rattle.c_parser.specs.Reading.{plain_first, plain_counts, plain_heading, counted, for_heading, for_with};
 
 use crate::counts::Counts;
 use crate::declaration::declaration;
-use crate::kinds::{FOR, SEMICOLON};
 use crate::terminals::next_begins_effect;
 use c_expr_parser::full::{
     full_effect, full_effect_or_call, full_expression, full_expression_or_call,
 };
-use c_expr_parser::kinds::{LEFT_PAREN, RIGHT_PAREN};
+use c_expr_parser::kinds::{FOR, LEFT_PAREN, RIGHT_PAREN, SEMICOLON};
 use c_expr_parser::terminals::{next_begins_expression, next_begins_type, skip};
 use c_model::vocabulary::Word;
 use c_syntax::fault::ReadFault;

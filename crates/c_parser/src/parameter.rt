@@ -6,11 +6,11 @@ ghost use Rattle.c_syntax.specs.Statements.{plain_decl};
 ghost use Rattle.c_model.specs.ExpressionGrammar.{closed};
 ghost use Rattle.c_model.specs.ProgramGrammar.{parameter_with, parameter_name, void_parameter, parameter_behind, parameter, next_parameter, more_parameters};
 ghost use Rattle.c_model.specs.ProgramGrammar.{first_parameter, parameters};
-ghost use Rattle.c_expr_parser.specs.Reading.{Gives, TakesNoMemory, plain_list, plain_start};
+ghost use Rattle.c_expr_parser.specs.Reading.{plain_start};
+ghost use Rattle.token_reader.specs.Reading.{Gives, TakesNoMemory, plain_list};
 ghost use Rattle.c_parser.specs.Reading.{further_parameters};
 
-use crate::kinds::CONST;
-use c_expr_parser::kinds::{COMMA, NAME, RIGHT_PAREN};
+use c_expr_parser::kinds::{COMMA, CONST, NAME, RIGHT_PAREN};
 use c_expr_parser::terminals::{name, next_is, skip};
 use c_expr_parser::type_start::{TypeStart, type_behind, type_start};
 use c_expr_parser::types::consts;

@@ -5,21 +5,21 @@ ghost use Rattle.c_syntax.specs.Ctypes.{plain_type};
 ghost use Rattle.c_syntax.specs.Statements.{plain_decl, plain_stmt};
 ghost use Rattle.c_syntax.specs.Programs.{plain_func, plain_program};
 ghost use Rattle.c_model.specs.ProgramGrammar.{function_with, unit_with, storage_word, result_type, function_rest, function, one_more_function, unit};
-ghost use Rattle.c_expr_parser.specs.Reading.{Gives, TakesNoMemory, plain_list};
+ghost use Rattle.token_reader.specs.Reading.{Gives, TakesNoMemory, plain_list};
 ghost use Rattle.c_parser.specs.Reading.{plain_body, plain_unit, more_storage, function_body, more_functions};
 
 use crate::counts::Counts;
-use crate::kinds::{CONST, LEFT_BRACE, RIGHT_BRACE, SEMICOLON, STATIC};
 use crate::parameter::parameters;
 use crate::statement::{items, make_block};
 use crate::terminals::{next_begins_function, next_is_storage};
-use c_expr_parser::kinds::LEFT_PAREN;
-use c_expr_parser::terminals::{left, name, next_is, skip};
+use c_expr_parser::kinds::{CONST, LEFT_BRACE, LEFT_PAREN, RIGHT_BRACE, SEMICOLON, STATIC};
+use c_expr_parser::terminals::{name, next_is, skip};
 use c_expr_parser::types::{base, consts};
 use c_model::vocabulary::Word;
 use c_syntax::fault::ReadFault;
 use c_syntax::{CType, Decl, Func, Name, Place, Program, Stmt, Token};
 use std::alloc::Global;
+use token_reader::terminals::left;
 
 /// How deep statements may stand in one another, the function's body being 1 deep.
 const MOST_NESTED: u32 = 200;

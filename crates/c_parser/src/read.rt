@@ -10,13 +10,13 @@ ghost use Rattle.c_model.specs.Phases.{IsRead};
 ghost use Rattle.c_parser.specs.Answers.{Refuses, without_names};
 
 use crate::program::{functions, make_unit};
-use c_expr_parser::refusal::refuse;
-use c_expr_parser::terminals::left;
 use c_expr_parser::vocabulary::vocabulary;
 use c_syntax::fault::ReadFault;
 use c_syntax::{FrontFault, Program, Tokens};
 use std::alloc::Global;
 use std::mem::replace;
+use token_reader::refusal::refuse;
+use token_reader::terminals::left;
 
 /// The tree of the tokens of a text of annotated C, which takes their names; or their refusal: with code 4 at the first token that
 /// can't follow those before it, and with code 11 at one that passes the limit of an expression or of nesting. Names, types and ranges

@@ -6,25 +6,26 @@ ghost use Rattle.c_syntax.specs.Statements.{plain_stmt, plain_item};
 ghost use Rattle.c_syntax.specs.Statements as statement;
 ghost use Rattle.c_model.specs.ProgramGrammar.{is_open, block_items, else_branch, else_part, selection, while_loop, do_loop, for_loop, jump, return_statement};
 ghost use Rattle.c_model.specs.ProgramGrammar.{item, items_once, items, block, empty_statement, statement_of, statement_in};
-ghost use Rattle.c_expr_parser.specs.Reading.{Gives, plain_list};
+ghost use Rattle.token_reader.specs.Reading.{Gives, plain_list};
 ghost use Rattle.c_parser.specs.Reading.{plain_counts, break_statement, continue_statement, ended_do};
 
 use crate::annotation::annotation;
 use crate::counts::Counts;
 use crate::declaration::declaration;
-use crate::kinds::{
-    BREAK, CONTINUE, DO, ELSE, FOR, IF, LEFT_BRACE, RETURN, RIGHT_BRACE, SEMICOLON, WHILE,
-};
 use crate::loops::{
     condition, effect_statement, for_heading, for_kind, returned, statement_at, with_statement,
 };
 use crate::terminals::{next_begins_item, next_begins_statement, next_is_jump};
-use c_expr_parser::kinds::ANNOT_OPEN;
-use c_expr_parser::terminals::{left, next_begins_type, next_is, skip};
+use c_expr_parser::kinds::{
+    ANNOT_OPEN, BREAK, CONTINUE, DO, ELSE, FOR, IF, LEFT_BRACE, RETURN, RIGHT_BRACE, SEMICOLON,
+    WHILE,
+};
+use c_expr_parser::terminals::{next_begins_type, next_is, skip};
 use c_model::vocabulary::Word;
 use c_syntax::fault::{Limit, ReadFault};
 use c_syntax::{Expr, Item, Place, Stmt, StmtKind, Token};
 use std::alloc::{AllocError, Global};
+use token_reader::terminals::left;
 
 /// Whether a further `else` would go with an `if` at the statement's end.
 fn is_open(s: &Stmt) -> bool

@@ -3,21 +3,20 @@
 ghost use Rattle.std.specs.Prelude.{◌≡◌, ◌<◌, length, IfOk, IfErr, [], ◌∷◌};
 ghost use Rattle.grammar.specs.Syntax.{among, sees, one};
 ghost use Rattle.c_model.specs.declared.vocabulary.Keyword.TheVariants as keyword;
-ghost use Rattle.c_model.specs.ExpressionGrammar.{kind, keyword_kind, placed, first_type, first_effect};
+ghost use Rattle.c_model.specs.ExpressionGrammar.{kind, keyword_kind, first_effect};
+ghost use Rattle.c_model.specs.Terminals.{placed};
 ghost use Rattle.c_model.specs.ProgramGrammar.{first_statement, first_item, first_function, storage_words, assert_word, term_name, term_number};
-ghost use Rattle.c_expr_parser.specs.Reading.{Gives, TakesNoMemory, plain_list};
+ghost use Rattle.token_reader.specs.Reading.{Gives, TakesNoMemory, plain_list};
 
-use crate::kinds::{
-    BREAK, CONST, CONTINUE, DO, FOR, IF, LEFT_BRACE, RETURN, SEMICOLON, SIZEOF, STATIC, VOID, WHILE,
-};
 use c_expr_parser::kinds::{
-    ANNOT_OPEN, DECREMENT, EXCLAMATION, INCREMENT, LEFT_PAREN, LETTER, MINUS, NAME, NUMBER, PLUS,
-    TILDE, TYPE_NAME, kind, word_at,
+    ANNOT_OPEN, BREAK, CONST, CONTINUE, DECREMENT, DO, FOR, IF, INCREMENT, LEFT_BRACE, RETURN,
+    SEMICOLON, STATIC, WHILE, kind, word_at,
 };
-use c_expr_parser::terminals::left;
+use c_expr_parser::terminals::{begins_expression, begins_type};
 use c_model::vocabulary::Word;
 use c_syntax::fault::ReadFault;
 use c_syntax::{Place, Token, TokenKind};
+use token_reader::terminals::left;
 
 /// The word `assert`, by its place.
 pub fn assert_word<'a>(
@@ -54,7 +53,9 @@ pub fn term_name<'a>(
         [token, rest @ ..] => match &token.kind {
             TokenKind::Word(number) => match word_at(words, *number) {
                 Word::Assert | Word::Name => Ok((*number, token.place, rest)),
-                _ => Err(ReadFault::At(left(tokens))),
+                Word::Keyword(_) | Word::TypeName(_) | Word::Integer | Word::Logic => {
+                    Err(ReadFault::At(left(tokens)))
+                }
             },
             _ => Err(ReadFault::At(left(tokens))),
         },
@@ -91,23 +92,7 @@ pub fn term_number<'a>(
 fn begins_effect(kind: u32) -> bool
     ensures { result ≡ among kind first_effect }
 {
-    kind == INCREMENT
-        || kind == DECREMENT
-        || kind == NAME
-        || kind == NUMBER
-        || kind == LETTER
-        || kind == LEFT_PAREN
-        || kind == PLUS
-        || kind == MINUS
-        || kind == EXCLAMATION
-        || kind == TILDE
-        || kind == SIZEOF
-}
-
-fn begins_type(kind: u32) -> bool
-    ensures { result ≡ among kind first_type }
-{
-    kind == CONST || kind == VOID || kind == TYPE_NAME || (10 <= kind && kind <= 15)
+    kind == INCREMENT || kind == DECREMENT || begins_expression(kind)
 }
 
 fn begins_statement(kind: u32) -> bool

@@ -10,7 +10,8 @@ use Rattle.c_syntax.specs.Programs.{Function, TranslationUnit}
 use Rattle.c_model.specs.declared.vocabulary.Keyword.TheVariants as keyword
 use Rattle.c_model.specs.Vocabulary.{Vocabulary}
 use Rattle.c_model.specs.Punctuators.{semicolon, comma, left_paren, right_paren, left_brace, right_brace}
-use Rattle.c_model.specs.ExpressionGrammar.{name_kind, keyword_kind, mark_kind, kind, placed, mark, reserved, consts, type_start, type_behind, TypeStart, VoidStart, ConstStart, NameStart, IntegerStart, most_nested}
+use Rattle.c_model.specs.ExpressionGrammar.{name_kind, keyword_kind, mark_kind, kind, mark, reserved, consts, type_start, type_behind, TypeStart, VoidStart, ConstStart, NameStart, IntegerStart, most_nested}
+use Rattle.c_model.specs.Terminals.{placed}
 use Rattle.c_model.specs.ProgramGrammar.{Counts, first_function, block_items, parameter_with, function_with, result_type, parameter_name, void_parameter, parameter_behind, parameter, next_parameter, more_parameters, first_parameter, parameters}
 use Rattle.c_model.specs.ProgramGrammar.{function_rest, function, one_more_function, unit}
 use Rattle.c_model.specs.Formed.{declared_in_body, declared_in_items, number_of, numbers_of, numbers_of_all}

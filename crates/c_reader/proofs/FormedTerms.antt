@@ -12,7 +12,8 @@ use Rattle.c_syntax.specs.Tokens as token
 use Rattle.c_syntax.specs.Tokens.{PlainTokenKind, PlainToken}
 use Rattle.c_model.specs.Vocabulary.{Vocabulary}
 use Rattle.c_model.specs.Punctuators.{semicolon, left_paren}
-use Rattle.c_model.specs.ExpressionGrammar.{name_kind, number_kind, letter_kind, mark_kind, kind, placed, mark_entry, kinds_of}
+use Rattle.c_model.specs.ExpressionGrammar.{name_kind, number_kind, letter_kind, mark_kind, kind, kinds_of}
+use Rattle.c_model.specs.Terminals.{placed, mark_entry}
 use Rattle.c_model.specs.ProgramGrammar.{term_number, sum_operators, atom, sum_once, sum_of, sum, assert_clause}
 use Rattle.c_model.specs.Formed.{IsSum, IsLogicNumber, IsSumTerm, leaves_of_term, IsAssert}
 use Rattle.c_reader.proofs.FormedExpressions.{IsLexedKind, Each, each_token, each_fixed, closed_each}

@@ -11,7 +11,7 @@ use Rattle.c_model.specs.Checked.{Fault, Good}
 use Rattle.c_model.specs.ProgramTyping.{typed_unit, main_fault, noted_unit}
 use Rattle.c_model.specs.Phases.{IsRead, checked_refusal, AcceptedText, ByGrammar, ByNamesAndTypes, ForMain, ByAnnotations}
 use Rattle.c_lexer.specs.Reading as lexer
-use Rattle.c_expr_parser.specs.Answers.{RefusesWith}
+use Rattle.token_reader.specs.Answers.{RefusesWith}
 use Rattle.c_parser.specs.Answers as parser
 use Rattle.c_type_rules.specs.declared.fault.TypeFault.{TypeFault}
 use Rattle.c_type_rules.specs.declared.fault.TypeFault.TheVariants as fault

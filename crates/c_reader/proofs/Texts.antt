@@ -8,7 +8,8 @@ use Rattle.c_model.specs.CTokens.{tokens_of}
 use Rattle.c_model.specs.Checked.{Fault, Checked, Good, Bad, least, refusing}
 use Rattle.c_model.specs.ProgramTyping.{typed_unit, main_fault, noted_unit}
 use Rattle.c_model.specs.ProgramGrammar.{unit}
-use Rattle.c_model.specs.Phases.{vocabulary, IsRead, IsSyntaxFault, syntax_refusal, checked_refusal, main_refusal, AcceptedText, RefusedText, ByTokens, ByGrammar, ByNamesAndTypes, ForMain, ByAnnotations}
+use Rattle.c_model.specs.Phases.{vocabulary, IsRead, IsSyntaxFault, checked_refusal, main_refusal, AcceptedText, RefusedText, ByTokens, ByGrammar, ByNamesAndTypes, ForMain, ByAnnotations}
+use Rattle.c_model.specs.TokenWords.{syntax_refusal}
 use Rattle.c_parser.proofs.Answers.{fronts, limits}
 use Rattle.c_parser.proofs.ExactPrograms.{one_unit}
 

@@ -23,7 +23,8 @@ use Rattle.c_model.specs.ProgramGrammar.{maybe_ended, for_behind, for_loop, jump
 use Rattle.c_model.specs.ProgramGrammar.{void_parameter, parameter_behind, parameter, next_parameter, more_parameters, first_parameter, parameters, function_rest, function, one_more_function, unit}
 use Rattle.c_model.specs.State.{EndOfInput, Final, Exits, Broken, Undefined}
 use Rattle.c_model.specs.Meaning.{run}
-use Rattle.c_model.specs.Phases.{vocabulary, syntax_refusal}
+use Rattle.c_model.specs.Phases.{vocabulary}
+use Rattle.c_model.specs.TokenWords.{syntax_refusal}
 use Rattle.c_reader.proofs.Texts.{Answer, of_tree}
 
 abbrev place : ℕ → ℕ → ℕ → Place

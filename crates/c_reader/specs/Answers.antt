@@ -9,7 +9,7 @@ use Rattle.c_model.specs.CTokens.{tokens_of}
 use Rattle.c_model.specs.Checked.{Fault, Good, refusing}
 use Rattle.c_model.specs.ProgramTyping.{typed_unit, main_fault, noted_unit}
 use Rattle.c_model.specs.Phases.{IsRead, checked_refusal, main_refusal, RefusedText}
-use Rattle.c_expr_parser.specs.Answers.{RefusesWith}
+use Rattle.token_reader.specs.Answers.{RefusesWith}
 use Rattle.c_type_rules.specs.declared.fault.TypeFault.{TypeFault}
 use Rattle.c_type_rules.specs.declared.fault.TypeFault.TheVariants.{Refused, Memory}
 use Rattle.c_typing.specs.declared.checked.ProgramFault.{ProgramFault}

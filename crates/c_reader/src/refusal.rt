@@ -1,50 +1,25 @@
 //! The refusals of a tree.
 
-ghost use Rattle.std.specs.Prelude.{◌≡◌, ◌<◌, length};
-ghost use Rattle.c_syntax.specs.Tokens.{plain_tokens};
-ghost use Rattle.c_model.specs.TokenWords.{from_place};
+ghost use Rattle.std.specs.Prelude.{◌<◌, length};
 ghost use Rattle.c_model.specs.Phases.{checked_refusal, main_refusal};
-ghost use Rattle.c_expr_parser.specs.Reading.{plain_list};
-ghost use Rattle.c_expr_parser.specs.Answers.{RefusesWith};
+ghost use Rattle.token_reader.specs.Answers.{RefusesWith};
 ghost use Rattle.c_type_rules.specs.Answers.{plain_fault};
 ghost use Rattle.c_reader.specs.Answers.{OfTokens, RefusesFault, RefusesProgram};
 
-use c_expr_parser::refusal::{refused, refused_word};
 use c_lexer::tokens;
-use c_syntax::{FrontFault, Place, Token, Tokens};
+use c_syntax::FrontFault;
 use c_typing::{Fault, ProgramFault, TypeFault};
 use std::alloc::Global;
+use token_reader::refusal::{refused, refused_at_place};
 
-/// The tokens from a place on.
-fn from_place(at: Place, tokens: &[Token]) -> &[Token]
-    ensures { plain_list result.now ≡ from_place at (plain_list tokens.now) }
-{
-    let mut rest = tokens;
-    'turn: while let [token, after @ ..] = rest {
-        if token.place.offset == at.offset {
-            return rest;
-        }
-        rest = after;
-    }
-    rest
-}
-
-/// A refusal with the word of the token at its place.
-fn refused_at(alloc: Global, tokens: &Tokens, fault: Fault) -> FrontFault
-    ensures { RefusesWith (checked_refusal (plain_tokens tokens.now) (plain_fault fault)) result }
-{
-    let rest = from_place(fault.place, tokens.list.as_slice());
-    let word = refused_word(alloc, tokens.names.as_slice(), rest);
-    refused(fault.code, fault.place, word)
-}
-
-/// The same, of a text that has tokens. They are read again, since its tree took their names.
+/// The refusal of a text that has tokens, with the word of the token at its place. They are read again, since its tree took their
+/// names.
 fn refused_in(alloc: Global, text: &[u8], fault: Fault) -> FrontFault
     requires { length text.now < 4294967295 }
     ensures { OfTokens text.now (λ ts. RefusesWith (checked_refusal ts (plain_fault fault)) result) }
 {
     match tokens(alloc, text) {
-        Ok(tokens) => refused_at(alloc, &tokens, fault),
+        Ok(tokens) => refused_at_place(alloc, &tokens, fault.code, fault.place),
         Err(fault) => fault,
     }
 }

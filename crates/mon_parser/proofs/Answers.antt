@@ -8,13 +8,15 @@ use Rattle.c_syntax.specs.declared.token.Token.{Token}
 use Rattle.c_syntax.specs.Tokens.{PlainToken, PlainTokens, plain_token}
 use Rattle.c_syntax.specs.declared.refusal.FrontFault.{FrontFault}
 use Rattle.c_syntax.specs.declared.refusal.FrontFault.TheVariants as front
+use Rattle.c_model.specs.TokenWords.{syntax_refusal}
 use Rattle.mon_syntax.specs.Parsed.{ParsedProgram}
 use Rattle.mon_syntax.specs.Grammar.{Vocabulary, head_kind, first_function, text}
-use Rattle.mon_syntax.specs.Spelled.{vocabulary, IsRead, grammar_refusal}
+use Rattle.mon_syntax.specs.Spelled.{vocabulary, IsRead}
 use Rattle.c_syntax.specs.declared.fault.ReadFault.{ReadFault}
 use Rattle.c_syntax.specs.declared.fault.ReadFault.TheVariants as fault
-use Rattle.mon_parser.specs.Reading.{plain_list, label, Fails}
-use Rattle.mon_parser.specs.Answers.{Refuses, RefusesWith, RefusesFault}
+use Rattle.token_reader.specs.Reading.{plain_list, label, Fails}
+use Rattle.mon_parser.specs.Answers.{Refuses}
+use Rattle.token_reader.specs.Answers.{RefusesWith, RefusesFault}
 use Rattle.mon_syntax.proofs.ExactTexts.{text_exact}
 
 pub one : (ws : Vocabulary) → AtMostOne (text ws)
@@ -43,11 +45,11 @@ module _ (ts : PlainTokens) where
   not_read : (r : Result (ParsedProgram × List PlainToken) Fault) → parsed ≡ r → ((p : ParsedProgram) → r ≡ Ok (p, []) → ⊥) → (p : ParsedProgram) → IsRead ts p → ⊥
   not_read r e h p a = h p (sym e ∙ accepted_is p a)
 
-  grammar_refused : (f : Fault) → Refused (text (vocabulary ts)) ts.list f → ((p : ParsedProgram) → IsRead ts p → ⊥) → (e : FrontFault) → RefusesWith (grammar_refusal ts f) e → Refuses e ts
+  grammar_refused : (f : Fault) → Refused (text (vocabulary ts)) ts.list f → ((p : ParsedProgram) → IsRead ts p → ⊥) → (e : FrontFault) → RefusesWith (syntax_refusal ts f) e → Refuses e ts
   grammar_refused f h n front.Memory g = tt
   grammar_refused f h n (front.Refused x) g = record { fault = f; refused = h; unread = n; is = g }
 
-  fault_given : (f : Fault) → parsed ≡ Err f → (e : FrontFault) → RefusesWith (grammar_refusal ts f) e → Refuses e ts
+  fault_given : (f : Fault) → parsed ≡ Err f → (e : FrontFault) → RefusesWith (syntax_refusal ts f) e → Refuses e ts
   fault_given f k = grammar_refused f (refused (text (vocabulary ts)) false (head_kind ∷ []) (λ _. first_function) (text_exact (vocabulary ts)) ts.list f k) (not_read (Err f) k (λ p q. cc))
 
   -- a fault was given

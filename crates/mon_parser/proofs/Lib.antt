@@ -1,4 +1,5 @@
+-- what a production gives, step by step
 pub mod Rows
 pub mod Steps
-pub mod Refusals
+-- from what is given to what an answer means
 pub mod Answers

@@ -1,16 +1,20 @@
 -- What a production gives, step by step.
-use Rattle.std.proofs.Common.{◌≡◌, ℕ, zero, suc, ◌-◌, ◌<◌, Bool, true, false, List, [], ◌∷◌, ◌++◌, length, length-append, Result, Ok, Err, refl, ap, subst, arith}
+use Rattle.std.proofs.Common.{◌≡◌, ℕ, zero, suc, ◌-◌, ◌<◌, Bool, true, false, List, [], ◌∷◌, ◌++◌, length, length-append, Ok, Err, refl, ap, subst, arith}
 use Rattle.std.proofs.lemmas.List.{length-map}
-use Rattle.grammar.specs.Syntax.{Syntax, Fault, At, Over, sees}
+use Rattle.grammar.specs.Syntax.{Syntax, At, Over, sees}
 use Rattle.grammar.proofs.Productions.{turn, turn_fails, turn_ends}
 use Rattle.c_syntax.specs.declared.token.Token.{Token}
 use Rattle.c_syntax.specs.Tokens.{PlainToken, plain_token}
+use Rattle.c_model.specs.Punctuators.{left_paren, comma}
+use Rattle.c_model.specs.Terminals.{expression_limit, nesting_limit}
 use Rattle.mon_syntax.specs.Parsed.{ParsedArgument, ParsedStatement, ParsedRegister, ParsedFunction}
-use Rattle.mon_syntax.specs.Grammar.{Vocabulary, LoopRead, left_paren, comma, type_kind, mark_kind, kind, first_statement, first_function, expression_limit, nesting_limit, mark, opened, behind_paren, behind_opened, next_argument, one_more}
+use Rattle.mon_syntax.specs.Grammar.{Vocabulary, LoopRead, type_kind, mark_kind, kind, first_statement, first_function, mark, opened, behind_paren, behind_opened, next_argument, one_more}
 use Rattle.mon_syntax.specs.Grammar.{one_more_in_loop, statement_with, statement_in, register, next_parameter, one_more_function}
 use Rattle.c_syntax.specs.declared.fault.ReadFault.{ReadFault}
 use Rattle.c_syntax.specs.declared.fault.ReadFault.TheVariants as fault
-use Rattle.mon_parser.specs.Reading.{plain_list, label, Fails, more_arguments, more_statements, more_in_loop, more_registers, more_parameters, more_functions}
+use Rattle.mon_parser.specs.Reading.{more_arguments, more_statements, more_in_loop, more_registers, more_parameters, more_functions}
+use Rattle.token_reader.specs.Reading.{plain_list, Fails}
+use Rattle.token_reader.proofs.Faults.{again}
 use Rattle.mon_syntax.proofs.ExactTokens.{IsRead}
 use Rattle.mon_syntax.proofs.ExactExpressions.{next_argument_good}
 use Rattle.mon_syntax.proofs.ExactStatements.{one_more_good, one_more_in_loop_good, statement_good}
@@ -73,11 +77,6 @@ shorter ws G g ts rest x e =
     omega (arith, length-map ts plain_token, length-map rest plain_token)
 
 -- ---- a turn of a repetition: one more, a fault, and none
-
-again : {Y : Type 0} {r s : Result Y Fault} (e : ReadFault) → ((d : Fault) → r ≡ Err d → s ≡ Err d) → Fails e r → Fails e s
-again (fault.At n) f h = f (At n) h
-again (fault.Over limit n) f h = f (Over (label limit) n) h
-again fault.Memory f h = tt
 
 module _ (ws : Vocabulary) where
   pub arguments_turn : (x y : List ParsedArgument) (ts rest : List PlainToken) → sees (kind ws) (mark_kind comma ∷ []) ts ≡ true → (next_argument ws x).parse ts ≡ Ok (y, rest) → (more_arguments ws x).parse ts ≡ (more_arguments ws y).parse rest

@@ -1,4 +1,3 @@
 pub mod ParsedTrees
 pub mod Reading
-pub mod Words
 pub mod Answers

@@ -1,47 +1,21 @@
--- Ours: how the code of a production compares with its grammar (mon_syntax/specs/Grammar).
--- What a function returned is what the production gives, unless memory ran out.
-use Rattle.std.specs.Prelude.{◌≡◌, ℕ, ◌-◌, ℤ, neg_ℤ, Bool, List, [], ◌∷◌, ◌++◌, map, Option, option_map, Result, Ok, Err, if◌then◌else◌}
-use Rattle.grammar.specs.Syntax.{Syntax, gives, one, ◌then◌, many, Fault, At, Over}
+-- Ours: productions of monitored C (mon_syntax/specs/Grammar), cut as the code reads them.
+use Rattle.std.specs.Prelude.{ℕ, ◌-◌, ℤ, neg_ℤ, Bool, List, [], ◌∷◌, ◌++◌, map, Option, option_map, if◌then◌else◌}
+use Rattle.grammar.specs.Syntax.{Syntax, gives, one, ◌then◌, many}
 use Rattle.c_syntax.specs.declared.place.Place.{Place}
-use Rattle.c_syntax.specs.declared.token.Token.{Token}
-use Rattle.c_syntax.specs.Tokens.{PlainToken, plain_token}
+use Rattle.c_syntax.specs.Tokens.{PlainToken}
+use Rattle.c_model.specs.Punctuators.{comma, colon, semicolon, left_paren, right_paren, left_brace, right_brace}
+use Rattle.c_model.specs.Terminals.{placed}
 use Rattle.mon_syntax.specs.declared.tree.MonType.{MonType}
 use Rattle.mon_syntax.specs.declared.tree.MonOp.{MonOp}
 use Rattle.mon_syntax.specs.Parsed.{NameUse, ParsedExpression, Constant, Binary, Cast, ParsedArgument, Value, Text, ParsedStatement, Call, If, Labelled}
 use Rattle.mon_syntax.specs.Parsed.{ParsedStatements, ParsedRegister, ParsedFunction}
-use Rattle.mon_syntax.specs.Grammar.{Vocabulary, InBody, LoopRead, nothing_read, parsed_list, type_kind, else_kind, mark_kind, comma, colon, semicolon}
-use Rattle.mon_syntax.specs.Grammar.{left_paren, right_paren, left_brace, right_brace, kind, first_statement, first_function, expression_limit, nesting_limit}
-use Rattle.mon_syntax.specs.Grammar.{fixed, mark, placed, number_of, text_of, is_one, name, signed_number, plain_operand, second_operand, expression}
+use Rattle.mon_syntax.specs.Grammar.{Vocabulary, InBody, LoopRead, nothing_read, parsed_list, type_kind, else_kind, mark_kind}
+use Rattle.mon_syntax.specs.Grammar.{kind, first_statement, first_function}
+use Rattle.mon_syntax.specs.Grammar.{fixed, mark, number_of, text_of, is_one, name, signed_number, plain_operand, second_operand, expression}
 use Rattle.mon_syntax.specs.Grammar.{next_argument, call_of, ended, behind_name, one_more, body, one_more_in_loop, loop_end, statement_in, most_nested}
 use Rattle.mon_syntax.specs.Grammar.{register, parameter, next_parameter, parameters, function_body, one_more_function}
 use Rattle.mon_parser.specs.declared.statement.LoopRead as code_loop
-use Rattle.c_syntax.specs.declared.fault.Limit.{Limit}
-use Rattle.c_syntax.specs.declared.fault.Limit.TheVariants as limits
-use Rattle.c_syntax.specs.declared.fault.ReadFault.{ReadFault}
-use Rattle.c_syntax.specs.declared.fault.ReadFault.TheVariants as fault
 use Rattle.mon_parser.specs.ParsedTrees.{plain_stmt}
-
-abbrev pub plain_list : List Token → List PlainToken
-plain_list ts = map plain_token ts
-
-abbrev pub label : Limit → ℕ
-label limits.Expression = expression_limit
-label limits.Nesting = nesting_limit
-
-abbrev pub Fails : {Y : Type 0} → ReadFault → Result Y Fault → Type 0
-Fails (fault.At n) read = read ≡ Err (At n)
-Fails (fault.Over limit n) read = read ≡ Err (Over (label limit) n)
-Fails fault.Memory read = Unit {0}
-
-abbrev pub Gives : {X Y : Type 0} → (X → Y) → Result X ReadFault → Result Y Fault → Type 0
-Gives view (Ok x) read = read ≡ Ok (view x)
-Gives view (Err e) read = Fails e read
-
--- a fault of the tokens: a call that takes no memory is never out of it
-abbrev pub TakesNoMemory : ReadFault → Type 0
-TakesNoMemory (fault.At n) = Unit {0}
-TakesNoMemory (fault.Over limit n) = Unit {0}
-TakesNoMemory fault.Memory = ⊥
 
 abbrev pub plain_loop : code_loop.LoopRead → LoopRead
 plain_loop x = record { before = map plain_stmt x.before.items; behind = option_map (λ v. map plain_stmt v.items) x.behind }

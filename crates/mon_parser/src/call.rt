@@ -3,7 +3,8 @@
 ghost use Rattle.std.specs.Prelude.{◌≡◌, map, IfOk};
 ghost use Rattle.mon_syntax.specs.Grammar.{argument, next_argument, some_arguments, arguments, call_of};
 ghost use Rattle.mon_parser.specs.ParsedTrees.{plain_name, plain_arg, plain_call};
-ghost use Rattle.mon_parser.specs.Reading.{Gives, plain_list, more_arguments, text_argument, value_argument};
+ghost use Rattle.mon_parser.specs.Reading.{more_arguments, text_argument, value_argument};
+ghost use Rattle.token_reader.specs.Reading.{Gives, plain_list};
 
 use crate::expression::expression;
 use crate::kinds::{COMMA, LEFT_PAREN, NUMBER, RIGHT_PAREN, TEXT};

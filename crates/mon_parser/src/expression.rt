@@ -4,16 +4,19 @@ ghost use Rattle.std.specs.Prelude.{◌≡◌, IfErr};
 ghost use Rattle.mon_syntax.specs.Grammar.{signed_number, opened, constant, plain_operand, second_operand, negation, complement, cast, behind_two};
 ghost use Rattle.mon_syntax.specs.Grammar.{behind_opened, other_expression, expression_in, expression, expression_but_name};
 ghost use Rattle.mon_parser.specs.ParsedTrees.{plain_literal, plain_expr};
-ghost use Rattle.mon_parser.specs.Reading.{Gives, TakesNoMemory, plain_list, unsigned_number, closed, right_operand, constant_value, cast_operand};
+ghost use Rattle.mon_parser.specs.Reading.{unsigned_number, closed, right_operand, constant_value, cast_operand};
+ghost use Rattle.token_reader.specs.Reading.{Gives, TakesNoMemory, plain_list};
 ghost use Rattle.mon_parser.specs.Reading.{plain_operation};
 
 use crate::kinds::{CONSTANT, LEFT_PAREN, MINUS, NAME, RIGHT_PAREN, TILDE, TYPE};
 use crate::parsed::{Literal, ParsedExpr, ParsedExprKind};
-use crate::terminals::{constant_word, left, name, next_is, number, operator, skip, type_name};
+use crate::tables::OPERATORS;
+use crate::terminals::{constant_word, name, next_is, number, skip, type_name};
 use c_syntax::fault::{Limit, ReadFault};
 use c_syntax::{Place, Token};
 use mon_syntax::{MonOp, MonType, Word};
 use std::alloc::Global;
+use token_reader::terminals::{left, marked};
 
 /// How many parentheses may be open at once in an expression.
 const MOST_OPEN_PARENS: u32 = 2000;
@@ -166,7 +169,7 @@ fn second_operand<'a>(
     ensures { Gives (λ x. (plain_expr x.0, plain_list x.1.now)) result ((second_operand words.now (expression_in words.now room) (plain_expr left)).parse
         (plain_list tokens.now)) }
 {
-    let (op, place, rest) = operator(tokens)?;
+    let (op, place, rest) = marked(OPERATORS, tokens)?;
     right_operand(alloc, words, room, left, place, op, rest)
 }
 

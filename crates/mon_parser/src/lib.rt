@@ -3,16 +3,23 @@
 //! A function for each production of the grammar reads the tokens.
 #![tactic(auto)]
 
-mod call;
-mod expression;
-mod kinds;
+// The tree.
 pub mod parsed;
-mod program;
-mod read;
-mod refusal;
-mod statement;
+
+// What single tokens stand for.
+mod kinds;
+mod tables;
 mod terminals;
 pub mod vocabulary;
+
+// What stands in a function.
+mod call;
+mod expression;
+mod statement;
+
+// Functions and whole texts.
+mod program;
+mod read;
 
 pub use kinds::word_at;
 pub use parsed::{
@@ -20,4 +27,3 @@ pub use parsed::{
     ParsedRegister, ParsedStmt, ParsedStmtKind,
 };
 pub use read::{one_reading, read_tokens};
-pub use refusal::{refused, refused_word};

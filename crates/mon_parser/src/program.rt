@@ -5,7 +5,8 @@ ghost use Rattle.mon_syntax.specs.Grammar.{parsed_list, register, parameter, nex
 ghost use Rattle.mon_syntax.specs.Grammar.{one_more_function, text};
 ghost use Rattle.mon_syntax.specs.Grammar as form;
 ghost use Rattle.mon_parser.specs.ParsedTrees.{plain_name, plain_stmt, plain_register, plain_func, plain_program};
-ghost use Rattle.mon_parser.specs.Reading.{Gives, TakesNoMemory, plain_list, more_registers, more_parameters, more_functions, named_register, register_end};
+ghost use Rattle.mon_parser.specs.Reading.{more_registers, more_parameters, more_functions, named_register, register_end};
+ghost use Rattle.token_reader.specs.Reading.{Gives, TakesNoMemory, plain_list};
 ghost use Rattle.mon_parser.specs.Reading.{one_more_parameter, function_rest, function_statements};
 
 use crate::kinds::{

@@ -10,12 +10,12 @@ ghost use Rattle.mon_parser.specs.Answers.{Refuses};
 
 use crate::parsed::ParsedProgram;
 use crate::program::text;
-use crate::refusal::refuse;
-use crate::terminals::left;
 use crate::vocabulary::vocabulary;
 use c_syntax::fault::ReadFault;
 use c_syntax::{FrontFault, Tokens};
 use std::alloc::Global;
+use token_reader::refusal::refuse;
+use token_reader::terminals::left;
 
 /// The tree of the tokens of a monitored text, or their refusal: with code 4 at the first token that can't follow those
 /// before it, and with code 11 at a parenthesis or a statement that passes its limit.

@@ -6,7 +6,8 @@ ghost use Rattle.mon_syntax.specs.Grammar.{is_step_word, is_step, has_step, with
 ghost use Rattle.mon_syntax.specs.Grammar.{one_more, body, selection, one_more_in_loop, loop_end, iteration, labelled, jump, returned, return_statement};
 ghost use Rattle.mon_syntax.specs.Grammar.{statement_in};
 ghost use Rattle.mon_parser.specs.ParsedTrees.{plain_name, plain_expr, plain_stmt};
-ghost use Rattle.mon_parser.specs.Reading.{Gives, TakesNoMemory, plain_list, plain_loop, more_statements, more_in_loop, call_statement, named_statement};
+ghost use Rattle.mon_parser.specs.Reading.{plain_loop, more_statements, more_in_loop, call_statement, named_statement};
+ghost use Rattle.token_reader.specs.Reading.{Gives, TakesNoMemory, plain_list};
 ghost use Rattle.mon_parser.specs.Reading.{condition, branches, second_branch, forever, loop_body, label_behind, label_end};
 
 use crate::call::call_of;
@@ -16,13 +17,12 @@ use crate::kinds::{
     SEMICOLON, WHILE, word_at,
 };
 use crate::parsed::{NameUse, ParsedExpr, ParsedExprKind, ParsedStmt, ParsedStmtKind};
-use crate::terminals::{
-    left, name, next_begins_expression, next_begins_statement, next_is, one, skip,
-};
+use crate::terminals::{name, next_begins_expression, next_begins_statement, next_is, one, skip};
 use c_syntax::fault::{Limit, ReadFault};
 use c_syntax::{Place, Token};
 use mon_syntax::{Runtime, Word};
 use std::alloc::{AllocError, AllocFailed, Global};
+use token_reader::terminals::left;
 
 /// The statements of a loop that are read so far: those before its step, and those after it where it is read.
 #[derive(Drop)]
@@ -48,7 +48,13 @@ fn is_step(words: &[Word], statement: &ParsedStmt) -> bool
         ParsedStmtKind::Call(call) => {
             is_step_word(word_at(words, call.callee.number)) && call.arguments.is_empty()
         }
-        _ => false,
+        ParsedStmtKind::Set(_, _, _)
+        | ParsedStmtKind::Take(_, _, _)
+        | ParsedStmtKind::If(_, _, _)
+        | ParsedStmtKind::Loop(_, _)
+        | ParsedStmtKind::Labelled(_, _)
+        | ParsedStmtKind::Goto(_)
+        | ParsedStmtKind::Return(_, _) => false,
     }
 }
 

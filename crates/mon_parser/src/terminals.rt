@@ -1,29 +1,23 @@
 //! Single tokens, and tests of the next one.
 
-ghost use Rattle.std.specs.Prelude.{◌≡◌, length, [], ◌∷◌, IfErr};
+ghost use Rattle.std.specs.Prelude.{◌≡◌, [], ◌∷◌, IfErr};
 ghost use Rattle.grammar.specs.Syntax.{sees, one};
 ghost use Rattle.c_syntax.specs.Tokens.{plain_token_kind};
-ghost use Rattle.mon_syntax.specs.Grammar.{kind, first_expression, first_argument, first_statement, first_function, fixed, placed, name, number_of, text_of};
-ghost use Rattle.mon_syntax.specs.Grammar.{type_of, constant_of, operator_of, operator_mark, is_one, is_head, type_of_word, constant_of_word};
+ghost use Rattle.c_model.specs.Terminals.{placed};
+ghost use Rattle.mon_syntax.specs.Grammar.{kind, first_expression, first_argument, first_statement, first_function, fixed, name, number_of, text_of};
+ghost use Rattle.mon_syntax.specs.Grammar.{type_of, constant_of, is_one, is_head, type_of_word, constant_of_word};
 ghost use Rattle.mon_parser.specs.ParsedTrees.{plain_name};
-ghost use Rattle.mon_parser.specs.Reading.{Gives, TakesNoMemory, plain_list};
+ghost use Rattle.token_reader.specs.Reading.{Gives, TakesNoMemory, plain_list};
 
 use crate::kinds::{
     CONSTANT, GOTO, HEAD, IF, LEFT_BRACE, LEFT_PAREN, NAME, NUMBER, RETURN, TEXT, TYPE, VOID,
     WHILE, kind, word_at, word_kind,
 };
 use crate::parsed::NameUse;
-use c_model::punctuator;
 use c_syntax::fault::ReadFault;
 use c_syntax::{Name, Place, Token, TokenKind};
-use mon_syntax::{MonOp, MonType, Word};
-
-/// How many tokens are left.
-pub fn left(tokens: &[Token]) -> usize
-    ensures { result ≡ length (plain_list tokens.now) }
-{
-    tokens.len()
-}
+use mon_syntax::{MonType, Word};
+use token_reader::terminals::left;
 
 pub fn next_is(words: &[Word], wanted: u32, tokens: &[Token]) -> bool
     ensures { result ≡ sees (kind words.now) (wanted ∷ []) (plain_list tokens.now) }
@@ -221,53 +215,6 @@ pub fn constant_word<'a>(
         [] => Err(ReadFault::At(0)),
         [token, rest @ ..] => match constant_of(words, &token.kind) {
             Some(t) => Ok((t, token.place, rest)),
-            None => Err(ReadFault::At(left(tokens))),
-        },
-    }
-}
-
-fn operator_mark(mark: u8) -> Option<MonOp>
-    ensures { result ≡ operator_mark mark }
-{
-    match mark {
-        punctuator::PLUS => Some(MonOp::Add),
-        punctuator::MINUS => Some(MonOp::Sub),
-        punctuator::TIMES => Some(MonOp::Mul),
-        punctuator::DIVIDE => Some(MonOp::Div),
-        punctuator::PERCENT => Some(MonOp::Rem),
-        punctuator::SHIFT_LEFT => Some(MonOp::Shl),
-        punctuator::SHIFT_RIGHT => Some(MonOp::Shr),
-        punctuator::AMPERSAND => Some(MonOp::And),
-        punctuator::BAR => Some(MonOp::Or),
-        punctuator::CARET => Some(MonOp::Xor),
-        punctuator::EQUAL => Some(MonOp::Eq),
-        punctuator::NOT_EQUAL => Some(MonOp::Ne),
-        punctuator::LESS => Some(MonOp::Lt),
-        punctuator::LESS_EQUAL => Some(MonOp::Le),
-        punctuator::GREATER => Some(MonOp::Gt),
-        punctuator::GREATER_EQUAL => Some(MonOp::Ge),
-        _ => None,
-    }
-}
-
-fn operator_of(kind: &TokenKind) -> Option<MonOp>
-    ensures { result ≡ operator_of (plain_token_kind kind.now) }
-{
-    match kind {
-        TokenKind::Mark(mark) => operator_mark(*mark),
-        _ => None,
-    }
-}
-
-/// An operator of two operands.
-pub fn operator(tokens: &[Token]) -> Result<(MonOp, Place, &[Token]), ReadFault>
-    ensures read { Gives (λ x. ((x.0, x.1), plain_list x.2.now)) result ((one (placed operator_of)).parse (plain_list tokens.now)) }
-    ensures sure { IfErr result TakesNoMemory }
-{
-    match tokens {
-        [] => Err(ReadFault::At(0)),
-        [token, rest @ ..] => match operator_of(&token.kind) {
-            Some(op) => Ok((op, token.place, rest)),
             None => Err(ReadFault::At(left(tokens))),
         },
     }

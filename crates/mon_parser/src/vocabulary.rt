@@ -1,27 +1,14 @@
 //! What the names of a text are.
 
 ghost use Rattle.std.specs.Prelude.{◌≡◌, map, IfOk};
-ghost use Rattle.mon_syntax.specs.Words.{type_words, constant_words, keywords, runtime_words, found_in, word_of};
-ghost use Rattle.mon_parser.specs.Words.{plain_words};
+ghost use Rattle.c_model.specs.Terminals.{found_in};
+ghost use Rattle.mon_syntax.specs.Words.{type_words, constant_words, keywords, runtime_words, word_of};
 
 use c_syntax::Name;
 use mon_syntax::MonType::{I8, I16, I32, I64, I128, Ptr, U8, U16, U32, U64};
 use mon_syntax::{Runtime, Word};
 use std::alloc::{AllocError, Global};
-
-/// The word of these bytes, and another where the table has none.
-fn found_in(table: &[(&[u8], Word)], bytes: &[u8], other: Word) -> Word
-    ensures { result ≡ found_in (plain_words table.now) bytes.now other }
-{
-    let mut rest = table;
-    'turn: while let [entry, after @ ..] = rest {
-        if entry.0 == bytes {
-            return entry.1;
-        }
-        rest = after;
-    }
-    other
-}
+use token_reader::words::found_in;
 
 fn type_word(bytes: &[u8], other: Word) -> Word
     ensures { result ≡ found_in type_words bytes.now other }

@@ -14,7 +14,7 @@ use Rattle.mon_syntax.specs.Grammar.{Vocabulary}
 use Rattle.mon_syntax.specs.Checking.{Fault, Checked, checked_program}
 use Rattle.mon_syntax.specs.Spelled.{vocabulary, IsRead, checked, check_refusal, no_main, main_refusal, Spells, IsMonitoredRefusal, ByGrammar, ByNamesAndTypes, ForMain}
 use Rattle.mon_parser.specs.Answers as parser
-use Rattle.mon_parser.specs.Answers.{RefusesWith}
+use Rattle.token_reader.specs.Answers.{RefusesWith}
 use Rattle.mon_typing.specs.declared.fault.CheckFault.{CheckFault}
 use Rattle.mon_typing.specs.declared.fault.CheckFault.TheVariants.{BadName, BadType, Memory}
 use Rattle.mon_typing.specs.Answers.{Fails}

@@ -7,11 +7,12 @@ use Rattle.grammar.proofs.OneAnswer.{one_fault}
 use Rattle.c_syntax.specs.Tokens.{PlainTokens}
 use Rattle.c_syntax.specs.Programs.{PlainRefusal}
 use Rattle.c_model.specs.MonitoredTokens.{monitored_tokens}
+use Rattle.c_model.specs.TokenWords.{syntax_refusal}
 use Rattle.mon_syntax.specs.Trees.{MonitoredProgram}
 use Rattle.mon_syntax.specs.Parsed.{ParsedProgram}
 use Rattle.mon_syntax.specs.Grammar.{text}
 use Rattle.mon_syntax.specs.Checking.{Checked}
-use Rattle.mon_syntax.specs.Spelled.{vocabulary, IsRead, grammar_refusal, checked, check_refusal, main_refusal, Spells, IsMonitoredRefusal, ByTokens, ByGrammar, ByNamesAndTypes, ForMain}
+use Rattle.mon_syntax.specs.Spelled.{vocabulary, IsRead, checked, check_refusal, main_refusal, Spells, IsMonitoredRefusal, ByTokens, ByGrammar, ByNamesAndTypes, ForMain}
 use Rattle.mon_syntax.proofs.ExactTexts.{text_exact}
 use Rattle.mon_parser.proofs.Answers.{one}
 
@@ -40,7 +41,7 @@ record IsUnread (source : List ℕ) (a : Answer) : Type 0 where
   fault : grammar.Fault
   refused : Refused (text (vocabulary tokens)) tokens.list fault
   unread : (p : ParsedProgram) → IsRead tokens p → ⊥
-  is : a ≡ Err (grammar_refusal tokens fault)
+  is : a ≡ Err (syntax_refusal tokens fault)
 
 -- they are a reading
 record HasTree (source : List ℕ) (a : Answer) : Type 0 where
@@ -74,7 +75,7 @@ both_unread source a b x y =
     let same = one_tokens source y.tokens x.tokens y.has x.has in
     let moved = subst (λ (ts : PlainTokens). Refused (text (vocabulary ts)) ts.list y.fault) same y.refused in
     let fault = one_grammar_fault x.tokens x.fault y.fault x.refused moved in
-    x.is ∙ (λ i. Err (grammar_refusal (sym same i) (fault i))) ∙ sym y.is
+    x.is ∙ (λ i. Err (syntax_refusal (sym same i) (fault i))) ∙ sym y.is
 
 unread_apart : (source : List ℕ) (a b : Answer) → IsUnread source a → HasTree source b → ⊥
 unread_apart source a b x y = x.unread y.tree (subst (λ (ts : PlainTokens). IsRead ts y.tree) (one_tokens source y.tokens x.tokens y.has x.has) y.read)

@@ -7,10 +7,12 @@ use Rattle.grammar.proofs.Readings.{EachWithin, within_any, within_more, within_
 use Rattle.c_syntax.specs.declared.place.Place.{Place}
 use Rattle.c_syntax.specs.Tokens as token
 use Rattle.c_syntax.specs.Tokens.{PlainTokenKind, PlainToken}
+use Rattle.c_model.specs.Punctuators.{right_paren, minus, tilde, comma, left_paren}
+use Rattle.c_model.specs.Terminals.{expression_limit, placed}
 use Rattle.mon_syntax.specs.Parsed.{NameUse, ParsedExpression, ParsedArgument, ParsedCall}
-use Rattle.mon_syntax.specs.Grammar.{right_paren, constant_of, signed_number, name, operator_of, type_of, number_of}
-use Rattle.mon_syntax.specs.Grammar.{Vocabulary, minus, tilde, comma, left_paren, name_kind, type_kind, constant_kind, number_kind, text_kind, mark_kind, kind, first_argument}
-use Rattle.mon_syntax.specs.Grammar.{expression_limit, placed, text_of, mark, constant, other_expression, expression_with, second_operand, negation, complement, cast, behind_two, plain_operand}
+use Rattle.mon_syntax.specs.Grammar.{constant_of, signed_number, name, operator_of, type_of, number_of}
+use Rattle.mon_syntax.specs.Grammar.{Vocabulary, name_kind, type_kind, constant_kind, number_kind, text_kind, mark_kind, kind, first_argument}
+use Rattle.mon_syntax.specs.Grammar.{text_of, mark, constant, other_expression, expression_with, second_operand, negation, complement, cast, behind_two, plain_operand}
 use Rattle.mon_syntax.specs.Grammar.{behind_paren, opened, behind_opened, expression_in, expression, expression_but_name, argument, next_argument, some_arguments, arguments, call_of, has_no_argument}
 use Rattle.mon_syntax.proofs.ExactTokens.{fixed_good}
 use Rattle.mon_typing.specs.Within.{open_parens, HasFewParens, IsArgumentWithin}

@@ -6,9 +6,11 @@ use Rattle.grammar.proofs.Readings.{within_more, within_none, within_gives, with
 use Rattle.c_syntax.specs.declared.place.Place.{Place}
 use Rattle.c_syntax.specs.Tokens as token
 use Rattle.c_syntax.specs.Tokens.{PlainTokenKind, PlainToken}
+use Rattle.c_model.specs.Punctuators.{semicolon, right_brace, right_paren, colon, assign, left_paren, left_brace}
+use Rattle.c_model.specs.Terminals.{placed, nesting_limit}
 use Rattle.mon_syntax.specs.Parsed.{NameUse, ParsedCall, ParsedStatement, Call, ParsedStatements}
-use Rattle.mon_syntax.specs.Grammar.{semicolon, right_brace, right_paren, colon, return_kind, else_kind, fixed, mark, is_one}
-use Rattle.mon_syntax.specs.Grammar.{Vocabulary, assign, left_paren, left_brace, name_kind, if_kind, while_kind, goto_kind, mark_kind, word_kind, word_at, kind, placed, first_expression, first_statement, nesting_limit}
+use Rattle.mon_syntax.specs.Grammar.{return_kind, else_kind, fixed, mark, is_one}
+use Rattle.mon_syntax.specs.Grammar.{Vocabulary, name_kind, if_kind, while_kind, goto_kind, mark_kind, word_kind, word_at, kind, first_expression, first_statement}
 use Rattle.mon_syntax.specs.Grammar.{parsed_list, LoopRead, nothing_read, has_step, with_statement, is_step, is_step_word, has_no_argument, name_of, name, InBody, ended, set_to_call, set_to_name, set_to}
 use Rattle.mon_syntax.specs.Grammar.{behind_name, one_more, statements, body, selection, one_more_in_loop, loop_end, iteration, labelled, jump, returned, return_statement, statement_with, statement_in}
 use Rattle.mon_syntax.proofs.ExactExpressions.{none_good}

@@ -7,12 +7,14 @@ use Rattle.grammar.proofs.Readings.{within_gives, within_then, within_choice, wi
 use Rattle.c_syntax.specs.Tokens.{PlainTokens}
 use Rattle.c_model.specs.MonitoredTokens.{monitored_tokens}
 use Rattle.c_syntax.specs.declared.refusal.FrontFault.{FrontFault}
+use Rattle.c_model.specs.Punctuators.{semicolon, left_paren, right_paren, left_brace, right_brace, comma}
+use Rattle.c_model.specs.Terminals.{placed}
 use Rattle.mon_syntax.specs.declared.tree.MonType.{MonType}
 use Rattle.mon_syntax.specs.declared.tree.MonProgram.{MonProgram}
 use Rattle.mon_syntax.specs.Trees.{MonitoredProgram, plain_program}
 use Rattle.mon_syntax.specs.Parsed.{NameUse, ParsedRegister, ParsedFunction, ParsedProgram}
-use Rattle.mon_syntax.specs.Grammar.{semicolon, left_paren, right_paren, left_brace, right_brace, placed, type_of, result, fixed, mark, is_head}
-use Rattle.mon_syntax.specs.Grammar.{Vocabulary, comma, type_kind, void_kind, mark_kind, kind, first_function, register, registers}
+use Rattle.mon_syntax.specs.Grammar.{type_of, result, fixed, mark, is_head}
+use Rattle.mon_syntax.specs.Grammar.{Vocabulary, type_kind, void_kind, mark_kind, kind, first_function, register, registers}
 use Rattle.mon_syntax.specs.Grammar.{parameter, next_parameter, some_parameters, parameters, function_body, function, one_more_function, text}
 use Rattle.mon_syntax.specs.Valid.{IsValid}
 use Rattle.mon_syntax.specs.Spelled.{vocabulary, IsRead, Spells}

@@ -10,7 +10,7 @@ use Rattle.mon_syntax.specs.Trees.{MonitoredProgram}
 use Rattle.mon_syntax.specs.Parsed.{ParsedProgram}
 use Rattle.mon_syntax.specs.Checking.{Fault}
 use Rattle.mon_syntax.specs.Spelled.{checked, check_refusal, main_refusal, IsMonitoredRefusal}
-use Rattle.mon_parser.specs.Answers.{RefusesWith}
+use Rattle.token_reader.specs.Answers.{RefusesWith}
 use Rattle.mon_typing.specs.declared.fault.CheckFault.{CheckFault}
 use Rattle.mon_typing.specs.declared.fault.CheckFault.TheVariants.{BadName, BadType, Memory}
 

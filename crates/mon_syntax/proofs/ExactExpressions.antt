@@ -5,10 +5,12 @@ use Rattle.grammar.proofs.Parts.{none_exact, widen}
 use Rattle.grammar.proofs.Productions.{seq, either, again_and_again, declared, given, same, too_deep}
 use Rattle.c_syntax.specs.declared.place.Place.{Place}
 use Rattle.c_syntax.specs.Tokens.{PlainToken}
+use Rattle.c_model.specs.Punctuators.{minus, tilde, comma, left_paren, right_paren}
+use Rattle.c_model.specs.Terminals.{expression_limit}
 use Rattle.mon_syntax.specs.Parsed.{NameUse, ParsedExpression, ParsedArgument}
-use Rattle.mon_syntax.specs.Grammar.{Vocabulary, minus, tilde, comma, left_paren, right_paren, name_kind, type_kind, constant_kind, number_kind, text_kind, mark_kind, kind, first_operator, first_expression, first_argument, mark, name, signed_number}
+use Rattle.mon_syntax.specs.Grammar.{Vocabulary, name_kind, type_kind, constant_kind, number_kind, text_kind, mark_kind, kind, first_operator, first_expression, first_argument, mark, name, signed_number}
 use Rattle.mon_syntax.specs.Grammar.{constant, other_expression, expression_with, second_operand, negation, complement, cast, behind_two, plain_operand, behind_paren, opened, behind_opened, expression_in, expression, expression_but_name, argument}
-use Rattle.mon_syntax.specs.Grammar.{next_argument, some_arguments, arguments, call_of, expression_limit}
+use Rattle.mon_syntax.specs.Grammar.{next_argument, some_arguments, arguments, call_of}
 use Rattle.mon_syntax.proofs.ExactTokens.{IsRead, fixed_good, name_good, number_good, text_good, type_good, constant_word_good, operator_good}
 
 -- what begins a parenthesis

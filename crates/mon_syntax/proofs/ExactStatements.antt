@@ -7,10 +7,12 @@ use Rattle.grammar.proofs.Productions.{seq, either, again_and_again, declared, g
 use Rattle.c_syntax.specs.declared.place.Place.{Place}
 use Rattle.c_syntax.specs.Tokens as tokens
 use Rattle.c_syntax.specs.Tokens.{PlainTokenKind, PlainToken}
+use Rattle.c_model.specs.Punctuators.{assign, colon, semicolon, left_paren, right_paren, left_brace, right_brace}
+use Rattle.c_model.specs.Terminals.{placed, nesting_limit}
 use Rattle.mon_syntax.specs.Parsed.{NameUse, ParsedStatement, Loop}
-use Rattle.mon_syntax.specs.Grammar.{Vocabulary, assign, colon, semicolon, left_paren, right_paren, left_brace, right_brace, name_kind, if_kind, else_kind, while_kind, goto_kind, return_kind, mark_kind, word_at, kind, placed, first_expression}
+use Rattle.mon_syntax.specs.Grammar.{Vocabulary, name_kind, if_kind, else_kind, while_kind, goto_kind, return_kind, mark_kind, word_at, kind, first_expression}
 use Rattle.mon_syntax.specs.Grammar.{first_statement, parsed_list, LoopRead, has_step, behind_step, is_step_word, fixed, mark, name_of, name, InBody, ended, set_to_call, set_to_name, set_to, behind_name, one_more, statements, body, selection}
-use Rattle.mon_syntax.specs.Grammar.{one_more_in_loop, loop_end, iteration, labelled, jump, returned, return_statement, statement_with, statement_in, nesting_limit}
+use Rattle.mon_syntax.specs.Grammar.{one_more_in_loop, loop_end, iteration, labelled, jump, returned, return_statement, statement_with, statement_in}
 use Rattle.mon_syntax.proofs.ExactTokens.{IsRead, fixed_good, one_good}
 use Rattle.mon_syntax.proofs.ExactExpressions.{paren, none_good, named_good, expression_good, but_name_good, call_good}
 

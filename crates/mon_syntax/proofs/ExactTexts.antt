@@ -2,9 +2,10 @@
 use Rattle.std.proofs.Common.{true, false, List, [], ◌∷◌, Option, refl}
 use Rattle.grammar.specs.Exact.{IsExact}
 use Rattle.grammar.proofs.Productions.{seq, either, again_and_again, declared, given}
+use Rattle.c_model.specs.Punctuators.{comma, semicolon, left_paren, right_paren, left_brace, right_brace}
 use Rattle.mon_syntax.specs.declared.tree.MonType.{MonType}
 use Rattle.mon_syntax.specs.Parsed.{NameUse, ParsedRegister, ParsedFunction}
-use Rattle.mon_syntax.specs.Grammar.{Vocabulary, comma, semicolon, left_paren, right_paren, left_brace, right_brace, type_kind, void_kind, head_kind, mark_kind, kind, first_function, register, registers, result, parameter, next_parameter}
+use Rattle.mon_syntax.specs.Grammar.{Vocabulary, type_kind, void_kind, head_kind, mark_kind, kind, first_function, register, registers, result, parameter, next_parameter}
 use Rattle.mon_syntax.specs.Grammar.{some_parameters, parameters, function_body, function, one_more_function, text}
 use Rattle.mon_syntax.proofs.ExactTokens.{IsRead, fixed_good, type_good, head_good}
 use Rattle.mon_syntax.proofs.ExactExpressions.{named_good}

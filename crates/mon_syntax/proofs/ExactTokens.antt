@@ -1,25 +1,40 @@
 -- Single tokens are read exactly.
 use Rattle.std.proofs.Common.{◌≡◌, ℕ, Bool, true, false, cond, eqb, List, [], ◌∷◌, Option, Some, None, refl}
-use Rattle.std.specs.Prelude.{ℤ, ◌&&◌, if◌then◌else◌}
-use Rattle.std.proofs.lemmas.Bool.{eqb-true}
+use Rattle.std.specs.Prelude.{ℤ, ◌&&◌}
+use Rattle.std.proofs.lemmas.Bool.{eqb-true, eq-eqb}
 use Rattle.grammar.specs.Syntax.{Syntax, among, one}
 use Rattle.grammar.specs.Exact.{IsGood}
 use Rattle.grammar.proofs.Productions.{token}
 use Rattle.c_syntax.specs.declared.place.Place.{Place}
 use Rattle.c_syntax.specs.Tokens as tokens
 use Rattle.c_syntax.specs.Tokens.{PlainTokenKind, PlainToken}
+use Rattle.c_model.specs.Terminals.{entry, placed}
 use Rattle.mon_syntax.specs.declared.tree.MonType.{MonType}
 use Rattle.mon_syntax.specs.declared.tree.MonOp.{MonOp}
-use Rattle.mon_syntax.specs.declared.tree.MonOp.TheVariants.{Add, Sub, Mul, Div, Rem, Shl, Shr, And, Or, Xor, Eq, Ne, Lt, Le, Gt, Ge}
 use Rattle.mon_syntax.specs.declared.word.Word.{Word}
 use Rattle.mon_syntax.specs.declared.word.Word.TheVariants as word
-use Rattle.mon_syntax.specs.Grammar.{Vocabulary, shift_left, shift_right, less_equal, greater_equal, equal, not_equal, plus, minus, times, divide, percent, less, greater, ampersand, bar, caret, name_kind, type_kind, constant_kind, number_kind}
-use Rattle.mon_syntax.specs.Grammar.{text_kind, head_kind, mark_kind, word_kind, word_at, token_kind, kind, placed, number_of, text_of, type_of_word, type_of, constant_of_word, constant_of, operator_of, first_operator, fixed, name_of, is_one}
-use Rattle.mon_syntax.specs.Grammar.{is_head}
+use Rattle.mon_syntax.specs.Grammar.{Vocabulary, name_kind, type_kind, constant_kind, number_kind, text_kind, head_kind, mark_kind, word_kind, word_at, token_kind, kind, number_of, text_of, type_of_word, type_of, constant_of_word}
+use Rattle.mon_syntax.specs.Grammar.{constant_of, operators, operator_of, kinds_of, first_operator, fixed, name_of, is_one, is_head}
 
 -- a production is read exactly, with these sets: where it can be empty, what begins it, and what a reading can go on with
 abbrev pub IsRead : {A : Type 0} → Vocabulary → Syntax PlainToken A → Bool → List ℕ → List ℕ → Type 0
 IsRead ws G null first more = IsGood (kind ws) 0 G G null first (λ _. more)
+
+among_rest : (n m : ℕ) (xs : List ℕ) → among n xs ≡ true → among n (m ∷ xs) ≡ true
+among_rest n m xs h = tested (eqb n m)
+  where
+    tested : (b : Bool) → cond b true (among n xs) ≡ true
+    tested true = refl
+    tested false = h
+
+-- an entry of a table is the punctuator of one of its kinds
+entry_among : {A : Type 0} (m : ℕ) (table : List (ℕ × A)) (x : A) → entry m table ≡ Some x → among (mark_kind m) (kinds_of table) ≡ true
+entry_among m [] x e = absurd cc
+entry_among {A} m (y ∷ ys) x e = tested (eqb m y.0) refl (entry_among m ys x) e
+  where
+    tested : (b : Bool) → eqb m y.0 ≡ b → (entry m ys ≡ Some x → among (mark_kind m) (kinds_of ys) ≡ true) → cond b (Some y.1) (entry m ys) ≡ Some x → among (mark_kind m) (mark_kind y.0 ∷ kinds_of ys) ≡ true
+    tested true is go h = rw (eqb-true m y.0 is, eq-eqb (mark_kind y.0) (mark_kind y.0) refl) refl
+    tested false is go h = among_rest (mark_kind m) (mark_kind y.0) (kinds_of ys) (go h)
 
 module _ (ws : Vocabulary) where
   fixed_among : (k : ℕ) (t : PlainToken) (p : Place) → cond (eqb (kind ws t) k) (Some t.place) None ≡ Some p → among (kind ws t) (k ∷ []) ≡ true
@@ -106,22 +121,9 @@ module _ (ws : Vocabulary) where
       head_among : (t : PlainToken) (x : Unit {0}) → is_head ws t ≡ Some x → among (kind ws t) (head_kind ∷ []) ≡ true
       head_among t x e = tested t (eqb (kind ws t) head_kind) (eqb t.place.line 1) x e
 
-  -- one mark of the operators' list
-  operator_step : (m k : ℕ) (op : MonOp) (rest : Option MonOp) {x : MonOp} → among (mark_kind k) first_operator ≡ true → (rest ≡ Some x → among (mark_kind m) first_operator ≡ true) → (if eqb m k then Some op else rest) ≡ Some x
-      → among (mark_kind m) first_operator ≡ true
-  operator_step m k op rest {x} h go e = tested (eqb m k) refl e
-    where
-      tested : (b : Bool) → eqb m k ≡ b → (if b then Some op else rest) ≡ Some x → among (mark_kind m) first_operator ≡ true
-      tested true is e = rw (eqb-true m k is) h
-      tested false is e = go e
-
   operator_among : (t : PlainTokenKind) (op : MonOp) → operator_of t ≡ Some op → among (token_kind ws t) first_operator ≡ true
-  operator_among (tokens.Mark m) op =
-      operator_step m plus Add _ refl (operator_step m minus Sub _ refl (operator_step m times Mul _ refl (operator_step m divide Div _ refl
-      (operator_step m percent Rem _ refl (operator_step m shift_left Shl _ refl (operator_step m shift_right Shr _ refl (operator_step m ampersand And _ refl
-      (operator_step m bar Or _ refl (operator_step m caret Xor _ refl (operator_step m equal Eq _ refl (operator_step m not_equal Ne _ refl
-      (operator_step m less Lt _ refl (operator_step m less_equal Le _ refl (operator_step m greater Gt _ refl (operator_step m greater_equal Ge _ refl (λ e. absurd cc))))))))))))))))
-  operator_among _ op = λ e. absurd cc
+  operator_among (tokens.Mark m) op e = entry_among m operators op e
+  operator_among _ op e = absurd cc
 
   pub operator_good : IsRead ws (one (placed operator_of)) false first_operator []
   operator_good = placed_good operator_of first_operator operator_among

@@ -12,6 +12,7 @@ use Rattle.c_syntax.specs.Tokens.{PlainToken}
 use Rattle.c_model.specs.Names.{name_number}
 use Rattle.c_model.specs.MonitoredTokens as made
 use Rattle.c_model.specs.Reports.{kind_word}
+use Rattle.c_model.specs.Punctuators.{semicolon, left_paren, right_paren}
 use Rattle.mon_syntax.specs.declared.tree.MonType.{MonType}
 use Rattle.mon_syntax.specs.declared.tree.MonType.TheVariants.{I32}
 use Rattle.mon_syntax.specs.declared.tree.MemoryCall.{MemoryCall}
@@ -28,7 +29,7 @@ use Rattle.mon_syntax.specs.Valid as valid
 use Rattle.mon_syntax.specs.Valid.{Types, IsExpression, AreArguments, Signature, greatest_number, memory_parameters}
 use Rattle.mon_syntax.specs.Parsed as parsed
 use Rattle.mon_syntax.specs.Parsed.{NameUse, ParsedExpression, ParsedArgument, ParsedCall}
-use Rattle.mon_syntax.specs.Grammar.{Vocabulary, semicolon, left_paren, right_paren, kind, first_argument, is_step_word, has_no_argument, arguments, call_of}
+use Rattle.mon_syntax.specs.Grammar.{Vocabulary, kind, first_argument, is_step_word, has_no_argument, arguments, call_of}
 use Rattle.mon_syntax.specs.Checking.{Scope, Header, scope_of, find_function, checked_expression, kind_named, small_number, bytes_of, value_of_type, one_value, arguments_of, runtime_call, call_of_word}
 use Rattle.mon_syntax.proofs.PrintedPieces.{AreTokens}
 use Rattle.mon_syntax.proofs.PrintedForms.{Pieces, argument_is, arguments_are, assert_is}

@@ -7,8 +7,9 @@ use Rattle.c_syntax.specs.declared.place.Place.{Place}
 use Rattle.c_syntax.specs.Tokens as token
 use Rattle.c_syntax.specs.Tokens.{PlainToken}
 use Rattle.c_model.specs.MonitoredTokens as made
+use Rattle.c_model.specs.Punctuators.{colon, semicolon, left_paren, right_paren, left_brace, right_brace}
 use Rattle.mon_syntax.specs.Parsed.{ParsedExpression, ParsedStatement, If, Loop, Labelled, Goto, Return}
-use Rattle.mon_syntax.specs.Grammar.{Vocabulary, InBody, LoopRead, nothing_read, is_step, parsed_list, colon, semicolon, left_paren, right_paren, left_brace, right_brace, name_kind, if_kind, else_kind, while_kind, goto_kind, return_kind, mark_kind}
+use Rattle.mon_syntax.specs.Grammar.{Vocabulary, InBody, LoopRead, nothing_read, is_step, parsed_list, name_kind, if_kind, else_kind, while_kind, goto_kind, return_kind, mark_kind}
 use Rattle.mon_syntax.specs.Grammar.{word_kind, word_at, kind, is_one, first_expression, first_statement, expression_in, expression, one_more, statements, body, selection, one_more_in_loop, loop_end, iteration, labelled, jump, returned}
 use Rattle.mon_syntax.specs.Grammar.{return_statement, statement_with, statement_in}
 use Rattle.mon_syntax.proofs.ExactStatements.{one_more_good, one_more_in_loop_good, statement_good}

@@ -6,8 +6,9 @@ use Rattle.c_syntax.specs.declared.place.Place.{Place}
 use Rattle.c_syntax.specs.Tokens as token
 use Rattle.c_syntax.specs.Tokens.{PlainToken}
 use Rattle.c_model.specs.MonitoredTokens as made
+use Rattle.c_model.specs.Punctuators.{assign, semicolon, comma, left_paren, right_paren}
 use Rattle.mon_syntax.specs.Parsed.{NameUse, ParsedExpression, Name, ParsedArgument, Value, Number, Text, ParsedCall, ParsedStatement, Set, Take, Call}
-use Rattle.mon_syntax.specs.Grammar.{Vocabulary, InBody, is_step_word, assign, semicolon, comma, left_paren, right_paren, name_kind, number_kind, text_kind, mark_kind, word_kind, word_at, kind, number_of, text_of, first_argument, expression_in}
+use Rattle.mon_syntax.specs.Grammar.{Vocabulary, InBody, is_step_word, name_kind, number_kind, text_kind, mark_kind, word_kind, word_at, kind, number_of, text_of, first_argument, expression_in}
 use Rattle.mon_syntax.specs.Grammar.{expression, expression_but_name, opened, behind_opened, other_expression, argument, next_argument, some_arguments, arguments, call_of, ended, set_to_call, set_to_name, set_to, behind_name, statement_with}
 use Rattle.mon_syntax.proofs.ExactExpressions.{next_argument_good}
 use Rattle.mon_syntax.proofs.PrintedSteps.{mark_read, placed_read, name_read, sees_mark, sees_word}

@@ -6,6 +6,7 @@ use Rattle.c_syntax.specs.Tokens as token
 use Rattle.c_syntax.specs.Tokens.{PlainToken}
 use Rattle.c_model.specs.Names.{name_number}
 use Rattle.c_model.specs.MonitoredTokens as made
+use Rattle.c_model.specs.Punctuators.{minus, tilde, left_paren, right_paren}
 use Rattle.mon_syntax.specs.declared.tree.MonType.{MonType}
 use Rattle.mon_syntax.specs.declared.tree.MonType.TheVariants.{I8, U8, I16, U16, I32, U32, I64, U64, I128, Ptr}
 use Rattle.mon_syntax.specs.declared.tree.MonOp.{MonOp}
@@ -18,7 +19,7 @@ use Rattle.mon_syntax.specs.Text.{Registers, name_of, number_pieces, expression_
 use Rattle.mon_syntax.specs.Valid.{Types, is_arithmetic, is_whole, result_type, HasType, open_parens}
 use Rattle.mon_syntax.specs.Parsed as parsed
 use Rattle.mon_syntax.specs.Parsed.{ParsedExpression}
-use Rattle.mon_syntax.specs.Grammar.{Vocabulary, minus, tilde, left_paren, right_paren, name_kind, type_kind, constant_kind, mark_kind, word_kind, word_at, kind, number_of, type_of_word, type_of, constant_of_word, constant_of, operator_of}
+use Rattle.mon_syntax.specs.Grammar.{Vocabulary, name_kind, type_kind, constant_kind, mark_kind, word_kind, word_at, kind, number_of, type_of_word, type_of, constant_of_word, constant_of, operator_of}
 use Rattle.mon_syntax.specs.Grammar.{signed_number, constant, other_expression, expression_with, second_operand, negation, complement, cast, behind_two, plain_operand, behind_paren, opened, behind_opened, expression_in}
 use Rattle.mon_syntax.specs.Checking.{Header, same_type, find_register, scope_of, checked_expression}
 use Rattle.mon_syntax.proofs.PrintedPieces.{punctuator, AreTokens}

@@ -10,6 +10,7 @@ use Rattle.c_syntax.specs.Tokens as token
 use Rattle.c_syntax.specs.Tokens.{PlainToken}
 use Rattle.c_model.specs.Names.{name_number}
 use Rattle.c_model.specs.MonitoredTokens as made
+use Rattle.c_model.specs.Punctuators.{left_paren, right_paren, left_brace, right_brace}
 use Rattle.mon_syntax.specs.declared.tree.MonType.{MonType}
 use Rattle.mon_syntax.specs.declared.word.Word.{Word}
 use Rattle.mon_syntax.specs.declared.word.Word.TheVariants as word
@@ -20,7 +21,7 @@ use Rattle.mon_syntax.specs.Text.{Registers, FunctionNames, function_name, state
 use Rattle.mon_syntax.specs.Valid.{has_label, Signature, depth_of_all, types_of, signature_of, IsFunction, AreFunctions}
 use Rattle.mon_syntax.specs.Parsed.{ParsedStatement, ParsedRegister, ParsedFunction}
 use Rattle.mon_syntax.specs.Grammar as form
-use Rattle.mon_syntax.specs.Grammar.{Vocabulary, left_paren, right_paren, left_brace, right_brace, name_kind, type_kind, void_kind, mark_kind, word_kind, word_at, kind, type_of_word, type_of, first_function, first_statement, parsed_list, registers}
+use Rattle.mon_syntax.specs.Grammar.{Vocabulary, name_kind, type_kind, void_kind, mark_kind, word_kind, word_at, kind, type_of_word, type_of, first_function, first_statement, parsed_list, registers}
 use Rattle.mon_syntax.specs.Grammar.{parameters, function_body, function}
 use Rattle.mon_syntax.specs.Checking.{Header, find_function, scope_of, checked_registers, named_register, checked_statements, kinds_of, word_bytes, function_of, result_of, checked_function}
 use Rattle.mon_syntax.proofs.PrintedPieces.{AreTokens, is_same}

@@ -23,9 +23,9 @@ use Rattle.c_model.specs.MonitoredTokens.{inside, build, nothing_read, monitored
 use Rattle.c_model.specs.MonitoredTokenLaws.{Stops, with_names}
 use Rattle.c_model.proofs.Spelling.{and_true, front_is, digit_in}
 use Rattle.c_model.proofs.NameLaws.{number_points}
+use Rattle.c_model.specs.Punctuators.{shift_left, shift_right, less_equal, greater_equal, equal, not_equal, plus, minus, times, divide, percent, less, greater, assign, tilde, ampersand, bar, caret, colon, semicolon, comma, left_paren, right_paren}
+use Rattle.c_model.specs.Punctuators.{left_brace, right_brace}
 use Rattle.mon_syntax.specs.Names.{begins_name}
-use Rattle.mon_syntax.specs.Grammar.{shift_left, shift_right, less_equal, greater_equal, equal, not_equal, plus, minus, times, divide, percent, less, greater, assign, tilde, ampersand, bar, caret, colon, semicolon, comma, left_paren, right_paren}
-use Rattle.mon_syntax.specs.Grammar.{left_brace, right_brace}
 use Rattle.mon_syntax.specs.Text as text
 use Rattle.mon_syntax.specs.Text.{escaped, quoted, spelled_piece, spelled, new_line}
 

@@ -11,6 +11,7 @@ use Rattle.c_syntax.specs.Tokens as token
 use Rattle.c_syntax.specs.Tokens.{PlainToken}
 use Rattle.c_model.specs.Names.{name_number}
 use Rattle.c_model.specs.MonitoredTokens as made
+use Rattle.c_model.specs.Punctuators.{comma, semicolon, right_paren}
 use Rattle.mon_syntax.specs.declared.tree.MonType.{MonType}
 use Rattle.mon_syntax.specs.declared.word.Word.TheVariants as word
 use Rattle.mon_syntax.specs.Words.{word_of}
@@ -19,7 +20,7 @@ use Rattle.mon_syntax.specs.Text as text
 use Rattle.mon_syntax.specs.Text.{Registers, name_of, registers_pieces, parameters_pieces}
 use Rattle.mon_syntax.specs.Valid.{has_label, AreRegisters, types_of}
 use Rattle.mon_syntax.specs.Parsed.{ParsedRegister}
-use Rattle.mon_syntax.specs.Grammar.{Vocabulary, comma, semicolon, right_paren, name_kind, type_kind, void_kind, mark_kind, word_kind, word_at, kind, type_of_word, type_of, register, registers, parameter, next_parameter, some_parameters, parameters}
+use Rattle.mon_syntax.specs.Grammar.{Vocabulary, name_kind, type_kind, void_kind, mark_kind, word_kind, word_at, kind, type_of_word, type_of, register, registers, parameter, next_parameter, some_parameters, parameters}
 use Rattle.mon_syntax.specs.Checking.{find_register, checked_registers, named_register, kinds_of, word_bytes}
 use Rattle.mon_syntax.proofs.ExactTexts.{register_good, next_parameter_good}
 use Rattle.mon_syntax.proofs.PrintedPieces.{AreTokens, is_same}

@@ -8,6 +8,7 @@ use Rattle.c_syntax.specs.Tokens as token
 use Rattle.c_syntax.specs.Tokens.{PlainToken}
 use Rattle.c_model.specs.Names.{name_number}
 use Rattle.c_model.specs.MonitoredTokens as made
+use Rattle.c_model.specs.Punctuators.{assign, semicolon}
 use Rattle.mon_syntax.specs.declared.tree.MonType.{MonType}
 use Rattle.mon_syntax.specs.declared.word.Word.{Word}
 use Rattle.mon_syntax.specs.declared.word.Word.TheVariants as word
@@ -20,7 +21,7 @@ use Rattle.mon_syntax.specs.Valid.{Types, IsExpression, TakesValue, Labels, has_
 use Rattle.mon_syntax.specs.Parsed as parsed
 use Rattle.mon_syntax.specs.Parsed.{NameUse, ParsedExpression, ParsedCall, ParsedStatement}
 use Rattle.mon_syntax.specs.Grammar as form
-use Rattle.mon_syntax.specs.Grammar.{Vocabulary, assign, semicolon, name_kind, goto_kind, return_kind, word_kind, kind, first_statement, is_step_word, has_no_argument, behind_name, statement_with, statement_in}
+use Rattle.mon_syntax.specs.Grammar.{Vocabulary, name_kind, goto_kind, return_kind, word_kind, kind, first_statement, is_step_word, has_no_argument, behind_name, statement_with, statement_in}
 use Rattle.mon_syntax.specs.Checking.{Scope, Header, scope_of, checked_expression, checked_call, returned, call_of_word, value_type, with_target, taken, checked_statement, labels_in}
 use Rattle.mon_syntax.proofs.PrintedPieces.{AreTokens}
 use Rattle.mon_syntax.proofs.PrintedForms.{Pieces, ended_is}

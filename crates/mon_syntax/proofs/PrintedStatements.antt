@@ -9,6 +9,7 @@ use Rattle.c_syntax.specs.Tokens as token
 use Rattle.c_syntax.specs.Tokens.{PlainToken}
 use Rattle.c_model.specs.Names.{name_number}
 use Rattle.c_model.specs.MonitoredTokens as made
+use Rattle.c_model.specs.Punctuators.{left_brace, right_brace}
 use Rattle.mon_syntax.specs.declared.tree.MonType.{MonType}
 use Rattle.mon_syntax.specs.declared.tree.MonType.TheVariants.{I32, I64, U64}
 use Rattle.mon_syntax.specs.declared.tree.MemoryCall.{MemoryCall}
@@ -27,7 +28,7 @@ use Rattle.mon_syntax.specs.Valid.{Types, IsExpression, Signature, IsCall, Label
 use Rattle.mon_syntax.specs.Parsed as parsed
 use Rattle.mon_syntax.specs.Parsed.{NameUse, ParsedArgument, ParsedExpression, ParsedStatement, ParsedStatements}
 use Rattle.mon_syntax.specs.Grammar as form
-use Rattle.mon_syntax.specs.Grammar.{Vocabulary, left_brace, right_brace, if_kind, else_kind, while_kind, word_kind, word_at, kind, first_statement, parsed_list, statement_with, statement_in}
+use Rattle.mon_syntax.specs.Grammar.{Vocabulary, if_kind, else_kind, while_kind, word_kind, word_at, kind, first_statement, parsed_list, statement_with, statement_in}
 use Rattle.mon_syntax.specs.Checking.{Scope, Header, scope_of, find_function, bytes_of, checked_expression, checked_statement, checked_statements, labels_in, labels_in_all, runtime_call, one_value, result_of}
 use Rattle.mon_syntax.proofs.PrintedPieces.{AreTokens, is_same}
 use Rattle.mon_syntax.proofs.PrintedForms.{Pieces, if_is, loop_is, labelled_is, body_is, then_is}

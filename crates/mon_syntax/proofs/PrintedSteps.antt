@@ -7,6 +7,8 @@ use Rattle.c_syntax.specs.Tokens as token
 use Rattle.c_syntax.specs.Tokens.{PlainTokenKind, PlainToken}
 use Rattle.c_model.specs.MonitoredTokens as made
 use Rattle.c_model.proofs.Spelling.{and_true}
+use Rattle.c_model.specs.Terminals.{entry, found_in, placed}
+use Rattle.c_model.specs.Punctuators.{left_paren}
 use Rattle.mon_syntax.specs.declared.tree.MonType.{MonType}
 use Rattle.mon_syntax.specs.declared.tree.MonType.TheVariants.{I8, U8, I16, U16, I32, U32, I64, U64, I128, Ptr}
 use Rattle.mon_syntax.specs.declared.tree.MonOp.{MonOp}
@@ -14,9 +16,9 @@ use Rattle.mon_syntax.specs.declared.tree.MonOp.TheVariants.{Add, Sub, Mul, Div,
 use Rattle.mon_syntax.specs.declared.word.Word.{Word}
 use Rattle.mon_syntax.specs.declared.word.Word.TheVariants as word
 use Rattle.mon_syntax.specs.Names.{type_word, constant_word, reserved_words, is_reserved, IsFreeName}
-use Rattle.mon_syntax.specs.Words.{Words, type_words, constant_words, keywords, runtime_words, found_in, word_of}
+use Rattle.mon_syntax.specs.Words.{Words, type_words, constant_words, keywords, runtime_words, word_of}
 use Rattle.mon_syntax.specs.Text as text
-use Rattle.mon_syntax.specs.Grammar.{Vocabulary, left_paren, name_kind, mark_kind, word_kind, word_at, kind, placed, operator_mark, fixed, mark, name_of, name, opened}
+use Rattle.mon_syntax.specs.Grammar.{Vocabulary, name_kind, mark_kind, word_kind, word_at, kind, operators, fixed, mark, name_of, name, opened}
 use Rattle.mon_syntax.proofs.PrintedPieces.{punctuator}
 use Rattle.mon_syntax.proofs.PrintedAlone.{same_bytes}
 
@@ -48,7 +50,7 @@ constant_word_is U64 = refl
 constant_word_is I128 = refl
 constant_word_is Ptr = refl
 
-pub operator_mark_is : (op : MonOp) → operator_mark (punctuator (text.operator_mark op)) ≡ Some op
+pub operator_mark_is : (op : MonOp) → entry (punctuator (text.operator_mark op)) operators ≡ Some op
 operator_mark_is Add = refl
 operator_mark_is Sub = refl
 operator_mark_is Mul = refl

@@ -22,6 +22,9 @@ use Rattle.grammar.specs.Syntax.{Syntax, none, gives, one, ◌then◌, choice, m
 use Rattle.c_syntax.specs.declared.place.Place.{Place}
 use Rattle.c_syntax.specs.Tokens as token
 use Rattle.c_syntax.specs.Tokens.{PlainTokenKind, PlainToken}
+use Rattle.c_model.specs.Punctuators.{shift_left, shift_right, less_equal, greater_equal, equal, not_equal, plus, minus, times, divide, percent, less, greater}
+use Rattle.c_model.specs.Punctuators.{assign, tilde, ampersand, bar, caret, colon, semicolon, comma, left_paren, right_paren, left_brace, right_brace}
+use Rattle.c_model.specs.Terminals.{expression_limit, nesting_limit, placed, mark_entry}
 use Rattle.mon_syntax.specs.declared.tree.MonType.{MonType}
 use Rattle.mon_syntax.specs.declared.tree.MonOp.{MonOp}
 use Rattle.mon_syntax.specs.declared.tree.MonOp.TheVariants.{Add, Sub, Mul, Div, Rem, Shl, Shr, And, Or, Xor, Eq, Ne, Lt, Le, Gt, Ge}
@@ -33,82 +36,6 @@ use Rattle.mon_syntax.specs.Parsed.{ParsedStatement, Set, Take, Call, If, Loop, 
 use Rattle.mon_syntax.specs.Parsed.{ParsedFunction, ParsedProgram}
 
 -- ---- tokens
-
--- the punctuators that stand in a form, by their places in the list of all
-abbrev pub shift_left : ℕ
-shift_left = 5
-
-abbrev pub shift_right : ℕ
-shift_right = 6
-
-abbrev pub less_equal : ℕ
-less_equal = 7
-
-abbrev pub greater_equal : ℕ
-greater_equal = 8
-
-abbrev pub equal : ℕ
-equal = 9
-
-abbrev pub not_equal : ℕ
-not_equal = 10
-
-abbrev pub plus : ℕ
-plus = 21
-
-abbrev pub minus : ℕ
-minus = 22
-
-abbrev pub times : ℕ
-times = 23
-
-abbrev pub divide : ℕ
-divide = 24
-
-abbrev pub percent : ℕ
-percent = 25
-
-abbrev pub less : ℕ
-less = 26
-
-abbrev pub greater : ℕ
-greater = 27
-
-abbrev pub assign : ℕ
-assign = 28
-
-abbrev pub tilde : ℕ
-tilde = 30
-
-abbrev pub ampersand : ℕ
-ampersand = 31
-
-abbrev pub bar : ℕ
-bar = 32
-
-abbrev pub caret : ℕ
-caret = 33
-
-abbrev pub colon : ℕ
-colon = 35
-
-abbrev pub semicolon : ℕ
-semicolon = 36
-
-abbrev pub comma : ℕ
-comma = 37
-
-abbrev pub left_paren : ℕ
-left_paren = 39
-
-abbrev pub right_paren : ℕ
-right_paren = 40
-
-abbrev pub left_brace : ℕ
-left_brace = 43
-
-abbrev pub right_brace : ℕ
-right_brace = 44
 
 -- kinds of tokens, by which alternatives are told apart; a name of the runtime is a name
 abbrev pub name_kind : ℕ
@@ -190,10 +117,6 @@ token_kind ws token.AnnotClose = foreign_kind
 abbrev pub kind : Vocabulary → PlainToken → ℕ
 kind ws t = token_kind ws t.kind
 
--- a token whose kind has a value, with its place
-abbrev pub placed : {A : Type 0} → (PlainTokenKind → Option A) → PlainToken → Option (A × Place)
-placed f t = elim (f t.kind) [ Some x ↦ Some (x, t.place) | None ↦ None ]
-
 abbrev pub number_of : PlainTokenKind → Option ℤ
 number_of (token.Number z t) = Some z
 number_of _ = None
@@ -223,25 +146,24 @@ abbrev pub constant_of : Vocabulary → PlainTokenKind → Option MonType
 constant_of ws (token.Word n) = constant_of_word (word_at ws n)
 constant_of ws _ = None
 
-abbrev pub operator_mark : ℕ → Option MonOp
-operator_mark m =
-    if eqb m plus then Some Add else (if eqb m minus then Some Sub else (if eqb m times then Some Mul else (if eqb m divide then Some Div
-    else (if eqb m percent then Some Rem else (if eqb m shift_left then Some Shl else (if eqb m shift_right then Some Shr
-    else (if eqb m ampersand then Some And else (if eqb m bar then Some Or else (if eqb m caret then Some Xor
-    else (if eqb m equal then Some Eq else (if eqb m not_equal then Some Ne else (if eqb m less then Some Lt
-    else (if eqb m less_equal then Some Le else (if eqb m greater then Some Gt else (if eqb m greater_equal then Some Ge else None)))))))))))))))
+-- the operators, by their punctuators
+abbrev pub operators : List (ℕ × MonOp)
+operators =
+    (plus, Add) ∷ (minus, Sub) ∷ (times, Mul) ∷ (divide, Div) ∷ (percent, Rem) ∷ (shift_left, Shl) ∷ (shift_right, Shr) ∷ (ampersand, And) ∷ (bar, Or)
+    ∷ (caret, Xor) ∷ (equal, Eq) ∷ (not_equal, Ne) ∷ (less, Lt) ∷ (less_equal, Le) ∷ (greater, Gt) ∷ (greater_equal, Ge) ∷ []
 
 abbrev pub operator_of : PlainTokenKind → Option MonOp
-operator_of (token.Mark m) = operator_mark m
-operator_of _ = None
+operator_of = mark_entry operators
 
 -- ---- what begins what
 
+-- the kinds of the punctuators of a table
+abbrev pub kinds_of : {A : Type 0} → List (ℕ × A) → List ℕ
+kinds_of [] = []
+kinds_of (x ∷ xs) = mark_kind x.0 ∷ kinds_of xs
+
 abbrev pub first_operator : List ℕ
-first_operator =
-    mark_kind plus ∷ mark_kind minus ∷ mark_kind times ∷ mark_kind divide ∷ mark_kind percent ∷ mark_kind shift_left ∷ mark_kind shift_right
-    ∷ mark_kind ampersand ∷ mark_kind bar ∷ mark_kind caret ∷ mark_kind equal ∷ mark_kind not_equal ∷ mark_kind less ∷ mark_kind less_equal
-    ∷ mark_kind greater ∷ mark_kind greater_equal ∷ []
+first_operator = kinds_of operators
 
 abbrev pub first_expression : List ℕ
 first_expression = name_kind ∷ constant_kind ∷ mark_kind left_paren ∷ []
@@ -299,14 +221,6 @@ with_statement ws x a = elim x.behind [
   | None ↦ if is_step ws a then record { before = x.before; behind = Some [] } else record { before = x.before ++ a ∷ []; behind = None }
   | Some b ↦ record { before = x.before; behind = Some (b ++ a ∷ []) }
 ]
-
--- ---- the labels of the limits: parentheses open at once, and the depth of statements
-
-abbrev pub expression_limit : ℕ
-expression_limit = 0
-
-abbrev pub nesting_limit : ℕ
-nesting_limit = 1
 
 module _ (ws : Vocabulary) where
   -- a token of this kind, by its place

@@ -1,73 +1,25 @@
 -- Ours: the phases of a text in monitored C.
 -- Which texts are monitored programs, and which are refused, why: by tokens, by grammar, by names and types, and for want of `main`.
-use Rattle.std.specs.Prelude.{◌≡◌, ℕ, suc, unsigned_abs, List, [], ◌∷◌, length, map, Option, Some, None, Result, Ok, Err, Bool, false, true, ◌&&◌, eqb}
-use Rattle.std.specs.Prelude.{if◌then◌else◌, slice_get, codes, bytes_eq}
-use Rattle.std.specs.Fmt.{decimal}
+use Rattle.std.specs.Prelude.{◌≡◌, ℕ, List, [], ◌∷◌, map, Option, Some, None, Result, Ok, Err, Bool, false, true, ◌&&◌, if◌then◌else◌, codes, bytes_eq}
 use Rattle.grammar.specs.Syntax as grammar
 use Rattle.grammar.specs.Exact.{Accepts, Refused}
-use Rattle.c_syntax.specs.RefusalCodes.{grammar_code, limit_code, main_code}
+use Rattle.c_syntax.specs.RefusalCodes.{main_code}
 use Rattle.c_syntax.specs.declared.place.Place.{Place}
-use Rattle.c_syntax.specs.Tokens as token
-use Rattle.c_syntax.specs.Tokens.{PlainTokenKind, PlainToken, PlainTokens}
+use Rattle.c_syntax.specs.Tokens.{PlainTokens}
 use Rattle.c_syntax.specs.Programs.{PlainRefusal}
 use Rattle.c_model.specs.Places.{first_place}
-use Rattle.c_model.specs.MonitoredTokens.{monitored_tokens, marks, head_line}
+use Rattle.c_model.specs.MonitoredTokens.{monitored_tokens}
+use Rattle.c_model.specs.TokenWords.{refused_at_place, syntax_refusal}
 use Rattle.mon_syntax.specs.declared.tree.MonType.{MonType}
 use Rattle.mon_syntax.specs.declared.tree.MonType.TheVariants.{I32}
 use Rattle.mon_syntax.specs.Trees.{MonitoredProgram}
 use Rattle.mon_syntax.specs.Words.{word_of}
 use Rattle.mon_syntax.specs.Parsed.{ParsedRegister, ParsedProgram}
 use Rattle.mon_syntax.specs.Grammar as form
-use Rattle.mon_syntax.specs.Grammar.{Vocabulary, text, expression_limit}
+use Rattle.mon_syntax.specs.Grammar.{Vocabulary, text}
 use Rattle.mon_syntax.specs.Checking.{Fault, same_type, word_bytes, checked_program}
 
--- ---- words of refusals
-
-abbrev pub or_nothing : Option (List ℕ) → List ℕ
-or_nothing None = []
-or_nothing (Some w) = w
-
--- how a token is named where it is refused
-abbrev pub token_word : List (List ℕ) → PlainTokenKind → List ℕ
-token_word names (token.Word n) = word_bytes names n
-token_word names (token.Number z t) = decimal (unsigned_abs z)
-token_word names (token.Chars bytes) = codes "string"
-token_word names (token.Mark m) = or_nothing (slice_get marks m)
-token_word names (token.Head k n) = head_line
-token_word names (token.Letter v) = codes "character"
-token_word names token.AnnotOpen = codes "annotation"
-token_word names token.AnnotClose = codes "end of annotation"
-
--- the first of tokens, or the end of the text
-abbrev pub place_at : Place → List PlainToken → Place
-place_at end [] = end
-place_at end (t ∷ ts) = t.place
-
-abbrev pub word_at : List (List ℕ) → List PlainToken → List ℕ
-word_at names [] = codes "end of file"
-word_at names (t ∷ ts) = token_word names t.kind
-
--- the tokens from a place on
-abbrev pub from_place : Place → List PlainToken → List PlainToken
-from_place at [] = []
-from_place at (t ∷ ts) = if eqb t.place.offset at.offset then t ∷ ts else from_place at ts
-
-abbrev pub refused_at : PlainTokens → ℕ → List PlainToken → PlainRefusal
-refused_at ts code rest = record { code = code; place = place_at ts.end rest; construct = word_at ts.names rest }
-
--- the last n of tokens
-abbrev pub last : ℕ → List PlainToken → List PlainToken
-last n [] = []
-last n (t ∷ ts) = if eqb n (suc (length ts)) then t ∷ ts else last n ts
-
--- ---- the grammar's refusals: E4, or E11 for a token that passes a limit
-
-abbrev pub limit_word : ℕ → List ℕ
-limit_word limit = if eqb limit expression_limit then codes "expression" else codes "nesting"
-
-abbrev pub grammar_refusal : PlainTokens → grammar.Fault → PlainRefusal
-grammar_refusal ts (grammar.At n) = refused_at ts grammar_code (last n ts.list)
-grammar_refusal ts (grammar.Over limit n) = record { code = limit_code; place = place_at ts.end (last n ts.list); construct = limit_word limit }
+-- ---- the tree of a text
 
 -- what the words of a text are
 abbrev pub vocabulary : PlainTokens → Vocabulary
@@ -80,7 +32,7 @@ IsRead ts p = Accepts (text (vocabulary ts)) ts.list p
 -- ---- E5 and E6, at a token
 
 abbrev pub check_refusal : PlainTokens → Fault → PlainRefusal
-check_refusal ts f = record { code = f.code; place = f.place; construct = word_at ts.names (from_place f.place ts.list) }
+check_refusal ts f = refused_at_place ts f.code f.place
 
 abbrev pub checked : PlainTokens → ParsedProgram → Result MonitoredProgram Fault
 checked ts p = checked_program ts.names (vocabulary ts) p
@@ -120,7 +72,7 @@ pub record Spells (text : List ℕ) (m : MonitoredProgram) : Type 0 where
 pub data IsMonitoredRefusal (text : List ℕ) (r : PlainRefusal) : Type 0 where
   ByTokens : monitored_tokens text ≡ Err r → IsMonitoredRefusal text r
   ByGrammar : (ts : PlainTokens) (f : grammar.Fault) → monitored_tokens text ≡ Ok ts → Refused (form.text (vocabulary ts)) ts.list f
-      → ((p : ParsedProgram) → IsRead ts p → ⊥) → r ≡ grammar_refusal ts f → IsMonitoredRefusal text r
+      → ((p : ParsedProgram) → IsRead ts p → ⊥) → r ≡ syntax_refusal ts f → IsMonitoredRefusal text r
   ByNamesAndTypes : (ts : PlainTokens) (p : ParsedProgram) (f : Fault) → monitored_tokens text ≡ Ok ts → IsRead ts p → checked ts p ≡ Err f
       → r ≡ check_refusal ts f → IsMonitoredRefusal text r
   ForMain : (ts : PlainTokens) (p : ParsedProgram) (m : MonitoredProgram) → monitored_tokens text ≡ Ok ts → IsRead ts p → checked ts p ≡ Ok m

@@ -1,6 +1,7 @@
 -- Ours: the words of monitored C.
 -- What the words of monitored C are.
-use Rattle.std.specs.Prelude.{ℕ, List, [], ◌∷◌, if◌then◌else◌, codes, bytes_eq}
+use Rattle.std.specs.Prelude.{ℕ, List, [], ◌∷◌, codes}
+use Rattle.c_model.specs.Terminals.{found_in}
 use Rattle.mon_syntax.specs.declared.tree.MonType.TheVariants.{I8, U8, I16, U16, I32, U32, I64, U64, I128, Ptr}
 use Rattle.mon_syntax.specs.declared.word.Runtime.TheVariants as runtime
 use Rattle.mon_syntax.specs.declared.word.Word.{Word}
@@ -40,10 +41,6 @@ runtime_words =
     ∷ (codes "__e_acsl_calloc", Runtime runtime.Kept) ∷ (codes "__e_acsl_free", Runtime runtime.Kept)
     ∷ (codes "__e_acsl_initialize", Runtime runtime.Kept) ∷ (codes "__e_acsl_initialize_ptr", Runtime runtime.Kept)
     ∷ (codes "__e_acsl_print_str", Runtime runtime.Kept) ∷ (codes "getchar", Runtime runtime.GetChar) ∷ []
-
-abbrev pub found_in : Words → List ℕ → Word → Word
-found_in [] w other = other
-found_in (x ∷ xs) w other = if bytes_eq x.0 w then x.1 else found_in xs w other
 
 -- what a word is: one of these, or a name
 unfoldable pub word_of : List ℕ → Word

@@ -4,9 +4,10 @@ use Rattle.std.specs.List.{list_any, AllByRecursion}
 use Rattle.std.proofs.lemmas.List.Folds.{list_any-append}
 use Rattle.std.proofs.lemmas.Slice.Eq.{bytes_eq-Decides}
 use Rattle.c_model.specs.MonitoredTokenLaws.{AreDistinct}
+use Rattle.c_model.specs.Terminals.{found_in}
 use Rattle.mon_syntax.specs.declared.word.Word.{Word}
 use Rattle.mon_syntax.specs.declared.word.Word.TheVariants.{Name}
-use Rattle.mon_syntax.specs.Words.{Words, type_words, constant_words, keywords, runtime_words, found_in, word_of}
+use Rattle.mon_syntax.specs.Words.{Words, type_words, constant_words, keywords, runtime_words, word_of}
 use Rattle.mon_syntax.specs.Names.{IsFreeName, is_reserved, reserved_words}
 use Rattle.mon_syntax.specs.Grammar.{word_at}
 use Rattle.mon_syntax.specs.Checking.{is_free, word_bytes}

@@ -1,6 +1,7 @@
 use Rattle.std.proofs.Common.{◌≡◌, ◌≤◌, length, map}
 use Rattle.c_syntax.specs.Expressions.{plain_expr}
-use Rattle.c_expr_parser.specs.Reading.{plain_list, more_arguments}
+use Rattle.c_expr_parser.specs.Reading.{more_arguments}
+use Rattle.token_reader.specs.Reading.{plain_list}
 use Rattle.c_expr_parser.proofs.call.more_arguments.Given as goal
 
 abbrev pub invariant-turn : goal.invariant-turn

@@ -1,6 +1,7 @@
 use Rattle.std.proofs.Common.{◌≡◌, ◌+◌, ◌*◌, ◌≤◌, length}
 use Rattle.c_syntax.specs.Expressions.{plain_expr}
-use Rattle.c_expr_parser.specs.Reading.{plain_list, more_joined}
+use Rattle.c_expr_parser.specs.Reading.{more_joined}
+use Rattle.token_reader.specs.Reading.{plain_list}
 use Rattle.c_expr_parser.proofs.expression.+expression.Given as goal
 
 abbrev pub decreases-cast_rest : goal.decreases-cast_rest

@@ -2,8 +2,8 @@ use Rattle.std.specs.Prelude.{List, ℕ}
 use Rattle.std.proofs.Common.{subst}
 use Rattle.grammar.specs.Syntax.{one}
 use Rattle.c_model.specs.declared.operands.Connective.{Connective}
-use Rattle.c_model.specs.ExpressionGrammar.{placed, mark_entry}
-use Rattle.c_expr_parser.specs.Reading.{Gives, plain_list}
+use Rattle.c_model.specs.Terminals.{placed, mark_entry}
+use Rattle.token_reader.specs.Reading.{Gives, plain_list}
 use Rattle.c_expr_parser.proofs.expression.operator.Goals as goal
 
 -- src/expression.rt

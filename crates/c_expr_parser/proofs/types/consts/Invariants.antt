@@ -1,7 +1,7 @@
 use Rattle.std.proofs.Common.{◌≡◌, ◌≤◌, length}
 use Rattle.c_syntax.specs.Ctypes.{PlainType}
 use Rattle.c_model.specs.ExpressionGrammar.{consts}
-use Rattle.c_expr_parser.specs.Reading.{plain_list}
+use Rattle.token_reader.specs.Reading.{plain_list}
 use Rattle.c_expr_parser.proofs.types.consts.Given as goal
 
 abbrev pub invariant-turn : goal.invariant-turn

@@ -1,5 +1,6 @@
 use Rattle.std.proofs.Common.{◌≡◌, ◌≤◌, length}
-use Rattle.c_expr_parser.specs.Reading.{plain_list, more_words}
+use Rattle.c_expr_parser.specs.Reading.{more_words}
+use Rattle.token_reader.specs.Reading.{plain_list}
 use Rattle.c_expr_parser.proofs.types.more_words.Given as goal
 
 abbrev pub invariant-turn : goal.invariant-turn

@@ -1,6 +1,6 @@
 use Rattle.std.proofs.Common.{◌≡◌, ◌+◌, ◌*◌, ◌≤◌, length}
 use Rattle.c_syntax.specs.Annotations.{plain_term}
-use Rattle.c_expr_parser.specs.Reading.{plain_list}
+use Rattle.token_reader.specs.Reading.{plain_list}
 use Rattle.c_parser.specs.Reading.{more_terms}
 use Rattle.c_parser.proofs.annotation.+term.Given as goal
 

@@ -1,7 +1,7 @@
 use Rattle.std.proofs.Common.{◌≡◌, length, map}
 use Rattle.c_syntax.specs.Ctypes.{plain_type}
 use Rattle.c_syntax.specs.Statements.{plain_decl}
-use Rattle.c_expr_parser.specs.Reading.{plain_list}
+use Rattle.token_reader.specs.Reading.{plain_list}
 use Rattle.c_parser.specs.Reading.{plain_counts, more_declarators}
 use Rattle.c_parser.proofs.declaration.more_declarators.Given as goal
 

@@ -1,6 +1,6 @@
 use Rattle.std.proofs.Common.{◌≡◌, length, map}
 use Rattle.c_syntax.specs.Statements.{plain_decl}
-use Rattle.c_expr_parser.specs.Reading.{plain_list}
+use Rattle.token_reader.specs.Reading.{plain_list}
 use Rattle.c_parser.specs.Reading.{further_parameters}
 use Rattle.c_parser.proofs.parameter.further_parameters.Given as goal
 

@@ -1,5 +1,5 @@
 use Rattle.std.proofs.Common.{◌≡◌, length}
-use Rattle.c_expr_parser.specs.Reading.{plain_list}
+use Rattle.token_reader.specs.Reading.{plain_list}
 use Rattle.c_parser.specs.Reading.{more_storage}
 use Rattle.c_parser.proofs.program.more_storage.Given as goal
 

@@ -1,7 +1,7 @@
 use Rattle.std.proofs.Common.{◌≡◌, ◌+◌, ◌*◌, length, map}
 use Rattle.c_syntax.specs.Statements.{plain_item}
 use Rattle.c_model.specs.ProgramGrammar.{items, statement_in}
-use Rattle.c_expr_parser.specs.Reading.{plain_list}
+use Rattle.token_reader.specs.Reading.{plain_list}
 use Rattle.c_parser.specs.Reading.{plain_counts}
 use Rattle.c_parser.proofs.statement.+statement.Given as goal
 

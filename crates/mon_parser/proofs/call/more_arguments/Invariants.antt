@@ -1,6 +1,7 @@
 use Rattle.std.proofs.Common.{◌≡◌, length, map}
 use Rattle.mon_parser.specs.ParsedTrees.{plain_arg}
-use Rattle.mon_parser.specs.Reading.{plain_list, more_arguments}
+use Rattle.mon_parser.specs.Reading.{more_arguments}
+use Rattle.token_reader.specs.Reading.{plain_list}
 use Rattle.mon_parser.proofs.call.more_arguments.Given as goal
 
 abbrev pub invariant-turn : goal.invariant-turn

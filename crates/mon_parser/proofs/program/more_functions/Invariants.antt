@@ -1,6 +1,7 @@
 use Rattle.std.proofs.Common.{◌≡◌, length, map}
 use Rattle.mon_parser.specs.ParsedTrees.{plain_func}
-use Rattle.mon_parser.specs.Reading.{plain_list, more_functions}
+use Rattle.mon_parser.specs.Reading.{more_functions}
+use Rattle.token_reader.specs.Reading.{plain_list}
 use Rattle.mon_parser.proofs.program.more_functions.Given as goal
 
 abbrev pub invariant-turn : goal.invariant-turn

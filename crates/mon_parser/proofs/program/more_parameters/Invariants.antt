@@ -1,6 +1,7 @@
 use Rattle.std.proofs.Common.{◌≡◌, length, map}
 use Rattle.mon_parser.specs.ParsedTrees.{plain_register}
-use Rattle.mon_parser.specs.Reading.{plain_list, more_parameters}
+use Rattle.mon_parser.specs.Reading.{more_parameters}
+use Rattle.token_reader.specs.Reading.{plain_list}
 use Rattle.mon_parser.proofs.program.more_parameters.Given as goal
 
 abbrev pub invariant-turn : goal.invariant-turn

@@ -1,7 +1,8 @@
 use Rattle.std.proofs.Common.{◌≡◌, ◌+◌, ◌*◌, length, map}
 use Rattle.mon_syntax.specs.Grammar.{statement_in}
 use Rattle.mon_parser.specs.ParsedTrees.{plain_stmt}
-use Rattle.mon_parser.specs.Reading.{plain_list, plain_loop, more_statements, more_in_loop}
+use Rattle.mon_parser.specs.Reading.{plain_loop, more_statements, more_in_loop}
+use Rattle.token_reader.specs.Reading.{plain_list}
 use Rattle.mon_parser.proofs.statement.+statement.Given as goal
 
 abbrev pub decreases-statement : goal.decreases-statement

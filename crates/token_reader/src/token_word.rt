@@ -1,19 +1,15 @@
-//! The refusal of tokens that aren't read.
+//! How tokens are named where they are refused.
 
 ghost use Rattle.std.specs.Prelude.{◌≡◌, map, slice_get, unsigned_abs, IfOk};
 ghost use Rattle.std.specs.Fmt.{decimal};
-ghost use Rattle.c_syntax.specs.Tokens.{plain_token_kind, plain_tokens};
+ghost use Rattle.c_syntax.specs.Tokens.{plain_token_kind};
 ghost use Rattle.c_model.specs.MonitoredTokens.{marks};
 ghost use Rattle.c_model.specs.Pieces.{annotation_marks};
-ghost use Rattle.c_model.specs.TokenWords as form;
-ghost use Rattle.c_model.specs.TokenWords.{or_nothing, mark_word, token_word, word_at, place_at};
-ghost use Rattle.c_model.specs.Phases.{limit_word};
-ghost use Rattle.c_expr_parser.specs.Reading.{label, plain_list};
-ghost use Rattle.c_expr_parser.specs.Answers.{IsGiven, RefusesFault, RefusesWord};
+ghost use Rattle.c_model.specs.TokenWords.{or_nothing, mark_word, token_word, word_at};
+ghost use Rattle.token_reader.specs.Reading.{plain_list};
 
 use c_model::punctuator::{COUNT, SPELLINGS};
-use c_syntax::fault::{Limit, ReadFault};
-use c_syntax::{FrontFault, Name, Place, Refusal, Token, TokenKind, Tokens, code};
+use c_syntax::{Name, Token, TokenKind};
 use std::alloc::{AllocError, Global};
 
 /// The text of this number in the table, or nothing.
@@ -44,7 +40,7 @@ fn annotation_spelling(mark: u8) -> &'static [u8]
 
 /// A punctuator by its number, those of annotations alone after the others.
 #[tactic(auto, unfolding(c_model::specs::MonitoredTokens::marks))]
-pub(crate) fn mark_word(mark: u8) -> &'static [u8]
+fn mark_word(mark: u8) -> &'static [u8]
     ensures { result.now ≡ mark_word mark }
 {
     if mark < COUNT {
@@ -62,7 +58,7 @@ fn decimal(alloc: Global, value: i128) -> Result<Vec<u8>, AllocError>
     Vec::from_slice(alloc, text.as_bytes())
 }
 
-/// How a token is named where it is refused.
+#[tactic(auto, unfolding(c_model::specs::MonitoredTokens::head_line))]
 fn token_word(alloc: Global, names: &[Name], kind: &TokenKind) -> Result<Vec<u8>, AllocError>
     ensures { IfOk result (λ v. v.items ≡ token_word names.now (plain_token_kind kind.now)) }
 {
@@ -77,7 +73,7 @@ fn token_word(alloc: Global, names: &[Name], kind: &TokenKind) -> Result<Vec<u8>
         TokenKind::Mark(mark) => Vec::from_slice(alloc, mark_word(*mark)),
         TokenKind::AnnotOpen => Vec::from_slice(alloc, b"annotation"),
         TokenKind::AnnotClose => Vec::from_slice(alloc, b"end of annotation"),
-        TokenKind::Head(_, _) => Ok(Vec::new(alloc)),
+        TokenKind::Head(_, _) => Vec::from_slice(alloc, b"#include <e_acsl.h>"),
     }
 }
 
@@ -88,71 +84,5 @@ pub fn refused_word(alloc: Global, names: &[Name], tokens: &[Token]) -> Result<V
     match tokens {
         [] => Vec::from_slice(alloc, b"end of file"),
         [token, ..] => token_word(alloc, names, &token.kind),
-    }
-}
-
-fn place_at(end: Place, tokens: &[Token]) -> Place
-    ensures { result ≡ place_at end (plain_list tokens.now) }
-{
-    match tokens {
-        [] => end,
-        [token, ..] => token.place,
-    }
-}
-
-/// The last n tokens; none where there aren't so many.
-#[tactic(auto, using(crate::proofs::Refusals::last_is, crate::proofs::Refusals::last_none))]
-fn last(n: usize, tokens: &[Token]) -> &[Token]
-    ensures { plain_list result.now ≡ form.last n (plain_list tokens.now) }
-{
-    if n <= tokens.len() {
-        let (_, rest) = tokens.split_at(tokens.len() - n);
-        rest
-    } else {
-        &[]
-    }
-}
-
-/// How a limit is named where it is passed.
-fn limit_word(limit: Limit) -> &'static [u8]
-    ensures { result.now ≡ limit_word (label limit) }
-{
-    match limit {
-        Limit::Expression => b"expression",
-        Limit::Nesting => b"nesting",
-    }
-}
-
-/// A refusal, or out of memory if its word is.
-pub fn refused(code: u8, place: Place, word: Result<Vec<u8>, AllocError>) -> FrontFault
-    ensures word { RefusesWord code place word result }
-    ensures sure { IfOk word (λ _. IsGiven result) }
-{
-    match word {
-        Ok(word) => FrontFault::Refused(Refusal {
-            code,
-            place,
-            construct: Name::new(word),
-        }),
-        Err(_) => FrontFault::Memory,
-    }
-}
-
-/// The refusal for a fault.
-pub fn refuse(alloc: Global, tokens: &Tokens, fault: ReadFault) -> FrontFault
-    ensures { RefusesFault (plain_tokens tokens.now) fault result }
-{
-    match fault {
-        ReadFault::At(n) => {
-            let rest = last(n, tokens.list.as_slice());
-            let word = refused_word(alloc, tokens.names.as_slice(), rest);
-            refused(code::GRAMMAR, place_at(tokens.end, rest), word)
-        }
-        ReadFault::Over(limit, n) => {
-            let rest = last(n, tokens.list.as_slice());
-            let word = Vec::from_slice(alloc, limit_word(limit));
-            refused(code::LIMIT, place_at(tokens.end, rest), word)
-        }
-        ReadFault::Memory => FrontFault::Memory,
     }
 }

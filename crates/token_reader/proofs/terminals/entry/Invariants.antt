@@ -1,6 +1,6 @@
 use Rattle.std.proofs.Common.{◌≡◌, length}
-use Rattle.c_model.specs.ExpressionGrammar.{entry}
-use Rattle.c_expr_parser.proofs.terminals.entry.Given as goal
+use Rattle.c_model.specs.Terminals.{entry}
+use Rattle.token_reader.proofs.terminals.entry.Given as goal
 
 abbrev pub invariant-turn : goal.invariant-turn
 invariant-turn g l = entry l.mark l.rest ≡ entry l.mark l.table

@@ -1,12 +1,12 @@
--- The last tokens of a text, and what its answers mean.
+-- The last tokens of a text.
 use Rattle.std.proofs.Common.{◌≡◌, ℕ, zero, suc, ◌-◌, ◌≤◌, ◌<◌, Bool, true, false, eqb, List, [], ◌∷◌, length, drop, refl, sym, ap, ◌∙◌, arith}
 use Rattle.std.proofs.lemmas.List.{length-map}
 use Rattle.std.proofs.lemmas.Bool.{eqb-true, eq-eqb}
 use Rattle.std.specs.Prelude.{if◌then◌else◌}
 use Rattle.c_syntax.specs.declared.token.Token.{Token}
 use Rattle.c_syntax.specs.Tokens.{PlainToken, plain_token}
-use Rattle.mon_syntax.specs.Spelled.{last}
-use Rattle.mon_parser.specs.Reading.{plain_list}
+use Rattle.c_model.specs.TokenWords.{last}
+use Rattle.token_reader.specs.Reading.{plain_list}
 
 map_drop : (k : ℕ) (ts : List Token) → plain_list (drop k ts) ≡ drop k (plain_list ts)
 map_drop zero ts = refl
