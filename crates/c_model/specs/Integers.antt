@@ -136,7 +136,7 @@ abbrev pub operate_one : PlainType → UnOp → ℤ → Option ℤ
 operate_one Void op x = None
 operate_one (Int k) op x = operate_one_in k op x
 
--- the byte that putchar writes: its argument converted to unsigned char (C99 7.19.7.3)
+-- the byte that putchar writes: its argument converted to unsigned char (C99 7.19.7.9, 7.19.7.3 p2)
 abbrev pub byte_of : ℤ → ℕ
 byte_of (pos n) = n % 256
 byte_of (negsuc n) = 255 - n % 256

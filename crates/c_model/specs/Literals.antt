@@ -83,7 +83,7 @@ literal_of bs =
 
 -- ---- characters
 
--- what the letter or mark after a `\` stands for (6.4.4.4 p3)
+-- what the letter or mark after a `\` stands for (6.4.4.4, 5.2.2)
 abbrev pub simple_escape : ℕ → Option ℕ
 simple_escape c =
     if nat_eq c 110 then Some 10

@@ -259,7 +259,7 @@ abbrev mutual
   items_with NoItem call n = done
   items_with (Then i rest) call n = item_with i call n >> items_with rest call n
 
--- putchar gives the byte that it wrote (C99 7.19.7.3)
+-- putchar gives the byte that it wrote (C99 7.19.7.9, 7.19.7.3)
 abbrev pub put_char : Place → List Value → Evaluation Value
 put_char at [] = stop (Over (Undefined at))
 put_char at (NoValue ∷ []) = stop (Over (Undefined at))

@@ -113,7 +113,7 @@ read_byte [] EndOfInput = give (Integer (negsuc 0))
 read_byte [] InputFault = stop (Over ReadFault)
 read_byte (b ∷ bs) tail = λ s. Normal (Integer (pos (b % 256))) (record s { input = record { bytes = bs; tail = tail } })
 
--- one byte of output (C99 7.19.7.3)
+-- one byte of output (C99 7.19.7.9, 7.19.7.3)
 abbrev pub print : ℕ → Evaluation (Unit {0})
 print byte = λ s. Normal tt (record s { output = s.output ++ byte ∷ [] })
 

@@ -71,7 +71,7 @@ function_called x (f ∷ fs) = cond (nat_eq x f.name) (Some f) (function_called 
 abbrev pub of_library : ℕ → List PlainType → PlainType → Signature
 of_library x params result = record { name = x; decl = 4294967295; defined = true; params = params; result = result }
 
--- the functions of the library that are built (C99 7.19.7.3, 7.19.7.6, 7.20.4.3)
+-- the functions of the library that are built (C99 7.19.7.9, 7.19.7.6, 7.20.4.3)
 abbrev pub library_function : ℕ → List ℕ → Option Signature
 library_function x w =
     if bytes_eq w (codes "putchar") then Some (of_library x (int_type ∷ []) int_type)

@@ -101,7 +101,7 @@ pub enum LibraryFunction {
     Exit,
 }
 
-/// The built function of a name, where it is one (C99 7.19.7.3, 7.19.7.6, 7.20.4.3).
+/// The built function of a name, where it is one (C99 7.19.7.9, 7.19.7.6, 7.20.4.3).
 pub fn library_function(bytes: &[u8]) -> Option<LibraryFunction>
     ensures { (x : ℕ) → library_function x bytes.now ≡ option_map (signature_of x) result }
 {
