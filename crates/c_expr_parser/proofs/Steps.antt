@@ -12,7 +12,6 @@ use Rattle.c_model.specs.Punctuators.{comma}
 use Rattle.c_syntax.specs.Expressions.{Expression}
 use Rattle.c_model.specs.ExpressionGrammar.{keyword_kind, mark_kind, next_argument, kind, fixed, reserved, words_behind, integer_word, consts}
 use Rattle.c_syntax.specs.declared.fault.ReadFault.{ReadFault}
-use Rattle.c_syntax.specs.declared.fault.ReadFault.TheVariants as fault
 use Rattle.c_expr_parser.specs.Reading.{more_words, more_arguments}
 use Rattle.token_reader.specs.Reading.{Fails}
 use Rattle.token_reader.proofs.Faults.{again}

@@ -185,3 +185,13 @@ full_effect_or_call_fails ws ts near e r is h f q = fails ws (effect_or_call ws)
 pub full_effect_or_call_bound : (ws : Vocabulary) (ts near : List Token) (e : ReadFault) → near ≡ take (most_in_expression + 1) ts → most_in_expression < length ts → Fails e ((effect_or_call ws).parse (plain_list near))
     → LeftWithin e (most_in_expression + 1)
 full_effect_or_call_bound ws ts near e is h f = subst (λ (k : ℕ). LeftWithin e k) (ap length is ∙ take_long (most_in_expression + 1) ts (omega (arith, h))) (bound ws (effect_or_call ws) first_effect more_effect (effect_or_call_good ws).here near e f)
+
+-- ---- what the code of each production cites
+
+pub ruleset full_expression_rules = (full_expression_whole, full_expression_behind, full_expression_over, full_expression_fails, full_expression_bound)
+
+pub ruleset full_expression_or_call_rules = (full_expression_or_call_whole, full_expression_or_call_behind, full_expression_or_call_over, full_expression_or_call_fails, full_expression_or_call_bound)
+
+pub ruleset full_effect_rules = (full_effect_whole, full_effect_behind, full_effect_over, full_effect_fails, full_effect_bound)
+
+pub ruleset full_effect_or_call_rules = (full_effect_or_call_whole, full_effect_or_call_behind, full_effect_or_call_over, full_effect_or_call_fails, full_effect_or_call_bound)

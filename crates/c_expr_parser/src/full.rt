@@ -62,7 +62,7 @@ pub fn behind(tokens: &[Token], left: usize) -> &[Token]
 }
 
 /// An expression.
-#[tactic(auto, using(crate::proofs::Windows::full_expression_whole, crate::proofs::Windows::full_expression_behind, crate::proofs::Windows::full_expression_over, crate::proofs::Windows::full_expression_fails, crate::proofs::Windows::full_expression_bound))]
+#[tactic(auto, using(crate::proofs::Windows::full_expression_rules))]
 pub fn full_expression<'a>(
     alloc: Global,
     words: &[Word],
@@ -84,7 +84,7 @@ pub fn full_expression<'a>(
 }
 
 /// An expression or a call.
-#[tactic(auto, using(crate::proofs::Windows::full_expression_or_call_whole, crate::proofs::Windows::full_expression_or_call_behind, crate::proofs::Windows::full_expression_or_call_over, crate::proofs::Windows::full_expression_or_call_fails, crate::proofs::Windows::full_expression_or_call_bound))]
+#[tactic(auto, using(crate::proofs::Windows::full_expression_or_call_rules))]
 pub fn full_expression_or_call<'a>(
     alloc: Global,
     words: &[Word],
@@ -106,7 +106,7 @@ pub fn full_expression_or_call<'a>(
 }
 
 /// An expression, an assignment or an increment.
-#[tactic(auto, using(crate::proofs::Windows::full_effect_whole, crate::proofs::Windows::full_effect_behind, crate::proofs::Windows::full_effect_over, crate::proofs::Windows::full_effect_fails, crate::proofs::Windows::full_effect_bound))]
+#[tactic(auto, using(crate::proofs::Windows::full_effect_rules))]
 pub fn full_effect<'a>(
     alloc: Global,
     words: &[Word],
@@ -128,7 +128,7 @@ pub fn full_effect<'a>(
 }
 
 /// An effect or a call.
-#[tactic(auto, using(crate::proofs::Windows::full_effect_or_call_whole, crate::proofs::Windows::full_effect_or_call_behind, crate::proofs::Windows::full_effect_or_call_over, crate::proofs::Windows::full_effect_or_call_fails, crate::proofs::Windows::full_effect_or_call_bound))]
+#[tactic(auto, using(crate::proofs::Windows::full_effect_or_call_rules))]
 pub fn full_effect_or_call<'a>(
     alloc: Global,
     words: &[Word],

@@ -53,3 +53,7 @@ last_digit v (b ∷ bs) total small z so_far = absurd (omega arith)
 pub great_front : (v : ℕ) (bs : List ℕ) (total : Option ℕ) → 1 ≤ length bs → is_digit (get_or bs 0 0) ≡ true → greatest_literal < 10 * v + (get_or bs 0 0 - 48) → literal_from v bs ≡ total → None ≡ total
 great_front v [] total some d great so_far = absurd (omega arith)
 great_front v (b ∷ bs) total some d great so_far = great_digits v b bs total d great so_far
+
+-- ---- what the code of each production cites
+
+pub ruleset digit_rules = (no_digit, great_digits, last_digit)

@@ -23,7 +23,7 @@ fn more_digits(value: u128, digit: u8) -> Option<u128>
 }
 
 /// The value of decimal digits, where they are nothing else and it is at most 2^127 - 1.
-#[tactic(auto, unfolding(c_model::specs::MonitoredTokens::literal_of), using(crate::proofs::Digits::no_digit, crate::proofs::Digits::great_digits, crate::proofs::Digits::last_digit))]
+#[tactic(auto, unfolding(c_model::specs::MonitoredTokens::literal_of), using(crate::proofs::Digits::digit_rules))]
 fn literal_of(bytes: &[u8]) -> Option<u128>
     ensures value { result ≡ literal_of bytes.now }
     ensures fits { IfSome result (λ v. v ≤ greatest_literal) }

@@ -39,3 +39,7 @@ full_clause_fails ws n ts near e r is h f q = fails ws (assert_clause ws n) firs
 pub full_clause_bound : (ws : Vocabulary) (n : ℕ) (ts near : List Token) (e : ReadFault) → near ≡ take (most_in_expression + 1) ts → most_in_expression < length ts → Fails e ((assert_clause ws n).parse (plain_list near))
     → LeftWithin e (most_in_expression + 1)
 full_clause_bound ws n ts near e is h f = subst (λ (k : ℕ). LeftWithin e k) (ap length is ∙ take_long (most_in_expression + 1) ts (omega (arith, h))) (bound ws (assert_clause ws n) first_clause [] (clause_good ws n).here near e f)
+
+-- ---- what the code of each production cites
+
+pub ruleset full_clause_rules = (full_clause_whole, full_clause_behind, full_clause_over, full_clause_fails, full_clause_bound)

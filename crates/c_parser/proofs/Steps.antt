@@ -20,7 +20,7 @@ use Rattle.c_syntax.specs.declared.fault.ReadFault.{ReadFault}
 use Rattle.token_reader.specs.Reading.{plain_list, Fails}
 use Rattle.token_reader.proofs.Faults.{again}
 use Rattle.c_expr_parser.proofs.ExactTokens.{IsRead}
-use Rattle.c_parser.specs.Reading.{more_terms, more_declarators, more_storage, further_parameters, more_functions}
+use Rattle.c_parser.specs.Reading.{more_terms, more_declarators, more_storage, other_parameters, more_functions}
 use Rattle.c_parser.proofs.ExactStatements.{sum_good, sum_once_good, next_declarator_good, items_once_good}
 use Rattle.c_parser.proofs.ExactPrograms.{statement_good, storage_word_good, storage_fit, next_parameter_good, one_more_function_good}
 
@@ -102,16 +102,16 @@ module _ (ws : Vocabulary) where
   pub declarators_shorter : (t : PlainType) (x y : List Declaration × Counts) (ts rest : List Token) → (next_declarator ws t x).parse (plain_list ts) ≡ Ok (y, plain_list rest) → length rest < length ts
   declarators_shorter t x y ts rest e = shorter ws (next_declarator ws t x) (next_declarator_good ws t x) ts rest y e
 
-  pub parameters_turn : (x y : List Declaration) (ts rest : List PlainToken) → sees (kind ws) (mark_kind comma ∷ []) ts ≡ true → (next_parameter ws x).parse ts ≡ Ok (y, rest) → (further_parameters ws x).parse ts ≡ (further_parameters ws y).parse rest
-  unfolding further_parameters
+  pub parameters_turn : (x y : List Declaration) (ts rest : List PlainToken) → sees (kind ws) (mark_kind comma ∷ []) ts ≡ true → (next_parameter ws x).parse ts ≡ Ok (y, rest) → (other_parameters ws x).parse ts ≡ (other_parameters ws y).parse rest
+  unfolding other_parameters
   parameters_turn x y ts rest s e = turn (mark_kind comma ∷ []) (next_parameter ws) (λ z. (next_parameter_good ws z).here) refl x y ts rest s e
 
-  pub parameters_fails : (x : List Declaration) (ts : List PlainToken) (e : ReadFault) → sees (kind ws) (mark_kind comma ∷ []) ts ≡ true → Fails e ((next_parameter ws x).parse ts) → Fails e ((further_parameters ws x).parse ts)
-  unfolding further_parameters
+  pub parameters_fails : (x : List Declaration) (ts : List PlainToken) (e : ReadFault) → sees (kind ws) (mark_kind comma ∷ []) ts ≡ true → Fails e ((next_parameter ws x).parse ts) → Fails e ((other_parameters ws x).parse ts)
+  unfolding other_parameters
   parameters_fails x ts e s = again e (λ f. turn_fails (mark_kind comma ∷ []) (next_parameter ws) (λ z. (next_parameter_good ws z).here) refl x ts f s)
 
-  pub parameters_ends : (x : List Declaration) (ts : List PlainToken) → sees (kind ws) (mark_kind comma ∷ []) ts ≡ false → (further_parameters ws x).parse ts ≡ Ok (x, ts)
-  unfolding further_parameters
+  pub parameters_ends : (x : List Declaration) (ts : List PlainToken) → sees (kind ws) (mark_kind comma ∷ []) ts ≡ false → (other_parameters ws x).parse ts ≡ Ok (x, ts)
+  unfolding other_parameters
   parameters_ends x ts s = turn_ends (mark_kind comma ∷ []) (next_parameter ws) (λ z. (next_parameter_good ws z).here) refl x ts s
 
   pub parameters_shorter : (x y : List Declaration) (ts rest : List Token) → (next_parameter ws x).parse (plain_list ts) ≡ Ok (y, plain_list rest) → length rest < length ts
@@ -148,3 +148,15 @@ module _ (ws : Vocabulary) where
 
     pub items_shorter : (x y : List BlockItem × Counts) (ts rest : List Token) → (items_once ws (statement_in ws d) x).parse (plain_list ts) ≡ Ok (y, plain_list rest) → length rest < length ts
     items_shorter x y ts rest e = shorter ws (items_once ws (statement_in ws d) x) (items_once_good ws (statement_good ws d) x) ts rest y e
+
+-- ---- what the code of each production cites
+
+pub ruleset declarators_rules = (declarators_turn, declarators_fails, declarators_ends, declarators_shorter)
+
+pub ruleset parameters_rules = (parameters_turn, parameters_fails, parameters_ends, parameters_shorter)
+
+pub ruleset functions_rules = (functions_turn, functions_fails, functions_ends, functions_shorter)
+
+pub ruleset items_rules = (items_turn, items_fails, items_ends, items_shorter)
+
+pub ruleset statement_rules = (statement_is, statement_over, statement_at)

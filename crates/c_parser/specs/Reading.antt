@@ -95,8 +95,8 @@ module _ (ws : Vocabulary) where
   unfoldable pub more_storage : Bool → Syntax PlainToken Bool
   more_storage seen = many (kind ws) (storage_words ws) (storage_word ws) seen
 
-  unfoldable pub further_parameters : List Declaration → Syntax PlainToken (List Declaration)
-  further_parameters ps = many (kind ws) (λ _. mark_kind comma ∷ []) (next_parameter ws) ps
+  unfoldable pub other_parameters : List Declaration → Syntax PlainToken (List Declaration)
+  other_parameters ps = many (kind ws) (λ _. mark_kind comma ∷ []) (next_parameter ws) ps
 
   unfoldable pub more_functions : List Function × ℕ → Syntax PlainToken (List Function × ℕ)
   more_functions x = many (kind ws) (λ _. first_function) (one_more_function ws) x

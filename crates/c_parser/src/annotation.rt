@@ -242,7 +242,7 @@ fn assert_clause<'a>(
 }
 
 /// The same, within the limit of its tokens.
-#[tactic(auto, using(crate::proofs::Clauses::full_clause_whole, crate::proofs::Clauses::full_clause_behind, crate::proofs::Clauses::full_clause_over, crate::proofs::Clauses::full_clause_fails, crate::proofs::Clauses::full_clause_bound))]
+#[tactic(auto, using(crate::proofs::Clauses::full_clause_rules))]
 fn full_clause<'a>(
     alloc: Global,
     words: &[Word],

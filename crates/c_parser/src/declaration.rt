@@ -104,7 +104,7 @@ fn next_declarator<'a>(
 }
 
 /// The declarators of the same declaration after those that are read.
-#[tactic(auto, using(crate::proofs::Steps::declarators_turn, crate::proofs::Steps::declarators_fails, crate::proofs::Steps::declarators_ends, crate::proofs::Steps::declarators_shorter))]
+#[tactic(auto, using(crate::proofs::Steps::declarators_rules))]
 fn more_declarators<'a>(
     alloc: Global,
     words: &[Word],

@@ -8,7 +8,7 @@ ghost use Rattle.c_model.specs.ProgramGrammar.{parameter_with, parameter_name, v
 ghost use Rattle.c_model.specs.ProgramGrammar.{first_parameter, parameters};
 ghost use Rattle.c_expr_parser.specs.Reading.{plain_start};
 ghost use Rattle.token_reader.specs.Reading.{Gives, TakesNoMemory, plain_list};
-ghost use Rattle.c_parser.specs.Reading.{further_parameters};
+ghost use Rattle.c_parser.specs.Reading.{other_parameters};
 
 use c_expr_parser::kinds::{COMMA, CONST, NAME, RIGHT_PAREN};
 use c_expr_parser::terminals::{name, next_is, skip};
@@ -124,13 +124,13 @@ fn next_parameter<'a>(
 }
 
 /// The parameters after those that are read.
-#[tactic(auto, using(crate::proofs::Steps::parameters_turn, crate::proofs::Steps::parameters_fails, crate::proofs::Steps::parameters_ends, crate::proofs::Steps::parameters_shorter))]
-fn further_parameters<'a>(
+#[tactic(auto, using(crate::proofs::Steps::parameters_rules))]
+fn other_parameters<'a>(
     words: &[Word],
     all: Vec<Decl>,
     tokens: &'a [Token],
 ) -> Result<(Vec<Decl>, &'a [Token]), ReadFault>
-    ensures { Gives (λ x. (map plain_decl x.0.items, plain_list x.1.now)) result ((further_parameters words.now (map plain_decl all.items)).parse
+    ensures { Gives (λ x. (map plain_decl x.0.items, plain_list x.1.now)) result ((other_parameters words.now (map plain_decl all.items)).parse
         (plain_list tokens.now)) }
 {
     let mut all = all;
@@ -144,7 +144,7 @@ fn further_parameters<'a>(
 }
 
 /// `{ "," parameter } ")"`, after the first one.
-#[tactic(auto, unfolding(c_model::specs::ProgramGrammar::more_parameters, crate::specs::Reading::further_parameters, c_model::specs::ExpressionGrammar::closed))]
+#[tactic(auto, unfolding(c_model::specs::ProgramGrammar::more_parameters, crate::specs::Reading::other_parameters, c_model::specs::ExpressionGrammar::closed))]
 fn more_parameters<'a>(
     alloc: Global,
     words: &[Word],
@@ -156,7 +156,7 @@ fn more_parameters<'a>(
 {
     let mut all = Vec::new(alloc);
     all.push(first)?;
-    let (all, rest) = further_parameters(words, all, tokens)?;
+    let (all, rest) = other_parameters(words, all, tokens)?;
     let (_, rest) = skip(words, RIGHT_PAREN, rest)?;
     Ok((all, rest))
 }

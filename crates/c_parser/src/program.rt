@@ -198,7 +198,7 @@ fn one_more_function<'a>(
 }
 
 /// The functions and prototypes after those that are read.
-#[tactic(auto, using(crate::proofs::Steps::functions_turn, crate::proofs::Steps::functions_fails, crate::proofs::Steps::functions_ends, crate::proofs::Steps::functions_shorter))]
+#[tactic(auto, using(crate::proofs::Steps::functions_rules))]
 fn more_functions<'a>(
     alloc: Global,
     words: &[Word],

@@ -329,7 +329,7 @@ fn items_once<'a>(
 }
 
 /// The items after those that are read.
-#[tactic(auto, using(crate::proofs::Steps::items_turn, crate::proofs::Steps::items_fails, crate::proofs::Steps::items_ends, crate::proofs::Steps::items_shorter))]
+#[tactic(auto, using(crate::proofs::Steps::items_rules))]
 #[cycle(statement)]
 pub fn items<'a>(
     alloc: Global,
@@ -374,7 +374,7 @@ fn block<'a>(
 }
 
 /// A statement in which statements stand at most so many levels deep, itself included.
-#[tactic(auto, using(crate::proofs::Steps::statement_is, crate::proofs::Steps::statement_over, crate::proofs::Steps::statement_at), unfolding(c_model::specs::ProgramGrammar::statement_of))]
+#[tactic(auto, using(crate::proofs::Steps::statement_rules), unfolding(c_model::specs::ProgramGrammar::statement_of))]
 #[cycle(statement)]
 fn statement<'a>(
     alloc: Global,

@@ -1,5 +1,5 @@
 -- What a production gives, step by step.
-use Rattle.std.proofs.Common.{◌≡◌, ℕ, zero, suc, ◌-◌, ◌<◌, Bool, true, false, List, [], ◌∷◌, ◌++◌, length, length-append, Ok, Err, refl, ap, subst, arith}
+use Rattle.std.proofs.Common.{◌≡◌, ℕ, zero, suc, Option, ◌-◌, ◌<◌, Bool, true, false, List, [], ◌∷◌, ◌++◌, length, length-append, Ok, Err, refl, ap, subst, arith}
 use Rattle.std.proofs.lemmas.List.{length-map}
 use Rattle.grammar.specs.Syntax.{Syntax, At, Over, sees}
 use Rattle.grammar.proofs.Productions.{turn, turn_fails, turn_ends}
@@ -7,11 +7,13 @@ use Rattle.c_syntax.specs.declared.token.Token.{Token}
 use Rattle.c_syntax.specs.Tokens.{PlainToken, plain_token}
 use Rattle.c_model.specs.Punctuators.{left_paren, comma}
 use Rattle.c_model.specs.Terminals.{expression_limit, nesting_limit}
-use Rattle.mon_syntax.specs.Parsed.{ParsedArgument, ParsedStatement, ParsedRegister, ParsedFunction}
-use Rattle.mon_syntax.specs.Grammar.{Vocabulary, LoopRead, type_kind, mark_kind, kind, first_statement, first_function, mark, opened, behind_paren, behind_opened, next_argument, one_more}
-use Rattle.mon_syntax.specs.Grammar.{one_more_in_loop, statement_with, statement_in, register, next_parameter, one_more_function}
+use Rattle.mon_syntax.specs.declared.tree.MonType.{MonType}
+use Rattle.mon_syntax.specs.Parsed.{NameUse, ParsedArgument, ParsedStatement, ParsedRegister, ParsedFunction}
+use Rattle.mon_syntax.specs.Grammar.{Vocabulary, LoopRead, type_kind, mark_kind, kind, first_statement, first_function, mark, opened, behind_paren, behind_opened, expression_in, next_argument, one_more}
+use Rattle.mon_syntax.specs.Grammar.{one_more_in_loop, statement_with, statement_in, statements, register, registers, next_parameter, function_body, one_more_function}
 use Rattle.c_syntax.specs.declared.fault.ReadFault.{ReadFault}
 use Rattle.c_syntax.specs.declared.fault.ReadFault.TheVariants as fault
+use Rattle.mon_parser.specs.Reading.{plain_operation, behind_in_parts, function_statements, body_in_parts}
 use Rattle.mon_parser.specs.Reading.{more_arguments, more_statements, more_in_loop, more_registers, more_parameters, more_functions}
 use Rattle.token_reader.specs.Reading.{plain_list, Fails}
 use Rattle.token_reader.proofs.Faults.{again}
@@ -38,8 +40,8 @@ module _ (ws : Vocabulary) where
   opened_at zero ts h s = rw s refl
   opened_at (suc n) ts h s = absurd (omega arith)
 
-  pub behind_is : (n : ℕ) (ts : List PlainToken) → 0 < n → (behind_opened ws n).parse ts ≡ (behind_paren ws (opened ws (n - 1)) (behind_opened ws (n - 1))).parse ts
-  unfolding behind_opened
+  pub behind_is : (n : ℕ) (ts : List PlainToken) → 0 < n → (behind_opened ws n).parse ts ≡ (behind_in_parts ws (n - 1)).parse ts
+  unfolding behind_opened behind_paren expression_in plain_operation behind_in_parts
   behind_is zero ts h = absurd (omega arith)
   behind_is (suc n) ts h = let e : suc n - 1 ≡ n = omega arith in rw e refl
 
@@ -47,6 +49,10 @@ module _ (ws : Vocabulary) where
   unfolding behind_opened
   behind_none zero ts h = refl
   behind_none (suc n) ts h = absurd (omega arith)
+
+  pub body_is : (r : Option MonType) (f : NameUse) (ps : List ParsedRegister) (ts : List PlainToken) → (function_body ws r f ps).parse ts ≡ (body_in_parts ws r f ps).parse ts
+  unfolding function_body registers statements more_registers more_statements function_statements body_in_parts
+  body_is r f ps ts = refl
 
   pub statement_is : (n : ℕ) (no_step : Bool) (ts : List PlainToken) → 0 < n → (statement_in ws n no_step).parse ts ≡ (statement_with ws (statement_in ws (n - 1)) no_step).parse ts
   unfolding statement_in
@@ -172,3 +178,19 @@ module _ (ws : Vocabulary) where
 
     pub loop_shorter : (x y : LoopRead) (ts rest : List Token) → (one_more_in_loop ws (statement_in ws n) x).parse (plain_list ts) ≡ Ok (y, plain_list rest) → length rest < length ts
     loop_shorter x y ts rest e = shorter ws (one_more_in_loop ws (statement_in ws n) x) (one_more_in_loop_good ws (statement_good ws n) x) ts rest y e
+
+-- ---- what the code of each production cites
+
+pub ruleset arguments_rules = (arguments_turn, arguments_fails, arguments_ends, arguments_shorter)
+
+pub ruleset behind_rules = (behind_is, behind_none)
+
+pub ruleset registers_rules = (registers_turn, registers_fails, registers_ends, registers_shorter)
+
+pub ruleset parameters_rules = (parameters_turn, parameters_fails, parameters_ends, parameters_shorter)
+
+pub ruleset functions_rules = (functions_turn, functions_fails, functions_ends, functions_shorter)
+
+pub ruleset statements_rules = (statements_turn, statements_fails, statements_ends, statements_shorter)
+
+pub ruleset statement_rules = (statement_is, statement_over, statement_at)

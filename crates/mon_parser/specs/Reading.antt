@@ -1,9 +1,9 @@
 -- Ours: productions of monitored C (mon_syntax/specs/Grammar), cut as the code reads them.
 use Rattle.std.specs.Prelude.{ℕ, ◌-◌, ℤ, neg_ℤ, Bool, List, [], ◌∷◌, ◌++◌, map, Option, option_map, if◌then◌else◌}
-use Rattle.grammar.specs.Syntax.{Syntax, gives, one, ◌then◌, many}
+use Rattle.grammar.specs.Syntax.{Syntax, gives, one, ◌then◌, choice, many}
 use Rattle.c_syntax.specs.declared.place.Place.{Place}
 use Rattle.c_syntax.specs.Tokens.{PlainToken}
-use Rattle.c_model.specs.Punctuators.{comma, colon, semicolon, left_paren, right_paren, left_brace, right_brace}
+use Rattle.c_model.specs.Punctuators.{comma, colon, semicolon, minus, tilde, left_paren, right_paren, left_brace, right_brace}
 use Rattle.c_model.specs.Terminals.{placed}
 use Rattle.mon_syntax.specs.declared.tree.MonType.{MonType}
 use Rattle.mon_syntax.specs.declared.tree.MonOp.{MonOp}
@@ -13,6 +13,7 @@ use Rattle.mon_syntax.specs.Grammar.{Vocabulary, InBody, LoopRead, nothing_read,
 use Rattle.mon_syntax.specs.Grammar.{kind, first_statement, first_function}
 use Rattle.mon_syntax.specs.Grammar.{fixed, mark, number_of, text_of, is_one, name, signed_number, plain_operand, second_operand, expression}
 use Rattle.mon_syntax.specs.Grammar.{next_argument, call_of, ended, behind_name, one_more, body, one_more_in_loop, loop_end, statement_in, most_nested}
+use Rattle.mon_syntax.specs.Grammar.{expression_in, opened, behind_opened, behind_two, negation, complement}
 use Rattle.mon_syntax.specs.Grammar.{register, parameter, next_parameter, parameters, function_body, one_more_function}
 use Rattle.mon_parser.specs.declared.statement.LoopRead as code_loop
 use Rattle.mon_parser.specs.ParsedTrees.{plain_stmt}
@@ -66,6 +67,14 @@ module _ (ws : Vocabulary) where
   -- an operation whose first operand begins with no parenthesis
   unfoldable pub plain_operation : Syntax PlainToken Place → Syntax PlainToken ParsedExpression → Syntax PlainToken ParsedExpression
   plain_operation O E = plain_operand ws O then λ left. second_operand ws E left
+
+  -- what stands after a parenthesis, up to its end, where so many more may be opened
+  unfoldable pub behind_in_parts : ℕ → Syntax PlainToken ParsedExpression
+  behind_in_parts n =
+      choice (kind ws) (mark_kind minus ∷ []) (negation ws (expression_in ws n))
+      (choice (kind ws) (mark_kind tilde ∷ []) (complement ws (expression_in ws n))
+      (choice (kind ws) (mark_kind left_paren ∷ []) (opened ws n then λ at. behind_two ws (expression_in ws n) (behind_opened ws n) at)
+      (plain_operation (opened ws n) (expression_in ws n))))
 
   unfoldable pub text_argument : Syntax PlainToken ParsedArgument
   text_argument = one (placed text_of) then λ t. gives (Text t.1 t.0)
@@ -130,3 +139,7 @@ module _ (ws : Vocabulary) where
   function_statements r f ps rs =
       more_statements (statement_in ws (most_nested ws - 1)) [] then λ xs. mark ws right_brace then λ _.
       gives (record { result = r; name = f; parameters = ps; registers = rs; body = parsed_list xs })
+
+  -- a function's body
+  unfoldable pub body_in_parts : Option MonType → NameUse → List ParsedRegister → Syntax PlainToken ParsedFunction
+  body_in_parts r f ps = mark ws left_brace then λ _. more_registers [] then λ rs. function_statements r f ps rs

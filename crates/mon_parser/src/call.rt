@@ -85,7 +85,7 @@ fn next_argument<'a>(
 }
 
 /// The arguments after those that are read.
-#[tactic(auto, using(crate::proofs::Steps::arguments_turn, crate::proofs::Steps::arguments_fails, crate::proofs::Steps::arguments_ends, crate::proofs::Steps::arguments_shorter))]
+#[tactic(auto, using(crate::proofs::Steps::arguments_rules))]
 fn more_arguments<'a>(
     alloc: Global,
     words: &[Word],

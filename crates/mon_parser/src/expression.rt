@@ -284,7 +284,7 @@ fn plain_operation<'a>(
 }
 
 /// What stands after a parenthesis that was opened where so many more might be, up to its end.
-#[tactic(auto, using(crate::proofs::Steps::behind_is, crate::proofs::Steps::behind_none), unfolding(mon_syntax::specs::Grammar::behind_paren, mon_syntax::specs::Grammar::expression_in, crate::specs::Reading::plain_operation))]
+#[tactic(auto, using(crate::proofs::Steps::behind_rules), unfolding(crate::specs::Reading::behind_in_parts))]
 #[cycle(expression)]
 fn behind_opened<'a>(
     alloc: Global,

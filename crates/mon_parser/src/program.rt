@@ -70,7 +70,7 @@ fn register<'a>(
 }
 
 /// The registers after those that are read.
-#[tactic(auto, using(crate::proofs::Steps::registers_turn, crate::proofs::Steps::registers_fails, crate::proofs::Steps::registers_ends, crate::proofs::Steps::registers_shorter))]
+#[tactic(auto, using(crate::proofs::Steps::registers_rules))]
 fn more_registers<'a>(
     words: &[Word],
     all: Vec<ParsedRegister>,
@@ -152,7 +152,7 @@ fn next_parameter<'a>(
 }
 
 /// The parameters after those that are read.
-#[tactic(auto, using(crate::proofs::Steps::parameters_turn, crate::proofs::Steps::parameters_fails, crate::proofs::Steps::parameters_ends, crate::proofs::Steps::parameters_shorter))]
+#[tactic(auto, using(crate::proofs::Steps::parameters_rules))]
 fn more_parameters<'a>(
     words: &[Word],
     all: Vec<ParsedRegister>,
@@ -251,7 +251,7 @@ fn function_statements<'a>(
 }
 
 /// The body of a function with this result, name and parameters.
-#[tactic(auto, unfolding(mon_syntax::specs::Grammar::function_body, mon_syntax::specs::Grammar::registers, mon_syntax::specs::Grammar::statements, crate::specs::Reading::more_registers, crate::specs::Reading::more_statements, crate::specs::Reading::function_statements))]
+#[tactic(auto, using(crate::proofs::Steps::body_is), unfolding(crate::specs::Reading::body_in_parts))]
 fn function_body<'a>(
     alloc: Global,
     words: &[Word],
@@ -316,7 +316,7 @@ fn one_more_function<'a>(
 }
 
 /// The functions after those that are read.
-#[tactic(auto, using(crate::proofs::Steps::functions_turn, crate::proofs::Steps::functions_fails, crate::proofs::Steps::functions_ends, crate::proofs::Steps::functions_shorter))]
+#[tactic(auto, using(crate::proofs::Steps::functions_rules))]
 fn more_functions<'a>(
     alloc: Global,
     words: &[Word],

@@ -338,7 +338,7 @@ fn one_more<'a>(
 }
 
 /// The statements after those that are read.
-#[tactic(auto, using(crate::proofs::Steps::statements_turn, crate::proofs::Steps::statements_fails, crate::proofs::Steps::statements_ends, crate::proofs::Steps::statements_shorter))]
+#[tactic(auto, using(crate::proofs::Steps::statements_rules))]
 #[cycle(statement)]
 pub fn more_statements<'a>(
     alloc: Global,
@@ -586,7 +586,7 @@ fn labelled<'a>(
 }
 
 /// A statement in which statements stand at most so many levels deep, itself included; no `__e_acsl_step();` where it may be none.
-#[tactic(auto, using(crate::proofs::Steps::statement_is, crate::proofs::Steps::statement_over, crate::proofs::Steps::statement_at), unfolding(mon_syntax::specs::Grammar::statement_with, crate::specs::Reading::named_statement))]
+#[tactic(auto, using(crate::proofs::Steps::statement_rules), unfolding(mon_syntax::specs::Grammar::statement_with, crate::specs::Reading::named_statement))]
 #[cycle(statement)]
 fn statement<'a>(
     alloc: Global,
