@@ -13,7 +13,7 @@ use Rattle.c_lower.specs.declared.code.Instr.{Instr}
 use Rattle.c_lower.specs.declared.code.Instr.TheVariants as instr
 use Rattle.c_lower.specs.Code.{is_short, expression_code, arguments_code, OpenLabel, behind_label, goto_code, result_code, returned_code, choice_code, loop_code, statement_code, statements_code, function_code, functions_code, entry_at, entries_from}
 use Rattle.c_lower.specs.Code.{entry_named}
-use Rattle.c_lower.specs.Sound.{operands_taken, operands_given, operands_behind, target, IsEmptyAt, IsSound}
+use Rattle.c_lower.specs.Sound.{operands_of, operands_behind, target, IsEmptyAt, IsSound}
 use Rattle.c_lower.proofs.Placed.{length_choice, length_loop, HasAt, has_front, has_back, has_join, has_behind}
 use Rattle.c_lower.proofs.Operands.{Leads, leads_on, call_leads, test_leads, statement_leads, statements_lead, function_leads, functions_lead}
 
@@ -213,8 +213,8 @@ module _ (code : List Instr) where
   }
 
   -- the code of a call
-  called_fits : (p : ℕ) (args : List MonExpression) (i : Instr) (r : Option ℕ) → ((q : ℕ) → target q i ≡ None) → operands_taken i ≡ length args
-      → operands_given i ≡ 1 → Empty p → HasAt code p (arguments_code args ++ (i ∷ (result_code r ∷ [])))
+  called_fits : (p : ℕ) (args : List MonExpression) (i : Instr) (r : Option ℕ) → ((q : ℕ) → target q i ≡ None) → (operands_of i).taken ≡ length args
+      → (operands_of i).given ≡ 1 → Empty p → HasAt code p (arguments_code args ++ (i ∷ (result_code r ∷ [])))
       → AllFit p (arguments_code args ++ (i ∷ (result_code r ∷ [])))
   called_fits p args i r t taken given empty has =
       let ca = arguments_code args in

@@ -1,5 +1,5 @@
 -- Operands along code: a statement's code finds its operands and leaves none, an expression's code leaves one.
-use Rattle.std.proofs.Common.{◌≡◌, ℕ, suc, ◌+◌, ◌-◌, ◌≤◌, ℤ, pos, Bool, true, false, List, [], ◌∷◌, ◌++◌, length, Option, Some, None, map, refl, ap, subst, ◌∙◌, arith, append_assoc}
+use Rattle.std.proofs.Common.{◌≡◌, ℕ, suc, ◌+◌, ◌≤◌, ℤ, pos, Bool, true, false, List, [], ◌∷◌, ◌++◌, length, Option, Some, None, map, refl, ap, subst, ◌∙◌, arith, append_assoc}
 use Rattle.std.specs.Prelude.{◌^◌, leb, if◌then◌else◌, unsigned_abs}
 use Rattle.std.specs.Int.{int_rem_euclid}
 use Rattle.std.proofs.lemmas.Bool.{le-leb}
@@ -10,7 +10,7 @@ use Rattle.mon_syntax.specs.Meaning.{◌>>=◌}
 use Rattle.c_lower.specs.declared.code.Instr.{Instr}
 use Rattle.c_lower.specs.declared.code.Instr.TheVariants as instr
 use Rattle.c_lower.specs.Code.{is_short, expression_code, arguments_code, OpenLabel, behind_label, goto_code, result_code, returned_code, choice_code, loop_code, statement_code, statements_code, function_code, functions_code}
-use Rattle.c_lower.specs.Sound.{operands_taken, operands_given, operands_behind}
+use Rattle.c_lower.specs.Sound.{operands_of, operands_after, operands_behind}
 
 -- the instructions find their operands, and lead from so many to so many
 abbrev pub Leads : ℕ → List Instr → ℕ → Type 0
@@ -18,12 +18,12 @@ Leads n is m = operands_behind n is ≡ Some m
 
 counted-append : (n : ℕ) (a b : List Instr) → operands_behind n (a ++ b) ≡ (operands_behind n a >>= λ k. operands_behind k b)
 counted-append n [] b = refl
-counted-append n (i ∷ a) b = by (leb (operands_taken i) n) (counted-append (n - operands_taken i + operands_given i) a b)
+counted-append n (i ∷ a) b = by (leb (operands_of i).taken n) (counted-append (operands_after n i) a b)
   where
-    by : (t : Bool) → operands_behind (n - operands_taken i + operands_given i) (a ++ b)
-        ≡ (operands_behind (n - operands_taken i + operands_given i) a >>= λ k. operands_behind k b)
-        → (if t then operands_behind (n - operands_taken i + operands_given i) (a ++ b) else None)
-        ≡ ((if t then operands_behind (n - operands_taken i + operands_given i) a else None) >>= λ k. operands_behind k b)
+    by : (t : Bool) → operands_behind (operands_after n i) (a ++ b)
+        ≡ (operands_behind (operands_after n i) a >>= λ k. operands_behind k b)
+        → (if t then operands_behind (operands_after n i) (a ++ b) else None)
+        ≡ ((if t then operands_behind (operands_after n i) a else None) >>= λ k. operands_behind k b)
     by true h = h
     by false h = refl
 
@@ -31,11 +31,11 @@ pub leads_on : (n k m : ℕ) (a b : List Instr) → Leads n a k → Leads k b m 
 leads_on n k m a b g h = counted-append n a b ∙ ap (λ o. o >>= λ j. operands_behind j b) g ∙ h
 
 -- one instruction
-pub leads_by : (i : Instr) (n m : ℕ) → operands_taken i ≤ n → n - operands_taken i + operands_given i ≡ m → Leads n (i ∷ []) m
-leads_by i n m le e = ap (λ t. if t then Some (n - operands_taken i + operands_given i) else None) (le-leb (operands_taken i) n le) ∙ ap Some e
+pub leads_by : (i : Instr) (n m : ℕ) → (operands_of i).taken ≤ n → operands_after n i ≡ m → Leads n (i ∷ []) m
+leads_by i n m le e = ap (λ t. if t then Some (operands_after n i) else None) (le-leb (operands_of i).taken n le) ∙ ap Some e
 
 -- an expression's code and then an instruction
-leads_then : (a : List Instr) (i : Instr) (n k m : ℕ) → Leads n a k → operands_taken i ≤ k → k - operands_taken i + operands_given i ≡ m
+leads_then : (a : List Instr) (i : Instr) (n k m : ℕ) → Leads n a k → (operands_of i).taken ≤ k → operands_after k i ≡ m
     → Leads n (a ++ i ∷ []) m
 leads_then a i n k m h le e = leads_on n k m a (i ∷ []) h (leads_by i k m le e)
 
@@ -69,12 +69,12 @@ arguments_lead (a ∷ args) n =
     (leads_on n (suc n) (length args + suc n) (expression_code a) (arguments_code args) (expression_leads a n) (arguments_lead args (suc n)))
 
 -- an instruction that takes all of them, and leaves its value
-pub call_leads : (args : List MonExpression) (i : Instr) → operands_taken i ≡ length args → operands_given i ≡ 1 → Leads 0 (arguments_code args ++ i ∷ []) 1
+pub call_leads : (args : List MonExpression) (i : Instr) → (operands_of i).taken ≡ length args → (operands_of i).given ≡ 1 → Leads 0 (arguments_code args ++ i ∷ []) 1
 call_leads args i t g =
     leads_then (arguments_code args) i 0 (length args + 0) 1 (arguments_lead args 0) (omega (arith, t)) (omega (arith, t, g))
 
 -- an expression's code and an instruction that takes its value
-taking : (e : MonExpression) (i : Instr) → operands_taken i ≡ 1 → operands_given i ≡ 0 → Leads 0 (expression_code e ++ i ∷ []) 0
+taking : (e : MonExpression) (i : Instr) → (operands_of i).taken ≡ 1 → (operands_of i).given ≡ 0 → Leads 0 (expression_code e ++ i ∷ []) 0
 taking e i t g = leads_then (expression_code e) i 0 1 0 (expression_leads e 0) (omega (arith, t)) (omega (arith, t, g))
 
 -- code that leaves no operand, and more of it
@@ -90,7 +90,7 @@ result_leads None = refl
 result_leads (Some r) = refl
 
 -- a call, and what becomes of its value
-called_leads : (args : List MonExpression) (i : Instr) (r : Option ℕ) → operands_taken i ≡ length args → operands_given i ≡ 1
+called_leads : (args : List MonExpression) (i : Instr) (r : Option ℕ) → (operands_of i).taken ≡ length args → (operands_of i).given ≡ 1
     → Leads 0 (arguments_code args ++ (i ∷ (result_code r ∷ []))) 0
 called_leads args i r t g =
     subst (λ is. Leads 0 is 0) (append_assoc (arguments_code args) (i ∷ []) (result_code r ∷ []))

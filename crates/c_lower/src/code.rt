@@ -1,6 +1,7 @@
 //! Stack code.
 
-ghost use Rattle.c_lower.specs.Sound.{IsSound};
+ghost use Rattle.std.specs.Prelude.{◌≡◌, ◌≤◌};
+ghost use Rattle.c_lower.specs.Sound.{IsSound, operands_of};
 
 use c_syntax::Kind;
 use mon_syntax::{MemoryCall, MonOp, MonType};
@@ -54,6 +55,40 @@ pub enum Instr {
 
 // A machine goes through many of them: each takes at most 16 bytes.
 const _: () = prove!(std::mem::size_of::<Instr>() <= 16);
+
+/// What an instruction does to the operands on the stack.
+#[derive(Clone, Copy)]
+pub struct Operands {
+    /// How many it takes.
+    pub taken: usize,
+    /// How many it then puts there.
+    pub given: usize,
+}
+
+fn counts(taken: usize, given: usize) -> Operands
+    ensures { result ≡ record { taken = taken; given = given } }
+{
+    Operands { taken, given }
+}
+
+/// The operands of an instruction.
+pub fn operands_of(instr: &Instr) -> Operands
+    ensures is { result ≡ operands_of instr.now }
+    ensures most { result.given ≤ 1 }
+{
+    match instr {
+        Instr::Push(_) | Instr::Get(_) | Instr::GetChar => counts(0, 1),
+        Instr::Extend(_) | Instr::Minus(_) | Instr::Flip(_) | Instr::Cast(_) => counts(1, 1),
+        Instr::PutChar => counts(1, 1),
+        Instr::Put(_) | Instr::Drop | Instr::PutNumber => counts(1, 0),
+        Instr::Exit | Instr::SkipIfZero(_) | Instr::Return => counts(1, 0),
+        Instr::Binary(_, _) => counts(2, 1),
+        Instr::Assert(_, _, _) => counts(2, 0),
+        Instr::PutByte(_) | Instr::GoOn(_) | Instr::GoBack(_) => counts(0, 0),
+        Instr::Step | Instr::Fail => counts(0, 0),
+        Instr::Act(_, count) | Instr::Call(_, count) => counts(*count, 1),
+    }
+}
 
 /// Where a function begins in the code, and how many registers its calls have.
 #[derive(Clone, Copy)]

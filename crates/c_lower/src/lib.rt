@@ -10,5 +10,5 @@ mod program;
 mod simple;
 mod statements;
 
-pub use code::{Code, Entry, Instr};
+pub use code::{Code, Entry, Instr, operands_of};
 pub use program::lower;
