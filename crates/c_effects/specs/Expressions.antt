@@ -108,19 +108,28 @@ compound_in op m t u a b = in_type (result_type (operator_of op) m) t (Binary (o
 
 abbrev pub compound : BinOp → PlainType → PlainType → MonExpression → MonExpression → MonExpression
 compound op (Int k) (Int l) a b = compound_in op (register_type (operation_type op k l)) (register_type k) (register_type l) a b
-compound op _ _ a b = Constant I32 (pos 0)
+compound op (Int k) Void a b = Constant I32 (pos 0)
+compound op Void u a b = Constant I32 (pos 0)
 
 -- ---- expressions without effects
 
 -- the types of the temporary registers that an expression takes, in order
 abbrev pub temporaries : Expression → List MonType
+temporaries (Node at t (source.Number n k)) = []
+temporaries (Node at t (source.Letter n)) = []
+temporaries (Node at t (source.Variable x)) = []
 temporaries (Node at t (source.Unary op a)) = temporaries a
 temporaries (Node at t (source.Binary op a b)) = temporaries a ++ temporaries b
 temporaries (Node at t (source.Both a b)) = temporaries a ++ temporaries b ++ I32 ∷ []
 temporaries (Node at t (source.Either a b)) = temporaries a ++ temporaries b ++ I32 ∷ []
 temporaries (Node at t (source.Choice a b c)) = temporaries a ++ temporaries b ++ temporaries c ++ value_type (type_of b) ∷ []
 temporaries (Node at t (source.Cast to a)) = temporaries a
-temporaries _ = []
+temporaries (Node at t (source.SizeOfType u)) = []
+temporaries (Node at t (source.SizeOfExpr a)) = []
+-- these stand in no other expression
+temporaries (Node at t (source.Assign op a b)) = []
+temporaries (Node at t (source.Bump op a)) = []
+temporaries (Node at t (source.Call f args)) = []
 
 -- the value of an expression, over the variables of these numbers, after registers of these types
 abbrev pub value : List ℕ → List MonType → Expression → MonExpression
@@ -160,6 +169,9 @@ condition_of numbers rs e = condition (value_type (type_of e)) (value numbers rs
 
 -- what stands before the value of an expression
 abbrev pub setup : List ℕ → List MonType → Expression → MonStatements
+setup numbers rs (Node at t (source.Number n k)) = NoStatement
+setup numbers rs (Node at t (source.Letter n)) = NoStatement
+setup numbers rs (Node at t (source.Variable x)) = NoStatement
 setup numbers rs (Node at t (source.Unary op a)) = setup numbers rs a
 setup numbers rs (Node at t (source.Binary op a b)) = before (setup numbers rs a) (setup numbers (rs ++ temporaries a) b)
 setup numbers rs (Node at t (source.Both a b)) =
@@ -177,7 +189,12 @@ setup numbers rs (Node at t (source.Choice a b c)) =
     (before (setup numbers (rs ++ temporaries a ++ temporaries b) c) (set (length (rs ++ temporaries a ++ temporaries b ++ temporaries c))
     (value numbers (rs ++ temporaries a ++ temporaries b) c)))))
 setup numbers rs (Node at t (source.Cast to a)) = setup numbers rs a
-setup numbers rs _ = NoStatement
+setup numbers rs (Node at t (source.SizeOfType u)) = NoStatement
+setup numbers rs (Node at t (source.SizeOfExpr a)) = NoStatement
+-- these stand in no other expression
+setup numbers rs (Node at t (source.Assign op a b)) = NoStatement
+setup numbers rs (Node at t (source.Bump op a)) = NoStatement
+setup numbers rs (Node at t (source.Call f args)) = NoStatement
 
 -- ---- annotations
 

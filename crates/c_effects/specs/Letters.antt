@@ -16,14 +16,21 @@ pub record IsLetter (z : ℤ) : Type 0 where
 -- ---- expressions
 
 abbrev pub HasLetters : Expression → Type 0
+HasLetters (Node at t (source.Number n k)) = Unit {0}
 HasLetters (Node at t (source.Letter n)) = IsLetter n
+HasLetters (Node at t (source.Variable x)) = Unit {0}
 HasLetters (Node at t (source.Unary op a)) = HasLetters a
 HasLetters (Node at t (source.Binary op a b)) = HasLetters a × HasLetters b
 HasLetters (Node at t (source.Both a b)) = HasLetters a × HasLetters b
 HasLetters (Node at t (source.Either a b)) = HasLetters a × HasLetters b
 HasLetters (Node at t (source.Choice a b c)) = HasLetters a × HasLetters b × HasLetters c
 HasLetters (Node at t (source.Cast to a)) = HasLetters a
-HasLetters _ = Unit {0}
+HasLetters (Node at t (source.SizeOfType u)) = Unit {0}
+HasLetters (Node at t (source.SizeOfExpr a)) = Unit {0}
+-- these stand in no other expression
+HasLetters (Node at t (source.Assign op a b)) = Unit {0}
+HasLetters (Node at t (source.Bump op a)) = Unit {0}
+HasLetters (Node at t (source.Call f args)) = Unit {0}
 
 abbrev pub ArgumentsHaveLetters : Expressions → Type 0
 ArgumentsHaveLetters NoExpression = Unit {0}

@@ -2,8 +2,8 @@
 -- What the numbers of a tree's types bound, in the parts that are translated: the number and the line of an annotation are of 32
 -- bits, a letter is a value of `char`, and registers can be numbered.
 use Rattle.std.specs.Prelude.{◌≡◌, true, ◌<◌, ◌^◌, ◌++◌, length, List, [], ◌∷◌, Option, Some, None}
-use Rattle.c_syntax.specs.Statements.{Statement, Eval, Block, If, While, Do, For, Return, ElsePart, NoElse, Else, ForFirst, NoFirst, First, BlockItem, Declare}
-use Rattle.c_syntax.specs.Statements.{Run, Asserts, BlockItems, NoItem, Then}
+use Rattle.c_syntax.specs.Statements.{Statement, Empty, Eval, Block, If, While, Do, For, Break, Continue, Return}
+use Rattle.c_syntax.specs.Statements.{ElsePart, NoElse, Else, ForFirst, NoFirst, First, BlockItem, Declare, Run, Asserts, BlockItems, NoItem, Then}
 use Rattle.c_syntax.specs.Programs.{Function}
 use Rattle.c_model.specs.Meaning.{is_definition}
 use Rattle.c_effects.specs.Letters.{Any, HasLetters, FullHasLetters, EffectHasLetters, InitialsHaveLetters, AreNumbered}
@@ -13,14 +13,16 @@ use Rattle.instrument.specs.Translation.{variable_types, body_temporaries}
 
 abbrev mutual
   pub HasNumbers : Statement → Type 0
+  HasNumbers (Empty at) = Unit {0}
   HasNumbers (Eval at e) = EffectHasLetters e
   HasNumbers (Block at items) = HaveNumbers items
   HasNumbers (If at e a b) = HasLetters e × HasNumbers a × ElseHasNumbers b
   HasNumbers (While at annots e a) = HasLetters e × HasNumbers a
   HasNumbers (Do at a e) = HasNumbers a × HasLetters e
   HasNumbers (For at annots first e behind a) = FirstHasNumbers first × Any HasLetters e × HasNumbers a × Any EffectHasLetters behind
+  HasNumbers (Break at) = Unit {0}
+  HasNumbers (Continue at) = Unit {0}
   HasNumbers (Return at e) = Any FullHasLetters e
-  HasNumbers _ = Unit {0}
 
   pub ElseHasNumbers : ElsePart → Type 0
   ElseHasNumbers NoElse = Unit {0}

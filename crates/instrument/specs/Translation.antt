@@ -59,6 +59,7 @@ index_of_main names (f ∷ fs) =
 
 abbrev mutual
   pub statement_temporaries : Statement → List MonType
+  statement_temporaries (source_statement.Empty at) = []
   statement_temporaries (source_statement.Eval at e) = effect_temporaries e
   statement_temporaries (source_statement.Block at body) = items_temporaries body
   statement_temporaries (source_statement.If at e a b) = temporaries e ++ statement_temporaries a ++ else_temporaries b
@@ -66,8 +67,9 @@ abbrev mutual
   statement_temporaries (source_statement.Do at a e) = statement_temporaries a ++ temporaries e
   statement_temporaries (source_statement.For at annots first e behind a) =
       first_temporaries first ++ any_temporaries temporaries e ++ statement_temporaries a ++ any_temporaries effect_temporaries behind
+  statement_temporaries (source_statement.Break at) = []
+  statement_temporaries (source_statement.Continue at) = []
   statement_temporaries (source_statement.Return at e) = any_temporaries full_temporaries e
-  statement_temporaries _ = []
 
   pub else_temporaries : ElsePart → List MonType
   else_temporaries NoElse = []
