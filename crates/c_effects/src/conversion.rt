@@ -3,19 +3,11 @@
 ghost use Rattle.std.specs.Prelude.{◌≡◌};
 ghost use Rattle.c_syntax.specs.Ctypes.{plain_type};
 ghost use Rattle.c_model.specs.Conversions.{operation_type};
-ghost use Rattle.mon_syntax.specs.Checking.{same_type};
-ghost use Rattle.mon_syntax.specs.Valid.{is_relation, result_type};
 ghost use Rattle.c_effects.specs.Expressions.{operand_type, register_type, value_type};
 
 use c_syntax::{BinOp, CInt, CType};
 use c_type_rules::conversion::{common, is_shift, promoted};
-use mon_syntax::{MonOp, MonType};
-
-pub fn same_type(first: MonType, second: MonType) -> bool
-    ensures { result ≡ same_type first second }
-{
-    first == second
-}
+use mon_syntax::MonType;
 
 /// The type of a register that holds values of the type.
 pub fn register_type(k: CInt) -> MonType
@@ -57,23 +49,6 @@ pub fn operand_type(t: MonType) -> MonType
         // no operator takes a pointer
         MonType::Ptr => MonType::U64,
     }
-}
-
-fn is_relation(op: MonOp) -> bool
-    ensures { result ≡ is_relation op }
-{
-    match op {
-        MonOp::Eq | MonOp::Ne | MonOp::Lt | MonOp::Le | MonOp::Gt | MonOp::Ge => true,
-        MonOp::Add | MonOp::Sub | MonOp::Mul | MonOp::Div | MonOp::Rem => false,
-        MonOp::Shl | MonOp::Shr | MonOp::And | MonOp::Or | MonOp::Xor => false,
-    }
-}
-
-/// The type that an operator gives on operands of a type.
-pub fn result_type(op: MonOp, t: MonType) -> MonType
-    ensures { result ≡ result_type op t }
-{
-    if is_relation(op) { MonType::I32 } else { t }
 }
 
 /// The type in which an operator computes on operands of two types (C99 6.3.1.8, 6.5.7 p3).

@@ -5,9 +5,9 @@ ghost use Rattle.c_syntax.specs.Ctypes.{plain_type};
 ghost use Rattle.mon_syntax.specs.Trees.{Binary, Constant, Register, plain_expr};
 ghost use Rattle.c_effects.specs.Expressions.{binary, compared, compound, compound_in, condition, in_type, operator_of, truth, unary};
 
-use crate::conversion::{operand_type, operation_type, register_type, result_type, same_type};
+use crate::conversion::{operand_type, operation_type, register_type};
 use c_syntax::{BinOp, CType, UnOp};
-use mon_syntax::{MonExpr, MonExprKind, MonOp, MonType};
+use mon_syntax::{MonExpr, MonExprKind, MonOp, MonType, result_type, same_type};
 use std::alloc::{AllocError, Global};
 
 /// The operator of registers that does what the operator does.

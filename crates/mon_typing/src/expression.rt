@@ -11,10 +11,10 @@ ghost use Rattle.mon_typing.specs.Scopes.{plain_scope};
 
 use crate::fault::CheckFault;
 use crate::scope::{Scope, register_of};
-use crate::types::{has_constant, is_arithmetic, is_whole, result_type, same_type};
+use crate::types::{has_constant, is_arithmetic, is_whole};
 use c_syntax::Place;
 use mon_parser::parsed::{Literal, NameUse, ParsedExpr, ParsedExprKind};
-use mon_syntax::{MonExpr, MonExprKind, MonOp, MonType};
+use mon_syntax::{MonExpr, MonExprKind, MonOp, MonType, result_type, same_type};
 use std::alloc::Global;
 
 /// An expression with its type.

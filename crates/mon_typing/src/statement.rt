@@ -17,11 +17,10 @@ use crate::call::checked_call;
 use crate::expression::{checked_expression, condition, of_type};
 use crate::fault::CheckFault;
 use crate::scope::{Scope, is_free, name_at, register_of};
-use crate::types::same_type;
 use c_syntax::Place;
 use mon_parser::parsed::{NameUse, ParsedCall, ParsedExpr, ParsedStmt, ParsedStmtKind};
 use mon_parser::word_at;
-use mon_syntax::{MemoryCall, MonStmt, MonStmtKind, MonType};
+use mon_syntax::{MemoryCall, MonStmt, MonStmtKind, MonType, same_type};
 use std::alloc::Global;
 
 /// The labels around a statement, and those of the bodies after which it stands, by their names' numbers.

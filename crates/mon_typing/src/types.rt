@@ -1,16 +1,9 @@
 //! Types of registers.
 
 ghost use Rattle.std.specs.Prelude.{◌≡◌, IsTrue};
-ghost use Rattle.mon_syntax.specs.Checking.{same_type};
-ghost use Rattle.mon_syntax.specs.Valid.{is_arithmetic, is_whole, is_relation, result_type, has_constant};
+ghost use Rattle.mon_syntax.specs.Valid.{is_arithmetic, is_whole, has_constant};
 
-use mon_syntax::{MonOp, MonType};
-
-pub fn same_type(first: MonType, second: MonType) -> bool
-    ensures { result ≡ same_type first second }
-{
-    first == second
-}
+use mon_syntax::MonType;
 
 /// Whether operators work on the type.
 pub fn is_arithmetic(kind: MonType) -> bool
@@ -27,23 +20,6 @@ pub fn is_whole(kind: MonType) -> bool
     ensures { result ≡ is_whole kind }
 {
     kind != MonType::Ptr
-}
-
-fn is_relation(op: MonOp) -> bool
-    ensures { result ≡ is_relation op }
-{
-    match op {
-        MonOp::Eq | MonOp::Ne | MonOp::Lt | MonOp::Le | MonOp::Gt | MonOp::Ge => true,
-        MonOp::Add | MonOp::Sub | MonOp::Mul | MonOp::Div | MonOp::Rem => false,
-        MonOp::Shl | MonOp::Shr | MonOp::And | MonOp::Or | MonOp::Xor => false,
-    }
-}
-
-/// The type that an operator gives on operands of a type.
-pub fn result_type(op: MonOp, kind: MonType) -> MonType
-    ensures { result ≡ result_type op kind }
-{
-    if is_relation(op) { MonType::I32 } else { kind }
 }
 
 /// Whether a constant of the type has the value: one of the type, a whole-number type, but not the least `i128`.
