@@ -12,4 +12,3 @@ mod words;
 mod writer;
 
 pub use program::print;
-pub use words::kind_word;

@@ -11,11 +11,11 @@ use crate::call::{call, call_with, callee, put_char, set};
 use crate::expression::{Named, between, expression};
 use crate::line::{Depth, closing, line};
 use crate::strings::{number, string};
-use crate::words::{kind_word, memory_word};
+use crate::words::memory_word;
 use crate::writer::Writer;
 use c_syntax::Kind;
 use ea_ports::Sink;
-use mon_syntax::{MonExpr, MonStmt, MonStmtKind};
+use mon_syntax::{MonExpr, MonStmt, MonStmtKind, kind_word};
 
 // `R = e;`
 fn assignment<O: Sink>(r: u32, e: &MonExpr, named: &Named<'_>, to: &mut Writer, out: &mut O)

@@ -1,11 +1,9 @@
 //! Words and marks.
 
 ghost use Rattle.std.specs.Prelude.{◌≡◌};
-ghost use Rattle.c_model.specs.Reports.{kind_word};
 ghost use Rattle.mon_syntax.specs.Names.{constant_word, type_word};
 ghost use Rattle.mon_syntax.specs.Text.{memory_word, operator_mark, result_word};
 
-use c_syntax::Kind;
 use mon_syntax::{MemoryCall, MonOp, MonType};
 
 pub fn type_word(t: MonType) -> &'static str
@@ -82,22 +80,5 @@ pub fn memory_word(f: MemoryCall) -> &'static str
     match f {
         MemoryCall::StoreBlock => "__e_acsl_store_block",
         MemoryCall::DeleteBlock => "__e_acsl_delete_block",
-    }
-}
-
-/// The word of a kind of annotation.
-pub fn kind_word(kind: Kind) -> &'static str
-    ensures { result.now ≡ kind_word kind }
-{
-    match kind {
-        Kind::Assert => "assert",
-        Kind::Requires => "requires",
-        Kind::Assumes => "assumes",
-        Kind::Ensures => "ensures",
-        Kind::Complete => "complete",
-        Kind::Disjoint => "disjoint",
-        Kind::Invariant => "invariant",
-        Kind::Variant => "variant",
-        Kind::Rte => "rte",
     }
 }

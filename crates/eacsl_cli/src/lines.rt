@@ -7,9 +7,9 @@ ghost use Rattle.c_model.specs.Reports.{broken_words, how_word, line_of, refused
 ghost use Rattle.eacsl_cli.specs.Answers.{IsSaid, change};
 
 use crate::status;
-use c_printer::kind_word;
 use c_syntax::{How, Kind, Refusal};
 use ea_ports::{Sink, SinkFault};
+use mon_syntax::kind_word;
 use std::alloc::{AllocError, Global};
 
 fn how_word(how: How) -> &'static str

@@ -8,6 +8,7 @@ use Rattle.c_syntax.specs.RefusalCodes.{name_code, type_code}
 use Rattle.c_syntax.specs.declared.place.Place.{Place}
 use Rattle.c_syntax.specs.declared.annotation.Kind.{Kind}
 use Rattle.c_syntax.specs.declared.annotation.Kind.TheVariants.{Assert, Requires, Assumes, Ensures, Complete, Disjoint, Invariant, Variant, Rte}
+use Rattle.c_model.specs.Reports.{kind_word}
 use Rattle.mon_syntax.specs.declared.tree.MonType.{MonType}
 use Rattle.mon_syntax.specs.declared.tree.MonType.TheVariants.{I8, U8, I16, U16, I32, U32, I64, U64, I128, Ptr}
 use Rattle.mon_syntax.specs.declared.tree.MemoryCall.{MemoryCall}
@@ -156,18 +157,16 @@ string s (Value e) = checked_expression s e >>= λ x. type_fault (place_of e)
 string s (Number at z) = type_fault at
 string s (Text at bytes) = Ok (bytes, at)
 
--- the kinds of annotations, by the words that name them
-abbrev pub kind_words : List (List ℕ × Kind)
-kind_words =
-    (codes "assert", Assert) ∷ (codes "requires", Requires) ∷ (codes "assumes", Assumes) ∷ (codes "ensures", Ensures) ∷ (codes "complete", Complete)
-    ∷ (codes "disjoint", Disjoint) ∷ (codes "invariant", Invariant) ∷ (codes "variant", Variant) ∷ (codes "rte", Rte) ∷ []
+-- the kinds of annotations, and the one that a word names
+abbrev pub kinds : List Kind
+kinds = Assert ∷ Requires ∷ Assumes ∷ Ensures ∷ Complete ∷ Disjoint ∷ Invariant ∷ Variant ∷ Rte ∷ []
 
-abbrev pub kind_of : List (List ℕ × Kind) → List ℕ → Option Kind
+abbrev pub kind_of : List Kind → List ℕ → Option Kind
 kind_of [] w = None
-kind_of (k ∷ ks) w = if bytes_eq k.0 w then Some k.1 else kind_of ks w
+kind_of (k ∷ ks) w = if bytes_eq (kind_word k) w then Some k else kind_of ks w
 
 abbrev pub kind_named : Scope → ParsedArgument → Checked Kind
-kind_named s a = string s a >>= λ w. elim (kind_of kind_words w.0) [ None ↦ type_fault w.1 | Some k ↦ Ok k ]
+kind_named s a = string s a >>= λ w. elim (kind_of kinds w.0) [ None ↦ type_fault w.1 | Some k ↦ Ok k ]
 
 -- arguments beyond those that are wanted, each by itself
 abbrev pub others : Scope → List ParsedArgument → Checked (Unit {0})

@@ -11,4 +11,4 @@ pub use tree::{
     Register,
 };
 pub use types::{result_type, same_type};
-pub use word::{Runtime, Word};
+pub use word::{Runtime, Word, kind_word};

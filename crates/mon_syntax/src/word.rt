@@ -1,6 +1,10 @@
 //! The words of monitored C.
 
+ghost use Rattle.std.specs.Prelude.{◌≡◌};
+ghost use Rattle.c_model.specs.Reports.{kind_word};
+
 use crate::tree::MonType;
+use c_syntax::Kind;
 
 /// A name of the runtime.
 #[derive(Clone, Copy, PartialEq, Eq, Debug)]
@@ -35,4 +39,21 @@ pub enum Word {
     Kept,
     Runtime(Runtime),
     Name,
+}
+
+/// The word of a kind of annotation, in a monitored text and in the line of a broken one.
+pub fn kind_word(kind: Kind) -> &'static str
+    ensures { result.now ≡ kind_word kind }
+{
+    match kind {
+        Kind::Assert => "assert",
+        Kind::Requires => "requires",
+        Kind::Assumes => "assumes",
+        Kind::Ensures => "ensures",
+        Kind::Complete => "complete",
+        Kind::Disjoint => "disjoint",
+        Kind::Invariant => "invariant",
+        Kind::Variant => "variant",
+        Kind::Rte => "rte",
+    }
 }

@@ -2,9 +2,10 @@
 
 ghost use Rattle.std.specs.Prelude.{◌≡◌, ℕ, List, map, bytes_eq};
 ghost use Rattle.c_syntax.specs.declared.annotation.Kind.{Kind};
+ghost use Rattle.c_model.specs.Reports.{kind_word};
 ghost use Rattle.mon_syntax.specs.Trees.{plain_expr, MonExpression, MonStatement};
 ghost use Rattle.mon_syntax.specs.Parsed.{ParsedArgument};
-ghost use Rattle.mon_syntax.specs.Checking.{value_of_type, small_number, string, kind_words, kind_of, kind_named, others, wrong_number, no_more, arguments_of};
+ghost use Rattle.mon_syntax.specs.Checking.{value_of_type, small_number, string, kinds, kind_of, kind_named, others, wrong_number, no_more, arguments_of};
 ghost use Rattle.mon_parser.specs.ParsedTrees as read;
 ghost use Rattle.mon_typing.specs.Answers.{Fails, Gives};
 ghost use Rattle.mon_typing.specs.Arguments.{first_of, only_kind, only_value, only_string};
@@ -15,7 +16,7 @@ use crate::fault::CheckFault;
 use crate::scope::Scope;
 use c_syntax::{Kind, Name, Place};
 use mon_parser::parsed::ParsedArg;
-use mon_syntax::{MonExpr, MonType};
+use mon_syntax::{MonExpr, MonType, kind_word};
 use std::alloc::Global;
 
 fn value_of_type(
@@ -67,33 +68,33 @@ fn string<'a>(
     }
 }
 
-fn is_word(word: &[u8], text: &[u8]) -> bool
-    ensures { result ≡ bytes_eq text.now word.now }
+fn names_kind(word: &[u8], kind: Kind) -> bool
+    ensures { result ≡ bytes_eq (kind_word kind) word.now }
 {
-    text == word
+    kind_word(kind).as_bytes() == word
 }
 
 /// The kind of annotation that the word names.
 fn kind_of(word: &[u8]) -> Option<Kind>
-    ensures { result ≡ kind_of kind_words word.now }
+    ensures { result ≡ kind_of kinds word.now }
 {
-    if is_word(word, b"assert") {
+    if names_kind(word, Kind::Assert) {
         Some(Kind::Assert)
-    } else if is_word(word, b"requires") {
+    } else if names_kind(word, Kind::Requires) {
         Some(Kind::Requires)
-    } else if is_word(word, b"assumes") {
+    } else if names_kind(word, Kind::Assumes) {
         Some(Kind::Assumes)
-    } else if is_word(word, b"ensures") {
+    } else if names_kind(word, Kind::Ensures) {
         Some(Kind::Ensures)
-    } else if is_word(word, b"complete") {
+    } else if names_kind(word, Kind::Complete) {
         Some(Kind::Complete)
-    } else if is_word(word, b"disjoint") {
+    } else if names_kind(word, Kind::Disjoint) {
         Some(Kind::Disjoint)
-    } else if is_word(word, b"invariant") {
+    } else if names_kind(word, Kind::Invariant) {
         Some(Kind::Invariant)
-    } else if is_word(word, b"variant") {
+    } else if names_kind(word, Kind::Variant) {
         Some(Kind::Variant)
-    } else if is_word(word, b"rte") {
+    } else if names_kind(word, Kind::Rte) {
         Some(Kind::Rte)
     } else {
         None
