@@ -11,6 +11,7 @@ use Rattle.mon_syntax.specs.declared.tree.MonStmtKind.{MonStmtKind}
 use Rattle.mon_syntax.specs.declared.tree.Register.{Register}
 use Rattle.std.specs.Prelude.{codes}
 use Rattle.c_syntax.specs.declared.annotation.Kind.{Kind}
+use Rattle.c_model.specs.MonitoredTokens.{is_plain}
 use Rattle.c_model.specs.Reports.{kind_word}
 use Rattle.mon_syntax.specs.declared.tree.MonExpr.{MonExpr}
 use Rattle.mon_syntax.specs.declared.tree.MonExprKind.{MonExprKind}
@@ -19,7 +20,7 @@ use Rattle.mon_syntax.specs.declared.tree.MonOp.{MonOp}
 use Rattle.mon_syntax.specs.Names.{constant_word, type_word}
 use Rattle.mon_syntax.specs.Trees.{MonExpression, Constant, Binary, Minus, Flip, Cast, Set, Assert, Return, If, Loop, Labelled, MonStatement, MonStatements, MonRegister, MonFunction, plain_expr, plain_expr_kind, plain_stmt, plain_stmt_kind}
 use Rattle.mon_syntax.specs.Trees.{plain_stmts, plain_register, plain_func}
-use Rattle.mon_syntax.specs.Text.{Piece, FunctionNames, arguments_pieces, more_arguments, set_or_none, Word, Mark, escaped, is_plain, Registers, Quoted, blank, body_pieces, new_line, right_paren, statements_pieces, registers_pieces, more_parameters}
+use Rattle.mon_syntax.specs.Text.{Piece, FunctionNames, arguments_pieces, more_arguments, set_or_none, Word, Mark, escaped, Registers, Quoted, blank, body_pieces, new_line, right_paren, statements_pieces, registers_pieces, more_parameters}
 use Rattle.mon_syntax.specs.Text.{function_pieces, functions_pieces, assert_arguments, call_pieces, expression_pieces, name_of, number_pieces, operator_mark, parameter_pieces, parameters_pieces, result_word, in_parens, semicolon, set_pieces, spelled}
 use Rattle.mon_syntax.specs.Text.{spelled_piece, statement_pieces}
 use Rattle.std.specs.Prelude.{Option, option_map}

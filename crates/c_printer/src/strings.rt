@@ -2,7 +2,8 @@
 
 ghost use Rattle.std.specs.Prelude.{◌≡◌};
 ghost use Rattle.std.specs.Fmt.{decimal};
-ghost use Rattle.mon_syntax.specs.Text.{escaped, is_plain, number_pieces, Quoted, spelled, spelled_piece};
+ghost use Rattle.c_model.specs.MonitoredTokens.{is_plain};
+ghost use Rattle.mon_syntax.specs.Text.{escaped, number_pieces, Quoted, spelled, spelled_piece};
 ghost use Rattle.c_printer.specs.Printing.{Printed, pipe_of};
 
 use crate::writer::Writer;

@@ -1,8 +1,9 @@
 -- Ours: how monitored C is printed.
 -- The text of a program in monitored C: one statement a line, indented by two blanks for each body around it.
-use Rattle.std.specs.Prelude.{ℕ, suc, ◌+◌, ◌*◌, ◌/◌, ◌%◌, ℤ, pos, negsuc, List, [], ◌∷◌, ◌++◌, replicate, Option, Some, None, Bool, not, ◌&&◌, if◌then◌else◌}
-use Rattle.std.specs.Prelude.{nat_le, nat_eq, slice_get, codes, map}
+use Rattle.std.specs.Prelude.{ℕ, suc, ◌+◌, ◌*◌, ◌/◌, ◌%◌, ℤ, pos, negsuc, List, [], ◌∷◌, ◌++◌, replicate, Option, Some, None, if◌then◌else◌}
+use Rattle.std.specs.Prelude.{slice_get, codes, map}
 use Rattle.std.specs.Fmt.{decimal}
+use Rattle.c_model.specs.MonitoredTokens.{is_plain}
 use Rattle.c_model.specs.Reports.{kind_word}
 use Rattle.mon_syntax.specs.declared.tree.MonType.{MonType}
 use Rattle.mon_syntax.specs.declared.tree.MonOp.{MonOp}
@@ -26,11 +27,7 @@ pub data Piece : Type 0 where
   Mark : List ℕ → Piece
   Blanks : List ℕ → Piece
 
--- a byte that stands for itself in a string: 32 to 126, without `"` and `\`
-abbrev pub is_plain : ℕ → Bool
-is_plain b = nat_le 32 b && nat_le b 126 && not (nat_eq b 34) && not (nat_eq b 92)
-
--- another is `\` and three octal digits
+-- a byte that stands for itself in a string, and `\` and three octal digits for another
 abbrev pub escaped : ℕ → List ℕ
 escaped b = if is_plain b then b ∷ [] else 92 ∷ (48 + b / 64) ∷ (48 + b / 8 % 8) ∷ (48 + b % 8) ∷ []
 
