@@ -7,7 +7,6 @@ use Rattle.c_model.specs.State.{Input, Final, ReadFault}
 use Rattle.c_model.proofs.Agreement.{extends_trans}
 use Rattle.c_model.specs.Meaning.{Ran}
 use Rattle.c_model.specs.Reports.{Report, report, line_of, refused_words, Extends}
-use Rattle.c_reader.proofs.Programs.{accepted_never_faults}
 use Rattle.mon_syntax.specs.Trees.{MonitoredProgram}
 use Rattle.mon_syntax.specs.Memories.{over_flat, flat_start, flat_run}
 use Rattle.mon_syntax.specs.Text.{text_of}
@@ -138,7 +137,7 @@ module _ {source : Taking} {text : List ℕ} {err : Change} {result : ℕ} where
   module _ {told told' : Option (List ℕ)} {faults faults' : ℕ} where
     pub run_executed : {steps : ℕ} (m : MonitoredProgram) → IsTranslated text m → Answered (AnswersOnInput source m steps) (BeginsOnInput source m steps) (change told told' faults faults') err result
         → Answered (RunDue source text steps) (RunBegins source text steps) (change told told' faults faults') err result
-    run_executed m t x = answered_by (λ _ d. Runs t.program m t.accepted t.translates (accepted_never_faults text t.program t.accepted) d) (λ _ b. inr (t.program, m, t.accepted, t.translates, b)) x
+    run_executed m t x = answered_by (λ _ d. Runs t.program m t.accepted t.translates d) (λ _ b. inr (t.program, m, t.accepted, t.translates, b)) x
 
     pub exec_executed : {steps : ℕ} (m : MonitoredProgram) → Spells text m → Answered (AnswersOnInput source m steps) (BeginsOnInput source m steps) (change told told' faults faults') err result
         → Answered (ExecDue source text steps) (ExecBegins source text steps) (change told told' faults faults') err result

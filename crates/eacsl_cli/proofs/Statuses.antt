@@ -62,7 +62,7 @@ module _ {before now : ℕ} {source : Taking} where
 
   text_status : (job : Job) (text : List ℕ) (a : Answer) → TextDue source job text a → IsStatus before now source a.status
   text_status (Run file steps rte) text a (RunRefused r h u e) = given_status e (refused_status u)
-  text_status (Run file steps rte) text a (Runs p m x t n d) = run_status d
+  text_status (Run file steps rte) text a (Runs p m x t d) = run_status d
   text_status (Instrument file rte) text a (InstrumentRefused r h e, u) = given_status e (refused_status u)
   text_status (Instrument file rte) text a (Writes p m x t e, u) = given_status e (unasked_status 0 (omega arith) (λ s. absurd cc) u)
   text_status (Exec file steps) text a (ExecRefused r h u e) = given_status e (refused_status u)

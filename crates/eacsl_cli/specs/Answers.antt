@@ -10,7 +10,6 @@ use Rattle.c_model.specs.WordLaws.{file_named}
 use Rattle.c_model.specs.Phases.{AcceptedText, RefusedText}
 use Rattle.c_model.specs.State.{Input, InputFault, ReadFault}
 use Rattle.c_model.specs.Meaning.{Ran}
-use Rattle.c_model.specs.Laws.{NeverFaults}
 use Rattle.c_model.specs.Statuses.{exited_status, refused_status, usage_status, read_fault_status, write_fault_status, no_memory_status, no_file_status}
 use Rattle.c_model.specs.Statuses.{too_long_status}
 use Rattle.c_model.specs.Reports.{Report, report, line_of, refused_words, Extends}
@@ -93,8 +92,7 @@ pub record BeginsOnInput (source : Taking) (m : MonitoredProgram) (steps : ℕ) 
 -- to the source's first undefined operation this is the source's own run.
 pub data RunDue (source : Taking) (text : List ℕ) (steps : ℕ) (a : Answer) : Type 0 where
   RunRefused : (r : PlainRefusal) → RefusedText text r → Untouched source → a ≡ refused_answer r → RunDue source text steps a
-  Runs : (p : TranslationUnit) (m : MonitoredProgram) → AcceptedText text p → Translates p m → NeverFaults p → AnswersOnInput source m steps a
-      → RunDue source text steps a
+  Runs : (p : TranslationUnit) (m : MonitoredProgram) → AcceptedText text p → Translates p m → AnswersOnInput source m steps a → RunDue source text steps a
 
 -- `instrument`: the text is refused, or it is accepted, and a program in monitored C that translates it is written
 pub data InstrumentDue (text : List ℕ) (a : Answer) : Type 0 where
