@@ -1,7 +1,7 @@
 pub mod Placed
 pub mod Courses
 pub mod Runs
-pub mod Calls
+pub mod Correct
 pub mod Patched
 pub mod Written
 pub mod Starts

@@ -29,7 +29,7 @@ pub mod Library
 pub mod Programs
 pub mod Bodies
 pub mod Callees
-pub mod Runs
+pub mod Correct
 pub mod Typed
 pub mod ValidSetups
 pub mod ValidEffects

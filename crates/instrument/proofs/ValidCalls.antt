@@ -28,7 +28,7 @@ use Rattle.instrument.proofs.Functions.{parameter_ints}
 use Rattle.instrument.proofs.Numbers.{AreObjects, parameter_objects}
 use Rattle.instrument.proofs.Programs.{picked, index_by, IsPicked, has_number, definition_is, index_is, has_bytes, main_index_is}
 use Rattle.instrument.proofs.Callees.{IsOther, IsResolved, IsFunction, IsOfLibrary, IsNothing, ints_of, main, functions, resolved}
-use Rattle.instrument.proofs.Runs.{is_main}
+use Rattle.instrument.proofs.Correct.{is_main}
 use Rattle.instrument.proofs.ValidEffects.{CallValid, CallsValid}
 
 get_mapped : {A B : Type 0} (f : A → B) (l : List A) (k : ℕ) (a : A) → slice_get l k ≡ Some a → slice_get (map f l) k ≡ Some (f a)

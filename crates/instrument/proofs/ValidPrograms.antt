@@ -22,7 +22,7 @@ use Rattle.instrument.proofs.Numbers.{bounded, placed, AreObjects, parameter_obj
 use Rattle.instrument.proofs.Programs.{Part, Parts, parts_of, is_picked, index_by, has_bytes, main_index_is}
 use Rattle.instrument.proofs.Bodies.{HasBody, has_body, numbers_long}
 use Rattle.instrument.proofs.Callees.{main}
-use Rattle.instrument.proofs.Runs.{is_main}
+use Rattle.instrument.proofs.Correct.{is_main}
 use Rattle.instrument.proofs.Typed.{Begins}
 use Rattle.instrument.proofs.ValidBlocks.{HaveVariables, have_variables, variables_front, variables_back, own_variables, Sees, sees_one, point_born, deep_alive, alive_valid}
 use Rattle.instrument.proofs.Depths.{deep}

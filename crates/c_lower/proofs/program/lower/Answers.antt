@@ -7,7 +7,7 @@ use Rattle.c_lower.specs.declared.code.Instr.{Instr}
 use Rattle.c_lower.specs.Lowered.{RunsAs}
 use Rattle.c_lower.specs.Sound.{IsSound}
 use Rattle.c_lower.proofs.Jumps.{is_sound}
-use Rattle.c_lower.proofs.Calls.{lowered}
+use Rattle.c_lower.proofs.Correct.{lowered}
 use Rattle.c_lower.proofs.program.lower.Goals as goal
 
 -- what holds of a program's parts holds of what is equal to them

@@ -4,7 +4,7 @@ use Rattle.c_model.specs.Meaning.{run}
 use Rattle.c_model.specs.Reports.{Agrees}
 use Rattle.mon_syntax.specs.Memories.{block_run}
 use Rattle.mon_syntax.specs.Valid.{IsValid}
-use Rattle.instrument.proofs.Runs.{translated_agrees}
+use Rattle.instrument.proofs.Correct.{translated_agrees}
 use Rattle.instrument.proofs.ValidPrograms.{translated_valid}
 use Rattle.instrument.proofs.program.instrument.Goals as goal
 

@@ -1,4 +1,4 @@
--- Calls of functions, and whole programs.
+-- Calls of functions, and whole programs: the code does what the program means.
 use Rattle.std.proofs.Common.{◌≡◌, ℕ, zero, suc, ◌+◌, ◌≤◌, ℤ, pos, List, [], ◌∷◌, ◌++◌, length, Option, Some, None, refl, sym, ap, ◌∙◌, subst, arith, append-nil, le_trans}
 use Rattle.std.specs.Prelude.{slice_get, codes}
 use Rattle.c_model.specs.State.{Input, Fault}
