@@ -4,13 +4,18 @@
 //! temporary register. So the statements of an expression stand before a value that has no effect.
 #![tactic(auto)]
 
-pub mod annotation;
-pub mod call;
+// where code stands, and what it is made of
 pub mod conversion;
 pub mod definition;
-pub mod effect;
-pub mod expression;
-pub mod full;
 pub mod operator;
 pub mod part;
 pub mod scene;
+
+// expressions and effects
+pub mod call;
+pub mod effect;
+pub mod expression;
+pub mod full;
+
+// annotations
+pub mod annotation;

@@ -1,15 +1,20 @@
 //! The tokens of texts (C99 6.4, ACSL): of a C text with annotations, and of a monitored text.
 #![tactic(auto)]
 
+// bytes, places, and what is read so far
 mod bytes;
-mod chars;
-mod monitored;
 mod names;
-mod numbers;
-mod pieces;
 mod places;
 mod reading;
+
+// monitored texts
+mod chars;
+mod monitored;
+mod numbers;
+mod pieces;
 mod refusals;
+
+// C texts
 mod source;
 
 pub use monitored::mon_tokens;

@@ -1,15 +1,19 @@
+-- numbers of 128 bits
 pub mod Wrapped
 pub mod Bitwise
+-- the state: operands, what is taken from the source, and memory
 pub mod Operands
-pub mod Taken
-pub mod Moves
+pub mod Depths
 pub mod States
+pub mod Taken
+pub mod Stored
+-- instructions
+pub mod Moves
 pub mod Writes
 pub mod Acted
-pub mod Stored
 pub mod Calling
 pub mod Kept
-pub mod Courses
+-- runs
 pub mod Measure
+pub mod Courses
 pub mod Finished
-pub mod Depths

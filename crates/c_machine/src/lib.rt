@@ -1,18 +1,23 @@
 //! The machine that runs stack code over flat memory.
 #![tactic(auto)]
 
-mod arithmetic;
-mod blocks;
-mod calls;
+// what the machine holds
 mod depth;
 mod machine;
 mod memory;
+pub mod stop;
+
+// instructions
+mod arithmetic;
+mod blocks;
+mod calls;
 mod quiet;
 mod reading;
-pub mod stop;
 mod turn;
-mod whole;
 mod writing;
+
+// runs
+mod whole;
 
 pub use stop::{Ran, Stop};
 pub use whole::run;

@@ -1,14 +1,17 @@
 //! Prints programs in monitored C.
 #![tactic(auto)]
 
-mod call;
-mod expression;
-mod function;
+// what is written to, and the smallest parts
 mod line;
-mod program;
-mod statement;
 mod strings;
 mod words;
 mod writer;
+
+// a program, from its expressions up
+mod call;
+mod expression;
+mod function;
+mod program;
+mod statement;
 
 pub use program::print;

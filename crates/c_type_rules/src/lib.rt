@@ -5,13 +5,16 @@
 //! A function for each construct gives its typed part, or of all faults of its smallest faulty parts the first in the text.
 #![tactic(auto)]
 
-pub mod call;
+// what is known of names and types
 pub mod conversion;
-pub mod expression;
 pub mod fault;
 pub mod library;
-pub mod operator;
 pub mod scope;
 pub mod signature;
+
+// expressions
+pub mod call;
+pub mod expression;
+pub mod operator;
 
 pub use fault::{Fault, TypeFault};

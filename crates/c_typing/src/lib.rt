@@ -4,16 +4,23 @@
 //! A function for each construct gives its typed part, or of all faults of its smallest faulty parts the first in the text.
 #![tactic(auto)]
 
-pub mod annotation;
+// what typing gives
 pub mod checked;
+
+// names and types
 pub mod declaration;
 pub mod function;
 pub mod heading;
-pub mod laws;
-pub mod noted;
 pub mod parameter;
 pub mod program;
 pub mod statement;
+
+// annotations
+pub mod annotation;
+pub mod noted;
+
+// laws
+pub mod laws;
 
 pub use c_type_rules::{Fault, TypeFault};
 pub use checked::{ProgramFault, Typed};

@@ -4,23 +4,32 @@
 //! tests call with plain values.
 #![tactic(auto)]
 
+// texts and grammars
 #[cfg(test)]
-mod host;
+mod monitored;
+#[cfg(test)]
+mod printing;
+#[cfg(test)]
+mod reading;
+
+// code and the machine
 #[cfg(test)]
 mod lowering;
 #[cfg(test)]
 mod machine;
 #[cfg(test)]
 mod memory;
-#[cfg(test)]
-mod monitored;
+
+// ranges and conversions
 #[cfg(test)]
 mod numbers;
+
+// the outside
+#[cfg(test)]
+mod host;
 #[cfg(test)]
 mod ports;
-#[cfg(test)]
-mod printing;
-#[cfg(test)]
-mod reading;
+
+// what the tests compare with
 #[cfg(test)]
 mod same;

@@ -1,15 +1,18 @@
+-- names and registers
+pub mod Names
 pub mod Registers
 pub mod Headers
-pub mod Parts
-pub mod Calls
-pub mod Values
 pub mod Labels
+-- the program is what the definition says
+pub mod Parts
 pub mod Lists
+pub mod Values
+pub mod Calls
 pub mod Statements
 pub mod Functions
 pub mod Programs
+-- what is checked is valid
 pub mod Holds
-pub mod Names
-pub mod Validity
-pub mod Typed
 pub mod Words
+pub mod Typed
+pub mod Validity

@@ -3,17 +3,22 @@
 //! A function for each construct gives its part of the program, or the first fault in text order.
 #![tactic(auto)]
 
+// what is known of names and types
+pub mod fault;
+pub mod header;
+pub mod register;
+pub mod scope;
+pub mod types;
+
+// a program, from its expressions up
 pub mod argument;
 pub mod call;
 pub mod expression;
-pub mod fault;
 pub mod function;
-pub mod header;
-pub mod laws;
-pub mod register;
-pub mod scope;
 pub mod statement;
-pub mod types;
+
+// laws
+pub mod laws;
 
 pub use fault::CheckFault;
 pub use function::checked_program;
