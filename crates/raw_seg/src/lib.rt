@@ -1,4 +1,4 @@
-// Raw bytes after one type.
+// Raw bytes in one type.
 #![tactic(auto)]
 
 ghost use Rattle.std.specs.Prelude.{◌≡◌, ℕ, ◌+◌, ◌-◌, ◌*◌, ◌%◌, ◌^◌, ◌<◌, ◌≤◌, ◌⊎◌, length, replicate, slice_index, IfOk};
@@ -57,7 +57,7 @@ impl Seg {
     }
 
     /// The number in `width` bytes, the lowest first.
-    #[inline(always)]
+    #[inline]
     pub fn load(&self, at: usize, width: usize) -> u128
         requires width { IsWidth width }
         requires aligned { at % width ≡ 0 }
@@ -119,7 +119,7 @@ impl Seg {
     }
 
     /// The eight bytes from a place on as a number, which is one step of work.
-    #[inline(always)]
+    #[inline]
     pub fn word<L: Ledger>(&self, at: usize, steps: &mut Steps<L>) -> u64
         requires aligned { at % 8 ≡ 0 }
         requires inside { at + 8 ≤ length self.now }
@@ -171,7 +171,7 @@ impl Seg {
         *self.slots.get(at)
     }
 
-    #[inline(always)]
+    #[inline]
     fn load_2(&self, at: usize) -> u16
         requires { at + 2 ≤ length self.now }
         ensures { result ≡ number_of (bytes_at self.now at 2) }
@@ -180,7 +180,7 @@ impl Seg {
         u16::from_le_bytes([self.byte(at), self.byte(at + 1)])
     }
 
-    #[inline(always)]
+    #[inline]
     fn load_4(&self, at: usize) -> u32
         requires { at + 4 ≤ length self.now }
         ensures { result ≡ number_of (bytes_at self.now at 4) }
@@ -189,7 +189,7 @@ impl Seg {
         u32::from(self.load_2(at)) + u32::from(self.load_2(at + 2)) * 65536
     }
 
-    #[inline(always)]
+    #[inline]
     fn load_8(&self, at: usize) -> u64
         requires { at + 8 ≤ length self.now }
         ensures { result ≡ number_of (bytes_at self.now at 8) }
@@ -198,7 +198,7 @@ impl Seg {
         u64::from(self.load_4(at)) + u64::from(self.load_4(at + 4)) * 4294967296
     }
 
-    #[inline(always)]
+    #[inline]
     fn load_16(&self, at: usize) -> u128
         requires { at + 16 ≤ length self.now }
         ensures { result ≡ number_of (bytes_at self.now at 16) }
