@@ -1,0 +1,9 @@
+pub mod WordBits
+pub mod Tests
+pub mod Changes
+pub mod Moved
+pub mod Entries
+pub mod Lists
+pub mod Kept
+pub mod Marks
+pub mod CopiedMarks

@@ -1,0 +1,13 @@
+use Rattle.std.proofs.Common.{◌-◌, arith, ◌∙◌}
+use Rattle.shadow_segments.specs.Shadow.{test_of}
+use Rattle.shadow_segments.proofs.Marks.{unit_within, test_view}
+use Rattle.shadow_segments.proofs.Shadow.all_in_unit.Goals as goal
+
+pub state-requires : goal.state-requires
+state-requires g c = unit_within _ _ c.args.unit c.self.view_is c.requires.inside
+
+pub returns-clause-value : goal.returns-clause-value
+returns-clause-value g c =
+    c.passes.ensures
+    ∙ test_view (test_of c.args.asked) _ _ c.args.unit c.state.result c.args.from (c.args.to - c.args.from) c.self.view_is (unit_within _ _ c.args.unit c.self.view_is c.requires.inside)
+    c.state.ensures.value (omega (arith, c.requires.order, c.requires.small))

@@ -1,0 +1,6 @@
+use Rattle.std.proofs.Common.{◌-◌}
+use Rattle.shadow_segments.proofs.Tests.{written_test}
+use Rattle.shadow_segments.proofs.bits.are_written.Goals as goal
+
+pub returns : goal.returns
+returns c = written_test c.args.state c.ones-low.result c.args.from (c.args.to - c.args.from) c.ones-low.ensures

@@ -1,0 +1,125 @@
+// Two words of 64 bits for each unit of 16 bytes.
+
+ghost use Rattle.std.specs.Prelude.{◌≡◌, ℕ, ◌+◌, ◌<◌, ◌≤◌, length, replicate, get_or, set, IfOk, ◌%◌, ◌^◌};
+ghost use Rattle.shadow_segments.specs.Shadow.{changed, filled};
+
+use raw_seg::Seg;
+use raw_seg::steps::Steps;
+use std::alloc::{AllocError, Global};
+use std::marker::Model;
+use std::sync::ledger::Ledger;
+
+/// The words of a shadow, seen as two lists of numbers, by unit.
+#[derive(Drop)]
+pub struct Words {
+    seg: Seg,
+}
+
+impl Model for Words {
+    ghost use Rattle.std.specs.Prelude.{◌≡◌, ◌*◌, ◌/◌, ◌≤◌, length};
+    ghost use Rattle.shadow_segments.specs.Words.{UnitWords, words_of};
+
+    ghost Value = { UnitWords };
+
+    ghost view = { λ w. words_of w.seg };
+
+    ghost invariant = { λ w. (16 * (length w.seg / 16) ≡ length w.seg) × (length w.seg ≤ 268435456) };
+}
+
+impl Words {
+    /// So many units of zeros.
+    pub fn new(alloc: Global, units: u32) -> Result<Words, AllocError>
+        requires { units ≤ 16777216 }
+        ensures { IfOk result (λ words. words ≡ record { states = replicate units 0; places = replicate units 0 }) }
+    {
+        Ok(Words {
+            seg: Seg::new(alloc, 16 * units as usize)?,
+        })
+    }
+
+    pub fn len(&self) -> usize
+        ensures states { result ≡ length self.now.states }
+        ensures places { result ≡ length self.now.places }
+        ensures small { result ≤ 16777216 }
+    {
+        self.seg.len() / 16
+    }
+
+    /// The first word of a unit.
+    #[inline(always)]
+    pub fn state<L: Ledger>(&self, unit: usize, steps: &mut Steps<L>) -> u64
+        requires { unit < length self.now.states }
+        ensures value { result ≡ get_or self.now.states unit 0 }
+        ensures step { steps.new ≡ steps.old + 1 }
+    {
+        self.seg.word(16 * unit, steps)
+    }
+
+    /// The second word of a unit.
+    #[inline(always)]
+    pub fn place<L: Ledger>(&self, unit: usize, steps: &mut Steps<L>) -> u64
+        requires { unit < length self.now.states }
+        ensures value { result ≡ get_or self.now.places unit 0 }
+        ensures step { steps.new ≡ steps.old + 1 }
+    {
+        self.seg.word(16 * unit + 8, steps)
+    }
+
+    #[inline(always)]
+    pub fn set_state(&mut self, unit: usize, value: u64)
+        requires { unit < length self.old.states }
+        ensures { self.new ≡ record self.old { states = set self.old.states unit value } }
+    {
+        self.seg.set_word(16 * unit, value);
+    }
+
+    #[inline(always)]
+    pub fn set_place(&mut self, unit: usize, value: u64)
+        requires { unit < length self.old.states }
+        ensures { self.new ≡ record self.old { places = set self.old.places unit value } }
+    {
+        self.seg.set_word(16 * unit + 8, value);
+    }
+
+    /// The first word of a unit, for a change of it.
+    #[inline(always)]
+    pub fn peek(&self, unit: usize) -> u64
+        requires { unit < length self.now.states }
+        ensures { result ≡ get_or self.now.states unit 0 }
+    {
+        self.seg.load(16 * unit, 8) as u64
+    }
+
+    /// The second word of a unit, for a change of it.
+    #[inline(always)]
+    pub fn peek_place(&self, unit: usize) -> u64
+        requires { unit < length self.now.states }
+        ensures { result ≡ get_or self.now.places unit 0 }
+    {
+        self.seg.load(16 * unit + 8, 8) as u64
+    }
+
+    /// Writes the same two words on so many units.
+    pub fn fill(&mut self, first: usize, count: usize, state: u64, place: u64)
+        requires { first + count ≤ length self.old.states }
+        ensures { self.new ≡ record { states = filled self.old.states first count state; places = filled self.old.places first count place } }
+    {
+        let _ = self.len();
+        for i in 0..count {
+            self.set_state(first + i, state);
+            self.set_place(first + i, place);
+        }
+    }
+
+    /// Takes the high half of the first word away from so many units.
+    pub fn release(&mut self, first: usize, count: usize)
+        requires { first + count ≤ length self.old.states }
+        ensures { self.new ≡ record self.old { states = changed 0 (λ s. s % 2 ^ 32) self.old.states first count } }
+    {
+        let _ = self.len();
+        for i in 0..count {
+            let state = self.peek(first + i);
+            self.set_state(first + i, state % 4294967296);
+        }
+    }
+}
