@@ -33,3 +33,5 @@ mod ports;
 // what the tests compare with
 #[cfg(test)]
 mod same;
+#[cfg(test)]
+mod shadow;
