@@ -31,6 +31,30 @@ halves bytes at n m power is le =
     ∙ ap (λ p. p * number_of (bytes_at bytes (at + n) m)) (sym is) in
     omega (arith, whole, factor)
 
+-- bytes of a number in two parts, the lower one first
+pub bytes_of-add : (n m a b : ℕ) → a < 256 ^ n → bytes_of (n + m) (a + b * 256 ^ n) ≡ bytes_of n a ++ bytes_of m b
+bytes_of-add zero m a b lt =
+    let none : 0 + m ≡ m = omega arith in
+    let whole : a + b * 1 ≡ b = omega (arith, lt) in
+    ap (λ k. bytes_of k (a + b * 1)) none ∙ ap (bytes_of m) whole
+bytes_of-add (suc n) m a b lt =
+    let step : suc n + m ≡ suc (n + m) = omega arith in
+    let power = pow-suc 256 n in
+    let product : b * 256 ^ suc n ≡ 256 * (b * 256 ^ n) = ap (λ p. b * p) power ∙ moved b (256 ^ n) in
+    let low : (a + b * 256 ^ suc n) % 256 ≡ a % 256 = omega (arith, product) in
+    let high : (a + b * 256 ^ suc n) / 256 ≡ a / 256 + b * 256 ^ n = omega (arith, product) in
+    let small : a / 256 < 256 ^ n = omega (arith, lt, power) in
+    ap (λ k. bytes_of k (a + b * 256 ^ suc n)) step ∙ ap (λ d. d ∷ bytes_of (n + m) ((a + b * 256 ^ suc n) / 256)) low ∙ ap (λ x. (a % 256) ∷ bytes_of (n + m) x) high ∙ ap (λ l. (a % 256) ∷ l) (bytes_of-add n m (a / 256) b small)
+  where
+    moved : (b p : ℕ) → b * (p * 256) ≡ 256 * (b * p)
+    moved b p = omega arith
+
+-- what is read in two parts is written again
+pub same_bytes : (bytes : List ℕ) (at n m power a b : ℕ) → power ≡ 256 ^ n → a < power → bytes_of n a ≡ bytes_at bytes at n → bytes_of m b ≡ bytes_at bytes (at + n) m → bytes_of (n + m) (a + b * power) ≡ bytes_at bytes at (n + m)
+same_bytes bytes at n m power a b is small first second =
+    let fits : a < 256 ^ n = omega (arith, is, small) in
+    ap (λ p. bytes_of (n + m) (a + b * p)) is ∙ bytes_of-add n m a b fits ∙ ap (λ l. l ++ bytes_of m b) first ∙ ap (λ l. bytes_at bytes at n ++ l) second ∙ sym (bytes_at-add bytes at n m)
+
 -- the bytes that `to_le_bytes` gives, from byte i on
 low_first : (i k n : ℕ) → bytes_low_first i k n ≡ bytes_of k (n / 256 ^ i)
 low_first i zero n = refl

@@ -63,6 +63,7 @@ impl Seg {
         requires aligned { at % width ≡ 0 }
         requires inside { at + width ≤ length self.now }
         ensures value { result ≡ number_of (bytes_at self.now at width) }
+        ensures bytes { bytes_of width result ≡ bytes_at self.now at width }
         ensures fits { result < 256 ^ width }
     {
         match width {
@@ -86,11 +87,11 @@ impl Seg {
         ensures len { length self.new ≡ length self.old }
     {
         match width {
-            1 => self.put(at, &[(value % 256) as u8]),
-            2 => self.put(at, &((value % 65536) as u16).to_le_bytes()),
-            4 => self.put(at, &((value % 4294967296) as u32).to_le_bytes()),
-            8 => self.put(at, &((value % 18446744073709551616) as u64).to_le_bytes()),
-            _ => self.put(at, &value.to_le_bytes()),
+            1 => self.copy_in(at, &[(value % 256) as u8]),
+            2 => self.copy_in(at, &((value % 65536) as u16).to_le_bytes()),
+            4 => self.copy_in(at, &((value % 4294967296) as u32).to_le_bytes()),
+            8 => self.copy_in(at, &((value % 18446744073709551616) as u64).to_le_bytes()),
+            _ => self.copy_in(at, &value.to_le_bytes()),
         }
     }
 
@@ -118,6 +119,16 @@ impl Seg {
         }
     }
 
+    /// Writes these bytes from a place on.
+    #[inline(always)]
+    pub fn copy_in(&mut self, at: usize, bytes: &[u8])
+        requires { at + length bytes.now ≤ length self.old }
+        ensures bytes { self.new ≡ with_bytes self.old at bytes.now }
+        ensures len { length self.new ≡ length self.old }
+    {
+        self.slots.copy_in(at, bytes);
+    }
+
     /// The eight bytes from a place on as a number, which is one step of work.
     #[inline]
     pub fn word<L: Ledger>(&self, at: usize, steps: &mut Steps<L>) -> u64
@@ -138,7 +149,7 @@ impl Seg {
         ensures bytes { self.new ≡ with_bytes self.old at (bytes_of 8 value) }
         ensures len { length self.new ≡ length self.old }
     {
-        self.put(at, &value.to_le_bytes());
+        self.copy_in(at, &value.to_le_bytes());
     }
 
     fn fill_blocks(&mut self, from: usize, blocks: usize, byte: u8)
@@ -148,7 +159,7 @@ impl Seg {
         ensures len { length self.new ≡ length self.old }
     {
         for i in 0..blocks {
-            self.put(from + BLOCK * i, &[byte; BLOCK]);
+            self.copy_in(from + BLOCK * i, &[byte; BLOCK]);
         }
     }
 
@@ -159,7 +170,7 @@ impl Seg {
         ensures len { length self.new ≡ length self.old }
     {
         for at in from..to {
-            self.put(at, &[byte]);
+            self.copy_in(at, &[byte]);
         }
     }
 
@@ -174,7 +185,9 @@ impl Seg {
     #[inline]
     fn load_2(&self, at: usize) -> u16
         requires { at + 2 ≤ length self.now }
-        ensures { result ≡ number_of (bytes_at self.now at 2) }
+        ensures value { result ≡ number_of (bytes_at self.now at 2) }
+        ensures bytes { bytes_of 2 result ≡ bytes_at self.now at 2 }
+        ensures small { result < 65536 }
     {
         let _ = &self.slots;
         u16::from_le_bytes([self.byte(at), self.byte(at + 1)])
@@ -183,7 +196,9 @@ impl Seg {
     #[inline]
     fn load_4(&self, at: usize) -> u32
         requires { at + 4 ≤ length self.now }
-        ensures { result ≡ number_of (bytes_at self.now at 4) }
+        ensures value { result ≡ number_of (bytes_at self.now at 4) }
+        ensures bytes { bytes_of 4 result ≡ bytes_at self.now at 4 }
+        ensures small { result < 4294967296 }
     {
         let _ = &self.slots;
         u32::from(self.load_2(at)) + u32::from(self.load_2(at + 2)) * 65536
@@ -192,7 +207,9 @@ impl Seg {
     #[inline]
     fn load_8(&self, at: usize) -> u64
         requires { at + 8 ≤ length self.now }
-        ensures { result ≡ number_of (bytes_at self.now at 8) }
+        ensures value { result ≡ number_of (bytes_at self.now at 8) }
+        ensures bytes { bytes_of 8 result ≡ bytes_at self.now at 8 }
+        ensures small { result < 18446744073709551616 }
     {
         let _ = &self.slots;
         u64::from(self.load_4(at)) + u64::from(self.load_4(at + 4)) * 4294967296
@@ -201,19 +218,11 @@ impl Seg {
     #[inline]
     fn load_16(&self, at: usize) -> u128
         requires { at + 16 ≤ length self.now }
-        ensures { result ≡ number_of (bytes_at self.now at 16) }
+        ensures value { result ≡ number_of (bytes_at self.now at 16) }
+        ensures bytes { bytes_of 16 result ≡ bytes_at self.now at 16 }
     {
         let _ = &self.slots;
         u128::from(self.load_8(at)) + u128::from(self.load_8(at + 8)) * 18446744073709551616
-    }
-
-    #[inline(always)]
-    fn put(&mut self, at: usize, bytes: &[u8])
-        requires { at + length bytes.now ≤ length self.old }
-        ensures bytes { self.new ≡ with_bytes self.old at bytes.now }
-        ensures len { length self.new ≡ length self.old }
-    {
-        self.slots.copy_in(at, bytes);
     }
 }
 

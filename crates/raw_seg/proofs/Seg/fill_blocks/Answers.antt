@@ -9,9 +9,9 @@ loop-i-preserved c =
     let more : done + 32 ≡ 32 * (c.loop-i.i + 1) = omega arith in
     record {
       filled =
-          c.put.ensures.bytes
+          c.copy_in.ensures.bytes
           ∙ ap (λ bytes. with_bytes bytes (c.args.from + done) (replicate 32 c.args.byte)) c.loop-i.invariant.filled
           ∙ fill_more c.args.self.now c.args.from (c.args.from + done) done 32 c.args.byte refl (omega (arith, c.requires.inside, c.loop-i-test.true))
           ∙ ap (λ n. with_bytes c.args.self.now c.args.from (replicate n c.args.byte)) more;
-      long = c.put.ensures.len ∙ c.loop-i.invariant.long;
+      long = c.copy_in.ensures.len ∙ c.loop-i.invariant.long;
     }

@@ -7,7 +7,7 @@ use Rattle.raw_seg.proofs.Seg.store.Goals as goal
 pub returns-in_default-clause-bytes : goal.returns-in_default-clause-bytes
 returns-in_default-clause-bytes c =
     let widest : c.args.width ≡ 16 = grind (arith, nat_tests, c.requires.width) in
-    c.put-in_default.ensures.bytes ∙ ap (with_bytes c.args.self.now c.args.at) (c.to_le_bytes-in_default.ensures ∙ le_bytes_16 c.args.value ∙ ap (λ w. bytes_of w c.args.value) (sym widest))
+    c.copy_in-in_default.ensures.bytes ∙ ap (with_bytes c.args.self.now c.args.at) (c.to_le_bytes-in_default.ensures ∙ le_bytes_16 c.args.value ∙ ap (λ w. bytes_of w c.args.value) (sym widest))
 
 pub returns-in_default-clause-stored : goal.returns-in_default-clause-stored
 returns-in_default-clause-stored c =
