@@ -1,0 +1,5 @@
+pub mod Regions
+pub mod Flat
+pub mod Questions
+pub mod Replies
+pub mod Tidy
