@@ -7,6 +7,7 @@ use Rattle.c_syntax.specs.declared.types.Segment.{Segment}
 use Rattle.c_syntax.specs.declared.types.Segment.TheVariants as segment
 use Rattle.c_model.specs.Memory.{rounded, greatest_number}
 use Rattle.shadow_segments.specs.declared.BlockNote.{BlockNote}
+use Rattle.shadow_segments.specs.Shadow.{units}
 use Rattle.block_runtime.specs.declared.address.RegionName.{RegionName}
 use Rattle.block_runtime.specs.declared.address.RegionName.TheVariants.{Globals, Stack, Heap}
 use Rattle.block_runtime.specs.declared.address.Spot.{Spot}
@@ -195,11 +196,13 @@ abbrev pub heap_birth : Flat → ℕ → Option ℕ → Reply ℕ
 heap_birth f n None = IsFull segment.Heap
 heap_birth f n (Some u) = Gives (pointer_to (f.births + 1) Heap (16 * u)) (born f Heap kind.Heap (16 * u) n)
 
--- `__e_acsl_malloc(n)` (C99 7.20.3.3): no bytes give null and take no number; a number is asked for first, and then a place
+-- a number is asked for first, and then a place
+abbrev pub heap_block : Flat → ℕ → Reply ℕ
+heap_block f n = if has_no_number f then IsFull segment.Numbers else heap_birth f n (heap_place f.heap.shadow.notes (units n))
+
+-- `__e_acsl_malloc(n)` (C99 7.20.3.3): no bytes give null and take no number
 abbrev pub flat_malloc : Flat → ℕ → Reply ℕ
-flat_malloc f zero = Gives 0 f
-flat_malloc f (suc n) =
-    if has_no_number f then IsFull segment.Numbers else heap_birth f (suc n) (heap_place f.heap.shadow.notes (rounded (suc n) / 16))
+flat_malloc f n = if nat_eq n 0 then Gives 0 f else heap_block f n
 
 -- so many bytes of the heap are the number 0
 abbrev pub zeroed : Flat → ℕ → ℕ → Flat

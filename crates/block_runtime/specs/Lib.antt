@@ -3,3 +3,4 @@ pub mod Flat
 pub mod Questions
 pub mod Replies
 pub mod Tidy
+pub mod Placed

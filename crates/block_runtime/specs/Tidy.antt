@@ -1,4 +1,4 @@
--- Ours: what a run's memory keeps to, so that there is a free place at the top of the stack, after the globals, and where the heap has one.
+-- Ours: what a run's memory keeps to, so that there is a free place at the top of the stack and one after the globals.
 use Rattle.std.specs.Prelude.{◌≡◌, ℕ, ◌/◌, ◌%◌, ◌≤◌, length, get_or, None}
 use Rattle.block_runtime.specs.Regions.{Region}
 

@@ -8,6 +8,7 @@ ghost use Rattle.block_runtime.specs.Replies.{Enters};
 
 use c_syntax::Segment;
 use flat_mem::Sizes;
+use seg_heap::Placer;
 use std::alloc::{AllocError, Global};
 use std::marker::Model;
 
@@ -15,6 +16,7 @@ pub mod access;
 pub mod address;
 pub mod answers;
 pub mod blocks;
+pub mod heap;
 pub mod looks;
 pub mod questions;
 pub mod region;
@@ -37,6 +39,7 @@ pub struct Runtime {
     globals: Region,
     stack: Region,
     heap: Region,
+    places: Placer,
     frames: u32,
     most_frames: u32,
     births: u32,
@@ -46,6 +49,7 @@ pub struct Runtime {
 
 impl Model for Runtime {
     ghost use Rattle.block_runtime.specs.Flat.{Flat};
+    ghost use Rattle.block_runtime.specs.Placed.{IsPlaced};
     ghost use Rattle.block_runtime.specs.Tidy.{IsTidy};
 
     ghost Value = { Flat };
@@ -61,7 +65,7 @@ impl Model for Runtime {
       heap = m.heap;
     } };
 
-    ghost invariant = { λ m. IsTidy m.globals m.placed × IsTidy m.stack m.top };
+    ghost invariant = { λ m. IsTidy m.globals m.placed × IsTidy m.stack m.top × IsPlaced m.places m.heap.shadow.notes };
 }
 
 impl Runtime {
@@ -74,6 +78,7 @@ impl Runtime {
             globals: Region::new(alloc, sizes.globals)?,
             stack: Region::new(alloc, sizes.stack)?,
             heap: Region::new(alloc, sizes.heap)?,
+            places: Placer::new(alloc, sizes.heap / 16)?,
             frames: 0,
             most_frames: sizes.frames,
             births: 0,

@@ -12,4 +12,4 @@ invariant_of-self c =
     let long = ap (λ m. length m.globals.bytes) c.self.view_is in
     let room : next ≤ length old.globals.bytes = omega (arith, c.requires.room, placed, long) in
     let born = tidy_born old.globals c.birth.new.self old.placed next note c.self.invariant.0 refl (omega arith) room c.birth.ensures in
-    (tidy_bytes c.birth.new.self c.fill_with.new.self next born c.fill_with.ensures.len (ap (λ r. r.shadow.notes) c.fill_with.ensures.value), c.self.invariant.1)
+    (tidy_bytes c.birth.new.self c.fill_with.new.self next born c.fill_with.ensures.len (ap (λ r. r.shadow.notes) c.fill_with.ensures.value), c.self.invariant.1, c.self.invariant.2)

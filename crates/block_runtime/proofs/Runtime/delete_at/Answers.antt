@@ -9,4 +9,5 @@ invariant_of-self c =
       c.self.invariant.0,
       tidy_deleted c.self.inside.stack c.death.new.self c.self.inside.top c.args.at c.args.number c.in-Some.note c.self.invariant.1
           (sym c.live_at.ensures.value ∙ c.in-Some.is) c.in-Some.ensures.whole c.if-note-at.false end c.death.ensures,
+      c.self.invariant.2,
     )

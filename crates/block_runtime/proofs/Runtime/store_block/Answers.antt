@@ -9,4 +9,5 @@ invariant_of-self c =
       c.self.invariant.0,
       tidy_born c.self.inside.stack c.birth.new.self c.self.inside.top (c.self.inside.top + (c.args.n / 16 + 1) * 16)
           (record { base = c.self.inside.top; length = c.args.n; number = c.self.inside.births + 1; kind = Stack }) c.self.invariant.1 refl (omega arith) room c.birth.ensures,
+      c.self.invariant.2,
     )
