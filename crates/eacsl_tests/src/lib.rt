@@ -32,6 +32,8 @@ mod ports;
 
 // what the tests compare with
 #[cfg(test)]
+mod runtime;
+#[cfg(test)]
 mod same;
 #[cfg(test)]
 mod shadow;
