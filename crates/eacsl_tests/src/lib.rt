@@ -19,6 +19,10 @@ mod lowering;
 mod machine;
 #[cfg(test)]
 mod memory;
+#[cfg(test)]
+mod runtime;
+#[cfg(test)]
+mod shadow;
 
 // ranges and conversions
 #[cfg(test)]
@@ -32,8 +36,4 @@ mod ports;
 
 // what the tests compare with
 #[cfg(test)]
-mod runtime;
-#[cfg(test)]
 mod same;
-#[cfg(test)]
-mod shadow;

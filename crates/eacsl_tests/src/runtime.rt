@@ -3,11 +3,10 @@
 ghost use Rattle.std.specs.Prelude.{◌≡◌};
 ghost use Rattle.flat_mem.specs.Room.{IsSizes};
 
-use crate::same::same_number;
+use crate::same::{made, same_number};
 use block_runtime::{RunFault, Runtime};
 use c_syntax::{BlockKind, Segment};
 use flat_mem::Sizes;
-use std::alloc::AllocError;
 use std::process::Abort;
 
 fn same_place(rt: &impl Abort, found: (u128, i128, i128), wanted: (u128, i128, i128)) {
@@ -88,8 +87,8 @@ fn place_of(memory: &Runtime, p: u64, o: i128) -> (u128, i128, i128) {
 const ON_STACK: u64 = 0x0000_0001_4000_0000;
 
 #[test]
-fn a_stack_block_lives_and_dies(rt: HostRuntime) -> Result<(), AllocError> {
-    let mut memory = Runtime::new(rt.alloc(), small())?;
+fn a_stack_block_lives_and_dies(rt: HostRuntime) {
+    let mut memory = made(&rt, Runtime::new(rt.alloc(), small()));
     let p = pointer_of(memory.store_block(40));
     same_number(&rt, u128::from(p), u128::from(ON_STACK));
     same_number(&rt, u128::from(pointer_of(memory.store_block(16))), 2);
@@ -118,7 +117,6 @@ fn a_stack_block_lives_and_dies(rt: HostRuntime) -> Result<(), AllocError> {
     same_number(&rt, u128::from(went(memory.delete_block(ON_STACK))), 1);
     same_number(&rt, known(&memory, ON_STACK), 0);
     same_number(&rt, u128::from(went(memory.delete_block(ON_STACK))), 0);
-    Ok(())
 }
 
 const FIRST: u64 = 0x0000_0001_8000_0000;
@@ -126,8 +124,8 @@ const FIRST: u64 = 0x0000_0001_8000_0000;
 const SECOND: u64 = 0x0000_0002_8000_0020;
 
 #[test]
-fn places_on_the_heap_are_used_again(rt: HostRuntime) -> Result<(), AllocError> {
-    let mut memory = Runtime::new(rt.alloc(), small())?;
+fn places_on_the_heap_are_used_again(rt: HostRuntime) {
+    let mut memory = made(&rt, Runtime::new(rt.alloc(), small()));
     same_number(
         &rt,
         u128::from(pointer_of(memory.malloc(16))),
@@ -156,7 +154,6 @@ fn places_on_the_heap_are_used_again(rt: HostRuntime) -> Result<(), AllocError> 
     );
     same_number(&rt, u128::from(pointer_of(memory.malloc(0))), 0);
     same_number(&rt, u128::from(went(memory.free(0))), 1);
-    Ok(())
 }
 
 const LITERAL: u64 = 0x0000_0001_1000_0000;
@@ -173,8 +170,8 @@ fn told(answer: Result<i32, RunFault>) -> u128 {
 }
 
 #[test]
-fn a_literal_is_read_and_copied(rt: HostRuntime) -> Result<(), AllocError> {
-    let mut memory = Runtime::new(rt.alloc(), small())?;
+fn a_literal_is_read_and_copied(rt: HostRuntime) {
+    let mut memory = made(&rt, Runtime::new(rt.alloc(), small()));
     same_number(
         &rt,
         u128::from(pointer_of(memory.begin(BlockKind::Literal, 3, b"ab"))),
@@ -204,12 +201,11 @@ fn a_literal_is_read_and_copied(rt: HostRuntime) -> Result<(), AllocError> {
     same_number(&rt, told(memory.separated(COPY, 0, 3, COPY, 3, 1)), 1);
     same_number(&rt, told(memory.separated(COPY, 0, 4, COPY, 3, 1)), 0);
     same_number(&rt, told(memory.inside(COPY, 8)), 1);
-    Ok(())
 }
 
 #[test]
-fn frames_are_at_most_so_many(rt: HostRuntime) -> Result<(), AllocError> {
-    let mut memory = Runtime::new(rt.alloc(), small())?;
+fn frames_are_at_most_so_many(rt: HostRuntime) {
+    let mut memory = made(&rt, Runtime::new(rt.alloc(), small()));
     let mut entered: u128 = 0;
     for _call in 0..4 {
         if went(memory.enter_frame()) {
@@ -219,5 +215,4 @@ fn frames_are_at_most_so_many(rt: HostRuntime) -> Result<(), AllocError> {
     memory.leave_frame();
     same_number(&rt, entered, 2);
     same_number(&rt, u128::from(went(memory.enter_frame())), 1);
-    Ok(())
 }

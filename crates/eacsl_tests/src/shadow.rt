@@ -2,10 +2,10 @@
 
 ghost use Rattle.std.specs.Prelude.{◌≡◌, ◌<◌};
 
+use crate::same::made;
 use c_syntax::BlockKind;
 use raw_seg::steps::Steps;
 use shadow_segments::{BlockNote, Shadow};
-use std::alloc::AllocError;
 use std::marker::Brand;
 use std::process::Abort;
 use std::sync::ledger::{Blank, Ledger};
@@ -83,8 +83,8 @@ fn take(shadow: &mut Shadow, other: &Shadow, from: u32, to: u32, n: u32) {
 }
 
 #[test]
-fn a_block_is_found_at_its_units(rt: HostRuntime) -> Result<(), AllocError> {
-    let mut shadow = Shadow::new(rt.alloc(), 64)?;
+fn a_block_is_found_at_its_units(rt: HostRuntime) {
+    let mut shadow = made(&rt, Shadow::new(rt.alloc(), 64));
     let note = BlockNote {
         base: 16,
         length: 16,
@@ -96,12 +96,11 @@ fn a_block_is_found_at_its_units(rt: HostRuntime) -> Result<(), AllocError> {
     same_note(&rt, inside, Some(note));
     let past = found::<Brand>(&shadow, 48, Blank::new(1));
     same_note(&rt, past, None);
-    Ok(())
 }
 
 #[test]
-fn marks_are_set_and_copied(rt: HostRuntime) -> Result<(), AllocError> {
-    let mut shadow = Shadow::new(rt.alloc(), 64)?;
+fn marks_are_set_and_copied(rt: HostRuntime) {
+    let mut shadow = made(&rt, Shadow::new(rt.alloc(), 64));
     write_pointer(&mut shadow, 8);
     copy(&mut shadow, 8, 12, 8);
     same_answers(&rt, known_of(&shadow, 8, 20), [true, true, false]);
@@ -110,10 +109,9 @@ fn marks_are_set_and_copied(rt: HostRuntime) -> Result<(), AllocError> {
     same_answers(&rt, known_of(&shadow, 40, 44), [true, false, false]);
     write_numbers(&mut shadow, 8, 16);
     same_answers(&rt, known_of(&shadow, 8, 16), [true, false, true]);
-    let mut other = Shadow::new(rt.alloc(), 64)?;
+    let mut other = made(&rt, Shadow::new(rt.alloc(), 64));
     take(&mut other, &shadow, 12, 30, 8);
     same_answers(&rt, known_of(&other, 30, 34), [true, false, true]);
     same_answers(&rt, known_of(&other, 34, 38), [true, true, false]);
     same_answers(&rt, known_of(&other, 38, 64), [false, false, true]);
-    Ok(())
 }
