@@ -1,9 +1,9 @@
 -- The answers to a text, from how its program was run or written and how the line was said.
-use Rattle.std.proofs.Common.{◌≡◌, ℕ, List, [], ◌++◌, take, Option, Some, None, refl, sym, ap, ◌∙◌, subst, append_assoc, inl, inr}
+use Rattle.std.proofs.Common.{◌≡◌, ℕ, List, [], ◌++◌, take, Option, Some, refl, sym, ap, ◌∙◌, subst, append_assoc, inl, inr}
 use Rattle.std.proofs.lemmas.List.{append-nil}
 use Rattle.c_syntax.specs.Programs.{PlainRefusal}
 use Rattle.c_model.specs.Phases.{RefusedText}
-use Rattle.c_model.specs.State.{Input, Final, ReadFault}
+use Rattle.c_model.specs.State.{Final, ReadFault}
 use Rattle.c_model.proofs.Agreement.{extends_trans}
 use Rattle.c_model.specs.Meaning.{Ran}
 use Rattle.c_model.specs.Reports.{Report, report, line_of, refused_words, Extends}
@@ -24,7 +24,7 @@ use Rattle.c_machine.specs.declared.stop.Ran as machine
 use Rattle.c_machine.specs.Inputs.{Taking, taking, Untouched, EndsAsRead}
 use Rattle.c_machine.specs.Reading.{fault_behind}
 use Rattle.c_machine.specs.Whole.{FaultsBehind, TookBytes, RanAs, RanTo, RunCut}
-use Rattle.eacsl_cli.specs.Answers.{Answer, AnswersRun, refused_answer, written_answer, memory_line, Change, change, IsSaid, Answered, Given, OutputFault, TookWanted, AnswersOnInput, BeginsOnInput, IsTranslated, RunDue, RunRefused, Runs, RunBegins}
+use Rattle.eacsl_cli.specs.Answers.{Answer, refused_answer, written_answer, memory_line, Change, change, IsSaid, Answered, Given, OutputFault, TookWanted, AnswersOnInput, BeginsOnInput, IsTranslated, RunDue, RunRefused, Runs, RunBegins}
 use Rattle.eacsl_cli.specs.Answers.{InstrumentDue, InstrumentRefused, Writes, InstrumentBegins, ExecDue, ExecRefused, Executes, ExecBegins}
 use Rattle.eacsl_cli.specs.Settled.{IsSettled, Said, Wanting, Reported}
 use Rattle.eacsl_cli.proofs.Sayings.{said_answer, said_memory, answered_by}

@@ -1,5 +1,5 @@
 -- Which statuses there are, and what shows them.
-use Rattle.std.proofs.Common.{◌≡◌, ◌⊎◌, ℕ, ◌≤◌, ◌<◌, List, Option, Some, refl, sym, ap, ◌∙◌, subst, arith, inl, inr}
+use Rattle.std.proofs.Common.{◌≡◌, ◌⊎◌, ℕ, ◌≤◌, ◌<◌, List, Option, Some, refl, sym, subst, arith, inl, inr}
 use Rattle.c_model.specs.declared.job.Job.{Job}
 use Rattle.c_model.specs.declared.job.Job.TheVariants.{Run, Instrument, Exec}
 use Rattle.c_model.specs.Reports.{Report, report}
@@ -7,7 +7,7 @@ use Rattle.c_model.specs.State.{Final, Exits, Broken, Undefined, Fault, Spent, F
 use Rattle.mon_syntax.specs.Trees.{MonitoredProgram}
 use Rattle.mon_syntax.specs.Memories.{flat_run}
 use Rattle.ea_ports.specs.Port.{Rose}
-use Rattle.c_machine.specs.Inputs.{Taking, Untouched, EndsAsRead}
+use Rattle.c_machine.specs.Inputs.{Taking, Untouched}
 use Rattle.eacsl_cli.specs.Answers.{Answer, Change, AnswersOnInput, IsDue, Usage, NoFile, TooLong, FolderFault, OfText, Begins, TextDue, RunRefused, Runs, InstrumentRefused, Writes, ExecRefused, Executes, Answered, Given, OutputFault, LineFault}
 use Rattle.eacsl_cli.specs.Answers.{NoMemory}
 use Rattle.eacsl_cli.specs.Complete.{IsStatus}

@@ -8,7 +8,7 @@ use Rattle.c_model.specs.Words.{job_of}
 use Rattle.c_model.specs.WordLaws.{file_named}
 use Rattle.c_model.specs.Phases.{AcceptedText, RefusedText}
 use Rattle.c_model.specs.State.{Input}
-use Rattle.c_model.specs.Meaning.{Ran, run}
+use Rattle.c_model.specs.Meaning.{run}
 use Rattle.c_model.specs.Statuses.{read_fault_status, write_fault_status, no_memory_status, too_long_status}
 use Rattle.c_model.specs.Reports.{Report, report}
 use Rattle.mon_syntax.specs.Trees.{MonitoredProgram}
