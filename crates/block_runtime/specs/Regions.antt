@@ -3,7 +3,7 @@ use Rattle.std.specs.Prelude.{◌≡◌, ℕ, ◌+◌, ◌*◌, ◌/◌, ◌%◌
 use Rattle.std.specs.Prelude.{Bool, true, false, ◌&&◌}
 use Rattle.raw_seg.specs.Bytes.{number_of, bytes_of, bytes_at, with_bytes}
 use Rattle.shadow_segments.specs.declared.BlockNote.{BlockNote}
-use Rattle.shadow_segments.specs.Shadow.{Mark, Unwritten, NumberByte, PieceByte, Shadowed, with_marks, put_from, taken_from, marked, cleared}
+use Rattle.shadow_segments.specs.Shadow.{Mark, Unwritten, NumberByte, PieceByte, Shadowed, longest_segment, with_marks, put_from, taken_from, marked, cleared}
 
 pub record Region : Type 0 where
   pub bytes : List ℕ
@@ -11,7 +11,7 @@ pub record Region : Type 0 where
 
 pub record IsRegion (r : Region) : Type 0 where
   pub bytes : length r.bytes ≡ 16 * length r.shadow.notes
-  pub small : length r.bytes ≤ 268435456
+  pub small : length r.bytes ≤ longest_segment
 
 -- nothing lives in so many zeros
 abbrev pub empty_region : ℕ → Region

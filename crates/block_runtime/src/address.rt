@@ -1,6 +1,7 @@
 // Pointers: the number of a block above an address of 32 bits.
 
 ghost use Rattle.std.specs.Prelude.{◌≡◌, ◌+◌, ◌*◌, ◌/◌, ◌%◌, ◌^◌, ◌<◌, ◌≤◌};
+ghost use Rattle.shadow_segments.specs.Shadow.{longest_segment};
 ghost use Rattle.block_runtime.specs.Flat.{spot_of, start_of, pointer_to};
 
 /// One of the three regions of flat memory.
@@ -18,6 +19,9 @@ pub enum Spot {
     In(RegionName, u32),
 }
 
+// What 1 counts in the upper half of a pointer.
+const UPPER: u64 = 0x1_0000_0000;
+
 const GLOBALS_START: u32 = 0x1000_0000;
 
 const STACK_START: u32 = 0x4000_0000;
@@ -29,7 +33,7 @@ const HEAP_START: u32 = 0x8000_0000;
 pub fn spot_of(p: u64) -> Spot
     ensures { result ≡ spot_of p }
 {
-    let address = (p % 4294967296) as u32;
+    let address = address_of(p);
     if address < GLOBALS_START {
         Spot::Nowhere
     } else if address < STACK_START {
@@ -41,12 +45,20 @@ pub fn spot_of(p: u64) -> Spot
     }
 }
 
+/// The address of a pointer.
+#[inline(always)]
+pub fn address_of(p: u64) -> u32
+    ensures { result ≡ p % 2 ^ 32 }
+{
+    (p % UPPER) as u32
+}
+
 /// The number of the block that a pointer names.
 #[inline(always)]
 pub fn number_of(p: u64) -> u32
     ensures { result ≡ p / 2 ^ 32 }
 {
-    (p / 4294967296) as u32
+    (p / UPPER) as u32
 }
 
 /// The address at which a region begins.
@@ -64,8 +76,8 @@ fn start_of(name: RegionName) -> u32
 /// The pointer to a place of a region, with the number of a block.
 #[inline(always)]
 pub fn pointer_to(number: u32, name: RegionName, at: u32) -> u64
-    requires { at ≤ 268435456 }
+    requires { at ≤ longest_segment }
     ensures { result ≡ pointer_to number name at }
 {
-    u64::from(number) * 4294967296 + u64::from(start_of(name) + at)
+    u64::from(number) * UPPER + u64::from(start_of(name) + at)
 }

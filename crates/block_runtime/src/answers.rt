@@ -2,12 +2,13 @@
 
 ghost use Rattle.std.specs.Prelude.{◌≡◌, ◌≤◌, Ok, pos, IfSome};
 ghost use Rattle.raw_seg.specs.Bytes.{IsWidth};
+ghost use Rattle.shadow_segments.specs.Shadow.{longest_segment};
 ghost use Rattle.block_runtime.specs.Flat.{flat_valid, flat_valid_read, flat_initialized, flat_number, flat_pointer, flat_inside};
 ghost use Rattle.block_runtime.specs.Flat.{flat_base_addr, flat_block_length, flat_offset, flat_separated};
 ghost use Rattle.block_runtime.specs.Questions.{is_some};
 ghost use Rattle.block_runtime.specs.Replies.{truth};
 
-use crate::address::{Spot, number_of, pointer_to, spot_of};
+use crate::address::{Spot, address_of, number_of, pointer_to, spot_of};
 use crate::questions::{minus, plus};
 use crate::{RunFault, Runtime};
 use shadow_segments::BlockNote;
@@ -27,8 +28,8 @@ fn are_separated(p: u64, o: i128, n: i128, q: u64, u: i128, m: i128) -> bool
         return true;
     }
     // Parts of the beginnings that are negative stand on the other side; a sum that passes 128 bits is farther away than a range is long.
-    let address = u128::from(p % 4294967296);
-    let other = u128::from(q % 4294967296);
+    let address = u128::from(address_of(p));
+    let other = u128::from(address_of(q));
     let first = match (address + plus(o)).checked_add(minus(u)) {
         Some(first) => first,
         None => return true,
@@ -204,7 +205,7 @@ impl Runtime {
 
     fn note_inside(&self, p: u64, o: i128) -> Option<BlockNote>
         ensures value { result ≡ flat_inside self.now p o }
-        ensures small { IfSome result (λ note. note.base ≤ 268435456) }
+        ensures small { IfSome result (λ note. note.base ≤ longest_segment) }
     {
         match spot_of(p) {
             Spot::Nowhere => None,

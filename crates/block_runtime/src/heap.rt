@@ -1,6 +1,7 @@
 // Births and deaths on the heap.
 
 ghost use Rattle.std.specs.Prelude.{◌≡◌, ℕ, ◌+◌, ◌≤◌, ◌^◌, IfOk, MatchResult, length};
+ghost use Rattle.shadow_segments.specs.Shadow.{longest_segment};
 ghost use Rattle.block_runtime.specs.declared.address.RegionName.TheVariants.{Heap};
 ghost use Rattle.block_runtime.specs.Flat.{Gives, flat_calloc, flat_free, flat_malloc, free_by, heap_block, pointer_to, zeroed_block};
 ghost use Rattle.block_runtime.specs.Questions.{live_at};
@@ -54,7 +55,7 @@ impl Runtime {
             (λ at. heap_block self.old n ≡ Gives (pointer_to (self.old.births + 1) Heap at) self.new)
             (λ why. (heap_block self.old n ≡ refused why) × (self.new ≡ self.old)) }
         ensures room { IfOk result (λ at. at + n ≤ length self.new.heap.bytes) }
-        ensures small { length self.new.heap.bytes ≤ 268435456 }
+        ensures small { length self.new.heap.bytes ≤ longest_segment }
     {
         // A use of a field tells the check how long the heap is.
         let _ = self.heap.len();

@@ -12,14 +12,14 @@ use seg_heap::Placer;
 use std::alloc::{AllocError, Global};
 use std::marker::Model;
 
-pub mod access;
+mod access;
 pub mod address;
-pub mod answers;
-pub mod blocks;
-pub mod heap;
-pub mod looks;
-pub mod questions;
-pub mod region;
+mod answers;
+mod blocks;
+mod heap;
+mod looks;
+mod questions;
+mod region;
 
 use address::RegionName;
 use region::Region;

@@ -2,7 +2,7 @@
 
 ghost use Rattle.std.specs.Prelude.{◌≡◌, ◌+◌, ◌-◌, ◌*◌, ◌/◌, ◌%◌, ◌^◌, ◌<◌, ◌≤◌, length, Some, IfSome};
 ghost use Rattle.raw_seg.specs.Bytes.{IsWidth};
-ghost use Rattle.shadow_segments.specs.Shadow.{IsWhole};
+ghost use Rattle.shadow_segments.specs.Shadow.{longest_segment, IsWhole};
 ghost use Rattle.block_runtime.specs.Questions.{plus, minus, moved, live_at, range_in, pointer_at, region_valid, region_valid_read};
 ghost use Rattle.block_runtime.specs.Questions.{region_initialized, region_number, region_pointer, region_inside, region_offset};
 
@@ -18,7 +18,7 @@ impl Region {
         ensures value { result ≡ live_at self.now at number }
         ensures whole { IfSome result (λ note. IsWhole self.now.shadow.notes (at / 16) note) }
         ensures inside { IfSome result (λ note. note.base + note.length < length self.now.bytes) }
-        ensures small { length self.now.bytes ≤ 268435456 }
+        ensures small { length self.now.bytes ≤ longest_segment }
     {
         // A use of a field tells the check how long the segment is.
         let _ = self.bytes.len();
@@ -113,7 +113,7 @@ impl Region {
     #[inline(always)]
     pub fn inside(&self, at: u32, number: u32, offset: i128) -> Option<BlockNote>
         ensures value { result ≡ region_inside self.now at number offset }
-        ensures small { IfSome result (λ note. note.base ≤ 268435456) }
+        ensures small { IfSome result (λ note. note.base ≤ longest_segment) }
     {
         let note = self.live_at(at, number)?;
         if range_in(note, at, offset, 0, 1).is_some() {

@@ -2,7 +2,7 @@
 
 ghost use Rattle.std.specs.Prelude.{◌≡◌, ◌+◌, ◌*◌, ◌/◌, ◌%◌, ◌^◌, ◌<◌, ◌≤◌, length, Some, None, false, true, IfOk, IfSome, MatchBool};
 ghost use Rattle.raw_seg.specs.Bytes.{IsWidth};
-ghost use Rattle.shadow_segments.specs.Shadow.{IsFree, IsLiveBase, cleared_at, marked};
+ghost use Rattle.shadow_segments.specs.Shadow.{longest_segment, IsFree, IsLiveBase, cleared_at, marked};
 ghost use Rattle.block_runtime.specs.Regions.{empty_region, filled_with, region_load, region_store, region_copy, with_birth};
 
 use raw_seg::Seg;
@@ -31,7 +31,7 @@ impl Region {
     /// So many zeros, in which nothing lives.
     pub fn new(alloc: Global, len: u32) -> Result<Region, AllocError>
         requires units { len % 16 ≡ 0 }
-        requires small { len ≤ 268435456 }
+        requires small { len ≤ longest_segment }
         ensures { IfOk result (λ region. region ≡ empty_region len) }
     {
         Ok(Region {
@@ -42,7 +42,7 @@ impl Region {
 
     pub fn len(&self) -> u32
         ensures value { result ≡ length self.now.bytes }
-        ensures small { result ≤ 268435456 }
+        ensures small { result ≤ longest_segment }
         ensures notes { result ≡ 16 * length self.now.shadow.notes }
     {
         self.bytes.len() as u32

@@ -9,6 +9,10 @@ use Rattle.shadow_segments.specs.declared.Asked.TheVariants.{Written, Pieces, Pl
 pub data Mark : Type 0 where
   Unwritten NumberByte PieceByte LooseByte : Mark
 
+-- a segment has so many bytes at most
+abbrev pub longest_segment : ℕ
+longest_segment = 268435456
+
 pub record Shadowed : Type 0 where
   -- by unit of 16 bytes, the record of the block whose unit it is
   pub notes : List (Option BlockNote)

@@ -8,6 +8,11 @@ ghost use Rattle.shadow_segments.specs.Words.{ones, all_from, mark_at, mark_by, 
 
 use crate::Asked;
 
+// What 1 counts in the second bits of a unit, and in both.
+const SECOND: u64 = 0x1_0000;
+
+const BOTH: u64 = 0x1_0001;
+
 /// Whether each of these bytes of a unit is so.
 #[inline(always)]
 pub fn passes(asked: Asked, state: u64, from: u32, to: u32) -> bool
@@ -33,7 +38,7 @@ fn are_written(state: u64, from: u32, to: u32) -> bool
     ensures { result ≡ all_from is_written state from (to - from) }
 {
     let low = ones(0, to - from);
-    ((state | state / 65536) >> from) & low == low
+    ((state | state / SECOND) >> from) & low == low
 }
 
 /// Whether these bytes of a unit are of pointers that are together.
@@ -44,7 +49,7 @@ fn are_pieces(state: u64, from: u32, to: u32) -> bool
     ensures { result ≡ all_from is_piece state from (to - from) }
 {
     let low = ones(0, to - from);
-    ((state & state / 65536) >> from) & low == low
+    ((state & state / SECOND) >> from) & low == low
 }
 
 /// Whether no byte of these of a unit is a pointer's.
@@ -66,7 +71,7 @@ fn are_numbers(state: u64, from: u32, to: u32) -> bool
     ensures { result ≡ all_from is_number state from (to - from) }
 {
     let low = ones(0, to - from);
-    (state >> from) & (low * 65537) == low
+    (state >> from) & (low * BOTH) == low
 }
 
 /// The bits from `from` up to `to`.
@@ -88,7 +93,7 @@ pub fn with_numbers(state: u64, from: u32, to: u32) -> u64
     ensures { HasMarks state result from to NumberByte }
 {
     let low = ones(from, to);
-    (state | low) & !(low * 65536)
+    (state | low) & !(low * SECOND)
 }
 
 /// These bytes of a unit are a pointer's, which is together.
@@ -99,7 +104,7 @@ pub fn with_pieces(state: u64, from: u32, to: u32) -> u64
     ensures { HasMarks state result from to PieceByte }
 {
     let low = ones(from, to);
-    state | low | low * 65536
+    state | low | low * SECOND
 }
 
 /// The marks of `count` bytes of a unit, as a copy of `n` bytes takes them: the first bits, and the second.
@@ -130,7 +135,7 @@ fn put_marks(target: u64, to: u32, count: u32, written: u64, pointers: u64) -> u
     ensures others { (i : ℕ) → i < 16 → (i < to) ⊎ (to + count ≤ i) → mark_at result i ≡ mark_at target i }
 {
     let low = ones(to, to + count);
-    target & !(low | low * 65536) | written << to | pointers << (16 + to)
+    target & !(low | low * SECOND) | written << to | pointers << (16 + to)
 }
 
 /// The marks of `count` bytes, copied from a unit to another, of a copy of `n` bytes.

@@ -2,7 +2,7 @@
 #![tactic(auto)]
 
 ghost use Rattle.std.specs.Prelude.{◌≡◌, ℕ, ◌+◌, ◌*◌, ◌/◌, ◌%◌, ◌<◌, ◌≤◌, length, get_or, None, IfOk, IfSome, replicate};
-ghost use Rattle.shadow_segments.specs.Shadow.{Unwritten, IsFree, IsLiveBase, IsWhole, marked, cleared_at};
+ghost use Rattle.shadow_segments.specs.Shadow.{Unwritten, longest_segment, IsFree, IsLiveBase, IsWhole, marked, cleared_at};
 ghost use Rattle.shadow_segments.specs.Words.{note_by, kind_of, code_of};
 
 use c_syntax::BlockKind;
@@ -11,13 +11,16 @@ use std::alloc::{AllocError, Global};
 use std::marker::Model;
 use std::sync::ledger::Ledger;
 
-pub mod bits;
-pub mod copies;
-pub mod ranges;
-pub mod units;
-pub mod words;
+mod bits;
+mod copies;
+mod ranges;
+mod units;
+mod words;
 
 use words::Words;
+
+// What 1 counts in the upper half of a word.
+const UPPER: u64 = 0x1_0000_0000;
 
 /// A block's record: where it begins in its segment, its length in bytes, its number, and its kind.
 #[derive(Clone, Copy, PartialEq, Eq, Debug)]
@@ -62,7 +65,7 @@ impl Shadow {
     /// The shadow of a segment of so many bytes, in which nothing lives. All of its memory is taken here.
     pub fn new(alloc: Global, len: u32) -> Result<Shadow, AllocError>
         requires units { len % 16 ≡ 0 }
-        requires small { len ≤ 268435456 }
+        requires small { len ≤ longest_segment }
         ensures { IfOk result (λ shadow. shadow ≡ record { notes = replicate (len / 16) None; marks = replicate len Unwritten }) }
     {
         Ok(Shadow {
@@ -74,7 +77,7 @@ impl Shadow {
     pub fn len(&self) -> u32
         ensures units { result ≡ 16 * length self.now.notes }
         ensures bytes { result ≡ length self.now.marks }
-        ensures small { result ≤ 268435456 }
+        ensures small { result ≤ longest_segment }
     {
         self.words.len() as u32 * 16
     }
@@ -90,7 +93,7 @@ impl Shadow {
         if unit >= self.words.len() {
             return None;
         }
-        let number = (self.words.state(unit, steps) / 4294967296) as u32;
+        let number = (self.words.state(unit, steps) / UPPER) as u32;
         if number == 0 {
             return None;
         }
@@ -106,12 +109,8 @@ impl Shadow {
         let _ = self.words.len();
         let first = note.base as usize / 16;
         let count = note.length as usize / 16 + 1;
-        self.words.fill(
-            first,
-            count,
-            u64::from(note.number) * 4294967296,
-            packed(note),
-        );
+        self.words
+            .fill(first, count, u64::from(note.number) * UPPER, packed(note));
     }
 
     /// The block that begins here dies: its units have no record. Their marks stay until another block is born there.
@@ -120,7 +119,7 @@ impl Shadow {
         ensures { self.new ≡ cleared_at self.old base }
     {
         let first = base as usize / 16;
-        let length = self.words.peek_place(first) % 4294967296;
+        let length = self.words.peek_place(first) % UPPER;
         self.words.release(first, length as usize / 16 + 1);
     }
 }
@@ -153,10 +152,10 @@ fn code_of(kind: BlockKind) -> u64
 fn unpacked(number: u32, place: u64) -> BlockNote
     ensures { result ≡ note_by number place }
 {
-    let high = (place / 4294967296) as u32;
+    let high = (place / UPPER) as u32;
     BlockNote {
         base: high / 16 * 16,
-        length: (place % 4294967296) as u32,
+        length: (place % UPPER) as u32,
         number,
         kind: kind_of(u64::from(high % 16)),
     }
@@ -167,5 +166,5 @@ fn packed(note: BlockNote) -> u64
     requires { note.base % 16 ≡ 0 }
     ensures { note_by note.number result ≡ note }
 {
-    (u64::from(note.base) + code_of(note.kind)) * 4294967296 + u64::from(note.length)
+    (u64::from(note.base) + code_of(note.kind)) * UPPER + u64::from(note.length)
 }

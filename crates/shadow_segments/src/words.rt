@@ -1,8 +1,9 @@
 // Two words of 64 bits for each unit of 16 bytes.
 
-ghost use Rattle.std.specs.Prelude.{◌≡◌, ℕ, ◌+◌, ◌<◌, ◌≤◌, length, replicate, get_or, set, IfOk, ◌%◌, ◌^◌};
-ghost use Rattle.shadow_segments.specs.Shadow.{changed, filled};
+ghost use Rattle.std.specs.Prelude.{◌≡◌, ℕ, ◌+◌, ◌*◌, ◌<◌, ◌≤◌, length, replicate, get_or, set, IfOk, ◌%◌, ◌^◌};
+ghost use Rattle.shadow_segments.specs.Shadow.{longest_segment, changed, filled};
 
+use crate::UPPER;
 use raw_seg::Seg;
 use raw_seg::steps::Steps;
 use std::alloc::{AllocError, Global};
@@ -17,19 +18,20 @@ pub struct Words {
 
 impl Model for Words {
     ghost use Rattle.std.specs.Prelude.{◌≡◌, ◌*◌, ◌/◌, ◌≤◌, length};
+    ghost use Rattle.shadow_segments.specs.Shadow.{longest_segment};
     ghost use Rattle.shadow_segments.specs.Words.{UnitWords, words_of};
 
     ghost Value = { UnitWords };
 
     ghost view = { λ w. words_of w.seg };
 
-    ghost invariant = { λ w. (16 * (length w.seg / 16) ≡ length w.seg) × (length w.seg ≤ 268435456) };
+    ghost invariant = { λ w. (16 * (length w.seg / 16) ≡ length w.seg) × (length w.seg ≤ longest_segment) };
 }
 
 impl Words {
     /// So many units of zeros.
     pub fn new(alloc: Global, units: u32) -> Result<Words, AllocError>
-        requires { units ≤ 16777216 }
+        requires { 16 * units ≤ longest_segment }
         ensures { IfOk result (λ words. words ≡ record { states = replicate units 0; places = replicate units 0 }) }
     {
         Ok(Words {
@@ -40,7 +42,7 @@ impl Words {
     pub fn len(&self) -> usize
         ensures states { result ≡ length self.now.states }
         ensures places { result ≡ length self.now.places }
-        ensures small { result ≤ 16777216 }
+        ensures small { 16 * result ≤ longest_segment }
     {
         self.seg.len() / 16
     }
@@ -119,7 +121,7 @@ impl Words {
         let _ = self.len();
         for i in 0..count {
             let state = self.peek(first + i);
-            self.set_state(first + i, state % 4294967296);
+            self.set_state(first + i, state % UPPER);
         }
     }
 }
