@@ -39,10 +39,14 @@ pub struct Runtime {
     globals: Region,
     stack: Region,
     heap: Region,
+    // Where blocks lie in the heap.
     places: Placer,
+    // Active calls, and how many there may be.
     frames: u32,
     most_frames: u32,
+    // Numbers of blocks that were used.
     births: u32,
+    // What globals and literals take of their region, and what live stack blocks take of theirs, in bytes.
     placed: u32,
     top: u32,
 }

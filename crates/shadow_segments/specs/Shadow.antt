@@ -5,7 +5,7 @@ use Rattle.shadow_segments.specs.declared.BlockNote.{BlockNote}
 use Rattle.shadow_segments.specs.declared.Asked.{Asked}
 use Rattle.shadow_segments.specs.declared.Asked.TheVariants.{Written, Pieces, Plain, Number}
 
--- what is known of a byte: it isn't written, it is part of a number, or it is a byte of a pointer, whose eight bytes are together or not
+-- what is known of a byte: it isn't written, it is part of a number, it is a piece of a pointer, or it is a loose piece, which belongs to no pointer
 pub data Mark : Type 0 where
   Unwritten NumberByte PieceByte LooseByte : Mark
 
@@ -139,7 +139,7 @@ touched from to = if nat_lt from to then (to - 1) / 16 + 1 - from / 16 else 0
 
 -- ---- copies
 
--- what a mark becomes in a copy of so many bytes: with fewer than eight of them the bytes of a pointer aren't together
+-- what a mark becomes in a copy of so many bytes: with fewer than eight of them a piece comes without the others, and is loose
 abbrev pub loosened : ℕ → Mark → Mark
 loosened n Unwritten = Unwritten
 loosened n NumberByte = NumberByte

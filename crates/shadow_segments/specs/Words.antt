@@ -59,7 +59,7 @@ note_of state place = if nat_eq (state / 2 ^ 32) 0 then None else Some (note_by 
 
 -- ---- the marks of a unit
 
--- a byte has two bits: the first where it is in a number or a pointer that is together, the second where it is a pointer's
+-- a byte has two bits: the first if it is of a number or a piece, the second if it is a piece or a loose one
 abbrev pub mark_by : ℕ → ℕ → Mark
 mark_by zero zero = Unwritten
 mark_by zero (suc p) = LooseByte

@@ -1,5 +1,4 @@
-// The marks in the first word of a unit: bit i where byte i is in a number or in a pointer that is together, and bit 16 + i where it is a
-// pointer's.
+// The marks in the first word of a unit: bit i is set if byte i is of a number or a piece, and bit 16 + i if it is a piece or a loose one.
 
 ghost use Rattle.std.specs.Prelude.{◌≡◌, ℕ, ◌+◌, ◌-◌, ◌/◌, ◌^◌, ◌<◌, ◌≤◌, ◌⊎◌};
 ghost use Rattle.std.specs.Int.{bit_at};
@@ -41,7 +40,7 @@ fn are_written(state: u64, from: u32, to: u32) -> bool
     ((state | state / SECOND) >> from) & low == low
 }
 
-/// Whether these bytes of a unit are of pointers that are together.
+/// Whether these bytes of a unit are pieces, and not loose.
 #[inline(always)]
 fn are_pieces(state: u64, from: u32, to: u32) -> bool
     requires order { from ≤ to }
@@ -52,7 +51,7 @@ fn are_pieces(state: u64, from: u32, to: u32) -> bool
     ((state & state / SECOND) >> from) & low == low
 }
 
-/// Whether no byte of these of a unit is a pointer's.
+/// Whether none of these bytes of a unit is a piece, also no loose one.
 #[inline(always)]
 fn are_plain(state: u64, from: u32, to: u32) -> bool
     requires order { from ≤ to }
@@ -85,7 +84,7 @@ fn ones(from: u32, to: u32) -> u64
     ((1u64 << count) - 1) << from
 }
 
-/// These bytes of a unit are numbers'.
+/// These bytes of a unit are of numbers.
 #[inline(always)]
 pub fn with_numbers(state: u64, from: u32, to: u32) -> u64
     requires order { from ≤ to }
@@ -96,7 +95,7 @@ pub fn with_numbers(state: u64, from: u32, to: u32) -> u64
     (state | low) & !(low * SECOND)
 }
 
-/// These bytes of a unit are a pointer's, which is together.
+/// These bytes of a unit are pieces.
 #[inline(always)]
 pub fn with_pieces(state: u64, from: u32, to: u32) -> u64
     requires order { from ≤ to }

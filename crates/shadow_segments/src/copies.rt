@@ -6,8 +6,7 @@ ghost use Rattle.shadow_segments.specs.Shadow.{with_copied};
 use crate::Shadow;
 
 impl Shadow {
-    /// Copies the marks of `n` bytes as they stand, also where they overlap those copied to. If they are fewer than eight the bytes of a
-    /// pointer aren't together any more.
+    /// Copies the marks of `n` bytes as they stand, also if they overlap those copied to. If they are fewer than eight, pieces become loose.
     pub fn copy_marks(&mut self, from: u32, to: u32, n: u32)
         requires source { from + n ≤ 16 * length self.old.notes }
         requires target { to + n ≤ 16 * length self.old.notes }

@@ -34,11 +34,11 @@ pub struct BlockNote {
 /// What is asked of each of some bytes.
 #[derive(Clone, Copy, PartialEq, Eq, Debug)]
 pub enum Asked {
-    /// It is written, by a number or a pointer.
+    /// It is written: by a number, or as a piece.
     Written,
-    /// It is one of the eight bytes of a pointer, which are together.
+    /// It is a piece of a pointer, and not loose.
     Pieces,
-    /// It is no byte of a pointer.
+    /// It is no piece, also no loose one.
     Plain,
     /// It is written, by a number.
     Number,

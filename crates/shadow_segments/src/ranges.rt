@@ -21,7 +21,7 @@ impl Shadow {
         }
     }
 
-    /// The eight bytes from here on are those of a pointer.
+    /// The eight bytes from here on are the pieces of a pointer.
     #[inline(always)]
     pub fn set_pointer(&mut self, at: u32)
         requires aligned { at % 8 ≡ 0 }
@@ -41,7 +41,7 @@ impl Shadow {
         self.all(Asked::Written, from, to, steps)
     }
 
-    /// Whether each byte from `from` up to `to` is one of the eight of a pointer.
+    /// Whether each byte from `from` up to `to` is a piece of a pointer, and not loose.
     pub fn all_pointer<L: Ledger>(&self, from: u32, to: u32, steps: &mut Steps<L>) -> bool
         requires order { from ≤ to }
         requires inside { to ≤ 16 * length self.now.notes }
@@ -51,7 +51,7 @@ impl Shadow {
         self.all(Asked::Pieces, from, to, steps)
     }
 
-    /// Whether no byte from `from` up to `to` is a pointer's.
+    /// Whether no byte from `from` up to `to` is a piece, also no loose one.
     pub fn no_pointer<L: Ledger>(&self, from: u32, to: u32, steps: &mut Steps<L>) -> bool
         requires order { from ≤ to }
         requires inside { to ≤ 16 * length self.now.notes }

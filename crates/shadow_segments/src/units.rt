@@ -21,7 +21,7 @@ impl Shadow {
         self.words.set_state(unit, with_numbers(state, from, to));
     }
 
-    /// The bytes from `from` up to `to` of a unit are bytes of a pointer.
+    /// The bytes from `from` up to `to` of a unit are pieces of a pointer.
     #[inline(always)]
     pub fn set_pieces_in(&mut self, unit: usize, from: u32, to: u32)
         requires inside { unit < length self.old.notes }
