@@ -21,18 +21,19 @@ use std::alloc::{AllocError, Global};
 
 /// Puts what a name stands for in its place: an object, or the value of a constant of the library. Gives its type.
 pub fn mean(
+    alloc: Global,
     scopes: &Scopes,
     place: Place,
     name: u32,
     kind: &mut ExprKind,
 ) -> Result<CType, TypeFault>
-    ensures typed { Answers (λ t. Node place (plain_type t) (plain_kind kind.new)) (named (plain_scopes scopes.now) place name) result }
-    ensures sure { IfErr result IsRefusal }
+    ensures { Answers (λ t. Node place (plain_type t) (plain_kind kind.new)) (named (plain_scopes scopes.now) place name) result }
 {
     if let Some(object) = object_named(&scopes.objects, name) {
+        let ctype = copy_type(alloc, &object.ctype)?;
         let decl = object.decl;
         put(kind, ExprKind::Variable(Use { name, decl }));
-        return Ok(copy_type(&object.ctype));
+        return Ok(ctype);
     }
     if scopes.functions.called(name).is_some() {
         return Err(no_type(place));
@@ -168,13 +169,18 @@ pub fn argument_for(alloc: Global, params: &[CType], e: &mut Expr) -> Result<(),
 }
 
 /// The number of arguments is that of the parameters.
-fn called(place: Place, f: &Signature, arguments: &[Expr]) -> Result<CType, TypeFault>
-    ensures typed { Answers (λ t. Node place (plain_type t) (Call (use_as f.now.name f.now.decl) (plain_exprs arguments.now)))
+fn called(
+    alloc: Global,
+    place: Place,
+    f: &Signature,
+    arguments: &[Expr],
+) -> Result<CType, TypeFault>
+    ensures { Answers (λ t. Node place (plain_type t) (Call (use_as f.now.name f.now.decl) (plain_exprs arguments.now)))
         (call place (plain_signature f.now) (plain_exprs arguments.now)) result }
-    ensures sure { IfErr result IsRefusal }
 {
     if arguments.len() == f.params.len() {
-        Ok(copy_type(&f.result))
+        let ctype = copy_type(alloc, &f.result)?;
+        Ok(ctype)
     } else {
         Err(no_type(place))
     }
@@ -194,5 +200,5 @@ pub fn call(
     let f = callee(alloc, scopes, place, x.name)?;
     x.name = f.name;
     x.decl = f.decl;
-    called(place, &f, arguments)
+    called(alloc, place, &f, arguments)
 }

@@ -1,20 +1,21 @@
 //! The types that operands are converted to (C99 6.3.1.1, 6.3.1.8), and what types have a meaning where.
 
-ghost use Rattle.std.specs.Prelude.{◌≡◌, option_map};
+ghost use Rattle.std.specs.Prelude.{◌≡◌, IfOk, option_map};
 ghost use Rattle.c_syntax.specs.Ctypes.{plain_type};
 ghost use Rattle.c_model.specs.Integers.{fits, is_signed, width};
 ghost use Rattle.c_model.specs.Conversions.{common, is_relation, is_shift, promoted, result_type, wider};
 ghost use Rattle.c_model.specs.Typing.{choice_type, integer_of, is_assigned, is_cast, is_object_type, is_scalar, same_int, same_type};
 
 use c_syntax::{BinOp, CInt, CType};
+use std::alloc::{AllocError, Global};
 
 /// A copy of a type.
-pub fn copy_type(t: &CType) -> CType
-    ensures { plain_type result ≡ plain_type t.now }
+pub fn copy_type(_alloc: Global, t: &CType) -> Result<CType, AllocError>
+    ensures { IfOk result (λ copy. plain_type copy ≡ plain_type t.now) }
 {
     match t {
-        CType::Void => CType::Void,
-        CType::Int(k) => CType::Int(*k),
+        CType::Void => Ok(CType::Void),
+        CType::Int(k) => Ok(CType::Int(*k)),
     }
 }
 

@@ -157,7 +157,7 @@ fn demand(
         ExprKind::Letter(_) => Ok(CType::Int(CInt::I32)),
         ExprKind::Variable(x) => {
             let name = x.name;
-            mean(scopes, place, name, kind)
+            mean(alloc, scopes, place, name, kind)
         }
         ExprKind::Unary(op, a) => unary(alloc, place, *op, a),
         ExprKind::Binary(op, a, b) => binary(alloc, place, *op, a, b),
@@ -165,9 +165,9 @@ fn demand(
         ExprKind::Either(a, b) => truth_of(place, a, b),
         ExprKind::Choice(a, b, c) => choice_of(alloc, place, a, b, c),
         ExprKind::Assign(op, a, b) => assign(alloc, place, *op, a, b),
-        ExprKind::Bump(op, a) => bump(place, *op, a),
+        ExprKind::Bump(op, a) => bump(alloc, place, *op, a),
         ExprKind::Call(x, arguments) => call(alloc, scopes, place, x, arguments),
-        ExprKind::Cast(to, a) => cast(place, to, a),
+        ExprKind::Cast(to, a) => cast(alloc, place, to, a),
         ExprKind::SizeOfType(t) => size_of_type(place, t),
         ExprKind::SizeOfExpr(a) => size_of_expression(place, a),
     }

@@ -28,19 +28,16 @@ pub fn put(kind: &mut ExprKind, by: ExprKind)
     drop(replace(kind, by));
 }
 
-/// Puts a cast around an expression. Its box is there before the expression moves into it.
+/// Puts a cast around an expression. Its box and its types are there before the expression moves into it.
 fn cast_around(alloc: Global, ctype: &CType, e: &mut Expr) -> Result<(), AllocError>
     ensures { OnOk result (plain_expr e.new ≡ Node (place_of (plain_expr e.old)) (plain_type ctype.now) (Cast (plain_type ctype.now) (plain_expr e.old))) }
 {
+    let to = copy_type(alloc, ctype)?;
+    let ctype = copy_type(alloc, ctype)?;
     let kind = Box::new(alloc, ExprKind::Letter(0))?;
     let place = e.place;
-    let around = Expr {
-        place,
-        kind,
-        ctype: copy_type(ctype),
-    };
-    let operand = replace(e, around);
-    put(&mut e.kind, ExprKind::Cast(copy_type(ctype), operand));
+    let operand = replace(e, Expr { place, kind, ctype });
+    put(&mut e.kind, ExprKind::Cast(to, operand));
     Ok(())
 }
 
@@ -181,20 +178,27 @@ fn assigned(alloc: Global, place: Place, a: &Expr, b: &mut Expr) -> Result<CType
 {
     if is_place(a) && is_assigned(&b.ctype, &a.ctype) {
         in_type(alloc, &a.ctype, b)?;
-        Ok(copy_type(&a.ctype))
+        let ctype = copy_type(alloc, &a.ctype)?;
+        Ok(ctype)
     } else {
         Err(no_type(place))
     }
 }
 
 /// `a op= b` (C99 6.5.16.2).
-fn compounded(place: Place, op: BinOp, a: &Expr, b: &Expr) -> Result<CType, TypeFault>
-    ensures typed { Answers (λ t. Node place (plain_type t) (Assign (Some op) (plain_expr a.now) (plain_expr b.now)))
+fn compounded(
+    alloc: Global,
+    place: Place,
+    op: BinOp,
+    a: &Expr,
+    b: &Expr,
+) -> Result<CType, TypeFault>
+    ensures { Answers (λ t. Node place (plain_type t) (Assign (Some op) (plain_expr a.now) (plain_expr b.now)))
         (compounded place op (plain_expr a.now) (plain_expr b.now)) result }
-    ensures sure { IfErr result IsRefusal }
 {
     if is_place(a) && integer_of(&a.ctype).is_some() && integer_of(&b.ctype).is_some() {
-        Ok(copy_type(&a.ctype))
+        let ctype = copy_type(alloc, &a.ctype)?;
+        Ok(ctype)
     } else {
         Err(no_type(place))
     }
@@ -213,30 +217,30 @@ pub fn assign(
 {
     match op {
         None => assigned(alloc, place, a, b),
-        Some(op) => compounded(place, op, a, b),
+        Some(op) => compounded(alloc, place, op, a, b),
     }
 }
 
 /// `++` and `--` (C99 6.5.2.4, 6.5.3.1).
-pub fn bump(place: Place, _op: BumpOp, a: &Expr) -> Result<CType, TypeFault>
-    ensures typed { Answers (λ t. Node place (plain_type t) (Bump _op (plain_expr a.now))) (bump place _op (plain_expr a.now)) result }
-    ensures sure { IfErr result IsRefusal }
+pub fn bump(alloc: Global, place: Place, _op: BumpOp, a: &Expr) -> Result<CType, TypeFault>
+    ensures { Answers (λ t. Node place (plain_type t) (Bump _op (plain_expr a.now))) (bump place _op (plain_expr a.now)) result }
 {
     if is_place(a) && integer_of(&a.ctype).is_some() {
-        Ok(copy_type(&a.ctype))
+        let ctype = copy_type(alloc, &a.ctype)?;
+        Ok(ctype)
     } else {
         Err(no_type(place))
     }
 }
 
 /// Casts (C99 6.5.4).
-pub fn cast(place: Place, to: &CType, a: &Expr) -> Result<CType, TypeFault>
-    ensures typed { Answers (λ t. Node place (plain_type t) (Cast (plain_type to.now) (plain_expr a.now)))
+pub fn cast(alloc: Global, place: Place, to: &CType, a: &Expr) -> Result<CType, TypeFault>
+    ensures { Answers (λ t. Node place (plain_type t) (Cast (plain_type to.now) (plain_expr a.now)))
         (cast place (plain_type to.now) (plain_expr a.now)) result }
-    ensures sure { IfErr result IsRefusal }
 {
     if is_cast(&a.ctype, to) {
-        Ok(copy_type(to))
+        let ctype = copy_type(alloc, to)?;
+        Ok(ctype)
     } else {
         Err(no_type(place))
     }

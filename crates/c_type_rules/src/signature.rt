@@ -78,7 +78,8 @@ fn copy_types(alloc: Global, types: &[CType]) -> Result<Vec<CType>, AllocError>
 {
     let mut copy = Vec::new(alloc);
     for t in types {
-        copy.push(copy_type(t))?;
+        let t = copy_type(alloc, t)?;
+        copy.push(t)?;
     }
     Ok(copy)
 }
@@ -87,11 +88,13 @@ fn copy_types(alloc: Global, types: &[CType]) -> Result<Vec<CType>, AllocError>
 pub fn copy_signature(alloc: Global, f: &Signature) -> Result<Signature, AllocError>
     ensures { IfOk result (λ copy. plain_signature copy ≡ plain_signature f.now) }
 {
+    let params = copy_types(alloc, &f.params)?;
+    let result = copy_type(alloc, &f.result)?;
     Ok(Signature {
         name: f.name,
         decl: f.decl,
         defined: f.defined,
-        params: copy_types(alloc, &f.params)?,
-        result: copy_type(&f.result),
+        params,
+        result,
     })
 }

@@ -25,7 +25,7 @@ plain_for_first None = NoFirst
 plain_for_first (Some i) = First (plain_item i)
 
 abbrev pub plain_around : Around → plain.Around
-plain_around r = record { result = plain_type r.result; loops = r.loops }
+plain_around r = record { result = plain_type r.result.now; loops = r.loops }
 
 -- one step of a chain
 abbrev pub plain_link : Link → Links

@@ -80,20 +80,20 @@ fn type_declaration(alloc: Global, scopes: &Scopes, d: &mut Decl) -> Result<(), 
     ensures { Answers (λ _. plain_decl d.new) (typed_declaration (plain_scopes scopes.now) (plain_decl d.old)) result }
 {
     let checked = declarable(scopes, d);
-    let ctype = copy_type(&d.ctype);
-    let init = type_initialiser(alloc, scopes, &ctype, &mut d.init);
+    let init = type_initialiser(alloc, scopes, &d.ctype, &mut d.init);
     both(checked, init)
 }
 
 /// Brings a declared object in sight.
-pub fn declare(scopes: &mut Scopes, d: &Decl) -> Result<(), AllocError>
+pub fn declare(alloc: Global, scopes: &mut Scopes, d: &Decl) -> Result<(), AllocError>
     ensures seen { OnOk result (plain_scopes scopes.new ≡ with_object (plain_scopes scopes.old) (plain_decl d.now)) }
     ensures file { at_file (plain_scopes scopes.new) ≡ at_file (plain_scopes scopes.old) }
 {
+    let ctype = copy_type(alloc, &d.ctype)?;
     scopes.objects.push(Object {
         name: d.name,
         decl: d.place.offset,
-        ctype: copy_type(&d.ctype),
+        ctype,
     })?;
     Ok(())
 }
@@ -111,18 +111,18 @@ pub fn type_declarations(
     for i in 0..list.len() {
         let d = &mut list[i];
         type_declaration(alloc, scopes, d)?;
-        declare(scopes, d)?;
+        declare(alloc, scopes, d)?;
     }
     Ok(())
 }
 
 /// Brings declared objects in sight.
-pub fn declare_all(scopes: &mut Scopes, list: &[Decl]) -> Result<(), AllocError>
+pub fn declare_all(alloc: Global, scopes: &mut Scopes, list: &[Decl]) -> Result<(), AllocError>
     ensures { OnOk result (plain_scopes scopes.new ≡ with_objects (plain_scopes scopes.old) (map plain_decl list.now)) }
 {
     let mut rest = list;
     'turn: while let [d, after @ ..] = rest {
-        declare(scopes, d)?;
+        declare(alloc, scopes, d)?;
         rest = after;
     }
     Ok(())

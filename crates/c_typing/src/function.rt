@@ -18,7 +18,6 @@ use crate::heading::{Callee, Noted, check_heading, denoted, note_name, see_funct
 use crate::parameter::check_parameters;
 use crate::statement::{Around, type_items};
 use c_syntax::{CType, Func, Item, Name, Stmt, StmtKind};
-use c_type_rules::conversion::copy_type;
 use c_type_rules::fault::{TypeFault, both};
 use c_type_rules::scope::Scopes;
 use c_type_rules::signature::Functions;
@@ -49,7 +48,7 @@ fn type_body_items(
     ensures file { at_file (plain_scopes scopes.new) ≡ at_file (plain_scopes scopes.old) }
 {
     let around = Around {
-        result: copy_type(ctype),
+        result: ctype,
         loops: false,
     };
     type_items(alloc, scopes, &around, items)
@@ -107,9 +106,8 @@ fn type_parts(
     ensures file { at_file (plain_scopes scopes.new) ≡ at_file (plain_scopes scopes.old) }
 {
     heading?;
-    check_parameters(scopes, &f.params)?;
-    let ctype = copy_type(&f.result);
-    type_body(alloc, scopes, &ctype, &mut f.body)
+    check_parameters(alloc, scopes, &f.params)?;
+    type_body(alloc, scopes, &f.result, &mut f.body)
 }
 
 /// Ends a function: no object is in sight.

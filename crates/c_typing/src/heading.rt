@@ -180,7 +180,8 @@ fn types_of(alloc: Global, params: &[Decl]) -> Result<Vec<CType>, AllocError>
 {
     let mut types = Vec::new(alloc);
     for d in params {
-        types.push(copy_type(&d.ctype))?;
+        let t = copy_type(alloc, &d.ctype)?;
+        types.push(t)?;
     }
     Ok(types)
 }
@@ -200,12 +201,14 @@ fn signature(
             defined: false,
         },
     };
+    let params = types_of(alloc, &f.params)?;
+    let result = copy_type(alloc, &f.result)?;
     Ok(Signature {
         name: f.name,
         decl: denoted.decl,
         defined: denoted.defined,
-        params: types_of(alloc, &f.params)?,
-        result: copy_type(&f.result),
+        params,
+        result,
     })
 }
 

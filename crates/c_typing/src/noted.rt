@@ -26,56 +26,56 @@ use std::alloc::{AllocError, Global};
 use std::mem::replace;
 
 /// Brings in sight what an item declares.
-fn see(scopes: &mut Scopes, item: &Item) -> Result<(), AllocError>
+fn see(alloc: Global, scopes: &mut Scopes, item: &Item) -> Result<(), AllocError>
     ensures { OnOk result (plain_scopes scopes.new ≡ behind (plain_scopes scopes.old) (plain_item item.now)) }
 {
     match item {
-        Item::Declare(list) => declare_all(scopes, list),
+        Item::Declare(list) => declare_all(alloc, scopes, list),
         Item::Run(_) => Ok(()),
         Item::Asserts(_) => Ok(()),
     }
 }
 
 /// Brings in sight what stands first in a `for`.
-fn see_first(scopes: &mut Scopes, first: &Option<Item>) -> Result<(), AllocError>
+fn see_first(alloc: Global, scopes: &mut Scopes, first: &Option<Item>) -> Result<(), AllocError>
     ensures { OnOk result (plain_scopes scopes.new ≡ behind_first (plain_scopes scopes.old) (plain_for_first first.now)) }
 {
     match first {
         None => Ok(()),
-        Some(item) => see(scopes, item),
+        Some(item) => see(alloc, scopes, item),
     }
 }
 
 /// Types the annotations of a statement, or gives their first fault. What was in sight before is in sight after it.
 #[cycle(noted)]
-pub fn note_statement(scopes: &mut Scopes, s: &mut Stmt) -> Result<(), TypeFault>
+pub fn note_statement(alloc: Global, scopes: &mut Scopes, s: &mut Stmt) -> Result<(), TypeFault>
     ensures noted { Answers (λ _. plain_stmt s.new) (noted_statement (plain_scopes scopes.old) (plain_stmt s.old)) result }
     ensures same { OnOk result (plain_scopes scopes.new ≡ plain_scopes scopes.old) }
 {
-    note_kind(scopes, &mut s.kind)
+    note_kind(alloc, scopes, &mut s.kind)
 }
 
 #[cycle(noted)]
-fn note_kind(scopes: &mut Scopes, kind: &mut StmtKind) -> Result<(), TypeFault>
+fn note_kind(alloc: Global, scopes: &mut Scopes, kind: &mut StmtKind) -> Result<(), TypeFault>
     ensures noted { (at : Place) → Answers (λ _. plain_stmt_kind at kind.new) (noted_statement (plain_scopes scopes.old) (plain_stmt_kind at kind.old)) result }
     ensures same { OnOk result (plain_scopes scopes.new ≡ plain_scopes scopes.old) }
 {
     match kind {
-        StmtKind::Block(items) => note_block(scopes, items),
+        StmtKind::Block(items) => note_block(alloc, scopes, items),
         StmtKind::If(_, a, b) => {
-            note_statement(scopes, a)?;
-            note_else(scopes, b)
+            note_statement(alloc, scopes, a)?;
+            note_else(alloc, scopes, b)
         }
         StmtKind::While(annots, _, a) => {
-            type_clauses(scopes, annots)?;
-            note_statement(scopes, a)
+            type_clauses(alloc, scopes, annots)?;
+            note_statement(alloc, scopes, a)
         }
-        StmtKind::Do(a, _) => note_statement(scopes, a),
+        StmtKind::Do(a, _) => note_statement(alloc, scopes, a),
         StmtKind::For(annots, first, _, _, a) => {
-            type_clauses(scopes, annots)?;
+            type_clauses(alloc, scopes, annots)?;
             let mark = enter(scopes);
-            see_first(scopes, first)?;
-            note_statement(scopes, a)?;
+            see_first(alloc, scopes, first)?;
+            note_statement(alloc, scopes, a)?;
             leave(scopes, mark);
             Ok(())
         }
@@ -88,75 +88,79 @@ fn note_kind(scopes: &mut Scopes, kind: &mut StmtKind) -> Result<(), TypeFault>
 }
 
 #[cycle(noted)]
-fn note_else(scopes: &mut Scopes, b: &mut Option<Stmt>) -> Result<(), TypeFault>
+fn note_else(alloc: Global, scopes: &mut Scopes, b: &mut Option<Stmt>) -> Result<(), TypeFault>
     ensures noted { Answers (λ _. plain_else_part b.new) (noted_else (plain_scopes scopes.old) (plain_else_part b.old)) result }
     ensures same { OnOk result (plain_scopes scopes.new ≡ plain_scopes scopes.old) }
 {
     match b {
         None => Ok(()),
-        Some(a) => note_statement(scopes, a),
+        Some(a) => note_statement(alloc, scopes, a),
     }
 }
 
 /// Types the annotations of an item, and brings in sight what it declares.
 #[cycle(noted)]
-fn note_item(scopes: &mut Scopes, item: &mut Item) -> Result<(), TypeFault>
+fn note_item(alloc: Global, scopes: &mut Scopes, item: &mut Item) -> Result<(), TypeFault>
     ensures noted { Answers (λ _. plain_item item.new) (noted_item (plain_scopes scopes.old) (plain_item item.old)) result }
     ensures behind { OnOk result (plain_scopes scopes.new ≡ behind (plain_scopes scopes.old) (plain_item item.new)) }
 {
     match item {
         Item::Declare(list) => {
-            declare_all(scopes, list)?;
+            declare_all(alloc, scopes, list)?;
             Ok(())
         }
-        Item::Run(a) => note_statement(scopes, a),
-        Item::Asserts(annots) => type_clauses(scopes, annots),
+        Item::Run(a) => note_statement(alloc, scopes, a),
+        Item::Asserts(annots) => type_clauses(alloc, scopes, annots),
     }
 }
 
 /// Types the annotations of the items of a block, each in sight of those after it.
 #[cycle(noted)]
-fn note_items(scopes: &mut Scopes, items: &mut Vec<Item>) -> Result<(), TypeFault>
+fn note_items(alloc: Global, scopes: &mut Scopes, items: &mut Vec<Item>) -> Result<(), TypeFault>
     ensures noted { Answers (λ _. plain_items items.new.items) (noted_items (plain_scopes scopes.old) (plain_items items.old.items)) result }
     ensures behind { OnOk result (plain_scopes scopes.new ≡ behind_items (plain_scopes scopes.old) (plain_items items.new.items)) }
 {
     for i in 0..items.len() {
-        note_item(scopes, &mut items[i])?;
+        note_item(alloc, scopes, &mut items[i])?;
     }
     Ok(())
 }
 
 /// A block in a scope of its own.
 #[cycle(noted)]
-fn note_block(scopes: &mut Scopes, items: &mut Vec<Item>) -> Result<(), TypeFault>
+fn note_block(alloc: Global, scopes: &mut Scopes, items: &mut Vec<Item>) -> Result<(), TypeFault>
     ensures noted { Answers (λ _. plain_items items.new.items) (noted_items (inner (plain_scopes scopes.old)) (plain_items items.old.items)) result }
     ensures same { OnOk result (plain_scopes scopes.new ≡ plain_scopes scopes.old) }
 {
     let mark = enter(scopes);
-    note_items(scopes, items)?;
+    note_items(alloc, scopes, items)?;
     leave(scopes, mark);
     Ok(())
 }
 
 /// The items of a body, whose scope is the function's.
-fn note_body_items(scopes: &mut Scopes, items: &mut Vec<Item>) -> Result<(), TypeFault>
+fn note_body_items(
+    alloc: Global,
+    scopes: &mut Scopes,
+    items: &mut Vec<Item>,
+) -> Result<(), TypeFault>
     ensures noted { Answers (λ _. plain_items items.new.items) (noted_items (plain_scopes scopes.old) (plain_items items.old.items)) result }
     ensures same { OnOk result (plain_scopes scopes.new ≡ plain_scopes scopes.old) }
 {
     let mark = mark_here(scopes);
-    note_items(scopes, items)?;
+    note_items(alloc, scopes, items)?;
     leave(scopes, mark);
     Ok(())
 }
 
 /// A body is a block.
-fn note_body_kind(scopes: &mut Scopes, kind: &mut StmtKind) -> Result<(), TypeFault>
+fn note_body_kind(alloc: Global, scopes: &mut Scopes, kind: &mut StmtKind) -> Result<(), TypeFault>
     ensures noted { (at : Place) → Answers (λ _. Some (plain_stmt_kind at kind.new))
         (noted_body (plain_scopes scopes.old) (Some (plain_stmt_kind at kind.old))) result }
     ensures same { OnOk result (plain_scopes scopes.new ≡ plain_scopes scopes.old) }
 {
     match kind {
-        StmtKind::Block(items) => note_body_items(scopes, items),
+        StmtKind::Block(items) => note_body_items(alloc, scopes, items),
         StmtKind::Empty
         | StmtKind::Eval(_)
         | StmtKind::If(..)
@@ -169,24 +173,24 @@ fn note_body_kind(scopes: &mut Scopes, kind: &mut StmtKind) -> Result<(), TypeFa
     }
 }
 
-fn note_body(scopes: &mut Scopes, body: &mut Option<Stmt>) -> Result<(), TypeFault>
+fn note_body(alloc: Global, scopes: &mut Scopes, body: &mut Option<Stmt>) -> Result<(), TypeFault>
     ensures noted { Answers (λ _. option_map plain_stmt body.new) (noted_body (plain_scopes scopes.old) (option_map plain_stmt body.old)) result }
     ensures same { OnOk result (plain_scopes scopes.new ≡ plain_scopes scopes.old) }
 {
     match body {
         None => Ok(()),
-        Some(s) => note_body_kind(scopes, &mut s.kind),
+        Some(s) => note_body_kind(alloc, scopes, &mut s.kind),
     }
 }
 
 /// The annotations of a function that is in sight.
-fn note_parts(scopes: &mut Scopes, f: &mut Func) -> Result<(), TypeFault>
+fn note_parts(alloc: Global, scopes: &mut Scopes, f: &mut Func) -> Result<(), TypeFault>
     ensures noted { Answers (λ _. plain_func f.new) (noted_parts (plain_scopes scopes.old) (plain_func f.old)) result }
     ensures same { OnOk result (plain_scopes scopes.new ≡ plain_scopes scopes.old) }
 {
     let mark = mark_here(scopes);
-    see_parameters(scopes, &f.params)?;
-    note_body(scopes, &mut f.body)?;
+    see_parameters(alloc, scopes, &f.params)?;
+    note_body(alloc, scopes, &mut f.body)?;
     leave(scopes, mark);
     Ok(())
 }
@@ -206,7 +210,7 @@ fn note_each(
     for i in 0..funcs.len() {
         let f = &mut funcs[i];
         see_function(alloc, scopes, numbers, f)?;
-        note_parts(scopes, f)?;
+        note_parts(alloc, scopes, f)?;
     }
     Ok(())
 }

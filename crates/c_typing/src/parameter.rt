@@ -13,7 +13,7 @@ use c_syntax::Decl;
 use c_type_rules::conversion::is_object_type;
 use c_type_rules::fault::{TypeFault, no_type};
 use c_type_rules::scope::Scopes;
-use std::alloc::AllocError;
+use std::alloc::{AllocError, Global};
 
 /// A parameter is an object, whose name, where it has one, is new in its scope and none of the library's.
 fn check_parameter(scopes: &Scopes, d: &Decl) -> Result<(), TypeFault>
@@ -30,15 +30,23 @@ fn check_parameter(scopes: &Scopes, d: &Decl) -> Result<(), TypeFault>
 }
 
 /// Brings a parameter in sight, where it has a name.
-fn see_parameter(scopes: &mut Scopes, d: &Decl) -> Result<(), AllocError>
+fn see_parameter(alloc: Global, scopes: &mut Scopes, d: &Decl) -> Result<(), AllocError>
     ensures seen { OnOk result (plain_scopes scopes.new ≡ with_parameter (plain_scopes scopes.old) (plain_decl d.now)) }
     ensures file { at_file (plain_scopes scopes.new) ≡ at_file (plain_scopes scopes.old) }
 {
-    if d.named { declare(scopes, d) } else { Ok(()) }
+    if d.named {
+        declare(alloc, scopes, d)
+    } else {
+        Ok(())
+    }
 }
 
 /// Checks parameters, and brings each in sight of those after it.
-pub fn check_parameters(scopes: &mut Scopes, params: &[Decl]) -> Result<(), TypeFault>
+pub fn check_parameters(
+    alloc: Global,
+    scopes: &mut Scopes,
+    params: &[Decl],
+) -> Result<(), TypeFault>
     ensures checked { Answers (λ _. tt) (checked_parameters (plain_scopes scopes.old) (map plain_decl params.now)) result }
     ensures behind { OnOk result (plain_scopes scopes.new ≡ with_parameters (plain_scopes scopes.old) (map plain_decl params.now)) }
     ensures file { at_file (plain_scopes scopes.new) ≡ at_file (plain_scopes scopes.old) }
@@ -46,19 +54,19 @@ pub fn check_parameters(scopes: &mut Scopes, params: &[Decl]) -> Result<(), Type
     let mut rest = params;
     'turn: while let [d, after @ ..] = rest {
         check_parameter(scopes, d)?;
-        see_parameter(scopes, d)?;
+        see_parameter(alloc, scopes, d)?;
         rest = after;
     }
     Ok(())
 }
 
 /// Brings parameters in sight.
-pub fn see_parameters(scopes: &mut Scopes, params: &[Decl]) -> Result<(), AllocError>
+pub fn see_parameters(alloc: Global, scopes: &mut Scopes, params: &[Decl]) -> Result<(), AllocError>
     ensures { OnOk result (plain_scopes scopes.new ≡ with_parameters (plain_scopes scopes.old) (map plain_decl params.now)) }
 {
     let mut rest = params;
     'turn: while let [d, after @ ..] = rest {
-        see_parameter(scopes, d)?;
+        see_parameter(alloc, scopes, d)?;
         rest = after;
     }
     Ok(())

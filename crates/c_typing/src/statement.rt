@@ -14,7 +14,7 @@ ghost use Rattle.c_typing.specs.Trees.{plain_around, plain_else_part, plain_for_
 
 use crate::declaration::type_declarations;
 use c_syntax::{CType, Expr, Item, Place, Stmt, StmtKind};
-use c_type_rules::conversion::{copy_type, is_assigned, is_scalar};
+use c_type_rules::conversion::{is_assigned, is_scalar};
 use c_type_rules::expression::type_expr;
 use c_type_rules::fault::{TypeFault, no_type};
 use c_type_rules::operator::in_type;
@@ -22,17 +22,17 @@ use c_type_rules::scope::{Scopes, enter, leave};
 use std::alloc::Global;
 
 /// Where a statement stands: what its function gives, and whether it is inside a loop.
-#[derive(Drop)]
-pub struct Around {
-    pub result: CType,
+#[derive(Clone, Copy, Drop)]
+pub struct Around<'a> {
+    pub result: &'a CType,
     pub loops: bool,
 }
 
-fn in_loop(around: &Around) -> Around
+fn in_loop<'a>(around: &Around<'a>) -> Around<'a>
     ensures { plain_around result ≡ in_loop (plain_around around.now) }
 {
     Around {
-        result: copy_type(&around.result),
+        result: around.result,
         loops: true,
     }
 }
@@ -108,7 +108,7 @@ fn returned(
 }
 
 /// `break` and `continue` stand in loops (C99 6.8.6.2, 6.8.6.3).
-fn jump(place: Place, around: &Around) -> Result<(), TypeFault>
+fn jump(place: Place, around: &Around<'_>) -> Result<(), TypeFault>
     ensures breaks { Answers (λ _. Break place) (where_so around.now.loops (no_type place) (Good (Break place))) result }
     ensures continues { Answers (λ _. Continue place) (where_so around.now.loops (no_type place) (Good (Continue place))) result }
     ensures sure { IfErr result IsRefusal }
@@ -125,7 +125,7 @@ fn jump(place: Place, around: &Around) -> Result<(), TypeFault>
 pub fn type_statement(
     alloc: Global,
     scopes: &mut Scopes,
-    around: &Around,
+    around: &Around<'_>,
     s: &mut Stmt,
 ) -> Result<(), TypeFault>
     ensures typed { Answers (λ _. plain_stmt s.new) (typed_statement (plain_scopes scopes.old) (plain_around around.now) (plain_stmt s.old)) result }
@@ -140,7 +140,7 @@ pub fn type_statement(
 fn type_kind(
     alloc: Global,
     scopes: &mut Scopes,
-    around: &Around,
+    around: &Around<'_>,
     place: Place,
     kind: &mut StmtKind,
 ) -> Result<(), TypeFault>
@@ -182,7 +182,7 @@ fn type_kind(
         StmtKind::Continue => jump(place, around),
         StmtKind::Return(e) => {
             type_some(alloc, scopes, e)?;
-            returned(alloc, place, &around.result, e)
+            returned(alloc, place, around.result, e)
         }
     }
 }
@@ -191,7 +191,7 @@ fn type_kind(
 fn type_else(
     alloc: Global,
     scopes: &mut Scopes,
-    around: &Around,
+    around: &Around<'_>,
     b: &mut Option<Stmt>,
 ) -> Result<(), TypeFault>
     ensures typed { Answers (λ _. plain_else_part b.new) (typed_else (plain_scopes scopes.old) (plain_around around.now) (plain_else_part b.old)) result }
@@ -208,7 +208,7 @@ fn type_else(
 fn type_first(
     alloc: Global,
     scopes: &mut Scopes,
-    around: &Around,
+    around: &Around<'_>,
     first: &mut Option<Item>,
 ) -> Result<(), TypeFault>
     ensures typed { Answers (λ _. plain_for_first first.new)
@@ -226,7 +226,7 @@ fn type_first(
 fn type_item(
     alloc: Global,
     scopes: &mut Scopes,
-    around: &Around,
+    around: &Around<'_>,
     item: &mut Item,
 ) -> Result<(), TypeFault>
     ensures typed { Answers (λ _. plain_item item.new) (typed_item (plain_scopes scopes.old) (plain_around around.now) (plain_item item.old)) result }
@@ -245,7 +245,7 @@ fn type_item(
 pub fn type_items(
     alloc: Global,
     scopes: &mut Scopes,
-    around: &Around,
+    around: &Around<'_>,
     items: &mut Vec<Item>,
 ) -> Result<(), TypeFault>
     ensures typed { Answers (λ _. plain_items items.new.items)
@@ -264,7 +264,7 @@ pub fn type_items(
 fn type_block(
     alloc: Global,
     scopes: &mut Scopes,
-    around: &Around,
+    around: &Around<'_>,
     items: &mut Vec<Item>,
 ) -> Result<(), TypeFault>
     ensures typed { Answers (λ _. plain_items items.new.items)

@@ -7,8 +7,8 @@ use Rattle.c_type_rules.specs.Scopes.{plain_scopes}
 use Rattle.c_typing.proofs.Chains.{binary_in_place}
 use Rattle.c_typing.proofs.annotation.+term.Goals as goal
 
-pub returns-in-Binary-clause-typed : goal.returns-in-Binary-clause-typed
-returns-in-Binary-clause-typed t c =
+pub returns-in-Binary : goal.returns-in-Binary
+returns-in-Binary t c =
     let s = plain_scopes c.args.scopes.now in
     let is : c.args.t.now.kind.value ≡ term.Binary c.in-Binary._op c.in-Binary.a c.in-Binary.b = search rules in
     let ha : Answers (λ (u : Unit {0}). plain_term c.type_term-first.new.t) (typed_term s (plain_term c.in-Binary.a)) c.type_term-first.result = search rules in

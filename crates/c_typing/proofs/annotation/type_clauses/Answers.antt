@@ -18,5 +18,5 @@ loop-i-preserved c =
       unvisited = unvisited_step old cur i y c.loop-i.invariant.unvisited;
       within = within_step cur i y lt;
       typed = annotations_more s (map plain_annot old) (drop i old) (take i cur) (take (i + 1) (slice_set cur i y)) x c.type_clause.new.body (drop (i + 1) old) c.loop-i.invariant.typed
-          (left old cur i x lt c.loop-i.invariant.unvisited c.index_mut-annot.ensures.value) c.in_ok-type_clause.ensures.typed (done cur i y lt);
+          (left old cur i x lt c.loop-i.invariant.unvisited c.index_mut-annot.ensures.value) c.in_ok-type_clause.ensures (done cur i y lt);
     }

@@ -18,6 +18,5 @@ loop-i-preserved c =
       unvisited = unvisited_step old cur i y c.loop-i.invariant.unvisited;
       within = within_step cur i y lt;
       done = rw c.both-done.ensures.is (links_step s (take i old) (take (i + 1) old) (take i cur) (take (i + 1) (slice_set cur i y)) x y c.loop-i.done c.type_link-link.result was (done cur i y lt)
-          c.loop-i.invariant.done c.type_link-link.ensures.typed);
-      sure = c.both-done.ensures.sure c.loop-i.invariant.sure c.type_link-link.ensures.sure;
+          c.loop-i.invariant.done c.type_link-link.ensures);
     }

@@ -1,7 +1,7 @@
-use Rattle.std.proofs.Common.{◌≤◌, IfErr, length, take}
+use Rattle.std.proofs.Common.{◌≤◌, length, take}
 use Rattle.c_syntax.specs.Annotations.{plain_links}
 use Rattle.c_model.specs.ProgramTyping.{typed_links}
-use Rattle.c_type_rules.specs.Answers.{Answers, IsRefusal}
+use Rattle.c_type_rules.specs.Answers.{Answers}
 use Rattle.c_type_rules.specs.Scopes.{plain_scopes}
 use Rattle.c_type_rules.proofs.InPlace.{Unvisited}
 use Rattle.c_typing.proofs.annotation.type_links.Given as goal
@@ -11,5 +11,4 @@ invariant-loop-i l = record {
   unvisited : Unvisited l.links.items l.initial.links.items l.i;
   within : l.i ≤ length l.links.items;
   done : Answers (λ u. plain_links (take l.i l.links.items)) (typed_links (plain_scopes l.scopes) (plain_links (take l.i l.initial.links.items))) l.done;
-  sure : IfErr l.done IsRefusal;
 }

@@ -7,8 +7,8 @@ use Rattle.c_type_rules.specs.Scopes.{plain_scopes}
 use Rattle.c_typing.proofs.Chains.{chain_of, chain_in_place}
 use Rattle.c_typing.proofs.annotation.type_predicate.Goals as goal
 
-pub returns-clause-typed : goal.returns-clause-typed
-returns-clause-typed c =
+pub returns : goal.returns
+returns c =
     let s = plain_scopes c.args.scopes.now in
     let x = chain_of c.args.p.now.kind.value in
     let is : c.args.p.now.kind.value ≡ code.Chain x.term x.links = x.is in
