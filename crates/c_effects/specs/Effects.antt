@@ -6,7 +6,7 @@ use Rattle.c_syntax.specs.declared.expression.Use.{Use}
 use Rattle.c_syntax.specs.Ctypes.{int_type}
 use Rattle.c_syntax.specs.Expressions as source
 use Rattle.c_syntax.specs.Expressions.{Expression, Node, Expressions, NoExpression, Following, type_of}
-use Rattle.c_syntax.specs.Statements.{Initialiser, One, Declaration}
+use Rattle.c_syntax.specs.Statements.{Initialiser, One, Many, Declaration}
 use Rattle.c_syntax.specs.Programs.{Function, TranslationUnit}
 use Rattle.c_model.specs.Meaning.{bump_operator, is_definition, is_of_library}
 use Rattle.c_model.specs.Typing.{name_at}
@@ -87,6 +87,7 @@ any_temporaries of_one (Some e) = of_one e
 abbrev pub initial_temporaries : Option (Place × Initialiser) → List MonType
 initial_temporaries None = []
 initial_temporaries (Some (at, One e)) = full_temporaries e
+initial_temporaries (Some (at, Many brace is)) = []
 
 abbrev pub declaration_temporaries : List Declaration → List MonType
 declaration_temporaries [] = []
@@ -123,6 +124,7 @@ module _ (p : TranslationUnit) (numbers : List ℕ) where
   abbrev pub initialise : List MonType → ℕ → Option (Place × Initialiser) → MonStatements
   initialise rs x None = NoStatement
   initialise rs x (Some (at, One e)) = before (full_setup rs e) (set (register_of numbers x) (full_value numbers rs e))
+  initialise rs x (Some (at, Many brace is)) = NoStatement
 
   abbrev pub initialise_all : List MonType → List Declaration → MonStatements
   initialise_all rs [] = NoStatement

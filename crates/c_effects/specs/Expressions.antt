@@ -10,7 +10,7 @@ use Rattle.c_syntax.specs.declared.expression.BinOp.{BinOp}
 use Rattle.c_syntax.specs.declared.expression.BinOp.TheVariants as operator
 use Rattle.c_syntax.specs.declared.annotation.Relation.{Relation}
 use Rattle.c_syntax.specs.declared.annotation.Relation.TheVariants as relation
-use Rattle.c_syntax.specs.Ctypes.{PlainType, Void, Int}
+use Rattle.c_syntax.specs.Ctypes.{PlainType, Int}
 use Rattle.c_syntax.specs.Expressions as source
 use Rattle.c_syntax.specs.Expressions.{Expression, Node, type_of}
 use Rattle.c_syntax.specs.Annotations as logic
@@ -39,10 +39,10 @@ register_type c.U32 = U32
 register_type c.I64 = I64
 register_type c.U64 = U64
 
--- the type of a value; none is `void`
+-- the type of a value; values are integers
 abbrev pub value_type : PlainType → MonType
-value_type Void = I32
 value_type (Int k) = register_type k
+value_type _ = I32
 
 -- the type in which operators take a value of the type
 abbrev pub operand_type : MonType → MonType
@@ -97,6 +97,9 @@ unary prefix.Plus t e = e
 unary prefix.Minus t e = Minus t e
 unary prefix.Not t e = compared Eq t e
 unary prefix.Flip t e = Flip t e
+-- no type has addresses
+unary prefix.Deref t e = e
+unary prefix.Address t e = e
 
 -- an operator on values of two types, which differ in shifts alone: there the count takes the type of the left side
 abbrev pub binary : BinOp → MonType → MonType → MonExpression → MonExpression → MonExpression
@@ -108,8 +111,8 @@ compound_in op m t u a b = in_type (result_type (operator_of op) m) t (Binary (o
 
 abbrev pub compound : BinOp → PlainType → PlainType → MonExpression → MonExpression → MonExpression
 compound op (Int k) (Int l) a b = compound_in op (register_type (operation_type op k l)) (register_type k) (register_type l) a b
-compound op (Int k) Void a b = Constant I32 (pos 0)
-compound op Void u a b = Constant I32 (pos 0)
+-- no other type has operators
+compound op t u a b = Constant I32 (pos 0)
 
 -- ---- expressions without effects
 
@@ -130,6 +133,12 @@ temporaries (Node at t (source.SizeOfExpr a)) = []
 temporaries (Node at t (source.Assign op a b)) = []
 temporaries (Node at t (source.Bump op a)) = []
 temporaries (Node at t (source.Call f args)) = []
+-- and typing refuses these
+temporaries (Node at t (source.Text n)) = []
+temporaries (Node at t (source.Index a b)) = []
+temporaries (Node at t (source.Dot a m)) = []
+temporaries (Node at t (source.Arrow a m)) = []
+temporaries (Node at t (source.Comma a b)) = []
 
 -- the value of an expression, over the variables of these numbers, after registers of these types
 abbrev pub value : List ℕ → List MonType → Expression → MonExpression
@@ -149,6 +158,8 @@ value numbers rs (Node at t (source.SizeOfExpr a)) = Constant U64 (pos (size_of 
 value numbers rs (Node at t (source.Assign op a b)) = Constant I32 (pos 0)
 value numbers rs (Node at t (source.Bump op a)) = Constant I32 (pos 0)
 value numbers rs (Node at t (source.Call f args)) = Constant I32 (pos 0)
+-- and typing refuses the others
+value numbers rs _ = Constant I32 (pos 0)
 
 abbrev pub before : MonStatements → MonStatements → MonStatements
 before NoStatement b = b
@@ -195,6 +206,12 @@ setup numbers rs (Node at t (source.SizeOfExpr a)) = NoStatement
 setup numbers rs (Node at t (source.Assign op a b)) = NoStatement
 setup numbers rs (Node at t (source.Bump op a)) = NoStatement
 setup numbers rs (Node at t (source.Call f args)) = NoStatement
+-- and typing refuses these
+setup numbers rs (Node at t (source.Text n)) = NoStatement
+setup numbers rs (Node at t (source.Index a b)) = NoStatement
+setup numbers rs (Node at t (source.Dot a m)) = NoStatement
+setup numbers rs (Node at t (source.Arrow a m)) = NoStatement
+setup numbers rs (Node at t (source.Comma a b)) = NoStatement
 
 -- ---- annotations
 

@@ -6,7 +6,7 @@ use Rattle.c_syntax.specs.Expressions as source
 use Rattle.c_syntax.specs.Expressions.{Expression, Node, Expressions, NoExpression, Following}
 use Rattle.c_syntax.specs.Annotations as logic
 use Rattle.c_syntax.specs.Annotations.{LogicTerm, Predicate, Chain, Links, NoLink, Linked, ClauseBody, Truth, Annotation}
-use Rattle.c_syntax.specs.Statements.{Initialiser, One, Declaration}
+use Rattle.c_syntax.specs.Statements.{Initialiser, One, Many, Declaration}
 
 -- a value of `char`
 pub record IsLetter (z : ℤ) : Type 0 where
@@ -31,6 +31,12 @@ HasLetters (Node at t (source.SizeOfExpr a)) = Unit {0}
 HasLetters (Node at t (source.Assign op a b)) = Unit {0}
 HasLetters (Node at t (source.Bump op a)) = Unit {0}
 HasLetters (Node at t (source.Call f args)) = Unit {0}
+-- and typing refuses these
+HasLetters (Node at t (source.Text n)) = Unit {0}
+HasLetters (Node at t (source.Index a b)) = Unit {0}
+HasLetters (Node at t (source.Dot a m)) = Unit {0}
+HasLetters (Node at t (source.Arrow a m)) = Unit {0}
+HasLetters (Node at t (source.Comma a b)) = Unit {0}
 
 abbrev pub ArgumentsHaveLetters : Expressions → Type 0
 ArgumentsHaveLetters NoExpression = Unit {0}
@@ -54,6 +60,7 @@ Any P (Some x) = P x
 abbrev pub InitialHasLetters : Option (Place × Initialiser) → Type 0
 InitialHasLetters None = Unit {0}
 InitialHasLetters (Some (at, One e)) = FullHasLetters e
+InitialHasLetters (Some (at, Many brace is)) = Unit {0}
 
 abbrev pub InitialsHaveLetters : List Declaration → Type 0
 InitialsHaveLetters [] = Unit {0}

@@ -25,13 +25,13 @@ pub fn register_type(k: CInt) -> MonType
     }
 }
 
-/// The type of a register that holds a value. None holds one of type `void`.
+/// The type of a register that holds a value. None holds one of another type than an integer.
 pub fn value_type(t: &CType) -> MonType
     ensures { result ≡ value_type (plain_type t.now) }
 {
     match t {
-        CType::Void => MonType::I32,
         CType::Int(k) => register_type(*k),
+        _ => MonType::I32,
     }
 }
 

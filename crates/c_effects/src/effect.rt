@@ -4,7 +4,7 @@ ghost use Rattle.std.specs.Prelude.{◌≡◌, ◌++◌, IfOk, OnOk, map, option
 ghost use Rattle.c_syntax.specs.Ctypes.{int_type, plain_type};
 ghost use Rattle.c_syntax.specs.Expressions.{plain_expr, type_of};
 ghost use Rattle.c_syntax.specs.Programs.{plain_program};
-ghost use Rattle.c_syntax.specs.Statements.{One, plain_decl, plain_init};
+ghost use Rattle.c_syntax.specs.Statements.{plain_decl};
 ghost use Rattle.c_model.specs.Meaning.{bump_operator};
 ghost use Rattle.mon_syntax.specs.declared.tree.MonType.TheVariants.{I32};
 ghost use Rattle.mon_syntax.specs.Trees.{Constant, Register, plain_expr as plain_monitored, plain_stmts};
@@ -43,7 +43,12 @@ fn target(numbers: &[u32], e: &Expr) -> Result<u32, AllocError>
         | ExprKind::Call(_, _)
         | ExprKind::Cast(_, _)
         | ExprKind::SizeOfType(_)
-        | ExprKind::SizeOfExpr(_) => Ok(0),
+        | ExprKind::SizeOfExpr(_)
+        | ExprKind::Text(_)
+        | ExprKind::Index(_, _)
+        | ExprKind::Dot(_, _)
+        | ExprKind::Arrow(_, _)
+        | ExprKind::Comma(_, _) => Ok(0),
     }
 }
 
@@ -182,7 +187,12 @@ pub fn effect(
         | ExprKind::Choice(_, _, _)
         | ExprKind::Cast(_, _)
         | ExprKind::SizeOfType(_)
-        | ExprKind::SizeOfExpr(_) => Ok(()),
+        | ExprKind::SizeOfExpr(_)
+        | ExprKind::Text(_)
+        | ExprKind::Index(_, _)
+        | ExprKind::Dot(_, _)
+        | ExprKind::Arrow(_, _)
+        | ExprKind::Comma(_, _) => Ok(()),
     }
 }
 
@@ -206,15 +216,6 @@ pub fn effect_if_any(
     }
 }
 
-// The expression of an initialiser.
-fn initial(init: &Init) -> &Expr
-    ensures { plain_init init.now ≡ One (plain_expr result.now) }
-{
-    match init {
-        Init::One(e) => e,
-    }
-}
-
 // Initialises a declared variable.
 #[tactic(auto, using(crate::proofs::Sequences::before_none))]
 fn initialise(
@@ -230,11 +231,11 @@ fn initialise(
     ensures letters { OnOk result (InitialHasLetters (plain_decl d.now).init) }
 {
     match &d.init {
-        Some((_, init)) => {
+        Some((_, Init::One(e))) => {
             let register = register_of(scene.numbers, d.place.offset)?;
-            assign(alloc, scene, register, initial(init), types, to)
+            assign(alloc, scene, register, e, types, to)
         }
-        None => Ok(()),
+        Some((_, Init::Many(_, _))) | None => Ok(()),
     }
 }
 

@@ -54,9 +54,14 @@ pub fn expression(
         ExprKind::Cast(t, a) => cast(alloc, numbers, t, a, types, to),
         ExprKind::SizeOfType(t) => size_constant(alloc, t),
         ExprKind::SizeOfExpr(a) => size_constant(alloc, &a.ctype),
-        ExprKind::Assign(_, _, _) | ExprKind::Bump(_, _) | ExprKind::Call(_, _) => {
-            constant(alloc, MonType::I32, 0)
-        }
+        ExprKind::Assign(_, _, _)
+        | ExprKind::Bump(_, _)
+        | ExprKind::Call(_, _)
+        | ExprKind::Text(_)
+        | ExprKind::Index(_, _)
+        | ExprKind::Dot(_, _)
+        | ExprKind::Arrow(_, _)
+        | ExprKind::Comma(_, _) => constant(alloc, MonType::I32, 0),
     }
 }
 

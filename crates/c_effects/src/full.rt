@@ -75,7 +75,12 @@ fn direct(
         | ExprKind::Bump(_, _)
         | ExprKind::Cast(_, _)
         | ExprKind::SizeOfType(_)
-        | ExprKind::SizeOfExpr(_) => expression(alloc, scene.numbers, e, types, to),
+        | ExprKind::SizeOfExpr(_)
+        | ExprKind::Text(_)
+        | ExprKind::Index(_, _)
+        | ExprKind::Dot(_, _)
+        | ExprKind::Arrow(_, _)
+        | ExprKind::Comma(_, _) => expression(alloc, scene.numbers, e, types, to),
     }
 }
 
@@ -111,6 +116,11 @@ pub fn full(
         | ExprKind::Bump(_, _)
         | ExprKind::Call(_, _)
         | ExprKind::SizeOfType(_)
-        | ExprKind::SizeOfExpr(_) => direct(alloc, scene, e, types, to),
+        | ExprKind::SizeOfExpr(_)
+        | ExprKind::Text(_)
+        | ExprKind::Index(_, _)
+        | ExprKind::Dot(_, _)
+        | ExprKind::Arrow(_, _)
+        | ExprKind::Comma(_, _) => direct(alloc, scene, e, types, to),
     }
 }

@@ -105,7 +105,7 @@ pub fn unary(alloc: Global, op: UnOp, t: MonType, e: MonExpr) -> Result<MonExpr,
     ensures { IfOk result (λ m. plain_expr m ≡ unary op t (plain_expr e)) }
 {
     match op {
-        UnOp::Plus => Ok(e),
+        UnOp::Plus | UnOp::Deref | UnOp::Address => Ok(e),
         UnOp::Minus => MonExpr::new(alloc, MonExprKind::Minus(t, e)),
         UnOp::Not => compared(alloc, MonOp::Eq, t, e),
         UnOp::Flip => MonExpr::new(alloc, MonExprKind::Flip(t, e)),
@@ -169,6 +169,6 @@ pub fn compound(
                 right,
             )
         }
-        (CType::Void, _) | (_, CType::Void) => constant(alloc, MonType::I32, 0),
+        _ => constant(alloc, MonType::I32, 0),
     }
 }

@@ -6,7 +6,7 @@ use Rattle.std.specs.Int.{w32}
 use Rattle.c_syntax.specs.declared.types.CInt.{CInt}
 use Rattle.c_syntax.specs.declared.types.CInt.TheVariants.{I8, U8, I16, U16, I32, U32, I64, U64}
 use Rattle.c_model.specs.Integers.{int_size, size_of, fits, bits_of, value_of_bits}
-use Rattle.c_syntax.specs.Ctypes.{PlainType, Void, Int}
+use Rattle.c_syntax.specs.Ctypes.{PlainType, Int}
 use Rattle.c_model.specs.Memory.{Value, Integer, NoValue, number_of, bytes_of, with_low_byte, value_from, bytes_from}
 
 -- two's complement, where h is the half of m
@@ -90,6 +90,6 @@ length-integer_bytes k z = length-bytes_of (int_size k) (bits_of k z)
 
 -- what is no integer has no bytes
 pub length-bytes_from : (t : PlainType) (v : Value) → length (bytes_from t v) ≤ size_of t
-length-bytes_from Void v = omega arith
 length-bytes_from (Int k) NoValue = omega arith
 length-bytes_from (Int k) (Integer z) = omega (arith, length-integer_bytes k z)
+length-bytes_from _ v = omega arith

@@ -8,12 +8,14 @@ use Rattle.c_syntax.specs.declared.expression.UnOp.{UnOp}
 use Rattle.c_syntax.specs.declared.expression.BinOp.{BinOp}
 use Rattle.c_syntax.specs.declared.expression.BumpOp.{BumpOp}
 use Rattle.c_syntax.specs.declared.expression.BumpOp.TheVariants.{PreUp, PreDown, PostUp, PostDown}
+use Rattle.c_syntax.specs.declared.types.CInt.{CInt}
 use Rattle.c_syntax.specs.declared.types.Segment.{Segment}
 use Rattle.c_syntax.specs.declared.types.Segment.TheVariants.{Frames}
 use Rattle.c_syntax.specs.Ctypes.{PlainType, Void, Int, int_type}
 use Rattle.c_syntax.specs.Annotations.{Annotation}
-use Rattle.c_syntax.specs.Expressions.{Expression, Node, Number, Letter, Variable, Unary, Binary, Both, Either, Choice, Assign, Bump, Call, Cast, SizeOfType, SizeOfExpr, Expressions, NoExpression, Following, type_of}
-use Rattle.c_syntax.specs.Statements.{Initialiser, One, Declaration, Statement, Empty, Eval, Block, If, While, Do, For, Break, Continue, Return, ElsePart, NoElse, Else, ForFirst, NoFirst, First, BlockItem, Declare, Run, Asserts, BlockItems, NoItem}
+use Rattle.c_syntax.specs.Expressions.{Expression, Node, Number, Letter, Variable, Unary, Binary, Both, Either, Choice, Assign, Bump, Call, Cast, SizeOfType, SizeOfExpr, Text, Index, Dot, Arrow, Comma, Expressions, NoExpression, Following, type_of}
+use Rattle.c_syntax.specs.Statements.{Initialiser, One, Many, Declaration, Statement, Empty, Eval, Block, If, While, Do, For, Break, Continue}
+use Rattle.c_syntax.specs.Statements.{Return, ElsePart, NoElse, Else, ForFirst, NoFirst, First, BlockItem, Declare, Run, Asserts, BlockItems, NoItem}
 use Rattle.c_syntax.specs.Statements.{Then}
 use Rattle.c_syntax.specs.Programs.{Function, TranslationUnit}
 use Rattle.c_model.specs.Integers.{size_of, value_of_bits, operate, operate_one, byte_of}
@@ -53,11 +55,11 @@ IsNumber NoValue = ⊥
 -- a value that an expression of the type may have
 abbrev IsValueOf : PlainType → Value → Type 0
 IsValueOf Void v = Unit {0}
-IsValueOf (Int k) v = IsNumber v
+IsValueOf _ v = IsNumber v
 
 number_is : (t : PlainType) (v : Value) → IsNumber v → IsValueOf t v
 number_is Void v h = tt
-number_is (Int k) v h = h
+number_is _ v h = h
 
 -- a value of which P holds, a jump of which L holds, or an end that the meaning names
 abbrev EndsWell : {A : Type 0} → (A → Type 0) → (Leave → Type 0) → Outcome A → Type 0
@@ -125,18 +127,17 @@ number_of_two t op NoValue w = tt
 number_of_two t op (Integer x) NoValue = tt
 number_of_two t op (Integer x) (Integer y) = mapped Integer (λ z. tt) (operate t op x y)
 
+number_converted : (k : CInt) (o : Option Value) → WhereAny IsNumber o → WhereAny IsNumber (option_map (converted (Int k)) o)
+number_converted k None h = tt
+number_converted k (Some (Integer z)) h = tt
+number_converted k (Some NoValue) h = absurd h
+
 number_of_compound : (t : PlainType) (op : BinOp) (v : Value) (u : PlainType) (w : Value) → WhereAny IsNumber (compound t op v u w)
-number_of_compound Void op v u w = tt
-number_of_compound (Int k) op v Void w = tt
 number_of_compound (Int k) op v (Int l) w =
     let m = Int (operation_type op k l) in
     let b = if is_shift op then w else converted m w in
-    by (operate_values m op (converted m v) b) (number_of_two m op (converted m v) b)
-  where
-    by : (o : Option Value) → WhereAny IsNumber o → WhereAny IsNumber (option_map (converted (Int k)) o)
-    by None h = tt
-    by (Some (Integer z)) h = tt
-    by (Some NoValue) h = absurd h
+    number_converted k (operate_values m op (converted m v) b) (number_of_two m op (converted m v) b)
+number_of_compound _ op v u w = tt
 
 number_of_bump : (op : BumpOp) (old new : Value) → IsNumber old → IsNumber new → IsNumber (bump_value op old new)
 number_of_bump PreUp old new h g = g
@@ -146,17 +147,18 @@ number_of_bump PostDown old new h g = h
 
 value_of_cast : (to u : PlainType) (v : Value) → CastTypes to u → IsValueOf u v → IsValueOf to (converted to v)
 value_of_cast Void u v c h = tt
-value_of_cast (Int k) Void v c h = absurd c
 value_of_cast (Int k) (Int l) NoValue c h = absurd h
 value_of_cast (Int k) (Int l) (Integer z) c h = tt
+value_of_cast (Int k) u v c h = absurd c
+value_of_cast to u v c h = absurd c
 
 where_if : (t : Bool) (o : Option Value) → WhereAny IsNumber o → WhereAny IsNumber (if t then o else None)
 where_if true o h = h
 where_if false o h = tt
 
 number_from : (t : PlainType) (bytes : List Byte) → WhereAny IsNumber (value_from t bytes)
-number_from Void bytes = tt
 number_from (Int k) bytes = mapped (λ n. Integer (value_of_bits k n)) (λ n. tt) (number_of bytes)
+number_from _ bytes = tt
 
 number_in : (b : Option Cells) (offset : ℕ) (t : PlainType) → WhereAny IsNumber (load_block b offset t)
 number_in None offset t = tt
@@ -388,6 +390,11 @@ gives_place (Node at t (Call f args)) call = gives_over (Undefined at) tt
 gives_place (Node at t (Cast to a)) call = gives_over (Undefined at) tt
 gives_place (Node at t (SizeOfType u)) call = gives_over (Undefined at) tt
 gives_place (Node at t (SizeOfExpr a)) call = gives_over (Undefined at) tt
+gives_place (Node at t (Text n)) call = gives_over (Undefined at) tt
+gives_place (Node at t (Index a b)) call = gives_over (Undefined at) tt
+gives_place (Node at t (Dot a m)) call = gives_over (Undefined at) tt
+gives_place (Node at t (Arrow a m)) call = gives_over (Undefined at) tt
+gives_place (Node at t (Comma a b)) call = gives_over (Undefined at) tt
 
 gives_truth : (t : PlainType) (P : Value → Type 0) (e : Expression) (call : Callee) → Gives P NoJump (eval_with e call) → Gives (IsValueOf t) NoJump (eval_with e call >>= λ y. give (truth_value y))
 gives_truth t P e call g = gives_bind _ _ g (λ y _. gives_give (truth_value y) (number_is t (truth_value y) tt))
@@ -423,6 +430,11 @@ module _ (names : List (List ℕ)) (functions : List Signature) (call : Callee) 
         gives_bind _ _ (gives_eval s see a w.0) (λ x h. gives_give (converted to x) (subst (λ u. IsValueOf u (converted to x)) (sym w.1) (value_of_cast to (type_of a) x w.2 h)))
     gives_eval s see (Node at t (SizeOfType u)) w = gives_give (size_value u) (number_is t (size_value u) tt)
     gives_eval s see (Node at t (SizeOfExpr a)) w = gives_give (size_value (type_of a)) (number_is t (size_value (type_of a)) tt)
+    gives_eval s see (Node at t (Text n)) w = absurd w
+    gives_eval s see (Node at t (Index a b)) w = absurd w
+    gives_eval s see (Node at t (Dot a m)) w = absurd w
+    gives_eval s see (Node at t (Arrow a m)) w = absurd w
+    gives_eval s see (Node at t (Comma a b)) w = absurd w
 
     gives_evals : (s : Scopes) → Sees names functions s → (es : Expressions) → AreWellTyped s es → Gives Anything NoJump (evals_with es call)
     gives_evals s see NoExpression w = gives_give [] tt
@@ -437,6 +449,7 @@ module _ (names : List (List ℕ)) (functions : List Signature) (call : Callee) 
   gives_initialise s see d None w = gives_give tt tt
   gives_initialise s see d (Some (at, One e)) w =
       gives_bind _ _ (gives_object at d.place.offset) (λ p _. gives_bind _ _ (gives_value s see e w.0) (λ v _. gives_write at p d.ctype v))
+  gives_initialise s see d (Some (at, Many brace is)) w = absurd w
 
   gives_initialise_all : {L : Leave → Type 0} (s : Scopes) → Sees names functions s → (ds : List Declaration) → AreDeclared s ds → Gives Anything L (initialise_all ds call)
   gives_initialise_all s see [] w = gives_give tt tt
@@ -503,7 +516,7 @@ module _ (names : List (List ℕ)) (functions : List Signature) (call : Callee) 
 
 close_well : (close : Place) (t : PlainType) (s : State) → EndsWell (IsValueOf t) NoJump (at_close close t s)
 close_well close Void s = tt
-close_well close (Int k) s = tt
+close_well close _ s = tt
 
 returned_well : (f : Function) (r : Outcome (Unit {0})) → EndsWell Anything (Allowed (around_body f.result)) r → EndsWell (IsValueOf f.result) NoJump (returned_by f r)
 returned_well f (Normal u s) h = close_well f.close f.result s

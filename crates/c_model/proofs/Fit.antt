@@ -5,8 +5,9 @@ use Rattle.c_syntax.specs.declared.types.Segment.{Segment}
 use Rattle.c_syntax.specs.Ctypes.{PlainType, Void, Int, int_type}
 use Rattle.c_syntax.specs.Annotations.{Annotation, ClauseBody, Truth, Chain, Links, NoLink, Linked}
 use Rattle.c_syntax.specs.declared.annotation.Relation.{Relation}
-use Rattle.c_syntax.specs.Expressions.{Expression, Node, Number, Letter, Variable, Unary, Binary, Both, Either, Choice, Assign, Bump, Call, Cast, SizeOfType, SizeOfExpr, Expressions, NoExpression, Following, type_of}
-use Rattle.c_syntax.specs.Statements.{Initialiser, One, Declaration, Statement, Empty, Eval, Block, If, While, Do, For, Break, Continue, Return, ElsePart, NoElse, Else, ForFirst, NoFirst, First, BlockItem, Declare, Run, Asserts, BlockItems, NoItem}
+use Rattle.c_syntax.specs.Expressions.{Expression, Node, Number, Letter, Variable, Unary, Binary, Both, Either, Choice, Assign, Bump, Call, Cast, SizeOfType, SizeOfExpr, Text, Index, Dot, Arrow, Comma, Expressions, NoExpression, Following, type_of}
+use Rattle.c_syntax.specs.Statements.{Initialiser, One, Many, Declaration, Statement, Empty, Eval, Block, If, While, Do, For, Break, Continue}
+use Rattle.c_syntax.specs.Statements.{Return, ElsePart, NoElse, Else, ForFirst, NoFirst, First, BlockItem, Declare, Run, Asserts, BlockItems, NoItem}
 use Rattle.c_syntax.specs.Statements.{Then}
 use Rattle.c_syntax.specs.Programs.{Function, TranslationUnit}
 use Rattle.c_model.specs.Integers.{size_of, byte_of}
@@ -233,6 +234,11 @@ fit_place (Node at t (Call f args)) k call call' = fit_stop k (Over (Undefined a
 fit_place (Node at t (Cast to a)) k call call' = fit_stop k (Over (Undefined at))
 fit_place (Node at t (SizeOfType u)) k call call' = fit_stop k (Over (Undefined at))
 fit_place (Node at t (SizeOfExpr a)) k call call' = fit_stop k (Over (Undefined at))
+fit_place (Node at t (Text n)) k call call' = fit_stop k (Over (Undefined at))
+fit_place (Node at t (Index a b)) k call call' = fit_stop k (Over (Undefined at))
+fit_place (Node at t (Dot a m)) k call call' = fit_stop k (Over (Undefined at))
+fit_place (Node at t (Arrow a m)) k call call' = fit_stop k (Over (Undefined at))
+fit_place (Node at t (Comma a b)) k call call' = fit_stop k (Over (Undefined at))
 
 fit_truth : (e : Expression) (k : ℕ) (call call' : Callee) → Fit k (eval_with e call) (eval_with e call') → Fit k (eval_with e call >>= λ y. give (truth_value y)) (eval_with e call' >>= λ y. give (truth_value y))
 fit_truth e k call call' f = fit_bind k _ _ _ _ f (λ y. fit_give k (truth_value y))
@@ -263,6 +269,11 @@ mutual
   fit_eval (Node at t (Cast to a)) k call call' h = fit_bind k _ _ _ _ (fit_eval a k call call' h) (λ x. fit_give k (converted to x))
   fit_eval (Node at t (SizeOfType u)) k call call' h = fit_give k (size_value u)
   fit_eval (Node at t (SizeOfExpr a)) k call call' h = fit_give k (size_value (type_of a))
+  fit_eval (Node at t (Text n)) k call call' h = fit_stop k (Over (Undefined at))
+  fit_eval (Node at t (Index a b)) k call call' h = fit_stop k (Over (Undefined at))
+  fit_eval (Node at t (Dot a m)) k call call' h = fit_stop k (Over (Undefined at))
+  fit_eval (Node at t (Arrow a m)) k call call' h = fit_stop k (Over (Undefined at))
+  fit_eval (Node at t (Comma a b)) k call call' h = fit_stop k (Over (Undefined at))
 
   pub fit_evals : (es : Expressions) (k : ℕ) (call call' : Callee) → CalleesFit k call call' → Fit k (evals_with es call) (evals_with es call')
   fit_evals NoExpression k call call' h = fit_give k []
@@ -275,6 +286,7 @@ fit_initialise : (d : Declaration) (i : Option (Place × Initialiser)) (k : ℕ)
 fit_initialise d None k call call' h = fit_give k tt
 fit_initialise d (Some (at, One e)) k call call' h =
     fit_bind k _ _ _ _ (fit_object k at d.place.offset) (λ p. fit_bind k _ _ _ _ (fit_eval e k call call' h) (λ v. fit_write k at p d.ctype v))
+fit_initialise d (Some (at, Many brace is)) k call call' h = fit_stop k (Over (Undefined at))
 
 fit_initialise_all : (ds : List Declaration) (k : ℕ) (call call' : Callee) → CalleesFit k call call' → Fit k (initialise_all ds call) (initialise_all ds call')
 fit_initialise_all [] k call call' h = fit_give k tt
@@ -363,7 +375,7 @@ fit_body (Some a) k m n call call' lm ln h = fit_exec a k m n call call' lm ln h
 
 steps_at_close : (close : Place) (t : PlainType) (s : State) → steps_after (at_close close t s) ≡ s.steps
 steps_at_close close Void s = refl
-steps_at_close close (Int k) s = refl
+steps_at_close close _ s = refl
 
 steps_returned : (f : Function) (r : Outcome (Unit {0})) → steps_after (returned_by f r) ≡ steps_after r
 steps_returned f (Normal u s) = steps_at_close f.close f.result s

@@ -5,8 +5,9 @@ use Rattle.c_syntax.specs.declared.place.Place.{Place}
 use Rattle.c_syntax.specs.declared.types.Segment.{Segment}
 use Rattle.c_syntax.specs.Ctypes.{PlainType, Void, Int, int_type}
 use Rattle.c_syntax.specs.Annotations.{Annotation}
-use Rattle.c_syntax.specs.Expressions.{Expression, Node, Number, Letter, Variable, Unary, Binary, Both, Either, Choice, Assign, Bump, Call, Cast, SizeOfType, SizeOfExpr, Expressions, NoExpression, Following, type_of}
-use Rattle.c_syntax.specs.Statements.{Initialiser, One, Declaration, Statement, Empty, Eval, Block, If, While, Do, For, Break, Continue, Return, ElsePart, NoElse, Else, ForFirst, NoFirst, First, BlockItem, Declare, Run, Asserts, BlockItems, NoItem}
+use Rattle.c_syntax.specs.Expressions.{Expression, Node, Number, Letter, Variable, Unary, Binary, Both, Either, Choice, Assign, Bump, Call, Cast, SizeOfType, SizeOfExpr, Text, Index, Dot, Arrow, Comma, Expressions, NoExpression, Following, type_of}
+use Rattle.c_syntax.specs.Statements.{Initialiser, One, Many, Declaration, Statement, Empty, Eval, Block, If, While, Do, For, Break, Continue}
+use Rattle.c_syntax.specs.Statements.{Return, ElsePart, NoElse, Else, ForFirst, NoFirst, First, BlockItem, Declare, Run, Asserts, BlockItems, NoItem}
 use Rattle.c_syntax.specs.Statements.{Then}
 use Rattle.c_syntax.specs.Programs.{Function, TranslationUnit}
 use Rattle.c_model.specs.Integers.{size_of, byte_of}
@@ -176,6 +177,11 @@ grows_place (Node at t (Call f args)) call = grows_stop (Over (Undefined at))
 grows_place (Node at t (Cast to a)) call = grows_stop (Over (Undefined at))
 grows_place (Node at t (SizeOfType u)) call = grows_stop (Over (Undefined at))
 grows_place (Node at t (SizeOfExpr a)) call = grows_stop (Over (Undefined at))
+grows_place (Node at t (Text n)) call = grows_stop (Over (Undefined at))
+grows_place (Node at t (Index a b)) call = grows_stop (Over (Undefined at))
+grows_place (Node at t (Dot a m)) call = grows_stop (Over (Undefined at))
+grows_place (Node at t (Arrow a m)) call = grows_stop (Over (Undefined at))
+grows_place (Node at t (Comma a b)) call = grows_stop (Over (Undefined at))
 
 grows_write_give : (at : Place) (p : Pointer) (t : PlainType) (v : Value) → Grows (write at p t v >> give v)
 grows_write_give at p t v = grows_then (write at p t v) (give v) (grows_write at p t v) (grows_give v)
@@ -205,6 +211,11 @@ mutual
   grows_eval (Node at t (Cast to a)) call h = grows_bind _ _ (grows_eval a call h) (λ x. grows_give (converted to x))
   grows_eval (Node at t (SizeOfType u)) call h = grows_give (size_value u)
   grows_eval (Node at t (SizeOfExpr a)) call h = grows_give (size_value (type_of a))
+  grows_eval (Node at t (Text n)) call h = grows_stop (Over (Undefined at))
+  grows_eval (Node at t (Index a b)) call h = grows_stop (Over (Undefined at))
+  grows_eval (Node at t (Dot a m)) call h = grows_stop (Over (Undefined at))
+  grows_eval (Node at t (Arrow a m)) call h = grows_stop (Over (Undefined at))
+  grows_eval (Node at t (Comma a b)) call h = grows_stop (Over (Undefined at))
 
   pub grows_evals : (es : Expressions) (call : Callee) → CalleeGrows call → Grows (evals_with es call)
   grows_evals NoExpression call h = grows_give []
@@ -217,6 +228,7 @@ pub grows_initialise : (d : Declaration) (i : Option (Place × Initialiser)) (ca
 grows_initialise d None call h = grows_give tt
 grows_initialise d (Some (at, One e)) call h =
     grows_bind _ _ (grows_object at d.place.offset) (λ p. grows_bind _ _ (grows_eval e call h) (λ v. grows_write at p d.ctype v))
+grows_initialise d (Some (at, Many brace is)) call h = grows_stop (Over (Undefined at))
 
 pub grows_initialise_all : (ds : List Declaration) (call : Callee) → CalleeGrows call → Grows (initialise_all ds call)
 grows_initialise_all [] call h = grows_give tt
@@ -303,7 +315,7 @@ grows_body (Some a) call n h = grows_exec a call n h
 
 output_at_close : (close : Place) (t : PlainType) (s : State) → output_after (at_close close t s) ≡ s.output
 output_at_close close Void s = refl
-output_at_close close (Int k) s = refl
+output_at_close close _ s = refl
 
 output_returned : (f : Function) (r : Outcome (Unit {0})) → output_after (returned_by f r) ≡ output_after r
 output_returned f (Normal u s) = output_at_close f.close f.result s

@@ -7,12 +7,12 @@ use Rattle.std.specs.Prelude.{bytes_eq, codes}
 use Rattle.c_syntax.specs.declared.types.CInt.{CInt}
 use Rattle.c_syntax.specs.declared.types.CInt.TheVariants.{I8, U8, I16, U16, I32, U32, I64, U64}
 use Rattle.c_syntax.specs.declared.expression.Use.{Use}
-use Rattle.c_syntax.specs.Ctypes.{PlainType, Void, Int, int_type}
+use Rattle.c_syntax.specs.Ctypes.{PlainType, Void, Int, Ptr, Array, Struct, PlainLength, Count, int_type}
 use Rattle.c_syntax.specs.Expressions.{Expressions}
 use Rattle.c_syntax.specs.Programs.{Function, TranslationUnit}
 use Rattle.c_model.specs.Library.{is_there}
 use Rattle.c_model.specs.Meaning.{is_definition, definition_at, is_of_library}
-use Rattle.c_model.specs.Typing.{Signature, Scopes, name_at, or_else, function_called, library_function, of_library, same_int, same_type}
+use Rattle.c_model.specs.Typing.{Signature, Scopes, name_at, or_else, function_called, library_function, of_library, same_int, same_length, same_type}
 use Rattle.c_model.specs.ProgramTyping.{definition_of, first_of, number_or, offset_of, signature, types_of, same_types, same_signature, is_compatible, is_compatible_with_all}
 use Rattle.c_model.specs.WellTyped.{Calls}
 use Rattle.c_model.specs.WellTypedPrograms.{FunctionsTyped}
@@ -31,14 +31,26 @@ same_int_is I64 I64 e = refl
 same_int_is U64 U64 e = refl
 same_int_is _ _ e = absurd cc
 
-pub same_type_is : (t u : PlainType) → same_type t u ≡ true → t ≡ u
-same_type_is Void Void e = refl
-same_type_is (Int k) (Int l) e = ap Int (same_int_is k l e)
-same_type_is _ _ e = absurd cc
-
 pub both_true : (a b : Bool) → (a && b) ≡ true → (a ≡ true) × (b ≡ true)
 both_true true b e = (refl, e)
 both_true false b e = absurd cc
+
+number_is : (n m : ℕ) → nat_eq n m ≡ true → n ≡ m
+number_is n m e = grind (arith, nat_tests)
+
+same_length_is : (n m : PlainLength) → same_length n m ≡ true → n ≡ m
+same_length_is (Count n) (Count m) e = ap Count (number_is n m e)
+same_length_is _ _ e = absurd cc
+
+pub same_type_is : (t u : PlainType) → same_type t u ≡ true → t ≡ u
+same_type_is Void Void e = refl
+same_type_is (Int k) (Int l) e = ap Int (same_int_is k l e)
+same_type_is (Ptr t) (Ptr u) e = ap Ptr (same_type_is t u e)
+same_type_is (Array t n) (Array u m) e =
+    let p = both_true (same_length n m) (same_type t u) e in
+    ap (λ x. Array x n) (same_type_is t u p.1) ∙ ap (Array u) (same_length_is n m p.0)
+same_type_is (Struct n) (Struct m) e = ap Struct (number_is n m e)
+same_type_is _ _ e = absurd cc
 
 same_types_are : (ts us : List PlainType) → same_types ts us ≡ true → ts ≡ us
 same_types_are [] [] e = refl

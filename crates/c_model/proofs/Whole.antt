@@ -4,8 +4,9 @@ use Rattle.c_syntax.specs.declared.place.Place.{Place}
 use Rattle.c_syntax.specs.declared.types.Segment.{Segment}
 use Rattle.c_syntax.specs.Ctypes.{PlainType, Void, Int, int_type}
 use Rattle.c_syntax.specs.Annotations.{Annotation}
-use Rattle.c_syntax.specs.Expressions.{Expression, Node, Number, Letter, Variable, Unary, Binary, Both, Either, Choice, Assign, Bump, Call, Cast, SizeOfType, SizeOfExpr, Expressions, NoExpression, Following, type_of}
-use Rattle.c_syntax.specs.Statements.{Initialiser, One, Declaration, Statement, Empty, Eval, Block, If, While, Do, For, Break, Continue, Return, ElsePart, NoElse, Else, ForFirst, NoFirst, First, BlockItem, Declare, Run, Asserts, BlockItems, NoItem}
+use Rattle.c_syntax.specs.Expressions.{Expression, Node, Number, Letter, Variable, Unary, Binary, Both, Either, Choice, Assign, Bump, Call, Cast, SizeOfType, SizeOfExpr, Text, Index, Dot, Arrow, Comma, Expressions, NoExpression, Following, type_of}
+use Rattle.c_syntax.specs.Statements.{Initialiser, One, Many, Declaration, Statement, Empty, Eval, Block, If, While, Do, For, Break, Continue}
+use Rattle.c_syntax.specs.Statements.{Return, ElsePart, NoElse, Else, ForFirst, NoFirst, First, BlockItem, Declare, Run, Asserts, BlockItems, NoItem}
 use Rattle.c_syntax.specs.Statements.{Then}
 use Rattle.c_syntax.specs.Programs.{Function, TranslationUnit}
 use Rattle.c_model.specs.Integers.{size_of, byte_of}
@@ -165,6 +166,11 @@ whole_place (Node at t (Call f args)) call = whole_stop (Over (Undefined at))
 whole_place (Node at t (Cast to a)) call = whole_stop (Over (Undefined at))
 whole_place (Node at t (SizeOfType u)) call = whole_stop (Over (Undefined at))
 whole_place (Node at t (SizeOfExpr a)) call = whole_stop (Over (Undefined at))
+whole_place (Node at t (Text n)) call = whole_stop (Over (Undefined at))
+whole_place (Node at t (Index a b)) call = whole_stop (Over (Undefined at))
+whole_place (Node at t (Dot a m)) call = whole_stop (Over (Undefined at))
+whole_place (Node at t (Arrow a m)) call = whole_stop (Over (Undefined at))
+whole_place (Node at t (Comma a b)) call = whole_stop (Over (Undefined at))
 
 whole_write_give : (at : Place) (p : Pointer) (t : PlainType) (v : Value) → KeepsWhole (write at p t v >> give v)
 whole_write_give at p t v = whole_then (write at p t v) (give v) (whole_write at p t v) (whole_give v)
@@ -194,6 +200,11 @@ mutual
   whole_eval (Node at t (Cast to a)) call h = whole_bind _ _ (whole_eval a call h) (λ x. whole_give (converted to x))
   whole_eval (Node at t (SizeOfType u)) call h = whole_give (size_value u)
   whole_eval (Node at t (SizeOfExpr a)) call h = whole_give (size_value (type_of a))
+  whole_eval (Node at t (Text n)) call h = whole_stop (Over (Undefined at))
+  whole_eval (Node at t (Index a b)) call h = whole_stop (Over (Undefined at))
+  whole_eval (Node at t (Dot a m)) call h = whole_stop (Over (Undefined at))
+  whole_eval (Node at t (Arrow a m)) call h = whole_stop (Over (Undefined at))
+  whole_eval (Node at t (Comma a b)) call h = whole_stop (Over (Undefined at))
 
   pub whole_evals : (es : Expressions) (call : Callee) → CalleeKeepsWhole call → KeepsWhole (evals_with es call)
   whole_evals NoExpression call h = whole_give []
@@ -206,6 +217,7 @@ pub whole_initialise : (d : Declaration) (i : Option (Place × Initialiser)) (ca
 whole_initialise d None call h = whole_give tt
 whole_initialise d (Some (at, One e)) call h =
     whole_bind _ _ (whole_object at d.place.offset) (λ p. whole_bind _ _ (whole_eval e call h) (λ v. whole_write at p d.ctype v))
+whole_initialise d (Some (at, Many brace is)) call h = whole_stop (Over (Undefined at))
 
 pub whole_initialise_all : (ds : List Declaration) (call : Callee) → CalleeKeepsWhole call → KeepsWhole (initialise_all ds call)
 whole_initialise_all [] call h = whole_give tt
@@ -292,7 +304,7 @@ whole_body (Some a) call n h = whole_exec a call n h
 
 close_whole : (close : Place) (t : PlainType) (s : State) → AreWhole s.store → AreWhole (store_after (at_close close t s))
 close_whole close Void s w = w
-close_whole close (Int k) s w = w
+close_whole close _ s w = w
 
 returned_whole : (f : Function) (r : Outcome (Unit {0})) → AreWhole (store_after r) → AreWhole (store_after (returned_by f r))
 returned_whole f (Normal u s) w = close_whole f.close f.result s w

@@ -7,10 +7,10 @@ use Rattle.c_syntax.specs.declared.expression.BinOp.{BinOp}
 use Rattle.c_syntax.specs.declared.expression.BinOp.TheVariants.{Add, Sub}
 use Rattle.c_syntax.specs.declared.annotation.Kind.TheVariants.{Assert}
 use Rattle.c_syntax.specs.Expressions.{Expression, Node, Number, Letter, Variable, Unary, Binary, Both, Either, Choice, Assign, Bump, Call, Cast, SizeOfType}
-use Rattle.c_syntax.specs.Expressions.{SizeOfExpr, Expressions, NoExpression, Following}
+use Rattle.c_syntax.specs.Expressions.{SizeOfExpr, Text, Index, Dot, Arrow, Comma, Expressions, NoExpression, Following}
 use Rattle.c_syntax.specs.Annotations as logic
 use Rattle.c_syntax.specs.Annotations.{LogicTerm, Predicate, Chain, Links, NoLink, Linked, ClauseBody, Truth, Annotation}
-use Rattle.c_syntax.specs.Statements.{Initialiser, One, Declaration, Statement, Empty, Eval, Block, If, While, Do, For, Break, Continue, Return, ElsePart}
+use Rattle.c_syntax.specs.Statements.{Initialiser, One, Many, Declaration, Statement, Empty, Eval, Block, If, While, Do, For, Break, Continue, Return, ElsePart}
 use Rattle.c_syntax.specs.Statements.{NoElse, Else, ForFirst, NoFirst, First, BlockItem, Declare, Run, Asserts, BlockItems, NoItem, Then}
 use Rattle.c_syntax.specs.Programs.{Function, TranslationUnit}
 use Rattle.c_model.specs.Characters.{is_part}
@@ -73,6 +73,11 @@ IsPure (Node at t (Call f es)) = ⊥
 IsPure (Node at t (Cast to a)) = IsPure a
 IsPure (Node at t (SizeOfType u)) = Unit {0}
 IsPure (Node at t (SizeOfExpr a)) = IsPure a
+IsPure (Node at t (Text n)) = ⊥
+IsPure (Node at t (Index a b)) = ⊥
+IsPure (Node at t (Dot a m)) = ⊥
+IsPure (Node at t (Arrow a m)) = ⊥
+IsPure (Node at t (Comma a b)) = ⊥
 
 abbrev pub ArePure : Expressions → Type 0
 ArePure NoExpression = Unit {0}
@@ -113,6 +118,11 @@ abbrev mutual
   nodes_of (Node at t (Cast to a)) = suc (nodes_of a)
   nodes_of (Node at t (SizeOfType u)) = 1
   nodes_of (Node at t (SizeOfExpr a)) = suc (nodes_of a)
+  nodes_of (Node at t (Text n)) = 1
+  nodes_of (Node at t (Index a b)) = suc (nodes_of a + nodes_of b)
+  nodes_of (Node at t (Dot a m)) = suc (nodes_of a)
+  nodes_of (Node at t (Arrow a m)) = suc (nodes_of a)
+  nodes_of (Node at t (Comma a b)) = suc (nodes_of a + nodes_of b)
 
   pub nodes_of_all : Expressions → ℕ
   nodes_of_all NoExpression = 0
@@ -183,6 +193,7 @@ AreAsserts (a ∷ rest) = IsAssert a × AreAsserts rest
 abbrev pub IsInitialiser : ℕ → Option (Place × Initialiser) → Type 0
 IsInitialiser most None = ⊥
 IsInitialiser most (Some (at, One e)) = IsFullOrCall most e
+IsInitialiser most (Some (at, Many brace is)) = ⊥
 
 abbrev pub AreInitialised : ℕ → List Declaration → Type 0
 AreInitialised most [] = Unit {0}

@@ -5,10 +5,10 @@ use Rattle.std.specs.Ordering.{int_eq}
 use Rattle.c_syntax.specs.declared.types.CInt.{CInt}
 use Rattle.c_syntax.specs.declared.types.CInt.TheVariants.{I8, U8, I16, U16, I32, U32, I64, U64}
 use Rattle.c_syntax.specs.declared.expression.UnOp.{UnOp}
-use Rattle.c_syntax.specs.declared.expression.UnOp.TheVariants.{Plus, Minus, Not, Flip}
+use Rattle.c_syntax.specs.declared.expression.UnOp.TheVariants.{Plus, Minus, Not, Flip, Deref, Address}
 use Rattle.c_syntax.specs.declared.expression.BinOp.{BinOp}
 use Rattle.c_syntax.specs.declared.expression.BinOp.TheVariants.{Add, Sub, Mul, Div, Rem, Shl, Shr, BitAnd, BitOr, BitXor, Eq, Ne, Lt, Le, Gt, Ge}
-use Rattle.c_syntax.specs.Ctypes.{PlainType, Void, Int}
+use Rattle.c_syntax.specs.Ctypes.{PlainType, Int}
 use Rattle.c_model.specs.Operators.{quotient, remainder, shift_left, shift_right, complement, bitwise_and, bitwise_or, bitwise_xor}
 
 -- the bytes of an integer type
@@ -47,14 +47,14 @@ value_bits U64 = 64
 abbrev pub width : CInt → ℕ
 width k = 8 * int_size k
 
--- the size of a type in bytes (C99 6.5.3.4), and its alignment, which is its size for a scalar; no object is `void`
+-- the size of a type in bytes (C99 6.5.3.4), and its alignment, which is its size for a scalar; objects are integers
 abbrev pub size_of : PlainType → ℕ
-size_of Void = 0
 size_of (Int k) = int_size k
+size_of _ = 0
 
 abbrev pub align_of : PlainType → ℕ
-align_of Void = 1
 align_of (Int k) = int_size k
+align_of _ = 1
 
 -- whether the type has the value
 abbrev pub fits : CInt → ℤ → Bool
@@ -122,8 +122,8 @@ operate_in k Gt x y = Some (truth (int_lt y x))
 operate_in k Ge x y = Some (truth (int_le y x))
 
 abbrev pub operate : PlainType → BinOp → ℤ → ℤ → Option ℤ
-operate Void op x y = None
 operate (Int k) op x y = operate_in k op x y
+operate _ op x y = None
 
 -- an operator on a value of the type k (C99 6.5.3.3)
 abbrev pub operate_one_in : CInt → UnOp → ℤ → Option ℤ
@@ -131,10 +131,12 @@ operate_one_in k Plus x = Some x
 operate_one_in k Minus x = result_in k (pos 0 -ℤ x)
 operate_one_in k Not x = Some (truth (int_eq x (pos 0)))
 operate_one_in k Flip x = result_in k (complement x)
+operate_one_in k Deref x = None
+operate_one_in k Address x = None
 
 abbrev pub operate_one : PlainType → UnOp → ℤ → Option ℤ
-operate_one Void op x = None
 operate_one (Int k) op x = operate_one_in k op x
+operate_one _ op x = None
 
 -- the byte that putchar writes: its argument converted to unsigned char (C99 7.19.7.9, 7.19.7.3 p2)
 abbrev pub byte_of : ℤ → ℕ

@@ -11,8 +11,8 @@ use Rattle.c_syntax.specs.declared.expression.BumpOp.{BumpOp}
 use Rattle.c_syntax.specs.declared.expression.BumpOp.TheVariants.{PreUp, PreDown, PostUp, PostDown}
 use Rattle.c_syntax.specs.Ctypes.{PlainType, Void, Int, int_type}
 use Rattle.c_syntax.specs.Expressions.{Expression, Node, Number, Letter, Variable, Unary, Binary, Both, Either, Choice, Assign, Bump, Call, Cast, SizeOfType}
-use Rattle.c_syntax.specs.Expressions.{SizeOfExpr, Expressions, NoExpression, Following, type_of}
-use Rattle.c_syntax.specs.Statements.{Initialiser, One, Declaration, Statement, Empty, Eval, Block, If, While, Do, For, Break, Continue, Return, ElsePart}
+use Rattle.c_syntax.specs.Expressions.{SizeOfExpr, Text, Index, Dot, Arrow, Comma, Expressions, NoExpression, Following, type_of}
+use Rattle.c_syntax.specs.Statements.{Initialiser, One, Many, Declaration, Statement, Empty, Eval, Block, If, While, Do, For, Break, Continue, Return, ElsePart}
 use Rattle.c_syntax.specs.Statements.{NoElse, Else, ForFirst, NoFirst, First, BlockItem, Declare, Run, Asserts, BlockItems, NoItem, Then}
 use Rattle.c_syntax.specs.Programs.{Function, TranslationUnit}
 use Rattle.c_model.specs.Integers.{size_of, convert, truth, operate, operate_one, byte_of}
@@ -47,18 +47,17 @@ operate_values t op (Integer x) (Integer y) = option_map Integer (operate t op x
 
 -- a value converted to a type (C99 6.3.1.3, 6.3.2.2)
 abbrev pub converted : PlainType → Value → Value
-converted Void v = NoValue
 converted (Int k) NoValue = NoValue
 converted (Int k) (Integer z) = Integer (convert k z)
+converted _ v = NoValue
 
 -- the value of the type `t` that `left op right` has, where these are values of the types t and u: the operands are converted,
 -- and so is the result (C99 6.5.16.2 p3)
 abbrev pub compound : PlainType → BinOp → Value → PlainType → Value → Option Value
-compound Void op v u w = None
-compound (Int k) op v Void w = None
 compound (Int k) op v (Int l) w =
     let m = Int (operation_type op k l)
     in option_map (converted (Int k)) (operate_values m op (converted m v) (if is_shift op then w else converted m w))
+compound _ op v u w = None
 
 -- the operator of `++` and `--` (C99 6.5.2.4, 6.5.3.1)
 abbrev pub bump_operator : BumpOp → BinOp
@@ -91,7 +90,8 @@ size_value t = Integer (pos (size_of t))
 
 -- ---- expressions
 
--- what an expression gives, and where the object of one stands that designates an object (C99 6.3.2.1)
+-- what an expression gives, and where the object of one stands that designates an object (C99 6.3.2.1). Forms that typing refuses
+-- are undefined: strings, subscripts, members and commas
 abbrev mutual
   pub eval_with : Expression → Callee → Evaluation Value
   eval_with (Node at t (Number n k)) call = give (Integer n)
@@ -139,6 +139,11 @@ abbrev mutual
   eval_with (Node at t (SizeOfType u)) call = give (size_value u)
   -- the operand isn't evaluated (C99 6.5.3.4 p2)
   eval_with (Node at t (SizeOfExpr a)) call = give (size_value (type_of a))
+  eval_with (Node at t (Text n)) call = stop (Over (Undefined at))
+  eval_with (Node at t (Index a b)) call = stop (Over (Undefined at))
+  eval_with (Node at t (Dot a m)) call = stop (Over (Undefined at))
+  eval_with (Node at t (Arrow a m)) call = stop (Over (Undefined at))
+  eval_with (Node at t (Comma a b)) call = stop (Over (Undefined at))
 
   pub place_with : Expression → Callee → Evaluation Pointer
   place_with (Node at t (Variable x)) call = object at x.decl
@@ -155,6 +160,11 @@ abbrev mutual
   place_with (Node at t (Cast to a)) call = stop (Over (Undefined at))
   place_with (Node at t (SizeOfType u)) call = stop (Over (Undefined at))
   place_with (Node at t (SizeOfExpr a)) call = stop (Over (Undefined at))
+  place_with (Node at t (Text n)) call = stop (Over (Undefined at))
+  place_with (Node at t (Index a b)) call = stop (Over (Undefined at))
+  place_with (Node at t (Dot a m)) call = stop (Over (Undefined at))
+  place_with (Node at t (Arrow a m)) call = stop (Over (Undefined at))
+  place_with (Node at t (Comma a b)) call = stop (Over (Undefined at))
 
   -- arguments, from left to right
   pub evals_with : Expressions → Callee → Evaluation (List Value)
@@ -207,6 +217,7 @@ initialise d (Some (at, One e)) call = do
   p ← object at d.place.offset
   v ← eval_with e call
   write at p d.ctype v
+initialise d (Some (at, Many brace is)) call = stop (Over (Undefined at))
 
 abbrev pub initialise_all : List Declaration → Callee → Evaluation (Unit {0})
 initialise_all [] call = done
@@ -305,7 +316,7 @@ body_with (Some a) call n = exec_with a call n
 -- at the closing brace of a function: by the profile one that gives a value isn't to come there (C99 6.9.1 p12)
 abbrev pub at_close : Place → PlainType → Evaluation Value
 at_close close Void = give NoValue
-at_close close (Int k) = stop (Over (Undefined close))
+at_close close _ = stop (Over (Undefined close))
 
 -- what a call gives, from the way in which the body ends (C99 6.8.6.4)
 abbrev pub returned_by : Function → Outcome (Unit {0}) → Outcome Value

@@ -5,7 +5,7 @@ use Rattle.c_syntax.specs.declared.types.BlockKind.{BlockKind}
 use Rattle.c_syntax.specs.declared.types.BlockKind.TheVariants.{Global, Literal, Stack, Heap}
 use Rattle.c_syntax.specs.declared.types.Segment.{Segment}
 use Rattle.c_syntax.specs.declared.types.Segment.TheVariants as segment
-use Rattle.c_syntax.specs.Ctypes.{PlainType, Void, Int}
+use Rattle.c_syntax.specs.Ctypes.{PlainType, Int}
 use Rattle.c_model.specs.Limits.{globals_bytes, stack_bytes, heap_bytes}
 use Rattle.c_model.specs.Integers.{size_of, align_of, bits_of, value_of_bits, int_size}
 
@@ -63,14 +63,14 @@ bytes_of (suc w) n = Number (n % 256) ∷ bytes_of w (n / 256)
 
 -- the value of a type that bytes hold
 abbrev pub value_from : PlainType → List Byte → Option Value
-value_from Void bytes = None
 value_from (Int k) bytes = option_map (λ n. Integer (value_of_bits k n)) (number_of bytes)
+value_from _ bytes = None
 
 -- the bytes of a value of a type
 abbrev pub bytes_from : PlainType → Value → List Byte
-bytes_from Void v = []
 bytes_from (Int k) NoValue = []
 bytes_from (Int k) (Integer z) = bytes_of (int_size k) (bits_of k z)
+bytes_from _ v = []
 
 -- ---- accesses (C99 6.3.2.1, 6.5 p7)
 

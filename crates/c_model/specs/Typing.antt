@@ -9,13 +9,13 @@ use Rattle.c_syntax.specs.declared.types.CInt.{CInt}
 use Rattle.c_syntax.specs.declared.types.CInt.TheVariants.{I8, U8, I16, U16, I32, U32, I64, U64}
 use Rattle.c_syntax.specs.declared.expression.Use.{Use}
 use Rattle.c_syntax.specs.declared.expression.UnOp.{UnOp}
-use Rattle.c_syntax.specs.declared.expression.UnOp.TheVariants.{Not}
+use Rattle.c_syntax.specs.declared.expression.UnOp.TheVariants.{Not, Deref, Address}
 use Rattle.c_syntax.specs.declared.expression.BinOp.{BinOp}
 use Rattle.c_syntax.specs.declared.expression.BumpOp.{BumpOp}
-use Rattle.c_syntax.specs.Ctypes.{PlainType, Void, Int, int_type}
+use Rattle.c_syntax.specs.Ctypes.{PlainType, Void, Int, Ptr, Array, Struct, PlainLength, Count, int_type}
 use Rattle.c_syntax.specs.Expressions.{Expression, Node, Number, Letter, Variable, Unary, Binary, Both, Either, Choice, Assign, Bump, Call, Cast, SizeOfType}
-use Rattle.c_syntax.specs.Expressions.{SizeOfExpr, Expressions, NoExpression, Following, place_of, type_of}
-use Rattle.c_syntax.specs.Statements.{Initialiser, One, Declaration, Statement, Empty, Eval, Block, If, While, Do, For, Break, Continue, Return, ElsePart}
+use Rattle.c_syntax.specs.Expressions.{SizeOfExpr, Text, Index, Dot, Arrow, Comma, Expressions, NoExpression, Following, place_of, type_of}
+use Rattle.c_syntax.specs.Statements.{Initialiser, One, Many, Declaration, Statement, Empty, Eval, Block, If, While, Do, For, Break, Continue, Return, ElsePart}
 use Rattle.c_syntax.specs.Statements.{NoElse, Else, ForFirst, NoFirst, First, BlockItem, Declare, Run, Asserts, BlockItems, NoItem, Then}
 use Rattle.c_model.specs.Integers.{fits}
 use Rattle.c_model.specs.Conversions.{promoted, common, is_shift, result_type}
@@ -94,25 +94,34 @@ same_int I64 I64 = true
 same_int U64 U64 = true
 same_int _ _ = false
 
+-- a length that isn't counted is no other's
+abbrev pub same_length : PlainLength → PlainLength → Bool
+same_length (Count n) (Count m) = nat_eq n m
+same_length _ _ = false
+
+-- structs are the same by their numbers; a type that typing would replace is no other's
 abbrev pub same_type : PlainType → PlainType → Bool
 same_type Void Void = true
 same_type (Int k) (Int l) = same_int k l
+same_type (Ptr t) (Ptr u) = same_type t u
+same_type (Array t n) (Array u m) = same_length n m && same_type t u
+same_type (Struct n) (Struct m) = nat_eq n m
 same_type _ _ = false
 
 -- a type that a condition and an operand of `!`, `&&` and `||` may have (C99 6.2.5 p21)
 abbrev pub is_scalar : PlainType → Bool
-is_scalar Void = false
 is_scalar (Int k) = true
+is_scalar _ = false
 
 -- whether an object may have the type
 abbrev pub is_object_type : PlainType → Bool
-is_object_type Void = false
 is_object_type (Int k) = true
+is_object_type _ = false
 
 -- the integer type of an expression, where it has one
 abbrev pub integer_of : PlainType → Option CInt
-integer_of Void = None
 integer_of (Int k) = Some k
+integer_of _ = None
 
 -- an expression in a type: in a cast, where it has another (C99 6.3)
 abbrev pub in_type : PlainType → Expression → Expression
@@ -130,7 +139,7 @@ is_assigned _ _ = false
 abbrev pub is_cast : PlainType → PlainType → Bool
 is_cast t Void = true
 is_cast (Int k) (Int l) = true
-is_cast Void (Int l) = false
+is_cast _ _ = false
 
 -- an expression that designates an object (C99 6.3.2.1)
 abbrev pub is_place : Expression → Bool
@@ -160,11 +169,18 @@ abbrev pub is_not : UnOp → Bool
 is_not Not = true
 is_not _ = false
 
--- prefix operators: `!` takes a scalar, the others an integer, which is promoted (C99 6.5.3.3)
+-- `*` and `&`
+abbrev pub is_of_address : UnOp → Bool
+is_of_address Deref = true
+is_of_address Address = true
+is_of_address _ = false
+
+-- prefix operators: `!` takes a scalar, the others an integer, which is promoted (C99 6.5.3.3); no type has addresses
 abbrev pub unary : Place → UnOp → Expression → Checked Expression
 unary at op a =
     if is_not op then where_so (is_scalar (type_of a)) (no_type at) (Good (Node at int_type (Unary op a)))
-    else given (integer_of (type_of a)) (no_type at) (λ k. Good (Node at (Int (promoted k)) (Unary op (in_int (promoted k) a))))
+    else (if is_of_address op then faulty (no_type at)
+    else given (integer_of (type_of a)) (no_type at) (λ k. Good (Node at (Int (promoted k)) (Unary op (in_int (promoted k) a)))))
 
 -- the operands of an operator in the types that it takes: each promoted, or both in the common type
 abbrev pub operands : BinOp → CInt → CInt → Expression → Expression → Expression × Expression
@@ -286,6 +302,12 @@ abbrev mutual
   typed s (Node at t (Cast to a)) = one_part (typed s a) (cast at to)
   typed s (Node at t (SizeOfType u)) = size_of_type at u
   typed s (Node at t (SizeOfExpr a)) = one_part (typed s a) (size_of_expression at)
+  -- strings, subscripts, members and commas have no type yet
+  typed s (Node at t (Text n)) = faulty (no_type at)
+  typed s (Node at t (Index a b)) = faulty (no_type at)
+  typed s (Node at t (Dot a m)) = faulty (no_type at)
+  typed s (Node at t (Arrow a m)) = faulty (no_type at)
+  typed s (Node at t (Comma a b)) = faulty (no_type at)
 
   -- arguments, each with the demand of its parameter
   pub typed_arguments : Scopes → List PlainType → Expressions → Checked Expressions
@@ -312,6 +334,7 @@ abbrev pub typed_initialiser : Scopes → PlainType → Option (Place × Initial
 typed_initialiser s t None = Good None
 typed_initialiser s t (Some (at, One e)) =
     one_part (typed s e) (λ e. where_so (is_assigned (type_of e) t) (no_type at) (Good (Some (at, One (in_type t e)))))
+typed_initialiser s t (Some (at, Many brace is)) = faulty (no_type at)
 
 -- a declared name: of an object type, once in its scope, and none of the library's (C99 6.7)
 abbrev pub declarable : Scopes → Declaration → Checked Declaration

@@ -8,11 +8,11 @@ use Rattle.c_syntax.specs.declared.expression.UnOp.{UnOp}
 use Rattle.c_syntax.specs.declared.expression.BinOp.{BinOp}
 use Rattle.c_syntax.specs.Ctypes.{PlainType, Void, Int, int_type}
 use Rattle.c_syntax.specs.Expressions.{Expression, Node, Number, Letter, Variable, Unary, Binary, Both, Either, Choice, Assign, Bump, Call, Cast, SizeOfType}
-use Rattle.c_syntax.specs.Expressions.{SizeOfExpr, Expressions, NoExpression, Following, type_of}
+use Rattle.c_syntax.specs.Expressions.{SizeOfExpr, Text, Index, Dot, Arrow, Comma, Expressions, NoExpression, Following, type_of}
 use Rattle.c_model.specs.Integers.{fits}
 use Rattle.c_model.specs.Conversions.{promoted, is_shift, is_relation}
 use Rattle.c_model.specs.Typing.{Object, Signature, Scopes, name_at, or_else, object_named, function_called, library_function, is_scalar, is_object_type}
-use Rattle.c_model.specs.Typing.{is_not}
+use Rattle.c_model.specs.Typing.{is_not, is_of_address}
 
 -- a use of an object in sight, whose type this is
 pub record Denotes (s : Scopes) (x : Use) (t : PlainType) : Type 0 where
@@ -28,7 +28,7 @@ pub record IsPromoted (t : PlainType) : Type 0 where
 
 -- the types of a prefix operator's result and operand: `!` takes any scalar
 abbrev pub UnaryTypes : UnOp → PlainType → PlainType → Type 0
-UnaryTypes op t u = cond (is_not op) ((t ≡ int_type) × (is_scalar u ≡ true)) ((t ≡ u) × IsPromoted u)
+UnaryTypes op t u = cond (is_not op) ((t ≡ int_type) × (is_scalar u ≡ true)) (cond (is_of_address op) ⊥ ((t ≡ u) × IsPromoted u))
 
 -- the types of a binary operator's result and operands: a count of bits has a type of its own, and other operands have one type; a
 -- relation gives an `int`
@@ -42,13 +42,14 @@ IsPlace s t _ = ⊥
 
 -- an integer type
 abbrev pub IsInteger : PlainType → Type 0
-IsInteger Void = ⊥
 IsInteger (Int k) = Unit {0}
+IsInteger _ = ⊥
 
 -- the types of a cast: anything goes to void, and integers to integers
 abbrev pub CastTypes : PlainType → PlainType → Type 0
 CastTypes Void u = Unit {0}
 CastTypes (Int k) u = IsInteger u
+CastTypes _ u = ⊥
 
 -- expressions of these types, one after another
 abbrev pub HaveTypes : List PlainType → Expressions → Type 0
@@ -86,6 +87,11 @@ abbrev mutual
   WellTyped s (Node at t (Cast to a)) = WellTyped s a × (t ≡ to) × CastTypes to (type_of a)
   WellTyped s (Node at t (SizeOfType u)) = (t ≡ Int U64) × (is_object_type u ≡ true)
   WellTyped s (Node at t (SizeOfExpr a)) = WellTyped s a × (t ≡ Int U64) × (is_object_type (type_of a) ≡ true)
+  WellTyped s (Node at t (Text n)) = ⊥
+  WellTyped s (Node at t (Index a b)) = ⊥
+  WellTyped s (Node at t (Dot a m)) = ⊥
+  WellTyped s (Node at t (Arrow a m)) = ⊥
+  WellTyped s (Node at t (Comma a b)) = ⊥
 
   pub AreWellTyped : Scopes → Expressions → Type 0
   AreWellTyped s NoExpression = Unit {0}

@@ -6,7 +6,7 @@ use Rattle.c_syntax.specs.Ctypes.{PlainType, Void}
 use Rattle.c_syntax.specs.Expressions.{Expression, type_of}
 use Rattle.c_syntax.specs.Annotations as logic
 use Rattle.c_syntax.specs.Annotations.{LogicTerm, Predicate, Chain, Links, NoLink, Linked, ClauseBody, Truth, Annotation}
-use Rattle.c_syntax.specs.Statements.{Initialiser, One, Declaration, Statement, Empty, Eval, Block, If, While, Do, For, Break, Continue, Return, ElsePart}
+use Rattle.c_syntax.specs.Statements.{Initialiser, One, Many, Declaration, Statement, Empty, Eval, Block, If, While, Do, For, Break, Continue, Return, ElsePart}
 use Rattle.c_syntax.specs.Statements.{NoElse, Else, ForFirst, NoFirst, First, BlockItem, Declare, Run, Asserts, BlockItems, NoItem, Then}
 use Rattle.c_syntax.specs.Programs.{Function, TranslationUnit}
 use Rattle.c_model.specs.Library.{is_library_name}
@@ -29,6 +29,7 @@ WhereAny P (Some x) = P x
 abbrev pub Initialises : Scopes → PlainType → Option (Place × Initialiser) → Type 0
 Initialises s t None = Unit {0}
 Initialises s t (Some (at, One e)) = WellTyped s e × (type_of e ≡ t)
+Initialises s t (Some (at, Many brace is)) = ⊥
 
 -- an object whose name is new in its scope (C99 6.7 p3)
 pub record IsDeclared (s : Scopes) (d : Declaration) : Type 0 where

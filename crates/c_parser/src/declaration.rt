@@ -14,6 +14,7 @@ use c_expr_parser::kinds::{ASSIGN, COMMA, SEMICOLON};
 use c_expr_parser::terminals::{name, next_is, skip};
 use c_expr_parser::types::type_of;
 use c_model::vocabulary::Word;
+use c_syntax::copy::copy_type;
 use c_syntax::fault::ReadFault;
 use c_syntax::{CType, Decl, Expr, Init, Item, Place, Token};
 use std::alloc::Global;
@@ -37,15 +38,6 @@ fn declared_name<'a>(
         name(words, tokens)
     } else {
         Err(ReadFault::At(left(tokens)))
-    }
-}
-
-fn copied_type(t: &CType) -> CType
-    ensures { plain_type result ≡ plain_type t.now }
-{
-    match t {
-        CType::Void => CType::Void,
-        CType::Int(t) => CType::Int(*t),
     }
 }
 
@@ -77,8 +69,9 @@ fn declarator<'a>(
     let mut all = all;
     let (name, place, rest) = declared_name(words, counts, tokens)?;
     let (equals, rest) = skip(words, ASSIGN, rest)?;
+    let ctype = copy_type(alloc, ctype)?;
     let (e, rest) = full_expression_or_call(alloc, words, rest)?;
-    all.push(initialised(copied_type(ctype), name, place, equals, e))?;
+    all.push(initialised(ctype, name, place, equals, e))?;
     let counts = Counts {
         annotation: counts.annotation,
         declarators: counts.declarators + 1,

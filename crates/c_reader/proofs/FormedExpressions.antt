@@ -3,7 +3,7 @@ use Rattle.std.proofs.Common.{◌≡◌, ℕ, zero, suc, ◌+◌, ◌<◌, ◌�
 use Rattle.grammar.specs.Syntax.{Syntax, one}
 use Rattle.grammar.proofs.Readings.{EachOf, each_more, each_gives, each_one, each_then, each_choice, each_at_most, each_many, each_knot}
 use Rattle.c_syntax.specs.declared.place.Place.{Place}
-use Rattle.c_syntax.specs.Expressions.{Expression, Node, Number, Letter, Variable, Unary, Binary, Both, Either, Choice, Assign, Bump, Call, Cast, SizeOfType, SizeOfExpr}
+use Rattle.c_syntax.specs.Expressions.{Expression, Node, Number, Letter, Variable, Unary, Binary, Both, Either, Choice, Assign, Bump, Call, Cast, SizeOfType, SizeOfExpr, Text, Index, Dot, Arrow, Comma}
 use Rattle.c_syntax.specs.Tokens as token
 use Rattle.c_syntax.specs.Tokens.{PlainTokenKind, PlainToken}
 use Rattle.c_syntax.specs.declared.expression.BinOp.{BinOp}
@@ -69,6 +69,11 @@ part_at at k (Node x t (Call f es)) p = absurd p.is
 part_at at k (Node x t (Cast to a)) p = record { is = p.is; small = p.small }
 part_at at k (Node x t (SizeOfType u)) p = record { is = tt; small = p.small }
 part_at at k (Node x t (SizeOfExpr a)) p = record { is = p.is; small = p.small }
+part_at at k (Node x t (Text n)) p = absurd p.is
+part_at at k (Node x t (Index a b)) p = absurd p.is
+part_at at k (Node x t (Dot a m)) p = absurd p.is
+part_at at k (Node x t (Arrow a m)) p = absurd p.is
+part_at at k (Node x t (Comma a b)) p = absurd p.is
 
 sized_part : (at : Place) (k : ℕ) (x : ReadOperand) → IsPart k x.expression → IsPart (suc k) (read_as at (size_of_operand x))
 sized_part at k x p = by x.form refl
@@ -112,6 +117,11 @@ part_value k (Node x t (Call f es)) p = absurd p.is
 part_value k (Node x t (Cast to a)) p = record { is = p.is; small = p.small }
 part_value k (Node x t (SizeOfType u)) p = record { is = tt; small = p.small }
 part_value k (Node x t (SizeOfExpr a)) p = record { is = p.is; small = p.small }
+part_value k (Node x t (Text n)) p = absurd p.is
+part_value k (Node x t (Index a b)) p = absurd p.is
+part_value k (Node x t (Dot a m)) p = absurd p.is
+part_value k (Node x t (Arrow a m)) p = absurd p.is
+part_value k (Node x t (Comma a b)) p = absurd p.is
 
 part_effect : (k : ℕ) (e : Expression) → IsPart k e → IsEffectPart k e
 part_effect k (Node x t (Number n c)) p = record { is = tt; small = p.small }
@@ -128,6 +138,11 @@ part_effect k (Node x t (Call f es)) p = absurd p.is
 part_effect k (Node x t (Cast to a)) p = record { is = p.is; small = p.small }
 part_effect k (Node x t (SizeOfType u)) p = record { is = tt; small = p.small }
 part_effect k (Node x t (SizeOfExpr a)) p = record { is = p.is; small = p.small }
+part_effect k (Node x t (Text n)) p = absurd p.is
+part_effect k (Node x t (Index a b)) p = absurd p.is
+part_effect k (Node x t (Dot a m)) p = absurd p.is
+part_effect k (Node x t (Arrow a m)) p = absurd p.is
+part_effect k (Node x t (Comma a b)) p = absurd p.is
 
 effect_call : (k : ℕ) (e : Expression) → IsEffectPart k e → IsCallPart k e
 effect_call k (Node x t (Number n c)) p = record { is = tt; small = p.small }
@@ -144,6 +159,11 @@ effect_call k (Node x t (Call f es)) p = absurd p.is
 effect_call k (Node x t (Cast to a)) p = record { is = p.is; small = p.small }
 effect_call k (Node x t (SizeOfType u)) p = record { is = tt; small = p.small }
 effect_call k (Node x t (SizeOfExpr a)) p = record { is = p.is; small = p.small }
+effect_call k (Node x t (Text n)) p = absurd p.is
+effect_call k (Node x t (Index a b)) p = absurd p.is
+effect_call k (Node x t (Dot a m)) p = absurd p.is
+effect_call k (Node x t (Arrow a m)) p = absurd p.is
+effect_call k (Node x t (Comma a b)) p = absurd p.is
 
 -- arguments
 record AreParts (k : ℕ) (es : List Expression) : Type 0 where

@@ -5,11 +5,13 @@ use Rattle.c_syntax.specs.declared.types.CInt.{CInt}
 use Rattle.c_syntax.specs.declared.expression.UnOp.{UnOp}
 use Rattle.c_syntax.specs.declared.expression.BinOp.{BinOp}
 use Rattle.c_syntax.specs.Ctypes.{PlainType, Int, int_type}
-use Rattle.c_syntax.specs.Expressions.{Expression, Node, Number, Letter, Variable, Unary, Binary, Both, Either, Choice, Assign, Bump, Call, Cast, SizeOfType, SizeOfExpr, Expressions, NoExpression, Following, place_of, type_of}
+use Rattle.c_syntax.specs.Expressions.{Expression, Node, Number, Letter, Variable, Unary, Binary, Both, Either, Choice, Assign, Bump, Call, Cast}
+use Rattle.c_syntax.specs.Expressions.{SizeOfType, SizeOfExpr, Text, Index, Dot, Arrow, Comma, Expressions, NoExpression, Following, place_of, type_of}
 use Rattle.c_model.specs.Checked.{Fault, Checked, Good, Bad, faulty, one_part, both_parts, given, where_so}
 use Rattle.c_model.specs.Conversions.{promoted, common, is_shift, result_type}
 use Rattle.c_model.specs.Library.{library_constant, is_there}
-use Rattle.c_model.specs.Typing.{no_name, no_type, Object, Scopes, Signature, object_named, function_called, library_function, name_at, use_as, is_not, is_scalar, integer_of, same_type, in_type, in_int, named, literal, unary, binary, both_of}
+use Rattle.c_model.specs.Typing.{is_of_address, no_name, no_type, Object, Scopes, Signature, object_named, function_called, library_function, name_at, use_as, is_not}
+use Rattle.c_model.specs.Typing.{is_scalar, integer_of, same_type, in_type, in_int, named, literal, unary, binary, both_of}
 use Rattle.c_model.specs.Typing.{either_of, choice_of, choice_type, assign, bump, cast, size_of_expression, callee, argument_for, first_type, rest_types, params_of, call, two, typed, typed_arguments}
 use Rattle.c_model.specs.Formed.{IsPure, ArePure, IsPureOrCall, IsEffect, IsEffectOrCall, nodes_of, nodes_of_all, IsFull, IsFullEffect, IsFullEffectOrCall, most_read, most_typed}
 use Rattle.c_reader.proofs.ReadForms as read
@@ -105,12 +107,13 @@ named_kept s at x = by (object_named x s.objects)
     by None = function (function_called x s.functions)
 
 unary_kept : (at : Place) (op : UnOp) (n : ℕ) (a : Expression) → IsKept n a → Holds (IsKept (suc n)) (unary at op a)
-unary_kept at op n a p = by (is_not op)
+unary_kept at op n a p = by (is_not op) (is_of_address op)
   where
-    by : (b : Bool) → Holds (IsKept (suc n)) (if b then where_so (is_scalar (type_of a)) (no_type at) (Good (Node at int_type (Unary op a))) else given (integer_of (type_of a)) (no_type at)
-        (λ k. Good (Node at (Int (promoted k)) (Unary op (in_int (promoted k) a)))))
-    by true = where_kept (suc n) _ _ _ p.is (omega (arith, p.small))
-    by false = holds_given (IsKept (suc n)) (integer_of (type_of a)) _ _ (λ k. let c = int_cast n (promoted k) a p in record { is = c.is; small = omega (arith, c.small) })
+    by : (b c : Bool) → Holds (IsKept (suc n)) (if b then where_so (is_scalar (type_of a)) (no_type at) (Good (Node at int_type (Unary op a)))
+        else (if c then faulty (no_type at) else given (integer_of (type_of a)) (no_type at) (λ k. Good (Node at (Int (promoted k)) (Unary op (in_int (promoted k) a))))))
+    by true c = where_kept (suc n) _ _ _ p.is (omega (arith, p.small))
+    by false true = tt
+    by false false = holds_given (IsKept (suc n)) (integer_of (type_of a)) _ _ (λ k. let c = int_cast n (promoted k) a p in record { is = c.is; small = omega (arith, c.small) })
 
 binary_kept : (at : Place) (op : BinOp) (n m : ℕ) (a b : Expression) → IsKept n a → IsKept m b → Holds (IsKept (suc (n + m))) (binary at op a b)
 binary_kept at op n m a b p q = holds_given (IsKept (suc (n + m))) (integer_of (type_of a)) _ _ (λ k. holds_given (IsKept (suc (n + m))) (integer_of (type_of b)) _ _ (λ l. by k l (is_shift op)))
@@ -156,6 +159,11 @@ typed_kept s (Node at t (Cast to a)) h =
 typed_kept s (Node at t (SizeOfType u)) h = where_kept 1 _ _ _ tt (omega arith)
 typed_kept s (Node at t (SizeOfExpr a)) h =
     holds_one (IsKept (nodes_of a)) (IsKept (suc (nodes_of a))) (typed s a) (size_of_expression at) (typed_kept s a h) (λ x p. where_kept (suc (nodes_of a)) _ _ _ p.is (omega (arith, p.small)))
+typed_kept s (Node at t (Text n)) h = absurd h
+typed_kept s (Node at t (Index a b)) h = absurd h
+typed_kept s (Node at t (Dot a m)) h = absurd h
+typed_kept s (Node at t (Arrow a m)) h = absurd h
+typed_kept s (Node at t (Comma a b)) h = absurd h
 
 -- ---- arguments
 
@@ -216,6 +224,11 @@ pure_value (Node x t (Call f es)) h = absurd h
 pure_value (Node x t (Cast to a)) h = h
 pure_value (Node x t (SizeOfType u)) h = h
 pure_value (Node x t (SizeOfExpr a)) h = h
+pure_value (Node x t (Text n)) h = absurd h
+pure_value (Node x t (Index a b)) h = absurd h
+pure_value (Node x t (Dot a m)) h = absurd h
+pure_value (Node x t (Arrow a m)) h = absurd h
+pure_value (Node x t (Comma a b)) h = absurd h
 
 cast_value : (x : Place) (u to : PlainType) (t : Expression) → read.IsPureOrCall t → IsPureOrCall (Node x u (Cast to t))
 cast_value x u to (Node y v (Number n c)) h = h
@@ -232,6 +245,11 @@ cast_value x u to (Node y v (Call f es)) h = h
 cast_value x u to (Node y v (Cast w a)) h = h
 cast_value x u to (Node y v (SizeOfType w)) h = h
 cast_value x u to (Node y v (SizeOfExpr a)) h = h
+cast_value x u to (Node y v (Text n)) h = absurd h
+cast_value x u to (Node y v (Index a b)) h = absurd h
+cast_value x u to (Node y v (Dot a m)) h = absurd h
+cast_value x u to (Node y v (Arrow a m)) h = absurd h
+cast_value x u to (Node y v (Comma a b)) h = absurd h
 
 bare_value : (t : Expression) → read.IsPureOrCall t → IsPureOrCall t
 bare_value (Node x t (Number n c)) h = h
@@ -248,6 +266,11 @@ bare_value (Node x t (Call f es)) h = h
 bare_value (Node x t (Cast to a)) h = cast_value x t to a (pure_value a h)
 bare_value (Node x t (SizeOfType u)) h = h
 bare_value (Node x t (SizeOfExpr a)) h = h
+bare_value (Node x t (Text n)) h = absurd h
+bare_value (Node x t (Index a b)) h = absurd h
+bare_value (Node x t (Dot a m)) h = absurd h
+bare_value (Node x t (Arrow a m)) h = absurd h
+bare_value (Node x t (Comma a b)) h = absurd h
 
 pub value_of : (n : ℕ) (u : PlainType) (t : Expression) → IsKeptValue n t → IsCastValue n (in_type u t)
 value_of n u t p = by (same_type (type_of t) u)
@@ -280,6 +303,11 @@ value_kept s (Node at t (Call f es)) h = holds_more (IsKeptCallAlone (suc (nodes
 value_kept s (Node at t (Cast to a)) h = plain_value s (Node at t (Cast to a)) h
 value_kept s (Node at t (SizeOfType u)) h = plain_value s (Node at t (SizeOfType u)) h
 value_kept s (Node at t (SizeOfExpr a)) h = plain_value s (Node at t (SizeOfExpr a)) h
+value_kept s (Node at t (Text n)) h = absurd h
+value_kept s (Node at t (Index a b)) h = absurd h
+value_kept s (Node at t (Dot a m)) h = absurd h
+value_kept s (Node at t (Arrow a m)) h = absurd h
+value_kept s (Node at t (Comma a b)) h = absurd h
 
 -- ---- effects
 
@@ -298,6 +326,11 @@ pure_effect (Node x t (Call f es)) h = absurd h
 pure_effect (Node x t (Cast to a)) h = h
 pure_effect (Node x t (SizeOfType u)) h = h
 pure_effect (Node x t (SizeOfExpr a)) h = h
+pure_effect (Node x t (Text n)) h = absurd h
+pure_effect (Node x t (Index a b)) h = absurd h
+pure_effect (Node x t (Dot a m)) h = absurd h
+pure_effect (Node x t (Arrow a m)) h = absurd h
+pure_effect (Node x t (Comma a b)) h = absurd h
 
 effect_or_call : (t : Expression) → IsEffect t → IsEffectOrCall t
 effect_or_call (Node x t (Number n c)) h = h
@@ -315,6 +348,11 @@ effect_or_call (Node x t (Call f es)) h = absurd h
 effect_or_call (Node x t (Cast to a)) h = h
 effect_or_call (Node x t (SizeOfType u)) h = h
 effect_or_call (Node x t (SizeOfExpr a)) h = h
+effect_or_call (Node x t (Text n)) h = absurd h
+effect_or_call (Node x t (Index a b)) h = absurd h
+effect_or_call (Node x t (Dot a m)) h = absurd h
+effect_or_call (Node x t (Arrow a m)) h = absurd h
+effect_or_call (Node x t (Comma a b)) h = absurd h
 
 pub record IsKeptEffect (n : ℕ) (t : Expression) : Type 0 where
   pub is : IsEffect t
@@ -357,6 +395,11 @@ effect_kept s (Node at t (Call f es)) h = absurd h
 effect_kept s (Node at t (Cast to a)) h = plain_effect s (Node at t (Cast to a)) h
 effect_kept s (Node at t (SizeOfType u)) h = plain_effect s (Node at t (SizeOfType u)) h
 effect_kept s (Node at t (SizeOfExpr a)) h = plain_effect s (Node at t (SizeOfExpr a)) h
+effect_kept s (Node at t (Text n)) h = absurd h
+effect_kept s (Node at t (Index a b)) h = absurd h
+effect_kept s (Node at t (Dot a m)) h = absurd h
+effect_kept s (Node at t (Arrow a m)) h = absurd h
+effect_kept s (Node at t (Comma a b)) h = absurd h
 
 -- ---- effects and calls
 
@@ -380,6 +423,11 @@ call_kept s (Node at t (Call f es)) h = holds_more (IsKeptCallAlone (suc (nodes_
 call_kept s (Node at t (Cast to a)) h = more_call s (Node at t (Cast to a)) h
 call_kept s (Node at t (SizeOfType u)) h = more_call s (Node at t (SizeOfType u)) h
 call_kept s (Node at t (SizeOfExpr a)) h = more_call s (Node at t (SizeOfExpr a)) h
+call_kept s (Node at t (Text n)) h = absurd h
+call_kept s (Node at t (Index a b)) h = absurd h
+call_kept s (Node at t (Dot a m)) h = absurd h
+call_kept s (Node at t (Arrow a m)) h = absurd h
+call_kept s (Node at t (Comma a b)) h = absurd h
 
 -- ---- full expressions
 

@@ -4,7 +4,8 @@ use Rattle.std.proofs.lemmas.List.{map-append}
 use Rattle.c_syntax.specs.declared.place.Place.{Place}
 use Rattle.c_syntax.specs.Ctypes.{PlainType}
 use Rattle.c_syntax.specs.Expressions.{Expression}
-use Rattle.c_syntax.specs.Statements.{Initialiser, One, Declaration, Statement, Empty, Eval, Block, If, While, Do, For, Break, Continue, Return, ElsePart, NoElse, Else, ForFirst, NoFirst, First, BlockItem, Declare, Run, Asserts, BlockItems, NoItem}
+use Rattle.c_syntax.specs.Statements.{Initialiser, One, Many, Declaration, Statement, Empty, Eval, Block, If, While, Do, For, Break, Continue}
+use Rattle.c_syntax.specs.Statements.{Return, ElsePart, NoElse, Else, ForFirst, NoFirst, First, BlockItem, Declare, Run, Asserts, BlockItems, NoItem}
 use Rattle.c_syntax.specs.Statements.{Then}
 use Rattle.c_model.specs.Checked.{Checked, Good, where_so}
 use Rattle.c_model.specs.Library.{is_library_name, is_there}
@@ -54,6 +55,7 @@ initialiser_kept s t None h = absurd h
 initialiser_kept s t (Some (at, One e)) h =
     holds_one (IsKeptValue 400) (IsInitialiser most_typed) (typed s e) _ (full_value_kept s e h) (λ x p. holds_where (IsInitialiser most_typed) _ _ (Good (Some (at, One (in_type t x))))
     (let c = value_of 400 t x p in record { is = c.is; small = omega (arith, c.small) }))
+initialiser_kept s t (Some (at, Many brace is)) h = absurd h
 
 -- a declaration stays as it is
 pub declarable_is : (s : Scopes) (d : Declaration) → Holds (λ x. x ≡ d) (declarable s d)

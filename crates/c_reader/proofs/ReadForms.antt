@@ -2,7 +2,8 @@
 use Rattle.std.specs.Prelude.{◌≡◌, ◌≤◌, List, [], ◌∷◌, Option, Some, None}
 use Rattle.c_syntax.specs.declared.place.Place.{Place}
 use Rattle.c_syntax.specs.Expressions.{Expression, Node, Assign, Bump, Call}
-use Rattle.c_syntax.specs.Statements.{Initialiser, One, Declaration, Statement, Empty, Eval, Block, If, While, Do, For, Break, Continue, Return, ElsePart, NoElse, Else, ForFirst, NoFirst, First, BlockItem, Declare, Run, Asserts, BlockItems, NoItem}
+use Rattle.c_syntax.specs.Statements.{Initialiser, One, Many, Declaration, Statement, Empty, Eval, Block, If, While, Do, For, Break, Continue}
+use Rattle.c_syntax.specs.Statements.{Return, ElsePart, NoElse, Else, ForFirst, NoFirst, First, BlockItem, Declare, Run, Asserts, BlockItems, NoItem}
 use Rattle.c_syntax.specs.Statements.{Then}
 use Rattle.c_syntax.specs.Programs.{Function, TranslationUnit}
 use Rattle.c_model.specs.WellTypedPrograms.{WhereAny}
@@ -45,6 +46,7 @@ pub record IsFullEffectOrCall (e : Expression) : Type 0 where
 abbrev pub IsInitialiser : Option (Place × Initialiser) → Type 0
 IsInitialiser None = ⊥
 IsInitialiser (Some (at, One e)) = IsFullOrCall e
+IsInitialiser (Some (at, Many brace is)) = ⊥
 
 abbrev pub AreInitialised : List Declaration → Type 0
 AreInitialised [] = Unit {0}

@@ -1,51 +1,36 @@
 -- The plain form of expressions (C99 6.5): their variants, numbers, places, types and parts, without boxes and vectors.
-use Rattle.std.specs.Prelude.{ℤ, List, [], ◌∷◌, Option}
-use Rattle.c_syntax.specs.declared.place.Place.{Place}
-use Rattle.c_syntax.specs.declared.types.CInt.{CInt}
-use Rattle.c_syntax.specs.declared.expression.Use.{Use}
-use Rattle.c_syntax.specs.declared.expression.UnOp.{UnOp}
-use Rattle.c_syntax.specs.declared.expression.BinOp.{BinOp}
-use Rattle.c_syntax.specs.declared.expression.BumpOp.{BumpOp}
+use Rattle.std.specs.Prelude.{List, [], ◌∷◌}
 use Rattle.c_syntax.specs.declared.expression.Expr.{Expr}
 use Rattle.c_syntax.specs.declared.expression.ExprKind.{ExprKind, Row_of-Expr, end_of-Expr, more_of-Expr}
 use Rattle.c_syntax.specs.declared.expression.ExprKind as code
-use Rattle.c_syntax.specs.Ctypes.{PlainType, plain_type}
-
-mutual
-  -- an expression with its place and its type
-  pub data Expression : Type 0 where
-    Node : Place → PlainType → ExpressionKind → Expression
-
-  pub data ExpressionKind : Type 0 where
-    Number : ℤ → Option CInt → ExpressionKind
-    Letter : ℤ → ExpressionKind
-    Variable : Use → ExpressionKind
-    Unary : UnOp → Expression → ExpressionKind
-    Binary : BinOp → Expression → Expression → ExpressionKind
-    Both : Expression → Expression → ExpressionKind
-    Either : Expression → Expression → ExpressionKind
-    Choice : Expression → Expression → Expression → ExpressionKind
-    Assign : Option BinOp → Expression → Expression → ExpressionKind
-    Bump : BumpOp → Expression → ExpressionKind
-    Call : Use → Expressions → ExpressionKind
-    Cast : PlainType → Expression → ExpressionKind
-    SizeOfType : PlainType → ExpressionKind
-    SizeOfExpr : Expression → ExpressionKind
-
-  pub data Expressions : Type 0 where
-    NoExpression : Expressions
-    Following : Expression → Expressions → Expressions
-
-abbrev pub place_of : Expression → Place
-place_of (Node at t k) = at
-
-abbrev pub type_of : Expression → PlainType
-type_of (Node at t k) = t
+use Rattle.c_syntax.specs.declared.types.CType.{CType}
+use Rattle.c_syntax.specs.declared.types.CType as ctype
+use Rattle.c_syntax.specs.declared.types.Length.{Length}
+use Rattle.c_syntax.specs.declared.types.Length as bounds
+pub use Rattle.c_syntax.specs.Trees.{PlainType, Void, Int, Ptr, Array, Struct, Named, StructTag, EnumTag, PlainLength, Left, Written, Count}
+pub use Rattle.c_syntax.specs.Trees.{Expression, Node, ExpressionKind, Number, Letter, Text, Variable, Unary, Binary, Both, Either, Choice, Assign, Bump, Call}
+pub use Rattle.c_syntax.specs.Trees.{Cast, SizeOfType, SizeOfExpr, Index, Dot, Arrow, Comma, Expressions, NoExpression, Following, place_of, type_of}
 
 abbrev mutual
+  pub plain_type : CType → PlainType
+  plain_type ctype.Void = Void
+  plain_type (ctype.Int k) = Int k
+  plain_type (ctype.Ptr' p t) = Ptr (plain_type t)
+  plain_type (ctype.Array' p t n) = Array (plain_type t) (plain_length n)
+  plain_type (ctype.Struct n) = Struct n
+  plain_type (ctype.Named x) = Named x
+  plain_type (ctype.StructTag x) = StructTag x
+  plain_type (ctype.EnumTag x at) = EnumTag x at
+
+  pub plain_length : Length → PlainLength
+  plain_length bounds.Left = Left
+  plain_length (bounds.Written' q pa p a ta) = Written (Node pa (plain_type ta) (plain_kind a))
+  plain_length (bounds.Count n) = Count n
+
   pub plain_kind : ExprKind → ExpressionKind
   plain_kind (code.Number n k) = Number n k
   plain_kind (code.Letter n) = Letter n
+  plain_kind (code.Text n) = Text n
   plain_kind (code.Variable x) = Variable x
   plain_kind (code.Unary' op pa p a ta) = Unary op (Node pa (plain_type ta) (plain_kind a))
   plain_kind (code.Binary' op pa p a ta pb q b tb) = Binary op (Node pa (plain_type ta) (plain_kind a)) (Node pb (plain_type tb) (plain_kind b))
@@ -59,6 +44,10 @@ abbrev mutual
   plain_kind (code.Cast' to pa p a ta) = Cast (plain_type to) (Node pa (plain_type ta) (plain_kind a))
   plain_kind (code.SizeOfType u) = SizeOfType (plain_type u)
   plain_kind (code.SizeOfExpr' pa p a ta) = SizeOfExpr (Node pa (plain_type ta) (plain_kind a))
+  plain_kind (code.Index' pa p a ta pb q b tb) = Index (Node pa (plain_type ta) (plain_kind a)) (Node pb (plain_type tb) (plain_kind b))
+  plain_kind (code.Dot' pa p a ta m) = Dot (Node pa (plain_type ta) (plain_kind a)) m
+  plain_kind (code.Arrow' pa p a ta m) = Arrow (Node pa (plain_type ta) (plain_kind a)) m
+  plain_kind (code.Comma' pa p a ta pb q b tb) = Comma (Node pa (plain_type ta) (plain_kind a)) (Node pb (plain_type tb) (plain_kind b))
 
   pub plain_expr_row : {m : _} → Row_of-Expr m → Expressions
   plain_expr_row end_of-Expr = NoExpression

@@ -1,3 +1,4 @@
+pub mod Trees
 pub mod Ctypes
 pub mod Expressions
 pub mod Annotations

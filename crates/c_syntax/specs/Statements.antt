@@ -2,8 +2,8 @@
 use Rattle.std.specs.Prelude.{ℕ, Bool, List, [], ◌∷◌, map, Option, option_map}
 use Rattle.c_syntax.specs.declared.place.Place.{Place}
 use Rattle.c_syntax.specs.declared.statement.Decl.{Decl}
-use Rattle.c_syntax.specs.declared.statement.Init.{Init}
-use Rattle.c_syntax.specs.declared.statement.Init.TheVariants as init
+use Rattle.c_syntax.specs.declared.statement.Init.{Init, Row_of-Init, end_of-Init, more_of-Init}
+use Rattle.c_syntax.specs.declared.statement.Init as init
 use Rattle.c_syntax.specs.declared.statement.Item.{Item}
 use Rattle.c_syntax.specs.declared.statement.Item as item
 use Rattle.c_syntax.specs.declared.statement.Stmt.{Stmt}
@@ -13,8 +13,15 @@ use Rattle.c_syntax.specs.Ctypes.{PlainType, plain_type}
 use Rattle.c_syntax.specs.Expressions.{Expression, plain_expr}
 use Rattle.c_syntax.specs.Annotations.{Annotation, plain_annot}
 
-pub data Initialiser : Type 0 where
-  One : Expression → Initialiser
+mutual
+  pub data Initialiser : Type 0 where
+    One : Expression → Initialiser
+    -- a list in braces, at its `{`
+    Many : Place → Initialisers → Initialiser
+
+  pub data Initialisers : Type 0 where
+    NoInitialiser : Initialisers
+    Listed : Initialiser → Initialisers → Initialisers
 
 pub record Declaration : Type 0 where
   pub place : Place
@@ -55,8 +62,18 @@ mutual
     NoItem : BlockItems
     Then : BlockItem → BlockItems → BlockItems
 
-abbrev pub plain_init : Init → Initialiser
-plain_init (init.One e) = One (plain_expr e)
+abbrev mutual
+  pub plain_init : Init → Initialiser
+  plain_init (init.One e) = One (plain_expr e)
+  plain_init (init.Many' at shape row) = Many at (plain_init_row row)
+
+  pub plain_init_row : {m : _} → Row_of-Init m → Initialisers
+  plain_init_row end_of-Init = NoInitialiser
+  plain_init_row (more_of-Init i rest) = Listed (plain_init i) (plain_init_row rest)
+
+abbrev pub plain_inits : List Init → Initialisers
+plain_inits [] = NoInitialiser
+plain_inits (i ∷ is) = Listed (plain_init i) (plain_inits is)
 
 abbrev pub plain_decl : Decl → Declaration
 plain_decl d = record {

@@ -28,6 +28,10 @@ pub enum UnOp {
     Not,
     /// `~`
     Flip,
+    /// `*` (C99 6.5.3.2)
+    Deref,
+    /// `&` (C99 6.5.3.2)
+    Address,
 }
 
 /// An operator of two operands that are both evaluated (C99 6.5.5 to 6.5.12).
@@ -78,6 +82,8 @@ pub enum ExprKind {
     Number(i128, Option<CInt>),
     /// A character literal (C99 6.4.4.4), by its value as a `char`.
     Letter(i8),
+    /// A string literal (C99 6.4.5), by its number in `Program::texts`.
+    Text(u32),
     Variable(Use),
     Unary(UnOp, Expr),
     Binary(BinOp, Expr, Expr),
@@ -97,4 +103,12 @@ pub enum ExprKind {
     SizeOfType(CType),
     /// `sizeof operand` (C99 6.5.3.4).
     SizeOfExpr(Expr),
+    /// `left[right]` (C99 6.5.2.1).
+    Index(Expr, Expr),
+    /// `left.name`, by the number of the member's name (C99 6.5.2.3).
+    Dot(Expr, u32),
+    /// `left->name`, by the number of the member's name.
+    Arrow(Expr, u32),
+    /// `left, right` (C99 6.5.17).
+    Comma(Expr, Expr),
 }

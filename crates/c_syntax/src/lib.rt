@@ -5,6 +5,7 @@
 
 pub mod annotation;
 pub mod code;
+pub mod copy;
 pub mod expression;
 pub mod fault;
 pub mod name;
@@ -24,4 +25,4 @@ pub use program::{Behavior, Contract, EnumDef, Enumerator, Func, Layout, Member,
 pub use refusal::{FrontFault, Refusal};
 pub use statement::{Decl, Init, Item, Stmt, StmtKind};
 pub use token::{Token, TokenKind, Tokens};
-pub use types::{BlockKind, CInt, CType, How, Segment, Width};
+pub use types::{BlockKind, CInt, CType, How, Length, Segment, Width};

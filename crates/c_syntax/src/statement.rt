@@ -9,6 +9,8 @@ use crate::types::CType;
 #[derive(Drop)]
 pub enum Init {
     One(Expr),
+    /// A list in braces, at its `{`.
+    Many(Place, Vec<Init>),
 }
 
 /// The declaration of one object. Its number is the offset of its place.

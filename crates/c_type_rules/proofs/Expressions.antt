@@ -8,11 +8,11 @@ use Rattle.c_syntax.specs.declared.expression.BinOp.{BinOp}
 use Rattle.c_syntax.specs.declared.expression.ExprKind.{ExprKind}
 use Rattle.c_syntax.specs.declared.expression.ExprKind as code
 use Rattle.c_syntax.specs.declared.types.CType.{CType}
-use Rattle.c_syntax.proofs.Rows.{call_is}
+use Rattle.c_syntax.proofs.Rows.{call_kind_is}
 use Rattle.c_syntax.specs.declared.expression.Expr.{Expr}
-use Rattle.c_syntax.specs.Ctypes.{PlainType, Void, plain_type}
+use Rattle.c_syntax.specs.Ctypes.{PlainType, plain_type}
 use Rattle.c_syntax.specs.Expressions.{Expression, ExpressionKind, Node, Number, Letter, Variable, Unary, Binary, Both, Either, Choice, Assign}
-use Rattle.c_syntax.specs.Expressions.{Bump, Call, Cast, SizeOfType, SizeOfExpr, Expressions, NoExpression, Following, plain_expr, plain_exprs, plain_kind}
+use Rattle.c_syntax.specs.Expressions.{Bump, Call, Cast, SizeOfType, SizeOfExpr, Text, Index, Dot, Arrow, Comma, Expressions, NoExpression, Following, plain_expr, plain_exprs, plain_kind}
 use Rattle.c_model.specs.Checked.{Fault, Checked, Good, Bad, one_part, both_parts, refusing}
 use Rattle.c_model.specs.Typing as plain
 use Rattle.c_model.specs.Typing.{typed, typed_arguments, argument_for, first_type, rest_types, callee, call, params_of, two}
@@ -60,6 +60,11 @@ parts_then s at t (Call f es) =
 parts_then s at t (Cast to a) = one_in_turn (Cast to) (demanded s at) (typed s a)
 parts_then s at t (SizeOfType u) = refl
 parts_then s at t (SizeOfExpr a) = one_in_turn SizeOfExpr (demanded s at) (typed s a)
+parts_then s at t (Text n) = refl
+parts_then s at t (Index a b) = refl
+parts_then s at t (Dot a m) = refl
+parts_then s at t (Arrow a m) = refl
+parts_then s at t (Comma a b) = refl
 
 -- what is known of the parts and of what is demanded is known of the expression
 pub by_parts : {T : Type 0} (p : T → Expression) (s : plain.Scopes) (at : Place) (t : PlainType) (k : ExpressionKind) (r : Result T TypeFault) → Answers p (one_part (typed_parts s at k) (demanded s at)) r → Answers p (typed s (Node at t k)) r
@@ -81,12 +86,6 @@ module _ (s : plain.Scopes) (at : Place) (t : PlainType) (k k' : ExpressionKind)
 -- a kind of which a variant is known
 pub at_parts : {T : Type 0} (p : T → ExpressionKind) (s : plain.Scopes) (at : Place) (k k' : ExprKind) (r : Result T TypeFault) → k ≡ k' → Answers p (typed_parts s at (plain_kind k')) r → Answers p (typed_parts s at (plain_kind k)) r
 at_parts p s at k k' r is h = subst (λ x. Answers p (typed_parts s at (plain_kind x)) r) (sym is) h
-
-abbrev kind_of : Expression → ExpressionKind
-kind_of (Node at t k) = k
-
-call_kind_is : (x : Use) (v : Vec Expr Global) → plain_kind (code.Call x v) ≡ Call x (plain_exprs v.items)
-call_kind_is x v = ap kind_of (call_is (record { line = 0; column = 0; offset = 0 }) Void x v)
 
 -- what is made of one part
 pub made_of : {A B T : Type 0} (f : A → B) (p : T → A) (m : Checked A) (r : Result T TypeFault) → Answers p m r → Answers (λ x. f (p x)) (one_part m (λ a. Good (f a))) r

@@ -3,22 +3,24 @@ use Rattle.std.proofs.Common.{◌≡◌, ℕ, refl, sym, ap, ◌∙◌, subst, L
 use Rattle.std.proofs.lemmas.Bool.Decides.{nat_tests}
 use Rattle.c_syntax.specs.declared.place.Place.{Place}
 use Rattle.c_syntax.specs.declared.types.CInt.{CInt}
-use Rattle.c_syntax.specs.declared.types.CInt.TheVariants.{I8, U8, I16, U16, I32, U32, I64, U64}
 use Rattle.c_syntax.specs.declared.expression.UnOp.{UnOp}
+use Rattle.c_syntax.specs.declared.expression.UnOp.TheVariants.{Plus, Minus, Not, Flip, Deref, Address}
 use Rattle.c_syntax.specs.declared.expression.BinOp.{BinOp}
 use Rattle.c_syntax.specs.declared.expression.BinOp.TheVariants.{Add, Sub, Mul, Div, Rem, Shl, Shr, BitAnd, BitOr, BitXor, Eq, Ne, Lt, Le, Gt, Ge}
 use Rattle.c_syntax.specs.declared.expression.BumpOp.{BumpOp}
 use Rattle.c_syntax.specs.Ctypes.{PlainType, Void, Int, int_type}
-use Rattle.c_syntax.specs.Expressions.{Expression, Node, Number, Letter, Variable, Unary, Binary, Both, Either, Choice, Assign, Bump, Call, Cast, SizeOfType, SizeOfExpr, Expressions, NoExpression, Following, place_of, type_of}
+use Rattle.c_syntax.specs.Expressions.{Expression, Node, Number, Letter, Variable, Unary, Binary, Both, Either, Choice, Assign, Bump, Call, Cast}
+use Rattle.c_syntax.specs.Expressions.{SizeOfType, SizeOfExpr, Text, Index, Dot, Arrow, Comma, Expressions, NoExpression, Following, place_of, type_of}
 use Rattle.c_model.specs.Integers.{fits}
 use Rattle.c_model.specs.Conversions.{promoted, common, result_type}
 use Rattle.c_model.specs.Library.{Constants, constants, constant_in, library_constant, is_there}
 use Rattle.c_model.specs.Checked.{Good, faulty, one_part, both_parts, given, where_so}
 use Rattle.c_model.specs.Typing.{no_name, no_type, Object, Signature, Scopes, name_at, or_else, object_named, function_called, of_library, library_function, use_as}
-use Rattle.c_model.specs.Typing.{same_int, same_type, is_scalar, is_object_type, integer_of, in_type, in_int, is_assigned, is_cast, is_place, literal}
+use Rattle.c_model.specs.Typing.{same_type, is_scalar, is_object_type, integer_of, in_type, in_int, is_assigned, is_cast, is_place, literal}
 use Rattle.c_model.specs.Typing.{named, is_not, unary, operands, binary, both_of, either_of, choice_type, choice_of, assign, bump, cast}
 use Rattle.c_model.specs.Typing.{size_of_expression, callee, first_type, rest_types, argument_for, count_of, call, params_of, two, typed, typed_arguments}
 use Rattle.c_model.specs.WellTyped.{IsPromoted, IsPlace, IsInteger, CastTypes, HaveTypes, WellTyped, AreWellTyped}
+use Rattle.c_model.proofs.Signatures.{same_type_is}
 use Rattle.c_type_rules.proofs.Gives.{Gives, gives_one, gives_both, gives_given, gives_where, gives_self}
 
 -- ---- tests
@@ -31,45 +33,32 @@ pub not_true : (b : Bool) → not b ≡ true → b ≡ false
 not_true true e = cc
 not_true false e = refl
 
-same_int_is : (k l : CInt) → same_int k l ≡ true → k ≡ l
-same_int_is I8 I8 e = refl
-same_int_is U8 U8 e = refl
-same_int_is I16 I16 e = refl
-same_int_is U16 U16 e = refl
-same_int_is I32 I32 e = refl
-same_int_is U32 U32 e = refl
-same_int_is I64 I64 e = refl
-same_int_is U64 U64 e = refl
-same_int_is _ _ e = absurd cc
-
-pub same_type_is : (t u : PlainType) → same_type t u ≡ true → t ≡ u
-same_type_is Void Void e = refl
-same_type_is Void (Int l) e = cc
-same_type_is (Int k) Void e = cc
-same_type_is (Int k) (Int l) e = ap Int (same_int_is k l e)
-
 integer_is : (t : PlainType) (k : CInt) → integer_of t ≡ Some k → IsInteger t
-integer_is Void k e = absurd cc
 integer_is (Int l) k e = tt
+integer_is _ k e = absurd cc
 
 there_is : (t : PlainType) → is_there (integer_of t) ≡ true → IsInteger t
-there_is Void e = absurd cc
 there_is (Int l) e = tt
+there_is _ e = absurd cc
+
+assigned_integers : (u t : PlainType) → is_assigned u t ≡ true → IsInteger u × IsInteger t
+assigned_integers (Int k) (Int l) e = (tt, tt)
+assigned_integers _ _ e = absurd cc
+
+integer_casts : (t u : PlainType) → IsInteger t → IsInteger u → CastTypes t u
+integer_casts (Int k) u i j = j
+integer_casts _ u i j = absurd i
 
 pub assigned_casts : (t u : PlainType) → is_assigned u t ≡ true → CastTypes t u
-assigned_casts Void u e = tt
-assigned_casts (Int k) Void e = absurd cc
-assigned_casts (Int k) (Int l) e = tt
+assigned_casts t u e = let i = assigned_integers u t e in integer_casts t u i.1 i.0
 
 pub assigned_integer : (t u : PlainType) → is_assigned u t ≡ true → IsInteger t
-assigned_integer Void Void e = absurd cc
-assigned_integer Void (Int l) e = absurd cc
-assigned_integer (Int k) u e = tt
+assigned_integer t u e = (assigned_integers u t e).1
 
 cast_casts : (u to : PlainType) → is_cast u to ≡ true → CastTypes to u
 cast_casts u Void e = tt
-cast_casts Void (Int l) e = absurd cc
 cast_casts (Int k) (Int l) e = tt
+cast_casts _ _ e = absurd cc
 
 -- ---- casts
 
@@ -170,17 +159,20 @@ literal_well : (s : Scopes) (at : Place) (n : ℤ) (k : Option CInt) → Gives (
 literal_well s at n k = gives_given (WellTyped s) k _ _ (λ l e. gives_where (WellTyped s) (fits l n) _ _ (λ f. (refl, f)))
 
 unary_well : (s : Scopes) (at : Place) (op : UnOp) (a : Expression) → WellTyped s a → Gives (WellTyped s) (unary at op a)
-unary_well s at op a w = by (is_not op) refl
+unary_well s at op a w = by op
   where
-    by : (b : Bool) → is_not op ≡ b → Gives (WellTyped s) (if b then where_so (is_scalar (type_of a)) (no_type at) (Good (Node at int_type (Unary op a)))
-        else given (integer_of (type_of a)) (no_type at) (λ k. Good (Node at (Int (promoted k)) (Unary op (in_int (promoted k) a)))))
-    by true e = gives_where (WellTyped s) (is_scalar (type_of a)) _ _ (λ t. (w, subst (λ b. cond b ((int_type ≡ int_type) × (is_scalar (type_of a) ≡ true)) ((int_type ≡ type_of a) × IsPromoted (type_of a))) (sym e) (refl, t)))
-    by false e = gives_given (WellTyped s) (integer_of (type_of a)) _ _ (λ k i.
-        let same = in_type_type (Int (promoted k)) a in (
-          in_type_well s (Int (promoted k)) a w (integer_is (type_of a) k i),
-          subst (λ b. cond b ((Int (promoted k) ≡ int_type) × (is_scalar (type_of (in_int (promoted k) a)) ≡ true))
-              ((Int (promoted k) ≡ type_of (in_int (promoted k) a)) × IsPromoted (type_of (in_int (promoted k) a)))) (sym e) (sym same, is_promoted _ k same),
-        ))
+    operand : (k : CInt) → integer_of (type_of a) ≡ Some k → WellTyped s (in_int (promoted k) a) × ((Int (promoted k) ≡ type_of (in_int (promoted k) a)) × IsPromoted (type_of (in_int (promoted k) a)))
+    operand k i =
+        let same = in_type_type (Int (promoted k)) a in
+        (in_type_well s (Int (promoted k)) a w (integer_is (type_of a) k i), (sym same, is_promoted _ k same))
+
+    by : (op : UnOp) → Gives (WellTyped s) (unary at op a)
+    by Plus = gives_given (WellTyped s) (integer_of (type_of a)) _ _ operand
+    by Minus = gives_given (WellTyped s) (integer_of (type_of a)) _ _ operand
+    by Not = gives_where (WellTyped s) (is_scalar (type_of a)) _ _ (λ t. (w, (refl, t)))
+    by Flip = gives_given (WellTyped s) (integer_of (type_of a)) _ _ operand
+    by Deref = tt
+    by Address = tt
 
 module _ (s : Scopes) (at : Place) (a b : Expression) (v : WellTyped s a) (w : WellTyped s b)
   where
@@ -246,9 +238,8 @@ module _ (s : Scopes) (at : Place) (a b : Expression) (v : WellTyped s a) (w : W
 
 choice_casts : (t u v : PlainType) → choice_type t u ≡ Some v → CastTypes v t × CastTypes v u
 choice_casts Void Void v e = let same : Void ≡ v = cc in subst (λ v. CastTypes v Void × CastTypes v Void) same (tt, tt)
-choice_casts Void (Int l) v e = absurd cc
-choice_casts (Int k) Void v e = absurd cc
 choice_casts (Int k) (Int l) v e = let same : Int (common k l) ≡ v = cc in subst (λ v. CastTypes v (Int k) × CastTypes v (Int l)) same (tt, tt)
+choice_casts _ _ v e = absurd cc
 
 choice_well : (s : Scopes) (at : Place) (a b c : Expression) → WellTyped s a → WellTyped s b → WellTyped s c → Gives (WellTyped s) (choice_of at a b c)
 choice_well s at a b c u v w =
@@ -272,6 +263,11 @@ place_well s (Node at t (Call f es)) e w = absurd cc
 place_well s (Node at t (Cast to a)) e w = absurd cc
 place_well s (Node at t (SizeOfType u)) e w = absurd cc
 place_well s (Node at t (SizeOfExpr a)) e w = absurd cc
+place_well s (Node at t (Text n)) e w = absurd cc
+place_well s (Node at t (Index a b)) e w = absurd cc
+place_well s (Node at t (Dot a m)) e w = absurd cc
+place_well s (Node at t (Arrow a m)) e w = absurd cc
+place_well s (Node at t (Comma a b)) e w = absurd cc
 
 assign_well : (s : Scopes) (at : Place) (op : Option BinOp) (a b : Expression) → WellTyped s a → WellTyped s b → Gives (WellTyped s) (assign at op a b)
 assign_well s at None a b v w =
@@ -410,6 +406,11 @@ mutual
   typed_well s (Node at t (SizeOfType u)) = gives_where (WellTyped s) (is_object_type u) _ _ (λ e. (refl, e))
   typed_well s (Node at t (SizeOfExpr a)) =
       gives_one (WellTyped s) (WellTyped s) (typed s a) (size_of_expression at) (typed_well s a) (λ a w. gives_where (WellTyped s) (is_object_type (type_of a)) _ _ (λ e. (w, refl, e)))
+  typed_well s (Node at t (Text n)) = tt
+  typed_well s (Node at t (Index a b)) = tt
+  typed_well s (Node at t (Dot a m)) = tt
+  typed_well s (Node at t (Arrow a m)) = tt
+  typed_well s (Node at t (Comma a b)) = tt
 
   arguments_well : (s : Scopes) (ts : List PlainType) (es : Expressions) → Gives (IsArgued s ts) (typed_arguments s ts es)
   arguments_well s ts NoExpression = none_argued s ts

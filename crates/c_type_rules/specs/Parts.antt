@@ -4,8 +4,8 @@ use Rattle.std.specs.Prelude.{ℕ}
 use Rattle.c_syntax.specs.declared.place.Place.{Place}
 use Rattle.c_syntax.specs.Ctypes.{int_type}
 use Rattle.c_syntax.specs.Expressions.{Expression, ExpressionKind, Expressions, Node, Number, Letter, Variable, Unary, Binary}
-use Rattle.c_syntax.specs.Expressions.{Both, Either, Choice, Assign, Bump, Call, Cast, SizeOfType, SizeOfExpr}
-use Rattle.c_model.specs.Checked.{Checked, Good, one_part, both_parts}
+use Rattle.c_syntax.specs.Expressions.{Both, Either, Choice, Assign, Bump, Call, Cast, SizeOfType, SizeOfExpr, Text, Index, Dot, Arrow, Comma}
+use Rattle.c_model.specs.Checked.{Checked, Good, faulty, one_part, both_parts}
 use Rattle.c_model.specs.Typing as plain
 use Rattle.c_model.specs.Typing.{Scopes, typed, typed_arguments, params_of, two}
 
@@ -34,6 +34,11 @@ typed_parts s at (Call f es) = one_part (typed_call_parts s at f.name es) (λ es
 typed_parts s at (Cast to a) = one_part (typed s a) (λ a. Good (Cast to a))
 typed_parts s at (SizeOfType u) = Good (SizeOfType u)
 typed_parts s at (SizeOfExpr a) = one_part (typed s a) (λ a. Good (SizeOfExpr a))
+typed_parts s at (Text n) = Good (Text n)
+typed_parts s at (Index a b) = Good (Index a b)
+typed_parts s at (Dot a m) = Good (Dot a m)
+typed_parts s at (Arrow a m) = Good (Arrow a m)
+typed_parts s at (Comma a b) = Good (Comma a b)
 
 -- an expression whose parts have no fault
 abbrev pub demanded : Scopes → Place → ExpressionKind → Checked Expression
@@ -51,3 +56,9 @@ demanded s at (Call f es) = one_part (plain.callee s at f.name) (λ g. plain.cal
 demanded s at (Cast to a) = plain.cast at to a
 demanded s at (SizeOfType u) = plain.size_of_type at u
 demanded s at (SizeOfExpr a) = plain.size_of_expression at a
+-- these have no type yet
+demanded s at (Text n) = faulty (plain.no_type at)
+demanded s at (Index a b) = faulty (plain.no_type at)
+demanded s at (Dot a m) = faulty (plain.no_type at)
+demanded s at (Arrow a m) = faulty (plain.no_type at)
+demanded s at (Comma a b) = faulty (plain.no_type at)

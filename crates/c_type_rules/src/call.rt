@@ -10,12 +10,13 @@ ghost use Rattle.c_type_rules.specs.Library.{signature_of};
 ghost use Rattle.c_type_rules.specs.Signatures.{plain_signature};
 ghost use Rattle.c_type_rules.specs.Scopes.{callable, known_params, library_callee, plain_scopes};
 
-use crate::conversion::{copy_type, is_assigned};
+use crate::conversion::is_assigned;
 use crate::fault::{TypeFault, no_name, no_type};
 use crate::library::{LibraryFunction, library_constant, library_function};
 use crate::operator::{in_type, put};
 use crate::scope::{Scopes, name_at, object_named};
 use crate::signature::{Signature, copy_signature};
+use c_syntax::copy::copy_type;
 use c_syntax::{CInt, CType, Expr, ExprKind, Place, Use};
 use std::alloc::{AllocError, Global};
 

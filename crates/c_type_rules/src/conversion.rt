@@ -1,23 +1,12 @@
 //! The types that operands are converted to (C99 6.3.1.1, 6.3.1.8), and what types have a meaning where.
 
-ghost use Rattle.std.specs.Prelude.{◌≡◌, IfOk, option_map};
-ghost use Rattle.c_syntax.specs.Ctypes.{plain_type};
+ghost use Rattle.std.specs.Prelude.{◌≡◌, option_map};
+ghost use Rattle.c_syntax.specs.Ctypes.{plain_length, plain_type};
 ghost use Rattle.c_model.specs.Integers.{fits, is_signed, width};
 ghost use Rattle.c_model.specs.Conversions.{common, is_relation, is_shift, promoted, result_type, wider};
-ghost use Rattle.c_model.specs.Typing.{choice_type, integer_of, is_assigned, is_cast, is_object_type, is_scalar, same_int, same_type};
+ghost use Rattle.c_model.specs.Typing.{choice_type, integer_of, is_assigned, is_cast, is_object_type, is_scalar, same_int, same_length, same_type};
 
-use c_syntax::{BinOp, CInt, CType};
-use std::alloc::{AllocError, Global};
-
-/// A copy of a type.
-pub fn copy_type(_alloc: Global, t: &CType) -> Result<CType, AllocError>
-    ensures { IfOk result (λ copy. plain_type copy ≡ plain_type t.now) }
-{
-    match t {
-        CType::Void => Ok(CType::Void),
-        CType::Int(k) => Ok(CType::Int(*k)),
-    }
-}
+use c_syntax::{BinOp, CInt, CType, Length};
 
 fn same_int(k: CInt, l: CInt) -> bool
     ensures { result ≡ same_int k l }
@@ -25,13 +14,27 @@ fn same_int(k: CInt, l: CInt) -> bool
     k == l
 }
 
+/// Whether two lengths are one count.
+fn same_length(n: &Length, m: &Length) -> bool
+    ensures { result ≡ same_length (plain_length n.now) (plain_length m.now) }
+{
+    match (n, m) {
+        (Length::Count(n), Length::Count(m)) => *n == *m,
+        _ => false,
+    }
+}
+
+/// Whether two types of a typed text are one.
 pub fn same_type(t: &CType, u: &CType) -> bool
     ensures { result ≡ same_type (plain_type t.now) (plain_type u.now) }
 {
     match (t, u) {
         (CType::Void, CType::Void) => true,
         (CType::Int(k), CType::Int(l)) => same_int(*k, *l),
-        (CType::Void, CType::Int(_)) | (CType::Int(_), CType::Void) => false,
+        (CType::Ptr(t), CType::Ptr(u)) => same_type(t, u),
+        (CType::Array(t, n), CType::Array(u, m)) => same_length(n, m) && same_type(t, u),
+        (CType::Struct(n), CType::Struct(m)) => *n == *m,
+        _ => false,
     }
 }
 
@@ -39,20 +42,14 @@ pub fn same_type(t: &CType, u: &CType) -> bool
 pub fn is_scalar(t: &CType) -> bool
     ensures { result ≡ is_scalar (plain_type t.now) }
 {
-    match t {
-        CType::Void => false,
-        CType::Int(_) => true,
-    }
+    matches!(t, CType::Int(_))
 }
 
 /// Whether an object may have the type.
 pub fn is_object_type(t: &CType) -> bool
     ensures { result ≡ is_object_type (plain_type t.now) }
 {
-    match t {
-        CType::Void => false,
-        CType::Int(_) => true,
-    }
+    matches!(t, CType::Int(_))
 }
 
 /// The integer type that it is, where it is one.
@@ -60,8 +57,8 @@ pub fn integer_of(t: &CType) -> Option<CInt>
     ensures { result ≡ integer_of (plain_type t.now) }
 {
     match t {
-        CType::Void => None,
         CType::Int(k) => Some(*k),
+        _ => None,
     }
 }
 
@@ -77,9 +74,9 @@ pub fn is_cast(t: &CType, u: &CType) -> bool
     ensures { result ≡ is_cast (plain_type t.now) (plain_type u.now) }
 {
     match (t, u) {
-        (CType::Void, CType::Int(_)) => false,
+        (_, CType::Void) => true,
         (CType::Int(_), CType::Int(_)) => true,
-        (CType::Void, CType::Void) | (CType::Int(_), CType::Void) => true,
+        _ => false,
     }
 }
 
@@ -192,6 +189,6 @@ pub fn choice_type(t: &CType, u: &CType) -> Option<CType>
     match (t, u) {
         (CType::Void, CType::Void) => Some(CType::Void),
         (CType::Int(k), CType::Int(l)) => Some(CType::Int(common(*k, *l))),
-        (CType::Void, CType::Int(_)) | (CType::Int(_), CType::Void) => None,
+        _ => None,
     }
 }

@@ -10,7 +10,7 @@ ghost use Rattle.c_type_rules.specs.Parts.{demanded, typed_call_parts, typed_par
 ghost use Rattle.c_type_rules.specs.Scopes.{plain_scopes};
 
 use crate::call::{argument_for, call, callee, known_params, mean};
-use crate::fault::{TypeFault, both};
+use crate::fault::{TypeFault, both, no_type};
 use crate::operator::{
     assign, binary, bump, cast, choice_of, literal, size_of_expression, size_of_type, truth_of,
     unary,
@@ -76,7 +76,12 @@ fn type_parts(
         ExprKind::Number(..)
         | ExprKind::Letter(_)
         | ExprKind::Variable(_)
-        | ExprKind::SizeOfType(_) => Ok(()),
+        | ExprKind::SizeOfType(_)
+        | ExprKind::Text(_)
+        | ExprKind::Index(..)
+        | ExprKind::Dot(..)
+        | ExprKind::Arrow(..)
+        | ExprKind::Comma(..) => Ok(()),
     }
 }
 
@@ -170,5 +175,10 @@ fn demand(
         ExprKind::Cast(to, a) => cast(alloc, place, to, a),
         ExprKind::SizeOfType(t) => size_of_type(place, t),
         ExprKind::SizeOfExpr(a) => size_of_expression(place, a),
+        ExprKind::Text(_)
+        | ExprKind::Index(..)
+        | ExprKind::Dot(..)
+        | ExprKind::Arrow(..)
+        | ExprKind::Comma(..) => Err(no_type(place)),
     }
 }

@@ -13,10 +13,11 @@ ghost use Rattle.c_type_rules.specs.Answers.{Answers, IsRefusal};
 ghost use Rattle.c_type_rules.specs.Scopes.{literal_at};
 
 use crate::conversion::{
-    choice_type, common, copy_type, fits, integer_of, is_assigned, is_cast, is_object_type,
-    is_scalar, is_shift, promoted, result_type, same_type,
+    choice_type, common, fits, integer_of, is_assigned, is_cast, is_object_type, is_scalar,
+    is_shift, promoted, result_type, same_type,
 };
 use crate::fault::{TypeFault, no_type};
+use c_syntax::copy::copy_type;
 use c_syntax::{BinOp, BumpOp, CInt, CType, Expr, ExprKind, Place, UnOp};
 use std::alloc::{AllocError, Global};
 use std::mem::replace;
@@ -87,6 +88,8 @@ pub fn unary(alloc: Global, place: Place, op: UnOp, a: &mut Expr) -> Result<CTyp
         } else {
             Err(no_type(place))
         }
+    } else if matches!(op, UnOp::Deref | UnOp::Address) {
+        Err(no_type(place))
     } else {
         match integer_of(&a.ctype) {
             None => Err(no_type(place)),

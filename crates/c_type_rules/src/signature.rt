@@ -5,8 +5,8 @@ ghost use Rattle.c_syntax.specs.Ctypes.{plain_type};
 ghost use Rattle.c_model.specs.Typing.{function_called};
 ghost use Rattle.c_type_rules.specs.Signatures.{AreFirst, plain_signature};
 
-use crate::conversion::copy_type;
 use c_syntax::CType;
+use c_syntax::copy::copy_type;
 use indexmap::IndexMap;
 use std::alloc::{AllocError, Global};
 

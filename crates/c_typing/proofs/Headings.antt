@@ -1,14 +1,16 @@
 -- What is kept of functions tells of their names what the file does.
 use Rattle.std.proofs.Common.{◌≡◌, ℕ, refl, sym, ap, ◌∙◌, List, [], ◌∷◌, ◌++◌, map, Option, Some, None, Bool, true, false, not, ◌&&◌, ◌||◌, cond, nat_eq, arith}
 use Rattle.std.proofs.lemmas.Bool.Decides.{nat_tests}
+use Rattle.c_syntax.specs.declared.place.Place.{Place}
 use Rattle.c_syntax.specs.declared.types.CInt.{CInt}
 use Rattle.c_syntax.specs.declared.types.CInt.TheVariants.{I8, U8, I16, U16, I32, U32, I64, U64}
-use Rattle.c_syntax.specs.Ctypes.{PlainType, Void, Int}
+use Rattle.c_syntax.specs.Ctypes.{PlainType, Void, Int, Ptr, Array, Struct, Named, StructTag, EnumTag, PlainLength, Left, Written, Count}
 use Rattle.c_syntax.specs.Programs.{Function}
 use Rattle.c_model.specs.Meaning.{is_definition}
 use Rattle.c_model.specs.Library.{is_there}
-use Rattle.c_model.specs.Typing.{Signature, function_called, same_int, same_type}
+use Rattle.c_model.specs.Typing.{Signature, function_called, same_int, same_length, same_type}
 use Rattle.c_model.specs.ProgramTyping.{definition_of, first_of, number_or, offset_of, types_of, signature, same_signature, same_types, is_compatible, is_compatible_with_all}
+use Rattle.c_model.proofs.Signatures.{same_type_is}
 use Rattle.c_typing.specs.declared.heading.Callee.{Callee}
 use Rattle.c_typing.specs.declared.heading.Noted.{Noted}
 use Rattle.c_typing.specs.Functions.{denoted_by, denoted, told, was_defined, alike_with, known, is_alike, with_known, fits, declared}
@@ -194,72 +196,6 @@ module _ (all : List Function) (f : Function)
 
 -- ---- types are the same where they are equal
 
-int_equal : (k l : CInt) → same_int k l ≡ true → k ≡ l
-int_equal I8 I8 e = refl
-int_equal I8 U8 e = absurd cc
-int_equal I8 I16 e = absurd cc
-int_equal I8 U16 e = absurd cc
-int_equal I8 I32 e = absurd cc
-int_equal I8 U32 e = absurd cc
-int_equal I8 I64 e = absurd cc
-int_equal I8 U64 e = absurd cc
-int_equal U8 I8 e = absurd cc
-int_equal U8 U8 e = refl
-int_equal U8 I16 e = absurd cc
-int_equal U8 U16 e = absurd cc
-int_equal U8 I32 e = absurd cc
-int_equal U8 U32 e = absurd cc
-int_equal U8 I64 e = absurd cc
-int_equal U8 U64 e = absurd cc
-int_equal I16 I8 e = absurd cc
-int_equal I16 U8 e = absurd cc
-int_equal I16 I16 e = refl
-int_equal I16 U16 e = absurd cc
-int_equal I16 I32 e = absurd cc
-int_equal I16 U32 e = absurd cc
-int_equal I16 I64 e = absurd cc
-int_equal I16 U64 e = absurd cc
-int_equal U16 I8 e = absurd cc
-int_equal U16 U8 e = absurd cc
-int_equal U16 I16 e = absurd cc
-int_equal U16 U16 e = refl
-int_equal U16 I32 e = absurd cc
-int_equal U16 U32 e = absurd cc
-int_equal U16 I64 e = absurd cc
-int_equal U16 U64 e = absurd cc
-int_equal I32 I8 e = absurd cc
-int_equal I32 U8 e = absurd cc
-int_equal I32 I16 e = absurd cc
-int_equal I32 U16 e = absurd cc
-int_equal I32 I32 e = refl
-int_equal I32 U32 e = absurd cc
-int_equal I32 I64 e = absurd cc
-int_equal I32 U64 e = absurd cc
-int_equal U32 I8 e = absurd cc
-int_equal U32 U8 e = absurd cc
-int_equal U32 I16 e = absurd cc
-int_equal U32 U16 e = absurd cc
-int_equal U32 I32 e = absurd cc
-int_equal U32 U32 e = refl
-int_equal U32 I64 e = absurd cc
-int_equal U32 U64 e = absurd cc
-int_equal I64 I8 e = absurd cc
-int_equal I64 U8 e = absurd cc
-int_equal I64 I16 e = absurd cc
-int_equal I64 U16 e = absurd cc
-int_equal I64 I32 e = absurd cc
-int_equal I64 U32 e = absurd cc
-int_equal I64 I64 e = refl
-int_equal I64 U64 e = absurd cc
-int_equal U64 I8 e = absurd cc
-int_equal U64 U8 e = absurd cc
-int_equal U64 I16 e = absurd cc
-int_equal U64 U16 e = absurd cc
-int_equal U64 I32 e = absurd cc
-int_equal U64 U32 e = absurd cc
-int_equal U64 I64 e = absurd cc
-int_equal U64 U64 e = refl
-
 int_sym : (k l : CInt) → same_int k l ≡ same_int l k
 int_sym I8 I8 = refl
 int_sym I8 U8 = refl
@@ -326,17 +262,40 @@ int_sym U64 U32 = refl
 int_sym U64 I64 = refl
 int_sym U64 U64 = refl
 
-type_equal : (t u : PlainType) → same_type t u ≡ true → t ≡ u
-type_equal Void Void e = refl
-type_equal (Int k) (Int l) e = ap Int (int_equal k l e)
-type_equal Void (Int l) e = absurd cc
-type_equal (Int k) Void e = absurd cc
+length_sym : (n m : PlainLength) → same_length n m ≡ same_length m n
+length_sym (Count n) (Count m) = eq_sym n m
+length_sym Left Left = refl
+length_sym Left (Count m) = refl
+length_sym Left (Written e) = refl
+length_sym (Count n) Left = refl
+length_sym (Count n) (Written e) = refl
+length_sym (Written e) Left = refl
+length_sym (Written e) (Count m) = refl
+length_sym (Written e) (Written f) = refl
+
+not_named : (u : PlainType) (x : ℕ) → same_type u (Named x) ≡ false
+not_named Void x = refl
+not_named _ x = refl
+
+not_struct : (u : PlainType) (x : ℕ) → same_type u (StructTag x) ≡ false
+not_struct Void x = refl
+not_struct _ x = refl
+
+not_enum : (u : PlainType) (x : ℕ) (at : Place) → same_type u (EnumTag x at) ≡ false
+not_enum Void x at = refl
+not_enum _ x at = refl
 
 type_sym : (t u : PlainType) → same_type t u ≡ same_type u t
 type_sym Void Void = refl
 type_sym (Int k) (Int l) = int_sym k l
-type_sym Void (Int l) = refl
-type_sym (Int k) Void = refl
+type_sym (Ptr t) (Ptr u) = type_sym t u
+type_sym (Array t n) (Array u m) = (λ i. length_sym n m i && type_sym t u i)
+type_sym (Struct n) (Struct m) = eq_sym n m
+type_sym (Named x) u = sym (not_named u x)
+type_sym (StructTag x) u = sym (not_struct u x)
+type_sym (EnumTag x at) u = sym (not_enum u x at)
+type_sym _ Void = refl
+type_sym _ _ = refl
 
 and_left : (a b : Bool) → (a && b) ≡ true → a ≡ true
 and_left true b e = refl
@@ -348,7 +307,7 @@ and_right false b e = absurd cc
 
 types_equal : (ts us : List PlainType) → same_types ts us ≡ true → ts ≡ us
 types_equal [] [] e = refl
-types_equal (t ∷ ts) (u ∷ us) e = (λ i. type_equal t u (and_left (same_type t u) (same_types ts us) e) i ∷ types_equal ts us (and_right (same_type t u) (same_types ts us) e) i)
+types_equal (t ∷ ts) (u ∷ us) e = (λ i. same_type_is t u (and_left (same_type t u) (same_types ts us) e) i ∷ types_equal ts us (and_right (same_type t u) (same_types ts us) e) i)
 types_equal [] (u ∷ us) e = absurd cc
 types_equal (t ∷ ts) [] e = absurd cc
 
@@ -361,7 +320,7 @@ types_sym (t ∷ ts) [] = refl
 -- a function of g's type has that of others exactly where g has
 same_by : (g f h : Function) → same_signature g f ≡ true → same_signature h f ≡ same_signature g h
 same_by g f h e =
-    let result = type_equal g.result f.result (and_left (same_type g.result f.result) (same_types (types_of g.params) (types_of f.params)) e) in
+    let result = same_type_is g.result f.result (and_left (same_type g.result f.result) (same_types (types_of g.params) (types_of f.params)) e) in
     let params = types_equal (types_of g.params) (types_of f.params) (and_right (same_type g.result f.result) (same_types (types_of g.params) (types_of f.params)) e) in
     (λ i. same_type h.result (sym result i) && same_types (types_of h.params) (sym params i)) ∙ (λ i. type_sym h.result g.result i && types_sym (types_of h.params) (types_of g.params) i)
 

@@ -3,7 +3,7 @@ use Rattle.std.proofs.Common.{◌≡◌, refl, sym, subst, List, [], ◌∷◌, 
 use Rattle.c_syntax.specs.declared.place.Place.{Place}
 use Rattle.c_syntax.specs.Ctypes.{PlainType, Void}
 use Rattle.c_syntax.specs.Expressions.{Expression, type_of}
-use Rattle.c_syntax.specs.Statements.{Initialiser, One, Declaration, Statement, Empty, Eval, Block, If, While, Do, For, Break, Continue, Return}
+use Rattle.c_syntax.specs.Statements.{Initialiser, One, Many, Declaration, Statement, Empty, Eval, Block, If, While, Do, For, Break, Continue, Return}
 use Rattle.c_syntax.specs.Statements.{ElsePart, NoElse, Else, ForFirst, NoFirst, First, BlockItem, Declare, Run, Asserts, BlockItems, NoItem, Then}
 use Rattle.c_model.specs.Library.{is_library_name, is_there}
 use Rattle.c_model.specs.Checked.{Checked, Good, one_part, where_so}
@@ -12,7 +12,8 @@ use Rattle.c_model.specs.Typing.{with_object, typed_declaration, typed_declarati
 use Rattle.c_model.specs.WellTyped.{WellTyped}
 use Rattle.c_model.specs.WellTypedPrograms.{IsCondition, WhereAny, Initialises, IsDeclared, AreDeclared, StatementTyped, ElseTyped, FirstTyped, ItemTyped, ItemsTyped}
 use Rattle.c_type_rules.proofs.Gives.{Gives, gives_one, gives_both, gives_where}
-use Rattle.c_type_rules.proofs.WellExpressions.{and_true, not_true, same_type_is, assigned_casts, assigned_integer, in_type_well, in_type_type, typed_well}
+use Rattle.c_model.proofs.Signatures.{same_type_is}
+use Rattle.c_type_rules.proofs.WellExpressions.{and_true, not_true, assigned_casts, assigned_integer, in_type_well, in_type_type, typed_well}
 
 condition_well : (s : Scopes) (e : Expression) → Gives (IsCondition s) (typed_condition s e)
 condition_well s e = gives_one (WellTyped s) (IsCondition s) (typed s e) condition (typed_well s e) (λ e w. gives_where (IsCondition s) (is_scalar (type_of e)) _ _ (λ t. record { typed = w; scalar = t }))
@@ -26,6 +27,7 @@ initialiser_well s t None = tt
 initialiser_well s t (Some (at, One e)) =
     gives_one (WellTyped s) (Initialises s t) (typed s e) (λ e. where_so (is_assigned (type_of e) t) (no_type at) (Good (Some (at, One (in_type t e))))) (typed_well s e)
     (λ e w. gives_where (Initialises s t) (is_assigned (type_of e) t) _ _ (λ c. (in_type_well s t e w (assigned_casts t (type_of e) c), in_type_type t e)))
+initialiser_well s t (Some (at, Many brace is)) = tt
 
 -- a name that is new in its scope, of an object type
 pub record IsNew (s : Scopes) (d : Declaration) (e : Declaration) : Type 0 where

@@ -9,8 +9,8 @@ ghost use Rattle.c_type_rules.specs.Answers.{Answers};
 ghost use Rattle.c_type_rules.specs.Scopes.{plain_scopes};
 ghost use Rattle.c_typing.specs.Trees.{plain_link};
 
+use c_syntax::copy::copy_type;
 use c_syntax::{Annot, Body, CType, Link, Pred, PredKind, Term, TermKind, Use};
-use c_type_rules::conversion::copy_type;
 use c_type_rules::fault::{TypeFault, both, no_name};
 use c_type_rules::library::library_constant;
 use c_type_rules::scope::{Scopes, name_at, object_named};

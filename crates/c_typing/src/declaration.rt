@@ -9,8 +9,9 @@ ghost use Rattle.c_type_rules.specs.Scopes.{plain_scopes};
 ghost use Rattle.c_typing.specs.Scopes.{at_file};
 ghost use Rattle.c_typing.specs.Trees.{plain_initialiser};
 
+use c_syntax::copy::copy_type;
 use c_syntax::{CType, Decl, Init, Place};
-use c_type_rules::conversion::{copy_type, is_assigned, is_object_type};
+use c_type_rules::conversion::{is_assigned, is_object_type};
 use c_type_rules::expression::type_expr;
 use c_type_rules::fault::{TypeFault, both, no_name, no_type};
 use c_type_rules::library::is_library_name;
@@ -38,6 +39,7 @@ fn type_init(
             in_type(alloc, ctype, e)?;
             Ok(())
         }
+        Init::Many(..) => Err(no_type(place)),
     }
 }
 

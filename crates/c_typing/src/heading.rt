@@ -14,8 +14,9 @@ ghost use Rattle.c_type_rules.specs.Signatures.{plain_signature};
 ghost use Rattle.c_typing.specs.Functions.{checked_heading, declared, denoted, fits, has_type, is_alike};
 ghost use Rattle.c_typing.specs.Functions.{tells_more, was_defined, with_function, with_known, with_told};
 
+use c_syntax::copy::copy_type;
 use c_syntax::{CType, Decl, Func};
-use c_type_rules::conversion::{copy_type, same_type};
+use c_type_rules::conversion::same_type;
 use c_type_rules::fault::{TypeFault, no_name};
 use c_type_rules::library::is_library_name;
 use c_type_rules::scope::{Scopes, name_at};

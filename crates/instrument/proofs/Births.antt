@@ -31,8 +31,8 @@ use Rattle.instrument.proofs.Following.{Later, later_same, later_trans}
 use Rattle.c_model.proofs.Blocks.{slice_get-slice_set_other}
 
 abbrev pub int_of : PlainType → CInt
-int_of Void = I32
 int_of (Int k) = k
+int_of _ = I32
 
 -- the variables that live after the births of these, whose blocks have the indices from n on
 abbrev pub slot_for : ℕ → Declaration → Slot

@@ -6,7 +6,7 @@ use Rattle.c_syntax.specs.declared.expression.UnOp.{UnOp}
 use Rattle.c_syntax.specs.declared.expression.UnOp.TheVariants as prefix
 use Rattle.c_syntax.specs.declared.expression.BinOp.{BinOp}
 use Rattle.c_syntax.specs.declared.expression.BinOp.TheVariants as operator
-use Rattle.c_syntax.specs.Ctypes.{PlainType, Void, Int, int_type}
+use Rattle.c_syntax.specs.Ctypes.{PlainType, Int, int_type}
 use Rattle.c_model.specs.Integers.{fits, size_of, operate, operate_in, operate_one, operate_one_in}
 use Rattle.c_model.specs.Conversions.{promoted, is_shift}
 use Rattle.c_model.specs.Laws.{type_of_result, type_of_one}
@@ -19,22 +19,21 @@ pub record HasInt (t : PlainType) : Type 0 where
   pub is : t ≡ Int int
 
 pub scalar_int : (t : PlainType) → is_scalar t ≡ true → HasInt t
-scalar_int Void e = absurd cc
 scalar_int (Int k) e = record { int = k; is = refl }
+scalar_int _ e = absurd cc
 
 pub integer_int : (t : PlainType) → IsInteger t → HasInt t
-integer_int Void e = absurd e
 integer_int (Int k) e = record { int = k; is = refl }
+integer_int _ e = absurd e
 
 pub same_int_type : (k l : CInt) → Int k ≡ Int l → k ≡ l
 same_int_type k l e = cc
 
 pub cast_int : (to u : PlainType) (k : CInt) → to ≡ Int k → CastTypes to u → HasInt u
-cast_int Void u k e h = absurd cc
 cast_int (Int l) u k e h = integer_int u h
+cast_int _ u k e h = absurd cc
 
 pub size_fits : (t : PlainType) → fits U64 (pos (size_of t)) ≡ true
-size_fits Void = refl
 size_fits (Int I8) = refl
 size_fits (Int U8) = refl
 size_fits (Int I16) = refl
@@ -43,6 +42,7 @@ size_fits (Int I32) = refl
 size_fits (Int U32) = refl
 size_fits (Int I64) = refl
 size_fits (Int U64) = refl
+size_fits _ = refl
 
 -- ---- prefix operators
 
@@ -64,6 +64,8 @@ pub unary_at : (op : UnOp) (t u : PlainType) (k : CInt) → UnaryTypes op t u �
 unary_at prefix.Plus t u k h e = promoted_unary prefix.Plus t u k (λ l. refl) e h.0
 unary_at prefix.Minus t u k h e = promoted_unary prefix.Minus t u k (λ l. refl) e h.0
 unary_at prefix.Flip t u k h e = promoted_unary prefix.Flip t u k (λ l. refl) e h.0
+unary_at prefix.Deref t u k h e = absurd h
+unary_at prefix.Address t u k h e = absurd h
 unary_at prefix.Not t u k h e =
     let i = scalar_int u h.1 in
     record {

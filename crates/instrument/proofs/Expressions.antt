@@ -11,7 +11,7 @@ use Rattle.c_syntax.specs.declared.expression.Use.{Use}
 use Rattle.c_syntax.specs.declared.expression.UnOp.{UnOp}
 use Rattle.c_syntax.specs.declared.expression.BinOp.{BinOp}
 use Rattle.c_syntax.specs.Ctypes.{PlainType, Int}
-use Rattle.c_syntax.specs.Expressions.{Expression, Node, Number, Letter, Variable, Unary, Binary, Both, Either, Choice, Assign, Bump, Call, Cast, SizeOfType, SizeOfExpr, type_of}
+use Rattle.c_syntax.specs.Expressions.{Expression, Node, Number, Letter, Variable, Unary, Binary, Both, Either, Choice, Assign, Bump, Call, Cast, SizeOfType, SizeOfExpr, Text, Index, Dot, Arrow, Comma, type_of}
 use Rattle.c_model.specs.Integers.{fits, convert, truth, size_of, operate, operate_one}
 use Rattle.c_model.specs.Memory.{Value, Integer, Into}
 use Rattle.c_model.specs.State.{State, Outcome, Normal, Stop, Evaluation, on_outcome, ◌>>=◌, give, defined, read}
@@ -285,6 +285,11 @@ module _ (w : Setting) (n : ℕ) (slots : List Slot) (scopes : Scopes) (sight : 
   evaluates (Node at t (SizeOfExpr a)) k rs int p q l behind enough regs h =
       constant w n now target k (Normal (Integer (pos (size_of (type_of a)))) now) regs (length rs) (length (rs ++ [])) kind.U64 (pos (size_of (type_of a))) (subst (λ i. fits i (pos (size_of (type_of a))) ≡ true) (same_int_type U64 k (sym q.1 ∙ int))
       (size_fits (type_of a))) refl
+  evaluates (Node at t (Text n)) k rs int p q l behind enough regs h = absurd p
+  evaluates (Node at t (Index a b)) k rs int p q l behind enough regs h = absurd p
+  evaluates (Node at t (Dot a m)) k rs int p q l behind enough regs h = absurd p
+  evaluates (Node at t (Arrow a m)) k rs int p q l behind enough regs h = absurd p
+  evaluates (Node at t (Comma a b)) k rs int p q l behind enough regs h = absurd p
   evaluates (Node at t (Assign op a b)) k rs int p q l behind enough regs h = absurd p
   evaluates (Node at t (Bump op a)) k rs int p q l behind enough regs h = absurd p
   evaluates (Node at t (Call f args)) k rs int p q l behind enough regs h = absurd p

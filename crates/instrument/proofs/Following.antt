@@ -44,6 +44,7 @@ IsResult Void None = Unit {0}
 IsResult Void (Some z) = ⊥
 IsResult (Int k) None = ⊥
 IsResult (Int k) (Some z) = fits k z ≡ true
+IsResult _ z = ⊥
 
 -- From a state, the target's statements did what the source's did, where the source goes on, leaves a loop or its body, returns, or is
 -- over. Where it leaves a loop, the blocks of the variables born inside are dead in the target, and those of all variables where it

@@ -115,7 +115,7 @@ module _ (w : Setting) (s from : State) (store : w.outside ≡ s.store) (active 
 
       by : (k : PlainType) → Called s k (restored s (at_close f.close k to)) (ended q)
       by Void = calls.Gives None (Whole (pos 0)) (back_to s to) (left_frame over_blocks dead.to) o tt tt (came_back to regs o m l) (even_there to regs o m l dead.to dead.beside) refl target_is
-      by (Int k) = HasNoMeaning f.close (back_to s to) o refl (l.output ∙ ap (λ x. x ++ o) output) (record { rest = []; is = ap written target_is ∙ sym (append-nil o) })
+      by _ = HasNoMeaning f.close (back_to s to) o refl (l.output ∙ ap (λ x. x ++ o) output) (record { rest = []; is = ap written target_is ∙ sym (append-nil o) })
   function_ends r q (Breaks to regs t o i m b l e g) = absurd cc
   function_ends r q (Continues to regs t o i m b l e g) = absurd cc
   function_ends r q (IsLeft None to regs t o i m b l e g) =

@@ -160,8 +160,8 @@ AreObjects [] = Unit {0}
 AreObjects (d ∷ ds) = IsObject d × AreObjects ds
 
 object_int : (t : PlainType) → is_object_type t ≡ true → t ≡ Int (int_of t)
-object_int Void e = absurd cc
 object_int (Int k) e = refl
+object_int _ e = absurd cc
 
 objects_behind : (a b : List Declaration) → AreObjects a → AreObjects b → AreObjects (a ++ b)
 objects_behind [] b h k = k

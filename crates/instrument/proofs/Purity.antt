@@ -1,7 +1,7 @@
 -- Expressions without effects leave the state of the source as it is.
 use Rattle.std.proofs.Common.{◌≡◌, pos, Bool, true, false, cond, Option, Some, None, refl, ap, ◌∙◌}
 use Rattle.c_syntax.specs.declared.place.Place.{Place}
-use Rattle.c_syntax.specs.Expressions.{Expression, Node, Number, Letter, Variable, Unary, Binary, Both, Either, Choice, Assign, Bump, Call, Cast, SizeOfType, SizeOfExpr}
+use Rattle.c_syntax.specs.Expressions.{Expression, Node, Number, Letter, Variable, Unary, Binary, Both, Either, Choice, Assign, Bump, Call, Cast, SizeOfType, SizeOfExpr, Text, Index, Dot, Arrow, Comma}
 use Rattle.c_model.specs.Memory.{Value, Integer, load}
 use Rattle.c_model.specs.State.{State, Outcome, Normal, Stop, Over, Undefined, Evaluation, on_outcome, ◌>>=◌, give, defined, object, read, find, start_of}
 use Rattle.c_model.specs.Meaning.{Callee, eval_with, is_zero, choose, truth_value, operate_value, operate_values, converted}
@@ -54,6 +54,11 @@ pure_is_quiet (Node at t (Choice a b c)) call s p =
 pure_is_quiet (Node at t (Cast to a)) call s p = quiet_then s (eval_with a call s) (λ x. give (converted to x)) (pure_is_quiet a call s p) (λ x. Gives (converted to x) refl)
 pure_is_quiet (Node at t (SizeOfType u)) call s p = Gives _ refl
 pure_is_quiet (Node at t (SizeOfExpr a)) call s p = Gives _ refl
+pure_is_quiet (Node at t (Text n)) call s p = absurd p
+pure_is_quiet (Node at t (Index a b)) call s p = absurd p
+pure_is_quiet (Node at t (Dot a m)) call s p = absurd p
+pure_is_quiet (Node at t (Arrow a m)) call s p = absurd p
+pure_is_quiet (Node at t (Comma a b)) call s p = absurd p
 pure_is_quiet (Node at t (Assign op a b)) call s p = absurd p
 pure_is_quiet (Node at t (Bump op a)) call s p = absurd p
 pure_is_quiet (Node at t (Call f args)) call s p = absurd p

@@ -6,7 +6,7 @@ use Rattle.c_syntax.specs.declared.expression.Use.{Use}
 use Rattle.c_syntax.specs.Ctypes.{PlainType}
 use Rattle.c_syntax.specs.Annotations.{Annotation}
 use Rattle.c_syntax.specs.Expressions.{Expression, Expressions, Node, Call, type_of}
-use Rattle.c_syntax.specs.Statements.{Initialiser, One, Declaration, Statement, Empty, Eval, Block, If, While, Do, For, Break, Continue, Return, ElsePart, NoElse, Else, ForFirst, NoFirst, First, Declare, Run, Asserts, BlockItems, NoItem, Then}
+use Rattle.c_syntax.specs.Statements.{Initialiser, One, Many, Declaration, Statement, Empty, Eval, Block, If, While, Do, For, Break, Continue, Return, ElsePart, NoElse, Else, ForFirst, NoFirst, First, Declare, Run, Asserts, BlockItems, NoItem, Then}
 use Rattle.c_syntax.specs.Programs.{TranslationUnit}
 use Rattle.c_model.specs.Memory.{Integer}
 use Rattle.c_model.specs.State.{State, Leaves, Returns, Outcome, Normal, Stop, Evaluation, on_outcome, ◌>>◌, stop, births, within, restored}
@@ -262,6 +262,7 @@ module _ (p : TranslationUnit) (w : Setting) (n most : ℕ) (names : List (List 
       by regs from t m le None room i j k go = absurd i
       by regs from t m le (Some (at, One e)) room i j k go =
           initial_follows p w n h s (scene_of h.slots s g) from t m.ready le rs behind regs m.related m.beside d at e x.0.slot (initialise_all ds w.call >> rest) after_it x.0.found x.0.ctype i.is j.0 j.1 k room go
+      by regs from t m le (Some (at, Many brace is)) room i j k go = absurd i
 
   -- ---- blocks
 

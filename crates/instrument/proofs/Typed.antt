@@ -14,7 +14,7 @@ use Rattle.c_syntax.specs.declared.expression.BinOp.TheVariants as operator
 use Rattle.c_syntax.specs.declared.annotation.Relation.{Relation}
 use Rattle.c_syntax.specs.declared.annotation.Relation.TheVariants as relation
 use Rattle.c_syntax.specs.Ctypes.{PlainType, Void, Int}
-use Rattle.c_syntax.specs.Expressions.{Expression, Node, Number, Letter, Variable, Unary, Binary, Both, Either, Choice, Assign, Bump, Call, Cast, SizeOfType, SizeOfExpr, type_of}
+use Rattle.c_syntax.specs.Expressions.{Expression, Node, Number, Letter, Variable, Unary, Binary, Both, Either, Choice, Assign, Bump, Call, Cast, SizeOfType, SizeOfExpr, Text, Index, Dot, Arrow, Comma, type_of}
 use Rattle.c_syntax.specs.Annotations as logic
 use Rattle.c_syntax.specs.Annotations.{LogicTerm, NoLink, Linked, ClauseBody, Truth, Chain, Annotation}
 use Rattle.c_model.specs.Integers.{fits, size_of, width, is_signed}
@@ -68,7 +68,6 @@ letter_number : (z : ℤ) → IsLetter z → IsLogicNumber z
 letter_number z l = record { low = omega (arith, ints, l.low); high = omega (arith, ints, l.high) }
 
 pub size_constant : (t : PlainType) → has_constant U64 (pos (size_of t)) ≡ true
-size_constant Void = refl
 size_constant (Int c.I8) = refl
 size_constant (Int c.U8) = refl
 size_constant (Int c.I16) = refl
@@ -77,6 +76,7 @@ size_constant (Int c.I32) = refl
 size_constant (Int c.U32) = refl
 size_constant (Int c.I64) = refl
 size_constant (Int c.U64) = refl
+size_constant _ = refl
 
 zero_constant : (t : MonType) → has_constant (operand_type t) (pos 0) ≡ true
 zero_constant I8 = refl
@@ -127,8 +127,8 @@ register_whole c.I64 = refl
 register_whole c.U64 = refl
 
 pub value_whole : (t : PlainType) → is_whole (value_type t) ≡ true
-value_whole Void = refl
 value_whole (Int k) = register_whole k
+value_whole _ = refl
 
 result_whole : (op : MonOp) (k : CInt) → is_whole (result_type op (register_type k)) ≡ true
 result_whole op k = by (is_relation op)
@@ -218,12 +218,19 @@ some_nodes (Node at t (Call f es)) = omega arith
 some_nodes (Node at t (Cast to a)) = omega arith
 some_nodes (Node at t (SizeOfType u)) = omega arith
 some_nodes (Node at t (SizeOfExpr a)) = omega arith
+some_nodes (Node at t (Text n)) = omega arith
+some_nodes (Node at t (Index a b)) = omega arith
+some_nodes (Node at t (Dot a m)) = omega arith
+some_nodes (Node at t (Arrow a m)) = omega arith
+some_nodes (Node at t (Comma a b)) = omega arith
 
 parens_unary : (op : UnOp) (t : MonType) (e : MonExpression) (n : ℕ) → open_parens e ≤ n → 1 ≤ n → open_parens (unary op t e) ≤ n + 2
 parens_unary prefix.Plus t e n le one = omega (arith, le)
 parens_unary prefix.Minus t e n le one = omega (arith, le)
 parens_unary prefix.Not t e n le one = parens_compared mon.Eq t e n le one
 parens_unary prefix.Flip t e n le one = omega (arith, le)
+parens_unary prefix.Deref t e n le one = omega (arith, le)
+parens_unary prefix.Address t e n le one = omega (arith, le)
 
 pub parens_compound : (op : BinOp) (m t u : MonType) (a b : MonExpression) (n : ℕ) → open_parens a ≤ n → open_parens b ≤ n → 1 ≤ n → open_parens (compound_in op m t u a b) ≤ n + 3
 parens_compound op m t u a b n la lb one =
@@ -261,6 +268,11 @@ few_parens numbers rs (Node at t (Cast to a)) =
     omega (arith, s, one)
 few_parens numbers rs (Node at t (SizeOfType u)) = omega arith
 few_parens numbers rs (Node at t (SizeOfExpr a)) = omega arith
+few_parens numbers rs (Node at t (Text n)) = omega arith
+few_parens numbers rs (Node at t (Index a b)) = omega arith
+few_parens numbers rs (Node at t (Dot a m)) = omega arith
+few_parens numbers rs (Node at t (Arrow a m)) = omega arith
+few_parens numbers rs (Node at t (Comma a b)) = omega arith
 few_parens numbers rs (Node at t (Assign op a b)) = omega arith
 few_parens numbers rs (Node at t (Bump op a)) = omega arith
 few_parens numbers rs (Node at t (Call f es)) = omega arith
@@ -326,6 +338,8 @@ module _ (ts : Types) where
   unary_typed prefix.Flip t u k e h int g =
       let u_int : u ≡ Int k = sym h.0 ∙ int in
       (ap value_type u_int, ap (λ x. is_arithmetic (value_type x)) h.1.is ∙ promoted_computes h.1.int, subst (HasType ts e) (ap value_type (sym u_int)) (g k u_int))
+  unary_typed prefix.Deref t u k e h int g = absurd h
+  unary_typed prefix.Address t u k e h int g = absurd h
   unary_typed prefix.Not t u k e h int g =
       let i = scalar_int u h.1 in
       subst (λ l. HasType ts (compared mon.Eq (value_type u) e) (register_type l)) (same_int_type c.I32 k (sym h.0 ∙ int))
@@ -395,6 +409,11 @@ module _ (ts : Types) where
         (in_typed (value_type (type_of a)) (value_type to) (value numbers rs a) (value_whole (type_of a)) (value_whole to) (subst (HasType ts (value numbers rs a)) (ap value_type (sym from.is)) (typed a from.int rs from.is p q.0 l b)))
     typed (Node at t (SizeOfType u)) k rs int p q l b = (ap register_type (same_int_type c.U64 k (sym q.0 ∙ int)), size_constant u)
     typed (Node at t (SizeOfExpr a)) k rs int p q l b = (ap register_type (same_int_type c.U64 k (sym q.1 ∙ int)), size_constant (type_of a))
+    typed (Node at t (Text n)) k rs int p q l b = absurd p
+    typed (Node at t (Index a c)) k rs int p q l b = absurd p
+    typed (Node at t (Dot a m)) k rs int p q l b = absurd p
+    typed (Node at t (Arrow a m)) k rs int p q l b = absurd p
+    typed (Node at t (Comma a c)) k rs int p q l b = absurd p
     typed (Node at t (Assign op x y)) k rs int p q l b = absurd p
     typed (Node at t (Bump op a)) k rs int p q l b = absurd p
     typed (Node at t (Call f es)) k rs int p q l b = absurd p

@@ -8,7 +8,7 @@ use Rattle.c_syntax.specs.declared.expression.BinOp.{BinOp}
 use Rattle.c_syntax.specs.declared.expression.Use.{Use}
 use Rattle.c_syntax.specs.Ctypes.{PlainType, Int, int_type}
 use Rattle.c_syntax.specs.Expressions.{Expression, Node, Variable, Assign, Bump, Call, Cast, Expressions, NoExpression, Following, type_of}
-use Rattle.c_syntax.specs.Statements.{Initialiser, One}
+use Rattle.c_syntax.specs.Statements.{Initialiser, One, Many}
 use Rattle.c_syntax.specs.Programs.{TranslationUnit}
 use Rattle.c_model.specs.Meaning.{bump_operator, is_of_library}
 use Rattle.c_model.specs.Conversions.{operation_type}
@@ -119,6 +119,7 @@ module _ (p : TranslationUnit) (numbers : List ℕ) where
   pub deep_initialise : (rs : List MonType) (x : ℕ) (o : Option (Place × Initialiser)) → IsInitialiser 800 o → depth_of_all (initialise p numbers rs x o) ≤ 801
   deep_initialise rs x None f = absurd f
   deep_initialise rs x (Some (at, One e)) f = let s = f.small in deep_behind_full rs e (tree.Set (register_of numbers x) (full_value numbers rs e)) 801 (omega (arith, s)) (omega arith)
+  deep_initialise rs x (Some (at, Many brace is)) f = absurd f
 
 -- ---- they are valid
 
@@ -233,3 +234,4 @@ module _ (p : TranslationUnit) (gs : List Signature) (ts : Types) (result : Opti
       → InitialHasLetters o → Begins (rs ++ initial_temporaries o) ts → Are (initialise p numbers rs x o)
   initialise_valid x t k None rs int reg f q l b = absurd f
   initialise_valid x t k (Some (at, One e)) rs int reg f q l b = assigned_valid (register_of numbers x) e k rs reg (q.1 ∙ int) f.is q.0 l f.small b
+  initialise_valid x t k (Some (at, Many brace is)) rs int reg f q l b = absurd f

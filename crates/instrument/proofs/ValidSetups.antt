@@ -3,7 +3,7 @@ use Rattle.std.proofs.Common.{◌≡◌, ℕ, suc, ◌+◌, ◌≤◌, pos, Bool
 use Rattle.std.proofs.Math.Nat.{max-le, le-max_left, le-max_right}
 use Rattle.c_syntax.specs.declared.types.CInt.{CInt}
 use Rattle.c_syntax.specs.Ctypes.{Int}
-use Rattle.c_syntax.specs.Expressions.{Expression, Node, Number, Letter, Variable, Unary, Binary, Both, Either, Choice, Assign, Bump, Call, Cast, SizeOfType, SizeOfExpr, type_of}
+use Rattle.c_syntax.specs.Expressions.{Expression, Node, Number, Letter, Variable, Unary, Binary, Both, Either, Choice, Assign, Bump, Call, Cast, SizeOfType, SizeOfExpr, Text, Index, Dot, Arrow, Comma, type_of}
 use Rattle.c_model.specs.Typing.{Scopes}
 use Rattle.c_model.specs.WellTyped.{WellTyped}
 use Rattle.c_model.specs.Formed.{IsPure, nodes_of}
@@ -99,6 +99,11 @@ deep_setup numbers rs (Node at t (Letter z)) = omega arith
 deep_setup numbers rs (Node at t (Variable x)) = omega arith
 deep_setup numbers rs (Node at t (SizeOfType u)) = omega arith
 deep_setup numbers rs (Node at t (SizeOfExpr a)) = omega arith
+deep_setup numbers rs (Node at t (Text n)) = omega arith
+deep_setup numbers rs (Node at t (Index a b)) = omega arith
+deep_setup numbers rs (Node at t (Dot a m)) = omega arith
+deep_setup numbers rs (Node at t (Arrow a m)) = omega arith
+deep_setup numbers rs (Node at t (Comma a b)) = omega arith
 deep_setup numbers rs (Node at t (Assign op a b)) = omega arith
 deep_setup numbers rs (Node at t (Bump op a)) = omega arith
 deep_setup numbers rs (Node at t (Call f es)) = omega arith
@@ -213,6 +218,11 @@ module _ (gs : List Signature) (ts : Types) (result : Option MonType) (numbers :
   setup_valid (Node at t (Variable x)) k rs int p q l few b = tt
   setup_valid (Node at t (SizeOfType u)) k rs int p q l few b = tt
   setup_valid (Node at t (SizeOfExpr a)) k rs int p q l few b = tt
+  setup_valid (Node at t (Text n)) k rs int p q l few b = absurd p
+  setup_valid (Node at t (Index a c)) k rs int p q l few b = absurd p
+  setup_valid (Node at t (Dot a m)) k rs int p q l few b = absurd p
+  setup_valid (Node at t (Arrow a m)) k rs int p q l few b = absurd p
+  setup_valid (Node at t (Comma a c)) k rs int p q l few b = absurd p
   setup_valid (Node at t (Assign op x y)) k rs int p q l few b = absurd p
   setup_valid (Node at t (Bump op a)) k rs int p q l few b = absurd p
   setup_valid (Node at t (Call f es)) k rs int p q l few b = absurd p

@@ -97,6 +97,8 @@ unary_is k prefix.Minus e regs x v f h g =
 unary_is k prefix.Not e regs x v f h g = equals_zero k e regs x f g ∙ ap (λ o. bind o (λ i. Some (Whole i))) h
 unary_is k prefix.Flip e regs x v f h g =
     ap (λ q. bind q (λ x. bind (integer_of x) (λ i. Some (Whole (flipped (register_type k) i))))) g ∙ ap (λ i. Some (Whole i)) (flips k x v h)
+unary_is k prefix.Deref e regs x v f h g = absurd cc
+unary_is k prefix.Address e regs x v f h g = absurd cc
 
 -- ---- operators
 

@@ -3,7 +3,7 @@
 -- its block of memory, which is born and dies where the variable's does.
 use Rattle.std.specs.Prelude.{ℕ, suc, ◌+◌, List, [], ◌∷◌, ◌++◌, length, take, map, Option, Some, None, if◌then◌else◌, nat_eq, codes, bytes_eq}
 use Rattle.std.specs.Fmt.{decimal}
-use Rattle.c_syntax.specs.Ctypes.{PlainType, Void, Int}
+use Rattle.c_syntax.specs.Ctypes.{PlainType, Int}
 use Rattle.c_syntax.specs.Expressions.{Expression}
 use Rattle.c_syntax.specs.Statements as source_statement
 use Rattle.c_syntax.specs.Statements.{Declaration, Statement, ElsePart, NoElse, Else, ForFirst, NoFirst, First, BlockItem, Declare, Run, Asserts, BlockItems}
@@ -231,8 +231,8 @@ registers_of names f =
 -- ---- programs
 
 abbrev pub result_of : PlainType → Option MonType
-result_of Void = None
 result_of (Int k) = Some (register_type k)
+result_of _ = None
 
 -- the definition with the index k, where `main` has this index
 abbrev pub function_of : TranslationUnit → ℕ → ℕ → Function → MonFunction

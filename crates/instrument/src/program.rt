@@ -54,8 +54,8 @@ fn result_of(t: &CType) -> Option<MonType>
     ensures { result ≡ result_of (plain_type t.now) }
 {
     match t {
-        CType::Void => None,
         CType::Int(k) => Some(register_type(*k)),
+        _ => None,
     }
 }
 

@@ -15,11 +15,11 @@ pub fn size_constant(alloc: Global, t: &CType) -> Result<MonExpr, AllocError>
     ensures { IfOk result (λ e. plain_expr e ≡ Constant U64 (pos (size_of (plain_type t.now)))) }
 {
     let size = match t {
-        CType::Void => 0,
         CType::Int(CInt::I8 | CInt::U8) => 1,
         CType::Int(CInt::I16 | CInt::U16) => 2,
         CType::Int(CInt::I32 | CInt::U32) => 4,
         CType::Int(CInt::I64 | CInt::U64) => 8,
+        _ => 0,
     };
     MonExpr::new(alloc, MonExprKind::Constant(MonType::U64, size))
 }

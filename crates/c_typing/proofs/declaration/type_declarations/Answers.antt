@@ -1,7 +1,7 @@
-use Rattle.std.proofs.Common.{◌<◌, ◌+◌, rules, map, ◌∙◌, arith, drop, length, slice_set, take}
+use Rattle.std.proofs.Common.{◌<◌, ◌+◌, rules, map, ◌∙◌, ◌≡◌, Err, arith, drop, length, slice_set, take}
 use Rattle.c_syntax.specs.Statements.{plain_decl}
 use Rattle.c_type_rules.specs.Scopes.{plain_scopes}
-use Rattle.c_typing.proofs.Declarations.{declarations_more, objects_more}
+use Rattle.c_typing.proofs.Declarations.{declarations_more, declarations_refused, objects_more}
 use Rattle.c_type_rules.proofs.InPlace.{done, left, unvisited_step, within_step}
 use Rattle.c_typing.proofs.declaration.type_declarations.Goals as goal
 
@@ -25,3 +25,15 @@ loop-i-preserved c =
       sight = objects_more s t t' (take i cur) (take (i + 1) (slice_set cur i y)) y c.in_ok-declare.ensures.seen next c.loop-i.invariant.sight;
       file = c.declare.ensures.file ∙ c.loop-i.invariant.file;
     }
+
+pub returns-in_err-type_declaration-clause-typed : goal.returns-in_err-type_declaration-clause-typed
+returns-in_err-type_declaration-clause-typed c =
+    let e : c.from_residual.result ≡ Err c.in_err-type_declaration.field-0.0 = search rules in
+    let old = c.args.list.now.items in
+    let cur = c.loop-i.list.items in
+    let i = c.loop-i.i in
+    let x = c.index_mut-d.result.now in
+    let lt : i < length cur = search (rules, arith) in
+    let whole = declarations_refused (λ (u : Unit {0}). plain_decl c.type_declaration.new.d) (λ (u : Unit {0}). map plain_decl old) (plain_scopes c.args.scopes.now) (plain_scopes c.loop-i.scopes) (take i cur) (map plain_decl old) (drop i old) x
+    (drop (i + 1) old) c.in_err-type_declaration.field-0.0 c.loop-i.invariant.typed (left old cur i x lt c.loop-i.invariant.unvisited c.index_mut-d.ensures.value) c.in_err-type_declaration.ensures in
+    search (rules, e, whole)
