@@ -15,7 +15,7 @@ use Rattle.c_syntax.specs.Expressions as source
 use Rattle.c_syntax.specs.Expressions.{Expression, Node, type_of}
 use Rattle.c_syntax.specs.Annotations as logic
 use Rattle.c_syntax.specs.Annotations.{LogicTerm, Predicate, Chain, Links, NoLink, Linked, ClauseBody, Truth, Annotation}
-use Rattle.c_model.specs.Integers.{size_of}
+use Rattle.c_model.specs.Layouts.{size_of}
 use Rattle.c_model.specs.Conversions.{operation_type}
 use Rattle.mon_syntax.specs.declared.tree.MonOp.{MonOp}
 use Rattle.mon_syntax.specs.declared.tree.MonOp.TheVariants.{Add, Sub, Mul, Div, Rem, Shl, Shr, And, Or, Xor, Eq, Ne, Lt, Le, Gt, Ge}
@@ -152,8 +152,8 @@ value numbers rs (Node at t (source.Both a b)) = Register (length (rs ++ tempora
 value numbers rs (Node at t (source.Either a b)) = Register (length (rs ++ temporaries a ++ temporaries b))
 value numbers rs (Node at t (source.Choice a b c)) = Register (length (rs ++ temporaries a ++ temporaries b ++ temporaries c))
 value numbers rs (Node at t (source.Cast to a)) = in_type (value_type (type_of a)) (value_type to) (value numbers rs a)
-value numbers rs (Node at t (source.SizeOfType u)) = Constant U64 (pos (size_of u))
-value numbers rs (Node at t (source.SizeOfExpr a)) = Constant U64 (pos (size_of (type_of a)))
+value numbers rs (Node at t (source.SizeOfType u)) = Constant U64 (pos (size_of [] u))
+value numbers rs (Node at t (source.SizeOfExpr a)) = Constant U64 (pos (size_of [] (type_of a)))
 -- these stand in no other expression
 value numbers rs (Node at t (source.Assign op a b)) = Constant I32 (pos 0)
 value numbers rs (Node at t (source.Bump op a)) = Constant I32 (pos 0)

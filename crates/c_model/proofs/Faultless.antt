@@ -5,32 +5,38 @@ use Rattle.std.specs.Prelude.{option_map}
 use Rattle.c_syntax.specs.declared.place.Place.{Place}
 use Rattle.c_syntax.specs.declared.expression.Use.{Use}
 use Rattle.c_syntax.specs.declared.expression.UnOp.{UnOp}
+use Rattle.c_syntax.specs.declared.expression.UnOp.TheVariants as unary
 use Rattle.c_syntax.specs.declared.expression.BinOp.{BinOp}
 use Rattle.c_syntax.specs.declared.expression.BumpOp.{BumpOp}
 use Rattle.c_syntax.specs.declared.expression.BumpOp.TheVariants.{PreUp, PreDown, PostUp, PostDown}
 use Rattle.c_syntax.specs.declared.types.CInt.{CInt}
 use Rattle.c_syntax.specs.declared.types.Segment.{Segment}
 use Rattle.c_syntax.specs.declared.types.Segment.TheVariants.{Frames}
-use Rattle.c_syntax.specs.Ctypes.{PlainType, Void, Int, int_type}
+use Rattle.c_syntax.specs.Ctypes.{PlainType, Void, Int, Ptr, Array, Struct, Named, StructTag, EnumTag, int_type}
 use Rattle.c_syntax.specs.Annotations.{Annotation}
-use Rattle.c_syntax.specs.Expressions.{Expression, Node, Number, Letter, Variable, Unary, Binary, Both, Either, Choice, Assign, Bump, Call, Cast, SizeOfType, SizeOfExpr, Text, Index, Dot, Arrow, Comma, Expressions, NoExpression, Following, type_of}
-use Rattle.c_syntax.specs.Statements.{Initialiser, One, Many, Declaration, Statement, Empty, Eval, Block, If, While, Do, For, Break, Continue}
-use Rattle.c_syntax.specs.Statements.{Return, ElsePart, NoElse, Else, ForFirst, NoFirst, First, BlockItem, Declare, Run, Asserts, BlockItems, NoItem}
+use Rattle.c_syntax.specs.Expressions.{Expression, Node, Number, Letter, Variable, Unary, Binary, Both, Either, Choice, Assign, Bump, Call, Cast, SizeOfType, SizeOfExpr, Text, Index, Dot, Arrow, Comma, Expressions, NoExpression, Following, place_of}
+use Rattle.c_syntax.specs.Expressions.{type_of}
+use Rattle.c_syntax.specs.Statements.{Initialiser, One, Many, Declaration, Statement, Empty, Eval, Block, If, While, Do, For, Break, Continue, Return, ElsePart, NoElse, Else, ForFirst, NoFirst, First, BlockItem, Declare, Run, Asserts, BlockItems}
+use Rattle.c_syntax.specs.Statements.{NoItem}
 use Rattle.c_syntax.specs.Statements.{Then}
-use Rattle.c_syntax.specs.Programs.{Function, TranslationUnit}
-use Rattle.c_model.specs.Integers.{size_of, value_of_bits, operate, operate_one, byte_of}
+use Rattle.c_syntax.specs.Programs.{StructType, Function, TranslationUnit}
+use Rattle.c_model.specs.Integers.{value_of_bits, truth, operate, operate_one, byte_of}
+use Rattle.c_model.specs.Layouts.{Scalar, IntegerType, PointerType, scalar_size, scalar_of, scalars_of, size_of}
 use Rattle.c_model.specs.Conversions.{operation_type, is_shift}
-use Rattle.c_model.specs.Memory.{Pointer, Null, Into, Value, Integer, NoValue, Byte, Block as Cells, Store, block_at, number_of, value_from, is_accessible, load_block, load, save, standard_sizes, full_at_stack_birth}
+use Rattle.c_model.specs.Memory.{Pointer, Null, Into, Value, Integer, Points, NoValue, Byte, Store, number_of, value_from, load_bytes, load, save, moved, tested_value, standard_sizes, full_at_stack_birth}
+use Rattle.c_model.specs.Memory as memory
 use Rattle.c_model.specs.State.{InputTail, EndOfInput, InputFault, Input, State, Leave, Breaks, Continues, Returns, Final, Undefined, Fault, Spent, Full, Exits, Leaves, Over, Outcome, Normal, Stop, Evaluation, on_outcome, ◌>>=◌, ◌>>◌, give, done}
-use Rattle.c_model.specs.State.{stop, defined, step_from, step, read_byte, print, find, start_of, object, read, put_store, write, birth_of, birth, births, write_youngest, alone, frame, mark, restored, within}
+use Rattle.c_model.specs.State.{Scope, stop, defined, computed, changed, as_scalar, step_from, step, read_byte, print, find, start_of, object, read, read_any, put_store, write, copy_object, tested, birth_of, birth, births, write_youngest, alone}
+use Rattle.c_model.specs.State.{frame, mark, restored, within}
 use Rattle.c_model.specs.Library.{is_there}
 use Rattle.c_model.specs.Logic.{Answer, Says, SaysNothing, OutOfSteps, clause, judged, check, checks}
-use Rattle.c_model.specs.Typing.{Signature, Scopes, name_at, with_object, with_objects, Around, in_loop, inner, behind, behind_first, same_type}
+use Rattle.c_model.specs.Typing.{Signature, Scopes, name_at, with_object, with_objects, Around, in_loop, inner, behind, behind_first, is_object_type, same_type}
 use Rattle.c_model.specs.ProgramTyping.{signature, function_scopes, with_parameter, with_parameters, main_fault, no_main, has_no_parameters}
-use Rattle.c_model.specs.WellTyped.{CastTypes, Calls, WellTyped, AreWellTyped}
-use Rattle.c_model.specs.WellTypedPrograms.{WhereAny, IsCondition, Initialises, AreDeclared, StatementTyped, ElseTyped, FirstTyped, ItemTyped, ItemsTyped, around_body, BodyTyped, FunctionTyped, FunctionsTyped}
+use Rattle.c_model.specs.WellTyped.{IsPlace, IsInteger, CastTypes, Calls, WellTyped, AreWellTyped}
+use Rattle.c_model.specs.WellTypedPrograms.{WhereAny, IsCondition, Initialises, AreDeclared, AreParameters, StatementTyped, ElseTyped, FirstTyped, ItemTyped, ItemsTyped, around_body, BodyTyped, FunctionTyped, FunctionsTyped}
 use Rattle.c_model.specs.Formed.{BodyFormed, FunctionFormed, FunctionsFormed, most_typed, IsProgram}
-use Rattle.c_model.specs.Meaning.{is_definition, Callee, operate_value, operate_values, converted, compound, bump_operator, bump_value, is_zero, choose, truth_value, size_value, eval_with, place_with, evals_with, after_body, turns, do_turns}
+use Rattle.c_model.specs.Meaning.{is_definition, Callee, Tables, operate_value, operate_values, converted, compound, bump_operator, bump_value, is_zero, choose, truth_value, size_value, is_member, address, assigned, is_array, is_pointer, named}
+use Rattle.c_model.specs.Meaning.{eval_with, place_with, evals_with, after_body, turns, do_turns, string_in, fill_one, tables_of, global_scope}
 use Rattle.c_model.specs.Meaning.{declared_in, declared_first, initialise, initialise_all, condition_with, effect_with, exec_with, else_with, first_with, item_with, items_with, put_char, get_char, exit_with, library_call, definition_at, parameters}
 use Rattle.c_model.specs.Meaning.{body_with, at_close, returned_by, call_with, is_of_library, call_of, has_name, function_named, main_with, start, ran, run}
 use Rattle.c_model.proofs.Signatures.{both_true, same_type_is, called_result}
@@ -50,16 +56,17 @@ NoJump l = ⊥
 
 abbrev IsNumber : Value → Type 0
 IsNumber (Integer z) = Unit {0}
+IsNumber (Points p) = ⊥
 IsNumber NoValue = ⊥
 
--- a value that an expression of the type may have
+-- a value that an expression of the type may have: numbers alone are used
 abbrev IsValueOf : PlainType → Value → Type 0
-IsValueOf Void v = Unit {0}
-IsValueOf _ v = IsNumber v
+IsValueOf (Int k) v = IsNumber v
+IsValueOf _ v = Unit {0}
 
 number_is : (t : PlainType) (v : Value) → IsNumber v → IsValueOf t v
-number_is Void v h = tt
-number_is _ v h = h
+number_is (Int k) v h = h
+number_is _ v h = tt
 
 -- a value of which P holds, a jump of which L holds, or an end that the meaning names
 abbrev EndsWell : {A : Type 0} → (A → Type 0) → (Leave → Type 0) → Outcome A → Type 0
@@ -120,24 +127,35 @@ mapped f h (Some a) = h a
 
 number_of_one : (t : PlainType) (op : UnOp) (v : Value) → WhereAny IsNumber (operate_value t op v)
 number_of_one t op NoValue = tt
+number_of_one t op (Points p) = tt
 number_of_one t op (Integer x) = mapped Integer (λ z. tt) (operate_one t op x)
 
-number_of_two : (t : PlainType) (op : BinOp) (v w : Value) → WhereAny IsNumber (operate_values t op v w)
-number_of_two t op NoValue w = tt
-number_of_two t op (Integer x) NoValue = tt
-number_of_two t op (Integer x) (Integer y) = mapped Integer (λ z. tt) (operate t op x y)
+number_of_two : (unit : ℕ) (t : PlainType) (op : BinOp) (store : Store) (v w : Value) → IsNumber v → IsNumber w → WhereAny IsNumber (operate_values unit t op store v w)
+number_of_two unit t op store (Integer x) (Integer y) h g = mapped Integer (λ z. tt) (operate t op x y)
+number_of_two unit t op store (Integer x) (Points q) h g = absurd g
+number_of_two unit t op store (Integer x) NoValue h g = absurd g
+number_of_two unit t op store (Points p) w h g = absurd h
+number_of_two unit t op store NoValue w h g = absurd h
 
-number_converted : (k : CInt) (o : Option Value) → WhereAny IsNumber o → WhereAny IsNumber (option_map (converted (Int k)) o)
-number_converted k None h = tt
-number_converted k (Some (Integer z)) h = tt
-number_converted k (Some NoValue) h = absurd h
+number_converted : (k : CInt) (v : Value) → IsNumber v → IsNumber (converted (Int k) v)
+number_converted k (Integer z) h = tt
+number_converted k (Points p) h = absurd h
+number_converted k NoValue h = absurd h
 
-number_of_compound : (t : PlainType) (op : BinOp) (v : Value) (u : PlainType) (w : Value) → WhereAny IsNumber (compound t op v u w)
-number_of_compound (Int k) op v (Int l) w =
-    let m = Int (operation_type op k l) in
-    let b = if is_shift op then w else converted m w in
-    number_converted k (operate_values m op (converted m v) b) (number_of_two m op (converted m v) b)
-number_of_compound _ op v u w = tt
+where_converted : (k : CInt) (o : Option Value) → WhereAny IsNumber o → WhereAny IsNumber (option_map (converted (Int k)) o)
+where_converted k None h = tt
+where_converted k (Some v) h = number_converted k v h
+
+second_number : (k : CInt) (t : Bool) (w : Value) → IsNumber w → IsNumber (if t then w else converted (Int k) w)
+second_number k true w g = g
+second_number k false w g = number_converted k w g
+
+number_of_compound : (structs : List StructType) (t : PlainType) (op : BinOp) (store : Store) (v : Value) (u : PlainType) (w : Value) → IsInteger t → IsInteger u → IsNumber v → IsValueOf u w → WhereAny IsNumber (compound structs t op store v u w)
+number_of_compound structs (Int k) op store v (Int l) w i j h g =
+    let m = operation_type op k l in
+    where_converted k _ (number_of_two 1 (Int m) op store (converted (Int m) v) (if is_shift op then w else converted (Int m) w) (number_converted m v h) (second_number m (is_shift op) w g))
+number_of_compound structs (Int k) op store v u w i j h g = absurd j
+number_of_compound structs t op store v u w i j h g = absurd i
 
 number_of_bump : (op : BumpOp) (old new : Value) → IsNumber old → IsNumber new → IsNumber (bump_value op old new)
 number_of_bump PreUp old new h g = g
@@ -145,28 +163,12 @@ number_of_bump PreDown old new h g = g
 number_of_bump PostUp old new h g = h
 number_of_bump PostDown old new h g = h
 
-value_of_cast : (to u : PlainType) (v : Value) → CastTypes to u → IsValueOf u v → IsValueOf to (converted to v)
-value_of_cast Void u v c h = tt
-value_of_cast (Int k) (Int l) NoValue c h = absurd h
-value_of_cast (Int k) (Int l) (Integer z) c h = tt
-value_of_cast (Int k) u v c h = absurd c
-value_of_cast to u v c h = absurd c
+number_from : (k : CInt) (o : Option (List Byte)) → WhereAny IsNumber (memory.◌>>=◌ o (value_from (IntegerType k)))
+number_from k None = tt
+number_from k (Some bytes) = mapped (λ n. Integer (value_of_bits k n)) (λ n. tt) (number_of bytes)
 
-where_if : (t : Bool) (o : Option Value) → WhereAny IsNumber o → WhereAny IsNumber (if t then o else None)
-where_if true o h = h
-where_if false o h = tt
-
-number_from : (t : PlainType) (bytes : List Byte) → WhereAny IsNumber (value_from t bytes)
-number_from (Int k) bytes = mapped (λ n. Integer (value_of_bits k n)) (λ n. tt) (number_of bytes)
-number_from _ bytes = tt
-
-number_in : (b : Option Cells) (offset : ℕ) (t : PlainType) → WhereAny IsNumber (load_block b offset t)
-number_in None offset t = tt
-number_in (Some b) offset t = where_if (is_accessible b offset t) _ (number_from t (take (size_of t) (drop offset b.bytes)))
-
-number_loaded : (store : Store) (p : Pointer) (t : PlainType) → WhereAny IsNumber (load store p t)
-number_loaded store Null t = tt
-number_loaded store (Into n offset) t = number_in (block_at store n) offset t
+number_loaded : (store : Store) (p : Pointer) (k : CInt) → WhereAny IsNumber (load store p (IntegerType k))
+number_loaded store p k = number_from k (load_bytes store p (scalar_size (IntegerType k)))
 
 defined_well : {A : Type 0} (P : A → Type 0) (L : Leave → Type 0) (at : Place) (o : Option A) (s : State) → WhereAny P o → EndsWell P L (defined at o s)
 defined_well P L at None s h = tt
@@ -179,44 +181,98 @@ anything : {A : Type 0} (o : Option A) → WhereAny Anything o
 anything None = tt
 anything (Some a) = tt
 
+any_value : (t : PlainType) → ((v : Value) → IsValueOf t v) → (o : Option Value) → WhereAny (IsValueOf t) o
+any_value t h None = tt
+any_value t h (Some v) = h v
+
 gives_object : {L : Leave → Type 0} (at : Place) (x : ℕ) → Gives Anything L (object at x)
 gives_object {L = L} at x = record { at = λ s. defined_well Anything L at (start_of (find x s.scope)) s (anything (start_of (find x s.scope))) }
 
-gives_read : {L : Leave → Type 0} (at : Place) (p : Pointer) (t : PlainType) → Gives IsNumber L (read at p t)
-gives_read {L = L} at p t = record { at = λ s. defined_well IsNumber L at (load s.store p t) s (number_loaded s.store p t) }
+gives_computed : {A : Type 0} {P : A → Type 0} {L : Leave → Type 0} (at : Place) (f : Store → Option A) → ((store : Store) → WhereAny P (f store)) → Gives P L (computed at f)
+gives_computed {P = P} {L = L} at f h = record { at = λ s. defined_well P L at (f s.store) s (h s.store) }
 
-written_well : (L : Leave → Type 0) (at : Place) (o : Option Store) (s : State) → EndsWell Anything L ((defined at o >>= put_store) s)
-written_well L at None s = tt
-written_well L at (Some store) s = tt
+gives_read : {L : Leave → Type 0} (at : Place) (p : Pointer) (k : CInt) → Gives IsNumber L (read at p (IntegerType k))
+gives_read at p k = gives_computed at _ (λ store. number_loaded store p k)
 
-gives_write : {L : Leave → Type 0} (at : Place) (p : Pointer) (t : PlainType) (v : Value) → Gives Anything L (write at p t v)
-gives_write {L = L} at p t v = record { at = λ s. written_well L at (save s.store p t v) s }
+gives_read_any : {L : Leave → Type 0} (at : Place) (p : Pointer) (t : PlainType) → Gives (IsValueOf t) L (read_any at p (scalar_of t))
+gives_read_any at p (Int k) = gives_number (Int k) _ (gives_read at p k)
+gives_read_any at p (Ptr t) = gives_computed at _ (λ store. any_value (Ptr t) (λ v. tt) (load store p PointerType))
+gives_read_any at p Void = gives_give NoValue tt
+gives_read_any at p (Array t n) = gives_give NoValue tt
+gives_read_any at p (Struct n) = gives_give NoValue tt
+gives_read_any at p (Named x) = gives_give NoValue tt
+gives_read_any at p (StructTag x) = gives_give NoValue tt
+gives_read_any at p (EnumTag x place) = gives_give NoValue tt
 
-gives_written : {P : Value → Type 0} {L : Leave → Type 0} (at : Place) (p : Pointer) (t : PlainType) (v : Value) → P v → Gives P L (write at p t v >> give v)
-gives_written at p t v h = gives_then (write at p t v) (give v) (gives_write at p t v) (gives_give v h)
+gives_tested : {L : Leave → Type 0} (at : Place) (v : Value) → Gives Anything L (tested at v)
+gives_tested at v = gives_computed at _ (λ store. anything (tested_value store v))
+
+-- an integer type is one of a scalar
+gives_as_scalar : {A : Type 0} {P : A → Type 0} {L : Leave → Type 0} (t : PlainType) (go : Scalar → Evaluation A) → IsInteger t → ((k : CInt) → Gives P L (go (IntegerType k))) → Gives P L (as_scalar (scalar_of t) go)
+gives_as_scalar (Int k) go i h = h k
+gives_as_scalar _ go i h = absurd i
+
+changed_well : (L : Leave → Type 0) (at : Place) (o : Option Store) (s : State) → EndsWell Anything L ((defined at o >>= put_store) s)
+changed_well L at None s = tt
+changed_well L at (Some store) s = tt
+
+gives_changed : {L : Leave → Type 0} (at : Place) (f : Store → Option Store) → Gives Anything L (changed at f)
+gives_changed {L = L} at f = record { at = λ s. changed_well L at (f s.store) s }
+
+gives_write : {L : Leave → Type 0} (at : Place) (p : Pointer) (k : Scalar) (v : Value) → Gives Anything L (write at p k v)
+gives_write at p k v = gives_changed at _
+
+gives_written : {P : Value → Type 0} {L : Leave → Type 0} (at : Place) (p : Pointer) (k : Scalar) (v w : Value) → P w → Gives P L (write at p k v >> give w)
+gives_written at p k v w h = gives_then (write at p k v) (give w) (gives_write at p k v) (gives_give w h)
+
+-- an object is copied, and gives no value
+abbrev parts : List StructType → PlainType → List (ℕ × ℕ)
+parts structs t = map (λ (c : ℕ × Scalar). (c.0, scalar_size c.1)) (scalars_of structs t)
+
+gives_copied : {P : Value → Type 0} {L : Leave → Type 0} (structs : List StructType) (at : Place) (t : PlainType) (p : Pointer) (v : Evaluation Value) (q : Evaluation Pointer) → P NoValue → Gives Anything L q
+    → Gives P L (assigned structs at t None p v q)
+gives_copied structs at t p v q none h =
+    gives_bind q _ h (λ y _.
+    gives_then (copy_object at p y (parts structs t)) (give NoValue) (gives_changed at (λ store. memory.copy_all store p y (parts structs t))) (gives_give NoValue none))
+
+-- an assignment of a value, or of an object
+gives_assigned : {L : Leave → Type 0} (structs : List StructType) (at : Place) (t : PlainType) (p : Pointer) (v : Evaluation Value) (q : Evaluation Pointer) → Gives (IsValueOf t) L v → Gives Anything L q
+    → Gives (IsValueOf t) L (assigned structs at t (scalar_of t) p v q)
+gives_assigned structs at (Int k) p v q g h = gives_bind v _ g (λ x i. gives_written at p (IntegerType k) x x i)
+gives_assigned structs at (Ptr t) p v q g h = gives_bind v _ g (λ x i. gives_written at p PointerType x x i)
+gives_assigned structs at Void p v q g h = gives_copied structs at Void p v q tt h
+gives_assigned structs at (Array t n) p v q g h = gives_copied structs at (Array t n) p v q tt h
+gives_assigned structs at (Struct n) p v q g h = gives_copied structs at (Struct n) p v q tt h
+gives_assigned structs at (Named x) p v q g h = gives_copied structs at (Named x) p v q tt h
+gives_assigned structs at (StructTag x) p v q g h = gives_copied structs at (StructTag x) p v q tt h
+gives_assigned structs at (EnumTag x place) p v q g h = gives_copied structs at (EnumTag x place) p v q tt h
 
 -- ---- births, calls and blocks
 
-birth_well : (L : Leave → Type 0) (o : Option Segment) (d : Declaration) (s : State) → EndsWell Anything L (birth_of o d s)
-birth_well L None d s = tt
-birth_well L (Some full) d s = tt
+birth_well : (L : Leave → Type 0) (o : Option Segment) (x size : ℕ) (s : State) → EndsWell Anything L (birth_of o x size s)
+birth_well L None x size s = tt
+birth_well L (Some full) x size s = tt
 
-gives_birth : {L : Leave → Type 0} (d : Declaration) → Gives Anything L (birth d)
-gives_birth {L = L} d = record { at = λ s. birth_well L (full_at_stack_birth standard_sizes s.store (size_of d.ctype)) d s }
+gives_birth : {L : Leave → Type 0} (structs : List StructType) (d : Declaration) → Gives Anything L (birth structs d)
+gives_birth {L = L} structs d = record { at = λ s. birth_well L (full_at_stack_birth standard_sizes s.store (size_of structs d.ctype)) d.place.offset (size_of structs d.ctype) s }
 
-gives_births : {L : Leave → Type 0} (ds : List Declaration) → Gives Anything L (births ds)
-gives_births [] = gives_give tt tt
-gives_births (d ∷ ds) = gives_then (birth d) (births ds) (gives_birth d) (gives_births ds)
+gives_births : {L : Leave → Type 0} (structs : List StructType) (ds : List Declaration) → Gives Anything L (births structs ds)
+gives_births structs [] = gives_give tt tt
+gives_births structs (d ∷ ds) = gives_then (birth structs d) (births structs ds) (gives_birth structs d) (gives_births structs ds)
 
-gives_write_youngest : {L : Leave → Type 0} (at : Place) (t : PlainType) (v : Value) → Gives Anything L (write_youngest at t v)
-gives_write_youngest {L = L} at t v = record { at = λ s. written_well L at (save s.store (Into (length s.store) 0) t v) s }
+gives_write_youngest : {L : Leave → Type 0} (at : Place) (k : Scalar) (v : Value) → Gives Anything L (write_youngest at k v)
+gives_write_youngest {L = L} at k v = record { at = λ s. changed_well L at (save s.store (Into (length s.store) 0) k v) s }
 
-gives_parameters : {L : Leave → Type 0} (at : Place) (ds : List Declaration) (vs : List Value) → Gives Anything L (parameters at ds vs)
-gives_parameters at [] [] = gives_give tt tt
-gives_parameters at [] (v ∷ vs) = gives_over (Undefined at) tt
-gives_parameters at (d ∷ ds) [] = gives_over (Undefined at) tt
-gives_parameters at (d ∷ ds) (v ∷ vs) =
-    gives_then _ _ (gives_then _ _ (gives_birth d) (gives_write_youngest at d.ctype v)) (gives_parameters at ds vs)
+object_integer : (t : PlainType) → is_object_type t ≡ true → IsInteger t
+object_integer (Int k) e = tt
+object_integer _ e = absurd cc
+
+gives_parameters : {L : Leave → Type 0} (T : Tables) (at : Place) (s : Scopes) (ds : List Declaration) (vs : List Value) → AreParameters s ds → Gives Anything L (parameters T at ds vs)
+gives_parameters T at s [] [] w = gives_give tt tt
+gives_parameters T at s [] (v ∷ vs) w = gives_over (Undefined at) tt
+gives_parameters T at s (d ∷ ds) [] w = gives_over (Undefined at) tt
+gives_parameters T at s (d ∷ ds) (v ∷ vs) w =
+    gives_then _ _ (gives_then _ _ (gives_birth T.structs d) (gives_as_scalar d.ctype _ (object_integer d.ctype w.0.ctype) (λ k. gives_write_youngest at (IntegerType k) v))) (gives_parameters T at (with_parameter s d) ds vs w.1)
 
 cond_well : (L : Leave → Type 0) (t : Bool) (r r' : Outcome (Unit {0})) → EndsWell Anything L r → EndsWell Anything L r' → EndsWell Anything L (cond t r r')
 cond_well L true r r' h g = h
@@ -225,8 +281,8 @@ cond_well L false r r' h g = g
 gives_frame : {L : Leave → Type 0} → Gives Anything L frame
 gives_frame {L = L} = record { at = λ s. cond_well L (nat_lt s.calls 65536) (Normal tt (record s { calls = s.calls + 1 })) (Stop (Over (Full Frames)) s) tt tt }
 
-gives_alone : {L : Leave → Type 0} → Gives Anything L alone
-gives_alone = record { at = λ s. tt }
+gives_alone : {L : Leave → Type 0} (globals : Scope) → Gives Anything L (alone globals)
+gives_alone globals = record { at = λ s. tt }
 
 gives_mark : {L : Leave → Type 0} (label : Option ℕ) → Gives Anything L (mark label)
 gives_mark label = record { at = λ s. tt }
@@ -306,6 +362,7 @@ gives_do_turns r (suc n) test body t b =
 gives_put_char : (at : Place) (vs : List Value) → Gives IsNumber NoJump (put_char at vs)
 gives_put_char at [] = gives_over (Undefined at) tt
 gives_put_char at (NoValue ∷ []) = gives_over (Undefined at) tt
+gives_put_char at (Points p ∷ []) = gives_over (Undefined at) tt
 gives_put_char at (Integer z ∷ []) =
     gives_then {P = Anything} (print (byte_of z)) (give (Integer (pos (byte_of z)))) (record { at = λ s. tt }) (gives_give (Integer (pos (byte_of z))) tt)
 gives_put_char at (v ∷ w ∷ vs) = gives_over (Undefined at) tt
@@ -322,6 +379,7 @@ gives_get_char at (v ∷ vs) = gives_over (Undefined at) tt
 gives_exit : (at : Place) (vs : List Value) → Gives IsNumber NoJump (exit_with at vs)
 gives_exit at [] = gives_over (Undefined at) tt
 gives_exit at (NoValue ∷ []) = gives_over (Undefined at) tt
+gives_exit at (Points p ∷ []) = gives_over (Undefined at) tt
 gives_exit at (Integer z ∷ []) = gives_over (Exits z) tt
 gives_exit at (v ∷ w ∷ vs) = gives_over (Undefined at) tt
 
@@ -375,103 +433,166 @@ module _ (names : List (List ℕ)) (functions : List Signature) where
   sees_parameters [] s see = see
   sees_parameters (d ∷ ds) s see = sees_parameters ds (with_parameter s d) (sees_parameter d s see)
 
-gives_place : (e : Expression) (call : Callee) → Gives Anything NoJump (place_with e call)
-gives_place (Node at t (Variable x)) call = gives_object at x.decl
-gives_place (Node at t (Number n k)) call = gives_over (Undefined at) tt
-gives_place (Node at t (Letter n)) call = gives_over (Undefined at) tt
-gives_place (Node at t (Unary op a)) call = gives_over (Undefined at) tt
-gives_place (Node at t (Binary op a b)) call = gives_over (Undefined at) tt
-gives_place (Node at t (Both a b)) call = gives_over (Undefined at) tt
-gives_place (Node at t (Either a b)) call = gives_over (Undefined at) tt
-gives_place (Node at t (Choice a b c)) call = gives_over (Undefined at) tt
-gives_place (Node at t (Assign op a b)) call = gives_over (Undefined at) tt
-gives_place (Node at t (Bump op a)) call = gives_over (Undefined at) tt
-gives_place (Node at t (Call f args)) call = gives_over (Undefined at) tt
-gives_place (Node at t (Cast to a)) call = gives_over (Undefined at) tt
-gives_place (Node at t (SizeOfType u)) call = gives_over (Undefined at) tt
-gives_place (Node at t (SizeOfExpr a)) call = gives_over (Undefined at) tt
-gives_place (Node at t (Text n)) call = gives_over (Undefined at) tt
-gives_place (Node at t (Index a b)) call = gives_over (Undefined at) tt
-gives_place (Node at t (Dot a m)) call = gives_over (Undefined at) tt
-gives_place (Node at t (Arrow a m)) call = gives_over (Undefined at) tt
-gives_place (Node at t (Comma a b)) call = gives_over (Undefined at) tt
+null_well : (L : Leave → Type 0) (at : Place) (t : PlainType) (b : Bool) (s : State) → EndsWell (IsValueOf (Ptr t)) L (cond b (give (Points Null)) (stop (Over (Undefined at))) s)
+null_well L at t true s = tt
+null_well L at t false s = tt
 
-gives_truth : (t : PlainType) (P : Value → Type 0) (e : Expression) (call : Callee) → Gives P NoJump (eval_with e call) → Gives (IsValueOf t) NoJump (eval_with e call >>= λ y. give (truth_value y))
-gives_truth t P e call g = gives_bind _ _ g (λ y _. gives_give (truth_value y) (number_is t (truth_value y) tt))
+named_well : (L : Leave → Type 0) (at : Place) (t : PlainType) (x : Use) (o : Option ℕ) (s : State) → EndsWell (IsValueOf t) L (named at t x o s)
+named_well L at t x (Some n) s = (gives_read_any {L = L} at (Into n 0) t).at s
+named_well L at (Ptr t) x None s = null_well L at t (is_of_library x) s
+named_well L at _ x None s = tt
 
-module _ (names : List (List ℕ)) (functions : List Signature) (call : Callee) (calls : CallsGive names functions call) where
+gives_cond : {A : Type 0} {P : A → Type 0} {L : Leave → Type 0} (t : Bool) (a b : Evaluation A) → Gives P L a → Gives P L b → Gives P L (cond t a b)
+gives_cond true a b f g = f
+gives_cond false a b f g = g
+
+gives_address : {L : Leave → Type 0} (e : Expression) (p : Pointer) → Gives Anything L (address e p)
+gives_address {L = L} e p = by (is_member e)
+  where
+    by : (t : Bool) → Gives Anything L (if t then computed (place_of e) (λ store. option_map Points (moved store p (pos 0))) else give (Points p))
+    by true = gives_computed (place_of e) _ (λ store. anything (option_map Points (moved store p (pos 0))))
+    by false = gives_give (Points p) tt
+
+-- anything is a value of void
+gives_none : {L : Leave → Type 0} (m : Evaluation Value) → Gives Anything L m → Gives (IsValueOf Void) L m
+gives_none {L = L} m g = record { at = λ s. values Anything (IsValueOf Void) L (m s) (g.at s) (λ _ _. tt) }
+
+gives_cast : {L : Leave → Type 0} (to u : PlainType) (q m : Evaluation Value) → CastTypes to u → Gives Anything L q → Gives (IsValueOf u) L m → Gives (IsValueOf to) L (cond (is_array u) q (m >>= λ x. give (converted to x)))
+gives_cast Void u q m c h g = gives_cond (is_array u) _ _ (gives_none q h) (gives_bind m _ g (λ x _. gives_give (converted Void x) tt))
+gives_cast (Int k) (Int l) q m c h g = gives_bind m _ g (λ x i. gives_give (converted (Int k) x) (number_converted k x i))
+gives_cast (Int k) u q m c h g = absurd c
+gives_cast to u q m c h g = absurd c
+
+module _ (T : Tables) (names : List (List ℕ)) (functions : List Signature) (call : Callee) (calls : CallsGive names functions call) where
+  -- the left side of an assignment
+  gives_left : (s : Scopes) (t : PlainType) (e : Expression) → IsPlace s t e → Gives Anything NoJump (place_with T e call)
+  gives_left s t (Node at u (Variable x)) w = gives_object at x.decl
+  gives_left s t (Node at u _) w = absurd w
+
+  gives_tested_of : {P : Value → Type 0} (e : Expression) → Gives P NoJump (eval_with T e call) → Gives Anything NoJump (eval_with T e call >>= tested (place_of e))
+  gives_tested_of e g = gives_bind _ _ g (λ x _. gives_tested (place_of e) x)
+
+  gives_truth : {P : Value → Type 0} (t : PlainType) (e : Expression) → Gives P NoJump (eval_with T e call) → Gives (IsValueOf t) NoJump ((eval_with T e call >>= tested (place_of e)) >>= λ y. give (truth_value y))
+  gives_truth t e g = gives_bind _ _ (gives_tested_of e g) (λ y _. gives_give (truth_value y) (number_is t (truth_value y) tt))
+
   mutual
-    gives_eval : (s : Scopes) → Sees names functions s → (e : Expression) → WellTyped s e → Gives (IsValueOf (type_of e)) NoJump (eval_with e call)
+    gives_eval : (s : Scopes) → Sees names functions s → (e : Expression) → WellTyped s e → Gives (IsValueOf (type_of e)) NoJump (eval_with T e call)
     gives_eval s see (Node at t (Number n k)) w = gives_give (Integer n) (number_is t (Integer n) tt)
     gives_eval s see (Node at t (Letter n)) w = gives_give (Integer n) (number_is t (Integer n) tt)
-    gives_eval s see (Node at t (Variable x)) w = gives_bind _ _ (gives_object at x.decl) (λ p _. gives_number t _ (gives_read at p t))
-    gives_eval s see (Node at t (Unary op a)) w =
-        gives_bind _ _ (gives_eval s see a w.0) (λ x _. gives_number t _ (gives_defined at (operate_value t op x) (number_of_one t op x)))
+    gives_eval s see (Node at t (Variable x)) w = record { at = λ state. named_well NoJump at t x (find x.decl state.scope) state }
+    gives_eval s see (Node at t (Unary unary.Not a)) w =
+        gives_bind _ _ (gives_tested_of a (gives_eval s see a w.0)) (λ x _. gives_give (Integer (truth (is_zero x))) (number_is t (Integer (truth (is_zero x))) tt))
+    gives_eval s see (Node at t (Unary unary.Plus a)) w =
+        gives_bind _ _ (gives_eval s see a w.0) (λ x _. gives_number t _ (gives_defined at (operate_value t unary.Plus x) (number_of_one t unary.Plus x)))
+    gives_eval s see (Node at t (Unary unary.Minus a)) w =
+        gives_bind _ _ (gives_eval s see a w.0) (λ x _. gives_number t _ (gives_defined at (operate_value t unary.Minus x) (number_of_one t unary.Minus x)))
+    gives_eval s see (Node at t (Unary unary.Flip a)) w =
+        gives_bind _ _ (gives_eval s see a w.0) (λ x _. gives_number t _ (gives_defined at (operate_value t unary.Flip x) (number_of_one t unary.Flip x)))
+    gives_eval s see (Node at t (Unary unary.Deref a)) w = absurd w.1
+    gives_eval s see (Node at t (Unary unary.Address a)) w = absurd w.1
     gives_eval s see (Node at t (Binary op a b)) w =
-        gives_bind _ _ (gives_eval s see a w.0) (λ x _. gives_bind _ _ (gives_eval s see b w.1) (λ y _. gives_number t _ (gives_defined at (operate_values t op x y) (number_of_two t op x y))))
+        gives_bind _ _ (gives_eval s see a w.0) (λ x h. gives_bind _ _ (gives_eval s see b w.1) (λ y g. gives_number t _ (gives_computed at _ (λ store.
+        number_of_two _ t op store x y (subst (λ u. IsValueOf u x) w.2.0.is h) (subst (λ u. IsValueOf u y) w.2.1.is g)))))
     gives_eval s see (Node at t (Both a b)) w =
-        gives_bind _ _ (gives_eval s see a w.0) (λ x _. gives_choose x _ _ (gives_truth t _ b call (gives_eval s see b w.1)) (gives_give (Integer (pos 0)) (number_is t (Integer (pos 0)) tt)))
+        gives_bind _ _ (gives_tested_of a (gives_eval s see a w.0)) (λ x _. gives_choose x _ _ (gives_truth t b (gives_eval s see b w.1)) (gives_give (Integer (pos 0)) (number_is t (Integer (pos 0)) tt)))
     gives_eval s see (Node at t (Either a b)) w =
-        gives_bind _ _ (gives_eval s see a w.0) (λ x _. gives_choose x _ _ (gives_give (Integer (pos 1)) (number_is t (Integer (pos 1)) tt)) (gives_truth t _ b call (gives_eval s see b w.1)))
+        gives_bind _ _ (gives_tested_of a (gives_eval s see a w.0)) (λ x _. gives_choose x _ _ (gives_give (Integer (pos 1)) (number_is t (Integer (pos 1)) tt)) (gives_truth t b (gives_eval s see b w.1)))
     gives_eval s see (Node at t (Choice a b c)) w =
-        gives_bind _ _ (gives_eval s see a w.0) (λ x _. gives_choose x _ _
-        (subst (λ u. Gives (IsValueOf u) NoJump (eval_with b call)) w.4 (gives_eval s see b w.1)) (subst (λ u. Gives (IsValueOf u) NoJump (eval_with c call)) w.5 (gives_eval s see c w.2)))
+        gives_bind _ _ (gives_tested_of a (gives_eval s see a w.0)) (λ x _. gives_choose x _ _
+        (subst (λ u. Gives (IsValueOf u) NoJump (eval_with T b call)) w.4 (gives_eval s see b w.1)) (subst (λ u. Gives (IsValueOf u) NoJump (eval_with T c call)) w.5 (gives_eval s see c w.2)))
     gives_eval s see (Node at t (Assign None a b)) w =
-        gives_bind _ _ (gives_place a call) (λ p _. gives_bind _ _ (subst (λ u. Gives (IsValueOf u) NoJump (eval_with b call)) w.2 (gives_eval s see b w.1)) (λ v h. gives_written at p t v h))
+        gives_bind _ _ (gives_left s t a w.0) (λ p _. gives_assigned T.structs at t p _ _ (subst (λ u. Gives (IsValueOf u) NoJump (eval_with T b call)) w.2 (gives_eval s see b w.1)) (gives_place s see b w.1))
     gives_eval s see (Node at t (Assign (Some op) a b)) w =
-        gives_bind _ _ (gives_place a call) (λ p _. gives_bind _ _ (gives_read at p t) (λ x _. gives_bind _ _ (gives_eval s see b w.1) (λ y _.
-        gives_bind {P = IsNumber} _ _ (gives_defined at (compound t op x (type_of b) y) (number_of_compound t op x (type_of b) y)) (λ v h. gives_written at p t v (number_is t v h)))))
+        gives_bind _ _ (gives_left s t a w.0) (λ p _. gives_as_scalar t _ w.2 (λ k. gives_bind _ _ (gives_read at p k) (λ x h. gives_bind _ _ (gives_eval s see b w.1) (λ y g.
+        gives_bind {P = IsNumber} _ _ (gives_computed at _ (λ store. number_of_compound T.structs t op store x (type_of b) y w.2 w.3 h g)) (λ v i. gives_written at p (IntegerType k) v v (number_is t v i))))))
     gives_eval s see (Node at t (Bump op a)) w =
-        gives_bind _ _ (gives_place a call) (λ p _. gives_bind _ _ (gives_read at p t) (λ x g.
-        gives_bind {P = IsNumber} _ _ (gives_defined at (compound t (bump_operator op) x int_type (Integer (pos 1))) (number_of_compound t (bump_operator op) x int_type (Integer (pos 1)))) (λ v h.
-        gives_then _ _ (gives_write at p t v) (gives_give (bump_value op x v) (number_is t (bump_value op x v) (number_of_bump op x v g h))))))
+        gives_bind _ _ (gives_left s t a w.0) (λ p _. gives_as_scalar t _ w.1 (λ k. gives_bind _ _ (gives_read at p k) (λ x h.
+        gives_bind {P = IsNumber} _ _ (gives_computed at _ (λ store. number_of_compound T.structs t (bump_operator op) store x int_type (Integer (pos 1)) w.1 tt h tt)) (λ v i.
+        gives_written at p (IntegerType k) v (bump_value op x v) (number_is t (bump_value op x v) (number_of_bump op x v h i))))))
     gives_eval s see (Node at t (Call f args)) w = gives_bind _ _ (gives_evals s see args w.0) (λ vs _. calls s see f t args w.1 at vs)
     gives_eval s see (Node at t (Cast to a)) w =
-        gives_bind _ _ (gives_eval s see a w.0) (λ x h. gives_give (converted to x) (subst (λ u. IsValueOf u (converted to x)) (sym w.1) (value_of_cast to (type_of a) x w.2 h)))
-    gives_eval s see (Node at t (SizeOfType u)) w = gives_give (size_value u) (number_is t (size_value u) tt)
-    gives_eval s see (Node at t (SizeOfExpr a)) w = gives_give (size_value (type_of a)) (number_is t (size_value (type_of a)) tt)
+        subst (λ u. Gives (IsValueOf u) NoJump (eval_with T (Node at t (Cast to a)) call)) (sym w.1)
+        (gives_cast to (type_of a) _ _ w.2 (gives_bind _ _ (gives_place s see a w.0) (λ p _. gives_address a p)) (gives_eval s see a w.0))
+    gives_eval s see (Node at t (SizeOfType u)) w = gives_give (size_value T u) (number_is t (size_value T u) tt)
+    gives_eval s see (Node at t (SizeOfExpr a)) w = gives_give (size_value T (type_of a)) (number_is t (size_value T (type_of a)) tt)
     gives_eval s see (Node at t (Text n)) w = absurd w
     gives_eval s see (Node at t (Index a b)) w = absurd w
     gives_eval s see (Node at t (Dot a m)) w = absurd w
     gives_eval s see (Node at t (Arrow a m)) w = absurd w
     gives_eval s see (Node at t (Comma a b)) w = absurd w
 
-    gives_evals : (s : Scopes) → Sees names functions s → (es : Expressions) → AreWellTyped s es → Gives Anything NoJump (evals_with es call)
+    -- where an expression designates an object
+    gives_place : (s : Scopes) → Sees names functions s → (e : Expression) → WellTyped s e → Gives Anything NoJump (place_with T e call)
+    gives_place s see (Node at t (Variable x)) w = gives_object at x.decl
+    gives_place s see (Node at t (Assign None a b)) w =
+        gives_bind _ _ (gives_left s t a w.0) (λ p _. gives_then _ _ (gives_assigned T.structs at t p _ _ (subst (λ u. Gives (IsValueOf u) NoJump (eval_with T b call)) w.2 (gives_eval s see b w.1)) (gives_place s see b w.1))
+        (gives_give p tt))
+    gives_place s see (Node at t (Assign (Some op) a b)) w = gives_over (Undefined at) tt
+    gives_place s see (Node at t (Number n k)) w = gives_over (Undefined at) tt
+    gives_place s see (Node at t (Letter n)) w = gives_over (Undefined at) tt
+    gives_place s see (Node at t (Unary unary.Not a)) w = gives_over (Undefined at) tt
+    gives_place s see (Node at t (Unary unary.Plus a)) w = gives_over (Undefined at) tt
+    gives_place s see (Node at t (Unary unary.Minus a)) w = gives_over (Undefined at) tt
+    gives_place s see (Node at t (Unary unary.Flip a)) w = gives_over (Undefined at) tt
+    gives_place s see (Node at t (Unary unary.Address a)) w = gives_over (Undefined at) tt
+    gives_place s see (Node at t (Unary unary.Deref a)) w = absurd w.1
+    gives_place s see (Node at t (Binary op a b)) w = gives_over (Undefined at) tt
+    gives_place s see (Node at t (Both a b)) w = gives_over (Undefined at) tt
+    gives_place s see (Node at t (Either a b)) w = gives_over (Undefined at) tt
+    gives_place s see (Node at t (Choice a b c)) w = gives_over (Undefined at) tt
+    gives_place s see (Node at t (Bump op a)) w = gives_over (Undefined at) tt
+    gives_place s see (Node at t (Call f args)) w = gives_over (Undefined at) tt
+    gives_place s see (Node at t (Cast to a)) w = gives_over (Undefined at) tt
+    gives_place s see (Node at t (SizeOfType u)) w = gives_over (Undefined at) tt
+    gives_place s see (Node at t (SizeOfExpr a)) w = gives_over (Undefined at) tt
+    gives_place s see (Node at t (Text n)) w = absurd w
+    gives_place s see (Node at t (Index a b)) w = absurd w
+    gives_place s see (Node at t (Dot a m)) w = absurd w
+    gives_place s see (Node at t (Arrow a m)) w = absurd w
+    gives_place s see (Node at t (Comma a b)) w = absurd w
+
+    gives_evals : (s : Scopes) → Sees names functions s → (es : Expressions) → AreWellTyped s es → Gives Anything NoJump (evals_with T es call)
     gives_evals s see NoExpression w = gives_give [] tt
     gives_evals s see (Following e es) w =
         gives_bind _ _ (gives_eval s see e w.0) (λ v _. gives_bind _ _ (gives_evals s see es w.1) (λ vs _. gives_give (v ∷ vs) tt))
 
   -- an expression in a statement
-  gives_value : {L : Leave → Type 0} (s : Scopes) → Sees names functions s → (e : Expression) → WellTyped s e → Gives (IsValueOf (type_of e)) L (eval_with e call)
+  gives_value : {L : Leave → Type 0} (s : Scopes) → Sees names functions s → (e : Expression) → WellTyped s e → Gives (IsValueOf (type_of e)) L (eval_with T e call)
   gives_value s see e w = gives_no_jump _ (gives_eval s see e w)
 
-  gives_initialise : {L : Leave → Type 0} (s : Scopes) → Sees names functions s → (d : Declaration) (i : Option (Place × Initialiser)) → Initialises s d.ctype i → Gives Anything L (initialise d i call)
-  gives_initialise s see d None w = gives_give tt tt
-  gives_initialise s see d (Some (at, One e)) w =
-      gives_bind _ _ (gives_object at d.place.offset) (λ p _. gives_bind _ _ (gives_value s see e w.0) (λ v _. gives_write at p d.ctype v))
-  gives_initialise s see d (Some (at, Many brace is)) w = absurd w
+  -- no string stands alone
+  no_string : (s : Scopes) (e : Expression) → WellTyped s e → string_in e ≡ None
+  no_string s (Node at t (Text n)) w = absurd w
+  no_string s (Node at t _) w = refl
 
-  gives_initialise_all : {L : Leave → Type 0} (s : Scopes) → Sees names functions s → (ds : List Declaration) → AreDeclared s ds → Gives Anything L (initialise_all ds call)
+  gives_initialise : {L : Leave → Type 0} (s : Scopes) → Sees names functions s → (d : Declaration) (i : Option (Place × Initialiser)) → is_object_type d.ctype ≡ true → Initialises s d.ctype i → Gives Anything L (initialise T d i call)
+  gives_initialise s see d None o w = gives_give tt tt
+  gives_initialise {L = L} s see d (Some (at, One e)) o w =
+      gives_bind _ _ (gives_object at d.place.offset) (λ p _. subst (λ n. Gives Anything L (fill_one T at d.ctype p n (eval_with T e call))) (sym (no_string s e w.0))
+      (gives_bind _ _ (gives_value s see e w.0) (λ v _. gives_as_scalar d.ctype _ (object_integer d.ctype o) (λ k. gives_write at p (IntegerType k) v))))
+  gives_initialise s see d (Some (at, Many brace is)) o w = absurd w
+
+  gives_initialise_all : {L : Leave → Type 0} (s : Scopes) → Sees names functions s → (ds : List Declaration) → AreDeclared s ds → Gives Anything L (initialise_all T ds call)
   gives_initialise_all s see [] w = gives_give tt tt
   gives_initialise_all s see (d ∷ ds) w =
-      gives_then _ _ (gives_initialise s see d d.init w.0.init) (gives_initialise_all (with_object s d) (sees_objects names functions (d ∷ []) s see) ds w.1)
+      gives_then _ _ (gives_initialise s see d d.init w.0.ctype w.0.init) (gives_initialise_all (with_object s d) (sees_objects names functions (d ∷ []) s see) ds w.1)
 
-  gives_condition : {L : Leave → Type 0} (s : Scopes) → Sees names functions s → (e : Option Expression) → WhereAny (IsCondition s) e → Gives Anything L (condition_with e call)
+  gives_condition : {L : Leave → Type 0} (s : Scopes) → Sees names functions s → (e : Option Expression) → WhereAny (IsCondition s) e → Gives Anything L (condition_with T e call)
   gives_condition s see None w = gives_give (Integer (pos 1)) tt
-  gives_condition s see (Some e) w = gives_anything _ (gives_value s see e w.typed)
+  gives_condition s see (Some e) w = gives_no_jump _ (gives_tested_of e (gives_eval s see e w.typed))
 
-  gives_effect : {L : Leave → Type 0} (s : Scopes) → Sees names functions s → (e : Option Expression) → WhereAny (WellTyped s) e → Gives Anything L (effect_with e call)
+  gives_effect : {L : Leave → Type 0} (s : Scopes) → Sees names functions s → (e : Option Expression) → WhereAny (WellTyped s) e → Gives Anything L (effect_with T e call)
   gives_effect s see None w = gives_give tt tt
   gives_effect s see (Some e) w = gives_then _ _ (gives_value s see e w) (gives_give tt tt)
 
   mutual
-    gives_exec : (s : Scopes) → Sees names functions s → (r : Around) (a : Statement) (n : ℕ) → StatementTyped s r a → Gives Anything (Allowed r) (exec_with a call n)
+    gives_exec : (s : Scopes) → Sees names functions s → (r : Around) (a : Statement) (n : ℕ) → StatementTyped s r a → Gives Anything (Allowed r) (exec_with T a call n)
     gives_exec s see r (Empty at) n w = gives_give tt tt
     gives_exec s see r (Eval at e) n w = gives_then _ _ (gives_value s see e w) (gives_give tt tt)
     gives_exec s see r (Block at items) n w =
-        gives_within _ (gives_then _ _ (gives_births (declared_in items)) (gives_items (inner s) (sees_inner names functions s see) r items n w))
+        gives_within _ (gives_then _ _ (gives_births T.structs (declared_in items)) (gives_items (inner s) (sees_inner names functions s see) r items n w))
     gives_exec s see r (If at e a b) n w =
-        gives_bind _ _ (gives_value s see e w.0.typed) (λ v _. gives_choose v _ _ (gives_exec s see r a n w.1) (gives_else s see r b n w.2))
+        gives_bind _ _ (gives_condition s see (Some e) w.0) (λ v _. gives_choose v _ _ (gives_exec s see r a n w.1) (gives_else s see r b n w.2))
     gives_exec s see r (While at annots e a) n w =
         gives_turns r n _ _ _ (gives_condition s see (Some e) w.0) (gives_exec s see (in_loop r) a n w.1) (gives_give tt tt)
     gives_exec s see r (Do at a e) n w = gives_do_turns r n _ _ (gives_condition s see (Some e) w.1) (gives_exec s see (in_loop r) a n w.0)
@@ -479,7 +600,7 @@ module _ (names : List (List ℕ)) (functions : List Signature) (call : Callee) 
         let i = sees_inner names functions s see in
         let t = behind_first (inner s) first in
         let f = sees_first names functions first (inner s) i in
-        gives_within _ (gives_then _ _ (gives_then _ _ (gives_births (declared_first first)) (gives_first (inner s) i r first n w.0))
+        gives_within _ (gives_then _ _ (gives_then _ _ (gives_births T.structs (declared_first first)) (gives_first (inner s) i r first n w.0))
         (gives_turns r n _ _ _ (gives_condition t f e w.1) (gives_exec t f (in_loop r) a n w.3) (gives_effect t f step w.2)))
     gives_exec s see r (Break at) n w = gives_jump Breaks w
     gives_exec s see r (Continue at) n w = gives_jump Continues w
@@ -487,35 +608,36 @@ module _ (names : List (List ℕ)) (functions : List Signature) (call : Callee) 
     gives_exec s see r (Return at (Some e)) n w =
         gives_bind _ _ (gives_value s see e w.0) (λ v h. gives_jump (Returns (Some v)) (subst (λ t. IsValueOf t v) w.1 h))
 
-    gives_else : (s : Scopes) → Sees names functions s → (r : Around) (b : ElsePart) (n : ℕ) → ElseTyped s r b → Gives Anything (Allowed r) (else_with b call n)
+    gives_else : (s : Scopes) → Sees names functions s → (r : Around) (b : ElsePart) (n : ℕ) → ElseTyped s r b → Gives Anything (Allowed r) (else_with T b call n)
     gives_else s see r NoElse n w = gives_give tt tt
     gives_else s see r (Else a) n w = gives_exec s see r a n w
 
-    gives_first : (s : Scopes) → Sees names functions s → (r : Around) (first : ForFirst) (n : ℕ) → FirstTyped s r first → Gives Anything (Allowed r) (first_with first call n)
+    gives_first : (s : Scopes) → Sees names functions s → (r : Around) (first : ForFirst) (n : ℕ) → FirstTyped s r first → Gives Anything (Allowed r) (first_with T first call n)
     gives_first s see r NoFirst n w = gives_give tt tt
     gives_first s see r (First i) n w = gives_item s see r i n w
 
-    gives_item : (s : Scopes) → Sees names functions s → (r : Around) (i : BlockItem) (n : ℕ) → ItemTyped s r i → Gives Anything (Allowed r) (item_with i call n)
+    gives_item : (s : Scopes) → Sees names functions s → (r : Around) (i : BlockItem) (n : ℕ) → ItemTyped s r i → Gives Anything (Allowed r) (item_with T i call n)
     gives_item s see r (Declare ds) n w = gives_initialise_all s see ds w
     gives_item s see r (Run a) n w = gives_exec s see r a n w
     gives_item s see r (Asserts annots) n w = gives_checks annots
 
-    gives_items : (s : Scopes) → Sees names functions s → (r : Around) (items : BlockItems) (n : ℕ) → ItemsTyped s r items → Gives Anything (Allowed r) (items_with items call n)
+    gives_items : (s : Scopes) → Sees names functions s → (r : Around) (items : BlockItems) (n : ℕ) → ItemsTyped s r items → Gives Anything (Allowed r) (items_with T items call n)
     gives_items s see r NoItem n w = gives_give tt tt
     gives_items s see r (Then i rest) n w =
         gives_then _ _ (gives_item s see r i n w.0) (gives_items (behind s i) (sees_behind names functions i s see) r rest n w.1)
 
   -- the body of a definition
-  gives_body : (s : Scopes) → Sees names functions s → (t : PlainType) (body : Option Statement) (n : ℕ) → BodyFormed most_typed body → BodyTyped s t body → is_there body ≡ true → Gives Anything (Allowed (around_body t)) (body_with body call n)
+  gives_body : (s : Scopes) → Sees names functions s → (t : PlainType) (body : Option Statement) (n : ℕ) → BodyFormed most_typed body → BodyTyped s t body → is_there body ≡ true → Gives Anything (Allowed (around_body t)) (body_with T body call n)
   gives_body s see t None n formed typed there = absurd cc
   gives_body s see t (Some (Block at items)) n formed typed there =
-      gives_within _ (gives_then _ _ (gives_births (declared_in items)) (gives_items s see (around_body t) items n typed.0))
+      gives_within _ (gives_then _ _ (gives_births T.structs (declared_in items)) (gives_items s see (around_body t) items n typed.0))
   gives_body s see t (Some _) n formed typed there = absurd formed
 
 -- ---- calls
 
 close_well : (close : Place) (t : PlainType) (s : State) → EndsWell (IsValueOf t) NoJump (at_close close t s)
-close_well close Void s = tt
+close_well close (Int k) s = tt
+close_well close (Ptr t) s = tt
 close_well close _ s = tt
 
 returned_well : (f : Function) (r : Outcome (Unit {0})) → EndsWell Anything (Allowed (around_body f.result)) r → EndsWell (IsValueOf f.result) NoJump (returned_by f r)
@@ -526,11 +648,12 @@ returned_well f (Stop (Leaves (Returns None)) s) h = h
 returned_well f (Stop (Leaves (Returns (Some v))) s) h = h
 returned_well f (Stop (Over e) s) h = h
 
-gives_call : (f : Function) (call : Callee) (n : ℕ) (at : Place) (vs : List Value) → Gives Anything (Allowed (around_body f.result)) (body_with f.body call n) → Gives (IsValueOf f.result) NoJump (call_with (Some f) call n at vs)
-gives_call f call n at vs g =
+gives_call : (T : Tables) (globals : Scope) (s : Scopes) (f : Function) (call : Callee) (n : ℕ) (at : Place) (vs : List Value) → AreParameters s f.params → Gives Anything (Allowed (around_body f.result)) (body_with T f.body call n)
+    → Gives (IsValueOf f.result) NoJump (call_with T globals (Some f) call n at vs)
+gives_call T globals s f call n at vs w g =
     gives_then _ _ gives_step (gives_within _ (gives_then _ _
-    (gives_then _ _ (gives_then _ _ (gives_then _ _ gives_frame gives_alone) (gives_parameters at f.params vs)) (gives_mark None))
-    (record { at = λ s. returned_well f (body_with f.body call n s) (g.at s) })))
+    (gives_then _ _ (gives_then _ _ (gives_then _ _ gives_frame (gives_alone globals)) (gives_parameters T at s f.params vs w)) (gives_mark None))
+    (record { at = λ s. returned_well f (body_with T f.body call n s) (g.at s) })))
 
 -- a definition, with the functions before it and after it, and what is known of it
 record IsPlaced (p : TranslationUnit) (f : Function) : Type 0 where
@@ -571,11 +694,11 @@ module _ (p : TranslationUnit) where
     name_first name (f ∷ fs) = ap (λ r. if is_definition f && has_name (slice_get p.names f.name) name then Some f else r) (name_first name fs)
 
     -- where calls in it give values of their types, so does its body
-    gives_definition : (f : Function) (i : IsPlaced p f) (call : Callee) (n : ℕ) → CallsGive p.names (map (signature p.funcs) (i.before ++ f ∷ [])) call → Gives Anything (Allowed (around_body f.result)) (body_with f.body call n)
+    gives_definition : (f : Function) (i : IsPlaced p f) (call : Callee) (n : ℕ) → CallsGive p.names (map (signature p.funcs) (i.before ++ f ∷ [])) call → Gives Anything (Allowed (around_body f.result)) (body_with (tables_of p) f.body call n)
     gives_definition f i call n calls =
         let signatures = map (signature p.funcs) (i.before ++ f ∷ []) in
         let scopes = function_scopes p i.before f in
-        gives_body p.names signatures call calls (with_parameters scopes f.params)
+        gives_body (tables_of p) p.names signatures call calls (with_parameters scopes f.params)
         (sees_parameters p.names signatures f.params scopes (record { names_are = refl; functions_are = refl })) f.result f.body n i.formed.body i.typed.body i.definition
 
     -- calls so deep, in each function
@@ -587,15 +710,16 @@ module _ (p : TranslationUnit) where
         gives_if (is_of_library f) _ _ (gives_number t _ (gives_library_call at (slice_get p.names f.name) vs)) (gives_over Spent tt)
     calls_give (suc n) before after current is s see f t es c at vs = by (calls_give n) (is_of_library f) refl
       where
-        called : CallsGiveAt n → is_of_library f ≡ false → (o : Option Function) → definition_at f.decl p.funcs ≡ o → Gives (IsValueOf t) NoJump (call_with o (call_of p n) n at vs)
+        called : CallsGiveAt n → is_of_library f ≡ false → (o : Option Function) → definition_at f.decl p.funcs ≡ o → Gives (IsValueOf t) NoJump (call_with (tables_of p) (global_scope 1 p.globals) o (call_of p n) n at vs)
         called below l None e = gives_over (Undefined at) tt
         called below l (Some g) e =
             let i = placed (λ h. nat_eq h.place.offset f.decl) g (sym (number_first f.decl p.funcs) ∙ e) in
             let result : t ≡ g.result = called_result p q before after current is s see.names_are see.functions_are f t es c l g e in
-            subst (λ u. Gives (IsValueOf u) NoJump (call_with (Some g) (call_of p n) n at vs)) (sym result)
-            (gives_call g (call_of p n) n at vs (gives_definition g i (call_of p n) n (below i.before i.after g i.is)))
+            subst (λ u. Gives (IsValueOf u) NoJump (call_with (tables_of p) (global_scope 1 p.globals) (Some g) (call_of p n) n at vs)) (sym result)
+            (gives_call (tables_of p) (global_scope 1 p.globals) (function_scopes p i.before g) g (call_of p n) n at vs i.typed.params (gives_definition g i (call_of p n) n (below i.before i.after g i.is)))
 
-        by : CallsGiveAt n → (b : Bool) → is_of_library f ≡ b → Gives (IsValueOf t) NoJump (if b then library_call at (slice_get p.names f.name) vs else call_with (definition_at f.decl p.funcs) (call_of p n) n at vs)
+        by : CallsGiveAt n → (b : Bool) → is_of_library f ≡ b → Gives (IsValueOf t) NoJump
+            (if b then library_call at (slice_get p.names f.name) vs else call_with (tables_of p) (global_scope 1 p.globals) (definition_at f.decl p.funcs) (call_of p n) n at vs)
         by below true l = gives_number t _ (gives_library_call at (slice_get p.names f.name) vs)
         by below false l = called below l (definition_at f.decl p.funcs) refl
 
@@ -643,6 +767,7 @@ ran_named (Stop (Leaves Breaks) s) h = absurd cc
 ran_named (Stop (Leaves Continues) s) h = absurd cc
 ran_named (Stop (Leaves (Returns None)) s) h = tt
 ran_named (Stop (Leaves (Returns (Some NoValue))) s) h = absurd h
+ran_named (Stop (Leaves (Returns (Some (Points p)))) s) h = absurd h
 ran_named (Stop (Leaves (Returns (Some (Integer z)))) s) h = tt
 ran_named (Stop (Over e) s) h = h
 
@@ -653,9 +778,13 @@ never_faults p q input n =
     let m = main_is p p.funcs q.main in
     let f = m.function in
     let i = placed p q (λ g. has_name (slice_get p.names g.name) (codes "main")) f (sym (name_first p q (codes "main") p.funcs) ∙ m.found) in
-    let body = subst (λ t. Gives Anything (Allowed (around_body t)) (body_with f.body call (suc n))) m.result
+    let T = tables_of p in
+    let body = subst (λ t. Gives Anything (Allowed (around_body t)) (body_with T f.body call (suc n))) m.result
     (gives_definition p q f i call (suc n) (calls_give p q (suc n) i.before i.after f i.is)) in
-    let whole : Gives Anything (Allowed (around_body int_type)) (main_with (Some f) call (suc n)) =
-    gives_within _ (gives_then _ _ (gives_then _ _ (gives_then _ _ gives_frame (gives_births f.params)) (gives_mark None)) body) in
-    let named = ran_named (main_with (Some f) call (suc n) (start input n)) (whole.at (start input n)) in
-    named_is (run p input n).final (subst (λ o. IsNamed (ran (main_with o call (suc n) (start input n))).final) (sym m.found) named)
+    let of_main : Gives Anything (Allowed (around_body int_type)) (main_with T (Some f) call (suc n)) =
+    gives_within _ (gives_then _ _ (gives_then _ _ (gives_then _ _ gives_frame (gives_births T.structs f.params)) (gives_mark None)) body) in
+    let of_globals : Gives Anything (Allowed (around_body int_type)) (initialise_all T p.globals call) =
+    subst (λ ds. Gives Anything (Allowed (around_body int_type)) (initialise_all T ds call)) (sym q.formed.globals) (gives_give tt tt) in
+    let all = gives_then (initialise_all T p.globals call) (main_with T (Some f) call (suc n)) of_globals of_main in
+    let named = ran_named _ (all.at (start p input n)) in
+    named_is (run p input n).final (subst (λ o. IsNamed (ran ((initialise_all T p.globals call >> main_with T o call (suc n)) (start p input n))).final) (sym m.found) named)

@@ -10,8 +10,7 @@ pub mod Cells
 pub mod Blocks
 -- runs
 pub mod Fit
-pub mod Growth
-pub mod Whole
+pub mod Along
 pub mod Agreement
 pub mod Signatures
 pub mod Faultless
@@ -41,5 +40,6 @@ mod CTexts
 mod WorkedTrees
 mod WorkedTypings
 mod WorkedOperators
+mod WorkedMemory
 mod WorkedRuns
 mod WorkedCalls

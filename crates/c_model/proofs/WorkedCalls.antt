@@ -312,7 +312,7 @@ dead_block n = record { kind = Stack; size = 4; live = false; bytes = Number n �
 
 -- with so many calls active, and so many steps left
 abbrev busy : ℕ → ℕ → State
-busy calls steps = record (start no_input steps) { calls = calls }
+busy calls steps = record (start subtracts no_input steps) { calls = calls }
 
 -- the parameters' blocks are born in order, and none outlives the call
 eval-seven_minus_four : eval subtracts 10 seven_minus_four (busy 1 5)

@@ -248,9 +248,11 @@ abbrev pub FunctionsFormed : ℕ → List Function → Type 0
 FunctionsFormed most [] = Unit {0}
 FunctionsFormed most (f ∷ fs) = FunctionFormed most f × FunctionsFormed most fs
 
--- functions, and nothing else at file scope
+-- functions, and nothing else at file scope, and no strings
 pub record ProgramFormed (most : ℕ) (p : TranslationUnit) : Type 0 where
   pub globals : p.globals ≡ []
+  pub texts : p.texts ≡ []
+  pub structs : p.structs ≡ []
   pub functions : FunctionsFormed most p.funcs
 
 -- a form has a token of its own, and an expression 400 of these

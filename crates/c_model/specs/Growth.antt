@@ -1,10 +1,6 @@
 -- The output of an evaluation only grows.
 use Rattle.std.specs.Prelude.{◌≡◌, ℕ, List, ◌++◌}
-use Rattle.c_syntax.specs.declared.place.Place.{Place}
-use Rattle.c_syntax.specs.declared.expression.Use.{Use}
-use Rattle.c_model.specs.Memory.{Value}
 use Rattle.c_model.specs.State.{State, Outcome, Normal, Stop, Evaluation}
-use Rattle.c_model.specs.Meaning.{Callee}
 
 -- the output at an outcome
 abbrev pub output_after : {A : Type 0} → Outcome A → List ℕ
@@ -19,6 +15,3 @@ pub record Grown {A : Type 0} (o : List ℕ) (r : Outcome A) : Type 0 where
 -- from every state the output only grows
 pub record Grows {A : Type 0} (m : Evaluation A) : Type 0 where
   pub at : (s : State) → Grown s.output (m s)
-
-abbrev pub CalleeGrows : Callee → Type 0
-CalleeGrows call = (at : Place) (f : Use) (vs : List Value) → Grows (call at f vs)

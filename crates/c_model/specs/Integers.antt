@@ -8,7 +8,7 @@ use Rattle.c_syntax.specs.declared.expression.UnOp.{UnOp}
 use Rattle.c_syntax.specs.declared.expression.UnOp.TheVariants.{Plus, Minus, Not, Flip, Deref, Address}
 use Rattle.c_syntax.specs.declared.expression.BinOp.{BinOp}
 use Rattle.c_syntax.specs.declared.expression.BinOp.TheVariants.{Add, Sub, Mul, Div, Rem, Shl, Shr, BitAnd, BitOr, BitXor, Eq, Ne, Lt, Le, Gt, Ge}
-use Rattle.c_syntax.specs.Ctypes.{PlainType, Int}
+use Rattle.c_syntax.specs.Ctypes.{PlainType, Void, Int, Ptr, Array, Struct, Named, StructTag, EnumTag}
 use Rattle.c_model.specs.Operators.{quotient, remainder, shift_left, shift_right, complement, bitwise_and, bitwise_or, bitwise_xor}
 
 -- the bytes of an integer type
@@ -47,14 +47,16 @@ value_bits U64 = 64
 abbrev pub width : CInt → ℕ
 width k = 8 * int_size k
 
--- the size of a type in bytes (C99 6.5.3.4), and its alignment, which is its size for a scalar; objects are integers
-abbrev pub size_of : PlainType → ℕ
-size_of (Int k) = int_size k
-size_of _ = 0
-
-abbrev pub align_of : PlainType → ℕ
-align_of (Int k) = int_size k
-align_of _ = 1
+-- the integer type that a type is, where it is one
+abbrev pub integer_type : PlainType → Option CInt
+integer_type (Int k) = Some k
+integer_type (Ptr t) = None
+integer_type (Array t n) = None
+integer_type (Struct n) = None
+integer_type Void = None
+integer_type (Named x) = None
+integer_type (StructTag x) = None
+integer_type (EnumTag x at) = None
 
 -- whether the type has the value
 abbrev pub fits : CInt → ℤ → Bool
@@ -121,9 +123,9 @@ operate_in k Le x y = Some (truth (int_le x y))
 operate_in k Gt x y = Some (truth (int_lt y x))
 operate_in k Ge x y = Some (truth (int_le y x))
 
+-- the same in a type
 abbrev pub operate : PlainType → BinOp → ℤ → ℤ → Option ℤ
-operate (Int k) op x y = operate_in k op x y
-operate _ op x y = None
+operate t op x y = elim (integer_type t) [ None ↦ None | Some k ↦ operate_in k op x y ]
 
 -- an operator on a value of the type k (C99 6.5.3.3)
 abbrev pub operate_one_in : CInt → UnOp → ℤ → Option ℤ
@@ -135,8 +137,7 @@ operate_one_in k Deref x = None
 operate_one_in k Address x = None
 
 abbrev pub operate_one : PlainType → UnOp → ℤ → Option ℤ
-operate_one (Int k) op x = operate_one_in k op x
-operate_one _ op x = None
+operate_one t op x = elim (integer_type t) [ None ↦ None | Some k ↦ operate_one_in k op x ]
 
 -- the byte that putchar writes: its argument converted to unsigned char (C99 7.19.7.9, 7.19.7.3 p2)
 abbrev pub byte_of : ℤ → ℕ

@@ -1,23 +1,21 @@
 -- Laws that the definitions meet: of integers and memory, of runs, and of the order of runs.
 use Rattle.std.specs.Prelude.{◌≡◌, ℕ, ◌+◌, ◌%◌, ◌^◌, ◌<◌, ◌≤◌, ◌≢◌, ℤ, pos, true, false, if◌then◌else◌, List, [], ◌∷◌, length, take, drop, Option, Some, None}
-use Rattle.std.specs.Prelude.{codes}
 use Rattle.c_syntax.specs.declared.place.Place.{Place}
 use Rattle.c_syntax.specs.declared.types.CInt.{CInt}
-use Rattle.c_syntax.specs.Ctypes.{PlainType, Int}
 use Rattle.c_syntax.specs.declared.types.CInt.TheVariants.{I32}
-use Rattle.c_syntax.specs.declared.expression.Use.{Use}
 use Rattle.c_syntax.specs.declared.expression.UnOp.{UnOp}
 use Rattle.c_syntax.specs.declared.expression.UnOp.TheVariants.{Not}
 use Rattle.c_syntax.specs.declared.expression.BinOp.{BinOp}
 use Rattle.c_syntax.specs.Expressions.{Expression}
 use Rattle.c_syntax.specs.Annotations.{Annotation}
 use Rattle.c_syntax.specs.Statements.{Statement, While, Do}
-use Rattle.c_syntax.specs.Programs.{Function, TranslationUnit}
-use Rattle.c_model.specs.Integers.{size_of, fits, is_signed, value_bits, bits_of, value_of_bits, convert, result_in, operate_in, operate_one_in}
+use Rattle.c_syntax.specs.Programs.{TranslationUnit}
+use Rattle.c_model.specs.Integers.{fits, is_signed, value_bits, bits_of, value_of_bits, convert, result_in, operate_in, operate_one_in}
 use Rattle.c_model.specs.Conversions.{is_shift, is_relation}
-use Rattle.c_model.specs.Memory.{Pointer, Into, Value, Integer, Block, Store, block_at, load, save}
+use Rattle.c_model.specs.Layouts.{Scalar, IntegerType, PointerType, scalar_size}
+use Rattle.c_model.specs.Memory.{Pointer, Into, Value, Integer, Points, Block, Store, block_at, load, save}
 use Rattle.c_model.specs.State.{Input, State, Fault, Outcome, Normal, Stop, Evaluation, ◌>>=◌, ◌>>◌, done, step}
-use Rattle.c_model.specs.Meaning.{Callee, choose, after_body, turns, condition_with, effect_with, call_of, eval, exec, function_named, main_with, start, ran}
+use Rattle.c_model.specs.Meaning.{choose, after_body, turns, condition_with, effect_with, call_of, tables_of, condition, exec, whole, start, ran}
 use Rattle.c_model.specs.Meaning.{run, Ran}
 use Rattle.c_model.specs.Reports.{Agrees}
 use Rattle.c_model.specs.Formed.{IsProgram}
@@ -80,12 +78,17 @@ AreWhole (b ∷ bs) = (length b.bytes ≡ b.size) × AreWhole bs
 
 -- what is saved is loaded again (C99 6.5.16)
 abbrev pub SavedValuesLoad : Type 0
-SavedValuesLoad = (store saved : Store) (p : Pointer) (k : CInt) (z : ℤ) → AreWhole store → fits k z ≡ true → save store p (Int k) (Integer z) ≡ Some saved
-    → load saved p (Int k) ≡ Some (Integer z)
+SavedValuesLoad = (store saved : Store) (p : Pointer) (k : CInt) (z : ℤ) → AreWhole store → fits k z ≡ true
+    → save store p (IntegerType k) (Integer z) ≡ Some saved → load saved p (IntegerType k) ≡ Some (Integer z)
+
+-- a pointer that is saved is loaded again
+abbrev pub SavedPointersLoad : Type 0
+SavedPointersLoad = (store saved : Store) (p q : Pointer) → AreWhole store → save store p PointerType (Points q) ≡ Some saved
+    → load saved p PointerType ≡ Some (Points q)
 
 -- a save changes no other block
 abbrev pub SavesKeepBlocks : Type 0
-SavesKeepBlocks = (store saved : Store) (n offset : ℕ) (t : PlainType) (v : Value) → save store (Into n offset) t v ≡ Some saved → (m : ℕ) → m ≢ n
+SavesKeepBlocks = (store saved : Store) (n offset : ℕ) (k : Scalar) (v : Value) → save store (Into n offset) k v ≡ Some saved → (m : ℕ) → m ≢ n
     → block_at saved m ≡ block_at store m
 
 -- the same block but for so many bytes at the offset
@@ -99,12 +102,12 @@ pub record SameButAt (offset size : ℕ) (b written : Block) : Type 0 where
 
 -- a save changes no byte of its block outside the object
 abbrev pub SavesKeepBytes : Type 0
-SavesKeepBytes = (store saved : Store) (n offset : ℕ) (t : PlainType) (v : Value) → AreWhole store → save store (Into n offset) t v ≡ Some saved
-    → (b written : Block) → block_at store n ≡ Some b → block_at saved n ≡ Some written → SameButAt offset (size_of t) b written
+SavesKeepBytes = (store saved : Store) (n offset : ℕ) (k : Scalar) (v : Value) → AreWhole store → save store (Into n offset) k v ≡ Some saved
+    → (b written : Block) → block_at store n ≡ Some b → block_at saved n ≡ Some written → SameButAt offset (scalar_size k) b written
 
 -- a save leaves each block its number of bytes
 abbrev pub SavesKeepWhole : Type 0
-SavesKeepWhole = (store saved : Store) (p : Pointer) (t : PlainType) (v : Value) → AreWhole store → save store p t v ≡ Some saved → AreWhole saved
+SavesKeepWhole = (store saved : Store) (p : Pointer) (k : Scalar) (v : Value) → AreWhole store → save store p k v ≡ Some saved → AreWhole saved
 
 -- the store at an outcome
 abbrev pub store_after : {A : Type 0} → Outcome A → Store
@@ -114,9 +117,6 @@ store_after (Stop e s) = s.store
 -- from every state the blocks stay whole
 pub record KeepsWhole {A : Type 0} (m : Evaluation A) : Type 0 where
   pub at : (s : State) → AreWhole s.store → AreWhole (store_after (m s))
-
-abbrev pub CalleeKeepsWhole : Callee → Type 0
-CalleeKeepsWhole call = (at : Place) (f : Use) (vs : List Value) → KeepsWhole (call at f vs)
 
 -- a statement leaves each block its number of bytes
 abbrev pub StatementsKeepWhole : Type 0
@@ -135,31 +135,30 @@ StepsFall = (p : TranslationUnit) (a : Statement) (n : ℕ) (s : State) → s.st
 -- a `while` is one turn and then the loop again (C99 6.8.5.1)
 abbrev pub LoopsTurn : Type 0
 LoopsTurn = (p : TranslationUnit) (at : Place) (annots : List Annotation) (e : Expression) (a : Statement) (n : ℕ) (s : State) → s.steps < n
-    → exec p n (While at annots e a) s ≡ (eval p n e >>= λ v. choose v (step >> λ t. after_body (exec p n a t) (exec p n (While at annots e a))) done) s
+    → exec p n (While at annots e a) s ≡ (condition p n e >>= λ v. choose v (step >> λ t. after_body (exec p n a t) (exec p n (While at annots e a))) done) s
 
 -- a `do` is a step, its body and its condition, and then the loop again where that isn't 0 (C99 6.8.5.2)
 abbrev pub DoLoopsTurn : Type 0
 DoLoopsTurn = (p : TranslationUnit) (at : Place) (a : Statement) (e : Expression) (n : ℕ) (s : State) → s.steps < n
-    → exec p n (Do at a e) s ≡ (step >> λ t. after_body (exec p n a t) (eval p n e >>= λ v. choose v (exec p n (Do at a e)) done)) s
+    → exec p n (Do at a e) s ≡ (step >> λ t. after_body (exec p n a t) (condition p n e >>= λ v. choose v (exec p n (Do at a e)) done)) s
 
 -- the turns of a `for`
 abbrev pub for_turns : TranslationUnit → ℕ → Option Expression → Option Expression → Statement → Evaluation (Unit {0})
-for_turns p n e behind a = turns n (condition_with e (call_of p n)) (exec p n a) (effect_with behind (call_of p n))
+for_turns p n e behind a = turns n (condition_with (tables_of p) e (call_of p n)) (exec p n a) (effect_with (tables_of p) behind (call_of p n))
 
 -- they are one turn, what stands after the body, and then the turns again (C99 6.8.5.3)
 abbrev pub ForLoopsTurn : Type 0
 ForLoopsTurn = (p : TranslationUnit) (e behind : Option Expression) (a : Statement) (n : ℕ) (s : State) → s.steps < n
-    → for_turns p n e behind a s ≡ (condition_with e (call_of p n) >>=
-    λ v. choose v (step >> λ t. after_body (exec p n a t) (effect_with behind (call_of p n) >> for_turns p n e behind a)) done) s
+    → for_turns p n e behind a s ≡ (condition_with (tables_of p) e (call_of p n) >>=
+    λ v. choose v (step >> λ t. after_body (exec p n a t) (effect_with (tables_of p) behind (call_of p n) >> for_turns p n e behind a)) done) s
 
 -- a run is the same with any number of turns above its steps
 abbrev pub RunsNeedNoFuel : Type 0
-RunsNeedNoFuel = (p : TranslationUnit) (input : Input) (n m : ℕ) → n < m
-    → run p input n ≡ ran (main_with (function_named p (codes "main") p.funcs) (call_of p m) m (start input n))
+RunsNeedNoFuel = (p : TranslationUnit) (input : Input) (n m : ℕ) → n < m → run p input n ≡ ran (whole p m (start p input n))
 
--- the output of a call of main only grows
+-- the output of a run only grows
 abbrev pub OutputGrows : Type 0
-OutputGrows = (p : TranslationUnit) (f : Option Function) (n : ℕ) → Grows (main_with f (call_of p n) n)
+OutputGrows = (p : TranslationUnit) (n : ℕ) → Grows (whole p n)
 
 -- a run leaves no more steps than it had
 abbrev pub RunsSpendSteps : Type 0

@@ -1,6 +1,7 @@
 pub mod Operators
 pub mod Integers
 pub mod Conversions
+pub mod Layouts
 pub mod Memory
 pub mod State
 pub mod Logic

@@ -1,26 +1,33 @@
 -- What expressions, statements and whole programs do (C99 6.5, 6.8, 5.1.2.2.3; evaluation goes from left to right).
-use Rattle.std.specs.Prelude.{ℕ, zero, suc, pos, Bool, false, cond, not, ◌&&◌, if◌then◌else◌, nat_eq, List, [], ◌∷◌, ◌++◌, Option, Some, None, option_map}
-use Rattle.std.specs.Prelude.{slice_get, codes, bytes_eq}
+use Rattle.std.specs.Prelude.{ℕ, zero, suc, int_lt, int_le, ◌+◌, pos, ℤ, ◌*ℤ◌, ◌-ℤ◌, Bool, true, false, cond, not, ◌&&◌, if◌then◌else◌, nat_eq, List, []}
+use Rattle.std.specs.Prelude.{◌∷◌, ◌++◌, length, map, replicate, Option, Some, None, option_map, slice_get, codes, bytes_eq}
 use Rattle.std.specs.Ordering.{int_eq}
 use Rattle.c_syntax.specs.declared.place.Place.{Place}
 use Rattle.c_syntax.specs.declared.expression.Use.{Use}
 use Rattle.c_syntax.specs.declared.expression.UnOp.{UnOp}
+use Rattle.c_syntax.specs.declared.expression.UnOp.TheVariants as unary
 use Rattle.c_syntax.specs.declared.expression.BinOp.{BinOp}
 use Rattle.c_syntax.specs.declared.expression.BinOp.TheVariants as operator
 use Rattle.c_syntax.specs.declared.expression.BumpOp.{BumpOp}
 use Rattle.c_syntax.specs.declared.expression.BumpOp.TheVariants.{PreUp, PreDown, PostUp, PostDown}
-use Rattle.c_syntax.specs.Ctypes.{PlainType, Void, Int, int_type}
+use Rattle.c_syntax.specs.declared.types.CInt.{CInt}
+use Rattle.c_syntax.specs.declared.types.BlockKind.TheVariants as block
+use Rattle.c_syntax.specs.Ctypes.{PlainType, Int, Ptr, Array, int_type}
 use Rattle.c_syntax.specs.Expressions.{Expression, Node, Number, Letter, Variable, Unary, Binary, Both, Either, Choice, Assign, Bump, Call, Cast, SizeOfType}
-use Rattle.c_syntax.specs.Expressions.{SizeOfExpr, Text, Index, Dot, Arrow, Comma, Expressions, NoExpression, Following, type_of}
-use Rattle.c_syntax.specs.Statements.{Initialiser, One, Many, Declaration, Statement, Empty, Eval, Block, If, While, Do, For, Break, Continue, Return, ElsePart}
-use Rattle.c_syntax.specs.Statements.{NoElse, Else, ForFirst, NoFirst, First, BlockItem, Declare, Run, Asserts, BlockItems, NoItem, Then}
-use Rattle.c_syntax.specs.Programs.{Function, TranslationUnit}
-use Rattle.c_model.specs.Integers.{size_of, convert, truth, operate, operate_one, byte_of}
+use Rattle.c_syntax.specs.Expressions.{SizeOfExpr, Text, Index, Dot, Arrow, Comma, Expressions, NoExpression, Following, place_of, type_of}
+use Rattle.c_syntax.specs.Statements.{Initialiser, One, Many, Initialisers, NoInitialiser, Listed, Declaration, Statement, Empty, Eval, Block, If, While}
+use Rattle.c_syntax.specs.Statements.{Do, For, Break, Continue, Return, ElsePart, NoElse, Else, ForFirst, NoFirst, First, BlockItem, Declare, Run, Asserts}
+use Rattle.c_syntax.specs.Statements.{BlockItems, NoItem, Then}
+use Rattle.c_syntax.specs.Programs.{StructType, Function, TranslationUnit}
+use Rattle.c_model.specs.Integers.{convert, integer_type, truth, operate, operate_one, byte_of}
 use Rattle.c_model.specs.Conversions.{operation_type, is_shift}
-use Rattle.c_model.specs.Memory.{Pointer, Value, Integer, NoValue}
-use Rattle.c_model.specs.State.{Input, State, Breaks, Continues, Returns, Final, Exits, Undefined, Fault, Spent, Leaves, Over, Outcome, Normal, Stop}
-use Rattle.c_model.specs.State.{Evaluation, ◌>>=◌, ◌>>◌, give, done, stop, defined, step, print, read_byte, object, read, write, write_youngest, birth, births}
-use Rattle.c_model.specs.State.{alone, frame, mark, within}
+use Rattle.c_model.specs.Operators.{quotient}
+use Rattle.c_model.specs.Layouts.{Scalar, IntegerType, PointerType, scalar_size, scalar_of, size_of, target_of, offset_of, parts_of, scalars_of}
+use Rattle.c_model.specs.Memory.{Pointer, Null, Into, Value, Integer, Points, NoValue, Byte, Number as NumberByte, Block as MemoryBlock, block_of, Store}
+use Rattle.c_model.specs.Memory.{moved, distance, equal_pointers, shifted}
+use Rattle.c_model.specs.State.{Scope, Input, State, Breaks, Continues, Returns, Final, Exits, Undefined, Fault, Spent, Leaves, Over, Outcome, Normal}
+use Rattle.c_model.specs.State.{Stop, Evaluation, ◌>>=◌, ◌>>◌, give, done, stop, defined, step, print, read_byte, computed, as_scalar, find, object, read}
+use Rattle.c_model.specs.State.{read_any, write, write_bytes, copy_object, tested, write_youngest, birth, births, alone, frame, mark, within}
 use Rattle.c_model.specs.Library.{is_there}
 use Rattle.c_model.specs.Logic.{checks}
 
@@ -32,32 +39,103 @@ is_definition f = is_there f.body
 abbrev pub Callee : Type 0
 Callee = Place → Use → List Value → Evaluation Value
 
+-- what doesn't change in a run: the layouts of the structs, the bytes of the string literals, and how many globals there are. The
+-- blocks of the globals come first, and then those of the literals
+pub record Tables : Type 0 where
+  pub structs : List StructType
+  pub texts : List (List ℕ)
+  pub globals : ℕ
+
+-- where a string literal stands
+abbrev pub literal : Tables → ℕ → Pointer
+literal T n = Into (T.globals + n + 1) 0
+
 -- ---- values
 
 -- an operator on one value
 abbrev pub operate_value : PlainType → UnOp → Value → Option Value
 operate_value t op NoValue = None
+operate_value t op (Points p) = None
 operate_value t op (Integer x) = option_map Integer (operate_one t op x)
 
--- an operator on two values
-abbrev pub operate_values : PlainType → BinOp → Value → Value → Option Value
-operate_values t op NoValue y = None
-operate_values t op (Integer x) NoValue = None
-operate_values t op (Integer x) (Integer y) = option_map Integer (operate t op x y)
+-- the size of what is pointed to, on either side
+abbrev pub unit_of : List StructType → PlainType → PlainType → ℕ
+unit_of structs t u =
+    elim (scalar_of t) [
+      | None ↦ size_of structs (target_of u)
+      | Some k ↦ elim k [ IntegerType i ↦ size_of structs (target_of u) | PointerType ↦ size_of structs (target_of t) ]
+    ]
 
--- a value converted to a type (C99 6.3.1.3, 6.3.2.2)
+-- a pointer and a number of elements (C99 6.5.6 p8)
+abbrev pub farther : Store → ℕ → Pointer → ℤ → Option Pointer
+farther store unit p i = moved store p (i *ℤ pos unit)
+
+abbrev pub pointer_and_integer : ℕ → BinOp → Store → Pointer → ℤ → Option Value
+pointer_and_integer unit operator.Add store p i = option_map Points (farther store unit p i)
+pointer_and_integer unit operator.Sub store p i = option_map Points (farther store unit p (pos 0 -ℤ i))
+pointer_and_integer unit _ store p i = None
+
+abbrev pub integer_and_pointer : ℕ → BinOp → Store → ℤ → Pointer → Option Value
+integer_and_pointer unit operator.Add store i p = option_map Points (farther store unit p i)
+integer_and_pointer unit _ store i p = None
+
+-- a difference in bytes as one of elements (C99 6.5.6 p9)
+abbrev pub elements_between : ℕ → Option ℤ → Option Value
+elements_between unit None = None
+elements_between unit (Some d) = option_map Integer (quotient d (pos unit))
+
+-- two pointers (C99 6.5.6 p9, 6.5.8 p5, 6.5.9 p6)
+abbrev pub two_pointers : ℕ → BinOp → Store → Pointer → Pointer → Option Value
+two_pointers unit operator.Sub store p q = elements_between unit (distance store p q)
+two_pointers unit operator.Eq store p q = option_map (λ b. Integer (truth b)) (equal_pointers store p q)
+two_pointers unit operator.Ne store p q = option_map (λ b. Integer (truth (not b))) (equal_pointers store p q)
+two_pointers unit operator.Lt store p q = option_map (λ d. Integer (truth (int_lt d (pos 0)))) (distance store p q)
+two_pointers unit operator.Le store p q = option_map (λ d. Integer (truth (int_le d (pos 0)))) (distance store p q)
+two_pointers unit operator.Gt store p q = option_map (λ d. Integer (truth (int_lt (pos 0) d))) (distance store p q)
+two_pointers unit operator.Ge store p q = option_map (λ d. Integer (truth (int_le (pos 0) d))) (distance store p q)
+two_pointers unit _ store p q = None
+
+-- an operator on two values, where what is pointed to has so many bytes
+abbrev pub operate_values : ℕ → PlainType → BinOp → Store → Value → Value → Option Value
+operate_values unit t op store (Integer x) (Integer y) = option_map Integer (operate t op x y)
+operate_values unit t op store (Integer x) (Points q) = integer_and_pointer unit op store x q
+operate_values unit t op store (Integer x) NoValue = None
+operate_values unit t op store (Points p) (Integer y) = pointer_and_integer unit op store p y
+operate_values unit t op store (Points p) (Points q) = two_pointers unit op store p q
+operate_values unit t op store (Points p) NoValue = None
+operate_values unit t op store NoValue y = None
+
+-- an integer converted to a scalar type; one that becomes a pointer is the null constant (C99 6.3.1.3, 6.3.2.3)
+abbrev pub integer_as : Scalar → ℤ → Value
+integer_as (IntegerType k) z = Integer (convert k z)
+integer_as PointerType z = Points Null
+
+abbrev pub pointer_as : Scalar → Pointer → Value
+pointer_as (IntegerType k) p = NoValue
+pointer_as PointerType p = Points p
+
+abbrev pub value_as : Scalar → Value → Value
+value_as k (Integer z) = integer_as k z
+value_as k (Points p) = pointer_as k p
+value_as k NoValue = NoValue
+
+-- a value converted to a type (C99 6.3.1.3, 6.3.2.2, 6.3.2.3)
 abbrev pub converted : PlainType → Value → Value
-converted (Int k) NoValue = NoValue
-converted (Int k) (Integer z) = Integer (convert k z)
-converted _ v = NoValue
+converted t v = elim (scalar_of t) [ None ↦ NoValue | Some k ↦ value_as k v ]
 
--- the value of the type `t` that `left op right` has, where these are values of the types t and u: the operands are converted,
--- and so is the result (C99 6.5.16.2 p3)
-abbrev pub compound : PlainType → BinOp → Value → PlainType → Value → Option Value
-compound (Int k) op v (Int l) w =
+-- the same of values of integer types k and l: the operands are converted, and so is the result (C99 6.5.16.2 p3)
+abbrev pub compound_integers : CInt → BinOp → Store → Value → CInt → Value → Option Value
+compound_integers k op store v l w =
     let m = Int (operation_type op k l)
-    in option_map (converted (Int k)) (operate_values m op (converted m v) (if is_shift op then w else converted m w))
-compound _ op v u w = None
+    in option_map (converted (Int k)) (operate_values 1 m op store (converted m v) (if is_shift op then w else converted m w))
+
+-- the value of the type `t` that `left op right` has, where these are values of the types t and u
+abbrev pub compound : List StructType → PlainType → BinOp → Store → Value → PlainType → Value → Option Value
+compound structs t op store v u w =
+    elim (integer_type t) [
+      | None ↦ operate_values (size_of structs (target_of t)) t op store v w
+      | Some k ↦ elim (integer_type u) [ None ↦ None | Some l ↦ compound_integers k op store v l w ]
+    ]
 
 -- the operator of `++` and `--` (C99 6.5.2.4, 6.5.3.1)
 abbrev pub bump_operator : BumpOp → BinOp
@@ -75,6 +153,7 @@ bump_value PostDown old new = old
 
 abbrev pub is_zero : Value → Bool
 is_zero (Integer z) = int_eq z (pos 0)
+is_zero (Points p) = false
 is_zero NoValue = false
 
 -- 0 chooses the second (C99 6.5.13 to 6.5.15, 6.8.4.1, 6.8.5)
@@ -85,94 +164,162 @@ choose v a b = cond (is_zero v) b a
 abbrev pub truth_value : Value → Value
 truth_value v = Integer (truth (not (is_zero v)))
 
-abbrev pub size_value : PlainType → Value
-size_value t = Integer (pos (size_of t))
+abbrev pub is_of_library : Use → Bool
+is_of_library f = nat_eq f.decl 4294967295
+
+-- ---- places
+
+-- the place that a pointer's value names (C99 6.5.3.2 p4)
+abbrev pub pointed_to : Value → Evaluation Pointer
+pointed_to (Points p) = give p
+pointed_to (Integer z) = stop (Over Fault)
+pointed_to NoValue = stop (Over Fault)
+
+-- a member of an object; null has none (C99 6.5.2.3)
+abbrev pub member : Place → Pointer → ℕ → Evaluation Pointer
+member at Null offset = stop (Over (Undefined at))
+member at (Into n i) offset = give (Into n (i + offset))
+
+-- `x[y]`, of which one is a pointer (C99 6.5.2.1 p2)
+abbrev pub indexed : ℕ → Store → Value → Value → Option Pointer
+indexed unit store (Points p) (Integer i) = farther store unit p i
+indexed unit store (Integer i) (Points p) = farther store unit p i
+indexed unit store (Points p) (Points q) = None
+indexed unit store (Integer i) (Integer j) = None
+indexed unit store (Points p) NoValue = None
+indexed unit store (Integer i) NoValue = None
+indexed unit store NoValue y = None
+
+-- an address that is taken: that of a member lies in a live block, or one after its end
+abbrev pub is_member : Expression → Bool
+is_member (Node at t (Dot a m)) = true
+is_member (Node at t (Arrow a m)) = true
+is_member _ = false
+
+abbrev pub address : Expression → Pointer → Evaluation Value
+address e p = if is_member e then computed (place_of e) (λ store. option_map Points (moved store p (pos 0))) else give (Points p)
+
+-- a value that is assigned, or an object that is copied
+abbrev pub assigned : List StructType → Place → PlainType → Option Scalar → Pointer → Evaluation Value → Evaluation Pointer → Evaluation Value
+assigned structs at t (Some k) p v q = v >>= λ x. write at p k x >> give x
+assigned structs at t None p v q = q >>= λ y. copy_object at p y (map (λ (c : ℕ × Scalar). (c.0, scalar_size c.1)) (scalars_of structs t)) >> give NoValue
+
+-- a cast of an array is the address of its first element (C99 6.3.2.1 p3)
+abbrev pub is_array : PlainType → Bool
+is_array (Array t n) = true
+is_array _ = false
 
 -- ---- expressions
 
--- what an expression gives, and where the object of one stands that designates an object (C99 6.3.2.1). Forms that typing refuses
--- are undefined: strings, subscripts, members and commas
-abbrev mutual
-  pub eval_with : Expression → Callee → Evaluation Value
-  eval_with (Node at t (Number n k)) call = give (Integer n)
-  eval_with (Node at t (Letter n)) call = give (Integer n)
-  eval_with (Node at t (Variable x)) call = do
-    p ← object at x.decl
-    read at p t
-  eval_with (Node at t (Unary op a)) call = do
-    x ← eval_with a call
-    defined at (operate_value t op x)
-  eval_with (Node at t (Binary op a b)) call = do
-    x ← eval_with a call
-    y ← eval_with b call
-    defined at (operate_values t op x y)
-  eval_with (Node at t (Both a b)) call = do
-    x ← eval_with a call
-    choose x (eval_with b call >>= λ y. give (truth_value y)) (give (Integer (pos 0)))
-  eval_with (Node at t (Either a b)) call = do
-    x ← eval_with a call
-    choose x (give (Integer (pos 1))) (eval_with b call >>= λ y. give (truth_value y))
-  eval_with (Node at t (Choice a b c)) call = do
-    x ← eval_with a call
-    choose x (eval_with b call) (eval_with c call)
-  eval_with (Node at t (Assign None a b)) call = do
-    p ← place_with a call
-    v ← eval_with b call
-    write at p t v >> give v
-  eval_with (Node at t (Assign (Some op) a b)) call = do
-    p ← place_with a call
-    x ← read at p t
-    y ← eval_with b call
-    v ← defined at (compound t op x (type_of b) y)
-    write at p t v >> give v
-  eval_with (Node at t (Bump op a)) call = do
-    p ← place_with a call
-    x ← read at p t
-    v ← defined at (compound t (bump_operator op) x int_type (Integer (pos 1)))
-    write at p t v >> give (bump_value op x v)
-  eval_with (Node at t (Call f args)) call = do
-    vs ← evals_with args call
-    call at f vs
-  eval_with (Node at t (Cast to a)) call = do
-    x ← eval_with a call
-    give (converted to x)
-  eval_with (Node at t (SizeOfType u)) call = give (size_value u)
-  -- the operand isn't evaluated (C99 6.5.3.4 p2)
-  eval_with (Node at t (SizeOfExpr a)) call = give (size_value (type_of a))
-  eval_with (Node at t (Text n)) call = stop (Over (Undefined at))
-  eval_with (Node at t (Index a b)) call = stop (Over (Undefined at))
-  eval_with (Node at t (Dot a m)) call = stop (Over (Undefined at))
-  eval_with (Node at t (Arrow a m)) call = stop (Over (Undefined at))
-  eval_with (Node at t (Comma a b)) call = stop (Over (Undefined at))
+abbrev pub is_pointer : PlainType → Bool
+is_pointer (Ptr t) = true
+is_pointer _ = false
 
-  pub place_with : Expression → Callee → Evaluation Pointer
-  place_with (Node at t (Variable x)) call = object at x.decl
-  place_with (Node at t (Number n k)) call = stop (Over (Undefined at))
-  place_with (Node at t (Letter n)) call = stop (Over (Undefined at))
-  place_with (Node at t (Unary op a)) call = stop (Over (Undefined at))
-  place_with (Node at t (Binary op a b)) call = stop (Over (Undefined at))
-  place_with (Node at t (Both a b)) call = stop (Over (Undefined at))
-  place_with (Node at t (Either a b)) call = stop (Over (Undefined at))
-  place_with (Node at t (Choice a b c)) call = stop (Over (Undefined at))
-  place_with (Node at t (Assign op a b)) call = stop (Over (Undefined at))
-  place_with (Node at t (Bump op a)) call = stop (Over (Undefined at))
-  place_with (Node at t (Call f args)) call = stop (Over (Undefined at))
-  place_with (Node at t (Cast to a)) call = stop (Over (Undefined at))
-  place_with (Node at t (SizeOfType u)) call = stop (Over (Undefined at))
-  place_with (Node at t (SizeOfExpr a)) call = stop (Over (Undefined at))
-  place_with (Node at t (Text n)) call = stop (Over (Undefined at))
-  place_with (Node at t (Index a b)) call = stop (Over (Undefined at))
-  place_with (Node at t (Dot a m)) call = stop (Over (Undefined at))
-  place_with (Node at t (Arrow a m)) call = stop (Over (Undefined at))
-  place_with (Node at t (Comma a b)) call = stop (Over (Undefined at))
+-- what a name gives: the value of the object in sight with its number; the one pointer in the library is `NULL` (C99 7.17)
+abbrev pub named : Place → PlainType → Use → Option ℕ → Evaluation Value
+named at t x (Some n) = read_any at (Into n 0) (scalar_of t)
+named at t x None = cond (is_pointer t && is_of_library x) (give (Points Null)) (stop (Over (Undefined at)))
 
-  -- arguments, from left to right
-  pub evals_with : Expressions → Callee → Evaluation (List Value)
-  evals_with NoExpression call = give []
-  evals_with (Following e es) call = do
-    v ← eval_with e call
-    vs ← evals_with es call
-    give (v ∷ vs)
+module _ (T : Tables) where
+  abbrev pub size_value : PlainType → Value
+  size_value t = Integer (pos (size_of T.structs t))
+
+  -- what an expression gives, and where the object of one stands that designates an object (C99 6.3.2.1)
+  abbrev mutual
+    pub eval_with : Expression → Callee → Evaluation Value
+    eval_with (Node at t (Number n k)) call = give (Integer n)
+    eval_with (Node at t (Letter n)) call = give (Integer n)
+    eval_with (Node at t (Text n)) call = give NoValue
+    eval_with (Node at t (Variable x)) call = λ s. named at t x (find x.decl s.scope) s
+    eval_with (Node at t (Unary unary.Address a)) call = place_with a call >>= address a
+    eval_with (Node at t (Unary unary.Deref a)) call = eval_with a call >>= pointed_to >>= λ p. read_any at p (scalar_of t)
+    eval_with (Node at t (Unary unary.Not a)) call = eval_with a call >>= tested (place_of a) >>= λ x. give (Integer (truth (is_zero x)))
+    eval_with (Node at t (Unary unary.Plus a)) call = eval_with a call >>= λ x. defined at (operate_value t unary.Plus x)
+    eval_with (Node at t (Unary unary.Minus a)) call = eval_with a call >>= λ x. defined at (operate_value t unary.Minus x)
+    eval_with (Node at t (Unary unary.Flip a)) call = eval_with a call >>= λ x. defined at (operate_value t unary.Flip x)
+    eval_with (Node at t (Binary op a b)) call = do
+      x ← eval_with a call
+      y ← eval_with b call
+      computed at (λ store. operate_values (unit_of T.structs (type_of a) (type_of b)) t op store x y)
+    eval_with (Node at t (Both a b)) call = do
+      x ← (eval_with a call >>= tested (place_of a))
+      choose x ((eval_with b call >>= tested (place_of b)) >>= λ y. give (truth_value y)) (give (Integer (pos 0)))
+    eval_with (Node at t (Either a b)) call = do
+      x ← (eval_with a call >>= tested (place_of a))
+      choose x (give (Integer (pos 1))) ((eval_with b call >>= tested (place_of b)) >>= λ y. give (truth_value y))
+    eval_with (Node at t (Choice a b c)) call = do
+      x ← (eval_with a call >>= tested (place_of a))
+      choose x (eval_with b call) (eval_with c call)
+    eval_with (Node at t (Assign None a b)) call = do
+      p ← place_with a call
+      assigned T.structs at t (scalar_of t) p (eval_with b call) (place_with b call)
+    eval_with (Node at t (Assign (Some op) a b)) call = do
+      p ← place_with a call
+      as_scalar (scalar_of t) λ k. do
+        x ← read at p k
+        y ← eval_with b call
+        v ← computed at (λ store. compound T.structs t op store x (type_of b) y)
+        write at p k v >> give v
+    eval_with (Node at t (Bump op a)) call = do
+      p ← place_with a call
+      as_scalar (scalar_of t) λ k. do
+        x ← read at p k
+        v ← computed at (λ store. compound T.structs t (bump_operator op) store x int_type (Integer (pos 1)))
+        write at p k v >> give (bump_value op x v)
+    eval_with (Node at t (Call f args)) call = do
+      vs ← evals_with args call
+      call at f vs
+    eval_with (Node at t (Cast to a)) call =
+        cond (is_array (type_of a)) (place_with a call >>= address a) (eval_with a call >>= λ x. give (converted to x))
+    eval_with (Node at t (SizeOfType u)) call = give (size_value u)
+    -- the operand isn't evaluated (C99 6.5.3.4 p2)
+    eval_with (Node at t (SizeOfExpr a)) call = give (size_value (type_of a))
+    eval_with (Node at t (Index a b)) call = do
+      x ← eval_with a call
+      y ← eval_with b call
+      p ← computed at (λ store. indexed (unit_of T.structs (type_of a) (type_of b)) store x y)
+      read_any at p (scalar_of t)
+    eval_with (Node at t (Dot a m)) call = do
+      p ← place_with a call
+      q ← member at p (offset_of T.structs (type_of a) m)
+      read_any at q (scalar_of t)
+    eval_with (Node at t (Arrow a m)) call = do
+      x ← eval_with a call
+      p ← pointed_to x
+      q ← member at p (offset_of T.structs (target_of (type_of a)) m)
+      read_any at q (scalar_of t)
+    eval_with (Node at t (Comma a b)) call = eval_with a call >> eval_with b call
+
+    pub place_with : Expression → Callee → Evaluation Pointer
+    place_with (Node at t (Variable x)) call = object at x.decl
+    place_with (Node at t (Text n)) call = give (literal T n)
+    place_with (Node at t (Unary unary.Deref a)) call = eval_with a call >>= pointed_to
+    place_with (Node at t (Index a b)) call = do
+      x ← eval_with a call
+      y ← eval_with b call
+      computed at (λ store. indexed (unit_of T.structs (type_of a) (type_of b)) store x y)
+    place_with (Node at t (Dot a m)) call = place_with a call >>= λ p. member at p (offset_of T.structs (type_of a) m)
+    place_with (Node at t (Arrow a m)) call = do
+      x ← eval_with a call
+      p ← pointed_to x
+      member at p (offset_of T.structs (target_of (type_of a)) m)
+    -- a struct that was assigned stands where it was assigned
+    place_with (Node at t (Assign None a b)) call =
+        place_with a call >>= λ p. assigned T.structs at t (scalar_of t) p (eval_with b call) (place_with b call) >> give p
+    place_with (Node at t (Comma a b)) call = eval_with a call >> place_with b call
+    place_with (Node at t _) call = stop (Over (Undefined at))
+
+    -- arguments, from left to right
+    pub evals_with : Expressions → Callee → Evaluation (List Value)
+    evals_with NoExpression call = give []
+    evals_with (Following e es) call = do
+      v ← eval_with e call
+      vs ← evals_with es call
+      give (v ∷ vs)
+
+  -- the value of a condition, as a number
+  abbrev pub condition_of : Expression → Callee → Evaluation Value
+  condition_of e call = eval_with e call >>= tested (place_of e)
 
 -- ---- statements
 
@@ -211,69 +358,44 @@ declared_first (First (Run a)) = []
 declared_first (First (Asserts annots)) = []
 
 -- the initialisation of a declared object, in its place of the order (C99 6.7.8, 6.8 p3)
-abbrev pub initialise : Declaration → Option (Place × Initialiser) → Callee → Evaluation (Unit {0})
-initialise d None call = done
-initialise d (Some (at, One e)) call = do
-  p ← object at d.place.offset
-  v ← eval_with e call
-  write at p d.ctype v
-initialise d (Some (at, Many brace is)) call = stop (Over (Undefined at))
 
-abbrev pub initialise_all : List Declaration → Callee → Evaluation (Unit {0})
-initialise_all [] call = done
-initialise_all (d ∷ ds) call = initialise d d.init call >> initialise_all ds call
+-- zero in each byte of a scalar
+abbrev pub zeros : ℕ → List Byte
+zeros n = replicate n (NumberByte 0)
 
--- the condition of a `for`, which is true where it is left out (C99 6.8.5.3 p2)
-abbrev pub condition_with : Option Expression → Callee → Evaluation Value
-condition_with None call = give (Integer (pos 1))
-condition_with (Some e) call = eval_with e call
+abbrev pub zero_scalars : Place → Pointer → List (ℕ × Scalar) → Evaluation (Unit {0})
+zero_scalars at p [] = done
+zero_scalars at p (c ∷ cs) = write_bytes at (shifted p c.0) (zeros (scalar_size c.1)) >> zero_scalars at p cs
 
--- an expression for its effects (C99 6.8.3 p2)
-abbrev pub effect_with : Option Expression → Callee → Evaluation (Unit {0})
-effect_with None call = done
-effect_with (Some e) call = eval_with e call >> done
+-- the parts that a list of initialisers leaves out
+abbrev pub zero_parts : List StructType → Place → Pointer → List (ℕ × PlainType) → Evaluation (Unit {0})
+zero_parts structs at p [] = done
+zero_parts structs at p (c ∷ cs) = zero_scalars at (shifted p c.0) (scalars_of structs c.1) >> zero_parts structs at p cs
 
--- what a statement does, where calls do this and each loop makes at most n turns
-abbrev mutual
-  pub exec_with : Statement → Callee → ℕ → Evaluation (Unit {0})
-  exec_with (Empty at) call n = done
-  exec_with (Eval at e) call n = eval_with e call >> done
-  exec_with (Block at items) call n = within (births (declared_in items) >> items_with items call n)
-  exec_with (If at e a b) call n = do
-    v ← eval_with e call
-    choose v (exec_with a call n) (else_with b call n)
-  exec_with (While at annots e a) call n = turns n (eval_with e call) (exec_with a call n) done
-  exec_with (Do at a e) call n = do_turns n (eval_with e call) (exec_with a call n)
-  exec_with (For at annots first e behind a) call n =
-      within (births (declared_first first) >> first_with first call n >> turns n (condition_with e call) (exec_with a call n) (effect_with behind call))
-  exec_with (Break at) call n = stop (Leaves Breaks)
-  exec_with (Continue at) call n = stop (Leaves Continues)
-  exec_with (Return at None) call n = stop (Leaves (Returns None))
-  exec_with (Return at (Some e)) call n = do
-    v ← eval_with e call
-    stop (Leaves (Returns (Some v)))
+-- a string literal that stands alone (C99 6.7.8 p14); where its address is meant it stands in a cast
+abbrev pub string_in : Expression → Option ℕ
+string_in (Node at t (Text n)) = Some n
+string_in _ = None
 
-  pub else_with : ElsePart → Callee → ℕ → Evaluation (Unit {0})
-  else_with NoElse call n = done
-  else_with (Else a) call n = exec_with a call n
+-- bytes, and then zeros, in so many bytes
+abbrev pub padded : ℕ → List ℕ → List Byte
+padded zero bytes = []
+padded (suc n) [] = NumberByte 0 ∷ padded n []
+padded (suc n) (b ∷ bs) = NumberByte b ∷ padded n bs
 
-  pub first_with : ForFirst → Callee → ℕ → Evaluation (Unit {0})
-  first_with NoFirst call n = done
-  first_with (First i) call n = item_with i call n
+-- bytes one by one
+abbrev pub write_each : Place → Pointer → List Byte → Evaluation (Unit {0})
+write_each at p [] = done
+write_each at p (b ∷ bs) = write_bytes at p (b ∷ []) >> write_each at (shifted p 1) bs
 
-  pub item_with : BlockItem → Callee → ℕ → Evaluation (Unit {0})
-  item_with (Declare ds) call n = initialise_all ds call
-  item_with (Run a) call n = exec_with a call n
-  item_with (Asserts annots) call n = checks annots
-
-  pub items_with : BlockItems → Callee → ℕ → Evaluation (Unit {0})
-  items_with NoItem call n = done
-  items_with (Then i rest) call n = item_with i call n >> items_with rest call n
+abbrev pub text_at : List (List ℕ) → ℕ → List ℕ
+text_at texts n = elim (slice_get texts n) [ None ↦ [] | Some bytes ↦ bytes ]
 
 -- putchar gives the byte that it wrote (C99 7.19.7.9, 7.19.7.3)
 abbrev pub put_char : Place → List Value → Evaluation Value
 put_char at [] = stop (Over (Undefined at))
 put_char at (NoValue ∷ []) = stop (Over (Undefined at))
+put_char at (Points p ∷ []) = stop (Over (Undefined at))
 put_char at (Integer z ∷ []) = print (byte_of z) >> give (Integer (pos (byte_of z)))
 put_char at (v ∷ w ∷ vs) = stop (Over (Undefined at))
 
@@ -286,6 +408,7 @@ get_char at (v ∷ vs) = stop (Over (Undefined at))
 abbrev pub exit_with : Place → List Value → Evaluation Value
 exit_with at [] = stop (Over (Undefined at))
 exit_with at (NoValue ∷ []) = stop (Over (Undefined at))
+exit_with at (Points p ∷ []) = stop (Over (Undefined at))
 exit_with at (Integer z ∷ []) = stop (Over (Exits z))
 exit_with at (v ∷ w ∷ vs) = stop (Over (Undefined at))
 
@@ -302,21 +425,9 @@ abbrev pub definition_at : ℕ → List Function → Option Function
 definition_at n [] = None
 definition_at n (f ∷ fs) = if is_definition f && nat_eq f.place.offset n then Some f else definition_at n fs
 
--- parameters are born in order, each with its argument (C99 6.5.2.2 p4, 6.9.1 p9)
-abbrev pub parameters : Place → List Declaration → List Value → Evaluation (Unit {0})
-parameters at [] [] = done
-parameters at [] (v ∷ vs) = stop (Over (Undefined at))
-parameters at (d ∷ ds) [] = stop (Over (Undefined at))
-parameters at (d ∷ ds) (v ∷ vs) = birth d >> write_youngest at d.ctype v >> parameters at ds vs
-
-abbrev pub body_with : Option Statement → Callee → ℕ → Evaluation (Unit {0})
-body_with None call n = stop (Over Fault)
-body_with (Some a) call n = exec_with a call n
-
 -- at the closing brace of a function: by the profile one that gives a value isn't to come there (C99 6.9.1 p12)
 abbrev pub at_close : Place → PlainType → Evaluation Value
-at_close close Void = give NoValue
-at_close close _ = stop (Over (Undefined close))
+at_close close t = elim (scalar_of t) [ None ↦ give NoValue | Some k ↦ stop (Over (Undefined close)) ]
 
 -- what a call gives, from the way in which the body ends (C99 6.8.6.4)
 abbrev pub returned_by : Function → Outcome (Unit {0}) → Outcome Value
@@ -327,27 +438,136 @@ returned_by f (Stop (Leaves (Returns None)) s) = Normal NoValue s
 returned_by f (Stop (Leaves (Returns (Some v))) s) = Normal v s
 returned_by f (Stop (Over e) s) = Stop (Over e) s
 
--- a call of a function with these values: a step, a frame, the parameters, the mark `Pre`, the body (C99 6.5.2.2)
-abbrev pub call_with : Option Function → Callee → ℕ → Place → List Value → Evaluation Value
-call_with None call n at vs = stop (Over (Undefined at))
-call_with (Some f) call n at vs =
-    step >> within (frame >> alone >> parameters at f.params vs >> mark None >> λ s. returned_by f (body_with f.body call n s))
+module _ (T : Tables) where
+  abbrev pub fill_one : Place → PlainType → Pointer → Option ℕ → Evaluation Value → Evaluation (Unit {0})
+  fill_one at t p (Some n) v = write_each at p (padded (size_of T.structs t) (text_at T.texts n))
+  fill_one at t p None v = v >>= λ x. as_scalar (scalar_of t) λ k. write at p k x
 
-abbrev pub is_of_library : Use → Bool
-is_of_library f = nat_eq f.decl 4294967295
+  -- braces around the one initialiser of a scalar (C99 6.7.8 p11)
+  abbrev pub parts_or_itself : PlainType → List (ℕ × PlainType)
+  parts_or_itself t = elim (scalar_of t) [ None ↦ parts_of T.structs t | Some k ↦ (0, t) ∷ [] ]
+
+  abbrev mutual
+    pub fill : Place → PlainType → Pointer → Initialiser → Callee → Evaluation (Unit {0})
+    fill at t p (One e) call = fill_one at t p (string_in e) (eval_with T e call)
+    fill at t p (Many brace is) call = fill_parts at (parts_or_itself t) p is call
+
+    pub fill_parts : Place → List (ℕ × PlainType) → Pointer → Initialisers → Callee → Evaluation (Unit {0})
+    fill_parts at cs p NoInitialiser call = zero_parts T.structs at p cs
+    fill_parts at [] p (Listed i is) call = done
+    fill_parts at (c ∷ cs) p (Listed i is) call = fill at c.1 (shifted p c.0) i call >> fill_parts at cs p is call
+
+  abbrev pub initialise : Declaration → Option (Place × Initialiser) → Callee → Evaluation (Unit {0})
+  initialise d None call = done
+  initialise d (Some (at, i)) call = object at d.place.offset >>= λ p. fill at d.ctype p i call
+
+  abbrev pub initialise_all : List Declaration → Callee → Evaluation (Unit {0})
+  initialise_all [] call = done
+  initialise_all (d ∷ ds) call = initialise d d.init call >> initialise_all ds call
+
+  -- the condition of a `for`, which is true where it is left out (C99 6.8.5.3 p2)
+  abbrev pub condition_with : Option Expression → Callee → Evaluation Value
+  condition_with None call = give (Integer (pos 1))
+  condition_with (Some e) call = condition_of T e call
+
+  -- an expression for its effects (C99 6.8.3 p2)
+  abbrev pub effect_with : Option Expression → Callee → Evaluation (Unit {0})
+  effect_with None call = done
+  effect_with (Some e) call = eval_with T e call >> done
+
+  -- what a statement does, where calls do this and each loop makes at most n turns
+  abbrev mutual
+    pub exec_with : Statement → Callee → ℕ → Evaluation (Unit {0})
+    exec_with (Empty at) call n = done
+    exec_with (Eval at e) call n = eval_with T e call >> done
+    exec_with (Block at items) call n = within (births T.structs (declared_in items) >> items_with items call n)
+    exec_with (If at e a b) call n = do
+      v ← condition_of T e call
+      choose v (exec_with a call n) (else_with b call n)
+    exec_with (While at annots e a) call n = turns n (condition_of T e call) (exec_with a call n) done
+    exec_with (Do at a e) call n = do_turns n (condition_of T e call) (exec_with a call n)
+    exec_with (For at annots first e behind a) call n =
+        within (births T.structs (declared_first first) >> first_with first call n >> turns n (condition_with e call) (exec_with a call n)
+        (effect_with behind call))
+    exec_with (Break at) call n = stop (Leaves Breaks)
+    exec_with (Continue at) call n = stop (Leaves Continues)
+    exec_with (Return at None) call n = stop (Leaves (Returns None))
+    exec_with (Return at (Some e)) call n = do
+      v ← eval_with T e call
+      stop (Leaves (Returns (Some v)))
+
+    pub else_with : ElsePart → Callee → ℕ → Evaluation (Unit {0})
+    else_with NoElse call n = done
+    else_with (Else a) call n = exec_with a call n
+
+    pub first_with : ForFirst → Callee → ℕ → Evaluation (Unit {0})
+    first_with NoFirst call n = done
+    first_with (First i) call n = item_with i call n
+
+    pub item_with : BlockItem → Callee → ℕ → Evaluation (Unit {0})
+    item_with (Declare ds) call n = initialise_all ds call
+    item_with (Run a) call n = exec_with a call n
+    item_with (Asserts annots) call n = checks annots
+
+    pub items_with : BlockItems → Callee → ℕ → Evaluation (Unit {0})
+    items_with NoItem call n = done
+    items_with (Then i rest) call n = item_with i call n >> items_with rest call n
+
+  -- parameters are born in order, each with its argument (C99 6.5.2.2 p4, 6.9.1 p9)
+  abbrev pub parameters : Place → List Declaration → List Value → Evaluation (Unit {0})
+  parameters at [] [] = done
+  parameters at [] (v ∷ vs) = stop (Over (Undefined at))
+  parameters at (d ∷ ds) [] = stop (Over (Undefined at))
+  parameters at (d ∷ ds) (v ∷ vs) = birth T.structs d >> as_scalar (scalar_of d.ctype) (λ k. write_youngest at k v) >> parameters at ds vs
+
+  abbrev pub body_with : Option Statement → Callee → ℕ → Evaluation (Unit {0})
+  body_with None call n = stop (Over Fault)
+  body_with (Some a) call n = exec_with a call n
+
+  -- a call of a function with these values: a step, a frame, the parameters, the mark `Pre`, the body (C99 6.5.2.2)
+  abbrev pub call_with : Scope → Option Function → Callee → ℕ → Place → List Value → Evaluation Value
+  call_with globals None call n at vs = stop (Over (Undefined at))
+  call_with globals (Some f) call n at vs =
+      step >> within (frame >> alone globals >> parameters at f.params vs >> mark None >> λ s. returned_by f (body_with f.body call n s))
+
+  -- a call of main: the frame, the parameters, the mark `Pre`, the body
+  abbrev pub main_with : Option Function → Callee → ℕ → Evaluation (Unit {0})
+  main_with None call n = stop (Over Fault)
+  main_with (Some f) call n = within (frame >> births T.structs f.params >> mark None >> body_with f.body call n)
+
+-- ---- whole programs
+
+abbrev pub tables_of : TranslationUnit → Tables
+tables_of p = record { structs = p.structs; texts = p.texts; globals = length p.globals }
+
+-- the globals, whose blocks have the numbers from k on
+abbrev pub global_scope : ℕ → List Declaration → Scope
+global_scope k [] = []
+global_scope k (d ∷ ds) = (d.place.offset, k) ∷ global_scope (suc k) ds
+
+-- the blocks of globals, all of zeros (C99 6.7.8 p10), and those of literals with a zero after them (C99 6.4.5 p5)
+abbrev pub global_blocks : List StructType → List Declaration → Store
+global_blocks structs [] = []
+global_blocks structs (d ∷ ds) = block_of block.Global (zeros (size_of structs d.ctype)) ∷ global_blocks structs ds
+
+abbrev pub literal_block : List ℕ → MemoryBlock
+literal_block bytes = block_of block.Literal (map NumberByte bytes ++ NumberByte 0 ∷ [])
 
 -- what calls do in a program, at most n deep
 abbrev pub call_of : TranslationUnit → ℕ → Callee
 call_of p zero at f vs = if is_of_library f then library_call at (slice_get p.names f.name) vs else stop (Over Spent)
 call_of p (suc n) at f vs =
     if is_of_library f then library_call at (slice_get p.names f.name) vs
-    else call_with (definition_at f.decl p.funcs) (call_of p n) n at vs
+    else call_with (tables_of p) (global_scope 1 p.globals) (definition_at f.decl p.funcs) (call_of p n) n at vs
 
 abbrev pub eval : TranslationUnit → ℕ → Expression → Evaluation Value
-eval p n e = eval_with e (call_of p n)
+eval p n e = eval_with (tables_of p) e (call_of p n)
+
+abbrev pub condition : TranslationUnit → ℕ → Expression → Evaluation Value
+condition p n e = condition_of (tables_of p) e (call_of p n)
 
 abbrev pub exec : TranslationUnit → ℕ → Statement → Evaluation (Unit {0})
-exec p n a = exec_with a (call_of p n) n
+exec p n a = exec_with (tables_of p) a (call_of p n) n
 
 abbrev pub has_name : Option (List ℕ) → List ℕ → Bool
 has_name None name = false
@@ -359,14 +579,22 @@ function_named p name [] = None
 function_named p name (f ∷ fs) =
     if is_definition f && has_name (slice_get p.names f.name) name then Some f else function_named p name fs
 
--- a call of main: the frame, the parameters, the mark `Pre`, the body
-abbrev pub main_with : Option Function → Callee → ℕ → Evaluation (Unit {0})
-main_with None call n = stop (Over Fault)
-main_with (Some f) call n = within (frame >> births f.params >> mark None >> body_with f.body call n)
-
 -- the state in which a run begins
-abbrev pub start : Input → ℕ → State
-start input n = record { store = []; scope = []; marks = []; calls = 0; steps = n; input = input; output = [] }
+abbrev pub start : TranslationUnit → Input → ℕ → State
+start p input n = record {
+  store = global_blocks p.structs p.globals ++ map literal_block p.texts;
+  scope = global_scope 1 p.globals;
+  marks = [];
+  calls = 0;
+  steps = n;
+  input = input;
+  output = [];
+}
+
+-- a whole run: globals are initialised, and main is called
+abbrev pub whole : TranslationUnit → ℕ → Evaluation (Unit {0})
+whole p n =
+    initialise_all (tables_of p) p.globals (call_of p n) >> main_with (tables_of p) (function_named p (codes "main") p.funcs) (call_of p n) n
 
 -- a run: its end, what it printed, and the steps left
 pub record Ran : Type 0 where
@@ -384,9 +612,10 @@ ran (Stop (Leaves Breaks) s) = ran_to Fault s
 ran (Stop (Leaves Continues) s) = ran_to Fault s
 ran (Stop (Leaves (Returns None)) s) = ran_to (Exits (pos 0)) s
 ran (Stop (Leaves (Returns (Some NoValue))) s) = ran_to Fault s
+ran (Stop (Leaves (Returns (Some (Points p)))) s) = ran_to Fault s
 ran (Stop (Leaves (Returns (Some (Integer z)))) s) = ran_to (Exits z) s
 ran (Stop (Over e) s) = ran_to e s
 
 -- the run of a program on an input with n steps
 abbrev pub run : TranslationUnit → Input → ℕ → Ran
-run p input n = ran (main_with (function_named p (codes "main") p.funcs) (call_of p (suc n)) (suc n) (start input n))
+run p input n = ran (whole p (suc n) (start p input n))

@@ -7,10 +7,12 @@ use Rattle.c_syntax.specs.declared.types.Segment.{Segment}
 use Rattle.c_syntax.specs.declared.types.Segment.TheVariants.{Frames}
 use Rattle.c_syntax.specs.declared.types.BlockKind.TheVariants as block
 use Rattle.c_syntax.specs.Ctypes.{PlainType}
+use Rattle.c_syntax.specs.Programs.{StructType}
 use Rattle.c_syntax.specs.Statements.{Declaration}
 use Rattle.c_model.specs.Limits.{most_frames}
-use Rattle.c_model.specs.Integers.{size_of}
-use Rattle.c_model.specs.Memory.{Pointer, Into, Value, Integer, new_block, Store, load, save, kill_from, standard_sizes, full_at_stack_birth}
+use Rattle.c_model.specs.Layouts.{Scalar, size_of}
+use Rattle.c_model.specs.Memory.{Pointer, Into, Value, Integer, NoValue, Byte, new_block, Store, load, save, save_bytes, copy_all, tested_value, kill_from}
+use Rattle.c_model.specs.Memory.{standard_sizes, full_at_stack_birth}
 
 -- the number of the block of each declaration in sight, the innermost first (C99 6.2.1)
 abbrev pub Scope : Type 0
@@ -131,39 +133,70 @@ start_of (Some n) = Some (Into n 0)
 abbrev pub object : Place → ℕ → Evaluation Pointer
 object at x = λ s. defined at (start_of (find x s.scope)) s
 
+-- what the store gives, or an undefined operation at the place
+abbrev pub computed : {A : Type 0} → Place → (Store → Option A) → Evaluation A
+computed at f = λ s. defined at (f s.store) s
+
+-- goes on with a scalar type, which typing promises
+abbrev pub as_scalar : {A : Type 0} → Option Scalar → (Scalar → Evaluation A) → Evaluation A
+as_scalar None go = stop (Over Fault)
+as_scalar (Some k) go = go k
+
 -- the value of an object (C99 6.3.2.1 p2)
-abbrev pub read : Place → Pointer → PlainType → Evaluation Value
-read at p t = λ s. defined at (load s.store p t) s
+abbrev pub read : Place → Pointer → Scalar → Evaluation Value
+read at p k = computed at (λ store. load store p k)
+
+-- the value of what an expression designates: one of a scalar type is read; an array's is the pointer to its first element
+-- (C99 6.3.2.1 p2, p3), and a struct has none by itself
+abbrev pub read_any : Place → Pointer → Option Scalar → Evaluation Value
+read_any at p None = give NoValue
+read_any at p (Some k) = read at p k
 
 abbrev pub put_store : Store → Evaluation (Unit {0})
 put_store store = λ s. Normal tt (record s { store = store })
 
--- the value of an object becomes this one (C99 6.5.16)
-abbrev pub write : Place → Pointer → PlainType → Value → Evaluation (Unit {0})
-write at p t v = λ s. (defined at (save s.store p t v) >>= put_store) s
+-- the store becomes another, or an undefined operation at the place
+abbrev pub changed : Place → (Store → Option Store) → Evaluation (Unit {0})
+changed at f = λ s. (defined at (f s.store) >>= put_store) s
 
--- the birth of a variable, where there is room
-abbrev pub birth_of : Option Segment → Declaration → Evaluation (Unit {0})
-birth_of (Some full) d = stop (Over (Full full))
-birth_of None d = λ s. Normal tt (record s {
-  store = s.store ++ new_block block.Stack (size_of d.ctype) ∷ [];
-  scope = (d.place.offset, length s.store + 1) ∷ s.scope;
+-- the value of an object becomes this one (C99 6.5.16)
+abbrev pub write : Place → Pointer → Scalar → Value → Evaluation (Unit {0})
+write at p k v = changed at (λ store. save store p k v)
+
+-- these bytes are written
+abbrev pub write_bytes : Place → Pointer → List Byte → Evaluation (Unit {0})
+write_bytes at p bytes = changed at (λ store. save_bytes store p (length bytes) bytes)
+
+-- the scalars of one object become those of another, each at its offset and of a size (C99 6.5.16.1 p2)
+abbrev pub copy_object : Place → Pointer → Pointer → List (ℕ × ℕ) → Evaluation (Unit {0})
+copy_object at p q cs = changed at (λ store. copy_all store p q cs)
+
+-- the value that a condition tests (C99 6.8.4.1)
+abbrev pub tested : Place → Value → Evaluation Value
+tested at v = computed at (λ store. tested_value store v)
+
+-- the birth of the variable with this number and size, where there is room
+abbrev pub birth_of : Option Segment → ℕ → ℕ → Evaluation (Unit {0})
+birth_of (Some full) x size = stop (Over (Full full))
+birth_of None x size = λ s. Normal tt (record s {
+  store = s.store ++ new_block block.Stack size ∷ [];
+  scope = (x, length s.store + 1) ∷ s.scope;
 })
 
-abbrev pub birth : Declaration → Evaluation (Unit {0})
-birth d = λ s. birth_of (full_at_stack_birth standard_sizes s.store (size_of d.ctype)) d s
+abbrev pub birth : List StructType → Declaration → Evaluation (Unit {0})
+birth structs d = λ s. birth_of (full_at_stack_birth standard_sizes s.store (size_of structs d.ctype)) d.place.offset (size_of structs d.ctype) s
 
-abbrev pub births : List Declaration → Evaluation (Unit {0})
-births [] = done
-births (d ∷ ds) = birth d >> births ds
+abbrev pub births : List StructType → List Declaration → Evaluation (Unit {0})
+births structs [] = done
+births structs (d ∷ ds) = birth structs d >> births structs ds
 
 -- the value of the youngest block
-abbrev pub write_youngest : Place → PlainType → Value → Evaluation (Unit {0})
-write_youngest at t v = λ s. write at (Into (length s.store) 0) t v s
+abbrev pub write_youngest : Place → Scalar → Value → Evaluation (Unit {0})
+write_youngest at k v = λ s. write at (Into (length s.store) 0) k v s
 
--- a call sees no variable of the call that makes it, and has passed no label
-abbrev pub alone : Evaluation (Unit {0})
-alone = λ s. Normal tt (record s { scope = []; marks = [] })
+-- a call sees the globals, and no variable of the call that makes it, and has passed no label
+abbrev pub alone : Scope → Evaluation (Unit {0})
+alone globals = λ s. Normal tt (record s { scope = globals; marks = [] })
 
 -- one more call is active, 65,536 at most
 abbrev pub frame : Evaluation (Unit {0})

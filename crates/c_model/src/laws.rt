@@ -2,7 +2,7 @@
 
 ghost use Rattle.c_model.specs.Laws.{BitsHoldValues, FittingResultsStand, SignedResultsFit, UnsignedResultsWrap, ResultsFit};
 ghost use Rattle.c_model.specs.Laws.{ConversionsFit, ConversionsKeepValues, OperatorsFit, OperatorsOfOneFit};
-ghost use Rattle.c_model.specs.Laws.{SavedValuesLoad, SavesKeepBlocks, SavesKeepBytes, SavesKeepWhole, StatementsKeepWhole};
+ghost use Rattle.c_model.specs.Laws.{SavedPointersLoad, SavedValuesLoad, SavesKeepBlocks, SavesKeepBytes, SavesKeepWhole, StatementsKeepWhole};
 ghost use Rattle.c_model.specs.Laws.{FuelIsEnough, StepsFall, LoopsTurn, DoLoopsTurn, ForLoopsTurn, RunsNeedNoFuel, RunsSpendSteps, OutputGrows};
 ghost use Rattle.c_model.specs.Laws.{ProgramsNeverFault, AgreementIsReflexive, AgreementIsTransitive};
 
@@ -20,9 +20,10 @@ pub fn integers()
     ensures operators_of_one { OperatorsOfOneFit }
 {}
 
-/// Memory: what is saved is loaded again, and a save changes nothing else.
+/// Memory: a number or a pointer that is saved is loaded again, and a save changes nothing else.
 pub fn memory()
     ensures loads { SavedValuesLoad }
+    ensures pointers { SavedPointersLoad }
     ensures blocks { SavesKeepBlocks }
     ensures bytes { SavesKeepBytes }
     ensures whole { SavesKeepWhole }

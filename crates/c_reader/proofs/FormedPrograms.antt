@@ -220,4 +220,4 @@ module _ (size : ℕ) (ws : Vocabulary) where
   unfolding unit
   unit_from names =
       from_then (from_many (kind ws) (λ _. first_function) {P = AreFunctions} (λ m x h. one_more_from m x h) 0 ([], 1) (record { read = tt; declare = tt; numbers = omega arith })) (λ n x h.
-      from_gives _ (record { same_names = refl; read = record { globals = refl; functions = h.read }; declare = h.declare; numbers = h.numbers }))
+      from_gives _ (record { same_names = refl; read = record { globals = refl; texts = refl; structs = refl; functions = h.read }; declare = h.declare; numbers = h.numbers }))

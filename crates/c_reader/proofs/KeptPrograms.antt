@@ -197,16 +197,26 @@ pub record KeptProgram (p q : TranslationUnit) : Type 0 where
   pub numbers : numbers_of_all q.funcs ≡ numbers_of_all p.funcs
   pub main : main_fault q.names q.funcs ≡ main_fault p.names p.funcs
 
-program_of : (p : TranslationUnit) (fs : List Function) → p.globals ≡ [] → KeptFunctions p.funcs fs → KeptProgram p (record p { funcs = fs })
-program_of p fs g k = record {
-  formed = record { globals = g; functions = k.formed };
+-- a program without objects of its own and without structs
+record Bare (p : TranslationUnit) : Type 0 where
+  globals : p.globals ≡ []
+  texts : p.texts ≡ []
+  structs : p.structs ≡ []
+
+program_of : (p : TranslationUnit) (fs : List Function) → Bare p → KeptFunctions p.funcs fs → KeptProgram p (record p { funcs = fs })
+program_of p fs b k = record {
+  formed = record { globals = b.globals; texts = b.texts; structs = b.structs; functions = k.formed };
   named = functions_named p.names p.funcs fs k.same;
   numbers = functions_numbers p.funcs fs k.same;
   main = functions_main p.names p.funcs fs k.same;
 }
 
 pub unit_kept : (p q : TranslationUnit) → ProgramRead p → typed_unit p ≡ Good q → KeptProgram p q
-unit_kept p q h e = holds_at (KeptProgram p) (typed_unit p) q e (holds_one (KeptFunctions p.funcs) (KeptProgram p) (typed_functions p [] p.funcs) _ (functions_kept p [] p.funcs h.functions) (λ fs k. program_of p fs h.globals k))
+unit_kept p q h e =
+    holds_at (KeptProgram p) (typed_unit p) q e (holds_one (KeptFunctions p.funcs) (KeptProgram p) (typed_functions p [] p.funcs) _ (functions_kept p [] p.funcs h.functions)
+    (λ fs k. program_of p fs (record { globals = h.globals; texts = h.texts; structs = h.structs }) k))
 
 pub unit_noted : (p q : TranslationUnit) → ProgramFormed most_typed p → noted_unit p ≡ Good q → KeptProgram p q
-unit_noted p q h e = holds_at (KeptProgram p) (noted_unit p) q e (holds_one (KeptFunctions p.funcs) (KeptProgram p) (noted_functions p [] p.funcs) _ (functions_noted p [] p.funcs h.functions) (λ fs k. program_of p fs h.globals k))
+unit_noted p q h e =
+    holds_at (KeptProgram p) (noted_unit p) q e (holds_one (KeptFunctions p.funcs) (KeptProgram p) (noted_functions p [] p.funcs) _ (functions_noted p [] p.funcs h.functions)
+    (λ fs k. program_of p fs (record { globals = h.globals; texts = h.texts; structs = h.structs }) k))

@@ -2,8 +2,8 @@
 use Rattle.std.specs.Prelude.{◌≡◌, ◌≤◌, List, [], ◌∷◌, Option, Some, None}
 use Rattle.c_syntax.specs.declared.place.Place.{Place}
 use Rattle.c_syntax.specs.Expressions.{Expression, Node, Assign, Bump, Call}
-use Rattle.c_syntax.specs.Statements.{Initialiser, One, Many, Declaration, Statement, Empty, Eval, Block, If, While, Do, For, Break, Continue}
-use Rattle.c_syntax.specs.Statements.{Return, ElsePart, NoElse, Else, ForFirst, NoFirst, First, BlockItem, Declare, Run, Asserts, BlockItems, NoItem}
+use Rattle.c_syntax.specs.Statements.{Initialiser, One, Many, Declaration, Statement, Empty, Eval, Block, If, While, Do, For, Break, Continue, Return, ElsePart, NoElse, Else, ForFirst, NoFirst, First, BlockItem, Declare, Run, Asserts, BlockItems}
+use Rattle.c_syntax.specs.Statements.{NoItem}
 use Rattle.c_syntax.specs.Statements.{Then}
 use Rattle.c_syntax.specs.Programs.{Function, TranslationUnit}
 use Rattle.c_model.specs.WellTypedPrograms.{WhereAny}
@@ -101,4 +101,6 @@ FunctionsRead (f ∷ fs) = FunctionRead f × FunctionsRead fs
 
 pub record ProgramRead (p : TranslationUnit) : Type 0 where
   pub globals : p.globals ≡ []
+  pub texts : p.texts ≡ []
+  pub structs : p.structs ≡ []
   pub functions : FunctionsRead p.funcs

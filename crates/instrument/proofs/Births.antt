@@ -9,7 +9,8 @@ use Rattle.c_syntax.specs.declared.types.BlockKind.TheVariants.{Stack}
 use Rattle.c_syntax.specs.declared.types.Segment.{Segment}
 use Rattle.c_syntax.specs.Ctypes.{PlainType, Void, Int}
 use Rattle.c_syntax.specs.Statements.{Declaration}
-use Rattle.c_model.specs.Integers.{size_of, int_size}
+use Rattle.c_model.specs.Integers.{int_size}
+use Rattle.c_model.specs.Layouts.{size_of}
 use Rattle.c_model.specs.Memory.{Into, new_block, full_at_stack_birth, standard_sizes, kill_from}
 use Rattle.c_model.specs.State.{State, Full, Over, Normal, Stop, on_outcome, birth, birth_of, births, back_to}
 use Rattle.c_model.specs.Formed.{number_of}
@@ -79,7 +80,7 @@ module _ (w : Setting) (slots : List Slot) (regs : List BlockValue) (s : State) 
   new = slot_for (length s.store) d
 
   abbrev pub born_state : State
-  born_state = record s { store = s.store ++ new_block Stack (size_of d.ctype) ∷ []; scope = (number_of d, length s.store + 1) ∷ s.scope }
+  born_state = record s { store = s.store ++ new_block Stack (size_of [] d.ctype) ∷ []; scope = (number_of d, length s.store + 1) ∷ s.scope }
 
   abbrev p : ℕ
   p = pointer_at w (number_of d)
@@ -88,13 +89,13 @@ module _ (w : Setting) (slots : List Slot) (regs : List BlockValue) (s : State) 
   born_registers = slice_set regs p (Points (Into (length t.mem.store + 1) 0))
 
   abbrev pub born_target : Target
-  born_target = record t { mem = record t.mem { store = t.mem.store ++ new_block Stack (size_of d.ctype) ∷ [] } }
+  born_target = record t { mem = record t.mem { store = t.mem.store ++ new_block Stack (size_of [] d.ctype) ∷ [] } }
 
   below : value_at w (number_of d) < count w
   below = get-below w.numbers (value_at w (number_of d)) (number_of d) c.listed
 
   new_cell : slice_get born_state.store (length s.store) ≡ Some (new_block Stack (int_size k))
-  new_cell = ap (λ u. slice_get (s.store ++ new_block Stack (size_of u) ∷ []) (length s.store)) c.object ∙ get-end s.store [] (new_block Stack (int_size k))
+  new_cell = ap (λ u. slice_get (s.store ++ new_block Stack (size_of [] u) ∷ []) (length s.store)) c.object ∙ get-end s.store [] (new_block Stack (int_size k))
 
   new_matches : Matches w born_state.store born_registers new
   new_matches = record {
@@ -115,7 +116,7 @@ module _ (w : Setting) (slots : List Slot) (regs : List BlockValue) (s : State) 
           record {
             number = g.number;
             content = g.content;
-            cell = get-front s.store (new_block Stack (size_of d.ctype) ∷ []) v.block _ g.cell;
+            cell = get-front s.store (new_block Stack (size_of [] d.ctype) ∷ []) v.block _ g.cell;
             held = subst (λ r. Held v.int g.content r) (sym (slice_get-slice_set_other regs p (value_at w v.decl) _ (λ e. omega (arith, e, mine)))) g.held;
             pointer = slice_get-slice_set_other regs p (pointer_at w v.decl) _ apart ∙ g.pointer;
           }
@@ -130,16 +131,16 @@ module _ (w : Setting) (slots : List Slot) (regs : List BlockValue) (s : State) 
 
   pub related_born : Related w (new ∷ slots) born_registers born_state
   related_born =
-      let long = length-append s.store (new_block Stack (size_of d.ctype) ∷ []) in
+      let long = length-append s.store (new_block Stack (size_of [] d.ctype) ∷ []) in
       record {
         scope = ap (λ i. (number_of d, i) ∷ s.scope) (omega arith) ∙ ap (λ l. (number_of d, suc (length s.store)) ∷ l) h.scope;
         calls = h.calls;
         live =
-            live-born s.store (size_of d.ctype)
-            ∙ ap (λ i. record { number = i; size = size_of d.ctype } ∷ live_in s.store) (omega arith)
-            ∙ ap (λ u. record { number = suc (length s.store); size = size_of u } ∷ live_in s.store) c.object
+            live-born s.store (size_of [] d.ctype)
+            ∙ ap (λ i. record { number = i; size = size_of [] d.ctype } ∷ live_in s.store) (omega arith)
+            ∙ ap (λ u. record { number = suc (length s.store); size = size_of [] u } ∷ live_in s.store) c.object
             ∙ ap (λ l. record { number = suc (length s.store); size = int_size k } ∷ l) h.live;
-        outside = λ j lt. get-front_same s.store (new_block Stack (size_of d.ctype) ∷ []) j (omega (arith, lt, stacked_base (length w.outside) (length s.store) slots h.stacked)) ∙ h.outside j lt;
+        outside = λ j lt. get-front_same s.store (new_block Stack (size_of [] d.ctype) ∷ []) j (omega (arith, lt, stacked_base (length w.outside) (length s.store) slots h.stacked)) ∙ h.outside j lt;
         stacked = (omega (arith, long), h.stacked);
         apart = (none_of (number_of d) slots c.new, h.apart);
         all = (new_matches, old_match slots c.new h.all);
@@ -151,50 +152,50 @@ module _ (w : Setting) (slots : List Slot) (regs : List BlockValue) (s : State) 
 
   pub beside_born : Beside w (new ∷ slots) born_state born_target
   beside_born =
-      let both = same_born s.store t.mem.store (size_of d.ctype) same in
+      let both = same_born s.store t.mem.store (size_of [] d.ctype) same in
       record { long = sym both.born; live = sym both.live ∙ related_born.live; frames = b.frames; steps = b.steps; input = b.input }
 
   pub later_born : Later slots s born_state []
   later_born = record {
     spent = omega arith;
     output = sym (append-nil s.output);
-    longer = omega (arith, length-append s.store (new_block Stack (size_of d.ctype) ∷ []));
-    kept = kept_below slots s.store born_state.store (length w.outside) (length s.store) h.stacked (λ j lt. get-front_same s.store (new_block Stack (size_of d.ctype) ∷ []) j lt);
+    longer = omega (arith, length-append s.store (new_block Stack (size_of [] d.ctype) ∷ []));
+    kept = kept_below slots s.store born_state.store (length w.outside) (length s.store) h.stacked (λ j lt. get-front_same s.store (new_block Stack (size_of [] d.ctype) ∷ []) j lt);
   }
 
   abbrev pub birth_runs : Option Segment → Did
   birth_runs o = birth_does w.numbers d regs t o
 
   -- a block is born in the target where it is in the source
-  pub target_birth : (n : ℕ) → monitored.exec over_blocks (target.birth w.numbers d) w.calls n regs t ≡ birth_runs (full_at_stack_birth standard_sizes s.store (size_of d.ctype))
+  pub target_birth : (n : ℕ) → monitored.exec over_blocks (target.birth w.numbers d) w.calls n regs t ≡ birth_runs (full_at_stack_birth standard_sizes s.store (size_of [] d.ctype))
   target_birth n = birth_is w.numbers w.calls n d regs s.store t same
 
 -- ---- births in order
 
 -- all are born on both sides, or something is full on both
 pub data Bears (w : Setting) (slots : List Slot) (regs : List BlockValue) (s : State) (t : Target) (n : ℕ) (ds : List Declaration) : Type 0 where
-  AllBorn : (to : State) (after : List BlockValue) (u : Target) → births ds s ≡ Normal tt to → runs w n t (target.births w.numbers ds) regs ≡ Done (Next after) u [] → Related w (slots_born (length s.store) ds slots) after to
+  AllBorn : (to : State) (after : List BlockValue) (u : Target) → births [] ds s ≡ Normal tt to → runs w n t (target.births w.numbers ds) regs ≡ Done (Next after) u [] → Related w (slots_born (length s.store) ds slots) after to
       → Beside w (slots_born (length s.store) ds slots) to u → Later slots s to [] → Bears w slots regs s t n ds
-  OneIsFull : (g : Segment) (to : State) → births ds s ≡ Stop (Over (Full g)) to → to.output ≡ s.output → runs w n t (target.births w.numbers ds) regs ≡ Stops (Full g) to.steps [] → Bears w slots regs s t n ds
+  OneIsFull : (g : Segment) (to : State) → births [] ds s ≡ Stop (Over (Full g)) to → to.output ≡ s.output → runs w n t (target.births w.numbers ds) regs ≡ Stops (Full g) to.steps [] → Bears w slots regs s t n ds
 
 module _ (w : Setting) (n : ℕ) (enough : count w + count w ≤ w.registers) where
   abbrev Bear : List Slot → List BlockValue → State → Target → List Declaration → Type 0
   Bear slots regs s t ds = Bears w slots regs s t n ds
 
   -- one is born, and then the others
-  born_then : (slots : List Slot) (regs : List BlockValue) (s : State) (t : Target) (d : Declaration) (ds : List Declaration) (to : State) (after : List BlockValue) (u : Target) → birth d s ≡ Normal tt to
+  born_then : (slots : List Slot) (regs : List BlockValue) (s : State) (t : Target) (d : Declaration) (ds : List Declaration) (to : State) (after : List BlockValue) (u : Target) → birth [] d s ≡ Normal tt to
       → monitored.exec over_blocks (target.birth w.numbers d) w.calls n regs t ≡ Done (Next after) u [] → length to.store ≡ suc (length s.store) → Later slots s to [] → Bear (slot_for (length s.store) d ∷ slots) after to u ds
       → Bear slots regs s t (d ∷ ds)
   born_then slots regs s t d ds to after u e f long l (AllBorn to2 after2 u2 e2 f2 m b l2) =
       AllBorn to2 after2 u2
-      (ap (λ r. on_outcome r (λ _. births ds)) e ∙ e2)
+      (ap (λ r. on_outcome r (λ _. births [] ds)) e ∙ e2)
       (ap (λ q. then_do q (at_next (monitored.exec_all over_blocks (target.births w.numbers ds) w.calls n))) f ∙ ap (writes []) f2)
       (subst (λ i. Related w (slots_born i ds (slot_for (length s.store) d ∷ slots)) after2 to2) long m)
       (subst (λ i. Beside w (slots_born i ds (slot_for (length s.store) d ∷ slots)) to2 u2) long b)
       (later_trans slots s to to2 [] [] l (record { spent = l2.spent; output = l2.output; longer = l2.longer; kept = l2.kept.1 }))
   born_then slots regs s t d ds to after u e f long l (OneIsFull g to2 e2 o f2) =
       OneIsFull g to2
-      (ap (λ r. on_outcome r (λ _. births ds)) e ∙ e2)
+      (ap (λ r. on_outcome r (λ _. births [] ds)) e ∙ e2)
       (o ∙ l.output ∙ append-nil s.output)
       (ap (λ q. then_do q (at_next (monitored.exec_all over_blocks (target.births w.numbers ds) w.calls n))) f ∙ ap (writes []) f2)
 
@@ -203,20 +204,20 @@ module _ (w : Setting) (n : ℕ) (enough : count w + count w ≤ w.registers) wh
   births_follow (d ∷ ds) slots regs s t h b c =
       by (λ o. births_follow ds (slot_for (length s.store) d ∷ slots) (born_registers w slots regs s t h b enough d c.0) (born_state w slots regs s t h b enough d c.0) (born_target w slots regs s t h b enough d c.0)
       (related_born w slots regs s t h b enough d c.0) (beside_born w slots regs s t h b enough d c.0) c.1)
-      (full_at_stack_birth standard_sizes s.store (size_of d.ctype)) refl
+      (full_at_stack_birth standard_sizes s.store (size_of [] d.ctype)) refl
     where
       by : (Unit {0} → Bear (slot_for (length s.store) d ∷ slots) (born_registers w slots regs s t h b enough d c.0) (born_state w slots regs s t h b enough d c.0) (born_target w slots regs s t h b enough d c.0) ds) → (o : Option Segment)
-          → full_at_stack_birth standard_sizes s.store (size_of d.ctype) ≡ o → Bear slots regs s t (d ∷ ds)
+          → full_at_stack_birth standard_sizes s.store (size_of [] d.ctype) ≡ o → Bear slots regs s t (d ∷ ds)
       by rest None e =
           born_then slots regs s t d ds (born_state w slots regs s t h b enough d c.0) (born_registers w slots regs s t h b enough d c.0) (born_target w slots regs s t h b enough d c.0)
-          (ap (λ o. birth_of o d s) e)
+          (ap (λ o. birth_of o (number_of d) (size_of [] d.ctype) s) e)
           (target_birth w slots regs s t h b enough d c.0 n ∙ ap (birth_runs w slots regs s t h b enough d c.0) e)
-          (length-append s.store (new_block Stack (size_of d.ctype) ∷ []) ∙ omega arith)
+          (length-append s.store (new_block Stack (size_of [] d.ctype) ∷ []) ∙ omega arith)
           (later_born w slots regs s t h b enough d c.0)
           (rest tt)
       by rest (Some g) e =
           OneIsFull g s
-          (ap (λ o. on_outcome (birth_of o d s) (λ _. births ds)) e)
+          (ap (λ o. on_outcome (birth_of o (number_of d) (size_of [] d.ctype) s) (λ _. births [] ds)) e)
           refl
           (ap (λ q. then_do q (at_next (monitored.exec_all over_blocks (target.births w.numbers ds) w.calls n))) (target_birth w slots regs s t h b enough d c.0 n ∙ ap (birth_runs w slots regs s t h b enough d c.0) e)
           ∙ ap (λ k. Stops (Full g) k []) b.steps)

@@ -102,12 +102,12 @@ module _ (w : Setting) (h : Here) (n : ℕ) (enough : count w + count w ≤ w.re
   deaths_are q = ap (λ rs. then_do q (at_next (monitored.exec_all over_blocks (deaths rs) w.calls n))) (with_born-slots w (length s.store) ds [])
 
   pub block_follows : ((to : State) (after : List BlockValue) (u : Target) → Related w (slots_born (length s.store) ds h.slots) after to → Beside w (slots_born (length s.store) ds h.slots) to u → Later h.slots s to []
-      → Follows w (behind_births h s ds) Next to (m to) (runs w n u a after)) → Follows w h Next s (within (births ds >> m) s) (runs w n t code regs)
+      → Follows w (behind_births h s ds) Next to (m to) (runs w n u a after)) → Follows w h Next s (within (births [] ds >> m) s) (runs w n t code regs)
   block_follows inner =
-      subst (λ q. Follows w h Next s (within (births ds >> m) s) q) (sym (alive_runs w n t ds a regs))
+      subst (λ q. Follows w h Next s (within (births [] ds >> m) s) q) (sym (alive_runs w n t ds a regs))
       (by (births_follow w n enough ds h.slots regs s t related beside can))
     where
-      by : Bears w h.slots regs s t n ds → Follows w h Next s (within (births ds >> m) s) (then_do (runs w n t (target.births w.numbers ds) regs) (at_next (λ r u. rest (runs w n u a r))))
+      by : Bears w h.slots regs s t n ds → Follows w h Next s (within (births [] ds >> m) s) (then_do (runs w n t (target.births w.numbers ds) regs) (at_next (λ r u. rest (runs w n u a r))))
       by (OneIsFull g to e o f) =
           IsOver (Full g) (back_to s to) [] (λ x. absurd cc)
           (ap (λ r. restored s (on_outcome r (λ _. m))) e)

@@ -21,7 +21,7 @@ use Rattle.mon_syntax.specs.Memories.{BlockValue, over_blocks}
 use Rattle.instrument.specs.Limits.{BodyHasNumbers, HaveNumbers}
 use Rattle.instrument.specs.Translation.{Spot, with_variables, items, body_part, items_temporaries, variables_of, variable_numbers, variable_types, value_types, pointer_types, body_temporaries, values_from, pointers_from, temporaries_from}
 use Rattle.track_scopes.specs.Blocks.{with_born}
-use Rattle.instrument.proofs.Variables.{Slot, Setting, slot_of, Related, Beside, IsSet}
+use Rattle.instrument.proofs.Variables.{Slot, Setting, no_tables, slot_of, Related, Beside, IsSet}
 use Rattle.instrument.proofs.Evaluating.{Target, runs}
 use Rattle.instrument.proofs.Sight.{Ready}
 use Rattle.instrument.proofs.Following.{Here, Follows}
@@ -216,11 +216,11 @@ module _ (p : TranslationUnit) (main index : ℕ) (f : Function) (part : Part p 
         omega (arith, a, b, c, types_long f)
 
     items_does : (regs : List BlockValue) (s : State) (t : Target) → Related w ps regs s → Beside w ps s t → AllSet s.store ps → s.steps ≤ n
-        → Follows w here Next s (body_with (Some (Block body.at body.items)) call (suc n) s) (runs w n t (body_part p (variable_numbers f) f.params (variable_types f) (Some (Block body.at body.items))) regs)
+        → Follows w here Next s (body_with no_tables (Some (Block body.at body.items)) call (suc n) s) (runs w n t (body_part p (variable_numbers f) f.params (variable_types f) (Some (Block body.at body.items))) regs)
     items_does regs s t m b a le =
         block_does p w n most_typed p.names (map (signature p.funcs) (part.before ++ f ∷ [])) (all_calls outside active) here scopes body_stage
         (let x = length-append (variable_types f) (items_temporaries body.items) in omega (arith, enough, room, x))
-        (declared_in body.items) (items_with body.items call (suc n)) (items p (variable_numbers f) (with_variables (variable_numbers f) (declared_in body.items) spot) (variable_types f) body.items) can (λ old g2 have.
+        (declared_in body.items) (items_with no_tables body.items call (suc n)) (items p (variable_numbers f) (with_variables (variable_numbers f) (declared_in body.items) spot) (variable_types f) body.items) can (λ old g2 have.
         items_follow p w n most_typed p.names (map (signature p.funcs) (part.before ++ f ∷ [])) (all_calls outside active) body.items scopes (around_body f.result) (behind_births here old (declared_in body.items))
         (with_variables (variable_numbers f) (declared_in body.items) spot) (variable_types f)
         (at_births w spot here old (declared_in body.items) stands) g2 have refl refl (items_can old) body.formed body.typed body.noted body.letters (omega (arith, room)) enough)
@@ -228,7 +228,8 @@ module _ (p : TranslationUnit) (main index : ℕ) (f : Function) (part : Part p 
 
   pub body_follows : BodyFollows p main index f call calls n
   body_follows outside active regs s t m b a le =
-      subst (λ o. Follows (setting p main index f call calls n outside active) (at_body (parameter_slots p main index f call calls n outside) f.result) Next s (body_with o call (suc n) s) (runs (setting p main index f call calls n outside active) n t
+      subst (λ o. Follows (setting p main index f call calls n outside active) (at_body (parameter_slots p main index f call calls n outside) f.result) Next s (body_with no_tables o call (suc n) s)
+      (runs (setting p main index f call calls n outside active) n t
       (body_part p (variable_numbers f) f.params (variable_types f) o) regs)) (sym body.is)
       (items_does outside active regs s t m b a le)
 

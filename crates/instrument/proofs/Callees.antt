@@ -1,5 +1,5 @@
 -- What a typed call calls: a function of the library, or one of the program, which does the same on both sides.
-use Rattle.std.proofs.Common.{◌≡◌, ℕ, zero, suc, ◌+◌, ◌≤◌, ℤ, Bool, true, false, ◌||◌, if◌then◌else◌, List, [], ◌∷◌, ◌++◌, map, Option, Some, None, refl, sym, ap, ◌∙◌, subst, arith, append_assoc}
+use Rattle.std.proofs.Common.{◌≡◌, ℕ, zero, suc, ◌+◌, ◌≤◌, ℤ, Bool, true, false, ◌||◌, if◌then◌else◌, List, [], ◌∷◌, ◌++◌, length, map, Option, Some, None, refl, sym, ap, ◌∙◌, subst, arith, append_assoc}
 use Rattle.std.proofs.lemmas.List.{append-nil}
 use Rattle.std.proofs.lemmas.Bool.{eq-eqb}
 use Rattle.std.proofs.lemmas.Slice.Eq.{bytes_eq-Decides}
@@ -14,7 +14,7 @@ use Rattle.c_syntax.specs.Statements.{Declaration}
 use Rattle.c_syntax.specs.Programs.{Function, TranslationUnit}
 use Rattle.c_model.specs.Memory.{Value, Store}
 use Rattle.c_model.specs.State.{State, Spent, Over, Stop, Evaluation, ◌>>◌, on_outcome, step_from, frame, alone, mark, within}
-use Rattle.c_model.specs.Meaning.{is_of_library, definition_at, call_with, call_of, library_call, parameters, returned_by, body_with}
+use Rattle.c_model.specs.Meaning.{Tables, tables_of, global_scope, is_of_library, definition_at, call_with, call_of, library_call, parameters, returned_by, body_with}
 use Rattle.c_model.specs.Library.{is_there, is_library_name, is_one_of, library_constant, other_names}
 use Rattle.c_model.specs.Typing.{Signature, Scopes, name_at, or_else, function_called, library_function, of_library}
 use Rattle.c_model.specs.ProgramTyping.{definition_of, first_of, number_or, offset_of, signature, types_of, function_scopes}
@@ -30,7 +30,7 @@ use Rattle.c_effects.specs.Expressions.{one}
 use Rattle.instrument.specs.Translation.{function_of, functions_from, index_of_main}
 use Rattle.c_effects.specs.Effects.{index_of, call}
 use Rattle.c_effects.specs.Effects as effects
-use Rattle.instrument.proofs.Variables.{Setting}
+use Rattle.instrument.proofs.Variables.{Setting, no_tables}
 use Rattle.instrument.proofs.Results.{one_is}
 use Rattle.instrument.proofs.Evaluating.{Target, runs}
 use Rattle.instrument.proofs.Calls.{Even, Called, EndsRun, AllFit, integers, wholes, takes, CallDoes, DoesCall, IsCalled}
@@ -105,6 +105,10 @@ called_as p w n f t es params result ints types same e does = record {
   arguments = subst (λ l. HaveTypes l es) same types;
   does = subst (λ r. AllDo p w n f r ints) (sym e) does;
 }
+
+-- a program has no globals, structs and string literals yet
+pub bare_tables : (p : TranslationUnit) → IsProgram p → tables_of p ≡ no_tables
+bare_tables p q = λ i. record { structs = q.formed.structs i; texts = q.formed.texts i; globals = length (q.formed.globals i) }
 
 module _ (p : TranslationUnit) (q : IsProgram p) (numbers : FunctionsHaveNumbers p.funcs) where
   abbrev pub main : ℕ
@@ -234,11 +238,12 @@ module _ (p : TranslationUnit) (q : IsProgram p) (numbers : FunctionsHaveNumbers
     index = 0 + index_by (has_number f.decl) p.funcs
 
     -- the source's call, and the target's
-    source_is : (k : ℕ) → w.call ≡ call_of p (suc k) → (at : Place) (vs : List Value) (s : State) → w.call at f vs s ≡ call_with (Some g) (call_of p k) k at vs s
+    source_is : (k : ℕ) → w.call ≡ call_of p (suc k) → (at : Place) (vs : List Value) (s : State) → w.call at f vs s ≡ call_with no_tables [] (Some g) (call_of p k) k at vs s
     source_is k calls at vs s =
         ap (λ c. c at f vs s) calls
-        ∙ ap (λ b. (if b then library_call at (slice_get p.names f.name) vs else call_with (definition_at f.decl p.funcs) (call_of p k) k at vs) s) l
-        ∙ ap (λ o. call_with o (call_of p k) k at vs s) found
+        ∙ ap (λ b. (if b then library_call at (slice_get p.names f.name) vs else call_with (tables_of p) (global_scope 1 p.globals) (definition_at f.decl p.funcs) (call_of p k) k at vs) s) l
+        ∙ ap (λ o. call_with (tables_of p) (global_scope 1 p.globals) o (call_of p k) k at vs s) found
+        ∙ (λ i. call_with (bare_tables p q i) (global_scope 1 (q.formed.globals i)) (Some g) (call_of p k) k at vs s)
 
     code_is : (n : ℕ) (into : Option ℕ) (args : List MonExpression) (regs : List BlockValue) (t : Target) → runs w n t (call p into f args) regs ≡ monitored.exec over_blocks (tree.Call into (index_of f.decl p.funcs) args) w.calls n regs t
     code_is n into args regs t =
@@ -267,7 +272,7 @@ module _ (p : TranslationUnit) (q : IsProgram p) (numbers : FunctionsHaveNumbers
         (sym (append-nil s.output)) (ap (λ k. Stops Spent k []) (omega (arith, le))))
       where
         inside : Evaluation Value
-        inside = within (frame >> alone >> parameters at g.params (integers zs) >> mark None >> λ s. returned_by g (body_with g.body (call_of p 0) 0 s))
+        inside = within (frame >> alone [] >> parameters no_tables at g.params (integers zs) >> mark None >> λ s. returned_by g (body_with no_tables g.body (call_of p 0) 0 s))
 
         spent : (k : ℕ) → k ≡ 0 → on_outcome (step_from k s) (λ _. inside) ≡ Stop (Over Spent) s
         spent k e = ap (λ i. on_outcome (step_from i s) (λ _. inside)) e
@@ -279,7 +284,8 @@ module _ (p : TranslationUnit) (q : IsProgram p) (numbers : FunctionsHaveNumbers
         below (setting p main index g (call_of p (suc k)) (level over_blocks functions k) k outside active) refl refl part.before part.after g part.is s names signatures u t es c in
         DoesCall (level over_blocks functions (suc k) (index_of f.decl p.funcs) (wholes zs) t) (calls_run (suc k) calls_are into args (wholes zs) regs t has)
         (subst (λ r. Called s g.result r (level over_blocks functions (suc k) (index_of f.decl p.funcs) (wholes zs) t)) (sym (source_is (suc k) call_is at (integers zs) s))
-        (subst (λ o. Called s g.result (call_with (Some g) (call_of p (suc k)) (suc k) at (integers zs) s) (monitored.step_from t.steps (λ j. body_runs over_blocks o (level over_blocks functions k) k (wholes zs) (record t { steps = j }))))
+        (subst (λ o. Called s g.result (call_with no_tables [] (Some g) (call_of p (suc k)) (suc k) at (integers zs) s)
+        (monitored.step_from t.steps (λ j. body_runs over_blocks o (level over_blocks functions k) k (wholes zs) (record t { steps = j }))))
         (sym function_is)
         (call_follows p main index g (call_of p (suc k)) (level over_blocks functions k) k
         (has_room p main index g part body (call_of p (suc k)) (level over_blocks functions k) k calls_below)

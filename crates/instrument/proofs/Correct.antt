@@ -3,13 +3,13 @@ use Rattle.std.proofs.Common.{◌≡◌, ℕ, suc, ◌+◌, ◌-◌, ℤ, pos, B
 use Rattle.std.proofs.lemmas.List.{append-nil, length-replicate}
 use Rattle.std.proofs.lemmas.Bool.{eq-eqb}
 use Rattle.std.proofs.lemmas.Bool.Decides.{nat_tests}
-use Rattle.std.specs.Prelude.{slice_get, bytes_eq, codes}
+use Rattle.std.specs.Prelude.{slice_get, map, bytes_eq, codes}
 use Rattle.c_syntax.specs.Ctypes.{int_type}
 use Rattle.c_syntax.specs.Statements.{Declaration}
 use Rattle.c_syntax.specs.Programs.{Function, TranslationUnit}
 use Rattle.c_model.specs.State.{State, Input, Outcome, ◌>>◌, frame, births, mark, within, restored}
 use Rattle.c_model.specs.State as source
-use Rattle.c_model.specs.Meaning.{is_definition, body_with, call_of, has_name, function_named, main_with, start, Ran, ran, run}
+use Rattle.c_model.specs.Meaning.{global_scope, global_blocks, literal_block, initialise_all, is_definition, body_with, call_of, has_name, function_named, main_with, start, Ran, ran, run}
 use Rattle.c_model.specs.Reports.{Extends, Agrees}
 use Rattle.c_model.specs.Typing.{name_at, same_type}
 use Rattle.c_model.specs.ProgramTyping.{main_fault, has_no_parameters, no_main}
@@ -21,7 +21,7 @@ use Rattle.mon_syntax.specs.Memories.{BlockValue, Whole, over_blocks, integer_of
 use Rattle.mon_syntax.specs.Trees.{MonFunction}
 use Rattle.instrument.specs.Limits.{FunctionsHaveNumbers}
 use Rattle.instrument.specs.Translation.{alive, function_of, functions_from, function_name, variable_numbers, translated}
-use Rattle.instrument.proofs.Variables.{Slot, Setting, Related, Beside}
+use Rattle.instrument.proofs.Variables.{Slot, Setting, no_tables, Related, Beside}
 use Rattle.instrument.proofs.Results.{written, writes_none, written_then}
 use Rattle.instrument.proofs.Evaluating.{Target, Did, runs}
 use Rattle.c_effects.proofs.Sequences.{before_none}
@@ -32,7 +32,7 @@ use Rattle.instrument.proofs.Functions.{setting, parameter_slots, how_many, at_b
 use Rattle.c_model.proofs.Signatures.{same_type_is}
 use Rattle.instrument.proofs.Programs.{picked, index_by, IsPicked, parts_of, is_picked, has_bytes, main_index_is}
 use Rattle.instrument.proofs.Bodies.{has_body, body_follows}
-use Rattle.instrument.proofs.Callees.{main, functions, calls_at}
+use Rattle.instrument.proofs.Callees.{main, functions, bare_tables, calls_at}
 
 -- ---- main
 
@@ -130,6 +130,10 @@ same_agrees a b e = subst (Agrees a) (sym e) (Agrees-same a)
 abbrev ran_with : source.Final → List ℕ → ℕ → Ran
 ran_with e o n = record { final = e; output = o; left = n }
 
+-- where a run of a program without globals and string literals begins
+abbrev bare_start : Input → ℕ → State
+bare_start input n = record { store = []; scope = []; marks = []; calls = 0; steps = n; input = input; output = [] }
+
 -- what main's body does, and the call's end
 module _ (w : Setting) (ps : List Slot) (s0 from : State) (empty : from.output ≡ []) where
   abbrev ended : Did → Ran
@@ -182,7 +186,7 @@ module _ (p : TranslationUnit) (q : IsProgram p) (numbers : FunctionsHaveNumbers
   none = ap (λ ds. slots_born 0 ds []) found.params
 
   abbrev entered : State
-  entered = record (start input n) { calls = 0 + 1; marks = record { label = None; scope = []; store = [] } ∷ [] }
+  entered = record (bare_start input n) { calls = 0 + 1; marks = record { label = None; scope = []; store = [] } ∷ [] }
 
   abbrev opens : List BlockValue
   opens = registers (Whole (pos 0)) (how_many p m m f (call_of p (suc n)) (level over_blocks fs n) n) []
@@ -211,18 +215,30 @@ module _ (p : TranslationUnit) (q : IsProgram p) (numbers : FunctionsHaveNumbers
   beside_first : Beside w ps entered entered_target
   beside_first = subst (λ vs. Beside w vs entered entered_target) (sym none) (record { long = refl; live = refl; frames = refl; steps = refl; input = refl })
 
-  body_does : Follows w (at_body ps int_type) Next entered (body_with f.body (call_of p (suc n)) (suc n) entered) did
+  body_does : Follows w (at_body ps int_type) Next entered (body_with no_tables f.body (call_of p (suc n)) (suc n) entered) did
   body_does =
       let part = main_picked.part in
-      subst (λ k. Follows w (at_body ps k) Next entered (body_with f.body (call_of p (suc n)) (suc n) entered) did) found.result
+      subst (λ k. Follows w (at_body ps k) Next entered (body_with no_tables f.body (call_of p (suc n)) (suc n) entered) did) found.result
       (body_follows p m m f part (has_body p f part main_picked.definition) (call_of p (suc n)) (level over_blocks fs n) n
       (λ outside active s names signatures u t es c. calls_at p q numbers n (setting p m m f (call_of p (suc n)) (level over_blocks fs n) n outside active) refl refl part.before part.after f part.is s names signatures u t es c)
       [] (0 + 1) opens entered entered_target related_first beside_first (subst (λ vs. AllSet [] vs) (sym none) tt) (omega arith))
 
-  source_is : run p input n ≡ ran (restored (start input n) (body_with f.body (call_of p (suc n)) (suc n) entered))
+  starts : start p input n ≡ bare_start input n
+  starts = λ i. record {
+    store = global_blocks (q.formed.structs i) (q.formed.globals i) ++ map literal_block (q.formed.texts i);
+    scope = global_scope 1 (q.formed.globals i);
+    marks = [];
+    calls = 0;
+    steps = n;
+    input = input;
+    output = [];
+  }
+
+  source_is : run p input n ≡ ran (restored (bare_start input n) (body_with no_tables f.body (call_of p (suc n)) (suc n) entered))
   source_is =
-      ap (λ o. ran (main_with o (call_of p (suc n)) (suc n) (start input n))) (source_finds p p.funcs ∙ found.first)
-      ∙ ap (λ ds. ran (within (frame >> births ds >> mark None >> body_with f.body (call_of p (suc n)) (suc n)) (start input n))) found.params
+      (λ i. ran ((initialise_all (bare_tables p q i) (q.formed.globals i) (call_of p (suc n)) >> main_with (bare_tables p q i) (function_named p (codes "main") p.funcs) (call_of p (suc n)) (suc n)) (starts i)))
+      ∙ ap (λ o. ran (main_with no_tables o (call_of p (suc n)) (suc n) (bare_start input n))) (source_finds p p.funcs ∙ found.first)
+      ∙ ap (λ ds. ran (within (frame >> births [] ds >> mark None >> body_with no_tables f.body (call_of p (suc n)) (suc n)) (bare_start input n))) found.params
 
   index_is : m ≡ 0 + index_by (has_bytes p.names (codes "main")) p.funcs
   index_is = main_index_is p.names p.funcs ∙ omega arith
@@ -239,5 +255,5 @@ module _ (p : TranslationUnit) (q : IsProgram p) (numbers : FunctionsHaveNumbers
   pub translated_agrees : Agrees (run p input n) (block_run (translated p) input n)
   translated_agrees =
       subst (λ a. Agrees a (block_run (translated p) input n)) (sym source_is)
-      (subst (λ b. Agrees (ran (restored (start input n) (body_with f.body (call_of p (suc n)) (suc n) entered))) b) (sym target_is)
-      (ends_agree w ps (start input n) entered refl _ did body_does))
+      (subst (λ b. Agrees (ran (restored (bare_start input n) (body_with no_tables f.body (call_of p (suc n)) (suc n) entered))) b) (sym target_is)
+      (ends_agree w ps (bare_start input n) entered refl _ did body_does))

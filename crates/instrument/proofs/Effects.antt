@@ -9,14 +9,16 @@ use Rattle.c_syntax.specs.declared.expression.Use.{Use}
 use Rattle.c_syntax.specs.declared.expression.BinOp.{BinOp}
 use Rattle.c_syntax.specs.declared.expression.BumpOp.{BumpOp}
 use Rattle.c_syntax.specs.Ctypes.{PlainType, Int, int_type}
-use Rattle.c_syntax.specs.Expressions.{Expression, Node, Variable, Assign, Bump, Call, Expressions, type_of}
+use Rattle.c_syntax.specs.Expressions.{Expression, Node, Variable, Assign, Bump, Call, Text, Expressions, type_of}
 use Rattle.c_syntax.specs.Statements.{One, Declaration}
 use Rattle.c_syntax.specs.Programs.{TranslationUnit}
 use Rattle.c_model.specs.Integers.{fits, convert, operate_in}
+use Rattle.c_model.specs.Layouts.{Scalar, IntegerType, scalar_of}
 use Rattle.c_model.specs.Conversions.{operation_type, is_shift}
-use Rattle.c_model.specs.Memory.{Pointer, Value, Integer, Into}
-use Rattle.c_model.specs.State.{State, Undefined, Over, Normal, Stop, Evaluation, on_outcome, ◌>>=◌, ◌>>◌, give, done, defined, object, read, write}
-use Rattle.c_model.specs.Meaning.{eval_with, initialise, compound, converted, operate_values, bump_operator, bump_value}
+use Rattle.c_model.specs.Memory.{Pointer, Value, Integer, Into, Store}
+use Rattle.c_model.specs.State.{State, Undefined, Over, Normal, Stop, Evaluation, on_outcome, ◌>>=◌, ◌>>◌, give, done, defined, computed, as_scalar, object, read, write}
+use Rattle.c_model.specs.Meaning.{eval_with, place_with, initialise, fill_one, string_in, compound, converted, operate_values, bump_operator, bump_value}
+use Rattle.c_model.specs.Meaning as meaning
 use Rattle.c_model.specs.Typing.{Scopes}
 use Rattle.c_model.specs.WellTyped.{Denotes, IsInteger, IsPlace, Calls, WellTyped, AreWellTyped}
 use Rattle.c_model.specs.Formed.{IsPure, ArePure, IsPureOrCall, IsEffectOrCall, number_of}
@@ -31,7 +33,8 @@ use Rattle.c_effects.specs.Expressions.{register_type, temporaries, value, befor
 use Rattle.c_effects.specs.Expressions as spec
 use Rattle.c_effects.specs.Effects.{arguments_temporaries, full_temporaries, effect_temporaries, called, full_setup, full_value, effect}
 use Rattle.c_effects.specs.Effects as translation
-use Rattle.instrument.proofs.Variables.{Slot, Setting, count, value_at, slot_of, Related, Beside, IsSet, Same, same_all, related_same, value_below, match_at, decl_at, object_is, read_is, write_is, state_with, related_set, kept_set, beside_set}
+use Rattle.instrument.proofs.Variables.{Slot, Setting, no_tables, count, value_at, slot_of, Related, Beside, IsSet, Same, same_all, related_same, value_below, match_at, decl_at, object_is, read_is, write_is, state_with, related_set, kept_set}
+use Rattle.instrument.proofs.Variables.{beside_set}
 use Rattle.instrument.proofs.Variables.{store_with, load_cell, get-set_same, stacked_at}
 use Rattle.instrument.proofs.Values.{Has, compound_is}
 use Rattle.instrument.proofs.Results.{writes_none}
@@ -51,14 +54,20 @@ both_mapped : (k : CInt) (o : Option ℤ) → option_map (converted (Int k)) (op
 both_mapped k None = refl
 both_mapped k (Some z) = refl
 
-pub compound_value : (k l : CInt) (op : BinOp) (x y : ℤ) → compound (Int k) op (Integer x) (Int l) (Integer y) ≡ option_map (λ z. Integer (convert k z)) (operate_in (operation_type op k l) op (convert (operation_type op k l) x)
+pub compound_value : (store : Store) (k l : CInt) (op : BinOp) (x y : ℤ) → compound [] (Int k) op store (Integer x) (Int l) (Integer y) ≡ option_map (λ z. Integer (convert k z))
+    (operate_in (operation_type op k l) op (convert (operation_type op k l) x)
     (if is_shift op then y else convert (operation_type op k l) y))
-compound_value k l op x y = by (operation_type op k l) (is_shift op)
+compound_value store k l op x y = by (operation_type op k l) (is_shift op)
   where
-    by : (m : CInt) (t : Bool) → option_map (converted (Int k)) (operate_values (Int m) op (converted (Int m) (Integer x)) (if t then Integer y else converted (Int m) (Integer y))) ≡ option_map (λ z. Integer (convert k z))
+    by : (m : CInt) (t : Bool) → option_map (converted (Int k)) (operate_values 1 (Int m) op store (converted (Int m) (Integer x)) (if t then Integer y else converted (Int m) (Integer y))) ≡ option_map (λ z. Integer (convert k z))
         (operate_in m op (convert m x) (if t then y else convert m y))
     by m true = both_mapped k (operate_in m op (convert m x) y)
     by m false = both_mapped k (operate_in m op (convert m x) (convert m y))
+
+-- an initialiser without effects, or a call, is no string literal
+no_string : (e : Expression) → IsPureOrCall e → string_in e ≡ None
+no_string (Node at t (Text n)) p = absurd p
+no_string _ p = refl
 
 -- ---- a variable gets a value
 
@@ -81,7 +90,7 @@ module _ (w : Setting) (slots : List Slot) (regs : List BlockValue) (s : State) 
 module _ (p : TranslationUnit) (w : Setting) (n : ℕ) (h : Here) (scopes : Scopes) (scene : Scene p w n h.slots scopes) (s : State) (t : Target) (ready : Ready s.store h.slots scopes.objects) (le : s.steps ≤ n) (rs : List MonType)
     (behind : count w + count w ≤ length rs) (regs : List BlockValue) (m : Related w h.slots regs s) (b : Beside w h.slots s t) where
   abbrev does_as : Expression → MonStatements → Type 0
-  does_as e a = Follows w h Next s ((eval_with e w.call >> done) s) (runs w n t a regs)
+  does_as e a = Follows w h Next s ((eval_with no_tables e w.call >> done) s) (runs w n t a regs)
 
   abbrev Does : Expression → Type 0
   Does e = does_as e (effect p w.numbers rs e)
@@ -91,12 +100,12 @@ module _ (p : TranslationUnit) (w : Setting) (n : ℕ) (h : Here) (scopes : Scop
 
   -- ---- expressions without effects
 
-  pure_follows : (e : Expression) → IsPure e → does_as e NoStatement
-  pure_follows e pure = by (pure_is_quiet e w.call s pure)
+  pure_follows : (e : Expression) → IsPure e → WellTyped scopes e → does_as e NoStatement
+  pure_follows e pure q = by (pure_is_quiet no_tables scopes w.call s e pure q)
     where
-      by : Quiet s (eval_with e w.call s) → does_as e NoStatement
+      by : Quiet s (eval_with no_tables e w.call s) → does_as e NoStatement
       by (Gives v x) = subst (λ r. Follows w h Next s (on_outcome r (λ _. done)) (runs w n t NoStatement regs)) (sym x) (stays w h regs s t m b)
-      by (IsUndefined at x) = undefined_here w h Next s ((eval_with e w.call >> done) s) (runs w n t NoStatement regs) at (ap (λ r. on_outcome r (λ _. done)) x)
+      by (IsUndefined at x) = undefined_here w h Next s ((eval_with no_tables e w.call >> done) s) (runs w n t NoStatement regs) at (ap (λ r. on_outcome r (λ _. done)) x)
 
   -- ---- assignments to a variable
 
@@ -117,11 +126,11 @@ module _ (p : TranslationUnit) (w : Setting) (n : ℕ) (h : Here) (scopes : Scop
     object_found = object_is w h.slots regs s m x.decl v seen.found pa
 
     -- the value is written, and set
-    abbrev Written : PlainType → Value → Value → State → Did → Type 0
-    Written i j given to d = Follows w h Next to (on_outcome ((write at there i j >> give given) to) (λ _. done)) d
+    abbrev Written : Value → Value → State → Did → Type 0
+    Written j given to d = Follows w h Next to (on_outcome ((write at there (IntegerType v.int) j >> give given) to) (λ _. done)) d
 
     written_int : (room : count w + count w ≤ w.registers) (given : Value) (z : ℤ) (f : fits v.int z ≡ true) (to : State) (target : Target) (after : List BlockValue) (e : MonExpression) → Related w h.slots after to → Beside w h.slots to target
-        → Has e after z → Written (Int v.int) (Integer z) given to (runs w n target (set (value_at w x.decl) e) after)
+        → Has e after z → Written (Integer z) given to (runs w n target (set (value_at w x.decl) e) after)
     written_int room given z f to target after e re be has =
         GoesOn (state_with w h.slots after to re room x.decl v seen.found z f) (slice_set after (value_at w x.decl) (Whole z)) target []
         (related_set w h.slots after to re room x.decl v seen.found z f)
@@ -130,22 +139,18 @@ module _ (p : TranslationUnit) (w : Setting) (n : ℕ) (h : Here) (scopes : Scop
         (ap (λ r. on_outcome (on_outcome r (λ _. give given)) (λ _. done)) (write_is w h.slots after to re x.decl v seen.found at z))
         (set_runs w n target (value_at w x.decl) e after z has)
 
-    written : (room : count w + count w ≤ w.registers) (given : Value) (z : ℤ) (f : fits v.int z ≡ true) (to : State) (target : Target) (after : List BlockValue) (e : MonExpression) → Related w h.slots after to → Beside w h.slots to target
-        → Has e after z → Written k (Integer z) given to (runs w n target (set (value_at w x.decl) e) after)
-    written room given z f to target after e re be has =
-        subst (λ i. Written i (Integer z) given to (runs w n target (set (value_at w x.decl) e) after)) (sym seen.ctype) (written_int room given z f to target after e re be has)
-
     assigned : (e : Expression) → IsPureOrCall e → WellTyped scopes e → type_of e ≡ k → FullHasLetters e → length (rs ++ full_temporaries e) ≤ w.registers
         → does_as (Node at k (Assign None variable e)) (before (full_setup p w.numbers rs e) (set (value_at w x.decl) (full_value w.numbers rs e)))
     assigned e pure q same l room =
-        let given = λ (i : Value). write at there k i >> give i in
+        let given = λ (i : Value). write at there (IntegerType v.int) i >> give i in
         let tail = λ (i : Value) (s : State). on_outcome (given i s) (λ _. done) in
-        let source : (eval_with (Node at k (Assign None variable e)) w.call >> done) s ≡ on_outcome (eval_with e w.call s) tail =
-        ap (λ o. on_outcome (on_outcome o (λ p. eval_with e w.call >>= λ v. write at p k v >> give v)) (λ _. done)) object_found
-        ∙ handed_on (eval_with e w.call s) given (λ _. done) in
+        let source : (eval_with no_tables (Node at k (Assign None variable e)) w.call >> done) s ≡ on_outcome (eval_with no_tables e w.call s) tail =
+        ap (λ o. on_outcome (on_outcome o (λ p. meaning.assigned [] at k (scalar_of k) p (eval_with no_tables e w.call) (place_with no_tables e w.call))) (λ _. done)) object_found
+        ∙ ap (λ u. on_outcome (meaning.assigned [] at u (scalar_of u) there (eval_with no_tables e w.call) (place_with no_tables e w.call) s) (λ _. done)) seen.ctype
+        ∙ handed_on (eval_with no_tables e w.call s) given (λ _. done) in
         subst (λ r. Follows w h Next s r (runs w n t (before (full_setup p w.numbers rs e) (set (value_at w x.decl) (full_value w.numbers rs e))) regs)) (sym source)
         (follows_full p w n h scopes scene Next s t ready le rs behind regs m b e v.int tail (set (value_at w x.decl) (full_value w.numbers rs e)) (same ∙ seen.ctype) pure q l room
-        (λ z to target o after f same2 re be la has. written (enough_for (full_temporaries e) room) (Integer z) z f to target after (full_value w.numbers rs e) re be has))
+        (λ z to target o after f same2 re be la has. written_int (enough_for (full_temporaries e) room) (Integer z) z f to target after (full_value w.numbers rs e) re be has))
 
     -- the old value stays in its register until it is set
     abbrev old : sight.HasValue w regs s x.decl v
@@ -156,17 +161,17 @@ module _ (p : TranslationUnit) (w : Setting) (n : ℕ) (h : Here) (scopes : Scop
         let below : value_at w x.decl < count w = subst (λ i. value_at w i < count w) (decl_at x.decl h.slots v seen.found) (value_below w s.store regs v (match_at w s.store regs x.decl h.slots v m.all seen.found)) in
         same.below (value_at w x.decl) (omega (arith, below, behind)) ∙ old.register
 
-    read_found : read at there k s ≡ Normal (Integer old.known.value) s
-    read_found = ap (λ i. read at there i s) seen.ctype ∙ read_is w h.slots regs s m x.decl v seen.found at old.known.value old.known.loads
+    read_found : read at there (IntegerType v.int) s ≡ Normal (Integer old.known.value) s
+    read_found = read_is w h.slots regs s m x.decl v seen.found at old.known.value old.known.loads
 
     -- what an operator makes of the old value and another
     combined : (room : count w + count w ≤ w.registers) (op : BinOp) (c : PlainType) (l : CInt) (y : ℤ) (e : MonExpression) (after : List BlockValue) (g : Value → Value) → c ≡ Int l → fits l y ≡ true → Same (length rs) regs after → Has e after y
-        → Follows w h Next s (on_outcome ((defined at (compound k op (Integer old.known.value) c (Integer y)) >>= λ i. write at there k i >> give (g i)) s) (λ _. done))
+        → Follows w h Next s (on_outcome ((computed at (λ store. compound [] k op store (Integer old.known.value) c (Integer y)) >>= λ i. write at there (IntegerType v.int) i >> give (g i)) s) (λ _. done))
         (runs w n t (set (value_at w x.decl) (spec.compound op k c (Register (value_at w x.decl)) e)) after)
     combined room op c l y e after g c_int fy same has =
-        subst (λ k2. FollowsIn k2 (compound k2 op (Integer old.known.value) c (Integer y)) (spec.compound op k2 c (Register (value_at w x.decl)) e)) (sym seen.ctype)
-        (subst (λ c2. FollowsIn (Int v.int) (compound (Int v.int) op (Integer old.known.value) c2 (Integer y)) (spec.compound op (Int v.int) c2 (Register (value_at w x.decl)) e)) (sym c_int)
-        (subst (λ o. FollowsIn (Int v.int) o code) (sym (compound_value v.int l op old.known.value y))
+        subst (λ k2. FollowsIn (compound [] k2 op s.store (Integer old.known.value) c (Integer y)) (spec.compound op k2 c (Register (value_at w x.decl)) e)) (sym seen.ctype)
+        (subst (λ c2. FollowsIn (compound [] (Int v.int) op s.store (Integer old.known.value) c2 (Integer y)) (spec.compound op (Int v.int) c2 (Register (value_at w x.decl)) e)) (sym c_int)
+        (subst (λ o. FollowsIn o code) (sym (compound_value s.store v.int l op old.known.value y))
         (by (operate_in i op (convert i old.known.value) (if is_shift op then y else convert i y)) refl)))
       where
         i : CInt
@@ -175,10 +180,10 @@ module _ (p : TranslationUnit) (w : Setting) (n : ℕ) (h : Here) (scopes : Scop
         code : MonExpression
         code = spec.compound op (Int v.int) (Int l) (Register (value_at w x.decl)) e
 
-        FollowsIn : PlainType → Option Value → MonExpression → Type 0
-        FollowsIn k2 o e2 = Follows w h Next s (on_outcome ((defined at o >>= λ i. write at there k2 i >> give (g i)) s) (λ _. done)) (runs w n t (set (value_at w x.decl) e2) after)
+        FollowsIn : Option Value → MonExpression → Type 0
+        FollowsIn o e2 = Follows w h Next s (on_outcome ((defined at o >>= λ i. write at there (IntegerType v.int) i >> give (g i)) s) (λ _. done)) (runs w n t (set (value_at w x.decl) e2) after)
 
-        by : (o : Option ℤ) → operate_in i op (convert i old.known.value) (if is_shift op then y else convert i y) ≡ o → FollowsIn (Int v.int) (option_map (λ z. Integer (convert v.int z)) o) code
+        by : (o : Option ℤ) → operate_in i op (convert i old.known.value) (if is_shift op then y else convert i y) ≡ o → FollowsIn (option_map (λ z. Integer (convert v.int z)) o) code
         by None none = undefined_here w h Next s (Stop (Over (Undefined at)) s) (runs w n t (set (value_at w x.decl) code) after) at refl
         by (Some z) some =
             written_int room (g (Integer (convert v.int z))) (convert v.int z) (fits-convert v.int z) s t after code (related_same w h.slots regs after s (length rs) behind same m) b
@@ -188,25 +193,30 @@ module _ (p : TranslationUnit) (w : Setting) (n : ℕ) (h : Here) (scopes : Scop
         → does_as (Node at k (Assign (Some op) variable e)) (before (setup w.numbers rs e) (set (value_at w x.decl) (spec.compound op k (type_of e) (Register (value_at w x.decl)) (value w.numbers rs e))))
     compounded op e pure q integer l room =
         let i = integer_int (type_of e) integer in
-        let rest = λ (y : Value). defined at (compound k op (Integer old.known.value) (type_of e) y) >>= λ v. write at there k v >> give v in
+        let rest = λ (y : Value). computed at (λ store. compound [] k op store (Integer old.known.value) (type_of e) y) >>= λ i. write at there (IntegerType v.int) i >> give i in
+        let body = λ (p : Pointer) (c : Scalar). read at p c >>= λ x. eval_with no_tables e w.call >>= λ y. computed at (λ store. compound [] k op store x (type_of e) y) >>= λ i. write at p c i >> give i in
         let tail = λ (y : Value) (s : State). on_outcome (rest y s) (λ _. done) in
         let code = set (value_at w x.decl) (spec.compound op k (type_of e) (Register (value_at w x.decl)) (value w.numbers rs e)) in
-        let source : (eval_with (Node at k (Assign (Some op) variable e)) w.call >> done) s ≡ on_outcome (eval_with e w.call s) tail =
-        ap (λ o. on_outcome (on_outcome o (λ p. read at p k >>= λ x. eval_with e w.call >>= λ y. defined at (compound k op x (type_of e) y) >>= λ v. write at p k v >> give v)) (λ _. done)) object_found
-        ∙ ap (λ o. on_outcome (on_outcome o (λ x. eval_with e w.call >>= λ y. defined at (compound k op x (type_of e) y) >>= λ v. write at there k v >> give v)) (λ _. done)) read_found
-        ∙ handed_on (eval_with e w.call s) rest (λ _. done) in
+        let source : (eval_with no_tables (Node at k (Assign (Some op) variable e)) w.call >> done) s ≡ on_outcome (eval_with no_tables e w.call s) tail =
+        ap (λ o. on_outcome (on_outcome o (λ p. as_scalar (scalar_of k) (body p))) (λ _. done)) object_found
+        ∙ ap (λ u. on_outcome (as_scalar (scalar_of u) (body there) s) (λ _. done)) seen.ctype
+        ∙ ap (λ o. on_outcome (on_outcome o (λ x. eval_with no_tables e w.call >>= λ y. computed at (λ store. compound [] k op store x (type_of e) y) >>= λ i. write at there (IntegerType v.int) i >> give i)) (λ _. done)) read_found
+        ∙ handed_on (eval_with no_tables e w.call s) rest (λ _. done) in
         subst (λ r. Follows w h Next s r (runs w n t (before (setup w.numbers rs e) code) regs)) (sym source)
-        (follows_value w h Next i.int n s t (eval_with e w.call s) tail regs (length rs) (length (rs ++ temporaries e)) (setup w.numbers rs e) code (value w.numbers rs e)
+        (follows_value w h Next i.int n s t (eval_with no_tables e w.call s) tail regs (length rs) (length (rs ++ temporaries e)) (setup w.numbers rs e) code (value w.numbers rs e)
         (evaluates w n h.slots scopes scene.sight s t ready e i.int rs i.is pure q l behind room regs m)
         (λ z f after same has. combined (enough_for (temporaries e) room) op (type_of e) i.int z (value w.numbers rs e) after (λ v. v) i.is f same has))
 
     bumped : (op : BumpOp) → count w + count w ≤ w.registers → does_as (Node at k (Bump op variable)) (set (value_at w x.decl) (spec.compound (bump_operator op) k int_type (Register (value_at w x.decl)) (Constant kind.I32 (pos 1))))
     bumped op room =
         let code = set (value_at w x.decl) (spec.compound (bump_operator op) k int_type (Register (value_at w x.decl)) (Constant kind.I32 (pos 1))) in
-        let source : (eval_with (Node at k (Bump op variable)) w.call >> done) s ≡ on_outcome ((defined at (compound k (bump_operator op) (Integer old.known.value) int_type (Integer (pos 1))) >>= λ i. write at there k i
-        >> give (bump_value op (Integer old.known.value) i)) s) (λ _. done) =
-        ap (λ o. on_outcome (on_outcome o (λ p. read at p k >>= λ x. defined at (compound k (bump_operator op) x int_type (Integer (pos 1))) >>= λ v. write at p k v >> give (bump_value op x v))) (λ _. done)) object_found
-        ∙ ap (λ o. on_outcome (on_outcome o (λ x. defined at (compound k (bump_operator op) x int_type (Integer (pos 1))) >>= λ v. write at there k v >> give (bump_value op x v))) (λ _. done)) read_found in
+        let given = λ (x i : Value). give (bump_value op x i) in
+        let body = λ (p : Pointer) (c : Scalar). read at p c >>= λ x. computed at (λ store. compound [] k (bump_operator op) store x int_type (Integer (pos 1))) >>= λ i. write at p c i >> given x i in
+        let source : (eval_with no_tables (Node at k (Bump op variable)) w.call >> done) s ≡ on_outcome ((computed at (λ store. compound [] k (bump_operator op) store (Integer old.known.value) int_type (Integer (pos 1))) >>= λ i. write at there
+        (IntegerType v.int) i >> given (Integer old.known.value) i) s) (λ _. done) =
+        ap (λ o. on_outcome (on_outcome o (λ p. as_scalar (scalar_of k) (body p))) (λ _. done)) object_found
+        ∙ ap (λ u. on_outcome (as_scalar (scalar_of u) (body there) s) (λ _. done)) seen.ctype
+        ∙ ap (λ o. on_outcome (on_outcome o (λ x. computed at (λ store. compound [] k (bump_operator op) store x int_type (Integer (pos 1))) >>= λ i. write at there (IntegerType v.int) i >> given x i)) (λ _. done)) read_found in
         subst (λ r. Follows w h Next s r (runs w n t code regs)) (sym source)
         (combined room (bump_operator op) int_type I32 (pos 1) (Constant kind.I32 (pos 1)) regs (λ i. bump_value op (Integer old.known.value) i) refl refl (same_all (length rs) regs) refl)
 
@@ -237,17 +247,17 @@ module _ (p : TranslationUnit) (w : Setting) (n : ℕ) (h : Here) (scopes : Scop
   effect_follows (Node at k (Assign (Some op) a e)) pure q l room = place_compounded at k op a e q.0 pure.1 q.1 q.3 l room
   effect_follows (Node at k (Bump op a)) pure q l room = place_bumped at k op a q.0 (omega (arith, behind, room, longer rs []))
   effect_follows (Node at k (Call f es)) pure q l room = called_alone at k f es pure q.0 q.1 l room
-  effect_follows e pure q l room = pure_follows e pure
+  effect_follows e pure q l room = pure_follows e pure q
 
   -- ---- initialisations, and what follows
 
   pub initial_follows : (d : Declaration) (at : Place) (e : Expression) (v : Slot) (rest : Evaluation (Unit {0})) (code : MonStatements) → slot_of (number_of d) h.slots ≡ Some v → d.ctype ≡ Int v.int → IsPureOrCall e → WellTyped scopes e
       → type_of e ≡ d.ctype → FullHasLetters e → length (rs ++ full_temporaries e) ≤ w.registers → ((to : State) (there : Target) (o : List ℕ) (after : List BlockValue) → Related w h.slots after to → Beside w h.slots to there → Later h.slots s to o
-      → IsSet to.store v → Follows w h Next to (rest to) (runs w n there code after)) → Follows w h Next s (on_outcome (initialise d (Some (at, One e)) w.call s) (λ _. rest))
+      → IsSet to.store v → Follows w h Next to (rest to) (runs w n there code after)) → Follows w h Next s (on_outcome (initialise no_tables d (Some (at, One e)) w.call s) (λ _. rest))
       (runs w n t (before (translation.initialise p w.numbers rs (number_of d) (Some (at, One e))) code) regs)
   initial_follows d at e v rest code found int pure q same l room go =
       subst (λ r. Follows w h Next s r (runs w n t (before (translation.initialise p w.numbers rs (number_of d) (Some (at, One e))) code) regs)) (sym source)
-      (subst (λ a. Follows w h Next s (on_outcome (eval_with e w.call s) tail) (runs w n t a regs)) (sym (before_assoc (full_setup p w.numbers rs e) sets code))
+      (subst (λ a. Follows w h Next s (on_outcome (eval_with no_tables e w.call s) tail) (runs w n t a regs)) (sym (before_assoc (full_setup p w.numbers rs e) sets code))
       (follows_full p w n h scopes scene Next s t ready le rs behind regs m b e v.int tail (before sets code) (same ∙ int) pure q l room by))
     where
       there : Pointer
@@ -260,18 +270,20 @@ module _ (p : TranslationUnit) (w : Setting) (n : ℕ) (h : Here) (scopes : Scop
       sets = set (value_at w (number_of d)) (full_value w.numbers rs e)
 
       tail : Value → Evaluation (Unit {0})
-      tail i s = on_outcome (write at there d.ctype i s) (λ _. rest)
+      tail i s = on_outcome (write at there (IntegerType v.int) i s) (λ _. rest)
 
-      source : on_outcome (initialise d (Some (at, One e)) w.call s) (λ _. rest) ≡ on_outcome (eval_with e w.call s) tail
+      source : on_outcome (initialise no_tables d (Some (at, One e)) w.call s) (λ _. rest) ≡ on_outcome (eval_with no_tables e w.call s) tail
       source =
-          ap (λ o. on_outcome (on_outcome o (λ p. eval_with e w.call >>= λ i. write at p d.ctype i)) (λ _. rest)) (object_is w h.slots regs s m (number_of d) v found at)
-          ∙ handed_on (eval_with e w.call s) (λ i. write at there d.ctype i) (λ _. rest)
+          ap (λ o. on_outcome (on_outcome o (λ p. fill_one no_tables at d.ctype p (string_in e) (eval_with no_tables e w.call))) (λ _. rest)) (object_is w h.slots regs s m (number_of d) v found at)
+          ∙ ap (λ o. on_outcome (fill_one no_tables at d.ctype there o (eval_with no_tables e w.call) s) (λ _. rest)) (no_string e pure)
+          ∙ ap (λ u. on_outcome (on_outcome (eval_with no_tables e w.call s) (λ x. as_scalar (scalar_of u) (λ c. write at there c x))) (λ _. rest)) int
+          ∙ handed_on (eval_with no_tables e w.call s) (λ i. write at there (IntegerType v.int) i) (λ _. rest)
 
       by : (z : ℤ) (to : State) (target : Target) (o : List ℕ) (after : List BlockValue) → fits v.int z ≡ true → Same (length rs) regs after → Related w h.slots after to → Beside w h.slots to target → Later h.slots s to o
           → Has (full_value w.numbers rs e) after z → Follows w h Next to (tail (Integer z) to) (runs w n target (before sets code) after)
       by z to target o after f same2 re be la has =
           let later = later_set w h.slots after to re room2 (number_of d) v found z f in
-          subst (λ r. Follows w h Next to (on_outcome r (λ _. rest)) (runs w n target (before sets code) after)) (sym (ap (λ i. write at there i (Integer z) to) int ∙ write_is w h.slots after to re (number_of d) v found at z))
+          subst (λ r. Follows w h Next to (on_outcome r (λ _. rest)) (runs w n target (before sets code) after)) (sym (write_is w h.slots after to re (number_of d) v found at z))
           (subst (λ d2. Follows w h Next to (rest (state_with w h.slots after to re room2 (number_of d) v found z f)) d2)
           (sym (behind_setup w n target sets code after (slice_set after (value_at w (number_of d)) (Whole z)) (set_runs w n target (value_at w (number_of d)) (full_value w.numbers rs e) after z has)
           ∙ sym (writes_none (runs w n target code (slice_set after (value_at w (number_of d)) (Whole z))))))

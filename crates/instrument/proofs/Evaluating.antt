@@ -7,7 +7,7 @@ use Rattle.c_syntax.specs.declared.place.Place.{Place}
 use Rattle.c_syntax.specs.declared.types.CInt.{CInt}
 use Rattle.c_model.specs.Integers.{fits}
 use Rattle.c_model.specs.Memory.{Value, Integer}
-use Rattle.c_model.specs.State.{State, Outcome, Normal, Stop, Over, Undefined, Evaluation, on_outcome}
+use Rattle.c_model.specs.State.{State, Outcome, Normal, Stop, Over, Undefined, Evaluation, on_outcome, tested}
 use Rattle.c_model.specs.Meaning.{choose}
 use Rattle.mon_syntax.specs.Meaning.{Result, Done, Flow, Next, then_do, at_next, with_value}
 use Rattle.mon_syntax.specs.Meaning.{◌>>=◌ as bind}
@@ -33,6 +33,12 @@ pub data Evaluates (k : CInt) (s : State) (t : Target) (r : Outcome Value) (regs
   HasValue : (z : ℤ) → fits k z ≡ true → r ≡ Normal (Integer z) s → (after : List BlockValue) → Same low regs after → q ≡ Done (Next after) t [] → ((later : List BlockValue) → Same high after later → Has e later z)
       → Evaluates k s t r regs low high q e
   HasNone : (at : Place) → r ≡ Stop (Over (Undefined at)) s → Evaluates k s t r regs low high q e
+
+-- an integer is tested as it is
+pub tested_value : (at : Place) (k : CInt) (s : State) (t : Target) (r : Outcome Value) (regs : List BlockValue) (low high : ℕ) (q : Did) (e : MonExpression) → Evaluates k s t r regs low high q e
+    → Evaluates k s t (on_outcome r (tested at)) regs low high q e
+tested_value at k s t r regs low high q e (HasValue z fit x after same run has) = HasValue z fit (ap (λ r. on_outcome r (tested at)) x) after same run has
+tested_value at k s t r regs low high q e (HasNone there x) = HasNone there (ap (λ r. on_outcome r (tested at)) x)
 
 module _ (w : Setting) (n : ℕ) (t : Target) where
   abbrev pub runs : MonStatements → List BlockValue → Did

@@ -1,5 +1,5 @@
 -- The integer types of the parts of typed expressions.
-use Rattle.std.proofs.Common.{◌≡◌, ℤ, true, false, refl, sym, ap, ◌∙◌}
+use Rattle.std.proofs.Common.{◌≡◌, ℤ, true, false, [], refl, sym, ap, ◌∙◌}
 use Rattle.c_syntax.specs.declared.types.CInt.{CInt}
 use Rattle.c_syntax.specs.declared.types.CInt.TheVariants.{I8, U8, I16, U16, I32, U32, I64, U64}
 use Rattle.c_syntax.specs.declared.expression.UnOp.{UnOp}
@@ -7,10 +7,11 @@ use Rattle.c_syntax.specs.declared.expression.UnOp.TheVariants as prefix
 use Rattle.c_syntax.specs.declared.expression.BinOp.{BinOp}
 use Rattle.c_syntax.specs.declared.expression.BinOp.TheVariants as operator
 use Rattle.c_syntax.specs.Ctypes.{PlainType, Int, int_type}
-use Rattle.c_model.specs.Integers.{fits, size_of, operate, operate_in, operate_one, operate_one_in}
+use Rattle.c_model.specs.Integers.{fits, operate, operate_in, operate_one, operate_one_in}
+use Rattle.c_model.specs.Layouts.{size_of}
 use Rattle.c_model.specs.Conversions.{promoted, is_shift}
 use Rattle.c_model.specs.Laws.{type_of_result, type_of_one}
-use Rattle.c_model.specs.Typing.{is_scalar}
+use Rattle.c_model.specs.Typing.{is_scalar, is_object_type}
 use Rattle.c_model.specs.WellTyped.{IsPromoted, UnaryTypes, BinaryTypes, IsInteger, CastTypes}
 use Rattle.std.specs.Prelude.{pos}
 
@@ -33,16 +34,16 @@ pub cast_int : (to u : PlainType) (k : CInt) → to ≡ Int k → CastTypes to u
 cast_int (Int l) u k e h = integer_int u h
 cast_int _ u k e h = absurd cc
 
-pub size_fits : (t : PlainType) → fits U64 (pos (size_of t)) ≡ true
-size_fits (Int I8) = refl
-size_fits (Int U8) = refl
-size_fits (Int I16) = refl
-size_fits (Int U16) = refl
-size_fits (Int I32) = refl
-size_fits (Int U32) = refl
-size_fits (Int I64) = refl
-size_fits (Int U64) = refl
-size_fits _ = refl
+pub size_fits : (t : PlainType) → is_object_type t ≡ true → fits U64 (pos (size_of [] t)) ≡ true
+size_fits (Int I8) e = refl
+size_fits (Int U8) e = refl
+size_fits (Int I16) e = refl
+size_fits (Int U16) e = refl
+size_fits (Int I32) e = refl
+size_fits (Int U32) e = refl
+size_fits (Int I64) e = refl
+size_fits (Int U64) e = refl
+size_fits _ e = absurd cc
 
 -- ---- prefix operators
 

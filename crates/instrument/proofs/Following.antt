@@ -4,7 +4,7 @@ use Rattle.std.proofs.lemmas.List.{append-nil}
 use Rattle.std.specs.Ordering.{int_eq}
 use Rattle.c_syntax.specs.declared.place.Place.{Place}
 use Rattle.c_syntax.specs.declared.types.CInt.{CInt}
-use Rattle.c_syntax.specs.Ctypes.{PlainType, Void, Int}
+use Rattle.c_syntax.specs.Ctypes.{PlainType, Int, Ptr}
 use Rattle.c_model.specs.Integers.{fits}
 use Rattle.c_model.specs.Memory.{Value, Integer}
 use Rattle.c_model.specs.State.{State, Final, Fault, Undefined, Leaves, Over, Outcome, Normal, Stop, Evaluation, on_outcome}
@@ -38,13 +38,13 @@ pub record Later (slots : List Slot) (from to : State) (o : List ℕ) : Type 0 w
   pub longer : length from.store ≤ length to.store
   pub kept : AllKept slots from.store to.store
 
--- a value of the type, and none of void
+-- a value of an integer type, and none of a type that isn't scalar
 abbrev pub IsResult : PlainType → Option ℤ → Type 0
-IsResult Void None = Unit {0}
-IsResult Void (Some z) = ⊥
 IsResult (Int k) None = ⊥
 IsResult (Int k) (Some z) = fits k z ≡ true
-IsResult _ z = ⊥
+IsResult (Ptr t) z = ⊥
+IsResult _ None = Unit {0}
+IsResult _ (Some z) = ⊥
 
 -- From a state, the target's statements did what the source's did, where the source goes on, leaves a loop or its body, returns, or is
 -- over. Where it leaves a loop, the blocks of the variables born inside are dead in the target, and those of all variables where it

@@ -1,5 +1,5 @@
 -- Full expressions: arguments, calls, and what goes on with the value of an expression that may be a call.
-use Rattle.std.proofs.Common.{◌≡◌, ℕ, suc, ◌+◌, ◌≤◌, ℤ, true, List, [], ◌∷◌, ◌++◌, length, map, Option, Some, None, refl, sym, ap, ◌∙◌, subst, arith}
+use Rattle.std.proofs.Common.{◌≡◌, ℕ, suc, ◌+◌, ◌≤◌, ℤ, true, cond, List, [], ◌∷◌, ◌++◌, length, map, Option, Some, None, refl, sym, ap, ◌∙◌, subst, arith}
 use Rattle.std.proofs.lemmas.List.{append-nil, length-append}
 use Rattle.std.specs.Prelude.{slice_get, slice_set}
 use Rattle.c_syntax.specs.declared.place.Place.{Place}
@@ -11,7 +11,7 @@ use Rattle.c_syntax.specs.Programs.{TranslationUnit}
 use Rattle.c_model.specs.Integers.{fits, convert}
 use Rattle.c_model.specs.Memory.{Value, Integer}
 use Rattle.c_model.specs.State.{State, Undefined, Over, Outcome, Normal, Stop, Evaluation, on_outcome, ◌>>=◌, give}
-use Rattle.c_model.specs.Meaning.{eval_with, evals_with, converted}
+use Rattle.c_model.specs.Meaning.{eval_with, place_with, evals_with, converted, is_array, address}
 use Rattle.c_model.specs.Typing.{Scopes}
 use Rattle.c_model.specs.WellTyped.{HaveTypes, Calls, WellTyped, AreWellTyped}
 use Rattle.c_model.specs.Formed.{IsPure, ArePure, IsPureOrCall}
@@ -26,7 +26,7 @@ use Rattle.mon_syntax.specs.Trees.{MonExpression, Register, MonStatements}
 use Rattle.c_effects.specs.Letters.{HasLetters, ArgumentsHaveLetters, FullHasLetters}
 use Rattle.c_effects.specs.Expressions.{register_type, value_type, in_type, temporaries, value, before, setup}
 use Rattle.c_effects.specs.Effects.{arguments_temporaries, full_temporaries, arguments_setup, arguments, full_value, call, called, full_setup}
-use Rattle.instrument.proofs.Variables.{Slot, Setting, count, Related, Beside, Same, same_all, same_trans, same_set, related_same, get-set_same}
+use Rattle.instrument.proofs.Variables.{Slot, Setting, no_tables, count, Related, Beside, Same, same_all, same_trans, same_set, related_same, get-set_same}
 use Rattle.instrument.proofs.Values.{Has, in_type_converts}
 use Rattle.instrument.proofs.Results.{written, writes_none, written_then, before_is}
 use Rattle.instrument.proofs.Evaluating.{Target, Did, Evaluates, runs, behind_setup}
@@ -71,7 +71,7 @@ one_more w n s t k ks r others regs low mid high a b e es le le2 (evaluating.Has
 module _ (w : Setting) (n : ℕ) (slots : List Slot) (scopes : Scopes) (sight : AreInSight slots scopes.objects) (s : State) (t : Target) (ready : Ready s.store slots scopes.objects) where
   pub arguments_follow : (es : Expressions) (ks : List CInt) (rs : List MonType) → HaveTypes (map (λ k. Int k) ks) es → ArePure es → AreWellTyped scopes es → ArgumentsHaveLetters es → count w + count w ≤ length rs
       → length (rs ++ arguments_temporaries es) ≤ w.registers → (regs : List BlockValue) → Related w slots regs s
-      → EvaluatesAll ks s t (evals_with es w.call s) regs (length rs) (length (rs ++ arguments_temporaries es)) (runs w n t (arguments_setup w.numbers rs es) regs) (arguments w.numbers rs es)
+      → EvaluatesAll ks s t (evals_with no_tables es w.call s) regs (length rs) (length (rs ++ arguments_temporaries es)) (runs w n t (arguments_setup w.numbers rs es) regs) (arguments w.numbers rs es)
   arguments_follow NoExpression [] rs types p q l behind enough regs h = HaveValues [] tt refl regs (same_all (length rs) regs) refl (λ later same. refl)
   arguments_follow NoExpression (k ∷ ks) rs types p q l behind enough regs h = absurd types
   arguments_follow (Following e es) [] rs types p q l behind enough regs h = absurd types
@@ -79,8 +79,8 @@ module _ (w : Setting) (n : ℕ) (slots : List Slot) (scopes : Scopes) (sight : 
       let te = temporaries e in
       let ts = arguments_temporaries es in
       let more : length (rs ++ (te ++ ts)) ≡ length (rs ++ te ++ ts) = omega (arith, length-append (rs ++ te) ts, length-append rs te, length-append rs (te ++ ts), length-append te ts) in
-      subst (λ high. EvaluatesAll (k ∷ ks) s t (evals_with (Following e es) w.call s) regs (length rs) high (runs w n t (arguments_setup w.numbers rs (Following e es)) regs) (arguments w.numbers rs (Following e es))) (sym more)
-      (one_more w n s t k ks (eval_with e w.call s) (evals_with es w.call) regs (length rs) (length (rs ++ te)) (length (rs ++ te ++ ts)) (setup w.numbers rs e) (arguments_setup w.numbers (rs ++ te) es) (value w.numbers rs e)
+      subst (λ high. EvaluatesAll (k ∷ ks) s t (evals_with no_tables (Following e es) w.call s) regs (length rs) high (runs w n t (arguments_setup w.numbers rs (Following e es)) regs) (arguments w.numbers rs (Following e es))) (sym more)
+      (one_more w n s t k ks (eval_with no_tables e w.call s) (evals_with no_tables es w.call) regs (length rs) (length (rs ++ te)) (length (rs ++ te ++ ts)) (setup w.numbers rs e) (arguments_setup w.numbers (rs ++ te) es) (value w.numbers rs e)
       (arguments w.numbers (rs ++ te) es) (longer rs te) (longer (rs ++ te) ts)
       (evaluates w n slots scopes sight s t ready e k rs types.0 p.0 q.0 l.0 behind (omega (arith, more, enough, longer (rs ++ te) ts)) regs h)
       (λ after same. arguments_follow es ks (rs ++ te) types.1 p.1 q.1 l.1 (omega (arith, behind, longer rs te)) (omega (arith, more, enough)) after (related_same w slots regs after s (length rs) behind same h)))
@@ -126,10 +126,10 @@ module _ (p : TranslationUnit) (w : Setting) (n : ℕ) (h : Here) (scopes : Scop
   pub follows_called : (at : Place) (u : PlainType) (f : Use) (es : Expressions) (into : Option ℕ) (tail : Value → Evaluation (Unit {0})) (code : MonStatements) → ArePure es → AreWellTyped scopes es → Calls scopes f u es → ArgumentsHaveLetters es
       → length (rs ++ arguments_temporaries es) ≤ w.registers → ((z : Option ℤ) (v : BlockValue) (to : State) (there : Target) (o : List ℕ) (after : List BlockValue) → IsResult u z → Alike z v → Same (length rs) regs after
       → Related w h.slots after to → Beside w h.slots to there → Later h.slots s to o → Follows w h on to (tail (value_of z) to) (runs w n there code (given_to into v after)))
-      → Follows w h on s (on_outcome (on_outcome (evals_with es w.call s) (λ vs. w.call at f vs)) tail) (runs w n t (before (called p w.numbers rs into f es) code) regs)
+      → Follows w h on s (on_outcome (on_outcome (evals_with no_tables es w.call s) (λ vs. w.call at f vs)) tail) (runs w n t (before (called p w.numbers rs into f es) code) regs)
   follows_called at u f es into tail code pure q c l enough go =
-      subst (λ r. Follows w h on s r (runs w n t (before (called p w.numbers rs into f es) code) regs)) (sym (handed_on (evals_with es w.call s) (λ vs. w.call at f vs) tail))
-      (subst (λ d. Follows w h on s (on_outcome (evals_with es w.call s) (λ vs s. on_outcome (w.call at f vs s) tail)) d) (sym code_is)
+      subst (λ r. Follows w h on s r (runs w n t (before (called p w.numbers rs into f es) code) regs)) (sym (handed_on (evals_with no_tables es w.call s) (λ vs. w.call at f vs) tail))
+      (subst (λ d. Follows w h on s (on_outcome (evals_with no_tables es w.call s) (λ vs s. on_outcome (w.call at f vs s) tail)) d) (sym code_is)
       (by (arguments_follow w n h.slots scopes scene.sight s t ready es target.ints rs target.arguments pure q l behind enough regs m)))
     where
       target : IsCalled p w n f u es
@@ -150,8 +150,8 @@ module _ (p : TranslationUnit) (w : Setting) (n : ℕ) (h : Here) (scopes : Scop
       source_tail : List Value → Evaluation (Unit {0})
       source_tail vs s = on_outcome (w.call at f vs s) tail
 
-      by : EvaluatesAll target.ints s t (evals_with es w.call s) regs (length rs) (length (rs ++ arguments_temporaries es)) (runs w n t setup_code regs) (arguments w.numbers rs es)
-          → Follows w h on s (on_outcome (evals_with es w.call s) source_tail) (goes_on (then_do (runs w n t setup_code regs) (at_next (monitored.exec_all over_blocks calls_code w.calls n))))
+      by : EvaluatesAll target.ints s t (evals_with no_tables es w.call s) regs (length rs) (length (rs ++ arguments_temporaries es)) (runs w n t setup_code regs) (arguments w.numbers rs es)
+          → Follows w h on s (on_outcome (evals_with no_tables es w.call s) source_tail) (goes_on (then_do (runs w n t setup_code regs) (at_next (monitored.exec_all over_blocks calls_code w.calls n))))
       by (HaveNone x e) = undefined_here w h on s _ _ x (ap (λ r. on_outcome r source_tail) e)
       by (HaveValues zs fit e after same run has) =
           subst (λ r. Follows w h on s (on_outcome r source_tail) (goes_on (then_do (runs w n t setup_code regs) (at_next (monitored.exec_all over_blocks calls_code w.calls n))))) (sym e)
@@ -170,16 +170,16 @@ module _ (p : TranslationUnit) (w : Setting) (n : ℕ) (h : Here) (scopes : Scop
 
   -- without effects
   pub follows_pure : (e : Expression) (k : CInt) (tail : Value → Evaluation (Unit {0})) (code : MonStatements) → type_of e ≡ Int k → IsPure e → WellTyped scopes e → HasLetters e → length (rs ++ temporaries e) ≤ w.registers
-      → GoesOnWith k tail (value w.numbers rs e) code → Follows w h on s (on_outcome (eval_with e w.call s) tail) (runs w n t (before (setup w.numbers rs e) code) regs)
+      → GoesOnWith k tail (value w.numbers rs e) code → Follows w h on s (on_outcome (eval_with no_tables e w.call s) tail) (runs w n t (before (setup w.numbers rs e) code) regs)
   follows_pure e k tail code int pure q l enough go =
-      follows_value w h on k n s t (eval_with e w.call s) tail regs (length rs) (length (rs ++ temporaries e)) (setup w.numbers rs e) code (value w.numbers rs e)
+      follows_value w h on k n s t (eval_with no_tables e w.call s) tail regs (length rs) (length (rs ++ temporaries e)) (setup w.numbers rs e) code (value w.numbers rs e)
       (evaluates w n h.slots scopes scene.sight s t ready e k rs int pure q l behind enough regs m)
       (λ z fit after same has. go z s t [] after fit same (related_same w h.slots regs after s (length rs) behind same m) b (later_same h.slots s) has)
 
   -- a call of a function that gives a value, which a register takes
   value_called : (at : Place) (u : PlainType) (k : CInt) (f : Use) (es : Expressions) (tail : Value → Evaluation (Unit {0})) (code : MonStatements) → u ≡ Int k → ArePure es → AreWellTyped scopes es → Calls scopes f u es → ArgumentsHaveLetters es
       → length (rs ++ (arguments_temporaries es ++ value_type u ∷ [])) ≤ w.registers → GoesOnWith k tail (Register (length (rs ++ arguments_temporaries es))) code
-      → Follows w h on s (on_outcome (on_outcome (evals_with es w.call s) (λ vs. w.call at f vs)) tail) (runs w n t (before (called p w.numbers rs (Some (length (rs ++ arguments_temporaries es))) f es) code) regs)
+      → Follows w h on s (on_outcome (on_outcome (evals_with no_tables es w.call s) (λ vs. w.call at f vs)) tail) (runs w n t (before (called p w.numbers rs (Some (length (rs ++ arguments_temporaries es))) f es) code) regs)
   value_called at u k f es tail code int pure q c l enough go =
       follows_called at u f es (Some r) tail code pure q c l (omega (arith, enough, long)) by
     where
@@ -200,13 +200,15 @@ module _ (p : TranslationUnit) (w : Setting) (n : ℕ) (h : Here) (scopes : Scop
           (related_same w h.slots after taken to (length rs) behind changed re) be la there_is
 
   pub follows_full : (e : Expression) (k : CInt) (tail : Value → Evaluation (Unit {0})) (code : MonStatements) → type_of e ≡ Int k → IsPureOrCall e → WellTyped scopes e → FullHasLetters e → length (rs ++ full_temporaries e) ≤ w.registers
-      → GoesOnWith k tail (full_value w.numbers rs e) code → Follows w h on s (on_outcome (eval_with e w.call s) tail) (runs w n t (before (full_setup p w.numbers rs e) code) regs)
+      → GoesOnWith k tail (full_value w.numbers rs e) code → Follows w h on s (on_outcome (eval_with no_tables e w.call s) tail) (runs w n t (before (full_setup p w.numbers rs e) code) regs)
   follows_full (Node at u (Call f es)) k tail code int pure q l enough go = value_called at u k f es tail code int pure q.0 q.1 l enough go
   follows_full (Node at u (Cast to (Node at2 v (Call f es)))) k tail code int pure q l enough go =
       let to_int : to ≡ Int k = sym q.1 ∙ int in
       let from = cast_int to v k to_int q.2 in
-      let source : on_outcome (on_outcome (on_outcome (evals_with es w.call s) (λ vs. w.call at2 f vs)) (λ x. give (converted to x))) tail ≡ on_outcome (on_outcome (evals_with es w.call s) (λ vs. w.call at2 f vs)) (λ x. tail (converted to x)) =
-      handed_on (on_outcome (evals_with es w.call s) (λ vs. w.call at2 f vs)) (λ x. give (converted to x)) tail in
+      let called_first = Node at2 v (Call f es) in
+      let source : on_outcome (eval_with no_tables (Node at u (Cast to called_first)) w.call s) tail ≡ on_outcome (on_outcome (evals_with no_tables es w.call s) (λ vs. w.call at2 f vs)) (λ x. tail (converted to x)) =
+      ap (λ c. on_outcome (cond c (place_with no_tables called_first w.call >>= address called_first) (eval_with no_tables called_first w.call >>= λ x. give (converted to x)) s) tail) (ap is_array from.is)
+      ∙ handed_on (on_outcome (evals_with no_tables es w.call s) (λ vs. w.call at2 f vs)) (λ x. give (converted to x)) tail in
       subst (λ r. Follows w h on s r (runs w n t (before (called p w.numbers rs (Some (length (rs ++ arguments_temporaries es))) f es) code) regs)) (sym source)
       (value_called at2 v from.int f es (λ x. tail (converted to x)) code from.is pure q.0.0 q.0.1 l enough (λ z state there o after fit same re be la has.
       subst (λ x. Follows w h on state (tail (converted x (Integer z)) state) (runs w n there code after)) (sym to_int)

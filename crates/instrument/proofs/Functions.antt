@@ -5,7 +5,7 @@ use Rattle.std.specs.Prelude.{slice_get}
 use Rattle.c_syntax.specs.declared.place.Place.{Place}
 use Rattle.c_syntax.specs.declared.types.CInt.{CInt}
 use Rattle.c_syntax.specs.declared.types.Segment.TheVariants as segment
-use Rattle.c_syntax.specs.Ctypes.{PlainType, Void, Int}
+use Rattle.c_syntax.specs.Ctypes.{PlainType, Int, Ptr}
 use Rattle.c_syntax.specs.Statements.{Declaration}
 use Rattle.c_syntax.specs.Programs.{Function, TranslationUnit}
 use Rattle.c_model.specs.Limits.{most_frames}
@@ -24,7 +24,7 @@ use Rattle.track_scopes.specs.Blocks.{register_of, deaths, with_born}
 use Rattle.track_scopes.specs.Blocks as target
 use Rattle.instrument.specs.Translation.{body_part, function_of, variable_numbers, variable_types}
 use Rattle.track_scopes.proofs.Lives.{length-killed}
-use Rattle.instrument.proofs.Variables.{Slot, Setting, Stacked, Related, Beside, get-end}
+use Rattle.instrument.proofs.Variables.{Slot, Setting, no_tables, Stacked, Related, Beside, get-end}
 use Rattle.instrument.proofs.Results.{written, writes_none, written_then}
 use Rattle.instrument.proofs.Evaluating.{Target, Did, runs}
 use Rattle.instrument.proofs.Following.{Here, Later, Follows, GoesOn, Breaks, Continues, IsLeft, IsOver, IsUndefined}
@@ -114,8 +114,9 @@ module _ (w : Setting) (s from : State) (store : w.outside ≡ s.store) (active 
           ∙ ap (Done (Whole (pos 0)) (left_frame over_blocks dead.to)) (append-nil (o ++ []) ∙ append-nil o)
 
       by : (k : PlainType) → Called s k (restored s (at_close f.close k to)) (ended q)
-      by Void = calls.Gives None (Whole (pos 0)) (back_to s to) (left_frame over_blocks dead.to) o tt tt (came_back to regs o m l) (even_there to regs o m l dead.to dead.beside) refl target_is
-      by _ = HasNoMeaning f.close (back_to s to) o refl (l.output ∙ ap (λ x. x ++ o) output) (record { rest = []; is = ap written target_is ∙ sym (append-nil o) })
+      by (Int k) = HasNoMeaning f.close (back_to s to) o refl (l.output ∙ ap (λ x. x ++ o) output) (record { rest = []; is = ap written target_is ∙ sym (append-nil o) })
+      by (Ptr t) = HasNoMeaning f.close (back_to s to) o refl (l.output ∙ ap (λ x. x ++ o) output) (record { rest = []; is = ap written target_is ∙ sym (append-nil o) })
+      by _ = calls.Gives None (Whole (pos 0)) (back_to s to) (left_frame over_blocks dead.to) o tt tt (came_back to regs o m l) (even_there to regs o m l dead.to dead.beside) refl target_is
   function_ends r q (Breaks to regs t o i m b l e g) = absurd cc
   function_ends r q (Continues to regs t o i m b l e g) = absurd cc
   function_ends r q (IsLeft None to regs t o i m b l e g) =
@@ -189,7 +190,7 @@ module _ (p : TranslationUnit) (main index : ℕ) (f : Function) (call : Callee)
   -- the body does the same on both sides, from its parameters on
   abbrev pub BodyFollows : Type 0
   BodyFollows = (outside : Store) (active : ℕ) (regs : List BlockValue) (s : State) (t : Target) → Related (setting outside active) (parameter_slots outside) regs s → Beside (setting outside active) (parameter_slots outside) s t
-      → AllSet s.store (parameter_slots outside) → s.steps ≤ n → Follows (setting outside active) (at_body (parameter_slots outside) f.result) Next s (body_with f.body call (suc n) s) (runs (setting outside active) n t body_code regs)
+      → AllSet s.store (parameter_slots outside) → s.steps ≤ n → Follows (setting outside active) (at_body (parameter_slots outside) f.result) Next s (body_with no_tables f.body call (suc n) s) (runs (setting outside active) n t body_code regs)
 
   module _ (enough : length (variable_numbers f) + length (variable_numbers f) ≤ how_many) (can : AllCanBeBorn (variable_numbers f) [] f.params) (in_order : InOrder (variable_numbers f) 0 f.params)
       (few : length f.params ≤ length (variable_numbers f)) (body : BodyFollows) (zs : List ℤ) (fit : AllFit (parameter_ints f.params) zs) (at : Place) where
@@ -209,7 +210,7 @@ module _ (p : TranslationUnit) (main index : ℕ) (f : Function) (call : Callee)
 
     -- the source's call with its step and its frame after it, and the target's
     abbrev inside_source : Evaluation Value
-    inside_source = frame >> alone >> parameters at f.params (integers zs) >> mark None >> λ s. returned_by f (body_with f.body call (suc n) s)
+    inside_source = frame >> alone [] >> parameters no_tables at f.params (integers zs) >> mark None >> λ s. returned_by f (body_with no_tables f.body call (suc n) s)
 
     abbrev inside_target : Target → Result Target BlockValue
     inside_target t = body_runs over_blocks (Some function) calls_below n (wholes zs) t
@@ -243,13 +244,14 @@ module _ (p : TranslationUnit) (main index : ℕ) (f : Function) (call : Callee)
       beside_first = record { long = even.long; live = even.live; frames = ap (λ k. k + 1) even.frames; steps = even.steps; input = even.input }
 
       abbrev finish : Outcome (Unit {0}) → Outcome Value
-      finish r = restored s (on_outcome (on_outcome r (λ _. mark None)) (λ _ s. returned_by f (body_with f.body call (suc n) s)))
+      finish r = restored s (on_outcome (on_outcome r (λ _. mark None)) (λ _ s. returned_by f (body_with no_tables f.body call (suc n) s)))
 
       abbrev tail : Did → Result Target BlockValue
       tail q = then_do (then_do q (at_next (λ r u. then_do (runs w n u body_code r) (at_next (monitored.exec_all over_blocks (deaths (with_born w.numbers f.params [])) w.calls n))))) (at_return over_blocks)
 
       -- after the frame
-      framed : BearsAll w [] opens entered_source entered_target n at f.params (integers zs) → Called s f.result (finish (parameters at f.params (integers zs) entered_source)) (tail (runs w n entered_target (target.births w.numbers f.params) opens))
+      framed : BearsAll w [] opens entered_source entered_target n at f.params (integers zs) → Called s f.result (finish (parameters no_tables at f.params (integers zs) entered_source))
+          (tail (runs w n entered_target (target.births w.numbers f.params) opens))
       framed (OneIsFull g to e o x) =
           EndsRun (Full g) (back_to s to) [] (λ h. absurd cc) (ap finish e) (o ∙ sym (append-nil s.output)) (ap tail x)
       framed (AllBorn to regs u e x m b a l) =
@@ -264,7 +266,8 @@ module _ (p : TranslationUnit) (main index : ℕ) (f : Function) (call : Callee)
 
       -- the frame is there on both sides, or on none
       abbrev source_with : Bool → Outcome Value
-      source_with b = restored s (on_outcome (on_outcome (on_outcome (on_outcome (framed_by b s) (λ _. alone)) (λ _. parameters at f.params (integers zs))) (λ _. mark None)) (λ _ s. returned_by f (body_with f.body call (suc n) s)))
+      source_with b =
+          restored s (on_outcome (on_outcome (on_outcome (on_outcome (framed_by b s) (λ _. alone [])) (λ _. parameters no_tables at f.params (integers zs))) (λ _. mark None)) (λ _ s. returned_by f (body_with no_tables f.body call (suc n) s)))
 
       abbrev target_with : Bool → Result Target BlockValue
       target_with b = then_do (replied over_blocks (if b then Gives (Whole (pos 0)) (record t.mem { frames = t.mem.frames + 1 }) else IsFull segment.Frames) t) (λ v u. then_do (monitored.exec_all over_blocks function.body calls_below n opens u)
@@ -290,9 +293,9 @@ module _ (p : TranslationUnit) (main index : ℕ) (f : Function) (call : Callee)
     stepped s k r q e (EndsRun x to o d a l b) = EndsRun x to o d a l b
     stepped s k r q e (HasNoMeaning x to o a l b) = HasNoMeaning x to o a l b
 
-    pub call_follows : (s : State) (t : Target) → Even s t → s.steps ≤ suc n → Called s f.result (call_with (Some f) call (suc n) at (integers zs) s) (monitored.step_from t.steps (λ k. inside_target (record t { steps = k })))
+    pub call_follows : (s : State) (t : Target) → Even s t → s.steps ≤ suc n → Called s f.result (call_with no_tables [] (Some f) call (suc n) at (integers zs) s) (monitored.step_from t.steps (λ k. inside_target (record t { steps = k })))
     call_follows s t even le =
-        subst (λ m. Called s f.result (call_with (Some f) call (suc n) at (integers zs) s) (monitored.step_from m (λ k. inside_target (record t { steps = k })))) (sym even.steps) (by s.steps refl)
+        subst (λ m. Called s f.result (call_with no_tables [] (Some f) call (suc n) at (integers zs) s) (monitored.step_from m (λ k. inside_target (record t { steps = k })))) (sym even.steps) (by s.steps refl)
       where
         by : (m : ℕ) → s.steps ≡ m → Called s f.result (on_outcome (step_from m s) (λ _. within inside_source)) (monitored.step_from m (λ k. inside_target (record t { steps = k })))
         by zero e = EndsRun Spent s [] (λ h. absurd cc) refl (sym (append-nil s.output)) (ap (λ k. Stops Spent k []) (sym e))

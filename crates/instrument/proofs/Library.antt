@@ -12,7 +12,7 @@ use Rattle.c_syntax.specs.Programs.{TranslationUnit}
 use Rattle.c_model.specs.Integers.{fits, byte_of}
 use Rattle.c_model.specs.Memory.{Value, Integer}
 use Rattle.c_model.specs.State.{State, Input, InputTail, EndOfInput, InputFault, Spent, Exits, ReadFault, Undefined, Over, Normal, Stop, Evaluation, stop, read_byte}
-use Rattle.c_model.specs.Meaning.{put_char, get_char, exit_with, library_call, definition_at, call_with, is_of_library, call_of}
+use Rattle.c_model.specs.Meaning.{tables_of, global_scope, put_char, get_char, exit_with, library_call, definition_at, call_with, is_of_library, call_of}
 use Rattle.c_model.specs.Typing.{name_at}
 use Rattle.mon_syntax.specs.Meaning.{Result, Done, Stops, Next, then_do, given_to, got, with_read, with_value, eval, eval_all}
 use Rattle.mon_syntax.specs.Meaning.{◌>>=◌ as bind}
@@ -82,7 +82,7 @@ module _ (p : TranslationUnit) (w : Setting) (n depth : ℕ) (calls : w.call ≡
     where
       by : (k : ℕ) → call_of p k at f vs s ≡ library_call at (slice_get p.names f.name) vs s
       by zero = ap (λ b. (if b then library_call at (slice_get p.names f.name) vs else stop (Over Spent)) s) library
-      by (suc k) = ap (λ b. (if b then library_call at (slice_get p.names f.name) vs else call_with (definition_at f.decl p.funcs) (call_of p k) k at vs) s) library
+      by (suc k) = ap (λ b. (if b then library_call at (slice_get p.names f.name) vs else call_with (tables_of p) (global_scope 1 p.globals) (definition_at f.decl p.funcs) (call_of p k) k at vs) s) library
 
   code_is : (into : Option ℕ) (args : List MonExpression) → call p into f args ≡ effects.library_call into name args
   code_is into args = ap (λ b. if b then effects.library_call into name args else one (Call into (index_of f.decl p.funcs) args)) library

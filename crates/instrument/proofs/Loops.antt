@@ -6,7 +6,7 @@ use Rattle.std.specs.Ordering.{int_eq}
 use Rattle.std.specs.Prelude.{bytes_eq}
 use Rattle.c_syntax.specs.declared.types.CInt.{CInt}
 use Rattle.c_syntax.specs.Ctypes.{PlainType, Int}
-use Rattle.c_syntax.specs.Expressions.{Expression, type_of}
+use Rattle.c_syntax.specs.Expressions.{Expression, place_of, type_of}
 use Rattle.c_model.specs.Memory.{Value, Integer}
 use Rattle.c_model.specs.State.{State, Spent, Outcome, Normal, Evaluation, on_outcome, ◌>>=◌, ◌>>◌, give, done, step, step_from}
 use Rattle.c_model.specs.Meaning.{eval_with, after_body}
@@ -23,9 +23,9 @@ use Rattle.mon_syntax.specs.Trees.{Goto, Labelled, Loop, MonStatements, NoStatem
 use Rattle.c_effects.specs.Letters.{HasLetters}
 use Rattle.c_effects.specs.Expressions.{value, temporaries, setup, condition_of, one}
 use Rattle.instrument.specs.Translation.{end_label, next_label, leave_where_zero, test, loop}
-use Rattle.instrument.proofs.Variables.{Slot, Setting, count, Related, Beside, same_all, related_same, kept_refl}
+use Rattle.instrument.proofs.Variables.{Slot, Setting, no_tables, count, Related, Beside, same_all, related_same, kept_refl}
 use Rattle.instrument.proofs.Results.{written, writes_none, written_then, one_is, rest_first}
-use Rattle.instrument.proofs.Evaluating.{Target, Did, Evaluates, HasValue, HasNone, runs, behind_setup, if_runs}
+use Rattle.instrument.proofs.Evaluating.{Target, Did, Evaluates, HasValue, HasNone, tested_value, runs, behind_setup, if_runs}
 use Rattle.instrument.proofs.Sight.{AreInSight, Meets, meets_later}
 use Rattle.instrument.proofs.Expressions.{evaluates, test_is}
 use Rattle.instrument.proofs.Following.{Here, Later, later_same, Follows, GoesOn, Breaks, Continues, IsLeft, IsOver, IsUndefined, onward, undefined_here, follows_choice, follows_then, standing, anywhere}
@@ -192,10 +192,12 @@ module _ (w : Setting) (slots : List Slot) (result : PlainType) (loops : ℕ) wh
             (subst (λ d. Tested (Normal (Integer z) s) d) (sym target)
             (jump_follows z after (meets_later w slots scopes.objects regs after s s t t (kept_refl slots s.store) m (related_same w slots regs after s (length rs) behind same m.related) m.beside) c.0 c.2))
 
-      pub tests : Tests (eval_with e w.call) (test w.numbers rs loops e)
+      pub tests : Tests (source.condition_of no_tables e w.call) (test w.numbers rs loops e)
       tests = record {
         goes = λ regs s t m turn go k2.
-            tested regs s t m turn go k2 (eval_with e w.call s) (evaluates w n slots scopes sight s t m.ready e k rs int p q l behind enough regs m.related);
+            tested regs s t m turn go k2 (source.condition_of no_tables e w.call s)
+            (tested_value (place_of e) k s t (eval_with no_tables e w.call s) regs (length rs) (length (rs ++ temporaries e)) (runs w n t (setup w.numbers rs e) regs) (value w.numbers rs e)
+            (evaluates w n slots scopes sight s t m.ready e k rs int p q l behind enough regs m.related));
       }
 
     -- ---- turns

@@ -316,7 +316,7 @@ module _ (numbers : List ℕ) where
   first_listed (First (Run a)) l = tt
   first_listed (First (Asserts annots)) l = tt
 
-  first_objects : (first : ForFirst) (s : Scopes) (r : Around) → FirstTyped s r first → AreObjects (declared_first first)
+  pub first_objects : (first : ForFirst) (s : Scopes) (r : Around) → FirstTyped s r first → AreObjects (declared_first first)
   first_objects NoFirst s r q = tt
   first_objects (First (Declare ds)) s r q = declared_objects s ds q
   first_objects (First (Run a)) s r q = tt

@@ -7,9 +7,10 @@ use Rattle.c_syntax.specs.declared.place.Place.{Place}
 use Rattle.c_syntax.specs.declared.types.BlockKind.TheVariants.{Stack}
 use Rattle.c_syntax.specs.declared.types.Segment.{Segment}
 use Rattle.c_syntax.specs.Statements.{Declaration}
-use Rattle.c_model.specs.Integers.{size_of, fits}
+use Rattle.c_model.specs.Integers.{fits}
+use Rattle.c_model.specs.Layouts.{IntegerType, scalar_of, size_of}
 use Rattle.c_model.specs.Memory.{Value, Integer, Into, Store, new_block, full_at_stack_birth, standard_sizes}
-use Rattle.c_model.specs.State.{State, Full, Over, Normal, Stop, on_outcome, birth, birth_of, write, write_youngest}
+use Rattle.c_model.specs.State.{State, Full, Over, Normal, Stop, on_outcome, birth, birth_of, as_scalar, write, write_youngest}
 use Rattle.c_model.specs.Meaning.{parameters}
 use Rattle.c_model.specs.Formed.{number_of}
 use Rattle.c_model.proofs.Blocks.{slice_get-slice_set_other}
@@ -17,7 +18,7 @@ use Rattle.mon_syntax.specs.Meaning.{Done, Stops, Next, then_do, at_next, writes
 use Rattle.mon_syntax.specs.Meaning as monitored
 use Rattle.mon_syntax.specs.Memories.{BlockValue, Whole, over_blocks}
 use Rattle.track_scopes.specs.Blocks as target
-use Rattle.instrument.proofs.Variables.{Slot, Setting, count, value_at, pointer_at, slot_of, Related, Beside, IsSet, AllKept, state_with, write_is, related_set, kept_set, beside_set, get-below, load_cell, get-set_same}
+use Rattle.instrument.proofs.Variables.{Slot, Setting, no_tables, count, value_at, pointer_at, slot_of, Related, Beside, IsSet, AllKept, state_with, write_is, related_set, kept_set, beside_set, get-below, load_cell, get-set_same}
 use Rattle.instrument.proofs.Evaluating.{Target, runs}
 use Rattle.instrument.proofs.Following.{Later, later_same, later_trans}
 use Rattle.instrument.proofs.Calls.{integers}
@@ -47,9 +48,9 @@ set_as_is (b ∷ l) (suc k) a e = ap (λ x. b ∷ x) (set_as_is l k a e)
 
 -- all are born on both sides, or something is full on both
 pub data BearsAll (w : Setting) (slots : List Slot) (regs : List BlockValue) (s : State) (t : Target) (n : ℕ) (at : Place) (ds : List Declaration) (vs : List Value) : Type 0 where
-  AllBorn : (to : State) (after : List BlockValue) (u : Target) → parameters at ds vs s ≡ Normal tt to → runs w n t (target.births w.numbers ds) regs ≡ Done (Next after) u [] → Related w (slots_born (length s.store) ds slots) after to
+  AllBorn : (to : State) (after : List BlockValue) (u : Target) → parameters no_tables at ds vs s ≡ Normal tt to → runs w n t (target.births w.numbers ds) regs ≡ Done (Next after) u [] → Related w (slots_born (length s.store) ds slots) after to
       → Beside w (slots_born (length s.store) ds slots) to u → AllSet to.store (slots_born (length s.store) ds slots) → Later slots s to [] → BearsAll w slots regs s t n at ds vs
-  OneIsFull : (g : Segment) (to : State) → parameters at ds vs s ≡ Stop (Over (Full g)) to → to.output ≡ s.output → runs w n t (target.births w.numbers ds) regs ≡ Stops (Full g) to.steps [] → BearsAll w slots regs s t n at ds vs
+  OneIsFull : (g : Segment) (to : State) → parameters no_tables at ds vs s ≡ Stop (Over (Full g)) to → to.output ≡ s.output → runs w n t (target.births w.numbers ds) regs ≡ Stops (Full g) to.steps [] → BearsAll w slots regs s t n at ds vs
 
 -- a parameter with its value
 module _ (w : Setting) (slots : List Slot) (regs : List BlockValue) (s : State) (t : Target) (h : Related w slots regs s) (b : Beside w slots s t) (enough : count w + count w ≤ w.registers) (d : Declaration)
@@ -82,7 +83,7 @@ module _ (w : Setting) (slots : List Slot) (regs : List BlockValue) (s : State) 
   bound_state = state_with w live bound_registers born born_related enough x new found z f
 
   pub bound_long : length bound_state.store ≡ suc (length s.store)
-  bound_long = length-set born.store (length s.store) _ ∙ length-append s.store (new_block Stack (size_of d.ctype) ∷ []) ∙ omega arith
+  bound_long = length-set born.store (length s.store) _ ∙ length-append s.store (new_block Stack (size_of [] d.ctype) ∷ []) ∙ omega arith
 
   -- registers of values stay
   pub value_stays : (y : ℕ) → value_at w y < count w → slice_get bound_registers (value_at w y) ≡ slice_get regs (value_at w y)
@@ -91,11 +92,11 @@ module _ (w : Setting) (slots : List Slot) (regs : List BlockValue) (s : State) 
   there : slice_get bound_registers (value_at w x) ≡ Some (Whole z)
   there = value_stays x (get-below w.numbers (value_at w x) x c.listed) ∙ bound
 
-  written : (at : Place) → write_youngest at d.ctype (Integer z) born ≡ Normal tt bound_state
+  written : (at : Place) → as_scalar (scalar_of d.ctype) (λ c. write_youngest at c (Integer z)) born ≡ Normal tt bound_state
   written at =
-      let number : length born.store ≡ suc (length s.store) = length-append s.store (new_block Stack (size_of d.ctype) ∷ []) ∙ omega arith in
-      ap (λ i. write at (Into i 0) d.ctype (Integer z) born) number
-      ∙ ap (λ u. write at (Into (suc (length s.store)) 0) u (Integer z) born) c.object
+      let number : length born.store ≡ suc (length s.store) = length-append s.store (new_block Stack (size_of [] d.ctype) ∷ []) ∙ omega arith in
+      ap (λ u. as_scalar (scalar_of u) (λ c. write_youngest at c (Integer z)) born) c.object
+      ∙ ap (λ i. write at (Into i 0) (IntegerType (int_of d.ctype)) (Integer z) born) number
       ∙ write_is w live bound_registers born born_related x new found at z
 
   pub bound_related : Related w live bound_registers bound_state
@@ -115,22 +116,23 @@ module _ (w : Setting) (slots : List Slot) (regs : List BlockValue) (s : State) 
 
   pub bound_set : AllSet s.store slots → AllSet bound_state.store live
   bound_set a =
-      let cell = get-set_same born.store (length s.store) _ (omega (arith, length-append s.store (new_block Stack (size_of d.ctype) ∷ []))) in
+      let cell = get-set_same born.store (length s.store) _ (omega (arith, length-append s.store (new_block Stack (size_of [] d.ctype) ∷ []))) in
       (record { value = z; loads = load_cell bound_state.store new z f cell }, all_set_later s.store bound_state.store slots bound_later.kept a)
 
-  pub bound_source : (at : Place) → full_at_stack_birth standard_sizes s.store (size_of d.ctype) ≡ None → on_outcome (birth d s) (λ _. write_youngest at d.ctype (Integer z)) ≡ Normal tt bound_state
-  bound_source at e = ap (λ o. on_outcome (birth_of o d s) (λ _. write_youngest at d.ctype (Integer z))) e ∙ written at
+  pub bound_source : (at : Place) → full_at_stack_birth standard_sizes s.store (size_of [] d.ctype) ≡ None → on_outcome (birth [] d s) (λ _. as_scalar (scalar_of d.ctype) (λ c. write_youngest at c (Integer z))) ≡ Normal tt bound_state
+  bound_source at e = ap (λ o. on_outcome (birth_of o (number_of d) (size_of [] d.ctype) s) (λ _. as_scalar (scalar_of d.ctype) (λ c. write_youngest at c (Integer z)))) e ∙ written at
 
 module _ (w : Setting) (n : ℕ) (enough : count w + count w ≤ w.registers) (at : Place) where
   abbrev Bear : List Slot → List BlockValue → State → Target → List Declaration → List Value → Type 0
   Bear slots regs s t ds vs = BearsAll w slots regs s t n at ds vs
 
   born_then : (slots : List Slot) (regs : List BlockValue) (s : State) (t : Target) (d : Declaration) (ds : List Declaration) (v : Value) (vs : List Value) (to : State) (after : List BlockValue) (u : Target)
-      → on_outcome (birth d s) (λ _. write_youngest at d.ctype v) ≡ Normal tt to → monitored.exec over_blocks (target.birth w.numbers d) w.calls n regs t ≡ Done (Next after) u [] → length to.store ≡ suc (length s.store) → Later slots s to []
+      → on_outcome (birth [] d s) (λ _. as_scalar (scalar_of d.ctype) (λ c. write_youngest at c v)) ≡ Normal tt to → monitored.exec over_blocks (target.birth w.numbers d) w.calls n regs t ≡ Done (Next after) u []
+      → length to.store ≡ suc (length s.store) → Later slots s to []
       → Bear (slot_for (length s.store) d ∷ slots) after to u ds vs → Bear slots regs s t (d ∷ ds) (v ∷ vs)
   born_then slots regs s t d ds v vs to after u e f long l (AllBorn to2 after2 u2 e2 f2 m b a l2) =
       AllBorn to2 after2 u2
-      (ap (λ r. on_outcome r (λ _. parameters at ds vs)) e ∙ e2)
+      (ap (λ r. on_outcome r (λ _. parameters no_tables at ds vs)) e ∙ e2)
       (ap (λ q. then_do q (at_next (monitored.exec_all over_blocks (target.births w.numbers ds) w.calls n))) f ∙ ap (writes []) f2)
       (subst (λ i. Related w (slots_born i ds (slot_for (length s.store) d ∷ slots)) after2 to2) long m)
       (subst (λ i. Beside w (slots_born i ds (slot_for (length s.store) d ∷ slots)) to2 u2) long b)
@@ -138,7 +140,7 @@ module _ (w : Setting) (n : ℕ) (enough : count w + count w ≤ w.registers) (a
       (later_trans slots s to to2 [] [] l (record { spent = l2.spent; output = l2.output; longer = l2.longer; kept = l2.kept.1 }))
   born_then slots regs s t d ds v vs to after u e f long l (OneIsFull g to2 e2 o f2) =
       OneIsFull g to2
-      (ap (λ r. on_outcome r (λ _. parameters at ds vs)) e ∙ e2)
+      (ap (λ r. on_outcome r (λ _. parameters no_tables at ds vs)) e ∙ e2)
       (o ∙ l.output ∙ append-nil s.output)
       (ap (λ q. then_do q (at_next (monitored.exec_all over_blocks (target.births w.numbers ds) w.calls n))) f ∙ ap (writes []) f2)
 
@@ -161,10 +163,10 @@ module _ (w : Setting) (n : ℕ) (enough : count w + count w ≤ w.registers) (a
       (bound_target w slots regs s t h b enough d c.0 z bound.0 bound.1) (bound_related w slots regs s t h b enough d c.0 z bound.0 bound.1) (bound_beside w slots regs s t h b enough d c.0 z bound.0 bound.1) c.1
       (bound_others regs (bound_registers w slots regs s t h b enough d c.0 z bound.0 bound.1) ds zs (number_of d ∷ decls_of slots) (value_stays w slots regs s t h b enough d c.0 z bound.0 bound.1) c.1 bound.2)
       (bound_set w slots regs s t h b enough d c.0 z bound.0 bound.1 a))
-      (full_at_stack_birth standard_sizes s.store (size_of d.ctype)) refl
+      (full_at_stack_birth standard_sizes s.store (size_of [] d.ctype)) refl
     where
       by : (Unit {0} → Bear (slot_for (length s.store) d ∷ slots) (bound_registers w slots regs s t h b enough d c.0 z bound.0 bound.1) (bound_state w slots regs s t h b enough d c.0 z bound.0 bound.1)
-          (bound_target w slots regs s t h b enough d c.0 z bound.0 bound.1) ds (integers zs)) → (o : Option Segment) → full_at_stack_birth standard_sizes s.store (size_of d.ctype) ≡ o → Bear slots regs s t (d ∷ ds) (integers (z ∷ zs))
+          (bound_target w slots regs s t h b enough d c.0 z bound.0 bound.1) ds (integers zs)) → (o : Option Segment) → full_at_stack_birth standard_sizes s.store (size_of [] d.ctype) ≡ o → Bear slots regs s t (d ∷ ds) (integers (z ∷ zs))
       by rest None e =
           born_then slots regs s t d ds (Integer z) (integers zs) (bound_state w slots regs s t h b enough d c.0 z bound.0 bound.1) (bound_registers w slots regs s t h b enough d c.0 z bound.0 bound.1)
           (bound_target w slots regs s t h b enough d c.0 z bound.0 bound.1)
@@ -175,7 +177,7 @@ module _ (w : Setting) (n : ℕ) (enough : count w + count w ≤ w.registers) (a
           (rest tt)
       by rest (Some g) e =
           OneIsFull g s
-          (ap (λ o. on_outcome (on_outcome (birth_of o d s) (λ _. write_youngest at d.ctype (Integer z))) (λ _. parameters at ds (integers zs))) e)
+          (ap (λ o. on_outcome (on_outcome (birth_of o (number_of d) (size_of [] d.ctype) s) (λ _. as_scalar (scalar_of d.ctype) (λ c. write_youngest at c (Integer z)))) (λ _. parameters no_tables at ds (integers zs))) e)
           refl
           (ap (λ q. then_do q (at_next (monitored.exec_all over_blocks (target.births w.numbers ds) w.calls n))) (target_birth w slots regs s t h b enough d c.0 n ∙ ap (birth_runs w slots regs s t h b enough d c.0) e)
           ∙ ap (λ k. Stops (Full g) k []) b.steps)

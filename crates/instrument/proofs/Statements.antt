@@ -5,13 +5,13 @@ use Rattle.c_syntax.specs.declared.place.Place.{Place}
 use Rattle.c_syntax.specs.declared.expression.Use.{Use}
 use Rattle.c_syntax.specs.Ctypes.{PlainType}
 use Rattle.c_syntax.specs.Annotations.{Annotation}
-use Rattle.c_syntax.specs.Expressions.{Expression, Expressions, Node, Call, type_of}
+use Rattle.c_syntax.specs.Expressions.{Expression, Expressions, Node, Call, place_of, type_of}
 use Rattle.c_syntax.specs.Statements.{Initialiser, One, Many, Declaration, Statement, Empty, Eval, Block, If, While, Do, For, Break, Continue, Return, ElsePart, NoElse, Else, ForFirst, NoFirst, First, Declare, Run, Asserts, BlockItems, NoItem, Then}
 use Rattle.c_syntax.specs.Programs.{TranslationUnit}
 use Rattle.c_model.specs.Memory.{Integer}
 use Rattle.c_model.specs.State.{State, Leaves, Returns, Outcome, Normal, Stop, Evaluation, on_outcome, ◌>>◌, stop, births, within, restored}
 use Rattle.c_model.specs.State as state
-use Rattle.c_model.specs.Meaning.{eval_with, exec_with, else_with, first_with, item_with, items_with, condition_with, effect_with, initialise_all, declared_in, declared_first, turns}
+use Rattle.c_model.specs.Meaning.{exec_with, else_with, first_with, item_with, items_with, condition_with, effect_with, initialise_all, declared_in, declared_first, turns}
 use Rattle.c_model.specs.Meaning as source
 use Rattle.c_model.specs.Typing.{Scopes, Signature, Around, in_loop, inner, with_object, with_objects, behind_first}
 use Rattle.c_model.specs.WellTyped.{Calls, WellTyped}
@@ -32,9 +32,9 @@ use Rattle.c_effects.specs.Effects.{full_temporaries, full_setup, full_value, ef
 use Rattle.track_scopes.specs.Blocks.{deaths, with_born}
 use Rattle.instrument.specs.Translation as target
 use Rattle.c_effects.specs.Effects as effects
-use Rattle.instrument.proofs.Variables.{Slot, Setting, count, Related, Beside, IsSet, AllMatch, kept_refl, related_same}
+use Rattle.instrument.proofs.Variables.{Slot, Setting, no_tables, count, Related, Beside, IsSet, AllMatch, kept_refl, related_same}
 use Rattle.instrument.proofs.Results.{writes_none, one_is, before_is}
-use Rattle.instrument.proofs.Evaluating.{Target, runs, if_runs}
+use Rattle.instrument.proofs.Evaluating.{Target, tested_value, runs, if_runs}
 use Rattle.instrument.proofs.ExpressionTypes.{HasInt, scalar_int, integer_int}
 use Rattle.instrument.proofs.Sight.{AreInSight, ready_later, Meets, meets_later}
 use Rattle.instrument.proofs.Expressions.{longer, evaluates, test_is}
@@ -176,40 +176,43 @@ module _ (p : TranslationUnit) (w : Setting) (n most : ℕ) (names : List (List 
   condition_int s e c = scalar_int (type_of e) c.scalar
 
   effect_does : (h : Here) (s : Scopes) (g : Stage h.slots s) (rs : List MonType) (e : Expression) → IsEffectOrCall e → WellTyped s e → EffectHasLetters e → count w + count w ≤ length rs → length (rs ++ effect_temporaries e) ≤ w.registers
-      → DoSame h s (effect_with (Some e) w.call) (effects.effect p w.numbers rs e)
+      → DoSame h s (effect_with no_tables (Some e) w.call) (effects.effect p w.numbers rs e)
   effect_does h s g rs e pure q l behind enough = λ regs from t m le.
       effect_follows p w n h s (scene_of h.slots s g) from t m.ready le rs behind regs m.related m.beside e pure q l enough
 
   effect_if_any_does : (h : Here) (s : Scopes) (g : Stage h.slots s) (rs : List MonType) (e : Option Expression) → WhereAny (IsFullEffect most) e → WhereAny (WellTyped s) e → Any EffectHasLetters e → count w + count w ≤ length rs
-      → length (rs ++ any_temporaries effect_temporaries e) ≤ w.registers → DoSame h s (effect_with e w.call) (effect_if_any p w.numbers rs e)
+      → length (rs ++ any_temporaries effect_temporaries e) ≤ w.registers → DoSame h s (effect_with no_tables e w.call) (effect_if_any p w.numbers rs e)
   effect_if_any_does h s g rs None pure q l behind enough = λ regs from t m le. stays w h regs from t m.related m.beside
   effect_if_any_does h s g rs (Some e) pure q l behind enough = effect_does h s g rs e (effect_or_call e pure.is) q l behind enough
 
   test_does : (slots : List Slot) (result : PlainType) (loops : ℕ) (s : Scopes) (g : Stage slots s) (rs : List MonType) (e : Expression) → IsFull most e → IsCondition s e → HasLetters e → count w + count w ≤ length rs
-      → length (rs ++ temporaries e) ≤ w.registers → Tests w slots result loops n s (eval_with e w.call) (test w.numbers rs loops e)
+      → length (rs ++ temporaries e) ≤ w.registers → Tests w slots result loops n s (source.condition_of no_tables e w.call) (test w.numbers rs loops e)
   test_does slots result loops s g rs e pure q l behind enough =
       let i = condition_int s e q in
       tests w slots result loops n s g.sight e rs i.int i.is pure.is q.typed l behind enough
 
   test_if_any_does : (slots : List Slot) (result : PlainType) (loops : ℕ) (s : Scopes) (g : Stage slots s) (rs : List MonType) (e : Option Expression) → WhereAny (IsFull most) e → WhereAny (IsCondition s) e → Any HasLetters e
-      → count w + count w ≤ length rs → length (rs ++ any_temporaries temporaries e) ≤ w.registers → Tests w slots result loops n s (condition_with e w.call) (test_if_any w.numbers rs loops e)
+      → count w + count w ≤ length rs → length (rs ++ any_temporaries temporaries e) ≤ w.registers → Tests w slots result loops n s (condition_with no_tables e w.call) (test_if_any w.numbers rs loops e)
   test_if_any_does slots result loops s g rs None pure q l behind enough = no_test w slots result loops n s
   test_if_any_does slots result loops s g rs (Some e) pure q l behind enough = test_does slots result loops s g rs e pure q l behind enough
 
   -- `if`
   choice_does : (h : Here) (s : Scopes) (g : Stage h.slots s) (rs : List MonType) (e : Expression) (x y : Evaluation (Unit {0})) (a b : MonStatements) → IsFull most e → IsCondition s e → HasLetters e → count w + count w ≤ length rs
-      → length (rs ++ temporaries e) ≤ w.registers → DoSame h s x a → DoSame h s y b → DoSame h s (λ s. on_outcome (eval_with e w.call s) (λ v. source.choose v x y)) (before (setup w.numbers rs e) (one (tree.If (condition_of w.numbers rs e) a b)))
+      → length (rs ++ temporaries e) ≤ w.registers → DoSame h s x a → DoSame h s y b → DoSame h s (λ s. on_outcome (source.condition_of no_tables e w.call s) (λ v. source.choose v x y))
+      (before (setup w.numbers rs e) (one (tree.If (condition_of w.numbers rs e) a b)))
   choice_does h s g rs e x y a b pure q l behind enough f k = λ regs from t m le.
       let i = condition_int s e q in
-      follows_value w h Next i.int n from t (eval_with e w.call from) (λ v. source.choose v x y) regs (length rs) (length (rs ++ temporaries e)) (setup w.numbers rs e) (one (tree.If (condition_of w.numbers rs e) a b)) (value w.numbers rs e)
-      (evaluates w n h.slots s g.sight from t m.ready e i.int rs i.is pure.is q.typed l behind enough regs m.related) (λ z fit after same has.
+      follows_value w h Next i.int n from t (source.condition_of no_tables e w.call from) (λ v. source.choose v x y) regs (length rs) (length (rs ++ temporaries e)) (setup w.numbers rs e) (one (tree.If (condition_of w.numbers rs e) a b))
+      (value w.numbers rs e)
+      (tested_value (place_of e) i.int from t (source.eval_with no_tables e w.call from) regs (length rs) (length (rs ++ temporaries e)) (runs w n t (setup w.numbers rs e) regs) (value w.numbers rs e)
+      (evaluates w n h.slots s g.sight from t m.ready e i.int rs i.is pure.is q.typed l behind enough regs m.related)) (λ z fit after same has.
       let m2 = meets_later w h.slots s.objects regs after from from t t (kept_refl h.slots from.store) m (related_same w h.slots regs after from (length rs) behind same m.related) m.beside in
       let c = test_is (type_of e) i.int (value w.numbers rs e) after z i.is fit has in
       subst (λ d. Follows w h Next from (source.choose (Integer z) x y from) d) (sym (if_runs w n t (condition_of w.numbers rs e) a b after c.0 c.1))
       (follows_choice w h Next from from z c.0 x y _ _ c.2 (f after from t m2 le) (k after from t m2 le)))
 
   return_does : (h : Here) (spot : Spot) (at : At w spot h) (s : Scopes) (g : Stage h.slots s) (rs : List MonType) (e : Option Expression) → WhereAny (IsFullOrCall most) e → Returned s h.result e → Any FullHasLetters e → count w + count w ≤ length rs
-      → length (rs ++ any_temporaries full_temporaries e) ≤ w.registers → (at_place : Place) → DoSame h s (exec_with (Return at_place e) w.call (suc n)) (target.returned p w.numbers spot rs e)
+      → length (rs ++ any_temporaries full_temporaries e) ≤ w.registers → (at_place : Place) → DoSame h s (exec_with no_tables (Return at_place e) w.call (suc n)) (target.returned p w.numbers spot rs e)
   return_does h spot at s g rs None pure q l behind enough place = λ regs from t m le.
       leave_follows w n spot h at from regs t m.related m.beside None None (subst (λ k. IsResult k None) (sym q) tt) (λ u. one_is (tree.Return None) w.calls n regs u)
   return_does h spot at s g rs (Some e) pure q l behind enough place = λ regs from t m le.
@@ -237,7 +240,8 @@ module _ (p : TranslationUnit) (w : Setting) (n most : ℕ) (names : List (List 
   objects_stage slots s (d ∷ ds) x g = objects_stage slots (with_object s d) ds x.1 (object_stage slots s d x.0 g)
 
   declared_does : (h : Here) (ds : List Declaration) (s : Scopes) (rs : List MonType) (rest : Evaluation (Unit {0})) (code : MonStatements) → Stage h.slots s → HaveSlots h.slots ds → AreInitialised most ds → AreDeclared s ds → InitialsHaveLetters ds
-      → count w + count w ≤ length rs → length (rs ++ declaration_temporaries ds) ≤ w.registers → DoSame h (with_objects s ds) rest code → DoSame h s (initialise_all ds w.call >> rest) (before (effects.initialise_all p w.numbers rs ds) code)
+      → count w + count w ≤ length rs → length (rs ++ declaration_temporaries ds) ≤ w.registers → DoSame h (with_objects s ds) rest code
+      → DoSame h s (initialise_all no_tables ds w.call >> rest) (before (effects.initialise_all p w.numbers rs ds) code)
   declared_does h [] s rs rest code g x pure q l behind enough go = go
   declared_does h (d ∷ ds) s rs rest code g x pure q l behind enough go = λ regs from t m le.
       let here = initial_temporaries d.init in
@@ -245,8 +249,8 @@ module _ (p : TranslationUnit) (w : Setting) (n most : ℕ) (names : List (List 
       let long = two rs here (declaration_temporaries ds) in
       let later = declared_does h ds (with_object s d) next rest code (object_stage h.slots s d x.0 g) x.1 pure.1 q.1 l.1 (omega (arith, behind, longer rs here)) (omega (arith, long, enough)) go in
       subst (λ r. Follows w h Next from r (runs w n t (before (before (effects.initialise p w.numbers rs (number_of d) d.init) (effects.initialise_all p w.numbers next ds)) code) regs))
-      (sym (handed_on (source.initialise d d.init w.call from) (λ _. initialise_all ds w.call) (λ _. rest)))
-      (subst (λ a. Follows w h Next from (on_outcome (source.initialise d d.init w.call from) (λ _. initialise_all ds w.call >> rest)) (runs w n t a regs))
+      (sym (handed_on (source.initialise no_tables d d.init w.call from) (λ _. initialise_all no_tables ds w.call) (λ _. rest)))
+      (subst (λ a. Follows w h Next from (on_outcome (source.initialise no_tables d d.init w.call from) (λ _. initialise_all no_tables ds w.call >> rest)) (runs w n t a regs))
       (sym (before_assoc (effects.initialise p w.numbers rs (number_of d) d.init) (effects.initialise_all p w.numbers next ds) code))
       (by regs from t m le d.init (omega (arith, long, longer next (declaration_temporaries ds), enough)) pure.0 q.0.init l.0
       (λ to u o after r be la is_set. later after to u (record { related = r; beside = be; ready = ready_declared to.store h.slots s.objects d x.0 is_set (ready_later from.store to.store h.slots s.objects la.kept m.ready) })
@@ -257,18 +261,18 @@ module _ (p : TranslationUnit) (w : Setting) (n most : ℕ) (names : List (List 
 
       by : (regs : List BlockValue) (from : State) (t : Target) (m : Meets w h.slots s.objects regs from t) (le : from.steps ≤ n) → (o : Option (Place × Initialiser)) → length (rs ++ initial_temporaries o) ≤ w.registers → IsInitialiser most o
           → Initialises s d.ctype o → InitialHasLetters o → ((to : State) (u : Target) (out : List ℕ) (after : List BlockValue) → Related w h.slots after to → Beside w h.slots to u → Later h.slots from to out → IsSet to.store x.0.slot
-          → Follows w h Next to ((initialise_all ds w.call >> rest) to) (runs w n u after_it after))
-          → Follows w h Next from (on_outcome (source.initialise d o w.call from) (λ _. initialise_all ds w.call >> rest)) (runs w n t (before (effects.initialise p w.numbers rs (number_of d) o) after_it) regs)
+          → Follows w h Next to ((initialise_all no_tables ds w.call >> rest) to) (runs w n u after_it after))
+          → Follows w h Next from (on_outcome (source.initialise no_tables d o w.call from) (λ _. initialise_all no_tables ds w.call >> rest)) (runs w n t (before (effects.initialise p w.numbers rs (number_of d) o) after_it) regs)
       by regs from t m le None room i j k go = absurd i
       by regs from t m le (Some (at, One e)) room i j k go =
-          initial_follows p w n h s (scene_of h.slots s g) from t m.ready le rs behind regs m.related m.beside d at e x.0.slot (initialise_all ds w.call >> rest) after_it x.0.found x.0.ctype i.is j.0 j.1 k room go
+          initial_follows p w n h s (scene_of h.slots s g) from t m.ready le rs behind regs m.related m.beside d at e x.0.slot (initialise_all no_tables ds w.call >> rest) after_it x.0.found x.0.ctype i.is j.0 j.1 k room go
       by regs from t m le (Some (at, Many brace is)) room i j k go = absurd i
 
   -- ---- blocks
 
   -- variables are born, and live while this is done
   pub block_does : (h : Here) (s : Scopes) (g : Stage h.slots s) (room : count w + count w ≤ w.registers) (ds : List Declaration) (x : Evaluation (Unit {0})) (a : MonStatements) → AllCanBeBorn w.numbers (decls_of h.slots) ds
-      → ((old : State) → Stage (behind_births h old ds).slots s → HaveSlots (behind_births h old ds).slots ds → DoSame (behind_births h old ds) s x a) → DoSame h s (within (births ds >> x)) (target.alive w.numbers ds a)
+      → ((old : State) → Stage (behind_births h old ds).slots s → HaveSlots (behind_births h old ds).slots ds → DoSame (behind_births h old ds) s x a) → DoSame h s (within (births [] ds >> x)) (target.alive w.numbers ds a)
   block_does h s g room ds x a c f = λ regs from t m le.
       block_follows w h n room ds x a regs from t m.related m.beside c (λ to after u r b l.
       f from (record { sight = sight_behind w.numbers (length from.store) ds h.slots s.objects c g.sight; names_are = g.names_are; functions_are = g.functions_are })
@@ -278,7 +282,7 @@ module _ (p : TranslationUnit) (w : Setting) (n most : ℕ) (names : List (List 
   -- ---- the loop of a `for`
 
   abbrev for_turns : Option Expression → Option Expression → Statement → Evaluation (Unit {0})
-  for_turns e step a = turns (suc n) (condition_with e w.call) (exec_with a w.call (suc n)) (effect_with step w.call)
+  for_turns e step a = turns (suc n) (condition_with no_tables e w.call) (exec_with no_tables a w.call (suc n)) (effect_with no_tables step w.call)
 
   abbrev for_code : Spot → List MonType → Option Expression → Option Expression → Statement → MonStatements
   for_code spot rs e step a =
@@ -288,7 +292,7 @@ module _ (p : TranslationUnit) (w : Setting) (n most : ℕ) (names : List (List 
 
   for_does : (h : Here) (spot : Spot) (s : Scopes) (g : Stage h.slots s) (rs : List MonType) (e step : Option Expression) (a : Statement) → WhereAny (IsFull most) e → WhereAny (IsCondition s) e → Any HasLetters e → WhereAny (IsFullEffect most) step
       → WhereAny (WellTyped s) step → Any EffectHasLetters step → count w + count w ≤ length rs → length (rs ++ any_temporaries temporaries e ++ statement_temporaries a ++ any_temporaries effect_temporaries step) ≤ w.registers
-      → DoSame (in_body w h.slots h.result (spot.loops + 1)) s (exec_with a w.call (suc n)) (statement p w.numbers (target.in_loop spot) (rs ++ any_temporaries temporaries e) a) → DoSame h s (for_turns e step a) (for_code spot rs e step a)
+      → DoSame (in_body w h.slots h.result (spot.loops + 1)) s (exec_with no_tables a w.call (suc n)) (statement p w.numbers (target.in_loop spot) (rs ++ any_temporaries temporaries e) a) → DoSame h s (for_turns e step a) (for_code spot rs e step a)
   for_does h spot s g rs e step a e_full e_typed e_letters step_full step_typed step_letters behind enough body = λ regs from t m le.
       let te = any_temporaries temporaries e in
       let ta = statement_temporaries a in
@@ -298,9 +302,9 @@ module _ (p : TranslationUnit) (w : Setting) (n most : ℕ) (names : List (List 
       let f2 = longer (rs ++ te) ta in
       let f3 = longer (rs ++ te ++ ta) ts in
       loop_follows w h.slots h.result l n h.around h.looped h.loops from _ regs t (test_if_any w.numbers rs l e) (statement p w.numbers (target.in_loop spot) (rs ++ te) a) (effect_if_any p w.numbers (rs ++ te ++ ta) step)
-      (turns_follow w h.slots h.result l n s (condition_with e w.call) (exec_with a w.call (suc n)) (statement p w.numbers (target.in_loop spot) (rs ++ te) a) body
+      (turns_follow w h.slots h.result l n s (condition_with no_tables e w.call) (exec_with no_tables a w.call (suc n)) (statement p w.numbers (target.in_loop spot) (rs ++ te) a) body
       (test_if_any w.numbers rs l e) (test_if_any_does h.slots h.result l s g rs e e_full e_typed e_letters behind (omega (arith, enough, f2, f3)))
-      (effect_with step w.call) (effect_if_any p w.numbers (rs ++ te ++ ta) step)
+      (effect_with no_tables step w.call) (effect_if_any p w.numbers (rs ++ te ++ ta) step)
       (effect_if_any_does (in_turn w h.slots h.result l) s g (rs ++ te ++ ta) step step_full step_typed step_letters (omega (arith, behind, f1, f2)) enough)
       n regs from t m le le)
 
@@ -308,16 +312,16 @@ module _ (p : TranslationUnit) (w : Setting) (n most : ℕ) (names : List (List 
   abbrev BodyDoes : ForFirst → Scopes → Here → Spot → List MonType → Option Expression → Statement → Type 0
   BodyDoes first s h spot rs e a =
       (old : State) → Stage (behind_births h old (declared_first first)).slots (behind_first (inner s) first)
-      → DoSame (in_body w (behind_births h old (declared_first first)).slots h.result (spot.loops + 1)) (behind_first (inner s) first) (exec_with a w.call (suc n))
+      → DoSame (in_body w (behind_births h old (declared_first first)).slots h.result (spot.loops + 1)) (behind_first (inner s) first) (exec_with no_tables a w.call (suc n))
       (statement p w.numbers (target.in_loop (with_variables w.numbers (declared_first first) spot)) (rs ++ first_temporaries first ++ any_temporaries temporaries e) a)
 
   first_then : (first : ForFirst) (s : Scopes) (r : Around) (h : Here) (spot : Spot) (rs : List MonType) (x : Evaluation (Unit {0})) (code : MonStatements) (old : State) → Stage (behind_births h old (declared_first first)).slots (inner s)
       → HaveSlots (behind_births h old (declared_first first)).slots (declared_first first) → FirstFormed most first → FirstTyped (inner s) r first → FirstHasNumbers first → count w + count w ≤ length rs
       → length (rs ++ first_temporaries first) ≤ w.registers → (Stage (behind_births h old (declared_first first)).slots (behind_first (inner s) first) → DoSame (behind_births h old (declared_first first)) (behind_first (inner s) first) x code)
-      → DoSame (behind_births h old (declared_first first)) (inner s) (first_with first w.call (suc n) >> x) (before (first_part p w.numbers (with_variables w.numbers (declared_first first) spot) rs first) code)
+      → DoSame (behind_births h old (declared_first first)) (inner s) (first_with no_tables first w.call (suc n) >> x) (before (first_part p w.numbers (with_variables w.numbers (declared_first first) spot) rs first) code)
   first_then NoFirst s r h spot rs x code old g have f q l behind enough go = go g
   first_then (First (Run (Eval at e))) s r h spot rs x code old g have f q l behind enough go =
-      in_order (behind_births h old []) (inner s) (effect_with (Some e) w.call) x (effects.effect p w.numbers rs e) code (effect_does (behind_births h old []) (inner s) g rs e f.is q l behind enough) (go g)
+      in_order (behind_births h old []) (inner s) (effect_with no_tables (Some e) w.call) x (effects.effect p w.numbers rs e) code (effect_does (behind_births h old []) (inner s) g rs e f.is q l behind enough) (go g)
   first_then (First (Declare ds)) s r h spot rs x code old g have f q l behind enough go =
       declared_does (behind_births h old ds) ds (inner s) rs x code g have f q l behind enough (go (objects_stage (behind_births h old ds).slots (inner s) ds have g))
   first_then _ s r h spot rs x code old g have f q l behind enough go = absurd f
@@ -326,7 +330,7 @@ module _ (p : TranslationUnit) (w : Setting) (n most : ℕ) (names : List (List 
       → AllCanBeBorn w.numbers (decls_of h.slots) (declared_first first) → FirstFormed most first → FirstTyped (inner s) r first → FirstHasNumbers first → WhereAny (IsFull most) e → WhereAny (IsCondition (behind_first (inner s) first)) e
       → Any HasLetters e → WhereAny (IsFullEffect most) step → WhereAny (WellTyped (behind_first (inner s) first)) step → Any EffectHasLetters step → count w + count w ≤ length rs
       → length (rs ++ statement_temporaries (For at annots first e step a)) ≤ w.registers → BodyDoes first s h spot rs e a
-      → DoSame h s (exec_with (For at annots first e step a) w.call (suc n)) (statement p w.numbers spot rs (For at annots first e step a))
+      → DoSame h s (exec_with no_tables (For at annots first e step a) w.call (suc n)) (statement p w.numbers spot rs (For at annots first e step a))
   for_follows at annots first s r h spot rs e step a g c f_formed f_typed f_letters e_full e_typed e_letters step_full step_typed step_letters behind enough body = λ regs from t m le.
       let ds = declared_first first in
       let spot2 = with_variables w.numbers ds spot in
@@ -342,8 +346,9 @@ module _ (p : TranslationUnit) (w : Setting) (n most : ℕ) (names : List (List 
       let more : length ((rs ++ tf) ++ (te ++ ta ++ ts)) ≡ length (rs ++ tf ++ te ++ ta ++ ts) = three (rs ++ tf) te ta ts in
       let turns_of = for_turns e step a in
       let code = for_code spot2 (rs ++ tf) e step a in
-      subst (λ x. Follows w h Next from (restored from x) (runs w n t (target.alive w.numbers ds (before (first_part p w.numbers spot2 rs first) code)) regs)) (sym (handed_on (births ds from) (λ _. first_with first w.call (suc n)) (λ _. turns_of)))
-      (block_does h s g (omega (arith, behind, enough, all, f1, f2, f3, f4)) ds (first_with first w.call (suc n) >> turns_of) (before (first_part p w.numbers spot2 rs first) code) c
+      subst (λ x. Follows w h Next from (restored from x) (runs w n t (target.alive w.numbers ds (before (first_part p w.numbers spot2 rs first) code)) regs))
+      (sym (handed_on (births [] ds from) (λ _. first_with no_tables first w.call (suc n)) (λ _. turns_of)))
+      (block_does h s g (omega (arith, behind, enough, all, f1, f2, f3, f4)) ds (first_with no_tables first w.call (suc n) >> turns_of) (before (first_part p w.numbers spot2 rs first) code) c
       (λ old g2 have. first_then first s r h spot rs turns_of code old (inner_stage (behind_births h old ds).slots s g2) have f_formed f_typed f_letters behind (omega (arith, enough, all, f2, f3, f4)) (λ g3.
       for_does (behind_births h old ds) spot2 (behind_first (inner s) first) g3 (rs ++ tf) e step a e_full e_typed e_letters step_full step_typed step_letters (omega (arith, behind, f1)) (omega (arith, enough, all)) (body old g3)))
       regs from t m le)
@@ -353,11 +358,12 @@ module _ (p : TranslationUnit) (w : Setting) (n most : ℕ) (names : List (List 
   mutual
     pub statement_follows : (a : Statement) (s : Scopes) (r : Around) (h : Here) (spot : Spot) (rs : List MonType) → At w spot h → Stage h.slots s → r.result ≡ h.result → r.loops ≡ h.looped → CanDeclare w.numbers (decls_of h.slots) a
         → StatementFormed most a → StatementTyped s r a → StatementNoted s a → HasNumbers a → count w + count w ≤ length rs → length (rs ++ statement_temporaries a) ≤ w.registers
-        → DoSame h s (exec_with a w.call (suc n)) (statement p w.numbers spot rs a)
+        → DoSame h s (exec_with no_tables a w.call (suc n)) (statement p w.numbers spot rs a)
     statement_follows (Empty at) s r h spot rs stands g result looped c f q m l behind enough = λ regs from t x le. stays w h regs from t x.related x.beside
     statement_follows (Eval at e) s r h spot rs stands g result looped c f q m l behind enough = effect_does h s g rs e f.is q l behind enough
     statement_follows (Block at body) s r h spot rs stands g result looped c f q m l behind enough =
-        block_does h s g (omega (arith, behind, enough, longer rs (items_temporaries body))) (declared_in body) (items_with body w.call (suc n)) (items p w.numbers (with_variables w.numbers (declared_in body) spot) rs body) c.0 (λ old g2 have.
+        block_does h s g (omega (arith, behind, enough, longer rs (items_temporaries body))) (declared_in body) (items_with no_tables body w.call (suc n)) (items p w.numbers (with_variables w.numbers (declared_in body) spot) rs body) c.0
+        (λ old g2 have.
         items_follow body (inner s) r (behind_births h old (declared_in body)) (with_variables w.numbers (declared_in body) spot) rs (at_births w spot h old (declared_in body) stands) (inner_stage (behind_births h old (declared_in body)).slots s g2)
         have result looped
         (subst (λ living. ItemsCanDeclare w.numbers living body) (sym (decls_of-born (length old.store) (declared_in body) h.slots)) c.1) f q m l behind enough)
@@ -366,7 +372,7 @@ module _ (p : TranslationUnit) (w : Setting) (n most : ℕ) (names : List (List 
         let ta = statement_temporaries a in
         let tb = else_temporaries b in
         let all = three rs te ta tb in
-        choice_does h s g rs e (exec_with a w.call (suc n)) (else_with b w.call (suc n)) (statement p w.numbers spot (rs ++ te) a) (else_part p w.numbers spot (rs ++ te ++ ta) b) f.0 q.0 l.0 behind
+        choice_does h s g rs e (exec_with no_tables a w.call (suc n)) (else_with no_tables b w.call (suc n)) (statement p w.numbers spot (rs ++ te) a) (else_part p w.numbers spot (rs ++ te ++ ta) b) f.0 q.0 l.0 behind
         (omega (arith, enough, all, longer (rs ++ te) ta, longer (rs ++ te ++ ta) tb))
         (statement_follows a s r h spot (rs ++ te) stands g result looped c.0 f.1 q.1 m.0 l.1 (omega (arith, behind, longer rs te)) (omega (arith, enough, all, longer (rs ++ te ++ ta) tb)))
         (else_follows b s r h spot (rs ++ te ++ ta) stands g result looped c.1 f.2 q.2 m.1 l.2 (omega (arith, behind, longer rs te, longer (rs ++ te) ta)) (omega (arith, enough, all)))
@@ -376,7 +382,7 @@ module _ (p : TranslationUnit) (w : Setting) (n most : ℕ) (names : List (List 
         let all = two rs te ta in
         let k = spot.loops + 1 in
         loop_follows w h.slots h.result k n h.around h.looped h.loops from _ regs t (test w.numbers rs k e) (statement p w.numbers (target.in_loop spot) (rs ++ te) a) NoStatement
-        (turns_follow w h.slots h.result k n s (eval_with e w.call) (exec_with a w.call (suc n)) (statement p w.numbers (target.in_loop spot) (rs ++ te) a)
+        (turns_follow w h.slots h.result k n s (source.condition_of no_tables e w.call) (exec_with no_tables a w.call (suc n)) (statement p w.numbers (target.in_loop spot) (rs ++ te) a)
         (statement_follows a s (in_loop r) (in_body w h.slots h.result k) (target.in_loop spot) (rs ++ te) (at_loop w spot h stands) g result refl c f.2 q.1 m.1 l.1 (omega (arith, behind, longer rs te)) (omega (arith, enough, all)))
         (test w.numbers rs k e) (test_does h.slots h.result k s g rs e f.1 q.0 l.0 behind (omega (arith, enough, all, longer (rs ++ te) ta)))
         state.done NoStatement (λ regs from t x le. stays w (in_turn w h.slots h.result k) regs from t x.related x.beside) n regs from t x le le)
@@ -386,7 +392,7 @@ module _ (p : TranslationUnit) (w : Setting) (n most : ℕ) (names : List (List 
         let all = two rs ta te in
         let k = spot.loops + 1 in
         loop_follows w h.slots h.result k n h.around h.looped h.loops from _ regs t NoStatement (statement p w.numbers (target.in_loop spot) rs a) (test w.numbers (rs ++ ta) k e)
-        (do_turns_follow w h.slots h.result k n s (eval_with e w.call) (exec_with a w.call (suc n)) (statement p w.numbers (target.in_loop spot) rs a)
+        (do_turns_follow w h.slots h.result k n s (source.condition_of no_tables e w.call) (exec_with no_tables a w.call (suc n)) (statement p w.numbers (target.in_loop spot) rs a)
         (statement_follows a s (in_loop r) (in_body w h.slots h.result k) (target.in_loop spot) rs (at_loop w spot h stands) g result refl c f.0 q.0 m l.0 behind (omega (arith, enough, all, longer (rs ++ ta) te)))
         (test w.numbers (rs ++ ta) k e) (test_does h.slots h.result k s g (rs ++ ta) e f.1 q.1 l.1 (omega (arith, behind, longer rs ta)) (omega (arith, enough, all)))
         n regs from t x le le)
@@ -410,31 +416,31 @@ module _ (p : TranslationUnit) (w : Setting) (n most : ℕ) (names : List (List 
     statement_follows (Return at e) s r h spot rs stands g result looped c f q m l behind enough = return_does h spot stands s g rs e f (subst (λ k. Returned s k e) result q) l behind enough at
 
     pub else_follows : (b : ElsePart) (s : Scopes) (r : Around) (h : Here) (spot : Spot) (rs : List MonType) → At w spot h → Stage h.slots s → r.result ≡ h.result → r.loops ≡ h.looped → ElseCanDeclare w.numbers (decls_of h.slots) b
-        → ElseFormed most b → ElseTyped s r b → ElseNoted s b → ElseHasNumbers b → count w + count w ≤ length rs → length (rs ++ else_temporaries b) ≤ w.registers → DoSame h s (else_with b w.call (suc n)) (else_part p w.numbers spot rs b)
+        → ElseFormed most b → ElseTyped s r b → ElseNoted s b → ElseHasNumbers b → count w + count w ≤ length rs → length (rs ++ else_temporaries b) ≤ w.registers → DoSame h s (else_with no_tables b w.call (suc n)) (else_part p w.numbers spot rs b)
     else_follows NoElse s r h spot rs stands g result looped c f q m l behind enough = λ regs from t x le. stays w h regs from t x.related x.beside
     else_follows (Else a) s r h spot rs stands g result looped c f q m l behind enough = statement_follows a s r h spot rs stands g result looped c f q m l behind enough
 
     pub items_follow : (is : BlockItems) (s : Scopes) (r : Around) (h : Here) (spot : Spot) (rs : List MonType) → At w spot h → Stage h.slots s → HaveSlots h.slots (declared_in is) → r.result ≡ h.result → r.loops ≡ h.looped
         → ItemsCanDeclare w.numbers (decls_of h.slots) is → ItemsFormed most is → ItemsTyped s r is → ItemsNoted s is → HaveNumbers is → count w + count w ≤ length rs → length (rs ++ items_temporaries is) ≤ w.registers
-        → DoSame h s (items_with is w.call (suc n)) (items p w.numbers spot rs is)
+        → DoSame h s (items_with no_tables is w.call (suc n)) (items p w.numbers spot rs is)
     items_follow NoItem s r h spot rs stands g have result looped c f q m l behind enough = λ regs from t x le. stays w h regs from t x.related x.beside
     items_follow (Then (Declare ds) rest) s r h spot rs stands g have result looped c f q m l behind enough =
         let td = declaration_temporaries ds in
         let tr = items_temporaries rest in
         let all = two rs td tr in
         let x = have_front h.slots ds (declared_in rest) have in
-        declared_does h ds s rs (items_with rest w.call (suc n)) (items p w.numbers spot (rs ++ td) rest) g x f.0 q.0 l.0 behind (omega (arith, enough, all, longer (rs ++ td) tr))
+        declared_does h ds s rs (items_with no_tables rest w.call (suc n)) (items p w.numbers spot (rs ++ td) rest) g x f.0 q.0 l.0 behind (omega (arith, enough, all, longer (rs ++ td) tr))
         (items_follow rest (with_objects s ds) r h spot (rs ++ td) stands (objects_stage h.slots s ds x g) (have_behind h.slots ds (declared_in rest) have) result looped c.1 f.1 q.1 m.1 l.1 (omega (arith, behind, longer rs td))
         (omega (arith, enough, all)))
     items_follow (Then (Run a) rest) s r h spot rs stands g have result looped c f q m l behind enough =
         let ta = statement_temporaries a in
         let tr = items_temporaries rest in
         let all = two rs ta tr in
-        in_order h s (exec_with a w.call (suc n)) (items_with rest w.call (suc n)) (statement p w.numbers spot rs a) (items p w.numbers spot (rs ++ ta) rest)
+        in_order h s (exec_with no_tables a w.call (suc n)) (items_with no_tables rest w.call (suc n)) (statement p w.numbers spot rs a) (items p w.numbers spot (rs ++ ta) rest)
         (statement_follows a s r h spot rs stands g result looped c.0 f.0 q.0 m.0 l.0 behind (omega (arith, enough, all, longer (rs ++ ta) tr)))
         (items_follow rest s r h spot (rs ++ ta) stands g have result looped c.1 f.1 q.1 m.1 l.1 (omega (arith, behind, longer rs ta)) (omega (arith, enough, all)))
     items_follow (Then (Asserts annots) rest) s r h spot rs stands g have result looped c f q m l behind enough =
         let all = two rs [] (items_temporaries rest) in
-        in_order h s (item_with (Asserts annots) w.call (suc n)) (items_with rest w.call (suc n)) (item p w.numbers spot rs (Asserts annots)) (items p w.numbers spot (rs ++ []) rest)
+        in_order h s (item_with no_tables (Asserts annots) w.call (suc n)) (items_with no_tables rest w.call (suc n)) (item p w.numbers spot rs (Asserts annots)) (items p w.numbers spot (rs ++ []) rest)
         (λ regs from t x le. assertions_follow w h s g.sight n annots f.0 m.0 l.0 regs from t x.related x.beside x.ready)
         (items_follow rest s r h spot (rs ++ []) stands g have result looped c.1 f.1 q.1 m.1 l.1 (omega (arith, behind, longer rs [])) (omega (arith, enough, all)))

@@ -17,9 +17,10 @@ use Rattle.c_syntax.specs.Ctypes.{PlainType, Void, Int}
 use Rattle.c_syntax.specs.Expressions.{Expression, Node, Number, Letter, Variable, Unary, Binary, Both, Either, Choice, Assign, Bump, Call, Cast, SizeOfType, SizeOfExpr, Text, Index, Dot, Arrow, Comma, type_of}
 use Rattle.c_syntax.specs.Annotations as logic
 use Rattle.c_syntax.specs.Annotations.{LogicTerm, NoLink, Linked, ClauseBody, Truth, Chain, Annotation}
-use Rattle.c_model.specs.Integers.{fits, size_of, width, is_signed}
+use Rattle.c_model.specs.Integers.{fits, width, is_signed}
+use Rattle.c_model.specs.Layouts.{size_of}
 use Rattle.c_model.specs.Conversions.{promoted, operation_type, is_shift, common, wider}
-use Rattle.c_model.specs.Typing.{Object, Scopes, object_named}
+use Rattle.c_model.specs.Typing.{Object, Scopes, object_named, is_object_type}
 use Rattle.c_model.specs.WellTyped.{Denotes, UnaryTypes, BinaryTypes, WellTyped}
 use Rattle.c_model.specs.WellTypedPrograms.{TermTyped, ClauseTyped}
 use Rattle.c_model.specs.Formed.{IsPure, nodes_of, IsLogicNumber, IsSumTerm, leaves_of_term, IsShortTerm, IsRelation, IsAssert}
@@ -67,16 +68,16 @@ logic_constant (negsuc n) h = let a = h.low in grind (arith, nat_tests, ints)
 letter_number : (z : ℤ) → IsLetter z → IsLogicNumber z
 letter_number z l = record { low = omega (arith, ints, l.low); high = omega (arith, ints, l.high) }
 
-pub size_constant : (t : PlainType) → has_constant U64 (pos (size_of t)) ≡ true
-size_constant (Int c.I8) = refl
-size_constant (Int c.U8) = refl
-size_constant (Int c.I16) = refl
-size_constant (Int c.U16) = refl
-size_constant (Int c.I32) = refl
-size_constant (Int c.U32) = refl
-size_constant (Int c.I64) = refl
-size_constant (Int c.U64) = refl
-size_constant _ = refl
+pub size_constant : (t : PlainType) → is_object_type t ≡ true → has_constant U64 (pos (size_of [] t)) ≡ true
+size_constant (Int c.I8) e = refl
+size_constant (Int c.U8) e = refl
+size_constant (Int c.I16) e = refl
+size_constant (Int c.U16) e = refl
+size_constant (Int c.I32) e = refl
+size_constant (Int c.U32) e = refl
+size_constant (Int c.I64) e = refl
+size_constant (Int c.U64) e = refl
+size_constant _ e = absurd cc
 
 zero_constant : (t : MonType) → has_constant (operand_type t) (pos 0) ≡ true
 zero_constant I8 = refl
@@ -407,8 +408,8 @@ module _ (ts : Types) where
         let from = cast_int to (type_of a) k to_int q.2 in
         subst (HasType ts (in_type (value_type (type_of a)) (value_type to) (value numbers rs a))) (ap value_type to_int)
         (in_typed (value_type (type_of a)) (value_type to) (value numbers rs a) (value_whole (type_of a)) (value_whole to) (subst (HasType ts (value numbers rs a)) (ap value_type (sym from.is)) (typed a from.int rs from.is p q.0 l b)))
-    typed (Node at t (SizeOfType u)) k rs int p q l b = (ap register_type (same_int_type c.U64 k (sym q.0 ∙ int)), size_constant u)
-    typed (Node at t (SizeOfExpr a)) k rs int p q l b = (ap register_type (same_int_type c.U64 k (sym q.1 ∙ int)), size_constant (type_of a))
+    typed (Node at t (SizeOfType u)) k rs int p q l b = (ap register_type (same_int_type c.U64 k (sym q.0 ∙ int)), size_constant u q.1)
+    typed (Node at t (SizeOfExpr a)) k rs int p q l b = (ap register_type (same_int_type c.U64 k (sym q.1 ∙ int)), size_constant (type_of a) q.2)
     typed (Node at t (Text n)) k rs int p q l b = absurd p
     typed (Node at t (Index a c)) k rs int p q l b = absurd p
     typed (Node at t (Dot a m)) k rs int p q l b = absurd p

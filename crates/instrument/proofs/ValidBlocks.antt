@@ -3,10 +3,10 @@ use Rattle.std.proofs.Common.{◌≡◌, ℕ, suc, ◌+◌, ◌≤◌, pos, Bool
 use Rattle.std.proofs.lemmas.List.{length-append, length-map}
 use Rattle.std.proofs.Math.Nat.{max-le}
 use Rattle.c_syntax.specs.Statements.{Declaration, ForFirst, NoFirst, First, Declare, Run, Asserts, BlockItems, NoItem, Then}
-use Rattle.c_model.specs.Integers.{size_of}
+use Rattle.c_model.specs.Layouts.{size_of}
 use Rattle.c_model.specs.Meaning.{declared_in, declared_first}
 use Rattle.c_model.specs.Formed.{number_of, declared_within, declared_in_first, declared_in_items}
-use Rattle.c_model.specs.Typing.{Object, Scopes, object_named, with_object, with_objects, inner}
+use Rattle.c_model.specs.Typing.{is_object_type, Object, Scopes, object_named, with_object, with_objects, inner}
 use Rattle.c_model.specs.Typing.{Signature as Known}
 use Rattle.mon_syntax.specs.declared.tree.MonType.{MonType}
 use Rattle.mon_syntax.specs.declared.tree.MonType.TheVariants.{U64, Ptr}
@@ -166,11 +166,11 @@ deep_alive numbers ds a n h le =
     (deep_before a (deaths (with_born numbers ds [])) n h (omega (arith, y, le)))
 
 module _ (gs : List Signature) (ts : Types) (result : Option MonType) (ls : Labels) (numbers : List ℕ) where
-  births_valid : (ds : List Declaration) → HaveVariables ts numbers ds → AreStatements gs ts result ls (births numbers ds)
-  births_valid [] h = tt
-  births_valid (d ∷ ds) h =
-      let size : IsExpression ts (tree.Constant U64 (pos (size_of d.ctype))) U64 = record { typed = (refl, size_constant d.ctype); within = omega arith } in
-      (((size, tt), h.0.pointer), births_valid ds h.1)
+  births_valid : (ds : List Declaration) → AreObjects ds → HaveVariables ts numbers ds → AreStatements gs ts result ls (births numbers ds)
+  births_valid [] o h = tt
+  births_valid (d ∷ ds) o h =
+      let size : IsExpression ts (tree.Constant U64 (pos (size_of [] d.ctype))) U64 = record { typed = (refl, size_constant d.ctype (ap is_object_type o.0)); within = omega arith } in
+      (((size, tt), h.0.pointer), births_valid ds o.1 h.1)
 
   pub deaths_valid : (live : List ℕ) → AllPoint ts live → AreStatements gs ts result ls (deaths live)
   deaths_valid [] h = tt
@@ -178,7 +178,7 @@ module _ (gs : List Signature) (ts : Types) (result : Option MonType) (ls : Labe
       let pointer : IsExpression ts (tree.Register r) Ptr = record { typed = h.0; within = omega arith } in
       (((pointer, tt), tt), deaths_valid live h.1)
 
-  pub alive_valid : (ds : List Declaration) (a : MonStatements) → HaveVariables ts numbers ds → AreStatements gs ts result ls a → AreStatements gs ts result ls (alive numbers ds a)
-  alive_valid ds a h k =
-      before_valid gs ts result ls (births numbers ds) (before a (deaths (with_born numbers ds []))) (births_valid ds h)
+  pub alive_valid : (ds : List Declaration) (a : MonStatements) → AreObjects ds → HaveVariables ts numbers ds → AreStatements gs ts result ls a → AreStatements gs ts result ls (alive numbers ds a)
+  alive_valid ds a o h k =
+      before_valid gs ts result ls (births numbers ds) (before a (deaths (with_born numbers ds []))) (births_valid ds o h)
       (before_valid gs ts result ls a (deaths (with_born numbers ds [])) k (deaths_valid (with_born numbers ds []) (point_born ts numbers ds [] h tt)))

@@ -18,7 +18,7 @@ use Rattle.instrument.specs.Translation.{Spot, variables_of, variable_numbers, v
 use Rattle.track_scopes.specs.Blocks.{with_born}
 use Rattle.instrument.proofs.Names.{IsNumber, main_is_free, function_is_free, functions_differ}
 use Rattle.instrument.proofs.Functions.{InOrder}
-use Rattle.instrument.proofs.Numbers.{bounded, placed, AreObjects, parameter_objects}
+use Rattle.instrument.proofs.Numbers.{bounded, placed, AreObjects, items_objects, parameter_objects}
 use Rattle.instrument.proofs.Programs.{Part, Parts, parts_of, is_picked, index_by, has_bytes, main_index_is}
 use Rattle.instrument.proofs.Bodies.{HasBody, has_body, numbers_long}
 use Rattle.instrument.proofs.Callees.{main}
@@ -97,14 +97,15 @@ module _ (p : TranslationUnit) (q : IsProgram p) (numbers : FunctionsHaveNumbers
         let own = own_variables ts ns body.items declared in
         let inside = with_variables ns (declared_in body.items) spot in
         let shallow = block_formed.1 in
-        alive_valid gs ts (result_of f.result) [] ns (declared_in body.items) (items p ns inside (variable_types f) body.items) own
+        alive_valid gs ts (result_of f.result) [] ns (declared_in body.items) (items p ns inside (variable_types f) body.items) (items_objects scopes (around_body f.result) body.items body.typed) own
         (items_valid p gs ts f.result ns p.names known (λ s names seen. calls_valid p q numbers ts part.before part.after f part.is s names seen) body.items scopes sees (around_body f.result) inside
         (record { inside = point_born ts ns (declared_in body.items) (with_born ns f.params []) own (point_born ts ns f.params [] parameters tt); outside = tt })
         (variable_types f) refl (λ e. absurd cc) declared body.formed body.typed body.noted body.letters (omega (arith, shallow))
         (subst (λ l. Begins (variable_types f ++ l) ts) (ap body_temporaries body.is) (record { rest = []; is = sym (append-nil ts) })))
 
     all_valid : AreStatements gs ts (result_of f.result) [] (alive ns f.params (body_part p ns f.params (variable_types f) f.body))
-    all_valid = alive_valid gs ts (result_of f.result) [] ns f.params (body_part p ns f.params (variable_types f) f.body) parameters (subst Are (sym body.is) block_valid)
+    all_valid =
+        alive_valid gs ts (result_of f.result) [] ns f.params (body_part p ns f.params (variable_types f) f.body) (parameter_objects (function_scopes p part.before f) f.params part.typed.params) parameters (subst Are (sym body.is) block_valid)
 
     deep_body : depth_of_all (body_part p ns f.params (variable_types f) f.body) ≤ 1605
     deep_body =

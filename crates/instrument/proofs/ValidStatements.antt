@@ -30,7 +30,7 @@ use Rattle.instrument.proofs.Names.{IsNumber, end_is_free, next_is_free, ends_di
 use Rattle.instrument.proofs.ExpressionTypes.{scalar_int, integer_int}
 use Rattle.instrument.proofs.Statements.{effect_or_call}
 use Rattle.instrument.proofs.Births.{int_of}
-use Rattle.instrument.proofs.Numbers.{IsObject, declared_objects}
+use Rattle.instrument.proofs.Numbers.{IsObject, declared_objects, items_objects, first_objects}
 use Rattle.instrument.proofs.Typed.{Begins, begins_left, begins_right, begins_front, condition_valid, assertion_valid}
 use Rattle.instrument.proofs.ValidSetups.{before_valid, setup_valid}
 use Rattle.instrument.proofs.ValidEffects.{CallsValid, effect_valid, full_valid, initialise_valid}
@@ -210,7 +210,7 @@ module _ (p : TranslationUnit) (gs : List Signature) (ts : Types) (result : Plai
     statement_valid (Block at body) s v r spot k rs same o h f q m l d b =
         let own = own_variables ts numbers body h in
         let inside = with_variables numbers (declared_in body) spot in
-        alive_valid gs ts (result_of result) (labels spot.loops) numbers (declared_in body) (items p numbers inside rs body) own
+        alive_valid gs ts (result_of result) (labels spot.loops) numbers (declared_in body) (items p numbers inside rs body) (items_objects (inner s) r body q) own
         (items_valid body (inner s) (sees_inner ts numbers names functions s v) r inside (points_with spot (declared_in body) own k) rs same o h f q m l (omega (arith, d)) b)
     statement_valid (If at e x y) s v r spot k rs same o h f q m l d b =
         let i = scalar_int (type_of e) q.0.scalar in
@@ -267,7 +267,7 @@ module _ (p : TranslationUnit) (gs : List Signature) (ts : Types) (result : Plai
         let tested = test_if_any numbers (rs ++ tf) loops e in
         let body = statement p numbers (target.in_loop inside) (rs ++ tf ++ te) a in
         let behind = effect_if_any p numbers (rs ++ tf ++ te ++ ta) step in
-        alive_valid gs ts (result_of result) (labels spot.loops) numbers (declared_first first) (before front (one (loop loops tested body behind))) own
+        alive_valid gs ts (result_of result) (labels spot.loops) numbers (declared_first first) (before front (one (loop loops tested body behind))) (first_objects numbers first t r q.0) own
         (before_valid gs ts (result_of result) (labels spot.loops) front (one (loop loops tested body behind))
         (first_valid first t w r inside (labels spot.loops) rs own f.1 q.0 l.0 one_of)
         (loop_valid spot.loops tested body behind (omega (arith, d)) (no_step_test_if_any numbers (rs ++ tf) loops e) (no_step_effect_if_any p numbers (rs ++ tf ++ te ++ ta) step)

@@ -7,11 +7,12 @@ use Rattle.c_syntax.specs.declared.place.Place.{Place}
 use Rattle.c_syntax.specs.declared.types.CInt.{CInt}
 use Rattle.c_syntax.specs.declared.types.CInt.TheVariants.{I8, U8, I16, U16, I32, U32, I64, U64}
 use Rattle.c_syntax.specs.declared.types.BlockKind.TheVariants.{Stack}
-use Rattle.c_syntax.specs.Ctypes.{Int}
 use Rattle.c_model.specs.Integers.{int_size, bits_of, fits}
-use Rattle.c_model.specs.Memory.{Integer, Into, Block, Store, new_block, bytes_of, value_from, load, load_block, saved_block, with_block}
+use Rattle.c_model.specs.Layouts.{IntegerType}
+use Rattle.c_model.specs.Memory.{Value, Integer, Into, Block, Store, new_block, bytes_of, value_from, bytes_in, load, saved_block, with_block}
+use Rattle.c_model.specs.Memory as memory
 use Rattle.c_model.specs.State.{State, Scope, Normal, on_outcome, defined, object, read, write, put_store, start_of, find}
-use Rattle.c_model.specs.Meaning.{Callee}
+use Rattle.c_model.specs.Meaning.{Callee, Tables}
 use Rattle.c_model.proofs.Cells.{value_from-bytes_from, length-bytes_of}
 use Rattle.c_model.proofs.Blocks.{slice_get-slice_set_same, slice_get-slice_set_other}
 use Rattle.mon_syntax.specs.Meaning as monitored
@@ -19,6 +20,10 @@ use Rattle.mon_syntax.specs.Memories.{BlockValue, Whole, Points, Blocks, LiveBlo
 use Rattle.mon_syntax.specs.LiveBlocks.{live_in}
 use Rattle.track_scopes.specs.Blocks.{register_of}
 use Rattle.track_scopes.proofs.Lives.{live-set}
+
+-- what doesn't change in a run of a program without globals, structs and string literals
+abbrev pub no_tables : Tables
+no_tables = record { structs = []; texts = []; globals = 0 }
 
 -- the block of a variable on the stack, with its value where it has one
 abbrev pub cell_of : CInt → Option ℤ → Block
@@ -115,7 +120,7 @@ pub record Beside (w : Setting) (slots : List Slot) (s : State) (t : monitored.S
 -- a variable has a value
 pub record IsSet (store : Store) (v : Slot) : Type 0 where
   pub value : ℤ
-  pub loads : load store (Into (suc v.block) 0) (Int v.int) ≡ Some (Integer value)
+  pub loads : load store (Into (suc v.block) 0) (IntegerType v.int) ≡ Some (Integer value)
 
 -- what had a value has one
 abbrev pub AllKept : List Slot → Store → Store → Type 0
@@ -224,7 +229,11 @@ stacked_more base m n (v ∷ slots) le h = (omega (arith, le, h.0), h.1)
 
 -- ---- accesses
 
-all_taken : (k : CInt) (z : ℤ) → load_block (Some (cell_of k (Some z))) 0 (Int k) ≡ value_from (Int k) (take (int_size k) (bytes_of (int_size k) (bits_of k z)))
+-- the value of the type in a block
+abbrev in_block : Option Block → CInt → Option Value
+in_block b k = memory.◌>>=◌ (bytes_in b 0 (int_size k)) (value_from (IntegerType k))
+
+all_taken : (k : CInt) (z : ℤ) → bytes_in (Some (cell_of k (Some z))) 0 (int_size k) ≡ Some (take (int_size k) (bytes_of (int_size k) (bits_of k z)))
 all_taken I8 z = refl
 all_taken U8 z = refl
 all_taken I16 z = refl
@@ -234,13 +243,12 @@ all_taken U32 z = refl
 all_taken I64 z = refl
 all_taken U64 z = refl
 
-load_some : (k : CInt) (z : ℤ) → fits k z ≡ true → load_block (Some (cell_of k (Some z))) 0 (Int k) ≡ Some (Integer z)
+load_some : (k : CInt) (z : ℤ) → fits k z ≡ true → in_block (Some (cell_of k (Some z))) k ≡ Some (Integer z)
 load_some k z f =
-    all_taken k z
-    ∙ ap (value_from (Int k)) (take_all (int_size k) (bytes_of (int_size k) (bits_of k z)) (omega (arith, length-bytes_of (int_size k) (bits_of k z))))
+    ap (λ o. memory.◌>>=◌ o (value_from (IntegerType k))) (all_taken k z ∙ ap Some (take_all (int_size k) (bytes_of (int_size k) (bits_of k z)) (omega (arith, length-bytes_of (int_size k) (bits_of k z)))))
     ∙ value_from-bytes_from k z f
 
-load_none : (k : CInt) → load_block (Some (cell_of k None)) 0 (Int k) ≡ None
+load_none : (k : CInt) → in_block (Some (cell_of k None)) k ≡ None
 load_none I8 = refl
 load_none U8 = refl
 load_none I16 = refl
@@ -250,7 +258,7 @@ load_none U32 = refl
 load_none I64 = refl
 load_none U64 = refl
 
-saved_cell : (k : CInt) (x : Option ℤ) (z : ℤ) → saved_block (Some (cell_of k x)) 0 (Int k) (Integer z) ≡ Some (cell_of k (Some z))
+saved_cell : (k : CInt) (x : Option ℤ) (z : ℤ) → saved_block (Some (cell_of k x)) 0 (int_size k) (bytes_of (int_size k) (bits_of k z)) ≡ Some (cell_of k (Some z))
 saved_cell I8 None z = refl
 saved_cell I8 (Some y) z = refl
 saved_cell U8 None z = refl
@@ -268,18 +276,18 @@ saved_cell I64 (Some y) z = refl
 saved_cell U64 None z = refl
 saved_cell U64 (Some y) z = refl
 
-pub load_cell : (store : Store) (v : Slot) (z : ℤ) → fits v.int z ≡ true → slice_get store v.block ≡ Some (cell_of v.int (Some z)) → load store (Into (suc v.block) 0) (Int v.int) ≡ Some (Integer z)
-load_cell store v z f e = ap (λ b. load_block b 0 (Int v.int)) e ∙ load_some v.int z f
+pub load_cell : (store : Store) (v : Slot) (z : ℤ) → fits v.int z ≡ true → slice_get store v.block ≡ Some (cell_of v.int (Some z)) → load store (Into (suc v.block) 0) (IntegerType v.int) ≡ Some (Integer z)
+load_cell store v z f e = ap (λ b. in_block b v.int) e ∙ load_some v.int z f
 
 -- a variable has what its block had
 pub set_same : (old new : Store) (v : Slot) → slice_get new v.block ≡ slice_get old v.block → IsSet old v → IsSet new v
-set_same old new v e h = record { value = h.value; loads = ap (λ b. load_block b 0 (Int v.int)) e ∙ h.loads }
+set_same old new v e h = record { value = h.value; loads = ap (λ b. in_block b v.int) e ∙ h.loads }
 
 -- the value of a variable that has one
 pub record Known (w : Setting) (store : Store) (regs : List BlockValue) (v : Slot) : Type 0 where
   pub value : ℤ
   pub fits : fits v.int value ≡ true
-  pub loads : load store (Into (suc v.block) 0) (Int v.int) ≡ Some (Integer value)
+  pub loads : load store (Into (suc v.block) 0) (IntegerType v.int) ≡ Some (Integer value)
   pub register : slice_get regs (value_at w v.decl) ≡ Some (Whole value)
 
 pub known : (w : Setting) (store : Store) (regs : List BlockValue) (v : Slot) → Matches w store regs v → IsSet store v → Known w store regs v
@@ -287,7 +295,7 @@ known w store regs v m h = by m.content m.cell m.held
   where
     by : (o : Option ℤ) → slice_get store v.block ≡ Some (cell_of v.int o) → Held v.int o (slice_get regs (value_at w v.decl)) → Known w store regs v
     by None e g =
-        let nothing : load store (Into (suc v.block) 0) (Int v.int) ≡ None = ap (λ b. load_block b 0 (Int v.int)) e ∙ load_none v.int in
+        let nothing : load store (Into (suc v.block) 0) (IntegerType v.int) ≡ None = ap (λ b. in_block b v.int) e ∙ load_none v.int in
         let something = h.loads in
         absurd cc
     by (Some z) e g = record { value = z; fits = g.0; loads = load_cell store v z g.0 e; register = g.1 }
@@ -300,16 +308,19 @@ module _ (w : Setting) (slots : List Slot) (regs : List BlockValue) (s : State) 
   pub here : Matches w s.store regs v
   here = match_at w s.store regs x slots v h.all found
 
-  pub object_is : (at : Place) → object at x s ≡ Normal (Into (suc v.block) 0) s
-  object_is at = ap (λ o. defined at (start_of o) s) (ap (find x) h.scope ∙ find-slot x slots v found)
+  pub found_is : find x s.scope ≡ Some (suc v.block)
+  found_is = ap (find x) h.scope ∙ find-slot x slots v found
 
-  pub read_is : (at : Place) (z : ℤ) → load s.store (Into (suc v.block) 0) (Int v.int) ≡ Some (Integer z) → read at (Into (suc v.block) 0) (Int v.int) s ≡ Normal (Integer z) s
+  pub object_is : (at : Place) → object at x s ≡ Normal (Into (suc v.block) 0) s
+  object_is at = ap (λ o. defined at (start_of o) s) found_is
+
+  pub read_is : (at : Place) (z : ℤ) → load s.store (Into (suc v.block) 0) (IntegerType v.int) ≡ Some (Integer z) → read at (Into (suc v.block) 0) (IntegerType v.int) s ≡ Normal (Integer z) s
   read_is at z e = ap (λ o. defined at o s) e
 
-  pub write_is : (at : Place) (z : ℤ) → write at (Into (suc v.block) 0) (Int v.int) (Integer z) s ≡ Normal tt (record s { store = store_with s.store v z })
+  pub write_is : (at : Place) (z : ℤ) → write at (Into (suc v.block) 0) (IntegerType v.int) (Integer z) s ≡ Normal tt (record s { store = store_with s.store v z })
   write_is at z =
       ap (λ o. on_outcome (defined at o s) put_store)
-      (ap (λ b. with_block s.store v.block (saved_block b 0 (Int v.int) (Integer z))) here.cell ∙ ap (with_block s.store v.block) (saved_cell v.int here.content z))
+      (ap (λ b. with_block s.store v.block (saved_block b 0 (int_size v.int) (bytes_of (int_size v.int) (bits_of v.int z)))) here.cell ∙ ap (with_block s.store v.block) (saved_cell v.int here.content z))
 
 -- ---- a variable gets a value
 

@@ -5,7 +5,7 @@ use Rattle.c_syntax.specs.declared.types.BlockKind.TheVariants.{Stack}
 use Rattle.c_syntax.specs.declared.types.Segment.{Segment}
 use Rattle.c_syntax.specs.Statements.{Declaration}
 use Rattle.c_model.specs.Formed.{number_of}
-use Rattle.c_model.specs.Integers.{size_of}
+use Rattle.c_model.specs.Layouts.{size_of}
 use Rattle.c_model.specs.Memory.{Store, Into, new_block, full_at_stack_birth, standard_sizes}
 use Rattle.c_model.specs.State.{State, on_outcome, birth_of, births, find, start_of}
 use Rattle.c_model.proofs.Blocks.{slice_get-slice_set_other}
@@ -34,13 +34,13 @@ same_born a b size same = record {
 -- what a birth does, where this is full
 abbrev pub birth_does : List ℕ → Declaration → List BlockValue → MonitoredState → Option Segment → Did
 birth_does numbers d regs t o =
-    then_do (replied over_blocks (stack_block o (size_of d.ctype) t.mem) t) (λ v u. Done (Next (slice_set regs (block_of numbers (number_of d)) v)) u [])
+    then_do (replied over_blocks (stack_block o (size_of [] d.ctype) t.mem) t) (λ v u. Done (Next (slice_set regs (block_of numbers (number_of d)) v)) u [])
 
 -- a block is born in monitored C where it is in the program
 pub birth_is : (numbers : List ℕ) (calls : monitored.Calls over_blocks) (n : ℕ) (d : Declaration) (regs : List BlockValue) (store : Store) (t : MonitoredState) → SameBlocks store t.mem.store
-    → exec over_blocks (target.birth numbers d) calls n regs t ≡ birth_does numbers d regs t (full_at_stack_birth standard_sizes store (size_of d.ctype))
+    → exec over_blocks (target.birth numbers d) calls n regs t ≡ birth_does numbers d regs t (full_at_stack_birth standard_sizes store (size_of [] d.ctype))
 birth_is numbers calls n d regs store t same =
-    ap (birth_does numbers d regs t) (full-alike t.mem.store store (size_of d.ctype) (sym same.born) (sym same.live))
+    ap (birth_does numbers d regs t) (full-alike t.mem.store store (size_of [] d.ctype) (sym same.born) (sym same.live))
 
 has_more : (numbers : List ℕ) (regs after : List BlockValue) (x : ℕ) → length after ≡ length regs → HasBlock numbers regs x → HasBlock numbers after x
 has_more numbers regs after x long h = record { listed = h.listed; there = subst (λ n. block_of numbers x < n) (sym long) h.there }
@@ -69,15 +69,15 @@ module _ (numbers : List ℕ) (calls : monitored.Calls over_blocks) (n : ℕ) (d
 
   module _ (regs : List BlockValue) (s : State) (t : MonitoredState) (same : SameBlocks s.store t.mem.store) (there : HasBlock numbers regs x) where
     abbrev pub born_state : State
-    born_state = record s { store = s.store ++ new_block Stack (size_of d.ctype) ∷ []; scope = (x, length s.store + 1) ∷ s.scope }
+    born_state = record s { store = s.store ++ new_block Stack (size_of [] d.ctype) ∷ []; scope = (x, length s.store + 1) ∷ s.scope }
 
     abbrev pub born_registers : List BlockValue
     born_registers = slice_set regs (block_of numbers x) (Points (Into (length t.mem.store + 1) 0))
 
     abbrev pub born_target : MonitoredState
-    born_target = with_store (t.mem.store ++ new_block Stack (size_of d.ctype) ∷ []) t
+    born_target = with_store (t.mem.store ++ new_block Stack (size_of [] d.ctype) ∷ []) t
 
-    starts : exec over_blocks (target.birth numbers d) calls n regs t ≡ birth_does numbers d regs t (full_at_stack_birth standard_sizes s.store (size_of d.ctype))
+    starts : exec over_blocks (target.birth numbers d) calls n regs t ≡ birth_does numbers d regs t (full_at_stack_birth standard_sizes s.store (size_of [] d.ctype))
     starts = birth_is numbers calls n d regs s.store t same
 
     long : length born_registers ≡ length regs
@@ -103,12 +103,12 @@ module _ (numbers : List ℕ) (calls : monitored.Calls over_blocks) (n : ℕ) (d
     others_after : (r : ℕ) → r ≢ block_of numbers x → slice_get born_registers r ≡ slice_get regs r
     others_after r apart = slice_get-slice_set_other regs (block_of numbers x) r _ apart
 
-    then_born : (ds : List Declaration) → full_at_stack_birth standard_sizes s.store (size_of d.ctype) ≡ None
+    then_born : (ds : List Declaration) → full_at_stack_birth standard_sizes s.store (size_of [] d.ctype) ≡ None
         → Births numbers ds born_registers born_state born_target (exec_all over_blocks (target.births numbers ds) calls n born_registers born_target)
         → Births numbers (d ∷ ds) regs s t (exec_all over_blocks (target.births numbers (d ∷ ds)) calls n regs t)
     then_born ds none (AllAre to after u e f b) =
         AllAre to after u
-        (ap (λ o. on_outcome (birth_of o d s) (λ _. births ds)) none ∙ e)
+        (ap (λ o. on_outcome (birth_of o x (size_of [] d.ctype) s) (λ _. births [] ds)) none ∙ e)
         (ap (λ q. then_do q (at_next (exec_all over_blocks (target.births numbers ds) calls n))) (starts ∙ ap (birth_does numbers d regs t) none) ∙ ap (writes []) f)
         (record {
           same = b.same;
@@ -119,13 +119,13 @@ module _ (numbers : List ℕ) (calls : monitored.Calls over_blocks) (n : ℕ) (d
         })
     then_born ds none (OneIsFull g to e f) =
         OneIsFull g to
-        (ap (λ o. on_outcome (birth_of o d s) (λ _. births ds)) none ∙ e)
+        (ap (λ o. on_outcome (birth_of o x (size_of [] d.ctype) s) (λ _. births [] ds)) none ∙ e)
         (ap (λ q. then_do q (at_next (exec_all over_blocks (target.births numbers ds) calls n))) (starts ∙ ap (birth_does numbers d regs t) none) ∙ ap (writes []) f)
 
-    is_full : (ds : List Declaration) (g : Segment) → full_at_stack_birth standard_sizes s.store (size_of d.ctype) ≡ Some g → Births numbers (d ∷ ds) regs s t (exec_all over_blocks (target.births numbers (d ∷ ds)) calls n regs t)
+    is_full : (ds : List Declaration) (g : Segment) → full_at_stack_birth standard_sizes s.store (size_of [] d.ctype) ≡ Some g → Births numbers (d ∷ ds) regs s t (exec_all over_blocks (target.births numbers (d ∷ ds)) calls n regs t)
     is_full ds g some =
         OneIsFull g s
-        (ap (λ o. on_outcome (birth_of o d s) (λ _. births ds)) some)
+        (ap (λ o. on_outcome (birth_of o x (size_of [] d.ctype) s) (λ _. births [] ds)) some)
         (ap (λ q. then_do q (at_next (exec_all over_blocks (target.births numbers ds) calls n))) (starts ∙ ap (birth_does numbers d regs t) some))
 
 -- ---- births in order
@@ -136,15 +136,15 @@ module _ (numbers : List ℕ) (calls : monitored.Calls over_blocks) (n : ℕ) wh
   all_born (d ∷ ds) regs s t same h =
       let after = born_registers numbers calls n d regs s t same h.0 in
       by (λ o. all_born ds after (born_state numbers calls n d regs s t same h.0) (born_target numbers calls n d regs s t same h.0)
-      (same_born s.store t.mem.store (size_of d.ctype) same) (have_more numbers regs after ds (long numbers calls n d regs s t same h.0) h.1))
-      (full_at_stack_birth standard_sizes s.store (size_of d.ctype)) refl
+      (same_born s.store t.mem.store (size_of [] d.ctype) same) (have_more numbers regs after ds (long numbers calls n d regs s t same h.0) h.1))
+      (full_at_stack_birth standard_sizes s.store (size_of [] d.ctype)) refl
     where
       Others : Type 0
       Others =
           Births numbers ds (born_registers numbers calls n d regs s t same h.0) (born_state numbers calls n d regs s t same h.0) (born_target numbers calls n d regs s t same h.0)
           (exec_all over_blocks (target.births numbers ds) calls n (born_registers numbers calls n d regs s t same h.0) (born_target numbers calls n d regs s t same h.0))
 
-      by : (Unit {0} → Others) → (o : Option Segment) → full_at_stack_birth standard_sizes s.store (size_of d.ctype) ≡ o → Births numbers (d ∷ ds) regs s t (exec_all over_blocks (target.births numbers (d ∷ ds)) calls n regs t)
+      by : (Unit {0} → Others) → (o : Option Segment) → full_at_stack_birth standard_sizes s.store (size_of [] d.ctype) ≡ o → Births numbers (d ∷ ds) regs s t (exec_all over_blocks (target.births numbers (d ∷ ds)) calls n regs t)
       by others None none = then_born numbers calls n d regs s t same h.0 ds none (others tt)
       by others (Some g) some = is_full numbers calls n d regs s t same h.0 ds g some
 

@@ -1,10 +1,12 @@
 -- The blocks that live on the stack: what ends of scopes do to their list, and that births and deaths go by it.
-use Rattle.std.proofs.Common.{◌≡◌, ℕ, zero, suc, ◌+◌, ◌<◌, ◌≤◌, Bool, true, false, if◌then◌else◌, nat_le, nat_lt, List, [], ◌∷◌, ◌++◌, length, length-set, pred, Option, Some, None, slice_get, slice_set, refl, sym, ap, ◌∙◌, subst, arith}
+use Rattle.std.proofs.Common.{◌≡◌, ℕ, zero, suc, ◌+◌, ◌<◌, ◌≤◌, Bool, true, false, not, ◌&&◌, if◌then◌else◌, nat_le, nat_lt, List, [], ◌∷◌, ◌++◌, length, length-set, pred, Option, Some, None, slice_get, slice_set, refl, sym, ap, ◌∙◌, subst, arith}
 use Rattle.std.proofs.lemmas.Bool.{eq-eqb, le-leb}
 use Rattle.std.proofs.lemmas.Bool.Decides.{nat_tests}
+use Rattle.c_syntax.specs.declared.types.BlockKind.{BlockKind}
+use Rattle.c_syntax.specs.declared.types.BlockKind.TheVariants.{Global, Literal, Stack, Heap}
 use Rattle.c_syntax.specs.declared.types.Segment.{Segment}
 use Rattle.c_syntax.specs.declared.types.Segment.TheVariants as segment
-use Rattle.c_model.specs.Memory.{Block, Store, kill_from, rounded, stack_taken, full_at_stack_birth, standard_sizes, greatest_number}
+use Rattle.c_model.specs.Memory.{Block, Store, is_stack, kill_from, rounded, stack_taken, full_at_stack_birth, standard_sizes, greatest_number}
 use Rattle.mon_syntax.specs.Memories.{is_live_on_stack, youngest_from, youngest, is_index, dead_at, LiveBlock, taken_by}
 use Rattle.mon_syntax.specs.LiveBlocks.{noted, live_from, live_in}
 use Rattle.mon_syntax.proofs.FlatBlocks.{taken-live, dies}
@@ -62,12 +64,19 @@ live-numbered store = subst (λ n. AllUpTo n (live_in store)) (omega arith) (num
 
 -- ---- the end of all blocks from a number on
 
-not_live : (b : Block) → is_live_on_stack (record b { live = false }) ≡ false
-not_live b = refl
+-- a block that is killed where it stands on the stack lives there no more
+not_live : (live : Bool) (kind : BlockKind) → ((live && not (is_stack kind)) && is_stack kind) ≡ false
+not_live true Global = refl
+not_live true Literal = refl
+not_live true Stack = refl
+not_live true Heap = refl
+not_live false kind = refl
 
 none_lives : (k : ℕ) (bs : Store) (found : List LiveBlock) → live_from k (kill_from 0 bs) found ≡ found
 none_lives k [] found = refl
-none_lives k (b ∷ bs) found = none_lives (suc k) bs found
+none_lives k (b ∷ bs) found =
+    ap (λ t. live_from (suc k) (kill_from 0 bs) (if t then record { number = suc k; size = b.size } ∷ found else found)) (not_live b.live b.kind)
+    ∙ none_lives (suc k) bs found
 
 later_above : (n k : ℕ) (bs : Store) (found : List LiveBlock) → n ≤ k → up_to n (live_from k bs found) ≡ up_to n found
 later_above n k [] found le = refl
@@ -79,7 +88,7 @@ later_above n k (b ∷ bs) found le = by (λ more. later_above n (suc k) bs more
 
 killed_from : (k n : ℕ) (bs : Store) (found : List LiveBlock) → live_from k (kill_from n bs) (up_to (k + n) found) ≡ up_to (k + n) (live_from k bs found)
 killed_from k n [] found = refl
-killed_from k zero (b ∷ bs) found = none_lives (suc k) bs (up_to (k + 0) found) ∙ sym (later_above (k + 0) k (b ∷ bs) found (omega arith))
+killed_from k zero (b ∷ bs) found = none_lives k (b ∷ bs) (up_to (k + 0) found) ∙ sym (later_above (k + 0) k (b ∷ bs) found (omega arith))
 killed_from k (suc n) (b ∷ bs) found =
     let number : k + suc n ≡ suc k + n = omega arith in
     by (λ more. subst (λ m. live_from (suc k) (kill_from n bs) (up_to m more) ≡ up_to m (live_from (suc k) bs more)) (sym number) (killed_from (suc k) n bs more)) (is_live_on_stack b)

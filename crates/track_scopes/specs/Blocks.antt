@@ -3,7 +3,7 @@
 -- of memory, which is born and dies where the variable's does.
 use Rattle.std.specs.Prelude.{ℕ, suc, ◌+◌, pos, List, [], ◌∷◌, length, cond, nat_eq, Some, None}
 use Rattle.c_syntax.specs.Statements.{Declaration}
-use Rattle.c_model.specs.Integers.{size_of}
+use Rattle.c_model.specs.Layouts.{size_of}
 use Rattle.c_model.specs.Formed.{number_of}
 use Rattle.mon_syntax.specs.declared.tree.MonType.TheVariants.{U64}
 use Rattle.mon_syntax.specs.declared.tree.MemoryCall.TheVariants.{StoreBlock, DeleteBlock}
@@ -18,9 +18,9 @@ register_of (n ∷ ns) x = cond (nat_eq n x) 0 (suc (register_of ns x))
 abbrev pub block_of : List ℕ → ℕ → ℕ
 block_of numbers x = length numbers + register_of numbers x
 
--- `p = __e_acsl_store_block(size);`
+-- `p = __e_acsl_store_block(size);`, where there are no structs
 abbrev pub birth : List ℕ → Declaration → MonStatement
-birth numbers d = Act (Some (block_of numbers (number_of d))) StoreBlock (Constant U64 (pos (size_of d.ctype)) ∷ [])
+birth numbers d = Act (Some (block_of numbers (number_of d))) StoreBlock (Constant U64 (pos (size_of [] d.ctype)) ∷ [])
 
 abbrev pub births : List ℕ → List Declaration → MonStatements
 births numbers [] = NoStatement

@@ -64,9 +64,9 @@ pub record AreBorn (numbers : List ℕ) (ds : List Declaration) (regs after : Li
 
 -- all are born on both sides, or the same is full
 pub data Births (numbers : List ℕ) (ds : List Declaration) (regs : List BlockValue) (s : State) (t : MonitoredState) (q : Did) : Type 0 where
-  AllAre : (to : State) (after : List BlockValue) (u : MonitoredState) → births ds s ≡ Normal tt to → q ≡ Done (Next after) u []
+  AllAre : (to : State) (after : List BlockValue) (u : MonitoredState) → births [] ds s ≡ Normal tt to → q ≡ Done (Next after) u []
       → AreBorn numbers ds regs after s to t u → Births numbers ds regs s t q
-  OneIsFull : (g : Segment) (to : State) → births ds s ≡ Stop (Over (Full g)) to → q ≡ Stops (Full g) t.steps [] → Births numbers ds regs s t q
+  OneIsFull : (g : Segment) (to : State) → births [] ds s ≡ Stop (Over (Full g)) to → q ≡ Stops (Full g) t.steps [] → Births numbers ds regs s t q
 
 -- Statements enter the scope of these variables: where the same blocks live on both sides, so they do after the variables' births.
 abbrev pub Enters : List ℕ → List Declaration → MonStatements → Type 0

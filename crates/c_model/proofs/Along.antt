@@ -1,0 +1,533 @@
+-- What holds between a state and each one that is reached from it: one induction for all such relations.
+use Rattle.std.proofs.Common.{◌≡◌, ℕ, zero, suc, ◌+◌, ◌≤◌, pos, Bool, true, false, cond, ◌&&◌, if◌then◌else◌, nat_lt, List, [], ◌∷◌, ◌++◌, length, Option, Some, None, option_map, slice_get, codes, bytes_eq, refl, sym, ap, ◌∙◌, append_assoc}
+use Rattle.std.proofs.Common.{append-nil}
+use Rattle.std.proofs.Common.{arith}
+use Rattle.c_syntax.specs.declared.place.Place.{Place}
+use Rattle.c_syntax.specs.declared.types.Segment.{Segment}
+use Rattle.c_syntax.specs.declared.types.Segment.TheVariants.{Frames}
+use Rattle.c_syntax.specs.declared.types.BlockKind.TheVariants as block
+use Rattle.c_syntax.specs.declared.expression.Use.{Use}
+use Rattle.c_syntax.specs.declared.expression.UnOp.TheVariants as unary
+use Rattle.c_syntax.specs.declared.annotation.Relation.{Relation}
+use Rattle.c_syntax.specs.Ctypes.{PlainType, int_type}
+use Rattle.c_syntax.specs.Annotations.{Annotation, ClauseBody, Truth, Chain, Links, NoLink, Linked}
+use Rattle.c_syntax.specs.Expressions.{Expression, Node, Number, Letter, Text, Variable, Unary, Binary, Both, Either, Choice, Assign, Bump, Call, Cast, SizeOfType, SizeOfExpr, Index, Dot, Arrow, Comma, Expressions, NoExpression, Following, place_of}
+use Rattle.c_syntax.specs.Expressions.{type_of}
+use Rattle.c_syntax.specs.Statements.{Initialiser, One, Many, Initialisers, NoInitialiser, Listed, Declaration, Statement, Empty, Eval, Block, If, While, Do, For, Break, Continue, Return, ElsePart, NoElse, Else, ForFirst, NoFirst, First, BlockItem}
+use Rattle.c_syntax.specs.Statements.{Declare, Run, Asserts, BlockItems, NoItem, Then}
+use Rattle.c_syntax.specs.Programs.{StructType, Function, TranslationUnit}
+use Rattle.c_model.specs.Integers.{truth, byte_of}
+use Rattle.c_model.specs.Layouts.{Scalar, scalar_size, scalar_of, size_of}
+use Rattle.c_model.specs.Memory.{Pointer, Null, Into, Value, Integer, Points, NoValue, Byte, new_block, Store, load, bytes_from, save_bytes, copy_all, moved, shifted, standard_sizes, full_at_stack_birth}
+use Rattle.c_model.specs.State.{Scope, Mark, Input, InputTail, EndOfInput, InputFault, ReadFault, Exits, print, read_byte, State, Breaks, Continues, Returns, End, Leaves, Over, Undefined, Fault, Spent, Full, Outcome, Normal, Stop, Evaluation}
+use Rattle.c_model.specs.State.{on_outcome, ◌>>=◌, ◌>>◌, give, done, stop, defined, computed, as_scalar, step_from, step, find, start_of, object, read, read_any, put_store, changed, write, write_bytes, copy_object, tested, birth_of, birth, births}
+use Rattle.c_model.specs.State.{write_youngest, alone, frame, mark, back_to, restored, within}
+use Rattle.c_model.specs.Logic.{TermValue, Mathematical, Answer, Says, SaysNothing, OutOfSteps, lazily, related, term, chain, clause, judged, check, checks}
+use Rattle.c_model.specs.Meaning.{Tables, literal, Callee, is_zero, choose, truth_value, size_value, converted, is_of_library, is_pointer, named, is_member, address, is_array, pointed_to, member, assigned, compound, bump_operator, bump_value}
+use Rattle.c_model.specs.Meaning.{eval_with, place_with}
+use Rattle.c_model.specs.Meaning.{evals_with, after_body, turns, do_turns, declared_in, declared_first, zero_scalars, zero_parts, string_in, write_each, fill_one, parts_or_itself, fill, fill_parts, initialise, initialise_all, condition_with}
+use Rattle.c_model.specs.Meaning.{effect_with, exec_with, else_with, first_with, item_with, items_with, parameters, body_with, put_char, get_char, exit_with, library_call, at_close, returned_by, call_with, call_of, tables_of, global_scope}
+use Rattle.c_model.specs.Meaning.{definition_at, main_with, function_named, whole, exec}
+use Rattle.c_model.specs.Laws.{AreWhole, KeepsWhole, store_after}
+use Rattle.c_model.specs.Growth.{Grows, Grown}
+use Rattle.c_model.proofs.Blocks.{whole-saved_bytes, whole-copied_all, whole-append, whole-new_block, whole-kill_from}
+use Rattle.c_model.proofs.Cells.{length-bytes_from}
+
+-- the steps that an answer leaves
+abbrev pub steps_of : Answer → ℕ
+steps_of (Says b n) = n
+steps_of (SaysNothing n) = n
+steps_of OutOfSteps = 0
+
+steps_related : (r : Relation) (a b : Option TermValue) (n : ℕ) → steps_of (related r a b n) ≤ n
+steps_related r None b n = omega arith
+steps_related r (Some a) None n = omega arith
+steps_related r (Some (Mathematical x)) (Some (Mathematical y)) n = omega arith
+
+steps_lazily : (k : ℕ) (a : Answer) (on off : ℕ → Answer) → steps_of a ≤ k → ((n : ℕ) → steps_of (on n) ≤ n) → ((n : ℕ) → steps_of (off n) ≤ n) → steps_of (lazily a on off) ≤ k
+steps_lazily k (Says true n) on off h f g = omega (arith, h, f n)
+steps_lazily k (Says false n) on off h f g = omega (arith, h, g n)
+steps_lazily k (SaysNothing n) on off h f g = h
+steps_lazily k OutOfSteps on off h f g = h
+
+steps_chain : (links : Links) (a : Option TermValue) (s : State) (n : ℕ) → steps_of (chain a links s n) ≤ n
+steps_chain NoLink a s n = omega arith
+steps_chain (Linked at r t rest) a s n =
+    steps_lazily n (related r a (term t s) n) _ _ (steps_related r a (term t s) n) (λ j. steps_chain rest (term t s) s j) (λ j. omega arith)
+
+pub steps_clause : (body : ClauseBody) (s : State) (n : ℕ) → steps_of (clause body s n) ≤ n
+steps_clause (Truth (Chain at t links)) s n = steps_chain links (term t s) s n
+
+-- the state at an outcome
+abbrev pub state_after : {A : Type 0} → Outcome A → State
+state_after (Normal a s) = s
+state_after (Stop e s) = s
+
+-- what holds between a state and each one that evaluation reaches from it: it holds of each change of a state, and goes on
+pub record Lasts (R : State → State → Type 0) : Type 0 where
+  pub same : (s : State) → R s s
+  pub onward : (s t u : State) → R s t → R t u → R s u
+  pub saved : (s : State) (p : Pointer) (n : ℕ) (bytes : List Byte) (store : Store) → length bytes ≤ n → save_bytes s.store p n bytes ≡ Some store → R s (record s { store = store })
+  pub copied : (s : State) (p q : Pointer) (cs : List (ℕ × ℕ)) (store : Store) → copy_all s.store p q cs ≡ Some store → R s (record s { store = store })
+  pub born : (s : State) (x size : ℕ) → R s (record s { store = s.store ++ new_block block.Stack size ∷ []; scope = (x, length s.store + 1) ∷ s.scope })
+  pub fewer : (s : State) (n : ℕ) → n ≤ s.steps → R s (record s { steps = n })
+  pub printed : (s : State) (byte : ℕ) → R s (record s { output = s.output ++ byte ∷ [] })
+  pub took : (s : State) (input : Input) → R s (record s { input = input })
+  pub inside : (s : State) (scope : Scope) (marks : List Mark) (calls : ℕ) → R s (record s { scope = scope; marks = marks; calls = calls })
+  pub back : (old s : State) → R old s → R old (back_to old s)
+
+module _ (R : State → State → Type 0) (r : Lasts R) where
+  -- it holds from a state to the one that an evaluation leaves
+  pub record Along {A : Type 0} (m : Evaluation A) : Type 0 where
+    pub at : (s : State) → R s (state_after (m s))
+
+  pub along_outcome : {A B : Type 0} (s : State) (o : Outcome A) (f : A → Evaluation B) → R s (state_after o) → ((a : A) → Along (f a)) → R s (state_after (on_outcome o f))
+  along_outcome s (Normal a t) f w h = r.onward s t (state_after (f a t)) w ((h a).at t)
+  along_outcome s (Stop e t) f w h = w
+
+  pub along_bind : {A B : Type 0} (m : Evaluation A) (f : A → Evaluation B) → Along m → ((a : A) → Along (f a)) → Along (m >>= f)
+  along_bind m f g h = record { at = λ s. along_outcome s (m s) f (g.at s) h }
+
+  pub along_then : {A B : Type 0} (m : Evaluation A) (f : Evaluation B) → Along m → Along f → Along (m >> f)
+  along_then m f g h = along_bind m (λ _. f) g (λ _. h)
+
+  pub along_stop : {A : Type 0} (e : End) → Along {A = A} (stop e)
+  along_stop e = record { at = λ s. r.same s }
+
+  pub along_give : {A : Type 0} (a : A) → Along (give a)
+  along_give a = record { at = λ s. r.same s }
+
+  -- ---- accesses
+
+  pub defined_along : {A : Type 0} (at : Place) (o : Option A) → Along (defined at o)
+  defined_along at None = record { at = λ s. r.same s }
+  defined_along at (Some a) = record { at = λ s. r.same s }
+
+  pub along_computed : {A : Type 0} (at : Place) (f : Store → Option A) → Along (computed at f)
+  along_computed at f = record { at = λ s. (defined_along at (f s.store)).at s }
+
+  pub along_object : (at : Place) (x : ℕ) → Along (object at x)
+  along_object at x = record { at = λ s. (defined_along at (start_of (find x s.scope))).at s }
+
+  pub along_as_scalar : {A : Type 0} (o : Option Scalar) (go : Scalar → Evaluation A) → ((k : Scalar) → Along (go k)) → Along (as_scalar o go)
+  along_as_scalar None go h = along_stop (Over Fault)
+  along_as_scalar (Some k) go h = h k
+
+  pub along_read_any : (at : Place) (p : Pointer) (o : Option Scalar) → Along (read_any at p o)
+  along_read_any at p None = along_give NoValue
+  along_read_any at p (Some k) = along_computed at (λ store. load store p k)
+
+  pub along_changed : (at : Place) (f : Store → Option Store) → ((s : State) (store : Store) → f s.store ≡ Some store → R s (record s { store = store })) → Along (changed at f)
+  along_changed at f h = record { at = λ s. of_store s (f s.store) refl }
+    where
+      of_store : (s : State) (o : Option Store) → f s.store ≡ o → R s (state_after ((defined at o >>= put_store) s))
+      of_store s None e = r.same s
+      of_store s (Some store) e = h s store e
+
+  pub along_write : (at : Place) (p : Pointer) (k : Scalar) (v : Value) → Along (write at p k v)
+  along_write at p k v = along_changed at _ (λ s store e. r.saved s p (scalar_size k) (bytes_from k v) store (length-bytes_from k v) e)
+
+  pub along_write_bytes : (at : Place) (p : Pointer) (bytes : List Byte) → Along (write_bytes at p bytes)
+  along_write_bytes at p bytes = along_changed at _ (λ s store e. r.saved s p (length bytes) bytes store (omega arith) e)
+
+  pub along_copy : (at : Place) (p q : Pointer) (cs : List (ℕ × ℕ)) → Along (copy_object at p q cs)
+  along_copy at p q cs = along_changed at _ (λ s store e. r.copied s p q cs store e)
+
+  -- ---- births, calls and blocks
+
+  birth_along : (o : Option Segment) (x size : ℕ) → Along (birth_of o x size)
+  birth_along None x size = record { at = λ s. r.born s x size }
+  birth_along (Some full) x size = record { at = λ s. r.same s }
+
+  pub along_birth : (structs : List StructType) (d : Declaration) → Along (birth structs d)
+  along_birth structs d = record { at = λ s. (birth_along (full_at_stack_birth standard_sizes s.store (size_of structs d.ctype)) d.place.offset (size_of structs d.ctype)).at s }
+
+  pub along_births : (structs : List StructType) (ds : List Declaration) → Along (births structs ds)
+  along_births structs [] = along_give tt
+  along_births structs (d ∷ ds) = along_then _ _ (along_birth structs d) (along_births structs ds)
+
+  pub along_write_youngest : (at : Place) (k : Scalar) (v : Value) → Along (write_youngest at k v)
+  along_write_youngest at k v = record { at = λ s. (along_write at (Into (length s.store) 0) k v).at s }
+
+  pub along_alone : (globals : Scope) → Along (alone globals)
+  along_alone globals = record { at = λ s. r.inside s globals [] s.calls }
+
+  pub along_mark : (label : Option ℕ) → Along (mark label)
+  along_mark label = record { at = λ s. r.inside s s.scope _ s.calls }
+
+  pub along_cond : {A : Type 0} (t : Bool) (m m' : Evaluation A) → Along m → Along m' → Along (cond t m m')
+  along_cond true m m' h h' = h
+  along_cond false m m' h h' = h'
+
+  frame_along : (s : State) (t : Bool) → R s (state_after {A = Unit {0}} (cond t (Normal tt (record s { calls = s.calls + 1 })) (Stop (Over (Full Frames)) s)))
+  frame_along s true = r.inside s s.scope s.marks (s.calls + 1)
+  frame_along s false = r.same s
+
+  pub along_frame : Along frame
+  along_frame = record { at = λ s. frame_along s (nat_lt s.calls 65536) }
+
+  restored_along : {A : Type 0} (old : State) (o : Outcome A) → R old (state_after o) → R old (state_after (restored old o))
+  restored_along old (Normal a s) w = r.back old s w
+  restored_along old (Stop e s) w = r.back old s w
+
+  pub along_within : {A : Type 0} (m : Evaluation A) → Along m → Along (within m)
+  along_within m g = record { at = λ s. restored_along s (m s) (g.at s) }
+
+  -- ---- annotations
+
+  judged_along : (a : Annotation) (answer : Answer) (s : State) → steps_of answer ≤ s.steps → R s (state_after (judged a answer s))
+  judged_along a (Says true n) s w = r.fewer s n w
+  judged_along a (Says false n) s w = r.fewer s n w
+  judged_along a (SaysNothing n) s w = r.fewer s n w
+  judged_along a OutOfSteps s w = r.fewer s 0 w
+
+  pub along_checks : (annots : List Annotation) → Along (checks annots)
+  along_checks [] = along_give tt
+  along_checks (a ∷ rest) = along_then (check a) (checks rest) (record { at = λ s. judged_along a (clause a.body s s.steps) s (steps_clause a.body s s.steps) }) (along_checks rest)
+
+  -- ---- choices and loops
+
+  pub along_choose : {A : Type 0} (v : Value) (a b : Evaluation A) → Along a → Along b → Along (choose v a b)
+  along_choose v a b f g = along_cond (is_zero v) b a g f
+
+  pub along_step : Along step
+  along_step = record { at = λ s. by s s.steps refl }
+    where
+      by : (s : State) (n : ℕ) → s.steps ≡ n → R s (state_after (step_from n s))
+      by s zero e = r.same s
+      by s (suc n) e = r.fewer s n (omega (arith, e))
+
+  body_along : (s : State) (o : Outcome (Unit {0})) (again : Evaluation (Unit {0})) → R s (state_after o) → Along again → R s (state_after (after_body o again))
+  body_along s (Normal u t) again w h = r.onward s t _ w (h.at t)
+  body_along s (Stop (Leaves Continues) t) again w h = r.onward s t _ w (h.at t)
+  body_along s (Stop (Leaves Breaks) t) again w h = w
+  body_along s (Stop (Leaves (Returns v)) t) again w h = w
+  body_along s (Stop (Over e) t) again w h = w
+
+  pub along_turns : (n : ℕ) (test : Evaluation Value) (body behind : Evaluation (Unit {0})) → Along test → Along body → Along behind → Along (turns n test body behind)
+  along_turns zero test body behind t b h = along_stop (Over Spent)
+  along_turns (suc n) test body behind t b h =
+      along_bind test _ t (λ v. along_choose v _ _ (along_bind step (λ _ s. after_body (body s) (behind >> turns n test body behind)) along_step
+      (λ _. record { at = λ s. body_along s (body s) (behind >> turns n test body behind) (b.at s) (along_then behind _ h (along_turns n test body behind t b h)) })) (along_give tt))
+
+  pub along_do_turns : (n : ℕ) (test : Evaluation Value) (body : Evaluation (Unit {0})) → Along test → Along body → Along (do_turns n test body)
+  along_do_turns zero test body t b = along_stop (Over Spent)
+  along_do_turns (suc n) test body t b =
+      along_bind step (λ _ s. after_body (body s) (test >>= λ v. choose v (do_turns n test body) done)) along_step
+      (λ _. record { at = λ s. body_along s (body s) (test >>= λ v. choose v (do_turns n test body) done) (b.at s) (along_bind test _ t (λ v. along_choose v _ _ (along_do_turns n test body t b) (along_give tt))) })
+
+  -- ---- expressions, where calls do this
+
+  pub along_pointed : (v : Value) → Along (pointed_to v)
+  along_pointed (Points p) = along_give p
+  along_pointed (Integer z) = along_stop (Over Fault)
+  along_pointed NoValue = along_stop (Over Fault)
+
+  pub along_member : (at : Place) (p : Pointer) (offset : ℕ) → Along (member at p offset)
+  along_member at Null offset = along_stop (Over (Undefined at))
+  along_member at (Into n i) offset = along_give (Into n (i + offset))
+
+  pub along_address : (e : Expression) (p : Pointer) → Along (address e p)
+  along_address e p = by (is_member e)
+    where
+      by : (t : Bool) → Along (if t then computed (place_of e) (λ store. option_map Points (moved store p (pos 0))) else give (Points p))
+      by true = along_computed (place_of e) _
+      by false = along_give (Points p)
+
+  named_along : (at : Place) (t : PlainType) (x : Use) (o : Option ℕ) → Along (named at t x o)
+  named_along at t x (Some n) = along_read_any at (Into n 0) (scalar_of t)
+  named_along at t x None = along_cond (is_pointer t && is_of_library x) _ _ (along_give (Points Null)) (along_stop (Over (Undefined at)))
+
+  pub along_named : (at : Place) (t : PlainType) (x : Use) → Along (λ s. named at t x (find x.decl s.scope) s)
+  along_named at t x = record { at = λ s. (named_along at t x (find x.decl s.scope)).at s }
+
+  pub along_write_give : (at : Place) (p : Pointer) (k : Scalar) (v w : Value) → Along (write at p k v >> give w)
+  along_write_give at p k v w = along_then (write at p k v) (give w) (along_write at p k v) (along_give w)
+
+  pub along_assigned : (structs : List StructType) (at : Place) (t : PlainType) (o : Option Scalar) (p : Pointer) (v : Evaluation Value) (q : Evaluation Pointer) → Along v → Along q → Along (assigned structs at t o p v q)
+  along_assigned structs at t (Some k) p v q h g = along_bind v _ h (λ x. along_write_give at p k x x)
+  along_assigned structs at t None p v q h g = along_bind q _ g (λ y. along_then _ _ (along_copy at p y _) (along_give NoValue))
+
+  module _ (T : Tables) (call : Callee) (c : (at : Place) (f : Use) (vs : List Value) → Along (call at f vs)) where
+    pub along_truth : (e : Expression) → Along (eval_with T e call) → Along (eval_with T e call >>= tested (place_of e) >>= λ y. give (truth_value y))
+    along_truth e f = along_bind _ _ (along_bind _ _ f (λ v. along_computed (place_of e) _)) (λ y. along_give (truth_value y))
+
+    pub along_tested : (e : Expression) → Along (eval_with T e call) → Along (eval_with T e call >>= tested (place_of e))
+    along_tested e f = along_bind _ _ f (λ v. along_computed (place_of e) _)
+
+    mutual
+      pub along_eval : (e : Expression) → Along (eval_with T e call)
+      along_eval (Node at t (Number n k)) = along_give (Integer n)
+      along_eval (Node at t (Letter n)) = along_give (Integer n)
+      along_eval (Node at t (Text n)) = along_give NoValue
+      along_eval (Node at t (Variable x)) = along_named at t x
+      along_eval (Node at t (Unary unary.Address a)) = along_bind _ _ (along_place a) (along_address a)
+      along_eval (Node at t (Unary unary.Deref a)) = along_bind _ _ (along_bind _ _ (along_eval a) along_pointed) (λ p. along_read_any at p (scalar_of t))
+      along_eval (Node at t (Unary unary.Not a)) = along_bind _ _ (along_tested a (along_eval a)) (λ x. along_give (Integer (truth (is_zero x))))
+      along_eval (Node at t (Unary unary.Plus a)) = along_bind _ _ (along_eval a) (λ x. defined_along at _)
+      along_eval (Node at t (Unary unary.Minus a)) = along_bind _ _ (along_eval a) (λ x. defined_along at _)
+      along_eval (Node at t (Unary unary.Flip a)) = along_bind _ _ (along_eval a) (λ x. defined_along at _)
+      along_eval (Node at t (Binary op a b)) = along_bind _ _ (along_eval a) (λ x. along_bind _ _ (along_eval b) (λ y. along_computed at _))
+      along_eval (Node at t (Both a b)) = along_bind _ _ (along_tested a (along_eval a)) (λ x. along_choose x _ _ (along_truth b (along_eval b)) (along_give (Integer (pos 0))))
+      along_eval (Node at t (Either a b)) = along_bind _ _ (along_tested a (along_eval a)) (λ x. along_choose x _ _ (along_give (Integer (pos 1))) (along_truth b (along_eval b)))
+      along_eval (Node at t (Choice a b d)) = along_bind _ _ (along_tested a (along_eval a)) (λ x. along_choose x _ _ (along_eval b) (along_eval d))
+      along_eval (Node at t (Assign None a b)) = along_bind _ _ (along_place a) (λ p. along_assigned T.structs at t (scalar_of t) p _ _ (along_eval b) (along_place b))
+      along_eval (Node at t (Assign (Some op) a b)) =
+          along_bind _ _ (along_place a) (λ p. along_as_scalar (scalar_of t) _ (λ k. along_bind _ _ (along_computed at _) (λ x. along_bind _ _ (along_eval b) (λ y. along_bind _ _ (along_computed at _) (λ v. along_write_give at p k v v)))))
+      along_eval (Node at t (Bump op a)) =
+          along_bind _ _ (along_place a) (λ p. along_as_scalar (scalar_of t) _
+          (λ k. along_bind (read at p k) _ (along_computed at _) (λ x. along_bind (computed at (λ store. compound T.structs t (bump_operator op) store x int_type (Integer (pos 1)))) _ (along_computed at _)
+          (λ v. along_write_give at p k v (bump_value op x v)))))
+      along_eval (Node at t (Call f args)) = along_bind _ _ (along_evals args) (λ vs. c at f vs)
+      along_eval (Node at t (Cast to a)) = along_cond (is_array (type_of a)) _ _ (along_bind _ _ (along_place a) (along_address a)) (along_bind _ _ (along_eval a) (λ x. along_give (converted to x)))
+      along_eval (Node at t (SizeOfType u)) = along_give (size_value T u)
+      along_eval (Node at t (SizeOfExpr a)) = along_give (size_value T (type_of a))
+      along_eval (Node at t (Index a b)) = along_bind _ _ (along_eval a) (λ x. along_bind _ _ (along_eval b) (λ y. along_bind _ _ (along_computed at _) (λ p. along_read_any at p (scalar_of t))))
+      along_eval (Node at t (Dot a m)) = along_bind _ _ (along_place a) (λ p. along_bind _ _ (along_member at p _) (λ q. along_read_any at q (scalar_of t)))
+      along_eval (Node at t (Arrow a m)) = along_bind _ _ (along_eval a) (λ x. along_bind _ _ (along_pointed x) (λ p. along_bind _ _ (along_member at p _) (λ q. along_read_any at q (scalar_of t))))
+      along_eval (Node at t (Comma a b)) = along_then _ _ (along_eval a) (along_eval b)
+
+      pub along_place : (e : Expression) → Along (place_with T e call)
+      along_place (Node at t (Variable x)) = along_object at x.decl
+      along_place (Node at t (Text n)) = along_give (literal T n)
+      along_place (Node at t (Unary unary.Deref a)) = along_bind _ _ (along_eval a) along_pointed
+      along_place (Node at t (Index a b)) = along_bind _ _ (along_eval a) (λ x. along_bind _ _ (along_eval b) (λ y. along_computed at _))
+      along_place (Node at t (Dot a m)) = along_bind _ _ (along_place a) (λ p. along_member at p _)
+      along_place (Node at t (Arrow a m)) = along_bind _ _ (along_eval a) (λ x. along_bind _ _ (along_pointed x) (λ p. along_member at p _))
+      along_place (Node at t (Assign None a b)) = along_bind _ _ (along_place a) (λ p. along_then _ _ (along_assigned T.structs at t (scalar_of t) p _ _ (along_eval b) (along_place b)) (along_give p))
+      along_place (Node at t (Comma a b)) = along_then _ _ (along_eval a) (along_place b)
+      along_place (Node at t _) = along_stop (Over (Undefined at))
+
+      pub along_evals : (es : Expressions) → Along (evals_with T es call)
+      along_evals NoExpression = along_give []
+      along_evals (Following e es) = along_bind _ _ (along_eval e) (λ v. along_bind _ _ (along_evals es) (λ vs. along_give (v ∷ vs)))
+
+    -- ---- statements
+
+    pub along_zero_scalars : (at : Place) (p : Pointer) (cs : List (ℕ × Scalar)) → Along (zero_scalars at p cs)
+    along_zero_scalars at p [] = along_give tt
+    along_zero_scalars at p (d ∷ cs) = along_then _ _ (along_write_bytes at _ _) (along_zero_scalars at p cs)
+
+    pub along_zero_parts : (structs : List StructType) (at : Place) (p : Pointer) (cs : List (ℕ × PlainType)) → Along (zero_parts structs at p cs)
+    along_zero_parts structs at p [] = along_give tt
+    along_zero_parts structs at p (d ∷ cs) = along_then _ _ (along_zero_scalars at _ _) (along_zero_parts structs at p cs)
+
+    pub along_write_each : (at : Place) (p : Pointer) (bytes : List Byte) → Along (write_each at p bytes)
+    along_write_each at p [] = along_give tt
+    along_write_each at p (b ∷ bs) = along_then _ _ (along_write_bytes at p (b ∷ [])) (along_write_each at (shifted p 1) bs)
+
+    pub along_fill_one : (at : Place) (t : PlainType) (p : Pointer) (o : Option ℕ) (v : Evaluation Value) → Along v → Along (fill_one T at t p o v)
+    along_fill_one at t p (Some n) v h = along_write_each at p _
+    along_fill_one at t p None v h = along_bind _ _ h (λ x. along_as_scalar (scalar_of t) _ (λ k. along_write at p k x))
+
+    mutual
+      along_fill : (at : Place) (t : PlainType) (p : Pointer) (i : Initialiser) → Along (fill T at t p i call)
+      along_fill at t p (One e) = along_fill_one at t p (string_in e) _ (along_eval e)
+      along_fill at t p (Many brace is) = along_fill_parts at (parts_or_itself T t) p is
+
+      along_fill_parts : (at : Place) (cs : List (ℕ × PlainType)) (p : Pointer) (is : Initialisers) → Along (fill_parts T at cs p is call)
+      along_fill_parts at cs p NoInitialiser = along_zero_parts T.structs at p cs
+      along_fill_parts at [] p (Listed i is) = along_give tt
+      along_fill_parts at (d ∷ cs) p (Listed i is) = along_then _ _ (along_fill at d.1 _ i) (along_fill_parts at cs p is)
+
+    pub along_initialise : (d : Declaration) (i : Option (Place × Initialiser)) → Along (initialise T d i call)
+    along_initialise d None = along_give tt
+    along_initialise d (Some (at, i)) = along_bind _ _ (along_object at d.place.offset) (λ p. along_fill at d.ctype p i)
+
+    pub along_initialise_all : (ds : List Declaration) → Along (initialise_all T ds call)
+    along_initialise_all [] = along_give tt
+    along_initialise_all (d ∷ ds) = along_then _ _ (along_initialise d d.init) (along_initialise_all ds)
+
+    pub along_condition : (e : Option Expression) → Along (condition_with T e call)
+    along_condition None = along_give (Integer (pos 1))
+    along_condition (Some e) = along_tested e (along_eval e)
+
+    pub along_effect : (e : Option Expression) → Along (effect_with T e call)
+    along_effect None = along_give tt
+    along_effect (Some e) = along_then _ _ (along_eval e) (along_give tt)
+
+    mutual
+      pub along_exec : (a : Statement) (n : ℕ) → Along (exec_with T a call n)
+      along_exec (Empty at) n = along_give tt
+      along_exec (Eval at e) n = along_then _ _ (along_eval e) (along_give tt)
+      along_exec (Block at items) n = along_within _ (along_then _ _ (along_births T.structs (declared_in items)) (along_items items n))
+      along_exec (If at e a b) n = along_bind _ _ (along_tested e (along_eval e)) (λ v. along_choose v _ _ (along_exec a n) (along_else b n))
+      along_exec (While at annots e a) n = along_turns n _ _ _ (along_tested e (along_eval e)) (along_exec a n) (along_give tt)
+      along_exec (Do at a e) n = along_do_turns n _ _ (along_tested e (along_eval e)) (along_exec a n)
+      along_exec (For at annots first e behind a) n =
+          along_within _ (along_then _ _ (along_then _ _ (along_births T.structs (declared_first first)) (along_first first n)) (along_turns n _ _ _ (along_condition e) (along_exec a n) (along_effect behind)))
+      along_exec (Break at) n = along_stop (Leaves Breaks)
+      along_exec (Continue at) n = along_stop (Leaves Continues)
+      along_exec (Return at None) n = along_stop (Leaves (Returns None))
+      along_exec (Return at (Some e)) n = along_bind _ _ (along_eval e) (λ v. along_stop (Leaves (Returns (Some v))))
+
+      pub along_else : (b : ElsePart) (n : ℕ) → Along (else_with T b call n)
+      along_else NoElse n = along_give tt
+      along_else (Else a) n = along_exec a n
+
+      pub along_first : (first : ForFirst) (n : ℕ) → Along (first_with T first call n)
+      along_first NoFirst n = along_give tt
+      along_first (First i) n = along_item i n
+
+      pub along_item : (i : BlockItem) (n : ℕ) → Along (item_with T i call n)
+      along_item (Declare ds) n = along_initialise_all ds
+      along_item (Run a) n = along_exec a n
+      along_item (Asserts annots) n = along_checks annots
+
+      pub along_items : (items : BlockItems) (n : ℕ) → Along (items_with T items call n)
+      along_items NoItem n = along_give tt
+      along_items (Then i rest) n = along_then _ _ (along_item i n) (along_items rest n)
+
+    pub along_body : (body : Option Statement) (n : ℕ) → Along (body_with T body call n)
+    along_body None n = along_stop (Over Fault)
+    along_body (Some a) n = along_exec a n
+
+    pub along_parameters : (at : Place) (ds : List Declaration) (vs : List Value) → Along (parameters T at ds vs)
+    along_parameters at [] [] = along_give tt
+    along_parameters at [] (v ∷ vs) = along_stop (Over (Undefined at))
+    along_parameters at (d ∷ ds) [] = along_stop (Over (Undefined at))
+    along_parameters at (d ∷ ds) (v ∷ vs) =
+        along_then _ _ (along_then _ _ (along_birth T.structs d) (along_as_scalar (scalar_of d.ctype) _ (λ k. along_write_youngest at k v))) (along_parameters at ds vs)
+
+  -- ---- programs
+
+  pub along_put_char : (at : Place) (vs : List Value) → Along (put_char at vs)
+  along_put_char at [] = along_stop (Over (Undefined at))
+  along_put_char at (NoValue ∷ []) = along_stop (Over (Undefined at))
+  along_put_char at (Points p ∷ []) = along_stop (Over (Undefined at))
+  along_put_char at (Integer z ∷ []) = along_then (print (byte_of z)) (give (Integer (pos (byte_of z)))) (record { at = λ s. r.printed s (byte_of z) }) (along_give _)
+  along_put_char at (v ∷ w ∷ vs) = along_stop (Over (Undefined at))
+
+  read_byte_along : (bytes : List ℕ) (tail : InputTail) → Along (read_byte bytes tail)
+  read_byte_along [] EndOfInput = along_give _
+  read_byte_along [] InputFault = along_stop (Over ReadFault)
+  read_byte_along (b ∷ bs) tail = record { at = λ s. r.took s (record { bytes = bs; tail = tail }) }
+
+  pub along_get_char : (at : Place) (vs : List Value) → Along (get_char at vs)
+  along_get_char at [] = record { at = λ s. (read_byte_along s.input.bytes s.input.tail).at s }
+  along_get_char at (v ∷ vs) = along_stop (Over (Undefined at))
+
+  pub along_exit : (at : Place) (vs : List Value) → Along (exit_with at vs)
+  along_exit at [] = along_stop (Over (Undefined at))
+  along_exit at (NoValue ∷ []) = along_stop (Over (Undefined at))
+  along_exit at (Points p ∷ []) = along_stop (Over (Undefined at))
+  along_exit at (Integer z ∷ []) = along_stop (Over (Exits z))
+  along_exit at (v ∷ w ∷ vs) = along_stop (Over (Undefined at))
+
+  pub along_if : {A : Type 0} (t : Bool) (a b : Evaluation A) → Along a → Along b → Along (if t then a else b)
+  along_if true a b f g = f
+  along_if false a b f g = g
+
+  pub along_library_call : (at : Place) (name : Option (List ℕ)) (vs : List Value) → Along (library_call at name vs)
+  along_library_call at None vs = along_stop (Over (Undefined at))
+  along_library_call at (Some name) vs =
+      along_if (bytes_eq name (codes "putchar")) _ _ (along_put_char at vs)
+      (along_if (bytes_eq name (codes "getchar")) _ _ (along_get_char at vs)
+      (along_if (bytes_eq name (codes "exit")) _ _ (along_exit at vs) (along_stop (Over (Undefined at)))))
+
+  pub along_at_close : (close : Place) (t : PlainType) → Along (at_close close t)
+  along_at_close close t = by (scalar_of t)
+    where
+      by : (o : Option Scalar) → Along (elim o [ None ↦ give NoValue | Some k ↦ stop (Over (Undefined close)) ])
+      by None = along_give NoValue
+      by (Some k) = along_stop (Over (Undefined close))
+
+  returned_along : (f : Function) (s : State) (o : Outcome (Unit {0})) → R s (state_after o) → R s (state_after (returned_by f o))
+  returned_along f s (Normal u t) w = r.onward s t _ w ((along_at_close f.close f.result).at t)
+  returned_along f s (Stop (Leaves Breaks) t) w = w
+  returned_along f s (Stop (Leaves Continues) t) w = w
+  returned_along f s (Stop (Leaves (Returns None)) t) w = w
+  returned_along f s (Stop (Leaves (Returns (Some v))) t) w = w
+  returned_along f s (Stop (Over e) t) w = w
+
+  abbrev CalleeAlong : Callee → Type 0
+  CalleeAlong call = (at : Place) (f : Use) (vs : List Value) → Along (call at f vs)
+
+  pub along_call_with : (T : Tables) (globals : Scope) (f : Option Function) (call : Callee) (n : ℕ) (at : Place) (vs : List Value) → CalleeAlong call → Along (call_with T globals f call n at vs)
+  along_call_with T globals None call n at vs c = along_stop (Over (Undefined at))
+  along_call_with T globals (Some f) call n at vs c =
+      along_then _ _ along_step (along_within _ (along_then _ _
+      (along_then _ _ (along_then _ _ (along_then _ _ along_frame (along_alone globals)) (along_parameters T call c at f.params vs)) (along_mark None))
+      (record { at = λ s. returned_along f s (body_with T f.body call n s) ((along_body T call c f.body n).at s) })))
+
+  pub along_call_of : (p : TranslationUnit) (n : ℕ) → CalleeAlong (call_of p n)
+  along_call_of p zero at f vs =
+      along_if (is_of_library f) _ _ (along_library_call at (slice_get p.names f.name) vs) (along_stop (Over Spent))
+  along_call_of p (suc n) at f vs =
+      along_if (is_of_library f) _ _ (along_library_call at (slice_get p.names f.name) vs)
+      (along_call_with (tables_of p) (global_scope 1 p.globals) (definition_at f.decl p.funcs) (call_of p n) n at vs (along_call_of p n))
+
+  pub along_main : (T : Tables) (f : Option Function) (call : Callee) (n : ℕ) → CalleeAlong call → Along (main_with T f call n)
+  along_main T None call n c = along_stop (Over Fault)
+  along_main T (Some f) call n c =
+      along_within _ (along_then _ _ (along_then _ _ (along_then _ _ along_frame (along_births T.structs f.params)) (along_mark None)) (along_body T call c f.body n))
+
+  -- the whole of a run
+  pub along_whole : (p : TranslationUnit) (n : ℕ) → Along (whole p n)
+  along_whole p n =
+      let c = along_call_of p n in
+      along_then _ _ (along_initialise_all (tables_of p) (call_of p n) c p.globals) (along_main (tables_of p) (function_named p (codes "main") p.funcs) (call_of p n) n c)
+
+-- ---- the three that the laws are about
+
+-- no step is gained
+abbrev pub Fewer : State → State → Type 0
+Fewer s t = t.steps ≤ s.steps
+
+pub steps_last : Lasts Fewer
+steps_last = record {
+  same = λ s. omega arith;
+  onward = λ s t u a b. omega (arith, a, b);
+  saved = λ s p n bytes store l e. omega arith;
+  copied = λ s p q cs store e. omega arith;
+  born = λ s x size. omega arith;
+  fewer = λ s n l. l;
+  printed = λ s byte. omega arith;
+  took = λ s input. omega arith;
+  inside = λ s scope marks calls. omega arith;
+  back = λ old s l. l;
+}
+
+-- output only grows
+pub output_lasts : Lasts (λ s t. (rest : List ℕ) × (t.output ≡ s.output ++ rest))
+output_lasts = record {
+  same = λ s. ([], sym (append-nil s.output));
+  onward = λ s t u a b. (a.0 ++ b.0, b.1 ∙ ap (λ o. o ++ b.0) a.1 ∙ append_assoc s.output a.0 b.0);
+  saved = λ s p n bytes store l e. ([], sym (append-nil s.output));
+  copied = λ s p q cs store e. ([], sym (append-nil s.output));
+  born = λ s x size. ([], sym (append-nil s.output));
+  fewer = λ s n l. ([], sym (append-nil s.output));
+  printed = λ s byte. (byte ∷ [], refl);
+  took = λ s input. ([], sym (append-nil s.output));
+  inside = λ s scope marks calls. ([], sym (append-nil s.output));
+  back = λ old s g. g;
+}
+
+-- blocks stay whole
+pub whole_lasts : Lasts (λ s t. AreWhole s.store → AreWhole t.store)
+whole_lasts = record {
+  same = λ s w. w;
+  onward = λ s t u a b w. b (a w);
+  saved = λ s p n bytes store l e w. whole-saved_bytes s.store store p n bytes w l e;
+  copied = λ s p q cs store e w. whole-copied_all s.store store p q cs w e;
+  born = λ s x size w. whole-append s.store _ w (whole-new_block block.Stack size);
+  fewer = λ s n l w. w;
+  printed = λ s byte w. w;
+  took = λ s input w. w;
+  inside = λ s scope marks calls w. w;
+  back = λ old s g w. whole-kill_from (length old.store) s.store (g w);
+}
+
+pub output_grows : (p : TranslationUnit) (n : ℕ) → Grows (whole p n)
+output_grows p n = record { at = λ s. grown s (whole p n s) ((along_whole _ output_lasts p n).at s) }
+  where
+    grown : (s : State) (r : Outcome (Unit {0})) → (rest : List ℕ) × ((state_after r).output ≡ s.output ++ rest) → Grown s.output r
+    grown s (Normal u t) h = record { rest = h.0; is = h.1 }
+    grown s (Stop e t) h = record { rest = h.0; is = h.1 }
+
+pub statements_keep_whole : (p : TranslationUnit) (a : Statement) (n : ℕ) → KeepsWhole (exec p n a)
+statements_keep_whole p a n = record { at = λ s w. whole_at s (exec p n a s) ((along_exec _ whole_lasts (tables_of p) (call_of p n) (along_call_of _ whole_lasts p n) a n).at s) w }
+  where
+    whole_at : (s : State) (r : Outcome (Unit {0})) → (AreWhole s.store → AreWhole (state_after r).store) → AreWhole s.store → AreWhole (store_after r)
+    whole_at s (Normal u t) h w = h w
+    whole_at s (Stop e t) h w = h w
