@@ -8,7 +8,7 @@ use Rattle.c_syntax.specs.declared.types.CInt.{CInt}
 use Rattle.c_syntax.specs.declared.types.BlockKind.{BlockKind}
 use Rattle.c_model.specs.Integers.{int_size, fits}
 use Rattle.c_model.specs.Layouts.{Scalar, IntegerType, PointerType, scalar_size}
-use Rattle.c_model.specs.Memory.{Pointer, Null, Into, Value, Integer, Points, Byte, Unwritten, Block, Store, block_at, new_block, value_from, bytes_from, loosened, copied, is_accessible, is_literal, bytes_in, load_bytes, load, with_bytes}
+use Rattle.c_model.specs.Memory.{Pointer, Null, Into, Value, Integer, Points, Byte, Unwritten, Block, Store, block_at, new_block, bytes_from, loosened, copied, is_accessible, is_literal, bytes_in, load_bytes, load, with_bytes}
 use Rattle.c_model.specs.Memory.{saved_block, with_block, save_bytes, save, shifted, ◌>>=◌, copy, copy_all, kill_from}
 use Rattle.c_model.specs.Laws.{AreWhole, SameButAt}
 use Rattle.c_model.proofs.Cells.{value_from-bytes_from, pointer_from-pieces, length-integer_bytes, length-bytes_from}

@@ -1,5 +1,5 @@
 -- No run of a typed program ends in a fault: jumps stay in their loops, what is called has a body, and what has a result gives one.
-use Rattle.std.proofs.Common.{◌≡◌, ℕ, zero, suc, ◌+◌, pos, Bool, true, false, cond, ◌&&◌, if◌then◌else◌, nat_eq, nat_lt, List, [], ◌∷◌, ◌++◌, length, take, drop, map, Option, Some, None, slice_get, codes, bytes_eq, refl, sym, ap, ◌∙◌, subst}
+use Rattle.std.proofs.Common.{◌≡◌, ℕ, zero, suc, ◌+◌, pos, Bool, true, false, cond, ◌&&◌, if◌then◌else◌, nat_eq, nat_lt, List, [], ◌∷◌, ◌++◌, length, map, Option, Some, None, slice_get, codes, bytes_eq, refl, sym, ap, ◌∙◌, subst}
 use Rattle.std.proofs.Common.{append_assoc}
 use Rattle.std.specs.Prelude.{option_map}
 use Rattle.c_syntax.specs.declared.place.Place.{Place}
@@ -35,7 +35,7 @@ use Rattle.c_model.specs.ProgramTyping.{signature, function_scopes, with_paramet
 use Rattle.c_model.specs.WellTyped.{IsPlace, IsInteger, CastTypes, Calls, WellTyped, AreWellTyped}
 use Rattle.c_model.specs.WellTypedPrograms.{WhereAny, IsCondition, Initialises, AreDeclared, AreParameters, StatementTyped, ElseTyped, FirstTyped, ItemTyped, ItemsTyped, around_body, BodyTyped, FunctionTyped, FunctionsTyped}
 use Rattle.c_model.specs.Formed.{BodyFormed, FunctionFormed, FunctionsFormed, most_typed, IsProgram}
-use Rattle.c_model.specs.Meaning.{is_definition, Callee, Tables, operate_value, operate_values, converted, compound, bump_operator, bump_value, is_zero, choose, truth_value, size_value, is_member, address, assigned, is_array, is_pointer, named}
+use Rattle.c_model.specs.Meaning.{is_definition, Callee, Tables, operate_value, operate_values, converted, compound, bump_operator, bump_value, is_zero, choose, truth_value, size_value, is_member, address, assigned, is_array, named}
 use Rattle.c_model.specs.Meaning.{eval_with, place_with, evals_with, after_body, turns, do_turns, string_in, fill_one, tables_of, global_scope}
 use Rattle.c_model.specs.Meaning.{declared_in, declared_first, initialise, initialise_all, condition_with, effect_with, exec_with, else_with, first_with, item_with, items_with, put_char, get_char, exit_with, library_call, definition_at, parameters}
 use Rattle.c_model.specs.Meaning.{body_with, at_close, returned_by, call_with, is_of_library, call_of, has_name, function_named, main_with, start, ran, run}

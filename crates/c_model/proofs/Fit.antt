@@ -1,35 +1,28 @@
 -- More turns and deeper calls than steps change nothing, and no step is gained.
-use Rattle.std.proofs.Common.{◌≡◌, ℕ, zero, suc, ◌+◌, ◌<◌, ◌≤◌, pos, Bool, true, false, cond, if◌then◌else◌, nat_lt, List, [], ◌∷◌, ◌++◌, length, Option, Some, None, option_map, slice_get, codes, bytes_eq, refl, sym, ap, ◌∙◌, append_assoc}
-use Rattle.std.proofs.Common.{append-nil, arith}
+use Rattle.std.proofs.Common.{◌≡◌, ℕ, zero, suc, ◌<◌, ◌≤◌, pos, Bool, true, false, cond, if◌then◌else◌, List, [], ◌∷◌, Option, Some, None, slice_get, codes, refl, ap, ◌∙◌}
+use Rattle.std.proofs.Common.{arith}
 use Rattle.c_syntax.specs.declared.place.Place.{Place}
-use Rattle.c_syntax.specs.declared.types.Segment.{Segment}
-use Rattle.c_syntax.specs.declared.types.Segment.TheVariants.{Frames}
-use Rattle.c_syntax.specs.declared.types.BlockKind.TheVariants as block
 use Rattle.c_syntax.specs.declared.expression.Use.{Use}
 use Rattle.c_syntax.specs.declared.expression.UnOp.TheVariants as unary
-use Rattle.c_syntax.specs.declared.annotation.Relation.{Relation}
 use Rattle.c_syntax.specs.Ctypes.{PlainType, int_type}
-use Rattle.c_syntax.specs.Annotations.{Annotation, ClauseBody, Truth, Chain, Links, NoLink, Linked}
+use Rattle.c_syntax.specs.Annotations.{Annotation}
 use Rattle.c_syntax.specs.Expressions.{Expression, Node, Number, Letter, Text, Variable, Unary, Binary, Both, Either, Choice, Assign, Bump, Call, Cast, SizeOfType, SizeOfExpr, Index, Dot, Arrow, Comma, Expressions, NoExpression, Following, place_of}
 use Rattle.c_syntax.specs.Expressions.{type_of}
 use Rattle.c_syntax.specs.Statements.{Initialiser, One, Many, Initialisers, NoInitialiser, Listed, Declaration, Statement, Empty, Eval, Block, If, While, Do, For, Break, Continue, Return, ElsePart, NoElse, Else, ForFirst, NoFirst, First, BlockItem}
 use Rattle.c_syntax.specs.Statements.{Declare, Run, Asserts, BlockItems, NoItem, Then}
 use Rattle.c_syntax.specs.Programs.{StructType, Function, TranslationUnit}
-use Rattle.c_model.specs.Integers.{truth, byte_of}
-use Rattle.c_model.specs.Layouts.{Scalar, scalar_size, scalar_of, size_of}
-use Rattle.c_model.specs.Memory.{Pointer, Null, Into, Value, Integer, Points, NoValue, Byte, new_block, Store, load, bytes_from, save_bytes, copy_all, moved, shifted, standard_sizes, full_at_stack_birth}
-use Rattle.c_model.specs.State.{Scope, Mark, Input, InputTail, EndOfInput, InputFault, ReadFault, Exits, print, read_byte, State, Breaks, Continues, Returns, End, Leaves, Over, Undefined, Fault, Spent, Full, Outcome, Normal, Stop, Evaluation}
-use Rattle.c_model.specs.State.{on_outcome, ◌>>=◌, ◌>>◌, give, done, stop, defined, computed, as_scalar, step_from, step, find, start_of, object, read, read_any, put_store, changed, write, write_bytes, copy_object, tested, birth_of, birth, births}
-use Rattle.c_model.specs.State.{write_youngest, alone, frame, mark, back_to, restored, within}
-use Rattle.c_model.specs.Logic.{TermValue, Mathematical, Answer, Says, SaysNothing, OutOfSteps, lazily, related, term, chain, clause, judged, check, checks}
-use Rattle.c_model.specs.Meaning.{Tables, literal, Callee, is_zero, choose, truth_value, size_value, converted, is_of_library, named, is_member, address, is_array, pointed_to, member, assigned, compound, bump_operator, bump_value, eval_with}
+use Rattle.c_model.specs.Integers.{truth}
+use Rattle.c_model.specs.Layouts.{Scalar, scalar_of}
+use Rattle.c_model.specs.Memory.{Pointer, Value, Integer, Points, NoValue, Byte, Store, shifted}
+use Rattle.c_model.specs.State.{Scope, Input, State, Breaks, Continues, Returns, End, Leaves, Over, Undefined, Fault, Outcome, Normal, Stop, Evaluation}
+use Rattle.c_model.specs.State.{on_outcome, ◌>>=◌, ◌>>◌, give, done, stop, defined, computed, as_scalar, step_from, step, find, object, read, read_any, write, write_bytes, copy_object, tested, birth, births}
+use Rattle.c_model.specs.State.{write_youngest, alone, frame, mark, restored, within}
+use Rattle.c_model.specs.Logic.{checks}
+use Rattle.c_model.specs.Meaning.{Tables, literal, Callee, is_zero, choose, truth_value, size_value, converted, is_of_library, named, address, is_array, pointed_to, member, assigned, compound, bump_operator, bump_value, eval_with}
 use Rattle.c_model.specs.Meaning.{place_with}
 use Rattle.c_model.specs.Meaning.{evals_with, after_body, turns, do_turns, declared_in, declared_first, zero_scalars, zero_parts, string_in, write_each, fill_one, parts_or_itself, fill, fill_parts, initialise, initialise_all, condition_with}
-use Rattle.c_model.specs.Meaning.{effect_with, exec_with, else_with, first_with, item_with, items_with, parameters, body_with, put_char, get_char, exit_with, library_call, at_close, returned_by, call_with, call_of, tables_of, global_scope}
+use Rattle.c_model.specs.Meaning.{effect_with, exec_with, else_with, first_with, item_with, items_with, parameters, body_with, at_close, returned_by, call_with, call_of, tables_of, global_scope}
 use Rattle.c_model.specs.Meaning.{definition_at, main_with, function_named, whole, exec, condition, start, ran, run}
-use Rattle.c_model.specs.Laws.{AreWhole}
-use Rattle.c_model.proofs.Blocks.{whole-saved_bytes, whole-copied_all, whole-append, whole-new_block, whole-kill_from}
-use Rattle.c_model.proofs.Cells.{length-bytes_from}
 use Rattle.c_model.specs.Laws.{for_turns}
 use Rattle.c_model.specs.Steps.{steps_after, Fit, CalleesFit}
 use Rattle.c_model.proofs.Along.{Along, along_exec, along_call_of, along_whole, Fewer, steps_last, state_after, defined_along, along_computed, along_object, along_named, along_read_any, along_write, along_write_bytes, along_write_youngest}

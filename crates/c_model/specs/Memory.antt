@@ -1,5 +1,5 @@
 -- Memory: numbered blocks of bytes (C99 6.2.4, 6.2.6), with what an access reads and writes.
-use Rattle.std.specs.Prelude.{ℕ, zero, suc, ◌+◌, ◌-◌, ◌*◌, ◌/◌, ◌%◌, ℤ, pos, negsuc, ◌+ℤ◌, ◌-ℤ◌, Bool, true, false, not, ◌&&◌, if◌then◌else◌}
+use Rattle.std.specs.Prelude.{ℕ, zero, suc, ◌+◌, ◌*◌, ◌/◌, ◌%◌, ℤ, pos, negsuc, ◌+ℤ◌, ◌-ℤ◌, Bool, true, false, not, ◌&&◌, if◌then◌else◌}
 use Rattle.std.specs.Prelude.{nat_eq, nat_le, nat_lt, List, [], ◌∷◌, ◌++◌, length, take, drop, replicate, map, Option, Some, None, option_map}
 use Rattle.std.specs.Prelude.{slice_get, slice_set}
 use Rattle.c_syntax.specs.declared.types.BlockKind.{BlockKind}

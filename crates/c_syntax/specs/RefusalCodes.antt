@@ -29,6 +29,10 @@ type_code = 6
 abbrev pub limit_code : ℕ
 limit_code = 11
 
+-- globals that take more than their segment
+abbrev pub globals_code : ℕ
+globals_code = 12
+
 -- no `main`, or one of another form
 abbrev pub main_code : ℕ
 main_code = 13

@@ -21,5 +21,8 @@ pub const TYPE: u8 = 6;
 /// A limit that is passed.
 pub const LIMIT: u8 = 11;
 
+/// Globals that take more than their segment.
+pub const GLOBALS: u8 = 12;
+
 /// No `main`, or one of another form.
 pub const MAIN: u8 = 13;

@@ -1,6 +1,6 @@
 //! Copies of types, and of the expressions that stand in them.
 
-ghost use Rattle.std.specs.Prelude.{◌≡◌, IfOk};
+ghost use Rattle.std.specs.Prelude.{◌≡◌, IfOk, Ok};
 ghost use Rattle.c_syntax.specs.Expressions.{plain_expr, plain_exprs, plain_kind, plain_length, plain_type};
 
 use crate::expression::{Expr, ExprKind};
@@ -70,6 +70,19 @@ fn copy_all(alloc: Global, list: &[Expr]) -> Result<Vec<Expr>, AllocError>
     Ok(copies)
 }
 
+/// Both values, where both were made.
+fn both<A: Drop, B: Drop>(
+    a: Result<A, AllocError>,
+    b: Result<B, AllocError>,
+) -> Result<(A, B), AllocError>
+    ensures first { IfOk result (λ made. a ≡ Ok made.0) }
+    ensures second { IfOk result (λ made. b ≡ Ok made.1) }
+{
+    let a = a?;
+    let b = b?;
+    Ok((a, b))
+}
+
 fn boxed(alloc: Global, kind: ExprKind) -> Result<Box<ExprKind>, AllocError>
     ensures { IfOk result (λ b. b.value ≡ kind) }
 {
@@ -90,29 +103,24 @@ fn copy_kind(alloc: Global, kind: &ExprKind) -> Result<Box<ExprKind>, AllocError
             boxed(alloc, ExprKind::Unary(*op, a))
         }
         ExprKind::Binary(op, a, b) => {
-            let a = copy_expr(alloc, a)?;
-            let b = copy_expr(alloc, b)?;
+            let (a, b) = both(copy_expr(alloc, a), copy_expr(alloc, b))?;
             boxed(alloc, ExprKind::Binary(*op, a, b))
         }
         ExprKind::Both(a, b) => {
-            let a = copy_expr(alloc, a)?;
-            let b = copy_expr(alloc, b)?;
+            let (a, b) = both(copy_expr(alloc, a), copy_expr(alloc, b))?;
             boxed(alloc, ExprKind::Both(a, b))
         }
         ExprKind::Either(a, b) => {
-            let a = copy_expr(alloc, a)?;
-            let b = copy_expr(alloc, b)?;
+            let (a, b) = both(copy_expr(alloc, a), copy_expr(alloc, b))?;
             boxed(alloc, ExprKind::Either(a, b))
         }
         ExprKind::Choice(a, b, c) => {
-            let c = copy_expr(alloc, c)?;
-            let a = copy_expr(alloc, a)?;
-            let b = copy_expr(alloc, b)?;
+            let operands = both(copy_expr(alloc, a), copy_expr(alloc, b));
+            let ((a, b), c) = both(operands, copy_expr(alloc, c))?;
             boxed(alloc, ExprKind::Choice(a, b, c))
         }
         ExprKind::Assign(op, a, b) => {
-            let a = copy_expr(alloc, a)?;
-            let b = copy_expr(alloc, b)?;
+            let (a, b) = both(copy_expr(alloc, a), copy_expr(alloc, b))?;
             boxed(alloc, ExprKind::Assign(*op, a, b))
         }
         ExprKind::Bump(op, a) => {
@@ -124,8 +132,7 @@ fn copy_kind(alloc: Global, kind: &ExprKind) -> Result<Box<ExprKind>, AllocError
             boxed(alloc, ExprKind::Call(*f, args))
         }
         ExprKind::Cast(t, a) => {
-            let a = copy_expr(alloc, a)?;
-            let t = copy_type(alloc, t)?;
+            let (t, a) = both(copy_type(alloc, t), copy_expr(alloc, a))?;
             boxed(alloc, ExprKind::Cast(t, a))
         }
         ExprKind::SizeOfType(t) => {
@@ -137,8 +144,7 @@ fn copy_kind(alloc: Global, kind: &ExprKind) -> Result<Box<ExprKind>, AllocError
             boxed(alloc, ExprKind::SizeOfExpr(a))
         }
         ExprKind::Index(a, b) => {
-            let a = copy_expr(alloc, a)?;
-            let b = copy_expr(alloc, b)?;
+            let (a, b) = both(copy_expr(alloc, a), copy_expr(alloc, b))?;
             boxed(alloc, ExprKind::Index(a, b))
         }
         ExprKind::Dot(a, m) => {
@@ -150,8 +156,7 @@ fn copy_kind(alloc: Global, kind: &ExprKind) -> Result<Box<ExprKind>, AllocError
             boxed(alloc, ExprKind::Arrow(a, *m))
         }
         ExprKind::Comma(a, b) => {
-            let a = copy_expr(alloc, a)?;
-            let b = copy_expr(alloc, b)?;
+            let (a, b) = both(copy_expr(alloc, a), copy_expr(alloc, b))?;
             boxed(alloc, ExprKind::Comma(a, b))
         }
     }

@@ -33,9 +33,9 @@ pub fn put(kind: &mut ExprKind, by: ExprKind)
 fn cast_around(alloc: Global, ctype: &CType, e: &mut Expr) -> Result<(), AllocError>
     ensures { OnOk result (plain_expr e.new ≡ Node (place_of (plain_expr e.old)) (plain_type ctype.now) (Cast (plain_type ctype.now) (plain_expr e.old))) }
 {
+    let kind = Box::new(alloc, ExprKind::Letter(0))?;
     let to = copy_type(alloc, ctype)?;
     let ctype = copy_type(alloc, ctype)?;
-    let kind = Box::new(alloc, ExprKind::Letter(0))?;
     let place = e.place;
     let operand = replace(e, Expr { place, kind, ctype });
     put(&mut e.kind, ExprKind::Cast(to, operand));
