@@ -14,7 +14,7 @@ use crate::expression::{
 };
 use crate::kinds::{LEFT_PAREN, NAME};
 use crate::tables::{ASSIGNMENTS, POSTFIX_BUMPS, PREFIX_BUMPS};
-use crate::terminals::{name, next_is, next_is_marked};
+use crate::terminals::{kept, name, next_is, next_is_marked};
 use c_model::operands::{Form, TypeUse};
 use c_model::vocabulary::Word;
 use c_syntax::fault::ReadFault;
@@ -50,8 +50,8 @@ fn assigned<'a>(
     ensures read { Gives (λ x. (plain_expr x.0, plain_list x.1.now)) result ((assigned words.now (plain_expr left)).parse (plain_list tokens.now)) }
     ensures shorter { IfOk result (λ x. length x.1.now < length tokens.now) }
 {
-    let (op, place, rest) = marked(ASSIGNMENTS, tokens)?;
-    let (right, rest) = assigned_value(alloc, words, op, rest)?;
+    let (left, (op, place, rest)) = kept(left, marked(ASSIGNMENTS, tokens))?;
+    let (left, (right, rest)) = kept(left, assigned_value(alloc, words, op, rest))?;
     with_expression(alloc, place, ExprKind::Assign(op, left, right), rest)
 }
 

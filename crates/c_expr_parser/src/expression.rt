@@ -12,7 +12,9 @@ ghost use Rattle.token_reader.specs.Reading.{Gives, TakesNoMemory, plain_list};
 
 use crate::kinds::{COLON, LEFT_PAREN, NAME, NUMBER, QUESTION, RIGHT_PAREN, SIZEOF};
 use crate::tables::{LEVELS, UNARY, operators_at};
-use crate::terminals::{letter, name, next_begins_type, next_is, next_is_marked, number, skip};
+use crate::terminals::{
+    kept, letter, name, next_begins_type, next_is, next_is_marked, number, skip,
+};
 use crate::types::type_of;
 use c_model::operands::{Connective, Form, TypeUse};
 use c_model::vocabulary::Word;
@@ -124,7 +126,7 @@ fn sized_type<'a>(
     ensures shorter { IfOk result (λ x. length x.1.now < length tokens.now) }
 {
     let (t, rest) = type_of(words, tokens)?;
-    let (_, rest) = skip(words, RIGHT_PAREN, rest)?;
+    let (t, (_, rest)) = kept(t, skip(words, RIGHT_PAREN, rest))?;
     with_operand(alloc, place, ExprKind::SizeOfType(t), Form::TypeName, rest)
 }
 
@@ -142,8 +144,8 @@ fn cast_rest<'a>(
     ensures shorter { IfOk result (λ x. length x.1.now < length tokens.now) }
 {
     let (t, rest) = type_of(words, tokens)?;
-    let (_, rest) = skip(words, RIGHT_PAREN, rest)?;
-    let (x, rest) = operand(alloc, words, TypeUse::Casts, rest)?;
+    let (t, (_, rest)) = kept(t, skip(words, RIGHT_PAREN, rest))?;
+    let (t, (x, rest)) = kept(t, operand(alloc, words, TypeUse::Casts, rest))?;
     with_operand(
         alloc,
         place,
@@ -167,7 +169,7 @@ fn paren_rest<'a>(
     ensures shorter { IfOk result (λ x. length x.1.now < length tokens.now) }
 {
     let (inner, rest) = expression(alloc, words, tokens)?;
-    let (_, rest) = skip(words, RIGHT_PAREN, rest)?;
+    let (inner, (_, rest)) = kept(inner, skip(words, RIGHT_PAREN, rest))?;
     let x = ReadOperand {
         expression: inner,
         form: Form::Primary,
@@ -373,8 +375,8 @@ fn joined_once<'a>(
         ((joined_once words.now level (right_operand words.now level) (plain_expr left)).parse (plain_list tokens.now)) }
     ensures shorter { IfOk result (λ x. length x.1.now < length tokens.now) }
 {
-    let (connective, place, rest) = operator(level, tokens)?;
-    let (right, rest) = right_operand(alloc, words, level, rest)?;
+    let (left, (connective, place, rest)) = kept(left, operator(level, tokens))?;
+    let (left, (right, rest)) = kept(left, right_operand(alloc, words, level, rest))?;
     with_expression(alloc, place, joined(connective, left, right), rest)
 }
 
@@ -437,10 +439,10 @@ fn choice_rest<'a>(
         (plain_list tokens.now)) }
     ensures shorter { IfOk result (λ x. length x.1.now < length tokens.now) }
 {
-    let (place, rest) = skip(words, QUESTION, tokens)?;
-    let (first, rest) = expression(alloc, words, rest)?;
-    let (_, rest) = skip(words, COLON, rest)?;
-    let (second, rest) = expression(alloc, words, rest)?;
+    let (condition, (place, rest)) = kept(condition, skip(words, QUESTION, tokens))?;
+    let (condition, (first, rest)) = kept(condition, expression(alloc, words, rest))?;
+    let (operands, (_, rest)) = kept((condition, first), skip(words, COLON, rest))?;
+    let ((condition, first), (second, rest)) = kept(operands, expression(alloc, words, rest))?;
     with_expression(
         alloc,
         place,

@@ -1,6 +1,6 @@
 //! Single tokens, and tests of the next one.
 
-ghost use Rattle.std.specs.Prelude.{◌≡◌, ◌<◌, length, IfOk, IfErr, [], ◌∷◌};
+ghost use Rattle.std.specs.Prelude.{◌≡◌, ◌<◌, length, IfOk, IfErr, Ok, Err, [], ◌∷◌};
 ghost use Rattle.grammar.specs.Syntax.{among, sees, one};
 ghost use Rattle.c_model.specs.ExpressionGrammar.{kind, first_type, first_expression, fixed, name, number_of, letter_of, kinds_of};
 ghost use Rattle.c_model.specs.Terminals.{placed};
@@ -14,6 +14,18 @@ use c_model::vocabulary::Word;
 use c_syntax::fault::ReadFault;
 use c_syntax::{CInt, Place, Token, TokenKind};
 use token_reader::terminals::left;
+
+/// What was read before, with what was read after it.
+pub fn kept<A: Drop, B>(before: A, after: Result<B, ReadFault>) -> Result<(A, B), ReadFault>
+    ensures before { IfOk result (λ x. x.0 ≡ before) }
+    ensures after { IfOk result (λ x. after ≡ Ok x.1) }
+    ensures fault { IfErr result (λ e. after ≡ Err e) }
+{
+    match after {
+        Ok(after) => Ok((before, after)),
+        Err(fault) => Err(fault),
+    }
+}
 
 pub fn next_is(words: &[Word], wanted: u32, tokens: &[Token]) -> bool
     ensures { result ≡ sees (kind words.now) (wanted ∷ []) (plain_list tokens.now) }

@@ -84,11 +84,18 @@ pub fn type_behind<'a>(
 {
     match start {
         TypeStart::Const => type_of(words, tokens),
-        TypeStart::Void => Ok((CType::Void, consts(words, tokens)?)),
-        TypeStart::Name(t) => Ok((CType::Int(t), consts(words, tokens)?)),
+        TypeStart::Void => {
+            let rest = consts(words, tokens)?;
+            Ok((CType::Void, rest))
+        }
+        TypeStart::Name(t) => {
+            let rest = consts(words, tokens)?;
+            Ok((CType::Int(t), rest))
+        }
         TypeStart::Integer(x) => {
             let (all, rest) = more_words(words, x, tokens)?;
-            Ok((CType::Int(integer_type(all)), consts(words, rest)?))
+            let rest = consts(words, rest)?;
+            Ok((CType::Int(integer_type(all)), rest))
         }
     }
 }

@@ -14,7 +14,7 @@ use c_expr_parser::full::{MOST, behind, passed, resumed, window};
 use c_expr_parser::kinds::{
     ANNOT_CLOSE, ANNOT_OPEN, LEFT_PAREN, LETTER, NAME, NUMBER, RIGHT_PAREN, SEMICOLON,
 };
-use c_expr_parser::terminals::{letter, next_is, next_is_marked, skip};
+use c_expr_parser::terminals::{kept, letter, next_is, next_is_marked, skip};
 use c_model::punctuator;
 use c_model::vocabulary::Word;
 use c_syntax::fault::ReadFault;
@@ -134,8 +134,8 @@ fn sum_once<'a>(
         (plain_list tokens.now)) }
     ensures shorter { IfOk result (λ x. length x.1.now < length tokens.now) }
 {
-    let (op, place, rest) = marked(SUM_OPERATORS, tokens)?;
-    let (right, rest) = atom(alloc, words, rest)?;
+    let (left, (op, place, rest)) = kept(left, marked(SUM_OPERATORS, tokens))?;
+    let (left, (right, rest)) = kept(left, atom(alloc, words, rest))?;
     with_term(alloc, place, TermKind::Binary(op, left, right), rest)
 }
 
@@ -214,9 +214,9 @@ fn assert_rest<'a>(
         (plain_list tokens.now)) }
     ensures shorter { IfOk result (λ x. length x.1.now < length tokens.now) }
 {
-    let (relation, at, rest) = marked(RELATIONS, tokens)?;
-    let (right, rest) = sum(alloc, words, rest)?;
-    let (_, rest) = skip(words, SEMICOLON, rest)?;
+    let (left, (relation, at, rest)) = kept(left, marked(RELATIONS, tokens))?;
+    let (left, (right, rest)) = kept(left, sum(alloc, words, rest))?;
+    let ((left, right), (_, rest)) = kept((left, right), skip(words, SEMICOLON, rest))?;
     let link = Link {
         place: at,
         relation,
@@ -287,7 +287,7 @@ pub fn annotation<'a>(
     }
     let (_, rest) = skip(words, ANNOT_OPEN, tokens)?;
     let (clause, rest) = full_clause(alloc, words, counts.annotation, rest)?;
-    let (_, rest) = skip(words, ANNOT_CLOSE, rest)?;
+    let (clause, (_, rest)) = kept(clause, skip(words, ANNOT_CLOSE, rest))?;
     let counts = Counts {
         annotation: counts.annotation + 1,
         declarators: counts.declarators,

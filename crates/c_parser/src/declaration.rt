@@ -11,7 +11,7 @@ ghost use Rattle.c_parser.specs.Reading.{plain_counts, more_declarators};
 use crate::counts::Counts;
 use c_expr_parser::full::full_expression_or_call;
 use c_expr_parser::kinds::{ASSIGN, COMMA, SEMICOLON};
-use c_expr_parser::terminals::{name, next_is, skip};
+use c_expr_parser::terminals::{kept, name, next_is, skip};
 use c_expr_parser::types::type_of;
 use c_model::vocabulary::Word;
 use c_syntax::copy::copy_type;
@@ -133,8 +133,11 @@ pub fn declaration<'a>(
         ((declaration words.now (plain_counts counts)).parse (plain_list tokens.now)) }
 {
     let (ctype, rest) = type_of(words, tokens)?;
-    let (first, counts, rest) = declarator(alloc, words, &ctype, Vec::new(alloc), counts, rest)?;
-    let (all, counts, rest) = more_declarators(alloc, words, &ctype, first, counts, rest)?;
-    let (_, rest) = skip(words, SEMICOLON, rest)?;
+    let first = declarator(alloc, words, &ctype, Vec::new(alloc), counts, rest);
+    let (ctype, (first, counts, rest)) = kept(ctype, first)?;
+    let all = more_declarators(alloc, words, &ctype, first, counts, rest);
+    drop(ctype);
+    let (all, counts, rest) = all?;
+    let (all, (_, rest)) = kept(all, skip(words, SEMICOLON, rest))?;
     Ok((Item::Declare(all), counts, rest))
 }

@@ -14,7 +14,7 @@ use c_expr_parser::full::{
     full_effect, full_effect_or_call, full_expression, full_expression_or_call,
 };
 use c_expr_parser::kinds::{FOR, LEFT_PAREN, RIGHT_PAREN, SEMICOLON};
-use c_expr_parser::terminals::{next_begins_expression, next_begins_type, skip};
+use c_expr_parser::terminals::{kept, next_begins_expression, next_begins_type, skip};
 use c_model::vocabulary::Word;
 use c_syntax::fault::ReadFault;
 use c_syntax::{Expr, Item, Place, Stmt, StmtKind, Token};
@@ -176,8 +176,11 @@ pub fn for_heading<'a>(
     let (place, rest) = skip(words, FOR, tokens)?;
     let (_, rest) = skip(words, LEFT_PAREN, rest)?;
     let (first, counts, rest) = for_first(alloc, words, counts, rest)?;
-    let (condition, rest) = maybe_ended(alloc, words, rest)?;
-    let (step, rest) = for_behind(alloc, words, rest)?;
+    let (first, (condition, rest)) = kept(first, maybe_ended(alloc, words, rest))?;
+    let ((first, condition), (step, rest)) = kept(
+        (first, condition),
+        for_behind(alloc, words, rest),
+    )?;
     let heading = ForHeading {
         place,
         first,

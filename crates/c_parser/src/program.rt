@@ -13,7 +13,7 @@ use crate::parameter::parameters;
 use crate::statement::{items, make_block};
 use crate::terminals::{next_begins_function, next_is_storage};
 use c_expr_parser::kinds::{CONST, LEFT_BRACE, LEFT_PAREN, RIGHT_BRACE, SEMICOLON, STATIC};
-use c_expr_parser::terminals::{name, next_is, skip};
+use c_expr_parser::terminals::{kept, name, next_is, skip};
 use c_expr_parser::types::{base, consts};
 use c_model::vocabulary::Word;
 use c_syntax::fault::ReadFault;
@@ -167,9 +167,9 @@ fn function<'a>(
     ensures { Gives (λ x. ((plain_func x.0, x.1), plain_list x.2.now)) result ((function words.now number).parse (plain_list tokens.now)) }
 {
     let (result, rest) = result_type(words, tokens)?;
-    let (name, place, rest) = name(words, rest)?;
-    let (_, rest) = skip(words, LEFT_PAREN, rest)?;
-    let (params, rest) = parameters(alloc, words, rest)?;
+    let (result, (name, place, rest)) = kept(result, name(words, rest))?;
+    let (result, (_, rest)) = kept(result, skip(words, LEFT_PAREN, rest))?;
+    let (result, (params, rest)) = kept(result, parameters(alloc, words, rest))?;
     let heading = Heading {
         result,
         name,

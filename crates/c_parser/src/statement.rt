@@ -20,7 +20,7 @@ use c_expr_parser::kinds::{
     ANNOT_OPEN, BREAK, CONTINUE, DO, ELSE, FOR, IF, LEFT_BRACE, RETURN, RIGHT_BRACE, SEMICOLON,
     WHILE,
 };
-use c_expr_parser::terminals::{next_begins_type, next_is, skip};
+use c_expr_parser::terminals::{kept, next_begins_type, next_is, skip};
 use c_model::vocabulary::Word;
 use c_syntax::fault::{Limit, ReadFault};
 use c_syntax::{Expr, Item, Place, Stmt, StmtKind, Token};
@@ -155,8 +155,11 @@ fn else_branch<'a>(
     ensures { Gives (λ x. ((plain_stmt x.0, plain_counts x.1), plain_list x.2.now)) result
         ((else_branch words.now (statement_in words.now levels) place (plain_expr e) (plain_stmt then, plain_counts counts)).parse (plain_list tokens.now)) }
 {
-    let (_, rest) = skip(words, ELSE, tokens)?;
-    let (otherwise, counts, rest) = statement(alloc, words, levels, counts, rest)?;
+    let (parts, (_, rest)) = kept((e, then), skip(words, ELSE, tokens))?;
+    let ((e, then), (otherwise, counts, rest)) = kept(
+        parts,
+        statement(alloc, words, levels, counts, rest),
+    )?;
     let kind = StmtKind::If(e, then, Some(otherwise));
     with_statement(alloc, place, kind, counts, rest)
 }
@@ -202,7 +205,7 @@ fn selection<'a>(
 {
     let (place, rest) = skip(words, IF, tokens)?;
     let (e, rest) = condition(alloc, words, rest)?;
-    let (then, counts, rest) = statement(alloc, words, levels, counts, rest)?;
+    let (e, (then, counts, rest)) = kept(e, statement(alloc, words, levels, counts, rest))?;
     else_part(alloc, words, levels, place, e, then, counts, rest)
 }
 
@@ -222,7 +225,7 @@ fn while_loop<'a>(
 {
     let (place, rest) = skip(words, WHILE, tokens)?;
     let (e, rest) = condition(alloc, words, rest)?;
-    let (body, counts, rest) = statement(alloc, words, levels, counts, rest)?;
+    let (e, (body, counts, rest)) = kept(e, statement(alloc, words, levels, counts, rest))?;
     let kind = StmtKind::While(Vec::new(alloc), e, body);
     with_statement(alloc, place, kind, counts, rest)
 }
@@ -281,7 +284,10 @@ fn for_loop<'a>(
         ((for_loop words.now (statement_in words.now levels) (plain_counts counts)).parse (plain_list tokens.now)) }
 {
     let (heading, counts, rest) = for_heading(alloc, words, counts, tokens)?;
-    let (body, counts, rest) = statement(alloc, words, levels, counts, rest)?;
+    let (heading, (body, counts, rest)) = kept(
+        heading,
+        statement(alloc, words, levels, counts, rest),
+    )?;
     let place = heading.place;
     with_statement(alloc, place, for_kind(alloc, heading, body), counts, rest)
 }
