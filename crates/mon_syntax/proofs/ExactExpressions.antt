@@ -5,12 +5,12 @@ use Rattle.grammar.proofs.Parts.{none_exact, widen}
 use Rattle.grammar.proofs.Productions.{seq, either, again_and_again, declared, given, same, too_deep}
 use Rattle.c_syntax.specs.declared.place.Place.{Place}
 use Rattle.c_syntax.specs.Tokens.{PlainToken}
-use Rattle.c_model.specs.Punctuators.{minus, tilde, comma, left_paren, right_paren}
+use Rattle.c_model.specs.Punctuators.{minus, tilde, times, comma, left_paren, right_paren}
 use Rattle.c_model.specs.Terminals.{expression_limit}
 use Rattle.mon_syntax.specs.Parsed.{NameUse, ParsedExpression, ParsedArgument}
 use Rattle.mon_syntax.specs.Grammar.{Vocabulary, name_kind, type_kind, constant_kind, number_kind, text_kind, mark_kind, kind, first_operator, first_expression, first_argument, mark, name, signed_number}
-use Rattle.mon_syntax.specs.Grammar.{constant, other_expression, expression_with, second_operand, negation, complement, cast, behind_two, plain_operand, behind_paren, opened, behind_opened, expression_in, expression, expression_but_name, argument}
-use Rattle.mon_syntax.specs.Grammar.{next_argument, some_arguments, arguments, call_of}
+use Rattle.mon_syntax.specs.Grammar.{constant, other_expression, expression_with, second_operand, negation, complement, cast, pointed_type, load, behind_two, plain_operand, behind_paren, opened, behind_opened, expression_in, expression}
+use Rattle.mon_syntax.specs.Grammar.{expression_but_name, argument, next_argument, some_arguments, arguments, call_of}
 use Rattle.mon_syntax.proofs.ExactTokens.{IsRead, fixed_good, name_good, number_good, text_good, type_good, constant_word_good, operator_good}
 
 -- what begins a parenthesis
@@ -19,7 +19,7 @@ paren = mark_kind left_paren ∷ []
 
 -- what can stand after one
 abbrev pub first_behind : List ℕ
-first_behind = mark_kind minus ∷ mark_kind tilde ∷ first_expression
+first_behind = mark_kind minus ∷ mark_kind tilde ∷ mark_kind times ∷ first_expression
 
 module _ (ws : Vocabulary) where
   -- where nothing is read
@@ -33,6 +33,10 @@ module _ (ws : Vocabulary) where
   signed_good : IsRead ws (signed_number ws) false (mark_kind minus ∷ number_kind ∷ []) []
   unfolding signed_number
   signed_good = declared (either (mark_kind minus ∷ []) (seq (fixed_good ws (mark_kind minus)) (λ _. seq (number_good ws) (λ z. given _) refl) refl) (seq (number_good ws) (λ z. given _) refl) refl) refl
+
+  pub pointed_good : IsRead ws (pointed_type ws) false (type_kind ∷ []) []
+  unfolding pointed_type
+  pointed_good = seq (type_good ws) (λ t. seq (fixed_good ws (mark_kind times)) (λ _. seq (fixed_good ws (mark_kind right_paren)) (λ _. given _) refl) refl) refl
 
   module _ {O : Syntax PlainToken Place} (o : IsRead ws O false paren []) where
     constant_good : IsRead ws (constant ws O) false (constant_kind ∷ []) []
@@ -69,6 +73,11 @@ module _ (ws : Vocabulary) where
     unfolding cast
     cast_good at = seq (type_good ws) (λ t. seq (fixed_good ws (mark_kind right_paren)) (λ _. seq e (λ x. seq (fixed_good ws (mark_kind right_paren)) (λ _. given _) refl) refl) refl) refl
 
+    load_good : {O : Syntax PlainToken Place} → IsRead ws O false paren [] → IsRead ws (load ws O E) false (mark_kind times ∷ []) []
+    unfolding load
+    load_good o =
+        seq (fixed_good ws (mark_kind times)) (λ at. seq o (λ _. seq pointed_good (λ t. seq e (λ x. seq (fixed_good ws (mark_kind right_paren)) (λ _. given _) refl) refl) refl) refl) refl
+
     behind_two_good : {B : Syntax PlainToken ParsedExpression} → IsRead ws B false first_behind [] → (at : Place) → IsRead ws (behind_two ws E B at) false (type_kind ∷ first_behind) []
     unfolding behind_two
     behind_two_good b at = declared (either (type_kind ∷ []) (cast_good at) (seq b (λ left. second_good left) refl) refl) refl
@@ -78,8 +87,9 @@ module _ (ws : Vocabulary) where
   behind_paren_good o b =
       declared (either (mark_kind minus ∷ []) (negation_good (with_good o b))
       (either (mark_kind tilde ∷ []) (complement_good (with_good o b))
+      (either (mark_kind times ∷ []) (load_good (with_good o b) o)
       (either paren (seq o (λ at. behind_two_good (with_good o b) b at) refl)
-      (seq (plain_operand_good o) (λ left. second_good (with_good o b) left) refl) refl) refl) refl) refl
+      (seq (plain_operand_good o) (λ left. second_good (with_good o b) left) refl) refl) refl) refl) refl) refl
 
   -- each token that is a parenthesis begins one
   opens : (t : PlainToken) → among (kind ws t) paren ≡ true → (mark ws left_paren).begun (t ∷ [])

@@ -7,14 +7,17 @@ use Rattle.grammar.proofs.Productions.{seq, either, again_and_again, declared, g
 use Rattle.c_syntax.specs.declared.place.Place.{Place}
 use Rattle.c_syntax.specs.Tokens as tokens
 use Rattle.c_syntax.specs.Tokens.{PlainTokenKind, PlainToken}
-use Rattle.c_model.specs.Punctuators.{assign, colon, semicolon, left_paren, right_paren, left_brace, right_brace}
+use Rattle.c_model.specs.Punctuators.{assign, times, comma, colon, semicolon, left_paren, right_paren, left_brace, right_brace}
 use Rattle.c_model.specs.Terminals.{placed, nesting_limit}
-use Rattle.mon_syntax.specs.Parsed.{NameUse, ParsedStatement, Loop}
-use Rattle.mon_syntax.specs.Grammar.{Vocabulary, name_kind, if_kind, else_kind, while_kind, goto_kind, return_kind, mark_kind, word_at, kind, first_expression}
+use Rattle.mon_syntax.specs.declared.tree.MonType.{MonType}
+use Rattle.mon_syntax.specs.Arithmetic.{byte_count, is_pointer}
+use Rattle.mon_syntax.specs.Parsed.{NameUse, ParsedStatement, Store, Loop}
+use Rattle.mon_syntax.specs.Grammar.{Vocabulary, name_kind, if_kind, else_kind, while_kind, goto_kind, return_kind, initialize_kind, initialize_pointer_kind, mark_kind, word_at, kind, first_expression}
 use Rattle.mon_syntax.specs.Grammar.{first_statement, parsed_list, LoopRead, has_step, behind_step, is_step_word, fixed, mark, name_of, name, InBody, ended, set_to_call, set_to_name, set_to, behind_name, one_more, statements, body, selection}
+use Rattle.mon_syntax.specs.Grammar.{marked_name, mark_end, number_mark, pointer_mark, store_mark, stored, store}
 use Rattle.mon_syntax.specs.Grammar.{one_more_in_loop, loop_end, iteration, labelled, jump, returned, return_statement, statement_with, statement_in}
-use Rattle.mon_syntax.proofs.ExactTokens.{IsRead, fixed_good, one_good}
-use Rattle.mon_syntax.proofs.ExactExpressions.{paren, none_good, named_good, expression_good, but_name_good, call_good}
+use Rattle.mon_syntax.proofs.ExactTokens.{IsRead, fixed_good, this_number_good, same_name_good}
+use Rattle.mon_syntax.proofs.ExactExpressions.{paren, none_good, named_good, pointed_good, expression_good, but_name_good, call_good}
 
 module _ (ws : Vocabulary) where
   pub ended_good : (a : ParsedStatement) → IsRead ws (ended ws a) false (mark_kind semicolon ∷ []) []
@@ -37,6 +40,41 @@ module _ (ws : Vocabulary) where
   unfolding behind_name
   behind_name_good no_step x =
       either (mark_kind assign ∷ []) (seq (fixed_good ws (mark_kind assign)) (λ at. set_to_good x at) refl) (seq (call_good ws (no_step && is_step_word (word_at ws x.number)) x) (λ c. ended_good _) refl) refl
+
+  marked_name_good : (x : NameUse) → IsRead ws (marked_name ws x) false paren []
+  unfolding marked_name
+  marked_name_good x = seq (fixed_good ws (mark_kind left_paren)) (λ _. seq (same_name_good ws x.number) (λ t. given _) refl) refl
+
+  mark_end_good : (a : ParsedStatement) → IsRead ws (mark_end ws a) false (mark_kind right_paren ∷ []) []
+  unfolding mark_end
+  mark_end_good a = seq (fixed_good ws (mark_kind right_paren)) (λ _. ended_good a) refl
+
+  number_mark_good : (size : ℕ) (x : NameUse) (a : ParsedStatement) → IsRead ws (number_mark ws size x a) false (initialize_kind ∷ []) []
+  unfolding number_mark
+  number_mark_good size x a =
+      seq (fixed_good ws initialize_kind) (λ _. seq (marked_name_good x) (λ _. seq (fixed_good ws (mark_kind comma)) (λ _. seq (this_number_good ws size) (λ _. mark_end_good a) refl) refl) refl) refl
+
+  pointer_mark_good : (x : NameUse) (a : ParsedStatement) → IsRead ws (pointer_mark ws x a) false (initialize_pointer_kind ∷ []) []
+  unfolding pointer_mark
+  pointer_mark_good x a = seq (fixed_good ws initialize_pointer_kind) (λ _. seq (marked_name_good x) (λ _. mark_end_good a) refl) refl
+
+  store_mark_good : (t : MonType) (x : NameUse) (a : ParsedStatement) → IsRead ws (store_mark ws t x a) false (initialize_kind ∷ initialize_pointer_kind ∷ []) []
+  unfolding store_mark
+  store_mark_good t x a = tested (is_pointer t)
+    where
+      tested : (b : Bool) → IsRead ws (cond b (pointer_mark ws x a) (number_mark ws (byte_count t) x a)) false (initialize_kind ∷ initialize_pointer_kind ∷ []) []
+      tested true = declared (pointer_mark_good x a) refl
+      tested false = declared (number_mark_good (byte_count t) x a) refl
+
+  stored_good : (t : MonType) (x : NameUse) → IsRead ws (stored ws t x) false (mark_kind assign ∷ []) []
+  unfolding stored
+  stored_good t x =
+      seq (fixed_good ws (mark_kind assign)) (λ at. seq (expression_good ws) (λ e. seq (fixed_good ws (mark_kind semicolon)) (λ _. store_mark_good t x (Store t x at e)) refl) refl) refl
+
+  store_good : IsRead ws (store ws) false (mark_kind times ∷ []) []
+  unfolding store
+  store_good =
+      seq (fixed_good ws (mark_kind times)) (λ _. seq (fixed_good ws (mark_kind left_paren)) (λ _. seq (pointed_good ws) (λ t. seq (named_good ws) (λ x. stored_good t x) refl) refl) refl) refl
 
   jump_good : IsRead ws (jump ws) false (goto_kind ∷ []) []
   unfolding jump
@@ -84,7 +122,7 @@ module _ (ws : Vocabulary) where
     iteration_good : IsRead ws (iteration ws S) false (while_kind ∷ []) []
     unfolding iteration
     iteration_good =
-        seq (fixed_good ws while_kind) (λ _. seq (fixed_good ws (mark_kind left_paren)) (λ _. seq (one_good ws) (λ _. seq (fixed_good ws (mark_kind right_paren)) (λ _.
+        seq (fixed_good ws while_kind) (λ _. seq (fixed_good ws (mark_kind left_paren)) (λ _. seq (this_number_good ws 1) (λ _. seq (fixed_good ws (mark_kind right_paren)) (λ _.
         seq (fixed_good ws (mark_kind left_brace)) (λ _. seq (again_and_again first_statement one_more_in_loop_good refl _) (λ x. loop_end_good x) refl) refl) refl) refl) refl) refl
 
     labelled_good : IsRead ws (labelled ws S) false (mark_kind left_brace ∷ []) []
@@ -95,10 +133,11 @@ module _ (ws : Vocabulary) where
     unfolding statement_with
     statement_with_good no_step =
         declared (either (name_kind ∷ []) (seq (named_good ws) (λ x. behind_name_good no_step x) refl)
+        (either (mark_kind times ∷ []) store_good
         (either (mark_kind left_brace ∷ []) labelled_good
         (either (if_kind ∷ []) selection_good
         (either (while_kind ∷ []) iteration_good
-        (either (goto_kind ∷ []) (jump_good) return_good refl) refl) refl) refl) refl) refl
+        (either (goto_kind ∷ []) (jump_good) return_good refl) refl) refl) refl) refl) refl) refl
 
   -- ---- each token that can begin a statement does
 
@@ -129,15 +168,16 @@ module _ (ws : Vocabulary) where
   none_left P h = absurd cc
 
   opens : (S : InBody ws) (no_step : Bool) (t : PlainToken) → among (kind ws t) first_statement ≡ true → (statement_with ws S no_step).begun (t ∷ [])
-  unfolding statement_with name labelled body selection iteration jump return_statement
+  unfolding statement_with name store labelled body selection iteration jump return_statement
   opens S no_step t =
       first_or _ (kind ws t) name_kind _ (λ h. inl (inl (inl (placed_begins t h))))
-      (first_or _ (kind ws t) (mark_kind left_brace) _ (λ h. inr (inl (inl (inl (fixed_begins (mark_kind left_brace) t h)))))
-      (first_or _ (kind ws t) if_kind _ (λ h. inr (inr (inl (inl (fixed_begins if_kind t h)))))
-      (first_or _ (kind ws t) while_kind _ (λ h. inr (inr (inr (inl (inl (fixed_begins while_kind t h))))))
-      (first_or _ (kind ws t) goto_kind _ (λ h. inr (inr (inr (inr (inl (inl (fixed_begins goto_kind t h)))))))
-      (first_or _ (kind ws t) return_kind _ (λ h. inr (inr (inr (inr (inr (inl (fixed_begins return_kind t h)))))))
-      (none_left _))))))
+      (first_or _ (kind ws t) (mark_kind times) _ (λ h. inr (inl (inl (fixed_begins (mark_kind times) t h))))
+      (first_or _ (kind ws t) (mark_kind left_brace) _ (λ h. inr (inr (inl (inl (inl (fixed_begins (mark_kind left_brace) t h))))))
+      (first_or _ (kind ws t) if_kind _ (λ h. inr (inr (inr (inl (inl (fixed_begins if_kind t h))))))
+      (first_or _ (kind ws t) while_kind _ (λ h. inr (inr (inr (inr (inl (inl (fixed_begins while_kind t h)))))))
+      (first_or _ (kind ws t) goto_kind _ (λ h. inr (inr (inr (inr (inr (inl (inl (fixed_begins goto_kind t h))))))))
+      (first_or _ (kind ws t) return_kind _ (λ h. inr (inr (inr (inr (inr (inr (inl (fixed_begins return_kind t h))))))))
+      (none_left _)))))))
 
   pub statement_good : (n : ℕ) (no_step : Bool) → IsRead ws (statement_in ws n no_step) false first_statement []
   unfolding statement_in

@@ -2,12 +2,12 @@
 use Rattle.std.proofs.Common.{true, false, List, [], ◌∷◌, Option, refl}
 use Rattle.grammar.specs.Exact.{IsExact}
 use Rattle.grammar.proofs.Productions.{seq, either, again_and_again, declared, given}
-use Rattle.c_model.specs.Punctuators.{comma, semicolon, left_paren, right_paren, left_brace, right_brace}
+use Rattle.c_model.specs.Punctuators.{assign, comma, semicolon, left_paren, right_paren, left_brace, right_brace, left_bracket, right_bracket}
 use Rattle.mon_syntax.specs.declared.tree.MonType.{MonType}
-use Rattle.mon_syntax.specs.Parsed.{NameUse, ParsedRegister, ParsedFunction}
-use Rattle.mon_syntax.specs.Grammar.{Vocabulary, type_kind, void_kind, head_kind, mark_kind, kind, first_function, register, registers, result, parameter, next_parameter}
-use Rattle.mon_syntax.specs.Grammar.{some_parameters, parameters, function_body, function, one_more_function, text}
-use Rattle.mon_syntax.proofs.ExactTokens.{IsRead, fixed_good, type_good, head_good}
+use Rattle.mon_syntax.specs.Parsed.{NameUse, ParsedRegister, ParsedFunction, ParsedGlobal}
+use Rattle.mon_syntax.specs.Grammar.{Vocabulary, type_kind, void_kind, static_kind, const_kind, char_kind, head_kind, mark_kind, kind, first_function, register, registers, result, parameter, next_parameter}
+use Rattle.mon_syntax.specs.Grammar.{some_parameters, parameters, function_body, function, one_more_function, functions, length_of_global, zeros, literal, global, one_more_global, globals, text}
+use Rattle.mon_syntax.proofs.ExactTokens.{IsRead, fixed_good, number_good, text_good, type_good, head_good}
 use Rattle.mon_syntax.proofs.ExactExpressions.{named_good}
 use Rattle.mon_syntax.proofs.ExactStatements.{statements_good, statement_good}
 
@@ -56,9 +56,41 @@ module _ (ws : Vocabulary) where
   unfolding one_more_function
   one_more_function_good fs = seq function_good (λ f. given _) refl
 
-  text_good : IsRead ws (text ws) false (head_kind ∷ []) first_function
-  unfolding text
-  text_good = declared (seq (head_good ws) (λ _. again_and_again first_function one_more_function_good refl []) refl) refl
+  functions_good : IsRead ws (functions ws) true first_function first_function
+  unfolding functions
+  functions_good = declared (again_and_again first_function one_more_function_good refl []) refl
 
-  pub text_exact : IsExact (kind ws) (text ws) false (head_kind ∷ []) (λ _. first_function)
-  text_exact = text_good.here
+  -- ---- globals
+
+  length_good : IsRead ws (length_of_global ws) false (mark_kind left_bracket ∷ []) []
+  unfolding length_of_global
+  length_good = seq (fixed_good ws (mark_kind left_bracket)) (λ _. seq (number_good ws) (λ n. seq (fixed_good ws (mark_kind right_bracket)) (λ _. given _) refl) refl) refl
+
+  zeros_good : IsRead ws (zeros ws) false (char_kind ∷ []) []
+  unfolding zeros
+  zeros_good = seq (fixed_good ws char_kind) (λ _. seq (named_good ws) (λ x. seq length_good (λ n. seq (fixed_good ws (mark_kind semicolon)) (λ _. given _) refl) refl) refl) refl
+
+  literal_good : IsRead ws (literal ws) false (const_kind ∷ []) []
+  unfolding literal
+  literal_good =
+      seq (fixed_good ws const_kind) (λ _. seq (fixed_good ws char_kind) (λ _. seq (named_good ws) (λ x. seq length_good (λ n. seq (fixed_good ws (mark_kind assign)) (λ _.
+      seq (text_good ws) (λ s. seq (fixed_good ws (mark_kind semicolon)) (λ _. given _) refl) refl) refl) refl) refl) refl) refl
+
+  global_good : IsRead ws (global ws) false (static_kind ∷ []) []
+  unfolding global
+  global_good = seq (fixed_good ws static_kind) (λ _. either (char_kind ∷ []) zeros_good literal_good refl) refl
+
+  pub one_more_global_good : (gs : List ParsedGlobal) → IsRead ws (one_more_global ws gs) false (static_kind ∷ []) []
+  unfolding one_more_global
+  one_more_global_good gs = seq global_good (λ g. given _) refl
+
+  globals_good : IsRead ws (globals ws) true (static_kind ∷ []) (static_kind ∷ [])
+  unfolding globals
+  globals_good = declared (again_and_again (static_kind ∷ []) one_more_global_good refl []) refl
+
+  whole_good : IsRead ws (text ws) false (head_kind ∷ []) (static_kind ∷ first_function)
+  unfolding text
+  whole_good = declared (seq (head_good ws) (λ _. seq globals_good (λ gs. seq functions_good (λ fs. given _) refl) refl) refl) refl
+
+  pub text_exact : IsExact (kind ws) (text ws) false (head_kind ∷ []) (λ _. static_kind ∷ first_function)
+  text_exact = whole_good.here

@@ -14,7 +14,7 @@ use Rattle.mon_syntax.specs.declared.tree.MonOp.{MonOp}
 use Rattle.mon_syntax.specs.declared.word.Word.{Word}
 use Rattle.mon_syntax.specs.declared.word.Word.TheVariants as word
 use Rattle.mon_syntax.specs.Grammar.{Vocabulary, name_kind, type_kind, constant_kind, number_kind, text_kind, head_kind, mark_kind, word_kind, word_at, token_kind, kind, number_of, text_of, type_of_word, type_of, constant_of_word}
-use Rattle.mon_syntax.specs.Grammar.{constant_of, operators, operator_of, kinds_of, first_operator, fixed, name_of, is_one, is_head}
+use Rattle.mon_syntax.specs.Grammar.{constant_of, operators, operator_of, kinds_of, first_operator, fixed, name_of, is_number, is_same_name, is_head}
 
 -- a production is read exactly, with these sets: where it can be empty, what begins it, and what a reading can go on with
 abbrev pub IsRead : {A : Type 0} → Vocabulary → Syntax PlainToken A → Bool → List ℕ → List ℕ → Type 0
@@ -104,12 +104,23 @@ module _ (ws : Vocabulary) where
   pub constant_word_good : IsRead ws (one (placed (constant_of ws))) false (constant_kind ∷ []) []
   constant_word_good = placed_good (constant_of ws) (constant_kind ∷ []) constant_among
 
-  one_among : (k : PlainTokenKind) (x : Unit {0}) → is_one k ≡ Some x → among (token_kind ws k) (number_kind ∷ []) ≡ true
-  one_among (tokens.Number z c) x e = refl
-  one_among _ x e = absurd cc
+  this_among : (n : ℕ) (k : PlainTokenKind) (x : Unit {0}) → is_number n k ≡ Some x → among (token_kind ws k) (number_kind ∷ []) ≡ true
+  this_among n (tokens.Number z c) x e = refl
+  this_among n _ x e = absurd cc
 
-  pub one_good : IsRead ws (one (placed is_one)) false (number_kind ∷ []) []
-  one_good = placed_good is_one (number_kind ∷ []) one_among
+  pub this_number_good : (n : ℕ) → IsRead ws (one (placed (is_number n))) false (number_kind ∷ []) []
+  this_number_good n = placed_good (is_number n) (number_kind ∷ []) (this_among n)
+
+  same_among : (n : ℕ) (k : PlainTokenKind) (x : Unit {0}) → is_same_name n k ≡ Some x → among (token_kind ws k) (word_kind (word_at ws n) ∷ []) ≡ true
+  same_among n (tokens.Word m) x e = tested (eqb m n) refl e
+    where
+      tested : (b : Bool) → eqb m n ≡ b → cond b (Some tt) None ≡ Some x → among (word_kind (word_at ws m)) (word_kind (word_at ws n) ∷ []) ≡ true
+      tested true is e = rw (eqb-true m n is, eq-eqb (word_kind (word_at ws n)) (word_kind (word_at ws n)) refl) refl
+      tested false is e = absurd cc
+  same_among n _ x e = absurd cc
+
+  pub same_name_good : (n : ℕ) → IsRead ws (one (placed (is_same_name n))) false (word_kind (word_at ws n) ∷ []) []
+  same_name_good n = placed_good (is_same_name n) (word_kind (word_at ws n) ∷ []) (same_among n)
 
   pub head_good : IsRead ws (one (is_head ws)) false (head_kind ∷ []) []
   head_good = token (is_head ws) (head_kind ∷ []) head_among

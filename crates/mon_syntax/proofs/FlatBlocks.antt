@@ -3,8 +3,8 @@ use Rattle.std.proofs.Common.{◌≡◌, ℕ, zero, suc, ◌+◌, ◌<◌, Bool,
 use Rattle.std.proofs.lemmas.Bool.{eqb-true}
 use Rattle.c_syntax.specs.declared.types.BlockKind.TheVariants.{Stack}
 use Rattle.c_model.specs.Memory.{Block, Store, new_block, rounded, stack_taken}
-use Rattle.mon_syntax.specs.Memories.{is_live_on_stack, youngest_from, youngest, is_index, dead_at, LiveBlock, taken_by}
-use Rattle.mon_syntax.specs.LiveBlocks.{noted, live_from, live_in}
+use Rattle.mon_syntax.specs.BlockMemory.{is_live_on_stack, youngest_from, youngest, is_index, dead_at}
+use Rattle.mon_syntax.specs.LiveBlocks.{LiveBlock, taken_by, noted, live_from, live_in}
 
 -- ---- room
 

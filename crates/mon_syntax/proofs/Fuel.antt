@@ -2,10 +2,11 @@
 use Rattle.std.proofs.Common.{◌≡◌, ℕ, zero, suc, ◌≤◌, ◌<◌, ℤ, pos, Bool, true, false, if◌then◌else◌, List, [], Option, Some, None, slice_get, bytes_eq, codes, refl, ap, ◌∙◌, arith}
 use Rattle.std.specs.Ordering.{int_eq}
 use Rattle.c_model.specs.State.{Input, Spent}
-use Rattle.mon_syntax.specs.Trees.{MonStatement, Set, Step, Assert, PutChar, GetChar, Exit, PrintText, PrintSigned, PrintUnsigned, Act, Call, If, Loop, Labelled, Goto, Return, MonStatements, NoStatement, Then, MonFunction, MonitoredProgram}
+use Rattle.mon_syntax.specs.Trees.{MonStatement, Set, Store, Step, Assert, PutChar, GetChar, Exit, PrintText, PrintSigned, PrintUnsigned, Act, Call, If, Loop, Labelled, Goto, Return, MonStatements, NoStatement, Then}
+use Rattle.mon_syntax.specs.Trees.{MonFunction, MonitoredProgram}
 use Rattle.mon_syntax.specs.Memory.{Memory, Reply, Gives, IsFull, Faults}
-use Rattle.mon_syntax.specs.Meaning.{State, Result, Done, Stops, Flow, Next, Goes, Returns, writes, then_do, at_next, at_label, with_value, choose, step_from, got, with_read, eval, eval_all, eval_number, replied, Calls, Does, turns, exec, exec_all}
-use Rattle.mon_syntax.specs.Meaning.{at_return, body_runs, level, exit_of, ran, function_named, run}
+use Rattle.mon_syntax.specs.Meaning.{State, Result, Done, Stops, Flow, Next, Goes, Returns, writes, then_do, at_next, at_label, with_value, choose, step_from, got, with_read, replied, Calls, Does, turns}
+use Rattle.mon_syntax.specs.Meaning.{at_return, exit_of, ran, function_named, eval, eval_all, eval_number, exec, exec_all, body_runs, level, run}
 use Rattle.mon_syntax.specs.Steps.{steps_after}
 
 -- ---- results
@@ -62,7 +63,8 @@ spent_fit : {Mem A : Type 0} (n : ℕ) (g : ℕ → Result (State Mem) A) → n 
 spent_fit zero g l = (refl, omega arith)
 spent_fit (suc n) g l = absurd (omega (arith, l))
 
-module _ (M : Memory) where
+-- over a memory, with the pointers to the starts of the globals
+module _ (M : Memory) (gs : List M.Val) where
   -- what two statements do from at most k steps, and what two calls do
   abbrev FitDoes : ℕ → Does M → Does M → Type 0
   FitDoes k f g = (regs : List M.Val) (s : State M.Mem) → s.steps ≤ k → Fit s.steps (f regs s) (g regs s)
@@ -125,60 +127,62 @@ module _ (M : Memory) where
   steps-replied Faults s = omega arith
 
   mutual
-    fit_exec : (a : MonStatement) (k m n : ℕ) (c d : Calls M) → k ≤ m → k ≤ n → CallsFit k c d → FitDoes k (exec M a c m) (exec M a d n)
-    fit_exec (Set x e) k m n c d lm ln h regs s l = fit_value (eval M e regs) s.steps _ _ (λ v. (refl, omega arith))
+    fit_exec : (a : MonStatement) (k m n : ℕ) (c d : Calls M) → k ≤ m → k ≤ n → CallsFit k c d → FitDoes k (exec M gs a c m) (exec M gs a d n)
+    fit_exec (Set x e) k m n c d lm ln h regs s l = fit_value (eval M gs e regs s.mem) s.steps _ _ (λ v. (refl, omega arith))
+    fit_exec (Store x t e) k m n c d lm ln h regs s l =
+        fit_value (slice_get regs x) s.steps _ _ (λ p. fit_value (eval M gs e regs s.mem) s.steps _ _ (λ v. fit_value (M.store t p v s.mem) s.steps _ _ (λ i. (refl, omega arith))))
     fit_exec Step k m n c d lm ln h regs s l = fit_step s.steps _ _ (λ j lj. (refl, omega arith))
     fit_exec (Assert e1 e2 number line kind) k m n c d lm ln h regs s l =
-        fit_value (eval_number M e1 regs) s.steps _ _ (λ i. fit_value (eval_number M e2 regs) s.steps _ _ (λ j.
+        fit_value (eval_number M gs e1 regs s.mem) s.steps _ _ (λ i. fit_value (eval_number M gs e2 regs s.mem) s.steps _ _ (λ j.
         fit_choose s.steps i _ _ _ _ (fit_choose s.steps j _ _ _ _ (refl, omega arith) (refl, omega arith)) (refl, omega arith)))
-    fit_exec (PutChar r e) k m n c d lm ln h regs s l = fit_value (eval_number M e regs) s.steps _ _ (λ i. (refl, omega arith))
+    fit_exec (PutChar r e) k m n c d lm ln h regs s l = fit_value (eval_number M gs e regs s.mem) s.steps _ _ (λ i. (refl, omega arith))
     fit_exec (GetChar r) k m n c d lm ln h regs s l = fit_read (got s.input.bytes s.input.tail) s.steps _ _ (λ z i. (refl, omega arith))
-    fit_exec (Exit e) k m n c d lm ln h regs s l = fit_value (eval_number M e regs) s.steps _ _ (λ i. (refl, omega arith))
+    fit_exec (Exit e) k m n c d lm ln h regs s l = fit_value (eval_number M gs e regs s.mem) s.steps _ _ (λ i. (refl, omega arith))
     fit_exec (PrintText bytes) k m n c d lm ln h regs s l = (refl, omega arith)
-    fit_exec (PrintSigned e) k m n c d lm ln h regs s l = fit_value (eval_number M e regs) s.steps _ _ (λ i. (refl, omega arith))
-    fit_exec (PrintUnsigned e) k m n c d lm ln h regs s l = fit_value (eval_number M e regs) s.steps _ _ (λ i. (refl, omega arith))
+    fit_exec (PrintSigned e) k m n c d lm ln h regs s l = fit_value (eval_number M gs e regs s.mem) s.steps _ _ (λ i. (refl, omega arith))
+    fit_exec (PrintUnsigned e) k m n c d lm ln h regs s l = fit_value (eval_number M gs e regs s.mem) s.steps _ _ (λ i. (refl, omega arith))
     fit_exec (Act r f args) k m n c d lm ln h regs s l =
-        fit_value (eval_all M args regs) s.steps _ _
+        fit_value (eval_all M gs args regs s.mem) s.steps _ _
         (λ vs. fit_behind s.steps (replied M (M.act f vs s.mem) s) _ _ (steps-replied (M.act f vs s.mem) s) (λ v t lt. (refl, omega arith)))
     fit_exec (Call r f args) k m n c d lm ln h regs s l =
-        fit_value (eval_all M args regs) s.steps _ _ (λ vs. fit_then s.steps _ _ _ _ (h f vs s l) (λ v t lt. (refl, omega arith)))
+        fit_value (eval_all M gs args regs s.mem) s.steps _ _ (λ vs. fit_then s.steps _ _ _ _ (h f vs s l) (λ v t lt. (refl, omega arith)))
     fit_exec (If e a b) k m n c d lm ln h regs s l =
-        fit_value (eval_number M e regs) s.steps _ _ (λ i. fit_choose s.steps i _ _ _ _ (fit_exec_all a k m n c d lm ln h regs s l) (fit_exec_all b k m n c d lm ln h regs s l))
+        fit_value (eval_number M gs e regs s.mem) s.steps _ _ (λ i. fit_choose s.steps i _ _ _ _ (fit_exec_all a k m n c d lm ln h regs s l) (fit_exec_all b k m n c d lm ln h regs s l))
     fit_exec (Loop a b) k m n c d lm ln h regs s l =
         fit_turns m n s.steps _ _ _ _ (omega (arith, lm, l)) (omega (arith, ln, l)) (does_less s.steps k _ _ l (fit_exec_all a k m n c d lm ln h)) (does_less s.steps k _ _ l (fit_exec_all b k m n c d lm ln h)) regs s (omega arith)
     fit_exec (Labelled a i) k m n c d lm ln h regs s l =
         fit_then s.steps _ _ _ _ (fit_exec_all a k m n c d lm ln h regs s l) (λ x t lt. fit_label i x t)
     fit_exec (Goto i) k m n c d lm ln h regs s l = (refl, omega arith)
     fit_exec (Return None) k m n c d lm ln h regs s l = (refl, omega arith)
-    fit_exec (Return (Some e)) k m n c d lm ln h regs s l = fit_value (eval M e regs) s.steps _ _ (λ v. (refl, omega arith))
+    fit_exec (Return (Some e)) k m n c d lm ln h regs s l = fit_value (eval M gs e regs s.mem) s.steps _ _ (λ v. (refl, omega arith))
 
-    fit_exec_all : (a : MonStatements) (k m n : ℕ) (c d : Calls M) → k ≤ m → k ≤ n → CallsFit k c d → FitDoes k (exec_all M a c m) (exec_all M a d n)
+    fit_exec_all : (a : MonStatements) (k m n : ℕ) (c d : Calls M) → k ≤ m → k ≤ n → CallsFit k c d → FitDoes k (exec_all M gs a c m) (exec_all M gs a d n)
     fit_exec_all NoStatement k m n c d lm ln h regs s l = (refl, omega arith)
     fit_exec_all (Then a rest) k m n c d lm ln h regs s l =
         fit_then s.steps _ _ _ _ (fit_exec a k m n c d lm ln h regs s l) (λ x t lt.
-        fit_next k (exec_all M rest c m) (exec_all M rest d n) (fit_exec_all rest k m n c d lm ln h) x t (omega (arith, l, lt)))
+        fit_next k (exec_all M gs rest c m) (exec_all M gs rest d n) (fit_exec_all rest k m n c d lm ln h) x t (omega (arith, l, lt)))
 
   -- ---- programs
 
-  fit_return : (a : Flow M.Val) (s : State M.Mem) → Fit s.steps (at_return M a s) (at_return M a s)
-  fit_return (Next r) s = (refl, omega arith)
-  fit_return (Goes i r) s = (refl, omega arith)
-  fit_return (Returns None) s = (refl, omega arith)
-  fit_return (Returns (Some v)) s = (refl, omega arith)
+  fit_return : (z : M.Val) (a : Flow M.Val) (s : State M.Mem) → Fit s.steps (at_return M z a s) (at_return M z a s)
+  fit_return z (Next r) s = (refl, omega arith)
+  fit_return z (Goes i r) s = (refl, omega arith)
+  fit_return z (Returns None) s = (refl, omega arith)
+  fit_return z (Returns (Some v)) s = (refl, omega arith)
 
-  fit_body : (o : Option MonFunction) (k m n : ℕ) (c d : Calls M) → k ≤ m → k ≤ n → CallsFit k c d → (args : List M.Val) (s : State M.Mem) → s.steps ≤ k → Fit s.steps (body_runs M o c m args s) (body_runs M o d n args s)
+  fit_body : (o : Option MonFunction) (k m n : ℕ) (c d : Calls M) → k ≤ m → k ≤ n → CallsFit k c d → (args : List M.Val) (s : State M.Mem) → s.steps ≤ k → Fit s.steps (body_runs M gs o c m args s) (body_runs M gs o d n args s)
   fit_body None k m n c d lm ln h args s l = (refl, omega arith)
   fit_body (Some f) k m n c d lm ln h args s l =
       fit_behind s.steps (replied M (M.enter s.mem) s) _ _ (steps-replied (M.enter s.mem) s) (λ v t lt.
-      fit_then t.steps _ _ _ _ (fit_exec_all f.body k m n c d lm ln h _ t (omega (arith, l, lt))) (λ x u lu. fit_return x u))
+      fit_then t.steps _ _ _ _ (fit_exec_all f.body k m n c d lm ln h _ t (omega (arith, l, lt))) (λ x u lu. fit_return _ x u))
 
-  fit_level : (fs : List MonFunction) (m n k : ℕ) → k ≤ m → k ≤ n → CallsFit k (level M fs m) (level M fs n)
+  fit_level : (fs : List MonFunction) (m n k : ℕ) → k ≤ m → k ≤ n → CallsFit k (level M gs fs m) (level M gs fs n)
   fit_level fs zero zero k lm ln f args s l = (refl, omega arith)
   fit_level fs zero (suc n) k lm ln f args s l = fit_spent s.steps _ (omega (arith, lm, l))
   fit_level fs (suc m) zero k lm ln f args s l = spent_fit s.steps _ (omega (arith, ln, l))
   fit_level fs (suc m) (suc n) k lm ln f args s l =
       fit_step s.steps _ _ (λ j lj.
-      fit_body (slice_get fs f) j m n (level M fs m) (level M fs n) (omega (arith, lm, l, lj)) (omega (arith, ln, l, lj)) (fit_level fs m n j (omega (arith, lm, l, lj)) (omega (arith, ln, l, lj))) args (record s { steps = j }) (omega arith))
+      fit_body (slice_get fs f) j m n (level M gs fs m) (level M gs fs n) (omega (arith, lm, l, lj)) (omega (arith, ln, l, lj)) (fit_level fs m n j (omega (arith, lm, l, lj)) (omega (arith, ln, l, lj))) args (record s { steps = j }) (omega arith))
 
   left-ran : (x : Result (State M.Mem) M.Val) → (ran M x).left ≡ steps_after x
   left-ran (Done v s o) = by (M.number_of v)
@@ -192,41 +196,44 @@ module _ (M : Memory) where
 
   abbrev main_at : MonitoredProgram → ℕ → M.Mem → Input → ℕ → Result (State M.Mem) M.Val
   main_at p k mem input n =
-      body_runs M (function_named M (codes "main") p.functions) (level M p.functions k) k [] (record { mem = mem; steps = n; input = input })
+      body_runs M gs (function_named (codes "main") p.functions) (level M gs p.functions k) k [] (record { mem = mem; steps = n; input = input })
 
   fit_main : (p : MonitoredProgram) (m k : ℕ) (mem : M.Mem) (input : Input) (n : ℕ) → n ≤ m → n ≤ k → Fit n (main_at p m mem input n) (main_at p k mem input n)
   fit_main p m k mem input n lm lk =
-      fit_body (function_named M (codes "main") p.functions) n m k (level M p.functions m) (level M p.functions k) lm lk (fit_level p.functions m k n lm lk) [] (record { mem = mem; steps = n; input = input }) (omega arith)
-
-  -- a run leaves no more steps than it had
-  pub run_spends : (p : MonitoredProgram) (mem : M.Mem) (input : Input) (n : ℕ) → (run M p mem input n).left ≤ n
-  run_spends p mem input n = omega (arith, left-ran (main_at p n mem input n), (fit_main p n n mem input n (omega arith) (omega arith)).1)
-
-  -- a run is the same with any number of turns and calls from its steps on
-  pub run_at : (p : MonitoredProgram) (mem : M.Mem) (input : Input) (n k : ℕ) → n ≤ k → run M p mem input n ≡ ran M (body_runs M (function_named M (codes "main") p.functions) (level M p.functions k) k []
-      (record { mem = mem; steps = n; input = input }))
-  run_at p mem input n k l = ap (ran M) (fit_main p n k mem input n (omega arith) l).0
+      fit_body (function_named (codes "main") p.functions) n m k (level M gs p.functions m) (level M gs p.functions k) lm lk (fit_level p.functions m k n lm lk) [] (record { mem = mem; steps = n; input = input }) (omega arith)
 
   -- what a statement does is the same with any number of turns and calls from the steps on
-  pub exec_fuel : (fs : List MonFunction) (a : MonStatement) (m n : ℕ) (regs : List M.Val) (s : State M.Mem) → s.steps ≤ m → s.steps ≤ n → exec M a (level M fs m) m regs s ≡ exec M a (level M fs n) n regs s
+  pub exec_fuel : (fs : List MonFunction) (a : MonStatement) (m n : ℕ) (regs : List M.Val) (s : State M.Mem) → s.steps ≤ m → s.steps ≤ n → exec M gs a (level M gs fs m) m regs s ≡ exec M gs a (level M gs fs n) n regs s
   exec_fuel fs a m n regs s lm ln =
-      (fit_exec a s.steps m n (level M fs m) (level M fs n) lm ln (fit_level fs m n s.steps lm ln) regs s (omega arith)).0
+      (fit_exec a s.steps m n (level M gs fs m) (level M gs fs n) lm ln (fit_level fs m n s.steps lm ln) regs s (omega arith)).0
 
   -- no step is gained
-  pub steps_fall : (fs : List MonFunction) (a : MonStatement) (n : ℕ) (regs : List M.Val) (s : State M.Mem) → s.steps ≤ n → steps_after (exec M a (level M fs n) n regs s) ≤ s.steps
+  pub steps_fall : (fs : List MonFunction) (a : MonStatement) (n : ℕ) (regs : List M.Val) (s : State M.Mem) → s.steps ≤ n → steps_after (exec M gs a (level M gs fs n) n regs s) ≤ s.steps
   steps_fall fs a n regs s l =
-      (fit_exec a s.steps n n (level M fs n) (level M fs n) l l (fit_level fs n n s.steps l l) regs s (omega arith)).1
+      (fit_exec a s.steps n n (level M gs fs n) (level M gs fs n) l l (fit_level fs n n s.steps l l) regs s (omega arith)).1
 
   -- a loop is one turn and then the loop again
   pub one_turn : (fs : List MonFunction) (a b : MonStatements) (n : ℕ) (regs : List M.Val) (s : State M.Mem) → s.steps ≤ n
-      → exec M (Loop a b) (level M fs n) n regs s ≡ turn (exec_all M a (level M fs n) n) (exec_all M b (level M fs n) n) (exec M (Loop a b) (level M fs n) n) regs s
-  one_turn fs a b n regs s l = by n (exec_all M a (level M fs n) n) (exec_all M b (level M fs n) n) l (fits a) (fits b)
+      → exec M gs (Loop a b) (level M gs fs n) n regs s ≡ turn (exec_all M gs a (level M gs fs n) n) (exec_all M gs b (level M gs fs n) n) (exec M gs (Loop a b) (level M gs fs n) n) regs s
+  one_turn fs a b n regs s l = by n (exec_all M gs a (level M gs fs n) n) (exec_all M gs b (level M gs fs n) n) l (fits a) (fits b)
     where
-      fits : (x : MonStatements) → FitDoes s.steps (exec_all M x (level M fs n) n) (exec_all M x (level M fs n) n)
-      fits x = fit_exec_all x s.steps n n (level M fs n) (level M fs n) l l (fit_level fs n n s.steps l l)
+      fits : (x : MonStatements) → FitDoes s.steps (exec_all M gs x (level M gs fs n) n) (exec_all M gs x (level M gs fs n) n)
+      fits x = fit_exec_all x s.steps n n (level M gs fs n) (level M gs fs n) l l (fit_level fs n n s.steps l l)
 
       by : (i : ℕ) (f g : Does M) → s.steps ≤ i → FitDoes s.steps f f → FitDoes s.steps g g → turns M i f g regs s ≡ turn f g (turns M i f g) regs s
       by zero f g le hf hg = (fit_no_turn s.steps f f g g (turns M 0 f g) le hf regs s (omega arith)).0
       by (suc i) f g le hf hg =
           (fit_turn s.steps f f g g (turns M i f g) (turns M (suc i) f g) hf hg (λ j lj.
           fit_turns i (suc i) j f f g g (omega (arith, le, lj)) (omega (arith, le, lj)) (does_less j s.steps f f (omega (arith, lj)) hf) (does_less j s.steps g g (omega (arith, lj)) hg)) regs s (omega arith)).0
+
+-- a run leaves no more steps than it had
+pub run_spends : (M : Memory) (p : MonitoredProgram) (mem : M.Mem) (input : Input) (n : ℕ) → (run M p mem input n).left ≤ n
+run_spends M p mem input n =
+    let gs = M.starts p.globals in
+    omega (arith, left-ran M gs (main_at M gs p n mem input n), (fit_main M gs p n n mem input n (omega arith) (omega arith)).1)
+
+-- a run is the same with any number of turns and calls from its steps on
+pub run_at : (M : Memory) (p : MonitoredProgram) (mem : M.Mem) (input : Input) (n k : ℕ) → n ≤ k → run M p mem input n
+    ≡ ran M (body_runs M (M.starts p.globals) (function_named (codes "main") p.functions) (level M (M.starts p.globals) p.functions k) k []
+    (record { mem = mem; steps = n; input = input }))
+run_at M p mem input n k l = ap (ran M) (fit_main M (M.starts p.globals) p n k mem input n (omega arith) l).0

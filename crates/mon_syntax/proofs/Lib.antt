@@ -4,6 +4,30 @@ pub mod Fuel
 pub mod Wrapping
 pub mod FlatBlocks
 pub mod Agreement
+-- flat memory stands for blocks
+pub mod FlatRelation
+pub mod FlatLists
+pub mod FlatWorlds
+pub mod FlatPointers
+pub mod FlatAddresses
+pub mod FlatNotes
+pub mod FlatBirths
+pub mod FlatDeaths
+pub mod FlatRegions
+pub mod FlatYoungest
+pub mod FlatFrames
+pub mod FlatStack
+pub mod FlatEntries
+pub mod FlatGlobals
+pub mod FlatStart
+pub mod FlatWritten
+pub mod FlatAccesses
+pub mod FlatStores
+pub mod FlatLoads
+pub mod FlatValues
+pub mod FlatFinds
+pub mod FlatNumbers
+pub mod FlatOperators
 pub mod FlatAgreement
 -- the grammar is exact
 pub mod ExactTokens
@@ -17,13 +41,16 @@ pub mod PrintedAlone
 pub mod PrintedSteps
 pub mod PrintedExpressions
 pub mod PrintedCalls
-pub mod PrintedArguments
 pub mod PrintedBodies
+pub mod PrintedArguments
 pub mod PrintedSimple
 pub mod PrintedStatements
 pub mod PrintedRegisters
+pub mod PrintedGlobals
 pub mod PrintedFunctions
 pub mod PrintedTexts
 -- examples, by computation
 pub mod WorkedRuns
-mod WorkedCalls
+pub mod WorkedCalls
+mod WorkedMemory
+mod WorkedTexts

@@ -1,5 +1,5 @@
 -- A printed call is read, and checks as the call that was printed.
-use Rattle.std.proofs.Common.{◌≡◌, ℕ, ◌≤◌, Bool, true, false, ◌&&◌, List, [], ◌∷◌, ◌++◌, slice_get, codes, pos, int_le, Option, Some, None, Ok, refl, sym, ap, subst, ◌∙◌, append_assoc, arith}
+use Rattle.std.proofs.Common.{◌≡◌, ℕ, ◌≤◌, Bool, true, false, ◌&&◌, List, [], ◌∷◌, ◌++◌, length, slice_get, codes, pos, int_le, Option, Some, None, Ok, refl, sym, ap, subst, ◌∙◌, append_assoc, arith}
 use Rattle.std.proofs.lemmas.List.{append-nil}
 use Rattle.std.specs.Prelude.{bytes_eq}
 use Rattle.std.proofs.lemmas.Int.{ints}
@@ -14,9 +14,11 @@ use Rattle.c_model.specs.MonitoredTokens as made
 use Rattle.c_model.specs.Reports.{kind_word}
 use Rattle.c_model.specs.Punctuators.{semicolon, left_paren, right_paren}
 use Rattle.mon_syntax.specs.declared.tree.MonType.{MonType}
-use Rattle.mon_syntax.specs.declared.tree.MonType.TheVariants.{I32}
+use Rattle.mon_syntax.specs.declared.tree.MonType.TheVariants.{I32, I128, Ptr}
 use Rattle.mon_syntax.specs.declared.tree.MemoryCall.{MemoryCall}
-use Rattle.mon_syntax.specs.declared.tree.MemoryCall.TheVariants.{StoreBlock, DeleteBlock}
+use Rattle.mon_syntax.specs.declared.tree.MemoryCall.TheVariants as memory_call
+use Rattle.mon_syntax.specs.declared.tree.AccessSize.{AccessSize}
+use Rattle.mon_syntax.specs.declared.tree.AccessSize.TheVariants.{One, Two, Four, Eight, Sixteen}
 use Rattle.mon_syntax.specs.declared.word.Runtime.{Runtime}
 use Rattle.mon_syntax.specs.declared.word.Runtime.TheVariants as runtime
 use Rattle.mon_syntax.specs.declared.word.Word.{Word}
@@ -24,15 +26,16 @@ use Rattle.mon_syntax.specs.declared.word.Word.TheVariants as word
 use Rattle.mon_syntax.specs.Words.{word_of}
 use Rattle.mon_syntax.specs.Trees.{MonExpression, MonStatement, Assert, PrintText, Act, Call}
 use Rattle.mon_syntax.specs.Text as text
-use Rattle.mon_syntax.specs.Text.{Registers, expression_pieces, arguments_pieces, assert_arguments, memory_word}
+use Rattle.mon_syntax.specs.Text.{InSight, expression_pieces, arguments_pieces, assert_arguments, memory_word, size_argument}
+use Rattle.mon_syntax.specs.Arithmetic.{access_bytes}
 use Rattle.mon_syntax.specs.Valid as valid
 use Rattle.mon_syntax.specs.Valid.{Types, IsExpression, AreArguments, Signature, greatest_number, memory_parameters}
 use Rattle.mon_syntax.specs.Parsed as parsed
 use Rattle.mon_syntax.specs.Parsed.{NameUse, ParsedExpression, ParsedArgument, ParsedCall}
 use Rattle.mon_syntax.specs.Grammar.{Vocabulary, kind, first_argument, is_step_word, has_no_argument, arguments, call_of}
-use Rattle.mon_syntax.specs.Checking.{Scope, Header, scope_of, find_function, checked_expression, kind_named, small_number, bytes_of, value_of_type, one_value, arguments_of, runtime_call, call_of_word}
+use Rattle.mon_syntax.specs.Checking.{Scope, Header, scope_of, find_function, checked_expression, kind_named, size_named, small_number, bytes_of, value_of_type, one_value, arguments_of, runtime_call, call_of_word}
 use Rattle.mon_syntax.proofs.PrintedPieces.{AreTokens}
-use Rattle.mon_syntax.proofs.PrintedForms.{Pieces, argument_is, arguments_are, assert_is}
+use Rattle.mon_syntax.proofs.PrintedForms.{Pieces, argument_is, arguments_are, sized_is, assert_is}
 use Rattle.mon_syntax.proofs.PrintedExpressions.{AreWords, AreFound, IsReadAs, expression_is, same_types}
 use Rattle.mon_syntax.proofs.PrintedCalls as calls
 use Rattle.mon_syntax.proofs.PrintedCalls.{value_read, number_read, text_read, next_read, no_more_read, arguments_read, no_argument_read, call_read}
@@ -81,28 +84,33 @@ unfolding word_of
 get_word = refl
 
 abbrev pub memory_runtime : MemoryCall → Runtime
-memory_runtime StoreBlock = runtime.StoreBlock
-memory_runtime DeleteBlock = runtime.DeleteBlock
+memory_runtime memory_call.StoreBlock = runtime.StoreBlock
+memory_runtime memory_call.DeleteBlock = runtime.DeleteBlock
+memory_runtime (memory_call.Number a) = runtime.Number
 
 pub memory_word_is : (f : MemoryCall) → word_of (memory_word f) ≡ word.Runtime (memory_runtime f)
 unfolding word_of
-memory_word_is StoreBlock = refl
-memory_word_is DeleteBlock = refl
+memory_word_is memory_call.StoreBlock = refl
+memory_word_is memory_call.DeleteBlock = refl
+memory_word_is (memory_call.Number a) = refl
 
-module _ (names : List (List ℕ)) (ws : Vocabulary) (words : AreWords names ws) (functions : List Header)
-    (types : Types) (rs : Registers) (regs : List (ℕ × MonType)) (found : AreFound names types rs regs) where
+module _ (names : List (List ℕ)) (ws : Vocabulary) (words : AreWords names ws) (functions : List Header) (globals : List ℕ)
+    (types : Types) (rs : InSight) (regs : List (ℕ × MonType)) (found : AreFound names types rs globals regs) where
+  abbrev pub count : ℕ
+  count = length rs.globals
+
   abbrev pub number : List ℕ → ℕ
   number = name_number names
 
   abbrev pub scope : Scope
-  scope = scope_of names ws functions regs
+  scope = scope_of names ws functions globals regs
 
   -- an expression that stands alone
   abbrev pub Whole : MonExpression → MonType → Pieces → List PlainToken → Type 0
-  Whole e t more ts = IsReadAs names ws words functions types rs regs found 2000 e t more ts
+  Whole e t more ts = IsReadAs names ws words functions globals types rs regs found 2000 e t more ts
 
-  pub whole : (e : MonExpression) (t : MonType) (more : Pieces) (ts : List PlainToken) → IsExpression types e t → AreTokens names (expression_pieces rs e ++ more) ts → Whole e t more ts
-  whole e t more ts h a = expression_is names ws words functions types rs regs found e 2000 t more ts h.within h.typed a
+  pub whole : (e : MonExpression) (t : MonType) (more : Pieces) (ts : List PlainToken) → IsExpression count types e t → AreTokens names (expression_pieces rs e ++ more) ts → Whole e t more ts
+  whole e t more ts h a = expression_is names ws words functions globals types rs regs found e 2000 t more ts h.within h.typed a
 
   -- ---- calls
 
@@ -130,7 +138,7 @@ module _ (names : List (List ℕ)) (ws : Vocabulary) (words : AreWords names ws)
 
   -- a call with a value
   pub value_call : (w : List ℕ) (r : Runtime) (t : MonType) (e : MonExpression) (f : MonExpression → MonStatement) (more : Pieces) (ts : List PlainToken)
-      → ((u : NameUse) (at : Place) (xs : List ParsedArgument) → runtime_call scope u at xs r ≡ one_value scope at t xs f) → valid.is_step (f e) ≡ false → IsExpression types e t
+      → ((u : NameUse) (at : Place) (xs : List ParsedArgument) → runtime_call scope u at xs r ≡ one_value scope at t xs f) → valid.is_step (f e) ≡ false → IsExpression count types e t
       → AreTokens names (text.left_paren ∷ ((expression_pieces rs e ++ (text.right_paren ∷ text.semicolon ∷ [])) ++ more)) ts
       → IsCallAs w (word.Runtime r) (f e) more ts
   value_call w r t e f more ts same no_step h a0 =
@@ -214,8 +222,8 @@ module _ (names : List (List ℕ)) (ws : Vocabulary) (words : AreWords names ws)
       → runtime_call scope u at (parsed.Value x ∷ parsed.Value y ∷ parsed.Number n_at (pos n) ∷ parsed.Number l_at (pos l) ∷ parsed.Text k_at (kind_word k) ∷ []) runtime.Assert ≡ Ok (Assert d v n l k)
   assert_checked d v n l k u at n_at l_at k_at x y p q g h = rw (condition_checked d I32 x p, condition_checked v I32 y q, number_checked n_at n g, number_checked l_at l h, kind_checked k_at k) refl
 
-  pub assert_call_is : (w : List ℕ) (d v : MonExpression) (n l : ℕ) (k : Kind) (more : Pieces) (ts : List PlainToken) → IsExpression types d I32
-      → IsExpression types v I32 → n ≤ greatest_number → l ≤ greatest_number
+  pub assert_call_is : (w : List ℕ) (d v : MonExpression) (n l : ℕ) (k : Kind) (more : Pieces) (ts : List PlainToken) → IsExpression count types d I32
+      → IsExpression count types v I32 → n ≤ greatest_number → l ≤ greatest_number
       → AreTokens names (text.left_paren ∷ ((assert_arguments rs d v n l (kind_word k) ++ (text.right_paren ∷ text.semicolon ∷ [])) ++ more)) ts
       → IsCallAs w (word.Runtime runtime.Assert) (Assert d v n l k) more ts
   assert_call_is w d v n l k more ts hd hv hn hl a0 =
@@ -271,7 +279,7 @@ module _ (names : List (List ℕ)) (ws : Vocabulary) (words : AreWords names ws)
       → checked_expression scope x ≡ Ok (e, p) → arguments_of scope at ps xs ≡ Ok es → arguments_of scope at (p ∷ ps) (parsed.Value x ∷ xs) ≡ Ok (e ∷ es)
   one_checked e es p ps x xs at h k = rw (condition_checked e p x h, k) refl
 
-  more_as : (es : List MonExpression) (ps : Types) (more : Pieces) (ts : List PlainToken) → AreArguments types es ps
+  more_as : (es : List MonExpression) (ps : Types) (more : Pieces) (ts : List PlainToken) → AreArguments count types es ps
       → AreTokens names (text.more_arguments rs es ++ (text.right_paren ∷ more)) ts → AreMoreAs es ps more ts
   more_as [] [] more ts h a = record {
     trees = [];
@@ -313,7 +321,7 @@ module _ (names : List (List ℕ)) (ws : Vocabulary) (words : AreWords names ws)
     after : AreTokens names more rest
     checked : (at : Place) → arguments_of scope at ps trees ≡ Ok es
 
-  arguments_as : (es : List MonExpression) (ps : Types) (more : Pieces) (ts : List PlainToken) → AreArguments types es ps
+  arguments_as : (es : List MonExpression) (ps : Types) (more : Pieces) (ts : List PlainToken) → AreArguments count types es ps
       → AreTokens names (arguments_pieces rs es ++ (text.right_paren ∷ more)) ts → AreArgumentsAs es ps more ts
   arguments_as [] [] more ts h a =
       record { trees = []; behind = ts; read = no_argument_read ws a.2; end = a.0; rest = a.1; ends = a.2; after = a.3; checked = λ at. refl }
@@ -335,7 +343,7 @@ module _ (names : List (List ℕ)) (ws : Vocabulary) (words : AreWords names ws)
       }
 
   call_with_arguments : (w : List ℕ) (k : Word) (a : MonStatement) (es : List MonExpression) (ps : Types) (more : Pieces) (ts : List PlainToken)
-      → is_step_word k ≡ false → valid.is_step a ≡ false → AreArguments types es ps
+      → is_step_word k ≡ false → valid.is_step a ≡ false → AreArguments count types es ps
       → (slice_get names (number w) ≡ Some w → (at opening : Place) (xs : List ParsedArgument) → arguments_of scope opening ps xs ≡ Ok es → call_of_word scope (call_with w at opening xs) k ≡ Ok a)
       → AreTokens names (text.left_paren ∷ ((arguments_pieces rs es ++ (text.right_paren ∷ text.semicolon ∷ [])) ++ more)) ts → IsCallAs w k a more ts
   call_with_arguments w k a es ps more ts no_word no_step h same b0 =
@@ -356,22 +364,77 @@ module _ (names : List (List ℕ)) (ws : Vocabulary) (words : AreWords names ws)
         step = ap (λ (z : Bool). z && has_no_argument x.trees) no_word ∙ sym no_step;
       }
 
-  -- a call of the runtime on the memory
-  memory_checked : (f : MemoryCall) (u : NameUse) (at : Place) (xs : List ParsedArgument) (es : List MonExpression)
-      → arguments_of scope at (memory_parameters f) xs ≡ Ok es → runtime_call scope u at xs (memory_runtime f) ≡ Ok (Act None f es)
-  memory_checked StoreBlock u at xs es h = rw h refl
-  memory_checked DeleteBlock u at xs es h = rw h refl
+  -- ---- calls of the runtime on the memory
 
-  pub memory_call_is : (f : MemoryCall) (es : List MonExpression) (more : Pieces) (ts : List PlainToken) → AreArguments types es (memory_parameters f)
-      → AreTokens names (text.left_paren ∷ ((arguments_pieces rs es ++ (text.right_paren ∷ text.semicolon ∷ [])) ++ more)) ts
+  -- with values alone
+  values_call_is : (f : MemoryCall) (es : List MonExpression) (more : Pieces) (ts : List PlainToken) → size_argument f ≡ []
+      → is_step_word (word.Runtime (memory_runtime f)) ≡ false
+      → ((u : NameUse) (at : Place) (xs : List ParsedArgument) → arguments_of scope at (memory_parameters f) xs ≡ Ok es → runtime_call scope u at xs (memory_runtime f) ≡ Ok (Act None f es))
+      → AreArguments count types es (memory_parameters f)
+      → AreTokens names (text.left_paren ∷ (((arguments_pieces rs es ++ size_argument f) ++ (text.right_paren ∷ text.semicolon ∷ [])) ++ more)) ts
       → IsCallAs (memory_word f) (word.Runtime (memory_runtime f)) (Act None f es) more ts
-  memory_call_is f es more ts h a =
-      call_with_arguments (memory_word f) (word.Runtime (memory_runtime f)) (Act None f es) es (memory_parameters f) more ts (no_step_word f) refl h
-      (λ _ at opening xs k. memory_checked f (record { place = at; number = number (memory_word f) }) opening xs es k) a
-    where
-      no_step_word : (f : MemoryCall) → is_step_word (word.Runtime (memory_runtime f)) ≡ false
-      no_step_word StoreBlock = refl
-      no_step_word DeleteBlock = refl
+  values_call_is f es more ts no_size no_step checks h a =
+      let b = subst (λ (l : Pieces). AreTokens names (text.left_paren ∷ ((l ++ (text.right_paren ∷ text.semicolon ∷ [])) ++ more)) ts)
+      (ap (λ (l : Pieces). arguments_pieces rs es ++ l) no_size ∙ append-nil (arguments_pieces rs es)) a in
+      call_with_arguments (memory_word f) (word.Runtime (memory_runtime f)) (Act None f es) es (memory_parameters f) more ts no_step refl h
+      (λ _ at opening xs k. checks (record { place = at; number = number (memory_word f) }) opening xs k) b
+
+  size_checked : (at : Place) (a : AccessSize) → size_named scope (parsed.Number at (pos (access_bytes a))) ≡ Ok a
+  size_checked at One = refl
+  size_checked at Two = refl
+  size_checked at Four = refl
+  size_checked at Eight = refl
+  size_checked at Sixteen = refl
+
+  sized_checked : (p o : MonExpression) (a : AccessSize) (u : NameUse) (at size_at : Place) (x y : ParsedExpression) → checked_expression scope x ≡ Ok (p, Ptr) → checked_expression scope y ≡ Ok (o, I128)
+      → runtime_call scope u at (parsed.Value x ∷ parsed.Value y ∷ parsed.Number size_at (pos (access_bytes a)) ∷ []) runtime.Number ≡ Ok (Act None (memory_call.Number a) (p ∷ o ∷ []))
+  sized_checked p o a u at size_at x y h k = rw (condition_checked p Ptr x h, condition_checked o I128 y k, size_checked size_at a) refl
+
+  -- a pointer, an offset and a size
+  sized_call_is : (w : List ℕ) (p o : MonExpression) (a : AccessSize) (more : Pieces) (ts : List PlainToken) → IsExpression count types p Ptr → IsExpression count types o I128
+      → AreTokens names (text.left_paren ∷ (((arguments_pieces rs (p ∷ o ∷ []) ++ size_argument (memory_call.Number a)) ++ (text.right_paren ∷ text.semicolon ∷ [])) ++ more)) ts
+      → IsCallAs w (word.Runtime runtime.Number) (Act None (memory_call.Number a) (p ∷ o ∷ [])) more ts
+  sized_call_is w p o a more ts hp ho g0 =
+      let end : Pieces = text.Mark (codes ",") ∷ text.blank ∷ text.Number (access_bytes a) ∷ text.right_paren ∷ text.semicolon ∷ more in
+      let joined = sized_is rs more (arguments_pieces rs (p ∷ o ∷ [])) (memory_call.Number a) ∙ argument_is rs end p (o ∷ [])
+      ∙ ap (λ (l : Pieces). expression_pieces rs p ++ (text.Mark (codes ",") ∷ text.blank ∷ l)) (argument_is rs end o []) in
+      let g = subst (λ (l : Pieces). AreTokens names (text.left_paren ∷ l) ts) joined g0 in
+      let x = whole p Ptr _ g.1 hp g.3 in
+      let y = whole o I128 _ x.after.1 ho x.after.3 in
+      let size = y.after.3 in
+      let close = size.3 in
+      let one : List ParsedArgument = parsed.Value x.tree ∷ [] in
+      let two : List ParsedArgument = parsed.Value x.tree ∷ parsed.Value y.tree ∷ [] in
+      let three : List ParsedArgument = parsed.Value x.tree ∷ parsed.Value y.tree ∷ parsed.Number size.0 (pos (access_bytes a)) ∷ [] in
+      let others =
+      next_read ws one x.after.2 (value_read ws x.after.1 y.begins y.parsed)
+      ∙ next_read ws two y.after.2 (number_read ws (access_bytes a) size.2)
+      ∙ no_more_read ws three close.2 in
+      let all = arguments_read ws g.1 (x.begins first_argument true refl refl refl) (value_read ws g.1 x.begins x.parsed) others in
+      record {
+        opening = g.0;
+        inner = g.1;
+        is = g.2;
+        arguments_list = three;
+        behind = close.1;
+        read = λ u. call_read ws u g.2 all close.2;
+        end = close.3.0;
+        rest = close.3.1;
+        ends = close.3.2;
+        after = close.3.3;
+        checked = λ _ at. sized_checked p o a (record { place = at; number = number w }) g.0 size.0 x.tree y.tree x.checked y.checked;
+        step = refl;
+      }
+
+  pub memory_call_is : (f : MemoryCall) (es : List MonExpression) (more : Pieces) (ts : List PlainToken) → AreArguments count types es (memory_parameters f)
+      → AreTokens names (text.left_paren ∷ (((arguments_pieces rs es ++ size_argument f) ++ (text.right_paren ∷ text.semicolon ∷ [])) ++ more)) ts
+      → IsCallAs (memory_word f) (word.Runtime (memory_runtime f)) (Act None f es) more ts
+  memory_call_is memory_call.StoreBlock es more ts h a = values_call_is memory_call.StoreBlock es more ts refl refl (λ u at xs k. rw k refl) h a
+  memory_call_is memory_call.DeleteBlock es more ts h a = values_call_is memory_call.DeleteBlock es more ts refl refl (λ u at xs k. rw k refl) h a
+  memory_call_is (memory_call.Number b) [] more ts h a = absurd h
+  memory_call_is (memory_call.Number b) (p ∷ []) more ts h a = absurd h.1
+  memory_call_is (memory_call.Number b) (p ∷ o ∷ []) more ts h a = sized_call_is (codes "__e_acsl_number") p o b more ts h.0 h.1.0 a
+  memory_call_is (memory_call.Number b) (p ∷ o ∷ q ∷ es) more ts h a = absurd h.1.1
 
   -- a call of a function of the program
   named_checked : (w : List ℕ) (f : ℕ) (ps : Types) (result : Option MonType) (es : List MonExpression) (at opening : Place) (xs : List ParsedArgument)
@@ -385,7 +448,7 @@ module _ (names : List (List ℕ)) (ws : Vocabulary) (words : AreWords names ws)
 
   pub named_call_is : (f : ℕ) (g : Signature) (es : List MonExpression) (more : Pieces) (ts : List PlainToken)
       → (slice_get names (number g.name) ≡ Some g.name → find_function 0 functions (number g.name) ≡ Some (f, record { name = number g.name; parameters = g.parameters; result = g.result }))
-      → bytes_eq g.name (codes "main") ≡ false → AreArguments types es g.parameters
+      → bytes_eq g.name (codes "main") ≡ false → AreArguments count types es g.parameters
       → AreTokens names (text.left_paren ∷ ((arguments_pieces rs es ++ (text.right_paren ∷ text.semicolon ∷ [])) ++ more)) ts
       → IsCallAs g.name word.Name (Call None f es) more ts
   named_call_is f g es more ts has not_main h a =

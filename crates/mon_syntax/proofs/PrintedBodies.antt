@@ -7,10 +7,10 @@ use Rattle.c_syntax.specs.declared.place.Place.{Place}
 use Rattle.c_syntax.specs.Tokens as token
 use Rattle.c_syntax.specs.Tokens.{PlainToken}
 use Rattle.c_model.specs.MonitoredTokens as made
-use Rattle.c_model.specs.Punctuators.{colon, semicolon, left_paren, right_paren, left_brace, right_brace}
+use Rattle.c_model.specs.Punctuators.{colon, semicolon, times, left_paren, right_paren, left_brace, right_brace}
 use Rattle.mon_syntax.specs.Parsed.{ParsedExpression, ParsedStatement, If, Loop, Labelled, Goto, Return}
 use Rattle.mon_syntax.specs.Grammar.{Vocabulary, InBody, LoopRead, nothing_read, is_step, parsed_list, name_kind, if_kind, else_kind, while_kind, goto_kind, return_kind, mark_kind}
-use Rattle.mon_syntax.specs.Grammar.{word_kind, word_at, kind, is_one, first_expression, first_statement, expression_in, expression, one_more, statements, body, selection, one_more_in_loop, loop_end, iteration, labelled, jump, returned}
+use Rattle.mon_syntax.specs.Grammar.{word_kind, word_at, kind, is_number, first_expression, first_statement, expression_in, expression, one_more, statements, body, selection, one_more_in_loop, loop_end, iteration, labelled, jump, returned}
 use Rattle.mon_syntax.specs.Grammar.{return_statement, statement_with, statement_in}
 use Rattle.mon_syntax.proofs.ExactStatements.{one_more_good, one_more_in_loop_good, statement_good}
 use Rattle.mon_syntax.proofs.PrintedSteps.{mark_read, fixed_read, placed_read, name_read, sees_mark, sees_word}
@@ -124,6 +124,7 @@ module _ (ws : Vocabulary) (n : ℕ) where
       let kind_is = sees_word ws k if_kind t w in
       rw (
         kind_is (name_kind ∷ []) false refl,
+        kind_is (mark_kind times ∷ []) false refl,
         kind_is (mark_kind left_brace ∷ []) false refl,
         kind_is (if_kind ∷ []) true refl,
         fixed_read ws if_kind k t w,
@@ -146,12 +147,13 @@ module _ (ws : Vocabulary) (n : ℕ) where
       let kind_is = sees_word ws k while_kind t w in
       rw (
         kind_is (name_kind ∷ []) false refl,
+        kind_is (mark_kind times ∷ []) false refl,
         kind_is (mark_kind left_brace ∷ []) false refl,
         kind_is (if_kind ∷ []) false refl,
         kind_is (while_kind ∷ []) true refl,
         fixed_read ws while_kind k t w,
         mark_read ws left_paren t1,
-        placed_read ws is_one (token.Number (pos 1) None) tt t2 refl,
+        placed_read ws (is_number 1) (token.Number (pos 1) None) tt t2 refl,
         mark_read ws right_paren t3,
         mark_read ws left_brace t4,
         loop_read xs ys x t5 t6 before front s step e after back (sees_mark ws right_brace r first_statement false refl),
@@ -166,6 +168,7 @@ module _ (ws : Vocabulary) (n : ℕ) where
   labelled_read k a {label = label} t h t2 t3 w t4 t5 no_step =
       rw (
         sees_mark ws left_brace t (name_kind ∷ []) false refl,
+        sees_mark ws left_brace t (mark_kind times ∷ []) false refl,
         sees_mark ws left_brace t (mark_kind left_brace ∷ []) true refl,
         body_read a t h t2,
         name_read ws k t3 w,
@@ -183,6 +186,7 @@ module _ (ws : Vocabulary) (n : ℕ) where
       let kind_is = sees_word ws k goto_kind t w in
       rw (
         kind_is (name_kind ∷ []) false refl,
+        kind_is (mark_kind times ∷ []) false refl,
         kind_is (mark_kind left_brace ∷ []) false refl,
         kind_is (if_kind ∷ []) false refl,
         kind_is (while_kind ∷ []) false refl,
@@ -197,7 +201,15 @@ module _ (ws : Vocabulary) (n : ℕ) where
     unfolding statement_with return_statement
     return_is no_step =
         let kind_is = sees_word ws k return_kind t w in
-        rw (kind_is (name_kind ∷ []) false refl, kind_is (mark_kind left_brace ∷ []) false refl, kind_is (if_kind ∷ []) false refl, kind_is (while_kind ∷ []) false refl, kind_is (goto_kind ∷ []) false refl, fixed_read ws return_kind k t w) refl
+        rw (
+          kind_is (name_kind ∷ []) false refl,
+          kind_is (mark_kind times ∷ []) false refl,
+          kind_is (mark_kind left_brace ∷ []) false refl,
+          kind_is (if_kind ∷ []) false refl,
+          kind_is (while_kind ∷ []) false refl,
+          kind_is (goto_kind ∷ []) false refl,
+          fixed_read ws return_kind k t w,
+        ) refl
 
     pub return_read : {end : Place} {rest : List PlainToken} → us ≡ made.token end (token.Mark semicolon) ∷ rest → (no_step : Bool) → (statement_with ws S no_step).parse ts ≡ Ok (Return at None, rest)
     unfolding returned

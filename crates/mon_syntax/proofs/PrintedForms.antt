@@ -2,14 +2,15 @@
 use Rattle.std.proofs.Common.{◌≡◌, ℕ, ◌+◌, List, [], ◌∷◌, ◌++◌, codes, sym, ap, ◌∙◌, append_assoc}
 use Rattle.mon_syntax.specs.declared.tree.MonType.{MonType}
 use Rattle.mon_syntax.specs.declared.tree.MonOp.{MonOp}
-use Rattle.mon_syntax.specs.Trees.{MonExpression, Binary, MonStatement, If, Loop, Labelled, MonStatements, Then, MonFunction}
-use Rattle.mon_syntax.specs.Text.{Piece, Word, Number, Quoted, Mark, blank, new_line, left_paren, right_paren, semicolon, operator_mark, Registers, expression_pieces, more_arguments, assert_arguments, FunctionNames, body_pieces, statement_pieces}
-use Rattle.mon_syntax.specs.Text.{statements_pieces, result_word, parameters_pieces, registers_pieces, function_pieces}
+use Rattle.mon_syntax.specs.declared.tree.MemoryCall.{MemoryCall}
+use Rattle.mon_syntax.specs.Trees.{MonExpression, Binary, MonStatement, Store, If, Loop, Labelled, MonStatements, Then, MonFunction, MonitoredGlobal}
+use Rattle.mon_syntax.specs.Text.{Piece, Word, Number, Quoted, Mark, blank, new_line, left_paren, right_paren, semicolon, operator_mark, InSight, expression_pieces, more_arguments, assert_arguments, FunctionNames, body_pieces, statement_pieces}
+use Rattle.mon_syntax.specs.Text.{name_of, set_pieces, pointed_type, mark_pieces, size_argument, statements_pieces, result_word, parameters_pieces, registers_pieces, function_pieces}
 
 abbrev pub Pieces : Type 0
 Pieces = List Piece
 
-module _ (rs : Registers) (more : Pieces) where
+module _ (rs : InSight) (more : Pieces) where
   -- ---- expressions
 
   pub binary_is : (op : MonOp) (t : MonType) (a b : MonExpression) → expression_pieces rs (Binary op t a b) ++ more ≡ left_paren ∷
@@ -37,6 +38,12 @@ module _ (rs : Registers) (more : Pieces) where
   pub arguments_are : (arguments : Pieces) → (arguments ++ (right_paren ∷ semicolon ∷ [])) ++ more ≡ arguments ++ (right_paren ∷ semicolon ∷ more)
   arguments_are arguments = append_assoc arguments (right_paren ∷ semicolon ∷ []) more
 
+  -- the arguments of a call of the runtime on the memory, with its size
+  pub sized_is : (arguments : Pieces) (f : MemoryCall)
+      → ((arguments ++ size_argument f) ++ (right_paren ∷ semicolon ∷ [])) ++ more ≡ arguments ++ (size_argument f ++ (right_paren ∷ semicolon ∷ more))
+  sized_is arguments f =
+      append_assoc (arguments ++ size_argument f) (right_paren ∷ semicolon ∷ []) more ∙ append_assoc arguments (size_argument f) (right_paren ∷ semicolon ∷ more)
+
   pub assert_is : (d v : MonExpression) (number line : ℕ) (kind : List ℕ)
       → (assert_arguments rs d v number line kind ++ (right_paren ∷ semicolon ∷ [])) ++ more
       ≡ expression_pieces rs d ++ (Mark (codes ",") ∷ blank ∷ (expression_pieces rs v ++ (Mark (codes ",") ∷ blank ∷ Number number ∷ Mark (codes ",") ∷ blank ∷ Number line ∷ Mark (codes ",") ∷ blank ∷ Quoted kind ∷ right_paren ∷ semicolon ∷ more)))
@@ -49,9 +56,17 @@ module _ (rs : Registers) (more : Pieces) where
       ∙ append_assoc D (second (V ++ end [])) (right_paren ∷ semicolon ∷ more)
       ∙ ap (λ (l : Pieces). D ++ second l) (append_assoc V (end []) (right_paren ∷ semicolon ∷ more))
 
--- ---- statements with bodies
+-- ---- statements
 
-module _ (gs : FunctionNames) (rs : Registers) (more : Pieces) where
+module _ (gs : FunctionNames) (rs : InSight) (more : Pieces) where
+  -- a store and its mark
+  pub store_is : (depth r : ℕ) (t : MonType) (e : MonExpression)
+      → statement_pieces gs rs depth (Store r t e) ++ more
+      ≡ Mark (codes "*") ∷ (pointed_type t ++ (set_pieces (name_of rs r) ++ (expression_pieces rs e ++ (semicolon ∷ new_line depth ∷ (mark_pieces rs r t ++ more)))))
+  store_is depth r t e =
+      let E = expression_pieces rs e in
+      ap (λ (l : Pieces). Mark (codes "*") ∷ (pointed_type t ++ (set_pieces (name_of rs r) ++ l))) (append_assoc E (semicolon ∷ new_line depth ∷ mark_pieces rs r t) more)
+
   pub if_is : (depth : ℕ) (e : MonExpression) (a b : MonStatements)
       → statement_pieces gs rs depth (If e a b) ++ more
       ≡ Word (codes "if") ∷ blank ∷ left_paren ∷ (expression_pieces rs e ++ (right_paren ∷ blank ∷ (body_pieces gs rs depth a ++ (blank ∷ Word (codes "else") ∷ blank ∷ (body_pieces gs rs depth b ++ more)))))
@@ -101,14 +116,16 @@ module _ (gs : FunctionNames) (rs : Registers) (more : Pieces) where
 
 -- ---- functions
 
-pub function_is : (gs : FunctionNames) (f : MonFunction) (more : Pieces)
-    → function_pieces gs f ++ more
+pub function_is : (gs : FunctionNames) (globals : List MonitoredGlobal) (f : MonFunction) (more : Pieces)
+    → function_pieces gs globals f ++ more
     ≡ Word (result_word f.result) ∷ blank ∷ Word f.name ∷ left_paren ∷ (parameters_pieces f.parameters ++
-    (right_paren ∷ blank ∷ Mark (codes "{") ∷ (registers_pieces f.registers ++ (statements_pieces gs (f.parameters ++ f.registers) 1 f.body ++ (new_line 0 ∷ Mark (codes "}") ∷ new_line 0 ∷ more)))))
-function_is gs f more =
+    (right_paren ∷ blank ∷ Mark (codes "{") ∷ (registers_pieces f.registers ++
+    (statements_pieces gs (record { registers = f.parameters ++ f.registers; globals = globals }) 1 f.body ++ (new_line 0 ∷ Mark (codes "}") ∷ new_line 0 ∷ more)))))
+function_is gs globals f more =
     let P = parameters_pieces f.parameters in
     let R = registers_pieces f.registers in
-    let S = statements_pieces gs (f.parameters ++ f.registers) 1 f.body in
+    let rs : InSight = record { registers = f.parameters ++ f.registers; globals = globals } in
+    let S = statements_pieces gs rs 1 f.body in
     let end : Pieces → Pieces = λ l. new_line 0 ∷ Mark (codes "}") ∷ new_line 0 ∷ l in
     let inner : Pieces → Pieces = λ l. blank ∷ Mark (codes "{") ∷ l in
     ap (λ (l : Pieces). Word (result_word f.result) ∷ blank ∷ Word f.name ∷ left_paren ∷ l)

@@ -15,10 +15,10 @@ use Rattle.mon_syntax.specs.declared.tree.MonType.{MonType}
 use Rattle.mon_syntax.specs.declared.word.Word.{Word}
 use Rattle.mon_syntax.specs.declared.word.Word.TheVariants as word
 use Rattle.mon_syntax.specs.Words.{word_of}
-use Rattle.mon_syntax.specs.Trees.{MonFunction}
+use Rattle.mon_syntax.specs.Trees.{MonFunction, MonitoredGlobal}
 use Rattle.mon_syntax.specs.Text as text
-use Rattle.mon_syntax.specs.Text.{Registers, FunctionNames, function_name, statements_pieces, registers_pieces, function_pieces, result_word}
-use Rattle.mon_syntax.specs.Valid.{has_label, Signature, depth_of_all, types_of, signature_of, IsFunction, AreFunctions}
+use Rattle.mon_syntax.specs.Text.{Registers, InSight, FunctionNames, function_name, statements_pieces, registers_pieces, function_pieces, result_word}
+use Rattle.mon_syntax.specs.Valid.{has_label, Signature, depth_of_all, types_of, signature_of, names_before, IsFunction, AreFunctions, AreGlobals}
 use Rattle.mon_syntax.specs.Parsed.{ParsedStatement, ParsedRegister, ParsedFunction}
 use Rattle.mon_syntax.specs.Grammar as form
 use Rattle.mon_syntax.specs.Grammar.{Vocabulary, name_kind, type_kind, void_kind, mark_kind, word_kind, word_at, kind, type_of_word, type_of, first_function, first_statement, parsed_list, registers}
@@ -29,9 +29,10 @@ use Rattle.mon_syntax.proofs.PrintedForms.{Pieces, function_is}
 use Rattle.mon_syntax.proofs.PrintedAlone.{same_bytes}
 use Rattle.mon_syntax.proofs.PrintedSteps.{free_is_name, type_word_is, mark_read, fixed_read, placed_read, name_read, sees_mark, sees_word}
 use Rattle.mon_syntax.proofs.PrintedExpressions.{AreWords, AreFound}
+use Rattle.mon_syntax.proofs.PrintedGlobals.{AreKnownGlobals, global_numbers, all_others, found_are}
 use Rattle.mon_syntax.proofs.PrintedBodies.{AreRead, list_read}
 use Rattle.mon_syntax.proofs.PrintedStatements.{AreCallees, statements_as}
-use Rattle.mon_syntax.proofs.PrintedRegisters.{both_false, number, IsKnown, entry, found_are, registers_back, bytes_are, known_join, registers_as, registers_read, parameters_as, behind_parameters}
+use Rattle.mon_syntax.proofs.PrintedRegisters.{both_false, number, IsKnown, AreApart, entry, registers_back, bytes_are, known_join, registers_as, registers_read, parameters_as, behind_parameters}
 
 -- ---- functions are found by their names
 
@@ -65,24 +66,24 @@ module _ (names : List (List ℕ)) where
       by false e = refl
 
   -- no function has a name that stands before
-  pub not_before : (gs : List Signature) (before : List (List ℕ)) (fs : List MonFunction) (k : ℕ) (g : Signature) → AreFunctions gs before fs
+  pub not_before : (globals : List MonitoredGlobal) (gs : List Signature) (before : List (List ℕ)) (fs : List MonFunction) (k : ℕ) (g : Signature) → AreFunctions globals gs before fs
       → slice_get (map signature_of fs) k ≡ Some g → has_label before g.name ≡ false
-  not_before gs before [] k g h e = absurd cc
-  not_before gs before (f ∷ fs) zero g h e = let same : signature_of f ≡ g = cc in ap (λ (s : Signature). has_label before s.name) (sym same) ∙ h.1
-  not_before gs before (f ∷ fs) (suc k) g h e = (both_false (bytes_eq g.name f.name) (has_label before g.name) (not_before gs (f.name ∷ before) fs k g h.2 e)).1
+  not_before globals gs before [] k g h e = absurd cc
+  not_before globals gs before (f ∷ fs) zero g h e = let same : signature_of f ≡ g = cc in ap (λ (s : Signature). has_label before s.name) (sym same) ∙ h.1
+  not_before globals gs before (f ∷ fs) (suc k) g h e = (both_false (bytes_eq g.name f.name) (has_label before g.name) (not_before globals gs (f.name ∷ before) fs k g h.2 e)).1
 
-  find_is : (gs : List Signature) (before : List (List ℕ)) (fs : List MonFunction) (i k : ℕ) (g : Signature) → AreFunctions gs before fs
+  find_is : (globals : List MonitoredGlobal) (gs : List Signature) (before : List (List ℕ)) (fs : List MonFunction) (i k : ℕ) (g : Signature) → AreFunctions globals gs before fs
       → slice_get (map signature_of fs) k ≡ Some g → IsKnown names g.name
       → find_function i (map header fs) (number names g.name) ≡ Some (i + k, header_with g)
-  find_is gs before [] i k g h e known = absurd cc
-  find_is gs before (f ∷ fs) i zero g h e known =
+  find_is globals gs before [] i k g h e known = absurd cc
+  find_is globals gs before (f ∷ fs) i zero g h e known =
       let same : signature_of f ≡ g = cc in
       let here : i ≡ i + 0 = omega arith in
       rw (eq-eqb (number names f.name) (number names g.name) (ap (λ (s : Signature). number names s.name) same)) (λ j. Some (here j, header_with (same j)))
-  find_is gs before (f ∷ fs) i (suc k) g h e known =
-      let other = (both_false (bytes_eq g.name f.name) (has_label before g.name) (not_before gs (f.name ∷ before) fs k g h.2 e)).0 in
+  find_is globals gs before (f ∷ fs) i (suc k) g h e known =
+      let other = (both_false (bytes_eq g.name f.name) (has_label before g.name) (not_before globals gs (f.name ∷ before) fs k g h.2 e)).0 in
       let there : suc i + k ≡ i + suc k = omega arith in
-      rw (other_name f.name g.name known other) (find_is gs (f.name ∷ before) fs (suc i) k g h.2 e known ∙ ap (λ (n : ℕ). Some (n, header_with g)) there)
+      rw (other_name f.name g.name known other) (find_is globals gs (f.name ∷ before) fs (suc i) k g h.2 e known ∙ ap (λ (n : ℕ). Some (n, header_with g)) there)
 
   name_is : (fs : List MonFunction) (k : ℕ) (g : Signature) → slice_get (map signature_of fs) k ≡ Some g
       → function_name (map (λ (f : MonFunction). f.name) fs) k ≡ g.name
@@ -95,19 +96,19 @@ module _ (names : List (List ℕ)) where
   result_is (f ∷ fs) zero g e = let same : signature_of f ≡ g = cc in ap (λ (s : Signature). s.result) same
   result_is (f ∷ fs) (suc k) g e = result_is fs k g e
 
-  is_name : (gs : List Signature) (before : List (List ℕ)) (fs : List MonFunction) (k : ℕ) (g : Signature) → AreFunctions gs before fs
+  is_name : (globals : List MonitoredGlobal) (gs : List Signature) (before : List (List ℕ)) (fs : List MonFunction) (k : ℕ) (g : Signature) → AreFunctions globals gs before fs
       → slice_get (map signature_of fs) k ≡ Some g → word_of g.name ≡ word.Name
-  is_name gs before [] k g h e = absurd cc
-  is_name gs before (f ∷ fs) zero g h e = let same : signature_of f ≡ g = cc in ap (λ (s : Signature). word_of s.name) (sym same) ∙ free_is_name f.name h.0.name
-  is_name gs before (f ∷ fs) (suc k) g h e = is_name gs (f.name ∷ before) fs k g h.2 e
+  is_name globals gs before [] k g h e = absurd cc
+  is_name globals gs before (f ∷ fs) zero g h e = let same : signature_of f ≡ g = cc in ap (λ (s : Signature). word_of s.name) (sym same) ∙ free_is_name f.name h.0.name
+  is_name globals gs before (f ∷ fs) (suc k) g h e = is_name globals gs (f.name ∷ before) fs k g h.2 e
 
-  pub callees_are : (gs : List Signature) (fs : List MonFunction) → AreFunctions gs [] fs
+  pub callees_are : (globals : List MonitoredGlobal) (gs : List Signature) (fs : List MonFunction) → AreFunctions globals gs [] fs
       → AreCallees names (map header fs) (map (λ (f : MonFunction). f.name) fs) (map signature_of fs)
-  callees_are gs fs h k g e = record {
+  callees_are globals gs fs h k g e = record {
     name = name_is fs k g e;
-    is_name = is_name gs [] fs k g h e;
+    is_name = is_name globals gs [] fs k g h e;
     result = result_is fs k g e;
-    found = λ known. let first : 0 + k ≡ k = omega arith in find_is gs [] fs 0 k g h e known ∙ ap (λ (n : ℕ). Some (n, header_with g)) first;
+    found = λ known. let first : 0 + k ≡ k = omega arith in find_is globals gs [] fs 0 k g h e known ∙ ap (λ (n : ℕ). Some (n, header_with g)) first;
   }
 
 -- ---- a function is read
@@ -173,7 +174,11 @@ module _ (ws : Vocabulary) where
       ) refl
 
 module _ (names : List (List ℕ)) (ws : Vocabulary) (words : AreWords names ws) (functions : List Header)
+    (globals : List MonitoredGlobal) (known_globals : AreKnownGlobals names globals) (are_globals : AreGlobals [] globals)
     (called : FunctionNames) (gs : List Signature) (callees : AreCallees names functions called gs) where
+  abbrev numbers : List ℕ
+  numbers = global_numbers names globals
+
   -- what a function is that was checked so
   function_back : (f : MonFunction) (tree : ParsedFunction) → tree.result ≡ f.result → tree.name.number ≡ number names f.name → IsKnown names f.name
       → map (named_register names) (map (entry names) f.parameters) ≡ f.parameters → map (named_register names) (map (entry names) f.registers) ≡ f.registers
@@ -187,10 +192,10 @@ module _ (names : List (List ℕ)) (ws : Vocabulary) (words : AreWords names ws)
 
   function_checked : (f : MonFunction) (tree : ParsedFunction) → tree.result ≡ f.result → tree.name.number ≡ number names f.name → IsKnown names f.name
       → map (named_register names) (map (entry names) f.parameters) ≡ f.parameters → map (named_register names) (map (entry names) f.registers) ≡ f.registers
-      → checked_registers ws [] tree.parameters ≡ Ok (map (entry names) f.parameters)
-      → checked_registers ws (map (entry names) f.parameters) tree.registers ≡ Ok (map (entry names) f.parameters ++ map (entry names) f.registers)
-      → checked_statements (scope_of names ws functions (map (entry names) f.parameters ++ map (entry names) f.registers)) tree.result [] tree.body ≡ Ok f.body
-      → checked_function names ws functions tree ≡ Ok f
+      → checked_registers ws numbers [] tree.parameters ≡ Ok (map (entry names) f.parameters)
+      → checked_registers ws numbers (map (entry names) f.parameters) tree.registers ≡ Ok (map (entry names) f.parameters ++ map (entry names) f.registers)
+      → checked_statements (scope_of names ws functions numbers (map (entry names) f.parameters ++ map (entry names) f.registers)) tree.result [] tree.body ≡ Ok f.body
+      → checked_function names ws functions numbers tree ≡ Ok f
   function_checked f tree result name known ps rs parameters_are registers_are body_is =
       rw (parameters_are, registers_are, body_is) (ap Ok (function_back f tree result name known ps rs))
 
@@ -205,27 +210,31 @@ module _ (names : List (List ℕ)) (ws : Vocabulary) (words : AreWords names ws)
     pub name : tree.name.number ≡ number names f.name
     pub result : tree.result ≡ f.result
     pub kinds : kinds_of tree.parameters ≡ types_of f.parameters
-    pub checked : checked_function names ws functions tree ≡ Ok f
+    pub checked : checked_function names ws functions numbers tree ≡ Ok f
 
-  pub function_as : (f : MonFunction) (more : Pieces) (ts : List PlainToken) → IsFunction gs f → AreTokens names (function_pieces called f ++ more) ts
+  pub function_as : (f : MonFunction) (more : Pieces) (ts : List PlainToken) → IsFunction globals gs f → AreTokens names (function_pieces called globals f ++ more) ts
       → IsFunctionAs f more ts
   function_as f more ts h a0 =
       let P = map (entry names) f.parameters in
       let R = map (entry names) f.registers in
       let all = f.parameters ++ f.registers in
-      let a = subst (λ (l : Pieces). AreTokens names l ts) (function_is called f more) a0 in
+      let rs_all : InSight = record { registers = all; globals = globals } in
+      let outer = names_before [] globals in
+      let a = subst (λ (l : Pieces). AreTokens names l ts) (function_is called globals f more) a0 in
       let result_is = words _ _ a.0 ∙ result_word_is f.result in
       let name = a.1.3 in
       let name_is = words _ _ name.0 ∙ free_is_name f.name h.name in
       let opening = name.1.3 in
-      let ps = parameters_as names ws words f.parameters f.registers _ opening.1 h.registers opening.3 in
+      let ps = parameters_as names ws words numbers f.parameters f.registers _ outer opening.1 h.registers opening.3 in
       let start = ps.after in
-      let behind = behind_parameters names ws words f.parameters f.registers h.registers ps.known in
-      let rs = registers_as names ws words f.registers behind.before _ start.1 behind.are start.3 in
-      let found = subst (AreFound names (types_of all) all) (map-append (entry names) f.parameters f.registers) (found_are names all (known_join names f.parameters f.registers ps.known rs.known) h.registers) in
+      let apart : AreApart names ws words numbers outer [] = λ w there new. (refl, all_others names [] globals known_globals w there new) in
+      let behind = behind_parameters names ws words numbers f.parameters f.registers outer h.registers ps.known apart in
+      let rs = registers_as names ws words numbers f.registers behind.before _ start.1 behind.are start.3 in
+      let found = subst (AreFound names (types_of all) rs_all numbers) (map-append (entry names) f.parameters f.registers)
+      (found_are names globals all known_globals are_globals (known_join names f.parameters f.registers ps.known rs.known) h.registers) in
       let deep : depth_of_all f.body ≤ 1999 = omega (arith, h.within) in
       let end : Pieces = text.new_line 0 ∷ text.Mark (codes "}") ∷ text.new_line 0 ∷ more in
-      let x = statements_as names ws words functions called gs callees (types_of all) all (P ++ R) found f.result f.body 1999 1 [] end rs.rest deep (λ w e. absurd cc) h.body rs.after in
+      let x = statements_as names ws words functions numbers called gs callees (types_of all) rs_all (P ++ R) found f.result f.body 1999 1 [] end rs.rest deep (λ w e. absurd cc) h.body rs.after in
       let tree : ParsedFunction = record { result = f.result; name = record { place = name.1.0; number = number names f.name }; parameters = ps.trees; registers = rs.trees; body = parsed_list x.trees } in
       record {
         tree = tree;
@@ -235,12 +244,12 @@ module _ (names : List (List ℕ)) (ws : Vocabulary) (words : AreWords names ws)
         read =
             function_read ws f.result _ ps.trees rs.trees x.trees ts opening.1 rs.rest (result_read ws f.result _ a.1.2 result_is) name.1.2
             (ap word_kind name_is) opening.2 ps.read ps.ends start.2
-            (registers_read names ws words rs.trees start.1 rs.rest (rs.read []) (body_begins ws 1999 x.trees rs.rest x.read x.after.2)) x.read x.after.2;
+            (registers_read names ws words numbers rs.trees start.1 rs.rest (rs.read []) (body_begins ws 1999 x.trees rs.rest x.read x.after.2)) x.read x.after.2;
         known = name.0;
         name = refl;
         result = refl;
         kinds = ps.kinds;
         checked =
             function_checked f tree refl refl name.0 (registers_back names f.parameters ps.known) (registers_back names f.registers rs.known)
-            (ps.checked [] (λ w _ _. refl)) (rs.checked P behind.apart) x.checked;
+            (ps.checked [] apart) (rs.checked P behind.apart) x.checked;
       }

@@ -24,7 +24,7 @@ use Rattle.c_model.specs.MonitoredTokenLaws.{Stops, with_names}
 use Rattle.c_model.proofs.Spelling.{and_true, front_is, digit_in}
 use Rattle.c_model.proofs.NameLaws.{number_points}
 use Rattle.c_model.specs.Punctuators.{shift_left, shift_right, less_equal, greater_equal, equal, not_equal, plus, minus, times, divide, percent, less, greater, assign, tilde, ampersand, bar, caret, colon, semicolon, comma, left_paren, right_paren}
-use Rattle.c_model.specs.Punctuators.{left_brace, right_brace}
+use Rattle.c_model.specs.Punctuators.{left_brace, right_brace, left_bracket, right_bracket}
 use Rattle.mon_syntax.specs.Names.{begins_name}
 use Rattle.mon_syntax.specs.Text as text
 use Rattle.mon_syntax.specs.Text.{escaped, quoted, spelled_piece, spelled, new_line}
@@ -35,7 +35,7 @@ use Rattle.mon_syntax.specs.Text.{escaped, quoted, spelled_piece, spelled, new_l
 abbrev pub punctuators : List (List ℕ × ℕ)
 punctuators =
     (codes "(", left_paren) ∷ (codes ")", right_paren) ∷ (codes ",", comma) ∷ (codes ";", semicolon) ∷ (codes ":", colon) ∷ (codes "=", assign)
-    ∷ (codes "{", left_brace) ∷ (codes "}", right_brace) ∷ (codes "~", tilde) ∷ (codes "+", plus) ∷ (codes "-", minus) ∷ (codes "*", times)
+    ∷ (codes "{", left_brace) ∷ (codes "}", right_brace) ∷ (codes "[", left_bracket) ∷ (codes "]", right_bracket) ∷ (codes "~", tilde) ∷ (codes "+", plus) ∷ (codes "-", minus) ∷ (codes "*", times)
     ∷ (codes "/", divide) ∷ (codes "%", percent) ∷ (codes "<<", shift_left) ∷ (codes ">>", shift_right) ∷ (codes "&", ampersand) ∷ (codes "|", bar)
     ∷ (codes "^", caret) ∷ (codes "==", equal) ∷ (codes "!=", not_equal) ∷ (codes "<", less) ∷ (codes "<=", less_equal) ∷ (codes ">", greater)
     ∷ (codes ">=", greater_equal) ∷ []

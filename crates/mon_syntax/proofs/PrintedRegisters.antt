@@ -17,7 +17,7 @@ use Rattle.mon_syntax.specs.declared.word.Word.TheVariants as word
 use Rattle.mon_syntax.specs.Words.{word_of}
 use Rattle.mon_syntax.specs.Trees.{MonRegister}
 use Rattle.mon_syntax.specs.Text as text
-use Rattle.mon_syntax.specs.Text.{Registers, name_of, registers_pieces, parameters_pieces}
+use Rattle.mon_syntax.specs.Text.{Registers, name_or_none, registers_pieces, parameters_pieces}
 use Rattle.mon_syntax.specs.Valid.{has_label, AreRegisters, types_of}
 use Rattle.mon_syntax.specs.Parsed.{ParsedRegister}
 use Rattle.mon_syntax.specs.Grammar.{Vocabulary, name_kind, type_kind, void_kind, mark_kind, word_kind, word_at, kind, type_of_word, type_of, register, registers, parameter, next_parameter, some_parameters, parameters}
@@ -25,8 +25,9 @@ use Rattle.mon_syntax.specs.Checking.{find_register, checked_registers, named_re
 use Rattle.mon_syntax.proofs.ExactTexts.{register_good, next_parameter_good}
 use Rattle.mon_syntax.proofs.PrintedPieces.{AreTokens, is_same}
 use Rattle.mon_syntax.proofs.PrintedForms.{Pieces}
+use Rattle.mon_syntax.proofs.PrintedAlone.{same_bytes}
 use Rattle.mon_syntax.proofs.PrintedSteps.{free_is_name, type_word_is, mark_read, fixed_read, placed_read, name_read, sees_mark, sees_word}
-use Rattle.mon_syntax.proofs.PrintedExpressions.{AreWords, AreFound}
+use Rattle.mon_syntax.proofs.PrintedExpressions.{AreWords}
 
 void_word : word_of (codes "void") ≡ word.Void
 unfolding word_of
@@ -35,6 +36,10 @@ void_word = refl
 pub both_false : (a b : Bool) → a || b ≡ false → (a ≡ false) × (b ≡ false)
 both_false true b h = absurd cc
 both_false false b h = (refl, h)
+
+pub or_last : (a b : Bool) → b ≡ true → a || b ≡ true
+or_last true b h = refl
+or_last false b h = h
 
 module _ (names : List (List ℕ)) where
   abbrev pub number : List ℕ → ℕ
@@ -63,38 +68,45 @@ module _ (names : List (List ℕ)) where
 
   -- ---- registers are found by their names
 
-  named : (rs : Registers) (r : ℕ) (t : MonType) → AreKnown rs → slice_get (types_of rs) r ≡ Some t → IsKnown (name_of rs r)
+  named : (rs : Registers) (r : ℕ) (t : MonType) → AreKnown rs → slice_get (types_of rs) r ≡ Some t → IsKnown (name_or_none (slice_get rs r))
   named [] r t h e = absurd cc
   named (x ∷ rs) zero t h e = h.0
   named (x ∷ rs) (suc r) t h e = named rs r t h.1 e
 
-  free_named : (before : List (List ℕ)) (rs : Registers) (r : ℕ) (t : MonType) → AreRegisters before rs → slice_get (types_of rs) r ≡ Some t → word_of (name_of rs r) ≡ word.Name
+  pub free_named : (before : List (List ℕ)) (rs : Registers) (r : ℕ) (t : MonType) → AreRegisters before rs → slice_get (types_of rs) r ≡ Some t → word_of (name_or_none (slice_get rs r)) ≡ word.Name
   free_named before [] r t h e = absurd cc
   free_named before (x ∷ rs) zero t h e = free_is_name x.name h.0
   free_named before (x ∷ rs) (suc r) t h e = free_named (x.name ∷ before) rs r t h.2 e
 
   -- no register has a name that stands before
-  not_before : (before : List (List ℕ)) (rs : Registers) (r : ℕ) (t : MonType) → AreRegisters before rs → slice_get (types_of rs) r ≡ Some t → has_label before (name_of rs r) ≡ false
+  not_before : (before : List (List ℕ)) (rs : Registers) (r : ℕ) (t : MonType) → AreRegisters before rs → slice_get (types_of rs) r ≡ Some t → has_label before (name_or_none (slice_get rs r)) ≡ false
   not_before before [] r t h e = absurd cc
   not_before before (x ∷ rs) zero t h e = h.1
-  not_before before (x ∷ rs) (suc r) t h e = (both_false (bytes_eq (name_of rs r) x.name) (has_label before (name_of rs r)) (not_before (x.name ∷ before) rs r t h.2 e)).1
+  not_before before (x ∷ rs) (suc r) t h e = (both_false (bytes_eq (name_or_none (slice_get rs r)) x.name) (has_label before (name_or_none (slice_get rs r))) (not_before (x.name ∷ before) rs r t h.2 e)).1
 
-  find_is : (before : List (List ℕ)) (rs : Registers) (k r : ℕ) (t : MonType) → AreKnown rs → AreRegisters before rs → slice_get (types_of rs) r ≡ Some t → find_register k (map entry rs) (number (name_of rs r)) ≡ Some (k + r, t)
+  pub find_is : (before : List (List ℕ)) (rs : Registers) (k r : ℕ) (t : MonType) → AreKnown rs → AreRegisters before rs → slice_get (types_of rs) r ≡ Some t → find_register k (map entry rs) (number (name_or_none (slice_get rs r))) ≡ Some (k + r, t)
   find_is before [] k r t known h e = absurd cc
   find_is before (x ∷ rs) k zero t known h e =
       let same : x.kind ≡ t = cc in
       let here : k ≡ k + 0 = omega arith in
       rw (eq-eqb (number x.name) (number x.name) refl) (λ i. Some (here i, same i))
   find_is before (x ∷ rs) k (suc r) t known h e =
-      let other = (both_false (bytes_eq (name_of rs r) x.name) (has_label before (name_of rs r)) (not_before (x.name ∷ before) rs r t h.2 e)).0 in
-      let differ = numbers_differ x.name (name_of rs r) known.0 (named rs r t known.1 e) other in
+      let other = (both_false (bytes_eq (name_or_none (slice_get rs r)) x.name) (has_label before (name_or_none (slice_get rs r))) (not_before (x.name ∷ before) rs r t h.2 e)).0 in
+      let differ = numbers_differ x.name (name_or_none (slice_get rs r)) known.0 (named rs r t known.1 e) other in
       let there : suc k + r ≡ k + suc r = omega arith in
       rw differ (find_is (x.name ∷ before) rs (suc k) r t known.1 h.2 e ∙ ap (λ (n : ℕ). Some (n, t)) there)
 
-  pub found_are : (rs : Registers) → AreKnown rs → AreRegisters [] rs → AreFound names (types_of rs) rs (map entry rs)
-  found_are rs known h r t e =
-      let first : 0 + r ≡ r = omega arith in
-      (find_is [] rs 0 r t known h e ∙ ap (λ (n : ℕ). Some (n, t)) first, free_named [] rs r t h e)
+  -- a word that stands before is no register's
+  pub not_found : (before : List (List ℕ)) (rs : Registers) (k : ℕ) (w : List ℕ) → AreKnown rs → AreRegisters before rs → IsKnown w → has_label before w ≡ true
+      → find_register k (map entry rs) (number w) ≡ None
+  not_found before [] k w known h there label = refl
+  not_found before (x ∷ rs) k w known h there label =
+      rw (numbers_differ x.name w known.0 there (by (bytes_eq w x.name) refl))
+      (not_found (x.name ∷ before) rs (suc k) w known.1 h.2 there (or_last (bytes_eq w x.name) (has_label before w) label))
+    where
+      by : (t : Bool) → bytes_eq w x.name ≡ t → t ≡ false
+      by true e = absurd (true≢false (sym label ∙ ap (has_label before) (same_bytes w x.name e) ∙ h.1))
+      by false e = refl
 
   -- the registers that are found are those that were printed
   pub registers_back : (rs : Registers) → AreKnown rs → map (named_register names) (map entry rs) ≡ rs
@@ -108,7 +120,8 @@ module _ (names : List (List ℕ)) where
 
   -- ---- registers are read
 
-  module _ (ws : Vocabulary) (words : AreWords names ws) where
+  -- the globals are given by their names' numbers
+  module _ (ws : Vocabulary) (words : AreWords names ws) (globals : List ℕ) where
     abbrev more_registers : List ParsedRegister → Syntax PlainToken (List ParsedRegister)
     more_registers = many (kind ws) (λ _. type_kind ∷ []) (register ws)
 
@@ -125,9 +138,10 @@ module _ (names : List (List ℕ)) where
     registers_end : (xs : List ParsedRegister) (ts : List PlainToken) → sees (kind ws) (type_kind ∷ []) ts ≡ false → (more_registers xs).parse ts ≡ Ok (xs, ts)
     registers_end xs ts s = turn_ends (type_kind ∷ []) (register ws) (λ z. (register_good ws z).here) refl xs ts s
 
-    -- none of the registers that are known has a name that doesn't stand before
+    -- none of the registers that are known has a name that doesn't stand before, and no global
     abbrev pub AreApart : List (List ℕ) → List (ℕ × MonType) → Type 0
-    AreApart before known = (w : List ℕ) → IsKnown w → has_label before w ≡ false → list_any (λ (x : ℕ × MonType). nat_eq x.0 (number w)) known ≡ false
+    AreApart before known = (w : List ℕ) → IsKnown w → has_label before w ≡ false
+        → (list_any (λ (x : ℕ × MonType). nat_eq x.0 (number w)) known ≡ false) × (list_any (nat_eq (number w)) globals ≡ false)
 
     any_behind : (p : ℕ × MonType → Bool) (xs : List (ℕ × MonType)) (x : ℕ × MonType) → list_any p xs ≡ false → p x ≡ false → list_any p (xs ++ (x ∷ [])) ≡ false
     any_behind p [] x a b = rw b refl
@@ -136,7 +150,8 @@ module _ (names : List (List ℕ)) where
     more_apart : (before : List (List ℕ)) (known : List (ℕ × MonType)) (r : MonRegister) → IsKnown r.name → AreApart before known → AreApart (r.name ∷ before) (known ++ (entry r ∷ []))
     more_apart before known r there apart w h e =
         let k = both_false (bytes_eq w r.name) (has_label before w) e in
-        any_behind (λ (x : ℕ × MonType). nat_eq x.0 (number w)) known (entry r) (apart w h k.1) (numbers_differ r.name w there h k.0)
+        let old = apart w h k.1 in
+        (any_behind (λ (x : ℕ × MonType). nat_eq x.0 (number w)) known (entry r) old.0 (numbers_differ r.name w there h k.0), old.1)
 
     pub record AreRegistersAs (rs : Registers) (before : List (List ℕ)) (more : Pieces) (ts : List PlainToken) : Type 0 where
       pub trees : List ParsedRegister
@@ -144,11 +159,12 @@ module _ (names : List (List ℕ)) where
       pub after : AreTokens names more rest
       pub read : (xs : List ParsedRegister) → (more_registers xs).parse ts ≡ (more_registers (xs ++ trees)).parse rest
       pub known : AreKnown rs
-      pub checked : (ks : List (ℕ × MonType)) → AreApart before ks → checked_registers ws ks trees ≡ Ok (ks ++ map entry rs)
+      pub checked : (ks : List (ℕ × MonType)) → AreApart before ks → checked_registers ws globals ks trees ≡ Ok (ks ++ map entry rs)
 
-    one_checked : (ks : List (ℕ × MonType)) (r : MonRegister) (at : Place) (trees : List ParsedRegister) → word_at ws (number r.name) ≡ word.Name → list_any (λ (x : ℕ × MonType). nat_eq x.0 (number r.name)) ks ≡ false
-        → checked_registers ws ks (record { kind = r.kind; name = record { place = at; number = number r.name } } ∷ trees) ≡ checked_registers ws (ks ++ (entry r ∷ [])) trees
-    one_checked ks r at trees w f = rw (w, f) refl
+    one_checked : (ks : List (ℕ × MonType)) (r : MonRegister) (at : Place) (trees : List ParsedRegister) → word_at ws (number r.name) ≡ word.Name
+        → (list_any (λ (x : ℕ × MonType). nat_eq x.0 (number r.name)) ks ≡ false) × (list_any (nat_eq (number r.name)) globals ≡ false)
+        → checked_registers ws globals ks (record { kind = r.kind; name = record { place = at; number = number r.name } } ∷ trees) ≡ checked_registers ws globals (ks ++ (entry r ∷ [])) trees
+    one_checked ks r at trees w f = rw (w, f.1, f.0) refl
 
     pub registers_as : (rs : Registers) (before : List (List ℕ)) (more : Pieces) (ts : List PlainToken) → AreRegisters before rs
         → AreTokens names (registers_pieces rs ++ more) ts → AreRegistersAs rs before more ts
@@ -224,14 +240,14 @@ module _ (names : List (List ℕ)) where
       pub after : AreTokens names more rest
       pub known : AreKnown ps
       pub kinds : kinds_of trees ≡ types_of ps
-      pub checked : (ks : List (ℕ × MonType)) → AreApart before ks → checked_registers ws ks trees ≡ Ok (ks ++ map entry ps)
+      pub checked : (ks : List (ℕ × MonType)) → AreApart before ks → checked_registers ws globals ks trees ≡ Ok (ks ++ map entry ps)
 
     -- the parameter before others is new, and they are checked after it
     parameter_checked : (p : MonRegister) (ps : Registers) (before : List (List ℕ)) (at : Place) (trees : List ParsedRegister)
         → word_at ws (number p.name) ≡ word.Name → IsKnown p.name → has_label before p.name ≡ false
-        → ((ks : List (ℕ × MonType)) → AreApart (p.name ∷ before) ks → checked_registers ws ks trees ≡ Ok (ks ++ map entry ps))
+        → ((ks : List (ℕ × MonType)) → AreApart (p.name ∷ before) ks → checked_registers ws globals ks trees ≡ Ok (ks ++ map entry ps))
         → (ks : List (ℕ × MonType)) → AreApart before ks
-        → checked_registers ws ks (record { kind = p.kind; name = record { place = at; number = number p.name } } ∷ trees) ≡ Ok (ks ++ map entry (p ∷ ps))
+        → checked_registers ws globals ks (record { kind = p.kind; name = record { place = at; number = number p.name } } ∷ trees) ≡ Ok (ks ++ map entry (p ∷ ps))
     parameter_checked p ps before at trees is there new others ks apart =
         one_checked ks p at trees is (apart p.name there new) ∙ others (ks ++ (entry p ∷ [])) (more_apart before ks p there apart)
         ∙ ap Ok (append_assoc ks (entry p ∷ []) (map entry ps))
@@ -286,10 +302,10 @@ module _ (names : List (List ℕ)) where
     unfolding parameters some_parameters
     first_parameter n x t w e m = rw (sees_word ws n type_kind t w (void_kind ∷ []) false refl, e, m) refl
 
-    pub parameters_as : (ps rest : Registers) (more : Pieces) (ts : List PlainToken) → AreRegisters [] (ps ++ rest)
+    pub parameters_as : (ps rest : Registers) (more : Pieces) (before : List (List ℕ)) (ts : List PlainToken) → AreRegisters before (ps ++ rest)
         → AreTokens names (parameters_pieces ps ++ (text.right_paren ∷ more)) ts
-        → AreParametersAs ps [] more (λ trees behind. (parameters ws).parse ts ≡ Ok (trees, behind))
-    parameters_as [] rest more ts h a =
+        → AreParametersAs ps before more (λ trees behind. (parameters ws).parse ts ≡ Ok (trees, behind))
+    parameters_as [] rest more before ts h a =
         let end = a.1.3 in
         record {
           trees = [];
@@ -303,11 +319,11 @@ module _ (names : List (List ℕ)) where
           kinds = refl;
           checked = λ ks apart. ap Ok (sym (append-nil ks));
         }
-    parameters_as (p ∷ ps) rest more ts h a =
+    parameters_as (p ∷ ps) rest more before ts h a =
         let type_is = words _ _ a.0 ∙ type_word_is p.kind in
         let name = a.1.3 in
         let name_is = words _ _ name.0 ∙ free_is_name p.name h.0 in
-        let others = more_as ps rest (p.name ∷ []) more name.1.1 h.2 name.1.3 in
+        let others = more_as ps rest (p.name ∷ before) more name.1.1 h.2 name.1.3 in
         let tree : ParsedRegister = record { kind = p.kind; name = record { place = name.1.0; number = number p.name } } in
         record {
           trees = tree ∷ others.trees;
@@ -320,7 +336,7 @@ module _ (names : List (List ℕ)) where
           after = others.after;
           known = (name.0, others.known);
           kinds = ap (λ (l : List MonType). p.kind ∷ l) others.kinds;
-          checked = parameter_checked p ps [] name.1.0 others.trees name_is name.0 h.1 others.checked;
+          checked = parameter_checked p ps before name.1.0 others.trees name_is name.0 h.1 others.checked;
         }
 
     -- ---- registers after parameters
@@ -337,8 +353,9 @@ module _ (names : List (List ℕ)) where
         subst (AreBehind rest) (append_assoc ks (entry p ∷ []) (map entry ps))
         (behind_all ps rest (p.name ∷ before) (ks ++ (entry p ∷ [])) h.2 known.1 (more_apart before ks p known.0 apart))
 
-    pub behind_parameters : (ps rest : Registers) → AreRegisters [] (ps ++ rest) → AreKnown ps → AreBehind rest (map entry ps)
-    behind_parameters ps rest h known = behind_all ps rest [] [] h known (λ w _ _. refl)
+    pub behind_parameters : (ps rest : Registers) (before : List (List ℕ)) → AreRegisters before (ps ++ rest) → AreKnown ps → AreApart before []
+        → AreBehind rest (map entry ps)
+    behind_parameters ps rest before h known apart = behind_all ps rest before [] h known apart
 
   pub known_join : (ps rs : Registers) → AreKnown ps → AreKnown rs → AreKnown (ps ++ rs)
   known_join [] rs h k = k

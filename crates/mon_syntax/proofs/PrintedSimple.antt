@@ -1,6 +1,6 @@
 -- A printed statement with no body is read, and checks as the statement that was printed.
-use Rattle.std.proofs.Common.{◌≡◌, ℕ, Bool, true, false, ◌&&◌, ◌||◌, ◌⊎◌, inl, inr, List, [], ◌∷◌, ◌++◌, map, slice_get, codes, Option, Some, None, Ok, refl, sym, ap, subst, ◌∙◌, eq-eqb}
-use Rattle.std.specs.Prelude.{bytes_eq, nat_eq}
+use Rattle.std.proofs.Common.{◌≡◌, ℕ, Bool, true, false, cond, ◌&&◌, ◌||◌, ◌⊎◌, inl, inr, List, [], ◌∷◌, ◌++◌, length, map, slice_get, codes, Option, Some, None, Ok, refl, sym, ap, subst, ◌∙◌, eq-eqb}
+use Rattle.std.specs.Prelude.{bytes_eq, nat_eq, if◌then◌else◌}
 use Rattle.std.specs.List.{list_any}
 use Rattle.grammar.specs.Syntax.{sees}
 use Rattle.c_syntax.specs.declared.place.Place.{Place}
@@ -8,27 +8,30 @@ use Rattle.c_syntax.specs.Tokens as token
 use Rattle.c_syntax.specs.Tokens.{PlainToken}
 use Rattle.c_model.specs.Names.{name_number}
 use Rattle.c_model.specs.MonitoredTokens as made
-use Rattle.c_model.specs.Punctuators.{assign, semicolon}
+use Rattle.c_model.specs.Punctuators.{assign, semicolon, times}
 use Rattle.mon_syntax.specs.declared.tree.MonType.{MonType}
+use Rattle.mon_syntax.specs.declared.tree.MonType.TheVariants.{Ptr}
 use Rattle.mon_syntax.specs.declared.word.Word.{Word}
 use Rattle.mon_syntax.specs.declared.word.Word.TheVariants as word
 use Rattle.mon_syntax.specs.Words.{word_of}
-use Rattle.mon_syntax.specs.Trees.{MonExpression, Register, Constant, Binary, Minus, Flip, Cast, MonStatement, Set, Goto, Return}
+use Rattle.mon_syntax.specs.Trees.{MonExpression, Register, Global, Constant, Binary, Minus, Flip, Cast, Load, MonStatement, Set, Store, Goto, Return}
 use Rattle.mon_syntax.specs.Text as text
-use Rattle.mon_syntax.specs.Text.{Registers, name_of, expression_pieces, call_pieces, set_or_none}
+use Rattle.mon_syntax.specs.Text.{InSight, name_of, expression_pieces, call_pieces, set_or_none, mark_pieces, FunctionNames, statement_pieces}
+use Rattle.mon_syntax.specs.Arithmetic.{byte_count, is_pointer}
 use Rattle.mon_syntax.specs.Valid as valid
 use Rattle.mon_syntax.specs.Valid.{Types, IsExpression, TakesValue, Labels, has_label, ReturnsResult}
 use Rattle.mon_syntax.specs.Parsed as parsed
 use Rattle.mon_syntax.specs.Parsed.{NameUse, ParsedExpression, ParsedCall, ParsedStatement}
 use Rattle.mon_syntax.specs.Grammar as form
-use Rattle.mon_syntax.specs.Grammar.{Vocabulary, name_kind, goto_kind, return_kind, word_kind, kind, first_statement, is_step_word, has_no_argument, behind_name, statement_with, statement_in}
+use Rattle.mon_syntax.specs.Grammar.{Vocabulary, name_kind, goto_kind, return_kind, word_kind, kind, first_statement, is_step_word, has_no_argument, initialize_kind, initialize_pointer_kind, behind_name, number_mark, pointer_mark, store_mark}
+use Rattle.mon_syntax.specs.Grammar.{statement_with, statement_in}
 use Rattle.mon_syntax.specs.Checking.{Scope, Header, scope_of, checked_expression, checked_call, returned, call_of_word, value_type, with_target, taken, checked_statement, labels_in}
 use Rattle.mon_syntax.proofs.PrintedPieces.{AreTokens}
-use Rattle.mon_syntax.proofs.PrintedForms.{Pieces, ended_is}
+use Rattle.mon_syntax.proofs.PrintedForms.{Pieces, ended_is, store_is}
 use Rattle.mon_syntax.proofs.PrintedAlone.{same_bytes}
-use Rattle.mon_syntax.proofs.PrintedSteps.{sees_word}
-use Rattle.mon_syntax.proofs.PrintedExpressions.{IsOther, IsRegister, AreWords, AreFound, same_types}
-use Rattle.mon_syntax.proofs.PrintedCalls.{name_statement, call_behind, take_behind, set_name_behind, set_behind}
+use Rattle.mon_syntax.proofs.PrintedSteps.{type_word_is, sees_mark, sees_word}
+use Rattle.mon_syntax.proofs.PrintedExpressions.{IsOther, IsName, AreWords, AreFound, same_types, pointed_read}
+use Rattle.mon_syntax.proofs.PrintedCalls.{name_statement, call_behind, take_behind, set_name_behind, set_behind, number_mark_read, pointer_mark_read, store_read}
 use Rattle.mon_syntax.proofs.PrintedArguments as call_form
 use Rattle.mon_syntax.proofs.PrintedBodies.{jump_read, return_read, return_value_read}
 
@@ -36,13 +39,15 @@ or_true : (a b : Bool) → b ≡ true → a || b ≡ true
 or_true true b h = refl
 or_true false b h = h
 
-name_or_other : (e : MonExpression) → IsRegister e ⊎ IsOther e
+name_or_other : (e : MonExpression) → IsName e ⊎ IsOther e
 name_or_other (Register r) = inl tt
+name_or_other (Global g) = inl tt
 name_or_other (Constant t z) = inr tt
 name_or_other (Binary op t a b) = inr tt
 name_or_other (Minus t a) = inr tt
 name_or_other (Flip t a) = inr tt
 name_or_other (Cast t a) = inr tt
+name_or_other (Load t a) = inr tt
 
 -- the words of other statements
 goto_word : word_of (codes "goto") ≡ word.Goto
@@ -53,23 +58,35 @@ return_word : word_of (codes "return") ≡ word.Return
 unfolding word_of
 return_word = refl
 
-module _ (names : List (List ℕ)) (ws : Vocabulary) (words : AreWords names ws) (functions : List Header)
-    (types : Types) (rs : Registers) (regs : List (ℕ × MonType)) (found : AreFound names types rs regs) (result : Option MonType) where
+-- the words of marks
+number_mark_word : word_of (codes "__e_acsl_initialize") ≡ word.Initialize
+unfolding word_of
+number_mark_word = refl
+
+pointer_mark_word : word_of (codes "__e_acsl_initialize_ptr") ≡ word.InitializePointer
+unfolding word_of
+pointer_mark_word = refl
+
+module _ (names : List (List ℕ)) (ws : Vocabulary) (words : AreWords names ws) (functions : List Header) (globals : List ℕ)
+    (types : Types) (rs : InSight) (regs : List (ℕ × MonType)) (found : AreFound names types rs globals regs) (result : Option MonType) where
+  abbrev count : ℕ
+  count = length rs.globals
+
   abbrev IsCallAs : List ℕ → Word → MonStatement → Pieces → List PlainToken → Type 0
-  IsCallAs = call_form.IsCallAs names ws words functions types rs regs found
+  IsCallAs = call_form.IsCallAs names ws words functions globals types rs regs found
 
   abbrev Whole : MonExpression → MonType → Pieces → List PlainToken → Type 0
-  Whole = call_form.Whole names ws words functions types rs regs found
+  Whole = call_form.Whole names ws words functions globals types rs regs found
 
   abbrev number : List ℕ → ℕ
   number = name_number names
 
   abbrev scope : Scope
-  scope = scope_of names ws functions regs
+  scope = scope_of names ws functions globals regs
 
-  whole : (e : MonExpression) (t : MonType) (more : Pieces) (ts : List PlainToken) → IsExpression types e t
+  whole : (e : MonExpression) (t : MonType) (more : Pieces) (ts : List PlainToken) → IsExpression count types e t
       → AreTokens names (expression_pieces rs e ++ more) ts → Whole e t more ts
-  whole = call_form.whole names ws words functions types rs regs found
+  whole = call_form.whole names ws words functions globals types rs regs found
 
   -- the labels by their numbers
   abbrev pub numbers : Labels → List ℕ
@@ -118,7 +135,7 @@ module _ (names : List (List ℕ)) (ws : Vocabulary) (words : AreWords names ws)
   taken_checked : (r : ℕ) (t : MonType) (a b : MonStatement) (ls : Labels) (x_at at : Place) (c : ParsedCall) → slice_get types r ≡ Some t
       → checked_call scope c ≡ Ok a → value_type scope a ≡ Some t → with_target r a ≡ b
       → checked_statement scope result (numbers ls) (parsed.Take (record { place = x_at; number = number (name_of rs r) }) at c) ≡ Ok b
-  taken_checked r t a b ls x_at at c h p v e = rw ((found r t h).0, p, v, taken, same_types t) (ap Ok e)
+  taken_checked r t a b ls x_at at c h p v e = rw (found.register r t h, p, v, taken, same_types t) (ap Ok e)
 
   -- a call whose value a register takes
   take_is : (n r : ℕ) (t : MonType) (w : List ℕ) (k : Word) (a b : MonStatement) (arguments : Pieces) (ls : Labels) (more : Pieces) (ts : List PlainToken)
@@ -127,7 +144,7 @@ module _ (names : List (List ℕ)) (ws : Vocabulary) (words : AreWords names ws)
       → AreTokens names (text.Word (name_of rs r) ∷ text.blank ∷ text.Mark (codes "=") ∷ text.blank ∷ (call_pieces w arguments ++ more)) ts
       → IsStatementAs n b ls more ts
   take_is n r t w k a b arguments ls more ts is named h v e no_step inner g =
-      let name = ap word_kind (words _ _ g.0 ∙ (found r t h).1) in
+      let name = ap word_kind (words _ _ g.0 ∙ found.register_name r t h) in
       let to = g.1.3 in
       let callee = to.3 in
       let callee_is = words _ _ callee.0 ∙ is in
@@ -161,22 +178,22 @@ module _ (names : List (List ℕ)) (ws : Vocabulary) (words : AreWords names ws)
 
   set_checked : (r : ℕ) (t : MonType) (e : MonExpression) (ls : Labels) (x_at at : Place) (x : ParsedExpression) → slice_get types r ≡ Some t → checked_expression scope x ≡ Ok (e, t)
       → checked_statement scope result (numbers ls) (parsed.Set (record { place = x_at; number = number (name_of rs r) }) at x) ≡ Ok (Set r e)
-  set_checked r t e ls x_at at x h p = rw ((found r t h).0, p, same_types t) refl
+  set_checked r t e ls x_at at x h p = rw (found.register r t h, p, same_types t) refl
 
   set_read : (n : ℕ) (no_step : Bool) (e : MonExpression) (t : MonType) (more : Pieces) (u : NameUse) {at end : Place} {ts : List PlainToken} (us : List PlainToken) {rest : List PlainToken} → ts ≡ made.token at (token.Mark assign) ∷ us
       → (x : Whole e t more us) → x.rest ≡ made.token end (token.Mark semicolon) ∷ rest
       → (behind_name ws no_step u).parse ts ≡ Ok (parsed.Set u at x.tree, rest)
   set_read n no_step e t more u {at} {end} {ts} us {rest} h x s = by (name_or_other e)
     where
-      by : IsRegister e ⊎ IsOther e → (behind_name ws no_step u).parse ts ≡ Ok (parsed.Set u at x.tree, rest)
+      by : IsName e ⊎ IsOther e → (behind_name ws no_step u).parse ts ≡ Ok (parsed.Set u at x.tree, rest)
       by (inl i) = let k = x.named i in set_name_behind ws (statement_in ws n) no_step u k.number h k.token k.name s ∙ ap (λ (y : ParsedExpression). Ok (parsed.Set u at y, rest)) (sym k.is)
       by (inr i) = let k = x.other i in set_behind ws (statement_in ws n) no_step u h k.1 k.0 s
 
-  pub set_is : (n r : ℕ) (t : MonType) (e : MonExpression) (ls : Labels) (more : Pieces) (ts : List PlainToken) → slice_get types r ≡ Some t → IsExpression types e t
+  pub set_is : (n r : ℕ) (t : MonType) (e : MonExpression) (ls : Labels) (more : Pieces) (ts : List PlainToken) → slice_get types r ≡ Some t → IsExpression count types e t
       → AreTokens names (text.Word (name_of rs r) ∷ text.blank ∷ text.Mark (codes "=") ∷ text.blank ∷ ((expression_pieces rs e ++ (text.semicolon ∷ [])) ++ more)) ts → IsStatementAs n (Set r e) ls more ts
   set_is n r t e ls more ts h typed a0 =
       let a = subst (λ (l : Pieces). AreTokens names (text.Word (name_of rs r) ∷ text.blank ∷ text.Mark (codes "=") ∷ text.blank ∷ l) ts) (ended_is rs more e) a0 in
-      let name = ap word_kind (words _ _ a.0 ∙ (found r t h).1) in
+      let name = ap word_kind (words _ _ a.0 ∙ found.register_name r t h) in
       let to = a.1.3 in
       let x = whole e t (text.semicolon ∷ more) to.1 typed to.3 in
       let u : NameUse = record { place = a.1.0; number = number (name_of rs r) } in
@@ -191,6 +208,75 @@ module _ (names : List (List ℕ)) (ws : Vocabulary) (words : AreWords names ws)
         fresh = λ v _ _. refl;
       }
 
+  -- ---- stores
+
+  -- a name where it stands
+  abbrev used : Place → ℕ → NameUse
+  used place n = record { place = place; number = n }
+
+  -- the mark of a store through the register with this name
+  record IsMarkAs (n : ℕ) (t : MonType) (more : Pieces) (ts : List PlainToken) : Type 0 where
+    rest : List PlainToken
+    after : AreTokens names more rest
+    read : (place : Place) (a : ParsedStatement) → (store_mark ws t (used place n) a).parse ts ≡ Ok (a, rest)
+
+  mark_is : (r : ℕ) (t : MonType) (more : Pieces) (ts : List PlainToken) → AreTokens names (mark_pieces rs r t ++ more) ts
+      → IsMarkAs (number (name_of rs r)) t more ts
+  unfolding store_mark
+  mark_is r t more ts a = let x = by (is_pointer t) a in record { rest = x.0; after = x.1; read = x.2 }
+    where
+      by : (b : Bool) → AreTokens names ((if b then call_pieces (codes "__e_acsl_initialize_ptr") (text.Word (name_of rs r) ∷ [])
+          else call_pieces (codes "__e_acsl_initialize") (text.Word (name_of rs r) ∷ (text.comma ++ (text.Number (byte_count t) ∷ [])))) ++ more) ts
+          → (rest : List PlainToken) × AreTokens names more rest
+          × ((place : Place) (c : ParsedStatement) → (cond b (pointer_mark ws (used place (number (name_of rs r))) c)
+          (number_mark ws (byte_count t) (used place (number (name_of rs r))) c)).parse ts ≡ Ok (c, rest))
+      by true g =
+          let w = ap word_kind (words _ _ g.0 ∙ pointer_mark_word) in
+          let opening = g.1.3 in
+          let name = opening.3 in
+          let closing = name.1.3 in
+          let end = closing.3 in
+          (end.1, end.3, λ place c. pointer_mark_read ws _ (number (name_of rs r)) place c g.1.2 w opening.2 name.1.2 closing.2 end.2)
+      by false g =
+          let w = ap word_kind (words _ _ g.0 ∙ number_mark_word) in
+          let opening = g.1.3 in
+          let name = opening.3 in
+          let second = name.1.3 in
+          let bytes = second.3 in
+          let closing = bytes.3 in
+          let end = closing.3 in
+          (end.1, end.3, λ place c. number_mark_read ws (byte_count t) _ (number (name_of rs r)) place c g.1.2 w opening.2 name.1.2 second.2 bytes.2 closing.2 end.2)
+
+  store_checked : (r : ℕ) (t : MonType) (e : MonExpression) (ls : Labels) (x_at at : Place) (x : ParsedExpression) → slice_get types r ≡ Some Ptr → checked_expression scope x ≡ Ok (e, t)
+      → checked_statement scope result (numbers ls) (parsed.Store t (record { place = x_at; number = number (name_of rs r) }) at x) ≡ Ok (Store r t e)
+  store_checked r t e ls x_at at x h p = rw (found.register r Ptr h, p, same_types t) refl
+
+  pub stored_is : (called : FunctionNames) (n depth r : ℕ) (t : MonType) (e : MonExpression) (ls : Labels) (more : Pieces) (ts : List PlainToken) → slice_get types r ≡ Some Ptr
+      → IsExpression count types e t → AreTokens names (statement_pieces called rs depth (Store r t e) ++ more) ts → IsStatementAs n (Store r t e) ls more ts
+  stored_is called n depth r t e ls more ts h typed a0 =
+      let a = subst (λ (l : Pieces). AreTokens names l ts) (store_is called rs more depth r t e) a0 in
+      let opening = a.3 in
+      let kind_there = opening.3 in
+      let kind_is = words _ _ kind_there.0 ∙ type_word_is t in
+      let star = kind_there.1.3 in
+      let closing = star.3 in
+      let name = closing.3 in
+      let name_is = ap word_kind (words _ _ name.0 ∙ found.register_name r Ptr h) in
+      let to = name.1.3 in
+      let x = whole e t (text.semicolon ∷ text.new_line depth ∷ (mark_pieces rs r t ++ more)) to.1 typed to.3 in
+      let end = x.after in
+      let m = mark_is r t more end.1 end.3 in
+      record {
+        tree = parsed.Store t (record { place = name.1.0; number = number (name_of rs r) }) to.0 x.tree;
+        rest = m.rest;
+        after = m.after;
+        begins = sees_mark ws times a.2 first_statement true refl;
+        parsed = λ no_step _. store_read ws (statement_in ws n) no_step t _ a.2 opening.2 (pointed_read ws t _ kind_there.1.2 kind_is star.2 closing.2) name.1.2 name_is to.2 x.parsed end.2 (m.read name.1.0);
+        step = refl;
+        checked = store_checked r t e ls name.1.0 to.0 x.tree h x.checked;
+        fresh = λ v _ _. refl;
+      }
+
   -- ---- jumps
 
   label_known : (ls : Labels) (l : List ℕ) → has_label ls l ≡ true → list_any (nat_eq (number l)) (numbers ls) ≡ true
@@ -202,7 +288,7 @@ module _ (names : List (List ℕ)) (ws : Vocabulary) (words : AreWords names ws)
       by false e g rest = or_true (nat_eq (number l) (number w)) (list_any (nat_eq (number l)) (numbers ls)) (rest g)
 
   goto_checked : (l : List ℕ) (ls : Labels) (at : Place) → has_label ls l ≡ true → slice_get names (number l) ≡ Some l → checked_statement scope result (numbers ls) (parsed.Goto (record { place = at; number = number l })) ≡ Ok (Goto l)
-  goto_checked l ls at h there = rw (label_known ls l h, call_form.bytes_are names ws words functions types rs regs found (number l) l there) refl
+  goto_checked l ls at h there = rw (label_known ls l h, call_form.bytes_are names ws words functions globals types rs regs found (number l) l there) refl
 
   pub goto_is : (n : ℕ) (l : List ℕ) (ls : Labels) (more : Pieces) (ts : List PlainToken) → AreNames ls → has_label ls l ≡ true → AreTokens names (text.Word (codes "goto") ∷ text.blank ∷ text.Word l ∷ text.semicolon ∷ more) ts
       → IsStatementAs n (Goto l) ls more ts
@@ -222,15 +308,15 @@ module _ (names : List (List ℕ)) (ws : Vocabulary) (words : AreWords names ws)
         fresh = λ v _ _. refl;
       }
 
-  returned_none : (r : Option MonType) → ReturnsResult types r None → r ≡ None
+  returned_none : (r : Option MonType) → ReturnsResult count types r None → r ≡ None
   returned_none None h = refl
   returned_none (Some t) h = absurd h
 
-  returned_some : (r : Option MonType) (e : MonExpression) → ReturnsResult types r (Some e) → (t : MonType) × (r ≡ Some t) × IsExpression types e t
+  returned_some : (r : Option MonType) (e : MonExpression) → ReturnsResult count types r (Some e) → (t : MonType) × (r ≡ Some t) × IsExpression count types e t
   returned_some None e h = absurd h
   returned_some (Some t) e h = (t, refl, h)
 
-  pub return_is : (n : ℕ) (ls : Labels) (more : Pieces) (ts : List PlainToken) → ReturnsResult types result None → AreTokens names (text.Word (codes "return") ∷ text.semicolon ∷ more) ts → IsStatementAs n (Return None) ls more ts
+  pub return_is : (n : ℕ) (ls : Labels) (more : Pieces) (ts : List PlainToken) → ReturnsResult count types result None → AreTokens names (text.Word (codes "return") ∷ text.semicolon ∷ more) ts → IsStatementAs n (Return None) ls more ts
   return_is n ls more ts h a =
       let return_kind_is = ap word_kind (words _ _ a.0 ∙ return_word) in
       let end = a.1.3 in
@@ -248,7 +334,7 @@ module _ (names : List (List ℕ)) (ws : Vocabulary) (words : AreWords names ws)
   value_returned : (t : MonType) (e : MonExpression) (at : Place) (x : ParsedExpression) → checked_expression scope x ≡ Ok (e, t) → returned scope (Some t) at (Some x) ≡ Ok (Return (Some e))
   value_returned t e at x p = rw (p, same_types t) refl
 
-  pub return_value_is : (n : ℕ) (e : MonExpression) (ls : Labels) (more : Pieces) (ts : List PlainToken) → ReturnsResult types result (Some e)
+  pub return_value_is : (n : ℕ) (e : MonExpression) (ls : Labels) (more : Pieces) (ts : List PlainToken) → ReturnsResult count types result (Some e)
       → AreTokens names (text.Word (codes "return") ∷ text.blank ∷ ((expression_pieces rs e ++ (text.semicolon ∷ [])) ++ more)) ts → IsStatementAs n (Return (Some e)) ls more ts
   return_value_is n e ls more ts h a0 =
       let a = subst (λ (l : Pieces). AreTokens names (text.Word (codes "return") ∷ text.blank ∷ l) ts) (ended_is rs more e) a0 in

@@ -1,5 +1,5 @@
 -- Printed statements are read, and check as the statements that were printed.
-use Rattle.std.proofs.Common.{◌≡◌, ℕ, zero, suc, ◌+◌, ◌<◌, ◌≤◌, Bool, true, false, ◌&&◌, ◌||◌, not, List, [], ◌∷◌, ◌++◌, slice_get, codes, Option, Some, None, Ok, refl, sym, ap, subst, ◌∙◌, arith, true≢false}
+use Rattle.std.proofs.Common.{◌≡◌, ℕ, zero, suc, ◌+◌, ◌<◌, ◌≤◌, Bool, true, false, ◌&&◌, ◌||◌, not, List, [], ◌∷◌, ◌++◌, length, slice_get, codes, Option, Some, None, Ok, refl, sym, ap, subst, ◌∙◌, arith, true≢false}
 use Rattle.std.specs.Prelude.{bytes_eq, nat_eq}
 use Rattle.std.specs.List.{list_any}
 use Rattle.std.proofs.lemmas.Bool.{eqb-true}
@@ -13,16 +13,16 @@ use Rattle.c_model.specs.Punctuators.{left_brace, right_brace}
 use Rattle.mon_syntax.specs.declared.tree.MonType.{MonType}
 use Rattle.mon_syntax.specs.declared.tree.MonType.TheVariants.{I32, I64, U64}
 use Rattle.mon_syntax.specs.declared.tree.MemoryCall.{MemoryCall}
-use Rattle.mon_syntax.specs.declared.tree.MemoryCall.TheVariants.{StoreBlock, DeleteBlock}
+use Rattle.mon_syntax.specs.declared.tree.MemoryCall.TheVariants as memory_call
 use Rattle.mon_syntax.specs.declared.word.Runtime.{Runtime}
 use Rattle.mon_syntax.specs.declared.word.Runtime.TheVariants as runtime
 use Rattle.mon_syntax.specs.declared.word.Word.{Word}
 use Rattle.mon_syntax.specs.declared.word.Word.TheVariants as word
 use Rattle.mon_syntax.specs.Names.{IsFreeName}
 use Rattle.mon_syntax.specs.Words.{word_of}
-use Rattle.mon_syntax.specs.Trees.{MonExpression, MonStatement, Set, Step, Assert, PutChar, GetChar, Exit, PrintText, PrintSigned, PrintUnsigned, Act, Call, If, Loop, Labelled, Goto, Return, MonStatements, NoStatement, Then}
+use Rattle.mon_syntax.specs.Trees.{MonExpression, MonStatement, Set, Store, Step, Assert, PutChar, GetChar, Exit, PrintText, PrintSigned, PrintUnsigned, Act, Call, If, Loop, Labelled, Goto, Return, MonStatements, NoStatement, Then}
 use Rattle.mon_syntax.specs.Text as text
-use Rattle.mon_syntax.specs.Text.{Registers, expression_pieces, arguments_pieces, call_pieces, memory_word, FunctionNames, function_name, body_pieces, statement_pieces, statements_pieces}
+use Rattle.mon_syntax.specs.Text.{InSight, expression_pieces, arguments_pieces, size_argument, call_pieces, memory_word, FunctionNames, function_name, body_pieces, statement_pieces, statements_pieces}
 use Rattle.mon_syntax.specs.Valid as valid
 use Rattle.mon_syntax.specs.Valid.{Types, IsExpression, Signature, IsCall, Labels, has_label, has_no_step, depth_of_all, memory_result, IsStatement, AreStatements}
 use Rattle.mon_syntax.specs.Parsed as parsed
@@ -62,6 +62,7 @@ any_join p (x ∷ xs) ys a b = by (p x) a (λ h. any_join p xs ys h b)
 
 depth_some : (a : MonStatement) → 0 < valid.depth a
 depth_some (Set r e) = omega arith
+depth_some (Store r t e) = omega arith
 depth_some Step = omega arith
 depth_some (Assert d v number line kind) = omega arith
 depth_some (PutChar r e) = omega arith
@@ -97,26 +98,29 @@ pub record IsCallee (names : List (List ℕ)) (functions : List Header) (called 
 abbrev pub AreCallees : List (List ℕ) → List Header → FunctionNames → List Signature → Type 0
 AreCallees names functions called gs = (f : ℕ) (g : Signature) → slice_get gs f ≡ Some g → IsCallee names functions called f g
 
-module _ (names : List (List ℕ)) (ws : Vocabulary) (words : AreWords names ws) (functions : List Header)
+module _ (names : List (List ℕ)) (ws : Vocabulary) (words : AreWords names ws) (functions : List Header) (globals : List ℕ)
     (called : FunctionNames) (gs : List Signature) (callees : AreCallees names functions called gs)
-    (types : Types) (rs : Registers) (regs : List (ℕ × MonType)) (found : AreFound names types rs regs) (result : Option MonType) where
+    (types : Types) (rs : InSight) (regs : List (ℕ × MonType)) (found : AreFound names types rs globals regs) (result : Option MonType) where
+  abbrev count : ℕ
+  count = length rs.globals
+
   abbrev IsStatementAs : ℕ → MonStatement → Labels → Pieces → List PlainToken → Type 0
-  IsStatementAs = simple.IsStatementAs names ws words functions types rs regs found result
+  IsStatementAs = simple.IsStatementAs names ws words functions globals types rs regs found result
 
   abbrev IsCallAs : List ℕ → Word → MonStatement → Pieces → List PlainToken → Type 0
-  IsCallAs = call_form.IsCallAs names ws words functions types rs regs found
+  IsCallAs = call_form.IsCallAs names ws words functions globals types rs regs found
 
   abbrev numbers : Labels → List ℕ
-  numbers = simple.numbers names ws words functions types rs regs found result
+  numbers = simple.numbers names ws words functions globals types rs regs found result
 
   abbrev AreFresh : Labels → List ℕ → Type 0
-  AreFresh = simple.AreFresh names ws words functions types rs regs found result
+  AreFresh = simple.AreFresh names ws words functions globals types rs regs found result
 
   abbrev AreNames : Labels → Type 0
-  AreNames = simple.AreNames names ws words functions types rs regs found result
+  AreNames = simple.AreNames names ws words functions globals types rs regs found result
 
   abbrev the_scope : Scope
-  the_scope = scope_of names ws functions regs
+  the_scope = scope_of names ws functions globals regs
 
   abbrev the_number : List ℕ → ℕ
   the_number = name_number names
@@ -197,7 +201,7 @@ module _ (names : List (List ℕ)) (ws : Vocabulary) (words : AreWords names ws)
       → checked_statement the_scope result (numbers ls) (parsed.If x y z) ≡ Ok (If e a b)
   if_checked e a b ls x y z p q r = rw (p, q, r) refl
 
-  if_as : (n : ℕ) (e : MonExpression) (a b : MonStatements) (ls : Labels) (depth : ℕ) (more : Pieces) (ts : List PlainToken) → IsExpression types e I32
+  if_as : (n : ℕ) (e : MonExpression) (a b : MonStatements) (ls : Labels) (depth : ℕ) (more : Pieces) (ts : List PlainToken) → IsExpression count types e I32
       → ((m : Pieces) (us : List PlainToken) → AreTokens names (body_pieces called rs depth a ++ m) us → IsBodyAs n a ls m us)
       → ((m : Pieces) (us : List PlainToken) → AreTokens names (body_pieces called rs depth b ++ m) us → IsBodyAs n b ls m us)
       → AreTokens names (statement_pieces called rs depth (If e a b) ++ more) ts → IsStatementAs n (If e a b) ls more ts
@@ -205,7 +209,7 @@ module _ (names : List (List ℕ)) (ws : Vocabulary) (words : AreWords names ws)
       let g = subst (λ (l : Pieces). AreTokens names l ts) (if_is called rs more depth e a b) g0 in
       let w = ap word_kind (words _ _ g.0 ∙ if_word) in
       let opening = g.1.3 in
-      let x = call_form.whole names ws words functions types rs regs found e I32 _ opening.1 h opening.3 in
+      let x = call_form.whole names ws words functions globals types rs regs found e I32 _ opening.1 h opening.3 in
       let y = first _ x.after.1 x.after.3 in
       let other = y.after in
       let v = ap word_kind (words _ _ other.0 ∙ else_word) in
@@ -233,8 +237,8 @@ module _ (names : List (List ℕ)) (ws : Vocabulary) (words : AreWords names ws)
   step_as : (n : ℕ) (more : Pieces) (ts : List PlainToken) → 0 < n → AreTokens names (text.Word (codes "__e_acsl_step") ∷ text.left_paren ∷ text.right_paren ∷ text.semicolon ∷ more) ts → IsStepAs n more ts
   step_as zero more ts some a = absurd (omega arith)
   step_as (suc m) more ts some a =
-      let c = call_form.bare_call names ws words functions types rs regs found (codes "__e_acsl_step") runtime.Step Step more a.1.1 (λ u at. refl) refl a.1.3 in
-      let x : IsStatementAs m Step [] more ts = simple.call_is names ws words functions types rs regs found result m (codes "__e_acsl_step") (word.Runtime runtime.Step) Step [] more ts a.1.1 step_word refl refl a.0 a.1.2 c in
+      let c = call_form.bare_call names ws words functions globals types rs regs found (codes "__e_acsl_step") runtime.Step Step more a.1.1 (λ u at. refl) refl a.1.3 in
+      let x : IsStatementAs m Step [] more ts = simple.call_is names ws words functions globals types rs regs found result m (codes "__e_acsl_step") (word.Runtime runtime.Step) Step [] more ts a.1.1 step_word refl refl a.0 a.1.2 c in
       record { tree = x.tree; rest = x.rest; after = x.after; begins = x.begins; is = x.step; read = statement_suc ws m false ts ∙ x.parsed false refl }
 
   loop_checked : (a b : MonStatements) (ls : Labels) (y z : ParsedStatements) → checked_statements the_scope result (numbers ls) y ≡ Ok a → checked_statements the_scope result (numbers ls) z ≡ Ok b
@@ -304,7 +308,7 @@ module _ (names : List (List ℕ)) (ws : Vocabulary) (words : AreWords names ws)
         step = refl;
         checked = labelled_checked a l ls label.1.0 (parsed_list x.trees) x.checked name
             (x.fresh l (ap (λ (b : Bool). b || has_label ls l) (is_same l)) label.0)
-            (call_form.bytes_are names ws words functions types rs regs found (the_number l) l label.0);
+            (call_form.bytes_are names ws words functions globals types rs regs found (the_number l) l label.0);
         fresh = λ w h there. any_join (nat_eq (the_number w)) (labels_in_all (parsed_list x.trees)) (the_number l ∷ []) (x.fresh w (or_last (bytes_eq w l) (has_label ls w) h) there) (other_number w l ls h no_label there label.0);
       }
 
@@ -322,72 +326,75 @@ module _ (names : List (List ℕ)) (ws : Vocabulary) (words : AreWords names ws)
       → (there : slice_get names (the_number w) ≡ Some w) (at : Place) → ts ≡ made.token at (token.Word (the_number w)) ∷ us
       → IsCallAs w (word.Runtime r) a more us → IsStatementAs n a ls more ts
   runtime_as n w r a ls more ts us is flag there at t c =
-      simple.call_is names ws words functions types rs regs found result n w (word.Runtime r) a ls more ts us is refl flag there t c
+      simple.call_is names ws words functions globals types rs regs found result n w (word.Runtime r) a ls more ts us is refl flag there t c
 
   -- a call with a value
   value_as : (n : ℕ) (w : List ℕ) (r : Runtime) (t : MonType) (e : MonExpression) (f : MonExpression → MonStatement) (ls : Labels) (more : Pieces) (ts : List PlainToken) → word_of w ≡ word.Runtime r → form.is_step_word (word.Runtime r) ≡ false
       → valid.is_step (f e) ≡ false
-      → ((u : NameUse) (at : Place) (xs : List ParsedArgument) → runtime_call the_scope u at xs r ≡ one_value the_scope at t xs f) → IsExpression types e t → AreTokens names (call_pieces w (expression_pieces rs e) ++ more) ts
+      → ((u : NameUse) (at : Place) (xs : List ParsedArgument) → runtime_call the_scope u at xs r ≡ one_value the_scope at t xs f) → IsExpression count types e t → AreTokens names (call_pieces w (expression_pieces rs e) ++ more) ts
       → IsStatementAs n (f e) ls more ts
   value_as n w r t e f ls more ts is no_word no_step same h a =
       runtime_as n w r (f e) ls more ts a.1.1 is (no_word ∙ sym no_step) a.0 a.1.0 a.1.2
-      (call_form.value_call names ws words functions types rs regs found w r t e f more a.1.1 same no_step h a.1.3)
+      (call_form.value_call names ws words functions globals types rs regs found w r t e f more a.1.1 same no_step h a.1.3)
 
-  put_as : (n : ℕ) (r : Option ℕ) (e : MonExpression) (ls : Labels) (more : Pieces) (ts : List PlainToken) → IsStatement gs types result ls (PutChar r e)
+  put_as : (n : ℕ) (r : Option ℕ) (e : MonExpression) (ls : Labels) (more : Pieces) (ts : List PlainToken) → IsStatement count gs types result ls (PutChar r e)
       → AreTokens names (statement_pieces called rs 0 (PutChar r e) ++ more) ts → IsStatementAs n (PutChar r e) ls more ts
   put_as n r e ls more ts h a =
-      simple.taken_or_not names ws words functions types rs regs found result n r (Some I32) (codes "putchar") (word.Runtime runtime.PutChar)
+      simple.taken_or_not names ws words functions globals types rs regs found result n r (Some I32) (codes "putchar") (word.Runtime runtime.PutChar)
       (λ o. PutChar o e) (expression_pieces rs e) ls more ts put_word refl refl (λ o. refl) (λ i. refl) refl h.0
-      (λ us b. call_form.value_call names ws words functions types rs regs found (codes "putchar") runtime.PutChar I32 e (PutChar None) more us (λ u at xs. refl) refl h.1 b) a
+      (λ us b. call_form.value_call names ws words functions globals types rs regs found (codes "putchar") runtime.PutChar I32 e (PutChar None) more us (λ u at xs. refl) refl h.1 b) a
 
-  get_as : (n : ℕ) (r : Option ℕ) (ls : Labels) (more : Pieces) (ts : List PlainToken) → IsStatement gs types result ls (GetChar r)
+  get_as : (n : ℕ) (r : Option ℕ) (ls : Labels) (more : Pieces) (ts : List PlainToken) → IsStatement count gs types result ls (GetChar r)
       → AreTokens names (statement_pieces called rs 0 (GetChar r) ++ more) ts → IsStatementAs n (GetChar r) ls more ts
   get_as n r ls more ts h a =
-      simple.taken_or_not names ws words functions types rs regs found result n r (Some I32) (codes "getchar")
+      simple.taken_or_not names ws words functions globals types rs regs found result n r (Some I32) (codes "getchar")
       (word.Runtime runtime.GetChar) GetChar [] ls more ts get_word refl refl (λ o. refl) (λ i. refl) refl h
-      (λ us b. call_form.bare_call names ws words functions types rs regs found (codes "getchar") runtime.GetChar (GetChar None) more us (λ u at. refl) refl b) a
+      (λ us b. call_form.bare_call names ws words functions globals types rs regs found (codes "getchar") runtime.GetChar (GetChar None) more us (λ u at. refl) refl b) a
 
   act_as : (n : ℕ) (r : Option ℕ) (f : MemoryCall) (es : List MonExpression) (ls : Labels) (more : Pieces) (ts : List PlainToken)
-      → IsStatement gs types result ls (Act r f es) → AreTokens names (statement_pieces called rs 0 (Act r f es) ++ more) ts
+      → IsStatement count gs types result ls (Act r f es) → AreTokens names (statement_pieces called rs 0 (Act r f es) ++ more) ts
       → IsStatementAs n (Act r f es) ls more ts
   act_as n r f es ls more ts h a =
-      simple.taken_or_not names ws words functions types rs regs found result n r (memory_result f) (memory_word f) (word.Runtime (memory_runtime f))
-      (λ o. Act o f es) (arguments_pieces rs es) ls more ts (memory_word_is f) refl (no_step_word f) (λ o. refl) (λ i. refl) refl h.1
-      (λ us b. call_form.memory_call_is names ws words functions types rs regs found f es more us h.0 b) a
+      simple.taken_or_not names ws words functions globals types rs regs found result n r (memory_result f) (memory_word f) (word.Runtime (memory_runtime f))
+      (λ o. Act o f es) (arguments_pieces rs es ++ size_argument f) ls more ts (memory_word_is f) refl (no_step_word f) (λ o. refl) (λ i. refl) refl h.1
+      (λ us b. call_form.memory_call_is names ws words functions globals types rs regs found f es more us h.0 b) a
     where
       no_step_word : (f : MemoryCall) → form.is_step_word (word.Runtime (memory_runtime f)) ≡ false
-      no_step_word StoreBlock = refl
-      no_step_word DeleteBlock = refl
+      no_step_word memory_call.StoreBlock = refl
+      no_step_word memory_call.DeleteBlock = refl
+      no_step_word (memory_call.Number a) = refl
 
   call_as : (n : ℕ) (r : Option ℕ) (f : ℕ) (es : List MonExpression) (ls : Labels) (more : Pieces) (ts : List PlainToken)
-      → IsStatement gs types result ls (Call r f es) → AreTokens names (statement_pieces called rs 0 (Call r f es) ++ more) ts
+      → IsStatement count gs types result ls (Call r f es) → AreTokens names (statement_pieces called rs 0 (Call r f es) ++ more) ts
       → IsStatementAs n (Call r f es) ls more ts
   call_as n r f es ls more ts h a0 =
       let g = h.callee in
       let c = callees f g h.has in
       let a = subst (λ (w : List ℕ). AreTokens names ((text.set_or_none rs r ++ call_pieces w (arguments_pieces rs es)) ++ more) ts) c.name a0 in
-      simple.taken_or_not names ws words functions types rs regs found result n r g.result g.name word.Name (λ o. Call o f es)
+      simple.taken_or_not names ws words functions globals types rs regs found result n r g.result g.name word.Name (λ o. Call o f es)
       (arguments_pieces rs es) ls more ts c.is_name refl refl (λ o. refl) (λ i. refl) c.result h.takes
-      (λ us b. call_form.named_call_is names ws words functions types rs regs found f g es more us c.found h.not_main h.arguments b) a
+      (λ us b. call_form.named_call_is names ws words functions globals types rs regs found f g es more us c.found h.not_main h.arguments b) a
 
   -- ---- all statements
 
   mutual
     statement_as : (a : MonStatement) (n depth : ℕ) (ls : Labels) (more : Pieces) (ts : List PlainToken) → valid.depth a ≤ suc n → AreNames ls
-        → IsStatement gs types result ls a → AreTokens names (statement_pieces called rs depth a ++ more) ts → IsStatementAs n a ls more ts
-    statement_as (Set r e) n depth ls more ts le labels h a = simple.set_is names ws words functions types rs regs found result n r h.0 e ls more ts h.1 h.2 a
+        → IsStatement count gs types result ls a → AreTokens names (statement_pieces called rs depth a ++ more) ts → IsStatementAs n a ls more ts
+    statement_as (Set r e) n depth ls more ts le labels h a = simple.set_is names ws words functions globals types rs regs found result n r h.0 e ls more ts h.1 h.2 a
+    statement_as (Store r t e) n depth ls more ts le labels h a =
+        simple.stored_is names ws words functions globals types rs regs found result called n depth r t e ls more ts h.0 h.1 a
     statement_as Step n depth ls more ts le labels h a =
         runtime_as n (codes "__e_acsl_step") runtime.Step Step ls more ts a.1.1 step_word refl a.0 a.1.0 a.1.2
-        (call_form.bare_call names ws words functions types rs regs found (codes "__e_acsl_step") runtime.Step Step more a.1.1 (λ u at. refl) refl a.1.3)
+        (call_form.bare_call names ws words functions globals types rs regs found (codes "__e_acsl_step") runtime.Step Step more a.1.1 (λ u at. refl) refl a.1.3)
     statement_as (Assert d v k line kind) n depth ls more ts le labels h a =
         runtime_as n (codes "__e_acsl_assert") runtime.Assert (Assert d v k line kind) ls more ts a.1.1 assert_word refl a.0 a.1.0 a.1.2
-        (call_form.assert_call_is names ws words functions types rs regs found (codes "__e_acsl_assert") d v k line kind more a.1.1 h.0 h.1 h.2 h.3 a.1.3)
+        (call_form.assert_call_is names ws words functions globals types rs regs found (codes "__e_acsl_assert") d v k line kind more a.1.1 h.0 h.1 h.2 h.3 a.1.3)
     statement_as (PutChar r e) n depth ls more ts le labels h a = put_as n r e ls more ts h a
     statement_as (GetChar r) n depth ls more ts le labels h a = get_as n r ls more ts h a
     statement_as (Exit e) n depth ls more ts le labels h a = value_as n (codes "exit") runtime.Exit I32 e Exit ls more ts exit_word refl refl (λ u at xs. refl) h a
     statement_as (PrintText bytes) n depth ls more ts le labels h a =
         runtime_as n (codes "__e_acsl_print_text") runtime.PrintText (PrintText bytes) ls more ts a.1.1 text_word refl a.0 a.1.0 a.1.2
-        (call_form.text_call names ws words functions types rs regs found (codes "__e_acsl_print_text") bytes more a.1.1 a.1.3)
+        (call_form.text_call names ws words functions globals types rs regs found (codes "__e_acsl_print_text") bytes more a.1.1 a.1.3)
     statement_as (PrintSigned e) n depth ls more ts le labels h a = value_as n (codes "__e_acsl_print_i64") runtime.PrintSigned I64 e PrintSigned ls more ts signed_word refl refl (λ u at xs. refl) h a
     statement_as (PrintUnsigned e) n depth ls more ts le labels h a = value_as n (codes "__e_acsl_print_u64") runtime.PrintUnsigned U64 e PrintUnsigned ls more ts unsigned_word refl refl (λ u at xs. refl) h a
     statement_as (Act r f es) n depth ls more ts le labels h a = act_as n r f es ls more ts h a
@@ -403,13 +410,13 @@ module _ (names : List (List ℕ)) (ws : Vocabulary) (words : AreWords names ws)
     statement_as (Labelled a l) n depth ls more ts le labels h g =
         labelled_as n a l ls depth more ts h.0 h.1
         (λ m us k. body_as a n depth (l ∷ ls) m us (λ vs j. statements_as a n (depth + 1) (l ∷ ls) _ vs (omega arith) (more_names l ls h.0 labels) h.2 j) k) g
-    statement_as (Goto l) n depth ls more ts le labels h a = simple.goto_is names ws words functions types rs regs found result n l ls more ts labels h a
-    statement_as (Return None) n depth ls more ts le labels h a = simple.return_is names ws words functions types rs regs found result n ls more ts h a
+    statement_as (Goto l) n depth ls more ts le labels h a = simple.goto_is names ws words functions globals types rs regs found result n l ls more ts labels h a
+    statement_as (Return None) n depth ls more ts le labels h a = simple.return_is names ws words functions globals types rs regs found result n ls more ts h a
     statement_as (Return (Some e)) n depth ls more ts le labels h a =
-        simple.return_value_is names ws words functions types rs regs found result n e ls more ts h a
+        simple.return_value_is names ws words functions globals types rs regs found result n e ls more ts h a
 
     pub statements_as : (s : MonStatements) (n depth : ℕ) (ls : Labels) (more : Pieces) (ts : List PlainToken) → depth_of_all s ≤ n → AreNames ls
-        → AreStatements gs types result ls s → AreTokens names (statements_pieces called rs depth s ++ more) ts → AreStatementsAs n s ls more ts
+        → AreStatements count gs types result ls s → AreTokens names (statements_pieces called rs depth s ++ more) ts → AreStatementsAs n s ls more ts
     statements_as NoStatement n depth ls more ts le labels h a = none_as n ls more ts a
     statements_as (Then a s) zero depth ls more ts le labels h g = absurd (omega (arith, depth_some a))
     statements_as (Then a s) (suc m) depth ls more ts le labels h g =

@@ -3,18 +3,21 @@ use Rattle.std.proofs.Common.{◌≡◌, ℕ, ◌+◌, ◌*◌, ◌^◌, pos, ne
 use Rattle.std.specs.Fmt.{digits}
 use Rattle.c_syntax.specs.declared.types.Segment.TheVariants.{Frames, Stack, Numbers}
 use Rattle.c_model.specs.State.{Input, InputTail, EndOfInput, InputFault, Exits, Fault, Spent, Full, ReadFault}
+use Rattle.c_model.specs.Meaning.{Ran}
 use Rattle.mon_syntax.specs.declared.tree.MonType.{MonType}
 use Rattle.mon_syntax.specs.declared.tree.MonType.TheVariants.{I32, U64, Ptr}
 use Rattle.mon_syntax.specs.declared.tree.MonOp.TheVariants.{Add, Sub, Gt}
 use Rattle.mon_syntax.specs.declared.tree.MemoryCall.TheVariants.{StoreBlock, DeleteBlock}
 use Rattle.mon_syntax.specs.Trees.{Register, Constant, Binary, MonStatement, PutChar, GetChar, Act, Call, If, Return, NoStatement, MonRegister, MonFunction, MonitoredProgram}
-use Rattle.mon_syntax.specs.Memory.{Gives}
+use Rattle.mon_syntax.specs.Memory.{Reply, Gives, IsFull, Faults}
 use Rattle.mon_syntax.specs.Meaning.{run}
-use Rattle.mon_syntax.specs.Memories.{block_run, act_on_flat, flat_start, over_flat, flat_run}
+use Rattle.mon_syntax.specs.BlockMemory.{block_run}
+use Rattle.mon_syntax.specs.Flat.{Flat, flat_empty, flat_store_block}
+use Rattle.mon_syntax.specs.FlatMemory.{over_flat, begun, flat_nothing, flat_run}
 use Rattle.mon_syntax.specs.Names.{IsFreeName, reserved_words}
 use Rattle.mon_syntax.specs.Text.{text_of}
 use Rattle.mon_syntax.specs.Valid.{Signature, IsStatement, IsValid}
-use Rattle.mon_syntax.proofs.WorkedRuns.{i32, statements, register, no_input, ends, line}
+use Rattle.mon_syntax.proofs.WorkedRuns.{i32, statements, register, no_input, ends, line, free-x, free-main}
 
 -- a function with i32 parameters and registers of these names
 abbrev function : Option MonType → List ℕ → List (List ℕ) → List (List ℕ) → List MonStatement → MonFunction
@@ -27,7 +30,7 @@ function result name parameters registers body = record {
 }
 
 abbrev program : List MonFunction → MonitoredProgram
-program fs = record { functions = fs }
+program fs = record { globals = []; functions = fs }
 
 abbrev input_of : List ℕ → InputTail → Input
 input_of bytes tail = record { bytes = bytes; tail = tail }
@@ -105,7 +108,7 @@ flat_run-counts_three : flat_run counts_down no_input 3 ≡ ends Spent (codes "3
 flat_run-counts_three = refl
 
 -- where there is room for two more calls
-flat_run-two_frames : run over_flat counts_down (record { frames = 65533; births = 0; live = [] }) no_input 10 ≡ ends (Full Frames) (codes "32") 7
+flat_run-two_frames : run over_flat counts_down (record flat_nothing { frames = 65533 }) no_input 10 ≡ ends (Full Frames) (codes "32") 7
 flat_run-two_frames = refl
 
 -- ---- input
@@ -153,13 +156,21 @@ flat_run-read_fault = refl
 
 -- ---- blocks
 
-abbrev pointer : List ℕ → MonRegister
+-- flat memory with a few units in each region, and room for ten calls
+abbrev pub small : Flat
+small = flat_empty 64 64 64 10
+
+-- a run over it
+abbrev pub small_run : MonitoredProgram → Input → ℕ → Ran
+small_run m input n = run over_flat m (begun small m.globals) input n
+
+abbrev pub pointer : List ℕ → MonRegister
 pointer name = record { kind = Ptr; name = name }
 
-abbrev born : ℕ → ℕ → MonStatement
+abbrev pub born : ℕ → ℕ → MonStatement
 born r size = Act (Some r) StoreBlock (Constant U64 (pos size) ∷ [])
 
-abbrev dies : ℕ → MonStatement
+abbrev pub dies : ℕ → MonStatement
 dies r = Act None DeleteBlock (Register r ∷ [])
 
 abbrev with_blocks : List MonStatement → MonitoredProgram
@@ -191,8 +202,8 @@ text-pair = refl
 block_run-pair : block_run pair no_input 5 ≡ ends (Exits (pos 0)) (codes "A") 5
 block_run-pair = refl
 
-flat_run-pair : flat_run pair no_input 5 ≡ ends (Exits (pos 0)) (codes "A") 5
-flat_run-pair = refl
+small_run-pair : small_run pair no_input 5 ≡ ends (Exits (pos 0)) (codes "A") 5
+small_run-pair = refl
 
 -- a block that isn't the youngest, one that is dead, and what is no pointer
 abbrev older_dies : MonitoredProgram
@@ -201,8 +212,8 @@ older_dies = with_blocks (born 0 24 ∷ born 1 0 ∷ PutChar None (i32 (pos 65))
 block_run-older : block_run older_dies no_input 5 ≡ ends Fault (codes "A") 5
 block_run-older = refl
 
-flat_run-older : flat_run older_dies no_input 5 ≡ ends Fault (codes "A") 5
-flat_run-older = refl
+small_run-older : small_run older_dies no_input 5 ≡ ends Fault (codes "A") 5
+small_run-older = refl
 
 abbrev dies_twice : MonitoredProgram
 dies_twice = with_blocks (born 0 24 ∷ born 1 0 ∷ dies 1 ∷ dies 1 ∷ [])
@@ -210,42 +221,47 @@ dies_twice = with_blocks (born 0 24 ∷ born 1 0 ∷ dies 1 ∷ dies 1 ∷ [])
 block_run-twice : block_run dies_twice no_input 5 ≡ ends Fault [] 5
 block_run-twice = refl
 
-flat_run-twice : flat_run dies_twice no_input 5 ≡ ends Fault [] 5
-flat_run-twice = refl
+small_run-twice : small_run dies_twice no_input 5 ≡ ends Fault [] 5
+small_run-twice = refl
 
 block_run-no_pointer : block_run (with_blocks (born 0 24 ∷ dies 1 ∷ [])) no_input 5 ≡ ends Fault [] 5
 block_run-no_pointer = refl
 
-flat_run-no_pointer : flat_run (with_blocks (born 0 24 ∷ dies 1 ∷ [])) no_input 5 ≡ ends Fault [] 5
-flat_run-no_pointer = refl
+small_run-no_pointer : small_run (with_blocks (born 0 24 ∷ dies 1 ∷ [])) no_input 5 ≡ ends Fault [] 5
+small_run-no_pointer = refl
+
+-- the pointer to a birth's block, and the bytes of the stack that are taken then
+abbrev born_at : Reply Flat ℕ → Option (ℕ × ℕ)
+born_at (Gives p f) = Some (p, f.top)
+born_at (IsFull g) = None
+born_at Faults = None
 
 -- the first block stands at the start of the stack, and another after its 24 bytes and the byte after them, in units of 16
-first_birth : act_on_flat StoreBlock (pos 24 ∷ []) flat_start ≡ Gives (pos (1 * 2 ^ 32 + 1073741824)) (record { frames = 0; births = 1; live = record { number = 1; size = 24 } ∷ [] })
+first_birth : born_at (flat_store_block small 24) ≡ Some (1 * 2 ^ 32 + 1073741824, 32)
 first_birth = refl
 
-second_birth : act_on_flat StoreBlock (pos 0 ∷ []) (record { frames = 0; births = 1; live = record { number = 1; size = 24 } ∷ [] })
-    ≡ Gives (pos (2 * 2 ^ 32 + 1073741856)) (record { frames = 0; births = 2; live = record { number = 2; size = 0 } ∷ record { number = 1; size = 24 } ∷ [] })
+second_birth : born_at (flat_store_block (record small { births = 1; top = 32 }) 0) ≡ Some (2 * 2 ^ 32 + 1073741856, 48)
 second_birth = refl
 
--- the greatest block that fits into the stack has 1,048,575 bytes
+-- the greatest block that fits into the stack has 1,048,575 bytes, and 63 into one of 64
 block_run-full : block_run (with_blocks (born 0 1048576 ∷ [])) no_input 5 ≡ ends (Full Stack) [] 5
 block_run-full = refl
 
-flat_run-full : flat_run (with_blocks (born 0 1048576 ∷ [])) no_input 5 ≡ ends (Full Stack) [] 5
-flat_run-full = refl
+small_run-full : small_run (with_blocks (born 0 64 ∷ [])) no_input 5 ≡ ends (Full Stack) [] 5
+small_run-full = refl
 
-flat_run-fits : flat_run (with_blocks (born 0 1048575 ∷ [])) no_input 5 ≡ ends (Exits (pos 0)) [] 5
-flat_run-fits = refl
+small_run-fits : small_run (with_blocks (born 0 63 ∷ [])) no_input 5 ≡ ends (Exits (pos 0)) [] 5
+small_run-fits = refl
 
-flat_run-full_behind : flat_run (with_blocks (born 0 0 ∷ born 1 1048575 ∷ [])) no_input 5 ≡ ends (Full Stack) [] 5
-flat_run-full_behind = refl
+small_run-full_behind : small_run (with_blocks (born 0 0 ∷ born 1 63 ∷ [])) no_input 5 ≡ ends (Full Stack) [] 5
+small_run-full_behind = refl
 
 -- a dead block's room is taken again
-flat_run-again : flat_run (with_blocks (born 0 0 ∷ dies 0 ∷ born 1 1048575 ∷ [])) no_input 5 ≡ ends (Exits (pos 0)) [] 5
-flat_run-again = refl
+small_run-again : small_run (with_blocks (born 0 0 ∷ dies 0 ∷ born 1 63 ∷ [])) no_input 5 ≡ ends (Exits (pos 0)) [] 5
+small_run-again = refl
 
 -- where the last number is used, that is said first
-flat_run-numbers : run over_flat (with_blocks (born 0 1048576 ∷ [])) (record { frames = 0; births = 4294967295; live = [] }) no_input 5 ≡ ends (Full Numbers) [] 5
+flat_run-numbers : run over_flat (with_blocks (born 0 1048576 ∷ [])) (record flat_nothing { births = 4294967295 }) no_input 5 ≡ ends (Full Numbers) [] 5
 flat_run-numbers = refl
 
 -- ---- validity
@@ -253,14 +269,6 @@ flat_run-numbers = refl
 free-less : IsFreeName (codes "less")
 unfolding reserved_words
 free-less = record { begins = refl; parts = (refl, (refl, (refl, (refl, tt)))); short = omega arith; free = refl }
-
-free-main : IsFreeName (codes "main")
-unfolding reserved_words
-free-main = record { begins = refl; parts = (refl, (refl, (refl, (refl, tt)))); short = omega arith; free = refl }
-
-free-x : IsFreeName (codes "x")
-unfolding reserved_words
-free-x = record { begins = refl; parts = (refl, tt); short = omega arith; free = refl }
 
 free-y : IsFreeName (codes "y")
 unfolding reserved_words
@@ -276,6 +284,8 @@ signatures =
 
 valid-subtracts : IsValid subtracts
 valid-subtracts = record {
+  globals = tt;
+  room = omega arith;
   functions = (
     record { name = free-less; registers = (free-x, refl, (free-y, refl, tt)); body = (back, tt); within = omega arith },
     refl,
@@ -287,10 +297,10 @@ valid-subtracts = record {
   is_main = record { name = refl; result = refl; no_parameters = refl };
 }
   where
-    back : IsStatement signatures (I32 ∷ I32 ∷ []) (Some I32) [] (Return (Some (Binary Sub I32 (Register 0) (Register 1))))
+    back : IsStatement 0 signatures (I32 ∷ I32 ∷ []) (Some I32) [] (Return (Some (Binary Sub I32 (Register 0) (Register 1))))
     back = record { typed = (refl, refl, refl, refl); within = omega arith }
 
-    call : IsStatement signatures (I32 ∷ []) (Some I32) [] (Call (Some 0) 0 (i32 (pos 70) ∷ i32 (pos 4) ∷ []))
+    call : IsStatement 0 signatures (I32 ∷ []) (Some I32) [] (Call (Some 0) 0 (i32 (pos 70) ∷ i32 (pos 4) ∷ []))
     call = record {
       callee = record { name = codes "less"; parameters = I32 ∷ I32 ∷ []; result = Some I32 };
       has = refl;
@@ -299,8 +309,8 @@ valid-subtracts = record {
       takes = refl;
     }
 
-    put : IsStatement signatures (I32 ∷ []) (Some I32) [] (PutChar None (Register 0))
+    put : IsStatement 0 signatures (I32 ∷ []) (Some I32) [] (PutChar None (Register 0))
     put = (tt, record { typed = refl; within = omega arith })
 
-    give : IsStatement signatures (I32 ∷ []) (Some I32) [] (Return (Some (Register 0)))
+    give : IsStatement 0 signatures (I32 ∷ []) (Some I32) [] (Return (Some (Register 0)))
     give = record { typed = refl; within = omega arith }

@@ -12,7 +12,8 @@ use Rattle.mon_syntax.specs.Trees.{MonExpression, Register, Constant, Binary, Mi
 use Rattle.mon_syntax.specs.Trees.{Then, MonRegister, MonitoredProgram}
 use Rattle.mon_syntax.specs.Arithmetic.{least, wrap, operate, minus, flipped}
 use Rattle.mon_syntax.specs.Meaning.{run}
-use Rattle.mon_syntax.specs.Memories.{block_run, over_flat, flat_run}
+use Rattle.mon_syntax.specs.BlockMemory.{block_run}
+use Rattle.mon_syntax.specs.FlatMemory.{over_flat, flat_nothing, flat_run}
 use Rattle.mon_syntax.specs.Names.{IsFreeName, reserved_words}
 use Rattle.mon_syntax.specs.Text.{text_of}
 use Rattle.mon_syntax.specs.Valid.{Signature, IsStatement, IsValid}
@@ -141,6 +142,7 @@ register name = record { kind = I32; name = name }
 -- `i32 main(void)` alone, with i32 registers of these names
 abbrev main_alone : List (List ℕ) → List MonStatement → MonitoredProgram
 main_alone names body = record {
+  globals = [];
   functions = record {
     result = Some I32;
     name = codes "main";
@@ -248,11 +250,11 @@ text-empty : text_of (main_alone [] []) ≡ line (codes "#include <e_acsl.h>") +
 text-empty = refl
 
 -- without `main` there is nothing to run
-flat_run-no_main : flat_run (record { functions = [] }) no_input 5 ≡ ends Fault [] 5
+flat_run-no_main : flat_run (record { globals = []; functions = [] }) no_input 5 ≡ ends Fault [] 5
 flat_run-no_main = refl
 
 -- a call more than there is room for
-flat_run-frames : run over_flat counts (record { frames = 65536; births = 0; live = [] }) no_input 5 ≡ ends (Full Frames) [] 5
+flat_run-frames : run over_flat counts (record flat_nothing { frames = 65536 }) no_input 5 ≡ ends (Full Frames) [] 5
 flat_run-frames = refl
 
 -- putchar gives the byte that it wrote, and exit ends the run
@@ -316,20 +318,22 @@ text-leaves = refl
 
 -- ---- validity
 
-free-x : IsFreeName (codes "x")
+pub free-x : IsFreeName (codes "x")
 unfolding reserved_words
 free-x = record { begins = refl; parts = (refl, tt); short = omega arith; free = refl }
 
-free-main : IsFreeName (codes "main")
+pub free-main : IsFreeName (codes "main")
 unfolding reserved_words
 free-main = record { begins = refl; parts = (refl, (refl, (refl, (refl, tt)))); short = omega arith; free = refl }
 
-abbrev main_only : List Signature
+abbrev pub main_only : List Signature
 main_only = record { name = codes "main"; parameters = []; result = Some I32 } ∷ []
 
 -- each expression of `counts` has few parentheses, and its statements are 4 deep
 valid-counts : IsValid counts
 valid-counts = record {
+  globals = tt;
+  room = omega arith;
   functions = (
     record {
       name = free-main;
@@ -346,15 +350,15 @@ valid-counts = record {
   is_main = record { name = refl; result = refl; no_parameters = refl };
 }
   where
-    set : IsStatement main_only (I32 ∷ []) (Some I32) [] (Set 0 (i32 (pos 65)))
+    set : IsStatement 0 main_only (I32 ∷ []) (Some I32) [] (Set 0 (i32 (pos 65)))
     set = (I32, refl, record { typed = (refl, refl); within = omega arith })
 
-    put : IsStatement main_only (I32 ∷ []) (Some I32) [] (PutChar None (Register 0))
+    put : IsStatement 0 main_only (I32 ∷ []) (Some I32) [] (PutChar None (Register 0))
     put = (tt, record { typed = refl; within = omega arith })
 
-    add : IsStatement main_only (I32 ∷ []) (Some I32) [] (Set 0 (Binary Add I32 (Register 0) (i32 (pos 1))))
+    add : IsStatement 0 main_only (I32 ∷ []) (Some I32) [] (Set 0 (Binary Add I32 (Register 0) (i32 (pos 1))))
     add = (I32, refl, record { typed = (refl, refl, refl, (refl, refl)); within = omega arith })
 
-    leave : IsStatement main_only (I32 ∷ []) (Some I32) [] (If (Binary Gt I32 (Register 0) (i32 (pos 66))) (statements (Return (Some (i32 (pos 0))) ∷ [])) NoStatement)
+    leave : IsStatement 0 main_only (I32 ∷ []) (Some I32) [] (If (Binary Gt I32 (Register 0) (i32 (pos 66))) (statements (Return (Some (i32 (pos 0))) ∷ [])) NoStatement)
     leave =
         (record { typed = (refl, refl, refl, (refl, refl)); within = omega arith }, (record { typed = (refl, refl); within = omega arith }, tt), tt)

@@ -1,6 +1,6 @@
 -- Ours: a result that C99 6.5 p5 leaves undefined wraps here.
 -- Types of registers and their operators: two's complement, and each result wraps.
-use Rattle.std.specs.Prelude.{ℕ, ◌-◌, ◌^◌, ℤ, pos, ◌+ℤ◌, ◌-ℤ◌, ◌*ℤ◌, neg_ℤ, int_div, int_rem, int_lt, int_le, Bool, true, false, not, ◌&&◌, if◌then◌else◌}
+use Rattle.std.specs.Prelude.{ℕ, ◌-◌, ◌/◌, ◌^◌, ℤ, pos, ◌+ℤ◌, ◌-ℤ◌, ◌*ℤ◌, neg_ℤ, int_div, int_rem, int_lt, int_le, Bool, true, false, not, ◌&&◌, if◌then◌else◌}
 use Rattle.std.specs.Prelude.{Option, Some, None, unsigned_abs}
 use Rattle.std.specs.Ordering.{int_eq}
 use Rattle.std.specs.Int.{Width, w8, w16, w32, w64, w128, cast_signed, int_rem_euclid}
@@ -8,6 +8,8 @@ use Rattle.c_model.specs.Integers.{truth}
 use Rattle.c_model.specs.Operators.{floor_quotient, complement, bitwise_and, bitwise_or, bitwise_xor}
 use Rattle.mon_syntax.specs.declared.tree.MonType.{MonType}
 use Rattle.mon_syntax.specs.declared.tree.MonType.TheVariants.{I8, U8, I16, U16, I32, U32, I64, U64, I128, Ptr}
+use Rattle.mon_syntax.specs.declared.tree.AccessSize.{AccessSize}
+use Rattle.mon_syntax.specs.declared.tree.AccessSize.TheVariants.{One, Two, Four, Eight, Sixteen}
 use Rattle.mon_syntax.specs.declared.tree.MonOp.{MonOp}
 use Rattle.mon_syntax.specs.declared.tree.MonOp.TheVariants.{Add, Sub, Mul, Div, Rem, Shl, Shr, And, Or, Xor, Eq, Ne, Lt, Le, Gt, Ge}
 
@@ -47,6 +49,30 @@ is_signed I64 = true
 is_signed U64 = false
 is_signed I128 = true
 is_signed Ptr = false
+
+-- the bytes that a value takes in memory
+abbrev pub byte_count : MonType → ℕ
+byte_count t = bit_count t / 8
+
+-- the bytes that a question asks about
+abbrev pub access_bytes : AccessSize → ℕ
+access_bytes One = 1
+access_bytes Two = 2
+access_bytes Four = 4
+access_bytes Eight = 8
+access_bytes Sixteen = 16
+
+abbrev pub is_pointer : MonType → Bool
+is_pointer I8 = false
+is_pointer U8 = false
+is_pointer I16 = false
+is_pointer U16 = false
+is_pointer I32 = false
+is_pointer U32 = false
+is_pointer I64 = false
+is_pointer U64 = false
+is_pointer I128 = false
+is_pointer Ptr = true
 
 -- the least and the greatest value of a type
 abbrev pub least : MonType → ℤ

@@ -1,8 +1,8 @@
 -- Ours: the rules of monitored C.
 -- Names and types of a monitored text (E5, E6), with the program that it spells. A part's own demand is asked where none of its
 -- parts has a fault, and the first fault in text order counts.
-use Rattle.std.specs.Prelude.{ℕ, suc, unsigned_abs, List, [], ◌∷◌, ◌++◌, map, Option, Some, None, Result, Ok, Err, Bool, true, false, not, ◌&&◌, if◌then◌else◌}
-use Rattle.std.specs.Prelude.{nat_eq, nat_le, slice_get, codes, bytes_eq, drop, length}
+use Rattle.std.specs.Prelude.{ℕ, suc, ◌+◌, unsigned_abs, List, [], ◌∷◌, ◌++◌, map, Option, Some, None, Result, Ok, Err, Bool, true, false, not, ◌&&◌}
+use Rattle.std.specs.Prelude.{if◌then◌else◌, nat_eq, nat_le, slice_get, codes, bytes_eq, drop, length}
 use Rattle.std.specs.List.{list_any}
 use Rattle.c_syntax.specs.RefusalCodes.{name_code, type_code}
 use Rattle.c_syntax.specs.declared.place.Place.{Place}
@@ -12,17 +12,21 @@ use Rattle.c_model.specs.Reports.{kind_word}
 use Rattle.mon_syntax.specs.declared.tree.MonType.{MonType}
 use Rattle.mon_syntax.specs.declared.tree.MonType.TheVariants.{I8, U8, I16, U16, I32, U32, I64, U64, I128, Ptr}
 use Rattle.mon_syntax.specs.declared.tree.MemoryCall.{MemoryCall}
-use Rattle.mon_syntax.specs.declared.tree.MemoryCall.TheVariants.{StoreBlock, DeleteBlock}
+use Rattle.mon_syntax.specs.declared.tree.MemoryCall.TheVariants as memory_call
+use Rattle.mon_syntax.specs.declared.tree.AccessSize.{AccessSize}
+use Rattle.mon_syntax.specs.declared.tree.AccessSize.TheVariants.{One, Two, Four, Eight, Sixteen}
 use Rattle.mon_syntax.specs.declared.word.Runtime.{Runtime}
 use Rattle.mon_syntax.specs.declared.word.Runtime.TheVariants as runtime
 use Rattle.mon_syntax.specs.declared.word.Word.{Word}
 use Rattle.mon_syntax.specs.declared.word.Word.TheVariants as word
 use Rattle.mon_syntax.specs.Trees as tree
-use Rattle.mon_syntax.specs.Trees.{MonExpression, MonStatement, MonStatements, MonRegister, MonFunction, MonitoredProgram}
-use Rattle.mon_syntax.specs.Parsed.{NameUse, ParsedExpression, Name, Constant, Binary, Minus, Flip, Cast, ParsedArgument, Value, Number, Text, ParsedCall}
-use Rattle.mon_syntax.specs.Parsed.{ParsedStatement, Set, Take, Call, If, Loop, Labelled, Goto, Return, ParsedStatements, NoStatement, Then, ParsedRegister}
-use Rattle.mon_syntax.specs.Parsed.{ParsedFunction, ParsedProgram}
-use Rattle.mon_syntax.specs.Valid.{Types, is_arithmetic, is_whole, result_type, has_constant, greatest_number, memory_parameters, memory_result}
+use Rattle.mon_syntax.specs.Trees.{MonExpression, MonStatement, MonStatements, MonRegister, MonFunction, PlainContent, MonitoredGlobal, MonitoredProgram}
+use Rattle.mon_syntax.specs.Parsed.{NameUse, ParsedExpression, Name, Constant, Binary, Minus, Flip, Cast, Load, ParsedArgument, Value, Number, Text, ParsedCall}
+use Rattle.mon_syntax.specs.Parsed.{ParsedStatement, Set, Store, Take, Call, If, Loop, Labelled, Goto, Return, ParsedStatements, NoStatement, Then}
+use Rattle.mon_syntax.specs.Parsed.{ParsedRegister, ParsedFunction, ParsedGlobal, ParsedProgram}
+use Rattle.mon_syntax.specs.Arithmetic.{access_bytes}
+use Rattle.mon_syntax.specs.Valid.{Types, is_arithmetic, is_whole, has_operator, second_type, result_type, has_constant, greatest_number, memory_parameters}
+use Rattle.mon_syntax.specs.Valid.{memory_result}
 use Rattle.mon_syntax.specs.Grammar.{Vocabulary, word_at}
 
 -- the code of a fault and its place
@@ -73,11 +77,12 @@ pub record Header : Type 0 where
   pub parameters : Types
   pub result : Option MonType
 
--- the names of the text and what they are, the functions, and the registers by their names' numbers
+-- the names of the text and what they are, the functions, and the globals and the registers by their names' numbers
 pub record Scope : Type 0 where
   pub names : List (List ℕ)
   pub words : Vocabulary
   pub functions : List Header
+  pub globals : List ℕ
   pub registers : List (ℕ × MonType)
 
 -- a register by its number in the function, with its type
@@ -85,12 +90,42 @@ abbrev pub find_register : ℕ → List (ℕ × MonType) → ℕ → Option (ℕ
 find_register k [] x = None
 find_register k (r ∷ rs) x = if nat_eq r.0 x then Some (k, r.1) else find_register (suc k) rs x
 
+-- a global by its number in the program
+abbrev pub find_global : ℕ → List ℕ → ℕ → Option ℕ
+find_global k [] x = None
+find_global k (g ∷ gs) x = if nat_eq g x then Some k else find_global (suc k) gs x
+
 abbrev pub or_fault : {A : Type 0} → Option A → Place → Checked A
 or_fault None at = name_fault at
 or_fault (Some a) at = Ok a
 
-abbrev pub register_of : Scope → NameUse → Checked (ℕ × MonType)
-register_of s x = or_fault (find_register 0 s.registers x.number) x.place
+-- a register or a global, as an expression with its type
+abbrev pub Typed : Type 0
+Typed = MonExpression × MonType
+
+abbrev pub global_or_fault : Option ℕ → Place → Checked Typed
+global_or_fault None at = name_fault at
+global_or_fault (Some g) at = Ok (tree.Global g, Ptr)
+
+abbrev pub register_or_global : Option (ℕ × MonType) → Scope → NameUse → Checked Typed
+register_or_global None s x = global_or_fault (find_global 0 s.globals x.number) x.place
+register_or_global (Some r) s x = Ok (tree.Register r.0, r.1)
+
+abbrev pub named : Scope → NameUse → Checked Typed
+named s x = register_or_global (find_register 0 s.registers x.number) s x
+
+-- a name that is set or stored through: a register, or none where it is a global
+abbrev pub target_or_fault : Option (ℕ × MonType) → Scope → NameUse → Checked (Option (ℕ × MonType))
+target_or_fault None s x = or_fault (find_global 0 s.globals x.number) x.place >> Ok None
+target_or_fault (Some r) s x = Ok (Some r)
+
+abbrev pub target_of : Scope → NameUse → Checked (Option (ℕ × MonType))
+target_of s x = target_or_fault (find_register 0 s.registers x.number) s x
+
+-- it is to be a register: E6 at the `=` of another
+abbrev pub register_or_fault : Option (ℕ × MonType) → Place → Checked (ℕ × MonType)
+register_or_fault None at = type_fault at
+register_or_fault (Some r) at = Ok r
 
 -- a function by its number in the program, with its header
 abbrev pub find_function : ℕ → List Header → ℕ → Option (ℕ × Header)
@@ -109,9 +144,6 @@ is_free _ = false
 
 -- ---- expressions, each with its type
 
-abbrev pub Typed : Type 0
-Typed = MonExpression × MonType
-
 abbrev pub place_of : ParsedExpression → Place
 place_of (Name x) = x.place
 place_of (Constant at t z) = at
@@ -119,17 +151,19 @@ place_of (Binary at op a b) = at
 place_of (Minus at a) = at
 place_of (Flip at a) = at
 place_of (Cast at t a) = at
+place_of (Load at t a) = at
 
 abbrev pub checked_expression : Scope → ParsedExpression → Checked Typed
-checked_expression s (Name x) = register_of s x >>= λ r. Ok (tree.Register r.0, r.1)
+checked_expression s (Name x) = named s x
 checked_expression s (Constant at t z) = demanded (has_constant t z) at >> Ok (tree.Constant t z, t)
 checked_expression s (Binary at op a b) = do
   x ← checked_expression s a
   y ← checked_expression s b
-  demanded (same_type x.1 y.1 && is_arithmetic x.1) at >> Ok (tree.Binary op x.1 x.0 y.0, result_type op x.1)
+  demanded (same_type y.1 (second_type op x.1) && has_operator op x.1) at >> Ok (tree.Binary op x.1 x.0 y.0, result_type op x.1)
 checked_expression s (Minus at a) = checked_expression s a >>= λ x. demanded (is_arithmetic x.1) at >> Ok (tree.Minus x.1 x.0, x.1)
 checked_expression s (Flip at a) = checked_expression s a >>= λ x. demanded (is_arithmetic x.1) at >> Ok (tree.Flip x.1 x.0, x.1)
 checked_expression s (Cast at t a) = checked_expression s a >>= λ x. demanded (is_whole x.1 && is_whole t) at >> Ok (tree.Cast t x.0, t)
+checked_expression s (Load at t a) = checked_expression s a >>= λ x. demanded (same_type x.1 Ptr) at >> Ok (tree.Load t x.0, t)
 
 -- an expression of a type, which is demanded at the place
 abbrev pub of_type : Scope → MonType → Place → ParsedExpression → Checked MonExpression
@@ -151,6 +185,19 @@ abbrev pub small_number : Scope → ParsedArgument → Checked ℕ
 small_number s (Value e) = checked_expression s e >>= λ x. type_fault (place_of e)
 small_number s (Number at z) = demanded (nat_le (unsigned_abs z) greatest_number) at >> Ok (unsigned_abs z)
 small_number s (Text at bytes) = type_fault at
+
+-- a number of bytes: 1, 2, 4, 8 or 16
+abbrev pub sizes : List AccessSize
+sizes = One ∷ Two ∷ Four ∷ Eight ∷ Sixteen ∷ []
+
+abbrev pub size_of : List AccessSize → ℕ → Option AccessSize
+size_of [] n = None
+size_of (a ∷ more) n = if nat_eq (access_bytes a) n then Some a else size_of more n
+
+abbrev pub size_named : Scope → ParsedArgument → Checked AccessSize
+size_named s (Value e) = checked_expression s e >>= λ x. type_fault (place_of e)
+size_named s (Number at z) = elim (size_of sizes (unsigned_abs z)) [ None ↦ type_fault at | Some a ↦ Ok a ]
+size_named s (Text at bytes) = type_fault at
 
 abbrev pub string : Scope → ParsedArgument → Checked (List ℕ × Place)
 string s (Value e) = checked_expression s e >>= λ x. type_fault (place_of e)
@@ -205,8 +252,14 @@ abbrev pub arguments_of : Scope → Place → Types → List ParsedArgument → 
 arguments_of s at [] xs = no_more s at xs []
 arguments_of s at (t ∷ ts) xs = next s at (value_of_type s t) xs (λ e more. arguments_of s at ts more >>= λ es. Ok (e ∷ es))
 
-abbrev pub memory_call : Scope → Place → List ParsedArgument → MemoryCall → Checked MonStatement
-memory_call s at xs f = arguments_of s at (memory_parameters f) xs >>= λ es. Ok (tree.Act None f es)
+-- a call on the memory whose arguments are values alone
+abbrev pub simple_call : Scope → Place → List ParsedArgument → MemoryCall → Checked MonStatement
+simple_call s at xs f = arguments_of s at (memory_parameters f) xs >>= λ es. Ok (tree.Act None f es)
+
+abbrev pub number_call : Scope → Place → List ParsedArgument → Checked MonStatement
+number_call s at xs =
+    next s at (value_of_type s Ptr) xs (λ p xs1. next s at (value_of_type s I128) xs1 (λ o xs2. next s at (size_named s) xs2 (λ a xs3.
+    no_more s at xs3 (tree.Act None (memory_call.Number a) (p ∷ o ∷ [])))))
 
 -- a call of the runtime, whose value is not taken
 abbrev pub runtime_call : Scope → NameUse → Place → List ParsedArgument → Runtime → Checked MonStatement
@@ -218,8 +271,9 @@ runtime_call s f at xs runtime.Exit = one_value s at I32 xs tree.Exit
 runtime_call s f at xs runtime.PrintText = next s at (string s) xs (λ w more. no_more s at more (tree.PrintText w.0))
 runtime_call s f at xs runtime.PrintSigned = one_value s at I64 xs tree.PrintSigned
 runtime_call s f at xs runtime.PrintUnsigned = one_value s at U64 xs tree.PrintUnsigned
-runtime_call s f at xs runtime.StoreBlock = memory_call s at xs StoreBlock
-runtime_call s f at xs runtime.DeleteBlock = memory_call s at xs DeleteBlock
+runtime_call s f at xs runtime.StoreBlock = simple_call s at xs memory_call.StoreBlock
+runtime_call s f at xs runtime.DeleteBlock = simple_call s at xs memory_call.DeleteBlock
+runtime_call s f at xs runtime.Number = number_call s at xs
 runtime_call s f at xs runtime.Kept = name_fault f.place
 
 -- a call of a function of the program; `main` isn't called
@@ -277,6 +331,7 @@ new_label s ls l = if is_free (word_at s.words l.number) && not (list_any (nat_e
 abbrev mutual
   pub labels_in : ParsedStatement → List ℕ
   labels_in (Set x at e) = []
+  labels_in (Store t x at e) = []
   labels_in (Take x at c) = []
   labels_in (Call c) = []
   labels_in (If e a b) = labels_in_all a ++ labels_in_all b
@@ -293,12 +348,19 @@ abbrev mutual
 abbrev mutual
   pub checked_statement : Scope → Option MonType → List ℕ → ParsedStatement → Checked MonStatement
   checked_statement s t ls (Set x at e) = do
-    r ← register_of s x
-    v ← of_type s r.1 at e
-    Ok (tree.Set r.0 v)
+    target ← target_of s x
+    v ← checked_expression s e
+    r ← register_or_fault target at
+    demanded (same_type v.1 r.1) at >> Ok (tree.Set r.0 v.0)
+  checked_statement s t ls (Store k x at e) = do
+    target ← target_of s x
+    v ← of_type s k at e
+    r ← register_or_fault target at
+    demanded (same_type r.1 Ptr) at >> Ok (tree.Store r.0 k v)
   checked_statement s t ls (Take x at c) = do
-    r ← register_of s x
+    target ← target_of s x
     a ← checked_call s c
+    r ← register_or_fault target at
     taken s r at a
   checked_statement s t ls (Call c) = checked_call s c
   checked_statement s t ls (If e a b) = do
@@ -325,12 +387,16 @@ abbrev mutual
 
 -- ---- functions
 
--- each register has a free name of its own: E5 at the name of another
-abbrev pub checked_registers : Vocabulary → List (ℕ × MonType) → List ParsedRegister → Checked (List (ℕ × MonType))
-checked_registers ws known [] = Ok known
-checked_registers ws known (r ∷ rs) =
-    if is_free (word_at ws r.name.number) && not (list_any (λ (x : ℕ × MonType). nat_eq x.0 r.name.number) known)
-    then checked_registers ws (known ++ (r.name.number, r.kind) ∷ []) rs
+-- a name that is free, and not one of these
+abbrev pub is_new : Vocabulary → List ℕ → ℕ → Bool
+is_new ws before n = is_free (word_at ws n) && not (list_any (nat_eq n) before)
+
+-- each register has a free name of its own, which no global has: E5 at the name of another
+abbrev pub checked_registers : Vocabulary → List ℕ → List (ℕ × MonType) → List ParsedRegister → Checked (List (ℕ × MonType))
+checked_registers ws globals known [] = Ok known
+checked_registers ws globals known (r ∷ rs) =
+    if is_new ws globals r.name.number && not (list_any (λ (x : ℕ × MonType). nat_eq x.0 r.name.number) known)
+    then checked_registers ws globals (known ++ (r.name.number, r.kind) ∷ []) rs
     else name_fault r.name.place
 
 abbrev pub named_register : List (List ℕ) → ℕ × MonType → MonRegister
@@ -346,8 +412,8 @@ kinds_of rs = map (λ (r : ParsedRegister). r.kind) rs
 abbrev pub header_of : ParsedFunction → Header
 header_of f = record { name = f.name.number; parameters = kinds_of f.parameters; result = f.result }
 
-abbrev pub scope_of : List (List ℕ) → Vocabulary → List Header → List (ℕ × MonType) → Scope
-scope_of names ws gs rs = record { names = names; words = ws; functions = gs; registers = rs }
+abbrev pub scope_of : List (List ℕ) → Vocabulary → List Header → List ℕ → List (ℕ × MonType) → Scope
+scope_of names ws gs globals rs = record { names = names; words = ws; functions = gs; globals = globals; registers = rs }
 
 -- a function with these parameters, and with all these registers, the parameters first
 abbrev pub function_of : List (List ℕ) → ParsedFunction → List (ℕ × MonType) → List (ℕ × MonType) → MonStatements → MonFunction
@@ -359,27 +425,54 @@ function_of names f ps rs body = record {
   body = body;
 }
 
--- a function among functions of these headers; parameters may be used in its body like registers
-abbrev pub checked_function : List (List ℕ) → Vocabulary → List Header → ParsedFunction → Checked MonFunction
-checked_function names ws gs f = do
-  ps ← checked_registers ws [] f.parameters
-  rs ← checked_registers ws ps f.registers
-  body ← checked_statements (scope_of names ws gs rs) f.result [] f.body
+-- a function among functions of these headers and globals; parameters may be used in its body like registers
+abbrev pub checked_function : List (List ℕ) → Vocabulary → List Header → List ℕ → ParsedFunction → Checked MonFunction
+checked_function names ws gs globals f = do
+  ps ← checked_registers ws globals [] f.parameters
+  rs ← checked_registers ws globals ps f.registers
+  body ← checked_statements (scope_of names ws gs globals rs) f.result [] f.body
   Ok (function_of names f ps rs body)
 
--- a free name, which no function before has
-abbrev pub new_function : Vocabulary → List ℕ → NameUse → Checked (Unit {0})
-new_function ws before x = if is_free (word_at ws x.number) && not (list_any (nat_eq x.number) before) then Ok tt else name_fault x.place
+-- a free name, which none before has
+abbrev pub new_name : Vocabulary → List ℕ → NameUse → Checked (Unit {0})
+new_name ws before x = if is_new ws before x.number then Ok tt else name_fault x.place
 
 -- functions after those of these names' numbers
-abbrev pub checked_functions : List (List ℕ) → Vocabulary → List Header → List ℕ → List ParsedFunction → Checked (List MonFunction)
-checked_functions names ws gs before [] = Ok []
-checked_functions names ws gs before (f ∷ fs) = do
-  _ ← new_function ws before f.name
-  g ← checked_function names ws gs f
-  rest ← checked_functions names ws gs (f.name.number ∷ before) fs
+abbrev pub checked_functions : List (List ℕ) → Vocabulary → List Header → List ℕ → List ℕ → List ParsedFunction → Checked (List MonFunction)
+checked_functions names ws gs globals before [] = Ok []
+checked_functions names ws gs globals before (f ∷ fs) = do
+  _ ← new_name ws before f.name
+  g ← checked_function names ws gs globals f
+  rest ← checked_functions names ws gs globals (f.name.number ∷ before) fs
   Ok (g ∷ rest)
+
+-- ---- globals
+
+-- a literal's number is that of its bytes and one more, E6 at the number
+abbrev pub checked_content : ParsedGlobal → Checked PlainContent
+checked_content g = elim g.literal [
+  | None ↦ Ok (tree.Zeros (unsigned_abs g.size))
+  | Some bytes ↦ demanded (nat_eq (unsigned_abs g.size) (length bytes + 1)) g.place >> Ok (tree.Literal bytes)
+]
+
+-- globals after those of these names' numbers, each with a free name of its own
+abbrev pub checked_globals : List (List ℕ) → Vocabulary → List ℕ → List ParsedGlobal → Checked (List MonitoredGlobal)
+checked_globals names ws before [] = Ok []
+checked_globals names ws before (g ∷ gs) = do
+  _ ← new_name ws before g.name
+  c ← checked_content g
+  rest ← checked_globals names ws (g.name.number ∷ before) gs
+  Ok (record { name = word_bytes names g.name.number; content = c } ∷ rest)
+
+-- their names' numbers
+abbrev pub numbers_of : List ParsedGlobal → List ℕ
+numbers_of gs = map (λ (g : ParsedGlobal). g.name.number) gs
+
+-- ---- programs
 
 -- functions may be called before they stand
 abbrev pub checked_program : List (List ℕ) → Vocabulary → ParsedProgram → Checked MonitoredProgram
-checked_program names ws fs = checked_functions names ws (map header_of fs) [] fs >>= λ gs. Ok (record { functions = gs })
+checked_program names ws p = do
+  globals ← checked_globals names ws [] p.globals
+  functions ← checked_functions names ws (map header_of p.functions) (numbers_of p.globals) [] p.functions
+  Ok (record { globals = globals; functions = functions })

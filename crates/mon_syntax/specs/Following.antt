@@ -1,6 +1,8 @@
 -- Ours: the relation of two memories.
 -- When one memory stands for another: wherever the first has an answer, the second has one that means the same.
 use Rattle.std.specs.Prelude.{◌≡◌, ℤ, List, [], ◌∷◌, Option, Some, None}
+use Rattle.mon_syntax.specs.declared.tree.MonType.{MonType}
+use Rattle.mon_syntax.specs.declared.tree.MonOp.{MonOp}
 use Rattle.mon_syntax.specs.declared.tree.MemoryCall.{MemoryCall}
 use Rattle.mon_syntax.specs.Memory.{Memory, Reply, Gives, IsFull, Faults}
 
@@ -43,7 +45,14 @@ pub record Follows (L F : Memory) : Type 1 where
   pub Holds : World → L.Mem → F.Mem → Type 0
   pub number : (w : World) (z : ℤ) → Same w (L.number z) (F.number z)
   pub number_of : (w : World) (a : L.Val) (b : F.Val) → Same w a b → Kept (λ i j. i ≡ j) (L.number_of a) (F.number_of b)
+  pub null : (w : World) → Same w L.null F.null
   -- each operation keeps this
+  pub load : (w : World) (t : MonType) (a : L.Val) (b : F.Val) (m : L.Mem) (n : F.Mem) → Same w a b → Holds w m n
+      → Kept (Same w) (L.load t a m) (F.load t b n)
+  pub store : (w : World) (t : MonType) (a x : L.Val) (b y : F.Val) (m : L.Mem) (n : F.Mem) → Same w a b → Same w x y → Holds w m n
+      → Kept (Holds w) (L.store t a x m) (F.store t b y n)
+  pub pointed : (w : World) (op : MonOp) (a x : L.Val) (b y : F.Val) (m : L.Mem) (n : F.Mem) → Same w a b → Same w x y → Holds w m n
+      → Kept (Same w) (L.pointed op a x m) (F.pointed op b y n)
   pub act : (w : World) (f : MemoryCall) (xs : List L.Val) (ys : List F.Val) (m : L.Mem) (n : F.Mem) → AllKept (Same w) xs ys → Holds w m n
       → Replied World Later Same Holds w (L.act f xs m) (F.act f ys n)
   pub enter : (w : World) (m : L.Mem) (n : F.Mem) → Holds w m n → Replied World Later Same Holds w (L.enter m) (F.enter n)

@@ -1,20 +1,24 @@
 -- Ours: the shape is that of C99 6.5 to 6.9, the language is of our own making.
 -- The grammar of monitored texts, with the trees that are read:
 --
---   text      = head { function }
+--   text      = head { global } { function }
+--   global    = "static" "char" NAME "[" NUMBER "]" ";" | "static" "const" "char" NAME "[" NUMBER "]" "=" STRING ";"
 --   function  = ( type | "void" ) NAME "(" ( "void" | parameter { "," parameter } ) ")" "{" { type NAME ";" } { statement } "}"
 --   parameter = type NAME
 --   statement = NAME "=" expr ";" | NAME "=" call ";" | call ";"
+--             | "*" "(" type "*" ")" NAME "=" expr ";" mark
 --             | "if" "(" expr ")" body "else" body
 --             | "while" "(" "1" ")" body
 --             | body NAME ":" ";" | "goto" NAME ";" | "return" [ expr ] ";"
+--   mark      = "__e_acsl_initialize" "(" NAME "," NUMBER ")" ";" | "__e_acsl_initialize_ptr" "(" NAME ")" ";"
 --   body      = "{" { statement } "}"
 --   call      = NAME "(" [ argument { "," argument } ] ")"          argument = expr | NUMBER | STRING
 --   expr      = NAME | CONSTANT "(" [ "-" ] NUMBER ")" | "(" expr operator expr ")" | "(" "-" expr ")" | "(" "~" expr ")"
---             | "(" "(" type ")" expr ")"
+--             | "(" "(" type ")" expr ")" | "(" "*" "(" type "*" ")" expr ")"
 --
--- The head stands on the first line. The body of `while` has exactly one statement `__e_acsl_step();` directly in it. Statements are
--- at most 2,000 deep, the function's body being 1 deep, and at most 2,000 parentheses are open at once in an expression.
+-- The head stands on the first line. A mark names the register of its store, with the size of the type, and is the second one
+-- exactly for ptr. The body of `while` has exactly one statement `__e_acsl_step();` directly in it. Statements are at most 2,000
+-- deep, the function's body being 1 deep, and at most 2,000 parentheses are open at once in an expression.
 use Rattle.std.specs.Prelude.{ℕ, zero, suc, ◌+◌, ◌-◌, ℤ, pos, neg_ℤ, List, [], ◌∷◌, ◌++◌, Option, Some, None, Bool, true, false, ◌&&◌, cond, eqb, if◌then◌else◌}
 use Rattle.std.specs.Prelude.{slice_get}
 use Rattle.std.specs.Ordering.{int_eq}
@@ -24,16 +28,18 @@ use Rattle.c_syntax.specs.Tokens as token
 use Rattle.c_syntax.specs.Tokens.{PlainTokenKind, PlainToken}
 use Rattle.c_model.specs.Punctuators.{shift_left, shift_right, less_equal, greater_equal, equal, not_equal, plus, minus, times, divide, percent, less, greater}
 use Rattle.c_model.specs.Punctuators.{assign, tilde, ampersand, bar, caret, colon, semicolon, comma, left_paren, right_paren, left_brace, right_brace}
+use Rattle.c_model.specs.Punctuators.{left_bracket, right_bracket}
 use Rattle.c_model.specs.Terminals.{expression_limit, nesting_limit, placed, mark_entry}
 use Rattle.mon_syntax.specs.declared.tree.MonType.{MonType}
 use Rattle.mon_syntax.specs.declared.tree.MonOp.{MonOp}
 use Rattle.mon_syntax.specs.declared.tree.MonOp.TheVariants.{Add, Sub, Mul, Div, Rem, Shl, Shr, And, Or, Xor, Eq, Ne, Lt, Le, Gt, Ge}
+use Rattle.mon_syntax.specs.Arithmetic.{byte_count, is_pointer}
 use Rattle.mon_syntax.specs.declared.word.Runtime.TheVariants as runtime
 use Rattle.mon_syntax.specs.declared.word.Word.{Word}
 use Rattle.mon_syntax.specs.declared.word.Word.TheVariants as word
-use Rattle.mon_syntax.specs.Parsed.{NameUse, ParsedExpression, Name, Constant, Binary, Minus, Flip, Cast, ParsedArgument, Value, Number, Text, ParsedCall}
-use Rattle.mon_syntax.specs.Parsed.{ParsedStatement, Set, Take, Call, If, Loop, Labelled, Goto, Return, ParsedStatements, NoStatement, Then, ParsedRegister}
-use Rattle.mon_syntax.specs.Parsed.{ParsedFunction, ParsedProgram}
+use Rattle.mon_syntax.specs.Parsed.{NameUse, ParsedExpression, Name, Constant, Binary, Minus, Flip, Cast, Load, ParsedArgument, Value, Number, Text, ParsedCall}
+use Rattle.mon_syntax.specs.Parsed.{ParsedStatement, Set, Store, Take, Call, If, Loop, Labelled, Goto, Return, ParsedStatements, NoStatement, Then}
+use Rattle.mon_syntax.specs.Parsed.{ParsedRegister, ParsedFunction, ParsedGlobal, ParsedProgram}
 
 -- ---- tokens
 
@@ -65,9 +71,6 @@ goto_kind = 7
 abbrev pub return_kind : ℕ
 return_kind = 8
 
-abbrev pub kept_kind : ℕ
-kept_kind = 9
-
 abbrev pub number_kind : ℕ
 number_kind = 10
 
@@ -81,6 +84,22 @@ head_kind = 12
 abbrev pub foreign_kind : ℕ
 foreign_kind = 13
 
+abbrev pub static_kind : ℕ
+static_kind = 14
+
+abbrev pub const_kind : ℕ
+const_kind = 15
+
+abbrev pub char_kind : ℕ
+char_kind = 16
+
+-- the words of marks
+abbrev pub initialize_kind : ℕ
+initialize_kind = 17
+
+abbrev pub initialize_pointer_kind : ℕ
+initialize_pointer_kind = 18
+
 abbrev pub mark_kind : ℕ → ℕ
 mark_kind m = 20 + m
 
@@ -93,7 +112,11 @@ word_kind word.Else = else_kind
 word_kind word.While = while_kind
 word_kind word.Goto = goto_kind
 word_kind word.Return = return_kind
-word_kind word.Kept = kept_kind
+word_kind word.Static = static_kind
+word_kind word.Const = const_kind
+word_kind word.Char = char_kind
+word_kind word.Initialize = initialize_kind
+word_kind word.InitializePointer = initialize_pointer_kind
 word_kind (word.Runtime r) = name_kind
 word_kind word.Name = name_kind
 
@@ -121,10 +144,15 @@ abbrev pub number_of : PlainTokenKind → Option ℤ
 number_of (token.Number z t) = Some z
 number_of _ = None
 
--- the number 1
-abbrev pub is_one : PlainTokenKind → Option (Unit {0})
-is_one (token.Number z t) = cond (int_eq z (pos 1)) (Some tt) None
-is_one _ = None
+-- the number n
+abbrev pub is_number : ℕ → PlainTokenKind → Option (Unit {0})
+is_number n (token.Number z t) = cond (int_eq z (pos n)) (Some tt) None
+is_number n _ = None
+
+-- the name with this number
+abbrev pub is_same_name : ℕ → PlainTokenKind → Option (Unit {0})
+is_same_name n (token.Word m) = cond (eqb m n) (Some tt) None
+is_same_name n _ = None
 
 abbrev pub text_of : PlainTokenKind → Option (List ℕ)
 text_of (token.Chars bytes) = Some bytes
@@ -172,7 +200,7 @@ abbrev pub first_argument : List ℕ
 first_argument = number_kind ∷ text_kind ∷ first_expression
 
 abbrev pub first_statement : List ℕ
-first_statement = name_kind ∷ mark_kind left_brace ∷ if_kind ∷ while_kind ∷ goto_kind ∷ return_kind ∷ []
+first_statement = name_kind ∷ mark_kind times ∷ mark_kind left_brace ∷ if_kind ∷ while_kind ∷ goto_kind ∷ return_kind ∷ []
 
 abbrev pub first_function : List ℕ
 first_function = type_kind ∷ void_kind ∷ []
@@ -209,6 +237,7 @@ has_no_argument (a ∷ more) = false
 abbrev pub is_step : Vocabulary → ParsedStatement → Bool
 is_step ws (Call c) = is_step_word (word_at ws c.callee.number) && has_no_argument c.arguments
 is_step ws (Set x at e) = false
+is_step ws (Store t x at e) = false
 is_step ws (Take x at c) = false
 is_step ws (If e a b) = false
 is_step ws (Loop a b) = false
@@ -273,6 +302,14 @@ module _ (ws : Vocabulary) where
   unfoldable pub cast : Syntax PlainToken ParsedExpression → Place → Syntax PlainToken ParsedExpression
   cast E at = one (placed (type_of ws)) then λ t. mark right_paren then λ _. E then λ e. mark right_paren then λ _. gives (Cast at t.0 e)
 
+  -- type "*" ")", after the parenthesis before the type
+  unfoldable pub pointed_type : Syntax PlainToken MonType
+  pointed_type = one (placed (type_of ws)) then λ t. mark times then λ _. mark right_paren then λ _. gives t.0
+
+  -- "*" "(" type "*" ")" expr ")"
+  unfoldable pub load : Syntax PlainToken Place → Syntax PlainToken ParsedExpression → Syntax PlainToken ParsedExpression
+  load O E = mark times then λ at. O then λ _. pointed_type then λ t. E then λ e. mark right_paren then λ _. gives (Load at t e)
+
   -- what stands after two parentheses: a cast, or a first operand that begins with the second of them
   unfoldable pub behind_two : Syntax PlainToken ParsedExpression → Syntax PlainToken ParsedExpression → Place → Syntax PlainToken ParsedExpression
   behind_two E B at = choice (kind ws) (type_kind ∷ []) (cast E at) (B then λ left. second_operand E left)
@@ -286,8 +323,9 @@ module _ (ws : Vocabulary) where
   behind_paren O B =
       choice (kind ws) (mark_kind minus ∷ []) (negation (expression_with O B))
       (choice (kind ws) (mark_kind tilde ∷ []) (complement (expression_with O B))
+      (choice (kind ws) (mark_kind times ∷ []) (load O (expression_with O B))
       (choice (kind ws) (mark_kind left_paren ∷ []) (O then λ at. behind_two (expression_with O B) B at)
-      (plain_operand O then λ left. second_operand (expression_with O B) left)))
+      (plain_operand O then λ left. second_operand (expression_with O B) left))))
 
   -- a parenthesis, where n more may be opened
   unfoldable pub opened : ℕ → Syntax PlainToken Place
@@ -362,6 +400,34 @@ module _ (ws : Vocabulary) where
       choice (kind ws) (mark_kind assign ∷ []) (mark assign then λ at. set_to x at)
       (call_of (no_step && is_step_word (word_at ws x.number)) x then λ c. ended (Call c))
 
+  -- "(" NAME, of this name
+  unfoldable pub marked_name : NameUse → Syntax PlainToken Place
+  marked_name x = mark left_paren then λ _. one (placed (is_same_name x.number)) then λ t. gives t.1
+
+  -- ")" ";", after a store
+  unfoldable pub mark_end : ParsedStatement → Syntax PlainToken ParsedStatement
+  mark_end a = mark right_paren then λ _. ended a
+
+  -- the mark of a number, of so many bytes
+  unfoldable pub number_mark : ℕ → NameUse → ParsedStatement → Syntax PlainToken ParsedStatement
+  number_mark size x a =
+      fixed initialize_kind then λ _. marked_name x then λ _. mark comma then λ _. one (placed (is_number size)) then λ _. mark_end a
+
+  -- the mark of a pointer
+  unfoldable pub pointer_mark : NameUse → ParsedStatement → Syntax PlainToken ParsedStatement
+  pointer_mark x a = fixed initialize_pointer_kind then λ _. marked_name x then λ _. mark_end a
+
+  -- the mark of a store of a type
+  unfoldable pub store_mark : MonType → NameUse → ParsedStatement → Syntax PlainToken ParsedStatement
+  store_mark t x a = cond (is_pointer t) (pointer_mark x a) (number_mark (byte_count t) x a)
+
+  -- after "*" "(" type "*" ")" NAME
+  unfoldable pub stored : MonType → NameUse → Syntax PlainToken ParsedStatement
+  stored t x = mark assign then λ at. expression then λ e. mark semicolon then λ _. store_mark t x (Store t x at e)
+
+  unfoldable pub store : Syntax PlainToken ParsedStatement
+  store = mark times then λ _. mark left_paren then λ _. pointed_type then λ t. name then λ x. stored t x
+
   unfoldable pub one_more : InBody → List ParsedStatement → Syntax PlainToken (List ParsedStatement)
   one_more S xs = S false then λ a. gives (xs ++ a ∷ [])
 
@@ -387,7 +453,7 @@ module _ (ws : Vocabulary) where
 
   unfoldable pub iteration : InBody → Syntax PlainToken ParsedStatement
   iteration S =
-      fixed while_kind then λ _. mark left_paren then λ _. one (placed is_one) then λ _. mark right_paren then λ _. mark left_brace then λ _.
+      fixed while_kind then λ _. mark left_paren then λ _. one (placed (is_number 1)) then λ _. mark right_paren then λ _. mark left_brace then λ _.
       many (kind ws) (λ _. first_statement) (one_more_in_loop S) nothing_read then λ x. loop_end x
 
   -- body NAME ":" ";"
@@ -407,10 +473,11 @@ module _ (ws : Vocabulary) where
   unfoldable pub statement_with : InBody → InBody
   statement_with S no_step =
       choice (kind ws) (name_kind ∷ []) (name then λ x. behind_name no_step x)
+      (choice (kind ws) (mark_kind times ∷ []) store
       (choice (kind ws) (mark_kind left_brace ∷ []) (labelled S)
       (choice (kind ws) (if_kind ∷ []) (selection S)
       (choice (kind ws) (while_kind ∷ []) (iteration S)
-      (choice (kind ws) (goto_kind ∷ []) jump return_statement))))
+      (choice (kind ws) (goto_kind ∷ []) jump return_statement)))))
 
   -- a statement in which statements stand at most n deep, itself included
   unfoldable pub statement_in : ℕ → InBody
@@ -464,5 +531,34 @@ module _ (ws : Vocabulary) where
   abbrev pub is_head : PlainToken → Option (Unit {0})
   is_head t = cond (eqb (kind ws t) head_kind && eqb t.place.line 1) (Some tt) None
 
+  -- "[" NUMBER "]", the number with its place
+  unfoldable pub length_of_global : Syntax PlainToken (ℤ × Place)
+  length_of_global = mark left_bracket then λ _. one (placed number_of) then λ n. mark right_bracket then λ _. gives n
+
+  -- after "static", for zeros
+  unfoldable pub zeros : Syntax PlainToken ParsedGlobal
+  zeros =
+      fixed char_kind then λ _. name then λ x. length_of_global then λ n. mark semicolon then λ _.
+      gives (record { name = x; place = n.1; size = n.0; literal = None })
+
+  -- after "static", for a literal
+  unfoldable pub literal : Syntax PlainToken ParsedGlobal
+  literal =
+      fixed const_kind then λ _. fixed char_kind then λ _. name then λ x. length_of_global then λ n. mark assign then λ _.
+      one (placed text_of) then λ s. mark semicolon then λ _.
+      gives (record { name = x; place = n.1; size = n.0; literal = Some s.0 })
+
+  unfoldable pub global : Syntax PlainToken ParsedGlobal
+  global = fixed static_kind then λ _. choice (kind ws) (char_kind ∷ []) zeros literal
+
+  unfoldable pub one_more_global : List ParsedGlobal → Syntax PlainToken (List ParsedGlobal)
+  one_more_global gs = global then λ g. gives (gs ++ g ∷ [])
+
+  unfoldable pub globals : Syntax PlainToken (List ParsedGlobal)
+  globals = many (kind ws) (λ _. static_kind ∷ []) one_more_global []
+
+  unfoldable pub functions : Syntax PlainToken (List ParsedFunction)
+  functions = many (kind ws) (λ _. first_function) one_more_function []
+
   unfoldable pub text : Syntax PlainToken ParsedProgram
-  text = one is_head then λ _. many (kind ws) (λ _. first_function) one_more_function []
+  text = one is_head then λ _. globals then λ gs. functions then λ fs. gives (record { globals = gs; functions = fs })

@@ -10,7 +10,8 @@ use Rattle.mon_syntax.specs.declared.tree.MonType.{MonType}
 use Rattle.mon_syntax.specs.Arithmetic.{bit_count, fits, wrap}
 use Rattle.mon_syntax.specs.Memory.{Memory}
 use Rattle.mon_syntax.specs.Meaning.{State, then_do, at_next, step_from, exec, exec_all, body_runs, level, ran, function_named, run}
-use Rattle.mon_syntax.specs.Memories.{block_run, flat_run}
+use Rattle.mon_syntax.specs.BlockMemory.{block_run}
+use Rattle.mon_syntax.specs.FlatMemory.{flat_run}
 use Rattle.mon_syntax.specs.Valid.{IsValid}
 use Rattle.mon_syntax.specs.Text.{text_of}
 use Rattle.mon_syntax.specs.Spelled.{Spells}
@@ -41,26 +42,26 @@ FittingValuesStand = (t : MonType) (z : ℤ) → fits t z ≡ true → wrap t z 
 
 -- more turns and deeper calls than steps change nothing
 abbrev pub FuelIsEnough : Memory → Type 0
-FuelIsEnough M = (fs : List MonFunction) (a : MonStatement) (k n : ℕ) (regs : List M.Val) (s : State M.Mem) → s.steps ≤ k → s.steps ≤ n
-    → exec M a (level M fs k) k regs s ≡ exec M a (level M fs n) n regs s
+FuelIsEnough M = (gs : List M.Val) (fs : List MonFunction) (a : MonStatement) (k n : ℕ) (regs : List M.Val) (s : State M.Mem) → s.steps ≤ k → s.steps ≤ n
+    → exec M gs a (level M gs fs k) k regs s ≡ exec M gs a (level M gs fs n) n regs s
 
 -- no step is gained
 abbrev pub StepsFall : Memory → Type 0
-StepsFall M = (fs : List MonFunction) (a : MonStatement) (n : ℕ) (regs : List M.Val) (s : State M.Mem) → s.steps ≤ n
-    → steps_after (exec M a (level M fs n) n regs s) ≤ s.steps
+StepsFall M = (gs : List M.Val) (fs : List MonFunction) (a : MonStatement) (n : ℕ) (regs : List M.Val) (s : State M.Mem) → s.steps ≤ n
+    → steps_after (exec M gs a (level M gs fs n) n regs s) ≤ s.steps
 
 -- a loop is one turn and then the loop again: what stands before the step, the step, what stands after it
 abbrev pub LoopsTurn : Memory → Type 0
-LoopsTurn M = (fs : List MonFunction) (a b : MonStatements) (n : ℕ) (regs : List M.Val) (s : State M.Mem) → s.steps ≤ n
-    → exec M (Loop a b) (level M fs n) n regs s ≡ then_do (exec_all M a (level M fs n) n regs s)
-    (at_next (λ r t. step_from t.steps (λ k. then_do (exec_all M b (level M fs n) n r (record t { steps = k }))
-    (at_next (exec M (Loop a b) (level M fs n) n)))))
+LoopsTurn M = (gs : List M.Val) (fs : List MonFunction) (a b : MonStatements) (n : ℕ) (regs : List M.Val) (s : State M.Mem) → s.steps ≤ n
+    → exec M gs (Loop a b) (level M gs fs n) n regs s ≡ then_do (exec_all M gs a (level M gs fs n) n regs s)
+    (at_next (λ r t. step_from t.steps (λ k. then_do (exec_all M gs b (level M gs fs n) n r (record t { steps = k }))
+    (at_next (exec M gs (Loop a b) (level M gs fs n) n)))))
 
 -- a run is the same with any number of turns and calls from its steps on
 abbrev pub RunsNeedNoFuel : Memory → Type 0
 RunsNeedNoFuel M = (m : MonitoredProgram) (mem : M.Mem) (input : Input) (n k : ℕ) → n ≤ k
-    → run M m mem input n ≡ ran M (body_runs M (function_named M (codes "main") m.functions) (level M m.functions k) k []
-    (record { mem = mem; steps = n; input = input }))
+    → run M m mem input n ≡ ran M (body_runs M (M.starts m.globals) (function_named (codes "main") m.functions)
+    (level M (M.starts m.globals) m.functions k) k [] (record { mem = mem; steps = n; input = input }))
 
 -- a run leaves no more steps than it had
 abbrev pub RunsSpendSteps : Memory → Type 0
@@ -68,9 +69,9 @@ RunsSpendSteps M = (m : MonitoredProgram) (mem : M.Mem) (input : Input) (n : ℕ
 
 -- ---- runs over two memories
 
--- a run over flat memory does what the run over blocks does, up to its first fault
+-- a valid program does over flat memory what it does over blocks, up to its first fault there
 abbrev pub BlocksAgreeWithFlat : Type 0
-BlocksAgreeWithFlat = (m : MonitoredProgram) (input : Input) (n : ℕ) → Agrees (block_run m input n) (flat_run m input n)
+BlocksAgreeWithFlat = (m : MonitoredProgram) → IsValid m → (input : Input) (n : ℕ) → Agrees (block_run m input n) (flat_run m input n)
 
 -- a valid program that does over blocks what the source does is a translation of it
 abbrev pub AgreementTranslates : Type 0

@@ -1,8 +1,13 @@
 pub mod Trees
 pub mod Arithmetic
+pub mod Globals
 pub mod Memory
 pub mod Meaning
-pub mod Memories
+pub mod BlockMemory
+pub mod Regions
+pub mod Questions
+pub mod Flat
+pub mod FlatMemory
 pub mod LiveBlocks
 pub mod Names
 pub mod Text

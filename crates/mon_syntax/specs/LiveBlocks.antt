@@ -1,7 +1,17 @@
--- The blocks of a store that live on the stack, as flat memory lists them.
-use Rattle.std.specs.Prelude.{ℕ, suc, if◌then◌else◌, List, [], ◌∷◌}
-use Rattle.c_model.specs.Memory.{Block, Store}
-use Rattle.mon_syntax.specs.Memories.{is_live_on_stack, LiveBlock}
+-- The blocks of a store that live on the stack, the youngest first.
+use Rattle.std.specs.Prelude.{ℕ, suc, ◌+◌, if◌then◌else◌, List, [], ◌∷◌}
+use Rattle.c_model.specs.Memory.{Block, Store, rounded}
+use Rattle.mon_syntax.specs.BlockMemory.{is_live_on_stack}
+
+-- a block that lives on the stack: its number, and its size in bytes
+pub record LiveBlock : Type 0 where
+  pub number : ℕ
+  pub size : ℕ
+
+-- what live blocks take of the stack
+abbrev pub taken_by : List LiveBlock → ℕ
+taken_by [] = 0
+taken_by (b ∷ bs) = rounded b.size + taken_by bs
 
 -- a living block with its number
 abbrev pub noted : ℕ → Block → LiveBlock

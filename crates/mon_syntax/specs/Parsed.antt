@@ -11,7 +11,7 @@ pub record NameUse : Type 0 where
   pub number : ℕ
 
 -- The place of an expression is its operator's token for a binary one, the token after its first parenthesis for a unary
--- operator and a cast, and else its first token.
+-- operator, a cast and a load, and else its first token.
 pub data ParsedExpression : Type 0 where
   Name : NameUse → ParsedExpression
   Constant : Place → MonType → ℤ → ParsedExpression
@@ -19,6 +19,7 @@ pub data ParsedExpression : Type 0 where
   Minus : Place → ParsedExpression → ParsedExpression
   Flip : Place → ParsedExpression → ParsedExpression
   Cast : Place → MonType → ParsedExpression → ParsedExpression
+  Load : Place → MonType → ParsedExpression → ParsedExpression
 
 pub data ParsedArgument : Type 0 where
   Value : ParsedExpression → ParsedArgument
@@ -35,6 +36,8 @@ mutual
   pub data ParsedStatement : Type 0 where
     -- R = e; with the place of its `=`
     Set : NameUse → Place → ParsedExpression → ParsedStatement
+    -- *(t *)R = e; with its mark, and the place of its `=`
+    Store : MonType → NameUse → Place → ParsedExpression → ParsedStatement
     -- R = f(..);
     Take : NameUse → Place → ParsedCall → ParsedStatement
     Call : ParsedCall → ParsedStatement
@@ -60,5 +63,14 @@ pub record ParsedFunction : Type 0 where
   pub registers : List ParsedRegister
   pub body : ParsedStatements
 
-abbrev pub ParsedProgram : Type 0
-ParsedProgram = List ParsedFunction
+-- static char NAME[n]; or static const char NAME[n] = "..";
+pub record ParsedGlobal : Type 0 where
+  pub name : NameUse
+  -- the place of the number
+  pub place : Place
+  pub size : ℤ
+  pub literal : Option (List ℕ)
+
+pub record ParsedProgram : Type 0 where
+  pub globals : List ParsedGlobal
+  pub functions : List ParsedFunction

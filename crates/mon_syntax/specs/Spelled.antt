@@ -1,9 +1,10 @@
 -- Ours: the phases of a text in monitored C.
--- Which texts are monitored programs, and which are refused, why: by tokens, by grammar, by names and types, and for want of `main`.
+-- Which texts are monitored programs, and which are refused, why: by tokens, by grammar, by names and types, and for want of room or of `main`.
 use Rattle.std.specs.Prelude.{◌≡◌, ℕ, List, [], ◌∷◌, map, Option, Some, None, Result, Ok, Err, Bool, false, true, ◌&&◌, if◌then◌else◌, codes, bytes_eq}
+use Rattle.std.specs.Prelude.{◌+◌, nat_lt, unsigned_abs, option_map}
 use Rattle.grammar.specs.Syntax as grammar
 use Rattle.grammar.specs.Exact.{Accepts, Refused}
-use Rattle.c_syntax.specs.RefusalCodes.{main_code}
+use Rattle.c_syntax.specs.RefusalCodes.{globals_code, main_code}
 use Rattle.c_syntax.specs.declared.place.Place.{Place}
 use Rattle.c_syntax.specs.Tokens.{PlainTokens}
 use Rattle.c_syntax.specs.Programs.{PlainRefusal}
@@ -14,8 +15,11 @@ use Rattle.mon_syntax.specs.declared.tree.MonType.{MonType}
 use Rattle.mon_syntax.specs.declared.tree.MonType.TheVariants.{I32}
 use Rattle.mon_syntax.specs.Trees.{MonitoredProgram}
 use Rattle.mon_syntax.specs.Words.{word_of}
-use Rattle.mon_syntax.specs.Parsed.{ParsedRegister, ParsedProgram}
+use Rattle.mon_syntax.specs.Parsed.{ParsedRegister, ParsedFunction, ParsedGlobal, ParsedProgram}
 use Rattle.mon_syntax.specs.Grammar as form
+use Rattle.c_model.specs.Limits.{globals_bytes}
+use Rattle.c_model.specs.Memory.{rounded}
+use Rattle.mon_syntax.specs.Parsed.{NameUse}
 use Rattle.mon_syntax.specs.Grammar.{Vocabulary, text}
 use Rattle.mon_syntax.specs.Checking.{Fault, same_type, word_bytes, checked_program}
 
@@ -37,6 +41,21 @@ check_refusal ts f = refused_at_place ts f.code f.place
 abbrev pub checked : PlainTokens → ParsedProgram → Result MonitoredProgram Fault
 checked ts p = checked_program ts.names (vocabulary ts) p
 
+-- ---- E12: the global whose rounded size takes the sum past the segment
+
+-- after globals that take so many bytes
+abbrev pub first_too_large : ℕ → List ParsedGlobal → Option NameUse
+first_too_large taken [] = None
+first_too_large taken (g ∷ gs) =
+    let sum = taken + rounded (unsigned_abs g.size) in
+    if nat_lt globals_bytes sum then Some g.name else first_too_large sum gs
+
+abbrev pub too_large : List (List ℕ) → NameUse → PlainRefusal
+too_large names x = record { code = globals_code; place = x.place; construct = word_bytes names x.number }
+
+abbrev pub room_refusal : List (List ℕ) → List ParsedGlobal → Option PlainRefusal
+room_refusal names gs = option_map (too_large names) (first_too_large 0 gs)
+
 -- ---- E13: no `main`, or one that isn't `i32 main(void)`
 
 abbrev pub no_main : Place → PlainRefusal
@@ -50,12 +69,23 @@ abbrev pub has_none : List ParsedRegister → Bool
 has_none [] = true
 has_none (r ∷ rs) = false
 
-abbrev pub main_refusal : List (List ℕ) → ParsedProgram → Option PlainRefusal
-main_refusal names [] = Some (no_main first_place)
-main_refusal names (f ∷ fs) =
-    if bytes_eq (word_bytes names f.name.number) (codes "main")
-    then (if is_i32 f.result && has_none f.parameters then None else Some (no_main f.name.place))
-    else main_refusal names fs
+abbrev pub main_in : List (List ℕ) → List ParsedFunction → Option ParsedFunction
+main_in names [] = None
+main_in names (f ∷ fs) = if bytes_eq (word_bytes names f.name.number) (codes "main") then Some f else main_in names fs
+
+abbrev pub is_main : ParsedFunction → Bool
+is_main f = is_i32 f.result && has_none f.parameters
+
+-- ---- the last phase: what comes first in the text, and a missing `main` comes at its beginning
+
+-- where the globals are refused, or not
+abbrev pub last_of : Option PlainRefusal → Option ParsedFunction → Option PlainRefusal
+last_of room None = Some (no_main first_place)
+last_of (Some r) (Some f) = Some r
+last_of None (Some f) = if is_main f then None else Some (no_main f.name.place)
+
+abbrev pub last_refusal : List (List ℕ) → ParsedProgram → Option PlainRefusal
+last_refusal names p = last_of (room_refusal names p.globals) (main_in names p.functions)
 
 -- ---- texts
 
@@ -66,7 +96,7 @@ pub record Spells (text : List ℕ) (m : MonitoredProgram) : Type 0 where
   pub tree : ParsedProgram
   pub read : IsRead tokens tree
   pub is : checked tokens tree ≡ Ok m
-  pub main : main_refusal tokens.names tree ≡ None
+  pub whole : last_refusal tokens.names tree ≡ None
 
 -- the text is refused, by the first of four phases that finds a fault
 pub data IsMonitoredRefusal (text : List ℕ) (r : PlainRefusal) : Type 0 where
@@ -75,5 +105,5 @@ pub data IsMonitoredRefusal (text : List ℕ) (r : PlainRefusal) : Type 0 where
       → ((p : ParsedProgram) → IsRead ts p → ⊥) → r ≡ syntax_refusal ts f → IsMonitoredRefusal text r
   ByNamesAndTypes : (ts : PlainTokens) (p : ParsedProgram) (f : Fault) → monitored_tokens text ≡ Ok ts → IsRead ts p → checked ts p ≡ Err f
       → r ≡ check_refusal ts f → IsMonitoredRefusal text r
-  ForMain : (ts : PlainTokens) (p : ParsedProgram) (m : MonitoredProgram) → monitored_tokens text ≡ Ok ts → IsRead ts p → checked ts p ≡ Ok m
-      → main_refusal ts.names p ≡ Some r → IsMonitoredRefusal text r
+  AsAWhole : (ts : PlainTokens) (p : ParsedProgram) (m : MonitoredProgram) → monitored_tokens text ≡ Ok ts → IsRead ts p → checked ts p ≡ Ok m
+      → last_refusal ts.names p ≡ Some r → IsMonitoredRefusal text r

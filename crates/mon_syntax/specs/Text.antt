@@ -9,10 +9,13 @@ use Rattle.mon_syntax.specs.declared.tree.MonType.{MonType}
 use Rattle.mon_syntax.specs.declared.tree.MonOp.{MonOp}
 use Rattle.mon_syntax.specs.declared.tree.MonOp.TheVariants.{Add, Sub, Mul, Div, Rem, Shl, Shr, And, Or, Xor, Eq, Ne, Lt, Le, Gt, Ge}
 use Rattle.mon_syntax.specs.declared.tree.MemoryCall.{MemoryCall}
-use Rattle.mon_syntax.specs.declared.tree.MemoryCall.TheVariants.{StoreBlock, DeleteBlock}
-use Rattle.mon_syntax.specs.Trees.{MonExpression, Register, Constant, Binary, Minus, Flip, Cast, MonStatement, Set, Step, Assert, PutChar, GetChar, Exit}
+use Rattle.mon_syntax.specs.declared.tree.MemoryCall.TheVariants as memory_call
+use Rattle.mon_syntax.specs.Trees.{MonExpression, Register, Global, Constant, Binary, Minus, Flip, Cast, Load, MonStatement, Set, Store, Step, Assert}
+use Rattle.mon_syntax.specs.Trees.{PutChar, GetChar, Exit, PlainContent, Zeros, Literal, MonitoredGlobal}
 use Rattle.mon_syntax.specs.Trees.{PrintText, PrintSigned, PrintUnsigned, Act, Call, If, Loop, Labelled, Goto, Return, MonStatements, NoStatement, Then}
 use Rattle.mon_syntax.specs.Trees.{MonRegister, MonFunction, MonitoredProgram}
+use Rattle.mon_syntax.specs.Arithmetic.{access_bytes, byte_count, is_pointer}
+use Rattle.mon_syntax.specs.Globals.{size_of_content}
 use Rattle.mon_syntax.specs.Names.{type_word, constant_word}
 
 -- ---- pieces of a text
@@ -86,23 +89,39 @@ operator_mark Le = codes "<="
 operator_mark Gt = codes ">"
 operator_mark Ge = codes ">="
 
--- the names of registers, by number
 abbrev pub Registers : Type 0
 Registers = List MonRegister
+
+-- what has a name in a function: its registers and the globals, by number
+pub record InSight : Type 0 where
+  pub registers : Registers
+  pub globals : List MonitoredGlobal
 
 abbrev pub name_or_none : Option MonRegister → List ℕ
 name_or_none None = []
 name_or_none (Some r) = r.name
 
-abbrev pub name_of : Registers → ℕ → List ℕ
-name_of rs r = name_or_none (slice_get rs r)
+abbrev pub name_of : InSight → ℕ → List ℕ
+name_of rs r = name_or_none (slice_get rs.registers r)
+
+abbrev pub global_or_none : Option MonitoredGlobal → List ℕ
+global_or_none None = []
+global_or_none (Some g) = g.name
+
+abbrev pub global_name : InSight → ℕ → List ℕ
+global_name rs g = global_or_none (slice_get rs.globals g)
 
 abbrev pub number_pieces : ℤ → List Piece
 number_pieces (pos n) = Number n ∷ []
 number_pieces (negsuc n) = Mark (codes "-") ∷ Number (suc n) ∷ []
 
-abbrev pub expression_pieces : Registers → MonExpression → List Piece
+-- (t *)
+abbrev pub pointed_type : MonType → List Piece
+pointed_type t = left_paren ∷ Word (type_word t) ∷ blank ∷ Mark (codes "*") ∷ right_paren ∷ []
+
+abbrev pub expression_pieces : InSight → MonExpression → List Piece
 expression_pieces rs (Register r) = Word (name_of rs r) ∷ []
+expression_pieces rs (Global g) = Word (global_name rs g) ∷ []
 expression_pieces rs (Constant t z) = Word (constant_word t) ∷ left_paren ∷ (number_pieces z ++ (right_paren ∷ []))
 expression_pieces rs (Binary op t a b) =
     left_paren ∷ (expression_pieces rs a ++ (blank ∷ Mark (operator_mark op) ∷ blank ∷ (expression_pieces rs b ++ (right_paren ∷ []))))
@@ -110,6 +129,8 @@ expression_pieces rs (Minus t a) = left_paren ∷ Mark (codes "-") ∷ (expressi
 expression_pieces rs (Flip t a) = left_paren ∷ Mark (codes "~") ∷ (expression_pieces rs a ++ (right_paren ∷ []))
 expression_pieces rs (Cast t a) =
     left_paren ∷ left_paren ∷ Word (type_word t) ∷ right_paren ∷ (expression_pieces rs a ++ (right_paren ∷ []))
+expression_pieces rs (Load t a) =
+    left_paren ∷ Mark (codes "*") ∷ (pointed_type t ++ (expression_pieces rs a ++ (right_paren ∷ [])))
 
 -- ---- statements
 
@@ -121,22 +142,29 @@ call_pieces name arguments = Word name ∷ left_paren ∷ (arguments ++ (right_p
 abbrev pub set_pieces : List ℕ → List Piece
 set_pieces name = Word name ∷ blank ∷ Mark (codes "=") ∷ blank ∷ []
 
-abbrev pub set_or_none : Registers → Option ℕ → List Piece
+abbrev pub set_or_none : InSight → Option ℕ → List Piece
 set_or_none rs None = []
 set_or_none rs (Some r) = set_pieces (name_of rs r)
 
 -- arguments after the first one
-abbrev pub more_arguments : Registers → List MonExpression → List Piece
+abbrev pub more_arguments : InSight → List MonExpression → List Piece
 more_arguments rs [] = []
 more_arguments rs (e ∷ es) = comma ++ (expression_pieces rs e ++ more_arguments rs es)
 
-abbrev pub arguments_pieces : Registers → List MonExpression → List Piece
+abbrev pub arguments_pieces : InSight → List MonExpression → List Piece
 arguments_pieces rs [] = []
 arguments_pieces rs (e ∷ es) = expression_pieces rs e ++ more_arguments rs es
 
 abbrev pub memory_word : MemoryCall → List ℕ
-memory_word StoreBlock = codes "__e_acsl_store_block"
-memory_word DeleteBlock = codes "__e_acsl_delete_block"
+memory_word memory_call.StoreBlock = codes "__e_acsl_store_block"
+memory_word memory_call.DeleteBlock = codes "__e_acsl_delete_block"
+memory_word (memory_call.Number a) = codes "__e_acsl_number"
+
+-- the number after the arguments of such a call
+abbrev pub size_argument : MemoryCall → List Piece
+size_argument memory_call.StoreBlock = []
+size_argument memory_call.DeleteBlock = []
+size_argument (memory_call.Number a) = comma ++ (Number (access_bytes a) ∷ [])
 
 -- the names of functions, by number
 abbrev pub FunctionNames : Type 0
@@ -149,9 +177,15 @@ bytes_or_none (Some w) = w
 abbrev pub function_name : FunctionNames → ℕ → List ℕ
 function_name gs f = bytes_or_none (slice_get gs f)
 
-abbrev pub assert_arguments : Registers → MonExpression → MonExpression → ℕ → ℕ → List ℕ → List Piece
+abbrev pub assert_arguments : InSight → MonExpression → MonExpression → ℕ → ℕ → List ℕ → List Piece
 assert_arguments rs d v number line kind =
     expression_pieces rs d ++ (comma ++ (expression_pieces rs v ++ (comma ++ (Number number ∷ (comma ++ (Number line ∷ (comma ++ (Quoted kind ∷ []))))))))
+
+-- the mark of a store: what was stored at the pointer of a register
+abbrev pub mark_pieces : InSight → ℕ → MonType → List Piece
+mark_pieces rs r t =
+    if is_pointer t then call_pieces (codes "__e_acsl_initialize_ptr") (Word (name_of rs r) ∷ [])
+    else call_pieces (codes "__e_acsl_initialize") (Word (name_of rs r) ∷ (comma ++ (Number (byte_count t) ∷ [])))
 
 -- (e)
 abbrev pub in_parens : List Piece → List Piece
@@ -161,8 +195,10 @@ abbrev pub word_statement : List ℕ → List Piece → List Piece
 word_statement word rest = Word word ∷ blank ∷ (rest ++ (semicolon ∷ []))
 
 abbrev mutual
-  pub statement_pieces : FunctionNames → Registers → ℕ → MonStatement → List Piece
+  pub statement_pieces : FunctionNames → InSight → ℕ → MonStatement → List Piece
   statement_pieces gs rs depth (Set r e) = set_pieces (name_of rs r) ++ (expression_pieces rs e ++ (semicolon ∷ []))
+  statement_pieces gs rs depth (Store r t e) =
+      Mark (codes "*") ∷ (pointed_type t ++ (set_pieces (name_of rs r) ++ (expression_pieces rs e ++ (semicolon ∷ new_line depth ∷ mark_pieces rs r t))))
   statement_pieces gs rs depth Step = call_pieces (codes "__e_acsl_step") []
   statement_pieces gs rs depth (Assert d v number line kind) = call_pieces (codes "__e_acsl_assert") (assert_arguments rs d v number line (kind_word kind))
   statement_pieces gs rs depth (PutChar r e) = set_or_none rs r ++ call_pieces (codes "putchar") (expression_pieces rs e)
@@ -171,7 +207,7 @@ abbrev mutual
   statement_pieces gs rs depth (PrintText bytes) = call_pieces (codes "__e_acsl_print_text") (Quoted bytes ∷ [])
   statement_pieces gs rs depth (PrintSigned e) = call_pieces (codes "__e_acsl_print_i64") (expression_pieces rs e)
   statement_pieces gs rs depth (PrintUnsigned e) = call_pieces (codes "__e_acsl_print_u64") (expression_pieces rs e)
-  statement_pieces gs rs depth (Act r f args) = set_or_none rs r ++ call_pieces (memory_word f) (arguments_pieces rs args)
+  statement_pieces gs rs depth (Act r f args) = set_or_none rs r ++ call_pieces (memory_word f) (arguments_pieces rs args ++ size_argument f)
   statement_pieces gs rs depth (Call r f args) = set_or_none rs r ++ call_pieces (function_name gs f) (arguments_pieces rs args)
   statement_pieces gs rs depth (If e a b) =
       Word (codes "if") ∷ blank ∷ (in_parens (expression_pieces rs e) ++
@@ -186,14 +222,14 @@ abbrev mutual
   statement_pieces gs rs depth (Return (Some e)) = word_statement (codes "return") (expression_pieces rs e)
 
   -- { .. }, with its end on a line of its own where statements stand in it
-  pub body_pieces : FunctionNames → Registers → ℕ → MonStatements → List Piece
+  pub body_pieces : FunctionNames → InSight → ℕ → MonStatements → List Piece
   body_pieces gs rs depth NoStatement = Mark (codes "{") ∷ blank ∷ Mark (codes "}") ∷ []
   body_pieces gs rs depth (Then a rest) =
       Mark (codes "{") ∷ new_line (depth + 1) ∷ (statement_pieces gs rs (depth + 1) a ++
       (statements_pieces gs rs (depth + 1) rest ++ (new_line depth ∷ Mark (codes "}") ∷ [])))
 
   -- each statement on a line of its own
-  pub statements_pieces : FunctionNames → Registers → ℕ → MonStatements → List Piece
+  pub statements_pieces : FunctionNames → InSight → ℕ → MonStatements → List Piece
   statements_pieces gs rs depth NoStatement = []
   statements_pieces gs rs depth (Then a rest) = new_line depth ∷ (statement_pieces gs rs depth a ++ statements_pieces gs rs depth rest)
 
@@ -218,17 +254,34 @@ abbrev pub registers_pieces : Registers → List Piece
 registers_pieces [] = []
 registers_pieces (r ∷ rs) = new_line 1 ∷ Word (type_word r.kind) ∷ blank ∷ Word r.name ∷ semicolon ∷ registers_pieces rs
 
-abbrev pub function_pieces : FunctionNames → MonFunction → List Piece
-function_pieces gs f =
+abbrev pub function_pieces : FunctionNames → List MonitoredGlobal → MonFunction → List Piece
+function_pieces gs globals f =
+    let rs : InSight = record { registers = f.parameters ++ f.registers; globals = globals } in
     Word (result_word f.result) ∷ blank ∷ Word f.name ∷ (in_parens (parameters_pieces f.parameters) ++ (blank ∷ Mark (codes "{")
-    ∷ (registers_pieces f.registers ++ (statements_pieces gs (f.parameters ++ f.registers) 1 f.body ++ (new_line 0 ∷ Mark (codes "}") ∷ new_line 0 ∷ [])))))
+    ∷ (registers_pieces f.registers ++ (statements_pieces gs rs 1 f.body ++ (new_line 0 ∷ Mark (codes "}") ∷ new_line 0 ∷ [])))))
 
-abbrev pub functions_pieces : FunctionNames → List MonFunction → List Piece
-functions_pieces gs [] = []
-functions_pieces gs (f ∷ fs) = function_pieces gs f ++ functions_pieces gs fs
+abbrev pub functions_pieces : FunctionNames → List MonitoredGlobal → List MonFunction → List Piece
+functions_pieces gs globals [] = []
+functions_pieces gs globals (f ∷ fs) = function_pieces gs globals f ++ functions_pieces gs globals fs
+
+-- ---- globals and literals, each on a line of its own
+
+abbrev pub size_pieces : PlainContent → List Piece
+size_pieces c = Mark (codes "[") ∷ Number (size_of_content c) ∷ Mark (codes "]") ∷ []
+
+abbrev pub content_pieces : List ℕ → PlainContent → List Piece
+content_pieces name (Zeros n) = Word (codes "char") ∷ blank ∷ Word name ∷ (size_pieces (Zeros n) ++ (semicolon ∷ []))
+content_pieces name (Literal bytes) =
+    Word (codes "const") ∷ blank ∷ Word (codes "char") ∷ blank ∷ Word name
+    ∷ (size_pieces (Literal bytes) ++ (blank ∷ Mark (codes "=") ∷ blank ∷ Quoted bytes ∷ semicolon ∷ []))
+
+abbrev pub globals_pieces : List MonitoredGlobal → List Piece
+globals_pieces [] = []
+globals_pieces (g ∷ gs) = Word (codes "static") ∷ blank ∷ (content_pieces g.name g.content ++ (new_line 0 ∷ globals_pieces gs))
 
 abbrev pub program_pieces : MonitoredProgram → List Piece
-program_pieces m = Head ∷ new_line 0 ∷ functions_pieces (map (λ (f : MonFunction). f.name) m.functions) m.functions
+program_pieces m =
+    Head ∷ new_line 0 ∷ (globals_pieces m.globals ++ functions_pieces (map (λ (f : MonFunction). f.name) m.functions) m.globals m.functions)
 
 -- the text of a program
 abbrev pub text_of : MonitoredProgram → List ℕ

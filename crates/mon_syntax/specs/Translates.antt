@@ -6,7 +6,7 @@ use Rattle.c_model.specs.State.{Input}
 use Rattle.c_model.specs.Meaning.{run}
 use Rattle.c_model.specs.Reports.{Agrees}
 use Rattle.mon_syntax.specs.Trees.{MonitoredProgram}
-use Rattle.mon_syntax.specs.Memories.{flat_run}
+use Rattle.mon_syntax.specs.FlatMemory.{flat_run}
 use Rattle.mon_syntax.specs.Valid.{IsValid}
 
 -- it is valid, and on the machine it does what the source does, up to the source's first undefined operation

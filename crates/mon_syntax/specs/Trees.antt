@@ -13,19 +13,26 @@ use Rattle.mon_syntax.specs.declared.tree.MonStmtKind.{MonStmtKind, Row_of-MonSt
 use Rattle.mon_syntax.specs.declared.tree.MonStmtKind as stmt
 use Rattle.mon_syntax.specs.declared.tree.Register as code_register
 use Rattle.mon_syntax.specs.declared.tree.MonFunc.{MonFunc}
+use Rattle.mon_syntax.specs.declared.tree.GlobalContent.{GlobalContent}
+use Rattle.mon_syntax.specs.declared.tree.GlobalContent.TheVariants as content
+use Rattle.mon_syntax.specs.declared.tree.MonGlobal.{MonGlobal}
 use Rattle.mon_syntax.specs.declared.tree.MonProgram.{MonProgram}
 
 pub data MonExpression : Type 0 where
   Register : ℕ → MonExpression
+  Global : ℕ → MonExpression
   Constant : MonType → ℤ → MonExpression
   Binary : MonOp → MonType → MonExpression → MonExpression → MonExpression
   Minus : MonType → MonExpression → MonExpression
   Flip : MonType → MonExpression → MonExpression
   Cast : MonType → MonExpression → MonExpression
+  Load : MonType → MonExpression → MonExpression
 
 mutual
   pub data MonStatement : Type 0 where
     Set : ℕ → MonExpression → MonStatement
+    -- a store with its mark, at the pointer that a register holds
+    Store : ℕ → MonType → MonExpression → MonStatement
     Step : MonStatement
     -- whether the annotation is defined, whether it is true, its number, its line and its kind
     Assert : MonExpression → MonExpression → ℕ → ℕ → Kind → MonStatement
@@ -62,16 +69,28 @@ pub record MonFunction : Type 0 where
   pub registers : List MonRegister
   pub body : MonStatements
 
+-- the bytes with which a global begins: so many zeros, or those of a literal, to which a 0 is added
+pub data PlainContent : Type 0 where
+  Zeros : ℕ → PlainContent
+  Literal : List ℕ → PlainContent
+
+pub record MonitoredGlobal : Type 0 where
+  pub name : List ℕ
+  pub content : PlainContent
+
 pub record MonitoredProgram : Type 0 where
+  pub globals : List MonitoredGlobal
   pub functions : List MonFunction
 
 abbrev pub plain_expr_kind : MonExprKind → MonExpression
 plain_expr_kind (code.Register r) = Register r
+plain_expr_kind (code.Global g) = Global g
 plain_expr_kind (code.Constant t z) = Constant t z
 plain_expr_kind (code.Binary' op t p a q b) = Binary op t (plain_expr_kind a) (plain_expr_kind b)
 plain_expr_kind (code.Minus' t p a) = Minus t (plain_expr_kind a)
 plain_expr_kind (code.Flip' t p a) = Flip t (plain_expr_kind a)
 plain_expr_kind (code.Cast' t p a) = Cast t (plain_expr_kind a)
+plain_expr_kind (code.Load' t p a) = Load t (plain_expr_kind a)
 
 abbrev pub plain_expr : MonExpr → MonExpression
 plain_expr e = plain_expr_kind e.kind.value
@@ -79,6 +98,7 @@ plain_expr e = plain_expr_kind e.kind.value
 abbrev mutual
   pub plain_stmt_kind : MonStmtKind → MonStatement
   plain_stmt_kind (stmt.Set r e) = Set r (plain_expr e)
+  plain_stmt_kind (stmt.Store r t e) = Store r t (plain_expr e)
   plain_stmt_kind stmt.Step = Step
   plain_stmt_kind (stmt.Assert d v number line kind) = Assert (plain_expr d) (plain_expr v) number line kind
   plain_stmt_kind (stmt.PutChar r e) = PutChar r (plain_expr e)
@@ -118,5 +138,12 @@ plain_func f = record {
   body = plain_stmts f.body.items;
 }
 
+abbrev pub plain_content : GlobalContent → PlainContent
+plain_content (content.Zeros n) = Zeros n
+plain_content (content.Literal bytes) = Literal bytes
+
+abbrev pub plain_global : MonGlobal → MonitoredGlobal
+plain_global g = record { name = g.name; content = plain_content g.content }
+
 abbrev pub plain_program : MonProgram → MonitoredProgram
-plain_program m = record { functions = map plain_func m.functions.items }
+plain_program m = record { globals = map plain_global m.globals.items; functions = map plain_func m.functions.items }

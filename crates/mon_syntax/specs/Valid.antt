@@ -1,6 +1,7 @@
 -- Ours: the rules of monitored C, of its trees.
 -- Which programs in monitored C are valid: names, types, labels, the step of each loop, and limits.
-use Rattle.std.specs.Prelude.{◌≡◌, ℕ, suc, ◌≤◌, ◌<◌, max, ℤ, neg_ℤ, pos, ◌^◌, Bool, true, false, not, ◌&&◌, if◌then◌else◌, List, [], ◌∷◌, ◌++◌, map, Option}
+use Rattle.std.specs.Prelude.{◌≡◌, ℕ, suc, ◌≤◌, ◌<◌, max, length, ◌||◌, ℤ, neg_ℤ, pos, ◌^◌, Bool, true, false, not, ◌&&◌, if◌then◌else◌, List, [], ◌∷◌, ◌++◌}
+use Rattle.std.specs.Prelude.{map, Option}
 use Rattle.std.specs.Prelude.{Some, None, slice_get, codes, bytes_eq}
 use Rattle.std.specs.Ordering.{int_eq}
 use Rattle.std.specs.List.{list_any, AllByRecursion}
@@ -9,11 +10,14 @@ use Rattle.mon_syntax.specs.declared.tree.MonType.TheVariants.{I8, U8, I16, U16,
 use Rattle.mon_syntax.specs.declared.tree.MonOp.{MonOp}
 use Rattle.mon_syntax.specs.declared.tree.MonOp.TheVariants.{Add, Sub, Mul, Div, Rem, Shl, Shr, And, Or, Xor, Eq, Ne, Lt, Le, Gt, Ge}
 use Rattle.mon_syntax.specs.declared.tree.MemoryCall.{MemoryCall}
-use Rattle.mon_syntax.specs.declared.tree.MemoryCall.TheVariants.{StoreBlock, DeleteBlock}
-use Rattle.mon_syntax.specs.Trees.{MonExpression, Register, Constant, Binary, Minus, Flip, Cast, MonStatement, Set, Step, Assert, PutChar, GetChar, Exit}
+use Rattle.mon_syntax.specs.declared.tree.MemoryCall.TheVariants.{StoreBlock, DeleteBlock, Number}
+use Rattle.mon_syntax.specs.Trees.{MonExpression, Register, Global, Constant, Binary, Minus, Flip, Cast, Load, MonStatement, Set, Store, Step, Assert}
+use Rattle.mon_syntax.specs.Trees.{PutChar, GetChar, Exit, PlainContent, Zeros, Literal, MonitoredGlobal}
 use Rattle.mon_syntax.specs.Trees.{PrintText, PrintSigned, PrintUnsigned, Act, Call, If, Loop, Labelled, Goto, Return, MonStatements, NoStatement, Then}
 use Rattle.mon_syntax.specs.Trees.{MonRegister, MonFunction, MonitoredProgram}
-use Rattle.mon_syntax.specs.Arithmetic.{fits}
+use Rattle.c_model.specs.Limits.{globals_bytes}
+use Rattle.mon_syntax.specs.Arithmetic.{is_pointer, fits}
+use Rattle.mon_syntax.specs.Globals.{globals_taken}
 use Rattle.mon_syntax.specs.Names.{IsFreeName}
 
 -- ---- types of expressions
@@ -62,35 +66,72 @@ is_relation Le = true
 is_relation Gt = true
 is_relation Ge = true
 
--- a relation gives an i32, another operator its operands' type
-abbrev pub result_type : MonOp → MonType → MonType
-result_type op t = if is_relation op then I32 else t
+abbrev pub is_sum : MonOp → Bool
+is_sum Add = true
+is_sum Sub = false
+is_sum Mul = false
+is_sum Div = false
+is_sum Rem = false
+is_sum Shl = false
+is_sum Shr = false
+is_sum And = false
+is_sum Or = false
+is_sum Xor = false
+is_sum Eq = false
+is_sum Ne = false
+is_sum Lt = false
+is_sum Le = false
+is_sum Gt = false
+is_sum Ge = false
 
--- a constant has a value of its type, a whole-number type, which is not the least one of i128
+abbrev pub is_difference : MonOp → Bool
+is_difference Add = false
+is_difference Sub = true
+is_difference Mul = false
+is_difference Div = false
+is_difference Rem = false
+is_difference Shl = false
+is_difference Shr = false
+is_difference And = false
+is_difference Or = false
+is_difference Xor = false
+is_difference Eq = false
+is_difference Ne = false
+is_difference Lt = false
+is_difference Le = false
+is_difference Gt = false
+is_difference Ge = false
+
+-- the operators on a first operand of a type: all of arithmetic, and of a pointer sum, difference and relations
+abbrev pub has_operator : MonOp → MonType → Bool
+has_operator op t = if is_pointer t then is_sum op || (is_difference op || is_relation op) else is_arithmetic t
+
+-- the type of the second operand: that of the first one, but an i64 that is added to a pointer
+abbrev pub second_type : MonOp → MonType → MonType
+second_type op t = if is_pointer t && is_sum op then I64 else t
+
+-- a relation gives an i32, the difference of two pointers an i64, another operator its first operand's type
+abbrev pub result_type : MonOp → MonType → MonType
+result_type op t = if is_relation op then I32 else (if is_pointer t && is_difference op then I64 else t)
+
+-- a constant has a value of its type, which is not the least one of i128, and for a pointer is 0
 abbrev pub has_constant : MonType → ℤ → Bool
-has_constant t z = is_whole t && fits t z && not (int_eq z (neg_ℤ (pos (2 ^ 127))))
+has_constant t z = fits t z && (if is_pointer t then int_eq z (pos 0) else not (int_eq z (neg_ℤ (pos (2 ^ 127)))))
 
 -- the types of a function's registers, by number
 abbrev pub Types : Type 0
 Types = List MonType
 
--- the expression has this type
-abbrev pub HasType : Types → MonExpression → MonType → Type 0
-HasType ts (Register r) t = slice_get ts r ≡ Some t
-HasType ts (Constant k z) t = (k ≡ t) × (has_constant k z ≡ true)
-HasType ts (Binary op k a b) t = (result_type op k ≡ t) × (is_arithmetic k ≡ true) × HasType ts a k × HasType ts b k
-HasType ts (Minus k a) t = (k ≡ t) × (is_arithmetic k ≡ true) × HasType ts a k
-HasType ts (Flip k a) t = (k ≡ t) × (is_arithmetic k ≡ true) × HasType ts a k
-HasType ts (Cast k a) t = (k ≡ t) × (is_whole k ≡ true) × ((from : MonType) × (is_whole from ≡ true) × HasType ts a from)
-
 -- how many parentheses are open at once in the text of an expression
 abbrev pub open_parens : MonExpression → ℕ
 open_parens (Register r) = 0
+open_parens (Global g) = 0
 open_parens (Constant t z) = 1
 open_parens (Binary op t a b) = suc (max (open_parens a) (open_parens b))
 open_parens (Minus t a) = suc (open_parens a)
 open_parens (Flip t a) = suc (open_parens a)
 open_parens (Cast t a) = suc (max 1 (open_parens a))
+open_parens (Load t a) = suc (max 1 (open_parens a))
 
 -- the limits of this profile: parentheses open at once in an expression, and the depth of statements
 abbrev pub most_open_parens : ℕ
@@ -98,11 +139,6 @@ most_open_parens = 2000
 
 abbrev pub most_nested : ℕ
 most_nested = 2000
-
--- an expression of the type, within the limit
-pub record IsExpression (ts : Types) (e : MonExpression) (t : MonType) : Type 0 where
-  pub typed : HasType ts e t
-  pub within : open_parens e ≤ most_open_parens
 
 -- ---- statements
 
@@ -123,21 +159,16 @@ TakesValue ts None t = Unit {0}
 TakesValue ts (Some r) None = ⊥
 TakesValue ts (Some r) (Some t) = slice_get ts r ≡ Some t
 
--- each argument has the type of its parameter
-abbrev pub AreArguments : Types → List MonExpression → Types → Type 0
-AreArguments ts [] [] = Unit {0}
-AreArguments ts [] (p ∷ ps) = ⊥
-AreArguments ts (e ∷ es) [] = ⊥
-AreArguments ts (e ∷ es) (p ∷ ps) = IsExpression ts e p × AreArguments ts es ps
-
 -- what calls of the runtime on the memory take and give
 abbrev pub memory_parameters : MemoryCall → Types
 memory_parameters StoreBlock = U64 ∷ []
 memory_parameters DeleteBlock = Ptr ∷ []
+memory_parameters (Number a) = Ptr ∷ I128 ∷ []
 
 abbrev pub memory_result : MemoryCall → Option MonType
 memory_result StoreBlock = Some Ptr
 memory_result DeleteBlock = None
+memory_result (Number a) = Some I32
 
 -- what a function is to its callers
 pub record Signature : Type 0 where
@@ -145,16 +176,9 @@ pub record Signature : Type 0 where
   pub parameters : Types
   pub result : Option MonType
 
--- a function that may be called, which `main` isn't, with arguments and a register of its types
-pub record IsCall (gs : List Signature) (ts : Types) (r : Option ℕ) (f : ℕ) (args : List MonExpression) : Type 0 where
-  pub callee : Signature
-  pub has : slice_get gs f ≡ Some callee
-  pub not_main : bytes_eq callee.name (codes "main") ≡ false
-  pub arguments : AreArguments ts args callee.parameters
-  pub takes : TakesValue ts r callee.result
-
 abbrev pub is_step : MonStatement → Bool
 is_step (Set r e) = false
+is_step (Store r t e) = false
 is_step Step = true
 is_step (Assert d v number line kind) = false
 is_step (PutChar r e) = false
@@ -176,41 +200,77 @@ abbrev pub has_no_step : MonStatements → Bool
 has_no_step NoStatement = true
 has_no_step (Then a rest) = not (is_step a) && has_no_step rest
 
-abbrev pub ReturnsResult : Types → Option MonType → Option MonExpression → Type 0
-ReturnsResult ts None None = Unit {0}
-ReturnsResult ts None (Some e) = ⊥
-ReturnsResult ts (Some t) None = ⊥
-ReturnsResult ts (Some t) (Some e) = IsExpression ts e t
+-- ---- in a program with so many globals
 
--- the statement is valid among functions of these signatures, in a function of the result, inside bodies of these labels
-abbrev mutual
-  pub IsStatement : List Signature → Types → Option MonType → Labels → MonStatement → Type 0
-  IsStatement gs ts result ls (Set r e) = (t : MonType) × (slice_get ts r ≡ Some t) × IsExpression ts e t
-  IsStatement gs ts result ls Step = Unit {0}
-  IsStatement gs ts result ls (Assert d v number line kind) = IsExpression ts d I32 × IsExpression ts v I32 × (number ≤ greatest_number)
-      × (line ≤ greatest_number)
-  IsStatement gs ts result ls (PutChar r e) = TakesValue ts r (Some I32) × IsExpression ts e I32
-  IsStatement gs ts result ls (GetChar r) = TakesValue ts r (Some I32)
-  IsStatement gs ts result ls (Exit e) = IsExpression ts e I32
-  IsStatement gs ts result ls (PrintText bytes) = AllByRecursion (λ b. b < 256) bytes
-  IsStatement gs ts result ls (PrintSigned e) = IsExpression ts e I64
-  IsStatement gs ts result ls (PrintUnsigned e) = IsExpression ts e U64
-  IsStatement gs ts result ls (Act r f args) = AreArguments ts args (memory_parameters f) × TakesValue ts r (memory_result f)
-  IsStatement gs ts result ls (Call r f args) = IsCall gs ts r f args
-  IsStatement gs ts result ls (If e a b) = IsExpression ts e I32 × AreStatements gs ts result ls a × AreStatements gs ts result ls b
-  IsStatement gs ts result ls (Loop a b) = (has_no_step a ≡ true) × (has_no_step b ≡ true) × AreStatements gs ts result ls a × AreStatements gs ts result ls b
-  IsStatement gs ts result ls (Labelled a l) = IsFreeName l × (has_label ls l ≡ false) × AreStatements gs ts result (l ∷ ls) a
-  IsStatement gs ts result ls (Goto l) = has_label ls l ≡ true
-  IsStatement gs ts result ls (Return e) = ReturnsResult ts result e
+module _ (globals : ℕ) where
+  -- the expression has this type
+  abbrev pub HasType : Types → MonExpression → MonType → Type 0
+  HasType ts (Register r) t = slice_get ts r ≡ Some t
+  HasType ts (Global g) t = (Ptr ≡ t) × (g < globals)
+  HasType ts (Constant k z) t = (k ≡ t) × (has_constant k z ≡ true)
+  HasType ts (Binary op k a b) t = (result_type op k ≡ t) × (has_operator op k ≡ true) × HasType ts a k × HasType ts b (second_type op k)
+  HasType ts (Minus k a) t = (k ≡ t) × (is_arithmetic k ≡ true) × HasType ts a k
+  HasType ts (Flip k a) t = (k ≡ t) × (is_arithmetic k ≡ true) × HasType ts a k
+  HasType ts (Cast k a) t = (k ≡ t) × (is_whole k ≡ true) × ((from : MonType) × (is_whole from ≡ true) × HasType ts a from)
+  HasType ts (Load k a) t = (k ≡ t) × HasType ts a Ptr
 
-  pub AreStatements : List Signature → Types → Option MonType → Labels → MonStatements → Type 0
-  AreStatements gs ts result ls NoStatement = Unit {0}
-  AreStatements gs ts result ls (Then a rest) = IsStatement gs ts result ls a × AreStatements gs ts result ls rest
+  -- an expression of the type, within the limit
+  pub record IsExpression (ts : Types) (e : MonExpression) (t : MonType) : Type 0 where
+    pub typed : HasType ts e t
+    pub within : open_parens e ≤ most_open_parens
+
+  -- each argument has the type of its parameter
+  abbrev pub AreArguments : Types → List MonExpression → Types → Type 0
+  AreArguments ts [] [] = Unit {0}
+  AreArguments ts [] (p ∷ ps) = ⊥
+  AreArguments ts (e ∷ es) [] = ⊥
+  AreArguments ts (e ∷ es) (p ∷ ps) = IsExpression ts e p × AreArguments ts es ps
+
+  -- a function that may be called, which `main` isn't, with arguments and a register of its types
+  pub record IsCall (gs : List Signature) (ts : Types) (r : Option ℕ) (f : ℕ) (args : List MonExpression) : Type 0 where
+    pub callee : Signature
+    pub has : slice_get gs f ≡ Some callee
+    pub not_main : bytes_eq callee.name (codes "main") ≡ false
+    pub arguments : AreArguments ts args callee.parameters
+    pub takes : TakesValue ts r callee.result
+
+  abbrev pub ReturnsResult : Types → Option MonType → Option MonExpression → Type 0
+  ReturnsResult ts None None = Unit {0}
+  ReturnsResult ts None (Some e) = ⊥
+  ReturnsResult ts (Some t) None = ⊥
+  ReturnsResult ts (Some t) (Some e) = IsExpression ts e t
+
+  -- the statement is valid among functions of these signatures, in a function of the result, inside bodies of these labels
+  abbrev mutual
+    pub IsStatement : List Signature → Types → Option MonType → Labels → MonStatement → Type 0
+    IsStatement gs ts result ls (Set r e) = (t : MonType) × (slice_get ts r ≡ Some t) × IsExpression ts e t
+    IsStatement gs ts result ls (Store r t e) = (slice_get ts r ≡ Some Ptr) × IsExpression ts e t
+    IsStatement gs ts result ls Step = Unit {0}
+    IsStatement gs ts result ls (Assert d v number line kind) = IsExpression ts d I32 × IsExpression ts v I32 × (number ≤ greatest_number)
+        × (line ≤ greatest_number)
+    IsStatement gs ts result ls (PutChar r e) = TakesValue ts r (Some I32) × IsExpression ts e I32
+    IsStatement gs ts result ls (GetChar r) = TakesValue ts r (Some I32)
+    IsStatement gs ts result ls (Exit e) = IsExpression ts e I32
+    IsStatement gs ts result ls (PrintText bytes) = AllByRecursion (λ b. b < 256) bytes
+    IsStatement gs ts result ls (PrintSigned e) = IsExpression ts e I64
+    IsStatement gs ts result ls (PrintUnsigned e) = IsExpression ts e U64
+    IsStatement gs ts result ls (Act r f args) = AreArguments ts args (memory_parameters f) × TakesValue ts r (memory_result f)
+    IsStatement gs ts result ls (Call r f args) = IsCall gs ts r f args
+    IsStatement gs ts result ls (If e a b) = IsExpression ts e I32 × AreStatements gs ts result ls a × AreStatements gs ts result ls b
+    IsStatement gs ts result ls (Loop a b) = (has_no_step a ≡ true) × (has_no_step b ≡ true) × AreStatements gs ts result ls a × AreStatements gs ts result ls b
+    IsStatement gs ts result ls (Labelled a l) = IsFreeName l × (has_label ls l ≡ false) × AreStatements gs ts result (l ∷ ls) a
+    IsStatement gs ts result ls (Goto l) = has_label ls l ≡ true
+    IsStatement gs ts result ls (Return e) = ReturnsResult ts result e
+
+    pub AreStatements : List Signature → Types → Option MonType → Labels → MonStatements → Type 0
+    AreStatements gs ts result ls NoStatement = Unit {0}
+    AreStatements gs ts result ls (Then a rest) = IsStatement gs ts result ls a × AreStatements gs ts result ls rest
 
 -- how deep statements stand in one another: one in a body is one deeper than the statement of the body
 abbrev mutual
   pub depth : MonStatement → ℕ
   depth (Set r e) = 1
+  depth (Store r t e) = 1
   depth Step = 1
   depth (Assert d v number line kind) = 1
   depth (PutChar r e) = 1
@@ -245,18 +305,35 @@ types_of rs = map (λ (r : MonRegister). r.kind) rs
 abbrev pub signature_of : MonFunction → Signature
 signature_of f = record { name = f.name; parameters = types_of f.parameters; result = f.result }
 
--- a function, among functions of these signatures
-pub record IsFunction (gs : List Signature) (f : MonFunction) : Type 0 where
+-- the names of globals, the last one first
+abbrev pub names_before : List (List ℕ) → List MonitoredGlobal → List (List ℕ)
+names_before before [] = before
+names_before before (g ∷ gs) = names_before (g.name ∷ before) gs
+
+-- a function, among functions of these signatures and globals
+pub record IsFunction (globals : List MonitoredGlobal) (gs : List Signature) (f : MonFunction) : Type 0 where
   pub name : IsFreeName f.name
-  pub registers : AreRegisters [] (f.parameters ++ f.registers)
-  pub body : AreStatements gs (types_of (f.parameters ++ f.registers)) f.result [] f.body
+  -- no register has the name of a global
+  pub registers : AreRegisters (names_before [] globals) (f.parameters ++ f.registers)
+  pub body : AreStatements (length globals) gs (types_of (f.parameters ++ f.registers)) f.result [] f.body
   -- the body itself is 1 deep
   pub within : suc (depth_of_all f.body) ≤ most_nested
 
 -- functions after those of these names, each with a name of its own
-abbrev pub AreFunctions : List Signature → List (List ℕ) → List MonFunction → Type 0
-AreFunctions gs before [] = Unit {0}
-AreFunctions gs before (f ∷ fs) = IsFunction gs f × (has_label before f.name ≡ false) × AreFunctions gs (f.name ∷ before) fs
+abbrev pub AreFunctions : List MonitoredGlobal → List Signature → List (List ℕ) → List MonFunction → Type 0
+AreFunctions globals gs before [] = Unit {0}
+AreFunctions globals gs before (f ∷ fs) =
+    IsFunction globals gs f × (has_label before f.name ≡ false) × AreFunctions globals gs (f.name ∷ before) fs
+
+-- what a literal holds is bytes
+abbrev pub IsContent : PlainContent → Type 0
+IsContent (Zeros n) = Unit {0}
+IsContent (Literal bytes) = AllByRecursion (λ b. b < 256) bytes
+
+-- globals after those of these names, each with a free name of its own
+abbrev pub AreGlobals : List (List ℕ) → List MonitoredGlobal → Type 0
+AreGlobals before [] = Unit {0}
+AreGlobals before (g ∷ gs) = IsFreeName g.name × (has_label before g.name ≡ false) × IsContent g.content × AreGlobals (g.name ∷ before) gs
 
 -- `i32 main(void)`
 pub record IsMain (f : MonFunction) : Type 0 where
@@ -264,9 +341,11 @@ pub record IsMain (f : MonFunction) : Type 0 where
   pub result : f.result ≡ Some I32
   pub no_parameters : f.parameters ≡ []
 
--- functions, of which one is `main`
+-- globals that have room in their segment, and functions, of which one is `main`
 pub record IsValid (m : MonitoredProgram) : Type 0 where
-  pub functions : AreFunctions (map signature_of m.functions) [] m.functions
+  pub globals : AreGlobals [] m.globals
+  pub room : globals_taken m.globals ≤ globals_bytes
+  pub functions : AreFunctions m.globals (map signature_of m.functions) [] m.functions
   pub number : ℕ
   pub main : MonFunction
   pub has : slice_get m.functions number ≡ Some main

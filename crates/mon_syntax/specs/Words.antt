@@ -5,7 +5,8 @@ use Rattle.c_model.specs.Terminals.{found_in}
 use Rattle.mon_syntax.specs.declared.tree.MonType.TheVariants.{I8, U8, I16, U16, I32, U32, I64, U64, I128, Ptr}
 use Rattle.mon_syntax.specs.declared.word.Runtime.TheVariants as runtime
 use Rattle.mon_syntax.specs.declared.word.Word.{Word}
-use Rattle.mon_syntax.specs.declared.word.Word.TheVariants.{TypeName, Constant, Void, If, Else, While, Goto, Return, Kept, Runtime, Name}
+use Rattle.mon_syntax.specs.declared.word.Word.TheVariants.{TypeName, Constant, Void, If, Else, While, Goto, Return, Static, Const, Char, Initialize}
+use Rattle.mon_syntax.specs.declared.word.Word.TheVariants.{InitializePointer, Runtime, Name}
 
 abbrev pub Words : Type 0
 Words = List (List ℕ × Word)
@@ -24,7 +25,8 @@ constant_words =
 abbrev pub keywords : Words
 keywords =
     (codes "void", Void) ∷ (codes "if", If) ∷ (codes "else", Else) ∷ (codes "while", While) ∷ (codes "goto", Goto) ∷ (codes "return", Return)
-    ∷ (codes "static", Kept) ∷ (codes "const", Kept) ∷ (codes "char", Kept) ∷ []
+    ∷ (codes "static", Static) ∷ (codes "const", Const) ∷ (codes "char", Char)
+    ∷ (codes "__e_acsl_initialize", Initialize) ∷ (codes "__e_acsl_initialize_ptr", InitializePointer) ∷ []
 
 abbrev pub runtime_words : Words
 runtime_words =
@@ -34,12 +36,11 @@ runtime_words =
     ∷ (codes "__e_acsl_store_block", Runtime runtime.StoreBlock) ∷ (codes "__e_acsl_delete_block", Runtime runtime.DeleteBlock)
     ∷ (codes "__e_acsl_copy", Runtime runtime.Kept) ∷ (codes "__e_acsl_valid", Runtime runtime.Kept)
     ∷ (codes "__e_acsl_valid_read", Runtime runtime.Kept) ∷ (codes "__e_acsl_initialized", Runtime runtime.Kept)
-    ∷ (codes "__e_acsl_number", Runtime runtime.Kept) ∷ (codes "__e_acsl_pointer", Runtime runtime.Kept)
+    ∷ (codes "__e_acsl_number", Runtime runtime.Number) ∷ (codes "__e_acsl_pointer", Runtime runtime.Kept)
     ∷ (codes "__e_acsl_inside", Runtime runtime.Kept) ∷ (codes "__e_acsl_base_addr", Runtime runtime.Kept)
     ∷ (codes "__e_acsl_block_length", Runtime runtime.Kept) ∷ (codes "__e_acsl_offset", Runtime runtime.Kept)
     ∷ (codes "__e_acsl_separated", Runtime runtime.Kept) ∷ (codes "__e_acsl_malloc", Runtime runtime.Kept)
     ∷ (codes "__e_acsl_calloc", Runtime runtime.Kept) ∷ (codes "__e_acsl_free", Runtime runtime.Kept)
-    ∷ (codes "__e_acsl_initialize", Runtime runtime.Kept) ∷ (codes "__e_acsl_initialize_ptr", Runtime runtime.Kept)
     ∷ (codes "__e_acsl_print_str", Runtime runtime.Kept) ∷ (codes "getchar", Runtime runtime.GetChar) ∷ []
 
 -- what a word is: one of these, or a name

@@ -1,6 +1,7 @@
 //! The laws that the definitions meet, one function for each subject. None of them has anything to do.
 
-ghost use Rattle.mon_syntax.specs.Memories.{over_blocks, over_flat};
+ghost use Rattle.mon_syntax.specs.BlockMemory.{over_blocks};
+ghost use Rattle.mon_syntax.specs.FlatMemory.{over_flat};
 ghost use Rattle.mon_syntax.specs.Laws.{WrappedValuesFit, WrappedValuesAreCongruent, FittingValuesStand};
 ghost use Rattle.mon_syntax.specs.Laws.{FuelIsEnough, StepsFall, LoopsTurn, RunsNeedNoFuel, RunsSpendSteps};
 ghost use Rattle.mon_syntax.specs.Laws.{BlocksAgreeWithFlat, AgreementTranslates};

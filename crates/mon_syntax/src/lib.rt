@@ -2,13 +2,15 @@
 #![tactic(auto)]
 
 pub mod laws;
+pub mod spot;
 pub mod tree;
 pub mod types;
 pub mod word;
 
+pub use spot::{RegionName, Spot};
 pub use tree::{
-    MemoryCall, MonExpr, MonExprKind, MonFunc, MonOp, MonProgram, MonStmt, MonStmtKind, MonType,
-    Register,
+    AccessSize, GlobalContent, MemoryCall, MonExpr, MonExprKind, MonFunc, MonGlobal, MonOp,
+    MonProgram, MonStmt, MonStmtKind, MonType, Register,
 };
-pub use types::{result_type, same_type};
+pub use types::{access_bytes, byte_count, is_pointer, result_type, same_type, second_type};
 pub use word::{Runtime, Word, kind_word};

@@ -42,6 +42,16 @@ pub enum MonOp {
     Ge,
 }
 
+/// How many bytes a question asks about, and to what they are aligned.
+#[derive(Clone, Copy, PartialEq, Eq, Debug)]
+pub enum AccessSize {
+    One,
+    Two,
+    Four,
+    Eight,
+    Sixteen,
+}
+
 /// A call of the runtime that works on the memory.
 #[derive(Clone, Copy, PartialEq, Eq, Debug)]
 pub enum MemoryCall {
@@ -49,6 +59,8 @@ pub enum MemoryCall {
     StoreBlock,
     /// `__e_acsl_delete_block(p)`: the death of the youngest live stack block, whose start this is.
     DeleteBlock,
+    /// `__e_acsl_number(p, o, A)`: whether so many bytes at an offset from a pointer hold a number.
+    Number(AccessSize),
 }
 
 /// An expression. It has no side effect.
@@ -63,9 +75,11 @@ pub struct MonExpr {
 pub enum MonExprKind {
     /// A register, by its number in its function: the parameters come first.
     Register(u32),
-    /// A value of a type, `I32(-1)`.
+    /// A global or a literal, by its number in the program: the pointer to its start.
+    Global(u32),
+    /// A value of a type, `I32(-1)`; `PTR(0)` is the null pointer.
     Constant(MonType, i128),
-    /// An operator on two operands of the type.
+    /// An operator on two operands of the type; `ptr + i64` is one of `ptr`.
     Binary(MonOp, MonType, MonExpr, MonExpr),
     /// `(-e)`, of an operand of the type.
     Minus(MonType, MonExpr),
@@ -73,6 +87,8 @@ pub enum MonExprKind {
     Flip(MonType, MonExpr),
     /// `((t)e)`, the value of the type that is congruent to the operand's.
     Cast(MonType, MonExpr),
+    /// `(*(t *)e)`, the value of the type that is read at a pointer.
+    Load(MonType, MonExpr),
 }
 
 impl MonExpr {
@@ -96,6 +112,8 @@ pub struct MonStmt {
 pub enum MonStmtKind {
     /// `R = e;`
     Set(u32, MonExpr),
+    /// `*(t *)R = e;` with its mark: `__e_acsl_initialize(R, size);`, and for a pointer `__e_acsl_initialize_ptr(R);`.
+    Store(u32, MonType, MonExpr),
     /// `__e_acsl_step();` where it isn't the step of a loop.
     Step,
     /// `__e_acsl_assert(d, v, A, L, "kind");`: whether the annotation is defined, whether it is true, its number and its
@@ -154,7 +172,24 @@ pub struct MonFunc {
     pub body: Vec<MonStmt>,
 }
 
+/// The bytes with which a global begins.
+#[derive(Drop)]
+pub enum GlobalContent {
+    /// `static char NAME[n];`: so many zeros.
+    Zeros(u32),
+    /// `static const char NAME[n] = "..";`: these bytes and a 0. It can't be written.
+    Literal(Name),
+}
+
+/// A global or a literal.
+#[derive(Drop)]
+pub struct MonGlobal {
+    pub name: Name,
+    pub content: GlobalContent,
+}
+
 #[derive(Drop)]
 pub struct MonProgram {
+    pub globals: Vec<MonGlobal>,
     pub functions: Vec<MonFunc>,
 }

@@ -19,6 +19,7 @@ pub enum Runtime {
     PrintUnsigned,
     StoreBlock,
     DeleteBlock,
+    Number,
     /// A name that is kept for the runtime and isn't there yet.
     Kept,
 }
@@ -35,8 +36,13 @@ pub enum Word {
     While,
     Goto,
     Return,
-    /// A keyword, a type or a constant that stands in no form yet.
-    Kept,
+    Static,
+    Const,
+    Char,
+    /// `__e_acsl_initialize`, the mark of a stored number.
+    Initialize,
+    /// `__e_acsl_initialize_ptr`, the mark of a stored pointer.
+    InitializePointer,
     Runtime(Runtime),
     Name,
 }

@@ -1,4 +1,4 @@
-use Rattle.mon_syntax.specs.Memories.{over_blocks}
+use Rattle.mon_syntax.specs.BlockMemory.{over_blocks}
 use Rattle.mon_syntax.proofs.Fuel.{exec_fuel, steps_fall, one_turn, run_at, run_spends}
 use Rattle.mon_syntax.proofs.laws.block_runs.Goals as goal
 
