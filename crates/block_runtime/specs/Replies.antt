@@ -1,20 +1,16 @@
 -- Ours: how the runtime's methods answer as the calls that they stand for.
-use Rattle.std.specs.Prelude.{◌≡◌, ℤ, pos, Bool, true, false, Option, Some, None, Result, MatchResult}
+use Rattle.std.specs.Prelude.{◌≡◌, Option, Some, None, Result, MatchResult}
 use Rattle.block_runtime.specs.declared.RunFault.{RunFault}
 use Rattle.block_runtime.specs.declared.RunFault.TheVariants as fault
-use Rattle.block_runtime.specs.Flat.{Flat, Reply, Gives, IsFull, Faults, flat_enter}
+use Rattle.mon_syntax.specs.Memory.{Gives, IsFull, Faults}
+use Rattle.mon_syntax.specs.Flat.{Flat, Answer, flat_enter}
 
--- the number that a question answers
-abbrev pub truth : Bool → ℤ
-truth false = pos 0
-truth true = pos 1
-
-abbrev pub refused : {A : Type 0} → RunFault → Reply A
+abbrev pub refused : {A : Type 0} → RunFault → Answer A
 refused (fault.Full full) = IsFull full
 refused fault.Fault = Faults
 
 -- the value and the memory after it, or why there is none, and then the memory is as before
-abbrev pub Answers : {A : Type 0} → Reply A → Flat → Flat → Result A RunFault → Type 0
+abbrev pub Answers : {A : Type 0} → Answer A → Flat → Flat → Result A RunFault → Type 0
 Answers reply old new result = MatchResult result (λ x. reply ≡ Gives x new) (λ why. (reply ≡ refused why) × (new ≡ old))
 
 -- the same of a call without a value that changes the memory or faults

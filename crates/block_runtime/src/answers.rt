@@ -1,16 +1,18 @@
 // The questions of the runtime, by the region that an address is in. Their answers are numbers; none of them faults.
 
 ghost use Rattle.std.specs.Prelude.{◌≡◌, ◌≤◌, Ok, pos, IfSome};
+ghost use Rattle.c_model.specs.Integers.{truth};
 ghost use Rattle.raw_seg.specs.Bytes.{IsWidth};
 ghost use Rattle.shadow_segments.specs.Shadow.{longest_segment};
-ghost use Rattle.block_runtime.specs.Flat.{flat_valid, flat_valid_read, flat_initialized, flat_number, flat_pointer, flat_inside};
-ghost use Rattle.block_runtime.specs.Flat.{flat_base_addr, flat_block_length, flat_offset, flat_separated};
-ghost use Rattle.block_runtime.specs.Questions.{is_some};
-ghost use Rattle.block_runtime.specs.Replies.{truth};
+ghost use Rattle.mon_syntax.specs.Flat.{flat_valid, flat_valid_read, flat_initialized, flat_number, flat_pointer, flat_inside};
+ghost use Rattle.mon_syntax.specs.Flat.{flat_base_addr, flat_block_length, flat_offset, flat_separated};
+ghost use Rattle.mon_syntax.specs.Questions.{is_some};
 
-use crate::address::{Spot, address_of, number_of, pointer_to, spot_of};
-use crate::questions::{minus, plus};
+use crate::address::{address_of, number_of, spot_of};
 use crate::{RunFault, Runtime};
+use flat_mem::address::pointer_to;
+use flat_mem::questions::{minus, plus};
+use mon_syntax::Spot;
 use shadow_segments::BlockNote;
 
 /// The number that a question answers.
@@ -149,7 +151,7 @@ impl Runtime {
         }
         match spot_of(p) {
             Spot::Nowhere => false,
-            Spot::In(name, at) => self.region(name).valid(at, number_of(p), o, size, a),
+            Spot::In(name, at) => self.memory.region(name).valid(at, number_of(p), o, size, a),
         }
     }
 
@@ -164,7 +166,10 @@ impl Runtime {
         }
         match spot_of(p) {
             Spot::Nowhere => false,
-            Spot::In(name, at) => self.region(name).valid_read(at, number_of(p), o, size, a),
+            Spot::In(name, at) => self
+                .memory
+                .region(name)
+                .valid_read(at, number_of(p), o, size, a),
         }
     }
 
@@ -178,7 +183,10 @@ impl Runtime {
         }
         match spot_of(p) {
             Spot::Nowhere => false,
-            Spot::In(name, at) => self.region(name).initialized(at, number_of(p), o, size, a),
+            Spot::In(name, at) => self
+                .memory
+                .region(name)
+                .initialized(at, number_of(p), o, size, a),
         }
     }
 
@@ -189,7 +197,7 @@ impl Runtime {
     {
         match spot_of(p) {
             Spot::Nowhere => false,
-            Spot::In(name, at) => self.region(name).number(at, number_of(p), o, a),
+            Spot::In(name, at) => self.memory.region(name).number(at, number_of(p), o, a),
         }
     }
 
@@ -199,7 +207,7 @@ impl Runtime {
     {
         match spot_of(p) {
             Spot::Nowhere => false,
-            Spot::In(name, at) => self.region(name).pointer(at, number_of(p), o),
+            Spot::In(name, at) => self.memory.region(name).pointer(at, number_of(p), o),
         }
     }
 
@@ -209,7 +217,7 @@ impl Runtime {
     {
         match spot_of(p) {
             Spot::Nowhere => None,
-            Spot::In(name, at) => self.region(name).inside(at, number_of(p), o),
+            Spot::In(name, at) => self.memory.region(name).inside(at, number_of(p), o),
         }
     }
 
@@ -218,7 +226,7 @@ impl Runtime {
     {
         match spot_of(p) {
             Spot::Nowhere => 0,
-            Spot::In(name, at) => self.region(name).offset(at, number_of(p), o),
+            Spot::In(name, at) => self.memory.region(name).offset(at, number_of(p), o),
         }
     }
 }

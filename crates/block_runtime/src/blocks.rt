@@ -2,64 +2,56 @@
 
 ghost use Rattle.std.specs.Prelude.{◌≡◌, ◌+◌, ◌<◌, ◌≤◌, Ok, length};
 ghost use Rattle.c_model.specs.Memory.{rounded, greatest_number};
-ghost use Rattle.block_runtime.specs.declared.address.RegionName.TheVariants.{Globals};
-ghost use Rattle.block_runtime.specs.Flat.{delete_by, flat_begin, flat_store_block, flat_delete_block, pointer_to};
-ghost use Rattle.block_runtime.specs.Questions.{live_at};
+ghost use Rattle.mon_syntax.specs.declared.spot.RegionName.TheVariants.{Globals, Stack};
+ghost use Rattle.mon_syntax.specs.declared.spot.Spot.TheVariants.{In};
+ghost use Rattle.mon_syntax.specs.Flat.{delete_by, flat_begin, flat_store_block, flat_delete_block, pointer_to, spot_at};
+ghost use Rattle.mon_syntax.specs.Questions.{live_at};
 ghost use Rattle.block_runtime.specs.Replies.{Answers, Changes};
 
-use crate::address::{RegionName, Spot, number_of, pointer_to, spot_of};
+use crate::address::{address_of, number_of};
 use crate::{RunFault, Runtime};
-use c_syntax::{BlockKind, Segment};
-use shadow_segments::BlockNote;
+use c_syntax::BlockKind;
+use flat_mem::BirthFault;
+use flat_mem::address::spot_at;
+use mon_syntax::{RegionName, Spot};
 
 impl Runtime {
     /// `__e_acsl_store_block(n)`
     pub fn store_block(&mut self, n: u64) -> Result<u64, RunFault>
         ensures { Answers (flat_store_block self.old n) self.old self.new result }
     {
-        if self.births == u32::MAX {
-            return Err(RunFault::Full(Segment::Numbers));
+        match self.memory.birth(BlockKind::Stack, n) {
+            Ok(p) => Ok(p),
+            Err(BirthFault::Full(full)) => Err(RunFault::Full(full)),
         }
-        let units = n / 16 + 1;
-        if units > u64::from((self.stack.len() - self.top) / 16) {
-            return Err(RunFault::Full(Segment::Stack));
-        }
-        self.births += 1;
-        let base = self.top;
-        self.stack.birth(BlockNote {
-            base,
-            length: n as u32,
-            number: self.births,
-            kind: BlockKind::Stack,
-        });
-        self.top += units as u32 * 16;
-        Ok(pointer_to(self.births, RegionName::Stack, base))
     }
 
     /// `__e_acsl_delete_block(P)`
     pub fn delete_block(&mut self, p: u64) -> Result<(), RunFault>
         ensures { Changes (flat_delete_block self.old p) self.old self.new result }
     {
-        match spot_of(p) {
-            Spot::In(RegionName::Stack, at) => self.delete_at(at, number_of(p)),
+        let address = address_of(p);
+        match spot_at(address) {
+            Spot::In(RegionName::Stack, at) => self.delete_at(address, at, number_of(p)),
             _ => Err(RunFault::Fault),
         }
     }
 
-    /// The death of the block with this number whose start is this place of the stack, if it is the youngest.
-    fn delete_at(&mut self, at: u32, number: u32) -> Result<(), RunFault>
+    /// The death of the block with this number whose start is this address, a place of the stack, if it is the youngest.
+    #[inline(always)]
+    fn delete_at(&mut self, address: u32, at: u32, number: u32) -> Result<(), RunFault>
+        requires { spot_at address ≡ In Stack at }
         ensures { Changes (delete_by self.old at (live_at self.old.stack at number)) self.old self.new result }
     {
-        let note = match self.stack.live_at(at, number) {
+        let note = match self.memory.region(RegionName::Stack).live_at(at, number) {
             Some(note) => note,
             None => return Err(RunFault::Fault),
         };
         let end = u64::from(at) + (u64::from(note.length) / 16 + 1) * 16;
-        if note.base != at || end != u64::from(self.top) {
+        if note.base != at || end != u64::from(self.memory.top()) {
             return Err(RunFault::Fault);
         }
-        self.stack.death(at);
-        self.top = at;
+        self.memory.death(address);
         Ok(())
     }
 
@@ -71,18 +63,6 @@ impl Runtime {
         ensures answer { result ≡ Ok (pointer_to (self.old.births + 1) Globals self.old.placed) }
         ensures memory { self.new ≡ flat_begin self.old kind len bytes.now }
     {
-        // A use of a field tells the check how long the segment is.
-        let _ = self.globals.len();
-        self.births += 1;
-        let base = self.placed;
-        self.globals.birth(BlockNote {
-            base,
-            length: len as u32,
-            number: self.births,
-            kind,
-        });
-        self.globals.fill_with(base, len as u32, bytes);
-        self.placed += (len / 16 + 1) as u32 * 16;
-        Ok(pointer_to(self.births, RegionName::Globals, base))
+        Ok(self.memory.begin(kind, len, bytes))
     }
 }

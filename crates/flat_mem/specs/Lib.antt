@@ -1,1 +1,5 @@
 pub mod Room
+pub mod Births
+pub mod Deaths
+pub mod Tidy
+pub mod Placed

@@ -1,17 +1,28 @@
-//! Room in flat memory: the numbers of blocks, their places on the stack, and the frames of calls.
+//! Flat memory: three regions of bytes with their shadow, in which blocks are born and die, and the frames of calls.
 #![tactic(auto)]
 
-ghost use Rattle.std.specs.Prelude.{◌≡◌, ℕ, ◌+◌, ◌%◌, ◌<◌, ◌≤◌, None, Some, IfOk, MatchResult};
-ghost use Rattle.c_syntax.specs.declared.types.BlockKind.TheVariants as kind_of;
-ghost use Rattle.c_syntax.specs.declared.types.Segment.TheVariants as segment;
-ghost use Rattle.flat_mem.specs.Room.{IsSizes, born, died, empty, entered, full_at_birth, full_at_call, IsEndAt, left, pointer_to, stack_end, IsFullAt};
+ghost use Rattle.std.specs.Prelude.{◌≡◌, ◌+◌, IfOk, MatchResult};
+ghost use Rattle.flat_mem.specs.Room.{IsSizes};
+ghost use Rattle.mon_syntax.specs.Memory.{Gives, IsFull};
+ghost use Rattle.mon_syntax.specs.Flat.{flat_empty, flat_enter, flat_leave, region, stack_start};
 
-use c_syntax::{BlockKind, Segment};
+use c_syntax::Segment;
+use mon_syntax::RegionName;
+use seg_heap::Placer;
 use std::alloc::{AllocError, Global};
 use std::marker::Model;
 
-// The address at which the stack begins.
-const STACK_START: u32 = 0x4000_0000;
+mod access;
+pub mod address;
+mod births;
+mod deaths;
+mod heap;
+mod looks;
+pub mod questions;
+pub mod region;
+
+use address::STACK_START;
+use region::Region;
 
 /// How much room there is: the segments in bytes, and the calls that may be active at once.
 #[derive(Clone, Copy)]
@@ -27,96 +38,112 @@ pub struct Sizes {
 pub enum BirthFault {
     /// There is no room in the segment, or no number is left.
     Full(Segment),
-    /// Memory was wanting.
-    Memory,
 }
 
-/// What is taken of the room: the numbers of all blocks that were born, the stack up to its end, and the active calls.
+/// Flat memory: three regions, and what is taken of them. All of it is taken by `new`.
 #[derive(Drop)]
 pub struct FlatMem {
-    sizes: Sizes,
-    births: u32,
-    taken: u32,
+    globals: Region,
+    stack: Region,
+    heap: Region,
+    // Where blocks lie in the heap.
+    places: Placer,
+    // Active calls, and how many there may be.
     frames: u32,
+    most_frames: u32,
+    // Numbers of blocks that were used.
+    births: u32,
+    // What globals and literals take of their region, and what live stack blocks take of theirs, in bytes.
+    placed: u32,
+    top: u32,
 }
 
 impl Model for FlatMem {
-    ghost use Rattle.flat_mem.specs.Room.{Room, IsRoom};
+    ghost use Rattle.mon_syntax.specs.Flat.{Flat};
+    ghost use Rattle.flat_mem.specs.Placed.{IsPlaced};
+    ghost use Rattle.flat_mem.specs.Tidy.{IsTidy};
 
-    ghost Value = { Room };
+    ghost Value = { Flat };
 
-    ghost view = { λ m. record { sizes = m.sizes; births = m.births; taken = m.taken; frames = m.frames } };
+    ghost view = { λ m. record {
+      frames = m.frames;
+      most_frames = m.most_frames;
+      births = m.births;
+      placed = m.placed;
+      top = m.top;
+      globals = m.globals;
+      stack = m.stack;
+      heap = m.heap;
+    } };
 
-    ghost invariant = { λ m. IsRoom (record { sizes = m.sizes; births = m.births; taken = m.taken; frames = m.frames }) };
+    ghost invariant = { λ m. IsTidy m.globals m.placed × IsTidy m.stack m.top × IsPlaced m.places m.heap.shadow.notes };
 }
 
 impl FlatMem {
-    /// Nothing is taken but so many numbers of blocks. The sizes are multiples of 16 and at most 256 MiB.
-    pub fn new(_alloc: Global, sizes: Sizes, births: u32) -> Result<FlatMem, AllocError>
+    /// Nothing lives and no call is active, but so many numbers of blocks are used.
+    pub fn new(alloc: Global, sizes: Sizes, births: u32) -> Result<FlatMem, AllocError>
         requires { IsSizes sizes }
-        ensures { IfOk result (λ memory. memory ≡ empty sizes births) }
+        ensures { IfOk result (λ memory. memory ≡ record (flat_empty sizes.globals sizes.stack sizes.heap sizes.frames) { births = births }) }
     {
         Ok(FlatMem {
-            sizes,
-            births,
-            taken: 0,
+            globals: Region::new(alloc, sizes.globals)?,
+            stack: Region::new(alloc, sizes.stack)?,
+            heap: Region::new(alloc, sizes.heap)?,
+            places: Placer::new(alloc, sizes.heap / 16)?,
             frames: 0,
+            most_frames: sizes.frames,
+            births,
+            placed: 0,
+            top: 0,
         })
     }
 
-    /// The birth of a block of so many bytes: a pointer to its start, which is its number above its address of 32 bits. A number
-    /// is asked for first, and then a place.
-    pub fn birth(&mut self, kind: BlockKind, len: u64) -> Result<u64, BirthFault>
-        requires { kind ≡ kind_of.Stack }
-        ensures { MatchResult result
-            (λ p. (full_at_birth self.old len ≡ None) × (p ≡ pointer_to (self.old.births + 1) (stack_end self.old)) × (self.new ≡ born self.old len))
-            (λ fault. IsFullAt self.old len fault × (self.new ≡ self.old)) }
-    {
-        if self.births == u32::MAX {
-            return Err(BirthFault::Full(Segment::Numbers));
-        }
-        let units = len / 16 + 1;
-        if units > u64::from((self.sizes.stack - self.taken) / 16) {
-            return Err(BirthFault::Full(Segment::Stack));
-        }
-        self.births += 1;
-        let address = STACK_START + self.taken;
-        self.taken += units as u32 * 16;
-        Ok((u64::from(self.births) << 32) + u64::from(address))
-    }
-
-    /// The death of the youngest live stack block, which begins at this address: the stack ends there.
-    pub fn death(&mut self, base: u32)
-        requires { IsEndAt self.old base }
-        ensures { self.new ≡ died self.old base }
-    {
-        self.taken = base - STACK_START;
-    }
-
-    /// The address at which the next stack block would stand.
-    pub fn stack_end(&self) -> u32
-        ensures { result ≡ stack_end self.now }
-    {
-        STACK_START + self.taken
-    }
-
-    /// One more call is active, where there is a frame for it.
+    /// One more call is active, if there is a frame for it.
     pub fn enter_frame(&mut self) -> Result<(), Segment>
         ensures { MatchResult result
-            (λ _. (full_at_call self.old ≡ None) × (self.new ≡ entered self.old))
-            (λ full. (full_at_call self.old ≡ Some full) × (self.new ≡ self.old)) }
+            (λ _. flat_enter self.old ≡ Gives 0 self.new)
+            (λ full. (flat_enter self.old ≡ IsFull full) × (self.new ≡ self.old)) }
     {
-        if self.frames >= self.sizes.frames {
+        if self.frames >= self.most_frames {
             return Err(Segment::Frames);
         }
         self.frames += 1;
         Ok(())
     }
 
-    /// The end of an active call, where there is one.
+    /// The end of an active call, if there is one.
     pub fn leave_frame(&mut self)
-        ensures { self.new ≡ left self.old }
+        ensures { self.new ≡ flat_leave self.old }
     {
         self.frames = self.frames.saturating_sub(1);
+    }
+
+    /// What live stack blocks take, in bytes.
+    #[inline(always)]
+    pub fn top(&self) -> u32
+        ensures { result ≡ self.now.top }
+    {
+        self.top
+    }
+
+    /// The address at which the next stack block would stand.
+    pub fn stack_end(&self) -> u32
+        ensures { result ≡ stack_start + self.now.top }
+    {
+        // A use of a field tells the check how long the stack is.
+        let _ = self.stack.len();
+        STACK_START + self.top
+    }
+
+    /// The region of this name.
+    #[inline(always)]
+    pub fn region(&self, name: RegionName) -> &Region
+        ensures { result.now ≡ region self.now name }
+    {
+        match name {
+            RegionName::Globals => &self.globals,
+            RegionName::Stack => &self.stack,
+            RegionName::Heap => &self.heap,
+        }
     }
 }

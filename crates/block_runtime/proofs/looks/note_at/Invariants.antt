@@ -1,4 +1,0 @@
-use Rattle.block_runtime.proofs.looks.note_at.Given as goal
-
-abbrev pub ghosts-note_for : goal.ghosts-note_for
-ghosts-note_for a = record { name = a.blank.name; parts = a.blank.parts }
