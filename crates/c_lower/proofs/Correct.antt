@@ -5,51 +5,53 @@ use Rattle.c_model.specs.State.{Input, Fault}
 use Rattle.c_model.specs.Meaning.{Ran}
 use Rattle.mon_syntax.specs.Trees.{MonFunction, MonitoredProgram}
 use Rattle.mon_syntax.specs.Memory.{Memory, Reply, Gives, IsFull, Faults}
-use Rattle.mon_syntax.specs.Meaning.{State, Result, Done, Stops, Next, Goes, Returns, writes, then_do, step_from, registers, replied, Calls, exec_all, left_frame, at_return, body_runs, level, exit_of, ran, function_named, run}
+use Rattle.mon_syntax.specs.Meaning.{State, Result, Done, Stops, Next, Goes, Returns, writes, then_do, step_from, zero_result, replied, Calls, exec_all, left_frame, at_return, body_runs, level, exit_of, ran, function_named, run}
+use Rattle.mon_syntax.specs.Meaning as meaning
 use Rattle.c_lower.specs.declared.code.Entry.{Entry}
 use Rattle.c_lower.specs.declared.code.Instr.{Instr}
 use Rattle.c_lower.specs.declared.code.Instr.TheVariants as instr
 use Rattle.c_lower.specs.Code.{OpenLabel, statements_code, function_code, functions_code, entries_from, entry_named}
 use Rattle.c_lower.specs.Machine as stack
-use Rattle.c_lower.specs.Machine.{Frame, Course, Over, puts, with_some, stepped, changed, called, exited, act, started, begins}
+use Rattle.c_lower.specs.Machine.{Frame, Course, Over, puts, with_some, stepped, registers, changed, called, exited, act, started, begins}
 use Rattle.c_lower.specs.Lowered.{KeepsNumbers, RunsAs}
 use Rattle.c_lower.proofs.Courses.{ended}
 use Rattle.c_lower.proofs.Placed.{HasAt, has_front, has_back, has_behind, FunctionAt, named_at, numbered_at}
+use Rattle.c_lower.proofs.Registers.{zero_result_is, registers_are}
 use Rattle.c_lower.proofs.Runs as machine
-use Rattle.c_lower.proofs.Runs.{writes-nil, onto, all_taken}
+use Rattle.c_lower.proofs.Taken.{writes-nil, all_taken}
 
 -- the course of a run that is over
 abbrev course_of : Ran → Course
 course_of r = Over r.final r.left r.output
 
-module _ (M : Memory) (es : List Entry) (code : List Instr) where
+module _ (M : Memory) (gs : List M.Val) (es : List Entry) (code : List Instr) where
   abbrev Moment : Type 0
-  Moment = machine.Moment M es code
+  Moment = machine.Moment M gs es code
 
   abbrev Outcome : Type 0
-  Outcome = machine.Outcome M es code
+  Outcome = machine.Outcome M gs es code
 
   abbrev runs : ℕ → Moment → Course
-  runs k c = stack.runs M es code k c
+  runs k c = stack.runs M gs es code k c
 
   abbrev Comes : Moment → List ℕ → Moment → Type 0
-  Comes c o d = machine.Comes M es code c o d
+  Comes c o d = machine.Comes M gs es code c o d
 
   abbrev Reaches : Moment → Course → Type 0
-  Reaches c x = machine.Reaches M es code c x
+  Reaches c x = machine.Reaches M gs es code c x
 
   abbrev Performs : Moment → ℕ → List OpenLabel → ℕ → Outcome → Type 0
-  Performs c p ls total x = machine.Performs M es code c p ls total x
+  Performs c p ls total x = machine.Performs M gs es code c p ls total x
 
   -- at this place, with this value on the operands
   abbrev valued : Moment → ℕ → M.Val → List M.Val → State M.Mem → Moment
-  valued c p v r s = machine.valued M es code c p v r s
+  valued c p v r s = machine.valued M gs es code c p v r s
 
   abbrev came : Moment → ℕ → List M.Val → State M.Mem → Moment
-  came c p r s = machine.came M es code c p r s
+  came c p r s = machine.came M gs es code c p r s
 
   abbrev state_of : Moment → State M.Mem
-  state_of c = machine.state_of M es code c
+  state_of c = machine.state_of M gs es code c
 
   -- the end of a body that gives 0
   zero_pushed : (c : Moment) (p : ℕ) (r : List M.Val) (s : State M.Mem) (o : List ℕ) → slice_get code p ≡ Some (instr.Push (pos 0))
@@ -57,7 +59,7 @@ module _ (M : Memory) (es : List Entry) (code : List Instr) where
   zero_pushed c p r s o at k =
       let d1 = came c p r s in
       let d2 = valued c (p + 1) (M.number (pos 0)) r s in
-      machine.comes_quiet M es code c d1 d2 o k (machine.quiet_step M es code d1 d2 (instr.Push (pos 0)) at (λ next. refl))
+      machine.comes_quiet M gs es code c d1 d2 o k (machine.quiet_step M gs es code d1 d2 (instr.Push (pos 0)) at (λ next. refl))
 
   -- ---- the end of a call
 
@@ -79,12 +81,12 @@ module _ (M : Memory) (es : List Entry) (code : List Instr) where
       let d1 = valued d p v r s in
       let d2 = valued (record c { frames = fs }) f.back v f.registers (left_frame M s) in (
         subst (λ w. Comes d w d2) (sym (append-nil o))
-            (machine.comes_quiet M es code d d1 d2 o k (machine.quiet_step M es code d1 d2 instr.Return at (λ next. refl))),
+            (machine.comes_quiet M gs es code d d1 d2 o k (machine.quiet_step M gs es code d1 d2 instr.Return at (λ next. refl))),
         le,
       )
 
   body_does : (c : Moment) (f : Frame M.Val) (fs : List (Frame M.Val)) (p total : ℕ) (x : Outcome) → HasAt code p (instr.Push (pos 0) ∷ (instr.Return ∷ []))
-      → Performs (inside c f fs) p [] total x → BodyDoes c f fs (then_do x (at_return M))
+      → Performs (inside c f fs) p [] total x → BodyDoes c f fs (then_do x (at_return M (M.number (pos 0))))
   body_does c f fs p total (Done (Next r) s o) has k =
       goes_back c f fs (p + 1) (M.number (pos 0)) r s o has.1.0 (zero_pushed (inside c f fs) p r s o has.0 k.0) k.1
   body_does c f fs p total (Done (Goes i r) s o) has k = subst (λ w. Reaches (inside c f fs) (Over Fault s.steps w)) (sym (append-nil o)) k.0
@@ -107,10 +109,10 @@ module _ (M : Memory) (es : List Entry) (code : List Instr) where
       let d = valued (alone c) p v r s in
       let x = exited M (M.number_of v) s.steps in
       subst (Reaches (alone c)) (exit_written (M.number_of v) s.steps o)
-      (machine.comes_reach M es code (alone c) d o x k (machine.reach_step M es code d instr.Return x at (λ next. refl)))
+      (machine.comes_reach M gs es code (alone c) d o x k (machine.reach_step M gs es code d instr.Return x at (λ next. refl)))
 
   main_does : (c : Moment) (p total : ℕ) (x : Outcome) → HasAt code p (instr.Push (pos 0) ∷ (instr.Return ∷ [])) → Performs (alone c) p [] total x
-      → Reaches (alone c) (course_of (ran M (then_do x (at_return M))))
+      → Reaches (alone c) (course_of (ran M (then_do x (at_return M (M.number (pos 0))))))
   main_does c p total (Done (Next r) s o) has k =
       run_ends c (p + 1) (M.number (pos 0)) r s o has.1.0 (zero_pushed (alone c) p r s o has.0 k.0)
   main_does c p total (Done (Goes i r) s o) has k = subst (λ w. Reaches (alone c) (Over Fault s.steps w)) (sym (append-nil o)) k.0
@@ -128,17 +130,17 @@ module _ (M : Memory) (es : List Entry) (code : List Instr) where
       → HasAt code (body_end f e behind) (instr.Push (pos 0) ∷ (instr.Return ∷ []))
   end_at f e behind has = has_back code e.start (statements_code f.body (2 + behind) []) _ has
 
-  module _ (keeps : KeepsNumbers M) (calls : Calls M) (n : ℕ) (calls_run : machine.CallsRun M es code calls n) where
+  module _ (keeps : KeepsNumbers M) (calls : Calls M) (n : ℕ) (calls_run : machine.CallsRun M gs es code calls n) where
     -- what a body does, from its entry
     body_performs : (f : MonFunction) (e : Entry) (behind : ℕ) (c : Moment) → c.steps ≤ n → c.place ≡ e.start → HasAt code e.start (function_code f behind)
-        → Performs c (body_end f e behind) [] (body_end f e behind + (2 + behind)) (exec_all M f.body calls n c.registers (state_of c))
+        → Performs c (body_end f e behind) [] (body_end f e behind + (2 + behind)) (exec_all M gs f.body calls n c.registers (state_of c))
     body_performs f e behind c les ep has =
         let cb = statements_code f.body (2 + behind) [] in
         let at = subst (λ p. HasAt code p cb) (sym ep) (has_front code e.start cb _ has) in
         let e1 : c.place + length cb ≡ body_end f e behind = omega (arith, ep) in
         let e2 : c.place + length cb + (2 + behind) ≡ body_end f e behind + (2 + behind) = omega (arith, ep) in
-        machine.ends_at M es code c _ _ [] (body_end f e behind + (2 + behind)) _ e1
-        (machine.statements_run M es code keeps calls n calls_run f.body c (2 + behind) [] _ les tt e2 at)
+        machine.ends_at M gs es code c _ _ [] (body_end f e behind + (2 + behind)) _ e1
+        (machine.statements_run M gs es code keeps calls n calls_run f.body c (2 + behind) [] _ les tt e2 at)
 
     -- ---- calls
 
@@ -148,18 +150,18 @@ module _ (M : Memory) (es : List Entry) (code : List Instr) where
         record { place = start; stack = c.stack; registers = regs; frames = record { back = p + 1; registers = c.registers } ∷ c.frames; mem = m; steps = k; input = c.input }
 
     abbrev calling : Moment → ℕ → List M.Val → Moment
-    calling c p args = machine.calling M es code c p args
+    calling c p args = machine.calling M gs es code c p args
 
     abbrev CallDoes : Moment → ℕ → List M.Val → Result (State M.Mem) M.Val → Type 0
-    CallDoes c p args x = machine.CallDoes M es code c p args x
+    CallDoes c p args x = machine.CallDoes M gs es code c p args x
 
     comes_back : (c : Moment) (p : ℕ) (args : List M.Val) (start : ℕ) (regs : List M.Val) (m : M.Mem) (k : ℕ) (x : Result (State M.Mem) M.Val)
-        → k ≤ c.steps → machine.Quiet M es code (calling c p args) (entered c p start regs m k)
+        → k ≤ c.steps → machine.Quiet M gs es code (calling c p args) (entered c p start regs m k)
         → BodyDoes (entered c p start regs m k) (record { back = p + 1; registers = c.registers }) c.frames x → CallDoes c p args x
     comes_back c p args start regs m k (Done v s o) le l h =
         ((λ j. let b = h.0 j in let a = l b.0 in (a.0, a.1 ∙ b.1)), le_trans h.1 le)
     comes_back c p args start regs m k (Stops e n o) le l h =
-        machine.quiet_reach M es code (calling c p args) (entered c p start regs m k) (Over e n o) l h
+        machine.quiet_reach M gs es code (calling c p args) (entered c p start regs m k) (Over e n o) l h
 
     -- what the machine does from a call on, where its step is taken and so many are left
     abbrev Enters : Moment → ℕ → List M.Val → ℕ → Entry → Reply M.Mem M.Val → Type 0
@@ -170,15 +172,17 @@ module _ (M : Memory) (es : List Entry) (code : List Instr) where
         → e.registers ≡ length f.parameters + length f.registers → HasAt code e.start (function_code f behind) → (y : Reply M.Mem M.Val)
         → Enters c p args k e y
         → CallDoes c p args (then_do (replied M y (record (state_of c) { steps = k }))
-        (λ v t. then_do (exec_all M f.body calls n (registers (M.number (pos 0)) (length f.parameters + length f.registers) args) t) (at_return M)))
+        (λ v t. then_do (exec_all M gs f.body calls n (meaning.registers M (f.parameters ++ f.registers) args) t) (at_return M (zero_result M f.result))))
     enter_does f e behind c p args k le les er has (Gives v m) op =
-        let regs = registers (M.number (pos 0)) (length f.parameters + length f.registers) args in
+        let regs = meaning.registers M (f.parameters ++ f.registers) args in
         let d = entered c p e.start regs m k in
-        let x = then_do (exec_all M f.body calls n regs (state_of d)) (at_return M) in
+        let zero = M.number (pos 0) in
+        let x = λ (z : M.Val). then_do (exec_all M gs f.body calls n regs (state_of d)) (at_return M z) in
         let body = body_does d (record { back = p + 1; registers = c.registers }) c.frames (body_end f e behind) (body_end f e behind + (2 + behind)) _
         (end_at f e behind has) (body_performs f e behind d le refl has) in
-        let op' = subst (λ i. machine.Quiet M es code (calling c p args) (entered c p e.start (registers (M.number (pos 0)) i args) m k)) er op in
-        subst (CallDoes c p args) (sym (writes-nil x)) (comes_back c p args e.start regs m k x les op' body)
+        let op' = subst (λ l. machine.Quiet M gs es code (calling c p args) (entered c p e.start l m k)) (registers_are M keeps f e args er) op in
+        let does = subst (CallDoes c p args) (sym (writes-nil (x zero))) (comes_back c p args e.start regs m k (x zero) les op' body) in
+        subst (λ z. CallDoes c p args (writes [] (x z))) (sym (zero_result_is M keeps f.result)) does
     enter_does f e behind c p args k le les er has (IsFull g) op = op 0
     enter_does f e behind c p args k le les er has Faults op = op 0
 
@@ -186,7 +190,7 @@ module _ (M : Memory) (es : List Entry) (code : List Instr) where
         → FunctionAt code of_function oe
         → ((i : ℕ) → Reaches (calling c p args) (with_some oe k (λ e. changed M (M.enter c.mem) k
         (λ v m. runs i (entered c p e.start (registers (M.number (pos 0)) e.registers args) m k)))))
-        → CallDoes c p args (body_runs M of_function calls n args (record (state_of c) { steps = k }))
+        → CallDoes c p args (body_runs M gs of_function calls n args (record (state_of c) { steps = k }))
     some_does None None c p args k le les h op = op 0
     some_does None (Some e) c p args k le les h op = absurd h
     some_does (Some f) None c p args k le les h op = absurd h
@@ -198,20 +202,23 @@ module _ (M : Memory) (es : List Entry) (code : List Instr) where
         → HasAt code e.start (function_code f behind) → (y : Reply M.Mem M.Val) (mem : M.Mem)
         → (j : ℕ) × (changed M y n (λ v m. runs j (started M e m input n))
         ≡ course_of (ran M (then_do (replied M y (record { mem = mem; steps = n; input = input }))
-        (λ v t. then_do (exec_all M f.body calls n (registers (M.number (pos 0)) (length f.parameters + length f.registers) []) t) (at_return M)))))
+        (λ v t. then_do (exec_all M gs f.body calls n (meaning.registers M (f.parameters ++ f.registers) []) t) (at_return M (zero_result M f.result))))))
     enter_main f e behind input er has (Gives v m) mem =
         let d : Moment = started M e m input n in
-        let x = then_do (exec_all M f.body calls n (registers (M.number (pos 0)) e.registers []) (state_of d)) (at_return M) in
+        let zero = M.number (pos 0) in
+        let x = λ (regs : List M.Val) (z : M.Val). then_do (exec_all M gs f.body calls n regs (state_of d)) (at_return M z) in
+        let regs = registers zero e.registers [] in
+        let zeros = sym (zero_result_is M keeps f.result) in
         let r = main_does d (body_end f e behind) (body_end f e behind + (2 + behind)) _ (end_at f e behind has) (body_performs f e behind d (omega arith) refl has) in (
           r.0,
-          r.1 ∙ ap (λ z. course_of (ran M z)) (sym (writes-nil x))
-              ∙ ap (λ i. course_of (ran M (writes [] (then_do (exec_all M f.body calls n (registers (M.number (pos 0)) i []) (state_of d)) (at_return M))))) er,
+          r.1 ∙ ap (λ z. course_of (ran M z)) (sym (writes-nil (x regs zero)))
+              ∙ (λ i. course_of (ran M (writes [] (x (registers_are M keeps f e [] er i) (zeros i))))),
         )
     enter_main f e behind input er has (IsFull g) mem = (0, refl)
     enter_main f e behind input er has Faults mem = (0, refl)
 
     main_runs : (of_main : Option MonFunction) (oe : Option Entry) (mem : M.Mem) (input : Input) → FunctionAt code of_main oe
-        → (j : ℕ) × (begins M es oe code j mem input n ≡ course_of (ran M (body_runs M of_main calls n [] (record { mem = mem; steps = n; input = input }))))
+        → (j : ℕ) × (begins M gs es oe code j mem input n ≡ course_of (ran M (body_runs M gs of_main calls n [] (record { mem = mem; steps = n; input = input }))))
     main_runs None None mem input h = (0, refl)
     main_runs None (Some e) mem input h = absurd h
     main_runs (Some f) None mem input h = absurd h
@@ -222,13 +229,13 @@ module _ (M : Memory) (es : List Entry) (code : List Instr) where
   module _ (keeps : KeepsNumbers M) (fs : List MonFunction) (placed : (f : ℕ) → FunctionAt code (slice_get fs f) (slice_get es f)) where
     -- a call, whose arguments are taken off
     called_with : (f k : ℕ) (c : Moment) (args : List M.Val) (p : ℕ) → slice_get code p ≡ Some (instr.Call f k) → length args ≡ k → (j : ℕ)
-        → runs (suc j) (machine.calling M es code c p args) ≡ called M es f args c.stack (machine.calling M es code c p args) (runs j)
+        → runs (suc j) (machine.calling M gs es code c p args) ≡ called M es f args c.stack (machine.calling M gs es code c p args) (runs j)
     called_with f k c args p at e j =
-        machine.step M es code (machine.calling M es code c p args) (instr.Call f k) at j ∙ all_taken k args c.stack c.steps _ e
+        machine.step M gs es code (machine.calling M gs es code c p args) (instr.Call f k) at j ∙ all_taken k args c.stack c.steps _ e
 
     -- the same, where so many steps are left
     called_from : (f k : ℕ) (c : Moment) (args : List M.Val) (p q : ℕ) → slice_get code p ≡ Some (instr.Call f k) → length args ≡ k → c.steps ≡ q → (j : ℕ)
-        → runs (suc j) (machine.calling M es code c p args)
+        → runs (suc j) (machine.calling M gs es code c p args)
         ≡ stepped q (λ n. with_some (slice_get es f) n (λ e. changed M (M.enter c.mem) n (λ v m. runs j (record {
           place = e.start;
           stack = c.stack;
@@ -250,28 +257,29 @@ module _ (M : Memory) (es : List Entry) (code : List Instr) where
           input = c.input;
         }))))) eq
 
-    call_does : (calls : Calls M) (n : ℕ) → machine.CallsRun M es code calls n → (f k : ℕ) (c : Moment) (args : List M.Val) (p q : ℕ)
+    call_does : (calls : Calls M) (n : ℕ) → machine.CallsRun M gs es code calls n → (f k : ℕ) (c : Moment) (args : List M.Val) (p q : ℕ)
         → slice_get code p ≡ Some (instr.Call f k) → length args ≡ k → c.steps ≡ q → q ≤ suc n
-        → machine.CallDoes M es code c p args (step_from q (λ m. body_runs M (slice_get fs f) calls n args (record (state_of c) { steps = m })))
+        → machine.CallDoes M gs es code c p args (step_from q (λ m. body_runs M gs (slice_get fs f) calls n args (record (state_of c) { steps = m })))
     call_does calls n run f k c args p zero at ea eq le = (1, called_from f k c args p zero at ea eq 0)
     call_does calls n run f k c args p (suc m) at ea eq le =
         some_does keeps calls n run (slice_get fs f) (slice_get es f) c p args m (omega (arith, le)) (omega (arith, eq)) (placed f)
         (λ j. (suc j, called_from f k c args p (suc m) at ea eq j))
 
     -- as deep as there are steps
-    level_runs : (n : ℕ) → machine.CallsRun M es code (level M fs n) n
+    level_runs : (n : ℕ) → machine.CallsRun M gs es code (level M gs fs n) n
     level_runs zero f k c args p at ea le = (1, called_from f k c args p zero at ea (omega (arith, le)) 0)
-    level_runs (suc n) f k c args p at ea le = call_does (level M fs n) n (level_runs n) f k c args p c.steps at ea refl le
+    level_runs (suc n) f k c args p at ea le = call_does (level M gs fs n) n (level_runs n) f k c args p c.steps at ea refl le
 
 -- the code of a program does what the program means, over each memory that keeps numbers
 pub lowered : (M : Memory) → KeepsNumbers M → (m : MonitoredProgram)
     → RunsAs M m (entries_from 0 m.functions) (entry_named (codes "main") 0 m.functions) (functions_code m.functions)
 lowered M keeps m mem input n =
     let fs = m.functions in
+    let gs = M.starts m.globals in
     let code = functions_code fs in
     let es = entries_from 0 fs in
     let oe = entry_named (codes "main") 0 fs in
     let has = has_behind code [] in
-    let calls_run = level_runs M es code keeps fs (numbered_at code fs 0 has) n in
-    let r = main_runs M es code keeps (level M fs n) n calls_run (function_named M (codes "main") fs) oe mem input (named_at code (codes "main") fs 0 M has) in
-    ended M es oe code mem input n r.0 (run M m mem input n) r.1
+    let calls_run = level_runs M gs es code keeps fs (numbered_at code fs 0 has) n in
+    let r = main_runs M gs es code keeps (level M gs fs n) n calls_run (function_named (codes "main") fs) oe mem input (named_at code (codes "main") fs 0 has) in
+    ended M gs es oe code mem input n r.0 (run M m mem input n) r.1

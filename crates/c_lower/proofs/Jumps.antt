@@ -6,7 +6,11 @@ use Rattle.std.specs.Option.{option_or}
 use Rattle.std.proofs.lemmas.List.{take_more}
 use Rattle.std.proofs.lemmas.Option.{slice_get_within, get_or_from_slice_get}
 use Rattle.c_model.specs.Operators.{floor_quotient}
-use Rattle.mon_syntax.specs.Trees.{MonExpression, Register, Constant, Binary, Minus, Flip, Cast, MonStatement, Set, Step, Assert, PutChar, GetChar, Exit, PrintText, PrintSigned, PrintUnsigned, Act, Call, If, Loop, Labelled, Goto, Return}
+use Rattle.mon_syntax.specs.declared.tree.MonOp.{MonOp}
+use Rattle.mon_syntax.specs.declared.tree.MonType.{MonType}
+use Rattle.mon_syntax.specs.Arithmetic.{is_pointer}
+use Rattle.mon_syntax.specs.Trees.{MonExpression, Register, Global, Constant, Binary, Minus, Flip, Cast, Load, MonStatement, Set, Store, Step, Assert, PutChar, GetChar, Exit}
+use Rattle.mon_syntax.specs.Trees.{PrintText, PrintSigned, PrintUnsigned, Act, Call, If, Loop, Labelled, Goto, Return}
 use Rattle.mon_syntax.specs.Trees.{MonStatements, NoStatement, Then, MonFunction}
 use Rattle.c_lower.specs.declared.code.Entry.{Entry}
 use Rattle.c_lower.specs.declared.code.Instr.{Instr}
@@ -42,14 +46,20 @@ constant_stays : (z : ℤ) (b : Bool)
 constant_stays z true = ((λ p. (refl, refl)), tt)
 constant_stays z false = ((λ p. (refl, refl)), ((λ p. (refl, refl)), tt))
 
+operator_stays : (op : MonOp) (t : MonType) (b : Bool) → Stays (if b then instr.Pointed op else instr.Binary op t)
+operator_stays op t true p = (refl, refl)
+operator_stays op t false p = (refl, refl)
+
 expression_stays : (e : MonExpression) → AllStay (expression_code e)
 expression_stays (Register r) = ((λ p. (refl, refl)), tt)
+expression_stays (Global g) = ((λ p. (refl, refl)), tt)
 expression_stays (Constant t z) = constant_stays z (is_short z)
 expression_stays (Binary op t a b) =
-    stay_on (expression_code a) _ (expression_stays a) (stay_then (expression_code b) (instr.Binary op t) (expression_stays b) (λ p. (refl, refl)))
+    stay_on (expression_code a) _ (expression_stays a) (stay_then (expression_code b) _ (expression_stays b) (operator_stays op t (is_pointer t)))
 expression_stays (Minus t a) = stay_then (expression_code a) (instr.Minus t) (expression_stays a) (λ p. (refl, refl))
 expression_stays (Flip t a) = stay_then (expression_code a) (instr.Flip t) (expression_stays a) (λ p. (refl, refl))
 expression_stays (Cast t a) = stay_then (expression_code a) (instr.Cast t) (expression_stays a) (λ p. (refl, refl))
+expression_stays (Load t a) = stay_then (expression_code a) (instr.Load t) (expression_stays a) (λ p. (refl, refl))
 
 arguments_stay : (args : List MonExpression) → AllStay (arguments_code args)
 arguments_stay [] = tt
@@ -286,6 +296,9 @@ module _ (code : List Instr) where
     statement_fits : (a : MonStatement) (p behind : ℕ) (ls : List OpenLabel) → Empty p → 2 ≤ behind → OpenEnds ls behind
         → p + length (statement_code a behind ls) + behind ≡ length code → HasAt code p (statement_code a behind ls) → AllFit p (statement_code a behind ls)
     statement_fits (Set r e) p behind ls em two w n has = stays_fit p _ (stay_then (expression_code e) (instr.Put r) (expression_stays e) (λ q. (refl, refl)))
+    statement_fits (Store r t e) p behind ls em two w n has =
+        stays_fit p (instr.Get r ∷ (expression_code e ++ instr.Store t ∷ []))
+        ((λ q. (refl, refl)), stay_then (expression_code e) (instr.Store t) (expression_stays e) (λ q. (refl, refl)))
     statement_fits Step p behind ls em two w n has = (stay_fits p instr.Step (λ q. (refl, refl)), tt)
     statement_fits (Assert d v number line kind) p behind ls em two w n has =
         stays_fit p _ (stay_on (expression_code d) _ (expression_stays d)

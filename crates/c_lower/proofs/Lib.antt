@@ -1,4 +1,6 @@
 pub mod Placed
+pub mod Registers
+pub mod Taken
 pub mod Courses
 pub mod Runs
 pub mod Correct

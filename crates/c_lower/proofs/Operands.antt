@@ -4,7 +4,11 @@ use Rattle.std.specs.Prelude.{◌^◌, leb, if◌then◌else◌, unsigned_abs}
 use Rattle.std.specs.Int.{int_rem_euclid}
 use Rattle.std.proofs.lemmas.Bool.{le-leb}
 use Rattle.c_model.specs.Operators.{floor_quotient}
-use Rattle.mon_syntax.specs.Trees.{MonExpression, Register, Constant, Binary, Minus, Flip, Cast, MonStatement, Set, Step, Assert, PutChar, GetChar, Exit, PrintText, PrintSigned, PrintUnsigned, Act, Call, If, Loop, Labelled, Goto, Return}
+use Rattle.mon_syntax.specs.declared.tree.MonOp.{MonOp}
+use Rattle.mon_syntax.specs.declared.tree.MonType.{MonType}
+use Rattle.mon_syntax.specs.Arithmetic.{is_pointer}
+use Rattle.mon_syntax.specs.Trees.{MonExpression, Register, Global, Constant, Binary, Minus, Flip, Cast, Load, MonStatement, Set, Store, Step, Assert, PutChar, GetChar, Exit}
+use Rattle.mon_syntax.specs.Trees.{PrintText, PrintSigned, PrintUnsigned, Act, Call, If, Loop, Labelled, Goto, Return}
 use Rattle.mon_syntax.specs.Trees.{MonStatements, NoStatement, Then, MonFunction}
 use Rattle.mon_syntax.specs.Meaning.{◌>>=◌}
 use Rattle.c_lower.specs.declared.code.Instr.{Instr}
@@ -47,18 +51,27 @@ constant_leads z n false =
     leads_then (instr.Push (floor_quotient z (2 ^ 64)) ∷ []) (instr.Extend (unsigned_abs (int_rem_euclid z (pos (2 ^ 64))))) n (suc n) (suc n)
     (leads_by (instr.Push (floor_quotient z (2 ^ 64))) n (suc n) (omega arith) (omega arith)) (omega arith) (omega arith)
 
+-- an operator after its second operand's code
+operator_leads : (op : MonOp) (t : MonType) (b : Bool) (a : List Instr) (n : ℕ) → Leads (suc n) a (suc (suc n))
+    → Leads (suc n) (a ++ (if b then instr.Pointed op else instr.Binary op t) ∷ []) (suc n)
+operator_leads op t true a n h = leads_then a (instr.Pointed op) (suc n) (suc (suc n)) (suc n) h (omega arith) (omega arith)
+operator_leads op t false a n h = leads_then a (instr.Binary op t) (suc n) (suc (suc n)) (suc n) h (omega arith) (omega arith)
+
 pub expression_leads : (e : MonExpression) (n : ℕ) → Leads n (expression_code e) (suc n)
 expression_leads (Register r) n = leads_by (instr.Get r) n (suc n) (omega arith) (omega arith)
+expression_leads (Global g) n = leads_by (instr.Global g) n (suc n) (omega arith) (omega arith)
 expression_leads (Constant t z) n = constant_leads z n (is_short z)
 expression_leads (Binary op t a b) n =
     leads_on n (suc n) (suc n) (expression_code a) _ (expression_leads a n)
-    (leads_then (expression_code b) (instr.Binary op t) (suc n) (suc (suc n)) (suc n) (expression_leads b (suc n)) (omega arith) (omega arith))
+    (operator_leads op t (is_pointer t) (expression_code b) n (expression_leads b (suc n)))
 expression_leads (Minus t a) n =
     leads_then (expression_code a) (instr.Minus t) n (suc n) (suc n) (expression_leads a n) (omega arith) (omega arith)
 expression_leads (Flip t a) n =
     leads_then (expression_code a) (instr.Flip t) n (suc n) (suc n) (expression_leads a n) (omega arith) (omega arith)
 expression_leads (Cast t a) n =
     leads_then (expression_code a) (instr.Cast t) n (suc n) (suc n) (expression_leads a n) (omega arith) (omega arith)
+expression_leads (Load t a) n =
+    leads_then (expression_code a) (instr.Load t) n (suc n) (suc n) (expression_leads a n) (omega arith) (omega arith)
 
 -- arguments leave an operand each
 arguments_lead : (args : List MonExpression) (n : ℕ) → Leads n (arguments_code args) (length args + n)
@@ -116,6 +129,9 @@ loop_leads a b g h = plain_on b _ h (plain_on a (instr.GoBack (length b + length
 mutual
   pub statement_leads : (a : MonStatement) (behind : ℕ) (ls : List OpenLabel) → Leads 0 (statement_code a behind ls) 0
   statement_leads (Set r e) behind ls = taking e (instr.Put r) refl refl
+  statement_leads (Store r t e) behind ls =
+      leads_on 0 1 0 (instr.Get r ∷ []) (expression_code e ++ instr.Store t ∷ []) (leads_by (instr.Get r) 0 1 (omega arith) (omega arith))
+      (leads_then (expression_code e) (instr.Store t) 1 2 0 (expression_leads e 1) (omega arith) (omega arith))
   statement_leads Step behind ls = refl
   statement_leads (Assert d v number line kind) behind ls =
       leads_on 0 1 0 (expression_code d) _ (expression_leads d 0)

@@ -8,7 +8,6 @@ use Rattle.std.proofs.lemmas.Option.{slice_get-get_or}
 use Rattle.std.proofs.lemmas.Int.{ints}
 use Rattle.c_model.specs.Operators.{floor_quotient}
 use Rattle.mon_syntax.specs.Trees.{MonFunction}
-use Rattle.mon_syntax.specs.Memory.{Memory}
 use Rattle.mon_syntax.specs.Meaning.{function_named}
 use Rattle.c_lower.specs.declared.code.Entry.{Entry}
 use Rattle.c_lower.specs.declared.code.Instr.{Instr}
@@ -80,14 +79,14 @@ choice_at : (b : Bool) (code : List Instr) (f : MonFunction) (e : Entry) (g : Op
 choice_at true code f e g d h k = h
 choice_at false code f e g d h k = k
 
-pub named_at : (code : List Instr) (name : List ℕ) (fs : List MonFunction) (start : ℕ) (M : Memory) → HasAt code start (functions_code fs)
-    → FunctionAt code (function_named M name fs) (entry_named name start fs)
-named_at code name [] start M h = tt
-named_at code name (f ∷ fs) start M h =
+pub named_at : (code : List Instr) (name : List ℕ) (fs : List MonFunction) (start : ℕ) → HasAt code start (functions_code fs)
+    → FunctionAt code (function_named name fs) (entry_named name start fs)
+named_at code name [] start h = tt
+named_at code name (f ∷ fs) start h =
     let behind = length (functions_code fs) in
     let cf = function_code f behind in
     choice_at (bytes_eq f.name name) code f (entry_at start f) _ _ (refl, behind, has_front code start cf (functions_code fs) h)
-    (named_at code name fs (start + length cf) M (has_back code start cf (functions_code fs) h))
+    (named_at code name fs (start + length cf) (has_back code start cf (functions_code fs) h))
 
 pub numbered_at : (code : List Instr) (fs : List MonFunction) (start : ℕ) → HasAt code start (functions_code fs) → (f : ℕ)
     → FunctionAt code (slice_get fs f) (slice_get (entries_from start fs) f)

@@ -1,5 +1,5 @@
 -- The machine does with a program's code what the program means.
-use Rattle.std.proofs.Common.{◌≡◌, ℕ, zero, suc, ◌+◌, ◌-◌, ◌≤◌, ℤ, pos, ◌+ℤ◌, ◌*ℤ◌, List, [], ◌∷◌, ◌++◌, length, map, Option, Some, None, Bool, true, false, refl, sym, ap, ◌∙◌, subst, arith, append_assoc, append-nil, length-append, le_trans}
+use Rattle.std.proofs.Common.{◌≡◌, ℕ, zero, suc, ◌+◌, ◌-◌, ◌≤◌, ℤ, pos, ◌+ℤ◌, ◌*ℤ◌, List, [], ◌∷◌, ◌++◌, length, map, Option, Some, None, Bool, true, false, refl, sym, ap, ◌∙◌, subst, arith, append-nil, length-append, le_trans}
 use Rattle.std.specs.Prelude.{◌^◌, slice_get, slice_set, bytes_eq, if◌then◌else◌, unsigned_abs}
 use Rattle.std.specs.Fmt.{signed_decimal}
 use Rattle.std.specs.Int.{int_rem_euclid}
@@ -10,63 +10,26 @@ use Rattle.c_syntax.specs.declared.types.How.TheVariants as how
 use Rattle.c_model.specs.Integers.{byte_of}
 use Rattle.c_model.specs.Operators.{floor_quotient}
 use Rattle.c_model.specs.State.{Input, Final, Exits, Broken, Fault, Spent, Full, ReadFault}
-use Rattle.mon_syntax.specs.Trees.{MonExpression, Register, Constant, Binary, Minus, Flip, Cast, MonStatement, Set, Step, Assert, PutChar, GetChar, Exit, PrintText, PrintSigned, PrintUnsigned, Act, Call, If, Loop, Labelled, Goto, Return}
+use Rattle.mon_syntax.specs.declared.tree.MonOp.{MonOp}
+use Rattle.mon_syntax.specs.declared.tree.MonType.{MonType}
+use Rattle.mon_syntax.specs.Trees.{MonExpression, Register, Global, Constant, Binary, Minus, Flip, Cast, Load, MonStatement, Set, Store, Step, Assert, PutChar, GetChar, Exit}
+use Rattle.mon_syntax.specs.Trees.{PrintText, PrintSigned, PrintUnsigned, Act, Call, If, Loop, Labelled, Goto, Return}
 use Rattle.mon_syntax.specs.Trees.{MonStatements, NoStatement, Then}
-use Rattle.mon_syntax.specs.Arithmetic.{wrap, operate, minus, flipped}
+use Rattle.mon_syntax.specs.Arithmetic.{is_pointer, wrap, operate, minus, flipped}
 use Rattle.mon_syntax.specs.Memory.{Memory, Reply, Gives, IsFull, Faults}
-use Rattle.mon_syntax.specs.Meaning.{State, Result, Done, Stops, Flow, Next, Goes, Returns, writes, then_do, at_next, at_label, ◌>>=◌, with_value, choose, step_from, given_to, got, with_read, number_or_none, eval, eval_all, eval_number, replied}
-use Rattle.mon_syntax.specs.Meaning.{Calls, Does, turns, exec, exec_all}
+use Rattle.mon_syntax.specs.Meaning.{State, Result, Done, Stops, Flow, Next, Goes, Returns, writes, then_do, at_next, at_label, ◌>>=◌, with_value, choose, step_from, given_to, got, with_read, number_or_none}
+use Rattle.mon_syntax.specs.Meaning.{on_numbers, eval, eval_all, eval_number, replied, Calls, Does, turns, exec, exec_all}
 use Rattle.c_lower.specs.declared.code.Entry.{Entry}
 use Rattle.c_lower.specs.declared.code.Instr.{Instr}
 use Rattle.c_lower.specs.declared.code.Instr.TheVariants as instr
-use Rattle.c_lower.specs.Code.{is_short, expression_code, arguments_code, OpenLabel, behind_label, goto_code, result_code, returned_code, choice_code, statement_code, statements_code}
-use Rattle.c_lower.specs.Machine.{Machine, Course, Over, GoesOn, puts, with_some, with_arguments, on_read, stepped, on_with, at_with, changed, act, runs}
+use Rattle.c_lower.specs.Code.{is_short, operator_code, expression_code, arguments_code, OpenLabel, behind_label, goto_code, result_code, returned_code, choice_code, statement_code, statements_code}
+use Rattle.c_lower.specs.Machine.{Machine, Course, Over, puts, with_some, on_read, stepped, on_with, at_with, changed, act, runs}
 use Rattle.c_lower.specs.Lowered.{KeepsNumbers}
+use Rattle.c_lower.proofs.Taken.{some_then, two_then, puts-puts, puts-nil, writes-nil, onto, all_taken}
+use Rattle.c_lower.proofs.Registers.{constant_is}
 use Rattle.c_lower.proofs.Placed.{HasAt, has_front, has_back, Within, within_more, within_last, Below, label_below, label_last, high_and_low, length_two, length_choice, length_loop}
 
--- ---- options and courses
-
-some_then : {A B : Type 0} (o : Option A) (g : A → Option B) (n : ℕ) (go : B → Course) → with_some o n (λ a. with_some (g a) n go) ≡ with_some (o >>= g) n go
-some_then None g n go = refl
-some_then (Some a) g n go = refl
-
-two_then : {A B C : Type 0} (o : Option A) (p : Option B) (g : A → B → Option C) (n : ℕ) (go : C → Course)
-    → with_some o n (λ a. with_some p n (λ b. with_some (g a b) n go)) ≡ with_some (o >>= λ a. p >>= λ b. g a b) n go
-two_then None p g n go = refl
-two_then (Some a) p g n go = some_then p (g a) n go
-
-puts-puts : (o p : List ℕ) (x : Course) → puts o (puts p x) ≡ puts (o ++ p) x
-puts-puts o p (Over e n q) = ap (Over e n) (sym (append_assoc o p q))
-puts-puts o p (GoesOn q) = ap GoesOn (sym (append_assoc o p q))
-
-puts-nil : (x : Course) → puts [] x ≡ x
-puts-nil (Over e n q) = refl
-puts-nil (GoesOn q) = refl
-
-pub writes-nil : {S A : Type 0} (x : Result S A) → writes [] x ≡ x
-writes-nil (Done a s o) = refl
-writes-nil (Stops e n o) = refl
-
--- arguments onto operands, the last one topmost
-abbrev pub onto : {A : Type 0} → List A → List A → List A
-onto [] s = s
-onto (v ∷ vs) s = onto vs (v ∷ s)
-
-some_taken : {A : Type 0} (vs : List A) (m : ℕ) (got s : List A) (n : ℕ) (go : List A → List A → Course)
-    → with_arguments (length vs + m) got (onto vs s) n go ≡ with_arguments m (vs ++ got) s n go
-some_taken [] m got s n go = let e : 0 + m ≡ m = omega arith in ap (λ k. with_arguments k got s n go) e
-some_taken (v ∷ vs) m got s n go =
-    let e : suc (length vs) + m ≡ length vs + suc m = omega arith in
-    ap (λ k. with_arguments k got (onto vs (v ∷ s)) n go) e ∙ some_taken vs (suc m) got (v ∷ s) n go
-
--- so many arguments are taken off them again
-pub all_taken : {A : Type 0} (k : ℕ) (vs s : List A) (n : ℕ) (go : List A → List A → Course) → length vs ≡ k
-    → with_arguments k [] (onto vs s) n go ≡ go vs s
-all_taken k vs s n go e =
-    let f : k ≡ length vs + 0 = omega (arith, e) in
-    ap (λ i. with_arguments i [] (onto vs s) n go) f ∙ some_taken vs 0 [] s n go ∙ ap (λ l. go l s) (append-nil vs)
-
-module _ (M : Memory) (es : List Entry) (code : List Instr) where
+module _ (M : Memory) (gs : List M.Val) (es : List Entry) (code : List Instr) where
   -- ---- how the machine comes from one moment of a run to another
 
   abbrev pub Moment : Type 0
@@ -85,31 +48,31 @@ module _ (M : Memory) (es : List Entry) (code : List Instr) where
 
   -- it comes from one to the other, and writes nothing
   abbrev pub Quiet : Moment → Moment → Type 0
-  Quiet c d = (k : ℕ) → (j : ℕ) × (runs M es code j c ≡ runs M es code k d)
+  Quiet c d = (k : ℕ) → (j : ℕ) × (runs M gs es code j c ≡ runs M gs es code k d)
 
   -- it comes there, and writes this
   abbrev pub Comes : Moment → List ℕ → Moment → Type 0
-  Comes c o d = (k : ℕ) → (j : ℕ) × (runs M es code j c ≡ puts o (runs M es code k d))
+  Comes c o d = (k : ℕ) → (j : ℕ) × (runs M gs es code j c ≡ puts o (runs M gs es code k d))
 
   -- it comes to this course
   abbrev pub Reaches : Moment → Course → Type 0
-  Reaches c x = (j : ℕ) × (runs M es code j c ≡ x)
+  Reaches c x = (j : ℕ) × (runs M gs es code j c ≡ x)
 
   abbrev pub Ends : Moment → Final → ℕ → List ℕ → Type 0
   Ends c e n o = Reaches c (Over e n o)
 
-  pub step : (c : Moment) (i : Instr) → slice_get code c.place ≡ Some i → (k : ℕ) → runs M es code (suc k) c ≡ act M es (Some i) (runs M es code k) c
-  step c i h k = ap (λ o. act M es o (runs M es code k) c) h
+  pub step : (c : Moment) (i : Instr) → slice_get code c.place ≡ Some i → (k : ℕ) → runs M gs es code (suc k) c ≡ act M gs es (Some i) (runs M gs es code k) c
+  step c i h k = ap (λ o. act M gs es o (runs M gs es code k) c) h
 
-  pub quiet_step : (c d : Moment) (i : Instr) → slice_get code c.place ≡ Some i → ((next : Moment → Course) → act M es (Some i) next c ≡ next d) → Quiet c d
-  quiet_step c d i h e k = (suc k, step c i h k ∙ e (runs M es code k))
+  pub quiet_step : (c d : Moment) (i : Instr) → slice_get code c.place ≡ Some i → ((next : Moment → Course) → act M gs es (Some i) next c ≡ next d) → Quiet c d
+  quiet_step c d i h e k = (suc k, step c i h k ∙ e (runs M gs es code k))
 
   comes_step : (c d : Moment) (i : Instr) (o : List ℕ) → slice_get code c.place ≡ Some i
-      → ((next : Moment → Course) → act M es (Some i) next c ≡ puts o (next d)) → Comes c o d
-  comes_step c d i o h e k = (suc k, step c i h k ∙ e (runs M es code k))
+      → ((next : Moment → Course) → act M gs es (Some i) next c ≡ puts o (next d)) → Comes c o d
+  comes_step c d i o h e k = (suc k, step c i h k ∙ e (runs M gs es code k))
 
-  pub reach_step : (c : Moment) (i : Instr) (x : Course) → slice_get code c.place ≡ Some i → ((next : Moment → Course) → act M es (Some i) next c ≡ x) → Reaches c x
-  reach_step c i x h f = (1, step c i h 0 ∙ f (runs M es code 0))
+  pub reach_step : (c : Moment) (i : Instr) (x : Course) → slice_get code c.place ≡ Some i → ((next : Moment → Course) → act M gs es (Some i) next c ≡ x) → Reaches c x
+  reach_step c i x h f = (1, step c i h 0 ∙ f (runs M gs es code 0))
 
   pub quiet_on : (c d e : Moment) → Quiet c d → Quiet d e → Quiet c e
   quiet_on c d e l m k = let b = m k in let a = l b.0 in (a.0, a.1 ∙ b.1)
@@ -118,13 +81,13 @@ module _ (M : Memory) (es : List Entry) (code : List Instr) where
   quiet_reach c d x l m = let a = l m.0 in (a.0, a.1 ∙ m.1)
 
   as_comes : (c d : Moment) → Quiet c d → Comes c [] d
-  as_comes c d l k = let a = l k in (a.0, a.1 ∙ sym (puts-nil (runs M es code k d)))
+  as_comes c d l k = let a = l k in (a.0, a.1 ∙ sym (puts-nil (runs M gs es code k d)))
 
   comes_on : (c d e : Moment) (o p : List ℕ) → Comes c o d → Comes d p e → Comes c (o ++ p) e
   comes_on c d e o p l m k =
       let b = m k in
       let a = l b.0 in
-      (a.0, a.1 ∙ ap (puts o) b.1 ∙ puts-puts o p (runs M es code k e))
+      (a.0, a.1 ∙ ap (puts o) b.1 ∙ puts-puts o p (runs M gs es code k e))
 
   pub comes_quiet : (c d e : Moment) (o : List ℕ) → Comes c o d → Quiet d e → Comes c o e
   comes_quiet c d e o l m k = let b = m k in let a = l b.0 in (a.0, a.1 ∙ ap (puts o) b.1)
@@ -147,7 +110,7 @@ module _ (M : Memory) (es : List Entry) (code : List Instr) where
 
   -- the last instruction of an expression
   last_step : (c d : Moment) (n : ℕ) (i : Instr) (o : Option M.Val) → slice_get code d.place ≡ Some i
-      → ((next : Moment → Course) → act M es (Some i) next d ≡ with_some o c.steps (λ v. next (at_with M c (c.place + n) (v ∷ c.stack)))) → Quiet c d
+      → ((next : Moment → Course) → act M gs es (Some i) next d ≡ with_some o c.steps (λ v. next (at_with M c (c.place + n) (v ∷ c.stack)))) → Quiet c d
       → GivesOne c n o
   last_step c d n i None h e l = quiet_reach c d (Over Fault c.steps []) l (reach_step d i (Over Fault c.steps []) h e)
   last_step c d n i (Some v) h e l =
@@ -155,7 +118,7 @@ module _ (M : Memory) (es : List Entry) (code : List Instr) where
 
   two_run : (i : Instr) (value_of : M.Val → M.Val → Option M.Val) (ca cb : List Instr) (oa ob : Option M.Val) (c : Moment)
       → ((next : Moment → Course) (p : ℕ) (x y : M.Val) (t : List M.Val)
-      → act M es (Some i) next (at_with M c p (y ∷ x ∷ t)) ≡ with_some (value_of x y) c.steps (λ v. next (at_with M c (p + 1) (v ∷ t))))
+      → act M gs es (Some i) next (at_with M c p (y ∷ x ∷ t)) ≡ with_some (value_of x y) c.steps (λ v. next (at_with M c (p + 1) (v ∷ t))))
       → HasAt code c.place (ca ++ (cb ++ i ∷ [])) → GivesOne c (length ca) oa
       → ((x : M.Val) → GivesOne (at_with M c (c.place + length ca) (x ∷ c.stack)) (length cb) ob)
       → GivesOne c (length (ca ++ (cb ++ i ∷ []))) (oa >>= λ x. ob >>= λ y. value_of x y)
@@ -173,7 +136,7 @@ module _ (M : Memory) (es : List Entry) (code : List Instr) where
 
   one_run : (i : Instr) (value_of : M.Val → Option M.Val) (ca : List Instr) (oa : Option M.Val) (c : Moment)
       → ((next : Moment → Course) (p : ℕ) (x : M.Val) (t : List M.Val)
-      → act M es (Some i) next (at_with M c p (x ∷ t)) ≡ with_some (value_of x) c.steps (λ v. next (at_with M c (p + 1) (v ∷ t))))
+      → act M gs es (Some i) next (at_with M c p (x ∷ t)) ≡ with_some (value_of x) c.steps (λ v. next (at_with M c (p + 1) (v ∷ t))))
       → HasAt code c.place (ca ++ i ∷ []) → GivesOne c (length ca) oa → GivesOne c (length (ca ++ i ∷ [])) (oa >>= value_of)
   one_run i value_of ca None c op has ra = ra
   one_run i value_of ca (Some x) c op has ra =
@@ -186,7 +149,7 @@ module _ (M : Memory) (es : List Entry) (code : List Instr) where
   -- an operator on the topmost number
   number_run : (i : Instr) (f : ℤ → ℤ) (ca : List Instr) (oa : Option M.Val) (c : Moment)
       → ((next : Moment → Course) (p : ℕ) (x : M.Val) (t : List M.Val)
-      → act M es (Some i) next (at_with M c p (x ∷ t)) ≡ with_some (M.number_of x) c.steps (λ z. next (at_with M c (p + 1) (M.number (f z) ∷ t))))
+      → act M gs es (Some i) next (at_with M c p (x ∷ t)) ≡ with_some (M.number_of x) c.steps (λ z. next (at_with M c (p + 1) (M.number (f z) ∷ t))))
       → HasAt code c.place (ca ++ i ∷ []) → GivesOne c (length ca) oa
       → GivesOne c (length (ca ++ i ∷ [])) (oa >>= λ x. M.number_of x >>= λ z. Some (M.number (f z)))
   number_run i f ca oa c op has ra =
@@ -201,7 +164,7 @@ module _ (M : Memory) (es : List Entry) (code : List Instr) where
       let c1 = at_with M c (c.place + 1) (M.number high ∷ c.stack) in
       let end : c.place + 1 + 1 ≡ c.place + 2 = omega arith in
       last_step c c1 2 (instr.Extend low) (Some (M.number z)) has.1.0 (λ next.
-      ap (λ o. with_some o c.steps (λ y. next (at_with M c (c.place + 1 + 1) (M.number ((y *ℤ pos (2 ^ 64)) +ℤ pos low) ∷ c.stack)))) (keeps high)
+      ap (λ o. with_some o c.steps (λ y. next (at_with M c (c.place + 1 + 1) (M.number ((y *ℤ pos (2 ^ 64)) +ℤ pos low) ∷ c.stack)))) (keeps.numbers high)
       ∙ ap (λ y. next (at_with M c (c.place + 1 + 1) (M.number y ∷ c.stack))) e
       ∙ ap (λ p. next (at_with M c p (M.number z ∷ c.stack))) end) (quiet_step c c1 (instr.Push high) has.0 (λ next. refl))
 
@@ -214,26 +177,39 @@ module _ (M : Memory) (es : List Entry) (code : List Instr) where
   constant_run keeps c z false has =
       wide_run keeps c (floor_quotient z (2 ^ 64)) (unsigned_abs (int_rem_euclid z (pos (2 ^ 64)))) z (high_and_low z) has
 
+  -- an operator, of which the first operand is a pointer or a number
+  operator_acts : (op : MonOp) (t : MonType) (b : Bool) (c : Moment) (next : Moment → Course) (p : ℕ) (x y : M.Val) (s : List M.Val)
+      → act M gs es (Some (if b then instr.Pointed op else instr.Binary op t)) next (at_with M c p (y ∷ x ∷ s))
+      ≡ with_some (if b then M.pointed op x y c.mem else on_numbers M op t x y) c.steps (λ v. next (at_with M c (p + 1) (v ∷ s)))
+  operator_acts op t true c next p x y s = refl
+  operator_acts op t false c next p x y s =
+      two_then (M.number_of x) (M.number_of y) (λ i j. number_or_none M (operate op t i j)) c.steps (λ v. next (at_with M c (p + 1) (v ∷ s)))
+
   expression_runs : KeepsNumbers M → (e : MonExpression) (c : Moment) → HasAt code c.place (expression_code e)
-      → GivesOne c (length (expression_code e)) (eval M e c.registers)
+      → GivesOne c (length (expression_code e)) (eval M gs e c.registers c.mem)
   expression_runs keeps (Register r) c has =
       last_step c c 1 (instr.Get r) (slice_get c.registers r) has.0 (λ next. refl) (λ k. (k, refl))
-  expression_runs keeps (Constant t z) c has = constant_run keeps c z (is_short z) has
+  expression_runs keeps (Global g) c has =
+      last_step c c 1 (instr.Global g) (slice_get gs g) has.0 (λ next. refl) (λ k. (k, refl))
+  expression_runs keeps (Constant t z) c has =
+      subst (λ v. GivesOne c (length (expression_code (Constant t z))) (Some v)) (sym (constant_is M keeps t z)) (constant_run keeps c z (is_short z) has)
   expression_runs keeps (Binary op t a b) c has =
       let c1 = λ (x : M.Val). at_with M c (c.place + length (expression_code a)) (x ∷ c.stack) in
-      two_run (instr.Binary op t) (λ x y. M.number_of x >>= λ i. M.number_of y >>= λ j. number_or_none M (operate op t i j)) (expression_code a)
-      (expression_code b) (eval M a c.registers) (eval M b c.registers) c
-      (λ next p x y s. two_then (M.number_of x) (M.number_of y) (λ i j. number_or_none M (operate op t i j)) c.steps
-      (λ v. next (at_with M c (p + 1) (v ∷ s)))) has (expression_runs keeps a c (has_front code c.place (expression_code a) _ has))
+      two_run (operator_code op t) (λ x y. if is_pointer t then M.pointed op x y c.mem else on_numbers M op t x y) (expression_code a)
+      (expression_code b) (eval M gs a c.registers c.mem) (eval M gs b c.registers c.mem) c
+      (operator_acts op t (is_pointer t) c) has (expression_runs keeps a c (has_front code c.place (expression_code a) _ has))
       (λ x. expression_runs keeps b (c1 x) (has_front code _ (expression_code b) _ (has_back code c.place (expression_code a) _ has)))
   expression_runs keeps (Minus t a) c has =
-      number_run (instr.Minus t) (minus t) (expression_code a) (eval M a c.registers) c (λ next p x s. refl) has
+      number_run (instr.Minus t) (minus t) (expression_code a) (eval M gs a c.registers c.mem) c (λ next p x s. refl) has
       (expression_runs keeps a c (has_front code c.place (expression_code a) _ has))
   expression_runs keeps (Flip t a) c has =
-      number_run (instr.Flip t) (flipped t) (expression_code a) (eval M a c.registers) c (λ next p x s. refl) has
+      number_run (instr.Flip t) (flipped t) (expression_code a) (eval M gs a c.registers c.mem) c (λ next p x s. refl) has
       (expression_runs keeps a c (has_front code c.place (expression_code a) _ has))
   expression_runs keeps (Cast t a) c has =
-      number_run (instr.Cast t) (wrap t) (expression_code a) (eval M a c.registers) c (λ next p x s. refl) has
+      number_run (instr.Cast t) (wrap t) (expression_code a) (eval M gs a c.registers c.mem) c (λ next p x s. refl) has
+      (expression_runs keeps a c (has_front code c.place (expression_code a) _ has))
+  expression_runs keeps (Load t a) c has =
+      one_run (instr.Load t) (λ x. M.load t x c.mem) (expression_code a) (eval M gs a c.registers c.mem) c (λ next p x s. refl) has
       (expression_runs keeps a c (has_front code c.place (expression_code a) _ has))
 
   -- what the code of arguments does, which has so many instructions
@@ -254,11 +230,11 @@ module _ (M : Memory) (es : List Entry) (code : List Instr) where
       (to_place c c all _ _ len (quiet_on c c1 (at_with M c (c.place + length ca + length cs) all) ra (rs v).0), ap suc (rs v).1)
 
   arguments_run : KeepsNumbers M → (args : List MonExpression) (c : Moment) → HasAt code c.place (arguments_code args)
-      → GivesAll c (length (arguments_code args)) (length args) (eval_all M args c.registers)
+      → GivesAll c (length (arguments_code args)) (length args) (eval_all M gs args c.registers c.mem)
   arguments_run keeps [] c has = let e : c.place ≡ c.place + 0 = omega arith in (stays c _ e, refl)
   arguments_run keeps (a ∷ args) c has =
       let ca = expression_code a in
-      more_arguments ca (arguments_code args) (length args) (eval M a c.registers) (eval_all M args c.registers) c
+      more_arguments ca (arguments_code args) (length args) (eval M gs a c.registers c.mem) (eval_all M gs args c.registers c.mem) c
       (expression_runs keeps a c (has_front code c.place ca _ has))
       (λ v. arguments_run keeps args (at_with M c (c.place + length ca) (v ∷ c.stack)) (has_back code c.place ca _ has))
 
@@ -369,19 +345,19 @@ module _ (M : Memory) (es : List Entry) (code : List Instr) where
   value_run c ca p ls total (Some v) go g h = h v g
 
   counted_step : (c d : Moment) (i : Instr) (p : ℕ) (ls : List OpenLabel) (total : ℕ) (o : Option ℤ) (go : ℤ → Outcome) (go_on : ℤ → (Moment → Course)
-      → Course) → slice_get code d.place ≡ Some i → ((next : Moment → Course) → act M es (Some i) next d ≡ with_some o c.steps (λ z. go_on z next))
-      → Quiet c d → ((z : ℤ) → ((k : ℕ) → Reaches c (go_on z (runs M es code k))) → Performs c p ls total (go z))
+      → Course) → slice_get code d.place ≡ Some i → ((next : Moment → Course) → act M gs es (Some i) next d ≡ with_some o c.steps (λ z. go_on z next))
+      → Quiet c d → ((z : ℤ) → ((k : ℕ) → Reaches c (go_on z (runs M gs es code k))) → Performs c p ls total (go z))
       → Performs c p ls total (with_value o c.steps go)
   counted_step c d i p ls total None go go_on at op q h = quiet_reach c d (Over Fault c.steps []) q (reach_step d i (Over Fault c.steps []) at op)
   counted_step c d i p ls total (Some z) go go_on at op q h =
-      h z (λ k. let a = q (suc k) in (a.0, a.1 ∙ step d i at k ∙ op (runs M es code k)))
+      h z (λ k. let a = q (suc k) in (a.0, a.1 ∙ step d i at k ∙ op (runs M gs es code k)))
 
   -- what one instruction does with the number that an expression's code gave
   counted_run : (c : Moment) (ca : List Instr) (i : Instr) (p : ℕ) (ls : List OpenLabel) (total : ℕ) (o : Option M.Val) (go : ℤ → Outcome) (go_on : ℤ
       → (Moment → Course) → Course) → slice_get code (c.place + length ca) ≡ Some i
       → ((next : Moment → Course) (v : M.Val)
-      → act M es (Some i) next (at_with M c (c.place + length ca) (v ∷ c.stack)) ≡ with_some (M.number_of v) c.steps (λ z. go_on z next))
-      → GivesOne c (length ca) o → ((z : ℤ) → ((k : ℕ) → Reaches c (go_on z (runs M es code k))) → Performs c p ls total (go z))
+      → act M gs es (Some i) next (at_with M c (c.place + length ca) (v ∷ c.stack)) ≡ with_some (M.number_of v) c.steps (λ z. go_on z next))
+      → GivesOne c (length ca) o → ((z : ℤ) → ((k : ℕ) → Reaches c (go_on z (runs M gs es code k))) → Performs c p ls total (go z))
       → Performs c p ls total (with_value (o >>= M.number_of) c.steps go)
   counted_run c ca i p ls total None go go_on at op g h = g
   counted_run c ca i p ls total (Some v) go go_on at op g h =
@@ -391,12 +367,12 @@ module _ (M : Memory) (es : List Entry) (code : List Instr) where
   print_run : (c : Moment) (e : MonExpression) (ls : List OpenLabel) (total : ℕ) → KeepsNumbers M
       → HasAt code c.place (expression_code e ++ instr.PutNumber ∷ [])
       → Performs c (c.place + length (expression_code e ++ instr.PutNumber ∷ [])) ls total
-      (with_value (eval_number M e c.registers) c.steps (λ z. Done (Next c.registers) (state_of c) (signed_decimal z)))
+      (with_value (eval_number M gs e c.registers c.mem) c.steps (λ z. Done (Next c.registers) (state_of c) (signed_decimal z)))
   print_run c e ls total keeps has =
       let ce = expression_code e in
       let at = (has_back code c.place ce _ has).0 in
       let len : c.place + length ce + 1 ≡ c.place + length (ce ++ instr.PutNumber ∷ []) = omega (arith, length-append ce (instr.PutNumber ∷ [])) in
-      ends_at c _ _ ls total _ len (counted_run c ce instr.PutNumber (c.place + length ce + 1) ls total (eval M e c.registers) _
+      ends_at c _ _ ls total _ len (counted_run c ce instr.PutNumber (c.place + length ce + 1) ls total (eval M gs e c.registers c.mem) _
       (λ z next. puts (signed_decimal z) (next (at_with M c (c.place + length ce + 1) c.stack))) at (λ next v. refl)
       (expression_runs keeps e c (has_front code c.place ce _ has)) (λ z q. (q, omega arith)))
 
@@ -467,13 +443,23 @@ module _ (M : Memory) (es : List Entry) (code : List Instr) where
 
   -- a change of memory
   change_run : (c : Moment) (p : ℕ) (args : List M.Val) (i : Instr) (y : Reply M.Mem M.Val) → slice_get code p ≡ Some i
-      → ((next : Moment → Course) → act M es (Some i) next (calling c p args)
+      → ((next : Moment → Course) → act M gs es (Some i) next (calling c p args)
       ≡ changed M y c.steps (λ v m. next (valued c (p + 1) v c.registers (record (state_of c) { mem = m })))) → CallDoes c p args (replied M y (state_of c))
   change_run c p args i (Gives v m) at op =
       let c1 = calling c p args in
       (as_comes c1 _ (quiet_step c1 (valued c (p + 1) v c.registers (record (state_of c) { mem = m })) i at op), omega arith)
   change_run c p args i (IsFull g) at op = reach_step (calling c p args) i (Over (Full g) c.steps []) at op
   change_run c p args i Faults at op = reach_step (calling c p args) i (Over Fault c.steps []) at op
+
+  -- an instruction that changes the memory and goes on, where it can be done
+  changed_run : (c d : Moment) (i : Instr) (ls : List OpenLabel) (total : ℕ) (o : Option M.Mem) → slice_get code d.place ≡ Some i
+      → ((next : Moment → Course) → act M gs es (Some i) next d
+      ≡ with_some o c.steps (λ m. next (came c (d.place + 1) c.registers (record (state_of c) { mem = m })))) → Quiet c d
+      → Performs c (d.place + 1) ls total (with_value o c.steps (λ m. Done (Next c.registers) (record (state_of c) { mem = m }) []))
+  changed_run c d i ls total None at op q = quiet_reach c d (Over Fault c.steps []) q (reach_step d i (Over Fault c.steps []) at op)
+  changed_run c d i ls total (Some m) at op q =
+      let end = came c (d.place + 1) c.registers (record (state_of c) { mem = m }) in
+      (as_comes c end (quiet_on c d end q (quiet_step d end i at op)), omega arith)
 
   with_all : (c : Moment) (ca : List Instr) (k p : ℕ) (ls : List OpenLabel) (total : ℕ) (o : Option (List M.Val)) (go : List M.Val → Outcome)
       → GivesAll c (length ca) k o
@@ -488,20 +474,20 @@ module _ (M : Memory) (es : List Entry) (code : List Instr) where
       → ((vs : List M.Val) → length vs ≡ length args → slice_get code (c.place + length (arguments_code args)) ≡ Some i
       → CallDoes c (c.place + length (arguments_code args)) vs (does vs))
       → Performs c (c.place + length (arguments_code args ++ (i ∷ (result_code r ∷ [])))) ls total
-      (with_value (eval_all M args c.registers) c.steps (λ vs. then_do (does vs) (λ v t. Done (Next (given_to r v c.registers)) t [])))
+      (with_value (eval_all M gs args c.registers c.mem) c.steps (λ vs. then_do (does vs) (λ v t. Done (Next (given_to r v c.registers)) t [])))
   call_run keeps r args i does c ls total has run =
       let ca = arguments_code args in
       let p = c.place + length ca in
       let back = has_back code c.place ca _ has in
       let len : p + 1 + 1 ≡ c.place + length (ca ++ (i ∷ (result_code r ∷ []))) = omega (arith, length-append ca (i ∷ (result_code r ∷ []))) in
-      with_all c ca (length args) _ ls total (eval_all M args c.registers) _ (arguments_run keeps args c (has_front code c.place ca _ has)) (λ vs e q.
+      with_all c ca (length args) _ ls total (eval_all M gs args c.registers c.mem) _ (arguments_run keeps args c (has_front code c.place ca _ has)) (λ vs e q.
       call_ends c r p _ vs ls total (does vs) len back.1.0 q (run vs e back.0))
 
   -- ---- assertions
 
   assert_ends : (c : Moment) (undefined false_ : Final) (i : Instr) (p : ℕ) (ls : List OpenLabel) (total : ℕ) (d : Moment) (b b' : Bool) → p ≡ d.place + 1
       → slice_get code d.place ≡ Some i → Quiet c d
-      → ((next : Moment → Course) → act M es (Some i) next d
+      → ((next : Moment → Course) → act M gs es (Some i) next d
       ≡ (if b then Over undefined c.steps [] else (if b' then Over false_ c.steps [] else next (at_with M c (d.place + 1) c.stack))))
       → Performs c p ls total (if b then Stops undefined c.steps [] else (if b' then Stops false_ c.steps [] else Done (Next c.registers) (state_of c) []))
   assert_ends c undefined false_ i p ls total d true b' e at q op = quiet_reach c d (Over undefined c.steps []) q
@@ -518,7 +504,7 @@ module _ (M : Memory) (es : List Entry) (code : List Instr) where
 
   assert_some : (c : Moment) (undefined false_ : Final) (i : Instr) (p : ℕ) (ls : List OpenLabel) (total : ℕ) (d : Moment) (ox oy : Option ℤ)
       → p ≡ d.place + 1 → slice_get code d.place ≡ Some i → Quiet c d
-      → ((next : Moment → Course) → act M es (Some i) next d
+      → ((next : Moment → Course) → act M gs es (Some i) next d
       ≡ with_some ox c.steps (λ x. with_some oy c.steps
       (λ y. choose x (choose y (next (at_with M c (d.place + 1) c.stack)) (Over false_ c.steps [])) (Over undefined c.steps []))))
       → Performs c p ls total (with_value ox c.steps (λ x. with_value oy c.steps (λ y. judgement undefined false_ c x y)))
@@ -557,7 +543,7 @@ module _ (M : Memory) (es : List Entry) (code : List Instr) where
   -- ---- choices and loops
 
   if_run : (b : Bool) (c d0 d1 : Moment) (p : ℕ) (ls : List OpenLabel) (total : ℕ) (x y : Outcome)
-      → ((k : ℕ) → Reaches c (if b then runs M es code k d0 else runs M es code k d1)) → (Quiet c d0 → Performs c p ls total x)
+      → ((k : ℕ) → Reaches c (if b then runs M gs es code k d0 else runs M gs es code k d1)) → (Quiet c d0 → Performs c p ls total x)
       → (Quiet c d1 → Performs c p ls total y) → Performs c p ls total (if b then x else y)
   if_run true c d0 d1 p ls total x y q hx hy = hx q
   if_run false c d0 d1 p ls total x y q hx hy = hy q
@@ -568,10 +554,10 @@ module _ (M : Memory) (es : List Entry) (code : List Instr) where
 
   step_run : (c : Moment) (p : ℕ) (ls : List OpenLabel) (total : ℕ) (q : ℕ) (go : ℕ → Outcome) → c.steps ≡ q → slice_get code c.place ≡ Some instr.Step
       → ((k : ℕ) → suc k ≡ c.steps → Performs (stepping c k) p ls total (go k)) → Performs c p ls total (step_from q go)
-  step_run c p ls total zero go e at h = (1, step c instr.Step at 0 ∙ ap (λ n. stepped n (λ m. runs M es code 0 (stepping c m))) e)
+  step_run c p ls total zero go e at h = (1, step c instr.Step at 0 ∙ ap (λ n. stepped n (λ m. runs M gs es code 0 (stepping c m))) e)
   step_run c p ls total (suc k) go e at h =
       after_quiet c (c.place + 1) c.registers (record (state_of c) { steps = k }) p ls total (go k)
-      (λ j. (suc j, step c instr.Step at j ∙ ap (λ n. stepped n (λ m. runs M es code j (stepping c m))) e)) (omega (arith, e)) (h k (sym e))
+      (λ j. (suc j, step c instr.Step at j ∙ ap (λ n. stepped n (λ m. runs M gs es code j (stepping c m))) e)) (omega (arith, e)) (h k (sym e))
 
   -- a loop's turns, from before_at, where what stands before its step begins; the step is at step_at, and a jump back to it at back_at
   turns_run : (n : ℕ) (c : Moment) (step_at before_at back_at p back : ℕ) (ls : List OpenLabel) (total : ℕ) (before behind : Does M)
@@ -585,7 +571,7 @@ module _ (M : Memory) (es : List Entry) (code : List Instr) where
       let b = to_place (came c back_at r1 s1) (came c back_at r1 s1) c.stack _ _ e
       (quiet_step (came c back_at r1 s1) _ (instr.GoBack back) is_back (λ next. refl)) in
       quiet_reach (came c back_at r1 s1) (came c step_at r1 s1) (Over Spent 0 []) b
-      (1, step (came c step_at r1 s1) instr.Step is_step 0 ∙ ap (λ n. stepped n (λ m. runs M es code 0 (stepping (came c step_at r1 s1) m))) z))
+      (1, step (came c step_at r1 s1) instr.Step is_step 0 ∙ ap (λ n. stepped n (λ m. runs M gs es code 0 (stepping (came c step_at r1 s1) m))) z))
   turns_run n c step_at before_at back_at p back ls total before behind is_step is_back e run_before run_behind (suc m) le r s les =
       seq_run (came c before_at r s) back_at p ls total (before r s) _ (run_before r s (omega (arith, le, les))) (λ r1 s1 le1.
       let b = to_place (came c back_at r1 s1) (came c back_at r1 s1) c.stack _ _ e
@@ -601,27 +587,54 @@ module _ (M : Memory) (es : List Entry) (code : List Instr) where
   module _ (keeps : KeepsNumbers M) (calls : Calls M) (n : ℕ) (calls_run : CallsRun calls n) where
     -- the value of an expression, from its code before other code
     value_here : (e : MonExpression) (c : Moment) (rest : List Instr) → HasAt code c.place (expression_code e ++ rest)
-        → GivesOne c (length (expression_code e)) (eval M e c.registers)
+        → GivesOne c (length (expression_code e)) (eval M gs e c.registers c.mem)
     value_here e c rest has = expression_runs keeps e c (has_front code c.place (expression_code e) rest has)
 
     set_run : (r : ℕ) (e : MonExpression) (c : Moment) (ls : List OpenLabel) (total : ℕ) → HasAt code c.place (expression_code e ++ instr.Put r ∷ [])
         → Performs c (c.place + length (expression_code e ++ instr.Put r ∷ [])) ls total
-        (with_value (eval M e c.registers) c.steps (λ v. Done (Next (slice_set c.registers r v)) (state_of c) []))
+        (with_value (eval M gs e c.registers c.mem) c.steps (λ v. Done (Next (slice_set c.registers r v)) (state_of c) []))
     set_run r e c ls total has =
         let ce = expression_code e in
         let at = (has_back code c.place ce _ has).0 in
         let len : c.place + length ce + 1 ≡ c.place + length (ce ++ instr.Put r ∷ []) = omega (arith, length-append ce (instr.Put r ∷ [])) in
-        ends_at c _ _ ls total _ len (value_run c ce (c.place + length ce + 1) ls total (eval M e c.registers) _ (value_here e c _ has) (λ v q.
+        ends_at c _ _ ls total _ len (value_run c ce (c.place + length ce + 1) ls total (eval M gs e c.registers c.mem) _ (value_here e c _ has) (λ v q.
         let c1 = at_with M c (c.place + length ce) (v ∷ c.stack) in (
           as_comes c _ (quiet_on c c1 (came c (c.place + length ce + 1) (slice_set c.registers r v) (state_of c)) q
               (quiet_step c1 _ (instr.Put r) at (λ next. refl))),
           omega arith,
         )))
 
+    -- the value that is stored, whose code begins above the pointer
+    stored_run : (t : MonType) (v : M.Val) (oe : Option M.Val) (ce : List Instr) (c : Moment) (p : ℕ) (ls : List OpenLabel) (total : ℕ)
+        → slice_get code (c.place + 1 + length ce) ≡ Some (instr.Store t) → c.place + 1 + length ce + 1 ≡ p
+        → Quiet c (at_with M c (c.place + 1) (v ∷ c.stack)) → GivesOne (at_with M c (c.place + 1) (v ∷ c.stack)) (length ce) oe
+        → Performs c p ls total (with_value oe c.steps (λ w. with_value (M.store t v w c.mem) c.steps
+        (λ m. Done (Next c.registers) (record (state_of c) { mem = m }) [])))
+    stored_run t v None ce c p ls total at end q g = quiet_reach c (at_with M c (c.place + 1) (v ∷ c.stack)) (Over Fault c.steps []) q g
+    stored_run t v (Some w) ce c p ls total at end q g =
+        let c1 = at_with M c (c.place + 1) (v ∷ c.stack) in
+        let c2 = at_with M c (c.place + 1 + length ce) (w ∷ v ∷ c.stack) in
+        ends_at c _ p ls total _ end (changed_run c c2 (instr.Store t) ls total (M.store t v w c.mem) at (λ next. refl) (quiet_on c c1 c2 q g))
+
+    store_run : (r : ℕ) (t : MonType) (e : MonExpression) (o : Option M.Val) (c : Moment) (ls : List OpenLabel) (total : ℕ) → slice_get c.registers r ≡ o
+        → HasAt code c.place (instr.Get r ∷ (expression_code e ++ instr.Store t ∷ []))
+        → Performs c (c.place + length (instr.Get r ∷ (expression_code e ++ instr.Store t ∷ []))) ls total
+        (with_value o c.steps (λ p. with_value (eval M gs e c.registers c.mem) c.steps (λ v. with_value (M.store t p v c.mem) c.steps
+        (λ m. Done (Next c.registers) (record (state_of c) { mem = m }) []))))
+    store_run r t e None c ls total h has =
+        reach_step c (instr.Get r) (Over Fault c.steps []) has.0 (λ next. ap (λ o. with_some o c.steps (λ v. next (on_with M c (v ∷ c.stack)))) h)
+    store_run r t e (Some p) c ls total h has =
+        let ce = expression_code e in
+        let c1 = at_with M c (c.place + 1) (p ∷ c.stack) in
+        let q = quiet_step c c1 (instr.Get r) has.0 (λ next. ap (λ o. with_some o c.steps (λ v. next (on_with M c (v ∷ c.stack)))) h) in
+        let at = (has_back code (c.place + 1) ce _ has.1).0 in
+        let len : c.place + 1 + length ce + 1 ≡ c.place + length (instr.Get r ∷ (ce ++ instr.Store t ∷ [])) = omega (arith, length-append ce (instr.Store t ∷ [])) in
+        stored_run t p (eval M gs e c.registers c.mem) ce c _ ls total at len q (value_here e c1 _ has.1)
+
     putchar_run : (r : Option ℕ) (e : MonExpression) (c : Moment) (ls : List OpenLabel) (total : ℕ)
         → HasAt code c.place (expression_code e ++ (instr.PutChar ∷ (result_code r ∷ [])))
         → Performs c (c.place + length (expression_code e ++ (instr.PutChar ∷ (result_code r ∷ [])))) ls total
-        (with_value (eval_number M e c.registers) c.steps
+        (with_value (eval_number M gs e c.registers c.mem) c.steps
         (λ z. Done (Next (given_to r (M.number (pos (byte_of z))) c.registers)) (state_of c) (byte_of z ∷ [])))
     putchar_run r e c ls total has =
         let ce = expression_code e in
@@ -629,7 +642,7 @@ module _ (M : Memory) (es : List Entry) (code : List Instr) where
         let p = c.place + length ce + 1 in
         let end = instr.PutChar ∷ (result_code r ∷ []) in
         let len : p + 1 ≡ c.place + length (ce ++ end) = omega (arith, length-append ce end) in
-        ends_at c _ _ ls total _ len (counted_run c ce instr.PutChar (p + 1) ls total (eval M e c.registers) _
+        ends_at c _ _ ls total _ len (counted_run c ce instr.PutChar (p + 1) ls total (eval M gs e c.registers c.mem) _
         (λ z next. puts (byte_of z ∷ []) (next (at_with M c p (M.number (pos (byte_of z)) ∷ c.stack)))) back.0 (λ next v. refl) (value_here e c _ has)
         (λ z q.
         let v = M.number (pos (byte_of z)) in (
@@ -639,15 +652,15 @@ module _ (M : Memory) (es : List Entry) (code : List Instr) where
         )))
 
     exit_run : (e : MonExpression) (c : Moment) (p : ℕ) (ls : List OpenLabel) (total : ℕ) → HasAt code c.place (expression_code e ++ instr.Exit ∷ [])
-        → Performs c p ls total (with_value (eval_number M e c.registers) c.steps (λ z. Stops (Exits z) c.steps []))
+        → Performs c p ls total (with_value (eval_number M gs e c.registers c.mem) c.steps (λ z. Stops (Exits z) c.steps []))
     exit_run e c p ls total has =
         let ce = expression_code e in
         let at = (has_back code c.place ce _ has).0 in
-        counted_run c ce instr.Exit p ls total (eval M e c.registers) _ (λ z next. Over (Exits z) c.steps []) at (λ next v. refl) (value_here e c _ has)
+        counted_run c ce instr.Exit p ls total (eval M gs e c.registers c.mem) _ (λ z next. Over (Exits z) c.steps []) at (λ next v. refl) (value_here e c _ has)
         (λ z q. q 0)
 
     return_run : (e : Option MonExpression) (c : Moment) (p : ℕ) (ls : List OpenLabel) (total : ℕ)
-        → HasAt code c.place (returned_code e ++ instr.Return ∷ []) → Performs c p ls total (exec M (Return e) calls n c.registers (state_of c))
+        → HasAt code c.place (returned_code e ++ instr.Return ∷ []) → Performs c p ls total (exec M gs (Return e) calls n c.registers (state_of c))
     return_run None c p ls total has = (
       c.place + 1,
       c.registers,
@@ -659,19 +672,20 @@ module _ (M : Memory) (es : List Entry) (code : List Instr) where
     return_run (Some e) c p ls total has =
         let ce = expression_code e in
         let at = (has_back code c.place ce _ has).0 in
-        value_run c ce p ls total (eval M e c.registers) _ (value_here e c _ has) (λ v q. (c.place + length ce, c.registers, at, as_comes c _ q, omega arith))
+        value_run c ce p ls total (eval M gs e c.registers c.mem) _ (value_here e c _ has) (λ v q. (c.place + length ce, c.registers, at, as_comes c _ q, omega arith))
 
     mutual
       statement_runs : (a : MonStatement) (c : Moment) (behind : ℕ) (ls : List OpenLabel) (total : ℕ) → c.steps ≤ n → Within ls behind
           → c.place + length (statement_code a behind ls) + behind ≡ total → HasAt code c.place (statement_code a behind ls)
-          → Performs c (c.place + length (statement_code a behind ls)) ls total (exec M a calls n c.registers (state_of c))
+          → Performs c (c.place + length (statement_code a behind ls)) ls total (exec M gs a calls n c.registers (state_of c))
       statement_runs (Set r e) c behind ls total les w eN has = set_run r e c ls total has
+      statement_runs (Store r t e) c behind ls total les w eN has = store_run r t e (slice_get c.registers r) c ls total refl has
       statement_runs Step c behind ls total les w eN has =
           step_run c (c.place + 1) ls total c.steps _ refl has.0 (λ k ek. (as_comes (stepping c k) _ (λ j. (j, refl)), omega arith))
       statement_runs (Assert d v number line kind) c behind ls total les w eN has =
           let cd = expression_code d in
           let cv = expression_code v in
-          assert_run c number line kind cd cv ls total (eval M d c.registers) (eval M v c.registers) has (value_here d c _ has)
+          assert_run c number line kind cd cv ls total (eval M gs d c.registers c.mem) (eval M gs v c.registers c.mem) has (value_here d c _ has)
           (λ x. value_here v (at_with M c (c.place + length cd) (x ∷ c.stack)) _ (has_back code c.place cd _ has))
       statement_runs (PutChar r e) c behind ls total les w eN has = putchar_run r e c ls total has
       statement_runs (GetChar r) c behind ls total les w eN has =
@@ -701,7 +715,7 @@ module _ (M : Memory) (es : List Entry) (code : List Instr) where
           let n0 : c.place + length ce + 1 + (length ca + 1) + length cb + behind ≡ total = omega (arith, la, eN) in
           let n1 : c.place + length ce + 1 + length ca + (1 + length cb + behind) ≡ total = omega (arith, la, eN) in
           let p0 : c.place + length ce + 1 + length ca + 1 ≡ c.place + length ce + 1 + (length ca + 1) = omega arith in
-          counted_run c ce (instr.SkipIfZero (length ca + 1)) end ls total (eval M e c.registers) _ (λ z next. choose z (next d1) (next d0)) h.0
+          counted_run c ce (instr.SkipIfZero (length ca + 1)) end ls total (eval M gs e c.registers c.mem) _ (λ z next. choose z (next d1) (next d0)) h.0
           (λ next v. refl) (value_here e c _ has) (λ z k.
           if_run (int_eq z (pos 0)) c d0 d1 end ls total _ _ k
           (λ l. after_quiet c _ c.registers (state_of c) end ls total _ l (omega arith)
@@ -728,7 +742,7 @@ module _ (M : Memory) (es : List Entry) (code : List Instr) where
           let nb : c.place + 1 + 1 + length cb + (length ca + 1 + behind) ≡ total = omega (arith, la, eN) in
           after_quiet c before_at c.registers (state_of c) _ ls total _
           (to_place c c c.stack _ _ start (quiet_step c _ (instr.GoOn (length cb + 1)) has.0 (λ next. refl))) (omega arith)
-          (turns_run n c step_at before_at back_at _ back ls total (exec_all M a calls n) (exec_all M b calls n) has.1.0 is_back eb
+          (turns_run n c step_at before_at back_at _ back ls total (exec_all M gs a calls n) (exec_all M gs b calls n) has.1.0 is_back eb
           (λ r s le. statements_run a (came c before_at r s) (1 + behind) ls total le (within_more ls behind (1 + behind) (omega arith) w) na
           (has_front code before_at ca _ h2))
           (λ r s le. statements_run b (came c (step_at + 1) r s) (length ca + 1 + behind) ls total le
@@ -744,7 +758,7 @@ module _ (M : Memory) (es : List Entry) (code : List Instr) where
 
       pub statements_run : (a : MonStatements) (c : Moment) (behind : ℕ) (ls : List OpenLabel) (total : ℕ) → c.steps ≤ n → Within ls behind
           → c.place + length (statements_code a behind ls) + behind ≡ total → HasAt code c.place (statements_code a behind ls)
-          → Performs c (c.place + length (statements_code a behind ls)) ls total (exec_all M a calls n c.registers (state_of c))
+          → Performs c (c.place + length (statements_code a behind ls)) ls total (exec_all M gs a calls n c.registers (state_of c))
       statements_run NoStatement c behind ls total les w eN has =
           let e : c.place ≡ c.place + 0 = omega arith in
           (as_comes c _ (stays c _ e), omega arith)
@@ -755,7 +769,7 @@ module _ (M : Memory) (es : List Entry) (code : List Instr) where
           let e : c.place + length ca + length cr ≡ c.place + length (ca ++ cr) = omega (arith, len) in
           let na : c.place + length ca + (length cr + behind) ≡ total = omega (arith, len, eN) in
           let nr : c.place + length ca + length cr + behind ≡ total = omega (arith, len, eN) in
-          ends_at c _ _ ls total _ e (seq_run c (c.place + length ca) _ ls total _ (exec_all M rest calls n)
+          ends_at c _ _ ls total _ e (seq_run c (c.place + length ca) _ ls total _ (exec_all M gs rest calls n)
           (statement_runs a c (length cr + behind) ls total les (within_more ls behind (length cr + behind) (omega arith) w) na
           (has_front code c.place ca cr has))
           (λ r s le. statements_run rest (came c (c.place + length ca) r s) behind ls total (le_trans le les) w nr (has_back code c.place ca cr has)))

@@ -1,10 +1,13 @@
 //! Stack code.
 
-ghost use Rattle.std.specs.Prelude.{◌≡◌, ◌≤◌};
+ghost use Rattle.std.specs.Prelude.{◌≡◌, ◌≤◌, map};
+ghost use Rattle.c_model.specs.Limits.{globals_bytes};
+ghost use Rattle.mon_syntax.specs.Globals.{globals_taken};
+ghost use Rattle.mon_syntax.specs.Trees.{plain_global};
 ghost use Rattle.c_lower.specs.Sound.{IsSound, operands_of};
 
 use c_syntax::Kind;
-use mon_syntax::{MemoryCall, MonOp, MonType};
+use mon_syntax::{MemoryCall, MonGlobal, MonOp, MonType};
 
 /// One instruction of the stack machine. A jump says how many instructions it passes.
 #[derive(Clone, Copy)]
@@ -13,6 +16,8 @@ pub enum Instr {
     Push(i64),
     /// 64 more bits after those of the topmost number.
     Extend(u64),
+    /// The pointer to the start of the global or literal with this number onto the stack.
+    Global(u32),
     /// A register's value onto the stack.
     Get(u32),
     /// The topmost value into a register, where there is one of the number.
@@ -20,9 +25,15 @@ pub enum Instr {
     /// The topmost value off the stack.
     Drop,
     Binary(MonOp, MonType),
+    /// An operator of which the first operand is a pointer.
+    Pointed(MonOp),
     Minus(MonType),
     Flip(MonType),
     Cast(MonType),
+    /// The value of the type that is read at the topmost value, a pointer.
+    Load(MonType),
+    /// The topmost value is stored with its mark, as one of the type, at the pointer below it; both are taken off the stack.
+    Store(MonType),
     /// An assertion, with its number, its line and its kind: whether it is true lies above whether it is defined.
     Assert(u32, u32, Kind),
     /// The topmost number's byte is written, and stays in the number's place.
@@ -77,13 +88,13 @@ pub fn operands_of(instr: &Instr) -> Operands
     ensures most { result.given ≤ 1 }
 {
     match instr {
-        Instr::Push(_) | Instr::Get(_) | Instr::GetChar => counts(0, 1),
+        Instr::Push(_) | Instr::Global(_) | Instr::Get(_) | Instr::GetChar => counts(0, 1),
         Instr::Extend(_) | Instr::Minus(_) | Instr::Flip(_) | Instr::Cast(_) => counts(1, 1),
-        Instr::PutChar => counts(1, 1),
+        Instr::Load(_) | Instr::PutChar => counts(1, 1),
         Instr::Put(_) | Instr::Drop | Instr::PutNumber => counts(1, 0),
         Instr::Exit | Instr::SkipIfZero(_) | Instr::Return => counts(1, 0),
-        Instr::Binary(_, _) => counts(2, 1),
-        Instr::Assert(_, _, _) => counts(2, 0),
+        Instr::Binary(_, _) | Instr::Pointed(_) => counts(2, 1),
+        Instr::Store(_) | Instr::Assert(_, _, _) => counts(2, 0),
         Instr::PutByte(_) | Instr::GoOn(_) | Instr::GoBack(_) => counts(0, 0),
         Instr::Step | Instr::Fail => counts(0, 0),
         Instr::Act(_, count) | Instr::Call(_, count) => counts(*count, 1),
@@ -98,7 +109,7 @@ pub struct Entry {
 }
 
 /// The code of a program. Each instruction finds its operands, a call takes all that there are, each jump stays inside, and a
-/// jump back leads to a `Step`.
+/// jump back leads to a `Step`. The globals have room in their segment.
 #[derive(Drop)]
 pub struct Code {
     pub instrs: Vec<Instr>,
@@ -106,5 +117,8 @@ pub struct Code {
     pub entries: Vec<Entry>,
     /// The entry of `main`.
     pub main: Option<Entry>,
+    /// The globals and literals, by their numbers.
+    pub globals: Vec<MonGlobal>,
     pub ghost sound: { ∥ IsSound instrs.items entries.items main ∥₁ },
+    pub ghost room: { globals_taken (map plain_global globals.items) ≤ globals_bytes },
 }

@@ -2,11 +2,11 @@
 
 ghost use Rattle.std.specs.Prelude.{◌≡◌, ◌∷◌, ◌++◌, map, OnOk};
 ghost use Rattle.mon_syntax.specs.Trees.{plain_expr};
-ghost use Rattle.c_lower.specs.Code.{arguments_code, constant_code, expression_code};
+ghost use Rattle.c_lower.specs.Code.{arguments_code, constant_code, expression_code, operator_code};
 
 use crate::backward::Backward;
 use crate::code::Instr;
-use mon_syntax::{MonExpr, MonExprKind};
+use mon_syntax::{MonExpr, MonExprKind, MonOp, MonType};
 use std::alloc::AllocError;
 
 // A number of at most 64 bits at once, another one by its high bits and then its 64 low ones.
@@ -20,6 +20,16 @@ fn emit_constant(code: &mut Backward, z: i128) -> Result<(), AllocError>
             code.put(Instr::Extend(low))?;
             code.put(Instr::Push((z >> 64) as i64))
         }
+    }
+}
+
+// An operator, of which the first operand is a pointer or a number.
+fn operator(op: MonOp, t: MonType) -> Instr
+    ensures { result ≡ operator_code op t }
+{
+    match t {
+        MonType::Ptr => Instr::Pointed(op),
+        _ => Instr::Binary(op, t),
     }
 }
 
@@ -39,14 +49,16 @@ pub fn emit_expression(code: &mut Backward, e: &MonExpr) -> Result<(), AllocErro
 {
     match &*e.kind {
         MonExprKind::Register(r) => code.put(Instr::Get(*r)),
+        MonExprKind::Global(g) => code.put(Instr::Global(*g)),
         MonExprKind::Constant(_, z) => emit_constant(code, *z),
         MonExprKind::Binary(op, t, a, b) => {
-            emit_operand(code, b, Instr::Binary(*op, *t))?;
+            emit_operand(code, b, operator(*op, *t))?;
             emit_expression(code, a)
         }
         MonExprKind::Minus(t, a) => emit_operand(code, a, Instr::Minus(*t)),
         MonExprKind::Flip(t, a) => emit_operand(code, a, Instr::Flip(*t)),
         MonExprKind::Cast(t, a) => emit_operand(code, a, Instr::Cast(*t)),
+        MonExprKind::Load(t, a) => emit_operand(code, a, Instr::Load(*t)),
     }
 }
 

@@ -8,6 +8,7 @@ mod labels;
 
 // its lowering
 mod expressions;
+mod globals;
 mod program;
 mod simple;
 mod statements;

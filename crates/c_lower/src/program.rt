@@ -1,14 +1,17 @@
 //! Whole programs.
 
-ghost use Rattle.std.specs.Prelude.{◌≡◌, ℕ, ◌+◌, [], ◌++◌, length, map, reverse, codes, IfOk, OnOk};
-ghost use Rattle.mon_syntax.specs.Memories.{over_flat};
+ghost use Rattle.std.specs.Prelude.{◌≡◌, ℕ, ◌+◌, ◌≤◌, [], ◌++◌, length, map, reverse, codes, IfOk, OnOk};
+ghost use Rattle.c_model.specs.Limits.{globals_bytes};
+ghost use Rattle.mon_syntax.specs.FlatMemory.{over_flat};
+ghost use Rattle.mon_syntax.specs.Globals.{globals_taken};
 ghost use Rattle.mon_syntax.specs.Trees.{plain_func, plain_program};
 ghost use Rattle.c_lower.specs.Code.{entries_from, entry_at, entry_named, function_code, functions_code};
 ghost use Rattle.c_lower.specs.Entries.{entries_left, from_start};
-ghost use Rattle.c_lower.specs.Lowered.{RunsAs};
+ghost use Rattle.c_lower.specs.Lowered.{RunsAs, globals_of};
 
 use crate::backward::Backward;
 use crate::code::{Code, Entry, Instr};
+use crate::globals::copy_globals;
 use crate::labels::Labels;
 use crate::statements::emit_statements;
 use mon_syntax::{MonFunc, MonProgram};
@@ -98,14 +101,18 @@ fn written(
     Ok((code.into_code(), entries, main))
 }
 
-/// The stack code of a program, which does what the program does. Which code that is, is free.
+/// The stack code of a program, which does what the program does. Which code that is, is free. It keeps the program's globals.
 pub fn lower(alloc: Global, m: &MonProgram) -> Result<Code, AllocError>
+    requires room { globals_taken (plain_program m.now).globals ≤ globals_bytes }
+    ensures globals { IfOk result (λ code. globals_of code ≡ (plain_program m.now).globals) }
     ensures runs { IfOk result (λ code. RunsAs over_flat (plain_program m.now) code.entries.items code.main code.instrs.items) }
 {
     let (instrs, entries, main) = written(alloc, m)?;
+    let globals = copy_globals(alloc, &m.globals)?;
     Ok(Code {
         instrs,
         entries,
         main,
+        globals,
     })
 }

@@ -1,7 +1,7 @@
 //! The code of statements that hold no others.
 
 ghost use Rattle.std.specs.Prelude.{◌≡◌, ◌∷◌, [], ◌++◌, map, option_map, length, OnOk};
-ghost use Rattle.mon_syntax.specs.Trees.{Act, Assert, Call, GetChar, Goto, PrintText, PutChar, Return, plain_expr};
+ghost use Rattle.mon_syntax.specs.Trees.{Act, Assert, Call, GetChar, Goto, PrintText, PutChar, Return, Store, plain_expr};
 ghost use Rattle.c_lower.specs.Code.{result_code, statement_code};
 ghost use Rattle.c_lower.specs.Labels.{open_labels};
 
@@ -10,8 +10,16 @@ use crate::code::Instr;
 use crate::expressions::{emit_arguments, emit_expression, emit_operand};
 use crate::labels::{Labels, behind_label};
 use c_syntax::Kind;
-use mon_syntax::{MemoryCall, MonExpr};
+use mon_syntax::{MemoryCall, MonExpr, MonType};
 use std::alloc::AllocError;
+
+/// `*(t *)R = e;` with its mark.
+pub fn emit_store(code: &mut Backward, r: u32, t: MonType, e: &MonExpr) -> Result<(), AllocError>
+    ensures { OnOk result (code.new ≡ statement_code (Store r t (plain_expr e.now)) 0 [] ++ code.old) }
+{
+    emit_operand(code, e, Instr::Store(t))?;
+    code.put(Instr::Get(r))
+}
 
 /// `__e_acsl_assert(d, v, number, line, kind);`
 pub fn emit_assert(

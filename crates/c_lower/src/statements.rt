@@ -13,7 +13,7 @@ use crate::expressions::{emit_expression, emit_operand};
 use crate::labels::Labels;
 use crate::simple::{
     emit_act, emit_assert, emit_call, emit_get_char, emit_goto, emit_put_char, emit_return,
-    emit_text,
+    emit_store, emit_text,
 };
 use mon_syntax::{MonExpr, MonStmt, MonStmtKind};
 use std::alloc::AllocError;
@@ -107,6 +107,7 @@ fn emit_statement(code: &mut Backward, s: &MonStmt, labels: &Labels<'_>) -> Resu
 {
     match &*s.kind {
         MonStmtKind::Set(r, e) => emit_operand(code, e, Instr::Put(*r)),
+        MonStmtKind::Store(r, t, e) => emit_store(code, *r, *t, e),
         MonStmtKind::Step => code.put(Instr::Step),
         MonStmtKind::Assert(d, v, number, line, kind) => {
             emit_assert(code, d, v, *number, *line, *kind)

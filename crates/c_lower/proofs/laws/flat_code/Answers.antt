@@ -1,4 +1,4 @@
-use Rattle.mon_syntax.specs.Memories.{over_flat}
+use Rattle.mon_syntax.specs.FlatMemory.{over_flat}
 use Rattle.c_lower.proofs.Courses.{over_once, writing_begins}
 use Rattle.c_lower.proofs.laws.flat_code.Goals as goal
 
