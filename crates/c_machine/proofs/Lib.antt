@@ -6,11 +6,12 @@ pub mod Operands
 pub mod Depths
 pub mod States
 pub mod Taken
-pub mod Stored
 -- instructions
 pub mod Moves
 pub mod Writes
 pub mod Acted
+pub mod Beginnings
+pub mod Pointing
 pub mod Calling
 pub mod Kept
 -- runs

@@ -1,5 +1,5 @@
 pub mod Rare
-pub mod Blocks
+pub mod Replies
 pub mod Inputs
 pub mod Reading
 pub mod Held

@@ -1,23 +1,25 @@
 //! Calls of the runtime on the memory.
 
-ghost use Rattle.std.specs.Prelude.{◌≡◌, ◌<◌, ◌^◌, List};
-ghost use Rattle.c_lower.specs.declared.code.Entry as entry;
+ghost use Rattle.std.specs.Prelude.{◌≡◌, ◌<◌, ◌^◌, true};
 ghost use Rattle.c_machine.specs.Acts.{Acts, ended_by};
-ghost use Rattle.c_machine.specs.Held.{IsFit};
+ghost use Rattle.c_machine.specs.Held.{IsFit, Links};
 ghost use Rattle.c_machine.specs.Reading.{Ports};
+ghost use Rattle.c_machine.specs.Replies.{takes_one};
 
 use crate::machine::{Cursor, Machine};
+use crate::memory::act;
 use crate::stop::Stop;
 use c_lower::Instr;
 use mon_syntax::MemoryCall;
 
 impl Machine {
-    /// `Act`. Each call has one argument.
+    /// `Act` of a call that has one argument.
     #[inline(never)]
     pub fn act(&mut self, f: MemoryCall, count: usize, stop: &mut Stop) -> bool
+        requires one { takes_one f ≡ true }
         requires fit { IsFit self.old.cursor self.old }
         requires place { self.old.cursor.place < 2 ^ 63 }
-        ensures { (es : List entry.Entry) (ports : Ports) → Acts es (Instr.Act f count) self.old.cursor self.old self.new.cursor self.new ports ports
+        ensures { (links : Links) (ports : Ports) → Acts links (Instr.Act f count) self.old.cursor self.old self.new.cursor self.new ports ports
             (ended_by result stop.new) }
     {
         if count != 1 {
@@ -26,7 +28,7 @@ impl Machine {
         }
         let mut cursor = self.cursor;
         match cursor.pop(self) {
-            Some(z) => match self.memory.act(f, z) {
+            Some(z) => match act(&mut self.memory, f, z) {
                 Ok(value) => {
                     cursor.give(self, value);
                     self.cursor = cursor;
@@ -45,7 +47,7 @@ impl Machine {
     }
 }
 
-// The same from a cursor that is apart from the machine.
+// The same from a cursor that is apart from the machine; a question is answered there.
 impl Cursor {
     /// `Act`
     #[inline(always)]
@@ -58,7 +60,30 @@ impl Cursor {
     ) -> bool
         requires fit { IsFit self.old machine.old }
         requires place { self.old.place < 2 ^ 63 }
-        ensures { (es : List entry.Entry) (ports : Ports) → Acts es (Instr.Act f count) self.old machine.old self.new machine.new ports ports
+        ensures { (links : Links) (ports : Ports) → Acts links (Instr.Act f count) self.old machine.old self.new machine.new ports ports
+            (ended_by result stop.new) }
+    {
+        match f {
+            MemoryCall::Number(size) => self.ask(size, count, machine, stop),
+            MemoryCall::StoreBlock | MemoryCall::DeleteBlock => {
+                self.change(f, count, machine, stop)
+            }
+        }
+    }
+
+    // `Act` of a call that has one argument, out of line.
+    #[inline(always)]
+    fn change(
+        &mut self,
+        f: MemoryCall,
+        count: usize,
+        machine: &mut Machine,
+        stop: &mut Stop,
+    ) -> bool
+        requires one { takes_one f ≡ true }
+        requires fit { IsFit self.old machine.old }
+        requires place { self.old.place < 2 ^ 63 }
+        ensures { (links : Links) (ports : Ports) → Acts links (Instr.Act f count) self.old machine.old self.new machine.new ports ports
             (ended_by result stop.new) }
     {
         machine.cursor = *self;

@@ -11,6 +11,7 @@ pub mod stop;
 mod arithmetic;
 mod blocks;
 mod calls;
+mod pointers;
 mod quiet;
 mod reading;
 mod turn;

@@ -3,7 +3,7 @@
 ghost use Rattle.std.specs.Prelude.{◌≡◌, ◌+◌, ◌^◌, ◌≤◌, ◌<◌, ◌∷◌, [], length, slice_set, MatchOption};
 ghost use Rattle.c_machine.specs.Held.{from_top, IsFit, Goes};
 
-use crate::memory::Memory;
+use block_runtime::Runtime;
 
 /// Where a call goes back to, and where the registers of the call that made it begin.
 #[derive(Clone, Copy)]
@@ -35,7 +35,7 @@ pub struct Machine {
     /// The calls that wait for another, that of `main` first.
     pub callers: Vec<Caller>,
     /// The memory, with the frames of the active calls.
-    pub memory: Memory,
+    pub memory: Runtime,
     /// How many operands the code of a call needs.
     pub deepest: usize,
     /// Where the machine stands, for an instruction that is done out of line.

@@ -1,17 +1,29 @@
-//! The flat memory of a run: its room, and the blocks that live in it.
+//! The flat memory of a run: how it begins, and what instructions do with values as pointers.
 
-ghost use Rattle.std.specs.Prelude.{◌≡◌, ℕ, ◌-◌, ◌<◌, min, [], ◌∷◌, true, false, pos, if◌then◌else◌, IfOk, MatchResult};
-ghost use Rattle.mon_syntax.specs.Memory.{Gives, Faults};
-ghost use Rattle.mon_syntax.specs.Memories.{act_on_flat, delete_flat, enter_flat, flat_block, flat_start, full_at_flat_birth, store_flat};
-ghost use Rattle.c_machine.specs.Blocks.{EntersBy, RefusesBirth, Replies, makes_block};
+ghost use Rattle.std.specs.Prelude.{◌≡◌, ℕ, ◌+◌, ◌≤◌, ◌<◌, [], ◌∷◌, pos, IfOk, OnOk, length, map};
+ghost use Rattle.c_model.specs.Integers.{truth};
+ghost use Rattle.c_model.specs.Limits.{globals_bytes};
+ghost use Rattle.c_model.specs.Memory.{greatest_number, rounded};
+ghost use Rattle.mon_syntax.specs.declared.spot.RegionName.TheVariants as region;
+ghost use Rattle.mon_syntax.specs.Arithmetic as spec;
+ghost use Rattle.mon_syntax.specs.Flat.{Flat, flat_number, pointer_to};
+ghost use Rattle.mon_syntax.specs.FlatMemory.{act_on_flat, begun_with, farther, flat_nothing, flat_start, load_flat, over_flat, pointed_flat, pointer_in};
+ghost use Rattle.mon_syntax.specs.Globals.{globals_taken, size_of_global};
+ghost use Rattle.mon_syntax.specs.Memory.{Gives};
+ghost use Rattle.mon_syntax.specs.Trees.{plain_global};
+ghost use Rattle.c_machine.specs.Replies.{Replies, Stores, stop_by};
 
+use crate::arithmetic::wrap;
 use crate::stop::Stop;
+use block_runtime::address::address_of;
+use block_runtime::{RunFault, Runtime};
 use c_model::limits::{GLOBALS_BYTES, HEAP_BYTES, MOST_FRAMES, STACK_BYTES};
-use c_syntax::{BlockKind, Segment};
-use flat_mem::{BirthFault, FlatMem, Sizes};
-use mon_syntax::MemoryCall;
+use c_syntax::BlockKind;
+use flat_mem::Sizes;
+use mon_syntax::{
+    AccessSize, GlobalContent, MemoryCall, MonGlobal, MonOp, MonType, access_bytes, byte_count,
+};
 use std::alloc::{AllocError, Global};
-use std::marker::Model;
 
 // The sizes of the standard profile.
 const SIZES: Sizes = Sizes {
@@ -21,150 +33,250 @@ const SIZES: Sizes = Sizes {
     frames: MOST_FRAMES,
 };
 
-/// A block that lives on the stack: its number, and its size in bytes.
-#[derive(Clone, Copy)]
-pub struct LiveBlock {
-    number: u32,
-    size: u64,
-}
-
-/// The room that is taken, and the live blocks that take the stack.
-#[derive(Drop)]
-pub struct Memory {
-    room: FlatMem,
-    // The youngest last.
-    live: Vec<LiveBlock>,
-}
-
-impl Model for Memory {
-    ghost use Rattle.std.specs.Prelude.{◌≡◌};
-    ghost use Rattle.mon_syntax.specs.Memories.{Flat, taken_by};
-    ghost use Rattle.c_machine.specs.Blocks.{profile, youngest_first};
-
-    ghost Value = { Flat };
-
-    ghost view = { λ m. record { frames = m.room.frames; births = m.room.births; live = youngest_first m.live.items } };
-
-    ghost invariant = { λ m. (m.room.sizes ≡ profile) × (m.room.taken ≡ taken_by (youngest_first m.live.items)) };
-}
-
-// A size as a length of 64 bits: the greatest one where it is greater.
-fn length_of(size: i128) -> u64
-    ensures { (n : ℕ) → size ≡ pos n → result ≡ min n 18446744073709551615 }
+/// How a run ends where the memory refuses.
+pub fn stop_by(fault: RunFault) -> Stop
+    ensures { result ≡ stop_by fault }
 {
-    if size >= 18_446_744_073_709_551_615 {
-        return 18_446_744_073_709_551_615;
+    match fault {
+        RunFault::Full(segment) => Stop::Full(segment),
+        RunFault::Fault => Stop::Fault,
     }
-    if size < 0 {
-        return 0;
-    }
-    size as u64
 }
 
-impl Memory {
-    // Nothing is taken.
-    fn new(alloc: Global) -> Result<Memory, AllocError>
-        ensures { IfOk result (λ memory. memory ≡ flat_start) }
-    {
-        Ok(Memory {
-            room: FlatMem::new(alloc, SIZES, 0)?,
-            live: Vec::new(alloc),
-        })
-    }
+// ---- how it begins
 
-    /// The memory in which a run begins, with the frame of `main`.
-    pub fn begun(alloc: Global) -> Result<Memory, AllocError>
-        ensures { IfOk result (λ memory. enter_flat flat_start ≡ Gives (pos 0) memory) }
-    {
-        let mut memory = Memory::new(alloc)?;
-        match memory.enter() {
-            Ok(()) => Ok(memory),
-            Err(_) => Err(AllocError),
+// The birth of a global or a literal: the pointer to its start.
+fn begin_global(memory: &mut Runtime, global: &MonGlobal) -> u64
+    requires number { memory.old.births < greatest_number }
+    requires room { memory.old.placed + rounded (size_of_global (plain_global global.now)) ≤ length memory.old.globals.bytes }
+    ensures start { result ≡ pointer_to (memory.old.births + 1) region.Globals memory.old.placed }
+    ensures memory { memory.new ≡ begun_with memory.old (plain_global global.now) }
+{
+    let born = match &global.content {
+        GlobalContent::Zeros(n) => memory.begin(BlockKind::Global, u64::from(*n), &[]),
+        GlobalContent::Literal(bytes) => {
+            let bytes = bytes.bytes();
+            memory.begin(BlockKind::Literal, bytes.len() as u64 + 1, bytes)
+        }
+    };
+    match born {
+        Ok(start) => start,
+        Err(_) => 0,
+    }
+}
+
+// The births of all globals, in an empty memory, with the pointers to their starts, and the frame of `main`.
+fn begin_globals(
+    memory: &mut Runtime,
+    starts: &mut Vec<i128>,
+    globals: &[MonGlobal],
+) -> Result<(), AllocError>
+    requires nothing { memory.old ≡ flat_nothing }
+    requires none { starts.old.items ≡ [] }
+    requires room { globals_taken (map plain_global globals.now) ≤ globals_bytes }
+    ensures memory { OnOk result (over_flat.enter (flat_start (map plain_global globals.now)) ≡ Gives (pos 0) memory.new) }
+    ensures starts { OnOk result (starts.new.items ≡ over_flat.starts (map plain_global globals.now)) }
+{
+    for global in globals {
+        let start = begin_global(memory, global);
+        starts.push(i128::from(start))?;
+    }
+    match memory.enter_frame() {
+        Ok(()) => Ok(()),
+        Err(_) => Err(AllocError),
+    }
+}
+
+/// The memory in which a run begins that has these globals, with the frame of `main`, and the pointers to the globals' starts.
+pub fn begun(alloc: Global, globals: &[MonGlobal]) -> Result<(Runtime, Vec<i128>), AllocError>
+    requires { globals_taken (map plain_global globals.now) ≤ globals_bytes }
+    ensures memory { IfOk result (λ begun. over_flat.enter (flat_start (map plain_global globals.now)) ≡ Gives (pos 0) begun.0) }
+    ensures starts { IfOk result (λ begun. begun.1.items ≡ over_flat.starts (map plain_global globals.now)) }
+{
+    let mut starts = Vec::new(alloc);
+    let mut memory = Runtime::new(alloc, SIZES)?;
+    match begin_globals(&mut memory, &mut starts, globals) {
+        Ok(()) => Ok((memory, starts)),
+        Err(fault) => {
+            drop(memory);
+            Err(fault)
         }
     }
+}
 
-    /// One more call is active, where there is a frame for it.
-    pub fn enter(&mut self) -> Result<(), Segment>
-        ensures { EntersBy (enter_flat self.old) self.new result }
-    {
-        self.room.enter_frame()
+// ---- values in memory
+
+/// The lowest bits of a value, as many as the type has.
+#[inline(always)]
+pub fn lowest_bits(t: MonType, z: i128) -> u128
+    ensures { result ≡ spec.lowest_bits t z }
+{
+    let bits = z.cast_unsigned();
+    match t {
+        MonType::I8 | MonType::U8 => bits % (1 << 8),
+        MonType::I16 | MonType::U16 => bits % (1 << 16),
+        MonType::I32 | MonType::U32 => bits % (1 << 32),
+        MonType::I64 | MonType::U64 | MonType::Ptr => bits % (1 << 64),
+        MonType::I128 => bits,
     }
+}
 
-    /// The end of an active call.
-    pub fn leave(&mut self)
-        ensures { self.new ≡ record self.old { frames = self.old.frames - 1 } }
-    {
-        self.room.leave_frame();
+/// A value as a pointer.
+#[inline(always)]
+pub fn pointer_in(z: i128) -> u64
+    ensures { result ≡ pointer_in z }
+{
+    lowest_bits(MonType::Ptr, z) as u64
+}
+
+#[inline(always)]
+fn is_pointer(t: MonType) -> bool
+    ensures { result ≡ spec.is_pointer t }
+{
+    t == MonType::Ptr
+}
+
+#[inline(always)]
+fn load_as(memory: &Runtime, t: MonType, p: i128) -> Option<i128>
+    ensures { result ≡ load_flat t p memory.now }
+{
+    match memory.load(pointer_in(p), byte_count(t)) {
+        Ok(bits) => Some(wrap(t, bits.cast_signed())),
+        Err(_) => None,
     }
+}
 
-    // The birth of a block of so many bytes: a pointer to its start.
-    fn birth(&mut self, size: u64) -> Result<u64, BirthFault>
-        ensures { MatchResult result
-            (λ p. flat_block (full_at_flat_birth self.old size) size self.old ≡ Gives (pos p) self.new)
-            (RefusesBirth self.old size) }
-    {
-        if self.live.reserve(1).is_err() {
-            return Err(BirthFault::Memory);
-        }
-        let start = self.room.birth(BlockKind::Stack, size)?;
-        let block = LiveBlock {
-            number: (start >> 32) as u32,
-            size,
-        };
-        match self.live.push(block) {
-            Ok(()) => Ok(start),
-            Err(_) => Err(BirthFault::Memory),
-        }
+/// The value of the type that is read at a pointer.
+#[inline(always)]
+pub fn load(memory: &Runtime, t: MonType, p: i128) -> Option<i128>
+    ensures { result ≡ load_flat t p memory.now }
+{
+    // A type that is known chooses nothing more: its width and its sign are numbers.
+    match t {
+        MonType::I8 => load_as(memory, MonType::I8, p),
+        MonType::U8 => load_as(memory, MonType::U8, p),
+        MonType::I16 => load_as(memory, MonType::I16, p),
+        MonType::U16 => load_as(memory, MonType::U16, p),
+        MonType::I32 => load_as(memory, MonType::I32, p),
+        MonType::U32 => load_as(memory, MonType::U32, p),
+        MonType::I64 => load_as(memory, MonType::I64, p),
+        MonType::U64 => load_as(memory, MonType::U64, p),
+        MonType::I128 => load_as(memory, MonType::I128, p),
+        MonType::Ptr => load_as(memory, MonType::Ptr, p),
     }
+}
 
-    // The death of the youngest live block, where this is the pointer to its start.
-    fn death(&mut self, pointer: i128) -> bool
-        ensures { delete_flat (pointer ∷ []) self.old ≡ (if result then Gives (pos 0) self.new else Faults) }
-    {
-        let block = match self.live.last() {
-            Some(block) => *block,
-            None => return false,
-        };
-        let base = self.room.stack_end() - (block.size / 16 + 1) as u32 * 16;
-        if pointer != i128::from((u64::from(block.number) << 32) + u64::from(base)) {
-            return false;
-        }
-        self.room.death(base);
-        self.live.pop();
-        true
+#[inline(always)]
+fn store_as(memory: &mut Runtime, t: MonType, p: i128, z: i128) -> bool
+    ensures { Stores result t p z memory.old memory.new }
+{
+    let width = byte_count(t);
+    match memory.store(pointer_in(p), width, lowest_bits(t, z), is_pointer(t)) {
+        Ok(()) => true,
+        Err(_) => false,
     }
+}
 
-    // `__e_acsl_store_block(size)`
-    fn store_block(&mut self, size: i128) -> Result<i128, Stop>
-        ensures { Replies true (store_flat (size ∷ []) self.old) self.new result }
-    {
-        if size < 0 {
-            return Err(Stop::Fault);
-        }
-        match self.birth(length_of(size)) {
-            Ok(start) => Ok(i128::from(start)),
-            Err(BirthFault::Full(segment)) => Err(Stop::Full(segment)),
-            Err(BirthFault::Memory) => Err(Stop::OutOfMemory),
-        }
+// The same of the types that are stored less often, out of line: within the loop over instructions it would be too long.
+#[inline(never)]
+fn store_rarely(memory: &mut Runtime, t: MonType, p: i128, z: i128) -> bool
+    ensures { Stores result t p z memory.old memory.new }
+{
+    match t {
+        MonType::I8 => store_as(memory, MonType::I8, p, z),
+        MonType::U8 => store_as(memory, MonType::U8, p, z),
+        MonType::I16 => store_as(memory, MonType::I16, p, z),
+        MonType::U16 => store_as(memory, MonType::U16, p, z),
+        MonType::U32 => store_as(memory, MonType::U32, p, z),
+        MonType::U64 => store_as(memory, MonType::U64, p, z),
+        _ => store_as(memory, t, p, z),
     }
+}
 
-    // `__e_acsl_delete_block(pointer)`
-    fn delete_block(&mut self, pointer: i128) -> Result<i128, Stop>
-        ensures { Replies false (delete_flat (pointer ∷ []) self.old) self.new result }
-    {
-        if self.death(pointer) {
-            return Ok(0);
-        }
-        Err(Stop::Fault)
+/// Stores a value as one of the type at a pointer, with its mark. `false` where it can't be, and then the memory stays.
+#[inline(always)]
+pub fn store(memory: &mut Runtime, t: MonType, p: i128, z: i128) -> bool
+    ensures { Stores result t p z memory.old memory.new }
+{
+    match t {
+        MonType::I32 => store_as(memory, MonType::I32, p, z),
+        MonType::I64 => store_as(memory, MonType::I64, p, z),
+        MonType::Ptr => store_as(memory, MonType::Ptr, p, z),
+        _ => store_rarely(memory, t, p, z),
     }
+}
 
-    /// A call of the runtime with one argument.
-    pub fn act(&mut self, f: MemoryCall, argument: i128) -> Result<i128, Stop>
-        ensures { Replies (makes_block f) (act_on_flat f (argument ∷ []) self.old) self.new result }
-    {
-        match f {
-            MemoryCall::StoreBlock => self.store_block(argument),
-            MemoryCall::DeleteBlock => self.delete_block(argument),
-        }
+// ---- operators on pointers
+
+// A pointer so many bytes farther: its address wraps.
+fn farther(p: u64, d: i128) -> i128
+    ensures { result ≡ pos (farther p d) }
+{
+    let address = i128::from(address_of(p));
+    let upper = i128::from(p) - address;
+    upper + wrap(MonType::U32, address.wrapping_add(d))
+}
+
+/// An operator of which the first operand is a pointer.
+pub fn pointed(op: MonOp, x: i128, y: i128) -> Option<i128>
+    ensures { (f : Flat) → result ≡ pointed_flat op x y f }
+{
+    let p = pointer_in(x);
+    let q = pointer_in(y);
+    match op {
+        MonOp::Add => Some(farther(p, y)),
+        MonOp::Sub => Some(i128::from(address_of(p)) - i128::from(address_of(q))),
+        MonOp::Eq => Some(i128::from(p == q)),
+        MonOp::Ne => Some(i128::from(p != q)),
+        MonOp::Lt => Some(i128::from(address_of(p) < address_of(q))),
+        MonOp::Le => Some(i128::from(address_of(p) <= address_of(q))),
+        MonOp::Gt => Some(i128::from(address_of(p) > address_of(q))),
+        MonOp::Ge => Some(i128::from(address_of(p) >= address_of(q))),
+        MonOp::Mul | MonOp::Div | MonOp::Rem | MonOp::Shl | MonOp::Shr => None,
+        MonOp::And | MonOp::Or | MonOp::Xor => None,
+    }
+}
+
+// ---- calls of the runtime
+
+/// `__e_acsl_number(p, o, size)`, out of line: within the loop over instructions it would take the registers of the processor from them.
+#[inline(never)]
+pub fn number(memory: &Runtime, size: AccessSize, p: i128, o: i128) -> i128
+    ensures { result ≡ truth (flat_number memory.now (pointer_in p) o (spec.access_bytes size)) }
+{
+    match memory.number(pointer_in(p), o, access_bytes(size) as u64) {
+        Ok(answer) => i128::from(answer),
+        Err(_) => 0,
+    }
+}
+
+// `__e_acsl_store_block(size)`
+fn store_block(memory: &mut Runtime, size: i128) -> Result<i128, Stop>
+    ensures { Replies (act_on_flat MemoryCall.StoreBlock (size ∷ []) memory.old) memory.new result }
+{
+    match memory.store_block(lowest_bits(MonType::U64, size) as u64) {
+        Ok(start) => Ok(i128::from(start)),
+        Err(fault) => Err(stop_by(fault)),
+    }
+}
+
+// `__e_acsl_delete_block(pointer)`
+fn delete_block(memory: &mut Runtime, pointer: i128) -> Result<i128, Stop>
+    ensures { Replies (act_on_flat MemoryCall.DeleteBlock (pointer ∷ []) memory.old) memory.new result }
+{
+    match memory.delete_block(pointer_in(pointer)) {
+        Ok(()) => Ok(0),
+        Err(fault) => Err(stop_by(fault)),
+    }
+}
+
+/// A call of the runtime with one argument.
+pub fn act(memory: &mut Runtime, f: MemoryCall, argument: i128) -> Result<i128, Stop>
+    ensures { Replies (act_on_flat f (argument ∷ []) memory.old) memory.new result }
+{
+    match f {
+        MemoryCall::StoreBlock => store_block(memory, argument),
+        MemoryCall::DeleteBlock => delete_block(memory, argument),
+        MemoryCall::Number(_) => Err(Stop::Fault),
     }
 }

@@ -2,9 +2,8 @@
 
 ghost use Rattle.std.specs.Prelude.{◌≡◌, ◌<◌, ◌^◌, List, false};
 ghost use Rattle.ea_ports.specs.Buffered.{Port};
-ghost use Rattle.c_lower.specs.declared.code.Entry as entry;
 ghost use Rattle.c_machine.specs.Acts.{Acts, ended_by};
-ghost use Rattle.c_machine.specs.Held.{IsFit};
+ghost use Rattle.c_machine.specs.Held.{IsFit, Links};
 ghost use Rattle.c_machine.specs.Reading.{Reads, feed_of, ports_of};
 
 use crate::machine::{Cursor, Machine};
@@ -56,7 +55,7 @@ impl Machine {
     ) -> bool
         requires fit { IsFit self.old.cursor self.old }
         requires place { self.old.cursor.place < 2 ^ 63 }
-        ensures { (es : List entry.Entry) (port : Port) → Acts es Instr.GetChar self.old.cursor self.old self.new.cursor self.new
+        ensures { (links : Links) (port : Port) → Acts links Instr.GetChar self.old.cursor self.old self.new.cursor self.new
             (ports_of (feed_of (I.left input.old) (I.faults input.old) reader.old.ended) port)
             (ports_of (feed_of (I.left input.new) (I.faults input.new) reader.new.ended) port) (ended_by result stop.new) }
     {
@@ -92,7 +91,7 @@ impl Cursor {
     ) -> bool
         requires fit { IsFit self.old machine.old }
         requires place { self.old.place < 2 ^ 63 }
-        ensures { (es : List entry.Entry) (port : Port) → Acts es Instr.GetChar self.old machine.old self.new machine.new
+        ensures { (links : Links) (port : Port) → Acts links Instr.GetChar self.old machine.old self.new machine.new
             (ports_of (feed_of (I.left input.old) (I.faults input.old) reader.old.ended) port)
             (ports_of (feed_of (I.left input.new) (I.faults input.new) reader.new.ended) port) (ended_by result stop.new) }
     {

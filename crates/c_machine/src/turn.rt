@@ -4,7 +4,7 @@ ghost use Rattle.std.specs.Prelude.{◌≡◌, ℕ, ◌<◌, ◌^◌};
 ghost use Rattle.ea_ports.specs.Buffered.{port_of};
 ghost use Rattle.c_lower.specs.Sound.{target};
 ghost use Rattle.c_machine.specs.Acts.{Acts, ended_by};
-ghost use Rattle.c_machine.specs.Held.{IsFit};
+ghost use Rattle.c_machine.specs.Held.{IsFit, links_of};
 ghost use Rattle.c_machine.specs.Reading.{feed_of, ports_of};
 
 use crate::machine::{Cursor, Machine};
@@ -19,6 +19,7 @@ impl Cursor {
     pub fn turn<I: Source, O: Sink>(
         &mut self,
         instr: &Instr,
+        globals: &[i128],
         entries: &[Entry],
         machine: &mut Machine,
         reader: &mut Reader,
@@ -30,7 +31,7 @@ impl Cursor {
         requires fit { IsFit self.old machine.old }
         requires place { self.old.place < 2 ^ 63 }
         requires jumps { (to : ℕ) → target self.old.place instr.now ≡ Some to → to < 2 ^ 63 }
-        ensures { Acts entries.now instr.now self.old machine.old self.new machine.new
+        ensures { Acts (links_of globals.now entries.now) instr.now self.old machine.old self.new machine.new
             (ports_of (feed_of (I.left input.old) (I.faults input.old) reader.old.ended) (port_of (O.told out.old) waiting.old (O.faults out.old)))
             (ports_of (feed_of (I.left input.new) (I.faults input.new) reader.new.ended) (port_of (O.told out.new) waiting.new (O.faults out.new)))
             (ended_by result stop.new) }
@@ -38,13 +39,17 @@ impl Cursor {
         match instr {
             Instr::Push(z) => self.push_number(*z, machine, stop),
             Instr::Extend(low) => self.extend(*low, machine, stop),
+            Instr::Global(g) => self.global(*g, globals, machine, stop),
             Instr::Get(r) => self.get(*r, machine, stop),
             Instr::Put(r) => self.put(*r, machine, stop),
             Instr::Drop => self.drop_top(machine, stop),
             Instr::Binary(op, t) => self.binary(*op, *t, machine, stop),
+            Instr::Pointed(op) => self.point(*op, machine, stop),
             Instr::Minus(t) => self.negate(*t, machine, stop),
             Instr::Flip(t) => self.flip_bits(*t, machine, stop),
             Instr::Cast(t) => self.cast(*t, machine, stop),
+            Instr::Load(t) => self.load(*t, machine, stop),
+            Instr::Store(t) => self.store(*t, machine, stop),
             Instr::Assert(number, line, kind) => self.judge(*number, *line, *kind, machine, stop),
             Instr::PutChar => self.put_char(machine, waiting, out, stop),
             Instr::PutByte(byte) => self.put_byte(*byte, machine, waiting, out, stop),
@@ -57,7 +62,7 @@ impl Cursor {
             Instr::GoBack(n) => self.go_back(*n, machine, stop),
             Instr::Step => self.step(machine, stop),
             Instr::Call(function, count) => self.call(*function, *count, entries, machine, stop),
-            Instr::Return => self.give_back(entries, machine, stop),
+            Instr::Return => self.give_back(machine, stop),
             Instr::Fail => {
                 *stop = Stop::Fault;
                 false

@@ -2,9 +2,8 @@
 
 ghost use Rattle.std.specs.Prelude.{◌≡◌, ◌<◌, ◌^◌, List};
 ghost use Rattle.ea_ports.specs.Buffered.{port_of};
-ghost use Rattle.c_lower.specs.declared.code.Entry as entry;
 ghost use Rattle.c_machine.specs.Acts.{Acts, ended_by, stop_of};
-ghost use Rattle.c_machine.specs.Held.{IsFit};
+ghost use Rattle.c_machine.specs.Held.{IsFit, Links};
 ghost use Rattle.c_machine.specs.Reading.{Feed, ports_of};
 
 use crate::arithmetic::low_byte;
@@ -35,7 +34,7 @@ impl Machine {
     ) -> bool
         requires fit { IsFit self.old.cursor self.old }
         requires place { self.old.cursor.place < 2 ^ 63 }
-        ensures { (es : List entry.Entry) (feed : Feed) → Acts es (Instr.PutByte byte) self.old.cursor self.old self.new.cursor self.new
+        ensures { (links : Links) (feed : Feed) → Acts links (Instr.PutByte byte) self.old.cursor self.old self.new.cursor self.new
             (ports_of feed (port_of (O.told out.old) waiting.old (O.faults out.old))) (ports_of feed (port_of (O.told out.new) waiting.new (O.faults out.new)))
             (ended_by result stop.new) }
     {
@@ -56,7 +55,7 @@ impl Machine {
     pub fn put_char<O: Sink>(&mut self, waiting: &mut Buffer, out: &mut O, stop: &mut Stop) -> bool
         requires fit { IsFit self.old.cursor self.old }
         requires place { self.old.cursor.place < 2 ^ 63 }
-        ensures { (es : List entry.Entry) (feed : Feed) → Acts es Instr.PutChar self.old.cursor self.old self.new.cursor self.new
+        ensures { (links : Links) (feed : Feed) → Acts links Instr.PutChar self.old.cursor self.old self.new.cursor self.new
             (ports_of feed (port_of (O.told out.old) waiting.old (O.faults out.old))) (ports_of feed (port_of (O.told out.new) waiting.new (O.faults out.new)))
             (ended_by result stop.new) }
     {
@@ -93,7 +92,7 @@ impl Machine {
     ) -> bool
         requires fit { IsFit self.old.cursor self.old }
         requires place { self.old.cursor.place < 2 ^ 63 }
-        ensures { (es : List entry.Entry) (feed : Feed) → Acts es Instr.PutNumber self.old.cursor self.old self.new.cursor self.new
+        ensures { (links : Links) (feed : Feed) → Acts links Instr.PutNumber self.old.cursor self.old self.new.cursor self.new
             (ports_of feed (port_of (O.told out.old) waiting.old (O.faults out.old))) (ports_of feed (port_of (O.told out.new) waiting.new (O.faults out.new)))
             (ended_by result stop.new) }
     {
@@ -135,7 +134,7 @@ impl Cursor {
     ) -> bool
         requires fit { IsFit self.old machine.old }
         requires place { self.old.place < 2 ^ 63 }
-        ensures { (es : List entry.Entry) (feed : Feed) → Acts es (Instr.PutByte byte) self.old machine.old self.new machine.new
+        ensures { (links : Links) (feed : Feed) → Acts links (Instr.PutByte byte) self.old machine.old self.new machine.new
             (ports_of feed (port_of (O.told out.old) waiting.old (O.faults out.old))) (ports_of feed (port_of (O.told out.new) waiting.new (O.faults out.new)))
             (ended_by result stop.new) }
     {
@@ -156,7 +155,7 @@ impl Cursor {
     ) -> bool
         requires fit { IsFit self.old machine.old }
         requires place { self.old.place < 2 ^ 63 }
-        ensures { (es : List entry.Entry) (feed : Feed) → Acts es Instr.PutChar self.old machine.old self.new machine.new
+        ensures { (links : Links) (feed : Feed) → Acts links Instr.PutChar self.old machine.old self.new machine.new
             (ports_of feed (port_of (O.told out.old) waiting.old (O.faults out.old))) (ports_of feed (port_of (O.told out.new) waiting.new (O.faults out.new)))
             (ended_by result stop.new) }
     {
@@ -177,7 +176,7 @@ impl Cursor {
     ) -> bool
         requires fit { IsFit self.old machine.old }
         requires place { self.old.place < 2 ^ 63 }
-        ensures { (es : List entry.Entry) (feed : Feed) → Acts es Instr.PutNumber self.old machine.old self.new machine.new
+        ensures { (links : Links) (feed : Feed) → Acts links Instr.PutNumber self.old machine.old self.new machine.new
             (ports_of feed (port_of (O.told out.old) waiting.old (O.faults out.old))) (ports_of feed (port_of (O.told out.new) waiting.new (O.faults out.new)))
             (ended_by result stop.new) }
     {

@@ -1,6 +1,4 @@
-use Rattle.c_lower.specs.declared.code.Instr.TheVariants as instr
-use Rattle.c_machine.proofs.Kept.{acts_kept}
 use Rattle.c_machine.proofs.machine.Cursor.act.Goals as goal
 
-pub returns : goal.returns
-returns c es ports = acts_kept es (instr.Act c.args.f c.args.count) c.args.self.now c.args.machine.now c.args.self.now _ _ _ _ _ (c.act-goes_on.ensures es ports)
+pub returns-in-Number : goal.returns-in-Number
+returns-in-Number c links ports = rw c.in-Number.is (c.ask.ensures links ports)

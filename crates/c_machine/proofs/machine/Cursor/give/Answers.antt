@@ -3,7 +3,7 @@ use Rattle.std.specs.Int.{w128}
 use Rattle.std.proofs.lemmas.Int.{to_z-of_z}
 use Rattle.std.proofs.lemmas.List.{length-set}
 use Rattle.c_lower.specs.Machine.{at_with}
-use Rattle.mon_syntax.specs.Memories.{over_flat}
+use Rattle.mon_syntax.specs.FlatMemory.{over_flat}
 use Rattle.c_machine.specs.Held.{from_top, machine_of}
 use Rattle.c_machine.proofs.Operands.{from_top-push}
 use Rattle.c_machine.proofs.machine.Cursor.give.Goals as goal

@@ -3,4 +3,4 @@ use Rattle.c_machine.proofs.Kept.{acts_kept}
 use Rattle.c_machine.proofs.machine.Cursor.put_number.Goals as goal
 
 pub returns : goal.returns
-returns g c es feed = acts_kept es instr.PutNumber c.args.self.now c.args.machine.now c.args.self.now _ _ _ _ _ (c.put_number-goes_on.ensures es feed)
+returns g c links feed = acts_kept links instr.PutNumber c.args.self.now c.args.machine.now c.args.self.now _ _ _ _ _ (c.put_number-goes_on.ensures links feed)
