@@ -1,22 +1,22 @@
 -- Births and deaths of variables: their blocks are born and die on both sides, with the same numbers.
-use Rattle.std.proofs.Common.{◌≡◌, ◌≢◌, ℕ, suc, ◌+◌, ◌<◌, ◌≤◌, false, cond, nat_eq, List, [], ◌∷◌, ◌++◌, length, length-set, length-append, append_assoc, Option, Some, None, refl, sym, ap, ◌∙◌, subst, arith}
+use Rattle.std.proofs.Common.{◌≡◌, ◌≢◌, ℕ, suc, ◌+◌, ◌^◌, ◌<◌, ◌≤◌, false, cond, nat_eq, List, [], ◌∷◌, ◌++◌, length, length-set, length-append, append_assoc, Option, Some, None, refl, sym, ap, ◌∙◌, subst, arith}
 use Rattle.std.proofs.lemmas.List.{append-nil}
 use Rattle.std.proofs.lemmas.Bool.Decides.{nat_tests}
 use Rattle.std.specs.Prelude.{slice_get, slice_set, map}
 use Rattle.c_syntax.specs.declared.types.CInt.{CInt}
-use Rattle.c_syntax.specs.declared.types.CInt.TheVariants.{I32}
+use Rattle.c_syntax.specs.declared.types.CInt.TheVariants.{I8, U8, I16, U16, I32, U32, I64, U64}
 use Rattle.c_syntax.specs.declared.types.BlockKind.TheVariants.{Stack}
 use Rattle.c_syntax.specs.declared.types.Segment.{Segment}
-use Rattle.c_syntax.specs.Ctypes.{PlainType, Void, Int}
+use Rattle.c_syntax.specs.Ctypes.{PlainType, Int}
 use Rattle.c_syntax.specs.Statements.{Declaration}
 use Rattle.c_model.specs.Integers.{int_size}
 use Rattle.c_model.specs.Layouts.{size_of}
-use Rattle.c_model.specs.Memory.{Into, new_block, full_at_stack_birth, standard_sizes, kill_from}
+use Rattle.c_model.specs.Memory.{Into, new_block, full_at_stack_birth, standard_sizes, kill_from, Value, Points}
 use Rattle.c_model.specs.State.{State, Full, Over, Normal, Stop, on_outcome, birth, birth_of, births, back_to}
 use Rattle.c_model.specs.Formed.{number_of}
 use Rattle.mon_syntax.specs.Meaning.{Done, Stops, Next, then_do, at_next, writes}
 use Rattle.mon_syntax.specs.Meaning as monitored
-use Rattle.mon_syntax.specs.Memories.{BlockValue, Points, over_blocks}
+use Rattle.mon_syntax.specs.BlockMemory.{over_blocks}
 use Rattle.mon_syntax.specs.LiveBlocks.{live_in}
 use Rattle.mon_syntax.proofs.FlatBlocks.{live-born}
 use Rattle.track_scopes.specs.Blocks.{register_of, deaths}
@@ -69,9 +69,19 @@ none_of : (x : ℕ) (slots : List Slot) → Absent x (decls_of slots) → slot_o
 none_of x [] h = refl
 none_of x (v ∷ slots) h = ap (λ t. cond t (Some v) (slot_of x slots)) h.0 ∙ none_of x slots h.1
 
+small_size : (k : CInt) → size_of [] (Int k) < 2 ^ 64
+small_size I8 = omega arith
+small_size U8 = omega arith
+small_size I16 = omega arith
+small_size U16 = omega arith
+small_size I32 = omega arith
+small_size U32 = omega arith
+small_size I64 = omega arith
+small_size U64 = omega arith
+
 -- ---- one birth
 
-module _ (w : Setting) (slots : List Slot) (regs : List BlockValue) (s : State) (t : Target) (h : Related w slots regs s) (b : Beside w slots s t) (enough : count w + count w ≤ w.registers) (d : Declaration)
+module _ (w : Setting) (slots : List Slot) (regs : List Value) (s : State) (t : Target) (h : Related w slots regs s) (b : Beside w slots s t) (enough : count w + count w ≤ w.registers) (d : Declaration)
     (c : CanBeBorn w.numbers (decls_of slots) d) where
   abbrev k : CInt
   k = int_of d.ctype
@@ -85,7 +95,7 @@ module _ (w : Setting) (slots : List Slot) (regs : List BlockValue) (s : State) 
   abbrev p : ℕ
   p = pointer_at w (number_of d)
 
-  abbrev pub born_registers : List BlockValue
+  abbrev pub born_registers : List Value
   born_registers = slice_set regs p (Points (Into (length t.mem.store + 1) 0))
 
   abbrev pub born_target : Target
@@ -167,29 +177,29 @@ module _ (w : Setting) (slots : List Slot) (regs : List BlockValue) (s : State) 
   birth_runs o = birth_does w.numbers d regs t o
 
   -- a block is born in the target where it is in the source
-  pub target_birth : (n : ℕ) → monitored.exec over_blocks (target.birth w.numbers d) w.calls n regs t ≡ birth_runs (full_at_stack_birth standard_sizes s.store (size_of [] d.ctype))
-  target_birth n = birth_is w.numbers w.calls n d regs s.store t same
+  pub target_birth : (n : ℕ) → monitored.exec over_blocks [] (target.birth w.numbers d) w.calls n regs t ≡ birth_runs (full_at_stack_birth standard_sizes s.store (size_of [] d.ctype))
+  target_birth n = birth_is w.numbers w.calls n d regs s.store t same (subst (λ u. size_of [] u < 2 ^ 64) (sym c.object) (small_size k))
 
 -- ---- births in order
 
 -- all are born on both sides, or something is full on both
-pub data Bears (w : Setting) (slots : List Slot) (regs : List BlockValue) (s : State) (t : Target) (n : ℕ) (ds : List Declaration) : Type 0 where
-  AllBorn : (to : State) (after : List BlockValue) (u : Target) → births [] ds s ≡ Normal tt to → runs w n t (target.births w.numbers ds) regs ≡ Done (Next after) u [] → Related w (slots_born (length s.store) ds slots) after to
+pub data Bears (w : Setting) (slots : List Slot) (regs : List Value) (s : State) (t : Target) (n : ℕ) (ds : List Declaration) : Type 0 where
+  AllBorn : (to : State) (after : List Value) (u : Target) → births [] ds s ≡ Normal tt to → runs w n t (target.births w.numbers ds) regs ≡ Done (Next after) u [] → Related w (slots_born (length s.store) ds slots) after to
       → Beside w (slots_born (length s.store) ds slots) to u → Later slots s to [] → Bears w slots regs s t n ds
   OneIsFull : (g : Segment) (to : State) → births [] ds s ≡ Stop (Over (Full g)) to → to.output ≡ s.output → runs w n t (target.births w.numbers ds) regs ≡ Stops (Full g) to.steps [] → Bears w slots regs s t n ds
 
 module _ (w : Setting) (n : ℕ) (enough : count w + count w ≤ w.registers) where
-  abbrev Bear : List Slot → List BlockValue → State → Target → List Declaration → Type 0
+  abbrev Bear : List Slot → List Value → State → Target → List Declaration → Type 0
   Bear slots regs s t ds = Bears w slots regs s t n ds
 
   -- one is born, and then the others
-  born_then : (slots : List Slot) (regs : List BlockValue) (s : State) (t : Target) (d : Declaration) (ds : List Declaration) (to : State) (after : List BlockValue) (u : Target) → birth [] d s ≡ Normal tt to
-      → monitored.exec over_blocks (target.birth w.numbers d) w.calls n regs t ≡ Done (Next after) u [] → length to.store ≡ suc (length s.store) → Later slots s to [] → Bear (slot_for (length s.store) d ∷ slots) after to u ds
+  born_then : (slots : List Slot) (regs : List Value) (s : State) (t : Target) (d : Declaration) (ds : List Declaration) (to : State) (after : List Value) (u : Target) → birth [] d s ≡ Normal tt to
+      → monitored.exec over_blocks [] (target.birth w.numbers d) w.calls n regs t ≡ Done (Next after) u [] → length to.store ≡ suc (length s.store) → Later slots s to [] → Bear (slot_for (length s.store) d ∷ slots) after to u ds
       → Bear slots regs s t (d ∷ ds)
   born_then slots regs s t d ds to after u e f long l (AllBorn to2 after2 u2 e2 f2 m b l2) =
       AllBorn to2 after2 u2
       (ap (λ r. on_outcome r (λ _. births [] ds)) e ∙ e2)
-      (ap (λ q. then_do q (at_next (monitored.exec_all over_blocks (target.births w.numbers ds) w.calls n))) f ∙ ap (writes []) f2)
+      (ap (λ q. then_do q (at_next (monitored.exec_all over_blocks [] (target.births w.numbers ds) w.calls n))) f ∙ ap (writes []) f2)
       (subst (λ i. Related w (slots_born i ds (slot_for (length s.store) d ∷ slots)) after2 to2) long m)
       (subst (λ i. Beside w (slots_born i ds (slot_for (length s.store) d ∷ slots)) to2 u2) long b)
       (later_trans slots s to to2 [] [] l (record { spent = l2.spent; output = l2.output; longer = l2.longer; kept = l2.kept.1 }))
@@ -197,9 +207,9 @@ module _ (w : Setting) (n : ℕ) (enough : count w + count w ≤ w.registers) wh
       OneIsFull g to2
       (ap (λ r. on_outcome r (λ _. births [] ds)) e ∙ e2)
       (o ∙ l.output ∙ append-nil s.output)
-      (ap (λ q. then_do q (at_next (monitored.exec_all over_blocks (target.births w.numbers ds) w.calls n))) f ∙ ap (writes []) f2)
+      (ap (λ q. then_do q (at_next (monitored.exec_all over_blocks [] (target.births w.numbers ds) w.calls n))) f ∙ ap (writes []) f2)
 
-  pub births_follow : (ds : List Declaration) (slots : List Slot) (regs : List BlockValue) (s : State) (t : Target) → Related w slots regs s → Beside w slots s t → AllCanBeBorn w.numbers (decls_of slots) ds → Bear slots regs s t ds
+  pub births_follow : (ds : List Declaration) (slots : List Slot) (regs : List Value) (s : State) (t : Target) → Related w slots regs s → Beside w slots s t → AllCanBeBorn w.numbers (decls_of slots) ds → Bear slots regs s t ds
   births_follow [] slots regs s t h b c = AllBorn s regs t refl refl h b (later_same slots s)
   births_follow (d ∷ ds) slots regs s t h b c =
       by (λ o. births_follow ds (slot_for (length s.store) d ∷ slots) (born_registers w slots regs s t h b enough d c.0) (born_state w slots regs s t h b enough d c.0) (born_target w slots regs s t h b enough d c.0)
@@ -219,12 +229,12 @@ module _ (w : Setting) (n : ℕ) (enough : count w + count w ≤ w.registers) wh
           OneIsFull g s
           (ap (λ o. on_outcome (birth_of o (number_of d) (size_of [] d.ctype) s) (λ _. births [] ds)) e)
           refl
-          (ap (λ q. then_do q (at_next (monitored.exec_all over_blocks (target.births w.numbers ds) w.calls n))) (target_birth w slots regs s t h b enough d c.0 n ∙ ap (birth_runs w slots regs s t h b enough d c.0) e)
+          (ap (λ q. then_do q (at_next (monitored.exec_all over_blocks [] (target.births w.numbers ds) w.calls n))) (target_birth w slots regs s t h b enough d c.0 n ∙ ap (birth_runs w slots regs s t h b enough d c.0) e)
           ∙ ap (λ k. Stops (Full g) k []) b.steps)
 
 -- ---- deaths
 
-module _ (w : Setting) (slots : List Slot) (regs : List BlockValue) (s : State) (n : ℕ) where
+module _ (w : Setting) (slots : List Slot) (regs : List Value) (s : State) (n : ℕ) where
   -- the blocks of the youngest variables die, which are these
   pub record Dead (older : List Slot) (t : Target) (q : Did) : Type 0 where
     pub to : Target
@@ -281,7 +291,7 @@ born_from m n (d ∷ ds) slots le h = born_from m (suc n) ds (slot_for n d ∷ s
 pub born_are_new : (n : ℕ) (ds : List Declaration) → AllFrom n (slots_born n ds [])
 born_are_new n ds = born_from n n ds [] (omega arith) tt
 
-module _ (w : Setting) (new slots : List Slot) (regs : List BlockValue) (old s : State) (h : Related w (new ++ slots) regs s) (scope : old.scope ≡ scope_of slots) (calls : old.calls ≡ w.active)
+module _ (w : Setting) (new slots : List Slot) (regs : List Value) (old s : State) (h : Related w (new ++ slots) regs s) (scope : old.scope ≡ scope_of slots) (calls : old.calls ≡ w.active)
     (stacked : Stacked (length w.outside) (length old.store) slots) (from : AllFrom (length old.store) new) (longer : length old.store ≤ length s.store) where
   n : ℕ
   n = length old.store

@@ -7,7 +7,8 @@ use Rattle.c_model.specs.State as source
 use Rattle.c_model.proofs.Agreement.{extends_trans}
 use Rattle.mon_syntax.specs.Meaning.{Done, Stops, Next, Goes, Returns, then_do, at_next, writes}
 use Rattle.mon_syntax.specs.Meaning as monitored
-use Rattle.mon_syntax.specs.Memories.{BlockValue, Whole, over_blocks}
+use Rattle.c_model.specs.Memory.{Value, Integer}
+use Rattle.mon_syntax.specs.BlockMemory.{over_blocks}
 use Rattle.mon_syntax.specs.Trees.{MonStatements}
 use Rattle.c_effects.specs.Expressions.{before}
 use Rattle.track_scopes.specs.Blocks as target
@@ -23,7 +24,7 @@ pub with_born-slots : (w : Setting) (n : ℕ) (ds : List Declaration) (slots : L
 with_born-slots w n [] slots = refl
 with_born-slots w n (d ∷ ds) slots = with_born-slots w (suc n) ds (slot_for n d ∷ slots)
 
-match_front : (w : Setting) (store : source.State) (regs : List BlockValue) (new slots : List Slot) → AllMatch w store.store regs (new ++ slots) → AllMatch w store.store regs new
+match_front : (w : Setting) (store : source.State) (regs : List Value) (new slots : List Slot) → AllMatch w store.store regs (new ++ slots) → AllMatch w store.store regs new
 match_front w s regs [] slots h = tt
 match_front w s regs (v ∷ new) slots h = (h.0, match_front w s regs new slots h.1)
 
@@ -34,7 +35,7 @@ inside h new = record h { slots = new ++ h.slots }
 module _ (w : Setting) (h : Here) (n : ℕ) (old : State) (new : List Slot) (scope : old.scope ≡ scope_of h.slots) (calls : old.calls ≡ w.active) (stacked : Stacked (length w.outside) (length old.store) h.slots)
     (all_new : AllFrom (length old.store) new) where
   abbrev ends : Did → Did
-  ends q = then_do q (at_next (monitored.exec_all over_blocks (deaths (registers_of w new)) w.calls n))
+  ends q = then_do q (at_next (monitored.exec_all over_blocks [] (deaths (registers_of w new)) w.calls n))
 
   -- the source leaves the block, and in the target its variables die where control comes to the end
   pub block_ends : (from : State) (r : Outcome (Unit {0})) (q : Did) → length old.store ≤ length from.store → Follows w (inside h new) Next from r q → Follows w h Next from (restored old r) (ends q)
@@ -70,15 +71,15 @@ module _ (w : Setting) (h : Here) (n : ℕ) (old : State) (new : List Slot) (sco
       (beside_behind w new h.slots regs old s m scope calls stacked all_new longer [] t b)
       (later_behind w new h.slots regs old s m scope calls stacked all_new longer from o l)
       (ap (restored old) e)
-      (ap ends f ∙ ap (Done (Returns (option_map Whole v)) t) (append-nil o))
+      (ap ends f ∙ ap (Done (Returns (option_map Integer v)) t) (append-nil o))
   block_ends from r q le (IsOver x s o d e l f) = IsOver x (back_to old s) o d (ap (restored old) e) l (ap ends f)
   block_ends from r q le (IsUndefined at s o e l ext) =
       IsUndefined at (back_to old s) o (ap (restored old) e) l
-      (extends_trans o (written q) (written (ends q)) ext (written_then q (at_next (monitored.exec_all over_blocks (deaths (registers_of w new)) w.calls n))))
+      (extends_trans o (written q) (written (ends q)) ext (written_then q (at_next (monitored.exec_all over_blocks [] (deaths (registers_of w new)) w.calls n))))
 
 -- what stands between births and deaths
-pub alive_runs : (w : Setting) (n : ℕ) (t : Target) (ds : List Declaration) (a : MonStatements) (regs : List BlockValue)
-    → runs w n t (alive w.numbers ds a) regs ≡ then_do (runs w n t (target.births w.numbers ds) regs) (at_next (λ r u. then_do (runs w n u a r) (at_next (monitored.exec_all over_blocks (deaths (with_born w.numbers ds [])) w.calls n))))
+pub alive_runs : (w : Setting) (n : ℕ) (t : Target) (ds : List Declaration) (a : MonStatements) (regs : List Value)
+    → runs w n t (alive w.numbers ds a) regs ≡ then_do (runs w n t (target.births w.numbers ds) regs) (at_next (λ r u. then_do (runs w n u a r) (at_next (monitored.exec_all over_blocks [] (deaths (with_born w.numbers ds [])) w.calls n))))
 alive_runs w n t ds a regs =
     before_is (target.births w.numbers ds) (before a (deaths (with_born w.numbers ds []))) w.calls n regs t
     ∙ ap (λ g. then_do (runs w n t (target.births w.numbers ds) regs) (at_next g)) (λ i r u. before_is a (deaths (with_born w.numbers ds [])) w.calls n r u i)
@@ -87,7 +88,7 @@ alive_runs w n t ds a regs =
 abbrev pub behind_births : Here → State → List Declaration → Here
 behind_births h s ds = record h { slots = slots_born (length s.store) ds h.slots }
 
-module _ (w : Setting) (h : Here) (n : ℕ) (enough : count w + count w ≤ w.registers) (ds : List Declaration) (m : Evaluation (Unit {0})) (a : MonStatements) (regs : List BlockValue) (s : State) (t : Target) (related : Related w h.slots regs s)
+module _ (w : Setting) (h : Here) (n : ℕ) (enough : count w + count w ≤ w.registers) (ds : List Declaration) (m : Evaluation (Unit {0})) (a : MonStatements) (regs : List Value) (s : State) (t : Target) (related : Related w h.slots regs s)
     (beside : Beside w h.slots s t) (can : AllCanBeBorn w.numbers (decls_of h.slots) ds) where
   abbrev new : List Slot
   new = slots_born (length s.store) ds []
@@ -96,12 +97,12 @@ module _ (w : Setting) (h : Here) (n : ℕ) (enough : count w + count w ≤ w.re
   code = alive w.numbers ds a
 
   abbrev rest : Did → Did
-  rest q = then_do q (at_next (monitored.exec_all over_blocks (deaths (with_born w.numbers ds [])) w.calls n))
+  rest q = then_do q (at_next (monitored.exec_all over_blocks [] (deaths (with_born w.numbers ds [])) w.calls n))
 
   deaths_are : (q : Did) → rest q ≡ ends w h n s new related.scope related.calls related.stacked (born_are_new (length s.store) ds) q
-  deaths_are q = ap (λ rs. then_do q (at_next (monitored.exec_all over_blocks (deaths rs) w.calls n))) (with_born-slots w (length s.store) ds [])
+  deaths_are q = ap (λ rs. then_do q (at_next (monitored.exec_all over_blocks [] (deaths rs) w.calls n))) (with_born-slots w (length s.store) ds [])
 
-  pub block_follows : ((to : State) (after : List BlockValue) (u : Target) → Related w (slots_born (length s.store) ds h.slots) after to → Beside w (slots_born (length s.store) ds h.slots) to u → Later h.slots s to []
+  pub block_follows : ((to : State) (after : List Value) (u : Target) → Related w (slots_born (length s.store) ds h.slots) after to → Beside w (slots_born (length s.store) ds h.slots) to u → Later h.slots s to []
       → Follows w (behind_births h s ds) Next to (m to) (runs w n u a after)) → Follows w h Next s (within (births [] ds >> m) s) (runs w n t code regs)
   block_follows inner =
       subst (λ q. Follows w h Next s (within (births [] ds >> m) s) q) (sym (alive_runs w n t ds a regs))

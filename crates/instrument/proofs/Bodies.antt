@@ -6,7 +6,7 @@ use Rattle.c_syntax.specs.Ctypes.{PlainType}
 use Rattle.c_syntax.specs.Expressions.{Expressions}
 use Rattle.c_syntax.specs.Statements.{Declaration, Statement, Empty, Eval, Block, If, While, Do, For, Break, Continue, Return, BlockItems}
 use Rattle.c_syntax.specs.Programs.{Function, TranslationUnit}
-use Rattle.c_model.specs.Memory.{Store}
+use Rattle.c_model.specs.Memory.{Store, Value}
 use Rattle.c_model.specs.State.{State}
 use Rattle.c_model.specs.Meaning.{Callee, is_definition, declared_in, items_with, body_with}
 use Rattle.c_model.specs.Typing.{Object, Scopes, with_object}
@@ -17,7 +17,7 @@ use Rattle.c_model.specs.Formed.{number_of, declared_in_body, declared_in_items,
 use Rattle.mon_syntax.specs.declared.tree.MonType.{MonType}
 use Rattle.mon_syntax.specs.Meaning.{Next}
 use Rattle.mon_syntax.specs.Meaning as monitored
-use Rattle.mon_syntax.specs.Memories.{BlockValue, over_blocks}
+use Rattle.mon_syntax.specs.BlockMemory.{over_blocks}
 use Rattle.instrument.specs.Limits.{BodyHasNumbers, HaveNumbers}
 use Rattle.instrument.specs.Translation.{Spot, with_variables, items, body_part, items_temporaries, variables_of, variable_numbers, variable_types, value_types, pointer_types, body_temporaries, values_from, pointers_from, temporaries_from}
 use Rattle.track_scopes.specs.Blocks.{with_born}
@@ -215,7 +215,7 @@ module _ (p : TranslationUnit) (main index : ℕ) (f : Function) (part : Part p 
         let c : length (body_temporaries f.body) ≡ length (items_temporaries body.items) = ap length temporaries_are in
         omega (arith, a, b, c, types_long f)
 
-    items_does : (regs : List BlockValue) (s : State) (t : Target) → Related w ps regs s → Beside w ps s t → AllSet s.store ps → s.steps ≤ n
+    items_does : (regs : List Value) (s : State) (t : Target) → Related w ps regs s → Beside w ps s t → AllSet s.store ps → s.steps ≤ n
         → Follows w here Next s (body_with no_tables (Some (Block body.at body.items)) call (suc n) s) (runs w n t (body_part p (variable_numbers f) f.params (variable_types f) (Some (Block body.at body.items))) regs)
     items_does regs s t m b a le =
         block_does p w n most_typed p.names (map (signature p.funcs) (part.before ++ f ∷ [])) (all_calls outside active) here scopes body_stage

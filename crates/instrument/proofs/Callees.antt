@@ -14,7 +14,7 @@ use Rattle.c_syntax.specs.Statements.{Declaration}
 use Rattle.c_syntax.specs.Programs.{Function, TranslationUnit}
 use Rattle.c_model.specs.Memory.{Value, Store}
 use Rattle.c_model.specs.State.{State, Spent, Over, Stop, Evaluation, ◌>>◌, on_outcome, step_from, frame, alone, mark, within}
-use Rattle.c_model.specs.Meaning.{Tables, tables_of, global_scope, is_of_library, definition_at, call_with, call_of, library_call, parameters, returned_by, body_with}
+use Rattle.c_model.specs.Meaning.{tables_of, global_scope, is_of_library, definition_at, call_with, call_of, library_call, parameters, returned_by, body_with}
 use Rattle.c_model.specs.Library.{is_there, is_library_name, is_one_of, library_constant, other_names}
 use Rattle.c_model.specs.Typing.{Signature, Scopes, name_at, or_else, function_called, library_function, of_library}
 use Rattle.c_model.specs.ProgramTyping.{definition_of, first_of, number_or, offset_of, signature, types_of, function_scopes}
@@ -22,7 +22,7 @@ use Rattle.c_model.specs.WellTyped.{HaveTypes, Calls}
 use Rattle.c_model.specs.Formed.{IsProgram}
 use Rattle.mon_syntax.specs.Meaning.{Result, Done, Stops, then_do, eval_all, level, body_runs, with_value}
 use Rattle.mon_syntax.specs.Meaning as monitored
-use Rattle.mon_syntax.specs.Memories.{BlockValue, over_blocks}
+use Rattle.mon_syntax.specs.BlockMemory.{over_blocks}
 use Rattle.mon_syntax.specs.Trees.{MonExpression, MonFunction, MonStatements}
 use Rattle.mon_syntax.specs.Trees as tree
 use Rattle.instrument.specs.Limits.{FunctionsHaveNumbers}
@@ -33,7 +33,7 @@ use Rattle.c_effects.specs.Effects as effects
 use Rattle.instrument.proofs.Variables.{Setting, no_tables}
 use Rattle.instrument.proofs.Results.{one_is}
 use Rattle.instrument.proofs.Evaluating.{Target, runs}
-use Rattle.instrument.proofs.Calls.{Even, Called, EndsRun, AllFit, integers, wholes, takes, CallDoes, DoesCall, IsCalled}
+use Rattle.instrument.proofs.Calls.{Even, Called, EndsRun, AllFit, integers, HaveAll, takes, CallDoes, DoesCall, IsCalled}
 use Rattle.instrument.proofs.Births.{int_of}
 use Rattle.instrument.proofs.Functions.{parameter_ints, setting, call_follows}
 use Rattle.instrument.proofs.Library.{putchar_does, getchar_does, exit_does, nothing_does}
@@ -94,7 +94,7 @@ ints_of (d ∷ ds) o = ap (λ t. t ∷ types_of ds) o.0 ∙ ap (λ l. Int (int_o
 
 -- what a call with arguments of these types does
 abbrev AllDo : TranslationUnit → Setting → ℕ → Use → PlainType → List CInt → Type 0
-AllDo p w n f result ints = (zs : List ℤ) → AllFit ints zs → (s : State) (t : Target) → Even s t → s.steps ≤ n → (at : Place) (into : Option ℕ) (regs : List BlockValue) (args : List MonExpression) → eval_all over_blocks args regs ≡ Some (wholes zs)
+AllDo p w n f result ints = (zs : List ℤ) → AllFit ints zs → (s : State) (t : Target) → Even s t → s.steps ≤ n → (at : Place) (into : Option ℕ) (regs : List Value) (args : List MonExpression) → HaveAll args regs zs
     → CallDoes s result (w.call at f (integers zs) s) into regs (runs w n t (call p into f args) regs)
 
 -- by the signature that is called
@@ -193,7 +193,7 @@ module _ (p : TranslationUnit) (q : IsProgram p) (numbers : FunctionsHaveNumbers
 
   -- the calls of all functions do the same
   abbrev pub CallsAt : ℕ → Type 0
-  CallsAt k = (w : Setting) → w.call ≡ call_of p (suc k) → w.calls ≡ level over_blocks functions k → (before after : List Function) (current : Function) → before ++ (current ∷ after) ≡ p.funcs → (s : Scopes) → s.names ≡ p.names
+  CallsAt k = (w : Setting) → w.call ≡ call_of p (suc k) → w.calls ≡ level over_blocks [] functions k → (before after : List Function) (current : Function) → before ++ (current ∷ after) ≡ p.funcs → (s : Scopes) → s.names ≡ p.names
       → s.functions ≡ map (signature p.funcs) (before ++ current ∷ []) → (f : Use) (t : PlainType) (es : Expressions) → Calls s f t es → IsCalled p w k f t es
 
   -- calls of the library
@@ -245,7 +245,7 @@ module _ (p : TranslationUnit) (q : IsProgram p) (numbers : FunctionsHaveNumbers
         ∙ ap (λ o. call_with (tables_of p) (global_scope 1 p.globals) o (call_of p k) k at vs s) found
         ∙ (λ i. call_with (bare_tables p q i) (global_scope 1 (q.formed.globals i)) (Some g) (call_of p k) k at vs s)
 
-    code_is : (n : ℕ) (into : Option ℕ) (args : List MonExpression) (regs : List BlockValue) (t : Target) → runs w n t (call p into f args) regs ≡ monitored.exec over_blocks (tree.Call into (index_of f.decl p.funcs) args) w.calls n regs t
+    code_is : (n : ℕ) (into : Option ℕ) (args : List MonExpression) (regs : List Value) (t : Target) → runs w n t (call p into f args) regs ≡ monitored.exec over_blocks [] (tree.Call into (index_of f.decl p.funcs) args) w.calls n regs t
     code_is n into args regs t =
         ap (λ b. runs w n t (if b then effects.library_call into (name_at p.names f.name) args else one (tree.Call into (index_of f.decl p.funcs) args)) regs) l
         ∙ one_is (tree.Call into (index_of f.decl p.funcs) args) w.calls n regs t
@@ -253,20 +253,20 @@ module _ (p : TranslationUnit) (q : IsProgram p) (numbers : FunctionsHaveNumbers
     function_is : slice_get functions (index_of f.decl p.funcs) ≡ Some (function_of p main index g)
     function_is = ap (slice_get functions) (index_is f.decl p.funcs) ∙ picked.translated
 
-    calls_run : (k : ℕ) → w.calls ≡ level over_blocks functions k → (into : Option ℕ) (args : List MonExpression) (vs : List BlockValue) (regs : List BlockValue) (t : Target) → eval_all over_blocks args regs ≡ Some vs
-        → runs w k t (call p into f args) regs ≡ then_do (level over_blocks functions k (index_of f.decl p.funcs) vs t) (takes into regs)
+    calls_run : (k : ℕ) → w.calls ≡ level over_blocks [] functions k → (into : Option ℕ) (args : List MonExpression) (vs : List Value) (regs : List Value) (t : Target) → eval_all over_blocks [] args regs t.mem ≡ Some vs
+        → runs w k t (call p into f args) regs ≡ then_do (level over_blocks [] functions k (index_of f.decl p.funcs) vs t) (takes into regs)
     calls_run k calls into args vs regs t has =
         code_is k into args regs t
-        ∙ ap (λ c. monitored.exec over_blocks (tree.Call into (index_of f.decl p.funcs) args) c k regs t) calls
-        ∙ ap (λ o. with_value o t.steps (λ vs. then_do (level over_blocks functions k (index_of f.decl p.funcs) vs t) (takes into regs))) has
+        ∙ ap (λ c. monitored.exec over_blocks [] (tree.Call into (index_of f.decl p.funcs) args) c k regs t) calls
+        ∙ ap (λ o. with_value o t.steps (λ vs. then_do (level over_blocks [] functions k (index_of f.decl p.funcs) vs t) (takes into regs))) has
 
     part : Part p g
     part = picked.part
 
     -- no call is made where no step is left
-    function_zero : w.call ≡ call_of p 1 → w.calls ≡ level over_blocks functions 0 → AllDo p w 0 f g.result (parameter_ints g.params)
+    function_zero : w.call ≡ call_of p 1 → w.calls ≡ level over_blocks [] functions 0 → AllDo p w 0 f g.result (parameter_ints g.params)
     function_zero call_is calls_are zs fit s t even le at into regs args has =
-        DoesCall (Stops Spent 0 []) (calls_run 0 calls_are into args (wholes zs) regs t has)
+        DoesCall (Stops Spent 0 []) (calls_run 0 calls_are into args (integers zs) regs t (has t.mem))
         (EndsRun Spent s [] (λ h. absurd cc)
         (source_is 0 call_is at (integers zs) s ∙ spent s.steps (omega (arith, le)))
         (sym (append-nil s.output)) (ap (λ k. Stops Spent k []) (omega (arith, le))))
@@ -277,22 +277,22 @@ module _ (p : TranslationUnit) (q : IsProgram p) (numbers : FunctionsHaveNumbers
         spent : (k : ℕ) → k ≡ 0 → on_outcome (step_from k s) (λ _. inside) ≡ Stop (Over Spent) s
         spent k e = ap (λ i. on_outcome (step_from i s) (λ _. inside)) e
 
-    function_more : (k : ℕ) → CallsAt k → w.call ≡ call_of p (suc (suc k)) → w.calls ≡ level over_blocks functions (suc k) → AllDo p w (suc k) f g.result (parameter_ints g.params)
+    function_more : (k : ℕ) → CallsAt k → w.call ≡ call_of p (suc (suc k)) → w.calls ≡ level over_blocks [] functions (suc k) → AllDo p w (suc k) f g.result (parameter_ints g.params)
     function_more k below call_is calls_are zs fit s t even le at into regs args has =
         let body = has_body p g part picked.definition in
         let calls_below = λ (outside : Store) (active : ℕ) (s : Scopes) (names : s.names ≡ p.names) (signatures : s.functions ≡ map (signature p.funcs) (part.before ++ g ∷ [])) (u : Use) (t : PlainType) (es : Expressions) (c : Calls s u t es).
-        below (setting p main index g (call_of p (suc k)) (level over_blocks functions k) k outside active) refl refl part.before part.after g part.is s names signatures u t es c in
-        DoesCall (level over_blocks functions (suc k) (index_of f.decl p.funcs) (wholes zs) t) (calls_run (suc k) calls_are into args (wholes zs) regs t has)
-        (subst (λ r. Called s g.result r (level over_blocks functions (suc k) (index_of f.decl p.funcs) (wholes zs) t)) (sym (source_is (suc k) call_is at (integers zs) s))
+        below (setting p main index g (call_of p (suc k)) (level over_blocks [] functions k) k outside active) refl refl part.before part.after g part.is s names signatures u t es c in
+        DoesCall (level over_blocks [] functions (suc k) (index_of f.decl p.funcs) (integers zs) t) (calls_run (suc k) calls_are into args (integers zs) regs t (has t.mem))
+        (subst (λ r. Called s g.result r (level over_blocks [] functions (suc k) (index_of f.decl p.funcs) (integers zs) t)) (sym (source_is (suc k) call_is at (integers zs) s))
         (subst (λ o. Called s g.result (call_with no_tables [] (Some g) (call_of p (suc k)) (suc k) at (integers zs) s)
-        (monitored.step_from t.steps (λ j. body_runs over_blocks o (level over_blocks functions k) k (wholes zs) (record t { steps = j }))))
+        (monitored.step_from t.steps (λ j. body_runs over_blocks [] o (level over_blocks [] functions k) k (integers zs) (record t { steps = j }))))
         (sym function_is)
-        (call_follows p main index g (call_of p (suc k)) (level over_blocks functions k) k
-        (has_room p main index g part body (call_of p (suc k)) (level over_blocks functions k) k calls_below)
-        (parameters_can p main index g part body (call_of p (suc k)) (level over_blocks functions k) k calls_below)
-        (parameters_in_order p main index g part body (call_of p (suc k)) (level over_blocks functions k) k calls_below)
-        (few_parameters p main index g part body (call_of p (suc k)) (level over_blocks functions k) k calls_below)
-        (body_follows p main index g part body (call_of p (suc k)) (level over_blocks functions k) k calls_below)
+        (call_follows p main index g (call_of p (suc k)) (level over_blocks [] functions k) k
+        (has_room p main index g part body (call_of p (suc k)) (level over_blocks [] functions k) k calls_below)
+        (parameters_can p main index g part body (call_of p (suc k)) (level over_blocks [] functions k) k calls_below)
+        (parameters_in_order p main index g part body (call_of p (suc k)) (level over_blocks [] functions k) k calls_below)
+        (few_parameters p main index g part body (call_of p (suc k)) (level over_blocks [] functions k) k calls_below)
+        (body_follows p main index g part body (call_of p (suc k)) (level over_blocks [] functions k) k calls_below)
         zs fit at s t even le)))
 
   -- what is called, so deep

@@ -13,7 +13,7 @@ use Rattle.c_model.specs.State.{State, Final, Fault, Undefined, Over, Outcome, N
 use Rattle.c_model.specs.Reports.{Extends}
 use Rattle.c_model.specs.WellTyped.{HaveTypes}
 use Rattle.mon_syntax.specs.Meaning.{Result, Done, Stops, Next, then_do, given_to, eval_all}
-use Rattle.mon_syntax.specs.Memories.{BlockValue, Whole, over_blocks}
+use Rattle.mon_syntax.specs.BlockMemory.{Blocks, over_blocks}
 use Rattle.mon_syntax.specs.Trees.{MonExpression}
 use Rattle.mon_syntax.specs.LiveBlocks.{live_in}
 use Rattle.c_effects.specs.Effects.{call}
@@ -45,13 +45,13 @@ abbrev pub value_of : Option ℤ → Value
 value_of None = NoValue
 value_of (Some z) = Integer z
 
-abbrev pub Alike : Option ℤ → BlockValue → Type 0
+abbrev pub Alike : Option ℤ → Value → Type 0
 Alike None v = Unit {0}
-Alike (Some z) v = v ≡ Whole z
+Alike (Some z) v = v ≡ Integer z
 
 -- from these states a call of the source and one of the target do the same
-pub data Called (s : State) (result : PlainType) (r : Outcome Value) (q : Result Target BlockValue) : Type 0 where
-  Gives : (z : Option ℤ) (v : BlockValue) (to : State) (u : Target) (o : List ℕ) → IsResult result z → Alike z v → CameBack s to o → Even to u → r ≡ Normal (value_of z) to → q ≡ Done v u o → Called s result r q
+pub data Called (s : State) (result : PlainType) (r : Outcome Value) (q : Result Target Value) : Type 0 where
+  Gives : (z : Option ℤ) (v : Value) (to : State) (u : Target) (o : List ℕ) → IsResult result z → Alike z v → CameBack s to o → Even to u → r ≡ Normal (value_of z) to → q ≡ Done v u o → Called s result r q
   EndsRun : (e : Final) (to : State) (o : List ℕ) → e ≢ Fault → r ≡ Stop (Over e) to → to.output ≡ s.output ++ o → q ≡ Stops e to.steps o → Called s result r q
   HasNoMeaning : (at : Place) (to : State) (o : List ℕ) → r ≡ Stop (Over (Undefined at)) to → to.output ≡ s.output ++ o → Extends o (written q) → Called s result r q
 
@@ -65,28 +65,29 @@ AllFit (k ∷ ks) (z ∷ zs) = (fits k z ≡ true) × AllFit ks zs
 abbrev pub integers : List ℤ → List Value
 integers zs = map (λ z. Integer z) zs
 
-abbrev pub wholes : List ℤ → List BlockValue
-wholes zs = map (λ z. Whole z) zs
+-- arguments have these numbers over the registers, whatever the memory is
+abbrev pub HaveAll : List MonExpression → List Value → List ℤ → Type 0
+HaveAll args regs zs = (mem : Blocks) → eval_all over_blocks [] args regs mem ≡ Some (integers zs)
 
 -- the register that is named takes the value
-abbrev pub takes : Option ℕ → List BlockValue → BlockValue → Target → Did
+abbrev pub takes : Option ℕ → List Value → Value → Target → Did
 takes r regs v u = Done (Next (given_to r v regs)) u []
 
 -- what the statements of a call do, where its arguments have these values
-pub data CallDoes (s : State) (result : PlainType) (r : Outcome Value) (into : Option ℕ) (regs : List BlockValue) (d : Did) : Type 0 where
-  DoesCall : (q : Result Target BlockValue) → d ≡ then_do q (takes into regs) → Called s result r q → CallDoes s result r into regs d
+pub data CallDoes (s : State) (result : PlainType) (r : Outcome Value) (into : Option ℕ) (regs : List Value) (d : Did) : Type 0 where
+  DoesCall : (q : Result Target Value) → d ≡ then_do q (takes into regs) → Called s result r q → CallDoes s result r into regs d
   CallsNothing : (at : Place) → r ≡ Stop (Over (Undefined at)) s → CallDoes s result r into regs d
 
 -- a function that is called with arguments of these types
 pub record IsCalled (p : TranslationUnit) (w : Setting) (n : ℕ) (f : Use) (result : PlainType) (es : Expressions) : Type 0 where
   pub ints : List CInt
   pub arguments : HaveTypes (map (λ k. Int k) ints) es
-  pub does : (zs : List ℤ) → AllFit ints zs → (s : State) (t : Target) → Even s t → s.steps ≤ n → (at : Place) (into : Option ℕ) (regs : List BlockValue) (args : List MonExpression) → eval_all over_blocks args regs ≡ Some (wholes zs)
+  pub does : (zs : List ℤ) → AllFit ints zs → (s : State) (t : Target) → Even s t → s.steps ≤ n → (at : Place) (into : Option ℕ) (regs : List Value) (args : List MonExpression) → HaveAll args regs zs
       → CallDoes s result (w.call at f (integers zs) s) into regs (runs w n t (call p into f args) regs)
 
 -- ---- between calls and statements
 
-module _ (w : Setting) (slots : List Slot) (regs : List BlockValue) (s : State) (h : Related w slots regs s) where
+module _ (w : Setting) (slots : List Slot) (regs : List Value) (s : State) (h : Related w slots regs s) where
   pub even : (t : Target) → Beside w slots s t → Even s t
   even t b = record { long = b.long; live = b.live ∙ sym h.live; frames = b.frames ∙ sym h.calls; steps = b.steps; input = b.input }
 

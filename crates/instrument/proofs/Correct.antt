@@ -1,6 +1,6 @@
--- Whole runs: the translation of a program ends, prints and spends steps as the program does, up to an undefined operation.
-use Rattle.std.proofs.Common.{◌≡◌, ℕ, suc, ◌+◌, ◌-◌, ℤ, pos, Bool, true, false, cond, ◌&&◌, if◌then◌else◌, nat_eq, List, [], ◌∷◌, ◌++◌, length, Option, Some, None, refl, sym, ap, ◌∙◌, subst, arith}
-use Rattle.std.proofs.lemmas.List.{append-nil, length-replicate}
+-- Integer runs: the translation of a program ends, prints and spends steps as the program does, up to an undefined operation.
+use Rattle.std.proofs.Common.{◌≡◌, ℕ, suc, ◌+◌, ℤ, pos, Bool, true, false, cond, ◌&&◌, if◌then◌else◌, nat_eq, List, [], ◌∷◌, ◌++◌, length, Option, Some, None, refl, sym, ap, ◌∙◌, subst, arith, length-append}
+use Rattle.std.proofs.lemmas.List.{append-nil}
 use Rattle.std.proofs.lemmas.Bool.{eq-eqb}
 use Rattle.std.proofs.lemmas.Bool.Decides.{nat_tests}
 use Rattle.std.specs.Prelude.{slice_get, map, bytes_eq, codes}
@@ -15,12 +15,13 @@ use Rattle.c_model.specs.Typing.{name_at, same_type}
 use Rattle.c_model.specs.ProgramTyping.{main_fault, has_no_parameters, no_main}
 use Rattle.c_model.specs.Formed.{IsProgram}
 use Rattle.c_model.proofs.Agreement.{Agrees-same, extends_trans}
-use Rattle.mon_syntax.specs.Meaning.{Result, Done, Stops, Next, then_do, at_return, exit_of, registers, level, body_runs}
+use Rattle.mon_syntax.specs.Meaning.{Result, Done, Stops, Next, then_do, at_return, exit_of, registers, level, body_runs, zero_result}
 use Rattle.mon_syntax.specs.Meaning as monitored
-use Rattle.mon_syntax.specs.Memories.{BlockValue, Whole, over_blocks, integer_of, block_run}
+use Rattle.c_model.specs.Memory.{Value, Integer}
+use Rattle.mon_syntax.specs.BlockMemory.{over_blocks, integer_of, block_run}
 use Rattle.mon_syntax.specs.Trees.{MonFunction}
 use Rattle.instrument.specs.Limits.{FunctionsHaveNumbers}
-use Rattle.instrument.specs.Translation.{alive, function_of, functions_from, function_name, variable_numbers, translated}
+use Rattle.instrument.specs.Translation.{alive, function_of, functions_from, function_name, variable_numbers, translated, result_of}
 use Rattle.instrument.proofs.Variables.{Slot, Setting, no_tables, Related, Beside}
 use Rattle.instrument.proofs.Results.{written, writes_none, written_then}
 use Rattle.instrument.proofs.Evaluating.{Target, Did, runs}
@@ -28,7 +29,7 @@ use Rattle.c_effects.proofs.Sequences.{before_none}
 use Rattle.instrument.proofs.Following.{Follows, GoesOn, Breaks, Continues, IsLeft, IsOver, IsUndefined}
 use Rattle.instrument.proofs.Births.{slots_born}
 use Rattle.instrument.proofs.Parameters.{AllSet}
-use Rattle.instrument.proofs.Functions.{setting, parameter_slots, how_many, at_body, body_code}
+use Rattle.instrument.proofs.Functions.{setting, parameter_slots, how_many, at_body, body_code, zero_of, registers_full}
 use Rattle.c_model.proofs.Signatures.{same_type_is}
 use Rattle.instrument.proofs.Programs.{picked, index_by, IsPicked, parts_of, is_picked, has_bytes, main_index_is}
 use Rattle.instrument.proofs.Bodies.{has_body, body_follows}
@@ -93,25 +94,25 @@ module _ (p : TranslationUnit) (m : ℕ) where
   named_other : (k i : ℕ) (f : Function) → m ≡ k + suc i → (function_of p m k f).name ≡ function_name k (name_at p.names f.name)
   named_other k i f e = let differs : nat_eq k m ≡ false = grind (arith, nat_tests) in ap (λ t. if t then codes "main" else function_name k (name_at p.names f.name)) differs
 
-  target_finds : (k : ℕ) (fs : List Function) (f : Function) → m ≡ k + index_by test fs → picked test fs ≡ Some f → monitored.function_named over_blocks (codes "main") (functions_from p m k fs) ≡ Some (function_of p m m f)
+  target_finds : (k : ℕ) (fs : List Function) (f : Function) → m ≡ k + index_by test fs → picked test fs ≡ Some f → monitored.function_named (codes "main") (functions_from p m k fs) ≡ Some (function_of p m m f)
   target_finds k [] f e h = absurd cc
   target_finds k (g ∷ fs) f e h = by (λ j x y. target_finds j fs f x y) (is_definition g) (test g) refl refl e h
     where
-      by : ((j : ℕ) → m ≡ j + index_by test fs → picked test fs ≡ Some f → monitored.function_named over_blocks (codes "main") (functions_from p m j fs) ≡ Some (function_of p m m f)) → (a b : Bool) → is_definition g ≡ a → test g ≡ b
+      by : ((j : ℕ) → m ≡ j + index_by test fs → picked test fs ≡ Some f → monitored.function_named (codes "main") (functions_from p m j fs) ≡ Some (function_of p m m f)) → (a b : Bool) → is_definition g ≡ a → test g ≡ b
           → m ≡ k + (if a then (if b then 0 else suc (index_by test fs)) else index_by test fs) → (if a && b then Some g else picked test fs) ≡ Some f
-          → monitored.function_named over_blocks (codes "main") (functions_from p m k (g ∷ fs)) ≡ Some (function_of p m m f)
+          → monitored.function_named (codes "main") (functions_from p m k (g ∷ fs)) ≡ Some (function_of p m m f)
       by rest true true x y i j =
           let same : g ≡ f = cc in
           let here : m ≡ k = omega (arith, i) in
-          ap (λ a. monitored.function_named over_blocks (codes "main") (if a then function_of p m k g ∷ functions_from p m (suc k) fs else functions_from p m k fs)) x
-          ∙ ap (λ w. if bytes_eq w (codes "main") then Some (function_of p m k g) else monitored.function_named over_blocks (codes "main") (functions_from p m (suc k) fs)) (named_main k g here)
+          ap (λ a. monitored.function_named (codes "main") (if a then function_of p m k g ∷ functions_from p m (suc k) fs else functions_from p m k fs)) x
+          ∙ ap (λ w. if bytes_eq w (codes "main") then Some (function_of p m k g) else monitored.function_named (codes "main") (functions_from p m (suc k) fs)) (named_main k g here)
           ∙ ap (λ n. Some (function_of p m n g)) (sym here) ∙ ap (λ c. Some (function_of p m m c)) same
       by rest true false x y i j =
-          ap (λ a. monitored.function_named over_blocks (codes "main") (if a then function_of p m k g ∷ functions_from p m (suc k) fs else functions_from p m k fs)) x
-          ∙ ap (λ w. if bytes_eq w (codes "main") then Some (function_of p m k g) else monitored.function_named over_blocks (codes "main") (functions_from p m (suc k) fs)) (named_other k (index_by test fs) g i)
+          ap (λ a. monitored.function_named (codes "main") (if a then function_of p m k g ∷ functions_from p m (suc k) fs else functions_from p m k fs)) x
+          ∙ ap (λ w. if bytes_eq w (codes "main") then Some (function_of p m k g) else monitored.function_named (codes "main") (functions_from p m (suc k) fs)) (named_other k (index_by test fs) g i)
           ∙ rest (suc k) (omega (arith, i)) j
       by rest false b x y i j =
-          ap (λ a. monitored.function_named over_blocks (codes "main") (if a then function_of p m k g ∷ functions_from p m (suc k) fs else functions_from p m k fs)) x
+          ap (λ a. monitored.function_named (codes "main") (if a then function_of p m k g ∷ functions_from p m (suc k) fs else functions_from p m k fs)) x
           ∙ rest k i j
 
 -- ---- the ends
@@ -120,7 +121,7 @@ output_of_exit : (z : Option ℤ) (n : ℕ) (o : List ℕ) → (exit_of over_blo
 output_of_exit None n o = refl
 output_of_exit (Some z) n o = refl
 
-ran_output : (q : Result Target BlockValue) → (monitored.ran over_blocks q).output ≡ written q
+ran_output : (q : Result Target Value) → (monitored.ran over_blocks q).output ≡ written q
 ran_output (Done v s o) = output_of_exit (integer_of v) s.steps o
 ran_output (Stops e n o) = refl
 
@@ -137,7 +138,7 @@ bare_start input n = record { store = []; scope = []; marks = []; calls = 0; ste
 -- what main's body does, and the call's end
 module _ (w : Setting) (ps : List Slot) (s0 from : State) (empty : from.output ≡ []) where
   abbrev ended : Did → Ran
-  ended q = monitored.ran over_blocks (then_do q (at_return over_blocks))
+  ended q = monitored.ran over_blocks (then_do q (at_return over_blocks (Integer (pos 0))))
 
   ends_agree : (r : Outcome (Unit {0})) (q : Did) → Follows w (at_body ps int_type) Next from r q → Agrees (ran (restored s0 r)) (ended q)
   ends_agree r q (GoesOn s regs t o m b l e e') =
@@ -153,8 +154,8 @@ module _ (w : Setting) (ps : List Slot) (s0 from : State) (empty : from.output �
       subst (λ r. Agrees (ran (restored s0 r)) (ended q)) (sym e)
       (same_agrees _ _ (ap ended e' ∙ ap (λ x. ran_with y x s.steps) (sym (l ∙ ap (λ x. x ++ o) empty))))
   ends_agree r q (IsUndefined at s o e l ext) =
-      let end = then_do q (at_return over_blocks) in
-      let far : Extends o (written end) = extends_trans o (written q) (written end) ext (written_then q (at_return over_blocks)) in
+      let end = then_do q (at_return over_blocks (Integer (pos 0))) in
+      let far : Extends o (written end) = extends_trans o (written q) (written end) ext (written_then q (at_return over_blocks (Integer (pos 0)))) in
       subst (λ r. Agrees (ran (restored s0 r)) (ended q)) (sym e)
       (record { rest = far.rest; is = ran_output end ∙ far.is ∙ ap (λ x. x ++ far.rest) (sym (l ∙ ap (λ x. x ++ o) empty)) })
 
@@ -177,10 +178,10 @@ module _ (p : TranslationUnit) (q : IsProgram p) (numbers : FunctionsHaveNumbers
   main_picked = is_picked p (has_bytes p.names (codes "main")) m p.funcs f (parts_of p q numbers) found.first 0
 
   abbrev w : Setting
-  w = setting p m m f (call_of p (suc n)) (level over_blocks fs n) n [] (0 + 1)
+  w = setting p m m f (call_of p (suc n)) (level over_blocks [] fs n) n [] (0 + 1)
 
   abbrev ps : List Slot
-  ps = parameter_slots p m m f (call_of p (suc n)) (level over_blocks fs n) n []
+  ps = parameter_slots p m m f (call_of p (suc n)) (level over_blocks [] fs n) n []
 
   none : ps ≡ []
   none = ap (λ ds. slots_born 0 ds []) found.params
@@ -188,17 +189,20 @@ module _ (p : TranslationUnit) (q : IsProgram p) (numbers : FunctionsHaveNumbers
   abbrev entered : State
   entered = record (bare_start input n) { calls = 0 + 1; marks = record { label = None; scope = []; store = [] } ∷ [] }
 
-  abbrev opens : List BlockValue
-  opens = registers (Whole (pos 0)) (how_many p m m f (call_of p (suc n)) (level over_blocks fs n) n) []
+  abbrev g : MonFunction
+  g = function_of p m m f
+
+  abbrev opens : List Value
+  opens = registers over_blocks (g.parameters ++ g.registers) []
 
   abbrev entered_target : Target
   entered_target = record { mem = record { store = []; frames = 0 + 1 }; steps = n; input = input }
 
   abbrev did : Did
-  did = runs w n entered_target (body_code p m m f (call_of p (suc n)) (level over_blocks fs n) n) opens
+  did = runs w n entered_target (body_code p m m f (call_of p (suc n)) (level over_blocks [] fs n) n) opens
 
-  opens_long : length opens ≡ how_many p m m f (call_of p (suc n)) (level over_blocks fs n) n
-  opens_long = length-replicate {A = BlockValue} (how_many p m m f (call_of p (suc n)) (level over_blocks fs n) n - 0) (Whole (pos 0)) ∙ omega arith
+  opens_long : length opens ≡ how_many p m m f (call_of p (suc n)) (level over_blocks [] fs n) n
+  opens_long = registers_full (g.parameters ++ g.registers) [] (omega arith) ∙ length-append g.parameters g.registers
 
   related_first : Related w ps opens entered
   related_first = subst (λ vs. Related w vs opens entered) (sym none) (record {
@@ -219,8 +223,8 @@ module _ (p : TranslationUnit) (q : IsProgram p) (numbers : FunctionsHaveNumbers
   body_does =
       let part = main_picked.part in
       subst (λ k. Follows w (at_body ps k) Next entered (body_with no_tables f.body (call_of p (suc n)) (suc n) entered) did) found.result
-      (body_follows p m m f part (has_body p f part main_picked.definition) (call_of p (suc n)) (level over_blocks fs n) n
-      (λ outside active s names signatures u t es c. calls_at p q numbers n (setting p m m f (call_of p (suc n)) (level over_blocks fs n) n outside active) refl refl part.before part.after f part.is s names signatures u t es c)
+      (body_follows p m m f part (has_body p f part main_picked.definition) (call_of p (suc n)) (level over_blocks [] fs n) n
+      (λ outside active s names signatures u t es c. calls_at p q numbers n (setting p m m f (call_of p (suc n)) (level over_blocks [] fs n) n outside active) refl refl part.before part.after f part.is s names signatures u t es c)
       [] (0 + 1) opens entered entered_target related_first beside_first (subst (λ vs. AllSet [] vs) (sym none) tt) (omega arith))
 
   starts : start p input n ≡ bare_start input n
@@ -243,13 +247,16 @@ module _ (p : TranslationUnit) (q : IsProgram p) (numbers : FunctionsHaveNumbers
   index_is : m ≡ 0 + index_by (has_bytes p.names (codes "main")) p.funcs
   index_is = main_index_is p.names p.funcs ∙ omega arith
 
-  target_is : block_run (translated p) input n ≡ monitored.ran over_blocks (then_do did (at_return over_blocks))
+  target_is : block_run (translated p) input n ≡ monitored.ran over_blocks (then_do did (at_return over_blocks (Integer (pos 0))))
   target_is =
       let t0 : Target = record { mem = record { store = []; frames = 0 }; steps = n; input = input } in
-      ap (λ o. monitored.ran over_blocks (body_runs over_blocks o (level over_blocks fs n) n [] t0)) (target_finds p m 0 p.funcs f index_is found.first)
-      ∙ ap (λ x. monitored.ran over_blocks x) (writes_none (then_do (runs w n entered_target (alive (variable_numbers f) f.params (body_code p m m f (call_of p (suc n)) (level over_blocks fs n) n)) opens) (at_return over_blocks)))
-      ∙ ap (λ ds. monitored.ran over_blocks (then_do (runs w n entered_target (alive (variable_numbers f) ds (body_code p m m f (call_of p (suc n)) (level over_blocks fs n) n)) opens) (at_return over_blocks))) found.params
-      ∙ ap (λ a. monitored.ran over_blocks (then_do (runs w n entered_target a opens) (at_return over_blocks))) (before_none (body_code p m m f (call_of p (suc n)) (level over_blocks fs n) n))
+      ap (λ o. monitored.ran over_blocks (body_runs over_blocks [] o (level over_blocks [] fs n) n [] t0)) (target_finds p m 0 p.funcs f index_is found.first)
+      ∙ ap (λ x. monitored.ran over_blocks x) (writes_none (then_do (runs w n entered_target (alive (variable_numbers f) f.params (body_code p m m f (call_of p (suc n)) (level over_blocks [] fs n) n)) opens) (at_return over_blocks (zero_of f))))
+      ∙ ap (λ k. monitored.ran over_blocks (then_do (runs w n entered_target (alive (variable_numbers f) f.params (body_code p m m f (call_of p (suc n)) (level over_blocks [] fs n) n)) opens)
+      (at_return over_blocks (zero_result over_blocks (result_of k)))))
+      found.result
+      ∙ ap (λ ds. monitored.ran over_blocks (then_do (runs w n entered_target (alive (variable_numbers f) ds (body_code p m m f (call_of p (suc n)) (level over_blocks [] fs n) n)) opens) (at_return over_blocks (Integer (pos 0))))) found.params
+      ∙ ap (λ a. monitored.ran over_blocks (then_do (runs w n entered_target a opens) (at_return over_blocks (Integer (pos 0))))) (before_none (body_code p m m f (call_of p (suc n)) (level over_blocks [] fs n) n))
 
   -- the translation keeps the meaning
   pub translated_agrees : Agrees (run p input n) (block_run (translated p) input n)

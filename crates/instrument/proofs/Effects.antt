@@ -26,7 +26,6 @@ use Rattle.c_model.proofs.Conversions.{fits-convert}
 use Rattle.mon_syntax.specs.declared.tree.MonType.{MonType}
 use Rattle.mon_syntax.specs.declared.tree.MonType.TheVariants as kind
 use Rattle.mon_syntax.specs.Meaning.{Next}
-use Rattle.mon_syntax.specs.Memories.{BlockValue, Whole}
 use Rattle.mon_syntax.specs.Trees.{MonExpression, Register, Constant, MonStatements, NoStatement}
 use Rattle.c_effects.specs.Letters.{HasLetters, ArgumentsHaveLetters, FullHasLetters, EffectHasLetters}
 use Rattle.c_effects.specs.Expressions.{register_type, temporaries, value, before, set, setup}
@@ -71,7 +70,7 @@ no_string _ p = refl
 
 -- ---- a variable gets a value
 
-module _ (w : Setting) (slots : List Slot) (regs : List BlockValue) (s : State) (m : Related w slots regs s) (enough : count w + count w ≤ w.registers) (x : ℕ) (v : Slot) (found : slot_of x slots ≡ Some v) (z : ℤ) (f : fits v.int z ≡ true) where
+module _ (w : Setting) (slots : List Slot) (regs : List Value) (s : State) (m : Related w slots regs s) (enough : count w + count w ≤ w.registers) (x : ℕ) (v : Slot) (found : slot_of x slots ≡ Some v) (z : ℤ) (f : fits v.int z ≡ true) where
   pub later_set : Later slots s (state_with w slots regs s m enough x v found z f) []
   later_set = record {
     spent = omega arith;
@@ -88,7 +87,7 @@ module _ (w : Setting) (slots : List Slot) (regs : List BlockValue) (s : State) 
 
 -- what stands after an assignment
 module _ (p : TranslationUnit) (w : Setting) (n : ℕ) (h : Here) (scopes : Scopes) (scene : Scene p w n h.slots scopes) (s : State) (t : Target) (ready : Ready s.store h.slots scopes.objects) (le : s.steps ≤ n) (rs : List MonType)
-    (behind : count w + count w ≤ length rs) (regs : List BlockValue) (m : Related w h.slots regs s) (b : Beside w h.slots s t) where
+    (behind : count w + count w ≤ length rs) (regs : List Value) (m : Related w h.slots regs s) (b : Beside w h.slots s t) where
   abbrev does_as : Expression → MonStatements → Type 0
   does_as e a = Follows w h Next s ((eval_with no_tables e w.call >> done) s) (runs w n t a regs)
 
@@ -129,10 +128,10 @@ module _ (p : TranslationUnit) (w : Setting) (n : ℕ) (h : Here) (scopes : Scop
     abbrev Written : Value → Value → State → Did → Type 0
     Written j given to d = Follows w h Next to (on_outcome ((write at there (IntegerType v.int) j >> give given) to) (λ _. done)) d
 
-    written_int : (room : count w + count w ≤ w.registers) (given : Value) (z : ℤ) (f : fits v.int z ≡ true) (to : State) (target : Target) (after : List BlockValue) (e : MonExpression) → Related w h.slots after to → Beside w h.slots to target
+    written_int : (room : count w + count w ≤ w.registers) (given : Value) (z : ℤ) (f : fits v.int z ≡ true) (to : State) (target : Target) (after : List Value) (e : MonExpression) → Related w h.slots after to → Beside w h.slots to target
         → Has e after z → Written (Integer z) given to (runs w n target (set (value_at w x.decl) e) after)
     written_int room given z f to target after e re be has =
-        GoesOn (state_with w h.slots after to re room x.decl v seen.found z f) (slice_set after (value_at w x.decl) (Whole z)) target []
+        GoesOn (state_with w h.slots after to re room x.decl v seen.found z f) (slice_set after (value_at w x.decl) (Integer z)) target []
         (related_set w h.slots after to re room x.decl v seen.found z f)
         (beside_set w h.slots after to re room x.decl v seen.found z f h.slots target be)
         (later_set w h.slots after to re room x.decl v seen.found z f)
@@ -156,16 +155,16 @@ module _ (p : TranslationUnit) (w : Setting) (n : ℕ) (h : Here) (scopes : Scop
     abbrev old : sight.HasValue w regs s x.decl v
     old = sight.has_value w h.slots scopes regs s m ready x k d v seen.found
 
-    old_there : (after : List BlockValue) → Same (length rs) regs after → Has (Register (value_at w x.decl)) after old.known.value
+    old_there : (after : List Value) → Same (length rs) regs after → Has (Register (value_at w x.decl)) after old.known.value
     old_there after same =
         let below : value_at w x.decl < count w = subst (λ i. value_at w i < count w) (decl_at x.decl h.slots v seen.found) (value_below w s.store regs v (match_at w s.store regs x.decl h.slots v m.all seen.found)) in
-        same.below (value_at w x.decl) (omega (arith, below, behind)) ∙ old.register
+        λ mem. same.below (value_at w x.decl) (omega (arith, below, behind)) ∙ old.register
 
     read_found : read at there (IntegerType v.int) s ≡ Normal (Integer old.known.value) s
     read_found = read_is w h.slots regs s m x.decl v seen.found at old.known.value old.known.loads
 
     -- what an operator makes of the old value and another
-    combined : (room : count w + count w ≤ w.registers) (op : BinOp) (c : PlainType) (l : CInt) (y : ℤ) (e : MonExpression) (after : List BlockValue) (g : Value → Value) → c ≡ Int l → fits l y ≡ true → Same (length rs) regs after → Has e after y
+    combined : (room : count w + count w ≤ w.registers) (op : BinOp) (c : PlainType) (l : CInt) (y : ℤ) (e : MonExpression) (after : List Value) (g : Value → Value) → c ≡ Int l → fits l y ≡ true → Same (length rs) regs after → Has e after y
         → Follows w h Next s (on_outcome ((computed at (λ store. compound [] k op store (Integer old.known.value) c (Integer y)) >>= λ i. write at there (IntegerType v.int) i >> give (g i)) s) (λ _. done))
         (runs w n t (set (value_at w x.decl) (spec.compound op k c (Register (value_at w x.decl)) e)) after)
     combined room op c l y e after g c_int fy same has =
@@ -218,7 +217,7 @@ module _ (p : TranslationUnit) (w : Setting) (n : ℕ) (h : Here) (scopes : Scop
         ∙ ap (λ u. on_outcome (as_scalar (scalar_of u) (body there) s) (λ _. done)) seen.ctype
         ∙ ap (λ o. on_outcome (on_outcome o (λ x. computed at (λ store. compound [] k (bump_operator op) store x int_type (Integer (pos 1))) >>= λ i. write at there (IntegerType v.int) i >> given x i)) (λ _. done)) read_found in
         subst (λ r. Follows w h Next s r (runs w n t code regs)) (sym source)
-        (combined room (bump_operator op) int_type I32 (pos 1) (Constant kind.I32 (pos 1)) regs (λ i. bump_value op (Integer old.known.value) i) refl refl (same_all (length rs) regs) refl)
+        (combined room (bump_operator op) int_type I32 (pos 1) (Constant kind.I32 (pos 1)) regs (λ i. bump_value op (Integer old.known.value) i) refl refl (same_all (length rs) regs) (λ mem. refl))
 
   place_assigned : (at : Place) (k : PlainType) (a e : Expression) → IsPlace scopes k a → IsPureOrCall e → WellTyped scopes e → type_of e ≡ k → FullHasLetters e → length (rs ++ full_temporaries e) ≤ w.registers → Does (Node at k (Assign None a e))
   place_assigned at k (Node pa u (Variable x)) e d pure q same l room = assigned at pa u k x d.1 e pure q same l room
@@ -252,7 +251,7 @@ module _ (p : TranslationUnit) (w : Setting) (n : ℕ) (h : Here) (scopes : Scop
   -- ---- initialisations, and what follows
 
   pub initial_follows : (d : Declaration) (at : Place) (e : Expression) (v : Slot) (rest : Evaluation (Unit {0})) (code : MonStatements) → slot_of (number_of d) h.slots ≡ Some v → d.ctype ≡ Int v.int → IsPureOrCall e → WellTyped scopes e
-      → type_of e ≡ d.ctype → FullHasLetters e → length (rs ++ full_temporaries e) ≤ w.registers → ((to : State) (there : Target) (o : List ℕ) (after : List BlockValue) → Related w h.slots after to → Beside w h.slots to there → Later h.slots s to o
+      → type_of e ≡ d.ctype → FullHasLetters e → length (rs ++ full_temporaries e) ≤ w.registers → ((to : State) (there : Target) (o : List ℕ) (after : List Value) → Related w h.slots after to → Beside w h.slots to there → Later h.slots s to o
       → IsSet to.store v → Follows w h Next to (rest to) (runs w n there code after)) → Follows w h Next s (on_outcome (initialise no_tables d (Some (at, One e)) w.call s) (λ _. rest))
       (runs w n t (before (translation.initialise p w.numbers rs (number_of d) (Some (at, One e))) code) regs)
   initial_follows d at e v rest code found int pure q same l room go =
@@ -279,17 +278,17 @@ module _ (p : TranslationUnit) (w : Setting) (n : ℕ) (h : Here) (scopes : Scop
           ∙ ap (λ u. on_outcome (on_outcome (eval_with no_tables e w.call s) (λ x. as_scalar (scalar_of u) (λ c. write at there c x))) (λ _. rest)) int
           ∙ handed_on (eval_with no_tables e w.call s) (λ i. write at there (IntegerType v.int) i) (λ _. rest)
 
-      by : (z : ℤ) (to : State) (target : Target) (o : List ℕ) (after : List BlockValue) → fits v.int z ≡ true → Same (length rs) regs after → Related w h.slots after to → Beside w h.slots to target → Later h.slots s to o
+      by : (z : ℤ) (to : State) (target : Target) (o : List ℕ) (after : List Value) → fits v.int z ≡ true → Same (length rs) regs after → Related w h.slots after to → Beside w h.slots to target → Later h.slots s to o
           → Has (full_value w.numbers rs e) after z → Follows w h Next to (tail (Integer z) to) (runs w n target (before sets code) after)
       by z to target o after f same2 re be la has =
           let later = later_set w h.slots after to re room2 (number_of d) v found z f in
           subst (λ r. Follows w h Next to (on_outcome r (λ _. rest)) (runs w n target (before sets code) after)) (sym (write_is w h.slots after to re (number_of d) v found at z))
           (subst (λ d2. Follows w h Next to (rest (state_with w h.slots after to re room2 (number_of d) v found z f)) d2)
-          (sym (behind_setup w n target sets code after (slice_set after (value_at w (number_of d)) (Whole z)) (set_runs w n target (value_at w (number_of d)) (full_value w.numbers rs e) after z has)
-          ∙ sym (writes_none (runs w n target code (slice_set after (value_at w (number_of d)) (Whole z))))))
+          (sym (behind_setup w n target sets code after (slice_set after (value_at w (number_of d)) (Integer z)) (set_runs w n target (value_at w (number_of d)) (full_value w.numbers rs e) after z has)
+          ∙ sym (writes_none (runs w n target code (slice_set after (value_at w (number_of d)) (Integer z))))))
           (onward w h Next to (state_with w h.slots after to re room2 (number_of d) v found z f) [] (rest (state_with w h.slots after to re room2 (number_of d) v found z f))
-          (runs w n target code (slice_set after (value_at w (number_of d)) (Whole z))) later
-          (go (state_with w h.slots after to re room2 (number_of d) v found z f) target (o ++ []) (slice_set after (value_at w (number_of d)) (Whole z))
+          (runs w n target code (slice_set after (value_at w (number_of d)) (Integer z))) later
+          (go (state_with w h.slots after to re room2 (number_of d) v found z f) target (o ++ []) (slice_set after (value_at w (number_of d)) (Integer z))
           (related_set w h.slots after to re room2 (number_of d) v found z f)
           (beside_set w h.slots after to re room2 (number_of d) v found z f h.slots target be)
           (later_trans h.slots s to (state_with w h.slots after to re room2 (number_of d) v found z f) o [] la later)

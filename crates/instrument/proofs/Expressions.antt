@@ -1,5 +1,5 @@
 -- Expressions without effects: where the source has a value, the target has the same after the statements before it.
-use Rattle.std.proofs.Common.{◌≡◌, ℕ, suc, ◌+◌, ◌<◌, ◌≤◌, ℤ, pos, negsuc, true, cond, not, List, [], ◌∷◌, ◌++◌, length, Option, Some, None, option_map, refl, sym, ap, ◌∙◌, subst, arith}
+use Rattle.std.proofs.Common.{◌≡◌, ℕ, suc, ◌+◌, ◌<◌, ◌≤◌, ℤ, pos, negsuc, true, false, cond, not, List, [], ◌∷◌, ◌++◌, length, Option, Some, None, option_map, refl, sym, ap, ◌∙◌, subst, arith}
 use Rattle.std.proofs.lemmas.Int.{ints}
 use Rattle.std.proofs.lemmas.Bool.{lt-ltb}
 use Rattle.std.proofs.lemmas.List.{length-append}
@@ -27,21 +27,25 @@ use Rattle.c_model.proofs.Conversions.{fits-convert}
 use Rattle.mon_syntax.specs.declared.tree.MonType.{MonType}
 use Rattle.mon_syntax.specs.declared.tree.MonType.TheVariants as kind
 use Rattle.mon_syntax.specs.Trees.{MonExpression, Register, Constant, MonStatements, NoStatement}
+use Rattle.mon_syntax.specs.Arithmetic.{is_pointer}
 use Rattle.mon_syntax.specs.Meaning.{eval}
-use Rattle.mon_syntax.specs.Memories.{BlockValue, over_blocks}
+use Rattle.mon_syntax.specs.BlockMemory.{over_blocks}
 use Rattle.c_effects.specs.Letters.{IsLetter, HasLetters}
 use Rattle.c_effects.specs.Expressions.{register_type, value_type, before, set, setup, value, temporaries, condition, truth_of, condition_of, unary, binary, in_type}
 use Rattle.c_effects.specs.Expressions as spec
-use Rattle.instrument.proofs.Integers.{truth_fits}
+use Rattle.instrument.proofs.Integers.{is_number, truth_fits}
 use Rattle.instrument.proofs.Variables.{Slot, Setting, count, value_at, decl_at, Related, Same, same_all, related_same, value_below, match_at, found_is, read_is, no_tables}
 use Rattle.instrument.proofs.Sight.{AreInSight, Ready, denoted, has_value}
-use Rattle.instrument.proofs.Values.{Has, differs_from_zero, condition_is, unary_is, binary_is, in_type_converts}
+use Rattle.instrument.proofs.Values.{Has, constant_has, differs_from_zero, condition_is, unary_is, binary_is, in_type_converts}
 use Rattle.instrument.proofs.Evaluating.{Target, Did, Evaluates, HasValue, HasNone, runs, tested_value, onward_value, Makes, MakesValue, MakesNone, changed, stored, then_stored, through_if}
 use Rattle.instrument.proofs.ExpressionTypes.{scalar_int, same_int_type, cast_int, size_fits, unary_at, binary_at}
 
 pub letter_fits : (z : ℤ) → IsLetter z → fits I32 z ≡ true
 letter_fits (pos n) l = lt-ltb _ _ (omega (arith, ints, l.high))
 letter_fits (negsuc n) l = lt-ltb _ _ (omega (arith, ints, l.low))
+
+value_number : (t : PlainType) (k : CInt) → t ≡ Int k → is_pointer (value_type t) ≡ false
+value_number t k int = ap (λ u. is_pointer (value_type u)) int ∙ is_number k
 
 -- ---- lengths
 
@@ -53,43 +57,44 @@ on_give (Normal v s) = refl
 on_give (Stop e s) = refl
 
 -- a condition is 0 where the value is
-pub test_is : (u : PlainType) (k : CInt) (e : MonExpression) (later : List BlockValue) (z : ℤ) → u ≡ Int k → fits k z ≡ true → Has e later z → (i : ℤ) × Has (condition (value_type u) e) later i × (int_eq i (pos 0) ≡ int_eq z (pos 0))
+pub test_is : (u : PlainType) (k : CInt) (e : MonExpression) (later : List Value) (z : ℤ) → u ≡ Int k → fits k z ≡ true → Has e later z → (i : ℤ) × Has (condition (value_type u) e) later i × (int_eq i (pos 0) ≡ int_eq z (pos 0))
 test_is u k e later z same f h =
     let c = condition_is k e later z f h in
-    (c.number, ap (λ u. eval over_blocks (condition (value_type u) e) later) same ∙ c.has, c.alike)
+    (c.number, λ mem. ap (λ u. eval over_blocks [] (condition (value_type u) e) later mem) same ∙ c.has mem, c.alike)
 
 module _ (w : Setting) (n : ℕ) (s : State) (target : Target) where
-  abbrev Evaluated : CInt → Outcome Value → List BlockValue → ℕ → ℕ → Did → MonExpression → Type 0
+  abbrev Evaluated : CInt → Outcome Value → List Value → ℕ → ℕ → Did → MonExpression → Type 0
   Evaluated k r regs low high q e = Evaluates k s target r regs low high q e
 
-  constant : (k : CInt) (r : Outcome Value) (regs : List BlockValue) (low high : ℕ) (t : MonType) (z : ℤ) → fits k z ≡ true → r ≡ Normal (Integer z) s → Evaluated k r regs low high (runs w n target NoStatement regs) (Constant t z)
-  constant k r regs low high t z f e = HasValue z f e regs (same_all low regs) refl (λ later same. refl)
+  constant : (k : CInt) (r : Outcome Value) (regs : List Value) (low high : ℕ) (t : MonType) (z : ℤ) → is_pointer t ≡ false → fits k z ≡ true → r ≡ Normal (Integer z) s
+      → Evaluated k r regs low high (runs w n target NoStatement regs) (Constant t z)
+  constant k r regs low high t z plain f e = HasValue z f e regs (same_all low regs) refl (λ later same. constant_has t z later plain)
 
   -- what an operator makes of its operands
-  makes : (at : Place) (k : CInt) (P : List BlockValue → Type 0) (e : MonExpression) (o : Option ℤ) → ((v : ℤ) → o ≡ Some v → fits k v ≡ true) → ((v : ℤ) → o ≡ Some v → (later : List BlockValue) → P later → Has e later v)
+  makes : (at : Place) (k : CInt) (P : List Value → Type 0) (e : MonExpression) (o : Option ℤ) → ((v : ℤ) → o ≡ Some v → fits k v ≡ true) → ((v : ℤ) → o ≡ Some v → (later : List Value) → P later → Has e later v)
       → Makes w n target s k (defined at (option_map Integer o) s) P e
   makes at k P e None f h = MakesNone at refl
   makes at k P e (Some v) f h = MakesValue v (f v refl) refl (h v refl)
 
-  unary_follows : (at : Place) (op : UnOp) (t u : PlainType) (k : CInt) (r : Outcome Value) (regs : List BlockValue) (low high : ℕ) (q : Did) (e : MonExpression) → UnaryTypes op t u → t ≡ Int k
+  unary_follows : (at : Place) (op : UnOp) (t u : PlainType) (k : CInt) (r : Outcome Value) (regs : List Value) (low high : ℕ) (q : Did) (e : MonExpression) → UnaryTypes op t u → t ≡ Int k
       → ((l : CInt) → u ≡ Int l → Evaluated l r regs low high q e) → Evaluated k (on_outcome r (λ x. defined at (operate_value t op x))) regs low high q (unary op (value_type u) e)
   unary_follows at op t u k r regs low high q e types int h =
       let a = unary_at op t u k types int in
       changed w n target s a.operand k r (λ x. defined at (operate_value t op x)) regs low high q e (unary op (value_type u) e) (h a.operand a.is) (λ z f after same.
       makes at k (λ later. Same high after later × Has e later z) (unary op (value_type u) e) (operate_one t op z)
       (λ v d. subst (λ i. fits i v ≡ true) a.result (fits-operate_one_in a.operand op z v f (sym (a.same z) ∙ d)))
-      (λ v d later p. ap (λ u. eval over_blocks (unary op (value_type u) e) later) a.is ∙ unary_is a.operand op e later z v f (sym (a.same z) ∙ d) p.1))
+      (λ v d later p mem. ap (λ u. eval over_blocks [] (unary op (value_type u) e) later mem) a.is ∙ unary_is a.operand op e later z v f (sym (a.same z) ∙ d) p.1 mem))
 
-  not_follows : (t u : PlainType) (k : CInt) (r : Outcome Value) (regs : List BlockValue) (low high : ℕ) (q : Did) (e : MonExpression) → UnaryTypes prefix.Not t u → t ≡ Int k
+  not_follows : (t u : PlainType) (k : CInt) (r : Outcome Value) (regs : List Value) (low high : ℕ) (q : Did) (e : MonExpression) → UnaryTypes prefix.Not t u → t ≡ Int k
       → ((l : CInt) → u ≡ Int l → Evaluated l r regs low high q e) → Evaluated k (on_outcome r (λ x. give (Integer (truth (is_zero x))))) regs low high q (unary prefix.Not (value_type u) e)
   not_follows t u k r regs low high q e types int h =
       let a = unary_at prefix.Not t u k types int in
       changed w n target s a.operand k r (λ x. give (Integer (truth (is_zero x)))) regs low high q e (unary prefix.Not (value_type u) e) (h a.operand a.is) (λ z f after same.
-      MakesValue (truth (int_eq z (pos 0))) (subst (λ i. fits i (truth (int_eq z (pos 0))) ≡ true) a.result (truth_fits (int_eq z (pos 0)))) refl (λ later p.
-      ap (λ u. eval over_blocks (unary prefix.Not (value_type u) e) later) a.is ∙ unary_is a.operand prefix.Not e later z (truth (int_eq z (pos 0))) f refl p.1))
+      MakesValue (truth (int_eq z (pos 0))) (subst (λ i. fits i (truth (int_eq z (pos 0))) ≡ true) a.result (truth_fits (int_eq z (pos 0)))) refl (λ later p mem.
+      ap (λ u. eval over_blocks [] (unary prefix.Not (value_type u) e) later mem) a.is ∙ unary_is a.operand prefix.Not e later z (truth (int_eq z (pos 0))) f refl p.1 mem))
 
-  binary_follows : (at : Place) (unit : ℕ) (op : BinOp) (t u v : PlainType) (k : CInt) (r : Outcome Value) (right : Evaluation Value) (regs : List BlockValue) (low mid high : ℕ) (a b : MonStatements) (x y : MonExpression) → low ≤ mid → mid ≤ high
-      → BinaryTypes op t u v → t ≡ Int k → ((l : CInt) → u ≡ Int l → Evaluated l r regs low mid (runs w n target a regs) x) → ((l : CInt) → v ≡ Int l → (after : List BlockValue) → Same low regs after
+  binary_follows : (at : Place) (unit : ℕ) (op : BinOp) (t u v : PlainType) (k : CInt) (r : Outcome Value) (right : Evaluation Value) (regs : List Value) (low mid high : ℕ) (a b : MonStatements) (x y : MonExpression) → low ≤ mid → mid ≤ high
+      → BinaryTypes op t u v → t ≡ Int k → ((l : CInt) → u ≡ Int l → Evaluated l r regs low mid (runs w n target a regs) x) → ((l : CInt) → v ≡ Int l → (after : List Value) → Same low regs after
       → Evaluated l (right s) after mid high (runs w n target b after) y) → Evaluated k (on_outcome r (λ i. right >>= λ j. computed at (λ store. operate_values unit t op store i j))) regs low high (runs w n target (before a b) regs)
       (binary op (value_type u) (value_type v) x y)
   binary_follows at unit op t u v k r right regs low mid high a b x y le le2 types int left_h right_h =
@@ -99,10 +104,10 @@ module _ (w : Setting) (n : ℕ) (s : State) (target : Target) where
       (λ j g after2 same2.
       makes at k (λ later. Same high after2 later × Has y later j) (binary op (value_type u) (value_type v) x y) (operate t op i j)
       (λ z d. subst (λ l. fits l z ≡ true) m.result (fits-operate_in m.left op i j z f (λ sh. subst (λ l. fits l j ≡ true) (m.alike sh) g) (sym (m.same i j) ∙ d)))
-      (λ z d later p.
-      ap (λ u. eval over_blocks (binary op (value_type u) (value_type v) x y) later) m.left_is
-      ∙ ap (λ v. eval over_blocks (binary op (register_type m.left) (value_type v) x y) later) m.right_is
-      ∙ binary_is m.left m.right op x y later i j z f g m.alike (sym (m.same i j) ∙ d) (has later (record { long = p.0.long ∙ same2.long; below = λ h lt. p.0.below h (omega (arith, lt, le2)) ∙ same2.below h lt })) p.1)))
+      (λ z d later p mem.
+      ap (λ u. eval over_blocks [] (binary op (value_type u) (value_type v) x y) later mem) m.left_is
+      ∙ ap (λ v. eval over_blocks [] (binary op (register_type m.left) (value_type v) x y) later mem) m.right_is
+      ∙ binary_is m.left m.right op x y later i j z f g m.alike (sym (m.same i j) ∙ d) (has later (record { long = p.0.long ∙ same2.long; below = λ h lt. p.0.below h (omega (arith, lt, le2)) ∙ same2.below h lt })) p.1 mem)))
 
 -- ---- numbers of registers
 
@@ -122,12 +127,12 @@ module _ (rs a b : List MonType) where
 
 module _ (w : Setting) (n : ℕ) (slots : List Slot) (scopes : Scopes) (sight : AreInSight slots scopes.objects) (now : State) (target : Target) (ready : Ready now.store slots scopes.objects) where
   -- the translation of an expression follows it, after registers of these types
-  abbrev pub Followed : Expression → CInt → List MonType → List BlockValue → Type 0
+  abbrev pub Followed : Expression → CInt → List MonType → List Value → Type 0
   Followed e k rs regs = Evaluates k now target (eval_with no_tables e w.call now) regs (length rs) (length (rs ++ temporaries e)) (runs w n target (setup w.numbers rs e) regs) (value w.numbers rs e)
 
   -- from all registers in which the variables have their values
   abbrev pub Follows : Expression → CInt → List MonType → Type 0
-  Follows e k rs = (regs : List BlockValue) → Related w slots regs now → Followed e k rs regs
+  Follows e k rs = (regs : List Value) → Related w slots regs now → Followed e k rs regs
 
   variable_follows : (at : Place) (t : PlainType) (x : Use) (k : CInt) (rs : List MonType) → t ≡ Int k → Denotes scopes x t → count w + count w ≤ length rs → Follows (Node at t (Variable x)) k rs
   variable_follows at t x k rs int d behind regs h =
@@ -140,19 +145,19 @@ module _ (w : Setting) (n : ℕ) (slots : List Slot) (scopes : Scopes) (sight : 
       ∙ ap (λ t. read_any at (Into (suc i.slot.block) 0) (scalar_of t) now) i.ctype
       ∙ read_is w slots regs now h x.decl i.slot i.found at v.known.value v.known.loads)
       regs (same_all (length rs) regs) refl
-      (λ later same2. same2.below (value_at w x.decl) (omega (arith, below, behind, length-append {A = MonType} rs [])) ∙ v.register)
+      (λ later same2 mem. same2.below (value_at w x.decl) (omega (arith, below, behind, length-append {A = MonType} rs [])) ∙ v.register)
 
   -- a condition is tested after it
-  tested_follows : (e : Expression) (k : CInt) (rs : List MonType) → Follows e k rs → (regs : List BlockValue) → Related w slots regs now
+  tested_follows : (e : Expression) (k : CInt) (rs : List MonType) → Follows e k rs → (regs : List Value) → Related w slots regs now
       → Evaluates k now target (source.condition_of no_tables e w.call now) regs (length rs) (length (rs ++ temporaries e)) (runs w n target (setup w.numbers rs e) regs) (value w.numbers rs e)
   tested_follows e k rs f regs h =
       tested_value (place_of e) k now target (eval_with no_tables e w.call now) regs (length rs) (length (rs ++ temporaries e)) (runs w n target (setup w.numbers rs e) regs) (value w.numbers rs e) (f regs h)
 
   -- the second part of an expression begins after the first
-  after_holds : (rs : List MonType) (regs after : List BlockValue) → count w + count w ≤ length rs → Related w slots regs now → Same (length rs) regs after → Related w slots after now
+  after_holds : (rs : List MonType) (regs after : List Value) → count w + count w ≤ length rs → Related w slots regs now → Same (length rs) regs after → Related w slots after now
   after_holds rs regs after behind h same = related_same w slots regs after now (length rs) behind same h
 
-  enough_for : (rs : List MonType) (regs after : List BlockValue) (t : ℕ) → Related w slots regs now → Same (length rs) regs after → suc t ≤ w.registers → t < length after
+  enough_for : (rs : List MonType) (regs after : List Value) (t : ℕ) → Related w slots regs now → Same (length rs) regs after → suc t ≤ w.registers → t < length after
   enough_for rs regs after t h same le = omega (arith, same.long, h.registers, le)
 
   module _ (at : Place) (t : PlainType) (a b : Expression) (k l : CInt) (rs : List MonType) (a_int : type_of a ≡ Int k) (b_int : type_of b ≡ Int l) (behind : count w + count w ≤ length rs)
@@ -164,7 +169,7 @@ module _ (w : Setting) (n : ℕ) (slots : List Slot) (scopes : Scopes) (sight : 
     long = next_long rs (temporaries a) (temporaries b) kind.I32
 
     -- the right side, whose truth is put into the register
-    right_follows : (regs after : List BlockValue) → Related w slots regs now → Same (length rs) regs after
+    right_follows : (regs after : List Value) → Related w slots regs now → Same (length rs) regs after
         → Evaluates I32 now target ((source.condition_of no_tables b w.call >>= λ y. give (truth_value y)) now) after (length (rs ++ temporaries a)) (suc last)
         (runs w n target (before (setup w.numbers (rs ++ temporaries a) b) (set last (truth_of w.numbers (rs ++ temporaries a) b))) after) (Register last)
     right_follows regs after h same =
@@ -176,16 +181,16 @@ module _ (w : Setting) (n : ℕ) (slots : List Slot) (scopes : Scopes) (sight : 
           truth (not (int_eq z (pos 0))),
           truth_fits (not (int_eq z (pos 0))),
           refl,
-          ap (λ u. eval over_blocks (spec.truth (value_type u) (value w.numbers (rs ++ temporaries a) b)) later) b_int
-              ∙ differs_from_zero l (value w.numbers (rs ++ temporaries a) b) later z f has,
+          λ mem. ap (λ u. eval over_blocks [] (spec.truth (value_type u) (value w.numbers (rs ++ temporaries a) b)) later mem) b_int
+              ∙ differs_from_zero l (value w.numbers (rs ++ temporaries a) b) later z f has mem,
         ))
 
     -- a constant that is put into it
-    constant_follows : (z : ℤ) → fits I32 z ≡ true → (regs after : List BlockValue) → Related w slots regs now → Same (length rs) regs after
+    constant_follows : (z : ℤ) → fits I32 z ≡ true → (regs after : List Value) → Related w slots regs now → Same (length rs) regs after
         → Evaluates I32 now target (give (Integer z) now) after (length (rs ++ temporaries a)) (suc last) (runs w n target (set last (Constant kind.I32 z)) after) (Register last)
     constant_follows z f regs after h same =
         stored w n target now I32 (give (Integer z) now) after (length (rs ++ temporaries a)) last (Constant kind.I32 z) z (enough_for rs regs after last h same (omega (arith, long, enough)))
-        (longer (rs ++ temporaries a) (temporaries b)) f refl refl
+        (longer (rs ++ temporaries a) (temporaries b)) f refl (λ mem. refl)
 
     both_follows : Follows (Node at t (Both a b)) I32 rs
     both_follows regs h =
@@ -217,8 +222,8 @@ module _ (w : Setting) (n : ℕ) (slots : List Slot) (scopes : Scopes) (sight : 
     choice_long = third_long rs (temporaries a) (temporaries b) (temporaries c) (value_type (type_of b))
 
     -- the value of one of the parts, put into the register
-    part_follows : (e : Expression) (es : List MonType) (low : ℕ) → low ≤ length es → length (es ++ temporaries e) ≤ chosen_in → Follows e l es → (after : List BlockValue) → Related w slots after now → chosen_in < length after
-        → ((regs : List BlockValue) → Evaluates l now target (eval_with no_tables e w.call now) regs (length es) (length (es ++ temporaries e)) (runs w n target (setup w.numbers es e) regs) (value w.numbers es e)
+    part_follows : (e : Expression) (es : List MonType) (low : ℕ) → low ≤ length es → length (es ++ temporaries e) ≤ chosen_in → Follows e l es → (after : List Value) → Related w slots after now → chosen_in < length after
+        → ((regs : List Value) → Evaluates l now target (eval_with no_tables e w.call now) regs (length es) (length (es ++ temporaries e)) (runs w n target (setup w.numbers es e) regs) (value w.numbers es e)
         → Evaluates l now target (eval_with no_tables e w.call now) regs low (length (es ++ temporaries e)) (runs w n target (setup w.numbers es e) regs) (value w.numbers es e))
         → Evaluates l now target (eval_with no_tables e w.call now) after low (suc chosen_in) (runs w n target (before (setup w.numbers es e) (set chosen_in (value w.numbers es e))) after) (Register chosen_in)
     part_follows e es low le le2 f after h lt lower =
@@ -228,7 +233,7 @@ module _ (w : Setting) (n : ℕ) (slots : List Slot) (scopes : Scopes) (sight : 
         (λ z g later has. (z, g, refl, has)))
 
     -- registers below a lower number stay too
-    lower_same : (e : Expression) (es : List MonType) (low : ℕ) → low ≤ length es → (regs : List BlockValue) → Followed e l es regs
+    lower_same : (e : Expression) (es : List MonType) (low : ℕ) → low ≤ length es → (regs : List Value) → Followed e l es regs
         → Evaluates l now target (eval_with no_tables e w.call now) regs low (length (es ++ temporaries e)) (runs w n target (setup w.numbers es e) regs) (value w.numbers es e)
     lower_same e es low le regs (HasNone at x) = HasNone at x
     lower_same e es low le regs (HasValue z f x after same run has) = HasValue z f x after (record { long = same.long; below = λ j lt. same.below j (omega (arith, lt, le)) }) run has
@@ -254,17 +259,17 @@ module _ (w : Setting) (n : ℕ) (slots : List Slot) (scopes : Scopes) (sight : 
       (runs w n target (setup w.numbers rs a) regs) (in_type (value_type (type_of a)) (value_type to) (value w.numbers rs a))) (sym (ap is_array from.is))
       (changed w n target now from.int k (eval_with no_tables a w.call now) (λ x. give (converted to x)) regs (length rs) (length (rs ++ temporaries a)) (runs w n target (setup w.numbers rs a) regs) (value w.numbers rs a)
       (in_type (value_type (type_of a)) (value_type to) (value w.numbers rs a)) (f from.int from.is regs h) (λ z g after same2.
-      MakesValue (convert k z) (fits-convert k z) (ap (λ to. Normal (converted to (Integer z)) now) to_int) (λ later p.
-      ap (λ u. eval over_blocks (in_type (value_type u) (value_type to) (value w.numbers rs a)) later) from.is
-      ∙ ap (λ u. eval over_blocks (in_type (register_type from.int) (value_type u) (value w.numbers rs a)) later) to_int
-      ∙ in_type_converts from.int k (value w.numbers rs a) later z g p.1)))
+      MakesValue (convert k z) (fits-convert k z) (ap (λ to. Normal (converted to (Integer z)) now) to_int) (λ later p mem.
+      ap (λ u. eval over_blocks [] (in_type (value_type u) (value_type to) (value w.numbers rs a)) later mem) from.is
+      ∙ ap (λ u. eval over_blocks [] (in_type (register_type from.int) (value_type u) (value w.numbers rs a)) later mem) to_int
+      ∙ in_type_converts from.int k (value w.numbers rs a) later z g p.1 mem)))
 
   pub evaluates : (e : Expression) (k : CInt) (rs : List MonType) → type_of e ≡ Int k → IsPure e → WellTyped scopes e → HasLetters e → count w + count w ≤ length rs → length (rs ++ temporaries e) ≤ w.registers → Follows e k rs
   evaluates (Node at t (Number z None)) k rs int p q l behind enough regs h = absurd q
   evaluates (Node at t (Number z (Some i))) k rs int p q l behind enough regs h =
-      constant w n now target k (Normal (Integer z) now) regs (length rs) (length (rs ++ [])) (value_type t) z (subst (λ i. fits i z ≡ true) (same_int_type i k (sym q.0 ∙ int)) q.1) refl
+      constant w n now target k (Normal (Integer z) now) regs (length rs) (length (rs ++ [])) (value_type t) z (value_number t k int) (subst (λ i. fits i z ≡ true) (same_int_type i k (sym q.0 ∙ int)) q.1) refl
   evaluates (Node at t (Letter z)) k rs int p q l behind enough regs h =
-      constant w n now target k (Normal (Integer z) now) regs (length rs) (length (rs ++ [])) (value_type t) z (subst (λ i. fits i z ≡ true) (same_int_type I32 k (sym q ∙ int)) (letter_fits z l)) refl
+      constant w n now target k (Normal (Integer z) now) regs (length rs) (length (rs ++ [])) (value_type t) z (value_number t k int) (subst (λ i. fits i z ≡ true) (same_int_type I32 k (sym q ∙ int)) (letter_fits z l)) refl
   evaluates (Node at t (Variable x)) k rs int p q l behind enough regs h = variable_follows at t x k rs int q behind regs h
   evaluates (Node at t (Unary prefix.Plus a)) k rs int p q l behind enough regs h =
       unary_follows w n now target at prefix.Plus t (type_of a) k (eval_with no_tables a w.call now) regs (length rs) (length (rs ++ temporaries a)) (runs w n target (setup w.numbers rs a) regs) (value w.numbers rs a) q.1 int
@@ -315,10 +320,10 @@ module _ (w : Setting) (n : ℕ) (slots : List Slot) (scopes : Scopes) (sight : 
       (evaluates c k (rs ++ temporaries a ++ temporaries b) (q.5 ∙ int) p.2 q.2 l.2 (omega (arith, longer (rs ++ temporaries a) (temporaries b), longer rs (temporaries a), behind)) (omega (arith, more, enough))) regs h
   evaluates (Node at t (Cast to a)) k rs int p q l behind enough regs h = cast_follows at t to a k rs q.1 int q.2 (λ i e. evaluates a i rs e p q.0 l behind enough) regs h
   evaluates (Node at t (SizeOfType u)) k rs int p q l behind enough regs h =
-      constant w n now target k (Normal (Integer (pos (size_of [] u))) now) regs (length rs) (length (rs ++ [])) kind.U64 (pos (size_of [] u))
+      constant w n now target k (Normal (Integer (pos (size_of [] u))) now) regs (length rs) (length (rs ++ [])) kind.U64 (pos (size_of [] u)) refl
       (subst (λ i. fits i (pos (size_of [] u)) ≡ true) (same_int_type U64 k (sym q.0 ∙ int)) (size_fits u q.1)) refl
   evaluates (Node at t (SizeOfExpr a)) k rs int p q l behind enough regs h =
-      constant w n now target k (Normal (Integer (pos (size_of [] (type_of a)))) now) regs (length rs) (length (rs ++ [])) kind.U64 (pos (size_of [] (type_of a)))
+      constant w n now target k (Normal (Integer (pos (size_of [] (type_of a)))) now) regs (length rs) (length (rs ++ [])) kind.U64 (pos (size_of [] (type_of a))) refl
       (subst (λ i. fits i (pos (size_of [] (type_of a))) ≡ true) (same_int_type U64 k (sym q.1 ∙ int))
       (size_fits (type_of a) q.2)) refl
   evaluates (Node at t (Text n)) k rs int p q l behind enough regs h = absurd p

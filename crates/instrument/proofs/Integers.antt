@@ -1,5 +1,5 @@
 -- Registers compute what the source does, where that is defined: results of a type, conversions and operators.
-use Rattle.std.proofs.Common.{◌≡◌, ℕ, suc, ◌-◌, ◌%◌, ◌<◌, ◌^◌, ℤ, pos, negsuc, neg_ℤ, ◌+ℤ◌, ◌-ℤ◌, ◌*ℤ◌, Bool, true, false, not, ◌&&◌, nat_lt, nat_le, int_div, int_rem, int_le, if◌then◌else◌, Option, Some, None, refl, sym, ap, ◌∙◌, arith}
+use Rattle.std.proofs.Common.{◌≡◌, ℕ, suc, ◌-◌, ◌%◌, ◌<◌, ◌^◌, ℤ, pos, negsuc, neg_ℤ, ◌+ℤ◌, ◌-ℤ◌, ◌*ℤ◌, Bool, true, false, not, ◌&&◌, ◌||◌, nat_lt, nat_le, int_div, int_rem, int_le, if◌then◌else◌, Option, Some, None, refl, sym, ap, ◌∙◌, arith}
 use Rattle.std.proofs.lemmas.Int.{ints}
 use Rattle.std.proofs.lemmas.Bool.{ltb-true, lt-ltb}
 use Rattle.std.proofs.lemmas.Bool.Decides.{nat_tests}
@@ -15,11 +15,14 @@ use Rattle.c_model.specs.Integers.{int_size, is_signed, fits, bits_of, convert, 
 use Rattle.c_model.specs.Operators.{quotient, shift_left, shift_right, complement, floor_quotient}
 use Rattle.c_model.specs.Conversions.{promoted, is_shift}
 use Rattle.c_model.proofs.OperatorResults.{fits-operate_in}
+use Rattle.mon_syntax.specs.declared.tree.MonOp.{MonOp}
 use Rattle.mon_syntax.specs.declared.tree.MonOp.TheVariants as mon
+use Rattle.mon_syntax.specs.declared.tree.MonType.{MonType}
 use Rattle.mon_syntax.specs.declared.tree.MonType.TheVariants as kind
-use Rattle.mon_syntax.specs.Arithmetic.{wrap, operate, lowest_bits, minus, flipped, divided, shift_count}
+use Rattle.mon_syntax.specs.Arithmetic.{is_pointer, wrap, operate, lowest_bits, minus, flipped, divided, shift_count}
 use Rattle.mon_syntax.specs.Arithmetic as register
 use Rattle.mon_syntax.specs.Checking.{same_type}
+use Rattle.mon_syntax.specs.Valid.{is_arithmetic, is_relation, is_sum, is_difference, has_operator, second_type, result_type}
 use Rattle.mon_syntax.proofs.Wrapping.{wrap-fitting}
 use Rattle.c_effects.specs.Expressions.{register_type, operand_type, operator_of}
 
@@ -120,6 +123,30 @@ operand_is I32 = refl
 operand_is U32 = refl
 operand_is I64 = refl
 operand_is U64 = refl
+
+-- no register of a value holds a pointer
+pub is_number : (k : CInt) → is_pointer (register_type k) ≡ false
+is_number I8 = refl
+is_number U8 = refl
+is_number I16 = refl
+is_number U16 = refl
+is_number I32 = refl
+is_number U32 = refl
+is_number I64 = refl
+is_number U64 = refl
+
+-- what operators on numbers give and take
+pub number_result : (op : MonOp) (t : MonType) → is_pointer t ≡ false → result_type op t ≡ (if is_relation op then kind.I32 else t)
+number_result op t plain = ap (λ p. if is_relation op then kind.I32 else (if p && is_difference op then kind.I64 else t)) plain
+
+pub number_second : (op : MonOp) (t : MonType) → is_pointer t ≡ false → second_type op t ≡ t
+number_second op t plain = ap (λ p. if p && is_sum op then kind.I64 else t) plain
+
+pub number_operator : (op : MonOp) (t : MonType) → is_pointer t ≡ false → has_operator op t ≡ is_arithmetic t
+number_operator op t plain = ap (λ p. if p then is_sum op || (is_difference op || is_relation op) else is_arithmetic t) plain
+
+pub operand_number : (k : CInt) → is_pointer (operand_type (register_type k)) ≡ false
+operand_number k = ap is_pointer (operand_is k) ∙ is_number (promoted k)
 
 pub same_kind : (k l : CInt) → same_type (register_type k) (register_type l) ≡ true → k ≡ l
 same_kind I8 I8 e = refl

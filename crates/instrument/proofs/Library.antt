@@ -16,7 +16,7 @@ use Rattle.c_model.specs.Meaning.{tables_of, global_scope, put_char, get_char, e
 use Rattle.c_model.specs.Typing.{name_at}
 use Rattle.mon_syntax.specs.Meaning.{Result, Done, Stops, Next, then_do, given_to, got, with_read, with_value, eval, eval_all}
 use Rattle.mon_syntax.specs.Meaning.{◌>>=◌ as bind}
-use Rattle.mon_syntax.specs.Memories.{BlockValue, Whole, integer_of, over_blocks}
+use Rattle.mon_syntax.specs.BlockMemory.{integer_of, over_blocks}
 use Rattle.mon_syntax.specs.Trees.{MonExpression, PutChar, GetChar, Exit, Call, MonStatements, NoStatement}
 use Rattle.c_effects.specs.Expressions.{one}
 use Rattle.c_effects.specs.Effects as effects
@@ -25,7 +25,7 @@ use Rattle.instrument.proofs.Variables.{Setting}
 use Rattle.instrument.proofs.Values.{Has}
 use Rattle.instrument.proofs.Results.{one_is}
 use Rattle.instrument.proofs.Evaluating.{Target, runs}
-use Rattle.instrument.proofs.Calls.{Even, CameBack, Called, Gives, EndsRun, AllFit, integers, wholes, takes, CallDoes, DoesCall, CallsNothing}
+use Rattle.instrument.proofs.Calls.{Even, CameBack, Called, Gives, EndsRun, AllFit, integers, HaveAll, takes, CallDoes, DoesCall, CallsNothing}
 
 -- ---- bytes as values of `int`
 
@@ -89,36 +89,36 @@ module _ (p : TranslationUnit) (w : Setting) (n depth : ℕ) (calls : w.call ≡
 
   -- what the call does
   abbrev pub Does : List CInt → PlainType → Type 0
-  Does ints result = (zs : List ℤ) → AllFit ints zs → (s : State) (t : Target) → Even s t → s.steps ≤ n → (at : Place) (into : Option ℕ) (regs : List BlockValue) (args : List MonExpression) → eval_all over_blocks args regs ≡ Some (wholes zs)
+  Does ints result = (zs : List ℤ) → AllFit ints zs → (s : State) (t : Target) → Even s t → s.steps ≤ n → (at : Place) (into : Option ℕ) (regs : List Value) (args : List MonExpression) → HaveAll args regs zs
       → CallDoes s result (w.call at f (integers zs) s) into regs (runs w n t (call p into f args) regs)
 
   -- the same over what is known of the name
-  from_names : (ints : List CInt) (result : PlainType) → ((zs : List ℤ) → AllFit ints zs → (s : State) (t : Target) → Even s t → (at : Place) (into : Option ℕ) (regs : List BlockValue) (args : List MonExpression)
-      → eval_all over_blocks args regs ≡ Some (wholes zs) → CallDoes s result (library_call at (slice_get p.names f.name) (integers zs) s) into regs (runs w n t (effects.library_call into name args) regs)) → Does ints result
+  from_names : (ints : List CInt) (result : PlainType) → ((zs : List ℤ) → AllFit ints zs → (s : State) (t : Target) → Even s t → (at : Place) (into : Option ℕ) (regs : List Value) (args : List MonExpression)
+      → HaveAll args regs zs → CallDoes s result (library_call at (slice_get p.names f.name) (integers zs) s) into regs (runs w n t (effects.library_call into name args) regs)) → Does ints result
   from_names ints result h zs fit s t even le at into regs args has =
       subst (λ r. CallDoes s result r into regs (runs w n t (call p into f args) regs)) (sym (source_is at (integers zs) s))
       (subst (λ a. CallDoes s result (library_call at (slice_get p.names f.name) (integers zs) s) into regs (runs w n t a regs)) (sym (code_is into args))
       (h zs fit s t even at into regs args has))
 
   -- the one argument
-  first_has : (args : List MonExpression) (regs : List BlockValue) (z : ℤ) → eval_all over_blocks args regs ≡ Some (Whole z ∷ []) → Has (effects.first_of args) regs z
-  first_has [] regs z e = absurd cc
-  first_has (a ∷ args) regs z e = by (eval over_blocks a regs) refl e
+  first_has : (args : List MonExpression) (regs : List Value) (z : ℤ) → HaveAll args regs (z ∷ []) → Has (effects.first_of args) regs z
+  first_has [] regs z e mem = let none = e mem in absurd cc
+  first_has (a ∷ args) regs z e mem = by (eval over_blocks [] a regs mem) refl (e mem)
     where
-      all : (v : BlockValue) (o : Option (List BlockValue)) → bind o (λ vs. Some (v ∷ vs)) ≡ Some (Whole z ∷ []) → v ≡ Whole z
+      all : (v : Value) (o : Option (List Value)) → bind o (λ vs. Some (v ∷ vs)) ≡ Some (Integer z ∷ []) → v ≡ Integer z
       all v None f = absurd cc
-      all v (Some vs) f = let both : v ∷ vs ≡ Whole z ∷ [] = cc in cc
+      all v (Some vs) f = let both : v ∷ vs ≡ Integer z ∷ [] = cc in cc
 
-      by : (o : Option BlockValue) → eval over_blocks a regs ≡ o → bind o (λ v. bind (eval_all over_blocks args regs) (λ vs. Some (v ∷ vs))) ≡ Some (Whole z ∷ []) → eval over_blocks a regs ≡ Some (Whole z)
+      by : (o : Option Value) → eval over_blocks [] a regs mem ≡ o → bind o (λ v. bind (eval_all over_blocks [] args regs mem) (λ vs. Some (v ∷ vs))) ≡ Some (Integer z ∷ []) → eval over_blocks [] a regs mem ≡ Some (Integer z)
       by None g f = absurd cc
-      by (Some v) g f = g ∙ ap Some (all v (eval_all over_blocks args regs) f)
+      by (Some v) g f = g ∙ ap Some (all v (eval_all over_blocks [] args regs mem) f)
 
   -- ---- putchar
 
   pub putchar_does : bytes_eq name (codes "putchar") ≡ true → Does (I32 ∷ []) int_type
   putchar_does e = from_names (I32 ∷ []) int_type by
     where
-      prints : (s : State) (t : Target) → Even s t → (at : Place) (into : Option ℕ) (regs : List BlockValue) (args : List MonExpression) (z : ℤ) → eval_all over_blocks args regs ≡ Some (Whole z ∷ [])
+      prints : (s : State) (t : Target) → Even s t → (at : Place) (into : Option ℕ) (regs : List Value) (args : List MonExpression) (z : ℤ) → HaveAll args regs (z ∷ [])
           → CallDoes s int_type (library_call at (slice_get p.names f.name) (Integer z ∷ []) s) into regs (runs w n t (effects.library_call into name args) regs)
       prints s t even at into regs args z has =
           let x = there p.names f.name 112 (117 ∷ 116 ∷ 99 ∷ 104 ∷ 97 ∷ 114 ∷ []) e in
@@ -127,16 +127,16 @@ module _ (p : TranslationUnit) (w : Setting) (n depth : ℕ) (calls : w.call ≡
           let source : library_call at (slice_get p.names f.name) (Integer z ∷ []) s ≡ Normal (Integer (pos byte)) to =
           ap (λ o. library_call at o (Integer z ∷ []) s) x.found
           ∙ ap (λ a. source_by a (bytes_eq x.name (codes "getchar")) (bytes_eq x.name (codes "exit")) at (Integer z ∷ []) s) x.is in
-          DoesCall (Done (Whole (pos byte)) t (byte ∷ []))
+          DoesCall (Done (Integer (pos byte)) t (byte ∷ []))
           (ap (λ a. runs w n t (target_by a (bytes_eq name (codes "getchar")) (bytes_eq name (codes "exit")) into args) regs) e
           ∙ one_is (PutChar into (effects.first_of args)) w.calls n regs t
-          ∙ ap (λ o. with_value (bind o integer_of) t.steps (λ i. Done (Next (given_to into (Whole (pos (byte_of i))) regs)) t (byte_of i ∷ []))) (first_has args regs z has))
-          (Gives (Some (pos byte)) (Whole (pos byte)) to t (byte ∷ []) (byte_fits byte (byte_below z)) refl
+          ∙ ap (λ o. with_value (bind o integer_of) t.steps (λ i. Done (Next (given_to into (Integer (pos (byte_of i))) regs)) t (byte_of i ∷ []))) (first_has args regs z has t.mem))
+          (Gives (Some (pos byte)) (Integer (pos byte)) to t (byte ∷ []) (byte_fits byte (byte_below z)) refl
           (record { scope = refl; calls = refl; live = refl; below = λ j lt. refl; longer = omega arith; spent = omega arith; output = refl })
           (record { long = even.long; live = even.live; frames = even.frames; steps = even.steps; input = even.input })
           source refl)
 
-      by : (zs : List ℤ) → AllFit (I32 ∷ []) zs → (s : State) (t : Target) → Even s t → (at : Place) (into : Option ℕ) (regs : List BlockValue) (args : List MonExpression) → eval_all over_blocks args regs ≡ Some (wholes zs)
+      by : (zs : List ℤ) → AllFit (I32 ∷ []) zs → (s : State) (t : Target) → Even s t → (at : Place) (into : Option ℕ) (regs : List Value) (args : List MonExpression) → HaveAll args regs zs
           → CallDoes s int_type (library_call at (slice_get p.names f.name) (integers zs) s) into regs (runs w n t (effects.library_call into name args) regs)
       by [] fit s t even at into regs args has = absurd fit
       by (z ∷ []) fit s t even at into regs args has = prints s t even at into regs args z has
@@ -144,29 +144,29 @@ module _ (p : TranslationUnit) (w : Setting) (n depth : ℕ) (calls : w.call ≡
 
   -- ---- getchar
 
-  abbrev reads : List ℕ → InputTail → Target → Result Target BlockValue
-  reads bytes tail t = with_read (got bytes tail) t.steps (λ z input. Done (Whole z) (record t { input = input }) [])
+  abbrev reads : List ℕ → InputTail → Target → Result Target Value
+  reads bytes tail t = with_read (got bytes tail) t.steps (λ z input. Done (Integer z) (record t { input = input }) [])
 
   read_follows : (bytes : List ℕ) (tail : InputTail) (s : State) (t : Target) → Even s t → s.input ≡ record { bytes = bytes; tail = tail } → Called s int_type (read_byte bytes tail s) (reads bytes tail t)
   read_follows [] EndOfInput s t even e =
-      Gives (Some (negsuc 0)) (Whole (negsuc 0)) s (record t { input = record { bytes = []; tail = EndOfInput } }) [] refl refl (same_state s)
+      Gives (Some (negsuc 0)) (Integer (negsuc 0)) s (record t { input = record { bytes = []; tail = EndOfInput } }) [] refl refl (same_state s)
       (record { long = even.long; live = even.live; frames = even.frames; steps = even.steps; input = sym e }) refl refl
   read_follows [] InputFault s t even e = EndsRun ReadFault s [] (λ h. absurd cc) refl (sym (append-nil s.output)) (ap (λ k. Stops ReadFault k []) even.steps)
   read_follows (b ∷ bytes) tail s t even e =
       let rest : Input = record { bytes = bytes; tail = tail } in
-      Gives (Some (pos (b % 256))) (Whole (pos (b % 256))) (record s { input = rest }) (record t { input = rest }) [] (byte_fits (b % 256) (omega arith)) refl
+      Gives (Some (pos (b % 256))) (Integer (pos (b % 256))) (record s { input = rest }) (record t { input = rest }) [] (byte_fits (b % 256) (omega arith)) refl
       (record { scope = refl; calls = refl; live = refl; below = λ j lt. refl; longer = omega arith; spent = omega arith; output = sym (append-nil s.output) })
       (record { long = even.long; live = even.live; frames = even.frames; steps = even.steps; input = refl }) refl refl
 
-  read_runs : (o : Option (ℤ × Input)) (t : Target) (into : Option ℕ) (regs : List BlockValue) → with_read o t.steps (λ z input. Done (Next (given_to into (Whole z) regs)) (record t { input = input }) []) ≡ then_do
-      (with_read o t.steps (λ z input. Done (Whole z) (record t { input = input }) [])) (takes into regs)
+  read_runs : (o : Option (ℤ × Input)) (t : Target) (into : Option ℕ) (regs : List Value) → with_read o t.steps (λ z input. Done (Next (given_to into (Integer z) regs)) (record t { input = input }) []) ≡ then_do
+      (with_read o t.steps (λ z input. Done (Integer z) (record t { input = input }) [])) (takes into regs)
   read_runs None t into regs = refl
   read_runs (Some (z, input)) t into regs = refl
 
   pub getchar_does : bytes_eq name (codes "putchar") ≡ false → bytes_eq name (codes "getchar") ≡ true → Does [] int_type
   getchar_does e1 e2 = from_names [] int_type by
     where
-      by : (zs : List ℤ) → AllFit [] zs → (s : State) (t : Target) → Even s t → (at : Place) (into : Option ℕ) (regs : List BlockValue) (args : List MonExpression) → eval_all over_blocks args regs ≡ Some (wholes zs)
+      by : (zs : List ℤ) → AllFit [] zs → (s : State) (t : Target) → Even s t → (at : Place) (into : Option ℕ) (regs : List Value) (args : List MonExpression) → HaveAll args regs zs
           → CallDoes s int_type (library_call at (slice_get p.names f.name) (integers zs) s) into regs (runs w n t (effects.library_call into name args) regs)
       by (z ∷ zs) fit s t even at into regs args has = absurd fit
       by [] fit s t even at into regs args has =
@@ -180,7 +180,7 @@ module _ (p : TranslationUnit) (w : Setting) (n depth : ℕ) (calls : w.call ≡
           ap (λ a. runs w n t (target_by a (bytes_eq name (codes "getchar")) (bytes_eq name (codes "exit")) into args) regs) e1
           ∙ ap (λ b. runs w n t (target_by false b (bytes_eq name (codes "exit")) into args) regs) e2
           ∙ one_is (GetChar into) w.calls n regs t
-          ∙ ap (λ (i : Input). with_read (got i.bytes i.tail) t.steps (λ z input. Done (Next (given_to into (Whole z) regs)) (record t { input = input }) [])) even.input
+          ∙ ap (λ (i : Input). with_read (got i.bytes i.tail) t.steps (λ z input. Done (Next (given_to into (Integer z) regs)) (record t { input = input }) [])) even.input
           ∙ read_runs (got s.input.bytes s.input.tail) t into regs in
           DoesCall (reads s.input.bytes s.input.tail t) is
           (subst (λ r. Called s int_type r (reads s.input.bytes s.input.tail t)) (sym source) (read_follows s.input.bytes s.input.tail s t even refl))
@@ -190,7 +190,7 @@ module _ (p : TranslationUnit) (w : Setting) (n depth : ℕ) (calls : w.call ≡
   pub exit_does : bytes_eq name (codes "putchar") ≡ false → bytes_eq name (codes "getchar") ≡ false → bytes_eq name (codes "exit") ≡ true → Does (I32 ∷ []) Void
   exit_does e1 e2 e3 = from_names (I32 ∷ []) Void by
     where
-      exits : (s : State) (t : Target) → Even s t → (at : Place) (into : Option ℕ) (regs : List BlockValue) (args : List MonExpression) (z : ℤ) → eval_all over_blocks args regs ≡ Some (Whole z ∷ [])
+      exits : (s : State) (t : Target) → Even s t → (at : Place) (into : Option ℕ) (regs : List Value) (args : List MonExpression) (z : ℤ) → HaveAll args regs (z ∷ [])
           → CallDoes s Void (library_call at (slice_get p.names f.name) (Integer z ∷ []) s) into regs (runs w n t (effects.library_call into name args) regs)
       exits s t even at into regs args z has =
           let x = there p.names f.name 101 (120 ∷ 105 ∷ 116 ∷ []) e3 in
@@ -206,10 +206,10 @@ module _ (p : TranslationUnit) (w : Setting) (n depth : ℕ) (calls : w.call ≡
           ∙ ap (λ b. runs w n t (target_by false b (bytes_eq name (codes "exit")) into args) regs) e2
           ∙ ap (λ c. runs w n t (target_by false false c into args) regs) e3
           ∙ one_is (Exit (effects.first_of args)) w.calls n regs t
-          ∙ ap (λ o. with_value (bind o integer_of) t.steps (λ i. Stops (Exits i) t.steps [])) (first_has args regs z has))
+          ∙ ap (λ o. with_value (bind o integer_of) t.steps (λ i. Stops (Exits i) t.steps [])) (first_has args regs z has t.mem))
           (EndsRun (Exits z) s [] (λ h. absurd cc) source (sym (append-nil s.output)) (ap (λ k. Stops (Exits z) k []) even.steps))
 
-      by : (zs : List ℤ) → AllFit (I32 ∷ []) zs → (s : State) (t : Target) → Even s t → (at : Place) (into : Option ℕ) (regs : List BlockValue) (args : List MonExpression) → eval_all over_blocks args regs ≡ Some (wholes zs)
+      by : (zs : List ℤ) → AllFit (I32 ∷ []) zs → (s : State) (t : Target) → Even s t → (at : Place) (into : Option ℕ) (regs : List Value) (args : List MonExpression) → HaveAll args regs zs
           → CallDoes s Void (library_call at (slice_get p.names f.name) (integers zs) s) into regs (runs w n t (effects.library_call into name args) regs)
       by [] fit s t even at into regs args has = absurd fit
       by (z ∷ []) fit s t even at into regs args has = exits s t even at into regs args z has

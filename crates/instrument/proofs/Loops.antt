@@ -18,7 +18,7 @@ use Rattle.c_model.proofs.Agreement.{extends_trans}
 use Rattle.mon_syntax.specs.declared.tree.MonType.{MonType}
 use Rattle.mon_syntax.specs.Meaning.{Result, Done, Stops, Flow, Next, Goes, Returns, writes, then_do, at_next, at_label, choose}
 use Rattle.mon_syntax.specs.Meaning as monitored
-use Rattle.mon_syntax.specs.Memories.{BlockValue, Whole, over_blocks}
+use Rattle.mon_syntax.specs.BlockMemory.{over_blocks}
 use Rattle.mon_syntax.specs.Trees.{Goto, Labelled, Loop, MonStatements, NoStatement, Then}
 use Rattle.c_effects.specs.Letters.{HasLetters}
 use Rattle.c_effects.specs.Expressions.{value, temporaries, setup, condition_of, one}
@@ -51,7 +51,7 @@ stepped s k = record s { steps = k }
 abbrev pub target_stepped : Target → ℕ → Target
 target_stepped t k = record t { steps = k }
 
-meets_stepped : (w : Setting) (slots : List Slot) (scopes : Scopes) (regs : List BlockValue) (s : State) (t : Target) (k : ℕ) → Meets w slots scopes.objects regs s t → Meets w slots scopes.objects regs (stepped s k) (target_stepped t k)
+meets_stepped : (w : Setting) (slots : List Slot) (scopes : Scopes) (regs : List Value) (s : State) (t : Target) (k : ℕ) → Meets w slots scopes.objects regs s t → Meets w slots scopes.objects regs (stepped s k) (target_stepped t k)
 meets_stepped w slots scopes regs s t k m = record {
   related = record { scope = r.scope; calls = r.calls; live = r.live; outside = r.outside; stacked = r.stacked; apart = r.apart; all = r.all; registers = r.registers };
   beside = record { long = b.long; live = b.live; frames = b.frames; steps = refl; input = b.input };
@@ -67,7 +67,7 @@ meets_stepped w slots scopes regs s t k m = record {
 later_stepped : (slots : List Slot) (s to : State) (k : ℕ) (o : List ℕ) → s.steps ≡ suc k → Later slots (stepped s k) to o → Later slots s to o
 later_stepped slots s to k o e l = record { spent = omega (arith, e, l.spent); output = l.output; longer = l.longer; kept = l.kept }
 
-from_stepped : (w : Setting) (h : Here) (on : List BlockValue → Flow BlockValue) (s : State) (k : ℕ) (r : Outcome (Unit {0})) (q : Did) → s.steps ≡ suc k → Follows w h on (stepped s k) r q → Follows w h on s r q
+from_stepped : (w : Setting) (h : Here) (on : List Value → Flow Value) (s : State) (k : ℕ) (r : Outcome (Unit {0})) (q : Did) → s.steps ≡ suc k → Follows w h on (stepped s k) r q → Follows w h on s r q
 from_stepped w h on s k r q x (GoesOn to regs t o m b l e f) = GoesOn to regs t o m b (later_stepped h.slots s to k o x l) e f
 from_stepped w h on s k r q x (Breaks to regs t o i m b l e f) = Breaks to regs t o i m b (later_stepped h.slots s to k o x l) e f
 from_stepped w h on s k r q x (Continues to regs t o i m b l e f) = Continues to regs t o i m b (later_stepped h.slots s to k o x l) e f
@@ -87,23 +87,23 @@ module _ (w : Setting) (slots : List Slot) (result : PlainType) (loops : ℕ) wh
   Turns from r q = Follows w in_turn (Goes (end_label loops)) from r q
 
   abbrev pub Go : Type 0
-  Go = List BlockValue → Target → Did
+  Go = List Value → Target → Did
 
   -- ---- the body, after which a `continue` goes on
 
-  body_on : (regs : List BlockValue) (t : Target) (o : List ℕ) (g : Go) → then_do (then_do (Done (Next regs) t o) (at_label (next_label loops))) (at_next g) ≡ writes o (g regs t)
+  body_on : (regs : List Value) (t : Target) (o : List ℕ) (g : Go) → then_do (then_do (Done (Next regs) t o) (at_label (next_label loops))) (at_next g) ≡ writes o (g regs t)
   body_on regs t o g = ap (λ o. writes o (g regs t)) (append-nil o)
 
-  body_continues : (regs : List BlockValue) (t : Target) (o : List ℕ) (g : Go) → then_do (then_do (Done (Goes (next_label loops) regs) t o) (at_label (next_label loops))) (at_next g) ≡ writes o (g regs t)
+  body_continues : (regs : List Value) (t : Target) (o : List ℕ) (g : Go) → then_do (then_do (Done (Goes (next_label loops) regs) t o) (at_label (next_label loops))) (at_next g) ≡ writes o (g regs t)
   body_continues regs t o g =
       ap (λ b. then_do (writes o (cond b (Done (Next regs) t []) (Done (Goes (next_label loops) regs) t []))) (at_next g)) (same_label (next_label loops))
       ∙ body_on regs t o g
 
-  body_breaks : (regs : List BlockValue) (t : Target) (o : List ℕ) (g : Go) → then_do (then_do (Done (Goes (end_label loops) regs) t o) (at_label (next_label loops))) (at_next g) ≡ Done (Goes (end_label loops) regs) t o
+  body_breaks : (regs : List Value) (t : Target) (o : List ℕ) (g : Go) → then_do (then_do (Done (Goes (end_label loops) regs) t o) (at_label (next_label loops))) (at_next g) ≡ Done (Goes (end_label loops) regs) t o
   body_breaks regs t o g = ap (Done (Goes (end_label loops) regs) t) (append-nil (o ++ []) ∙ append-nil o)
 
   -- a loop's body, and then what comes after it
-  follows_body : (from : State) (r : Outcome (Unit {0})) (q : Did) (again : Evaluation (Unit {0})) (g : Go) → Follows w in_body Next from r q → ((s : State) (regs : List BlockValue) (t : Target) (o : List ℕ) → Related w slots regs s
+  follows_body : (from : State) (r : Outcome (Unit {0})) (q : Did) (again : Evaluation (Unit {0})) (g : Go) → Follows w in_body Next from r q → ((s : State) (regs : List Value) (t : Target) (o : List ℕ) → Related w slots regs s
       → Beside w slots s t → Later slots from s o → Turns s (again s) (g regs t)) → Turns from (after_body r again) (then_do (then_do q (at_label (next_label loops))) (at_next g))
   follows_body from r q again g (GoesOn s regs t o m b l e e') k =
       subst (λ r. Turns from (after_body r again) (then_do (then_do q (at_label (next_label loops))) (at_next g))) (sym e)
@@ -116,7 +116,7 @@ module _ (w : Setting) (slots : List Slot) (result : PlainType) (loops : ℕ) wh
   follows_body from r q again g (Breaks s regs t o i m b l e e') k =
       GoesOn s regs t o m b l (ap (λ r. after_body r again) e) (ap (λ q. then_do (then_do q (at_label (next_label loops))) (at_next g)) e' ∙ body_breaks regs t o g)
   follows_body from r q again g (IsLeft v s regs t o i m b l e e') k =
-      IsLeft v s regs t o i m b l (ap (λ r. after_body r again) e) (ap (λ q. then_do (then_do q (at_label (next_label loops))) (at_next g)) e' ∙ ap (Done (Returns (option_map Whole v)) t) (append-nil (o ++ []) ∙ append-nil o))
+      IsLeft v s regs t o i m b l (ap (λ r. after_body r again) e) (ap (λ q. then_do (then_do q (at_label (next_label loops))) (at_next g)) e' ∙ ap (Done (Returns (option_map Integer v)) t) (append-nil (o ++ []) ∙ append-nil o))
   follows_body from r q again g (IsOver y s o d e l e') k =
       IsOver y s o d (ap (λ r. after_body r again) e) l (ap (λ q. then_do (then_do q (at_label (next_label loops))) (at_next g)) e')
   follows_body from r q again g (IsUndefined at s o e l ext) k =
@@ -125,7 +125,7 @@ module _ (w : Setting) (slots : List Slot) (result : PlainType) (loops : ℕ) wh
 
   -- ---- the label after the loop catches the jump
 
-  caught : (regs : List BlockValue) (t : Target) (o : List ℕ) → then_do (Done (Goes (end_label loops) regs) t o) (at_label (end_label loops)) ≡ Done (Next regs) t o
+  caught : (regs : List Value) (t : Target) (o : List ℕ) → then_do (Done (Goes (end_label loops) regs) t o) (at_label (end_label loops)) ≡ Done (Next regs) t o
   caught regs t o =
       ap (λ b. writes o (cond b (Done (Next regs) t []) (Done (Goes (end_label loops) regs) t []))) (same_label (end_label loops))
       ∙ ap (Done (Next regs) t) (append-nil o)
@@ -135,13 +135,13 @@ module _ (w : Setting) (slots : List Slot) (result : PlainType) (loops : ℕ) wh
   follows_label from r q (Breaks s regs t o i m b l e e') = absurd cc
   follows_label from r q (Continues s regs t o i m b l e e') = absurd cc
   follows_label from r q (IsLeft v s regs t o i m b l e e') =
-      IsLeft v s regs t o i m b l e (ap (λ q. then_do q (at_label (end_label loops))) e' ∙ ap (Done (Returns (option_map Whole v)) t) (append-nil o))
+      IsLeft v s regs t o i m b l e (ap (λ q. then_do q (at_label (end_label loops))) e' ∙ ap (Done (Returns (option_map Integer v)) t) (append-nil o))
   follows_label from r q (IsOver y s o d e l e') = IsOver y s o d e l (ap (λ q. then_do q (at_label (end_label loops))) e')
   follows_label from r q (IsUndefined at s o e l ext) = IsUndefined at s o e l (extends_trans o (written q) _ ext (written_then q (at_label (end_label loops))))
 
   -- a whole loop, from its turns
-  pub loop_follows : (n : ℕ) (around : List Slot) (looped : Bool) (outer : ℕ) (from : State) (r : Outcome (Unit {0})) (regs : List BlockValue) (t : Target) (front a b : MonStatements)
-      → Turns from r (monitored.turns over_blocks n (monitored.exec_all over_blocks front w.calls n) (monitored.exec_all over_blocks (Then (Labelled a (next_label loops)) b) w.calls n) regs t)
+  pub loop_follows : (n : ℕ) (around : List Slot) (looped : Bool) (outer : ℕ) (from : State) (r : Outcome (Unit {0})) (regs : List Value) (t : Target) (front a b : MonStatements)
+      → Turns from r (monitored.turns over_blocks n (monitored.exec_all over_blocks [] front w.calls n) (monitored.exec_all over_blocks [] (Then (Labelled a (next_label loops)) b) w.calls n) regs t)
       → Follows w (standing in_turn around looped outer) Next from r (runs w n t (one (loop loops front a b)) regs)
   loop_follows n around looped outer from r regs t front a b h =
       let round = Loop front (Then (Labelled a (next_label loops)) b) in
@@ -149,14 +149,14 @@ module _ (w : Setting) (slots : List Slot) (result : PlainType) (loops : ℕ) wh
       (anywhere w in_turn around looped outer Next from r _ (follows_label from r _ h))
 
   module _ (n : ℕ) (scopes : Scopes) where
-    abbrev pub Meet : List BlockValue → State → Target → Type 0
+    abbrev pub Meet : List Value → State → Target → Type 0
     Meet regs s t = Meets w slots scopes.objects regs s t
 
     -- ---- conditions
 
     -- a condition of the source and the target's statements for it, which leave the loop where it is 0
     pub record Tests (condition : Evaluation Value) (front : MonStatements) : Type 0 where
-      pub goes : (regs : List BlockValue) (s : State) (t : Target) → Meet regs s t → (turn : Evaluation (Unit {0})) (go : Go) → ((after : List BlockValue) → Meet after s t → Turns s (turn s) (go after t))
+      pub goes : (regs : List Value) (s : State) (t : Target) → Meet regs s t → (turn : Evaluation (Unit {0})) (go : Go) → ((after : List Value) → Meet after s t → Turns s (turn s) (go after t))
           → Turns s (on_outcome (condition s) (λ v. source.choose v turn done)) (then_do (runs w n t front regs) (at_next go))
 
     -- a condition that is left out is true
@@ -167,12 +167,12 @@ module _ (w : Setting) (slots : List Slot) (result : PlainType) (loops : ℕ) wh
 
     module _ (sight : AreInSight slots scopes.objects) (e : Expression) (rs : List MonType) (k : CInt) (int : type_of e ≡ Int k) (p : IsPure e) (q : WellTyped scopes e) (l : HasLetters e) (behind : count w + count w ≤ length rs)
         (enough : length (rs ++ temporaries e) ≤ w.registers) where
-      module _ (regs : List BlockValue) (s : State) (t : Target) (m : Meet regs s t) (turn : Evaluation (Unit {0})) (go : Go) (goes : (after : List BlockValue) → Meet after s t → Turns s (turn s) (go after t)) where
+      module _ (regs : List Value) (s : State) (t : Target) (m : Meet regs s t) (turn : Evaluation (Unit {0})) (go : Go) (goes : (after : List Value) → Meet after s t → Turns s (turn s) (go after t)) where
         abbrev Tested : Outcome Value → Did → Type 0
         Tested r d = Turns s (on_outcome r (λ v. source.choose v turn done)) (then_do d (at_next go))
 
         -- the jump, where the condition is 0
-        jump_follows : (z : ℤ) (after : List BlockValue) → Meet after s t → (i : ℤ) → int_eq i (pos 0) ≡ int_eq z (pos 0)
+        jump_follows : (z : ℤ) (after : List Value) → Meet after s t → (i : ℤ) → int_eq i (pos 0) ≡ int_eq z (pos 0)
             → Turns s (source.choose (Integer z) turn done s) (then_do (choose i (runs w n t NoStatement after) (runs w n t (one (Goto (end_label loops))) after)) (at_next go))
         jump_follows z after g i same =
             subst (λ q. Turns s (source.choose (Integer z) turn done s) q) (sym (then_choice i (runs w n t NoStatement after) (runs w n t (one (Goto (end_label loops))) after) (at_next go)))
@@ -202,18 +202,18 @@ module _ (w : Setting) (slots : List Slot) (result : PlainType) (loops : ℕ) wh
 
     -- ---- turns
 
-    module _ (condition : Evaluation Value) (body : Evaluation (Unit {0})) (a : MonStatements) (body_follows : (regs : List BlockValue) (s : State) (t : Target) → Meet regs s t → s.steps ≤ n
+    module _ (condition : Evaluation Value) (body : Evaluation (Unit {0})) (a : MonStatements) (body_follows : (regs : List Value) (s : State) (t : Target) → Meet regs s t → s.steps ≤ n
         → Follows w in_body Next s (body s) (runs w n t a regs)) where
       abbrev labelled : MonStatements → monitored.Does over_blocks
-      labelled b = monitored.exec_all over_blocks (Then (Labelled a (next_label loops)) b) w.calls n
+      labelled b = monitored.exec_all over_blocks [] (Then (Labelled a (next_label loops)) b) w.calls n
 
       -- no step is left
       spent : (s : State) (f : Evaluation (Unit {0})) (q : Did) → s.steps ≡ 0 → q ≡ Stops Spent s.steps [] → Turns s ((step >> f) s) q
       spent s f q e x = IsOver Spent s [] (λ h. absurd cc) (ap (λ k. on_outcome (step_from k s) (λ _. f)) e) (sym (append-nil s.output)) x
 
       -- the step, the body, what stands after it, and the other turns
-      round_follows : (b : MonStatements) (again : Evaluation (Unit {0})) (others : Go) (regs : List BlockValue) (s : State) (t : Target) (k : ℕ) → s.steps ≡ suc k → Meet regs s t → s.steps ≤ n
-          → ((to : State) (after : List BlockValue) (u : Target) → Meet after to u → to.steps ≤ k → Turns to (again to) (then_do (runs w n u b after) (at_next others)))
+      round_follows : (b : MonStatements) (again : Evaluation (Unit {0})) (others : Go) (regs : List Value) (s : State) (t : Target) (k : ℕ) → s.steps ≡ suc k → Meet regs s t → s.steps ≤ n
+          → ((to : State) (after : List Value) (u : Target) → Meet after to u → to.steps ≤ k → Turns to (again to) (then_do (runs w n u b after) (at_next others)))
           → Turns s ((step >> λ s. after_body (body s) again) s) (then_do (labelled b regs (target_stepped t k)) (at_next others))
       round_follows b again others regs s t k e m le go =
           let s1 = stepped s k in
@@ -222,24 +222,24 @@ module _ (w : Setting) (slots : List Slot) (result : PlainType) (loops : ℕ) wh
           subst (λ r. Turns s r (then_do (labelled b regs t1) (at_next others))) (sym (ap (λ i. on_outcome (step_from i s) (λ _ s. after_body (body s) again)) e))
           (from_stepped w in_turn (Goes (end_label loops)) s k _ _ e
           (subst (λ q. Turns s1 (after_body (body s1) again) q)
-          (rest_first (then_do (runs w n t1 a regs) (at_label (next_label loops))) (λ r t. then_do (monitored.exec_all over_blocks b w.calls n r t) (at_next others)) (monitored.exec_all over_blocks b w.calls n) others (λ r t. refl))
-          (follows_body s1 (body s1) (runs w n t1 a regs) again (λ r t. then_do (monitored.exec_all over_blocks b w.calls n r t) (at_next others)) (body_follows regs s1 t1 m1 (omega (arith, e, le)))
+          (rest_first (then_do (runs w n t1 a regs) (at_label (next_label loops))) (λ r t. then_do (monitored.exec_all over_blocks [] b w.calls n r t) (at_next others)) (monitored.exec_all over_blocks [] b w.calls n) others (λ r t. refl))
+          (follows_body s1 (body s1) (runs w n t1 a regs) again (λ r t. then_do (monitored.exec_all over_blocks [] b w.calls n r t) (at_next others)) (body_follows regs s1 t1 m1 (omega (arith, e, le)))
           (λ to after u o re be l. go to after u (meets_later w slots scopes.objects regs after s1 to t1 u l.kept m1 re be) l.spent))))
 
       -- `while` and `for`
-      module _ (front : MonStatements) (front_tests : Tests condition front) (behind : Evaluation (Unit {0})) (b : MonStatements) (behind_follows : (regs : List BlockValue) (s : State) (t : Target) → Meet regs s t → s.steps ≤ n
+      module _ (front : MonStatements) (front_tests : Tests condition front) (behind : Evaluation (Unit {0})) (b : MonStatements) (behind_follows : (regs : List Value) (s : State) (t : Target) → Meet regs s t → s.steps ≤ n
           → Follows w in_turn Next s (behind s) (runs w n t b regs)) where
         abbrev turn : ℕ → Evaluation (Unit {0})
         turn j = step >> λ s. after_body (body s) (behind >> source.turns j condition body behind)
 
         abbrev others : ℕ → Go
-        others j = monitored.turns over_blocks j (monitored.exec_all over_blocks front w.calls n) (labelled b)
+        others j = monitored.turns over_blocks j (monitored.exec_all over_blocks [] front w.calls n) (labelled b)
 
         -- where a turn is left
         abbrev next_turn : ℕ → Go
         next_turn j r u = monitored.step_from u.steps (λ k. then_do (labelled b r (target_stepped u k)) (at_next (others j)))
 
-        turn_follows : (j : ℕ) (regs : List BlockValue) (s : State) (t : Target) → Meet regs s t → s.steps ≤ suc j → s.steps ≤ n → ((to : State) (after : List BlockValue) (u : Target) → Meet after to u → to.steps ≤ j → to.steps ≤ n
+        turn_follows : (j : ℕ) (regs : List Value) (s : State) (t : Target) → Meet regs s t → s.steps ≤ suc j → s.steps ≤ n → ((to : State) (after : List Value) (u : Target) → Meet after to u → to.steps ≤ j → to.steps ≤ n
             → Turns to (source.turns (suc j) condition body behind to) (others j after u)) → Turns s (turn (suc j) s) (next_turn j regs t)
         turn_follows j regs s t m le ln go = subst (λ i. Turns s (turn (suc j) s) (monitored.step_from i (λ k. then_do (labelled b regs (target_stepped t k)) (at_next (others j))))) (sym m.beside.steps) (by s.steps refl)
           where
@@ -250,7 +250,7 @@ module _ (w : Setting) (slots : List Slot) (result : PlainType) (loops : ℕ) wh
                 follows_then w in_turn (Goes (end_label loops)) to _ _ (source.turns (suc j) condition body behind) (others j) (behind_follows after to u m2 (omega (arith, e, ln, l2)))
                 (λ to2 after2 u2 o re be l. go to2 after2 u2 (meets_later w slots scopes.objects after after2 to to2 u u2 l.kept m2 re be) (omega (arith, e, le, l2, l.spent)) (omega (arith, e, ln, l2, l.spent))))
 
-        pub turns_follow : (j : ℕ) (regs : List BlockValue) (s : State) (t : Target) → Meet regs s t → s.steps ≤ j → s.steps ≤ n → Turns s (source.turns (suc j) condition body behind s) (others j regs t)
+        pub turns_follow : (j : ℕ) (regs : List Value) (s : State) (t : Target) → Meet regs s t → s.steps ≤ j → s.steps ≤ n → Turns s (source.turns (suc j) condition body behind s) (others j regs t)
         turns_follow zero regs s t m le ln = front_tests.goes regs s t m (turn 0) (λ r u. Stops Spent 0 []) (λ after m2. spent s (λ s. after_body (body s) (behind >> source.turns 0 condition body behind)) (Stops Spent 0 []) (omega (arith, le))
             (ap (λ k. Stops Spent k []) (omega (arith, le))))
         turns_follow (suc j) regs s t m le ln =
@@ -260,16 +260,16 @@ module _ (w : Setting) (slots : List Slot) (result : PlainType) (loops : ℕ) wh
       -- `do`
       module _ (b : MonStatements) (b_tests : Tests condition b) where
         abbrev do_others : ℕ → Go
-        do_others j = monitored.turns over_blocks j (monitored.exec_all over_blocks NoStatement w.calls n) (labelled b)
+        do_others j = monitored.turns over_blocks j (monitored.exec_all over_blocks [] NoStatement w.calls n) (labelled b)
 
-        pub do_turns_follow : (j : ℕ) (regs : List BlockValue) (s : State) (t : Target) → Meet regs s t → s.steps ≤ j → s.steps ≤ n → Turns s (source.do_turns (suc j) condition body s) (do_others j regs t)
+        pub do_turns_follow : (j : ℕ) (regs : List Value) (s : State) (t : Target) → Meet regs s t → s.steps ≤ j → s.steps ≤ n → Turns s (source.do_turns (suc j) condition body s) (do_others j regs t)
         do_turns_follow zero regs s t m le ln = spent s (λ s. after_body (body s) (condition >>= λ v. source.choose v (source.do_turns 0 condition body) done)) (Stops Spent 0 []) (omega (arith, le)) (ap (λ k. Stops Spent k []) (omega (arith, le)))
         do_turns_follow (suc j) regs s t m le ln =
             subst (λ q. Turns s (source.do_turns (suc (suc j)) condition body s) q) (sym (writes_none (monitored.step_from t.steps (λ k. then_do (labelled b regs (target_stepped t k)) (at_next (do_others j))))))
             (subst (λ i. Turns s (source.do_turns (suc (suc j)) condition body s) (monitored.step_from i (λ k. then_do (labelled b regs (target_stepped t k)) (at_next (do_others j))))) (sym m.beside.steps)
             (by (λ to after u m2 l2 l3. do_turns_follow j after to u m2 l2 l3) s.steps refl))
           where
-            by : ((to : State) (after : List BlockValue) (u : Target) → Meet after to u → to.steps ≤ j → to.steps ≤ n → Turns to (source.do_turns (suc j) condition body to) (do_others j after u)) → (i : ℕ) → s.steps ≡ i
+            by : ((to : State) (after : List Value) (u : Target) → Meet after to u → to.steps ≤ j → to.steps ≤ n → Turns to (source.do_turns (suc j) condition body to) (do_others j after u)) → (i : ℕ) → s.steps ≡ i
                 → Turns s (source.do_turns (suc (suc j)) condition body s) (monitored.step_from i (λ k. then_do (labelled b regs (target_stepped t k)) (at_next (do_others j))))
             by rest zero e = spent s (λ s. after_body (body s) (condition >>= λ v. source.choose v (source.do_turns (suc j) condition body) done)) (Stops Spent 0 []) e (ap (λ k. Stops Spent k []) (sym e))
             by rest (suc k) e =

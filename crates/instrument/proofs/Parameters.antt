@@ -16,7 +16,7 @@ use Rattle.c_model.specs.Formed.{number_of}
 use Rattle.c_model.proofs.Blocks.{slice_get-slice_set_other}
 use Rattle.mon_syntax.specs.Meaning.{Done, Stops, Next, then_do, at_next, writes}
 use Rattle.mon_syntax.specs.Meaning as monitored
-use Rattle.mon_syntax.specs.Memories.{BlockValue, Whole, over_blocks}
+use Rattle.mon_syntax.specs.BlockMemory.{over_blocks}
 use Rattle.track_scopes.specs.Blocks as target
 use Rattle.instrument.proofs.Variables.{Slot, Setting, no_tables, count, value_at, pointer_at, slot_of, Related, Beside, IsSet, AllKept, state_with, write_is, related_set, kept_set, beside_set, get-below, load_cell, get-set_same}
 use Rattle.instrument.proofs.Evaluating.{Target, runs}
@@ -25,11 +25,11 @@ use Rattle.instrument.proofs.Calls.{integers}
 use Rattle.instrument.proofs.Births.{int_of, slot_for, slots_born, decls_of, CanBeBorn, AllCanBeBorn, born_state, born_registers, born_target, birth_runs, related_born, beside_born, later_born, target_birth}
 
 -- registers hold the values of these parameters, which are of their types
-abbrev pub Bound : Setting → List BlockValue → List Declaration → List ℤ → Type 0
+abbrev pub Bound : Setting → List Value → List Declaration → List ℤ → Type 0
 Bound w regs [] [] = Unit {0}
 Bound w regs [] (z ∷ zs) = ⊥
 Bound w regs (d ∷ ds) [] = ⊥
-Bound w regs (d ∷ ds) (z ∷ zs) = (fits (int_of d.ctype) z ≡ true) × (slice_get regs (value_at w (number_of d)) ≡ Some (Whole z)) × Bound w regs ds zs
+Bound w regs (d ∷ ds) (z ∷ zs) = (fits (int_of d.ctype) z ≡ true) × (slice_get regs (value_at w (number_of d)) ≡ Some (Integer z)) × Bound w regs ds zs
 
 -- all variables have values
 abbrev pub AllSet : Store → List Slot → Type 0
@@ -47,14 +47,14 @@ set_as_is (b ∷ l) zero a e = let same : b ≡ a = cc in ap (λ x. x ∷ l) (sy
 set_as_is (b ∷ l) (suc k) a e = ap (λ x. b ∷ x) (set_as_is l k a e)
 
 -- all are born on both sides, or something is full on both
-pub data BearsAll (w : Setting) (slots : List Slot) (regs : List BlockValue) (s : State) (t : Target) (n : ℕ) (at : Place) (ds : List Declaration) (vs : List Value) : Type 0 where
-  AllBorn : (to : State) (after : List BlockValue) (u : Target) → parameters no_tables at ds vs s ≡ Normal tt to → runs w n t (target.births w.numbers ds) regs ≡ Done (Next after) u [] → Related w (slots_born (length s.store) ds slots) after to
+pub data BearsAll (w : Setting) (slots : List Slot) (regs : List Value) (s : State) (t : Target) (n : ℕ) (at : Place) (ds : List Declaration) (vs : List Value) : Type 0 where
+  AllBorn : (to : State) (after : List Value) (u : Target) → parameters no_tables at ds vs s ≡ Normal tt to → runs w n t (target.births w.numbers ds) regs ≡ Done (Next after) u [] → Related w (slots_born (length s.store) ds slots) after to
       → Beside w (slots_born (length s.store) ds slots) to u → AllSet to.store (slots_born (length s.store) ds slots) → Later slots s to [] → BearsAll w slots regs s t n at ds vs
   OneIsFull : (g : Segment) (to : State) → parameters no_tables at ds vs s ≡ Stop (Over (Full g)) to → to.output ≡ s.output → runs w n t (target.births w.numbers ds) regs ≡ Stops (Full g) to.steps [] → BearsAll w slots regs s t n at ds vs
 
 -- a parameter with its value
-module _ (w : Setting) (slots : List Slot) (regs : List BlockValue) (s : State) (t : Target) (h : Related w slots regs s) (b : Beside w slots s t) (enough : count w + count w ≤ w.registers) (d : Declaration)
-    (c : CanBeBorn w.numbers (decls_of slots) d) (z : ℤ) (f : fits (int_of d.ctype) z ≡ true) (bound : slice_get regs (value_at w (number_of d)) ≡ Some (Whole z)) where
+module _ (w : Setting) (slots : List Slot) (regs : List Value) (s : State) (t : Target) (h : Related w slots regs s) (b : Beside w slots s t) (enough : count w + count w ≤ w.registers) (d : Declaration)
+    (c : CanBeBorn w.numbers (decls_of slots) d) (z : ℤ) (f : fits (int_of d.ctype) z ≡ true) (bound : slice_get regs (value_at w (number_of d)) ≡ Some (Integer z)) where
   abbrev x : ℕ
   x = number_of d
 
@@ -67,7 +67,7 @@ module _ (w : Setting) (slots : List Slot) (regs : List BlockValue) (s : State) 
   abbrev born : State
   born = born_state w slots regs s t h b enough d c
 
-  abbrev pub bound_registers : List BlockValue
+  abbrev pub bound_registers : List Value
   bound_registers = born_registers w slots regs s t h b enough d c
 
   abbrev pub bound_target : Target
@@ -89,7 +89,7 @@ module _ (w : Setting) (slots : List Slot) (regs : List BlockValue) (s : State) 
   pub value_stays : (y : ℕ) → value_at w y < count w → slice_get bound_registers (value_at w y) ≡ slice_get regs (value_at w y)
   value_stays y lt = slice_get-slice_set_other regs (pointer_at w x) (value_at w y) _ (λ e. omega (arith, e, lt))
 
-  there : slice_get bound_registers (value_at w x) ≡ Some (Whole z)
+  there : slice_get bound_registers (value_at w x) ≡ Some (Integer z)
   there = value_stays x (get-below w.numbers (value_at w x) x c.listed) ∙ bound
 
   written : (at : Place) → as_scalar (scalar_of d.ctype) (λ c. write_youngest at c (Integer z)) born ≡ Normal tt bound_state
@@ -100,7 +100,7 @@ module _ (w : Setting) (slots : List Slot) (regs : List BlockValue) (s : State) 
       ∙ write_is w live bound_registers born born_related x new found at z
 
   pub bound_related : Related w live bound_registers bound_state
-  bound_related = subst (λ r. Related w live r bound_state) (set_as_is bound_registers (value_at w x) (Whole z) there) (related_set w live bound_registers born born_related enough x new found z f)
+  bound_related = subst (λ r. Related w live r bound_state) (set_as_is bound_registers (value_at w x) (Integer z) there) (related_set w live bound_registers born born_related enough x new found z f)
 
   pub bound_beside : Beside w live bound_state bound_target
   bound_beside = beside_set w live bound_registers born born_related enough x new found z f live bound_target (beside_born w slots regs s t h b enough d c)
@@ -123,17 +123,17 @@ module _ (w : Setting) (slots : List Slot) (regs : List BlockValue) (s : State) 
   bound_source at e = ap (λ o. on_outcome (birth_of o (number_of d) (size_of [] d.ctype) s) (λ _. as_scalar (scalar_of d.ctype) (λ c. write_youngest at c (Integer z)))) e ∙ written at
 
 module _ (w : Setting) (n : ℕ) (enough : count w + count w ≤ w.registers) (at : Place) where
-  abbrev Bear : List Slot → List BlockValue → State → Target → List Declaration → List Value → Type 0
+  abbrev Bear : List Slot → List Value → State → Target → List Declaration → List Value → Type 0
   Bear slots regs s t ds vs = BearsAll w slots regs s t n at ds vs
 
-  born_then : (slots : List Slot) (regs : List BlockValue) (s : State) (t : Target) (d : Declaration) (ds : List Declaration) (v : Value) (vs : List Value) (to : State) (after : List BlockValue) (u : Target)
-      → on_outcome (birth [] d s) (λ _. as_scalar (scalar_of d.ctype) (λ c. write_youngest at c v)) ≡ Normal tt to → monitored.exec over_blocks (target.birth w.numbers d) w.calls n regs t ≡ Done (Next after) u []
+  born_then : (slots : List Slot) (regs : List Value) (s : State) (t : Target) (d : Declaration) (ds : List Declaration) (v : Value) (vs : List Value) (to : State) (after : List Value) (u : Target)
+      → on_outcome (birth [] d s) (λ _. as_scalar (scalar_of d.ctype) (λ c. write_youngest at c v)) ≡ Normal tt to → monitored.exec over_blocks [] (target.birth w.numbers d) w.calls n regs t ≡ Done (Next after) u []
       → length to.store ≡ suc (length s.store) → Later slots s to []
       → Bear (slot_for (length s.store) d ∷ slots) after to u ds vs → Bear slots regs s t (d ∷ ds) (v ∷ vs)
   born_then slots regs s t d ds v vs to after u e f long l (AllBorn to2 after2 u2 e2 f2 m b a l2) =
       AllBorn to2 after2 u2
       (ap (λ r. on_outcome r (λ _. parameters no_tables at ds vs)) e ∙ e2)
-      (ap (λ q. then_do q (at_next (monitored.exec_all over_blocks (target.births w.numbers ds) w.calls n))) f ∙ ap (writes []) f2)
+      (ap (λ q. then_do q (at_next (monitored.exec_all over_blocks [] (target.births w.numbers ds) w.calls n))) f ∙ ap (writes []) f2)
       (subst (λ i. Related w (slots_born i ds (slot_for (length s.store) d ∷ slots)) after2 to2) long m)
       (subst (λ i. Beside w (slots_born i ds (slot_for (length s.store) d ∷ slots)) to2 u2) long b)
       (subst (λ i. AllSet to2.store (slots_born i ds (slot_for (length s.store) d ∷ slots))) long a)
@@ -142,10 +142,10 @@ module _ (w : Setting) (n : ℕ) (enough : count w + count w ≤ w.registers) (a
       OneIsFull g to2
       (ap (λ r. on_outcome r (λ _. parameters no_tables at ds vs)) e ∙ e2)
       (o ∙ l.output ∙ append-nil s.output)
-      (ap (λ q. then_do q (at_next (monitored.exec_all over_blocks (target.births w.numbers ds) w.calls n))) f ∙ ap (writes []) f2)
+      (ap (λ q. then_do q (at_next (monitored.exec_all over_blocks [] (target.births w.numbers ds) w.calls n))) f ∙ ap (writes []) f2)
 
   -- the registers of the other parameters stay
-  bound_others : (regs after : List BlockValue) (ds : List Declaration) (zs : List ℤ) (living : List ℕ) → ((y : ℕ) → value_at w y < count w → slice_get after (value_at w y) ≡ slice_get regs (value_at w y)) → AllCanBeBorn w.numbers living ds
+  bound_others : (regs after : List Value) (ds : List Declaration) (zs : List ℤ) (living : List ℕ) → ((y : ℕ) → value_at w y < count w → slice_get after (value_at w y) ≡ slice_get regs (value_at w y)) → AllCanBeBorn w.numbers living ds
       → Bound w regs ds zs → Bound w after ds zs
   bound_others regs after [] [] living same c h = tt
   bound_others regs after [] (z ∷ zs) living same c h = absurd h
@@ -153,7 +153,7 @@ module _ (w : Setting) (n : ℕ) (enough : count w + count w ≤ w.registers) (a
   bound_others regs after (d ∷ ds) (z ∷ zs) living same c h =
       (h.0, same (number_of d) (get-below w.numbers (value_at w (number_of d)) (number_of d) c.0.listed) ∙ h.1, bound_others regs after ds zs (number_of d ∷ living) same c.1 h.2)
 
-  pub parameters_follow : (ds : List Declaration) (zs : List ℤ) (slots : List Slot) (regs : List BlockValue) (s : State) (t : Target) → Related w slots regs s → Beside w slots s t → AllCanBeBorn w.numbers (decls_of slots) ds → Bound w regs ds zs
+  pub parameters_follow : (ds : List Declaration) (zs : List ℤ) (slots : List Slot) (regs : List Value) (s : State) (t : Target) → Related w slots regs s → Beside w slots s t → AllCanBeBorn w.numbers (decls_of slots) ds → Bound w regs ds zs
       → AllSet s.store slots → Bear slots regs s t ds (integers zs)
   parameters_follow [] [] slots regs s t h b c bound a = AllBorn s regs t refl refl h b a (later_same slots s)
   parameters_follow [] (z ∷ zs) slots regs s t h b c bound a = absurd bound
@@ -179,5 +179,5 @@ module _ (w : Setting) (n : ℕ) (enough : count w + count w ≤ w.registers) (a
           OneIsFull g s
           (ap (λ o. on_outcome (on_outcome (birth_of o (number_of d) (size_of [] d.ctype) s) (λ _. as_scalar (scalar_of d.ctype) (λ c. write_youngest at c (Integer z)))) (λ _. parameters no_tables at ds (integers zs))) e)
           refl
-          (ap (λ q. then_do q (at_next (monitored.exec_all over_blocks (target.births w.numbers ds) w.calls n))) (target_birth w slots regs s t h b enough d c.0 n ∙ ap (birth_runs w slots regs s t h b enough d c.0) e)
+          (ap (λ q. then_do q (at_next (monitored.exec_all over_blocks [] (target.births w.numbers ds) w.calls n))) (target_birth w slots regs s t h b enough d c.0 n ∙ ap (birth_runs w slots regs s t h b enough d c.0) e)
           ∙ ap (λ k. Stops (Full g) k []) b.steps)

@@ -4,7 +4,7 @@ use Rattle.std.proofs.lemmas.List.{append-nil}
 use Rattle.c_model.specs.Reports.{Extends}
 use Rattle.mon_syntax.specs.Meaning.{Result, Done, Stops, Flow, Next, Goes, Returns, writes, then_do, at_next}
 use Rattle.mon_syntax.specs.Meaning as monitored
-use Rattle.mon_syntax.specs.Memories.{over_blocks}
+use Rattle.mon_syntax.specs.BlockMemory.{over_blocks}
 use Rattle.mon_syntax.specs.Trees.{MonStatement, MonStatements, NoStatement, Then}
 use Rattle.c_effects.specs.Expressions.{before, one}
 
@@ -40,8 +40,8 @@ abbrev Target : Type 0
 Target = monitored.State over_blocks.Mem
 
 -- a statement alone
-pub one_is : (a : MonStatement) (calls : monitored.Calls over_blocks) (n : ℕ) (regs : List over_blocks.Val) (s : Target) → monitored.exec_all over_blocks (one a) calls n regs s ≡ monitored.exec over_blocks a calls n regs s
-one_is a calls n regs s = last (monitored.exec over_blocks a calls n regs s)
+pub one_is : (a : MonStatement) (calls : monitored.Calls over_blocks) (n : ℕ) (regs : List over_blocks.Val) (s : Target) → monitored.exec_all over_blocks [] (one a) calls n regs s ≡ monitored.exec over_blocks [] a calls n regs s
+one_is a calls n regs s = last (monitored.exec over_blocks [] a calls n regs s)
   where
     last : (q : Result Target (Flow over_blocks.Val)) → then_do q (at_next (λ r t. Done (Next r) t [])) ≡ q
     last (Done (Next r) t o) = ap (Done (Next r) t) (append-nil o)
@@ -58,7 +58,8 @@ rest_first (Done (Returns v) t o) whole rest behind h = sym (ap (Done (Returns v
 rest_first (Stops e n o) whole rest behind h = refl
 
 pub before_is : (a b : MonStatements) (calls : monitored.Calls over_blocks) (n : ℕ) (regs : List over_blocks.Val) (s : Target)
-    → monitored.exec_all over_blocks (before a b) calls n regs s ≡ then_do (monitored.exec_all over_blocks a calls n regs s) (at_next (monitored.exec_all over_blocks b calls n))
-before_is NoStatement b calls n regs s = sym (writes_none (monitored.exec_all over_blocks b calls n regs s))
+    → monitored.exec_all over_blocks [] (before a b) calls n regs s ≡ then_do (monitored.exec_all over_blocks [] a calls n regs s) (at_next (monitored.exec_all over_blocks [] b calls n))
+before_is NoStatement b calls n regs s = sym (writes_none (monitored.exec_all over_blocks [] b calls n regs s))
 before_is (Then a rest) b calls n regs s =
-    rest_first (monitored.exec over_blocks a calls n regs s) (monitored.exec_all over_blocks (before rest b) calls n) (monitored.exec_all over_blocks rest calls n) (monitored.exec_all over_blocks b calls n) (λ r t. before_is rest b calls n r t)
+    rest_first (monitored.exec over_blocks [] a calls n regs s) (monitored.exec_all over_blocks [] (before rest b) calls n) (monitored.exec_all over_blocks [] rest calls n)
+    (monitored.exec_all over_blocks [] b calls n) (λ r t. before_is rest b calls n r t)

@@ -8,7 +8,7 @@ use Rattle.c_syntax.specs.Annotations.{Annotation}
 use Rattle.c_syntax.specs.Expressions.{Expression, Expressions, Node, Call, place_of, type_of}
 use Rattle.c_syntax.specs.Statements.{Initialiser, One, Many, Declaration, Statement, Empty, Eval, Block, If, While, Do, For, Break, Continue, Return, ElsePart, NoElse, Else, ForFirst, NoFirst, First, Declare, Run, Asserts, BlockItems, NoItem, Then}
 use Rattle.c_syntax.specs.Programs.{TranslationUnit}
-use Rattle.c_model.specs.Memory.{Integer}
+use Rattle.c_model.specs.Memory.{Integer, Value}
 use Rattle.c_model.specs.State.{State, Leaves, Returns, Outcome, Normal, Stop, Evaluation, on_outcome, ◌>>◌, stop, births, within, restored}
 use Rattle.c_model.specs.State as state
 use Rattle.c_model.specs.Meaning.{exec_with, else_with, first_with, item_with, items_with, condition_with, effect_with, initialise_all, declared_in, declared_first, turns}
@@ -20,7 +20,7 @@ use Rattle.c_model.specs.Formed.{number_of, IsEffect, IsEffectOrCall, IsFull, Is
 use Rattle.mon_syntax.specs.declared.tree.MonType.{MonType}
 use Rattle.mon_syntax.specs.Meaning.{Flow, Next, Goes, Done, then_do, at_next, with_value}
 use Rattle.mon_syntax.specs.Meaning as monitored
-use Rattle.mon_syntax.specs.Memories.{BlockValue, Whole, over_blocks}
+use Rattle.mon_syntax.specs.BlockMemory.{over_blocks}
 use Rattle.mon_syntax.specs.Trees.{MonStatements, NoStatement}
 use Rattle.mon_syntax.specs.Trees as tree
 use Rattle.c_effects.specs.Letters.{Any, HasLetters, FullHasLetters, EffectHasLetters, InitialHasLetters, InitialsHaveLetters}
@@ -103,13 +103,13 @@ all_registers w spot h a =
 pub at_loop : (w : Setting) (spot : Spot) (h : Here) → At w spot h → At w (target.in_loop spot) (in_body w h.slots h.result (spot.loops + 1))
 at_loop w spot h a = record { inner = []; slots = refl; inside = refl; outside = all_registers w spot h a; loops = refl }
 
-match_front : (w : Setting) (s : State) (regs : List BlockValue) (new slots : List Slot) → AllMatch w s.store regs (new ++ slots) → AllMatch w s.store regs new
+match_front : (w : Setting) (s : State) (regs : List Value) (new slots : List Slot) → AllMatch w s.store regs (new ++ slots) → AllMatch w s.store regs new
 match_front w s regs [] slots h = tt
 match_front w s regs (v ∷ new) slots h = (h.0, match_front w s regs new slots h.1)
 
 -- ---- jumps: the blocks of the variables that are left die in front
 
-module _ (w : Setting) (n : ℕ) (spot : Spot) (h : Here) (at : At w spot h) (s : State) (regs : List BlockValue) (t : Target) (m : Related w h.slots regs s) (b : Beside w h.slots s t) where
+module _ (w : Setting) (n : ℕ) (spot : Spot) (h : Here) (at : At w spot h) (s : State) (regs : List Value) (t : Target) (m : Related w h.slots regs s) (b : Beside w h.slots s t) where
   -- those born inside the loop
   loop_dead : Dead w h.slots regs s n h.around t (runs w n t (deaths spot.inside) regs)
   loop_dead =
@@ -126,7 +126,7 @@ module _ (w : Setting) (n : ℕ) (spot : Spot) (h : Here) (at : At w spot h) (s 
   behind_deaths : (living : List Slot) (d a : MonStatements) (x : Dead w h.slots regs s n living t (runs w n t d regs)) → runs w n t (before d a) regs ≡ runs w n x.to a regs
   behind_deaths living d a x =
       before_is d a w.calls n regs t
-      ∙ ap (λ q. then_do q (at_next (monitored.exec_all over_blocks a w.calls n))) x.runs_to
+      ∙ ap (λ q. then_do q (at_next (monitored.exec_all over_blocks [] a w.calls n))) x.runs_to
       ∙ writes_none (runs w n x.to a regs)
 
   goto_is : (living : List Slot) (d : MonStatements) (l k : List ℕ) (x : Dead w h.slots regs s n living t (runs w n t d regs)) → k ≡ l → runs w n t (before d (one (tree.Goto k))) regs ≡ Done (Goes l regs) x.to []
@@ -140,7 +140,7 @@ module _ (w : Setting) (n : ℕ) (spot : Spot) (h : Here) (at : At w spot h) (s 
   continue_follows looped =
       Continues s regs loop_dead.to [] looped m loop_dead.beside (later_same h.slots s) refl (goto_is h.around (deaths spot.inside) (next_label h.loops) (next_label spot.loops) loop_dead (ap next_label at.loops))
 
-  pub leave_follows : (v : Option ℤ) (e : Option tree.MonExpression) → IsResult h.result v → ((u : Target) → runs w n u (one (tree.Return e)) regs ≡ Done (monitored.Returns (option_map Whole v)) u [])
+  pub leave_follows : (v : Option ℤ) (e : Option tree.MonExpression) → IsResult h.result v → ((u : Target) → runs w n u (one (tree.Return e)) regs ≡ Done (monitored.Returns (option_map Integer v)) u [])
       → Follows w h Next s (Stop (Leaves (Returns (option_map Integer v))) s) (runs w n t (before (deaths (spot.inside ++ spot.outside)) (one (tree.Return e))) regs)
   leave_follows v e i run =
       IsLeft v s regs call_dead.to [] i m call_dead.beside (later_same h.slots s) refl (behind_deaths [] (deaths (spot.inside ++ spot.outside)) (one (tree.Return e)) call_dead ∙ run call_dead.to)
@@ -163,13 +163,13 @@ module _ (p : TranslationUnit) (w : Setting) (n most : ℕ) (names : List (List 
 
   -- what a part of the source does, and a part of the target, from all states that meet
   abbrev pub DoSame : Here → Scopes → Evaluation (Unit {0}) → MonStatements → Type 0
-  DoSame h s x a = (regs : List BlockValue) (from : State) (t : Target) → Meets w h.slots s.objects regs from t → from.steps ≤ n → Follows w h Next from (x from) (runs w n t a regs)
+  DoSame h s x a = (regs : List Value) (from : State) (t : Target) → Meets w h.slots s.objects regs from t → from.steps ≤ n → Follows w h Next from (x from) (runs w n t a regs)
 
   -- one part after another
   in_order : (h : Here) (s : Scopes) (x y : Evaluation (Unit {0})) (a b : MonStatements) → DoSame h s x a → DoSame h s y b → DoSame h s (x >> y) (before a b)
   in_order h s x y a b f g = λ regs from t m le.
       subst (λ q. Follows w h Next from ((x >> y) from) q) (sym (before_is a b w.calls n regs t))
-      (follows_then w h Next from _ _ y (monitored.exec_all over_blocks b w.calls n) (f regs from t m le)
+      (follows_then w h Next from _ _ y (monitored.exec_all over_blocks [] b w.calls n) (f regs from t m le)
       (λ to after u o r be l. g after to u (meets_later w h.slots s.objects regs after from to t u l.kept m r be) (omega (arith, le, l.spent))))
 
   condition_int : (s : Scopes) (e : Expression) → IsCondition s e → HasInt (type_of e)
@@ -220,7 +220,7 @@ module _ (p : TranslationUnit) (w : Setting) (n most : ℕ) (names : List (List 
       let code = before (deaths (spot.inside ++ spot.outside)) (one (tree.Return (Some (full_value w.numbers rs e)))) in
       follows_full p w n h s (scene_of h.slots s g) Next from t m.ready le rs behind regs m.related m.beside e i.int (λ v. stop (Leaves (Returns (Some v)))) code (q.1 ∙ i.is) pure.is q.0 l enough (λ z to u o after fit same r be la has.
       leave_follows w n spot h at to after u r be (Some z) (Some (full_value w.numbers rs e)) (subst (λ k. IsResult k (Some z)) (sym i.is) fit)
-      (λ v. one_is (tree.Return (Some (full_value w.numbers rs e))) w.calls n after v ∙ ap (λ x. with_value x v.steps (λ y. Done (monitored.Returns (Some y)) v [])) has))
+      (λ v. one_is (tree.Return (Some (full_value w.numbers rs e))) w.calls n after v ∙ ap (λ x. with_value x v.steps (λ y. Done (monitored.Returns (Some y)) v [])) (has v.mem)))
 
   -- ---- declarations, and what follows
 
@@ -259,8 +259,8 @@ module _ (p : TranslationUnit) (w : Setting) (n most : ℕ) (names : List (List 
       after_it : MonStatements
       after_it = before (effects.initialise_all p w.numbers (rs ++ initial_temporaries d.init) ds) code
 
-      by : (regs : List BlockValue) (from : State) (t : Target) (m : Meets w h.slots s.objects regs from t) (le : from.steps ≤ n) → (o : Option (Place × Initialiser)) → length (rs ++ initial_temporaries o) ≤ w.registers → IsInitialiser most o
-          → Initialises s d.ctype o → InitialHasLetters o → ((to : State) (u : Target) (out : List ℕ) (after : List BlockValue) → Related w h.slots after to → Beside w h.slots to u → Later h.slots from to out → IsSet to.store x.0.slot
+      by : (regs : List Value) (from : State) (t : Target) (m : Meets w h.slots s.objects regs from t) (le : from.steps ≤ n) → (o : Option (Place × Initialiser)) → length (rs ++ initial_temporaries o) ≤ w.registers → IsInitialiser most o
+          → Initialises s d.ctype o → InitialHasLetters o → ((to : State) (u : Target) (out : List ℕ) (after : List Value) → Related w h.slots after to → Beside w h.slots to u → Later h.slots from to out → IsSet to.store x.0.slot
           → Follows w h Next to ((initialise_all no_tables ds w.call >> rest) to) (runs w n u after_it after))
           → Follows w h Next from (on_outcome (source.initialise no_tables d o w.call from) (λ _. initialise_all no_tables ds w.call >> rest)) (runs w n t (before (effects.initialise p w.numbers rs (number_of d) o) after_it) regs)
       by regs from t m le None room i j k go = absurd i

@@ -14,7 +14,7 @@ use Rattle.c_syntax.specs.declared.annotation.Relation.TheVariants as relation
 use Rattle.c_syntax.specs.Ctypes.{PlainType, Int}
 use Rattle.c_syntax.specs.Annotations.{LogicTerm, Number, Letter, Variable, Binary, Chain, NoLink, Linked, ClauseBody, Truth}
 use Rattle.c_model.specs.Integers.{fits, truth}
-use Rattle.c_model.specs.Memory.{Into}
+use Rattle.c_model.specs.Memory.{Into, Value, Integer}
 use Rattle.c_model.specs.State.{State, find, start_of}
 use Rattle.c_model.specs.Logic as source
 use Rattle.c_model.specs.Logic.{Mathematical, Says, lazily, both, compute, read_object, of_value, related, relates}
@@ -26,7 +26,7 @@ use Rattle.mon_syntax.specs.declared.tree.MonType.TheVariants.{I128}
 use Rattle.mon_syntax.specs.Arithmetic.{wrap, operate}
 use Rattle.mon_syntax.specs.Meaning.{number_or_none}
 use Rattle.mon_syntax.specs.Meaning.{◌>>=◌ as bind}
-use Rattle.mon_syntax.specs.Memories.{BlockValue, Whole, integer_of, over_blocks}
+use Rattle.mon_syntax.specs.BlockMemory.{integer_of, over_blocks}
 use Rattle.mon_syntax.proofs.Wrapping.{wrap-fitting}
 use Rattle.c_effects.specs.Letters.{IsLetter, TermHasLetters, BodyHasLetters}
 use Rattle.c_effects.specs.Expressions.{term, relation_operator, operator_of, truth_of_body}
@@ -91,14 +91,14 @@ short_fits n z le w = wrap-fitting I128 z (within_fits 1701411834604692317316873
 -- ---- terms
 
 -- the term has this value, and its translation the same
-record Means (names : List ℕ) (t : LogicTerm) (s : State) (regs : List BlockValue) : Type 0 where
+record Means (names : List ℕ) (t : LogicTerm) (s : State) (regs : List Value) : Type 0 where
   value : ℤ
   within : Within (leaves_of_term t * most) value
   source_is : source.term t s ≡ Some (Mathematical value)
   target_is : Has (term names t) regs value
 
 -- a sum or a difference
-combined : (names : List ℕ) (at : Place) (r : Range) (c : Option PlainType) (op : BinOp) (a b : LogicTerm) (s : State) (regs : List BlockValue) (z : ℤ) (p : Means names a s regs) (q : Means names b s regs) → leaves_of_term a + leaves_of_term b ≤ 400
+combined : (names : List ℕ) (at : Place) (r : Range) (c : Option PlainType) (op : BinOp) (a b : LogicTerm) (s : State) (regs : List Value) (z : ℤ) (p : Means names a s regs) (q : Means names b s regs) → leaves_of_term a + leaves_of_term b ≤ 400
     → Within (leaves_of_term a * most + leaves_of_term b * most) z → compute op p.value q.value ≡ Some (Mathematical z) → operate (operator_of op) I128 p.value q.value ≡ Some (wrap I128 z) → Means names (Binary at c r op a b) s regs
 combined names at r c op a b s regs z p q short fits e f = record {
   value = z;
@@ -108,9 +108,10 @@ combined names at r c op a b s regs z p q short fits e f = record {
       ∙ ap (λ u. both (Some (Mathematical p.value)) u (compute op)) q.source_is
       ∙ e;
   target_is =
-      operation (operator_of op) I128 (term names a) (term names b) regs p.value q.value p.target_is q.target_is
+      λ mem.
+      operation (operator_of op) I128 (term names a) (term names b) regs p.value q.value refl p.target_is q.target_is mem
       ∙ ap (number_or_none over_blocks) f
-      ∙ ap (λ v. Some (Whole v)) (short_fits (leaves_of_term a + leaves_of_term b) z short within);
+      ∙ ap (λ v. Some (Integer v)) (short_fits (leaves_of_term a + leaves_of_term b) z short within);
 }
   where
     within : Within ((leaves_of_term a + leaves_of_term b) * most) z
@@ -118,7 +119,7 @@ combined names at r c op a b s regs z p q short fits e f = record {
         let sizes : (leaves_of_term a + leaves_of_term b) * most ≡ leaves_of_term a * most + leaves_of_term b * most = omega arith in
         subst (λ n. Within n z) (sym sizes) fits
 
-module _ (w : Setting) (slots : List Slot) (scopes : Scopes) (sight : AreInSight slots scopes.objects) (regs : List BlockValue) (now : State) (h : Related w slots regs now) (ready : Ready now.store slots scopes.objects) where
+module _ (w : Setting) (slots : List Slot) (scopes : Scopes) (sight : AreInSight slots scopes.objects) (regs : List Value) (now : State) (h : Related w slots regs now) (ready : Ready now.store slots scopes.objects) where
   variable_means : (at : Place) (t : Option PlainType) (r : Range) (x : Use) → TermDenotes scopes t x → Means w.numbers (Variable at t r x) now regs
   variable_means at t r x d =
       let i = denoted slots scopes sight x d.ctype d.denotes in
@@ -134,17 +135,18 @@ module _ (w : Setting) (slots : List Slot) (scopes : Scopes) (sight : AreInSight
             ∙ ap (read_object now (Some (Into (suc i.slot.block) 0))) int
             ∙ ap of_value v.known.loads;
         target_is =
-            ap (λ q. bind q (λ u. bind (integer_of u) (λ i. Some (Whole (wrap I128 i))))) v.register
-            ∙ ap (λ z. Some (Whole z)) (short_fits 1 z (omega arith) (record { low = omega (arith, ints, within.low); high = omega (arith, ints, within.high) }));
+            λ mem.
+            ap (λ q. bind q (λ u. bind (integer_of u) (λ i. Some (Integer (wrap I128 i))))) v.register
+            ∙ ap (λ z. Some (Integer z)) (short_fits 1 z (omega arith) (record { low = omega (arith, ints, within.low); high = omega (arith, ints, within.high) }));
       }
 
   means : (t : LogicTerm) → IsSumTerm t → TermTyped scopes t → TermHasLetters t → leaves_of_term t ≤ 400 → Means w.numbers t now regs
   means (Number at c r n) p q l short =
       let within = number_within n p in
-      record { value = n; within = record { low = omega (arith, ints, within.low); high = omega (arith, ints, within.high) }; source_is = refl; target_is = refl }
+      record { value = n; within = record { low = omega (arith, ints, within.low); high = omega (arith, ints, within.high) }; source_is = refl; target_is = λ mem. refl }
   means (Letter at c r n) p q l short =
       let within = letter_within n l in
-      record { value = n; within = record { low = omega (arith, ints, within.low); high = omega (arith, ints, within.high) }; source_is = refl; target_is = refl }
+      record { value = n; within = record { low = omega (arith, ints, within.low); high = omega (arith, ints, within.high) }; source_is = refl; target_is = λ mem. refl }
   means (Variable at c r x) p q l short = variable_means at c r x q
   means (Binary at c r Add a b) p q l short =
       let x = means a p.1 q.0 l.0 (omega (arith, short)) in
@@ -184,7 +186,8 @@ module _ (w : Setting) (slots : List Slot) (scopes : Scopes) (sight : AreInSight
         ∙ ap (λ u. lazily (related r (Some (Mathematical x.value)) u n) (Says true) (Says false)) y.source_is
         ∙ lazy_last (relates r x.value y.value) n;
     target_is =
-        operation (relation_operator r) I128 (term w.numbers a) (term w.numbers b) regs x.value y.value x.target_is y.target_is
+        λ mem.
+        operation (relation_operator r) I128 (term w.numbers a) (term w.numbers b) regs x.value y.value refl x.target_is y.target_is mem
         ∙ ap (number_or_none over_blocks) (compared r x.value y.value);
   }
 

@@ -13,7 +13,7 @@ use Rattle.c_syntax.specs.declared.expression.BinOp.{BinOp}
 use Rattle.c_syntax.specs.declared.expression.BinOp.TheVariants as operator
 use Rattle.c_syntax.specs.declared.annotation.Relation.{Relation}
 use Rattle.c_syntax.specs.declared.annotation.Relation.TheVariants as relation
-use Rattle.c_syntax.specs.Ctypes.{PlainType, Void, Int}
+use Rattle.c_syntax.specs.Ctypes.{PlainType, Int}
 use Rattle.c_syntax.specs.Expressions.{Expression, Node, Number, Letter, Variable, Unary, Binary, Both, Either, Choice, Assign, Bump, Call, Cast, SizeOfType, SizeOfExpr, Text, Index, Dot, Arrow, Comma, type_of}
 use Rattle.c_syntax.specs.Annotations as logic
 use Rattle.c_syntax.specs.Annotations.{LogicTerm, NoLink, Linked, ClauseBody, Truth, Chain, Annotation}
@@ -30,13 +30,14 @@ use Rattle.mon_syntax.specs.declared.tree.MonOp.{MonOp}
 use Rattle.mon_syntax.specs.declared.tree.MonOp.TheVariants as mon
 use Rattle.mon_syntax.specs.Trees as tree
 use Rattle.mon_syntax.specs.Trees.{MonExpression}
+use Rattle.mon_syntax.specs.Arithmetic.{is_pointer}
 use Rattle.mon_syntax.specs.Checking.{same_type}
 use Rattle.mon_syntax.specs.Valid.{Types, HasType, has_constant, is_arithmetic, is_whole, is_relation, result_type, open_parens, IsExpression, IsStatement, Labels, Signature}
 use Rattle.c_effects.specs.Letters.{IsLetter, HasLetters, TermHasLetters, BodyHasLetters, IsNumbered}
 use Rattle.c_effects.specs.Expressions.{register_type, value_type, operand_type, operator_of, in_type, compared, condition, truth, unary, binary, compound_in, temporaries, value, truth_of, condition_of, term, relation_operator, truth_of_body}
 use Rattle.c_effects.specs.Expressions.{assertion}
 use Rattle.track_scopes.specs.Blocks.{register_of}
-use Rattle.instrument.proofs.Integers.{operand_is}
+use Rattle.instrument.proofs.Integers.{operand_is, is_number, number_result, number_second, number_operator}
 use Rattle.instrument.proofs.Values.{result_type_is}
 use Rattle.instrument.proofs.ExpressionTypes.{scalar_int, same_int_type, cast_int, binary_at}
 use Rattle.instrument.proofs.Expressions.{letter_fits}
@@ -132,11 +133,19 @@ value_whole (Int k) = register_whole k
 value_whole _ = refl
 
 result_whole : (op : MonOp) (k : CInt) → is_whole (result_type op (register_type k)) ≡ true
-result_whole op k = by (is_relation op)
+result_whole op k = ap is_whole (number_result op (register_type k) (is_number k)) ∙ by (is_relation op)
   where
     by : (t : Bool) → is_whole (if t then I32 else register_type k) ≡ true
     by true = refl
     by false = register_whole k
+
+arithmetic_number : (t : MonType) → is_arithmetic t ≡ true → is_pointer t ≡ false
+arithmetic_number I32 e = refl
+arithmetic_number U32 e = refl
+arithmetic_number I64 e = refl
+arithmetic_number U64 e = refl
+arithmetic_number I128 e = refl
+arithmetic_number _ e = absurd cc
 
 promoted_computes : (k : CInt) → is_arithmetic (register_type (promoted k)) ≡ true
 promoted_computes k = ap is_arithmetic (sym (operand_is k)) ∙ operand_computes (register_type k)
@@ -311,59 +320,68 @@ abbrev pub AreSeen : Types → List ℕ → List Object → Type 0
 AreSeen ts numbers objects = (x : ℕ) (b : Object) → object_named x objects ≡ Some b → Seen ts numbers b.decl b.ctype
 
 module _ (ts : Types) where
-  pub in_typed : (from to : MonType) (e : MonExpression) → is_whole from ≡ true → is_whole to ≡ true → HasType ts e from → HasType ts (in_type from to e) to
+  pub in_typed : (from to : MonType) (e : MonExpression) → is_whole from ≡ true → is_whole to ≡ true → HasType 0 ts e from → HasType 0 ts (in_type from to e) to
   in_typed from to e f g h = by (same_type from to) refl
     where
-      by : (t : Bool) → same_type from to ≡ t → HasType ts (if t then e else tree.Cast to e) to
-      by true s = subst (HasType ts e) (same_mon from to s) h
+      by : (t : Bool) → same_type from to ≡ t → HasType 0 ts (if t then e else tree.Cast to e) to
+      by true s = subst (HasType 0 ts e) (same_mon from to s) h
       by false s = (refl, g, (from, f, h))
 
-  compared_typed : (op : MonOp) (t : MonType) (e : MonExpression) → is_whole t ≡ true → result_type op (operand_type t) ≡ I32 → HasType ts e t → HasType ts (compared op t e) I32
-  compared_typed op t e w r h = (r, operand_computes t, in_typed t (operand_type t) e w (operand_whole t) h, (refl, zero_constant t))
+  -- an operator on two numbers of a type
+  operation_typed : (op : MonOp) (t : MonType) (a b : MonExpression) → is_arithmetic t ≡ true → HasType 0 ts a t → HasType 0 ts b t → HasType 0 ts (tree.Binary op t a b) (result_type op t)
+  operation_typed op t a b w f g =
+      let plain = arithmetic_number t w in
+      (refl, number_operator op t plain ∙ w, f, subst (HasType 0 ts b) (sym (number_second op t plain)) g)
 
-  truth_typed : (t : MonType) (e : MonExpression) → is_whole t ≡ true → HasType ts e t → HasType ts (truth t e) I32
+  compared_typed : (op : MonOp) (t : MonType) (e : MonExpression) → is_whole t ≡ true → result_type op (operand_type t) ≡ I32 → HasType 0 ts e t → HasType 0 ts (compared op t e) I32
+  compared_typed op t e w r h =
+      subst (HasType 0 ts (compared op t e)) r
+      (operation_typed op (operand_type t) (in_type t (operand_type t) e) (tree.Constant (operand_type t) (pos 0)) (operand_computes t) (in_typed t (operand_type t) e w (operand_whole t) h) (refl, zero_constant t))
+
+  truth_typed : (t : MonType) (e : MonExpression) → is_whole t ≡ true → HasType 0 ts e t → HasType 0 ts (truth t e) I32
   truth_typed t e w h = compared_typed mon.Ne t e w refl h
 
-  condition_typed : (t : MonType) (e : MonExpression) → is_whole t ≡ true → HasType ts e t → HasType ts (condition t e) I32
+  condition_typed : (t : MonType) (e : MonExpression) → is_whole t ≡ true → HasType 0 ts e t → HasType 0 ts (condition t e) I32
   condition_typed t e w h = by (same_type t I32) refl
     where
-      by : (b : Bool) → same_type t I32 ≡ b → HasType ts (if b then e else truth t e) I32
-      by true s = subst (HasType ts e) (same_mon t I32 s) h
+      by : (b : Bool) → same_type t I32 ≡ b → HasType 0 ts (if b then e else truth t e) I32
+      by true s = subst (HasType 0 ts e) (same_mon t I32 s) h
       by false s = truth_typed t e w h
 
-  unary_typed : (op : UnOp) (t u : PlainType) (k : CInt) (e : MonExpression) → UnaryTypes op t u → t ≡ Int k → ((l : CInt) → u ≡ Int l → HasType ts e (register_type l)) → HasType ts (unary op (value_type u) e) (register_type k)
+  unary_typed : (op : UnOp) (t u : PlainType) (k : CInt) (e : MonExpression) → UnaryTypes op t u → t ≡ Int k → ((l : CInt) → u ≡ Int l → HasType 0 ts e (register_type l)) → HasType 0 ts (unary op (value_type u) e) (register_type k)
   unary_typed prefix.Plus t u k e h int g = g k (sym h.0 ∙ int)
   unary_typed prefix.Minus t u k e h int g =
       let u_int : u ≡ Int k = sym h.0 ∙ int in
-      (ap value_type u_int, ap (λ x. is_arithmetic (value_type x)) h.1.is ∙ promoted_computes h.1.int, subst (HasType ts e) (ap value_type (sym u_int)) (g k u_int))
+      (ap value_type u_int, ap (λ x. is_arithmetic (value_type x)) h.1.is ∙ promoted_computes h.1.int, subst (HasType 0 ts e) (ap value_type (sym u_int)) (g k u_int))
   unary_typed prefix.Flip t u k e h int g =
       let u_int : u ≡ Int k = sym h.0 ∙ int in
-      (ap value_type u_int, ap (λ x. is_arithmetic (value_type x)) h.1.is ∙ promoted_computes h.1.int, subst (HasType ts e) (ap value_type (sym u_int)) (g k u_int))
+      (ap value_type u_int, ap (λ x. is_arithmetic (value_type x)) h.1.is ∙ promoted_computes h.1.int, subst (HasType 0 ts e) (ap value_type (sym u_int)) (g k u_int))
   unary_typed prefix.Deref t u k e h int g = absurd h
   unary_typed prefix.Address t u k e h int g = absurd h
   unary_typed prefix.Not t u k e h int g =
       let i = scalar_int u h.1 in
-      subst (λ l. HasType ts (compared mon.Eq (value_type u) e) (register_type l)) (same_int_type c.I32 k (sym h.0 ∙ int))
-      (compared_typed mon.Eq (value_type u) e (value_whole u) refl (subst (HasType ts e) (ap value_type (sym i.is)) (g i.int i.is)))
+      subst (λ l. HasType 0 ts (compared mon.Eq (value_type u) e) (register_type l)) (same_int_type c.I32 k (sym h.0 ∙ int))
+      (compared_typed mon.Eq (value_type u) e (value_whole u) refl (subst (HasType 0 ts e) (ap value_type (sym i.is)) (g i.int i.is)))
 
-  binary_typed : (op : BinOp) (t u v : PlainType) (k : CInt) (a b : MonExpression) → BinaryTypes op t u v → t ≡ Int k → ((l : CInt) → u ≡ Int l → HasType ts a (register_type l)) → ((l : CInt) → v ≡ Int l → HasType ts b (register_type l))
-      → HasType ts (binary op (value_type u) (value_type v) a b) (register_type k)
+  binary_typed : (op : BinOp) (t u v : PlainType) (k : CInt) (a b : MonExpression) → BinaryTypes op t u v → t ≡ Int k → ((l : CInt) → u ≡ Int l → HasType 0 ts a (register_type l)) → ((l : CInt) → v ≡ Int l → HasType 0 ts b (register_type l))
+      → HasType 0 ts (binary op (value_type u) (value_type v) a b) (register_type k)
   binary_typed op t u v k a b h int f g =
       let m = binary_at op t u v k h int in
-      let left = value_type u in (
-        ap (λ x. result_type (operator_of op) (value_type x)) m.left_is ∙ result_type_is op m.left ∙ ap register_type m.result,
-        ap (λ x. is_arithmetic (value_type x)) h.0.is ∙ promoted_computes h.0.int,
-        subst (HasType ts a) (ap value_type (sym m.left_is)) (f m.left m.left_is),
-        in_typed (value_type v) left b (value_whole v) (value_whole u) (subst (HasType ts b) (ap value_type (sym m.right_is)) (g m.right m.right_is)),
-      )
+      let left = value_type u in
+      subst (HasType 0 ts (binary op left (value_type v) a b)) (ap (λ x. result_type (operator_of op) (value_type x)) m.left_is ∙ result_type_is op m.left ∙ ap register_type m.result)
+      (operation_typed (operator_of op) left a (in_type (value_type v) left b)
+      (ap (λ x. is_arithmetic (value_type x)) h.0.is ∙ promoted_computes h.0.int)
+      (subst (HasType 0 ts a) (ap value_type (sym m.left_is)) (f m.left m.left_is))
+      (in_typed (value_type v) left b (value_whole v) (value_whole u) (subst (HasType 0 ts b) (ap value_type (sym m.right_is)) (g m.right m.right_is))))
 
-  pub compound_typed : (op : BinOp) (k l : CInt) (a b : MonExpression) → HasType ts a (register_type k) → HasType ts b (register_type l)
-      → HasType ts (compound_in op (register_type (operation_type op k l)) (register_type k) (register_type l) a b) (register_type k)
+  pub compound_typed : (op : BinOp) (k l : CInt) (a b : MonExpression) → HasType 0 ts a (register_type k) → HasType 0 ts b (register_type l)
+      → HasType 0 ts (compound_in op (register_type (operation_type op k l)) (register_type k) (register_type l) a b) (register_type k)
   compound_typed op k l a b f g =
       let i = operation_type op k l in
       let m = register_type i in
       in_typed (result_type (operator_of op) m) (register_type k) (tree.Binary (operator_of op) m (in_type (register_type k) m a) (in_type (register_type l) m b)) (result_whole (operator_of op) i) (register_whole k)
-      (refl, operation_computes op k l, in_typed (register_type k) m a (register_whole k) (register_whole i) f, in_typed (register_type l) m b (register_whole l) (register_whole i) g)
+      (operation_typed (operator_of op) m (in_type (register_type k) m a) (in_type (register_type l) m b) (operation_computes op k l) (in_typed (register_type k) m a (register_whole k) (register_whole i) f)
+      (in_typed (register_type l) m b (register_whole l) (register_whole i) g))
 
   pub both_begin : (x y : Expression) (rs : Types) → Begins (rs ++ (temporaries x ++ temporaries y ++ I32 ∷ [])) ts → Begins (rs ++ temporaries x ++ temporaries y ++ I32 ∷ []) ts
   both_begin x y rs h =
@@ -386,7 +404,7 @@ module _ (ts : Types) where
         let s = seen x t d in
         s.register ∙ ap (λ i. Some (register_type i)) (same_int_type s.int k (sym s.ctype ∙ int))
 
-    pub typed : (e : Expression) (k : CInt) (rs : Types) → type_of e ≡ Int k → IsPure e → WellTyped scopes e → HasLetters e → Begins (rs ++ temporaries e) ts → HasType ts (value numbers rs e) (register_type k)
+    pub typed : (e : Expression) (k : CInt) (rs : Types) → type_of e ≡ Int k → IsPure e → WellTyped scopes e → HasLetters e → Begins (rs ++ temporaries e) ts → HasType 0 ts (value numbers rs e) (register_type k)
     typed (Node at t (Number z None)) k rs int p q l b = absurd q
     typed (Node at t (Number z (Some i))) k rs int p q l b =
         (ap value_type int, subst (λ j. has_constant (value_type j) z ≡ true) (sym q.0) (small_constant i z q.1))
@@ -406,8 +424,8 @@ module _ (ts : Types) where
     typed (Node at t (Cast to a)) k rs int p q l b =
         let to_int : to ≡ Int k = sym q.1 ∙ int in
         let from = cast_int to (type_of a) k to_int q.2 in
-        subst (HasType ts (in_type (value_type (type_of a)) (value_type to) (value numbers rs a))) (ap value_type to_int)
-        (in_typed (value_type (type_of a)) (value_type to) (value numbers rs a) (value_whole (type_of a)) (value_whole to) (subst (HasType ts (value numbers rs a)) (ap value_type (sym from.is)) (typed a from.int rs from.is p q.0 l b)))
+        subst (HasType 0 ts (in_type (value_type (type_of a)) (value_type to) (value numbers rs a))) (ap value_type to_int)
+        (in_typed (value_type (type_of a)) (value_type to) (value numbers rs a) (value_whole (type_of a)) (value_whole to) (subst (HasType 0 ts (value numbers rs a)) (ap value_type (sym from.is)) (typed a from.int rs from.is p q.0 l b)))
     typed (Node at t (SizeOfType u)) k rs int p q l b = (ap register_type (same_int_type c.U64 k (sym q.0 ∙ int)), size_constant u q.1)
     typed (Node at t (SizeOfExpr a)) k rs int p q l b = (ap register_type (same_int_type c.U64 k (sym q.1 ∙ int)), size_constant (type_of a) q.2)
     typed (Node at t (Text n)) k rs int p q l b = absurd p
@@ -419,29 +437,29 @@ module _ (ts : Types) where
     typed (Node at t (Bump op a)) k rs int p q l b = absurd p
     typed (Node at t (Call f es)) k rs int p q l b = absurd p
 
-    pub expression_valid : (e : Expression) (k : CInt) (rs : Types) → type_of e ≡ Int k → IsPure e → WellTyped scopes e → HasLetters e → nodes_of e ≤ 800 → Begins (rs ++ temporaries e) ts → IsExpression ts (value numbers rs e) (register_type k)
+    pub expression_valid : (e : Expression) (k : CInt) (rs : Types) → type_of e ≡ Int k → IsPure e → WellTyped scopes e → HasLetters e → nodes_of e ≤ 800 → Begins (rs ++ temporaries e) ts → IsExpression 0 ts (value numbers rs e) (register_type k)
     expression_valid e k rs int p q l few b = record { typed = typed e k rs int p q l b; within = omega (arith, few_parens numbers rs e, few) }
 
-    pub condition_valid : (e : Expression) (k : CInt) (rs : Types) → type_of e ≡ Int k → IsPure e → WellTyped scopes e → HasLetters e → nodes_of e ≤ 800 → Begins (rs ++ temporaries e) ts → IsExpression ts (condition_of numbers rs e) I32
+    pub condition_valid : (e : Expression) (k : CInt) (rs : Types) → type_of e ≡ Int k → IsPure e → WellTyped scopes e → HasLetters e → nodes_of e ≤ 800 → Begins (rs ++ temporaries e) ts → IsExpression 0 ts (condition_of numbers rs e) I32
     condition_valid e k rs int p q l few b =
         let m = parens_condition (value_type (type_of e)) (value numbers rs e) (2 * nodes_of e) (few_parens numbers rs e) (omega (arith, some_nodes e)) in
-        record { typed = condition_typed (value_type (type_of e)) (value numbers rs e) (value_whole (type_of e)) (subst (HasType ts (value numbers rs e)) (ap value_type (sym int)) (typed e k rs int p q l b)); within = omega (arith, m, few) }
+        record { typed = condition_typed (value_type (type_of e)) (value numbers rs e) (value_whole (type_of e)) (subst (HasType 0 ts (value numbers rs e)) (ap value_type (sym int)) (typed e k rs int p q l b)); within = omega (arith, m, few) }
 
-    pub truth_valid : (e : Expression) (k : CInt) (rs : Types) → type_of e ≡ Int k → IsPure e → WellTyped scopes e → HasLetters e → nodes_of e ≤ 800 → Begins (rs ++ temporaries e) ts → IsExpression ts (truth_of numbers rs e) I32
+    pub truth_valid : (e : Expression) (k : CInt) (rs : Types) → type_of e ≡ Int k → IsPure e → WellTyped scopes e → HasLetters e → nodes_of e ≤ 800 → Begins (rs ++ temporaries e) ts → IsExpression 0 ts (truth_of numbers rs e) I32
     truth_valid e k rs int p q l few b =
         let m = parens_compared mon.Ne (value_type (type_of e)) (value numbers rs e) (2 * nodes_of e) (few_parens numbers rs e) (omega (arith, some_nodes e)) in
-        record { typed = truth_typed (value_type (type_of e)) (value numbers rs e) (value_whole (type_of e)) (subst (HasType ts (value numbers rs e)) (ap value_type (sym int)) (typed e k rs int p q l b)); within = omega (arith, m, few) }
+        record { typed = truth_typed (value_type (type_of e)) (value numbers rs e) (value_whole (type_of e)) (subst (HasType 0 ts (value numbers rs e)) (ap value_type (sym int)) (typed e k rs int p q l b)); within = omega (arith, m, few) }
 
     -- `op=` on a register
     pub compound_valid : (op : BinOp) (k i : CInt) (r : ℕ) (e : Expression) (rs : Types) → slice_get ts r ≡ Some (register_type k) → type_of e ≡ Int i → IsPure e → WellTyped scopes e → HasLetters e → nodes_of e ≤ 800 → Begins (rs ++ temporaries e) ts
-        → IsExpression ts (compound_in op (register_type (operation_type op k i)) (register_type k) (register_type i) (tree.Register r) (value numbers rs e)) (register_type k)
+        → IsExpression 0 ts (compound_in op (register_type (operation_type op k i)) (register_type k) (register_type i) (tree.Register r) (value numbers rs e)) (register_type k)
     compound_valid op k i r e rs reg int p q l few b =
         let m = parens_compound op (register_type (operation_type op k i)) (register_type k) (register_type i) (tree.Register r) (value numbers rs e) (2 * nodes_of e) (omega arith) (few_parens numbers rs e) (omega (arith, some_nodes e)) in
         record { typed = compound_typed op k i (tree.Register r) (value numbers rs e) reg (typed e i rs int p q l b); within = omega (arith, m, few) }
 
     -- ---- annotations
 
-    term_typed : (t : LogicTerm) → IsSumTerm t → TermTyped scopes t → TermHasLetters t → HasType ts (term numbers t) I128
+    term_typed : (t : LogicTerm) → IsSumTerm t → TermTyped scopes t → TermHasLetters t → HasType 0 ts (term numbers t) I128
     term_typed (logic.Number at u r z) p q l = (refl, logic_constant z p)
     term_typed (logic.Letter at u r z) p q l = (refl, logic_constant z (letter_number z l))
     term_typed (logic.Variable at u r x) p q l =
@@ -466,15 +484,15 @@ module _ (ts : Types) where
         omega (arith, m)
 
     relation_valid : (r : Relation) (a b : LogicTerm) → IsShortTerm a → IsShortTerm b → TermTyped scopes a → TermTyped scopes b → TermHasLetters a → TermHasLetters b
-        → IsExpression ts (tree.Binary (relation_operator r) I128 (term numbers a) (term numbers b)) I32
+        → IsExpression 0 ts (tree.Binary (relation_operator r) I128 (term numbers a) (term numbers b)) I32
     relation_valid r a b p q f g l m =
         let deep : max (open_parens (term numbers a)) (open_parens (term numbers b)) ≤ 401 = max-le (omega (arith, few_parens_of_term a, p.short)) (omega (arith, few_parens_of_term b, q.short)) in
         record { typed = (relation_gives r I128, refl, term_typed a p.is f l, term_typed b q.is g m); within = omega (arith, deep) }
 
-    body_valid : (b : ClauseBody) → IsRelation b → ClauseTyped scopes b → BodyHasLetters b → IsExpression ts (truth_of_body numbers b) I32
+    body_valid : (b : ClauseBody) → IsRelation b → ClauseTyped scopes b → BodyHasLetters b → IsExpression 0 ts (truth_of_body numbers b) I32
     body_valid (Truth (Chain at a (Linked at2 r b NoLink))) p q l = relation_valid r a b p.0 p.1 q.0 q.1.0 l.0 l.1.0
     body_valid (Truth (Chain at a NoLink)) p q l = absurd p
     body_valid (Truth (Chain at a (Linked at2 r b (Linked at3 r3 c rest)))) p q l = absurd p
 
-    pub assertion_valid : (gs : List Signature) (result : Option MonType) (ls : Labels) (a : Annotation) → IsAssert a → ClauseTyped scopes a.body → IsNumbered a → IsStatement gs ts result ls (assertion numbers a)
+    pub assertion_valid : (gs : List Signature) (result : Option MonType) (ls : Labels) (a : Annotation) → IsAssert a → ClauseTyped scopes a.body → IsNumbered a → IsStatement 0 gs ts result ls (assertion numbers a)
     assertion_valid gs result ls a h t k = (record { typed = (refl, refl); within = omega arith }, body_valid a.body h.body t k.letters, k.number, k.line)

@@ -166,19 +166,19 @@ deep_alive numbers ds a n h le =
     (deep_before a (deaths (with_born numbers ds [])) n h (omega (arith, y, le)))
 
 module _ (gs : List Signature) (ts : Types) (result : Option MonType) (ls : Labels) (numbers : List ℕ) where
-  births_valid : (ds : List Declaration) → AreObjects ds → HaveVariables ts numbers ds → AreStatements gs ts result ls (births numbers ds)
+  births_valid : (ds : List Declaration) → AreObjects ds → HaveVariables ts numbers ds → AreStatements 0 gs ts result ls (births numbers ds)
   births_valid [] o h = tt
   births_valid (d ∷ ds) o h =
-      let size : IsExpression ts (tree.Constant U64 (pos (size_of [] d.ctype))) U64 = record { typed = (refl, size_constant d.ctype (ap is_object_type o.0)); within = omega arith } in
+      let size : IsExpression 0 ts (tree.Constant U64 (pos (size_of [] d.ctype))) U64 = record { typed = (refl, size_constant d.ctype (ap is_object_type o.0)); within = omega arith } in
       (((size, tt), h.0.pointer), births_valid ds o.1 h.1)
 
-  pub deaths_valid : (live : List ℕ) → AllPoint ts live → AreStatements gs ts result ls (deaths live)
+  pub deaths_valid : (live : List ℕ) → AllPoint ts live → AreStatements 0 gs ts result ls (deaths live)
   deaths_valid [] h = tt
   deaths_valid (r ∷ live) h =
-      let pointer : IsExpression ts (tree.Register r) Ptr = record { typed = h.0; within = omega arith } in
+      let pointer : IsExpression 0 ts (tree.Register r) Ptr = record { typed = h.0; within = omega arith } in
       (((pointer, tt), tt), deaths_valid live h.1)
 
-  pub alive_valid : (ds : List Declaration) (a : MonStatements) → AreObjects ds → HaveVariables ts numbers ds → AreStatements gs ts result ls a → AreStatements gs ts result ls (alive numbers ds a)
+  pub alive_valid : (ds : List Declaration) (a : MonStatements) → AreObjects ds → HaveVariables ts numbers ds → AreStatements 0 gs ts result ls a → AreStatements 0 gs ts result ls (alive numbers ds a)
   alive_valid ds a o h k =
       before_valid gs ts result ls (births numbers ds) (before a (deaths (with_born numbers ds []))) (births_valid ds o h)
       (before_valid gs ts result ls a (deaths (with_born numbers ds [])) k (deaths_valid (with_born numbers ds []) (point_born ts numbers ds [] h tt)))

@@ -107,32 +107,32 @@ module _ (p : TranslationUnit) (q : IsProgram p) (numbers : FunctionsHaveNumbers
         named : bytes_eq callee_code.name (codes "main") ≡ false
         named = ap (λ b. bytes_eq (if b then codes "main" else function_name (0 + index_by (has_number f.decl) p.funcs) (name_at p.names g.name)) (codes "main")) (not_main f.decl g found other)
 
-        valid : (into_result : Option MonType) (ls : Labels) (into : Option ℕ) (args : List MonExpression) → TakesValue ts into (result_of t) → AreArguments ts args (map register_type (parameter_ints g.params))
-            → AreStatements signatures ts into_result ls (call p into f args)
+        valid : (into_result : Option MonType) (ls : Labels) (into : Option ℕ) (args : List MonExpression) → TakesValue ts into (result_of t) → AreArguments 0 ts args (map register_type (parameter_ints g.params))
+            → AreStatements 0 signatures ts into_result ls (call p into f args)
         valid into_result ls into args takes given =
-            let is_call : IsCall signatures ts into index args = record {
+            let is_call : IsCall 0 signatures ts into index args = record {
               callee = signature_of callee_code;
               has = has;
               not_main = named;
-              arguments = subst (AreArguments ts args) (ints_are g.params objects ∙ sym (types_of_values p.names 0 g.params)) given;
+              arguments = subst (AreArguments 0 ts args) (ints_are g.params objects ∙ sym (types_of_values p.names 0 g.params)) given;
               takes = subst (λ u. TakesValue ts into (result_of u)) result takes;
             } in
-            subst (λ b. AreStatements signatures ts into_result ls (if b then library_call into (name_at p.names f.name) args else one (tree.Call into index args))) (sym own) (is_call, tt)
+            subst (λ b. AreStatements 0 signatures ts into_result ls (if b then library_call into (name_at p.names f.name) args else one (tree.Call into index args))) (sym own) (is_call, tt)
 
     -- ---- functions of the library
 
-    first_valid : (args : List MonExpression) → AreArguments ts args (I32 ∷ []) → IsExpression ts (first_of args) I32
+    first_valid : (args : List MonExpression) → AreArguments 0 ts args (I32 ∷ []) → IsExpression 0 ts (first_of args) I32
     first_valid [] h = absurd h
     first_valid (e ∷ args) h = h.0
 
     -- a call of the library, by what its name is
     abbrev Chosen : Option MonType → Labels → Option ℕ → List MonExpression → Bool → Bool → Bool → Type 0
-    Chosen result ls into args x y z = AreStatements signatures ts result ls (if x then one (tree.PutChar into (first_of args)) else (if y then one (tree.GetChar into) else (if z then one (tree.Exit (first_of args)) else NoStatement)))
+    Chosen result ls into args x y z = AreStatements 0 signatures ts result ls (if x then one (tree.PutChar into (first_of args)) else (if y then one (tree.GetChar into) else (if z then one (tree.Exit (first_of args)) else NoStatement)))
 
     chosen : (f : Use) (result : Option MonType) (ls : Labels) (into : Option ℕ) (args : List MonExpression) → is_of_library f ≡ true
         → Chosen result ls into args (bytes_eq (name_at p.names f.name) (codes "putchar")) (bytes_eq (name_at p.names f.name) (codes "getchar")) (bytes_eq (name_at p.names f.name) (codes "exit"))
-        → AreStatements signatures ts result ls (call p into f args)
-    chosen f result ls into args own h = subst (λ b. AreStatements signatures ts result ls (if b then library_call into (name_at p.names f.name) args else one (tree.Call into (index_of f.decl p.funcs) args))) (sym own) h
+        → AreStatements 0 signatures ts result ls (call p into f args)
+    chosen f result ls into args own h = subst (λ b. AreStatements 0 signatures ts result ls (if b then library_call into (name_at p.names f.name) args else one (tree.Call into (index_of f.decl p.funcs) args))) (sym own) h
 
     library_called : (f : Use) (t : PlainType) (es : Expressions) (callee : Known) → is_of_library f ≡ true → library_function f.name (name_at p.names f.name) ≡ Some callee → t ≡ callee.result → HaveTypes callee.params es
         → CallValid p signatures ts f t es

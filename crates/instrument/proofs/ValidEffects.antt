@@ -127,20 +127,20 @@ module _ (p : TranslationUnit) (numbers : List ℕ) where
 pub record CallValid (p : TranslationUnit) (gs : List Signature) (ts : Types) (f : Use) (t : PlainType) (es : Expressions) : Type 0 where
   pub ints : List CInt
   pub arguments : HaveTypes (map (λ k. Int k) ints) es
-  pub valid : (result : Option MonType) (ls : Labels) (into : Option ℕ) (args : List MonExpression) → TakesValue ts into (result_of t) → AreArguments ts args (map register_type ints) → AreStatements gs ts result ls (call p into f args)
+  pub valid : (result : Option MonType) (ls : Labels) (into : Option ℕ) (args : List MonExpression) → TakesValue ts into (result_of t) → AreArguments 0 ts args (map register_type ints) → AreStatements 0 gs ts result ls (call p into f args)
 
 abbrev pub CallsValid : TranslationUnit → List Signature → Types → Scopes → Type 0
 CallsValid p gs ts scopes = (f : Use) (t : PlainType) (es : Expressions) → Calls scopes f t es → CallValid p gs ts f t es
 
 module _ (p : TranslationUnit) (gs : List Signature) (ts : Types) (result : Option MonType) (numbers : List ℕ) (scopes : Scopes) (sees : AreSeen ts numbers scopes.objects) (calls : CallsValid p gs ts scopes) (ls : Labels) where
   abbrev Are : MonStatements → Type 0
-  Are a = AreStatements gs ts result ls a
+  Are a = AreStatements 0 gs ts result ls a
 
-  abbrev sets_valid : (r : ℕ) (e : MonExpression) (t : MonType) → slice_get ts r ≡ Some t → IsExpression ts e t → Are (set r e)
+  abbrev sets_valid : (r : ℕ) (e : MonExpression) (t : MonType) → slice_get ts r ≡ Some t → IsExpression 0 ts e t → Are (set r e)
   sets_valid = set_valid gs ts result numbers scopes sees ls
 
   arguments_valid : (es : Expressions) (ks : List CInt) (rs : Types) → HaveTypes (map (λ k. Int k) ks) es → ArePure es → AreWellTyped scopes es → ArgumentsHaveLetters es → nodes_of_all es ≤ 800 → Begins (rs ++ arguments_temporaries es) ts
-      → Are (arguments_setup numbers rs es) × AreArguments ts (arguments numbers rs es) (map register_type ks)
+      → Are (arguments_setup numbers rs es) × AreArguments 0 ts (arguments numbers rs es) (map register_type ks)
   arguments_valid NoExpression [] rs types pure q l few b = (tt, tt)
   arguments_valid NoExpression (k ∷ ks) rs types pure q l few b = absurd types
   arguments_valid (Following e es) [] rs types pure q l few b = absurd types
@@ -163,7 +163,7 @@ module _ (p : TranslationUnit) (gs : List Signature) (ts : Types) (result : Opti
 
   -- what stands in front, and the value
   abbrev pub FullValid : Types → Expression → CInt → Type 0
-  FullValid rs e k = Are (full_setup p numbers rs e) × IsExpression ts (full_value numbers rs e) (register_type k)
+  FullValid rs e k = Are (full_setup p numbers rs e) × IsExpression 0 ts (full_value numbers rs e) (register_type k)
 
   -- a call whose value a register takes
   value_called : (f : Use) (u : PlainType) (k : CInt) (es : Expressions) (rs : Types) → u ≡ Int k → ArePure es → AreWellTyped scopes es → Calls scopes f u es → ArgumentsHaveLetters es → nodes_of_all es ≤ 800
@@ -186,7 +186,7 @@ module _ (p : TranslationUnit) (gs : List Signature) (ts : Types) (result : Opti
       let deep = parens_in_type (value_type u) (value_type to) r in (
         v.0,
         record {
-          typed = subst (λ x. HasType ts (in_type (value_type u) (value_type to) r) (value_type x)) to_int (in_typed ts (value_type u) (value_type to) r (value_whole u) (value_whole to) here);
+          typed = subst (λ x. HasType 0 ts (in_type (value_type u) (value_type to) r) (value_type x)) to_int (in_typed ts (value_type u) (value_type to) r (value_whole u) (value_whole to) here);
           within = omega (arith, deep);
         },
       )
@@ -219,12 +219,12 @@ module _ (p : TranslationUnit) (gs : List Signature) (ts : Types) (result : Opti
       let same : e (Int v.0) (Int i.int) ≡ e t (type_of y) = ap (λ t. e t (Int i.int)) (sym v.1) ∙ ap (e t) (sym i.is) in
       before_valid gs ts result ls (setup numbers rs y) (set (target numbers a) (e t (type_of y))) (setup_valid gs ts result numbers scopes sees ls y i.int rs i.is pure.1 q.1 l (omega (arith, few)) b)
       (sets_valid (target numbers a) (e t (type_of y)) (register_type v.0) v.2
-      (subst (λ x. IsExpression ts x (register_type v.0)) same (compound_valid ts numbers scopes sees op v.0 i.int (target numbers a) y rs v.2 i.is pure.1 q.1 l (omega (arith, few)) b)))
+      (subst (λ x. IsExpression 0 ts x (register_type v.0)) same (compound_valid ts numbers scopes sees op v.0 i.int (target numbers a) y rs v.2 i.is pure.1 q.1 l (omega (arith, few)) b)))
   effect_valid (Node at t (Bump op a)) rs pure q l few b =
       let v = place_valid t a q.0 in
       let e = λ (t : PlainType). compound (bump_operator op) t int_type (tree.Register (target numbers a)) (tree.Constant I32 (pos 1)) in
       sets_valid (target numbers a) (e t) (register_type v.0) v.2
-      (subst (λ t. IsExpression ts (e t) (register_type v.0)) (sym v.1)
+      (subst (λ t. IsExpression 0 ts (e t) (register_type v.0)) (sym v.1)
       (record { typed = compound_typed ts (bump_operator op) v.0 c.I32 (tree.Register (target numbers a)) (tree.Constant I32 (pos 1)) v.2 (refl, refl); within = bump_parens (bump_operator op) v.0 (target numbers a) }))
   effect_valid (Node at t (Call f es)) rs pure q l few b = called_valid f t es None rs pure q.0 q.1 l (omega (arith, few)) b tt
   effect_valid _ rs pure q l few b = tt

@@ -87,7 +87,7 @@ module _ (p : TranslationUnit) (q : IsProgram p) (numbers : FunctionsHaveNumbers
     spot = record { loops = 0; inside = with_born ns f.params []; outside = [] }
 
     abbrev Are : Option Statement → Type 0
-    Are a = AreStatements gs ts (result_of f.result) [] (body_part p ns f.params (variable_types f) a)
+    Are a = AreStatements 0 gs ts (result_of f.result) [] (body_part p ns f.params (variable_types f) a)
 
     block_formed : BodyFormed most_typed (Some (Block body.at body.items))
     block_formed = subst (BodyFormed most_typed) body.is part.formed.body
@@ -103,7 +103,7 @@ module _ (p : TranslationUnit) (q : IsProgram p) (numbers : FunctionsHaveNumbers
         (variable_types f) refl (λ e. absurd cc) declared body.formed body.typed body.noted body.letters (omega (arith, shallow))
         (subst (λ l. Begins (variable_types f ++ l) ts) (ap body_temporaries body.is) (record { rest = []; is = sym (append-nil ts) })))
 
-    all_valid : AreStatements gs ts (result_of f.result) [] (alive ns f.params (body_part p ns f.params (variable_types f) f.body))
+    all_valid : AreStatements 0 gs ts (result_of f.result) [] (alive ns f.params (body_part p ns f.params (variable_types f) f.body))
     all_valid =
         alive_valid gs ts (result_of f.result) [] ns f.params (body_part p ns f.params (variable_types f) f.body) (parameter_objects (function_scopes p part.before f) f.params part.typed.params) parameters (subst Are (sym body.is) block_valid)
 
@@ -116,13 +116,13 @@ module _ (p : TranslationUnit) (q : IsProgram p) (numbers : FunctionsHaveNumbers
     name_free k few true = main_is_free
     name_free k few false = function_is_free k (name_at p.names f.name) few part.named.name.parts
 
-    pub function_valid : (k : ℕ) → IsNumber k → IsFunction gs (function_of p m k f)
+    pub function_valid : (k : ℕ) → IsNumber k → IsFunction [] gs (function_of p m k f)
     function_valid k few =
         let deep = deep_alive ns f.params (body_part p ns f.params (variable_types f) f.body) 1605 deep_body (omega arith) in
         record {
           name = name_free k few (nat_eq k m);
           registers = registers_valid p.names f part.named (part.numbers definition).few;
-          body = subst (λ ts. AreStatements gs ts (result_of f.result) [] (alive ns f.params (body_part p ns f.params (variable_types f) f.body))) (sym (function_types p.names f)) all_valid;
+          body = subst (λ ts. AreStatements 0 gs ts (result_of f.result) [] (alive ns f.params (body_part p ns f.params (variable_types f) f.body))) (sym (function_types p.names f)) all_valid;
           within = omega (arith, deep);
         }
 
@@ -150,12 +150,12 @@ module _ (p : TranslationUnit) (q : IsProgram p) (numbers : FunctionsHaveNumbers
       by true e = let same : k ≡ m = grind (arith, nat_tests) in not_among (codes "main") ws (all_of (Above k) (λ w. bytes_eq (codes "main") w ≡ false) ws (λ w a. a.first (omega (arith, same))) h)
       by false e = not_among (function_name k name) ws (all_of (Above k) (λ w. bytes_eq (function_name k name) w ≡ false) ws (λ w a. a.other k name (omega arith) few) h)
 
-  functions_valid : (fs : List Function) (k : ℕ) (ws : List (List ℕ)) → Parts p fs → IsNumber (k + length fs) → AllOf (Above k) ws → AreFunctions gs ws (functions_from p m k fs)
+  functions_valid : (fs : List Function) (k : ℕ) (ws : List (List ℕ)) → Parts p fs → IsNumber (k + length fs) → AllOf (Above k) ws → AreFunctions [] gs ws (functions_from p m k fs)
   functions_valid [] k ws parts few h = tt
   functions_valid (f ∷ fs) k ws parts few h = by (is_definition f) refl (λ j us le g. functions_valid fs j us parts.1 le g)
     where
-      by : (b : Bool) → is_definition f ≡ b → ((j : ℕ) (us : List (List ℕ)) → IsNumber (j + length fs) → AllOf (Above j) us → AreFunctions gs us (functions_from p m j fs))
-          → AreFunctions gs ws (if b then function_of p m k f ∷ functions_from p m (suc k) fs else functions_from p m k fs)
+      by : (b : Bool) → is_definition f ≡ b → ((j : ℕ) (us : List (List ℕ)) → IsNumber (j + length fs) → AllOf (Above j) us → AreFunctions [] gs us (functions_from p m j fs))
+          → AreFunctions [] gs ws (if b then function_of p m k f ∷ functions_from p m (suc k) fs else functions_from p m k fs)
       by true e rest = (
         function_valid f parts.0 e k (omega (arith, few)),
         new_name k (name_at p.names f.name) ws (omega (arith, few)) h,
@@ -174,6 +174,8 @@ module _ (p : TranslationUnit) (q : IsProgram p) (numbers : FunctionsHaveNumbers
       let index = 0 + index_by (has_bytes p.names (codes "main")) p.funcs in
       let first : index ≡ m = sym (main_index_is p.names p.funcs ∙ omega arith) in
       record {
+        globals = tt;
+        room = omega arith;
         functions = functions_valid p.funcs 0 [] parts (omega (arith, few)) tt;
         number = index_by (has_bytes p.names (codes "main")) p.funcs;
         main = function_of p m index found.function;

@@ -115,24 +115,24 @@ deep_behind numbers rs e s n few le = deep_before (setup numbers rs e) (one s) n
 -- ---- they are valid
 
 module _ (gs : List Signature) (ts : Types) (result : Option MonType) (ls : Labels) where
-  pub before_valid : (a b : MonStatements) → AreStatements gs ts result ls a → AreStatements gs ts result ls b → AreStatements gs ts result ls (before a b)
+  pub before_valid : (a b : MonStatements) → AreStatements 0 gs ts result ls a → AreStatements 0 gs ts result ls b → AreStatements 0 gs ts result ls (before a b)
   before_valid NoStatement b h k = k
   before_valid (Then x a) b h k = (h.0, before_valid a b h.1 k)
 
 module _ (gs : List Signature) (ts : Types) (result : Option MonType) (numbers : List ℕ) (scopes : Scopes) (sees : AreSeen ts numbers scopes.objects) (ls : Labels) where
   abbrev pub Are : MonStatements → Type 0
-  Are a = AreStatements gs ts result ls a
+  Are a = AreStatements 0 gs ts result ls a
 
   behind_setup : (a b : MonStatements) → Are a → Are b → Are (before a b)
   behind_setup a b h k = before_valid gs ts result ls a b h k
 
-  pub set_valid : (r : ℕ) (e : MonExpression) (t : MonType) → slice_get ts r ≡ Some t → IsExpression ts e t → Are (set r e)
+  pub set_valid : (r : ℕ) (e : MonExpression) (t : MonType) → slice_get ts r ≡ Some t → IsExpression 0 ts e t → Are (set r e)
   set_valid r e t reg h = ((t, reg, h), tt)
 
-  zero_valid : IsExpression ts (tree.Constant I32 (pos 0)) I32
+  zero_valid : IsExpression 0 ts (tree.Constant I32 (pos 0)) I32
   zero_valid = record { typed = (refl, refl); within = omega arith }
 
-  one_valid : IsExpression ts (tree.Constant I32 (pos 1)) I32
+  one_valid : IsExpression 0 ts (tree.Constant I32 (pos 1)) I32
   one_valid = record { typed = (refl, refl); within = omega arith }
 
   -- the temporary register after both sides

@@ -86,7 +86,7 @@ pub record Points (ts : Types) (spot : Spot) : Type 0 where
 
 module _ (p : TranslationUnit) (gs : List Signature) (ts : Types) (result : PlainType) (numbers : List ℕ) (names : List (List ℕ)) (functions : List Known) (calls : (s : Scopes) → s.names ≡ names → s.functions ≡ functions → CallsValid p gs ts s) where
   abbrev Are : Labels → MonStatements → Type 0
-  Are ls a = AreStatements gs ts (result_of result) ls a
+  Are ls a = AreStatements 0 gs ts (result_of result) ls a
 
   abbrev See : Scopes → Type 0
   See s = Sees ts numbers names functions s
@@ -169,15 +169,15 @@ module _ (p : TranslationUnit) (gs : List Signature) (ts : Types) (result : Plai
   jump_valid spot ls l k among = before_valid gs ts (result_of result) ls (deaths spot.inside) (one (tree.Goto l)) (deaths_valid gs ts (result_of result) ls numbers spot.inside k.inside) (among, tt)
 
   -- the result of a function that isn't void
-  returns_value : (e : MonExpression) (t : PlainType) (k : CInt) → t ≡ Int k → IsExpression ts e (register_type k) → ReturnsResult ts (result_of t) (Some e)
-  returns_value e t k int h = subst (λ t. ReturnsResult ts (result_of t) (Some e)) (sym int) h
+  returns_value : (e : MonExpression) (t : PlainType) (k : CInt) → t ≡ Int k → IsExpression 0 ts e (register_type k) → ReturnsResult 0 ts (result_of t) (Some e)
+  returns_value e t k int h = subst (λ t. ReturnsResult 0 ts (result_of t) (Some e)) (sym int) h
 
   returned_valid : (spot : Spot) (s : Scopes) (v : See s) (ls : Labels) (rs : Types) (e : Option Expression) → Points ts spot → WhereAny (IsFullOrCall 800) e → Returned s result e → Any FullHasLetters e
       → Begins (rs ++ any_temporaries full_temporaries e) ts → Are ls (returned p numbers spot rs e)
   returned_valid spot s v ls rs None k f q l b =
       let live = spot.inside ++ spot.outside in
       before_valid gs ts (result_of result) ls (deaths live) (one (tree.Return None)) (deaths_valid gs ts (result_of result) ls numbers live (point_both ts spot.inside spot.outside k.inside k.outside))
-      (subst (λ t. ReturnsResult ts (result_of t) None) (sym q) tt, tt)
+      (subst (λ t. ReturnsResult 0 ts (result_of t) None) (sym q) tt, tt)
   returned_valid spot s v ls rs (Some e) k f q l b =
       let live = spot.inside ++ spot.outside in
       let i = integer_int result q.2 in

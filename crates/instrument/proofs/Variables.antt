@@ -9,15 +9,15 @@ use Rattle.c_syntax.specs.declared.types.CInt.TheVariants.{I8, U8, I16, U16, I32
 use Rattle.c_syntax.specs.declared.types.BlockKind.TheVariants.{Stack}
 use Rattle.c_model.specs.Integers.{int_size, bits_of, fits}
 use Rattle.c_model.specs.Layouts.{IntegerType}
-use Rattle.c_model.specs.Memory.{Value, Integer, Into, Block, Store, new_block, bytes_of, value_from, bytes_in, load, saved_block, with_block}
+use Rattle.c_model.specs.Memory.{Value, Integer, Into, Block, Store, new_block, bytes_of, value_from, bytes_in, load, saved_block, with_block, Points}
 use Rattle.c_model.specs.Memory as memory
 use Rattle.c_model.specs.State.{State, Scope, Normal, on_outcome, defined, object, read, write, put_store, start_of, find}
 use Rattle.c_model.specs.Meaning.{Callee, Tables}
 use Rattle.c_model.proofs.Cells.{value_from-bytes_from, length-bytes_of}
 use Rattle.c_model.proofs.Blocks.{slice_get-slice_set_same, slice_get-slice_set_other}
 use Rattle.mon_syntax.specs.Meaning as monitored
-use Rattle.mon_syntax.specs.Memories.{BlockValue, Whole, Points, Blocks, LiveBlock, over_blocks}
-use Rattle.mon_syntax.specs.LiveBlocks.{live_in}
+use Rattle.mon_syntax.specs.BlockMemory.{Blocks, over_blocks}
+use Rattle.mon_syntax.specs.LiveBlocks.{live_in, LiveBlock}
 use Rattle.track_scopes.specs.Blocks.{register_of}
 use Rattle.track_scopes.proofs.Lives.{live-set}
 
@@ -72,19 +72,19 @@ slot_of x [] = None
 slot_of x (v ∷ vs) = cond (nat_eq v.decl x) (Some v) (slot_of x vs)
 
 -- a variable's value, where it has one, is in its register
-abbrev pub Held : CInt → Option ℤ → Option BlockValue → Type 0
+abbrev pub Held : CInt → Option ℤ → Option Value → Type 0
 Held k None r = Unit {0}
-Held k (Some z) r = (fits k z ≡ true) × (r ≡ Some (Whole z))
+Held k (Some z) r = (fits k z ≡ true) × (r ≡ Some (Integer z))
 
 -- a variable is in its block, and its registers hold its value and a pointer to the block
-pub record Matches (w : Setting) (store : Store) (regs : List BlockValue) (v : Slot) : Type 0 where
+pub record Matches (w : Setting) (store : Store) (regs : List Value) (v : Slot) : Type 0 where
   pub number : slice_get w.numbers (value_at w v.decl) ≡ Some v.decl
   pub content : Option ℤ
   pub cell : slice_get store v.block ≡ Some (cell_of v.int content)
   pub held : Held v.int content (slice_get regs (value_at w v.decl))
   pub pointer : slice_get regs (pointer_at w v.decl) ≡ Some (Points (Into (suc v.block) 0))
 
-abbrev pub AllMatch : Setting → Store → List BlockValue → List Slot → Type 0
+abbrev pub AllMatch : Setting → Store → List Value → List Slot → Type 0
 AllMatch w store regs [] = Unit {0}
 AllMatch w store regs (v ∷ vs) = Matches w store regs v × AllMatch w store regs vs
 
@@ -99,7 +99,7 @@ Apart [] = Unit {0}
 Apart (v ∷ vs) = (slot_of v.decl vs ≡ None) × Apart vs
 
 -- the state of the source, and the registers of the target
-pub record Related (w : Setting) (slots : List Slot) (regs : List BlockValue) (s : State) : Type 0 where
+pub record Related (w : Setting) (slots : List Slot) (regs : List Value) (s : State) : Type 0 where
   pub scope : s.scope ≡ scope_of slots
   pub calls : s.calls ≡ w.active
   pub live : live_in s.store ≡ live_of slots ++ live_in w.outside
@@ -128,7 +128,7 @@ AllKept [] old new = Unit {0}
 AllKept (v ∷ vs) old new = (IsSet old v → IsSet new v) × AllKept vs old new
 
 -- the same registers below n
-pub record Same (n : ℕ) (regs after : List BlockValue) : Type 0 where
+pub record Same (n : ℕ) (regs after : List Value) : Type 0 where
   pub long : length after ≡ length regs
   pub below : (j : ℕ) → j < n → slice_get after j ≡ slice_get regs j
 
@@ -163,14 +163,14 @@ get-end (y ∷ a) b x = get-end a b x
 
 -- ---- registers
 
-pub same_all : (n : ℕ) (regs : List BlockValue) → Same n regs regs
+pub same_all : (n : ℕ) (regs : List Value) → Same n regs regs
 same_all n regs = record { long = refl; below = λ j lt. refl }
 
-pub same_trans : (m n : ℕ) (a b c : List BlockValue) → m ≤ n → Same m a b → Same n b c → Same m a c
+pub same_trans : (m n : ℕ) (a b c : List Value) → m ≤ n → Same m a b → Same n b c → Same m a c
 same_trans m n a b c le h g = record { long = g.long ∙ h.long; below = λ j lt. g.below j (omega (arith, lt, le)) ∙ h.below j lt }
 
 -- a register from n on gets a value
-pub same_set : (n r : ℕ) (regs : List BlockValue) (v : BlockValue) → n ≤ r → Same n regs (slice_set regs r v)
+pub same_set : (n r : ℕ) (regs : List Value) (v : Value) → n ≤ r → Same n regs (slice_set regs r v)
 same_set n r regs v le = record { long = length-set regs r v; below = λ j lt. slice_get-slice_set_other regs r j v (λ e. omega (arith, e, lt, le)) }
 
 -- ---- variables by their declarations
@@ -195,7 +195,7 @@ decl_at x (u ∷ slots) v e = by (λ f. decl_at x slots v f) (nat_eq u.decl x) r
         ap (λ (s : Slot). s.decl) (sym same) ∙ here
     by rest false g f = rest f
 
-pub match_at : (w : Setting) (store : Store) (regs : List BlockValue) (x : ℕ) (slots : List Slot) (v : Slot) → AllMatch w store regs slots → slot_of x slots ≡ Some v → Matches w store regs v
+pub match_at : (w : Setting) (store : Store) (regs : List Value) (x : ℕ) (slots : List Slot) (v : Slot) → AllMatch w store regs slots → slot_of x slots ≡ Some v → Matches w store regs v
 match_at w store regs x [] v h e = absurd cc
 match_at w store regs x (u ∷ slots) v h e = by (λ f. match_at w store regs x slots v h.1 f) (nat_eq u.decl x) e
   where
@@ -284,13 +284,13 @@ pub set_same : (old new : Store) (v : Slot) → slice_get new v.block ≡ slice_
 set_same old new v e h = record { value = h.value; loads = ap (λ b. in_block b v.int) e ∙ h.loads }
 
 -- the value of a variable that has one
-pub record Known (w : Setting) (store : Store) (regs : List BlockValue) (v : Slot) : Type 0 where
+pub record Known (w : Setting) (store : Store) (regs : List Value) (v : Slot) : Type 0 where
   pub value : ℤ
   pub fits : fits v.int value ≡ true
   pub loads : load store (Into (suc v.block) 0) (IntegerType v.int) ≡ Some (Integer value)
-  pub register : slice_get regs (value_at w v.decl) ≡ Some (Whole value)
+  pub register : slice_get regs (value_at w v.decl) ≡ Some (Integer value)
 
-pub known : (w : Setting) (store : Store) (regs : List BlockValue) (v : Slot) → Matches w store regs v → IsSet store v → Known w store regs v
+pub known : (w : Setting) (store : Store) (regs : List Value) (v : Slot) → Matches w store regs v → IsSet store v → Known w store regs v
 known w store regs v m h = by m.content m.cell m.held
   where
     by : (o : Option ℤ) → slice_get store v.block ≡ Some (cell_of v.int o) → Held v.int o (slice_get regs (value_at w v.decl)) → Known w store regs v
@@ -304,7 +304,7 @@ known w store regs v m h = by m.content m.cell m.held
 abbrev pub store_with : Store → Slot → ℤ → Store
 store_with store v z = slice_set store v.block (cell_of v.int (Some z))
 
-module _ (w : Setting) (slots : List Slot) (regs : List BlockValue) (s : State) (h : Related w slots regs s) (x : ℕ) (v : Slot) (found : slot_of x slots ≡ Some v) where
+module _ (w : Setting) (slots : List Slot) (regs : List Value) (s : State) (h : Related w slots regs s) (x : ℕ) (v : Slot) (found : slot_of x slots ≡ Some v) where
   pub here : Matches w s.store regs v
   here = match_at w s.store regs x slots v h.all found
 
@@ -325,11 +325,11 @@ module _ (w : Setting) (slots : List Slot) (regs : List BlockValue) (s : State) 
 -- ---- a variable gets a value
 
 -- the registers of variables are those of values, and then those of pointers
-pub value_below : (w : Setting) (store : Store) (regs : List BlockValue) (v : Slot) → Matches w store regs v → value_at w v.decl < count w
+pub value_below : (w : Setting) (store : Store) (regs : List Value) (v : Slot) → Matches w store regs v → value_at w v.decl < count w
 value_below w store regs v m = get-below w.numbers (value_at w v.decl) v.decl m.number
 
 -- where the block and the register of a variable stay
-pub stays_matched : (w : Setting) (old new : Store) (regs after : List BlockValue) (v : Slot) → slice_get new v.block ≡ slice_get old v.block → slice_get after (value_at w v.decl) ≡ slice_get regs (value_at w v.decl)
+pub stays_matched : (w : Setting) (old new : Store) (regs after : List Value) (v : Slot) → slice_get new v.block ≡ slice_get old v.block → slice_get after (value_at w v.decl) ≡ slice_get regs (value_at w v.decl)
     → slice_get after (pointer_at w v.decl) ≡ slice_get regs (pointer_at w v.decl) → Matches w old regs v → Matches w new after v
 stays_matched w old new regs after v block value pointer m = record {
   number = m.number;
@@ -339,9 +339,9 @@ stays_matched w old new regs after v block value pointer m = record {
   pointer = pointer ∙ m.pointer;
 }
 
-module _ (w : Setting) (store : Store) (regs : List BlockValue) (x : ℕ) (v : Slot) (z : ℤ) (f : fits v.int z ≡ true) (m : Matches w store regs v) (decl : v.decl ≡ x) (in_store : v.block < length store) (enough : count w + count w ≤ length regs) where
-  abbrev after_set : List BlockValue
-  after_set = slice_set regs (value_at w x) (Whole z)
+module _ (w : Setting) (store : Store) (regs : List Value) (x : ℕ) (v : Slot) (z : ℤ) (f : fits v.int z ≡ true) (m : Matches w store regs v) (decl : v.decl ≡ x) (in_store : v.block < length store) (enough : count w + count w ≤ length regs) where
+  abbrev after_set : List Value
+  after_set = slice_set regs (value_at w x) (Integer z)
 
   below : value_at w x < count w
   below = subst (λ n. value_at w n < count w) decl (value_below w store regs v m)
@@ -351,16 +351,16 @@ module _ (w : Setting) (store : Store) (regs : List BlockValue) (x : ℕ) (v : S
     number = m.number;
     content = Some z;
     cell = get-set_same store v.block (cell_of v.int (Some z)) in_store;
-    held = (f, ap (λ n. slice_get after_set (value_at w n)) decl ∙ get-set_same regs (value_at w x) (Whole z) (omega (arith, below, enough)));
-    pointer = slice_get-slice_set_other regs (value_at w x) (pointer_at w v.decl) (Whole z) (λ e. omega (arith, e, below)) ∙ m.pointer;
+    held = (f, ap (λ n. slice_get after_set (value_at w n)) decl ∙ get-set_same regs (value_at w x) (Integer z) (omega (arith, below, enough)));
+    pointer = slice_get-slice_set_other regs (value_at w x) (pointer_at w v.decl) (Integer z) (λ e. omega (arith, e, below)) ∙ m.pointer;
   }
 
   other_matches : (u : Slot) → u.block ≢ v.block → nat_eq u.decl x ≡ false → Matches w store regs u → Matches w (store_with store v z) after_set u
   other_matches u other differs g =
       stays_matched w store (store_with store v z) regs after_set u
       (slice_get-slice_set_other store v.block u.block (cell_of v.int (Some z)) other)
-      (slice_get-slice_set_other regs (value_at w x) (value_at w u.decl) (Whole z) apart)
-      (slice_get-slice_set_other regs (value_at w x) (pointer_at w u.decl) (Whole z) (λ e. omega (arith, e, below)))
+      (slice_get-slice_set_other regs (value_at w x) (value_at w u.decl) (Integer z) apart)
+      (slice_get-slice_set_other regs (value_at w x) (pointer_at w u.decl) (Integer z) (λ e. omega (arith, e, below)))
       g
     where
       apart : value_at w u.decl ≢ value_at w x
@@ -432,11 +432,11 @@ live_with store v None z e = live-set store v.block (cell_of v.int None) (cell_o
 live_with store v (Some y) z e = live-set store v.block (cell_of v.int (Some y)) (cell_of v.int (Some z)) e refl refl
 
 -- the value is in the variable's block, and in its register
-module _ (w : Setting) (slots : List Slot) (regs : List BlockValue) (s : State) (h : Related w slots regs s) (enough : count w + count w ≤ w.registers) (x : ℕ) (v : Slot) (found : slot_of x slots ≡ Some v) (z : ℤ) (f : fits v.int z ≡ true) where
+module _ (w : Setting) (slots : List Slot) (regs : List Value) (s : State) (h : Related w slots regs s) (enough : count w + count w ≤ w.registers) (x : ℕ) (v : Slot) (found : slot_of x slots ≡ Some v) (z : ℤ) (f : fits v.int z ≡ true) where
   abbrev pub state_with : State
   state_with = record s { store = store_with s.store v z }
 
-  pub related_set : Related w slots (slice_set regs (value_at w x) (Whole z)) state_with
+  pub related_set : Related w slots (slice_set regs (value_at w x) (Integer z)) state_with
   related_set = record {
     scope = h.scope;
     calls = h.calls;
@@ -446,7 +446,7 @@ module _ (w : Setting) (slots : List Slot) (regs : List BlockValue) (s : State) 
     apart = h.apart;
     all = set_matches w s.store regs x v z f (match_at w s.store regs x slots v h.all found) (decl_at x slots v found) (stacked_at (length w.outside) (length s.store) x slots v h.stacked found) (omega (arith, enough, h.registers)) slots
         (length w.outside) (length s.store) h.stacked h.apart found h.all;
-    registers = length-set regs (value_at w x) (Whole z) ∙ h.registers;
+    registers = length-set regs (value_at w x) (Integer z) ∙ h.registers;
   }
 
   pub kept_set : AllKept slots s.store (store_with s.store v z)
@@ -464,13 +464,13 @@ module _ (w : Setting) (slots : List Slot) (regs : List BlockValue) (s : State) 
 
 -- ---- temporary registers change
 
-match_same : (w : Setting) (store : Store) (regs after : List BlockValue) (n : ℕ) (slots : List Slot) → count w + count w ≤ n → Same n regs after → AllMatch w store regs slots → AllMatch w store after slots
+match_same : (w : Setting) (store : Store) (regs after : List Value) (n : ℕ) (slots : List Slot) → count w + count w ≤ n → Same n regs after → AllMatch w store regs slots → AllMatch w store after slots
 match_same w store regs after n [] le k h = tt
 match_same w store regs after n (v ∷ slots) le k h =
     let lt = value_below w store regs v h.0 in
     (stays_matched w store store regs after v refl (k.below (value_at w v.decl) (omega (arith, lt, le))) (k.below (pointer_at w v.decl) (omega (arith, lt, le))) h.0, match_same w store regs after n slots le k h.1)
 
-pub related_same : (w : Setting) (slots : List Slot) (regs after : List BlockValue) (s : State) (n : ℕ) → count w + count w ≤ n → Same n regs after → Related w slots regs s → Related w slots after s
+pub related_same : (w : Setting) (slots : List Slot) (regs after : List Value) (s : State) (n : ℕ) → count w + count w ≤ n → Same n regs after → Related w slots regs s → Related w slots after s
 related_same w slots regs after s n le k h = record {
   scope = h.scope;
   calls = h.calls;
@@ -497,7 +497,7 @@ pub kept_below : (slots : List Slot) (a b : Store) (base n : ℕ) → Stacked ba
 kept_below [] a b base n k h = tt
 kept_below (v ∷ slots) a b base n k h = (set_same a b v (h v.block k.0), kept_below slots a b base v.block k.1 (λ j lt. h j (omega (arith, lt, k.0))))
 
-pub match_below : (w : Setting) (a b : Store) (regs : List BlockValue) (base n : ℕ) (slots : List Slot) → Stacked base n slots → ((j : ℕ) → j < n → slice_get b j ≡ slice_get a j) → AllMatch w a regs slots → AllMatch w b regs slots
+pub match_below : (w : Setting) (a b : Store) (regs : List Value) (base n : ℕ) (slots : List Slot) → Stacked base n slots → ((j : ℕ) → j < n → slice_get b j ≡ slice_get a j) → AllMatch w a regs slots → AllMatch w b regs slots
 match_below w a b regs base n [] k h m = tt
 match_below w a b regs base n (v ∷ slots) k h m =
     (stays_matched w a b regs regs v (h v.block k.0) refl refl m.0, match_below w a b regs base v.block slots k.1 (λ j lt. h j (omega (arith, lt, k.0))) m.1)
@@ -508,7 +508,7 @@ pub kept_behind : (new slots : List Slot) (a b : Store) → AllKept (new ++ slot
 kept_behind [] slots a b h = h
 kept_behind (v ∷ new) slots a b h = kept_behind new slots a b h.1
 
-pub match_behind : (w : Setting) (store : Store) (regs : List BlockValue) (new slots : List Slot) → AllMatch w store regs (new ++ slots) → AllMatch w store regs slots
+pub match_behind : (w : Setting) (store : Store) (regs : List Value) (new slots : List Slot) → AllMatch w store regs (new ++ slots) → AllMatch w store regs slots
 match_behind w store regs [] slots h = h
 match_behind w store regs (v ∷ new) slots h = match_behind w store regs new slots h.1
 

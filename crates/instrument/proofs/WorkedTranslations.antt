@@ -27,7 +27,7 @@ use Rattle.mon_syntax.specs.declared.tree.MonOp.TheVariants as mon
 use Rattle.mon_syntax.specs.declared.tree.MonType.TheVariants.{U8, I32, U64, Ptr}
 use Rattle.mon_syntax.specs.declared.tree.MemoryCall.TheVariants.{StoreBlock, DeleteBlock}
 use Rattle.mon_syntax.specs.Trees.{Register, Constant, Binary, Cast, Set, PutChar, GetChar, Exit, Act, Call, If, Loop, Labelled, Goto, Return, MonExpression, MonStatement, MonStatements, NoStatement, Then, MonRegister, MonFunction}
-use Rattle.mon_syntax.specs.Memories.{block_run}
+use Rattle.mon_syntax.specs.BlockMemory.{block_run}
 use Rattle.c_effects.specs.Expressions.{one, setup, value}
 use Rattle.instrument.specs.Translation.{function_of, translated}
 

@@ -251,4 +251,4 @@ functions_from p main k (f ∷ fs) =
     if is_definition f then function_of p main k f ∷ functions_from p main (suc k) fs else functions_from p main k fs
 
 abbrev pub translated : TranslationUnit → MonitoredProgram
-translated p = record { functions = functions_from p (index_of_main p.names p.funcs) 0 p.funcs }
+translated p = record { globals = []; functions = functions_from p (index_of_main p.names p.funcs) 0 p.funcs }

@@ -9,7 +9,7 @@ ghost use Rattle.c_model.specs.Meaning.{is_definition, run};
 ghost use Rattle.c_model.specs.Reports.{Agrees};
 ghost use Rattle.c_model.specs.State.{Input};
 ghost use Rattle.c_model.specs.Typing.{name_at};
-ghost use Rattle.mon_syntax.specs.Memories.{block_run};
+ghost use Rattle.mon_syntax.specs.BlockMemory.{block_run};
 ghost use Rattle.mon_syntax.specs.Trees.{plain_func as plain_monitored_func, plain_program as plain_monitored, plain_register, plain_stmts};
 ghost use Rattle.mon_syntax.specs.Valid.{IsValid};
 ghost use Rattle.instrument.specs.Limits.{BodyHasNumbers, FunctionHasNumbers, FunctionsHaveNumbers};
@@ -220,7 +220,10 @@ fn translate(alloc: Global, p: &Program) -> Result<MonProgram, AllocError>
 {
     let definitions = Definitions::new(alloc, p)?;
     let functions = functions(alloc, &definitions)?;
-    Ok(MonProgram { functions })
+    Ok(MonProgram {
+        globals: Vec::new(alloc),
+        functions,
+    })
 }
 
 /// Translates a program into monitored C. Only running out of memory can keep it from that.

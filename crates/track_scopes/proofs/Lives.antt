@@ -7,8 +7,8 @@ use Rattle.c_syntax.specs.declared.types.BlockKind.TheVariants.{Global, Literal,
 use Rattle.c_syntax.specs.declared.types.Segment.{Segment}
 use Rattle.c_syntax.specs.declared.types.Segment.TheVariants as segment
 use Rattle.c_model.specs.Memory.{Block, Store, is_stack, kill_from, rounded, stack_taken, full_at_stack_birth, standard_sizes, greatest_number}
-use Rattle.mon_syntax.specs.Memories.{is_live_on_stack, youngest_from, youngest, is_index, dead_at, LiveBlock, taken_by}
-use Rattle.mon_syntax.specs.LiveBlocks.{noted, live_from, live_in}
+use Rattle.mon_syntax.specs.BlockMemory.{is_live_on_stack, youngest_from, youngest, is_index, dead_at}
+use Rattle.mon_syntax.specs.LiveBlocks.{LiveBlock, taken_by, noted, live_from, live_in}
 use Rattle.mon_syntax.proofs.FlatBlocks.{taken-live, dies}
 
 -- ---- the oldest ones

@@ -1,7 +1,7 @@
 -- Lifetimes are those of C99 6.2.4; registers and statements are ours.
 -- The blocks of a function's variables in monitored C. A variable's value stands in a register, and another register points to its block
 -- of memory, which is born and dies where the variable's does.
-use Rattle.std.specs.Prelude.{ℕ, suc, ◌+◌, pos, List, [], ◌∷◌, length, cond, nat_eq, Some, None}
+use Rattle.std.specs.Prelude.{ℕ, suc, ◌+◌, ◌<◌, ◌^◌, pos, List, [], ◌∷◌, length, cond, nat_eq, Some, None}
 use Rattle.c_syntax.specs.Statements.{Declaration}
 use Rattle.c_model.specs.Layouts.{size_of}
 use Rattle.c_model.specs.Formed.{number_of}
@@ -25,6 +25,11 @@ birth numbers d = Act (Some (block_of numbers (number_of d))) StoreBlock (Consta
 abbrev pub births : List ℕ → List Declaration → MonStatements
 births numbers [] = NoStatement
 births numbers (d ∷ ds) = Then (birth numbers d) (births numbers ds)
+
+-- the sizes of these variables have 64 bits at most, as a constant of a birth has them
+abbrev pub AreSmall : List Declaration → Type 0
+AreSmall [] = Unit {0}
+AreSmall (d ∷ ds) = (size_of [] d.ctype < 2 ^ 64) × AreSmall ds
 
 -- `__e_acsl_delete_block(p);`
 abbrev pub death : ℕ → MonStatement

@@ -1,9 +1,10 @@
 //! Scopes (C99 6.2.4, 6.8): their entry, and the ways out.
 
-ghost use Rattle.std.specs.Prelude.{◌≡◌, IfOk, OnOk, map};
+ghost use Rattle.std.specs.Prelude.{◌≡◌, ◌<◌, ◌^◌, [], IfOk, OnOk, map};
 ghost use Rattle.c_syntax.specs.Statements.{plain_decl};
 ghost use Rattle.mon_syntax.specs.Trees.{plain_stmt, plain_stmts};
-ghost use Rattle.track_scopes.specs.Blocks.{birth, births, death, deaths, with_born};
+ghost use Rattle.c_model.specs.Layouts.{size_of};
+ghost use Rattle.track_scopes.specs.Blocks.{AreSmall, birth, births, death, deaths, with_born};
 ghost use Rattle.track_scopes.specs.Lives.{Enters, Leaves};
 
 use crate::register::block_of;
@@ -14,7 +15,8 @@ use std::alloc::{AllocError, Global};
 
 // The birth of a variable's block.
 fn birth(alloc: Global, numbers: &[u32], d: &Decl) -> Result<MonStmt, AllocError>
-    ensures { IfOk result (λ s. plain_stmt s ≡ birth numbers.now (plain_decl d.now)) }
+    ensures code { IfOk result (λ s. plain_stmt s ≡ birth numbers.now (plain_decl d.now)) }
+    ensures small { IfOk result (λ _. size_of [] (plain_decl d.now).ctype < 2 ^ 64) }
 {
     let block = block_of(numbers, d.place.offset)?;
     let mut size = Vec::new(alloc);
@@ -27,7 +29,8 @@ fn birth(alloc: Global, numbers: &[u32], d: &Decl) -> Result<MonStmt, AllocError
 
 // The births of variables' blocks, in order.
 fn births(alloc: Global, numbers: &[u32], decls: &[Decl]) -> Result<Vec<MonStmt>, AllocError>
-    ensures { IfOk result (λ code. plain_stmts code.items ≡ births numbers.now (map plain_decl decls.now)) }
+    ensures code { IfOk result (λ code. plain_stmts code.items ≡ births numbers.now (map plain_decl decls.now)) }
+    ensures small { IfOk result (λ _. AreSmall (map plain_decl decls.now)) }
 {
     let mut code = Vec::with_capacity(alloc, decls.len())?;
     'decls: for d in decls {

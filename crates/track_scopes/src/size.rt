@@ -1,6 +1,6 @@
 //! Sizes of types (C99 6.5.3.4) in monitored C, where there are no structs.
 
-ghost use Rattle.std.specs.Prelude.{◌≡◌, [], IfOk, pos};
+ghost use Rattle.std.specs.Prelude.{◌≡◌, ◌<◌, ◌^◌, [], IfOk, pos};
 ghost use Rattle.c_syntax.specs.Ctypes.{plain_type};
 ghost use Rattle.c_model.specs.Layouts.{size_of};
 ghost use Rattle.mon_syntax.specs.Trees.{Constant, plain_expr};
@@ -33,7 +33,8 @@ fn size_of(t: &CType) -> Result<u64, AllocError>
 
 /// The size of a type in bytes, as a constant.
 pub fn size_constant(alloc: Global, t: &CType) -> Result<MonExpr, AllocError>
-    ensures { IfOk result (λ e. plain_expr e ≡ Constant U64 (pos (size_of [] (plain_type t.now)))) }
+    ensures code { IfOk result (λ e. plain_expr e ≡ Constant U64 (pos (size_of [] (plain_type t.now)))) }
+    ensures small { IfOk result (λ _. size_of [] (plain_type t.now) < 2 ^ 64) }
 {
     let size = size_of(t)?;
     MonExpr::new(alloc, MonExprKind::Constant(MonType::U64, i128::from(size)))

@@ -2,7 +2,7 @@ use Rattle.std.proofs.Common.{sym, subst}
 use Rattle.c_syntax.specs.Programs.{plain_program}
 use Rattle.c_model.specs.Meaning.{run}
 use Rattle.c_model.specs.Reports.{Agrees}
-use Rattle.mon_syntax.specs.Memories.{block_run}
+use Rattle.mon_syntax.specs.BlockMemory.{block_run}
 use Rattle.mon_syntax.specs.Valid.{IsValid}
 use Rattle.instrument.proofs.Correct.{translated_agrees}
 use Rattle.instrument.proofs.ValidPrograms.{translated_valid}

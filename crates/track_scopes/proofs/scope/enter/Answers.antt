@@ -7,4 +7,4 @@ use Rattle.track_scopes.proofs.scope.enter.Goals as goal
 pub returns-clause-enters : goal.returns-clause-enters
 returns-clause-enters c =
     let ds = map plain_decl c.args.decls.now in
-    subst (Enters c.args.numbers.now ds) (sym c.in_ok-code.ensures) (births_enter c.args.numbers.now ds)
+    subst (Enters c.args.numbers.now ds) (sym c.in_ok-code.ensures.code) (births_enter c.args.numbers.now ds c.in_ok-code.ensures.small)
