@@ -1,4 +1,4 @@
-pub mod Registers
+pub mod Sight
 pub mod Heads
 pub mod Depths
 pub mod Printing

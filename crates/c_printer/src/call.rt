@@ -1,21 +1,23 @@
 //! Calls.
 
-ghost use Rattle.std.specs.Prelude.{◌≡◌, [], ◌++◌, map};
-ghost use Rattle.mon_syntax.specs.Trees.{PutChar, plain_expr};
+ghost use Rattle.std.specs.Prelude.{◌≡◌, [], ◌∷◌, ◌++◌, map};
+ghost use Rattle.mon_syntax.specs.Trees.{Act, PutChar, plain_expr};
 ghost use Rattle.mon_syntax.specs.Text.{arguments_pieces, call_pieces, expression_pieces, function_name, more_arguments, name_of, set_or_none, set_pieces};
-ghost use Rattle.mon_syntax.specs.Text.{spelled, statement_pieces};
+ghost use Rattle.mon_syntax.specs.Text.{left_paren, memory_word, size_argument, spelled, statement_pieces, Word};
 ghost use Rattle.c_printer.specs.Printing.{Printed, pipe_of};
-ghost use Rattle.c_printer.specs.Registers.{functions_of, registers_of};
+ghost use Rattle.c_printer.specs.Sight.{functions_of, in_sight};
 
 use crate::expression::{Named, between, expression, name};
+use crate::strings::number;
+use crate::words::memory_word;
 use crate::writer::Writer;
 use ea_ports::Sink;
-use mon_syntax::MonExpr;
+use mon_syntax::{MemoryCall, MonExpr, access_bytes};
 
 /// `R = `
 pub fn set<O: Sink>(r: u32, named: &Named<'_>, to: &mut Writer, out: &mut O)
     ensures { Printed (pipe_of (O.told out.old) to.old (O.faults out.old)) (pipe_of (O.told out.new) to.new (O.faults out.new))
-        (spelled (set_pieces (name_of (registers_of named.now) r))) }
+        (spelled (set_pieces (name_of (in_sight named.now) r))) }
 {
     to.write(out, name(named, r));
     to.write(out, b" = ");
@@ -24,7 +26,7 @@ pub fn set<O: Sink>(r: u32, named: &Named<'_>, to: &mut Writer, out: &mut O)
 // `R = `, where a register takes the value.
 fn target<O: Sink>(r: Option<u32>, named: &Named<'_>, to: &mut Writer, out: &mut O)
     ensures { Printed (pipe_of (O.told out.old) to.old (O.faults out.old)) (pipe_of (O.told out.new) to.new (O.faults out.new))
-        (spelled (set_or_none (registers_of named.now) r)) }
+        (spelled (set_or_none (in_sight named.now) r)) }
 {
     match r {
         None => {}
@@ -35,7 +37,7 @@ fn target<O: Sink>(r: Option<u32>, named: &Named<'_>, to: &mut Writer, out: &mut
 /// `NAME(e);`
 pub fn call<O: Sink>(callee: &[u8], e: &MonExpr, named: &Named<'_>, to: &mut Writer, out: &mut O)
     ensures { Printed (pipe_of (O.told out.old) to.old (O.faults out.old)) (pipe_of (O.told out.new) to.new (O.faults out.new))
-        (spelled (call_pieces callee.now (expression_pieces (registers_of named.now) (plain_expr e.now)))) }
+        (spelled (call_pieces callee.now (expression_pieces (in_sight named.now) (plain_expr e.now)))) }
 {
     to.write(out, callee);
     between(b"(", e, b");", named, to, out);
@@ -50,7 +52,7 @@ pub fn put_char<O: Sink>(
     out: &mut O,
 )
     ensures { Printed (pipe_of (O.told out.old) to.old (O.faults out.old)) (pipe_of (O.told out.new) to.new (O.faults out.new))
-        (spelled (statement_pieces [] (registers_of named.now) 0 (PutChar r (plain_expr e.now)))) }
+        (spelled (statement_pieces [] (in_sight named.now) 0 (PutChar r (plain_expr e.now)))) }
 {
     target(r, named, to, out);
     call(b"putchar", e, named, to, out);
@@ -69,7 +71,7 @@ pub fn callee<'a>(named: &Named<'a>, f: u32) -> &'a [u8]
 // The arguments after the first.
 fn more_arguments<O: Sink>(list: &[MonExpr], named: &Named<'_>, to: &mut Writer, out: &mut O)
     ensures { Printed (pipe_of (O.told out.old) to.old (O.faults out.old)) (pipe_of (O.told out.new) to.new (O.faults out.new))
-        (spelled (more_arguments (registers_of named.now) (map plain_expr list.now))) }
+        (spelled (more_arguments (in_sight named.now) (map plain_expr list.now))) }
 {
     'list: for e in list {
         to.write(out, b", ");
@@ -79,7 +81,7 @@ fn more_arguments<O: Sink>(list: &[MonExpr], named: &Named<'_>, to: &mut Writer,
 
 fn arguments<O: Sink>(list: &[MonExpr], named: &Named<'_>, to: &mut Writer, out: &mut O)
     ensures { Printed (pipe_of (O.told out.old) to.old (O.faults out.old)) (pipe_of (O.told out.new) to.new (O.faults out.new))
-        (spelled (arguments_pieces (registers_of named.now) (map plain_expr list.now))) }
+        (spelled (arguments_pieces (in_sight named.now) (map plain_expr list.now))) }
 {
     match list {
         [] => {}
@@ -88,6 +90,24 @@ fn arguments<O: Sink>(list: &[MonExpr], named: &Named<'_>, to: &mut Writer, out:
             more_arguments(rest, named, to, out);
         }
     }
+}
+
+// A call up to its last argument.
+fn begun_call<O: Sink>(
+    r: Option<u32>,
+    callee: &[u8],
+    list: &[MonExpr],
+    named: &Named<'_>,
+    to: &mut Writer,
+    out: &mut O,
+)
+    ensures { Printed (pipe_of (O.told out.old) to.old (O.faults out.old)) (pipe_of (O.told out.new) to.new (O.faults out.new))
+        (spelled (set_or_none (in_sight named.now) r ++ (Word callee.now ∷ left_paren ∷ arguments_pieces (in_sight named.now) (map plain_expr list.now)))) }
+{
+    target(r, named, to, out);
+    to.write(out, callee);
+    to.write(out, b"(");
+    arguments(list, named, to, out);
 }
 
 /// `NAME(..);`, or `R = NAME(..);`
@@ -100,11 +120,39 @@ pub fn call_with<O: Sink>(
     out: &mut O,
 )
     ensures { Printed (pipe_of (O.told out.old) to.old (O.faults out.old)) (pipe_of (O.told out.new) to.new (O.faults out.new))
-        (spelled (set_or_none (registers_of named.now) r ++ call_pieces callee.now (arguments_pieces (registers_of named.now) (map plain_expr list.now)))) }
+        (spelled (set_or_none (in_sight named.now) r ++ call_pieces callee.now (arguments_pieces (in_sight named.now) (map plain_expr list.now)))) }
 {
-    target(r, named, to, out);
-    to.write(out, callee);
-    to.write(out, b"(");
-    arguments(list, named, to, out);
+    begun_call(r, callee, list, named, to, out);
+    to.write(out, b");");
+}
+
+// The number after the arguments of a call on the memory, where it has one.
+fn size_argument<O: Sink>(f: MemoryCall, to: &mut Writer, out: &mut O)
+    ensures { Printed (pipe_of (O.told out.old) to.old (O.faults out.old)) (pipe_of (O.told out.new) to.new (O.faults out.new))
+        (spelled (size_argument f)) }
+{
+    match f {
+        MemoryCall::StoreBlock | MemoryCall::DeleteBlock => {}
+        MemoryCall::Number(size) => {
+            to.write(out, b", ");
+            number(access_bytes(size), to, out);
+        }
+    }
+}
+
+/// `NAME(..);` of a call on the memory, or `R = NAME(..);`
+pub fn memory_call<O: Sink>(
+    r: Option<u32>,
+    f: MemoryCall,
+    list: &[MonExpr],
+    named: &Named<'_>,
+    to: &mut Writer,
+    out: &mut O,
+)
+    ensures { Printed (pipe_of (O.told out.old) to.old (O.faults out.old)) (pipe_of (O.told out.new) to.new (O.faults out.new))
+        (spelled (statement_pieces [] (in_sight named.now) 0 (Act r f (map plain_expr list.now)))) }
+{
+    begun_call(r, memory_word(f).as_bytes(), list, named, to, out);
+    size_argument(f, to, out);
     to.write(out, b");");
 }

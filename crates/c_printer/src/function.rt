@@ -1,11 +1,11 @@
 //! Functions.
 
 ghost use Rattle.std.specs.Prelude.{map};
-ghost use Rattle.mon_syntax.specs.Trees.{plain_func, plain_register};
+ghost use Rattle.mon_syntax.specs.Trees.{plain_func, plain_global, plain_register};
 ghost use Rattle.mon_syntax.specs.Text.{function_pieces, functions_pieces, more_parameters, parameter_pieces, parameters_pieces, registers_pieces, spelled};
 ghost use Rattle.c_printer.specs.Heads.{head_pieces};
 ghost use Rattle.c_printer.specs.Printing.{Printed, pipe_of};
-ghost use Rattle.c_printer.specs.Registers.{names_of};
+ghost use Rattle.c_printer.specs.Sight.{names_of};
 
 use crate::expression::Named;
 use crate::line::{Depth, closing, line};
@@ -13,7 +13,7 @@ use crate::statement::statements;
 use crate::words::{result_word, type_word};
 use crate::writer::Writer;
 use ea_ports::Sink;
-use mon_syntax::{MonFunc, Register};
+use mon_syntax::{MonFunc, MonGlobal, Register};
 
 // A register with its type.
 fn declared<O: Sink>(r: &Register, to: &mut Writer, out: &mut O)
@@ -73,13 +73,20 @@ fn head<O: Sink>(f: &MonFunc, to: &mut Writer, out: &mut O)
     registers(&f.registers, to, out);
 }
 
-// A function among all of a program.
-fn function<O: Sink>(f: &MonFunc, all: &[MonFunc], to: &mut Writer, out: &mut O)
+// A function among all of a program, and its globals.
+fn function<O: Sink>(
+    f: &MonFunc,
+    all: &[MonFunc],
+    globals: &[MonGlobal],
+    to: &mut Writer,
+    out: &mut O,
+)
     ensures { Printed (pipe_of (O.told out.old) to.old (O.faults out.old)) (pipe_of (O.told out.new) to.new (O.faults out.new))
-        (spelled (function_pieces (names_of all.now) (plain_func f.now))) }
+        (spelled (function_pieces (names_of all.now) (map plain_global globals.now) (plain_func f.now))) }
 {
     let named = Named {
         functions: all,
+        globals,
         parameters: &f.parameters,
         registers: &f.registers,
     };
@@ -90,12 +97,12 @@ fn function<O: Sink>(f: &MonFunc, all: &[MonFunc], to: &mut Writer, out: &mut O)
     line(&Depth::Top, to, out);
 }
 
-/// The functions, one after another.
-pub fn functions<O: Sink>(list: &[MonFunc], to: &mut Writer, out: &mut O)
+/// The functions, one after another, in a program with these globals.
+pub fn functions<O: Sink>(list: &[MonFunc], globals: &[MonGlobal], to: &mut Writer, out: &mut O)
     ensures { Printed (pipe_of (O.told out.old) to.old (O.faults out.old)) (pipe_of (O.told out.new) to.new (O.faults out.new))
-        (spelled (functions_pieces (names_of list.now) (map plain_func list.now))) }
+        (spelled (functions_pieces (names_of list.now) (map plain_global globals.now) (map plain_func list.now))) }
 {
     'list: for f in list {
-        function(f, list, to, out);
+        function(f, list, globals, to, out);
     }
 }

@@ -11,6 +11,7 @@ mod writer;
 mod call;
 mod expression;
 mod function;
+mod global;
 mod program;
 mod statement;
 

@@ -7,6 +7,7 @@ ghost use Rattle.mon_syntax.specs.Text.{text_of};
 ghost use Rattle.c_printer.specs.Printing.{PrintCut};
 
 use crate::function::functions;
+use crate::global::globals;
 use crate::writer::Writer;
 use ea_ports::{Sink, SinkFault};
 use mon_syntax::MonProgram;
@@ -19,6 +20,7 @@ pub fn print<O: Sink>(m: &MonProgram, out: &mut O) -> Result<(), SinkFault>
 {
     let mut to = Writer::new();
     to.write(out, b"#include <e_acsl.h>\n");
-    functions(&m.functions, &mut to, out);
+    globals(&m.globals, &mut to, out);
+    functions(&m.functions, &m.globals, &mut to, out);
     to.finish(out)
 }

@@ -1,30 +1,65 @@
 //! Statements.
 
 ghost use Rattle.std.specs.Prelude.{[], ◌++◌, option_map, codes};
-ghost use Rattle.mon_syntax.specs.Trees.{Assert, If, Labelled, Loop, PrintText, Return, Set, plain_expr, plain_stmt, plain_stmts};
-ghost use Rattle.mon_syntax.specs.Text.{body_pieces, new_line, spelled, spelled_piece, statement_pieces, statements_pieces};
+ghost use Rattle.mon_syntax.specs.Trees.{Assert, If, Labelled, Loop, PrintText, Return, Set, Store, plain_expr, plain_stmt, plain_stmts};
+ghost use Rattle.mon_syntax.specs.Text.{body_pieces, mark_pieces, new_line, spelled, spelled_piece, statement_pieces, statements_pieces};
 ghost use Rattle.c_printer.specs.Depths.{depth_of};
 ghost use Rattle.c_printer.specs.Printing.{Printed, pipe_of};
-ghost use Rattle.c_printer.specs.Registers.{functions_of, registers_of};
+ghost use Rattle.c_printer.specs.Sight.{functions_of, in_sight, no_names};
 
-use crate::call::{call, call_with, callee, put_char, set};
-use crate::expression::{Named, between, expression};
+use crate::call::{call, call_with, callee, memory_call, put_char, set};
+use crate::expression::{Named, between, expression, name};
 use crate::line::{Depth, closing, line};
 use crate::strings::{number, string};
-use crate::words::memory_word;
+use crate::words::type_word;
 use crate::writer::Writer;
 use c_syntax::Kind;
 use ea_ports::Sink;
-use mon_syntax::{MonExpr, MonStmt, MonStmtKind, kind_word};
+use mon_syntax::{MonExpr, MonStmt, MonStmtKind, MonType, byte_count, is_pointer, kind_word};
 
 // `R = e;`
 fn assignment<O: Sink>(r: u32, e: &MonExpr, named: &Named<'_>, to: &mut Writer, out: &mut O)
     ensures { Printed (pipe_of (O.told out.old) to.old (O.faults out.old)) (pipe_of (O.told out.new) to.new (O.faults out.new))
-        (spelled (statement_pieces [] (registers_of named.now) 0 (Set r (plain_expr e.now)))) }
+        (spelled (statement_pieces [] (in_sight named.now) 0 (Set r (plain_expr e.now)))) }
 {
     set(r, named, to, out);
     expression(e, named, to, out);
     to.write(out, b";");
+}
+
+// The mark of a store at the pointer of a register.
+fn mark<O: Sink>(r: u32, t: MonType, named: &Named<'_>, to: &mut Writer, out: &mut O)
+    ensures { Printed (pipe_of (O.told out.old) to.old (O.faults out.old)) (pipe_of (O.told out.new) to.new (O.faults out.new))
+        (spelled (mark_pieces (in_sight named.now) r t)) }
+{
+    if is_pointer(t) {
+        to.write_three(out, b"__e_acsl_initialize_ptr(", name(named, r), b");");
+    } else {
+        to.write_three(out, b"__e_acsl_initialize(", name(named, r), b", ");
+        number(byte_count(t), to, out);
+        to.write(out, b");");
+    }
+}
+
+// `*(t *)R = e;`, and its mark on a line of its own.
+fn store<O: Sink>(
+    r: u32,
+    t: MonType,
+    e: &MonExpr,
+    depth: &Depth<'_>,
+    named: &Named<'_>,
+    to: &mut Writer,
+    out: &mut O,
+)
+    ensures { Printed (pipe_of (O.told out.old) to.old (O.faults out.old)) (pipe_of (O.told out.new) to.new (O.faults out.new))
+        (spelled (statement_pieces [] (in_sight named.now) (depth_of depth.now) (Store r t (plain_expr e.now)))) }
+{
+    to.write_three(out, b"*(", type_word(t).as_bytes(), b" *)");
+    set(r, named, to, out);
+    expression(e, named, to, out);
+    to.write(out, b";");
+    line(depth, to, out);
+    mark(r, t, named, to, out);
 }
 
 // `__e_acsl_assert(d, v, A, L, "kind");`
@@ -39,13 +74,13 @@ fn assertion<O: Sink>(
     out: &mut O,
 )
     ensures { Printed (pipe_of (O.told out.old) to.old (O.faults out.old)) (pipe_of (O.told out.new) to.new (O.faults out.new))
-        (spelled (statement_pieces [] (registers_of named.now) 0 (Assert (plain_expr d.now) (plain_expr v.now) annotation line kind))) }
+        (spelled (statement_pieces [] (in_sight named.now) 0 (Assert (plain_expr d.now) (plain_expr v.now) annotation line kind))) }
 {
     between(b"__e_acsl_assert(", d, b", ", named, to, out);
     between(b"", v, b", ", named, to, out);
-    number(annotation, to, out);
+    number(annotation as usize, to, out);
     to.write(out, b", ");
-    number(line, to, out);
+    number(line as usize, to, out);
     to.write(out, b", ");
     string(kind_word(kind).as_bytes(), to, out);
     to.write(out, b");");
@@ -54,7 +89,7 @@ fn assertion<O: Sink>(
 // `__e_acsl_print_text("..");`
 fn print_text<O: Sink>(bytes: &[u8], to: &mut Writer, out: &mut O)
     ensures { Printed (pipe_of (O.told out.old) to.old (O.faults out.old)) (pipe_of (O.told out.new) to.new (O.faults out.new))
-        (spelled (statement_pieces [] [] 0 (PrintText bytes.now))) }
+        (spelled (statement_pieces [] no_names 0 (PrintText bytes.now))) }
 {
     to.write(out, b"__e_acsl_print_text(");
     string(bytes, to, out);
@@ -64,7 +99,7 @@ fn print_text<O: Sink>(bytes: &[u8], to: &mut Writer, out: &mut O)
 // `return e;`, or `return;`
 fn give_back<O: Sink>(value: &Option<MonExpr>, named: &Named<'_>, to: &mut Writer, out: &mut O)
     ensures { Printed (pipe_of (O.told out.old) to.old (O.faults out.old)) (pipe_of (O.told out.new) to.new (O.faults out.new))
-        (spelled (statement_pieces [] (registers_of named.now) 0 (Return (option_map plain_expr value.now)))) }
+        (spelled (statement_pieces [] (in_sight named.now) 0 (Return (option_map plain_expr value.now)))) }
 {
     match value {
         None => to.write(out, b"return;"),
@@ -91,7 +126,7 @@ fn body<O: Sink>(
     out: &mut O,
 )
     ensures { Printed (pipe_of (O.told out.old) to.old (O.faults out.old)) (pipe_of (O.told out.new) to.new (O.faults out.new))
-        (spelled (body_pieces (functions_of named.now) (registers_of named.now) (depth_of depth.now) (plain_stmts stmts.now))) }
+        (spelled (body_pieces (functions_of named.now) (in_sight named.now) (depth_of depth.now) (plain_stmts stmts.now))) }
 {
     if stmts.is_empty() {
         to.write(out, b"{ }");
@@ -115,7 +150,7 @@ fn choice<O: Sink>(
     out: &mut O,
 )
     ensures { Printed (pipe_of (O.told out.old) to.old (O.faults out.old)) (pipe_of (O.told out.new) to.new (O.faults out.new))
-        (spelled (statement_pieces (functions_of named.now) (registers_of named.now) (depth_of depth.now)
+        (spelled (statement_pieces (functions_of named.now) (in_sight named.now) (depth_of depth.now)
         (If (plain_expr e.now) (plain_stmts first.now) (plain_stmts second.now)))) }
 {
     between(b"if (", e, b") ", named, to, out);
@@ -135,7 +170,7 @@ fn repeated<O: Sink>(
     out: &mut O,
 )
     ensures { Printed (pipe_of (O.told out.old) to.old (O.faults out.old)) (pipe_of (O.told out.new) to.new (O.faults out.new))
-        (spelled (statement_pieces (functions_of named.now) (registers_of named.now) (depth_of depth.now)
+        (spelled (statement_pieces (functions_of named.now) (in_sight named.now) (depth_of depth.now)
         (Loop (plain_stmts before.now) (plain_stmts behind.now)))) }
 {
     let inner = Depth::Inside(&*depth);
@@ -157,7 +192,7 @@ fn labelled<O: Sink>(
     out: &mut O,
 )
     ensures { Printed (pipe_of (O.told out.old) to.old (O.faults out.old)) (pipe_of (O.told out.new) to.new (O.faults out.new))
-        (spelled (statement_pieces (functions_of named.now) (registers_of named.now) (depth_of depth.now) (Labelled (plain_stmts stmts.now) label.now))) }
+        (spelled (statement_pieces (functions_of named.now) (in_sight named.now) (depth_of depth.now) (Labelled (plain_stmts stmts.now) label.now))) }
 {
     body(stmts, depth, named, to, out);
     to.write_three(out, b" ", label, b": ;");
@@ -173,7 +208,7 @@ pub fn statements<O: Sink>(
     out: &mut O,
 )
     ensures { Printed (pipe_of (O.told out.old) to.old (O.faults out.old)) (pipe_of (O.told out.new) to.new (O.faults out.new))
-        (spelled (statements_pieces (functions_of named.now) (registers_of named.now) (depth_of depth.now) (plain_stmts stmts.now))) }
+        (spelled (statements_pieces (functions_of named.now) (in_sight named.now) (depth_of depth.now) (plain_stmts stmts.now))) }
 {
     'stmts: for s in stmts {
         if to.is_shut() {
@@ -194,10 +229,11 @@ fn statement<O: Sink>(
     out: &mut O,
 )
     ensures { Printed (pipe_of (O.told out.old) to.old (O.faults out.old)) (pipe_of (O.told out.new) to.new (O.faults out.new))
-        (spelled (statement_pieces (functions_of named.now) (registers_of named.now) (depth_of depth.now) (plain_stmt s.now))) }
+        (spelled (statement_pieces (functions_of named.now) (in_sight named.now) (depth_of depth.now) (plain_stmt s.now))) }
 {
     match &*s.kind {
         MonStmtKind::Set(r, e) => assignment(*r, e, named, to, out),
+        MonStmtKind::Store(r, t, e) => store(*r, *t, e, depth, named, to, out),
         MonStmtKind::Step => to.write(out, b"__e_acsl_step();"),
         MonStmtKind::Assert(d, v, number, line, kind) => {
             assertion(d, v, *number, *line, *kind, named, to, out);
@@ -208,9 +244,7 @@ fn statement<O: Sink>(
         MonStmtKind::PrintText(bytes) => print_text(bytes.bytes(), to, out),
         MonStmtKind::PrintSigned(e) => call(b"__e_acsl_print_i64", e, named, to, out),
         MonStmtKind::PrintUnsigned(e) => call(b"__e_acsl_print_u64", e, named, to, out),
-        MonStmtKind::Act(r, f, list) => {
-            call_with(*r, memory_word(*f).as_bytes(), list, named, to, out);
-        }
+        MonStmtKind::Act(r, f, list) => memory_call(*r, *f, list, named, to, out),
         MonStmtKind::Call(r, f, list) => call_with(*r, callee(named, *f), list, named, to, out),
         MonStmtKind::If(e, a, b) => choice(e, a, b, depth, named, to, out),
         MonStmtKind::Loop(a, b) => repeated(a, b, depth, named, to, out),

@@ -42,7 +42,7 @@ pub fn string<O: Sink>(bytes: &[u8], to: &mut Writer, out: &mut O)
 }
 
 /// A number in decimal.
-pub fn number<O: Sink>(n: u32, to: &mut Writer, out: &mut O)
+pub fn number<O: Sink>(n: usize, to: &mut Writer, out: &mut O)
     ensures { Printed (pipe_of (O.told out.old) to.old (O.faults out.old)) (pipe_of (O.told out.new) to.new (O.faults out.new)) (decimal n) }
 {
     to.write(out, itoa::Buffer::new().format(n).as_bytes());

@@ -80,5 +80,6 @@ pub fn memory_word(f: MemoryCall) -> &'static str
     match f {
         MemoryCall::StoreBlock => "__e_acsl_store_block",
         MemoryCall::DeleteBlock => "__e_acsl_delete_block",
+        MemoryCall::Number(_) => "__e_acsl_number",
     }
 }

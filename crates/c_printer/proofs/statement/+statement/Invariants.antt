@@ -5,7 +5,7 @@ use Rattle.std.specs.Prelude.{max}
 use Rattle.mon_syntax.specs.declared.tree.MonStmtKind.TheViews.{size-MonStmt}
 use Rattle.c_printer.specs.Depths.{depth_of}
 use Rattle.c_printer.specs.Printing.{pipe_of}
-use Rattle.c_printer.specs.Registers.{functions_of, registers_of}
+use Rattle.c_printer.specs.Sight.{functions_of, in_sight}
 use Rattle.c_printer.proofs.Written.{UpTo}
 use Rattle.c_printer.proofs.statement.+statement.Given as goal
 use denote.Param.Weighed.{most}
@@ -32,5 +32,5 @@ decreases-repeated g l = 4 * max (most size-MonStmt l.before.now) (most size-Mon
 abbrev pub invariant-statements-stmts : goal.invariant-statements-stmts
 invariant-statements-stmts g l =
     UpTo (pipe_of (g.O.Sink.told l.initial.out) l.initial.to (g.O.Sink.faults l.initial.out)) (pipe_of (g.O.Sink.told l.out) l.to (g.O.Sink.faults l.out))
-    (spelled (statements_pieces (functions_of l.named) (registers_of l.named) (depth_of l.depth) (plain_stmts (drop l.s-index l.stmts))))
-    (spelled (statements_pieces (functions_of l.named) (registers_of l.named) (depth_of l.depth) (plain_stmts l.stmts)))
+    (spelled (statements_pieces (functions_of l.named) (in_sight l.named) (depth_of l.depth) (plain_stmts (drop l.s-index l.stmts))))
+    (spelled (statements_pieces (functions_of l.named) (in_sight l.named) (depth_of l.depth) (plain_stmts l.stmts)))

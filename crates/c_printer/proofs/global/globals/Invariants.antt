@@ -1,0 +1,13 @@
+use Rattle.std.proofs.Common.{drop, map}
+use Rattle.mon_syntax.specs.Trees.{plain_global}
+use Rattle.mon_syntax.specs.Text.{globals_pieces, spelled}
+use Rattle.c_printer.specs.Printing.{pipe_of}
+use Rattle.c_printer.proofs.Written.{UpTo}
+use Rattle.c_printer.proofs.global.globals.Given as goal
+
+-- what stands before the index is written
+abbrev pub invariant-list : goal.invariant-list
+invariant-list g l =
+    UpTo (pipe_of (g.O.Sink.told l.initial.out) l.initial.to (g.O.Sink.faults l.initial.out)) (pipe_of (g.O.Sink.told l.out) l.to (g.O.Sink.faults l.out))
+    (spelled (globals_pieces (map plain_global (drop l.g-index l.list))))
+    (spelled (globals_pieces (map plain_global l.list)))
