@@ -10,7 +10,7 @@ use Rattle.c_syntax.specs.declared.refusal.FrontFault.{FrontFault}
 use Rattle.c_syntax.specs.declared.refusal.FrontFault.TheVariants as front
 use Rattle.c_model.specs.TokenWords.{syntax_refusal}
 use Rattle.mon_syntax.specs.Parsed.{ParsedProgram}
-use Rattle.mon_syntax.specs.Grammar.{Vocabulary, head_kind, first_function, text}
+use Rattle.mon_syntax.specs.Grammar.{Vocabulary, static_kind, head_kind, first_function, text}
 use Rattle.mon_syntax.specs.Spelled.{vocabulary, IsRead}
 use Rattle.c_syntax.specs.declared.fault.ReadFault.{ReadFault}
 use Rattle.c_syntax.specs.declared.fault.ReadFault.TheVariants as fault
@@ -20,7 +20,7 @@ use Rattle.token_reader.specs.Answers.{RefusesWith, RefusesFault}
 use Rattle.mon_syntax.proofs.ExactTexts.{text_exact}
 
 pub one : (ws : Vocabulary) → AtMostOne (text ws)
-one ws = at_most_one (text ws) false (head_kind ∷ []) (λ _. first_function) (text_exact ws)
+one ws = at_most_one (text ws) false (head_kind ∷ []) (λ _. static_kind ∷ first_function) (text_exact ws)
 
 pub begun : (ws : Vocabulary) → ReadingsBegin (text ws)
 begun ws = (text_exact ws).begins
@@ -36,11 +36,11 @@ module _ (ts : PlainTokens) where
   parsed = (text (vocabulary ts)).parse ts.list
 
   accepted_is : (p : ParsedProgram) → IsRead ts p → parsed ≡ Ok (p, [])
-  accepted_is p a = accepts (text (vocabulary ts)) false (head_kind ∷ []) (λ _. first_function) (text_exact (vocabulary ts)) ts.list p a
+  accepted_is p a = accepts (text (vocabulary ts)) false (head_kind ∷ []) (λ _. static_kind ∷ first_function) (text_exact (vocabulary ts)) ts.list p a
 
   -- read to the end
   whole : (p : ParsedProgram) → parsed ≡ Ok (p, []) → IsRead ts p
-  whole p e = accepts_back (text (vocabulary ts)) false (head_kind ∷ []) (λ _. first_function) (text_exact (vocabulary ts)) ts.list p e
+  whole p e = accepts_back (text (vocabulary ts)) false (head_kind ∷ []) (λ _. static_kind ∷ first_function) (text_exact (vocabulary ts)) ts.list p e
 
   not_read : (r : Result (ParsedProgram × List PlainToken) Fault) → parsed ≡ r → ((p : ParsedProgram) → r ≡ Ok (p, []) → ⊥) → (p : ParsedProgram) → IsRead ts p → ⊥
   not_read r e h p a = h p (sym e ∙ accepted_is p a)
@@ -50,7 +50,7 @@ module _ (ts : PlainTokens) where
   grammar_refused f h n (front.Refused x) g = record { fault = f; refused = h; unread = n; is = g }
 
   fault_given : (f : Fault) → parsed ≡ Err f → (e : FrontFault) → RefusesWith (syntax_refusal ts f) e → Refuses e ts
-  fault_given f k = grammar_refused f (refused (text (vocabulary ts)) false (head_kind ∷ []) (λ _. first_function) (text_exact (vocabulary ts)) ts.list f k) (not_read (Err f) k (λ p q. cc))
+  fault_given f k = grammar_refused f (refused (text (vocabulary ts)) false (head_kind ∷ []) (λ _. static_kind ∷ first_function) (text_exact (vocabulary ts)) ts.list f k) (not_read (Err f) k (λ p q. cc))
 
   -- a fault was given
   faulty : (r : ReadFault) (e : FrontFault) → Fails r parsed → RefusesFault ts r e → Refuses e ts
@@ -61,7 +61,7 @@ module _ (ts : PlainTokens) where
   -- tokens are left over: the first of them can't follow
   left_over : (p : ParsedProgram) (t : PlainToken) (rest : List PlainToken) (e : FrontFault) → parsed ≡ Ok (p, t ∷ rest) → RefusesFault ts (fault.At (suc (length rest))) e → Refuses e ts
   left_over p t rest e k g =
-      let f = found (text (vocabulary ts)) false (head_kind ∷ []) (λ _. first_function) (text_exact (vocabulary ts)) ts.list p (t ∷ rest) k in
+      let f = found (text (vocabulary ts)) false (head_kind ∷ []) (λ _. static_kind ∷ first_function) (text_exact (vocabulary ts)) ts.list p (t ∷ rest) k in
       grammar_refused (At (length (t ∷ rest))) (record { front = f.front; rest = t ∷ rest; longest = f.longest; place = refl; within = f.within })
       (not_read (Ok (p, t ∷ rest)) k (λ q same. let none : t ∷ rest ≡ [] = ap (λ (x : ParsedProgram × List PlainToken). x.1) (ok_is (p, t ∷ rest) (q, []) same) in cc)) e g
 

@@ -8,19 +8,19 @@ use Rattle.c_syntax.specs.Tokens.{PlainToken, plain_token}
 use Rattle.c_model.specs.Punctuators.{left_paren, comma}
 use Rattle.c_model.specs.Terminals.{expression_limit, nesting_limit}
 use Rattle.mon_syntax.specs.declared.tree.MonType.{MonType}
-use Rattle.mon_syntax.specs.Parsed.{NameUse, ParsedArgument, ParsedStatement, ParsedRegister, ParsedFunction}
-use Rattle.mon_syntax.specs.Grammar.{Vocabulary, LoopRead, type_kind, mark_kind, kind, first_statement, first_function, mark, opened, behind_paren, behind_opened, expression_in, next_argument, one_more}
+use Rattle.mon_syntax.specs.Parsed.{NameUse, ParsedArgument, ParsedStatement, ParsedRegister, ParsedFunction, ParsedGlobal}
+use Rattle.mon_syntax.specs.Grammar.{Vocabulary, LoopRead, type_kind, static_kind, mark_kind, kind, first_statement, first_function, mark, opened, behind_paren, behind_opened, expression_in, next_argument, one_more}
 use Rattle.mon_syntax.specs.Grammar.{one_more_in_loop, statement_with, statement_in, statements, register, registers, next_parameter, function_body, one_more_function}
+use Rattle.mon_syntax.specs.Grammar.{one_more_global, globals, functions, text}
 use Rattle.c_syntax.specs.declared.fault.ReadFault.{ReadFault}
-use Rattle.c_syntax.specs.declared.fault.ReadFault.TheVariants as fault
-use Rattle.mon_parser.specs.Reading.{plain_operation, behind_in_parts, function_statements, body_in_parts}
-use Rattle.mon_parser.specs.Reading.{more_arguments, more_statements, more_in_loop, more_registers, more_parameters, more_functions}
+use Rattle.mon_parser.specs.Reading.{plain_operation, behind_in_parts, function_statements, body_in_parts, text_in_parts}
+use Rattle.mon_parser.specs.Reading.{more_arguments, more_statements, more_in_loop, more_registers, more_parameters, more_functions, more_globals}
 use Rattle.token_reader.specs.Reading.{plain_list, Fails}
 use Rattle.token_reader.proofs.Faults.{again}
 use Rattle.mon_syntax.proofs.ExactTokens.{IsRead}
 use Rattle.mon_syntax.proofs.ExactExpressions.{next_argument_good}
 use Rattle.mon_syntax.proofs.ExactStatements.{one_more_good, one_more_in_loop_good, statement_good}
-use Rattle.mon_syntax.proofs.ExactTexts.{register_good, next_parameter_good, one_more_function_good}
+use Rattle.mon_syntax.proofs.ExactTexts.{register_good, next_parameter_good, one_more_function_good, one_more_global_good}
 
 -- ---- limits
 
@@ -53,6 +53,10 @@ module _ (ws : Vocabulary) where
   pub body_is : (r : Option MonType) (f : NameUse) (ps : List ParsedRegister) (ts : List PlainToken) → (function_body ws r f ps).parse ts ≡ (body_in_parts ws r f ps).parse ts
   unfolding function_body registers statements more_registers more_statements function_statements body_in_parts
   body_is r f ps ts = refl
+
+  pub text_is : (ts : List PlainToken) → (text ws).parse ts ≡ (text_in_parts ws).parse ts
+  unfolding text globals functions more_globals more_functions text_in_parts
+  text_is ts = refl
 
   pub statement_is : (n : ℕ) (no_step : Bool) (ts : List PlainToken) → 0 < n → (statement_in ws n no_step).parse ts ≡ (statement_with ws (statement_in ws (n - 1)) no_step).parse ts
   unfolding statement_in
@@ -130,6 +134,21 @@ module _ (ws : Vocabulary) where
   pub parameters_shorter : (x y : List ParsedRegister) (ts rest : List Token) → (next_parameter ws x).parse (plain_list ts) ≡ Ok (y, plain_list rest) → length rest < length ts
   parameters_shorter x y ts rest e = shorter ws (next_parameter ws x) (next_parameter_good ws x) ts rest y e
 
+  pub globals_turn : (x y : List ParsedGlobal) (ts rest : List PlainToken) → sees (kind ws) (static_kind ∷ []) ts ≡ true → (one_more_global ws x).parse ts ≡ Ok (y, rest) → (more_globals ws x).parse ts ≡ (more_globals ws y).parse rest
+  unfolding more_globals
+  globals_turn x y ts rest s e = turn (static_kind ∷ []) (one_more_global ws) (λ z. (one_more_global_good ws z).here) refl x y ts rest s e
+
+  pub globals_fails : (x : List ParsedGlobal) (ts : List PlainToken) (e : ReadFault) → sees (kind ws) (static_kind ∷ []) ts ≡ true → Fails e ((one_more_global ws x).parse ts) → Fails e ((more_globals ws x).parse ts)
+  unfolding more_globals
+  globals_fails x ts e s = again e (λ d. turn_fails (static_kind ∷ []) (one_more_global ws) (λ z. (one_more_global_good ws z).here) refl x ts d s)
+
+  pub globals_ends : (x : List ParsedGlobal) (ts : List PlainToken) → sees (kind ws) (static_kind ∷ []) ts ≡ false → (more_globals ws x).parse ts ≡ Ok (x, ts)
+  unfolding more_globals
+  globals_ends x ts s = turn_ends (static_kind ∷ []) (one_more_global ws) (λ z. (one_more_global_good ws z).here) refl x ts s
+
+  pub globals_shorter : (x y : List ParsedGlobal) (ts rest : List Token) → (one_more_global ws x).parse (plain_list ts) ≡ Ok (y, plain_list rest) → length rest < length ts
+  globals_shorter x y ts rest e = shorter ws (one_more_global ws x) (one_more_global_good ws x) ts rest y e
+
   pub functions_turn : (x y : List ParsedFunction) (ts rest : List PlainToken) → sees (kind ws) first_function ts ≡ true → (one_more_function ws x).parse ts ≡ Ok (y, rest) → (more_functions ws x).parse ts ≡ (more_functions ws y).parse rest
   unfolding more_functions
   functions_turn x y ts rest s e = turn first_function (one_more_function ws) (λ z. (one_more_function_good ws z).here) refl x y ts rest s e
@@ -190,6 +209,8 @@ pub ruleset registers_rules = (registers_turn, registers_fails, registers_ends, 
 pub ruleset parameters_rules = (parameters_turn, parameters_fails, parameters_ends, parameters_shorter)
 
 pub ruleset functions_rules = (functions_turn, functions_fails, functions_ends, functions_shorter)
+
+pub ruleset globals_rules = (globals_turn, globals_fails, globals_ends, globals_shorter)
 
 pub ruleset statements_rules = (statements_turn, statements_fails, statements_ends, statements_shorter)
 

@@ -1,9 +1,9 @@
 -- Ours: plain forms.
 -- The plain form of the tree of a monitored text: without boxes and vectors.
 use Rattle.std.specs.Prelude.{ℤ, pos, neg_ℤ, ◌^◌, List, [], ◌∷◌, map, option_map, if◌then◌else◌}
-use Rattle.mon_syntax.specs.Parsed.{NameUse, ParsedExpression, Name, Constant, Binary, Minus, Flip, Cast, ParsedArgument, Value, Number, Text, ParsedCall}
-use Rattle.mon_syntax.specs.Parsed.{ParsedStatement, Set, Take, Call, If, Loop, Labelled, Goto, Return, ParsedStatements, NoStatement, Then, ParsedRegister}
-use Rattle.mon_syntax.specs.Parsed.{ParsedFunction, ParsedProgram}
+use Rattle.mon_syntax.specs.Parsed.{NameUse, ParsedExpression, Name, Constant, Binary, Minus, Flip, Cast, Load, ParsedArgument, Value, Number, Text, ParsedCall}
+use Rattle.mon_syntax.specs.Parsed.{ParsedStatement, Set, Store, Take, Call, If, Loop, Labelled, Goto, Return, ParsedStatements, NoStatement, Then}
+use Rattle.mon_syntax.specs.Parsed.{ParsedRegister, ParsedFunction, ParsedGlobal, ParsedProgram}
 use Rattle.mon_parser.specs.declared.parsed.NameUse as code_name
 use Rattle.mon_parser.specs.declared.parsed.Literal as code_literal
 use Rattle.mon_parser.specs.declared.parsed.ParsedExpr.{ParsedExpr}
@@ -17,6 +17,7 @@ use Rattle.mon_parser.specs.declared.parsed.ParsedStmtKind.{ParsedStmtKind, Row_
 use Rattle.mon_parser.specs.declared.parsed.ParsedStmtKind as stmt
 use Rattle.mon_parser.specs.declared.parsed.ParsedRegister as code_register
 use Rattle.mon_parser.specs.declared.parsed.ParsedFunc.{ParsedFunc}
+use Rattle.mon_parser.specs.declared.parsed.ParsedGlobal as code_global
 use Rattle.mon_parser.specs.declared.parsed.ParsedProgram as code_program
 
 abbrev pub plain_name : code_name.NameUse → NameUse
@@ -36,6 +37,7 @@ plain_expr_kind (expr.Binary' at op p a q b) = Binary at op (plain_expr_kind a) 
 plain_expr_kind (expr.Minus' at p a) = Minus at (plain_expr_kind a)
 plain_expr_kind (expr.Flip' at p a) = Flip at (plain_expr_kind a)
 plain_expr_kind (expr.Cast' at t p a) = Cast at t (plain_expr_kind a)
+plain_expr_kind (expr.Load' at t p a) = Load at t (plain_expr_kind a)
 
 abbrev pub plain_expr : ParsedExpr → ParsedExpression
 plain_expr e = plain_expr_kind e.kind.value
@@ -51,6 +53,7 @@ plain_call c = record { callee = plain_name c.callee; place = c.place; arguments
 abbrev mutual
   pub plain_stmt_kind : ParsedStmtKind → ParsedStatement
   plain_stmt_kind (stmt.Set x at e) = Set (plain_name x) at (plain_expr e)
+  plain_stmt_kind (stmt.Store t x at e) = Store t (plain_name x) at (plain_expr e)
   plain_stmt_kind (stmt.Take x at c) = Take (plain_name x) at (plain_call c)
   plain_stmt_kind (stmt.Call c) = Call (plain_call c)
   plain_stmt_kind (stmt.If' e p a q b) = If (plain_expr e) (plain_stmt_row a) (plain_stmt_row b)
@@ -82,5 +85,8 @@ plain_func f = record {
   body = plain_stmts f.body.items;
 }
 
+abbrev pub plain_global : code_global.ParsedGlobal → ParsedGlobal
+plain_global g = record { name = plain_name g.name; place = g.place; size = g.size; literal = g.literal }
+
 abbrev pub plain_program : code_program.ParsedProgram → ParsedProgram
-plain_program p = map plain_func p.functions.items
+plain_program p = record { globals = map plain_global p.globals.items; functions = map plain_func p.functions.items }

@@ -1,20 +1,21 @@
 -- Ours: productions of monitored C (mon_syntax/specs/Grammar), cut as the code reads them.
-use Rattle.std.specs.Prelude.{ℕ, ◌-◌, ℤ, neg_ℤ, Bool, List, [], ◌∷◌, ◌++◌, map, Option, option_map, if◌then◌else◌}
+use Rattle.std.specs.Prelude.{ℕ, ◌-◌, ℤ, neg_ℤ, Bool, List, [], ◌∷◌, ◌++◌, map, Option, Some, option_map, if◌then◌else◌}
 use Rattle.grammar.specs.Syntax.{Syntax, gives, one, ◌then◌, choice, many}
 use Rattle.c_syntax.specs.declared.place.Place.{Place}
 use Rattle.c_syntax.specs.Tokens.{PlainToken}
-use Rattle.c_model.specs.Punctuators.{comma, colon, semicolon, minus, tilde, left_paren, right_paren, left_brace, right_brace}
+use Rattle.c_model.specs.Punctuators.{comma, assign, colon, semicolon, minus, tilde, times, left_paren, right_paren, left_brace, right_brace}
 use Rattle.c_model.specs.Terminals.{placed}
 use Rattle.mon_syntax.specs.declared.tree.MonType.{MonType}
 use Rattle.mon_syntax.specs.declared.tree.MonOp.{MonOp}
-use Rattle.mon_syntax.specs.Parsed.{NameUse, ParsedExpression, Constant, Binary, Cast, ParsedArgument, Value, Text, ParsedStatement, Call, If, Labelled}
-use Rattle.mon_syntax.specs.Parsed.{ParsedStatements, ParsedRegister, ParsedFunction}
-use Rattle.mon_syntax.specs.Grammar.{Vocabulary, InBody, LoopRead, nothing_read, parsed_list, type_kind, else_kind, mark_kind}
+use Rattle.mon_syntax.specs.Parsed.{NameUse, ParsedExpression, Constant, Binary, Cast, Load, ParsedArgument, Value, Text, ParsedStatement}
+use Rattle.mon_syntax.specs.Parsed.{Store, Call, If, Labelled, ParsedStatements, ParsedRegister, ParsedFunction, ParsedGlobal, ParsedProgram}
+use Rattle.mon_syntax.specs.Grammar.{Vocabulary, InBody, LoopRead, nothing_read, parsed_list, type_kind, static_kind, else_kind, mark_kind}
 use Rattle.mon_syntax.specs.Grammar.{kind, first_statement, first_function}
-use Rattle.mon_syntax.specs.Grammar.{fixed, mark, number_of, text_of, is_one, name, signed_number, plain_operand, second_operand, expression}
+use Rattle.mon_syntax.specs.Grammar.{fixed, mark, number_of, text_of, is_number, name, signed_number, plain_operand, second_operand, expression}
 use Rattle.mon_syntax.specs.Grammar.{next_argument, call_of, ended, behind_name, one_more, body, one_more_in_loop, loop_end, statement_in, most_nested}
-use Rattle.mon_syntax.specs.Grammar.{expression_in, opened, behind_opened, behind_two, negation, complement}
+use Rattle.mon_syntax.specs.Grammar.{expression_in, opened, behind_opened, behind_two, negation, complement, load, store_mark}
 use Rattle.mon_syntax.specs.Grammar.{register, parameter, next_parameter, parameters, function_body, one_more_function}
+use Rattle.mon_syntax.specs.Grammar.{length_of_global, one_more_global, is_head}
 use Rattle.mon_parser.specs.declared.statement.LoopRead as code_loop
 use Rattle.mon_parser.specs.ParsedTrees.{plain_stmt}
 
@@ -42,6 +43,9 @@ module _ (ws : Vocabulary) where
   unfoldable pub more_functions : List ParsedFunction → Syntax PlainToken (List ParsedFunction)
   more_functions fs = many (kind ws) (λ _. first_function) (one_more_function ws) fs
 
+  unfoldable pub more_globals : List ParsedGlobal → Syntax PlainToken (List ParsedGlobal)
+  more_globals gs = many (kind ws) (λ _. static_kind ∷ []) (one_more_global ws) gs
+
   -- ---- the ends of productions, after what is read
 
   -- a number, after its sign where it has one
@@ -64,6 +68,10 @@ module _ (ws : Vocabulary) where
   unfoldable pub cast_operand : Syntax PlainToken ParsedExpression → Place → MonType → Syntax PlainToken ParsedExpression
   cast_operand E at t = E then λ e. closed (Cast at t e)
 
+  -- a load after its type and parenthesis
+  unfoldable pub load_operand : Syntax PlainToken ParsedExpression → Place → MonType → Syntax PlainToken ParsedExpression
+  load_operand E at t = E then λ e. closed (Load at t e)
+
   -- an operation whose first operand begins with no parenthesis
   unfoldable pub plain_operation : Syntax PlainToken Place → Syntax PlainToken ParsedExpression → Syntax PlainToken ParsedExpression
   plain_operation O E = plain_operand ws O then λ left. second_operand ws E left
@@ -73,8 +81,9 @@ module _ (ws : Vocabulary) where
   behind_in_parts n =
       choice (kind ws) (mark_kind minus ∷ []) (negation ws (expression_in ws n))
       (choice (kind ws) (mark_kind tilde ∷ []) (complement ws (expression_in ws n))
+      (choice (kind ws) (mark_kind times ∷ []) (load ws (opened ws n) (expression_in ws n))
       (choice (kind ws) (mark_kind left_paren ∷ []) (opened ws n then λ at. behind_two ws (expression_in ws n) (behind_opened ws n) at)
-      (plain_operation (opened ws n) (expression_in ws n))))
+      (plain_operation (opened ws n) (expression_in ws n)))))
 
   unfoldable pub text_argument : Syntax PlainToken ParsedArgument
   text_argument = one (placed text_of) then λ t. gives (Text t.1 t.0)
@@ -90,6 +99,14 @@ module _ (ws : Vocabulary) where
   unfoldable pub named_statement : Bool → Syntax PlainToken ParsedStatement
   named_statement no_step = name ws then λ x. behind_name ws no_step x
 
+  -- a store after its value
+  unfoldable pub store_end : MonType → NameUse → ParsedStatement → Syntax PlainToken ParsedStatement
+  store_end t x a = mark ws semicolon then λ _. store_mark ws t x a
+
+  -- a store after its `=`
+  unfoldable pub stored_value : MonType → NameUse → Place → Syntax PlainToken ParsedStatement
+  stored_value t x at = expression ws then λ e. store_end t x (Store t x at e)
+
   -- a selection after `if (`
   unfoldable pub condition : InBody ws → Syntax PlainToken ParsedStatement
   condition S = expression ws then λ e. mark ws right_paren then λ _. body ws S then λ a. fixed ws else_kind then λ _. body ws S then λ b. gives (If e a b)
@@ -104,7 +121,9 @@ module _ (ws : Vocabulary) where
 
   -- a loop after `while (`
   unfoldable pub forever : InBody ws → Syntax PlainToken ParsedStatement
-  forever S = one (placed is_one) then λ _. mark ws right_paren then λ _. mark ws left_brace then λ _. more_in_loop S nothing_read then λ x. loop_end ws x
+  forever S =
+      one (placed (is_number 1)) then λ _. mark ws right_paren then λ _. mark ws left_brace then λ _.
+      more_in_loop S nothing_read then λ x. loop_end ws x
 
   -- its body
   unfoldable pub loop_body : InBody ws → Syntax PlainToken ParsedStatement
@@ -143,3 +162,18 @@ module _ (ws : Vocabulary) where
   -- a function's body
   unfoldable pub body_in_parts : Option MonType → NameUse → List ParsedRegister → Syntax PlainToken ParsedFunction
   body_in_parts r f ps = mark ws left_brace then λ _. more_registers [] then λ rs. function_statements r f ps rs
+
+  -- ---- globals and whole texts
+
+  -- a literal after its number
+  unfoldable pub literal_value : NameUse → ℤ → Place → Syntax PlainToken ParsedGlobal
+  literal_value x n at =
+      mark ws assign then λ _. one (placed text_of) then λ s. mark ws semicolon then λ _.
+      gives (record { name = x; place = at; size = n; literal = Some s.0 })
+
+  -- a literal after `const char`
+  unfoldable pub named_literal : Syntax PlainToken ParsedGlobal
+  named_literal = name ws then λ x. length_of_global ws then λ n. literal_value x n.0 n.1
+
+  unfoldable pub text_in_parts : Syntax PlainToken ParsedProgram
+  text_in_parts = one (is_head ws) then λ _. more_globals [] then λ gs. more_functions [] then λ fs. gives (record { globals = gs; functions = fs })

@@ -15,7 +15,8 @@ use c_syntax::{Name, Token};
 use mon_syntax::Word;
 use std::alloc::{AllocError, Global};
 
-fn copy(alloc: Global, name: &Name) -> Result<Name, AllocError>
+/// A copy of the bytes.
+pub fn copy(alloc: Global, name: &Name) -> Result<Name, AllocError>
     ensures { IfOk result (λ x. x ≡ name.now) }
 {
     Ok(Name::new(Vec::from_slice(alloc, name.bytes())?))

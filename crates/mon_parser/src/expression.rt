@@ -1,14 +1,14 @@
 //! Expressions.
 
 ghost use Rattle.std.specs.Prelude.{◌≡◌, IfErr};
-ghost use Rattle.mon_syntax.specs.Grammar.{signed_number, opened, constant, plain_operand, second_operand, negation, complement, cast, behind_two};
-ghost use Rattle.mon_syntax.specs.Grammar.{behind_opened, other_expression, expression_in, expression, expression_but_name};
+ghost use Rattle.mon_syntax.specs.Grammar.{signed_number, opened, constant, plain_operand, second_operand, negation, complement, cast};
+ghost use Rattle.mon_syntax.specs.Grammar.{pointed_type, load, behind_two, behind_opened, other_expression, expression_in, expression, expression_but_name};
 ghost use Rattle.mon_parser.specs.ParsedTrees.{plain_literal, plain_expr};
-ghost use Rattle.mon_parser.specs.Reading.{unsigned_number, closed, right_operand, constant_value, cast_operand};
+ghost use Rattle.mon_parser.specs.Reading.{unsigned_number, closed, right_operand, constant_value, cast_operand, load_operand};
 ghost use Rattle.token_reader.specs.Reading.{Gives, TakesNoMemory, plain_list};
 ghost use Rattle.mon_parser.specs.Reading.{plain_operation};
 
-use crate::kinds::{CONSTANT, LEFT_PAREN, MINUS, NAME, RIGHT_PAREN, TILDE, TYPE};
+use crate::kinds::{CONSTANT, LEFT_PAREN, MINUS, NAME, RIGHT_PAREN, TILDE, TIMES, TYPE};
 use crate::parsed::{Literal, ParsedExpr, ParsedExprKind};
 use crate::tables::OPERATORS;
 use crate::terminals::{constant_word, name, next_is, number, skip, type_name};
@@ -245,6 +245,59 @@ fn cast<'a>(
     cast_operand(alloc, words, room, place, kind, rest)
 }
 
+/// `type "*" ")"`, after the parenthesis before the type.
+#[tactic(auto, unfolding(mon_syntax::specs::Grammar::pointed_type))]
+pub fn pointed_type<'a>(
+    words: &[Word],
+    tokens: &'a [Token],
+) -> Result<(MonType, &'a [Token]), ReadFault>
+    ensures read { Gives (λ x. (x.0, plain_list x.1.now)) result ((pointed_type words.now).parse (plain_list tokens.now)) }
+    ensures sure { IfErr result TakesNoMemory }
+{
+    let (kind, _, rest) = type_name(words, tokens)?;
+    let (_, rest) = skip(words, TIMES, rest)?;
+    let (_, rest) = skip(words, RIGHT_PAREN, rest)?;
+    Ok((kind, rest))
+}
+
+/// `expr ")"`, at which a value of the type is loaded, by the place of its `*`.
+#[tactic(auto, unfolding(crate::specs::Reading::load_operand))]
+#[cycle(expression)]
+fn load_operand<'a>(
+    alloc: Global,
+    words: &[Word],
+    room: u32,
+    place: Place,
+    kind: MonType,
+    tokens: &'a [Token],
+) -> Result<(ParsedExpr, &'a [Token]), ReadFault>
+    ensures { Gives (λ x. (plain_expr x.0, plain_list x.1.now)) result ((load_operand words.now (expression_in words.now room) place kind).parse
+        (plain_list tokens.now)) }
+{
+    let (operand, rest) = expression_in(alloc, words, room, tokens)?;
+    let operation = ParsedExpr::new(alloc, ParsedExprKind::Load(place, kind, operand))?;
+    closed(words, operation, rest)
+}
+
+/// `"*" "(" type "*" ")" expr ")"`
+#[tactic(auto, unfolding(mon_syntax::specs::Grammar::load, crate::specs::Reading::load_operand, crate::specs::Reading::closed))]
+#[cycle(expression)]
+#[inline(never)]
+fn load<'a>(
+    alloc: Global,
+    words: &[Word],
+    room: u32,
+    tokens: &'a [Token],
+) -> Result<(ParsedExpr, &'a [Token]), ReadFault>
+    ensures { Gives (λ x. (plain_expr x.0, plain_list x.1.now)) result ((load words.now (opened words.now room) (expression_in words.now room)).parse
+        (plain_list tokens.now)) }
+{
+    let (place, rest) = skip(words, TIMES, tokens)?;
+    let (_, rest) = opened(words, room, rest)?;
+    let (kind, rest) = pointed_type(words, rest)?;
+    load_operand(alloc, words, room, place, kind, rest)
+}
+
 /// What stands after two parentheses: a cast, or a first operand that begins with the second of them.
 #[tactic(auto, unfolding(mon_syntax::specs::Grammar::behind_two))]
 #[cycle(expression)]
@@ -302,6 +355,8 @@ fn behind_opened<'a>(
         negation(alloc, words, room, tokens)
     } else if next_is(words, TILDE, tokens) {
         complement(alloc, words, room, tokens)
+    } else if next_is(words, TIMES, tokens) {
+        load(alloc, words, room, tokens)
     } else if next_is(words, LEFT_PAREN, tokens) {
         let (place, rest) = opened(words, room, tokens)?;
         behind_two(alloc, words, room, place, rest)

@@ -26,8 +26,6 @@ pub const GOTO: u32 = 7;
 
 pub const RETURN: u32 = 8;
 
-pub const KEPT: u32 = 9;
-
 pub const NUMBER: u32 = 10;
 
 pub const TEXT: u32 = 11;
@@ -36,10 +34,22 @@ pub const HEAD: u32 = 12;
 /// The kind of what no monitored text has.
 pub const FOREIGN: u32 = 13;
 
+pub const STATIC: u32 = 14;
+
+pub const CONST: u32 = 15;
+
+pub const CHAR: u32 = 16;
+/// The kinds of the words of marks.
+pub const INITIALIZE: u32 = 17;
+
+pub const INITIALIZE_POINTER: u32 = 18;
+
 // The kind of the first punctuator in the list of all; the others follow.
 const FIRST_MARK: u32 = 20;
 
 pub const MINUS: u32 = FIRST_MARK + punctuator::MINUS as u32;
+
+pub const TIMES: u32 = FIRST_MARK + punctuator::TIMES as u32;
 
 pub const ASSIGN: u32 = FIRST_MARK + punctuator::ASSIGN as u32;
 
@@ -58,6 +68,10 @@ pub const RIGHT_PAREN: u32 = FIRST_MARK + punctuator::RIGHT_PAREN as u32;
 pub const LEFT_BRACE: u32 = FIRST_MARK + punctuator::LEFT_BRACE as u32;
 
 pub const RIGHT_BRACE: u32 = FIRST_MARK + punctuator::RIGHT_BRACE as u32;
+
+pub const LEFT_BRACKET: u32 = FIRST_MARK + punctuator::LEFT_BRACKET as u32;
+
+pub const RIGHT_BRACKET: u32 = FIRST_MARK + punctuator::RIGHT_BRACKET as u32;
 
 /// What the name of a number is.
 pub fn word_at(words: &[Word], number: u32) -> Word
@@ -81,7 +95,11 @@ pub fn word_kind(word: Word) -> u32
         Word::While => WHILE,
         Word::Goto => GOTO,
         Word::Return => RETURN,
-        Word::Kept => KEPT,
+        Word::Static => STATIC,
+        Word::Const => CONST,
+        Word::Char => CHAR,
+        Word::Initialize => INITIALIZE,
+        Word::InitializePointer => INITIALIZE_POINTER,
         Word::Runtime(_) | Word::Name => NAME,
     }
 }

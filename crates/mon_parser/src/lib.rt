@@ -16,14 +16,16 @@ pub mod vocabulary;
 mod call;
 mod expression;
 mod statement;
+mod store;
 
-// Functions and whole texts.
+// Globals, functions and whole texts.
+mod global;
 mod program;
 mod read;
 
 pub use kinds::word_at;
 pub use parsed::{
-    Literal, NameUse, ParsedArg, ParsedCall, ParsedExpr, ParsedExprKind, ParsedFunc, ParsedProgram,
-    ParsedRegister, ParsedStmt, ParsedStmtKind,
+    Literal, NameUse, ParsedArg, ParsedCall, ParsedExpr, ParsedExprKind, ParsedFunc, ParsedGlobal,
+    ParsedProgram, ParsedRegister, ParsedStmt, ParsedStmtKind,
 };
 pub use read::{one_reading, read_tokens};

@@ -43,7 +43,7 @@ pub struct ParsedExpr {
 }
 
 /// What an expression is, and its place: its operator's token for a binary one, the token after its first parenthesis
-/// for a unary operator and a cast, and else its first token.
+/// for a unary operator, a cast and a load, and else its first token.
 #[derive(Drop)]
 #[cycle(expression)]
 pub enum ParsedExprKind {
@@ -53,6 +53,7 @@ pub enum ParsedExprKind {
     Minus(Place, ParsedExpr),
     Flip(Place, ParsedExpr),
     Cast(Place, MonType, ParsedExpr),
+    Load(Place, MonType, ParsedExpr),
 }
 
 impl ParsedExpr {
@@ -94,6 +95,8 @@ pub struct ParsedStmt {
 pub enum ParsedStmtKind {
     /// `R = e;` with the place of its `=`.
     Set(NameUse, Place, ParsedExpr),
+    /// `*(t *)R = e;` with its mark, and the place of its `=`.
+    Store(MonType, NameUse, Place, ParsedExpr),
     /// `R = f(..);` with the place of its `=`.
     Take(NameUse, Place, ParsedCall),
     Call(ParsedCall),
@@ -133,8 +136,19 @@ pub struct ParsedFunc {
     pub body: Vec<ParsedStmt>,
 }
 
-/// A text: its functions, in order.
+/// A global, or a literal where it has bytes.
+#[derive(Drop)]
+pub struct ParsedGlobal {
+    pub name: NameUse,
+    /// The place of the number.
+    pub place: Place,
+    pub size: i128,
+    pub literal: Option<Name>,
+}
+
+/// A text: its globals and its functions, in order.
 #[derive(Drop)]
 pub struct ParsedProgram {
+    pub globals: Vec<ParsedGlobal>,
     pub functions: Vec<ParsedFunc>,
 }

@@ -5,10 +5,11 @@ ghost use Rattle.mon_syntax.specs.Grammar.{parsed_list, register, parameter, nex
 ghost use Rattle.mon_syntax.specs.Grammar.{one_more_function, text};
 ghost use Rattle.mon_syntax.specs.Grammar as form;
 ghost use Rattle.mon_parser.specs.ParsedTrees.{plain_name, plain_stmt, plain_register, plain_func, plain_program};
-ghost use Rattle.mon_parser.specs.Reading.{more_registers, more_parameters, more_functions, named_register, register_end};
+ghost use Rattle.mon_parser.specs.Reading.{more_registers, more_parameters, more_functions, more_globals, named_register, register_end};
 ghost use Rattle.token_reader.specs.Reading.{Gives, TakesNoMemory, plain_list};
 ghost use Rattle.mon_parser.specs.Reading.{one_more_parameter, function_rest, function_statements};
 
+use crate::global::more_globals;
 use crate::kinds::{
     COMMA, LEFT_BRACE, LEFT_PAREN, RIGHT_BRACE, RIGHT_PAREN, SEMICOLON, TYPE, VOID,
 };
@@ -336,8 +337,8 @@ fn more_functions<'a>(
     Ok((all, rest))
 }
 
-/// The head and the functions, as far as they go.
-#[tactic(auto, unfolding(mon_syntax::specs::Grammar::text, crate::specs::Reading::more_functions))]
+/// The head, the globals and the functions, as far as they go.
+#[tactic(auto, using(crate::proofs::Steps::text_is), unfolding(crate::specs::Reading::text_in_parts))]
 pub fn text<'a>(
     alloc: Global,
     words: &[Word],
@@ -346,6 +347,7 @@ pub fn text<'a>(
     ensures { Gives (λ x. (plain_program x.0, plain_list x.1.now)) result ((text words.now).parse (plain_list tokens.now)) }
 {
     let rest = head(words, tokens)?;
+    let (globals, rest) = more_globals(alloc, words, Vec::new(alloc), rest)?;
     let (functions, rest) = more_functions(alloc, words, Vec::new(alloc), rest)?;
-    Ok((ParsedProgram { functions }, rest))
+    Ok((ParsedProgram { globals, functions }, rest))
 }

@@ -14,10 +14,13 @@ use crate::call::call_of;
 use crate::expression::{expression, expression_but_name};
 use crate::kinds::{
     ASSIGN, COLON, ELSE, GOTO, IF, LEFT_BRACE, LEFT_PAREN, NAME, RETURN, RIGHT_BRACE, RIGHT_PAREN,
-    SEMICOLON, WHILE, word_at,
+    SEMICOLON, TIMES, WHILE, word_at,
 };
 use crate::parsed::{NameUse, ParsedExpr, ParsedExprKind, ParsedStmt, ParsedStmtKind};
-use crate::terminals::{name, next_begins_expression, next_begins_statement, next_is, one, skip};
+use crate::store::store;
+use crate::terminals::{
+    name, next_begins_expression, next_begins_statement, next_is, skip, this_number,
+};
 use c_syntax::fault::{Limit, ReadFault};
 use c_syntax::{Place, Token};
 use mon_syntax::{Runtime, Word};
@@ -49,6 +52,7 @@ fn is_step(words: &[Word], statement: &ParsedStmt) -> bool
             is_step_word(word_at(words, call.callee.number)) && call.arguments.is_empty()
         }
         ParsedStmtKind::Set(_, _, _)
+        | ParsedStmtKind::Store(_, _, _, _)
         | ParsedStmtKind::Take(_, _, _)
         | ParsedStmtKind::If(_, _, _)
         | ParsedStmtKind::Loop(_, _)
@@ -128,7 +132,7 @@ fn make_labelled(
 
 /// `";"`, after a statement.
 #[tactic(auto, unfolding(mon_syntax::specs::Grammar::ended))]
-fn ended<'a>(
+pub fn ended<'a>(
     words: &[Word],
     statement: ParsedStmt,
     tokens: &'a [Token],
@@ -518,7 +522,7 @@ fn forever<'a>(
 ) -> Result<(ParsedStmt, &'a [Token]), ReadFault>
     ensures { Gives (λ x. (plain_stmt x.0, plain_list x.1.now)) result ((forever words.now (statement_in words.now levels)).parse (plain_list tokens.now)) }
 {
-    let (_, rest) = one(tokens)?;
+    let (_, rest) = this_number(1, tokens)?;
     let (_, rest) = skip(words, RIGHT_PAREN, rest)?;
     loop_body(alloc, words, levels, rest)
 }
@@ -607,6 +611,8 @@ fn statement<'a>(
     let levels = levels - 1;
     if next_is(words, NAME, tokens) {
         named_statement(alloc, words, no_step, tokens)
+    } else if next_is(words, TIMES, tokens) {
+        store(alloc, words, tokens)
     } else if next_is(words, LEFT_BRACE, tokens) {
         labelled(alloc, words, levels, tokens)
     } else if next_is(words, IF, tokens) {

@@ -5,13 +5,13 @@ ghost use Rattle.grammar.specs.Syntax.{sees, one};
 ghost use Rattle.c_syntax.specs.Tokens.{plain_token_kind};
 ghost use Rattle.c_model.specs.Terminals.{placed};
 ghost use Rattle.mon_syntax.specs.Grammar.{kind, first_expression, first_argument, first_statement, first_function, fixed, name, number_of, text_of};
-ghost use Rattle.mon_syntax.specs.Grammar.{type_of, constant_of, is_one, is_head, type_of_word, constant_of_word};
+ghost use Rattle.mon_syntax.specs.Grammar.{type_of, constant_of, is_number, is_same_name, is_head, type_of_word, constant_of_word};
 ghost use Rattle.mon_parser.specs.ParsedTrees.{plain_name};
 ghost use Rattle.token_reader.specs.Reading.{Gives, TakesNoMemory, plain_list};
 
 use crate::kinds::{
-    CONSTANT, GOTO, HEAD, IF, LEFT_BRACE, LEFT_PAREN, NAME, NUMBER, RETURN, TEXT, TYPE, VOID,
-    WHILE, kind, word_at, word_kind,
+    CONSTANT, GOTO, HEAD, IF, LEFT_BRACE, LEFT_PAREN, NAME, NUMBER, RETURN, TEXT, TIMES, TYPE,
+    VOID, WHILE, kind, word_at, word_kind,
 };
 use crate::parsed::NameUse;
 use c_syntax::fault::ReadFault;
@@ -59,7 +59,13 @@ pub fn next_begins_statement(words: &[Word], tokens: &[Token]) -> bool
         [] => false,
         [token, ..] => {
             let k = kind(words, token);
-            k == NAME || k == LEFT_BRACE || k == IF || k == WHILE || k == GOTO || k == RETURN
+            k == NAME
+                || k == TIMES
+                || k == LEFT_BRACE
+                || k == IF
+                || k == WHILE
+                || k == GOTO
+                || k == RETURN
         }
     }
 }
@@ -220,15 +226,41 @@ pub fn constant_word<'a>(
     }
 }
 
-/// The number 1, by its place.
-pub fn one(tokens: &[Token]) -> Result<(Place, &[Token]), ReadFault>
-    ensures read { Gives (λ x. ((tt, x.0), plain_list x.1.now)) result ((one (placed is_one)).parse (plain_list tokens.now)) }
+/// This number, by its place.
+pub fn this_number(wanted: usize, tokens: &[Token]) -> Result<(Place, &[Token]), ReadFault>
+    ensures read { Gives (λ x. ((tt, x.0), plain_list x.1.now)) result ((one (placed (is_number wanted))).parse (plain_list tokens.now)) }
     ensures sure { IfErr result TakesNoMemory }
 {
     match tokens {
         [] => Err(ReadFault::At(0)),
         [token, rest @ ..] => match &token.kind {
-            TokenKind::Number(1, _) => Ok((token.place, rest)),
+            TokenKind::Number(value, _) => {
+                if *value == wanted as i128 {
+                    Ok((token.place, rest))
+                } else {
+                    Err(ReadFault::At(left(tokens)))
+                }
+            }
+            _ => Err(ReadFault::At(left(tokens))),
+        },
+    }
+}
+
+/// The name with this number, by its place.
+pub fn same_name(wanted: u32, tokens: &[Token]) -> Result<(Place, &[Token]), ReadFault>
+    ensures read { Gives (λ x. ((tt, x.0), plain_list x.1.now)) result ((one (placed (is_same_name wanted))).parse (plain_list tokens.now)) }
+    ensures sure { IfErr result TakesNoMemory }
+{
+    match tokens {
+        [] => Err(ReadFault::At(0)),
+        [token, rest @ ..] => match &token.kind {
+            TokenKind::Word(number) => {
+                if *number == wanted {
+                    Ok((token.place, rest))
+                } else {
+                    Err(ReadFault::At(left(tokens)))
+                }
+            }
             _ => Err(ReadFault::At(left(tokens))),
         },
     }

@@ -19,6 +19,12 @@ decreases-cast l = 10 * l.room + 5
 abbrev pub decreases-cast_operand : goal.decreases-cast_operand
 decreases-cast_operand l = 10 * l.room + 4
 
+abbrev pub decreases-load : goal.decreases-load
+decreases-load l = 10 * l.room + 5
+
+abbrev pub decreases-load_operand : goal.decreases-load_operand
+decreases-load_operand l = 10 * l.room + 4
+
 abbrev pub decreases-plain_operation : goal.decreases-plain_operation
 decreases-plain_operation l = 10 * l.room + 6
 
