@@ -4,11 +4,11 @@ use Rattle.c_syntax.specs.declared.place.Place.{Place}
 use Rattle.mon_syntax.specs.declared.tree.MonType.{MonType}
 use Rattle.mon_syntax.specs.Trees.{MonExpression, MonStatement}
 use Rattle.mon_syntax.specs.Parsed.{ParsedArgument}
-use Rattle.mon_syntax.specs.Checking.{Scope, Checked, ◌>>=◌, ◌>>◌, type_fault, value_of_type, others, no_more, next}
+use Rattle.mon_syntax.specs.Checking.{Scope, Checked, ◌>>=◌, ◌>>◌, type_fault, value_of_type, others, no_more, next, one_value}
 use Rattle.mon_typing.specs.declared.fault.CheckFault.{CheckFault}
 use Rattle.mon_typing.specs.Answers.{Fails}
 use Rattle.mon_typing.specs.Arguments.{first_of, only_value}
-use Rattle.mon_typing.proofs.Parts.{takes, fails_at, fails_along, more_fails, none_more}
+use Rattle.mon_typing.proofs.Parts.{takes, fails_at, fails_after, fails_along, more_fails, none_more}
 
 abbrev Arguments : Type 0
 Arguments = List ParsedArgument
@@ -54,3 +54,6 @@ module _ (s : Scope) (at : Place) where
   pub made_of_only : {A B : Type 0} (f : ParsedArgument → Checked A) (xs : Arguments) (go : A → B) → next s at f xs (λ x ys. no_more s at ys (go x)) ≡ (next s at f xs (λ x ys. no_more s at ys x) >>= λ x. Ok (go x))
   made_of_only f [] go = refl
   made_of_only f (x ∷ xs) go = made_of_one (f x) xs go
+
+  pub one_value_fails : (t : MonType) (xs : Arguments) (f : MonExpression → MonStatement) (e : CheckFault) → Fails e (only_value s at t xs) → Fails e (one_value s at t xs f)
+  one_value_fails t xs f e h = fails_along e _ _ (made_of_only (value_of_type s t) xs f) (fails_after e (only_value s at t xs) (λ v. Ok (f v)) h)

@@ -9,14 +9,14 @@ use Rattle.mon_syntax.specs.declared.tree.Register.{Register}
 use Rattle.mon_syntax.specs.Trees as tree
 use Rattle.mon_syntax.specs.Trees.{MonRegister, MonStatements}
 use Rattle.mon_syntax.specs.Parsed as plain
-use Rattle.mon_syntax.specs.Grammar.{Vocabulary, word_at}
-use Rattle.mon_syntax.specs.Checking.{Header, Checked, ◌>>=◌, name_fault, is_free, checked_registers, named_register, word_bytes, scope_of, function_of, checked_statements, checked_function}
+use Rattle.mon_syntax.specs.Grammar.{Vocabulary}
+use Rattle.mon_syntax.specs.Checking.{Header, Checked, ◌>>=◌, name_fault, is_new, checked_registers, named_register, word_bytes, scope_of, function_of, checked_statements, checked_function}
 use Rattle.mon_parser.specs.declared.parsed.ParsedRegister.{ParsedRegister}
 use Rattle.mon_parser.specs.ParsedTrees.{plain_register}
 use Rattle.mon_typing.specs.declared.fault.CheckFault.{CheckFault}
 use Rattle.mon_typing.specs.Answers.{Fails}
 use Rattle.mon_typing.specs.Functions.{registers_of, body_of, named_function}
-use Rattle.mon_typing.specs.Scopes.{numbered, is_new}
+use Rattle.mon_typing.specs.Scopes.{numbered, is_new_register}
 use Rattle.mon_typing.proofs.Parts.{fails_after}
 use Rattle.mon_typing.proofs.Registers.{insert_new}
 
@@ -36,26 +36,27 @@ not_known true false h = refl
 not_known false any h = absurd cc
 
 -- the registers, from one of them on
-from : Vocabulary → Registers → plain.ParsedRegister → List plain.ParsedRegister → Bool → Checked Registers
-from ws known r rs b = cond b (checked_registers ws (known ++ (r.name.number, r.kind) ∷ []) rs) (name_fault r.name.place)
+from : Vocabulary → List ℕ → Registers → plain.ParsedRegister → List plain.ParsedRegister → Bool → Checked Registers
+from ws globals known r rs b = cond b (checked_registers ws globals (known ++ (r.name.number, r.kind) ∷ []) rs) (name_fault r.name.place)
 
-pub next_register : (ws : Vocabulary) (rs : List ParsedRegister) (i : ℕ) (d : ParsedRegister) (known more : Registers) (total : Checked Registers) → i < length rs → is_new ws known (get_or rs i d).name.number ≡ true
-    → more ≡ insert_entry nat_eq known (get_or rs i d).name.number (get_or rs i d).kind → checked_registers ws known (map plain_register (drop i rs)) ≡ total → checked_registers ws more (map plain_register (drop (i + 1) rs)) ≡ total
+pub next_register : (ws : Vocabulary) (globals : List ℕ) (rs : List ParsedRegister) (i : ℕ) (d : ParsedRegister) (known more : Registers) (total : Checked Registers)
+    → i < length rs → is_new_register ws globals known (get_or rs i d).name.number ≡ true
+    → more ≡ insert_entry nat_eq known (get_or rs i d).name.number (get_or rs i d).kind → checked_registers ws globals known (map plain_register (drop i rs)) ≡ total → checked_registers ws globals more (map plain_register (drop (i + 1) rs)) ≡ total
 unfolding from
-next_register ws rs i d known more total lt new is so_far =
+next_register ws globals rs i d known more total lt new is so_far =
     let r : ParsedRegister = get_or rs i d in
     let rest : List plain.ParsedRegister = map plain_register (drop (i + 1) rs) in
-    let last : insert_entry nat_eq known r.name.number r.kind ≡ known ++ (r.name.number, r.kind) ∷ [] = insert_new r.name.number r.kind known (not_known (is_free (word_at ws r.name.number)) _ new) in
-    ap (λ (k : Registers). checked_registers ws k rest) (is ∙ last) ∙ sym (ap (from ws known (plain_register r) rest) new)
-    ∙ sym (ap (λ (l : List ParsedRegister). checked_registers ws known (map plain_register l)) (at_next rs i d lt)) ∙ so_far
+    let last : insert_entry nat_eq known r.name.number r.kind ≡ known ++ (r.name.number, r.kind) ∷ [] = insert_new r.name.number r.kind known (not_known (is_new ws globals r.name.number) _ new) in
+    ap (λ (k : Registers). checked_registers ws globals k rest) (is ∙ last) ∙ sym (ap (from ws globals known (plain_register r) rest) new)
+    ∙ sym (ap (λ (l : List ParsedRegister). checked_registers ws globals known (map plain_register l)) (at_next rs i d lt)) ∙ so_far
 
-pub register_clashes : (ws : Vocabulary) (rs : List ParsedRegister) (i : ℕ) (d : ParsedRegister) (known : Registers) (total : Checked Registers) → i < length rs → is_new ws known (get_or rs i d).name.number ≡ false
-    → checked_registers ws known (map plain_register (drop i rs)) ≡ total → total ≡ name_fault (get_or rs i d).name.place
+pub register_clashes : (ws : Vocabulary) (globals : List ℕ) (rs : List ParsedRegister) (i : ℕ) (d : ParsedRegister) (known : Registers) (total : Checked Registers) → i < length rs → is_new_register ws globals known (get_or rs i d).name.number ≡ false
+    → checked_registers ws globals known (map plain_register (drop i rs)) ≡ total → total ≡ name_fault (get_or rs i d).name.place
 unfolding from
-register_clashes ws rs i d known total lt old so_far =
+register_clashes ws globals rs i d known total lt old so_far =
     let r : ParsedRegister = get_or rs i d in
     let rest : List plain.ParsedRegister = map plain_register (drop (i + 1) rs) in
-    sym so_far ∙ ap (λ (l : List ParsedRegister). checked_registers ws known (map plain_register l)) (at_next rs i d lt) ∙ ap (from ws known (plain_register r) rest) old
+    sym so_far ∙ ap (λ (l : List ParsedRegister). checked_registers ws globals known (map plain_register l)) (at_next rs i d lt) ∙ ap (from ws globals known (plain_register r) rest) old
 
 pub next_named : (names : List (List ℕ)) (rs : List ParsedRegister) (i : ℕ) (d : ParsedRegister) (done more : List Register) (one : Register) (total : List MonRegister) → i < length rs → more ≡ done ++ one ∷ []
     → tree.plain_register one ≡ named_register names ((get_or rs i d).name.number, (get_or rs i d).kind)
@@ -68,16 +69,16 @@ next_named names rs i d done more one total lt is e so_far =
 
 -- ---- the registers that are known are those of the function
 
-behind_known : (ws : Vocabulary) (known all : Registers) (r : plain.ParsedRegister) (rs : List plain.ParsedRegister) (b : Bool)
-    → (checked_registers ws (known ++ (r.name.number, r.kind) ∷ []) rs ≡ Ok all → all ≡ (known ++ (r.name.number, r.kind) ∷ []) ++ numbered rs) → from ws known r rs b ≡ Ok all → all ≡ known ++ ((r.name.number, r.kind) ∷ numbered rs)
+behind_known : (ws : Vocabulary) (globals : List ℕ) (known all : Registers) (r : plain.ParsedRegister) (rs : List plain.ParsedRegister) (b : Bool)
+    → (checked_registers ws globals (known ++ (r.name.number, r.kind) ∷ []) rs ≡ Ok all → all ≡ (known ++ (r.name.number, r.kind) ∷ []) ++ numbered rs) → from ws globals known r rs b ≡ Ok all → all ≡ known ++ ((r.name.number, r.kind) ∷ numbered rs)
 unfolding from
-behind_known ws known all r rs true h e = h e ∙ append_assoc known ((r.name.number, r.kind) ∷ []) (numbered rs)
-behind_known ws known all r rs false h e = absurd cc
+behind_known ws globals known all r rs true h e = h e ∙ append_assoc known ((r.name.number, r.kind) ∷ []) (numbered rs)
+behind_known ws globals known all r rs false h e = absurd cc
 
-pub known_are : (ws : Vocabulary) (known all : Registers) (rs : List plain.ParsedRegister) → checked_registers ws known rs ≡ Ok all → all ≡ known ++ numbered rs
+pub known_are : (ws : Vocabulary) (globals : List ℕ) (known all : Registers) (rs : List plain.ParsedRegister) → checked_registers ws globals known rs ≡ Ok all → all ≡ known ++ numbered rs
 unfolding from
-known_are ws known all [] e = let f : known ≡ all = cc in sym f ∙ sym (append-nil known)
-known_are ws known all (r ∷ rs) e = behind_known ws known all r rs (is_new ws known r.name.number) (known_are ws (known ++ (r.name.number, r.kind) ∷ []) all rs) e
+known_are ws globals known all [] e = let f : known ≡ all = cc in sym f ∙ sym (append-nil known)
+known_are ws globals known all (r ∷ rs) e = behind_known ws globals known all r rs (is_new_register ws globals known r.name.number) (known_are ws globals (known ++ (r.name.number, r.kind) ∷ []) all rs) e
 
 from_second : {B C D : Type 0} (e : CheckFault) (c : Checked B) (h : B → Checked C) (k : B → C → Checked D) → Fails e (c >>= h) → Fails e (c >>= λ b. h b >>= k b)
 from_second e (Ok b) h k f = fails_after e (h b) (k b) f
@@ -91,21 +92,21 @@ all_fail : {A B C D : Type 0} (e : CheckFault) (c : Checked A) (g : A → Checke
 all_fail {A} {B} {C} {D} e (Ok a) g h k f = from_second e (g a) h (k a) f
 all_fail {A} {B} {C} {D} e (Err x) g h k f = fails_after e (Err x) (λ (c : C). Err x) f
 
-module _ (names : List (List ℕ)) (ws : Vocabulary) (gs : List Header) (f : plain.ParsedFunction) where
+module _ (names : List (List ℕ)) (ws : Vocabulary) (gs : List Header) (globals : List ℕ) (f : plain.ParsedFunction) where
   abbrev statements : Registers → Checked MonStatements
-  statements all = checked_statements (scope_of names ws gs all) f.result [] f.body
+  statements all = checked_statements (scope_of names ws gs globals all) f.result [] f.body
 
-  pub body_fails : (e : CheckFault) → Fails e (body_of names ws gs f) → Fails e (checked_function names ws gs f)
-  body_fails e k = all_fail e (checked_registers ws [] f.parameters) (λ ps. checked_registers ws ps f.registers) statements (λ ps rs body. Ok (function_of names f ps rs body)) k
+  pub body_fails : (e : CheckFault) → Fails e (body_of names ws gs globals f) → Fails e (checked_function names ws gs globals f)
+  body_fails e k = all_fail e (checked_registers ws globals [] f.parameters) (λ ps. checked_registers ws globals ps f.registers) statements (λ ps rs body. Ok (function_of names f ps rs body)) k
 
-  pub function_checked : (body : MonStatements) → body_of names ws gs f ≡ Ok body → checked_function names ws gs f ≡ Ok (named_function names f body)
+  pub function_checked : (body : MonStatements) → body_of names ws gs globals f ≡ Ok body → checked_function names ws gs globals f ≡ Ok (named_function names f body)
   function_checked body h =
-      let s = body_ok (registers_of ws f) statements body h in
+      let s = body_ok (registers_of ws globals f) statements body h in
       let all = s.0 in
-      let b = body_ok (checked_registers ws [] f.parameters) (λ ps. checked_registers ws ps f.registers) all s.1 in
-      let first : b.0 ≡ numbered f.parameters = known_are ws [] b.0 f.parameters b.1 in
-      let second : drop (length b.0) all ≡ numbered f.registers = ap (drop (length b.0)) (known_are ws b.0 all f.registers b.2) ∙ drop-append_seam b.0 (numbered f.registers) in
-      (λ i. b.1 i >>= λ ps. checked_registers ws ps f.registers >>= λ rs. statements rs >>= λ body. Ok (function_of names f ps rs body))
+      let b = body_ok (checked_registers ws globals [] f.parameters) (λ ps. checked_registers ws globals ps f.registers) all s.1 in
+      let first : b.0 ≡ numbered f.parameters = known_are ws globals [] b.0 f.parameters b.1 in
+      let second : drop (length b.0) all ≡ numbered f.registers = ap (drop (length b.0)) (known_are ws globals b.0 all f.registers b.2) ∙ drop-append_seam b.0 (numbered f.registers) in
+      (λ i. b.1 i >>= λ ps. checked_registers ws globals ps f.registers >>= λ rs. statements rs >>= λ body. Ok (function_of names f ps rs body))
       ∙ (λ i. b.2 i >>= λ rs. statements rs >>= λ body. Ok (function_of names f b.0 rs body))
       ∙ ap (λ (c : Checked MonStatements). c >>= λ body. Ok (function_of names f b.0 all body)) s.2
       ∙ (λ i. Ok (record { result = f.result; name = word_bytes names f.name.number; parameters = map (named_register names) (first i); registers = map (named_register names) (second i); body = body }))

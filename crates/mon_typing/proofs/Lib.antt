@@ -1,6 +1,8 @@
 -- names and registers
 pub mod Names
 pub mod Registers
+pub mod GlobalNumbers
+pub mod Rooms
 pub mod Headers
 pub mod Labels
 -- the program is what the definition says
@@ -11,6 +13,7 @@ pub mod Calls
 pub mod Statements
 pub mod Functions
 pub mod Programs
+pub mod WholeTexts
 -- what is checked is valid
 pub mod Holds
 pub mod Words

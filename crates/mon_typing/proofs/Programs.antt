@@ -71,13 +71,13 @@ one_more : (done : List MonFunc) (g : MonFunc) (c : Checked (List MonFunction)) 
 one_more done g (Ok rest) = ap Ok (sym (append_assoc (map tree.plain_func done) (tree.plain_func g ∷ []) rest) ∙ ap (λ (l : List MonFunction). l ++ rest) (sym (map-append tree.plain_func done (g ∷ []))))
 one_more done g (Err e) = refl
 
-module _ (names : List (List ℕ)) (ws : Vocabulary) (gs : List Header) where
+module _ (names : List (List ℕ)) (ws : Vocabulary) (gs : List Header) (globals : List ℕ) where
   abbrev from : List ℕ → Functions → Checked (List MonFunction)
-  from before fs = checked_functions names ws gs before (map plain_func fs)
+  from before fs = checked_functions names ws gs globals before (map plain_func fs)
 
   -- the functions, from one of them on, whose name is new or not
   with_name : Bool → List ℕ → ParsedFunc → Functions → Checked (List MonFunction)
-  with_name b before f fs = cond b (Ok tt) (name_fault {A = Unit {0}} f.name.place) >>= λ u. checked_function names ws gs (plain_func f) >>= λ g. from (name_of f ∷ before) fs >>= λ rest. Ok (g ∷ rest)
+  with_name b before f fs = cond b (Ok tt) (name_fault {A = Unit {0}} f.name.place) >>= λ u. checked_function names ws gs globals (plain_func f) >>= λ g. from (name_of f ∷ before) fs >>= λ rest. Ok (g ∷ rest)
 
   abbrev IsNew : ℕ → ParsedFunc → Bool
   IsNew i f = is_free (word_at ws (name_of f)) && is_at i (find_function 0 gs (name_of f))
@@ -90,7 +90,7 @@ module _ (names : List (List ℕ)) (ws : Vocabulary) (gs : List Header) where
       ap (from (names_before i fs)) (rest_is fs i f lt at) ∙ ap (λ c. with_name c (names_before i fs) f (drop (i + 1) fs)) e
 
   next_function : (fs : Functions) (i : ℕ) (f : ParsedFunc) (done more : List MonFunc) (g : MonFunc) (total : Checked (List MonFunction)) → gs ≡ headers fs → i < length fs → f ≡ get_or fs i f → IsNew i f ≡ true
-      → checked_function names ws gs (plain_func f) ≡ Ok (tree.plain_func g) → more ≡ done ++ g ∷ [] → behind_functions done (from (names_before i fs) (drop i fs)) ≡ total
+      → checked_function names ws gs globals (plain_func f) ≡ Ok (tree.plain_func g) → more ≡ done ++ g ∷ [] → behind_functions done (from (names_before i fs) (drop i fs)) ≡ total
       → behind_functions more (from (names_before (i + 1) fs) (drop (i + 1) fs)) ≡ total
   unfolding with_name
   next_function fs i f done more g total are lt at new checked with_it so_far =
@@ -98,12 +98,12 @@ module _ (names : List (List ℕ)) (ws : Vocabulary) (gs : List Header) where
       ∙ sym (ap (behind_functions done) (named_at fs i f true are lt at new ∙ ap (λ (c : Checked MonFunction). c >>= λ g. from (name_of f ∷ names_before i fs) (drop (i + 1) fs) >>= λ rest. Ok (g ∷ rest)) checked)) ∙ so_far
 
   function_fails : (fs : Functions) (i : ℕ) (f : ParsedFunc) (done : List MonFunc) (e : CheckFault) (total : Checked (List MonFunction)) → gs ≡ headers fs → i < length fs → f ≡ get_or fs i f → IsNew i f ≡ true
-      → Fails e (checked_function names ws gs (plain_func f)) → behind_functions done (from (names_before i fs) (drop i fs)) ≡ total → Fails e total
+      → Fails e (checked_function names ws gs globals (plain_func f)) → behind_functions done (from (names_before i fs) (drop i fs)) ≡ total → Fails e total
   unfolding with_name
   function_fails fs i f done e total are lt at new fails so_far =
       fails_along e _ _ (sym so_far)
       (fails_after e (from (names_before i fs) (drop i fs)) (λ gs. Ok (map tree.plain_func done ++ gs))
-      (fails_along e _ _ (named_at fs i f true are lt at new) (fails_after e (checked_function names ws gs (plain_func f)) (λ g. from (name_of f ∷ names_before i fs) (drop (i + 1) fs) >>= λ rest. Ok (g ∷ rest)) fails)))
+      (fails_along e _ _ (named_at fs i f true are lt at new) (fails_after e (checked_function names ws gs globals (plain_func f)) (λ g. from (name_of f ∷ names_before i fs) (drop (i + 1) fs) >>= λ rest. Ok (g ∷ rest)) fails)))
 
   name_clashes : (fs : Functions) (i : ℕ) (f : ParsedFunc) (done : List MonFunc) (total : Checked (List MonFunction)) → gs ≡ headers fs → i < length fs → f ≡ get_or fs i f → IsNew i f ≡ false
       → behind_functions done (from (names_before i fs) (drop i fs)) ≡ total → total ≡ name_fault f.name.place
@@ -113,7 +113,7 @@ module _ (names : List (List ℕ)) (ws : Vocabulary) (gs : List Header) where
   -- ---- the next function, whose name is new or not
 
   abbrev chosen : Bool → ParsedFunc → Checked MonFunction
-  chosen b f = cond b (checked_function names ws gs (plain_func f)) (name_fault f.name.place)
+  chosen b f = cond b (checked_function names ws gs globals (plain_func f)) (name_fault f.name.place)
 
   one_fails_at : (fs : Functions) (i : ℕ) (f : ParsedFunc) (done : List MonFunc) (e : CheckFault) (total : Checked (List MonFunction)) (b : Bool) → gs ≡ headers fs → i < length fs → f ≡ get_or fs i f → IsNew i f ≡ b
       → Fails e (chosen b f) → behind_functions done (from (names_before i fs) (drop i fs)) ≡ total → Fails e total
@@ -122,7 +122,7 @@ module _ (names : List (List ℕ)) (ws : Vocabulary) (gs : List Header) where
       fails_along e _ _ (name_clashes fs i f done total are lt at old so_far) (fails_after e (name_fault {A = MonFunction} f.name.place) (λ g. name_fault {A = List MonFunction} f.name.place) k)
 
   pub one_fails : (fs : Functions) (i : ℕ) (f : ParsedFunc) (done : List MonFunc) (e : CheckFault) (total : Checked (List MonFunction)) → gs ≡ headers fs → i < length fs → f ≡ get_or fs i f
-      → Fails e (checked.next_function names ws gs i (plain_func f)) → behind_functions done (from (names_before i fs) (drop i fs)) ≡ total → Fails e total
+      → Fails e (checked.next_function names ws gs globals i (plain_func f)) → behind_functions done (from (names_before i fs) (drop i fs)) ≡ total → Fails e total
   one_fails fs i f done e total are lt at k so_far = one_fails_at fs i f done e total (IsNew i f) are lt at refl k so_far
 
   one_checked_at : (fs : Functions) (i : ℕ) (f : ParsedFunc) (done more : List MonFunc) (g : MonFunc) (total : Checked (List MonFunction)) (b : Bool) → gs ≡ headers fs → i < length fs → f ≡ get_or fs i f → IsNew i f ≡ b
@@ -131,6 +131,6 @@ module _ (names : List (List ℕ)) (ws : Vocabulary) (gs : List Header) where
   one_checked_at fs i f done more g total false are lt at old k with_it so_far = absurd cc
 
   pub one_checked : (fs : Functions) (i : ℕ) (f : ParsedFunc) (done more : List MonFunc) (g : MonFunc) (total : Checked (List MonFunction)) → gs ≡ headers fs → i < length fs → f ≡ get_or fs i f
-      → checked.next_function names ws gs i (plain_func f) ≡ Ok (tree.plain_func g) → more ≡ done ++ g ∷ [] → behind_functions done (from (names_before i fs) (drop i fs)) ≡ total
+      → checked.next_function names ws gs globals i (plain_func f) ≡ Ok (tree.plain_func g) → more ≡ done ++ g ∷ [] → behind_functions done (from (names_before i fs) (drop i fs)) ≡ total
       → behind_functions more (from (names_before (i + 1) fs) (drop (i + 1) fs)) ≡ total
   one_checked fs i f done more g total are lt at k with_it so_far = one_checked_at fs i f done more g total (IsNew i f) are lt at refl k with_it so_far

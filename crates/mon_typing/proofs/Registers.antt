@@ -1,13 +1,12 @@
 -- Registers by their names' numbers, in a map.
-use Rattle.std.proofs.Common.{◌≡◌, ℕ, suc, ◌+◌, Bool, true, false, cond, not, eqb, List, [], ◌∷◌, Some, None, option_map, position, nat_eq, is_some, ◌||◌, ◌&&◌, ◌++◌, Ok, refl, sym, ap, ◌∙◌, arith}
+use Rattle.std.proofs.Common.{◌≡◌, ℕ, suc, ◌+◌, Bool, true, false, cond, not, eqb, List, [], ◌∷◌, Some, None, option_map, position, nat_eq, is_some, ◌||◌, ◌&&◌, ◌++◌, refl, sym, ap, ◌∙◌, arith}
 use Rattle.std.specs.List.{position_or_len, list_any}
 use Rattle.std.specs.Map.{keys_of, lookup}
 use Rattle.indexmap.specs.IndexMap.{insert_entry}
-use Rattle.c_syntax.specs.declared.place.Place.{Place}
 use Rattle.mon_syntax.specs.declared.tree.MonType.{MonType}
-use Rattle.mon_syntax.specs.Grammar.{Vocabulary, word_at}
-use Rattle.mon_syntax.specs.Checking.{find_register, or_fault, name_fault, is_free}
-use Rattle.mon_typing.specs.Scopes.{is_new}
+use Rattle.mon_syntax.specs.Grammar.{Vocabulary}
+use Rattle.mon_syntax.specs.Checking.{find_register, is_new}
+use Rattle.mon_typing.specs.Scopes.{is_new_register}
 
 abbrev Registers : Type 0
 Registers = List (ℕ × MonType)
@@ -31,14 +30,14 @@ position_is : (b : Bool) (i k : ℕ) → cond b (Some k) None ≡ Some i → k �
 position_is true i k e = cc
 position_is false i k e = absurd cc
 
-pub register_found : (es : Registers) (x i n : ℕ) (t : MonType) (at : Place) → Some i ≡ position (nat_eq x) (keys_of es) → Some t ≡ lookup (nat_eq x) es → n ≡ i → or_fault (find_register 0 es x) at ≡ Ok (n, t)
-register_found es x i n t at p v e =
+pub register_found : (es : Registers) (x i n : ℕ) (t : MonType) → Some i ≡ position (nat_eq x) (keys_of es) → Some t ≡ lookup (nat_eq x) es → n ≡ i → Some (n, t) ≡ find_register 0 es x
+register_found es x i n t p v e =
     let k : position_or_len (nat_eq x) (keys_of es) ≡ i = position_is _ i _ (sym p) in
     let z : 0 + position_or_len (nat_eq x) (keys_of es) ≡ n = omega (arith, k, e) in
-    ap (λ r. or_fault r at) (find_is es x 0 ∙ ap (option_map (λ (u : MonType). (0 + position_or_len (nat_eq x) (keys_of es), u))) (sym v)) ∙ ap (λ (k : ℕ). Ok (k, t)) z
+    sym (find_is es x 0 ∙ ap (option_map (λ (u : MonType). (0 + position_or_len (nat_eq x) (keys_of es), u))) (sym v) ∙ ap (λ (k : ℕ). Some (k, t)) z)
 
-pub register_absent : (es : Registers) (x : ℕ) (at : Place) → None ≡ lookup (nat_eq x) es → or_fault (find_register 0 es x) at ≡ name_fault at
-register_absent es x at v = ap (λ r. or_fault r at) (find_is es x 0 ∙ ap (option_map (λ (u : MonType). (0 + position_or_len (nat_eq x) (keys_of es), u))) (sym v))
+pub register_absent : (es : Registers) (x : ℕ) → None ≡ lookup (nat_eq x) es → None ≡ find_register 0 es x
+register_absent es x v = sym (find_is es x 0 ∙ ap (option_map (λ (u : MonType). (0 + position_or_len (nat_eq x) (keys_of es), u))) (sym v))
 
 -- ---- new registers go last
 
@@ -63,5 +62,5 @@ module _ {V : Type 0} where
   insert_new n v [] z = refl
   insert_new n v (e ∷ es) z = insert_next n v e es (eqb n e.0) (insert_new n v es) (rw (eqb_sym e.0 n) at z)
 
-pub new_is : (ws : Vocabulary) (es : Registers) (n : ℕ) (b : Bool) → b ≡ is_some (lookup (nat_eq n) es) → is_free (word_at ws n) ≡ true → not b ≡ is_new ws es n
-new_is ws es n b h free = ap not (h ∙ is_known n es) ∙ sym (ap (λ (f : Bool). f && not (list_any (named n) es)) free)
+pub new_is : (ws : Vocabulary) (globals : List ℕ) (es : Registers) (n : ℕ) (b : Bool) → b ≡ is_some (lookup (nat_eq n) es) → is_new ws globals n ≡ true → not b ≡ is_new_register ws globals es n
+new_is ws globals es n b h new = ap not (h ∙ is_known n es) ∙ sym (ap (λ (f : Bool). f && not (list_any (named n) es)) new)

@@ -1,25 +1,27 @@
 -- Checked expressions and calls are valid.
-use Rattle.std.proofs.Common.{◌≡◌, ℕ, suc, ◌+◌, ◌<◌, ◌≤◌, max, Bool, true, false, ◌&&◌, cond, List, [], ◌∷◌, map, Option, Some, None, slice_get, option_map, Ok, Err, eqb, leb, leb-true, codes, unsigned_abs, bytes_eq, refl, sym, ap, subst, ◌∙◌, arith}
+use Rattle.std.proofs.Common.{◌≡◌, ℕ, suc, ◌+◌, ◌<◌, ◌≤◌, max, Bool, true, false, ◌&&◌, cond, List, [], ◌∷◌, length, map, Option, Some, None, slice_get, option_map, Ok, Err, eqb, leb, leb-true, codes, unsigned_abs, bytes_eq}
+use Rattle.std.proofs.Common.{refl, sym, ap, subst, ◌∙◌, arith}
 use Rattle.std.proofs.lemmas.Option.{slice_get-map}
 use Rattle.std.specs.List.{AllByRecursion}
 use Rattle.c_syntax.specs.declared.place.Place.{Place}
 use Rattle.mon_syntax.specs.declared.tree.MonType.{MonType}
 use Rattle.mon_syntax.specs.declared.tree.MonType.TheVariants.{I8, U8, I16, U16, I32, U32, I64, U64, I128, Ptr}
 use Rattle.mon_syntax.specs.declared.tree.MemoryCall.{MemoryCall}
-use Rattle.mon_syntax.specs.declared.tree.MemoryCall.TheVariants.{StoreBlock, DeleteBlock}
+use Rattle.mon_syntax.specs.declared.tree.MemoryCall.TheVariants as memory_call
 use Rattle.mon_syntax.specs.declared.word.Runtime.{Runtime}
 use Rattle.mon_syntax.specs.declared.word.Runtime.TheVariants as runtime
 use Rattle.mon_syntax.specs.declared.word.Word.{Word}
 use Rattle.mon_syntax.specs.declared.word.Word.TheVariants as word
 use Rattle.mon_syntax.specs.Trees as tree
 use Rattle.mon_syntax.specs.Trees.{MonExpression, MonStatement}
-use Rattle.mon_syntax.specs.Parsed.{NameUse, ParsedExpression, Name, Constant, Binary, Minus, Flip, Cast, ParsedArgument, Value, Number, Text, ParsedCall}
+use Rattle.mon_syntax.specs.Parsed.{NameUse, ParsedExpression, Name, Constant, Binary, Minus, Flip, Cast, Load, ParsedArgument, Value, Number, Text, ParsedCall}
 use Rattle.mon_syntax.specs.Grammar.{word_at, is_step_word, has_no_argument}
 use Rattle.mon_syntax.specs.Valid as valid
-use Rattle.mon_syntax.specs.Valid.{Types, HasType, IsExpression, Labels, TakesValue, AreArguments, Signature, IsStatement, is_arithmetic, is_whole, memory_parameters, result_type, has_constant, greatest_number}
-use Rattle.mon_syntax.specs.Checking.{Header, Scope, Typed, Checked, ◌>>=◌, ◌>>◌, demanded, same_type, type_fault, find_register, find_function, or_fault, register_of, function_called, bytes_of, word_bytes, result_of, place_of, checked_expression}
-use Rattle.mon_syntax.specs.Checking.{of_type, value_of_type, small_number, string, kind_named, others, wrong_number, no_more, next, assert_call, one_value, arguments_of, memory_call, runtime_call, named_call, call_of_word, checked_call, taken}
-use Rattle.mon_syntax.specs.Checking.{returned}
+use Rattle.mon_syntax.specs.Valid.{Types, HasType, IsExpression, Labels, TakesValue, AreArguments, Signature, IsStatement, is_arithmetic, is_whole, memory_parameters, has_operator, second_type}
+use Rattle.mon_syntax.specs.Valid.{result_type, has_constant, greatest_number}
+use Rattle.mon_syntax.specs.Checking.{Header, Scope, Typed, Checked, ◌>>=◌, ◌>>◌, demanded, same_type, type_fault, find_register, find_global, find_function, or_fault, function_called, bytes_of, word_bytes, result_of, place_of, checked_expression}
+use Rattle.mon_syntax.specs.Checking.{of_type, value_of_type, small_number, size_named, string, kind_named, others, wrong_number, no_more, next, assert_call, one_value, arguments_of, simple_call, number_call, runtime_call, named_call}
+use Rattle.mon_syntax.specs.Checking.{call_of_word, checked_call, taken, returned, global_or_fault, register_or_global, target_or_fault, target_of, register_or_fault}
 use Rattle.mon_typing.specs.Within.{open_parens, HasFewParens, IsArgumentWithin, HasFewParensWhereAny}
 use Rattle.mon_typing.proofs.Headers.{Stands, stands}
 use Rattle.mon_typing.proofs.Holds.{Holds, holds_behind, holds_where, holds_all, first_true, second_true}
@@ -58,9 +60,27 @@ found : (n : ℕ) (rs : List (ℕ × MonType)) (x : ℕ) → Found n rs (find_re
 found n [] x = tt
 found n (r ∷ rs) x = found_at n r rs (find_register (suc n) rs x) (eqb r.0 x) (found (suc n) rs x)
 
-holds_found : (rs : List (ℕ × MonType)) (o : Option (ℕ × MonType)) (at : Place) → Found 0 rs o → Holds (λ r. slice_get (kinds rs) r.0 ≡ Some r.1) (or_fault o at)
-holds_found rs None at h = tt
-holds_found rs (Some r) at h = let e : r.0 ≡ h.0 = omega (arith, h.1) in ap (slice_get (kinds rs)) e ∙ h.2
+-- a register that is found stands at its number
+found_stands : (rs : List (ℕ × MonType)) (r : ℕ × MonType) → Found 0 rs (Some r) → slice_get (kinds rs) r.0 ≡ Some r.1
+found_stands rs r h = let e : r.0 ≡ h.0 = omega (arith, h.1) in ap (slice_get (kinds rs)) e ∙ h.2
+
+-- ---- globals
+
+abbrev FoundGlobal : ℕ → List ℕ → Option ℕ → Type 0
+FoundGlobal n gs None = Unit {0}
+FoundGlobal n gs (Some g) = g < n + length gs
+
+global_later : (n x : ℕ) (gs : List ℕ) (o : Option ℕ) → FoundGlobal (suc n) gs o → FoundGlobal n (x ∷ gs) o
+global_later n x gs None h = tt
+global_later n x gs (Some g) h = omega (arith, h)
+
+global_at : (n x : ℕ) (gs : List ℕ) (o : Option ℕ) (b : Bool) → FoundGlobal (suc n) gs o → FoundGlobal n (x ∷ gs) (cond b (Some n) o)
+global_at n x gs o true h = omega arith
+global_at n x gs o false h = global_later n x gs o h
+
+found_global : (n : ℕ) (gs : List ℕ) (x : ℕ) → FoundGlobal n gs (find_global n gs x)
+found_global n [] x = tt
+found_global n (g ∷ gs) x = global_at n g gs (find_global (suc n) gs x) (eqb g x) (found_global (suc n) gs x)
 
 -- ---- functions
 
@@ -80,26 +100,55 @@ module _ (s : Scope) where
   abbrev types : Types
   types = kinds s.registers
 
-  pub register_typed : (x : NameUse) → Holds (λ r. slice_get types r.0 ≡ Some r.1) (register_of s x)
-  register_typed x = holds_found s.registers (find_register 0 s.registers x.number) x.place (found 0 s.registers x.number)
+  -- how many globals there are
+  abbrev count : ℕ
+  count = length s.globals
+
+  -- a register of the function, or none
+  abbrev pub IsTarget : Option (ℕ × MonType) → Type 0
+  IsTarget None = Unit {0}
+  IsTarget (Some r) = slice_get types r.0 ≡ Some r.1
+
+  after_any : {A : Type 0} (c : Checked A) → Holds IsTarget (c >> Ok None)
+  after_any (Ok a) = tt
+  after_any (Err e) = tt
+
+  target_at : (o : Option (ℕ × MonType)) (x : NameUse) → Found 0 s.registers o → Holds IsTarget (target_or_fault o s x)
+  target_at None x h = after_any (or_fault (find_global 0 s.globals x.number) x.place)
+  target_at (Some r) x h = found_stands s.registers r h
+
+  pub target_valid : (x : NameUse) → Holds IsTarget (target_of s x)
+  target_valid x = target_at (find_register 0 s.registers x.number) x (found 0 s.registers x.number)
+
+  pub register_valid : (target : Option (ℕ × MonType)) (at : Place) → IsTarget target → Holds (λ r. slice_get types r.0 ≡ Some r.1) (register_or_fault target at)
+  register_valid None at h = tt
+  register_valid (Some r) at h = h
 
   -- ---- expressions
 
-  abbrev IsTyped : ParsedExpression → Typed → Type 0
-  IsTyped e x = HasType types x.0 x.1 × (valid.open_parens x.0 ≡ open_parens e)
+  abbrev pub IsTyped : ParsedExpression → Typed → Type 0
+  IsTyped e x = HasType count types x.0 x.1 × (valid.open_parens x.0 ≡ open_parens e)
+
+  global_typed : (o : Option ℕ) (x : NameUse) → FoundGlobal 0 s.globals o → Holds (IsTyped (Name x)) (global_or_fault o x.place)
+  global_typed None x h = tt
+  global_typed (Some g) x h = let k : g < count = omega (arith, h) in ((refl, k), refl)
+
+  named_at : (o : Option (ℕ × MonType)) (x : NameUse) → Found 0 s.registers o → Holds (IsTyped (Name x)) (register_or_global o s x)
+  named_at None x h = global_typed (find_global 0 s.globals x.number) x (found_global 0 s.globals x.number)
+  named_at (Some r) x h = (found_stands s.registers r h, refl)
 
   pub typed : (e : ParsedExpression) → Holds (IsTyped e) (checked_expression s e)
-  typed (Name x) = holds_behind (λ r. slice_get types r.0 ≡ Some r.1) (IsTyped (Name x)) (register_of s x) (λ r. Ok (tree.Register r.0, r.1)) (register_typed x) (λ r h. (h, refl))
+  typed (Name x) = named_at (find_register 0 s.registers x.number) x (found 0 s.registers x.number)
   typed (Constant at t z) = holds_where (IsTyped (Constant at t z)) (has_constant t z) at (Ok (tree.Constant t z, t)) (λ h. ((refl, h), refl))
   typed (Binary at op a b) =
       holds_behind (IsTyped a) (IsTyped (Binary at op a b)) (checked_expression s a) _ (typed a) (λ x p.
       holds_behind (IsTyped b) (IsTyped (Binary at op a b)) (checked_expression s b) _ (typed b) (λ y q.
-      holds_where (IsTyped (Binary at op a b)) (same_type x.1 y.1 && is_arithmetic x.1) at (Ok (tree.Binary op x.1 x.0 y.0, result_type op x.1)) (λ h. (
+      holds_where (IsTyped (Binary at op a b)) (same_type y.1 (second_type op x.1) && has_operator op x.1) at (Ok (tree.Binary op x.1 x.0 y.0, result_type op x.1)) (λ h. (
         (
           refl,
-          second_true (same_type x.1 y.1) (is_arithmetic x.1) h,
+          second_true (same_type y.1 (second_type op x.1)) (has_operator op x.1) h,
           p.0,
-          subst (HasType types y.0) (sym (same x.1 y.1 (first_true (same_type x.1 y.1) (is_arithmetic x.1) h))) q.0,
+          subst (HasType count types y.0) (same y.1 (second_type op x.1) (first_true (same_type y.1 (second_type op x.1)) (has_operator op x.1) h)) q.0,
         ),
         λ i. suc (max (p.1 i) (q.1 i)),
       ))))
@@ -113,16 +162,22 @@ module _ (s : Scope) where
       holds_behind (IsTyped a) (IsTyped (Cast at t a)) (checked_expression s a) _ (typed a) (λ x p.
       holds_where (IsTyped (Cast at t a)) (is_whole x.1 && is_whole t) at (Ok (tree.Cast t x.0, t)) (λ h.
       ((refl, second_true (is_whole x.1) (is_whole t) h, (x.1, first_true (is_whole x.1) (is_whole t) h, p.0)), λ i. suc (max 1 (p.1 i)))))
+  typed (Load at t a) =
+      holds_behind (IsTyped a) (IsTyped (Load at t a)) (checked_expression s a) _ (typed a) (λ x p.
+      holds_where (IsTyped (Load at t a)) (same_type x.1 Ptr) at (Ok (tree.Load t x.0, t)) (λ h. ((refl, subst (HasType count types x.0) (same x.1 Ptr h) p.0), λ i. suc (max 1 (p.1 i)))))
 
-  pub is_expression : (t : MonType) (at : Place) (e : ParsedExpression) → HasFewParens e → Holds (λ v. IsExpression types v t) (of_type s t at e)
+  -- an expression that is of the type
+  pub is_of_type : (t : MonType) (e : ParsedExpression) (x : Typed) → HasFewParens e → IsTyped e x → same_type x.1 t ≡ true → IsExpression count types x.0 t
+  is_of_type t e x few p h = record { typed = subst (HasType count types x.0) (same x.1 t h) p.0; within = subst (λ (n : ℕ). n ≤ valid.most_open_parens) (sym p.1) few }
+
+  pub is_expression : (t : MonType) (at : Place) (e : ParsedExpression) → HasFewParens e → Holds (λ v. IsExpression count types v t) (of_type s t at e)
   is_expression t at e few =
-      holds_behind (IsTyped e) (λ v. IsExpression types v t) (checked_expression s e) _ (typed e) (λ x p.
-      holds_where (λ v. IsExpression types v t) (same_type x.1 t) at (Ok x.0) (λ h.
-      record { typed = subst (HasType types x.0) (same x.1 t h) p.0; within = subst (λ (n : ℕ). n ≤ valid.most_open_parens) (sym p.1) few }))
+      holds_behind (IsTyped e) (λ v. IsExpression count types v t) (checked_expression s e) _ (typed e) (λ x p.
+      holds_where (λ v. IsExpression count types v t) (same_type x.1 t) at (Ok x.0) (λ h. is_of_type t e x few p h))
 
   -- ---- arguments
 
-  value_valid : (t : MonType) (a : ParsedArgument) → IsArgumentWithin a → Holds (λ v. IsExpression types v t) (value_of_type s t a)
+  value_valid : (t : MonType) (a : ParsedArgument) → IsArgumentWithin a → Holds (λ v. IsExpression count types v t) (value_of_type s t a)
   value_valid t (Value e) few = is_expression t (place_of e) e few
   value_valid t (Number at z) w = tt
   value_valid t (Text at bytes) w = tt
@@ -144,6 +199,9 @@ module _ (s : Scope) where
   kind_valid : (a : ParsedArgument) → IsArgumentWithin a → Holds (λ k. Unit {0}) (kind_named s a)
   kind_valid a w = holds_all (kind_named s a)
 
+  size_valid : (a : ParsedArgument) → IsArgumentWithin a → Holds (λ k. Unit {0}) (size_named s a)
+  size_valid a w = holds_all (size_named s a)
+
   abbrev Within : List ParsedArgument → Type 0
   Within xs = AllByRecursion IsArgumentWithin xs
 
@@ -160,11 +218,11 @@ module _ (s : Scope) where
   more_valid Q at [] a q = q
   more_valid Q at (x ∷ xs) a q = wrong Q (others s (x ∷ xs)) at
 
-  values_valid : (at : Place) (ts : Types) (xs : List ParsedArgument) → Within xs → Holds (λ es. AreArguments types es ts) (arguments_of s at ts xs)
-  values_valid at [] xs w = more_valid (λ es. AreArguments types es []) at xs [] tt
+  values_valid : (at : Place) (ts : Types) (xs : List ParsedArgument) → Within xs → Holds (λ es. AreArguments count types es ts) (arguments_of s at ts xs)
+  values_valid at [] xs w = more_valid (λ es. AreArguments count types es []) at xs [] tt
   values_valid at (t ∷ ts) xs w =
-      next_valid (λ e. IsExpression types e t) (λ es. AreArguments types es (t ∷ ts)) at (value_of_type s t) xs _ w (value_valid t) (λ e more p v.
-      holds_behind (λ es. AreArguments types es ts) (λ es. AreArguments types es (t ∷ ts)) (arguments_of s at ts more) (λ es. Ok (e ∷ es)) (values_valid at ts more v) (λ es q. (p, q)))
+      next_valid (λ e. IsExpression count types e t) (λ es. AreArguments count types es (t ∷ ts)) at (value_of_type s t) xs _ w (value_valid t) (λ e more p v.
+      holds_behind (λ es. AreArguments count types es ts) (λ es. AreArguments count types es (t ∷ ts)) (arguments_of s at ts more) (λ es. Ok (e ∷ es)) (values_valid at ts more v) (λ es q. (p, q)))
 
   -- ---- calls
 
@@ -177,15 +235,15 @@ module _ (s : Scope) where
   module _ (t : Option MonType) (ls : Labels) where
     -- a call's statement, which is a step or not
     abbrev IsCall : Bool → MonStatement → Type 0
-    IsCall b m = IsStatement signatures types t ls m × (valid.depth m ≡ 1) × (valid.is_step m ≡ b)
+    IsCall b m = IsStatement count signatures types t ls m × (valid.depth m ≡ 1) × (valid.is_step m ≡ b)
 
-    one_valid : (at : Place) (k : MonType) (xs : List ParsedArgument) (f : MonExpression → MonStatement) → Within xs → ((e : MonExpression) → IsExpression types e k → IsCall false (f e)) → Holds (IsCall false) (one_value s at k xs f)
-    one_valid at k xs f w h = next_valid (λ e. IsExpression types e k) (IsCall false) at (value_of_type s k) xs (λ e more. no_more s at more (f e)) w (value_valid k) (λ e more p v. more_valid (IsCall false) at more (f e) (h e p))
+    one_valid : (at : Place) (k : MonType) (xs : List ParsedArgument) (f : MonExpression → MonStatement) → Within xs → ((e : MonExpression) → IsExpression count types e k → IsCall false (f e)) → Holds (IsCall false) (one_value s at k xs f)
+    one_valid at k xs f w h = next_valid (λ e. IsExpression count types e k) (IsCall false) at (value_of_type s k) xs (λ e more. no_more s at more (f e)) w (value_valid k) (λ e more p v. more_valid (IsCall false) at more (f e) (h e p))
 
     assert_valid : (at : Place) (xs : List ParsedArgument) → Within xs → Holds (IsCall false) (assert_call s at xs)
     assert_valid at xs w =
-        next_valid (λ e. IsExpression types e I32) (IsCall false) at (value_of_type s I32) xs _ w (value_valid I32) (λ d xs1 p w1.
-        next_valid (λ e. IsExpression types e I32) (IsCall false) at (value_of_type s I32) xs1 _ w1 (value_valid I32) (λ v xs2 q w2.
+        next_valid (λ e. IsExpression count types e I32) (IsCall false) at (value_of_type s I32) xs _ w (value_valid I32) (λ d xs1 p w1.
+        next_valid (λ e. IsExpression count types e I32) (IsCall false) at (value_of_type s I32) xs1 _ w1 (value_valid I32) (λ v xs2 q w2.
         next_valid (λ n. n ≤ greatest_number) (IsCall false) at (small_number s) xs2 _ w2 number_valid (λ n xs3 r w3.
         next_valid (λ n. n ≤ greatest_number) (IsCall false) at (small_number s) xs3 _ w3 number_valid (λ line xs4 l w4.
         next_valid (λ k. Unit {0}) (IsCall false) at (kind_named s) xs4 (λ k xs5. no_more s at xs5 (tree.Assert d v n line k)) w4 kind_valid (λ k xs5 u w5.
@@ -195,9 +253,17 @@ module _ (s : Scope) where
     step_valid at [] = (tt, refl, refl)
     step_valid at (x ∷ xs) = wrong (IsCall false) (others s (x ∷ xs)) at
 
-    memory_valid : (at : Place) (xs : List ParsedArgument) (f : MemoryCall) → Within xs → Holds (IsCall false) (memory_call s at xs f)
-    memory_valid at xs f w =
-        holds_behind (λ es. AreArguments types es (memory_parameters f)) (IsCall false) (arguments_of s at (memory_parameters f) xs) (λ es. Ok (tree.Act None f es)) (values_valid at (memory_parameters f) xs w) (λ es p. ((p, tt), refl, refl))
+    simple_valid : (at : Place) (xs : List ParsedArgument) (f : MemoryCall) → Within xs → Holds (IsCall false) (simple_call s at xs f)
+    simple_valid at xs f w =
+        holds_behind (λ es. AreArguments count types es (memory_parameters f)) (IsCall false) (arguments_of s at (memory_parameters f) xs) (λ es. Ok (tree.Act None f es)) (values_valid at (memory_parameters f) xs w) (λ es p.
+        ((p, tt), refl, refl))
+
+    number_call_valid : (at : Place) (xs : List ParsedArgument) → Within xs → Holds (IsCall false) (number_call s at xs)
+    number_call_valid at xs w =
+        next_valid (λ e. IsExpression count types e Ptr) (IsCall false) at (value_of_type s Ptr) xs _ w (value_valid Ptr) (λ p xs1 q w1.
+        next_valid (λ e. IsExpression count types e I128) (IsCall false) at (value_of_type s I128) xs1 _ w1 (value_valid I128) (λ o xs2 r w2.
+        next_valid (λ a. Unit {0}) (IsCall false) at (size_named s) xs2 (λ a xs3. no_more s at xs3 (tree.Act None (memory_call.Number a) (p ∷ o ∷ []))) w2 size_valid (λ a xs3 u w3.
+        more_valid (IsCall false) at xs3 (tree.Act None (memory_call.Number a) (p ∷ o ∷ [])) (((q, (r, tt)), tt), refl, refl))))
 
     runtime_valid : (f : NameUse) (at : Place) (xs : List ParsedArgument) (r : Runtime) → Within xs → Holds (IsCall (is_step_word (word.Runtime r) && has_no_argument xs)) (runtime_call s f at xs r)
     runtime_valid f at xs runtime.Step w = step_valid at xs
@@ -209,15 +275,16 @@ module _ (s : Scope) where
         (λ v more p u. more_valid (IsCall false) at more (tree.PrintText v.0) (p, refl, refl))
     runtime_valid f at xs runtime.PrintSigned w = one_valid at I64 xs tree.PrintSigned w (λ e p. (p, refl, refl))
     runtime_valid f at xs runtime.PrintUnsigned w = one_valid at U64 xs tree.PrintUnsigned w (λ e p. (p, refl, refl))
-    runtime_valid f at xs runtime.StoreBlock w = memory_valid at xs StoreBlock w
-    runtime_valid f at xs runtime.DeleteBlock w = memory_valid at xs DeleteBlock w
+    runtime_valid f at xs runtime.StoreBlock w = simple_valid at xs memory_call.StoreBlock w
+    runtime_valid f at xs runtime.DeleteBlock w = simple_valid at xs memory_call.DeleteBlock w
+    runtime_valid f at xs runtime.Number w = number_call_valid at xs w
     runtime_valid f at xs runtime.Kept w = tt
 
     called_at : (f : NameUse) (at : Place) (xs : List ParsedArgument) (g : ℕ × Header) (b : Bool) → Within xs → Stands s.functions f.number g → bytes_eq (bytes_of s f.number) (codes "main") ≡ b
         → Holds (IsCall false) (cond b (wrong_number s at xs) (arguments_of s at g.1.parameters xs >>= λ es. Ok (tree.Call None g.0 es)))
     called_at f at xs g true w p e = wrong (IsCall false) (others s xs) at
     called_at f at xs g false w p e =
-        holds_behind (λ es. AreArguments types es g.1.parameters) (IsCall false) (arguments_of s at g.1.parameters xs) (λ es. Ok (tree.Call None g.0 es)) (values_valid at g.1.parameters xs w) (λ es q. (
+        holds_behind (λ es. AreArguments count types es g.1.parameters) (IsCall false) (arguments_of s at g.1.parameters xs) (λ es. Ok (tree.Call None g.0 es)) (values_valid at g.1.parameters xs w) (λ es q. (
           record {
             callee = signature_for s.names g.1;
             has = slice_get-map (signature_for s.names) s.functions g.0 ∙ ap (option_map (signature_for s.names)) p.at;
@@ -241,7 +308,7 @@ module _ (s : Scope) where
     call_valid c w = word_valid c (word_at s.words c.callee.number) w
 
     -- the register takes the value of a call, where there is one of its type
-    given_at : (r : ℕ × MonType) (at : Place) (f : ℕ) (es : List MonExpression) (o : Option MonType) (p : valid.IsCall signatures types None f es) → slice_get types r.0 ≡ Some r.1 → o ≡ p.callee.result
+    given_at : (r : ℕ × MonType) (at : Place) (f : ℕ) (es : List MonExpression) (o : Option MonType) (p : valid.IsCall count signatures types None f es) → slice_get types r.0 ≡ Some r.1 → o ≡ p.callee.result
         → Holds (IsCall false) (elim o [ None ↦ type_fault at | Some t ↦ demanded (same_type t r.1) at >> Ok (tree.Call (Some r.0) f es) ])
     given_at r at f es None p h e = tt
     given_at r at f es (Some k) p h e =
@@ -257,8 +324,11 @@ module _ (s : Scope) where
     pub taken_valid : (b : Bool) (r : ℕ × MonType) (at : Place) (m : MonStatement) → slice_get types r.0 ≡ Some r.1 → IsCall b m → Holds (IsCall false) (taken s r at m)
     taken_valid b r at (tree.PutChar x e) h p = holds_where (IsCall false) (same_type I32 r.1) at (Ok (tree.PutChar (Some r.0) e)) (λ k. ((h ∙ ap Some (sym (same I32 r.1 k)), p.0.1), refl, refl))
     taken_valid b r at (tree.GetChar x) h p = holds_where (IsCall false) (same_type I32 r.1) at (Ok (tree.GetChar (Some r.0))) (λ k. (h ∙ ap Some (sym (same I32 r.1 k)), refl, refl))
-    taken_valid b r at (tree.Act x StoreBlock es) h p = holds_where (IsCall false) (same_type Ptr r.1) at (Ok (tree.Act (Some r.0) StoreBlock es)) (λ k. ((p.0.0, h ∙ ap Some (sym (same Ptr r.1 k))), refl, refl))
-    taken_valid b r at (tree.Act x DeleteBlock es) h p = tt
+    taken_valid b r at (tree.Act x memory_call.StoreBlock es) h p =
+        holds_where (IsCall false) (same_type Ptr r.1) at (Ok (tree.Act (Some r.0) memory_call.StoreBlock es)) (λ k. ((p.0.0, h ∙ ap Some (sym (same Ptr r.1 k))), refl, refl))
+    taken_valid b r at (tree.Act x memory_call.DeleteBlock es) h p = tt
+    taken_valid b r at (tree.Act x (memory_call.Number a) es) h p =
+        holds_where (IsCall false) (same_type I32 r.1) at (Ok (tree.Act (Some r.0) (memory_call.Number a) es)) (λ k. ((p.0.0, h ∙ ap Some (sym (same I32 r.1 k))), refl, refl))
     taken_valid b r at (tree.Call x f es) h p =
         let c = p.0 in
         given_at r at f es (result_of (slice_get s.functions f)) (record { callee = c.callee; has = c.has; not_main = c.not_main; arguments = c.arguments; takes = tt }) h (result_is f c.callee c.has)
@@ -268,4 +338,4 @@ module _ (s : Scope) where
   returned_valid None ls at None few = (tt, refl, refl)
   returned_valid None ls at (Some e) few = faulty (IsCall None ls false) (checked_expression s e) at
   returned_valid (Some t) ls at None few = tt
-  returned_valid (Some t) ls at (Some e) few = holds_behind (λ v. IsExpression types v t) (IsCall (Some t) ls false) (of_type s t at e) (λ x. Ok (tree.Return (Some x))) (is_expression t at e few) (λ x p. (p, refl, refl))
+  returned_valid (Some t) ls at (Some e) few = holds_behind (λ v. IsExpression count types v t) (IsCall (Some t) ls false) (of_type s t at e) (λ x. Ok (tree.Return (Some x))) (is_expression t at e few) (λ x p. (p, refl, refl))

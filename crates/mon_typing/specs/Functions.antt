@@ -11,15 +11,15 @@ use Rattle.mon_typing.specs.Headers.{is_at}
 use Rattle.mon_typing.specs.Scopes.{numbered}
 
 -- all registers of a function after those that are known, by their names' numbers, the parameters first
-abbrev pub registers_behind : Vocabulary → List (ℕ × MonType) → ParsedFunction → Checked (List (ℕ × MonType))
-registers_behind ws known f = checked_registers ws known f.parameters >>= λ ps. checked_registers ws ps f.registers
+abbrev pub registers_behind : Vocabulary → List ℕ → List (ℕ × MonType) → ParsedFunction → Checked (List (ℕ × MonType))
+registers_behind ws globals known f = checked_registers ws globals known f.parameters >>= λ ps. checked_registers ws globals ps f.registers
 
-abbrev pub registers_of : Vocabulary → ParsedFunction → Checked (List (ℕ × MonType))
-registers_of ws f = registers_behind ws [] f
+abbrev pub registers_of : Vocabulary → List ℕ → ParsedFunction → Checked (List (ℕ × MonType))
+registers_of ws globals f = registers_behind ws globals [] f
 
--- the statements of a function among functions of these headers
-abbrev pub body_of : List (List ℕ) → Vocabulary → List Header → ParsedFunction → Checked MonStatements
-body_of names ws gs f = registers_of ws f >>= λ rs. checked_statements (scope_of names ws gs rs) f.result [] f.body
+-- the statements of a function among functions of these headers and globals
+abbrev pub body_of : List (List ℕ) → Vocabulary → List Header → List ℕ → ParsedFunction → Checked MonStatements
+body_of names ws gs globals f = registers_of ws globals f >>= λ rs. checked_statements (scope_of names ws gs globals rs) f.result [] f.body
 
 -- a function with this body
 abbrev pub named_function : List (List ℕ) → ParsedFunction → MonStatements → MonFunction
@@ -32,6 +32,7 @@ named_function names f body = record {
 }
 
 -- the function of this number, which is the first of its name
-abbrev pub next_function : List (List ℕ) → Vocabulary → List Header → ℕ → ParsedFunction → Checked MonFunction
-next_function names ws gs i f =
-    if is_free (word_at ws f.name.number) && is_at i (find_function 0 gs f.name.number) then checked_function names ws gs f else name_fault f.name.place
+abbrev pub next_function : List (List ℕ) → Vocabulary → List Header → List ℕ → ℕ → ParsedFunction → Checked MonFunction
+next_function names ws gs globals i f =
+    if is_free (word_at ws f.name.number) && is_at i (find_function 0 gs f.name.number) then checked_function names ws gs globals f
+    else name_fault f.name.place

@@ -11,7 +11,7 @@ use Rattle.mon_syntax.specs.Trees.{MonitoredProgram}
 use Rattle.mon_syntax.specs.Parsed.{ParsedProgram}
 use Rattle.mon_syntax.specs.Words.{word_of}
 use Rattle.mon_syntax.specs.Checking.{checked_program}
-use Rattle.mon_syntax.specs.Spelled.{main_refusal}
+use Rattle.mon_syntax.specs.Spelled.{last_refusal}
 use Rattle.mon_syntax.specs.Valid.{IsValid}
 use Rattle.mon_typing.specs.Within.{IsProgramWithin}
 
@@ -28,7 +28,7 @@ pub record AreNames (names : List (List ℕ)) : Type 0 where
 
 abbrev pub CheckedIsValid : Type 0
 CheckedIsValid = (names : List (List ℕ)) (p : ParsedProgram) (m : MonitoredProgram) → AreNames names → IsProgramWithin (map word_of names) (length names) p
-    → checked_program names (map word_of names) p ≡ Ok m → main_refusal names p ≡ None → IsValid m
+    → checked_program names (map word_of names) p ≡ Ok m → last_refusal names p ≡ None → IsValid m
 
 -- the names of a text's tokens are such names
 abbrev pub TokensHaveNames : Type 0

@@ -1,4 +1,5 @@
 pub mod Answers
+pub mod Globals
 pub mod Headers
 pub mod Scopes
 pub mod Operators

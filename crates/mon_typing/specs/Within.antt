@@ -1,11 +1,11 @@
 -- Ours: what the grammar of monitored C keeps to.
 -- What a tree that is read keeps to besides names and types: the limits of this profile, the steps of its loops, the bytes of its
 -- strings, and the numbers of its names.
-use Rattle.std.specs.Prelude.{◌≡◌, ℕ, suc, ◌<◌, ◌≤◌, max, Option, Some, None, Bool, true, not, ◌&&◌}
+use Rattle.std.specs.Prelude.{◌≡◌, ℕ, suc, ◌<◌, ◌≤◌, max, List, Option, Some, None, Bool, true, not, ◌&&◌}
 use Rattle.std.specs.List.{AllByRecursion}
-use Rattle.mon_syntax.specs.Parsed.{ParsedExpression, Name, Constant, Binary, Minus, Flip, Cast, ParsedArgument, Value, Number, Text, ParsedStatement, Set}
-use Rattle.mon_syntax.specs.Parsed.{Take, Call, If, Loop, Labelled, Goto, Return, ParsedStatements, NoStatement, Then, ParsedRegister, ParsedFunction}
-use Rattle.mon_syntax.specs.Parsed.{ParsedProgram}
+use Rattle.mon_syntax.specs.Parsed.{ParsedExpression, Name, Constant, Binary, Minus, Flip, Cast, Load, ParsedArgument, Value, Number, Text, ParsedStatement}
+use Rattle.mon_syntax.specs.Parsed.{Set, Store, Take, Call, If, Loop, Labelled, Goto, Return, ParsedStatements, NoStatement, Then, ParsedRegister}
+use Rattle.mon_syntax.specs.Parsed.{ParsedFunction, ParsedGlobal, ParsedProgram}
 use Rattle.mon_syntax.specs.Grammar.{Vocabulary, is_step}
 use Rattle.mon_syntax.specs.Valid.{most_open_parens, most_nested}
 
@@ -17,6 +17,7 @@ open_parens (Binary at op a b) = suc (max (open_parens a) (open_parens b))
 open_parens (Minus at a) = suc (open_parens a)
 open_parens (Flip at a) = suc (open_parens a)
 open_parens (Cast at t a) = suc (max 1 (open_parens a))
+open_parens (Load at t a) = suc (max 1 (open_parens a))
 
 abbrev pub HasFewParens : ParsedExpression → Type 0
 HasFewParens e = open_parens e ≤ most_open_parens
@@ -34,6 +35,7 @@ IsArgumentWithin (Text at bytes) = AllByRecursion (λ b. b < 256) bytes
 abbrev mutual
   pub depth : ParsedStatement → ℕ
   depth (Set x at e) = 1
+  depth (Store t x at e) = 1
   depth (Take x at c) = 1
   depth (Call c) = 1
   depth (If e a b) = suc (max (depth_of_all a) (depth_of_all b))
@@ -46,6 +48,16 @@ abbrev mutual
   depth_of_all NoStatement = 0
   depth_of_all (Then a rest) = max (depth a) (depth_of_all rest)
 
+-- the bytes of a literal, where it is one
+abbrev pub AreBytesWhereAny : Option (List ℕ) → Type 0
+AreBytesWhereAny None = Unit {0}
+AreBytesWhereAny (Some bytes) = AllByRecursion (λ b. b < 256) bytes
+
+-- n is the number of names
+pub record IsGlobalWithin (n : ℕ) (g : ParsedGlobal) : Type 0 where
+  pub name : g.name.number < n
+  pub literal : AreBytesWhereAny g.literal
+
 module _ (ws : Vocabulary) where
   -- no `__e_acsl_step();` stands directly in these statements
   abbrev pub has_no_step : ParsedStatements → Bool
@@ -56,6 +68,7 @@ module _ (ws : Vocabulary) where
   abbrev mutual
     pub IsWithin : ℕ → ParsedStatement → Type 0
     IsWithin n (Set x at e) = HasFewParens e
+    IsWithin n (Store t x at e) = HasFewParens e
     IsWithin n (Take x at c) = AllByRecursion IsArgumentWithin c.arguments
     IsWithin n (Call c) = AllByRecursion IsArgumentWithin c.arguments
     IsWithin n (If e a b) = HasFewParens e × AreWithin n a × AreWithin n b
@@ -76,5 +89,6 @@ module _ (ws : Vocabulary) where
     -- the body itself is 1 deep
     pub nested : suc (depth_of_all f.body) ≤ most_nested
 
-  abbrev pub IsProgramWithin : ℕ → ParsedProgram → Type 0
-  IsProgramWithin n fs = AllByRecursion (IsFunctionWithin n) fs
+  pub record IsProgramWithin (n : ℕ) (p : ParsedProgram) : Type 0 where
+    pub globals : AllByRecursion (IsGlobalWithin n) p.globals
+    pub functions : AllByRecursion (IsFunctionWithin n) p.functions

@@ -5,10 +5,12 @@ ghost use Rattle.c_syntax.specs.declared.annotation.Kind.{Kind};
 ghost use Rattle.c_model.specs.Reports.{kind_word};
 ghost use Rattle.mon_syntax.specs.Trees.{plain_expr, MonExpression, MonStatement};
 ghost use Rattle.mon_syntax.specs.Parsed.{ParsedArgument};
-ghost use Rattle.mon_syntax.specs.Checking.{value_of_type, small_number, string, kinds, kind_of, kind_named, others, wrong_number, no_more, arguments_of};
+ghost use Rattle.mon_syntax.specs.declared.tree.AccessSize.{AccessSize};
+ghost use Rattle.mon_syntax.specs.Checking.{value_of_type, small_number, sizes, size_of, size_named, string, kinds, kind_of, kind_named, others, wrong_number};
+ghost use Rattle.mon_syntax.specs.Checking.{no_more, arguments_of};
 ghost use Rattle.mon_parser.specs.ParsedTrees as read;
 ghost use Rattle.mon_typing.specs.Answers.{Fails, Gives};
-ghost use Rattle.mon_typing.specs.Arguments.{first_of, only_kind, only_value, only_string};
+ghost use Rattle.mon_typing.specs.Arguments.{first_of, only_kind, only_size, only_value, only_string};
 ghost use Rattle.mon_typing.specs.Scopes.{plain_scope};
 
 use crate::expression::{checked_expression, of_type, place_of};
@@ -16,7 +18,7 @@ use crate::fault::CheckFault;
 use crate::scope::Scope;
 use c_syntax::{Kind, Name, Place};
 use mon_parser::parsed::ParsedArg;
-use mon_syntax::{MonExpr, MonType, kind_word};
+use mon_syntax::{AccessSize, MonExpr, MonType, kind_word};
 use std::alloc::Global;
 
 fn value_of_type(
@@ -46,6 +48,36 @@ fn small_number(alloc: Global, scope: &Scope, argument: &ParsedArg) -> Result<u3
         ParsedArg::Number(place, value) => match u32::try_from(value.unsigned_abs()) {
             Ok(number) => Ok(number),
             Err(_) => Err(CheckFault::BadType(*place)),
+        },
+        ParsedArg::Text(place, _) => Err(CheckFault::BadType(*place)),
+    }
+}
+
+/// A number of bytes of which a question asks.
+fn size_of(number: u128) -> Option<AccessSize>
+    ensures { result ≡ size_of sizes number }
+{
+    match number {
+        1 => Some(AccessSize::One),
+        2 => Some(AccessSize::Two),
+        4 => Some(AccessSize::Four),
+        8 => Some(AccessSize::Eight),
+        16 => Some(AccessSize::Sixteen),
+        _ => None,
+    }
+}
+
+fn size_named(alloc: Global, scope: &Scope, argument: &ParsedArg) -> Result<AccessSize, CheckFault>
+    ensures { Gives (λ a. a) result (size_named (plain_scope scope.now) (read.plain_arg argument.now)) }
+{
+    match argument {
+        ParsedArg::Value(e) => {
+            checked_expression(alloc, scope, e)?;
+            Err(CheckFault::BadType(place_of(e)))
+        }
+        ParsedArg::Number(place, value) => match size_of(value.unsigned_abs()) {
+            Some(size) => Ok(size),
+            None => Err(CheckFault::BadType(*place)),
         },
         ParsedArg::Text(place, _) => Err(CheckFault::BadType(*place)),
     }
@@ -218,6 +250,36 @@ pub fn only_kind(
     let (kind, more) = next_kind(alloc, scope, place, arguments)?;
     no_more(alloc, scope, place, more)?;
     Ok(kind)
+}
+
+/// The first argument, a number of bytes, and the others.
+fn next_size<'a>(
+    alloc: Global,
+    scope: &Scope,
+    place: Place,
+    arguments: &'a [ParsedArg],
+) -> Result<(AccessSize, &'a [ParsedArg]), CheckFault>
+    ensures { let s = plain_scope scope.now in Gives {A = AccessSize × List ParsedArgument} (λ x. (x.0, map read.plain_arg x.1.now)) result
+        (first_of s place (size_named s) (map read.plain_arg arguments.now)) }
+{
+    match arguments {
+        [] => Err(CheckFault::BadType(place)),
+        [first, more @ ..] => Ok((size_named(alloc, scope, first)?, more)),
+    }
+}
+
+/// One argument, a number of bytes, and no others.
+pub fn only_size(
+    alloc: Global,
+    scope: &Scope,
+    place: Place,
+    arguments: &[ParsedArg],
+) -> Result<AccessSize, CheckFault>
+    ensures { Gives (λ a. a) result (only_size (plain_scope scope.now) place (map read.plain_arg arguments.now)) }
+{
+    let (size, more) = next_size(alloc, scope, place, arguments)?;
+    no_more(alloc, scope, place, more)?;
+    Ok(size)
 }
 
 /// One argument, a value of the type, and no others.

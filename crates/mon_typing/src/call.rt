@@ -1,18 +1,20 @@
 //! Calls: of the runtime, and of the functions of the program.
 
-ghost use Rattle.std.specs.Prelude.{◌≡◌, map, None};
+ghost use Rattle.std.specs.Prelude.{◌≡◌, [], ◌∷◌, map, None, IfOk};
 ghost use Rattle.mon_syntax.specs.Trees as tree;
 ghost use Rattle.mon_syntax.specs.Trees.{plain_expr, plain_stmt};
 ghost use Rattle.mon_syntax.specs.declared.tree.MonType.TheVariants.{I32, I64, U64};
 ghost use Rattle.mon_syntax.specs.Valid.{memory_parameters};
-ghost use Rattle.mon_syntax.specs.Checking.{no_more, string, next, one_value, assert_call, memory_call, runtime_call, named_call, call_of_word, checked_call};
+ghost use Rattle.mon_syntax.specs.Checking.{no_more, string, next, one_value, assert_call, simple_call, number_call, runtime_call, named_call, call_of_word};
+ghost use Rattle.mon_syntax.specs.Checking.{checked_call};
 ghost use Rattle.mon_parser.specs.ParsedTrees as read;
 ghost use Rattle.mon_typing.specs.Answers.{Gives};
-ghost use Rattle.mon_typing.specs.Arguments.{assert_kind, assert_numbers, call_of_number};
+ghost use Rattle.mon_typing.specs.Arguments.{assert_kind, assert_numbers, number_size, call_of_number};
 ghost use Rattle.mon_typing.specs.Scopes.{plain_scope};
 
 use crate::argument::{
-    next_number, next_value, no_more, only_kind, only_string, only_value, values_of, wrong_number,
+    next_number, next_value, no_more, only_kind, only_size, only_string, only_value, values_of,
+    wrong_number,
 };
 use crate::fault::CheckFault;
 use crate::scope::{Scope, function_called, is_main};
@@ -20,7 +22,7 @@ use c_syntax::{Name, Place};
 use mon_parser::parsed::{NameUse, ParsedArg, ParsedCall};
 use mon_parser::word_at;
 use mon_syntax::{MemoryCall, MonExpr, MonStmt, MonStmtKind, MonType, Runtime, Word};
-use std::alloc::Global;
+use std::alloc::{AllocError, Global};
 
 /// Whether an annotation is defined, and whether it is true.
 #[derive(Drop)]
@@ -83,20 +85,72 @@ fn memory_parameters(f: MemoryCall) -> &'static [MonType]
     match f {
         MemoryCall::StoreBlock => &[MonType::U64],
         MemoryCall::DeleteBlock => &[MonType::Ptr],
+        MemoryCall::Number(_) => &[MonType::Ptr, MonType::I128],
     }
 }
 
-fn memory_call(
+/// A call on the memory whose arguments are values alone.
+fn simple_call(
     alloc: Global,
     scope: &Scope,
     place: Place,
     arguments: &[ParsedArg],
     f: MemoryCall,
 ) -> Result<MonStmt, CheckFault>
-    ensures { Gives plain_stmt result (memory_call (plain_scope scope.now) place (map read.plain_arg arguments.now) f) }
+    ensures { Gives plain_stmt result (simple_call (plain_scope scope.now) place (map read.plain_arg arguments.now) f) }
 {
     let values = values_of(alloc, scope, place, memory_parameters(f), arguments)?;
     Ok(MonStmt::new(alloc, MonStmtKind::Act(None, f, values))?)
+}
+
+/// Two values, one after the other.
+fn two_values(alloc: Global, first: MonExpr, second: MonExpr) -> Result<Vec<MonExpr>, AllocError>
+    ensures { IfOk result (λ v. map plain_expr v.items ≡ plain_expr first ∷ plain_expr second ∷ []) }
+{
+    let mut values = Vec::new(alloc);
+    values.push(first)?;
+    values.push(second)?;
+    Ok(values)
+}
+
+/// A pointer, and an offset from it.
+#[derive(Drop)]
+struct Access {
+    pointer: MonExpr,
+    offset: MonExpr,
+}
+
+/// The number of bytes of a question whether they hold a number, after its other arguments.
+fn number_size(
+    alloc: Global,
+    scope: &Scope,
+    place: Place,
+    access: Access,
+    arguments: &[ParsedArg],
+) -> Result<MonStmt, CheckFault>
+    ensures { Gives plain_stmt result (number_size (plain_scope scope.now) place (plain_expr access.pointer) (plain_expr access.offset)
+        (map read.plain_arg arguments.now)) }
+{
+    let size = only_size(alloc, scope, place, arguments)?;
+    let values = two_values(alloc, access.pointer, access.offset)?;
+    Ok(MonStmt::new(
+        alloc,
+        MonStmtKind::Act(None, MemoryCall::Number(size), values),
+    )?)
+}
+
+/// `__e_acsl_number(p, o, A);`
+fn number_call(
+    alloc: Global,
+    scope: &Scope,
+    place: Place,
+    arguments: &[ParsedArg],
+) -> Result<MonStmt, CheckFault>
+    ensures { Gives plain_stmt result (number_call (plain_scope scope.now) place (map read.plain_arg arguments.now)) }
+{
+    let (pointer, more) = next_value(alloc, scope, place, MonType::Ptr, arguments)?;
+    let (offset, more) = next_value(alloc, scope, place, MonType::I128, more)?;
+    number_size(alloc, scope, place, Access { pointer, offset }, more)
 }
 
 /// `__e_acsl_step();`
@@ -213,11 +267,12 @@ fn runtime_call(
         Runtime::PrintSigned => print_signed(alloc, scope, place, arguments),
         Runtime::PrintUnsigned => print_unsigned(alloc, scope, place, arguments),
         Runtime::StoreBlock => {
-            memory_call(alloc, scope, place, arguments, MemoryCall::StoreBlock)
+            simple_call(alloc, scope, place, arguments, MemoryCall::StoreBlock)
         }
         Runtime::DeleteBlock => {
-            memory_call(alloc, scope, place, arguments, MemoryCall::DeleteBlock)
+            simple_call(alloc, scope, place, arguments, MemoryCall::DeleteBlock)
         }
+        Runtime::Number => number_call(alloc, scope, place, arguments),
         Runtime::Kept => Err(CheckFault::BadName(callee.place)),
     }
 }

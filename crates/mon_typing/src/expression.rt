@@ -2,19 +2,19 @@
 
 ghost use Rattle.std.specs.Prelude.{◌≡◌};
 ghost use Rattle.mon_syntax.specs.Trees.{plain_expr};
-ghost use Rattle.mon_syntax.specs.Checking.{place_of, checked_expression, of_type, condition};
+ghost use Rattle.mon_syntax.specs.Checking.{place_of, checked_expression, of_type, condition, named};
 ghost use Rattle.mon_syntax.specs.Parsed as parsed;
 ghost use Rattle.mon_parser.specs.ParsedTrees as read;
 ghost use Rattle.mon_typing.specs.Answers.{Gives, plain_typed};
-ghost use Rattle.mon_typing.specs.Operators.{constant, binary, minus, flip, cast};
+ghost use Rattle.mon_typing.specs.Operators.{constant, binary, minus, flip, cast, load};
 ghost use Rattle.mon_typing.specs.Scopes.{plain_scope};
 
 use crate::fault::CheckFault;
-use crate::scope::{Scope, register_of};
-use crate::types::{has_constant, is_arithmetic, is_whole};
+use crate::scope::Scope;
+use crate::types::{has_constant, has_operator, is_arithmetic, is_whole};
 use c_syntax::Place;
 use mon_parser::parsed::{Literal, NameUse, ParsedExpr, ParsedExprKind};
-use mon_syntax::{MonExpr, MonExprKind, MonOp, MonType, result_type, same_type};
+use mon_syntax::{MonExpr, MonExprKind, MonOp, MonType, result_type, same_type, second_type};
 use std::alloc::Global;
 
 /// An expression with its type.
@@ -30,6 +30,7 @@ pub fn place_of(e: &ParsedExpr) -> Place
         ParsedExprKind::Minus(place, _) => *place,
         ParsedExprKind::Flip(place, _) => *place,
         ParsedExprKind::Cast(place, _, _) => *place,
+        ParsedExprKind::Load(place, _, _) => *place,
     }
 }
 
@@ -65,7 +66,7 @@ fn binary(
 {
     let (a, kind) = left;
     let (b, other) = right;
-    if !same_type(kind, other) || !is_arithmetic(kind) {
+    if !same_type(other, second_type(op, kind)) || !has_operator(op, kind) {
         return Err(CheckFault::BadType(place));
     }
     let value = MonExpr::new(alloc, MonExprKind::Binary(op, kind, a, b))?;
@@ -102,13 +103,30 @@ fn cast(alloc: Global, place: Place, kind: MonType, operand: Typed) -> Result<Ty
     Ok((MonExpr::new(alloc, MonExprKind::Cast(kind, a))?, kind))
 }
 
-/// A register with its type.
-fn register(alloc: Global, scope: &Scope, name: NameUse) -> Result<Typed, CheckFault>
-    ensures { Gives plain_typed result (checked_expression (plain_scope scope.now) (parsed.Name (read.plain_name name))) }
+fn load(alloc: Global, place: Place, kind: MonType, operand: Typed) -> Result<Typed, CheckFault>
+    ensures { Gives plain_typed result (load place kind (plain_typed operand)) }
 {
-    let (number, kind) = register_of(scope, name)?;
-    let register = MonExpr::new(alloc, MonExprKind::Register(number))?;
-    Ok((register, kind))
+    let (a, from) = operand;
+    if !same_type(from, MonType::Ptr) {
+        return Err(CheckFault::BadType(place));
+    }
+    Ok((MonExpr::new(alloc, MonExprKind::Load(kind, a))?, kind))
+}
+
+/// A register or a global, with its type.
+fn named(alloc: Global, scope: &Scope, name: NameUse) -> Result<Typed, CheckFault>
+    ensures { Gives plain_typed result (named (plain_scope scope.now) (read.plain_name name)) }
+{
+    if let Some((number, kind)) = scope.registers.find(name.number) {
+        return Ok((MonExpr::new(alloc, MonExprKind::Register(number))?, kind));
+    }
+    match scope.globals.find(name.number) {
+        Some(number) => Ok((
+            MonExpr::new(alloc, MonExprKind::Global(number))?,
+            MonType::Ptr,
+        )),
+        None => Err(CheckFault::BadName(name.place)),
+    }
 }
 
 /// `(-e)`
@@ -144,6 +162,21 @@ fn converted(
     cast(alloc, place, kind, operand)
 }
 
+/// `(*(t *)e)`
+#[cycle(expression)]
+fn loaded(
+    alloc: Global,
+    scope: &Scope,
+    place: Place,
+    kind: MonType,
+    a: &ParsedExpr,
+) -> Result<Typed, CheckFault>
+    ensures { Gives plain_typed result (checked_expression (plain_scope scope.now) (parsed.Load place kind (read.plain_expr a.now))) }
+{
+    let operand = checked_expression(alloc, scope, a)?;
+    load(alloc, place, kind, operand)
+}
+
 /// An operator on two operands.
 #[cycle(expression)]
 fn operation(
@@ -167,12 +200,13 @@ pub fn checked_expression(alloc: Global, scope: &Scope, e: &ParsedExpr) -> Resul
     ensures { Gives plain_typed result (checked_expression (plain_scope scope.now) (read.plain_expr e.now)) }
 {
     match &*e.kind {
-        ParsedExprKind::Name(name) => register(alloc, scope, *name),
+        ParsedExprKind::Name(name) => named(alloc, scope, *name),
         ParsedExprKind::Constant(place, kind, literal) => constant(alloc, *place, *kind, *literal),
         ParsedExprKind::Binary(place, op, a, b) => operation(alloc, scope, *place, *op, a, b),
         ParsedExprKind::Minus(place, a) => negated(alloc, scope, *place, a),
         ParsedExprKind::Flip(place, a) => flipped(alloc, scope, *place, a),
         ParsedExprKind::Cast(place, kind, a) => converted(alloc, scope, *place, *kind, a),
+        ParsedExprKind::Load(place, kind, a) => loaded(alloc, scope, *place, *kind, a),
     }
 }
 

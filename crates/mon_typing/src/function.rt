@@ -1,46 +1,49 @@
-//! Functions and texts.
+//! Functions.
 
 ghost use Rattle.std.specs.Prelude.{◌≡◌, ◌&&◌, [], map, IfOk};
-ghost use Rattle.mon_syntax.specs.Trees.{plain_stmts, plain_register, plain_func, plain_program};
+ghost use Rattle.mon_syntax.specs.Trees.{plain_stmts, plain_register, plain_func};
 ghost use Rattle.mon_syntax.specs.Checking.{is_free, find_function, header_of, scope_of, checked_registers, named_register, checked_statements};
-ghost use Rattle.mon_syntax.specs.Checking.{checked_function, checked_functions, checked_program};
+ghost use Rattle.mon_syntax.specs.Checking.{checked_function, checked_functions};
 ghost use Rattle.mon_syntax.specs.Grammar.{word_at};
 ghost use Rattle.mon_parser.specs.ParsedTrees as read;
 ghost use Rattle.mon_typing.specs.Answers.{Gives};
 ghost use Rattle.mon_typing.specs.Headers.{plain_header, is_at};
 ghost use Rattle.mon_typing.specs.Functions.{registers_behind, body_of, named_function, next_function};
-ghost use Rattle.mon_typing.specs.Scopes.{numbered, is_new};
+ghost use Rattle.mon_typing.specs.Scopes.{numbered, is_new_register};
 
 use crate::fault::CheckFault;
+use crate::global::{Globals, is_new as is_new_global};
 use crate::header::Functions;
 use crate::register::Registers;
 use crate::scope::{Scope, is_free, name_at};
 use crate::statement::{Labels, checked_statements};
 use c_syntax::Name;
 use indexmap::IndexMap;
-use mon_parser::parsed::{ParsedFunc, ParsedProgram, ParsedRegister};
+use mon_parser::parsed::{ParsedFunc, ParsedRegister};
 use mon_parser::word_at;
-use mon_syntax::{MonFunc, MonProgram, MonStmt, MonType, Register, Word};
+use mon_syntax::{MonFunc, MonStmt, MonType, Register, Word};
 use std::alloc::{AllocError, Global};
 
-/// Whether a register may be called so after those that are known.
-fn is_new(words: &[Word], known: &IndexMap<u32, MonType>, number: u32) -> bool
-    ensures { result ≡ is_new words.now known.now.entries number }
+/// Whether a register may be called so, besides globals and after those that are known.
+fn is_new(words: &[Word], globals: &Globals, known: &IndexMap<u32, MonType>, number: u32) -> bool
+    ensures { result ≡ is_new_register words.now globals.now.numbers.keys known.now.entries number }
 {
-    is_free(word_at(words, number)) && !known.contains_key(&number)
+    is_new_global(words, &globals.numbers, number) && !known.contains_key(&number)
 }
 
 /// The registers after those that are known, by their names' numbers. Each has a free name of its own.
 fn checked_registers(
     words: &[Word],
+    globals: &Globals,
     known: &mut IndexMap<u32, MonType>,
     registers: &[ParsedRegister],
 ) -> Result<(), CheckFault>
-    ensures { Gives (λ u. known.new.entries) result (checked_registers words.now known.old.entries (map read.plain_register registers.now)) }
+    ensures { Gives (λ u. known.new.entries) result (checked_registers words.now globals.now.numbers.keys known.old.entries
+        (map read.plain_register registers.now)) }
 {
     'each: for register in registers {
         let name = register.name;
-        if !is_new(words, known, name.number) {
+        if !is_new(words, globals, known, name.number) {
             return Err(CheckFault::BadName(name.place));
         }
         known.insert(name.number, register.kind)?;
@@ -51,13 +54,14 @@ fn checked_registers(
 /// All registers of a function after those that are known, the parameters first.
 fn registers_of(
     words: &[Word],
+    globals: &Globals,
     known: &mut IndexMap<u32, MonType>,
     f: &ParsedFunc,
 ) -> Result<(), CheckFault>
-    ensures { Gives (λ u. known.new.entries) result (registers_behind words.now known.old.entries (read.plain_func f.now)) }
+    ensures { Gives (λ u. known.new.entries) result (registers_behind words.now globals.now.numbers.keys known.old.entries (read.plain_func f.now)) }
 {
-    checked_registers(words, known, &f.parameters)?;
-    checked_registers(words, known, &f.registers)
+    checked_registers(words, globals, known, &f.parameters)?;
+    checked_registers(words, globals, known, &f.registers)
 }
 
 fn named_register(
@@ -94,17 +98,19 @@ fn statements_with(
     names: &[Name],
     words: &[Word],
     functions: &Functions,
+    globals: &Globals,
     registers: &Registers,
     f: &ParsedFunc,
 ) -> Result<Vec<MonStmt>, CheckFault>
     ensures { Gives (λ v. plain_stmts v.items) result (checked_statements
-        (scope_of names.now words.now (map plain_header functions.now.headers.items) registers.now.kinds.entries) f.now.result []
+        (scope_of names.now words.now (map plain_header functions.now.headers.items) globals.now.numbers.keys registers.now.kinds.entries) f.now.result []
         (read.plain_stmts f.now.body.items)) }
 {
     let scope = Scope {
         names,
         words,
         functions,
+        globals,
         registers,
     };
     let mut labels = Labels {
@@ -120,14 +126,16 @@ fn body_of(
     names: &[Name],
     words: &[Word],
     functions: &Functions,
+    globals: &Globals,
     f: &ParsedFunc,
 ) -> Result<Vec<MonStmt>, CheckFault>
-    ensures { Gives (λ v. plain_stmts v.items) result (body_of names.now words.now (map plain_header functions.now.headers.items) (read.plain_func f.now)) }
+    ensures { Gives (λ v. plain_stmts v.items) result (body_of names.now words.now (map plain_header functions.now.headers.items) globals.now.numbers.keys
+        (read.plain_func f.now)) }
 {
     let mut kinds = IndexMap::new(alloc);
-    registers_of(words, &mut kinds, f)?;
+    registers_of(words, globals, &mut kinds, f)?;
     let registers = Registers::new(kinds)?;
-    statements_with(alloc, names, words, functions, &registers, f)
+    statements_with(alloc, names, words, functions, globals, &registers, f)
 }
 
 /// A function with this body, and its names.
@@ -157,11 +165,13 @@ fn checked_function(
     names: &[Name],
     words: &[Word],
     functions: &Functions,
+    globals: &Globals,
     f: &ParsedFunc,
 ) -> Result<MonFunc, CheckFault>
-    ensures { Gives plain_func result (checked_function names.now words.now (map plain_header functions.now.headers.items) (read.plain_func f.now)) }
+    ensures { Gives plain_func result (checked_function names.now words.now (map plain_header functions.now.headers.items) globals.now.numbers.keys
+        (read.plain_func f.now)) }
 {
-    let body = body_of(alloc, names, words, functions, f)?;
+    let body = body_of(alloc, names, words, functions, globals, f)?;
     Ok(named_function(alloc, names, f, body)?)
 }
 
@@ -181,49 +191,36 @@ fn next_function(
     names: &[Name],
     words: &[Word],
     functions: &Functions,
+    globals: &Globals,
     index: usize,
     f: &ParsedFunc,
 ) -> Result<MonFunc, CheckFault>
-    ensures { Gives plain_func result (next_function names.now words.now (map plain_header functions.now.headers.items) index (read.plain_func f.now)) }
+    ensures { Gives plain_func result (next_function names.now words.now (map plain_header functions.now.headers.items) globals.now.numbers.keys index
+        (read.plain_func f.now)) }
 {
     if is_new_function(words, functions, f.name.number, index) {
-        checked_function(alloc, names, words, functions, f)
+        checked_function(alloc, names, words, functions, globals, f)
     } else {
         Err(CheckFault::BadName(f.name.place))
     }
 }
 
 /// The functions of a text, by what they are to their callers.
-fn checked_functions(
+pub fn checked_functions(
     alloc: Global,
     names: &[Name],
     words: &[Word],
     functions: &Functions,
+    globals: &Globals,
     list: &[ParsedFunc],
 ) -> Result<Vec<MonFunc>, CheckFault>
     requires { map plain_header functions.now.headers.items ≡ map header_of (map read.plain_func list.now) }
-    ensures { Gives (λ v. map plain_func v.items) result (checked_functions names.now words.now (map plain_header functions.now.headers.items) []
-        (map read.plain_func list.now)) }
+    ensures { Gives (λ v. map plain_func v.items) result (checked_functions names.now words.now (map plain_header functions.now.headers.items)
+        globals.now.numbers.keys [] (map read.plain_func list.now)) }
 {
     let mut all = Vec::new(alloc);
     'each: for (index, f) in list.iter().enumerate() {
-        all.push(next_function(alloc, names, words, functions, index, f)?)?;
+        all.push(next_function(alloc, names, words, functions, globals, index, f)?)?;
     }
     Ok(all)
-}
-
-/// The program that a tree spells, by the text's names and what each of them is, or its first fault.
-pub fn checked_program(
-    alloc: Global,
-    names: &[Name],
-    words: &[Word],
-    program: &ParsedProgram,
-) -> Result<MonProgram, CheckFault>
-    ensures { Gives plain_program result (checked_program names.now words.now (read.plain_program program.now)) }
-{
-    let headers = Functions::new(alloc, &program.functions)?;
-    match checked_functions(alloc, names, words, &headers, &program.functions) {
-        Ok(functions) => Ok(MonProgram { functions }),
-        Err(fault) => Err(fault),
-    }
 }

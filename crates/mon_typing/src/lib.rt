@@ -5,6 +5,7 @@
 
 // what is known of names and types
 pub mod fault;
+pub mod global;
 pub mod header;
 pub mod register;
 pub mod scope;
@@ -15,11 +16,12 @@ pub mod argument;
 pub mod call;
 pub mod expression;
 pub mod function;
+pub mod program;
 pub mod statement;
 
 // laws
 pub mod laws;
 
-pub use fault::CheckFault;
-pub use function::checked_program;
+pub use fault::{CheckFault, ProgramFault};
+pub use program::checked_program;
 pub use scope::is_main;

@@ -1,6 +1,7 @@
 //! The registers of a function.
 
 ghost use Rattle.std.specs.Prelude.{◌≡◌, ◌<◌, ◌≤◌, length, IfOk, IfErr};
+ghost use Rattle.mon_syntax.specs.Checking.{find_register};
 
 use indexmap::IndexMap;
 use mon_syntax::MonType;
@@ -23,6 +24,16 @@ impl Registers {
             Ok(Registers { kinds })
         } else {
             Err(AllocError)
+        }
+    }
+
+    /// A register by its number in the function, with its type.
+    pub fn find(&self, name: u32) -> Option<(u32, MonType)>
+        ensures { result ≡ find_register 0 self.now.kinds.entries name }
+    {
+        match self.kinds.get_full(&name) {
+            Some((index, _, kind)) => Some((index as u32, *kind)),
+            None => None,
         }
     }
 }

@@ -1,26 +1,28 @@
 //! What is known of a text's names.
 
 ghost use Rattle.std.specs.Prelude.{◌≡◌, IfOk, IfErr, bytes_eq, codes};
-ghost use Rattle.mon_syntax.specs.Checking.{word_bytes, register_of, function_called, is_free};
+ghost use Rattle.mon_syntax.specs.Checking.{word_bytes, target_of, register_or_fault, function_called, is_free};
 ghost use Rattle.mon_parser.specs.ParsedTrees.{plain_name};
 ghost use Rattle.mon_typing.specs.Answers.{Gives, TakesNoMemory};
 ghost use Rattle.mon_typing.specs.Headers.{plain_header};
 ghost use Rattle.mon_typing.specs.Scopes.{plain_scope};
 
 use crate::fault::CheckFault;
+use crate::global::Globals;
 use crate::header::{Functions, Header};
 use crate::register::Registers;
-use c_syntax::Name;
+use c_syntax::{Name, Place};
 use mon_parser::parsed::NameUse;
 use mon_syntax::{MonType, Word};
 use std::alloc::{AllocError, Global};
 
-/// The names of the text and what they are, the functions, and the registers.
+/// The names of the text and what they are, the functions, the globals and the registers.
 #[derive(Clone, Copy, Drop)]
 pub struct Scope<'a> {
     pub names: &'a [Name],
     pub words: &'a [Word],
     pub functions: &'a Functions,
+    pub globals: &'a Globals,
     pub registers: &'a Registers,
 }
 
@@ -34,11 +36,17 @@ pub fn is_main(names: &[Name], number: u32) -> bool
     }
 }
 
-/// Whether a register, a label or a function may be called so.
+/// Whether a global, a register, a label or a function may be called so.
 pub fn is_free(word: Word) -> bool
     ensures { result ≡ is_free word }
 {
     matches!(word, Word::Name)
+}
+
+pub fn copy(alloc: Global, name: &Name) -> Result<Name, AllocError>
+    ensures { IfOk result (λ x. x ≡ name.now) }
+{
+    Ok(Name::new(Vec::from_slice(alloc, name.bytes())?))
 }
 
 /// A copy of the name of a number, or an empty one where there is none.
@@ -46,19 +54,37 @@ pub fn name_at(alloc: Global, names: &[Name], number: u32) -> Result<Name, Alloc
     ensures { IfOk result (λ name. name ≡ word_bytes names.now number) }
 {
     match names.get(number as usize) {
-        Some(name) => Ok(Name::new(Vec::from_slice(alloc, name.bytes())?)),
+        Some(name) => copy(alloc, name),
         None => Ok(Name::new(Vec::new(alloc))),
     }
 }
 
-/// A register by its number in the function, with its type.
-pub fn register_of(scope: &Scope, name: NameUse) -> Result<(u32, MonType), CheckFault>
-    ensures typed { Gives (λ r. r) result (register_of (plain_scope scope.now) (plain_name name)) }
+/// A name that is set or stored through: a register by its number in the function, with its type, or none where it is a
+/// global.
+pub fn target_of(scope: &Scope, name: NameUse) -> Result<Option<(u32, MonType)>, CheckFault>
+    ensures typed { Gives (λ target. target) result (target_of (plain_scope scope.now) (plain_name name)) }
     ensures sure { IfErr result TakesNoMemory }
 {
-    match scope.registers.kinds.get_full(&name.number) {
-        Some((index, _, kind)) => Ok((index as u32, *kind)),
+    if let Some(register) = scope.registers.find(name.number) {
+        return Ok(Some(register));
+    }
+    match scope.globals.find(name.number) {
+        Some(_) => Ok(None),
         None => Err(CheckFault::BadName(name.place)),
+    }
+}
+
+/// It is to be a register.
+pub fn register_or_fault(
+    target: Option<(u32, MonType)>,
+    place: Place,
+) -> Result<(u32, MonType), CheckFault>
+    ensures register { Gives (λ r. r) result (register_or_fault target place) }
+    ensures sure { IfErr result TakesNoMemory }
+{
+    match target {
+        Some(register) => Ok(register),
+        None => Err(CheckFault::BadType(place)),
     }
 }
 

@@ -3,24 +3,24 @@
 ghost use Rattle.std.specs.Prelude.{◌≡◌, ◌≤◌, ◌++◌, [], ◌∷◌, length, drop, nat_eq, reverse, Some, None, option_map, slice_get, Ok, OnOk, IfErr};
 ghost use Rattle.std.specs.List.{list_any};
 ghost use Rattle.mon_syntax.specs.Trees as tree;
-ghost use Rattle.mon_syntax.specs.Trees.{MonStatements, plain_stmt, plain_stmts};
+ghost use Rattle.mon_syntax.specs.Trees.{MonStatements, plain_expr, plain_stmt, plain_stmts};
 ghost use Rattle.mon_syntax.specs.Valid.{memory_result};
 ghost use Rattle.mon_syntax.specs.Checking.{bytes_of, result_of, value_type, with_target, taken, returned, known_label, new_label, labels_in, labels_in_all};
 ghost use Rattle.mon_syntax.specs.Checking.{checked_statement, checked_statements};
 ghost use Rattle.mon_syntax.specs.Parsed as parsed;
 ghost use Rattle.mon_parser.specs.ParsedTrees as read;
-ghost use Rattle.mon_typing.specs.Answers.{Fails, Gives, TakesNoMemory};
+ghost use Rattle.mon_typing.specs.Answers.{Fails, Gives, TakesNoMemory, plain_typed};
 ghost use Rattle.mon_typing.specs.Scopes.{plain_scope};
-ghost use Rattle.mon_typing.specs.Statements.{checked_bodies};
+ghost use Rattle.mon_typing.specs.Statements.{checked_bodies, register_of_type, set_to, stored_to, taken_by};
 
 use crate::call::checked_call;
-use crate::expression::{checked_expression, condition, of_type};
+use crate::expression::{Typed, checked_expression, condition, of_type};
 use crate::fault::CheckFault;
-use crate::scope::{Scope, is_free, name_at, register_of};
+use crate::scope::{Scope, is_free, name_at, register_or_fault, target_of};
 use c_syntax::Place;
 use mon_parser::parsed::{NameUse, ParsedCall, ParsedExpr, ParsedStmt, ParsedStmtKind};
 use mon_parser::word_at;
-use mon_syntax::{MemoryCall, MonStmt, MonStmtKind, MonType, same_type};
+use mon_syntax::{MemoryCall, MonExpr, MonStmt, MonStmtKind, MonType, same_type};
 use std::alloc::Global;
 
 /// The labels around a statement, and those of the bodies after which it stands, by their names' numbers.
@@ -39,6 +39,7 @@ fn memory_result(f: MemoryCall) -> Option<MonType>
     match f {
         MemoryCall::StoreBlock => Some(MonType::Ptr),
         MemoryCall::DeleteBlock => None,
+        MemoryCall::Number(_) => Some(MonType::I32),
     }
 }
 
@@ -186,9 +187,85 @@ fn assigned(
     ensures { Gives plain_stmt result (checked_statement (plain_scope scope.now) None []
         (parsed.Set (read.plain_name register) place (read.plain_expr e.now))) }
 {
-    let (number, kind) = register_of(scope, register)?;
-    let value = of_type(alloc, scope, kind, place, e)?;
+    let target = target_of(scope, register)?;
+    let value = checked_expression(alloc, scope, e)?;
+    set_to(alloc, target, place, value)
+}
+
+/// A register by its number, which is to be one of the type.
+fn register_of_type(
+    target: Option<(u32, MonType)>,
+    kind: MonType,
+    place: Place,
+) -> Result<u32, CheckFault>
+    ensures register { Gives (λ r. r) result (register_of_type target kind place) }
+    ensures sure { IfErr result TakesNoMemory }
+{
+    let (number, known) = register_or_fault(target, place)?;
+    if same_type(kind, known) {
+        Ok(number)
+    } else {
+        Err(CheckFault::BadType(place))
+    }
+}
+
+/// A register takes a value.
+fn set_to(
+    alloc: Global,
+    target: Option<(u32, MonType)>,
+    place: Place,
+    value: Typed,
+) -> Result<MonStmt, CheckFault>
+    ensures { Gives plain_stmt result (set_to target place (plain_typed value)) }
+{
+    let (value, kind) = value;
+    let number = register_of_type(target, kind, place)?;
     Ok(MonStmt::new(alloc, MonStmtKind::Set(number, value))?)
+}
+
+/// A value of the type is stored at the pointer of a register.
+fn stored_to(
+    alloc: Global,
+    target: Option<(u32, MonType)>,
+    place: Place,
+    kind: MonType,
+    value: MonExpr,
+) -> Result<MonStmt, CheckFault>
+    ensures { Gives plain_stmt result (stored_to target place kind (plain_expr value)) }
+{
+    let number = register_of_type(target, MonType::Ptr, place)?;
+    Ok(MonStmt::new(alloc, MonStmtKind::Store(number, kind, value))?)
+}
+
+/// `*(t *)R = e;`, which is the same in each function and in each body.
+fn stored(
+    alloc: Global,
+    scope: &Scope,
+    kind: MonType,
+    register: NameUse,
+    place: Place,
+    e: &ParsedExpr,
+) -> Result<MonStmt, CheckFault>
+    ensures { Gives plain_stmt result (checked_statement (plain_scope scope.now) None []
+        (parsed.Store kind (read.plain_name register) place (read.plain_expr e.now))) }
+{
+    let target = target_of(scope, register)?;
+    let value = of_type(alloc, scope, kind, place, e)?;
+    stored_to(alloc, target, place, kind, value)
+}
+
+/// A register takes the value of a call, where it is one.
+fn taken_by(
+    scope: &Scope,
+    target: Option<(u32, MonType)>,
+    place: Place,
+    call: MonStmt,
+) -> Result<MonStmt, CheckFault>
+    ensures typed { Gives plain_stmt result (taken_by (plain_scope scope.now) target place (plain_stmt call)) }
+    ensures sure { IfErr result TakesNoMemory }
+{
+    let register = register_or_fault(target, place)?;
+    taken(scope, register, place, call)
 }
 
 /// `R = f(..);`, which is the same in each function and in each body.
@@ -202,9 +279,9 @@ fn assigned_call(
     ensures { Gives plain_stmt result (checked_statement (plain_scope scope.now) None []
         (parsed.Take (read.plain_name register) place (read.plain_call call.now))) }
 {
-    let target = register_of(scope, register)?;
+    let target = target_of(scope, register)?;
     let call = checked_call(alloc, scope, call)?;
-    taken(scope, target, place, call)
+    taken_by(scope, target, place, call)
 }
 
 /// `goto LABEL;`, inside bodies of these labels.
@@ -233,6 +310,9 @@ pub fn checked_statement(
 {
     match &*s.kind {
         ParsedStmtKind::Set(register, place, e) => assigned(alloc, scope, *register, *place, e),
+        ParsedStmtKind::Store(kind, register, place, e) => {
+            stored(alloc, scope, *kind, *register, *place, e)
+        }
         ParsedStmtKind::Take(register, place, call) => {
             assigned_call(alloc, scope, *register, *place, call)
         }

@@ -1,11 +1,11 @@
 //! Types of registers.
 
 ghost use Rattle.std.specs.Prelude.{◌≡◌, IsTrue};
-ghost use Rattle.mon_syntax.specs.Valid.{is_arithmetic, is_whole, has_constant};
+ghost use Rattle.mon_syntax.specs.Valid.{is_arithmetic, is_whole, has_operator, has_constant};
 
-use mon_syntax::MonType;
+use mon_syntax::{MonOp, MonType};
 
-/// Whether operators work on the type.
+/// Whether operators work on numbers of the type.
 pub fn is_arithmetic(kind: MonType) -> bool
     ensures { result ≡ is_arithmetic kind }
 {
@@ -22,7 +22,22 @@ pub fn is_whole(kind: MonType) -> bool
     kind != MonType::Ptr
 }
 
-/// Whether a constant of the type has the value: one of the type, a whole-number type, but not the least `i128`.
+/// Whether the operator works on a first operand of the type.
+pub fn has_operator(op: MonOp, kind: MonType) -> bool
+    ensures { result ≡ has_operator op kind }
+{
+    if kind != MonType::Ptr {
+        return is_arithmetic(kind);
+    }
+    match op {
+        MonOp::Add | MonOp::Sub => true,
+        MonOp::Eq | MonOp::Ne | MonOp::Lt | MonOp::Le | MonOp::Gt | MonOp::Ge => true,
+        MonOp::Mul | MonOp::Div | MonOp::Rem | MonOp::Shl | MonOp::Shr => false,
+        MonOp::And | MonOp::Or | MonOp::Xor => false,
+    }
+}
+
+/// Whether a constant of the type has the value: one of the type, but not the least `i128`, and of a pointer 0 alone.
 pub fn has_constant(kind: MonType, value: i128) -> bool
     ensures { result ≡ has_constant kind value }
 {
@@ -36,6 +51,6 @@ pub fn has_constant(kind: MonType, value: i128) -> bool
         MonType::I64 => -9_223_372_036_854_775_808 <= value && value <= 9_223_372_036_854_775_807,
         MonType::U64 => 0 <= value && value <= 18_446_744_073_709_551_615,
         MonType::I128 => value != i128::MIN,
-        MonType::Ptr => false,
+        MonType::Ptr => value == 0,
     }
 }

@@ -16,3 +16,6 @@ decreases-converted l = 2 * the_size l.a.now + 1
 
 abbrev pub decreases-operation : goal.decreases-operation
 decreases-operation l = 2 * max (the_size l.a.now) (the_size l.b.now) + 1
+
+abbrev pub decreases-loaded : goal.decreases-loaded
+decreases-loaded l = 2 * the_size l.a.now + 1

@@ -7,5 +7,5 @@ use Rattle.mon_typing.proofs.function.checked_functions.Given as goal
 
 abbrev pub invariant-each : goal.invariant-each
 invariant-each l =
-    behind_functions l.all.items (checked_functions l.names l.words (map plain_header l.functions.headers.items) (names_before l.index l.list) (map plain_func (drop l.index l.list)))
-    ≡ checked_functions l.names l.words (map plain_header l.functions.headers.items) [] (map plain_func l.list)
+    behind_functions l.all.items (checked_functions l.names l.words (map plain_header l.functions.headers.items) l.globals.numbers.keys (names_before l.index l.list) (map plain_func (drop l.index l.list)))
+    ≡ checked_functions l.names l.words (map plain_header l.functions.headers.items) l.globals.numbers.keys [] (map plain_func l.list)
