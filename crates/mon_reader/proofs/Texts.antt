@@ -12,21 +12,21 @@ use Rattle.mon_syntax.specs.Trees.{MonitoredProgram}
 use Rattle.mon_syntax.specs.Parsed.{ParsedProgram}
 use Rattle.mon_syntax.specs.Grammar.{text}
 use Rattle.mon_syntax.specs.Checking.{Checked}
-use Rattle.mon_syntax.specs.Spelled.{vocabulary, IsRead, checked, check_refusal, main_refusal, Spells, IsMonitoredRefusal, ByTokens, ByGrammar, ByNamesAndTypes, ForMain}
+use Rattle.mon_syntax.specs.Spelled.{vocabulary, IsRead, checked, check_refusal, last_refusal, Spells, IsMonitoredRefusal, ByTokens, ByGrammar, ByNamesAndTypes, AsAWhole}
 use Rattle.mon_syntax.proofs.ExactTexts.{text_exact}
 use Rattle.mon_parser.proofs.Answers.{one}
 
 abbrev Answer : Type 0
 Answer = Result MonitoredProgram PlainRefusal
 
--- ---- what names, types and `main` say of a tree
+-- ---- what names, types and the last phase say of a tree
 
 abbrev entered : MonitoredProgram → Option PlainRefusal → Answer
 entered m None = Ok m
 entered m (Some r) = Err r
 
 abbrev settled : PlainTokens → ParsedProgram → Checked MonitoredProgram → Answer
-settled ts p (Ok m) = entered m (main_refusal ts.names p)
+settled ts p (Ok m) = entered m (last_refusal ts.names p)
 settled ts p (Err f) = Err (check_refusal ts f)
 
 abbrev of_tree : PlainTokens → ParsedProgram → Answer
@@ -100,13 +100,13 @@ one_answer source a b (Tree x) (Tree y) = both_trees source a b x y
 -- ---- programs and refusals are answers
 
 spelled : (source : List ℕ) (m : MonitoredProgram) → Spells source m → Answers source (Ok m)
-spelled source m s = Tree (record { tokens = s.tokens; has = s.has; tree = s.tree; read = s.read; is = ap (settled s.tokens s.tree) s.is ∙ ap (entered m) s.main })
+spelled source m s = Tree (record { tokens = s.tokens; has = s.has; tree = s.tree; read = s.read; is = ap (settled s.tokens s.tree) s.is ∙ ap (entered m) s.whole })
 
 refused : (source : List ℕ) (r : PlainRefusal) → IsMonitoredRefusal source r → Answers source (Err r)
 refused source r (ByTokens e) = NoTokens r e refl
 refused source r (ByGrammar ts f e g u is) = NoTree (record { tokens = ts; has = e; fault = f; refused = g; unread = u; is = ap Err is })
 refused source r (ByNamesAndTypes ts p f e g k is) = Tree (record { tokens = ts; has = e; tree = p; read = g; is = ap (settled ts p) k ∙ ap Err (sym is) })
-refused source r (ForMain ts p m e g k is) = Tree (record { tokens = ts; has = e; tree = p; read = g; is = ap (settled ts p) k ∙ ap (entered m) is })
+refused source r (AsAWhole ts p m e g k is) = Tree (record { tokens = ts; has = e; tree = p; read = g; is = ap (settled ts p) k ∙ ap (entered m) is })
 
 -- ---- the laws
 

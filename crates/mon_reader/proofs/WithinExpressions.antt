@@ -7,12 +7,12 @@ use Rattle.grammar.proofs.Readings.{EachWithin, within_any, within_more, within_
 use Rattle.c_syntax.specs.declared.place.Place.{Place}
 use Rattle.c_syntax.specs.Tokens as token
 use Rattle.c_syntax.specs.Tokens.{PlainTokenKind, PlainToken}
-use Rattle.c_model.specs.Punctuators.{right_paren, minus, tilde, comma, left_paren}
+use Rattle.c_model.specs.Punctuators.{right_paren, minus, tilde, times, comma, left_paren}
 use Rattle.c_model.specs.Terminals.{expression_limit, placed}
 use Rattle.mon_syntax.specs.Parsed.{NameUse, ParsedExpression, ParsedArgument, ParsedCall}
 use Rattle.mon_syntax.specs.Grammar.{constant_of, signed_number, name, operator_of, type_of, number_of}
 use Rattle.mon_syntax.specs.Grammar.{Vocabulary, name_kind, type_kind, constant_kind, number_kind, text_kind, mark_kind, kind, first_argument}
-use Rattle.mon_syntax.specs.Grammar.{text_of, mark, constant, other_expression, expression_with, second_operand, negation, complement, cast, behind_two, plain_operand}
+use Rattle.mon_syntax.specs.Grammar.{text_of, mark, constant, other_expression, expression_with, second_operand, negation, complement, cast, behind_two, plain_operand, pointed_type, load}
 use Rattle.mon_syntax.specs.Grammar.{behind_paren, opened, behind_opened, expression_in, expression, expression_but_name, argument, next_argument, some_arguments, arguments, call_of, has_no_argument}
 use Rattle.mon_syntax.proofs.ExactTokens.{fixed_good}
 use Rattle.mon_typing.specs.Within.{open_parens, HasFewParens, IsArgumentWithin}
@@ -95,6 +95,11 @@ module _ (size : ℕ) (ws : Vocabulary) where
     cast_each le at = after (one (placed (type_of ws))) (λ t. after (mark ws right_paren) (λ _. within_then e
         (λ x p. after (mark ws right_paren) (λ _. within_gives _ (let m : max 1 (open_parens x) ≤ n = max-le (omega (arith, le)) p in omega (arith, m))))))
 
+    load_each : {O : Syntax PlainToken Place} → Each O (λ at. 0 < n) → Each (load ws O E) (Few (suc n))
+    unfolding load
+    load_each o = after (mark ws times) (λ at. within_then o (λ _ le. after (pointed_type ws) (λ t. within_then e
+        (λ x p. after (mark ws right_paren) (λ _. within_gives _ (let m : max 1 (open_parens x) ≤ n = max-le (omega (arith, le)) p in omega (arith, m)))))))
+
     two_each : {B : Syntax PlainToken ParsedExpression} → Each B (Few n) → 0 < n → (at : Place) → Each (behind_two ws E B at) (Few (suc n))
     unfolding behind_two
     two_each b le at = within_choice (kind ws) (type_kind ∷ []) (cast_each le at) (within_then b (λ left l. second_each left l))
@@ -104,8 +109,9 @@ module _ (size : ℕ) (ws : Vocabulary) where
   paren_each n b =
       within_choice (kind ws) (mark_kind minus ∷ []) (negation_each n (with_each n b))
       (within_choice (kind ws) (mark_kind tilde ∷ []) (complement_each n (with_each n b))
+      (within_choice (kind ws) (mark_kind times ∷ []) (load_each n (with_each n b) (opened_each n))
       (within_choice (kind ws) (mark_kind left_paren ∷ []) (within_then (opened_each n) (λ at le. two_each n (with_each n b) b le at))
-      (within_then (plain_each n) (λ left l. second_each n (with_each n b) left l))))
+      (within_then (plain_each n) (λ left l. second_each n (with_each n b) left l)))))
 
   opened_behind_each : (n : ℕ) → Each (behind_opened ws n) (Few n)
   unfolding behind_opened
@@ -132,14 +138,14 @@ module _ (size : ℕ) (ws : Vocabulary) where
   text_bytes token.AnnotClose bytes h e = absurd cc
   text_bytes (token.Head k n) bytes h e = absurd cc
 
-  text_each : Each (one (placed text_of)) (λ s. AreBytes s.0)
-  text_each = within_one (placed text_of) (λ t s h e. text_bytes t.kind s.0 h (placed_is text_of t s e))
+  pub string_each : Each (one (placed text_of)) (λ s. AreBytes s.0)
+  string_each = within_one (placed text_of) (λ t s h e. text_bytes t.kind s.0 h (placed_is text_of t s e))
 
   argument_each : Each (argument ws) IsArgumentWithin
   unfolding argument
   argument_each =
       within_choice (kind ws) (number_kind ∷ []) (after (one (placed number_of)) (λ z. within_gives _ tt))
-      (within_choice (kind ws) (text_kind ∷ []) (within_then text_each (λ s h. within_gives _ h)) (within_then expression_each (λ e h. within_gives _ h)))
+      (within_choice (kind ws) (text_kind ∷ []) (within_then string_each (λ s h. within_gives _ h)) (within_then expression_each (λ e h. within_gives _ h)))
 
   one_more : (xs : List ParsedArgument) (x : ParsedArgument) → has_no_argument (xs ++ x ∷ []) ≡ false
   one_more [] x = refl

@@ -6,12 +6,15 @@ use Rattle.grammar.proofs.Readings.{within_more, within_none, within_gives, with
 use Rattle.c_syntax.specs.declared.place.Place.{Place}
 use Rattle.c_syntax.specs.Tokens as token
 use Rattle.c_syntax.specs.Tokens.{PlainTokenKind, PlainToken}
-use Rattle.c_model.specs.Punctuators.{semicolon, right_brace, right_paren, colon, assign, left_paren, left_brace}
+use Rattle.c_model.specs.Punctuators.{semicolon, right_brace, right_paren, colon, comma, times, assign, left_paren, left_brace}
 use Rattle.c_model.specs.Terminals.{placed, nesting_limit}
+use Rattle.mon_syntax.specs.declared.tree.MonType.{MonType}
+use Rattle.mon_syntax.specs.Arithmetic.{byte_count, is_pointer}
 use Rattle.mon_syntax.specs.Parsed.{NameUse, ParsedCall, ParsedStatement, Call, ParsedStatements}
-use Rattle.mon_syntax.specs.Grammar.{return_kind, else_kind, fixed, mark, is_one}
+use Rattle.mon_syntax.specs.Grammar.{return_kind, else_kind, initialize_kind, initialize_pointer_kind, fixed, mark, is_number}
 use Rattle.mon_syntax.specs.Grammar.{Vocabulary, name_kind, if_kind, while_kind, goto_kind, mark_kind, word_kind, word_at, kind, first_expression, first_statement}
 use Rattle.mon_syntax.specs.Grammar.{parsed_list, LoopRead, nothing_read, has_step, with_statement, is_step, is_step_word, has_no_argument, name_of, name, InBody, ended, set_to_call, set_to_name, set_to}
+use Rattle.mon_syntax.specs.Grammar.{pointed_type, marked_name, mark_end, number_mark, pointer_mark, store_mark, stored, store}
 use Rattle.mon_syntax.specs.Grammar.{behind_name, one_more, statements, body, selection, one_more_in_loop, loop_end, iteration, labelled, jump, returned, return_statement, statement_with, statement_in}
 use Rattle.mon_syntax.proofs.ExactExpressions.{none_good}
 use Rattle.mon_syntax.proofs.ExactStatements.{statement_with_good}
@@ -81,6 +84,40 @@ module _ (size : ℕ) (ws : Vocabulary) where
   named_each s x =
       within_choice (kind ws) (mark_kind assign ∷ []) (after size ws (mark ws assign) (λ at. set_each s x at))
       (within_then (call_each size ws (s && is_step_word (word_at ws x.number)) x) (λ c h. ended_each _ (call_is_simple s x c h)))
+
+  end_of_mark_each : (s : Bool) (a : ParsedStatement) → IsSimple s a → Each size ws (mark_end ws a) (IsSimple s)
+  unfolding mark_end
+  end_of_mark_each s a h = after size ws (mark ws right_paren) (λ _. ended_each a h)
+
+  number_mark_each : (s : Bool) (n : ℕ) (x : NameUse) (a : ParsedStatement) → IsSimple s a → Each size ws (number_mark ws n x a) (IsSimple s)
+  unfolding number_mark
+  number_mark_each s n x a h =
+      after size ws (fixed ws initialize_kind) (λ _. after size ws (marked_name ws x) (λ _. after size ws (mark ws comma) (λ _.
+      after size ws (one (placed (is_number n))) (λ _. end_of_mark_each s a h))))
+
+  pointer_mark_each : (s : Bool) (x : NameUse) (a : ParsedStatement) → IsSimple s a → Each size ws (pointer_mark ws x a) (IsSimple s)
+  unfolding pointer_mark
+  pointer_mark_each s x a h = after size ws (fixed ws initialize_pointer_kind) (λ _. after size ws (marked_name ws x) (λ _. end_of_mark_each s a h))
+
+  mark_each : (s : Bool) (t : MonType) (x : NameUse) (a : ParsedStatement) → IsSimple s a → Each size ws (store_mark ws t x a) (IsSimple s)
+  unfolding store_mark
+  mark_each s t x a h = by (is_pointer t)
+    where
+      by : (b : Bool) → Each size ws (cond b (pointer_mark ws x a) (number_mark ws (byte_count t) x a)) (IsSimple s)
+      by true = pointer_mark_each s x a h
+      by false = number_mark_each s (byte_count t) x a h
+
+  stored_each : (s : Bool) (t : MonType) (x : NameUse) → Each size ws (stored ws t x) (IsSimple s)
+  unfolding stored
+  stored_each s t x =
+      after size ws (mark ws assign) (λ at. within_then (expression_each size ws) (λ e h. after size ws (mark ws semicolon)
+      (λ _. mark_each s t x _ (record { within = h; flat = refl; plain = λ _. refl }))))
+
+  store_each : (s : Bool) → Each size ws (store ws) (IsSimple s)
+  unfolding store
+  store_each s =
+      after size ws (mark ws times) (λ _. after size ws (mark ws left_paren) (λ _. after size ws (pointed_type ws) (λ t.
+      after size ws (name ws) (λ x. stored_each s t x))))
 
   jump_each : (s : Bool) → Each size ws (jump ws) (IsSimple s)
   unfolding jump
@@ -189,7 +226,7 @@ module _ (size : ℕ) (ws : Vocabulary) where
     iteration_each : (no_step : Bool) → Each size ws (iteration ws S) (IsNested (suc n) no_step)
     unfolding iteration
     iteration_each no_step =
-        after size ws (fixed ws while_kind) (λ _. after size ws (mark ws left_paren) (λ _. after size ws (one (placed is_one)) (λ _. after size ws (mark ws right_paren) (λ _. after size ws (mark ws left_brace) (λ _.
+        after size ws (fixed ws while_kind) (λ _. after size ws (mark ws left_paren) (λ _. after size ws (one (placed (is_number 1))) (λ _. after size ws (mark ws right_paren) (λ _. after size ws (mark ws left_brace) (λ _.
         within_then (within_many (kind ws) (λ _. first_statement) {P = IsLoop n} turn_each nothing_read (record { before = no_part n; behind = tt })) (λ x h. end_each no_step x.before x.behind h.before h.behind))))))
 
     labelled_each : (no_step : Bool) → Each size ws (labelled ws S) (IsNested (suc n) no_step)
@@ -204,10 +241,11 @@ module _ (size : ℕ) (ws : Vocabulary) where
     unfolding statement_with
     with_each no_step =
         within_choice (kind ws) (name_kind ∷ []) (within_more (simple no_step) (after size ws (name ws) (λ x. named_each no_step x)))
+        (within_choice (kind ws) (mark_kind times ∷ []) (within_more (simple no_step) (store_each no_step))
         (within_choice (kind ws) (mark_kind left_brace ∷ []) (labelled_each no_step)
         (within_choice (kind ws) (if_kind ∷ []) (selection_each no_step)
         (within_choice (kind ws) (while_kind ∷ []) (iteration_each no_step)
-        (within_choice (kind ws) (goto_kind ∷ []) (within_more (simple no_step) (jump_each no_step)) (within_more (simple no_step) (return_each no_step))))))
+        (within_choice (kind ws) (goto_kind ∷ []) (within_more (simple no_step) (jump_each no_step)) (within_more (simple no_step) (return_each no_step)))))))
 
   pub statement_each : (n : ℕ) (no_step : Bool) → Each size ws (statement_in ws n no_step) (IsNested n no_step)
   unfolding statement_in

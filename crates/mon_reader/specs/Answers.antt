@@ -9,7 +9,7 @@ use Rattle.c_syntax.specs.Programs.{PlainRefusal, plain_refusal}
 use Rattle.mon_syntax.specs.Trees.{MonitoredProgram}
 use Rattle.mon_syntax.specs.Parsed.{ParsedProgram}
 use Rattle.mon_syntax.specs.Checking.{Fault}
-use Rattle.mon_syntax.specs.Spelled.{checked, check_refusal, main_refusal, IsMonitoredRefusal}
+use Rattle.mon_syntax.specs.Spelled.{checked, check_refusal, last_refusal, IsMonitoredRefusal}
 use Rattle.token_reader.specs.Answers.{RefusesWith}
 use Rattle.mon_typing.specs.declared.fault.CheckFault.{CheckFault}
 use Rattle.mon_typing.specs.declared.fault.CheckFault.TheVariants.{BadName, BadType, Memory}
@@ -29,19 +29,19 @@ abbrev pub HasFault : FrontFault → PlainTokens → ParsedProgram → Type 0
 HasFault front.Memory ts p = Unit {0}
 HasFault (front.Refused r) ts p = IsCheckRefusal ts p (plain_refusal r)
 
--- A tree is refused for its first fault in names and types, or for want of `i32 main(void)` (E13).
+-- A tree is refused for its first fault in names and types, or as a whole: for want of room for its globals (E12) or of `i32 main(void)` (E13).
 pub data IsTreeRefusal (ts : PlainTokens) (p : ParsedProgram) (r : PlainRefusal) : Type 0 where
   ForFault : IsCheckRefusal ts p r → IsTreeRefusal ts p r
-  ForMain : (m : MonitoredProgram) → checked ts p ≡ Ok m → main_refusal ts.names p ≡ Some r → IsTreeRefusal ts p r
+  AsAWhole : (m : MonitoredProgram) → checked ts p ≡ Ok m → last_refusal ts.names p ≡ Some r → IsTreeRefusal ts p r
 
 abbrev pub RefusesTree : FrontFault → PlainTokens → ParsedProgram → Type 0
 RefusesTree front.Memory ts p = Unit {0}
 RefusesTree (front.Refused r) ts p = IsTreeRefusal ts p (plain_refusal r)
 
--- a tree without a fault spells the program, and has its `main`
+-- a tree without a fault spells the program, and is not refused as a whole
 pub record IsEntered (ts : PlainTokens) (p : ParsedProgram) (m : MonitoredProgram) : Type 0 where
   pub is : checked ts p ≡ Ok m
-  pub main : main_refusal ts.names p ≡ None
+  pub whole : last_refusal ts.names p ≡ None
 
 -- the refusal for a fault in names and types
 abbrev pub RefusesFault : PlainTokens → CheckFault → FrontFault → Type 0

@@ -1,16 +1,29 @@
 //! The function that a run begins with: `i32 main(void)` (C99 5.1.2.2.1).
 
-ghost use Rattle.std.specs.Prelude.{◌≡◌, ◌&&◌, if◌then◌else◌, map, option_map, Some, None};
-ghost use Rattle.mon_syntax.specs.Spelled.{no_main, is_i32, has_none, main_refusal};
+ghost use Rattle.std.specs.Prelude.{◌≡◌, map};
+ghost use Rattle.mon_syntax.specs.Spelled.{is_i32, has_none, is_main, main_in};
 ghost use Rattle.c_model.specs.Places.{first_place};
-ghost use Rattle.mon_parser.specs.ParsedTrees.{plain_program, plain_register};
+ghost use Rattle.mon_parser.specs.ParsedTrees.{plain_func, plain_program, plain_register};
+ghost use Rattle.mon_reader.specs.Entries.{found_main};
 
 use c_syntax::{Name, Place};
 use mon_parser::{ParsedFunc, ParsedProgram, ParsedRegister};
 use mon_syntax::MonType;
 use mon_typing::is_main;
 
-fn first_place() -> Place
+/// What a text has of a `main`.
+#[derive(Clone, Copy)]
+pub enum FoundMain {
+    /// No function of this name.
+    Missing,
+    /// One with another result or parameters, at its name.
+    Wrong(Place),
+    /// `i32 main(void)`
+    Right,
+}
+
+/// The beginning of a text.
+pub fn first_place() -> Place
     ensures { result ≡ first_place }
 {
     Place {
@@ -35,27 +48,24 @@ fn has_none(parameters: &[ParsedRegister]) -> bool
     parameters.is_empty()
 }
 
-/// The name of a function `main` that has another result or parameters.
-fn fault_of(f: &ParsedFunc) -> Option<Place>
-    ensures { option_map no_main result ≡ (if is_i32 f.now.result && has_none (map plain_register f.now.parameters.items) then None else Some
-        (no_main f.now.name.place)) }
+fn has_form(f: &ParsedFunc) -> bool
+    ensures { result ≡ is_main (plain_func f.now) }
 {
-    if is_i32(f.result) && has_none(&f.parameters) {
-        None
-    } else {
-        Some(f.name.place)
-    }
+    is_i32(f.result) && has_none(&f.parameters)
 }
 
-/// The place at which a text is refused for want of `i32 main(void)`: the name of its first `main`, or its beginning where it
-/// has no such function. None where it has it.
-pub fn main_fault(names: &[Name], program: &ParsedProgram) -> Option<Place>
-    ensures { option_map no_main result ≡ main_refusal names.now (plain_program program.now) }
+/// The first `main` of a text.
+pub fn found_main(names: &[Name], program: &ParsedProgram) -> FoundMain
+    ensures { result ≡ found_main (main_in names.now (plain_program program.now).functions) }
 {
     'each: for f in &program.functions {
         if is_main(names, f.name.number) {
-            return fault_of(f);
+            return if has_form(f) {
+                FoundMain::Right
+            } else {
+                FoundMain::Wrong(f.name.place)
+            };
         }
     }
-    Some(first_place())
+    FoundMain::Missing
 }
