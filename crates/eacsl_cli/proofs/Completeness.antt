@@ -12,7 +12,7 @@ use Rattle.c_model.specs.Reports.{Report, report, agrees_at}
 use Rattle.c_reader.proofs.Programs.{accepted_never_faults}
 use Rattle.c_reader.proofs.Texts.{one_program, apart, one_refusal}
 use Rattle.mon_syntax.specs.Trees.{MonitoredProgram}
-use Rattle.mon_syntax.specs.Memories.{flat_run}
+use Rattle.mon_syntax.specs.FlatMemory.{flat_run}
 use Rattle.mon_syntax.specs.Translates.{Translates}
 use Rattle.mon_syntax.specs.Spelled.{Spells, IsMonitoredRefusal}
 use Rattle.mon_reader.proofs.Texts.{one_spelled, spelled_apart, one_monitored_refusal}

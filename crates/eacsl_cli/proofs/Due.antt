@@ -3,12 +3,12 @@ use Rattle.std.proofs.Common.{◌≡◌, ℕ, List, [], ◌++◌, take, Option, 
 use Rattle.std.proofs.lemmas.List.{append-nil}
 use Rattle.c_syntax.specs.Programs.{PlainRefusal}
 use Rattle.c_model.specs.Phases.{RefusedText}
-use Rattle.c_model.specs.State.{Final, ReadFault}
+use Rattle.c_model.specs.State.{Input, Final, ReadFault}
 use Rattle.c_model.proofs.Agreement.{extends_trans}
 use Rattle.c_model.specs.Meaning.{Ran}
 use Rattle.c_model.specs.Reports.{Report, report, line_of, refused_words, Extends}
 use Rattle.mon_syntax.specs.Trees.{MonitoredProgram}
-use Rattle.mon_syntax.specs.Memories.{over_flat, flat_start, flat_run}
+use Rattle.mon_syntax.specs.FlatMemory.{over_flat, flat_start, flat_run}
 use Rattle.mon_syntax.specs.Text.{text_of}
 use Rattle.mon_syntax.specs.Spelled.{Spells, IsMonitoredRefusal}
 use Rattle.ea_ports.specs.declared.SinkFault.{SinkFault}
@@ -16,14 +16,15 @@ use Rattle.ea_ports.specs.Port.{more, Rose}
 use Rattle.ea_ports.proofs.Told.{more-nil}
 use Rattle.ea_ports.specs.Buffered.{port_of}
 use Rattle.c_lower.specs.declared.code.Code.{Code}
-use Rattle.c_lower.specs.Lowered.{RunsAs}
+use Rattle.c_lower.specs.Machine.{CodeRun}
+use Rattle.c_lower.specs.Lowered.{RunsAs, globals_of}
 use Rattle.c_lower.proofs.Courses.{over_once, writing_begins}
 use Rattle.c_machine.specs.declared.stop.Stop.{Stop}
 use Rattle.c_machine.specs.declared.stop.Stop.TheVariants as stop
 use Rattle.c_machine.specs.declared.stop.Ran as machine
 use Rattle.c_machine.specs.Inputs.{Taking, taking, Untouched, EndsAsRead}
 use Rattle.c_machine.specs.Reading.{fault_behind}
-use Rattle.c_machine.specs.Whole.{FaultsBehind, TookBytes, RanAs, RanTo, RunCut}
+use Rattle.c_machine.specs.Whole.{starts_of, memory_of, RunOn, FaultsBehind, TookBytes, RanAs, RanTo, RunCut}
 use Rattle.eacsl_cli.specs.Answers.{Answer, refused_answer, written_answer, memory_line, Change, change, IsSaid, Answered, Given, OutputFault, TookWanted, AnswersOnInput, BeginsOnInput, IsTranslated, RunDue, RunRefused, Runs, RunBegins}
 use Rattle.eacsl_cli.specs.Answers.{InstrumentDue, InstrumentRefused, Writes, InstrumentBegins, ExecDue, ExecRefused, Executes, ExecBegins}
 use Rattle.eacsl_cli.specs.Settled.{IsSettled, Said, Wanting, Reported}
@@ -45,20 +46,27 @@ begins_with all bytes sent lost rest e b = record { rest = lost ++ rest; is = e 
 abbrev answer_of : Report → List ℕ → Answer
 answer_of said sent = record { status = said.status; output = sent; line = said.line }
 
-module _ (m : MonitoredProgram) (steps : ℕ) (source : Taking) (told told' : Option (List ℕ)) (faults faults' : ℕ) (code : Code) (lowered : RunsAs over_flat m code.entries.items code.main code.instrs.items) where
+module _ (m : MonitoredProgram) (steps : ℕ) (source : Taking) (told told' : Option (List ℕ)) (faults faults' : ℕ) (code : Code) (globals : globals_of code ≡ m.globals)
+    (lowered : RunsAs over_flat m code.entries.items code.main code.instrs.items) where
+  -- the code's run on an input, from the memory in which it begins
+  lowered_on : (input : Input) → (turns : ℕ) × RunOn code input steps turns (flat_run m input steps)
+  lowered_on input =
+      let l = lowered (flat_start m.globals) input steps in
+      (l.0, subst (λ gs. CodeRun over_flat (over_flat.starts gs) code.entries.items code.main code.instrs.items (flat_start gs) input steps l.0 (flat_run m input steps)) (sym globals) l.1)
+
   -- the code's run is the program's
   run_is : {end : Final} {ran : machine.Ran} (r : RanTo code steps source (port_of told [] faults) (port_of told' [] faults') end ran) → flat_run m r.input steps ≡ record { final = end; output = r.bytes; left = ran.left }
   run_is r =
-      let l = lowered flat_start r.input steps in
-      (over_once over_flat code.entries.items code.main code.instrs.items flat_start r.input steps l.0 r.turns _ _ l.1 r.run).1
+      let l = lowered_on r.input in
+      (over_once over_flat (starts_of code) code.entries.items code.main code.instrs.items (memory_of code) r.input steps l.0 r.turns _ _ l.1 r.run).1
 
   took : TookBytes code steps source → TookWanted source m steps
   took t = record { bytes = t.read; gave = t.gave; wanted = λ k h. is_fault (take k t.read) (t.asked k h) }
     where
       is_fault : (bytes : List ℕ) → FaultsBehind code steps bytes → (flat_run m (fault_behind bytes) steps).final ≡ ReadFault
       is_fault bytes f =
-          let l = lowered flat_start (fault_behind bytes) steps in
-          ap (λ (x : Ran). x.final) (over_once over_flat code.entries.items code.main code.instrs.items flat_start (fault_behind bytes) steps l.0 f.turns _ _ l.1 f.run).1 ∙ f.ends
+          let l = lowered_on (fault_behind bytes) in
+          ap (λ (x : Ran). x.final) (over_once over_flat (starts_of code) code.entries.items code.main code.instrs.items (memory_of code) (fault_behind bytes) steps l.0 f.turns _ _ l.1 f.run).1 ∙ f.ends
 
   answers : {end : Final} {ran : machine.Ran} (r : RanTo code steps source (port_of told [] faults) (port_of told' [] faults') end ran) (said : Report) → report end ≡ Some said → AnswersOnInput source m steps (answer_of said r.wrote.sent)
   answers r said e = record {
@@ -83,8 +91,8 @@ module _ (m : MonitoredProgram) (steps : ℕ) (source : Taking) (told told' : Op
 
   cut_begins : {f : SinkFault} {ran : machine.Ran} (cut : RunCut code steps source (port_of told [] faults) (port_of told' [] faults') f ran) → BeginsOnInput source m steps cut.lost.sent
   cut_begins cut =
-      let l = lowered flat_start cut.input steps in
-      let w = writing_begins over_flat code.entries.items code.main code.instrs.items flat_start cut.input steps l.0 cut.begun.0 _ l.1 in
+      let l = lowered_on cut.input in
+      let w = writing_begins over_flat (starts_of code) code.entries.items code.main code.instrs.items (memory_of code) cut.input steps l.0 cut.begun.0 _ l.1 in
       let all = extends_trans cut.bytes _ _ cut.begun.1 w in
       record { input = cut.input; was = cut.is_input; took = took cut.took; begins = begins_with _ cut.bytes cut.lost.sent cut.lost.lost all.rest all.is cut.lost.bytes_are }
 

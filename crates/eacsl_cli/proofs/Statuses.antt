@@ -5,7 +5,7 @@ use Rattle.c_model.specs.declared.job.Job.TheVariants.{Run, Instrument, Exec}
 use Rattle.c_model.specs.Reports.{Report, report}
 use Rattle.c_model.specs.State.{Final, Exits, Broken, Undefined, Fault, Spent, Full, ReadFault}
 use Rattle.mon_syntax.specs.Trees.{MonitoredProgram}
-use Rattle.mon_syntax.specs.Memories.{flat_run}
+use Rattle.mon_syntax.specs.FlatMemory.{flat_run}
 use Rattle.ea_ports.specs.Port.{Rose}
 use Rattle.c_machine.specs.Inputs.{Taking, Untouched}
 use Rattle.eacsl_cli.specs.Answers.{Answer, Change, AnswersOnInput, IsDue, Usage, NoFile, TooLong, FolderFault, OfText, Begins, TextDue, RunRefused, Runs, InstrumentRefused, Writes, ExecRefused, Executes, Answered, Given, OutputFault, LineFault}

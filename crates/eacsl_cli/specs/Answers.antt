@@ -14,7 +14,7 @@ use Rattle.c_model.specs.Statuses.{exited_status, refused_status, usage_status, 
 use Rattle.c_model.specs.Statuses.{too_long_status}
 use Rattle.c_model.specs.Reports.{Report, report, line_of, refused_words, Extends}
 use Rattle.mon_syntax.specs.Trees.{MonitoredProgram}
-use Rattle.mon_syntax.specs.Memories.{flat_run}
+use Rattle.mon_syntax.specs.FlatMemory.{flat_run}
 use Rattle.mon_syntax.specs.Text.{text_of}
 use Rattle.mon_syntax.specs.Translates.{Translates}
 use Rattle.mon_syntax.specs.Spelled.{Spells, IsMonitoredRefusal}

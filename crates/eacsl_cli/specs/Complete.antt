@@ -12,7 +12,7 @@ use Rattle.c_model.specs.Meaning.{run}
 use Rattle.c_model.specs.Statuses.{read_fault_status, write_fault_status, no_memory_status, too_long_status}
 use Rattle.c_model.specs.Reports.{Report, report}
 use Rattle.mon_syntax.specs.Trees.{MonitoredProgram}
-use Rattle.mon_syntax.specs.Memories.{flat_run}
+use Rattle.mon_syntax.specs.FlatMemory.{flat_run}
 use Rattle.mon_syntax.specs.Translates.{Translates}
 use Rattle.mon_syntax.specs.Spelled.{Spells, IsMonitoredRefusal}
 use Rattle.ea_ports.specs.Port.{more, Rose}

@@ -2,11 +2,12 @@
 
 ghost use Rattle.std.specs.Prelude.{◌≡◌, ◌≤◌, List, MatchResult, None, Some, length, map, string_bytes};
 ghost use Rattle.c_syntax.specs.Programs.{plain_refusal};
-ghost use Rattle.c_model.specs.Limits.{most_annotated, most_monitored};
+ghost use Rattle.c_model.specs.Limits.{globals_bytes, most_annotated, most_monitored};
 ghost use Rattle.c_model.specs.Reports.{line_of, refused_words};
 ghost use Rattle.c_model.specs.Statuses.{no_memory_status, refused_status};
 ghost use Rattle.c_model.specs.WordLaws.{file_named};
 ghost use Rattle.c_model.specs.Words.{job_of};
+ghost use Rattle.mon_syntax.specs.Globals.{globals_taken};
 ghost use Rattle.mon_syntax.specs.Trees.{plain_program};
 ghost use Rattle.c_reader.specs.Answers.{Refuses};
 ghost use Rattle.c_machine.specs.Inputs.{taking};
@@ -115,6 +116,7 @@ fn execute<I: Source, O: Sink, E: Sink>(
     out: &mut O,
     err: &mut E,
 ) -> u8
+    requires { globals_taken (plain_program m.now).globals ≤ globals_bytes }
     ensures { Answered (AnswersOnInput (taking (I.left input.old) (I.left input.new) (I.faults input.old) (I.faults input.new)) (plain_program m.now) steps)
         (BeginsOnInput (taking (I.left input.old) (I.left input.new) (I.faults input.old) (I.faults input.new)) (plain_program m.now) steps)
         (change (O.told out.old) (O.told out.new) (O.faults out.old) (O.faults out.new)) (change (E.told err.old) (E.told err.new) (E.faults err.old)

@@ -6,4 +6,4 @@ pub returns-in-Err : goal.returns-in-Err
 returns-in-Err g c = run_not_begun (plain_program c.args.m.now) c.args.steps c.out_of_memory.ensures
 
 pub returns : goal.returns
-returns g c = run_reported (plain_program c.args.m.now) c.args.steps _ _ _ _ _ c.in-Ok.code c.in-Ok.ensures.runs _ _ c.run-ran.result c.run-ran.ensures c.report_stop.ensures
+returns g c = run_reported (plain_program c.args.m.now) c.args.steps _ _ _ _ _ c.in-Ok.code c.in-Ok.ensures.globals c.in-Ok.ensures.runs _ _ c.run-ran.result c.run-ran.ensures c.report_stop.ensures
