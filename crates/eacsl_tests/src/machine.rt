@@ -7,7 +7,7 @@ use c_machine::{Stop, run};
 use c_syntax::Segment;
 use ea_ports::{Failed, MemSink, MemSource, Source};
 use mon_syntax::{
-    MemoryCall, MonExpr, MonExprKind, MonOp, MonProgram, MonStmt, MonStmtKind, MonType,
+    AccessSize, MemoryCall, MonExpr, MonExprKind, MonOp, MonProgram, MonStmt, MonStmtKind, MonType,
 };
 use std::process::Abort;
 
@@ -175,8 +175,9 @@ fn the_source_is_asked_up_to_its_end(rt: HostRuntime) {
 
 #[test]
 fn code_without_main_faults(rt: HostRuntime) {
+    let globals = Vec::new(rt.alloc());
     let functions = Vec::new(rt.alloc());
-    let code = made(&rt, lower(rt.alloc(), &MonProgram { functions }));
+    let code = made(&rt, lower(rt.alloc(), &MonProgram { globals, functions }));
     comes_to(&rt, &code, 5, ("fault", 0), 5, b"");
 }
 
@@ -230,8 +231,9 @@ fn acts(
 fn blocks_of_no_valid_program(rt: HostRuntime) {
     let store = MemoryCall::StoreBlock;
     acts(&rt, store, MonType::U64, 1, "exit");
-    acts(&rt, store, MonType::I32, -1, "fault");
-    acts(&rt, store, MonType::I128, 1 << 64, "full stack");
+    // A size is the lowest 64 bits of a value.
+    acts(&rt, store, MonType::I32, -1, "full stack");
+    acts(&rt, store, MonType::I128, 1 << 64, "exit");
     acts(&rt, MemoryCall::DeleteBlock, MonType::I32, 0, "fault");
 }
 
@@ -287,5 +289,60 @@ fn a_narrow_number_is_negated_and_flipped(rt: HostRuntime) {
 fn a_register_that_is_not_there_faults(rt: HostRuntime) {
     let mut body = Vec::new(rt.alloc());
     add(&rt, &mut body, MonStmtKind::Exit(value(&rt, 2)));
+    comes_to(&rt, &code_of_body(&rt, body), 100, ("fault", 0), 100, b"");
+}
+
+/// `*(t *)p = t(VALUE);`, where `p` is register 0, and `__e_acsl_print_i64((*(t *)p));`.
+fn keep(rt: &(impl Abort + AllocGlobal), body: &mut Vec<MonStmt>, kind: MonType, number: i128) {
+    let number = constant(rt, kind, number);
+    add(rt, body, MonStmtKind::Store(0, kind, number));
+    let kept = MonExpr::new(rt.alloc(), MonExprKind::Load(kind, value(rt, 0)));
+    add(rt, body, MonStmtKind::PrintSigned(made(rt, kept)));
+}
+
+#[test]
+fn a_number_is_read_as_it_was_stored(rt: HostRuntime) {
+    let mut body = Vec::new(rt.alloc());
+    let size = constant(&rt, MonType::U64, 16);
+    act(&rt, &mut body, Some(0), MemoryCall::StoreBlock, size);
+    keep(&rt, &mut body, MonType::U8, 200);
+    keep(&rt, &mut body, MonType::I16, -2);
+    keep(&rt, &mut body, MonType::U32, 4_294_967_295);
+    keep(&rt, &mut body, MonType::I64, -3);
+    keep(&rt, &mut body, MonType::I128, -4);
+    keep(&rt, &mut body, MonType::Ptr, 5);
+    let code = code_of_body(&rt, body);
+    comes_to(&rt, &code, 100, ("exit", 0), 100, b"200-24294967295-3-45");
+}
+
+/// `R = __e_acsl_number(p, I64(OFFSET), 4);`, where `p` is register 0 and `R` is register 1, and `__e_acsl_print_i64(R);`.
+fn ask(rt: &(impl Abort + AllocGlobal), body: &mut Vec<MonStmt>, offset: i128) {
+    let mut arguments = made(rt, vec![in rt.alloc(); value(rt, 0)]);
+    made(rt, arguments.push(constant(rt, MonType::I64, offset)));
+    let call = MemoryCall::Number(AccessSize::Four);
+    add(rt, body, MonStmtKind::Act(Some(1), call, arguments));
+    add(rt, body, MonStmtKind::PrintSigned(value(rt, 1)));
+}
+
+#[test]
+fn a_question_is_answered_by_marks(rt: HostRuntime) {
+    let mut body = Vec::new(rt.alloc());
+    let size = constant(&rt, MonType::U64, 8);
+    act(&rt, &mut body, Some(0), MemoryCall::StoreBlock, size);
+    ask(&rt, &mut body, 0);
+    let number = constant(&rt, MonType::I32, 7);
+    add(&rt, &mut body, MonStmtKind::Store(0, MonType::I32, number));
+    ask(&rt, &mut body, 0);
+    ask(&rt, &mut body, 4);
+    ask(&rt, &mut body, 8);
+    let code = code_of_body(&rt, body);
+    comes_to(&rt, &code, 100, ("exit", 0), 100, b"0100");
+}
+
+#[test]
+fn a_store_at_null_faults(rt: HostRuntime) {
+    let mut body = Vec::new(rt.alloc());
+    let number = constant(&rt, MonType::I32, 7);
+    add(&rt, &mut body, MonStmtKind::Store(0, MonType::I32, number));
     comes_to(&rt, &code_of_body(&rt, body), 100, ("fault", 0), 100, b"");
 }

@@ -1,4 +1,4 @@
-//! Room in flat memory, regions of bytes, and places in the heap.
+//! Births in flat memory, regions of bytes, and places in the heap.
 
 ghost use Rattle.std.specs.Prelude.{◌≡◌, ◌+◌, ◌%◌, ◌<◌, ◌≤◌, Some, length};
 ghost use Rattle.flat_mem.specs.Room.{IsSizes};
@@ -73,6 +73,36 @@ fn blocks_are_born_while_there_is_room(rt: HostRuntime) {
         [0x0000_0001_4000_0000, 2, 0x0000_0002_400F_FFF0, 2],
     );
     same_number(&rt, u128::from(stack.stack_end()), 0x4000_0000 + 1_048_576);
+}
+
+/// The pointer, or 0.
+fn born(answer: Result<u64, BirthFault>) -> u128 {
+    match answer {
+        Ok(pointer) => u128::from(pointer),
+        Err(_) => 0,
+    }
+}
+
+#[test]
+fn a_number_is_saved_by_its_address(rt: HostRuntime) {
+    let mut memory = made(&rt, FlatMem::new(rt.alloc(), standard(), 7));
+    same_number(
+        &rt,
+        born(memory.birth(BlockKind::Heap, 15)),
+        0x0000_0008_8000_0000,
+    );
+    let saved = [
+        memory.save(0x8000_0000, 4, 0x01020304),
+        memory.save(0x8000_0002, 4, 5),
+        memory.save(0x7FFF_FFF8, 8, 5),
+        memory.save_pointer(0x8000_0008, 0x0102),
+    ];
+    assert_eq!(&rt; saved, [true, false, false, true]);
+    same_number(
+        &rt,
+        memory.load(0x8000_0000, 16).unwrap_or(0),
+        0x0102_0000_0000_0102_0304,
+    );
 }
 
 #[test]

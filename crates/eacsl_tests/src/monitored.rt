@@ -1,5 +1,10 @@
 //! Programs in monitored C, most of them read from texts.
 
+ghost use Rattle.std.specs.Prelude.{◌≤◌};
+ghost use Rattle.c_model.specs.Limits.{globals_bytes};
+ghost use Rattle.mon_syntax.specs.Globals.{globals_taken};
+ghost use Rattle.mon_syntax.specs.Trees.{plain_program};
+
 use crate::same::made;
 use c_lower::{Code, lower};
 use c_syntax::Name;
@@ -10,7 +15,9 @@ use mon_syntax::{
 use std::process::Abort;
 
 /// The program of a text, which is accepted.
-pub fn program_of(rt: &(impl Abort + AllocGlobal), text: &str) -> MonProgram {
+pub fn program_of(rt: &(impl Abort + AllocGlobal), text: &str) -> MonProgram
+    ensures { globals_taken (plain_program result).globals ≤ globals_bytes }
+{
     if text.len() >= 4_294_967_295 {
         panic!(rt; "the text is too long");
     }
@@ -30,6 +37,7 @@ pub fn code_of_body(rt: &(impl Abort + AllocGlobal), body: Vec<MonStmt>) -> Code
     let mut registers = Vec::new(rt.alloc());
     made(rt, registers.push(register(rt)));
     made(rt, registers.push(register(rt)));
+    let globals = Vec::new(rt.alloc());
     let mut functions = Vec::new(rt.alloc());
     let main = MonFunc {
         result: Some(MonType::I32),
@@ -39,7 +47,7 @@ pub fn code_of_body(rt: &(impl Abort + AllocGlobal), body: Vec<MonStmt>) -> Code
         body,
     };
     made(rt, functions.push(main));
-    made(rt, lower(rt.alloc(), &MonProgram { functions }))
+    made(rt, lower(rt.alloc(), &MonProgram { globals, functions }))
 }
 
 pub fn name(rt: &(impl Abort + AllocGlobal), bytes: &[u8]) -> Name {
