@@ -1,0 +1,117 @@
+// Passes over the numbers of a block on the stack, and births and deaths of blocks there. Each line of input names the work of a pass and a
+// number of passes, as `load 100`.
+#![tactic(auto)]
+
+use block_runtime::Runtime;
+use flat_mem::Sizes;
+use std::alloc::{AllocError, Global};
+use std::io;
+
+const SIZES: Sizes = Sizes {
+    globals: 0,
+    stack: 1_048_576,
+    heap: 0,
+    frames: 1,
+};
+
+// The numbers of a block, of four bytes each.
+const PLACES: u64 = 8192;
+
+const BYTES: u64 = 32768;
+
+// What 1 counts above the lowest 64 bits.
+const WORD: u128 = 0x1_0000_0000_0000_0000;
+
+// The sizes of blocks that are born and die.
+const SCALAR: u64 = 4;
+
+const LARGE: u64 = 1_048_000;
+
+/// Loads each number.
+#[inline(never)]
+fn load_all(memory: &Runtime, p: u64, seed: u64) -> u64 {
+    let mut folded = seed;
+    for i in 0..PLACES {
+        if let Ok(value) = memory.load(p.wrapping_add(4 * i), 4) {
+            folded = folded.wrapping_mul(3) ^ (value % WORD) as u64;
+        }
+    }
+    folded
+}
+
+/// Asks of each number whether it is one, and loads it.
+#[inline(never)]
+fn check_all(memory: &Runtime, p: u64, seed: u64) -> u64 {
+    let mut folded = seed;
+    for i in 0..PLACES {
+        let at = p.wrapping_add(4 * i);
+        if memory.number(at, 0, 4) == Ok(1) {
+            if let Ok(value) = memory.load(at, 4) {
+                folded = folded.wrapping_mul(3) ^ (value % WORD) as u64;
+            }
+        }
+    }
+    folded
+}
+
+/// Writes each number, with its mark.
+#[inline(never)]
+fn store_all(memory: &mut Runtime, p: u64, value: u64) {
+    for i in 0..PLACES {
+        let _done = memory.store(p.wrapping_add(4 * i), 4, u128::from(value), false);
+    }
+}
+
+/// The birth and the death of a stack block, as often as there are numbers.
+#[inline(never)]
+fn live_and_die(memory: &mut Runtime, size: u64, count: u64) -> u64 {
+    let mut ended: u64 = 0;
+    for _ in 0..count {
+        if let Ok(p) = memory.store_block(size) {
+            if memory.delete_block(p).is_ok() {
+                ended = ended.wrapping_add(1);
+            }
+        }
+    }
+    ended
+}
+
+/// One pass of the work of this name, which is `store`, `check`, `birth`, `large` or else `load`.
+fn pass(memory: &mut Runtime, p: u64, work: &str, value: u64) -> u64 {
+    match work {
+        "store" => {
+            store_all(memory, p, value);
+            value
+        }
+        "check" => check_all(memory, p, value),
+        "birth" => live_and_die(memory, SCALAR, PLACES),
+        "large" => live_and_die(memory, LARGE, 1),
+        _ => load_all(memory, p, value),
+    }
+}
+
+/// All passes, folded by exclusive or.
+fn run(alloc: Global, work: &str, passes: u64) -> Result<u64, AllocError> {
+    let mut memory = Runtime::new(alloc, SIZES)?;
+    let mut folded = live_and_die(&mut memory, LARGE, 1);
+    let p = memory.store_block(BYTES).unwrap_or(0);
+    store_all(&mut memory, p, 0x0102_0304);
+    if work == "large" {
+        let _died = memory.delete_block(p);
+    }
+    for value in 0..passes {
+        folded ^= pass(&mut memory, p, work, value);
+    }
+    Ok(folded)
+}
+
+fn main(rt: HostRuntime) -> io::Result<()> {
+    for line in rt.lines(rt.alloc()) {
+        let line = line?;
+        if let Some((work, passes)) = line.as_str().split_once(' ') {
+            let folded = run(rt.alloc(), work, passes.parse::<u64>().unwrap_or(0))?;
+            println!(rt; "{folded}")?;
+        }
+    }
+    Ok(())
+}
