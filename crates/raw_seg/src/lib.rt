@@ -4,7 +4,6 @@
 ghost use Rattle.std.specs.Prelude.{◌≡◌, ℕ, ◌+◌, ◌-◌, ◌*◌, ◌%◌, ◌^◌, ◌<◌, ◌≤◌, ◌⊎◌, length, replicate, slice_index, IfOk};
 ghost use Rattle.raw_seg.specs.Bytes.{number_of, bytes_of, bytes_at, with_bytes, IsWidth};
 
-use core::slots::{Lease, Slots, release, reserve};
 use std::alloc::{AllocError, Global};
 use std::marker::Model;
 use std::sync::ledger::Ledger;
@@ -16,23 +15,18 @@ use steps::Steps;
 // So many bytes are filled at once.
 const BLOCK: usize = 32;
 
-/// A region of memory, seen as a list of bytes. It is freed when the value is dropped.
+/// A region of memory, seen as a list of bytes.
+#[derive(Drop)]
 pub struct Seg {
-    slots: Slots<u8>,
-    lease: Lease<u8, Global>,
-    alloc: Global,
+    bytes: Vec<u8>,
 }
 
 impl Model for Seg {
     ghost use Rattle.std.specs.Prelude.{◌≡◌, ℕ, List};
-    ghost use Rattle.core.specs.Mem.Slots.{slots_items, slots_ptr, slots_len, lease_ptr, lease_len, lease_heap, IsFull};
 
     ghost Value = { List ℕ };
 
-    ghost view = { λ s. slots_items s.slots };
-
-    ghost invariant = { λ s. IsFull s.slots × (lease_ptr s.lease ≡ slots_ptr s.slots) × (lease_len s.lease ≡ slots_len s.slots)
-        × (lease_heap s.lease ≡ s.alloc) };
+    ghost view = { λ s. s.bytes.items };
 }
 
 impl Seg {
@@ -40,20 +34,15 @@ impl Seg {
     pub fn new(alloc: Global, len: usize) -> Result<Seg, AllocError>
         ensures { IfOk result (λ seg. seg ≡ replicate len 0) }
     {
-        let zeros = vec![in alloc; 0u8; len]?;
-        let (mut slots, lease) = unsafe { reserve(&alloc, &zeros)? };
-        slots.copy_in(0, &zeros);
         Ok(Seg {
-            slots,
-            lease,
-            alloc,
+            bytes: vec![in alloc; 0u8; len]?,
         })
     }
 
     pub fn len(&self) -> usize
         ensures { result ≡ length self.now }
     {
-        self.slots.len()
+        self.bytes.len()
     }
 
     /// The number in `width` bytes, the lowest first.
@@ -113,7 +102,7 @@ impl Seg {
         ensures { into.new ≡ bytes_at self.now from (length into.old) }
     {
         // A use of a field tells the check that the region is shorter than 2^64 bytes.
-        let _ = &self.slots;
+        let _ = &self.bytes;
         for (i, byte) in into.iter_mut().enumerate() {
             *byte = self.byte(from + i);
         }
@@ -126,7 +115,7 @@ impl Seg {
         ensures bytes { self.new ≡ with_bytes self.old at bytes.now }
         ensures len { length self.new ≡ length self.old }
     {
-        self.slots.copy_in(at, bytes);
+        self.bytes[at..at + bytes.len()].copy_from_slice(bytes);
     }
 
     /// The eight bytes from a place on as a number, which is one step of work.
@@ -179,7 +168,7 @@ impl Seg {
         requires { at < length self.now }
         ensures { result ≡ slice_index self.now at }
     {
-        *self.slots.get(at)
+        self.bytes[at]
     }
 
     #[inline]
@@ -189,7 +178,7 @@ impl Seg {
         ensures bytes { bytes_of 2 result ≡ bytes_at self.now at 2 }
         ensures small { result < 65536 }
     {
-        let _ = &self.slots;
+        let _ = &self.bytes;
         u16::from_le_bytes([self.byte(at), self.byte(at + 1)])
     }
 
@@ -200,7 +189,7 @@ impl Seg {
         ensures bytes { bytes_of 4 result ≡ bytes_at self.now at 4 }
         ensures small { result < 4294967296 }
     {
-        let _ = &self.slots;
+        let _ = &self.bytes;
         u32::from(self.load_2(at)) + u32::from(self.load_2(at + 2)) * 65536
     }
 
@@ -211,7 +200,7 @@ impl Seg {
         ensures bytes { bytes_of 8 result ≡ bytes_at self.now at 8 }
         ensures small { result < 18446744073709551616 }
     {
-        let _ = &self.slots;
+        let _ = &self.bytes;
         u64::from(self.load_4(at)) + u64::from(self.load_4(at + 4)) * 4294967296
     }
 
@@ -221,18 +210,7 @@ impl Seg {
         ensures value { result ≡ number_of (bytes_at self.now at 16) }
         ensures bytes { bytes_of 16 result ≡ bytes_at self.now at 16 }
     {
-        let _ = &self.slots;
+        let _ = &self.bytes;
         u128::from(self.load_8(at)) + u128::from(self.load_8(at + 8)) * 18446744073709551616
-    }
-}
-
-impl Drop for Seg {
-    fn drop(self) {
-        let Seg {
-            slots,
-            lease,
-            alloc,
-        } = self;
-        release(&alloc, slots, lease);
     }
 }
