@@ -2,4 +2,4 @@ pub mod Sequences
 pub mod Sizes
 pub mod Trees
 pub mod Chains
-pub mod Indices
+pub mod Questions

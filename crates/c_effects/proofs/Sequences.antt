@@ -5,7 +5,9 @@ use Rattle.std.proofs.Math.Seq.{drop-cons}
 use Rattle.mon_syntax.specs.declared.tree.MonStmt.{MonStmt}
 use Rattle.mon_syntax.specs.declared.tree.MonType.{MonType}
 use Rattle.mon_syntax.specs.Trees.{MonStatements, NoStatement, Then, plain_stmt, plain_stmts}
+use Rattle.mon_syntax.specs.Registers.{Names, with_table}
 use Rattle.c_effects.specs.Expressions.{before, one}
+use Rattle.c_effects.specs.Named.{with_registers}
 
 pub before_assoc : (a b c : MonStatements) → before (before a b) c ≡ before a (before b c)
 before_assoc NoStatement b c = refl
@@ -48,7 +50,12 @@ more t part rest first put kept =
 pub all_there : {t left all : MonStatements} → left ≡ NoStatement → before t left ≡ all → t ≡ all
 all_there {t} {left} {all} none kept = sym (before_none t) ∙ ap (before t) (sym none) ∙ kept
 
--- ---- types of registers
+-- one more part of the code stands there, after which what is left begins with other names
+pub more_behind : {N : Type 0} {t' left all : MonStatements} {n : N} (t part : MonStatements) (m : N) (rest : N → MonStatements) → left ≡ before part (rest m) → t' ≡ before t part → n ≡ m
+    → before t left ≡ all → before t' (rest n) ≡ all
+more_behind {t'} t part m rest first put names kept = ap (λ r. before t' (rest r)) names ∙ more t part (rest m) first put kept
+
+-- ---- lists
 
 -- one more part stands in a list
 pub grown : {B : Type 0} {t' left all : List B} (t part rest : List B) → left ≡ part ++ rest → t' ≡ t ++ part → t ++ left ≡ all → t' ++ rest ≡ all
@@ -59,12 +66,20 @@ grown t part rest first put kept =
 pub complete : {B : Type 0} {left all : List B} (t : List B) → left ≡ [] → t ++ left ≡ all → t ≡ all
 complete t none kept = sym (append-nil t) ∙ ap (λ a. t ++ a) (sym none) ∙ kept
 
--- one more part of the code stands there, after which what is left begins with further registers
-pub more_behind : {t' left all : MonStatements} {rs' : List MonType} (t part : MonStatements) (rs ts : List MonType) (rest : List MonType → MonStatements) → left ≡ before part (rest (rs ++ ts)) → t' ≡ before t part → rs' ≡ rs ++ ts
-    → before t left ≡ all → before t' (rest rs') ≡ all
-more_behind {t'} t part rs ts rest first put types kept = ap (λ r. before t' (rest r)) types ∙ more t part (rest (rs ++ ts)) first put kept
+-- one more part of a list, after which what is left begins with other names
+pub grown_behind : {B N : Type 0} {t' left all : List B} {n : N} (t part : List B) (m : N) (rest : N → List B) → left ≡ part ++ rest m → t' ≡ t ++ part → n ≡ m → t ++ left ≡ all
+    → t' ++ rest n ≡ all
+grown_behind {t' = t'} t part m rest first put names kept = ap (λ r. t' ++ rest r) names ∙ grown t part (rest m) first put kept
 
--- one more part of a list, after which what is left begins with further registers
-pub grown_behind : {B : Type 0} {t' left all : List B} {rs' : List MonType} (t part : List B) (rs ts : List MonType) (rest : List MonType → List B) → left ≡ part ++ rest (rs ++ ts) → t' ≡ t ++ part → rs' ≡ rs ++ ts → t ++ left ≡ all
-    → t' ++ rest rs' ≡ all
-grown_behind {t'} t part rs ts rest first put types kept = ap (λ r. t' ++ rest r) types ∙ grown t part (rest (rs ++ ts)) first put kept
+-- ---- registers
+
+pub registers_then : (ts us : List MonType) (n : Names) → with_registers us (with_registers ts n) ≡ with_registers (ts ++ us) n
+registers_then ts us n = ap (λ (l : List MonType). with_table (record { kinds = l; bound = n.table.bound }) n) (append_assoc n.table.kinds ts us)
+
+-- further registers, and what is left of them
+pub registers_grown : {n' all : Names} {left : List MonType} (n : Names) (ts rest : List MonType) → left ≡ ts ++ rest → n' ≡ with_registers ts n → with_registers left n ≡ all → with_registers rest n' ≡ all
+registers_grown n ts rest first names kept = ap (with_registers rest) names ∙ registers_then ts rest n ∙ ap (λ l. with_registers l n) (sym first) ∙ kept
+
+pub registers_complete : {all : Names} {left : List MonType} (n : Names) → left ≡ [] → with_registers left n ≡ all → n ≡ all
+registers_complete n none kept =
+    ap (λ (l : List MonType). with_table (record { kinds = l; bound = n.table.bound }) n) (sym (append-nil n.table.kinds)) ∙ ap (λ l. with_registers l n) (sym none) ∙ kept

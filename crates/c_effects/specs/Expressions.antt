@@ -1,7 +1,7 @@
 -- Ours: a choice of code; what it has to do is C99 6.5 and ACSL 2.2, by the theorem of this crate.
--- Expressions and annotations in monitored C: each variable has a register, and each annotation is an assertion. What an expression
--- evaluates only at times, as the right side of `&&`, stands before it, in an `if` that sets a temporary register.
-use Rattle.std.specs.Prelude.{ℕ, pos, List, [], ◌∷◌, ◌++◌, length, if◌then◌else◌}
+-- Expressions and annotations in monitored C: each variable is read from its block, to which a register points, and each annotation is an
+-- assertion. What an expression evaluates only at times, as the right side of `&&`, stands before it, in an `if` that sets a temporary register.
+use Rattle.std.specs.Prelude.{ℕ, zero, suc, ◌+◌, pos, List, [], ◌∷◌, ◌++◌, length, Option, Some, None, if◌then◌else◌}
 use Rattle.c_syntax.specs.declared.types.CInt.{CInt}
 use Rattle.c_syntax.specs.declared.types.CInt.TheVariants as c
 use Rattle.c_syntax.specs.declared.expression.UnOp.{UnOp}
@@ -13,19 +13,23 @@ use Rattle.c_syntax.specs.declared.annotation.Relation.TheVariants as relation
 use Rattle.c_syntax.specs.Ctypes.{PlainType, Int}
 use Rattle.c_syntax.specs.Expressions as source
 use Rattle.c_syntax.specs.Expressions.{Expression, Node, type_of}
+use Rattle.c_syntax.specs.Programs.{TranslationUnit}
 use Rattle.c_syntax.specs.Annotations as logic
 use Rattle.c_syntax.specs.Annotations.{LogicTerm, Predicate, Chain, Links, NoLink, Linked, ClauseBody, Truth, Annotation}
 use Rattle.c_model.specs.Layouts.{size_of}
 use Rattle.c_model.specs.Conversions.{operation_type}
 use Rattle.mon_syntax.specs.declared.tree.MonOp.{MonOp}
 use Rattle.mon_syntax.specs.declared.tree.MonOp.TheVariants.{Add, Sub, Mul, Div, Rem, Shl, Shr, And, Or, Xor, Eq, Ne, Lt, Le, Gt, Ge}
+use Rattle.mon_syntax.specs.declared.tree.AccessSize.{AccessSize}
+use Rattle.mon_syntax.specs.declared.tree.AccessSize.TheVariants.{One, Two, Four, Eight, Sixteen}
+use Rattle.mon_syntax.specs.declared.tree.MemoryCall.TheVariants.{Number}
 use Rattle.mon_syntax.specs.declared.tree.MonType.{MonType}
 use Rattle.mon_syntax.specs.declared.tree.MonType.TheVariants.{I8, U8, I16, U16, I32, U32, I64, U64, I128, Ptr}
-use Rattle.mon_syntax.specs.Trees.{MonExpression, Register, Constant, Binary, Minus, Flip, Cast, MonStatement, Set, Assert, If, MonStatements, NoStatement}
-use Rattle.mon_syntax.specs.Trees.{Then}
+use Rattle.mon_syntax.specs.Trees.{MonExpression, Register, Constant, Binary, Minus, Flip, Cast, Load, MonStatement, Set, Act, Assert, If, MonStatements}
+use Rattle.mon_syntax.specs.Trees.{NoStatement, Then}
+use Rattle.mon_syntax.specs.Registers.{Bindings, register_of}
 use Rattle.mon_syntax.specs.Checking.{same_type}
 use Rattle.mon_syntax.specs.Valid.{result_type}
-use Rattle.track_scopes.specs.Blocks.{register_of}
 
 -- ---- types and operators
 
@@ -43,6 +47,11 @@ register_type c.U64 = U64
 abbrev pub value_type : PlainType → MonType
 value_type (Int k) = register_type k
 value_type _ = I32
+
+-- the type of a term that is the value of an object
+abbrev pub term_type : Option PlainType → MonType
+term_type None = I32
+term_type (Some t) = value_type t
 
 -- the type in which operators take a value of the type
 abbrev pub operand_type : MonType → MonType
@@ -140,26 +149,34 @@ temporaries (Node at t (source.Dot a m)) = []
 temporaries (Node at t (source.Arrow a m)) = []
 temporaries (Node at t (source.Comma a b)) = []
 
--- the value of an expression, over the variables of these numbers, after registers of these types
-abbrev pub value : List ℕ → List MonType → Expression → MonExpression
-value numbers rs (Node at t (source.Number n k)) = Constant (value_type t) n
-value numbers rs (Node at t (source.Letter n)) = Constant (value_type t) n
-value numbers rs (Node at t (source.Variable x)) = Register (register_of numbers x.decl)
-value numbers rs (Node at t (source.Unary op a)) = unary op (value_type (type_of a)) (value numbers rs a)
-value numbers rs (Node at t (source.Binary op a b)) =
-    binary op (value_type (type_of a)) (value_type (type_of b)) (value numbers rs a) (value numbers (rs ++ temporaries a) b)
-value numbers rs (Node at t (source.Both a b)) = Register (length (rs ++ temporaries a ++ temporaries b))
-value numbers rs (Node at t (source.Either a b)) = Register (length (rs ++ temporaries a ++ temporaries b))
-value numbers rs (Node at t (source.Choice a b c)) = Register (length (rs ++ temporaries a ++ temporaries b ++ temporaries c))
-value numbers rs (Node at t (source.Cast to a)) = in_type (value_type (type_of a)) (value_type to) (value numbers rs a)
-value numbers rs (Node at t (source.SizeOfType u)) = Constant U64 (pos (size_of [] u))
-value numbers rs (Node at t (source.SizeOfExpr a)) = Constant U64 (pos (size_of [] (type_of a)))
+-- the pointer to the block of a declaration, which stands in its register
+abbrev pub pointer_of : Option ℕ → MonExpression
+pointer_of (Some r) = Register r
+pointer_of None = Constant Ptr (pos 0)
+
+abbrev pub pointer_to : Bindings → ℕ → MonExpression
+pointer_to bound x = pointer_of (register_of bound x)
+
+-- the value of an expression, where these registers are bound to variables, after registers of these types
+abbrev pub value : TranslationUnit → Bindings → List MonType → Expression → MonExpression
+value p bound rs (Node at t (source.Number n k)) = Constant (value_type t) n
+value p bound rs (Node at t (source.Letter n)) = Constant (value_type t) n
+value p bound rs (Node at t (source.Variable x)) = Load (value_type t) (pointer_to bound x.decl)
+value p bound rs (Node at t (source.Unary op a)) = unary op (value_type (type_of a)) (value p bound rs a)
+value p bound rs (Node at t (source.Binary op a b)) =
+    binary op (value_type (type_of a)) (value_type (type_of b)) (value p bound rs a) (value p bound (rs ++ temporaries a) b)
+value p bound rs (Node at t (source.Both a b)) = Register (length (rs ++ temporaries a ++ temporaries b))
+value p bound rs (Node at t (source.Either a b)) = Register (length (rs ++ temporaries a ++ temporaries b))
+value p bound rs (Node at t (source.Choice a b c)) = Register (length (rs ++ temporaries a ++ temporaries b ++ temporaries c))
+value p bound rs (Node at t (source.Cast to a)) = in_type (value_type (type_of a)) (value_type to) (value p bound rs a)
+value p bound rs (Node at t (source.SizeOfType u)) = Constant U64 (pos (size_of p.structs u))
+value p bound rs (Node at t (source.SizeOfExpr a)) = Constant U64 (pos (size_of p.structs (type_of a)))
 -- these stand in no other expression
-value numbers rs (Node at t (source.Assign op a b)) = Constant I32 (pos 0)
-value numbers rs (Node at t (source.Bump op a)) = Constant I32 (pos 0)
-value numbers rs (Node at t (source.Call f args)) = Constant I32 (pos 0)
+value p bound rs (Node at t (source.Assign op a b)) = Constant I32 (pos 0)
+value p bound rs (Node at t (source.Bump op a)) = Constant I32 (pos 0)
+value p bound rs (Node at t (source.Call f args)) = Constant I32 (pos 0)
 -- and typing refuses the others
-value numbers rs _ = Constant I32 (pos 0)
+value p bound rs _ = Constant I32 (pos 0)
 
 abbrev pub before : MonStatements → MonStatements → MonStatements
 before NoStatement b = b
@@ -172,55 +189,55 @@ abbrev pub set : ℕ → MonExpression → MonStatements
 set r e = one (Set r e)
 
 -- whether an expression isn't 0, and the same as a condition
-abbrev pub truth_of : List ℕ → List MonType → Expression → MonExpression
-truth_of numbers rs e = truth (value_type (type_of e)) (value numbers rs e)
+abbrev pub truth_of : TranslationUnit → Bindings → List MonType → Expression → MonExpression
+truth_of p bound rs e = truth (value_type (type_of e)) (value p bound rs e)
 
-abbrev pub condition_of : List ℕ → List MonType → Expression → MonExpression
-condition_of numbers rs e = condition (value_type (type_of e)) (value numbers rs e)
+abbrev pub condition_of : TranslationUnit → Bindings → List MonType → Expression → MonExpression
+condition_of p bound rs e = condition (value_type (type_of e)) (value p bound rs e)
 
 -- what stands before the value of an expression
-abbrev pub setup : List ℕ → List MonType → Expression → MonStatements
-setup numbers rs (Node at t (source.Number n k)) = NoStatement
-setup numbers rs (Node at t (source.Letter n)) = NoStatement
-setup numbers rs (Node at t (source.Variable x)) = NoStatement
-setup numbers rs (Node at t (source.Unary op a)) = setup numbers rs a
-setup numbers rs (Node at t (source.Binary op a b)) = before (setup numbers rs a) (setup numbers (rs ++ temporaries a) b)
-setup numbers rs (Node at t (source.Both a b)) =
-    before (setup numbers rs a) (one (If (condition_of numbers rs a)
-    (before (setup numbers (rs ++ temporaries a) b) (set (length (rs ++ temporaries a ++ temporaries b)) (truth_of numbers (rs ++ temporaries a) b)))
+abbrev pub setup : TranslationUnit → Bindings → List MonType → Expression → MonStatements
+setup p bound rs (Node at t (source.Number n k)) = NoStatement
+setup p bound rs (Node at t (source.Letter n)) = NoStatement
+setup p bound rs (Node at t (source.Variable x)) = NoStatement
+setup p bound rs (Node at t (source.Unary op a)) = setup p bound rs a
+setup p bound rs (Node at t (source.Binary op a b)) = before (setup p bound rs a) (setup p bound (rs ++ temporaries a) b)
+setup p bound rs (Node at t (source.Both a b)) =
+    before (setup p bound rs a) (one (If (condition_of p bound rs a)
+    (before (setup p bound (rs ++ temporaries a) b) (set (length (rs ++ temporaries a ++ temporaries b)) (truth_of p bound (rs ++ temporaries a) b)))
     (set (length (rs ++ temporaries a ++ temporaries b)) (Constant I32 (pos 0)))))
-setup numbers rs (Node at t (source.Either a b)) =
-    before (setup numbers rs a) (one (If (condition_of numbers rs a)
+setup p bound rs (Node at t (source.Either a b)) =
+    before (setup p bound rs a) (one (If (condition_of p bound rs a)
     (set (length (rs ++ temporaries a ++ temporaries b)) (Constant I32 (pos 1)))
-    (before (setup numbers (rs ++ temporaries a) b) (set (length (rs ++ temporaries a ++ temporaries b)) (truth_of numbers (rs ++ temporaries a) b)))))
-setup numbers rs (Node at t (source.Choice a b c)) =
-    before (setup numbers rs a) (one (If (condition_of numbers rs a)
-    (before (setup numbers (rs ++ temporaries a) b) (set (length (rs ++ temporaries a ++ temporaries b ++ temporaries c))
-    (value numbers (rs ++ temporaries a) b)))
-    (before (setup numbers (rs ++ temporaries a ++ temporaries b) c) (set (length (rs ++ temporaries a ++ temporaries b ++ temporaries c))
-    (value numbers (rs ++ temporaries a ++ temporaries b) c)))))
-setup numbers rs (Node at t (source.Cast to a)) = setup numbers rs a
-setup numbers rs (Node at t (source.SizeOfType u)) = NoStatement
-setup numbers rs (Node at t (source.SizeOfExpr a)) = NoStatement
+    (before (setup p bound (rs ++ temporaries a) b) (set (length (rs ++ temporaries a ++ temporaries b)) (truth_of p bound (rs ++ temporaries a) b)))))
+setup p bound rs (Node at t (source.Choice a b c)) =
+    before (setup p bound rs a) (one (If (condition_of p bound rs a)
+    (before (setup p bound (rs ++ temporaries a) b) (set (length (rs ++ temporaries a ++ temporaries b ++ temporaries c))
+    (value p bound (rs ++ temporaries a) b)))
+    (before (setup p bound (rs ++ temporaries a ++ temporaries b) c) (set (length (rs ++ temporaries a ++ temporaries b ++ temporaries c))
+    (value p bound (rs ++ temporaries a ++ temporaries b) c)))))
+setup p bound rs (Node at t (source.Cast to a)) = setup p bound rs a
+setup p bound rs (Node at t (source.SizeOfType u)) = NoStatement
+setup p bound rs (Node at t (source.SizeOfExpr a)) = NoStatement
 -- these stand in no other expression
-setup numbers rs (Node at t (source.Assign op a b)) = NoStatement
-setup numbers rs (Node at t (source.Bump op a)) = NoStatement
-setup numbers rs (Node at t (source.Call f args)) = NoStatement
+setup p bound rs (Node at t (source.Assign op a b)) = NoStatement
+setup p bound rs (Node at t (source.Bump op a)) = NoStatement
+setup p bound rs (Node at t (source.Call f args)) = NoStatement
 -- and typing refuses these
-setup numbers rs (Node at t (source.Text n)) = NoStatement
-setup numbers rs (Node at t (source.Index a b)) = NoStatement
-setup numbers rs (Node at t (source.Dot a m)) = NoStatement
-setup numbers rs (Node at t (source.Arrow a m)) = NoStatement
-setup numbers rs (Node at t (source.Comma a b)) = NoStatement
+setup p bound rs (Node at t (source.Text n)) = NoStatement
+setup p bound rs (Node at t (source.Index a b)) = NoStatement
+setup p bound rs (Node at t (source.Dot a m)) = NoStatement
+setup p bound rs (Node at t (source.Arrow a m)) = NoStatement
+setup p bound rs (Node at t (source.Comma a b)) = NoStatement
 
 -- ---- annotations
 
 -- a term, whose value fits 128 bits
-abbrev pub term : List ℕ → LogicTerm → MonExpression
-term numbers (logic.Number at t r n) = Constant I128 n
-term numbers (logic.Letter at t r n) = Constant I128 n
-term numbers (logic.Variable at t r x) = Cast I128 (Register (register_of numbers x.decl))
-term numbers (logic.Binary at t r op a b) = Binary (operator_of op) I128 (term numbers a) (term numbers b)
+abbrev pub term : Bindings → LogicTerm → MonExpression
+term bound (logic.Number at t r n) = Constant I128 n
+term bound (logic.Letter at t r n) = Constant I128 n
+term bound (logic.Variable at t r x) = Cast I128 (Load (term_type t) (pointer_to bound x.decl))
+term bound (logic.Binary at t r op a b) = Binary (operator_of op) I128 (term bound a) (term bound b)
 
 abbrev pub relation_operator : Relation → MonOp
 relation_operator relation.Eq = Eq
@@ -230,23 +247,92 @@ relation_operator relation.Le = Le
 relation_operator relation.Gt = Gt
 relation_operator relation.Ge = Ge
 
--- whether a chain is true from its first term on: every term has a value, so all relations may be asked
-abbrev pub chain : List ℕ → LogicTerm → Links → MonExpression
-chain numbers a NoLink = Constant I32 (pos 1)
-chain numbers a (Linked at r b NoLink) = Binary (relation_operator r) I128 (term numbers a) (term numbers b)
-chain numbers a (Linked at r b (Linked at2 r2 c rest)) =
-    Binary And I32 (Binary (relation_operator r) I128 (term numbers a) (term numbers b)) (chain numbers b (Linked at2 r2 c rest))
+-- whether a chain is true from its first term on, where every term has a value, so that all relations may be asked
+abbrev pub chain : Bindings → LogicTerm → Links → MonExpression
+chain bound a NoLink = Constant I32 (pos 1)
+chain bound a (Linked at r b NoLink) = Binary (relation_operator r) I128 (term bound a) (term bound b)
+chain bound a (Linked at r b (Linked at2 r2 c rest)) =
+    Binary And I32 (Binary (relation_operator r) I128 (term bound a) (term bound b)) (chain bound b (Linked at2 r2 c rest))
 
-abbrev pub truth_of_predicate : List ℕ → Predicate → MonExpression
-truth_of_predicate numbers (Chain at t links) = chain numbers t links
+abbrev pub truth_of_predicate : Bindings → Predicate → MonExpression
+truth_of_predicate bound (Chain at t links) = chain bound t links
 
-abbrev pub truth_of_body : List ℕ → ClauseBody → MonExpression
-truth_of_body numbers (Truth p) = truth_of_predicate numbers p
+abbrev pub truth_of_body : Bindings → ClauseBody → MonExpression
+truth_of_body bound (Truth p) = truth_of_predicate bound p
 
--- every variable in sight has a value, so each annotation is defined
-abbrev pub assertion : List ℕ → Annotation → MonStatement
-assertion numbers a = Assert (Constant I32 (pos 1)) (truth_of_body numbers a.body) a.number a.place.line a.kind
+-- ---- whether an annotation is defined: each variable that it reads holds a number
 
-abbrev pub assertions : List ℕ → List Annotation → MonStatements
-assertions numbers [] = NoStatement
-assertions numbers (a ∷ rest) = Then (assertion numbers a) (assertions numbers rest)
+-- a variable that is read, and the type of its value
+pub record Reading : Type 0 where
+  pub decl : ℕ
+  pub kind : MonType
+
+abbrev pub readings_of_term : LogicTerm → List Reading
+readings_of_term (logic.Number at t r n) = []
+readings_of_term (logic.Letter at t r n) = []
+readings_of_term (logic.Variable at t r x) = record { decl = x.decl; kind = term_type t } ∷ []
+readings_of_term (logic.Binary at t r op a b) = readings_of_term a ++ readings_of_term b
+
+abbrev pub readings_of_links : Links → List Reading
+readings_of_links NoLink = []
+readings_of_links (Linked at r t rest) = readings_of_term t ++ readings_of_links rest
+
+abbrev pub readings_of_predicate : Predicate → List Reading
+readings_of_predicate (Chain at t links) = readings_of_term t ++ readings_of_links links
+
+abbrev pub readings_of : ClauseBody → List Reading
+readings_of (Truth p) = readings_of_predicate p
+
+-- how many bytes a value of the type has, which an i128 is not read from
+abbrev pub access_of : MonType → AccessSize
+access_of I8 = One
+access_of U8 = One
+access_of I16 = Two
+access_of U16 = Two
+access_of I32 = Four
+access_of U32 = Four
+access_of I64 = Eight
+access_of U64 = Eight
+access_of I128 = Sixteen
+access_of Ptr = Eight
+
+-- the register with this number becomes whether the variable holds a number: `r = __e_acsl_number(p, I128(0), size);`
+abbrev pub question : Bindings → ℕ → Reading → MonStatement
+question bound r x = Act (Some r) (Number (access_of x.kind)) (pointer_to bound x.decl ∷ Constant I128 (pos 0) ∷ [])
+
+-- the same of variables in order, by registers from this one on
+abbrev pub questions : Bindings → ℕ → List Reading → MonStatements
+questions bound r [] = NoStatement
+questions bound r (x ∷ xs) = Then (question bound r x) (questions bound (suc r) xs)
+
+-- whether all of so many registers from this one on are 1
+abbrev pub all_of : ℕ → ℕ → MonExpression
+all_of r zero = Constant I32 (pos 1)
+all_of r (suc zero) = Register r
+all_of r (suc (suc n)) = Binary And I32 (Register r) (all_of (suc r) (suc n))
+
+-- the types of the temporary registers of an annotation: an answer for each variable that is read, and whether the annotation is true
+abbrev pub kinds_of : List Reading → List MonType
+kinds_of [] = I32 ∷ []
+kinds_of (x ∷ xs) = I32 ∷ kinds_of xs
+
+abbrev pub assertion_temporaries : Annotation → List MonType
+assertion_temporaries a = kinds_of (readings_of a.body)
+
+-- an annotation is computed where it is defined, and stops the run where it isn't, or where it is false
+abbrev pub judged : Bindings → ℕ → ℕ → Annotation → MonStatements
+judged bound r count a =
+    Then (If (all_of r count) (set (r + count) (truth_of_body bound a.body)) (set (r + count) (Constant I32 (pos 0))))
+    (one (Assert (all_of r count) (Register (r + count)) a.number a.place.line a.kind))
+
+abbrev pub assertion : Bindings → List MonType → Annotation → MonStatements
+assertion bound rs a =
+    before (questions bound (length rs) (readings_of a.body)) (judged bound (length rs) (length (readings_of a.body)) a)
+
+abbrev pub assertions_temporaries : List Annotation → List MonType
+assertions_temporaries [] = []
+assertions_temporaries (a ∷ rest) = assertion_temporaries a ++ assertions_temporaries rest
+
+abbrev pub assertions : Bindings → List MonType → List Annotation → MonStatements
+assertions bound rs [] = NoStatement
+assertions bound rs (a ∷ rest) = before (assertion bound rs a) (assertions bound (rs ++ assertion_temporaries a) rest)

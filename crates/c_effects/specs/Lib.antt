@@ -2,4 +2,4 @@ pub mod Expressions
 pub mod Effects
 pub mod Letters
 pub mod Parts
-pub mod Indices
+pub mod Named

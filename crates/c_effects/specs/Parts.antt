@@ -1,6 +1,6 @@
 -- Expressions in parts: from their operands, the right sides that are evaluated only at times, and full expressions as what may be in a
 -- cast, and the cast.
-use Rattle.std.specs.Prelude.{ℕ, pos, List, [], ◌∷◌, ◌++◌, length, Some}
+use Rattle.std.specs.Prelude.{pos, List, [], ◌∷◌, ◌++◌, length, Some}
 use Rattle.c_syntax.specs.declared.expression.Expr.{Expr}
 use Rattle.c_syntax.specs.declared.expression.BinOp.{BinOp}
 use Rattle.c_syntax.specs.Ctypes.{plain_type}
@@ -8,9 +8,10 @@ use Rattle.c_syntax.specs.Expressions.{Expression, Node, Binary, Both, Either, C
 use Rattle.c_syntax.specs.Programs.{TranslationUnit}
 use Rattle.mon_syntax.specs.declared.tree.MonType.{MonType}
 use Rattle.mon_syntax.specs.declared.tree.MonType.TheVariants.{I32}
+use Rattle.mon_syntax.specs.Registers.{Bindings}
 use Rattle.mon_syntax.specs.Trees.{MonExpression, Register, Constant, MonStatements, If}
 use Rattle.c_effects.specs.Letters.{HasLetters, ArgumentsHaveLetters}
-use Rattle.c_effects.specs.Expressions.{value_type, temporaries, value, before, one, set, truth_of, setup}
+use Rattle.c_effects.specs.Expressions.{Reading, value_type, temporaries, value, before, one, set, truth_of, setup}
 use Rattle.c_effects.specs.Effects.{arguments_temporaries, called}
 
 -- ---- expressions from their parts; their own place and type play no part in their translation
@@ -30,15 +31,15 @@ choice_of a b c = Node a.place (plain_type b.ctype) (Choice (plain_expr a) (plai
 -- ---- what is evaluated only at times
 
 -- a further register is set to whether an expression isn't 0
-abbrev pub truth_set : List ℕ → List MonType → Expression → MonStatements
-truth_set numbers rs e = before (setup numbers rs e) (set (length (rs ++ temporaries e)) (truth_of numbers rs e))
+abbrev pub truth_set : TranslationUnit → Bindings → List MonType → Expression → MonStatements
+truth_set p bound rs e = before (setup p bound rs e) (set (length (rs ++ temporaries e)) (truth_of p bound rs e))
 
 -- the same where the test isn't 0, and where it is
-abbrev pub both_set : List ℕ → List MonType → MonExpression → Expression → MonStatements
-both_set numbers rs test e = one (If test (truth_set numbers rs e) (set (length (rs ++ temporaries e)) (Constant I32 (pos 0))))
+abbrev pub both_set : TranslationUnit → Bindings → List MonType → MonExpression → Expression → MonStatements
+both_set p bound rs test e = one (If test (truth_set p bound rs e) (set (length (rs ++ temporaries e)) (Constant I32 (pos 0))))
 
-abbrev pub either_set : List ℕ → List MonType → MonExpression → Expression → MonStatements
-either_set numbers rs test e = one (If test (set (length (rs ++ temporaries e)) (Constant I32 (pos 1))) (truth_set numbers rs e))
+abbrev pub either_set : TranslationUnit → Bindings → List MonType → MonExpression → Expression → MonStatements
+either_set p bound rs test e = one (If test (set (length (rs ++ temporaries e)) (Constant I32 (pos 1))) (truth_set p bound rs e))
 
 -- ---- a call, or an expression without effects
 
@@ -46,14 +47,21 @@ abbrev pub direct_temporaries : Expression → List MonType
 direct_temporaries (Node at t (Call f es)) = arguments_temporaries es ++ value_type t ∷ []
 direct_temporaries e = temporaries e
 
-abbrev pub direct_setup : TranslationUnit → List ℕ → List MonType → Expression → MonStatements
-direct_setup p numbers rs (Node at t (Call f es)) = called p numbers rs (Some (length (rs ++ arguments_temporaries es))) f es
-direct_setup p numbers rs e = setup numbers rs e
+abbrev pub direct_setup : TranslationUnit → Bindings → List MonType → Expression → MonStatements
+direct_setup p bound rs (Node at t (Call f es)) = called p bound rs (Some (length (rs ++ arguments_temporaries es))) f es
+direct_setup p bound rs e = setup p bound rs e
 
-abbrev pub direct_value : List ℕ → List MonType → Expression → MonExpression
-direct_value numbers rs (Node at t (Call f es)) = Register (length (rs ++ arguments_temporaries es))
-direct_value numbers rs e = value numbers rs e
+abbrev pub direct_value : TranslationUnit → Bindings → List MonType → Expression → MonExpression
+direct_value p bound rs (Node at t (Call f es)) = Register (length (rs ++ arguments_temporaries es))
+direct_value p bound rs e = value p bound rs e
 
 abbrev pub DirectHasLetters : Expression → Type 0
 DirectHasLetters (Node at t (Call f es)) = ArgumentsHaveLetters es
 DirectHasLetters e = HasLetters e
+
+-- ---- annotations
+
+-- the types of the registers that take the answers to questions
+abbrev pub answers : List Reading → List MonType
+answers [] = []
+answers (x ∷ xs) = I32 ∷ answers xs

@@ -1,23 +1,21 @@
 //! Calls (C99 6.5.2.2).
 
-ghost use Rattle.std.specs.Prelude.{◌≡◌, ◌++◌, IfOk, None, OnOk, map};
+ghost use Rattle.std.specs.Prelude.{◌≡◌, IfOk, None, OnOk, map};
 ghost use Rattle.c_syntax.specs.Expressions.{plain_exprs};
 ghost use Rattle.c_syntax.specs.Programs.{plain_program};
 ghost use Rattle.mon_syntax.specs.Trees.{Exit, PutChar, plain_expr as plain_monitored, plain_stmts};
 ghost use Rattle.c_effects.specs.Letters.{ArgumentsHaveLetters};
 ghost use Rattle.c_effects.specs.Expressions.{before, one};
-ghost use Rattle.c_effects.specs.Effects.{arguments, arguments_setup, arguments_temporaries, call, called, first_of, library_call};
+ghost use Rattle.c_effects.specs.Effects.{arguments_temporaries, call, first_of, library_call};
+ghost use Rattle.c_effects.specs.Named.{arguments_by, arguments_setup_by, called_by, with_registers};
 
-use crate::definition::Definitions;
 use crate::expression::expression;
 use crate::operator::constant;
 use crate::part::then;
-use crate::scene::Scene;
 use c_syntax::{Expr, Use};
 use c_type_rules::scope::name_at;
-use mon_syntax::{MonExpr, MonStmt, MonStmtKind, MonType};
+use mon_syntax::{MonExpr, MonStmt, MonStmtKind, MonType, Registers, numbered};
 use std::alloc::{AllocError, Global};
-use track_scopes::register::numbered;
 
 // The first argument, 0 where there is none.
 fn first_of(alloc: Global, mut args: Vec<MonExpr>) -> Result<MonExpr, AllocError>
@@ -74,25 +72,19 @@ fn library_call(
 /// A call with the values of its arguments, and the register that takes its own.
 pub fn call(
     alloc: Global,
-    definitions: &Definitions<'_>,
+    names: &Registers<'_>,
     into: Option<u32>,
     f: Use,
     args: Vec<MonExpr>,
     to: &mut Vec<MonStmt>,
 ) -> Result<(), AllocError>
     ensures { OnOk result (plain_stmts to.new.items ≡ before (plain_stmts to.old.items)
-        (call (plain_program definitions.now.program.now) into f (map plain_monitored args.items))) }
+        (call (plain_program names.now.program) into f (map plain_monitored args.items))) }
 {
     if f.decl == Use::LIBRARY {
-        library_call(
-            alloc,
-            into,
-            name_at(&definitions.program.names, f.name),
-            args,
-            to,
-        )
+        library_call(alloc, into, name_at(names.names(), f.name), args, to)
     } else {
-        let index = numbered(definitions.index_of(f.decl))?;
+        let index = numbered(names.index_of(f.decl))?;
         then(alloc, to, MonStmtKind::Call(into, index, args))
     }
 }
@@ -100,20 +92,19 @@ pub fn call(
 /// The values of arguments, from left to right.
 pub fn arguments(
     alloc: Global,
-    numbers: &[u32],
     args: &[Expr],
-    types: &mut Vec<MonType>,
+    names: &mut Registers<'_>,
     to: &mut Vec<MonStmt>,
 ) -> Result<Vec<MonExpr>, AllocError>
-    ensures values { IfOk result (λ es. map plain_monitored es.items ≡ arguments numbers.now types.old.items (plain_exprs args.now)) }
+    ensures values { IfOk result (λ es. map plain_monitored es.items ≡ arguments_by names.old (plain_exprs args.now)) }
     ensures setup { OnOk result (plain_stmts to.new.items ≡ before (plain_stmts to.old.items)
-        (arguments_setup numbers.now types.old.items (plain_exprs args.now))) }
-    ensures types { OnOk result (types.new.items ≡ types.old.items ++ arguments_temporaries (plain_exprs args.now)) }
+        (arguments_setup_by names.old (plain_exprs args.now))) }
+    ensures names { OnOk result (names.new ≡ with_registers (arguments_temporaries (plain_exprs args.now)) names.old) }
     ensures letters { OnOk result (ArgumentsHaveLetters (plain_exprs args.now)) }
 {
     let mut values = Vec::new(alloc);
     'expressions: for e in args {
-        values.push(expression(alloc, numbers, e, types, to)?)?;
+        values.push(expression(alloc, e, names, to)?)?;
     }
     Ok(values)
 }
@@ -122,17 +113,16 @@ pub fn arguments(
 #[tactic(auto, using(crate::proofs::Sequences::before_assoc))]
 pub fn called(
     alloc: Global,
-    scene: &Scene<'_>,
     f: Use,
     args: &[Expr],
-    types: &mut Vec<MonType>,
+    names: &mut Registers<'_>,
     to: &mut Vec<MonStmt>,
 ) -> Result<(), AllocError>
     ensures code { OnOk result (plain_stmts to.new.items ≡ before (plain_stmts to.old.items)
-        (called (plain_program scene.now.definitions.now.program.now) scene.now.numbers.now types.old.items None f (plain_exprs args.now))) }
-    ensures types { OnOk result (types.new.items ≡ types.old.items ++ arguments_temporaries (plain_exprs args.now)) }
+        (called_by names.old None f (plain_exprs args.now))) }
+    ensures names { OnOk result (names.new ≡ with_registers (arguments_temporaries (plain_exprs args.now)) names.old) }
     ensures letters { OnOk result (ArgumentsHaveLetters (plain_exprs args.now)) }
 {
-    let values = arguments(alloc, scene.numbers, args, types, to)?;
-    call(alloc, scene.definitions, None, f, values, to)
+    let values = arguments(alloc, args, names, to)?;
+    call(alloc, names, None, f, values, to)
 }

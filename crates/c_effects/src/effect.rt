@@ -1,36 +1,45 @@
 //! Assignments, increments and calls (C99 6.5.2.2, 6.5.2.4, 6.5.3.1, 6.5.16), and initialisers (C99 6.7.8).
 
-ghost use Rattle.std.specs.Prelude.{◌≡◌, ◌++◌, IfOk, OnOk, map, option_map, pos};
+ghost use Rattle.std.specs.Prelude.{◌≡◌, IfOk, OnOk, map, option_map, pos};
 ghost use Rattle.c_syntax.specs.Ctypes.{int_type, plain_type};
 ghost use Rattle.c_syntax.specs.Expressions.{plain_expr, type_of};
-ghost use Rattle.c_syntax.specs.Programs.{plain_program};
 ghost use Rattle.c_syntax.specs.Statements.{plain_decl};
 ghost use Rattle.c_model.specs.Meaning.{bump_operator};
 ghost use Rattle.mon_syntax.specs.declared.tree.MonType.TheVariants.{I32};
-ghost use Rattle.mon_syntax.specs.Trees.{Constant, Register, plain_expr as plain_monitored, plain_stmts};
+ghost use Rattle.mon_syntax.specs.Trees.{Constant, plain_expr as plain_monitored, plain_stmts};
 ghost use Rattle.c_effects.specs.Letters.{Any, EffectHasLetters, FullHasLetters, HasLetters, InitialHasLetters, InitialsHaveLetters};
-ghost use Rattle.c_effects.specs.Expressions.{before, compound, set, setup, temporaries, value};
-ghost use Rattle.track_scopes.specs.Blocks.{register_of};
-ghost use Rattle.c_effects.specs.Effects.{any_temporaries, declaration_temporaries, effect, effect_if_any, effect_temporaries, full_setup, full_temporaries};
-ghost use Rattle.c_effects.specs.Effects.{full_value, initial_temporaries, initialise, initialise_all, target};
+ghost use Rattle.c_effects.specs.Expressions.{before, compound, temporaries};
+ghost use Rattle.c_effects.specs.Effects.{any_temporaries, block_of, current, declaration_temporaries, effect_temporaries, full_temporaries};
+ghost use Rattle.c_effects.specs.Effects.{initial_temporaries, store, target};
+ghost use Rattle.c_effects.specs.Named.{effect_by, effect_if_any_by, full_setup_by, full_value_by, initialise_all_by, initialise_by, setup_by, value_by};
+ghost use Rattle.c_effects.specs.Named.{with_registers};
 
 use crate::call::called;
+use crate::conversion::value_type;
 use crate::expression::expression;
 use crate::full::full;
 use crate::operator::{compound, constant, register};
 use crate::part::then;
-use crate::scene::Scene;
 use c_syntax::{BinOp, BumpOp, CInt, CType, Decl, Expr, ExprKind, Init};
-use mon_syntax::{MonStmt, MonStmtKind, MonType};
+use mon_syntax::{MonExpr, MonExprKind, MonStmt, MonStmtKind, MonType, Registers};
 use std::alloc::{AllocError, Global};
-use track_scopes::register::register_of;
 
-// The register that is assigned to.
-fn target(numbers: &[u32], e: &Expr) -> Result<u32, AllocError>
-    ensures { IfOk result (λ r. r ≡ target numbers.now (plain_expr e.now)) }
+// The register that points to the block of a declaration.
+fn block_of(names: &Registers<'_>, x: u32) -> u32
+    ensures { result ≡ block_of names.now.table.bound x }
+{
+    match names.register_of(x) {
+        Some(number) => number,
+        None => 0,
+    }
+}
+
+// The register that points to the object that is assigned to.
+fn target(names: &Registers<'_>, e: &Expr) -> u32
+    ensures { result ≡ target names.now.table.bound (plain_expr e.now) }
 {
     match &*e.kind {
-        ExprKind::Variable(x) => register_of(numbers, x.decl),
+        ExprKind::Variable(x) => block_of(names, x.decl),
         ExprKind::Number(_, _)
         | ExprKind::Letter(_)
         | ExprKind::Unary(_, _)
@@ -48,72 +57,91 @@ fn target(numbers: &[u32], e: &Expr) -> Result<u32, AllocError>
         | ExprKind::Index(_, _)
         | ExprKind::Dot(_, _)
         | ExprKind::Arrow(_, _)
-        | ExprKind::Comma(_, _) => Ok(0),
+        | ExprKind::Comma(_, _) => 0,
     }
 }
 
-// Gives a register the value of a full expression.
+// The value of the object to which a register points.
+fn current(alloc: Global, block: u32, t: &CType) -> Result<MonExpr, AllocError>
+    ensures { IfOk result (λ m. plain_monitored m ≡ current block (plain_type t.now)) }
+{
+    let pointer = register(alloc, block)?;
+    MonExpr::new(alloc, MonExprKind::Load(value_type(t), pointer))
+}
+
+// It becomes a value.
+fn store(
+    alloc: Global,
+    block: u32,
+    t: &CType,
+    value: MonExpr,
+    to: &mut Vec<MonStmt>,
+) -> Result<(), AllocError>
+    ensures { OnOk result (plain_stmts to.new.items ≡ before (plain_stmts to.old.items) (store block (plain_type t.now) (plain_monitored value))) }
+{
+    then(alloc, to, MonStmtKind::Store(block, value_type(t), value))
+}
+
+// Gives the object of a type, to which a register points, the value of a full expression.
 #[tactic(auto, using(crate::proofs::Sequences::before_assoc))]
 fn assign(
     alloc: Global,
-    scene: &Scene<'_>,
-    register: u32,
+    object: (u32, &CType),
     e: &Expr,
-    types: &mut Vec<MonType>,
+    names: &mut Registers<'_>,
     to: &mut Vec<MonStmt>,
 ) -> Result<(), AllocError>
-    ensures code { OnOk result (plain_stmts to.new.items ≡ before (plain_stmts to.old.items)
-        (before (full_setup (plain_program scene.now.definitions.now.program.now) scene.now.numbers.now types.old.items (plain_expr e.now))
-        (set register (full_value scene.now.numbers.now types.old.items (plain_expr e.now))))) }
-    ensures types { OnOk result (types.new.items ≡ types.old.items ++ full_temporaries (plain_expr e.now)) }
+    ensures code { OnOk result (plain_stmts to.new.items ≡ before (plain_stmts to.old.items) (before (full_setup_by names.old (plain_expr e.now))
+        (store object.entry.0 (plain_type object.entry.1.now) (full_value_by names.old (plain_expr e.now))))) }
+    ensures names { OnOk result (names.new ≡ with_registers (full_temporaries (plain_expr e.now)) names.old) }
     ensures letters { OnOk result (FullHasLetters (plain_expr e.now)) }
 {
-    let value = full(alloc, scene, e, types, to)?;
-    then(alloc, to, MonStmtKind::Set(register, value))
+    let (block, t) = object;
+    let value = full(alloc, e, names, to)?;
+    store(alloc, block, t, value, to)
 }
 
-// Gives the variable that is assigned to the value of a full expression.
+// Gives the object that is assigned to, whose type this is, the value of a full expression.
 fn assign_target(
     alloc: Global,
-    scene: &Scene<'_>,
-    left: &Expr,
+    left: (&Expr, &CType),
     e: &Expr,
-    types: &mut Vec<MonType>,
+    names: &mut Registers<'_>,
     to: &mut Vec<MonStmt>,
 ) -> Result<(), AllocError>
-    ensures code { OnOk result (plain_stmts to.new.items ≡ before (plain_stmts to.old.items)
-        (before (full_setup (plain_program scene.now.definitions.now.program.now) scene.now.numbers.now types.old.items (plain_expr e.now))
-        (set (target scene.now.numbers.now (plain_expr left.now)) (full_value scene.now.numbers.now types.old.items (plain_expr e.now))))) }
-    ensures types { OnOk result (types.new.items ≡ types.old.items ++ full_temporaries (plain_expr e.now)) }
+    ensures code { OnOk result (plain_stmts to.new.items ≡ before (plain_stmts to.old.items) (before (full_setup_by names.old (plain_expr e.now))
+        (store (target names.old.table.bound (plain_expr left.entry.0.now)) (plain_type left.entry.1.now) (full_value_by names.old (plain_expr e.now))))) }
+    ensures names { OnOk result (names.new ≡ with_registers (full_temporaries (plain_expr e.now)) names.old) }
     ensures letters { OnOk result (FullHasLetters (plain_expr e.now)) }
 {
-    let number = target(scene.numbers, left)?;
-    assign(alloc, scene, number, e, types, to)
+    let (left, t) = left;
+    let block = target(names, left);
+    assign(alloc, (block, t), e, names, to)
 }
 
-// Gives the variable that is assigned to, whose type this is, what the operator makes of its value and that of an expression.
+// Gives the object that is assigned to, whose type this is, what the operator makes of its value and that of an expression.
 #[tactic(auto, using(crate::proofs::Sequences::before_assoc))]
 fn assign_by(
     alloc: Global,
-    numbers: &[u32],
     op: BinOp,
     left: (&Expr, &CType),
     e: &Expr,
-    types: &mut Vec<MonType>,
+    names: &mut Registers<'_>,
     to: &mut Vec<MonStmt>,
 ) -> Result<(), AllocError>
-    ensures code { OnOk result (plain_stmts to.new.items ≡ before (plain_stmts to.old.items) (before (setup numbers.now types.old.items (plain_expr e.now))
-        (set (target numbers.now (plain_expr left.entry.0.now)) (compound op (plain_type left.entry.1.now) (type_of (plain_expr e.now))
-        (Register (target numbers.now (plain_expr left.entry.0.now))) (value numbers.now types.old.items (plain_expr e.now)))))) }
-    ensures types { OnOk result (types.new.items ≡ types.old.items ++ temporaries (plain_expr e.now)) }
+    ensures code { OnOk result (plain_stmts to.new.items ≡ before (plain_stmts to.old.items) (before (setup_by names.old (plain_expr e.now))
+        (store (target names.old.table.bound (plain_expr left.entry.0.now)) (plain_type left.entry.1.now)
+        (compound op (plain_type left.entry.1.now) (type_of (plain_expr e.now))
+        (current (target names.old.table.bound (plain_expr left.entry.0.now)) (plain_type left.entry.1.now)) (value_by names.old (plain_expr e.now)))))) }
+    ensures names { OnOk result (names.new ≡ with_registers (temporaries (plain_expr e.now)) names.old) }
     ensures letters { OnOk result (HasLetters (plain_expr e.now)) }
 {
     let (left, t) = left;
-    let number = target(numbers, left)?;
-    let right = expression(alloc, numbers, e, types, to)?;
-    let old = register(alloc, number)?;
+    let block = target(names, left);
+    let right = expression(alloc, e, names, to)?;
+    let old = current(alloc, block, t)?;
     let value = compound(alloc, op, t, &e.ctype, old, right)?;
-    then(alloc, to, MonStmtKind::Set(number, value))
+    store(alloc, block, t, value, to)
 }
 
 fn bump_operator(op: BumpOp) -> BinOp
@@ -125,58 +153,49 @@ fn bump_operator(op: BumpOp) -> BinOp
     }
 }
 
-// `++` and `--` on a variable, whose type this is.
+// `++` and `--` on an object, whose type this is.
 fn bump(
     alloc: Global,
-    numbers: &[u32],
     op: BumpOp,
     left: &Expr,
     t: &CType,
+    names: &Registers<'_>,
     to: &mut Vec<MonStmt>,
 ) -> Result<(), AllocError>
     ensures { OnOk result (plain_stmts to.new.items ≡ before (plain_stmts to.old.items)
-        (set (target numbers.now (plain_expr left.now)) (compound (bump_operator op) (plain_type t.now) int_type
-        (Register (target numbers.now (plain_expr left.now))) (Constant I32 (pos 1))))) }
+        (store (target names.now.table.bound (plain_expr left.now)) (plain_type t.now) (compound (bump_operator op) (plain_type t.now) int_type
+        (current (target names.now.table.bound (plain_expr left.now)) (plain_type t.now)) (Constant I32 (pos 1))))) }
 {
-    let number = target(numbers, left)?;
-    let old = register(alloc, number)?;
+    let block = target(names, left);
+    let old = current(alloc, block, t)?;
     let one = constant(alloc, MonType::I32, 1)?;
     let int = CType::Int(CInt::I32);
     let value = compound(alloc, bump_operator(op), t, &int, old, one)?;
-    then(alloc, to, MonStmtKind::Set(number, value))
+    store(alloc, block, t, value, to)
 }
 
 /// Translates an expression that stands for its effects. Nothing is left of one that has none.
 #[tactic(auto, using(crate::proofs::Sequences::before_none))]
 pub fn effect(
     alloc: Global,
-    scene: &Scene<'_>,
     e: &Expr,
-    types: &mut Vec<MonType>,
+    names: &mut Registers<'_>,
     to: &mut Vec<MonStmt>,
 ) -> Result<(), AllocError>
     ensures code { OnOk result (plain_stmts to.new.items ≡ before (plain_stmts to.old.items)
-        (effect (plain_program scene.now.definitions.now.program.now) scene.now.numbers.now types.old.items (plain_expr e.now))) }
-    ensures types { OnOk result (types.new.items ≡ types.old.items ++ effect_temporaries (plain_expr e.now)) }
+        (effect_by names.old (plain_expr e.now))) }
+    ensures names { OnOk result (names.new ≡ with_registers (effect_temporaries (plain_expr e.now)) names.old) }
     ensures letters { OnOk result (EffectHasLetters (plain_expr e.now)) }
 {
     match &*e.kind {
         ExprKind::Assign(None, left, right) => {
-            assign_target(alloc, scene, left, right, types, to)
+            assign_target(alloc, (left, &e.ctype), right, names, to)
         }
         ExprKind::Assign(Some(op), left, right) => {
-            assign_by(
-                alloc,
-                scene.numbers,
-                *op,
-                (left, &e.ctype),
-                right,
-                types,
-                to,
-            )
+            assign_by(alloc, *op, (left, &e.ctype), right, names, to)
         }
-        ExprKind::Bump(op, left) => bump(alloc, scene.numbers, *op, left, &e.ctype, to),
-        ExprKind::Call(f, args) => called(alloc, scene, *f, args, types, to),
+        ExprKind::Bump(op, left) => bump(alloc, *op, left, &e.ctype, names, to),
+        ExprKind::Call(f, args) => called(alloc, *f, args, names, to),
         ExprKind::Number(_, _)
         | ExprKind::Letter(_)
         | ExprKind::Variable(_)
@@ -200,18 +219,17 @@ pub fn effect(
 #[tactic(auto, using(crate::proofs::Sequences::before_none))]
 pub fn effect_if_any(
     alloc: Global,
-    scene: &Scene<'_>,
     e: &Option<Expr>,
-    types: &mut Vec<MonType>,
+    names: &mut Registers<'_>,
     to: &mut Vec<MonStmt>,
 ) -> Result<(), AllocError>
     ensures code { OnOk result (plain_stmts to.new.items ≡ before (plain_stmts to.old.items)
-        (effect_if_any (plain_program scene.now.definitions.now.program.now) scene.now.numbers.now types.old.items (option_map plain_expr e.now))) }
-    ensures types { OnOk result (types.new.items ≡ types.old.items ++ any_temporaries effect_temporaries (option_map plain_expr e.now)) }
+        (effect_if_any_by names.old (option_map plain_expr e.now))) }
+    ensures names { OnOk result (names.new ≡ with_registers (any_temporaries effect_temporaries (option_map plain_expr e.now)) names.old) }
     ensures letters { OnOk result (Any EffectHasLetters (option_map plain_expr e.now)) }
 {
     match e {
-        Some(e) => effect(alloc, scene, e, types, to),
+        Some(e) => effect(alloc, e, names, to),
         None => Ok(()),
     }
 }
@@ -220,20 +238,19 @@ pub fn effect_if_any(
 #[tactic(auto, using(crate::proofs::Sequences::before_none))]
 fn initialise(
     alloc: Global,
-    scene: &Scene<'_>,
     d: &Decl,
-    types: &mut Vec<MonType>,
+    names: &mut Registers<'_>,
     to: &mut Vec<MonStmt>,
 ) -> Result<(), AllocError>
     ensures code { OnOk result (plain_stmts to.new.items ≡ before (plain_stmts to.old.items)
-        (initialise (plain_program scene.now.definitions.now.program.now) scene.now.numbers.now types.old.items d.now.place.offset (plain_decl d.now).init)) }
-    ensures types { OnOk result (types.new.items ≡ types.old.items ++ initial_temporaries (plain_decl d.now).init) }
+        (initialise_by names.old d.now.place.offset (plain_type d.now.ctype) (plain_decl d.now).init)) }
+    ensures names { OnOk result (names.new ≡ with_registers (initial_temporaries (plain_decl d.now).init) names.old) }
     ensures letters { OnOk result (InitialHasLetters (plain_decl d.now).init) }
 {
     match &d.init {
         Some((_, Init::One(e))) => {
-            let register = register_of(scene.numbers, d.place.offset)?;
-            assign(alloc, scene, register, e, types, to)
+            let block = block_of(names, d.place.offset);
+            assign(alloc, (block, &d.ctype), e, names, to)
         }
         Some((_, Init::Many(_, _))) | None => Ok(()),
     }
@@ -242,18 +259,17 @@ fn initialise(
 /// Initialises the declared variables in order.
 pub fn initialise_all(
     alloc: Global,
-    scene: &Scene<'_>,
     decls: &[Decl],
-    types: &mut Vec<MonType>,
+    names: &mut Registers<'_>,
     to: &mut Vec<MonStmt>,
 ) -> Result<(), AllocError>
     ensures code { OnOk result (plain_stmts to.new.items ≡ before (plain_stmts to.old.items)
-        (initialise_all (plain_program scene.now.definitions.now.program.now) scene.now.numbers.now types.old.items (map plain_decl decls.now))) }
-    ensures types { OnOk result (types.new.items ≡ types.old.items ++ declaration_temporaries (map plain_decl decls.now)) }
+        (initialise_all_by names.old (map plain_decl decls.now))) }
+    ensures names { OnOk result (names.new ≡ with_registers (declaration_temporaries (map plain_decl decls.now)) names.old) }
     ensures letters { OnOk result (InitialsHaveLetters (map plain_decl decls.now)) }
 {
     'decls: for d in decls {
-        initialise(alloc, scene, d, types, to)?;
+        initialise(alloc, d, names, to)?;
     }
     Ok(())
 }

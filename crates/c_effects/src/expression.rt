@@ -4,56 +4,70 @@ ghost use Rattle.std.specs.Prelude.{◌≡◌, ◌++◌, ◌∷◌, [], IfOk, On
 ghost use Rattle.c_syntax.specs.Ctypes.{plain_type};
 ghost use Rattle.c_syntax.specs.Expressions.{plain_expr, type_of};
 ghost use Rattle.mon_syntax.specs.declared.tree.MonType.TheVariants.{I32};
-ghost use Rattle.mon_syntax.specs.Trees.{Register, plain_expr as plain_monitored, plain_stmts};
+ghost use Rattle.mon_syntax.specs.Trees.{Load, Register, plain_expr as plain_monitored, plain_stmts};
 ghost use Rattle.c_effects.specs.Letters.{HasLetters};
-ghost use Rattle.c_effects.specs.Expressions.{before, condition_of, in_type, setup, temporaries, unary, value, value_type};
-ghost use Rattle.c_effects.specs.Parts.{binary_of, both_of, both_set, choice_of, either_of, either_set, truth_set};
-ghost use Rattle.track_scopes.specs.Blocks.{register_of};
+ghost use Rattle.c_effects.specs.Expressions.{before, in_type, pointer_to, temporaries, unary, value_type};
+ghost use Rattle.c_effects.specs.Named.{both_set_by, condition_by, either_set_by, setup_by, truth_set_by, value_by, with_registers};
+ghost use Rattle.c_effects.specs.Parts.{binary_of, both_of, choice_of, either_of};
 
 use crate::conversion::value_type;
 use crate::operator::{binary, condition, constant, in_type, register, truth, unary};
-use crate::part::{alone, choose, temporary, then};
+use crate::part::{alone, choose, then};
 use c_syntax::{BinOp, CType, Expr, ExprKind, UnOp};
-use mon_syntax::{MonExpr, MonStmt, MonStmtKind, MonType};
+use mon_syntax::{MonExpr, MonExprKind, MonStmt, MonStmtKind, MonType, Registers};
 use std::alloc::{AllocError, Global};
-use track_scopes::register::register_of;
 use track_scopes::size::size_constant;
 
-// The value of a variable.
-fn variable(alloc: Global, numbers: &[u32], x: u32) -> Result<MonExpr, AllocError>
-    ensures { IfOk result (λ m. plain_monitored m ≡ Register (register_of numbers.now x)) }
+/// The pointer to the block of a declaration, which stands in its register.
+pub fn pointer_to(alloc: Global, names: &Registers<'_>, x: u32) -> Result<MonExpr, AllocError>
+    ensures { IfOk result (λ m. plain_monitored m ≡ pointer_to names.now.table.bound x) }
 {
-    register(alloc, register_of(numbers, x)?)
+    match names.register_of(x) {
+        Some(number) => register(alloc, number),
+        None => constant(alloc, MonType::Ptr, 0),
+    }
 }
 
-/// Translates an expression without effects: its statements stand after those that are there, and the types of its temporary
-/// registers after those of the registers that are there. In place of the value of any other expression stands 0.
+/// The value of a variable, by the type of its register.
+pub fn variable(
+    alloc: Global,
+    names: &Registers<'_>,
+    kind: MonType,
+    x: u32,
+) -> Result<MonExpr, AllocError>
+    ensures { IfOk result (λ m. plain_monitored m ≡ Load kind (pointer_to names.now.table.bound x)) }
+{
+    let pointer = pointer_to(alloc, names, x)?;
+    MonExpr::new(alloc, MonExprKind::Load(kind, pointer))
+}
+
+/// Translates an expression without effects: its statements stand after those that are there, and its temporary
+/// registers are further ones. In place of the value of any other expression stands 0.
 #[cycle(expression)]
 #[tactic(auto, using(crate::proofs::Sequences::before_none))]
 pub fn expression(
     alloc: Global,
-    numbers: &[u32],
     e: &Expr,
-    types: &mut Vec<MonType>,
+    names: &mut Registers<'_>,
     to: &mut Vec<MonStmt>,
 ) -> Result<MonExpr, AllocError>
-    ensures value { IfOk result (λ m. plain_monitored m ≡ value numbers.now types.old.items (plain_expr e.now)) }
-    ensures setup { OnOk result (plain_stmts to.new.items ≡ before (plain_stmts to.old.items) (setup numbers.now types.old.items (plain_expr e.now))) }
-    ensures types { OnOk result (types.new.items ≡ types.old.items ++ temporaries (plain_expr e.now)) }
+    ensures value { IfOk result (λ m. plain_monitored m ≡ value_by names.old (plain_expr e.now)) }
+    ensures setup { OnOk result (plain_stmts to.new.items ≡ before (plain_stmts to.old.items) (setup_by names.old (plain_expr e.now))) }
+    ensures names { OnOk result (names.new ≡ with_registers (temporaries (plain_expr e.now)) names.old) }
     ensures letters { OnOk result (HasLetters (plain_expr e.now)) }
 {
     match &*e.kind {
         ExprKind::Number(n, _) => constant(alloc, value_type(&e.ctype), *n),
         ExprKind::Letter(n) => constant(alloc, value_type(&e.ctype), i128::from(*n)),
-        ExprKind::Variable(x) => variable(alloc, numbers, x.decl),
-        ExprKind::Unary(op, a) => prefixed(alloc, numbers, *op, a, types, to),
-        ExprKind::Binary(op, a, b) => operated(alloc, numbers, *op, (a, b), types, to),
-        ExprKind::Both(a, b) => and(alloc, numbers, a, b, types, to),
-        ExprKind::Either(a, b) => or(alloc, numbers, a, b, types, to),
-        ExprKind::Choice(a, b, c) => choice(alloc, numbers, a, (b, c), types, to),
-        ExprKind::Cast(t, a) => cast(alloc, numbers, t, a, types, to),
-        ExprKind::SizeOfType(t) => size_constant(alloc, t),
-        ExprKind::SizeOfExpr(a) => size_constant(alloc, &a.ctype),
+        ExprKind::Variable(x) => variable(alloc, names, value_type(&e.ctype), x.decl),
+        ExprKind::Unary(op, a) => prefixed(alloc, *op, a, names, to),
+        ExprKind::Binary(op, a, b) => operated(alloc, *op, (a, b), names, to),
+        ExprKind::Both(a, b) => and(alloc, a, b, names, to),
+        ExprKind::Either(a, b) => or(alloc, a, b, names, to),
+        ExprKind::Choice(a, b, c) => choice(alloc, a, (b, c), names, to),
+        ExprKind::Cast(t, a) => cast(alloc, t, a, names, to),
+        ExprKind::SizeOfType(t) => size_constant(alloc, names.layouts(), t),
+        ExprKind::SizeOfExpr(a) => size_constant(alloc, names.layouts(), &a.ctype),
         ExprKind::Assign(_, _, _)
         | ExprKind::Bump(_, _)
         | ExprKind::Call(_, _)
@@ -69,19 +83,18 @@ pub fn expression(
 #[cycle(expression)]
 fn prefixed(
     alloc: Global,
-    numbers: &[u32],
     op: UnOp,
     a: &Expr,
-    types: &mut Vec<MonType>,
+    names: &mut Registers<'_>,
     to: &mut Vec<MonStmt>,
 ) -> Result<MonExpr, AllocError>
     ensures value { IfOk result (λ m. plain_monitored m ≡ unary op (value_type (type_of (plain_expr a.now)))
-        (value numbers.now types.old.items (plain_expr a.now))) }
-    ensures setup { OnOk result (plain_stmts to.new.items ≡ before (plain_stmts to.old.items) (setup numbers.now types.old.items (plain_expr a.now))) }
-    ensures types { OnOk result (types.new.items ≡ types.old.items ++ temporaries (plain_expr a.now)) }
+        (value_by names.old (plain_expr a.now))) }
+    ensures setup { OnOk result (plain_stmts to.new.items ≡ before (plain_stmts to.old.items) (setup_by names.old (plain_expr a.now))) }
+    ensures names { OnOk result (names.new ≡ with_registers (temporaries (plain_expr a.now)) names.old) }
     ensures letters { OnOk result (HasLetters (plain_expr a.now)) }
 {
-    let operand = expression(alloc, numbers, a, types, to)?;
+    let operand = expression(alloc, a, names, to)?;
     unary(alloc, op, value_type(&a.ctype), operand)
 }
 
@@ -89,19 +102,18 @@ fn prefixed(
 #[cycle(expression)]
 fn cast(
     alloc: Global,
-    numbers: &[u32],
     t: &CType,
     a: &Expr,
-    types: &mut Vec<MonType>,
+    names: &mut Registers<'_>,
     to: &mut Vec<MonStmt>,
 ) -> Result<MonExpr, AllocError>
     ensures value { IfOk result (λ m. plain_monitored m ≡ in_type (value_type (type_of (plain_expr a.now))) (value_type (plain_type t.now))
-        (value numbers.now types.old.items (plain_expr a.now))) }
-    ensures setup { OnOk result (plain_stmts to.new.items ≡ before (plain_stmts to.old.items) (setup numbers.now types.old.items (plain_expr a.now))) }
-    ensures types { OnOk result (types.new.items ≡ types.old.items ++ temporaries (plain_expr a.now)) }
+        (value_by names.old (plain_expr a.now))) }
+    ensures setup { OnOk result (plain_stmts to.new.items ≡ before (plain_stmts to.old.items) (setup_by names.old (plain_expr a.now))) }
+    ensures names { OnOk result (names.new ≡ with_registers (temporaries (plain_expr a.now)) names.old) }
     ensures letters { OnOk result (HasLetters (plain_expr a.now)) }
 {
-    let operand = expression(alloc, numbers, a, types, to)?;
+    let operand = expression(alloc, a, names, to)?;
     in_type(alloc, value_type(&a.ctype), value_type(t), operand)
 }
 
@@ -109,21 +121,20 @@ fn cast(
 #[cycle(expression)]
 fn operated(
     alloc: Global,
-    numbers: &[u32],
     op: BinOp,
     operands: (&Expr, &Expr),
-    types: &mut Vec<MonType>,
+    names: &mut Registers<'_>,
     to: &mut Vec<MonStmt>,
 ) -> Result<MonExpr, AllocError>
-    ensures value { IfOk result (λ m. plain_monitored m ≡ value numbers.now types.old.items (binary_of op operands.entry.0.now operands.entry.1.now)) }
+    ensures value { IfOk result (λ m. plain_monitored m ≡ value_by names.old (binary_of op operands.entry.0.now operands.entry.1.now)) }
     ensures setup { OnOk result (plain_stmts to.new.items ≡ before (plain_stmts to.old.items)
-        (setup numbers.now types.old.items (binary_of op operands.entry.0.now operands.entry.1.now))) }
-    ensures types { OnOk result (types.new.items ≡ types.old.items ++ temporaries (binary_of op operands.entry.0.now operands.entry.1.now)) }
+        (setup_by names.old (binary_of op operands.entry.0.now operands.entry.1.now))) }
+    ensures names { OnOk result (names.new ≡ with_registers (temporaries (binary_of op operands.entry.0.now operands.entry.1.now)) names.old) }
     ensures letters { OnOk result (HasLetters (binary_of op operands.entry.0.now operands.entry.1.now)) }
 {
     let (a, b) = operands;
-    let left = expression(alloc, numbers, a, types, to)?;
-    let right = expression(alloc, numbers, b, types, to)?;
+    let left = expression(alloc, a, names, to)?;
+    let right = expression(alloc, b, names, to)?;
     binary(
         alloc,
         op,
@@ -138,61 +149,58 @@ fn operated(
 #[cycle(expression)]
 fn and(
     alloc: Global,
-    numbers: &[u32],
     a: &Expr,
     b: &Expr,
-    types: &mut Vec<MonType>,
+    names: &mut Registers<'_>,
     to: &mut Vec<MonStmt>,
 ) -> Result<MonExpr, AllocError>
-    ensures value { IfOk result (λ m. plain_monitored m ≡ value numbers.now types.old.items (both_of a.now b.now)) }
-    ensures setup { OnOk result (plain_stmts to.new.items ≡ before (plain_stmts to.old.items) (setup numbers.now types.old.items (both_of a.now b.now))) }
-    ensures types { OnOk result (types.new.items ≡ types.old.items ++ temporaries (both_of a.now b.now)) }
+    ensures value { IfOk result (λ m. plain_monitored m ≡ value_by names.old (both_of a.now b.now)) }
+    ensures setup { OnOk result (plain_stmts to.new.items ≡ before (plain_stmts to.old.items) (setup_by names.old (both_of a.now b.now))) }
+    ensures names { OnOk result (names.new ≡ with_registers (temporaries (both_of a.now b.now)) names.old) }
     ensures letters { OnOk result (HasLetters (both_of a.now b.now)) }
 {
-    let test = condition_of(alloc, numbers, a, types, to)?;
-    both(alloc, numbers, b, test, types, to)
+    let test = condition_of(alloc, a, names, to)?;
+    both(alloc, b, test, names, to)
 }
 
 // `a || b`, whose value is in a register.
 #[cycle(expression)]
 fn or(
     alloc: Global,
-    numbers: &[u32],
     a: &Expr,
     b: &Expr,
-    types: &mut Vec<MonType>,
+    names: &mut Registers<'_>,
     to: &mut Vec<MonStmt>,
 ) -> Result<MonExpr, AllocError>
-    ensures value { IfOk result (λ m. plain_monitored m ≡ value numbers.now types.old.items (either_of a.now b.now)) }
-    ensures setup { OnOk result (plain_stmts to.new.items ≡ before (plain_stmts to.old.items) (setup numbers.now types.old.items (either_of a.now b.now))) }
-    ensures types { OnOk result (types.new.items ≡ types.old.items ++ temporaries (either_of a.now b.now)) }
+    ensures value { IfOk result (λ m. plain_monitored m ≡ value_by names.old (either_of a.now b.now)) }
+    ensures setup { OnOk result (plain_stmts to.new.items ≡ before (plain_stmts to.old.items) (setup_by names.old (either_of a.now b.now))) }
+    ensures names { OnOk result (names.new ≡ with_registers (temporaries (either_of a.now b.now)) names.old) }
     ensures letters { OnOk result (HasLetters (either_of a.now b.now)) }
 {
-    let test = condition_of(alloc, numbers, a, types, to)?;
-    either(alloc, numbers, b, test, types, to)
+    let test = condition_of(alloc, a, names, to)?;
+    either(alloc, b, test, names, to)
 }
 
 // `a ? b : c`, whose value is in a register.
 #[cycle(expression)]
 fn choice(
     alloc: Global,
-    numbers: &[u32],
     a: &Expr,
     values: (&Expr, &Expr),
-    types: &mut Vec<MonType>,
+    names: &mut Registers<'_>,
     to: &mut Vec<MonStmt>,
 ) -> Result<MonExpr, AllocError>
-    ensures value { IfOk result (λ m. plain_monitored m ≡ value numbers.now types.old.items (choice_of a.now values.entry.0.now values.entry.1.now)) }
+    ensures value { IfOk result (λ m. plain_monitored m ≡ value_by names.old (choice_of a.now values.entry.0.now values.entry.1.now)) }
     ensures setup { OnOk result (plain_stmts to.new.items ≡ before (plain_stmts to.old.items)
-        (setup numbers.now types.old.items (choice_of a.now values.entry.0.now values.entry.1.now))) }
-    ensures types { OnOk result (types.new.items ≡ types.old.items ++ temporaries (choice_of a.now values.entry.0.now values.entry.1.now)) }
+        (setup_by names.old (choice_of a.now values.entry.0.now values.entry.1.now))) }
+    ensures names { OnOk result (names.new ≡ with_registers (temporaries (choice_of a.now values.entry.0.now values.entry.1.now)) names.old) }
     ensures letters { OnOk result (HasLetters (choice_of a.now values.entry.0.now values.entry.1.now)) }
 {
     let (b, c) = values;
-    let test = condition_of(alloc, numbers, a, types, to)?;
-    let first = apart(alloc, numbers, b, types)?;
-    let second = apart(alloc, numbers, c, types)?;
-    let number = temporary(types, value_type(&b.ctype))?;
+    let test = condition_of(alloc, a, names, to)?;
+    let first = apart(alloc, b, names)?;
+    let second = apart(alloc, c, names)?;
+    let number = names.fresh(value_type(&b.ctype))?;
     choose(alloc, number, test, first, second, to)
 }
 
@@ -200,17 +208,16 @@ fn choice(
 #[cycle(expression)]
 pub fn condition_of(
     alloc: Global,
-    numbers: &[u32],
     e: &Expr,
-    types: &mut Vec<MonType>,
+    names: &mut Registers<'_>,
     to: &mut Vec<MonStmt>,
 ) -> Result<MonExpr, AllocError>
-    ensures value { IfOk result (λ m. plain_monitored m ≡ condition_of numbers.now types.old.items (plain_expr e.now)) }
-    ensures setup { OnOk result (plain_stmts to.new.items ≡ before (plain_stmts to.old.items) (setup numbers.now types.old.items (plain_expr e.now))) }
-    ensures types { OnOk result (types.new.items ≡ types.old.items ++ temporaries (plain_expr e.now)) }
+    ensures value { IfOk result (λ m. plain_monitored m ≡ condition_by names.old (plain_expr e.now)) }
+    ensures setup { OnOk result (plain_stmts to.new.items ≡ before (plain_stmts to.old.items) (setup_by names.old (plain_expr e.now))) }
+    ensures names { OnOk result (names.new ≡ with_registers (temporaries (plain_expr e.now)) names.old) }
     ensures letters { OnOk result (HasLetters (plain_expr e.now)) }
 {
-    let value = expression(alloc, numbers, e, types, to)?;
+    let value = expression(alloc, e, names, to)?;
     condition(alloc, value_type(&e.ctype), value)
 }
 
@@ -218,17 +225,16 @@ pub fn condition_of(
 #[cycle(expression)]
 fn apart(
     alloc: Global,
-    numbers: &[u32],
     e: &Expr,
-    types: &mut Vec<MonType>,
+    names: &mut Registers<'_>,
 ) -> Result<(Vec<MonStmt>, MonExpr), AllocError>
-    ensures value { IfOk result (λ r. plain_monitored r.1 ≡ value numbers.now types.old.items (plain_expr e.now)) }
-    ensures setup { IfOk result (λ r. plain_stmts r.0.items ≡ setup numbers.now types.old.items (plain_expr e.now)) }
-    ensures types { OnOk result (types.new.items ≡ types.old.items ++ temporaries (plain_expr e.now)) }
+    ensures value { IfOk result (λ r. plain_monitored r.1 ≡ value_by names.old (plain_expr e.now)) }
+    ensures setup { IfOk result (λ r. plain_stmts r.0.items ≡ setup_by names.old (plain_expr e.now)) }
+    ensures names { OnOk result (names.new ≡ with_registers (temporaries (plain_expr e.now)) names.old) }
     ensures letters { OnOk result (HasLetters (plain_expr e.now)) }
 {
     let mut code = Vec::new(alloc);
-    let value = expression(alloc, numbers, e, types, &mut code)?;
+    let value = expression(alloc, e, names, &mut code)?;
     Ok((code, value))
 }
 
@@ -236,18 +242,17 @@ fn apart(
 #[cycle(expression)]
 fn truth_set(
     alloc: Global,
-    numbers: &[u32],
     e: &Expr,
-    types: &mut Vec<MonType>,
+    names: &mut Registers<'_>,
 ) -> Result<(u32, Vec<MonStmt>), AllocError>
-    ensures register { IfOk result (λ r. r.0 ≡ length (types.old.items ++ temporaries (plain_expr e.now))) }
-    ensures code { IfOk result (λ r. plain_stmts r.1.items ≡ truth_set numbers.now types.old.items (plain_expr e.now)) }
-    ensures types { OnOk result (types.new.items ≡ types.old.items ++ (temporaries (plain_expr e.now) ++ I32 ∷ [])) }
+    ensures register { IfOk result (λ r. r.0 ≡ length (names.old.table.kinds ++ temporaries (plain_expr e.now))) }
+    ensures code { IfOk result (λ r. plain_stmts r.1.items ≡ truth_set_by names.old (plain_expr e.now)) }
+    ensures names { OnOk result (names.new ≡ with_registers (temporaries (plain_expr e.now) ++ I32 ∷ []) names.old) }
     ensures letters { OnOk result (HasLetters (plain_expr e.now)) }
 {
-    let (mut code, value) = apart(alloc, numbers, e, types)?;
+    let (mut code, value) = apart(alloc, e, names)?;
     let value = truth(alloc, value_type(&e.ctype), value)?;
-    let number = temporary(types, MonType::I32)?;
+    let number = names.fresh(MonType::I32)?;
     then(alloc, &mut code, MonStmtKind::Set(number, value))?;
     Ok((number, code))
 }
@@ -256,19 +261,18 @@ fn truth_set(
 #[cycle(expression)]
 fn both(
     alloc: Global,
-    numbers: &[u32],
     right: &Expr,
     test: MonExpr,
-    types: &mut Vec<MonType>,
+    names: &mut Registers<'_>,
     to: &mut Vec<MonStmt>,
 ) -> Result<MonExpr, AllocError>
-    ensures value { IfOk result (λ m. plain_monitored m ≡ Register (length (types.old.items ++ temporaries (plain_expr right.now)))) }
-    ensures setup { OnOk result (plain_stmts to.new.items ≡ before (plain_stmts to.old.items) (both_set numbers.now types.old.items (plain_monitored test)
+    ensures value { IfOk result (λ m. plain_monitored m ≡ Register (length (names.old.table.kinds ++ temporaries (plain_expr right.now)))) }
+    ensures setup { OnOk result (plain_stmts to.new.items ≡ before (plain_stmts to.old.items) (both_set_by names.old (plain_monitored test)
         (plain_expr right.now))) }
-    ensures types { OnOk result (types.new.items ≡ types.old.items ++ (temporaries (plain_expr right.now) ++ I32 ∷ [])) }
+    ensures names { OnOk result (names.new ≡ with_registers (temporaries (plain_expr right.now) ++ I32 ∷ []) names.old) }
     ensures letters { OnOk result (HasLetters (plain_expr right.now)) }
 {
-    let (number, on) = truth_set(alloc, numbers, right, types)?;
+    let (number, on) = truth_set(alloc, right, names)?;
     let nothing = constant(alloc, MonType::I32, 0)?;
     let off = alone(alloc, MonStmtKind::Set(number, nothing))?;
     then(alloc, to, MonStmtKind::If(test, on, off))?;
@@ -279,19 +283,18 @@ fn both(
 #[cycle(expression)]
 fn either(
     alloc: Global,
-    numbers: &[u32],
     right: &Expr,
     test: MonExpr,
-    types: &mut Vec<MonType>,
+    names: &mut Registers<'_>,
     to: &mut Vec<MonStmt>,
 ) -> Result<MonExpr, AllocError>
-    ensures value { IfOk result (λ m. plain_monitored m ≡ Register (length (types.old.items ++ temporaries (plain_expr right.now)))) }
-    ensures setup { OnOk result (plain_stmts to.new.items ≡ before (plain_stmts to.old.items) (either_set numbers.now types.old.items (plain_monitored test)
+    ensures value { IfOk result (λ m. plain_monitored m ≡ Register (length (names.old.table.kinds ++ temporaries (plain_expr right.now)))) }
+    ensures setup { OnOk result (plain_stmts to.new.items ≡ before (plain_stmts to.old.items) (either_set_by names.old (plain_monitored test)
         (plain_expr right.now))) }
-    ensures types { OnOk result (types.new.items ≡ types.old.items ++ (temporaries (plain_expr right.now) ++ I32 ∷ [])) }
+    ensures names { OnOk result (names.new ≡ with_registers (temporaries (plain_expr right.now) ++ I32 ∷ []) names.old) }
     ensures letters { OnOk result (HasLetters (plain_expr right.now)) }
 {
-    let (number, off) = truth_set(alloc, numbers, right, types)?;
+    let (number, off) = truth_set(alloc, right, names)?;
     let one = constant(alloc, MonType::I32, 1)?;
     let on = alone(alloc, MonStmtKind::Set(number, one))?;
     then(alloc, to, MonStmtKind::If(test, on, off))?;

@@ -4,12 +4,10 @@
 //! temporary register. So the statements of an expression stand before a value that has no effect.
 #![tactic(auto)]
 
-// where code stands, and what it is made of
+// what code is made of
 pub mod conversion;
-pub mod definition;
 pub mod operator;
 pub mod part;
-pub mod scene;
 
 // expressions and effects
 pub mod call;

@@ -1,14 +1,12 @@
-//! Statements and registers after those that are there.
+//! Statements after those that are there.
 
-ghost use Rattle.std.specs.Prelude.{◌≡◌, ◌+◌, ◌++◌, [], ◌∷◌, IfOk, OnOk, length, pos};
-ghost use Rattle.mon_syntax.specs.Trees.{Constant, If, Register, plain_expr, plain_stmt_kind, plain_stmts};
-ghost use Rattle.mon_syntax.specs.declared.tree.MonType.TheVariants.{I32};
+ghost use Rattle.std.specs.Prelude.{◌≡◌, IfOk, OnOk};
+ghost use Rattle.mon_syntax.specs.Trees.{If, Register, plain_expr, plain_stmt_kind, plain_stmts};
 ghost use Rattle.c_effects.specs.Expressions.{before, one, set};
 
 use crate::operator::register;
-use mon_syntax::{MonExpr, MonStmt, MonStmtKind, MonType};
+use mon_syntax::{MonExpr, MonStmt, MonStmtKind};
 use std::alloc::{AllocError, Global};
-use track_scopes::register::numbered;
 
 /// Puts one statement after the others.
 #[tactic(auto, using(crate::proofs::Sequences::stmts_push))]
@@ -34,16 +32,6 @@ pub fn alone(alloc: Global, kind: MonStmtKind) -> Result<Vec<MonStmt>, AllocErro
     let mut code = Vec::new(alloc);
     then(alloc, &mut code, kind)?;
     Ok(code)
-}
-
-/// A further register.
-pub fn temporary(types: &mut Vec<MonType>, kind: MonType) -> Result<u32, AllocError>
-    ensures number { IfOk result (λ r. r ≡ length types.old.items) }
-    ensures types { OnOk result (types.new.items ≡ types.old.items ++ kind ∷ []) }
-{
-    let number = numbered(types.len())?;
-    types.push(kind)?;
-    Ok(number)
 }
 
 /// Sets a register in both parts of an `if`, after the statements of each part, and gives its value.

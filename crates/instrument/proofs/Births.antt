@@ -1,330 +1,243 @@
--- Births and deaths of variables: their blocks are born and die on both sides, with the same numbers.
-use Rattle.std.proofs.Common.{◌≡◌, ◌≢◌, ℕ, suc, ◌+◌, ◌^◌, ◌<◌, ◌≤◌, false, cond, nat_eq, List, [], ◌∷◌, ◌++◌, length, length-set, length-append, append_assoc, Option, Some, None, refl, sym, ap, ◌∙◌, subst, arith}
-use Rattle.std.proofs.lemmas.List.{append-nil}
+-- Births of variables: what lives, what is in sight and which registers point to it after them, on both sides.
+use Rattle.std.proofs.Common.{◌≡◌, ℕ, zero, suc, ◌+◌, ◌^◌, ◌<◌, ◌≤◌, Bool, true, false, cond, if◌then◌else◌, nat_eq, nat_le, nat_lt, List, [], ◌∷◌, ◌++◌, length, length-append, replicate, Option, Some, None, slice_get, refl, sym, ap, ◌∙◌}
+use Rattle.std.proofs.Common.{subst, arith}
+use Rattle.std.proofs.lemmas.Bool.{eq-eqb}
 use Rattle.std.proofs.lemmas.Bool.Decides.{nat_tests}
-use Rattle.std.specs.Prelude.{slice_get, slice_set, map}
-use Rattle.c_syntax.specs.declared.types.CInt.{CInt}
-use Rattle.c_syntax.specs.declared.types.CInt.TheVariants.{I8, U8, I16, U16, I32, U32, I64, U64}
+use Rattle.std.specs.Prelude.{map}
 use Rattle.c_syntax.specs.declared.types.BlockKind.TheVariants.{Stack}
 use Rattle.c_syntax.specs.declared.types.Segment.{Segment}
-use Rattle.c_syntax.specs.Ctypes.{PlainType, Int}
+use Rattle.c_syntax.specs.declared.types.Segment.TheVariants as segment
+use Rattle.c_syntax.specs.Programs.{StructType}
 use Rattle.c_syntax.specs.Statements.{Declaration}
-use Rattle.c_model.specs.Integers.{int_size}
 use Rattle.c_model.specs.Layouts.{size_of}
-use Rattle.c_model.specs.Memory.{Into, new_block, full_at_stack_birth, standard_sizes, kill_from, Value, Points}
-use Rattle.c_model.specs.State.{State, Full, Over, Normal, Stop, on_outcome, birth, birth_of, births, back_to}
 use Rattle.c_model.specs.Formed.{number_of}
-use Rattle.mon_syntax.specs.Meaning.{Done, Stops, Next, then_do, at_next, writes}
-use Rattle.mon_syntax.specs.Meaning as monitored
-use Rattle.mon_syntax.specs.BlockMemory.{over_blocks}
-use Rattle.mon_syntax.specs.LiveBlocks.{live_in}
+use Rattle.c_model.specs.Memory.{Into, Value, Points, Unwritten, Block, Store, new_block, full_at_stack_birth, standard_sizes, greatest_number, rounded, stack_taken}
+use Rattle.c_model.specs.State.{State, Scope, Normal, on_outcome, birth_of, births, find}
+use Rattle.mon_syntax.specs.Registers.{Bindings, RegisterTable, register_of, bound_with}
+use Rattle.mon_syntax.specs.LiveBlocks.{LiveBlock, live_in}
 use Rattle.mon_syntax.proofs.FlatBlocks.{live-born}
-use Rattle.track_scopes.specs.Blocks.{register_of, deaths}
-use Rattle.track_scopes.specs.Lives.{SameBlocks, Point}
-use Rattle.track_scopes.proofs.Births.{same_born, birth_does, birth_is}
-use Rattle.track_scopes.proofs.Deaths.{all_die}
-use Rattle.track_scopes.specs.Blocks as target
-use Rattle.track_scopes.proofs.Lives.{up_to, AllUpTo, AllAbove, up_to-all, up_to-behind, all_up_to-append, all_up_to-more, live-numbered, live-killed, length-killed, get-killed}
-use Rattle.instrument.proofs.Variables.{Slot, Setting, count, value_at, pointer_at, scope_of, live_of, slot_of, Matches, AllMatch, Stacked, Related, Beside, AllKept, Held, get-front, get-front_same, get-end, get-below, get-set_same, stacked_base}
-use Rattle.instrument.proofs.Variables.{stacked_more, kept_below, kept_trans, match_below, kept_behind, match_behind, apart_behind, live_of-append}
-use Rattle.instrument.proofs.Evaluating.{Target, Did, runs}
-use Rattle.instrument.proofs.Following.{Later, later_same, later_trans}
-use Rattle.c_model.proofs.Blocks.{slice_get-slice_set_other}
+use Rattle.track_scopes.specs.Blocks.{with_pointer, entered, with_born}
+use Rattle.track_scopes.specs.Lives.{AreFrom, Point, PointInOrder, PointToBorn, with_variables}
+use Rattle.instrument.proofs.Standing.{Setting, Same, AreBytes, Bounded, Here, Standing, IsAnchored, Anchored}
+use Rattle.instrument.proofs.Following.{anchored_same}
 
-abbrev pub int_of : PlainType → CInt
-int_of (Int k) = k
-int_of _ = I32
+-- ---- bindings
 
--- the variables that live after the births of these, whose blocks have the indices from n on
-abbrev pub slot_for : ℕ → Declaration → Slot
-slot_for n d = record { decl = number_of d; block = n; int = int_of d.ctype }
+pub register_of-bound_same : (x r : ℕ) (bs : Bindings) → register_of (bound_with x r bs) x ≡ Some r
+register_of-bound_same x r [] = ap (λ t. cond t (Some r) None) (eq-eqb x x refl)
+register_of-bound_same x r (b ∷ bs) = by (register_of-bound_same x r bs) (nat_eq b.0 x) refl
+  where
+    by : register_of (bound_with x r bs) x ≡ Some r → (t : Bool) → nat_eq b.0 x ≡ t → register_of (cond t ((x, r) ∷ bs) (b ∷ bound_with x r bs)) x ≡ Some r
+    by rest true e = ap (λ t. cond t (Some r) (register_of bs x)) (eq-eqb x x refl)
+    by rest false e = ap (λ t. cond t (Some b.1) (register_of (bound_with x r bs) x)) e ∙ rest
 
-abbrev pub slots_born : ℕ → List Declaration → List Slot → List Slot
-slots_born n [] slots = slots
-slots_born n (d ∷ ds) slots = slots_born (suc n) ds (slot_for n d ∷ slots)
+pub register_of-bound_other : (x r y : ℕ) (bs : Bindings) → nat_eq x y ≡ false → register_of (bound_with x r bs) y ≡ register_of bs y
+register_of-bound_other x r y [] e = ap (λ t. cond t (Some r) None) e
+register_of-bound_other x r y (b ∷ bs) e = by (register_of-bound_other x r y bs e) (nat_eq b.0 x) refl
+  where
+    by : register_of (bound_with x r bs) y ≡ register_of bs y → (t : Bool) → nat_eq b.0 x ≡ t → register_of (cond t ((x, r) ∷ bs) (b ∷ bound_with x r bs)) y ≡ cond (nat_eq b.0 y) (Some b.1) (register_of bs y)
+    by rest true f =
+        let other : nat_eq b.0 y ≡ false = grind (arith, nat_tests) in
+        ap (λ t. cond t (Some r) (register_of bs y)) e ∙ sym (ap (λ t. cond t (Some b.1) (register_of bs y)) other)
+    by rest false f = ap (λ o. cond (nat_eq b.0 y) (Some b.1) o) rest
 
-abbrev pub decls_of : List Slot → List ℕ
-decls_of slots = map (λ (v : Slot). v.decl) slots
+-- ---- names in sight
 
--- the registers that point to their blocks
-abbrev pub registers_of : Setting → List Slot → List ℕ
-registers_of w slots = map (λ (v : Slot). pointer_at w v.decl) slots
+-- a name is in sight, and its register points to its block
+pub anchored_born : (p number x : ℕ) (bound : Bindings) (regs : List Value) (scope : Scope) → slice_get regs p ≡ Some (Points (Into number 0)) → Anchored p bound regs scope → Anchored (suc p) (bound_with x p bound) regs ((x, number) ∷ scope)
+anchored_born p number x bound regs scope there h y at e = by (nat_eq x y) refl e
+  where
+    by : (t : Bool) → nat_eq x y ≡ t → cond t (Some number) (find y scope) ≡ Some at → IsAnchored (suc p) (bound_with x p bound) regs y at
+    by true f g =
+        let same : x ≡ y = grind (arith, nat_tests) in
+        let one : number ≡ at = cc in
+        record { register = p; is_bound = ap (λ z. register_of (bound_with x p bound) z) (sym same) ∙ register_of-bound_same x p bound; below = omega arith; points = there ∙ ap (λ i. Some (Points (Into i 0))) one }
+    by false f g =
+        let a = h y at g in
+        record { register = a.register; is_bound = register_of-bound_other x p y bound f ∙ a.is_bound; below = omega (arith, a.below); points = a.points }
 
--- ---- what can be born: objects of the function, with numbers that no variable has that lives
+pub anchored_higher : (low high : ℕ) (bound : Bindings) (regs : List Value) (scope : Scope) → low ≤ high → Anchored low bound regs scope → Anchored high bound regs scope
+anchored_higher low high bound regs scope le h x number e = let a = h x number e in record { register = a.register; is_bound = a.is_bound; below = omega (arith, le, a.below); points = a.points }
 
-abbrev pub Absent : ℕ → List ℕ → Type 0
-Absent x [] = Unit {0}
-Absent x (y ∷ ys) = (nat_eq y x ≡ false) × Absent x ys
+-- all that were born are in sight
+pub anchored_entered : (structs : List StructType) (ds : List Declaration) (r : RegisterTable) (p : ℕ) (regs : List Value) (s : State) → length r.kinds ≡ p → PointInOrder regs p (length s.store + 1) ds → Anchored p r.bound regs s.scope
+    → Anchored (p + length ds) (entered ds r).bound regs (with_variables structs ds s).scope
+anchored_entered structs [] r p regs s e there h = anchored_higher p (p + 0) r.bound regs s.scope (omega arith) h
+anchored_entered structs (d ∷ ds) r p regs s e there h =
+    let to : State = record s { store = s.store ++ new_block Stack (size_of structs d.ctype) ∷ []; scope = (number_of d, length s.store + 1) ∷ s.scope } in
+    let long : suc (length s.store + 1) ≡ length to.store + 1 = omega (arith, length-append s.store (new_block Stack (size_of structs d.ctype) ∷ [])) in
+    let sum : suc p + length ds ≡ p + suc (length ds) = omega arith in
+    subst (λ n. Anchored n (entered (d ∷ ds) r).bound regs (with_variables structs (d ∷ ds) s).scope) sum
+    (anchored_entered structs ds (with_pointer d r) (suc p) regs to (omega (arith, e, length-append r.kinds (Rattle.mon_syntax.specs.declared.tree.MonType.TheVariants.Ptr ∷ []))) (subst (λ n. PointInOrder regs (suc p) n ds) long there.1)
+    (subst (λ i. Anchored (suc p) (bound_with (number_of d) i r.bound) regs to.scope) (sym e) (anchored_born p (length s.store + 1) (number_of d) r.bound regs s.scope there.0 h)))
 
-pub record CanBeBorn (numbers living : List ℕ) (d : Declaration) : Type 0 where
-  pub object : d.ctype ≡ Int (int_of d.ctype)
-  pub listed : slice_get numbers (register_of numbers (number_of d)) ≡ Some (number_of d)
-  pub new : Absent (number_of d) living
+-- the numbers of names in sight
+abbrev pub names_of : Scope → List ℕ
+names_of scope = map (λ (e : ℕ × ℕ). e.0) scope
 
-abbrev pub AllCanBeBorn : List ℕ → List ℕ → List Declaration → Type 0
-AllCanBeBorn numbers living [] = Unit {0}
-AllCanBeBorn numbers living (d ∷ ds) = CanBeBorn numbers living d × AllCanBeBorn numbers (number_of d ∷ living) ds
+-- and after the births of these
+abbrev pub with_numbers : List Declaration → List ℕ → List ℕ
+with_numbers [] living = living
+with_numbers (d ∷ ds) living = with_numbers ds (number_of d ∷ living)
 
-none_of : (x : ℕ) (slots : List Slot) → Absent x (decls_of slots) → slot_of x slots ≡ None
-none_of x [] h = refl
-none_of x (v ∷ slots) h = ap (λ t. cond t (Some v) (slot_of x slots)) h.0 ∙ none_of x slots h.1
+pub names_of-born : (structs : List StructType) (ds : List Declaration) (s : State) → names_of (with_variables structs ds s).scope ≡ with_numbers ds (names_of s.scope)
+names_of-born structs [] s = refl
+names_of-born structs (d ∷ ds) s = names_of-born structs ds (record s { store = s.store ++ new_block Stack (size_of structs d.ctype) ∷ []; scope = (number_of d, length s.store + 1) ∷ s.scope })
 
-small_size : (k : CInt) → size_of [] (Int k) < 2 ^ 64
-small_size I8 = omega arith
-small_size U8 = omega arith
-small_size I16 = omega arith
-small_size U16 = omega arith
-small_size I32 = omega arith
-small_size U32 = omega arith
-small_size I64 = omega arith
-small_size U64 = omega arith
+-- ---- blocks that live
 
--- ---- one birth
+-- the blocks that live after the births of these, of which the first one has this number
+abbrev pub with_blocks : List StructType → ℕ → List Declaration → List LiveBlock → List LiveBlock
+with_blocks structs number [] live = live
+with_blocks structs number (d ∷ ds) live = with_blocks structs (suc number) ds (record { number = number; size = size_of structs d.ctype } ∷ live)
 
-module _ (w : Setting) (slots : List Slot) (regs : List Value) (s : State) (t : Target) (h : Related w slots regs s) (b : Beside w slots s t) (enough : count w + count w ≤ w.registers) (d : Declaration)
-    (c : CanBeBorn w.numbers (decls_of slots) d) where
-  abbrev k : CInt
-  k = int_of d.ctype
+pub with_blocks-append : (structs : List StructType) (number : ℕ) (ds : List Declaration) (a b : List LiveBlock) → with_blocks structs number ds (a ++ b) ≡ with_blocks structs number ds a ++ b
+with_blocks-append structs number [] a b = refl
+with_blocks-append structs number (d ∷ ds) a b = with_blocks-append structs (suc number) ds (record { number = number; size = size_of structs d.ctype } ∷ a) b
 
-  abbrev new : Slot
-  new = slot_for (length s.store) d
+pub live_with : (structs : List StructType) (ds : List Declaration) (s : State) → live_in (with_variables structs ds s).store ≡ with_blocks structs (length s.store + 1) ds (live_in s.store)
+live_with structs [] s = refl
+live_with structs (d ∷ ds) s =
+    let to : State = record s { store = s.store ++ new_block Stack (size_of structs d.ctype) ∷ []; scope = (number_of d, length s.store + 1) ∷ s.scope } in
+    let long : length to.store + 1 ≡ suc (length s.store + 1) = omega (arith, length-append s.store (new_block Stack (size_of structs d.ctype) ∷ [])) in
+    live_with structs ds to
+    ∙ ap (λ n. with_blocks structs n ds (live_in to.store)) long
+    ∙ ap (with_blocks structs (suc (length s.store + 1)) ds) (live-born s.store (size_of structs d.ctype))
 
-  abbrev pub born_state : State
-  born_state = record s { store = s.store ++ new_block Stack (size_of [] d.ctype) ∷ []; scope = (number_of d, length s.store + 1) ∷ s.scope }
+pub blocks_from : (structs : List StructType) (base number : ℕ) (ds : List Declaration) (live : List LiveBlock) → base < number → AreFrom base live → AreFrom base (with_blocks structs number ds live)
+blocks_from structs base number [] live lt h = h
+blocks_from structs base number (d ∷ ds) live lt h = blocks_from structs base (suc number) ds (record { number = number; size = size_of structs d.ctype } ∷ live) (omega (arith, lt)) (lt, h)
 
-  abbrev p : ℕ
-  p = pointer_at w (number_of d)
+-- registers below a number point to these blocks
+abbrev pub Pointed : ℕ → List Value → List ℕ → List LiveBlock → Type 0
+Pointed low regs [] [] = Unit {0}
+Pointed low regs [] (b ∷ bs) = ⊥
+Pointed low regs (p ∷ ps) [] = ⊥
+Pointed low regs (p ∷ ps) (b ∷ bs) = (p < low) × (slice_get regs p ≡ Some (Points (Into b.number 0))) × Pointed low regs ps bs
 
-  abbrev pub born_registers : List Value
-  born_registers = slice_set regs p (Points (Into (length t.mem.store + 1) 0))
+pub pointed_point : (low : ℕ) (regs : List Value) (ps : List ℕ) (bs : List LiveBlock) → Pointed low regs ps bs → Point regs ps bs
+pointed_point low regs [] [] h = tt
+pointed_point low regs [] (b ∷ bs) h = absurd h
+pointed_point low regs (p ∷ ps) [] h = absurd h
+pointed_point low regs (p ∷ ps) (b ∷ bs) h = (h.1, pointed_point low regs ps bs h.2)
 
-  abbrev pub born_target : Target
-  born_target = record t { mem = record t.mem { store = t.mem.store ++ new_block Stack (size_of [] d.ctype) ∷ [] } }
+pub pointed_same : (low high : ℕ) (regs after : List Value) (ps : List ℕ) (bs : List LiveBlock) → low ≤ high → ((j : ℕ) → j < low → slice_get after j ≡ slice_get regs j) → Pointed low regs ps bs → Pointed high after ps bs
+pointed_same low high regs after [] [] le same h = tt
+pointed_same low high regs after [] (b ∷ bs) le same h = absurd h
+pointed_same low high regs after (p ∷ ps) [] le same h = absurd h
+pointed_same low high regs after (p ∷ ps) (b ∷ bs) le same h = (omega (arith, le, h.0), same p h.0 ∙ h.1, pointed_same low high regs after ps bs le same h.2)
 
-  below : value_at w (number_of d) < count w
-  below = get-below w.numbers (value_at w (number_of d)) (number_of d) c.listed
+pub pointed_append : (low : ℕ) (regs : List Value) (ps qs : List ℕ) (xs bs : List LiveBlock) → Pointed low regs ps xs → Pointed low regs qs bs → Pointed low regs (ps ++ qs) (xs ++ bs)
+pointed_append low regs [] qs [] bs h g = g
+pointed_append low regs [] qs (x ∷ xs) bs h g = absurd h
+pointed_append low regs (p ∷ ps) qs [] bs h g = absurd h
+pointed_append low regs (p ∷ ps) qs (x ∷ xs) bs h g = (h.0, h.1, pointed_append low regs ps qs xs bs h.2 g)
 
-  new_cell : slice_get born_state.store (length s.store) ≡ Some (new_block Stack (int_size k))
-  new_cell = ap (λ u. slice_get (s.store ++ new_block Stack (size_of [] u) ∷ []) (length s.store)) c.object ∙ get-end s.store [] (new_block Stack (int_size k))
+pub pointed_born : (structs : List StructType) (p number : ℕ) (ds : List Declaration) (regs : List Value) (ps : List ℕ) (bs : List LiveBlock) → PointInOrder regs p number ds → Pointed p regs ps bs
+    → Pointed (p + length ds) regs (with_born p ds ps) (with_blocks structs number ds bs)
+pointed_born structs p number [] regs ps bs there h = pointed_same p (p + 0) regs regs ps bs (omega arith) (λ j lt. refl) h
+pointed_born structs p number (d ∷ ds) regs ps bs there h =
+    let sum : suc p + length ds ≡ p + suc (length ds) = omega arith in
+    subst (λ n. Pointed n regs (with_born (suc p) ds (p ∷ ps)) (with_blocks structs (suc number) ds (record { number = number; size = size_of structs d.ctype } ∷ bs))) sum
+    (pointed_born structs (suc p) (suc number) ds regs (p ∷ ps) (record { number = number; size = size_of structs d.ctype } ∷ bs) there.1 (omega arith, there.0, pointed_same p (suc p) regs regs ps bs (omega arith) (λ j lt. refl) h))
 
-  new_matches : Matches w born_state.store born_registers new
-  new_matches = record {
-    number = c.listed;
-    content = None;
-    cell = new_cell;
-    held = tt;
-    pointer = get-set_same regs p (Points (Into (length t.mem.store + 1) 0)) (omega (arith, below, enough, h.registers)) ∙ ap (λ i. Some (Points (Into i 0))) (omega (arith, b.long));
-  }
+-- ---- bounds
 
-  old_match : (vs : List Slot) → Absent (number_of d) (decls_of vs) → AllMatch w s.store regs vs → AllMatch w born_state.store born_registers vs
-  old_match [] a m = tt
-  old_match (v ∷ vs) a m = (one m.0, old_match vs a.1 m.1)
-    where
-      one : Matches w s.store regs v → Matches w born_state.store born_registers v
-      one g =
-          let mine : value_at w v.decl < count w = get-below w.numbers (value_at w v.decl) v.decl g.number in
-          record {
-            number = g.number;
-            content = g.content;
-            cell = get-front s.store (new_block Stack (size_of [] d.ctype) ∷ []) v.block _ g.cell;
-            held = subst (λ r. Held v.int g.content r) (sym (slice_get-slice_set_other regs p (value_at w v.decl) _ (λ e. omega (arith, e, mine)))) g.held;
-            pointer = slice_get-slice_set_other regs p (pointer_at w v.decl) _ apart ∙ g.pointer;
-          }
-        where
-          apart : pointer_at w v.decl ≢ p
-          apart e =
-              let same : value_at w v.decl ≡ value_at w (number_of d) = omega (arith, e) in
-              let both : Some v.decl ≡ Some (number_of d) = sym g.number ∙ ap (slice_get w.numbers) same ∙ c.listed in
-              let one : v.decl ≡ number_of d = cc in
-              let differ = a.0 in
-              grind (arith, nat_tests)
+bounded_append : (store : Store) (b : Block) → Bounded store → b.size ≤ 2 ^ 62 → AreBytes b.bytes → Bounded (store ++ b ∷ [])
+bounded_append [] b h le a = (le, a, tt)
+bounded_append (c ∷ cs) b h le a = (h.0, h.1, bounded_append cs b h.2 le a)
 
-  pub related_born : Related w (new ∷ slots) born_registers born_state
-  related_born =
-      let long = length-append s.store (new_block Stack (size_of [] d.ctype) ∷ []) in
+unwritten_bytes : (n : ℕ) → AreBytes (replicate n Unwritten)
+unwritten_bytes zero = tt
+unwritten_bytes (suc n) = (tt, unwritten_bytes n)
+
+size_of_born : (store : Store) (size : ℕ) → full_at_stack_birth standard_sizes store size ≡ None → size ≤ 2 ^ 62
+size_of_born store size e = by (nat_le greatest_number (length store)) (nat_lt 1048576 (stack_taken store + rounded size)) refl e
+  where
+    by : (x y : Bool) → nat_lt 1048576 (stack_taken store + rounded size) ≡ y → (if x then Some segment.Numbers else (if y then Some segment.Stack else None)) ≡ None → size ≤ 2 ^ 62
+    by true y l f = absurd cc
+    by false true l f = absurd cc
+    by false false l f =
+        let room : stack_taken store + rounded size ≤ 1048576 = grind (arith, nat_tests, l) in
+        omega (arith, room)
+
+-- where there was room
+pub bounded_new : (store : Store) (size : ℕ) → full_at_stack_birth standard_sizes store size ≡ None → Bounded store → Bounded (store ++ new_block Stack size ∷ [])
+bounded_new store size e h = bounded_append store (new_block Stack size) h (size_of_born store size e) (unwritten_bytes size)
+
+pub bounded_born : (structs : List StructType) (ds : List Declaration) (s to : State) → births structs ds s ≡ Normal tt to → Bounded s.store → Bounded to.store
+bounded_born structs [] s to e h = let same : s ≡ to = cc in subst (λ (x : State). Bounded x.store) same h
+bounded_born structs (d ∷ ds) s to e h =
+    by (λ g x. bounded_born structs ds (record s { store = s.store ++ new_block Stack (size_of structs d.ctype) ∷ []; scope = (number_of d, length s.store + 1) ∷ s.scope }) to g x)
+    (full_at_stack_birth standard_sizes s.store (size_of structs d.ctype)) refl e
+  where
+    born : Store
+    born = s.store ++ new_block Stack (size_of structs d.ctype) ∷ []
+
+    by : (births structs ds (record s { store = born; scope = (number_of d, length s.store + 1) ∷ s.scope }) ≡ Normal tt to → Bounded born → Bounded to.store) → (o : Option Segment)
+        → full_at_stack_birth standard_sizes s.store (size_of structs d.ctype) ≡ o → on_outcome (birth_of o (number_of d) (size_of structs d.ctype) s) (λ _. births structs ds) ≡ Normal tt to → Bounded to.store
+    by rest None f g = rest g (bounded_new s.store (size_of structs d.ctype) f h)
+    by rest (Some full) f g = absurd cc
+
+pub long_with : (structs : List StructType) (ds : List Declaration) (s : State) → length s.store ≤ length (with_variables structs ds s).store
+long_with structs [] s = omega arith
+long_with structs (d ∷ ds) s =
+    let to : State = record s { store = s.store ++ new_block Stack (size_of structs d.ctype) ∷ []; scope = (number_of d, length s.store + 1) ∷ s.scope } in
+    omega (arith, long_with structs ds to, length-append s.store (new_block Stack (size_of structs d.ctype) ∷ []))
+
+-- the rest of the state stays
+pub record IsBesides (s to : State) : Type 0 where
+  pub calls : to.calls ≡ s.calls
+  pub steps : to.steps ≡ s.steps
+  pub input : to.input ≡ s.input
+  pub output : to.output ≡ s.output
+
+pub besides : (structs : List StructType) (ds : List Declaration) (s : State) → IsBesides s (with_variables structs ds s)
+besides structs [] s = record { calls = refl; steps = refl; input = refl; output = refl }
+besides structs (d ∷ ds) s =
+    let h = besides structs ds (record s { store = s.store ++ new_block Stack (size_of structs d.ctype) ∷ []; scope = (number_of d, length s.store + 1) ∷ s.scope }) in
+    record { calls = h.calls; steps = h.steps; input = h.input; output = h.output }
+
+-- ---- where the variables of a block stand
+
+abbrev pub behind_births : List StructType → Here → State → List Declaration → Here
+behind_births structs h s ds = record h { inner = with_blocks structs (length s.store + 1) ds h.inner }
+
+module _ (w : Setting) (h : Here) (low : ℕ) (r : RegisterTable) (ds : List Declaration) (regs after : List Value) (s : State) (le : low ≤ length r.kinds) (st : Standing w h low r.bound regs s)
+    (born : PointToBorn (length r.kinds) ds s.store regs after)
+    (done : births w.unit.structs ds s ≡ Normal tt (with_variables w.unit.structs ds s)) where
+  abbrev to : State
+  to = with_variables w.unit.structs ds s
+
+  abbrev new : List LiveBlock
+  new = with_blocks w.unit.structs (length s.store + 1) ds []
+
+  pub new_same : Same low regs after
+  new_same = record { long = born.long; below = λ j lt. born.before j (omega (arith, lt, le)) }
+
+  pub new_live : live_in to.store ≡ new ++ live_in s.store
+  new_live = live_with w.unit.structs ds s ∙ with_blocks-append w.unit.structs (length s.store + 1) ds [] (live_in s.store)
+
+  pub are_new : AreFrom (length s.store) new
+  are_new = blocks_from w.unit.structs (length s.store) (length s.store + 1) ds [] (omega arith) tt
+
+  pub standing_born : Standing w (record h { inner = with_blocks w.unit.structs (length s.store + 1) ds h.inner }) (length r.kinds + length ds) (entered ds r).bound after to
+  standing_born =
+      let b = besides w.unit.structs ds s in
       record {
-        scope = ap (λ i. (number_of d, i) ∷ s.scope) (omega arith) ∙ ap (λ l. (number_of d, suc (length s.store)) ∷ l) h.scope;
-        calls = h.calls;
+        anchored = anchored_entered w.unit.structs ds r (length r.kinds) after s refl born.point (anchored_higher low (length r.kinds) r.bound after s.scope le (anchored_same low r.bound regs after s.scope new_same st.anchored));
+        active = b.calls ∙ st.active;
         live =
-            live-born s.store (size_of [] d.ctype)
-            ∙ ap (λ i. record { number = i; size = size_of [] d.ctype } ∷ live_in s.store) (omega arith)
-            ∙ ap (λ u. record { number = suc (length s.store); size = size_of [] u } ∷ live_in s.store) c.object
-            ∙ ap (λ l. record { number = suc (length s.store); size = int_size k } ∷ l) h.live;
-        outside = λ j lt. get-front_same s.store (new_block Stack (size_of [] d.ctype) ∷ []) j (omega (arith, lt, stacked_base (length w.outside) (length s.store) slots h.stacked)) ∙ h.outside j lt;
-        stacked = (omega (arith, long), h.stacked);
-        apart = (none_of (number_of d) slots c.new, h.apart);
-        all = (new_matches, old_match slots c.new h.all);
-        registers = length-set regs p _ ∙ h.registers;
+            live_with w.unit.structs ds s ∙ ap (with_blocks w.unit.structs (length s.store + 1) ds) st.live
+            ∙ with_blocks-append w.unit.structs (length s.store + 1) ds h.inner (h.outer ++ w.around);
+        since_loop = blocks_from w.unit.structs h.loop (length s.store + 1) ds h.inner (omega (arith, st.longer)) st.since_loop;
+        before_loop = st.before_loop;
+        since_call =
+            subst (AreFrom w.base) (with_blocks-append w.unit.structs (length s.store + 1) ds h.inner h.outer)
+            (blocks_from w.unit.structs w.base (length s.store + 1) ds (h.inner ++ h.outer) (omega (arith, st.longer, st.nested)) st.since_call);
+        before_call = st.before_call;
+        nested = st.nested;
+        longer = omega (arith, st.longer, long_with w.unit.structs ds s);
+        bounded = bounded_born w.unit.structs ds s to done st.bounded;
+        registers = born.long ∙ st.registers;
       }
-
-  same : SameBlocks s.store t.mem.store
-  same = record { born = sym b.long; live = h.live ∙ sym b.live }
-
-  pub beside_born : Beside w (new ∷ slots) born_state born_target
-  beside_born =
-      let both = same_born s.store t.mem.store (size_of [] d.ctype) same in
-      record { long = sym both.born; live = sym both.live ∙ related_born.live; frames = b.frames; steps = b.steps; input = b.input }
-
-  pub later_born : Later slots s born_state []
-  later_born = record {
-    spent = omega arith;
-    output = sym (append-nil s.output);
-    longer = omega (arith, length-append s.store (new_block Stack (size_of [] d.ctype) ∷ []));
-    kept = kept_below slots s.store born_state.store (length w.outside) (length s.store) h.stacked (λ j lt. get-front_same s.store (new_block Stack (size_of [] d.ctype) ∷ []) j lt);
-  }
-
-  abbrev pub birth_runs : Option Segment → Did
-  birth_runs o = birth_does w.numbers d regs t o
-
-  -- a block is born in the target where it is in the source
-  pub target_birth : (n : ℕ) → monitored.exec over_blocks [] (target.birth w.numbers d) w.calls n regs t ≡ birth_runs (full_at_stack_birth standard_sizes s.store (size_of [] d.ctype))
-  target_birth n = birth_is w.numbers w.calls n d regs s.store t same (subst (λ u. size_of [] u < 2 ^ 64) (sym c.object) (small_size k))
-
--- ---- births in order
-
--- all are born on both sides, or something is full on both
-pub data Bears (w : Setting) (slots : List Slot) (regs : List Value) (s : State) (t : Target) (n : ℕ) (ds : List Declaration) : Type 0 where
-  AllBorn : (to : State) (after : List Value) (u : Target) → births [] ds s ≡ Normal tt to → runs w n t (target.births w.numbers ds) regs ≡ Done (Next after) u [] → Related w (slots_born (length s.store) ds slots) after to
-      → Beside w (slots_born (length s.store) ds slots) to u → Later slots s to [] → Bears w slots regs s t n ds
-  OneIsFull : (g : Segment) (to : State) → births [] ds s ≡ Stop (Over (Full g)) to → to.output ≡ s.output → runs w n t (target.births w.numbers ds) regs ≡ Stops (Full g) to.steps [] → Bears w slots regs s t n ds
-
-module _ (w : Setting) (n : ℕ) (enough : count w + count w ≤ w.registers) where
-  abbrev Bear : List Slot → List Value → State → Target → List Declaration → Type 0
-  Bear slots regs s t ds = Bears w slots regs s t n ds
-
-  -- one is born, and then the others
-  born_then : (slots : List Slot) (regs : List Value) (s : State) (t : Target) (d : Declaration) (ds : List Declaration) (to : State) (after : List Value) (u : Target) → birth [] d s ≡ Normal tt to
-      → monitored.exec over_blocks [] (target.birth w.numbers d) w.calls n regs t ≡ Done (Next after) u [] → length to.store ≡ suc (length s.store) → Later slots s to [] → Bear (slot_for (length s.store) d ∷ slots) after to u ds
-      → Bear slots regs s t (d ∷ ds)
-  born_then slots regs s t d ds to after u e f long l (AllBorn to2 after2 u2 e2 f2 m b l2) =
-      AllBorn to2 after2 u2
-      (ap (λ r. on_outcome r (λ _. births [] ds)) e ∙ e2)
-      (ap (λ q. then_do q (at_next (monitored.exec_all over_blocks [] (target.births w.numbers ds) w.calls n))) f ∙ ap (writes []) f2)
-      (subst (λ i. Related w (slots_born i ds (slot_for (length s.store) d ∷ slots)) after2 to2) long m)
-      (subst (λ i. Beside w (slots_born i ds (slot_for (length s.store) d ∷ slots)) to2 u2) long b)
-      (later_trans slots s to to2 [] [] l (record { spent = l2.spent; output = l2.output; longer = l2.longer; kept = l2.kept.1 }))
-  born_then slots regs s t d ds to after u e f long l (OneIsFull g to2 e2 o f2) =
-      OneIsFull g to2
-      (ap (λ r. on_outcome r (λ _. births [] ds)) e ∙ e2)
-      (o ∙ l.output ∙ append-nil s.output)
-      (ap (λ q. then_do q (at_next (monitored.exec_all over_blocks [] (target.births w.numbers ds) w.calls n))) f ∙ ap (writes []) f2)
-
-  pub births_follow : (ds : List Declaration) (slots : List Slot) (regs : List Value) (s : State) (t : Target) → Related w slots regs s → Beside w slots s t → AllCanBeBorn w.numbers (decls_of slots) ds → Bear slots regs s t ds
-  births_follow [] slots regs s t h b c = AllBorn s regs t refl refl h b (later_same slots s)
-  births_follow (d ∷ ds) slots regs s t h b c =
-      by (λ o. births_follow ds (slot_for (length s.store) d ∷ slots) (born_registers w slots regs s t h b enough d c.0) (born_state w slots regs s t h b enough d c.0) (born_target w slots regs s t h b enough d c.0)
-      (related_born w slots regs s t h b enough d c.0) (beside_born w slots regs s t h b enough d c.0) c.1)
-      (full_at_stack_birth standard_sizes s.store (size_of [] d.ctype)) refl
-    where
-      by : (Unit {0} → Bear (slot_for (length s.store) d ∷ slots) (born_registers w slots regs s t h b enough d c.0) (born_state w slots regs s t h b enough d c.0) (born_target w slots regs s t h b enough d c.0) ds) → (o : Option Segment)
-          → full_at_stack_birth standard_sizes s.store (size_of [] d.ctype) ≡ o → Bear slots regs s t (d ∷ ds)
-      by rest None e =
-          born_then slots regs s t d ds (born_state w slots regs s t h b enough d c.0) (born_registers w slots regs s t h b enough d c.0) (born_target w slots regs s t h b enough d c.0)
-          (ap (λ o. birth_of o (number_of d) (size_of [] d.ctype) s) e)
-          (target_birth w slots regs s t h b enough d c.0 n ∙ ap (birth_runs w slots regs s t h b enough d c.0) e)
-          (length-append s.store (new_block Stack (size_of [] d.ctype) ∷ []) ∙ omega arith)
-          (later_born w slots regs s t h b enough d c.0)
-          (rest tt)
-      by rest (Some g) e =
-          OneIsFull g s
-          (ap (λ o. on_outcome (birth_of o (number_of d) (size_of [] d.ctype) s) (λ _. births [] ds)) e)
-          refl
-          (ap (λ q. then_do q (at_next (monitored.exec_all over_blocks [] (target.births w.numbers ds) w.calls n))) (target_birth w slots regs s t h b enough d c.0 n ∙ ap (birth_runs w slots regs s t h b enough d c.0) e)
-          ∙ ap (λ k. Stops (Full g) k []) b.steps)
-
--- ---- deaths
-
-module _ (w : Setting) (slots : List Slot) (regs : List Value) (s : State) (n : ℕ) where
-  -- the blocks of the youngest variables die, which are these
-  pub record Dead (older : List Slot) (t : Target) (q : Did) : Type 0 where
-    pub to : Target
-    pub runs_to : q ≡ Done (Next regs) to []
-    pub beside : Beside w older s to
-
-  points_of : (inner : List Slot) → AllMatch w s.store regs inner → Point regs (registers_of w inner) (live_of inner)
-  points_of [] m = tt
-  points_of (v ∷ inner) m = (m.0.pointer, points_of inner m.1)
-
-  pub deaths_run : (inner older : List Slot) (t : Target) → AllMatch w s.store regs inner → Beside w (inner ++ older) s t → Dead older t (runs w n t (deaths (registers_of w inner)) regs)
-  deaths_run inner older t m b =
-      let live : live_in t.mem.store ≡ live_of inner ++ (live_of older ++ live_in w.outside) =
-      b.live ∙ ap (λ l. l ++ live_in w.outside) (live_of-append inner older) ∙ append_assoc (live_of inner) (live_of older) (live_in w.outside) in
-      let x = all_die w.calls n regs (registers_of w inner) (live_of inner) (live_of older ++ live_in w.outside) t (points_of inner m) live in
-      record {
-        to = x.to;
-        runs_to = x.does;
-        beside = record {
-          long = x.long ∙ b.long;
-          live = x.live;
-          frames = ap (λ (u : Target). u.mem.frames) x.rest ∙ b.frames;
-          steps = ap (λ (u : Target). u.steps) x.rest ∙ b.steps;
-          input = ap (λ (u : Target). u.input) x.rest ∙ b.input;
-        };
-      }
-
--- ---- the end of a block in the source
-
--- the blocks of these variables have indices from n on
-abbrev pub AllFrom : ℕ → List Slot → Type 0
-AllFrom n [] = Unit {0}
-AllFrom n (v ∷ vs) = (n ≤ v.block) × AllFrom n vs
-
-above_of : (n : ℕ) (slots : List Slot) → AllFrom n slots → AllAbove n (live_of slots)
-above_of n [] h = tt
-above_of n (v ∷ slots) h = (omega (arith, h.0), above_of n slots h.1)
-
-up_to_of : (base n : ℕ) (slots : List Slot) → Stacked base n slots → AllUpTo n (live_of slots)
-up_to_of base n [] h = tt
-up_to_of base n (v ∷ slots) h = (h.0, all_up_to-more v.block n (live_of slots) (omega (arith, h.0)) (up_to_of base v.block slots h.1))
-
-pub slots_born-behind : (n : ℕ) (ds : List Declaration) (slots : List Slot) → slots_born n ds slots ≡ slots_born n ds [] ++ slots
-slots_born-behind n [] slots = refl
-slots_born-behind n (d ∷ ds) slots =
-    slots_born-behind (suc n) ds (slot_for n d ∷ slots)
-    ∙ sym (append_assoc (slots_born (suc n) ds []) (slot_for n d ∷ []) slots)
-    ∙ ap (λ l. l ++ slots) (sym (slots_born-behind (suc n) ds (slot_for n d ∷ [])))
-
-born_from : (m n : ℕ) (ds : List Declaration) (slots : List Slot) → m ≤ n → AllFrom m slots → AllFrom m (slots_born n ds slots)
-born_from m n [] slots le h = h
-born_from m n (d ∷ ds) slots le h = born_from m (suc n) ds (slot_for n d ∷ slots) (omega (arith, le)) (le, h)
-
-pub born_are_new : (n : ℕ) (ds : List Declaration) → AllFrom n (slots_born n ds [])
-born_are_new n ds = born_from n n ds [] (omega arith) tt
-
-module _ (w : Setting) (new slots : List Slot) (regs : List Value) (old s : State) (h : Related w (new ++ slots) regs s) (scope : old.scope ≡ scope_of slots) (calls : old.calls ≡ w.active)
-    (stacked : Stacked (length w.outside) (length old.store) slots) (from : AllFrom (length old.store) new) (longer : length old.store ≤ length s.store) where
-  n : ℕ
-  n = length old.store
-
-  pub related_behind : Related w slots regs (back_to old s)
-  related_behind = record {
-    scope = scope;
-    calls = calls;
-    live =
-        live-killed (length old.store) s.store
-        ∙ ap (up_to (length old.store)) (h.live ∙ ap (λ l. l ++ live_in w.outside) (live_of-append new slots) ∙ append_assoc (live_of new) (live_of slots) (live_in w.outside))
-        ∙ up_to-behind (length old.store) (live_of new) (live_of slots ++ live_in w.outside) (above_of (length old.store) new from)
-        ∙ up_to-all (length old.store) (live_of slots ++ live_in w.outside)
-        (all_up_to-append (length old.store) (live_of slots) (live_in w.outside) (up_to_of (length w.outside) (length old.store) slots stacked)
-        (all_up_to-more (length w.outside) (length old.store) (live_in w.outside) (stacked_base (length w.outside) (length old.store) slots stacked) (live-numbered w.outside)));
-    outside = λ j lt. get-killed (length old.store) s.store j (omega (arith, lt, stacked_base (length w.outside) (length old.store) slots stacked)) ∙ h.outside j lt;
-    stacked = subst (λ i. Stacked (length w.outside) i slots) (sym (length-killed (length old.store) s.store)) (stacked_more (length w.outside) (length old.store) (length s.store) slots longer stacked);
-    apart = apart_behind new slots h.apart;
-    all = match_below w s.store (kill_from (length old.store) s.store) regs (length w.outside) (length old.store) slots stacked (λ j lt. get-killed (length old.store) s.store j lt) (match_behind w s.store regs new slots h.all);
-    registers = h.registers;
-  }
-
-  pub beside_behind : (living : List Slot) (t : Target) → Beside w living s t → Beside w living (back_to old s) t
-  beside_behind living t b = record { long = b.long ∙ sym (length-killed (length old.store) s.store); live = b.live; frames = b.frames; steps = b.steps; input = b.input }
-
-  pub later_behind : (from_state : State) (o : List ℕ) → Later (new ++ slots) from_state s o → Later slots from_state (back_to old s) o
-  later_behind from_state o l = record {
-    spent = l.spent;
-    output = l.output;
-    longer = omega (arith, l.longer, length-killed (length old.store) s.store);
-    kept = kept_then (kept_behind new slots from_state.store s.store l.kept);
-  }
-    where
-      kept_then : AllKept slots from_state.store s.store → AllKept slots from_state.store (kill_from (length old.store) s.store)
-      kept_then k = kept_trans slots from_state.store s.store (kill_from (length old.store) s.store) k (kept_below slots s.store (kill_from (length old.store) s.store) (length w.outside) (length old.store) stacked
-          (λ j lt. get-killed (length old.store) s.store j lt))

@@ -1,70 +1,46 @@
 -- Integer runs: the translation of a program ends, prints and spends steps as the program does, up to an undefined operation.
-use Rattle.std.proofs.Common.{◌≡◌, ℕ, suc, ◌+◌, ℤ, pos, Bool, true, false, cond, ◌&&◌, if◌then◌else◌, nat_eq, List, [], ◌∷◌, ◌++◌, length, Option, Some, None, refl, sym, ap, ◌∙◌, subst, arith, length-append}
+use Rattle.std.proofs.Common.{◌≡◌, ℕ, suc, ◌+◌, ℤ, pos, Bool, true, false, ◌&&◌, if◌then◌else◌, nat_eq, List, [], ◌∷◌, ◌++◌, length, Option, Some, None, refl, sym, ap, ◌∙◌, subst, arith, length-append}
 use Rattle.std.proofs.lemmas.List.{append-nil}
 use Rattle.std.proofs.lemmas.Bool.{eq-eqb}
 use Rattle.std.proofs.lemmas.Bool.Decides.{nat_tests}
 use Rattle.std.specs.Prelude.{slice_get, map, bytes_eq, codes}
+use Rattle.c_syntax.specs.declared.types.CInt.TheVariants.{I32}
 use Rattle.c_syntax.specs.Ctypes.{int_type}
 use Rattle.c_syntax.specs.Statements.{Declaration}
 use Rattle.c_syntax.specs.Programs.{Function, TranslationUnit}
+use Rattle.c_model.specs.Integers.{fits}
+use Rattle.c_model.specs.Memory.{Value, Integer}
 use Rattle.c_model.specs.State.{State, Input, Outcome, ◌>>◌, frame, births, mark, within, restored}
 use Rattle.c_model.specs.State as source
-use Rattle.c_model.specs.Meaning.{global_scope, global_blocks, literal_block, initialise_all, is_definition, body_with, call_of, has_name, function_named, main_with, start, Ran, ran, run}
+use Rattle.c_model.specs.Meaning.{Callee, Tables, tables_of, global_scope, global_blocks, literal_block, initialise_all, is_definition, body_with, call_of, has_name, function_named, main_with, start, Ran, ran, run}
 use Rattle.c_model.specs.Reports.{Extends, Agrees}
-use Rattle.c_model.specs.Typing.{name_at, same_type}
-use Rattle.c_model.specs.ProgramTyping.{main_fault, has_no_parameters, no_main}
+use Rattle.c_model.specs.Typing.{name_at}
 use Rattle.c_model.specs.Formed.{IsProgram}
 use Rattle.c_model.proofs.Agreement.{Agrees-same, extends_trans}
+use Rattle.mon_syntax.specs.Registers.{no_registers, with_kinds}
 use Rattle.mon_syntax.specs.Meaning.{Result, Done, Stops, Next, then_do, at_return, exit_of, registers, level, body_runs, zero_result}
 use Rattle.mon_syntax.specs.Meaning as monitored
-use Rattle.c_model.specs.Memory.{Value, Integer}
 use Rattle.mon_syntax.specs.BlockMemory.{over_blocks, integer_of, block_run}
-use Rattle.mon_syntax.specs.Trees.{MonFunction}
+use Rattle.mon_syntax.specs.LiveBlocks.{LiveBlock}
+use Rattle.mon_syntax.specs.Trees.{MonFunction, MonStatements}
 use Rattle.instrument.specs.Limits.{FunctionsHaveNumbers}
-use Rattle.instrument.specs.Translation.{alive, function_of, functions_from, function_name, variable_numbers, translated, result_of}
-use Rattle.instrument.proofs.Variables.{Slot, Setting, no_tables, Related, Beside}
-use Rattle.instrument.proofs.Results.{written, writes_none, written_then}
-use Rattle.instrument.proofs.Evaluating.{Target, Did, runs}
+use Rattle.c_effects.specs.Expressions.{before}
+use Rattle.track_scopes.specs.Blocks.{entered as entered_with, deaths, with_born}
+use Rattle.instrument.specs.Translation.{parameters, function_of, functions_from, function_name, translated, result_of, value_types}
 use Rattle.c_effects.proofs.Sequences.{before_none}
+use Rattle.instrument.proofs.Standing.{Target, Did, Setting, runs, Anchored}
+use Rattle.instrument.proofs.Results.{written, writes_none, written_then}
 use Rattle.instrument.proofs.Following.{Follows, GoesOn, Breaks, Continues, IsLeft, IsOver, IsUndefined}
-use Rattle.instrument.proofs.Births.{slots_born}
-use Rattle.instrument.proofs.Parameters.{AllSet}
-use Rattle.instrument.proofs.Functions.{setting, parameter_slots, how_many, at_body, body_code, zero_of, registers_full}
-use Rattle.c_model.proofs.Signatures.{same_type_is}
-use Rattle.instrument.proofs.Programs.{picked, index_by, IsPicked, parts_of, is_picked, has_bytes, main_index_is}
-use Rattle.instrument.proofs.Bodies.{has_body, body_follows}
-use Rattle.instrument.proofs.Callees.{main, functions, bare_tables, calls_at}
+use Rattle.instrument.proofs.Births.{names_of, with_numbers}
+use Rattle.instrument.proofs.Blocks.{Meets}
+use Rattle.instrument.proofs.Numbers.{AllOutside}
+use Rattle.instrument.proofs.Functions.{setting, how_many, at_body, MeetsBody, body_code, zero_of, registers_full}
+use Rattle.instrument.proofs.Programs.{Part, picked, index_by, IsPicked, parts_of, is_picked, has_bytes, main_index_is}
+use Rattle.instrument.proofs.Resolved.{IsMain, is_main, has_body, main, functions}
+use Rattle.instrument.proofs.Bodies.{AreApart, end_of, body_follows}
+use Rattle.instrument.proofs.Callees.{calls_at}
 
 -- ---- main
-
--- the definition of main, which takes nothing and gives an `int`
-pub record IsMain (names : List (List ℕ)) (fs : List Function) : Type 0 where
-  pub function : Function
-  pub first : picked (has_bytes names (codes "main")) fs ≡ Some function
-  pub result : function.result ≡ int_type
-  pub params : function.params ≡ []
-
-no_params : (ds : List Declaration) → has_no_parameters ds ≡ true → ds ≡ []
-no_params [] e = refl
-no_params (d ∷ ds) e = absurd cc
-
-pub is_main : (names : List (List ℕ)) (fs : List Function) → main_fault names fs ≡ None → IsMain names fs
-is_main names [] e = absurd cc
-is_main names (f ∷ fs) e = by (λ h. is_main names fs h) (is_definition f && bytes_eq (name_at names f.name) (codes "main")) refl e
-  where
-    typed : (a b : Bool) → same_type f.result int_type ≡ a → has_no_parameters f.params ≡ b → cond (a && b) None (Some (no_main f.place)) ≡ None → (f.result ≡ int_type) × (f.params ≡ [])
-    typed true true x y h = (same_type_is f.result int_type x, no_params f.params y)
-    typed true false x y h = absurd cc
-    typed false b x y h = absurd cc
-
-    by : (main_fault names fs ≡ None → IsMain names fs) → (t : Bool) → (is_definition f && bytes_eq (name_at names f.name) (codes "main")) ≡ t
-        → cond t (cond (same_type f.result int_type && has_no_parameters f.params) None (Some (no_main f.place))) (main_fault names fs) ≡ None → IsMain names (f ∷ fs)
-    by rest true x h =
-        let y = typed (same_type f.result int_type) (has_no_parameters f.params) refl refl h in
-        record { function = f; first = ap (λ t. if t then Some f else picked (has_bytes names (codes "main")) fs) x; result = y.0; params = y.1 }
-    by rest false x h =
-        let i = rest h in
-        record { function = i.function; first = ap (λ t. if t then Some f else picked (has_bytes names (codes "main")) fs) x ∙ i.first; result = i.result; params = i.params }
 
 -- the source finds it
 has_bytes_is : (names : List (List ℕ)) (x : ℕ) → has_name (slice_get names x) (codes "main") ≡ bytes_eq (name_at names x) (codes "main")
@@ -136,20 +112,23 @@ abbrev bare_start : Input → ℕ → State
 bare_start input n = record { store = []; scope = []; marks = []; calls = 0; steps = n; input = input; output = [] }
 
 -- what main's body does, and the call's end
-module _ (w : Setting) (ps : List Slot) (s0 from : State) (empty : from.output ≡ []) where
+module _ (w : Setting) (base : ℕ) (blocks : List LiveBlock) (low : ℕ) (regs : List Value) (s0 from : State) (empty : from.output ≡ []) where
   abbrev ended : Did → Ran
   ended q = monitored.ran over_blocks (then_do q (at_return over_blocks (Integer (pos 0))))
 
-  ends_agree : (r : Outcome (Unit {0})) (q : Did) → Follows w (at_body ps int_type) Next from r q → Agrees (ran (restored s0 r)) (ended q)
-  ends_agree r q (GoesOn s regs t o m b l e e') =
+  ends_agree : (r : Outcome (Unit {0})) (q : Did) → Follows w (at_body base blocks int_type) low regs Next from r q → Agrees (ran (restored s0 r)) (ended q)
+  ends_agree r q (GoesOn s after t o same l b e e') =
       subst (λ r. Agrees (ran (restored s0 r)) (ended q)) (sym e)
       (same_agrees _ _ (ap ended e' ∙ ap (λ x. ran_with (source.Exits (pos 0)) x t.steps) (append-nil o ∙ sym (l.output ∙ ap (λ x. x ++ o) empty)) ∙ ap (ran_with (source.Exits (pos 0)) s.output) b.steps))
-  ends_agree r q (Breaks s regs t o i m b l e e') = absurd cc
-  ends_agree r q (Continues s regs t o i m b l e e') = absurd cc
-  ends_agree r q (IsLeft None s regs t o i m b l e e') = absurd i
-  ends_agree r q (IsLeft (Some z) s regs t o i m b l e e') =
-      subst (λ r. Agrees (ran (restored s0 r)) (ended q)) (sym e)
-      (same_agrees _ _ (ap ended e' ∙ ap (λ x. ran_with (source.Exits z) x t.steps) (append-nil o ∙ sym (l.output ∙ ap (λ x. x ++ o) empty)) ∙ ap (ran_with (source.Exits z) s.output) b.steps))
+  ends_agree r q (Breaks s after t o i m l b e e') = absurd cc
+  ends_agree r q (Continues s after t o i m l b e e') = absurd cc
+  ends_agree r q (IsLeft None s t o i l b e e') = absurd i
+  ends_agree r q (IsLeft (Some v) s t o i l b e e') =
+      let is : (z : ℤ) × (v ≡ Integer z) × (fits I32 z ≡ true) = i in
+      let returns : r ≡ source.Stop (source.Leaves (source.Returns (Some (Integer is.0)))) s = e ∙ ap (λ v. source.Stop (source.Leaves (source.Returns (Some v))) s) is.1 in
+      let given : q ≡ Done (monitored.Returns (Some (Integer is.0))) t o = e' ∙ ap (λ v. Done (monitored.Returns (Some v)) t o) is.1 in
+      subst (λ r. Agrees (ran (restored s0 r)) (ended q)) (sym returns)
+      (same_agrees _ _ (ap ended given ∙ ap (λ x. ran_with (source.Exits is.0) x t.steps) (append-nil o ∙ sym (l.output ∙ ap (λ x. x ++ o) empty)) ∙ ap (ran_with (source.Exits is.0) s.output) b.steps))
   ends_agree r q (IsOver y s o d e l e') =
       subst (λ r. Agrees (ran (restored s0 r)) (ended q)) (sym e)
       (same_agrees _ _ (ap ended e' ∙ ap (λ x. ran_with y x s.steps) (sym (l ∙ ap (λ x. x ++ o) empty))))
@@ -161,7 +140,23 @@ module _ (w : Setting) (ps : List Slot) (s0 from : State) (empty : from.output �
 
 -- ---- the whole run
 
+-- there are no globals yet
+anchored_none : (globals : List Declaration) → globals ≡ [] → (low : ℕ) (regs : List Value) → Anchored low [] regs (global_scope 1 globals)
+anchored_none globals none low regs = subst (λ gs. Anchored low [] regs (global_scope 1 gs)) (sym none) (λ x number e. absurd cc)
+
+apart_none : (low high : ℕ) (globals : List Declaration) → globals ≡ [] → AllOutside low high (names_of (global_scope 1 globals))
+apart_none low high globals none = subst (λ gs. AllOutside low high (names_of (global_scope 1 gs))) (sym none) tt
+
 module _ (p : TranslationUnit) (q : IsProgram p) (numbers : FunctionsHaveNumbers p.funcs) (input : Input) (n : ℕ) where
+  anchored : (low : ℕ) (regs : List Value) → Anchored low [] regs (global_scope 1 p.globals)
+  anchored low regs = anchored_none p.globals q.formed.globals low regs
+
+  apart : (f : Function) (part : Part p f) → AreApart p f part (names_of (global_scope 1 p.globals))
+  apart f part = apart_none (suc f.place.offset) (end_of p f part) p.globals q.formed.globals
+
+  abbrev T : Tables
+  T = tables_of p
+
   abbrev found : IsMain p.names p.funcs
   found = is_main p.names p.funcs q.main
 
@@ -177,14 +172,14 @@ module _ (p : TranslationUnit) (q : IsProgram p) (numbers : FunctionsHaveNumbers
   main_picked : IsPicked p (has_bytes p.names (codes "main")) m 0 p.funcs f
   main_picked = is_picked p (has_bytes p.names (codes "main")) m p.funcs f (parts_of p q numbers) found.first 0
 
+  abbrev call : Callee
+  call = call_of p (suc n)
+
+  abbrev calls : monitored.Calls over_blocks
+  calls = level over_blocks [] fs n
+
   abbrev w : Setting
-  w = setting p m m f (call_of p (suc n)) (level over_blocks [] fs n) n [] (0 + 1)
-
-  abbrev ps : List Slot
-  ps = parameter_slots p m m f (call_of p (suc n)) (level over_blocks [] fs n) n []
-
-  none : ps ≡ []
-  none = ap (λ ds. slots_born 0 ds []) found.params
+  w = setting p [] m m f call calls n [] (0 + 1)
 
   abbrev entered : State
   entered = record (bare_start input n) { calls = 0 + 1; marks = record { label = None; scope = []; store = [] } ∷ [] }
@@ -199,37 +194,54 @@ module _ (p : TranslationUnit) (q : IsProgram p) (numbers : FunctionsHaveNumbers
   entered_target = record { mem = record { store = []; frames = 0 + 1 }; steps = n; input = input }
 
   abbrev did : Did
-  did = runs w n entered_target (body_code p m m f (call_of p (suc n)) (level over_blocks [] fs n) n) opens
+  did = runs w n entered_target (body_code p [] m m f call calls n) opens
 
-  opens_long : length opens ≡ how_many p m m f (call_of p (suc n)) (level over_blocks [] fs n) n
+  opens_long : length opens ≡ how_many p [] m m f call calls n
   opens_long = registers_full (g.parameters ++ g.registers) [] (omega arith) ∙ length-append g.parameters g.registers
 
-  related_first : Related w ps opens entered
-  related_first = subst (λ vs. Related w vs opens entered) (sym none) (record {
-    scope = refl;
-    calls = refl;
-    live = refl;
-    outside = λ j lt. refl;
-    stacked = omega arith;
-    apart = tt;
-    all = tt;
-    registers = opens_long;
-  })
+  -- what meets where there are these parameters
+  abbrev MeetsWith : List Declaration → Type 0
+  MeetsWith ds =
+      Meets w (at_body 0 [] f.result) (record { loops = 0; inside = with_born (length ds) ds []; outside = [] }) (length ds + length ds) (entered_with ds (with_kinds (value_types ds) no_registers)).bound
+      (with_numbers ds (names_of (global_scope 1 p.globals))) opens entered entered_target
 
-  beside_first : Beside w ps entered entered_target
-  beside_first = subst (λ vs. Beside w vs entered entered_target) (sym none) (record { long = refl; live = refl; frames = refl; steps = refl; input = refl })
+  meets_none : MeetsWith []
+  meets_none = record {
+    standing = record {
+      anchored = λ x number e. absurd cc;
+      active = refl;
+      live = refl;
+      since_loop = tt;
+      before_loop = tt;
+      since_call = tt;
+      before_call = tt;
+      nested = omega arith;
+      longer = omega arith;
+      bounded = tt;
+      registers = opens_long;
+    };
+    beside = record { store_is = refl; frames = refl; steps = refl; input = refl };
+    inside = tt;
+    outside = tt;
+    names = ap (λ gs. names_of (global_scope 1 gs)) (sym q.formed.globals);
+  }
 
-  body_does : Follows w (at_body ps int_type) Next entered (body_with no_tables f.body (call_of p (suc n)) (suc n) entered) did
+  meets_first : MeetsBody p [] m m f call calls n [] (0 + 1) [] opens entered entered_target
+  meets_first = subst MeetsWith (sym found.params) meets_none
+
+  body_does : Follows w (at_body 0 [] int_type) (length f.params + length f.params) opens Next entered (body_with T f.body call (suc n) entered) did
   body_does =
       let part = main_picked.part in
-      subst (λ k. Follows w (at_body ps k) Next entered (body_with no_tables f.body (call_of p (suc n)) (suc n) entered) did) found.result
-      (body_follows p m m f part (has_body p f part main_picked.definition) (call_of p (suc n)) (level over_blocks [] fs n) n
-      (λ outside active s names signatures u t es c. calls_at p q numbers n (setting p m m f (call_of p (suc n)) (level over_blocks [] fs n) n outside active) refl refl part.before part.after f part.is s names signatures u t es c)
-      [] (0 + 1) opens entered entered_target related_first beside_first (subst (λ vs. AllSet [] vs) (sym none) tt) (omega arith))
+      subst (λ k. Follows w (at_body 0 [] k) (length f.params + length f.params) opens Next entered (body_with T f.body call (suc n) entered) did) found.result
+      (body_follows p [] m m f part (has_body p f part main_picked.definition) call calls n (apart f part)
+      (λ store active s names signatures u t es c.
+      let inner = setting p [] m m f call calls n store active in
+      calls_at p q numbers [] anchored apart n inner.registers inner.base inner.around active part.before part.after f part.is s names signatures u t es c)
+      [] (0 + 1) [] opens entered entered_target meets_first (omega arith))
 
   starts : start p input n ≡ bare_start input n
   starts = λ i. record {
-    store = global_blocks (q.formed.structs i) (q.formed.globals i) ++ map literal_block (q.formed.texts i);
+    store = global_blocks p.structs (q.formed.globals i) ++ map literal_block (q.formed.texts i);
     scope = global_scope 1 (q.formed.globals i);
     marks = [];
     calls = 0;
@@ -238,29 +250,31 @@ module _ (p : TranslationUnit) (q : IsProgram p) (numbers : FunctionsHaveNumbers
     output = [];
   }
 
-  source_is : run p input n ≡ ran (restored (bare_start input n) (body_with no_tables f.body (call_of p (suc n)) (suc n) entered))
+  source_is : run p input n ≡ ran (restored (bare_start input n) (body_with T f.body call (suc n) entered))
   source_is =
-      (λ i. ran ((initialise_all (bare_tables p q i) (q.formed.globals i) (call_of p (suc n)) >> main_with (bare_tables p q i) (function_named p (codes "main") p.funcs) (call_of p (suc n)) (suc n)) (starts i)))
-      ∙ ap (λ o. ran (main_with no_tables o (call_of p (suc n)) (suc n) (bare_start input n))) (source_finds p p.funcs ∙ found.first)
-      ∙ ap (λ ds. ran (within (frame >> births [] ds >> mark None >> body_with no_tables f.body (call_of p (suc n)) (suc n)) (bare_start input n))) found.params
+      (λ i. ran ((initialise_all T (q.formed.globals i) call >> main_with T (function_named p (codes "main") p.funcs) call (suc n)) (starts i)))
+      ∙ ap (λ o. ran (main_with T o call (suc n) (bare_start input n))) (source_finds p p.funcs ∙ found.first)
+      ∙ ap (λ ds. ran (within (frame >> births T.structs ds >> mark None >> body_with T f.body call (suc n)) (bare_start input n))) found.params
 
   index_is : m ≡ 0 + index_by (has_bytes p.names (codes "main")) p.funcs
   index_is = main_index_is p.names p.funcs ∙ omega arith
 
+  -- the code of a function with these parameters
+  abbrev code_with : List Declaration → MonStatements
+  code_with ds = before (parameters p (length ds) 0 ds) (before (body_code p [] m m f call calls n) (deaths (with_born (length ds) ds [])))
+
   target_is : block_run (translated p) input n ≡ monitored.ran over_blocks (then_do did (at_return over_blocks (Integer (pos 0))))
   target_is =
       let t0 : Target = record { mem = record { store = []; frames = 0 }; steps = n; input = input } in
-      ap (λ o. monitored.ran over_blocks (body_runs over_blocks [] o (level over_blocks [] fs n) n [] t0)) (target_finds p m 0 p.funcs f index_is found.first)
-      ∙ ap (λ x. monitored.ran over_blocks x) (writes_none (then_do (runs w n entered_target (alive (variable_numbers f) f.params (body_code p m m f (call_of p (suc n)) (level over_blocks [] fs n) n)) opens) (at_return over_blocks (zero_of f))))
-      ∙ ap (λ k. monitored.ran over_blocks (then_do (runs w n entered_target (alive (variable_numbers f) f.params (body_code p m m f (call_of p (suc n)) (level over_blocks [] fs n) n)) opens)
-      (at_return over_blocks (zero_result over_blocks (result_of k)))))
-      found.result
-      ∙ ap (λ ds. monitored.ran over_blocks (then_do (runs w n entered_target (alive (variable_numbers f) ds (body_code p m m f (call_of p (suc n)) (level over_blocks [] fs n) n)) opens) (at_return over_blocks (Integer (pos 0))))) found.params
-      ∙ ap (λ a. monitored.ran over_blocks (then_do (runs w n entered_target a opens) (at_return over_blocks (Integer (pos 0))))) (before_none (body_code p m m f (call_of p (suc n)) (level over_blocks [] fs n) n))
+      ap (λ o. monitored.ran over_blocks (body_runs over_blocks [] o calls n [] t0)) (target_finds p m 0 p.funcs f index_is found.first)
+      ∙ ap (λ x. monitored.ran over_blocks x) (writes_none (then_do (runs w n entered_target (code_with f.params) opens) (at_return over_blocks (zero_of f))))
+      ∙ ap (λ k. monitored.ran over_blocks (then_do (runs w n entered_target (code_with f.params) opens) (at_return over_blocks (zero_result over_blocks (result_of k))))) found.result
+      ∙ ap (λ ds. monitored.ran over_blocks (then_do (runs w n entered_target (code_with ds) opens) (at_return over_blocks (Integer (pos 0))))) found.params
+      ∙ ap (λ a. monitored.ran over_blocks (then_do (runs w n entered_target a opens) (at_return over_blocks (Integer (pos 0))))) (before_none (body_code p [] m m f call calls n))
 
   -- the translation keeps the meaning
   pub translated_agrees : Agrees (run p input n) (block_run (translated p) input n)
   translated_agrees =
       subst (λ a. Agrees a (block_run (translated p) input n)) (sym source_is)
-      (subst (λ b. Agrees (ran (restored (bare_start input n) (body_with no_tables f.body (call_of p (suc n)) (suc n) entered))) b) (sym target_is)
-      (ends_agree w ps (bare_start input n) entered refl _ did body_does))
+      (subst (λ b. Agrees (ran (restored (bare_start input n) (body_with T f.body call (suc n) entered))) b) (sym target_is)
+      (ends_agree w 0 [] (length f.params + length f.params) opens (bare_start input n) entered refl _ did body_does))

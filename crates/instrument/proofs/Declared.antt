@@ -1,142 +1,206 @@
--- Declared variables: what is in sight, and has values, where variables are born and where they are declared.
-use Rattle.std.proofs.Common.{◌≡◌, ℕ, suc, Bool, true, false, cond, nat_eq, List, [], ◌∷◌, ◌++◌, Some, None, refl, sym, ap, ◌∙◌, subst, arith}
-use Rattle.std.proofs.lemmas.Bool.{eq-eqb}
+-- What is declared in statements: it is new there, so that the names in sight keep their registers.
+use Rattle.std.proofs.Common.{◌≡◌, ℕ, ◌+◌, ◌≤◌, Bool, true, false, cond, nat_eq, List, [], ◌∷◌, ◌++◌, length, length-append, Some, refl, sym, ◌∙◌, subst, arith}
 use Rattle.std.proofs.lemmas.Bool.Decides.{nat_tests}
-use Rattle.c_syntax.specs.Ctypes.{Int}
-use Rattle.c_syntax.specs.Statements.{Declaration, Statement, Block, If, While, Do, For, ElsePart, NoElse, Else, BlockItem, Declare, Run, Asserts, BlockItems, NoItem, Then}
-use Rattle.c_model.specs.Memory.{Store}
+use Rattle.c_syntax.specs.Programs.{StructType}
+use Rattle.c_syntax.specs.Statements.{Declaration, Statement, Empty, Eval, Block, If, While, Do, For, Break, Continue, Return, ElsePart, NoElse, Else, ForFirst, NoFirst, First, BlockItem, Declare, Run, Asserts, BlockItems, NoItem, Then}
+use Rattle.c_model.specs.Memory.{Value}
+use Rattle.c_model.specs.State.{State, Scope, find}
 use Rattle.c_model.specs.Meaning.{declared_in, declared_first}
-use Rattle.c_model.specs.Formed.{number_of}
-use Rattle.c_model.specs.Typing.{Object, or_else, object_named}
-use Rattle.instrument.proofs.Variables.{Slot, Setting, pointer_at, slot_of, IsSet, AllKept}
-use Rattle.instrument.proofs.Births.{slot_for, slots_born, decls_of, registers_of, Absent, AllCanBeBorn}
-use Rattle.instrument.proofs.Sight.{InSight, AreInSight, Ready, ready_later}
+use Rattle.c_model.specs.Formed.{number_of, declared_within, declared_in_else, declared_in_first, declared_in_item, declared_in_items}
+use Rattle.mon_syntax.specs.declared.tree.MonType.{MonType}
+use Rattle.mon_syntax.specs.declared.tree.MonType.TheVariants.{Ptr}
+use Rattle.mon_syntax.specs.Registers.{RegisterTable, register_of, with_kinds, next_register}
+use Rattle.c_effects.specs.Expressions.{temporaries}
+use Rattle.c_effects.specs.Effects.{any_temporaries, effect_temporaries}
+use Rattle.track_scopes.specs.Blocks.{AreSmall, with_pointer, entered}
+use Rattle.instrument.specs.Translation.{Spot, after_statement, after_else, after_first, after_item, after_items}
+use Rattle.instrument.proofs.Standing.{Target, Setting, Here, Anchored}
+use Rattle.instrument.proofs.Following.{standing_as}
+use Rattle.instrument.proofs.Births.{register_of-bound_other, names_of, with_numbers}
+use Rattle.instrument.proofs.Blocks.{Meets}
 
--- ---- what can be declared in statements, where variables of these numbers live
+-- ---- what can be declared in statements, where names with these numbers are in sight
 
--- the numbers of those that live after the births of these
-abbrev pub with_numbers : List Declaration → List ℕ → List ℕ
-with_numbers [] living = living
-with_numbers (d ∷ ds) living = with_numbers ds (number_of d ∷ living)
+abbrev pub Absent : ℕ → List ℕ → Type 0
+Absent x [] = Unit {0}
+Absent x (y ∷ ys) = (nat_eq y x ≡ false) × Absent x ys
+
+abbrev pub AreAbsent : List ℕ → List Declaration → Type 0
+AreAbsent living [] = Unit {0}
+AreAbsent living (d ∷ ds) = Absent (number_of d) living × AreAbsent living ds
 
 abbrev mutual
-  pub CanDeclare : List ℕ → List ℕ → Statement → Type 0
-  CanDeclare numbers living (Block at items) = AllCanBeBorn numbers living (declared_in items) × ItemsCanDeclare numbers (with_numbers (declared_in items) living) items
-  CanDeclare numbers living (If at e a b) = CanDeclare numbers living a × ElseCanDeclare numbers living b
-  CanDeclare numbers living (While at annots e a) = CanDeclare numbers living a
-  CanDeclare numbers living (Do at a e) = CanDeclare numbers living a
-  CanDeclare numbers living (For at annots first e step a) = AllCanBeBorn numbers living (declared_first first) × CanDeclare numbers (with_numbers (declared_first first) living) a
-  CanDeclare numbers living _ = Unit {0}
+  -- what is born is small, and what is declared inside has numbers that none in sight has
+  pub CanDeclare : List StructType → List ℕ → Statement → Type 0
+  CanDeclare structs living (Block at items) = AreSmall structs (declared_in items) × ItemsCanDeclare structs (with_numbers (declared_in items) living) items
+  CanDeclare structs living (If at e a b) = AreAbsent living (declared_within a) × CanDeclare structs living a × ElseCanDeclare structs living b
+  CanDeclare structs living (While at annots e a) = CanDeclare structs living a
+  CanDeclare structs living (Do at a e) = AreAbsent living (declared_within a) × CanDeclare structs living a
+  CanDeclare structs living (For at annots first e step a) =
+      AreSmall structs (declared_first first) × AreAbsent (with_numbers (declared_first first) living) (declared_within a) × CanDeclare structs (with_numbers (declared_first first) living) a
+  CanDeclare structs living _ = Unit {0}
 
-  pub ElseCanDeclare : List ℕ → List ℕ → ElsePart → Type 0
-  ElseCanDeclare numbers living NoElse = Unit {0}
-  ElseCanDeclare numbers living (Else a) = CanDeclare numbers living a
+  pub ElseCanDeclare : List StructType → List ℕ → ElsePart → Type 0
+  ElseCanDeclare structs living NoElse = Unit {0}
+  ElseCanDeclare structs living (Else a) = CanDeclare structs living a
 
-  pub ItemCanDeclare : List ℕ → List ℕ → BlockItem → Type 0
-  ItemCanDeclare numbers living (Declare ds) = Unit {0}
-  ItemCanDeclare numbers living (Run a) = CanDeclare numbers living a
-  ItemCanDeclare numbers living (Asserts annots) = Unit {0}
+  pub ItemCanDeclare : List StructType → List ℕ → BlockItem → Type 0
+  ItemCanDeclare structs living (Declare ds) = Unit {0}
+  ItemCanDeclare structs living (Run a) = AreAbsent living (declared_within a) × CanDeclare structs living a
+  ItemCanDeclare structs living (Asserts annots) = Unit {0}
 
-  pub ItemsCanDeclare : List ℕ → List ℕ → BlockItems → Type 0
-  ItemsCanDeclare numbers living NoItem = Unit {0}
-  ItemsCanDeclare numbers living (Then i rest) = ItemCanDeclare numbers living i × ItemsCanDeclare numbers living rest
+  pub ItemsCanDeclare : List StructType → List ℕ → BlockItems → Type 0
+  ItemsCanDeclare structs living NoItem = Unit {0}
+  ItemsCanDeclare structs living (Then i rest) = ItemCanDeclare structs living i × ItemsCanDeclare structs living rest
 
-pub decls_of-born : (n : ℕ) (ds : List Declaration) (slots : List Slot) → decls_of (slots_born n ds slots) ≡ with_numbers ds (decls_of slots)
-decls_of-born n [] slots = refl
-decls_of-born n (d ∷ ds) slots = decls_of-born (suc n) ds (slot_for n d ∷ slots)
+-- ---- registers of names that are declared elsewhere
 
-pub registers_of-append : (w : Setting) (a b : List Slot) → registers_of w (a ++ b) ≡ registers_of w a ++ registers_of w b
-registers_of-append w [] b = refl
-registers_of-append w (v ∷ a) b = ap (λ l. pointer_at w v.decl ∷ l) (registers_of-append w a b)
+abbrev NotIn : ℕ → List Declaration → Type 0
+NotIn x [] = Unit {0}
+NotIn x (d ∷ ds) = (nat_eq (number_of d) x ≡ false) × NotIn x ds
 
-pub slots_born-append : (n : ℕ) (ds : List Declaration) (inner around : List Slot) → slots_born n ds (inner ++ around) ≡ slots_born n ds inner ++ around
-slots_born-append n [] inner around = refl
-slots_born-append n (d ∷ ds) inner around = slots_born-append (suc n) ds (slot_for n d ∷ inner) around
+not_front : (x : ℕ) (ds es : List Declaration) → NotIn x (ds ++ es) → NotIn x ds
+not_front x [] es h = tt
+not_front x (d ∷ ds) es h = (h.0, not_front x ds es h.1)
 
--- ---- births hide nothing
+not_back : (x : ℕ) (ds es : List Declaration) → NotIn x (ds ++ es) → NotIn x es
+not_back x [] es h = h
+not_back x (d ∷ ds) es h = not_back x ds es h.1
 
-differs : (x y : ℕ) (slots : List Slot) (v : Slot) → Absent x (decls_of slots) → slot_of y slots ≡ Some v → nat_eq x y ≡ false
-differs x y [] v h e = absurd cc
-differs x y (u ∷ slots) v h e = by (λ f. differs x y slots v h.1 f) (nat_eq u.decl y) refl e
+not_both : (x : ℕ) (ds es : List Declaration) → NotIn x ds → NotIn x es → NotIn x (ds ++ es)
+not_both x [] es h g = g
+not_both x (d ∷ ds) es h g = (h.0, not_both x ds es h.1 g)
+
+not_own : (x : ℕ) (is : BlockItems) → NotIn x (declared_in_items is) → NotIn x (declared_in is)
+not_own x NoItem h = tt
+not_own x (Then (Declare ds) rest) h = not_both x ds (declared_in rest) (not_front x ds (declared_in_items rest) h) (not_own x rest (not_back x ds (declared_in_items rest) h))
+not_own x (Then (Run a) rest) h = not_own x rest (not_back x (declared_within a) (declared_in_items rest) h)
+not_own x (Then (Asserts annots) rest) h = not_own x rest h
+
+not_first : (x : ℕ) (first : ForFirst) → NotIn x (declared_in_first first) → NotIn x (declared_first first)
+not_first x NoFirst h = tt
+not_first x (First (Declare ds)) h = h
+not_first x (First (Run a)) h = tt
+not_first x (First (Asserts annots)) h = tt
+
+entered_other : (x : ℕ) (ds : List Declaration) (r : RegisterTable) → NotIn x ds → register_of (entered ds r).bound x ≡ register_of r.bound x
+entered_other x [] r h = refl
+entered_other x (d ∷ ds) r h = entered_other x ds (with_pointer d r) h.1 ∙ register_of-bound_other (number_of d) (length r.kinds) x r.bound h.0
+
+mutual
+  statement_other : (x : ℕ) (a : Statement) (r : RegisterTable) → NotIn x (declared_within a) → register_of (after_statement a r).bound x ≡ register_of r.bound x
+  statement_other x (Empty at) r h = refl
+  statement_other x (Eval at e) r h = refl
+  statement_other x (Block at body) r h = items_other x body (entered (declared_in body) r) h ∙ entered_other x (declared_in body) r (not_own x body h)
+  statement_other x (If at e a b) r h =
+      else_other x b (after_statement a (with_kinds (temporaries e) r)) (not_back x (declared_within a) (declared_in_else b) h)
+      ∙ statement_other x a (with_kinds (temporaries e) r) (not_front x (declared_within a) (declared_in_else b) h)
+  statement_other x (While at annots e a) r h = statement_other x a (with_kinds (temporaries e) r) h
+  statement_other x (Do at a e) r h = statement_other x a r h
+  statement_other x (For at annots first e behind a) r h =
+      let own = not_front x (declared_in_first first) (declared_within a) h in
+      statement_other x a (with_kinds (any_temporaries temporaries e) (after_first first (entered (declared_first first) r))) (not_back x (declared_in_first first) (declared_within a) h)
+      ∙ first_other x first (entered (declared_first first) r) own
+      ∙ entered_other x (declared_first first) r (not_first x first own)
+  statement_other x (Break at) r h = refl
+  statement_other x (Continue at) r h = refl
+  statement_other x (Return at e) r h = refl
+
+  else_other : (x : ℕ) (b : ElsePart) (r : RegisterTable) → NotIn x (declared_in_else b) → register_of (after_else b r).bound x ≡ register_of r.bound x
+  else_other x NoElse r h = refl
+  else_other x (Else a) r h = statement_other x a r h
+
+  first_other : (x : ℕ) (first : ForFirst) (r : RegisterTable) → NotIn x (declared_in_first first) → register_of (after_first first r).bound x ≡ register_of r.bound x
+  first_other x NoFirst r h = refl
+  first_other x (First i) r h = item_other x i r h
+
+  item_other : (x : ℕ) (i : BlockItem) (r : RegisterTable) → NotIn x (declared_in_item i) → register_of (after_item i r).bound x ≡ register_of r.bound x
+  item_other x (Declare ds) r h = refl
+  item_other x (Run a) r h = statement_other x a r h
+  item_other x (Asserts annots) r h = refl
+
+  items_other : (x : ℕ) (is : BlockItems) (r : RegisterTable) → NotIn x (declared_in_items is) → register_of (after_items is r).bound x ≡ register_of r.bound x
+  items_other x NoItem r h = refl
+  items_other x (Then i rest) r h = items_other x rest (after_item i r) (not_back x (declared_in_item i) (declared_in_items rest) h) ∙ item_other x i r (not_front x (declared_in_item i) (declared_in_items rest) h)
+
+-- ---- names in sight keep their registers
+
+differs : (x y number : ℕ) (scope : Scope) → Absent x (names_of scope) → find y scope ≡ Some number → nat_eq x y ≡ false
+differs x y number [] h e = absurd cc
+differs x y number (b ∷ scope) h e = by (λ f. differs x y number scope h.1 f) (nat_eq b.0 y) refl e
   where
-    by : (slot_of y slots ≡ Some v → nat_eq x y ≡ false) → (t : Bool) → nat_eq u.decl y ≡ t → cond t (Some u) (slot_of y slots) ≡ Some v → nat_eq x y ≡ false
+    by : (find y scope ≡ Some number → nat_eq x y ≡ false) → (t : Bool) → nat_eq b.0 y ≡ t → cond t (Some b.1) (find y scope) ≡ Some number → nat_eq x y ≡ false
     by rest true g f = let other = h.0 in grind (arith, nat_tests)
     by rest false g f = rest f
 
-pub seen_behind : (numbers : List ℕ) (n : ℕ) (ds : List Declaration) (slots : List Slot) (y : ℕ) (v : Slot) → AllCanBeBorn numbers (decls_of slots) ds → slot_of y slots ≡ Some v → slot_of y (slots_born n ds slots) ≡ Some v
-seen_behind numbers n [] slots y v c e = e
-seen_behind numbers n (d ∷ ds) slots y v c e =
-    seen_behind numbers (suc n) ds (slot_for n d ∷ slots) y v c.1
-    (ap (λ t. cond t (Some (slot_for n d)) (slot_of y slots)) (differs (number_of d) y slots v c.0.new e) ∙ e)
+not_in_sight : (y number : ℕ) (scope : Scope) (ds : List Declaration) → AreAbsent (names_of scope) ds → find y scope ≡ Some number → NotIn y ds
+not_in_sight y number scope [] h e = tt
+not_in_sight y number scope (d ∷ ds) h e = (differs (number_of d) y number scope h.0 e, not_in_sight y number scope ds h.1 e)
 
-pub sight_behind : (numbers : List ℕ) (n : ℕ) (ds : List Declaration) (slots : List Slot) (objects : List Object) → AllCanBeBorn numbers (decls_of slots) ds → AreInSight slots objects → AreInSight (slots_born n ds slots) objects
-sight_behind numbers n ds slots objects c sight x b e =
-    let i = sight x b e in
-    record { slot = i.slot; found = seen_behind numbers n ds slots b.decl i.slot c i.found; ctype = i.ctype }
+pub anchored_behind : (a : Statement) (r : RegisterTable) (low : ℕ) (regs : List Value) (scope : Scope) → AreAbsent (names_of scope) (declared_within a) → Anchored low r.bound regs scope → Anchored low (after_statement a r).bound regs scope
+anchored_behind a r low regs scope absent h x number e =
+    let i = h x number e in
+    record { register = i.register; is_bound = statement_other x a r (not_in_sight x number scope (declared_within a) absent e) ∙ i.is_bound; below = i.below; points = i.points }
 
-pub ready_behind : (numbers : List ℕ) (n : ℕ) (ds : List Declaration) (slots : List Slot) (objects : List Object) (old new : Store) → AllCanBeBorn numbers (decls_of slots) ds → AreInSight slots objects → AllKept slots old new
-    → Ready old slots objects → Ready new (slots_born n ds slots) objects
-ready_behind numbers n ds slots objects old new c sight kept ready x b e v found =
-    let i = sight x b e in
-    let both : Some i.slot ≡ Some v = sym (seen_behind numbers n ds slots b.decl i.slot c i.found) ∙ found in
-    let same : i.slot ≡ v = cc in
-    subst (IsSet new) same (ready_later old new slots objects kept ready x b e i.slot i.found)
+pub meets_behind : (w : Setting) (h : Here) (spot : Spot) (low : ℕ) (a : Statement) (r : RegisterTable) (living : List ℕ) (regs : List Value) (s : State) (t : Target) → AreAbsent living (declared_within a)
+    → Meets w h spot low r.bound living regs s t → Meets w h spot low (after_statement a r).bound living regs s t
+meets_behind w h spot low a r living regs s t absent m = record {
+  standing = standing_as w h low low r.bound (after_statement a r).bound regs regs s s h.looped m.standing
+      (anchored_behind a r low regs s.scope (subst (λ l. AreAbsent l (declared_within a)) (sym m.names) absent) m.standing.anchored) refl refl (omega arith) m.standing.bounded refl;
+  beside = m.beside;
+  inside = m.inside;
+  outside = m.outside;
+  names = m.names;
+}
 
--- ---- the variables of a block, which are there from its beginning on
+-- ---- how many registers there are
 
-pub record HasSlot (slots : List Slot) (d : Declaration) : Type 0 where
-  pub slot : Slot
-  pub found : slot_of (number_of d) slots ≡ Some slot
-  pub ctype : d.ctype ≡ Int slot.int
+pub more_kinds : (ts : List MonType) (r : RegisterTable) → next_register r ≤ next_register (with_kinds ts r)
+more_kinds ts r = omega (arith, length-append r.kinds ts)
 
-abbrev pub HaveSlots : List Slot → List Declaration → Type 0
-HaveSlots slots [] = Unit {0}
-HaveSlots slots (d ∷ ds) = HasSlot slots d × HaveSlots slots ds
+pub entered_long : (ds : List Declaration) (r : RegisterTable) → next_register (entered ds r) ≡ next_register r + length ds
+entered_long [] r = omega arith
+entered_long (d ∷ ds) r = omega (arith, entered_long ds (with_pointer d r), length-append r.kinds (Ptr ∷ []))
 
-pub born_have_slots : (numbers : List ℕ) (n : ℕ) (ds : List Declaration) (slots : List Slot) → AllCanBeBorn numbers (decls_of slots) ds → HaveSlots (slots_born n ds slots) ds
-born_have_slots numbers n [] slots c = tt
-born_have_slots numbers n (d ∷ ds) slots c =
-    let here = slot_for n d in
-    let found : slot_of (number_of d) (here ∷ slots) ≡ Some here = ap (λ t. cond t (Some here) (slot_of (number_of d) slots)) (eq-eqb (number_of d) (number_of d) refl) in
-    (record { slot = here; found = seen_behind numbers (suc n) ds (here ∷ slots) (number_of d) here c.1 found; ctype = c.0.object }, born_have_slots numbers (suc n) ds (here ∷ slots) c.1)
+mutual
+  pub statement_grows : (a : Statement) (r : RegisterTable) → next_register r ≤ next_register (after_statement a r)
+  statement_grows (Empty at) r = omega arith
+  statement_grows (Eval at e) r = more_kinds (effect_temporaries e) r
+  statement_grows (Block at body) r = omega (arith, entered_long (declared_in body) r, items_grow body (entered (declared_in body) r))
+  statement_grows (If at e a b) r =
+      let one = with_kinds (temporaries e) r in
+      omega (arith, more_kinds (temporaries e) r, statement_grows a one, else_grows b (after_statement a one))
+  statement_grows (While at annots e a) r = omega (arith, more_kinds (temporaries e) r, statement_grows a (with_kinds (temporaries e) r))
+  statement_grows (Do at a e) r = omega (arith, statement_grows a r, more_kinds (temporaries e) (after_statement a r))
+  statement_grows (For at annots first e behind a) r =
+      let one = entered (declared_first first) r in
+      let two = after_first first one in
+      let three = with_kinds (any_temporaries temporaries e) two in
+      omega (
+        arith,
+        entered_long (declared_first first) r,
+        first_grows first one,
+        more_kinds (any_temporaries temporaries e) two,
+        statement_grows a three,
+        more_kinds (any_temporaries effect_temporaries behind) (after_statement a three),
+      )
+  statement_grows (Break at) r = omega arith
+  statement_grows (Continue at) r = omega arith
+  statement_grows (Return at e) r = more_kinds (any_temporaries Rattle.instrument.specs.Translation.returned_temporaries e) r
 
-pub have_front : (slots : List Slot) (ds es : List Declaration) → HaveSlots slots (ds ++ es) → HaveSlots slots ds
-have_front slots [] es h = tt
-have_front slots (d ∷ ds) es h = (h.0, have_front slots ds es h.1)
+  pub else_grows : (b : ElsePart) (r : RegisterTable) → next_register r ≤ next_register (after_else b r)
+  else_grows NoElse r = omega arith
+  else_grows (Else a) r = statement_grows a r
 
-pub have_behind : (slots : List Slot) (ds es : List Declaration) → HaveSlots slots (ds ++ es) → HaveSlots slots es
-have_behind slots [] es h = h
-have_behind slots (d ∷ ds) es h = have_behind slots ds es h.1
+  pub first_grows : (first : ForFirst) (r : RegisterTable) → next_register r ≤ next_register (after_first first r)
+  first_grows NoFirst r = omega arith
+  first_grows (First i) r = item_grows i r
 
--- ---- declarations
+  pub item_grows : (i : BlockItem) (r : RegisterTable) → next_register r ≤ next_register (after_item i r)
+  item_grows (Declare ds) r = more_kinds (Rattle.c_effects.specs.Effects.declaration_temporaries ds) r
+  item_grows (Run a) r = statement_grows a r
+  item_grows (Asserts annots) r = more_kinds (Rattle.c_effects.specs.Expressions.assertions_temporaries annots) r
 
-abbrev pub object_of : Declaration → Object
-object_of d = record { name = d.name; decl = number_of d; ctype = d.ctype }
-
--- the newest object is found first
-pub named_last : (x : ℕ) (objects : List Object) (o : Object) → object_named x (objects ++ o ∷ []) ≡ cond (nat_eq x o.name) (Some o) (object_named x objects)
-named_last x [] o = refl
-named_last x (b ∷ objects) o =
-    ap (λ r. or_else r (cond (nat_eq x b.name) (Some b) None)) (named_last x objects o) ∙ by (nat_eq x o.name)
-  where
-    by : (t : Bool) → or_else (cond t (Some o) (object_named x objects)) (cond (nat_eq x b.name) (Some b) None) ≡ cond t (Some o) (or_else (object_named x objects) (cond (nat_eq x b.name) (Some b) None))
-    by true = refl
-    by false = refl
-
-pub sight_declared : (slots : List Slot) (objects : List Object) (d : Declaration) → HasSlot slots d → AreInSight slots objects → AreInSight slots (objects ++ object_of d ∷ [])
-sight_declared slots objects d h sight x b e = by (nat_eq x d.name) (sym (named_last x objects (object_of d)) ∙ e)
-  where
-    by : (t : Bool) → cond t (Some (object_of d)) (object_named x objects) ≡ Some b → InSight slots b.decl b.ctype
-    by true f = let same : object_of d ≡ b = cc in subst (λ (o : Object). InSight slots o.decl o.ctype) same (record { slot = h.slot; found = h.found; ctype = h.ctype })
-    by false f = sight x b f
-
-pub ready_declared : (store : Store) (slots : List Slot) (objects : List Object) (d : Declaration) (h : HasSlot slots d) → IsSet store h.slot → Ready store slots objects → Ready store slots (objects ++ object_of d ∷ [])
-ready_declared store slots objects d h is_set ready x b e v found = by (nat_eq x d.name) (sym (named_last x objects (object_of d)) ∙ e)
-  where
-    by : (t : Bool) → cond t (Some (object_of d)) (object_named x objects) ≡ Some b → IsSet store v
-    by true f =
-        let same : object_of d ≡ b = cc in
-        let both : Some h.slot ≡ Some v = sym h.found ∙ ap (λ (o : Object). slot_of o.decl slots) same ∙ found in
-        let one : h.slot ≡ v = cc in
-        subst (IsSet store) one is_set
-    by false f = ready x b f v found
+  pub items_grow : (is : BlockItems) (r : RegisterTable) → next_register r ≤ next_register (after_items is r)
+  items_grow NoItem r = omega arith
+  items_grow (Then i rest) r = omega (arith, item_grows i r, items_grow rest (after_item i r))

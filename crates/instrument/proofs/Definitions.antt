@@ -8,17 +8,31 @@ use Rattle.c_syntax.specs.Statements.{Declaration, Statement, plain_stmt}
 use Rattle.c_model.specs.Meaning.{is_definition}
 use Rattle.c_model.specs.Library.{is_there}
 use Rattle.mon_syntax.specs.declared.tree.MonFunc.{MonFunc}
-use Rattle.mon_syntax.specs.declared.tree.MonType.{MonType}
-use Rattle.mon_syntax.specs.Trees.{MonFunction, plain_func as plain_monitored_func}
-use Rattle.instrument.specs.Options.{statement_of}
-use Rattle.instrument.specs.Translation.{body_part, function_of, functions_from}
-use Rattle.track_scopes.specs.Blocks.{with_born}
-use Rattle.c_effects.proofs.Sequences.{left_at}
+use Rattle.mon_syntax.specs.Registers.{Names, with_table}
+use Rattle.mon_syntax.specs.Trees.{MonFunction, MonStatements, plain_func as plain_monitored_func}
+use Rattle.track_scopes.specs.Blocks.{deaths, with_born}
+use Rattle.c_effects.specs.Expressions.{before}
+use Rattle.c_effects.specs.Named.{unit_of}
+use Rattle.c_effects.proofs.Sequences.{before_assoc, left_at}
+use Rattle.instrument.specs.Options.{body_by}
+use Rattle.instrument.specs.Translation.{body_part, code_of, function_of, functions_from, parameters, registers_of_body}
 
-pub body_is : (p : TranslationUnit) (numbers : List ℕ) (params : List Declaration) (rs : List MonType) (a : Option Statement)
-    → statement_of p numbers (record { loops = 0; inside = with_born numbers params []; outside = [] }) rs a ≡ body_part p numbers params rs a
-body_is p numbers params rs None = refl
-body_is p numbers params rs (Some a) = refl
+pub body_is : (n : Names) (params : List Declaration) (a : Option Statement) → body_by n (record { loops = 0; inside = with_born (length params) params []; outside = [] }) a ≡ body_part (unit_of n) params n.table a
+body_is n params None = refl
+body_is n params (Some a) = refl
+
+-- the code of a function from its parts
+pub code_is : (n n1 : Names) (f : Function) (inside dying : List ℕ) (t1 t2 t3 : MonStatements) → n1 ≡ with_table (registers_of_body f) n → t1 ≡ parameters (unit_of n) (length f.params) 0 f.params
+    → inside ≡ with_born (length f.params) f.params [] → dying ≡ inside → t2 ≡ before t1 (body_by n1 (record { loops = 0; inside = inside; outside = [] }) f.body) → t3 ≡ before t2 (deaths dying) → t3 ≡ code_of (unit_of n) f
+code_is n n1 f inside dying t1 t2 t3 names first inside_is dying_is body last =
+    let start = parameters (unit_of n) (length f.params) 0 f.params in
+    let made = body_part (unit_of n) f.params (registers_of_body f) f.body in
+    let end = deaths (with_born (length f.params) f.params []) in
+    last
+    ∙ (λ i. before (body i) (deaths ((dying_is ∙ inside_is) i)))
+    ∙ (λ i. before (before (first i) (body_by (names i) (record { loops = 0; inside = inside_is i; outside = [] }) f.body)) end)
+    ∙ ap (λ b. before (before start b) end) (body_is (with_table (registers_of_body f) n) f.params f.body)
+    ∙ before_assoc start made end
 
 -- ---- functions
 

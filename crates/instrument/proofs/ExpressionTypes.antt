@@ -1,5 +1,5 @@
 -- The integer types of the parts of typed expressions.
-use Rattle.std.proofs.Common.{◌≡◌, ℤ, true, false, [], refl, sym, ap, ◌∙◌}
+use Rattle.std.proofs.Common.{◌≡◌, ℤ, true, false, List, refl, sym, ap, ◌∙◌}
 use Rattle.c_syntax.specs.declared.types.CInt.{CInt}
 use Rattle.c_syntax.specs.declared.types.CInt.TheVariants.{I8, U8, I16, U16, I32, U32, I64, U64}
 use Rattle.c_syntax.specs.declared.expression.UnOp.{UnOp}
@@ -7,6 +7,7 @@ use Rattle.c_syntax.specs.declared.expression.UnOp.TheVariants as prefix
 use Rattle.c_syntax.specs.declared.expression.BinOp.{BinOp}
 use Rattle.c_syntax.specs.declared.expression.BinOp.TheVariants as operator
 use Rattle.c_syntax.specs.Ctypes.{PlainType, Int, int_type}
+use Rattle.c_syntax.specs.Programs.{StructType}
 use Rattle.c_model.specs.Integers.{fits, operate, operate_in, operate_one, operate_one_in}
 use Rattle.c_model.specs.Layouts.{size_of}
 use Rattle.c_model.specs.Conversions.{promoted, is_shift}
@@ -23,6 +24,10 @@ pub scalar_int : (t : PlainType) → is_scalar t ≡ true → HasInt t
 scalar_int (Int k) e = record { int = k; is = refl }
 scalar_int _ e = absurd cc
 
+pub object_int : (t : PlainType) → is_object_type t ≡ true → HasInt t
+object_int (Int k) e = record { int = k; is = refl }
+object_int _ e = absurd cc
+
 pub integer_int : (t : PlainType) → IsInteger t → HasInt t
 integer_int (Int k) e = record { int = k; is = refl }
 integer_int _ e = absurd e
@@ -34,16 +39,16 @@ pub cast_int : (to u : PlainType) (k : CInt) → to ≡ Int k → CastTypes to u
 cast_int (Int l) u k e h = integer_int u h
 cast_int _ u k e h = absurd cc
 
-pub size_fits : (t : PlainType) → is_object_type t ≡ true → fits U64 (pos (size_of [] t)) ≡ true
-size_fits (Int I8) e = refl
-size_fits (Int U8) e = refl
-size_fits (Int I16) e = refl
-size_fits (Int U16) e = refl
-size_fits (Int I32) e = refl
-size_fits (Int U32) e = refl
-size_fits (Int I64) e = refl
-size_fits (Int U64) e = refl
-size_fits _ e = absurd cc
+pub size_fits : (structs : List StructType) (t : PlainType) → is_object_type t ≡ true → fits U64 (pos (size_of structs t)) ≡ true
+size_fits structs (Int I8) e = refl
+size_fits structs (Int U8) e = refl
+size_fits structs (Int I16) e = refl
+size_fits structs (Int U16) e = refl
+size_fits structs (Int I32) e = refl
+size_fits structs (Int U32) e = refl
+size_fits structs (Int I64) e = refl
+size_fits structs (Int U64) e = refl
+size_fits structs _ e = absurd cc
 
 -- ---- prefix operators
 

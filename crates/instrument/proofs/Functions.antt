@@ -1,37 +1,42 @@
 -- A call of a function: a step, a frame, the parameters, the body, and what the call gives.
-use Rattle.std.proofs.Common.{◌≡◌, ℕ, zero, suc, ◌+◌, ◌-◌, ◌≤◌, ℤ, pos, Bool, true, false, cond, if◌then◌else◌, nat_lt, List, [], ◌∷◌, ◌++◌, length, length-append, append_assoc, map, Some, None, refl, sym, ap, ◌∙◌, subst, arith, drop, length-drop}
+use Rattle.std.proofs.Common.{◌≡◌, ℕ, zero, suc, ◌+◌, ◌-◌, ◌≤◌, pos, Bool, true, false, cond, if◌then◌else◌, nat_lt, List, [], ◌∷◌, ◌++◌, length, length-append, append_assoc, Some, None, refl, sym, ap, ◌∙◌, subst, arith, drop, length-drop}
 use Rattle.std.proofs.lemmas.List.{append-nil, length-map}
-use Rattle.std.specs.Prelude.{slice_get}
 use Rattle.c_syntax.specs.declared.place.Place.{Place}
-use Rattle.c_syntax.specs.declared.types.CInt.{CInt}
 use Rattle.c_syntax.specs.declared.types.Segment.TheVariants as segment
 use Rattle.c_syntax.specs.Ctypes.{PlainType, Int, Ptr}
-use Rattle.c_syntax.specs.Statements.{Declaration}
 use Rattle.c_syntax.specs.Programs.{Function, TranslationUnit}
+use Rattle.c_syntax.specs.Statements.{Declaration}
 use Rattle.c_model.specs.Limits.{most_frames}
-use Rattle.c_model.specs.Memory.{Value, Store, Integer}
+use Rattle.c_model.specs.Memory.{Value, Store, kill_from}
 use Rattle.c_model.specs.State.{State, Mark, Spent, Full, Over, Outcome, Normal, Stop, Evaluation, on_outcome, ◌>>◌, step_from, frame, alone, mark, within, restored, back_to}
-use Rattle.c_model.specs.Meaning.{Callee, parameters, body_with, returned_by, at_close, call_with}
-use Rattle.c_model.specs.Formed.{number_of}
+use Rattle.c_model.specs.Meaning.{Callee, Tables, tables_of, global_scope, parameters, body_with, returned_by, at_close, call_with}
+use Rattle.c_model.specs.ProgramTyping.{types_of}
 use Rattle.c_model.proofs.Agreement.{extends_trans}
-use Rattle.mon_syntax.specs.Meaning.{Result, Done, Stops, Next, Goes, Returns, then_do, at_next, at_return, body_runs, left_frame, registers, writes, replied, zeros, zero_result}
+use Rattle.mon_syntax.specs.Registers.{Bindings, RegisterTable, no_registers, with_kinds}
+use Rattle.mon_syntax.specs.Meaning.{Result, Done, Stops, Next, then_do, at_next, at_return, body_runs, left_frame, registers, writes, replied, zeros, zero_result, exec_all}
 use Rattle.mon_syntax.specs.Meaning as monitored
 use Rattle.mon_syntax.specs.Memory.{Gives, IsFull}
 use Rattle.mon_syntax.specs.BlockMemory.{over_blocks}
+use Rattle.mon_syntax.specs.LiveBlocks.{LiveBlock, live_in}
 use Rattle.mon_syntax.specs.Trees.{MonFunction, MonStatements, MonRegister}
-use Rattle.mon_syntax.specs.LiveBlocks.{live_in}
-use Rattle.track_scopes.specs.Blocks.{register_of, deaths, with_born}
-use Rattle.track_scopes.specs.Blocks as target
-use Rattle.instrument.specs.Translation.{body_part, function_of, variable_numbers, variable_types, result_of}
-use Rattle.track_scopes.proofs.Lives.{length-killed}
-use Rattle.instrument.proofs.Variables.{Slot, Setting, no_tables, Stacked, Related, Beside, get-end}
-use Rattle.instrument.proofs.Results.{written, writes_none, written_then}
-use Rattle.instrument.proofs.Evaluating.{Target, Did, runs}
-use Rattle.instrument.proofs.Following.{Here, Later, Follows, GoesOn, Breaks, Continues, IsLeft, IsOver, IsUndefined}
-use Rattle.instrument.proofs.Births.{int_of, slots_born, registers_of, AllCanBeBorn, Dead, deaths_run, AllFrom, born_are_new, related_behind}
-use Rattle.instrument.proofs.Blocks.{with_born-slots, alive_runs}
-use Rattle.instrument.proofs.Parameters.{Bound, AllSet, BearsAll, AllBorn, OneIsFull, parameters_follow}
-use Rattle.instrument.proofs.Calls.{Even, CameBack, value_of, Called, EndsRun, HasNoMeaning, AllFit, integers}
+use Rattle.c_effects.specs.Expressions.{before}
+use Rattle.track_scopes.specs.Blocks.{deaths, with_born}
+use Rattle.track_scopes.specs.Lives as lives
+use Rattle.track_scopes.specs.Lives.{AreFrom, with_store}
+use Rattle.instrument.specs.Translation.{Spot, body_part, function_of, value_types, registers_of_body, result_of}
+use Rattle.instrument.specs.Translation as target
+use Rattle.instrument.proofs.Standing.{Target, Did, Setting, runs, Bounded, Here, Beside, Anchored}
+use Rattle.track_scopes.proofs.Deaths.{deaths_leave}
+use Rattle.instrument.proofs.Results.{written, writes_none, written_then, before_is}
+use Rattle.instrument.proofs.Registers.{get-end}
+use Rattle.instrument.proofs.Lives.{length-killed}
+use Rattle.instrument.proofs.Deaths.{bounded_killed, all_before, live_killed}
+use Rattle.instrument.proofs.Following.{standing_as, Later, Follows, GoesOn, Breaks, Continues, IsLeft, IsOver, IsUndefined}
+use Rattle.instrument.proofs.Births.{names_of, with_numbers, pointed_point, pointed_same}
+use Rattle.instrument.proofs.Blocks.{Meets}
+use Rattle.instrument.proofs.Numbers.{AreObjects}
+use Rattle.instrument.proofs.Parameters.{HoldInOrder, BearsAll, AllBorn, SomeFull, SomeUndefined, parameters_follow}
+use Rattle.instrument.proofs.Calls.{Even, Called, EndsRun, HasNoMeaning, AreOf}
 use Rattle.instrument.proofs.Calls as calls
 
 -- ---- marks don't matter
@@ -39,20 +44,15 @@ use Rattle.instrument.proofs.Calls as calls
 abbrev marked : State → List Mark → State
 marked s ms = record s { marks = ms }
 
-related_marked : (w : Setting) (slots : List Slot) (regs : List Value) (s : State) (ms : List Mark) → Related w slots regs s → Related w slots regs (marked s ms)
-related_marked w slots regs s ms h = record {
-  scope = h.scope;
-  calls = h.calls;
-  live = h.live;
-  outside = h.outside;
-  stacked = h.stacked;
-  apart = h.apart;
-  all = h.all;
-  registers = h.registers;
+meets_marked : (w : Setting) (h : Here) (spot : Spot) (low : ℕ) (bound : Bindings) (living : List ℕ) (regs : List Value) (s : State) (t : Target) (ms : List Mark) → Meets w h spot low bound living regs s t
+    → Meets w h spot low bound living regs (marked s ms) t
+meets_marked w h spot low bound living regs s t ms m = record {
+  standing = standing_as w h low low bound bound regs regs s (marked s ms) h.looped m.standing m.standing.anchored refl refl (omega arith) m.standing.bounded refl;
+  beside = record { store_is = m.beside.store_is; frames = m.beside.frames; steps = m.beside.steps; input = m.beside.input };
+  inside = m.inside;
+  outside = m.outside;
+  names = m.names;
 }
-
-beside_marked : (w : Setting) (slots : List Slot) (s : State) (ms : List Mark) (t : Target) → Beside w slots s t → Beside w slots (marked s ms) t
-beside_marked w slots s ms t b = record { long = b.long; live = b.live; frames = b.frames; steps = b.steps; input = b.input }
 
 -- ---- the end of a body
 
@@ -60,85 +60,87 @@ beside_marked w slots s ms t b = record { long = b.long; live = b.live; frames =
 abbrev pub zero_of : Function → Value
 zero_of f = zero_result over_blocks (result_of f.result)
 
--- outside all loops of a function, whose parameters these are
-abbrev pub at_body : List Slot → PlainType → Here
-at_body slots result = record { slots = slots; around = []; looped = false; loops = 0; result = result }
+-- outside all loops of a function, whose call began where so many blocks were born, and whose parameters have these
+abbrev pub at_body : ℕ → List LiveBlock → PlainType → Here
+at_body base blocks result = record { inner = blocks; outer = []; loop = base; looped = false; loops = 0; result = result }
 
--- where a call begins, with a frame
-module _ (w : Setting) (s from : State) (store : w.outside ≡ s.store) (active : w.active ≡ s.calls + 1) (f : Function) (ps : List Slot) (all_new : AllFrom (length s.store) ps) (n : ℕ) (longer : length s.store ≤ length from.store)
+-- where a call begins, with a frame, and where its body does
+module _ (w : Setting) (s from : State) (base : w.base ≡ length s.store) (around : w.around ≡ live_in s.store) (active : w.active ≡ s.calls + 1) (f : Function) (ps : List ℕ) (blocks : List LiveBlock) (n : ℕ) (leave : lives.Leaves ps (deaths ps))
+    (low : ℕ) (regs : List Value) (t0 : Target) (spot : Spot) (here : spot.inside ≡ ps) (bound : Bindings) (living : List ℕ) (m0 : Meets w (at_body w.base blocks f.result) spot low bound living regs from t0)
+    (longer : length s.store ≤ length from.store)
     (spent : from.steps ≤ s.steps) (output : from.output ≡ s.output) where
-  -- the state of the source with the frame
-  abbrev entered : State
-  entered = record s { calls = s.calls + 1; scope = [] }
-
   abbrev ended : Did → Result Target Value
-  ended q = then_do (then_do q (at_next (monitored.exec_all over_blocks [] (deaths (registers_of w ps)) w.calls n))) (at_return over_blocks (zero_of f))
+  ended q = then_do (then_do q (at_next (exec_all over_blocks w.globals (deaths ps) w.calls n))) (at_return over_blocks (zero_of f))
 
-  stacked : Stacked (length w.outside) (length entered.store) []
-  stacked = omega (arith, ap (λ l. length l) store)
+  are_new : AreFrom (length s.store) blocks
+  are_new = subst (λ n. AreFrom n blocks) base (subst (AreFrom w.base) (append-nil blocks) m0.standing.since_call)
 
-  module _ (to : State) (regs : List Value) (o : List ℕ) (m : Related w ps regs to) (l : Later ps from to o) where
-    long : length s.store ≤ length to.store
-    long = omega (arith, longer, l.longer)
+  module _ (to : State) (o : List ℕ) (l : Later from to o) where
+    live_is : live_in to.store ≡ blocks ++ live_in s.store
+    live_is = l.live ∙ m0.standing.live ∙ ap (λ bs. blocks ++ bs) around
 
-    behind : Related w [] regs (back_to entered to)
-    behind = related_behind w ps [] regs entered to (subst (λ vs. Related w vs regs to) (sym (append-nil ps)) m) refl (sym active) stacked all_new long
-
-    came_back : CameBack s (back_to s to) o
+    came_back : Later s (back_to s to) o
     came_back = record {
       scope = refl;
       calls = refl;
-      live = behind.live ∙ ap live_in store;
-      below = λ j lt. behind.outside j (omega (arith, lt, ap (λ l. length l) store)) ∙ ap (λ l. slice_get l j) store;
-      longer = omega (arith, long, length-killed (length s.store) to.store);
+      live = live_killed (length s.store) to.store blocks (live_in s.store) live_is are_new (all_before s.store);
+      longer = omega (arith, longer, l.longer, length-killed (length s.store) to.store);
+      bounded = bounded_killed (length s.store) to.store l.bounded;
       spent = omega (arith, spent, l.spent);
       output = l.output ∙ ap (λ x. x ++ o) output;
     }
 
-    even_there : (u : Target) → Beside w [] to u → Even (back_to s to) (left_frame over_blocks u)
+    even_there : (u : Target) → Beside w (kill_from w.base to.store) to u → Even (back_to s to) (left_frame over_blocks u)
     even_there u b = record {
-      long = b.long ∙ sym (length-killed (length s.store) to.store);
-      live = b.live ∙ sym behind.live;
+      store_is = b.store_is ∙ ap (λ i. kill_from i to.store) base;
       frames = ap (λ k. k - 1) (b.frames ∙ active) ∙ omega arith;
       steps = b.steps;
       input = b.input;
     }
 
-  pub function_ends : (r : Outcome (Unit {0})) (q : Did) → Follows w (at_body ps f.result) Next from r q → Called s f.result (restored s (returned_by f r)) (ended q)
-  function_ends r q (GoesOn to regs t o m b l e g) =
+  pub function_ends : (r : Outcome (Unit {0})) (q : Did) → Follows w (at_body w.base blocks f.result) low regs Next from r q → Called s f.result (restored s (returned_by f r)) (ended q)
+  function_ends r q (GoesOn to after t o same l b e g) =
       subst (λ x. Called s f.result (restored s (returned_by f x)) (ended q)) (sym e) (by f.result)
     where
-      dead : Dead w (ps ++ []) regs to n [] t (runs w n t (deaths (registers_of w ps)) regs)
-      dead = deaths_run w (ps ++ []) regs to n ps [] t m.all (subst (λ vs. Beside w vs to t) (sym (append-nil ps)) b)
+      dead : Target
+      dead = with_store (kill_from w.base t.mem.store) t
 
-      target_is : ended q ≡ Done (zero_of f) (left_frame over_blocks dead.to) o
+      beside_dead : Beside w (kill_from w.base to.store) to dead
+      beside_dead = record { store_is = ap (kill_from w.base) b.store_is; frames = b.frames; steps = b.steps; input = b.input }
+
+      dies : exec_all over_blocks w.globals (deaths ps) w.calls n after t ≡ Done (Next after) dead []
+      dies =
+          leave w.globals w.calls n w.base after t blocks w.around (ap live_in b.store_is ∙ l.live ∙ m0.standing.live) (subst (AreFrom w.base) (append-nil blocks) m0.standing.since_call) m0.standing.before_call
+          (subst (λ xs. lives.Point after xs blocks) here (pointed_point low after spot.inside blocks (pointed_same low low regs after spot.inside blocks (omega arith) same.below m0.inside)))
+
+      target_is : ended q ≡ Done (zero_of f) (left_frame over_blocks dead) o
       target_is =
           ap ended g
-          ∙ ap (λ d. then_do (writes o d) (at_return over_blocks (zero_of f))) dead.runs_to
-          ∙ ap (Done (zero_of f) (left_frame over_blocks dead.to)) (append-nil (o ++ []) ∙ append-nil o)
+          ∙ ap (λ d. then_do (writes o d) (at_return over_blocks (zero_of f))) dies
+          ∙ ap (Done (zero_of f) (left_frame over_blocks dead)) (append-nil (o ++ []) ∙ append-nil o)
 
       by : (k : PlainType) → Called s k (restored s (at_close f.close k to)) (ended q)
       by (Int k) = HasNoMeaning f.close (back_to s to) o refl (l.output ∙ ap (λ x. x ++ o) output) (record { rest = []; is = ap written target_is ∙ sym (append-nil o) })
       by (Ptr t) = HasNoMeaning f.close (back_to s to) o refl (l.output ∙ ap (λ x. x ++ o) output) (record { rest = []; is = ap written target_is ∙ sym (append-nil o) })
-      by _ = calls.Gives None (zero_of f) (back_to s to) (left_frame over_blocks dead.to) o tt tt (came_back to regs o m l) (even_there to regs o m l dead.to dead.beside) refl target_is
-  function_ends r q (Breaks to regs t o i m b l e g) = absurd cc
-  function_ends r q (Continues to regs t o i m b l e g) = absurd cc
-  function_ends r q (IsLeft None to regs t o i m b l e g) =
-      calls.Gives None (zero_of f) (back_to s to) (left_frame over_blocks t) o i tt (came_back to regs o m l) (even_there to regs o m l t b)
+      by _ = calls.Gives None (zero_of f) (back_to s to) (left_frame over_blocks dead) o tt tt (came_back to o l) (even_there to o l dead beside_dead) refl target_is
+  function_ends r q (Breaks to after t o i m l b e g) = absurd cc
+  function_ends r q (Continues to after t o i m l b e g) = absurd cc
+  function_ends r q (IsLeft None to t o i l b e g) =
+      calls.Gives None (zero_of f) (back_to s to) (left_frame over_blocks t) o i tt (came_back to o l) (even_there to o l t b)
       (ap (λ x. restored s (returned_by f x)) e)
       (ap ended g ∙ ap (Done (zero_of f) (left_frame over_blocks t)) (append-nil (o ++ []) ∙ append-nil o))
-  function_ends r q (IsLeft (Some z) to regs t o i m b l e g) =
-      calls.Gives (Some z) (Integer z) (back_to s to) (left_frame over_blocks t) o i refl (came_back to regs o m l) (even_there to regs o m l t b)
+  function_ends r q (IsLeft (Some v) to t o i l b e g) =
+      calls.Gives (Some v) v (back_to s to) (left_frame over_blocks t) o i refl (came_back to o l) (even_there to o l t b)
       (ap (λ x. restored s (returned_by f x)) e)
-      (ap ended g ∙ ap (Done (Integer z) (left_frame over_blocks t)) (append-nil (o ++ []) ∙ append-nil o))
+      (ap ended g ∙ ap (Done v (left_frame over_blocks t)) (append-nil (o ++ []) ∙ append-nil o))
   function_ends r q (IsOver x to o d e l g) =
       EndsRun x (back_to s to) o d (ap (λ r. restored s (returned_by f r)) e) (l ∙ ap (λ x. x ++ o) output) (ap ended g)
   function_ends r q (IsUndefined at to o e l ext) =
       HasNoMeaning at (back_to s to) o (ap (λ r. restored s (returned_by f r)) e) (l ∙ ap (λ x. x ++ o) output)
       (extends_trans o (written q) (written (ended q)) ext
-      (extends_trans (written q) (written (then_do q (at_next (monitored.exec_all over_blocks [] (deaths (registers_of w ps)) w.calls n)))) (written (ended q))
-      (written_then q (at_next (monitored.exec_all over_blocks [] (deaths (registers_of w ps)) w.calls n)))
-      (written_then (then_do q (at_next (monitored.exec_all over_blocks [] (deaths (registers_of w ps)) w.calls n))) (at_return over_blocks (zero_of f)))))
+      (extends_trans (written q) (written (then_do q (at_next (exec_all over_blocks w.globals (deaths ps) w.calls n)))) (written (ended q))
+      (written_then q (at_next (exec_all over_blocks w.globals (deaths ps) w.calls n)))
+      (written_then (then_do q (at_next (exec_all over_blocks w.globals (deaths ps) w.calls n))) (at_return over_blocks (zero_of f)))))
 
 -- ---- the registers in which a call begins
 
@@ -151,31 +153,25 @@ registers_full rs args le =
     let c : length first ≡ length rs = length-map rs _ in
     omega (arith, a, b, c, le)
 
--- parameters have the first registers
-abbrev pub InOrder : List ℕ → ℕ → List Declaration → Type 0
-InOrder numbers j [] = Unit {0}
-InOrder numbers j (d ∷ ds) = (register_of numbers (number_of d) ≡ j) × InOrder numbers (suc j) ds
-
-abbrev pub parameter_ints : List Declaration → List CInt
-parameter_ints ds = map (λ (d : Declaration). int_of d.ctype) ds
-
-arguments_bound : (w : Setting) (front rest : List Value) (ds : List Declaration) (zs : List ℤ) → InOrder w.numbers (length front) ds → AllFit (parameter_ints ds) zs → Bound w (front ++ (integers zs ++ rest)) ds zs
-arguments_bound w front rest [] [] h f = tt
-arguments_bound w front rest [] (z ∷ zs) h f = absurd f
-arguments_bound w front rest (d ∷ ds) [] h f = absurd f
-arguments_bound w front rest (d ∷ ds) (z ∷ zs) h f =
-    let more = front ++ Integer z ∷ [] in
-    let long : length more ≡ suc (length front) = length-append front (Integer z ∷ []) ∙ omega arith in (
-      f.0,
-      ap (slice_get (front ++ (integers (z ∷ zs) ++ rest))) h.0 ∙ get-end front (integers zs ++ rest) (Integer z),
-      subst (λ l. Bound w l ds zs) (append_assoc front (Integer z ∷ []) (integers zs ++ rest)) (arguments_bound w more rest ds zs (subst (λ i. InOrder w.numbers i ds) (sym long) h.1) f.1),
+-- the first registers hold the arguments
+arguments_held : (front rest : List Value) (ds : List Declaration) (vs : List Value) → AreOf (types_of ds) vs → HoldInOrder (front ++ (vs ++ rest)) (length front) ds vs
+arguments_held front rest [] [] h = tt
+arguments_held front rest [] (v ∷ vs) h = absurd h
+arguments_held front rest (d ∷ ds) [] h = absurd h
+arguments_held front rest (d ∷ ds) (v ∷ vs) h =
+    let more = front ++ v ∷ [] in
+    let long : length more ≡ suc (length front) = length-append front (v ∷ []) ∙ omega arith in (
+      h.0,
+      get-end front (vs ++ rest) v,
+      subst (λ i. HoldInOrder (front ++ (v ∷ (vs ++ rest))) i ds vs) long
+          (subst (λ l. HoldInOrder l (length more) ds vs) (append_assoc front (v ∷ []) (vs ++ rest)) (arguments_held more rest ds vs h.1)),
     )
 
-fit_long : (ks : List CInt) (zs : List ℤ) → AllFit ks zs → length zs ≡ length ks
-fit_long [] [] h = refl
-fit_long [] (z ∷ zs) h = absurd h
-fit_long (k ∷ ks) [] h = absurd h
-fit_long (k ∷ ks) (z ∷ zs) h = ap suc (fit_long ks zs h.1)
+pub of_long : (ds : List Declaration) (vs : List Value) → AreOf (types_of ds) vs → length vs ≡ length ds
+of_long [] [] h = refl
+of_long [] (v ∷ vs) h = absurd h
+of_long (d ∷ ds) [] h = absurd h
+of_long (d ∷ ds) (v ∷ vs) h = ap suc (of_long ds vs h.1)
 
 -- ---- a call
 
@@ -184,7 +180,10 @@ abbrev framed_by : Bool → State → Outcome (Unit {0})
 framed_by b s = cond b (Normal tt (record s { calls = s.calls + 1 })) (Stop (Over (Full segment.Frames)) s)
 
 -- what a definition of the program becomes, and its calls
-module _ (p : TranslationUnit) (main index : ℕ) (f : Function) (call : Callee) (calls_below : monitored.Calls over_blocks) (n : ℕ) where
+module _ (p : TranslationUnit) (globals : List Value) (main index : ℕ) (f : Function) (call : Callee) (calls_below : monitored.Calls over_blocks) (n : ℕ) where
+  abbrev T : Tables
+  T = tables_of p
+
   abbrev pub function : MonFunction
   function = function_of p main index f
 
@@ -192,104 +191,149 @@ module _ (p : TranslationUnit) (main index : ℕ) (f : Function) (call : Callee)
   how_many = length function.parameters + length function.registers
 
   abbrev pub setting : Store → ℕ → Setting
-  setting outside active = record { call = call; calls = calls_below; numbers = variable_numbers f; registers = how_many; outside = outside; active = active }
+  setting store active = record {
+    unit = p;
+    call = call;
+    calls = calls_below;
+    globals = globals;
+    registers = how_many;
+    base = length store;
+    around = live_in store;
+    active = active;
+  }
 
-  abbrev pub parameter_slots : Store → List Slot
-  parameter_slots outside = slots_born (length outside) f.params []
+  -- where the body stands, with so many parameters, whose blocks are these
+  abbrev pub count : ℕ
+  count = length f.params
+
+  abbrev pub spot_of_body : Spot
+  spot_of_body = record { loops = 0; inside = with_born count f.params []; outside = [] }
+
+  abbrev pub names_around : List ℕ
+  names_around = names_of (global_scope 1 p.globals)
+
+  abbrev pub MeetsBody : Store → ℕ → List LiveBlock → List Value → State → Target → Type 0
+  MeetsBody store active blocks regs s t =
+      Meets (setting store active) (at_body (length store) blocks f.result) spot_of_body (count + count) (registers_of_body f).bound (with_numbers f.params names_around) regs s t
 
   abbrev pub body_code : MonStatements
-  body_code = body_part p (variable_numbers f) f.params (variable_types f) f.body
+  body_code = body_part p f.params (registers_of_body f) f.body
 
   -- the body does the same on both sides, from its parameters on
   abbrev pub BodyFollows : Type 0
-  BodyFollows = (outside : Store) (active : ℕ) (regs : List Value) (s : State) (t : Target) → Related (setting outside active) (parameter_slots outside) regs s → Beside (setting outside active) (parameter_slots outside) s t
-      → AllSet s.store (parameter_slots outside) → s.steps ≤ n → Follows (setting outside active) (at_body (parameter_slots outside) f.result) Next s (body_with no_tables f.body call (suc n) s) (runs (setting outside active) n t body_code regs)
+  BodyFollows = (store : Store) (active : ℕ) (blocks : List LiveBlock) (regs : List Value) (s : State) (t : Target) → MeetsBody store active blocks regs s t → s.steps ≤ n
+      → Follows (setting store active) (at_body (length store) blocks f.result) (count + count) regs Next s (body_with T f.body call (suc n) s) (runs (setting store active) n t body_code regs)
 
-  module _ (enough : length (variable_numbers f) + length (variable_numbers f) ≤ how_many) (can : AllCanBeBorn (variable_numbers f) [] f.params) (in_order : InOrder (variable_numbers f) 0 f.params)
-      (few : length f.params ≤ length (variable_numbers f)) (body : BodyFollows) (zs : List ℤ) (fit : AllFit (parameter_ints f.params) zs) (at : Place) where
+  module _
+      (anchored_globals : (regs : List Value) → Anchored count [] regs (global_scope 1 p.globals)) (enough : count + count ≤ how_many) (objects : AreObjects f.params) (body : BodyFollows) (vs : List Value) (types : AreOf (types_of f.params) vs)
+      (at : Place) where
     abbrev opens : List Value
-    opens = registers over_blocks (function.parameters ++ function.registers) (integers zs)
+    opens = registers over_blocks (function.parameters ++ function.registers) vs
 
     opens_long : length opens ≡ how_many
     opens_long =
         let a = length-append function.parameters function.registers in
-        let c : length (integers zs) ≡ length zs = length-map zs (λ z. Integer z) in
-        let d : length (parameter_ints f.params) ≡ length f.params = length-map f.params (λ (d : Declaration). int_of d.ctype) in
-        registers_full (function.parameters ++ function.registers) (integers zs) (omega (arith, a, c, d, fit_long (parameter_ints f.params) zs fit, enough, few)) ∙ a
+        registers_full (function.parameters ++ function.registers) vs (omega (arith, a, of_long f.params vs types, enough)) ∙ a
 
-    bound : (w : Setting) → w.numbers ≡ variable_numbers f → Bound w opens f.params zs
-    bound w same = arguments_bound w [] (drop (length (integers zs)) (zeros over_blocks (function.parameters ++ function.registers))) f.params zs (subst (λ l. InOrder l 0 f.params) (sym same) in_order) fit
+    holds : HoldInOrder opens 0 f.params vs
+    holds = arguments_held [] (drop (length vs) (zeros over_blocks (function.parameters ++ function.registers))) f.params vs types
 
     -- the source's call with its step and its frame after it, and the target's
     abbrev inside_source : Evaluation Value
-    inside_source = frame >> alone [] >> parameters no_tables at f.params (integers zs) >> mark None >> λ s. returned_by f (body_with no_tables f.body call (suc n) s)
+    inside_source = frame >> alone (global_scope 1 p.globals) >> parameters T at f.params vs >> mark None >> λ s. returned_by f (body_with T f.body call (suc n) s)
 
     abbrev inside_target : Target → Result Target Value
-    inside_target t = body_runs over_blocks [] (Some function) calls_below n (integers zs) t
+    inside_target t = body_runs over_blocks globals (Some function) calls_below n vs t
 
-    module _ (s : State) (t : Target) (even : Even s t) (le : s.steps ≤ n) where
+    abbrev first_table : RegisterTable
+    first_table = with_kinds (value_types f.params) no_registers
+
+    first_long : length first_table.kinds ≡ count
+    first_long = length-map f.params _
+
+    module _ (s : State) (t : Target) (even : Even s t) (bounded : Bounded s.store) (le : s.steps ≤ n) where
       abbrev w : Setting
       w = setting s.store (s.calls + 1)
 
-      abbrev ps : List Slot
-      ps = parameter_slots s.store
-
       abbrev entered_source : State
-      entered_source = record s { calls = s.calls + 1; scope = []; marks = [] }
+      entered_source = record s { calls = s.calls + 1; scope = global_scope 1 p.globals; marks = [] }
 
       abbrev entered_target : Target
       entered_target = record t { mem = record t.mem { frames = t.mem.frames + 1 } }
 
-      related_first : Related w [] opens entered_source
-      related_first = record {
-        scope = refl;
-        calls = refl;
-        live = refl;
-        outside = λ j lt. refl;
-        stacked = omega arith;
-        apart = tt;
-        all = tt;
-        registers = opens_long;
+      abbrev first_spot : Spot
+      first_spot = record { loops = 0; inside = []; outside = [] }
+
+      meets_first : Meets w (at_body (length s.store) [] f.result) first_spot count first_table.bound names_around opens entered_source entered_target
+      meets_first = record {
+        standing = record {
+          anchored = anchored_globals opens;
+          active = refl;
+          live = refl;
+          since_loop = tt;
+          before_loop = all_before s.store;
+          since_call = tt;
+          before_call = all_before s.store;
+          nested = omega arith;
+          longer = omega arith;
+          bounded = bounded;
+          registers = opens_long;
+        };
+        beside = record { store_is = even.store_is; frames = ap (λ k. k + 1) even.frames; steps = even.steps; input = even.input };
+        inside = tt;
+        outside = tt;
+        names = refl;
       }
 
-      beside_first : Beside w [] entered_source entered_target
-      beside_first = record { long = even.long; live = even.live; frames = ap (λ k. k + 1) even.frames; steps = even.steps; input = even.input }
-
       abbrev finish : Outcome (Unit {0}) → Outcome Value
-      finish r = restored s (on_outcome (on_outcome r (λ _. mark None)) (λ _ s. returned_by f (body_with no_tables f.body call (suc n) s)))
+      finish r = restored s (on_outcome (on_outcome r (λ _. mark None)) (λ _ s. returned_by f (body_with T f.body call (suc n) s)))
+
+      abbrev dying : Did → Did
+      dying q = then_do q (at_next (exec_all over_blocks globals (deaths (with_born count f.params [])) calls_below n))
 
       abbrev tail : Did → Result Target Value
-      tail q = then_do (then_do q (at_next (λ r u. then_do (runs w n u body_code r) (at_next (monitored.exec_all over_blocks [] (deaths (with_born w.numbers f.params [])) w.calls n))))) (at_return over_blocks (zero_of f))
+      tail q = then_do (then_do q (at_next (λ r u. dying (runs w n u body_code r)))) (at_return over_blocks (zero_of f))
 
       -- after the frame
-      framed : BearsAll w [] opens entered_source entered_target n at f.params (integers zs) → Called s f.result (finish (parameters no_tables at f.params (integers zs) entered_source))
-          (tail (runs w n entered_target (target.births w.numbers f.params) opens))
-      framed (OneIsFull g to e o x) =
+      framed : BearsAll w (at_body (length s.store) [] f.result) first_spot count first_table names_around at f.params vs entered_source (runs w n entered_target (target.parameters p count 0 f.params) opens)
+          → Called s f.result (finish (parameters T at f.params vs entered_source)) (tail (runs w n entered_target (target.parameters p count 0 f.params) opens))
+      framed (SomeFull g to e o x) =
           EndsRun (Full g) (back_to s to) [] (λ h. absurd cc) (ap finish e) (o ∙ sym (append-nil s.output)) (ap tail x)
-      framed (AllBorn to regs u e x m b a l) =
+      framed (SomeUndefined x to e o) =
+          HasNoMeaning x (back_to s to) [] (ap finish e) (o ∙ sym (append-nil s.output)) (record { rest = written (tail (runs w n entered_target (target.parameters p count 0 f.params) opens)); is = refl })
+      framed (AllBorn to regs u blocks e x m l) =
           let ms : List Mark = record { label = None; scope = to.scope; store = to.store } ∷ to.marks in
-          let body_did = body s.store (s.calls + 1) regs (marked to ms) u (related_marked w ps regs to ms m) (beside_marked w ps to ms u b) a (omega (arith, le, l.spent)) in
+          let m2 = meets_marked w (at_body (length s.store) blocks f.result) spot_of_body (count + count) (registers_of_body f).bound (with_numbers f.params names_around) regs to u ms m in
+          let body_did = body s.store (s.calls + 1) blocks regs (marked to ms) u m2 (omega (arith, le, l.spent)) in
           let did = runs w n u body_code regs in
-          subst (λ r. Called s f.result r (tail (runs w n entered_target (target.births w.numbers f.params) opens))) (sym (ap finish e))
+          subst (λ r. Called s f.result r (tail (runs w n entered_target (target.parameters p count 0 f.params) opens))) (sym (ap finish e))
           (subst (λ q. Called s f.result (finish (Normal tt to)) q) (sym (ap tail x))
-          (subst (λ q. Called s f.result (finish (Normal tt to)) (then_do q (at_return over_blocks (zero_of f)))) (sym (writes_none (then_do did (at_next (monitored.exec_all over_blocks [] (deaths (with_born w.numbers f.params [])) w.calls n)))))
-          (subst (λ rs. Called s f.result (finish (Normal tt to)) (then_do (then_do did (at_next (monitored.exec_all over_blocks [] (deaths rs) w.calls n))) (at_return over_blocks (zero_of f)))) (sym (with_born-slots w (length s.store) f.params []))
-          (function_ends w s (marked to ms) refl refl f ps (born_are_new (length s.store) f.params) n l.longer l.spent (l.output ∙ append-nil s.output) _ did body_did))))
+          (subst (λ q. Called s f.result (finish (Normal tt to)) (then_do q (at_return over_blocks (zero_of f)))) (sym (writes_none (dying did)))
+          (function_ends w s (marked to ms) refl refl refl f (with_born count f.params []) blocks n (deaths_leave (with_born count f.params [])) (count + count) regs u spot_of_body refl (registers_of_body f).bound
+          (with_numbers f.params names_around) m2 l.longer
+          l.spent l.output _ did body_did)))
+
+      code_runs : runs w n entered_target function.body opens ≡ then_do (runs w n entered_target (target.parameters p count 0 f.params) opens) (at_next (λ r u. dying (runs w n u body_code r)))
+      code_runs =
+          before_is globals (target.parameters p count 0 f.params) (before body_code (deaths (with_born count f.params []))) calls_below n opens entered_target
+          ∙ ap (λ g. then_do (runs w n entered_target (target.parameters p count 0 f.params) opens) (at_next g)) (λ i r u. before_is globals body_code (deaths (with_born count f.params [])) calls_below n r u i)
 
       -- the frame is there on both sides, or on none
       abbrev source_with : Bool → Outcome Value
       source_with b =
-          restored s (on_outcome (on_outcome (on_outcome (on_outcome (framed_by b s) (λ _. alone [])) (λ _. parameters no_tables at f.params (integers zs))) (λ _. mark None)) (λ _ s. returned_by f (body_with no_tables f.body call (suc n) s)))
+          restored s (on_outcome (on_outcome (on_outcome (on_outcome (framed_by b s) (λ _. alone (global_scope 1 p.globals))) (λ _. parameters T at f.params vs)) (λ _. mark None)) (λ _ s. returned_by f (body_with T f.body call (suc n) s)))
 
       abbrev target_with : Bool → Result Target Value
-      target_with b = then_do (replied over_blocks (if b then Gives (Integer (pos 0)) (record t.mem { frames = t.mem.frames + 1 }) else IsFull segment.Frames) t) (λ v u. then_do (monitored.exec_all over_blocks [] function.body calls_below n opens u)
+      target_with b = then_do (replied over_blocks (if b then Gives (over_blocks.number (pos 0)) (record t.mem { frames = t.mem.frames + 1 }) else IsFull segment.Frames) t)
+          (λ v u. then_do (exec_all over_blocks globals function.body calls_below n opens u)
           (at_return over_blocks (zero_of f)))
 
       both : (b : Bool) → Called s f.result (source_with b) (target_with b)
       both true =
-          subst (λ q. Called s f.result (source_with true) q) (sym (writes_none (then_do (monitored.exec_all over_blocks [] function.body calls_below n opens entered_target) (at_return over_blocks (zero_of f)))))
-          (subst (λ q. Called s f.result (source_with true) (then_do q (at_return over_blocks (zero_of f)))) (sym (alive_runs w n entered_target f.params body_code opens))
-          (framed (parameters_follow w n enough at f.params zs [] opens entered_source entered_target related_first beside_first can (bound w refl) tt)))
+          subst (λ q. Called s f.result (source_with true) q) (sym (writes_none (then_do (exec_all over_blocks globals function.body calls_below n opens entered_target) (at_return over_blocks (zero_of f)))))
+          (subst (λ q. Called s f.result (source_with true) (then_do q (at_return over_blocks (zero_of f)))) (sym code_runs)
+          (framed (parameters_follow w n at f.params vs (at_body (length s.store) [] f.result) first_spot count 0 first_table names_around opens entered_source entered_target first_long meets_first objects holds (omega arith)
+          enough)))
       both false = EndsRun (Full segment.Frames) (back_to s s) [] (λ h. absurd cc) refl (sym (append-nil s.output)) (ap (λ k. Stops (Full segment.Frames) k []) even.steps)
 
       pub called_inside : Called s f.result (within inside_source s) (inside_target t)
@@ -301,16 +345,17 @@ module _ (p : TranslationUnit) (main index : ℕ) (f : Function) (call : Callee)
 
     stepped : (s : State) (k : ℕ) (r : Outcome Value) (q : Result Target Value) → s.steps ≡ suc k → Called (with_step s k) f.result r q → Called s f.result r q
     stepped s k r q e (calls.Gives z v to u o i x c d a b) =
-        calls.Gives z v to u o i x (record { scope = c.scope; calls = c.calls; live = c.live; below = c.below; longer = c.longer; spent = omega (arith, e, c.spent); output = c.output }) d a b
+        calls.Gives z v to u o i x (record { scope = c.scope; calls = c.calls; live = c.live; longer = c.longer; bounded = c.bounded; spent = omega (arith, e, c.spent); output = c.output }) d a b
     stepped s k r q e (EndsRun x to o d a l b) = EndsRun x to o d a l b
     stepped s k r q e (HasNoMeaning x to o a l b) = HasNoMeaning x to o a l b
 
-    pub call_follows : (s : State) (t : Target) → Even s t → s.steps ≤ suc n → Called s f.result (call_with no_tables [] (Some f) call (suc n) at (integers zs) s) (monitored.step_from t.steps (λ k. inside_target (record t { steps = k })))
-    call_follows s t even le =
-        subst (λ m. Called s f.result (call_with no_tables [] (Some f) call (suc n) at (integers zs) s) (monitored.step_from m (λ k. inside_target (record t { steps = k })))) (sym even.steps) (by s.steps refl)
+    pub call_follows : (s : State) (t : Target) → Even s t → Bounded s.store → s.steps ≤ suc n
+        → Called s f.result (call_with T (global_scope 1 p.globals) (Some f) call (suc n) at vs s) (monitored.step_from t.steps (λ k. inside_target (record t { steps = k })))
+    call_follows s t even bounded le =
+        subst (λ m. Called s f.result (call_with T (global_scope 1 p.globals) (Some f) call (suc n) at vs s) (monitored.step_from m (λ k. inside_target (record t { steps = k })))) (sym even.steps) (by s.steps refl)
       where
         by : (m : ℕ) → s.steps ≡ m → Called s f.result (on_outcome (step_from m s) (λ _. within inside_source)) (monitored.step_from m (λ k. inside_target (record t { steps = k })))
         by zero e = EndsRun Spent s [] (λ h. absurd cc) refl (sym (append-nil s.output)) (ap (λ k. Stops Spent k []) (sym e))
         by (suc k) e =
             stepped s k _ _ e
-            (called_inside (with_step s k) (record t { steps = k }) (record { long = even.long; live = even.live; frames = even.frames; steps = refl; input = even.input }) (omega (arith, e, le)))
+            (called_inside (with_step s k) (record t { steps = k }) (record { store_is = even.store_is; frames = even.frames; steps = refl; input = even.input }) bounded (omega (arith, e, le)))

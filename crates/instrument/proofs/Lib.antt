@@ -1,42 +1,54 @@
 -- the code is the translation
 pub mod StatementTrees
 pub mod Declarations
+pub mod Entries
 pub mod Definitions
--- values
-pub mod Variables
+-- the relation between a call and its translation, and what goes on from part to part
+pub mod Standing
+pub mod Registers
 pub mod Results
+pub mod Following
+pub mod Calls
+-- values
+pub mod Anchors
+pub mod Bounds
 pub mod Integers
 pub mod Values
 pub mod ExpressionTypes
 pub mod Purity
+pub mod Scenes
 pub mod Evaluating
 pub mod Expressions
-pub mod Sight
-pub mod Declared
-pub mod Numbers
 pub mod Terms
 pub mod Asserts
+pub mod FullExpressions
+pub mod Effects
+pub mod Library
 -- statements and runs
-pub mod Following
+pub mod Lives
+pub mod Deaths
 pub mod Births
 pub mod Blocks
-pub mod Effects
-pub mod FullExpressions
 pub mod Loops
+pub mod Declared
+pub mod Numbers
+pub mod Sight
 pub mod Statements
-pub mod Calls
 pub mod Parameters
 pub mod Functions
-pub mod Library
 pub mod Programs
+pub mod Resolved
 pub mod Bodies
 pub mod Callees
 pub mod Correct
 -- validity
+pub mod Objects
+pub mod Tables
 pub mod Typed
 pub mod Depths
 pub mod Names
 pub mod ValidSetups
+pub mod ValidAsserts
 pub mod ValidEffects
 pub mod ValidBlocks
 pub mod ValidStatements

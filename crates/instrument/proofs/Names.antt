@@ -10,9 +10,11 @@ use Rattle.std.proofs.lemmas.Nat.{mod_below}
 use Rattle.std.proofs.lemmas.Slice.Eq.{bytes_eq-Decides}
 use Rattle.std.proofs.Math.Nat.{min-le_left}
 use Rattle.c_model.specs.Characters.{is_digit, is_part}
-use Rattle.mon_syntax.specs.Names.{IsFreeName, is_reserved, begins_name}
+use Rattle.mon_syntax.specs.declared.tree.MonType.{MonType}
+use Rattle.mon_syntax.specs.declared.tree.MonType.TheVariants.{I8, U8, I16, U16, I32, U32, I64, U64, I128, Ptr}
+use Rattle.mon_syntax.specs.Names.{IsFreeName, is_reserved}
 use Rattle.mon_syntax.specs.Names as words
-use Rattle.instrument.specs.Translation.{end_label, next_label, register_name, pointer_name, temporary_name, function_name}
+use Rattle.instrument.specs.Translation.{end_label, next_label, register_name, pointer_name, temporary_name, function_name, name_of_register}
 
 -- ---- decimal numbers
 
@@ -225,13 +227,54 @@ temporary_is_free k le =
 pub temporaries_differ : (j k : ℕ) → IsNumber j → IsNumber k → (j ≡ k → ⊥) → bytes_eq (temporary_name j) (temporary_name k) ≡ false
 temporaries_differ j k lj lk differ = unequal (temporary_name j) (temporary_name k) (λ e. differ (decimal_injective j k lj lk (ap (drop 1) e)))
 
--- ---- they have letters of their own
+-- ---- registers that are no arguments
 
-pub pointer_no_value : (j k : ℕ) (name : List ℕ) → bytes_eq (pointer_name j) (register_name k name) ≡ false
-pointer_no_value j k name = refl
+-- they are named by their numbers, pointers by a letter of their own
+pub named_free : (k : ℕ) (t : MonType) → IsNumber k → IsFreeName (name_of_register k t)
+named_free k I8 le = temporary_is_free k le
+named_free k U8 le = temporary_is_free k le
+named_free k I16 le = temporary_is_free k le
+named_free k U16 le = temporary_is_free k le
+named_free k I32 le = temporary_is_free k le
+named_free k U32 le = temporary_is_free k le
+named_free k I64 le = temporary_is_free k le
+named_free k U64 le = temporary_is_free k le
+named_free k I128 le = temporary_is_free k le
+named_free k Ptr le = pointer_is_free k le
 
-pub temporary_no_value : (j k : ℕ) (name : List ℕ) → bytes_eq (temporary_name j) (register_name k name) ≡ false
-temporary_no_value j k name = refl
+-- what a register that is no argument is named
+pub data IsNamed (k : ℕ) (t : MonType) : Type 0 where
+  AsPointer : name_of_register k t ≡ pointer_name k → IsNamed k t
+  AsTemporary : name_of_register k t ≡ temporary_name k → IsNamed k t
 
-pub temporary_no_pointer : (j k : ℕ) → bytes_eq (temporary_name j) (pointer_name k) ≡ false
-temporary_no_pointer j k = refl
+pub is_named : (k : ℕ) (t : MonType) → IsNamed k t
+is_named k I8 = AsTemporary refl
+is_named k U8 = AsTemporary refl
+is_named k I16 = AsTemporary refl
+is_named k U16 = AsTemporary refl
+is_named k I32 = AsTemporary refl
+is_named k U32 = AsTemporary refl
+is_named k I64 = AsTemporary refl
+is_named k U64 = AsTemporary refl
+is_named k I128 = AsTemporary refl
+is_named k Ptr = AsPointer refl
+
+pub named_differ : (j k : ℕ) (t u : MonType) → IsNumber j → IsNumber k → (j ≡ k → ⊥) → bytes_eq (name_of_register j t) (name_of_register k u) ≡ false
+named_differ j k t u lj lk differ = by (is_named j t) (is_named k u)
+  where
+    both : (a b : List ℕ) → name_of_register j t ≡ a → name_of_register k u ≡ b → bytes_eq a b ≡ false → bytes_eq (name_of_register j t) (name_of_register k u) ≡ false
+    both a b x y e = ap (λ w. bytes_eq w (name_of_register k u)) x ∙ ap (bytes_eq a) y ∙ e
+
+    by : IsNamed j t → IsNamed k u → bytes_eq (name_of_register j t) (name_of_register k u) ≡ false
+    by (AsPointer x) (AsPointer y) = both (pointer_name j) (pointer_name k) x y (pointers_differ j k lj lk differ)
+    by (AsPointer x) (AsTemporary y) = both (pointer_name j) (temporary_name k) x y refl
+    by (AsTemporary x) (AsPointer y) = both (temporary_name j) (pointer_name k) x y refl
+    by (AsTemporary x) (AsTemporary y) = both (temporary_name j) (temporary_name k) x y (temporaries_differ j k lj lk differ)
+
+-- and have letters that arguments haven't
+pub named_no_value : (j k : ℕ) (t : MonType) (name : List ℕ) → bytes_eq (name_of_register j t) (register_name k name) ≡ false
+named_no_value j k t name = by (is_named j t)
+  where
+    by : IsNamed j t → bytes_eq (name_of_register j t) (register_name k name) ≡ false
+    by (AsPointer x) = ap (λ w. bytes_eq w (register_name k name)) x
+    by (AsTemporary x) = ap (λ w. bytes_eq w (register_name k name)) x

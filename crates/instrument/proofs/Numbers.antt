@@ -1,20 +1,21 @@
--- Declarations of a function have numbers of their own, so that each variable has its register, and none hides another.
-use Rattle.std.proofs.Common.{◌≡◌, ℕ, suc, ◌<◌, ◌≤◌, true, false, cond, nat_eq, List, [], ◌∷◌, ◌++◌, length, length-append, map, Some, refl, ap, ◌∙◌, subst, arith, append_assoc}
+-- Declarations of a function have numbers of their own, so that none hides another.
+use Rattle.std.proofs.Common.{◌≡◌, ℕ, suc, ◌^◌, ◌<◌, ◌≤◌, true, false, nat_eq, List, [], ◌∷◌, ◌++◌, map, refl, sym, subst, arith}
 use Rattle.std.proofs.lemmas.List.{map-append}
-use Rattle.std.proofs.lemmas.Bool.{eq-eqb}
 use Rattle.std.proofs.lemmas.Bool.Decides.{nat_tests}
-use Rattle.std.specs.Prelude.{slice_get}
+use Rattle.c_syntax.specs.declared.types.CInt.{CInt}
+use Rattle.c_syntax.specs.declared.types.CInt.TheVariants.{I8, U8, I16, U16, I32, U32, I64, U64}
 use Rattle.c_syntax.specs.Ctypes.{PlainType, Int}
+use Rattle.c_syntax.specs.Programs.{StructType}
 use Rattle.c_syntax.specs.Statements.{Declaration, Statement, Empty, Eval, Block, If, While, Do, For, Break, Continue, Return, ElsePart, NoElse, Else, ForFirst, NoFirst, First, Declare, Run, Asserts, BlockItems, NoItem, Then}
+use Rattle.c_model.specs.Layouts.{size_of}
 use Rattle.c_model.specs.Meaning.{declared_in, declared_first}
 use Rattle.c_model.specs.Formed.{number_of, Ascend, declared_within, declared_in_else, declared_in_first, declared_in_items}
 use Rattle.c_model.specs.Typing.{Scopes, Around, in_loop, inner, with_object, with_objects, is_object_type, behind_first}
 use Rattle.c_model.specs.ProgramTyping.{with_parameter}
 use Rattle.c_model.specs.WellTypedPrograms.{AreDeclared, AreParameters, StatementTyped, ElseTyped, ItemsTyped, FirstTyped}
-use Rattle.track_scopes.specs.Blocks.{register_of}
-use Rattle.instrument.proofs.Births.{int_of, Absent, AllCanBeBorn}
-use Rattle.instrument.proofs.Declared.{with_numbers, CanDeclare, ElseCanDeclare, ItemsCanDeclare}
-use Rattle.instrument.proofs.Functions.{InOrder}
+use Rattle.track_scopes.specs.Blocks.{AreSmall}
+use Rattle.instrument.proofs.Births.{with_numbers}
+use Rattle.instrument.proofs.Declared.{Absent, AreAbsent, CanDeclare, ElseCanDeclare, ItemsCanDeclare}
 
 abbrev pub numbers_in : List Declaration → List ℕ
 numbers_in ds = map number_of ds
@@ -59,71 +60,6 @@ to_higher : (low middle high : ℕ) (ns : List ℕ) → middle ≤ high → Betw
 to_higher low middle high [] le h = omega (arith, le, h)
 to_higher low middle high (n ∷ ns) le h = (h.0, to_higher (suc n) middle high ns le h.1)
 
--- ---- registers of declarations
-
--- a number has its place in the list
-abbrev pub Listed : List ℕ → Declaration → Type 0
-Listed numbers d = slice_get numbers (register_of numbers (number_of d)) ≡ Some (number_of d)
-
-abbrev pub AllListed : List ℕ → List Declaration → Type 0
-AllListed numbers [] = Unit {0}
-AllListed numbers (d ∷ ds) = Listed numbers d × AllListed numbers ds
-
-pub listed_front : (numbers : List ℕ) (ds es : List Declaration) → AllListed numbers (ds ++ es) → AllListed numbers ds
-listed_front numbers [] es h = tt
-listed_front numbers (d ∷ ds) es h = (h.0, listed_front numbers ds es h.1)
-
-pub listed_back : (numbers : List ℕ) (ds es : List Declaration) → AllListed numbers (ds ++ es) → AllListed numbers es
-listed_back numbers [] es h = h
-listed_back numbers (d ∷ ds) es h = listed_back numbers ds es h.1
-
--- where the numbers in front are less
-abbrev pub AllLess : ℕ → List ℕ → Type 0
-AllLess n [] = Unit {0}
-AllLess n (m ∷ ms) = (m < n) × AllLess n ms
-
-less_more : (n m : ℕ) (ms : List ℕ) → n ≤ m → AllLess n ms → AllLess m ms
-less_more n m [] le h = tt
-less_more n m (i ∷ ms) le h = (omega (arith, le, h.0), less_more n m ms le h.1)
-
-less_end : (n : ℕ) (ms : List ℕ) (m : ℕ) → m < n → AllLess n ms → AllLess n (ms ++ m ∷ [])
-less_end n [] m lt h = (lt, tt)
-less_end n (i ∷ ms) m lt h = (h.0, less_end n ms m lt h.1)
-
-place_is : (front rest : List ℕ) (n : ℕ) → AllLess n front → register_of (front ++ n ∷ rest) n ≡ length front
-place_is [] rest n h = ap (λ t. cond t 0 (suc (register_of rest n))) (eq-eqb n n refl)
-place_is (m ∷ front) rest n h =
-    let lt = h.0 in
-    let differs : nat_eq m n ≡ false = grind (arith, nat_tests) in
-    ap (λ t. cond t 0 (suc (register_of (front ++ n ∷ rest) n))) differs ∙ ap suc (place_is front rest n h.1)
-
-get_place : (front rest : List ℕ) (n : ℕ) → slice_get (front ++ n ∷ rest) (length front) ≡ Some n
-get_place [] rest n = refl
-get_place (m ∷ front) rest n = get_place front rest n
-
--- declarations in their order, after these numbers
-pub record ArePlaced (numbers : List ℕ) (j : ℕ) (ds : List Declaration) : Type 0 where
-  pub listed : AllListed numbers ds
-  pub in_order : InOrder numbers j ds
-
-pub placed : (front : List ℕ) (ds : List Declaration) (low high : ℕ) → AllLess low front → Between low (numbers_in ds) high → ArePlaced (front ++ numbers_in ds) (length front) ds
-placed front [] low high less h = record { listed = tt; in_order = tt }
-placed front (d ∷ ds) low high less h =
-    let n = number_of d in
-    let below : AllLess n front = less_more low n front h.0 less in
-    let whole : front ++ n ∷ [] ++ numbers_in ds ≡ front ++ (n ∷ numbers_in ds) = append_assoc front (n ∷ []) (numbers_in ds) in
-    let long : length (front ++ n ∷ []) ≡ suc (length front) = length-end front n in
-    let rest : ArePlaced (front ++ (n ∷ numbers_in ds)) (suc (length front)) ds =
-    subst (λ j. ArePlaced (front ++ (n ∷ numbers_in ds)) j ds) long
-    (subst (λ l. ArePlaced l (length (front ++ n ∷ [])) ds) whole (placed (front ++ n ∷ []) ds (suc n) high (less_end (suc n) front n (omega arith) (less_more n (suc n) front (omega arith) below)) h.1)) in
-    record {
-      listed = (ap (slice_get (front ++ (n ∷ numbers_in ds))) (place_is front (numbers_in ds) n below) ∙ get_place front (numbers_in ds) n, rest.listed);
-      in_order = (place_is front (numbers_in ds) n below, rest.in_order);
-    }
-  where
-    length-end : (l : List ℕ) (m : ℕ) → length (l ++ m ∷ []) ≡ suc (length l)
-    length-end l m = length-append l (m ∷ []) ∙ omega arith
-
 -- ---- numbers outside an interval
 
 pub data IsOutside (low high x : ℕ) : Type 0 where
@@ -138,7 +74,7 @@ narrower : (low low2 high high2 x : ℕ) → low ≤ low2 → high2 ≤ high →
 narrower low low2 high high2 x le le2 (Under lt) = Under (omega (arith, le, lt))
 narrower low low2 high high2 x le le2 (Over ge) = Over (omega (arith, le2, ge))
 
-all_narrower : (low low2 high high2 : ℕ) (xs : List ℕ) → low ≤ low2 → high2 ≤ high → AllOutside low high xs → AllOutside low2 high2 xs
+pub all_narrower : (low low2 high high2 : ℕ) (xs : List ℕ) → low ≤ low2 → high2 ≤ high → AllOutside low high xs → AllOutside low2 high2 xs
 all_narrower low low2 high high2 [] le le2 h = tt
 all_narrower low low2 high high2 (x ∷ xs) le le2 h = (narrower low low2 high high2 x le le2 h.0, all_narrower low low2 high high2 xs le le2 h.1)
 
@@ -149,6 +85,10 @@ outside_differs low high n x le lt (Over h) = grind (arith, nat_tests)
 outside_absent : (low high n : ℕ) (xs : List ℕ) → low ≤ n → n < high → AllOutside low high xs → Absent n xs
 outside_absent low high n [] le lt h = tt
 outside_absent low high n (x ∷ xs) le lt h = (outside_differs low high n x le lt h.0, outside_absent low high n xs le lt h.1)
+
+abbrev pub int_of : PlainType → CInt
+int_of (Int k) = k
+int_of _ = I32
 
 -- ---- objects
 
@@ -181,15 +121,29 @@ pub parameter_objects : (s : Scopes) (ds : List Declaration) → AreParameters s
 parameter_objects s [] k = tt
 parameter_objects s (d ∷ ds) k = (object_int d.ctype k.0.ctype, parameter_objects (with_parameter s d) ds k.1)
 
--- ---- births
+small_size : (structs : List StructType) (k : CInt) → size_of structs (Int k) < 2 ^ 64
+small_size structs I8 = omega arith
+small_size structs U8 = omega arith
+small_size structs I16 = omega arith
+small_size structs U16 = omega arith
+small_size structs I32 = omega arith
+small_size structs U32 = omega arith
+small_size structs I64 = omega arith
+small_size structs U64 = omega arith
 
-pub all_can_be_born : (numbers : List ℕ) (ds : List Declaration) (low high : ℕ) (living : List ℕ) → Between low (numbers_in ds) high → AllOutside low high living → AreObjects ds → AllListed numbers ds → AllCanBeBorn numbers living ds
-all_can_be_born numbers [] low high living b h o l = tt
-all_can_be_born numbers (d ∷ ds) low high living b h o l =
+pub objects_small : (structs : List StructType) (ds : List Declaration) → AreObjects ds → AreSmall structs ds
+objects_small structs [] o = tt
+objects_small structs (d ∷ ds) o = (subst (λ t. size_of structs t < 2 ^ 64) (sym o.0) (small_size structs (int_of d.ctype)), objects_small structs ds o.1)
+
+-- ---- what is declared inside
+
+pub outside_absent_all : (ds : List Declaration) (low high : ℕ) (living : List ℕ) → Between low (numbers_in ds) high → AllOutside low high living → AreAbsent living ds
+outside_absent_all [] low high living b h = tt
+outside_absent_all (d ∷ ds) low high living b h =
     let n = number_of d in
     let le = in_bounds (suc n) high (numbers_in ds) b.1 in (
-      record { object = o.0; listed = l.0; new = outside_absent low high n living b.0 (omega (arith, le)) h },
-      all_can_be_born numbers ds (suc n) high (n ∷ living) b.1 (Under (omega arith), all_narrower low (suc n) high high living (omega (arith, b.0)) (omega arith) h) o.1 l.1,
+      outside_absent low high n living b.0 (omega (arith, le)) h,
+      outside_absent_all ds (suc n) high living b.1 (all_narrower low (suc n) high high living (omega (arith, b.0)) (omega arith) h),
     )
 
 -- the declarations of a block are some of those in its items
@@ -206,16 +160,6 @@ own_between (Then (Run a) rest) low high h =
     let x = parted_in low high (declared_within a) (declared_in_items rest) h in
     from_lower low x.middle high (numbers_in (declared_in rest)) (in_bounds low x.middle (numbers_in (declared_within a)) x.front) (own_between rest x.middle high x.back)
 own_between (Then (Asserts annots) rest) low high h = own_between rest low high h
-
-own_listed : (numbers : List ℕ) (is : BlockItems) → AllListed numbers (declared_in_items is) → AllListed numbers (declared_in is)
-own_listed numbers NoItem h = tt
-own_listed numbers (Then (Declare ds) rest) h = both ds (declared_in rest) (listed_front numbers ds (declared_in_items rest) h) (own_listed numbers rest (listed_back numbers ds (declared_in_items rest) h))
-  where
-    both : (a b : List Declaration) → AllListed numbers a → AllListed numbers b → AllListed numbers (a ++ b)
-    both [] b x y = y
-    both (d ∷ a) b x y = (x.0, both a b x.1 y)
-own_listed numbers (Then (Run a) rest) h = own_listed numbers rest (listed_back numbers (declared_within a) (declared_in_items rest) h)
-own_listed numbers (Then (Asserts annots) rest) h = own_listed numbers rest h
 
 -- ---- what lives where the items of a block are: numbers outside theirs, and those of the block itself
 
@@ -303,90 +247,79 @@ born_outside low high low2 high2 (d ∷ ds) xs b le h =
 
 -- ---- statements
 
-module _ (numbers : List ℕ) where
-  first_between : (first : ForFirst) (low high : ℕ) → Between low (numbers_in (declared_in_first first)) high → Between low (numbers_in (declared_first first)) high
-  first_between NoFirst low high b = b
-  first_between (First (Declare ds)) low high b = b
-  first_between (First (Run a)) low high b = in_bounds low high (numbers_in (declared_within a)) b
-  first_between (First (Asserts annots)) low high b = b
+first_between : (first : ForFirst) (low high : ℕ) → Between low (numbers_in (declared_in_first first)) high → Between low (numbers_in (declared_first first)) high
+first_between NoFirst low high b = b
+first_between (First (Declare ds)) low high b = b
+first_between (First (Run a)) low high b = in_bounds low high (numbers_in (declared_within a)) b
+first_between (First (Asserts annots)) low high b = b
 
-  first_listed : (first : ForFirst) → AllListed numbers (declared_in_first first) → AllListed numbers (declared_first first)
-  first_listed NoFirst l = tt
-  first_listed (First (Declare ds)) l = l
-  first_listed (First (Run a)) l = tt
-  first_listed (First (Asserts annots)) l = tt
+pub first_objects : (first : ForFirst) (s : Scopes) (r : Around) → FirstTyped s r first → AreObjects (declared_first first)
+first_objects NoFirst s r q = tt
+first_objects (First (Declare ds)) s r q = declared_objects s ds q
+first_objects (First (Run a)) s r q = tt
+first_objects (First (Asserts annots)) s r q = tt
 
-  pub first_objects : (first : ForFirst) (s : Scopes) (r : Around) → FirstTyped s r first → AreObjects (declared_first first)
-  first_objects NoFirst s r q = tt
-  first_objects (First (Declare ds)) s r q = declared_objects s ds q
-  first_objects (First (Run a)) s r q = tt
-  first_objects (First (Asserts annots)) s r q = tt
-
+module _ (structs : List StructType) where
   mutual
-    pub can_declare : (a : Statement) (s : Scopes) (r : Around) (low high : ℕ) (living : List ℕ) → StatementTyped s r a → Between low (numbers_in (declared_within a)) high → AllOutside low high living → AllListed numbers (declared_within a)
-        → CanDeclare numbers living a
-    can_declare (Empty at) s r low high living q b o l = tt
-    can_declare (Eval at e) s r low high living q b o l = tt
-    can_declare (Block at is) s r low high living q b o l =
+    pub can_declare : (a : Statement) (s : Scopes) (r : Around) (low high : ℕ) (living : List ℕ) → StatementTyped s r a → Between low (numbers_in (declared_within a)) high → AllOutside low high living → CanDeclare structs living a
+    can_declare (Empty at) s r low high living q b o = tt
+    can_declare (Eval at e) s r low high living q b o = tt
+    can_declare (Block at is) s r low high living q b o =
         let own = declared_in is in (
-          all_can_be_born numbers own low high living (own_between is low high b) o (items_objects (inner s) r is q) (own_listed numbers is l),
-          items_can_declare is (inner s) r low high (with_numbers own living) q b (born_live low high own own living (λ x i. i) (outside_live low high own living o)) l,
+          objects_small structs own (items_objects (inner s) r is q),
+          items_can_declare is (inner s) r low high (with_numbers own living) q b (born_live low high own own living (λ x i. i) (outside_live low high own living o)),
         )
-    can_declare (If at e x y) s r low high living q b o l =
-        let p = parted_in low high (declared_within x) (declared_in_else y) b in (
-          can_declare x s r low p.middle living q.1 p.front (all_narrower low low high p.middle living (omega arith) (in_bounds p.middle high (numbers_in (declared_in_else y)) p.back) o)
-              (listed_front numbers (declared_within x) (declared_in_else y) l),
-          else_can_declare y s r p.middle high living q.2 p.back (all_narrower low p.middle high high living (in_bounds low p.middle (numbers_in (declared_within x)) p.front) (omega arith) o)
-              (listed_back numbers (declared_within x) (declared_in_else y) l),
+    can_declare (If at e x y) s r low high living q b o =
+        let p = parted_in low high (declared_within x) (declared_in_else y) b in
+        let front = all_narrower low low high p.middle living (omega arith) (in_bounds p.middle high (numbers_in (declared_in_else y)) p.back) o in (
+          outside_absent_all (declared_within x) low p.middle living p.front front,
+          can_declare x s r low p.middle living q.1 p.front front,
+          else_can_declare y s r p.middle high living q.2 p.back (all_narrower low p.middle high high living (in_bounds low p.middle (numbers_in (declared_within x)) p.front) (omega arith) o),
         )
-    can_declare (While at annots e x) s r low high living q b o l = can_declare x s (in_loop r) low high living q.1 b o l
-    can_declare (Do at x e) s r low high living q b o l = can_declare x s (in_loop r) low high living q.0 b o l
-    can_declare (For at annots first e step x) s r low high living q b o l =
+    can_declare (While at annots e x) s r low high living q b o = can_declare x s (in_loop r) low high living q.1 b o
+    can_declare (Do at x e) s r low high living q b o = (outside_absent_all (declared_within x) low high living b o, can_declare x s (in_loop r) low high living q.0 b o)
+    can_declare (For at annots first e step x) s r low high living q b o =
         let p = parted_in low high (declared_in_first first) (declared_within x) b in
-        let f = first_between first low p.middle p.front in (
-          all_can_be_born numbers (declared_first first) low p.middle living f (all_narrower low low high p.middle living (omega arith) (in_bounds p.middle high (numbers_in (declared_within x)) p.back) o) (first_objects first (inner s) r q.0)
-              (first_listed first (listed_front numbers (declared_in_first first) (declared_within x) l)),
-          can_declare x (behind_first (inner s) first) (in_loop r) p.middle high (with_numbers (declared_first first) living) q.3 p.back
-              (born_outside p.middle high low p.middle (declared_first first) living f (omega arith) (all_narrower low p.middle high high living (in_bounds low p.middle (numbers_in (declared_in_first first)) p.front) (omega arith) o))
-              (listed_back numbers (declared_in_first first) (declared_within x) l),
+        let f = first_between first low p.middle p.front in
+        let outside =
+        born_outside p.middle high low p.middle (declared_first first) living f (omega arith)
+        (all_narrower low p.middle high high living (in_bounds low p.middle (numbers_in (declared_in_first first)) p.front) (omega arith) o) in (
+          objects_small structs (declared_first first) (first_objects first (inner s) r q.0),
+          outside_absent_all (declared_within x) p.middle high (with_numbers (declared_first first) living) p.back outside,
+          can_declare x (behind_first (inner s) first) (in_loop r) p.middle high (with_numbers (declared_first first) living) q.3 p.back outside,
         )
-    can_declare (Break at) s r low high living q b o l = tt
-    can_declare (Continue at) s r low high living q b o l = tt
-    can_declare (Return at e) s r low high living q b o l = tt
+    can_declare (Break at) s r low high living q b o = tt
+    can_declare (Continue at) s r low high living q b o = tt
+    can_declare (Return at e) s r low high living q b o = tt
 
-    pub else_can_declare : (b : ElsePart) (s : Scopes) (r : Around) (low high : ℕ) (living : List ℕ) → ElseTyped s r b → Between low (numbers_in (declared_in_else b)) high → AllOutside low high living → AllListed numbers (declared_in_else b)
-        → ElseCanDeclare numbers living b
-    else_can_declare NoElse s r low high living q b o l = tt
-    else_can_declare (Else a) s r low high living q b o l = can_declare a s r low high living q b o l
+    pub else_can_declare : (b : ElsePart) (s : Scopes) (r : Around) (low high : ℕ) (living : List ℕ) → ElseTyped s r b → Between low (numbers_in (declared_in_else b)) high → AllOutside low high living → ElseCanDeclare structs living b
+    else_can_declare NoElse s r low high living q b o = tt
+    else_can_declare (Else a) s r low high living q b o = can_declare a s r low high living q b o
 
     pub items_can_declare : (is : BlockItems) (s : Scopes) (r : Around) (low high : ℕ) (living : List ℕ) → ItemsTyped s r is → Between low (numbers_in (declared_in_items is)) high → AllLive low high (declared_in is) living
-        → AllListed numbers (declared_in_items is) → ItemsCanDeclare numbers living is
-    items_can_declare NoItem s r low high living q b o l = tt
-    items_can_declare (Then (Declare ds) rest) s r low high living q b o l =
+        → ItemsCanDeclare structs living is
+    items_can_declare NoItem s r low high living q b o = tt
+    items_can_declare (Then (Declare ds) rest) s r low high living q b o =
         let p = parted_in low high ds (declared_in_items rest) b in (
           tt,
           items_can_declare rest (with_objects s ds) r p.middle high living q.1 p.back
-              (live_behind low p.middle high (in_bounds low p.middle (numbers_in ds) p.front) (in_bounds p.middle high (numbers_in (declared_in_items rest)) p.back) ds (declared_in rest) p.front living o)
-              (listed_back numbers ds (declared_in_items rest) l),
+              (live_behind low p.middle high (in_bounds low p.middle (numbers_in ds) p.front) (in_bounds p.middle high (numbers_in (declared_in_items rest)) p.back) ds (declared_in rest) p.front living o),
         )
-    items_can_declare (Then (Run a) rest) s r low high living q b o l =
+    items_can_declare (Then (Run a) rest) s r low high living q b o =
         let p = parted_in low high (declared_within a) (declared_in_items rest) b in
         let le = in_bounds low p.middle (numbers_in (declared_within a)) p.front in
-        let le2 = in_bounds p.middle high (numbers_in (declared_in_items rest)) p.back in (
-          can_declare a s r low p.middle living q.0 p.front (far_front low p.middle high le le2 rest (own_between rest p.middle high p.back) living o) (listed_front numbers (declared_within a) (declared_in_items rest) l),
-          items_can_declare rest s r p.middle high living q.1 p.back (live_back low p.middle high le le2 (declared_in rest) living o) (listed_back numbers (declared_within a) (declared_in_items rest) l),
+        let le2 = in_bounds p.middle high (numbers_in (declared_in_items rest)) p.back in
+        let far = far_front low p.middle high le le2 rest (own_between rest p.middle high p.back) living o in (
+          (outside_absent_all (declared_within a) low p.middle living p.front far, can_declare a s r low p.middle living q.0 p.front far),
+          items_can_declare rest s r p.middle high living q.1 p.back (live_back low p.middle high le le2 (declared_in rest) living o),
         )
-    items_can_declare (Then (Asserts annots) rest) s r low high living q b o l = (tt, items_can_declare rest s r low high living q.1 b o l)
+    items_can_declare (Then (Asserts annots) rest) s r low high living q b o = (tt, items_can_declare rest s r low high living q.1 b o)
 
   -- the items of a body, whose scope is the function's
-  pub body_can_declare : (is : BlockItems) (s : Scopes) (r : Around) (low high : ℕ) (living : List ℕ) → ItemsTyped s r is → Between low (numbers_in (declared_in_items is)) high → AllOutside low high living → AllListed numbers (declared_in_items is)
-      → AllCanBeBorn numbers living (declared_in is) × ItemsCanDeclare numbers (with_numbers (declared_in is) living) is
-  body_can_declare is s r low high living q b o l =
+  pub body_can_declare : (is : BlockItems) (s : Scopes) (r : Around) (low high : ℕ) (living : List ℕ) → ItemsTyped s r is → Between low (numbers_in (declared_in_items is)) high → AllOutside low high living
+      → AreSmall structs (declared_in is) × ItemsCanDeclare structs (with_numbers (declared_in is) living) is
+  body_can_declare is s r low high living q b o =
       let own = declared_in is in (
-        all_can_be_born numbers own low high living (own_between is low high b) o (items_objects s r is q) (own_listed numbers is l),
-        items_can_declare is s r low high (with_numbers own living) q b (born_live low high own own living (λ x i. i) (outside_live low high own living o)) l,
+        objects_small structs own (items_objects s r is q),
+        items_can_declare is s r low high (with_numbers own living) q b (born_live low high own own living (λ x i. i) (outside_live low high own living o)),
       )
-
-pub in_order_front : (numbers : List ℕ) (j : ℕ) (ds es : List Declaration) → InOrder numbers j (ds ++ es) → InOrder numbers j ds
-in_order_front numbers j [] es h = tt
-in_order_front numbers j (d ∷ ds) es h = (h.0, in_order_front numbers (suc j) ds es h.1)

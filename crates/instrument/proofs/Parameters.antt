@@ -1,183 +1,191 @@
--- Parameters are born in order, each with its argument, whose value is in its register from the beginning of the call on.
-use Rattle.std.proofs.Common.{◌≡◌, ℕ, zero, suc, ◌+◌, ◌<◌, ◌≤◌, ℤ, true, cond, List, [], ◌∷◌, length, length-set, length-append, Option, Some, None, refl, sym, ap, ◌∙◌, subst, arith}
+-- Parameters are born in order, each with its argument, whose value stands in a register from the beginning of the call on.
+use Rattle.std.proofs.Common.{◌≡◌, ℕ, suc, ◌+◌, ◌<◌, ◌≤◌, List, [], ◌∷◌, length, length-append, Option, Some, None, slice_get, refl, sym, ap, ◌∙◌, subst, arith}
 use Rattle.std.proofs.lemmas.List.{append-nil}
-use Rattle.std.proofs.lemmas.Bool.{eq-eqb}
-use Rattle.std.specs.Prelude.{slice_get, slice_set}
 use Rattle.c_syntax.specs.declared.place.Place.{Place}
-use Rattle.c_syntax.specs.declared.types.BlockKind.TheVariants.{Stack}
+use Rattle.c_syntax.specs.declared.types.CInt.{CInt}
 use Rattle.c_syntax.specs.declared.types.Segment.{Segment}
+use Rattle.c_syntax.specs.Ctypes.{Int}
 use Rattle.c_syntax.specs.Statements.{Declaration}
-use Rattle.c_model.specs.Integers.{fits}
-use Rattle.c_model.specs.Layouts.{IntegerType, scalar_of, size_of}
-use Rattle.c_model.specs.Memory.{Value, Integer, Into, Store, new_block, full_at_stack_birth, standard_sizes}
-use Rattle.c_model.specs.State.{State, Full, Over, Normal, Stop, on_outcome, birth, birth_of, as_scalar, write, write_youngest}
-use Rattle.c_model.specs.Meaning.{parameters}
-use Rattle.c_model.specs.Formed.{number_of}
-use Rattle.c_model.proofs.Blocks.{slice_get-slice_set_other}
-use Rattle.mon_syntax.specs.Meaning.{Done, Stops, Next, then_do, at_next, writes}
-use Rattle.mon_syntax.specs.Meaning as monitored
+use Rattle.c_model.specs.Layouts.{IntegerType, scalar_of}
+use Rattle.c_model.specs.Memory.{Value, Points, Into, Store, save}
+use Rattle.c_model.specs.State.{State, Full, Undefined, Over, Outcome, Normal, Stop, on_outcome, ◌>>=◌, done, defined, put_store, birth, births, as_scalar, write, write_youngest}
+use Rattle.c_model.specs.Meaning.{Tables, tables_of, parameters}
+use Rattle.mon_syntax.specs.declared.tree.MonType.TheVariants.{Ptr}
+use Rattle.mon_syntax.specs.Registers.{RegisterTable}
+use Rattle.mon_syntax.specs.Meaning.{Done, Stops, Next, then_do, at_next, exec}
 use Rattle.mon_syntax.specs.BlockMemory.{over_blocks}
-use Rattle.track_scopes.specs.Blocks as target
-use Rattle.instrument.proofs.Variables.{Slot, Setting, no_tables, count, value_at, pointer_at, slot_of, Related, Beside, IsSet, AllKept, state_with, write_is, related_set, kept_set, beside_set, get-below, load_cell, get-set_same}
-use Rattle.instrument.proofs.Evaluating.{Target, runs}
-use Rattle.instrument.proofs.Following.{Later, later_same, later_trans}
-use Rattle.instrument.proofs.Calls.{integers}
-use Rattle.instrument.proofs.Births.{int_of, slot_for, slots_born, decls_of, CanBeBorn, AllCanBeBorn, born_state, born_registers, born_target, birth_runs, related_born, beside_born, later_born, target_birth}
+use Rattle.mon_syntax.specs.LiveBlocks.{LiveBlock}
+use Rattle.mon_syntax.specs.Trees as tree
+use Rattle.c_effects.specs.Expressions.{register_type, value_type}
+use Rattle.track_scopes.specs.Blocks.{with_pointer, entered}
+use Rattle.track_scopes.specs.Blocks as target_blocks
+use Rattle.track_scopes.specs.Lives as lives
+use Rattle.track_scopes.specs.Lives.{Births, AllAre, OneIsFull, PointToBorn, with_store}
+use Rattle.instrument.specs.Translation.{Spot, with_variables}
+use Rattle.instrument.specs.Translation as target
+use Rattle.instrument.proofs.Standing.{Target, Did, Setting, runs, IsOf, Here, Beside}
+use Rattle.track_scopes.proofs.Births.{births_enter}
+use Rattle.instrument.proofs.Results.{writes_none, one_is}
+use Rattle.instrument.proofs.Registers.{same_all}
+use Rattle.instrument.proofs.Bounds.{saved_value}
+use Rattle.instrument.proofs.Effects.{store_runs}
+use Rattle.instrument.proofs.Following.{Later, IsResult}
+use Rattle.instrument.proofs.Births.{with_numbers, behind_births}
+use Rattle.instrument.proofs.Blocks.{Meets, meets_later, meets_inside}
+use Rattle.instrument.proofs.Numbers.{int_of, AreObjects, objects_small}
 
--- registers hold the values of these parameters, which are of their types
-abbrev pub Bound : Setting → List Value → List Declaration → List ℤ → Type 0
-Bound w regs [] [] = Unit {0}
-Bound w regs [] (z ∷ zs) = ⊥
-Bound w regs (d ∷ ds) [] = ⊥
-Bound w regs (d ∷ ds) (z ∷ zs) = (fits (int_of d.ctype) z ≡ true) × (slice_get regs (value_at w (number_of d)) ≡ Some (Integer z)) × Bound w regs ds zs
+-- registers from this one on hold the values of parameters, which are of their types
+abbrev pub HoldInOrder : List Value → ℕ → List Declaration → List Value → Type 0
+HoldInOrder regs a [] [] = Unit {0}
+HoldInOrder regs a [] (v ∷ vs) = ⊥
+HoldInOrder regs a (d ∷ ds) [] = ⊥
+HoldInOrder regs a (d ∷ ds) (v ∷ vs) = IsResult d.ctype (Some v) × (slice_get regs a ≡ Some v) × HoldInOrder regs (suc a) ds vs
 
--- all variables have values
-abbrev pub AllSet : Store → List Slot → Type 0
-AllSet store [] = Unit {0}
-AllSet store (v ∷ vs) = IsSet store v × AllSet store vs
+hold_same : (p a : ℕ) (regs after : List Value) (ds : List Declaration) (vs : List Value) → a + length ds ≤ p → ((j : ℕ) → j < p → slice_get after j ≡ slice_get regs j) → HoldInOrder regs a ds vs → HoldInOrder after a ds vs
+hold_same p a regs after [] [] le same h = tt
+hold_same p a regs after [] (v ∷ vs) le same h = absurd h
+hold_same p a regs after (d ∷ ds) [] le same h = absurd h
+hold_same p a regs after (d ∷ ds) (v ∷ vs) le same h = (h.0, same a (omega (arith, le)) ∙ h.1, hold_same p (suc a) regs after ds vs (omega (arith, le)) same h.2)
 
-all_set_later : (old new : Store) (slots : List Slot) → AllKept slots old new → AllSet old slots → AllSet new slots
-all_set_later old new [] k h = tt
-all_set_later old new (v ∷ slots) k h = (k.0 h.0, all_set_later old new slots k.1 h.1)
+-- what was written and spent before a later state
+pub record Since (s to : State) : Type 0 where
+  pub spent : to.steps ≤ s.steps
+  pub output : to.output ≡ s.output
+  pub longer : length s.store ≤ length to.store
 
--- a register gets the value that it has
-pub set_as_is : {A : Type 0} (l : List A) (k : ℕ) (a : A) → slice_get l k ≡ Some a → slice_set l k a ≡ l
-set_as_is [] k a e = refl
-set_as_is (b ∷ l) zero a e = let same : b ≡ a = cc in ap (λ x. x ∷ l) (sym same)
-set_as_is (b ∷ l) (suc k) a e = ap (λ x. b ∷ x) (set_as_is l k a e)
+-- all are born on both sides with their values, or something is full on both
+pub data BearsAll (w : Setting) (h : Here) (spot : Spot) (p : ℕ) (r : RegisterTable) (living : List ℕ) (at : Place) (ds : List Declaration) (vs : List Value) (s : State) (q : Did) : Type 0 where
+  AllBorn : (to : State) (after : List Value) (u : Target) (blocks : List LiveBlock) → parameters (tables_of w.unit) at ds vs s ≡ Normal tt to → q ≡ Done (Next after) u []
+      → Meets w (record h { inner = blocks }) (with_variables p ds spot) (p + length ds) (entered ds r).bound (with_numbers ds living) after to u → Since s to → BearsAll w h spot p r living at ds vs s q
+  SomeFull : (g : Segment) (to : State) → parameters (tables_of w.unit) at ds vs s ≡ Stop (Over (Full g)) to → to.output ≡ s.output → q ≡ Stops (Full g) to.steps [] → BearsAll w h spot p r living at ds vs s q
+  SomeUndefined : (x : Place) (to : State) → parameters (tables_of w.unit) at ds vs s ≡ Stop (Over (Undefined x)) to → to.output ≡ s.output → BearsAll w h spot p r living at ds vs s q
 
--- all are born on both sides, or something is full on both
-pub data BearsAll (w : Setting) (slots : List Slot) (regs : List Value) (s : State) (t : Target) (n : ℕ) (at : Place) (ds : List Declaration) (vs : List Value) : Type 0 where
-  AllBorn : (to : State) (after : List Value) (u : Target) → parameters no_tables at ds vs s ≡ Normal tt to → runs w n t (target.births w.numbers ds) regs ≡ Done (Next after) u [] → Related w (slots_born (length s.store) ds slots) after to
-      → Beside w (slots_born (length s.store) ds slots) to u → AllSet to.store (slots_born (length s.store) ds slots) → Later slots s to [] → BearsAll w slots regs s t n at ds vs
-  OneIsFull : (g : Segment) (to : State) → parameters no_tables at ds vs s ≡ Stop (Over (Full g)) to → to.output ≡ s.output → runs w n t (target.births w.numbers ds) regs ≡ Stops (Full g) to.steps [] → BearsAll w slots regs s t n at ds vs
+end_done : (r : Outcome (Unit {0})) → on_outcome r (λ _. done) ≡ r
+end_done (Normal u s) = refl
+end_done (Stop e s) = refl
 
--- a parameter with its value
-module _ (w : Setting) (slots : List Slot) (regs : List Value) (s : State) (t : Target) (h : Related w slots regs s) (b : Beside w slots s t) (enough : count w + count w ≤ w.registers) (d : Declaration)
-    (c : CanBeBorn w.numbers (decls_of slots) d) (z : ℤ) (f : fits (int_of d.ctype) z ≡ true) (bound : slice_get regs (value_at w (number_of d)) ≡ Some (Integer z)) where
-  abbrev x : ℕ
-  x = number_of d
+module _ (w : Setting) (n : ℕ)
+    (at : Place) where
+  abbrev T : Tables
+  T = tables_of w.unit
 
-  abbrev new : Slot
-  new = slot_for (length s.store) d
+  -- one parameter, whose birth and value are followed by the others
+  module _ (h : Here) (spot : Spot) (r : RegisterTable) (living : List ℕ) (d : Declaration) (ds : List Declaration) (v : Value) (vs : List Value) (regs : List Value) (s : State) (t : Target) (a : ℕ)
+      (m : Meets w h spot (length r.kinds) r.bound living regs s t) (object : d.ctype ≡ Int (int_of d.ctype)) (is : IsResult d.ctype (Some v)) (there : slice_get regs a ≡ Some v) (less : suc a + length ds ≤ length r.kinds) where
+    abbrev p : ℕ
+    p = length r.kinds
 
-  abbrev live : List Slot
-  live = new ∷ slots
+    abbrev k : CInt
+    k = int_of d.ctype
 
-  abbrev born : State
-  born = born_state w slots regs s t h b enough d c
+    abbrev rest : List Value → Target → Did
+    rest after u = runs w n u (target.parameters w.unit (suc p) (suc a) ds) after
 
-  abbrev pub bound_registers : List Value
-  bound_registers = born_registers w slots regs s t h b enough d c
+    abbrev code : Did
+    code = runs w n t (target.parameters w.unit p a (d ∷ ds)) regs
 
-  abbrev pub bound_target : Target
-  bound_target = born_target w slots regs s t h b enough d c
+    abbrev born : State
+    born = lives.with_variables w.unit.structs (d ∷ []) s
 
-  pub born_related : Related w live bound_registers born
-  born_related = related_born w slots regs s t h b enough d c
+    abbrev target_born : Target
+    target_born = with_store born.store t
 
-  pub found : slot_of x live ≡ Some new
-  found = ap (λ t. cond t (Some new) (slot_of x slots)) (eq-eqb x x refl)
+    abbrev Bear : Did → Type 0
+    Bear q = BearsAll w h spot p r living at (d ∷ ds) (v ∷ vs) s q
 
-  abbrev pub bound_state : State
-  bound_state = state_with w live bound_registers born born_related enough x new found z f
+    abbrev Others : List Value → State → Target → Type 0
+    Others after to u = BearsAll w (behind_births w.unit.structs h s (d ∷ [])) (with_variables p (d ∷ []) spot) (suc p) (with_pointer d r) (with_numbers (d ∷ []) living) at ds vs to (rest after u)
 
-  pub bound_long : length bound_state.store ≡ suc (length s.store)
-  bound_long = length-set born.store (length s.store) _ ∙ length-append s.store (new_block Stack (size_of [] d.ctype) ∷ []) ∙ omega arith
+    is_int : IsOf (IntegerType k) v
+    is_int = subst (λ t. IsResult t (Some v)) object is
 
-  -- registers of values stay
-  pub value_stays : (y : ℕ) → value_at w y < count w → slice_get bound_registers (value_at w y) ≡ slice_get regs (value_at w y)
-  value_stays y lt = slice_get-slice_set_other regs (pointer_at w x) (value_at w y) _ (λ e. omega (arith, e, lt))
+    -- the store with its value
+    abbrev written : Store → State
+    written saved = record born { store = saved }
 
-  there : slice_get bound_registers (value_at w x) ≡ Some (Integer z)
-  there = value_stays x (get-below w.numbers (value_at w x) x c.listed) ∙ bound
+    module _ (go : (after : List Value) (to : State) (u : Target) → Meets w (behind_births w.unit.structs h s (d ∷ [])) (with_variables p (d ∷ []) spot) (p + length (d ∷ [])) (with_pointer d r).bound (with_numbers (d ∷ []) living) after to u
+        → ((j : ℕ) → j < p → slice_get after j ≡ slice_get regs j) → Others after to u) where
+      abbrev source_rest : Outcome (Unit {0}) → Outcome (Unit {0})
+      source_rest r = on_outcome (on_outcome r (λ _. as_scalar (scalar_of d.ctype) (λ c. write_youngest at c v))) (λ _. parameters T at ds vs)
 
-  written : (at : Place) → as_scalar (scalar_of d.ctype) (λ c. write_youngest at c (Integer z)) born ≡ Normal tt bound_state
-  written at =
-      let number : length born.store ≡ suc (length s.store) = length-append s.store (new_block Stack (size_of [] d.ctype) ∷ []) ∙ omega arith in
-      ap (λ u. as_scalar (scalar_of u) (λ c. write_youngest at c (Integer z)) born) c.object
-      ∙ ap (λ i. write at (Into i 0) (IntegerType (int_of d.ctype)) (Integer z) born) number
-      ∙ write_is w live bound_registers born born_related x new found at z
+      abbrev target_rest : Did → Did
+      target_rest q = then_do q (at_next (λ r u. then_do (exec over_blocks w.globals (tree.Store p (value_type d.ctype) (tree.Register a)) w.calls n r u) (at_next (λ r u. rest r u))))
 
-  pub bound_related : Related w live bound_registers bound_state
-  bound_related = subst (λ r. Related w live r bound_state) (set_as_is bound_registers (value_at w x) (Integer z) there) (related_set w live bound_registers born born_related enough x new found z f)
+      number : length born.store ≡ length s.store + 1
+      number = length-append s.store _
 
-  pub bound_beside : Beside w live bound_state bound_target
-  bound_beside = beside_set w live bound_registers born born_related enough x new found z f live bound_target (beside_born w slots regs s t h b enough d c)
+      write_is : as_scalar (scalar_of d.ctype) (λ c. write_youngest at c v) born ≡ write at (Into (length born.store) 0) (IntegerType k) v born
+      write_is = ap (λ t. as_scalar (scalar_of t) (λ c. write_youngest at c v) born) object
 
-  kept : AllKept live born.store bound_state.store
-  kept = kept_set w live bound_registers born born_related enough x new found z f
+      with_others : (to : State) (after : List Value) (u : Target) → Since s to → source_rest (birth w.unit.structs d s) ≡ parameters T at ds vs to → code ≡ rest after u → Others after to u → Bear code
+      with_others to after u since e f (AllBorn to2 after2 u2 blocks e2 f2 m2 l2) =
+          let sum : suc p + length ds ≡ p + suc (length ds) = omega arith in
+          AllBorn to2 after2 u2 blocks (e ∙ e2) (f ∙ f2)
+          (subst (λ low. Meets w (record h { inner = blocks }) (with_variables p (d ∷ ds) spot) low (entered (d ∷ ds) r).bound (with_numbers (d ∷ ds) living) after2 to2 u2) sum m2)
+          (record { spent = omega (arith, since.spent, l2.spent); output = l2.output ∙ since.output; longer = omega (arith, since.longer, l2.longer) })
+      with_others to after u since e f (SomeFull g to2 e2 o f2) = SomeFull g to2 (e ∙ e2) (o ∙ since.output) (f ∙ f2)
+      with_others to after u since e f (SomeUndefined x to2 e2 o) = SomeUndefined x to2 (e ∙ e2) (o ∙ since.output)
 
-  pub bound_later : Later slots s bound_state []
-  bound_later =
-      let same : length bound_state.store ≡ length born.store = length-set born.store (length s.store) _ in
-      later_trans slots s born bound_state [] [] (later_born w slots regs s t h b enough d c)
-      (record { spent = omega arith; output = sym (append-nil s.output); longer = omega (arith, same); kept = kept.1 })
-
-  pub bound_set : AllSet s.store slots → AllSet bound_state.store live
-  bound_set a =
-      let cell = get-set_same born.store (length s.store) _ (omega (arith, length-append s.store (new_block Stack (size_of [] d.ctype) ∷ []))) in
-      (record { value = z; loads = load_cell bound_state.store new z f cell }, all_set_later s.store bound_state.store slots bound_later.kept a)
-
-  pub bound_source : (at : Place) → full_at_stack_birth standard_sizes s.store (size_of [] d.ctype) ≡ None → on_outcome (birth [] d s) (λ _. as_scalar (scalar_of d.ctype) (λ c. write_youngest at c (Integer z))) ≡ Normal tt bound_state
-  bound_source at e = ap (λ o. on_outcome (birth_of o (number_of d) (size_of [] d.ctype) s) (λ _. as_scalar (scalar_of d.ctype) (λ c. write_youngest at c (Integer z)))) e ∙ written at
-
-module _ (w : Setting) (n : ℕ) (enough : count w + count w ≤ w.registers) (at : Place) where
-  abbrev Bear : List Slot → List Value → State → Target → List Declaration → List Value → Type 0
-  Bear slots regs s t ds vs = BearsAll w slots regs s t n at ds vs
-
-  born_then : (slots : List Slot) (regs : List Value) (s : State) (t : Target) (d : Declaration) (ds : List Declaration) (v : Value) (vs : List Value) (to : State) (after : List Value) (u : Target)
-      → on_outcome (birth [] d s) (λ _. as_scalar (scalar_of d.ctype) (λ c. write_youngest at c v)) ≡ Normal tt to → monitored.exec over_blocks [] (target.birth w.numbers d) w.calls n regs t ≡ Done (Next after) u []
-      → length to.store ≡ suc (length s.store) → Later slots s to []
-      → Bear (slot_for (length s.store) d ∷ slots) after to u ds vs → Bear slots regs s t (d ∷ ds) (v ∷ vs)
-  born_then slots regs s t d ds v vs to after u e f long l (AllBorn to2 after2 u2 e2 f2 m b a l2) =
-      AllBorn to2 after2 u2
-      (ap (λ r. on_outcome r (λ _. parameters no_tables at ds vs)) e ∙ e2)
-      (ap (λ q. then_do q (at_next (monitored.exec_all over_blocks [] (target.births w.numbers ds) w.calls n))) f ∙ ap (writes []) f2)
-      (subst (λ i. Related w (slots_born i ds (slot_for (length s.store) d ∷ slots)) after2 to2) long m)
-      (subst (λ i. Beside w (slots_born i ds (slot_for (length s.store) d ∷ slots)) to2 u2) long b)
-      (subst (λ i. AllSet to2.store (slots_born i ds (slot_for (length s.store) d ∷ slots))) long a)
-      (later_trans slots s to to2 [] [] l (record { spent = l2.spent; output = l2.output; longer = l2.longer; kept = l2.kept.1 }))
-  born_then slots regs s t d ds v vs to after u e f long l (OneIsFull g to2 e2 o f2) =
-      OneIsFull g to2
-      (ap (λ r. on_outcome r (λ _. parameters no_tables at ds vs)) e ∙ e2)
-      (o ∙ l.output ∙ append-nil s.output)
-      (ap (λ q. then_do q (at_next (monitored.exec_all over_blocks [] (target.births w.numbers ds) w.calls n))) f ∙ ap (writes []) f2)
-
-  -- the registers of the other parameters stay
-  bound_others : (regs after : List Value) (ds : List Declaration) (zs : List ℤ) (living : List ℕ) → ((y : ℕ) → value_at w y < count w → slice_get after (value_at w y) ≡ slice_get regs (value_at w y)) → AllCanBeBorn w.numbers living ds
-      → Bound w regs ds zs → Bound w after ds zs
-  bound_others regs after [] [] living same c h = tt
-  bound_others regs after [] (z ∷ zs) living same c h = absurd h
-  bound_others regs after (d ∷ ds) [] living same c h = absurd h
-  bound_others regs after (d ∷ ds) (z ∷ zs) living same c h =
-      (h.0, same (number_of d) (get-below w.numbers (value_at w (number_of d)) (number_of d) c.0.listed) ∙ h.1, bound_others regs after ds zs (number_of d ∷ living) same c.1 h.2)
-
-  pub parameters_follow : (ds : List Declaration) (zs : List ℤ) (slots : List Slot) (regs : List Value) (s : State) (t : Target) → Related w slots regs s → Beside w slots s t → AllCanBeBorn w.numbers (decls_of slots) ds → Bound w regs ds zs
-      → AllSet s.store slots → Bear slots regs s t ds (integers zs)
-  parameters_follow [] [] slots regs s t h b c bound a = AllBorn s regs t refl refl h b a (later_same slots s)
-  parameters_follow [] (z ∷ zs) slots regs s t h b c bound a = absurd bound
-  parameters_follow (d ∷ ds) [] slots regs s t h b c bound a = absurd bound
-  parameters_follow (d ∷ ds) (z ∷ zs) slots regs s t h b c bound a =
-      by (λ o. parameters_follow ds zs (slot_for (length s.store) d ∷ slots) (bound_registers w slots regs s t h b enough d c.0 z bound.0 bound.1) (bound_state w slots regs s t h b enough d c.0 z bound.0 bound.1)
-      (bound_target w slots regs s t h b enough d c.0 z bound.0 bound.1) (bound_related w slots regs s t h b enough d c.0 z bound.0 bound.1) (bound_beside w slots regs s t h b enough d c.0 z bound.0 bound.1) c.1
-      (bound_others regs (bound_registers w slots regs s t h b enough d c.0 z bound.0 bound.1) ds zs (number_of d ∷ decls_of slots) (value_stays w slots regs s t h b enough d c.0 z bound.0 bound.1) c.1 bound.2)
-      (bound_set w slots regs s t h b enough d c.0 z bound.0 bound.1 a))
-      (full_at_stack_birth standard_sizes s.store (size_of [] d.ctype)) refl
-    where
-      by : (Unit {0} → Bear (slot_for (length s.store) d ∷ slots) (bound_registers w slots regs s t h b enough d c.0 z bound.0 bound.1) (bound_state w slots regs s t h b enough d c.0 z bound.0 bound.1)
-          (bound_target w slots regs s t h b enough d c.0 z bound.0 bound.1) ds (integers zs)) → (o : Option Segment) → full_at_stack_birth standard_sizes s.store (size_of [] d.ctype) ≡ o → Bear slots regs s t (d ∷ ds) (integers (z ∷ zs))
-      by rest None e =
-          born_then slots regs s t d ds (Integer z) (integers zs) (bound_state w slots regs s t h b enough d c.0 z bound.0 bound.1) (bound_registers w slots regs s t h b enough d c.0 z bound.0 bound.1)
-          (bound_target w slots regs s t h b enough d c.0 z bound.0 bound.1)
-          (bound_source w slots regs s t h b enough d c.0 z bound.0 bound.1 at e)
-          (target_birth w slots regs s t h b enough d c.0 n ∙ ap (birth_runs w slots regs s t h b enough d c.0) e)
-          (bound_long w slots regs s t h b enough d c.0 z bound.0 bound.1)
-          (bound_later w slots regs s t h b enough d c.0 z bound.0 bound.1)
-          (rest tt)
-      by rest (Some g) e =
-          OneIsFull g s
-          (ap (λ o. on_outcome (on_outcome (birth_of o (number_of d) (size_of [] d.ctype) s) (λ _. as_scalar (scalar_of d.ctype) (λ c. write_youngest at c (Integer z)))) (λ _. parameters no_tables at ds (integers zs))) e)
+      -- its value is written
+      by_save : (after : List Value) → births w.unit.structs (d ∷ []) s ≡ Normal tt born → runs w n t (target_blocks.births w.unit.structs p (d ∷ [])) regs ≡ Done (Next after) target_born [] → PointToBorn p (d ∷ []) s.store regs after
+          → (o : Option Store) → save born.store (Into (length born.store) 0) (IntegerType k) v ≡ o → Bear code
+      by_save after e f b None saves =
+          SomeUndefined at born
+          (ap source_rest (sym (end_done (birth w.unit.structs d s)) ∙ e)
+          ∙ ap (λ r. on_outcome r (λ _. parameters T at ds vs)) (write_is ∙ ap (λ o. (defined at o >>= put_store) born) saves))
           refl
-          (ap (λ q. then_do q (at_next (monitored.exec_all over_blocks [] (target.births w.numbers ds) w.calls n))) (target_birth w slots regs s t h b enough d c.0 n ∙ ap (birth_runs w slots regs s t h b enough d c.0) e)
-          ∙ ap (λ k. Stops (Full g) k []) b.steps)
+      by_save after e f b (Some saved) saves =
+          let points : slice_get after p ≡ Some (Points (Into (length born.store) 0)) = b.point.0 ∙ ap (λ i. Some (Points (Into i 0))) (sym number) in
+          let holds : slice_get after a ≡ Some v = b.before a (omega (arith, less)) ∙ there in
+          let m1 = meets_inside w h spot p r living (d ∷ []) (omega arith) regs s t m after e b in
+          let kept = saved_value born.store saved (Into (length born.store) 0) (IntegerType k) v m1.standing.bounded is_int saves in
+          let later : Later born (written saved) [] = record {
+            scope = refl;
+            calls = refl;
+            live = kept.live;
+            longer = omega (arith, kept.long);
+            bounded = kept.bounded;
+            spent = omega arith;
+            output = sym (append-nil s.output);
+          } in
+          let beside : Beside w saved (written saved) (with_store saved target_born) = record { store_is = refl; frames = m1.beside.frames; steps = m1.beside.steps; input = m1.beside.input } in
+          let m2 = meets_later w (behind_births w.unit.structs h s (d ∷ [])) (with_variables p (d ∷ []) spot) (p + length (d ∷ [])) (with_pointer d r).bound (with_numbers (d ∷ []) living) after after born (written saved) target_born
+          (with_store saved target_born) [] (same_all (p + length (d ∷ [])) after) later beside m1 in
+          with_others (written saved) after (with_store saved target_born)
+          (record { spent = omega arith; output = refl; longer = omega (arith, kept.long, number) })
+          (ap source_rest (sym (end_done (birth w.unit.structs d s)) ∙ e)
+          ∙ ap (λ r. on_outcome r (λ _. parameters T at ds vs)) (write_is ∙ ap (λ o. (defined at o >>= put_store) born) saves))
+          (ap target_rest (sym (one_is w.globals (target_blocks.birth w.unit.structs p d) w.calls n regs t) ∙ f)
+          ∙ writes_none _
+          ∙ ap (λ q. then_do q (at_next (λ r u. rest r u)))
+          (ap (λ y. exec over_blocks w.globals (tree.Store p (value_type y) (tree.Register a)) w.calls n after target_born) object
+          ∙ sym (one_is w.globals (tree.Store p (register_type k) (tree.Register a)) w.calls n after target_born)
+          ∙ store_runs w n h p k p (length born.store) v target_born after (tree.Register a) saved points is_int holds saves)
+          ∙ writes_none _)
+          (go after (written saved) (with_store saved target_born) m2 b.before)
+
+      parameter_follows : Births w.unit.structs p (d ∷ []) regs s t (runs w n t (target_blocks.births w.unit.structs p (d ∷ [])) regs) → Bear code
+      parameter_follows (OneIsFull g to e o steps f) =
+          SomeFull g to
+          (ap source_rest (sym (end_done (birth w.unit.structs d s)) ∙ e))
+          o
+          (ap target_rest (sym (one_is w.globals (target_blocks.birth w.unit.structs p d) w.calls n regs t) ∙ f) ∙ ap (λ i. Stops (Full g) i []) (m.beside.steps ∙ sym steps))
+      parameter_follows (AllAre after e f b) = by_save after e f b (save born.store (Into (length born.store) 0) (IntegerType k) v) refl
+
+  pub parameters_follow : (ds : List Declaration) (vs : List Value) (h : Here) (spot : Spot) (p a : ℕ) (r : RegisterTable) (living : List ℕ) (regs : List Value) (s : State) (t : Target) → length r.kinds ≡ p → Meets w h spot p r.bound living regs s t
+      → AreObjects ds → HoldInOrder regs a ds vs → a + length ds ≤ p → p + length ds ≤ w.registers → BearsAll w h spot p r living at ds vs s (runs w n t (target.parameters w.unit p a ds) regs)
+  parameters_follow [] [] h spot p a r living regs s t e m objects holds less room =
+      let sum : p ≡ p + 0 = omega arith in
+      AllBorn s regs t h.inner refl refl (subst (λ low. Meets w h spot low r.bound living regs s t) sum m) (record { spent = omega arith; output = refl; longer = omega arith })
+  parameters_follow [] (v ∷ vs) h spot p a r living regs s t e m objects holds less room = absurd holds
+  parameters_follow (d ∷ ds) [] h spot p a r living regs s t e m objects holds less room = absurd holds
+  parameters_follow (d ∷ ds) (v ∷ vs) h spot p a r living regs s t e m objects holds less room =
+      subst (λ p. BearsAll w h spot p r living at (d ∷ ds) (v ∷ vs) s (runs w n t (target.parameters w.unit p a (d ∷ ds)) regs)) e
+      (parameter_follows h spot r living d ds v vs regs s t a (subst (λ p. Meets w h spot p r.bound living regs s t) (sym e) m) objects.0 holds.0 holds.1 (omega (arith, e, less))
+      (λ after to u m2 before.
+      parameters_follow ds vs (behind_births w.unit.structs h s (d ∷ [])) (with_variables (length r.kinds) (d ∷ []) spot) (suc (length r.kinds)) (suc a) (with_pointer d r) (with_numbers (d ∷ []) living) after to u
+      (length-append r.kinds (Ptr ∷ []) ∙ omega arith)
+      (let sum : length r.kinds + length (d ∷ []) ≡ suc (length r.kinds) = omega arith in
+      subst (λ low. Meets w (behind_births w.unit.structs h s (d ∷ [])) (with_variables (length r.kinds) (d ∷ []) spot) low (with_pointer d r).bound (with_numbers (d ∷ []) living) after to u) sum m2)
+      objects.1 (hold_same (length r.kinds) (suc a) regs after ds vs (omega (arith, e, less)) before holds.2) (omega (arith, e, less)) (omega (arith, e, room)))
+      (births_enter w.unit.structs (length r.kinds) (d ∷ []) (objects_small w.unit.structs (d ∷ []) (objects.0, tt)) w.globals w.calls n regs s t m.beside.store_is (omega (arith, e, room, m.standing.registers))))

@@ -40,8 +40,9 @@ abbrev Target : Type 0
 Target = monitored.State over_blocks.Mem
 
 -- a statement alone
-pub one_is : (a : MonStatement) (calls : monitored.Calls over_blocks) (n : ℕ) (regs : List over_blocks.Val) (s : Target) → monitored.exec_all over_blocks [] (one a) calls n regs s ≡ monitored.exec over_blocks [] a calls n regs s
-one_is a calls n regs s = last (monitored.exec over_blocks [] a calls n regs s)
+pub one_is : (gs : List over_blocks.Val) (a : MonStatement) (calls : monitored.Calls over_blocks) (n : ℕ) (regs : List over_blocks.Val) (s : Target)
+    → monitored.exec_all over_blocks gs (one a) calls n regs s ≡ monitored.exec over_blocks gs a calls n regs s
+one_is gs a calls n regs s = last (monitored.exec over_blocks gs a calls n regs s)
   where
     last : (q : Result Target (Flow over_blocks.Val)) → then_do q (at_next (λ r t. Done (Next r) t [])) ≡ q
     last (Done (Next r) t o) = ap (Done (Next r) t) (append-nil o)
@@ -57,9 +58,9 @@ rest_first (Done (Goes l r) t o) whole rest behind h = sym (ap (Done (Goes l r) 
 rest_first (Done (Returns v) t o) whole rest behind h = sym (ap (Done (Returns v) t) (append-nil (o ++ [])))
 rest_first (Stops e n o) whole rest behind h = refl
 
-pub before_is : (a b : MonStatements) (calls : monitored.Calls over_blocks) (n : ℕ) (regs : List over_blocks.Val) (s : Target)
-    → monitored.exec_all over_blocks [] (before a b) calls n regs s ≡ then_do (monitored.exec_all over_blocks [] a calls n regs s) (at_next (monitored.exec_all over_blocks [] b calls n))
-before_is NoStatement b calls n regs s = sym (writes_none (monitored.exec_all over_blocks [] b calls n regs s))
-before_is (Then a rest) b calls n regs s =
-    rest_first (monitored.exec over_blocks [] a calls n regs s) (monitored.exec_all over_blocks [] (before rest b) calls n) (monitored.exec_all over_blocks [] rest calls n)
-    (monitored.exec_all over_blocks [] b calls n) (λ r t. before_is rest b calls n r t)
+pub before_is : (gs : List over_blocks.Val) (a b : MonStatements) (calls : monitored.Calls over_blocks) (n : ℕ) (regs : List over_blocks.Val) (s : Target)
+    → monitored.exec_all over_blocks gs (before a b) calls n regs s ≡ then_do (monitored.exec_all over_blocks gs a calls n regs s) (at_next (monitored.exec_all over_blocks gs b calls n))
+before_is gs NoStatement b calls n regs s = sym (writes_none (monitored.exec_all over_blocks gs b calls n regs s))
+before_is gs (Then a rest) b calls n regs s =
+    rest_first (monitored.exec over_blocks gs a calls n regs s) (monitored.exec_all over_blocks gs (before rest b) calls n) (monitored.exec_all over_blocks gs rest calls n)
+    (monitored.exec_all over_blocks gs b calls n) (λ r t. before_is gs rest b calls n r t)

@@ -1,58 +1,43 @@
--- What is in sight: each object that the typing sees is a variable that lives, of its type, and has a value.
-use Rattle.std.proofs.Common.{◌≡◌, ℕ, List, Some, sym, ap, ◌∙◌}
-use Rattle.std.specs.Prelude.{slice_get}
-use Rattle.c_syntax.specs.declared.expression.Use.{Use}
-use Rattle.c_syntax.specs.Ctypes.{PlainType, Int}
-use Rattle.c_model.specs.Memory.{Store, Value, Integer}
-use Rattle.c_model.specs.State.{State}
-use Rattle.c_model.specs.Typing.{Object, Scopes, object_named}
-use Rattle.c_model.specs.WellTyped.{Denotes}
-use Rattle.instrument.proofs.Evaluating.{Target}
-use Rattle.instrument.proofs.Variables.{Slot, Setting, value_at, slot_of, Related, Beside, IsSet, AllKept, Known, known, match_at, decl_at, kept_at}
+-- Names in sight are those that live: what typing sees is found in each scope that has their numbers.
+use Rattle.std.proofs.Common.{◌≡◌, ℕ, Bool, true, false, cond, nat_eq, List, [], ◌∷◌, Some, refl, ap, subst, sym}
+use Rattle.std.proofs.lemmas.Bool.{eq-eqb}
+use Rattle.std.specs.Prelude.{map}
+use Rattle.c_syntax.specs.Statements.{Declaration}
+use Rattle.c_model.specs.State.{Scope, find}
+use Rattle.c_model.specs.Formed.{number_of}
+use Rattle.c_model.specs.Typing.{Object}
+use Rattle.instrument.proofs.Births.{names_of, with_numbers}
+use Rattle.instrument.proofs.Scenes.{IsFound, AreFound, DeclarationsFound, objects_found_more}
 
-pub record InSight (slots : List Slot) (x : ℕ) (t : PlainType) : Type 0 where
-  pub slot : Slot
-  pub found : slot_of x slots ≡ Some slot
-  pub ctype : t ≡ Int slot.int
+-- a scope that has these numbers
+abbrev pub scope_for : List ℕ → Scope
+scope_for living = map (λ (x : ℕ). (x, 0)) living
 
-abbrev pub AreInSight : List Slot → List Object → Type 0
-AreInSight slots objects = (x : ℕ) (b : Object) → object_named x objects ≡ Some b → InSight slots b.decl b.ctype
+in_scope : (x : ℕ) (scope : Scope) → IsFound (scope_for (names_of scope)) x → IsFound scope x
+in_scope x [] h = h
+in_scope x (b ∷ scope) h = by (λ i. in_scope x scope i) (nat_eq b.0 x) h
+  where
+    by : (IsFound (scope_for (names_of scope)) x → IsFound scope x) → (t : Bool) → ((number : ℕ) × (cond t (Some 0) (find x (scope_for (names_of scope))) ≡ Some number)) → (number : ℕ) × (cond t (Some b.1) (find x scope) ≡ Some number)
+    by rest true i = (b.1, refl)
+    by rest false i = rest i
 
--- each has a value
-abbrev pub Ready : Store → List Slot → List Object → Type 0
-Ready store slots objects = (x : ℕ) (b : Object) → object_named x objects ≡ Some b → (v : Slot) → slot_of b.decl slots ≡ Some v → IsSet store v
+are_in_scope : (objects : List Object) (scope : Scope) → AreFound objects (scope_for (names_of scope)) → AreFound objects scope
+are_in_scope [] scope h = tt
+are_in_scope (b ∷ bs) scope h = (in_scope b.decl scope h.0, are_in_scope bs scope h.1)
 
-pub ready_later : (old new : Store) (slots : List Slot) (objects : List Object) → AllKept slots old new → Ready old slots objects → Ready new slots objects
-ready_later old new slots objects kept ready x b e v found = kept_at old new b.decl slots v kept found (ready x b e v found)
+pub sees_found : (objects : List Object) (living : List ℕ) (scope : Scope) → names_of scope ≡ living → AreFound objects (scope_for living) → AreFound objects scope
+sees_found objects living scope e h = are_in_scope objects scope (subst (λ l. AreFound objects (scope_for l)) (sym e) h)
 
--- the variable that a name denotes
-pub record IsDenoted (slots : List Slot) (x : Use) (t : PlainType) : Type 0 where
-  pub slot : Slot
-  pub found : slot_of x.decl slots ≡ Some slot
-  pub ctype : t ≡ Int slot.int
+-- ---- births add names
 
-abbrev pub denoted : (slots : List Slot) (scopes : Scopes) → AreInSight slots scopes.objects → (x : Use) (t : PlainType) → Denotes scopes x t → IsDenoted slots x t
-denoted slots scopes sight x t d =
-    let i = sight x.name d.object d.found in
-    record { slot = i.slot; found = ap (λ n. slot_of n slots) d.decl ∙ i.found; ctype = sym d.ctype ∙ i.ctype }
+pub sees_born : (objects : List Object) (ds : List Declaration) (living : List ℕ) → AreFound objects (scope_for living) → AreFound objects (scope_for (with_numbers ds living))
+sees_born objects [] living h = h
+sees_born objects (d ∷ ds) living h = sees_born objects ds (number_of d ∷ living) (objects_found_more objects (number_of d) 0 (scope_for living) h)
 
-pub record HasValue (w : Setting) (regs : List Value) (s : State) (x : ℕ) (v : Slot) : Type 0 where
-  pub known : Known w s.store regs v
-  pub register : slice_get regs (value_at w x) ≡ Some (Integer known.value)
+newest : (d : Declaration) (living : List ℕ) → IsFound (scope_for (number_of d ∷ living)) (number_of d)
+newest d living = (0, ap (λ t. cond t (Some 0) (find (number_of d) (scope_for living))) (eq-eqb (number_of d) (number_of d) refl))
 
-pub has_value : (w : Setting) (slots : List Slot) (scopes : Scopes) (regs : List Value) (s : State) → Related w slots regs s → Ready s.store slots scopes.objects → (x : Use) (t : PlainType) (d : Denotes scopes x t) (v : Slot)
-    → slot_of x.decl slots ≡ Some v → HasValue w regs s x.decl v
-has_value w slots scopes regs s h ready x t d v found =
-    let k = known w s.store regs v (match_at w s.store regs x.decl slots v h.all found) (ready x.name d.object d.found v (ap (λ n. slot_of n slots) (sym d.decl) ∙ found)) in
-    record { known = k; register = ap (λ n. slice_get regs (value_at w n)) (sym (decl_at x.decl slots v found)) ∙ k.register }
-
--- ---- states from which statements go on: the target stands beside the source, and what is in sight has values
-
-pub record Meets (w : Setting) (slots : List Slot) (objects : List Object) (regs : List Value) (s : State) (t : Target) : Type 0 where
-  pub related : Related w slots regs s
-  pub beside : Beside w slots s t
-  pub ready : Ready s.store slots objects
-
-pub meets_later : (w : Setting) (slots : List Slot) (objects : List Object) (regs after : List Value) (s to : State) (t u : Target) → AllKept slots s.store to.store → Meets w slots objects regs s t → Related w slots after to
-    → Beside w slots to u → Meets w slots objects after to u
-meets_later w slots objects regs after s to t u kept m r b = record { related = r; beside = b; ready = ready_later s.store to.store slots objects kept m.ready }
+pub declared_born : (ds : List Declaration) (living : List ℕ) → DeclarationsFound ds (scope_for (with_numbers ds living))
+declared_born [] living = tt
+declared_born (d ∷ ds) living =
+    ((sees_born (record { name = d.name; decl = number_of d; ctype = d.ctype } ∷ []) ds (number_of d ∷ living) (newest d living, tt)).0, declared_born ds (number_of d ∷ living))

@@ -1,446 +1,439 @@
 -- Statements: the target does what the source does.
-use Rattle.std.proofs.Common.{◌≡◌, ℕ, suc, ◌+◌, ◌≤◌, ℤ, true, List, [], ◌∷◌, ◌++◌, length, Option, Some, None, option_map, refl, sym, ap, ◌∙◌, subst, arith}
-use Rattle.std.proofs.lemmas.List.{append-nil, length-append}
+use Rattle.std.proofs.Common.{◌≡◌, ℕ, suc, ◌+◌, ◌≤◌, true, List, [], ◌∷◌, ◌++◌, length, Option, Some, None, slice_get, slice_set, refl, sym, ap, ◌∙◌, subst, arith, append_assoc}
+use Rattle.std.proofs.lemmas.List.{length-append}
 use Rattle.c_syntax.specs.declared.place.Place.{Place}
-use Rattle.c_syntax.specs.declared.expression.Use.{Use}
-use Rattle.c_syntax.specs.Ctypes.{PlainType}
 use Rattle.c_syntax.specs.Annotations.{Annotation}
-use Rattle.c_syntax.specs.Expressions.{Expression, Expressions, Node, Call, place_of, type_of}
-use Rattle.c_syntax.specs.Statements.{Initialiser, One, Many, Declaration, Statement, Empty, Eval, Block, If, While, Do, For, Break, Continue, Return, ElsePart, NoElse, Else, ForFirst, NoFirst, First, Declare, Run, Asserts, BlockItems, NoItem, Then}
-use Rattle.c_syntax.specs.Programs.{TranslationUnit}
-use Rattle.c_model.specs.Memory.{Integer, Value}
-use Rattle.c_model.specs.State.{State, Leaves, Returns, Outcome, Normal, Stop, Evaluation, on_outcome, ◌>>◌, stop, births, within, restored}
+use Rattle.c_syntax.specs.Expressions.{Expression, Node, Call, type_of}
+use Rattle.c_syntax.specs.Statements.{Declaration, Statement, Empty, Eval, Block, If, While, Do, For, Break, Continue, Return, ElsePart, NoElse, Else, ForFirst, NoFirst, First, Declare, Run, Asserts, BlockItems, NoItem, Then}
+use Rattle.c_model.specs.Layouts.{IntegerType}
+use Rattle.c_model.specs.Memory.{Value, kill_from}
+use Rattle.c_model.specs.State.{State, Leaves, Returns, Outcome, Stop, Evaluation, on_outcome, ◌>>◌, stop, births, within, restored}
 use Rattle.c_model.specs.State as state
-use Rattle.c_model.specs.Meaning.{exec_with, else_with, first_with, item_with, items_with, condition_with, effect_with, initialise_all, declared_in, declared_first, turns}
+use Rattle.c_model.specs.Meaning.{Tables, tables_of, exec_with, else_with, first_with, items_with, condition_with, effect_with, initialise_all, declared_in, declared_first, turns}
 use Rattle.c_model.specs.Meaning as source
-use Rattle.c_model.specs.Typing.{Scopes, Signature, Around, in_loop, inner, with_object, with_objects, behind_first}
-use Rattle.c_model.specs.WellTyped.{Calls, WellTyped}
-use Rattle.c_model.specs.WellTypedPrograms.{IsCondition, WhereAny, Initialises, AreDeclared, Returned, StatementTyped, ElseTyped, FirstTyped, ItemsTyped, StatementNoted, ElseNoted, ItemsNoted}
-use Rattle.c_model.specs.Formed.{number_of, IsEffect, IsEffectOrCall, IsFull, IsFullOrCall, IsFullEffect, IsInitialiser, AreInitialised, FirstFormed, StatementFormed, ElseFormed, ItemsFormed}
+use Rattle.c_model.specs.Logic.{checks}
+use Rattle.c_model.specs.Typing.{Scopes, Around, in_loop, inner, with_objects, behind_first}
+use Rattle.c_model.specs.WellTyped.{WellTyped}
+use Rattle.c_model.specs.WellTypedPrograms.{IsCondition, WhereAny, Returned, StatementTyped, ElseTyped, FirstTyped, ItemsTyped, StatementNoted, ElseNoted, ItemsNoted}
+use Rattle.c_model.specs.Formed.{IsEffect, IsEffectOrCall, IsFull, IsFullOrCall, IsFullEffect, FirstFormed, StatementFormed, ElseFormed, ItemsFormed, declared_within}
 use Rattle.mon_syntax.specs.declared.tree.MonType.{MonType}
-use Rattle.mon_syntax.specs.Meaning.{Flow, Next, Goes, Done, then_do, at_next, with_value}
+use Rattle.mon_syntax.specs.Registers.{Bindings, RegisterTable, with_kinds, next_register}
+use Rattle.mon_syntax.specs.Meaning.{Next, Goes, Done, then_do, at_next, with_value, exec_all}
 use Rattle.mon_syntax.specs.Meaning as monitored
 use Rattle.mon_syntax.specs.BlockMemory.{over_blocks}
-use Rattle.mon_syntax.specs.Trees.{MonStatements, NoStatement}
+use Rattle.mon_syntax.specs.LiveBlocks.{live_in}
+use Rattle.mon_syntax.specs.Trees.{MonExpression, MonStatements, NoStatement}
 use Rattle.mon_syntax.specs.Trees as tree
-use Rattle.c_effects.specs.Letters.{Any, HasLetters, FullHasLetters, EffectHasLetters, InitialHasLetters, InitialsHaveLetters}
+use Rattle.c_effects.specs.Letters.{Any, HasLetters, FullHasLetters, EffectHasLetters}
 use Rattle.instrument.specs.Limits.{HasNumbers, ElseHasNumbers, FirstHasNumbers, HaveNumbers}
-use Rattle.c_effects.specs.Expressions.{value, temporaries, setup, condition_of, before, one}
-use Rattle.instrument.specs.Translation.{Spot, statement_temporaries, else_temporaries, first_temporaries, item_temporaries, items_temporaries, with_variables, test, test_if_any, loop, statement, else_part, first_part, item, items, end_label}
-use Rattle.instrument.specs.Translation.{next_label}
-use Rattle.c_effects.specs.Effects.{full_temporaries, full_setup, full_value, effect_temporaries, any_temporaries, initial_temporaries, declaration_temporaries, effect_if_any}
-use Rattle.track_scopes.specs.Blocks.{deaths, with_born}
-use Rattle.instrument.specs.Translation as target
+use Rattle.c_effects.specs.Expressions.{value, value_type, temporaries, setup, condition_of, before, one, set, assertions, assertions_temporaries}
+use Rattle.c_effects.specs.Effects.{full_temporaries, full_value, effect_temporaries, any_temporaries, declaration_temporaries, effect_if_any}
 use Rattle.c_effects.specs.Effects as effects
-use Rattle.instrument.proofs.Variables.{Slot, Setting, no_tables, count, Related, Beside, IsSet, AllMatch, kept_refl, related_same}
+use Rattle.track_scopes.specs.Blocks.{AreSmall, entered, deaths, with_born}
+use Rattle.track_scopes.specs.Lives.{with_store}
+use Rattle.instrument.specs.Translation.{Spot, returned_temporaries, after_statement, after_else, after_first, after_items, with_variables, test, test_if_any, statement, else_part, first_part, items, end_label, next_label, loop}
+use Rattle.instrument.specs.Translation as target
+use Rattle.instrument.proofs.Standing.{Target, Setting, runs, Same, Has, IsOf, Here, Beside}
+use Rattle.track_scopes.proofs.Births.{births_enter}
+use Rattle.track_scopes.proofs.Deaths.{deaths_leave}
 use Rattle.instrument.proofs.Results.{writes_none, one_is, before_is}
-use Rattle.instrument.proofs.Evaluating.{Target, tested_value, runs, if_runs}
+use Rattle.instrument.proofs.Registers.{get-set_same, same_all, same_less, same_trans, same_set, longer}
+use Rattle.instrument.proofs.Following.{Evaluates, HasValue, HasNone, Later, later_same, IsResult, Follows, Breaks, Continues, IsLeft, stays, onward, undefined_here, follows_choice, follows_then}
+use Rattle.instrument.proofs.Births.{with_numbers, pointed_point, pointed_append, behind_births}
+use Rattle.instrument.proofs.Blocks.{Meets, meets_later, block_follows}
+use Rattle.instrument.proofs.Loops as loops
+use Rattle.instrument.proofs.Loops.{Tested, IsTested, NotTested, choice_runs}
+use Rattle.instrument.proofs.Declared.{CanDeclare, ElseCanDeclare, ItemsCanDeclare, AreAbsent, meets_behind, entered_long, more_kinds, statement_grows, else_grows, first_grows, items_grow}
 use Rattle.instrument.proofs.ExpressionTypes.{HasInt, scalar_int, integer_int}
-use Rattle.instrument.proofs.Sight.{AreInSight, ready_later, Meets, meets_later}
-use Rattle.instrument.proofs.Expressions.{longer, evaluates, test_is}
-use Rattle.c_effects.proofs.Sequences.{before_assoc}
-use Rattle.instrument.proofs.Following.{Here, Later, later_same, IsResult, Follows, Breaks, Continues, IsLeft, stays, follows_value, follows_choice, follows_then}
-use Rattle.instrument.proofs.Births.{slots_born, decls_of, registers_of, AllCanBeBorn, Dead, deaths_run}
-use Rattle.instrument.proofs.Blocks.{behind_births, block_follows, with_born-slots}
-use Rattle.instrument.proofs.Calls.{IsCalled}
-use Rattle.instrument.proofs.FullExpressions.{handed_on, Scene, follows_full}
-use Rattle.instrument.proofs.Effects.{effect_follows, initial_follows}
+use Rattle.instrument.proofs.Expressions as expressions
+use Rattle.instrument.proofs.Expressions.{test_is}
+use Rattle.instrument.proofs.Scenes.{Scene, scene_inner, scene_with_all, scene_behind_first, AreFound, DeclarationsFound, found_with_all, declarations_found-append}
+use Rattle.instrument.proofs.Sight.{scope_for, sees_found, sees_born, declared_born}
+use Rattle.instrument.proofs.Effects.{effect_follows, initials_follow}
 use Rattle.instrument.proofs.Asserts.{assertions_follow}
-use Rattle.instrument.proofs.Loops.{Tests, tests, no_test, turns_follow, do_turns_follow, loop_follows, in_body, in_turn}
-use Rattle.instrument.proofs.Declared.{CanDeclare, ElseCanDeclare, ItemsCanDeclare, decls_of-born, registers_of-append, slots_born-append, sight_behind, ready_behind, HasSlot, HaveSlots, born_have_slots, have_front, have_behind, sight_declared}
-use Rattle.instrument.proofs.Declared.{ready_declared}
+use Rattle.instrument.proofs.FullExpressions.{handed_on, follows_full}
 
 pub effect_or_call : (e : Expression) → IsEffect e → IsEffectOrCall e
 effect_or_call (Node at t (Call f es)) h = absurd h
 effect_or_call e h = h
 
--- ---- numbers of registers
-
-module _ (rs a b : List MonType) where
-  pub two : length (rs ++ (a ++ b)) ≡ length (rs ++ a ++ b)
-  two = omega (arith, length-append (rs ++ a) b, length-append rs a, length-append rs (a ++ b), length-append a b)
-
-  pub three : (c : List MonType) → length (rs ++ (a ++ b ++ c)) ≡ length (rs ++ a ++ b ++ c)
-  three c = omega (arith, length-append rs (a ++ b ++ c), length-append (a ++ b) c, length-append a b, length-append (rs ++ a ++ b) c, length-append (rs ++ a) b, length-append rs a)
-
-  pub four : (c d : List MonType) → length (rs ++ (a ++ b ++ c ++ d)) ≡ length (rs ++ a ++ b ++ c ++ d)
-  four c d = omega (
-    arith,
-    length-append rs (a ++ b ++ c ++ d),
-    length-append (a ++ b ++ c) d,
-    length-append (a ++ b) c,
-    length-append a b,
-    length-append (rs ++ a ++ b ++ c) d,
-    length-append (rs ++ a ++ b) c,
-    length-append (rs ++ a) b,
-    length-append rs a,
-  )
-
--- ---- where statements stand
-
--- the translation's spot tells the registers of the variables that live
-pub record At (w : Setting) (spot : Spot) (h : Here) : Type 0 where
-  pub inner : List Slot
-  pub slots : h.slots ≡ inner ++ h.around
-  pub inside : spot.inside ≡ registers_of w inner
-  pub outside : spot.outside ≡ registers_of w h.around
-  pub loops : spot.loops ≡ h.loops
-
-pub at_births : (w : Setting) (spot : Spot) (h : Here) (s : State) (ds : List Declaration) → At w spot h → At w (with_variables w.numbers ds spot) (behind_births h s ds)
-at_births w spot h s ds a = record {
-  inner = slots_born (length s.store) ds a.inner;
-  slots = ap (slots_born (length s.store) ds) a.slots ∙ slots_born-append (length s.store) ds a.inner h.around;
-  inside = ap (with_born w.numbers ds) a.inside ∙ with_born-slots w (length s.store) ds a.inner;
-  outside = a.outside;
-  loops = a.loops;
-}
-
--- all that live
-all_registers : (w : Setting) (spot : Spot) (h : Here) → At w spot h → spot.inside ++ spot.outside ≡ registers_of w h.slots
-all_registers w spot h a =
-    ap (λ l. l ++ spot.outside) a.inside ∙ ap (λ l. registers_of w a.inner ++ l) a.outside ∙ sym (registers_of-append w a.inner h.around) ∙ ap (registers_of w) (sym a.slots)
-
-pub at_loop : (w : Setting) (spot : Spot) (h : Here) → At w spot h → At w (target.in_loop spot) (in_body w h.slots h.result (spot.loops + 1))
-at_loop w spot h a = record { inner = []; slots = refl; inside = refl; outside = all_registers w spot h a; loops = refl }
-
-match_front : (w : Setting) (s : State) (regs : List Value) (new slots : List Slot) → AllMatch w s.store regs (new ++ slots) → AllMatch w s.store regs new
-match_front w s regs [] slots h = tt
-match_front w s regs (v ∷ new) slots h = (h.0, match_front w s regs new slots h.1)
-
 -- ---- jumps: the blocks of the variables that are left die in front
 
-module _ (w : Setting) (n : ℕ) (spot : Spot) (h : Here) (at : At w spot h) (s : State) (regs : List Value) (t : Target) (m : Related w h.slots regs s) (b : Beside w h.slots s t) where
+module _ (w : Setting) (n : ℕ) (h : Here) (spot : Spot) (low : ℕ) (bound : Bindings) (living : List ℕ) (s : State) (regs : List Value) (t : Target)
+    (m : Meets w h spot low bound living regs s t) where
+  -- the target with these blocks dead
+  abbrev dead : ℕ → Target
+  dead base = with_store (kill_from base t.mem.store) t
+
+  beside_dead : (base : ℕ) → Beside w (kill_from base s.store) s (dead base)
+  beside_dead base = record { store_is = ap (kill_from base) m.beside.store_is; frames = m.beside.frames; steps = m.beside.steps; input = m.beside.input }
+
   -- those born inside the loop
-  loop_dead : Dead w h.slots regs s n h.around t (runs w n t (deaths spot.inside) regs)
+  loop_dead : runs w n t (deaths spot.inside) regs ≡ Done (Next regs) (dead h.loop) []
   loop_dead =
-      subst (λ rs. Dead w h.slots regs s n h.around t (runs w n t (deaths rs) regs)) (sym at.inside)
-      (deaths_run w h.slots regs s n at.inner h.around t (match_front w s regs at.inner h.around (subst (AllMatch w s.store regs) at.slots m.all)) (subst (λ vs. Beside w vs s t) at.slots b))
+      deaths_leave spot.inside w.globals w.calls n h.loop regs t h.inner (h.outer ++ w.around) (ap live_in m.beside.store_is ∙ m.standing.live) m.standing.since_loop m.standing.before_loop
+      (pointed_point low regs spot.inside h.inner m.inside)
 
   -- all of the call
-  call_dead : Dead w h.slots regs s n [] t (runs w n t (deaths (spot.inside ++ spot.outside)) regs)
+  call_dead : runs w n t (deaths (spot.inside ++ spot.outside)) regs ≡ Done (Next regs) (dead w.base) []
   call_dead =
-      subst (λ rs. Dead w h.slots regs s n [] t (runs w n t (deaths rs) regs)) (sym (all_registers w spot h at))
-      (deaths_run w h.slots regs s n h.slots [] t m.all (subst (λ vs. Beside w vs s t) (sym (append-nil h.slots)) b))
+      deaths_leave (spot.inside ++ spot.outside) w.globals w.calls n w.base regs t (h.inner ++ h.outer) w.around (ap live_in m.beside.store_is ∙ m.standing.live ∙ sym (append_assoc h.inner h.outer w.around)) m.standing.since_call
+      m.standing.before_call (pointed_point low regs (spot.inside ++ spot.outside) (h.inner ++ h.outer) (pointed_append low regs spot.inside spot.outside h.inner h.outer m.inside m.outside))
 
   -- what stands after deaths
-  behind_deaths : (living : List Slot) (d a : MonStatements) (x : Dead w h.slots regs s n living t (runs w n t d regs)) → runs w n t (before d a) regs ≡ runs w n x.to a regs
-  behind_deaths living d a x =
-      before_is d a w.calls n regs t
-      ∙ ap (λ q. then_do q (at_next (monitored.exec_all over_blocks [] a w.calls n))) x.runs_to
-      ∙ writes_none (runs w n x.to a regs)
+  behind_deaths : (base : ℕ) (d a : MonStatements) → runs w n t d regs ≡ Done (Next regs) (dead base) [] → runs w n t (before d a) regs ≡ runs w n (dead base) a regs
+  behind_deaths base d a e =
+      before_is w.globals d a w.calls n regs t
+      ∙ ap (λ q. then_do q (at_next (exec_all over_blocks w.globals a w.calls n))) e
+      ∙ writes_none (runs w n (dead base) a regs)
 
-  goto_is : (living : List Slot) (d : MonStatements) (l k : List ℕ) (x : Dead w h.slots regs s n living t (runs w n t d regs)) → k ≡ l → runs w n t (before d (one (tree.Goto k))) regs ≡ Done (Goes l regs) x.to []
-  goto_is living d l k x e = behind_deaths living d (one (tree.Goto k)) x ∙ one_is (tree.Goto k) w.calls n regs x.to ∙ ap (λ i. Done (Goes i regs) x.to []) e
+  goto_is : (d : MonStatements) (l k : List ℕ) → runs w n t d regs ≡ Done (Next regs) (dead h.loop) [] → k ≡ l → runs w n t (before d (one (tree.Goto k))) regs ≡ Done (Goes l regs) (dead h.loop) []
+  goto_is d l k x e = behind_deaths h.loop d (one (tree.Goto k)) x ∙ one_is w.globals (tree.Goto k) w.calls n regs (dead h.loop) ∙ ap (λ i. Done (Goes i regs) (dead h.loop) []) e
 
-  pub break_follows : h.looped ≡ true → Follows w h Next s (Stop (Leaves state.Breaks) s) (runs w n t (before (deaths spot.inside) (one (tree.Goto (end_label spot.loops)))) regs)
-  break_follows looped =
-      Breaks s regs loop_dead.to [] looped m loop_dead.beside (later_same h.slots s) refl (goto_is h.around (deaths spot.inside) (end_label h.loops) (end_label spot.loops) loop_dead (ap end_label at.loops))
+  pub break_follows : spot.loops ≡ h.loops → h.looped ≡ true → Follows w h low regs Next s (Stop (Leaves state.Breaks) s) (runs w n t (before (deaths spot.inside) (one (tree.Goto (end_label spot.loops)))) regs)
+  break_follows at looped =
+      Breaks s regs (dead h.loop) [] looped (same_all low regs) (later_same s m.standing.bounded) (beside_dead h.loop) refl (goto_is (deaths spot.inside) (end_label h.loops) (end_label spot.loops) loop_dead (ap end_label at))
 
-  pub continue_follows : h.looped ≡ true → Follows w h Next s (Stop (Leaves state.Continues) s) (runs w n t (before (deaths spot.inside) (one (tree.Goto (next_label spot.loops)))) regs)
-  continue_follows looped =
-      Continues s regs loop_dead.to [] looped m loop_dead.beside (later_same h.slots s) refl (goto_is h.around (deaths spot.inside) (next_label h.loops) (next_label spot.loops) loop_dead (ap next_label at.loops))
+  pub continue_follows : spot.loops ≡ h.loops → h.looped ≡ true → Follows w h low regs Next s (Stop (Leaves state.Continues) s) (runs w n t (before (deaths spot.inside) (one (tree.Goto (next_label spot.loops)))) regs)
+  continue_follows at looped =
+      Continues s regs (dead h.loop) [] looped (same_all low regs) (later_same s m.standing.bounded) (beside_dead h.loop) refl (goto_is (deaths spot.inside) (next_label h.loops) (next_label spot.loops) loop_dead (ap next_label at))
 
-  pub leave_follows : (v : Option ℤ) (e : Option tree.MonExpression) → IsResult h.result v → ((u : Target) → runs w n u (one (tree.Return e)) regs ≡ Done (monitored.Returns (option_map Integer v)) u [])
-      → Follows w h Next s (Stop (Leaves (Returns (option_map Integer v))) s) (runs w n t (before (deaths (spot.inside ++ spot.outside)) (one (tree.Return e))) regs)
+  pub leave_follows : (v : Option Value) (e : Option MonExpression) → IsResult h.result v → ((u : Target) → runs w n u (one (tree.Return e)) regs ≡ Done (monitored.Returns v) u [])
+      → Follows w h low regs Next s (Stop (Leaves (Returns v)) s) (runs w n t (before (deaths (spot.inside ++ spot.outside)) (one (tree.Return e))) regs)
   leave_follows v e i run =
-      IsLeft v s regs call_dead.to [] i m call_dead.beside (later_same h.slots s) refl (behind_deaths [] (deaths (spot.inside ++ spot.outside)) (one (tree.Return e)) call_dead ∙ run call_dead.to)
+      IsLeft v s (dead w.base) [] i (later_same s m.standing.bounded) (beside_dead w.base) refl (behind_deaths w.base (deaths (spot.inside ++ spot.outside)) (one (tree.Return e)) call_dead ∙ run (dead w.base))
 
 -- ---- statements
 
-module _ (p : TranslationUnit) (w : Setting) (n most : ℕ) (names : List (List ℕ)) (functions : List Signature) (all_calls : (s : Scopes) → s.names ≡ names → s.functions ≡ functions → (f : Use) (t : PlainType) (es : Expressions) → Calls s f t es
-    → IsCalled p w n f t es) where
-  -- what the typing sees, among the variables that live
-  pub record Stage (slots : List Slot) (s : Scopes) : Type 0 where
-    pub sight : AreInSight slots s.objects
-    pub names_are : s.names ≡ names
-    pub functions_are : s.functions ≡ functions
-
-  scene_of : (slots : List Slot) (s : Scopes) → Stage slots s → Scene p w n slots s
-  scene_of slots s g = record { sight = g.sight; calls = λ f t es c. all_calls s g.names_are g.functions_are f t es c }
-
-  inner_stage : (slots : List Slot) (s : Scopes) → Stage slots s → Stage slots (inner s)
-  inner_stage slots s g = record { sight = g.sight; names_are = g.names_are; functions_are = g.functions_are }
+module _ (w : Setting) (n most : ℕ) where
+  abbrev T : Tables
+  T = tables_of w.unit
 
   -- what a part of the source does, and a part of the target, from all states that meet
-  abbrev pub DoSame : Here → Scopes → Evaluation (Unit {0}) → MonStatements → Type 0
-  DoSame h s x a = (regs : List Value) (from : State) (t : Target) → Meets w h.slots s.objects regs from t → from.steps ≤ n → Follows w h Next from (x from) (runs w n t a regs)
+  abbrev pub DoSame : Here → Spot → ℕ → Bindings → List ℕ → Evaluation (Unit {0}) → MonStatements → Type 0
+  DoSame h spot low bound living x a = (regs : List Value) (from : State) (t : Target) → Meets w h spot low bound living regs from t → from.steps ≤ n → Follows w h low regs Next from (x from) (runs w n t a regs)
 
-  -- one part after another
-  in_order : (h : Here) (s : Scopes) (x y : Evaluation (Unit {0})) (a b : MonStatements) → DoSame h s x a → DoSame h s y b → DoSame h s (x >> y) (before a b)
-  in_order h s x y a b f g = λ regs from t m le.
-      subst (λ q. Follows w h Next from ((x >> y) from) q) (sym (before_is a b w.calls n regs t))
-      (follows_then w h Next from _ _ y (monitored.exec_all over_blocks [] b w.calls n) (f regs from t m le)
-      (λ to after u o r be l. g after to u (meets_later w h.slots s.objects regs after from to t u l.kept m r be) (omega (arith, le, l.spent))))
+  -- one part after another, which knows the names in sight by other registers perhaps
+  in_order : (h : Here) (spot : Spot) (low : ℕ) (bound later : Bindings) (living : List ℕ) (x y : Evaluation (Unit {0})) (a b : MonStatements) → DoSame h spot low bound living x a
+      → ((regs : List Value) (s : State) (t : Target) → Meets w h spot low bound living regs s t → Meets w h spot low later living regs s t) → DoSame h spot low later living y b → DoSame h spot low bound living (x >> y) (before a b)
+  in_order h spot low bound later living x y a b f again g = λ regs from t m le.
+      subst (λ q. Follows w h low regs Next from ((x >> y) from) q) (sym (before_is w.globals a b w.calls n regs t))
+      (follows_then w h low regs Next from _ _ y (exec_all over_blocks w.globals b w.calls n) (f regs from t m le)
+      (λ to after u o same l be. g after to u (again after to u (meets_later w h spot low bound living regs after from to t u o same l be m)) (omega (arith, le, l.spent))))
 
-  condition_int : (s : Scopes) (e : Expression) → IsCondition s e → HasInt (type_of e)
-  condition_int s e c = scalar_int (type_of e) c.scalar
+  -- the same registers
+  in_order_same : (h : Here) (spot : Spot) (low : ℕ) (bound : Bindings) (living : List ℕ) (x y : Evaluation (Unit {0})) (a b : MonStatements) → DoSame h spot low bound living x a → DoSame h spot low bound living y b
+      → DoSame h spot low bound living (x >> y) (before a b)
+  in_order_same h spot low bound living x y a b f g = in_order h spot low bound bound living x y a b f (λ regs s t m. m) g
 
-  effect_does : (h : Here) (s : Scopes) (g : Stage h.slots s) (rs : List MonType) (e : Expression) → IsEffectOrCall e → WellTyped s e → EffectHasLetters e → count w + count w ≤ length rs → length (rs ++ effect_temporaries e) ≤ w.registers
-      → DoSame h s (effect_with no_tables (Some e) w.call) (effects.effect p w.numbers rs e)
-  effect_does h s g rs e pure q l behind enough = λ regs from t m le.
-      effect_follows p w n h s (scene_of h.slots s g) from t m.ready le rs behind regs m.related m.beside e pure q l enough
+  nothing_does : (h : Here) (spot : Spot) (low : ℕ) (bound : Bindings) (living : List ℕ) → DoSame h spot low bound living state.done NoStatement
+  nothing_does h spot low bound living = λ regs from t m le. stays w h low regs from t m.standing.bounded m.beside
 
-  effect_if_any_does : (h : Here) (s : Scopes) (g : Stage h.slots s) (rs : List MonType) (e : Option Expression) → WhereAny (IsFullEffect most) e → WhereAny (WellTyped s) e → Any EffectHasLetters e → count w + count w ≤ length rs
-      → length (rs ++ any_temporaries effect_temporaries e) ≤ w.registers → DoSame h s (effect_with no_tables e w.call) (effect_if_any p w.numbers rs e)
-  effect_if_any_does h s g rs None pure q l behind enough = λ regs from t m le. stays w h regs from t m.related m.beside
-  effect_if_any_does h s g rs (Some e) pure q l behind enough = effect_does h s g rs e (effect_or_call e pure.is) q l behind enough
+  effect_does : (h : Here) (spot : Spot) (low : ℕ) (bound : Bindings) (living : List ℕ) (s : Scopes) (g : Scene w n s) (rs : List MonType) (e : Expression) → IsEffectOrCall e → WellTyped s e → EffectHasLetters e → low ≤ length rs
+      → length (rs ++ effect_temporaries e) ≤ w.registers → DoSame h spot low bound living (effect_with T (Some e) w.call) (effects.effect w.unit bound rs e)
+  effect_does h spot low bound living s g rs e pure q l behind enough = λ regs from t m le.
+      effect_follows w n h s g low bound from t le rs behind regs m.standing m.beside e pure q l enough
 
-  test_does : (slots : List Slot) (result : PlainType) (loops : ℕ) (s : Scopes) (g : Stage slots s) (rs : List MonType) (e : Expression) → IsFull most e → IsCondition s e → HasLetters e → count w + count w ≤ length rs
-      → length (rs ++ temporaries e) ≤ w.registers → Tests w slots result loops n s (source.condition_of no_tables e w.call) (test w.numbers rs loops e)
-  test_does slots result loops s g rs e pure q l behind enough =
-      let i = condition_int s e q in
-      tests w slots result loops n s g.sight e rs i.int i.is pure.is q.typed l behind enough
+  effect_if_any_does : (h : Here) (spot : Spot) (low : ℕ) (bound : Bindings) (living : List ℕ) (s : Scopes) (g : Scene w n s) (rs : List MonType) (e : Option Expression) → WhereAny (IsFullEffect most) e → WhereAny (WellTyped s) e
+      → Any EffectHasLetters e → low ≤ length rs → length (rs ++ any_temporaries effect_temporaries e) ≤ w.registers → DoSame h spot low bound living (effect_with T e w.call) (effect_if_any w.unit bound rs e)
+  effect_if_any_does h spot low bound living s g rs None pure q l behind enough = nothing_does h spot low bound living
+  effect_if_any_does h spot low bound living s g rs (Some e) pure q l behind enough = effect_does h spot low bound living s g rs e (effect_or_call e pure.is) q l behind enough
 
-  test_if_any_does : (slots : List Slot) (result : PlainType) (loops : ℕ) (s : Scopes) (g : Stage slots s) (rs : List MonType) (e : Option Expression) → WhereAny (IsFull most) e → WhereAny (IsCondition s) e → Any HasLetters e
-      → count w + count w ≤ length rs → length (rs ++ any_temporaries temporaries e) ≤ w.registers → Tests w slots result loops n s (condition_with no_tables e w.call) (test_if_any w.numbers rs loops e)
-  test_if_any_does slots result loops s g rs None pure q l behind enough = no_test w slots result loops n s
-  test_if_any_does slots result loops s g rs (Some e) pure q l behind enough = test_does slots result loops s g rs e pure q l behind enough
+  -- ---- conditions
+
+  condition_tested : (h : Here) (spot : Spot) (low : ℕ) (bound : Bindings) (living : List ℕ) (s : Scopes) (rs : List MonType) (e : Expression) → IsFull most e → IsCondition s e → HasLetters e → low ≤ length rs
+      → length (rs ++ temporaries e) ≤ w.registers → (regs : List Value) (from : State) (t : Target) → Meets w h spot low bound living regs from t
+      → Tested w from t low regs (source.condition_of T e w.call from) (runs w n t (setup w.unit bound rs e) regs) (condition_of w.unit bound rs e)
+  condition_tested h spot low bound living s rs e pure q l behind enough regs from t m =
+      let i = scalar_int (type_of e) q.scalar in
+      by i.int i.is
+      (expressions.tests w n s bound from t m.beside.store_is m.standing.bounded low e i.int rs i.is pure.is q.typed l behind regs m.standing.anchored (omega (arith, enough, m.standing.registers)))
+    where
+      by : (k : Rattle.c_syntax.specs.declared.types.CInt.CInt) → type_of e ≡ Rattle.c_syntax.specs.Ctypes.Int k
+          → Evaluates w (IntegerType k) from t (source.condition_of T e w.call from) regs (length rs) (length (rs ++ temporaries e)) (runs w n t (setup w.unit bound rs e) regs) (value w.unit bound rs e)
+          → Tested w from t low regs (source.condition_of T e w.call from) (runs w n t (setup w.unit bound rs e) regs) (condition_of w.unit bound rs e)
+      by k int (HasNone at x) = NotTested at x
+      by k int (HasValue v i x after same run has) =
+          let c = test_is w t.mem (type_of e) k (value w.unit bound rs e) after v int i (has after (same_all (length (rs ++ temporaries e)) after)) in
+          IsTested v c.0 x c.2 after (same_less low (length rs) regs after behind same) run (ap (λ o. monitored.◌>>=◌ o Rattle.mon_syntax.specs.BlockMemory.integer_of) c.1)
 
   -- `if`
-  choice_does : (h : Here) (s : Scopes) (g : Stage h.slots s) (rs : List MonType) (e : Expression) (x y : Evaluation (Unit {0})) (a b : MonStatements) → IsFull most e → IsCondition s e → HasLetters e → count w + count w ≤ length rs
-      → length (rs ++ temporaries e) ≤ w.registers → DoSame h s x a → DoSame h s y b → DoSame h s (λ s. on_outcome (source.condition_of no_tables e w.call s) (λ v. source.choose v x y))
-      (before (setup w.numbers rs e) (one (tree.If (condition_of w.numbers rs e) a b)))
-  choice_does h s g rs e x y a b pure q l behind enough f k = λ regs from t m le.
-      let i = condition_int s e q in
-      follows_value w h Next i.int n from t (source.condition_of no_tables e w.call from) (λ v. source.choose v x y) regs (length rs) (length (rs ++ temporaries e)) (setup w.numbers rs e) (one (tree.If (condition_of w.numbers rs e) a b))
-      (value w.numbers rs e)
-      (tested_value (place_of e) i.int from t (source.eval_with no_tables e w.call from) regs (length rs) (length (rs ++ temporaries e)) (runs w n t (setup w.numbers rs e) regs) (value w.numbers rs e)
-      (evaluates w n h.slots s g.sight from t m.ready e i.int rs i.is pure.is q.typed l behind enough regs m.related)) (λ z fit after same has.
-      let m2 = meets_later w h.slots s.objects regs after from from t t (kept_refl h.slots from.store) m (related_same w h.slots regs after from (length rs) behind same m.related) m.beside in
-      let c = test_is (type_of e) i.int (value w.numbers rs e) after z i.is fit has in
-      subst (λ d. Follows w h Next from (source.choose (Integer z) x y from) d) (sym (if_runs w n t (condition_of w.numbers rs e) a b after c.0 c.1))
-      (follows_choice w h Next from from z c.0 x y _ _ c.2 (f after from t m2 le) (k after from t m2 le)))
-
-  return_does : (h : Here) (spot : Spot) (at : At w spot h) (s : Scopes) (g : Stage h.slots s) (rs : List MonType) (e : Option Expression) → WhereAny (IsFullOrCall most) e → Returned s h.result e → Any FullHasLetters e → count w + count w ≤ length rs
-      → length (rs ++ any_temporaries full_temporaries e) ≤ w.registers → (at_place : Place) → DoSame h s (exec_with no_tables (Return at_place e) w.call (suc n)) (target.returned p w.numbers spot rs e)
-  return_does h spot at s g rs None pure q l behind enough place = λ regs from t m le.
-      leave_follows w n spot h at from regs t m.related m.beside None None (subst (λ k. IsResult k None) (sym q) tt) (λ u. one_is (tree.Return None) w.calls n regs u)
-  return_does h spot at s g rs (Some e) pure q l behind enough place = λ regs from t m le.
-      let i = integer_int h.result q.2 in
-      let code = before (deaths (spot.inside ++ spot.outside)) (one (tree.Return (Some (full_value w.numbers rs e)))) in
-      follows_full p w n h s (scene_of h.slots s g) Next from t m.ready le rs behind regs m.related m.beside e i.int (λ v. stop (Leaves (Returns (Some v)))) code (q.1 ∙ i.is) pure.is q.0 l enough (λ z to u o after fit same r be la has.
-      leave_follows w n spot h at to after u r be (Some z) (Some (full_value w.numbers rs e)) (subst (λ k. IsResult k (Some z)) (sym i.is) fit)
-      (λ v. one_is (tree.Return (Some (full_value w.numbers rs e))) w.calls n after v ∙ ap (λ x. with_value x v.steps (λ y. Done (monitored.Returns (Some y)) v [])) (has v.mem)))
-
-  -- ---- declarations, and what follows
-
-  names_stay : (s : Scopes) (ds : List Declaration) → (with_objects s ds).names ≡ s.names
-  names_stay s [] = refl
-  names_stay s (d ∷ ds) = names_stay (with_object s d) ds
-
-  functions_stay : (s : Scopes) (ds : List Declaration) → (with_objects s ds).functions ≡ s.functions
-  functions_stay s [] = refl
-  functions_stay s (d ∷ ds) = functions_stay (with_object s d) ds
-
-  object_stage : (slots : List Slot) (s : Scopes) (d : Declaration) → HasSlot slots d → Stage slots s → Stage slots (with_object s d)
-  object_stage slots s d x g = record { sight = sight_declared slots s.objects d x g.sight; names_are = g.names_are; functions_are = g.functions_are }
-
-  pub objects_stage : (slots : List Slot) (s : Scopes) (ds : List Declaration) → HaveSlots slots ds → Stage slots s → Stage slots (with_objects s ds)
-  objects_stage slots s [] x g = g
-  objects_stage slots s (d ∷ ds) x g = objects_stage slots (with_object s d) ds x.1 (object_stage slots s d x.0 g)
-
-  declared_does : (h : Here) (ds : List Declaration) (s : Scopes) (rs : List MonType) (rest : Evaluation (Unit {0})) (code : MonStatements) → Stage h.slots s → HaveSlots h.slots ds → AreInitialised most ds → AreDeclared s ds → InitialsHaveLetters ds
-      → count w + count w ≤ length rs → length (rs ++ declaration_temporaries ds) ≤ w.registers → DoSame h (with_objects s ds) rest code
-      → DoSame h s (initialise_all no_tables ds w.call >> rest) (before (effects.initialise_all p w.numbers rs ds) code)
-  declared_does h [] s rs rest code g x pure q l behind enough go = go
-  declared_does h (d ∷ ds) s rs rest code g x pure q l behind enough go = λ regs from t m le.
-      let here = initial_temporaries d.init in
-      let next = rs ++ here in
-      let long = two rs here (declaration_temporaries ds) in
-      let later = declared_does h ds (with_object s d) next rest code (object_stage h.slots s d x.0 g) x.1 pure.1 q.1 l.1 (omega (arith, behind, longer rs here)) (omega (arith, long, enough)) go in
-      subst (λ r. Follows w h Next from r (runs w n t (before (before (effects.initialise p w.numbers rs (number_of d) d.init) (effects.initialise_all p w.numbers next ds)) code) regs))
-      (sym (handed_on (source.initialise no_tables d d.init w.call from) (λ _. initialise_all no_tables ds w.call) (λ _. rest)))
-      (subst (λ a. Follows w h Next from (on_outcome (source.initialise no_tables d d.init w.call from) (λ _. initialise_all no_tables ds w.call >> rest)) (runs w n t a regs))
-      (sym (before_assoc (effects.initialise p w.numbers rs (number_of d) d.init) (effects.initialise_all p w.numbers next ds) code))
-      (by regs from t m le d.init (omega (arith, long, longer next (declaration_temporaries ds), enough)) pure.0 q.0.init l.0
-      (λ to u o after r be la is_set. later after to u (record { related = r; beside = be; ready = ready_declared to.store h.slots s.objects d x.0 is_set (ready_later from.store to.store h.slots s.objects la.kept m.ready) })
-      (omega (arith, le, la.spent)))))
+  choice_does : (h : Here) (spot : Spot) (low : ℕ) (bound : Bindings) (living : List ℕ) (s : Scopes) (rs : List MonType) (e : Expression) (x y : Evaluation (Unit {0})) (a b : MonStatements) → IsFull most e → IsCondition s e → HasLetters e
+      → low ≤ length rs → length (rs ++ temporaries e) ≤ w.registers → DoSame h spot low bound living x a → DoSame h spot low bound living y b
+      → DoSame h spot low bound living (λ s. on_outcome (source.condition_of T e w.call s) (λ v. source.choose v x y)) (before (setup w.unit bound rs e) (one (tree.If (condition_of w.unit bound rs e) a b)))
+  choice_does h spot low bound living s rs e x y a b pure q l behind enough f k = λ regs from t m le.
+      by regs from t m le (source.condition_of T e w.call from) (condition_tested h spot low bound living s rs e pure q l behind enough regs from t m)
     where
-      after_it : MonStatements
-      after_it = before (effects.initialise_all p w.numbers (rs ++ initial_temporaries d.init) ds) code
+      c : MonExpression
+      c = condition_of w.unit bound rs e
 
-      by : (regs : List Value) (from : State) (t : Target) (m : Meets w h.slots s.objects regs from t) (le : from.steps ≤ n) → (o : Option (Place × Initialiser)) → length (rs ++ initial_temporaries o) ≤ w.registers → IsInitialiser most o
-          → Initialises s d.ctype o → InitialHasLetters o → ((to : State) (u : Target) (out : List ℕ) (after : List Value) → Related w h.slots after to → Beside w h.slots to u → Later h.slots from to out → IsSet to.store x.0.slot
-          → Follows w h Next to ((initialise_all no_tables ds w.call >> rest) to) (runs w n u after_it after))
-          → Follows w h Next from (on_outcome (source.initialise no_tables d o w.call from) (λ _. initialise_all no_tables ds w.call >> rest)) (runs w n t (before (effects.initialise p w.numbers rs (number_of d) o) after_it) regs)
-      by regs from t m le None room i j k go = absurd i
-      by regs from t m le (Some (at, One e)) room i j k go =
-          initial_follows p w n h s (scene_of h.slots s g) from t m.ready le rs behind regs m.related m.beside d at e x.0.slot (initialise_all no_tables ds w.call >> rest) after_it x.0.found x.0.ctype i.is j.0 j.1 k room go
-      by regs from t m le (Some (at, Many brace is)) room i j k go = absurd i
+      code : MonStatements
+      code = before (setup w.unit bound rs e) (one (tree.If c a b))
+
+      by : (regs : List Value) (from : State) (t : Target) → Meets w h spot low bound living regs from t → from.steps ≤ n → (r : Outcome Value) → Tested w from t low regs r (runs w n t (setup w.unit bound rs e) regs) c
+          → Follows w h low regs Next from (on_outcome r (λ v. source.choose v x y)) (runs w n t code regs)
+      by regs from t m le r (NotTested at i) = undefined_here w h low regs Next from (on_outcome r (λ v. source.choose v x y)) (runs w n t code regs) at (ap (λ r. on_outcome r (λ v. source.choose v x y)) i)
+      by regs from t m le r (IsTested v i e1 null after same run has) =
+          let later = later_same from m.standing.bounded in
+          let m2 = meets_later w h spot low bound living regs after from from t t [] same later m.beside m in
+          let target_is : runs w n t code regs ≡ monitored.writes [] (monitored.choose i (runs w n t a after) (runs w n t b after)) =
+          before_is w.globals (setup w.unit bound rs e) (one (tree.If c a b)) w.calls n regs t ∙ ap (λ q. then_do q (at_next (exec_all over_blocks w.globals (one (tree.If c a b)) w.calls n))) run
+          ∙ ap (monitored.writes []) (choice_runs w n t c a b after i has) in
+          subst (λ r. Follows w h low regs Next from (on_outcome r (λ v. source.choose v x y)) (runs w n t code regs)) (sym e1)
+          (subst (λ q. Follows w h low regs Next from (source.choose v x y from) q) (sym target_is)
+          (onward w h low regs after Next from from [] _ _ same later (follows_choice w h low after Next from from v i x y _ _ null (f after from t m2 le) (k after from t m2 le))))
+
+  -- ---- `return`
+
+  returned_does : (h : Here) (spot : Spot) (low : ℕ) (living : List ℕ) (s : Scopes) (g : Scene w n s) (r : RegisterTable) (e : Option Expression) → WhereAny (IsFullOrCall most) e → Returned s h.result e → Any FullHasLetters e → low ≤ next_register r
+      → next_register (with_kinds (any_temporaries returned_temporaries e) r) ≤ w.registers → (at_place : Place) → DoSame h spot low r.bound living (exec_with T (Return at_place e) w.call (suc n)) (target.returned w.unit spot r e)
+  returned_does h spot low living s g r None pure q l behind enough place = λ regs from t m le.
+      leave_follows w n h spot low r.bound living from regs t m None None (subst (λ k. IsResult k None) (sym q) tt) (λ u. one_is w.globals (tree.Return None) w.calls n regs u)
+  returned_does h spot low living s g r (Some e) pure q l behind enough place = λ regs from t m le.
+      follows_full w n h s g Next low r.bound from t le r.kinds behind regs m.standing m.beside e int.int (λ v. stop (Leaves (Returns (Some v)))) rest (q.1 ∙ int.is) pure.is q.0 l (omega (arith, enough, long))
+      (λ v to u o after fit same la be has. by regs from t m v to u o after fit same la be has)
+    where
+      int : HasInt h.result
+      int = integer_int h.result q.2
+
+      last : ℕ
+      last = length (r.kinds ++ full_temporaries e)
+
+      long : length (r.kinds ++ (full_temporaries e ++ value_type (type_of e) ∷ [])) ≡ suc last
+      long = omega (arith, length-append r.kinds (full_temporaries e ++ value_type (type_of e) ∷ []), length-append (full_temporaries e) (value_type (type_of e) ∷ []), length-append r.kinds (full_temporaries e))
+
+      v_code : MonExpression
+      v_code = full_value w.unit r.bound r.kinds e
+
+      leaves : MonStatements
+      leaves = before (deaths (spot.inside ++ spot.outside)) (one (tree.Return (Some (tree.Register last))))
+
+      rest : MonStatements
+      rest = before (set last v_code) leaves
+
+      by : (regs : List Value) (from : State) (t : Target) → Meets w h spot low r.bound living regs from t → (v : Value) (to : State) (u : Target) (o : List ℕ) (after : List Value) → IsOf (IntegerType int.int) v
+          → Same (length r.kinds) regs after → Later from to o → Beside w to.store to u → Has w v_code after u.mem v → Follows w h low after Next to (Stop (Leaves (Returns (Some v))) to) (runs w n u rest after)
+      by regs from t m v to u o after fit same la be has =
+          let taken = slice_set after last v in
+          let changed : Same low after taken = same_set low last after v (omega (arith, behind, longer r.kinds (full_temporaries e))) in
+          let mid = same_less low (length r.kinds) regs after behind same in
+          let all = same_trans low low regs after taken (omega arith) mid changed in
+          let there : slice_get taken last ≡ Some v = get-set_same after last v (omega (arith, same.long, m.standing.registers, enough, long)) in
+          let m2 = meets_later w h spot low r.bound living regs taken from to t u o all la be m in
+          let run : runs w n u rest after ≡ monitored.writes [] (runs w n u leaves taken) =
+          before_is w.globals (set last v_code) leaves w.calls n after u
+          ∙ ap (λ q. then_do q (at_next (exec_all over_blocks w.globals leaves w.calls n)))
+          (one_is w.globals (tree.Set last v_code) w.calls n after u ∙ ap (λ x. with_value x u.steps (λ y. Done (Next (slice_set after last y)) u [])) has) in
+          subst (λ q. Follows w h low after Next to (Stop (Leaves (Returns (Some v))) to) q) (sym run)
+          (onward w h low after taken Next to to [] _ _ changed (later_same to la.bounded)
+          (leave_follows w n h spot low r.bound living to taken u m2 (Some v) (Some (tree.Register last)) (subst (λ k. IsResult k (Some v)) (sym int.is) fit)
+          (λ x. one_is w.globals (tree.Return (Some (tree.Register last))) w.calls n taken x ∙ ap (λ y. with_value y x.steps (λ z. Done (monitored.Returns (Some z)) x [])) there)))
 
   -- ---- blocks
 
   -- variables are born, and live while this is done
-  pub block_does : (h : Here) (s : Scopes) (g : Stage h.slots s) (room : count w + count w ≤ w.registers) (ds : List Declaration) (x : Evaluation (Unit {0})) (a : MonStatements) → AllCanBeBorn w.numbers (decls_of h.slots) ds
-      → ((old : State) → Stage (behind_births h old ds).slots s → HaveSlots (behind_births h old ds).slots ds → DoSame (behind_births h old ds) s x a) → DoSame h s (within (births [] ds >> x)) (target.alive w.numbers ds a)
-  block_does h s g room ds x a c f = λ regs from t m le.
-      block_follows w h n room ds x a regs from t m.related m.beside c (λ to after u r b l.
-      f from (record { sight = sight_behind w.numbers (length from.store) ds h.slots s.objects c g.sight; names_are = g.names_are; functions_are = g.functions_are })
-      (born_have_slots w.numbers (length from.store) ds h.slots c)
-      after to u (record { related = r; beside = b; ready = ready_behind w.numbers (length from.store) ds h.slots s.objects from.store to.store c g.sight l.kept m.ready }) (omega (arith, le, l.spent)))
+  pub block_does : (h : Here) (spot : Spot) (low : ℕ) (r : RegisterTable) (living : List ℕ) (ds : List Declaration) (x : Evaluation (Unit {0})) (a : MonStatements) → low ≤ next_register r → next_register r + length ds ≤ w.registers
+      → AreSmall w.unit.structs ds → ((old : State) → DoSame (behind_births w.unit.structs h old ds) (with_variables (next_register r) ds spot) (next_register r + length ds) (entered ds r).bound (with_numbers ds living) x a)
+      → DoSame h spot low r.bound living (within (births w.unit.structs ds >> x)) (target.alive w.unit (next_register r) ds a)
+  block_does h spot low r living ds x a le room small f = λ regs from t m ln.
+      block_follows w h spot low r living ds le regs from t m n x a room (births_enter w.unit.structs (next_register r) ds small) (deaths_leave (with_born (next_register r) ds []))
+      (λ after to u less m2. f from after to u m2 (omega (arith, ln, less)))
 
   -- ---- the loop of a `for`
 
   abbrev for_turns : Option Expression → Option Expression → Statement → Evaluation (Unit {0})
-  for_turns e step a = turns (suc n) (condition_with no_tables e w.call) (exec_with no_tables a w.call (suc n)) (effect_with no_tables step w.call)
+  for_turns e step a = turns (suc n) (condition_with T e w.call) (exec_with T a w.call (suc n)) (effect_with T step w.call)
 
-  abbrev for_code : Spot → List MonType → Option Expression → Option Expression → Statement → MonStatements
-  for_code spot rs e step a =
-      one (loop (spot.loops + 1) (test_if_any w.numbers rs (spot.loops + 1) e)
-      (statement p w.numbers (target.in_loop spot) (rs ++ any_temporaries temporaries e) a)
-      (effect_if_any p w.numbers (rs ++ any_temporaries temporaries e ++ statement_temporaries a) step))
+  test_if_any_does : (h : Here) (base : ℕ) (spot : Spot) (low : ℕ) (living : List ℕ) (s : Scopes) (r : RegisterTable) (e : Option Expression) → WhereAny (IsFull most) e → WhereAny (IsCondition s) e → Any HasLetters e
+      → low ≤ next_register r → next_register (with_kinds (any_temporaries temporaries e) r) ≤ w.registers
+      → loops.Tests w h base spot low r.bound living n (condition_with T e w.call) (test_if_any w.unit r.bound r.kinds (spot.loops + 1) e)
+  test_if_any_does h base spot low living s r None pure q l behind enough = loops.no_test w h base spot low r.bound living n
+  test_if_any_does h base spot low living s r (Some e) pure q l behind enough =
+      loops.tests w h base spot low r.bound living n (source.condition_of T e w.call) (setup w.unit r.bound r.kinds e) (condition_of w.unit r.bound r.kinds e)
+      (λ regs from t m. condition_tested (loops.in_turn w h base spot low r.bound living n) (target.in_loop spot) low r.bound living s r.kinds e pure q l behind enough regs from t m)
 
-  for_does : (h : Here) (spot : Spot) (s : Scopes) (g : Stage h.slots s) (rs : List MonType) (e step : Option Expression) (a : Statement) → WhereAny (IsFull most) e → WhereAny (IsCondition s) e → Any HasLetters e → WhereAny (IsFullEffect most) step
-      → WhereAny (WellTyped s) step → Any EffectHasLetters step → count w + count w ≤ length rs → length (rs ++ any_temporaries temporaries e ++ statement_temporaries a ++ any_temporaries effect_temporaries step) ≤ w.registers
-      → DoSame (in_body w h.slots h.result (spot.loops + 1)) s (exec_with no_tables a w.call (suc n)) (statement p w.numbers (target.in_loop spot) (rs ++ any_temporaries temporaries e) a) → DoSame h s (for_turns e step a) (for_code spot rs e step a)
-  for_does h spot s g rs e step a e_full e_typed e_letters step_full step_typed step_letters behind enough body = λ regs from t m le.
-      let te = any_temporaries temporaries e in
-      let ta = statement_temporaries a in
-      let ts = any_temporaries effect_temporaries step in
-      let l = spot.loops + 1 in
-      let f1 = longer rs te in
-      let f2 = longer (rs ++ te) ta in
-      let f3 = longer (rs ++ te ++ ta) ts in
-      loop_follows w h.slots h.result l n h.around h.looped h.loops from _ regs t (test_if_any w.numbers rs l e) (statement p w.numbers (target.in_loop spot) (rs ++ te) a) (effect_if_any p w.numbers (rs ++ te ++ ta) step)
-      (turns_follow w h.slots h.result l n s (condition_with no_tables e w.call) (exec_with no_tables a w.call (suc n)) (statement p w.numbers (target.in_loop spot) (rs ++ te) a) body
-      (test_if_any w.numbers rs l e) (test_if_any_does h.slots h.result l s g rs e e_full e_typed e_letters behind (omega (arith, enough, f2, f3)))
-      (effect_with no_tables step w.call) (effect_if_any p w.numbers (rs ++ te ++ ta) step)
-      (effect_if_any_does (in_turn w h.slots h.result l) s g (rs ++ te ++ ta) step step_full step_typed step_letters (omega (arith, behind, f1, f2)) enough)
-      n regs from t m le le)
+  abbrev BodyDoes : Here → Spot → ℕ → RegisterTable → List ℕ → Statement → Type 0
+  BodyDoes h spot low r living a =
+      (base : ℕ) → DoSame (loops.in_body w h base spot low r.bound living n) (target.in_loop spot) low r.bound living (exec_with T a w.call (suc n)) (statement w.unit (target.in_loop spot) r a)
+
+  for_does : (h : Here) (spot : Spot) (low : ℕ) (living : List ℕ) (s : Scopes) (g : Scene w n s) (r : RegisterTable) (e step : Option Expression) (a : Statement) → WhereAny (IsFull most) e → WhereAny (IsCondition s) e → Any HasLetters e
+      → WhereAny (IsFullEffect most) step → WhereAny (WellTyped s) step → Any EffectHasLetters step → AreAbsent living (declared_within a) → low ≤ next_register r
+      → next_register (with_kinds (any_temporaries effect_temporaries step) (after_statement a (with_kinds (any_temporaries temporaries e) r))) ≤ w.registers
+      → BodyDoes h spot low (with_kinds (any_temporaries temporaries e) r) living a
+      → DoSame h spot low r.bound living (for_turns e step a) (target.for_turns w.unit (spot.loops + 1) r (after_statement a (with_kinds (any_temporaries temporaries e) r)) e step
+      (statement w.unit (target.in_loop spot) (with_kinds (any_temporaries temporaries e) r) a))
+  for_does h spot low living s g r e step a e_full e_typed e_letters step_full step_typed step_letters absent behind enough body = λ regs from t m le.
+      let r2 = with_kinds (any_temporaries temporaries e) r in
+      let r3 = after_statement a r2 in
+      let base = length from.store in
+      let f1 = more_kinds (any_temporaries temporaries e) r in
+      let f2 = statement_grows a r2 in
+      let f3 = more_kinds (any_temporaries effect_temporaries step) r3 in
+      let here = loops.in_turn w h base spot low r.bound living n in
+      loops.loop_follows w h base spot low r.bound living n from _ regs t (test_if_any w.unit r.bound r.kinds (spot.loops + 1) e) (statement w.unit (target.in_loop spot) r2 a) (effect_if_any w.unit r3.bound r3.kinds step)
+      (loops.turns_follow w h base spot low r.bound living n (condition_with T e w.call) (exec_with T a w.call (suc n)) (statement w.unit (target.in_loop spot) r2 a) (body base)
+      (test_if_any w.unit r.bound r.kinds (spot.loops + 1) e) (test_if_any_does h base spot low living s r e e_full e_typed e_letters behind (omega (arith, enough, f2, f3)))
+      (effect_with T step w.call) (effect_if_any w.unit r3.bound r3.kinds step)
+      (λ regs from t m le. effect_if_any_does here (target.in_loop spot) low r3.bound living s g r3.kinds step step_full step_typed step_letters (omega (arith, behind, f1, f2)) enough regs from t
+      (meets_behind w here (target.in_loop spot) low a r2 living regs from t absent m) le)
+      n regs from t (loops.meets_turn w h base spot low r.bound living n regs from t refl m) le le)
 
   -- what stands first, and then the loop
-  abbrev BodyDoes : ForFirst → Scopes → Here → Spot → List MonType → Option Expression → Statement → Type 0
-  BodyDoes first s h spot rs e a =
-      (old : State) → Stage (behind_births h old (declared_first first)).slots (behind_first (inner s) first)
-      → DoSame (in_body w (behind_births h old (declared_first first)).slots h.result (spot.loops + 1)) (behind_first (inner s) first) (exec_with no_tables a w.call (suc n))
-      (statement p w.numbers (target.in_loop (with_variables w.numbers (declared_first first) spot)) (rs ++ first_temporaries first ++ any_temporaries temporaries e) a)
+  first_then : (first : ForFirst) (h : Here) (spot : Spot) (low : ℕ) (living : List ℕ) (s : Scopes) (g : Scene w n s) (around : Around) (r : RegisterTable) (x : Evaluation (Unit {0})) (code : MonStatements) → FirstFormed most first
+      → FirstTyped s around first → FirstHasNumbers first → low ≤ next_register r → next_register (after_first first r) ≤ w.registers → DoSame h spot low (after_first first r).bound living x code
+      → DoSame h spot low r.bound living (first_with T first w.call (suc n) >> x) (before (first_part w.unit spot r first) code)
+  first_then NoFirst h spot low living s g around r x code f q l behind enough go = go
+  first_then (First (Run (Eval at e))) h spot low living s g around r x code f q l behind enough go =
+      in_order_same h spot low r.bound living (effect_with T (Some e) w.call) x (effects.effect w.unit r.bound r.kinds e) code (effect_does h spot low r.bound living s g r.kinds e f.is q l behind enough) go
+  first_then (First (Declare ds)) h spot low living s g around r x code f q l behind enough go =
+      in_order_same h spot low r.bound living (initialise_all T ds w.call) x (effects.initialise_all w.unit r.bound r.kinds ds) code
+      (λ regs from t m le. initials_follow w n h low r.bound most ds s g f q l r.kinds behind enough regs from t le m.standing m.beside) go
+  first_then _ h spot low living s g around r x code f q l behind enough go = absurd f
 
-  first_then : (first : ForFirst) (s : Scopes) (r : Around) (h : Here) (spot : Spot) (rs : List MonType) (x : Evaluation (Unit {0})) (code : MonStatements) (old : State) → Stage (behind_births h old (declared_first first)).slots (inner s)
-      → HaveSlots (behind_births h old (declared_first first)).slots (declared_first first) → FirstFormed most first → FirstTyped (inner s) r first → FirstHasNumbers first → count w + count w ≤ length rs
-      → length (rs ++ first_temporaries first) ≤ w.registers → (Stage (behind_births h old (declared_first first)).slots (behind_first (inner s) first) → DoSame (behind_births h old (declared_first first)) (behind_first (inner s) first) x code)
-      → DoSame (behind_births h old (declared_first first)) (inner s) (first_with no_tables first w.call (suc n) >> x) (before (first_part p w.numbers (with_variables w.numbers (declared_first first) spot) rs first) code)
-  first_then NoFirst s r h spot rs x code old g have f q l behind enough go = go g
-  first_then (First (Run (Eval at e))) s r h spot rs x code old g have f q l behind enough go =
-      in_order (behind_births h old []) (inner s) (effect_with no_tables (Some e) w.call) x (effects.effect p w.numbers rs e) code (effect_does (behind_births h old []) (inner s) g rs e f.is q l behind enough) (go g)
-  first_then (First (Declare ds)) s r h spot rs x code old g have f q l behind enough go =
-      declared_does (behind_births h old ds) ds (inner s) rs x code g have f q l behind enough (go (objects_stage (behind_births h old ds).slots (inner s) ds have g))
-  first_then _ s r h spot rs x code old g have f q l behind enough go = absurd f
-
-  for_follows : (at : Place) (annots : List Annotation) (first : ForFirst) (s : Scopes) (r : Around) (h : Here) (spot : Spot) (rs : List MonType) (e step : Option Expression) (a : Statement) → Stage h.slots s
-      → AllCanBeBorn w.numbers (decls_of h.slots) (declared_first first) → FirstFormed most first → FirstTyped (inner s) r first → FirstHasNumbers first → WhereAny (IsFull most) e → WhereAny (IsCondition (behind_first (inner s) first)) e
-      → Any HasLetters e → WhereAny (IsFullEffect most) step → WhereAny (WellTyped (behind_first (inner s) first)) step → Any EffectHasLetters step → count w + count w ≤ length rs
-      → length (rs ++ statement_temporaries (For at annots first e step a)) ≤ w.registers → BodyDoes first s h spot rs e a
-      → DoSame h s (exec_with no_tables (For at annots first e step a) w.call (suc n)) (statement p w.numbers spot rs (For at annots first e step a))
-  for_follows at annots first s r h spot rs e step a g c f_formed f_typed f_letters e_full e_typed e_letters step_full step_typed step_letters behind enough body = λ regs from t m le.
+  for_follows : (at : Place) (annots : List Annotation) (first : ForFirst) (s : Scopes) (g : Scene w n s) (around : Around) (h : Here) (spot : Spot) (low : ℕ) (r : RegisterTable) (living : List ℕ) (e step : Option Expression) (a : Statement)
+      → AreSmall w.unit.structs (declared_first first) → AreAbsent (with_numbers (declared_first first) living) (declared_within a) → FirstFormed most first → FirstTyped (inner s) around first → FirstHasNumbers first
+      → WhereAny (IsFull most) e → WhereAny (IsCondition (behind_first (inner s) first)) e → Any HasLetters e → WhereAny (IsFullEffect most) step → WhereAny (WellTyped (behind_first (inner s) first)) step → Any EffectHasLetters step
+      → low ≤ next_register r → next_register (after_statement (For at annots first e step a) r) ≤ w.registers
+      → ((old : State) → BodyDoes (behind_births w.unit.structs h old (declared_first first)) (with_variables (next_register r) (declared_first first) spot) (next_register r + length (declared_first first))
+      (with_kinds (any_temporaries temporaries e) (after_first first (entered (declared_first first) r))) (with_numbers (declared_first first) living) a)
+      → DoSame h spot low r.bound living (exec_with T (For at annots first e step a) w.call (suc n)) (statement w.unit spot r (For at annots first e step a))
+  for_follows at annots first s g around h spot low r living e step a small absent f_formed f_typed f_letters e_full e_typed e_letters step_full step_typed step_letters behind enough body = λ regs from t m le.
       let ds = declared_first first in
-      let spot2 = with_variables w.numbers ds spot in
-      let tf = first_temporaries first in
-      let te = any_temporaries temporaries e in
-      let ta = statement_temporaries a in
-      let ts = any_temporaries effect_temporaries step in
-      let all = four rs tf te ta ts in
-      let f1 = longer rs tf in
-      let f2 = longer (rs ++ tf) te in
-      let f3 = longer (rs ++ tf ++ te) ta in
-      let f4 = longer (rs ++ tf ++ te ++ ta) ts in
-      let more : length ((rs ++ tf) ++ (te ++ ta ++ ts)) ≡ length (rs ++ tf ++ te ++ ta ++ ts) = three (rs ++ tf) te ta ts in
+      let r1 = entered ds r in
+      let r2 = after_first first r1 in
+      let r3 = with_kinds (any_temporaries temporaries e) r2 in
+      let r4 = after_statement a r3 in
+      let spot2 = with_variables (next_register r) ds spot in
+      let low2 = next_register r + length ds in
+      let f0 = entered_long ds r in
+      let f1 = first_grows first r1 in
+      let f2 = more_kinds (any_temporaries temporaries e) r2 in
+      let f3 = statement_grows a r3 in
+      let f4 = more_kinds (any_temporaries effect_temporaries step) r4 in
       let turns_of = for_turns e step a in
-      let code = for_code spot2 (rs ++ tf) e step a in
-      subst (λ x. Follows w h Next from (restored from x) (runs w n t (target.alive w.numbers ds (before (first_part p w.numbers spot2 rs first) code)) regs))
-      (sym (handed_on (births [] ds from) (λ _. first_with no_tables first w.call (suc n)) (λ _. turns_of)))
-      (block_does h s g (omega (arith, behind, enough, all, f1, f2, f3, f4)) ds (first_with no_tables first w.call (suc n) >> turns_of) (before (first_part p w.numbers spot2 rs first) code) c
-      (λ old g2 have. first_then first s r h spot rs turns_of code old (inner_stage (behind_births h old ds).slots s g2) have f_formed f_typed f_letters behind (omega (arith, enough, all, f2, f3, f4)) (λ g3.
-      for_does (behind_births h old ds) spot2 (behind_first (inner s) first) g3 (rs ++ tf) e step a e_full e_typed e_letters step_full step_typed step_letters (omega (arith, behind, f1)) (omega (arith, enough, all)) (body old g3)))
+      let code = target.for_turns w.unit (spot.loops + 1) r2 r4 e step (statement w.unit (target.in_loop spot2) r3 a) in
+      subst (λ x. Follows w h low regs Next from (restored from x) (runs w n t (target.alive w.unit (next_register r) ds (before (first_part w.unit spot2 r1 first) code)) regs))
+      (sym (handed_on (births w.unit.structs ds from) (λ _. first_with T first w.call (suc n)) (λ _. turns_of)))
+      (block_does h spot low r living ds (first_with T first w.call (suc n) >> turns_of) (before (first_part w.unit spot2 r1 first) code) behind (omega (arith, enough, f0, f1, f2, f3, f4)) small
+      (λ old. first_then first (behind_births w.unit.structs h old ds) spot2 low2 (with_numbers ds living) (inner s) (scene_inner w n s g) around r1 turns_of code f_formed f_typed f_letters (omega (arith, f0)) (omega (arith, enough, f2, f3, f4))
+      (for_does (behind_births w.unit.structs h old ds) spot2 low2 (with_numbers ds living) (behind_first (inner s) first) (scene_behind_first w n (inner s) around first f_typed (scene_inner w n s g)) r2 e step a
+      e_full e_typed e_letters step_full step_typed step_letters absent (omega (arith, f0, f1)) enough (body old)))
       regs from t m le)
+
+  -- a part that stands after a statement in the code, though not in a run
+  behind_first_part : (a : Statement) (h : Here) (spot : Spot) (low : ℕ) (r : RegisterTable) (living : List ℕ) (x : Evaluation (Unit {0})) (code : MonStatements) → AreAbsent living (declared_within a)
+      → DoSame h spot low (after_statement a r).bound living x code → DoSame h spot low r.bound living x code
+  behind_first_part a h spot low r living x code absent f = λ regs from t m le. f regs from t (meets_behind w h spot low a r living regs from t absent m) le
+
+  -- after what stands first in a `for`
+  sees_first : (first : ForFirst) (s : Scopes) (living : List ℕ) → AreFound s.objects (scope_for living) → AreFound (behind_first (inner s) first).objects (scope_for (with_numbers (declared_first first) living))
+  sees_first NoFirst s living sees = sees
+  sees_first (First (Declare ds)) s living sees = found_with_all (inner s) ds (scope_for (with_numbers ds living)) (sees_born s.objects ds living sees) (declared_born ds living)
+  sees_first (First (Run a)) s living sees = sees
+  sees_first (First (Asserts annots)) s living sees = sees
 
   -- ---- all statements
 
   mutual
-    pub statement_follows : (a : Statement) (s : Scopes) (r : Around) (h : Here) (spot : Spot) (rs : List MonType) → At w spot h → Stage h.slots s → r.result ≡ h.result → r.loops ≡ h.looped → CanDeclare w.numbers (decls_of h.slots) a
-        → StatementFormed most a → StatementTyped s r a → StatementNoted s a → HasNumbers a → count w + count w ≤ length rs → length (rs ++ statement_temporaries a) ≤ w.registers
-        → DoSame h s (exec_with no_tables a w.call (suc n)) (statement p w.numbers spot rs a)
-    statement_follows (Empty at) s r h spot rs stands g result looped c f q m l behind enough = λ regs from t x le. stays w h regs from t x.related x.beside
-    statement_follows (Eval at e) s r h spot rs stands g result looped c f q m l behind enough = effect_does h s g rs e f.is q l behind enough
-    statement_follows (Block at body) s r h spot rs stands g result looped c f q m l behind enough =
-        block_does h s g (omega (arith, behind, enough, longer rs (items_temporaries body))) (declared_in body) (items_with no_tables body w.call (suc n)) (items p w.numbers (with_variables w.numbers (declared_in body) spot) rs body) c.0
-        (λ old g2 have.
-        items_follow body (inner s) r (behind_births h old (declared_in body)) (with_variables w.numbers (declared_in body) spot) rs (at_births w spot h old (declared_in body) stands) (inner_stage (behind_births h old (declared_in body)).slots s g2)
-        have result looped
-        (subst (λ living. ItemsCanDeclare w.numbers living body) (sym (decls_of-born (length old.store) (declared_in body) h.slots)) c.1) f q m l behind enough)
-    statement_follows (If at e a b) s r h spot rs stands g result looped c f q m l behind enough =
-        let te = temporaries e in
-        let ta = statement_temporaries a in
-        let tb = else_temporaries b in
-        let all = three rs te ta tb in
-        choice_does h s g rs e (exec_with no_tables a w.call (suc n)) (else_with no_tables b w.call (suc n)) (statement p w.numbers spot (rs ++ te) a) (else_part p w.numbers spot (rs ++ te ++ ta) b) f.0 q.0 l.0 behind
-        (omega (arith, enough, all, longer (rs ++ te) ta, longer (rs ++ te ++ ta) tb))
-        (statement_follows a s r h spot (rs ++ te) stands g result looped c.0 f.1 q.1 m.0 l.1 (omega (arith, behind, longer rs te)) (omega (arith, enough, all, longer (rs ++ te ++ ta) tb)))
-        (else_follows b s r h spot (rs ++ te ++ ta) stands g result looped c.1 f.2 q.2 m.1 l.2 (omega (arith, behind, longer rs te, longer (rs ++ te) ta)) (omega (arith, enough, all)))
-    statement_follows (While at annots e a) s r h spot rs stands g result looped c f q m l behind enough = λ regs from t x le.
-        let te = temporaries e in
-        let ta = statement_temporaries a in
-        let all = two rs te ta in
+    pub statement_follows : (a : Statement) (s : Scopes) (around : Around) (h : Here) (spot : Spot) (low : ℕ) (r : RegisterTable) (living : List ℕ) → spot.loops ≡ h.loops → Scene w n s → AreFound s.objects (scope_for living)
+        → around.result ≡ h.result → around.loops ≡ h.looped
+        → CanDeclare w.unit.structs living a → StatementFormed most a → StatementTyped s around a → StatementNoted s a → HasNumbers a → low ≤ next_register r → next_register (after_statement a r) ≤ w.registers
+        → DoSame h spot low r.bound living (exec_with T a w.call (suc n)) (statement w.unit spot r a)
+    statement_follows (Empty at) s around h spot low r living stands g sees result looped c f q m l behind enough = nothing_does h spot low r.bound living
+    statement_follows (Eval at e) s around h spot low r living stands g sees result looped c f q m l behind enough = effect_does h spot low r.bound living s g r.kinds e f.is q l behind enough
+    statement_follows (Block at body) s around h spot low r living stands g sees result looped c f q m l behind enough =
+        let ds = declared_in body in
+        let f0 = entered_long ds r in
+        let f1 = items_grow body (entered ds r) in
+        block_does h spot low r living ds (items_with T body w.call (suc n)) (items w.unit (with_variables (next_register r) ds spot) (entered ds r) body) behind (omega (arith, enough, f0, f1)) c.0
+        (λ old. items_follow body (inner s) around (behind_births w.unit.structs h old ds) (with_variables (next_register r) ds spot) (next_register r + length ds) (entered ds r) (with_numbers ds living)
+        stands (scene_inner w n s g) (sees_born s.objects ds living sees) (declared_born ds living) result looped
+        c.1 f q m l (omega (arith, f0)) enough)
+    statement_follows (If at e a b) s around h spot low r living stands g sees result looped c f q m l behind enough =
+        let r1 = with_kinds (temporaries e) r in
+        let r2 = after_statement a r1 in
+        let f1 = more_kinds (temporaries e) r in
+        let f2 = statement_grows a r1 in
+        let f3 = else_grows b r2 in
+        choice_does h spot low r.bound living s r.kinds e (exec_with T a w.call (suc n)) (else_with T b w.call (suc n)) (statement w.unit spot r1 a) (else_part w.unit spot r2 b) f.0 q.0 l.0 behind (omega (arith, enough, f2, f3))
+        (statement_follows a s around h spot low r1 living stands g sees result looped c.1 f.1 q.1 m.0 l.1 (omega (arith, behind, f1)) (omega (arith, enough, f3)))
+        (behind_first_part a h spot low r1 living (else_with T b w.call (suc n)) (else_part w.unit spot r2 b) c.0
+        (else_follows b s around h spot low r2 living stands g sees result looped c.2 f.2 q.2 m.1 l.2 (omega (arith, behind, f1, f2)) enough))
+    statement_follows (While at annots e a) s around h spot low r living stands g sees result looped c f q m l behind enough = λ regs from t x le.
+        let r1 = with_kinds (temporaries e) r in
         let k = spot.loops + 1 in
-        loop_follows w h.slots h.result k n h.around h.looped h.loops from _ regs t (test w.numbers rs k e) (statement p w.numbers (target.in_loop spot) (rs ++ te) a) NoStatement
-        (turns_follow w h.slots h.result k n s (source.condition_of no_tables e w.call) (exec_with no_tables a w.call (suc n)) (statement p w.numbers (target.in_loop spot) (rs ++ te) a)
-        (statement_follows a s (in_loop r) (in_body w h.slots h.result k) (target.in_loop spot) (rs ++ te) (at_loop w spot h stands) g result refl c f.2 q.1 m.1 l.1 (omega (arith, behind, longer rs te)) (omega (arith, enough, all)))
-        (test w.numbers rs k e) (test_does h.slots h.result k s g rs e f.1 q.0 l.0 behind (omega (arith, enough, all, longer (rs ++ te) ta)))
-        state.done NoStatement (λ regs from t x le. stays w (in_turn w h.slots h.result k) regs from t x.related x.beside) n regs from t x le le)
-    statement_follows (Do at a e) s r h spot rs stands g result looped c f q m l behind enough = λ regs from t x le.
-        let te = temporaries e in
-        let ta = statement_temporaries a in
-        let all = two rs ta te in
+        let base = length from.store in
+        let here = loops.in_body w h base spot low r.bound living n in
+        loops.loop_follows w h base spot low r.bound living n from _ regs t (test w.unit r.bound r.kinds k e) (statement w.unit (target.in_loop spot) r1 a) NoStatement
+        (loops.turns_follow w h base spot low r.bound living n (source.condition_of T e w.call) (exec_with T a w.call (suc n)) (statement w.unit (target.in_loop spot) r1 a)
+        (statement_follows a s (in_loop around) here (target.in_loop spot) low r1 living refl g sees result refl c f.2 q.1 m.1 l.1 (omega (arith, behind, more_kinds (temporaries e) r)) enough)
+        (test w.unit r.bound r.kinds k e) (test_if_any_does h base spot low living s r (Some e) f.1 q.0 l.0 behind (omega (arith, enough, statement_grows a r1)))
+        state.done NoStatement (nothing_does (loops.in_turn w h base spot low r.bound living n) (target.in_loop spot) low r.bound living)
+        n regs from t (loops.meets_turn w h base spot low r.bound living n regs from t refl x) le le)
+    statement_follows (Do at a e) s around h spot low r living stands g sees result looped c f q m l behind enough = λ regs from t x le.
+        let r1 = after_statement a r in
         let k = spot.loops + 1 in
-        loop_follows w h.slots h.result k n h.around h.looped h.loops from _ regs t NoStatement (statement p w.numbers (target.in_loop spot) rs a) (test w.numbers (rs ++ ta) k e)
-        (do_turns_follow w h.slots h.result k n s (source.condition_of no_tables e w.call) (exec_with no_tables a w.call (suc n)) (statement p w.numbers (target.in_loop spot) rs a)
-        (statement_follows a s (in_loop r) (in_body w h.slots h.result k) (target.in_loop spot) rs (at_loop w spot h stands) g result refl c f.0 q.0 m l.0 behind (omega (arith, enough, all, longer (rs ++ ta) te)))
-        (test w.numbers (rs ++ ta) k e) (test_does h.slots h.result k s g (rs ++ ta) e f.1 q.1 l.1 (omega (arith, behind, longer rs ta)) (omega (arith, enough, all)))
-        n regs from t x le le)
-    statement_follows (For at annots first e step a) s r h spot rs stands g result looped c f q m l behind enough =
+        let base = length from.store in
+        let here = loops.in_body w h base spot low r.bound living n in
+        let there = loops.in_turn w h base spot low r.bound living n in
+        loops.loop_follows w h base spot low r.bound living n from _ regs t NoStatement (statement w.unit (target.in_loop spot) r a) (test w.unit r1.bound r1.kinds k e)
+        (loops.do_turns_follow w h base spot low r.bound living n (source.condition_of T e w.call) (exec_with T a w.call (suc n)) (statement w.unit (target.in_loop spot) r a)
+        (statement_follows a s (in_loop around) here (target.in_loop spot) low r living refl g sees result refl c.1 f.0 q.0 m l.0 behind (omega (arith, enough, more_kinds (temporaries e) r1)))
+        (test w.unit r1.bound r1.kinds k e)
+        (loops.tests w h base spot low r.bound living n (source.condition_of T e w.call) (setup w.unit r1.bound r1.kinds e) (condition_of w.unit r1.bound r1.kinds e)
+        (λ regs from t m. condition_tested there (target.in_loop spot) low r1.bound living s r1.kinds e f.1 q.1 l.1 (omega (arith, behind, statement_grows a r)) enough regs from t
+        (meets_behind w there (target.in_loop spot) low a r living regs from t c.0 m)))
+        n regs from t (loops.meets_turn w h base spot low r.bound living n regs from t refl x) le le)
+    statement_follows (For at annots first e step a) s around h spot low r living stands g sees result looped c f q m l behind enough =
         let ds = declared_first first in
-        let tf = first_temporaries first in
-        let te = any_temporaries temporaries e in
-        let ta = statement_temporaries a in
-        let ts = any_temporaries effect_temporaries step in
-        let all = four rs tf te ta ts in
-        let f1 = longer rs tf in
-        let f2 = longer (rs ++ tf) te in
-        let f4 = longer (rs ++ tf ++ te ++ ta) ts in
-        for_follows at annots first s r h spot rs e step a g c.0 f.1 q.0 l.0 f.2 q.1 l.1 f.3 q.2 l.3 behind enough (λ old g2.
-        statement_follows a (behind_first (inner s) first) (in_loop r) (in_body w (behind_births h old ds).slots h.result (spot.loops + 1)) (target.in_loop (with_variables w.numbers ds spot)) (rs ++ tf ++ te)
-        (at_loop w (with_variables w.numbers ds spot) (behind_births h old ds) (at_births w spot h old ds stands)) g2 result refl
-        (subst (λ living. CanDeclare w.numbers living a) (sym (decls_of-born (length old.store) ds h.slots)) c.1)
-        f.4 q.3 m.1 l.2 (omega (arith, behind, f1, f2)) (omega (arith, enough, all, f4)))
-    statement_follows (Break at) s r h spot rs stands g result looped c f q m l behind enough = λ regs from t x le. break_follows w n spot h stands from regs t x.related x.beside (sym looped ∙ q)
-    statement_follows (Continue at) s r h spot rs stands g result looped c f q m l behind enough = λ regs from t x le. continue_follows w n spot h stands from regs t x.related x.beside (sym looped ∙ q)
-    statement_follows (Return at e) s r h spot rs stands g result looped c f q m l behind enough = return_does h spot stands s g rs e f (subst (λ k. Returned s k e) result q) l behind enough at
+        let r1 = entered ds r in
+        let r2 = after_first first r1 in
+        let r3 = with_kinds (any_temporaries temporaries e) r2 in
+        let f0 = entered_long ds r in
+        let f1 = first_grows first r1 in
+        let f2 = more_kinds (any_temporaries temporaries e) r2 in
+        let f4 = more_kinds (any_temporaries effect_temporaries step) (after_statement a r3) in
+        let spot2 = with_variables (next_register r) ds spot in
+        let low2 = next_register r + length ds in
+        for_follows at annots first s g around h spot low r living e step a c.0 c.1 f.1 q.0 l.0 f.2 q.1 l.1 f.3 q.2 l.3 behind enough (λ old base.
+        statement_follows a (behind_first (inner s) first) (in_loop around) (loops.in_body w (behind_births w.unit.structs h old ds) base spot2 low2 r3.bound (with_numbers ds living) n) (target.in_loop spot2) low2 r3 (with_numbers ds living) refl
+        (scene_behind_first w n (inner s) around first q.0 (scene_inner w n s g)) (sees_first first s living sees) result refl c.2 f.4 q.3 m.1 l.2 (omega (arith, f0, f1, f2)) (omega (arith, enough, f4)))
+    statement_follows (Break at) s around h spot low r living stands g sees result looped c f q m l behind enough = λ regs from t x le. break_follows w n h spot low r.bound living from regs t x stands (sym looped ∙ q)
+    statement_follows (Continue at) s around h spot low r living stands g sees result looped c f q m l behind enough = λ regs from t x le. continue_follows w n h spot low r.bound living from regs t x stands (sym looped ∙ q)
+    statement_follows (Return at e) s around h spot low r living stands g sees result looped c f q m l behind enough = returned_does h spot low living s g r e f (subst (λ k. Returned s k e) result q) l behind enough at
 
-    pub else_follows : (b : ElsePart) (s : Scopes) (r : Around) (h : Here) (spot : Spot) (rs : List MonType) → At w spot h → Stage h.slots s → r.result ≡ h.result → r.loops ≡ h.looped → ElseCanDeclare w.numbers (decls_of h.slots) b
-        → ElseFormed most b → ElseTyped s r b → ElseNoted s b → ElseHasNumbers b → count w + count w ≤ length rs → length (rs ++ else_temporaries b) ≤ w.registers → DoSame h s (else_with no_tables b w.call (suc n)) (else_part p w.numbers spot rs b)
-    else_follows NoElse s r h spot rs stands g result looped c f q m l behind enough = λ regs from t x le. stays w h regs from t x.related x.beside
-    else_follows (Else a) s r h spot rs stands g result looped c f q m l behind enough = statement_follows a s r h spot rs stands g result looped c f q m l behind enough
+    pub else_follows : (b : ElsePart) (s : Scopes) (around : Around) (h : Here) (spot : Spot) (low : ℕ) (r : RegisterTable) (living : List ℕ) → spot.loops ≡ h.loops → Scene w n s → AreFound s.objects (scope_for living)
+        → around.result ≡ h.result → around.loops ≡ h.looped
+        → ElseCanDeclare w.unit.structs living b → ElseFormed most b → ElseTyped s around b → ElseNoted s b → ElseHasNumbers b → low ≤ next_register r → next_register (after_else b r) ≤ w.registers
+        → DoSame h spot low r.bound living (else_with T b w.call (suc n)) (else_part w.unit spot r b)
+    else_follows NoElse s around h spot low r living stands g sees result looped c f q m l behind enough = nothing_does h spot low r.bound living
+    else_follows (Else a) s around h spot low r living stands g sees result looped c f q m l behind enough = statement_follows a s around h spot low r living stands g sees result looped c f q m l behind enough
 
-    pub items_follow : (is : BlockItems) (s : Scopes) (r : Around) (h : Here) (spot : Spot) (rs : List MonType) → At w spot h → Stage h.slots s → HaveSlots h.slots (declared_in is) → r.result ≡ h.result → r.loops ≡ h.looped
-        → ItemsCanDeclare w.numbers (decls_of h.slots) is → ItemsFormed most is → ItemsTyped s r is → ItemsNoted s is → HaveNumbers is → count w + count w ≤ length rs → length (rs ++ items_temporaries is) ≤ w.registers
-        → DoSame h s (items_with no_tables is w.call (suc n)) (items p w.numbers spot rs is)
-    items_follow NoItem s r h spot rs stands g have result looped c f q m l behind enough = λ regs from t x le. stays w h regs from t x.related x.beside
-    items_follow (Then (Declare ds) rest) s r h spot rs stands g have result looped c f q m l behind enough =
-        let td = declaration_temporaries ds in
-        let tr = items_temporaries rest in
-        let all = two rs td tr in
-        let x = have_front h.slots ds (declared_in rest) have in
-        declared_does h ds s rs (items_with no_tables rest w.call (suc n)) (items p w.numbers spot (rs ++ td) rest) g x f.0 q.0 l.0 behind (omega (arith, enough, all, longer (rs ++ td) tr))
-        (items_follow rest (with_objects s ds) r h spot (rs ++ td) stands (objects_stage h.slots s ds x g) (have_behind h.slots ds (declared_in rest) have) result looped c.1 f.1 q.1 m.1 l.1 (omega (arith, behind, longer rs td))
-        (omega (arith, enough, all)))
-    items_follow (Then (Run a) rest) s r h spot rs stands g have result looped c f q m l behind enough =
-        let ta = statement_temporaries a in
-        let tr = items_temporaries rest in
-        let all = two rs ta tr in
-        in_order h s (exec_with no_tables a w.call (suc n)) (items_with no_tables rest w.call (suc n)) (statement p w.numbers spot rs a) (items p w.numbers spot (rs ++ ta) rest)
-        (statement_follows a s r h spot rs stands g result looped c.0 f.0 q.0 m.0 l.0 behind (omega (arith, enough, all, longer (rs ++ ta) tr)))
-        (items_follow rest s r h spot (rs ++ ta) stands g have result looped c.1 f.1 q.1 m.1 l.1 (omega (arith, behind, longer rs ta)) (omega (arith, enough, all)))
-    items_follow (Then (Asserts annots) rest) s r h spot rs stands g have result looped c f q m l behind enough =
-        let all = two rs [] (items_temporaries rest) in
-        in_order h s (item_with no_tables (Asserts annots) w.call (suc n)) (items_with no_tables rest w.call (suc n)) (item p w.numbers spot rs (Asserts annots)) (items p w.numbers spot (rs ++ []) rest)
-        (λ regs from t x le. assertions_follow w h s g.sight n annots f.0 m.0 l.0 regs from t x.related x.beside x.ready)
-        (items_follow rest s r h spot (rs ++ []) stands g have result looped c.1 f.1 q.1 m.1 l.1 (omega (arith, behind, longer rs [])) (omega (arith, enough, all)))
+    pub items_follow : (is : BlockItems) (s : Scopes) (around : Around) (h : Here) (spot : Spot) (low : ℕ) (r : RegisterTable) (living : List ℕ) → spot.loops ≡ h.loops → Scene w n s → AreFound s.objects (scope_for living)
+        → DeclarationsFound (declared_in is) (scope_for living) → around.result ≡ h.result → around.loops ≡ h.looped
+        → ItemsCanDeclare w.unit.structs living is → ItemsFormed most is → ItemsTyped s around is → ItemsNoted s is → HaveNumbers is → low ≤ next_register r → next_register (after_items is r) ≤ w.registers
+        → DoSame h spot low r.bound living (items_with T is w.call (suc n)) (items w.unit spot r is)
+    items_follow NoItem s around h spot low r living stands g sees have result looped c f q m l behind enough = nothing_does h spot low r.bound living
+    items_follow (Then (Declare ds) rest) s around h spot low r living stands g sees have result looped c f q m l behind enough =
+        let r1 = with_kinds (declaration_temporaries ds) r in
+        let f1 = more_kinds (declaration_temporaries ds) r in
+        let f2 = items_grow rest r1 in
+        in_order_same h spot low r.bound living (initialise_all T ds w.call) (items_with T rest w.call (suc n)) (effects.initialise_all w.unit r.bound r.kinds ds) (items w.unit spot r1 rest)
+        (λ regs from t x le. initials_follow w n h low r.bound most ds s g f.0 q.0 l.0 r.kinds behind (omega (arith, enough, f2)) regs from t le x.standing x.beside)
+        (items_follow rest (with_objects s ds) around h spot low r1 living stands (scene_with_all w n s ds q.0 g) (found_with_all s ds (scope_for living) sees (declarations_found-append ds (declared_in rest) (scope_for living) have).0)
+        (declarations_found-append ds (declared_in rest) (scope_for living) have).1 result looped c.1 f.1 q.1 m.1 l.1 (omega (arith, behind, f1)) enough)
+    items_follow (Then (Run a) rest) s around h spot low r living stands g sees have result looped c f q m l behind enough =
+        let r1 = after_statement a r in
+        let f1 = statement_grows a r in
+        let f2 = items_grow rest r1 in
+        in_order h spot low r.bound r1.bound living (exec_with T a w.call (suc n)) (items_with T rest w.call (suc n)) (statement w.unit spot r a) (items w.unit spot r1 rest)
+        (statement_follows a s around h spot low r living stands g sees result looped c.0.1 f.0 q.0 m.0 l.0 behind (omega (arith, enough, f2)))
+        (λ regs from t x. meets_behind w h spot low a r living regs from t c.0.0 x)
+        (items_follow rest s around h spot low r1 living stands g sees have result looped c.1 f.1 q.1 m.1 l.1 (omega (arith, behind, f1)) enough)
+    items_follow (Then (Asserts annots) rest) s around h spot low r living stands g sees have result looped c f q m l behind enough =
+        let r1 = with_kinds (assertions_temporaries annots) r in
+        let f1 = more_kinds (assertions_temporaries annots) r in
+        let f2 = items_grow rest r1 in
+        in_order_same h spot low r.bound living (checks annots) (items_with T rest w.call (suc n)) (assertions r.bound r.kinds annots) (items w.unit spot r1 rest)
+        (λ regs from t x le. assertions_follow w n h s g low r.bound annots f.0 m.0 l.0 r.kinds behind (omega (arith, enough, f2)) regs from t (sees_found s.objects living from.scope x.names sees) x.standing x.beside)
+        (items_follow rest s around h spot low r1 living stands g sees have result looped c.1 f.1 q.1 m.1 l.1 (omega (arith, behind, f1)) enough)

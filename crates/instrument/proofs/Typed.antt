@@ -15,28 +15,30 @@ use Rattle.c_syntax.specs.declared.annotation.Relation.{Relation}
 use Rattle.c_syntax.specs.declared.annotation.Relation.TheVariants as relation
 use Rattle.c_syntax.specs.Ctypes.{PlainType, Int}
 use Rattle.c_syntax.specs.Expressions.{Expression, Node, Number, Letter, Variable, Unary, Binary, Both, Either, Choice, Assign, Bump, Call, Cast, SizeOfType, SizeOfExpr, Text, Index, Dot, Arrow, Comma, type_of}
+use Rattle.c_syntax.specs.Programs.{StructType, TranslationUnit}
 use Rattle.c_syntax.specs.Annotations as logic
-use Rattle.c_syntax.specs.Annotations.{LogicTerm, NoLink, Linked, ClauseBody, Truth, Chain, Annotation}
+use Rattle.c_syntax.specs.Annotations.{LogicTerm, NoLink, Linked, ClauseBody, Truth, Chain}
 use Rattle.c_model.specs.Integers.{fits, width, is_signed}
 use Rattle.c_model.specs.Layouts.{size_of}
 use Rattle.c_model.specs.Conversions.{promoted, operation_type, is_shift, common, wider}
 use Rattle.c_model.specs.Typing.{Object, Scopes, object_named, is_object_type}
 use Rattle.c_model.specs.WellTyped.{Denotes, UnaryTypes, BinaryTypes, WellTyped}
 use Rattle.c_model.specs.WellTypedPrograms.{TermTyped, ClauseTyped}
-use Rattle.c_model.specs.Formed.{IsPure, nodes_of, IsLogicNumber, IsSumTerm, leaves_of_term, IsShortTerm, IsRelation, IsAssert}
+use Rattle.c_model.specs.Formed.{IsPure, nodes_of, IsLogicNumber, IsSumTerm, leaves_of_term, IsShortTerm, IsRelation}
 use Rattle.mon_syntax.specs.declared.tree.MonType.{MonType}
 use Rattle.mon_syntax.specs.declared.tree.MonType.TheVariants.{I8, U8, I16, U16, I32, U32, I64, U64, I128, Ptr}
 use Rattle.mon_syntax.specs.declared.tree.MonOp.{MonOp}
 use Rattle.mon_syntax.specs.declared.tree.MonOp.TheVariants as mon
+use Rattle.mon_syntax.specs.Registers.{Bindings, register_of}
 use Rattle.mon_syntax.specs.Trees as tree
 use Rattle.mon_syntax.specs.Trees.{MonExpression}
 use Rattle.mon_syntax.specs.Arithmetic.{is_pointer}
 use Rattle.mon_syntax.specs.Checking.{same_type}
-use Rattle.mon_syntax.specs.Valid.{Types, HasType, has_constant, is_arithmetic, is_whole, is_relation, result_type, open_parens, IsExpression, IsStatement, Labels, Signature}
-use Rattle.c_effects.specs.Letters.{IsLetter, HasLetters, TermHasLetters, BodyHasLetters, IsNumbered}
-use Rattle.c_effects.specs.Expressions.{register_type, value_type, operand_type, operator_of, in_type, compared, condition, truth, unary, binary, compound_in, temporaries, value, truth_of, condition_of, term, relation_operator, truth_of_body}
-use Rattle.c_effects.specs.Expressions.{assertion}
-use Rattle.track_scopes.specs.Blocks.{register_of}
+use Rattle.mon_syntax.specs.Valid.{Types, HasType, has_constant, is_arithmetic, is_whole, is_relation, result_type, open_parens, IsExpression}
+use Rattle.c_effects.specs.Letters.{IsLetter, HasLetters, TermHasLetters, BodyHasLetters}
+use Rattle.c_effects.specs.Expressions.{register_type, value_type, term_type, operand_type, operator_of, in_type, compared, condition, truth, unary, binary, compound_in, temporaries}
+use Rattle.c_effects.specs.Expressions.{pointer_of, pointer_to, value, truth_of, condition_of, term, relation_operator, truth_of_body}
+use Rattle.c_effects.specs.Effects.{block_register, block_of, current}
 use Rattle.instrument.proofs.Integers.{operand_is, is_number, number_result, number_second, number_operator}
 use Rattle.instrument.proofs.Values.{result_type_is}
 use Rattle.instrument.proofs.ExpressionTypes.{scalar_int, same_int_type, cast_int, binary_at}
@@ -69,16 +71,16 @@ logic_constant (negsuc n) h = let a = h.low in grind (arith, nat_tests, ints)
 letter_number : (z : ℤ) → IsLetter z → IsLogicNumber z
 letter_number z l = record { low = omega (arith, ints, l.low); high = omega (arith, ints, l.high) }
 
-pub size_constant : (t : PlainType) → is_object_type t ≡ true → has_constant U64 (pos (size_of [] t)) ≡ true
-size_constant (Int c.I8) e = refl
-size_constant (Int c.U8) e = refl
-size_constant (Int c.I16) e = refl
-size_constant (Int c.U16) e = refl
-size_constant (Int c.I32) e = refl
-size_constant (Int c.U32) e = refl
-size_constant (Int c.I64) e = refl
-size_constant (Int c.U64) e = refl
-size_constant _ e = absurd cc
+pub size_constant : (structs : List StructType) (t : PlainType) → is_object_type t ≡ true → has_constant U64 (pos (size_of structs t)) ≡ true
+size_constant structs (Int c.I8) e = refl
+size_constant structs (Int c.U8) e = refl
+size_constant structs (Int c.I16) e = refl
+size_constant structs (Int c.U16) e = refl
+size_constant structs (Int c.I32) e = refl
+size_constant structs (Int c.U32) e = refl
+size_constant structs (Int c.I64) e = refl
+size_constant structs (Int c.U64) e = refl
+size_constant structs _ e = absurd cc
 
 zero_constant : (t : MonType) → has_constant (operand_type t) (pos 0) ≡ true
 zero_constant I8 = refl
@@ -182,6 +184,10 @@ same_mon I128 I128 e = refl
 same_mon Ptr Ptr e = refl
 same_mon _ _ e = absurd cc
 
+term_whole : (t : Option PlainType) → is_whole (term_type t) ≡ true
+term_whole None = refl
+term_whole (Some t) = value_whole t
+
 relation_gives : (r : Relation) (t : MonType) → result_type (relation_operator r) t ≡ I32
 relation_gives relation.Eq t = refl
 relation_gives relation.Ne t = refl
@@ -253,39 +259,46 @@ parens_compound op m t u a b n la lb one =
     let outer : max 1 (open_parens (tree.Binary (operator_of op) m (in_type t m a) (in_type u m b))) ≤ n + 2 = max-le (omega arith) (omega (arith, inner)) in
     omega (arith, whole, outer)
 
-pub few_parens : (numbers : List ℕ) (rs : List MonType) (e : Expression) → open_parens (value numbers rs e) ≤ 2 * nodes_of e
-few_parens numbers rs (Node at t (Number z k)) = omega arith
-few_parens numbers rs (Node at t (Letter z)) = omega arith
-few_parens numbers rs (Node at t (Variable x)) = omega arith
-few_parens numbers rs (Node at t (Unary op a)) =
-    let p = parens_unary op (value_type (type_of a)) (value numbers rs a) (2 * nodes_of a) (few_parens numbers rs a) (omega (arith, some_nodes a)) in
+pub few_parens_of_pointer : (bound : Bindings) (x : ℕ) → open_parens (pointer_to bound x) ≤ 1
+few_parens_of_pointer bound x = by (register_of bound x)
+  where
+    by : (o : Option ℕ) → open_parens (pointer_of o) ≤ 1
+    by None = omega arith
+    by (Some r) = omega arith
+
+pub few_parens : (unit : TranslationUnit) (bound : Bindings) (rs : List MonType) (e : Expression) → open_parens (value unit bound rs e) ≤ 2 * nodes_of e
+few_parens unit bound rs (Node at t (Number z k)) = omega arith
+few_parens unit bound rs (Node at t (Letter z)) = omega arith
+few_parens unit bound rs (Node at t (Variable x)) = let m : max 1 (open_parens (pointer_to bound x.decl)) ≤ 1 = max-le (omega arith) (few_parens_of_pointer bound x.decl) in omega (arith, m)
+few_parens unit bound rs (Node at t (Unary op a)) =
+    let p = parens_unary op (value_type (type_of a)) (value unit bound rs a) (2 * nodes_of a) (few_parens unit bound rs a) (omega (arith, some_nodes a)) in
     omega (arith, p)
-few_parens numbers rs (Node at t (Binary op a b)) =
-    let p = few_parens numbers rs a in
-    let q = few_parens numbers (rs ++ temporaries a) b in
-    let s = parens_in_type (value_type (type_of b)) (value_type (type_of a)) (value numbers (rs ++ temporaries a) b) in
-    let one : max 1 (open_parens (value numbers (rs ++ temporaries a) b)) ≤ 2 * nodes_of b = max-le (omega (arith, some_nodes b)) q in
-    let m : max (open_parens (value numbers rs a)) (open_parens (in_type (value_type (type_of b)) (value_type (type_of a)) (value numbers (rs ++ temporaries a) b))) ≤ 2 * nodes_of a + 2 * nodes_of b + 1 =
+few_parens unit bound rs (Node at t (Binary op a b)) =
+    let p = few_parens unit bound rs a in
+    let q = few_parens unit bound (rs ++ temporaries a) b in
+    let s = parens_in_type (value_type (type_of b)) (value_type (type_of a)) (value unit bound (rs ++ temporaries a) b) in
+    let one : max 1 (open_parens (value unit bound (rs ++ temporaries a) b)) ≤ 2 * nodes_of b = max-le (omega (arith, some_nodes b)) q in
+    let m : max (open_parens (value unit bound rs a)) (open_parens (in_type (value_type (type_of b)) (value_type (type_of a)) (value unit bound (rs ++ temporaries a) b))) ≤ 2 * nodes_of a + 2 * nodes_of b + 1 =
     max-le (omega (arith, p)) (omega (arith, s, one)) in
     omega (arith, m)
-few_parens numbers rs (Node at t (Both a b)) = omega arith
-few_parens numbers rs (Node at t (Either a b)) = omega arith
-few_parens numbers rs (Node at t (Choice a b c)) = omega arith
-few_parens numbers rs (Node at t (Cast to a)) =
-    let p = few_parens numbers rs a in
-    let s = parens_in_type (value_type (type_of a)) (value_type to) (value numbers rs a) in
-    let one : max 1 (open_parens (value numbers rs a)) ≤ 2 * nodes_of a = max-le (omega (arith, some_nodes a)) p in
+few_parens unit bound rs (Node at t (Both a b)) = omega arith
+few_parens unit bound rs (Node at t (Either a b)) = omega arith
+few_parens unit bound rs (Node at t (Choice a b c)) = omega arith
+few_parens unit bound rs (Node at t (Cast to a)) =
+    let p = few_parens unit bound rs a in
+    let s = parens_in_type (value_type (type_of a)) (value_type to) (value unit bound rs a) in
+    let one : max 1 (open_parens (value unit bound rs a)) ≤ 2 * nodes_of a = max-le (omega (arith, some_nodes a)) p in
     omega (arith, s, one)
-few_parens numbers rs (Node at t (SizeOfType u)) = omega arith
-few_parens numbers rs (Node at t (SizeOfExpr a)) = omega arith
-few_parens numbers rs (Node at t (Text n)) = omega arith
-few_parens numbers rs (Node at t (Index a b)) = omega arith
-few_parens numbers rs (Node at t (Dot a m)) = omega arith
-few_parens numbers rs (Node at t (Arrow a m)) = omega arith
-few_parens numbers rs (Node at t (Comma a b)) = omega arith
-few_parens numbers rs (Node at t (Assign op a b)) = omega arith
-few_parens numbers rs (Node at t (Bump op a)) = omega arith
-few_parens numbers rs (Node at t (Call f es)) = omega arith
+few_parens unit bound rs (Node at t (SizeOfType u)) = omega arith
+few_parens unit bound rs (Node at t (SizeOfExpr a)) = omega arith
+few_parens unit bound rs (Node at t (Text n)) = omega arith
+few_parens unit bound rs (Node at t (Index a b)) = omega arith
+few_parens unit bound rs (Node at t (Dot a m)) = omega arith
+few_parens unit bound rs (Node at t (Arrow a m)) = omega arith
+few_parens unit bound rs (Node at t (Comma a b)) = omega arith
+few_parens unit bound rs (Node at t (Assign op a b)) = omega arith
+few_parens unit bound rs (Node at t (Bump op a)) = omega arith
+few_parens unit bound rs (Node at t (Call f es)) = omega arith
 
 -- ---- registers of these types
 
@@ -310,14 +323,27 @@ at_end (y ∷ a) b x = at_end a b x
 pub register_at : (rs ts : Types) (t : MonType) → Begins (rs ++ t ∷ []) ts → slice_get ts (length rs) ≡ Some t
 register_at rs ts t h = ap (λ l. slice_get l (length rs)) (h.is ∙ append_assoc rs (t ∷ []) h.rest) ∙ at_end rs h.rest t
 
--- the register of a name in sight has its type
-pub record Seen (ts : Types) (numbers : List ℕ) (x : ℕ) (t : PlainType) : Type 0 where
+-- a register that points to a block is bound to the declaration
+pub record HasPointer (ts : Types) (bound : Bindings) (x : ℕ) : Type 0 where
+  pub register : ℕ
+  pub is_bound : register_of bound x ≡ Some register
+  pub points : slice_get ts register ≡ Some Ptr
+
+-- so it is for a name in sight, whose type is an integer type
+pub record Seen (ts : Types) (bound : Bindings) (x : ℕ) (t : PlainType) : Type 0 where
   pub int : CInt
   pub ctype : t ≡ Int int
-  pub register : slice_get ts (register_of numbers x) ≡ Some (register_type int)
+  pub has : HasPointer ts bound x
 
-abbrev pub AreSeen : Types → List ℕ → List Object → Type 0
-AreSeen ts numbers objects = (x : ℕ) (b : Object) → object_named x objects ≡ Some b → Seen ts numbers b.decl b.ctype
+abbrev pub AreSeen : Types → Bindings → List Object → Type 0
+AreSeen ts bound objects = (x : ℕ) (b : Object) → object_named x objects ≡ Some b → Seen ts bound b.decl b.ctype
+
+-- the pointer to its block
+pub pointer_typed : (ts : Types) (bound : Bindings) (x : ℕ) → HasPointer ts bound x → HasType 0 ts (pointer_to bound x) Ptr
+pointer_typed ts bound x h = subst (λ o. HasType 0 ts (pointer_of o) Ptr) (sym h.is_bound) h.points
+
+pub block_points : (ts : Types) (bound : Bindings) (x : ℕ) → HasPointer ts bound x → slice_get ts (block_of bound x) ≡ Some Ptr
+block_points ts bound x h = ap (λ o. slice_get ts (block_register o)) h.is_bound ∙ h.points
 
 module _ (ts : Types) where
   pub in_typed : (from to : MonType) (e : MonExpression) → is_whole from ≡ true → is_whole to ≡ true → HasType 0 ts e from → HasType 0 ts (in_type from to e) to
@@ -392,27 +418,22 @@ module _ (ts : Types) where
       subst (λ l. Begins l ts) (sym (append_assoc rs (temporaries x ++ temporaries y ++ temporaries z) (t ∷ [])) ∙ ap (λ l. l ++ t ∷ []) (sym (append_assoc rs (temporaries x ++ temporaries y) (temporaries z)) ∙ ap (λ l. l ++ temporaries z)
       (sym (append_assoc rs (temporaries x) (temporaries y))))) h
 
-  module _ (numbers : List ℕ) (scopes : Scopes) (sees : AreSeen ts numbers scopes.objects) where
+  module _ (unit : TranslationUnit) (bound : Bindings) (scopes : Scopes) (sees : AreSeen ts bound scopes.objects) where
     -- the variable that a name denotes
-    pub seen : (x : Use) (t : PlainType) → Denotes scopes x t → Seen ts numbers x.decl t
+    pub seen : (x : Use) (t : PlainType) → Denotes scopes x t → Seen ts bound x.decl t
     seen x t d =
         let s = sees x.name d.object d.found in
-        record { int = s.int; ctype = sym d.ctype ∙ s.ctype; register = ap (λ n. slice_get ts (register_of numbers n)) d.decl ∙ s.register }
+        record { int = s.int; ctype = sym d.ctype ∙ s.ctype; has = subst (HasPointer ts bound) (sym d.decl) s.has }
 
-    pub variable_typed : (x : Use) (t : PlainType) (k : CInt) → Denotes scopes x t → t ≡ Int k → slice_get ts (register_of numbers x.decl) ≡ Some (register_type k)
-    variable_typed x t k d int =
-        let s = seen x t d in
-        s.register ∙ ap (λ i. Some (register_type i)) (same_int_type s.int k (sym s.ctype ∙ int))
-
-    pub typed : (e : Expression) (k : CInt) (rs : Types) → type_of e ≡ Int k → IsPure e → WellTyped scopes e → HasLetters e → Begins (rs ++ temporaries e) ts → HasType 0 ts (value numbers rs e) (register_type k)
+    pub typed : (e : Expression) (k : CInt) (rs : Types) → type_of e ≡ Int k → IsPure e → WellTyped scopes e → HasLetters e → Begins (rs ++ temporaries e) ts → HasType 0 ts (value unit bound rs e) (register_type k)
     typed (Node at t (Number z None)) k rs int p q l b = absurd q
     typed (Node at t (Number z (Some i))) k rs int p q l b =
         (ap value_type int, subst (λ j. has_constant (value_type j) z ≡ true) (sym q.0) (small_constant i z q.1))
     typed (Node at t (Letter z)) k rs int p q l b = (ap value_type int, subst (λ j. has_constant (value_type j) z ≡ true) (sym q) (small_constant c.I32 z (letter_fits z l)))
-    typed (Node at t (Variable x)) k rs int p q l b = variable_typed x t k q int
-    typed (Node at t (Unary op a)) k rs int p q l b = unary_typed op t (type_of a) k (value numbers rs a) q.1 int (λ i e. typed a i rs e p q.0 l b)
+    typed (Node at t (Variable x)) k rs int p q l b = (ap value_type int, pointer_typed ts bound x.decl (seen x t q).has)
+    typed (Node at t (Unary op a)) k rs int p q l b = unary_typed op t (type_of a) k (value unit bound rs a) q.1 int (λ i e. typed a i rs e p q.0 l b)
     typed (Node at t (Binary op x y)) k rs int p q l b =
-        binary_typed op t (type_of x) (type_of y) k (value numbers rs x) (value numbers (rs ++ temporaries x) y) q.2 int
+        binary_typed op t (type_of x) (type_of y) k (value unit bound rs x) (value unit bound (rs ++ temporaries x) y) q.2 int
         (λ i e. typed x i rs e p.0 q.0 l.0 (begins_left rs (temporaries x) (temporaries y) ts b))
         (λ i e. typed y i (rs ++ temporaries x) e p.1 q.1 l.1 (begins_right rs (temporaries x) (temporaries y) ts b))
     typed (Node at t (Both x y)) k rs int p q l b =
@@ -424,10 +445,10 @@ module _ (ts : Types) where
     typed (Node at t (Cast to a)) k rs int p q l b =
         let to_int : to ≡ Int k = sym q.1 ∙ int in
         let from = cast_int to (type_of a) k to_int q.2 in
-        subst (HasType 0 ts (in_type (value_type (type_of a)) (value_type to) (value numbers rs a))) (ap value_type to_int)
-        (in_typed (value_type (type_of a)) (value_type to) (value numbers rs a) (value_whole (type_of a)) (value_whole to) (subst (HasType 0 ts (value numbers rs a)) (ap value_type (sym from.is)) (typed a from.int rs from.is p q.0 l b)))
-    typed (Node at t (SizeOfType u)) k rs int p q l b = (ap register_type (same_int_type c.U64 k (sym q.0 ∙ int)), size_constant u q.1)
-    typed (Node at t (SizeOfExpr a)) k rs int p q l b = (ap register_type (same_int_type c.U64 k (sym q.1 ∙ int)), size_constant (type_of a) q.2)
+        subst (HasType 0 ts (in_type (value_type (type_of a)) (value_type to) (value unit bound rs a))) (ap value_type to_int)
+        (in_typed (value_type (type_of a)) (value_type to) (value unit bound rs a) (value_whole (type_of a)) (value_whole to) (subst (HasType 0 ts (value unit bound rs a)) (ap value_type (sym from.is)) (typed a from.int rs from.is p q.0 l b)))
+    typed (Node at t (SizeOfType u)) k rs int p q l b = (ap register_type (same_int_type c.U64 k (sym q.0 ∙ int)), size_constant unit.structs u q.1)
+    typed (Node at t (SizeOfExpr a)) k rs int p q l b = (ap register_type (same_int_type c.U64 k (sym q.1 ∙ int)), size_constant unit.structs (type_of a) q.2)
     typed (Node at t (Text n)) k rs int p q l b = absurd p
     typed (Node at t (Index a c)) k rs int p q l b = absurd p
     typed (Node at t (Dot a m)) k rs int p q l b = absurd p
@@ -437,34 +458,34 @@ module _ (ts : Types) where
     typed (Node at t (Bump op a)) k rs int p q l b = absurd p
     typed (Node at t (Call f es)) k rs int p q l b = absurd p
 
-    pub expression_valid : (e : Expression) (k : CInt) (rs : Types) → type_of e ≡ Int k → IsPure e → WellTyped scopes e → HasLetters e → nodes_of e ≤ 800 → Begins (rs ++ temporaries e) ts → IsExpression 0 ts (value numbers rs e) (register_type k)
-    expression_valid e k rs int p q l few b = record { typed = typed e k rs int p q l b; within = omega (arith, few_parens numbers rs e, few) }
+    pub expression_valid : (e : Expression) (k : CInt) (rs : Types) → type_of e ≡ Int k → IsPure e → WellTyped scopes e → HasLetters e → nodes_of e ≤ 800 → Begins (rs ++ temporaries e) ts → IsExpression 0 ts (value unit bound rs e) (register_type k)
+    expression_valid e k rs int p q l few b = record { typed = typed e k rs int p q l b; within = omega (arith, few_parens unit bound rs e, few) }
 
-    pub condition_valid : (e : Expression) (k : CInt) (rs : Types) → type_of e ≡ Int k → IsPure e → WellTyped scopes e → HasLetters e → nodes_of e ≤ 800 → Begins (rs ++ temporaries e) ts → IsExpression 0 ts (condition_of numbers rs e) I32
+    pub condition_valid : (e : Expression) (k : CInt) (rs : Types) → type_of e ≡ Int k → IsPure e → WellTyped scopes e → HasLetters e → nodes_of e ≤ 800 → Begins (rs ++ temporaries e) ts → IsExpression 0 ts (condition_of unit bound rs e) I32
     condition_valid e k rs int p q l few b =
-        let m = parens_condition (value_type (type_of e)) (value numbers rs e) (2 * nodes_of e) (few_parens numbers rs e) (omega (arith, some_nodes e)) in
-        record { typed = condition_typed (value_type (type_of e)) (value numbers rs e) (value_whole (type_of e)) (subst (HasType 0 ts (value numbers rs e)) (ap value_type (sym int)) (typed e k rs int p q l b)); within = omega (arith, m, few) }
+        let m = parens_condition (value_type (type_of e)) (value unit bound rs e) (2 * nodes_of e) (few_parens unit bound rs e) (omega (arith, some_nodes e)) in
+        record { typed = condition_typed (value_type (type_of e)) (value unit bound rs e) (value_whole (type_of e)) (subst (HasType 0 ts (value unit bound rs e)) (ap value_type (sym int)) (typed e k rs int p q l b)); within = omega (arith, m, few) }
 
-    pub truth_valid : (e : Expression) (k : CInt) (rs : Types) → type_of e ≡ Int k → IsPure e → WellTyped scopes e → HasLetters e → nodes_of e ≤ 800 → Begins (rs ++ temporaries e) ts → IsExpression 0 ts (truth_of numbers rs e) I32
+    pub truth_valid : (e : Expression) (k : CInt) (rs : Types) → type_of e ≡ Int k → IsPure e → WellTyped scopes e → HasLetters e → nodes_of e ≤ 800 → Begins (rs ++ temporaries e) ts → IsExpression 0 ts (truth_of unit bound rs e) I32
     truth_valid e k rs int p q l few b =
-        let m = parens_compared mon.Ne (value_type (type_of e)) (value numbers rs e) (2 * nodes_of e) (few_parens numbers rs e) (omega (arith, some_nodes e)) in
-        record { typed = truth_typed (value_type (type_of e)) (value numbers rs e) (value_whole (type_of e)) (subst (HasType 0 ts (value numbers rs e)) (ap value_type (sym int)) (typed e k rs int p q l b)); within = omega (arith, m, few) }
+        let m = parens_compared mon.Ne (value_type (type_of e)) (value unit bound rs e) (2 * nodes_of e) (few_parens unit bound rs e) (omega (arith, some_nodes e)) in
+        record { typed = truth_typed (value_type (type_of e)) (value unit bound rs e) (value_whole (type_of e)) (subst (HasType 0 ts (value unit bound rs e)) (ap value_type (sym int)) (typed e k rs int p q l b)); within = omega (arith, m, few) }
 
-    -- `op=` on a register
-    pub compound_valid : (op : BinOp) (k i : CInt) (r : ℕ) (e : Expression) (rs : Types) → slice_get ts r ≡ Some (register_type k) → type_of e ≡ Int i → IsPure e → WellTyped scopes e → HasLetters e → nodes_of e ≤ 800 → Begins (rs ++ temporaries e) ts
-        → IsExpression 0 ts (compound_in op (register_type (operation_type op k i)) (register_type k) (register_type i) (tree.Register r) (value numbers rs e)) (register_type k)
-    compound_valid op k i r e rs reg int p q l few b =
-        let m = parens_compound op (register_type (operation_type op k i)) (register_type k) (register_type i) (tree.Register r) (value numbers rs e) (2 * nodes_of e) (omega arith) (few_parens numbers rs e) (omega (arith, some_nodes e)) in
-        record { typed = compound_typed op k i (tree.Register r) (value numbers rs e) reg (typed e i rs int p q l b); within = omega (arith, m, few) }
+    -- `op=` on an object
+    pub compound_valid : (op : BinOp) (k i : CInt) (r : ℕ) (e : Expression) (rs : Types) → slice_get ts r ≡ Some Ptr → type_of e ≡ Int i → IsPure e → WellTyped scopes e → HasLetters e → nodes_of e ≤ 800 → Begins (rs ++ temporaries e) ts
+        → IsExpression 0 ts (compound_in op (register_type (operation_type op k i)) (register_type k) (register_type i) (current r (Int k)) (value unit bound rs e)) (register_type k)
+    compound_valid op k i r e rs points int p q l few b =
+        let some = some_nodes e in
+        let m = parens_compound op (register_type (operation_type op k i)) (register_type k) (register_type i) (current r (Int k)) (value unit bound rs e) (2 * nodes_of e) (omega (arith, some)) (few_parens unit bound rs e) (omega (arith, some)) in
+        record { typed = compound_typed op k i (current r (Int k)) (value unit bound rs e) (refl, points) (typed e i rs int p q l b); within = omega (arith, m, few) }
 
     -- ---- annotations
 
-    term_typed : (t : LogicTerm) → IsSumTerm t → TermTyped scopes t → TermHasLetters t → HasType 0 ts (term numbers t) I128
+    term_typed : (t : LogicTerm) → IsSumTerm t → TermTyped scopes t → TermHasLetters t → HasType 0 ts (term bound t) I128
     term_typed (logic.Number at u r z) p q l = (refl, logic_constant z p)
     term_typed (logic.Letter at u r z) p q l = (refl, logic_constant z (letter_number z l))
     term_typed (logic.Variable at u r x) p q l =
-        let s = seen x q.ctype q.denotes in
-        (refl, refl, (register_type s.int, register_whole s.int, s.register))
+        (refl, refl, (term_type u, term_whole u, (refl, pointer_typed ts bound x.decl (seen x q.ctype q.denotes).has)))
     term_typed (logic.Binary at u r operator.Add a b) p q l = (refl, refl, term_typed a p.1 q.0 l.0, term_typed b p.2 q.1 l.1)
     term_typed (logic.Binary at u r operator.Sub a b) p q l = (refl, refl, term_typed a p.1 q.0 l.0, term_typed b p.2 q.1 l.1)
     term_typed (logic.Binary at u r _ a b) p q l = absurd p.0
@@ -475,24 +496,24 @@ module _ (ts : Types) where
     one_leaf (logic.Variable at u r x) = omega arith
     one_leaf (logic.Binary at u r op a b) = let p = one_leaf a in omega (arith, p)
 
-    few_parens_of_term : (t : LogicTerm) → open_parens (term numbers t) ≤ suc (leaves_of_term t)
+    few_parens_of_term : (t : LogicTerm) → open_parens (term bound t) ≤ 2 + leaves_of_term t
     few_parens_of_term (logic.Number at u r z) = omega arith
     few_parens_of_term (logic.Letter at u r z) = omega arith
-    few_parens_of_term (logic.Variable at u r x) = omega arith
+    few_parens_of_term (logic.Variable at u r x) =
+        let m : max 1 (open_parens (pointer_to bound x.decl)) ≤ 1 = max-le (omega arith) (few_parens_of_pointer bound x.decl) in
+        let n : max 1 (open_parens (tree.Load (term_type u) (pointer_to bound x.decl))) ≤ 2 = max-le (omega arith) (omega (arith, m)) in
+        omega (arith, n)
     few_parens_of_term (logic.Binary at u r op a b) =
-        let m : max (open_parens (term numbers a)) (open_parens (term numbers b)) ≤ leaves_of_term a + leaves_of_term b = max-le (omega (arith, few_parens_of_term a, one_leaf b)) (omega (arith, few_parens_of_term b, one_leaf a)) in
+        let m : max (open_parens (term bound a)) (open_parens (term bound b)) ≤ 1 + leaves_of_term a + leaves_of_term b = max-le (omega (arith, few_parens_of_term a, one_leaf b)) (omega (arith, few_parens_of_term b, one_leaf a)) in
         omega (arith, m)
 
     relation_valid : (r : Relation) (a b : LogicTerm) → IsShortTerm a → IsShortTerm b → TermTyped scopes a → TermTyped scopes b → TermHasLetters a → TermHasLetters b
-        → IsExpression 0 ts (tree.Binary (relation_operator r) I128 (term numbers a) (term numbers b)) I32
+        → IsExpression 0 ts (tree.Binary (relation_operator r) I128 (term bound a) (term bound b)) I32
     relation_valid r a b p q f g l m =
-        let deep : max (open_parens (term numbers a)) (open_parens (term numbers b)) ≤ 401 = max-le (omega (arith, few_parens_of_term a, p.short)) (omega (arith, few_parens_of_term b, q.short)) in
+        let deep : max (open_parens (term bound a)) (open_parens (term bound b)) ≤ 402 = max-le (omega (arith, few_parens_of_term a, p.short)) (omega (arith, few_parens_of_term b, q.short)) in
         record { typed = (relation_gives r I128, refl, term_typed a p.is f l, term_typed b q.is g m); within = omega (arith, deep) }
 
-    body_valid : (b : ClauseBody) → IsRelation b → ClauseTyped scopes b → BodyHasLetters b → IsExpression 0 ts (truth_of_body numbers b) I32
+    pub body_valid : (b : ClauseBody) → IsRelation b → ClauseTyped scopes b → BodyHasLetters b → IsExpression 0 ts (truth_of_body bound b) I32
     body_valid (Truth (Chain at a (Linked at2 r b NoLink))) p q l = relation_valid r a b p.0 p.1 q.0 q.1.0 l.0 l.1.0
     body_valid (Truth (Chain at a NoLink)) p q l = absurd p
     body_valid (Truth (Chain at a (Linked at2 r b (Linked at3 r3 c rest)))) p q l = absurd p
-
-    pub assertion_valid : (gs : List Signature) (result : Option MonType) (ls : Labels) (a : Annotation) → IsAssert a → ClauseTyped scopes a.body → IsNumbered a → IsStatement 0 gs ts result ls (assertion numbers a)
-    assertion_valid gs result ls a h t k = (record { typed = (refl, refl); within = omega arith }, body_valid a.body h.body t k.letters, k.number, k.line)

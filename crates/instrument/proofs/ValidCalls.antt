@@ -22,13 +22,12 @@ use Rattle.mon_syntax.specs.Valid.{Types, Labels, Signature, TakesValue, AreArgu
 use Rattle.mon_syntax.specs.declared.tree.MonType.{MonType}
 use Rattle.instrument.specs.Limits.{FunctionsHaveNumbers}
 use Rattle.c_effects.specs.Expressions.{register_type, value_type, one}
-use Rattle.instrument.specs.Translation.{function_name, result_of, value_types, values_from, function_of}
+use Rattle.instrument.specs.Translation.{function_name, result_of, value_types, arguments_from, function_of}
 use Rattle.c_effects.specs.Effects.{index_of, first_of, library_call, call}
-use Rattle.instrument.proofs.Functions.{parameter_ints}
 use Rattle.instrument.proofs.Numbers.{AreObjects, parameter_objects}
+use Rattle.instrument.proofs.Objects.{parameter_ints}
 use Rattle.instrument.proofs.Programs.{picked, index_by, IsPicked, has_number, definition_is, index_is, has_bytes, main_index_is}
-use Rattle.instrument.proofs.Callees.{IsOther, IsResolved, IsFunction, IsOfLibrary, IsNothing, ints_of, main, functions, resolved}
-use Rattle.instrument.proofs.Correct.{is_main}
+use Rattle.instrument.proofs.Resolved.{IsOther, IsResolved, IsFunction, IsOfLibrary, IsNothing, ints_of, main, functions, resolved, is_main}
 use Rattle.instrument.proofs.ValidEffects.{CallValid, CallsValid}
 
 get_mapped : {A B : Type 0} (f : A → B) (l : List A) (k : ℕ) (a : A) → slice_get l k ≡ Some a → slice_get (map f l) k ≡ Some (f a)
@@ -38,9 +37,9 @@ get_mapped f (b ∷ l) (suc k) a e = get_mapped f l k a e
 
 -- ---- types of parameters
 
-pub types_of_values : (names : List (List ℕ)) (k : ℕ) (ds : List Declaration) → types_of (values_from names k ds) ≡ value_types ds
-types_of_values names k [] = refl
-types_of_values names k (d ∷ ds) = ap (λ l. value_type d.ctype ∷ l) (types_of_values names (suc k) ds)
+pub types_of_arguments : (names : List (List ℕ)) (k : ℕ) (ds : List Declaration) → types_of (arguments_from names k ds) ≡ value_types ds
+types_of_arguments names k [] = refl
+types_of_arguments names k (d ∷ ds) = ap (λ l. value_type d.ctype ∷ l) (types_of_arguments names (suc k) ds)
 
 ints_are : (ds : List Declaration) → AreObjects ds → map register_type (parameter_ints ds) ≡ value_types ds
 ints_are [] o = refl
@@ -114,7 +113,7 @@ module _ (p : TranslationUnit) (q : IsProgram p) (numbers : FunctionsHaveNumbers
               callee = signature_of callee_code;
               has = has;
               not_main = named;
-              arguments = subst (AreArguments 0 ts args) (ints_are g.params objects ∙ sym (types_of_values p.names 0 g.params)) given;
+              arguments = subst (AreArguments 0 ts args) (ints_are g.params objects ∙ sym (types_of_arguments p.names 0 g.params)) given;
               takes = subst (λ u. TakesValue ts into (result_of u)) result takes;
             } in
             subst (λ b. AreStatements 0 signatures ts into_result ls (if b then library_call into (name_at p.names f.name) args else one (tree.Call into index args))) (sym own) (is_call, tt)

@@ -1,34 +1,67 @@
 -- The translation of a program is valid: its functions, each with a name of its own, one of which is `main`.
-use Rattle.std.proofs.Common.{◌≡◌, ℕ, suc, ◌+◌, ◌<◌, ◌≤◌, ◌^◌, Bool, true, false, cond, if◌then◌else◌, nat_eq, List, [], ◌∷◌, ◌++◌, length, map, Option, Some, refl, sym, ap, ◌∙◌, subst, arith}
-use Rattle.std.proofs.lemmas.List.{append-nil}
+use Rattle.std.proofs.Common.{◌≡◌, ℕ, suc, ◌+◌, ◌<◌, ◌≤◌, ◌^◌, Bool, true, false, cond, if◌then◌else◌, nat_eq, List, [], ◌∷◌, ◌++◌, length, map, Option, Some, slice_get, refl, sym, ap, ◌∙◌, subst, arith}
+use Rattle.std.proofs.lemmas.List.{length-append, length-map}
 use Rattle.std.proofs.lemmas.Bool.{eq-eqb}
 use Rattle.std.proofs.lemmas.Bool.Decides.{nat_tests}
+use Rattle.std.proofs.Math.Nat.{max-le}
 use Rattle.std.specs.Prelude.{bytes_eq, codes}
-use Rattle.c_syntax.specs.Statements.{Declaration, Statement, Block}
+use Rattle.c_syntax.specs.Statements.{Declaration, Block}
 use Rattle.c_syntax.specs.Programs.{Function, TranslationUnit}
-use Rattle.c_model.specs.Formed.{IsProgram, BodyFormed, declared_in_body, declared_in_items, most_typed}
+use Rattle.c_model.specs.Formed.{IsProgram, BodyFormed, most_typed}
 use Rattle.c_model.specs.Meaning.{is_definition, declared_in}
 use Rattle.c_model.specs.Typing.{Signature as Known, Scopes, name_at, with_object}
 use Rattle.c_model.specs.ProgramTyping.{signature, function_scopes, with_parameter, with_parameters}
 use Rattle.c_model.specs.WellTypedPrograms.{around_body}
-use Rattle.mon_syntax.specs.Valid.{Types, Signature, AreStatements, IsFunction, AreFunctions, IsValid, has_label, depth_of_all}
+use Rattle.mon_syntax.specs.declared.tree.MonType.{MonType}
+use Rattle.mon_syntax.specs.Registers.{RegisterTable, with_kinds, no_registers, next_register}
+use Rattle.mon_syntax.specs.Trees.{MonStatements}
+use Rattle.mon_syntax.specs.Trees as tree
+use Rattle.mon_syntax.specs.Valid.{Types, Labels, Signature, IsExpression, AreStatements, IsFunction, AreFunctions, IsValid, has_label, depth_of_all}
 use Rattle.mon_syntax.specs.Names.{IsFreeName}
+use Rattle.track_scopes.specs.Blocks.{entered, deaths, with_born}
+use Rattle.c_effects.specs.Expressions.{value_type, before}
 use Rattle.instrument.specs.Limits.{FunctionsHaveNumbers}
-use Rattle.instrument.specs.Translation.{Spot, variables_of, variable_numbers, variable_types, body_temporaries, with_variables, alive, body_part, items, function_name, values_from, result_of, function_of, functions_from, translated}
-use Rattle.track_scopes.specs.Blocks.{with_born}
+use Rattle.instrument.specs.Translation.{Spot, value_types, registers_of_body, after_body, after_items, with_variables, body_part, parameters, items, code_of, function_name, arguments_from, result_of, function_of, functions_from, translated}
 use Rattle.instrument.proofs.Names.{IsNumber, main_is_free, function_is_free, functions_differ}
-use Rattle.instrument.proofs.Functions.{InOrder}
-use Rattle.instrument.proofs.Numbers.{bounded, placed, AreObjects, items_objects, parameter_objects}
+use Rattle.instrument.proofs.Numbers.{AreObjects, items_objects, parameter_objects}
 use Rattle.instrument.proofs.Programs.{Part, Parts, parts_of, is_picked, index_by, has_bytes, main_index_is}
-use Rattle.instrument.proofs.Bodies.{HasBody, has_body, numbers_long}
-use Rattle.instrument.proofs.Callees.{main}
-use Rattle.instrument.proofs.Correct.{is_main}
-use Rattle.instrument.proofs.Typed.{Begins}
-use Rattle.instrument.proofs.ValidBlocks.{HaveVariables, have_variables, variables_front, variables_back, own_variables, Sees, sees_one, point_born, deep_alive, alive_valid}
+use Rattle.instrument.proofs.Resolved.{HasBody, has_body, main, is_main}
+use Rattle.instrument.proofs.Typed.{Begins, begins_left, begins_right, register_at}
+use Rattle.instrument.proofs.Tables.{begins_itself, begins_then, entered_begins, items_begin, HavePointers, entered_keep, entered_have, AllPoint, PointFrom, entered_from, point_born}
+use Rattle.instrument.proofs.ValidSetups.{deep_before, before_valid}
+use Rattle.instrument.proofs.ValidBlocks.{Sees, sees_one, sees_later, deep_deaths, birth_valid, deaths_valid, alive_valid}
 use Rattle.instrument.proofs.Depths.{deep}
 use Rattle.instrument.proofs.ValidStatements.{items_valid}
 use Rattle.instrument.proofs.ValidCalls.{signatures, calls_valid}
-use Rattle.instrument.proofs.ValidRegisters.{AllOf, all_of, not_among, function_types, registers_valid}
+use Rattle.instrument.proofs.ValidRegisters.{AllOf, all_of, not_among, kinds, values_begin, function_types, registers_valid}
+
+-- ---- parameters
+
+-- as many registers from this one on as these variables are hold their values
+abbrev HoldFrom : Types → ℕ → List Declaration → Type 0
+HoldFrom ts v [] = Unit {0}
+HoldFrom ts v (d ∷ ds) = (slice_get ts v ≡ Some (value_type d.ctype)) × HoldFrom ts (suc v) ds
+
+hold_from : (ts front : Types) (ds : List Declaration) → Begins (front ++ value_types ds) ts → HoldFrom ts (length front) ds
+hold_from ts front [] b = tt
+hold_from ts front (d ∷ ds) b =
+    let t = value_type d.ctype in
+    let long : length (front ++ t ∷ []) ≡ suc (length front) = omega (arith, length-append front (t ∷ [])) in (
+      register_at front ts t (begins_left front (t ∷ []) (value_types ds) ts b),
+      subst (λ v. HoldFrom ts v ds) long (hold_from ts (front ++ t ∷ []) ds (begins_right front (t ∷ []) (value_types ds) ts b)),
+    )
+
+deep_parameters : (p : TranslationUnit) (r v : ℕ) (ds : List Declaration) → depth_of_all (parameters p r v ds) ≤ 1
+deep_parameters p r v [] = omega arith
+deep_parameters p r v (d ∷ ds) = max-le (omega arith) (max-le (omega arith) (deep_parameters p (suc r) (suc v) ds))
+
+module _ (gs : List Signature) (ts : Types) (result : Option MonType) (ls : Labels) (p : TranslationUnit) where
+  -- each parameter is born and takes its argument
+  parameters_valid : (r v : ℕ) (ds : List Declaration) → AreObjects ds → PointFrom ts r ds → HoldFrom ts v ds → AreStatements 0 gs ts result ls (parameters p r v ds)
+  parameters_valid r v [] o h k = tt
+  parameters_valid r v (d ∷ ds) o h k =
+      let argument : IsExpression 0 ts (tree.Register v) (value_type d.ctype) = record { typed = k.0; within = omega arith } in
+      ((birth_valid gs ts result ls p.structs r d o.0 h.0).0, ((h.0, argument), parameters_valid (suc r) (suc v) ds o.1 h.1 k.1))
 
 -- ---- a function
 
@@ -40,77 +73,104 @@ module _ (p : TranslationUnit) (q : IsProgram p) (numbers : FunctionsHaveNumbers
   gs = signatures p q numbers
 
   module _ (f : Function) (part : Part p f) (definition : is_definition f ≡ true) where
-    abbrev ns : List ℕ
-    ns = variable_numbers f
-
     abbrev ts : Types
-    ts = variable_types f ++ body_temporaries f.body
+    ts = kinds f
 
     abbrev body : HasBody p f part
     body = has_body p f part definition
 
-    in_order : InOrder ns 0 (variables_of f)
-    in_order =
-        let all = bounded (suc f.place.offset) ns part.numbered.1 in
-        (placed [] (variables_of f) (suc f.place.offset) all.high tt all.is).in_order
+    -- the registers before the body, and those of its variables besides
+    abbrev opens : RegisterTable
+    opens = with_kinds (value_types f.params) no_registers
 
-    variables : HaveVariables ts ns (variables_of f)
-    variables = have_variables ts ns (variables_of f) (numbers_long f) (record { rest = body_temporaries f.body; is = refl }) [] (variables_of f) refl in_order
+    abbrev r : RegisterTable
+    r = registers_of_body f
 
-    parameters : HaveVariables ts ns f.params
-    parameters = variables_front ts ns f.params (declared_in_body f.body) variables
+    abbrev inside : RegisterTable
+    inside = entered (declared_in body.items) r
 
-    declared : HaveVariables ts ns (declared_in_items body.items)
-    declared = subst (λ b. HaveVariables ts ns (declared_in_body b)) body.is (variables_back ts ns f.params (declared_in_body f.body) variables)
+    items_are : ts ≡ (after_items body.items inside).kinds
+    items_are = ap (λ b. (after_body b r).kinds) body.is
+
+    within_items : Begins (after_items body.items inside).kinds ts
+    within_items = subst (Begins (after_items body.items inside).kinds) (sym items_are) (begins_itself (after_items body.items inside).kinds)
+
+    born : Begins inside.kinds ts
+    born = begins_then inside.kinds (after_items body.items inside).kinds ts (items_begin body.items inside) within_items
+
+    begun : Begins r.kinds ts
+    begun = begins_then r.kinds inside.kinds ts (entered_begins (declared_in body.items) r) born
+
+    long : length opens.kinds ≡ length f.params
+    long = length-map f.params (λ (d : Declaration). value_type d.ctype)
+
+    points : PointFrom ts (length f.params) f.params
+    points = subst (λ n. PointFrom ts n f.params) long (entered_from ts f.params opens begun)
+
+    objects : AreObjects f.params
+    objects = parameter_objects (function_scopes p part.before f) f.params part.typed.params
 
     abbrev known : List Known
     known = map (signature p.funcs) (part.before ++ f ∷ [])
 
     -- each parameter that has a name is in sight
-    sees_parameters : (ds : List Declaration) (s : Scopes) → AreObjects ds → HaveVariables ts ns ds → Sees ts ns p.names known s → Sees ts ns p.names known (with_parameters s ds)
+    sees_parameters : (ds : List Declaration) (s : Scopes) → AreObjects ds → HavePointers ts r.bound ds → Sees ts r.bound p.names known s → Sees ts r.bound p.names known (with_parameters s ds)
     sees_parameters [] s o h v = v
     sees_parameters (d ∷ ds) s o h v = sees_parameters ds (with_parameter s d) o.1 h.1 (by d.named)
       where
-        by : (b : Bool) → Sees ts ns p.names known (cond b (with_object s d) s)
-        by true = sees_one ts ns p.names known s d o.0 h.0 v
+        by : (b : Bool) → Sees ts r.bound p.names known (cond b (with_object s d) s)
+        by true = sees_one ts p.names known r.bound s d o.0 h.0 v
         by false = v
 
     abbrev scopes : Scopes
     scopes = with_parameters (function_scopes p part.before f) f.params
 
-    sees : Sees ts ns p.names known scopes
-    sees =
-        sees_parameters f.params (function_scopes p part.before f) (parameter_objects (function_scopes p part.before f) f.params part.typed.params) parameters
-        (record { sees = λ x b e. absurd cc; names_are = refl; functions_are = refl })
+    sees : Sees ts r.bound p.names known scopes
+    sees = sees_parameters f.params (function_scopes p part.before f) objects (entered_have ts f.params opens begun) (record { sees = λ x b e. absurd cc; names_are = refl; functions_are = refl })
+
+    abbrev live : List ℕ
+    live = with_born (length f.params) f.params []
+
+    live_point : AllPoint ts live
+    live_point = point_born ts (length f.params) f.params [] points tt
 
     abbrev spot : Spot
-    spot = record { loops = 0; inside = with_born ns f.params []; outside = [] }
+    spot = record { loops = 0; inside = live; outside = [] }
 
-    abbrev Are : Option Statement → Type 0
-    Are a = AreStatements 0 gs ts (result_of f.result) [] (body_part p ns f.params (variable_types f) a)
+    abbrev Are : MonStatements → Type 0
+    Are a = AreStatements 0 gs ts (result_of f.result) [] a
 
     block_formed : BodyFormed most_typed (Some (Block body.at body.items))
     block_formed = subst (BodyFormed most_typed) body.is part.formed.body
 
-    block_valid : Are (Some (Block body.at body.items))
+    block_valid : Are (body_part p f.params r (Some (Block body.at body.items)))
     block_valid =
-        let own = own_variables ts ns body.items declared in
-        let inside = with_variables ns (declared_in body.items) spot in
+        let own = declared_in body.items in
+        let deeper = with_variables (next_register r) own spot in
         let shallow = block_formed.1 in
-        alive_valid gs ts (result_of f.result) [] ns (declared_in body.items) (items p ns inside (variable_types f) body.items) (items_objects scopes (around_body f.result) body.items body.typed) own
-        (items_valid p gs ts f.result ns p.names known (λ s names seen. calls_valid p q numbers ts part.before part.after f part.is s names seen) body.items scopes sees (around_body f.result) inside
-        (record { inside = point_born ts ns (declared_in body.items) (with_born ns f.params []) own (point_born ts ns f.params [] parameters tt); outside = tt })
-        (variable_types f) refl (λ e. absurd cc) declared body.formed body.typed body.noted body.letters (omega (arith, shallow))
-        (subst (λ l. Begins (variable_types f ++ l) ts) (ap body_temporaries body.is) (record { rest = []; is = sym (append-nil ts) })))
+        alive_valid gs ts (result_of f.result) [] p (next_register r) own (items p deeper inside body.items) (items_objects scopes (around_body f.result) body.items body.typed) (entered_from ts own r born)
+        (items_valid p gs ts f.result p.names known (λ s names seen. calls_valid p q numbers ts part.before part.after f part.is s names seen) body.items scopes (around_body f.result) deeper
+        (record { inside = point_born ts (next_register r) own live (entered_from ts own r born) live_point; outside = tt })
+        inside (sees_later ts p.names known r inside scopes (λ x h. entered_keep ts x own r born h) sees) refl (λ e. absurd cc) (entered_have ts own r born) body.formed body.typed body.noted body.letters (omega (arith, shallow)) within_items)
 
-    all_valid : AreStatements 0 gs ts (result_of f.result) [] (alive ns f.params (body_part p ns f.params (variable_types f) f.body))
-    all_valid =
-        alive_valid gs ts (result_of f.result) [] ns f.params (body_part p ns f.params (variable_types f) f.body) (parameter_objects (function_scopes p part.before f) f.params part.typed.params) parameters (subst Are (sym body.is) block_valid)
+    code_valid : Are (code_of p f)
+    code_valid =
+        let whole = body_part p f.params r f.body in
+        before_valid gs ts (result_of f.result) [] (parameters p (length f.params) 0 f.params) (before whole (deaths live))
+        (parameters_valid gs ts (result_of f.result) [] p (length f.params) 0 f.params objects points (hold_from ts [] f.params (values_begin f)))
+        (before_valid gs ts (result_of f.result) [] whole (deaths live) (subst (λ b. Are (body_part p f.params r b)) (sym body.is) block_valid) (deaths_valid gs ts (result_of f.result) [] live live_point))
 
-    deep_body : depth_of_all (body_part p ns f.params (variable_types f) f.body) ≤ 1605
+    deep_body : depth_of_all (body_part p f.params r f.body) ≤ 1605
     deep_body =
-        subst (λ a. depth_of_all (body_part p ns f.params (variable_types f) a) ≤ 1605) (sym body.is)
-        (let d = deep p ns spot (variable_types f) (Block body.at body.items) block_formed.0 in let shallow = block_formed.1 in omega (arith, d, shallow))
+        subst (λ b. depth_of_all (body_part p f.params r b) ≤ 1605) (sym body.is)
+        (let d = deep p spot r (Block body.at body.items) block_formed.0 in let shallow = block_formed.1 in omega (arith, d, shallow))
+
+    deep_code : depth_of_all (code_of p f) ≤ 1605
+    deep_code =
+        let whole = body_part p f.params r f.body in
+        let x = deep_parameters p (length f.params) 0 f.params in
+        let y = deep_deaths live in
+        deep_before (parameters p (length f.params) 0 f.params) (before whole (deaths live)) 1605 (omega (arith, x)) (deep_before whole (deaths live) 1605 deep_body (omega (arith, y)))
 
     name_free : (k : ℕ) → IsNumber k → (b : Bool) → IsFreeName (if b then codes "main" else function_name k (name_at p.names f.name))
     name_free k few true = main_is_free
@@ -118,11 +178,12 @@ module _ (p : TranslationUnit) (q : IsProgram p) (numbers : FunctionsHaveNumbers
 
     pub function_valid : (k : ℕ) → IsNumber k → IsFunction [] gs (function_of p m k f)
     function_valid k few =
-        let deep = deep_alive ns f.params (body_part p ns f.params (variable_types f) f.body) 1605 deep_body (omega arith) in
+        let small = (part.numbers definition).few in
+        let deep = deep_code in
         record {
           name = name_free k few (nat_eq k m);
-          registers = registers_valid p.names f part.named (part.numbers definition).few;
-          body = subst (λ ts. AreStatements 0 gs ts (result_of f.result) [] (alive ns f.params (body_part p ns f.params (variable_types f) f.body))) (sym (function_types p.names f)) all_valid;
+          registers = registers_valid p.names f part.named (omega (arith, small));
+          body = subst (λ ts. AreStatements 0 gs ts (result_of f.result) [] (code_of p f)) (sym (function_types p.names f)) code_valid;
           within = omega (arith, deep);
         }
 
@@ -183,6 +244,6 @@ module _ (p : TranslationUnit) (q : IsProgram p) (numbers : FunctionsHaveNumbers
         is_main = record {
           name = ap (λ b. if b then codes "main" else function_name index (name_at p.names found.function.name)) (eq-eqb index m first);
           result = ap result_of found.result;
-          no_parameters = ap (values_from p.names 0) found.params;
+          no_parameters = ap (arguments_from p.names 0) found.params;
         };
       }

@@ -1,19 +1,21 @@
 -- The registers of translated functions: their names are free, and each has its own; and their types.
-use Rattle.std.proofs.Common.{◌≡◌, ℕ, suc, ◌+◌, ◌<◌, ◌≤◌, ◌^◌, Bool, true, false, ◌||◌, if◌then◌else◌, List, [], ◌∷◌, ◌++◌, length, refl, sym, ap, ◌∙◌, arith, append_assoc}
-use Rattle.std.proofs.lemmas.List.{length-append, map-append}
+use Rattle.std.proofs.Common.{◌≡◌, ℕ, suc, ◌+◌, ◌<◌, ◌≤◌, ◌^◌, Bool, true, false, ◌||◌, if◌then◌else◌, List, [], ◌∷◌, ◌++◌, length, drop, Option, Some, None, refl, sym, ap, ◌∙◌, arith}
+use Rattle.std.proofs.lemmas.List.{length-append, length-map, map-append}
 use Rattle.std.specs.Prelude.{bytes_eq}
-use Rattle.c_syntax.specs.Statements.{Declaration}
+use Rattle.c_syntax.specs.Statements.{Declaration, Statement}
 use Rattle.c_syntax.specs.Programs.{Function}
 use Rattle.c_model.specs.Typing.{name_at}
-use Rattle.c_model.specs.Formed.{IsName, AreNamed, AreNamedParameters, FunctionNamed, declared_in_body}
-use Rattle.mon_syntax.specs.declared.tree.MonType.TheVariants.{Ptr}
+use Rattle.c_model.specs.Formed.{IsName, AreNamedParameters, FunctionNamed}
+use Rattle.mon_syntax.specs.declared.tree.MonType.{MonType}
+use Rattle.mon_syntax.specs.Registers.{RegisterTable, no_registers, with_kinds}
 use Rattle.mon_syntax.specs.Trees.{MonRegister}
 use Rattle.mon_syntax.specs.Valid.{Types, AreRegisters, has_label, types_of}
 use Rattle.c_effects.specs.Expressions.{value_type}
-use Rattle.instrument.specs.Translation.{register_name, pointer_name, temporary_name, own_name, value_types, pointer_types, variables_of, variable_types, body_temporaries, values_from, pointers_from, temporaries_from, registers_of}
-use Rattle.instrument.proofs.Names.{IsNumber, AllParts, register_is_free, registers_differ, pointer_is_free, pointers_differ, temporary_is_free, temporaries_differ, pointer_no_value, temporary_no_value, temporary_no_pointer}
-use Rattle.instrument.proofs.Bodies.{types_long}
-use Rattle.instrument.proofs.ValidCalls.{types_of_values}
+use Rattle.instrument.specs.Translation.{register_name, name_of_register, own_name, value_types, arguments_from, registers_from, registers_of, registers_of_body, after_body}
+use Rattle.instrument.proofs.Names.{IsNumber, AllParts, register_is_free, registers_differ, named_free, named_differ, named_no_value}
+use Rattle.instrument.proofs.Typed.{Begins}
+use Rattle.instrument.proofs.Tables.{begins_itself, begins_then, entered_begins, statement_begins}
+use Rattle.instrument.proofs.ValidCalls.{types_of_arguments}
 
 -- ---- names that others haven't
 
@@ -29,38 +31,22 @@ pub not_among : (name : List ℕ) (ws : List (List ℕ)) → AllOf (λ w. bytes_
 not_among name [] h = refl
 not_among name (w ∷ ws) h = ap (λ b. b || has_label ws name) h.0 ∙ not_among name ws h.1
 
--- names of registers in front, of which none with these numbers or of these kinds is one
-record AboveValues (k : ℕ) (w : List ℕ) : Type 0 where
-  pub value : (j : ℕ) (name : List ℕ) → k ≤ j → IsNumber j → bytes_eq (register_name j name) w ≡ false
-  pub pointer : (j : ℕ) → bytes_eq (pointer_name j) w ≡ false
-  pub temporary : (j : ℕ) → bytes_eq (temporary_name j) w ≡ false
+-- names of registers in front, of which none with these numbers is one: neither that of an argument, nor that of another register
+record AboveArguments (k : ℕ) (w : List ℕ) : Type 0 where
+  pub argument : (j : ℕ) (name : List ℕ) → k ≤ j → IsNumber j → bytes_eq (register_name j name) w ≡ false
+  pub other : (j : ℕ) (t : MonType) → bytes_eq (name_of_register j t) w ≡ false
 
-record AbovePointers (k : ℕ) (w : List ℕ) : Type 0 where
-  pub pointer : (j : ℕ) → k ≤ j → IsNumber j → bytes_eq (pointer_name j) w ≡ false
-  pub temporary : (j : ℕ) → bytes_eq (temporary_name j) w ≡ false
+record AboveOthers (k : ℕ) (w : List ℕ) : Type 0 where
+  pub other : (j : ℕ) (t : MonType) → k ≤ j → IsNumber j → bytes_eq (name_of_register j t) w ≡ false
 
-record AboveTemporaries (k : ℕ) (w : List ℕ) : Type 0 where
-  pub temporary : (j : ℕ) → k ≤ j → IsNumber j → bytes_eq (temporary_name j) w ≡ false
-
-temporaries_valid : (k : ℕ) (ts : Types) (before : List (List ℕ)) → IsNumber (k + length ts) → AllOf (AboveTemporaries k) before → AreRegisters before (temporaries_from k ts)
-temporaries_valid k [] before le h = tt
-temporaries_valid k (t ∷ ts) before le h = (
-  temporary_is_free k (omega (arith, le)),
-  not_among (temporary_name k) before (all_of (AboveTemporaries k) (λ w. bytes_eq (temporary_name k) w ≡ false) before (λ w a. a.temporary k (omega arith) (omega (arith, le))) h),
-  temporaries_valid (suc k) ts (temporary_name k ∷ before) (omega (arith, le)) (
-    record { temporary = λ j lt few. temporaries_differ j k few (omega (arith, le)) (λ e. omega (arith, e, lt)) },
-    all_of (AboveTemporaries k) (AboveTemporaries (suc k)) before (λ w a. record { temporary = λ j lt few. a.temporary j (omega (arith, lt)) few }) h,
-  ),
-)
-
-pointers_valid : (k : ℕ) (ds : List Declaration) (before : List (List ℕ)) (n : ℕ) (ts : Types) → IsNumber (k + length ds) → IsNumber (n + length ts) → AllOf (AbovePointers k) before → AreRegisters before (pointers_from k ds ++ temporaries_from n ts)
-pointers_valid k [] before n ts le few h = temporaries_valid n ts before few (all_of (AbovePointers k) (AboveTemporaries n) before (λ w a. record { temporary = λ j lt small. a.temporary j }) h)
-pointers_valid k (d ∷ ds) before n ts le few h = (
-  pointer_is_free k (omega (arith, le)),
-  not_among (pointer_name k) before (all_of (AbovePointers k) (λ w. bytes_eq (pointer_name k) w ≡ false) before (λ w a. a.pointer k (omega arith) (omega (arith, le))) h),
-  pointers_valid (suc k) ds (pointer_name k ∷ before) n ts (omega (arith, le)) few (
-    record { pointer = λ j lt small. pointers_differ j k small (omega (arith, le)) (λ e. omega (arith, e, lt)); temporary = λ j. temporary_no_pointer j k },
-    all_of (AbovePointers k) (AbovePointers (suc k)) before (λ w a. record { pointer = λ j lt small. a.pointer j (omega (arith, lt)) small; temporary = a.temporary }) h,
+others_valid : (k : ℕ) (ts : Types) (before : List (List ℕ)) → IsNumber (k + length ts) → AllOf (AboveOthers k) before → AreRegisters before (registers_from k ts)
+others_valid k [] before le h = tt
+others_valid k (t ∷ ts) before le h = (
+  named_free k t (omega (arith, le)),
+  not_among (name_of_register k t) before (all_of (AboveOthers k) (λ w. bytes_eq (name_of_register k t) w ≡ false) before (λ w a. a.other k t (omega arith) (omega (arith, le))) h),
+  others_valid (suc k) ts (name_of_register k t ∷ before) (omega (arith, le)) (
+    record { other = λ j u lt few. named_differ j k u t few (omega (arith, le)) (λ e. omega (arith, e, lt)) },
+    all_of (AboveOthers k) (AboveOthers (suc k)) before (λ w a. record { other = λ j u lt few. a.other j u (omega (arith, lt)) few }) h,
   ),
 )
 
@@ -68,28 +54,6 @@ pointers_valid k (d ∷ ds) before n ts le few h = (
 abbrev OwnParts : List (List ℕ) → List Declaration → Type 0
 OwnParts names [] = Unit {0}
 OwnParts names (d ∷ ds) = AllParts (own_name names d) × OwnParts names ds
-
--- values, and other registers after them
-values_valid : (names : List (List ℕ)) (k : ℕ) (ds : List Declaration) (before : List (List ℕ)) (rest : List MonRegister) → OwnParts names ds → IsNumber (k + length ds) → AllOf (AboveValues k) before
-    → ((after : List (List ℕ)) → AllOf (AboveValues (k + length ds)) after → AreRegisters after rest) → AreRegisters before (values_from names k ds ++ rest)
-values_valid names k [] before rest o le h go = go before (all_of (AboveValues k) (AboveValues (k + 0)) before (λ w a. record { value = λ j name lt few. a.value j name (omega (arith, lt)) few; pointer = a.pointer; temporary = a.temporary }) h)
-values_valid names k (d ∷ ds) before rest o le h go =
-    let name = own_name names d in (
-      register_is_free k name (omega (arith, le)) o.0,
-      not_among (register_name k name) before (all_of (AboveValues k) (λ w. bytes_eq (register_name k name) w ≡ false) before (λ w a. a.value k name (omega arith) (omega (arith, le))) h),
-      values_valid names (suc k) ds (register_name k name ∷ before) rest o.1 (omega (arith, le)) (
-        record {
-          value = λ j other lt few. registers_differ j k other name few (omega (arith, le)) (λ e. omega (arith, e, lt));
-          pointer = λ j. pointer_no_value j k name;
-          temporary = λ j. temporary_no_value j k name;
-        },
-        all_of (AboveValues k) (AboveValues (suc k)) before (λ w a. record { value = λ j other lt few. a.value j other (omega (arith, lt)) few; pointer = a.pointer; temporary = a.temporary }) h,
-      )
-          (λ after g. go after (all_of (AboveValues (suc k + length ds)) (AboveValues (k + suc (length ds))) after (λ w a. record { value = λ j other lt few. a.value j other (omega (arith, lt)) few; pointer = a.pointer; temporary = a.temporary })
-          g)),
-    )
-
--- ---- names of declarations
 
 own_parts : (names : List (List ℕ)) (d : Declaration) → (d.named ≡ true → IsName (name_at names d.name)) → AllParts (own_name names d)
 own_parts names d h = by d.named h
@@ -102,59 +66,58 @@ parameters_parts : (names : List (List ℕ)) (ds : List Declaration) → AreName
 parameters_parts names [] h = tt
 parameters_parts names (d ∷ ds) h = (own_parts names d h.0, parameters_parts names ds h.1)
 
-declared_parts : (names : List (List ℕ)) (ds : List Declaration) → AreNamed names ds → OwnParts names ds
-declared_parts names [] h = tt
-declared_parts names (d ∷ ds) h = (own_parts names d (λ e. h.0), declared_parts names ds h.1)
+-- arguments, and other registers after them
+arguments_valid : (names : List (List ℕ)) (k : ℕ) (ds : List Declaration) (before : List (List ℕ)) (n : ℕ) (ts : Types) → OwnParts names ds → IsNumber (k + length ds) → IsNumber (n + length ts) → AllOf (AboveArguments k) before
+    → AreRegisters before (arguments_from names k ds ++ registers_from n ts)
+arguments_valid names k [] before n ts o le few h = others_valid n ts before few (all_of (AboveArguments k) (AboveOthers n) before (λ w a. record { other = λ j t lt small. a.other j t }) h)
+arguments_valid names k (d ∷ ds) before n ts o le few h =
+    let name = own_name names d in (
+      register_is_free k name (omega (arith, le)) o.0,
+      not_among (register_name k name) before (all_of (AboveArguments k) (λ w. bytes_eq (register_name k name) w ≡ false) before (λ w a. a.argument k name (omega arith) (omega (arith, le))) h),
+      arguments_valid names (suc k) ds (register_name k name ∷ before) n ts o.1 (omega (arith, le)) few (
+        record { argument = λ j other lt small. registers_differ j k other name small (omega (arith, le)) (λ e. omega (arith, e, lt)); other = λ j t. named_no_value j k t name },
+        all_of (AboveArguments k) (AboveArguments (suc k)) before (λ w a. record { argument = λ j other lt small. a.argument j other (omega (arith, lt)) small; other = a.other }) h,
+      ),
+    )
 
 -- ---- those of a function
 
-types_of_pointers : (k : ℕ) (ds : List Declaration) → types_of (pointers_from k ds) ≡ pointer_types ds
-types_of_pointers k [] = refl
-types_of_pointers k (d ∷ ds) = ap (λ l. Ptr ∷ l) (types_of_pointers (suc k) ds)
+types_of_registers : (k : ℕ) (ts : Types) → types_of (registers_from k ts) ≡ ts
+types_of_registers k [] = refl
+types_of_registers k (t ∷ ts) = ap (λ l. t ∷ l) (types_of_registers (suc k) ts)
 
-types_of_temporaries : (k : ℕ) (ts : Types) → types_of (temporaries_from k ts) ≡ ts
-types_of_temporaries k [] = refl
-types_of_temporaries k (t ∷ ts) = ap (λ l. t ∷ l) (types_of_temporaries (suc k) ts)
+body_begins : (body : Option Statement) (r : RegisterTable) → Begins r.kinds (after_body body r).kinds
+body_begins None r = begins_itself r.kinds
+body_begins (Some a) r = statement_begins a r
 
-types_append : (a b : List MonRegister) → types_of (a ++ b) ≡ types_of a ++ types_of b
-types_append a b = map-append (λ (r : MonRegister). r.kind) a b
+drop_values : (ds : List Declaration) (rest : Types) → drop (length ds) (value_types ds ++ rest) ≡ rest
+drop_values [] rest = refl
+drop_values (d ∷ ds) rest = drop_values ds rest
+
+-- the types of all registers of a function
+abbrev pub kinds : Function → Types
+kinds f = (after_body f.body (registers_of_body f)).kinds
+
+-- those of arguments are the first
+pub values_begin : (f : Function) → Begins (value_types f.params) (kinds f)
+values_begin f =
+    begins_then (value_types f.params) (registers_of_body f).kinds (kinds f) (entered_begins f.params (with_kinds (value_types f.params) no_registers)) (body_begins f.body (registers_of_body f))
 
 module _ (names : List (List ℕ)) (f : Function) where
-  abbrev vars : List Declaration
-  vars = variables_of f
+  others_are : drop (length f.params) (kinds f) ≡ (values_begin f).rest
+  others_are = ap (drop (length f.params)) (values_begin f).is ∙ drop_values f.params (values_begin f).rest
 
-  abbrev ds : List Declaration
-  ds = declared_in_body f.body
-
-  abbrev ts : Types
-  ts = body_temporaries f.body
-
-  abbrev values : List MonRegister
-  values = values_from names (length f.params) ds
-
-  abbrev pointers : List MonRegister
-  pointers = pointers_from (length vars) vars
-
-  abbrev temporary : List MonRegister
-  temporary = temporaries_from (length (variable_types f)) ts
-
-  pub function_types : types_of (values_from names 0 f.params ++ registers_of names f) ≡ variable_types f ++ ts
+  pub function_types : types_of (arguments_from names 0 f.params ++ registers_of f) ≡ kinds f
   function_types =
-      types_append (values_from names 0 f.params) (registers_of names f)
-      ∙ ap (λ l. l ++ types_of (registers_of names f)) (types_of_values names 0 f.params)
-      ∙ ap (λ l. value_types f.params ++ l) (types_append values (pointers ++ temporary) ∙ ap (λ l. l ++ types_of (pointers ++ temporary)) (types_of_values names (length f.params) ds))
-      ∙ sym (append_assoc (value_types f.params) (value_types ds) (types_of (pointers ++ temporary)))
-      ∙ ap (λ l. l ++ types_of (pointers ++ temporary)) (sym (map-append (λ (d : Declaration). value_type d.ctype) f.params ds))
-      ∙ ap (λ l. value_types vars ++ l) (types_append pointers temporary ∙ ap (λ l. l ++ types_of temporary) (types_of_pointers (length vars) vars) ∙ ap (λ l. pointer_types vars ++ l) (types_of_temporaries (length (variable_types f)) ts))
-      ∙ sym (append_assoc (value_types vars) (pointer_types vars) ts)
+      map-append (λ (r : MonRegister). r.kind) (arguments_from names 0 f.params) (registers_of f)
+      ∙ ap (λ l. l ++ types_of (registers_of f)) (types_of_arguments names 0 f.params)
+      ∙ ap (λ l. value_types f.params ++ l) (types_of_registers (length f.params) (drop (length f.params) (kinds f)) ∙ others_are)
+      ∙ sym (values_begin f).is
 
-  pub registers_valid : FunctionNamed names f → length (variable_types f ++ ts) < 2 ^ 64 → AreRegisters [] (values_from names 0 f.params ++ registers_of names f)
+  pub registers_valid : FunctionNamed names f → length (kinds f) < 2 ^ 64 → AreRegisters [] (arguments_from names 0 f.params ++ registers_of f)
   registers_valid named few =
-      let a = types_long f in
-      let b = length-append (variable_types f) ts in
-      let c = length-append f.params ds in
-      values_valid names 0 f.params [] (registers_of names f) (parameters_parts names f.params named.params) (omega (arith, a, b, c, few)) tt (λ after h.
-      values_valid names (length f.params) ds after (pointers ++ temporary) (declared_parts names ds named.body) (omega (arith, a, b, c, few))
-      (all_of (AboveValues (0 + length f.params)) (AboveValues (length f.params)) after (λ w x. record { value = λ j name lt small. x.value j name (omega (arith, lt)) small; pointer = x.pointer; temporary = x.temporary }) h) (λ last g.
-      pointers_valid (length vars) vars last (length (variable_types f)) ts (omega (arith, a, b, few)) (omega (arith, b, few))
-      (all_of (AboveValues (length f.params + length ds)) (AbovePointers (length vars)) last (λ w x. record { pointer = λ j lt small. x.pointer j; temporary = x.temporary }) g)))
+      let a : length (kinds f) ≡ length (value_types f.params ++ (values_begin f).rest) = ap (λ (l : Types). length l) (values_begin f).is in
+      let b = length-append (value_types f.params) (values_begin f).rest in
+      let c : length (value_types f.params) ≡ length f.params = length-map f.params (λ (d : Declaration). value_type d.ctype) in
+      let d : length (drop (length f.params) (kinds f)) ≡ length (values_begin f).rest = ap (λ (l : Types). length l) others_are in
+      arguments_valid names 0 f.params [] (length f.params) (drop (length f.params) (kinds f)) (parameters_parts names f.params named.params) (omega (arith, a, b, c, few)) (omega (arith, a, b, c, d, few)) tt

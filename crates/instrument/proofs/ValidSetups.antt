@@ -4,12 +4,14 @@ use Rattle.std.proofs.Math.Nat.{max-le, le-max_left, le-max_right}
 use Rattle.c_syntax.specs.declared.types.CInt.{CInt}
 use Rattle.c_syntax.specs.Ctypes.{Int}
 use Rattle.c_syntax.specs.Expressions.{Expression, Node, Number, Letter, Variable, Unary, Binary, Both, Either, Choice, Assign, Bump, Call, Cast, SizeOfType, SizeOfExpr, Text, Index, Dot, Arrow, Comma, type_of}
+use Rattle.c_syntax.specs.Programs.{TranslationUnit}
 use Rattle.c_model.specs.Typing.{Scopes}
 use Rattle.c_model.specs.WellTyped.{WellTyped}
 use Rattle.c_model.specs.Formed.{IsPure, nodes_of}
 use Rattle.mon_syntax.specs.declared.tree.MonType.{MonType}
 use Rattle.mon_syntax.specs.declared.tree.MonType.TheVariants.{I32}
 use Rattle.mon_syntax.specs.Trees.{MonExpression, MonStatement, MonStatements, NoStatement, Then}
+use Rattle.mon_syntax.specs.Registers.{Bindings}
 use Rattle.mon_syntax.specs.Trees as tree
 use Rattle.mon_syntax.specs.Valid.{Types, Labels, Signature, IsExpression, AreStatements, has_no_step, depth, depth_of_all, is_step}
 use Rattle.c_effects.specs.Letters.{HasLetters}
@@ -27,14 +29,14 @@ pub no_step_before : (a b : MonStatements) → has_no_step a ≡ true → has_no
 no_step_before NoStatement b h k = k
 no_step_before (Then x a) b h k = first_true (not (is_step x)) (has_no_step a) (has_no_step (before a b)) h (λ e. no_step_before a b e k)
 
-pub no_step_setup : (numbers : List ℕ) (rs : List MonType) (e : Expression) → has_no_step (setup numbers rs e) ≡ true
-no_step_setup numbers rs (Node at t (Unary op a)) = no_step_setup numbers rs a
-no_step_setup numbers rs (Node at t (Binary op a b)) = no_step_before (setup numbers rs a) (setup numbers (rs ++ temporaries a) b) (no_step_setup numbers rs a) (no_step_setup numbers (rs ++ temporaries a) b)
-no_step_setup numbers rs (Node at t (Both a b)) = no_step_before (setup numbers rs a) _ (no_step_setup numbers rs a) refl
-no_step_setup numbers rs (Node at t (Either a b)) = no_step_before (setup numbers rs a) _ (no_step_setup numbers rs a) refl
-no_step_setup numbers rs (Node at t (Choice a b c)) = no_step_before (setup numbers rs a) _ (no_step_setup numbers rs a) refl
-no_step_setup numbers rs (Node at t (Cast to a)) = no_step_setup numbers rs a
-no_step_setup numbers rs _ = refl
+pub no_step_setup : (unit : TranslationUnit) (bound : Bindings) (rs : List MonType) (e : Expression) → has_no_step (setup unit bound rs e) ≡ true
+no_step_setup unit bound rs (Node at t (Unary op a)) = no_step_setup unit bound rs a
+no_step_setup unit bound rs (Node at t (Binary op a b)) = no_step_before (setup unit bound rs a) (setup unit bound (rs ++ temporaries a) b) (no_step_setup unit bound rs a) (no_step_setup unit bound (rs ++ temporaries a) b)
+no_step_setup unit bound rs (Node at t (Both a b)) = no_step_before (setup unit bound rs a) _ (no_step_setup unit bound rs a) refl
+no_step_setup unit bound rs (Node at t (Either a b)) = no_step_before (setup unit bound rs a) _ (no_step_setup unit bound rs a) refl
+no_step_setup unit bound rs (Node at t (Choice a b c)) = no_step_before (setup unit bound rs a) _ (no_step_setup unit bound rs a) refl
+no_step_setup unit bound rs (Node at t (Cast to a)) = no_step_setup unit bound rs a
+no_step_setup unit bound rs _ = refl
 
 -- ---- how deep they stand
 
@@ -62,55 +64,55 @@ deep_choice front c a b n m f h k le = deep_before front (one (tree.If c a b)) m
 deep_then_set : (front : MonStatements) (r : ℕ) (e : MonExpression) (n : ℕ) → depth_of_all front ≤ n → 1 ≤ n → depth_of_all (before front (set r e)) ≤ n
 deep_then_set front r e n h le = deep_before front (set r e) n h (deep_set r e n le)
 
-pub deep_setup : (numbers : List ℕ) (rs : List MonType) (e : Expression) → depth_of_all (setup numbers rs e) ≤ nodes_of e
-deep_setup numbers rs (Node at t (Unary op a)) = let p = deep_setup numbers rs a in omega (arith, p)
-deep_setup numbers rs (Node at t (Binary op a b)) =
-    let p = deep_setup numbers rs a in
-    let q = deep_setup numbers (rs ++ temporaries a) b in
-    deep_before (setup numbers rs a) (setup numbers (rs ++ temporaries a) b) (suc (nodes_of a + nodes_of b)) (omega (arith, p)) (omega (arith, q))
-deep_setup numbers rs (Node at t (Both a b)) =
-    let p = deep_setup numbers rs a in
+pub deep_setup : (unit : TranslationUnit) (bound : Bindings) (rs : List MonType) (e : Expression) → depth_of_all (setup unit bound rs e) ≤ nodes_of e
+deep_setup unit bound rs (Node at t (Unary op a)) = let p = deep_setup unit bound rs a in omega (arith, p)
+deep_setup unit bound rs (Node at t (Binary op a b)) =
+    let p = deep_setup unit bound rs a in
+    let q = deep_setup unit bound (rs ++ temporaries a) b in
+    deep_before (setup unit bound rs a) (setup unit bound (rs ++ temporaries a) b) (suc (nodes_of a + nodes_of b)) (omega (arith, p)) (omega (arith, q))
+deep_setup unit bound rs (Node at t (Both a b)) =
+    let p = deep_setup unit bound rs a in
     let r = rs ++ temporaries a in
     let last = length (r ++ temporaries b) in
-    deep_choice (setup numbers rs a) (condition_of numbers rs a) (before (setup numbers r b) (set last (truth_of numbers r b))) (set last (tree.Constant I32 (pos 0))) (nodes_of b) (suc (nodes_of a + nodes_of b)) (omega (arith, p))
-    (deep_then_set (setup numbers r b) last (truth_of numbers r b) (nodes_of b) (deep_setup numbers r b) (some_nodes b)) (deep_set last (tree.Constant I32 (pos 0)) (nodes_of b) (some_nodes b)) (omega arith)
-deep_setup numbers rs (Node at t (Either a b)) =
-    let p = deep_setup numbers rs a in
+    deep_choice (setup unit bound rs a) (condition_of unit bound rs a) (before (setup unit bound r b) (set last (truth_of unit bound r b))) (set last (tree.Constant I32 (pos 0))) (nodes_of b) (suc (nodes_of a + nodes_of b)) (omega (arith, p))
+    (deep_then_set (setup unit bound r b) last (truth_of unit bound r b) (nodes_of b) (deep_setup unit bound r b) (some_nodes b)) (deep_set last (tree.Constant I32 (pos 0)) (nodes_of b) (some_nodes b)) (omega arith)
+deep_setup unit bound rs (Node at t (Either a b)) =
+    let p = deep_setup unit bound rs a in
     let r = rs ++ temporaries a in
     let last = length (r ++ temporaries b) in
-    deep_choice (setup numbers rs a) (condition_of numbers rs a) (set last (tree.Constant I32 (pos 1))) (before (setup numbers r b) (set last (truth_of numbers r b))) (nodes_of b) (suc (nodes_of a + nodes_of b)) (omega (arith, p))
-    (deep_set last (tree.Constant I32 (pos 1)) (nodes_of b) (some_nodes b)) (deep_then_set (setup numbers r b) last (truth_of numbers r b) (nodes_of b) (deep_setup numbers r b) (some_nodes b)) (omega arith)
-deep_setup numbers rs (Node at t (Choice a b c)) =
-    let p = deep_setup numbers rs a in
+    deep_choice (setup unit bound rs a) (condition_of unit bound rs a) (set last (tree.Constant I32 (pos 1))) (before (setup unit bound r b) (set last (truth_of unit bound r b))) (nodes_of b) (suc (nodes_of a + nodes_of b)) (omega (arith, p))
+    (deep_set last (tree.Constant I32 (pos 1)) (nodes_of b) (some_nodes b)) (deep_then_set (setup unit bound r b) last (truth_of unit bound r b) (nodes_of b) (deep_setup unit bound r b) (some_nodes b)) (omega arith)
+deep_setup unit bound rs (Node at t (Choice a b c)) =
+    let p = deep_setup unit bound rs a in
     let r = rs ++ temporaries a in
     let s = r ++ temporaries b in
     let last = length (s ++ temporaries c) in
-    let q = deep_setup numbers r b in
-    let u = deep_setup numbers s c in
+    let q = deep_setup unit bound r b in
+    let u = deep_setup unit bound s c in
     let one = some_nodes b in
-    deep_choice (setup numbers rs a) (condition_of numbers rs a) (before (setup numbers r b) (set last (value numbers r b))) (before (setup numbers s c) (set last (value numbers s c))) (nodes_of b + nodes_of c)
+    deep_choice (setup unit bound rs a) (condition_of unit bound rs a) (before (setup unit bound r b) (set last (value unit bound r b))) (before (setup unit bound s c) (set last (value unit bound s c))) (nodes_of b + nodes_of c)
     (suc (nodes_of a + (nodes_of b + nodes_of c))) (omega (arith, p))
-    (deep_then_set (setup numbers r b) last (value numbers r b) (nodes_of b + nodes_of c) (omega (arith, q)) (omega (arith, one)))
-    (deep_then_set (setup numbers s c) last (value numbers s c) (nodes_of b + nodes_of c) (omega (arith, u)) (omega (arith, one)))
+    (deep_then_set (setup unit bound r b) last (value unit bound r b) (nodes_of b + nodes_of c) (omega (arith, q)) (omega (arith, one)))
+    (deep_then_set (setup unit bound s c) last (value unit bound s c) (nodes_of b + nodes_of c) (omega (arith, u)) (omega (arith, one)))
     (omega arith)
-deep_setup numbers rs (Node at t (Cast to a)) = let p = deep_setup numbers rs a in omega (arith, p)
-deep_setup numbers rs (Node at t (Number z k)) = omega arith
-deep_setup numbers rs (Node at t (Letter z)) = omega arith
-deep_setup numbers rs (Node at t (Variable x)) = omega arith
-deep_setup numbers rs (Node at t (SizeOfType u)) = omega arith
-deep_setup numbers rs (Node at t (SizeOfExpr a)) = omega arith
-deep_setup numbers rs (Node at t (Text n)) = omega arith
-deep_setup numbers rs (Node at t (Index a b)) = omega arith
-deep_setup numbers rs (Node at t (Dot a m)) = omega arith
-deep_setup numbers rs (Node at t (Arrow a m)) = omega arith
-deep_setup numbers rs (Node at t (Comma a b)) = omega arith
-deep_setup numbers rs (Node at t (Assign op a b)) = omega arith
-deep_setup numbers rs (Node at t (Bump op a)) = omega arith
-deep_setup numbers rs (Node at t (Call f es)) = omega arith
+deep_setup unit bound rs (Node at t (Cast to a)) = let p = deep_setup unit bound rs a in omega (arith, p)
+deep_setup unit bound rs (Node at t (Number z k)) = omega arith
+deep_setup unit bound rs (Node at t (Letter z)) = omega arith
+deep_setup unit bound rs (Node at t (Variable x)) = omega arith
+deep_setup unit bound rs (Node at t (SizeOfType u)) = omega arith
+deep_setup unit bound rs (Node at t (SizeOfExpr a)) = omega arith
+deep_setup unit bound rs (Node at t (Text n)) = omega arith
+deep_setup unit bound rs (Node at t (Index a b)) = omega arith
+deep_setup unit bound rs (Node at t (Dot a m)) = omega arith
+deep_setup unit bound rs (Node at t (Arrow a m)) = omega arith
+deep_setup unit bound rs (Node at t (Comma a b)) = omega arith
+deep_setup unit bound rs (Node at t (Assign op a b)) = omega arith
+deep_setup unit bound rs (Node at t (Bump op a)) = omega arith
+deep_setup unit bound rs (Node at t (Call f es)) = omega arith
 
 -- a statement after what stands before it
-pub deep_behind : (numbers : List ℕ) (rs : List MonType) (e : Expression) (s : MonStatement) (n : ℕ) → nodes_of e ≤ n → depth s ≤ n → depth_of_all (before (setup numbers rs e) (one s)) ≤ n
-deep_behind numbers rs e s n few le = deep_before (setup numbers rs e) (one s) n (omega (arith, deep_setup numbers rs e, few)) (deep_one s n le)
+pub deep_behind : (unit : TranslationUnit) (bound : Bindings) (rs : List MonType) (e : Expression) (s : MonStatement) (n : ℕ) → nodes_of e ≤ n → depth s ≤ n → depth_of_all (before (setup unit bound rs e) (one s)) ≤ n
+deep_behind unit bound rs e s n few le = deep_before (setup unit bound rs e) (one s) n (omega (arith, deep_setup unit bound rs e, few)) (deep_one s n le)
 
 -- ---- they are valid
 
@@ -119,7 +121,7 @@ module _ (gs : List Signature) (ts : Types) (result : Option MonType) (ls : Labe
   before_valid NoStatement b h k = k
   before_valid (Then x a) b h k = (h.0, before_valid a b h.1 k)
 
-module _ (gs : List Signature) (ts : Types) (result : Option MonType) (numbers : List ℕ) (scopes : Scopes) (sees : AreSeen ts numbers scopes.objects) (ls : Labels) where
+module _ (gs : List Signature) (ts : Types) (result : Option MonType) (unit : TranslationUnit) (bound : Bindings) (scopes : Scopes) (sees : AreSeen ts bound scopes.objects) (ls : Labels) where
   abbrev pub Are : MonStatements → Type 0
   Are a = AreStatements 0 gs ts result ls a
 
@@ -145,13 +147,13 @@ module _ (gs : List Signature) (ts : Types) (result : Option MonType) (numbers :
   second_begins : (x y : Expression) (rs : Types) → Begins (rs ++ (temporaries x ++ temporaries y ++ I32 ∷ [])) ts → Begins (rs ++ temporaries x ++ temporaries y) ts
   second_begins x y rs b = begins_front (rs ++ temporaries x ++ temporaries y) (I32 ∷ []) ts (both_begin ts x y rs b)
 
-  pub setup_valid : (e : Expression) (k : CInt) (rs : Types) → type_of e ≡ Int k → IsPure e → WellTyped scopes e → HasLetters e → nodes_of e ≤ 800 → Begins (rs ++ temporaries e) ts → Are (setup numbers rs e)
+  pub setup_valid : (e : Expression) (k : CInt) (rs : Types) → type_of e ≡ Int k → IsPure e → WellTyped scopes e → HasLetters e → nodes_of e ≤ 800 → Begins (rs ++ temporaries e) ts → Are (setup unit bound rs e)
   setup_valid (Node at t (Unary op a)) k rs int p q l few b =
       let m = unary_at op t (type_of a) k q.1 int in
       setup_valid a m.operand rs m.is p q.0 l (omega (arith, few)) b
   setup_valid (Node at t (Binary op x y)) k rs int p q l few b =
       let m = binary_at op t (type_of x) (type_of y) k q.2 int in
-      behind_setup (setup numbers rs x) (setup numbers (rs ++ temporaries x) y)
+      behind_setup (setup unit bound rs x) (setup unit bound (rs ++ temporaries x) y)
       (setup_valid x m.left rs m.left_is p.0 q.0 l.0 (omega (arith, few)) (begins_left rs (temporaries x) (temporaries y) ts b))
       (setup_valid y m.right (rs ++ temporaries x) m.right_is p.1 q.1 l.1 (omega (arith, few)) (begins_right rs (temporaries x) (temporaries y) ts b))
   setup_valid (Node at t (Both x y)) k rs int p q l few b =
@@ -161,12 +163,13 @@ module _ (gs : List Signature) (ts : Types) (result : Option MonType) (numbers :
       let first = first_begins x y rs b in
       let second = second_begins x y rs b in
       let last = last_of_two x y rs b in
-      behind_setup (setup numbers rs x) (one (tree.If (condition_of numbers rs x) (before (setup numbers r y) (set (length (r ++ temporaries y)) (truth_of numbers r y))) (set (length (r ++ temporaries y)) (tree.Constant I32 (pos 0)))))
+      let right = truth_of unit bound r y in
+      behind_setup (setup unit bound rs x) (one (tree.If (condition_of unit bound rs x) (before (setup unit bound r y) (set (length (r ++ temporaries y)) right)) (set (length (r ++ temporaries y)) (tree.Constant I32 (pos 0)))))
       (setup_valid x i.int rs i.is p.0 q.0 l.0 (omega (arith, few)) first) (
         (
-          condition_valid ts numbers scopes sees x i.int rs i.is p.0 q.0 l.0 (omega (arith, few)) first,
-          behind_setup (setup numbers r y) (set (length (r ++ temporaries y)) (truth_of numbers r y)) (setup_valid y j.int r j.is p.1 q.1 l.1 (omega (arith, few)) second) (set_valid (length (r ++ temporaries y)) (truth_of numbers r y) I32 last
-              (truth_valid ts numbers scopes sees y j.int r j.is p.1 q.1 l.1 (omega (arith, few)) second)),
+          condition_valid ts unit bound scopes sees x i.int rs i.is p.0 q.0 l.0 (omega (arith, few)) first,
+          behind_setup (setup unit bound r y) (set (length (r ++ temporaries y)) right) (setup_valid y j.int r j.is p.1 q.1 l.1 (omega (arith, few)) second) (set_valid (length (r ++ temporaries y)) right I32 last
+              (truth_valid ts unit bound scopes sees y j.int r j.is p.1 q.1 l.1 (omega (arith, few)) second)),
           set_valid (length (r ++ temporaries y)) (tree.Constant I32 (pos 0)) I32 last zero_valid,
         ),
         tt,
@@ -178,13 +181,14 @@ module _ (gs : List Signature) (ts : Types) (result : Option MonType) (numbers :
       let first = first_begins x y rs b in
       let second = second_begins x y rs b in
       let last = last_of_two x y rs b in
-      behind_setup (setup numbers rs x) (one (tree.If (condition_of numbers rs x) (set (length (r ++ temporaries y)) (tree.Constant I32 (pos 1))) (before (setup numbers r y) (set (length (r ++ temporaries y)) (truth_of numbers r y)))))
+      let right = truth_of unit bound r y in
+      behind_setup (setup unit bound rs x) (one (tree.If (condition_of unit bound rs x) (set (length (r ++ temporaries y)) (tree.Constant I32 (pos 1))) (before (setup unit bound r y) (set (length (r ++ temporaries y)) right))))
       (setup_valid x i.int rs i.is p.0 q.0 l.0 (omega (arith, few)) first) (
         (
-          condition_valid ts numbers scopes sees x i.int rs i.is p.0 q.0 l.0 (omega (arith, few)) first,
+          condition_valid ts unit bound scopes sees x i.int rs i.is p.0 q.0 l.0 (omega (arith, few)) first,
           set_valid (length (r ++ temporaries y)) (tree.Constant I32 (pos 1)) I32 last one_valid,
-          behind_setup (setup numbers r y) (set (length (r ++ temporaries y)) (truth_of numbers r y)) (setup_valid y j.int r j.is p.1 q.1 l.1 (omega (arith, few)) second) (set_valid (length (r ++ temporaries y)) (truth_of numbers r y) I32 last
-              (truth_valid ts numbers scopes sees y j.int r j.is p.1 q.1 l.1 (omega (arith, few)) second)),
+          behind_setup (setup unit bound r y) (set (length (r ++ temporaries y)) right) (setup_valid y j.int r j.is p.1 q.1 l.1 (omega (arith, few)) second) (set_valid (length (r ++ temporaries y)) right I32 last
+              (truth_valid ts unit bound scopes sees y j.int r j.is p.1 q.1 l.1 (omega (arith, few)) second)),
         ),
         tt,
       )
@@ -199,14 +203,14 @@ module _ (gs : List Signature) (ts : Types) (result : Option MonType) (numbers :
       let number = length (s ++ temporaries z) in
       let y_int : type_of y ≡ Int k = q.4 ∙ int in
       let last : slice_get ts number ≡ Some (register_type k) = register_at (s ++ temporaries z) ts (value_type (type_of y)) all ∙ ap (λ u. Some (value_type u)) y_int in
-      behind_setup (setup numbers rs x) (one (tree.If (condition_of numbers rs x) (before (setup numbers r y) (set number (value numbers r y))) (before (setup numbers s z) (set number (value numbers s z)))))
+      behind_setup (setup unit bound rs x) (one (tree.If (condition_of unit bound rs x) (before (setup unit bound r y) (set number (value unit bound r y))) (before (setup unit bound s z) (set number (value unit bound s z)))))
       (setup_valid x i.int rs i.is p.0 q.0 l.0 (omega (arith, few)) first) (
         (
-          condition_valid ts numbers scopes sees x i.int rs i.is p.0 q.0 l.0 (omega (arith, few)) first,
-          behind_setup (setup numbers r y) (set number (value numbers r y)) (setup_valid y k r y_int p.1 q.1 l.1 (omega (arith, few)) second) (set_valid number (value numbers r y) (register_type k) last
-              (expression_valid ts numbers scopes sees y k r y_int p.1 q.1 l.1 (omega (arith, few)) second)),
-          behind_setup (setup numbers s z) (set number (value numbers s z)) (setup_valid z k s (q.5 ∙ int) p.2 q.2 l.2 (omega (arith, few)) third) (set_valid number (value numbers s z) (register_type k) last
-              (expression_valid ts numbers scopes sees z k s (q.5 ∙ int) p.2 q.2 l.2 (omega (arith, few)) third)),
+          condition_valid ts unit bound scopes sees x i.int rs i.is p.0 q.0 l.0 (omega (arith, few)) first,
+          behind_setup (setup unit bound r y) (set number (value unit bound r y)) (setup_valid y k r y_int p.1 q.1 l.1 (omega (arith, few)) second) (set_valid number (value unit bound r y) (register_type k) last
+              (expression_valid ts unit bound scopes sees y k r y_int p.1 q.1 l.1 (omega (arith, few)) second)),
+          behind_setup (setup unit bound s z) (set number (value unit bound s z)) (setup_valid z k s (q.5 ∙ int) p.2 q.2 l.2 (omega (arith, few)) third) (set_valid number (value unit bound s z) (register_type k) last
+              (expression_valid ts unit bound scopes sees z k s (q.5 ∙ int) p.2 q.2 l.2 (omega (arith, few)) third)),
         ),
         tt,
       )

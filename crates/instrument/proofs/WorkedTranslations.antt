@@ -24,11 +24,14 @@ use Rattle.c_model.specs.Meaning as meaning
 use Rattle.c_model.specs.Meaning.{Ran}
 use Rattle.mon_syntax.specs.declared.tree.MonOp.{MonOp}
 use Rattle.mon_syntax.specs.declared.tree.MonOp.TheVariants as mon
-use Rattle.mon_syntax.specs.declared.tree.MonType.TheVariants.{U8, I32, U64, Ptr}
-use Rattle.mon_syntax.specs.declared.tree.MemoryCall.TheVariants.{StoreBlock, DeleteBlock}
-use Rattle.mon_syntax.specs.Trees.{Register, Constant, Binary, Cast, Set, PutChar, GetChar, Exit, Act, Call, If, Loop, Labelled, Goto, Return, MonExpression, MonStatement, MonStatements, NoStatement, Then, MonRegister, MonFunction}
+use Rattle.mon_syntax.specs.declared.tree.MonType.TheVariants.{U8, I32, U64, I128, Ptr}
+use Rattle.mon_syntax.specs.declared.tree.MemoryCall.TheVariants.{StoreBlock, DeleteBlock, Number}
+use Rattle.mon_syntax.specs.declared.tree.AccessSize.TheVariants.{Four}
+use Rattle.mon_syntax.specs.Registers.{Bindings}
+use Rattle.mon_syntax.specs.Trees.{Register, Constant, Binary, Cast, Load, Set, Store, Assert, PutChar, GetChar, Exit, Act, Call, If, Loop, Labelled, Goto, Return}
+use Rattle.mon_syntax.specs.Trees.{MonExpression, MonStatement, MonStatements, NoStatement, Then, MonRegister, MonFunction}
 use Rattle.mon_syntax.specs.BlockMemory.{block_run}
-use Rattle.c_effects.specs.Expressions.{one, setup, value}
+use Rattle.c_effects.specs.Expressions.{one, setup, value, assertion}
 use Rattle.instrument.specs.Translation.{function_of, translated}
 
 -- ---- trees
@@ -77,15 +80,23 @@ program names fs = record { names = names; texts = []; structs = []; enums = [];
 abbrev no_input : Input
 no_input = record { bytes = []; tail = EndOfInput }
 
--- ---- `b && x`, where `b` is an unsigned char: the right side stands in an `if`, which sets the register 4, after those of the blocks
+-- ---- `b && x`, where `b` is an unsigned char: the right side stands in an `if`, which sets the register 4
 
 abbrev both : Expression
 both = Node (here 1) int_type (source.Both (variable c.U8 3) (int 2))
 
-both_front : setup (2 ∷ 3 ∷ []) (I32 ∷ U8 ∷ Ptr ∷ Ptr ∷ []) both ≡ one (If (Binary mon.Ne I32 (Cast I32 (Register 1)) (Constant I32 (pos 0))) (one (Set 4 (Binary mon.Ne I32 (Register 0) (Constant I32 (pos 0))))) (one (Set 4 (Constant I32 (pos 0)))))
+abbrev nothing : TranslationUnit
+nothing = program [] []
+
+-- registers of which two point to the blocks of x and b
+abbrev bound : Bindings
+bound = (2, 2) ∷ (3, 3) ∷ []
+
+both_front : setup nothing bound (I32 ∷ U8 ∷ Ptr ∷ Ptr ∷ []) both ≡ one (
+    If (Binary mon.Ne I32 (Cast I32 (Load U8 (Register 3))) (Constant I32 (pos 0))) (one (Set 4 (Binary mon.Ne I32 (Load I32 (Register 2)) (Constant I32 (pos 0))))) (one (Set 4 (Constant I32 (pos 0)))))
 both_front = refl
 
-both_value : value (2 ∷ 3 ∷ []) (I32 ∷ U8 ∷ Ptr ∷ Ptr ∷ []) both ≡ Register 4
+both_value : value nothing bound (I32 ∷ U8 ∷ Ptr ∷ Ptr ∷ []) both ≡ Register 4
 both_value = refl
 
 -- ---- functions with blocks and calls
@@ -162,51 +173,60 @@ only_if e a = If e (code a) NoStatement
 abbrev leave_unless : MonExpression → MonStatement
 leave_unless e = If e NoStatement (code (Goto (codes "end_1") ∷ []))
 
--- the blocks of n, i, twice and odd are in the registers 4 to 7
+abbrev load : ℕ → MonExpression
+load p = Load I32 (Register p)
+
+abbrev stored : ℕ → MonExpression → MonStatement
+stored p e = Store p I32 e
+
+-- the argument n is in the register 0; the registers 1, 2, 3 and 5 point to the blocks of n, i, twice and odd
 half_is : (function_of halving 1 0 half).body ≡ code (
-    born 4
-    ∷ born 5
-    ∷ Set 1 (constant 0)
-    ∷ Labelled (code (Loop (code (leave_unless (operation mon.Lt (Register 1) (constant 9)) ∷ [])) (code (
+    born 1
+    ∷ stored 1 (Register 0)
+    ∷ born 2
+    ∷ stored 2 (constant 0)
+    ∷ Labelled (code (Loop (code (leave_unless (operation mon.Lt (load 2) (constant 9)) ∷ [])) (code (
     Labelled (code (
-    born 6
-    ∷ Set 2 (operation mon.Add (Register 1) (Register 1))
-    ∷ only_if (operation mon.Eq (Register 2) (Register 0)) (dead 6 ∷ dead 5 ∷ dead 4 ∷ Return (Some (Register 1)) ∷ [])
-    ∷ born 7
-    ∷ Set 3 (operation mon.Add (Register 2) (constant 1))
-    ∷ only_if (operation mon.Eq (Register 3) (Register 0)) (dead 7 ∷ dead 6 ∷ Goto (codes "end_1") ∷ [])
-    ∷ dead 7
-    ∷ dead 6
-    ∷ [])) (codes "next_1")
-    ∷ Set 1 (operation mon.Add (Register 1) (constant 1))
-    ∷ [])) ∷ [])) (codes "end_1")
+    born 3
+    ∷ stored 3 (operation mon.Add (load 2) (load 2))
+    ∷ only_if (operation mon.Eq (load 3) (load 1)) (Set 4 (load 2) ∷ dead 3 ∷ dead 2 ∷ dead 1 ∷ Return (Some (Register 4)) ∷ [])
+    ∷ born 5
+    ∷ stored 5 (operation mon.Add (load 3) (constant 1))
+    ∷ only_if (operation mon.Eq (load 5) (load 1)) (dead 5 ∷ dead 3 ∷ Goto (codes "end_1") ∷ [])
     ∷ dead 5
-    ∷ dead 4
-    ∷ Return (Some (operation mon.Sub (constant 0) (constant 1)))
-    ∷ dead 4
+    ∷ dead 3
+    ∷ [])) (codes "next_1")
+    ∷ stored 2 (operation mon.Add (load 2) (constant 1))
+    ∷ [])) ∷ [])) (codes "end_1")
+    ∷ dead 2
+    ∷ Set 6 (operation mon.Sub (constant 0) (constant 1))
+    ∷ dead 1
+    ∷ Return (Some (Register 6))
+    ∷ dead 1
     ∷ [])
 unfolding digits
 half_is = refl
 
--- the blocks of c and h are in the registers 2 and 3, the values of calls in 4 to 6
+-- the registers 0 and 2 point to the blocks of c and h, the values of calls are in 1, 3 and 4, and what is returned in 5
 main_is : (function_of halving 1 1 main).body ≡ code (
-    born 2
-    ∷ GetChar (Some 4)
-    ∷ Set 0 (Register 4)
-    ∷ Labelled (code (Loop (code (leave_unless (operation mon.Gt (Register 0) (constant 0)) ∷ [])) (code (
+    born 0
+    ∷ GetChar (Some 1)
+    ∷ stored 0 (Register 1)
+    ∷ Labelled (code (Loop (code (leave_unless (operation mon.Gt (load 0) (constant 0)) ∷ [])) (code (
     Labelled (code (
-    born 3
-    ∷ Call (Some 5) 0 (operation mon.Sub (Register 0) (constant 48) ∷ [])
-    ∷ Set 1 (Register 5)
-    ∷ only_if (operation mon.Lt (Register 1) (constant 0)) (Exit (Register 0) ∷ [])
-    ∷ PutChar None (operation mon.Add (Register 1) (constant 48))
-    ∷ GetChar (Some 6)
-    ∷ Set 0 (Register 6)
-    ∷ dead 3
+    born 2
+    ∷ Call (Some 3) 0 (operation mon.Sub (load 0) (constant 48) ∷ [])
+    ∷ stored 2 (Register 3)
+    ∷ only_if (operation mon.Lt (load 2) (constant 0)) (Exit (load 0) ∷ [])
+    ∷ PutChar None (operation mon.Add (load 2) (constant 48))
+    ∷ GetChar (Some 4)
+    ∷ stored 0 (Register 4)
+    ∷ dead 2
     ∷ [])) (codes "next_1") ∷ [])) ∷ [])) (codes "end_1")
-    ∷ dead 2
-    ∷ Return (Some (constant 0))
-    ∷ dead 2
+    ∷ Set 5 (constant 0)
+    ∷ dead 0
+    ∷ Return (Some (Register 5))
+    ∷ dead 0
     ∷ [])
 unfolding digits
 main_is = refl
@@ -214,12 +234,12 @@ main_is = refl
 abbrev names_of : MonFunction → List (List ℕ)
 names_of f = f.name ∷ map (λ (r : MonRegister). r.name) (f.parameters ++ f.registers)
 
--- the names: of a parameter, a variable, a block and a temporary register, and of functions
-half_named : names_of (function_of halving 1 0 half) ≡ codes "f0_half" ∷ codes "v0_n" ∷ codes "v1_i" ∷ codes "v2_twice" ∷ codes "v3_odd" ∷ codes "p4" ∷ codes "p5" ∷ codes "p6" ∷ codes "p7" ∷ []
+-- the names: of an argument, of pointers to blocks and of temporary registers, and of functions
+half_named : names_of (function_of halving 1 0 half) ≡ codes "f0_half" ∷ codes "v0_n" ∷ codes "p1" ∷ codes "p2" ∷ codes "p3" ∷ codes "t4" ∷ codes "p5" ∷ codes "t6" ∷ []
 unfolding digits
 half_named = refl
 
-main_named : names_of (function_of halving 1 1 main) ≡ codes "main" ∷ codes "v0_c" ∷ codes "v1_h" ∷ codes "p2" ∷ codes "p3" ∷ codes "t4" ∷ codes "t5" ∷ codes "t6" ∷ []
+main_named : names_of (function_of halving 1 1 main) ≡ codes "main" ∷ codes "p0" ∷ codes "t1" ∷ codes "p2" ∷ codes "t3" ∷ codes "t4" ∷ codes "t5" ∷ []
 unfolding digits
 main_named = refl
 
@@ -319,3 +339,31 @@ source_breaks = refl
 
 target_breaks : block_run (translated claiming) no_input 10 ≡ broken
 target_breaks = refl
+
+-- what it becomes after registers of these types, where the register 0 points to the block of x: one question, to which the register 1 takes
+-- the answer, and the truth in the register 2
+claim_is : assertion ((2, 0) ∷ []) (Ptr ∷ []) false_claim ≡ code (
+    Act (Some 1) (Number Four) (Register 0 ∷ Constant I128 (pos 0) ∷ [])
+    ∷ If (Register 1) (code (
+    Set 2 (Binary mon.Eq I128 (Binary mon.Add I128 (Cast I128 (load 0)) (Constant I128 (pos 1))) (Constant I128 (pos 3))) ∷ [])) (code (
+    Set 2 (constant 0) ∷ []))
+    ∷ Assert (Register 1) (Register 2) 1 7 clause.Assert
+    ∷ [])
+claim_is = refl
+
+-- ---- `int x; /*@ assert x + 1 == 3; */` is undefined
+
+abbrev unset : Declaration
+unset = record { place = here 2; name = 2; named = true; ctype = int_type; init = None }
+
+abbrev asking : TranslationUnit
+asking = program byte_names (function 0 [] (Declare (unset ∷ []) ∷ Asserts (false_claim ∷ []) ∷ []) ∷ [])
+
+abbrev undefined : Ran
+undefined = record { final = Broken 1 7 clause.Assert how.Undefined; output = []; left = 10 }
+
+source_is_undefined : meaning.run asking no_input 10 ≡ undefined
+source_is_undefined = refl
+
+target_is_undefined : block_run (translated asking) no_input 10 ≡ undefined
+target_is_undefined = refl

@@ -1,4 +1,3 @@
 pub mod Translation
 pub mod Limits
 pub mod Options
-pub mod Growth

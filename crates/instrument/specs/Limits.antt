@@ -1,13 +1,13 @@
 -- Ours: bounds that the trees have by their types.
 -- What the numbers of a tree's types bound, in the parts that are translated: the number and the line of an annotation are of 32
 -- bits, a letter is a value of `char`, and registers can be numbered.
-use Rattle.std.specs.Prelude.{◌≡◌, true, ◌<◌, ◌^◌, ◌++◌, length, List, [], ◌∷◌, Option, Some, None}
+use Rattle.std.specs.Prelude.{◌≡◌, true, ◌<◌, ◌^◌, length, List, [], ◌∷◌, Option, Some, None}
 use Rattle.c_syntax.specs.Statements.{Statement, Empty, Eval, Block, If, While, Do, For, Break, Continue, Return}
 use Rattle.c_syntax.specs.Statements.{ElsePart, NoElse, Else, ForFirst, NoFirst, First, BlockItem, Declare, Run, Asserts, BlockItems, NoItem, Then}
 use Rattle.c_syntax.specs.Programs.{Function}
 use Rattle.c_model.specs.Meaning.{is_definition}
 use Rattle.c_effects.specs.Letters.{Any, HasLetters, FullHasLetters, EffectHasLetters, InitialsHaveLetters, AreNumbered}
-use Rattle.instrument.specs.Translation.{variable_types, body_temporaries}
+use Rattle.instrument.specs.Translation.{registers_of_body, after_body}
 
 -- ---- statements
 
@@ -50,7 +50,7 @@ BodyHasNumbers (Some a) = HasNumbers a
 -- a definition, whose registers can be numbered
 pub record FunctionHasNumbers (f : Function) : Type 0 where
   pub body : BodyHasNumbers f.body
-  pub few : length (variable_types f ++ body_temporaries f.body) < 2 ^ 64
+  pub few : length (after_body f.body (registers_of_body f)).kinds < 2 ^ 32
 
 abbrev pub FunctionsHaveNumbers : List Function → Type 0
 FunctionsHaveNumbers [] = Unit {0}

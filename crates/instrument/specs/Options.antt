@@ -1,20 +1,22 @@
 -- Ours: plain forms.
--- The plain form of what the translation takes: of what may be left out of a statement, and of where a statement stands. And full
--- expressions in parts: what may be in a cast, and the cast.
-use Rattle.std.specs.Prelude.{ℕ, ◌+◌, List, [], ◌++◌, Option, Some, None}
+-- The plain form of what the translation takes: of what may be left out of a statement, and of where a statement stands; and what statements
+-- become where a function's names are these.
+use Rattle.std.specs.Prelude.{ℕ, zero, suc, ◌+◌, List, [], ◌∷◌, ◌++◌, Option, Some, None}
 use Rattle.c_syntax.specs.declared.statement.Item.{Item}
 use Rattle.c_syntax.specs.declared.statement.Stmt.{Stmt}
 use Rattle.c_syntax.specs.declared.expression.Expr.{Expr}
 use Rattle.c_syntax.specs.Expressions.{Expression, plain_expr}
 use Rattle.c_syntax.specs.Statements.{Declaration, Statement, ElsePart, NoElse, Else, ForFirst, NoFirst, First, BlockItem, Declare, Run, Asserts, BlockItems}
 use Rattle.c_syntax.specs.Statements.{NoItem, Then, While, Do, plain_stmt, plain_item}
-use Rattle.c_syntax.specs.Programs.{TranslationUnit}
-use Rattle.mon_syntax.specs.declared.tree.MonType.{MonType}
+use Rattle.mon_syntax.specs.Registers.{Names, next_register, with_kinds, with_table}
 use Rattle.mon_syntax.specs.Trees.{MonStatements, NoStatement}
+use Rattle.track_scopes.specs.Blocks.{births, entered}
+use Rattle.c_effects.specs.Effects.{any_temporaries}
+use Rattle.c_effects.specs.Expressions.{temporaries}
+use Rattle.c_effects.specs.Named.{unit_of}
 use Rattle.instrument.specs.declared.spot.Spot as code
-use Rattle.c_effects.specs.Expressions.{temporaries, one}
-use Rattle.instrument.specs.Translation.{Spot, in_loop, loop, statement, statement_temporaries, test_if_any}
-use Rattle.c_effects.specs.Effects.{any_temporaries, effect_if_any}
+use Rattle.instrument.specs.Translation.{Spot, after_body, after_else, after_first, after_item, after_items, after_statement, else_part, first_part, for_turns}
+use Rattle.instrument.specs.Translation.{in_loop, item, items, returned, statement, test, test_if_any}
 
 abbrev pub plain_else_part : Option Stmt → ElsePart
 plain_else_part None = NoElse
@@ -24,6 +26,72 @@ abbrev pub plain_first_part : Option Item → ForFirst
 plain_first_part None = NoFirst
 plain_first_part (Some i) = First (plain_item i)
 
+abbrev pub plain_spot : code.Spot → Spot
+plain_spot s = record { loops = s.loops; inside = s.inside.now; outside = s.outside.now }
+
+-- ---- the names after a part
+
+abbrev pub entering : List Declaration → Names → Names
+entering ds n = with_table (entered ds n.table) n
+
+abbrev pub after : Statement → Names → Names
+after a n = with_table (after_statement a n.table) n
+
+abbrev pub behind_else : ElsePart → Names → Names
+behind_else b n = with_table (after_else b n.table) n
+
+abbrev pub behind_first : ForFirst → Names → Names
+behind_first first n = with_table (after_first first n.table) n
+
+abbrev pub behind_item : BlockItem → Names → Names
+behind_item i n = with_table (after_item i n.table) n
+
+abbrev pub behind_items : BlockItems → Names → Names
+behind_items block n = with_table (after_items block n.table) n
+
+abbrev pub behind_body : Option Statement → Names → Names
+behind_body a n = with_table (after_body a n.table) n
+
+-- ---- what parts become
+
+abbrev pub births_by : Names → List Declaration → MonStatements
+births_by n ds = births (unit_of n).structs (next_register n.table) ds
+
+abbrev pub statement_by : Names → Spot → Statement → MonStatements
+statement_by n spot a = statement (unit_of n) spot n.table a
+
+abbrev pub else_part_by : Names → Spot → ElsePart → MonStatements
+else_part_by n spot b = else_part (unit_of n) spot n.table b
+
+abbrev pub first_part_by : Names → Spot → ForFirst → MonStatements
+first_part_by n spot first = first_part (unit_of n) spot n.table first
+
+abbrev pub item_by : Names → Spot → BlockItem → MonStatements
+item_by n spot i = item (unit_of n) spot n.table i
+
+abbrev pub items_by : Names → Spot → BlockItems → MonStatements
+items_by n spot block = items (unit_of n) spot n.table block
+
+abbrev pub returned_by : Names → Spot → Option Expression → MonStatements
+returned_by n spot e = returned (unit_of n) spot n.table e
+
+abbrev pub test_by : Names → ℕ → Expression → MonStatements
+test_by n loops e = test (unit_of n) n.table.bound n.table.kinds loops e
+
+abbrev pub test_if_any_by : Names → ℕ → Option Expression → MonStatements
+test_if_any_by n loops e = test_if_any (unit_of n) n.table.bound n.table.kinds loops e
+
+-- the loop of a `for`, after what stands first in it
+abbrev pub turns_by : Names → Spot → Option Expression → Option Expression → Statement → MonStatements
+turns_by n spot e step a =
+    for_turns (unit_of n) (spot.loops + 1) n.table (after_statement a (with_kinds (any_temporaries temporaries e) n.table)) e step
+    (statement (unit_of n) (in_loop spot) (with_kinds (any_temporaries temporaries e) n.table) a)
+
+-- the body of a function, where it has one
+abbrev pub body_by : Names → Spot → Option Statement → MonStatements
+body_by n spot None = NoStatement
+body_by n spot (Some a) = statement_by n spot a
+
 -- ---- loops from their parts; their own place and annotations play no part in their translation
 
 abbrev pub while_loop : Stmt → Expr → Statement
@@ -32,11 +100,12 @@ while_loop a e = While a.place [] (plain_expr e) (plain_stmt a)
 abbrev pub do_loop : Stmt → Expr → Statement
 do_loop a e = Do a.place (plain_stmt a) (plain_expr e)
 
--- the loop of a `for`, after what stands first in it
-abbrev pub turns : TranslationUnit → List ℕ → Spot → List MonType → Option Expression → Option Expression → Statement → MonStatements
-turns p numbers spot rs e step a =
-    one (loop (spot.loops + 1) (test_if_any numbers rs (spot.loops + 1) e) (statement p numbers (in_loop spot) (rs ++ any_temporaries temporaries e) a)
-    (effect_if_any p numbers (rs ++ any_temporaries temporaries e ++ statement_temporaries a) step))
+-- ---- blocks
+
+-- so many registers from one on, the youngest first
+abbrev pub youngest : ℕ → ℕ → List ℕ
+youngest first zero = []
+youngest first (suc n) = (first + n) ∷ youngest first n
 
 -- after the births of these blocks
 abbrev pub with_blocks : List ℕ → Spot → Spot
@@ -52,11 +121,3 @@ abbrev pub declared_by : BlockItem → List Declaration
 declared_by (Declare ds) = ds
 declared_by (Run a) = []
 declared_by (Asserts annots) = []
-
--- the body of a function, where it has one
-abbrev pub statement_of : TranslationUnit → List ℕ → Spot → List MonType → Option Statement → MonStatements
-statement_of p numbers spot rs None = NoStatement
-statement_of p numbers spot rs (Some a) = statement p numbers spot rs a
-
-abbrev pub plain_spot : code.Spot → Spot
-plain_spot s = record { loops = s.loops; inside = s.inside.now; outside = s.outside.now }

@@ -1,16 +1,17 @@
 //! The blocks of variables' memory: their births where a scope is entered, and their deaths where scopes are left.
 
-ghost use Rattle.std.specs.Prelude.{◌≡◌, ◌++◌, [], IfOk, OnOk, map};
+ghost use Rattle.std.specs.Prelude.{◌≡◌, ◌+◌, ◌-◌, ◌++◌, [], IfOk, OnOk, map};
 ghost use Rattle.c_syntax.specs.Statements.{plain_decl, plain_item, plain_items};
 ghost use Rattle.c_model.specs.Meaning.{declared_in};
+ghost use Rattle.mon_syntax.specs.Registers.{next_register};
 ghost use Rattle.mon_syntax.specs.Trees.{plain_stmts};
-ghost use Rattle.track_scopes.specs.Blocks.{births, deaths, with_born};
+ghost use Rattle.track_scopes.specs.Blocks.{deaths, with_born};
 ghost use Rattle.c_effects.specs.Expressions.{before};
-ghost use Rattle.instrument.specs.Options.{declared_by, items_of_first, plain_first_part};
+ghost use Rattle.instrument.specs.Options.{births_by, declared_by, entering, items_of_first, plain_first_part, youngest};
 
 use c_effects::part::then_all;
 use c_syntax::{Decl, Item};
-use mon_syntax::MonStmt;
+use mon_syntax::{MonStmt, Registers, numbered};
 use std::alloc::{AllocError, Global};
 
 // What an item declares itself.
@@ -24,35 +25,77 @@ fn declared_by(item: &Item) -> &[Decl]
     }
 }
 
-/// Enters the scope of these variables: the blocks that live, by the registers that point to them, the youngest first, grow by theirs.
-pub fn enter(
-    alloc: Global,
-    numbers: &[u32],
-    decls: &[Decl],
-    live: &mut Vec<u32>,
-    to: &mut Vec<MonStmt>,
-) -> Result<(), AllocError>
-    ensures born { OnOk result (plain_stmts to.new.items ≡ before (plain_stmts to.old.items) (births numbers.now (map plain_decl decls.now))) }
-    ensures live { OnOk result (live.new.items ≡ with_born numbers.now (map plain_decl decls.now) live.old.items) }
+/// The number after this one. No memory holds a tree of more loops inside one another, or of more parameters.
+pub fn one_more(number: u32) -> Result<u32, AllocError>
+    ensures { IfOk result (λ next. next ≡ number + 1) }
 {
-    then_all(to, track_scopes::enter(alloc, numbers, decls, live)?)
+    number.checked_add(1).ok_or(AllocError)
 }
 
-/// Enters a block, and gives the blocks of its variables.
+/// The number of the next register.
+pub fn next(names: &Registers<'_>) -> Result<u32, AllocError>
+    ensures { IfOk result (λ r. r ≡ next_register names.now.table) }
+{
+    numbered(names.kinds().len())
+}
+
+/// Enters the scope of these variables.
+pub fn enter(
+    alloc: Global,
+    decls: &[Decl],
+    names: &mut Registers<'_>,
+    to: &mut Vec<MonStmt>,
+) -> Result<(), AllocError>
+    ensures born { OnOk result (plain_stmts to.new.items ≡ before (plain_stmts to.old.items) (births_by names.old (map plain_decl decls.now))) }
+    ensures names { OnOk result (names.new ≡ entering (map plain_decl decls.now) names.old) }
+{
+    then_all(to, track_scopes::enter(alloc, decls, names)?)
+}
+
+// Enters the scope of the variables that items of a block declare.
+fn enter_items(
+    alloc: Global,
+    block: &[Item],
+    names: &mut Registers<'_>,
+    to: &mut Vec<MonStmt>,
+) -> Result<(), AllocError>
+    ensures born { OnOk result (plain_stmts to.new.items ≡ before (plain_stmts to.old.items) (births_by names.old (declared_in (plain_items block.now)))) }
+    ensures names { OnOk result (names.new ≡ entering (declared_in (plain_items block.now)) names.old) }
+{
+    'items: for item in block {
+        enter(alloc, declared_by(item), names, to)?;
+    }
+    Ok(())
+}
+
+/// The registers from one up to another, the youngest first.
+pub fn between(alloc: Global, first: u32, end: u32) -> Result<Vec<u32>, AllocError>
+    ensures { IfOk result (λ all. all.items ≡ youngest first (end - first)) }
+{
+    let mut all = Vec::new(alloc);
+    let mut next = end;
+    'registers: while first < next {
+        next -= 1;
+        all.push(next)?;
+    }
+    Ok(all)
+}
+
+/// Enters a block, and gives the blocks of its variables, by the registers that point to them, the youngest first.
 pub fn enter_block(
     alloc: Global,
-    numbers: &[u32],
     block: &[Item],
+    names: &mut Registers<'_>,
     to: &mut Vec<MonStmt>,
 ) -> Result<Vec<u32>, AllocError>
-    ensures born { OnOk result (plain_stmts to.new.items ≡ before (plain_stmts to.old.items) (births numbers.now (declared_in (plain_items block.now)))) }
-    ensures own { IfOk result (λ own. own.items ≡ with_born numbers.now (declared_in (plain_items block.now)) []) }
+    ensures born { OnOk result (plain_stmts to.new.items ≡ before (plain_stmts to.old.items) (births_by names.old (declared_in (plain_items block.now)))) }
+    ensures names { OnOk result (names.new ≡ entering (declared_in (plain_items block.now)) names.old) }
+    ensures own { IfOk result (λ own. own.items ≡ with_born (next_register names.old.table) (declared_in (plain_items block.now)) []) }
 {
-    let mut own = Vec::new(alloc);
-    'items: for item in block {
-        enter(alloc, numbers, declared_by(item), &mut own, to)?;
-    }
-    Ok(own)
+    let first = next(names)?;
+    enter_items(alloc, block, names, to)?;
+    let end = next(names)?;
+    between(alloc, first, end)
 }
 
 /// Leaves scopes: these blocks die.

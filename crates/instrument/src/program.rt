@@ -3,50 +3,56 @@
 ghost use Rattle.std.specs.Prelude.{◌≡◌, ◌<◌, ◌++◌, ◌∷◌, [], ◌^◌, ℕ, true, IfOk, OnOk, codes, drop, if◌then◌else◌, length, map, nat_eq, option_map};
 ghost use Rattle.c_syntax.specs.Ctypes.{plain_type};
 ghost use Rattle.c_syntax.specs.Programs.{plain_func, plain_program};
-ghost use Rattle.c_syntax.specs.Statements.{plain_stmt};
+ghost use Rattle.c_syntax.specs.Statements.{plain_decl, plain_stmt};
 ghost use Rattle.c_model.specs.Formed.{IsProgram};
 ghost use Rattle.c_model.specs.Meaning.{is_definition, run};
 ghost use Rattle.c_model.specs.Reports.{Agrees};
 ghost use Rattle.c_model.specs.State.{Input};
 ghost use Rattle.c_model.specs.Typing.{name_at};
 ghost use Rattle.mon_syntax.specs.BlockMemory.{block_run};
+ghost use Rattle.mon_syntax.specs.Registers.{no_registers, with_table};
 ghost use Rattle.mon_syntax.specs.Trees.{plain_func as plain_monitored_func, plain_program as plain_monitored, plain_register, plain_stmts};
 ghost use Rattle.mon_syntax.specs.Valid.{IsValid};
-ghost use Rattle.instrument.specs.Limits.{BodyHasNumbers, FunctionHasNumbers, FunctionsHaveNumbers};
 ghost use Rattle.c_effects.specs.Expressions.{before};
-ghost use Rattle.instrument.specs.Options.{plain_spot, statement_of};
-ghost use Rattle.instrument.specs.Translation.{alive, body_part, body_temporaries, function_name, function_of, functions_from, index_of_main, result_of};
-ghost use Rattle.instrument.specs.Translation.{temporaries_from, translated};
+ghost use Rattle.instrument.specs.Limits.{BodyHasNumbers, FunctionHasNumbers, FunctionsHaveNumbers};
+ghost use Rattle.instrument.specs.Options.{behind_body, body_by, plain_spot};
+ghost use Rattle.instrument.specs.Translation.{after_body, code_of, function_name, function_of, functions_from, index_of_main, name_of_register};
+ghost use Rattle.instrument.specs.Translation.{registers_from, registers_of_body, result_of, translated};
 
-use crate::block::{enter, leave};
-use crate::name::{function_name, temporary_name};
+use crate::block::{leave, next};
+use crate::name::{function_name, pointer_name, temporary_name};
+use crate::parameter::{arguments, enter_parameters};
 use crate::spot::Spot;
 use crate::statement::statement;
-use crate::variable::{Variables, variables_of};
 use c_effects::conversion::register_type;
-use c_effects::definition::Definitions;
-use c_effects::scene::Scene;
 use c_syntax::{CType, Func, Name, Program, Stmt};
 use c_type_rules::scope::name_at;
-use mon_syntax::{MonFunc, MonProgram, MonStmt, MonType, Register};
+use mon_syntax::{MonFunc, MonProgram, MonStmt, MonType, Register, Registers};
 use std::alloc::{AllocError, Global};
 
-// The temporary registers, from the number that the first one has on.
-fn temporaries(
-    alloc: Global,
-    types: &[MonType],
-    first: usize,
-    to: &mut Vec<Register>,
-) -> Result<(), AllocError>
-    ensures registers { OnOk result (map plain_register to.new.items ≡ map plain_register to.old.items ++ temporaries_from first (drop first types.now)) }
-    ensures few { length types.now < 2 ^ 64 }
+// The name of a register that is no argument: pointers are told apart.
+fn name_of_register(alloc: Global, number: usize, kind: MonType) -> Result<Name, AllocError>
+    ensures { IfOk result (λ bytes. bytes ≡ name_of_register number kind) }
 {
-    'types: for k in first..types.len() {
-        let name = temporary_name(alloc, k)?;
-        let kind = types[k];
-        to.push(Register { kind, name })?;
+    match kind {
+        MonType::Ptr => pointer_name(alloc, number),
+        MonType::I8 | MonType::U8 | MonType::I16 | MonType::U16 => temporary_name(alloc, number),
+        MonType::I32 | MonType::U32 | MonType::I64 | MonType::U64 => temporary_name(alloc, number),
+        MonType::I128 => temporary_name(alloc, number),
     }
-    Ok(())
+}
+
+// The registers of these types, from the number that the first one has on.
+fn registers(alloc: Global, kinds: &[MonType], first: usize) -> Result<Vec<Register>, AllocError>
+    ensures registers { IfOk result (λ rs. map plain_register rs.items ≡ registers_from first (drop first kinds.now)) }
+{
+    let mut all = Vec::new(alloc);
+    'kinds: for k in first..kinds.len() {
+        let kind = kinds[k];
+        let name = name_of_register(alloc, k, kind)?;
+        all.push(Register { kind, name })?;
+    }
+    Ok(all)
 }
 
 // What a function gives.
@@ -95,75 +101,58 @@ fn name_of(
 // The statement that is the body of a function, where it has one.
 fn statement_of(
     alloc: Global,
-    scene: &Scene<'_>,
     spot: &Spot<'_>,
     body: &Option<Stmt>,
-    types: &mut Vec<MonType>,
+    names: &mut Registers<'_>,
     to: &mut Vec<MonStmt>,
 ) -> Result<(), AllocError>
     ensures code { OnOk result (plain_stmts to.new.items ≡ before (plain_stmts to.old.items)
-        (statement_of (plain_program scene.now.definitions.now.program.now) scene.now.numbers.now (plain_spot spot.now) types.old.items
-        (option_map plain_stmt body.now))) }
-    ensures types { OnOk result (types.new.items ≡ types.old.items ++ body_temporaries (option_map plain_stmt body.now)) }
+        (body_by names.old (plain_spot spot.now) (option_map plain_stmt body.now))) }
+    ensures names { OnOk result (names.new ≡ behind_body (option_map plain_stmt body.now) names.old) }
     ensures numbers { OnOk result (BodyHasNumbers (option_map plain_stmt body.now)) }
 {
     match body {
-        Some(body) => statement(alloc, scene, spot, body, types, to),
+        Some(body) => statement(alloc, spot, body, names, to),
         None => Ok(()),
     }
 }
 
-// The body of a function, in which its parameters live.
-fn body_of(
-    alloc: Global,
-    scene: &Scene<'_>,
-    f: &Func,
-    types: &mut Vec<MonType>,
-) -> Result<Vec<MonStmt>, AllocError>
-    ensures code { IfOk result (λ code. plain_stmts code.items ≡ alive scene.now.numbers.now (plain_func f.now).params
-        (body_part (plain_program scene.now.definitions.now.program.now) scene.now.numbers.now (plain_func f.now).params types.old.items
-        (plain_func f.now).body)) }
-    ensures types { OnOk result (types.new.items ≡ types.old.items ++ body_temporaries (plain_func f.now).body) }
+// The code of a function, in which its parameters live, over registers of its own.
+fn code_of(alloc: Global, f: &Func, names: &mut Registers<'_>) -> Result<Vec<MonStmt>, AllocError>
+    ensures code { IfOk result (λ code. plain_stmts code.items ≡ code_of (plain_program names.old.program) (plain_func f.now)) }
+    ensures names { OnOk result (names.new ≡ with_table (after_body (plain_func f.now).body (registers_of_body (plain_func f.now))) names.old) }
     ensures numbers { IfOk result (λ _. BodyHasNumbers (plain_func f.now).body) }
 {
     let mut code = Vec::new(alloc);
-    let mut inside = Vec::new(alloc);
-    enter(alloc, scene.numbers, &f.params, &mut inside, &mut code)?;
+    let own = enter_parameters(alloc, &f.params, names, &mut code)?;
     let spot = Spot {
         loops: 0,
-        inside: &inside,
+        inside: &own,
         outside: &[],
     };
-    statement_of(alloc, scene, &spot, &f.body, types, &mut code)?;
-    leave(alloc, &inside, &mut code)?;
+    statement_of(alloc, &spot, &f.body, names, &mut code)?;
+    leave(alloc, &own, &mut code)?;
     Ok(code)
 }
 
 // Translates the definition with an index, where `main` has this index.
 fn function_of(
     alloc: Global,
-    definitions: &Definitions<'_>,
     main: usize,
     index: usize,
     f: &Func,
+    names: &mut Registers<'_>,
 ) -> Result<MonFunc, AllocError>
-    ensures code { IfOk result (λ m. plain_monitored_func m ≡ function_of (plain_program definitions.now.program.now) main index (plain_func f.now)) }
+    ensures code { IfOk result (λ m. plain_monitored_func m ≡ function_of (plain_program names.old.program) main index (plain_func f.now)) }
+    ensures program { OnOk result (names.new.program ≡ names.old.program) }
     ensures numbers { IfOk result (λ _. FunctionHasNumbers (plain_func f.now)) }
 {
-    let name = name_of(alloc, &definitions.program.names, main, index, f)?;
-    let (parameters, own) = variables_of(alloc, &definitions.program.names, f)?;
-    let Variables {
-        numbers,
-        mut types,
-        mut registers,
-    } = own;
-    let first = types.len();
-    let scene = Scene {
-        definitions,
-        numbers: &numbers,
-    };
-    let body = body_of(alloc, &scene, f, &mut types)?;
-    temporaries(alloc, &types, first, &mut registers)?;
+    let texts = names.names();
+    let name = name_of(alloc, texts, main, index, f)?;
+    let parameters = arguments(alloc, texts, &f.params)?;
+    let body = code_of(alloc, f, names)?;
+    let _ = next(names)?;
+    let registers = registers(alloc, names.kinds(), f.params.len())?;
     Ok(MonFunc {
         result: result_of(&f.result),
         name,
@@ -176,19 +165,20 @@ fn function_of(
 // Translates a function where it is a definition, after those that are there.
 fn add(
     alloc: Global,
-    definitions: &Definitions<'_>,
     main: usize,
     f: &Func,
+    names: &mut Registers<'_>,
     to: &mut Vec<MonFunc>,
 ) -> Result<(), AllocError>
     ensures code { OnOk result (map plain_monitored_func to.new.items ≡ map plain_monitored_func to.old.items ++ functions_from
-        (plain_program definitions.now.program.now) main (length to.old.items) (plain_func f.now ∷ [])) }
+        (plain_program names.old.program) main (length to.old.items) (plain_func f.now ∷ [])) }
+    ensures program { OnOk result (names.new.program ≡ names.old.program) }
     ensures numbers { OnOk result (is_definition (plain_func f.now) ≡ true → FunctionHasNumbers (plain_func f.now)) }
 {
     match &f.body {
         Some(_) => {
             let index = to.len();
-            to.push(function_of(alloc, definitions, main, index, f)?)?;
+            to.push(function_of(alloc, main, index, f, names)?)?;
             Ok(())
         }
         None => Ok(()),
@@ -196,18 +186,17 @@ fn add(
 }
 
 // Translates the definitions.
-fn functions(alloc: Global, definitions: &Definitions<'_>) -> Result<Vec<MonFunc>, AllocError>
-    ensures code { IfOk result (λ fs. map plain_monitored_func fs.items ≡ functions_from (plain_program definitions.now.program.now)
-        (index_of_main definitions.now.program.now.names.items (map plain_func definitions.now.program.now.funcs.items)) 0
-        (map plain_func definitions.now.program.now.funcs.items)) }
-    ensures numbers { IfOk result (λ _. FunctionsHaveNumbers (map plain_func definitions.now.program.now.funcs.items)) }
-    ensures few { length definitions.now.program.now.funcs.items < 2 ^ 64 }
+fn functions(alloc: Global, p: &Program) -> Result<Vec<MonFunc>, AllocError>
+    ensures code { IfOk result (λ fs. map plain_monitored_func fs.items ≡ functions_from (plain_program p.now)
+        (index_of_main p.now.names.items (map plain_func p.now.funcs.items)) 0 (map plain_func p.now.funcs.items)) }
+    ensures numbers { IfOk result (λ _. FunctionsHaveNumbers (map plain_func p.now.funcs.items)) }
+    ensures few { length p.now.funcs.items < 2 ^ 64 }
 {
-    let program = definitions.program;
-    let main = index_of_main(&program.names, &program.funcs);
-    let mut functions = Vec::with_capacity(alloc, program.funcs.len())?;
-    'funcs: for f in &program.funcs {
-        add(alloc, definitions, main, f, &mut functions)?;
+    let main = index_of_main(&p.names, &p.funcs);
+    let mut functions = Vec::with_capacity(alloc, p.funcs.len())?;
+    let mut names = Registers::new(alloc, p)?;
+    'funcs: for f in &p.funcs {
+        add(alloc, main, f, &mut names, &mut functions)?;
     }
     Ok(functions)
 }
@@ -218,8 +207,7 @@ fn translate(alloc: Global, p: &Program) -> Result<MonProgram, AllocError>
     ensures numbers { IfOk result (λ _. FunctionsHaveNumbers (plain_program p.now).funcs) }
     ensures few { length (plain_program p.now).funcs < 2 ^ 64 }
 {
-    let definitions = Definitions::new(alloc, p)?;
-    let functions = functions(alloc, &definitions)?;
+    let functions = functions(alloc, p)?;
     Ok(MonProgram {
         globals: Vec::new(alloc),
         functions,

@@ -1,56 +1,52 @@
 //! Statements (C99 6.8).
 
-ghost use Rattle.std.specs.Prelude.{◌≡◌, ◌+◌, ◌++◌, [], IfOk, OnOk, map, option_map};
+ghost use Rattle.std.specs.Prelude.{◌≡◌, ◌+◌, ◌++◌, [], IfOk, OnOk, length, map, option_map};
 ghost use Rattle.c_syntax.specs.Annotations.{plain_annot};
 ghost use Rattle.c_syntax.specs.Expressions.{plain_expr};
-ghost use Rattle.c_syntax.specs.Programs.{plain_program};
 ghost use Rattle.c_syntax.specs.Statements.{plain_item, plain_items, plain_stmt};
 ghost use Rattle.c_model.specs.Meaning.{declared_first, declared_in};
+ghost use Rattle.mon_syntax.specs.Registers.{next_register};
 ghost use Rattle.mon_syntax.specs.Trees.{Goto, If, Labelled, Loop, plain_expr as plain_monitored, plain_stmts};
+ghost use Rattle.track_scopes.specs.Blocks.{deaths, with_born};
 ghost use Rattle.c_effects.specs.Letters.{Any, AreNumbered, EffectHasLetters, FullHasLetters, HasLetters};
+ghost use Rattle.c_effects.specs.Expressions.{assertions_temporaries, before, one, set, temporaries};
+ghost use Rattle.c_effects.specs.Effects.{any_temporaries, effect_temporaries, full_temporaries};
+ghost use Rattle.c_effects.specs.Named.{assertions_by, condition_by, full_setup_by, full_value_by, setup_by, unit_of, with_registers};
 ghost use Rattle.instrument.specs.Limits.{ElseHasNumbers, FirstHasNumbers, HasNumbers, HaveNumbers, ItemHasNumbers};
-ghost use Rattle.instrument.specs.Options.{do_loop, plain_else_part, plain_first_part, plain_spot, turns, while_loop, with_blocks};
-ghost use Rattle.c_effects.specs.Expressions.{assertions, before, condition_of, one, setup, temporaries};
-ghost use Rattle.instrument.specs.Translation.{alive, else_part, else_temporaries, end_label, first_part, first_temporaries, in_loop, item, item_temporaries};
-ghost use Rattle.instrument.specs.Translation.{items, items_temporaries, leave_where_zero, next_label, returned, statement, statement_temporaries, test};
-ghost use Rattle.instrument.specs.Translation.{test_if_any, with_variables};
-ghost use Rattle.c_effects.specs.Effects.{any_temporaries, effect_if_any, effect_temporaries, full_temporaries};
-ghost use Rattle.track_scopes.specs.Blocks.{births, deaths, with_born};
+ghost use Rattle.instrument.specs.Options.{after, behind_else, behind_first, behind_item, behind_items, births_by, do_loop, else_part_by, entering};
+ghost use Rattle.instrument.specs.Options.{first_part_by, item_by, items_by, plain_else_part, plain_first_part, plain_spot, returned_by, statement_by};
+ghost use Rattle.instrument.specs.Options.{test_by, test_if_any_by, turns_by, while_loop, with_blocks};
+ghost use Rattle.instrument.specs.Translation.{alive, end_label, in_loop, leave_where_zero, next_label, returned_temporaries, with_variables};
 
-use crate::block::{enter_block, inside, items_of, leave};
+use crate::block::{enter_block, inside, items_of, leave, one_more};
 use crate::name::{end_label, next_label};
 use crate::spot::Spot;
 use c_effects::annotation::assertion;
+use c_effects::conversion::value_type;
 use c_effects::effect::{effect, effect_if_any, initialise_all};
 use c_effects::expression::condition_of;
 use c_effects::full::full;
+use c_effects::operator::register;
 use c_effects::part::{alone, then};
-use c_effects::scene::Scene;
 use c_syntax::{Annot, Expr, Item, Name, Stmt, StmtKind};
-use mon_syntax::{MonExpr, MonStmt, MonStmtKind, MonType};
+use mon_syntax::{MonExpr, MonStmt, MonStmtKind, Registers};
 use std::alloc::{AllocError, Global};
 
 // The assertions of a list of annotations.
 fn assertions(
     alloc: Global,
-    numbers: &[u32],
     annots: &[Annot],
+    names: &mut Registers<'_>,
     to: &mut Vec<MonStmt>,
 ) -> Result<(), AllocError>
-    ensures code { OnOk result (plain_stmts to.new.items ≡ before (plain_stmts to.old.items) (assertions numbers.now (map plain_annot annots.now))) }
+    ensures code { OnOk result (plain_stmts to.new.items ≡ before (plain_stmts to.old.items) (assertions_by names.old (map plain_annot annots.now))) }
+    ensures names { OnOk result (names.new ≡ with_registers (assertions_temporaries (map plain_annot annots.now)) names.old) }
     ensures numbered { OnOk result (AreNumbered (map plain_annot annots.now)) }
 {
     'annots: for annot in annots {
-        then(alloc, to, assertion(alloc, numbers, annot)?)?;
+        assertion(alloc, annot, names, to)?;
     }
     Ok(())
-}
-
-// How many loops stand around the body of a loop. No memory holds a tree of more loops inside one another.
-fn one_more(loops: u32) -> Result<u32, AllocError>
-    ensures { IfOk result (λ inner. inner ≡ loops + 1) }
-{
-    loops.checked_add(1).ok_or(AllocError)
 }
 
 // The way out of a loop, where the condition is 0.
@@ -75,17 +71,16 @@ fn leave_where_zero(
 #[tactic(auto, using(c_effects::proofs::Sequences::before_assoc))]
 fn leave_unless(
     alloc: Global,
-    numbers: &[u32],
     loops: u32,
     e: &Expr,
-    types: &mut Vec<MonType>,
+    names: &mut Registers<'_>,
     to: &mut Vec<MonStmt>,
 ) -> Result<(), AllocError>
-    ensures code { OnOk result (plain_stmts to.new.items ≡ before (plain_stmts to.old.items) (test numbers.now types.old.items loops (plain_expr e.now))) }
-    ensures types { OnOk result (types.new.items ≡ types.old.items ++ temporaries (plain_expr e.now)) }
+    ensures code { OnOk result (plain_stmts to.new.items ≡ before (plain_stmts to.old.items) (test_by names.old loops (plain_expr e.now))) }
+    ensures names { OnOk result (names.new ≡ with_registers (temporaries (plain_expr e.now)) names.old) }
     ensures letters { OnOk result (HasLetters (plain_expr e.now)) }
 {
-    let condition = condition_of(alloc, numbers, e, types, to)?;
+    let condition = condition_of(alloc, e, names, to)?;
     leave_where_zero(alloc, loops, condition, to)
 }
 
@@ -93,19 +88,18 @@ fn leave_unless(
 #[tactic(auto, using(c_effects::proofs::Sequences::before_none))]
 fn leave_unless_any(
     alloc: Global,
-    numbers: &[u32],
     loops: u32,
     e: &Option<Expr>,
-    types: &mut Vec<MonType>,
+    names: &mut Registers<'_>,
     to: &mut Vec<MonStmt>,
 ) -> Result<(), AllocError>
     ensures code { OnOk result (plain_stmts to.new.items ≡ before (plain_stmts to.old.items)
-        (test_if_any numbers.now types.old.items loops (option_map plain_expr e.now))) }
-    ensures types { OnOk result (types.new.items ≡ types.old.items ++ any_temporaries temporaries (option_map plain_expr e.now)) }
+        (test_if_any_by names.old loops (option_map plain_expr e.now))) }
+    ensures names { OnOk result (names.new ≡ with_registers (any_temporaries temporaries (option_map plain_expr e.now)) names.old) }
     ensures letters { OnOk result (Any HasLetters (option_map plain_expr e.now)) }
 {
     match e {
-        Some(e) => leave_unless(alloc, numbers, loops, e, types, to),
+        Some(e) => leave_unless(alloc, loops, e, names, to),
         None => Ok(()),
     }
 }
@@ -144,26 +138,46 @@ fn leave_all(alloc: Global, spot: &Spot<'_>, to: &mut Vec<MonStmt>) -> Result<()
     leave(alloc, spot.outside, to)
 }
 
+// The value of a `return`, in a further register, since it may be read from blocks that die before it.
+#[tactic(auto, using(c_effects::proofs::Sequences::before_assoc))]
+fn set_aside(
+    alloc: Global,
+    e: &Expr,
+    names: &mut Registers<'_>,
+    to: &mut Vec<MonStmt>,
+) -> Result<u32, AllocError>
+    ensures number { IfOk result (λ r. r ≡ length (names.old.table.kinds ++ full_temporaries (plain_expr e.now))) }
+    ensures code { OnOk result (plain_stmts to.new.items ≡ before (plain_stmts to.old.items) (before (full_setup_by names.old (plain_expr e.now))
+        (set (length (names.old.table.kinds ++ full_temporaries (plain_expr e.now))) (full_value_by names.old (plain_expr e.now))))) }
+    ensures names { OnOk result (names.new ≡ with_registers (returned_temporaries (plain_expr e.now)) names.old) }
+    ensures letters { OnOk result (FullHasLetters (plain_expr e.now)) }
+{
+    let value = full(alloc, e, names, to)?;
+    let number = names.fresh(value_type(&e.ctype))?;
+    then(alloc, to, MonStmtKind::Set(number, value))?;
+    Ok(number)
+}
+
 // `return`: all blocks of the function die before it, and the value is in registers.
 #[tactic(auto, using(c_effects::proofs::Sequences::before_assoc))]
 fn give_back(
     alloc: Global,
-    scene: &Scene<'_>,
     spot: &Spot<'_>,
     e: &Option<Expr>,
-    types: &mut Vec<MonType>,
+    names: &mut Registers<'_>,
     to: &mut Vec<MonStmt>,
 ) -> Result<(), AllocError>
     ensures code { OnOk result (plain_stmts to.new.items ≡ before (plain_stmts to.old.items)
-        (returned (plain_program scene.now.definitions.now.program.now) scene.now.numbers.now (plain_spot spot.now) types.old.items
+        (returned_by names.old (plain_spot spot.now)
         (option_map plain_expr e.now))) }
-    ensures types { OnOk result (types.new.items ≡ types.old.items ++ any_temporaries full_temporaries (option_map plain_expr e.now)) }
+    ensures names { OnOk result (names.new ≡ with_registers (any_temporaries returned_temporaries (option_map plain_expr e.now)) names.old) }
     ensures letters { OnOk result (Any FullHasLetters (option_map plain_expr e.now)) }
 {
     match e {
         Some(e) => {
-            let value = full(alloc, scene, e, types, to)?;
+            let number = set_aside(alloc, e, names, to)?;
             leave_all(alloc, spot, to)?;
+            let value = register(alloc, number)?;
             then(alloc, to, MonStmtKind::Return(Some(value)))
         }
         None => {
@@ -193,15 +207,14 @@ fn repeat(
 #[cycle(statement)]
 fn round(
     alloc: Global,
-    scene: &Scene<'_>,
     spot: &Spot<'_>,
     s: &Stmt,
-    types: &mut Vec<MonType>,
+    names: &mut Registers<'_>,
 ) -> Result<Vec<MonStmt>, AllocError>
     ensures code { IfOk result (λ code. plain_stmts code.items ≡ one
-        (Labelled (statement (plain_program scene.now.definitions.now.program.now) scene.now.numbers.now (in_loop (plain_spot spot.now)) types.old.items
+        (Labelled (statement_by names.old (in_loop (plain_spot spot.now))
         (plain_stmt s.now)) (next_label (spot.now.loops + 1)))) }
-    ensures types { OnOk result (types.new.items ≡ types.old.items ++ statement_temporaries (plain_stmt s.now)) }
+    ensures names { OnOk result (names.new ≡ after (plain_stmt s.now) names.old) }
     ensures numbers { OnOk result (HasNumbers (plain_stmt s.now)) }
 {
     let loops = one_more(spot.loops)?;
@@ -211,7 +224,7 @@ fn round(
         inside: &[],
         outside: &outside,
     };
-    let body = apart(alloc, scene, &inner, s, types)?;
+    let body = apart(alloc, &inner, s, names)?;
     labelled(alloc, loops, body)
 }
 
@@ -226,38 +239,37 @@ fn labelled(alloc: Global, loops: u32, body: Vec<MonStmt>) -> Result<Vec<MonStmt
     )
 }
 
-/// Translates a statement, after the statements and the registers that are there.
+/// Translates a statement, after the statements that are there; its registers are further ones.
 #[cycle(statement)]
 pub fn statement(
     alloc: Global,
-    scene: &Scene<'_>,
     spot: &Spot<'_>,
     s: &Stmt,
-    types: &mut Vec<MonType>,
+    names: &mut Registers<'_>,
     to: &mut Vec<MonStmt>,
 ) -> Result<(), AllocError>
     ensures code { OnOk result (plain_stmts to.new.items ≡ before (plain_stmts to.old.items)
-        (statement (plain_program scene.now.definitions.now.program.now) scene.now.numbers.now (plain_spot spot.now) types.old.items (plain_stmt s.now))) }
-    ensures types { OnOk result (types.new.items ≡ types.old.items ++ statement_temporaries (plain_stmt s.now)) }
+        (statement_by names.old (plain_spot spot.now) (plain_stmt s.now))) }
+    ensures names { OnOk result (names.new ≡ after (plain_stmt s.now) names.old) }
     ensures numbers { OnOk result (HasNumbers (plain_stmt s.now)) }
 {
     match &*s.kind {
         StmtKind::Empty => Ok(()),
-        StmtKind::Eval(e) => effect(alloc, scene, e, types, to),
-        StmtKind::Block(body) => block(alloc, scene, spot, body, types, to),
+        StmtKind::Eval(e) => effect(alloc, e, names, to),
+        StmtKind::Block(body) => block(alloc, spot, body, names, to),
         StmtKind::If(e, a, b) => {
-            let first = tested(alloc, scene, spot, a, e, types, to)?;
-            branches(alloc, scene, spot, b, first, types, to)
+            let first = tested(alloc, spot, a, e, names, to)?;
+            branches(alloc, spot, b, first, names, to)
         }
-        StmtKind::While(_, e, a) => while_loop(alloc, scene, spot, a, e, types, to),
-        StmtKind::Do(a, e) => do_loop(alloc, scene, spot, a, e, types, to),
+        StmtKind::While(_, e, a) => while_loop(alloc, spot, a, e, names, to),
+        StmtKind::Do(a, e) => do_loop(alloc, spot, a, e, names, to),
         StmtKind::For(_, first, e, step, a) => {
-            let own = enter_for(alloc, scene, spot, first, types, to)?;
-            rest_of_for(alloc, scene, spot, own, a, (e, step), types, to)
+            let own = enter_for(alloc, spot, first, names, to)?;
+            rest_of_for(alloc, spot, own, a, (e, step), names, to)
         }
         StmtKind::Break => break_out(alloc, spot, to),
         StmtKind::Continue => go_on(alloc, spot, to),
-        StmtKind::Return(e) => give_back(alloc, scene, spot, e, types, to),
+        StmtKind::Return(e) => give_back(alloc, spot, e, names, to),
     }
 }
 
@@ -265,23 +277,22 @@ pub fn statement(
 #[cycle(statement)]
 fn while_loop(
     alloc: Global,
-    scene: &Scene<'_>,
     spot: &Spot<'_>,
     a: &Stmt,
     e: &Expr,
-    types: &mut Vec<MonType>,
+    names: &mut Registers<'_>,
     to: &mut Vec<MonStmt>,
 ) -> Result<(), AllocError>
     ensures code { OnOk result (plain_stmts to.new.items ≡ before (plain_stmts to.old.items)
-        (statement (plain_program scene.now.definitions.now.program.now) scene.now.numbers.now (plain_spot spot.now) types.old.items
+        (statement_by names.old (plain_spot spot.now)
         (while_loop a.now e.now))) }
-    ensures types { OnOk result (types.new.items ≡ types.old.items ++ statement_temporaries (while_loop a.now e.now)) }
+    ensures names { OnOk result (names.new ≡ after (while_loop a.now e.now) names.old) }
     ensures numbers { OnOk result (HasNumbers (while_loop a.now e.now)) }
 {
     let loops = one_more(spot.loops)?;
     let mut front = Vec::new(alloc);
-    leave_unless(alloc, scene.numbers, loops, e, types, &mut front)?;
-    let behind = round(alloc, scene, spot, a, types)?;
+    leave_unless(alloc, loops, e, names, &mut front)?;
+    let behind = round(alloc, spot, a, names)?;
     repeat(alloc, loops, front, behind, to)
 }
 
@@ -289,21 +300,20 @@ fn while_loop(
 #[cycle(statement)]
 fn do_loop(
     alloc: Global,
-    scene: &Scene<'_>,
     spot: &Spot<'_>,
     a: &Stmt,
     e: &Expr,
-    types: &mut Vec<MonType>,
+    names: &mut Registers<'_>,
     to: &mut Vec<MonStmt>,
 ) -> Result<(), AllocError>
     ensures code { OnOk result (plain_stmts to.new.items ≡ before (plain_stmts to.old.items)
-        (statement (plain_program scene.now.definitions.now.program.now) scene.now.numbers.now (plain_spot spot.now) types.old.items (do_loop a.now e.now))) }
-    ensures types { OnOk result (types.new.items ≡ types.old.items ++ statement_temporaries (do_loop a.now e.now)) }
+        (statement_by names.old (plain_spot spot.now) (do_loop a.now e.now))) }
+    ensures names { OnOk result (names.new ≡ after (do_loop a.now e.now) names.old) }
     ensures numbers { OnOk result (HasNumbers (do_loop a.now e.now)) }
 {
     let loops = one_more(spot.loops)?;
-    let mut behind = round(alloc, scene, spot, a, types)?;
-    leave_unless(alloc, scene.numbers, loops, e, types, &mut behind)?;
+    let mut behind = round(alloc, spot, a, names)?;
+    leave_unless(alloc, loops, e, names, &mut behind)?;
     repeat(alloc, loops, Vec::new(alloc), behind, to)
 }
 
@@ -311,29 +321,27 @@ fn do_loop(
 #[cycle(statement)]
 fn enter_for(
     alloc: Global,
-    scene: &Scene<'_>,
     spot: &Spot<'_>,
     first: &Option<Item>,
-    types: &mut Vec<MonType>,
+    names: &mut Registers<'_>,
     to: &mut Vec<MonStmt>,
 ) -> Result<Vec<u32>, AllocError>
-    ensures own { IfOk result (λ own. own.items ≡ with_born scene.now.numbers.now (declared_first (plain_first_part first.now)) []) }
+    ensures own { IfOk result (λ own. own.items ≡ with_born (next_register names.old.table) (declared_first (plain_first_part first.now)) []) }
     ensures code { OnOk result (plain_stmts to.new.items ≡ before (plain_stmts to.old.items)
-        (before (births scene.now.numbers.now (declared_first (plain_first_part first.now)))
-        (first_part (plain_program scene.now.definitions.now.program.now) scene.now.numbers.now
-        (with_variables scene.now.numbers.now (declared_first (plain_first_part first.now)) (plain_spot spot.now)) types.old.items
-        (plain_first_part first.now)))) }
-    ensures types { OnOk result (types.new.items ≡ types.old.items ++ first_temporaries (plain_first_part first.now)) }
+        (before (births_by names.old (declared_first (plain_first_part first.now)))
+        (first_part_by (entering (declared_first (plain_first_part first.now)) names.old)
+        (with_variables (next_register names.old.table) (declared_first (plain_first_part first.now)) (plain_spot spot.now)) (plain_first_part first.now)))) }
+    ensures names { OnOk result (names.new ≡ behind_first (plain_first_part first.now) (entering (declared_first (plain_first_part first.now)) names.old)) }
     ensures numbers { OnOk result (FirstHasNumbers (plain_first_part first.now)) }
 {
-    let own = enter_block(alloc, scene.numbers, items_of(first), to)?;
+    let own = enter_block(alloc, items_of(first), names, to)?;
     let live = inside(alloc, &own, spot.inside)?;
     let around = Spot {
         loops: spot.loops,
         inside: &live,
         outside: spot.outside,
     };
-    first_part(alloc, scene, &around, first, types, to)?;
+    first_part(alloc, &around, first, names, to)?;
     Ok(own)
 }
 
@@ -341,20 +349,18 @@ fn enter_for(
 #[cycle(statement)]
 fn rest_of_for(
     alloc: Global,
-    scene: &Scene<'_>,
     spot: &Spot<'_>,
     own: Vec<u32>,
     a: &Stmt,
     controls: (&Option<Expr>, &Option<Expr>),
-    types: &mut Vec<MonType>,
+    names: &mut Registers<'_>,
     to: &mut Vec<MonStmt>,
 ) -> Result<(), AllocError>
     ensures code { OnOk result (plain_stmts to.new.items ≡ before (plain_stmts to.old.items)
-        (before (turns (plain_program scene.now.definitions.now.program.now) scene.now.numbers.now (with_blocks own.items (plain_spot spot.now)) types.old.items
+        (before (turns_by names.old (with_blocks own.items (plain_spot spot.now))
         (option_map plain_expr controls.entry.0.now) (option_map plain_expr controls.entry.1.now) (plain_stmt a.now)) (deaths own.items))) }
-    ensures types { OnOk result (types.new.items ≡ types.old.items ++
-        (any_temporaries temporaries (option_map plain_expr controls.entry.0.now) ++ statement_temporaries (plain_stmt a.now) ++ any_temporaries
-        effect_temporaries (option_map plain_expr controls.entry.1.now))) }
+    ensures names { OnOk result (names.new ≡ with_registers (any_temporaries effect_temporaries (option_map plain_expr controls.entry.1.now))
+        (after (plain_stmt a.now) (with_registers (any_temporaries temporaries (option_map plain_expr controls.entry.0.now)) names.old))) }
     ensures numbers { OnOk result (Any HasLetters (option_map plain_expr controls.entry.0.now) × HasNumbers (plain_stmt a.now)
         × Any EffectHasLetters (option_map plain_expr controls.entry.1.now)) }
 {
@@ -364,7 +370,7 @@ fn rest_of_for(
         inside: &live,
         outside: spot.outside,
     };
-    turns(alloc, scene, &around, a, controls, types, to)?;
+    turns(alloc, &around, a, controls, names, to)?;
     leave(alloc, &own, to)
 }
 
@@ -372,23 +378,21 @@ fn rest_of_for(
 #[cycle(statement)]
 fn tested(
     alloc: Global,
-    scene: &Scene<'_>,
     spot: &Spot<'_>,
     a: &Stmt,
     e: &Expr,
-    types: &mut Vec<MonType>,
+    names: &mut Registers<'_>,
     to: &mut Vec<MonStmt>,
 ) -> Result<(MonExpr, Vec<MonStmt>), AllocError>
-    ensures condition { IfOk result (λ r. plain_monitored r.0 ≡ condition_of scene.now.numbers.now types.old.items (plain_expr e.now)) }
-    ensures first { IfOk result (λ r. plain_stmts r.1.items ≡ statement (plain_program scene.now.definitions.now.program.now) scene.now.numbers.now
-        (plain_spot spot.now) (types.old.items ++ temporaries (plain_expr e.now)) (plain_stmt a.now)) }
-    ensures setup { OnOk result (plain_stmts to.new.items ≡ before (plain_stmts to.old.items)
-        (setup scene.now.numbers.now types.old.items (plain_expr e.now))) }
-    ensures types { OnOk result (types.new.items ≡ types.old.items ++ (temporaries (plain_expr e.now) ++ statement_temporaries (plain_stmt a.now))) }
+    ensures condition { IfOk result (λ r. plain_monitored r.0 ≡ condition_by names.old (plain_expr e.now)) }
+    ensures first { IfOk result (λ r. plain_stmts r.1.items ≡ statement_by (with_registers (temporaries (plain_expr e.now)) names.old) (plain_spot spot.now)
+        (plain_stmt a.now)) }
+    ensures setup { OnOk result (plain_stmts to.new.items ≡ before (plain_stmts to.old.items) (setup_by names.old (plain_expr e.now))) }
+    ensures names { OnOk result (names.new ≡ after (plain_stmt a.now) (with_registers (temporaries (plain_expr e.now)) names.old)) }
     ensures numbers { OnOk result (HasLetters (plain_expr e.now) × HasNumbers (plain_stmt a.now)) }
 {
-    let condition = condition_of(alloc, scene.numbers, e, types, to)?;
-    let first = apart(alloc, scene, spot, a, types)?;
+    let condition = condition_of(alloc, e, names, to)?;
+    let first = apart(alloc, spot, a, names)?;
     Ok((condition, first))
 }
 
@@ -396,20 +400,18 @@ fn tested(
 #[cycle(statement)]
 fn branches(
     alloc: Global,
-    scene: &Scene<'_>,
     spot: &Spot<'_>,
     b: &Option<Stmt>,
     front: (MonExpr, Vec<MonStmt>),
-    types: &mut Vec<MonType>,
+    names: &mut Registers<'_>,
     to: &mut Vec<MonStmt>,
 ) -> Result<(), AllocError>
     ensures code { OnOk result (plain_stmts to.new.items ≡ before (plain_stmts to.old.items)
-        (one (If (plain_monitored front.0) (plain_stmts front.1.items) (else_part (plain_program scene.now.definitions.now.program.now) scene.now.numbers.now
-        (plain_spot spot.now) types.old.items (plain_else_part b.now))))) }
-    ensures types { OnOk result (types.new.items ≡ types.old.items ++ else_temporaries (plain_else_part b.now)) }
+        (one (If (plain_monitored front.0) (plain_stmts front.1.items) (else_part_by names.old (plain_spot spot.now) (plain_else_part b.now))))) }
+    ensures names { OnOk result (names.new ≡ behind_else (plain_else_part b.now) names.old) }
     ensures numbers { OnOk result (ElseHasNumbers (plain_else_part b.now)) }
 {
-    let second = else_part(alloc, scene, spot, b, types)?;
+    let second = else_part(alloc, spot, b, names)?;
     let (condition, first) = front;
     then(alloc, to, MonStmtKind::If(condition, first, second))
 }
@@ -418,18 +420,16 @@ fn branches(
 #[cycle(statement)]
 fn apart(
     alloc: Global,
-    scene: &Scene<'_>,
     spot: &Spot<'_>,
     s: &Stmt,
-    types: &mut Vec<MonType>,
+    names: &mut Registers<'_>,
 ) -> Result<Vec<MonStmt>, AllocError>
-    ensures code { IfOk result (λ code. plain_stmts code.items ≡ statement (plain_program scene.now.definitions.now.program.now) scene.now.numbers.now
-        (plain_spot spot.now) types.old.items (plain_stmt s.now)) }
-    ensures types { OnOk result (types.new.items ≡ types.old.items ++ statement_temporaries (plain_stmt s.now)) }
+    ensures code { IfOk result (λ code. plain_stmts code.items ≡ statement_by names.old (plain_spot spot.now) (plain_stmt s.now)) }
+    ensures names { OnOk result (names.new ≡ after (plain_stmt s.now) names.old) }
     ensures numbers { OnOk result (HasNumbers (plain_stmt s.now)) }
 {
     let mut code = Vec::new(alloc);
-    statement(alloc, scene, spot, s, types, &mut code)?;
+    statement(alloc, spot, s, names, &mut code)?;
     Ok(code)
 }
 
@@ -437,18 +437,16 @@ fn apart(
 #[cycle(statement)]
 fn else_part(
     alloc: Global,
-    scene: &Scene<'_>,
     spot: &Spot<'_>,
     b: &Option<Stmt>,
-    types: &mut Vec<MonType>,
+    names: &mut Registers<'_>,
 ) -> Result<Vec<MonStmt>, AllocError>
-    ensures code { IfOk result (λ code. plain_stmts code.items ≡ else_part (plain_program scene.now.definitions.now.program.now) scene.now.numbers.now
-        (plain_spot spot.now) types.old.items (plain_else_part b.now)) }
-    ensures types { OnOk result (types.new.items ≡ types.old.items ++ else_temporaries (plain_else_part b.now)) }
+    ensures code { IfOk result (λ code. plain_stmts code.items ≡ else_part_by names.old (plain_spot spot.now) (plain_else_part b.now)) }
+    ensures names { OnOk result (names.new ≡ behind_else (plain_else_part b.now) names.old) }
     ensures numbers { OnOk result (ElseHasNumbers (plain_else_part b.now)) }
 {
     match b {
-        Some(b) => apart(alloc, scene, spot, b, types),
+        Some(b) => apart(alloc, spot, b, names),
         None => Ok(Vec::new(alloc)),
     }
 }
@@ -457,26 +455,26 @@ fn else_part(
 #[cycle(statement)]
 fn block(
     alloc: Global,
-    scene: &Scene<'_>,
     spot: &Spot<'_>,
     body: &[Item],
-    types: &mut Vec<MonType>,
+    names: &mut Registers<'_>,
     to: &mut Vec<MonStmt>,
 ) -> Result<(), AllocError>
-    ensures code { OnOk result (plain_stmts to.new.items ≡ before (plain_stmts to.old.items) (alive scene.now.numbers.now (declared_in (plain_items body.now))
-        (items (plain_program scene.now.definitions.now.program.now) scene.now.numbers.now
-        (with_variables scene.now.numbers.now (declared_in (plain_items body.now)) (plain_spot spot.now)) types.old.items (plain_items body.now)))) }
-    ensures types { OnOk result (types.new.items ≡ types.old.items ++ items_temporaries (plain_items body.now)) }
+    ensures code { OnOk result (plain_stmts to.new.items ≡ before (plain_stmts to.old.items)
+        (alive (unit_of names.old) (next_register names.old.table) (declared_in (plain_items body.now))
+        (items_by (entering (declared_in (plain_items body.now)) names.old)
+        (with_variables (next_register names.old.table) (declared_in (plain_items body.now)) (plain_spot spot.now)) (plain_items body.now)))) }
+    ensures names { OnOk result (names.new ≡ behind_items (plain_items body.now) (entering (declared_in (plain_items body.now)) names.old)) }
     ensures numbers { OnOk result (HaveNumbers (plain_items body.now)) }
 {
-    let own = enter_block(alloc, scene.numbers, body, to)?;
+    let own = enter_block(alloc, body, names, to)?;
     let live = inside(alloc, &own, spot.inside)?;
     let inner = Spot {
         loops: spot.loops,
         inside: &live,
         outside: spot.outside,
     };
-    items(alloc, scene, &inner, body, types, to)?;
+    items(alloc, &inner, body, names, to)?;
     leave(alloc, &own, to)
 }
 
@@ -484,20 +482,19 @@ fn block(
 #[cycle(statement)]
 fn first_part(
     alloc: Global,
-    scene: &Scene<'_>,
     spot: &Spot<'_>,
     first: &Option<Item>,
-    types: &mut Vec<MonType>,
+    names: &mut Registers<'_>,
     to: &mut Vec<MonStmt>,
 ) -> Result<(), AllocError>
     ensures code { OnOk result (plain_stmts to.new.items ≡ before (plain_stmts to.old.items)
-        (first_part (plain_program scene.now.definitions.now.program.now) scene.now.numbers.now (plain_spot spot.now) types.old.items
+        (first_part_by names.old (plain_spot spot.now)
         (plain_first_part first.now))) }
-    ensures types { OnOk result (types.new.items ≡ types.old.items ++ first_temporaries (plain_first_part first.now)) }
+    ensures names { OnOk result (names.new ≡ behind_first (plain_first_part first.now) names.old) }
     ensures numbers { OnOk result (FirstHasNumbers (plain_first_part first.now)) }
 {
     match first {
-        Some(i) => item(alloc, scene, spot, i, types, to),
+        Some(i) => item(alloc, spot, i, names, to),
         None => Ok(()),
     }
 }
@@ -506,28 +503,26 @@ fn first_part(
 #[cycle(statement)]
 fn turns(
     alloc: Global,
-    scene: &Scene<'_>,
     spot: &Spot<'_>,
     a: &Stmt,
     controls: (&Option<Expr>, &Option<Expr>),
-    types: &mut Vec<MonType>,
+    names: &mut Registers<'_>,
     to: &mut Vec<MonStmt>,
 ) -> Result<(), AllocError>
     ensures code { OnOk result (plain_stmts to.new.items ≡ before (plain_stmts to.old.items)
-        (turns (plain_program scene.now.definitions.now.program.now) scene.now.numbers.now (plain_spot spot.now) types.old.items
+        (turns_by names.old (plain_spot spot.now)
         (option_map plain_expr controls.entry.0.now) (option_map plain_expr controls.entry.1.now) (plain_stmt a.now))) }
-    ensures types { OnOk result (types.new.items ≡ types.old.items ++
-        (any_temporaries temporaries (option_map plain_expr controls.entry.0.now) ++ statement_temporaries (plain_stmt a.now) ++ any_temporaries
-        effect_temporaries (option_map plain_expr controls.entry.1.now))) }
+    ensures names { OnOk result (names.new ≡ with_registers (any_temporaries effect_temporaries (option_map plain_expr controls.entry.1.now))
+        (after (plain_stmt a.now) (with_registers (any_temporaries temporaries (option_map plain_expr controls.entry.0.now)) names.old))) }
     ensures numbers { OnOk result (Any HasLetters (option_map plain_expr controls.entry.0.now) × HasNumbers (plain_stmt a.now)
         × Any EffectHasLetters (option_map plain_expr controls.entry.1.now)) }
 {
     let (e, step) = controls;
     let loops = one_more(spot.loops)?;
     let mut front = Vec::new(alloc);
-    leave_unless_any(alloc, scene.numbers, loops, e, types, &mut front)?;
-    let mut behind = round(alloc, scene, spot, a, types)?;
-    effect_if_any(alloc, scene, step, types, &mut behind)?;
+    leave_unless_any(alloc, loops, e, names, &mut front)?;
+    let mut behind = round(alloc, spot, a, names)?;
+    effect_if_any(alloc, step, names, &mut behind)?;
     repeat(alloc, loops, front, behind, to)
 }
 
@@ -535,21 +530,20 @@ fn turns(
 #[cycle(statement)]
 fn item(
     alloc: Global,
-    scene: &Scene<'_>,
     spot: &Spot<'_>,
     i: &Item,
-    types: &mut Vec<MonType>,
+    names: &mut Registers<'_>,
     to: &mut Vec<MonStmt>,
 ) -> Result<(), AllocError>
     ensures code { OnOk result (plain_stmts to.new.items ≡ before (plain_stmts to.old.items)
-        (item (plain_program scene.now.definitions.now.program.now) scene.now.numbers.now (plain_spot spot.now) types.old.items (plain_item i.now))) }
-    ensures types { OnOk result (types.new.items ≡ types.old.items ++ item_temporaries (plain_item i.now)) }
+        (item_by names.old (plain_spot spot.now) (plain_item i.now))) }
+    ensures names { OnOk result (names.new ≡ behind_item (plain_item i.now) names.old) }
     ensures numbers { OnOk result (ItemHasNumbers (plain_item i.now)) }
 {
     match i {
-        Item::Declare(decls) => initialise_all(alloc, scene, decls, types, to),
-        Item::Run(a) => statement(alloc, scene, spot, a, types, to),
-        Item::Asserts(annots) => assertions(alloc, scene.numbers, annots, to),
+        Item::Declare(decls) => initialise_all(alloc, decls, names, to),
+        Item::Run(a) => statement(alloc, spot, a, names, to),
+        Item::Asserts(annots) => assertions(alloc, annots, names, to),
     }
 }
 
@@ -557,19 +551,18 @@ fn item(
 #[cycle(statement)]
 fn items(
     alloc: Global,
-    scene: &Scene<'_>,
     spot: &Spot<'_>,
     block: &[Item],
-    types: &mut Vec<MonType>,
+    names: &mut Registers<'_>,
     to: &mut Vec<MonStmt>,
 ) -> Result<(), AllocError>
     ensures code { OnOk result (plain_stmts to.new.items ≡ before (plain_stmts to.old.items)
-        (items (plain_program scene.now.definitions.now.program.now) scene.now.numbers.now (plain_spot spot.now) types.old.items (plain_items block.now))) }
-    ensures types { OnOk result (types.new.items ≡ types.old.items ++ items_temporaries (plain_items block.now)) }
+        (items_by names.old (plain_spot spot.now) (plain_items block.now))) }
+    ensures names { OnOk result (names.new ≡ behind_items (plain_items block.now) names.old) }
     ensures numbers { OnOk result (HaveNumbers (plain_items block.now)) }
 {
     'items: for i in block {
-        item(alloc, scene, spot, i, types, to)?;
+        item(alloc, spot, i, names, to)?;
     }
     Ok(())
 }

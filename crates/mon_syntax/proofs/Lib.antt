@@ -54,3 +54,6 @@ pub mod WorkedRuns
 pub mod WorkedCalls
 mod WorkedMemory
 mod WorkedTexts
+-- registers and definitions, while functions are made
+pub mod Indices
+pub mod Bindings

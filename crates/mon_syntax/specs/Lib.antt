@@ -1,6 +1,8 @@
 pub mod Trees
 pub mod Arithmetic
 pub mod Globals
+pub mod Registers
+pub mod Indices
 pub mod Memory
 pub mod Meaning
 pub mod BlockMemory

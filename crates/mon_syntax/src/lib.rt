@@ -1,12 +1,15 @@
 //! Programs in monitored C, the language into which annotated C is translated: their tree, their text, and what they do.
 #![tactic(auto)]
 
+pub mod definition;
 pub mod laws;
+pub mod registers;
 pub mod spot;
 pub mod tree;
 pub mod types;
 pub mod word;
 
+pub use registers::{Registers, numbered};
 pub use spot::{RegionName, Spot};
 pub use tree::{
     AccessSize, GlobalContent, MemoryCall, MonExpr, MonExprKind, MonFunc, MonGlobal, MonOp,

@@ -1,35 +1,26 @@
 -- The entry of a scope: blocks are born in order on both sides, or the same is full on both.
-use Rattle.std.proofs.Common.{◌≡◌, ◌≢◌, ℕ, zero, suc, ◌+◌, ◌<◌, ◌^◌, pos, Bool, true, false, cond, nat_eq, List, [], ◌∷◌, ◌++◌, length, length-set, length-append, Option, Some, None, option_map, slice_get, slice_set, refl, sym, ap, ◌∙◌, subst, arith}
-use Rattle.std.proofs.lemmas.Bool.{eq-eqb, eqb-true}
+use Rattle.std.proofs.Common.{◌≡◌, ℕ, zero, suc, ◌+◌, ◌<◌, ◌≤◌, ◌^◌, pos, List, [], ◌∷◌, ◌++◌, length, length-set, length-append, Option, Some, None, slice_get, slice_set, refl, sym, ap, ◌∙◌, subst, arith}
+use Rattle.std.specs.Prelude.{Result, Ok, Err, Vec, IfOk}
+use Rattle.std.specs.declared.alloc.Global.{Global}
 use Rattle.c_syntax.specs.declared.types.BlockKind.TheVariants.{Stack}
 use Rattle.c_syntax.specs.declared.types.Segment.{Segment}
+use Rattle.c_syntax.specs.Programs.{StructType}
 use Rattle.c_syntax.specs.Statements.{Declaration}
 use Rattle.c_model.specs.Formed.{number_of}
 use Rattle.c_model.specs.Layouts.{size_of}
-use Rattle.c_model.specs.Memory.{Store, Into, Value, Points, new_block, full_at_stack_birth, standard_sizes}
-use Rattle.c_model.specs.State.{State, on_outcome, birth_of, births, find, start_of}
+use Rattle.c_model.specs.Memory.{Into, Value, Points, new_block, full_at_stack_birth, standard_sizes}
+use Rattle.c_model.specs.State.{State, on_outcome, birth_of, births}
 use Rattle.c_model.proofs.Blocks.{slice_get-slice_set_other}
+use Rattle.mon_syntax.specs.declared.tree.MonStmt.{MonStmt}
 use Rattle.mon_syntax.specs.declared.tree.MonType.TheVariants.{U64}
+use Rattle.mon_syntax.specs.Trees.{plain_stmts}
 use Rattle.mon_syntax.specs.Arithmetic.{lowest_bits}
-use Rattle.mon_syntax.specs.Meaning.{Done, Stops, Next, then_do, at_next, writes, replied, exec, exec_all}
+use Rattle.mon_syntax.specs.Meaning.{Done, Next, then_do, at_next, writes, replied, exec, exec_all}
 use Rattle.mon_syntax.specs.Meaning as monitored
 use Rattle.mon_syntax.specs.BlockMemory.{over_blocks, birth_of as block_birth, stack_block}
-use Rattle.mon_syntax.proofs.FlatBlocks.{live-born}
 use Rattle.track_scopes.specs.Blocks as target
-use Rattle.track_scopes.specs.Blocks.{register_of, block_of, AreSmall}
-use Rattle.track_scopes.specs.Lives.{MonitoredState, Did, SameBlocks, with_store, HasBlock, HaveBlocks, Tracked, Births, AllAre, OneIsFull, Enters}
-use Rattle.track_scopes.proofs.Lives.{full-alike}
-
--- ---- a store with one more block
-
-pub same_born : (a b : Store) (size : ℕ) → SameBlocks a b → SameBlocks (a ++ new_block Stack size ∷ []) (b ++ new_block Stack size ∷ [])
-same_born a b size same = record {
-  born = length-append a (new_block Stack size ∷ []) ∙ ap (λ n. n + 1) same.born ∙ sym (length-append b (new_block Stack size ∷ []));
-  live =
-      live-born a size
-      ∙ (λ i. record { number = same.born i + 1; size = size } ∷ same.live i)
-      ∙ sym (live-born b size);
-}
+use Rattle.track_scopes.specs.Blocks.{AreSmall}
+use Rattle.track_scopes.specs.Lives.{MonitoredState, Did, with_store, PointInOrder, PointToBorn, Births, AllAre, OneIsFull, Enters}
 
 -- ---- one birth
 
@@ -37,124 +28,98 @@ same_born a b size same = record {
 lowest-small : (n : ℕ) → n < 2 ^ 64 → lowest_bits U64 (pos n) ≡ n
 lowest-small n small = omega arith
 
--- what a birth does, where this is full
-abbrev pub birth_does : List ℕ → Declaration → List Value → MonitoredState → Option Segment → Did
-birth_does numbers d regs t o =
-    then_do (replied over_blocks (stack_block o (size_of [] d.ctype) t.mem) t) (λ v u. Done (Next (slice_set regs (block_of numbers (number_of d)) v)) u [])
-
--- a block is born in monitored C where it is in the program
-pub birth_is : (numbers : List ℕ) (calls : monitored.Calls over_blocks) (n : ℕ) (d : Declaration) (regs : List Value) (store : Store) (t : MonitoredState) → SameBlocks store t.mem.store → size_of [] d.ctype < 2 ^ 64
-    → exec over_blocks [] (target.birth numbers d) calls n regs t ≡ birth_does numbers d regs t (full_at_stack_birth standard_sizes store (size_of [] d.ctype))
-birth_is numbers calls n d regs store t same small =
-    ap (λ size. then_do (replied over_blocks (block_birth size t.mem) t) (λ v u. Done (Next (slice_set regs (block_of numbers (number_of d)) v)) u [])) (lowest-small (size_of [] d.ctype) small)
-    ∙ ap (birth_does numbers d regs t) (full-alike t.mem.store store (size_of [] d.ctype) (sym same.born) (sym same.live))
-
-has_more : (numbers : List ℕ) (regs after : List Value) (x : ℕ) → length after ≡ length regs → HasBlock numbers regs x → HasBlock numbers after x
-has_more numbers regs after x long h = record { listed = h.listed; there = subst (λ n. block_of numbers x < n) (sym long) h.there }
-
-have_more : (numbers : List ℕ) (regs after : List Value) (ds : List Declaration) → length after ≡ length regs → HaveBlocks numbers regs ds → HaveBlocks numbers after ds
-have_more numbers regs after [] long h = tt
-have_more numbers regs after (d ∷ ds) long h = (has_more numbers regs after (number_of d) long h.0, have_more numbers regs after ds long h.1)
-
 get_there : {A : Type 0} (l : List A) (k : ℕ) (a : A) → k < length l → slice_get (slice_set l k a) k ≡ Some a
 get_there [] k a lt = absurd (omega arith)
 get_there (b ∷ l) zero a lt = refl
 get_there (b ∷ l) (suc k) a lt = get_there l k a (omega (arith, lt))
 
-module _ (numbers : List ℕ) (calls : monitored.Calls over_blocks) (n : ℕ) (d : Declaration) where
-  abbrev x : ℕ
-  x = number_of d
+module _ (structs : List StructType) (gs : List Value) (calls : monitored.Calls over_blocks) (n : ℕ) where
+  -- what a birth does, where this is full
+  abbrev birth_does : ℕ → Declaration → List Value → MonitoredState → Option Segment → Did
+  birth_does p d regs t o =
+      then_do (replied over_blocks (stack_block o (size_of structs d.ctype) t.mem) t) (λ v u. Done (Next (slice_set regs p v)) u [])
 
-  -- the register of one variable alone points to its block
-  block_apart : (regs : List Value) (y : ℕ) → HasBlock numbers regs x → HasBlock numbers regs y → nat_eq x y ≡ false → block_of numbers y ≢ block_of numbers x
-  block_apart regs y h k differ e =
-      let register : register_of numbers y ≡ register_of numbers x = omega (arith, e) in
-      let both : Some y ≡ Some x = sym k.listed ∙ ap (slice_get numbers) register ∙ h.listed in
-      let same : x ≡ y = cc in
-      let equal = eq-eqb x y same in
-      cc
+  module _ (p : ℕ) (d : Declaration) (regs : List Value) (s : State) (t : MonitoredState) (same : t.mem.store ≡ s.store) (small : size_of structs d.ctype < 2 ^ 64) where
+    -- a block is born in monitored C where it is in the program
+    birth_is : exec over_blocks gs (target.birth structs p d) calls n regs t ≡ birth_does p d regs t (full_at_stack_birth standard_sizes s.store (size_of structs d.ctype))
+    birth_is =
+        ap (λ size. then_do (replied over_blocks (block_birth size t.mem) t) (λ v u. Done (Next (slice_set regs p v)) u [])) (lowest-small (size_of structs d.ctype) small)
+        ∙ ap (λ store. birth_does p d regs t (full_at_stack_birth standard_sizes store (size_of structs d.ctype))) same
 
-  module _ (regs : List Value) (s : State) (t : MonitoredState) (same : SameBlocks s.store t.mem.store) (there : HasBlock numbers regs x) (small : size_of [] d.ctype < 2 ^ 64) where
-    abbrev pub born_state : State
-    born_state = record s { store = s.store ++ new_block Stack (size_of [] d.ctype) ∷ []; scope = (x, length s.store + 1) ∷ s.scope }
+    abbrev born_state : State
+    born_state = record s { store = s.store ++ new_block Stack (size_of structs d.ctype) ∷ []; scope = (number_of d, length s.store + 1) ∷ s.scope }
 
-    abbrev pub born_registers : List Value
-    born_registers = slice_set regs (block_of numbers x) (Points (Into (length t.mem.store + 1) 0))
+    abbrev born_registers : List Value
+    born_registers = slice_set regs p (Points (Into (length t.mem.store + 1) 0))
 
-    abbrev pub born_target : MonitoredState
-    born_target = with_store (t.mem.store ++ new_block Stack (size_of [] d.ctype) ∷ []) t
-
-    starts : exec over_blocks [] (target.birth numbers d) calls n regs t ≡ birth_does numbers d regs t (full_at_stack_birth standard_sizes s.store (size_of [] d.ctype))
-    starts = birth_is numbers calls n d regs s.store t same small
-
-    long : length born_registers ≡ length regs
-    long = length-set regs (block_of numbers x) (Points (Into (length t.mem.store + 1) 0))
-
-    tracked_new : Tracked numbers born_state.scope born_registers x
-    tracked_new =
-        get_there regs (block_of numbers x) (Points (Into (length t.mem.store + 1) 0)) there.there
-        ∙ ap (λ i. Some (Points (Into (i + 1) 0))) (sym same.born)
-        ∙ sym (ap (λ b. option_map Points (start_of (cond b (Some (length s.store + 1)) (find x s.scope)))) (eq-eqb x x refl))
-
-    tracked_old : (y : ℕ) → HasBlock numbers regs y → Tracked numbers s.scope regs y → Tracked numbers born_state.scope born_registers y
-    tracked_old y h k = by (nat_eq x y) refl
-      where
-        by : (b : Bool) → nat_eq x y ≡ b → Tracked numbers born_state.scope born_registers y
-        by true e = subst (Tracked numbers born_state.scope born_registers) (eqb-true x y e) tracked_new
-        by false e =
-            slice_get-slice_set_other regs (block_of numbers x) (block_of numbers y) _ (block_apart regs y there h e) ∙ k
-            ∙ sym (ap (λ b. option_map Points (start_of (cond b (Some (length s.store + 1)) (find y s.scope)))) e)
+    abbrev born_target : MonitoredState
+    born_target = with_store (t.mem.store ++ new_block Stack (size_of structs d.ctype) ∷ []) t
 
     -- ---- and then others
 
-    others_after : (r : ℕ) → r ≢ block_of numbers x → slice_get born_registers r ≡ slice_get regs r
-    others_after r apart = slice_get-slice_set_other regs (block_of numbers x) r _ apart
+    abbrev others : List Declaration → Did
+    others ds = exec_all over_blocks gs (target.births structs (suc p) ds) calls n born_registers born_target
 
-    then_born : (ds : List Declaration) → full_at_stack_birth standard_sizes s.store (size_of [] d.ctype) ≡ None
-        → Births numbers ds born_registers born_state born_target (exec_all over_blocks [] (target.births numbers ds) calls n born_registers born_target)
-        → Births numbers (d ∷ ds) regs s t (exec_all over_blocks [] (target.births numbers (d ∷ ds)) calls n regs t)
-    then_born ds none (AllAre to after u e f b) =
-        AllAre to after u
-        (ap (λ o. on_outcome (birth_of o x (size_of [] d.ctype) s) (λ _. births [] ds)) none ∙ e)
-        (ap (λ q. then_do q (at_next (exec_all over_blocks [] (target.births numbers ds) calls n))) (starts ∙ ap (birth_does numbers d regs t) none) ∙ ap (writes []) f)
-        (record {
-          same = b.same;
-          tracked = (b.still x (has_more numbers regs born_registers x long there) tracked_new, b.tracked);
-          still = λ y h k. b.still y (has_more numbers regs born_registers y long h) (tracked_old y h k);
-          others = λ r h. b.others r h.1 ∙ others_after r h.0;
-          rest = b.rest;
-        })
-    then_born ds none (OneIsFull g to e f) =
+    abbrev all : List Declaration → Did
+    all ds = exec_all over_blocks gs (target.births structs p (d ∷ ds)) calls n regs t
+
+    does : (ds : List Declaration) (o : Option Segment) → full_at_stack_birth standard_sizes s.store (size_of structs d.ctype) ≡ o
+        → all ds ≡ then_do (birth_does p d regs t o) (at_next (exec_all over_blocks gs (target.births structs (suc p) ds) calls n))
+    does ds o full = ap (λ q. then_do q (at_next (exec_all over_blocks gs (target.births structs (suc p) ds) calls n))) (birth_is ∙ ap (birth_does p d regs t) full)
+
+    point_to_born : (ds : List Declaration) (after : List Value) → p < length regs → PointToBorn (suc p) ds born_state.store born_registers after → PointToBorn p (d ∷ ds) s.store regs after
+    point_to_born ds after there b =
+        let number : length born_state.store + 1 ≡ suc (length s.store + 1) = omega (arith, length-append s.store (new_block Stack (size_of structs d.ctype) ∷ [])) in
+        record {
+          point = (
+            b.before p (omega arith) ∙ get_there regs p (Points (Into (length t.mem.store + 1) 0)) there ∙ ap (λ store. Some (Points (Into (length store + 1) 0))) same,
+            subst (λ k. PointInOrder after (suc p) k ds) number b.point,
+          );
+          before = λ r lt. b.before r (omega (arith, lt)) ∙ slice_get-slice_set_other regs p r (Points (Into (length t.mem.store + 1) 0)) (λ e. omega (arith, lt, e));
+          long = b.long ∙ length-set regs p (Points (Into (length t.mem.store + 1) 0));
+        }
+
+    then_born : (ds : List Declaration) → p < length regs → full_at_stack_birth standard_sizes s.store (size_of structs d.ctype) ≡ None
+        → Births structs (suc p) ds born_registers born_state born_target (others ds) → Births structs p (d ∷ ds) regs s t (all ds)
+    then_born ds there none (AllAre after e f b) =
+        AllAre after
+        (ap (λ o. on_outcome (birth_of o (number_of d) (size_of structs d.ctype) s) (λ _. births structs ds)) none ∙ e)
+        (does ds None none ∙ ap (writes []) f)
+        (point_to_born ds after there b)
+    then_born ds there none (OneIsFull g to e output steps f) =
         OneIsFull g to
-        (ap (λ o. on_outcome (birth_of o x (size_of [] d.ctype) s) (λ _. births [] ds)) none ∙ e)
-        (ap (λ q. then_do q (at_next (exec_all over_blocks [] (target.births numbers ds) calls n))) (starts ∙ ap (birth_does numbers d regs t) none) ∙ ap (writes []) f)
+        (ap (λ o. on_outcome (birth_of o (number_of d) (size_of structs d.ctype) s) (λ _. births structs ds)) none ∙ e) output steps
+        (does ds None none ∙ ap (writes []) f)
 
-    is_full : (ds : List Declaration) (g : Segment) → full_at_stack_birth standard_sizes s.store (size_of [] d.ctype) ≡ Some g → Births numbers (d ∷ ds) regs s t (exec_all over_blocks [] (target.births numbers (d ∷ ds)) calls n regs t)
+    is_full : (ds : List Declaration) (g : Segment) → full_at_stack_birth standard_sizes s.store (size_of structs d.ctype) ≡ Some g → Births structs p (d ∷ ds) regs s t (all ds)
     is_full ds g some =
-        OneIsFull g s
-        (ap (λ o. on_outcome (birth_of o x (size_of [] d.ctype) s) (λ _. births [] ds)) some)
-        (ap (λ q. then_do q (at_next (exec_all over_blocks [] (target.births numbers ds) calls n))) (starts ∙ ap (birth_does numbers d regs t) some))
+        OneIsFull g s (ap (λ o. on_outcome (birth_of o (number_of d) (size_of structs d.ctype) s) (λ _. births structs ds)) some) refl refl (does ds (Some g) some)
 
--- ---- births in order
+    born_same : born_target.mem.store ≡ born_state.store
+    born_same = ap (λ store. store ++ new_block Stack (size_of structs d.ctype) ∷ []) same
 
-module _ (numbers : List ℕ) (calls : monitored.Calls over_blocks) (n : ℕ) where
-  all_born : (ds : List Declaration) (regs : List Value) (s : State) (t : MonitoredState) → SameBlocks s.store t.mem.store → HaveBlocks numbers regs ds → AreSmall ds
-      → Births numbers ds regs s t (exec_all over_blocks [] (target.births numbers ds) calls n regs t)
-  all_born [] regs s t same h small = AllAre s regs t refl refl (record { same = same; tracked = tt; still = λ x h k. k; others = λ r h. refl; rest = refl })
-  all_born (d ∷ ds) regs s t same h small =
-      let after = born_registers numbers calls n d regs s t same h.0 small.0 in
-      by (λ o. all_born ds after (born_state numbers calls n d regs s t same h.0 small.0) (born_target numbers calls n d regs s t same h.0 small.0)
-      (same_born s.store t.mem.store (size_of [] d.ctype) same) (have_more numbers regs after ds (long numbers calls n d regs s t same h.0 small.0) h.1) small.1)
-      (full_at_stack_birth standard_sizes s.store (size_of [] d.ctype)) refl
+  -- ---- births in order
+
+  all_born : (p : ℕ) (ds : List Declaration) (regs : List Value) (s : State) (t : MonitoredState) → AreSmall structs ds → t.mem.store ≡ s.store → p + length ds ≤ length regs
+      → Births structs p ds regs s t (exec_all over_blocks gs (target.births structs p ds) calls n regs t)
+  all_born p [] regs s t small same long =
+      AllAre regs refl (ap (λ store. Done (Next regs) (with_store store t) []) same) (record { point = tt; before = λ r lt. refl; long = refl })
+  all_born p (d ∷ ds) regs s t small same long =
+      by (all_born (suc p) ds (born_registers p d regs s t same small.0) (born_state p d regs s t same small.0) (born_target p d regs s t same small.0) small.1
+      (born_same p d regs s t same small.0) (omega (arith, long, length-set regs p (Points (Into (length t.mem.store + 1) 0)))))
+      (full_at_stack_birth standard_sizes s.store (size_of structs d.ctype)) refl
     where
-      Others : Type 0
-      Others =
-          Births numbers ds (born_registers numbers calls n d regs s t same h.0 small.0) (born_state numbers calls n d regs s t same h.0 small.0) (born_target numbers calls n d regs s t same h.0 small.0)
-          (exec_all over_blocks [] (target.births numbers ds) calls n (born_registers numbers calls n d regs s t same h.0 small.0) (born_target numbers calls n d regs s t same h.0 small.0))
+      by : Births structs (suc p) ds (born_registers p d regs s t same small.0) (born_state p d regs s t same small.0) (born_target p d regs s t same small.0) (others p d regs s t same small.0 ds)
+          → (o : Option Segment) → full_at_stack_birth standard_sizes s.store (size_of structs d.ctype) ≡ o → Births structs p (d ∷ ds) regs s t (exec_all over_blocks gs (target.births structs p (d ∷ ds)) calls n regs t)
+      by rest None none = then_born p d regs s t same small.0 ds (omega (arith, long)) none rest
+      by rest (Some g) some = is_full p d regs s t same small.0 ds g some
 
-      by : (Unit {0} → Others) → (o : Option Segment) → full_at_stack_birth standard_sizes s.store (size_of [] d.ctype) ≡ o → Births numbers (d ∷ ds) regs s t (exec_all over_blocks [] (target.births numbers (d ∷ ds)) calls n regs t)
-      by others None none = then_born numbers calls n d regs s t same h.0 small.0 ds none (others tt)
-      by others (Some g) some = is_full numbers calls n d regs s t same h.0 small.0 ds g some
+-- births enter the scope of their variables
+pub births_enter : (structs : List StructType) (p : ℕ) (ds : List Declaration) → AreSmall structs ds → Enters structs p ds (target.births structs p ds)
+births_enter structs p ds small = λ gs calls n regs s t same long. all_born structs gs calls n p ds regs s t small same long
 
-pub births_enter : (numbers : List ℕ) (ds : List Declaration) → AreSmall ds → Enters numbers ds (target.births numbers ds)
-births_enter numbers ds small = λ calls n regs s t same h. all_born numbers calls n ds regs s t same h small
+-- so do statements that are births, if there are any
+pub enters : {E : Type 0} (structs : List StructType) (p : ℕ) (ds : List Declaration) (r : Result (Vec MonStmt Global) E) → IfOk r (λ code. plain_stmts code.items ≡ target.births structs p ds)
+    → IfOk r (λ code. AreSmall structs ds) → IfOk r (λ code. Enters structs p ds (plain_stmts code.items))
+enters structs p ds (Ok code) e small = subst (Enters structs p ds) (sym e) (births_enter structs p ds small)
+enters structs p ds (Err e) h small = tt

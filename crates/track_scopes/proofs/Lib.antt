@@ -1,4 +1,3 @@
-pub mod Lives
 pub mod Sequences
 pub mod Births
 pub mod Deaths

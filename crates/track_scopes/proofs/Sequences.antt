@@ -1,37 +1,70 @@
 -- Statements one after another, as a loop pushes them onto a vector.
-use Rattle.std.proofs.Common.{◌≡◌, ℕ, suc, ◌+◌, ◌^◌, ◌<◌, ◌≤◌, List, [], ◌∷◌, ◌++◌, length, length-drop, drop, map, get_or, refl, sym, ap, ◌∙◌, subst, arith, append_assoc}
+use Rattle.std.proofs.Common.{◌≡◌, ℕ, suc, ◌+◌, ◌^◌, ◌<◌, ◌≤◌, List, [], ◌∷◌, ◌++◌, length, length-append, length-drop, drop, map, get_or, refl, sym, ap, ◌∙◌, subst, arith, append_assoc}
 use Rattle.std.proofs.lemmas.List.{map-append, nil_from_length, append-nil}
 use Rattle.std.proofs.Math.Seq.{drop-cons}
 use Rattle.c_syntax.specs.declared.statement.Decl.{Decl}
-use Rattle.c_syntax.specs.Statements.{plain_decl}
-use Rattle.c_model.specs.Layouts.{size_of}
+use Rattle.c_syntax.specs.Programs.{StructType}
+use Rattle.c_syntax.specs.Statements.{Declaration, plain_decl}
 use Rattle.mon_syntax.specs.declared.tree.MonStmt.{MonStmt}
+use Rattle.mon_syntax.specs.declared.tree.MonType.TheVariants.{Ptr}
+use Rattle.mon_syntax.specs.Registers.{Names, next_register, with_table}
 use Rattle.mon_syntax.specs.Trees.{MonStatement, Then, plain_stmt, plain_stmts}
-use Rattle.track_scopes.specs.Blocks.{birth, births, AreSmall, death, deaths}
+use Rattle.track_scopes.specs.Blocks.{AreSmall, birth, births, death, deaths, entered, with_pointer}
+use Rattle.c_model.specs.Layouts.{size_of}
 
--- the birth of a variable's block
-abbrev pub birth_at : List ℕ → Decl → MonStatement
-birth_at numbers d = birth numbers (plain_decl d)
+-- ---- births
 
--- these statements are the births of these variables' blocks
-pub births_are : (numbers : List ℕ) (l : List MonStmt) (ds : List Decl) → map plain_stmt l ≡ map (birth_at numbers) ds → plain_stmts l ≡ births numbers (map plain_decl ds)
-births_are numbers [] [] e = refl
-births_are numbers [] (d ∷ ds) e = absurd cc
-births_are numbers (s ∷ l) [] e = absurd cc
-births_are numbers (s ∷ l) (d ∷ ds) e =
-    let one : plain_stmt s ≡ birth_at numbers d = cc in
-    let others : map plain_stmt l ≡ map (birth_at numbers) ds = cc in
-    (λ i. Then (one i) (births_are numbers l ds others i))
+-- the births of these variables' blocks as a list
+abbrev pub birth_list : List StructType → ℕ → List Declaration → List MonStatement
+birth_list structs p [] = []
+birth_list structs p (d ∷ ds) = birth structs p d ∷ birth_list structs (suc p) ds
 
--- one more variable has a small size
-pub small_more : (all : List Decl) (i : ℕ) (z x : Decl) → i < length all → x ≡ get_or all i z → size_of [] (plain_decl x).ctype < 2 ^ 64 → AreSmall (map plain_decl (drop (i + 1) all)) → AreSmall (map plain_decl (drop i all))
-small_more all i z x lt e small others =
-    let next : i + 1 ≡ suc i = omega arith in
-    subst (λ l. AreSmall (map plain_decl l)) (sym (drop-cons all i z lt))
-    (subst (λ d. size_of [] (plain_decl d).ctype < 2 ^ 64) e small, subst (λ j. AreSmall (map plain_decl (drop j all))) next others)
+pub births_are : (structs : List StructType) (p : ℕ) (l : List MonStmt) (ds : List Declaration) → map plain_stmt l ≡ birth_list structs p ds → plain_stmts l ≡ births structs p ds
+births_are structs p [] [] e = refl
+births_are structs p [] (d ∷ ds) e = absurd cc
+births_are structs p (s ∷ l) [] e = absurd cc
+births_are structs p (s ∷ l) (d ∷ ds) e =
+    let one : plain_stmt s ≡ birth structs p d = cc in
+    let others : map plain_stmt l ≡ birth_list structs (suc p) ds = cc in
+    (λ i. Then (one i) (births_are structs (suc p) l ds others i))
 
-pub none_left_small : (all : List Decl) (i : ℕ) → length all ≤ i → AreSmall (map plain_decl (drop i all))
-none_left_small all i le = subst (λ l. AreSmall (map plain_decl l)) (sym (nil_from_length (drop i all) (omega (arith, length-drop i all)))) tt
+-- ---- what is left of a list
+
+-- what is left begins with the item at the index
+pub left_at {ℓ} : {B : Type ℓ} (f : List Declaration → B) (l : List Decl) (i : ℕ) (z x : Decl) → i < length l → x ≡ get_or l i z → f (map plain_decl (drop i l)) ≡ f (plain_decl x ∷ map plain_decl (drop (i + 1) l))
+left_at f l i z x lt e =
+    let next : suc i ≡ i + 1 = omega arith in
+    ap (λ m. f (map plain_decl m)) (drop-cons l i z lt) ∙ ap (λ y. f (plain_decl y ∷ map plain_decl (drop (suc i) l))) (sym e) ∙ ap (λ j. f (plain_decl x ∷ map plain_decl (drop j l))) next
+
+pub none_left {ℓ} : {B : Type ℓ} (f : List Declaration → B) (l : List Decl) (i : ℕ) → length l ≤ i → f (map plain_decl (drop i l)) ≡ f []
+none_left f l i le = ap (λ m. f (map plain_decl m)) (nil_from_length (drop i l) (omega (arith, length-drop i l)))
+
+-- one more is pushed
+pub pushed : (done : List MonStmt) (s : MonStmt) (rest whole : List MonStatement) → map plain_stmt done ++ (plain_stmt s ∷ rest) ≡ whole → map plain_stmt (done ++ s ∷ []) ++ rest ≡ whole
+pushed done s rest whole kept =
+    ap (λ l. l ++ rest) (map-append plain_stmt done (s ∷ [])) ∙ append_assoc (map plain_stmt done) (plain_stmt s ∷ []) rest ∙ kept
+
+-- a variable has got its register, and its birth is pushed
+module _ (structs : List StructType) (n new : Names) (all : List Decl) (i : ℕ) (z x : Decl) (lt : i < length all) (is : x ≡ get_or all i z) (names : new ≡ with_table (with_pointer (plain_decl x) n.table) n) where
+  pub birth_pushed : (done : List MonStmt) (s : MonStmt) (r : ℕ) (whole : List MonStatement) → r ≡ next_register n.table → plain_stmt s ≡ birth structs r (plain_decl x)
+      → map plain_stmt done ++ birth_list structs (next_register n.table) (map plain_decl (drop i all)) ≡ whole
+      → map plain_stmt (done ++ s ∷ []) ++ birth_list structs (next_register new.table) (map plain_decl (drop (i + 1) all)) ≡ whole
+  birth_pushed done s r whole number born kept =
+      let rest = map plain_decl (drop (i + 1) all) in
+      let next : next_register new.table ≡ suc (next_register n.table) = ap (λ (m : Names). next_register m.table) names ∙ omega (arith, length-append n.table.kinds (Ptr ∷ [])) in
+      pushed done s (birth_list structs (next_register new.table) rest) whole
+      ((λ j. map plain_stmt done ++ ((born ∙ ap (λ q. birth structs q (plain_decl x)) number) j ∷ birth_list structs (next j) rest))
+      ∙ ap (λ l. map plain_stmt done ++ l) (sym (left_at (birth_list structs (next_register n.table)) all i z x lt is)) ∙ kept)
+
+  pub entered_more : (whole : Names) → with_table (entered (map plain_decl (drop i all)) n.table) n ≡ whole → with_table (entered (map plain_decl (drop (i + 1) all)) new.table) new ≡ whole
+  entered_more whole kept =
+      ap (λ (m : Names). with_table (entered (map plain_decl (drop (i + 1) all)) m.table) m) names
+      ∙ sym (left_at (λ ds. with_table (entered ds n.table) n) all i z x lt is) ∙ kept
+
+  pub small_more : size_of structs (plain_decl x).ctype < 2 ^ 64 → AreSmall structs (map plain_decl (drop (i + 1) all)) → AreSmall structs (map plain_decl (drop i all))
+  small_more small others = subst (λ (p : Type 0). p) (sym (left_at (AreSmall structs) all i z x lt is)) (small, others)
+
+-- ---- deaths
 
 pub deaths_are : (l : List MonStmt) (ps : List ℕ) → map plain_stmt l ≡ map death ps → plain_stmts l ≡ deaths ps
 deaths_are [] [] e = refl
@@ -42,20 +75,20 @@ deaths_are (s ∷ l) (p ∷ ps) e =
     let others : map plain_stmt l ≡ map death ps = cc in
     (λ i. Then (one i) (deaths_are l ps others i))
 
--- one more is pushed
-pub pushed : {A : Type 0} (f : A → MonStatement) (done : List MonStmt) (s : MonStmt) (all : List A) (i : ℕ) (z x : A) (whole : List MonStatement) → i < length all → x ≡ get_or all i z → plain_stmt s ≡ f x
-    → map plain_stmt done ++ map f (drop i all) ≡ whole → map plain_stmt (done ++ s ∷ []) ++ map f (drop (i + 1) all) ≡ whole
-pushed f done s all i z x whole lt e is kept =
+-- one more death is pushed
+pub death_pushed : (done : List MonStmt) (s : MonStmt) (all : List ℕ) (i z x : ℕ) (whole : List MonStatement) → i < length all → x ≡ get_or all i z → plain_stmt s ≡ death x
+    → map plain_stmt done ++ map death (drop i all) ≡ whole → map plain_stmt (done ++ s ∷ []) ++ map death (drop (i + 1) all) ≡ whole
+death_pushed done s all i z x whole lt e is kept =
     let next : suc i ≡ i + 1 = omega arith in
-    ap (λ l. l ++ map f (drop (i + 1) all)) (map-append plain_stmt done (s ∷ []) ∙ ap (λ z. map plain_stmt done ++ z ∷ []) (is ∙ ap f e))
-    ∙ append_assoc (map plain_stmt done) (f (get_or all i z) ∷ []) (map f (drop (i + 1) all))
-    ∙ ap (λ j. map plain_stmt done ++ (f (get_or all i z) ∷ map f (drop j all))) (sym next)
-    ∙ ap (λ l. map plain_stmt done ++ map f l) (sym (drop-cons all i z lt))
-    ∙ kept
+    pushed done s (map death (drop (i + 1) all)) whole
+    (ap (λ m. map plain_stmt done ++ (m ∷ map death (drop (i + 1) all))) (is ∙ ap death e)
+    ∙ ap (λ j. map plain_stmt done ++ (death (get_or all i z) ∷ map death (drop j all))) (sym next)
+    ∙ ap (λ l. map plain_stmt done ++ map death l) (sym (drop-cons all i z lt))
+    ∙ kept)
 
--- all are pushed
-pub all_pushed : {A : Type 0} (f : A → MonStatement) (done : List MonStmt) (all : List A) (i : ℕ) (whole : List MonStatement) → length all ≤ i → map plain_stmt done ++ map f (drop i all) ≡ whole → map plain_stmt done ≡ whole
-all_pushed f done all i whole le kept =
+-- all deaths are pushed
+pub all_pushed : (done : List MonStmt) (all : List ℕ) (i : ℕ) (whole : List MonStatement) → length all ≤ i → map plain_stmt done ++ map death (drop i all) ≡ whole → map plain_stmt done ≡ whole
+all_pushed done all i whole le kept =
     sym (append-nil (map plain_stmt done))
-    ∙ ap (λ l. map plain_stmt done ++ map f l) (sym (nil_from_length (drop i all) (omega (arith, length-drop i all))))
+    ∙ ap (λ l. map plain_stmt done ++ map death l) (sym (nil_from_length (drop i all) (omega (arith, length-drop i all))))
     ∙ kept

@@ -1,17 +1,19 @@
 -- Lifetimes are those of C99 6.2.4; the relation is ours.
--- What it means that the same blocks live in a program and in monitored C, where scopes are entered and left.
-use Rattle.std.specs.Prelude.{◌≡◌, ◌≢◌, ℕ, ◌<◌, List, [], ◌∷◌, ◌++◌, length, option_map, Some, slice_get}
+-- What births and deaths do where monitored C has the blocks of the program: where scopes are entered and left, it has them again.
+use Rattle.std.specs.Prelude.{◌≡◌, ℕ, suc, ◌+◌, ◌<◌, ◌≤◌, List, [], ◌∷◌, ◌++◌, length, Some, slice_get}
 use Rattle.c_syntax.specs.declared.types.Segment.{Segment}
+use Rattle.c_syntax.specs.declared.types.BlockKind.TheVariants.{Stack}
+use Rattle.c_syntax.specs.Programs.{StructType}
 use Rattle.c_syntax.specs.Statements.{Declaration}
+use Rattle.c_model.specs.Layouts.{size_of}
 use Rattle.c_model.specs.Formed.{number_of}
-use Rattle.c_model.specs.Memory.{Store, Into, Value, Points}
-use Rattle.c_model.specs.State.{State, Scope, Full, Over, Normal, Stop, births, back_to, find, start_of}
+use Rattle.c_model.specs.Memory.{Store, Into, Value, Points, new_block, kill_from}
+use Rattle.c_model.specs.State.{State, Full, Over, Normal, Stop, births}
 use Rattle.mon_syntax.specs.Trees.{MonStatements}
 use Rattle.mon_syntax.specs.Meaning.{Result, Done, Stops, Flow, Next, exec_all}
 use Rattle.mon_syntax.specs.Meaning as monitored
 use Rattle.mon_syntax.specs.BlockMemory.{Blocks, over_blocks}
 use Rattle.mon_syntax.specs.LiveBlocks.{LiveBlock, live_in}
-use Rattle.track_scopes.specs.Blocks.{register_of, block_of}
 
 -- a state of monitored C, and what statements of it did
 abbrev pub MonitoredState : Type 0
@@ -20,60 +22,44 @@ MonitoredState = monitored.State Blocks
 abbrev pub Did : Type 0
 Did = Result MonitoredState (Flow Value)
 
--- as many blocks were born, and the same ones live on the stack
-pub record SameBlocks (a b : Store) : Type 0 where
-  pub born : length a ≡ length b
-  pub live : live_in a ≡ live_in b
-
 -- the state with these blocks; the rest of it stays
 abbrev pub with_store : Store → MonitoredState → MonitoredState
 with_store store t = record t { mem = record t.mem { store = store } }
 
 -- ---- the entry of a scope
 
--- the variable stands among those of the function, and there is a register that points to its block
-pub record HasBlock (numbers : List ℕ) (regs : List Value) (x : ℕ) : Type 0 where
-  pub listed : slice_get numbers (register_of numbers x) ≡ Some x
-  pub there : block_of numbers x < length regs
+-- the state of a program after variables were born
+abbrev pub with_variables : List StructType → List Declaration → State → State
+with_variables structs [] s = s
+with_variables structs (d ∷ ds) s = with_variables structs ds (record s {
+  store = s.store ++ new_block Stack (size_of structs d.ctype) ∷ [];
+  scope = (number_of d, length s.store + 1) ∷ s.scope;
+})
 
-abbrev pub HaveBlocks : List ℕ → List Value → List Declaration → Type 0
-HaveBlocks numbers regs [] = Unit {0}
-HaveBlocks numbers regs (d ∷ ds) = HasBlock numbers regs (number_of d) × HaveBlocks numbers regs ds
+-- the registers from one on point to the starts of the blocks from a number on, as many as these variables
+abbrev pub PointInOrder : List Value → ℕ → ℕ → List Declaration → Type 0
+PointInOrder regs p number [] = Unit {0}
+PointInOrder regs p number (d ∷ ds) = (slice_get regs p ≡ Some (Points (Into number 0))) × PointInOrder regs (suc p) (suc number) ds
 
--- the variable's register points to the start of its block
-abbrev pub Tracked : List ℕ → Scope → List Value → ℕ → Type 0
-Tracked numbers scope regs x = slice_get regs (block_of numbers x) ≡ option_map Points (start_of (find x scope))
-
-abbrev pub AllTracked : List ℕ → Scope → List Value → List Declaration → Type 0
-AllTracked numbers scope regs [] = Unit {0}
-AllTracked numbers scope regs (d ∷ ds) = Tracked numbers scope regs (number_of d) × AllTracked numbers scope regs ds
-
--- the register points to none of these variables' blocks
-abbrev pub PointsToNone : List ℕ → ℕ → List Declaration → Type 0
-PointsToNone numbers r [] = Unit {0}
-PointsToNone numbers r (d ∷ ds) = (r ≢ block_of numbers (number_of d)) × PointsToNone numbers r ds
-
--- these variables were born from the state s to the state `to`, and their blocks from t to u
-pub record AreBorn (numbers : List ℕ) (ds : List Declaration) (regs after : List Value) (s to : State) (t u : MonitoredState) : Type 0 where
-  pub same : SameBlocks to.store u.mem.store
-  pub tracked : AllTracked numbers to.scope after ds
-  -- a variable that was tracked before is so still, and other registers stay
-  pub still : (x : ℕ) → HasBlock numbers regs x → Tracked numbers s.scope regs x → Tracked numbers to.scope after x
-  pub others : (r : ℕ) → PointsToNone numbers r ds → slice_get after r ≡ slice_get regs r
-  pub rest : u ≡ with_store u.mem.store t
+-- registers after births: those from p on point to the blocks that were born from this store on, and those before p stay
+pub record PointToBorn (p : ℕ) (ds : List Declaration) (store : Store) (regs after : List Value) : Type 0 where
+  pub point : PointInOrder after p (length store + 1) ds
+  pub before : (r : ℕ) → r < p → slice_get after r ≡ slice_get regs r
+  pub long : length after ≡ length regs
 
 -- all are born on both sides, or the same is full
-pub data Births (numbers : List ℕ) (ds : List Declaration) (regs : List Value) (s : State) (t : MonitoredState) (q : Did) : Type 0 where
-  AllAre : (to : State) (after : List Value) (u : MonitoredState) → births [] ds s ≡ Normal tt to → q ≡ Done (Next after) u []
-      → AreBorn numbers ds regs after s to t u → Births numbers ds regs s t q
-  OneIsFull : (g : Segment) (to : State) → births [] ds s ≡ Stop (Over (Full g)) to → q ≡ Stops (Full g) t.steps [] → Births numbers ds regs s t q
+pub data Births (structs : List StructType) (p : ℕ) (ds : List Declaration) (regs : List Value) (s : State) (t : MonitoredState) (q : Did) : Type 0 where
+  AllAre : (after : List Value) → births structs ds s ≡ Normal tt (with_variables structs ds s)
+      → q ≡ Done (Next after) (with_store (with_variables structs ds s).store t) [] → PointToBorn p ds s.store regs after → Births structs p ds regs s t q
+  OneIsFull : (g : Segment) (to : State) → births structs ds s ≡ Stop (Over (Full g)) to → to.output ≡ s.output → to.steps ≡ s.steps
+      → q ≡ Stops (Full g) t.steps [] → Births structs p ds regs s t q
 
--- Statements enter the scope of these variables: where the same blocks live on both sides, so they do after the variables' births.
-abbrev pub Enters : List ℕ → List Declaration → MonStatements → Type 0
-Enters numbers ds code =
-    (calls : monitored.Calls over_blocks) (n : ℕ) (regs : List Value) (s : State) (t : MonitoredState) → SameBlocks s.store t.mem.store
-    → HaveBlocks numbers regs ds
-    → Births numbers ds regs s t (exec_all over_blocks [] code calls n regs t)
+-- Statements enter the scope of these variables: from the program's blocks on they make those that the program has after the births.
+abbrev pub Enters : List StructType → ℕ → List Declaration → MonStatements → Type 0
+Enters structs p ds code =
+    (gs : List Value) (calls : monitored.Calls over_blocks) (n : ℕ) (regs : List Value) (s : State) (t : MonitoredState) → t.mem.store ≡ s.store
+    → p + length ds ≤ length regs
+    → Births structs p ds regs s t (exec_all over_blocks gs code calls n regs t)
 
 -- ---- the ways out
 
@@ -84,18 +70,20 @@ Point regs [] (b ∷ bs) = ⊥
 Point regs (p ∷ ps) [] = ⊥
 Point regs (p ∷ ps) (b ∷ bs) = (slice_get regs p ≡ Some (Points (Into b.number 0))) × Point regs ps bs
 
--- the blocks that live are those of this store
-pub record AreDead (store : Store) (regs : List Value) (t : MonitoredState) (q : Did) : Type 0 where
-  pub to : MonitoredState
-  pub does : q ≡ Done (Next regs) to []
-  pub same : SameBlocks store to.mem.store
-  pub rest : to ≡ with_store to.mem.store t
+-- blocks that stand from this index on
+abbrev pub AreFrom : ℕ → List LiveBlock → Type 0
+AreFrom base [] = Unit {0}
+AreFrom base (b ∷ bs) = (base < b.number) × AreFrom base bs
 
--- Statements leave scopes, which the program entered in the state `old`. Where these registers point to the blocks that were born since
--- and live, the youngest first, just those blocks live after the statements that live in the program after the scopes.
+-- blocks that stand before it
+abbrev pub AreBefore : ℕ → List LiveBlock → Type 0
+AreBefore base [] = Unit {0}
+AreBefore base (b ∷ bs) = (b.number ≤ base) × AreBefore base bs
+
+-- Statements leave scopes. Where these registers point to the blocks that live on the stack from an index on, the youngest first, just those are
+-- dead after the statements.
 abbrev pub Leaves : List ℕ → MonStatements → Type 0
 Leaves blocks code =
-    (calls : monitored.Calls over_blocks) (n : ℕ) (regs : List Value) (old s : State) (t : MonitoredState) (inside : List LiveBlock)
-    → SameBlocks s.store t.mem.store
-    → live_in s.store ≡ inside ++ live_in (back_to old s).store → Point regs blocks inside
-    → AreDead (back_to old s).store regs t (exec_all over_blocks [] code calls n regs t)
+    (gs : List Value) (calls : monitored.Calls over_blocks) (n base : ℕ) (regs : List Value) (t : MonitoredState) (inside outside : List LiveBlock)
+    → live_in t.mem.store ≡ inside ++ outside → AreFrom base inside → AreBefore base outside → Point regs blocks inside
+    → exec_all over_blocks gs code calls n regs t ≡ Done (Next regs) (with_store (kill_from base t.mem.store) t) []

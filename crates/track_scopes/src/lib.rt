@@ -1,10 +1,9 @@
 //! The blocks of a function's variables in monitored C: they are born in order where a scope is entered, and die, the youngest
 //! first, where it is left.
 //!
-//! Where the same blocks live in the program and in monitored C, they do so after the statements that are given here too.
+//! Where monitored C has the blocks of the program, it has them after the statements that are given here too.
 #![tactic(auto)]
 
-pub mod register;
 pub mod scope;
 pub mod size;
 

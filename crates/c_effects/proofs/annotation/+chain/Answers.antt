@@ -8,5 +8,5 @@ use Rattle.c_effects.proofs.annotation.+chain.Goals as goal
 pub returns-in_ok-others-in-len1-up-clause-code : goal.returns-in_ok-others-in-len1-up-clause-code
 returns-in_ok-others-in-len1-up-clause-code t c =
     subst (λ (x : MonExpression). IfOk c.operation.result (λ (m : MonExpr). plain_expr m ≡ x))
-    (chain_first c.args.numbers.now _ _ c.link-item-2.result _ _ c.link-item-2.is c.in-len1-up.len_at_least c.in_ok-first-in-len1-up.ensures.code c.in_ok-others-in-len1-up.ensures.code)
+    (chain_first c.args.names.now.table.bound _ _ c.link-item-2.result _ _ c.link-item-2.is c.in-len1-up.len_at_least c.in_ok-first-in-len1-up.ensures.code c.in_ok-others-in-len1-up.ensures.code)
     c.operation.ensures

@@ -1,10 +1,13 @@
-use Rattle.std.proofs.Common.{ap, ◌∙◌, sym, arith}
+use Rattle.std.proofs.Common.{◌≡◌, ap, ◌∙◌, sym, subst, arith}
+use Rattle.std.specs.Prelude.{IfOk}
+use Rattle.mon_syntax.specs.declared.tree.MonExpr.{MonExpr}
+use Rattle.c_effects.specs.Named.{value_by}
 use Rattle.c_syntax.specs.Ctypes.{plain_type}
 use Rattle.c_syntax.specs.Expressions.{plain_expr}
 use Rattle.mon_syntax.specs.Trees.{plain_expr as plain_monitored}
-use Rattle.mon_syntax.specs.Trees.{If, plain_stmts}
+use Rattle.mon_syntax.specs.Trees.{If, MonExpression, plain_stmts}
 use Rattle.mon_syntax.proofs.Rows.{if_is}
-use Rattle.c_effects.specs.Expressions.{before, one, set}
+use Rattle.c_effects.specs.Expressions.{before, binary, one, set}
 use Rattle.c_effects.proofs.Trees.{on_ok, of_binary, of_both, of_either, of_choice}
 use Rattle.c_effects.proofs.Sizes.{binary_size, both_size, either_size, choice_size}
 use Rattle.c_effects.proofs.Trees.{on_ok_then}
@@ -34,35 +37,42 @@ expression-choice-requires t c =
     let measure = c.decreases in
     (omega (arith, smaller, measure), tt)
 
+pub operated-returns-clause-value : goal.operated-returns-clause-value
+operated-returns-clause-value t c =
+    let b = plain_expr c.args.operands.1.now in
+    let right = c.in_ok-right.ensures.value ∙ ap (λ n. value_by n b) c.in_ok-left.ensures.names in
+    subst (λ (x : MonExpression). IfOk c.binary.result (λ (m : MonExpr). plain_monitored m ≡ x))
+    (λ i. binary c.args.op (c.value_type.ensures i) (c.value_type-2.ensures i) (c.in_ok-left.ensures.value i) (right i)) c.binary.ensures
+
 pub operated-returns-clause-setup : goal.operated-returns-clause-setup
 operated-returns-clause-setup t c =
-    of_binary c.args.numbers.now c.args.types.now.items c.expression.new.types.items (plain_stmts c.args.to.now.items) (plain_stmts c.expression.new.to.items) (plain_stmts c.expression-2.new.to.items) c.args.operands.0.now.place
-    (plain_type c.args.operands.0.now.ctype) (plain_expr c.args.operands.0.now) (plain_expr c.args.operands.1.now)
-    c.binary.result c.args.op c.in_ok-left.ensures.setup c.in_ok-left.ensures.types c.in_ok-right.ensures.setup
+    of_binary c.args.names.now c.expression.new.names (plain_stmts c.args.to.now.items) (plain_stmts c.expression.new.to.items) (plain_stmts c.expression-2.new.to.items) c.args.operands.0.now.place
+    (plain_type c.args.operands.0.now.ctype) (plain_expr c.args.operands.0.now) (plain_expr c.args.operands.1.now) c.in_ok-left.ensures.names
+    c.binary.result c.args.op c.in_ok-left.ensures.setup c.in_ok-right.ensures.setup
 
 pub and-returns-clause-setup : goal.and-returns-clause-setup
 and-returns-clause-setup t c =
-    on_ok_then c.both.result (of_both c.args.numbers.now c.args.types.now.items c.condition_of.new.types.items (plain_stmts c.args.to.now.items) (plain_stmts c.condition_of.new.to.items) (plain_stmts c.both.new.to.items) c.args.a.now.place
-    (plain_type c.args.a.now.ctype) (plain_expr c.args.a.now) (plain_expr c.args.b.now)
-    (plain_monitored c.in_ok-test.test) c.in_ok-test.ensures.setup c.in_ok-test.ensures.value c.in_ok-test.ensures.types)
+    on_ok_then c.both.result (of_both c.args.names.now c.condition_of.new.names (plain_stmts c.args.to.now.items) (plain_stmts c.condition_of.new.to.items) (plain_stmts c.both.new.to.items) c.args.a.now.place
+    (plain_type c.args.a.now.ctype) (plain_expr c.args.a.now) (plain_expr c.args.b.now) c.in_ok-test.ensures.names
+    (plain_monitored c.in_ok-test.test) c.in_ok-test.ensures.setup c.in_ok-test.ensures.value)
     c.both.ensures.setup
 
 pub or-returns-clause-setup : goal.or-returns-clause-setup
 or-returns-clause-setup t c =
-    on_ok_then c.either.result (of_either c.args.numbers.now c.args.types.now.items c.condition_of.new.types.items (plain_stmts c.args.to.now.items) (plain_stmts c.condition_of.new.to.items) (plain_stmts c.either.new.to.items) c.args.a.now.place
-    (plain_type c.args.a.now.ctype) (plain_expr c.args.a.now) (plain_expr c.args.b.now)
-    (plain_monitored c.in_ok-test.test) c.in_ok-test.ensures.setup c.in_ok-test.ensures.value c.in_ok-test.ensures.types)
+    on_ok_then c.either.result (of_either c.args.names.now c.condition_of.new.names (plain_stmts c.args.to.now.items) (plain_stmts c.condition_of.new.to.items) (plain_stmts c.either.new.to.items) c.args.a.now.place
+    (plain_type c.args.a.now.ctype) (plain_expr c.args.a.now) (plain_expr c.args.b.now) c.in_ok-test.ensures.names
+    (plain_monitored c.in_ok-test.test) c.in_ok-test.ensures.setup c.in_ok-test.ensures.value)
     c.either.ensures.setup
 
 pub choice-returns-clause-setup : goal.choice-returns-clause-setup
 choice-returns-clause-setup t c =
     let first = c.in_ok-first in
     let second = c.in_ok-second in
-    on_ok_then c.choose.result (of_choice c.args.numbers.now c.args.types.now.items c.condition_of.new.types.items (plain_stmts c.args.to.now.items) (plain_stmts c.condition_of.new.to.items) (plain_stmts c.choose.new.to.items) c.args.a.now.place
-    (plain_type c.args.values.0.now.ctype) (plain_expr c.args.a.now) (plain_expr c.args.values.0.now)
-    (plain_monitored c.in_ok-test.test) c.in_ok-test.ensures.setup c.in_ok-test.ensures.value c.in_ok-test.ensures.types
-    (plain_expr c.args.values.1.now) c.apart.new.types.items c.apart-2.new.types.items (plain_stmts first.first.0.items) (plain_stmts second.second.0.items) (plain_monitored first.first.1) (plain_monitored second.second.1) c.in_ok-number.number
-    first.ensures.setup first.ensures.value first.ensures.types second.ensures.setup second.ensures.value second.ensures.types c.in_ok-number.ensures.number)
+    on_ok_then c.choose.result (of_choice c.args.names.now c.condition_of.new.names (plain_stmts c.args.to.now.items) (plain_stmts c.condition_of.new.to.items) (plain_stmts c.choose.new.to.items) c.args.a.now.place
+    (plain_type c.args.values.0.now.ctype) (plain_expr c.args.a.now) (plain_expr c.args.values.0.now) c.in_ok-test.ensures.names
+    (plain_monitored c.in_ok-test.test) c.in_ok-test.ensures.setup c.in_ok-test.ensures.value
+    (plain_expr c.args.values.1.now) c.apart.new.names c.apart-2.new.names (plain_stmts first.first.0.items) (plain_stmts second.second.0.items) (plain_monitored first.first.1) (plain_monitored second.second.1) c.in_ok-number.number
+    first.ensures.setup first.ensures.value first.ensures.names second.ensures.setup second.ensures.value second.ensures.names c.in_ok-number.ensures.number)
     c.choose.ensures.setup
 
 pub both-returns-clause-setup : goal.both-returns-clause-setup

@@ -7,7 +7,7 @@ use Rattle.instrument.proofs.program.add.Goals as goal
 
 pub returns-in-None-clause-code : goal.returns-in-None-clause-code
 returns-in-None-clause-code c =
-    sym (append-nil (map plain_monitored_func c.args.to.now.items)) ∙ ap (λ l. map plain_monitored_func c.args.to.now.items ++ l) (from_none (plain_program c.args.definitions.now.program.now) c.args.main (length c.args.to.now.items)
+    sym (append-nil (map plain_monitored_func c.args.to.now.items)) ∙ ap (λ l. map plain_monitored_func c.args.to.now.items ++ l) (from_none (plain_program c.args.names.now.program) c.args.main (length c.args.to.now.items)
     (plain_func c.args.f.now) (no_definition c.args.f.now c.in-None.is))
 
 pub returns-in-None-clause-numbers : goal.returns-in-None-clause-numbers

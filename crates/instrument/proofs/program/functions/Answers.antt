@@ -1,4 +1,4 @@
-use Rattle.std.proofs.Common.{length, map, refl, ap, subst, sym, ◌∙◌}
+use Rattle.std.proofs.Common.{length, map, refl, ap, subst, sym, ◌∙◌, ◌++◌, ◌∷◌, []}
 use Rattle.c_syntax.specs.Programs.{plain_func, plain_program}
 use Rattle.mon_syntax.specs.Trees.{plain_func as plain_monitored_func}
 use Rattle.instrument.specs.Limits.{FunctionsHaveNumbers}
@@ -9,9 +9,9 @@ use Rattle.instrument.proofs.program.functions.Goals as goal
 
 pub returns-clause-code : goal.returns-clause-code
 returns-clause-code c =
-    let p = plain_program c.args.definitions.now.program.now in
+    let p = plain_program c.args.p.now in
     let fs = c.deref-f-items.result.now in
-    complete (map plain_monitored_func c.funcs.functions.items) (none_left (λ l. functions_from p c.index_of_main-main.result (length c.funcs.functions.items) (map plain_func l)) fs c.funcs.f-index c.funcs-test.false) c.funcs.invariant.0
+    complete (map plain_monitored_func c.funcs.functions.items) (none_left (λ l. functions_from p c.index_of_main-main.result (length c.funcs.functions.items) (map plain_func l)) fs c.funcs.f-index c.funcs-test.false) c.funcs.invariant.code
     ∙ ap (λ l. functions_from p c.index_of_main-main.result 0 (map plain_func l)) c.deref-f-items.ensures.value
     ∙ ap (λ m. functions_from p m 0 p.funcs) (c.index_of_main-main.ensures ∙ (λ i. index_of_main (c.deref.ensures.value i) (map plain_func (c.deref-2.ensures.value i))))
 
@@ -19,12 +19,17 @@ pub returns-clause-numbers : goal.returns-clause-numbers
 returns-clause-numbers c =
     let fs = c.deref-f-items.result.now in
     subst (λ l. FunctionsHaveNumbers (map plain_func l)) c.deref-f-items.ensures.value
-    (c.funcs.invariant.1 (subst FunctionsHaveNumbers (sym (none_left (map plain_func) fs c.funcs.f-index c.funcs-test.false)) tt))
+    (c.funcs.invariant.numbers (subst FunctionsHaveNumbers (sym (none_left (map plain_func) fs c.funcs.f-index c.funcs-test.false)) tt))
 
 pub funcs-preserved : goal.funcs-preserved
 funcs-preserved c =
     let fs = c.deref-f-items.result.now in
-    let left = left_at (map plain_func) fs c.funcs.f-index _ _ c.funcs-test.true c.f-item.is refl in (
-      more_functions (plain_program c.args.definitions.now.program.now) c.index_of_main-main.result fs c.funcs.f-index c.f-item.result _ _ c.funcs-test.true c.f-item.is c.in_ok-add.ensures.code c.funcs.invariant.0,
-      λ rest. c.funcs.invariant.1 (subst FunctionsHaveNumbers (sym left) (c.in_ok-add.ensures.numbers, rest)),
-    )
+    let left = left_at (map plain_func) fs c.funcs.f-index _ _ c.funcs-test.true c.f-item.is refl in
+    let main = c.index_of_main-main.result in
+    let put = c.in_ok-add.ensures.code
+    ∙ ap (λ p. map plain_monitored_func c.funcs.functions.items ++ functions_from (plain_program p) main (length c.funcs.functions.items) (plain_func c.f-item.result ∷ [])) c.funcs.invariant.program in
+    record {
+      code = more_functions (plain_program c.args.p.now) main fs c.funcs.f-index c.f-item.result _ _ c.funcs-test.true c.f-item.is put c.funcs.invariant.code;
+      program = c.in_ok-add.ensures.program ∙ c.funcs.invariant.program;
+      numbers = λ rest. c.funcs.invariant.numbers (subst FunctionsHaveNumbers (sym left) (c.in_ok-add.ensures.numbers, rest));
+    }

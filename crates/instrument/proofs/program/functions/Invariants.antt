@@ -6,7 +6,9 @@ use Rattle.instrument.specs.Translation.{functions_from}
 use Rattle.instrument.proofs.program.functions.Given as goal
 
 abbrev pub invariant-funcs : goal.invariant-funcs
-invariant-funcs l =
-    (map plain_monitored_func l.functions.items ++ functions_from (plain_program l.definitions.program.now) l.main (length l.functions.items) (map plain_func (drop l.f-index l.f-items)) ≡ functions_from (plain_program l.definitions.program.now)
-    l.main 0 (map plain_func l.f-items))
-    × (FunctionsHaveNumbers (map plain_func (drop l.f-index l.f-items)) → FunctionsHaveNumbers (map plain_func l.f-items))
+invariant-funcs l = record {
+  code : map plain_monitored_func l.functions.items ++ functions_from (plain_program l.p) l.main (length l.functions.items) (map plain_func (drop l.f-index l.f-items)) ≡
+      functions_from (plain_program l.p) l.main 0 (map plain_func l.f-items);
+  program : l.names.program ≡ l.p;
+  numbers : FunctionsHaveNumbers (map plain_func (drop l.f-index l.f-items)) → FunctionsHaveNumbers (map plain_func l.f-items);
+}

@@ -1,23 +1,33 @@
-use Rattle.std.proofs.Common.{subst, sym, refl, ap, map, ◌∙◌}
+use Rattle.std.proofs.Common.{◌+◌, drop, subst, sym, refl, ap, map}
 use Rattle.c_syntax.specs.Annotations.{plain_annot}
 use Rattle.mon_syntax.specs.Trees.{plain_stmts}
 use Rattle.c_effects.specs.Letters.{AreNumbered}
-use Rattle.c_effects.specs.Expressions.{assertions, before, one}
-use Rattle.c_effects.proofs.Sequences.{left_at, none_left, more, all_there}
+use Rattle.c_effects.specs.Expressions.{assertion_temporaries, assertions_temporaries}
+use Rattle.c_effects.specs.Named.{assertion_by, assertions_by, with_registers}
+use Rattle.c_effects.proofs.Sequences.{left_at, none_left, all_there, more_behind, registers_complete, registers_grown}
 use Rattle.instrument.proofs.statement.assertions.Goals as goal
 
 pub returns-clause-code : goal.returns-clause-code
 returns-clause-code c =
-    all_there (none_left (λ l. assertions c.args.numbers.now (map plain_annot l)) c.args.annots.now c.annots.annot-index c.annots-test.false) c.annots.invariant.0
+    all_there (none_left (λ l. assertions_by c.annots.names (map plain_annot l)) c.args.annots.now c.annots.annot-index c.annots-test.false) c.annots.invariant.code
+
+pub returns-clause-names : goal.returns-clause-names
+returns-clause-names c =
+    registers_complete c.annots.names (none_left (λ l. assertions_temporaries (map plain_annot l)) c.args.annots.now c.annots.annot-index c.annots-test.false) c.annots.invariant.names
 
 pub returns-clause-numbered : goal.returns-clause-numbered
 returns-clause-numbered c =
-    c.annots.invariant.1 (subst AreNumbered (sym (none_left (map plain_annot) c.args.annots.now c.annots.annot-index c.annots-test.false)) tt)
+    c.annots.invariant.numbered (subst AreNumbered (sym (none_left (map plain_annot) c.args.annots.now c.annots.annot-index c.annots-test.false)) tt)
 
 pub annots-preserved : goal.annots-preserved
-annots-preserved c = (
-  more _ _ _ (left_at (λ l. assertions c.args.numbers.now (map plain_annot l)) c.args.annots.now c.annots.annot-index _ _ c.annots-test.true c.annot-item.is refl)
-      (c.in_ok-then.ensures ∙ ap (λ a. before (plain_stmts c.annots.to.items) (one a)) c.in_ok-assertion.ensures.code)
-      c.annots.invariant.0,
-  λ rest. c.annots.invariant.1 (subst AreNumbered (sym (left_at (map plain_annot) c.args.annots.now c.annots.annot-index _ _ c.annots-test.true c.annot-item.is refl)) (c.in_ok-assertion.ensures.numbered, rest)),
-)
+annots-preserved c =
+    let n = c.annots.names in
+    let a = plain_annot c.annot-item.result in
+    let rest = map plain_annot (drop (c.annots.annot-index + 1) c.args.annots.now) in
+    let left = left_at (map plain_annot) c.args.annots.now c.annots.annot-index _ _ c.annots-test.true c.annot-item.is refl in
+    record {
+      code = more_behind (plain_stmts c.annots.to.items) (assertion_by n a) (with_registers (assertion_temporaries a) n) (λ m. assertions_by m rest) (ap (assertions_by n) left) c.in_ok-assertion.ensures.code
+          c.in_ok-assertion.ensures.names c.annots.invariant.code;
+      names = registers_grown n (assertion_temporaries a) (assertions_temporaries rest) (ap assertions_temporaries left) c.in_ok-assertion.ensures.names c.annots.invariant.names;
+      numbered = λ rest. c.annots.invariant.numbered (subst AreNumbered (sym left) (c.in_ok-assertion.ensures.numbered, rest));
+    }

@@ -2,14 +2,14 @@ use Rattle.std.proofs.Common.{map, refl, sym, ap, ◌++◌, ◌+◌, drop, ◌�
 use Rattle.mon_syntax.specs.Trees.{plain_stmt}
 use Rattle.track_scopes.specs.Blocks.{death}
 use Rattle.track_scopes.specs.Lives.{Leaves}
-use Rattle.track_scopes.proofs.Sequences.{deaths_are, pushed, all_pushed}
+use Rattle.track_scopes.proofs.Sequences.{deaths_are, death_pushed, all_pushed}
 use Rattle.track_scopes.proofs.Deaths.{deaths_leave}
 use Rattle.track_scopes.proofs.scope.leave.Goals as goal
 
 pub returns-clause-deaths : goal.returns-clause-deaths
 returns-clause-deaths c =
     deaths_are c.each.code.items c.args.blocks.now
-    (all_pushed death c.each.code.items c.args.blocks.now c.each.block-index _ c.each-test.false c.each.invariant)
+    (all_pushed c.each.code.items c.args.blocks.now c.each.block-index _ c.each-test.false c.each.invariant)
 
 pub returns-clause-leaves : goal.returns-clause-leaves
 returns-clause-leaves c =
@@ -18,4 +18,4 @@ returns-clause-leaves c =
 pub each-preserved : goal.each-preserved
 each-preserved c =
     ap (λ l. map plain_stmt l ++ map death (drop (c.each.block-index + 1) c.args.blocks.now)) c.in_ok-push.ensures.items
-    ∙ pushed death c.each.code.items _ c.args.blocks.now c.each.block-index 0 _ _ c.each-test.true refl c.in_ok-death.ensures c.each.invariant
+    ∙ death_pushed c.each.code.items _ c.args.blocks.now c.each.block-index 0 _ _ c.each-test.true refl c.in_ok-death.ensures c.each.invariant
