@@ -575,7 +575,8 @@ module _ (T : Tables) (names : List (List ℕ)) (functions : List Signature) (ca
   gives_initialise_all : {L : Leave → Type 0} (s : Scopes) → Sees names functions s → (ds : List Declaration) → AreDeclared s ds → Gives Anything L (initialise_all T ds call)
   gives_initialise_all s see [] w = gives_give tt tt
   gives_initialise_all s see (d ∷ ds) w =
-      gives_then _ _ (gives_initialise s see d d.init w.0.ctype w.0.init) (gives_initialise_all (with_object s d) (sees_objects names functions (d ∷ []) s see) ds w.1)
+      let own = sees_objects names functions (d ∷ []) s see in
+      gives_then _ _ (gives_initialise (with_object s d) own d d.init w.0.ctype w.0.init) (gives_initialise_all (with_object s d) own ds w.1)
 
   gives_condition : {L : Leave → Type 0} (s : Scopes) → Sees names functions s → (e : Option Expression) → WhereAny (IsCondition s) e → Gives Anything L (condition_with T e call)
   gives_condition s see None w = gives_give (Integer (pos 1)) tt

@@ -16,8 +16,9 @@ use Rattle.c_syntax.specs.Programs.{TranslationUnit}
 use Rattle.c_model.specs.State.{Exits, Broken, Undefined, Spent}
 use Rattle.c_model.specs.Meaning.{run}
 use Rattle.c_model.specs.Reports.{report}
-use Rattle.c_model.proofs.WorkedTrees.{place, literal, letter, typed_variable, variable, binary, assignment, compound_assignment, bump, cast, putchar_call, object_of, int_variable, items_of, literal_term, variable_term, binary_term, assertion}
-use Rattle.c_model.proofs.WorkedTrees.{main_alone, no_input}
+use Rattle.c_model.proofs.WorkedTrees.{place, literal, letter, typed_variable, variable, binary, assignment, compound_assignment, bump, cast, putchar_call, object_of, int_variable, items_of, literal_term, variable_term, binary_term}
+use Rattle.c_model.proofs.WorkedTrees.{assertion, main_alone, no_input}
+use Rattle.c_model.proofs.WorkedTypings.{as_typed, reads_itself, measures_itself}
 
 -- ---- programs
 
@@ -205,6 +206,13 @@ run-leaves_loops-spent = refl
 
 run-computes_in_types : run computes_in_types no_input 10000000 ≡ record { final = Exits (pos 9); output = []; left = 10000000 }
 run-computes_in_types = refl
+
+-- a variable is unwritten in its own initialiser
+run-reads_itself : run (reads_itself as_typed) no_input 10000000 ≡ record { final = Undefined (place 4 13 46); output = []; left = 10000000 }
+run-reads_itself = refl
+
+run-measures_itself : run (measures_itself as_typed cast) no_input 10000000 ≡ record { final = Exits (pos 0); output = 1 ∷ []; left = 10000000 }
+run-measures_itself = refl
 
 -- ---- reports
 

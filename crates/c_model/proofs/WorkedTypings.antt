@@ -1,23 +1,31 @@
 -- What typing makes of small files with functions and inner declarations, by computation: the tree, or the fault that refuses.
 use Rattle.std.proofs.Common.{◌≡◌, ℕ, [], ◌∷◌, Some, None, codes, refl}
+use Rattle.c_syntax.specs.declared.types.CInt.{CInt}
+use Rattle.c_syntax.specs.declared.types.CInt.TheVariants.{I8, I32, I64, U64}
 use Rattle.c_syntax.specs.declared.expression.BinOp.TheVariants.{Add, Lt}
 use Rattle.c_syntax.specs.declared.expression.BumpOp.TheVariants.{PostUp}
 use Rattle.c_syntax.specs.declared.annotation.Relation.TheVariants as relation
-use Rattle.c_syntax.specs.Ctypes.{Void, int_type}
+use Rattle.c_syntax.specs.Ctypes.{Void, Int, int_type}
+use Rattle.c_syntax.specs.Expressions.{Expression, Node, SizeOfExpr}
 use Rattle.c_syntax.specs.Annotations.{LogicTerm, Chain, NoLink, Linked}
 use Rattle.c_syntax.specs.Statements.{Eval, Block, For, Return, First, Declare, Run, Asserts}
 use Rattle.c_syntax.specs.Programs.{TranslationUnit}
 use Rattle.c_model.specs.Library.{library_constant, is_library_name}
 use Rattle.c_model.specs.Checked.{Good, refusing}
 use Rattle.c_model.specs.ProgramTyping.{typed_unit, main_fault, noted_unit}
-use Rattle.c_model.proofs.WorkedTrees.{place, literal, variable, binary, bump, call, int_variable, parameter, int_parameter, unnamed_parameter, items_of, literal_term, read_term, variable_term, assertion, definition, prototype, unit_of}
+use Rattle.c_model.proofs.WorkedTrees.{place, literal, typed_variable, variable, binary, bump, cast, call, object_of, int_variable, parameter, int_parameter, unnamed_parameter, items_of}
+use Rattle.c_model.proofs.WorkedTrees.{literal_term, read_term, variable_term, assertion, definition, prototype, unit_of}
 
 -- as it is read a use has the number 0, and after typing that of its declaration
 abbrev as_read : ℕ → ℕ
 as_read n = 0
 
-abbrev as_typed : ℕ → ℕ
+abbrev pub as_typed : ℕ → ℕ
 as_typed n = n
+
+-- as it is read no operand is converted
+abbrev unconverted : CInt → Expression → Expression
+unconverted k e = e
 
 -- ---- accepted files, by the numbers of uses
 
@@ -90,6 +98,48 @@ hides_a_parameter number = unit_of (codes "f" ∷ codes "x" ∷ codes "i" ∷ co
     []) ∷
     definition int_type (place 11 5 131) 4 [] (place 11 16 142) (place 11 28 154) (
     Run (Return (place 11 18 144) (Some (literal (place 11 25 151) 0))) ∷
+    []) ∷
+    [])
+
+-- a name in its own initialiser is that of the variable that it initialises (C99 6.2.1 p7)
+--     int main(void) {
+--       int x = 1;
+--       {
+--         int x = x + 1;
+--         putchar(x);
+--       }
+--       return x;
+--     }
+abbrev pub reads_itself : (ℕ → ℕ) → TranslationUnit
+reads_itself number = unit_of (codes "main" ∷ codes "x" ∷ codes "putchar" ∷ []) (
+    definition int_type (place 1 5 4) 0 [] (place 1 16 15) (place 8 1 85) (
+    Declare (int_variable (place 2 7 23) 1 (place 2 9 25) (literal (place 2 11 27) 1) ∷ []) ∷
+    Run (Block (place 3 3 32) (items_of (
+    Declare (int_variable (place 4 9 42) 1 (place 4 11 44) (binary (place 4 15 48) Add (variable (place 4 13 46) 1 (number 42)) (literal (place 4 17 50) 1)) ∷ []) ∷
+    Run (Eval (place 5 5 57) (call int_type (place 5 12 64) 2 (number 4294967295) (variable (place 5 13 65) 1 (number 42) ∷ []))) ∷
+    []))) ∷
+    Run (Return (place 7 3 75) (Some (variable (place 7 10 82) 1 (number 23)))) ∷
+    []) ∷
+    [])
+
+-- so is its type
+--     int main(void) {
+--       long x = 1;
+--       {
+--         char x = sizeof x;
+--         putchar(x);
+--       }
+--       return 0;
+--     }
+abbrev pub measures_itself : (ℕ → ℕ) → (CInt → Expression → Expression) → TranslationUnit
+measures_itself number converted = unit_of (codes "main" ∷ codes "x" ∷ codes "putchar" ∷ []) (
+    definition int_type (place 1 5 4) 0 [] (place 1 16 15) (place 8 1 90) (
+    Declare (object_of (Int I64) (place 2 8 24) 1 (place 2 10 26) (converted I64 (literal (place 2 12 28) 1)) ∷ []) ∷
+    Run (Block (place 3 3 33) (items_of (
+    Declare (object_of (Int I8) (place 4 10 44) 1 (place 4 12 46) (converted I8 (Node (place 4 14 48) (Int U64) (SizeOfExpr (typed_variable (place 4 21 55) I8 1 (number 44))))) ∷ []) ∷
+    Run (Eval (place 5 5 62) (call int_type (place 5 12 69) 2 (number 4294967295) (converted I32 (typed_variable (place 5 13 70) I8 1 (number 44)) ∷ []))) ∷
+    []))) ∷
+    Run (Return (place 7 3 80) (Some (literal (place 7 10 87) 0))) ∷
     []) ∷
     [])
 
@@ -277,6 +327,38 @@ uses_behind_a_block = unit_of (codes "main" ∷ codes "a" ∷ []) (
     []) ∷
     [])
 
+-- a function's name in the initialiser of a variable of that name
+--     int f(void) { return 0; }
+--     int main(void) {
+--       int f = f();
+--       return f;
+--     }
+abbrev calls_a_variable : TranslationUnit
+calls_a_variable = unit_of (codes "f" ∷ codes "main" ∷ []) (
+    definition int_type (place 1 5 4) 0 [] (place 1 13 12) (place 1 25 24) (
+    Run (Return (place 1 15 14) (Some (literal (place 1 22 21) 0))) ∷
+    []) ∷
+    definition int_type (place 2 5 30) 1 [] (place 2 16 41) (place 5 1 70) (
+    Declare (int_variable (place 3 7 49) 0 (place 3 9 51) (call int_type (place 3 12 54) 0 0 []) ∷ []) ∷
+    Run (Return (place 4 3 60) (Some (variable (place 4 10 67) 0 0))) ∷
+    []) ∷
+    [])
+
+-- a second declaration that names itself, which is refused at its name
+--     int main(void) {
+--       int a = 1;
+--       int a = a;
+--       return a;
+--     }
+abbrev declares_itself_again : TranslationUnit
+declares_itself_again = unit_of (codes "main" ∷ codes "a" ∷ []) (
+    definition int_type (place 1 5 4) 0 [] (place 1 16 15) (place 5 1 55) (
+    Declare (int_variable (place 2 7 23) 1 (place 2 9 25) (literal (place 2 11 27) 1) ∷ []) ∷
+    Declare (int_variable (place 3 7 36) 1 (place 3 9 38) (variable (place 3 11 40) 1 0) ∷ []) ∷
+    Run (Return (place 4 3 45) (Some (variable (place 4 10 52) 1 0))) ∷
+    []) ∷
+    [])
+
 -- a function with a name of the library
 --     int getchar(void) { return 0; }
 --     int main(void) { return 0; }
@@ -377,6 +459,14 @@ typed_unit-hides_a_parameter : typed_unit (hides_a_parameter as_read) ≡ Good (
 unfolding library_constant is_library_name
 typed_unit-hides_a_parameter = refl
 
+typed_unit-reads_itself : typed_unit (reads_itself as_read) ≡ Good (reads_itself as_typed)
+unfolding library_constant is_library_name
+typed_unit-reads_itself = refl
+
+typed_unit-measures_itself : typed_unit (measures_itself as_read unconverted) ≡ Good (measures_itself as_typed cast)
+unfolding library_constant is_library_name
+typed_unit-measures_itself = refl
+
 typed_unit-defined_twice : refusing (typed_unit defined_twice) ≡ Some (record { code = 5; place = place 2 5 30 })
 unfolding library_constant is_library_name
 typed_unit-defined_twice = refl
@@ -428,6 +518,14 @@ typed_unit-declares_twice = refl
 typed_unit-uses_behind_a_block : refusing (typed_unit uses_behind_a_block) ≡ Some (record { code = 5; place = place 5 10 49 })
 unfolding library_constant is_library_name
 typed_unit-uses_behind_a_block = refl
+
+typed_unit-calls_a_variable : refusing (typed_unit calls_a_variable) ≡ Some (record { code = 6; place = place 3 12 54 })
+unfolding library_constant is_library_name
+typed_unit-calls_a_variable = refl
+
+typed_unit-declares_itself_again : refusing (typed_unit declares_itself_again) ≡ Some (record { code = 5; place = place 3 7 36 })
+unfolding library_constant is_library_name
+typed_unit-declares_itself_again = refl
 
 typed_unit-names_the_library : refusing (typed_unit names_the_library) ≡ Some (record { code = 5; place = place 1 5 4 })
 unfolding library_constant is_library_name

@@ -329,7 +329,7 @@ abbrev pub typed_maybe : (Expression → Checked Expression) → Option Expressi
 typed_maybe check None = Good None
 typed_maybe check (Some e) = one_part (check e) (λ e. Good (Some e))
 
--- what an object is initialised with, in its type (C99 6.7.8 p11)
+-- what an object is initialised with, where it is, in its type (C99 6.7.8 p11)
 abbrev pub typed_initialiser : Scopes → PlainType → Option (Place × Initialiser) → Checked (Option (Place × Initialiser))
 typed_initialiser s t None = Good None
 typed_initialiser s t (Some (at, One e)) =
@@ -349,9 +349,9 @@ abbrev pub with_objects : Scopes → List Declaration → Scopes
 with_objects s [] = s
 with_objects s (d ∷ ds) = with_objects (with_object s d) ds
 
--- a declaration: its name, and what it is initialised with, where its name isn't in sight yet (this profile)
+-- a declaration: its name, and what it is initialised with, where its name is in sight, as from the end of its declarator on (C99 6.2.1 p7)
 abbrev pub typed_declaration : Scopes → Declaration → Checked Declaration
-typed_declaration s d = both_parts (declarable s d) (typed_initialiser s d.ctype d.init) (λ d i. Good (record d { init = i }))
+typed_declaration s d = both_parts (declarable s d) (typed_initialiser (with_object s d) d.ctype d.init) (λ d i. Good (record d { init = i }))
 
 abbrev pub typed_declarations : Scopes → List Declaration → Checked (List Declaration)
 typed_declarations s [] = Good []

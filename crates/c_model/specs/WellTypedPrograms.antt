@@ -25,17 +25,17 @@ abbrev pub WhereAny : {A : Type 0} → (A → Type 0) → Option A → Type 0
 WhereAny P None = Unit {0}
 WhereAny P (Some x) = P x
 
--- an initialiser of the type (C99 6.7.8 p11)
+-- an initialiser of the type, where there is one (C99 6.7.8 p11)
 abbrev pub Initialises : Scopes → PlainType → Option (Place × Initialiser) → Type 0
 Initialises s t None = Unit {0}
 Initialises s t (Some (at, One e)) = WellTyped s e × (type_of e ≡ t)
 Initialises s t (Some (at, Many brace is)) = ⊥
 
--- an object whose name is new in its scope (C99 6.7 p3)
+-- an object whose name is new in its scope (C99 6.7 p3), and in sight in its own initialiser (C99 6.2.1 p7)
 pub record IsDeclared (s : Scopes) (d : Declaration) : Type 0 where
   pub new : object_named d.name (drop s.innermost s.objects) ≡ None
   pub ctype : is_object_type d.ctype ≡ true
-  pub init : Initialises s d.ctype d.init
+  pub init : Initialises (with_object s d) d.ctype d.init
 
 abbrev pub AreDeclared : Scopes → List Declaration → Type 0
 AreDeclared s [] = Unit {0}

@@ -68,9 +68,9 @@ declarable_is s d = by (not (is_library_name (name_at s.names d.name)) && not (i
 
 declaration_kept : (s : Scopes) (d : Declaration) → read.IsInitialiser d.init → Holds (KeptDeclaration d) (typed_declaration s d)
 declaration_kept s d h =
-    holds_both (λ x. x ≡ d) (IsInitialiser most_typed) (KeptDeclaration d) (declarable s d) (typed_initialiser s d.ctype d.init) _
+    holds_both (λ x. x ≡ d) (IsInitialiser most_typed) (KeptDeclaration d) (declarable s d) (typed_initialiser (with_object s d) d.ctype d.init) _
     (declarable_is s d)
-    (initialiser_kept s d.ctype d.init h)
+    (initialiser_kept (with_object s d) d.ctype d.init h)
     (λ x i p q. record { same = ap bare p; init = q })
 
 declarations_kept : (s : Scopes) (ds : List Declaration) → read.AreInitialised ds → Holds (KeptDeclarations ds) (typed_declarations s ds)

@@ -19,11 +19,14 @@ with_objects_snoc s [] d = refl
 with_objects_snoc s (x ∷ xs) d = with_objects_snoc (with_object s x) xs d
 
 -- the parts of a declaration, which are typed in their places
-pub declaration_in_place : (s : Scopes) (d : Decl) (i : Option (Place × Init)) (q r z : Result (Unit {0}) TypeFault) → Answers (λ (u : Unit {0}). plain_decl d) (declarable s (plain_decl d)) q
-    → Answers (λ (u : Unit {0}). plain_initialiser i) (typed_initialiser s (plain_type d.ctype) (plain_initialiser d.init)) r → z ≡ both q r → Answers (λ (u : Unit {0}). plain_decl (record d { init = i })) (typed_declaration s (plain_decl d)) z
-declaration_in_place s d i q r z ha hb e =
+pub declaration_in_place : (s t : Scopes) (d : Decl) (i : Option (Place × Init)) (q r z : Result (Unit {0}) TypeFault) → Answers (λ (u : Unit {0}). plain_decl d) (declarable s (plain_decl d)) q
+    → t ≡ with_object s (plain_decl d) → Answers (λ (u : Unit {0}). plain_initialiser i) (typed_initialiser t (plain_type d.ctype) (plain_initialiser d.init)) r → z ≡ both q r
+    → Answers (λ (u : Unit {0}). plain_decl (record d { init = i })) (typed_declaration s (plain_decl d)) z
+declaration_in_place s t d i q r z ha sight hb e =
+    let own = with_object s (plain_decl d) in
     both_made (λ (x : Declaration) y. record x { init = y })
-    (λ (u : Unit {0}). plain_decl d) (λ (u : Unit {0}). plain_initialiser i) (declarable s (plain_decl d)) (typed_initialiser s (plain_type d.ctype) (plain_initialiser d.init)) q r z ha hb (sym e)
+    (λ (u : Unit {0}). plain_decl d) (λ (u : Unit {0}). plain_initialiser i) (declarable s (plain_decl d)) (typed_initialiser own (plain_type d.ctype) (plain_initialiser d.init)) q r z ha
+    (subst (λ u. Answers (λ (v : Unit {0}). plain_initialiser i) (typed_initialiser u (plain_type d.ctype) (plain_initialiser d.init)) r) sight hb) (sym e)
 
 -- a declaration that is refused
 pub declarations_refused : {S T : Type 0} (p : T → Declaration) (q : S → List Declaration) (s t : Scopes) (done : List Decl) (all : List Declaration) (list : List Decl) (d : Decl) (rest : List Decl) (h : TypeFault)

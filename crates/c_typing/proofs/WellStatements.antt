@@ -48,7 +48,8 @@ declarable_well s d =
 
 declaration_well : (s : Scopes) (d : Declaration) → Gives (IsDeclared s) (typed_declaration s d)
 declaration_well s d =
-    gives_both (IsNew s d) (Initialises s d.ctype) (IsDeclared s) (declarable s d) (typed_initialiser s d.ctype d.init) (λ d i. Good (record d { init = i })) (declarable_well s d) (initialiser_well s d.ctype d.init)
+    gives_both (IsNew s d) (Initialises (with_object s d) d.ctype) (IsDeclared s) (declarable s d) (typed_initialiser (with_object s d) d.ctype d.init) (λ d i. Good (record d { init = i })) (declarable_well s d)
+    (initialiser_well (with_object s d) d.ctype d.init)
     (λ e i n w. subst (λ x. IsDeclared s (record x { init = i })) (sym n.same) (record { new = n.new; ctype = n.ctype; init = w }))
 
 declarations_well : (s : Scopes) (ds : List Declaration) → Gives (AreDeclared s) (typed_declarations s ds)

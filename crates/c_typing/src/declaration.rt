@@ -77,15 +77,6 @@ pub fn declarable(scopes: &Scopes, d: &Decl) -> Result<(), TypeFault>
     }
 }
 
-/// A declaration: its name, and what it is initialised with, where its name isn't in sight yet (this profile).
-fn type_declaration(alloc: Global, scopes: &Scopes, d: &mut Decl) -> Result<(), TypeFault>
-    ensures { Answers (λ _. plain_decl d.new) (typed_declaration (plain_scopes scopes.now) (plain_decl d.old)) result }
-{
-    let checked = declarable(scopes, d);
-    let init = type_initialiser(alloc, scopes, &d.ctype, &mut d.init);
-    both(checked, init)
-}
-
 /// Brings a declared object in sight.
 pub fn declare(alloc: Global, scopes: &mut Scopes, d: &Decl) -> Result<(), AllocError>
     ensures seen { OnOk result (plain_scopes scopes.new ≡ with_object (plain_scopes scopes.old) (plain_decl d.now)) }
@@ -100,7 +91,19 @@ pub fn declare(alloc: Global, scopes: &mut Scopes, d: &Decl) -> Result<(), Alloc
     Ok(())
 }
 
-/// Types declarations, each in sight of those after it.
+/// A declaration: its name, and what it is initialised with, where its name is in sight (C99 6.2.1).
+fn type_declaration(alloc: Global, scopes: &mut Scopes, d: &mut Decl) -> Result<(), TypeFault>
+    ensures typed { Answers (λ _. plain_decl d.new) (typed_declaration (plain_scopes scopes.old) (plain_decl d.old)) result }
+    ensures behind { OnOk result (plain_scopes scopes.new ≡ with_object (plain_scopes scopes.old) (plain_decl d.new)) }
+    ensures file { at_file (plain_scopes scopes.new) ≡ at_file (plain_scopes scopes.old) }
+{
+    let checked = declarable(scopes, d);
+    declare(alloc, scopes, d)?;
+    let init = type_initialiser(alloc, scopes, &d.ctype, &mut d.init);
+    both(checked, init)
+}
+
+/// Types declarations, each in sight from its own initialiser on.
 pub fn type_declarations(
     alloc: Global,
     scopes: &mut Scopes,
@@ -111,9 +114,7 @@ pub fn type_declarations(
     ensures file { at_file (plain_scopes scopes.new) ≡ at_file (plain_scopes scopes.old) }
 {
     for i in 0..list.len() {
-        let d = &mut list[i];
-        type_declaration(alloc, scopes, d)?;
-        declare(alloc, scopes, d)?;
+        type_declaration(alloc, scopes, &mut list[i])?;
     }
     Ok(())
 }

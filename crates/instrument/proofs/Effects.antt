@@ -364,7 +364,7 @@ module _ (w : Setting) (n : ℕ) (h : Here) (low : ℕ) (bound : Bindings) where
       let others = translation.initialise_all w.unit bound (rs ++ here) ds in
       subst (λ q. Follows w h low regs Next s (initialise_all (tables_of w.unit) (d ∷ ds) w.call s) q) (sym (before_is w.globals first others w.calls n regs t))
       (follows_then w h low regs Next s (initialise (tables_of w.unit) d d.init w.call s) (runs w n t first regs) (initialise_all (tables_of w.unit) ds w.call) (λ r u. runs w n u others r)
-      (initial_follows w n h scopes scene low bound s t le rs behind regs m b most d d.init (object_int d.ctype q.0.ctype) f.0 q.0.init l.0 (omega (arith, more, room, longer (rs ++ here) rest)))
+      (initial_follows w n h (with_object scopes d) (scene_with w n scopes d q.0.ctype scene) low bound s t le rs behind regs m b most d d.init (object_int d.ctype q.0.ctype) f.0 q.0.init l.0 (omega (arith, more, room, longer (rs ++ here) rest)))
       (λ to after u o same la be.
       initials_follow most ds (with_object scopes d) (scene_with w n scopes d q.0.ctype scene) f.1 q.1 l.1 (rs ++ here) (omega (arith, behind, longer rs here)) (omega (arith, more, room)) after to u (omega (arith, le, la.spent))
       (standing_later w h low bound regs after s to o same la m) be))

@@ -122,16 +122,18 @@ module _ (p : TranslationUnit) (gs : List Signature) (ts : Types) (result : Plai
   test_if_any_at s r v ls loops None jump f q l b = tt
   test_if_any_at s r v ls loops (Some e) jump f q l b = test_at s r v ls loops e jump f q l b
 
-  -- declarations, of which each sees those in front
+  -- declarations, of which each sees itself and those in front
   initials_valid : (ds : List Declaration) (s : Scopes) (bound : Bindings) (v : Sees ts bound names functions s) (ls : Labels) (rs : Types) → HavePointers ts bound ds → AreInitialised 800 ds → AreDeclared s ds → InitialsHaveLetters ds
       → Begins (rs ++ declaration_temporaries ds) ts → Are ls (initialise_all p bound rs ds)
   initials_valid [] s bound v ls rs h f q l b = tt
   initials_valid (d ∷ ds) s bound v ls rs h f q l b =
       let here = initial_temporaries d.init in
       let int : IsObject d = (declared_objects s (d ∷ ds) q).0 in
+      let inside = sees_one ts names functions bound s d int h.0 v in
       and_then ls (initialise p bound rs (number_of d) d.ctype d.init) (initialise_all p bound (rs ++ here) ds)
-      (initialise_valid p gs ts (result_of result) bound s v.sees (calls s v.names_are v.functions_are) ls (number_of d) d.ctype (int_of d.ctype) d.init rs int h.0 f.0 q.0.init l.0 (begins_left rs here (declaration_temporaries ds) ts b))
-      (initials_valid ds (with_object s d) bound (sees_one ts names functions bound s d int h.0 v) ls (rs ++ here) h.1 f.1 q.1 l.1 (begins_right rs here (declaration_temporaries ds) ts b))
+      (initialise_valid p gs ts (result_of result) bound (with_object s d) inside.sees (calls (with_object s d) inside.names_are inside.functions_are) ls (number_of d) d.ctype (int_of d.ctype) d.init rs int h.0 f.0 q.0.init l.0
+      (begins_left rs here (declaration_temporaries ds) ts b))
+      (initials_valid ds (with_object s d) bound inside ls (rs ++ here) h.1 f.1 q.1 l.1 (begins_right rs here (declaration_temporaries ds) ts b))
 
   -- ---- loops
 

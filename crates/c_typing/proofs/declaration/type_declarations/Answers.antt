@@ -9,21 +9,22 @@ pub loop-i-preserved : goal.loop-i-preserved
 loop-i-preserved c =
     let s = plain_scopes c.args.scopes.now in
     let t = plain_scopes c.loop-i.scopes in
-    let t' = plain_scopes c.declare.new.scopes in
+    let t' = plain_scopes c.type_declaration.new.scopes in
     let old = c.args.list.now.items in
     let cur = c.loop-i.list.items in
     let i = c.loop-i.i in
-    let x = c.index_mut-d.result.now in
+    let x = c.index_mut.result.now in
     let y = c.type_declaration.new.d in
     let lt : i < length cur = search (rules, arith) in
     let next = done cur i y lt in
-    let rest = left old cur i x lt c.loop-i.invariant.unvisited c.index_mut-d.ensures.value in
+    let rest = left old cur i x lt c.loop-i.invariant.unvisited c.index_mut.ensures.value in
     record {
       unvisited = unvisited_step old cur i y c.loop-i.invariant.unvisited;
       within = within_step cur i y lt;
-      typed = declarations_more s t t' (take i cur) (take (i + 1) (slice_set cur i y)) y c.in_ok-declare.ensures.seen next (map plain_decl old) (drop i old) x (drop (i + 1) old) c.loop-i.invariant.typed rest c.in_ok-type_declaration.ensures;
-      sight = objects_more s t t' (take i cur) (take (i + 1) (slice_set cur i y)) y c.in_ok-declare.ensures.seen next c.loop-i.invariant.sight;
-      file = c.declare.ensures.file ∙ c.loop-i.invariant.file;
+      typed = declarations_more s t t' (take i cur) (take (i + 1) (slice_set cur i y)) y c.in_ok-type_declaration.ensures.behind next (map plain_decl old) (drop i old) x (drop (i + 1) old)
+          c.loop-i.invariant.typed rest c.in_ok-type_declaration.ensures.typed;
+      sight = objects_more s t t' (take i cur) (take (i + 1) (slice_set cur i y)) y c.in_ok-type_declaration.ensures.behind next c.loop-i.invariant.sight;
+      file = c.type_declaration.ensures.file ∙ c.loop-i.invariant.file;
     }
 
 pub returns-in_err-type_declaration-clause-typed : goal.returns-in_err-type_declaration-clause-typed
@@ -32,8 +33,8 @@ returns-in_err-type_declaration-clause-typed c =
     let old = c.args.list.now.items in
     let cur = c.loop-i.list.items in
     let i = c.loop-i.i in
-    let x = c.index_mut-d.result.now in
+    let x = c.index_mut.result.now in
     let lt : i < length cur = search (rules, arith) in
     let whole = declarations_refused (λ (u : Unit {0}). plain_decl c.type_declaration.new.d) (λ (u : Unit {0}). map plain_decl old) (plain_scopes c.args.scopes.now) (plain_scopes c.loop-i.scopes) (take i cur) (map plain_decl old) (drop i old) x
-    (drop (i + 1) old) c.in_err-type_declaration.field-0.0 c.loop-i.invariant.typed (left old cur i x lt c.loop-i.invariant.unvisited c.index_mut-d.ensures.value) c.in_err-type_declaration.ensures in
+    (drop (i + 1) old) c.in_err-type_declaration.field-0.0 c.loop-i.invariant.typed (left old cur i x lt c.loop-i.invariant.unvisited c.index_mut.ensures.value) c.in_err-type_declaration.ensures.typed in
     search (rules, e, whole)
