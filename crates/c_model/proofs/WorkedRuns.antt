@@ -16,9 +16,9 @@ use Rattle.c_syntax.specs.Programs.{TranslationUnit}
 use Rattle.c_model.specs.State.{Exits, Broken, Undefined, Spent}
 use Rattle.c_model.specs.Meaning.{run}
 use Rattle.c_model.specs.Reports.{report}
-use Rattle.c_model.proofs.WorkedTrees.{place, literal, letter, typed_variable, variable, binary, assignment, compound_assignment, bump, cast, putchar_call, object_of, int_variable, items_of, literal_term, variable_term, binary_term}
+use Rattle.c_model.proofs.WorkedTrees.{place, literal, letter, typed_variable, variable, binary, assignment, compound_assignment, bump, cast, putchar_call, object_of, int_variable, unwritten_int, items_of, literal_term, variable_term, binary_term}
 use Rattle.c_model.proofs.WorkedTrees.{assertion, main_alone, no_input}
-use Rattle.c_model.proofs.WorkedTypings.{as_typed, reads_itself, measures_itself}
+use Rattle.c_model.proofs.WorkedTypings.{as_typed, reads_itself, measures_itself, is_written_later}
 
 -- ---- programs
 
@@ -169,6 +169,19 @@ computes_in_types = main_alone (codes "main" ∷ codes "c" ∷ codes "u" ∷ [])
     (cast U64 (binary (place 5 37 135) Div (literal (place 5 35 133) 1) (literal (place 5 39 137) 0)))))))) ∷
     [])
 
+-- an assertion of a variable that is not written yet
+--     int main(void) {
+--       int x;
+--       //@ assert x == x;
+--       return 0;
+--     }
+abbrev asserts_of_nothing_written : TranslationUnit
+asserts_of_nothing_written = main_alone (codes "main" ∷ codes "x" ∷ []) (place 1 5 4) (place 1 16 15) (place 5 1 59) (
+    Declare (unwritten_int (place 2 7 23) 1 ∷ []) ∷
+    Asserts (assertion 1 (place 3 7 32) (Chain (place 3 16 41) (variable_term (place 3 14 39) 1 23) (Linked (place 3 16 41) relation.Eq (variable_term (place 3 19 44) 1 23) NoLink)) ∷ []) ∷
+    Run (Return (place 4 3 49) (Some (literal (place 4 10 56) 0))) ∷
+    [])
+
 -- ---- runs
 
 run-adds_and_asserts : run adds_and_asserts no_input 10000000 ≡ record { final = Exits (pos 0); output = codes "A"; left = 10000000 }
@@ -207,12 +220,18 @@ run-leaves_loops-spent = refl
 run-computes_in_types : run computes_in_types no_input 10000000 ≡ record { final = Exits (pos 9); output = []; left = 10000000 }
 run-computes_in_types = refl
 
--- a variable is unwritten in its own initialiser
+-- a variable is unwritten in its own initialiser, and without one until it is assigned
 run-reads_itself : run (reads_itself as_typed) no_input 10000000 ≡ record { final = Undefined (place 4 13 46); output = []; left = 10000000 }
 run-reads_itself = refl
 
 run-measures_itself : run (measures_itself as_typed cast) no_input 10000000 ≡ record { final = Exits (pos 0); output = 1 ∷ []; left = 10000000 }
 run-measures_itself = refl
+
+run-is_written_later : run (is_written_later as_typed) no_input 10000000 ≡ record { final = Exits (pos 2); output = []; left = 10000000 }
+run-is_written_later = refl
+
+run-asserts_of_nothing_written : run asserts_of_nothing_written no_input 10000000 ≡ record { final = Broken 1 3 Assert how.Undefined; output = []; left = 10000000 }
+run-asserts_of_nothing_written = refl
 
 -- ---- reports
 

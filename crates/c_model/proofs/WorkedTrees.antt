@@ -71,6 +71,10 @@ object_of t at name equals e = record { place = at; name = name; named = true; c
 abbrev pub int_variable : Place → ℕ → Place → Expression → Declaration
 int_variable = object_of int_type
 
+-- a variable without initialiser
+abbrev pub unwritten_int : Place → ℕ → Declaration
+unwritten_int at name = record { place = at; name = name; named = true; ctype = int_type; init = None }
+
 abbrev pub parameter : PlainType → Place → ℕ → Declaration
 parameter t at name = record { place = at; name = name; named = true; ctype = t; init = None }
 

@@ -13,7 +13,7 @@ use Rattle.c_syntax.specs.Programs.{TranslationUnit}
 use Rattle.c_model.specs.Library.{library_constant, is_library_name}
 use Rattle.c_model.specs.Checked.{Good, refusing}
 use Rattle.c_model.specs.ProgramTyping.{typed_unit, main_fault, noted_unit}
-use Rattle.c_model.proofs.WorkedTrees.{place, literal, typed_variable, variable, binary, bump, cast, call, object_of, int_variable, parameter, int_parameter, unnamed_parameter, items_of}
+use Rattle.c_model.proofs.WorkedTrees.{place, literal, typed_variable, variable, binary, assignment, bump, cast, call, object_of, int_variable, unwritten_int, parameter, int_parameter, unnamed_parameter, items_of}
 use Rattle.c_model.proofs.WorkedTrees.{literal_term, read_term, variable_term, assertion, definition, prototype, unit_of}
 
 -- as it is read a use has the number 0, and after typing that of its declaration
@@ -140,6 +140,21 @@ measures_itself number converted = unit_of (codes "main" ∷ codes "x" ∷ codes
     Run (Eval (place 5 5 62) (call int_type (place 5 12 69) 2 (number 4294967295) (converted I32 (typed_variable (place 5 13 70) I8 1 (number 44)) ∷ []))) ∷
     []))) ∷
     Run (Return (place 7 3 80) (Some (literal (place 7 10 87) 0))) ∷
+    []) ∷
+    [])
+
+-- a variable without initialiser
+--     int main(void) {
+--       int x;
+--       x = 2;
+--       return x;
+--     }
+abbrev pub is_written_later : (ℕ → ℕ) → TranslationUnit
+is_written_later number = unit_of (codes "main" ∷ codes "x" ∷ []) (
+    definition int_type (place 1 5 4) 0 [] (place 1 16 15) (place 5 1 47) (
+    Declare (unwritten_int (place 2 7 23) 1 ∷ []) ∷
+    Run (Eval (place 3 3 28) (assignment (place 3 5 30) (variable (place 3 3 28) 1 (number 23)) (literal (place 3 7 32) 2))) ∷
+    Run (Return (place 4 3 37) (Some (variable (place 4 10 44) 1 (number 23)))) ∷
     []) ∷
     [])
 
@@ -466,6 +481,10 @@ typed_unit-reads_itself = refl
 typed_unit-measures_itself : typed_unit (measures_itself as_read unconverted) ≡ Good (measures_itself as_typed cast)
 unfolding library_constant is_library_name
 typed_unit-measures_itself = refl
+
+typed_unit-is_written_later : typed_unit (is_written_later as_read) ≡ Good (is_written_later as_typed)
+unfolding library_constant is_library_name
+typed_unit-is_written_later = refl
 
 typed_unit-defined_twice : refusing (typed_unit defined_twice) ≡ Some (record { code = 5; place = place 2 5 30 })
 unfolding library_constant is_library_name

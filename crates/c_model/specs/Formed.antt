@@ -190,8 +190,9 @@ AreAsserts (a ∷ rest) = IsAssert a × AreAsserts rest
 
 -- ---- statements, whose full expressions have at most so many forms
 
+-- an object may stay unwritten where it is declared (C99 6.7.8 p10)
 abbrev pub IsInitialiser : ℕ → Option (Place × Initialiser) → Type 0
-IsInitialiser most None = ⊥
+IsInitialiser most None = Unit {0}
 IsInitialiser most (Some (at, One e)) = IsFullOrCall most e
 IsInitialiser most (Some (at, Many brace is)) = ⊥
 

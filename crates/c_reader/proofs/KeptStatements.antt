@@ -51,7 +51,7 @@ record KeptDeclarations (ds es : List Declaration) : Type 0 where
   init : AreInitialised most_typed es
 
 initialiser_kept : (s : Scopes) (t : PlainType) (i : Option (Place × Initialiser)) → read.IsInitialiser i → Holds (IsInitialiser most_typed) (typed_initialiser s t i)
-initialiser_kept s t None h = absurd h
+initialiser_kept s t None h = tt
 initialiser_kept s t (Some (at, One e)) h =
     holds_one (IsKeptValue 400) (IsInitialiser most_typed) (typed s e) _ (full_value_kept s e h) (λ x p. holds_where (IsInitialiser most_typed) _ _ (Good (Some (at, One (in_type t x))))
     (let c = value_of 400 t x p in record { is = c.is; small = omega (arith, c.small) }))

@@ -44,7 +44,7 @@ pub record IsFullEffectOrCall (e : Expression) : Type 0 where
 -- ---- statements
 
 abbrev pub IsInitialiser : Option (Place × Initialiser) → Type 0
-IsInitialiser None = ⊥
+IsInitialiser None = Unit {0}
 IsInitialiser (Some (at, One e)) = IsFullOrCall e
 IsInitialiser (Some (at, Many brace is)) = ⊥
 
