@@ -8,6 +8,7 @@ use Rattle.c_syntax.specs.declared.program.EnumDef.{EnumDef}
 use Rattle.c_syntax.specs.declared.program.Behavior.{Behavior}
 use Rattle.c_syntax.specs.declared.program.Contract.{Contract}
 use Rattle.c_syntax.specs.declared.program.Func.{Func}
+use Rattle.c_syntax.specs.declared.program.Text.{Text}
 use Rattle.c_syntax.specs.declared.program.Program.{Program}
 use Rattle.c_syntax.specs.declared.refusal.Refusal.{Refusal}
 use Rattle.c_syntax.specs.Ctypes.{PlainType, plain_type}
@@ -58,10 +59,15 @@ pub record Function : Type 0 where
   pub body : Option Statement
   pub close : Place
 
+-- a string literal (C99 6.4.5)
+pub record StringLiteral : Type 0 where
+  pub place : Place
+  pub bytes : List ℕ
+
 -- a translation unit (C99 6.9)
 pub record TranslationUnit : Type 0 where
   pub names : List (List ℕ)
-  pub texts : List (List ℕ)
+  pub texts : List StringLiteral
   pub structs : List StructType
   pub enums : List EnumType
   pub typedefs : List Declaration
@@ -109,10 +115,13 @@ plain_func f = record {
   close = f.close;
 }
 
+abbrev pub plain_text : Text → StringLiteral
+plain_text t = record { place = t.place; bytes = t.bytes }
+
 abbrev pub plain_program : Program → TranslationUnit
 plain_program p = record {
   names = p.names.items;
-  texts = p.texts.items;
+  texts = map plain_text p.texts.items;
   structs = map plain_layout p.structs.items;
   enums = map plain_enum p.enums.items;
   typedefs = map plain_decl p.typedefs.items;

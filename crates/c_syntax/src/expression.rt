@@ -82,7 +82,7 @@ pub enum ExprKind {
     Number(i128, Option<CInt>),
     /// A character literal (C99 6.4.4.4), by its value as a `char`.
     Letter(i8),
-    /// A string literal (C99 6.4.5), by its number in `Program::texts`.
+    /// A string literal (C99 6.4.5), by the bytes of the text before it, and after typing by its number in `Program::texts`.
     Text(u32),
     Variable(Use),
     Unary(UnOp, Expr),

@@ -21,7 +21,7 @@ pub use expression::{BinOp, BumpOp, Expr, ExprKind, UnOp, Use};
 pub use fault::{Limit, ReadFault};
 pub use name::Name;
 pub use place::Place;
-pub use program::{Behavior, Contract, EnumDef, Enumerator, Func, Layout, Member, Program};
+pub use program::{Behavior, Contract, EnumDef, Enumerator, Func, Layout, Member, Program, Text};
 pub use refusal::{FrontFault, Refusal};
 pub use statement::{Decl, Init, Item, Stmt, StmtKind};
 pub use token::{Token, TokenKind, Tokens};

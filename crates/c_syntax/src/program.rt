@@ -73,13 +73,21 @@ pub struct Func {
     pub close: Place,
 }
 
+/// A string literal (C99 6.4.5).
+#[derive(Drop)]
+pub struct Text {
+    pub place: Place,
+    /// Its bytes, without the zero at the end.
+    pub bytes: Name,
+}
+
 /// A file.
 #[derive(Drop)]
 pub struct Program {
     /// The names of the text, by number.
     pub names: Vec<Name>,
-    /// The bytes of its string literals, by number.
-    pub texts: Vec<Name>,
+    /// Its string literals, in order.
+    pub texts: Vec<Text>,
     pub structs: Vec<Layout>,
     pub enums: Vec<EnumDef>,
     pub typedefs: Vec<Decl>,

@@ -241,7 +241,7 @@ module _ (p : TranslationUnit) (q : IsProgram p) (numbers : FunctionsHaveNumbers
 
   starts : start p input n ≡ bare_start input n
   starts = λ i. record {
-    store = global_blocks p.structs (q.formed.globals i) ++ map literal_block (q.formed.texts i);
+    store = global_blocks p.structs (q.formed.globals i) ++ map (λ l. literal_block l.bytes) (q.formed.texts i);
     scope = global_scope 1 (q.formed.globals i);
     marks = [];
     calls = 0;

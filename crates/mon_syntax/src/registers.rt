@@ -7,7 +7,7 @@ ghost use Rattle.mon_syntax.specs.Registers.{next_register, no_registers, regist
 
 use crate::definition::Definitions;
 use crate::tree::MonType;
-use c_syntax::{Layout, Name, Program};
+use c_syntax::{Layout, Name, Program, Text};
 use indexmap::IndexMap;
 use std::alloc::{AllocError, Global};
 use std::marker::Model;
@@ -125,8 +125,8 @@ impl<'a> Registers<'a> {
         &self.definitions.program.structs
     }
 
-    /// The bytes of its string literals.
-    pub fn texts(&self) -> &'a [Name]
+    /// Its string literals.
+    pub fn texts(&self) -> &'a [Text]
         ensures { result.now ≡ self.now.program.texts.items }
     {
         &self.definitions.program.texts
