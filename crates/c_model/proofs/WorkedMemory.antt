@@ -36,7 +36,7 @@ use Rattle.c_model.proofs.WorkedTrees.{place, items_of, literal_term, variable_t
 abbrev pub row_one : TranslationUnit
 row_one = record {
   names = (codes "s" ∷ codes "c" ∷ codes "n" ∷ codes "g" ∷ codes "t" ∷ codes "main" ∷ codes "p" ∷ codes "i" ∷ codes "q" ∷ codes "w" ∷ codes "putchar" ∷ []);
-  texts = (codes "hey" ∷ []);
+  texts = (record { place = place 8 13 137; bytes = codes "hey" } ∷ []);
   structs =
       record {
         place = (place 1 8 7);
@@ -217,7 +217,7 @@ leaves_an_array-runs = refl
 abbrev pub writes_a_literal : TranslationUnit
 writes_a_literal = record {
   names = (codes "main" ∷ codes "w" ∷ []);
-  texts = (codes "hey" ∷ []);
+  texts = (record { place = place 1 28 27; bytes = codes "hey" } ∷ []);
   structs = [];
   enums = [];
   typedefs = [];
@@ -378,7 +378,7 @@ copies_a_struct-runs = refl
 abbrev pub initialises : TranslationUnit
 initialises = record {
   names = (codes "s" ∷ codes "n" ∷ codes "c" ∷ codes "a" ∷ codes "w" ∷ codes "q" ∷ codes "main" ∷ codes "v" ∷ codes "putchar" ∷ []);
-  texts = (codes "ab" ∷ []);
+  texts = (record { place = place 3 13 70; bytes = codes "ab" } ∷ []);
   structs =
       record {
         place = (place 1 8 7);

@@ -1,37 +1,41 @@
--- The grammar of expressions on integers, with the trees that are read (C99 6.4.4, 6.5, 6.7.6):
+-- The grammar of expressions, with the trees that are read (C99 6.4.4, 6.4.5, 6.5, 6.7.6):
 --
 --   expr    = binary [ "?" expr ":" expr ]
 --   binary  = cast, joined by the operators of C99 6.5.5 to 6.5.14, each level from the left
 --   cast    = unary | "(" type ")" cast
---   unary   = primary | ( "+" | "-" | "!" | "~" ) cast | "sizeof" unary | "sizeof" "(" type ")"
---   primary = NAME | NUMBER | CHAR | "(" expr ")"
---   type    = { "const" } base { "const" }
---   base    = integer words in any order | "void" | TYPENAME
+--   unary   = postfix | ( "+" | "-" | "!" | "~" | "*" | "&" ) cast | "sizeof" unary | "sizeof" "(" type ")"
+--   postfix = primary { "[" expr "]" | "." ANYNAME | "->" ANYNAME }
+--   primary = NAME | NUMBER | CHAR | STRING | "(" expr ")"
+--   type    = words { "*" { "const" } } { "[" expr "]" }
+--   words   = { "const" } base { "const" }
+--   base    = integer words in any order | "void" | TYPENAME | "struct" ANYNAME | "enum" ANYNAME
 --
 -- An expression that stands for its effect is one of these, an assignment, or an increment:
 --
---   effect  = unary "=" ( expr | call ) | unary assign-op expr | ( "++" | "--" ) unary | primary ( "++" | "--" ) | expr
+--   effect  = unary "=" ( expr | call ) | unary assign-op expr | ( "++" | "--" ) unary | postfix ( "++" | "--" ) | expr
 --   call    = NAME "(" [ expr { "," expr } ] ")"
 --
--- An expression that stands in no other has at most 400 tokens. Types and declarations are set by typing.
-use Rattle.std.specs.Prelude.{ℕ, zero, suc, ◌+◌, ℤ, List, [], ◌∷◌, ◌++◌, Option, Some, None, option_map, cond, eqb, slice_get}
-use Rattle.grammar.specs.Syntax.{Syntax, gives, one, ◌then◌, choice, many, knot, at_most}
+-- An expression that stands in no other has at most 400 tokens. A TYPENAME is the name of a type, and an ANYNAME is a NAME or a TYPENAME.
+-- Types and declarations are set by typing.
+use Rattle.std.specs.Prelude.{ℕ, zero, suc, ◌+◌, ℤ, List, [], ◌∷◌, ◌++◌, Option, Some, None, option_map, Bool, true, false, cond, eqb, slice_get}
+use Rattle.grammar.specs.Syntax.{Syntax, among, gives, one, ◌then◌, choice, many, knot, at_most}
 use Rattle.c_syntax.specs.declared.place.Place.{Place}
 use Rattle.c_syntax.specs.declared.types.CInt.{CInt}
 use Rattle.c_syntax.specs.declared.expression.Use.{Use}
 use Rattle.c_syntax.specs.declared.expression.UnOp.{UnOp}
-use Rattle.c_syntax.specs.declared.expression.UnOp.TheVariants.{Plus, Minus, Not, Flip}
+use Rattle.c_syntax.specs.declared.expression.UnOp.TheVariants.{Plus, Minus, Not, Flip, Deref, Address}
 use Rattle.c_syntax.specs.declared.expression.BinOp.{BinOp}
 use Rattle.c_syntax.specs.declared.expression.BinOp.TheVariants.{Add, Sub, Mul, Div, Rem, Shl, Shr, BitAnd, BitOr, BitXor, Eq, Ne, Lt, Le, Gt, Ge}
 use Rattle.c_syntax.specs.declared.expression.BumpOp.{BumpOp}
 use Rattle.c_syntax.specs.declared.expression.BumpOp.TheVariants.{PreUp, PreDown, PostUp, PostDown}
-use Rattle.c_syntax.specs.Ctypes.{PlainType, Void, Int, int_type}
-use Rattle.c_syntax.specs.Expressions.{Expression, Node, ExpressionKind, Number, Letter, Variable, Unary, Binary, Both, Either, Choice, Assign, Bump, Call}
-use Rattle.c_syntax.specs.Expressions.{Cast, SizeOfType, SizeOfExpr, Expressions, NoExpression, Following}
+use Rattle.c_syntax.specs.Ctypes.{PlainType, Void, Int, Ptr, Array, Named, StructTag, EnumTag, PlainLength, Left, Written, int_type}
+use Rattle.c_syntax.specs.Expressions.{Expression, Node, ExpressionKind, Number, Letter, Text, Variable, Unary, Binary, Both, Either, Choice, Assign}
+use Rattle.c_syntax.specs.Expressions.{Bump, Call, Cast, SizeOfType, SizeOfExpr, Index, Dot, Arrow, Expressions, NoExpression, Following, place_of}
 use Rattle.c_syntax.specs.Tokens as token
 use Rattle.c_syntax.specs.Tokens.{PlainTokenKind, PlainToken}
 use Rattle.c_model.specs.declared.operands.Form.{Form}
 use Rattle.c_model.specs.declared.operands.Form.TheVariants as form
+use Rattle.c_model.specs.declared.operands.Stars.{Stars}
 use Rattle.c_model.specs.declared.operands.TypeUse.{TypeUse}
 use Rattle.c_model.specs.declared.operands.TypeUse.TheVariants as type_use
 use Rattle.c_model.specs.declared.operands.Connective.{Connective}
@@ -40,6 +44,8 @@ use Rattle.c_model.specs.declared.vocabulary.Keyword.{Keyword}
 use Rattle.c_model.specs.declared.vocabulary.Keyword.TheVariants as keyword
 use Rattle.c_model.specs.declared.vocabulary.Word.{Word}
 use Rattle.c_model.specs.declared.vocabulary.Word.TheVariants as word
+use Rattle.c_model.specs.declared.vocabulary.TypeName.{TypeName}
+use Rattle.c_model.specs.declared.vocabulary.TypeName.TheVariants.{Library, Declared}
 use Rattle.c_model.specs.declared.vocabulary.SignWords.{SignWords}
 use Rattle.c_model.specs.declared.vocabulary.SignWords.TheVariants as sign
 use Rattle.c_model.specs.declared.vocabulary.SizeWords.{SizeWords}
@@ -50,7 +56,7 @@ use Rattle.c_model.specs.Terminals.{expression_limit, placed, mark_entry}
 use Rattle.c_model.specs.Punctuators.{increment, decrement, shift_left, shift_right, less_equal, greater_equal, equal, not_equal, and_and, or_or}
 use Rattle.c_model.specs.Punctuators.{shift_left_assign, shift_right_assign, add_assign, subtract_assign, multiply_assign, divide_assign, remainder_assign}
 use Rattle.c_model.specs.Punctuators.{and_assign, or_assign, xor_assign, plus, minus, times, divide, percent, less, greater, assign, exclamation, tilde}
-use Rattle.c_model.specs.Punctuators.{ampersand, bar, caret, question, colon, comma, left_paren, right_paren}
+use Rattle.c_model.specs.Punctuators.{ampersand, bar, caret, question, colon, comma, left_paren, right_paren, dot, arrow, left_bracket, right_bracket}
 
 -- ---- limits (this profile)
 
@@ -110,10 +116,13 @@ keyword_kind keyword.Break = 24
 keyword_kind keyword.Continue = 25
 keyword_kind keyword.Return = 26
 keyword_kind keyword.Sizeof = 27
-keyword_kind keyword.Kept = 28
+keyword_kind keyword.Struct = 28
+keyword_kind keyword.Enum = 29
+keyword_kind keyword.Typedef = 30
+keyword_kind keyword.Kept = 31
 
 abbrev pub mark_kind : ℕ → ℕ
-mark_kind m = 30 + m
+mark_kind m = 40 + m
 
 abbrev pub word_kind : Word → ℕ
 word_kind (word.Keyword k) = keyword_kind k
@@ -153,9 +162,9 @@ abbrev pub kinds_of : {A : Type 0} → List (ℕ × A) → List ℕ
 kinds_of [] = []
 kinds_of (x ∷ xs) = mark_kind x.0 ∷ kinds_of xs
 
--- prefix operators (C99 6.5.3.3)
+-- prefix operators (C99 6.5.3.2, 6.5.3.3)
 abbrev pub unary_operators : List (ℕ × UnOp)
-unary_operators = (plus, Plus) ∷ (minus, Minus) ∷ (exclamation, Not) ∷ (tilde, Flip) ∷ []
+unary_operators = (plus, Plus) ∷ (minus, Minus) ∷ (exclamation, Not) ∷ (tilde, Flip) ∷ (times, Deref) ∷ (ampersand, Address) ∷ []
 
 -- binary operators by level, from the one that binds closest, 0, to `||`, 9 (C99 6.5.5 to 6.5.14)
 abbrev pub operator_levels : List (List (ℕ × Connective))
@@ -201,15 +210,22 @@ first_integer_words =
     ∷ keyword_kind keyword.Unsigned ∷ []
 
 abbrev pub first_base : List ℕ
-first_base = keyword_kind keyword.Void ∷ type_name_kind ∷ first_integer_words
+first_base = keyword_kind keyword.Void ∷ type_name_kind ∷ keyword_kind keyword.Struct ∷ keyword_kind keyword.Enum ∷ first_integer_words
 
 abbrev pub first_type : List ℕ
 first_type = keyword_kind keyword.Const ∷ first_base
 
 abbrev pub first_expression : List ℕ
 first_expression =
-    name_kind ∷ number_kind ∷ letter_kind ∷ mark_kind left_paren ∷ mark_kind plus ∷ mark_kind minus ∷ mark_kind exclamation ∷ mark_kind tilde
-    ∷ keyword_kind keyword.Sizeof ∷ []
+    name_kind ∷ number_kind ∷ letter_kind ∷ text_kind ∷ mark_kind left_paren ∷ mark_kind plus ∷ mark_kind minus ∷ mark_kind exclamation ∷ mark_kind tilde
+    ∷ mark_kind times ∷ mark_kind ampersand ∷ keyword_kind keyword.Sizeof ∷ []
+
+abbrev pub first_any_name : List ℕ
+first_any_name = name_kind ∷ type_name_kind ∷ []
+
+-- what a postfix expression goes on with
+abbrev pub first_postfix : List ℕ
+first_postfix = mark_kind left_bracket ∷ mark_kind dot ∷ mark_kind arrow ∷ []
 
 abbrev pub first_effect : List ℕ
 first_effect = mark_kind increment ∷ mark_kind decrement ∷ first_expression
@@ -265,22 +281,50 @@ abbrev pub read_operand : Expression → Form → Place → ReadOperand
 read_operand e f at = record { expression = e; form = f; first = at }
 
 -- a name that is used
-abbrev pub read_name : ℕ × Place → ReadOperand
-read_name x = read_operand (read_as x.1 (Variable (use_of x.0))) form.Primary x.1
+abbrev pub read_name : ℕ × Place → Expression
+read_name x = read_as x.1 (Variable (use_of x.0))
 
 -- what `sizeof` is of: the type that was read in parentheses, or the operand
 abbrev pub size_of_operand : ReadOperand → ExpressionKind
 size_of_operand x = elim x.form [
   | form.TypeName ↦ kind_of x.expression
-  | form.Primary ↦ SizeOfExpr x.expression
+  | form.Postfix ↦ SizeOfExpr x.expression
   | form.Unary ↦ SizeOfExpr x.expression
   | form.Cast ↦ SizeOfExpr x.expression
 ]
+
+abbrev pub no_stars : Stars
+no_stars = record { count = 0; constant = false }
+
+-- a pointer to a pointer .. to the type (C99 6.7.5.1)
+abbrev pub pointers : ℕ → PlainType → PlainType
+pointers zero t = t
+pointers (suc n) t = pointers n (Ptr t)
+
+-- an array of arrays of the type, of which the first length is the outermost (C99 6.7.5.2)
+abbrev pub arrays_of : PlainType → List PlainLength → PlainType
+arrays_of t [] = t
+arrays_of t (n ∷ ns) = Array (arrays_of t ns) n
+
+-- the type of a declarator with its stars and its lengths
+abbrev pub declared_type : PlainType → Stars → List PlainLength → PlainType
+declared_type t stars ns = arrays_of (pointers stars.count t) ns
+
+-- the type that a word with this number names
+abbrev pub named_type : ℕ → TypeName → PlainType
+named_type n (Library t) = Int t
+named_type n Declared = Named n
+
+abbrev pub type_named : ℕ → Word → Option PlainType
+type_named n (word.TypeName t) = Some (named_type n t)
+type_named n _ = None
 
 -- the first word of a type
 pub data TypeStart : Type 0 where
   ConstStart : TypeStart
   VoidStart : TypeStart
+  StructStart : TypeStart
+  EnumStart : TypeStart
   NameStart : PlainType → TypeStart
   IntegerStart : IntegerWords → TypeStart
 
@@ -303,6 +347,14 @@ module _ (ws : Vocabulary) where
   abbrev pub name : Syntax PlainToken (ℕ × Place)
   name = one (placed name_of)
 
+  abbrev pub any_name_of : PlainTokenKind → Option ℕ
+  any_name_of (token.Word n) = cond (among (word_kind (word_at ws n)) first_any_name) (Some n) None
+  any_name_of _ = None
+
+  -- ANYNAME: a tag or the name of a member, which may be the name of a type besides (C99 6.2.3)
+  abbrev pub any_name : Syntax PlainToken (ℕ × Place)
+  any_name = one (placed any_name_of)
+
   -- ---- types (C99 6.7.2, 6.7.6)
 
   abbrev pub keyword_of : Word → Option Keyword
@@ -320,23 +372,33 @@ module _ (ws : Vocabulary) where
   unfoldable pub integer_words : Syntax PlainToken PlainType
   integer_words = integer_word no_words then λ x. many (kind ws) words_behind integer_word x then λ y. gives (Int (integer_type y))
 
-  abbrev pub type_name_word_of : Word → Option PlainType
-  type_name_word_of (word.TypeName t) = Some (Int t)
-  type_name_word_of _ = None
+  abbrev pub typedef_name_of : PlainTokenKind → Option PlainType
+  typedef_name_of (token.Word n) = type_named n (word_at ws n)
+  typedef_name_of _ = None
 
-  abbrev pub type_name_of : PlainTokenKind → Option PlainType
-  type_name_of (token.Word n) = type_name_word_of (word_at ws n)
-  type_name_of _ = None
+  -- TYPENAME (C99 6.7.7)
+  unfoldable pub typedef_name : Syntax PlainToken PlainType
+  typedef_name = one (placed typedef_name_of) then λ t. gives t.0
 
-  -- TYPENAME
-  unfoldable pub type_name : Syntax PlainToken PlainType
-  type_name = one (placed type_name_of) then λ t. gives t.0
+  -- "struct" ANYNAME (C99 6.7.2.3)
+  unfoldable pub struct_tag : Syntax PlainToken PlainType
+  struct_tag = reserved keyword.Struct then λ _. any_name then λ x. gives (StructTag x.0)
+
+  -- "enum" ANYNAME
+  unfoldable pub enum_tag : Syntax PlainToken PlainType
+  enum_tag = reserved keyword.Enum then λ _. any_name then λ x. gives (EnumTag x.0 x.1)
 
   -- integer words | "void" | TYPENAME
+  unfoldable pub untagged_base : Syntax PlainToken PlainType
+  untagged_base =
+      choice (kind ws) (keyword_kind keyword.Void ∷ []) (reserved keyword.Void then λ _. gives Void)
+      (choice (kind ws) (type_name_kind ∷ []) typedef_name integer_words)
+
+  -- integer words | "void" | TYPENAME | "struct" ANYNAME | "enum" ANYNAME
   unfoldable pub base : Syntax PlainToken PlainType
   base =
-      choice (kind ws) (keyword_kind keyword.Void ∷ []) (reserved keyword.Void then λ _. gives Void)
-      (choice (kind ws) (type_name_kind ∷ []) type_name integer_words)
+      choice (kind ws) (keyword_kind keyword.Struct ∷ []) struct_tag
+      (choice (kind ws) (keyword_kind keyword.Enum ∷ []) enum_tag untagged_base)
 
   -- { "const" }, which has no meaning (this profile)
   unfoldable pub consts : {A : Type 0} → A → Syntax PlainToken A
@@ -346,25 +408,69 @@ module _ (ws : Vocabulary) where
   unfoldable pub type_words : Syntax PlainToken PlainType
   type_words = consts (tt {0}) then λ _. base then λ t. consts t
 
-  -- how a type begins
-  abbrev pub type_start_of : Word → Option TypeStart
-  type_start_of (word.TypeName t) = Some (NameStart (Int t))
-  type_start_of (word.Keyword keyword.Const) = Some ConstStart
-  type_start_of (word.Keyword keyword.Void) = Some VoidStart
-  type_start_of (word.Keyword k) = option_map IntegerStart (words_with no_words k)
-  type_start_of _ = None
+  -- how a type begins whose first word has the number n
+  abbrev pub type_start_of : ℕ → Word → Option TypeStart
+  type_start_of n (word.TypeName t) = Some (NameStart (named_type n t))
+  type_start_of n (word.Keyword keyword.Const) = Some ConstStart
+  type_start_of n (word.Keyword keyword.Void) = Some VoidStart
+  type_start_of n (word.Keyword keyword.Struct) = Some StructStart
+  type_start_of n (word.Keyword keyword.Enum) = Some EnumStart
+  type_start_of n (word.Keyword k) = option_map IntegerStart (words_with no_words k)
+  type_start_of n _ = None
 
   -- the first word of a type, with its number
   abbrev pub type_start : PlainTokenKind → Option (TypeStart × ℕ)
-  type_start (token.Word n) = option_map (λ b. (b, n)) (type_start_of (word_at ws n))
+  type_start (token.Word n) = option_map (λ b. (b, n)) (type_start_of n (word_at ws n))
   type_start _ = None
 
-  -- a type after its first word
+  -- a type after its first word: { "const" } base { "const" }, or what stands after the word in base { "const" }
   unfoldable pub type_behind : TypeStart → Syntax PlainToken PlainType
   type_behind ConstStart = type_words
   type_behind VoidStart = consts Void
+  type_behind StructStart = any_name then λ x. consts (StructTag x.0)
+  type_behind EnumStart = any_name then λ x. consts (EnumTag x.0 x.1)
   type_behind (NameStart t) = consts t
   type_behind (IntegerStart x) = many (kind ws) words_behind integer_word x then λ y. consts (Int (integer_type y))
+
+  -- { "const" }, and whether one stands there or stood before
+  unfoldable pub more_consts : Bool → Syntax PlainToken Bool
+  more_consts b = many (kind ws) (λ _. keyword_kind keyword.Const ∷ []) (λ _. reserved keyword.Const then λ _. gives true) b
+
+  -- "*" { "const" }, and whether a `const` stands there or stood before
+  unfoldable pub star : Bool → Syntax PlainToken Bool
+  star b = mark times then λ _. more_consts b
+
+  -- "*" { "const" }, after other stars
+  unfoldable pub next_star : Stars → Syntax PlainToken Stars
+  next_star s = star s.constant then λ c. gives (record { count = s.count + 1; constant = c })
+
+  -- { "*" { "const" } }
+  unfoldable pub star_words : Syntax PlainToken Stars
+  star_words = many (kind ws) (λ _. mark_kind times ∷ []) next_star no_stars
+
+  -- expr, as the length of an array; E stands for the expression
+  unfoldable pub written_length : Syntax PlainToken Expression → Syntax PlainToken PlainLength
+  written_length E = E then λ e. gives (Written e)
+
+  -- [ expr ]
+  unfoldable pub length_or_none : Syntax PlainToken Expression → Syntax PlainToken PlainLength
+  length_or_none E = choice (kind ws) first_expression (written_length E) (gives Left)
+
+  -- "[" length "]"; L stands for the length
+  unfoldable pub bracket : Syntax PlainToken PlainLength → Syntax PlainToken PlainLength
+  bracket L = mark left_bracket then λ _. L then λ n. mark right_bracket then λ _. gives n
+
+  -- "[" length "]", after other brackets
+  unfoldable pub next_bracket : Syntax PlainToken PlainLength → List PlainLength → Syntax PlainToken (List PlainLength)
+  next_bracket L ns = bracket L then λ n. gives (ns ++ n ∷ [])
+
+  -- { "[" length "]" }
+  unfoldable pub brackets : Syntax PlainToken PlainLength → Syntax PlainToken (List PlainLength)
+  brackets L = many (kind ws) (λ _. mark_kind left_bracket ∷ []) (next_bracket L) []
+
+  -- words { "*" { "const" } } { "[" expr "]" }, the type of a cast and of `sizeof` (C99 6.7.6)
+  unfoldable pub type_name : Syntax PlainToken Expression → Syntax PlainToken PlainType
+  type_name E = type_words then λ t. star_words then λ stars. brackets (written_length E) then λ ns. gives (declared_type t stars ns)
 
   -- ---- expressions; E stands for an expression inside another, O for an operand, by what a type in parentheses begins
 
@@ -375,32 +481,63 @@ module _ (ws : Vocabulary) where
   unfoldable pub closed : {A : Type 0} → A → Syntax PlainToken A
   closed x = mark right_paren then λ _. gives x
 
-  -- NUMBER | CHAR
-  unfoldable pub literal : Syntax PlainToken ReadOperand
+  -- "[" expr "]", after a postfix expression (C99 6.5.2.1)
+  unfoldable pub indexed : Syntax PlainToken Expression → Expression → Syntax PlainToken Expression
+  indexed E x = mark left_bracket then λ at. E then λ i. mark right_bracket then λ _. gives (read_as at (Index x i))
+
+  -- "." ANYNAME (C99 6.5.2.3)
+  unfoldable pub dotted : Expression → Syntax PlainToken Expression
+  dotted x = mark dot then λ at. any_name then λ m. gives (read_as at (Dot x m.0))
+
+  -- "->" ANYNAME
+  unfoldable pub arrowed : Expression → Syntax PlainToken Expression
+  arrowed x = mark arrow then λ at. any_name then λ m. gives (read_as at (Arrow x m.0))
+
+  -- "[" expr "]" | "." ANYNAME | "->" ANYNAME
+  unfoldable pub postfix_once : Syntax PlainToken Expression → Expression → Syntax PlainToken Expression
+  postfix_once E x =
+      choice (kind ws) (mark_kind left_bracket ∷ []) (indexed E x)
+      (choice (kind ws) (mark_kind dot ∷ []) (dotted x) (arrowed x))
+
+  -- { "[" expr "]" | "." ANYNAME | "->" ANYNAME }, after a primary expression
+  unfoldable pub postfixes : Syntax PlainToken Expression → Expression → Syntax PlainToken Expression
+  postfixes E x = many (kind ws) (λ _. first_postfix) (postfix_once E) x
+
+  -- the rest of a postfix expression, after its primary one and with the place of its first token
+  unfoldable pub postfix_rest : Syntax PlainToken Expression → Place → Expression → Syntax PlainToken ReadOperand
+  postfix_rest E at x = postfixes E x then λ y. gives (read_operand y form.Postfix at)
+
+  -- NUMBER | CHAR | STRING
+  unfoldable pub literal : Syntax PlainToken Expression
   literal =
-      choice (kind ws) (number_kind ∷ []) (one (placed number_of) then λ n. gives (read_operand (read_as n.1 (Number n.0.0 n.0.1)) form.Primary n.1))
-      (one (placed letter_of) then λ z. gives (read_operand (read_as z.1 (Letter z.0)) form.Primary z.1))
+      choice (kind ws) (number_kind ∷ []) (one (placed number_of) then λ n. gives (read_as n.1 (Number n.0.0 n.0.1)))
+      (choice (kind ws) (letter_kind ∷ []) (one (placed letter_of) then λ z. gives (read_as z.1 (Letter z.0)))
+      (fixed text_kind then λ at. gives (read_as at (Text at.offset))))
+
+  -- a postfix expression that begins with a literal
+  unfoldable pub literal_first : Syntax PlainToken Expression → Syntax PlainToken ReadOperand
+  literal_first E = literal then λ x. postfix_rest E (place_of x) x
 
   -- type ")" cast, after "("
-  unfoldable pub cast_rest : Operand → Place → Syntax PlainToken ReadOperand
-  cast_rest O at = type_words then λ t. mark right_paren then λ _. O type_use.Casts then λ x. gives
+  unfoldable pub cast_rest : Syntax PlainToken Expression → Operand → Place → Syntax PlainToken ReadOperand
+  cast_rest E O at = type_name E then λ t. mark right_paren then λ _. O type_use.Casts then λ x. gives
       (read_operand (read_as at (Cast t x.expression)) form.Cast at)
 
   -- type ")", after "(" of `sizeof`
-  unfoldable pub sized_type : Place → Syntax PlainToken ReadOperand
-  sized_type at = type_words then λ t. closed (read_operand (read_as at (SizeOfType t)) form.TypeName at)
+  unfoldable pub sized_type : Syntax PlainToken Expression → Place → Syntax PlainToken ReadOperand
+  sized_type E at = type_name E then λ t. closed (read_operand (read_as at (SizeOfType t)) form.TypeName at)
 
-  -- expr ")", after "("
+  -- expr ")" and the rest of a postfix expression, after "("
   unfoldable pub paren_rest : Syntax PlainToken Expression → Place → Syntax PlainToken ReadOperand
-  paren_rest E at = E then λ e. closed (read_operand e form.Primary at)
+  paren_rest E at = E then λ e. mark right_paren then λ _. postfix_rest E at e
 
   -- what stands after "("
   unfoldable pub behind_paren : Syntax PlainToken Expression → Operand → TypeUse → Place → Syntax PlainToken ReadOperand
-  behind_paren E O type_use.Casts at = choice (kind ws) first_type (cast_rest O at) (paren_rest E at)
-  behind_paren E O type_use.Sizes at = choice (kind ws) first_type (sized_type at) (paren_rest E at)
+  behind_paren E O type_use.Casts at = choice (kind ws) first_type (cast_rest E O at) (paren_rest E at)
+  behind_paren E O type_use.Sizes at = choice (kind ws) first_type (sized_type E at) (paren_rest E at)
   behind_paren E O type_use.Nothing at = paren_rest E at
 
-  -- ( "+" | "-" | "!" | "~" ) cast
+  -- ( "+" | "-" | "!" | "~" | "*" | "&" ) cast
   unfoldable pub prefixed : Operand → Syntax PlainToken ReadOperand
   prefixed O = one (placed (mark_entry unary_operators)) then λ o. O type_use.Casts then λ x. gives
       (read_operand (read_as o.1 (Unary o.0 x.expression)) form.Unary o.1)
@@ -414,11 +551,15 @@ module _ (ws : Vocabulary) where
   operand_but_name E O u =
       choice (kind ws) (mark_kind left_paren ∷ []) (mark left_paren then λ at. behind_paren E O u at)
       (choice (kind ws) (kinds_of unary_operators) (prefixed O)
-      (choice (kind ws) (keyword_kind keyword.Sizeof ∷ []) (sized O) literal))
+      (choice (kind ws) (keyword_kind keyword.Sizeof ∷ []) (sized O) (literal_first E)))
+
+  -- a postfix expression that begins with this name
+  abbrev pub behind_variable : Syntax PlainToken Expression → ℕ × Place → Syntax PlainToken ReadOperand
+  behind_variable E x = postfix_rest E x.1 (read_name x)
 
   -- a unary expression, or what a type in parentheses begins
   unfoldable pub operand_of : Syntax PlainToken Expression → Operand → Operand
-  operand_of E O u = choice (kind ws) (name_kind ∷ []) (name then λ x. gives (read_name x)) (operand_but_name E O u)
+  operand_of E O u = choice (kind ws) (name_kind ∷ []) (name then behind_variable E) (operand_but_name E O u)
 
   unfoldable pub operand : Syntax PlainToken Expression → Operand
   operand E = knot (operand_of E)
@@ -466,7 +607,8 @@ module _ (ws : Vocabulary) where
   -- what stands after a name at the front of an expression or a call
   unfoldable pub behind_name_or_callee : ℕ × Place → Syntax PlainToken Expression
   behind_name_or_callee x =
-      choice (kind ws) (mark_kind left_paren ∷ []) (call_rest x then λ c. gives c.0) (expression_rest expression (read_name x).expression)
+      choice (kind ws) (mark_kind left_paren ∷ []) (call_rest x then λ c. gives c.0)
+      (behind_variable expression x then λ y. expression_rest expression y.expression)
 
   -- an expression, or a call
   unfoldable pub expression_or_call : Syntax PlainToken Expression
@@ -485,19 +627,19 @@ module _ (ws : Vocabulary) where
   unfoldable pub assigned : Expression → Syntax PlainToken Expression
   assigned left = one (placed (mark_entry assignment_operators)) then λ o. assigned_value o.0 then λ right. gives (read_as o.1 (Assign o.0 left right))
 
-  -- "++" | "--", after a primary expression
+  -- "++" | "--", after a postfix expression
   unfoldable pub bumped : Expression → Syntax PlainToken Expression
   bumped x = one (placed (mark_entry postfix_bumps)) then λ o. gives (read_as o.1 (Bump o.0 x))
 
   unfoldable pub behind_unary : Expression → Syntax PlainToken Expression
   behind_unary x = choice (kind ws) (kinds_of assignment_operators) (assigned x) (expression_rest expression x)
 
-  unfoldable pub behind_primary : Expression → Syntax PlainToken Expression
-  behind_primary x = choice (kind ws) (kinds_of postfix_bumps) (bumped x) (behind_unary x)
+  unfoldable pub behind_postfix : Expression → Syntax PlainToken Expression
+  behind_postfix x = choice (kind ws) (kinds_of postfix_bumps) (bumped x) (behind_unary x)
 
   -- what stands after an expression of the form
   unfoldable pub behind_form : Form → Expression → Syntax PlainToken Expression
-  behind_form form.Primary x = behind_primary x
+  behind_form form.Postfix x = behind_postfix x
   behind_form form.Unary x = behind_unary x
   behind_form form.Cast x = expression_rest expression x
   behind_form form.TypeName x = expression_rest expression x
@@ -516,11 +658,11 @@ module _ (ws : Vocabulary) where
 
   -- an expression, an assignment or an increment
   unfoldable pub effect : Syntax PlainToken (Expression × Place)
-  effect = choice (kind ws) (name_kind ∷ []) (name then λ x. effect_rest (read_name x)) effect_but_name
+  effect = choice (kind ws) (name_kind ∷ []) (name then λ x. behind_variable expression x then effect_rest) effect_but_name
 
   -- what stands after a name at the front of a statement
   unfoldable pub behind_name : ℕ × Place → Syntax PlainToken (Expression × Place)
-  behind_name x = choice (kind ws) (mark_kind left_paren ∷ []) (call_rest x) (effect_rest (read_name x))
+  behind_name x = choice (kind ws) (mark_kind left_paren ∷ []) (call_rest x) (behind_variable expression x then effect_rest)
 
   -- an effect or a call
   unfoldable pub effect_or_call : Syntax PlainToken (Expression × Place)

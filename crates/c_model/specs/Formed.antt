@@ -15,7 +15,6 @@ use Rattle.c_syntax.specs.Statements.{NoElse, Else, ForFirst, NoFirst, First, Bl
 use Rattle.c_syntax.specs.Programs.{Function, TranslationUnit}
 use Rattle.c_model.specs.Characters.{is_part}
 use Rattle.c_model.specs.ExpressionGrammar.{most_nested}
-use Rattle.c_model.specs.ProgramGrammar.{most_declarators}
 use Rattle.c_model.specs.Typing.{name_at}
 use Rattle.c_model.specs.ProgramTyping.{main_fault}
 use Rattle.c_model.specs.WellTypedPrograms.{WhereAny, ProgramTyped}
@@ -309,12 +308,11 @@ abbrev pub declared_in_body : Option Statement → List Declaration
 declared_in_body None = []
 declared_in_body (Some a) = declared_within a
 
--- functions and what they declare have names of C, and each has its limit of declarators
+-- functions and what they declare have names of C
 pub record FunctionNamed (names : List (List ℕ)) (f : Function) : Type 0 where
   pub name : IsName (name_at names f.name)
   pub params : AreNamedParameters names f.params
   pub body : AreNamed names (declared_in_body f.body)
-  pub few : length (declared_in_body f.body) ≤ most_declarators
 
 abbrev pub FunctionsNamed : List (List ℕ) → List Function → Type 0
 FunctionsNamed names [] = Unit {0}

@@ -21,6 +21,7 @@ pub mod Punctuators
 pub mod Terminals
 pub mod Vocabulary
 pub mod ExpressionGrammar
+pub mod DeclarationGrammar
 pub mod ProgramGrammar
 pub mod Checked
 pub mod Library

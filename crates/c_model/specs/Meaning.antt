@@ -538,7 +538,7 @@ module _ (T : Tables) where
 -- ---- whole programs
 
 abbrev pub tables_of : TranslationUnit → Tables
-tables_of p = record { structs = p.structs; texts = p.texts; globals = length p.globals }
+tables_of p = record { structs = p.structs; texts = map (λ l. l.bytes) p.texts; globals = length p.globals }
 
 -- the globals, whose blocks have the numbers from k on
 abbrev pub global_scope : ℕ → List Declaration → Scope
@@ -582,7 +582,7 @@ function_named p name (f ∷ fs) =
 -- the state in which a run begins
 abbrev pub start : TranslationUnit → Input → ℕ → State
 start p input n = record {
-  store = global_blocks p.structs p.globals ++ map literal_block p.texts;
+  store = global_blocks p.structs p.globals ++ map (λ l. literal_block l.bytes) p.texts;
   scope = global_scope 1 p.globals;
   marks = [];
   calls = 0;

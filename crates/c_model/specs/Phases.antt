@@ -8,7 +8,7 @@ use Rattle.c_syntax.specs.Tokens.{PlainTokens}
 use Rattle.c_syntax.specs.Programs.{TranslationUnit, PlainRefusal}
 use Rattle.c_model.specs.CTokens.{tokens_of}
 use Rattle.c_model.specs.Vocabulary.{Vocabulary, word_of}
-use Rattle.c_model.specs.ProgramGrammar.{unit}
+use Rattle.c_model.specs.ProgramGrammar.{texts_of, unit}
 use Rattle.c_model.specs.Checked.{Fault, Good, refusing}
 use Rattle.c_model.specs.ProgramTyping.{typed_unit, main_fault, noted_unit}
 use Rattle.c_model.specs.TokenWords.{refused_at_place, syntax_refusal}
@@ -18,11 +18,11 @@ vocabulary ts = map word_of ts.names
 
 -- the tokens are read as this tree
 abbrev pub IsRead : PlainTokens → TranslationUnit → Type 0
-IsRead ts p = Accepts (unit (vocabulary ts) ts.names) ts.list p
+IsRead ts p = Accepts (unit (vocabulary ts) ts.names (texts_of ts.list)) ts.list p
 
 -- The tokens are no program: the fault's token can't follow those before it, or it is the first that passes a limit.
 pub record IsSyntaxFault (ts : PlainTokens) (f : grammar.Fault) : Type 0 where
-  pub refused : Refused (unit (vocabulary ts) ts.names) ts.list f
+  pub refused : Refused (unit (vocabulary ts) ts.names (texts_of ts.list)) ts.list f
   pub unread : (p : TranslationUnit) → IsRead ts p → ⊥
 
 -- a fault of names or types, at its token

@@ -1,10 +1,9 @@
--- The grammar of annotated C, with the trees that are read (C99 6.8, 6.9, ACSL for asserts):
+-- The grammar of annotated C, with the trees that are read (C99 6.8, 6.9, ACSL for asserts); declarations stand in DeclarationGrammar, and
+-- expressions in ExpressionGrammar:
 --
---   unit       = { function | prototype }
---   function   = heading "{" { item } "}"                       prototype = heading ";"
---   heading    = { "static" | "const" } base { "const" } NAME "(" parameters ")"
---   parameters = [ "void" ] | parameter { "," parameter }       parameter = type [ NAME ]
---   decl       = type declarator { "," declarator } ";"         declarator = NAME "=" ( expr | call )
+--   unit       = { external }
+--   external   = spec [ declared { "," declared } ] ";" | "typedef" spec dtor { "," dtor } ";" | spec { "*" } NAME "(" params ")" ( ";" | body )
+--   body       = "{" { item } "}"
 --   item       = annotation | decl | stmt
 --   stmt       = "{" { item } "}" | ";" | effect ";" | call ";"
 --              | "if" "(" expr ")" stmt [ "else" stmt ]
@@ -14,10 +13,11 @@
 --   annotation = ANNOT-OPEN "assert" sum relation sum ";" ANNOT-CLOSE
 --   sum        = atom { ( "+" | "-" ) atom }          atom = NAME | NUMBER | CHAR | "(" sum ")"
 --
--- "static" stands once at most, and "void" alone is no parameter. Statements are at most 200 deep, a function's body being 1 deep, a
--- clause has at most 400 tokens, and a function has at most 1,000 declarators. A number of an annotation is at most 2,147,483,647.
--- "else" goes with the nearest "if".
-use Rattle.std.specs.Prelude.{ℕ, zero, suc, ◌+◌, ◌-◌, ℤ, pos, List, [], ◌∷◌, ◌++◌, Option, Some, None, Bool, true, false, cond, ltb, int_le}
+-- "typedef" stands anywhere among the words of its spec, as "static" does. A name that a typedef declares is the name of a type from the
+-- end of its declarator on. The stars before the name of a function, with the name, have at most 400 tokens. Statements are at most 200
+-- deep, a function's body being 1 deep, and a clause has at most 400 tokens. A number of an annotation is at most 2,147,483,647. "else"
+-- goes with the nearest "if".
+use Rattle.std.specs.Prelude.{ℕ, zero, suc, ◌+◌, ◌-◌, ℤ, pos, List, [], ◌∷◌, ◌++◌, Option, Some, None, Bool, true, false, cond, int_le, slice_set}
 use Rattle.grammar.specs.Syntax.{Syntax, none, gives, one, ◌then◌, choice, many, knot, deep, at_most}
 use Rattle.c_syntax.specs.declared.place.Place.{Place}
 use Rattle.c_syntax.specs.declared.expression.BinOp.{BinOp}
@@ -26,27 +26,32 @@ use Rattle.c_syntax.specs.declared.annotation.Kind.TheVariants as clause
 use Rattle.c_syntax.specs.declared.annotation.Range.{Range}
 use Rattle.c_syntax.specs.declared.annotation.Relation.{Relation}
 use Rattle.c_syntax.specs.declared.annotation.Relation.TheVariants as relation
-use Rattle.c_syntax.specs.Ctypes.{PlainType, Void}
+use Rattle.c_syntax.specs.Ctypes.{PlainType}
 use Rattle.c_syntax.specs.Expressions.{Expression}
 use Rattle.c_syntax.specs.Annotations as logic
 use Rattle.c_syntax.specs.Annotations.{LogicTerm, Chain, NoLink, Linked, Truth, Annotation}
 use Rattle.c_syntax.specs.Statements as statement
-use Rattle.c_syntax.specs.Statements.{One, Declaration, Statement, ElsePart, NoElse, ForFirst, NoFirst, First, BlockItem, BlockItems, NoItem, Then}
-use Rattle.c_syntax.specs.Programs.{Function, TranslationUnit}
+use Rattle.c_syntax.specs.Statements.{Declaration, Statement, ElsePart, NoElse, ForFirst, NoFirst, First, BlockItem, BlockItems, NoItem, Then}
+use Rattle.c_syntax.specs.Programs.{Function, StringLiteral, TranslationUnit}
 use Rattle.c_syntax.specs.Tokens as token
 use Rattle.c_syntax.specs.Tokens.{PlainTokenKind, PlainToken}
+use Rattle.c_model.specs.declared.declarations.Storage.{Storage}
+use Rattle.c_model.specs.declared.declarations.Storage.TheVariants as storage
+use Rattle.c_model.specs.declared.declarations.Named.TheVariants as ordinary
 use Rattle.c_model.specs.declared.vocabulary.Keyword.TheVariants as keyword
+use Rattle.c_model.specs.declared.vocabulary.TypeName.TheVariants.{Declared}
 use Rattle.c_model.specs.declared.vocabulary.Word.{Word}
 use Rattle.c_model.specs.declared.vocabulary.Word.TheVariants as word
 use Rattle.c_model.specs.Vocabulary.{Vocabulary, word_at}
-use Rattle.c_model.specs.Punctuators.{less_equal, greater_equal, equal, not_equal, plus, minus, less, greater, assign, semicolon, comma, left_paren}
-use Rattle.c_model.specs.Punctuators.{right_paren, left_brace, right_brace}
-use Rattle.c_model.specs.ExpressionGrammar.{name_kind, number_kind, letter_kind, annot_open_kind, annot_close_kind, keyword_kind, mark_kind, kind}
+use Rattle.c_model.specs.Punctuators.{less_equal, greater_equal, equal, not_equal, plus, minus, less, greater, semicolon, comma, left_paren}
+use Rattle.c_model.specs.Punctuators.{left_brace, right_brace}
 use Rattle.c_model.specs.Terminals.{placed, mark_entry, expression_limit, nesting_limit}
-use Rattle.c_model.specs.ExpressionGrammar.{letter_of, kinds_of, first_type, first_expression, first_effect, use_of}
-use Rattle.c_model.specs.ExpressionGrammar.{most_in_expression, most_nested, fixed, mark, reserved, name, base, consts, type_words, closed}
-use Rattle.c_model.specs.ExpressionGrammar.{full_expression, full_expression_or_call, full_effect, full_effect_or_call, type_start, type_behind, TypeStart}
-use Rattle.c_model.specs.ExpressionGrammar.{VoidStart}
+use Rattle.c_model.specs.ExpressionGrammar.{name_kind, number_kind, letter_kind, annot_open_kind, annot_close_kind, keyword_kind, mark_kind, kind}
+use Rattle.c_model.specs.ExpressionGrammar.{letter_of, kinds_of, first_type, first_expression, first_effect, use_of, pointers}
+use Rattle.c_model.specs.ExpressionGrammar.{most_in_expression, most_nested, fixed, mark, reserved, closed}
+use Rattle.c_model.specs.ExpressionGrammar.{full_expression, full_expression_or_call, full_effect, full_effect_or_call}
+use Rattle.c_model.specs.DeclarationGrammar.{Declarator, Definitions, names_function, declared_by, ended, full_dtor, initialised, more_declared}
+use Rattle.c_model.specs.DeclarationGrammar.{declaration, parameters, file_spec}
 
 -- ---- what begins what
 
@@ -57,9 +62,6 @@ first_statement =
 
 abbrev pub first_item : List ℕ
 first_item = annot_open_kind ∷ first_type ++ first_statement
-
-abbrev pub first_function : List ℕ
-first_function = keyword_kind keyword.Static ∷ first_type
 
 -- ---- trees
 
@@ -102,21 +104,9 @@ assertion n at left r right = record {
   body = Truth (Chain r.1 left (Linked r.1 r.0 right NoLink));
 }
 
--- what is counted along a text: the number of the next annotation, and the declarators of a function so far
-pub record Counts : Type 0 where
-  pub annotation : ℕ
-  pub declarators : ℕ
-
--- how a statement is read, with the counts before it and after it
-abbrev pub Counted : Type 1
-Counted = Counts → Syntax PlainToken (Statement × Counts)
-
-abbrev pub initialised : PlainType → ℕ × Place → Place → Expression → Declaration
-initialised t x equals e = record { place = x.1; name = x.0; named = true; ctype = t; init = Some (equals, One e) }
-
--- a parameter, whose name, or first word where it has no name, this is
-abbrev pub parameter_with : PlainType → ℕ × Place → Bool → Declaration
-parameter_with t x named = record { place = x.1; name = x.0; named = named; ctype = t; init = None }
+-- how a statement is read, with the number of the next annotation before it and after it
+abbrev pub Numbered : Type 1
+Numbered = ℕ → Syntax PlainToken (Statement × ℕ)
 
 abbrev pub function_with : PlainType → ℕ × Place → List Declaration → Option Statement → Place → Function
 function_with t f params body close = record {
@@ -129,21 +119,57 @@ function_with t f params body close = record {
   close = close;
 }
 
-abbrev pub unit_with : List (List ℕ) → List Function → TranslationUnit
-unit_with names fs = record {
-  names = names;
-  texts = [];
-  structs = [];
-  enums = [];
+-- what is read of a text so far: what its words are by now, what it defines and declares, and the number of the next annotation
+pub record FileParts : Type 0 where
+  pub words : Vocabulary
+  pub definitions : Definitions
+  pub typedefs : List Declaration
+  pub globals : List Declaration
+  pub functions : List Function
+  pub number : ℕ
+
+abbrev pub no_parts : Vocabulary → FileParts
+no_parts ws = record {
+  words = ws;
+  definitions = record { structs = []; enums = [] };
   typedefs = [];
   globals = [];
-  funcs = fs;
-  strays = [];
+  functions = [];
+  number = 1;
 }
 
--- the limit of declarators in a function (this profile)
-abbrev pub most_declarators : ℕ
-most_declarators = 1000
+-- a type that a `typedef` declares, and its name, which is that of a type from here on (C99 6.7.7)
+abbrev pub with_typedef : PlainType → FileParts → Declarator → FileParts
+with_typedef t x d = record x {
+  words = slice_set x.words d.name (word.TypeName Declared);
+  typedefs = x.typedefs ++ declared_by t d None ∷ [];
+}
+
+-- the string literals among tokens (C99 6.4.5)
+abbrev pub texts_of : List PlainToken → List StringLiteral
+texts_of [] = []
+texts_of (t ∷ ts) = elim t.kind [
+  | token.Chars bytes ↦ record { place = t.place; bytes = bytes } ∷ texts_of ts
+  | token.Word n ↦ texts_of ts
+  | token.Number z k ↦ texts_of ts
+  | token.Letter z ↦ texts_of ts
+  | token.Mark m ↦ texts_of ts
+  | token.AnnotOpen ↦ texts_of ts
+  | token.AnnotClose ↦ texts_of ts
+  | token.Head k n ↦ texts_of ts
+]
+
+abbrev pub unit_with : List (List ℕ) → List StringLiteral → FileParts → TranslationUnit
+unit_with names texts x = record {
+  names = names;
+  texts = texts;
+  structs = x.definitions.structs;
+  enums = x.definitions.enums;
+  typedefs = x.typedefs;
+  globals = x.globals;
+  funcs = x.functions;
+  strays = [];
+}
 
 module _ (ws : Vocabulary) where
   -- ---- annotations; E stands for a sum inside another
@@ -205,117 +231,92 @@ module _ (ws : Vocabulary) where
       mark ws semicolon then λ _. gives (assertion n a.1 left r right)
 
   -- an annotation, which takes the next number and gives the one after
-  unfoldable pub annotation : Counts → Syntax PlainToken (BlockItem × Counts)
+  unfoldable pub annotation : ℕ → Syntax PlainToken (BlockItem × ℕ)
   annotation n =
-      fixed ws annot_open_kind then λ _. at_most expression_limit most_in_expression (assert_clause n.annotation) then λ a.
-      fixed ws annot_close_kind then λ _. gives (statement.Asserts (a ∷ []), record n { annotation = n.annotation + 1 })
-
-  -- ---- declarations (C99 6.7)
-
-  -- the name of one more declarator
-  unfoldable pub declared_name : Counts → Syntax PlainToken (ℕ × Place)
-  declared_name n = cond (ltb n.declarators most_declarators) (name ws) none
-
-  -- NAME "=" ( expr | call ), after these of the same declaration
-  unfoldable pub declarator : PlainType → List Declaration × Counts → Syntax PlainToken (List Declaration × Counts)
-  declarator t x =
-      declared_name x.1 then λ y. mark ws assign then λ equals. full_expression_or_call ws then λ e.
-      gives (x.0 ++ initialised t y equals e ∷ [], record x.1 { declarators = x.1.declarators + 1 })
-
-  unfoldable pub next_declarator : PlainType → List Declaration × Counts → Syntax PlainToken (List Declaration × Counts)
-  next_declarator t x = mark ws comma then λ _. declarator t x
-
-  -- type declarator { "," declarator } ";"
-  unfoldable pub declaration : Counts → Syntax PlainToken (BlockItem × Counts)
-  declaration n =
-      type_words ws then λ t. declarator t ([], n) then λ x. many (kind ws) (λ _. mark_kind comma ∷ []) (next_declarator t) x then λ y.
-      mark ws semicolon then λ _. gives (statement.Declare y.0, y.1)
+      fixed ws annot_open_kind then λ _. at_most expression_limit most_in_expression (assert_clause n) then λ a.
+      fixed ws annot_close_kind then λ _. gives (statement.Asserts (a ∷ []), n + 1)
 
   -- ---- statements; S stands for a statement inside another
-
-  -- ";", after a statement
-  unfoldable pub ended : {A : Type 0} → A → Syntax PlainToken A
-  ended x = mark ws semicolon then λ _. gives x
 
   -- "(" expr ")"
   unfoldable pub condition : Syntax PlainToken Expression
   condition = mark ws left_paren then λ _. full_expression ws then λ e. closed ws e
 
-  unfoldable pub else_branch : Counted → Place → Expression → Statement × Counts → Syntax PlainToken (Statement × Counts)
+  unfoldable pub else_branch : Numbered → Place → Expression → Statement × ℕ → Syntax PlainToken (Statement × ℕ)
   else_branch S at e x = reserved ws keyword.Else then λ _. S x.1 then λ y. gives (statement.If at e x.0 (statement.Else y.0), y.1)
 
   -- [ "else" stmt ], which goes with the nearest `if`
-  unfoldable pub else_part : Counted → Place → Expression → Statement × Counts → Syntax PlainToken (Statement × Counts)
+  unfoldable pub else_part : Numbered → Place → Expression → Statement × ℕ → Syntax PlainToken (Statement × ℕ)
   else_part S at e x =
       cond (is_open x.0) (gives (statement.If at e x.0 NoElse, x.1))
       (choice (kind ws) (keyword_kind keyword.Else ∷ []) (else_branch S at e x) (gives (statement.If at e x.0 NoElse, x.1)))
 
-  unfoldable pub selection : Counted → Counted
+  unfoldable pub selection : Numbered → Numbered
   selection S n = reserved ws keyword.If then λ at. condition then λ e. S n then λ x. else_part S at e x
 
-  unfoldable pub while_loop : Counted → Counted
+  unfoldable pub while_loop : Numbered → Numbered
   while_loop S n = reserved ws keyword.While then λ at. condition then λ e. S n then λ x. gives (statement.While at [] e x.0, x.1)
 
-  unfoldable pub do_loop : Counted → Counted
+  unfoldable pub do_loop : Numbered → Numbered
   do_loop S n =
       reserved ws keyword.Do then λ at. S n then λ x. reserved ws keyword.While then λ _. condition then λ e.
-      ended (statement.Do at x.0 e, x.1)
+      ended ws (statement.Do at x.0 e, x.1)
 
   -- decl | [ effect | call ] ";"
-  unfoldable pub for_first : Counts → Syntax PlainToken (ForFirst × Counts)
+  unfoldable pub for_first : ℕ → Syntax PlainToken (ForFirst × ℕ)
   for_first n =
-      choice (kind ws) first_type (declaration n then λ x. gives (First x.0, x.1))
-      (choice (kind ws) first_effect (full_effect_or_call ws then λ e. ended (First (statement.Run (statement.Eval e.1 e.0)), n))
-      (ended (NoFirst, n)))
+      choice (kind ws) first_type (declaration ws then λ i. gives (First i, n))
+      (choice (kind ws) first_effect (full_effect_or_call ws then λ e. ended ws (First (statement.Run (statement.Eval e.1 e.0)), n))
+      (ended ws (NoFirst, n)))
 
   -- [ expr ] ";"
   unfoldable pub maybe_ended : Syntax PlainToken (Option Expression)
-  maybe_ended = choice (kind ws) first_expression (full_expression ws then λ e. ended (Some e)) (ended None)
+  maybe_ended = choice (kind ws) first_expression (full_expression ws then λ e. ended ws (Some e)) (ended ws None)
 
   -- [ effect ] ")"
   unfoldable pub for_behind : Syntax PlainToken (Option Expression)
   for_behind = choice (kind ws) first_effect (full_effect ws then λ e. closed ws (Some e.0)) (closed ws None)
 
-  unfoldable pub for_loop : Counted → Counted
+  unfoldable pub for_loop : Numbered → Numbered
   for_loop S n =
       reserved ws keyword.For then λ at. mark ws left_paren then λ _. for_first n then λ first. maybe_ended then λ e. for_behind then λ behind.
       S first.1 then λ x. gives (statement.For at [] first.0 e behind x.0, x.1)
 
-  unfoldable pub jump : Counted
+  unfoldable pub jump : Numbered
   jump n =
-      choice (kind ws) (keyword_kind keyword.Break ∷ []) (reserved ws keyword.Break then λ at. ended (statement.Break at, n))
-      (reserved ws keyword.Continue then λ at. ended (statement.Continue at, n))
+      choice (kind ws) (keyword_kind keyword.Break ∷ []) (reserved ws keyword.Break then λ at. ended ws (statement.Break at, n))
+      (reserved ws keyword.Continue then λ at. ended ws (statement.Continue at, n))
 
   -- [ expr | call ] ";"
   unfoldable pub returned : Syntax PlainToken (Option Expression)
-  returned = choice (kind ws) first_expression (full_expression_or_call ws then λ e. ended (Some e)) (ended None)
+  returned = choice (kind ws) first_expression (full_expression_or_call ws then λ e. ended ws (Some e)) (ended ws None)
 
-  unfoldable pub return_statement : Counted
+  unfoldable pub return_statement : Numbered
   return_statement n = reserved ws keyword.Return then λ at. returned then λ e. gives (statement.Return at e, n)
 
-  unfoldable pub item : Counted → Counts → Syntax PlainToken (BlockItem × Counts)
+  unfoldable pub item : Numbered → ℕ → Syntax PlainToken (BlockItem × ℕ)
   item S n =
       choice (kind ws) (annot_open_kind ∷ []) (annotation n)
-      (choice (kind ws) first_type (declaration n) (S n then λ x. gives (statement.Run x.0, x.1)))
+      (choice (kind ws) first_type (declaration ws then λ i. gives (i, n)) (S n then λ x. gives (statement.Run x.0, x.1)))
 
-  unfoldable pub items_once : Counted → List BlockItem × Counts → Syntax PlainToken (List BlockItem × Counts)
+  unfoldable pub items_once : Numbered → List BlockItem × ℕ → Syntax PlainToken (List BlockItem × ℕ)
   items_once S x = item S x.1 then λ i. gives (x.0 ++ i.0 ∷ [], i.1)
 
   -- { item }, after the items x
-  unfoldable pub items : Counted → List BlockItem × Counts → Syntax PlainToken (List BlockItem × Counts)
+  unfoldable pub items : Numbered → List BlockItem × ℕ → Syntax PlainToken (List BlockItem × ℕ)
   items S x = many (kind ws) (λ _. first_item) (items_once S) x
 
-  unfoldable pub block : Counted → Counted
+  unfoldable pub block : Numbered → Numbered
   block S n = mark ws left_brace then λ at. items S ([], n) then λ x. mark ws right_brace then λ _. gives (statement.Block at (block_items x.0), x.1)
 
-  unfoldable pub empty_statement : Counted
+  unfoldable pub empty_statement : Numbered
   empty_statement n = mark ws semicolon then λ at. gives (statement.Empty at, n)
 
   -- ( effect | call ) ";"
-  unfoldable pub effect_statement : Counted
-  effect_statement n = full_effect_or_call ws then λ e. ended (statement.Eval e.1 e.0, n)
+  unfoldable pub effect_statement : Numbered
+  effect_statement n = full_effect_or_call ws then λ e. ended ws (statement.Eval e.1 e.0, n)
 
-  unfoldable pub statement_of : Counted → Counted
+  unfoldable pub statement_of : Numbered → Numbered
   statement_of S n =
       choice (kind ws) (mark_kind left_brace ∷ []) (block S n)
       (choice (kind ws) (mark_kind semicolon ∷ []) (empty_statement n)
@@ -327,77 +328,73 @@ module _ (ws : Vocabulary) where
       (choice (kind ws) (keyword_kind keyword.Break ∷ keyword_kind keyword.Continue ∷ []) (jump n) (effect_statement n))))))))
 
   -- a statement in which statements stand at most d deep, itself included; one deeper passes the limit
-  unfoldable pub statement_in : ℕ → Counted
+  unfoldable pub statement_in : ℕ → Numbered
   statement_in zero n = deep nesting_limit (kind ws) first_statement (statement_of (λ m. none) n)
   statement_in (suc d) n = statement_of (statement_in d) n
 
-  -- ---- functions and texts (C99 6.9)
-
-  -- what may stand before a type at file scope, where "static" is read or not
-  abbrev pub storage_words : Bool → List ℕ
-  storage_words true = keyword_kind keyword.Const ∷ []
-  storage_words false = keyword_kind keyword.Static ∷ keyword_kind keyword.Const ∷ []
-
-  unfoldable pub storage_word : Bool → Syntax PlainToken Bool
-  storage_word seen =
-      choice (kind ws) (keyword_kind keyword.Static ∷ []) (cond seen none (reserved ws keyword.Static then λ _. gives true))
-      (reserved ws keyword.Const then λ _. gives seen)
-
-  -- { "static" | "const" } base { "const" }
-  unfoldable pub result_type : Syntax PlainToken PlainType
-  result_type = many (kind ws) storage_words storage_word false then λ _. base ws then λ t. consts ws t
-
-  -- [ NAME ], after a parameter's type whose first word this is
-  unfoldable pub parameter_name : PlainType → ℕ × Place → Syntax PlainToken Declaration
-  parameter_name t first =
-      choice (kind ws) (name_kind ∷ []) (name ws then λ x. gives (parameter_with t x true)) (gives (parameter_with t first false))
-
-  -- after "void" that begins a parameter, which is no "void" alone
-  unfoldable pub void_parameter : ℕ × Place → Syntax PlainToken Declaration
-  void_parameter first =
-      choice (kind ws) (keyword_kind keyword.Const ∷ []) (reserved ws keyword.Const then λ _. consts ws Void then λ t. parameter_name t first)
-      (name ws then λ x. gives (parameter_with Void x true))
-
-  -- a parameter after its first word
-  unfoldable pub parameter_behind : TypeStart → ℕ × Place → Syntax PlainToken Declaration
-  parameter_behind VoidStart first = void_parameter first
-  parameter_behind start first = type_behind ws start then λ t. parameter_name t first
-
-  unfoldable pub parameter : Syntax PlainToken Declaration
-  parameter = one (placed (type_start ws)) then λ s. parameter_behind s.0.0 (s.0.1, s.1)
-
-  unfoldable pub next_parameter : List Declaration → Syntax PlainToken (List Declaration)
-  next_parameter ps = mark ws comma then λ _. parameter then λ p. gives (ps ++ p ∷ [])
-
-  -- { "," parameter } ")", after the first one
-  unfoldable pub more_parameters : Declaration → Syntax PlainToken (List Declaration)
-  more_parameters p = many (kind ws) (λ _. mark_kind comma ∷ []) next_parameter (p ∷ []) then λ ps. closed ws ps
-
-  -- what stands after the first word: "void" may be all there is
-  unfoldable pub first_parameter : TypeStart → ℕ × Place → Syntax PlainToken (List Declaration)
-  first_parameter VoidStart first =
-      choice (kind ws) (mark_kind right_paren ∷ []) (closed ws []) (void_parameter first then λ p. more_parameters p)
-  first_parameter start first = parameter_behind start first then λ p. more_parameters p
-
-  -- parameters ")"
-  unfoldable pub parameters : Syntax PlainToken (List Declaration)
-  parameters =
-      choice (kind ws) (mark_kind right_paren ∷ []) (closed ws [])
-      (one (placed (type_start ws)) then λ s. first_parameter s.0.0 (s.0.1, s.1))
+  -- ---- functions (C99 6.9.1)
 
   -- ";", or a body; the number of the next annotation goes on from here
   unfoldable pub function_rest : PlainType → ℕ × Place → List Declaration → ℕ → Syntax PlainToken (Function × ℕ)
   function_rest t f params n =
       choice (kind ws) (mark_kind semicolon ∷ []) (mark ws semicolon then λ at. gives (function_with t f params None at, n))
-      (mark ws left_brace then λ start. items (statement_in (most_nested - 1)) ([], record { annotation = n; declarators = 0 }) then λ x.
-      mark ws right_brace then λ close. gives (function_with t f params (Some (statement.Block start (block_items x.0))) close, x.1.annotation))
+      (mark ws left_brace then λ start. items (statement_in (most_nested - 1)) ([], n) then λ x.
+      mark ws right_brace then λ close. gives (function_with t f params (Some (statement.Block start (block_items x.0))) close, x.1))
 
-  unfoldable pub function : ℕ → Syntax PlainToken (Function × ℕ)
-  function n = result_type then λ t. name ws then λ f. mark ws left_paren then λ _. parameters then λ params. function_rest t f params n
+  -- a function or a prototype, after its name
+  unfoldable pub function : PlainType → FileParts → Declarator → Syntax PlainToken FileParts
+  function t x d =
+      mark ws left_paren then λ _. parameters ws then λ params. function_rest (pointers d.stars.count t) (d.name, d.place) params x.number then λ f.
+      gives (record x { functions = x.functions ++ f.0 ∷ []; number = f.1 })
 
-  unfoldable pub one_more_function : List Function × ℕ → Syntax PlainToken (List Function × ℕ)
-  one_more_function x = function x.1 then λ f. gives (x.0 ++ f.0 ∷ [], f.1)
+  -- ---- declarations at file scope (C99 6.9.2)
 
-  -- a text, given its names
-  unfoldable pub unit : List (List ℕ) → Syntax PlainToken TranslationUnit
-  unit names = many (kind ws) (λ _. first_function) one_more_function ([], 1) then λ x. gives (unit_with names x.0)
+  -- [ "=" init ] { "," declared } ";", after the first declarator
+  unfoldable pub globals : PlainType → FileParts → Declarator → Syntax PlainToken FileParts
+  globals t x d = initialised ws t d then λ g. more_declared ws t (x.globals ++ g ∷ []) then λ gs. gives (record x { globals = gs })
+
+  -- what stands after the first declarator
+  unfoldable pub behind_declarator : PlainType → FileParts → Declarator → Syntax PlainToken FileParts
+  behind_declarator t x d =
+      cond (names_function d) (choice (kind ws) (mark_kind left_paren ∷ []) (function t x d) (globals t x d)) (globals t x d)
+
+  -- what stands after the words for a type
+  unfoldable pub declared_at_file : PlainType → FileParts → Syntax PlainToken FileParts
+  declared_at_file t x =
+      choice (kind ws) (mark_kind semicolon ∷ []) (ended ws x) (full_dtor ws ordinary.Ordinary then λ d. behind_declarator t x d)
+
+-- ---- what a typedef declares (C99 6.7.7), each name being that of a type from the end of its declarator on
+
+unfoldable pub next_typedef : PlainType → FileParts → Syntax PlainToken FileParts
+next_typedef t x = mark x.words comma then λ _. full_dtor x.words ordinary.Ordinary then λ d. gives (with_typedef t x d)
+
+-- { "," dtor } ";"; a comma is one whatever the words are
+unfoldable pub more_typedefs : PlainType → FileParts → Syntax PlainToken FileParts
+more_typedefs t x = many (kind []) (λ _. mark_kind comma ∷ []) (next_typedef t) x then λ y. ended y.words y
+
+-- dtor { "," dtor } ";"
+unfoldable pub typedefs : PlainType → FileParts → Syntax PlainToken FileParts
+typedefs t x = full_dtor x.words ordinary.Ordinary then λ d. more_typedefs t (with_typedef t x d)
+
+-- ---- texts (C99 6.9)
+
+-- what stands after a spec
+abbrev pub behind_spec : Storage → PlainType → FileParts → Syntax PlainToken FileParts
+behind_spec storage.Typedef t x = typedefs t x
+behind_spec storage.Static t x = declared_at_file x.words t x
+behind_spec storage.Nothing t x = declared_at_file x.words t x
+
+unfoldable pub external : FileParts → Syntax PlainToken FileParts
+external x = file_spec x.words x.definitions then λ s. behind_spec s.storage s.ctype (record x { definitions = s.definitions })
+
+-- a kind that all tokens have
+abbrev pub any_kind : PlainToken → ℕ
+any_kind t = 0
+
+-- what a text declares, after these parts, as far as there are tokens
+unfoldable pub more_external : FileParts → Syntax PlainToken FileParts
+more_external x = many any_kind (λ _. 0 ∷ []) external x
+
+-- a text, given what its words are, its names and its string literals
+unfoldable pub unit : Vocabulary → List (List ℕ) → List StringLiteral → Syntax PlainToken TranslationUnit
+unit ws names texts = more_external (no_parts ws) then λ x. gives (unit_with names texts x)

@@ -3,7 +3,7 @@ use Rattle.std.specs.Prelude.{ℕ, List, [], ◌∷◌, ◌++◌, map, nat_eq, O
 use Rattle.c_syntax.specs.RefusalCodes.{main_code}
 use Rattle.c_syntax.specs.declared.place.Place.{Place}
 use Rattle.c_syntax.specs.declared.annotation.Range.{Range}
-use Rattle.c_syntax.specs.Ctypes.{PlainType, int_type}
+use Rattle.c_syntax.specs.Ctypes.{PlainType, Void, int_type}
 use Rattle.c_syntax.specs.Annotations.{LogicTerm, Number, Letter, Variable, Binary, Predicate, Chain, Links, NoLink, Linked, ClauseBody, Truth, Annotation}
 use Rattle.c_syntax.specs.Statements.{Declaration, Statement, Empty, Eval, Block, If, While, Do, For, Break, Continue, Return, ElsePart, NoElse, Else}
 use Rattle.c_syntax.specs.Statements.{BlockItem, Declare, Run, Asserts, BlockItems, NoItem, Then}
@@ -11,7 +11,7 @@ use Rattle.c_syntax.specs.Programs.{Function, TranslationUnit}
 use Rattle.c_model.specs.Places.{first_place}
 use Rattle.c_model.specs.Meaning.{is_definition}
 use Rattle.c_model.specs.Library.{library_constant, is_library_name, is_there}
-use Rattle.c_model.specs.Checked.{Fault, Checked, Good, given, one_part, both_parts, where_so}
+use Rattle.c_model.specs.Checked.{Fault, Checked, Good, faulty, given, one_part, both_parts, where_so}
 use Rattle.c_model.specs.Typing.{no_name, no_type, Signature, Scopes, name_at, object_named, use_as, same_type, is_object_type, declarable, with_object, inner}
 use Rattle.c_model.specs.Typing.{behind, behind_first, typed_items}
 
@@ -65,10 +65,16 @@ abbrev pub is_compatible_with_all : List Function → Function → Bool
 is_compatible_with_all [] g = true
 is_compatible_with_all (f ∷ fs) g = is_compatible f g && is_compatible_with_all fs g
 
--- a function's name: none of the library's, and fitting the declarations before it
+-- an integer, or void
+abbrev pub is_result_type : PlainType → Bool
+is_result_type Void = true
+is_result_type t = is_object_type t
+
+-- a function's name: none of the library's, and fitting the declarations before it; and the type of its result
 abbrev pub typed_heading : Scopes → List Function → Function → Checked Function
 typed_heading s before f =
-    where_so (not (is_library_name (name_at s.names f.name)) && is_compatible_with_all before f) (no_name f.place) (Good f)
+    where_so (not (is_library_name (name_at s.names f.name)) && is_compatible_with_all before f) (no_name f.place)
+    (where_so (is_result_type f.result) (no_type f.place) (Good f))
 
 -- a parameter: its name, where it has one, is new in its scope and none of the library's, and it is an object (C99 6.7.5.3)
 abbrev pub typed_parameter : Scopes → Declaration → Checked Declaration
@@ -106,9 +112,19 @@ typed_functions p before [] = Good []
 typed_functions p before (f ∷ fs) =
     both_parts (typed_function (function_scopes p before f) before f) (typed_functions p (before ++ f ∷ []) fs) (λ f fs. Good (f ∷ fs))
 
+-- strings, and what is declared at file scope besides functions, have no type yet
+abbrev pub untyped_places : TranslationUnit → List Place
+untyped_places p =
+    (((map (λ l. l.place) p.texts ++ map (λ d. d.place) p.globals) ++ map (λ d. d.place) p.typedefs) ++ map (λ s. s.place) p.structs)
+    ++ map (λ e. e.place) p.enums
+
+abbrev pub untyped_at : List Place → Checked (Unit {0})
+untyped_at [] = Good tt
+untyped_at (at ∷ rest) = both_parts (faulty {A = Unit {0}} (no_type at)) (untyped_at rest) (λ _ _. Good tt)
+
 -- names and types of a text
 abbrev pub typed_unit : TranslationUnit → Checked TranslationUnit
-typed_unit p = one_part (typed_functions p [] p.funcs) (λ fs. Good (record p { funcs = fs }))
+typed_unit p = both_parts (typed_functions p [] p.funcs) (untyped_at (untyped_places p)) (λ fs _. Good (record p { funcs = fs }))
 
 -- ---- `main`
 

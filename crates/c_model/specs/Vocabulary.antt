@@ -4,7 +4,8 @@ use Rattle.c_syntax.specs.declared.types.CInt.{CInt}
 use Rattle.c_syntax.specs.declared.types.CInt.TheVariants.{I8, U8, I16, U16, I32, U32, I64, U64}
 use Rattle.c_model.specs.declared.vocabulary.Keyword.{Keyword}
 use Rattle.c_model.specs.declared.vocabulary.Keyword.TheVariants.{Char, Short, Int, Long, Signed, Unsigned, Void, Const, Static, If, Else, While, Do, For}
-use Rattle.c_model.specs.declared.vocabulary.Keyword.TheVariants.{Break, Continue, Return, Sizeof, Kept}
+use Rattle.c_model.specs.declared.vocabulary.Keyword.TheVariants.{Break, Continue, Return, Sizeof, Struct, Enum, Typedef, Kept}
+use Rattle.c_model.specs.declared.vocabulary.TypeName.TheVariants.{Library}
 use Rattle.c_model.specs.declared.vocabulary.Word.{Word}
 use Rattle.c_model.specs.declared.vocabulary.Word.TheVariants as word
 use Rattle.c_model.specs.declared.vocabulary.SignWords.{SignWords}
@@ -24,21 +25,23 @@ keywords =
     ∷ (codes "signed", word.Keyword Signed) ∷ (codes "unsigned", word.Keyword Unsigned) ∷ (codes "void", word.Keyword Void)
     ∷ (codes "const", word.Keyword Const) ∷ (codes "static", word.Keyword Static) ∷ (codes "if", word.Keyword If) ∷ (codes "else", word.Keyword Else)
     ∷ (codes "while", word.Keyword While) ∷ (codes "do", word.Keyword Do) ∷ (codes "for", word.Keyword For) ∷ (codes "break", word.Keyword Break)
-    ∷ (codes "continue", word.Keyword Continue) ∷ (codes "return", word.Keyword Return) ∷ (codes "sizeof", word.Keyword Sizeof) ∷ []
+    ∷ (codes "continue", word.Keyword Continue) ∷ (codes "return", word.Keyword Return) ∷ (codes "sizeof", word.Keyword Sizeof)
+    ∷ (codes "struct", word.Keyword Struct) ∷ (codes "enum", word.Keyword Enum) ∷ (codes "typedef", word.Keyword Typedef) ∷ []
 
 -- the keywords that stand in no form yet, or in none at all
 abbrev pub kept_keywords : Words
 kept_keywords =
-    (codes "switch", word.Keyword Kept) ∷ (codes "case", word.Keyword Kept) ∷ (codes "default", word.Keyword Kept) ∷ (codes "enum", word.Keyword Kept)
-    ∷ (codes "struct", word.Keyword Kept) ∷ (codes "typedef", word.Keyword Kept) ∷ (codes "auto", word.Keyword Kept) ∷ (codes "register", word.Keyword Kept)
-    ∷ (codes "extern", word.Keyword Kept) ∷ (codes "inline", word.Keyword Kept) ∷ (codes "restrict", word.Keyword Kept) ∷ (codes "volatile", word.Keyword Kept)
-    ∷ (codes "goto", word.Keyword Kept) ∷ (codes "union", word.Keyword Kept) ∷ (codes "float", word.Keyword Kept) ∷ (codes "double", word.Keyword Kept)
-    ∷ (codes "_Bool", word.Keyword Kept) ∷ (codes "_Complex", word.Keyword Kept) ∷ (codes "_Imaginary", word.Keyword Kept) ∷ []
+    (codes "switch", word.Keyword Kept) ∷ (codes "case", word.Keyword Kept) ∷ (codes "default", word.Keyword Kept) ∷ (codes "auto", word.Keyword Kept)
+    ∷ (codes "register", word.Keyword Kept) ∷ (codes "extern", word.Keyword Kept) ∷ (codes "inline", word.Keyword Kept) ∷ (codes "restrict", word.Keyword Kept)
+    ∷ (codes "volatile", word.Keyword Kept) ∷ (codes "goto", word.Keyword Kept) ∷ (codes "union", word.Keyword Kept) ∷ (codes "float", word.Keyword Kept)
+    ∷ (codes "double", word.Keyword Kept) ∷ (codes "_Bool", word.Keyword Kept) ∷ (codes "_Complex", word.Keyword Kept)
+    ∷ (codes "_Imaginary", word.Keyword Kept) ∷ []
 
 -- types of the library (C99 7.17), and words of annotations (ACSL)
 abbrev pub other_words : Words
-other_words = (codes "size_t", word.TypeName U64) ∷ (codes "ptrdiff_t", word.TypeName I64) ∷ (codes "assert", word.Assert) ∷ (codes "integer", word.Integer)
-    ∷ []
+other_words =
+    (codes "size_t", word.TypeName (Library U64)) ∷ (codes "ptrdiff_t", word.TypeName (Library I64)) ∷ (codes "assert", word.Assert)
+    ∷ (codes "integer", word.Integer) ∷ []
 
 -- a word that begins with `\` stands in annotations alone
 abbrev pub name_or_logic : List ℕ → Word

@@ -12,6 +12,7 @@ pub mod punctuator;
 pub mod vocabulary;
 
 // programs
+pub mod declarations;
 pub mod laws;
 pub mod operands;
 

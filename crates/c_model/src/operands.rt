@@ -1,12 +1,12 @@
-//! What is read of an expression's operands (C99 6.5).
+//! What is read of an expression's operands, and of a declarator (C99 6.5, 6.7.5).
 
 use c_syntax::BinOp;
 
 /// What form an operand has, by which it can go on.
 #[derive(Clone, Copy, PartialEq, Eq, Debug)]
 pub enum Form {
-    /// A primary expression, which `++` may follow.
-    Primary,
+    /// A postfix expression, which `++` may follow.
+    Postfix,
     /// A unary expression, which `=` may follow.
     Unary,
     Cast,
@@ -22,6 +22,14 @@ pub enum TypeUse {
     /// What `sizeof` takes.
     Sizes,
     Nothing,
+}
+
+/// The stars of a declarator.
+#[derive(Clone, Copy, PartialEq, Eq, Debug)]
+pub struct Stars {
+    pub count: usize,
+    /// Whether `const` stands after one of them.
+    pub constant: bool,
 }
 
 /// What joins two operands.

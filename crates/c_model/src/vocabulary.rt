@@ -23,16 +23,27 @@ pub enum Keyword {
     Continue,
     Return,
     Sizeof,
+    Struct,
+    Enum,
+    Typedef,
     /// A keyword that stands in no form yet.
     Kept,
+}
+
+/// What the name of a type denotes (C99 6.7.7).
+#[derive(Clone, Copy, PartialEq, Eq, Debug)]
+pub enum TypeName {
+    /// An integer type of the library (C99 7.17).
+    Library(CInt),
+    /// A type that a `typedef` of the file declares.
+    Declared,
 }
 
 /// What a word is.
 #[derive(Clone, Copy, PartialEq, Eq, Debug)]
 pub enum Word {
     Keyword(Keyword),
-    /// The name of an integer type of the library (C99 7.17).
-    TypeName(CInt),
+    TypeName(TypeName),
     /// `assert`, which is a name besides.
     Assert,
     /// `integer`, which is a name of C and a type of annotations.

@@ -302,6 +302,19 @@ module _ {T : Type 0} {K : T → ℕ} where
         empty = λ t u. absurd cc;
       }) g h
 
+  -- what follows depends on the value, and isn't empty
+  pub seq_by : {A B : Type 0} {n : ℕ} {G G' : Syntax T A} {H H' : A → Syntax T B} {f1 : List ℕ} {m1 : A → List ℕ} {f2 : A → List ℕ} {more : List ℕ} → IsGood K n G G' false f1 m1 → ((x : A) → IsGood K n (H x) (H' x) false (f2 x) (λ _. more))
+      → ((x : A) → apart (f2 x) (m1 x) ≡ true) → IsGood K n (G then H) (G' then H') false f1 (λ _. more)
+  seq_by {A} {B} {n} {G} {G'} {H} {H'} {f1} {m1} {f2} {more} g h e =
+      then_good K n G G' H H' false f1 m1 false f2 (λ _ _. more) false f1 (λ _. more) (λ _ _. Unit {0}) (λ _ _ _. tt) (λ _ _ _. tt) (record {
+        clash = e;
+        late = λ x y. within_self more;
+        over = λ x y t _. absurd cc;
+        begin = within_self f1;
+        next = λ x t. absurd cc;
+        empty = λ t u. absurd cc;
+      }) g h
+
   -- a larger set of what can follow does no harm
   pub widened : {A : Type 0} {n : ℕ} {G H : Syntax T A} {null : Bool} {first : List ℕ} {m more : A → List ℕ} → IsGood K n G H null first m → ((x : A) → within (m x) (more x) ≡ true) → IsGood K n G H null first more
   widened {A} {n} {G} {H} {null} {first} {m} {more} g e =
@@ -320,13 +333,14 @@ module _ {T : Type 0} {K : T → ℕ} where
   pub to_constant : {A : Type 0} {n : ℕ} {G H : Syntax T A} {null : Bool} {first : List ℕ} {m : A → List ℕ} (more : List ℕ) → IsGood K n G H null first m → ((x : A) → within (m x) more ≡ true) → IsGood K n G H null first (λ _. more)
   to_constant more g e = widened g e
 
--- What ends by a token of its own is exact for other kinds too.
-pub recast : {T A : Type 0} {K J : T → ℕ} {G : Syntax T A} {null : Bool} {first : List ℕ} (first' : List ℕ) → ((t : T) → among (K t) first ≡ true → among (J t) first' ≡ true) → IsExact K G null first (λ _. []) → IsExact J G null first' (λ _. [])
-recast {T} {A} {K} {J} {G} {null} {first} first' f g = record {
+-- What is exact for one kind of tokens is so for another that has the kinds of its sets.
+pub recast : {T A : Type 0} {K J : T → ℕ} {G : Syntax T A} {null : Bool} {first : List ℕ} {more : A → List ℕ} (first' : List ℕ) (more' : A → List ℕ) → ((t : T) → among (K t) first ≡ true → among (J t) first' ≡ true)
+    → ((x : A) (t : T) → among (K t) (more x) ≡ true → among (J t) (more' x) ≡ true) → IsExact K G null first more → IsExact J G null first' more'
+recast {T} {A} {K} {J} {G} {null} {first} {more} first' more' f m g = record {
   takes = g.takes;
   fails = g.fails;
   overs = g.overs;
-  again = λ a x b r s. g.again a x b r (blind b);
+  again = λ a x b r s. g.again a x b r (blind x b s);
   lates = g.lates;
   late_begins = g.late_begins;
   runs = g.runs;
@@ -336,10 +350,48 @@ recast {T} {A} {K} {J} {G} {null} {first} first' f g = record {
   starts = λ t ts b. f t (g.starts t ts b);
   filled = g.filled;
   single = g.single;
-  goes_on = λ a x t u r b. g.goes_on a x t u r b;
+  goes_on = λ a x t u r b. m x t (g.goes_on a x t u r b);
   one_limit = g.one_limit;
 }
   where
-    blind : (b : List T) → sees K [] b ≡ false
-    blind [] = refl
-    blind (t ∷ ts) = refl
+    tested : (x : A) (t : T) (b : Bool) → among (K t) (more x) ≡ b → among (J t) (more' x) ≡ false → b ≡ false
+    tested x t true is s = let is' = m x t is in absurd cc
+    tested x t false is s = refl
+
+    blind : (x : A) (b : List T) → sees J (more' x) b ≡ false → sees K (more x) b ≡ false
+    blind x [] s = refl
+    blind x (t ∷ ts) s = tested x t (among (K t) (more x)) refl s
+
+-- What reads no empty text is never empty.
+pub never_empty : {T A : Type 0} {K : T → ℕ} {n : ℕ} {G H : Syntax T A} {null : Bool} {first : List ℕ} {more : A → List ℕ} → IsGood K n G H null first more → ((x : A) → G.reads [] x → ⊥) → ((x : A) → H.reads [] x → ⊥) →
+    IsGood K n G H false first more
+never_empty {T} {A} {K} {n} {G} {H} {null} {first} {more} g f h = record {
+  here = solid G g.here f;
+  there = solid H g.there h;
+  reads = g.reads;
+  begun = g.begun;
+  late = g.late;
+  agree = g.agree;
+  reads_back = g.reads_back;
+  begun_back = g.begun_back;
+  late_back = g.late_back;
+}
+  where
+    solid : (F : Syntax T A) → IsExact K F null first more → ((x : A) → F.reads [] x → ⊥) → IsExact K F false first more
+    solid F e none_empty = record {
+      takes = e.takes;
+      fails = e.fails;
+      overs = e.overs;
+      again = e.again;
+      lates = e.lates;
+      late_begins = e.late_begins;
+      runs = e.runs;
+      begins = e.begins;
+      fronts = e.fronts;
+      empty = e.empty;
+      starts = e.starts;
+      filled = λ x r. absurd (none_empty x r);
+      single = e.single;
+      goes_on = e.goes_on;
+      one_limit = e.one_limit;
+    }

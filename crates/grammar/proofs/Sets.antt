@@ -120,3 +120,14 @@ within_both [] ys zs h k = k
 within_both (x ∷ xs) ys zs h k =
     let p = cond_true (among x zs) (within xs zs) h in
     rw p.0 (within_both xs ys zs p.1 k)
+
+pub apart_joined : (xs ys zs : List ℕ) → apart xs zs ≡ true → apart ys zs ≡ true → apart (xs ++ ys) zs ≡ true
+apart_joined [] ys zs a b = b
+apart_joined (x ∷ xs) ys zs a b = let p = cond_false (among x zs) (apart xs zs) a in rw p.0 (apart_joined xs ys zs p.1 b)
+
+pub apart_front : (xs ys zs : List ℕ) → apart xs (ys ++ zs) ≡ true → apart xs ys ≡ true
+apart_front [] ys zs a = refl
+apart_front (x ∷ xs) ys zs a =
+    let p = cond_false (among x (ys ++ zs)) (apart xs (ys ++ zs)) a in
+    let q : among x ys ≡ false = not_both (among x ys) (λ h. let k = within_among ys (ys ++ zs) x (within_left ys zs) h in let f = p.0 in cc) in
+    rw q (apart_front xs ys zs p.1)
