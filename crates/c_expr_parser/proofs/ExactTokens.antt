@@ -21,9 +21,10 @@ use Rattle.c_model.specs.declared.vocabulary.SizeWords.TheVariants as size
 use Rattle.c_model.specs.declared.vocabulary.SizeWords.{SizeWords}
 use Rattle.c_model.specs.declared.vocabulary.IntegerWords.{IntegerWords}
 use Rattle.c_model.specs.Vocabulary.{Vocabulary, word_at, sign_with, size_with, words_with}
-use Rattle.c_model.specs.ExpressionGrammar.{name_kind, number_kind, letter_kind, type_name_kind, keyword_kind, mark_kind, word_kind, token_kind, kind, number_of, letter_of, kinds_of, first_type, signs_behind, sizes_behind}
+use Rattle.c_model.specs.ExpressionGrammar.{name_kind, number_kind, letter_kind, type_name_kind, keyword_kind, mark_kind, word_kind, token_kind, kind, number_of, letter_of, kinds_of, first_type, first_any_name}
+use Rattle.c_model.specs.ExpressionGrammar.{signs_behind, sizes_behind}
 use Rattle.c_model.specs.Terminals.{placed, entry, mark_entry}
-use Rattle.c_model.specs.ExpressionGrammar.{words_behind, keyword_of, next_words, type_name_word_of, type_name_of, TypeStart, type_start_of, type_start, fixed, name_of, name}
+use Rattle.c_model.specs.ExpressionGrammar.{words_behind, keyword_of, next_words, type_named, typedef_name_of, TypeStart, type_start_of, type_start, fixed, name_of, name, any_name_of, any_name}
 
 -- a production is read exactly, with these sets: where it can be empty, what begins it, and what a reading can go on with
 abbrev pub IsRead : {A : Type 0} → Vocabulary → Syntax PlainToken A → Bool → List ℕ → List ℕ → Type 0
@@ -127,6 +128,17 @@ module _ (ws : Vocabulary) where
   pub name_good : {n : ℕ} → AreRead ws n (name ws) (name ws) false (name_kind ∷ []) []
   name_good = placed_good (name_of ws) (name_kind ∷ []) name_among
 
+  any_name_among : (t : PlainTokenKind) (m : ℕ) → any_name_of ws t ≡ Some m → among (token_kind ws t) first_any_name ≡ true
+  any_name_among (tokens.Word k) m e = tested (among (word_kind (word_at ws k)) first_any_name) e
+    where
+      tested : (b : Bool) → cond b (Some k) None ≡ Some m → b ≡ true
+      tested true e = refl
+      tested false e = absurd cc
+  any_name_among _ m e = absurd cc
+
+  pub any_name_good : {n : ℕ} → AreRead ws n (any_name ws) (any_name ws) false first_any_name []
+  any_name_good = placed_good (any_name_of ws) first_any_name any_name_among
+
   number_among : (t : PlainTokenKind) (z : ℤ × Option CInt) → number_of t ≡ Some z → among (token_kind ws t) (number_kind ∷ []) ≡ true
   number_among (tokens.Number v c) z e = refl
   number_among _ z e = absurd cc
@@ -159,34 +171,36 @@ module _ (ws : Vocabulary) where
   pub next_words_good : {n : ℕ} (x : IntegerWords) → AreRead ws n (one (placed (next_words ws x))) (one (placed (next_words ws x))) false (words_behind x) []
   next_words_good x = placed_good (next_words ws x) (words_behind x) (integer_among x)
 
-  type_name_word : (w : Word) (t : PlainType) → type_name_word_of ws w ≡ Some t → among (word_kind w) (type_name_kind ∷ []) ≡ true
-  type_name_word (word.TypeName k) t e = refl
-  type_name_word _ t e = absurd cc
+  typedef_word : (n : ℕ) (w : Word) (t : PlainType) → type_named n w ≡ Some t → among (word_kind w) (type_name_kind ∷ []) ≡ true
+  typedef_word n (word.TypeName k) t e = refl
+  typedef_word n _ t e = absurd cc
 
-  type_name_among : (t : PlainTokenKind) (u : PlainType) → type_name_of ws t ≡ Some u → among (token_kind ws t) (type_name_kind ∷ []) ≡ true
-  type_name_among (tokens.Word m) u e = type_name_word (word_at ws m) u e
-  type_name_among _ u e = absurd cc
+  typedef_name_among : (t : PlainTokenKind) (u : PlainType) → typedef_name_of ws t ≡ Some u → among (token_kind ws t) (type_name_kind ∷ []) ≡ true
+  typedef_name_among (tokens.Word m) u e = typedef_word m (word_at ws m) u e
+  typedef_name_among _ u e = absurd cc
 
-  pub type_name_good : {n : ℕ} → AreRead ws n (one (placed (type_name_of ws))) (one (placed (type_name_of ws))) false (type_name_kind ∷ []) []
-  type_name_good = placed_good (type_name_of ws) (type_name_kind ∷ []) type_name_among
+  pub typedef_name_good : {n : ℕ} → AreRead ws n (one (placed (typedef_name_of ws))) (one (placed (typedef_name_of ws))) false (type_name_kind ∷ []) []
+  typedef_name_good = placed_good (typedef_name_of ws) (type_name_kind ∷ []) typedef_name_among
 
-  start_word : (w : Word) (s : TypeStart) → type_start_of ws w ≡ Some s → among (word_kind w) first_type ≡ true
-  start_word (word.TypeName t) s e = refl
-  start_word (word.Keyword keyword.Char) s e = refl
-  start_word (word.Keyword keyword.Short) s e = refl
-  start_word (word.Keyword keyword.Int) s e = refl
-  start_word (word.Keyword keyword.Long) s e = refl
-  start_word (word.Keyword keyword.Signed) s e = refl
-  start_word (word.Keyword keyword.Unsigned) s e = refl
-  start_word (word.Keyword keyword.Void) s e = refl
-  start_word (word.Keyword keyword.Const) s e = refl
-  start_word _ s e = absurd cc
+  start_word : (n : ℕ) (w : Word) (s : TypeStart) → type_start_of ws n w ≡ Some s → among (word_kind w) first_type ≡ true
+  start_word n (word.TypeName t) s e = refl
+  start_word n (word.Keyword keyword.Char) s e = refl
+  start_word n (word.Keyword keyword.Short) s e = refl
+  start_word n (word.Keyword keyword.Int) s e = refl
+  start_word n (word.Keyword keyword.Long) s e = refl
+  start_word n (word.Keyword keyword.Signed) s e = refl
+  start_word n (word.Keyword keyword.Unsigned) s e = refl
+  start_word n (word.Keyword keyword.Void) s e = refl
+  start_word n (word.Keyword keyword.Const) s e = refl
+  start_word n (word.Keyword keyword.Struct) s e = refl
+  start_word n (word.Keyword keyword.Enum) s e = refl
+  start_word n _ s e = absurd cc
 
   type_start_among : (t : PlainTokenKind) (s : TypeStart × ℕ) → type_start ws t ≡ Some s → among (token_kind ws t) first_type ≡ true
-  type_start_among (tokens.Word m) s e = by (type_start_of ws (word_at ws m)) refl e
+  type_start_among (tokens.Word m) s e = by (type_start_of ws m (word_at ws m)) refl e
     where
-      by : (o : Option TypeStart) → type_start_of ws (word_at ws m) ≡ o → option_map (λ b. (b, m)) o ≡ Some s → among (word_kind (word_at ws m)) first_type ≡ true
-      by (Some b) is h = start_word (word_at ws m) b is
+      by : (o : Option TypeStart) → type_start_of ws m (word_at ws m) ≡ o → option_map (λ b. (b, m)) o ≡ Some s → among (word_kind (word_at ws m)) first_type ≡ true
+      by (Some b) is h = start_word m (word_at ws m) b is
       by None is h = absurd cc
   type_start_among _ s e = absurd cc
 

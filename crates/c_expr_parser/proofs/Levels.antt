@@ -12,10 +12,10 @@ use Rattle.c_expr_parser.specs.Reading.{right_operand, more_joined}
 use Rattle.token_reader.specs.Reading.{Fails}
 use Rattle.token_reader.proofs.Faults.{again}
 use Rattle.c_expr_parser.proofs.ExactTokens.{IsRead}
-use Rattle.c_expr_parser.proofs.ExactExpressions.{kinds_below, AreApart, both_true, joined_good, behind_good, expression_good}
+use Rattle.c_expr_parser.proofs.ExactExpressions.{more_below, AreApart, postfix_apart, both_true, joined_good, behind_good, expression_good}
 
 -- an operator stands in one level alone
-level_apart : (l : ℕ) → apart (kinds_of (operators_at l)) (kinds_below l) ≡ true
+level_apart : (l : ℕ) → apart (kinds_of (operators_at l)) (more_below l) ≡ true
 level_apart zero = refl
 level_apart (suc zero) = refl
 level_apart (suc (suc zero)) = refl
@@ -32,13 +32,13 @@ all_apart : (l : ℕ) → AreApart l
 all_apart zero = tt
 all_apart (suc l) = (all_apart l, level_apart l)
 
-once_fits : (l : ℕ) → and (apart (kinds_of (operators_at l)) (kinds_below l)) (within (kinds_of (operators_at l)) (kinds_of (operators_at l))) ≡ true
-once_fits l = both_true (apart (kinds_of (operators_at l)) (kinds_below l)) (within (kinds_of (operators_at l)) (kinds_of (operators_at l))) (level_apart l) (within_self (kinds_of (operators_at l)))
+once_fits : (l : ℕ) → and (apart (kinds_of (operators_at l)) (more_below l)) (within (kinds_of (operators_at l)) (kinds_of (operators_at l))) ≡ true
+once_fits l = both_true (apart (kinds_of (operators_at l)) (more_below l)) (within (kinds_of (operators_at l)) (kinds_of (operators_at l))) (level_apart l) (within_self (kinds_of (operators_at l)))
 
 module _ (ws : Vocabulary) where
-  once_good : (l : ℕ) (x : Expression) → IsRead ws (joined_once ws l (right_operand ws l) x) false (kinds_of (operators_at l)) (kinds_below l)
+  once_good : (l : ℕ) (x : Expression) → IsRead ws (joined_once ws l (right_operand ws l) x) false (kinds_of (operators_at l)) (more_below l)
   unfolding right_operand
-  once_good l x = one_lower (joined_good ws (expression_good ws) l (behind_good ws (expression_good ws) l (all_apart l)) x)
+  once_good l x = one_lower (joined_good ws (expression_good ws) l (postfix_apart l (all_apart l)) (behind_good ws (expression_good ws) l (all_apart l)) x)
 
   pub behind_none : (l : ℕ) (x : Expression) (ts : List PlainToken) → l ≡ 0 → (behind_operand ws (expression ws) l x).parse ts ≡ Ok (x, ts)
   unfolding behind_operand

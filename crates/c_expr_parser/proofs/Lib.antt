@@ -7,7 +7,10 @@ pub mod ExactExpressions
 pub mod Words
 pub mod Steps
 pub mod Levels
+pub mod BracketTurns
+pub mod PostfixTurns
 pub mod Calls
+pub mod Arrays
 -- expressions that stand in no other, within the limit of their tokens
 pub mod Windows
 -- which runs of tokens an expression takes

@@ -2,28 +2,34 @@
 use Rattle.std.proofs.Common.{◌≡◌, ℕ, zero, suc, ◌<◌, Bool, true, false, cond, eqb, List, [], ◌∷◌, ◌++◌, length, Some, None, Result, Ok, Err, refl, sym, ap, ◌∙◌, arith, inl, inr}
 use Rattle.grammar.specs.Syntax.{Syntax, Fault, At, one_at, among, sees, many, ◌then◌, ◌>>=◌}
 use Rattle.grammar.specs.Exact.{Unread}
-use Rattle.grammar.proofs.Sets.{within, apart, within_self, within_left, within_right, within_both, within_among, cond_or}
+use Rattle.grammar.proofs.Sets.{within, apart, within_self, within_left, within_both, within_among, cond_or}
 use Rattle.grammar.proofs.Parts.{widen}
 use Rattle.grammar.proofs.Theorem.{at_within}
 use Rattle.grammar.proofs.Solid.{IsSolid, lower, gives_solid, seq_solid, behind, either_solid, listed, many_solid, many_solid_to, made_solid, knot_solid, knot_solid_to, at_most_solid, unread}
 use Rattle.c_syntax.specs.declared.place.Place.{Place}
+use Rattle.c_syntax.specs.Ctypes.{PlainLength}
 use Rattle.c_syntax.specs.Expressions.{Expression}
 use Rattle.c_syntax.specs.Tokens.{PlainToken}
 use Rattle.c_model.specs.declared.vocabulary.Keyword.TheVariants as keyword
 use Rattle.c_model.specs.declared.vocabulary.IntegerWords.{IntegerWords}
+use Rattle.c_model.specs.declared.operands.Stars.{Stars}
 use Rattle.c_model.specs.declared.operands.TypeUse.{TypeUse}
 use Rattle.c_model.specs.declared.operands.TypeUse.TheVariants.{Casts, Sizes, Nothing}
 use Rattle.c_model.specs.Vocabulary.{Vocabulary, no_words}
-use Rattle.c_model.specs.Punctuators.{question, colon, left_paren, right_paren}
-use Rattle.c_model.specs.ExpressionGrammar.{fixed, name_kind, number_kind, letter_kind, type_name_kind, keyword_kind, mark_kind, kind, kinds_of, unary_operators, operators_at, levels, first_integer_words, first_base, first_type, first_expression}
-use Rattle.c_model.specs.ExpressionGrammar.{words_behind, most_in_expression, Operand, integer_word, integer_words, type_name, base, consts, type_words, closed, literal, cast_rest, sized_type, paren_rest, behind_paren, prefixed}
+use Rattle.c_model.specs.Punctuators.{question, colon, left_paren, right_paren, left_bracket, right_bracket, dot, arrow, times}
+use Rattle.c_model.specs.ExpressionGrammar.{fixed, name_kind, number_kind, letter_kind, type_name_kind, keyword_kind, mark_kind, kind, kinds_of, unary_operators, operators_at, levels, first_integer_words, first_base, first_type}
+use Rattle.c_model.specs.ExpressionGrammar.{first_expression, first_postfix, text_kind, typedef_name, struct_tag, enum_tag, untagged_base, more_consts, star, next_star, star_words, written_length, bracket, next_bracket, brackets, type_name, indexed}
+use Rattle.c_model.specs.ExpressionGrammar.{dotted, arrowed}
+use Rattle.c_model.specs.ExpressionGrammar.{postfix_once, postfixes, postfix_rest, literal_first, behind_variable}
+use Rattle.c_model.specs.ExpressionGrammar.{words_behind, most_in_expression, Operand, integer_word, integer_words, base, consts, type_words, closed, literal, cast_rest, sized_type, paren_rest, behind_paren, prefixed}
 use Rattle.c_model.specs.Terminals.{expression_limit}
 use Rattle.c_model.specs.ExpressionGrammar.{sized, operand_but_name, operand_of, operand, joined_once, behind_operand, choice_rest, expression_rest, expression_of, expression, full_expression}
 use Rattle.c_expr_parser.proofs.Unlimited.{expression_free}
-use Rattle.c_expr_parser.proofs.ExactTypes.{apart_none, words_fit, words_within, more_type}
-use Rattle.c_expr_parser.proofs.ExactExpressions.{kinds_below, AreApart, levels_apart, more_expression, first_but_name, both_true, operand_good, expression_exact, expression_is, expression_good, operand_is}
+use Rattle.c_expr_parser.proofs.ExactTypes.{apart_none, words_fit, words_within, more_type, first_untagged}
+use Rattle.c_expr_parser.proofs.ExactExpressions.{kinds_below, more_below, AreApart, levels_apart, level_within, below_within, postfix_apart, behind_kinds, more_expression, more_type_name, first_but_name, both_true, operand_good, expression_exact}
+use Rattle.c_expr_parser.proofs.ExactExpressions.{expression_is, expression_good, operand_is}
 use Rattle.c_expr_parser.proofs.Steps.{consts_turn, consts_ends}
-use Rattle.c_expr_parser.proofs.TakenTokens.{Solid, fixed_solid, name_solid, number_solid, letter_solid, marks_solid, next_words_solid, type_name_solid}
+use Rattle.c_expr_parser.proofs.TakenTokens.{Solid, fixed_solid, name_solid, any_name_solid, number_solid, letter_solid, marks_solid, next_words_solid, typedef_name_solid}
 
 -- the same kinds, given one by one
 relisted : {A : Type 0} (ws : Vocabulary) {n : ℕ} {G : Syntax PlainToken A} {lead null : Bool} {f : List ℕ} {m : A → List ℕ} (first more : List ℕ) → IsSolid (kind ws) n G lead null f m → (lead ≡ true → within first f ≡ true) → within f first ≡ true
@@ -53,11 +59,25 @@ module _ (ws : Vocabulary) where
   unfolding integer_words
   integer_words_solid = listed (seq_solid (integer_word_solid no_words) (λ x. seq_solid (more_words_solid x) (λ y. gives_solid _) refl) refl) refl
 
-  base_solid : {n : ℕ} → Solid ws n (base ws) true false first_base first_integer_words
-  unfolding base type_name
-  base_solid =
+  untagged_solid : {n : ℕ} → Solid ws n (untagged_base ws) true false first_untagged first_integer_words
+  unfolding untagged_base typedef_name
+  untagged_solid =
       listed (either_solid (keyword_kind keyword.Void ∷ []) (seq_solid (fixed_solid ws (keyword_kind keyword.Void)) (λ _. gives_solid _) refl)
-      (either_solid (type_name_kind ∷ []) (seq_solid (type_name_solid ws) (λ t. gives_solid _) refl) integer_words_solid refl refl) refl refl) refl
+      (either_solid (type_name_kind ∷ []) (seq_solid (typedef_name_solid ws) (λ t. gives_solid _) refl) integer_words_solid refl refl) refl refl) refl
+
+  struct_tag_solid : {n : ℕ} → Solid ws n (struct_tag ws) true false (keyword_kind keyword.Struct ∷ []) []
+  unfolding struct_tag
+  struct_tag_solid = listed (seq_solid (fixed_solid ws (keyword_kind keyword.Struct)) (λ _. seq_solid (any_name_solid ws) (λ x. gives_solid _) refl) refl) refl
+
+  enum_tag_solid : {n : ℕ} → Solid ws n (enum_tag ws) true false (keyword_kind keyword.Enum ∷ []) []
+  unfolding enum_tag
+  enum_tag_solid = listed (seq_solid (fixed_solid ws (keyword_kind keyword.Enum)) (λ _. seq_solid (any_name_solid ws) (λ x. gives_solid _) refl) refl) refl
+
+  base_solid : {n : ℕ} → Solid ws n (base ws) true false first_base first_integer_words
+  unfolding base
+  base_solid =
+      listed (either_solid (keyword_kind keyword.Struct ∷ []) struct_tag_solid
+      (either_solid (keyword_kind keyword.Enum ∷ []) enum_tag_solid untagged_solid refl refl) refl refl) refl
 
   consts_solid : {A : Type 0} {n : ℕ} (x : A) → Solid ws n (consts ws x) false true (keyword_kind keyword.Const ∷ []) (keyword_kind keyword.Const ∷ [])
   unfolding consts
@@ -108,9 +128,31 @@ module _ (ws : Vocabulary) where
   unfolding closed
   closed_solid x = listed (seq_solid (fixed_solid ws (mark_kind right_paren)) (λ _. gives_solid x) refl) refl
 
-  literal_solid : {n : ℕ} → Solid ws n (literal ws) true false (number_kind ∷ letter_kind ∷ []) []
+  more_consts_solid : {n : ℕ} (b : Bool) → Solid ws n (more_consts ws b) false true (keyword_kind keyword.Const ∷ []) (keyword_kind keyword.Const ∷ [])
+  unfolding more_consts
+  more_consts_solid {n} b = listed (many_solid (keyword_kind keyword.Const ∷ []) refl refl n (λ _. seq_solid (fixed_solid ws (keyword_kind keyword.Const)) (λ _. gives_solid true) refl) b) refl
+
+  next_star_solid : {n : ℕ} (s : Stars) → Solid ws n (next_star ws s) true false (mark_kind times ∷ []) (keyword_kind keyword.Const ∷ [])
+  unfolding next_star star
+  next_star_solid s = listed (seq_solid (seq_solid (fixed_solid ws (mark_kind times)) (λ _. more_consts_solid s.constant) refl) (λ c. gives_solid _) refl) refl
+
+  stars_solid : {n : ℕ} → Solid ws n (star_words ws) false true (mark_kind times ∷ []) (mark_kind times ∷ keyword_kind keyword.Const ∷ [])
+  unfolding star_words
+  stars_solid {n} = listed (many_solid (mark_kind times ∷ []) refl refl n next_star_solid _) refl
+
+  literal_solid : {n : ℕ} → Solid ws n (literal ws) true false (number_kind ∷ letter_kind ∷ text_kind ∷ []) []
   unfolding literal
-  literal_solid = listed (either_solid (number_kind ∷ []) (seq_solid (number_solid ws) (λ x. gives_solid _) refl) (seq_solid (letter_solid ws) (λ z. gives_solid _) refl) refl refl) refl
+  literal_solid =
+      listed (either_solid (number_kind ∷ []) (seq_solid (number_solid ws) (λ x. gives_solid _) refl)
+      (either_solid (letter_kind ∷ []) (seq_solid (letter_solid ws) (λ z. gives_solid _) refl) (seq_solid (fixed_solid ws text_kind) (λ at. gives_solid _) refl) refl refl) refl refl) refl
+
+  dotted_solid : {n : ℕ} (x : Expression) → Solid ws n (dotted ws x) true false (mark_kind dot ∷ []) []
+  unfolding dotted
+  dotted_solid x = listed (seq_solid (fixed_solid ws (mark_kind dot)) (λ at. seq_solid (any_name_solid ws) (λ m. gives_solid _) refl) refl) refl
+
+  arrowed_solid : {n : ℕ} (x : Expression) → Solid ws n (arrowed ws x) true false (mark_kind arrow ∷ []) []
+  unfolding arrowed
+  arrowed_solid x = listed (seq_solid (fixed_solid ws (mark_kind arrow)) (λ at. seq_solid (any_name_solid ws) (λ m. gives_solid _) refl) refl) refl
 
   -- what can stand after "("
   abbrev first_in_paren : TypeUse → List ℕ
@@ -118,86 +160,125 @@ module _ (ws : Vocabulary) where
   first_in_paren Sizes = first_type ++ first_expression
   first_in_paren Nothing = first_expression
 
-  module _ {n : ℕ} {E : Syntax PlainToken Expression} (e : Solid ws n E true false first_expression more_expression) {O : Operand ws} (o : (u : TypeUse) → Solid ws n (O u) true false first_expression []) where
-    cast_solid : (at : Place) → Solid ws n (cast_rest ws O at) true false first_type []
-    unfolding cast_rest
-    cast_solid at = listed (seq_solid type_solid (λ t. seq_solid (fixed_solid ws (mark_kind right_paren)) (λ _. seq_solid (o Casts) (λ x. gives_solid _) refl) refl) refl) refl
+  module _ {n : ℕ} {E : Syntax PlainToken Expression} (e : Solid ws n E true false first_expression more_expression) where
+    written_solid : Solid ws n (written_length ws E) true false first_expression more_expression
+    unfolding written_length
+    written_solid = listed (seq_solid e (λ x. gives_solid _) refl) refl
 
-    paren_solid : (at : Place) → Solid ws n (paren_rest ws E at) true false first_expression []
+    bracket_solid : (ns : List PlainLength) → Solid ws n (next_bracket ws (written_length ws E) ns) true false (mark_kind left_bracket ∷ []) []
+    unfolding next_bracket bracket
+    bracket_solid ns =
+        listed (seq_solid (seq_solid (fixed_solid ws (mark_kind left_bracket)) (λ _. seq_solid written_solid (λ l. seq_solid (fixed_solid ws (mark_kind right_bracket)) (λ _. gives_solid _) refl) refl) refl) (λ l. gives_solid _) refl) refl
+
+    brackets_solid : Solid ws n (brackets ws (written_length ws E)) false true (mark_kind left_bracket ∷ []) (mark_kind left_bracket ∷ [])
+    unfolding brackets
+    brackets_solid = listed (many_solid (mark_kind left_bracket ∷ []) refl refl n bracket_solid []) refl
+
+    type_name_solid : Solid ws n (type_name ws E) true false first_type more_type_name
+    unfolding type_name
+    type_name_solid = listed (seq_solid type_solid (λ t. seq_solid stars_solid (λ s. seq_solid brackets_solid (λ ns. gives_solid _) refl) refl) refl) refl
+
+    indexed_solid : (x : Expression) → Solid ws n (indexed ws E x) true false (mark_kind left_bracket ∷ []) []
+    unfolding indexed
+    indexed_solid x = listed (seq_solid (fixed_solid ws (mark_kind left_bracket)) (λ at. seq_solid e (λ i. seq_solid (fixed_solid ws (mark_kind right_bracket)) (λ _. gives_solid _) refl) refl) refl) refl
+
+    postfix_once_solid : (x : Expression) → Solid ws n (postfix_once ws E x) true false first_postfix []
+    unfolding postfix_once
+    postfix_once_solid x =
+        listed (either_solid (mark_kind left_bracket ∷ []) (indexed_solid x) (either_solid (mark_kind dot ∷ []) (dotted_solid x) (arrowed_solid x) refl refl) refl refl) refl
+
+    postfix_rest_solid : (at : Place) (x : Expression) → Solid ws n (postfix_rest ws E at x) false true first_postfix first_postfix
+    unfolding postfix_rest postfixes
+    postfix_rest_solid at x = listed (seq_solid (many_solid first_postfix refl refl n postfix_once_solid x) (λ y. gives_solid _) refl) refl
+
+    behind_variable_solid : (x : ℕ × Place) → Solid ws n (behind_variable ws E x) false true first_postfix first_postfix
+    behind_variable_solid x = postfix_rest_solid _ _
+
+    literal_first_solid : Solid ws (suc n) (literal_first ws E) true false (number_kind ∷ letter_kind ∷ text_kind ∷ []) first_postfix
+    unfolding literal_first
+    literal_first_solid = listed (behind literal_solid (λ x. postfix_rest_solid _ x) refl) refl
+
+    paren_solid : (at : Place) → Solid ws n (paren_rest ws E at) true false first_expression first_postfix
     unfolding paren_rest
-    paren_solid at = listed (seq_solid e (λ x. closed_solid _) refl) refl
+    paren_solid at = listed (seq_solid e (λ x. seq_solid (fixed_solid ws (mark_kind right_paren)) (λ _. postfix_rest_solid at x) refl) refl) refl
 
-    sized_type_solid : (at : Place) → Solid ws n (sized_type ws at) true false first_type []
+    sized_type_solid : (at : Place) → Solid ws n (sized_type ws E at) true false first_type []
     unfolding sized_type
-    sized_type_solid at = listed (seq_solid type_solid (λ t. closed_solid _) refl) refl
+    sized_type_solid at = listed (seq_solid type_name_solid (λ t. closed_solid _) refl) refl
 
-    behind_paren_solid : (u : TypeUse) (at : Place) → Solid ws n (behind_paren ws E O u at) true false (first_in_paren u) []
+  module _ {n : ℕ} {E : Syntax PlainToken Expression} (e : Solid ws n E true false first_expression more_expression) {O : Operand ws} (o : (u : TypeUse) → Solid ws n (O u) true false first_expression first_postfix) where
+    cast_solid : (at : Place) → Solid ws n (cast_rest ws E O at) true false first_type first_postfix
+    unfolding cast_rest
+    cast_solid at = listed (seq_solid (type_name_solid e) (λ t. seq_solid (fixed_solid ws (mark_kind right_paren)) (λ _. seq_solid (o Casts) (λ x. gives_solid _) refl) refl) refl) refl
+
+    behind_paren_solid : (u : TypeUse) (at : Place) → Solid ws n (behind_paren ws E O u at) true false (first_in_paren u) first_postfix
     unfolding behind_paren
-    behind_paren_solid Casts at = listed (either_solid first_type (cast_solid at) (paren_solid at) refl refl) refl
-    behind_paren_solid Sizes at = listed (either_solid first_type (sized_type_solid at) (paren_solid at) refl refl) refl
-    behind_paren_solid Nothing at = paren_solid at
+    behind_paren_solid Casts at = listed (either_solid first_type (cast_solid at) (paren_solid e at) refl refl) refl
+    behind_paren_solid Sizes at = listed (either_solid first_type (sized_type_solid e at) (paren_solid e at) refl refl) refl
+    behind_paren_solid Nothing at = paren_solid e at
 
-    prefixed_solid : Solid ws (suc n) (prefixed ws O) true false (kinds_of unary_operators) []
+    prefixed_solid : Solid ws (suc n) (prefixed ws O) true false (kinds_of unary_operators) first_postfix
     unfolding prefixed
     prefixed_solid = listed (behind (marks_solid ws unary_operators) (λ p. seq_solid (o Casts) (λ x. gives_solid _) refl) refl) refl
 
-    sized_solid : Solid ws (suc n) (sized ws O) true false (keyword_kind keyword.Sizeof ∷ []) []
+    sized_solid : Solid ws (suc n) (sized ws O) true false (keyword_kind keyword.Sizeof ∷ []) first_postfix
     unfolding sized
     sized_solid = listed (behind (fixed_solid ws (keyword_kind keyword.Sizeof)) (λ at. seq_solid (o Sizes) (λ x. gives_solid _) refl) refl) refl
 
-    but_name_solid : (u : TypeUse) → Solid ws (suc n) (operand_but_name ws E O u) true false first_but_name []
+    but_name_solid : (u : TypeUse) → Solid ws (suc n) (operand_but_name ws E O u) true false first_but_name first_postfix
     unfolding operand_but_name
     but_name_solid u =
         listed (either_solid (mark_kind left_paren ∷ []) (behind (fixed_solid ws (mark_kind left_paren)) (λ at. behind_paren_solid u at) (apart_none (first_in_paren u)))
-        (either_solid (kinds_of unary_operators) prefixed_solid (either_solid (keyword_kind keyword.Sizeof ∷ []) sized_solid literal_solid refl refl) refl refl) refl refl) refl
+        (either_solid (kinds_of unary_operators) prefixed_solid (either_solid (keyword_kind keyword.Sizeof ∷ []) sized_solid (literal_first_solid e) refl refl) refl refl) refl refl) refl
 
-    operand_of_solid : (u : TypeUse) → Solid ws (suc n) (operand_of ws E O u) true false first_expression []
+    operand_of_solid : (u : TypeUse) → Solid ws (suc n) (operand_of ws E O u) true false first_expression first_postfix
     unfolding operand_of
-    operand_of_solid u = listed (either_solid (name_kind ∷ []) (seq_solid (name_solid ws) (λ x. gives_solid _) refl) (but_name_solid u) refl refl) refl
+    operand_of_solid u = listed (either_solid (name_kind ∷ []) (behind (name_solid ws) (λ x. behind_variable_solid e x) refl) (but_name_solid u) refl refl) refl
 
   -- ---- expressions
 
   module _ (n : ℕ) (e : Solid ws n (expression ws) true false first_expression more_expression) where
-    operand_solid : (u : TypeUse) → Solid ws (suc n) (operand ws (expression ws) u) true false first_expression []
+    operand_solid : (u : TypeUse) → Solid ws (suc n) (operand ws (expression ws) u) true false first_expression first_postfix
     operand_solid u =
         knot_solid_to {S = TypeUse} (suc n) refl (λ v. (operand_good ws (expression_good ws) v).here) (λ v. operand_is ws v) (λ k lt o v. operand_of_solid (lower k (omega (arith, lt)) e) o v) (suc n) (omega arith) u
 
-    right_solid : (l : ℕ) → ((x : Expression) → Solid ws (suc n) (behind_operand ws (expression ws) l x) false true (kinds_below l) (kinds_below l))
-        → Solid ws (suc n) (operand ws (expression ws) Casts then λ z. behind_operand ws (expression ws) l z.expression) true false first_expression (kinds_below l)
-    right_solid l b =
-        relisted ws first_expression (kinds_below l) (seq_solid (operand_solid Casts) (λ z. b z.expression) (apart_none (kinds_below l))) (λ _. refl) refl
-        (λ x. within_both (kinds_below l) [] (kinds_below l) (within_self (kinds_below l)) refl)
+    right_solid : (l : ℕ) → apart (kinds_below l) first_postfix ≡ true → ((x : Expression) → Solid ws (suc n) (behind_operand ws (expression ws) l x) false true (kinds_below l) (more_below l))
+        → Solid ws (suc n) (operand ws (expression ws) Casts then λ z. behind_operand ws (expression ws) l z.expression) true false first_expression (more_below l)
+    right_solid l a b =
+        relisted ws first_expression (more_below l) (seq_solid (operand_solid Casts) (λ z. b z.expression) a) (λ _. refl) refl
+        (λ x. within_both (more_below l) first_postfix (more_below l) (within_self (more_below l)) (within_left first_postfix (kinds_below l)))
 
-    joined_solid : (l : ℕ) → ((x : Expression) → Solid ws (suc n) (behind_operand ws (expression ws) l x) false true (kinds_below l) (kinds_below l)) → (x : Expression)
-        → Solid ws (suc n) (joined_once ws l (operand ws (expression ws) Casts then λ z. behind_operand ws (expression ws) l z.expression) x) true false (kinds_of (operators_at l)) (kinds_below l)
+    joined_solid : (l : ℕ) → apart (kinds_below l) first_postfix ≡ true → ((x : Expression) → Solid ws (suc n) (behind_operand ws (expression ws) l x) false true (kinds_below l) (more_below l)) → (x : Expression)
+        → Solid ws (suc n) (joined_once ws l (operand ws (expression ws) Casts then λ z. behind_operand ws (expression ws) l z.expression) x) true false (kinds_of (operators_at l)) (more_below l)
     unfolding joined_once
-    joined_solid l b x =
-        relisted ws (kinds_of (operators_at l)) (kinds_below l) (seq_solid (marks_solid ws (operators_at l)) (λ p. seq_solid (right_solid l b) (λ y. gives_solid _) refl) refl)
+    joined_solid l a b x =
+        relisted ws (kinds_of (operators_at l)) (more_below l) (seq_solid (marks_solid ws (operators_at l)) (λ p. seq_solid (right_solid l a b) (λ y. gives_solid _) refl) refl)
         (λ _. within_left (kinds_of (operators_at l)) []) (within_both (kinds_of (operators_at l)) [] (kinds_of (operators_at l)) (within_self (kinds_of (operators_at l))) refl)
-        (λ y. within_both (kinds_below l) [] (kinds_below l) (within_self (kinds_below l)) refl)
+        (λ y. within_both (more_below l) [] (more_below l) (within_self (more_below l)) refl)
 
-    level_solid : (l : ℕ) → apart (kinds_of (operators_at l)) (kinds_below l) ≡ true → ((x : Expression) → Solid ws (suc n) (behind_operand ws (expression ws) l x) false true (kinds_below l) (kinds_below l)) → (x : Expression)
-        → Solid ws (suc n) (behind_operand ws (expression ws) (suc l) x) false true (kinds_below (suc l)) (kinds_below (suc l))
+    level_solid : (l : ℕ) → apart (kinds_of (operators_at l)) (more_below l) ≡ true → apart (kinds_below l) first_postfix ≡ true
+        → ((x : Expression) → Solid ws (suc n) (behind_operand ws (expression ws) l x) false true (kinds_below l) (more_below l)) → (x : Expression)
+        → Solid ws (suc n) (behind_operand ws (expression ws) (suc l) x) false true (kinds_below (suc l)) (more_below (suc l))
     unfolding behind_operand
-    level_solid l a b x =
+    level_solid l a c b x =
         let ks = kinds_of (operators_at l) in
         let below = kinds_below l in
-        let all = within_both ks below (below ++ ks) (within_right below ks) (within_left below ks) in
-        relisted ws (below ++ ks) (below ++ ks) (seq_solid (b x) (λ y. many_solid ks (both_true (apart ks below) (within ks ks) a (within_self ks)) (within_self ks) (suc n) (joined_solid l b) y) a) (λ _. within_self (below ++ ks))
+        let more = more_below (suc l) in
+        relisted ws (below ++ ks) more (seq_solid (b x) (λ y. many_solid ks (both_true (apart ks (more_below l)) (within ks ks) a (within_self ks)) (within_self ks) (suc n) (joined_solid l c b) y) a) (λ _. within_self (below ++ ks))
         (within_self (below ++ ks))
-        (λ y. within_both (ks ++ below) below (below ++ ks) all (within_left below ks))
+        (λ y. within_both (ks ++ more_below l) (more_below l) more (within_both ks (more_below l) more (level_within l) (below_within l)) (below_within l))
 
-    behind_solid : (l : ℕ) → AreApart l → (x : Expression) → Solid ws (suc n) (behind_operand ws (expression ws) l x) false true (kinds_below l) (kinds_below l)
+    behind_solid : (l : ℕ) → AreApart l → (x : Expression) → Solid ws (suc n) (behind_operand ws (expression ws) l x) false true (kinds_below l) (more_below l)
     unfolding behind_operand
-    behind_solid zero a x = gives_solid x
-    behind_solid (suc l) a x = level_solid l a.1 (behind_solid l a.0) x
+    behind_solid zero a x = relisted ws [] first_postfix (gives_solid x) (λ h. absurd cc) refl (λ y. refl)
+    behind_solid (suc l) a x = level_solid l a.1 (postfix_apart l a.0) (behind_solid l a.0) x
 
     choice_solid : (x : Expression) → Solid ws (suc n) (choice_rest ws (expression ws) x) true false (mark_kind question ∷ []) more_expression
     unfolding choice_rest
     choice_solid x =
         listed (behind (fixed_solid ws (mark_kind question)) (λ at. seq_solid e (λ y. seq_solid (fixed_solid ws (mark_kind colon)) (λ _. seq_solid e (λ z. gives_solid _) refl) refl) refl) refl) refl
 
-    rest_solid : (x : Expression) → Solid ws (suc n) (expression_rest ws (expression ws) x) false true more_expression more_expression
+    rest_solid : (x : Expression) → Solid ws (suc n) (expression_rest ws (expression ws) x) false true behind_kinds more_expression
     unfolding expression_rest
     rest_solid x = listed (seq_solid (behind_solid levels levels_apart x) (λ y. either_solid (mark_kind question ∷ []) (choice_solid y) (gives_solid y) refl refl) refl) refl
 

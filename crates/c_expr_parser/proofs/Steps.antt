@@ -1,22 +1,23 @@
 -- What a production gives, step by step.
-use Rattle.std.proofs.Common.{◌≡◌, ℕ, true, false, List, [], ◌∷◌, Ok, refl, ◌∙◌}
-use Rattle.grammar.specs.Syntax.{sees, gives, ◌then◌}
+use Rattle.std.proofs.Common.{◌≡◌, ℕ, ◌+◌, Bool, true, false, List, [], ◌∷◌, Ok, Err, refl, ◌∙◌}
+use Rattle.grammar.specs.Syntax.{Fault, sees, gives, ◌then◌}
 use Rattle.grammar.proofs.Productions.{seq, given, turn, turn_fails, turn_ends, turn_to}
 use Rattle.grammar.proofs.Bounds.{many_is}
 use Rattle.c_syntax.specs.declared.place.Place.{Place}
 use Rattle.c_syntax.specs.Tokens.{PlainToken}
+use Rattle.c_model.specs.declared.operands.Stars.{Stars}
 use Rattle.c_model.specs.declared.vocabulary.Keyword.TheVariants as keyword
 use Rattle.c_model.specs.declared.vocabulary.IntegerWords.{IntegerWords}
 use Rattle.c_model.specs.Vocabulary.{Vocabulary}
-use Rattle.c_model.specs.Punctuators.{comma}
+use Rattle.c_model.specs.Punctuators.{comma, times}
 use Rattle.c_syntax.specs.Expressions.{Expression}
-use Rattle.c_model.specs.ExpressionGrammar.{keyword_kind, mark_kind, next_argument, kind, fixed, reserved, words_behind, integer_word, consts}
+use Rattle.c_model.specs.ExpressionGrammar.{keyword_kind, mark_kind, next_argument, kind, fixed, reserved, words_behind, integer_word, consts, more_consts, no_stars, star, next_star, star_words}
 use Rattle.c_syntax.specs.declared.fault.ReadFault.{ReadFault}
-use Rattle.c_expr_parser.specs.Reading.{more_words, more_arguments}
+use Rattle.c_expr_parser.specs.Reading.{more_words, more_stars, more_arguments}
 use Rattle.token_reader.specs.Reading.{Fails}
 use Rattle.token_reader.proofs.Faults.{again}
 use Rattle.c_expr_parser.proofs.ExactTokens.{IsRead, fixed_good}
-use Rattle.c_expr_parser.proofs.ExactTypes.{words_fit, integer_word_good}
+use Rattle.c_expr_parser.proofs.ExactTypes.{words_fit, integer_word_good, next_star_good}
 use Rattle.c_expr_parser.proofs.ExactExpressions.{next_argument_good}
 
 module _ (ws : Vocabulary) where
@@ -52,6 +53,49 @@ module _ (ws : Vocabulary) where
       step : (z : A) → IsRead ws (reserved ws keyword.Const then λ _. gives z) false const_kinds []
       step z = seq (fixed_good ws (keyword_kind keyword.Const)) (λ _. given z) refl
 
+  const_read : (b : Bool) → IsRead ws (reserved ws keyword.Const then λ _. gives true) false const_kinds []
+  const_read b = seq (fixed_good ws (keyword_kind keyword.Const)) (λ _. given true) refl
+
+  pub more_consts_turn : (b : Bool) (ts rest : List PlainToken) (at : Place) → sees (kind ws) const_kinds ts ≡ true → (fixed ws (keyword_kind keyword.Const)).parse ts ≡ Ok (at, rest)
+      → (more_consts ws b).parse ts ≡ (more_consts ws true).parse rest
+  unfolding more_consts
+  more_consts_turn b ts rest at s e = turn const_kinds (λ _. reserved ws keyword.Const then λ _. gives true) (λ z. (const_read z).here) refl b true ts rest s (rw e refl)
+
+  pub more_consts_ends : (b : Bool) (ts : List PlainToken) → sees (kind ws) const_kinds ts ≡ false → (more_consts ws b).parse ts ≡ Ok (b, ts)
+  unfolding more_consts
+  more_consts_ends b ts s = turn_ends const_kinds (λ _. reserved ws keyword.Const then λ _. gives true) (λ z. (const_read z).here) refl b ts s
+
+  abbrev star_kinds : List ℕ
+  star_kinds = mark_kind times ∷ []
+
+  star_exact : (x : Stars) → IsRead ws (next_star ws x) false star_kinds const_kinds
+  star_exact x = next_star_good ws x
+
+  next_star_ok : (x : Stars) (c : Bool) (ts rest : List PlainToken) → (star ws x.constant).parse ts ≡ Ok (c, rest) → (next_star ws x).parse ts ≡ Ok (record { count = x.count + 1; constant = c }, rest)
+  unfolding next_star
+  next_star_ok x c ts rest e = rw e refl
+
+  pub stars_begin : (ts : List PlainToken) → (more_stars ws no_stars).parse ts ≡ (star_words ws).parse ts
+  unfolding more_stars star_words
+  stars_begin ts = refl
+
+  pub stars_turn : (x : Stars) (c : Bool) (ts rest : List PlainToken) → sees (kind ws) star_kinds ts ≡ true → (star ws x.constant).parse ts ≡ Ok (c, rest)
+      → (more_stars ws x).parse ts ≡ (more_stars ws (record { count = x.count + 1; constant = c })).parse rest
+  unfolding more_stars
+  stars_turn x c ts rest s e = turn star_kinds (next_star ws) (λ z. (star_exact z).here) refl x (record { count = x.count + 1; constant = c }) ts rest s (next_star_ok x c ts rest e)
+
+  next_star_err : (x : Stars) (ts : List PlainToken) (d : Fault) → (star ws x.constant).parse ts ≡ Err d → (next_star ws x).parse ts ≡ Err d
+  unfolding next_star
+  next_star_err x ts d e = rw e refl
+
+  pub stars_fails : (x : Stars) (ts : List PlainToken) (e : ReadFault) → sees (kind ws) star_kinds ts ≡ true → Fails e ((star ws x.constant).parse ts) → Fails e ((more_stars ws x).parse ts)
+  unfolding more_stars
+  stars_fails x ts e s = again e (λ d h. turn_fails star_kinds (next_star ws) (λ z. (star_exact z).here) refl x ts d s (next_star_err x ts d h))
+
+  pub stars_ends : (x : Stars) (ts : List PlainToken) → sees (kind ws) star_kinds ts ≡ false → (more_stars ws x).parse ts ≡ Ok (x, ts)
+  unfolding more_stars
+  stars_ends x ts s = turn_ends star_kinds (next_star ws) (λ z. (star_exact z).here) refl x ts s
+
   pub arguments_turn : (x y : List Expression) (ts rest : List PlainToken) → sees (kind ws) (mark_kind comma ∷ []) ts ≡ true → (next_argument ws x).parse ts ≡ Ok (y, rest) → (more_arguments ws x).parse ts ≡ (more_arguments ws y).parse rest
   unfolding more_arguments
   arguments_turn x y ts rest s e = turn (mark_kind comma ∷ []) (next_argument ws) (λ z. (next_argument_good ws z).here) refl x y ts rest s e
@@ -63,3 +107,5 @@ module _ (ws : Vocabulary) where
   pub arguments_ends : (x : List Expression) (ts : List PlainToken) → sees (kind ws) (mark_kind comma ∷ []) ts ≡ false → (more_arguments ws x).parse ts ≡ Ok (x, ts)
   unfolding more_arguments
   arguments_ends x ts s = turn_ends (mark_kind comma ∷ []) (next_argument ws) (λ z. (next_argument_good ws z).here) refl x ts s
+
+pub ruleset stars_rules = (stars_begin, stars_turn, stars_fails, stars_ends)

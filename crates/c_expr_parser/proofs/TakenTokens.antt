@@ -7,7 +7,7 @@ use Rattle.grammar.proofs.Sets.{cond_or, among_either, within_among}
 use Rattle.grammar.proofs.Solid.{IsSolid, one_solid}
 use Rattle.c_syntax.specs.declared.place.Place.{Place}
 use Rattle.c_syntax.specs.declared.types.CInt.{CInt}
-use Rattle.c_syntax.specs.Ctypes.{PlainType, Int}
+use Rattle.c_syntax.specs.Ctypes.{PlainType}
 use Rattle.c_syntax.specs.Tokens as tokens
 use Rattle.c_syntax.specs.Tokens.{PlainTokenKind, PlainToken}
 use Rattle.c_model.specs.declared.vocabulary.Keyword.{Keyword}
@@ -20,10 +20,10 @@ use Rattle.c_model.specs.declared.vocabulary.SizeWords.{SizeWords}
 use Rattle.c_model.specs.declared.vocabulary.SizeWords.TheVariants as size
 use Rattle.c_model.specs.declared.vocabulary.IntegerWords.{IntegerWords}
 use Rattle.c_model.specs.Vocabulary.{Vocabulary, word_at, sign_with, size_with, words_with}
-use Rattle.c_model.specs.ExpressionGrammar.{name_kind, number_kind, letter_kind, type_name_kind, keyword_kind, mark_kind, word_kind, token_kind, kind, number_of, letter_of, kinds_of, signs_behind, sizes_behind}
+use Rattle.c_model.specs.ExpressionGrammar.{name_kind, number_kind, letter_kind, type_name_kind, keyword_kind, mark_kind, word_kind, token_kind, kind, number_of, letter_of, kinds_of, signs_behind, sizes_behind, first_any_name}
 use Rattle.c_model.specs.Terminals.{placed, entry, mark_entry}
-use Rattle.c_model.specs.ExpressionGrammar.{words_behind, first_integer_words, keyword_of, next_words, type_name_word_of, type_name_of, fixed, name_of, name}
-use Rattle.c_expr_parser.proofs.ExactTokens.{fixed_good, name_good, number_good, letter_good, marks_good, next_words_good, type_name_good}
+use Rattle.c_model.specs.ExpressionGrammar.{words_behind, first_integer_words, keyword_of, next_words, named_type, type_named, typedef_name_of, fixed, name_of, name, any_name_of, any_name}
+use Rattle.c_expr_parser.proofs.ExactTokens.{fixed_good, name_good, number_good, letter_good, marks_good, next_words_good, any_name_good, typedef_name_good}
 use Rattle.c_expr_parser.proofs.ExactTypes.{words_within}
 
 -- a production whose place of refusal is the first token that can't follow, where what stands before it is no reading
@@ -52,9 +52,12 @@ keyword_large keyword.Break = omega arith
 keyword_large keyword.Continue = omega arith
 keyword_large keyword.Return = omega arith
 keyword_large keyword.Sizeof = omega arith
+keyword_large keyword.Struct = omega arith
+keyword_large keyword.Enum = omega arith
+keyword_large keyword.Typedef = omega arith
 keyword_large keyword.Kept = omega arith
 
-keyword_small : (k : Keyword) → keyword_kind k ≤ 28
+keyword_small : (k : Keyword) → keyword_kind k ≤ 31
 keyword_small keyword.Char = omega arith
 keyword_small keyword.Short = omega arith
 keyword_small keyword.Int = omega arith
@@ -73,9 +76,12 @@ keyword_small keyword.Break = omega arith
 keyword_small keyword.Continue = omega arith
 keyword_small keyword.Return = omega arith
 keyword_small keyword.Sizeof = omega arith
+keyword_small keyword.Struct = omega arith
+keyword_small keyword.Enum = omega arith
+keyword_small keyword.Typedef = omega arith
 keyword_small keyword.Kept = omega arith
 
-pub word_small : (w : Word) → word_kind w ≤ 28
+pub word_small : (w : Word) → word_kind w ≤ 31
 word_small (word.Keyword k) = keyword_small k
 word_small (word.TypeName t) = omega arith
 word_small word.Assert = omega arith
@@ -84,7 +90,7 @@ word_small word.Logic = omega arith
 word_small word.Name = omega arith
 
 -- no word has the kind of a literal
-pub no_literal : (w : Word) (k : ℕ) → 1 ≤ k → k ≤ 2 → eqb (word_kind w) k ≡ true → ⊥
+pub no_literal : (w : Word) (k : ℕ) → 1 ≤ k → k ≤ 3 → eqb (word_kind w) k ≡ true → ⊥
 no_literal (word.Keyword n) k l g h = let e = eqb-true (keyword_kind n) k h in let s = keyword_large n in omega (arith, e, s)
 no_literal (word.TypeName t) k l g h = let e = eqb-true 4 k h in omega (arith, e)
 no_literal word.Assert k l g h = let e = eqb-true 0 k h in omega (arith, e)
@@ -206,6 +212,21 @@ module _ (ws : Vocabulary) where
   pub name_solid : {n : ℕ} → Solid ws n (name ws) true false (name_kind ∷ []) []
   name_solid = one_solid (placed (name_of ws)) (name_kind ∷ []) (placed_taken (name_of ws) (name_kind ∷ []) name_taken) (name_good ws {n = 0}).here
 
+  any_name_taken : (t : PlainTokenKind) → among (token_kind ws t) first_any_name ≡ true → (m : ℕ) × (any_name_of ws t ≡ Some m)
+  any_name_taken (tokens.Word k) h = tested (among (word_kind (word_at ws k)) first_any_name) h
+    where
+      tested : (b : Bool) → b ≡ true → (m : ℕ) × (cond b (Some k) None ≡ Some m)
+      tested true e = (k, refl)
+      tested false e = absurd cc
+  any_name_taken (tokens.Mark m) h = elim (cond_or (eqb (mark_kind m) name_kind) (among (mark_kind m) (type_name_kind ∷ [])) h) [
+    | inl e ↦ absurd (let q = eqb-true (mark_kind m) name_kind e in omega (arith, q))
+    | inr g ↦ absurd (let q = eqb-true (mark_kind m) type_name_kind (the_kind (mark_kind m) type_name_kind g) in omega (arith, q))
+  ]
+  any_name_taken _ h = absurd cc
+
+  pub any_name_solid : {n : ℕ} → Solid ws n (any_name ws) true false first_any_name []
+  any_name_solid = one_solid (placed (any_name_of ws)) first_any_name (placed_taken (any_name_of ws) first_any_name any_name_taken) (any_name_good ws {n = 0}).here
+
   number_taken : (t : PlainTokenKind) → among (token_kind ws t) (number_kind ∷ []) ≡ true → (z : ℤ × Option CInt) × (number_of t ≡ Some z)
   number_taken (tokens.Number v c) h = ((v, c), refl)
   number_taken (tokens.Word n) h = absurd (no_literal (word_at ws n) number_kind (omega arith) (omega arith) (the_kind (word_kind (word_at ws n)) number_kind h))
@@ -227,7 +248,7 @@ module _ (ws : Vocabulary) where
   marks_taken : {A : Type 0} (table : List (ℕ × A)) (t : PlainTokenKind) → among (token_kind ws t) (kinds_of table) ≡ true → (x : A) × (mark_entry table t ≡ Some x)
   marks_taken {A} table t h = by t h
     where
-      other : (k : PlainTokenKind) → token_kind ws k ≤ 28 → among (token_kind ws k) (kinds_of table) ≡ true → (x : A) × (mark_entry table k ≡ Some x)
+      other : (k : PlainTokenKind) → token_kind ws k ≤ 31 → among (token_kind ws k) (kinds_of table) ≡ true → (x : A) × (mark_entry table k ≡ Some x)
       other k small g = in_table _ (token_kind ws k) table (λ m x is e. absurd (omega (arith, small, is))) g
 
       by : (k : PlainTokenKind) → among (token_kind ws k) (kinds_of table) ≡ true → (x : A) × (mark_entry table k ≡ Some x)
@@ -267,15 +288,15 @@ module _ (ws : Vocabulary) where
   pub next_words_solid : {n : ℕ} (x : IntegerWords) → Solid ws n (one (placed (next_words ws x))) true false (words_behind x) []
   next_words_solid x = one_solid (placed (next_words ws x)) (words_behind x) (placed_taken (next_words ws x) (words_behind x) (integer_taken x)) (next_words_good ws {n = 0} x).here
 
-  type_name_taken : (t : PlainTokenKind) → among (token_kind ws t) (type_name_kind ∷ []) ≡ true → (u : PlainType) × (type_name_of ws t ≡ Some u)
-  type_name_taken (tokens.Word n) h = by_word (word_at ws n) (the_kind (word_kind (word_at ws n)) type_name_kind h)
+  typedef_name_taken : (t : PlainTokenKind) → among (token_kind ws t) (type_name_kind ∷ []) ≡ true → (u : PlainType) × (typedef_name_of ws t ≡ Some u)
+  typedef_name_taken (tokens.Word n) h = by_word (word_at ws n) (the_kind (word_kind (word_at ws n)) type_name_kind h)
     where
-      by_word : (w : Word) → eqb (word_kind w) type_name_kind ≡ true → (u : PlainType) × (type_name_word_of ws w ≡ Some u)
-      by_word (word.TypeName c) e = (Int c, refl)
+      by_word : (w : Word) → eqb (word_kind w) type_name_kind ≡ true → (u : PlainType) × (type_named n w ≡ Some u)
+      by_word (word.TypeName c) e = (named_type n c, refl)
       by_word (word.Keyword k) e = absurd (let q = eqb-true (keyword_kind k) type_name_kind e in let s = keyword_large k in omega (arith, q, s))
       by_word _ e = absurd cc
-  type_name_taken (tokens.Mark m) h = absurd (let e = eqb-true (mark_kind m) type_name_kind (the_kind (mark_kind m) type_name_kind h) in omega (arith, e))
-  type_name_taken _ h = absurd cc
+  typedef_name_taken (tokens.Mark m) h = absurd (let e = eqb-true (mark_kind m) type_name_kind (the_kind (mark_kind m) type_name_kind h) in omega (arith, e))
+  typedef_name_taken _ h = absurd cc
 
-  pub type_name_solid : {n : ℕ} → Solid ws n (one (placed (type_name_of ws))) true false (type_name_kind ∷ []) []
-  type_name_solid = one_solid (placed (type_name_of ws)) (type_name_kind ∷ []) (placed_taken (type_name_of ws) (type_name_kind ∷ []) type_name_taken) (type_name_good ws {n = 0}).here
+  pub typedef_name_solid : {n : ℕ} → Solid ws n (one (placed (typedef_name_of ws))) true false (type_name_kind ∷ []) []
+  typedef_name_solid = one_solid (placed (typedef_name_of ws)) (type_name_kind ∷ []) (placed_taken (typedef_name_of ws) (type_name_kind ∷ []) typedef_name_taken) (typedef_name_good ws {n = 0}).here

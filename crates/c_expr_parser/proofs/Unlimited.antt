@@ -1,23 +1,29 @@
 -- No token of an expression, an effect or a call passes a limit: the limit of their tokens is set where they stand in no other.
-use Rattle.std.proofs.Common.{ℕ, zero, suc, List, [], ◌∷◌, Option, Some, None}
+use Rattle.std.proofs.Common.{ℕ, Bool, zero, suc, List, [], ◌∷◌, Option, Some, None}
 use Rattle.grammar.specs.Syntax.{Syntax}
 use Rattle.grammar.proofs.Labels.{Unlimited, late_gives, late_one, late_then, late_choice, late_many, late_knot}
 use Rattle.c_syntax.specs.declared.place.Place.{Place}
 use Rattle.c_syntax.specs.declared.expression.BinOp.{BinOp}
+use Rattle.c_syntax.specs.Ctypes.{PlainLength}
 use Rattle.c_syntax.specs.Expressions.{Expression}
 use Rattle.c_syntax.specs.Tokens.{PlainToken}
 use Rattle.c_model.specs.declared.operands.Form.{Form}
 use Rattle.c_model.specs.declared.operands.Form.TheVariants as form
+use Rattle.c_model.specs.declared.operands.Stars.{Stars}
 use Rattle.c_model.specs.declared.operands.TypeUse.{TypeUse}
 use Rattle.c_model.specs.declared.operands.TypeUse.TheVariants.{Casts, Sizes, Nothing}
 use Rattle.c_model.specs.declared.vocabulary.Keyword.TheVariants as keyword
 use Rattle.c_model.specs.declared.vocabulary.IntegerWords.{IntegerWords}
 use Rattle.c_model.specs.Vocabulary.{Vocabulary}
-use Rattle.c_model.specs.Punctuators.{question, comma, left_paren}
-use Rattle.c_model.specs.ExpressionGrammar.{name_kind, number_kind, type_name_kind, keyword_kind, mark_kind, kind, kinds_of, unary_operators, operators_at, levels, assignment_operators, prefix_bumps, postfix_bumps, first_type, first_expression}
-use Rattle.c_model.specs.ExpressionGrammar.{words_behind, ReadOperand, Operand, integer_word, integer_words, type_name, base, consts, type_words, closed, literal, cast_rest, sized_type, paren_rest, behind_paren, prefixed, sized, operand_but_name}
+use Rattle.c_model.specs.Punctuators.{question, comma, left_paren, times, left_bracket, dot}
+use Rattle.c_model.specs.ExpressionGrammar.{name_kind, number_kind, type_name_kind, keyword_kind, mark_kind, kind, kinds_of, unary_operators, operators_at, levels, assignment_operators, prefix_bumps, postfix_bumps, first_type}
+use Rattle.c_model.specs.ExpressionGrammar.{first_expression, first_postfix, letter_kind}
+use Rattle.c_model.specs.ExpressionGrammar.{words_behind, ReadOperand, Operand, integer_word, integer_words, typedef_name, struct_tag, enum_tag, untagged_base, base, consts, type_words, closed, literal, cast_rest, sized_type, paren_rest}
+use Rattle.c_model.specs.ExpressionGrammar.{behind_paren, prefixed, sized, operand_but_name}
+use Rattle.c_model.specs.ExpressionGrammar.{more_consts, star, next_star, star_words, written_length, length_or_none, bracket, next_bracket, brackets, type_name, indexed, dotted, arrowed, postfix_once, postfixes, postfix_rest, literal_first}
+use Rattle.c_model.specs.ExpressionGrammar.{behind_variable}
 use Rattle.c_model.specs.ExpressionGrammar.{operand_of, operand, joined_once, behind_operand, choice_rest, expression_rest, expression_of, expression, next_argument, arguments, call_rest, behind_name_or_callee, expression_or_call, assigned_value}
-use Rattle.c_model.specs.ExpressionGrammar.{assigned, bumped, behind_unary, behind_primary, behind_form, effect_rest, bump_first, effect_but_name, effect, behind_name, effect_or_call}
+use Rattle.c_model.specs.ExpressionGrammar.{assigned, bumped, behind_unary, behind_postfix, behind_form, effect_rest, bump_first, effect_but_name, effect, behind_name, effect_or_call}
 
 module _ (ws : Vocabulary) where
   -- ---- types
@@ -30,19 +36,55 @@ module _ (ws : Vocabulary) where
   unfolding integer_words
   integer_words_free = late_then (integer_word_free _) (λ x. late_then (late_many (kind ws) words_behind integer_word_free x) (λ y. late_gives _))
 
-  base_free : Unlimited (base ws)
-  unfolding base type_name
-  base_free =
+  pub untagged_free : Unlimited (untagged_base ws)
+  unfolding untagged_base typedef_name
+  untagged_free =
       late_choice (kind ws) (keyword_kind keyword.Void ∷ []) (late_then (late_one _) (λ _. late_gives _))
       (late_choice (kind ws) (type_name_kind ∷ []) (late_then (late_one _) (λ t. late_gives _)) integer_words_free)
 
-  consts_free : {A : Type 0} (x : A) → Unlimited (consts ws x)
+  pub struct_tag_free : Unlimited (struct_tag ws)
+  unfolding struct_tag
+  struct_tag_free = late_then (late_one _) (λ _. late_then (late_one _) (λ x. late_gives _))
+
+  pub enum_tag_free : Unlimited (enum_tag ws)
+  unfolding enum_tag
+  enum_tag_free = late_then (late_one _) (λ _. late_then (late_one _) (λ x. late_gives _))
+
+  base_free : Unlimited (base ws)
+  unfolding base
+  base_free =
+      late_choice (kind ws) (keyword_kind keyword.Struct ∷ []) struct_tag_free
+      (late_choice (kind ws) (keyword_kind keyword.Enum ∷ []) enum_tag_free untagged_free)
+
+  pub consts_free : {A : Type 0} (x : A) → Unlimited (consts ws x)
   unfolding consts
   consts_free x = late_many (kind ws) (λ _. keyword_kind keyword.Const ∷ []) (λ y. late_then (late_one _) (λ _. late_gives y)) x
 
-  type_free : Unlimited (type_words ws)
+  pub type_free : Unlimited (type_words ws)
   unfolding type_words
   type_free = late_then (consts_free _) (λ _. late_then base_free (λ t. consts_free t))
+
+  -- ---- stars and brackets
+
+  more_consts_free : (b : Bool) → Unlimited (more_consts ws b)
+  unfolding more_consts
+  more_consts_free b = late_many (kind ws) (λ _. keyword_kind keyword.Const ∷ []) (λ _. late_then (late_one _) (λ _. late_gives _)) b
+
+  next_star_free : (s : Stars) → Unlimited (next_star ws s)
+  unfolding next_star star
+  next_star_free s = late_then (late_then (late_one _) (λ _. more_consts_free s.constant)) (λ c. late_gives _)
+
+  pub stars_free : Unlimited (star_words ws)
+  unfolding star_words
+  stars_free = late_many (kind ws) (λ _. mark_kind times ∷ []) next_star_free _
+
+  bracket_free : {L : Syntax PlainToken PlainLength} → Unlimited L → (ns : List PlainLength) → Unlimited (next_bracket ws L ns)
+  unfolding next_bracket bracket
+  bracket_free l ns = late_then (late_then (late_one _) (λ _. late_then l (λ n. late_then (late_one _) (λ _. late_gives _)))) (λ n. late_gives _)
+
+  pub brackets_free : {L : Syntax PlainToken PlainLength} → Unlimited L → Unlimited (brackets ws L)
+  unfolding brackets
+  brackets_free l = late_many (kind ws) (λ _. mark_kind left_bracket ∷ []) (bracket_free l) _
 
   -- ---- operands
 
@@ -52,21 +94,63 @@ module _ (ws : Vocabulary) where
 
   literal_free : Unlimited (literal ws)
   unfolding literal
-  literal_free = late_choice (kind ws) (number_kind ∷ []) (late_then (late_one _) (λ n. late_gives _)) (late_then (late_one _) (λ z. late_gives _))
+  literal_free =
+      late_choice (kind ws) (number_kind ∷ []) (late_then (late_one _) (λ n. late_gives _))
+      (late_choice (kind ws) (letter_kind ∷ []) (late_then (late_one _) (λ z. late_gives _)) (late_then (late_one _) (λ at. late_gives _)))
 
-  sized_type_free : (at : Place) → Unlimited (sized_type ws at)
-  unfolding sized_type
-  sized_type_free at = late_then type_free (λ t. closed_free _)
+  dotted_free : (x : Expression) → Unlimited (dotted ws x)
+  unfolding dotted
+  dotted_free x = late_then (late_one _) (λ at. late_then (late_one _) (λ m. late_gives _))
+
+  arrowed_free : (x : Expression) → Unlimited (arrowed ws x)
+  unfolding arrowed
+  arrowed_free x = late_then (late_one _) (λ at. late_then (late_one _) (λ m. late_gives _))
 
   module _ {E : Syntax PlainToken Expression} (e : Unlimited E) where
+    written_free : Unlimited (written_length ws E)
+    unfolding written_length
+    written_free = late_then e (λ x. late_gives _)
+
+    pub length_free : Unlimited (length_or_none ws E)
+    unfolding length_or_none
+    length_free = late_choice (kind ws) first_expression written_free (late_gives _)
+
+    pub type_name_free : Unlimited (type_name ws E)
+    unfolding type_name
+    type_name_free = late_then type_free (λ t. late_then stars_free (λ s. late_then (brackets_free written_free) (λ ns. late_gives _)))
+
+    indexed_free : (x : Expression) → Unlimited (indexed ws E x)
+    unfolding indexed
+    indexed_free x = late_then (late_one _) (λ at. late_then e (λ i. late_then (late_one _) (λ _. late_gives _)))
+
+    postfix_once_free : (x : Expression) → Unlimited (postfix_once ws E x)
+    unfolding postfix_once
+    postfix_once_free x =
+        late_choice (kind ws) (mark_kind left_bracket ∷ []) (indexed_free x) (late_choice (kind ws) (mark_kind dot ∷ []) (dotted_free x) (arrowed_free x))
+
+    postfix_rest_free : (at : Place) (x : Expression) → Unlimited (postfix_rest ws E at x)
+    unfolding postfix_rest postfixes
+    postfix_rest_free at x = late_then (late_many (kind ws) (λ _. first_postfix) postfix_once_free x) (λ y. late_gives _)
+
+    behind_variable_free : (x : ℕ × Place) → Unlimited (behind_variable ws E x)
+    behind_variable_free x = postfix_rest_free _ _
+
+    literal_first_free : Unlimited (literal_first ws E)
+    unfolding literal_first
+    literal_first_free = late_then literal_free (λ x. postfix_rest_free _ x)
+
+    sized_type_free : (at : Place) → Unlimited (sized_type ws E at)
+    unfolding sized_type
+    sized_type_free at = late_then type_name_free (λ t. closed_free _)
+
     paren_rest_free : (at : Place) → Unlimited (paren_rest ws E at)
     unfolding paren_rest
-    paren_rest_free at = late_then e (λ x. closed_free _)
+    paren_rest_free at = late_then e (λ x. late_then (late_one _) (λ _. postfix_rest_free at x))
 
     module _ {O : Operand ws} (o : (u : TypeUse) → Unlimited (O u)) where
-      cast_rest_free : (at : Place) → Unlimited (cast_rest ws O at)
+      cast_rest_free : (at : Place) → Unlimited (cast_rest ws E O at)
       unfolding cast_rest
-      cast_rest_free at = late_then type_free (λ t. late_then (late_one _) (λ _. late_then (o Casts) (λ x. late_gives _)))
+      cast_rest_free at = late_then type_name_free (λ t. late_then (late_one _) (λ _. late_then (o Casts) (λ x. late_gives _)))
 
       behind_paren_free : (u : TypeUse) (at : Place) → Unlimited (behind_paren ws E O u at)
       unfolding behind_paren
@@ -87,11 +171,11 @@ module _ (ws : Vocabulary) where
       but_name_free u =
           late_choice (kind ws) (mark_kind left_paren ∷ []) (late_then (late_one _) (λ at. behind_paren_free u at))
           (late_choice (kind ws) (kinds_of unary_operators) prefixed_free
-          (late_choice (kind ws) (keyword_kind keyword.Sizeof ∷ []) sized_free literal_free))
+          (late_choice (kind ws) (keyword_kind keyword.Sizeof ∷ []) sized_free literal_first_free))
 
       operand_of_free : (u : TypeUse) → Unlimited (operand_of ws E O u)
       unfolding operand_of
-      operand_of_free u = late_choice (kind ws) (name_kind ∷ []) (late_then (late_one _) (λ x. late_gives _)) (but_name_free u)
+      operand_of_free u = late_choice (kind ws) (name_kind ∷ []) (late_then (late_one _) (λ x. behind_variable_free x)) (but_name_free u)
 
     operand_free : (u : TypeUse) → Unlimited (operand ws E u)
     unfolding operand
@@ -149,7 +233,7 @@ module _ (ws : Vocabulary) where
 
   behind_callee_free : (x : ℕ × Place) → Unlimited (behind_name_or_callee ws x)
   unfolding behind_name_or_callee
-  behind_callee_free x = late_choice (kind ws) (mark_kind left_paren ∷ []) (late_then (call_rest_free x) (λ c. late_gives _)) (rests_free _)
+  behind_callee_free x = late_choice (kind ws) (mark_kind left_paren ∷ []) (late_then (call_rest_free x) (λ c. late_gives _)) (late_then (behind_variable_free expression_free x) (λ y. rests_free y.expression))
 
   pub expression_or_call_free : Unlimited (expression_or_call ws)
   unfolding expression_or_call
@@ -175,13 +259,13 @@ module _ (ws : Vocabulary) where
   unfolding behind_unary
   behind_unary_free x = late_choice (kind ws) (kinds_of assignment_operators) (assigned_free x) (rests_free x)
 
-  behind_primary_free : (x : Expression) → Unlimited (behind_primary ws x)
-  unfolding behind_primary
-  behind_primary_free x = late_choice (kind ws) (kinds_of postfix_bumps) (bumped_free x) (behind_unary_free x)
+  behind_postfix_free : (x : Expression) → Unlimited (behind_postfix ws x)
+  unfolding behind_postfix
+  behind_postfix_free x = late_choice (kind ws) (kinds_of postfix_bumps) (bumped_free x) (behind_unary_free x)
 
   behind_form_free : (f : Form) (x : Expression) → Unlimited (behind_form ws f x)
   unfolding behind_form
-  behind_form_free form.Primary x = behind_primary_free x
+  behind_form_free form.Postfix x = behind_postfix_free x
   behind_form_free form.Unary x = behind_unary_free x
   behind_form_free form.Cast x = rests_free x
   behind_form_free form.TypeName x = rests_free x
@@ -200,11 +284,12 @@ module _ (ws : Vocabulary) where
 
   pub effect_free : Unlimited (effect ws)
   unfolding effect
-  effect_free = late_choice (kind ws) (name_kind ∷ []) (late_then (late_one _) (λ x. effect_rest_free _)) effect_but_name_free
+  effect_free =
+      late_choice (kind ws) (name_kind ∷ []) (late_then (late_one _) (λ x. late_then (behind_variable_free expression_free x) (λ y. effect_rest_free y))) effect_but_name_free
 
   behind_name_free : (x : ℕ × Place) → Unlimited (behind_name ws x)
   unfolding behind_name
-  behind_name_free x = late_choice (kind ws) (mark_kind left_paren ∷ []) (call_rest_free x) (effect_rest_free _)
+  behind_name_free x = late_choice (kind ws) (mark_kind left_paren ∷ []) (call_rest_free x) (late_then (behind_variable_free expression_free x) (λ y. effect_rest_free y))
 
   pub effect_or_call_free : Unlimited (effect_or_call ws)
   unfolding effect_or_call

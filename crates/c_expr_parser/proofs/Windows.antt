@@ -1,5 +1,5 @@
 -- What is read within the limit of tokens is what is read of one token more than it allows.
-use Rattle.std.proofs.Common.{◌≡◌, ℕ, zero, suc, ◌+◌, ◌-◌, ◌<◌, ◌≤◌, false, List, [], ◌∷◌, ◌++◌, length, take, drop, map, Ok, Err, refl, sym, ap, subst, ◌∙◌, arith}
+use Rattle.std.proofs.Common.{◌≡◌, ℕ, zero, suc, ◌+◌, ◌-◌, ◌<◌, ◌≤◌, Bool, List, [], ◌∷◌, ◌++◌, length, take, drop, map, Ok, Err, refl, sym, ap, subst, ◌∙◌, arith}
 use Rattle.std.proofs.lemmas.List.{length-map}
 use Rattle.grammar.specs.Syntax.{Syntax, At, Over, at_most}
 use Rattle.grammar.specs.Exact.{IsExact}
@@ -43,12 +43,12 @@ drop_long zero ts = omega arith
 drop_long (suc n) [] = omega arith
 drop_long (suc n) (t ∷ ts) = let e = drop_long n ts in omega (arith, e)
 
-module _ {A : Type 0} (ws : Vocabulary) (G : Syntax PlainToken A) (first more : List ℕ) (g : IsExact (kind ws) G false first (λ _. more)) where
+module _ {A : Type 0} {null : Bool} (ws : Vocabulary) (G : Syntax PlainToken A) (first more : List ℕ) (g : IsExact (kind ws) G null first (λ _. more)) where
   abbrev limited : Syntax PlainToken A
   limited = at_most expression_limit most_in_expression G
 
   pub whole : (ts : List Token) → length ts ≤ most_in_expression → limited.parse (plain_list ts) ≡ G.parse (plain_list ts)
-  whole ts h = at_most_short (kind ws) expression_limit most_in_expression G false first (λ _. more) g (plain_list ts) (omega (arith, length-map ts plain_token))
+  whole ts h = at_most_short (kind ws) expression_limit most_in_expression G null first (λ _. more) g (plain_list ts) (omega (arith, length-map ts plain_token))
 
   module _ (ts near : List Token) (is : near ≡ take (most_in_expression + 1) ts) (h : most_in_expression < length ts) where
     abbrev far : List Token
@@ -64,7 +64,7 @@ module _ {A : Type 0} (ws : Vocabulary) (G : Syntax PlainToken A) (first more : 
     far_long = length-map far plain_token ∙ drop_long (most_in_expression + 1) ts
 
     pub over : (x : A) (rest : List Token) → G.parse (plain_list near) ≡ Ok (x, plain_list rest) → length rest ≡ 0 → limited.parse (plain_list ts) ≡ Err (Over expression_limit (length ts - (most_in_expression + 1) + 1))
-    over x rest e z = near_ok_ends (kind ws) expression_limit most_in_expression G false first (λ _. more) g (plain_list ts) (plain_list near) (plain_list far) parts long x (plain_list rest) e (omega (arith, z, length-map rest plain_token))
+    over x rest e z = near_ok_ends (kind ws) expression_limit most_in_expression G null first (λ _. more) g (plain_list ts) (plain_list near) (plain_list far) parts long x (plain_list rest) e (omega (arith, z, length-map rest plain_token))
         ∙ ap (λ (k : ℕ). Err (Over expression_limit (k + 1))) far_long
 
     pub goes_on : (x : A) (rest : List Token) → G.parse (plain_list near) ≡ Ok (x, plain_list rest) → (length rest ≡ 0 → ⊥) → length rest ≤ most_in_expression + 1
@@ -72,21 +72,21 @@ module _ {A : Type 0} (ws : Vocabulary) (G : Syntax PlainToken A) (first more : 
     goes_on x rest e z l =
         let r = length-map rest plain_token in
         let k : length (plain_list ts) - (length (plain_list rest) + length (plain_list far)) ≡ most_in_expression + 1 - length rest = omega (arith, r, far_long, length-map ts plain_token, h, l) in
-        near_ok (kind ws) expression_limit most_in_expression G false first (λ _. more) g (plain_list ts) (plain_list near) (plain_list far) parts long x (plain_list rest) e (λ q. z (omega (arith, q, r)))
+        near_ok (kind ws) expression_limit most_in_expression G null first (λ _. more) g (plain_list ts) (plain_list near) (plain_list far) parts long x (plain_list rest) e (λ q. z (omega (arith, q, r)))
         ∙ ap (λ (n : ℕ). Ok (x, drop n (plain_list ts))) k ∙ ap (λ (w : List PlainToken). Ok (x, w)) (sym (map_drop plain_token (most_in_expression + 1 - length rest) ts))
 
     pub fails : (e r : ReadFault) → Fails e (G.parse (plain_list near)) → Resumed e (length ts - (most_in_expression + 1)) r → Fails r (limited.parse (plain_list ts))
-    fails (fault.At zero) r f q = rw q (near_at_ends (kind ws) expression_limit most_in_expression G false first (λ _. more) g (plain_list ts) (plain_list near) (plain_list far) parts long f
+    fails (fault.At zero) r f q = rw q (near_at_ends (kind ws) expression_limit most_in_expression G null first (λ _. more) g (plain_list ts) (plain_list near) (plain_list far) parts long f
         ∙ ap (λ (k : ℕ). Err (Over expression_limit (k + 1))) far_long)
-    fails (fault.At (suc n)) r f q = rw q (near_at (kind ws) expression_limit most_in_expression G false first (λ _. more) g (plain_list ts) (plain_list near) (plain_list far) parts long (suc n) f (λ z. absurd cc)
+    fails (fault.At (suc n)) r f q = rw q (near_at (kind ws) expression_limit most_in_expression G null first (λ _. more) g (plain_list ts) (plain_list near) (plain_list far) parts long (suc n) f (λ z. absurd cc)
         ∙ ap (λ (k : ℕ). Err (At (suc n + k))) far_long)
-    fails (fault.Over limit n) r f q = rw q (near_over (kind ws) expression_limit most_in_expression G false first (λ _. more) g (plain_list ts) (plain_list near) (plain_list far) parts long (label limit) n f
+    fails (fault.Over limit n) r f q = rw q (near_over (kind ws) expression_limit most_in_expression G null first (λ _. more) g (plain_list ts) (plain_list near) (plain_list far) parts long (label limit) n f
         ∙ ap (λ (k : ℕ). Err (Over (label limit) (n + k))) far_long)
     fails fault.Memory r f q = rw q tt
 
   pub bound : (ts : List Token) (e : ReadFault) → Fails e (G.parse (plain_list ts)) → LeftWithin e (length ts)
-  bound ts (fault.At n) f = let h = at_within G false first (λ _. more) g (plain_list ts) n f in omega (arith, h, length-map ts plain_token)
-  bound ts (fault.Over limit n) f = let h = over_within G false first (λ _. more) g (plain_list ts) (label limit) n f in omega (arith, h, length-map ts plain_token)
+  bound ts (fault.At n) f = let h = at_within G null first (λ _. more) g (plain_list ts) n f in omega (arith, h, length-map ts plain_token)
+  bound ts (fault.Over limit n) f = let h = over_within G null first (λ _. more) g (plain_list ts) (label limit) n f in omega (arith, h, length-map ts plain_token)
   bound ts fault.Memory f = tt
 
 pub full_expression_whole : (ws : Vocabulary) (ts : List Token) → length ts ≤ most_in_expression → (full_expression ws).parse (plain_list ts) ≡ (expression ws).parse (plain_list ts)

@@ -1,17 +1,23 @@
 -- Ours: productions of C99 6.5 and 6.7.2 (c_model/specs/ExpressionGrammar), cut as the code reads them.
 -- Faults within the limit of an expression, the plain forms of what is read in parts, and repetitions.
-use Rattle.std.specs.Prelude.{◌≡◌, ◌≤◌, ◌+◌, ℕ, zero, suc, List, [], ◌∷◌}
+use Rattle.std.specs.Prelude.{◌≡◌, ◌≤◌, ◌+◌, ℕ, zero, suc, List, [], ◌∷◌, map}
 use Rattle.grammar.specs.Syntax.{Syntax, ◌then◌, many}
 use Rattle.c_syntax.specs.Tokens.{PlainToken}
-use Rattle.c_syntax.specs.Ctypes.{Int}
+use Rattle.c_syntax.specs.Ctypes.{PlainType, Void, Int, Struct, Named, StructTag, EnumTag, PlainLength, plain_length}
 use Rattle.c_syntax.specs.Expressions.{Expression, plain_expr}
 use Rattle.c_model.specs.declared.vocabulary.IntegerWords.{IntegerWords}
+use Rattle.c_model.specs.declared.operands.Stars.{Stars}
 use Rattle.c_model.specs.declared.operands.TypeUse.TheVariants.{Casts}
 use Rattle.c_model.specs.Vocabulary.{Vocabulary}
-use Rattle.c_model.specs.Punctuators.{comma}
-use Rattle.c_model.specs.ExpressionGrammar.{TypeStart, ConstStart, VoidStart, NameStart, IntegerStart, ReadOperand, kind, mark_kind, kinds_of, operators_at}
-use Rattle.c_model.specs.ExpressionGrammar.{words_behind, integer_word, operand, behind_operand, joined_once, expression, next_argument}
+use Rattle.c_model.specs.Punctuators.{comma, times, left_bracket}
+use Rattle.c_model.specs.ExpressionGrammar.{TypeStart, ConstStart, VoidStart, StructStart, EnumStart, NameStart, IntegerStart, ReadOperand, kind, mark_kind}
+use Rattle.c_model.specs.ExpressionGrammar.{kinds_of, operators_at}
+use Rattle.c_model.specs.ExpressionGrammar.{words_behind, integer_word, next_star, next_bracket, operand, behind_operand, joined_once, expression}
+use Rattle.c_model.specs.ExpressionGrammar.{next_argument}
 use Rattle.c_expr_parser.specs.declared.expression.ReadOperand as code_operand
+use Rattle.c_expr_parser.specs.declared.types.BaseType.{BaseType}
+use Rattle.c_expr_parser.specs.declared.types.BaseType.TheVariants as words
+use Rattle.c_expr_parser.specs.declared.declarator.Bracket.{Bracket}
 use Rattle.c_expr_parser.specs.declared.type_start.TypeStart as code_start
 use Rattle.c_expr_parser.specs.declared.type_start.TypeStart.TheVariants as start
 use Rattle.c_syntax.specs.declared.fault.Limit.TheVariants as limits
@@ -34,11 +40,25 @@ Resumed fault.Memory far r = r ≡ fault.Memory
 abbrev pub plain_operand : code_operand.ReadOperand → ReadOperand
 plain_operand x = record { expression = plain_expr x.expression; form = x.form; first = x.first }
 
+-- the type that words name
+abbrev pub plain_base : BaseType → PlainType
+plain_base words.Void = Void
+plain_base (words.Int k) = Int k
+plain_base (words.Struct n) = Struct n
+plain_base (words.Named x) = Named x
+plain_base (words.StructTag x) = StructTag x
+plain_base (words.EnumTag x at) = EnumTag x at
+
+abbrev pub plain_brackets : List Bracket → List PlainLength
+plain_brackets bs = map (λ (b : Bracket). plain_length b.length) bs
+
 -- how a type begins, and the same with the number of its first word
 abbrev pub plain_start : code_start.TypeStart → TypeStart
 plain_start start.Const = ConstStart
 plain_start start.Void = VoidStart
-plain_start (start.Name t) = NameStart (Int t)
+plain_start start.Struct = StructStart
+plain_start start.Enum = EnumStart
+plain_start (start.Name t) = NameStart (plain_base t)
 plain_start (start.Integer x) = IntegerStart x
 
 abbrev pub plain_started : code_start.TypeStart × ℕ → TypeStart × ℕ
@@ -49,6 +69,12 @@ plain_started x = (plain_start x.0, x.1)
 module _ (ws : Vocabulary) where
   unfoldable pub more_words : IntegerWords → Syntax PlainToken IntegerWords
   more_words x = many (kind ws) words_behind (integer_word ws) x
+
+  unfoldable pub more_stars : Stars → Syntax PlainToken Stars
+  more_stars s = many (kind ws) (λ _. mark_kind times ∷ []) (next_star ws) s
+
+  unfoldable pub more_brackets : Syntax PlainToken PlainLength → List PlainLength → Syntax PlainToken (List PlainLength)
+  more_brackets L ns = many (kind ws) (λ _. mark_kind left_bracket ∷ []) (next_bracket ws L) ns
 
   -- the right operand of an operator of the level
   unfoldable pub right_operand : ℕ → Syntax PlainToken Expression

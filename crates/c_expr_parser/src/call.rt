@@ -6,7 +6,9 @@ ghost use Rattle.c_model.specs.ExpressionGrammar.{next_argument, arguments, call
 ghost use Rattle.c_expr_parser.specs.Reading.{more_arguments};
 ghost use Rattle.token_reader.specs.Reading.{Gives, plain_list};
 
-use crate::expression::{expression, expression_rest, operand_but_name, read_as, read_name};
+use crate::expression::{
+    expression, expression_rest, operand_but_name, postfix_rest, read_as, read_name,
+};
 use crate::kinds::{COMMA, LEFT_PAREN, NAME, RIGHT_PAREN};
 use crate::terminals::{name, next_begins_expression, next_is, skip};
 use c_model::operands::TypeUse;
@@ -118,7 +120,9 @@ fn behind_name_or_callee<'a>(
         let (e, _, rest) = call_rest(alloc, words, f, first, tokens)?;
         Ok((e, rest))
     } else {
-        expression_rest(alloc, words, read_name(alloc, f, first)?.expression, tokens)
+        let x = read_name(alloc, f, first)?;
+        let (x, rest) = postfix_rest(alloc, words, first, x, tokens)?;
+        expression_rest(alloc, words, x.expression, rest)
     }
 }
 

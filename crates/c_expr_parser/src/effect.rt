@@ -2,15 +2,15 @@
 
 ghost use Rattle.std.specs.Prelude.{◌≡◌, ◌≤◌, ◌<◌, length, IfOk};
 ghost use Rattle.c_syntax.specs.Expressions.{plain_expr};
-ghost use Rattle.c_model.specs.ExpressionGrammar.{assigned_value, assigned, bumped, behind_unary, behind_primary, behind_form, effect_rest, bump_first};
+ghost use Rattle.c_model.specs.ExpressionGrammar.{assigned_value, assigned, bumped, behind_unary, behind_postfix, behind_form, effect_rest, bump_first};
 ghost use Rattle.c_model.specs.ExpressionGrammar.{effect_but_name, effect, behind_name, effect_or_call};
 ghost use Rattle.c_expr_parser.specs.Reading.{plain_operand};
 ghost use Rattle.token_reader.specs.Reading.{Gives, plain_list};
 
 use crate::call::{call_rest, expression_or_call};
 use crate::expression::{
-    ReadOperand, expression, expression_rest, operand, operand_but_name, read_as, read_name,
-    with_expression,
+    ReadOperand, expression, expression_rest, operand, operand_but_name, postfix_rest, read_as,
+    read_name, with_expression,
 };
 use crate::kinds::{LEFT_PAREN, NAME};
 use crate::tables::{ASSIGNMENTS, POSTFIX_BUMPS, PREFIX_BUMPS};
@@ -88,15 +88,15 @@ fn behind_unary<'a>(
     }
 }
 
-/// What stands after a primary expression.
-#[tactic(auto, unfolding(c_model::specs::ExpressionGrammar::behind_primary))]
-fn behind_primary<'a>(
+/// What stands after a postfix expression.
+#[tactic(auto, unfolding(c_model::specs::ExpressionGrammar::behind_postfix))]
+fn behind_postfix<'a>(
     alloc: Global,
     words: &[Word],
     x: Expr,
     tokens: &'a [Token],
 ) -> Result<(Expr, &'a [Token]), ReadFault>
-    ensures read { Gives (λ x. (plain_expr x.0, plain_list x.1.now)) result ((behind_primary words.now (plain_expr x)).parse (plain_list tokens.now)) }
+    ensures read { Gives (λ x. (plain_expr x.0, plain_list x.1.now)) result ((behind_postfix words.now (plain_expr x)).parse (plain_list tokens.now)) }
     ensures shorter { IfOk result (λ x. length x.1.now ≤ length tokens.now) }
 {
     if next_is_marked(words, POSTFIX_BUMPS, tokens) {
@@ -119,7 +119,7 @@ fn behind_form<'a>(
     ensures shorter { IfOk result (λ x. length x.1.now ≤ length tokens.now) }
 {
     match form {
-        Form::Primary => behind_primary(alloc, words, x, tokens),
+        Form::Postfix => behind_postfix(alloc, words, x, tokens),
         Form::Unary => behind_unary(alloc, words, x, tokens),
         Form::Cast | Form::TypeName => expression_rest(alloc, words, x, tokens),
     }
@@ -187,7 +187,9 @@ pub fn effect<'a>(
 {
     if next_is(words, NAME, tokens) {
         let (number, place, rest) = name(words, tokens)?;
-        effect_rest(alloc, words, read_name(alloc, number, place)?, rest)
+        let x = read_name(alloc, number, place)?;
+        let (x, rest) = postfix_rest(alloc, words, place, x, rest)?;
+        effect_rest(alloc, words, x, rest)
     } else {
         effect_but_name(alloc, words, tokens)
     }
@@ -208,7 +210,9 @@ fn behind_name<'a>(
     if next_is(words, LEFT_PAREN, tokens) {
         call_rest(alloc, words, f, first, tokens)
     } else {
-        effect_rest(alloc, words, read_name(alloc, f, first)?, tokens)
+        let x = read_name(alloc, f, first)?;
+        let (x, rest) = postfix_rest(alloc, words, first, x, tokens)?;
+        effect_rest(alloc, words, x, rest)
     }
 }
 

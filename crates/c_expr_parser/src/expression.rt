@@ -1,25 +1,33 @@
 //! Expressions (C99 6.5).
 
 ghost use Rattle.std.specs.Prelude.{◌≡◌, ◌≤◌, ◌<◌, length, IfOk, IfErr};
+ghost use Rattle.c_syntax.specs.Ctypes.{plain_type, plain_length};
 ghost use Rattle.c_syntax.specs.Expressions.{plain_expr, plain_kind};
 ghost use Rattle.grammar.specs.Syntax.{gives, one, sees};
 ghost use Rattle.c_model.specs.ExpressionGrammar.{kind, kinds_of, operators_at, read_as, read_name, read_operand, size_of_operand, joined};
 ghost use Rattle.c_model.specs.Terminals.{placed, mark_entry};
-ghost use Rattle.c_model.specs.ExpressionGrammar.{literal, cast_rest, sized_type, paren_rest, behind_paren, prefixed, sized, operand_but_name, operand_of};
+ghost use Rattle.c_model.specs.ExpressionGrammar.{written_length, bracket, brackets, type_name, indexed, dotted, arrowed, postfix_once, postfix_rest, literal};
+ghost use Rattle.c_model.specs.ExpressionGrammar.{cast_rest, sized_type, paren_rest, behind_paren, prefixed, sized, operand_but_name, operand_of};
 ghost use Rattle.c_model.specs.ExpressionGrammar.{operand, joined_once, behind_operand, choice_rest, expression_rest, expression_of, expression};
-ghost use Rattle.c_expr_parser.specs.Reading.{plain_operand, right_operand, more_joined};
+ghost use Rattle.c_expr_parser.specs.Reading.{plain_operand, plain_brackets, more_brackets, right_operand, more_joined};
 ghost use Rattle.token_reader.specs.Reading.{Gives, TakesNoMemory, plain_list};
 
-use crate::kinds::{COLON, LEFT_PAREN, NAME, NUMBER, QUESTION, RIGHT_PAREN, SIZEOF};
+use crate::declarator::{Bracket, declared_type, pushed};
+use crate::kinds::{
+    ARROW, COLON, DOT, LEFT_BRACKET, LEFT_PAREN, LETTER, NAME, NUMBER, QUESTION, RIGHT_BRACKET,
+    RIGHT_PAREN, SIZEOF, TEXT,
+};
 use crate::tables::{LEVELS, UNARY, operators_at};
 use crate::terminals::{
-    kept, letter, name, next_begins_type, next_is, next_is_marked, number, skip,
+    any_name, kept, letter, name, next_begins_type, next_is, next_is_marked, next_is_postfix,
+    number, skip,
 };
-use crate::types::type_of;
+use crate::types::{star_words, type_words};
 use c_model::operands::{Connective, Form, TypeUse};
 use c_model::vocabulary::Word;
 use c_syntax::fault::ReadFault;
-use c_syntax::{CInt, CType, Expr, ExprKind, Place, Token, Use};
+use c_syntax::{CInt, CType, Expr, ExprKind, Length, Place, Token, Use};
+use smallvec::SmallVec;
 use std::alloc::{AllocError, Global};
 use token_reader::terminals::marked;
 
@@ -78,54 +86,225 @@ fn with_operand<'a>(
 }
 
 /// A name that is used.
-pub fn read_name(alloc: Global, name: u32, place: Place) -> Result<ReadOperand, AllocError>
-    ensures { IfOk result (λ x. plain_operand x ≡ read_name (name, place)) }
+pub fn read_name(alloc: Global, name: u32, place: Place) -> Result<Expr, AllocError>
+    ensures { IfOk result (λ x. plain_expr x ≡ read_name (name, place)) }
 {
     let x = Use { name, decl: 0 };
-    Ok(ReadOperand {
-        expression: read_as(alloc, place, ExprKind::Variable(x))?,
-        form: Form::Primary,
-        first: place,
-    })
+    read_as(alloc, place, ExprKind::Variable(x))
 }
 
-/// An integer or character literal.
+/// An integer, character or string literal.
 #[tactic(auto, unfolding(c_model::specs::ExpressionGrammar::literal))]
 fn literal<'a>(
     alloc: Global,
     words: &[Word],
     tokens: &'a [Token],
-) -> Result<(ReadOperand, &'a [Token]), ReadFault>
-    ensures read { Gives (λ x. (plain_operand x.0, plain_list x.1.now)) result ((literal words.now).parse (plain_list tokens.now)) }
+) -> Result<(Expr, &'a [Token]), ReadFault>
+    ensures read { Gives (λ x. (plain_expr x.0, plain_list x.1.now)) result ((literal words.now).parse (plain_list tokens.now)) }
     ensures shorter { IfOk result (λ x. length x.1.now < length tokens.now) }
 {
     if next_is(words, NUMBER, tokens) {
         let (value, ctype, place, rest) = number(tokens)?;
-        with_operand(
-            alloc,
-            place,
-            ExprKind::Number(value, ctype),
-            Form::Primary,
-            rest,
-        )
-    } else {
+        with_expression(alloc, place, ExprKind::Number(value, ctype), rest)
+    } else if next_is(words, LETTER, tokens) {
         let (value, place, rest) = letter(tokens)?;
-        with_operand(alloc, place, ExprKind::Letter(value), Form::Primary, rest)
+        with_expression(alloc, place, ExprKind::Letter(value), rest)
+    } else {
+        let (place, rest) = skip(words, TEXT, tokens)?;
+        with_expression(alloc, place, ExprKind::Text(place.offset), rest)
     }
+}
+
+/// An expression as the length of an array.
+#[tactic(auto, unfolding(c_model::specs::ExpressionGrammar::written_length))]
+#[cycle(expression)]
+pub fn written_length<'a>(
+    alloc: Global,
+    words: &[Word],
+    tokens: &'a [Token],
+) -> Result<(Length, &'a [Token]), ReadFault>
+    ensures read { Gives (λ x. (plain_length x.0, plain_list x.1.now)) result
+        ((written_length words.now (expression words.now)).parse (plain_list tokens.now)) }
+    ensures shorter { IfOk result (λ x. length x.1.now < length tokens.now) }
+{
+    let (e, rest) = expression(alloc, words, tokens)?;
+    Ok((Length::Written(Box::new(alloc, e)?), rest))
+}
+
+/// `"[" expr "]"`
+#[tactic(auto, unfolding(c_model::specs::ExpressionGrammar::bracket))]
+#[cycle(expression)]
+fn written_bracket<'a>(
+    alloc: Global,
+    words: &[Word],
+    tokens: &'a [Token],
+) -> Result<(Bracket, &'a [Token]), ReadFault>
+    ensures read { Gives (λ x. (plain_length x.0.length, plain_list x.1.now)) result
+        ((bracket words.now (written_length words.now (expression words.now))).parse (plain_list tokens.now)) }
+    ensures shorter { IfOk result (λ x. length x.1.now < length tokens.now) }
+{
+    let (_, rest) = skip(words, LEFT_BRACKET, tokens)?;
+    let (length, rest) = written_length(alloc, words, rest)?;
+    let (length, (_, rest)) = kept(length, skip(words, RIGHT_BRACKET, rest))?;
+    Ok((Bracket { length }, rest))
+}
+
+/// `{ "[" expr "]" }`
+#[tactic(auto, using(crate::proofs::BracketTurns::written_rules))]
+#[cycle(expression)]
+fn written_brackets<'a>(
+    alloc: Global,
+    words: &[Word],
+    tokens: &'a [Token],
+) -> Result<(SmallVec<Bracket, 4>, &'a [Token]), ReadFault>
+    ensures read { Gives (λ x. (plain_brackets x.0.items, plain_list x.1.now)) result
+        ((brackets words.now (written_length words.now (expression words.now))).parse (plain_list tokens.now)) }
+    ensures shorter { IfOk result (λ x. length x.1.now ≤ length tokens.now) }
+{
+    let mut all = SmallVec::new(alloc);
+    let mut rest = tokens;
+    'turn: while next_is(words, LEFT_BRACKET, rest) {
+        let (before, (bracket, after)) = kept(all, written_bracket(alloc, words, rest))?;
+        all = pushed(before, bracket)?;
+        rest = after;
+    }
+    Ok((all, rest))
+}
+
+/// The type of a cast or of `sizeof`.
+#[tactic(auto, unfolding(c_model::specs::ExpressionGrammar::type_name))]
+#[cycle(expression)]
+fn type_name<'a>(
+    alloc: Global,
+    words: &[Word],
+    tokens: &'a [Token],
+) -> Result<(CType, &'a [Token]), ReadFault>
+    ensures read { Gives (λ t. (plain_type t.0, plain_list t.1.now)) result
+        ((type_name words.now (expression words.now)).parse (plain_list tokens.now)) }
+    ensures shorter { IfOk result (λ t. length t.1.now < length tokens.now) }
+{
+    let (base, rest) = type_words(words, tokens)?;
+    let (stars, rest) = star_words(words, rest)?;
+    let (brackets, rest) = written_brackets(alloc, words, rest)?;
+    Ok((declared_type(alloc, base, stars, brackets)?, rest))
+}
+
+/// `"[" expr "]"`, after a postfix expression.
+#[tactic(auto, unfolding(c_model::specs::ExpressionGrammar::indexed))]
+#[cycle(expression)]
+fn indexed<'a>(
+    alloc: Global,
+    words: &[Word],
+    x: Expr,
+    tokens: &'a [Token],
+) -> Result<(Expr, &'a [Token]), ReadFault>
+    ensures read { Gives (λ x. (plain_expr x.0, plain_list x.1.now)) result
+        ((indexed words.now (expression words.now) (plain_expr x)).parse (plain_list tokens.now)) }
+    ensures shorter { IfOk result (λ x. length x.1.now < length tokens.now) }
+{
+    let (x, (place, rest)) = kept(x, skip(words, LEFT_BRACKET, tokens))?;
+    let (x, (index, rest)) = kept(x, expression(alloc, words, rest))?;
+    let ((x, index), (_, rest)) = kept((x, index), skip(words, RIGHT_BRACKET, rest))?;
+    with_expression(alloc, place, ExprKind::Index(x, index), rest)
+}
+
+/// `"." ANYNAME`, after a postfix expression.
+#[tactic(auto, unfolding(c_model::specs::ExpressionGrammar::dotted))]
+fn dotted<'a>(
+    alloc: Global,
+    words: &[Word],
+    x: Expr,
+    tokens: &'a [Token],
+) -> Result<(Expr, &'a [Token]), ReadFault>
+    ensures read { Gives (λ x. (plain_expr x.0, plain_list x.1.now)) result ((dotted words.now (plain_expr x)).parse (plain_list tokens.now)) }
+    ensures shorter { IfOk result (λ x. length x.1.now < length tokens.now) }
+{
+    let (x, (place, rest)) = kept(x, skip(words, DOT, tokens))?;
+    let (x, (member, _, rest)) = kept(x, any_name(words, rest))?;
+    with_expression(alloc, place, ExprKind::Dot(x, member), rest)
+}
+
+/// `"->" ANYNAME`, after a postfix expression.
+#[tactic(auto, unfolding(c_model::specs::ExpressionGrammar::arrowed))]
+fn arrowed<'a>(
+    alloc: Global,
+    words: &[Word],
+    x: Expr,
+    tokens: &'a [Token],
+) -> Result<(Expr, &'a [Token]), ReadFault>
+    ensures read { Gives (λ x. (plain_expr x.0, plain_list x.1.now)) result ((arrowed words.now (plain_expr x)).parse (plain_list tokens.now)) }
+    ensures shorter { IfOk result (λ x. length x.1.now < length tokens.now) }
+{
+    let (x, (place, rest)) = kept(x, skip(words, ARROW, tokens))?;
+    let (x, (member, _, rest)) = kept(x, any_name(words, rest))?;
+    with_expression(alloc, place, ExprKind::Arrow(x, member), rest)
+}
+
+/// One postfix operator, after its operand.
+#[tactic(auto, unfolding(c_model::specs::ExpressionGrammar::postfix_once))]
+#[cycle(expression)]
+fn postfix_once<'a>(
+    alloc: Global,
+    words: &[Word],
+    x: Expr,
+    tokens: &'a [Token],
+) -> Result<(Expr, &'a [Token]), ReadFault>
+    ensures read { Gives (λ x. (plain_expr x.0, plain_list x.1.now)) result
+        ((postfix_once words.now (expression words.now) (plain_expr x)).parse (plain_list tokens.now)) }
+    ensures shorter { IfOk result (λ x. length x.1.now < length tokens.now) }
+{
+    if next_is(words, LEFT_BRACKET, tokens) {
+        indexed(alloc, words, x, tokens)
+    } else if next_is(words, DOT, tokens) {
+        dotted(alloc, words, x, tokens)
+    } else {
+        arrowed(alloc, words, x, tokens)
+    }
+}
+
+/// The rest of a postfix expression, after its primary one and with the place of its first token.
+#[tactic(auto, using(crate::proofs::PostfixTurns::postfix_rules))]
+#[cycle(expression)]
+pub fn postfix_rest<'a>(
+    alloc: Global,
+    words: &[Word],
+    first: Place,
+    x: Expr,
+    tokens: &'a [Token],
+) -> Result<(ReadOperand, &'a [Token]), ReadFault>
+    ensures read { Gives (λ x. (plain_operand x.0, plain_list x.1.now)) result
+        ((postfix_rest words.now (expression words.now) first (plain_expr x)).parse (plain_list tokens.now)) }
+    ensures shorter { IfOk result (λ x. length x.1.now ≤ length tokens.now) }
+{
+    let mut x = x;
+    let mut rest = tokens;
+    'turn: while next_is_postfix(words, rest) {
+        let (more, after) = postfix_once(alloc, words, x, rest)?;
+        x = more;
+        rest = after;
+    }
+    let operand = ReadOperand {
+        expression: x,
+        form: Form::Postfix,
+        first,
+    };
+    Ok((operand, rest))
 }
 
 /// `type ")"`, after `sizeof (`.
 #[tactic(auto, unfolding(c_model::specs::ExpressionGrammar::sized_type, c_model::specs::ExpressionGrammar::closed))]
+#[cycle(expression)]
 fn sized_type<'a>(
     alloc: Global,
     words: &[Word],
     place: Place,
     tokens: &'a [Token],
 ) -> Result<(ReadOperand, &'a [Token]), ReadFault>
-    ensures read { Gives (λ x. (plain_operand x.0, plain_list x.1.now)) result ((sized_type words.now place).parse (plain_list tokens.now)) }
+    ensures read { Gives (λ x. (plain_operand x.0, plain_list x.1.now)) result
+        ((sized_type words.now (expression words.now) place).parse (plain_list tokens.now)) }
     ensures shorter { IfOk result (λ x. length x.1.now < length tokens.now) }
 {
-    let (t, rest) = type_of(words, tokens)?;
+    let (t, rest) = type_name(alloc, words, tokens)?;
     let (t, (_, rest)) = kept(t, skip(words, RIGHT_PAREN, rest))?;
     with_operand(alloc, place, ExprKind::SizeOfType(t), Form::TypeName, rest)
 }
@@ -139,11 +318,11 @@ fn cast_rest<'a>(
     place: Place,
     tokens: &'a [Token],
 ) -> Result<(ReadOperand, &'a [Token]), ReadFault>
-    ensures read { Gives (λ x. (plain_operand x.0, plain_list x.1.now)) result ((cast_rest words.now (operand words.now (expression words.now)) place).parse
-        (plain_list tokens.now)) }
+    ensures read { Gives (λ x. (plain_operand x.0, plain_list x.1.now)) result
+        ((cast_rest words.now (expression words.now) (operand words.now (expression words.now)) place).parse (plain_list tokens.now)) }
     ensures shorter { IfOk result (λ x. length x.1.now < length tokens.now) }
 {
-    let (t, rest) = type_of(words, tokens)?;
+    let (t, rest) = type_name(alloc, words, tokens)?;
     let (t, (_, rest)) = kept(t, skip(words, RIGHT_PAREN, rest))?;
     let (t, (x, rest)) = kept(t, operand(alloc, words, TypeUse::Casts, rest))?;
     with_operand(
@@ -155,8 +334,8 @@ fn cast_rest<'a>(
     )
 }
 
-/// `expr ")"`, after `(`.
-#[tactic(auto, unfolding(c_model::specs::ExpressionGrammar::paren_rest, c_model::specs::ExpressionGrammar::closed))]
+/// `expr ")"` and the rest of a postfix expression, after `(`.
+#[tactic(auto, unfolding(c_model::specs::ExpressionGrammar::paren_rest))]
 #[cycle(expression)]
 fn paren_rest<'a>(
     alloc: Global,
@@ -170,12 +349,7 @@ fn paren_rest<'a>(
 {
     let (inner, rest) = expression(alloc, words, tokens)?;
     let (inner, (_, rest)) = kept(inner, skip(words, RIGHT_PAREN, rest))?;
-    let x = ReadOperand {
-        expression: inner,
-        form: Form::Primary,
-        first: place,
-    };
-    Ok((x, rest))
+    postfix_rest(alloc, words, place, inner, rest)
 }
 
 /// What stands after `(`.
@@ -244,7 +418,7 @@ fn size_of_operand(alloc: Global, place: Place, x: ReadOperand) -> Result<Expr, 
             kind: x.expression.kind,
             ctype: CType::Int(CInt::I32),
         }),
-        Form::Primary | Form::Unary | Form::Cast => {
+        Form::Postfix | Form::Unary | Form::Cast => {
             read_as(alloc, place, ExprKind::SizeOfExpr(x.expression))
         }
     }
@@ -273,7 +447,7 @@ fn sized<'a>(
 }
 
 /// An operand that begins with no name.
-#[tactic(auto, unfolding(c_model::specs::ExpressionGrammar::operand_but_name))]
+#[tactic(auto, unfolding(c_model::specs::ExpressionGrammar::operand_but_name, c_model::specs::ExpressionGrammar::literal_first))]
 #[cycle(expression)]
 pub fn operand_but_name<'a>(
     alloc: Global,
@@ -293,7 +467,9 @@ pub fn operand_but_name<'a>(
     } else if next_is(words, SIZEOF, tokens) {
         sized(alloc, words, tokens)
     } else {
-        literal(alloc, words, tokens)
+        let (x, rest) = literal(alloc, words, tokens)?;
+        let first = x.place;
+        postfix_rest(alloc, words, first, x, rest)
     }
 }
 
@@ -312,7 +488,8 @@ pub fn operand<'a>(
 {
     if next_is(words, NAME, tokens) {
         let (number, place, rest) = name(words, tokens)?;
-        Ok((read_name(alloc, number, place)?, rest))
+        let x = read_name(alloc, number, place)?;
+        postfix_rest(alloc, words, place, x, rest)
     } else {
         operand_but_name(alloc, words, type_use, tokens)
     }

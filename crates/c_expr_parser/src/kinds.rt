@@ -63,10 +63,18 @@ pub const RETURN: u32 = 26;
 
 pub const SIZEOF: u32 = 27;
 
-pub const KEPT: u32 = 28;
+pub const STRUCT: u32 = 28;
+
+pub const ENUM: u32 = 29;
+
+pub const TYPEDEF: u32 = 30;
+
+pub const KEPT: u32 = 31;
 
 /// The kind of the first punctuator in the list of all; the others follow.
-pub const FIRST_MARK: u32 = 30;
+pub const FIRST_MARK: u32 = 40;
+
+pub const ARROW: u32 = FIRST_MARK + punctuator::ARROW as u32;
 
 pub const INCREMENT: u32 = FIRST_MARK + punctuator::INCREMENT as u32;
 
@@ -78,9 +86,15 @@ pub const PLUS: u32 = FIRST_MARK + punctuator::PLUS as u32;
 
 pub const MINUS: u32 = FIRST_MARK + punctuator::MINUS as u32;
 
+pub const TIMES: u32 = FIRST_MARK + punctuator::TIMES as u32;
+
 pub const EXCLAMATION: u32 = FIRST_MARK + punctuator::EXCLAMATION as u32;
 
 pub const TILDE: u32 = FIRST_MARK + punctuator::TILDE as u32;
+
+pub const AMPERSAND: u32 = FIRST_MARK + punctuator::AMPERSAND as u32;
+
+pub const DOT: u32 = FIRST_MARK + punctuator::DOT as u32;
 
 pub const QUESTION: u32 = FIRST_MARK + punctuator::QUESTION as u32;
 
@@ -93,6 +107,10 @@ pub const COMMA: u32 = FIRST_MARK + punctuator::COMMA as u32;
 pub const LEFT_PAREN: u32 = FIRST_MARK + punctuator::LEFT_PAREN as u32;
 
 pub const RIGHT_PAREN: u32 = FIRST_MARK + punctuator::RIGHT_PAREN as u32;
+
+pub const LEFT_BRACKET: u32 = FIRST_MARK + punctuator::LEFT_BRACKET as u32;
+
+pub const RIGHT_BRACKET: u32 = FIRST_MARK + punctuator::RIGHT_BRACKET as u32;
 
 pub const LEFT_BRACE: u32 = FIRST_MARK + punctuator::LEFT_BRACE as u32;
 
@@ -130,6 +148,9 @@ pub fn keyword_kind(keyword: Keyword) -> u32
         Keyword::Continue => CONTINUE,
         Keyword::Return => RETURN,
         Keyword::Sizeof => SIZEOF,
+        Keyword::Struct => STRUCT,
+        Keyword::Enum => ENUM,
+        Keyword::Typedef => TYPEDEF,
         Keyword::Kept => KEPT,
     }
 }

@@ -10,6 +10,7 @@ pub mod terminals;
 pub mod vocabulary;
 
 // Types.
+pub mod declarator;
 pub mod type_start;
 pub mod types;
 
@@ -17,6 +18,9 @@ pub mod types;
 mod call;
 mod effect;
 mod expression;
+
+// The brackets of declarators.
+pub mod lengths;
 
 // Those that stand in no other, and the public call.
 pub mod full;

@@ -7,12 +7,14 @@ use c_model::operands::Connective;
 use c_model::punctuator;
 use c_syntax::{BinOp, BumpOp, UnOp};
 
-/// Prefix operators (C99 6.5.3.3).
+/// Prefix operators (C99 6.5.3.2, 6.5.3.3).
 pub const UNARY: &[(u8, UnOp)] = &[
     (punctuator::PLUS, UnOp::Plus),
     (punctuator::MINUS, UnOp::Minus),
     (punctuator::EXCLAMATION, UnOp::Not),
     (punctuator::TILDE, UnOp::Flip),
+    (punctuator::TIMES, UnOp::Deref),
+    (punctuator::AMPERSAND, UnOp::Address),
 ];
 
 /// `++` and `--` before their operand (C99 6.5.3.1).

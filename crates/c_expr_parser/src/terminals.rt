@@ -2,13 +2,15 @@
 
 ghost use Rattle.std.specs.Prelude.{◌≡◌, ◌<◌, length, IfOk, IfErr, Ok, Err, [], ◌∷◌};
 ghost use Rattle.grammar.specs.Syntax.{among, sees, one};
-ghost use Rattle.c_model.specs.ExpressionGrammar.{kind, first_type, first_expression, fixed, name, number_of, letter_of, kinds_of};
+ghost use Rattle.c_model.specs.ExpressionGrammar.{kind, first_type, first_expression, first_any_name, first_postfix, kinds_of};
+ghost use Rattle.c_model.specs.ExpressionGrammar.{fixed, name, any_name, number_of, letter_of};
 ghost use Rattle.c_model.specs.Terminals.{placed};
 ghost use Rattle.token_reader.specs.Reading.{Gives, TakesNoMemory, plain_list};
 
 use crate::kinds::{
-    CHAR, CONST, EXCLAMATION, FIRST_MARK, LEFT_PAREN, LETTER, MINUS, NAME, NUMBER, PLUS, SIZEOF,
-    TILDE, TYPE_NAME, UNSIGNED, VOID, kind, word_at, word_kind,
+    AMPERSAND, ARROW, CHAR, CONST, DOT, ENUM, EXCLAMATION, FIRST_MARK, LEFT_BRACKET, LEFT_PAREN,
+    LETTER, MINUS, NAME, NUMBER, PLUS, SIZEOF, STRUCT, TEXT, TILDE, TIMES, TYPE_NAME, UNSIGNED,
+    VOID, kind, word_at, word_kind,
 };
 use c_model::vocabulary::Word;
 use c_syntax::fault::ReadFault;
@@ -40,7 +42,12 @@ pub fn next_is(words: &[Word], wanted: u32, tokens: &[Token]) -> bool
 pub fn begins_type(kind: u32) -> bool
     ensures { result ≡ among kind first_type }
 {
-    kind == CONST || kind == VOID || kind == TYPE_NAME || (CHAR <= kind && kind <= UNSIGNED)
+    kind == CONST
+        || kind == VOID
+        || kind == TYPE_NAME
+        || kind == STRUCT
+        || kind == ENUM
+        || (CHAR <= kind && kind <= UNSIGNED)
 }
 
 /// Whether a token of this kind begins an expression.
@@ -50,12 +57,29 @@ pub fn begins_expression(kind: u32) -> bool
     kind == NAME
         || kind == NUMBER
         || kind == LETTER
+        || kind == TEXT
         || kind == LEFT_PAREN
         || kind == PLUS
         || kind == MINUS
         || kind == EXCLAMATION
         || kind == TILDE
+        || kind == TIMES
+        || kind == AMPERSAND
         || kind == SIZEOF
+}
+
+/// Whether a postfix expression goes on with a token of this kind.
+fn goes_on(kind: u32) -> bool
+    ensures { result ≡ among kind first_postfix }
+{
+    kind == LEFT_BRACKET || kind == DOT || kind == ARROW
+}
+
+/// Whether a word of this kind names a tag or a member.
+fn is_any_name(kind: u32) -> bool
+    ensures { result ≡ among kind first_any_name }
+{
+    kind == NAME || kind == TYPE_NAME
 }
 
 pub fn next_begins_type(words: &[Word], tokens: &[Token]) -> bool
@@ -73,6 +97,16 @@ pub fn next_begins_expression(words: &[Word], tokens: &[Token]) -> bool
     match tokens {
         [] => false,
         [token, ..] => begins_expression(kind(words, token)),
+    }
+}
+
+/// Whether a postfix expression goes on.
+pub fn next_is_postfix(words: &[Word], tokens: &[Token]) -> bool
+    ensures { result ≡ sees (kind words.now) first_postfix (plain_list tokens.now) }
+{
+    match tokens {
+        [] => false,
+        [token, ..] => goes_on(kind(words, token)),
     }
 }
 
@@ -133,6 +167,30 @@ pub fn name<'a>(words: &[Word], tokens: &'a [Token]) -> Result<(u32, Place, &'a 
         [token, rest @ ..] => match &token.kind {
             TokenKind::Word(number) => {
                 if word_kind(word_at(words, *number)) == NAME {
+                    Ok((*number, token.place, rest))
+                } else {
+                    Err(ReadFault::At(left(tokens)))
+                }
+            }
+            _ => Err(ReadFault::At(left(tokens))),
+        },
+    }
+}
+
+/// A tag or the name of a member, by its number.
+pub fn any_name<'a>(
+    words: &[Word],
+    tokens: &'a [Token],
+) -> Result<(u32, Place, &'a [Token]), ReadFault>
+    ensures read { Gives (λ x. ((x.0, x.1), plain_list x.2.now)) result ((any_name words.now).parse (plain_list tokens.now)) }
+    ensures shorter { IfOk result (λ x. length x.2.now < length tokens.now) }
+    ensures sure { IfErr result TakesNoMemory }
+{
+    match tokens {
+        [] => Err(ReadFault::At(0)),
+        [token, rest @ ..] => match &token.kind {
+            TokenKind::Word(number) => {
+                if is_any_name(word_kind(word_at(words, *number))) {
                     Ok((*number, token.place, rest))
                 } else {
                     Err(ReadFault::At(left(tokens)))

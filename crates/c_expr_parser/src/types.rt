@@ -1,24 +1,56 @@
-//! Types (C99 6.7.2, 6.7.6).
+//! The words of types (C99 6.7.2), and stars (C99 6.7.5.1).
 
 ghost use Rattle.std.specs.Prelude.{◌≡◌, ◌≤◌, ◌<◌, length, IfOk, IfErr, option_map};
 ghost use Rattle.grammar.specs.Syntax.{among, sees, one};
-ghost use Rattle.c_syntax.specs.Ctypes.{PlainType, Int, plain_type};
+ghost use Rattle.c_syntax.specs.Ctypes.{PlainType, plain_type};
 ghost use Rattle.c_syntax.specs.Tokens.{plain_token_kind};
 ghost use Rattle.c_model.specs.Vocabulary.{sign_with, size_with, words_with, signed_or_not, integer_type};
 ghost use Rattle.c_model.specs.ExpressionGrammar.{kind, signs_behind, sizes_behind, words_behind, next_words, integer_word, integer_words};
 ghost use Rattle.c_model.specs.Terminals.{placed};
-ghost use Rattle.c_model.specs.ExpressionGrammar.{type_name_of, type_name_word_of, type_name, base, consts, type_words};
-ghost use Rattle.c_expr_parser.specs.Reading.{more_words};
+ghost use Rattle.c_model.specs.ExpressionGrammar.{named_type, typedef_name_of, typedef_name, struct_tag, enum_tag, untagged_base, base, consts, type_words};
+ghost use Rattle.c_model.specs.ExpressionGrammar.{more_consts, star, star_words};
+ghost use Rattle.c_expr_parser.specs.Reading.{plain_base, more_words};
 ghost use Rattle.token_reader.specs.Reading.{Gives, TakesNoMemory, plain_list};
 
 use crate::kinds::{
-    CHAR, CONST, INT, LONG, SHORT, SIGNED, TYPE_NAME, UNSIGNED, VOID, kind, word_at,
+    CHAR, CONST, ENUM, INT, LONG, SHORT, SIGNED, STRUCT, TIMES, TYPE_NAME, UNSIGNED, VOID, kind,
+    word_at,
 };
-use crate::terminals::{next_is, skip};
-use c_model::vocabulary::{IntegerWords, Keyword, SignWords, SizeWords, Word};
+use crate::terminals::{any_name, next_is, skip};
+use c_model::operands::Stars;
+use c_model::vocabulary::{IntegerWords, Keyword, SignWords, SizeWords, TypeName, Word};
 use c_syntax::fault::ReadFault;
-use c_syntax::{CInt, CType, Token, TokenKind};
+use c_syntax::{CInt, CType, Place, Token, TokenKind};
 use token_reader::terminals::left;
+
+/// The type that words name, without stars and brackets.
+#[derive(Clone, Copy)]
+pub enum BaseType {
+    Void,
+    Int(CInt),
+    /// The struct type with this number among those of the text.
+    Struct(u32),
+    /// The type that a `typedef` of this name declares.
+    Named(u32),
+    /// `struct` with a tag.
+    StructTag(u32),
+    /// `enum` with a tag, at its place.
+    EnumTag(u32, Place),
+}
+
+/// The type as a tree.
+pub fn ctype_of(base: BaseType) -> CType
+    ensures { plain_type result ≡ plain_base base }
+{
+    match base {
+        BaseType::Void => CType::Void,
+        BaseType::Int(kind) => CType::Int(kind),
+        BaseType::Struct(number) => CType::Struct(number),
+        BaseType::Named(name) => CType::Named(name),
+        BaseType::StructTag(tag) => CType::StructTag(tag),
+        BaseType::EnumTag(tag, place) => CType::EnumTag(tag, place),
+    }
+}
 
 /// No word of an integer type.
 pub const NO_WORDS: IntegerWords = IntegerWords {
@@ -186,58 +218,117 @@ pub fn integer_type(x: IntegerWords) -> CInt
 
 /// The words of an integer type, in any order.
 #[tactic(auto, unfolding(c_model::specs::ExpressionGrammar::integer_words, crate::specs::Reading::more_words))]
-fn integer_words<'a>(words: &[Word], tokens: &'a [Token]) -> Result<(CType, &'a [Token]), ReadFault>
-    ensures read { Gives (λ t. (plain_type t.0, plain_list t.1.now)) result ((integer_words words.now).parse (plain_list tokens.now)) }
+fn integer_words<'a>(
+    words: &[Word],
+    tokens: &'a [Token],
+) -> Result<(BaseType, &'a [Token]), ReadFault>
+    ensures read { Gives (λ t. (plain_base t.0, plain_list t.1.now)) result ((integer_words words.now).parse (plain_list tokens.now)) }
     ensures shorter { IfOk result (λ t. length t.1.now < length tokens.now) }
     ensures sure { IfErr result TakesNoMemory }
 {
     let (first, rest) = integer_word(words, NO_WORDS, tokens)?;
     let (all, rest) = more_words(words, first, rest)?;
-    Ok((CType::Int(integer_type(all)), rest))
+    Ok((BaseType::Int(integer_type(all)), rest))
 }
 
-fn type_name_of(words: &[Word], kind: &TokenKind) -> Option<CInt>
-    ensures { option_map Int result ≡ type_name_of words.now (plain_token_kind kind.now) }
+/// The type that the word with this number names.
+pub fn named_type(number: u32, name: TypeName) -> BaseType
+    ensures { plain_base result ≡ named_type number name }
+{
+    match name {
+        TypeName::Library(kind) => BaseType::Int(kind),
+        TypeName::Declared => BaseType::Named(number),
+    }
+}
+
+fn typedef_name_of(words: &[Word], kind: &TokenKind) -> Option<BaseType>
+    ensures { option_map plain_base result ≡ typedef_name_of words.now (plain_token_kind kind.now) }
 {
     match kind {
         TokenKind::Word(number) => match word_at(words, *number) {
-            Word::TypeName(t) => Some(t),
+            Word::TypeName(name) => Some(named_type(*number, name)),
             _ => None,
         },
         _ => None,
     }
 }
 
-/// The name of a type of the library.
-#[tactic(auto, unfolding(c_model::specs::ExpressionGrammar::type_name))]
-fn type_name<'a>(words: &[Word], tokens: &'a [Token]) -> Result<(CType, &'a [Token]), ReadFault>
-    ensures read { Gives (λ t. (plain_type t.0, plain_list t.1.now)) result ((type_name words.now).parse (plain_list tokens.now)) }
+/// The name of a type.
+#[tactic(auto, unfolding(c_model::specs::ExpressionGrammar::typedef_name))]
+fn typedef_name<'a>(
+    words: &[Word],
+    tokens: &'a [Token],
+) -> Result<(BaseType, &'a [Token]), ReadFault>
+    ensures read { Gives (λ t. (plain_base t.0, plain_list t.1.now)) result ((typedef_name words.now).parse (plain_list tokens.now)) }
     ensures shorter { IfOk result (λ t. length t.1.now < length tokens.now) }
     ensures sure { IfErr result TakesNoMemory }
 {
     match tokens {
         [] => Err(ReadFault::At(0)),
-        [token, rest @ ..] => match type_name_of(words, &token.kind) {
-            Some(t) => Ok((CType::Int(t), rest)),
+        [token, rest @ ..] => match typedef_name_of(words, &token.kind) {
+            Some(t) => Ok((t, rest)),
             None => Err(ReadFault::At(left(tokens))),
         },
     }
 }
 
+/// `struct` with a tag.
+#[tactic(auto, unfolding(c_model::specs::ExpressionGrammar::struct_tag))]
+fn struct_tag<'a>(words: &[Word], tokens: &'a [Token]) -> Result<(BaseType, &'a [Token]), ReadFault>
+    ensures read { Gives (λ t. (plain_base t.0, plain_list t.1.now)) result ((struct_tag words.now).parse (plain_list tokens.now)) }
+    ensures shorter { IfOk result (λ t. length t.1.now < length tokens.now) }
+    ensures sure { IfErr result TakesNoMemory }
+{
+    let (_, rest) = skip(words, STRUCT, tokens)?;
+    let (tag, _, rest) = any_name(words, rest)?;
+    Ok((BaseType::StructTag(tag), rest))
+}
+
+/// `enum` with a tag.
+#[tactic(auto, unfolding(c_model::specs::ExpressionGrammar::enum_tag))]
+fn enum_tag<'a>(words: &[Word], tokens: &'a [Token]) -> Result<(BaseType, &'a [Token]), ReadFault>
+    ensures read { Gives (λ t. (plain_base t.0, plain_list t.1.now)) result ((enum_tag words.now).parse (plain_list tokens.now)) }
+    ensures shorter { IfOk result (λ t. length t.1.now < length tokens.now) }
+    ensures sure { IfErr result TakesNoMemory }
+{
+    let (_, rest) = skip(words, ENUM, tokens)?;
+    let (tag, place, rest) = any_name(words, rest)?;
+    Ok((BaseType::EnumTag(tag, place), rest))
+}
+
 /// An integer type, `void`, or the name of a type.
-#[tactic(auto, unfolding(c_model::specs::ExpressionGrammar::base))]
-pub fn base<'a>(words: &[Word], tokens: &'a [Token]) -> Result<(CType, &'a [Token]), ReadFault>
-    ensures read { Gives (λ t. (plain_type t.0, plain_list t.1.now)) result ((base words.now).parse (plain_list tokens.now)) }
+#[tactic(auto, unfolding(c_model::specs::ExpressionGrammar::untagged_base))]
+pub fn untagged_base<'a>(
+    words: &[Word],
+    tokens: &'a [Token],
+) -> Result<(BaseType, &'a [Token]), ReadFault>
+    ensures read { Gives (λ t. (plain_base t.0, plain_list t.1.now)) result ((untagged_base words.now).parse (plain_list tokens.now)) }
     ensures shorter { IfOk result (λ t. length t.1.now < length tokens.now) }
     ensures sure { IfErr result TakesNoMemory }
 {
     if next_is(words, VOID, tokens) {
         let (_, rest) = skip(words, VOID, tokens)?;
-        Ok((CType::Void, rest))
+        Ok((BaseType::Void, rest))
     } else if next_is(words, TYPE_NAME, tokens) {
-        type_name(words, tokens)
+        typedef_name(words, tokens)
     } else {
         integer_words(words, tokens)
+    }
+}
+
+/// The same, or `struct` or `enum` with a tag.
+#[tactic(auto, unfolding(c_model::specs::ExpressionGrammar::base))]
+pub fn base<'a>(words: &[Word], tokens: &'a [Token]) -> Result<(BaseType, &'a [Token]), ReadFault>
+    ensures read { Gives (λ t. (plain_base t.0, plain_list t.1.now)) result ((base words.now).parse (plain_list tokens.now)) }
+    ensures shorter { IfOk result (λ t. length t.1.now < length tokens.now) }
+    ensures sure { IfErr result TakesNoMemory }
+{
+    if next_is(words, STRUCT, tokens) {
+        struct_tag(words, tokens)
+    } else if next_is(words, ENUM, tokens) {
+        enum_tag(words, tokens)
+    } else {
+        untagged_base(words, tokens)
     }
 }
 
@@ -257,15 +348,93 @@ pub fn consts<'a>(words: &[Word], tokens: &'a [Token]) -> Result<&'a [Token], Re
     Ok(rest)
 }
 
-/// A type of a cast, of `sizeof` or of a declaration.
+/// `{ "const" }`, after this type.
+pub fn constant<'a>(
+    words: &[Word],
+    t: BaseType,
+    tokens: &'a [Token],
+) -> Result<(BaseType, &'a [Token]), ReadFault>
+    ensures read { Gives (λ t. (plain_base t.0, plain_list t.1.now)) result ((consts words.now (plain_base t)).parse (plain_list tokens.now)) }
+    ensures shorter { IfOk result (λ t. length t.1.now ≤ length tokens.now) }
+    ensures sure { IfErr result TakesNoMemory }
+{
+    let rest = consts(words, tokens)?;
+    Ok((t, rest))
+}
+
+/// The words of a type.
 #[tactic(auto, unfolding(c_model::specs::ExpressionGrammar::type_words))]
-pub fn type_of<'a>(words: &[Word], tokens: &'a [Token]) -> Result<(CType, &'a [Token]), ReadFault>
-    ensures read { Gives (λ t. (plain_type t.0, plain_list t.1.now)) result ((type_words words.now).parse (plain_list tokens.now)) }
+pub fn type_words<'a>(
+    words: &[Word],
+    tokens: &'a [Token],
+) -> Result<(BaseType, &'a [Token]), ReadFault>
+    ensures read { Gives (λ t. (plain_base t.0, plain_list t.1.now)) result ((type_words words.now).parse (plain_list tokens.now)) }
     ensures shorter { IfOk result (λ t. length t.1.now < length tokens.now) }
     ensures sure { IfErr result TakesNoMemory }
 {
     let rest = consts(words, tokens)?;
     let (t, rest) = base(words, rest)?;
-    let rest = consts(words, rest)?;
-    Ok((t, rest))
+    constant(words, t, rest)
+}
+
+/// `{ "const" }`, and whether one stands there or stood before.
+#[tactic(auto, using(crate::proofs::Steps::more_consts_turn, crate::proofs::Steps::more_consts_ends))]
+pub fn more_consts<'a>(
+    words: &[Word],
+    constant: bool,
+    tokens: &'a [Token],
+) -> Result<(bool, &'a [Token]), ReadFault>
+    ensures read { Gives (λ x. (x.0, plain_list x.1.now)) result ((more_consts words.now constant).parse (plain_list tokens.now)) }
+    ensures shorter { IfOk result (λ x. length x.1.now ≤ length tokens.now) }
+    ensures sure { IfErr result TakesNoMemory }
+{
+    let mut constant = constant;
+    let mut rest = tokens;
+    'turn: while next_is(words, CONST, rest) {
+        let (_, after) = skip(words, CONST, rest)?;
+        constant = true;
+        rest = after;
+    }
+    Ok((constant, rest))
+}
+
+/// `"*" { "const" }`, and whether a `const` stands there or stood before.
+#[tactic(auto, unfolding(c_model::specs::ExpressionGrammar::star))]
+fn star<'a>(
+    words: &[Word],
+    constant: bool,
+    tokens: &'a [Token],
+) -> Result<(bool, &'a [Token]), ReadFault>
+    ensures read { Gives (λ x. (x.0, plain_list x.1.now)) result ((star words.now constant).parse (plain_list tokens.now)) }
+    ensures shorter { IfOk result (λ x. length x.1.now < length tokens.now) }
+    ensures sure { IfErr result TakesNoMemory }
+{
+    let (_, rest) = skip(words, TIMES, tokens)?;
+    more_consts(words, constant, rest)
+}
+
+/// `{ "*" { "const" } }`
+#[tactic(auto, using(crate::proofs::Steps::stars_rules))]
+pub fn star_words<'a>(
+    words: &[Word],
+    tokens: &'a [Token],
+) -> Result<(Stars, &'a [Token]), ReadFault>
+    ensures read { Gives (λ x. (x.0, plain_list x.1.now)) result ((star_words words.now).parse (plain_list tokens.now)) }
+    ensures shorter { IfOk result (λ x. length x.1.now ≤ length tokens.now) }
+    ensures sure { IfErr result TakesNoMemory }
+{
+    let mut stars = Stars {
+        count: 0,
+        constant: false,
+    };
+    let mut rest = tokens;
+    'turn: while next_is(words, TIMES, rest) {
+        let (constant, after) = star(words, stars.constant, rest)?;
+        stars = Stars {
+            count: stars.count + 1,
+            constant,
+        };
+        rest = after;
+    }
+    Ok((stars, rest))
 }

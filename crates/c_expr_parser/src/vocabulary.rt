@@ -4,7 +4,7 @@ ghost use Rattle.std.specs.Prelude.{◌≡◌, map, IfOk};
 ghost use Rattle.c_model.specs.Vocabulary.{keywords, kept_keywords, other_words, name_or_logic, word_of};
 ghost use Rattle.c_model.specs.Terminals.{found_in};
 
-use c_model::vocabulary::{Keyword, Word};
+use c_model::vocabulary::{Keyword, TypeName, Word};
 use c_syntax::{CInt, Name};
 use std::alloc::{AllocError, Global};
 use token_reader::words::found_in;
@@ -32,6 +32,9 @@ fn keyword(bytes: &[u8], other: Word) -> Word
             (b"continue", Word::Keyword(Keyword::Continue)),
             (b"return", Word::Keyword(Keyword::Return)),
             (b"sizeof", Word::Keyword(Keyword::Sizeof)),
+            (b"struct", Word::Keyword(Keyword::Struct)),
+            (b"enum", Word::Keyword(Keyword::Enum)),
+            (b"typedef", Word::Keyword(Keyword::Typedef)),
         ],
         bytes,
         other,
@@ -46,9 +49,6 @@ fn kept_keyword(bytes: &[u8], other: Word) -> Word
             (b"switch", Word::Keyword(Keyword::Kept)),
             (b"case", Word::Keyword(Keyword::Kept)),
             (b"default", Word::Keyword(Keyword::Kept)),
-            (b"enum", Word::Keyword(Keyword::Kept)),
-            (b"struct", Word::Keyword(Keyword::Kept)),
-            (b"typedef", Word::Keyword(Keyword::Kept)),
             (b"auto", Word::Keyword(Keyword::Kept)),
             (b"register", Word::Keyword(Keyword::Kept)),
             (b"extern", Word::Keyword(Keyword::Kept)),
@@ -73,8 +73,8 @@ fn other_word(bytes: &[u8], other: Word) -> Word
 {
     found_in(
         &[
-            (b"size_t", Word::TypeName(CInt::U64)),
-            (b"ptrdiff_t", Word::TypeName(CInt::I64)),
+            (b"size_t", Word::TypeName(TypeName::Library(CInt::U64))),
+            (b"ptrdiff_t", Word::TypeName(TypeName::Library(CInt::I64))),
             (b"assert", Word::Assert),
             (b"integer", Word::Integer),
         ],

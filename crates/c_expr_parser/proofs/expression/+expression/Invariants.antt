@@ -1,8 +1,51 @@
 use Rattle.std.proofs.Common.{◌≡◌, ◌+◌, ◌*◌, ◌≤◌, length}
 use Rattle.c_syntax.specs.Expressions.{plain_expr}
-use Rattle.c_expr_parser.specs.Reading.{more_joined}
+use Rattle.c_model.specs.ExpressionGrammar.{expression, written_length, brackets, postfix_rest}
+use Rattle.c_expr_parser.specs.Reading.{plain_brackets, more_brackets, more_joined}
 use Rattle.token_reader.specs.Reading.{plain_list}
 use Rattle.c_expr_parser.proofs.expression.+expression.Given as goal
+
+abbrev pub decreases-written_length : goal.decreases-written_length
+decreases-written_length l = 100 * length l.tokens.now + 51
+
+abbrev pub decreases-written_bracket : goal.decreases-written_bracket
+decreases-written_bracket l = 100 * length l.tokens.now + 1
+
+abbrev pub decreases-written_brackets : goal.decreases-written_brackets
+decreases-written_brackets l = 100 * length l.tokens.now + 2
+
+abbrev pub invariant-written_brackets-turn : goal.invariant-written_brackets-turn
+invariant-written_brackets-turn l = record {
+  same : (more_brackets l.words (written_length l.words (expression l.words)) (plain_brackets l.all.items)).parse (plain_list l.rest) ≡ (brackets l.words (written_length l.words (expression l.words))).parse (plain_list l.fn.tokens);
+  shorter : length l.rest ≤ length l.fn.tokens;
+}
+
+abbrev pub decreases-written_brackets-turn : goal.decreases-written_brackets-turn
+decreases-written_brackets-turn l = length l.rest
+
+abbrev pub decreases-type_name : goal.decreases-type_name
+decreases-type_name l = 100 * length l.tokens.now + 3
+
+abbrev pub decreases-indexed : goal.decreases-indexed
+decreases-indexed l = 100 * length l.tokens.now + 1
+
+abbrev pub decreases-postfix_once : goal.decreases-postfix_once
+decreases-postfix_once l = 100 * length l.tokens.now + 2
+
+abbrev pub decreases-postfix_rest : goal.decreases-postfix_rest
+decreases-postfix_rest l = 100 * length l.tokens.now + 3
+
+abbrev pub invariant-postfix_rest-turn : goal.invariant-postfix_rest-turn
+invariant-postfix_rest-turn l = record {
+  same : (postfix_rest l.words (expression l.words) l.first (plain_expr l.x)).parse (plain_list l.rest) ≡ (postfix_rest l.words (expression l.words) l.first (plain_expr l.fn.x)).parse (plain_list l.fn.tokens);
+  shorter : length l.rest ≤ length l.fn.tokens;
+}
+
+abbrev pub decreases-postfix_rest-turn : goal.decreases-postfix_rest-turn
+decreases-postfix_rest-turn l = length l.rest
+
+abbrev pub decreases-sized_type : goal.decreases-sized_type
+decreases-sized_type l = 100 * length l.tokens.now + 51
 
 abbrev pub decreases-cast_rest : goal.decreases-cast_rest
 decreases-cast_rest l = 100 * length l.tokens.now + 51
