@@ -6,46 +6,46 @@ use Rattle.grammar.proofs.Parts.{ok_is}
 use Rattle.grammar.proofs.Theorem.{found, refused, accepts, accepts_back, readings_begin, fronts_begin, one_limit}
 use Rattle.c_syntax.specs.declared.token.Token.{Token}
 use Rattle.c_syntax.specs.Tokens.{PlainToken, PlainTokens, plain_token}
-use Rattle.c_syntax.specs.Programs.{TranslationUnit}
+use Rattle.c_syntax.specs.Programs.{StringLiteral, TranslationUnit}
 use Rattle.c_syntax.specs.declared.refusal.FrontFault.{FrontFault}
 use Rattle.c_syntax.specs.declared.refusal.FrontFault.TheVariants as front
 use Rattle.c_syntax.specs.declared.fault.ReadFault.{ReadFault}
 use Rattle.c_syntax.specs.declared.fault.ReadFault.TheVariants as fault
 use Rattle.c_model.specs.Vocabulary.{Vocabulary}
-use Rattle.c_model.specs.ExpressionGrammar.{kind}
-use Rattle.c_model.specs.ProgramGrammar.{first_function, unit}
+use Rattle.c_model.specs.ProgramGrammar.{FileParts, no_parts, texts_of, unit_with, any_kind, more_external, unit}
 use Rattle.c_model.specs.Phases.{vocabulary, IsRead, IsSyntaxFault}
 use Rattle.c_model.specs.TokenWords.{syntax_refusal}
 use Rattle.token_reader.specs.Reading.{plain_list, label, Fails}
 use Rattle.token_reader.specs.Answers.{RefusesWith, RefusesFault}
+use Rattle.token_reader.proofs.Faults.{again}
 use Rattle.c_parser.specs.Answers.{Refuses}
-use Rattle.c_parser.proofs.ExactPrograms.{unit_good, one_unit}
+use Rattle.c_parser.proofs.ExactPrograms.{any, unit_good, one_unit}
 
-pub one : (ws : Vocabulary) (names : List (List ℕ)) → AtMostOne (unit ws names)
-one ws names = one_unit ws names
+pub one : (ws : Vocabulary) (names : List (List ℕ)) (texts : List StringLiteral) → AtMostOne (unit ws names texts)
+one ws names texts = one_unit ws names texts
 
-unit_exact : (ws : Vocabulary) (names : List (List ℕ)) → IsExact (kind ws) (unit ws names) true first_function (λ _. first_function)
-unit_exact ws names = (unit_good ws names).here
+unit_exact : (ws : Vocabulary) (names : List (List ℕ)) (texts : List StringLiteral) → IsExact any_kind (unit ws names texts) true any (λ _. any)
+unit_exact ws names texts = (unit_good ws names texts).here
 
-pub begun : (ws : Vocabulary) (names : List (List ℕ)) → ReadingsBegin (unit ws names)
-begun ws names = readings_begin (unit ws names) true first_function (λ _. first_function) (unit_exact ws names)
+pub begun : (ws : Vocabulary) (names : List (List ℕ)) (texts : List StringLiteral) → ReadingsBegin (unit ws names texts)
+begun ws names texts = readings_begin (unit ws names texts) true any (λ _. any) (unit_exact ws names texts)
 
-pub fronts : (ws : Vocabulary) (names : List (List ℕ)) → FrontsBegin (unit ws names)
-fronts ws names = fronts_begin (unit ws names) true first_function (λ _. first_function) (unit_exact ws names)
+pub fronts : (ws : Vocabulary) (names : List (List ℕ)) (texts : List StringLiteral) → FrontsBegin (unit ws names texts)
+fronts ws names texts = fronts_begin (unit ws names texts) true any (λ _. any) (unit_exact ws names texts)
 
-pub limits : (ws : Vocabulary) (names : List (List ℕ)) → OneLimit (unit ws names)
-limits ws names = one_limit (unit ws names) true first_function (λ _. first_function) (unit_exact ws names)
+pub limits : (ws : Vocabulary) (names : List (List ℕ)) (texts : List StringLiteral) → OneLimit (unit ws names texts)
+limits ws names texts = one_limit (unit ws names texts) true any (λ _. any) (unit_exact ws names texts)
 
 module _ (ts : PlainTokens) where
   abbrev parsed : Result (TranslationUnit × List PlainToken) Fault
-  parsed = (unit (vocabulary ts) ts.names).parse ts.list
+  parsed = (unit (vocabulary ts) ts.names (texts_of ts.list)).parse ts.list
 
   accepted_is : (p : TranslationUnit) → IsRead ts p → parsed ≡ Ok (p, [])
-  accepted_is p a = accepts (unit (vocabulary ts) ts.names) true first_function (λ _. first_function) (unit_exact (vocabulary ts) ts.names) ts.list p a
+  accepted_is p a = accepts (unit (vocabulary ts) ts.names (texts_of ts.list)) true any (λ _. any) (unit_exact (vocabulary ts) ts.names (texts_of ts.list)) ts.list p a
 
   -- read to the end
   whole : (p : TranslationUnit) → parsed ≡ Ok (p, []) → IsRead ts p
-  whole p e = accepts_back (unit (vocabulary ts) ts.names) true first_function (λ _. first_function) (unit_exact (vocabulary ts) ts.names) ts.list p e
+  whole p e = accepts_back (unit (vocabulary ts) ts.names (texts_of ts.list)) true any (λ _. any) (unit_exact (vocabulary ts) ts.names (texts_of ts.list)) ts.list p e
 
   not_read : (r : Result (TranslationUnit × List PlainToken) Fault) → parsed ≡ r → ((p : TranslationUnit) → r ≡ Ok (p, []) → ⊥) → (p : TranslationUnit) → IsRead ts p → ⊥
   not_read r e h p a = h p (sym e ∙ accepted_is p a)
@@ -56,7 +56,7 @@ module _ (ts : PlainTokens) where
 
   fault_given : (f : Fault) → parsed ≡ Err f → (e : FrontFault) → RefusesWith (syntax_refusal ts f) e → Refuses e ts
   fault_given f k = grammar_refused f (record {
-    refused = refused (unit (vocabulary ts) ts.names) true first_function (λ _. first_function) (unit_exact (vocabulary ts) ts.names) ts.list f k;
+    refused = refused (unit (vocabulary ts) ts.names (texts_of ts.list)) true any (λ _. any) (unit_exact (vocabulary ts) ts.names (texts_of ts.list)) ts.list f k;
     unread = not_read (Err f) k (λ p q. cc);
   })
 
@@ -69,7 +69,7 @@ module _ (ts : PlainTokens) where
   -- tokens are left over: the first of them can't follow
   left_over : (p : TranslationUnit) (t : PlainToken) (rest : List PlainToken) (e : FrontFault) → parsed ≡ Ok (p, t ∷ rest) → RefusesFault ts (fault.At (suc (length rest))) e → Refuses e ts
   left_over p t rest e k g =
-      let f = found (unit (vocabulary ts) ts.names) true first_function (λ _. first_function) (unit_exact (vocabulary ts) ts.names) ts.list p (t ∷ rest) k in
+      let f = found (unit (vocabulary ts) ts.names (texts_of ts.list)) true any (λ _. any) (unit_exact (vocabulary ts) ts.names (texts_of ts.list)) ts.list p (t ∷ rest) k in
       grammar_refused (At (length (t ∷ rest))) (record {
         refused = record { front = f.front; rest = t ∷ rest; longest = f.longest; place = refl; within = f.within };
         unread = not_read (Ok (p, t ∷ rest)) k (λ q same. let none : t ∷ rest ≡ [] = ap (λ (x : TranslationUnit × List PlainToken). x.1) (ok_is (p, t ∷ rest) (q, []) same) in cc);
@@ -77,20 +77,30 @@ module _ (ts : PlainTokens) where
 
 -- ---- the same of the slices that were read
 
-abbrev Parsed : Vocabulary → List (List ℕ) → List PlainToken → Result (TranslationUnit × List PlainToken) Fault
-Parsed ws names list = (unit ws names).parse list
+abbrev Parsed : Vocabulary → List (List ℕ) → List StringLiteral → List PlainToken → Result (TranslationUnit × List PlainToken) Fault
+Parsed ws names texts list = (unit ws names texts).parse list
 
-module _ (ts : PlainTokens) (ws : Vocabulary) (names : List (List ℕ)) (list : List PlainToken) (same_words : ws ≡ vocabulary ts) (same_names : names ≡ ts.names) (same_list : list ≡ ts.list) where
-  same : Parsed ws names list ≡ parsed ts
-  same = λ i. Parsed (same_words i) (same_names i) (same_list i)
+module _ (ts : PlainTokens) (ws : Vocabulary) (names : List (List ℕ)) (texts : List StringLiteral) (list : List PlainToken) (same_words : ws ≡ vocabulary ts) (same_names : names ≡ ts.names) (same_texts : texts ≡ texts_of ts.list)
+    (same_list : list ≡ ts.list) where
+  same : Parsed ws names texts list ≡ parsed ts
+  same = λ i. Parsed (same_words i) (same_names i) (same_texts i) (same_list i)
 
-  pub read_whole : (p : TranslationUnit) (rest : List Token) → Parsed ws names list ≡ Ok (p, plain_list rest) → length rest ≡ 0 → IsRead ts p
-  read_whole p [] e z = whole ts p (sym same ∙ e)
-  read_whole p (t ∷ rest) e z = absurd cc
+  -- a text is read as what it declares is
+  of_parts : (x : FileParts) (rest : List PlainToken) → (more_external (no_parts ws)).parse list ≡ Ok (x, rest) → Parsed ws names texts list ≡ Ok (unit_with names texts x, rest)
+  unfolding unit
+  of_parts x rest e = rw e refl
 
-  pub read_part : (p : TranslationUnit) (rest : List Token) (n : ℕ) (e : FrontFault) → Parsed ws names list ≡ Ok (p, plain_list rest) → (length rest ≡ 0 → ⊥) → n ≡ length (plain_list rest) → RefusesFault ts (fault.At n) e → Refuses e ts
-  read_part p [] n e k z is g = absurd (z refl)
-  read_part p (t ∷ rest) n e k z is g = left_over ts p (plain_token t) (plain_list rest) e (sym same ∙ k) (subst (λ (m : ℕ). RefusesFault ts (fault.At m) e) is g)
+  pub read_whole : (x : FileParts) (rest : List Token) → (more_external (no_parts ws)).parse list ≡ Ok (x, plain_list rest) → length rest ≡ 0 → IsRead ts (unit_with names texts x)
+  read_whole x [] e z = whole ts (unit_with names texts x) (sym same ∙ of_parts x [] e)
+  read_whole x (t ∷ rest) e z = absurd cc
 
-  pub read_fault : (r : ReadFault) (e : FrontFault) → Fails r (Parsed ws names list) → RefusesFault ts r e → Refuses e ts
-  read_fault r e k = faulty ts r e (subst (λ (x : Result (TranslationUnit × List PlainToken) Fault). Fails r x) same k)
+  pub read_part : (x : FileParts) (rest : List Token) (n : ℕ) (e : FrontFault) → (more_external (no_parts ws)).parse list ≡ Ok (x, plain_list rest) → (length rest ≡ 0 → ⊥) → n ≡ length (plain_list rest) → RefusesFault ts (fault.At n) e → Refuses e ts
+  read_part x [] n e k z is g = absurd (z refl)
+  read_part x (t ∷ rest) n e k z is g = left_over ts (unit_with names texts x) (plain_token t) (plain_list rest) e (sym same ∙ of_parts x (plain_list (t ∷ rest)) k) (subst (λ (m : ℕ). RefusesFault ts (fault.At m) e) is g)
+
+  failed : (d : Fault) → (more_external (no_parts ws)).parse list ≡ Err d → Parsed ws names texts list ≡ Err d
+  unfolding unit
+  failed d e = rw e refl
+
+  pub read_fault : (r : ReadFault) (e : FrontFault) → Fails r ((more_external (no_parts ws)).parse list) → RefusesFault ts r e → Refuses e ts
+  read_fault r e k = faulty ts r e (subst (λ (x : Result (TranslationUnit × List PlainToken) Fault). Fails r x) same (again r failed k))

@@ -1,36 +1,31 @@
--- Statements of each depth, parameters, functions and whole texts are read exactly, so tokens are read in one way at most.
-use Rattle.std.proofs.Common.{◌≡◌, ℕ, zero, suc, ◌-◌, Bool, true, false, List, [], ◌∷◌, refl}
-use Rattle.grammar.specs.Syntax.{none, ◌then◌}
-use Rattle.grammar.specs.Exact.{AtMostOne}
-use Rattle.grammar.proofs.Sets.{within, within_self}
+-- Statements of each depth, functions and whole texts are read exactly, so tokens are read in one way at most.
+use Rattle.std.proofs.Common.{◌≡◌, ℕ, zero, suc, ◌-◌, Bool, true, false, cond, eqb, List, [], ◌∷◌, refl, arith}
+use Rattle.std.proofs.lemmas.Bool.{eqb-true}
+use Rattle.grammar.specs.Syntax.{none, among, choice}
+use Rattle.grammar.specs.Exact.{AtMostOne, IsGood}
 use Rattle.grammar.proofs.Parts.{widen, none_exact}
-use Rattle.grammar.proofs.Bounds.{LoopFits}
-use Rattle.grammar.proofs.Productions.{seq, either, again_and_again, again_and_again_to, declared, given, same, too_deep}
+use Rattle.grammar.proofs.Productions.{seq, either, again_and_again, declared, given, same, too_deep, recast}
 use Rattle.grammar.proofs.Theorem.{at_most_one}
 use Rattle.c_syntax.specs.declared.place.Place.{Place}
-use Rattle.c_syntax.specs.Ctypes.{PlainType, Void}
+use Rattle.c_syntax.specs.Ctypes.{PlainType}
 use Rattle.c_syntax.specs.Statements.{Declaration}
-use Rattle.c_syntax.specs.Programs.{Function}
-use Rattle.c_model.specs.declared.vocabulary.Keyword.TheVariants as keyword
-use Rattle.c_model.specs.Vocabulary.{Vocabulary}
-use Rattle.c_model.specs.Punctuators.{semicolon, comma, left_paren, right_paren, left_brace, right_brace}
-use Rattle.c_model.specs.ExpressionGrammar.{name_kind, keyword_kind, mark_kind, kind, first_type, most_nested, TypeStart, ConstStart, VoidStart, NameStart, IntegerStart, type_behind}
+use Rattle.c_syntax.specs.Programs.{StringLiteral}
+use Rattle.c_syntax.specs.Tokens as tokens
+use Rattle.c_syntax.specs.Tokens.{PlainTokenKind, PlainToken}
+use Rattle.c_model.specs.declared.declarations.Storage.{Storage}
+use Rattle.c_model.specs.declared.declarations.Storage.TheVariants as storage
+use Rattle.c_model.specs.declared.declarations.Named.TheVariants as named
+use Rattle.c_model.specs.Vocabulary.{Vocabulary, word_at}
+use Rattle.c_model.specs.Punctuators.{assign, semicolon, comma, left_paren, left_brace, right_brace, left_bracket}
+use Rattle.c_model.specs.ExpressionGrammar.{mark_kind, token_kind, kind, most_nested}
 use Rattle.c_model.specs.Terminals.{nesting_limit}
-use Rattle.c_model.specs.ProgramGrammar.{first_statement, first_function, statement_in, parameter_name, void_parameter, parameter_behind, parameter, next_parameter, more_parameters, first_parameter, parameters, storage_words, storage_word}
-use Rattle.c_model.specs.ProgramGrammar.{result_type, function_rest, function, one_more_function, unit}
-use Rattle.c_expr_parser.proofs.ExactTokens.{IsRead, fixed_good, name_good, type_start_good}
-use Rattle.c_expr_parser.proofs.ExactTypes.{enlarged, apart_none, type_behind_good, base_good, consts_good, more_type}
-use Rattle.c_expr_parser.proofs.ExactExpressions.{closed_good}
+use Rattle.c_model.specs.DeclarationGrammar.{first_spec, Declarator, names_function, ended}
+use Rattle.c_model.specs.ProgramGrammar.{first_statement, statement_in, FileParts, with_typedef, no_parts, function_rest, function, globals, behind_declarator, declared_at_file, next_typedef, more_typedefs}
+use Rattle.c_model.specs.ProgramGrammar.{typedefs, behind_spec, external, any_kind, more_external, unit}
+use Rattle.c_expr_parser.proofs.ExactTokens.{IsRead, fixed_good}
+use Rattle.c_parser.proofs.Openings.{word_small, opens}
+use Rattle.c_parser.proofs.ExactDeclarations.{first_dtor, more_dtor, ended_good, full_dtor_good, initialised_good, more_declared_good, parameters_good, file_spec_good}
 use Rattle.c_parser.proofs.ExactStatements.{ReadsStatements, more_statement, statement_of_good, items_good}
-use Rattle.c_parser.proofs.Openings.{opens}
-
--- what may stand before a type at file scope
-abbrev storage : List ℕ
-storage = keyword_kind keyword.Static ∷ keyword_kind keyword.Const ∷ []
-
--- what a parameter can go on with
-abbrev more_parameter : List ℕ
-more_parameter = name_kind ∷ more_type
 
 module _ (ws : Vocabulary) where
   none_reads : ReadsStatements ws (λ m. none)
@@ -41,106 +36,128 @@ module _ (ws : Vocabulary) where
   statement_good zero k = too_deep nesting_limit first_statement (statement_of_good ws none_reads k).here (opens ws (λ m. none) k)
   statement_good (suc d) k = statement_of_good ws (statement_good d) k
 
-  -- ---- parameters
-
-  parameter_name_good : (t : PlainType) (first : ℕ × Place) → IsRead ws (parameter_name ws t first) true (name_kind ∷ []) (name_kind ∷ [])
-  unfolding parameter_name
-  parameter_name_good t first = declared (either (name_kind ∷ []) (seq (name_good ws) (λ x. given _) refl) (given _) refl) refl
-
-  void_good : (first : ℕ × Place) → IsRead ws (void_parameter ws first) false (keyword_kind keyword.Const ∷ name_kind ∷ []) (keyword_kind keyword.Const ∷ name_kind ∷ [])
-  unfolding void_parameter
-  void_good first =
-      declared (either (keyword_kind keyword.Const ∷ []) (seq (fixed_good ws (keyword_kind keyword.Const)) (λ _. seq (consts_good ws Void) (λ t. parameter_name_good t first) refl) refl)
-      (seq (name_good ws) (λ x. given _) refl) refl) refl
-
-  behind_start_good : (s : TypeStart) (first : ℕ × Place) → IsRead ws (type_behind ws s then λ t. parameter_name ws t first) true (name_kind ∷ first_type) more_parameter
-  behind_start_good s first = declared (seq (type_behind_good ws s) (λ t. parameter_name_good t first) refl) refl
-
-  parameter_behind_good : (s : TypeStart) (first : ℕ × Place) → IsRead ws (parameter_behind ws s first) true (name_kind ∷ first_type) more_parameter
-  unfolding parameter_behind
-  parameter_behind_good VoidStart first = declared (void_good first) refl
-  parameter_behind_good ConstStart first = behind_start_good ConstStart first
-  parameter_behind_good (NameStart t) first = behind_start_good (NameStart t) first
-  parameter_behind_good (IntegerStart x) first = behind_start_good (IntegerStart x) first
-
-  parameter_good : IsRead ws (parameter ws) false first_type more_parameter
-  unfolding parameter
-  parameter_good = declared (seq (type_start_good ws) (λ s. parameter_behind_good s.0.0 _) refl) refl
-
-  pub next_parameter_good : (ps : List Declaration) → IsRead ws (next_parameter ws ps) false (mark_kind comma ∷ []) more_parameter
-  unfolding next_parameter
-  next_parameter_good ps = declared (seq (fixed_good ws (mark_kind comma)) (λ _. seq parameter_good (λ p. given _) refl) refl) refl
-
-  more_parameters_good : (p : Declaration) → IsRead ws (more_parameters ws p) false (mark_kind comma ∷ mark_kind right_paren ∷ []) []
-  unfolding more_parameters
-  more_parameters_good p = declared (seq (again_and_again (mark_kind comma ∷ []) next_parameter_good refl (p ∷ [])) (λ ps. closed_good ws ps) refl) refl
-
-  -- what stands after the first word of the parameters
-  abbrev behind_first : List ℕ
-  behind_first = name_kind ∷ mark_kind comma ∷ mark_kind right_paren ∷ first_type
-
-  behind_first_good : (s : TypeStart) (first : ℕ × Place) → IsRead ws (parameter_behind ws s first then λ p. more_parameters ws p) false behind_first []
-  behind_first_good s first = declared (seq (parameter_behind_good s first) (λ p. more_parameters_good p) refl) refl
-
-  first_parameter_good : (s : TypeStart) (first : ℕ × Place) → IsRead ws (first_parameter ws s first) false behind_first []
-  unfolding first_parameter
-  first_parameter_good VoidStart first = declared (either (mark_kind right_paren ∷ []) (closed_good ws []) (seq (void_good first) (λ p. more_parameters_good p) refl) refl) refl
-  first_parameter_good ConstStart first = behind_first_good ConstStart first
-  first_parameter_good (NameStart t) first = behind_first_good (NameStart t) first
-  first_parameter_good (IntegerStart x) first = behind_first_good (IntegerStart x) first
-
-  parameters_good : IsRead ws (parameters ws) false (mark_kind right_paren ∷ first_type) []
-  unfolding parameters
-  parameters_good =
-      declared (either (mark_kind right_paren ∷ []) (closed_good ws []) (seq (type_start_good ws) (λ s. first_parameter_good s.0.0 _) refl) refl) refl
-
-  -- ---- functions and texts
-
-  pub storage_word_good : (seen : Bool) → IsRead ws (storage_word ws seen) false (storage_words ws seen) []
-  unfolding storage_word
-  storage_word_good true =
-      declared (either (keyword_kind keyword.Static ∷ []) (same (widen (kind ws) none false [] (λ _. []) false [] (λ _. []) (none_exact (kind ws)) (λ h. h) refl (λ x. refl)))
-      (seq (fixed_good ws (keyword_kind keyword.Const)) (λ _. given _) refl) refl) refl
-  storage_word_good false =
-      declared (either (keyword_kind keyword.Static ∷ []) (seq (fixed_good ws (keyword_kind keyword.Static)) (λ _. given _) refl)
-      (seq (fixed_good ws (keyword_kind keyword.Const)) (λ _. given _) refl) refl) refl
-
-  pub storage_fit : LoopFits Bool (storage_words ws) (storage_words ws) (λ _ _. []) (storage_words ws)
-  storage_fit = record {
-    clash = λ x y. apart_none (storage_words ws y);
-    taken = λ x. within_self (storage_words ws x);
-    over = λ x y. refl;
-    greedy = λ x. within_self (storage_words ws x);
-  }
-
-  storage_within : (seen : Bool) → within (storage_words ws seen) storage ≡ true
-  storage_within true = refl
-  storage_within false = refl
-
-  result_good : IsRead ws (result_type ws) false first_function more_type
-  unfolding result_type
-  result_good =
-      declared (seq (enlarged ws storage storage (again_and_again_to (storage_words ws) (storage_words ws) storage_word_good storage_fit false) refl storage_within) (λ _. seq (base_good ws) (λ t. consts_good ws t) refl) refl) refl
+  -- ---- functions and objects
 
   function_rest_good : (t : PlainType) (f : ℕ × Place) (params : List Declaration) (n : ℕ) → IsRead ws (function_rest ws t f params n) false (mark_kind semicolon ∷ mark_kind left_brace ∷ []) []
   unfolding function_rest
   function_rest_good t f params n =
       declared (either (mark_kind semicolon ∷ []) (seq (fixed_good ws (mark_kind semicolon)) (λ at. given _) refl)
-      (seq (fixed_good ws (mark_kind left_brace)) (λ start. seq (items_good ws (statement_good (most_nested - 1)) ([], record { annotation = n; declarators = 0 })) (λ x. seq (fixed_good ws (mark_kind right_brace)) (λ close. given _) refl) refl) refl)
+      (seq (fixed_good ws (mark_kind left_brace)) (λ start. seq (items_good ws (statement_good (most_nested - 1)) ([], n)) (λ x. seq (fixed_good ws (mark_kind right_brace)) (λ close. given _) refl) refl) refl)
       refl) refl
 
-  function_good : (n : ℕ) → IsRead ws (function ws n) false first_function []
+  function_good : (t : PlainType) (x : FileParts) (d : Declarator) → IsRead ws (function ws t x d) false (mark_kind left_paren ∷ []) []
   unfolding function
-  function_good n =
-      declared (seq result_good (λ t. seq (name_good ws) (λ f. seq (fixed_good ws (mark_kind left_paren)) (λ _. seq parameters_good (λ params. function_rest_good t f params n) refl) refl) refl) refl) refl
+  function_good t x d =
+      declared (seq (fixed_good ws (mark_kind left_paren)) (λ _. seq (parameters_good ws) (λ params. seq (function_rest_good _ _ params x.number) (λ f. given _) refl) refl) refl) refl
 
-  pub one_more_function_good : (x : List Function × ℕ) → IsRead ws (one_more_function ws x) false first_function []
-  unfolding one_more_function
-  one_more_function_good x = declared (seq (function_good x.1) (λ f. given _) refl) refl
+  -- what stands after the first declarator of objects
+  abbrev first_globals : List ℕ
+  first_globals = mark_kind assign ∷ mark_kind comma ∷ mark_kind semicolon ∷ []
 
-  pub unit_good : (names : List (List ℕ)) → IsRead ws (unit ws names) true first_function first_function
-  unfolding unit
-  unit_good names = declared (seq (again_and_again first_function one_more_function_good refl ([], 1)) (λ x. given _) refl) refl
+  globals_good : (t : PlainType) (x : FileParts) (d : Declarator) → IsRead ws (globals ws t x d) false first_globals []
+  unfolding globals
+  globals_good t x d = declared (seq (initialised_good ws t d) (λ g. seq (more_declared_good ws t _) (λ gs. given _) refl) refl) refl
 
-  pub one_unit : (names : List (List ℕ)) → AtMostOne (unit ws names)
-  one_unit names = at_most_one (unit ws names) true first_function (λ _. first_function) (unit_good names).here
+  behind_declarator_good : (t : PlainType) (x : FileParts) (d : Declarator) → IsRead ws (behind_declarator ws t x d) false (mark_kind left_paren ∷ first_globals) []
+  unfolding behind_declarator
+  behind_declarator_good t x d = by (names_function d)
+    where
+      by : (b : Bool) → IsRead ws (cond b (choice (kind ws) (mark_kind left_paren ∷ []) (function ws t x d) (globals ws t x d)) (globals ws t x d)) false (mark_kind left_paren ∷ first_globals) []
+      by true = declared (either (mark_kind left_paren ∷ []) (function_good t x d) (globals_good t x d) refl) refl
+      by false = declared (globals_good t x d) refl
+
+  declared_at_file_good : (t : PlainType) (x : FileParts) → IsRead ws (declared_at_file ws t x) false (mark_kind semicolon ∷ first_dtor) []
+  unfolding declared_at_file
+  declared_at_file_good t x = declared (either (mark_kind semicolon ∷ []) (ended_good ws x) (seq (full_dtor_good ws named.Ordinary) (λ d. behind_declarator_good t x d) refl) refl) refl
+
+-- ---- punctuators are told whatever the words are
+
+mark_stays : (ws vs : Vocabulary) (m : ℕ) (t : PlainToken) → among (kind ws t) (mark_kind m ∷ []) ≡ true → among (kind vs t) (mark_kind m ∷ []) ≡ true
+mark_stays ws vs m t h = by t.kind h
+  where
+    first : (b : Bool) → cond b true false ≡ true → b ≡ true
+    first true e = refl
+    first false e = absurd cc
+
+    by : (k : PlainTokenKind) → among (token_kind ws k) (mark_kind m ∷ []) ≡ true → among (token_kind vs k) (mark_kind m ∷ []) ≡ true
+    by (tokens.Word n) e = absurd (let s = word_small (word_at ws n) in let k = eqb-true _ (mark_kind m) (first _ e) in omega (arith, s, k))
+    by (tokens.Number z c) e = e
+    by (tokens.Letter z) e = e
+    by (tokens.Chars bytes) e = e
+    by (tokens.Mark n) e = e
+    by tokens.AnnotOpen e = e
+    by tokens.AnnotClose e = e
+    by (tokens.Head n k) e = e
+
+abbrev behind_typedef : List ℕ
+behind_typedef = mark_kind comma ∷ mark_kind semicolon ∷ []
+
+either_stays : (ws vs : Vocabulary) (t : PlainToken) → among (kind ws t) behind_typedef ≡ true → among (kind vs t) behind_typedef ≡ true
+either_stays ws vs t h = by (eqb (kind ws t) (mark_kind comma)) refl h
+  where
+    one : (b : Bool) → b ≡ true → cond b true false ≡ true
+    one b e = rw e refl
+
+    here : (b c : Bool) → cond b true false ≡ true → cond b true c ≡ true
+    here true c e = refl
+    here false c e = absurd cc
+
+    there : (b c : Bool) → c ≡ true → cond b true c ≡ true
+    there true c e = refl
+    there false c e = e
+
+    by : (b : Bool) → eqb (kind ws t) (mark_kind comma) ≡ b → cond b true (among (kind ws t) (mark_kind semicolon ∷ [])) ≡ true → among (kind vs t) behind_typedef ≡ true
+    by true is e = here (eqb (kind vs t) (mark_kind comma)) (among (kind vs t) (mark_kind semicolon ∷ [])) (mark_stays ws vs comma t (one (eqb (kind ws t) (mark_kind comma)) is))
+    by false is e = there (eqb (kind vs t) (mark_kind comma)) (among (kind vs t) (mark_kind semicolon ∷ [])) (mark_stays ws vs semicolon t e)
+
+-- ---- typedefs
+
+next_typedef_read : (t : PlainType) (x : FileParts) → IsRead x.words (next_typedef t x) false (mark_kind comma ∷ []) more_dtor
+unfolding next_typedef
+next_typedef_read t x = declared (seq (fixed_good x.words (mark_kind comma)) (λ _. seq (full_dtor_good x.words named.Ordinary) (λ d. given _) refl) refl) refl
+
+pub next_typedef_good : (t : PlainType) (x : FileParts) → IsRead [] (next_typedef t x) false (mark_kind comma ∷ []) more_dtor
+next_typedef_good t x = same (recast (mark_kind comma ∷ []) (λ _. more_dtor) (mark_stays x.words [] comma) (λ _. mark_stays x.words [] left_bracket) (next_typedef_read t x).here)
+
+ended_words_good : (x : FileParts) → IsRead [] (ended x.words x) false (mark_kind semicolon ∷ []) []
+ended_words_good x = same (recast (mark_kind semicolon ∷ []) (λ _. []) (mark_stays x.words [] semicolon) (λ _ _ e. e) (ended_good x.words x).here)
+
+more_typedefs_read : (t : PlainType) (x : FileParts) → IsRead [] (more_typedefs t x) false behind_typedef []
+unfolding more_typedefs
+more_typedefs_read t x = declared (seq (again_and_again (mark_kind comma ∷ []) (next_typedef_good t) refl x) (λ y. ended_words_good y) refl) refl
+
+more_typedefs_good : (ws : Vocabulary) (t : PlainType) (x : FileParts) → IsRead ws (more_typedefs t x) false behind_typedef []
+more_typedefs_good ws t x = same (recast behind_typedef (λ _. []) (either_stays [] ws) (λ _ _ e. e) (more_typedefs_read t x).here)
+
+typedefs_good : (t : PlainType) (x : FileParts) → IsRead x.words (typedefs t x) false first_dtor []
+unfolding typedefs
+typedefs_good t x = declared (seq (full_dtor_good x.words named.Ordinary) (λ d. more_typedefs_good x.words t (with_typedef t x d)) refl) refl
+
+-- ---- whole texts
+
+behind_spec_good : (s : Storage) (t : PlainType) (x : FileParts) → IsRead x.words (behind_spec s t x) false (mark_kind semicolon ∷ first_dtor) []
+behind_spec_good storage.Typedef t x = declared (typedefs_good t x) refl
+behind_spec_good storage.Static t x = declared_at_file_good x.words t x
+behind_spec_good storage.Nothing t x = declared_at_file_good x.words t x
+
+external_read : (x : FileParts) → IsRead x.words (external x) false first_spec []
+unfolding external
+external_read x = declared (seq (file_spec_good x.words x.definitions) (λ s. behind_spec_good s.storage s.ctype _) refl) refl
+
+-- what each token is among
+abbrev pub any : List ℕ
+any = 0 ∷ []
+
+pub external_good : (x : FileParts) → IsGood any_kind 0 (external x) (external x) false any (λ _. [])
+external_good x = same (recast any (λ _. []) (λ t e. refl) (λ _ _ e. absurd cc) (external_read x).here)
+
+more_external_good : (x : FileParts) → IsGood any_kind 0 (more_external x) (more_external x) true any (λ _. any)
+unfolding more_external
+more_external_good x = declared (again_and_again any external_good refl x) refl
+
+pub unit_good : (ws : Vocabulary) (names : List (List ℕ)) (texts : List StringLiteral) → IsGood any_kind 0 (unit ws names texts) (unit ws names texts) true any (λ _. any)
+unfolding unit
+unit_good ws names texts = declared (seq (more_external_good (no_parts ws)) (λ x. given _) refl) refl
+
+pub one_unit : (ws : Vocabulary) (names : List (List ℕ)) (texts : List StringLiteral) → AtMostOne (unit ws names texts)
+one_unit ws names texts = at_most_one (unit ws names texts) true any (λ _. any) (unit_good ws names texts).here

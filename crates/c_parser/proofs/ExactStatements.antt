@@ -1,35 +1,35 @@
--- Annotations, declarations and statements are read exactly.
-use Rattle.std.proofs.Common.{◌≡◌, ℕ, suc, Bool, true, false, cond, ltb, List, [], ◌∷◌, ◌++◌, Some, None, refl, inl, inr}
+-- Annotations and statements are read exactly.
+use Rattle.std.proofs.Common.{◌≡◌, ℕ, suc, Bool, true, false, cond, List, [], ◌∷◌, ◌++◌, Some, None, refl, inl, inr}
 use Rattle.std.specs.Prelude.{ℤ}
-use Rattle.grammar.specs.Syntax.{Syntax, among, none, gives, one, ◌then◌, choice}
+use Rattle.grammar.specs.Syntax.{Syntax, among, gives, one, ◌then◌, choice}
 use Rattle.grammar.specs.Exact.{IsExact, IsGood}
 use Rattle.grammar.proofs.Sets.{within, apart}
-use Rattle.grammar.proofs.Parts.{widen, none_exact, gives_exact}
+use Rattle.grammar.proofs.Parts.{widen, gives_exact}
 use Rattle.grammar.proofs.Bounds.{then_good, same_good}
 use Rattle.grammar.proofs.Labels.{Unlimited, late_gives, late_one, late_then, late_choice, late_many, late_knot}
 use Rattle.grammar.proofs.Productions.{seq, after, either, again_and_again, declared, given, same, counted, knot_exact, knot_is, seq_to, made, either_to, maybe_to}
 use Rattle.c_syntax.specs.declared.place.Place.{Place}
-use Rattle.c_syntax.specs.Ctypes.{PlainType}
 use Rattle.c_syntax.specs.Expressions.{Expression}
 use Rattle.c_syntax.specs.Annotations.{LogicTerm}
-use Rattle.c_syntax.specs.Statements.{Statement, Declaration, BlockItem, If, NoElse, Else, While, For, Run}
+use Rattle.c_syntax.specs.Statements.{Statement, BlockItem, If, NoElse, Else, While, For, Run}
 use Rattle.c_syntax.specs.Tokens as tokens
 use Rattle.c_syntax.specs.Tokens.{PlainTokenKind, PlainToken}
 use Rattle.c_model.specs.declared.vocabulary.Keyword.TheVariants as keyword
 use Rattle.c_model.specs.declared.vocabulary.Word.{Word}
 use Rattle.c_model.specs.declared.vocabulary.Word.TheVariants as word
 use Rattle.c_model.specs.Vocabulary.{Vocabulary, word_at}
-use Rattle.c_model.specs.Punctuators.{assign, semicolon, comma, left_paren, right_paren, left_brace, right_brace}
+use Rattle.c_model.specs.Punctuators.{semicolon, left_paren, right_paren, left_brace, right_brace}
 use Rattle.c_model.specs.ExpressionGrammar.{name_kind, number_kind, letter_kind, annot_open_kind, annot_close_kind, keyword_kind, mark_kind, word_kind, token_kind, kind, kinds_of, first_type, first_expression, first_effect}
 use Rattle.c_model.specs.Terminals.{placed, expression_limit}
-use Rattle.c_model.specs.ExpressionGrammar.{most_in_expression, name}
-use Rattle.c_model.specs.ProgramGrammar.{first_statement, first_item, is_open, Counts, Counted, most_declarators, declared_name, declarator, next_declarator, declaration, is_assert, assert_word, is_term_name, term_name, term_number, sum_operators}
-use Rattle.c_model.specs.ProgramGrammar.{relations, atom, sum_once, sum_of, sum, assert_clause, annotation, ended, condition, else_branch, else_part, selection, while_loop, do_loop, for_first, maybe_ended, returned, for_behind, for_loop, jump}
+use Rattle.c_model.specs.ExpressionGrammar.{most_in_expression}
+use Rattle.c_model.specs.ProgramGrammar.{first_statement, first_item, is_open, Numbered, is_assert, assert_word, is_term_name, term_name, term_number, sum_operators}
+use Rattle.c_model.specs.ProgramGrammar.{relations, atom, sum_once, sum_of, sum, assert_clause, annotation, condition, else_branch, else_part, selection, while_loop, do_loop, for_first, maybe_ended, returned, for_behind, for_loop, jump}
 use Rattle.c_model.specs.ProgramGrammar.{return_statement, item, items_once, items, block, empty_statement, effect_statement, statement_of}
-use Rattle.c_expr_parser.proofs.ExactTokens.{IsRead, AreRead, fixed_good, name_good, letter_good, marks_good, placed_good}
+use Rattle.c_expr_parser.proofs.ExactTokens.{IsRead, AreRead, fixed_good, letter_good, marks_good, placed_good}
 use Rattle.c_expr_parser.proofs.Unlimited.{closed_free}
-use Rattle.c_expr_parser.proofs.ExactTypes.{enlarged, type_good}
-use Rattle.c_expr_parser.proofs.ExactExpressions.{more_or_call, closed_good, full_expression_good, full_expression_or_call_good, full_effect_good, full_effect_or_call_good}
+use Rattle.c_expr_parser.proofs.ExactTypes.{enlarged}
+use Rattle.c_parser.proofs.ExactDeclarations.{ended_good, declaration_good}
+use Rattle.c_expr_parser.proofs.ExactExpressions.{closed_good, full_expression_good, full_expression_or_call_good, full_effect_good, full_effect_or_call_good}
 
 -- what a sum begins with
 abbrev pub first_sum : List ℕ
@@ -126,80 +126,53 @@ module _ (ws : Vocabulary) where
   clause_free n =
       late_then (late_one _) (λ a. late_then sum_free (λ left. late_then (late_one _) (λ r. late_then sum_free (λ right. late_then (late_one _) (λ _. late_gives _)))))
 
-  annotation_good : (n : Counts) → IsRead ws (annotation ws n) false (annot_open_kind ∷ []) []
+  annotation_good : (n : ℕ) → IsRead ws (annotation ws n) false (annot_open_kind ∷ []) []
   unfolding annotation
   annotation_good n =
-      declared (seq (fixed_good ws annot_open_kind) (λ _. seq (counted expression_limit most_in_expression (clause_free n.annotation) (clause_free n.annotation) (clause_good n.annotation))
+      declared (seq (fixed_good ws annot_open_kind) (λ _. seq (counted expression_limit most_in_expression (clause_free n) (clause_free n) (clause_good n))
       (λ a. seq (fixed_good ws annot_close_kind) (λ _. given _) refl) refl) refl) refl
 
-  -- ---- declarations
-
-  new_name_good : (b : Bool) → IsRead ws (cond b (name ws) none) false (name_kind ∷ []) []
-  new_name_good true = name_good ws
-  new_name_good false = same (widen (kind ws) none false [] (λ _. []) false (name_kind ∷ []) (λ _. []) (none_exact (kind ws)) (λ h. h) refl (λ x. refl))
-
-  declared_name_good : (n : Counts) → IsRead ws (declared_name ws n) false (name_kind ∷ []) []
-  unfolding declared_name
-  declared_name_good n = new_name_good (ltb n.declarators most_declarators)
-
-  declarator_good : (t : PlainType) (x : List Declaration × Counts) → IsRead ws (declarator ws t x) false (name_kind ∷ []) more_or_call
-  unfolding declarator
-  declarator_good t x = declared (seq (declared_name_good x.1) (λ y. seq (fixed_good ws (mark_kind assign)) (λ at. seq (full_expression_or_call_good ws) (λ e. given _) refl) refl) refl) refl
-
-  pub next_declarator_good : (t : PlainType) (x : List Declaration × Counts) → IsRead ws (next_declarator ws t x) false (mark_kind comma ∷ []) more_or_call
-  unfolding next_declarator
-  next_declarator_good t x = declared (seq (fixed_good ws (mark_kind comma)) (λ _. declarator_good t x) refl) refl
-
-  declaration_good : (n : Counts) → IsRead ws (declaration ws n) false first_type []
-  unfolding declaration
-  declaration_good n =
-      declared (seq (type_good ws) (λ t. seq (declarator_good t ([], n)) (λ x. seq (again_and_again (mark_kind comma ∷ []) (next_declarator_good t) refl x) (λ y. seq (fixed_good ws (mark_kind semicolon)) (λ _. given _) refl) refl) refl) refl) refl
-
   -- ---- parts of statements
-
-  pub ended_good : {A : Type 0} (x : A) → IsRead ws (ended ws x) false (mark_kind semicolon ∷ []) []
-  unfolding ended
-  ended_good x = seq (fixed_good ws (mark_kind semicolon)) (λ _. given x) refl
 
   condition_good : IsRead ws (condition ws) false (mark_kind left_paren ∷ []) []
   unfolding condition
   condition_good = declared (seq (fixed_good ws (mark_kind left_paren)) (λ _. seq (full_expression_good ws) (λ e. closed_good ws e) refl) refl) refl
 
-  for_first_good : (n : Counts) → IsRead ws (for_first ws n) false (mark_kind semicolon ∷ first_type ++ first_effect) []
+  for_first_good : (n : ℕ) → IsRead ws (for_first ws n) false (mark_kind semicolon ∷ first_type ++ first_effect) []
   unfolding for_first
   for_first_good n =
-      declared (either first_type (seq (declaration_good n) (λ x. given _) refl)
-      (either first_effect (seq (full_effect_or_call_good ws) (λ e. ended_good _) refl) (ended_good _) refl) refl) refl
+      declared (either first_type (seq (declaration_good ws) (λ x. given _) refl)
+      (either first_effect (seq (full_effect_or_call_good ws) (λ e. ended_good ws _) refl) (ended_good ws _) refl) refl) refl
 
   maybe_ended_good : IsRead ws (maybe_ended ws) false (mark_kind semicolon ∷ first_expression) []
   unfolding maybe_ended
-  maybe_ended_good = declared (either first_expression (seq (full_expression_good ws) (λ e. ended_good _) refl) (ended_good _) refl) refl
+  maybe_ended_good = declared (either first_expression (seq (full_expression_good ws) (λ e. ended_good ws _) refl) (ended_good ws _) refl) refl
 
   returned_good : IsRead ws (returned ws) false (mark_kind semicolon ∷ first_expression) []
   unfolding returned
-  returned_good = declared (either first_expression (seq (full_expression_or_call_good ws) (λ e. ended_good _) refl) (ended_good _) refl) refl
+  returned_good = declared (either first_expression (seq (full_expression_or_call_good ws) (λ e. ended_good ws _) refl) (ended_good ws _) refl) refl
 
   for_behind_good : IsRead ws (for_behind ws) false (mark_kind right_paren ∷ first_effect) []
   unfolding for_behind
   for_behind_good = declared (either first_effect (seq (full_effect_good ws) (λ e. closed_good ws _) refl) (closed_good ws _) refl) refl
 
-  jump_good : (n : Counts) → IsRead ws (jump ws n) false (keyword_kind keyword.Break ∷ keyword_kind keyword.Continue ∷ []) []
+  jump_good : (n : ℕ) → IsRead ws (jump ws n) false (keyword_kind keyword.Break ∷ keyword_kind keyword.Continue ∷ []) []
   unfolding jump
   jump_good n =
-      declared (either (keyword_kind keyword.Break ∷ []) (seq (fixed_good ws (keyword_kind keyword.Break)) (λ at. ended_good _) refl)
-      (seq (fixed_good ws (keyword_kind keyword.Continue)) (λ at. ended_good _) refl) refl) refl
+      declared (either (keyword_kind keyword.Break ∷ []) (seq (fixed_good ws (keyword_kind keyword.Break)) (λ at. ended_good ws _) refl)
+      (seq (fixed_good ws (keyword_kind keyword.Continue)) (λ at. ended_good ws _) refl) refl) refl
 
-  return_good : (n : Counts) → IsRead ws (return_statement ws n) false (keyword_kind keyword.Return ∷ []) []
+  return_good : (n : ℕ) → IsRead ws (return_statement ws n) false (keyword_kind keyword.Return ∷ []) []
   unfolding return_statement
   return_good n = declared (seq (fixed_good ws (keyword_kind keyword.Return)) (λ at. seq returned_good (λ e. given _) refl) refl) refl
 
-  empty_good : (n : Counts) → IsRead ws (empty_statement ws n) false (mark_kind semicolon ∷ []) []
+  empty_good : (n : ℕ) → IsRead ws (empty_statement ws n) false (mark_kind semicolon ∷ []) []
   unfolding empty_statement
   empty_good n = declared (seq (fixed_good ws (mark_kind semicolon)) (λ at. given _) refl) refl
 
-  effect_good : (n : Counts) → IsRead ws (effect_statement ws n) false first_effect []
+  effect_good : (n : ℕ) → IsRead ws (effect_statement ws n) false first_effect []
   unfolding effect_statement
-  effect_good n = declared (seq (full_effect_or_call_good ws) (λ e. ended_good _) refl) refl
+  effect_good n = declared (seq (full_effect_or_call_good ws) (λ e. ended_good ws _) refl) refl
 
 -- ---- an `if` without `else` at the end can go on with `else`
 
@@ -209,7 +182,7 @@ an_else = keyword_kind keyword.Else ∷ []
 abbrev more_if : Bool → List ℕ
 more_if b = cond b an_else []
 
-abbrev pub more_statement : Statement × Counts → List ℕ
+abbrev pub more_statement : Statement × ℕ → List ℕ
 more_statement x = more_if (is_open x.0)
 
 abbrev first_else : Bool → List ℕ
@@ -227,52 +200,52 @@ clash_else : (b : Bool) → apart (first_else b) (more_if b) ≡ true
 clash_else true = refl
 clash_else false = refl
 
-abbrev if_alone : Place → Expression → Statement × Counts → Statement × Counts
+abbrev if_alone : Place → Expression → Statement × ℕ → Statement × ℕ
 if_alone at e x = (If at e x.0 NoElse, x.1)
 
 -- a statement inside another is read exactly
-abbrev pub ReadsStatements : Vocabulary → Counted → Type 0
-ReadsStatements ws S = (k : Counts) → IsGood (kind ws) 0 (S k) (S k) false first_statement more_statement
+abbrev pub ReadsStatements : Vocabulary → Numbered → Type 0
+ReadsStatements ws S = (k : ℕ) → IsGood (kind ws) 0 (S k) (S k) false first_statement more_statement
 
-module _ (ws : Vocabulary) {S : Counted} (s : ReadsStatements ws S) where
-  item_good : (k : Counts) → IsRead ws (item ws S k) false first_item an_else
+module _ (ws : Vocabulary) {S : Numbered} (s : ReadsStatements ws S) where
+  item_good : (k : ℕ) → IsRead ws (item ws S k) false first_item an_else
   unfolding item
   item_good k =
       declared (either (annot_open_kind ∷ []) (annotation_good ws k)
-      (either first_type (declaration_good ws k) (made {more = λ _. an_else} (λ x. (Run x.0, x.1)) (s k) (λ x. within_else (is_open x.0))) refl) refl) refl
+      (either first_type (seq (declaration_good ws) (λ i. given _) refl) (made {more = λ _. an_else} (λ x. (Run x.0, x.1)) (s k) (λ x. within_else (is_open x.0))) refl) refl) refl
 
-  pub items_once_good : (x : List BlockItem × Counts) → IsRead ws (items_once ws S x) false first_item an_else
+  pub items_once_good : (x : List BlockItem × ℕ) → IsRead ws (items_once ws S x) false first_item an_else
   unfolding items_once
   items_once_good x = declared (seq (item_good x.1) (λ i. given _) refl) refl
 
-  pub items_good : (x : List BlockItem × Counts) → IsRead ws (items ws S x) true first_item (keyword_kind keyword.Else ∷ first_item)
+  pub items_good : (x : List BlockItem × ℕ) → IsRead ws (items ws S x) true first_item (keyword_kind keyword.Else ∷ first_item)
   unfolding items
   items_good x = declared (again_and_again first_item items_once_good refl x) refl
 
-  block_good : (k : Counts) → IsRead ws (block ws S k) false (mark_kind left_brace ∷ []) []
+  block_good : (k : ℕ) → IsRead ws (block ws S k) false (mark_kind left_brace ∷ []) []
   unfolding block
   block_good k = declared (seq (fixed_good ws (mark_kind left_brace)) (λ at. seq (items_good ([], k)) (λ x. seq (fixed_good ws (mark_kind right_brace)) (λ _. given _) refl) refl) refl) refl
 
-  else_branch_good : (at : Place) (e : Expression) (x : Statement × Counts) → IsGood (kind ws) 0 (else_branch ws S at e x) (else_branch ws S at e x) false an_else more_statement
+  else_branch_good : (at : Place) (e : Expression) (x : Statement × ℕ) → IsGood (kind ws) 0 (else_branch ws S at e x) (else_branch ws S at e x) false an_else more_statement
   unfolding else_branch
   else_branch_good at e x = seq_to (fixed_good ws (keyword_kind keyword.Else)) (λ _. made (λ y. (If at e x.0 (Else y.0), y.1)) (s x.1) (λ y. within_same (is_open y.0))) refl
 
-  else_part_good : (at : Place) (e : Expression) (x : Statement × Counts) (b : Bool) → is_open x.0 ≡ b → IsGood (kind ws) 0 (else_part ws S at e x) (else_part ws S at e x) true (first_else b) more_statement
+  else_part_good : (at : Place) (e : Expression) (x : Statement × ℕ) (b : Bool) → is_open x.0 ≡ b → IsGood (kind ws) 0 (else_part ws S at e x) (else_part ws S at e x) true (first_else b) more_statement
   unfolding else_part
   else_part_good at e x true is = rw is (same_good (kind ws) 0 (gives (if_alone at e x)) true [] more_statement (widen (kind ws) (gives (if_alone at e x)) true [] (λ _. []) true [] more_statement (gives_exact (kind ws) (if_alone at e x))
       (λ h. h) refl (λ y. refl)))
   else_part_good at e x false is = rw is (maybe_to an_else (if_alone at e x) (else_branch_good at e x) refl (λ y. within_same (is_open y.0)) refl)
 
-  no_else : (at : Place) (e : Expression) (x y : Statement × Counts) (b : Bool) → (cond b (gives (if_alone at e x)) (choice (kind ws) an_else (else_branch ws S at e x) (gives (if_alone at e x)))).reads [] y → if_alone at e x ≡ y
+  no_else : (at : Place) (e : Expression) (x y : Statement × ℕ) (b : Bool) → (cond b (gives (if_alone at e x)) (choice (kind ws) an_else (else_branch ws S at e x) (gives (if_alone at e x)))).reads [] y → if_alone at e x ≡ y
   no_else at e x y true r = r.1
   no_else at e x y false (inl r) = absurd (let f = (else_branch_good at e x).here.filled y r in cc)
   no_else at e x y false (inr r) = r.1
 
-  no_part : (at : Place) (e : Expression) (x y : Statement × Counts) → (else_part ws S at e x).reads [] y → if_alone at e x ≡ y
+  no_part : (at : Place) (e : Expression) (x y : Statement × ℕ) → (else_part ws S at e x).reads [] y → if_alone at e x ≡ y
   unfolding else_part
   no_part at e x y r = no_else at e x y (is_open x.0) r
 
-  branches_good : (at : Place) (e : Expression) (k : Counts) → IsGood (kind ws) 0 (S k then λ x. else_part ws S at e x) (S k then λ x. else_part ws S at e x) false first_statement more_statement
+  branches_good : (at : Place) (e : Expression) (k : ℕ) → IsGood (kind ws) 0 (S k then λ x. else_part ws S at e x) (S k then λ x. else_part ws S at e x) false first_statement more_statement
   branches_good at e k =
       then_good (kind ws) 0 (S k) (S k) (λ x. else_part ws S at e x) (λ x. else_part ws S at e x) false first_statement more_statement true (λ x. first_else (is_open x.0)) (λ x y. more_statement y) false first_statement more_statement
       (λ x y. if_alone at e x ≡ y) (no_part at e) (no_part at e) (record {
@@ -284,21 +257,21 @@ module _ (ws : Vocabulary) {S : Counted} (s : ReadsStatements ws S) where
         empty = λ h k. absurd cc;
       }) (s k) (λ x. else_part_good at e x (is_open x.0) refl)
 
-  selection_good : (k : Counts) → IsGood (kind ws) 0 (selection ws S k) (selection ws S k) false (keyword_kind keyword.If ∷ []) more_statement
+  selection_good : (k : ℕ) → IsGood (kind ws) 0 (selection ws S k) (selection ws S k) false (keyword_kind keyword.If ∷ []) more_statement
   unfolding selection
   selection_good k = seq_to (fixed_good ws (keyword_kind keyword.If)) (λ at. seq_to (condition_good ws) (λ e. branches_good at e k) refl) refl
 
-  while_good : (k : Counts) → IsGood (kind ws) 0 (while_loop ws S k) (while_loop ws S k) false (keyword_kind keyword.While ∷ []) more_statement
+  while_good : (k : ℕ) → IsGood (kind ws) 0 (while_loop ws S k) (while_loop ws S k) false (keyword_kind keyword.While ∷ []) more_statement
   unfolding while_loop
   while_good k = seq_to (fixed_good ws (keyword_kind keyword.While)) (λ at. seq_to (condition_good ws) (λ e. made (λ x. (While at [] e x.0, x.1)) (s k) (λ x. within_same (is_open x.0))) refl) refl
 
-  do_good : (k : Counts) → IsRead ws (do_loop ws S k) false (keyword_kind keyword.Do ∷ []) []
+  do_good : (k : ℕ) → IsRead ws (do_loop ws S k) false (keyword_kind keyword.Do ∷ []) []
   unfolding do_loop
   do_good k =
       declared (seq (fixed_good ws (keyword_kind keyword.Do)) (λ at. seq (enlarged ws first_statement an_else (s k) refl (λ x. within_else (is_open x.0))) (λ x.
       seq (fixed_good ws (keyword_kind keyword.While)) (λ _. seq (condition_good ws) (λ e. ended_good ws _) refl) refl) refl) refl) refl
 
-  for_good : (k : Counts) → IsGood (kind ws) 0 (for_loop ws S k) (for_loop ws S k) false (keyword_kind keyword.For ∷ []) more_statement
+  for_good : (k : ℕ) → IsGood (kind ws) 0 (for_loop ws S k) (for_loop ws S k) false (keyword_kind keyword.For ∷ []) more_statement
   unfolding for_loop
   for_good k =
       seq_to (fixed_good ws (keyword_kind keyword.For)) (λ at. seq_to (fixed_good ws (mark_kind left_paren)) (λ _. seq_to (for_first_good ws k) (λ first.
@@ -307,7 +280,7 @@ module _ (ws : Vocabulary) {S : Counted} (s : ReadsStatements ws S) where
   abbrev jumps : List ℕ
   jumps = keyword_kind keyword.Break ∷ keyword_kind keyword.Continue ∷ []
 
-  pub statement_of_good : (k : Counts) → IsGood (kind ws) 0 (statement_of ws S k) (statement_of ws S k) false first_statement more_statement
+  pub statement_of_good : (k : ℕ) → IsGood (kind ws) 0 (statement_of ws S k) (statement_of ws S k) false first_statement more_statement
   unfolding statement_of
   statement_of_good k =
       either_to (mark_kind left_brace ∷ []) (block_good k)

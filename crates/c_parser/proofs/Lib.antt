@@ -1,10 +1,16 @@
--- statements and programs are read exactly
-pub mod ExactStatements
+-- declarations, statements and programs are read exactly
 pub mod Openings
+pub mod ExactDeclarations
+pub mod ExactStatements
 pub mod ExactPrograms
 -- what a production gives, step by step
 pub mod Rows
+pub mod FirstItems
+pub mod Turns
+pub mod DeclarationSteps
 pub mod Steps
+pub mod FileSteps
+pub mod DeclaratorWindows
 pub mod Clauses
 -- from what is given to what an answer means
 pub mod Answers

@@ -13,13 +13,13 @@ use Rattle.c_model.specs.declared.vocabulary.Word.TheVariants as word
 use Rattle.c_model.specs.declared.operands.TypeUse.TheVariants.{Casts}
 use Rattle.c_model.specs.Vocabulary.{Vocabulary, word_at}
 use Rattle.c_model.specs.Punctuators.{semicolon, left_paren, left_brace}
-use Rattle.c_model.specs.ExpressionGrammar.{name_kind, number_kind, letter_kind, keyword_kind, mark_kind, word_kind, token_kind, kind, number_of, letter_of, kinds_of, unary_operators, prefix_bumps, first_expression}
+use Rattle.c_model.specs.ExpressionGrammar.{name_kind, number_kind, letter_kind, text_kind, keyword_kind, mark_kind, word_kind, token_kind, kind, number_of, letter_of, kinds_of, unary_operators, prefix_bumps, first_expression}
 use Rattle.c_model.specs.Terminals.{placed, entry, mark_entry}
-use Rattle.c_model.specs.ExpressionGrammar.{first_effect, fixed, name, literal, operand, expression, prefixed, sized, operand_but_name, bump_first, effect_but_name, effect_or_call, full_effect_or_call}
-use Rattle.c_model.specs.ProgramGrammar.{first_statement, Counts, Counted, block, empty_statement, selection, while_loop, do_loop, for_loop, return_statement, jump, effect_statement, statement_of}
+use Rattle.c_model.specs.ExpressionGrammar.{first_effect, fixed, name, literal, literal_first, operand, expression, prefixed, sized, operand_but_name, bump_first, effect_but_name, effect_or_call, full_effect_or_call}
+use Rattle.c_model.specs.ProgramGrammar.{first_statement, Numbered, block, empty_statement, selection, while_loop, do_loop, for_loop, return_statement, jump, effect_statement, statement_of}
 
 -- the kind of a word is below those of the punctuators
-keyword_small : (k : Keyword) → keyword_kind k ≤ 28
+keyword_small : (k : Keyword) → keyword_kind k ≤ 31
 keyword_small keyword.Char = omega arith
 keyword_small keyword.Short = omega arith
 keyword_small keyword.Int = omega arith
@@ -38,9 +38,12 @@ keyword_small keyword.Break = omega arith
 keyword_small keyword.Continue = omega arith
 keyword_small keyword.Return = omega arith
 keyword_small keyword.Sizeof = omega arith
+keyword_small keyword.Struct = omega arith
+keyword_small keyword.Enum = omega arith
+keyword_small keyword.Typedef = omega arith
 keyword_small keyword.Kept = omega arith
 
-word_small : (w : Word) → word_kind w ≤ 28
+pub word_small : (w : Word) → word_kind w ≤ 31
 word_small (word.Keyword k) = keyword_small k
 word_small (word.TypeName t) = omega arith
 word_small word.Assert = omega arith
@@ -67,6 +70,9 @@ keyword_large keyword.Break = omega arith
 keyword_large keyword.Continue = omega arith
 keyword_large keyword.Return = omega arith
 keyword_large keyword.Sizeof = omega arith
+keyword_large keyword.Struct = omega arith
+keyword_large keyword.Enum = omega arith
+keyword_large keyword.Typedef = omega arith
 keyword_large keyword.Kept = omega arith
 
 -- no word has the kind of a literal
@@ -110,7 +116,7 @@ none_left : (P : Type 0) → false ≡ true → P
 none_left P h = absurd cc
 
 module _ (ws : Vocabulary) where
-  fixed_begins : (k : ℕ) (t : PlainToken) → eqb (kind ws t) k ≡ true → (fixed ws k).begun (t ∷ [])
+  pub fixed_begins : (k : ℕ) (t : PlainToken) → eqb (kind ws t) k ≡ true → (fixed ws k).begun (t ∷ [])
   fixed_begins k t h = inr (t, t.place, refl, rw h refl)
 
   abbrev made : Place → PlainTokenKind → PlainToken
@@ -151,7 +157,7 @@ module _ (ws : Vocabulary) where
           let found : entry m table ≡ Some x = subst (λ (j : ℕ). entry j table ≡ Some x) same e in
           inr (made at (tokens.Mark m), (x, at), refl, rw (found, placed) refl)
 
-      other : (k : PlainTokenKind) (at : Place) → token_kind ws k ≤ 28 → among (token_kind ws k) (kinds_of table) ≡ true → (one (placed (mark_entry table))).begun (made at k ∷ [])
+      other : (k : PlainTokenKind) (at : Place) → token_kind ws k ≤ 31 → among (token_kind ws k) (kinds_of table) ≡ true → (one (placed (mark_entry table))).begun (made at k ∷ [])
       other k at small h = in_table _ (token_kind ws k) table (λ m x is e. absurd (omega (arith, small, is))) h
 
       by : (k : PlainTokenKind) (at : Place) → among (kind ws (made at k)) (kinds_of table) ≡ true → (one (placed (mark_entry table))).begun (made at k ∷ [])
@@ -164,15 +170,16 @@ module _ (ws : Vocabulary) where
       by tokens.AnnotClose at h = other tokens.AnnotClose at (omega arith) h
       by (tokens.Head k n) at h = other (tokens.Head k n) at (omega arith) h
 
-  operand_cases : (t : PlainToken) → among (kind ws t) (number_kind ∷ letter_kind ∷ mark_kind left_paren ∷ kinds_of unary_operators ++ keyword_kind keyword.Sizeof ∷ []) ≡ true
+  operand_cases : (t : PlainToken) → among (kind ws t) (number_kind ∷ letter_kind ∷ text_kind ∷ mark_kind left_paren ∷ kinds_of unary_operators ++ keyword_kind keyword.Sizeof ∷ []) ≡ true
       → (operand_but_name ws (expression ws) (operand ws (expression ws)) Casts).begun (t ∷ [])
-  unfolding operand_but_name prefixed sized literal
+  unfolding operand_but_name prefixed sized literal_first literal
   operand_cases t =
-      first_or _ (kind ws t) number_kind _ (λ h. inr (inr (inr (inl (inl (number_begins t h))))))
-      (first_or _ (kind ws t) letter_kind _ (λ h. inr (inr (inr (inr (inl (letter_begins t h))))))
+      first_or _ (kind ws t) number_kind _ (λ h. inr (inr (inr (inl (inl (inl (number_begins t h)))))))
+      (first_or _ (kind ws t) letter_kind _ (λ h. inr (inr (inr (inl (inr (inl (inl (letter_begins t h))))))))
+      (first_or _ (kind ws t) text_kind _ (λ h. inr (inr (inr (inl (inr (inr (inl (fixed_begins text_kind t h))))))))
       (first_or _ (kind ws t) (mark_kind left_paren) _ (λ h. inl (inl (fixed_begins (mark_kind left_paren) t h)))
       (one_of _ (kind ws t) (kinds_of unary_operators) (keyword_kind keyword.Sizeof ∷ []) (λ h. inr (inl (inl (mark_begins unary_operators t h))))
-      (first_or _ (kind ws t) (keyword_kind keyword.Sizeof) _ (λ h. inr (inr (inl (inl (fixed_begins (keyword_kind keyword.Sizeof) t h))))) (none_left _)))))
+      (first_or _ (kind ws t) (keyword_kind keyword.Sizeof) _ (λ h. inr (inr (inl (inl (fixed_begins (keyword_kind keyword.Sizeof) t h))))) (none_left _))))))
 
   -- what begins an operand that is no name begins an effect
   operand_begins : (t : PlainToken) → (operand_but_name ws (expression ws) (operand ws (expression ws)) Casts).begun (t ∷ []) → (effect_or_call ws).begun (t ∷ [])
@@ -190,7 +197,7 @@ module _ (ws : Vocabulary) where
   unfolding full_effect_or_call
   full_begins t h = effect_begins t h
 
-  pub opens : (S : Counted) (n : Counts) (t : PlainToken) → among (kind ws t) first_statement ≡ true → (statement_of ws S n).begun (t ∷ [])
+  pub opens : (S : Numbered) (n : ℕ) (t : PlainToken) → among (kind ws t) first_statement ≡ true → (statement_of ws S n).begun (t ∷ [])
   unfolding statement_of block empty_statement selection while_loop do_loop for_loop return_statement jump effect_statement
   opens S n t =
       first_or _ (kind ws t) (mark_kind left_brace) _ (λ h. inl (inl (fixed_begins (mark_kind left_brace) t h)))

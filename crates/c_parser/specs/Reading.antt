@@ -1,8 +1,6 @@
 -- Ours: productions of C99 6.7 to 6.9 (c_model/specs/ProgramGrammar), cut as the code reads them.
 -- Parts of productions that functions of their own read, and the plain forms of what is read in parts.
-use Rattle.std.specs.Prelude.{ℕ, ◌-◌, Bool, List, [], ◌∷◌, map, Option, Some, None, option_map, Vec}
-use Rattle.std.specs.declared.alloc.Global.{Global}
-use Rattle.std.specs.Borrow.{Bor}
+use Rattle.std.specs.Prelude.{ℕ, ◌-◌, List, [], ◌∷◌, map, Option, Some, None, option_map}
 use Rattle.grammar.specs.Syntax.{Syntax, gives, one, ◌then◌, many, at_most}
 use Rattle.c_syntax.specs.declared.place.Place.{Place}
 use Rattle.c_syntax.specs.Ctypes.{PlainType}
@@ -10,23 +8,29 @@ use Rattle.c_syntax.specs.Tokens.{PlainToken}
 use Rattle.c_syntax.specs.Annotations.{LogicTerm, Variable, Annotation}
 use Rattle.c_syntax.specs.declared.statement.Item.{Item}
 use Rattle.c_syntax.specs.Expressions.{Expression, plain_expr}
-use Rattle.c_syntax.specs.Statements.{Statement, Block, Do, For, Break, Continue, Declaration, ForFirst, NoFirst, First, plain_item, plain_stmt}
-use Rattle.c_syntax.specs.declared.program.Func.{Func}
-use Rattle.c_syntax.specs.declared.token.Token.{Token}
-use Rattle.c_syntax.specs.Programs.{Function, TranslationUnit, plain_func}
+use Rattle.c_syntax.specs.Statements.{Statement, Block, Do, For, Break, Continue, Declaration, ForFirst, NoFirst, First, plain_decl, plain_item, plain_stmt}
+use Rattle.c_syntax.specs.Programs.{StructMember, Function, plain_layout, plain_enum, plain_func}
+use Rattle.c_model.specs.declared.operands.Stars.{Stars}
 use Rattle.c_model.specs.Vocabulary.{Vocabulary}
 use Rattle.c_model.specs.declared.vocabulary.Keyword.TheVariants as keyword
-use Rattle.c_parser.specs.declared.counts.Counts as code
+use Rattle.c_parser.specs.declared.declarator.Declarator as code_declarator
+use Rattle.c_parser.specs.declared.declarator.AbstractDeclarator as code_abstract
+use Rattle.c_parser.specs.declared.tagged.TagHead as code_head
+use Rattle.c_parser.specs.declared.tagged.Definitions as code_definitions
+use Rattle.c_parser.specs.declared.specifier.FileSpec as code_spec
 use Rattle.c_parser.specs.declared.loops.ForHeading as code_heading
-use Rattle.c_parser.specs.declared.program.Body.{Body}
+use Rattle.c_parser.specs.declared.function.Body.{Body}
+use Rattle.c_parser.specs.declared.program.FileParts as code_parts
 use Rattle.c_model.specs.Punctuators.{comma, semicolon, left_paren, left_brace, right_brace}
-use Rattle.c_model.specs.ExpressionGrammar.{kind, mark, reserved, closed, use_of, mark_kind, kinds_of, most_in_expression}
+use Rattle.c_model.specs.ExpressionGrammar.{kind, mark, reserved, use_of, mark_kind, kinds_of, most_in_expression, most_nested, pointers}
 use Rattle.c_model.specs.Terminals.{placed, mark_entry, expression_limit}
-use Rattle.c_model.specs.ExpressionGrammar.{most_nested}
-use Rattle.c_model.specs.ProgramGrammar.{Counts, Counted, no_range, assertion, block_items, first_function, relations, term_name, sum_operators, sum_once, sum}
-use Rattle.c_model.specs.ProgramGrammar.{assert_clause, ended, for_first, maybe_ended, for_behind, items, statement_in, next_declarator, storage_words}
-use Rattle.c_model.specs.ProgramGrammar.{storage_word, next_parameter, one_more_function, unit_with}
-use Rattle.token_reader.specs.Reading.{plain_list}
+use Rattle.c_model.specs.DeclarationGrammar.{Declarator, AbstractDeclarator, TagHead, Definitions, FileSpec, next_declared, next_parameter, parameters}
+use Rattle.c_model.specs.DeclarationGrammar.{next_member}
+use Rattle.c_model.specs.ProgramGrammar.{FileParts, Numbered, no_range, assertion, block_items, relations, term_name, sum_operators, sum_once, sum}
+use Rattle.c_model.specs.ProgramGrammar.{assert_clause, for_first, maybe_ended, for_behind, items, statement_in, function_rest, next_typedef}
+use Rattle.c_expr_parser.specs.Reading.{plain_base, plain_brackets}
+pub use Rattle.c_model.specs.ExpressionGrammar.{closed}
+pub use Rattle.c_model.specs.DeclarationGrammar.{ended}
 
 -- what stands before the body of a `for`
 pub record ForHeading : Type 0 where
@@ -38,8 +42,8 @@ pub record ForHeading : Type 0 where
 abbrev pub for_with : ForHeading → Statement → Statement
 for_with h body = For h.place [] h.first h.condition h.step body
 
--- no token, with a statement and the counts after it
-abbrev pub counted : Statement → Counts → Syntax PlainToken (Statement × Counts)
+-- no token, with a statement and the number of the next annotation
+abbrev pub counted : Statement → ℕ → Syntax PlainToken (Statement × ℕ)
 counted s n = gives (s, n)
 
 module _ (ws : Vocabulary) where
@@ -61,15 +65,15 @@ module _ (ws : Vocabulary) where
       one (placed (mark_entry (relations ws))) then λ r. sum ws then λ right. mark ws semicolon then λ _. gives (assertion n at left r right)
 
   -- "break" ";"
-  unfoldable pub break_statement : Counted
+  unfoldable pub break_statement : Numbered
   break_statement n = reserved ws keyword.Break then λ at. ended ws (Break at, n)
 
   -- "continue" ";"
-  unfoldable pub continue_statement : Counted
+  unfoldable pub continue_statement : Numbered
   continue_statement n = reserved ws keyword.Continue then λ at. ended ws (Continue at, n)
 
   -- what stands before the body of a `for`
-  unfoldable pub for_heading : Counts → Syntax PlainToken (ForHeading × Counts)
+  unfoldable pub for_heading : ℕ → Syntax PlainToken (ForHeading × ℕ)
   for_heading n =
       reserved ws keyword.For then λ at. mark ws left_paren then λ _. for_first ws n then λ first. maybe_ended ws then λ e. for_behind ws then λ behind.
       gives (record { place = at; first = first.0; condition = e; step = behind }, first.1)
@@ -77,11 +81,11 @@ module _ (ws : Vocabulary) where
   -- a function's body with the place of its closing brace; the number of the next annotation goes on from here
   unfoldable pub function_body : ℕ → Syntax PlainToken ((Statement × Place) × ℕ)
   function_body n =
-      mark ws left_brace then λ start. items ws (statement_in ws (most_nested - 1)) ([], record { annotation = n; declarators = 0 }) then λ x.
-      mark ws right_brace then λ close. gives ((Block start (block_items x.0), close), x.1.annotation)
+      mark ws left_brace then λ start. items ws (statement_in ws (most_nested - 1)) ([], n) then λ x.
+      mark ws right_brace then λ close. gives ((Block start (block_items x.0), close), x.1)
 
   -- ";", after a `do` with its condition
-  abbrev pub ended_do : Place → Statement → Expression → Counts → Syntax PlainToken (Statement × Counts)
+  abbrev pub ended_do : Place → Statement → Expression → ℕ → Syntax PlainToken (Statement × ℕ)
   ended_do at a e n = ended ws (Do at a e, n)
 
   -- ---- repetitions, after what is read
@@ -89,17 +93,21 @@ module _ (ws : Vocabulary) where
   unfoldable pub more_terms : LogicTerm → Syntax PlainToken LogicTerm
   more_terms t = many (kind ws) (λ _. kinds_of (sum_operators ws)) (sum_once ws (sum ws)) t
 
-  unfoldable pub more_declarators : PlainType → List Declaration × Counts → Syntax PlainToken (List Declaration × Counts)
-  more_declarators t x = many (kind ws) (λ _. mark_kind comma ∷ []) (next_declarator ws t) x
-
-  unfoldable pub more_storage : Bool → Syntax PlainToken Bool
-  more_storage seen = many (kind ws) (storage_words ws) (storage_word ws) seen
+  unfoldable pub other_declared : PlainType → List Declaration → Syntax PlainToken (List Declaration)
+  other_declared t ds = many (kind ws) (λ _. mark_kind comma ∷ []) (next_declared ws t) ds
 
   unfoldable pub other_parameters : List Declaration → Syntax PlainToken (List Declaration)
   other_parameters ps = many (kind ws) (λ _. mark_kind comma ∷ []) (next_parameter ws) ps
 
-  unfoldable pub more_functions : List Function × ℕ → Syntax PlainToken (List Function × ℕ)
-  more_functions x = many (kind ws) (λ _. first_function) (one_more_function ws) x
+  unfoldable pub other_members : PlainType → List StructMember → Syntax PlainToken (List StructMember)
+  other_members t ms = many (kind ws) (λ _. mark_kind comma ∷ []) (next_member ws t) ms
+
+  -- a function or a prototype, after its stars and its name
+  unfoldable pub function_behind : PlainType → Stars → ℕ × Place → ℕ → Syntax PlainToken (Function × ℕ)
+  function_behind t stars f n = mark ws left_paren then λ _. parameters ws then λ params. function_rest ws (pointers stars.count t) f params n
+
+unfoldable pub other_typedefs : PlainType → FileParts → Syntax PlainToken FileParts
+other_typedefs t x = many (kind []) (λ _. mark_kind comma ∷ []) (next_typedef t) x
 
 -- what stands first in the parentheses of a `for`
 abbrev pub plain_first : Option Item → ForFirst
@@ -117,9 +125,27 @@ plain_heading h = record {
 abbrev pub plain_body : Body → Statement × Place
 plain_body b = (plain_stmt b.block, b.close)
 
--- functions in a text with these names, and the tokens after them
-abbrev pub plain_unit : List (List ℕ) → Vec Func Global × Bor (List Token) → TranslationUnit × List PlainToken
-plain_unit names x = (unit_with names (map plain_func x.0.items), plain_list x.1.now)
+abbrev pub plain_declarator : code_declarator.Declarator → Declarator
+plain_declarator d = record { stars = d.stars; name = d.name; place = d.place; lengths = plain_brackets d.brackets.items }
 
-abbrev pub plain_counts : code.Counts → Counts
-plain_counts c = record { annotation = c.annotation; declarators = c.declarators }
+abbrev pub plain_abstract : code_abstract.AbstractDeclarator → AbstractDeclarator
+plain_abstract d = record { stars = d.stars; name = d.name; lengths = plain_brackets d.brackets.items }
+
+abbrev pub plain_head : code_head.TagHead → TagHead
+plain_head h = record { defines = h.defines; place = h.place; tag = h.tag }
+
+abbrev pub plain_definitions : code_definitions.Definitions → Definitions
+plain_definitions d = record { structs = map plain_layout d.structs.items; enums = map plain_enum d.enums.items }
+
+abbrev pub plain_spec : code_spec.FileSpec → FileSpec
+plain_spec s = record { storage = s.storage; ctype = plain_base s.base; definitions = plain_definitions s.definitions }
+
+abbrev pub plain_parts : code_parts.FileParts → FileParts
+plain_parts x = record {
+  words = x.words.items;
+  definitions = plain_definitions x.definitions;
+  typedefs = map plain_decl x.typedefs.items;
+  globals = map plain_decl x.globals.items;
+  functions = map plain_func x.functions.items;
+  number = x.number;
+}

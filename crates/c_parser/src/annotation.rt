@@ -6,9 +6,8 @@ ghost use Rattle.c_syntax.specs.Annotations.{plain_term, plain_term_kind, plain_
 ghost use Rattle.c_syntax.specs.Statements.{Asserts, plain_item};
 ghost use Rattle.c_model.specs.ProgramGrammar.{no_range, assertion, atom, sum_once, sum_of, sum, assert_clause, annotation};
 ghost use Rattle.token_reader.specs.Reading.{Gives, plain_list};
-ghost use Rattle.c_parser.specs.Reading.{plain_counts, name_term, sum_in_parentheses, more_terms, assert_rest, full_clause};
+ghost use Rattle.c_parser.specs.Reading.{name_term, sum_in_parentheses, more_terms, assert_rest, full_clause};
 
-use crate::counts::Counts;
 use crate::terminals::{assert_word, term_name, term_number};
 use c_expr_parser::full::{MOST, behind, passed, resumed, window};
 use c_expr_parser::kinds::{
@@ -276,21 +275,17 @@ fn make_asserts(alloc: Global, clause: Annot) -> Result<Item, AllocFailed<Annot>
 pub fn annotation<'a>(
     alloc: Global,
     words: &[Word],
-    counts: Counts,
+    number: u32,
     tokens: &'a [Token],
-) -> Result<(Item, Counts, &'a [Token]), ReadFault>
-    ensures { Gives (λ x. ((plain_item x.0, plain_counts x.1), plain_list x.2.now)) result
-        ((annotation words.now (plain_counts counts)).parse (plain_list tokens.now)) }
+) -> Result<(Item, u32, &'a [Token]), ReadFault>
+    ensures { Gives (λ x. ((plain_item x.0, x.1), plain_list x.2.now)) result
+        ((annotation words.now number).parse (plain_list tokens.now)) }
 {
-    if counts.annotation == u32::MAX {
+    if number == u32::MAX {
         return Err(ReadFault::Memory);
     }
     let (_, rest) = skip(words, ANNOT_OPEN, tokens)?;
-    let (clause, rest) = full_clause(alloc, words, counts.annotation, rest)?;
+    let (clause, rest) = full_clause(alloc, words, number, rest)?;
     let (clause, (_, rest)) = kept(clause, skip(words, ANNOT_CLOSE, rest))?;
-    let counts = Counts {
-        annotation: counts.annotation + 1,
-        declarators: counts.declarators,
-    };
-    Ok((make_asserts(alloc, clause)?, counts, rest))
+    Ok((make_asserts(alloc, clause)?, number + 1, rest))
 }

@@ -1,143 +1,148 @@
 //! Declarations (C99 6.7).
 
-ghost use Rattle.std.specs.Prelude.{◌≡◌, ◌<◌, length, map, IfOk, IfErr, [], ◌∷◌};
-ghost use Rattle.c_syntax.specs.Ctypes.{plain_type};
-ghost use Rattle.c_syntax.specs.Expressions.{plain_expr};
+ghost use Rattle.std.specs.Prelude.{◌≡◌, map, [], ◌∷◌};
 ghost use Rattle.c_syntax.specs.Statements.{plain_decl, plain_item};
-ghost use Rattle.c_model.specs.ProgramGrammar.{most_declarators, initialised, declared_name, declarator, next_declarator, declaration};
-ghost use Rattle.token_reader.specs.Reading.{Gives, TakesNoMemory, plain_list};
-ghost use Rattle.c_parser.specs.Reading.{plain_counts, more_declarators};
+ghost use Rattle.c_model.specs.DeclarationGrammar.{initialised, declared_once, next_declared, more_declared, declared_list, declaration};
+ghost use Rattle.c_expr_parser.specs.Reading.{plain_base};
+ghost use Rattle.token_reader.specs.Reading.{Gives, plain_list};
+ghost use Rattle.c_parser.specs.Reading.{plain_declarator, other_declared};
 
-use crate::counts::Counts;
-use c_expr_parser::full::full_expression_or_call;
+use crate::declarator::{Declarator, declared_by, full_dtor};
+use crate::initialiser::initialiser;
 use c_expr_parser::kinds::{ASSIGN, COMMA, SEMICOLON};
-use c_expr_parser::terminals::{kept, name, next_is, skip};
-use c_expr_parser::types::type_of;
+use c_expr_parser::terminals::{kept, next_is, skip};
+use c_expr_parser::types::{BaseType, type_words};
+use c_model::declarations::Named;
 use c_model::vocabulary::Word;
-use c_syntax::copy::copy_type;
 use c_syntax::fault::ReadFault;
-use c_syntax::{CType, Decl, Expr, Init, Item, Place, Token};
+use c_syntax::{Decl, Item, Token};
 use std::alloc::Global;
-use token_reader::terminals::left;
 
-/// How many declarators a function has at most.
-const MOST_DECLARATORS: u32 = 1000;
-
-/// The name of one more declarator.
-#[tactic(auto, unfolding(c_model::specs::ProgramGrammar::declared_name))]
-fn declared_name<'a>(
-    words: &[Word],
-    counts: Counts,
-    tokens: &'a [Token],
-) -> Result<(u32, Place, &'a [Token]), ReadFault>
-    ensures read { Gives (λ x. ((x.0, x.1), plain_list x.2.now)) result ((declared_name words.now (plain_counts counts)).parse (plain_list tokens.now)) }
-    ensures few { IfOk result (λ x. counts.declarators < most_declarators) }
-    ensures sure { IfErr result TakesNoMemory }
-{
-    if counts.declarators < MOST_DECLARATORS {
-        name(words, tokens)
-    } else {
-        Err(ReadFault::At(left(tokens)))
-    }
-}
-
-fn initialised(ctype: CType, name: u32, place: Place, equals: Place, e: Expr) -> Decl
-    ensures { plain_decl result ≡ initialised (plain_type ctype) (name, place) equals (plain_expr e) }
-{
-    Decl {
-        place,
-        name,
-        named: true,
-        ctype,
-        init: Some((equals, Init::One(e))),
-    }
-}
-
-/// `NAME "=" ( expr | call )`, after the declarators of the same declaration.
-#[tactic(auto, unfolding(c_model::specs::ProgramGrammar::declarator))]
-fn declarator<'a>(
+/// `[ "=" init ]`, after a declarator.
+#[tactic(auto, unfolding(c_model::specs::DeclarationGrammar::initialised))]
+pub fn initialised<'a>(
     alloc: Global,
     words: &[Word],
-    ctype: &CType,
-    all: Vec<Decl>,
-    counts: Counts,
+    base: BaseType,
+    d: Declarator,
     tokens: &'a [Token],
-) -> Result<(Vec<Decl>, Counts, &'a [Token]), ReadFault>
-    ensures { Gives (λ x. ((map plain_decl x.0.items, plain_counts x.1), plain_list x.2.now)) result
-        ((declarator words.now (plain_type ctype.now) (map plain_decl all.items, plain_counts counts)).parse (plain_list tokens.now)) }
+) -> Result<(Decl, &'a [Token]), ReadFault>
+    ensures { Gives (λ x. (plain_decl x.0, plain_list x.1.now)) result
+        ((initialised words.now (plain_base base) (plain_declarator d)).parse (plain_list tokens.now)) }
+{
+    if next_is(words, ASSIGN, tokens) {
+        let (d, (equals, rest)) = kept(d, skip(words, ASSIGN, tokens))?;
+        let (d, (init, rest)) = kept(d, initialiser(alloc, words, rest))?;
+        Ok((declared_by(alloc, base, d, Some((equals, init)))?, rest))
+    } else {
+        Ok((declared_by(alloc, base, d, None)?, tokens))
+    }
+}
+
+/// `dtor [ "=" init ]`, after these of the same declaration.
+#[tactic(auto, unfolding(c_model::specs::DeclarationGrammar::declared_once))]
+fn declared_once<'a>(
+    alloc: Global,
+    words: &[Word],
+    base: BaseType,
+    all: Vec<Decl>,
+    tokens: &'a [Token],
+) -> Result<(Vec<Decl>, &'a [Token]), ReadFault>
+    ensures { Gives (λ x. (map plain_decl x.0.items, plain_list x.1.now)) result
+        ((declared_once words.now (plain_base base) (map plain_decl all.items)).parse (plain_list tokens.now)) }
 {
     let mut all = all;
-    let (name, place, rest) = declared_name(words, counts, tokens)?;
-    let (equals, rest) = skip(words, ASSIGN, rest)?;
-    let ctype = copy_type(alloc, ctype)?;
-    let (e, rest) = full_expression_or_call(alloc, words, rest)?;
-    all.push(initialised(ctype, name, place, equals, e))?;
-    let counts = Counts {
-        annotation: counts.annotation,
-        declarators: counts.declarators + 1,
-    };
-    Ok((all, counts, rest))
+    let (d, rest) = full_dtor(alloc, words, Named::Ordinary, tokens)?;
+    let (one, rest) = initialised(alloc, words, base, d, rest)?;
+    all.push(one)?;
+    Ok((all, rest))
 }
 
-/// `"," declarator`
-#[tactic(auto, unfolding(c_model::specs::ProgramGrammar::next_declarator))]
-fn next_declarator<'a>(
+/// `"," declared`
+#[tactic(auto, unfolding(c_model::specs::DeclarationGrammar::next_declared))]
+fn next_declared<'a>(
     alloc: Global,
     words: &[Word],
-    ctype: &CType,
+    base: BaseType,
     all: Vec<Decl>,
-    counts: Counts,
     tokens: &'a [Token],
-) -> Result<(Vec<Decl>, Counts, &'a [Token]), ReadFault>
-    ensures { Gives (λ x. ((map plain_decl x.0.items, plain_counts x.1), plain_list x.2.now)) result
-        ((next_declarator words.now (plain_type ctype.now) (map plain_decl all.items, plain_counts counts)).parse (plain_list tokens.now)) }
+) -> Result<(Vec<Decl>, &'a [Token]), ReadFault>
+    ensures { Gives (λ x. (map plain_decl x.0.items, plain_list x.1.now)) result
+        ((next_declared words.now (plain_base base) (map plain_decl all.items)).parse (plain_list tokens.now)) }
 {
     let (_, rest) = skip(words, COMMA, tokens)?;
-    declarator(alloc, words, ctype, all, counts, rest)
+    declared_once(alloc, words, base, all, rest)
 }
 
-/// The declarators of the same declaration after those that are read.
-#[tactic(auto, using(crate::proofs::Steps::declarators_rules))]
-fn more_declarators<'a>(
+/// What the same declaration declares after those that are read.
+#[tactic(auto, using(crate::proofs::DeclarationSteps::declared_rules))]
+fn other_declared<'a>(
     alloc: Global,
     words: &[Word],
-    ctype: &CType,
+    base: BaseType,
     all: Vec<Decl>,
-    counts: Counts,
     tokens: &'a [Token],
-) -> Result<(Vec<Decl>, Counts, &'a [Token]), ReadFault>
-    ensures { Gives (λ x. ((map plain_decl x.0.items, plain_counts x.1), plain_list x.2.now)) result
-        ((more_declarators words.now (plain_type ctype.now) (map plain_decl all.items, plain_counts counts)).parse (plain_list tokens.now)) }
+) -> Result<(Vec<Decl>, &'a [Token]), ReadFault>
+    ensures { Gives (λ x. (map plain_decl x.0.items, plain_list x.1.now)) result
+        ((other_declared words.now (plain_base base) (map plain_decl all.items)).parse (plain_list tokens.now)) }
 {
     let mut all = all;
-    let mut counts = counts;
     let mut rest = tokens;
     'turn: while next_is(words, COMMA, rest) {
-        let (more, next, after) = next_declarator(alloc, words, ctype, all, counts, rest)?;
+        let (more, after) = next_declared(alloc, words, base, all, rest)?;
         all = more;
-        counts = next;
         rest = after;
     }
-    Ok((all, counts, rest))
+    Ok((all, rest))
 }
 
-/// `type declarator { "," declarator } ";"`
-#[tactic(auto, unfolding(c_model::specs::ProgramGrammar::declaration, crate::specs::Reading::more_declarators))]
+/// `{ "," declared } ";"`, after these.
+#[tactic(auto, unfolding(c_model::specs::DeclarationGrammar::more_declared, c_model::specs::DeclarationGrammar::ended, crate::specs::Reading::other_declared))]
+pub fn more_declared<'a>(
+    alloc: Global,
+    words: &[Word],
+    base: BaseType,
+    all: Vec<Decl>,
+    tokens: &'a [Token],
+) -> Result<(Vec<Decl>, &'a [Token]), ReadFault>
+    ensures { Gives (λ x. (map plain_decl x.0.items, plain_list x.1.now)) result
+        ((more_declared words.now (plain_base base) (map plain_decl all.items)).parse (plain_list tokens.now)) }
+{
+    let (all, rest) = other_declared(alloc, words, base, all, tokens)?;
+    let (_, rest) = skip(words, SEMICOLON, rest)?;
+    Ok((all, rest))
+}
+
+/// `[ declared { "," declared } ] ";"`
+#[tactic(auto, unfolding(c_model::specs::DeclarationGrammar::declared_list, c_model::specs::DeclarationGrammar::ended))]
+fn declared_list<'a>(
+    alloc: Global,
+    words: &[Word],
+    base: BaseType,
+    tokens: &'a [Token],
+) -> Result<(Vec<Decl>, &'a [Token]), ReadFault>
+    ensures { Gives (λ x. (map plain_decl x.0.items, plain_list x.1.now)) result
+        ((declared_list words.now (plain_base base)).parse (plain_list tokens.now)) }
+{
+    if next_is(words, SEMICOLON, tokens) {
+        let (_, rest) = skip(words, SEMICOLON, tokens)?;
+        Ok((Vec::new(alloc), rest))
+    } else {
+        let (all, rest) = declared_once(alloc, words, base, Vec::new(alloc), tokens)?;
+        more_declared(alloc, words, base, all, rest)
+    }
+}
+
+/// A declaration in a function.
+#[tactic(auto, unfolding(c_model::specs::DeclarationGrammar::declaration))]
 pub fn declaration<'a>(
     alloc: Global,
     words: &[Word],
-    counts: Counts,
     tokens: &'a [Token],
-) -> Result<(Item, Counts, &'a [Token]), ReadFault>
-    ensures { Gives (λ x. ((plain_item x.0, plain_counts x.1), plain_list x.2.now)) result
-        ((declaration words.now (plain_counts counts)).parse (plain_list tokens.now)) }
+) -> Result<(Item, &'a [Token]), ReadFault>
+    ensures { Gives (λ x. (plain_item x.0, plain_list x.1.now)) result ((declaration words.now).parse (plain_list tokens.now)) }
 {
-    let (ctype, rest) = type_of(words, tokens)?;
-    let first = declarator(alloc, words, &ctype, Vec::new(alloc), counts, rest);
-    let (ctype, (first, counts, rest)) = kept(ctype, first)?;
-    let all = more_declarators(alloc, words, &ctype, first, counts, rest);
-    drop(ctype);
-    let (all, counts, rest) = all?;
-    let (all, (_, rest)) = kept(all, skip(words, SEMICOLON, rest))?;
-    Ok((Item::Declare(all), counts, rest))
+    let (base, rest) = type_words(words, tokens)?;
+    let (all, rest) = declared_list(alloc, words, base, rest)?;
+    Ok((Item::Declare(all), rest))
 }

@@ -3,19 +3,26 @@
 //! A function for each production of the grammar reads the tokens.
 #![tactic(auto)]
 
-// What single tokens stand for, and what is counted along a text.
-mod counts;
+// What single tokens stand for.
 mod terminals;
+
+// Declarations.
+mod declaration;
+mod declarator;
+mod initialiser;
+mod parameter;
+mod specifier;
+mod tagged;
 
 // What stands in a function.
 mod annotation;
-mod declaration;
 mod loops;
 mod statement;
 
 // Functions and whole texts.
-mod parameter;
+mod function;
 mod program;
 mod read;
+mod texts;
 
 pub use read::{one_reading, read_program};

@@ -5,9 +5,8 @@ ghost use Rattle.c_syntax.specs.Expressions.{plain_expr};
 ghost use Rattle.c_syntax.specs.Statements.{plain_stmt, plain_stmt_kind};
 ghost use Rattle.c_model.specs.ProgramGrammar.{condition, effect_statement, for_first, maybe_ended, returned, for_behind};
 ghost use Rattle.token_reader.specs.Reading.{Gives, plain_list};
-ghost use Rattle.c_parser.specs.Reading.{plain_first, plain_counts, plain_heading, counted, for_heading, for_with};
+ghost use Rattle.c_parser.specs.Reading.{plain_first, plain_heading, counted, for_heading, for_with};
 
-use crate::counts::Counts;
 use crate::declaration::declaration;
 use crate::terminals::next_begins_effect;
 use c_expr_parser::full::{
@@ -48,56 +47,56 @@ pub fn with_statement<'a>(
     alloc: Global,
     place: Place,
     kind: StmtKind,
-    counts: Counts,
+    number: u32,
     tokens: &'a [Token],
-) -> Result<(Stmt, Counts, &'a [Token]), ReadFault>
-    ensures { Gives (λ x. ((plain_stmt x.0, plain_counts x.1), plain_list x.2.now)) result ((counted (plain_stmt_kind place kind) (plain_counts counts)).parse
+) -> Result<(Stmt, u32, &'a [Token]), ReadFault>
+    ensures { Gives (λ x. ((plain_stmt x.0, x.1), plain_list x.2.now)) result ((counted (plain_stmt_kind place kind) number).parse
         (plain_list tokens.now)) }
 {
-    Ok((statement_at(alloc, place, kind)?, counts, tokens))
+    Ok((statement_at(alloc, place, kind)?, number, tokens))
 }
 
 /// `( effect | call ) ";"`
-#[tactic(auto, unfolding(c_model::specs::ProgramGrammar::effect_statement, c_model::specs::ProgramGrammar::ended))]
+#[tactic(auto, unfolding(c_model::specs::ProgramGrammar::effect_statement, c_model::specs::DeclarationGrammar::ended))]
 pub fn effect_statement<'a>(
     alloc: Global,
     words: &[Word],
-    counts: Counts,
+    number: u32,
     tokens: &'a [Token],
-) -> Result<(Stmt, Counts, &'a [Token]), ReadFault>
-    ensures { Gives (λ x. ((plain_stmt x.0, plain_counts x.1), plain_list x.2.now)) result
-        ((effect_statement words.now (plain_counts counts)).parse (plain_list tokens.now)) }
+) -> Result<(Stmt, u32, &'a [Token]), ReadFault>
+    ensures { Gives (λ x. ((plain_stmt x.0, x.1), plain_list x.2.now)) result
+        ((effect_statement words.now number).parse (plain_list tokens.now)) }
 {
     let (e, place, rest) = full_effect_or_call(alloc, words, tokens)?;
     let (_, rest) = skip(words, SEMICOLON, rest)?;
-    with_statement(alloc, place, StmtKind::Eval(e), counts, rest)
+    with_statement(alloc, place, StmtKind::Eval(e), number, rest)
 }
 
 /// `decl | [ effect | call ] ";"`
-#[tactic(auto, unfolding(c_model::specs::ProgramGrammar::for_first, c_model::specs::ProgramGrammar::effect_statement, c_model::specs::ProgramGrammar::ended))]
+#[tactic(auto, unfolding(c_model::specs::ProgramGrammar::for_first, c_model::specs::ProgramGrammar::effect_statement, crate::specs::Reading::ended))]
 pub fn for_first<'a>(
     alloc: Global,
     words: &[Word],
-    counts: Counts,
+    number: u32,
     tokens: &'a [Token],
-) -> Result<(Option<Item>, Counts, &'a [Token]), ReadFault>
-    ensures { Gives (λ x. ((plain_first x.0, plain_counts x.1), plain_list x.2.now)) result
-        ((for_first words.now (plain_counts counts)).parse (plain_list tokens.now)) }
+) -> Result<(Option<Item>, u32, &'a [Token]), ReadFault>
+    ensures { Gives (λ x. ((plain_first x.0, x.1), plain_list x.2.now)) result
+        ((for_first words.now number).parse (plain_list tokens.now)) }
 {
     if next_begins_type(words, tokens) {
-        let (item, counts, rest) = declaration(alloc, words, counts, tokens)?;
-        Ok((Some(item), counts, rest))
+        let (item, rest) = declaration(alloc, words, tokens)?;
+        Ok((Some(item), number, rest))
     } else if next_begins_effect(words, tokens) {
-        let (s, counts, rest) = effect_statement(alloc, words, counts, tokens)?;
-        Ok((Some(Item::Run(s)), counts, rest))
+        let (s, number, rest) = effect_statement(alloc, words, number, tokens)?;
+        Ok((Some(Item::Run(s)), number, rest))
     } else {
         let (_, rest) = skip(words, SEMICOLON, tokens)?;
-        Ok((None, counts, rest))
+        Ok((None, number, rest))
     }
 }
 
 /// `[ expr ] ";"`
-#[tactic(auto, unfolding(c_model::specs::ProgramGrammar::maybe_ended, c_model::specs::ProgramGrammar::ended))]
+#[tactic(auto, unfolding(c_model::specs::ProgramGrammar::maybe_ended, c_model::specs::DeclarationGrammar::ended))]
 pub fn maybe_ended<'a>(
     alloc: Global,
     words: &[Word],
@@ -116,7 +115,7 @@ pub fn maybe_ended<'a>(
 }
 
 /// `[ expr | call ] ";"`
-#[tactic(auto, unfolding(c_model::specs::ProgramGrammar::returned, c_model::specs::ProgramGrammar::ended))]
+#[tactic(auto, unfolding(c_model::specs::ProgramGrammar::returned, c_model::specs::DeclarationGrammar::ended))]
 pub fn returned<'a>(
     alloc: Global,
     words: &[Word],
@@ -167,15 +166,15 @@ pub struct ForHeading {
 pub fn for_heading<'a>(
     alloc: Global,
     words: &[Word],
-    counts: Counts,
+    number: u32,
     tokens: &'a [Token],
-) -> Result<(ForHeading, Counts, &'a [Token]), ReadFault>
-    ensures { Gives (λ x. ((plain_heading x.0, plain_counts x.1), plain_list x.2.now)) result
-        ((for_heading words.now (plain_counts counts)).parse (plain_list tokens.now)) }
+) -> Result<(ForHeading, u32, &'a [Token]), ReadFault>
+    ensures { Gives (λ x. ((plain_heading x.0, x.1), plain_list x.2.now)) result
+        ((for_heading words.now number).parse (plain_list tokens.now)) }
 {
     let (place, rest) = skip(words, FOR, tokens)?;
     let (_, rest) = skip(words, LEFT_PAREN, rest)?;
-    let (first, counts, rest) = for_first(alloc, words, counts, rest)?;
+    let (first, number, rest) = for_first(alloc, words, number, rest)?;
     let (first, (condition, rest)) = kept(first, maybe_ended(alloc, words, rest))?;
     let ((first, condition), (step, rest)) = kept(
         (first, condition),
@@ -187,7 +186,7 @@ pub fn for_heading<'a>(
         condition,
         step,
     };
-    Ok((heading, counts, rest))
+    Ok((heading, number, rest))
 }
 
 /// The loop of a heading and a body.

@@ -1,251 +1,328 @@
-//! Functions and whole texts (C99 6.9).
+//! Whole texts (C99 6.9).
 
-ghost use Rattle.std.specs.Prelude.{ℕ, List, ◌≡◌, ◌<◌, length, map, IfOk, IfErr, option_map};
-ghost use Rattle.c_syntax.specs.Ctypes.{plain_type};
-ghost use Rattle.c_syntax.specs.Statements.{plain_decl, plain_stmt};
-ghost use Rattle.c_syntax.specs.Programs.{plain_func, plain_program};
-ghost use Rattle.c_model.specs.ProgramGrammar.{function_with, unit_with, storage_word, result_type, function_rest, function, one_more_function, unit};
-ghost use Rattle.token_reader.specs.Reading.{Gives, TakesNoMemory, plain_list};
-ghost use Rattle.c_parser.specs.Reading.{plain_body, plain_unit, more_storage, function_body, more_functions};
+ghost use Rattle.std.specs.Prelude.{◌≡◌, map, slice_set, IfErr, OnOk, []};
+ghost use Rattle.c_model.specs.declared.vocabulary.TypeName.TheVariants.{Declared};
+ghost use Rattle.c_model.specs.declared.vocabulary.Word.TheVariants.{TypeName};
+ghost use Rattle.c_syntax.specs.declared.fault.ReadFault.TheVariants.{Memory};
+ghost use Rattle.c_syntax.specs.Programs.{plain_program, plain_text};
+ghost use Rattle.c_model.specs.ProgramGrammar.{with_typedef, function, globals, behind_declarator, declared_at_file, next_typedef, more_typedefs};
+ghost use Rattle.c_model.specs.ProgramGrammar.{typedefs, behind_spec, external, more_external, no_parts, unit_with};
+ghost use Rattle.c_expr_parser.specs.Reading.{plain_base};
+ghost use Rattle.token_reader.specs.Reading.{Gives, plain_list};
+ghost use Rattle.c_parser.specs.Reading.{plain_declarator, plain_parts, other_typedefs, function_behind};
 
-use crate::counts::Counts;
-use crate::parameter::parameters;
-use crate::statement::{items, make_block};
-use crate::terminals::{next_begins_function, next_is_storage};
-use c_expr_parser::kinds::{CONST, LEFT_BRACE, LEFT_PAREN, RIGHT_BRACE, SEMICOLON, STATIC};
-use c_expr_parser::terminals::{kept, name, next_is, skip};
-use c_expr_parser::types::{base, consts};
-use c_model::vocabulary::Word;
+use crate::declaration::{initialised, more_declared};
+use crate::declarator::{Declarator, declared_by, full_dtor, names_function};
+use crate::function::function_behind;
+use crate::specifier::file_spec;
+use crate::tagged::Definitions;
+use c_expr_parser::kinds::{COMMA, LEFT_PAREN, SEMICOLON};
+use c_expr_parser::terminals::{kept, next_is, skip};
+use c_expr_parser::types::BaseType;
+use c_model::declarations::{Named, Storage};
+use c_model::vocabulary::{TypeName as TypeWord, Word};
 use c_syntax::fault::ReadFault;
-use c_syntax::{CType, Decl, Func, Name, Place, Program, Stmt, Token};
+use c_syntax::{Decl, Func, Name, Program, Text, Token};
 use std::alloc::Global;
-use token_reader::terminals::left;
+use std::mem::replace;
 
-/// How deep statements may stand in one another, the function's body being 1 deep.
-const MOST_NESTED: u32 = 200;
-
-/// `"static"` or `"const"`, where `static` was read or not.
-#[tactic(auto, unfolding(c_model::specs::ProgramGrammar::storage_word))]
-fn storage_word<'a>(
-    words: &[Word],
-    seen: bool,
-    tokens: &'a [Token],
-) -> Result<(bool, &'a [Token]), ReadFault>
-    ensures read { Gives (λ x. (x.0, plain_list x.1.now)) result ((storage_word words.now seen).parse (plain_list tokens.now)) }
-    ensures shorter { IfOk result (λ x. length x.1.now < length tokens.now) }
-    ensures sure { IfErr result TakesNoMemory }
-{
-    if next_is(words, STATIC, tokens) {
-        if seen {
-            Err(ReadFault::At(left(tokens)))
-        } else {
-            let (_, rest) = skip(words, STATIC, tokens)?;
-            Ok((true, rest))
-        }
-    } else {
-        let (_, rest) = skip(words, CONST, tokens)?;
-        Ok((seen, rest))
-    }
-}
-
-/// The words before a type after those that are read.
-#[tactic(auto, using(crate::proofs::Steps::storage_turn, crate::proofs::Steps::storage_fails, crate::proofs::Steps::storage_ends))]
-fn more_storage<'a>(
-    words: &[Word],
-    seen: bool,
-    tokens: &'a [Token],
-) -> Result<(bool, &'a [Token]), ReadFault>
-    ensures read { Gives (λ x. (x.0, plain_list x.1.now)) result ((more_storage words.now seen).parse (plain_list tokens.now)) }
-    ensures sure { IfErr result TakesNoMemory }
-{
-    let mut seen = seen;
-    let mut rest = tokens;
-    'turn: while next_is_storage(words, seen, rest) {
-        let (more, after) = storage_word(words, seen, rest)?;
-        seen = more;
-        rest = after;
-    }
-    Ok((seen, rest))
-}
-
-/// `{ "static" | "const" } base { "const" }`
-#[tactic(auto, unfolding(c_model::specs::ProgramGrammar::result_type, crate::specs::Reading::more_storage))]
-fn result_type<'a>(words: &[Word], tokens: &'a [Token]) -> Result<(CType, &'a [Token]), ReadFault>
-    ensures read { Gives (λ x. (plain_type x.0, plain_list x.1.now)) result ((result_type words.now).parse (plain_list tokens.now)) }
-    ensures sure { IfErr result TakesNoMemory }
-{
-    let (_, rest) = more_storage(words, false, tokens)?;
-    let (t, rest) = base(words, rest)?;
-    let rest = consts(words, rest)?;
-    Ok((t, rest))
-}
-
-/// What stands before a function's body: its result, its name with its place, and its parameters.
+/// What is read of a text so far: what its words are by now, what it defines and declares, and the number of the next annotation.
 #[derive(Drop)]
-struct Heading {
-    result: CType,
-    name: u32,
-    place: Place,
-    params: Vec<Decl>,
+pub struct FileParts {
+    pub words: Vec<Word>,
+    pub definitions: Definitions,
+    pub typedefs: Vec<Decl>,
+    pub globals: Vec<Decl>,
+    pub functions: Vec<Func>,
+    pub number: u32,
 }
 
-/// A function's body, with the place of its closing brace.
-#[derive(Drop)]
-pub struct Body {
-    pub block: Stmt,
-    pub close: Place,
-}
-
-fn make_function(heading: Heading, body: Option<Stmt>, close: Place) -> Func
-    ensures { plain_func result ≡ function_with (plain_type heading.result) (heading.name, heading.place) (map plain_decl heading.params.items)
-        (option_map plain_stmt body) close }
+fn no_definitions(alloc: Global) -> Definitions
+    ensures structs { result.structs.items ≡ [] }
+    ensures enums { result.enums.items ≡ [] }
 {
-    Func {
-        place: heading.place,
-        name: heading.name,
-        result: heading.result,
-        params: heading.params,
-        contract: None,
-        body,
-        close,
-    }
-}
-
-/// A body, after which the number of the next annotation goes on from this one.
-#[tactic(auto, unfolding(crate::specs::Reading::function_body))]
-fn function_body<'a>(
-    alloc: Global,
-    words: &[Word],
-    number: u32,
-    tokens: &'a [Token],
-) -> Result<(Body, u32, &'a [Token]), ReadFault>
-    ensures { Gives (λ x. ((plain_body x.0, x.1), plain_list x.2.now)) result ((function_body words.now number).parse (plain_list tokens.now)) }
-{
-    let (start, rest) = skip(words, LEFT_BRACE, tokens)?;
-    let counts = Counts {
-        annotation: number,
-        declarators: 0,
-    };
-    let none = Vec::new(alloc);
-    let (all, counts, rest) = items(alloc, words, MOST_NESTED - 1, none, counts, rest)?;
-    let (close, rest) = skip(words, RIGHT_BRACE, rest)?;
-    let block = make_block(alloc, start, all)?;
-    Ok((Body { block, close }, counts.annotation, rest))
-}
-
-/// `";"`, or a body, after which the number of the next annotation goes on from this one.
-#[tactic(auto, unfolding(c_model::specs::ProgramGrammar::function_rest, crate::specs::Reading::function_body))]
-fn function_rest<'a>(
-    alloc: Global,
-    words: &[Word],
-    heading: Heading,
-    number: u32,
-    tokens: &'a [Token],
-) -> Result<(Func, u32, &'a [Token]), ReadFault>
-    ensures { Gives (λ x. ((plain_func x.0, x.1), plain_list x.2.now)) result
-        ((function_rest words.now (plain_type heading.result) (heading.name, heading.place) (map plain_decl heading.params.items) number).parse
-        (plain_list tokens.now)) }
-{
-    if next_is(words, SEMICOLON, tokens) {
-        let (close, rest) = skip(words, SEMICOLON, tokens)?;
-        Ok((make_function(heading, None, close), number, rest))
-    } else {
-        let (body, number, rest) = function_body(alloc, words, number, tokens)?;
-        let function = make_function(heading, Some(body.block), body.close);
-        Ok((function, number, rest))
-    }
-}
-
-/// A function or a prototype.
-#[tactic(auto, unfolding(c_model::specs::ProgramGrammar::function))]
-fn function<'a>(
-    alloc: Global,
-    words: &[Word],
-    number: u32,
-    tokens: &'a [Token],
-) -> Result<(Func, u32, &'a [Token]), ReadFault>
-    ensures { Gives (λ x. ((plain_func x.0, x.1), plain_list x.2.now)) result ((function words.now number).parse (plain_list tokens.now)) }
-{
-    let (result, rest) = result_type(words, tokens)?;
-    let (result, (name, place, rest)) = kept(result, name(words, rest))?;
-    let (result, (_, rest)) = kept(result, skip(words, LEFT_PAREN, rest))?;
-    let (result, (params, rest)) = kept(result, parameters(alloc, words, rest))?;
-    let heading = Heading {
-        result,
-        name,
-        place,
-        params,
-    };
-    function_rest(alloc, words, heading, number, rest)
-}
-
-/// One more function or prototype.
-#[tactic(auto, unfolding(c_model::specs::ProgramGrammar::one_more_function))]
-fn one_more_function<'a>(
-    alloc: Global,
-    words: &[Word],
-    all: Vec<Func>,
-    number: u32,
-    tokens: &'a [Token],
-) -> Result<(Vec<Func>, u32, &'a [Token]), ReadFault>
-    ensures { Gives (λ x. ((map plain_func x.0.items, x.1), plain_list x.2.now)) result ((one_more_function words.now (map plain_func all.items, number)).parse
-        (plain_list tokens.now)) }
-{
-    let mut all = all;
-    let (one, number, rest) = function(alloc, words, number, tokens)?;
-    all.push(one)?;
-    Ok((all, number, rest))
-}
-
-/// The functions and prototypes after those that are read.
-#[tactic(auto, using(crate::proofs::Steps::functions_rules))]
-fn more_functions<'a>(
-    alloc: Global,
-    words: &[Word],
-    all: Vec<Func>,
-    number: u32,
-    tokens: &'a [Token],
-) -> Result<(Vec<Func>, u32, &'a [Token]), ReadFault>
-    ensures { Gives (λ x. ((map plain_func x.0.items, x.1), plain_list x.2.now)) result ((more_functions words.now (map plain_func all.items, number)).parse
-        (plain_list tokens.now)) }
-{
-    let mut all = all;
-    let mut number = number;
-    let mut rest = tokens;
-    'turn: while next_begins_function(words, rest) {
-        let (more, next, after) = one_more_function(alloc, words, all, number, rest)?;
-        all = more;
-        number = next;
-        rest = after;
-    }
-    Ok((all, number, rest))
-}
-
-/// The program of these functions, with the names of its text.
-pub fn make_unit(alloc: Global, names: Vec<Name>, funcs: Vec<Func>) -> Program
-    ensures { plain_program result ≡ unit_with names.items (map plain_func funcs.items) }
-{
-    Program {
-        names,
-        texts: Vec::new(alloc),
+    Definitions {
         structs: Vec::new(alloc),
         enums: Vec::new(alloc),
-        typedefs: Vec::new(alloc),
-        globals: Vec::new(alloc),
-        funcs,
-        strays: Vec::new(alloc),
     }
 }
 
-/// Functions and prototypes, as far as they go: those of the text, whatever its names.
-#[tactic(auto, unfolding(c_model::specs::ProgramGrammar::unit, crate::specs::Reading::more_functions))]
-pub fn functions<'a>(
-    alloc: Global,
-    words: &[Word],
-    tokens: &'a [Token],
-) -> Result<(Vec<Func>, &'a [Token]), ReadFault>
-    ensures { (names : List (List ℕ)) → Gives (plain_unit names) result ((unit words.now names).parse (plain_list tokens.now)) }
+/// What is read of a text before its first token.
+pub fn no_parts(alloc: Global, words: Vec<Word>) -> FileParts
+    ensures { plain_parts result ≡ no_parts words.items }
 {
-    let (funcs, _, rest) = more_functions(alloc, words, Vec::new(alloc), 1, tokens)?;
-    Ok((funcs, rest))
+    FileParts {
+        words,
+        definitions: no_definitions(alloc),
+        typedefs: Vec::new(alloc),
+        globals: Vec::new(alloc),
+        functions: Vec::new(alloc),
+        number: 1,
+    }
+}
+
+// ---- functions and objects
+
+/// A function or a prototype, after its declarator.
+#[tactic(auto, unfolding(c_model::specs::ProgramGrammar::function, crate::specs::Reading::function_behind))]
+fn function<'a>(
+    alloc: Global,
+    base: BaseType,
+    parts: FileParts,
+    d: Declarator,
+    tokens: &'a [Token],
+) -> Result<(FileParts, &'a [Token]), ReadFault>
+    ensures { Gives (λ x. (plain_parts x.0, plain_list x.1.now)) result
+        ((function (plain_parts parts).words (plain_base base) (plain_parts parts) (plain_declarator d)).parse (plain_list tokens.now)) }
+{
+    let mut parts = parts;
+    let words = parts.words.as_slice();
+    let number = parts.number;
+    let read = function_behind(alloc, words, base, d.stars, d.name, d.place, number, tokens);
+    let (f, number, rest) = read?;
+    parts.functions.push(f)?;
+    parts.number = number;
+    Ok((parts, rest))
+}
+
+/// `[ "=" init ] { "," declared } ";"`, after the first declarator.
+#[tactic(auto, unfolding(c_model::specs::ProgramGrammar::globals))]
+fn globals<'a>(
+    alloc: Global,
+    base: BaseType,
+    parts: FileParts,
+    d: Declarator,
+    tokens: &'a [Token],
+) -> Result<(FileParts, &'a [Token]), ReadFault>
+    ensures { Gives (λ x. (plain_parts x.0, plain_list x.1.now)) result
+        ((globals (plain_parts parts).words (plain_base base) (plain_parts parts) (plain_declarator d)).parse (plain_list tokens.now)) }
+{
+    let mut parts = parts;
+    let (first, rest) = initialised(alloc, parts.words.as_slice(), base, d, tokens)?;
+    let mut all = replace(&mut parts.globals, Vec::new(alloc));
+    all.push(first)?;
+    let (all, rest) = more_declared(alloc, parts.words.as_slice(), base, all, rest)?;
+    parts.globals = all;
+    Ok((parts, rest))
+}
+
+/// What stands after the first declarator.
+#[tactic(auto, unfolding(c_model::specs::ProgramGrammar::behind_declarator))]
+fn behind_declarator<'a>(
+    alloc: Global,
+    base: BaseType,
+    parts: FileParts,
+    d: Declarator,
+    tokens: &'a [Token],
+) -> Result<(FileParts, &'a [Token]), ReadFault>
+    ensures { Gives (λ x. (plain_parts x.0, plain_list x.1.now)) result
+        ((behind_declarator (plain_parts parts).words (plain_base base) (plain_parts parts) (plain_declarator d)).parse (plain_list tokens.now)) }
+{
+    if names_function(&d) {
+        if next_is(parts.words.as_slice(), LEFT_PAREN, tokens) {
+            function(alloc, base, parts, d, tokens)
+        } else {
+            globals(alloc, base, parts, d, tokens)
+        }
+    } else {
+        globals(alloc, base, parts, d, tokens)
+    }
+}
+
+/// What stands after the words for a type.
+#[tactic(auto, unfolding(c_model::specs::ProgramGrammar::declared_at_file, c_model::specs::DeclarationGrammar::ended))]
+fn declared_at_file<'a>(
+    alloc: Global,
+    base: BaseType,
+    parts: FileParts,
+    tokens: &'a [Token],
+) -> Result<(FileParts, &'a [Token]), ReadFault>
+    ensures { Gives (λ x. (plain_parts x.0, plain_list x.1.now)) result
+        ((declared_at_file (plain_parts parts).words (plain_base base) (plain_parts parts)).parse (plain_list tokens.now)) }
+{
+    if next_is(parts.words.as_slice(), SEMICOLON, tokens) {
+        let (_, rest) = skip(parts.words.as_slice(), SEMICOLON, tokens)?;
+        Ok((parts, rest))
+    } else {
+        let (d, rest) = full_dtor(alloc, parts.words.as_slice(), Named::Ordinary, tokens)?;
+        behind_declarator(alloc, base, parts, d, rest)
+    }
+}
+
+// ---- types that a typedef declares
+
+/// A name is that of a type from here on.
+fn name_type(words: &mut Vec<Word>, number: u32)
+    ensures { words.new.items ≡ slice_set words.old.items number (TypeName Declared) }
+{
+    let number = number as usize;
+    if number < words.len() {
+        words[number] = Word::TypeName(TypeWord::Declared);
+    }
+}
+
+/// The type that a `typedef` declares by this declarator.
+fn with_typedef(
+    alloc: Global,
+    base: BaseType,
+    parts: &mut FileParts,
+    d: Declarator,
+) -> Result<(), ReadFault>
+    ensures made { OnOk result (plain_parts parts.new ≡ with_typedef (plain_base base) (plain_parts parts.old) (plain_declarator d)) }
+    ensures memory { IfErr result (λ e. e ≡ Memory) }
+{
+    let number = d.name;
+    let declared = declared_by(alloc, base, d, None)?;
+    parts.typedefs.push(declared)?;
+    name_type(&mut parts.words, number);
+    Ok(())
+}
+
+/// `"," dtor`
+#[tactic(auto, unfolding(c_model::specs::ProgramGrammar::next_typedef))]
+fn next_typedef<'a>(
+    alloc: Global,
+    base: BaseType,
+    parts: FileParts,
+    tokens: &'a [Token],
+) -> Result<(FileParts, &'a [Token]), ReadFault>
+    ensures { Gives (λ x. (plain_parts x.0, plain_list x.1.now)) result
+        ((next_typedef (plain_base base) (plain_parts parts)).parse (plain_list tokens.now)) }
+{
+    let mut parts = parts;
+    let (_, rest) = skip(parts.words.as_slice(), COMMA, tokens)?;
+    let (d, rest) = full_dtor(alloc, parts.words.as_slice(), Named::Ordinary, rest)?;
+    with_typedef(alloc, base, &mut parts, d)?;
+    Ok((parts, rest))
+}
+
+/// What the same `typedef` declares after what is read.
+#[tactic(auto, using(crate::proofs::FileSteps::typedefs_rules))]
+fn other_typedefs<'a>(
+    alloc: Global,
+    base: BaseType,
+    parts: FileParts,
+    tokens: &'a [Token],
+) -> Result<(FileParts, &'a [Token]), ReadFault>
+    ensures { Gives (λ x. (plain_parts x.0, plain_list x.1.now)) result
+        ((other_typedefs (plain_base base) (plain_parts parts)).parse (plain_list tokens.now)) }
+{
+    let mut parts = parts;
+    let mut rest = tokens;
+    'turn: while next_is(&[], COMMA, rest) {
+        let (more, after) = next_typedef(alloc, base, parts, rest)?;
+        parts = more;
+        rest = after;
+    }
+    Ok((parts, rest))
+}
+
+/// `{ "," dtor } ";"`
+#[tactic(auto, unfolding(c_model::specs::ProgramGrammar::more_typedefs, c_model::specs::DeclarationGrammar::ended, crate::specs::Reading::other_typedefs))]
+fn more_typedefs<'a>(
+    alloc: Global,
+    base: BaseType,
+    parts: FileParts,
+    tokens: &'a [Token],
+) -> Result<(FileParts, &'a [Token]), ReadFault>
+    ensures { Gives (λ x. (plain_parts x.0, plain_list x.1.now)) result
+        ((more_typedefs (plain_base base) (plain_parts parts)).parse (plain_list tokens.now)) }
+{
+    let (parts, rest) = other_typedefs(alloc, base, parts, tokens)?;
+    let (_, rest) = skip(parts.words.as_slice(), SEMICOLON, rest)?;
+    Ok((parts, rest))
+}
+
+/// `dtor { "," dtor } ";"`
+#[tactic(auto, unfolding(c_model::specs::ProgramGrammar::typedefs))]
+fn typedefs<'a>(
+    alloc: Global,
+    base: BaseType,
+    parts: FileParts,
+    tokens: &'a [Token],
+) -> Result<(FileParts, &'a [Token]), ReadFault>
+    ensures { Gives (λ x. (plain_parts x.0, plain_list x.1.now)) result
+        ((typedefs (plain_base base) (plain_parts parts)).parse (plain_list tokens.now)) }
+{
+    let mut parts = parts;
+    let (d, rest) = full_dtor(alloc, parts.words.as_slice(), Named::Ordinary, tokens)?;
+    with_typedef(alloc, base, &mut parts, d)?;
+    more_typedefs(alloc, base, parts, rest)
+}
+
+// ---- whole texts
+
+/// What stands after the words before the declarators.
+fn behind_spec<'a>(
+    alloc: Global,
+    storage: Storage,
+    base: BaseType,
+    parts: FileParts,
+    tokens: &'a [Token],
+) -> Result<(FileParts, &'a [Token]), ReadFault>
+    ensures { Gives (λ x. (plain_parts x.0, plain_list x.1.now)) result
+        ((behind_spec storage (plain_base base) (plain_parts parts)).parse (plain_list tokens.now)) }
+{
+    match storage {
+        Storage::Typedef => typedefs(alloc, base, parts, tokens),
+        Storage::Static | Storage::Nothing => declared_at_file(alloc, base, parts, tokens),
+    }
+}
+
+/// One more declaration, function or prototype.
+#[tactic(auto, unfolding(c_model::specs::ProgramGrammar::external))]
+fn external<'a>(
+    alloc: Global,
+    parts: FileParts,
+    tokens: &'a [Token],
+) -> Result<(FileParts, &'a [Token]), ReadFault>
+    ensures { Gives (λ x. (plain_parts x.0, plain_list x.1.now)) result ((external (plain_parts parts)).parse (plain_list tokens.now)) }
+{
+    let mut parts = parts;
+    let definitions = replace(&mut parts.definitions, no_definitions(alloc));
+    let (spec, rest) = file_spec(alloc, parts.words.as_slice(), definitions, tokens)?;
+    parts.definitions = spec.definitions;
+    behind_spec(alloc, spec.storage, spec.base, parts, rest)
+}
+
+/// What a text declares, after these parts, as far as there are tokens.
+#[tactic(auto, using(crate::proofs::FileSteps::externals_rules))]
+pub fn more_external<'a>(
+    alloc: Global,
+    parts: FileParts,
+    tokens: &'a [Token],
+) -> Result<(FileParts, &'a [Token]), ReadFault>
+    ensures { Gives (λ x. (plain_parts x.0, plain_list x.1.now)) result ((more_external (plain_parts parts)).parse (plain_list tokens.now)) }
+{
+    let mut parts = parts;
+    let mut rest = tokens;
+    'turn: while !rest.is_empty() {
+        let (more, after) = external(alloc, parts, rest)?;
+        parts = more;
+        rest = after;
+    }
+    Ok((parts, rest))
+}
+
+/// The program of these parts, with the names and the string literals of its text.
+pub fn make_unit(alloc: Global, names: Vec<Name>, texts: Vec<Text>, parts: FileParts) -> Program
+    ensures { plain_program result ≡ unit_with names.items (map plain_text texts.items) (plain_parts parts) }
+{
+    let FileParts {
+        definitions,
+        typedefs,
+        globals,
+        functions,
+        ..
+    } = parts;
+    Program {
+        names,
+        texts,
+        structs: definitions.structs,
+        enums: definitions.enums,
+        typedefs,
+        globals,
+        funcs: functions,
+        strays: Vec::new(alloc),
+    }
 }

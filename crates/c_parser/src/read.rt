@@ -3,13 +3,14 @@
 ghost use Rattle.std.specs.Prelude.{ℕ, List, ◌≡◌, MatchResult};
 ghost use Rattle.grammar.specs.Exact.{AtMostOne, ReadingsBegin, FrontsBegin, OneLimit};
 ghost use Rattle.c_syntax.specs.Tokens.{plain_tokens};
-ghost use Rattle.c_syntax.specs.Programs.{plain_program};
+ghost use Rattle.c_syntax.specs.Programs.{StringLiteral, plain_program};
 ghost use Rattle.c_model.specs.Vocabulary.{Vocabulary};
 ghost use Rattle.c_model.specs.ProgramGrammar.{unit};
 ghost use Rattle.c_model.specs.Phases.{IsRead};
 ghost use Rattle.c_parser.specs.Answers.{Refuses, without_names};
 
-use crate::program::{functions, make_unit};
+use crate::program::{make_unit, more_external, no_parts};
+use crate::texts::texts_of;
 use c_expr_parser::vocabulary::vocabulary;
 use c_syntax::fault::ReadFault;
 use c_syntax::{FrontFault, Program, Tokens};
@@ -26,11 +27,12 @@ pub fn read_program(alloc: Global, tokens: &mut Tokens) -> Result<Program, Front
     ensures left { MatchResult result (λ p. plain_tokens tokens.new ≡ without_names (plain_tokens tokens.old)) (λ e. tokens.new ≡ tokens.old) }
 {
     let words = vocabulary(alloc, tokens.names.as_slice())?;
-    match functions(alloc, words.as_slice(), tokens.list.as_slice()) {
-        Ok((funcs, rest)) => {
+    let texts = texts_of(alloc, tokens.list.as_slice())?;
+    match more_external(alloc, no_parts(alloc, words), tokens.list.as_slice()) {
+        Ok((parts, rest)) => {
             if rest.is_empty() {
                 let names = replace(&mut tokens.names, Vec::new(alloc));
-                Ok(make_unit(alloc, names, funcs))
+                Ok(make_unit(alloc, names, texts, parts))
             } else {
                 Err(refuse(alloc, tokens, ReadFault::At(left(rest))))
             }
@@ -42,8 +44,8 @@ pub fn read_program(alloc: Global, tokens: &mut Tokens) -> Result<Program, Front
 /// Tokens are read in one way at most. A program begins one, and so does what begins the tokens that begin one. No token passes two
 /// limits.
 pub fn one_reading()
-    ensures one { (words : Vocabulary) (names : List (List ℕ)) → AtMostOne (unit words names) }
-    ensures begun { (words : Vocabulary) (names : List (List ℕ)) → ReadingsBegin (unit words names) }
-    ensures fronts { (words : Vocabulary) (names : List (List ℕ)) → FrontsBegin (unit words names) }
-    ensures limits { (words : Vocabulary) (names : List (List ℕ)) → OneLimit (unit words names) }
+    ensures one { (words : Vocabulary) (names : List (List ℕ)) (texts : List StringLiteral) → AtMostOne (unit words names texts) }
+    ensures begun { (words : Vocabulary) (names : List (List ℕ)) (texts : List StringLiteral) → ReadingsBegin (unit words names texts) }
+    ensures fronts { (words : Vocabulary) (names : List (List ℕ)) (texts : List StringLiteral) → FrontsBegin (unit words names texts) }
+    ensures limits { (words : Vocabulary) (names : List (List ℕ)) (texts : List StringLiteral) → OneLimit (unit words names texts) }
 {}

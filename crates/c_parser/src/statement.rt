@@ -1,4 +1,4 @@
-//! Statements (C99 6.8), which take the counts before them and give those after.
+//! Statements (C99 6.8), which take the number before them and give those after.
 
 ghost use Rattle.std.specs.Prelude.{◌≡◌, map, IfOk};
 ghost use Rattle.c_syntax.specs.Expressions.{plain_expr};
@@ -7,10 +7,9 @@ ghost use Rattle.c_syntax.specs.Statements as statement;
 ghost use Rattle.c_model.specs.ProgramGrammar.{is_open, block_items, else_branch, else_part, selection, while_loop, do_loop, for_loop, jump, return_statement};
 ghost use Rattle.c_model.specs.ProgramGrammar.{item, items_once, items, block, empty_statement, statement_of, statement_in};
 ghost use Rattle.token_reader.specs.Reading.{Gives, plain_list};
-ghost use Rattle.c_parser.specs.Reading.{plain_counts, break_statement, continue_statement, ended_do};
+ghost use Rattle.c_parser.specs.Reading.{break_statement, continue_statement, ended_do};
 
 use crate::annotation::annotation;
-use crate::counts::Counts;
 use crate::declaration::declaration;
 use crate::loops::{
     condition, effect_statement, for_heading, for_kind, returned, statement_at, with_statement,
@@ -59,35 +58,35 @@ fn make_run(s: Stmt) -> Item
 }
 
 /// `"break" ";"`
-#[tactic(auto, unfolding(crate::specs::Reading::break_statement, c_model::specs::ProgramGrammar::ended))]
+#[tactic(auto, unfolding(crate::specs::Reading::break_statement, c_model::specs::DeclarationGrammar::ended))]
 fn break_statement<'a>(
     alloc: Global,
     words: &[Word],
-    counts: Counts,
+    number: u32,
     tokens: &'a [Token],
-) -> Result<(Stmt, Counts, &'a [Token]), ReadFault>
-    ensures { Gives (λ x. ((plain_stmt x.0, plain_counts x.1), plain_list x.2.now)) result
-        ((break_statement words.now (plain_counts counts)).parse (plain_list tokens.now)) }
+) -> Result<(Stmt, u32, &'a [Token]), ReadFault>
+    ensures { Gives (λ x. ((plain_stmt x.0, x.1), plain_list x.2.now)) result
+        ((break_statement words.now number).parse (plain_list tokens.now)) }
 {
     let (place, rest) = skip(words, BREAK, tokens)?;
     let (_, rest) = skip(words, SEMICOLON, rest)?;
-    with_statement(alloc, place, StmtKind::Break, counts, rest)
+    with_statement(alloc, place, StmtKind::Break, number, rest)
 }
 
 /// `"continue" ";"`
-#[tactic(auto, unfolding(crate::specs::Reading::continue_statement, c_model::specs::ProgramGrammar::ended))]
+#[tactic(auto, unfolding(crate::specs::Reading::continue_statement, c_model::specs::DeclarationGrammar::ended))]
 fn continue_statement<'a>(
     alloc: Global,
     words: &[Word],
-    counts: Counts,
+    number: u32,
     tokens: &'a [Token],
-) -> Result<(Stmt, Counts, &'a [Token]), ReadFault>
-    ensures { Gives (λ x. ((plain_stmt x.0, plain_counts x.1), plain_list x.2.now)) result
-        ((continue_statement words.now (plain_counts counts)).parse (plain_list tokens.now)) }
+) -> Result<(Stmt, u32, &'a [Token]), ReadFault>
+    ensures { Gives (λ x. ((plain_stmt x.0, x.1), plain_list x.2.now)) result
+        ((continue_statement words.now number).parse (plain_list tokens.now)) }
 {
     let (place, rest) = skip(words, CONTINUE, tokens)?;
     let (_, rest) = skip(words, SEMICOLON, rest)?;
-    with_statement(alloc, place, StmtKind::Continue, counts, rest)
+    with_statement(alloc, place, StmtKind::Continue, number, rest)
 }
 
 /// `"break" ";"` or `"continue" ";"`
@@ -95,16 +94,16 @@ fn continue_statement<'a>(
 fn jump<'a>(
     alloc: Global,
     words: &[Word],
-    counts: Counts,
+    number: u32,
     tokens: &'a [Token],
-) -> Result<(Stmt, Counts, &'a [Token]), ReadFault>
-    ensures { Gives (λ x. ((plain_stmt x.0, plain_counts x.1), plain_list x.2.now)) result
-        ((jump words.now (plain_counts counts)).parse (plain_list tokens.now)) }
+) -> Result<(Stmt, u32, &'a [Token]), ReadFault>
+    ensures { Gives (λ x. ((plain_stmt x.0, x.1), plain_list x.2.now)) result
+        ((jump words.now number).parse (plain_list tokens.now)) }
 {
     if next_is(words, BREAK, tokens) {
-        break_statement(alloc, words, counts, tokens)
+        break_statement(alloc, words, number, tokens)
     } else {
-        continue_statement(alloc, words, counts, tokens)
+        continue_statement(alloc, words, number, tokens)
     }
 }
 
@@ -113,15 +112,15 @@ fn jump<'a>(
 fn return_statement<'a>(
     alloc: Global,
     words: &[Word],
-    counts: Counts,
+    number: u32,
     tokens: &'a [Token],
-) -> Result<(Stmt, Counts, &'a [Token]), ReadFault>
-    ensures { Gives (λ x. ((plain_stmt x.0, plain_counts x.1), plain_list x.2.now)) result
-        ((return_statement words.now (plain_counts counts)).parse (plain_list tokens.now)) }
+) -> Result<(Stmt, u32, &'a [Token]), ReadFault>
+    ensures { Gives (λ x. ((plain_stmt x.0, x.1), plain_list x.2.now)) result
+        ((return_statement words.now number).parse (plain_list tokens.now)) }
 {
     let (place, rest) = skip(words, RETURN, tokens)?;
     let (e, rest) = returned(alloc, words, rest)?;
-    with_statement(alloc, place, StmtKind::Return(e), counts, rest)
+    with_statement(alloc, place, StmtKind::Return(e), number, rest)
 }
 
 /// `";"`
@@ -129,14 +128,14 @@ fn return_statement<'a>(
 fn empty_statement<'a>(
     alloc: Global,
     words: &[Word],
-    counts: Counts,
+    number: u32,
     tokens: &'a [Token],
-) -> Result<(Stmt, Counts, &'a [Token]), ReadFault>
-    ensures { Gives (λ x. ((plain_stmt x.0, plain_counts x.1), plain_list x.2.now)) result
-        ((empty_statement words.now (plain_counts counts)).parse (plain_list tokens.now)) }
+) -> Result<(Stmt, u32, &'a [Token]), ReadFault>
+    ensures { Gives (λ x. ((plain_stmt x.0, x.1), plain_list x.2.now)) result
+        ((empty_statement words.now number).parse (plain_list tokens.now)) }
 {
     let (place, rest) = skip(words, SEMICOLON, tokens)?;
-    with_statement(alloc, place, StmtKind::Empty, counts, rest)
+    with_statement(alloc, place, StmtKind::Empty, number, rest)
 }
 
 /// `"else" stmt`, after an `if` with its first branch.
@@ -149,19 +148,19 @@ fn else_branch<'a>(
     place: Place,
     e: Expr,
     then: Stmt,
-    counts: Counts,
+    number: u32,
     tokens: &'a [Token],
-) -> Result<(Stmt, Counts, &'a [Token]), ReadFault>
-    ensures { Gives (λ x. ((plain_stmt x.0, plain_counts x.1), plain_list x.2.now)) result
-        ((else_branch words.now (statement_in words.now levels) place (plain_expr e) (plain_stmt then, plain_counts counts)).parse (plain_list tokens.now)) }
+) -> Result<(Stmt, u32, &'a [Token]), ReadFault>
+    ensures { Gives (λ x. ((plain_stmt x.0, x.1), plain_list x.2.now)) result
+        ((else_branch words.now (statement_in words.now levels) place (plain_expr e) (plain_stmt then, number)).parse (plain_list tokens.now)) }
 {
     let (parts, (_, rest)) = kept((e, then), skip(words, ELSE, tokens))?;
-    let ((e, then), (otherwise, counts, rest)) = kept(
+    let ((e, then), (otherwise, number, rest)) = kept(
         parts,
-        statement(alloc, words, levels, counts, rest),
+        statement(alloc, words, levels, number, rest),
     )?;
     let kind = StmtKind::If(e, then, Some(otherwise));
-    with_statement(alloc, place, kind, counts, rest)
+    with_statement(alloc, place, kind, number, rest)
 }
 
 /// `[ "else" stmt ]`, which goes with the nearest `if`.
@@ -174,18 +173,18 @@ fn else_part<'a>(
     place: Place,
     e: Expr,
     then: Stmt,
-    counts: Counts,
+    number: u32,
     tokens: &'a [Token],
-) -> Result<(Stmt, Counts, &'a [Token]), ReadFault>
-    ensures { Gives (λ x. ((plain_stmt x.0, plain_counts x.1), plain_list x.2.now)) result
-        ((else_part words.now (statement_in words.now levels) place (plain_expr e) (plain_stmt then, plain_counts counts)).parse (plain_list tokens.now)) }
+) -> Result<(Stmt, u32, &'a [Token]), ReadFault>
+    ensures { Gives (λ x. ((plain_stmt x.0, x.1), plain_list x.2.now)) result
+        ((else_part words.now (statement_in words.now levels) place (plain_expr e) (plain_stmt then, number)).parse (plain_list tokens.now)) }
 {
     if is_open(&then) {
-        with_statement(alloc, place, StmtKind::If(e, then, None), counts, tokens)
+        with_statement(alloc, place, StmtKind::If(e, then, None), number, tokens)
     } else if next_is(words, ELSE, tokens) {
-        else_branch(alloc, words, levels, place, e, then, counts, tokens)
+        else_branch(alloc, words, levels, place, e, then, number, tokens)
     } else {
-        with_statement(alloc, place, StmtKind::If(e, then, None), counts, tokens)
+        with_statement(alloc, place, StmtKind::If(e, then, None), number, tokens)
     }
 }
 
@@ -197,16 +196,16 @@ fn selection<'a>(
     alloc: Global,
     words: &[Word],
     levels: u32,
-    counts: Counts,
+    number: u32,
     tokens: &'a [Token],
-) -> Result<(Stmt, Counts, &'a [Token]), ReadFault>
-    ensures { Gives (λ x. ((plain_stmt x.0, plain_counts x.1), plain_list x.2.now)) result
-        ((selection words.now (statement_in words.now levels) (plain_counts counts)).parse (plain_list tokens.now)) }
+) -> Result<(Stmt, u32, &'a [Token]), ReadFault>
+    ensures { Gives (λ x. ((plain_stmt x.0, x.1), plain_list x.2.now)) result
+        ((selection words.now (statement_in words.now levels) number).parse (plain_list tokens.now)) }
 {
     let (place, rest) = skip(words, IF, tokens)?;
     let (e, rest) = condition(alloc, words, rest)?;
-    let (e, (then, counts, rest)) = kept(e, statement(alloc, words, levels, counts, rest))?;
-    else_part(alloc, words, levels, place, e, then, counts, rest)
+    let (e, (then, number, rest)) = kept(e, statement(alloc, words, levels, number, rest))?;
+    else_part(alloc, words, levels, place, e, then, number, rest)
 }
 
 /// `"while" "(" expr ")" stmt`
@@ -217,35 +216,35 @@ fn while_loop<'a>(
     alloc: Global,
     words: &[Word],
     levels: u32,
-    counts: Counts,
+    number: u32,
     tokens: &'a [Token],
-) -> Result<(Stmt, Counts, &'a [Token]), ReadFault>
-    ensures { Gives (λ x. ((plain_stmt x.0, plain_counts x.1), plain_list x.2.now)) result
-        ((while_loop words.now (statement_in words.now levels) (plain_counts counts)).parse (plain_list tokens.now)) }
+) -> Result<(Stmt, u32, &'a [Token]), ReadFault>
+    ensures { Gives (λ x. ((plain_stmt x.0, x.1), plain_list x.2.now)) result
+        ((while_loop words.now (statement_in words.now levels) number).parse (plain_list tokens.now)) }
 {
     let (place, rest) = skip(words, WHILE, tokens)?;
     let (e, rest) = condition(alloc, words, rest)?;
-    let (e, (body, counts, rest)) = kept(e, statement(alloc, words, levels, counts, rest))?;
+    let (e, (body, number, rest)) = kept(e, statement(alloc, words, levels, number, rest))?;
     let kind = StmtKind::While(Vec::new(alloc), e, body);
-    with_statement(alloc, place, kind, counts, rest)
+    with_statement(alloc, place, kind, number, rest)
 }
 
 /// `";"`, after a `do` with its condition.
-#[tactic(auto, unfolding(c_model::specs::ProgramGrammar::ended))]
+#[tactic(auto, unfolding(c_model::specs::DeclarationGrammar::ended))]
 fn ended_do<'a>(
     alloc: Global,
     words: &[Word],
     place: Place,
     body: Stmt,
     e: Expr,
-    counts: Counts,
+    number: u32,
     tokens: &'a [Token],
-) -> Result<(Stmt, Counts, &'a [Token]), ReadFault>
-    ensures { Gives (λ x. ((plain_stmt x.0, plain_counts x.1), plain_list x.2.now)) result
-        ((ended_do words.now place (plain_stmt body) (plain_expr e) (plain_counts counts)).parse (plain_list tokens.now)) }
+) -> Result<(Stmt, u32, &'a [Token]), ReadFault>
+    ensures { Gives (λ x. ((plain_stmt x.0, x.1), plain_list x.2.now)) result
+        ((ended_do words.now place (plain_stmt body) (plain_expr e) number).parse (plain_list tokens.now)) }
 {
     let (_, rest) = skip(words, SEMICOLON, tokens)?;
-    with_statement(alloc, place, StmtKind::Do(body, e), counts, rest)
+    with_statement(alloc, place, StmtKind::Do(body, e), number, rest)
 }
 
 /// `"do" stmt "while" "(" expr ")" ";"`
@@ -256,17 +255,17 @@ fn do_loop<'a>(
     alloc: Global,
     words: &[Word],
     levels: u32,
-    counts: Counts,
+    number: u32,
     tokens: &'a [Token],
-) -> Result<(Stmt, Counts, &'a [Token]), ReadFault>
-    ensures { Gives (λ x. ((plain_stmt x.0, plain_counts x.1), plain_list x.2.now)) result
-        ((do_loop words.now (statement_in words.now levels) (plain_counts counts)).parse (plain_list tokens.now)) }
+) -> Result<(Stmt, u32, &'a [Token]), ReadFault>
+    ensures { Gives (λ x. ((plain_stmt x.0, x.1), plain_list x.2.now)) result
+        ((do_loop words.now (statement_in words.now levels) number).parse (plain_list tokens.now)) }
 {
     let (place, rest) = skip(words, DO, tokens)?;
-    let (body, counts, rest) = statement(alloc, words, levels, counts, rest)?;
+    let (body, number, rest) = statement(alloc, words, levels, number, rest)?;
     let (_, rest) = skip(words, WHILE, rest)?;
     let (e, rest) = condition(alloc, words, rest)?;
-    ended_do(alloc, words, place, body, e, counts, rest)
+    ended_do(alloc, words, place, body, e, number, rest)
 }
 
 /// `"for" "(" ( decl | [ effect | call ] ";" ) [ expr ] ";" [ effect ] ")" stmt`
@@ -277,19 +276,19 @@ fn for_loop<'a>(
     alloc: Global,
     words: &[Word],
     levels: u32,
-    counts: Counts,
+    number: u32,
     tokens: &'a [Token],
-) -> Result<(Stmt, Counts, &'a [Token]), ReadFault>
-    ensures { Gives (λ x. ((plain_stmt x.0, plain_counts x.1), plain_list x.2.now)) result
-        ((for_loop words.now (statement_in words.now levels) (plain_counts counts)).parse (plain_list tokens.now)) }
+) -> Result<(Stmt, u32, &'a [Token]), ReadFault>
+    ensures { Gives (λ x. ((plain_stmt x.0, x.1), plain_list x.2.now)) result
+        ((for_loop words.now (statement_in words.now levels) number).parse (plain_list tokens.now)) }
 {
-    let (heading, counts, rest) = for_heading(alloc, words, counts, tokens)?;
-    let (heading, (body, counts, rest)) = kept(
+    let (heading, number, rest) = for_heading(alloc, words, number, tokens)?;
+    let (heading, (body, number, rest)) = kept(
         heading,
-        statement(alloc, words, levels, counts, rest),
+        statement(alloc, words, levels, number, rest),
     )?;
     let place = heading.place;
-    with_statement(alloc, place, for_kind(alloc, heading, body), counts, rest)
+    with_statement(alloc, place, for_kind(alloc, heading, body), number, rest)
 }
 
 /// An annotation, a declaration or a statement.
@@ -299,19 +298,20 @@ fn item<'a>(
     alloc: Global,
     words: &[Word],
     levels: u32,
-    counts: Counts,
+    number: u32,
     tokens: &'a [Token],
-) -> Result<(Item, Counts, &'a [Token]), ReadFault>
-    ensures { Gives (λ x. ((plain_item x.0, plain_counts x.1), plain_list x.2.now)) result
-        ((item words.now (statement_in words.now levels) (plain_counts counts)).parse (plain_list tokens.now)) }
+) -> Result<(Item, u32, &'a [Token]), ReadFault>
+    ensures { Gives (λ x. ((plain_item x.0, x.1), plain_list x.2.now)) result
+        ((item words.now (statement_in words.now levels) number).parse (plain_list tokens.now)) }
 {
     if next_is(words, ANNOT_OPEN, tokens) {
-        annotation(alloc, words, counts, tokens)
+        annotation(alloc, words, number, tokens)
     } else if next_begins_type(words, tokens) {
-        declaration(alloc, words, counts, tokens)
+        let (item, rest) = declaration(alloc, words, tokens)?;
+        Ok((item, number, rest))
     } else {
-        let (s, counts, rest) = statement(alloc, words, levels, counts, tokens)?;
-        Ok((make_run(s), counts, rest))
+        let (s, number, rest) = statement(alloc, words, levels, number, tokens)?;
+        Ok((make_run(s), number, rest))
     }
 }
 
@@ -322,16 +322,16 @@ fn items_once<'a>(
     words: &[Word],
     levels: u32,
     all: Vec<Item>,
-    counts: Counts,
+    number: u32,
     tokens: &'a [Token],
-) -> Result<(Vec<Item>, Counts, &'a [Token]), ReadFault>
-    ensures { Gives (λ x. ((map plain_item x.0.items, plain_counts x.1), plain_list x.2.now)) result
-        ((items_once words.now (statement_in words.now levels) (map plain_item all.items, plain_counts counts)).parse (plain_list tokens.now)) }
+) -> Result<(Vec<Item>, u32, &'a [Token]), ReadFault>
+    ensures { Gives (λ x. ((map plain_item x.0.items, x.1), plain_list x.2.now)) result
+        ((items_once words.now (statement_in words.now levels) (map plain_item all.items, number)).parse (plain_list tokens.now)) }
 {
     let mut all = all;
-    let (one, counts, rest) = item(alloc, words, levels, counts, tokens)?;
+    let (one, number, rest) = item(alloc, words, levels, number, tokens)?;
     all.push(one)?;
-    Ok((all, counts, rest))
+    Ok((all, number, rest))
 }
 
 /// The items after those that are read.
@@ -342,22 +342,22 @@ pub fn items<'a>(
     words: &[Word],
     levels: u32,
     all: Vec<Item>,
-    counts: Counts,
+    number: u32,
     tokens: &'a [Token],
-) -> Result<(Vec<Item>, Counts, &'a [Token]), ReadFault>
-    ensures { Gives (λ x. ((map plain_item x.0.items, plain_counts x.1), plain_list x.2.now)) result
-        ((items words.now (statement_in words.now levels) (map plain_item all.items, plain_counts counts)).parse (plain_list tokens.now)) }
+) -> Result<(Vec<Item>, u32, &'a [Token]), ReadFault>
+    ensures { Gives (λ x. ((map plain_item x.0.items, x.1), plain_list x.2.now)) result
+        ((items words.now (statement_in words.now levels) (map plain_item all.items, number)).parse (plain_list tokens.now)) }
 {
     let mut all = all;
-    let mut counts = counts;
+    let mut number = number;
     let mut rest = tokens;
     'turn: while next_begins_item(words, rest) {
-        let (more, next, after) = items_once(alloc, words, levels, all, counts, rest)?;
+        let (more, next, after) = items_once(alloc, words, levels, all, number, rest)?;
         all = more;
-        counts = next;
+        number = next;
         rest = after;
     }
-    Ok((all, counts, rest))
+    Ok((all, number, rest))
 }
 
 /// `"{" { item } "}"`
@@ -367,16 +367,16 @@ fn block<'a>(
     alloc: Global,
     words: &[Word],
     levels: u32,
-    counts: Counts,
+    number: u32,
     tokens: &'a [Token],
-) -> Result<(Stmt, Counts, &'a [Token]), ReadFault>
-    ensures { Gives (λ x. ((plain_stmt x.0, plain_counts x.1), plain_list x.2.now)) result
-        ((block words.now (statement_in words.now levels) (plain_counts counts)).parse (plain_list tokens.now)) }
+) -> Result<(Stmt, u32, &'a [Token]), ReadFault>
+    ensures { Gives (λ x. ((plain_stmt x.0, x.1), plain_list x.2.now)) result
+        ((block words.now (statement_in words.now levels) number).parse (plain_list tokens.now)) }
 {
     let (place, rest) = skip(words, LEFT_BRACE, tokens)?;
-    let (all, counts, rest) = items(alloc, words, levels, Vec::new(alloc), counts, rest)?;
+    let (all, number, rest) = items(alloc, words, levels, Vec::new(alloc), number, rest)?;
     let (_, rest) = skip(words, RIGHT_BRACE, rest)?;
-    Ok((make_block(alloc, place, all)?, counts, rest))
+    Ok((make_block(alloc, place, all)?, number, rest))
 }
 
 /// A statement in which statements stand at most so many levels deep, itself included.
@@ -386,10 +386,10 @@ fn statement<'a>(
     alloc: Global,
     words: &[Word],
     levels: u32,
-    counts: Counts,
+    number: u32,
     tokens: &'a [Token],
-) -> Result<(Stmt, Counts, &'a [Token]), ReadFault>
-    ensures { Gives (λ x. ((plain_stmt x.0, plain_counts x.1), plain_list x.2.now)) result ((statement_in words.now levels (plain_counts counts)).parse
+) -> Result<(Stmt, u32, &'a [Token]), ReadFault>
+    ensures { Gives (λ x. ((plain_stmt x.0, x.1), plain_list x.2.now)) result ((statement_in words.now levels number).parse
         (plain_list tokens.now)) }
 {
     if levels == 0 {
@@ -401,22 +401,22 @@ fn statement<'a>(
     }
     let levels = levels - 1;
     if next_is(words, LEFT_BRACE, tokens) {
-        block(alloc, words, levels, counts, tokens)
+        block(alloc, words, levels, number, tokens)
     } else if next_is(words, SEMICOLON, tokens) {
-        empty_statement(alloc, words, counts, tokens)
+        empty_statement(alloc, words, number, tokens)
     } else if next_is(words, IF, tokens) {
-        selection(alloc, words, levels, counts, tokens)
+        selection(alloc, words, levels, number, tokens)
     } else if next_is(words, WHILE, tokens) {
-        while_loop(alloc, words, levels, counts, tokens)
+        while_loop(alloc, words, levels, number, tokens)
     } else if next_is(words, DO, tokens) {
-        do_loop(alloc, words, levels, counts, tokens)
+        do_loop(alloc, words, levels, number, tokens)
     } else if next_is(words, FOR, tokens) {
-        for_loop(alloc, words, levels, counts, tokens)
+        for_loop(alloc, words, levels, number, tokens)
     } else if next_is(words, RETURN, tokens) {
-        return_statement(alloc, words, counts, tokens)
+        return_statement(alloc, words, number, tokens)
     } else if next_is_jump(words, tokens) {
-        jump(alloc, words, counts, tokens)
+        jump(alloc, words, number, tokens)
     } else {
-        effect_statement(alloc, words, counts, tokens)
+        effect_statement(alloc, words, number, tokens)
     }
 }

@@ -1,16 +1,16 @@
 //! Single tokens of annotations, and tests of the next token.
 
-ghost use Rattle.std.specs.Prelude.{◌≡◌, ◌<◌, length, IfOk, IfErr, [], ◌∷◌};
+ghost use Rattle.std.specs.Prelude.{◌≡◌, ◌<◌, ◌++◌, length, IfOk, IfErr, [], ◌∷◌};
 ghost use Rattle.grammar.specs.Syntax.{among, sees, one};
 ghost use Rattle.c_model.specs.declared.vocabulary.Keyword.TheVariants as keyword;
-ghost use Rattle.c_model.specs.ExpressionGrammar.{kind, keyword_kind, first_effect};
+ghost use Rattle.c_model.specs.ExpressionGrammar.{kind, keyword_kind, first_type, first_any_name, first_effect};
 ghost use Rattle.c_model.specs.Terminals.{placed};
-ghost use Rattle.c_model.specs.ProgramGrammar.{first_statement, first_item, first_function, storage_words, assert_word, term_name, term_number};
+ghost use Rattle.c_model.specs.ProgramGrammar.{first_statement, first_item, assert_word, term_name, term_number};
 ghost use Rattle.token_reader.specs.Reading.{Gives, TakesNoMemory, plain_list};
 
 use c_expr_parser::kinds::{
-    ANNOT_OPEN, BREAK, CONST, CONTINUE, DECREMENT, DO, FOR, IF, INCREMENT, LEFT_BRACE, RETURN,
-    SEMICOLON, STATIC, WHILE, kind, word_at,
+    ANNOT_OPEN, BREAK, CONTINUE, DECREMENT, DO, FOR, IF, INCREMENT, LEFT_BRACE, NAME, RETURN,
+    SEMICOLON, TYPE_NAME, WHILE, kind, word_at,
 };
 use c_expr_parser::terminals::{begins_expression, begins_type};
 use c_model::vocabulary::Word;
@@ -128,14 +128,38 @@ pub fn next_begins_statement(words: &[Word], tokens: &[Token]) -> bool
     }
 }
 
+/// Whether a token of this kind begins a declaration or a statement.
+#[tactic(auto, using(crate::proofs::FirstItems::type_first, crate::proofs::FirstItems::behind_type))]
+fn declares_or_runs(kind: u32) -> bool
+    ensures { result ≡ among kind (first_type ++ first_statement) }
+{
+    begins_type(kind) || begins_statement(kind)
+}
+
+fn begins_item(kind: u32) -> bool
+    ensures { result ≡ among kind first_item }
+{
+    kind == ANNOT_OPEN || declares_or_runs(kind)
+}
+
 pub fn next_begins_item(words: &[Word], tokens: &[Token]) -> bool
     ensures { result ≡ sees (kind words.now) first_item (plain_list tokens.now) }
 {
     match tokens {
         [] => false,
+        [token, ..] => begins_item(kind(words, token)),
+    }
+}
+
+/// Whether a tag or the name of a member comes next.
+pub fn next_is_any_name(words: &[Word], tokens: &[Token]) -> bool
+    ensures { result ≡ sees (kind words.now) first_any_name (plain_list tokens.now) }
+{
+    match tokens {
+        [] => false,
         [token, ..] => {
             let k = kind(words, token);
-            k == ANNOT_OPEN || begins_type(k) || begins_statement(k)
+            k == NAME || k == TYPE_NAME
         }
     }
 }
@@ -149,31 +173,6 @@ pub fn next_is_jump(words: &[Word], tokens: &[Token]) -> bool
         [token, ..] => {
             let k = kind(words, token);
             k == BREAK || k == CONTINUE
-        }
-    }
-}
-
-/// Whether a word comes next that may stand before a type at file scope, where `static` was read or not.
-pub fn next_is_storage(words: &[Word], seen: bool, tokens: &[Token]) -> bool
-    ensures { result ≡ sees (kind words.now) (storage_words words.now seen) (plain_list tokens.now) }
-{
-    match tokens {
-        [] => false,
-        [token, ..] => {
-            let k = kind(words, token);
-            k == CONST || (!seen && k == STATIC)
-        }
-    }
-}
-
-pub fn next_begins_function(words: &[Word], tokens: &[Token]) -> bool
-    ensures { result ≡ sees (kind words.now) first_function (plain_list tokens.now) }
-{
-    match tokens {
-        [] => false,
-        [token, ..] => {
-            let k = kind(words, token);
-            k == STATIC || begins_type(k)
         }
     }
 }

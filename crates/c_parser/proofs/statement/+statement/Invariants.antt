@@ -2,7 +2,6 @@ use Rattle.std.proofs.Common.{◌≡◌, ◌+◌, ◌*◌, length, map}
 use Rattle.c_syntax.specs.Statements.{plain_item}
 use Rattle.c_model.specs.ProgramGrammar.{items, statement_in}
 use Rattle.token_reader.specs.Reading.{plain_list}
-use Rattle.c_parser.specs.Reading.{plain_counts}
 use Rattle.c_parser.proofs.statement.+statement.Given as goal
 
 abbrev pub decreases-else_branch : goal.decreases-else_branch
@@ -33,8 +32,8 @@ abbrev pub decreases-items : goal.decreases-items
 decreases-items l = 10 * l.levels + 3
 
 abbrev pub invariant-items-turn : goal.invariant-items-turn
-invariant-items-turn l = (items l.words (statement_in l.words l.levels) (map plain_item l.all.items, plain_counts l.counts)).parse (plain_list l.rest) ≡
-    (items l.words (statement_in l.words l.levels) (map plain_item l.fn.all.items, plain_counts l.fn.counts)).parse (plain_list l.fn.tokens)
+invariant-items-turn l = (items l.words (statement_in l.words l.levels) (map plain_item l.all.items, l.number)).parse (plain_list l.rest) ≡
+    (items l.words (statement_in l.words l.levels) (map plain_item l.fn.all.items, l.fn.number)).parse (plain_list l.fn.tokens)
 
 abbrev pub decreases-items-turn : goal.decreases-items-turn
 decreases-items-turn l = length l.rest

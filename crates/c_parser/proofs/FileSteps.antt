@@ -1,0 +1,60 @@
+-- What the productions of whole texts give, step by step.
+use Rattle.std.proofs.Common.{◌≡◌, ◌<◌, true, false, List, [], ◌∷◌, length, Ok, refl}
+use Rattle.grammar.specs.Syntax.{sees}
+use Rattle.grammar.proofs.Productions.{turns_fit}
+use Rattle.c_syntax.specs.declared.token.Token.{Token}
+use Rattle.c_syntax.specs.declared.fault.ReadFault.{ReadFault}
+use Rattle.c_syntax.specs.Ctypes.{PlainType}
+use Rattle.c_syntax.specs.Tokens.{PlainToken}
+use Rattle.c_model.specs.Punctuators.{comma}
+use Rattle.c_model.specs.ExpressionGrammar.{mark_kind, kind}
+use Rattle.c_model.specs.ProgramGrammar.{FileParts, next_typedef, external, any_kind, more_external}
+use Rattle.token_reader.specs.Reading.{plain_list, Fails}
+use Rattle.c_parser.specs.Reading.{other_typedefs}
+use Rattle.c_parser.proofs.Turns.{shorter, one_turn, turn_stops, no_turn}
+use Rattle.c_parser.proofs.ExactDeclarations.{more_dtor}
+use Rattle.c_parser.proofs.ExactPrograms.{any, next_typedef_good, external_good}
+
+pub typedefs_turn : (t : PlainType) (x y : FileParts) (ts rest : List PlainToken) → sees (kind []) (mark_kind comma ∷ []) ts ≡ true → (next_typedef t x).parse ts ≡ Ok (y, rest) → (other_typedefs t x).parse ts ≡ (other_typedefs t y).parse rest
+unfolding other_typedefs
+typedefs_turn t x y ts rest s e = one_turn (λ _. mark_kind comma ∷ []) (next_typedef t) (λ z. (next_typedef_good t z).here) (turns_fit (mark_kind comma ∷ []) (mark_kind comma ∷ []) more_dtor refl) x y ts rest s e
+
+pub typedefs_fails : (t : PlainType) (x : FileParts) (ts : List PlainToken) (e : ReadFault) → sees (kind []) (mark_kind comma ∷ []) ts ≡ true → Fails e ((next_typedef t x).parse ts) → Fails e ((other_typedefs t x).parse ts)
+unfolding other_typedefs
+typedefs_fails t x ts e s = turn_stops (λ _. mark_kind comma ∷ []) (next_typedef t) (λ z. (next_typedef_good t z).here) (turns_fit (mark_kind comma ∷ []) (mark_kind comma ∷ []) more_dtor refl) x ts e s
+
+pub typedefs_ends : (t : PlainType) (x : FileParts) (ts : List PlainToken) → sees (kind []) (mark_kind comma ∷ []) ts ≡ false → (other_typedefs t x).parse ts ≡ Ok (x, ts)
+unfolding other_typedefs
+typedefs_ends t x ts s = no_turn (λ _. mark_kind comma ∷ []) (next_typedef t) (λ z. (next_typedef_good t z).here) (turns_fit (mark_kind comma ∷ []) (mark_kind comma ∷ []) more_dtor refl) x ts s
+
+pub typedefs_shorter : (t : PlainType) (x y : FileParts) (ts rest : List Token) → (next_typedef t x).parse (plain_list ts) ≡ Ok (y, plain_list rest) → length rest < length ts
+typedefs_shorter t x y ts rest e = shorter (next_typedef t x) (next_typedef_good t x).here ts rest y e
+
+any_sees : (ts : List Token) → (length ts ≡ 0 → ⊥) → sees any_kind any (plain_list ts) ≡ true
+any_sees [] h = absurd (h refl)
+any_sees (t ∷ ts) h = refl
+
+pub externals_turn : (x y : FileParts) (ts rest : List Token) → (length ts ≡ 0 → ⊥) → (external x).parse (plain_list ts) ≡ Ok (y, plain_list rest) → (more_external x).parse (plain_list ts) ≡ (more_external y).parse (plain_list rest)
+unfolding more_external
+externals_turn x y ts rest s e = one_turn (λ _. any) external (λ z. (external_good z).here) (turns_fit any any [] refl) x y (plain_list ts) (plain_list rest) (any_sees ts s) e
+
+pub externals_fails : (x : FileParts) (ts : List Token) (e : ReadFault) → (length ts ≡ 0 → ⊥) → Fails e ((external x).parse (plain_list ts)) → Fails e ((more_external x).parse (plain_list ts))
+unfolding more_external
+externals_fails x ts e s = turn_stops (λ _. any) external (λ z. (external_good z).here) (turns_fit any any [] refl) x (plain_list ts) e (any_sees ts s)
+
+none_left : (x : FileParts) → (more_external x).parse [] ≡ Ok (x, [])
+unfolding more_external
+none_left x = no_turn (λ _. any) external (λ z. (external_good z).here) (turns_fit any any [] refl) x [] refl
+
+pub externals_ends : (x : FileParts) (ts : List Token) → length ts ≡ 0 → (more_external x).parse (plain_list ts) ≡ Ok (x, plain_list ts)
+externals_ends x [] z = none_left x
+externals_ends x (t ∷ ts) z = absurd cc
+
+pub externals_shorter : (x y : FileParts) (ts rest : List Token) → (external x).parse (plain_list ts) ≡ Ok (y, plain_list rest) → length rest < length ts
+externals_shorter x y ts rest e = shorter (external x) (external_good x).here ts rest y e
+
+-- ---- what the code of each production cites
+
+pub ruleset typedefs_rules = (typedefs_turn, typedefs_fails, typedefs_ends, typedefs_shorter)
+
+pub ruleset externals_rules = (externals_turn, externals_fails, externals_ends, externals_shorter)

@@ -1,0 +1,133 @@
+//! Functions (C99 6.9.1).
+
+ghost use Rattle.std.specs.Prelude.{◌≡◌, map, option_map, IfOk};
+ghost use Rattle.c_syntax.specs.Ctypes.{plain_type};
+ghost use Rattle.c_syntax.specs.Statements.{plain_decl, plain_stmt};
+ghost use Rattle.c_syntax.specs.Programs.{plain_func};
+ghost use Rattle.c_model.specs.ExpressionGrammar.{pointers};
+ghost use Rattle.c_model.specs.ProgramGrammar.{function_with, function_rest};
+ghost use Rattle.c_expr_parser.specs.Reading.{plain_base};
+ghost use Rattle.token_reader.specs.Reading.{Gives, plain_list};
+ghost use Rattle.c_parser.specs.Reading.{plain_body, function_body, function_behind};
+
+use crate::parameter::parameters;
+use crate::statement::{items, make_block};
+use c_expr_parser::declarator::declared_type;
+use c_expr_parser::kinds::{LEFT_BRACE, LEFT_PAREN, RIGHT_BRACE, SEMICOLON};
+use c_expr_parser::terminals::{next_is, skip};
+use c_expr_parser::types::BaseType;
+use c_model::operands::Stars;
+use c_model::vocabulary::Word;
+use c_syntax::fault::ReadFault;
+use c_syntax::{CType, Decl, Func, Place, Stmt, Token};
+use smallvec::SmallVec;
+use std::alloc::{AllocError, Global};
+
+/// How deep statements may stand in one another, the function's body being 1 deep.
+const MOST_NESTED: u32 = 200;
+
+/// What stands before a function's body: its result, its name with its place, and its parameters.
+#[derive(Drop)]
+struct Heading {
+    result: CType,
+    name: u32,
+    place: Place,
+    params: Vec<Decl>,
+}
+
+/// A function's body, with the place of its closing brace.
+#[derive(Drop)]
+pub struct Body {
+    pub block: Stmt,
+    pub close: Place,
+}
+
+fn make_function(heading: Heading, body: Option<Stmt>, close: Place) -> Func
+    ensures { plain_func result ≡ function_with (plain_type heading.result) (heading.name, heading.place) (map plain_decl heading.params.items)
+        (option_map plain_stmt body) close }
+{
+    Func {
+        place: heading.place,
+        name: heading.name,
+        result: heading.result,
+        params: heading.params,
+        contract: None,
+        body,
+        close,
+    }
+}
+
+/// A body, after which the number of the next annotation goes on from this one.
+#[tactic(auto, unfolding(crate::specs::Reading::function_body))]
+fn function_body<'a>(
+    alloc: Global,
+    words: &[Word],
+    number: u32,
+    tokens: &'a [Token],
+) -> Result<(Body, u32, &'a [Token]), ReadFault>
+    ensures { Gives (λ x. ((plain_body x.0, x.1), plain_list x.2.now)) result ((function_body words.now number).parse (plain_list tokens.now)) }
+{
+    let (start, rest) = skip(words, LEFT_BRACE, tokens)?;
+    let none = Vec::new(alloc);
+    let (all, number, rest) = items(alloc, words, MOST_NESTED - 1, none, number, rest)?;
+    let (close, rest) = skip(words, RIGHT_BRACE, rest)?;
+    let block = make_block(alloc, start, all)?;
+    Ok((Body { block, close }, number, rest))
+}
+
+/// `";"`, or a body, after which the number of the next annotation goes on from this one.
+#[tactic(auto, unfolding(c_model::specs::ProgramGrammar::function_rest, crate::specs::Reading::function_body))]
+fn function_rest<'a>(
+    alloc: Global,
+    words: &[Word],
+    heading: Heading,
+    number: u32,
+    tokens: &'a [Token],
+) -> Result<(Func, u32, &'a [Token]), ReadFault>
+    ensures { Gives (λ x. ((plain_func x.0, x.1), plain_list x.2.now)) result
+        ((function_rest words.now (plain_type heading.result) (heading.name, heading.place) (map plain_decl heading.params.items) number).parse
+        (plain_list tokens.now)) }
+{
+    if next_is(words, SEMICOLON, tokens) {
+        let (close, rest) = skip(words, SEMICOLON, tokens)?;
+        Ok((make_function(heading, None, close), number, rest))
+    } else {
+        let (body, number, rest) = function_body(alloc, words, number, tokens)?;
+        let function = make_function(heading, Some(body.block), body.close);
+        Ok((function, number, rest))
+    }
+}
+
+/// The type of a result.
+fn pointers(alloc: Global, base: BaseType, stars: Stars) -> Result<CType, AllocError>
+    ensures { IfOk result (λ t. plain_type t ≡ pointers stars.count (plain_base base)) }
+{
+    declared_type(alloc, base, stars, SmallVec::new(alloc))
+}
+
+/// A function or a prototype, after its stars and its name at this place.
+#[tactic(auto, unfolding(crate::specs::Reading::function_behind))]
+pub fn function_behind<'a>(
+    alloc: Global,
+    words: &[Word],
+    base: BaseType,
+    stars: Stars,
+    name: u32,
+    place: Place,
+    number: u32,
+    tokens: &'a [Token],
+) -> Result<(Func, u32, &'a [Token]), ReadFault>
+    ensures { Gives (λ x. ((plain_func x.0, x.1), plain_list x.2.now)) result
+        ((function_behind words.now (plain_base base) stars (name, place) number).parse (plain_list tokens.now)) }
+{
+    let (_, rest) = skip(words, LEFT_PAREN, tokens)?;
+    let (params, rest) = parameters(alloc, words, rest)?;
+    let result = pointers(alloc, base, stars)?;
+    let heading = Heading {
+        result,
+        name,
+        place,
+        params,
+    };
+    function_rest(alloc, words, heading, number, rest)
+}
