@@ -1,23 +1,29 @@
--- Declarations that are read have names of C and initialisers, their numbers ascend, and a function has its limit of them.
-use Rattle.std.proofs.Common.{◌≡◌, ℕ, suc, ◌+◌, ◌<◌, ◌≤◌, Bool, true, false, cond, eqb, ltb, List, [], ◌∷◌, ◌++◌, length, length-append, map, Some, None, refl, sym, ap, subst, arith}
-use Rattle.std.proofs.lemmas.Bool.{eqb-true, ltb-true}
+-- Declarations that are read have names of C, their initialisers are expressions and calls, and their numbers ascend.
+use Rattle.std.proofs.Common.{◌≡◌, ℕ, zero, suc, ◌<◌, ◌≤◌, Bool, true, false, cond, eqb, List, [], ◌∷◌, ◌++◌, map, Option, Some, None, refl, sym, ap, subst, arith}
+use Rattle.std.specs.Prelude.{slice_set}
+use Rattle.std.proofs.lemmas.Bool.{eqb-true}
 use Rattle.std.proofs.lemmas.List.{map-append}
 use Rattle.std.specs.List.{AllByRecursion}
+use Rattle.grammar.specs.Syntax.{Syntax, none}
 use Rattle.c_syntax.specs.declared.place.Place.{Place}
 use Rattle.c_syntax.specs.Ctypes.{PlainType}
-use Rattle.c_syntax.specs.Expressions.{Expression}
-use Rattle.c_syntax.specs.Statements.{Declaration, First, BlockItem}
+use Rattle.c_syntax.specs.Statements.{Initialiser, Declaration, First, BlockItem}
 use Rattle.c_syntax.specs.Tokens as token
 use Rattle.c_syntax.specs.Tokens.{PlainTokenKind, PlainToken}
+use Rattle.c_model.specs.declared.declarations.Named.TheVariants as named
+use Rattle.c_model.specs.declared.vocabulary.TypeName.TheVariants.{Declared}
+use Rattle.c_model.specs.declared.vocabulary.Word.TheVariants as word
 use Rattle.c_model.specs.Vocabulary.{Vocabulary, word_at}
-use Rattle.c_model.specs.Punctuators.{assign, comma, semicolon}
-use Rattle.c_model.specs.ExpressionGrammar.{name_kind, word_kind, mark_kind, kind, name_of, name, mark, type_words}
-use Rattle.c_model.specs.ProgramGrammar.{Counts, initialised, declared_name, declarator, next_declarator, declaration}
+use Rattle.c_model.specs.Punctuators.{assign, comma, semicolon, left_brace}
+use Rattle.c_model.specs.ExpressionGrammar.{name_kind, word_kind, mark_kind, kind, name_of, name, mark, type_words, star_words}
+use Rattle.c_model.specs.DeclarationGrammar.{Declarator, declared_by, ended, listed, lengths, dtor, full_dtor, item_of_list, first_item_of_list, list_of, list_in, initialiser}
+use Rattle.c_model.specs.DeclarationGrammar.{initialised, declared_once, next_declared, more_declared, declared_list, declaration}
+use Rattle.c_model.specs.ExpressionGrammar.{most_nested}
 use Rattle.c_model.specs.Formed.{depth_of_item, declared_in_item, number_of}
-use Rattle.c_reader.proofs.ReadForms.{AreInitialised, FirstRead, ItemRead}
+use Rattle.c_reader.proofs.ReadForms.{IsInitialiser, AreInitialised, FirstRead, ItemRead}
 use Rattle.c_reader.proofs.FormedExpressions.{IsLexedKind, full_value_each}
 use Rattle.c_reader.proofs.FormedTerms.{placed_is, placed_at}
-use Rattle.c_reader.proofs.Placed.{From, from_none, from_more, from_gives, from_one, from_then, from_cond, from_any, from_each, from_many, Between, between_lower, between_joined}
+use Rattle.c_reader.proofs.Placed.{From, from_gives, from_one, from_then, from_choice, from_at_most, from_deep, from_any, from_each, from_many, Between, between_lower, between_joined}
 
 pub all_joined : {A : Type 0} (P : A → Type 0) (xs ys : List A) → AllByRecursion P xs → AllByRecursion P ys → AllByRecursion P (xs ++ ys)
 all_joined P [] ys h g = g
@@ -27,29 +33,32 @@ initialised_joined : (ds es : List Declaration) → AreInitialised ds → AreIni
 initialised_joined [] es h g = g
 initialised_joined (d ∷ ds) es h g = (h.0, initialised_joined ds es h.1 g)
 
-module _ (size : ℕ) (ws : Vocabulary) where
+-- a name of the later vocabulary is one of the earlier
+abbrev pub IsLater : Vocabulary → Vocabulary → Type 0
+IsLater old ws = (n : ℕ) → word_kind (word_at ws n) ≡ name_kind → word_kind (word_at old n) ≡ name_kind
+
+-- a name of a type is no name
+set_name : (ws : Vocabulary) (m n : ℕ) → word_kind (word_at (slice_set ws m (word.TypeName Declared)) n) ≡ name_kind → word_kind (word_at ws n) ≡ name_kind
+set_name [] m n e = e
+set_name (w ∷ ws) zero zero e = absurd cc
+set_name (w ∷ ws) zero (suc n) e = e
+set_name (w ∷ ws) (suc m) zero e = e
+set_name (w ∷ ws) (suc m) (suc n) e = set_name ws m n e
+
+pub later_typedef : (old ws : Vocabulary) (m : ℕ) → IsLater old ws → IsLater old (slice_set ws m (word.TypeName Declared))
+later_typedef old ws m h n e = h n (set_name ws m n e)
+
+pub between_higher : (l m n : ℕ) (is : List ℕ) → m ≤ n → Between l is m → Between l is n
+between_higher l m n [] le h = omega (arith, le, h)
+between_higher l m n (i ∷ is) le h = (h.0, between_higher (suc i) m n is le h.1)
+
+module _ (size : ℕ) (old : Vocabulary) where
   -- ---- names
 
   -- the number of a name that a text may declare
   pub record IsNewName (n : ℕ) : Type 0 where
     pub there : n < size
-    pub kind : word_kind (word_at ws n) ≡ name_kind
-
-  is_name : (t : PlainTokenKind) (n : ℕ) → name_of ws t ≡ Some n → (t ≡ token.Word n) × (word_kind (word_at ws n) ≡ name_kind)
-  is_name (token.Word m) n e = by (eqb (word_kind (word_at ws m)) name_kind) refl e
-    where
-      by : (b : Bool) → eqb (word_kind (word_at ws m)) name_kind ≡ b → cond b (Some m) None ≡ Some n → (token.Word m ≡ token.Word n) × (word_kind (word_at ws n) ≡ name_kind)
-      by true is e =
-          let same : m ≡ n = cc in
-          (ap token.Word same, subst (λ k. word_kind (word_at ws k) ≡ name_kind) same (eqb-true (word_kind (word_at ws m)) name_kind is))
-      by false is e = absurd cc
-  is_name (token.Number y c) n e = absurd cc
-  is_name (token.Letter y) n e = absurd cc
-  is_name (token.Chars bytes) n e = absurd cc
-  is_name (token.Mark m) n e = absurd cc
-  is_name token.AnnotOpen n e = absurd cc
-  is_name token.AnnotClose n e = absurd cc
-  is_name (token.Head k m) n e = absurd cc
+    pub kind : word_kind (word_at old n) ≡ name_kind
 
   -- such a name with its place, from the offset l on and before the offset n
   pub record IsNameWithin (l n : ℕ) (x : ℕ × Place) : Type 0 where
@@ -57,84 +66,140 @@ module _ (size : ℕ) (ws : Vocabulary) where
     pub from : l ≤ x.1.offset
     pub to : x.1.offset < n
 
-  pub name_from : (l : ℕ) → From size l (name ws) (IsNameWithin l)
-  name_from l = from_one _ (λ t x h le e.
-      let i = is_name t.kind x.0 (placed_is (name_of ws) t x e) in
-      let at : t.place.offset ≡ x.1.offset = ap (λ (p : Place). p.offset) (placed_at (name_of ws) t x e) in
-      record { new = record { there = subst (IsLexedKind size) i.0 h; kind = i.1 }; from = omega (arith, le, at); to = omega (arith, at) })
+  pub name_wider : (k l m n : ℕ) (x : ℕ × Place) → k ≤ l → m ≤ n → IsNameWithin l m x → IsNameWithin k n x
+  name_wider k l m n x le lf p = record { new = p.new; from = omega (arith, le, p.from); to = omega (arith, lf, p.to) }
 
   -- ---- what is declared
 
-  -- declarations with new names, whose numbers ascend from the offset l on and before the offset n; with those before, b of c declarators
-  -- of a function
-  pub record Declares (l c : ℕ) (ds : List Declaration) (n b : ℕ) : Type 0 where
+  -- declarations with new names, whose numbers ascend from the offset l on and before the offset n
+  pub record Declares (l : ℕ) (ds : List Declaration) (n : ℕ) : Type 0 where
     pub names : AllByRecursion (λ (d : Declaration). IsNewName d.name) ds
     pub numbers : Between l (map number_of ds) n
-    pub count : b ≡ c + length ds
-    pub few : c ≤ 1000 → b ≤ 1000
 
-  pub declares_none : (l c n : ℕ) → l ≤ n → Declares l c [] n c
-  declares_none l c n le = record { names = tt; numbers = le; count = omega arith; few = λ h. h }
+  pub declares_none : (l n : ℕ) → l ≤ n → Declares l [] n
+  declares_none l n le = record { names = tt; numbers = le }
 
-  pub declares_one : (l c n : ℕ) (t : PlainType) (x : ℕ × Place) (equals : Place) (e : Expression) → IsNameWithin l n x → c < 1000 → Declares l c (initialised t x equals e ∷ []) n (c + 1)
-  declares_one l c n t x equals e p lt = record { names = (p.new, tt); numbers = (p.from, p.to); count = omega arith; few = λ h. omega (arith, lt) }
-
-  pub declares_joined : (l c m b n a : ℕ) (ds es : List Declaration) → Declares l c ds m b → Declares m b es n a → Declares l c (ds ++ es) n a
-  declares_joined l c m b n a ds es p q = record {
+  pub declares_joined : (l m n : ℕ) (ds es : List Declaration) → Declares l ds m → Declares m es n → Declares l (ds ++ es) n
+  declares_joined l m n ds es p q = record {
     names = all_joined (λ (d : Declaration). IsNewName d.name) ds es p.names q.names;
     numbers = subst (λ is. Between l is n) (sym (map-append number_of ds es)) (between_joined l m n (map number_of ds) (map number_of es) p.numbers q.numbers);
-    count = omega (arith, p.count, q.count, length-append ds es);
-    few = λ h. q.few (p.few h);
   }
 
-  pub declares_lower : (k l c n b : ℕ) (ds : List Declaration) → k ≤ l → Declares l c ds n b → Declares k c ds n b
-  declares_lower k l c n b ds le p = record { names = p.names; numbers = between_lower k l (map number_of ds) n le p.numbers; count = p.count; few = p.few }
+  pub declares_lower : (k l n : ℕ) (ds : List Declaration) → k ≤ l → Declares l ds n → Declares k ds n
+  declares_lower k l n ds le p = record { names = p.names; numbers = between_lower k l (map number_of ds) n le p.numbers }
 
-  pub between_higher : (l m n : ℕ) (is : List ℕ) → m ≤ n → Between l is m → Between l is n
-  between_higher l m n [] le h = omega (arith, le, h)
-  between_higher l m n (i ∷ is) le h = (h.0, between_higher (suc i) m n is le h.1)
-
-  pub declares_higher : (l c m n b : ℕ) (ds : List Declaration) → m ≤ n → Declares l c ds m b → Declares l c ds n b
-  declares_higher l c m n b ds le p = record { names = p.names; numbers = between_higher l m n (map number_of ds) le p.numbers; count = p.count; few = p.few }
-
-  -- ---- declarators
+  pub declares_higher : (l m n : ℕ) (ds : List Declaration) → m ≤ n → Declares l ds m → Declares l ds n
+  declares_higher l m n ds le p = record { names = p.names; numbers = between_higher l m n (map number_of ds) le p.numbers }
 
   -- the declarators of a declaration, with their initialisers
-  pub record AreDeclarators (l c n : ℕ) (x : List Declaration × Counts) : Type 0 where
-    pub declares : Declares l c x.0 n x.1.declarators
-    pub initialised : AreInitialised x.0
+  pub record AreDeclarators (l n : ℕ) (ds : List Declaration) : Type 0 where
+    pub declares : Declares l ds n
+    pub initialised : AreInitialised ds
 
-  -- a name where fewer are declared
-  new_name : (l : ℕ) (c : Counts) → From size l (declared_name ws c) (λ n x. IsNameWithin l n x × (c.declarators < 1000))
-  unfolding declared_name
-  new_name l c = from_cond (ltb c.declarators 1000) (λ e. from_more (λ n x p. (p, ltb-true c.declarators 1000 e)) (name_from l)) (λ _. from_none)
+  declarators_joined : (l m n : ℕ) (ds es : List Declaration) → AreDeclarators l m ds → AreDeclarators m n es → AreDeclarators l n (ds ++ es)
+  declarators_joined l m n ds es p q = record { declares = declares_joined l m n ds es p.declares q.declares; initialised = initialised_joined ds es p.initialised q.initialised }
 
-  declarator_from : (l c : ℕ) (t : PlainType) (m : ℕ) (x : List Declaration × Counts) → AreDeclarators l c m x → From size m (declarator ws t x) (AreDeclarators l c)
-  unfolding declarator
-  declarator_from l c t m x h =
-      from_then (new_name m x.1) (λ i y p. from_then (from_any (mark ws assign)) (λ j equals le. from_then (from_each (full_value_each size ws)) (λ k e q. from_gives _ (
-      let one = declares_one m x.1.declarators i t y equals e p.0 p.1 in
-      let here = declares_higher m x.1.declarators i k (x.1.declarators + 1) (initialised t y equals e ∷ []) (omega (arith, le, q.1)) one in
-      record {
-        declares = declares_joined l c m x.1.declarators k (x.1.declarators + 1) x.0 (initialised t y equals e ∷ []) h.declares here;
-        initialised = initialised_joined x.0 (initialised t y equals e ∷ []) h.initialised (q.2, tt);
-      }))))
+  declarators_higher : (l m n : ℕ) (ds : List Declaration) → m ≤ n → AreDeclarators l m ds → AreDeclarators l n ds
+  declarators_higher l m n ds le p = record { declares = declares_higher l m n ds le p.declares; initialised = p.initialised }
 
-  next_from : (l c : ℕ) (t : PlainType) (m : ℕ) (x : List Declaration × Counts) → AreDeclarators l c m x → From size m (next_declarator ws t x) (AreDeclarators l c)
-  unfolding next_declarator
-  next_from l c t m x h =
-      from_then (from_any (mark ws comma)) (λ k _ le. declarator_from l c t k x (record { declares = declares_higher l c m k x.1.declarators x.0 le h.declares; initialised = h.initialised }))
+  one_declarator : (l n : ℕ) (t : PlainType) (d : Declarator) (i : Option (Place × Initialiser)) → IsNameWithin l n (d.name, d.place) → AreInitialised (declared_by t d i ∷ []) → AreDeclarators l n (declared_by t d i ∷ [])
+  one_declarator l n t d i p q = record { declares = record { names = (p.new, tt); numbers = (p.from, p.to) }; initialised = q }
 
   -- a declaration, as an item or at the head of a `for`
-  pub record IsDeclaration (l c n : ℕ) (x : BlockItem × Counts) : Type 0 where
-    pub is : ItemRead x.0
-    pub first : FirstRead (First x.0)
-    pub flat : depth_of_item x.0 ≡ 0
-    pub declares : Declares l c (declared_in_item x.0) n x.1.declarators
+  pub record IsDeclaration (l n : ℕ) (i : BlockItem) : Type 0 where
+    pub is : ItemRead i
+    pub first : FirstRead (First i)
+    pub flat : depth_of_item i ≡ 0
+    pub declares : Declares l (declared_in_item i) n
 
-  pub declaration_from : (l : ℕ) (c : Counts) → From size l (declaration ws c) (IsDeclaration l c.declarators)
-  unfolding declaration
-  declaration_from l c =
-      from_then (from_any (type_words ws)) (λ m t le. from_then (declarator_from l c.declarators t m ([], c) (record { declares = declares_none l c.declarators m le; initialised = tt })) (λ i x h.
-      from_then (from_many (kind ws) (λ _. mark_kind comma ∷ []) {P = AreDeclarators l c.declarators} (λ j y q. next_from l c.declarators t j y q) i x h) (λ j y q.
-      from_then (from_any (mark ws semicolon)) (λ k _ le. from_gives _ (record { is = q.initialised; first = q.initialised; flat = refl; declares = declares_higher l c.declarators j k y.1.declarators y.0 le q.declares })))))
+  -- ---- productions, where what the words are comes later
+
+  module _ (ws : Vocabulary) (later : IsLater old ws) where
+    is_name : (t : PlainTokenKind) (n : ℕ) → name_of ws t ≡ Some n → (t ≡ token.Word n) × (word_kind (word_at ws n) ≡ name_kind)
+    is_name (token.Word m) n e = by (eqb (word_kind (word_at ws m)) name_kind) refl e
+      where
+        by : (b : Bool) → eqb (word_kind (word_at ws m)) name_kind ≡ b → cond b (Some m) None ≡ Some n → (token.Word m ≡ token.Word n) × (word_kind (word_at ws n) ≡ name_kind)
+        by true is e =
+            let same : m ≡ n = cc in
+            (ap token.Word same, subst (λ k. word_kind (word_at ws k) ≡ name_kind) same (eqb-true (word_kind (word_at ws m)) name_kind is))
+        by false is e = absurd cc
+    is_name (token.Number y c) n e = absurd cc
+    is_name (token.Letter y) n e = absurd cc
+    is_name (token.Chars bytes) n e = absurd cc
+    is_name (token.Mark m) n e = absurd cc
+    is_name token.AnnotOpen n e = absurd cc
+    is_name token.AnnotClose n e = absurd cc
+    is_name (token.Head k m) n e = absurd cc
+
+    pub name_from : (l : ℕ) → From size l (name ws) (IsNameWithin l)
+    name_from l = from_one _ (λ t x h le e.
+        let i = is_name t.kind x.0 (placed_is (name_of ws) t x e) in
+        let at : t.place.offset ≡ x.1.offset = ap (λ (p : Place). p.offset) (placed_at (name_of ws) t x e) in
+        record { new = record { there = subst (IsLexedKind size) i.0 h; kind = later x.0 i.1 }; from = omega (arith, le, at); to = omega (arith, at) })
+
+    pub ended_from : {l : ℕ} {A : Type 0} (P : ℕ → A → Type 0) (x : A) → ((n : ℕ) → l ≤ n → P n x) → From size l (ended ws x) P
+    unfolding ended
+    ended_from P x p = from_then (from_any (mark ws semicolon)) (λ n _ le. from_gives x (p n le))
+
+    -- ---- declarators
+
+    pub dtor_from : (l : ℕ) → From size l (full_dtor ws named.Ordinary) (λ n d. IsNameWithin l n (d.name, d.place))
+    unfolding full_dtor dtor
+    dtor_from l = from_at_most (from_then (from_any (star_words ws)) (λ m _ le. from_then (name_from m) (λ i x p. from_then (from_any (lengths ws)) (λ n _ lf.
+        from_gives _ (name_wider l m i n x le lf p)))))
+
+    -- ---- initialisers
+
+    IsInitialiserAt : ℕ → ℕ → Initialiser → Type 0
+    IsInitialiserAt l n i = (l ≤ n) × ((at : Place) → IsInitialiser (Some (at, i)))
+
+    list_of_from : (l : ℕ) (L : Syntax PlainToken Initialiser) → From size l (list_of ws L) (IsInitialiserAt l)
+    unfolding list_of IsInitialiserAt
+    list_of_from l L = from_then (from_any (mark ws left_brace)) (λ m at le. from_then (from_any (listed ws first_item_of_list (item_of_list ws L))) (λ n is lf. from_gives _ (omega (arith, le, lf), λ _. tt)))
+
+    list_from : (d l : ℕ) → From size l (list_in ws d) (IsInitialiserAt l)
+    unfolding list_in
+    list_from zero l = from_deep (kind ws) (mark_kind left_brace ∷ []) (list_of_from l none)
+    list_from (suc d) l = list_of_from l (list_in ws d)
+
+    initialiser_from : (l : ℕ) → From size l (initialiser ws) (IsInitialiserAt l)
+    unfolding initialiser IsInitialiserAt
+    initialiser_from l =
+        from_choice (kind ws) (mark_kind left_brace ∷ []) (list_from most_nested l)
+        (from_then (from_each (full_value_each size ws)) (λ n e p. from_gives _ (p.1, λ _. p.2)))
+
+    initialised_from : (t : PlainType) (d : Declarator) (l m : ℕ) → IsNameWithin l m (d.name, d.place) → From size m (initialised ws t d) (λ n x. AreDeclarators l n (x ∷ []))
+    unfolding initialised IsInitialiserAt
+    initialised_from t d l m p =
+        from_choice (kind ws) (mark_kind assign ∷ [])
+        (from_then (from_any (mark ws assign)) (λ j at le. from_then (initialiser_from j) (λ n i q.
+        from_gives _ (one_declarator l n t d (Some (at, i)) (name_wider l l m n (d.name, d.place) (omega arith) (omega (arith, le, q.0)) p) (q.1 at, tt)))))
+        (from_gives _ (one_declarator l m t d None p (tt, tt)))
+
+    -- ---- declarations
+
+    once_from : (t : PlainType) (l m : ℕ) (ds : List Declaration) → AreDeclarators l m ds → From size m (declared_once ws t ds) (AreDeclarators l)
+    unfolding declared_once
+    once_from t l m ds h = from_then (dtor_from m) (λ i d p. from_then (initialised_from t d m i p) (λ n x q. from_gives _ (declarators_joined l m n ds (x ∷ []) h q)))
+
+    next_from : (t : PlainType) (l m : ℕ) (ds : List Declaration) → AreDeclarators l m ds → From size m (next_declared ws t ds) (AreDeclarators l)
+    unfolding next_declared
+    next_from t l m ds h = from_then (from_any (mark ws comma)) (λ k _ le. once_from t l k ds (declarators_higher l m k ds le h))
+
+    more_from : (t : PlainType) (l m : ℕ) (ds : List Declaration) → AreDeclarators l m ds → From size m (more_declared ws t ds) (AreDeclarators l)
+    unfolding more_declared
+    more_from t l m ds h =
+        from_then (from_many (kind ws) (λ _. mark_kind comma ∷ []) {P = AreDeclarators l} (λ j es q. next_from t l j es q) m ds h) (λ j es q.
+        ended_from (AreDeclarators l) es (λ n le. declarators_higher l j n es le q))
+
+    list_declared_from : (t : PlainType) (l : ℕ) → From size l (declared_list ws t) (AreDeclarators l)
+    unfolding declared_list
+    list_declared_from t l =
+        from_choice (kind ws) (mark_kind semicolon ∷ [])
+        (ended_from (AreDeclarators l) [] (λ n le. record { declares = declares_none l n le; initialised = tt }))
+        (from_then (once_from t l l [] (record { declares = declares_none l l (omega arith); initialised = tt })) (λ j ds h. more_from t l j ds h))
+
+    pub declaration_from : (l : ℕ) → From size l (declaration ws) (IsDeclaration l)
+    unfolding declaration
+    declaration_from l = from_then (from_any (type_words ws)) (λ m t le. from_then (list_declared_from t m) (λ n ds h.
+        from_gives _ (record { is = h.initialised; first = h.initialised; flat = refl; declares = declares_lower l m n ds le h.declares })))

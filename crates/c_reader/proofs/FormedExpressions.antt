@@ -1,6 +1,6 @@
 -- Expressions, effects and calls that are read have effects and calls only where they may stand, and no more forms than tokens.
 use Rattle.std.proofs.Common.{◌≡◌, ℕ, zero, suc, ◌+◌, ◌<◌, ◌≤◌, pos, ◌≤ℤ◌, List, [], ◌∷◌, ◌++◌, Option, Some, None, refl, subst, arith}
-use Rattle.grammar.specs.Syntax.{Syntax, one}
+use Rattle.grammar.specs.Syntax.{Syntax, one, ◌then◌}
 use Rattle.grammar.proofs.Readings.{EachOf, each_more, each_gives, each_one, each_then, each_choice, each_at_most, each_many, each_knot}
 use Rattle.c_syntax.specs.declared.place.Place.{Place}
 use Rattle.c_syntax.specs.Expressions.{Expression, Node, Number, Letter, Variable, Unary, Binary, Both, Either, Choice, Assign, Bump, Call, Cast, SizeOfType, SizeOfExpr, Text, Index, Dot, Arrow, Comma}
@@ -15,13 +15,14 @@ use Rattle.c_model.specs.declared.operands.Connective.{Connective}
 use Rattle.c_model.specs.declared.operands.Connective.TheVariants.{Operator, And, Or}
 use Rattle.c_model.specs.declared.vocabulary.Keyword.TheVariants as keyword
 use Rattle.c_model.specs.Vocabulary.{Vocabulary}
-use Rattle.c_model.specs.Punctuators.{question, colon, comma, left_paren, right_paren}
+use Rattle.c_model.specs.Punctuators.{question, colon, comma, left_paren, right_paren, left_bracket, right_bracket, dot, arrow}
 use Rattle.c_model.specs.ExpressionGrammar.{name_kind, number_kind, keyword_kind, mark_kind, kind, unary_operators, operators_at, levels, assignment_operators, prefix_bumps, postfix_bumps, kinds_of, first_type, first_expression, read_as, kind_of}
-use Rattle.c_model.specs.ExpressionGrammar.{joined, expressions, ReadOperand, size_of_operand, fixed, name, type_words, Operand, closed, literal, cast_rest, sized_type, paren_rest, behind_paren, prefixed, sized, operand_but_name, operand_of, operand}
-use Rattle.c_model.specs.ExpressionGrammar.{joined_once, behind_operand, choice_rest, expression_rest, expression_of, expression, behind_name_or_callee, expression_or_call, assigned_value, assigned, bumped, behind_unary, behind_primary, behind_form}
+use Rattle.c_model.specs.ExpressionGrammar.{letter_kind, first_postfix, any_name, type_name, indexed, dotted, arrowed, postfix_once, postfixes, postfix_rest, literal_first, read_name}
+use Rattle.c_model.specs.ExpressionGrammar.{joined, expressions, ReadOperand, size_of_operand, fixed, name, Operand, closed, literal, cast_rest, sized_type, paren_rest, behind_paren, prefixed, sized, operand_but_name, operand_of, operand}
+use Rattle.c_model.specs.ExpressionGrammar.{joined_once, behind_operand, choice_rest, expression_rest, expression_of, expression, behind_name_or_callee, expression_or_call, assigned_value, assigned, bumped, behind_unary, behind_postfix, behind_form}
 use Rattle.c_model.specs.ExpressionGrammar.{effect_rest, bump_first, effect_but_name, effect, next_argument, arguments, call_rest, behind_name, effect_or_call, full_expression, full_expression_or_call, full_effect, full_effect_or_call}
-use Rattle.c_model.specs.Formed.{IsPure, ArePure, nodes_of, nodes_of_all, IsFull, most_read}
-use Rattle.c_reader.proofs.ReadForms.{IsPureOrCall, IsEffect, IsEffectOrCall, IsFullOrCall, IsFullEffect, IsFullEffectOrCall}
+use Rattle.c_model.specs.Formed.{nodes_of, nodes_of_all}
+use Rattle.c_reader.proofs.ReadExpressions.{IsPure, ArePure, IsPureOrCall, IsEffect, IsEffectOrCall, IsFull, IsFullOrCall, IsFullEffect, IsFullEffectOrCall}
 
 -- ---- tokens
 
@@ -69,18 +70,18 @@ part_at at k (Node x t (Call f es)) p = absurd p.is
 part_at at k (Node x t (Cast to a)) p = record { is = p.is; small = p.small }
 part_at at k (Node x t (SizeOfType u)) p = record { is = tt; small = p.small }
 part_at at k (Node x t (SizeOfExpr a)) p = record { is = p.is; small = p.small }
-part_at at k (Node x t (Text n)) p = absurd p.is
-part_at at k (Node x t (Index a b)) p = absurd p.is
-part_at at k (Node x t (Dot a m)) p = absurd p.is
-part_at at k (Node x t (Arrow a m)) p = absurd p.is
+part_at at k (Node x t (Text n)) p = record { is = tt; small = p.small }
+part_at at k (Node x t (Index a b)) p = record { is = p.is; small = p.small }
+part_at at k (Node x t (Dot a m)) p = record { is = p.is; small = p.small }
+part_at at k (Node x t (Arrow a m)) p = record { is = p.is; small = p.small }
 part_at at k (Node x t (Comma a b)) p = absurd p.is
 
 sized_part : (at : Place) (k : ℕ) (x : ReadOperand) → IsPart k x.expression → IsPart (suc k) (read_as at (size_of_operand x))
 sized_part at k x p = by x.form refl
   where
-    by : (f : Form) → x.form ≡ f → IsPart (suc k) (read_as at (elim f [ form.TypeName ↦ kind_of x.expression | form.Primary ↦ SizeOfExpr x.expression | form.Unary ↦ SizeOfExpr x.expression | form.Cast ↦ SizeOfExpr x.expression ]))
+    by : (f : Form) → x.form ≡ f → IsPart (suc k) (read_as at (elim f [ form.TypeName ↦ kind_of x.expression | form.Postfix ↦ SizeOfExpr x.expression | form.Unary ↦ SizeOfExpr x.expression | form.Cast ↦ SizeOfExpr x.expression ]))
     by form.TypeName e = part_more k (suc k) _ (omega arith) (part_at at k x.expression p)
-    by form.Primary e = record { is = p.is; small = omega (arith, p.small) }
+    by form.Postfix e = record { is = p.is; small = omega (arith, p.small) }
     by form.Unary e = record { is = p.is; small = omega (arith, p.small) }
     by form.Cast e = record { is = p.is; small = omega (arith, p.small) }
 
@@ -117,10 +118,10 @@ part_value k (Node x t (Call f es)) p = absurd p.is
 part_value k (Node x t (Cast to a)) p = record { is = p.is; small = p.small }
 part_value k (Node x t (SizeOfType u)) p = record { is = tt; small = p.small }
 part_value k (Node x t (SizeOfExpr a)) p = record { is = p.is; small = p.small }
-part_value k (Node x t (Text n)) p = absurd p.is
-part_value k (Node x t (Index a b)) p = absurd p.is
-part_value k (Node x t (Dot a m)) p = absurd p.is
-part_value k (Node x t (Arrow a m)) p = absurd p.is
+part_value k (Node x t (Text n)) p = record { is = tt; small = p.small }
+part_value k (Node x t (Index a b)) p = record { is = p.is; small = p.small }
+part_value k (Node x t (Dot a m)) p = record { is = p.is; small = p.small }
+part_value k (Node x t (Arrow a m)) p = record { is = p.is; small = p.small }
 part_value k (Node x t (Comma a b)) p = absurd p.is
 
 part_effect : (k : ℕ) (e : Expression) → IsPart k e → IsEffectPart k e
@@ -138,10 +139,10 @@ part_effect k (Node x t (Call f es)) p = absurd p.is
 part_effect k (Node x t (Cast to a)) p = record { is = p.is; small = p.small }
 part_effect k (Node x t (SizeOfType u)) p = record { is = tt; small = p.small }
 part_effect k (Node x t (SizeOfExpr a)) p = record { is = p.is; small = p.small }
-part_effect k (Node x t (Text n)) p = absurd p.is
-part_effect k (Node x t (Index a b)) p = absurd p.is
-part_effect k (Node x t (Dot a m)) p = absurd p.is
-part_effect k (Node x t (Arrow a m)) p = absurd p.is
+part_effect k (Node x t (Text n)) p = record { is = tt; small = p.small }
+part_effect k (Node x t (Index a b)) p = record { is = p.is; small = p.small }
+part_effect k (Node x t (Dot a m)) p = record { is = p.is; small = p.small }
+part_effect k (Node x t (Arrow a m)) p = record { is = p.is; small = p.small }
 part_effect k (Node x t (Comma a b)) p = absurd p.is
 
 effect_call : (k : ℕ) (e : Expression) → IsEffectPart k e → IsCallPart k e
@@ -159,11 +160,14 @@ effect_call k (Node x t (Call f es)) p = absurd p.is
 effect_call k (Node x t (Cast to a)) p = record { is = p.is; small = p.small }
 effect_call k (Node x t (SizeOfType u)) p = record { is = tt; small = p.small }
 effect_call k (Node x t (SizeOfExpr a)) p = record { is = p.is; small = p.small }
-effect_call k (Node x t (Text n)) p = absurd p.is
-effect_call k (Node x t (Index a b)) p = absurd p.is
-effect_call k (Node x t (Dot a m)) p = absurd p.is
-effect_call k (Node x t (Arrow a m)) p = absurd p.is
+effect_call k (Node x t (Text n)) p = record { is = tt; small = p.small }
+effect_call k (Node x t (Index a b)) p = record { is = p.is; small = p.small }
+effect_call k (Node x t (Dot a m)) p = record { is = p.is; small = p.small }
+effect_call k (Node x t (Arrow a m)) p = record { is = p.is; small = p.small }
 effect_call k (Node x t (Comma a b)) p = absurd p.is
+
+effect_more : (k l : ℕ) (e : Expression) → k ≤ l → IsEffectPart k e → IsEffectPart l e
+effect_more k l e le p = record { is = p.is; small = omega (arith, p.small) }
 
 -- arguments
 record AreParts (k : ℕ) (es : List Expression) : Type 0 where
@@ -212,25 +216,59 @@ module _ (size : ℕ) (ws : Vocabulary) where
   abbrev Operands : ℕ → ReadOperand → Type 0
   Operands k x = IsPart k x.expression
 
-  literal_each : Each size (literal ws) Operands
+  literal_each : Each size (literal ws) IsPart
   unfolding literal
   literal_each =
       each_choice (kind ws) (number_kind ∷ [])
       (each_then (each_token _) (λ k n e. each_gives _ (record { is = tt; small = omega (arith, e) })))
+      (each_choice (kind ws) (letter_kind ∷ [])
       (each_then (each_token _) (λ k z e. each_gives _ (record { is = tt; small = omega (arith, e) })))
+      (each_then (each_token _) (λ k at e. each_gives _ (record { is = tt; small = omega (arith, e) }))))
+
+  module _ {E : Syntax PlainToken Expression} (e : Each size E IsPart) where
+    indexed_each : (k : ℕ) (x : Expression) → IsPart k x → Each size (indexed ws E x) (λ j y. IsPart (k + j) y)
+    unfolding indexed
+    indexed_each k x p = each_then (each_fixed (mark_kind left_bracket)) (λ i at h. each_then e (λ j y q. each_then (each_fixed (mark_kind right_bracket))
+        (λ m _ _. each_gives _ (record { is = (p.is, q.is); small = omega (arith, h, p.small, q.small) }))))
+
+    dotted_each : (k : ℕ) (x : Expression) → IsPart k x → Each size (dotted ws x) (λ j y. IsPart (k + j) y)
+    unfolding dotted
+    dotted_each k x p = each_then (each_fixed (mark_kind dot)) (λ i at h. each_then (each_any (any_name ws)) (λ j m _. each_gives _ (record { is = p.is; small = omega (arith, h, p.small) })))
+
+    arrowed_each : (k : ℕ) (x : Expression) → IsPart k x → Each size (arrowed ws x) (λ j y. IsPart (k + j) y)
+    unfolding arrowed
+    arrowed_each k x p = each_then (each_fixed (mark_kind arrow)) (λ i at h. each_then (each_any (any_name ws)) (λ j m _. each_gives _ (record { is = p.is; small = omega (arith, h, p.small) })))
+
+    postfix_once_each : (k : ℕ) (x : Expression) → IsPart k x → Each size (postfix_once ws E x) (λ j y. IsPart (k + j) y)
+    unfolding postfix_once
+    postfix_once_each k x p =
+        each_choice (kind ws) (mark_kind left_bracket ∷ []) (indexed_each k x p) (each_choice (kind ws) (mark_kind dot ∷ []) (dotted_each k x p) (arrowed_each k x p))
+
+    postfix_rest_each : (at : Place) (k : ℕ) (x : Expression) → IsPart k x → Each size (postfix_rest ws E at x) (λ j y. IsPart (k + j) y.expression)
+    unfolding postfix_rest postfixes
+    postfix_rest_each at k x p =
+        each_then (each_many (kind ws) (λ _. first_postfix) {P = IsPart} (λ i y q. postfix_once_each i y q) k x p)
+        (λ j y q. each_gives _ (part_more (k + j) (k + (j + 0)) y (omega arith) q))
+
+    variable_each : (k : ℕ) (x : ℕ × Place) → k ≡ 1 → Each size (postfix_rest ws E x.1 (read_name x)) (λ j y. IsPart (k + j) y.expression)
+    variable_each k x h = postfix_rest_each x.1 k (read_name x) (record { is = tt; small = omega (arith, h) })
+
+    literal_first_each : Each size (literal_first ws E) Operands
+    unfolding literal_first
+    literal_first_each = each_then literal_each (λ k x p. postfix_rest_each _ k x p)
 
   module _ {E : Syntax PlainToken Expression} {O : Operand ws} (e : Each size E IsPart) (o : (u : TypeUse) → Each size (O u) Operands) where
-    cast_each : (at : Place) → Each size (cast_rest ws O at) (λ k x. IsPart (suc k) x.expression)
+    cast_each : (at : Place) → Each size (cast_rest ws E O at) (λ k x. IsPart (suc k) x.expression)
     unfolding cast_rest
-    cast_each at = each_then (each_any (type_words ws)) (λ j t _. each_then (each_fixed (mark_kind right_paren)) (λ k _ _. each_then (o type_use.Casts) (λ l x p. each_gives _ (record { is = p.is; small = omega (arith, p.small) }))))
+    cast_each at = each_then (each_any (type_name ws E)) (λ j t _. each_then (each_fixed (mark_kind right_paren)) (λ k _ _. each_then (o type_use.Casts) (λ l x p. each_gives _ (record { is = p.is; small = omega (arith, p.small) }))))
 
-    sized_type_each : (at : Place) → Each size (sized_type ws at) (λ k x. IsPart (suc k) x.expression)
+    sized_type_each : (at : Place) → Each size (sized_type ws E at) (λ k x. IsPart (suc k) x.expression)
     unfolding sized_type
-    sized_type_each at = each_then (each_any (type_words ws)) (λ j t _. each_more (λ k x p. part_more 1 (suc (j + k)) x.expression (omega arith) p) (closed_each {P = λ k x. IsPart 1 x.expression} _ (record { is = tt; small = omega arith })))
+    sized_type_each at = each_then (each_any (type_name ws E)) (λ j t _. each_more (λ k x p. part_more 1 (suc (j + k)) x.expression (omega arith) p) (closed_each {P = λ k x. IsPart 1 x.expression} _ (record { is = tt; small = omega arith })))
 
     paren_rest_each : (at : Place) → Each size (paren_rest ws E at) (λ k x. IsPart k x.expression)
     unfolding paren_rest
-    paren_rest_each at = each_then e (λ j x p. closed_each _ (part_more j (j + 1) x (omega arith) p))
+    paren_rest_each at = each_then e (λ j x p. each_then (each_fixed (mark_kind right_paren)) (λ k _ _. each_more (λ l y q. part_more (j + l) (j + (k + l)) y.expression (omega arith) q) (postfix_rest_each e at j x p)))
 
     behind_paren_each : (u : TypeUse) (at : Place) → Each size (behind_paren ws E O u at) (λ k x. IsPart (suc k) x.expression)
     unfolding behind_paren
@@ -251,11 +289,11 @@ module _ (size : ℕ) (ws : Vocabulary) where
     operand_but_name_each u =
         each_choice (kind ws) (mark_kind left_paren ∷ []) (each_then (each_fixed (mark_kind left_paren)) (λ k at e. each_more (λ l x p. part_more (suc l) (k + l) x.expression (omega (arith, e)) p) (behind_paren_each u at)))
         (each_choice (kind ws) (kinds_of unary_operators) prefixed_each
-        (each_choice (kind ws) (keyword_kind keyword.Sizeof ∷ []) sized_each literal_each))
+        (each_choice (kind ws) (keyword_kind keyword.Sizeof ∷ []) sized_each (literal_first_each e)))
 
     operand_of_each : (u : TypeUse) → Each size (operand_of ws E O u) Operands
     unfolding operand_of
-    operand_of_each u = each_choice (kind ws) (name_kind ∷ []) (each_then each_name (λ k x e. each_gives _ (record { is = tt; small = omega (arith, e) }))) (operand_but_name_each u)
+    operand_of_each u = each_choice (kind ws) (name_kind ∷ []) (each_then each_name (λ k x h. variable_each e k x h)) (operand_but_name_each u)
 
   module _ {E : Syntax PlainToken Expression} (e : Each size E IsPart) where
     operand_each : (u : TypeUse) → Each size (operand ws E u) Operands
@@ -317,7 +355,8 @@ module _ (size : ℕ) (ws : Vocabulary) where
   unfolding behind_name_or_callee
   behind_callee_each k x h =
       each_choice (kind ws) (mark_kind left_paren ∷ []) (each_then (call_each x) (λ j c p. each_gives _ (record { is = p.value; small = omega (arith, p.small) })))
-      (each_more (λ j y p. part_value (k + j) y p) (expression_rest_each expression_each k _ (record { is = tt; small = omega (arith, h) })))
+      (each_then (variable_each expression_each k x h) (λ i y q.
+      each_more (λ j z w. part_value (k + (i + j)) z (part_more ((k + i) + j) (k + (i + j)) z (omega arith) w)) (expression_rest_each expression_each (k + i) y.expression q)))
 
   pub value_each : Each size (expression_or_call ws) IsValuePart
   unfolding expression_or_call
@@ -350,13 +389,13 @@ module _ (size : ℕ) (ws : Vocabulary) where
   unfolding behind_unary
   behind_unary_each k x p = each_choice (kind ws) (kinds_of assignment_operators) (assigned_each k x p) (rest_effect k x p)
 
-  behind_primary_each : (k : ℕ) (x : Expression) → IsPart k x → Each size (behind_primary ws x) (λ j y. IsEffectPart (k + j) y)
-  unfolding behind_primary
-  behind_primary_each k x p = each_choice (kind ws) (kinds_of postfix_bumps) (bumped_each k x p) (behind_unary_each k x p)
+  behind_postfix_each : (k : ℕ) (x : Expression) → IsPart k x → Each size (behind_postfix ws x) (λ j y. IsEffectPart (k + j) y)
+  unfolding behind_postfix
+  behind_postfix_each k x p = each_choice (kind ws) (kinds_of postfix_bumps) (bumped_each k x p) (behind_unary_each k x p)
 
   behind_form_each : (f : Form) (k : ℕ) (x : Expression) → IsPart k x → Each size (behind_form ws f x) (λ j y. IsEffectPart (k + j) y)
   unfolding behind_form
-  behind_form_each form.Primary k x p = behind_primary_each k x p
+  behind_form_each form.Postfix k x p = behind_postfix_each k x p
   behind_form_each form.Unary k x p = behind_unary_each k x p
   behind_form_each form.Cast k x p = rest_effect k x p
   behind_form_each form.TypeName k x p = rest_effect k x p
@@ -375,15 +414,20 @@ module _ (size : ℕ) (ws : Vocabulary) where
       each_choice (kind ws) (kinds_of prefix_bumps) bump_first_each
       (each_then (operand_but_name_each expression_each (operand_each expression_each) type_use.Casts) (λ k x p. effect_rest_each k x p))
 
+  -- an effect that begins with a name
+  variable_effect : (k : ℕ) (x : ℕ × Place) → k ≡ 1 → Each size (postfix_rest ws (expression ws) x.1 (read_name x) then effect_rest ws) (λ j y. IsEffectPart (k + j) y.0)
+  variable_effect k x h = each_then (variable_each expression_each k x h) (λ i y q.
+      each_more (λ j z w. effect_more ((k + i) + j) (k + (i + j)) z.0 (omega arith) w) (effect_rest_each (k + i) y q))
+
   pub effect_each : Each size (effect ws) Effects
   unfolding effect
-  effect_each = each_choice (kind ws) (name_kind ∷ []) (each_then each_name (λ k x h. effect_rest_each k _ (record { is = tt; small = omega (arith, h) }))) effect_but_name_each
+  effect_each = each_choice (kind ws) (name_kind ∷ []) (each_then each_name (λ k x h. variable_effect k x h)) effect_but_name_each
 
   behind_name_each : (k : ℕ) (x : ℕ × Place) → k ≡ 1 → Each size (behind_name ws x) (λ j y. IsCallPart (k + j) y.0)
   unfolding behind_name
   behind_name_each k x h =
       each_choice (kind ws) (mark_kind left_paren ∷ []) (each_more (λ j y p. record { is = p.effect; small = omega (arith, p.small) }) (call_each x))
-      (each_more (λ j y p. effect_call (k + j) y.0 p) (effect_rest_each k _ (record { is = tt; small = omega (arith, h) })))
+      (each_more (λ j y p. effect_call (k + j) y.0 p) (variable_effect k x h))
 
   effect_or_call_each : Each size (effect_or_call ws) (λ k x. IsCallPart k x.0)
   unfolding effect_or_call
@@ -391,7 +435,7 @@ module _ (size : ℕ) (ws : Vocabulary) where
 
   -- ---- expressions that stand in no other
 
-  pub full_each : Each size (full_expression ws) (λ k e. IsFull most_read e)
+  pub full_each : Each size (full_expression ws) (λ k e. IsFull e)
   unfolding full_expression
   full_each = each_more (λ k e p. record { is = p.0.is; small = omega (arith, p.0.small, p.1) }) (each_at_most expression_each)
 

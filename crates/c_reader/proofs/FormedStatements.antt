@@ -9,15 +9,16 @@ use Rattle.c_model.specs.declared.vocabulary.Keyword.TheVariants as keyword
 use Rattle.c_model.specs.Vocabulary.{Vocabulary}
 use Rattle.c_model.specs.Punctuators.{semicolon, left_paren, right_paren, left_brace, right_brace}
 use Rattle.c_model.specs.ExpressionGrammar.{annot_open_kind, annot_close_kind, keyword_kind, mark_kind, kind, first_type, first_expression, first_effect, fixed, mark, reserved, closed}
-use Rattle.c_model.specs.ProgramGrammar.{Counts, Counted, first_item, is_open, block_items, annotation, ended, condition, else_branch, else_part, selection, while_loop, do_loop, for_first, maybe_ended, returned, for_behind, for_loop, jump}
+use Rattle.c_model.specs.ProgramGrammar.{Numbered, first_item, is_open, block_items, annotation, condition, else_branch, else_part, selection, while_loop, do_loop, for_first, maybe_ended, returned, for_behind, for_loop, jump}
 use Rattle.c_model.specs.ProgramGrammar.{return_statement, item, items_once, items, block, empty_statement, effect_statement, statement_of, statement_in}
 use Rattle.c_model.specs.WellTypedPrograms.{WhereAny}
-use Rattle.c_model.specs.Formed.{IsFull, depth, depth_of_item, depth_of_items, declared_within, declared_in_first, declared_in_item, declared_in_items, most_read}
-use Rattle.c_reader.proofs.ReadForms.{IsFullOrCall, IsFullEffect, FirstRead, StatementRead, ItemRead, ItemsRead}
+use Rattle.c_model.specs.Formed.{depth, depth_of_item, depth_of_items, declared_within, declared_in_first, declared_in_item, declared_in_items}
+use Rattle.c_reader.proofs.ReadForms.{IsFull, IsFullOrCall, IsFullEffect, FirstRead, StatementRead, ItemRead, ItemsRead}
 use Rattle.c_reader.proofs.FormedExpressions.{full_each, full_value_each, full_effect_each, full_call_each}
+use Rattle.c_model.specs.DeclarationGrammar.{ended}
 use Rattle.c_reader.proofs.FormedTerms.{clause_each}
-use Rattle.c_reader.proofs.Placed.{From, from_none, from_more, from_gives, from_then, from_choice, from_cond, from_any, from_each, from_many}
-use Rattle.c_reader.proofs.FormedDeclarations.{Declares, declares_none, declares_joined, declares_lower, declares_higher, declaration_from}
+use Rattle.c_reader.proofs.Placed.{From, from_none, from_gives, from_then, from_choice, from_cond, from_any, from_each, from_many}
+use Rattle.c_reader.proofs.FormedDeclarations.{IsLater, Declares, declares_none, declares_joined, declares_lower, declares_higher, ended_from, declaration_from}
 
 -- ---- items in a list
 
@@ -42,208 +43,208 @@ declared_behind : (l : List BlockItem) (i : BlockItem) → declared_in_items (bl
 declared_behind [] i = append-nil (declared_in_item i)
 declared_behind (j ∷ l) i = ap (λ (w : List Declaration). declared_in_item j ++ w) (declared_behind l i) ∙ sym (append_assoc (declared_in_item j) (declared_in_items (block_items l)) (declared_in_item i))
 
-module _ (size : ℕ) (ws : Vocabulary) where
-  -- a statement d deep at most, after the offset l and c declarators of its function
-  pub record IsWithin (d l c n : ℕ) (x : Statement × Counts) : Type 0 where
+module _ (size : ℕ) (old : Vocabulary) where
+  -- a statement d deep at most, after the offset l
+  pub record IsWithin (d l n : ℕ) (x : Statement × ℕ) : Type 0 where
     pub is : StatementRead x.0
     pub deep : depth x.0 ≤ d
-    pub declares : Declares size ws l c (declared_within x.0) n x.1.declarators
+    pub declares : Declares size old l (declared_within x.0) n
 
-  pub record IsItemWithin (d l c n : ℕ) (x : BlockItem × Counts) : Type 0 where
+  pub record IsItemWithin (d l n : ℕ) (x : BlockItem × ℕ) : Type 0 where
     pub item : IsItem d x.0
-    pub declares : Declares size ws l c (declared_in_item x.0) n x.1.declarators
+    pub declares : Declares size old l (declared_in_item x.0) n
 
-  pub record AreItems (d l c n : ℕ) (x : List BlockItem × Counts) : Type 0 where
+  pub record AreItems (d l n : ℕ) (x : List BlockItem × ℕ) : Type 0 where
     pub are : AllByRecursion (IsItem d) x.0
-    pub declares : Declares size ws l c (declared_in_items (block_items x.0)) n x.1.declarators
-
-  -- ---- productions without statements in them
-
-  annotation_from : (d l : ℕ) (c : Counts) → From size l (annotation ws c) (IsItemWithin d l c.declarators)
-  unfolding annotation
-  annotation_from d l c =
-      from_then (from_any (fixed ws annot_open_kind)) (λ m _ le. from_then (from_each (each_at_most (clause_each size ws c.annotation))) (λ i a p.
-      from_then (from_any (fixed ws annot_close_kind)) (λ n _ lf. from_gives _ (record { item = record { is = (p.2.0 p.2.1, tt); deep = omega arith }; declares = declares_none size ws l c.declarators n (omega (arith, le, lf, p.1)) }))))
-
-  pub ended_from : {l : ℕ} {A : Type 0} (P : ℕ → A → Type 0) (x : A) → ((n : ℕ) → l ≤ n → P n x) → From size l (ended ws x) P
-  unfolding ended
-  ended_from P x p = from_then (from_any (mark ws semicolon)) (λ n _ le. from_gives x (p n le))
-
-  pub closed_from : {l : ℕ} {A : Type 0} (P : ℕ → A → Type 0) (x : A) → ((n : ℕ) → l ≤ n → P n x) → From size l (closed ws x) P
-  unfolding closed
-  closed_from P x p = from_then (from_any (mark ws right_paren)) (λ n _ le. from_gives x (p n le))
+    pub declares : Declares size old l (declared_in_items (block_items x.0)) n
 
   -- what declares nothing
   record IsAlone {A : Type 0} (P : A → Type 0) (l n : ℕ) (x : A) : Type 0 where
     is : P x
     on : l ≤ n
 
-  condition_from : (l : ℕ) → From size l (condition ws) (IsAlone (IsFull most_read) l)
-  unfolding condition
-  condition_from l = from_then (from_any (mark ws left_paren)) (λ m _ le. from_then (from_each (full_each size ws)) (λ i e p. closed_from (IsAlone (IsFull most_read) l) e (λ n lf. record { is = p.2; on = omega (arith, le, lf, p.1) })))
-
-  record IsFirst (l c n : ℕ) (x : ForFirst × Counts) : Type 0 where
+  record IsFirst (l n : ℕ) (x : ForFirst × ℕ) : Type 0 where
     is : FirstRead x.0
-    declares : Declares size ws l c (declared_in_first x.0) n x.1.declarators
+    declares : Declares size old l (declared_in_first x.0) n
 
-  for_first_from : (l : ℕ) (c : Counts) → From size l (for_first ws c) (IsFirst l c.declarators)
-  unfolding for_first
-  for_first_from l c =
-      from_choice (kind ws) first_type
-      (from_then (declaration_from size ws l c) (λ n x h. from_gives _ (record { is = h.first; declares = h.declares })))
-      (from_choice (kind ws) first_effect
-      (from_then (from_each (full_call_each size ws)) (λ i e p. ended_from (IsFirst l c.declarators) _ (λ n le. record { is = p.2; declares = declares_none size ws l c.declarators n (omega (arith, le, p.1)) })))
-      (ended_from (IsFirst l c.declarators) _ (λ n le. record { is = tt; declares = declares_none size ws l c.declarators n le })))
+  lower : (d k l n : ℕ) (x : Statement × ℕ) → k ≤ l → IsWithin d l n x → IsWithin d k n x
+  lower d k l n x le p = record { is = p.is; deep = p.deep; declares = declares_lower size old k l n (declared_within x.0) le p.declares }
 
-  maybe_from : (l : ℕ) → From size l (maybe_ended ws) (IsAlone (WhereAny (IsFull most_read)) l)
-  unfolding maybe_ended
-  maybe_from l =
-      let P = IsAlone (WhereAny (IsFull most_read)) l in
-      from_choice (kind ws) first_expression
-      (from_then (from_each (full_each size ws)) (λ i e p. ended_from P (Some e) (λ n le. record { is = p.2; on = omega (arith, le, p.1) })))
-      (ended_from P None (λ n le. record { is = tt; on = le }))
+  pub closed_from : (ws : Vocabulary) {l : ℕ} {A : Type 0} (P : ℕ → A → Type 0) (x : A) → ((n : ℕ) → l ≤ n → P n x) → From size l (closed ws x) P
+  unfolding closed
+  closed_from ws P x p = from_then (from_any (mark ws right_paren)) (λ n _ le. from_gives x (p n le))
 
-  returned_from : (l : ℕ) → From size l (returned ws) (IsAlone (WhereAny IsFullOrCall) l)
-  unfolding returned
-  returned_from l =
-      let P = IsAlone (WhereAny IsFullOrCall) l in
-      from_choice (kind ws) first_expression
-      (from_then (from_each (full_value_each size ws)) (λ i e p. ended_from P (Some e) (λ n le. record { is = p.2; on = omega (arith, le, p.1) })))
-      (ended_from P None (λ n le. record { is = tt; on = le }))
+  -- ---- productions without statements in them, where what the words are comes later
 
-  behind_from : (l : ℕ) → From size l (for_behind ws) (IsAlone (WhereAny IsFullEffect) l)
-  unfolding for_behind
-  behind_from l =
-      let P = IsAlone (WhereAny IsFullEffect) l in
-      from_choice (kind ws) first_effect
-      (from_then (from_each (full_effect_each size ws)) (λ i e p. closed_from P (Some e.0) (λ n le. record { is = p.2; on = omega (arith, le, p.1) })))
-      (closed_from P None (λ n le. record { is = tt; on = le }))
+  module _ (ws : Vocabulary) (later : IsLater old ws) where
+    end_from : {l : ℕ} {A : Type 0} (P : ℕ → A → Type 0) (x : A) → ((n : ℕ) → l ≤ n → P n x) → From size l (ended ws x) P
+    end_from P x p = ended_from size old ws later P x p
 
-  jump_from : (d l : ℕ) (c : Counts) → From size l (jump ws c) (IsWithin (suc d) l c.declarators)
-  unfolding jump
-  jump_from d l c =
-      let P = IsWithin (suc d) l c.declarators in
-      from_choice (kind ws) (keyword_kind keyword.Break ∷ [])
-      (from_then (from_any (reserved ws keyword.Break)) (λ m at le. ended_from P _ (λ n lf. record { is = tt; deep = omega arith; declares = declares_none size ws l c.declarators n (omega (arith, le, lf)) })))
-      (from_then (from_any (reserved ws keyword.Continue)) (λ m at le. ended_from P _ (λ n lf. record { is = tt; deep = omega arith; declares = declares_none size ws l c.declarators n (omega (arith, le, lf)) })))
+    annotation_from : (d l c : ℕ) → From size l (annotation ws c) (IsItemWithin d l)
+    unfolding annotation
+    annotation_from d l c =
+        from_then (from_any (fixed ws annot_open_kind)) (λ m _ le. from_then (from_each (each_at_most (clause_each size ws c))) (λ i a p.
+        from_then (from_any (fixed ws annot_close_kind)) (λ n _ lf. from_gives _ (record { item = record { is = (p.2.0 p.2.1, tt); deep = omega arith }; declares = declares_none size old l n (omega (arith, le, lf, p.1)) }))))
 
-  return_from : (d l : ℕ) (c : Counts) → From size l (return_statement ws c) (IsWithin (suc d) l c.declarators)
-  unfolding return_statement
-  return_from d l c = from_then (from_any (reserved ws keyword.Return)) (λ m at le. from_then (returned_from m)
-      (λ n e p. from_gives _ (record { is = p.is; deep = omega arith; declares = declares_none size ws l c.declarators n (omega (arith, le, p.on)) })))
+    condition_from : (l : ℕ) → From size l (condition ws) (IsAlone IsFull l)
+    unfolding condition
+    condition_from l = from_then (from_any (mark ws left_paren)) (λ m _ le. from_then (from_each (full_each size ws)) (λ i e p. closed_from ws (IsAlone IsFull l) e (λ n lf. record { is = p.2; on = omega (arith, le, lf, p.1) })))
 
-  empty_from : (d l : ℕ) (c : Counts) → From size l (empty_statement ws c) (IsWithin (suc d) l c.declarators)
-  unfolding empty_statement
-  empty_from d l c = from_then (from_any (mark ws semicolon)) (λ n at le. from_gives _ (record { is = tt; deep = omega arith; declares = declares_none size ws l c.declarators n le }))
+    for_first_from : (l c : ℕ) → From size l (for_first ws c) (IsFirst l)
+    unfolding for_first
+    for_first_from l c =
+        from_choice (kind ws) first_type
+        (from_then (declaration_from size old ws later l) (λ n x h. from_gives _ (record { is = h.first; declares = h.declares })))
+        (from_choice (kind ws) first_effect
+        (from_then (from_each (full_call_each size ws)) (λ i e p. end_from (IsFirst l) _ (λ n le. record { is = p.2; declares = declares_none size old l n (omega (arith, le, p.1)) })))
+        (end_from (IsFirst l) _ (λ n le. record { is = tt; declares = declares_none size old l n le })))
 
-  effect_from : (d l : ℕ) (c : Counts) → From size l (effect_statement ws c) (IsWithin (suc d) l c.declarators)
-  unfolding effect_statement
-  effect_from d l c = from_then (from_each (full_call_each size ws)) (λ m e p. ended_from (IsWithin (suc d) l c.declarators) _
-      (λ n le. record { is = p.2; deep = omega arith; declares = declares_none size ws l c.declarators n (omega (arith, le, p.1)) }))
+    maybe_from : (l : ℕ) → From size l (maybe_ended ws) (IsAlone (WhereAny IsFull) l)
+    unfolding maybe_ended
+    maybe_from l =
+        let P = IsAlone (WhereAny IsFull) l in
+        from_choice (kind ws) first_expression
+        (from_then (from_each (full_each size ws)) (λ i e p. end_from P (Some e) (λ n le. record { is = p.2; on = omega (arith, le, p.1) })))
+        (end_from P None (λ n le. record { is = tt; on = le }))
 
-  -- ---- statements in statements
+    returned_from : (l : ℕ) → From size l (returned ws) (IsAlone (WhereAny IsFullOrCall) l)
+    unfolding returned
+    returned_from l =
+        let P = IsAlone (WhereAny IsFullOrCall) l in
+        from_choice (kind ws) first_expression
+        (from_then (from_each (full_value_each size ws)) (λ i e p. end_from P (Some e) (λ n le. record { is = p.2; on = omega (arith, le, p.1) })))
+        (end_from P None (λ n le. record { is = tt; on = le }))
 
-  module _ (d : ℕ) {S : Counted} (each : (l : ℕ) (c : Counts) → From size l (S c) (IsWithin d l c.declarators)) where
-    item_from : (l : ℕ) (c : Counts) → From size l (item ws S c) (IsItemWithin d l c.declarators)
-    unfolding item
-    item_from l c =
-        from_choice (kind ws) (annot_open_kind ∷ []) (annotation_from d l c)
-        (from_choice (kind ws) first_type
-        (from_more (λ n x h. record { item = record { is = h.is; deep = omega (arith, h.flat) }; declares = h.declares }) (declaration_from size ws l c))
-        (from_then (each l c) (λ n x p. from_gives _ (record { item = record { is = p.is; deep = p.deep }; declares = p.declares }))))
+    behind_from : (l : ℕ) → From size l (for_behind ws) (IsAlone (WhereAny IsFullEffect) l)
+    unfolding for_behind
+    behind_from l =
+        let P = IsAlone (WhereAny IsFullEffect) l in
+        from_choice (kind ws) first_effect
+        (from_then (from_each (full_effect_each size ws)) (λ i e p. closed_from ws P (Some e.0) (λ n le. record { is = p.2; on = omega (arith, le, p.1) })))
+        (closed_from ws P None (λ n le. record { is = tt; on = le }))
 
-    once_from : (l c m : ℕ) (x : List BlockItem × Counts) → AreItems d l c m x → From size m (items_once ws S x) (AreItems d l c)
-    unfolding items_once
-    once_from l c m x h = from_then (item_from m x.1) (λ n i p. from_gives _ (record {
-      are = all_behind (IsItem d) x.0 i.0 h.are p.item;
-      declares = subst (λ (ds : List Declaration). Declares size ws l c ds n i.1.declarators) (sym (declared_behind x.0 i.0)) (declares_joined size ws l c m x.1.declarators n i.1.declarators (declared_in_items (block_items x.0))
-          (declared_in_item i.0) h.declares p.declares);
-    }))
+    jump_from : (d l c : ℕ) → From size l (jump ws c) (IsWithin (suc d) l)
+    unfolding jump
+    jump_from d l c =
+        let P = IsWithin (suc d) l in
+        from_choice (kind ws) (keyword_kind keyword.Break ∷ [])
+        (from_then (from_any (reserved ws keyword.Break)) (λ m at le. end_from P _ (λ n lf. record { is = tt; deep = omega arith; declares = declares_none size old l n (omega (arith, le, lf)) })))
+        (from_then (from_any (reserved ws keyword.Continue)) (λ m at le. end_from P _ (λ n lf. record { is = tt; deep = omega arith; declares = declares_none size old l n (omega (arith, le, lf)) })))
 
-    pub items_from : (l c m : ℕ) (x : List BlockItem × Counts) → AreItems d l c m x → From size m (items ws S x) (AreItems d l c)
-    unfolding items
-    items_from l c m x h = from_many (kind ws) (λ _. first_item) {P = AreItems d l c} (λ i y g. once_from l c i y g) m x h
+    return_from : (d l c : ℕ) → From size l (return_statement ws c) (IsWithin (suc d) l)
+    unfolding return_statement
+    return_from d l c = from_then (from_any (reserved ws keyword.Return)) (λ m at le. from_then (returned_from m)
+        (λ n e p. from_gives _ (record { is = p.is; deep = omega arith; declares = declares_none size old l n (omega (arith, le, p.on)) })))
 
-    block_from : (l : ℕ) (c : Counts) → From size l (block ws S c) (IsWithin (suc d) l c.declarators)
-    unfolding block
-    block_from l c =
-        from_then (from_any (mark ws left_brace)) (λ m at le. from_then (items_from l c.declarators m ([], c) (record { are = tt; declares = declares_none size ws l c.declarators m le })) (λ i x h.
-        from_then (from_any (mark ws right_brace)) (λ n _ lf. from_gives _ (record {
-          is = items_read d x.0 h.are;
-          deep = omega (arith, items_deep d x.0 h.are);
-          declares = declares_higher size ws l c.declarators i n x.1.declarators (declared_in_items (block_items x.0)) lf h.declares;
-        }))))
+    empty_from : (d l c : ℕ) → From size l (empty_statement ws c) (IsWithin (suc d) l)
+    unfolding empty_statement
+    empty_from d l c = from_then (from_any (mark ws semicolon)) (λ n at le. from_gives _ (record { is = tt; deep = omega arith; declares = declares_none size old l n le }))
 
-    else_branch_from : (at : Place) (e : Expression) (l c m : ℕ) (x : Statement × Counts) → IsFull most_read e → IsWithin d l c m x → From size m (else_branch ws S at e x) (IsWithin (suc d) l c)
-    unfolding else_branch
-    else_branch_from at e l c m x p q =
-        from_then (from_any (reserved ws keyword.Else)) (λ i _ le. from_then (each i x.1) (λ n y r. from_gives _ (record {
-          is = (p, q.is, r.is);
-          deep = omega (arith, q.deep, r.deep);
-          declares = declares_joined size ws l c m x.1.declarators n y.1.declarators (declared_within x.0) (declared_within y.0) q.declares (declares_lower size ws m i x.1.declarators n y.1.declarators (declared_within y.0) le r.declares);
-        })))
+    effect_from : (d l c : ℕ) → From size l (effect_statement ws c) (IsWithin (suc d) l)
+    unfolding effect_statement
+    effect_from d l c = from_then (from_each (full_call_each size ws)) (λ m e p. end_from (IsWithin (suc d) l) _
+        (λ n le. record { is = p.2; deep = omega arith; declares = declares_none size old l n (omega (arith, le, p.1)) }))
 
-    else_part_from : (at : Place) (e : Expression) (l c m : ℕ) (x : Statement × Counts) → IsFull most_read e → IsWithin d l c m x → From size m (else_part ws S at e x) (IsWithin (suc d) l c)
-    unfolding else_part
-    else_part_from at e l c m x p q =
-        let alone : IsWithin (suc d) l c m (If at e x.0 NoElse, x.1) = record {
-          is = (p, q.is, tt);
-          deep = omega (arith, q.deep);
-          declares = subst (λ (ds : List Declaration). Declares size ws l c ds m x.1.declarators) (sym (append-nil (declared_within x.0))) q.declares;
-        } in
-        from_cond (is_open x.0) (λ _. from_gives _ alone) (λ _. from_choice (kind ws) (keyword_kind keyword.Else ∷ []) (else_branch_from at e l c m x p q) (from_gives _ alone))
+    -- ---- statements in statements
 
-    lower : (k l c n : ℕ) (x : Statement × Counts) → k ≤ l → IsWithin d l c n x → IsWithin d k c n x
-    lower k l c n x le p = record { is = p.is; deep = p.deep; declares = declares_lower size ws k l c n x.1.declarators (declared_within x.0) le p.declares }
+    module _ (d : ℕ) {S : Numbered} (each : (l c : ℕ) → From size l (S c) (IsWithin d l)) where
+      item_from : (l c : ℕ) → From size l (item ws S c) (IsItemWithin d l)
+      unfolding item
+      item_from l c =
+          from_choice (kind ws) (annot_open_kind ∷ []) (annotation_from d l c)
+          (from_choice (kind ws) first_type
+          (from_then (declaration_from size old ws later l) (λ n x h. from_gives _ (record { item = record { is = h.is; deep = omega (arith, h.flat) }; declares = h.declares })))
+          (from_then (each l c) (λ n x p. from_gives _ (record { item = record { is = p.is; deep = p.deep }; declares = p.declares }))))
 
-    selection_from : (l : ℕ) (c : Counts) → From size l (selection ws S c) (IsWithin (suc d) l c.declarators)
-    unfolding selection
-    selection_from l c =
-        from_then (from_any (reserved ws keyword.If)) (λ m at le. from_then (condition_from m) (λ i e p. from_then (each i c) (λ n x q.
-        else_part_from at e l c.declarators n x p.is (lower l i c.declarators n x (omega (arith, le, p.on)) q))))
+      once_from : (l m : ℕ) (x : List BlockItem × ℕ) → AreItems d l m x → From size m (items_once ws S x) (AreItems d l)
+      unfolding items_once
+      once_from l m x h = from_then (item_from m x.1) (λ n i p. from_gives _ (record {
+        are = all_behind (IsItem d) x.0 i.0 h.are p.item;
+        declares = subst (λ (ds : List Declaration). Declares size old l ds n) (sym (declared_behind x.0 i.0))
+            (declares_joined size old l m n (declared_in_items (block_items x.0)) (declared_in_item i.0) h.declares p.declares);
+      }))
 
-    while_from : (l : ℕ) (c : Counts) → From size l (while_loop ws S c) (IsWithin (suc d) l c.declarators)
-    unfolding while_loop
-    while_from l c =
-        from_then (from_any (reserved ws keyword.While)) (λ m at le. from_then (condition_from m) (λ i e p. from_then (each i c) (λ n x q.
-        from_gives _ (record { is = (refl, p.is, q.is); deep = omega (arith, q.deep); declares = (lower l i c.declarators n x (omega (arith, le, p.on)) q).declares }))))
+      pub items_from : (l m : ℕ) (x : List BlockItem × ℕ) → AreItems d l m x → From size m (items ws S x) (AreItems d l)
+      unfolding items
+      items_from l m x h = from_many (kind ws) (λ _. first_item) {P = AreItems d l} (λ i y g. once_from l i y g) m x h
 
-    do_from : (l : ℕ) (c : Counts) → From size l (do_loop ws S c) (IsWithin (suc d) l c.declarators)
-    unfolding do_loop
-    do_from l c =
-        from_then (from_any (reserved ws keyword.Do)) (λ m at le. from_then (each m c) (λ i x q. from_then (from_any (reserved ws keyword.While)) (λ j _ lf. from_then (condition_from j) (λ k e p.
-        ended_from (IsWithin (suc d) l c.declarators) _ (λ n lg. record {
-          is = (q.is, p.is);
-          deep = omega (arith, q.deep);
-          declares = declares_higher size ws l c.declarators i n x.1.declarators (declared_within x.0) (omega (arith, lf, p.on, lg)) (lower l m c.declarators i x le q).declares;
-        })))))
+      block_from : (l c : ℕ) → From size l (block ws S c) (IsWithin (suc d) l)
+      unfolding block
+      block_from l c =
+          from_then (from_any (mark ws left_brace)) (λ m at le. from_then (items_from l m ([], c) (record { are = tt; declares = declares_none size old l m le })) (λ i x h.
+          from_then (from_any (mark ws right_brace)) (λ n _ lf. from_gives _ (record {
+            is = items_read d x.0 h.are;
+            deep = omega (arith, items_deep d x.0 h.are);
+            declares = declares_higher size old l i n (declared_in_items (block_items x.0)) lf h.declares;
+          }))))
 
-    for_from : (l : ℕ) (c : Counts) → From size l (for_loop ws S c) (IsWithin (suc d) l c.declarators)
-    unfolding for_loop
-    for_from l c =
-        from_then (from_any (reserved ws keyword.For)) (λ m at le. from_then (from_any (mark ws left_paren)) (λ i _ lf. from_then (for_first_from i c) (λ j f h. from_then (maybe_from j) (λ k e p.
-        from_then (behind_from k) (λ o b r. from_then (each o f.1) (λ n x q. from_gives _ (record {
-          is = (refl, h.is, p.is, r.is, q.is);
-          deep = omega (arith, q.deep);
-          declares = declares_joined size ws l c.declarators j f.1.declarators n x.1.declarators (declared_in_first f.0) (declared_within x.0)
-              (declares_lower size ws l i c.declarators j f.1.declarators (declared_in_first f.0) (omega (arith, le, lf)) h.declares)
-              (lower j o f.1.declarators n x (omega (arith, p.on, r.on)) q).declares;
-        })))))))
+      else_branch_from : (at : Place) (e : Expression) (l m : ℕ) (x : Statement × ℕ) → IsFull e → IsWithin d l m x → From size m (else_branch ws S at e x) (IsWithin (suc d) l)
+      unfolding else_branch
+      else_branch_from at e l m x p q =
+          from_then (from_any (reserved ws keyword.Else)) (λ i _ le. from_then (each i x.1) (λ n y r. from_gives _ (record {
+            is = (p, q.is, r.is);
+            deep = omega (arith, q.deep, r.deep);
+            declares = declares_joined size old l m n (declared_within x.0) (declared_within y.0) q.declares (declares_lower size old m i n (declared_within y.0) le r.declares);
+          })))
 
-    statement_of_from : (l : ℕ) (c : Counts) → From size l (statement_of ws S c) (IsWithin (suc d) l c.declarators)
-    unfolding statement_of
-    statement_of_from l c =
-        from_choice (kind ws) (mark_kind left_brace ∷ []) (block_from l c)
-        (from_choice (kind ws) (mark_kind semicolon ∷ []) (empty_from d l c)
-        (from_choice (kind ws) (keyword_kind keyword.If ∷ []) (selection_from l c)
-        (from_choice (kind ws) (keyword_kind keyword.While ∷ []) (while_from l c)
-        (from_choice (kind ws) (keyword_kind keyword.Do ∷ []) (do_from l c)
-        (from_choice (kind ws) (keyword_kind keyword.For ∷ []) (for_from l c)
-        (from_choice (kind ws) (keyword_kind keyword.Return ∷ []) (return_from d l c)
-        (from_choice (kind ws) (keyword_kind keyword.Break ∷ keyword_kind keyword.Continue ∷ []) (jump_from d l c) (effect_from d l c))))))))
+      else_part_from : (at : Place) (e : Expression) (l m : ℕ) (x : Statement × ℕ) → IsFull e → IsWithin d l m x → From size m (else_part ws S at e x) (IsWithin (suc d) l)
+      unfolding else_part
+      else_part_from at e l m x p q =
+          let alone : IsWithin (suc d) l m (If at e x.0 NoElse, x.1) = record {
+            is = (p, q.is, tt);
+            deep = omega (arith, q.deep);
+            declares = subst (λ (ds : List Declaration). Declares size old l ds m) (sym (append-nil (declared_within x.0))) q.declares;
+          } in
+          from_cond (is_open x.0) (λ _. from_gives _ alone) (λ _. from_choice (kind ws) (keyword_kind keyword.Else ∷ []) (else_branch_from at e l m x p q) (from_gives _ alone))
 
--- a statement of the last depth is read as if none could stand in it
-pub statement_in_from : (size : ℕ) (ws : Vocabulary) (d l : ℕ) (c : Counts) → From size l (statement_in ws d c) (IsWithin size ws (suc d) l c.declarators)
-unfolding statement_in
-statement_in_from size ws zero l c = record { holds = (statement_of_from size ws 0 (λ m k. from_none) l c).holds }
-statement_in_from size ws (suc d) l c = statement_of_from size ws (suc d) (statement_in_from size ws d) l c
+      selection_from : (l c : ℕ) → From size l (selection ws S c) (IsWithin (suc d) l)
+      unfolding selection
+      selection_from l c =
+          from_then (from_any (reserved ws keyword.If)) (λ m at le. from_then (condition_from m) (λ i e p. from_then (each i c) (λ n x q.
+          else_part_from at e l n x p.is (lower d l i n x (omega (arith, le, p.on)) q))))
+
+      while_from : (l c : ℕ) → From size l (while_loop ws S c) (IsWithin (suc d) l)
+      unfolding while_loop
+      while_from l c =
+          from_then (from_any (reserved ws keyword.While)) (λ m at le. from_then (condition_from m) (λ i e p. from_then (each i c) (λ n x q.
+          from_gives _ (record { is = (refl, p.is, q.is); deep = omega (arith, q.deep); declares = (lower d l i n x (omega (arith, le, p.on)) q).declares }))))
+
+      do_from : (l c : ℕ) → From size l (do_loop ws S c) (IsWithin (suc d) l)
+      unfolding do_loop
+      do_from l c =
+          from_then (from_any (reserved ws keyword.Do)) (λ m at le. from_then (each m c) (λ i x q. from_then (from_any (reserved ws keyword.While)) (λ j _ lf. from_then (condition_from j) (λ k e p.
+          end_from (IsWithin (suc d) l) _ (λ n lg. record {
+            is = (q.is, p.is);
+            deep = omega (arith, q.deep);
+            declares = declares_higher size old l i n (declared_within x.0) (omega (arith, lf, p.on, lg)) (lower d l m i x le q).declares;
+          })))))
+
+      for_from : (l c : ℕ) → From size l (for_loop ws S c) (IsWithin (suc d) l)
+      unfolding for_loop
+      for_from l c =
+          from_then (from_any (reserved ws keyword.For)) (λ m at le. from_then (from_any (mark ws left_paren)) (λ i _ lf. from_then (for_first_from i c) (λ j f h. from_then (maybe_from j) (λ k e p.
+          from_then (behind_from k) (λ o b r. from_then (each o f.1) (λ n x q. from_gives _ (record {
+            is = (refl, h.is, p.is, r.is, q.is);
+            deep = omega (arith, q.deep);
+            declares = declares_joined size old l j n (declared_in_first f.0) (declared_within x.0)
+                (declares_lower size old l i j (declared_in_first f.0) (omega (arith, le, lf)) h.declares)
+                (lower d j o n x (omega (arith, p.on, r.on)) q).declares;
+          })))))))
+
+      statement_of_from : (l c : ℕ) → From size l (statement_of ws S c) (IsWithin (suc d) l)
+      unfolding statement_of
+      statement_of_from l c =
+          from_choice (kind ws) (mark_kind left_brace ∷ []) (block_from l c)
+          (from_choice (kind ws) (mark_kind semicolon ∷ []) (empty_from d l c)
+          (from_choice (kind ws) (keyword_kind keyword.If ∷ []) (selection_from l c)
+          (from_choice (kind ws) (keyword_kind keyword.While ∷ []) (while_from l c)
+          (from_choice (kind ws) (keyword_kind keyword.Do ∷ []) (do_from l c)
+          (from_choice (kind ws) (keyword_kind keyword.For ∷ []) (for_from l c)
+          (from_choice (kind ws) (keyword_kind keyword.Return ∷ []) (return_from d l c)
+          (from_choice (kind ws) (keyword_kind keyword.Break ∷ keyword_kind keyword.Continue ∷ []) (jump_from d l c) (effect_from d l c))))))))
+
+    -- a statement of the last depth is read as if none could stand in it
+    pub statement_in_from : (d l c : ℕ) → From size l (statement_in ws d c) (IsWithin (suc d) l)
+    unfolding statement_in
+    statement_in_from zero l c = record { holds = (statement_of_from 0 (λ m k. from_none) l c).holds }
+    statement_in_from (suc d) l c = statement_of_from (suc d) (statement_in_from d) l c

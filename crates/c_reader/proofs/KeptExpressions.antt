@@ -13,8 +13,8 @@ use Rattle.c_model.specs.Library.{library_constant, is_there}
 use Rattle.c_model.specs.Typing.{is_of_address, no_name, no_type, Object, Scopes, Signature, object_named, function_called, library_function, name_at, use_as, is_not}
 use Rattle.c_model.specs.Typing.{is_scalar, integer_of, same_type, in_type, in_int, named, literal, unary, binary, both_of}
 use Rattle.c_model.specs.Typing.{either_of, choice_of, choice_type, assign, bump, cast, size_of_expression, callee, argument_for, first_type, rest_types, params_of, call, two, typed, typed_arguments}
-use Rattle.c_model.specs.Formed.{IsPure, ArePure, IsPureOrCall, IsEffect, IsEffectOrCall, nodes_of, nodes_of_all, IsFull, IsFullEffect, IsFullEffectOrCall, most_read, most_typed}
-use Rattle.c_reader.proofs.ReadForms as read
+use Rattle.c_model.specs.Formed.{IsPure, ArePure, IsPureOrCall, IsEffect, IsEffectOrCall, nodes_of, nodes_of_all, IsFullEffect, IsFullEffectOrCall, most_typed}
+use Rattle.c_reader.proofs.ReadExpressions as read
 
 -- what holds of a checked part, where it has no fault
 abbrev pub Holds : {A : Type 0} → (A → Type 0) → Checked A → Type 0
@@ -133,7 +133,7 @@ choice_kept at n m o a b c p q r =
 
 -- ---- expressions without effects
 
-pub typed_kept : (s : Scopes) (e : Expression) → IsPure e → Holds (IsKept (nodes_of e)) (typed s e)
+pub typed_kept : (s : Scopes) (e : Expression) → read.IsPure e → Holds (IsKept (nodes_of e)) (typed s e)
 typed_kept s (Node at t (Number n k)) h = literal_kept at n k
 typed_kept s (Node at t (Letter n)) h = record { is = tt; small = omega arith }
 typed_kept s (Node at t (Variable x)) h = named_kept s at x.name
@@ -159,10 +159,10 @@ typed_kept s (Node at t (Cast to a)) h =
 typed_kept s (Node at t (SizeOfType u)) h = where_kept 1 _ _ _ tt (omega arith)
 typed_kept s (Node at t (SizeOfExpr a)) h =
     holds_one (IsKept (nodes_of a)) (IsKept (suc (nodes_of a))) (typed s a) (size_of_expression at) (typed_kept s a h) (λ x p. where_kept (suc (nodes_of a)) _ _ _ p.is (omega (arith, p.small)))
-typed_kept s (Node at t (Text n)) h = absurd h
-typed_kept s (Node at t (Index a b)) h = absurd h
-typed_kept s (Node at t (Dot a m)) h = absurd h
-typed_kept s (Node at t (Arrow a m)) h = absurd h
+typed_kept s (Node at t (Text n)) h = tt
+typed_kept s (Node at t (Index a b)) h = tt
+typed_kept s (Node at t (Dot a m)) h = tt
+typed_kept s (Node at t (Arrow a m)) h = tt
 typed_kept s (Node at t (Comma a b)) h = absurd h
 
 -- ---- arguments
@@ -179,7 +179,7 @@ argument_kept : (t : Option PlainType) (n : ℕ) (e : Expression) → IsKept n e
 argument_kept None n e p = record { is = p.is; small = omega (arith, p.small) }
 argument_kept (Some t) n e p = holds_where (IsCast n) _ _ (Good (in_type t e)) (cast_of n t e p)
 
-arguments_kept : (s : Scopes) (ts : List PlainType) (es : Expressions) → ArePure es → Holds (AreKept (nodes_of_all es)) (typed_arguments s ts es)
+arguments_kept : (s : Scopes) (ts : List PlainType) (es : Expressions) → read.ArePure es → Holds (AreKept (nodes_of_all es)) (typed_arguments s ts es)
 arguments_kept s ts NoExpression h = record { are = tt; small = omega arith }
 arguments_kept s ts (Following e es) h =
     holds_both (IsCast (nodes_of e)) (AreKept (nodes_of_all es)) (AreKept (nodes_of e + nodes_of_all es)) (one_part (typed s e) (argument_for (first_type ts))) (typed_arguments s (rest_types ts) es) (λ x xs. Good (Following x xs))
@@ -191,9 +191,14 @@ holds_any : {A : Type 0} (c : Checked A) → Holds (λ a. Unit {0}) c
 holds_any (Good a) = tt
 holds_any (Bad f fs) = tt
 
+-- an expression without effects, or a call that stands in no cast
+abbrev IsBare : Expression → Type 0
+IsBare (Node at t (Call f es)) = ArePure es
+IsBare e = IsPure e
+
 -- a call, as what it may stand for
 record IsKeptCallAlone (n : ℕ) (t : Expression) : Type 0 where
-  value : read.IsPureOrCall t
+  value : IsBare t
   effect : IsEffectOrCall t
   small : suc (nodes_of t) ≤ 2 * n
 
@@ -201,7 +206,7 @@ record IsKeptCallAlone (n : ℕ) (t : Expression) : Type 0 where
 
 -- an expression or a call, one fewer than twice the forms of the source
 pub record IsKeptValue (n : ℕ) (t : Expression) : Type 0 where
-  pub is : read.IsPureOrCall t
+  pub is : IsBare t
   pub small : suc (nodes_of t) ≤ 2 * n
 
 -- the same in a cast
@@ -209,7 +214,7 @@ pub record IsCastValue (n : ℕ) (t : Expression) : Type 0 where
   pub is : IsPureOrCall t
   pub small : nodes_of t ≤ 2 * n
 
-pure_value : (t : Expression) → IsPure t → read.IsPureOrCall t
+pure_value : (t : Expression) → IsPure t → IsBare t
 pure_value (Node x t (Number n c)) h = h
 pure_value (Node x t (Letter n)) h = h
 pure_value (Node x t (Variable y)) h = h
@@ -230,7 +235,7 @@ pure_value (Node x t (Dot a m)) h = absurd h
 pure_value (Node x t (Arrow a m)) h = absurd h
 pure_value (Node x t (Comma a b)) h = absurd h
 
-cast_value : (x : Place) (u to : PlainType) (t : Expression) → read.IsPureOrCall t → IsPureOrCall (Node x u (Cast to t))
+cast_value : (x : Place) (u to : PlainType) (t : Expression) → IsBare t → IsPureOrCall (Node x u (Cast to t))
 cast_value x u to (Node y v (Number n c)) h = h
 cast_value x u to (Node y v (Letter n)) h = h
 cast_value x u to (Node y v (Variable z)) h = h
@@ -251,7 +256,7 @@ cast_value x u to (Node y v (Dot a m)) h = absurd h
 cast_value x u to (Node y v (Arrow a m)) h = absurd h
 cast_value x u to (Node y v (Comma a b)) h = absurd h
 
-bare_value : (t : Expression) → read.IsPureOrCall t → IsPureOrCall t
+bare_value : (t : Expression) → IsBare t → IsPureOrCall t
 bare_value (Node x t (Number n c)) h = h
 bare_value (Node x t (Letter n)) h = h
 bare_value (Node x t (Variable y)) h = h
@@ -279,13 +284,13 @@ value_of n u t p = by (same_type (type_of t) u)
     by true = record { is = bare_value t p.is; small = omega (arith, p.small) }
     by false = record { is = cast_value (place_of t) u u t p.is; small = p.small }
 
-call_value : (s : Scopes) (at : Place) (x : ℕ) (es : Expressions) → ArePure es → Holds (IsKeptCallAlone (suc (nodes_of_all es))) (both_parts (callee s at x) (typed_arguments s (params_of (callee s at x)) es) (call at))
+call_value : (s : Scopes) (at : Place) (x : ℕ) (es : Expressions) → read.ArePure es → Holds (IsKeptCallAlone (suc (nodes_of_all es))) (both_parts (callee s at x) (typed_arguments s (params_of (callee s at x)) es) (call at))
 call_value s at x es h =
     holds_both (λ g. Unit {0}) (AreKept (nodes_of_all es)) (IsKeptCallAlone (suc (nodes_of_all es))) (callee s at x) (typed_arguments s (params_of (callee s at x)) es) (call at) (holds_any (callee s at x))
     (arguments_kept s (params_of (callee s at x)) es h)
     (λ g xs _ p. holds_where (IsKeptCallAlone (suc (nodes_of_all es))) _ _ (Good (Node at g.result (Call (use_as g.name g.decl) xs))) (record { value = p.are; effect = p.are; small = omega (arith, p.small) }))
 
-plain_value : (s : Scopes) (e : Expression) → IsPure e → Holds (IsKeptValue (nodes_of e)) (typed s e)
+plain_value : (s : Scopes) (e : Expression) → read.IsPure e → Holds (IsKeptValue (nodes_of e)) (typed s e)
 plain_value s e h = holds_more (IsKept (nodes_of e)) (IsKeptValue (nodes_of e)) (typed s e) (λ t p. record { is = pure_value t p.is; small = p.small }) (typed_kept s e h)
 
 pub value_kept : (s : Scopes) (e : Expression) → read.IsPureOrCall e → Holds (IsKeptValue (nodes_of e)) (typed s e)
@@ -303,10 +308,10 @@ value_kept s (Node at t (Call f es)) h = holds_more (IsKeptCallAlone (suc (nodes
 value_kept s (Node at t (Cast to a)) h = plain_value s (Node at t (Cast to a)) h
 value_kept s (Node at t (SizeOfType u)) h = plain_value s (Node at t (SizeOfType u)) h
 value_kept s (Node at t (SizeOfExpr a)) h = plain_value s (Node at t (SizeOfExpr a)) h
-value_kept s (Node at t (Text n)) h = absurd h
-value_kept s (Node at t (Index a b)) h = absurd h
-value_kept s (Node at t (Dot a m)) h = absurd h
-value_kept s (Node at t (Arrow a m)) h = absurd h
+value_kept s (Node at t (Text n)) h = tt
+value_kept s (Node at t (Index a b)) h = tt
+value_kept s (Node at t (Dot a m)) h = tt
+value_kept s (Node at t (Arrow a m)) h = tt
 value_kept s (Node at t (Comma a b)) h = absurd h
 
 -- ---- effects
@@ -362,7 +367,7 @@ pub record IsKeptCall (n : ℕ) (t : Expression) : Type 0 where
   pub is : IsEffectOrCall t
   pub small : nodes_of t ≤ 2 * n
 
-plain_effect : (s : Scopes) (e : Expression) → IsPure e → Holds (IsKeptEffect (nodes_of e)) (typed s e)
+plain_effect : (s : Scopes) (e : Expression) → read.IsPure e → Holds (IsKeptEffect (nodes_of e)) (typed s e)
 plain_effect s e h = holds_more (IsKept (nodes_of e)) (IsKeptEffect (nodes_of e)) (typed s e) (λ t p. record { is = pure_effect t p.is; small = omega (arith, p.small) }) (typed_kept s e h)
 
 where_effect : (n : ℕ) (b : Bool) (f : Fault) (t : Expression) → IsEffect t → nodes_of t ≤ 2 * n → Holds (IsKeptEffect n) (where_so b f (Good t))
@@ -395,10 +400,10 @@ effect_kept s (Node at t (Call f es)) h = absurd h
 effect_kept s (Node at t (Cast to a)) h = plain_effect s (Node at t (Cast to a)) h
 effect_kept s (Node at t (SizeOfType u)) h = plain_effect s (Node at t (SizeOfType u)) h
 effect_kept s (Node at t (SizeOfExpr a)) h = plain_effect s (Node at t (SizeOfExpr a)) h
-effect_kept s (Node at t (Text n)) h = absurd h
-effect_kept s (Node at t (Index a b)) h = absurd h
-effect_kept s (Node at t (Dot a m)) h = absurd h
-effect_kept s (Node at t (Arrow a m)) h = absurd h
+effect_kept s (Node at t (Text n)) h = tt
+effect_kept s (Node at t (Index a b)) h = tt
+effect_kept s (Node at t (Dot a m)) h = tt
+effect_kept s (Node at t (Arrow a m)) h = tt
 effect_kept s (Node at t (Comma a b)) h = absurd h
 
 -- ---- effects and calls
@@ -423,15 +428,15 @@ call_kept s (Node at t (Call f es)) h = holds_more (IsKeptCallAlone (suc (nodes_
 call_kept s (Node at t (Cast to a)) h = more_call s (Node at t (Cast to a)) h
 call_kept s (Node at t (SizeOfType u)) h = more_call s (Node at t (SizeOfType u)) h
 call_kept s (Node at t (SizeOfExpr a)) h = more_call s (Node at t (SizeOfExpr a)) h
-call_kept s (Node at t (Text n)) h = absurd h
-call_kept s (Node at t (Index a b)) h = absurd h
-call_kept s (Node at t (Dot a m)) h = absurd h
-call_kept s (Node at t (Arrow a m)) h = absurd h
+call_kept s (Node at t (Text n)) h = tt
+call_kept s (Node at t (Index a b)) h = tt
+call_kept s (Node at t (Dot a m)) h = tt
+call_kept s (Node at t (Arrow a m)) h = tt
 call_kept s (Node at t (Comma a b)) h = absurd h
 
 -- ---- full expressions
 
-pub full_kept : (s : Scopes) (e : Expression) → IsFull most_read e → Holds (λ t. IsKept 400 t) (typed s e)
+pub full_kept : (s : Scopes) (e : Expression) → read.IsFull e → Holds (λ t. IsKept 400 t) (typed s e)
 full_kept s e h = holds_more (IsKept (nodes_of e)) (IsKept 400) (typed s e) (λ t p. record { is = p.is; small = omega (arith, p.small, h.small) }) (typed_kept s e h.is)
 
 pub full_value_kept : (s : Scopes) (e : Expression) → read.IsFullOrCall e → Holds (λ t. IsKeptValue 400 t) (typed s e)

@@ -1,14 +1,16 @@
 -- Typing keeps the form of a program, its names, its numbers, and `main`.
-use Rattle.std.proofs.Common.{◌≡◌, ℕ, suc, ◌+◌, ◌≤◌, Bool, true, false, ◌&&◌, cond, List, [], ◌∷◌, ◌++◌, length, map, Option, Some, None, refl, sym, ap, subst, ◌∙◌, bytes_eq, codes}
+use Rattle.std.proofs.Common.{◌≡◌, ℕ, ◌+◌, ◌≤◌, Bool, true, false, ◌&&◌, cond, List, [], ◌∷◌, ◌++◌, map, Option, Some, None, refl, sym, ap, subst, ◌∙◌, bytes_eq, codes}
 use Rattle.std.proofs.lemmas.List.{map-append}
+use Rattle.grammar.proofs.Parts.{nil_front}
 use Rattle.c_syntax.specs.declared.place.Place.{Place}
 use Rattle.c_syntax.specs.Ctypes.{PlainType, int_type}
 use Rattle.c_syntax.specs.Statements.{Declaration, Statement, Empty, Eval, Block, If, While, Do, For, Break, Continue, Return, BlockItems}
 use Rattle.c_syntax.specs.Programs.{Function, TranslationUnit}
 use Rattle.c_model.specs.Library.{is_there}
-use Rattle.c_model.specs.Checked.{Good, one_part, where_so}
+use Rattle.c_model.specs.Checked.{Good, faulty, one_part, where_so}
 use Rattle.c_model.specs.Typing.{Scopes, name_at, no_type, is_object_type, declarable, same_type, typed_items}
-use Rattle.c_model.specs.ProgramTyping.{no_main, has_no_parameters, function_scopes, with_parameter, with_parameters, typed_heading, typed_parameter, typed_parameters, typed_body, typed_function, typed_functions, typed_unit, main_fault, noted_items}
+use Rattle.c_model.specs.ProgramTyping.{no_main, has_no_parameters, function_scopes, with_parameter, with_parameters, typed_heading, typed_parameter, typed_parameters, typed_body, typed_function}
+use Rattle.c_model.specs.ProgramTyping.{typed_functions, is_result_type, untyped_places, untyped_at, typed_unit, main_fault, noted_items}
 use Rattle.c_model.specs.ProgramTyping.{noted_body, noted_functions, noted_unit}
 use Rattle.c_model.specs.WellTypedPrograms.{around_body}
 use Rattle.c_model.specs.Formed.{IsName, depth, depth_of_items, BodyFormed, FunctionFormed, FunctionsFormed, ProgramFormed, AreNamed, AreNamedParameters, declared_in_body, FunctionNamed, FunctionsNamed, number_of, numbers_of, numbers_of_all}
@@ -92,7 +94,7 @@ parameters_are s (d ∷ ds) =
 
 function_kept : (s : Scopes) (before : List Function) (f : Function) → FunctionRead f → Holds (KeptFunction f) (typed_function s before f)
 function_kept s before f h =
-    holds_one (λ g. g ≡ f) (KeptFunction f) (typed_heading s before f) _ (holds_where (λ g. g ≡ f) _ _ (Good f) refl) (λ g e.
+    holds_one (λ g. g ≡ f) (KeptFunction f) (typed_heading s before f) _ (holds_where (λ g. g ≡ f) _ _ (where_so (is_result_type f.result) (no_type f.place) (Good f)) (holds_where (λ g. g ≡ f) _ _ (Good f) refl)) (λ g e.
     subst (λ (g : Function). Holds (KeptFunction f) (one_part (typed_parameters s g.params) (λ params. one_part (typed_body (with_parameters s params) g.result g.body) (λ b. let x : Function = record g { params = params; body = b } in Good x))))
     (sym e) (
     holds_one (λ ps. ps ≡ f.params) (KeptFunction f) (typed_parameters s f.params) _ (parameters_are s f.params) (λ ps q.
@@ -134,19 +136,12 @@ named_bare : (names : List (List ℕ)) (ds : List Declaration) → AreNamed name
 named_bare names [] h = tt
 named_bare names (d ∷ ds) h = (h.0, named_bare names ds h.1)
 
-bare_count : (ds : List Declaration) → length (map bare ds) ≡ length ds
-bare_count [] = refl
-bare_count (d ∷ ds) = ap suc (bare_count ds)
-
 bare_numbers : (ds : List Declaration) → map number_of (map bare ds) ≡ map number_of ds
 bare_numbers [] = refl
 bare_numbers (d ∷ ds) = ap (λ (w : List ℕ). number_of d ∷ w) (bare_numbers ds)
 
 same_names : (names : List (List ℕ)) (ds es : List Declaration) → SameDeclared ds es → AreNamed names ds → AreNamed names es
 same_names names ds es e h = named_bare names es (subst (AreNamed names) (sym e) (bare_named names ds h))
-
-same_count : (ds es : List Declaration) → SameDeclared ds es → length es ≡ length ds
-same_count ds es e = sym (bare_count es) ∙ ap length e ∙ bare_count ds
 
 same_numbers : (ds es : List Declaration) → SameDeclared ds es → map number_of es ≡ map number_of ds
 same_numbers ds es e = sym (bare_numbers es) ∙ ap (map number_of) e ∙ bare_numbers ds
@@ -156,7 +151,6 @@ function_named names f g s h = record {
   name = subst (λ (x : Function). IsName (name_at names x.name)) (sym s.heading) h.name;
   params = subst (λ (x : Function). AreNamedParameters names x.params) (sym s.heading) h.params;
   body = same_names names (declared_in_body f.body) (declared_in_body g.body) s.body h.body;
-  few = subst (λ n. n ≤ 1000) (sym (same_count (declared_in_body f.body) (declared_in_body g.body) s.body)) h.few;
 }
 
 function_numbers : (f g : Function) → IsSameFunction f g → numbers_of g ≡ numbers_of f
@@ -211,10 +205,33 @@ program_of p fs b k = record {
   main = functions_main p.names p.funcs fs k.same;
 }
 
+-- where nothing is without a type, nothing is there
+untyped_none : (places : List Place) → Holds (λ _. places ≡ []) (untyped_at places)
+untyped_none [] = refl
+untyped_none (at ∷ places) = holds_both (λ _. ⊥) (λ _. places ≡ []) (λ _. (at ∷ places) ≡ []) (faulty {A = Unit {0}} (no_type at)) (untyped_at places) _ tt (untyped_none places) (λ a b p q. absurd p)
+
+none_of : {A B : Type 0} (f : A → B) (xs : List A) → map f xs ≡ [] → xs ≡ []
+none_of f [] e = refl
+none_of f (x ∷ xs) e = absurd cc
+
+none_behind : {A : Type 0} (xs ys : List A) → xs ++ ys ≡ [] → ys ≡ []
+none_behind [] ys e = e
+none_behind (x ∷ xs) ys e = absurd cc
+
+bare_of : (p : TranslationUnit) → untyped_places p ≡ [] → Bare p
+bare_of p e =
+    let without_enums = nil_front _ _ e in
+    let texts_and_globals = nil_front _ _ (nil_front _ _ without_enums) in
+    record {
+      globals = none_of (λ d. d.place) p.globals (none_behind _ _ texts_and_globals);
+      texts = none_of (λ l. l.place) p.texts (nil_front _ _ texts_and_globals);
+      structs = none_of (λ s. s.place) p.structs (none_behind _ _ without_enums);
+    }
+
 pub unit_kept : (p q : TranslationUnit) → ProgramRead p → typed_unit p ≡ Good q → KeptProgram p q
 unit_kept p q h e =
-    holds_at (KeptProgram p) (typed_unit p) q e (holds_one (KeptFunctions p.funcs) (KeptProgram p) (typed_functions p [] p.funcs) _ (functions_kept p [] p.funcs h.functions)
-    (λ fs k. program_of p fs (record { globals = h.globals; texts = h.texts; structs = h.structs }) k))
+    holds_at (KeptProgram p) (typed_unit p) q e (holds_both (KeptFunctions p.funcs) (λ _. untyped_places p ≡ []) (KeptProgram p) (typed_functions p [] p.funcs) (untyped_at (untyped_places p)) _ (functions_kept p [] p.funcs h.functions)
+    (untyped_none (untyped_places p)) (λ fs u k none. program_of p fs (bare_of p none) k))
 
 pub unit_noted : (p q : TranslationUnit) → ProgramFormed most_typed p → noted_unit p ≡ Good q → KeptProgram p q
 unit_noted p q h e =

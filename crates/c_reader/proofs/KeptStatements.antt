@@ -13,7 +13,7 @@ use Rattle.c_model.specs.Typing.{no_name, no_type, name_at, object_named, is_obj
 use Rattle.c_model.specs.Typing.{typed_declarations, with_object, returned, in_type, typed_statement, typed_else, typed_first, typed_item, typed_items}
 use Rattle.c_model.specs.WellTypedPrograms.{WhereAny}
 use Rattle.c_model.specs.Formed.{depth, depth_of_else, depth_of_item, depth_of_items, IsFull, IsFullEffect, IsFullEffectOrCall, IsInitialiser, AreInitialised, FirstFormed, StatementFormed, ElseFormed, ItemFormed, ItemsFormed, declared_within}
-use Rattle.c_model.specs.Formed.{declared_in_else, declared_in_first, declared_in_item, declared_in_items, most_read, most_typed}
+use Rattle.c_model.specs.Formed.{declared_in_else, declared_in_first, declared_in_item, declared_in_items, most_typed}
 use Rattle.c_reader.proofs.ReadForms as read
 use Rattle.c_reader.proofs.KeptExpressions.{Holds, holds_one, holds_both, holds_where, holds_more, IsKept, IsKeptValue, value_of, full_kept, full_value_kept, full_effect_kept, full_call_kept}
 
@@ -22,7 +22,7 @@ use Rattle.c_reader.proofs.KeptExpressions.{Holds, holds_one, holds_both, holds_
 full_of : (t : Expression) → IsKept 400 t → IsFull most_typed t
 full_of t p = record { is = p.is; small = omega (arith, p.small) }
 
-condition_kept : (s : Scopes) (e : Expression) → IsFull most_read e → Holds (IsFull most_typed) (typed_condition s e)
+condition_kept : (s : Scopes) (e : Expression) → read.IsFull e → Holds (IsFull most_typed) (typed_condition s e)
 condition_kept s e h = holds_one (IsKept 400) (IsFull most_typed) (typed s e) condition (full_kept s e h) (λ t p. holds_where (IsFull most_typed) _ _ (Good t) (full_of t p))
 
 maybe_kept : (P Q : Expression → Type 0) (check : Expression → Checked Expression) (e : Option Expression) → ((x : Expression) → P x → Holds Q (check x)) → WhereAny P e → Holds (WhereAny Q) (typed_maybe check e)
@@ -55,7 +55,7 @@ initialiser_kept s t None h = tt
 initialiser_kept s t (Some (at, One e)) h =
     holds_one (IsKeptValue 400) (IsInitialiser most_typed) (typed s e) _ (full_value_kept s e h) (λ x p. holds_where (IsInitialiser most_typed) _ _ (Good (Some (at, One (in_type t x))))
     (let c = value_of 400 t x p in record { is = c.is; small = omega (arith, c.small) }))
-initialiser_kept s t (Some (at, Many brace is)) h = absurd h
+initialiser_kept s t (Some (at, Many brace is)) h = tt
 
 -- a declaration stays as it is
 pub declarable_is : (s : Scopes) (d : Declaration) → Holds (λ x. x ≡ d) (declarable s d)
@@ -160,7 +160,7 @@ mutual
   statement_kept s r (For at annots first e b a) h =
       holds_one (IsSameFirst first) (IsSame (For at annots first e b a)) (typed_first (inner s) r first) _ (first_kept (inner s) r first h.1) (λ f p.
       let t = behind_first (inner s) f in
-      holds_one (WhereAny (IsFull most_typed)) (IsSame (For at annots first e b a)) (typed_maybe (typed_condition t) e) _ (maybe_kept (IsFull most_read) (IsFull most_typed) (typed_condition t) e (condition_kept t) h.2) (λ x q.
+      holds_one (WhereAny (IsFull most_typed)) (IsSame (For at annots first e b a)) (typed_maybe (typed_condition t) e) _ (maybe_kept read.IsFull (IsFull most_typed) (typed_condition t) e (condition_kept t) h.2) (λ x q.
       holds_one (WhereAny (IsFullEffect most_typed)) (IsSame (For at annots first e b a)) (typed_maybe (typed t) b) _ (maybe_kept read.IsFullEffect (IsFullEffect most_typed) (typed t) b (full_effect_kept t) h.3) (λ y w.
       holds_one (IsSame a) (IsSame (For at annots first e b a)) (typed_statement t (in_loop r) a) (λ z. Good (For at annots f x y z)) (statement_kept t (in_loop r) a h.4)
       (λ z v. record { is = (h.0, p.is, q, w, v.is); deep = ap (λ n. 1 + n) v.deep; same = same_joined (declared_in_first first) (declared_within a) (declared_in_first f) (declared_within z) p.same v.same }))))

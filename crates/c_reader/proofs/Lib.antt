@@ -1,6 +1,7 @@
 -- what is read: its tokens, and its form
 pub mod Lexed
 pub mod Placed
+pub mod ReadExpressions
 pub mod ReadForms
 pub mod FormedTerms
 pub mod FormedExpressions

@@ -1,7 +1,7 @@
 -- What holds of each reading of a production over tokens whose places ascend, by the offsets where it begins and ends.
 use Rattle.std.proofs.Common.{◌≡◌, ℕ, zero, suc, ◌≤◌, Bool, true, false, cond, List, [], ◌∷◌, ◌++◌, length, Option, Some, refl, subst, arith, inl, inr}
 use Rattle.std.specs.List.{AllByRecursion}
-use Rattle.grammar.specs.Syntax.{Syntax, none, gives, one, ◌then◌, choice, loop, many}
+use Rattle.grammar.specs.Syntax.{Syntax, none, gives, one, ◌then◌, choice, loop, many, deep, at_most}
 use Rattle.c_syntax.specs.Tokens.{PlainToken}
 use Rattle.c_reader.proofs.FormedExpressions.{IsLexed, Each}
 
@@ -69,6 +69,13 @@ from_choice {size} {l} {A} K ks {G} {H} {P} g h = record { holds = by }
 pub from_cond : {size l : ℕ} {A : Type 0} {G H : Syntax PlainToken A} {P : ℕ → A → Type 0} (b : Bool) → (b ≡ true → From size l G P) → (b ≡ false → From size l H P) → From size l (cond b G H) P
 from_cond true g h = g refl
 from_cond false g h = h refl
+
+-- with a limit of tokens, and where a limit of depth is passed
+pub from_at_most : {size l label n : ℕ} {A : Type 0} {G : Syntax PlainToken A} {P : ℕ → A → Type 0} → From size l G P → From size l (at_most label n G) P
+from_at_most g = record { holds = λ a x n o s r. g.holds a x n o s r.0 }
+
+pub from_deep : {size l label : ℕ} {A : Type 0} (K : PlainToken → ℕ) (ks : List ℕ) {G : Syntax PlainToken A} {P : ℕ → A → Type 0} → From size l G P → From size l (deep label K ks G) P
+from_deep K ks g = record { holds = λ a x n o s r. g.holds a x n o s r }
 
 -- what is read, and how far
 pub from_any : {size l : ℕ} {A : Type 0} (G : Syntax PlainToken A) → From size l G (λ n x. l ≤ n)

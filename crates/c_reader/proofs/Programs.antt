@@ -4,6 +4,7 @@ use Rattle.std.specs.List.{AllByRecursion}
 use Rattle.c_syntax.specs.Statements.{Declaration}
 use Rattle.c_syntax.specs.Programs.{Function, TranslationUnit}
 use Rattle.c_model.specs.Vocabulary.{word_of}
+use Rattle.c_model.specs.ProgramGrammar.{texts_of}
 use Rattle.c_model.specs.Formed.{AreNamed, AreNamedParameters, FunctionsNamed, declared_in_body, numbers_of_all, Ascend, IsProgram}
 use Rattle.c_model.specs.Laws.{NeverFaults}
 use Rattle.c_model.specs.Phases.{vocabulary, AcceptedText}
@@ -33,7 +34,6 @@ module _ (names : List (List ℕ)) (words : AllByRecursion IsWord names) where
       name = new_name_is names f.name words h.0.name;
       params = parameters_named f.params h.0.params;
       body = named (declared_in_body f.body) h.0.body;
-      few = h.0.few;
     },
     functions_named fs h.1,
   )
@@ -50,7 +50,7 @@ pub accepted_is_program : (text : List ℕ) (p : TranslationUnit) → AcceptedTe
 accepted_is_program text p a =
     let ts = a.tokens in
     let lex = lexed text ts a.is_typed.tokens in
-    let read = (unit_from (length ts.names) (vocabulary ts) ts.names).holds ts.list a.tree lex.end lex.list lex.reach a.is_typed.read.reading in
+    let read = (unit_from (length ts.names) (vocabulary ts) ts.names (texts_of ts.list)).holds ts.list a.tree lex.end lex.list lex.reach a.is_typed.read.reading in
     let typed = unit_kept a.tree a.typed read.read a.is_typed.is in
     let noted = unit_noted a.typed p typed.formed a.noted in
     let first : FunctionsNamed a.tree.names a.tree.funcs = subst (λ (l : List (List ℕ)). FunctionsNamed l a.tree.funcs) (sym read.same_names) (functions_named ts.names lex.names a.tree.funcs read.declare) in

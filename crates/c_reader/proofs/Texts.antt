@@ -2,12 +2,12 @@
 use Rattle.std.proofs.Common.{◌≡◌, ℕ, List, Option, Some, None, Result, Ok, Err, refl, sym, ap, subst, ◌∙◌}
 use Rattle.grammar.specs.Syntax as grammar
 use Rattle.grammar.proofs.OneAnswer.{one_fault}
-use Rattle.c_syntax.specs.Tokens.{PlainToken, PlainTokens}
+use Rattle.c_syntax.specs.Tokens.{PlainTokens}
 use Rattle.c_syntax.specs.Programs.{TranslationUnit, PlainRefusal}
 use Rattle.c_model.specs.CTokens.{tokens_of}
 use Rattle.c_model.specs.Checked.{Fault, Checked, Good, Bad, least, refusing}
 use Rattle.c_model.specs.ProgramTyping.{typed_unit, main_fault, noted_unit}
-use Rattle.c_model.specs.ProgramGrammar.{unit}
+use Rattle.c_model.specs.ProgramGrammar.{texts_of, unit}
 use Rattle.c_model.specs.Phases.{vocabulary, IsRead, IsSyntaxFault, checked_refusal, main_refusal, AcceptedText, RefusedText, ByTokens, ByGrammar, ByNamesAndTypes, ForMain, ByAnnotations}
 use Rattle.c_model.specs.TokenWords.{syntax_refusal}
 use Rattle.c_parser.proofs.Answers.{fronts, limits}
@@ -76,7 +76,7 @@ one_broken : (text : List ℕ) (r s : PlainRefusal) → tokens_of text ≡ Err r
 one_broken text r s e k = cc
 
 one_syntax_fault : (ts : PlainTokens) (f g : grammar.Fault) → IsSyntaxFault ts f → IsSyntaxFault ts g → f ≡ g
-one_syntax_fault ts f g x y = one_fault (unit (vocabulary ts) ts.names) (fronts (vocabulary ts) ts.names) ts.list (limits (vocabulary ts) ts.names) f g x.refused y.refused
+one_syntax_fault ts f g x y = one_fault (unit (vocabulary ts) ts.names (texts_of ts.list)) (fronts (vocabulary ts) ts.names (texts_of ts.list)) ts.list (limits (vocabulary ts) ts.names (texts_of ts.list)) f g x.refused y.refused
 
 both_unread : (text : List ℕ) (a b : Answer) → IsUnread text a → IsUnread text b → a ≡ b
 both_unread text a b x y =
@@ -91,7 +91,7 @@ unread_apart text a b x y = x.found.unread y.tree (subst (λ (ts : PlainTokens).
 both_trees : (text : List ℕ) (a b : Answer) → HasTree text a → HasTree text b → a ≡ b
 both_trees text a b x y =
     let same = one_tokens text y.tokens x.tokens y.has x.has in
-    let tree = one_unit (vocabulary x.tokens) x.tokens.names x.tokens.list x.tree y.tree x.read (subst (λ (ts : PlainTokens). IsRead ts y.tree) same y.read) in
+    let tree = one_unit (vocabulary x.tokens) x.tokens.names (texts_of x.tokens.list) x.tokens.list x.tree y.tree x.read (subst (λ (ts : PlainTokens). IsRead ts y.tree) same y.read) in
     sym x.is ∙ (λ i. of_tree (sym same i) (tree i)) ∙ y.is
 
 one_answer : (text : List ℕ) (a b : Answer) → Answers text a → Answers text b → a ≡ b

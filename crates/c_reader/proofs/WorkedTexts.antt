@@ -15,12 +15,18 @@ use Rattle.c_model.specs.Pieces.{cut}
 use Rattle.c_model.specs.CTokens.{add, build, tokens_of}
 use Rattle.c_model.specs.Vocabulary.{word_of}
 use Rattle.c_model.specs.Library.{library_constant, is_library_name}
-use Rattle.c_model.specs.ExpressionGrammar.{integer_word, integer_words, type_name, base, consts, type_words, type_behind, closed, literal, cast_rest, sized_type, paren_rest, behind_paren, prefixed, sized, operand_but_name, operand_of, operand}
-use Rattle.c_model.specs.ExpressionGrammar.{joined_once, behind_operand, choice_rest, expression_rest, expression_of, expression, next_argument, arguments, call_rest, behind_name_or_callee, expression_or_call, assigned_value, assigned, bumped}
-use Rattle.c_model.specs.ExpressionGrammar.{behind_unary, behind_primary, behind_form, effect_rest, bump_first, effect_but_name, effect, behind_name, effect_or_call, full_expression, full_expression_or_call, full_effect, full_effect_or_call}
-use Rattle.c_model.specs.ProgramGrammar.{atom, sum_once, sum_of, sum, assert_clause, annotation, declared_name, declarator, next_declarator, declaration, ended, condition, else_branch, else_part, selection, while_loop, do_loop, for_first}
-use Rattle.c_model.specs.ProgramGrammar.{maybe_ended, for_behind, for_loop, jump, returned, return_statement, item, items_once, items, block, empty_statement, effect_statement, statement_of, statement_in, storage_word, result_type, parameter_name}
-use Rattle.c_model.specs.ProgramGrammar.{void_parameter, parameter_behind, parameter, next_parameter, more_parameters, first_parameter, parameters, function_rest, function, one_more_function, unit}
+use Rattle.c_model.specs.ExpressionGrammar.{integer_word, integer_words, typedef_name, struct_tag, enum_tag, untagged_base, base, consts, type_words, type_behind, more_consts, star, next_star, star_words, written_length, length_or_none}
+use Rattle.c_model.specs.ExpressionGrammar.{bracket, next_bracket, brackets, type_name, closed, indexed, dotted, arrowed, postfix_once, postfixes, postfix_rest, literal, literal_first, cast_rest, sized_type, paren_rest, behind_paren}
+use Rattle.c_model.specs.ExpressionGrammar.{prefixed, sized, operand_but_name, operand_of, operand, joined_once, behind_operand, choice_rest, expression_rest, expression_of, expression, next_argument, arguments, call_rest}
+use Rattle.c_model.specs.ExpressionGrammar.{behind_name_or_callee, expression_or_call, assigned_value, assigned, bumped, behind_unary, behind_postfix, behind_form, effect_rest, bump_first, effect_but_name, effect, behind_name}
+use Rattle.c_model.specs.ExpressionGrammar.{effect_or_call, full_expression, full_expression_or_call, full_effect, full_effect_or_call}
+use Rattle.c_model.specs.DeclarationGrammar.{ended, maybe_comma, next_item, item_once, more_items, listed, lengths, dtor, full_dtor, maybe_name, abstract_dtor, full_abstract_dtor, item_of_list, list_of, list_in, initialiser, initialised}
+use Rattle.c_model.specs.DeclarationGrammar.{declared_once, next_declared, more_declared, declared_list, declaration, parameter_rest, void_parameter, parameter_behind, parameter, next_parameter, more_parameters, first_parameter, parameters}
+use Rattle.c_model.specs.DeclarationGrammar.{next_member, members_of, behind_tag, behind_word, tagged_type, braced, member, more_members, struct_braces, constant_value, constant, enum_braces, braces_of, braces_in, storage_word}
+use Rattle.c_model.specs.DeclarationGrammar.{more_storage, file_spec}
+use Rattle.c_model.specs.ProgramGrammar.{texts_of, atom, sum_once, sum_of, sum, assert_clause, annotation, condition, else_branch, else_part, selection, while_loop, do_loop, for_first, maybe_ended, for_behind, for_loop, jump, returned}
+use Rattle.c_model.specs.ProgramGrammar.{return_statement, item, items_once, items, block, empty_statement, effect_statement, statement_of, statement_in, function_rest, function, globals, behind_declarator, declared_at_file, next_typedef}
+use Rattle.c_model.specs.ProgramGrammar.{more_typedefs, typedefs, external, more_external, unit}
 use Rattle.c_model.specs.State.{EndOfInput, Final, Exits, Broken, Undefined}
 use Rattle.c_model.specs.Meaning.{run}
 use Rattle.c_model.specs.Phases.{vocabulary}
@@ -37,7 +43,7 @@ read_as ts (Ok (p, t ∷ rest)) = Err (syntax_refusal ts (grammar.At (length (t 
 read_as ts (Err f) = Err (syntax_refusal ts f)
 
 abbrev answer : List ℕ → Answer
-answer text = elim (tokens_of text) [ Err r ↦ Err r | Ok ts ↦ read_as ts ((unit (vocabulary ts) ts.names).parse ts.list) ]
+answer text = elim (tokens_of text) [ Err r ↦ Err r | Ok ts ↦ read_as ts ((unit (vocabulary ts) ts.names (texts_of ts.list)).parse ts.list) ]
 
 abbrev Outcome : Type 0
 Outcome = Result (Final × List ℕ) PlainRefusal
@@ -74,13 +80,16 @@ programs :
     Ok (Exits (pos 1), []) ∷
     Ok (Exits (pos 1), []) ∷
     Ok (Broken 2 1 clause.Assert how.False, []) ∷ []
-unfolding tokens_of build cut piece_at add marks digits_at suffix_of body_of literal_of escape_at unit_at letter_of is_file ends_marker headers include_fault directive_fault outside_in_c outside_in_annotations backslash_names is_outside word_at
-    number_at letter_at string_at annotation_marks c_mark_at mark_at comment_at open_block open_line other_at directive_at integer_word integer_words type_name base consts type_words type_behind closed literal cast_rest sized_type paren_rest
-    behind_paren prefixed sized operand_but_name operand_of operand joined_once behind_operand choice_rest expression_rest expression_of expression next_argument arguments call_rest behind_name_or_callee expression_or_call assigned_value assigned
-    bumped behind_unary behind_primary behind_form effect_rest bump_first effect_but_name effect behind_name effect_or_call full_expression full_expression_or_call full_effect full_effect_or_call atom sum_once sum_of sum assert_clause annotation
-    declared_name declarator next_declarator declaration ended condition else_branch else_part selection while_loop do_loop for_first maybe_ended for_behind for_loop jump returned return_statement item items_once items block empty_statement
-    effect_statement statement_of statement_in storage_word result_type parameter_name void_parameter parameter_behind parameter next_parameter more_parameters first_parameter parameters function_rest function one_more_function unit word_of
-    library_constant is_library_name
+unfolding tokens_of build cut piece_at add marks digits_at suffix_of body_of literal_of escape_at unit_at letter_of is_file ends_marker headers include_fault directive_fault outside_in_c outside_in_annotations backslash_names is_outside
+    word_at number_at letter_at string_at annotation_marks c_mark_at mark_at comment_at open_block open_line other_at directive_at integer_word integer_words typedef_name struct_tag enum_tag untagged_base base consts type_words
+    type_behind more_consts star next_star star_words written_length length_or_none bracket next_bracket brackets type_name closed indexed dotted arrowed postfix_once postfixes postfix_rest literal literal_first cast_rest sized_type
+    paren_rest behind_paren prefixed sized operand_but_name operand_of operand joined_once behind_operand choice_rest expression_rest expression_of expression next_argument arguments call_rest behind_name_or_callee expression_or_call
+    assigned_value assigned bumped behind_unary behind_postfix behind_form effect_rest bump_first effect_but_name effect behind_name effect_or_call full_expression full_expression_or_call full_effect full_effect_or_call ended maybe_comma
+    next_item item_once more_items listed lengths dtor full_dtor maybe_name abstract_dtor full_abstract_dtor item_of_list list_of list_in initialiser initialised declared_once next_declared more_declared declared_list declaration
+    parameter_rest void_parameter parameter_behind parameter next_parameter more_parameters first_parameter parameters next_member members_of behind_tag behind_word tagged_type braced member more_members struct_braces constant_value
+    constant enum_braces braces_of braces_in storage_word more_storage file_spec atom sum_once sum_of sum assert_clause annotation condition else_branch else_part selection while_loop do_loop for_first maybe_ended for_behind for_loop jump
+    returned return_statement item items_once items block empty_statement effect_statement statement_of statement_in function_rest function globals behind_declarator declared_at_file next_typedef more_typedefs typedefs external
+    more_external unit word_of library_constant is_library_name
 programs = refl
 
 -- texts that are refused
@@ -120,13 +129,16 @@ refusals :
     refusal 6 (place 1 18 17) (codes "continue") ∷
     refusal 6 (place 1 25 24) (decimal 18446744073709551615) ∷
     refusal 5 (place 1 29 28) (codes "x") ∷ []
-unfolding tokens_of build cut piece_at add marks digits_at suffix_of body_of literal_of escape_at unit_at letter_of is_file ends_marker headers include_fault directive_fault outside_in_c outside_in_annotations backslash_names is_outside word_at
-    number_at letter_at string_at annotation_marks c_mark_at mark_at comment_at open_block open_line other_at directive_at integer_word integer_words type_name base consts type_words type_behind closed literal cast_rest sized_type paren_rest
-    behind_paren prefixed sized operand_but_name operand_of operand joined_once behind_operand choice_rest expression_rest expression_of expression next_argument arguments call_rest behind_name_or_callee expression_or_call assigned_value assigned
-    bumped behind_unary behind_primary behind_form effect_rest bump_first effect_but_name effect behind_name effect_or_call full_expression full_expression_or_call full_effect full_effect_or_call atom sum_once sum_of sum assert_clause annotation
-    declared_name declarator next_declarator declaration ended condition else_branch else_part selection while_loop do_loop for_first maybe_ended for_behind for_loop jump returned return_statement item items_once items block empty_statement
-    effect_statement statement_of statement_in storage_word result_type parameter_name void_parameter parameter_behind parameter next_parameter more_parameters first_parameter parameters function_rest function one_more_function unit word_of
-    library_constant is_library_name
+unfolding tokens_of build cut piece_at add marks digits_at suffix_of body_of literal_of escape_at unit_at letter_of is_file ends_marker headers include_fault directive_fault outside_in_c outside_in_annotations backslash_names is_outside
+    word_at number_at letter_at string_at annotation_marks c_mark_at mark_at comment_at open_block open_line other_at directive_at integer_word integer_words typedef_name struct_tag enum_tag untagged_base base consts type_words
+    type_behind more_consts star next_star star_words written_length length_or_none bracket next_bracket brackets type_name closed indexed dotted arrowed postfix_once postfixes postfix_rest literal literal_first cast_rest sized_type
+    paren_rest behind_paren prefixed sized operand_but_name operand_of operand joined_once behind_operand choice_rest expression_rest expression_of expression next_argument arguments call_rest behind_name_or_callee expression_or_call
+    assigned_value assigned bumped behind_unary behind_postfix behind_form effect_rest bump_first effect_but_name effect behind_name effect_or_call full_expression full_expression_or_call full_effect full_effect_or_call ended maybe_comma
+    next_item item_once more_items listed lengths dtor full_dtor maybe_name abstract_dtor full_abstract_dtor item_of_list list_of list_in initialiser initialised declared_once next_declared more_declared declared_list declaration
+    parameter_rest void_parameter parameter_behind parameter next_parameter more_parameters first_parameter parameters next_member members_of behind_tag behind_word tagged_type braced member more_members struct_braces constant_value
+    constant enum_braces braces_of braces_in storage_word more_storage file_spec atom sum_once sum_of sum assert_clause annotation condition else_branch else_part selection while_loop do_loop for_first maybe_ended for_behind for_loop jump
+    returned return_statement item items_once items block empty_statement effect_statement statement_of statement_in function_rest function globals behind_declarator declared_at_file next_typedef more_typedefs typedefs external
+    more_external unit word_of library_constant is_library_name
 refusals = refl
 
 -- functions, their prototypes and calls, and declarations in blocks
@@ -146,13 +158,16 @@ calls :
     Ok (Exits (pos 1), 41 ∷ 97 ∷ 98 ∷ 99 ∷ []) ∷
     Ok (Exits (pos 7), []) ∷
     Ok (Broken 1 1 clause.Assert how.False, 104 ∷ []) ∷ []
-unfolding tokens_of build cut piece_at add marks digits_at suffix_of body_of literal_of escape_at unit_at letter_of is_file ends_marker headers include_fault directive_fault outside_in_c outside_in_annotations backslash_names is_outside word_at
-    number_at letter_at string_at annotation_marks c_mark_at mark_at comment_at open_block open_line other_at directive_at integer_word integer_words type_name base consts type_words type_behind closed literal cast_rest sized_type paren_rest
-    behind_paren prefixed sized operand_but_name operand_of operand joined_once behind_operand choice_rest expression_rest expression_of expression next_argument arguments call_rest behind_name_or_callee expression_or_call assigned_value assigned
-    bumped behind_unary behind_primary behind_form effect_rest bump_first effect_but_name effect behind_name effect_or_call full_expression full_expression_or_call full_effect full_effect_or_call atom sum_once sum_of sum assert_clause annotation
-    declared_name declarator next_declarator declaration ended condition else_branch else_part selection while_loop do_loop for_first maybe_ended for_behind for_loop jump returned return_statement item items_once items block empty_statement
-    effect_statement statement_of statement_in storage_word result_type parameter_name void_parameter parameter_behind parameter next_parameter more_parameters first_parameter parameters function_rest function one_more_function unit word_of
-    library_constant is_library_name
+unfolding tokens_of build cut piece_at add marks digits_at suffix_of body_of literal_of escape_at unit_at letter_of is_file ends_marker headers include_fault directive_fault outside_in_c outside_in_annotations backslash_names is_outside
+    word_at number_at letter_at string_at annotation_marks c_mark_at mark_at comment_at open_block open_line other_at directive_at integer_word integer_words typedef_name struct_tag enum_tag untagged_base base consts type_words
+    type_behind more_consts star next_star star_words written_length length_or_none bracket next_bracket brackets type_name closed indexed dotted arrowed postfix_once postfixes postfix_rest literal literal_first cast_rest sized_type
+    paren_rest behind_paren prefixed sized operand_but_name operand_of operand joined_once behind_operand choice_rest expression_rest expression_of expression next_argument arguments call_rest behind_name_or_callee expression_or_call
+    assigned_value assigned bumped behind_unary behind_postfix behind_form effect_rest bump_first effect_but_name effect behind_name effect_or_call full_expression full_expression_or_call full_effect full_effect_or_call ended maybe_comma
+    next_item item_once more_items listed lengths dtor full_dtor maybe_name abstract_dtor full_abstract_dtor item_of_list list_of list_in initialiser initialised declared_once next_declared more_declared declared_list declaration
+    parameter_rest void_parameter parameter_behind parameter next_parameter more_parameters first_parameter parameters next_member members_of behind_tag behind_word tagged_type braced member more_members struct_braces constant_value
+    constant enum_braces braces_of braces_in storage_word more_storage file_spec atom sum_once sum_of sum assert_clause annotation condition else_branch else_part selection while_loop do_loop for_first maybe_ended for_behind for_loop jump
+    returned return_statement item items_once items block empty_statement effect_statement statement_of statement_in function_rest function globals behind_declarator declared_at_file next_typedef more_typedefs typedefs external
+    more_external unit word_of library_constant is_library_name
 calls = refl
 
 -- texts that are refused for their functions, calls and declarations
@@ -186,11 +201,65 @@ refused_calls :
     refusal 5 (place 1 55 54) (codes "i") ∷
     refusal 13 (place 1 1 0) (codes "main") ∷
     refusal 13 (place 1 5 4) (codes "main") ∷ []
-unfolding tokens_of build cut piece_at add marks digits_at suffix_of body_of literal_of escape_at unit_at letter_of is_file ends_marker headers include_fault directive_fault outside_in_c outside_in_annotations backslash_names is_outside word_at
-    number_at letter_at string_at annotation_marks c_mark_at mark_at comment_at open_block open_line other_at directive_at integer_word integer_words type_name base consts type_words type_behind closed literal cast_rest sized_type paren_rest
-    behind_paren prefixed sized operand_but_name operand_of operand joined_once behind_operand choice_rest expression_rest expression_of expression next_argument arguments call_rest behind_name_or_callee expression_or_call assigned_value assigned
-    bumped behind_unary behind_primary behind_form effect_rest bump_first effect_but_name effect behind_name effect_or_call full_expression full_expression_or_call full_effect full_effect_or_call atom sum_once sum_of sum assert_clause annotation
-    declared_name declarator next_declarator declaration ended condition else_branch else_part selection while_loop do_loop for_first maybe_ended for_behind for_loop jump returned return_statement item items_once items block empty_statement
-    effect_statement statement_of statement_in storage_word result_type parameter_name void_parameter parameter_behind parameter next_parameter more_parameters first_parameter parameters function_rest function one_more_function unit word_of
-    library_constant is_library_name
+unfolding tokens_of build cut piece_at add marks digits_at suffix_of body_of literal_of escape_at unit_at letter_of is_file ends_marker headers include_fault directive_fault outside_in_c outside_in_annotations backslash_names is_outside
+    word_at number_at letter_at string_at annotation_marks c_mark_at mark_at comment_at open_block open_line other_at directive_at integer_word integer_words typedef_name struct_tag enum_tag untagged_base base consts type_words
+    type_behind more_consts star next_star star_words written_length length_or_none bracket next_bracket brackets type_name closed indexed dotted arrowed postfix_once postfixes postfix_rest literal literal_first cast_rest sized_type
+    paren_rest behind_paren prefixed sized operand_but_name operand_of operand joined_once behind_operand choice_rest expression_rest expression_of expression next_argument arguments call_rest behind_name_or_callee expression_or_call
+    assigned_value assigned bumped behind_unary behind_postfix behind_form effect_rest bump_first effect_but_name effect behind_name effect_or_call full_expression full_expression_or_call full_effect full_effect_or_call ended maybe_comma
+    next_item item_once more_items listed lengths dtor full_dtor maybe_name abstract_dtor full_abstract_dtor item_of_list list_of list_in initialiser initialised declared_once next_declared more_declared declared_list declaration
+    parameter_rest void_parameter parameter_behind parameter next_parameter more_parameters first_parameter parameters next_member members_of behind_tag behind_word tagged_type braced member more_members struct_braces constant_value
+    constant enum_braces braces_of braces_in storage_word more_storage file_spec atom sum_once sum_of sum assert_clause annotation condition else_branch else_part selection while_loop do_loop for_first maybe_ended for_behind for_loop jump
+    returned return_statement item items_once items block empty_statement effect_statement statement_of statement_in function_rest function globals behind_declarator declared_at_file next_typedef more_typedefs typedefs external
+    more_external unit word_of library_constant is_library_name
 refused_calls = refl
+
+-- texts that are refused for what they declare
+refused_declarations :
+    outcome (codes "int *p;") ∷
+    outcome (codes "int a[4];") ∷
+    outcome (codes "struct s { int n; };") ∷
+    outcome (codes "struct { int n; } x;") ∷
+    outcome (codes "enum e { A, B = 2, };") ∷
+    outcome (codes "typedef int T; T f(void);") ∷
+    outcome (codes "char *s = \"a\";") ∷
+    outcome (codes "int *f(void);") ∷
+    outcome (codes "int f(int *p);") ∷
+    outcome (codes "int main(void) { int *x; return 0; }") ∷
+    outcome (codes "typedef int;") ∷
+    outcome (codes "int *const f(void);") ∷
+    outcome (codes "struct s { };") ∷
+    outcome (codes "int a[] [") ∷
+    outcome (codes "typedef int T, *P, a[sizeof(T)]; T T;") ∷
+    outcome (codes "int f(int, void);") ∷
+    outcome (codes "enum e { A, B }; enum e { };") ∷
+    outcome (codes "struct T { struct T *T; } T; int main(void) { typedef int x; }") ∷ []
+    ≡
+    refusal 6 (place 1 6 5) (codes "p") ∷
+    refusal 6 (place 1 5 4) (codes "a") ∷
+    refusal 6 (place 1 8 7) (codes "s") ∷
+    refusal 6 (place 1 1 0) (codes "struct") ∷
+    refusal 6 (place 1 6 5) (codes "e") ∷
+    refusal 6 (place 1 13 12) (codes "T") ∷
+    refusal 6 (place 1 7 6) (codes "s") ∷
+    refusal 6 (place 1 6 5) (codes "f") ∷
+    refusal 6 (place 1 12 11) (codes "p") ∷
+    refusal 6 (place 1 23 22) (codes "x") ∷
+    refusal 4 (place 1 12 11) (codes ";") ∷
+    refusal 4 (place 1 13 12) (codes "(") ∷
+    refusal 4 (place 1 12 11) (codes "}") ∷
+    refusal 4 (place 1 10 9) (codes "end of file") ∷
+    refusal 4 (place 1 36 35) (codes "T") ∷
+    refusal 4 (place 1 16 15) (codes ")") ∷
+    refusal 4 (place 1 27 26) (codes "}") ∷
+    refusal 4 (place 1 47 46) (codes "typedef") ∷ []
+unfolding tokens_of build cut piece_at add marks digits_at suffix_of body_of literal_of escape_at unit_at letter_of is_file ends_marker headers include_fault directive_fault outside_in_c outside_in_annotations backslash_names is_outside
+    word_at number_at letter_at string_at annotation_marks c_mark_at mark_at comment_at open_block open_line other_at directive_at integer_word integer_words typedef_name struct_tag enum_tag untagged_base base consts type_words
+    type_behind more_consts star next_star star_words written_length length_or_none bracket next_bracket brackets type_name closed indexed dotted arrowed postfix_once postfixes postfix_rest literal literal_first cast_rest sized_type
+    paren_rest behind_paren prefixed sized operand_but_name operand_of operand joined_once behind_operand choice_rest expression_rest expression_of expression next_argument arguments call_rest behind_name_or_callee expression_or_call
+    assigned_value assigned bumped behind_unary behind_postfix behind_form effect_rest bump_first effect_but_name effect behind_name effect_or_call full_expression full_expression_or_call full_effect full_effect_or_call ended maybe_comma
+    next_item item_once more_items listed lengths dtor full_dtor maybe_name abstract_dtor full_abstract_dtor item_of_list list_of list_in initialiser initialised declared_once next_declared more_declared declared_list declaration
+    parameter_rest void_parameter parameter_behind parameter next_parameter more_parameters first_parameter parameters next_member members_of behind_tag behind_word tagged_type braced member more_members struct_braces constant_value
+    constant enum_braces braces_of braces_in storage_word more_storage file_spec atom sum_once sum_of sum assert_clause annotation condition else_branch else_part selection while_loop do_loop for_first maybe_ended for_behind for_loop jump
+    returned return_statement item items_once items block empty_statement effect_statement statement_of statement_in function_rest function globals behind_declarator declared_at_file next_typedef more_typedefs typedefs external
+    more_external unit word_of library_constant is_library_name
+refused_declarations = refl

@@ -7,7 +7,7 @@ use Rattle.c_syntax.specs.Programs.{Function, TranslationUnit, plain_func}
 use Rattle.c_model.specs.Library.{is_library_name}
 use Rattle.c_model.specs.Checked.{Checked, Good, Bad, one_part, both_parts, where_so}
 use Rattle.c_model.specs.Typing.{no_name, no_type, Scopes, function_called, name_at, is_object_type, declarable}
-use Rattle.c_model.specs.ProgramTyping.{signature, is_compatible_with_all, typed_parameter, with_parameter, with_parameters, typed_parameters, function_scopes, typed_body, typed_function, typed_functions, noted_body, noted_functions}
+use Rattle.c_model.specs.ProgramTyping.{signature, is_result_type, is_compatible_with_all, typed_parameter, with_parameter, with_parameters, typed_parameters, function_scopes, typed_body, typed_function, typed_functions, noted_body, noted_functions}
 use Rattle.c_type_rules.specs.declared.fault.TypeFault.{TypeFault}
 use Rattle.c_type_rules.specs.Answers.{Answers, both}
 use Rattle.c_type_rules.proofs.Gives.{Gives, gives_where}
@@ -122,12 +122,14 @@ heading_then p m c (Err e) r is a = subst (Answers p (one_part m (λ u. c))) (sy
 function_is : (p : TranslationUnit) (before rest : List Function) (f : Function) → p.funcs ≡ before ++ f ∷ rest
     → one_part (checked_heading (behind_functions p before) (known before) f) (λ u. checked_parts (with_function (denoted p.funcs) (behind_functions p before) f) f) ≡ typed_function (function_scopes p before f) before f
 function_is p before rest f is =
-    (λ i. one_part (where_so (not (is_library_name (name_at p.names f.name)) && fits_is p.funcs f before i) (no_name f.place) (Good tt)) (λ u. checked_parts (sight_is p before rest f is i) f))
-    ∙ by (not (is_library_name (name_at p.names f.name)) && is_compatible_with_all before f)
+    (λ i. one_part (where_so (not (is_library_name (name_at p.names f.name)) && fits_is p.funcs f before i) (no_name f.place) (where_so (is_result_type f.result) (no_type f.place) (Good tt))) (λ u. checked_parts (sight_is p before rest f is i) f))
+    ∙ by (not (is_library_name (name_at p.names f.name)) && is_compatible_with_all before f) (is_result_type f.result)
   where
-    by : (b : Bool) → one_part {A = Unit {0}} (where_so b (no_name f.place) (Good tt)) (λ u. checked_parts (function_scopes p before f) f) ≡ one_part (where_so b (no_name f.place) (Good f)) (typed_parts (function_scopes p before f))
-    by true = parts_are (function_scopes p before f) f
-    by false = refl
+    by : (b c : Bool) → one_part {A = Unit {0}} (where_so b (no_name f.place) (where_so c (no_type f.place) (Good tt))) (λ u. checked_parts (function_scopes p before f) f)
+        ≡ one_part (where_so b (no_name f.place) (where_so c (no_type f.place) (Good f))) (typed_parts (function_scopes p before f))
+    by true true = parts_are (function_scopes p before f) f
+    by true false = refl
+    by false c = refl
 
 module _ (p : TranslationUnit) (xs : List Func) (f : Func) (rest : List Func) (all : p.funcs ≡ map plain_func (xs ++ f ∷ rest))
   where

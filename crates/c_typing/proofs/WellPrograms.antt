@@ -7,10 +7,10 @@ use Rattle.c_syntax.specs.Statements.{Declaration, Statement}
 use Rattle.c_syntax.specs.Programs.{Function, TranslationUnit}
 use Rattle.c_model.specs.Meaning.{is_definition}
 use Rattle.c_model.specs.Library.{is_library_name, is_there}
-use Rattle.c_model.specs.Checked.{Good, one_part, where_so}
+use Rattle.c_model.specs.Checked.{Checked, Good, Bad, one_part, where_so}
 use Rattle.c_model.specs.Typing.{no_type, Signature, Scopes, name_at, same_type, is_object_type, declarable}
 use Rattle.c_model.specs.ProgramTyping.{definition_of, first_of, number_or, offset_of, types_of, signature, same_types, is_compatible, is_compatible_with_all, typed_heading, typed_parameter}
-use Rattle.c_model.specs.ProgramTyping.{with_parameter, with_parameters, typed_parameters, function_scopes, typed_body, typed_function, typed_functions, typed_unit, noted_body, noted_functions, noted_unit}
+use Rattle.c_model.specs.ProgramTyping.{with_parameter, with_parameters, typed_parameters, function_scopes, typed_body, typed_function, typed_functions, is_result_type, untyped_places, untyped_at, typed_unit, noted_body, noted_functions, noted_unit}
 use Rattle.c_model.specs.WellTypedPrograms.{IsParameter, AreParameters, BodyTyped, FunctionsTyped, ProgramTyped}
 use Rattle.c_type_rules.proofs.Gives.{Gives, gives_of, gives_more, gives_one, gives_both, gives_where}
 use Rattle.c_type_rules.proofs.WellExpressions.{and_true, not_true}
@@ -161,7 +161,7 @@ heading_well : (s : Scopes) (before : List Function) (f : Function) → Gives (I
 heading_well s before f =
     gives_where (IsFitting s before f) (not (is_library_name (name_at s.names f.name)) && is_compatible_with_all before f) _ _ (λ t.
     let p = and_true (not (is_library_name (name_at s.names f.name))) (is_compatible_with_all before f) t in
-    record { same = refl; own_name = not_true (is_library_name (name_at s.names f.name)) p.0; fits = p.1 })
+    gives_where (IsFitting s before f) (is_result_type f.result) _ _ (λ _. record { same = refl; own_name = not_true (is_library_name (name_at s.names f.name)) p.0; fits = p.1 }))
 
 parts_well : (s : Scopes) (before : List Heading) (f : Function) → is_library_name (name_at s.names f.name) ≡ false → compatible_with_all before (heading f) ≡ true
     → Gives (Keeps BodyWell s before f) (one_part (typed_parameters s f.params) (λ params. one_part (typed_body (with_parameters s params) f.result f.body) (λ b. Good (record f { params = params; body = b }))))
@@ -220,10 +220,15 @@ functions_noted p before (f ∷ fs) h =
 abbrev UnitWell : OfBodies → TranslationUnit → Type 0
 UnitWell P p = AreWell P p.names (map heading p.funcs) [] p.funcs
 
+anything : {A : Type 0} (c : Checked A) → Gives (λ _. Unit {0}) c
+anything (Good a) = tt
+anything (Bad f fs) = tt
+
 unit_well : (p : TranslationUnit) → Gives (UnitWell BodyWell) (typed_unit p)
 unit_well p =
-    gives_one (AllKeep BodyWell p.names (map heading p.funcs) [] p.funcs) (UnitWell BodyWell) (typed_functions p [] p.funcs) (λ fs. Good (record p { funcs = fs })) (functions_well p [] p.funcs)
-    (λ fs w. subst (λ hs. AreWell BodyWell p.names hs [] fs) (sym w.same) w.well)
+    gives_both (AllKeep BodyWell p.names (map heading p.funcs) [] p.funcs) (λ _. Unit {0}) (UnitWell BodyWell) (typed_functions p [] p.funcs) (untyped_at (untyped_places p)) (λ fs _. Good (record p { funcs = fs })) (functions_well p [] p.funcs)
+    (anything _)
+    (λ fs _ w _. subst (λ hs. AreWell BodyWell p.names hs [] fs) (sym w.same) w.well)
 
 unit_noted : (t : TranslationUnit) → UnitWell BodyWell t → Gives (UnitWell BodyTyped) (noted_unit t)
 unit_noted t h =

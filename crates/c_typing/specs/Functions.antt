@@ -7,8 +7,8 @@ use Rattle.c_syntax.specs.Programs.{Function, TranslationUnit}
 use Rattle.c_model.specs.Meaning.{is_definition}
 use Rattle.c_model.specs.Library.{is_library_name}
 use Rattle.c_model.specs.Checked.{Checked, Good, one_part, where_so}
-use Rattle.c_model.specs.Typing.{no_name, Signature, Scopes, function_called, name_at, same_type}
-use Rattle.c_model.specs.ProgramTyping.{definition_of, first_of, types_of, same_signature, same_types, typed_parameter}
+use Rattle.c_model.specs.Typing.{no_name, no_type, Signature, Scopes, function_called, name_at, same_type}
+use Rattle.c_model.specs.ProgramTyping.{definition_of, first_of, is_result_type, types_of, same_signature, same_types, typed_parameter}
 use Rattle.c_model.specs.ProgramTyping.{with_parameter, with_parameters, typed_body, typed_functions, noted_body}
 use Rattle.c_type_rules.specs.declared.fault.TypeFault.{TypeFault}
 use Rattle.c_type_rules.specs.Answers.{Answers}
@@ -78,7 +78,8 @@ fits (Some g) (Some n) f = n.alike && has_type g f && not (is_definition f && n.
 -- a function's name, among those in sight
 abbrev pub checked_heading : Scopes → (ℕ → Option Noted) → Function → Checked (Unit {0})
 checked_heading s names f =
-    where_so (not (is_library_name (name_at s.names f.name)) && fits (function_called f.name s.functions) (names f.name) f) (no_name f.place) (Good tt)
+    where_so (not (is_library_name (name_at s.names f.name)) && fits (function_called f.name s.functions) (names f.name) f) (no_name f.place)
+    (where_so (is_result_type f.result) (no_type f.place) (Good tt))
 
 abbrev pub decl_or : Option Callee → ℕ → ℕ
 decl_or None n = n
@@ -116,6 +117,10 @@ AnswersBehind (Err e) plain c result = result ≡ Err e
 -- a file with these names and functions
 abbrev pub file_of : List (List ℕ) → List Function → TranslationUnit
 file_of names fs = record { names = names; texts = []; structs = []; enums = []; typedefs = []; globals = []; funcs = fs; strays = [] }
+
+-- a text whose functions are typed
+abbrev pub typed_funcs : TranslationUnit → Checked TranslationUnit
+typed_funcs p = one_part (typed_functions p [] p.funcs) (λ fs. Good (record p { funcs = fs }))
 
 abbrev pub typed_file : List (List ℕ) → List Function → Checked (List Function)
 typed_file names fs = typed_functions (file_of names fs) [] fs

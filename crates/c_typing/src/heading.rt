@@ -7,7 +7,7 @@ ghost use Rattle.c_syntax.specs.Ctypes.{plain_type};
 ghost use Rattle.c_syntax.specs.Statements.{plain_decl};
 ghost use Rattle.c_syntax.specs.Programs.{plain_func};
 ghost use Rattle.c_model.specs.Typing.{function_called};
-ghost use Rattle.c_model.specs.ProgramTyping.{same_types, types_of};
+ghost use Rattle.c_model.specs.ProgramTyping.{is_result_type, same_types, types_of};
 ghost use Rattle.c_type_rules.specs.Answers.{Answers, IsRefusal};
 ghost use Rattle.c_type_rules.specs.Scopes.{plain_scopes};
 ghost use Rattle.c_type_rules.specs.Signatures.{plain_signature};
@@ -16,8 +16,8 @@ ghost use Rattle.c_typing.specs.Functions.{tells_more, was_defined, with_functio
 
 use c_syntax::copy::copy_type;
 use c_syntax::{CType, Decl, Func};
-use c_type_rules::conversion::same_type;
-use c_type_rules::fault::{TypeFault, no_name};
+use c_type_rules::conversion::{is_object_type, same_type};
+use c_type_rules::fault::{TypeFault, no_name, no_type};
 use c_type_rules::library::is_library_name;
 use c_type_rules::scope::{Scopes, name_at};
 use c_type_rules::signature::{Functions, Signature};
@@ -115,7 +115,23 @@ fn fits(functions: &Functions, names: &IndexMap<u32, Noted>, f: &Func) -> bool
     }
 }
 
-/// A function's name: none of the library's, and fitting those that are declared before it.
+/// Whether a function may have a result of this type.
+fn is_result_type(t: &CType) -> bool
+    ensures { result ≡ is_result_type (plain_type t.now) }
+{
+    match t {
+        CType::Void => true,
+        CType::Int(_)
+        | CType::Ptr(_)
+        | CType::Array(..)
+        | CType::Struct(_)
+        | CType::Named(_)
+        | CType::StructTag(_)
+        | CType::EnumTag(..) => is_object_type(t),
+    }
+}
+
+/// A function's name: none of the library's, and fitting those that are declared before it; and the type of its result.
 pub fn check_heading(
     scopes: &Scopes,
     names: &IndexMap<u32, Noted>,
@@ -127,10 +143,13 @@ pub fn check_heading(
     if is_library_name(name_at(&scopes.names, f.name)) {
         return Err(no_name(f.place));
     }
-    if fits(&scopes.functions, names, f) {
+    if !fits(&scopes.functions, names, f) {
+        return Err(no_name(f.place));
+    }
+    if is_result_type(&f.result) {
         Ok(())
     } else {
-        Err(no_name(f.place))
+        Err(no_type(f.place))
     }
 }
 

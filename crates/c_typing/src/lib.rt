@@ -14,6 +14,7 @@ pub mod heading;
 pub mod parameter;
 pub mod program;
 pub mod statement;
+pub mod untyped;
 
 // annotations
 pub mod annotation;

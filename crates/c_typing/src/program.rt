@@ -7,18 +7,20 @@ ghost use Rattle.c_model.specs.Typing.{same_type};
 ghost use Rattle.c_model.specs.ProgramTyping.{has_no_parameters, main_fault, typed_unit};
 ghost use Rattle.c_type_rules.specs.Answers.{Answers, plain_fault};
 ghost use Rattle.c_typing.specs.Answers.{AnswersProgram};
+ghost use Rattle.c_typing.specs.Functions.{typed_funcs};
 
 use crate::checked::{ProgramFault, Typed};
 use crate::function::{file_scopes, type_functions};
+use crate::untyped::check_untyped;
 use c_syntax::{CInt, CType, Func, Name, Place, Program, code};
-use c_type_rules::fault::{Fault, TypeFault};
+use c_type_rules::fault::{Fault, TypeFault, both};
 use c_type_rules::scope::{Scopes, name_at};
 use std::alloc::Global;
 use std::mem::replace;
 
-/// Names and types of a text.
-fn type_unit(alloc: Global, program: &mut Program) -> Result<(), TypeFault>
-    ensures { Answers (λ _. plain_program program.new) (typed_unit (plain_program program.old)) result }
+/// Names and types of a text's functions.
+fn type_file(alloc: Global, program: &mut Program) -> Result<(), TypeFault>
+    ensures { Answers (λ _. plain_program program.new) (typed_funcs (plain_program program.old)) result }
 {
     let names = replace(&mut program.names, Vec::new(alloc));
     let mut scopes = file_scopes(alloc, names);
@@ -26,6 +28,15 @@ fn type_unit(alloc: Global, program: &mut Program) -> Result<(), TypeFault>
     let Scopes { names, .. } = scopes;
     program.names = names;
     Ok(())
+}
+
+/// Names and types of a text.
+fn type_unit(alloc: Global, program: &mut Program) -> Result<(), TypeFault>
+    ensures { Answers (λ _. plain_program program.new) (typed_unit (plain_program program.old)) result }
+{
+    let untyped = check_untyped(alloc, program);
+    let typed = type_file(alloc, program);
+    both(typed, untyped)
 }
 
 /// Whether a function's type is `int (void)`.
