@@ -66,6 +66,26 @@ fn an_expression_is_read_at_a_place(rt: HostRuntime) {
     ends(&rt, "x = a + b * c ;", 8, 1004);
 }
 
+#[test]
+fn postfix_operators_are_read(rt: HostRuntime) {
+    ends(&rt, "p -> a [ 1 ] . size_t + * & q ;", 0, 12);
+    ends(&rt, "\"abc\" [ 1 ] [ i ? 0 : 1 ] ;", 0, 11);
+    ends(&rt, "( p ) . assert ++ ;", 0, 5);
+    ends(&rt, "a . 1", 0, 1004);
+    ends(&rt, "a [ ]", 0, 1004);
+}
+
+#[test]
+fn types_in_parentheses_are_read(rt: HostRuntime) {
+    ends(&rt, "( const struct s * const * [ 3 ] ) x [ 1 ] ;", 0, 15);
+    ends(&rt, "sizeof ( int * [ 2 ] [ n ] ) ;", 0, 11);
+    ends(&rt, "sizeof ( int ) [ 1 ]", 0, 4);
+    ends(&rt, "sizeof ( x ) [ 1 ]", 0, 7);
+    ends(&rt, "( enum size_t ) x", 0, 5);
+    ends(&rt, "( enum ) x", 0, 1004);
+    ends(&rt, "( int [ ] ) x", 0, 1004);
+}
+
 /// Compares the steps of a job, 0 where there is none.
 fn has_steps(rt: &(impl Abort + AllocGlobal), line: &str, wanted: u64) {
     let mut words = Vec::new(rt.alloc());
