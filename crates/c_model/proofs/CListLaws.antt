@@ -42,7 +42,7 @@ cut_some zero at fresh m (b ∷ bs) = by (piece_at m fresh (b ∷ bs)) refl (λ 
 
 -- ---- what is put after a list
 
-abbrev AllBelow : ℕ → List PlainToken → Type 0
+abbrev pub AllBelow : ℕ → List PlainToken → Type 0
 AllBelow n [] = Unit {0}
 AllBelow n (t ∷ ts) = (t.place.offset < n) × AllBelow n ts
 
@@ -154,16 +154,21 @@ add_in_order n k r at piece.Chars bytes h e lt = record {
 }
 add_in_order n k r at (piece.Mark i) bytes h e lt = put_in_order n k r.list at _ h e lt refl
 
-closed_in_order : (n : ℕ) (r : Read) (at : Place) (m : Mode) → InOrder n r.list → at.offset ≡ n → Ascend (closed r at m).list × StringsApart (closed r at m).list
-closed_in_order n r at Code h e = (h.ascend, h.apart)
-closed_in_order n r at Block h e = (h.ascend, h.apart)
-closed_in_order n r at Line h e = let d = put_in_order n (suc n) r.list at token.AnnotClose h e (omega arith) refl in (d.ascend, d.apart)
+order_more : (n k : ℕ) (ts : List PlainToken) → n ≤ k → InOrder n ts → InOrder k ts
+order_more n k ts le h = record { below = below_more n k ts le h.below; ascend = h.ascend; apart = h.apart }
+
+-- the end of an annotation with `//@` may stand at the end of the text
+closed_in_order : (n : ℕ) (r : Read) (at : Place) (m : Mode) → InOrder n r.list → at.offset ≡ n → InOrder (suc n) (closed r at m).list
+closed_in_order n r at Code h e = order_more n (suc n) r.list (omega arith) h
+closed_in_order n r at Block h e = order_more n (suc n) r.list (omega arith) h
+closed_in_order n r at Line h e = put_in_order n (suc n) r.list at token.AnnotClose h e (omega arith) refl
 
 same_tokens : (x y : PlainTokens) → (let r : Result PlainTokens PlainRefusal = Ok x in r) ≡ Ok y → x ≡ y
 same_tokens x y e = cc
 
 -- what holds of the tokens of pieces after these bytes
 record Listed (before : List ℕ) (ps : Pieces) (tokens : PlainTokens) : Type 0 where
+  below : AllBelow (suc (length (before ++ bytes_of ps))) tokens.list
   ascend : Ascend tokens.list
   apart : StringsApart tokens.list
   few : length tokens.list ≤ most_tokens
@@ -177,8 +182,10 @@ listed before r (Ended at m) tokens placed some order e = elim (chosen (ltb most
       let same = same_tokens (whole (closed r at m) at) tokens h.1 in
       let c = closed_in_order (length before) r at m order (ap (λ (p : Place). p.offset) placed) in
       record {
-        ascend = subst (λ (t : PlainTokens). Ascend t.list) same c.0;
-        apart = subst (λ (t : PlainTokens). StringsApart t.list) same c.1;
+        below = subst (λ (t : PlainTokens). AllBelow (suc (length (before ++ []))) t.list) same
+            (subst (λ (bs : List ℕ). AllBelow (suc (length bs)) (closed r at m).list) (sym (append-nil before)) c.below);
+        ascend = subst (λ (t : PlainTokens). Ascend t.list) same c.ascend;
+        apart = subst (λ (t : PlainTokens). StringsApart t.list) same c.apart;
         few = subst (λ (t : PlainTokens). length t.list ≤ most_tokens) same (ltb-false _ _ h.0);
         end = ap (λ (t : PlainTokens). t.end) (sym same) ∙ placed ∙ ap place_of (sym (append-nil before));
       }
@@ -189,7 +196,13 @@ listed before r (Cut at p bytes more) tokens placed some order e = elim (chosen 
   | inr h ↦
       let next = add_in_order (length before) (length (before ++ bytes)) r at p bytes order (ap (λ (q : Place). q.offset) placed.0) (omega (arith, length-append before bytes, some.0)) in
       let rest = listed (before ++ bytes) (add r at p bytes) more tokens placed.1 some.1 next h.1 in
-      record { ascend = rest.ascend; apart = rest.apart; few = rest.few; end = rest.end ∙ ap place_of (append_assoc before bytes (bytes_of more)) }
+      record {
+        below = subst (λ (bs : List ℕ). AllBelow (suc (length bs)) tokens.list) (append_assoc before bytes (bytes_of more)) rest.below;
+        ascend = rest.ascend;
+        apart = rest.apart;
+        few = rest.few;
+        end = rest.end ∙ ap place_of (append_assoc before bytes (bytes_of more));
+      }
 ]
 
 list_of : (text : List ℕ) (tokens : PlainTokens) → tokens_of text ≡ Ok tokens → Listed [] (pieces_of text) tokens
@@ -198,6 +211,10 @@ list_of text tokens e = listed [] nothing_read (pieces_of text) tokens (pieces_p
 
 pub tokens_ascend : (text : List ℕ) (tokens : PlainTokens) → tokens_of text ≡ Ok tokens → Ascend tokens.list
 tokens_ascend text tokens e = (list_of text tokens e).ascend
+
+-- each token begins in the text, or at its end
+pub tokens_below : (text : List ℕ) (tokens : PlainTokens) → tokens_of text ≡ Ok tokens → AllBelow (suc (length text)) tokens.list
+tokens_below text tokens e = subst (λ (bs : List ℕ). AllBelow (suc (length bs)) tokens.list) (pieces_joined text) (list_of text tokens e).below
 
 pub strings_joined : (text : List ℕ) (tokens : PlainTokens) → tokens_of text ≡ Ok tokens → StringsApart tokens.list
 strings_joined text tokens e = (list_of text tokens e).apart

@@ -12,8 +12,59 @@ pub mod Blocks
 pub mod Fit
 pub mod Along
 pub mod Agreement
-pub mod Signatures
-pub mod Faultless
+pub mod TypedParts
+pub mod TypedOperators
+pub mod TypedExpressions
+pub mod TypedSoundness
+pub mod TypedReading
+pub mod TypedInitialisers
+pub mod TypedDeclarations
+pub mod TypedStatements
+pub mod TypedFunctions
+pub mod NotedTrees
+pub mod ReadStatements
+pub mod TypedUnits
+pub mod TextTypingLaws
+pub mod TypedSizes
+pub mod SmallStatements
+pub mod SmallPrograms
+pub mod CompatibleFunctions
+pub mod SignaturesInSight
+pub mod ResolvedCalls
+pub mod NotedFiles
+pub mod NotedTerms
+pub mod NotedForms
+pub mod NotedPrograms
+pub mod KeptExpressions
+pub mod KeptStatements
+pub mod KeptForms
+pub mod StableConstants
+pub mod StableTrees
+pub mod StableStatements
+pub mod GrownStructs
+pub mod TypedBelow
+pub mod LaidOut
+pub mod EndedMembers
+pub mod TypedLayouts
+pub mod TypedStructs
+pub mod TypedPrograms
+pub mod TypedNumbers
+pub mod TypedNames
+pub mod ConstantGlobals
+pub mod FirmTypes
+pub mod SmallTypedExpressions
+pub mod SmallTypedStatements
+pub mod SmallTypedFiles
+pub mod AcceptedFiles
+pub mod FileOrder
+pub mod TypedFileSights
+pub mod TypedFileItems
+pub mod NoFaultsRuns
+pub mod NoFaultsValues
+pub mod NoFaultsExpressions
+pub mod NoFaultsStatements
+pub mod NoFaultsItems
+pub mod NoFaults
 -- tokens of monitored texts
 pub mod Spelling
 pub mod BrokenPieces
@@ -38,8 +89,13 @@ pub mod CListLaws
 mod MonitoredTexts
 mod CTexts
 mod WorkedTrees
-mod WorkedTypings
+mod WorkedExpressionTyping
+mod WorkedDeclarationTyping
+mod WorkedTypingFaults
+mod WorkedDeclarationFaults
+mod WorkedAnnotationTyping
 mod WorkedOperators
 mod WorkedMemory
 mod WorkedRuns
 mod WorkedCalls
+pub mod WorkedTypings

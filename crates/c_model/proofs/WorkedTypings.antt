@@ -12,7 +12,8 @@ use Rattle.c_syntax.specs.Statements.{Eval, Block, For, Return, First, Declare, 
 use Rattle.c_syntax.specs.Programs.{TranslationUnit}
 use Rattle.c_model.specs.Library.{library_constant, is_library_name}
 use Rattle.c_model.specs.Checked.{Good, refusing}
-use Rattle.c_model.specs.ProgramTyping.{typed_unit, main_fault, noted_unit}
+use Rattle.c_model.specs.UnitTyping.{typed_unit, main_fault}
+use Rattle.c_model.specs.AnnotationTyping.{noted_unit}
 use Rattle.c_model.proofs.WorkedTrees.{place, literal, typed_variable, variable, binary, assignment, bump, cast, call, object_of, int_variable, unwritten_int, parameter, int_parameter, unnamed_parameter, items_of}
 use Rattle.c_model.proofs.WorkedTrees.{literal_term, read_term, variable_term, assertion, definition, prototype, unit_of}
 

@@ -1,8 +1,7 @@
--- What is known of each program of an accepted text besides its types: where effects, calls and declarations stand, how large its
--- parts are, and that it has `main`.
+-- Parts of programs: names, the depth of statements, how many forms expressions have, the asserts that are built, what a function declares, and
+-- the numbers of declarations.
 use Rattle.std.specs.List.{AllByRecursion}
 use Rattle.std.specs.Prelude.{◌≡◌, true, ℕ, suc, max, ◌<◌, length, ◌+◌, ◌++◌, ◌^◌, ◌-◌, ◌≤◌, ℤ, pos, negsuc, ◌≤ℤ◌, List, [], ◌∷◌, map, Option, Some, None}
-use Rattle.c_syntax.specs.declared.place.Place.{Place}
 use Rattle.c_syntax.specs.declared.expression.BinOp.{BinOp}
 use Rattle.c_syntax.specs.declared.expression.BinOp.TheVariants.{Add, Sub}
 use Rattle.c_syntax.specs.declared.annotation.Kind.TheVariants.{Assert}
@@ -10,14 +9,11 @@ use Rattle.c_syntax.specs.Expressions.{Expression, Node, Number, Letter, Variabl
 use Rattle.c_syntax.specs.Expressions.{SizeOfExpr, Text, Index, Dot, Arrow, Comma, Expressions, NoExpression, Following}
 use Rattle.c_syntax.specs.Annotations as logic
 use Rattle.c_syntax.specs.Annotations.{LogicTerm, Predicate, Chain, Links, NoLink, Linked, ClauseBody, Truth, Annotation}
-use Rattle.c_syntax.specs.Statements.{Initialiser, One, Many, Declaration, Statement, Empty, Eval, Block, If, While, Do, For, Break, Continue, Return, ElsePart}
+use Rattle.c_syntax.specs.Statements.{Declaration, Statement, Empty, Eval, Block, If, While, Do, For, Break, Continue, Return, ElsePart}
 use Rattle.c_syntax.specs.Statements.{NoElse, Else, ForFirst, NoFirst, First, BlockItem, Declare, Run, Asserts, BlockItems, NoItem, Then}
-use Rattle.c_syntax.specs.Programs.{Function, TranslationUnit}
+use Rattle.c_syntax.specs.Programs.{Function}
 use Rattle.c_model.specs.Characters.{is_part}
-use Rattle.c_model.specs.ExpressionGrammar.{most_nested}
-use Rattle.c_model.specs.Typing.{name_at}
-use Rattle.c_model.specs.ProgramTyping.{main_fault}
-use Rattle.c_model.specs.WellTypedPrograms.{WhereAny, ProgramTyped}
+use Rattle.c_model.specs.ExpressionTyping.{name_at}
 
 -- ---- names and depth
 
@@ -56,50 +52,6 @@ abbrev mutual
 
 -- ---- expressions
 
--- an expression without effects and calls
-abbrev pub IsPure : Expression → Type 0
-IsPure (Node at t (Number n k)) = Unit {0}
-IsPure (Node at t (Letter n)) = Unit {0}
-IsPure (Node at t (Variable x)) = Unit {0}
-IsPure (Node at t (Unary op a)) = IsPure a
-IsPure (Node at t (Binary op a b)) = IsPure a × IsPure b
-IsPure (Node at t (Both a b)) = IsPure a × IsPure b
-IsPure (Node at t (Either a b)) = IsPure a × IsPure b
-IsPure (Node at t (Choice a b c)) = IsPure a × IsPure b × IsPure c
-IsPure (Node at t (Assign op a b)) = ⊥
-IsPure (Node at t (Bump op a)) = ⊥
-IsPure (Node at t (Call f es)) = ⊥
-IsPure (Node at t (Cast to a)) = IsPure a
-IsPure (Node at t (SizeOfType u)) = Unit {0}
-IsPure (Node at t (SizeOfExpr a)) = IsPure a
-IsPure (Node at t (Text n)) = ⊥
-IsPure (Node at t (Index a b)) = ⊥
-IsPure (Node at t (Dot a m)) = ⊥
-IsPure (Node at t (Arrow a m)) = ⊥
-IsPure (Node at t (Comma a b)) = ⊥
-
-abbrev pub ArePure : Expressions → Type 0
-ArePure NoExpression = Unit {0}
-ArePure (Following e es) = IsPure e × ArePure es
-
--- such an expression, or a call, which stands in a cast where its value is converted
-abbrev pub IsPureOrCall : Expression → Type 0
-IsPureOrCall (Node at t (Call f es)) = ArePure es
-IsPureOrCall (Node at t (Cast to (Node at2 u (Call f es)))) = ArePure es
-IsPureOrCall e = IsPure e
-
--- an expression without effects, an assignment or an increment; what is assigned by `=` may be a call
-abbrev pub IsEffect : Expression → Type 0
-IsEffect (Node at t (Assign None a b)) = IsPure a × IsPureOrCall b
-IsEffect (Node at t (Assign (Some op) a b)) = IsPure a × IsPure b
-IsEffect (Node at t (Bump op a)) = IsPure a
-IsEffect e = IsPure e
-
--- such an effect, or a call
-abbrev pub IsEffectOrCall : Expression → Type 0
-IsEffectOrCall (Node at t (Call f es)) = ArePure es
-IsEffectOrCall e = IsEffect e
-
 -- how many forms an expression has, itself included
 abbrev mutual
   pub nodes_of : Expression → ℕ
@@ -126,23 +78,6 @@ abbrev mutual
   pub nodes_of_all : Expressions → ℕ
   nodes_of_all NoExpression = 0
   nodes_of_all (Following e es) = nodes_of e + nodes_of_all es
-
--- expressions that stand in no other, of at most so many forms: without effects, or besides as calls, with an effect, and besides as calls
-pub record IsFull (most : ℕ) (e : Expression) : Type 0 where
-  pub is : IsPure e
-  pub small : nodes_of e ≤ most
-
-pub record IsFullOrCall (most : ℕ) (e : Expression) : Type 0 where
-  pub is : IsPureOrCall e
-  pub small : nodes_of e ≤ most
-
-pub record IsFullEffect (most : ℕ) (e : Expression) : Type 0 where
-  pub is : IsEffect e
-  pub small : nodes_of e ≤ most
-
-pub record IsFullEffectOrCall (most : ℕ) (e : Expression) : Type 0 where
-  pub is : IsEffectOrCall e
-  pub small : nodes_of e ≤ most
 
 -- ---- annotations
 
@@ -187,81 +122,9 @@ abbrev pub AreAsserts : List Annotation → Type 0
 AreAsserts [] = Unit {0}
 AreAsserts (a ∷ rest) = IsAssert a × AreAsserts rest
 
--- ---- statements, whose full expressions have at most so many forms
-
--- an object may stay unwritten where it is declared (C99 6.7.8 p10)
-abbrev pub IsInitialiser : ℕ → Option (Place × Initialiser) → Type 0
-IsInitialiser most None = Unit {0}
-IsInitialiser most (Some (at, One e)) = IsFullOrCall most e
-IsInitialiser most (Some (at, Many brace is)) = ⊥
-
-abbrev pub AreInitialised : ℕ → List Declaration → Type 0
-AreInitialised most [] = Unit {0}
-AreInitialised most (d ∷ ds) = IsInitialiser most d.init × AreInitialised most ds
-
-abbrev pub FirstFormed : ℕ → ForFirst → Type 0
-FirstFormed most NoFirst = Unit {0}
-FirstFormed most (First (Run (Eval at e))) = IsFullEffectOrCall most e
-FirstFormed most (First (Declare ds)) = AreInitialised most ds
-FirstFormed most _ = ⊥
-
-abbrev mutual
-  pub StatementFormed : ℕ → Statement → Type 0
-  StatementFormed most (Empty at) = Unit {0}
-  StatementFormed most (Eval at e) = IsFullEffectOrCall most e
-  StatementFormed most (Block at items) = ItemsFormed most items
-  StatementFormed most (If at e a b) = IsFull most e × StatementFormed most a × ElseFormed most b
-  StatementFormed most (While at annots e a) = (annots ≡ []) × IsFull most e × StatementFormed most a
-  StatementFormed most (Do at a e) = StatementFormed most a × IsFull most e
-  StatementFormed most (For at annots first e step a) =
-      (annots ≡ []) × FirstFormed most first × WhereAny (IsFull most) e × WhereAny (IsFullEffect most) step × StatementFormed most a
-  StatementFormed most (Break at) = Unit {0}
-  StatementFormed most (Continue at) = Unit {0}
-  StatementFormed most (Return at e) = WhereAny (IsFullOrCall most) e
-
-  pub ElseFormed : ℕ → ElsePart → Type 0
-  ElseFormed most NoElse = Unit {0}
-  ElseFormed most (Else a) = StatementFormed most a
-
-  pub ItemsFormed : ℕ → BlockItems → Type 0
-  ItemsFormed most NoItem = Unit {0}
-  ItemsFormed most (Then i rest) = ItemFormed most i × ItemsFormed most rest
-
-  pub ItemFormed : ℕ → BlockItem → Type 0
-  ItemFormed most (Declare ds) = AreInitialised most ds
-  ItemFormed most (Run a) = StatementFormed most a
-  ItemFormed most (Asserts annots) = AreAsserts annots
-
--- a body, which is 1 deep; the limit is that of the grammar, and one more that this bound allows does no harm
-abbrev pub BodyFormed : ℕ → Option Statement → Type 0
-BodyFormed most None = Unit {0}
-BodyFormed most (Some (Block at items)) = ItemsFormed most items × (depth (Block at items) ≤ suc most_nested)
-BodyFormed most (Some _) = ⊥
-
--- ---- programs
-
-pub record FunctionFormed (most : ℕ) (f : Function) : Type 0 where
-  pub no_contract : f.contract ≡ None
-  pub body : BodyFormed most f.body
-
-abbrev pub FunctionsFormed : ℕ → List Function → Type 0
-FunctionsFormed most [] = Unit {0}
-FunctionsFormed most (f ∷ fs) = FunctionFormed most f × FunctionsFormed most fs
-
--- functions, and nothing else at file scope, and no strings
-pub record ProgramFormed (most : ℕ) (p : TranslationUnit) : Type 0 where
-  pub globals : p.globals ≡ []
-  pub texts : p.texts ≡ []
-  pub structs : p.structs ≡ []
-  pub functions : FunctionsFormed most p.funcs
-
 -- a form has a token of its own, and an expression 400 of these
 abbrev pub most_read : ℕ
 most_read = 400
-
--- typing puts at most one cast around each form
-abbrev pub most_typed : ℕ
-most_typed = 800
 
 -- what is declared has names of C (C99 6.4.2.1)
 abbrev pub AreNamed : List (List ℕ) → List Declaration → Type 0
@@ -323,23 +186,11 @@ FunctionsNamed names (f ∷ fs) = FunctionNamed names f × FunctionsNamed names 
 abbrev pub number_of : Declaration → ℕ
 number_of d = d.place.offset
 
--- the numbers of a function, and of all that it declares, in text order
+-- the numbers of a function and of all that it declares, in text order
 abbrev pub numbers_of : Function → List ℕ
 numbers_of f = f.place.offset ∷ map number_of (f.params ++ declared_in_body f.body)
-
-abbrev pub numbers_of_all : List Function → List ℕ
-numbers_of_all [] = []
-numbers_of_all (f ∷ fs) = numbers_of f ++ numbers_of_all fs
 
 -- each number is above those before it, and not below this one
 abbrev pub Ascend : ℕ → List ℕ → Type 0
 Ascend least [] = Unit {0}
 Ascend least (n ∷ ns) = (least ≤ n) × Ascend (suc n) ns
-
--- a program of a text that is accepted: typed, with `main`, and no two declarations have one number
-pub record IsProgram (p : TranslationUnit) : Type 0 where
-  pub formed : ProgramFormed most_typed p
-  pub typed : ProgramTyped p
-  pub named : FunctionsNamed p.names p.funcs
-  pub numbered : Ascend 0 (numbers_of_all p.funcs)
-  pub main : main_fault p.names p.funcs ≡ None

@@ -18,7 +18,7 @@ use Rattle.c_model.specs.State.{Input, State, Fault, Outcome, Normal, Stop, Eval
 use Rattle.c_model.specs.Meaning.{choose, after_body, turns, condition_with, effect_with, call_of, tables_of, condition, exec, whole, start, ran}
 use Rattle.c_model.specs.Meaning.{run, Ran}
 use Rattle.c_model.specs.Reports.{Agrees}
-use Rattle.c_model.specs.Formed.{IsProgram}
+use Rattle.c_model.specs.AcceptedPrograms.{IsProgram}
 use Rattle.c_model.specs.Growth.{Grows}
 use Rattle.c_model.specs.Steps.{steps_after}
 
@@ -165,7 +165,8 @@ abbrev pub RunsSpendSteps : Type 0
 RunsSpendSteps = (p : TranslationUnit) (input : Input) (n : ℕ) → (run p input n).left ≤ n
 
 -- No run of the program ends in a fault, which is no end that C has: it would come of a jump outside loops, a definition without a body,
--- or a `main` that is missing or returns no number (C99 6.8.6.2, 6.8.6.3, 6.9.1, 5.1.2.2.1, 5.1.2.2.3).
+-- an operand of a type that its operator doesn't take, as of `*` one that is no address, or a `main` that is missing or returns no number
+-- (C99 6.8.6.2, 6.8.6.3, 6.9.1, 6.5.3.2, 6.5.16, 5.1.2.2.1, 5.1.2.2.3).
 abbrev pub NeverFaults : TranslationUnit → Type 0
 NeverFaults p = (input : Input) (n : ℕ) → (run p input n).final ≡ Fault → ⊥
 

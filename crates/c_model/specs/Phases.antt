@@ -1,16 +1,19 @@
 -- The order of the phases is ours: C99 5.1.1.2 has no refusals and no annotations.
--- Which texts are accepted, with which program, and which are refused, why: by tokens, by grammar, by names and types, for want of
--- `main`, and by the names of annotations, in this order.
-use Rattle.std.specs.Prelude.{◌≡◌, ℕ, List, map, Some, None, Ok, Err, codes}
+-- Which texts are accepted, with which program, and which are refused, why: by tokens, by grammar, by names and types, for want of room
+-- for globals and literals, for want of `main`, and by the names of annotations, in this order.
+use Rattle.std.specs.Prelude.{◌≡◌, ℕ, ◌<◌, List, length, map, Some, None, Ok, Err, codes, if◌then◌else◌, nat_eq}
 use Rattle.grammar.specs.Syntax as grammar
 use Rattle.grammar.specs.Exact.{Accepts, Refused}
+use Rattle.c_syntax.specs.RefusalCodes.{limit_code}
 use Rattle.c_syntax.specs.Tokens.{PlainTokens}
 use Rattle.c_syntax.specs.Programs.{TranslationUnit, PlainRefusal}
 use Rattle.c_model.specs.CTokens.{tokens_of}
 use Rattle.c_model.specs.Vocabulary.{Vocabulary, word_of}
 use Rattle.c_model.specs.ProgramGrammar.{texts_of, unit}
 use Rattle.c_model.specs.Checked.{Fault, Good, refusing}
-use Rattle.c_model.specs.ProgramTyping.{typed_unit, main_fault, noted_unit}
+use Rattle.c_model.specs.UnitTyping.{typed_unit, room_fault, main_fault}
+use Rattle.c_model.specs.AnnotationTyping.{noted_unit}
+use Rattle.c_model.specs.ReadTree.{AreBytes}
 use Rattle.c_model.specs.TokenWords.{refused_at_place, syntax_refusal}
 
 abbrev pub vocabulary : PlainTokens → Vocabulary
@@ -25,26 +28,33 @@ pub record IsSyntaxFault (ts : PlainTokens) (f : grammar.Fault) : Type 0 where
   pub refused : Refused (unit (vocabulary ts) ts.names (texts_of ts.list)) ts.list f
   pub unread : (p : TranslationUnit) → IsRead ts p → ⊥
 
--- a fault of names or types, at its token
+-- E11
+abbrev pub type_refusal : Fault → PlainRefusal
+type_refusal f = record { code = f.code; place = f.place; construct = codes "type" }
+
+-- a fault of names, types or room, at its token, a literal being a `string`; or a type past a limit
 abbrev pub checked_refusal : PlainTokens → Fault → PlainRefusal
-checked_refusal ts f = refused_at_place ts f.code f.place
+checked_refusal ts f = if nat_eq f.code limit_code then type_refusal f else refused_at_place ts f.code f.place
 
 -- E13
 abbrev pub main_refusal : Fault → PlainRefusal
 main_refusal f = record { code = f.code; place = f.place; construct = codes "main" }
 
--- what is read of a text, and found to have names and types, and `main`
+-- what is read of a text, and found to have names and types
 pub record IsTyped (text : List ℕ) (ts : PlainTokens) (tree typed : TranslationUnit) : Type 0 where
   pub tokens : tokens_of text ≡ Ok ts
   pub read : IsRead ts tree
   pub is : typed_unit tree ≡ Good typed
 
--- the text is accepted, and p is its typed program
+-- the text is accepted, and p is its typed program; a text is bytes, and they are so few that their numbers are 32 bits long
 pub record AcceptedText (text : List ℕ) (p : TranslationUnit) : Type 0 where
+  pub bytes : AreBytes text
+  pub few : length text < 4294967295
   pub tokens : PlainTokens
   pub tree : TranslationUnit
   pub typed : TranslationUnit
   pub is_typed : IsTyped text tokens tree typed
+  pub room : room_fault typed ≡ None
   pub main : main_fault typed.names typed.funcs ≡ None
   pub noted : noted_unit typed ≡ Good p
 
@@ -54,7 +64,9 @@ pub data RefusedText (text : List ℕ) (r : PlainRefusal) : Type 0 where
   ByGrammar : (ts : PlainTokens) (f : grammar.Fault) → tokens_of text ≡ Ok ts → IsSyntaxFault ts f → r ≡ syntax_refusal ts f → RefusedText text r
   ByNamesAndTypes : (ts : PlainTokens) (tree : TranslationUnit) (f : Fault) → tokens_of text ≡ Ok ts → IsRead ts tree → refusing (typed_unit tree) ≡ Some f
       → r ≡ checked_refusal ts f → RefusedText text r
-  ForMain : (ts : PlainTokens) (tree typed : TranslationUnit) (f : Fault) → IsTyped text ts tree typed → main_fault typed.names typed.funcs ≡ Some f
-      → r ≡ main_refusal f → RefusedText text r
-  ByAnnotations : (ts : PlainTokens) (tree typed : TranslationUnit) (f : Fault) → IsTyped text ts tree typed → main_fault typed.names typed.funcs ≡ None
-      → refusing (noted_unit typed) ≡ Some f → r ≡ checked_refusal ts f → RefusedText text r
+  ForRoom : (ts : PlainTokens) (tree typed : TranslationUnit) (f : Fault) → IsTyped text ts tree typed → room_fault typed ≡ Some f
+      → r ≡ checked_refusal ts f → RefusedText text r
+  ForMain : (ts : PlainTokens) (tree typed : TranslationUnit) (f : Fault) → IsTyped text ts tree typed → room_fault typed ≡ None
+      → main_fault typed.names typed.funcs ≡ Some f → r ≡ main_refusal f → RefusedText text r
+  ByAnnotations : (ts : PlainTokens) (tree typed : TranslationUnit) (f : Fault) → IsTyped text ts tree typed → room_fault typed ≡ None
+      → main_fault typed.names typed.funcs ≡ None → refusing (noted_unit typed) ≡ Some f → r ≡ checked_refusal ts f → RefusedText text r

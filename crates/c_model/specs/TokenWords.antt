@@ -9,7 +9,7 @@ use Rattle.c_syntax.specs.Tokens.{PlainTokenKind, PlainToken, PlainTokens}
 use Rattle.c_syntax.specs.Programs.{PlainRefusal}
 use Rattle.c_model.specs.MonitoredTokens.{marks, head_line}
 use Rattle.c_model.specs.Pieces.{annotation_marks}
-use Rattle.c_model.specs.Typing.{name_at}
+use Rattle.c_model.specs.ExpressionTyping.{name_at}
 use Rattle.c_model.specs.Terminals.{expression_limit}
 
 -- ---- words

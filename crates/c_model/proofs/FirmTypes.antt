@@ -1,0 +1,241 @@
+-- A type that is written or declared within the limits has few enough bytes, with the types in it, also among the structs of the whole file.
+use Rattle.std.proofs.Common.{◌≡◌, ℕ, nat_eq, ◌*◌, refl, sym, ap, ◌∙◌, subst, List, [], ◌∷◌, Option, Some, None, Bool, true, false, not, ◌&&◌, cond, nat_le, slice_get, arith}
+use Rattle.std.proofs.lemmas.Bool.Decides.{nat_tests}
+use Rattle.c_syntax.specs.declared.place.Place.{Place}
+use Rattle.c_syntax.specs.Ctypes.{PlainType, Void, Int, Ptr, Array, Struct, Named, StructTag, EnumTag, PlainLength, Left, Written, Count}
+use Rattle.c_syntax.specs.Statements.{Initialiser, Declaration}
+use Rattle.c_syntax.specs.Programs.{StructType}
+use Rattle.c_model.specs.Layouts.{size_of, count_of, size_of_struct}
+use Rattle.c_model.specs.Library.{is_there}
+use Rattle.c_model.specs.Checked.{Checked, Good, Bad, faulty, one_part, both_parts}
+use Rattle.c_model.specs.ExpressionTyping.{no_name, no_type, too_large, Sight, TypeName, type_named, tagged, is_among, is_void, is_scalar, is_struct, Sized, HasSize, HasNoSize, NotYet, sized, most_bytes, most_levels}
+use Rattle.c_model.specs.ExpressionTyping.{levels_of, has_small_parts, is_within_limits, limited, array_of, unknown_struct, typed_type, typed_length}
+use Rattle.c_model.specs.DeclarationTyping.{typed_outer, completed, object_type, typed_object_type, elements_of_parameter, typed_parameter_type, is_unknown, scalar_type, typed_result, parameter_name, typed_parameter}
+use Rattle.c_model.proofs.TypedParts.{Gives, gives_one, gives_both, gives_given, gives_where, gives_sized, and_true}
+use Rattle.c_model.proofs.TypedSoundness.{gives_besides}
+use Rattle.c_model.proofs.TypedDeclarations.{anything}
+use Rattle.c_model.proofs.StableConstants.{Grows, size_kept}
+
+-- a type whose arrays have elements with a size, where these structs are known
+abbrev pub Firm : List StructType → PlainType → Type 0
+Firm ss Void = Unit {0}
+Firm ss (Int k) = Unit {0}
+Firm ss (Ptr t) = Firm ss t
+Firm ss (Array t n) = (sized ss t ≡ HasSize) × Firm ss t
+Firm ss (Struct n) = Unit {0}
+Firm ss (Named x) = Unit {0}
+Firm ss (StructTag x) = Unit {0}
+Firm ss (EnumTag x at) = Unit {0}
+
+abbrev pub AreFirm : List StructType → List TypeName → Type 0
+AreFirm ss [] = Unit {0}
+AreFirm ss (t ∷ ts) = Firm ss t.ctype × AreFirm ss ts
+
+pub firm_later : (old new : List StructType) → Grows old new → (t : PlainType) → Firm old t → Firm new t
+firm_later old new g Void f = tt
+firm_later old new g (Int k) f = tt
+firm_later old new g (Ptr t) f = firm_later old new g t f
+firm_later old new g (Array t n) f = ((size_kept old new g t f.0).known, firm_later old new g t f.1)
+firm_later old new g (Struct n) f = tt
+firm_later old new g (Named x) f = tt
+firm_later old new g (StructTag x) f = tt
+firm_later old new g (EnumTag x at) f = tt
+
+pub are_firm_later : (old new : List StructType) → Grows old new → (ts : List TypeName) → AreFirm old ts → AreFirm new ts
+are_firm_later old new g [] f = tt
+are_firm_later old new g (t ∷ ts) f = (firm_later old new g t.ctype f.0, are_firm_later old new g ts f.1)
+
+named_firm : (ss : List StructType) (x : ℕ) (ts : List TypeName) (t : PlainType) → AreFirm ss ts → type_named x ts ≡ Some t → Firm ss t
+named_firm ss x [] t f e = absurd cc
+named_firm ss x (u ∷ ts) t f e = by (nat_eq x u.name) (named_firm ss x ts t f.1) e
+  where
+    by : (b : Bool) → (type_named x ts ≡ Some t → Firm ss t) → cond b (Some u.ctype) (type_named x ts) ≡ Some t → Firm ss t
+    by true next e = let same : u.ctype ≡ t = cc in subst (Firm ss) same f.0
+    by false next e = next e
+
+-- ---- types as they are written
+
+pub typed_firm : (s : Sight) → AreFirm s.structs s.types → (at : Place) (t : PlainType) → Gives (Firm s.structs) (typed_type s at t)
+typed_firm s f at Void = tt
+typed_firm s f at (Int k) = tt
+typed_firm s f at (Ptr t) = gives_one (Firm s.structs) (Firm s.structs) (typed_type s at t) (λ u. Good (Ptr u)) (typed_firm s f at t) (λ u h. h)
+typed_firm s f at (Array t n) = gives_both (Firm s.structs) (λ u. Unit {0}) (Firm s.structs) (typed_type s at t) (typed_length s at n) (array_of s at) (typed_firm s f at t) (anything (typed_length s at n))
+    (λ u n h v. gives_sized (Firm s.structs) s at u (Good (Array u n)) (λ k. (k, h)))
+typed_firm s f at (Struct n) = tt
+typed_firm s f at (Named x) = gives_given (Firm s.structs) (type_named x s.types) (no_name at) Good (λ t e. named_firm s.structs x s.types t f e)
+typed_firm s f at (StructTag x) = gives_where (Firm s.structs) (not (is_among x s.enum_tags)) (no_name at) _ (λ e. by (tagged x 0 s.structs))
+  where
+    by : (o : Option ℕ) → Firm s.structs (elim o [ None ↦ unknown_struct s x | Some n ↦ Struct n ])
+    by None = tt
+    by (Some n) = tt
+typed_firm s f at (EnumTag x tag) = gives_where (Firm s.structs) (is_among x s.enums) (no_name tag) _ (λ e. tt)
+
+outer_firm : (may_leave : Bool) (s : Sight) → AreFirm s.structs s.types → (at : Place) (t : PlainType) → Gives (Firm s.structs) (typed_outer may_leave s at t)
+outer_firm true s f at (Array t Left) = gives_one (Firm s.structs) (Firm s.structs) (typed_type s at t) (λ u. array_of s at u Left) (typed_firm s f at t)
+    (λ u h. gives_sized (Firm s.structs) s at u (Good (Array u Left)) (λ k. (k, h)))
+outer_firm true s f at (Array t (Written e)) = typed_firm s f at (Array t (Written e))
+outer_firm true s f at (Array t (Count n)) = typed_firm s f at (Array t (Count n))
+outer_firm true s f at Void = typed_firm s f at Void
+outer_firm true s f at (Int k) = typed_firm s f at (Int k)
+outer_firm true s f at (Ptr t) = typed_firm s f at (Ptr t)
+outer_firm true s f at (Struct n) = typed_firm s f at (Struct n)
+outer_firm true s f at (Named x) = typed_firm s f at (Named x)
+outer_firm true s f at (StructTag x) = typed_firm s f at (StructTag x)
+outer_firm true s f at (EnumTag x tag) = typed_firm s f at (EnumTag x tag)
+outer_firm false s f at t = typed_firm s f at t
+
+completed_firm : (s : Sight) (t : PlainType) (i : Option (Place × Initialiser)) → Firm s.structs t → Firm s.structs (completed s t i)
+completed_firm s (Array t Left) (Some i) h = h
+completed_firm s (Array t Left) None h = h
+completed_firm s (Array t (Written e)) i h = h
+completed_firm s (Array t (Count n)) i h = h
+completed_firm s Void i h = h
+completed_firm s (Int k) i h = h
+completed_firm s (Ptr t) i h = h
+completed_firm s (Struct n) i h = h
+completed_firm s (Named x) i h = h
+completed_firm s (StructTag x) i h = h
+completed_firm s (EnumTag x at) i h = h
+
+-- a parameter's type is the type as it is written, but that an array is a pointer
+abbrev as_pointer : PlainType → Checked PlainType
+as_pointer (Array t n) = Good (Ptr t)
+as_pointer t = Good t
+
+pointer_firm : (ss : List StructType) (t : PlainType) → Firm ss t → Gives (Firm ss) (as_pointer t)
+pointer_firm ss (Array t n) f = f.1
+pointer_firm ss Void f = tt
+pointer_firm ss (Int i) f = tt
+pointer_firm ss (Ptr t) f = f
+pointer_firm ss (Struct n) f = tt
+pointer_firm ss (Named x) f = tt
+pointer_firm ss (StructTag x) f = tt
+pointer_firm ss (EnumTag x at) f = tt
+
+plain_firm : (s : Sight) → AreFirm s.structs s.types → (at : Place) (t : PlainType) → Gives (Firm s.structs) (one_part (typed_type s at t) as_pointer)
+plain_firm s f at t = gives_one (Firm s.structs) (Firm s.structs) (typed_type s at t) as_pointer (typed_firm s f at t) (λ u h. pointer_firm s.structs u h)
+
+elements_firm : (s : Sight) (at : Place) (t : PlainType) → Firm s.structs t → Gives (Firm s.structs) (elements_of_parameter s at t)
+elements_firm s at t f = by (sized s.structs t)
+  where
+    by : (z : Sized) → Gives (Firm s.structs) (elim z [ HasSize ↦ Good (Ptr t) | HasNoSize ↦ faulty (no_type at) | NotYet ↦ Good (Ptr t) ])
+    by HasSize = f
+    by HasNoSize = tt
+    by NotYet = f
+
+parameter_firm : (s : Sight) → AreFirm s.structs s.types → (at : Place) (t : PlainType) → Gives (Firm s.structs) (typed_parameter_type s at t)
+parameter_firm s f at (Array t Left) = gives_one (Firm s.structs) (Firm s.structs) (typed_type s at t) (elements_of_parameter s at) (typed_firm s f at t) (λ u h. elements_firm s at u h)
+parameter_firm s f at (Array t (Written e)) = gives_both (Firm s.structs) (λ n. Unit {0}) (Firm s.structs) (typed_type s at t) (typed_length s at (Written e)) (λ u n. elements_of_parameter s at u)
+    (typed_firm s f at t) (anything (typed_length s at (Written e))) (λ u n h v. elements_firm s at u h)
+parameter_firm s f at (Array t (Count m)) = gives_both (Firm s.structs) (λ n. Unit {0}) (Firm s.structs) (typed_type s at t) (typed_length s at (Count m)) (λ u n. elements_of_parameter s at u)
+    (typed_firm s f at t) (anything (typed_length s at (Count m))) (λ u n h v. elements_firm s at u h)
+parameter_firm s f at Void = plain_firm s f at Void
+parameter_firm s f at (Int k) = plain_firm s f at (Int k)
+parameter_firm s f at (Ptr t) = plain_firm s f at (Ptr t)
+parameter_firm s f at (Struct n) = plain_firm s f at (Struct n)
+parameter_firm s f at (Named x) = plain_firm s f at (Named x)
+parameter_firm s f at (StructTag x) = plain_firm s f at (StructTag x)
+parameter_firm s f at (EnumTag x tag) = plain_firm s f at (EnumTag x tag)
+
+-- ---- small types
+
+-- each of these structs has few enough bytes
+abbrev pub AreSmallStructs : List StructType → Type 0
+AreSmallStructs ss = (n : ℕ) (x : StructType) → slice_get ss n ≡ Some x → nat_le x.size most_bytes ≡ true
+
+module _ (new : List StructType)
+  where
+    -- a type that is small among the structs of the whole file
+    abbrev pub Small : PlainType → Type 0
+    Small t = has_small_parts new t ≡ true
+
+    pub elements_small : (t : PlainType) (n : PlainLength) → Small (Array t n) → Small t
+    elements_small t n h = (and_true (nat_le (size_of new (Array t n)) most_bytes) (has_small_parts new t) h).1
+
+    -- in its own initialiser an object may lack its length
+    uncompleted_small : (s : Sight) (t : PlainType) (i : Option (Place × Initialiser)) → Small (completed s t i) → Small t
+    uncompleted_small s (Array t Left) (Some i) h =
+        let size : nat_le (count_of Left * size_of new t) most_bytes ≡ true = grind (arith, nat_tests) in
+        ap (λ b. b && has_small_parts new t) size ∙ elements_small t (Count _) h
+    uncompleted_small s (Array t Left) None h = h
+    uncompleted_small s (Array t (Written e)) i h = h
+    uncompleted_small s (Array t (Count n)) i h = h
+    uncompleted_small s Void i h = h
+    uncompleted_small s (Int k) i h = h
+    uncompleted_small s (Ptr t) i h = h
+    uncompleted_small s (Struct n) i h = h
+    uncompleted_small s (Named x) i h = h
+    uncompleted_small s (StructTag x) i h = h
+    uncompleted_small s (EnumTag x at) i h = h
+
+    module _ (all : AreSmallStructs new)
+      where
+        struct_small : (n : ℕ) → nat_le (size_of_struct (slice_get new n)) most_bytes ≡ true
+        struct_small n = by (slice_get new n) refl
+          where
+            by : (o : Option StructType) → slice_get new n ≡ o → nat_le (size_of_struct o) most_bytes ≡ true
+            by None e = refl
+            by (Some x) e = all n x e
+
+        small_later : (old : List StructType) → Grows old new → (t : PlainType) → Firm old t → has_small_parts old t ≡ true → Small t
+        small_later old g Void f h = refl
+        small_later old g (Int k) f h = refl
+        small_later old g (Ptr t) f h = small_later old g t f h
+        small_later old g (Array t n) f h =
+            let p = and_true (nat_le (size_of old (Array t n)) most_bytes) (has_small_parts old t) h in
+            let size = (size_kept old new g t f.0).size in
+            ap (λ b. b && has_small_parts new t) (ap (λ z. nat_le (count_of n * z) most_bytes) (sym size) ∙ p.0) ∙ small_later old g t f.1 p.1
+        small_later old g (Struct n) f h = struct_small n
+        small_later old g (Named x) f h = refl
+        small_later old g (StructTag x) f h = refl
+        small_later old g (EnumTag x at) f h = refl
+
+        module _ (s : Sight) (g : Grows s.structs new)
+          where
+            within_small : (t : PlainType) → Firm s.structs t → is_within_limits s t ≡ true → Small t
+            within_small t f w = small_later s.structs g t f (and_true (nat_le (levels_of s.levels t) most_levels) (has_small_parts s.structs t) w).1
+
+            -- what is made of a type within the limits
+            pub limited_small : {B : Type 0} (R : B → Type 0) (at : Place) (c : Checked PlainType) (k : PlainType → Checked B) → Gives (Firm s.structs) c → ((t : PlainType) → Small t → Gives R (k t))
+                → Gives R (limited s at c (one_part c k))
+            limited_small R at (Good t) k f h = gives_besides R (is_within_limits s t) (too_large at) (k t) (λ w. h t (within_small t f w))
+            limited_small R at (Bad x xs) k f h = tt
+
+            -- the same with another part
+            pub limited_small_both : {A B : Type 0} (P : A → Type 0) (R : B → Type 0) (at : Place) (c : Checked PlainType) (d : Checked A) (k : PlainType → A → Checked B) → Gives (Firm s.structs) c → Gives P d
+                → ((t : PlainType) (a : A) → Small t → P a → Gives R (k t a)) → Gives R (limited s at c (both_parts c d k))
+            limited_small_both P R at (Good t) d k f p h = gives_besides R (is_within_limits s t) (too_large at) (both_parts (Good t) d k) (λ w. by d p (within_small t f w))
+              where
+                by : (d : Checked _) → Gives P d → Small t → Gives R (both_parts (Good t) d k)
+                by (Good a) p w = h t a w p
+                by (Bad y ys) p w = tt
+            limited_small_both P R at (Bad x xs) (Good a) k f p h = tt
+            limited_small_both P R at (Bad x xs) (Bad y ys) k f p h = tt
+
+            -- ---- types of what is declared
+
+            module _ (types : AreFirm s.structs s.types)
+              where
+                pub object_small : (d : Declaration) → Gives (λ (t : PlainType × PlainType). Small t.0 × Small t.1) (typed_object_type s d)
+                object_small d = gives_one (Firm s.structs) (λ (t : PlainType × PlainType). Small t.0 × Small t.1) (typed_outer (is_there d.init) s d.place d.ctype) _
+                    (outer_firm (is_there d.init) s types d.place d.ctype) (λ t f.
+                    gives_besides (λ (t : PlainType × PlainType). Small t.0 × Small t.1) (is_within_limits s (completed s t d.init)) (too_large d.place) _ (λ w.
+                    gives_one Small (λ (t : PlainType × PlainType). Small t.0 × Small t.1) (object_type s d.place (completed s t d.init)) (λ u. Good (t, u))
+                    (gives_sized Small s d.place (completed s t d.init) (Good (completed s t d.init)) (λ k. within_small (completed s t d.init) (completed_firm s t d.init f) w))
+                    (λ u h. (uncompleted_small s t d.init (within_small (completed s t d.init) (completed_firm s t d.init f) w), h))))
+
+                scalar_small : (defined : Bool) (at : Place) (t : PlainType) → Small t → Gives Small (scalar_type s defined at t)
+                scalar_small defined at t h = gives_where Small (not (defined && is_struct t && is_unknown (sized s.structs t))) _ _ (λ k. gives_where Small (is_scalar t) _ _ (λ e. h))
+
+                pub result_small : (defined : Bool) (at : Place) (t : PlainType) → Gives Small (typed_result s defined at t)
+                result_small defined at t = limited_small Small at (typed_type s at t) _ (typed_firm s types at t) (λ u h. by u h (is_void u))
+                  where
+                    by : (u : PlainType) → Small u → (b : Bool) → Gives Small (cond b (Good u) (scalar_type s defined at u))
+                    by u h true = h
+                    by u h false = scalar_small defined at u h
+
+                pub parameter_small : (defined : Bool) (d : Declaration) → Gives (λ (e : Declaration). Small e.ctype) (typed_parameter s defined d)
+                parameter_small defined d = gives_both (λ u. Unit {0}) Small (λ (e : Declaration). Small e.ctype) (parameter_name s d)
+                    (limited s d.place (typed_parameter_type s d.place d.ctype) (one_part (typed_parameter_type s d.place d.ctype) (scalar_type s defined d.place))) (λ n t. Good (record d { ctype = t }))
+                    (anything _) (limited_small Small d.place (typed_parameter_type s d.place d.ctype) (scalar_type s defined d.place) (parameter_firm s types d.place d.ctype)
+                    (λ t h. scalar_small defined d.place t h)) (λ n t u h. h)

@@ -1,0 +1,277 @@
+-- Evaluations that end in no fault, whatever is typed: births, blocks, annotations, loops and the library.
+use Rattle.std.proofs.Common.{◌≡◌, ℕ, zero, suc, ◌+◌, pos, Bool, true, false, cond, if◌then◌else◌, nat_lt, List, [], ◌∷◌, length, Option, Some, None, codes, bytes_eq}
+use Rattle.c_syntax.specs.declared.place.Place.{Place}
+use Rattle.c_syntax.specs.declared.types.Segment.{Segment}
+use Rattle.c_syntax.specs.declared.types.Segment.TheVariants.{Frames}
+use Rattle.c_syntax.specs.Ctypes.{PlainType, Int, Ptr}
+use Rattle.c_syntax.specs.Annotations.{Annotation}
+use Rattle.c_syntax.specs.Statements.{Declaration}
+use Rattle.c_syntax.specs.Programs.{StructType}
+use Rattle.c_model.specs.Integers.{byte_of}
+use Rattle.c_model.specs.Layouts.{Scalar, size_of}
+use Rattle.c_model.specs.Memory.{Pointer, Into, Value, Integer, Points, NoValue, Store, save, tested_value, standard_sizes, full_at_stack_birth}
+use Rattle.c_model.specs.State.{InputTail, EndOfInput, InputFault, State, Leave, Breaks, Continues, Returns, Final, Undefined, Fault, Spent, Full}
+use Rattle.c_model.specs.State.{Exits, Leaves, Over, Outcome, Normal, Stop, Evaluation, on_outcome, ◌>>=◌, ◌>>◌, give, done}
+use Rattle.c_model.specs.State.{Scope, stop, defined, computed, changed, step_from, step, read_byte, print, find}
+use Rattle.c_model.specs.State.{start_of, object, put_store, write, tested, birth_of, birth, births, write_youngest, alone}
+use Rattle.c_model.specs.State.{frame, mark, restored, within}
+use Rattle.c_model.specs.StatementTyping.{Around, in_loop}
+use Rattle.c_model.specs.TypedTrees.{WhereAny}
+use Rattle.c_model.specs.Logic.{Answer, Says, SaysNothing, OutOfSteps, clause, judged, check, checks}
+use Rattle.c_model.specs.Meaning.{is_zero, choose}
+use Rattle.c_model.specs.Meaning.{after_body, turns, do_turns}
+use Rattle.c_model.specs.Meaning.{put_char, get_char, exit_with, library_call}
+
+-- ---- what evaluations give
+
+-- an end that the meaning of C names
+abbrev pub IsNamed : Final → Type 0
+IsNamed Fault = ⊥
+IsNamed _ = Unit {0}
+
+abbrev pub Anything : {A : Type 0} → A → Type 0
+Anything a = Unit {0}
+
+abbrev pub NoJump : Leave → Type 0
+NoJump l = ⊥
+
+abbrev pub IsNumber : Value → Type 0
+IsNumber (Integer z) = Unit {0}
+IsNumber (Points p) = ⊥
+IsNumber NoValue = ⊥
+
+abbrev pub IsAddress : Value → Type 0
+IsAddress (Points p) = Unit {0}
+IsAddress (Integer z) = ⊥
+IsAddress NoValue = ⊥
+
+-- a value that an expression of the type may have: numbers and addresses alone are used
+abbrev pub IsValueOf : PlainType → Value → Type 0
+IsValueOf (Int k) v = IsNumber v
+IsValueOf (Ptr t) v = IsAddress v
+IsValueOf _ v = Unit {0}
+
+-- a value of which P holds, a jump of which L holds, or an end that the meaning names
+abbrev pub EndsWell : {A : Type 0} → (A → Type 0) → (Leave → Type 0) → Outcome A → Type 0
+EndsWell P L (Normal a s) = P a
+EndsWell P L (Stop (Leaves l) s) = L l
+EndsWell P L (Stop (Over e) s) = IsNamed e
+
+-- so from every state
+pub record Gives {A : Type 0} (P : A → Type 0) (L : Leave → Type 0) (m : Evaluation A) : Type 0 where
+  pub at : (s : State) → EndsWell P L (m s)
+
+pub bound : {A B : Type 0} (P : A → Type 0) (Q : B → Type 0) (L : Leave → Type 0) (r : Outcome A) (f : A → Evaluation B) → EndsWell P L r → ((a : A) → P a → Gives Q L (f a)) → EndsWell Q L (on_outcome r f)
+bound P Q L (Normal a s) f g h = (h a g).at s
+bound P Q L (Stop (Leaves l) s) f g h = g
+bound P Q L (Stop (Over e) s) f g h = g
+
+pub gives_bind : {A B : Type 0} {P : A → Type 0} {Q : B → Type 0} {L : Leave → Type 0} (m : Evaluation A) (f : A → Evaluation B) → Gives P L m → ((a : A) → P a → Gives Q L (f a)) → Gives Q L (m >>= f)
+gives_bind {P = P} {Q = Q} {L = L} m f g h = record { at = λ s. bound P Q L (m s) f (g.at s) h }
+
+pub gives_then : {A B : Type 0} {P : A → Type 0} {Q : B → Type 0} {L : Leave → Type 0} (m : Evaluation A) (f : Evaluation B) → Gives P L m → Gives Q L f → Gives Q L (m >> f)
+gives_then m f g h = gives_bind m (λ _. f) g (λ _ _. h)
+
+pub gives_give : {A : Type 0} {P : A → Type 0} {L : Leave → Type 0} (a : A) → P a → Gives P L (give a)
+gives_give a h = record { at = λ s. h }
+
+pub gives_over : {A : Type 0} {P : A → Type 0} {L : Leave → Type 0} (e : Final) → IsNamed e → Gives P L (stop (Over e))
+gives_over e h = record { at = λ s. h }
+
+pub gives_jump : {A : Type 0} {P : A → Type 0} {L : Leave → Type 0} (l : Leave) → L l → Gives P L (stop (Leaves l))
+gives_jump l h = record { at = λ s. h }
+
+pub jumps : {A : Type 0} (P : A → Type 0) (L : Leave → Type 0) (r : Outcome A) → EndsWell P NoJump r → EndsWell P L r
+jumps P L (Normal a s) h = h
+jumps P L (Stop (Leaves l) s) h = absurd h
+jumps P L (Stop (Over e) s) h = h
+
+-- what makes no jump makes none but these
+pub gives_no_jump : {A : Type 0} {P : A → Type 0} {L : Leave → Type 0} (m : Evaluation A) → Gives P NoJump m → Gives P L m
+gives_no_jump {P = P} {L = L} m g = record { at = λ s. jumps P L (m s) (g.at s) }
+
+pub values : {A : Type 0} (P Q : A → Type 0) (L : Leave → Type 0) (r : Outcome A) → EndsWell P L r → ((a : A) → P a → Q a) → EndsWell Q L r
+values P Q L (Normal a s) h f = f a h
+values P Q L (Stop (Leaves l) s) h f = h
+values P Q L (Stop (Over e) s) h f = h
+
+pub gives_anything : {A : Type 0} {P : A → Type 0} {L : Leave → Type 0} (m : Evaluation A) → Gives P L m → Gives Anything L m
+gives_anything {P = P} {L = L} m g = record { at = λ s. values P Anything L (m s) (g.at s) (λ _ _. tt) }
+
+pub gives_values : {A : Type 0} {P : A → Type 0} {L : Leave → Type 0} (Q : A → Type 0) (m : Evaluation A) → Gives P L m → ((a : A) → P a → Q a) → Gives Q L m
+gives_values {P = P} {L = L} Q m g f = record { at = λ s. values P Q L (m s) (g.at s) f }
+
+pub gives_if : {A : Type 0} {P : A → Type 0} {L : Leave → Type 0} (t : Bool) (a b : Evaluation A) → Gives P L a → Gives P L b → Gives P L (if t then a else b)
+gives_if true a b f g = f
+gives_if false a b f g = g
+
+pub gives_cond : {A : Type 0} {P : A → Type 0} {L : Leave → Type 0} (t : Bool) (a b : Evaluation A) → Gives P L a → Gives P L b → Gives P L (cond t a b)
+gives_cond true a b f g = f
+gives_cond false a b f g = g
+
+-- ---- the store
+
+pub defined_well : {A : Type 0} (P : A → Type 0) (L : Leave → Type 0) (at : Place) (o : Option A) (s : State) → WhereAny P o → EndsWell P L (defined at o s)
+defined_well P L at None s h = tt
+defined_well P L at (Some a) s h = h
+
+pub gives_defined : {A : Type 0} {P : A → Type 0} {L : Leave → Type 0} (at : Place) (o : Option A) → WhereAny P o → Gives P L (defined at o)
+gives_defined {P = P} {L = L} at o h = record { at = λ s. defined_well P L at o s h }
+
+pub anything : {A : Type 0} (o : Option A) → WhereAny Anything o
+anything None = tt
+anything (Some a) = tt
+
+pub gives_object : {L : Leave → Type 0} (at : Place) (x : ℕ) → Gives Anything L (object at x)
+gives_object {L = L} at x = record { at = λ s. defined_well Anything L at (start_of (find x s.scope)) s (anything (start_of (find x s.scope))) }
+
+pub gives_computed : {A : Type 0} {P : A → Type 0} {L : Leave → Type 0} (at : Place) (f : Store → Option A) → ((store : Store) → WhereAny P (f store)) → Gives P L (computed at f)
+gives_computed {P = P} {L = L} at f h = record { at = λ s. defined_well P L at (f s.store) s (h s.store) }
+
+pub gives_tested : {L : Leave → Type 0} (at : Place) (v : Value) → Gives Anything L (tested at v)
+gives_tested at v = gives_computed at _ (λ store. anything (tested_value store v))
+
+pub changed_well : (L : Leave → Type 0) (at : Place) (o : Option Store) (s : State) → EndsWell Anything L ((defined at o >>= put_store) s)
+changed_well L at None s = tt
+changed_well L at (Some store) s = tt
+
+pub gives_changed : {L : Leave → Type 0} (at : Place) (f : Store → Option Store) → Gives Anything L (changed at f)
+gives_changed {L = L} at f = record { at = λ s. changed_well L at (f s.store) s }
+
+pub gives_write : {L : Leave → Type 0} (at : Place) (p : Pointer) (k : Scalar) (v : Value) → Gives Anything L (write at p k v)
+gives_write at p k v = gives_changed at _
+
+pub gives_written : {P : Value → Type 0} {L : Leave → Type 0} (at : Place) (p : Pointer) (k : Scalar) (v w : Value) → P w → Gives P L (write at p k v >> give w)
+gives_written at p k v w h = gives_then (write at p k v) (give w) (gives_write at p k v) (gives_give w h)
+
+-- ---- births, calls and blocks
+
+pub birth_well : (L : Leave → Type 0) (o : Option Segment) (x size : ℕ) (s : State) → EndsWell Anything L (birth_of o x size s)
+birth_well L None x size s = tt
+birth_well L (Some full) x size s = tt
+
+pub gives_birth : {L : Leave → Type 0} (structs : List StructType) (d : Declaration) → Gives Anything L (birth structs d)
+gives_birth {L = L} structs d = record { at = λ s. birth_well L (full_at_stack_birth standard_sizes s.store (size_of structs d.ctype)) d.place.offset (size_of structs d.ctype) s }
+
+pub gives_births : {L : Leave → Type 0} (structs : List StructType) (ds : List Declaration) → Gives Anything L (births structs ds)
+gives_births structs [] = gives_give tt tt
+gives_births structs (d ∷ ds) = gives_then (birth structs d) (births structs ds) (gives_birth structs d) (gives_births structs ds)
+
+pub gives_write_youngest : {L : Leave → Type 0} (at : Place) (k : Scalar) (v : Value) → Gives Anything L (write_youngest at k v)
+gives_write_youngest {L = L} at k v = record { at = λ s. changed_well L at (save s.store (Into (length s.store) 0) k v) s }
+
+pub cond_well : (L : Leave → Type 0) (t : Bool) (r r' : Outcome (Unit {0})) → EndsWell Anything L r → EndsWell Anything L r' → EndsWell Anything L (cond t r r')
+cond_well L true r r' h g = h
+cond_well L false r r' h g = g
+
+pub gives_frame : {L : Leave → Type 0} → Gives Anything L frame
+gives_frame {L = L} = record { at = λ s. cond_well L (nat_lt s.calls 65536) (Normal tt (record s { calls = s.calls + 1 })) (Stop (Over (Full Frames)) s) tt tt }
+
+pub gives_alone : {L : Leave → Type 0} (globals : Scope) → Gives Anything L (alone globals)
+gives_alone globals = record { at = λ s. tt }
+
+pub gives_mark : {L : Leave → Type 0} (label : Option ℕ) → Gives Anything L (mark label)
+gives_mark label = record { at = λ s. tt }
+
+pub restored_well : {A : Type 0} (P : A → Type 0) (L : Leave → Type 0) (old : State) (r : Outcome A) → EndsWell P L r → EndsWell P L (restored old r)
+restored_well P L old (Normal a s) h = h
+restored_well P L old (Stop (Leaves l) s) h = h
+restored_well P L old (Stop (Over e) s) h = h
+
+pub gives_within : {A : Type 0} {P : A → Type 0} {L : Leave → Type 0} (m : Evaluation A) → Gives P L m → Gives P L (within m)
+gives_within {P = P} {L = L} m g = record { at = λ s. restored_well P L s (m s) (g.at s) }
+
+pub step_well : (L : Leave → Type 0) (n : ℕ) (s : State) → EndsWell Anything L (step_from n s)
+step_well L zero s = tt
+step_well L (suc n) s = tt
+
+pub gives_step : {L : Leave → Type 0} → Gives Anything L step
+gives_step {L = L} = record { at = λ s. step_well L s.steps s }
+
+-- ---- annotations
+
+pub judged_well : (L : Leave → Type 0) (a : Annotation) (answer : Answer) (s : State) → EndsWell Anything L (judged a answer s)
+judged_well L a (Says true n) s = tt
+judged_well L a (Says false n) s = tt
+judged_well L a (SaysNothing n) s = tt
+judged_well L a OutOfSteps s = tt
+
+pub gives_check : {L : Leave → Type 0} (a : Annotation) → Gives Anything L (check a)
+gives_check {L = L} a = record { at = λ s. judged_well L a (clause a.body s s.steps) s }
+
+pub gives_checks : {L : Leave → Type 0} (annots : List Annotation) → Gives Anything L (checks annots)
+gives_checks [] = gives_give tt tt
+gives_checks (a ∷ rest) = gives_then (check a) (checks rest) (gives_check a) (gives_checks rest)
+
+-- ---- choices and loops
+
+pub gives_choose : {A : Type 0} {P : A → Type 0} {L : Leave → Type 0} (v : Value) (a b : Evaluation A) → Gives P L a → Gives P L b → Gives P L (choose v a b)
+gives_choose {P = P} {L = L} v a b f g = by (is_zero v)
+  where
+    by : (t : Bool) → Gives P L (cond t b a)
+    by true = g
+    by false = f
+
+-- the jumps that a statement may make there, by its typing: `break` and `continue` in a loop, and a `return` with a value of the result
+abbrev pub Allowed : Around → Leave → Type 0
+Allowed r Breaks = r.loops ≡ true
+Allowed r Continues = r.loops ≡ true
+Allowed r (Returns None) = IsValueOf r.result NoValue
+Allowed r (Returns (Some v)) = IsValueOf r.result v
+
+pub body_well : (r : Around) (o : Outcome (Unit {0})) (again : Evaluation (Unit {0})) → EndsWell Anything (Allowed (in_loop r)) o → Gives Anything (Allowed r) again → EndsWell Anything (Allowed r) (after_body o again)
+body_well r (Normal u s) again h g = g.at s
+body_well r (Stop (Leaves Continues) s) again h g = g.at s
+body_well r (Stop (Leaves Breaks) s) again h g = tt
+body_well r (Stop (Leaves (Returns None)) s) again h g = h
+body_well r (Stop (Leaves (Returns (Some v))) s) again h g = h
+body_well r (Stop (Over e) s) again h g = h
+
+pub gives_turns : (r : Around) (n : ℕ) (test : Evaluation Value) (body behind : Evaluation (Unit {0})) → Gives Anything (Allowed r) test
+    → Gives Anything (Allowed (in_loop r)) body → Gives Anything (Allowed r) behind → Gives Anything (Allowed r) (turns n test body behind)
+gives_turns r zero test body behind t b h = gives_over Spent tt
+gives_turns r (suc n) test body behind t b h =
+    gives_bind test _ t (λ v _. gives_choose v _ _ (gives_bind step (λ _ s. after_body (body s) (behind >> turns n test body behind)) gives_step (λ _ _. record {
+      at = λ s. body_well r (body s) (behind >> turns n test body behind) (b.at s) (gives_then behind _ h (gives_turns r n test body behind t b h));
+    })) (gives_give tt tt))
+
+pub gives_do_turns : (r : Around) (n : ℕ) (test : Evaluation Value) (body : Evaluation (Unit {0})) → Gives Anything (Allowed r) test → Gives Anything (Allowed (in_loop r)) body → Gives Anything (Allowed r) (do_turns n test body)
+gives_do_turns r zero test body t b = gives_over Spent tt
+gives_do_turns r (suc n) test body t b =
+    gives_bind step (λ _ s. after_body (body s) (test >>= λ v. choose v (do_turns n test body) done)) gives_step (λ _ _. record {
+      at = λ s. body_well r (body s) (test >>= λ v. choose v (do_turns n test body) done) (b.at s)
+          (gives_bind test _ t (λ v _. gives_choose v _ _ (gives_do_turns r n test body t b) (gives_give tt tt)));
+    })
+
+-- ---- the library
+
+pub gives_put_char : (at : Place) (vs : List Value) → Gives IsNumber NoJump (put_char at vs)
+gives_put_char at [] = gives_over (Undefined at) tt
+gives_put_char at (NoValue ∷ []) = gives_over (Undefined at) tt
+gives_put_char at (Points p ∷ []) = gives_over (Undefined at) tt
+gives_put_char at (Integer z ∷ []) =
+    gives_then {P = Anything} (print (byte_of z)) (give (Integer (pos (byte_of z)))) (record { at = λ s. tt }) (gives_give (Integer (pos (byte_of z))) tt)
+gives_put_char at (v ∷ w ∷ vs) = gives_over (Undefined at) tt
+
+pub read_well : (bytes : List ℕ) (tail : InputTail) (s : State) → EndsWell IsNumber NoJump (read_byte bytes tail s)
+read_well [] EndOfInput s = tt
+read_well [] InputFault s = tt
+read_well (b ∷ bs) tail s = tt
+
+pub gives_get_char : (at : Place) (vs : List Value) → Gives IsNumber NoJump (get_char at vs)
+gives_get_char at [] = record { at = λ s. read_well s.input.bytes s.input.tail s }
+gives_get_char at (v ∷ vs) = gives_over (Undefined at) tt
+
+pub gives_exit : (at : Place) (vs : List Value) → Gives IsNumber NoJump (exit_with at vs)
+gives_exit at [] = gives_over (Undefined at) tt
+gives_exit at (NoValue ∷ []) = gives_over (Undefined at) tt
+gives_exit at (Points p ∷ []) = gives_over (Undefined at) tt
+gives_exit at (Integer z ∷ []) = gives_over (Exits z) tt
+gives_exit at (v ∷ w ∷ vs) = gives_over (Undefined at) tt
+
+pub gives_library_call : (at : Place) (name : Option (List ℕ)) (vs : List Value) → Gives IsNumber NoJump (library_call at name vs)
+gives_library_call at None vs = gives_over (Undefined at) tt
+gives_library_call at (Some name) vs =
+    gives_if (bytes_eq name (codes "putchar")) _ _ (gives_put_char at vs)
+    (gives_if (bytes_eq name (codes "getchar")) _ _ (gives_get_char at vs)
+    (gives_if (bytes_eq name (codes "exit")) _ _ (gives_exit at vs) (gives_over (Undefined at) tt)))

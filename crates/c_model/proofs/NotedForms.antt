@@ -1,0 +1,158 @@
+-- Typing the asserts of statements keeps what they declare, how deep they are, their full expressions and their form.
+use Rattle.std.proofs.Common.{◌≡◌, ℕ, suc, ◌+◌, ◌≤◌, max, Bool, true, false, cond, List, [], ◌∷◌, ◌++◌, Option, Some, None, refl, sym, ap, subst}
+use Rattle.c_syntax.specs.Expressions.{Expression}
+use Rattle.c_syntax.specs.Statements.{Declaration, Statement, Empty, Eval, Block, If, While, Do, For, Break, Continue, Return, ElsePart, NoElse, Else, ForFirst, NoFirst, First, BlockItem, Declare, Run, Asserts, BlockItems, NoItem, Then}
+use Rattle.c_model.specs.Checked.{Good, one_part}
+use Rattle.c_model.specs.ExpressionTyping.{Entity, AnObject, AnEnumerator, Sight, entity_named, with_object, with_objects, inner}
+use Rattle.c_model.specs.Integers.{fits}
+use Rattle.c_syntax.specs.declared.types.CInt.TheVariants.{I32}
+use Rattle.c_model.specs.StatementTyping.{behind, behind_first}
+use Rattle.c_model.specs.UnitTyping.{with_parameter, with_parameters}
+use Rattle.c_model.specs.AnnotationTyping.{typed_annotations, noted_statement, noted_else, noted_item, noted_items, noted_body}
+use Rattle.c_model.specs.Formed.{depth, depth_of_else, depth_of_item, depth_of_items, declared_within, declared_in_else, declared_in_first, declared_in_item, declared_in_items, declared_in_body}
+use Rattle.c_model.specs.FullExpressions.{EachIn, EachInElse, EachInItem, EachInItems, EachInBody}
+use Rattle.c_model.specs.EffectPlaces.{StatementPlaced, ElsePlaced, ItemPlaced, ItemsPlaced}
+use Rattle.c_model.specs.ExpressionGrammar.{most_nested}
+use Rattle.c_model.specs.ReadTree.{BodyRead}
+use Rattle.c_model.specs.FileItems.{SeesValues}
+use Rattle.c_model.proofs.TypedParts.{Gives, gives_one}
+use Rattle.c_model.proofs.TypedDeclarations.{after_one}
+use Rattle.c_model.proofs.NotedTerms.{AreSameNotes, annotations_kept}
+
+-- ---- objects hide enumerators, and are none
+
+abbrev IsValue : Entity → Type 0
+IsValue (AnObject b) = Unit {0}
+IsValue (AnEnumerator c) = fits I32 c.value ≡ true
+
+all_values : (s : Sight) → SeesValues s → (x : ℕ) (r : Entity) → entity_named x s.entities ≡ Some r → IsValue r
+all_values s k x (AnObject b) e = tt
+all_values s k x (AnEnumerator c) e = k x c e
+
+after_object : (s : Sight) (d : Declaration) → SeesValues s → SeesValues (with_object s d)
+after_object s d k x c e = after_one IsValue x s.entities (AnObject (record { name = d.name; decl = d.place.offset; ctype = d.ctype })) (all_values s k x) tt (AnEnumerator c) e
+
+after_objects : (s : Sight) (ds : List Declaration) → SeesValues s → SeesValues (with_objects s ds)
+after_objects s [] k = k
+after_objects s (d ∷ ds) k = after_objects (with_object s d) ds (after_object s d k)
+
+values_behind : (s : Sight) (i : BlockItem) → SeesValues s → SeesValues (behind s i)
+values_behind s (Declare ds) k = after_objects s ds k
+values_behind s (Run a) k = k
+values_behind s (Asserts annots) k = k
+
+values_behind_first : (s : Sight) (first : ForFirst) → SeesValues s → SeesValues (behind_first s first)
+values_behind_first s NoFirst k = k
+values_behind_first s (First i) k = values_behind s i k
+
+pub after_parameters : (s : Sight) (ds : List Declaration) → SeesValues s → SeesValues (with_parameters s ds)
+after_parameters s [] k = k
+after_parameters s (d ∷ ds) k = after_parameters (with_parameter s d) ds (by d.named)
+  where
+    by : (b : Bool) → SeesValues (cond b (with_object s d) s)
+    by true = after_object s d k
+    by false = k
+
+-- ---- statements
+
+module _ (P : Expression → Type 0) where
+  record IsKept (s : Sight) (a b : Statement) : Type 0 where
+    deep : depth b ≡ depth a
+    declares : declared_within b ≡ declared_within a
+    each : EachIn P a → EachIn P b
+    placed : SeesValues s → StatementPlaced a → StatementPlaced b
+
+  record IsElseKept (s : Sight) (a b : ElsePart) : Type 0 where
+    deep : depth_of_else b ≡ depth_of_else a
+    declares : declared_in_else b ≡ declared_in_else a
+    each : EachInElse P a → EachInElse P b
+    placed : SeesValues s → ElsePlaced a → ElsePlaced b
+
+  record IsItemKept (s : Sight) (a b : BlockItem) : Type 0 where
+    deep : depth_of_item b ≡ depth_of_item a
+    declares : declared_in_item b ≡ declared_in_item a
+    each : EachInItem P a → EachInItem P b
+    placed : SeesValues s → ItemPlaced a → ItemPlaced b
+    sight : behind s b ≡ behind s a
+
+  record AreKept (s : Sight) (a b : BlockItems) : Type 0 where
+    deep : depth_of_items b ≡ depth_of_items a
+    declares : declared_in_items b ≡ declared_in_items a
+    each : EachInItems P a → EachInItems P b
+    placed : SeesValues s → ItemsPlaced a → ItemsPlaced b
+
+  mutual
+    statement_kept : (s : Sight) (a : Statement) → Gives (IsKept s a) (noted_statement s a)
+    statement_kept s (Empty at) = record { deep = refl; declares = refl; each = λ h. h; placed = λ k h. h }
+    statement_kept s (Eval at e) = record { deep = refl; declares = refl; each = λ h. h; placed = λ k h. h }
+    statement_kept s (Block at items) = gives_one (AreKept (inner s) items) (IsKept s (Block at items)) (noted_items (inner s) items) (λ x. Good (Block at x)) (items_kept (inner s) items)
+        (λ x p. record { deep = ap (λ n. 1 + n) p.deep; declares = p.declares; each = p.each; placed = p.placed })
+    statement_kept s (If at e a b) =
+        gives_one (IsKept s a) (IsKept s (If at e a b)) (noted_statement s a) (λ x. one_part (noted_else s b) (λ y. Good (If at e x y))) (statement_kept s a) (λ x p.
+        gives_one (IsElseKept s b) (IsKept s (If at e a b)) (noted_else s b) (λ y. Good (If at e x y)) (else_kept s b) (λ y q. record {
+          deep = λ i. 1 + max (p.deep i) (q.deep i);
+          declares = λ i. p.declares i ++ q.declares i;
+          each = λ h. (h.0, p.each h.1, q.each h.2);
+          placed = λ k h. (h.0, p.placed k h.1, q.placed k h.2);
+        }))
+    statement_kept s (While at annots e a) =
+        gives_one (AreSameNotes s annots) (IsKept s (While at annots e a)) (typed_annotations s annots) (λ xs. one_part (noted_statement s a) (λ x. Good (While at xs e x))) (annotations_kept s annots) (λ xs n.
+        gives_one (IsKept s a) (IsKept s (While at annots e a)) (noted_statement s a) (λ x. Good (While at xs e x)) (statement_kept s a) (λ x p. record {
+          deep = ap (λ k. 1 + k) p.deep;
+          declares = p.declares;
+          each = λ h. (h.0, p.each h.1);
+          placed = λ k h. (n.none h.0, h.1, p.placed k h.2);
+        }))
+    statement_kept s (Do at a e) = gives_one (IsKept s a) (IsKept s (Do at a e)) (noted_statement s a) (λ x. Good (Do at x e)) (statement_kept s a)
+        (λ x p. record { deep = ap (λ n. 1 + n) p.deep; declares = p.declares; each = λ h. (p.each h.0, h.1); placed = λ k h. (p.placed k h.0, h.1) })
+    statement_kept s (For at annots first e step a) =
+        gives_one (AreSameNotes s annots) (IsKept s (For at annots first e step a)) (typed_annotations s annots)
+        (λ xs. one_part (noted_statement (behind_first (inner s) first) a) (λ x. Good (For at xs first e step x))) (annotations_kept s annots) (λ xs n.
+        gives_one (IsKept (behind_first (inner s) first) a) (IsKept s (For at annots first e step a)) (noted_statement (behind_first (inner s) first) a) (λ x. Good (For at xs first e step x))
+        (statement_kept (behind_first (inner s) first) a) (λ x p. record {
+          deep = ap (λ k. 1 + k) p.deep;
+          declares = ap (λ ds. declared_in_first first ++ ds) p.declares;
+          each = λ h. (h.0, h.1, h.2, p.each h.3);
+          placed = λ k h. (n.none h.0, h.1, h.2, h.3, p.placed (values_behind_first (inner s) first k) h.4);
+        }))
+    statement_kept s (Break at) = record { deep = refl; declares = refl; each = λ h. h; placed = λ k h. h }
+    statement_kept s (Continue at) = record { deep = refl; declares = refl; each = λ h. h; placed = λ k h. h }
+    statement_kept s (Return at e) = record { deep = refl; declares = refl; each = λ h. h; placed = λ k h. h }
+
+    else_kept : (s : Sight) (b : ElsePart) → Gives (IsElseKept s b) (noted_else s b)
+    else_kept s NoElse = record { deep = refl; declares = refl; each = λ h. h; placed = λ k h. h }
+    else_kept s (Else a) = gives_one (IsKept s a) (IsElseKept s (Else a)) (noted_statement s a) (λ x. Good (Else x)) (statement_kept s a) (λ x p. record { deep = p.deep; declares = p.declares; each = p.each; placed = p.placed })
+
+    item_kept : (s : Sight) (i : BlockItem) → Gives (IsItemKept s i) (noted_item s i)
+    item_kept s (Declare ds) = record { deep = refl; declares = refl; each = λ h. h; placed = λ k h. h; sight = refl }
+    item_kept s (Run a) =
+        gives_one (IsKept s a) (IsItemKept s (Run a)) (noted_statement s a) (λ x. Good (Run x)) (statement_kept s a) (λ x p. record { deep = p.deep; declares = p.declares; each = p.each; placed = p.placed; sight = refl })
+    item_kept s (Asserts annots) = gives_one (AreSameNotes s annots) (IsItemKept s (Asserts annots)) (typed_annotations s annots) (λ x. Good (Asserts x)) (annotations_kept s annots)
+        (λ x p. record { deep = refl; declares = refl; each = λ h. h; placed = p.asserts; sight = refl })
+
+    items_kept : (s : Sight) (is : BlockItems) → Gives (AreKept s is) (noted_items s is)
+    items_kept s NoItem = record { deep = refl; declares = refl; each = λ h. h; placed = λ k h. h }
+    items_kept s (Then i rest) =
+        gives_one (IsItemKept s i) (AreKept s (Then i rest)) (noted_item s i) (λ x. one_part (noted_items (behind s x) rest) (λ xs. Good (Then x xs))) (item_kept s i) (λ x p.
+        gives_one (AreKept (behind s x) rest) (AreKept s (Then i rest)) (noted_items (behind s x) rest) (λ xs. Good (Then x xs)) (items_kept (behind s x) rest) (λ xs q. record {
+          deep = λ k. max (p.deep k) (q.deep k);
+          declares = λ k. p.declares k ++ q.declares k;
+          each = λ h. (p.each h.0, q.each h.1);
+          placed = λ k h. (p.placed k h.0, q.placed (subst SeesValues (sym p.sight) (values_behind s i k)) h.1);
+        }))
+
+  -- ---- bodies
+
+  pub record IsBodyKept (s : Sight) (a b : Option Statement) : Type 0 where
+    pub declares : declared_in_body b ≡ declared_in_body a
+    pub each : EachInBody P a → EachInBody P b
+    pub read : SeesValues s → BodyRead a → BodyRead b
+
+  pub body_kept : (s : Sight) (b : Option Statement) → Gives (IsBodyKept s b) (noted_body s b)
+  body_kept s None = record { declares = refl; each = λ h. h; read = λ k h. h }
+  body_kept s (Some (Block at items)) = gives_one (AreKept s items) (IsBodyKept s (Some (Block at items))) (noted_items s items) (λ x. Good (Some (Block at x))) (items_kept s items) (λ x p. record {
+    declares = p.declares;
+    each = p.each;
+    read = λ k h. (p.placed k h.0, subst (λ n. 1 + n ≤ suc most_nested) (sym p.deep) h.1);
+  })
+  body_kept s (Some _) = record { declares = refl; each = λ h. h; read = λ k h. h }

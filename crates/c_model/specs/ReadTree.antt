@@ -1,0 +1,61 @@
+-- What is known of each tree that is read of a text, whatever it contains, before it is typed: its places stand in the order of the text, effects and
+-- calls stand only where the grammar puts them, its expressions are short, and what it declares has names.
+use Rattle.std.specs.Prelude.{◌≡◌, ℕ, suc, ◌<◌, ◌≤◌, ◌^◌, List, [], length, Option, Some, None}
+use Rattle.std.specs.List.{AllByRecursion}
+use Rattle.c_syntax.specs.Expressions.{Expression}
+use Rattle.c_syntax.specs.Statements.{Declaration, Statement, Block}
+use Rattle.c_syntax.specs.Programs.{StringLiteral, Function, TranslationUnit}
+use Rattle.c_model.specs.ExpressionGrammar.{most_nested}
+use Rattle.c_model.specs.Formed.{nodes_of, most_read, depth, AreNamed, FunctionsNamed}
+use Rattle.c_model.specs.Pure.{IsInitialiser, HasBareCall}
+use Rattle.c_model.specs.FullExpressions.{EachDeclared, EachInFunctions}
+use Rattle.c_model.specs.EffectPlaces.{ItemsPlaced}
+pub use Rattle.c_model.specs.TextOrder.{Between, offset_of_constant, numbers_of_item, numbers_of_items, HasMembers, InTextOrder}
+pub use Rattle.c_model.specs.TextOrder.{enums_among, typedefs_among, globals_among, functions_among, struct_among}
+
+-- ---- forms
+
+-- each form has a token of its own
+abbrev pub IsShort : Expression → Type 0
+IsShort e = nodes_of e ≤ most_read
+
+-- a body is a block, which is 1 deep; the limit is that of the grammar, and one more that this bound allows does no harm
+abbrev pub BodyRead : Option Statement → Type 0
+BodyRead None = Unit {0}
+BodyRead (Some (Block at items)) = ItemsPlaced items × (depth (Block at items) ≤ suc most_nested)
+BodyRead (Some _) = ⊥
+
+pub record FunctionRead (f : Function) : Type 0 where
+  pub no_contract : f.contract ≡ None
+  pub body : BodyRead f.body
+
+abbrev pub FunctionsRead : List Function → Type 0
+FunctionsRead fs = AllByRecursion FunctionRead fs
+
+abbrev pub AreInitialisers : List Declaration → Type 0
+AreInitialisers ds = AllByRecursion (λ (d : Declaration). IsInitialiser d.init) ds
+
+-- ---- literals
+
+abbrev pub AreBytes : List ℕ → Type 0
+AreBytes bs = AllByRecursion (λ b. b < 256) bs
+
+abbrev pub TextsAreBytes : List StringLiteral → Type 0
+TextsAreBytes ts = AllByRecursion (λ (t : StringLiteral). AreBytes t.bytes) ts
+
+-- ---- files
+
+-- the tree of a text of bytes, which are fewer than 4294967295
+pub record ReadTree (p : TranslationUnit) : Type 0 where
+  pub order : InTextOrder p
+  pub functions : FunctionsRead p.funcs
+  pub functions_short : EachInFunctions IsShort p.funcs
+  pub functions_bare : EachInFunctions HasBareCall p.funcs
+  pub globals : AreInitialisers p.globals
+  pub globals_short : EachDeclared IsShort p.globals
+  pub globals_bare : EachDeclared HasBareCall p.globals
+  pub functions_named : FunctionsNamed p.names p.funcs
+  pub globals_named : AreNamed p.names p.globals
+  pub texts : TextsAreBytes p.texts
+  pub few_functions : length p.funcs < 2 ^ 32
+  pub no_strays : p.strays ≡ []
