@@ -1,0 +1,16 @@
+pub mod InPlace
+pub mod Least
+pub mod Names
+pub mod Newest
+pub mod Gives
+pub mod Signatures
+pub mod Wrapped
+pub mod Bitwise
+pub mod Shifts
+pub mod Folding
+pub mod Besides
+pub mod Small
+pub mod Demands
+pub mod Calls
+pub mod Expressions
+pub mod SmallForms

@@ -1,0 +1,139 @@
+use Rattle.std.proofs.Common.{◌≡◌, ◌+◌, ◌∙◌, ap, take, rules, true, Err, sym, arith, ◌<◌, map, length, slice_set}
+use Rattle.c_syntax.specs.Ctypes.{plain_length, plain_type}
+use Rattle.c_syntax.specs.Expressions.{Call, Cast, Node, SizeOfExpr, SizeOfType, plain_expr, plain_exprs, plain_kind}
+use Rattle.c_syntax.specs.declared.types.CType.{CType}
+use Rattle.c_model.specs.Checked.{Good}
+use Rattle.c_model.specs.ExpressionTyping.{cast, decayed, decayed_of, size_of_expression, size_of_type, typed, typed_type}
+use Rattle.c_expression_rules.specs.Answers.{Answers}
+use Rattle.c_expression_rules.specs.Constants.{has_small_sizes}
+use Rattle.c_expression_rules.specs.Forms.{typed_call, typed_kind, typed_two}
+use Rattle.c_expression_rules.specs.Sights.{plain_sight}
+use Rattle.c_expression_rules.proofs.Besides.{asked_answers, cast_answers, cast_refused, operand_refused, written_answers}
+use Rattle.c_expression_rules.proofs.Expressions.{array_refused, call_form, call_refused, arguments_step, form_is, params_step}
+use Rattle.c_expression_rules.proofs.InPlace.{done, seen, unvisited_step, within_step}
+use Rattle.c_expression_rules.proofs.Least.{both_answers}
+use Rattle.c_expression_rules.proofs.Small.{small_decayed}
+use Rattle.c_expression_rules.proofs.SmallForms.{small_typed}
+use Rattle.c_expression_rules.proofs.expression.+expression.Goals as goal
+
+pub type_call_parts-returns-in_err-both : goal.type_call_parts-returns-in_err-both
+type_call_parts-returns-in_err-both t c =
+    let e : c.from_residual.result ≡ Err c.in_err-both.field-0.0 = search rules in
+    rw e (call_refused (plain_sight c.args.sight.now) c.args.place c.args.name (plain_exprs c.args.arguments.now.items) (plain_exprs c.type_arguments-typed.new.arguments.items) c.callee-f.result
+    c.type_arguments-typed.result c.in_err-both.field-0.0 c.callee-f.ensures (rw c.known_params.ensures at c.type_arguments-typed.ensures) (sym c.in_err-both.ensures.is))
+
+pub type_arguments-loop-i-preserved : goal.type_arguments-loop-i-preserved
+type_arguments-loop-i-preserved t c =
+    let s = plain_sight c.args.sight.now in
+    let ts = map plain_type c.args.params.now in
+    let old = c.args.arguments.now.items in
+    let cur = c.loop-i.arguments.items in
+    let i = c.loop-i.i in
+    let x = c.index_mut.result.now in
+    let y = c.type_argument-e.new.e in
+    let lt : i < length cur = search (rules, arith) in
+    let was = seen old cur i x lt c.loop-i.invariant.unvisited c.index_mut.ensures.value in
+    record {
+      unvisited = unvisited_step old cur i y c.loop-i.invariant.unvisited;
+      within = within_step cur i y lt;
+      rest = params_step ts (take i old) (take (i + 1) old) x (map plain_type c.loop-i.rest.now) (map plain_type c.behind_first-rest.result.now) was c.loop-i.invariant.rest c.behind_first-rest.ensures;
+      done = rw c.both-done.ensures.is (arguments_step s ts (take i old) (take (i + 1) old) (take i cur) (take (i + 1) (slice_set cur i y)) x y c.loop-i.done c.type_argument-e.result was
+          (done cur i y lt) c.loop-i.invariant.done (rw c.loop-i.invariant.rest at c.type_argument-e.ensures));
+    }
+
+pub type_array-returns-in_err-both : goal.type_array-returns-in_err-both
+type_array-returns-in_err-both t c =
+    let e : c.from_residual.result ≡ Err c.in_err-both.field-0.0 = search rules in
+    rw e (array_refused (plain_sight c.args.sight.now) c.args.place (plain_type c.args.u.now) (plain_type c.type_written-first.new.t) (plain_length c.args.n.now) (plain_length c.type_length-second.new.n)
+    c.type_written-first.result c.type_length-second.result c.type_written-first.ensures c.type_length-second.ensures c.in_err-both.field-0.0 (sym c.in_err-both.ensures.is))
+
+pub type_cast-returns-in-Err : goal.type_cast-returns-in-Err
+type_cast-returns-in-Err t c =
+    let s = plain_sight c.args.sight.now in
+    let to = plain_type c.type_written-written.new.t in
+    let a = plain_expr c.type_value-operand.new.e in
+    cast_refused (λ (t : CType). Node c.args.place (plain_type t) (Cast to a)) s c.args.place (λ u. to) (λ u. a) (typed_type s c.args.place (plain_type c.args.to.now)) (decayed_of (typed s (plain_expr c.args.a.now)))
+    (cast s c.args.place) c.in-Err.f c.type_value-operand.result c.both.result c.in-Err.ensures c.type_value-operand.ensures.typed c.both.ensures.is
+
+pub type_cast-returns-in-Err-operand : goal.type_cast-returns-in-Err-operand
+type_cast-returns-in-Err-operand t c =
+    let s = plain_sight c.args.sight.now in
+    let to = plain_type c.type_written-written.new.t in
+    let a = plain_expr c.type_value-operand.new.e in
+    operand_refused (λ (t : CType). Node c.args.place (plain_type t) (Cast to a)) s c.args.place (λ u. to) (λ u. a) (typed_type s c.args.place (plain_type c.args.to.now)) (decayed_of (typed s (plain_expr c.args.a.now)))
+    (cast s c.args.place) to c.in-Err-operand.f c.within_limits-limit.result c.both-in-Err-operand.result c.in-Ok.ensures c.in-Err-operand.ensures.typed c.within_limits-limit.ensures.checked c.both-in-Err-operand.ensures.is
+
+pub type_cast-returns-in-Ok-operand : goal.type_cast-returns-in-Ok-operand
+type_cast-returns-in-Ok-operand t c =
+    let s = plain_sight c.args.sight.now in
+    let to = plain_type c.type_written-written.new.t in
+    let a = plain_expr c.type_value-operand.new.e in
+    cast_answers (λ (t : CType). Node c.args.place (plain_type t) (Cast to a)) s c.args.place (λ u. to) (λ u. a) (typed_type s c.args.place (plain_type c.args.to.now)) (decayed_of (typed s (plain_expr c.args.a.now)))
+    (cast s c.args.place) to a c.cast.result c.both-in-Ok-operand.result c.within_limits-limit.result c.in-Ok.ensures c.in-Ok-operand.ensures.typed c.cast.ensures c.within_limits-limit.ensures.checked c.both-in-Ok-operand.ensures.is
+
+pub type_expr-returns-clause-typed : goal.type_expr-returns-clause-typed
+type_expr-returns-clause-typed t c =
+    let s = plain_sight c.args.sight.now in
+    let e = c.args.e.now in
+    let made : typed_kind s e.place (plain_kind e.kind.value) ≡ Good (Node e.place (plain_type c.in_ok-ctype.ctype) (plain_kind c.type_kind.new.kind)) = search rules in
+    form_is s e.place (plain_type e.ctype) (plain_kind e.kind.value) ∙ made
+
+pub type_expr-returns-clause-small : goal.type_expr-returns-clause-small
+type_expr-returns-clause-small t c =
+    let s = plain_sight c.args.sight.now in
+    let e = c.args.e.now in
+    let made : typed_kind s e.place (plain_kind e.kind.value) ≡ Good (Node e.place (plain_type c.in_ok-ctype.ctype) (plain_kind c.type_kind.new.kind)) = search rules in
+    small_typed s (plain_expr e) (Node e.place (plain_type c.in_ok-ctype.ctype) (plain_kind c.type_kind.new.kind)) (form_is s e.place (plain_type e.ctype) (plain_kind e.kind.value) ∙ made)
+
+pub type_kind-returns-in-Call : goal.type_kind-returns-in-Call
+type_kind-returns-in-Call t c =
+    let s = plain_sight c.args.sight.now in
+    let x = c.in-Call.x in
+    let y = c.type_call.new.x in
+    let v = c.in-Call.arguments in
+    let w = c.type_call.new.arguments in
+    let h : Answers (λ (t : CType). Node c.args.place (plain_type t) (Call y (plain_exprs w.items))) (typed_call s c.args.place x.name (plain_exprs v.items)) c.type_call.result = search rules in
+    let whole = call_form s c.args.place x y v w c.type_call.result h in
+    search (rules, whole)
+
+pub type_place_and_value-returns-clause-typed : goal.type_place_and_value-returns-clause-typed
+type_place_and_value-returns-clause-typed t c =
+    let s = plain_sight c.args.sight.now in
+    both_answers (λ (u : Unit {0}). plain_expr c.type_expr-first.new.e) (λ u. plain_expr c.type_value-second.new.e) (typed s (plain_expr c.args.a.now)) (decayed_of (typed s (plain_expr c.args.b.now)))
+    c.type_expr-first.result c.type_value-second.result c.both.result c.type_expr-first.ensures.typed c.type_value-second.ensures.typed (sym c.both.ensures.is)
+
+pub type_size_of_expr-returns : goal.type_size_of_expr-returns
+type_size_of_expr-returns t c =
+    let s = plain_sight c.args.sight.now in
+    let a = plain_expr c.type_expr.new.e in
+    let is : typed s (plain_expr c.args.a.now) ≡ Good a = search rules in
+    asked_answers (λ (t : CType). Node c.args.place (plain_type t) (SizeOfExpr a)) s c.args.place (typed s (plain_expr c.args.a.now)) (size_of_expression s c.args.place) a
+    c.size_of_expression.result c.both.result c.within_limits.result is c.size_of_expression.ensures c.within_limits.ensures.checked c.both.ensures.is
+
+pub type_size_of_type-returns : goal.type_size_of_type-returns
+type_size_of_type-returns t c =
+    let s = plain_sight c.args.sight.now in
+    let u = plain_type c.type_written.new.t in
+    let is : typed_type s c.args.place (plain_type c.args.u.now) ≡ Good u = search rules in
+    written_answers (λ (t : CType). Node c.args.place (plain_type t) (SizeOfType u)) s c.args.place (typed_type s c.args.place (plain_type c.args.u.now)) (size_of_type s c.args.place) u
+    c.size_of_type.result c.both.result c.within_limits.result is c.size_of_type.ensures c.within_limits.ensures.checked c.both.ensures.is
+
+pub type_three-returns-clause-typed : goal.type_three-returns-clause-typed
+type_three-returns-clause-typed t c =
+    let s = plain_sight c.args.sight.now in
+    both_answers (λ (u : Unit {0}). plain_expr c.type_value-first.new.e) (λ u. (plain_expr c.type_values-second.new.a, plain_expr c.type_values-second.new.b)) (decayed_of (typed s (plain_expr c.args.a.now)))
+    (typed_two s (plain_expr c.args.b.now) (plain_expr c.args.c.now)) c.type_value-first.result c.type_values-second.result c.both.result c.type_value-first.ensures.typed c.type_values-second.ensures.typed (sym c.both.ensures.is)
+
+pub type_value-returns-clause-small : goal.type_value-returns-clause-small
+type_value-returns-clause-small t c =
+    let structs = (plain_sight c.args.sight.now).structs in
+    let e = plain_expr c.type_expr.new.e in
+    let is : plain_expr c.decay.new.e ≡ decayed e = search rules in
+    let small : has_small_sizes structs e ≡ true = search rules in
+    ap (has_small_sizes structs) is ∙ small_decayed structs e small
+
+pub type_values-returns-clause-typed : goal.type_values-returns-clause-typed
+type_values-returns-clause-typed t c =
+    let s = plain_sight c.args.sight.now in
+    both_answers (λ (u : Unit {0}). plain_expr c.type_value-first.new.e) (λ u. plain_expr c.type_value-second.new.e) (decayed_of (typed s (plain_expr c.args.a.now))) (decayed_of (typed s (plain_expr c.args.b.now)))
+    c.type_value-first.result c.type_value-second.result c.both.result c.type_value-first.ensures.typed c.type_value-second.ensures.typed (sym c.both.ensures.is)

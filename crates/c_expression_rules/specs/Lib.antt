@@ -1,0 +1,14 @@
+pub mod Answers
+pub mod Callees
+pub mod Constants
+pub mod Entities
+pub mod Entity
+pub mod Forms
+pub mod Library
+pub mod Limits
+pub mod Newest
+pub mod Operators
+pub mod Shifts
+pub mod Sights
+pub mod Signatures
+pub mod Structs

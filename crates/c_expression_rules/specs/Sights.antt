@@ -1,0 +1,36 @@
+-- Ours: the plain form of what is in sight (C99 6.2.1).
+-- What is in sight, without vectors.
+use Rattle.std.specs.Prelude.{ℕ, Bool, false, nat_eq, Option, Some, None, map, take}
+use Rattle.c_syntax.specs.Ctypes.{plain_type}
+use Rattle.c_syntax.specs.Programs.{plain_layout, plain_text}
+use Rattle.c_model.specs.ExpressionTyping as plain
+use Rattle.c_expression_rules.specs.declared.sight.TypeName.{TypeName}
+use Rattle.c_expression_rules.specs.declared.sight.Sight.{Sight}
+use Rattle.c_expression_rules.specs.Entities.{plain_entities}
+use Rattle.c_expression_rules.specs.Signatures.{plain_signature}
+
+abbrev pub plain_type_name : TypeName → plain.TypeName
+plain_type_name t = record { name = t.name; ctype = plain_type t.ctype }
+
+abbrev pub plain_sight : Sight → plain.Sight
+plain_sight s = record {
+  names = s.names.items;
+  texts = map plain_text s.texts.items;
+  functions = map plain_signature s.functions.signatures.items;
+  entities = plain_entities s.entities;
+  innermost = s.innermost;
+  types = map plain_type_name s.types.items;
+  structs = map plain_layout s.structs.items;
+  levels = s.levels.items;
+  enum_tags = s.enum_tags.items;
+  enums = s.enums.items;
+}
+
+-- what is in sight after a block, around which so many entities are
+abbrev pub left : ℕ → ℕ → plain.Sight → plain.Sight
+left count innermost s = record s { entities = take count s.entities; innermost = innermost }
+
+-- whether the tag of a struct is this one
+abbrev pub has_tag : ℕ → Option ℕ → Bool
+has_tag x None = false
+has_tag x (Some y) = nat_eq x y

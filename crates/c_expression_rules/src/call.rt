@@ -1,0 +1,311 @@
+//! Names and calls (C99 6.5.1, 6.5.2.2), and members of structs (C99 6.5.2.3).
+
+ghost use Rattle.std.specs.Prelude.{◌≡◌, IfErr, IfOk, map, option_map};
+ghost use Rattle.c_syntax.specs.Ctypes.{Ptr, Void, plain_type};
+ghost use Rattle.c_syntax.specs.Expressions.{Arrow, Call, Dot, Node, plain_expr, plain_exprs, plain_kind};
+ghost use Rattle.c_syntax.specs.Programs.{plain_layout, plain_member};
+ghost use Rattle.c_model.specs.Checked.{one_part};
+ghost use Rattle.c_model.specs.Layouts.{member_among, members_of};
+ghost use Rattle.c_model.specs.ExpressionTyping.{arrow, call, callee, dot, is_null_word, library_name, member, named, no_function, use_as};
+ghost use Rattle.c_expression_rules.specs.Answers.{Answers, IsRefusal};
+ghost use Rattle.c_expression_rules.specs.Callees.{callable, known_params, library_callee};
+ghost use Rattle.c_expression_rules.specs.Library.{signature_of};
+ghost use Rattle.c_expression_rules.specs.Signatures.{plain_signature};
+ghost use Rattle.c_expression_rules.specs.Sights.{plain_sight};
+
+use crate::conversion::{is_struct, pointed};
+use crate::entity::Entity;
+use crate::fault::{TypeFault, no_name, no_type};
+use crate::library::{LibraryFunction, library_constant, library_function};
+use crate::operator::{has_size, put};
+use crate::sight::{Sight, name_at};
+use crate::signature::{Signature, copy_signature};
+use c_syntax::copy::copy_type;
+use c_syntax::{CInt, CType, Expr, ExprKind, Layout, Member, Place, Use};
+use std::alloc::{AllocError, Global};
+
+/// Whether the name is `NULL`.
+fn is_null_word(sight: &Sight, name: u32) -> bool
+    ensures { result ≡ is_null_word (plain_sight sight.now) name }
+{
+    name_at(&sight.names, name) == b"NULL".as_slice()
+}
+
+/// A pointer to void.
+fn pointer_to_void(alloc: Global) -> Result<CType, AllocError>
+    ensures { IfOk result (λ t. plain_type t ≡ Ptr Void) }
+{
+    Ok(CType::Ptr(Box::new(alloc, CType::Void)?))
+}
+
+/// Puts what a name of the library stands for in its place: the value of a constant, or `NULL`. Gives its type.
+fn library_name(
+    alloc: Global,
+    sight: &Sight,
+    place: Place,
+    name: u32,
+    kind: &mut ExprKind,
+) -> Result<CType, TypeFault>
+    ensures { Answers (λ t. Node place (plain_type t) (plain_kind kind.new)) (library_name (plain_sight sight.now) place name) result }
+{
+    match library_constant(name_at(&sight.names, name)) {
+        Some((k, n)) => {
+            put(kind, ExprKind::Number(n, Some(k)));
+            Ok(CType::Int(k))
+        }
+        None => {
+            if is_null_word(sight, name) {
+                let decl = Use::LIBRARY;
+                put(kind, ExprKind::Variable(Use { name, decl }));
+                let ctype = pointer_to_void(alloc)?;
+                Ok(ctype)
+            } else if library_function(name_at(&sight.names, name)).is_some() {
+                Err(no_type(place))
+            } else {
+                Err(no_name(place))
+            }
+        }
+    }
+}
+
+/// Puts what a name stands for in its place: an object, or the value of an enumerator or a constant. Gives its type.
+pub fn mean(
+    alloc: Global,
+    sight: &Sight,
+    place: Place,
+    name: u32,
+    kind: &mut ExprKind,
+) -> Result<CType, TypeFault>
+    ensures { Answers (λ t. Node place (plain_type t) (plain_kind kind.new)) (named (plain_sight sight.now) place name) result }
+{
+    match sight.entities.named(name) {
+        Some(Entity::AnObject(object)) => {
+            let ctype = copy_type(alloc, &object.ctype)?;
+            let decl = object.decl;
+            put(kind, ExprKind::Variable(Use { name, decl }));
+            Ok(ctype)
+        }
+        Some(Entity::AnEnumerator(enumerator)) => {
+            put(
+                kind,
+                ExprKind::Number(i128::from(enumerator.value), Some(CInt::I32)),
+            );
+            Ok(CType::Int(CInt::I32))
+        }
+        None => {
+            if sight.functions.called(name).is_some() {
+                Err(no_type(place))
+            } else {
+                library_name(alloc, sight, place, name, kind)
+            }
+        }
+    }
+}
+
+/// What a function of the library tells its callers.
+fn library_signature(alloc: Global, name: u32, f: LibraryFunction) -> Result<Signature, AllocError>
+    ensures { IfOk result (λ s. plain_signature s ≡ signature_of name f) }
+{
+    let mut params = Vec::new(alloc);
+    match f {
+        LibraryFunction::Putchar | LibraryFunction::Exit => params.push(CType::Int(CInt::I32))?,
+        LibraryFunction::Getchar => (),
+    }
+    let result = match f {
+        LibraryFunction::Putchar | LibraryFunction::Getchar => CType::Int(CInt::I32),
+        LibraryFunction::Exit => CType::Void,
+    };
+    Ok(Signature {
+        name,
+        decl: Use::LIBRARY,
+        defined: true,
+        params,
+        result,
+    })
+}
+
+/// A function that is called, where the file defines it and it isn't `main`.
+fn callable(place: Place, bytes: &[u8], f: Signature) -> Result<Signature, TypeFault>
+    ensures callable { Answers plain_signature (callable place bytes.now (plain_signature f)) result }
+    ensures sure { IfErr result IsRefusal }
+{
+    if !f.defined {
+        return Err(no_name(place));
+    }
+    if bytes == b"main".as_slice() {
+        return Err(no_type(place));
+    }
+    Ok(f)
+}
+
+/// A name that is called and is no function's: a constant of the library, or unknown.
+fn no_function(sight: &Sight, place: Place, name: u32) -> Result<Signature, TypeFault>
+    ensures typed { Answers plain_signature (no_function (plain_sight sight.now) place name) result }
+    ensures sure { IfErr result IsRefusal }
+{
+    if library_constant(name_at(&sight.names, name)).is_some() || is_null_word(sight, name) {
+        Err(no_type(place))
+    } else {
+        Err(no_name(place))
+    }
+}
+
+/// The function of the library that is called, where it is built.
+fn library_callee(
+    alloc: Global,
+    sight: &Sight,
+    place: Place,
+    name: u32,
+) -> Result<Signature, TypeFault>
+    ensures { Answers plain_signature (library_callee (plain_sight sight.now) place name) result }
+{
+    match library_function(name_at(&sight.names, name)) {
+        Some(f) => {
+            let f = library_signature(alloc, name, f)?;
+            callable(place, name_at(&sight.names, name), f)
+        }
+        None => no_function(sight, place, name),
+    }
+}
+
+/// The function that is called, by its name: the file defines it, and `main` isn't to be called (this profile).
+pub fn callee(alloc: Global, sight: &Sight, place: Place, name: u32) -> Result<Signature, TypeFault>
+    ensures { Answers plain_signature (callee (plain_sight sight.now) place name) result }
+{
+    if sight.entities.named(name).is_some() {
+        return Err(no_type(place));
+    }
+    match sight.functions.called(name) {
+        Some(f) => {
+            let f = copy_signature(alloc, f)?;
+            callable(place, name_at(&sight.names, name), f)
+        }
+        None => library_callee(alloc, sight, place, name),
+    }
+}
+
+/// The types of a callee's parameters, and none where it has a fault.
+pub fn known_params(callee: &Result<Signature, TypeFault>) -> &[CType]
+    ensures { map plain_type result.now ≡ known_params callee.now }
+{
+    match callee {
+        Ok(f) => &f.params,
+        Err(_) => &[],
+    }
+}
+
+/// The members of a struct.
+pub fn members_of<'a>(structs: &'a [Layout], t: &CType) -> &'a [Member]
+    ensures { map plain_member result.now ≡ members_of (map plain_layout structs.now) (plain_type t.now) }
+{
+    match t {
+        CType::Struct(n) => match structs.get(*n as usize) {
+            Some(layout) => &layout.members,
+            None => &[],
+        },
+        _ => &[],
+    }
+}
+
+/// The member of a name.
+pub fn member_among(members: &[Member], name: u32) -> Option<&Member>
+    ensures { option_map (λ m. plain_member m.now) result ≡ member_among name (map plain_member members.now) }
+{
+    let mut rest = members;
+    'turn: while let [m, after @ ..] = rest {
+        if m.name == name {
+            return Some(m);
+        }
+        rest = after;
+    }
+    None
+}
+
+/// The type of a member of a struct whose members are known (C99 6.5.2.3).
+fn member(
+    alloc: Global,
+    sight: &Sight,
+    place: Place,
+    t: &CType,
+    name: u32,
+) -> Result<CType, TypeFault>
+    ensures { Answers plain_type (member (plain_sight sight.now) place (plain_type t.now) name) result }
+{
+    if !is_struct(t) {
+        return Err(no_type(place));
+    }
+    has_size(sight, place, t)?;
+    match member_among(members_of(&sight.structs, t), name) {
+        None => Err(no_name(place)),
+        Some(m) => {
+            let ctype = copy_type(alloc, &m.ctype)?;
+            Ok(ctype)
+        }
+    }
+}
+
+/// `a.m` (C99 6.5.2.3).
+pub fn dot(
+    alloc: Global,
+    sight: &Sight,
+    place: Place,
+    name: u32,
+    a: &Expr,
+) -> Result<CType, TypeFault>
+    ensures { Answers (λ t. Node place (plain_type t) (Dot (plain_expr a.now) name))
+        (dot (plain_sight sight.now) place name (plain_expr a.now)) result }
+{
+    member(alloc, sight, place, &a.ctype, name)
+}
+
+/// `a->m` (C99 6.5.2.3).
+pub fn arrow(
+    alloc: Global,
+    sight: &Sight,
+    place: Place,
+    name: u32,
+    a: &Expr,
+) -> Result<CType, TypeFault>
+    ensures { Answers (λ t. Node place (plain_type t) (Arrow (plain_expr a.now) name))
+        (arrow (plain_sight sight.now) place name (plain_expr a.now)) result }
+{
+    match pointed(&a.ctype) {
+        None => Err(no_type(place)),
+        Some(t) => member(alloc, sight, place, t, name),
+    }
+}
+
+/// The number of arguments is that of the parameters.
+fn called(
+    alloc: Global,
+    place: Place,
+    f: &Signature,
+    arguments: &[Expr],
+) -> Result<CType, TypeFault>
+    ensures { Answers (λ t. Node place (plain_type t) (Call (use_as f.now.name f.now.decl) (plain_exprs arguments.now)))
+        (call place (plain_signature f.now) (plain_exprs arguments.now)) result }
+{
+    if arguments.len() == f.params.len() {
+        let ctype = copy_type(alloc, &f.result)?;
+        Ok(ctype)
+    } else {
+        Err(no_type(place))
+    }
+}
+
+/// A call, whose arguments have no fault.
+pub fn call(
+    alloc: Global,
+    sight: &Sight,
+    place: Place,
+    x: &mut Use,
+    arguments: &[Expr],
+) -> Result<CType, TypeFault>
+    ensures { Answers (λ t. Node place (plain_type t) (Call x.new (plain_exprs arguments.now)))
+        (one_part (callee (plain_sight sight.now) place x.old.name) (λ f. call place f (plain_exprs arguments.now))) result }
+{
+    let f = callee(alloc, sight, place, x.name)?;
+    x.name = f.name;
+    x.decl = f.decl;
+    called(alloc, place, &f, arguments)
+}

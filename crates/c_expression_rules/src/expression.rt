@@ -1,0 +1,466 @@
+//! Expressions (C99 6.5) and types as they are written (C99 6.7.5, 6.7.6). Each is typed in its place.
+
+ghost use Rattle.std.specs.Prelude.{◌≡◌, OnOk, map, true};
+ghost use Rattle.c_syntax.specs.Ctypes.{Array, EnumTag, Named, StructTag, plain_length, plain_type};
+ghost use Rattle.c_syntax.specs.Expressions.{Call, Cast, Node, SizeOfExpr, SizeOfType, place_of, plain_expr, plain_exprs, plain_kind};
+ghost use Rattle.c_model.specs.Checked.{one_part};
+ghost use Rattle.c_model.specs.ExpressionTyping.{argument_for, constant, counted, decayed_of, first_type, rest_types, typed};
+ghost use Rattle.c_model.specs.ExpressionTyping.{typed_arguments, typed_length, typed_type};
+ghost use Rattle.c_expression_rules.specs.Answers.{Answers};
+ghost use Rattle.c_expression_rules.specs.Constants.{has_small_sizes};
+ghost use Rattle.c_expression_rules.specs.Forms.{cast_of, size_of_expr, size_of_written, typed_array, typed_call, typed_call_parts};
+ghost use Rattle.c_expression_rules.specs.Forms.{typed_kind, typed_leaf, typed_place_and_value, typed_three, typed_two};
+ghost use Rattle.c_expression_rules.specs.Sights.{plain_sight};
+
+use crate::assignment::{argument_for, assign, cast};
+use crate::binary::{binary, choice_of};
+use crate::call::{arrow, call, callee, dot, known_params, mean};
+use crate::constant::constant;
+use crate::fault::{TypeFault, both, no_name, no_type};
+use crate::operator::{
+    bump, decay, index, literal, size_of_expression, size_of_type, truth_of, unary,
+};
+use crate::sight::{Sight, is_among, type_named};
+use crate::text::text;
+use crate::types::{array_of, counted, struct_tagged, within_limits};
+use c_syntax::copy::copy_type;
+use c_syntax::{CInt, CType, Expr, ExprKind, Length, Place, Use};
+use std::alloc::Global;
+use std::mem::replace;
+
+/// Types an expression, or gives its first fault.
+#[cycle(expression)]
+pub fn type_expr(alloc: Global, sight: &Sight, e: &mut Expr) -> Result<(), TypeFault>
+    ensures typed { Answers (λ _. plain_expr e.new) (typed (plain_sight sight.now) (plain_expr e.old)) result }
+    ensures small { OnOk result (has_small_sizes (plain_sight sight.now).structs (plain_expr e.new) ≡ true) }
+{
+    let place = e.place;
+    let ctype = type_kind(alloc, sight, place, &mut e.kind)?;
+    e.ctype = ctype;
+    Ok(())
+}
+
+/// Types an expression by its form. Gives its type.
+#[cycle(expression)]
+fn type_kind(
+    alloc: Global,
+    sight: &Sight,
+    place: Place,
+    kind: &mut ExprKind,
+) -> Result<CType, TypeFault>
+    ensures { Answers (λ t. Node place (plain_type t) (plain_kind kind.new)) (typed_kind (plain_sight sight.now) place (plain_kind kind.old)) result }
+{
+    match kind {
+        ExprKind::Unary(op, a) => {
+            type_expr(alloc, sight, a)?;
+            unary(alloc, place, *op, a)
+        }
+        ExprKind::Bump(op, a) => {
+            type_expr(alloc, sight, a)?;
+            bump(alloc, sight, place, *op, a)
+        }
+        ExprKind::Dot(a, m) => {
+            type_expr(alloc, sight, a)?;
+            dot(alloc, sight, place, *m, a)
+        }
+        ExprKind::Arrow(a, m) => {
+            type_value(alloc, sight, a)?;
+            arrow(alloc, sight, place, *m, a)
+        }
+        ExprKind::Binary(op, a, b) => {
+            type_values(alloc, sight, a, b)?;
+            binary(alloc, sight, place, *op, a, b)
+        }
+        ExprKind::Both(a, b) => {
+            type_values(alloc, sight, a, b)?;
+            truth_of(place, a, b)
+        }
+        ExprKind::Either(a, b) => {
+            type_values(alloc, sight, a, b)?;
+            truth_of(place, a, b)
+        }
+        ExprKind::Index(a, b) => {
+            type_values(alloc, sight, a, b)?;
+            index(alloc, sight, place, a, b)
+        }
+        ExprKind::Assign(op, a, b) => {
+            type_place_and_value(alloc, sight, a, b)?;
+            assign(alloc, sight, place, *op, a, b)
+        }
+        ExprKind::Comma(a, b) => {
+            type_place_and_value(alloc, sight, a, b)?;
+            let ctype = copy_type(alloc, &b.ctype)?;
+            Ok(ctype)
+        }
+        ExprKind::Choice(a, b, c) => {
+            type_three(alloc, sight, a, b, c)?;
+            choice_of(alloc, sight, place, a, b, c)
+        }
+        ExprKind::Call(x, arguments) => type_call(alloc, sight, place, x, arguments),
+        ExprKind::Cast(to, a) => type_cast(alloc, sight, place, to, a),
+        ExprKind::SizeOfType(u) => type_size_of_type(alloc, sight, place, u),
+        ExprKind::SizeOfExpr(a) => type_size_of_expr(alloc, sight, place, a),
+        ExprKind::Number(..) | ExprKind::Letter(_) | ExprKind::Text(_) | ExprKind::Variable(_) =>
+            type_leaf(alloc, sight, place, kind),
+    }
+}
+
+/// Types an expression without parts.
+fn type_leaf(
+    alloc: Global,
+    sight: &Sight,
+    place: Place,
+    kind: &mut ExprKind,
+) -> Result<CType, TypeFault>
+    ensures { Answers (λ t. Node place (plain_type t) (plain_kind kind.new)) (typed_leaf (plain_sight sight.now) place (plain_kind kind.old)) result }
+{
+    match kind {
+        ExprKind::Number(..) => literal(place, kind),
+        ExprKind::Letter(_) => Ok(CType::Int(CInt::I32)),
+        ExprKind::Text(offset) => {
+            let offset = *offset;
+            text(alloc, sight, place, offset, kind)
+        }
+        ExprKind::Variable(x) => {
+            let name = x.name;
+            mean(alloc, sight, place, name, kind)
+        }
+        _ => Err(no_type(place)),
+    }
+}
+
+/// Types what a value is made of: an array is a pointer there (C99 6.3.2.1 p3).
+#[cycle(expression)]
+pub fn type_value(alloc: Global, sight: &Sight, e: &mut Expr) -> Result<(), TypeFault>
+    ensures typed { Answers (λ _. plain_expr e.new) (decayed_of (typed (plain_sight sight.now) (plain_expr e.old))) result }
+    ensures small { OnOk result (has_small_sizes (plain_sight sight.now).structs (plain_expr e.new) ≡ true) }
+{
+    type_expr(alloc, sight, e)?;
+    decay(alloc, e)?;
+    Ok(())
+}
+
+/// Types two values.
+#[cycle(expression)]
+fn type_values(alloc: Global, sight: &Sight, a: &mut Expr, b: &mut Expr) -> Result<(), TypeFault>
+    ensures typed { Answers (λ _. (plain_expr a.new, plain_expr b.new)) (typed_two (plain_sight sight.now) (plain_expr a.old) (plain_expr b.old)) result }
+    ensures left { OnOk result (has_small_sizes (plain_sight sight.now).structs (plain_expr a.new) ≡ true) }
+    ensures right { OnOk result (has_small_sizes (plain_sight sight.now).structs (plain_expr b.new) ≡ true) }
+{
+    let first = type_value(alloc, sight, a);
+    let second = type_value(alloc, sight, b);
+    both(first, second)
+}
+
+/// Types an operand that is no value of its own, and a value.
+#[cycle(expression)]
+fn type_place_and_value(
+    alloc: Global,
+    sight: &Sight,
+    a: &mut Expr,
+    b: &mut Expr,
+) -> Result<(), TypeFault>
+    ensures typed { Answers (λ _. (plain_expr a.new, plain_expr b.new))
+        (typed_place_and_value (plain_sight sight.now) (plain_expr a.old) (plain_expr b.old)) result }
+    ensures right { OnOk result (has_small_sizes (plain_sight sight.now).structs (plain_expr b.new) ≡ true) }
+{
+    let first = type_expr(alloc, sight, a);
+    let second = type_value(alloc, sight, b);
+    both(first, second)
+}
+
+/// Types the parts of a choice.
+#[cycle(expression)]
+fn type_three(
+    alloc: Global,
+    sight: &Sight,
+    a: &mut Expr,
+    b: &mut Expr,
+    c: &mut Expr,
+) -> Result<(), TypeFault>
+    ensures typed { Answers (λ _. (plain_expr a.new, (plain_expr b.new, plain_expr c.new)))
+        (typed_three (plain_sight sight.now) (plain_expr a.old) (plain_expr b.old) (plain_expr c.old)) result }
+    ensures first { OnOk result (has_small_sizes (plain_sight sight.now).structs (plain_expr b.new) ≡ true) }
+    ensures second { OnOk result (has_small_sizes (plain_sight sight.now).structs (plain_expr c.new) ≡ true) }
+{
+    let first = type_value(alloc, sight, a);
+    let second = type_values(alloc, sight, b, c);
+    both(first, second)
+}
+
+/// Types a cast; a type that passes a limit is a fault besides the others (C99 6.5.4).
+#[cycle(expression)]
+fn type_cast(
+    alloc: Global,
+    sight: &Sight,
+    place: Place,
+    to: &mut CType,
+    a: &mut Expr,
+) -> Result<CType, TypeFault>
+    ensures { Answers (λ t. Node place (plain_type t) (Cast (plain_type to.new) (plain_expr a.new)))
+        (cast_of (plain_sight sight.now) place (plain_type to.old) (plain_expr a.old)) result }
+{
+    let written = type_written(alloc, sight, place, to);
+    let operand = type_value(alloc, sight, a);
+    match written {
+        Err(f) => both(Err(f), operand),
+        Ok(()) => {
+            let limit = within_limits(sight, place, to);
+            match operand {
+                Err(f) => both(Err(f), limit),
+                Ok(()) => both(cast(alloc, sight, place, to, a), limit),
+            }
+        }
+    }
+}
+
+/// Types `sizeof` of a type (C99 6.5.3.4).
+#[cycle(expression)]
+fn type_size_of_type(
+    alloc: Global,
+    sight: &Sight,
+    place: Place,
+    u: &mut CType,
+) -> Result<CType, TypeFault>
+    ensures { Answers (λ t. Node place (plain_type t) (SizeOfType (plain_type u.new)))
+        (size_of_written (plain_sight sight.now) place (plain_type u.old)) result }
+{
+    type_written(alloc, sight, place, u)?;
+    both(
+        size_of_type(sight, place, u),
+        within_limits(sight, place, u),
+    )
+}
+
+/// Types `sizeof` of an expression (C99 6.5.3.4).
+#[cycle(expression)]
+fn type_size_of_expr(
+    alloc: Global,
+    sight: &Sight,
+    place: Place,
+    a: &mut Expr,
+) -> Result<CType, TypeFault>
+    ensures { Answers (λ t. Node place (plain_type t) (SizeOfExpr (plain_expr a.new)))
+        (size_of_expr (plain_sight sight.now) place (plain_expr a.old)) result }
+{
+    type_expr(alloc, sight, a)?;
+    both(
+        size_of_expression(sight, place, a),
+        within_limits(sight, place, &a.ctype),
+    )
+}
+
+/// Types the arguments of a call, each for its parameter, whether or not its function has a fault.
+#[cycle(expression)]
+fn type_call_parts(
+    alloc: Global,
+    sight: &Sight,
+    place: Place,
+    name: u32,
+    arguments: &mut Vec<Expr>,
+) -> Result<(), TypeFault>
+    ensures { Answers (λ _. plain_exprs arguments.new.items)
+        (typed_call_parts (plain_sight sight.now) place name (plain_exprs arguments.old.items)) result }
+{
+    let f = callee(alloc, sight, place, name);
+    let typed = type_arguments(alloc, sight, arguments, known_params(&f));
+    both(f, typed)?;
+    Ok(())
+}
+
+/// Types a call (C99 6.5.2.2).
+#[cycle(expression)]
+fn type_call(
+    alloc: Global,
+    sight: &Sight,
+    place: Place,
+    x: &mut Use,
+    arguments: &mut Vec<Expr>,
+) -> Result<CType, TypeFault>
+    ensures { Answers (λ t. Node place (plain_type t) (Call x.new (plain_exprs arguments.new.items)))
+        (typed_call (plain_sight sight.now) place x.old.name (plain_exprs arguments.old.items)) result }
+{
+    type_call_parts(alloc, sight, place, x.name, arguments)?;
+    call(alloc, sight, place, x, arguments)
+}
+
+/// Types arguments, each for its parameter.
+#[cycle(expression)]
+fn type_arguments(
+    alloc: Global,
+    sight: &Sight,
+    arguments: &mut Vec<Expr>,
+    params: &[CType],
+) -> Result<(), TypeFault>
+    ensures { Answers (λ _. plain_exprs arguments.new.items)
+        (typed_arguments (plain_sight sight.now) (map plain_type params.now) (plain_exprs arguments.old.items)) result }
+{
+    let mut done = Ok(());
+    let mut rest = params;
+    for i in 0..arguments.len() {
+        let e = type_argument(alloc, sight, &mut arguments[i], rest);
+        done = both(done, e);
+        rest = behind_first(rest);
+    }
+    done
+}
+
+/// Types an argument for the first of the parameters.
+#[cycle(expression)]
+fn type_argument(
+    alloc: Global,
+    sight: &Sight,
+    e: &mut Expr,
+    params: &[CType],
+) -> Result<(), TypeFault>
+    ensures { Answers (λ _. plain_expr e.new)
+        (one_part (decayed_of (typed (plain_sight sight.now) (plain_expr e.old)))
+        (argument_for (plain_sight sight.now) (first_type (map plain_type params.now)))) result }
+{
+    type_value(alloc, sight, e)?;
+    argument_for(alloc, sight, params, e)
+}
+
+/// The parameters after the first.
+fn behind_first(params: &[CType]) -> &[CType]
+    ensures { map plain_type result.now ≡ rest_types (map plain_type params.now) }
+{
+    match params {
+        [] => &[],
+        [_, after @ ..] => after,
+    }
+}
+
+/// Puts another type in the place of one.
+fn put_type(t: &mut CType, by: CType)
+    ensures { t.new ≡ by }
+{
+    drop(replace(t, by));
+}
+
+/// Puts the type that a name stands for in its place (C99 6.7.7).
+fn put_named(
+    alloc: Global,
+    sight: &Sight,
+    place: Place,
+    name: u32,
+    t: &mut CType,
+) -> Result<(), TypeFault>
+    ensures { Answers (λ _. plain_type t.new) (typed_type (plain_sight sight.now) place (Named name)) result }
+{
+    match type_named(&sight.types, name) {
+        None => Err(no_name(place)),
+        Some(u) => {
+            let u = copy_type(alloc, u)?;
+            put_type(t, u);
+            Ok(())
+        }
+    }
+}
+
+/// Puts the struct with a tag in its place (C99 6.7.2.3).
+fn put_struct(sight: &Sight, place: Place, tag: u32, t: &mut CType) -> Result<(), TypeFault>
+    ensures { Answers (λ _. plain_type t.new) (typed_type (plain_sight sight.now) place (StructTag tag)) result }
+{
+    let u = struct_tagged(sight, place, tag)?;
+    put_type(t, u);
+    Ok(())
+}
+
+/// Puts the type of an enum, which is defined, in its place (C99 6.7.2.2).
+fn put_enum(
+    sight: &Sight,
+    _place: Place,
+    name: u32,
+    tag: Place,
+    t: &mut CType,
+) -> Result<(), TypeFault>
+    ensures { Answers (λ _. plain_type t.new) (typed_type (plain_sight sight.now) _place (EnumTag name tag)) result }
+{
+    if is_among(name, &sight.enums) {
+        put_type(t, CType::Int(CInt::I32));
+        Ok(())
+    } else {
+        Err(no_name(tag))
+    }
+}
+
+/// Types a type that is written at this place (C99 6.7.5, 6.7.6).
+#[cycle(expression)]
+pub fn type_written(
+    alloc: Global,
+    sight: &Sight,
+    place: Place,
+    t: &mut CType,
+) -> Result<(), TypeFault>
+    ensures { Answers (λ _. plain_type t.new) (typed_type (plain_sight sight.now) place (plain_type t.old)) result }
+{
+    match t {
+        CType::Void | CType::Int(_) | CType::Struct(_) => Ok(()),
+        CType::Ptr(u) => type_written(alloc, sight, place, u),
+        CType::Array(u, n) => type_array(alloc, sight, place, u, n),
+        CType::Named(x) => {
+            let name = *x;
+            put_named(alloc, sight, place, name, t)
+        }
+        CType::StructTag(x) => {
+            let tag = *x;
+            put_struct(sight, place, tag, t)
+        }
+        CType::EnumTag(x, at) => {
+            let name = *x;
+            let tag = *at;
+            put_enum(sight, place, name, tag, t)
+        }
+    }
+}
+
+/// Types the parts of an array's type, whose elements have a size (C99 6.7.5.2 p1).
+#[cycle(expression)]
+fn type_array(
+    alloc: Global,
+    sight: &Sight,
+    place: Place,
+    u: &mut CType,
+    n: &mut Length,
+) -> Result<(), TypeFault>
+    ensures { Answers (λ _. Array (plain_type u.new) (plain_length n.new))
+        (typed_array (plain_sight sight.now) place (plain_type u.old) (plain_length n.old)) result }
+{
+    let first = type_written(alloc, sight, place, u);
+    let second = type_length(alloc, sight, place, n);
+    both(first, second)?;
+    array_of(sight, place, u, n)
+}
+
+/// Types the length of an array.
+#[cycle(expression)]
+pub fn type_length(
+    alloc: Global,
+    sight: &Sight,
+    place: Place,
+    n: &mut Length,
+) -> Result<(), TypeFault>
+    ensures { Answers (λ _. plain_length n.new) (typed_length (plain_sight sight.now) place (plain_length n.old)) result }
+{
+    match n {
+        Length::Left => Err(no_type(place)),
+        Length::Count(_) => Ok(()),
+        Length::Written(e) => {
+            let count = type_count(alloc, sight, e)?;
+            drop(replace(n, count));
+            Ok(())
+        }
+    }
+}
+
+/// The length that an expression gives.
+#[cycle(expression)]
+fn type_count(alloc: Global, sight: &Sight, e: &mut Expr) -> Result<Length, TypeFault>
+    ensures { Answers plain_length
+        (one_part (typed (plain_sight sight.now) (plain_expr e.old)) (λ x. counted (place_of (plain_expr e.old)) (constant (plain_sight sight.now) x))) result }
+{
+    let place = e.place;
+    type_expr(alloc, sight, e)?;
+    counted(place, constant(sight, e))
+}

@@ -1,0 +1,168 @@
+//! What is in sight (C99 6.2.1).
+
+ghost use Rattle.std.specs.Prelude.{◌≡◌, OnOk, length, map, option_map};
+ghost use Rattle.c_syntax.specs.Ctypes.{plain_type};
+ghost use Rattle.c_syntax.specs.Programs.{plain_layout};
+ghost use Rattle.c_syntax.specs.Statements.{plain_decl};
+ghost use Rattle.c_model.specs.ExpressionTyping.{declared_here, inner, is_among, name_at, number_at};
+ghost use Rattle.c_model.specs.ExpressionTyping.{tagged, type_named, with_object};
+ghost use Rattle.c_expression_rules.specs.Entity.{plain_entity};
+ghost use Rattle.c_expression_rules.specs.Sights.{has_tag, left, plain_sight, plain_type_name};
+
+use crate::entities::Entities;
+use crate::entity::{Entity, Object};
+use crate::signature::Functions;
+use c_syntax::copy::copy_type;
+use c_syntax::{CType, Decl, Layout, Name, Text};
+use std::alloc::{AllocError, Global};
+
+/// A name of a type (C99 6.7.7).
+#[derive(Drop)]
+pub struct TypeName {
+    pub name: u32,
+    pub ctype: CType,
+}
+
+/// The names and string literals of the text, the functions that are declared so far, the visible objects and enumerators, the
+/// newest last, those of the innermost scope from `innermost` on, the names of types, and the structs and enums of the file.
+#[derive(Drop)]
+pub struct Sight {
+    pub names: Vec<Name>,
+    pub texts: Vec<Text>,
+    pub functions: Functions,
+    pub entities: Entities,
+    pub innermost: usize,
+    pub types: Vec<TypeName>,
+    /// What is known of each struct so far: one whose members aren't all known has size 0.
+    pub structs: Vec<Layout>,
+    /// How many levels the type of each struct has.
+    pub levels: Vec<u32>,
+    /// The tags of all enums of the file, and of those that are defined so far.
+    pub enum_tags: Vec<u32>,
+    pub enums: Vec<u32>,
+}
+
+/// What a block leaves unchanged: the count of the names around it, and where their innermost scope begins.
+#[derive(Clone, Copy, Drop)]
+pub struct Mark {
+    pub count: usize,
+    pub innermost: usize,
+}
+
+/// The name of a number, and no bytes where there is none.
+pub fn name_at(names: &[Name], number: u32) -> &[u8]
+    ensures { result.now ≡ name_at names.now number }
+{
+    match names.get(number as usize) {
+        Some(name) => name.bytes(),
+        None => &[],
+    }
+}
+
+/// What the innermost scope declares with a name.
+pub fn declared_here(sight: &Sight, name: u32) -> Option<&Entity>
+    ensures { option_map (λ e. plain_entity e.now) result ≡ declared_here (plain_sight sight.now) name }
+{
+    sight.entities.named_from(sight.innermost, name)
+}
+
+/// The type of a name, where it is a type's.
+pub fn type_named(types: &[TypeName], name: u32) -> Option<&CType>
+    ensures { option_map (λ t. plain_type t.now) result ≡ type_named name (map plain_type_name types.now) }
+{
+    let mut rest = types;
+    'turn: while let [t, after @ ..] = rest {
+        if name == t.name {
+            return Some(&t.ctype);
+        }
+        rest = after;
+    }
+    None
+}
+
+/// Whether a struct has the tag.
+fn has_tag(tag: u32, s: &Layout) -> bool
+    ensures { result ≡ has_tag tag s.now.tag }
+{
+    match s.tag {
+        None => false,
+        Some(t) => tag == t,
+    }
+}
+
+/// The index of the struct with a tag.
+pub fn tagged(structs: &[Layout], tag: u32) -> Option<usize>
+    ensures { result ≡ tagged tag 0 (map plain_layout structs.now) }
+{
+    for k in 0..structs.len() {
+        if has_tag(tag, &structs[k]) {
+            return Some(k);
+        }
+    }
+    None
+}
+
+/// Whether a tag is among these.
+pub fn is_among(tag: u32, tags: &[u32]) -> bool
+    ensures { result ≡ is_among tag tags.now }
+{
+    let mut rest = tags;
+    'turn: while let [t, after @ ..] = rest {
+        if tag == *t {
+            return true;
+        }
+        rest = after;
+    }
+    false
+}
+
+/// How many levels the struct of a number has.
+pub fn number_at(levels: &[u32], number: u32) -> u32
+    ensures { result ≡ number_at levels.now number }
+{
+    match levels.get(number as usize) {
+        Some(n) => *n,
+        None => 0,
+    }
+}
+
+/// Brings a declared object in sight.
+pub fn with_object(alloc: Global, sight: &mut Sight, d: &Decl) -> Result<(), AllocError>
+    ensures { OnOk result (plain_sight sight.new ≡ with_object (plain_sight sight.old) (plain_decl d.now)) }
+{
+    let ctype = copy_type(alloc, &d.ctype)?;
+    sight.entities.push(Entity::AnObject(Object {
+        name: d.name,
+        decl: d.place.offset,
+        ctype,
+    }))?;
+    Ok(())
+}
+
+/// What is around a block that begins here.
+pub fn mark_here(sight: &Sight) -> Mark
+    ensures { result ≡ record { count = length (plain_sight sight.now).entities; innermost = sight.now.innermost } }
+{
+    Mark {
+        count: sight.entities.len(),
+        innermost: sight.innermost,
+    }
+}
+
+/// Begins a block, whose scope holds no name yet.
+pub fn enter(sight: &mut Sight) -> Mark
+    ensures inner { plain_sight sight.new ≡ inner (plain_sight sight.old) }
+    ensures mark { result ≡ record { count = length (plain_sight sight.old).entities; innermost = sight.old.innermost } }
+{
+    let mark = mark_here(sight);
+    sight.innermost = mark.count;
+    mark
+}
+
+/// Ends a block.
+pub fn leave(sight: &mut Sight, mark: Mark)
+    ensures { plain_sight sight.new ≡ left mark.count mark.innermost (plain_sight sight.old) }
+{
+    sight.entities.truncate(mark.count);
+    sight.innermost = mark.innermost;
+}

@@ -1,0 +1,77 @@
+//! String literals (C99 6.4.5).
+
+ghost use Rattle.std.specs.Prelude.{◌≡◌, ◌+◌, IfOk, length, map, option_map};
+ghost use Rattle.c_syntax.specs.Ctypes.{Array, Count, Int, plain_type};
+ghost use Rattle.c_syntax.specs.Expressions.{Node, plain_kind};
+ghost use Rattle.c_syntax.specs.declared.types.CInt.TheVariants.{I8};
+ghost use Rattle.c_syntax.specs.Programs.{plain_text};
+ghost use Rattle.c_model.specs.ExpressionTyping.{literal_at, text};
+ghost use Rattle.c_expression_rules.specs.Answers.{Answers};
+ghost use Rattle.c_expression_rules.specs.Sights.{plain_sight};
+
+use crate::fault::{TypeFault, no_type};
+use crate::operator::put;
+use crate::sight::Sight;
+use c_syntax::{CInt, CType, ExprKind, Length, Place, Text};
+use std::alloc::{AllocError, Global};
+
+/// The number of the string literal at an offset, and the count of its bytes.
+pub fn literal_at(texts: &[Text], offset: u32) -> Option<(usize, usize)>
+    ensures { result ≡ option_map (λ l. (l.0, length l.1)) (literal_at offset 0 (map plain_text texts.now)) }
+{
+    for k in 0..texts.len() {
+        if texts[k].place.offset == offset {
+            return Some((k, texts[k].bytes.bytes().len()));
+        }
+    }
+    None
+}
+
+/// A number that a tree holds, where there is room for it.
+fn number(n: usize) -> Result<u32, AllocError>
+    ensures { IfOk result (λ m. m ≡ n) }
+{
+    match u32::try_from(n) {
+        Ok(n) => Ok(n),
+        Err(_) => Err(AllocError),
+    }
+}
+
+/// The count of bytes with a 0 after them.
+fn count_with_zero(n: usize) -> Result<u32, AllocError>
+    ensures { IfOk result (λ m. m ≡ n + 1) }
+{
+    match n.checked_add(1) {
+        Some(n) => number(n),
+        None => Err(AllocError),
+    }
+}
+
+/// An array of characters.
+fn characters(alloc: Global, count: u32) -> Result<CType, AllocError>
+    ensures { IfOk result (λ t. plain_type t ≡ Array (Int I8) (Count count)) }
+{
+    Ok(CType::Array(Box::new(alloc, CType::Int(CInt::I8))?, Length::Count(count)))
+}
+
+/// Puts the number of a string literal in its place. Gives its type: an array of its bytes and a 0 (C99 6.4.5 p5).
+pub fn text(
+    alloc: Global,
+    sight: &Sight,
+    place: Place,
+    offset: u32,
+    kind: &mut ExprKind,
+) -> Result<CType, TypeFault>
+    ensures { Answers (λ t. Node place (plain_type t) (plain_kind kind.new)) (text (plain_sight sight.now) place offset) result }
+{
+    match literal_at(&sight.texts, offset) {
+        None => Err(no_type(place)),
+        Some((n, count)) => {
+            let n = number(n)?;
+            let count = count_with_zero(count)?;
+            put(kind, ExprKind::Text(n));
+            let ctype = characters(alloc, count)?;
+            Ok(ctype)
+        }
+    }
+}

@@ -1,9 +1,0 @@
-pub mod InPlace
-pub mod Least
-pub mod Operators
-pub mod Signatures
-pub mod Calls
-pub mod Names
-pub mod Expressions
-pub mod Gives
-pub mod WellExpressions
