@@ -1,0 +1,10 @@
+pub mod Parts
+pub mod Declarations
+pub mod Enumerators
+pub mod Layouts
+pub mod Members
+pub mod Lists
+pub mod Items
+pub mod Initialisers
+pub mod Constants
+pub mod Statics

@@ -1,0 +1,23 @@
+use Rattle.std.proofs.Common.{◌<◌, rules, arith, option_map, length, drop}
+use Rattle.c_syntax.specs.Ctypes.{plain_type}
+use Rattle.c_syntax.specs.Statements.{plain_init, plain_inits, Listed}
+use Rattle.c_model.specs.DeclarationTyping.{no_more, typed_alone}
+use Rattle.c_expression_rules.specs.Answers.{Answers}
+use Rattle.c_expression_rules.specs.Sights.{plain_sight}
+use Rattle.c_declaration_rules.specs.Initialisers.{allowed}
+use Rattle.c_declaration_rules.proofs.Initialisers.{alone_in_place}
+use Rattle.c_declaration_rules.proofs.initialiser.type_alone.Goals as goal
+
+pub returns : goal.returns
+returns c =
+    let s = plain_sight c.args.sight.now in
+    let ok = allowed s (option_map (λ u. plain_type u.now) c.args.own) in
+    let ctype = plain_type c.args.t.now in
+    let old = c.args.items.now.items in
+    let x = c.index_mut.result.now in
+    let y = c.type_first.new.first in
+    let lt : 0 < length old = search (rules, arith) in
+    let more : Answers (λ (u : Unit {0}). plain_inits (drop 1 old)) (no_more (plain_inits (drop 1 old))) c.no_more-more.result = search rules in
+    let first : Answers (λ (u : Unit {0}). Listed (plain_init y) (plain_inits (drop 1 old))) (typed_alone s ok ctype (Listed (plain_init x) (plain_inits (drop 1 old)))) c.type_first.result = c.type_first.ensures (plain_inits (drop 1 old)) more in
+    let whole = alone_in_place s ok ctype old x y c.type_first.result lt c.index_mut.ensures.value first in
+    search (rules, whole)

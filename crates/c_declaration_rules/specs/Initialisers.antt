@@ -1,0 +1,69 @@
+-- Ours: the typing of initialisers (c_model/specs/DeclarationTyping) as the code does it.
+-- Which expressions may initialise, and the objects that items initialise by their index.
+use Rattle.std.specs.Prelude.{ℕ, List, [], ◌∷◌, ◌&&◌, ◌||◌, cond, nat_lt, nat_eq, slice_get, Bool, true, false, Option, Some, None, option_map}
+use Rattle.c_syntax.specs.declared.place.Place.{Place}
+use Rattle.c_syntax.specs.Ctypes.{PlainType, Array, Struct}
+use Rattle.c_syntax.specs.Expressions.{Expression}
+use Rattle.c_syntax.specs.Statements.{Initialiser, One, Many, Initialisers, NoInitialiser, Listed}
+use Rattle.c_syntax.specs.Programs.{StructMember}
+use Rattle.c_model.specs.Layouts.{members_of_struct}
+use Rattle.c_model.specs.Library.{is_there}
+use Rattle.c_model.specs.Checked.{Checked, Good, where_so}
+use Rattle.c_model.specs.ExpressionTyping.{Sight, Entity, AnObject, AnEnumerator, constant, in_type, is_assigned, is_scalar, no_type}
+use Rattle.c_model.specs.DeclarationTyping.{elements_in, is_address, is_anything, is_static, is_text}
+
+-- ---- which expressions may initialise
+
+abbrev pub with_type : PlainType → Entity → Entity
+with_type u (AnObject b) = AnObject (record b { ctype = u })
+with_type u (AnEnumerator c) = AnEnumerator c
+
+-- the last of what is in sight with another type
+abbrev pub last_with : PlainType → List Entity → List Entity
+last_with u [] = []
+last_with u (e ∷ []) = with_type u e ∷ []
+last_with u (e ∷ f ∷ es) = e ∷ last_with u (f ∷ es)
+
+abbrev pub with_last : Sight → PlainType → Sight
+with_last s u = record s { entities = last_with u s.entities }
+
+-- any expression, or a constant where the object that came in sight last has this type behind its initialiser
+abbrev pub allowed : Sight → Option PlainType → Expression → Expression → Bool
+allowed s None = is_anything
+allowed s (Some u) = is_static (with_last s u)
+
+-- the same of an expression that was read as a string literal or wasn't
+abbrev pub allowed_where : Sight → Option PlainType → Bool → Expression → Bool
+allowed_where s None text e = true
+allowed_where s (Some u) text e = text || is_there (constant (with_last s u) e) || is_address (with_last s u) e
+
+-- ---- items
+
+-- the type of the member of an index
+abbrev pub type_at : List StructMember → ℕ → Option PlainType
+type_at ms k = option_map (λ (m : StructMember). m.ctype) (slice_get ms k)
+
+-- the type of the object that the item of an index initialises
+abbrev pub slot : Sight → PlainType → ℕ → Option PlainType
+slot s (Array t n) k = cond (nat_lt k (elements_in n)) (Some t) None
+slot s (Struct n) k = type_at (members_of_struct (slice_get s.structs n)) k
+slot s t k = cond (nat_eq k 0) (Some t) None
+
+-- an item without its braces, where it has some
+abbrev pub last_item : Initialiser → Initialisers → Initialiser
+last_item i NoInitialiser = i
+last_item i (Listed j is) = last_item j is
+
+abbrev pub without_braces : Initialiser → Initialiser
+without_braces (One e) = One e
+without_braces (Many at is) = last_item (Many at is) is
+
+-- a value, which is decayed, for an object of the type
+abbrev pub valued : Sight → Option PlainType → Bool → Place → PlainType → Expression → Checked Initialiser
+valued s own text here t e =
+    where_so (is_scalar t && is_assigned s e t && allowed_where s own text (in_type t e)) (no_type here) (Good (One (in_type t e)))
+
+-- whether a list is a string
+abbrev pub is_text_alone : Initialisers → Bool
+is_text_alone (Listed (One e) NoInitialiser) = is_text e
+is_text_alone _ = false

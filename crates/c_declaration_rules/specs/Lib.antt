@@ -1,0 +1,7 @@
+pub mod Objects
+pub mod Initialisers
+pub mod Declarations
+pub mod Layouts
+pub mod Statics
+pub mod Members
+pub mod Enumerators

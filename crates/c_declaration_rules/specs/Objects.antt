@@ -1,0 +1,63 @@
+-- Ours: the types of declared objects (c_model/specs/DeclarationTyping) as the code gives them.
+-- Types that an initialiser completes in their places, and answers behind that of another part.
+use Rattle.std.specs.Prelude.{ℕ, List, length, Bool, true, false, cond, Option, None, option_map, Result, Ok, Err}
+use Rattle.c_syntax.specs.declared.place.Place.{Place}
+use Rattle.c_syntax.specs.declared.statement.Init.{Init}
+use Rattle.c_syntax.specs.Ctypes.{PlainType, Array, Ptr, PlainLength, Left}
+use Rattle.c_syntax.specs.Expressions.{Expression, Node, Text}
+use Rattle.c_syntax.specs.Statements.{Initialiser, One, Initialisers, NoInitialiser, Listed, plain_init}
+use Rattle.c_model.specs.Library.{is_there}
+use Rattle.c_model.specs.Checked.{Checked, Good, one_part}
+use Rattle.c_model.specs.ExpressionTyping.{Sight, is_void, limited, literal_at}
+use Rattle.c_model.specs.DeclarationTyping.{completed, object_type, scalar_type, typed_outer}
+use Rattle.c_expression_rules.specs.declared.fault.TypeFault.{TypeFault}
+use Rattle.c_expression_rules.specs.Answers.{first_of}
+
+abbrev pub plain_maybe_init : Option (Place × Init) → Option (Place × Initialiser)
+plain_maybe_init i = option_map (λ i. (i.0, plain_init i.1)) i
+
+abbrev pub is_left : PlainLength → Bool
+is_left Left = true
+is_left _ = false
+
+-- an array whose length is left out
+abbrev pub leaves_length : PlainType → Bool
+leaves_length (Array t n) = is_left n
+leaves_length _ = false
+
+-- the type of an object before its initialiser gave the length, where it did
+abbrev pub before : Bool → PlainType → PlainType
+before true (Array t n) = Array t Left
+before _ t = t
+
+-- the type of a declared object: in sight in its own initialiser, and behind it
+abbrev pub object_typed : Sight → Place → PlainType → Option (Place × Initialiser) → Checked (PlainType × PlainType)
+object_typed s at t i =
+    one_part (typed_outer (is_there i) s at t) (λ t.
+    let u = completed s t i in
+    limited s at (Good u) (one_part (object_type s at u) (λ u. Good (t, u))))
+
+-- an answer, and before it that of another part, which tells no more than its fault, as one
+abbrev pub behind : {T : Type 0} → Result (Unit {0}) TypeFault → Result T TypeFault → Result T TypeFault
+behind (Ok u) b = b
+behind (Err f) (Ok x) = Err f
+behind (Err f) (Err g) = Err (first_of f g)
+
+-- an array as a pointer to its elements (C99 6.7.5.3 p7)
+abbrev pub pointed_to_elements : PlainType → PlainType
+pointed_to_elements (Array t n) = Ptr t
+pointed_to_elements t = t
+
+-- the count of bytes of the string literal that an expression is, where it is one
+abbrev pub bytes_read : Sight → Expression → Option ℕ
+bytes_read s (Node at t (Text offset)) = option_map (λ (l : ℕ × List ℕ). length l.1) (literal_at offset 0 s.texts)
+bytes_read s e = None
+
+-- what a function gives: nothing or a scalar
+abbrev pub result_type : Sight → Bool → Place → PlainType → Checked PlainType
+result_type s defined at t = cond (is_void t) (Good t) (scalar_type s defined at t)
+
+-- the same of a list that is one expression
+abbrev pub bytes_alone : Sight → Initialisers → Option ℕ
+bytes_alone s (Listed (One e) NoInitialiser) = bytes_read s e
+bytes_alone s _ = None

@@ -1,0 +1,191 @@
+//! The layout of structs (C99 6.7.2.1 p13): each member stands at the next multiple of its alignment, and so does the end.
+
+ghost use Rattle.std.specs.Prelude.{◌≡◌, ◌<◌, ◌+◌, IfOk, map, slice_get, suc};
+ghost use Rattle.c_syntax.specs.Ctypes.{plain_type};
+ghost use Rattle.c_syntax.specs.Programs.{plain_layout, plain_member};
+ghost use Rattle.c_model.specs.Integers.{int_size};
+ghost use Rattle.c_model.specs.Layouts.{align_of, align_of_struct, aligned, size_of};
+ghost use Rattle.c_model.specs.ExpressionTyping.{levels_behind_pointer, levels_of};
+ghost use Rattle.c_model.specs.DeclarationTyping.{end_of, greater, placed_from, widest};
+ghost use Rattle.c_declaration_rules.specs.Layouts.{Grows};
+
+use c_expression_rules::limits::small_size;
+use c_expression_rules::sight::number_at;
+use c_syntax::{CInt, CType, Layout, Member};
+use std::alloc::AllocError;
+
+/// What a struct is with one more member: the offset of the member, and its own size and alignment, in bytes.
+#[derive(Clone, Copy, PartialEq, Eq, Debug, Drop)]
+pub struct Grown {
+    pub offset: u32,
+    pub size: u64,
+    pub align: u32,
+}
+
+/// The size of an integer type.
+fn int_size(k: CInt) -> u32
+    ensures { result ≡ int_size k }
+{
+    match k {
+        CInt::I8 | CInt::U8 => 1,
+        CInt::I16 | CInt::U16 => 2,
+        CInt::I32 | CInt::U32 => 4,
+        CInt::I64 | CInt::U64 => 8,
+    }
+}
+
+/// The alignment of the struct of a number, 1 where there is none.
+fn align_of_struct(structs: &[Layout], n: u32) -> u32
+    ensures { result ≡ align_of_struct (slice_get (map plain_layout structs.now) n) }
+{
+    match structs.get(n as usize) {
+        Some(layout) => layout.align,
+        None => 1,
+    }
+}
+
+/// The alignment of a type.
+pub fn align_of(structs: &[Layout], t: &CType) -> u32
+    ensures { result ≡ align_of (map plain_layout structs.now) (plain_type t.now) }
+{
+    match t {
+        CType::Int(k) => int_size(*k),
+        CType::Ptr(_) => 8,
+        CType::Array(u, _) => align_of(structs, u),
+        CType::Struct(n) => align_of_struct(structs, *n),
+        CType::Void | CType::Named(_) | CType::StructTag(_) | CType::EnumTag(..) => 1,
+    }
+}
+
+/// A number that a tree holds, where there is room for it.
+fn number(n: u64) -> Result<u32, AllocError>
+    ensures { IfOk result (λ m. m ≡ n) }
+{
+    match u32::try_from(n) {
+        Ok(n) => Ok(n),
+        Err(_) => Err(AllocError),
+    }
+}
+
+/// The least multiple of an alignment that is no less.
+fn aligned(align: u32, n: u64) -> u64
+    requires { n < 17179869184 }
+    ensures { result ≡ aligned align n }
+{
+    if align == 0 {
+        0
+    } else {
+        let align = u64::from(align);
+        (n + align - 1) / align * align
+    }
+}
+
+/// The greater of two numbers.
+pub fn greater(a: u32, b: u32) -> u32
+    ensures { result ≡ greater a b }
+{
+    if a < b { b } else { a }
+}
+
+/// The size of a type within the limit; one past it wants memory.
+pub fn size_of(structs: &[Layout], t: &CType) -> Result<u32, AllocError>
+    ensures { IfOk result (λ n. n ≡ size_of (map plain_layout structs.now) (plain_type t.now)) }
+{
+    match small_size(structs, t) {
+        Some(n) => Ok(n),
+        None => Err(AllocError),
+    }
+}
+
+/// Where a member ends that stands by the layout behind this offset; there are no others in structs that were laid out.
+fn member_end(structs: &[Layout], end: u64, m: &Member) -> Result<u64, AllocError>
+    requires { end < 17179869184 }
+    ensures offset { IfOk result (λ _. m.now.offset ≡ aligned (align_of (map plain_layout structs.now) (plain_type m.now.ctype)) end) }
+    ensures end { IfOk result (λ e. e ≡ m.now.offset + size_of (map plain_layout structs.now) (plain_type m.now.ctype)) }
+    ensures small { IfOk result (λ e. e < 17179869184) }
+{
+    let size = size_of(structs, &m.ctype)?;
+    if u64::from(m.offset) == aligned(align_of(structs, &m.ctype), end) {
+        Ok(u64::from(m.offset) + u64::from(size))
+    } else {
+        Err(AllocError)
+    }
+}
+
+/// Where the members of a struct end that was laid out.
+fn members_end(structs: &[Layout], members: &[Member]) -> Result<u64, AllocError>
+    ensures placed { IfOk result (λ _. placed_from (map plain_layout structs.now) 0 (map plain_member members.now) ≡ map plain_member members.now) }
+    ensures end { IfOk result (λ e. e ≡ end_of (map plain_layout structs.now) (map plain_member members.now)) }
+    ensures small { IfOk result (λ e. e < 17179869184) }
+{
+    let mut end: u64 = 0;
+    let mut rest = members;
+    'turn: while let [m, after @ ..] = rest {
+        end = member_end(structs, end, m)?;
+        rest = after;
+    }
+    Ok(end)
+}
+
+/// The greatest alignment of members.
+fn widest(structs: &[Layout], members: &[Member]) -> u32
+    ensures { result ≡ widest (map plain_layout structs.now) (map plain_member members.now) }
+{
+    let mut align = 1;
+    let mut rest = members;
+    'turn: while let [m, after @ ..] = rest {
+        align = greater(align, align_of(structs, &m.ctype));
+        rest = after;
+    }
+    align
+}
+
+/// One more than a count; one past those that there are wants memory.
+pub fn more(n: u32) -> Result<u32, AllocError>
+    ensures { IfOk result (λ m. m ≡ suc n) }
+{
+    match n.checked_add(1) {
+        Some(m) => Ok(m),
+        None => Err(AllocError),
+    }
+}
+
+/// The levels of a type behind a pointer.
+fn levels_behind_pointer(t: &CType) -> Result<u32, AllocError>
+    ensures { IfOk result (λ n. n ≡ levels_behind_pointer (plain_type t.now)) }
+{
+    match t {
+        CType::Ptr(u) => more(levels_behind_pointer(u)?),
+        CType::Array(u, _) => more(levels_behind_pointer(u)?),
+        _ => Ok(0),
+    }
+}
+
+/// The levels of a type, where each struct has so many.
+pub fn levels_of(levels: &[u32], t: &CType) -> Result<u32, AllocError>
+    ensures { IfOk result (λ n. n ≡ levels_of levels.now (plain_type t.now)) }
+{
+    match t {
+        CType::Ptr(u) => more(levels_behind_pointer(u)?),
+        CType::Array(u, _) => more(levels_of(levels, u)?),
+        CType::Struct(n) => Ok(number_at(levels, *n)),
+        _ => Ok(0),
+    }
+}
+
+/// The layout of a struct with a member of this type behind its others, which were laid out. Its size may pass the limit.
+pub fn grow(structs: &[Layout], members: &[Member], t: &CType) -> Result<Grown, AllocError>
+    ensures { IfOk result (λ g. Grows (map plain_layout structs.now) (map plain_member members.now) (plain_type t.now) g.offset g.align g.size) }
+{
+    let end = members_end(structs, members)?;
+    let size = size_of(structs, t)?;
+    let align = align_of(structs, t);
+    let offset = number(aligned(align, end))?;
+    let align = greater(widest(structs, members), align);
+    let size = aligned(align, u64::from(offset) + u64::from(size));
+    Ok(Grown {
+        offset,
+        size,
+        align,
+    })
+}

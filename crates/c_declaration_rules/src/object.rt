@@ -1,0 +1,277 @@
+//! The types of objects, parameters and results (C99 6.7 p7, 6.7.5.3, 6.7.8 p14, p22, 6.9.1 p3).
+
+ghost use Rattle.std.specs.Prelude.{◌≡◌, IfErr, IfOk, OnOk, length, option_map, true};
+ghost use Rattle.c_syntax.specs.Ctypes.{Array, Ptr, plain_length, plain_type};
+ghost use Rattle.c_syntax.specs.Expressions.{plain_expr};
+ghost use Rattle.c_syntax.specs.Statements.{plain_init, plain_inits};
+ghost use Rattle.c_model.specs.Library.{is_there};
+ghost use Rattle.c_model.specs.DeclarationTyping.{completed, elements_of_parameter, items_in, length_by, scalar_type, text_read};
+ghost use Rattle.c_model.specs.DeclarationTyping.{typed_outer, typed_parameter_type, typed_result};
+ghost use Rattle.c_expression_rules.specs.Answers.{Answers, IsRefusal};
+ghost use Rattle.c_expression_rules.specs.Sights.{plain_sight};
+ghost use Rattle.c_declaration_rules.specs.Objects.{before, bytes_alone, bytes_read, is_left, object_typed, plain_maybe_init};
+ghost use Rattle.c_declaration_rules.specs.Objects.{pointed_to_elements, result_type};
+
+use c_expression_rules::conversion::{is_character, is_scalar, is_struct, is_void};
+use c_expression_rules::expression::{type_length, type_written};
+use c_expression_rules::fault::{TypeFault, both, no_name, no_type};
+use c_expression_rules::limits::{KnownSize, sized};
+use c_expression_rules::operator::has_size;
+use c_expression_rules::sight::Sight;
+use c_expression_rules::text::literal_at;
+use c_expression_rules::types::within_limits;
+use c_syntax::{CType, Expr, ExprKind, Init, Length, Place};
+use std::alloc::{AllocError, Global};
+use std::mem::replace;
+
+fn is_left(n: &Length) -> bool
+    ensures { result ≡ is_left (plain_length n.now) }
+{
+    matches!(n, Length::Left)
+}
+
+/// Types the type of an object that has an initialiser, which may give the first length of an array.
+fn type_completable(
+    alloc: Global,
+    sight: &Sight,
+    place: Place,
+    t: &mut CType,
+) -> Result<(), TypeFault>
+    ensures { Answers (λ _. plain_type t.new) (typed_outer true (plain_sight sight.now) place (plain_type t.old)) result }
+{
+    match t {
+        CType::Array(u, Length::Left) => {
+            type_written(alloc, sight, place, u)?;
+            has_size(sight, place, u)
+        }
+        _ => type_written(alloc, sight, place, t),
+    }
+}
+
+/// Types the type of an object as it is written; the first length of an array may be left out, where so much is said.
+fn type_outer(
+    alloc: Global,
+    sight: &Sight,
+    may_leave: bool,
+    place: Place,
+    t: &mut CType,
+) -> Result<(), TypeFault>
+    ensures { Answers (λ _. plain_type t.new) (typed_outer may_leave (plain_sight sight.now) place (plain_type t.old)) result }
+{
+    if may_leave {
+        type_completable(alloc, sight, place, t)
+    } else {
+        type_written(alloc, sight, place, t)
+    }
+}
+
+/// The count of bytes of the string literal that an expression is, where it is one.
+fn text_of(sight: &Sight, e: &Expr) -> Option<usize>
+    ensures { result ≡ bytes_read (plain_sight sight.now) (plain_expr e.now) }
+{
+    match &*e.kind {
+        ExprKind::Text(offset) => match literal_at(&sight.texts, *offset) {
+            None => None,
+            Some((_, count)) => Some(count),
+        },
+        _ => None,
+    }
+}
+
+/// The same of a list that is one expression.
+fn text_alone(sight: &Sight, items: &[Init]) -> Option<usize>
+    ensures { result ≡ bytes_alone (plain_sight sight.now) (plain_inits items.now) }
+{
+    match items {
+        [Init::One(e)] => text_of(sight, e),
+        _ => None,
+    }
+}
+
+/// The count of bytes of a string literal, where an initialiser that is read is one, in braces or without.
+fn text_read(sight: &Sight, init: &Init) -> Option<usize>
+    ensures { result ≡ option_map length (text_read (plain_sight sight.now) (plain_init init.now)) }
+{
+    match init {
+        Init::One(e) => text_of(sight, e),
+        Init::Many(_, items) => text_alone(sight, items.as_slice()),
+    }
+}
+
+/// A number that a tree holds, where there is room for it.
+fn number(n: usize) -> Result<u32, AllocError>
+    ensures { IfOk result (λ m. m ≡ n) }
+{
+    match u32::try_from(n) {
+        Ok(n) => Ok(n),
+        Err(_) => Err(AllocError),
+    }
+}
+
+/// As many elements as an initialiser has: one expression is none that fits.
+fn items_in(init: &Init) -> usize
+    ensures { result ≡ items_in (plain_init init.now) }
+{
+    match init {
+        Init::One(_) => 1,
+        Init::Many(_, items) => items.len(),
+    }
+}
+
+/// The length that an initialiser gives to an array of these elements (C99 6.7.8 p14, p22).
+fn length_by(sight: &Sight, element: &CType, init: &Init) -> Result<u32, AllocError>
+    ensures { IfOk result (λ n. n ≡ length_by (plain_sight sight.now) (plain_type element.now) (plain_init init.now)) }
+{
+    match text_read(sight, init) {
+        Some(count) if is_character(element) => match count.checked_add(1) {
+            Some(n) => number(n),
+            None => Err(AllocError),
+        },
+        _ => number(items_in(init)),
+    }
+}
+
+/// Puts the length that an initialiser gives in its place, where it was left out. Gives whether it was.
+fn complete(sight: &Sight, init: &Option<(Place, Init)>, t: &mut CType) -> Result<bool, AllocError>
+    ensures completed { OnOk result (plain_type t.new ≡ completed (plain_sight sight.now) (plain_type t.old) (plain_maybe_init init.now)) }
+    ensures before { IfOk result (λ left. plain_type t.old ≡ before left (plain_type t.new)) }
+{
+    match (init, t) {
+        (Some((_, init)), CType::Array(u, n)) if is_left(n) => {
+            let count = length_by(sight, u, init)?;
+            drop(replace(n, Length::Count(count)));
+            Ok(true)
+        }
+        _ => Ok(false),
+    }
+}
+
+fn has_initialiser(init: &Option<(Place, Init)>) -> bool
+    ensures { result ≡ is_there (plain_maybe_init init.now) }
+{
+    init.is_some()
+}
+
+/// Types the type of a declared object (C99 6.7 p7). Gives whether its initialiser gave its length, so that it has none in its own
+/// initialiser.
+pub fn type_object(
+    alloc: Global,
+    sight: &Sight,
+    place: Place,
+    init: &Option<(Place, Init)>,
+    t: &mut CType,
+) -> Result<bool, TypeFault>
+    ensures { Answers (λ left. (before left (plain_type t.new), plain_type t.new))
+        (object_typed (plain_sight sight.now) place (plain_type t.old) (plain_maybe_init init.now)) result }
+{
+    type_outer(alloc, sight, has_initialiser(init), place, t)?;
+    let left = complete(sight, init, t)?;
+    both(has_size(sight, place, t), within_limits(sight, place, t))?;
+    Ok(left)
+}
+
+/// Puts a pointer to the elements in the place of an array's type.
+fn point_to_elements(t: &mut CType)
+    ensures { plain_type t.new ≡ pointed_to_elements (plain_type t.old) }
+{
+    let now = match replace(t, CType::Void) {
+        CType::Array(u, n) => {
+            drop(n);
+            CType::Ptr(u)
+        }
+        other => other,
+    };
+    drop(replace(t, now));
+}
+
+/// A type that a parameter that is written as an array has elements of: of a struct that isn't known yet, they are pointed to.
+fn is_element(sight: &Sight, place: Place, t: &CType) -> Result<(), TypeFault>
+    ensures checked { Answers (λ _. Ptr (plain_type t.now)) (elements_of_parameter (plain_sight sight.now) place (plain_type t.now)) result }
+    ensures sure { IfErr result IsRefusal }
+{
+    match sized(&sight.structs, t) {
+        KnownSize::HasNoSize => Err(no_type(place)),
+        KnownSize::HasSize | KnownSize::NotYet => Ok(()),
+    }
+}
+
+/// Types the parts of a parameter's type that is written as an array.
+fn type_elements(
+    alloc: Global,
+    sight: &Sight,
+    place: Place,
+    u: &mut CType,
+    n: &mut Length,
+) -> Result<(), TypeFault>
+    ensures { Answers (λ _. Ptr (plain_type u.new))
+        (typed_parameter_type (plain_sight sight.now) place (Array (plain_type u.old) (plain_length n.old))) result }
+{
+    let element = type_written(alloc, sight, place, u);
+    if is_left(n) {
+        element?;
+    } else {
+        let count = type_length(alloc, sight, place, n);
+        both(element, count)?;
+    }
+    is_element(sight, place, u)
+}
+
+/// Types the type of a parameter; the first array is a pointer (C99 6.7.5.3 p7).
+pub fn type_parameter_type(
+    alloc: Global,
+    sight: &Sight,
+    place: Place,
+    t: &mut CType,
+) -> Result<(), TypeFault>
+    ensures { Answers (λ _. plain_type t.new) (typed_parameter_type (plain_sight sight.now) place (plain_type t.old)) result }
+{
+    match t {
+        CType::Array(u, n) => type_elements(alloc, sight, place, u, n)?,
+        _ => type_written(alloc, sight, place, t)?,
+    }
+    point_to_elements(t);
+    Ok(())
+}
+
+/// A parameter or a result is a scalar; a definition needs the size of a struct (C99 6.7.5.3 p4, 6.9.1 p3).
+pub fn check_scalar(sight: &Sight, defined: bool, place: Place, t: &CType) -> Result<(), TypeFault>
+    ensures checked { Answers (λ _. plain_type t.now) (scalar_type (plain_sight sight.now) defined place (plain_type t.now)) result }
+    ensures sure { IfErr result IsRefusal }
+{
+    if defined && is_struct(t) && sized(&sight.structs, t) == KnownSize::NotYet {
+        return Err(no_name(place));
+    }
+    if is_scalar(t) {
+        Ok(())
+    } else {
+        Err(no_type(place))
+    }
+}
+
+/// What a function gives: nothing or a scalar.
+fn check_result(sight: &Sight, defined: bool, place: Place, t: &CType) -> Result<(), TypeFault>
+    ensures { Answers (λ _. plain_type t.now) (result_type (plain_sight sight.now) defined place (plain_type t.now)) result }
+{
+    if is_void(t) {
+        Ok(())
+    } else {
+        check_scalar(sight, defined, place, t)
+    }
+}
+
+/// Types what a function gives, at the place of its name.
+pub fn type_result(
+    alloc: Global,
+    sight: &Sight,
+    defined: bool,
+    place: Place,
+    t: &mut CType,
+) -> Result<(), TypeFault>
+    ensures { Answers (λ _. plain_type t.new) (typed_result (plain_sight sight.now) defined place (plain_type t.old)) result }
+{
+    type_written(alloc, sight, place, t)?;
+    both(
+        check_result(sight, defined, place, t),
+        within_limits(sight, place, t),
+    )
+}
