@@ -14,12 +14,12 @@ use Rattle.c_syntax.specs.declared.annotation.PredKind.TheVariants as code
 use Rattle.c_syntax.specs.Ctypes.{plain_type}
 use Rattle.c_syntax.specs.Annotations.{LogicTerm, Binary, Chain, Links, NoLink, Linked, Annotation, plain_pred, plain_pred_kind, plain_body, plain_term, plain_term_kind, plain_links, plain_annot}
 use Rattle.c_model.specs.Checked.{Checked, Good, Bad, one_part, both_parts}
-use Rattle.c_model.specs.Typing.{Scopes}
-use Rattle.c_model.specs.ProgramTyping.{typed_term, typed_links, typed_predicate, typed_annotations, typed_clause}
-use Rattle.c_type_rules.specs.declared.fault.TypeFault.{TypeFault}
-use Rattle.c_type_rules.specs.Answers.{Answers, both}
+use Rattle.c_model.specs.ExpressionTyping.{Sight}
+use Rattle.c_model.specs.AnnotationTyping.{typed_term, typed_links, typed_predicate, typed_annotations, typed_clause}
+use Rattle.c_expression_rules.specs.declared.fault.TypeFault.{TypeFault}
+use Rattle.c_expression_rules.specs.Answers.{Answers, both}
 use Rattle.c_typing.specs.Trees.{plain_link}
-use Rattle.c_type_rules.proofs.Least.{both_made}
+use Rattle.c_expression_rules.proofs.Least.{both_made}
 use Rattle.c_typing.proofs.Lists.{behind_parts, list_more}
 
 abbrev join : Links → Links → Links
@@ -27,7 +27,7 @@ join NoLink ms = ms
 join (Linked at r t ls) ms = Linked at r t (join ls ms)
 
 -- one step is typed
-abbrev pub link_checked : Scopes → Link → Checked Links
+abbrev pub link_checked : Sight → Link → Checked Links
 link_checked s l = one_part (typed_term s (plain_term l.term)) (λ t. Good (Linked l.place l.relation t NoLink))
 
 module _ (l : Link)
@@ -47,7 +47,7 @@ module _ (l : Link)
     in_turn (Bad h hs) (Bad f fs) (Good e) = refl
     in_turn (Bad h hs) (Bad f fs) (Bad g gs) = ap (Bad h) (sym (append_assoc hs (f ∷ fs) (g ∷ gs)))
 
-links_snoc : (s : Scopes) (xs : List Link) (l : Link) → typed_links s (plain_links (xs ++ l ∷ [])) ≡ both_parts (typed_links s (plain_links xs)) (link_checked s l) (λ ls m. Good (join ls m))
+links_snoc : (s : Sight) (xs : List Link) (l : Link) → typed_links s (plain_links (xs ++ l ∷ [])) ≡ both_parts (typed_links s (plain_links xs)) (link_checked s l) (λ ls m. Good (join ls m))
 links_snoc s [] l = first_link l (typed_term s (plain_term l.term))
 links_snoc s (x ∷ xs) l =
     ap (λ c. both_parts (typed_term s (plain_term x.term)) c (λ t rest. Good (Linked x.place x.relation t rest))) (links_snoc s xs l)
@@ -58,7 +58,7 @@ plain_snoc [] l = refl
 plain_snoc (x ∷ xs) l = ap (Linked x.place x.relation (plain_term x.term)) (plain_snoc xs l)
 
 -- an operator's term, whose parts are typed in their places
-pub binary_in_place : (s : Scopes) (t : Term) (op : BinOp) (a b a' b' : Term) (q r z : Result (Unit {0}) TypeFault) → t.kind.value ≡ term.Binary op a b
+pub binary_in_place : (s : Sight) (t : Term) (op : BinOp) (a b a' b' : Term) (q r z : Result (Unit {0}) TypeFault) → t.kind.value ≡ term.Binary op a b
     → Answers (λ (u : Unit {0}). plain_term a') (typed_term s (plain_term a)) q → Answers (λ (u : Unit {0}). plain_term b') (typed_term s (plain_term b)) r
     → z ≡ both q r → Answers (λ (u : Unit {0}). Binary t.place (option_map plain_type t.ctype) t.range op (plain_term a') (plain_term b')) (typed_term s (plain_term t)) z
 binary_in_place s t op a b a' b' q r z is ha hb j =
@@ -75,21 +75,21 @@ pub chain_of : (k : PredKind) → ChainOf k
 chain_of (code.Chain t links) = record { term = t; links = links; is = refl }
 
 -- a predicate, whose terms are typed in their places
-pub chain_in_place : (s : Scopes) (p : Pred) (t t' : Term) (links links' : Vec Link Global) (q r z : Result (Unit {0}) TypeFault) → p.kind.value ≡ code.Chain t links → Answers (λ (u : Unit {0}). plain_term t') (typed_term s (plain_term t)) q
+pub chain_in_place : (s : Sight) (p : Pred) (t t' : Term) (links links' : Vec Link Global) (q r z : Result (Unit {0}) TypeFault) → p.kind.value ≡ code.Chain t links → Answers (λ (u : Unit {0}). plain_term t') (typed_term s (plain_term t)) q
     → Answers (λ (u : Unit {0}). plain_links links'.items) (typed_links s (plain_links links.items)) r → z ≡ both q r → Answers (λ (u : Unit {0}). Chain p.place (plain_term t') (plain_links links'.items)) (typed_predicate s (plain_pred p)) z
 chain_in_place s p t t' links links' q r z is ha hb j =
     subst (λ k. Answers (λ (u : Unit {0}). Chain p.place (plain_term t') (plain_links links'.items)) (typed_predicate s (plain_pred_kind p.place k)) z) (sym is)
     (both_made (Chain p.place) (λ (u : Unit {0}). plain_term t') (λ (u : Unit {0}). plain_links links'.items) (typed_term s (plain_term t)) (typed_links s (plain_links links.items)) q r z ha hb (sym j))
 
 -- one more step is typed
-pub links_more : (s : Scopes) (xs ys : List Link) (x y : Link) (d r : Result (Unit {0}) TypeFault) → Answers (λ (u : Unit {0}). plain_links ys) (typed_links s (plain_links xs)) d → Answers (λ (u : Unit {0}). plain_link y) (link_checked s x) r
+pub links_more : (s : Sight) (xs ys : List Link) (x y : Link) (d r : Result (Unit {0}) TypeFault) → Answers (λ (u : Unit {0}). plain_links ys) (typed_links s (plain_links xs)) d → Answers (λ (u : Unit {0}). plain_link y) (link_checked s x) r
     → Answers (λ (u : Unit {0}). plain_links (ys ++ y ∷ [])) (typed_links s (plain_links (xs ++ x ∷ []))) (both d r)
 links_more s xs ys x y d r hd hr =
     subst (λ c. Answers (λ (u : Unit {0}). plain_links (ys ++ y ∷ [])) c (both d r)) (sym (links_snoc s xs x))
     (subst (λ ls. Answers (λ (u : Unit {0}). ls) (both_parts (typed_links s (plain_links xs)) (link_checked s x) (λ ls m. Good (join ls m))) (both d r)) (sym (plain_snoc ys y))
     (both_made join (λ (u : Unit {0}). plain_links ys) (λ (u : Unit {0}). plain_link y) (typed_links s (plain_links xs)) (link_checked s x) d r (both d r) hd hr refl))
 
-pub links_step : (s : Scopes) (xs xs' ys ys' : List Link) (x y : Link) (d r : Result (Unit {0}) TypeFault) → xs' ≡ xs ++ x ∷ [] → ys' ≡ ys ++ y ∷ []
+pub links_step : (s : Sight) (xs xs' ys ys' : List Link) (x y : Link) (d r : Result (Unit {0}) TypeFault) → xs' ≡ xs ++ x ∷ [] → ys' ≡ ys ++ y ∷ []
     → Answers (λ (u : Unit {0}). plain_links ys) (typed_links s (plain_links xs)) d → Answers (λ (u : Unit {0}). plain_link y) (link_checked s x) r
     → Answers (λ (u : Unit {0}). plain_links ys') (typed_links s (plain_links xs')) (both d r)
 links_step s xs xs' ys ys' x y d r ex ey hd hr =
@@ -98,7 +98,7 @@ links_step s xs xs' ys ys' x y d r ex ey hd hr =
     (links_more s xs ys x y d r hd hr))
 
 -- one more annotation is typed
-pub annotations_more : (s : Scopes) (all : List Annotation) (list done done' : List Annot) (a : Annot) (body : Body) (rest : List Annot)
+pub annotations_more : (s : Sight) (all : List Annotation) (list done done' : List Annot) (a : Annot) (body : Body) (rest : List Annot)
     → typed_annotations s all ≡ behind_parts (map plain_annot done) (typed_annotations s (map plain_annot list)) → list ≡ a ∷ rest → typed_clause s (plain_body a.body) ≡ Good (plain_body body)
     → done' ≡ done ++ record a { body = body } ∷ [] → typed_annotations s all ≡ behind_parts (map plain_annot done') (typed_annotations s (map plain_annot rest))
 annotations_more s all list done done' a body rest before is good more =

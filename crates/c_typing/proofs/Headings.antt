@@ -8,12 +8,12 @@ use Rattle.c_syntax.specs.Ctypes.{PlainType, Void, Int, Ptr, Array, Struct, Name
 use Rattle.c_syntax.specs.Programs.{Function}
 use Rattle.c_model.specs.Meaning.{is_definition}
 use Rattle.c_model.specs.Library.{is_there}
-use Rattle.c_model.specs.Typing.{Signature, function_called, same_int, same_length, same_type}
-use Rattle.c_model.specs.ProgramTyping.{definition_of, first_of, number_or, offset_of, types_of, signature, same_signature, same_types, is_compatible, is_compatible_with_all}
-use Rattle.c_model.proofs.Signatures.{same_type_is}
+use Rattle.c_model.specs.ExpressionTyping.{Signature, function_called, same_int, same_length, same_type}
+use Rattle.c_model.specs.UnitTyping.{definition_of, first_of, number_or, types_of, signature, same_signature, same_types, is_compatible, is_compatible_with_all}
+use Rattle.c_model.proofs.TypedParts.{same_type_is}
 use Rattle.c_typing.specs.declared.heading.Callee.{Callee}
 use Rattle.c_typing.specs.declared.heading.Noted.{Noted}
-use Rattle.c_typing.specs.Functions.{denoted_by, denoted, told, was_defined, alike_with, known, is_alike, with_known, fits, declared}
+use Rattle.c_typing.specs.Functions.{first_named, denoted_by, denoted, told, was_defined, alike_with, known, is_alike, with_known, fits, declared}
 
 -- ---- what names denote
 
@@ -88,7 +88,7 @@ told_is : (fs : List Function) (o : Option Callee) (x : ℕ) → told_from o fs 
 told_is [] o x = then_none o
 told_is (f ∷ fs) o x =
     told_is fs (cond (nat_eq f.name x) (told o f) o) x ∙ ap (λ u. then_denoted (cond (nat_eq f.name x) u o) (denoted fs x)) (told_by_is o f)
-    ∙ told_step f (definition_of x fs) (first_of x fs) o (nat_eq f.name x) (is_definition f)
+    ∙ told_step f (definition_of x fs) (first_named x fs) o (nat_eq f.name x) (is_definition f)
 
 -- what was told of all functions
 pub all_told : (fs : List Function) (x : ℕ) → told_from None fs x ≡ denoted fs x
@@ -96,31 +96,31 @@ all_told fs x = told_is fs None x
 
 -- ---- what a declaration tells its callers
 
-has_first : (before rest : List Function) (f : Function) → (h : Function) × (first_of f.name (before ++ f ∷ rest) ≡ Some h)
-has_first [] rest f = (f, let same : nat_eq f.name f.name ≡ true = grind (arith, nat_tests) in ap (λ b. cond b (Some f) (first_of f.name rest)) same)
-has_first (g ∷ gs) rest f = by (nat_eq g.name f.name) (has_first gs rest f)
+-- the number of the first of a name
+abbrev first_number : Option Function → ℕ
+first_number None = 0
+first_number (Some f) = f.place.offset
+
+first_is : (x : ℕ) (fs : List Function) → first_of x fs ≡ first_number (first_named x fs)
+first_is x [] = refl
+first_is x (f ∷ fs) = by (nat_eq f.name x) (first_is x fs)
   where
-    by : (b : Bool) → ((h : Function) × (first_of f.name (gs ++ f ∷ rest) ≡ Some h)) → (h : Function) × (cond b (Some g) (first_of f.name (gs ++ f ∷ rest)) ≡ Some h)
-    by true e = (g, refl)
+    by : (b : Bool) → first_of x fs ≡ first_number (first_named x fs) → cond b f.place.offset (first_of x fs) ≡ first_number (cond b (Some f) (first_named x fs))
+    by true e = refl
     by false e = e
 
 -- what a declaration tells its callers, by its definition's number and the first of its name
-abbrev told_as : Function → Option ℕ → Option Function → Signature
-told_as f n g = record { name = f.name; decl = number_or n (offset_of g); defined = is_there n; params = types_of f.params; result = f.result }
+abbrev told_as : Function → Option ℕ → ℕ → Signature
+told_as f n k = record { name = f.name; decl = number_or n k; defined = is_there n; params = types_of f.params; result = f.result }
 
-module _ (all before rest : List Function) (f : Function) (is : all ≡ before ++ f ∷ rest)
-  where
-    by_first : (h : Function) (n : Option ℕ) → declared (denoted_by n (Some h)) f ≡ told_as f n (Some h)
-    by_first h (Some n) = refl
-    by_first h None = refl
+by_first : (f : Function) (n : Option ℕ) (g : Option Function) → declared (denoted_by n g) f ≡ told_as f n (first_number g)
+by_first f (Some n) g = refl
+by_first f None None = refl
+by_first f None (Some h) = refl
 
-    -- what its name denotes is what the file's signature says
-    pub declared_is : declared (denoted all f.name) f ≡ signature all f
-    declared_is =
-        let e = has_first before rest f in
-        let first : first_of f.name all ≡ Some e.0 = ap (first_of f.name) is ∙ e.1 in
-        ap (λ g. declared (denoted_by (definition_of f.name all) g) f) first ∙ by_first e.0 (definition_of f.name all)
-        ∙ ap (told_as f (definition_of f.name all)) (sym first)
+-- what its name denotes is what the file's signature says
+pub declared_is : (all : List Function) (f : Function) → declared (denoted all f.name) f ≡ signature all f
+declared_is all f = by_first f (definition_of f.name all) (first_named f.name all) ∙ ap (told_as f (definition_of f.name all)) (sym (first_is f.name all))
 
 -- ---- which names are declared
 

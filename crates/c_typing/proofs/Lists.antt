@@ -1,10 +1,11 @@
 -- Lists of parts, one after another.
-use Rattle.std.proofs.Common.{◌≡◌, List, [], ◌∷◌, ◌++◌, refl, sym, ap, ◌∙◌, map, append_assoc, Err}
+use Rattle.std.proofs.Common.{◌≡◌, List, [], ◌∷◌, ◌++◌, refl, sym, ap, ◌∙◌, map, append_assoc, Result, Ok, Err}
 use Rattle.std.proofs.lemmas.List.{append-nil, map-append}
 use Rattle.c_model.specs.Checked.{Checked, Good, Bad, one_part}
-use Rattle.c_type_rules.specs.declared.fault.TypeFault.{TypeFault}
-use Rattle.c_type_rules.specs.Answers.{Answers}
-use Rattle.c_type_rules.proofs.Least.{one_refused}
+use Rattle.c_expression_rules.specs.declared.fault.TypeFault.{TypeFault}
+use Rattle.c_expression_rules.specs.declared.fault.TypeFault.TheVariants.{Refused, Memory}
+use Rattle.c_expression_rules.specs.Answers.{Answers}
+use Rattle.c_expression_rules.proofs.Least.{one_refused}
 
 -- parts before those of a list
 abbrev pub behind_parts : {A : Type 0} → List A → Checked (List A) → Checked (List A)
@@ -33,3 +34,10 @@ pub list_more : {X A B : Type 0} (plain : X → A) (view : B → A) (whole c : C
 list_more plain view whole c done done' x m rest b before is good same more =
     before ∙ ap (behind_parts (map plain done)) is ∙ next_part (map plain done) m view rest b good
     ∙ ap (λ ys. behind_parts ys (rest b)) (ap (λ y. map plain done ++ y ∷ []) same ∙ sym (ap (map plain) more ∙ map-append plain done (x ∷ [])))
+
+-- what is made of one part
+pub made_of : {A B T : Type 0} (f : A → B) (p : T → A) (m : Checked A) (r : Result T TypeFault) → Answers p m r → Answers (λ x. f (p x)) (one_part m (λ a. Good (f a))) r
+made_of f p m (Ok t) h = ap (λ c. one_part c (λ a. Good (f a))) h
+made_of f p (Good a) (Err (Refused g)) h = absurd cc
+made_of f p (Bad g gs) (Err (Refused g')) h = h
+made_of f p m (Err Memory) h = tt

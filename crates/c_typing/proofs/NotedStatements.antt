@@ -9,14 +9,15 @@ use Rattle.c_syntax.specs.declared.statement.StmtKind as code
 use Rattle.c_syntax.specs.Statements.{Block, BlockItem, BlockItems, plain_stmt_kind, plain_item, plain_items}
 use Rattle.c_syntax.proofs.Rows.{block_is}
 use Rattle.c_model.specs.Checked.{Checked, Good}
-use Rattle.c_model.specs.Typing.{Scopes, inner, behind}
-use Rattle.c_model.specs.ProgramTyping.{noted_statement, noted_item, noted_items}
-use Rattle.c_type_rules.specs.declared.fault.TypeFault.{TypeFault}
-use Rattle.c_type_rules.specs.Answers.{Answers}
-use Rattle.c_type_rules.proofs.Expressions.{made_of}
+use Rattle.c_model.specs.ExpressionTyping.{Sight, inner}
+use Rattle.c_model.specs.StatementTyping.{behind}
+use Rattle.c_model.specs.AnnotationTyping.{noted_statement, noted_item, noted_items}
+use Rattle.c_expression_rules.specs.declared.fault.TypeFault.{TypeFault}
+use Rattle.c_expression_rules.specs.Answers.{Answers}
+use Rattle.c_typing.proofs.Lists.{made_of}
 use Rattle.c_typing.proofs.Blocks.{behind_block, all_items, item_refused, items_more}
 
-module _ (s : Scopes) (at : Place) (k : StmtKind)
+module _ (s : Sight) (at : Place) (k : StmtKind)
   where
     -- a block in its place
     pub block_in_place : (v w : Vec Item Global) (result : Result (Unit {0}) TypeFault) → k ≡ code.Block v → Answers (λ (u : Unit {0}). plain_items w.items) (noted_items (inner s) (plain_items v.items)) result
@@ -26,7 +27,7 @@ module _ (s : Scopes) (at : Place) (k : StmtKind)
         (subst (λ c. Answers (λ (u : Unit {0}). c) (noted_statement s (Block at (plain_items v.items))) result) (sym (block_is at w))
         (made_of (Block at) (λ (u : Unit {0}). plain_items w.items) (noted_items (inner s) (plain_items v.items)) result h))
 
-module _ (s t t' : Scopes) (done done' : List Item) (x : Item) (now : t' ≡ behind t (plain_item x)) (more : done' ≡ done ++ x ∷ [])
+module _ (s t t' : Sight) (done done' : List Item) (x : Item) (now : t' ≡ behind t (plain_item x)) (more : done' ≡ done ++ x ∷ [])
   where
     -- one more item is noted
     pub block_more : (all : BlockItems) (list : List Item) (i : Item) (rest : List Item) → noted_items s all ≡ behind_block (plain_items done) (noted_items t (plain_items list)) → list ≡ i ∷ rest
@@ -36,12 +37,12 @@ module _ (s t t' : Scopes) (done done' : List Item) (x : Item) (now : t' ≡ beh
         ∙ ap (λ q. behind_block (plain_items done') (noted_items q (plain_items rest))) (sym now)
 
 -- an item is refused
-pub items_refused : {T U : Type 0} (p : T → BlockItem) (q : U → BlockItems) (whole : Checked BlockItems) (t : Scopes) (done list : List Item) (i : Item) (rest : List Item) (h : TypeFault)
+pub items_refused : {T U : Type 0} (p : T → BlockItem) (q : U → BlockItems) (whole : Checked BlockItems) (t : Sight) (done list : List Item) (i : Item) (rest : List Item) (h : TypeFault)
     → whole ≡ behind_block (plain_items done) (noted_items t (plain_items list)) → list ≡ i ∷ rest
     → Answers p (noted_item t (plain_item i)) (Err h) → Answers q whole (Err h)
 items_refused p q whole t done list i rest h before is bad =
     subst (λ c. Answers q c (Err h)) (sym (before ∙ ap (λ l. behind_block (plain_items done) (noted_items t (plain_items l))) is))
     (item_refused (plain_items done) (noted_item t (plain_item i)) (λ y. noted_items (behind t y) (plain_items rest)) p q h bad)
 
-pub block_done : (whole : Checked BlockItems) (t : Scopes) (done list : List Item) → whole ≡ behind_block (plain_items done) (noted_items t (plain_items list)) → list ≡ [] → whole ≡ Good (plain_items done)
+pub block_done : (whole : Checked BlockItems) (t : Sight) (done list : List Item) → whole ≡ behind_block (plain_items done) (noted_items t (plain_items list)) → list ≡ [] → whole ≡ Good (plain_items done)
 block_done whole t done list before none = before ∙ ap (λ l. behind_block (plain_items done) (noted_items t (plain_items l))) none ∙ all_items (plain_items done)

@@ -9,19 +9,21 @@ use Rattle.c_syntax.specs.declared.statement.Stmt.{Stmt}
 use Rattle.c_syntax.specs.declared.statement.StmtKind.{StmtKind}
 use Rattle.c_syntax.specs.declared.statement.StmtKind as code
 use Rattle.c_syntax.specs.Expressions.{plain_expr}
-use Rattle.c_syntax.specs.Statements.{Block, Do, BlockItem, BlockItems, plain_stmt, plain_stmt_kind, plain_item, plain_items}
+use Rattle.c_syntax.specs.Statements.{Declaration, Block, Do, BlockItem, BlockItems, plain_stmt, plain_stmt_kind, plain_item, plain_items}
 use Rattle.c_syntax.proofs.Rows.{block_is}
 use Rattle.c_model.specs.Checked.{Checked, Good, one_part}
-use Rattle.c_model.specs.Typing.{Scopes, Around, in_loop, inner, behind, behind_first, typed_condition, typed_statement, typed_item, typed_items}
-use Rattle.c_type_rules.specs.declared.fault.TypeFault.{TypeFault}
-use Rattle.c_type_rules.specs.Answers.{Answers}
-use Rattle.c_type_rules.specs.Scopes.{left}
-use Rattle.c_typing.specs.Scopes.{behind_items}
+use Rattle.c_model.specs.ExpressionTyping.{Sight, inner}
+use Rattle.c_model.specs.StatementTyping.{typed_items, Around, in_loop, behind, behind_first, typed_condition, typed_statement, typed_item}
+use Rattle.c_model.specs.UnitTyping.{with_parameters}
+use Rattle.c_expression_rules.specs.declared.fault.TypeFault.{TypeFault}
+use Rattle.c_expression_rules.specs.Answers.{Answers}
+use Rattle.c_expression_rules.specs.Sights.{left}
+use Rattle.c_typing.specs.Blocks.{behind_items}
 use Rattle.c_typing.specs.Trees.{plain_for_first}
-use Rattle.c_type_rules.proofs.Expressions.{made_of}
-use Rattle.c_typing.proofs.Blocks.{behind_block, all_items, item_refused, items_more, left_block, left_for}
+use Rattle.c_typing.proofs.Lists.{made_of}
+use Rattle.c_typing.proofs.Blocks.{behind_block, all_items, item_refused, items_more, left_block, left_for, left_parameters}
 
-module _ (s : Scopes) (r : Around) (at : Place) (k : StmtKind)
+module _ (s : Sight) (r : Around) (at : Place) (k : StmtKind)
   where
     -- a block in its place
     pub block_in_place : (v w : Vec Item Global) (result : Result (Unit {0}) TypeFault) → k ≡ code.Block v → Answers (λ (u : Unit {0}). plain_items w.items) (typed_items (inner s) r (plain_items v.items)) result
@@ -32,7 +34,7 @@ module _ (s : Scopes) (r : Around) (at : Place) (k : StmtKind)
         (made_of (Block at) (λ (u : Unit {0}). plain_items w.items) (typed_items (inner s) r (plain_items v.items)) result h))
 
     -- `do` in its place
-    pub do_in_place : (b b' : Stmt) (e e' : Expr) (r' : Around) (t : Scopes) (result : Result (Unit {0}) TypeFault) → k ≡ code.Do b e → r' ≡ in_loop r → typed_statement s r' (plain_stmt b) ≡ Good (plain_stmt b') → t ≡ s
+    pub do_in_place : (b b' : Stmt) (e e' : Expr) (r' : Around) (t : Sight) (result : Result (Unit {0}) TypeFault) → k ≡ code.Do b e → r' ≡ in_loop r → typed_statement s r' (plain_stmt b) ≡ Good (plain_stmt b') → t ≡ s
         → Answers (λ (u : Unit {0}). plain_expr e') (typed_condition t (plain_expr e)) result → Answers (λ (u : Unit {0}). Do at (plain_stmt b') (plain_expr e')) (typed_statement s r (plain_stmt_kind at k)) result
     do_in_place b b' e e' r' t result is around good same h =
         let body : typed_statement s (in_loop r) (plain_stmt b) ≡ Good (plain_stmt b') = ap (λ q. typed_statement s q (plain_stmt b)) (sym around) ∙ good in
@@ -42,7 +44,7 @@ module _ (s : Scopes) (r : Around) (at : Place) (k : StmtKind)
 
 -- ---- blocks
 
-module _ (s t t' : Scopes) (r : Around) (done done' : List Item) (x : Item) (now : t' ≡ behind t (plain_item x)) (more : done' ≡ done ++ x ∷ [])
+module _ (s t t' : Sight) (r : Around) (done done' : List Item) (x : Item) (now : t' ≡ behind t (plain_item x)) (more : done' ≡ done ++ x ∷ [])
   where
     -- one more item is typed
     pub block_more : (all : BlockItems) (list : List Item) (i : Item) (rest : List Item) → typed_items s r all ≡ behind_block (plain_items done) (typed_items t r (plain_items list)) → list ≡ i ∷ rest
@@ -52,23 +54,26 @@ module _ (s t t' : Scopes) (r : Around) (done done' : List Item) (x : Item) (now
         ∙ ap (λ u. behind_block (plain_items done') (typed_items u r (plain_items rest))) (sym now)
 
 -- an item is refused
-pub items_refused : {T U : Type 0} (p : T → BlockItem) (q : U → BlockItems) (whole : Checked BlockItems) (t : Scopes) (r : Around) (done list : List Item) (i : Item) (rest : List Item) (h : TypeFault)
+pub items_refused : {T U : Type 0} (p : T → BlockItem) (q : U → BlockItems) (whole : Checked BlockItems) (t : Sight) (r : Around) (done list : List Item) (i : Item) (rest : List Item) (h : TypeFault)
     → whole ≡ behind_block (plain_items done) (typed_items t r (plain_items list)) → list ≡ i ∷ rest
     → Answers p (typed_item t r (plain_item i)) (Err h) → Answers q whole (Err h)
 items_refused p q whole t r done list i rest h before is bad =
     subst (λ c. Answers q c (Err h)) (sym (before ∙ ap (λ l. behind_block (plain_items done) (typed_items t r (plain_items l))) is))
     (item_refused (plain_items done) (typed_item t r (plain_item i)) (λ y. typed_items (behind t y) r (plain_items rest)) p q h bad)
 
-pub block_done : (whole : Checked BlockItems) (t : Scopes) (r : Around) (done list : List Item) → whole ≡ behind_block (plain_items done) (typed_items t r (plain_items list)) → list ≡ [] → whole ≡ Good (plain_items done)
+pub block_done : (whole : Checked BlockItems) (t : Sight) (r : Around) (done list : List Item) → whole ≡ behind_block (plain_items done) (typed_items t r (plain_items list)) → list ≡ [] → whole ≡ Good (plain_items done)
 block_done whole t r done list before none = before ∙ ap (λ l. behind_block (plain_items done) (typed_items t r (plain_items l))) none ∙ all_items (plain_items done)
 
-module _ (s t u v : Scopes) (count innermost : ℕ) (inside : t ≡ inner s) (counted : count ≡ length s.objects) (kept : innermost ≡ s.innermost) (ends : v ≡ left count innermost u)
+module _ (s t u v : Sight) (count innermost : ℕ) (inside : t ≡ inner s) (counted : count ≡ length s.entities) (kept : innermost ≡ s.innermost) (ends : v ≡ left count innermost u)
   where
-    left_is : (w : Scopes) → u ≡ w → left (length s.objects) s.innermost w ≡ s → v ≡ s
-    left_is w is back = ends ∙ ap (λ n. left n innermost u) counted ∙ ap (λ n. left (length s.objects) n u) kept ∙ ap (left (length s.objects) s.innermost) is ∙ back
+    left_is : (w : Sight) → u ≡ w → left (length s.entities) s.innermost w ≡ s → v ≡ s
+    left_is w is back = ends ∙ ap (λ n. left n innermost u) counted ∙ ap (λ n. left (length s.entities) n u) kept ∙ ap (left (length s.entities) s.innermost) is ∙ back
 
     pub block_left : (is : BlockItems) → u ≡ behind_items t is → v ≡ s
     block_left is sight = left_is (behind_items (inner s) is) (sight ∙ ap (λ x. behind_items x is) inside) (left_block s is)
 
-    pub for_left : (i : Option Item) (x : Scopes) → u ≡ x → x ≡ behind_first t (plain_for_first i) → v ≡ s
+    pub for_left : (i : Option Item) (x : Sight) → u ≡ x → x ≡ behind_first t (plain_for_first i) → v ≡ s
     for_left i x same sight = left_is (behind_first (inner s) (plain_for_first i)) (same ∙ sight ∙ ap (λ x. behind_first x (plain_for_first i)) inside) (left_for s (plain_for_first i))
+
+    pub parameters_left : (ds : List Declaration) → u ≡ with_parameters t ds → v ≡ s
+    parameters_left ds sight = left_is (with_parameters (inner s) ds) (sight ∙ ap (λ x. with_parameters x ds) inside) (left_parameters s ds)

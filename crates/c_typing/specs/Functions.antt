@@ -1,21 +1,20 @@
--- Ours: the typing of C99 6.9 (c_model/specs/ProgramTyping) function by function, as the code does it.
--- Functions one after another, in words of what is kept of those before: what each name denotes in the file, which names are declared
--- so far, and what is in sight.
-use Rattle.std.specs.Prelude.{◌≡◌, ℕ, List, [], ◌∷◌, ◌++◌, nat_eq, Option, Some, None, Bool, true, false, not, ◌&&◌, ◌||◌, cond, Result, Ok, Err}
-use Rattle.c_syntax.specs.Statements.{Declaration}
-use Rattle.c_syntax.specs.Programs.{Function, TranslationUnit}
+-- Ours: the typing of functions (C99 6.9.1; c_model/specs/UnitTyping) in words of what the code keeps of those before: what each name
+-- denotes in the file, and which names are declared so far.
+use Rattle.std.specs.Prelude.{ℕ, List, [], ◌∷◌, ◌++◌, nat_eq, Option, Some, None, Bool, true, false, not, ◌&&◌, ◌||◌, cond}
+use Rattle.c_syntax.specs.Programs.{Function}
 use Rattle.c_model.specs.Meaning.{is_definition}
-use Rattle.c_model.specs.Library.{is_library_name}
-use Rattle.c_model.specs.Checked.{Checked, Good, one_part, where_so}
-use Rattle.c_model.specs.Typing.{no_name, no_type, Signature, Scopes, function_called, name_at, same_type}
-use Rattle.c_model.specs.ProgramTyping.{definition_of, first_of, is_result_type, types_of, same_signature, same_types, typed_parameter}
-use Rattle.c_model.specs.ProgramTyping.{with_parameter, with_parameters, typed_body, typed_functions, noted_body}
-use Rattle.c_type_rules.specs.declared.fault.TypeFault.{TypeFault}
-use Rattle.c_type_rules.specs.Answers.{Answers}
+use Rattle.c_model.specs.Checked.{Checked, Good, one_part, both_parts, where_so}
+use Rattle.c_model.specs.ExpressionTyping.{no_name, Signature, Sight, function_called, same_type, inner}
+use Rattle.c_model.specs.UnitTyping.{definition_of, types_of, same_signature, same_types, with_parameters, function_name, typed_type_of_function, typed_body}
 use Rattle.c_typing.specs.declared.heading.Callee.{Callee}
 use Rattle.c_typing.specs.declared.heading.Noted.{Noted}
 
 -- ---- what names denote
+
+-- the first function of a name
+abbrev pub first_named : ℕ → List Function → Option Function
+first_named x [] = None
+first_named x (f ∷ fs) = cond (nat_eq f.name x) (Some f) (first_named x fs)
 
 abbrev pub denoted_by : Option ℕ → Option Function → Option Callee
 denoted_by (Some n) o = Some (record { decl = n; defined = true })
@@ -24,7 +23,7 @@ denoted_by None (Some f) = Some (record { decl = f.place.offset; defined = false
 
 -- the definition of a name among functions, or its first prototype
 abbrev pub denoted : List Function → ℕ → Option Callee
-denoted fs x = denoted_by (definition_of x fs) (first_of x fs)
+denoted fs x = denoted_by (definition_of x fs) (first_named x fs)
 
 -- whether a function tells more of its name than those before it
 abbrev pub tells_more : Option Callee → Function → Bool
@@ -75,15 +74,20 @@ fits g None f = true
 fits None (Some n) f = true
 fits (Some g) (Some n) f = n.alike && has_type g f && not (is_definition f && n.defined)
 
--- a function's name, among those in sight
-abbrev pub checked_heading : Scopes → (ℕ → Option Noted) → Function → Checked (Unit {0})
-checked_heading s names f =
-    where_so (not (is_library_name (name_at s.names f.name)) && fits (function_called f.name s.functions) (names f.name) f) (no_name f.place)
-    (where_so (is_result_type f.result) (no_type f.place) (Good tt))
+-- whether it fits those that are in sight
+abbrev pub fits_in : Sight → (ℕ → Option Noted) → Function → Bool
+fits_in s names f = fits (function_called f.name s.functions) (names f.name) f
 
-abbrev pub decl_or : Option Callee → ℕ → ℕ
-decl_or None n = n
-decl_or (Some d) n = d.decl
+abbrev pub fitting : Sight → (ℕ → Option Noted) → Function → Checked Function
+fitting s names f = where_so (fits_in s names f) (no_name f.place) (Good f)
+
+-- a function's name and type
+abbrev pub heading : Sight → (ℕ → Option Noted) → Function → Checked Function
+heading s names f = both_parts (function_name s f) (typed_type_of_function s f) (λ n f. fitting s names f)
+
+abbrev pub decl_of : Option Callee → ℕ
+decl_of None = 0
+decl_of (Some d) = d.decl
 
 abbrev pub is_defined : Option Callee → Bool
 is_defined None = false
@@ -91,45 +95,20 @@ is_defined (Some d) = d.defined
 
 -- what a declaration tells its callers, by what its name denotes
 abbrev pub declared : Option Callee → Function → Signature
-declared o f = record { name = f.name; decl = decl_or o f.place.offset; defined = is_defined o; params = types_of f.params; result = f.result }
+declared o f = record { name = f.name; decl = decl_of o; defined = is_defined o; params = types_of f.params; result = f.result }
 
 -- what is in sight after a function's heading
-abbrev pub with_function : (ℕ → Option Callee) → Scopes → Function → Scopes
+abbrev pub with_function : (ℕ → Option Callee) → Sight → Function → Sight
 with_function numbers s f = record s { functions = s.functions ++ declared (numbers f.name) f ∷ [] }
+
+abbrev pub names_behind : Sight → (ℕ → Option Noted) → Function → ℕ → Option Noted
+names_behind s names f = with_known (function_called f.name s.functions) names f
 
 -- ---- functions
 
-abbrev pub checked_parameters : Scopes → List Declaration → Checked (Unit {0})
-checked_parameters s [] = Good tt
-checked_parameters s (d ∷ ds) = one_part (typed_parameter s d) (λ d. checked_parameters (with_parameter s d) ds)
+-- the body of a function that is in sight
+abbrev pub typed_parts : Sight → Function → Checked Function
+typed_parts s f = one_part (typed_body (with_parameters (inner s) f.params) f.result f.body) (λ b. Good (record f { body = b }))
 
--- the parameters and the body of a function that is in sight
-abbrev pub checked_parts : Scopes → Function → Checked Function
-checked_parts s f =
-    one_part (checked_parameters s f.params) (λ u.
-    one_part (typed_body (with_parameters s f.params) f.result f.body) (λ b. Good (record f { body = b })))
-
--- what is found of a function, by what is found of its heading
-abbrev pub AnswersBehind : Result (Unit {0}) TypeFault → (Unit {0} → Function) → Checked Function → Result (Unit {0}) TypeFault → Type 0
-AnswersBehind (Ok u) plain c result = Answers plain c result
-AnswersBehind (Err e) plain c result = result ≡ Err e
-
--- a file with these names and functions
-abbrev pub file_of : List (List ℕ) → List Function → TranslationUnit
-file_of names fs = record { names = names; texts = []; structs = []; enums = []; typedefs = []; globals = []; funcs = fs; strays = [] }
-
--- a text whose functions are typed
-abbrev pub typed_funcs : TranslationUnit → Checked TranslationUnit
-typed_funcs p = one_part (typed_functions p [] p.funcs) (λ fs. Good (record p { funcs = fs }))
-
-abbrev pub typed_file : List (List ℕ) → List Function → Checked (List Function)
-typed_file names fs = typed_functions (file_of names fs) [] fs
-
--- a function that is in sight, with the names and types of its annotations
-abbrev pub noted_parts : Scopes → Function → Checked Function
-noted_parts s f = one_part (noted_body (with_parameters s f.params) f.body) (λ b. Good (record f { body = b }))
-
-abbrev pub noted_in_turn : (ℕ → Option Callee) → Scopes → List Function → Checked (List Function)
-noted_in_turn numbers s [] = Good []
-noted_in_turn numbers s (f ∷ fs) =
-    one_part (noted_parts (with_function numbers s f) f) (λ t. one_part (noted_in_turn numbers (with_function numbers s f) fs) (λ ts. Good (t ∷ ts)))
+abbrev pub function_in_turn : (ℕ → Option Callee) → Sight → (ℕ → Option Noted) → Function → Checked Function
+function_in_turn numbers s names f = one_part (heading s names f) (λ f. typed_parts (with_function numbers s f) f)

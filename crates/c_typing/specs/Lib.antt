@@ -1,6 +1,8 @@
 pub mod Answers
+pub mod Blocks
+pub mod Files
 pub mod Functions
-pub mod Laws
-pub mod Scopes
+pub mod NotedFiles
+pub mod Rooms
 pub mod Trees
 pub mod TypedPrograms

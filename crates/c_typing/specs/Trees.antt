@@ -9,8 +9,7 @@ use Rattle.c_syntax.specs.declared.annotation.Link.{Link}
 use Rattle.c_syntax.specs.Annotations.{Links, NoLink, Linked, plain_term}
 use Rattle.c_syntax.specs.Ctypes.{plain_type}
 use Rattle.c_syntax.specs.Statements.{Initialiser, ElsePart, NoElse, Else, ForFirst, NoFirst, First, plain_init, plain_stmt, plain_item}
-use Rattle.c_model.specs.Typing as plain
-use Rattle.c_model.specs.Typing.{behind}
+use Rattle.c_model.specs.StatementTyping as plain
 use Rattle.c_typing.specs.declared.statement.Around.{Around}
 
 abbrev pub plain_initialiser : Option (Place × Init) → Option (Place × Initialiser)

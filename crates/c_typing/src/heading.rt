@@ -6,21 +6,23 @@ ghost use Rattle.indexmap.specs.IndexMap.{get};
 ghost use Rattle.c_syntax.specs.Ctypes.{plain_type};
 ghost use Rattle.c_syntax.specs.Statements.{plain_decl};
 ghost use Rattle.c_syntax.specs.Programs.{plain_func};
-ghost use Rattle.c_model.specs.Typing.{function_called};
-ghost use Rattle.c_model.specs.ProgramTyping.{is_result_type, same_types, types_of};
-ghost use Rattle.c_type_rules.specs.Answers.{Answers, IsRefusal};
-ghost use Rattle.c_type_rules.specs.Scopes.{plain_scopes};
-ghost use Rattle.c_type_rules.specs.Signatures.{plain_signature};
-ghost use Rattle.c_typing.specs.Functions.{checked_heading, declared, denoted, fits, has_type, is_alike};
+ghost use Rattle.c_model.specs.ExpressionTyping.{function_called};
+ghost use Rattle.c_model.specs.UnitTyping.{function_name, same_types, typed_type_of_function, types_of};
+ghost use Rattle.c_expression_rules.specs.Answers.{Answers, IsRefusal};
+ghost use Rattle.c_expression_rules.specs.Sights.{plain_sight};
+ghost use Rattle.c_expression_rules.specs.Signatures.{plain_signature};
+ghost use Rattle.c_typing.specs.Functions.{declared, denoted, fits, fitting, has_type, heading, is_alike};
 ghost use Rattle.c_typing.specs.Functions.{tells_more, was_defined, with_function, with_known, with_told};
 
+use crate::parameter::type_parameters;
+use c_declaration_rules::name::own_name;
+use c_declaration_rules::object::type_result;
+use c_expression_rules::conversion::same_type;
+use c_expression_rules::fault::{TypeFault, both, no_name};
+use c_expression_rules::sight::{Sight, declared_here, type_named};
+use c_expression_rules::signature::{Functions, Signature};
 use c_syntax::copy::copy_type;
 use c_syntax::{CType, Decl, Func};
-use c_type_rules::conversion::{is_object_type, same_type};
-use c_type_rules::fault::{TypeFault, no_name, no_type};
-use c_type_rules::library::is_library_name;
-use c_type_rules::scope::{Scopes, name_at};
-use c_type_rules::signature::{Functions, Signature};
 use indexmap::IndexMap;
 use std::alloc::{AllocError, Global};
 
@@ -115,42 +117,53 @@ fn fits(functions: &Functions, names: &IndexMap<u32, Noted>, f: &Func) -> bool
     }
 }
 
-/// Whether a function may have a result of this type.
-fn is_result_type(t: &CType) -> bool
-    ensures { result ≡ is_result_type (plain_type t.now) }
+/// A function's name: none of the library's, of an object, of an enumerator or of a type.
+fn check_name(sight: &Sight, f: &Func) -> Result<(), TypeFault>
+    ensures checked { Answers (λ u. u) (function_name (plain_sight sight.now) (plain_func f.now)) result }
+    ensures sure { IfErr result IsRefusal }
 {
-    match t {
-        CType::Void => true,
-        CType::Int(_)
-        | CType::Ptr(_)
-        | CType::Array(..)
-        | CType::Struct(_)
-        | CType::Named(_)
-        | CType::StructTag(_)
-        | CType::EnumTag(..) => is_object_type(t),
+    let entity = declared_here(sight, f.name).is_some();
+    let named = type_named(&sight.types, f.name).is_some();
+    own_name(sight, entity || named, f.place, f.name)
+}
+
+/// The result and the parameters of a function. What was in sight before is in sight after them.
+fn type_signature(alloc: Global, sight: &mut Sight, f: &mut Func) -> Result<(), TypeFault>
+    ensures typed { Answers (λ _. plain_func f.new) (typed_type_of_function (plain_sight sight.old) (plain_func f.old)) result }
+    ensures same { OnOk result (plain_sight sight.new ≡ plain_sight sight.old) }
+{
+    let defined = f.body.is_some();
+    let place = f.place;
+    let result = type_result(alloc, sight, defined, place, &mut f.result);
+    let params = type_parameters(alloc, sight, defined, &mut f.params);
+    both(result, params)
+}
+
+/// Whether a function fits those that are declared before it.
+fn fitting(sight: &Sight, names: &IndexMap<u32, Noted>, f: &Func) -> Result<(), TypeFault>
+    ensures { Answers (λ _. plain_func f.now) (fitting (plain_sight sight.now) (get nat_eq names.now) (plain_func f.now)) result }
+{
+    if fits(&sight.functions, names, f) {
+        Ok(())
+    } else {
+        Err(no_name(f.place))
     }
 }
 
-/// A function's name: none of the library's, and fitting those that are declared before it; and the type of its result.
-pub fn check_heading(
-    scopes: &Scopes,
+/// A function's name and type, which fit the declarations before it.
+pub fn type_heading(
+    alloc: Global,
+    sight: &mut Sight,
     names: &IndexMap<u32, Noted>,
-    f: &Func,
+    f: &mut Func,
 ) -> Result<(), TypeFault>
-    ensures checked { Answers (λ _. tt) (checked_heading (plain_scopes scopes.now) (get nat_eq names.now) (plain_func f.now)) result }
-    ensures sure { IfErr result IsRefusal }
+    ensures typed { Answers (λ _. plain_func f.new) (heading (plain_sight sight.old) (get nat_eq names.now) (plain_func f.old)) result }
+    ensures same { OnOk result (plain_sight sight.new ≡ plain_sight sight.old) }
 {
-    if is_library_name(name_at(&scopes.names, f.name)) {
-        return Err(no_name(f.place));
-    }
-    if !fits(&scopes.functions, names, f) {
-        return Err(no_name(f.place));
-    }
-    if is_result_type(&f.result) {
-        Ok(())
-    } else {
-        Err(no_type(f.place))
-    }
+    let name = check_name(sight, f);
+    let ctype = type_signature(alloc, sight, f);
+    both(name, ctype)?;
+    fitting(sight, names, f)
 }
 
 /// Whether a name is defined so far.
@@ -216,8 +229,9 @@ fn signature(
 {
     let denoted = match numbers.get(&f.name) {
         Some(d) => *d,
+        // each name of the file has one
         None => Callee {
-            decl: f.place.offset,
+            decl: 0,
             defined: false,
         },
     };
@@ -235,13 +249,13 @@ fn signature(
 /// Brings a function in sight: of itself, and of those after it (C99 6.2.1 p7).
 pub fn see_function(
     alloc: Global,
-    scopes: &mut Scopes,
+    sight: &mut Sight,
     numbers: &IndexMap<u32, Callee>,
     f: &Func,
 ) -> Result<(), AllocError>
-    ensures { OnOk result (plain_scopes scopes.new ≡ with_function (get nat_eq numbers.now) (plain_scopes scopes.old) (plain_func f.now)) }
+    ensures { OnOk result (plain_sight sight.new ≡ with_function (get nat_eq numbers.now) (plain_sight sight.old) (plain_func f.now)) }
 {
     let signature = signature(alloc, numbers, f)?;
-    scopes.functions.push(signature)?;
+    sight.functions.push(signature)?;
     Ok(())
 }

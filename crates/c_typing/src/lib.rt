@@ -8,22 +8,22 @@
 pub mod checked;
 
 // names and types
-pub mod declaration;
+pub mod file;
 pub mod function;
 pub mod heading;
+pub mod item;
+pub mod order;
 pub mod parameter;
 pub mod program;
+pub mod room;
 pub mod statement;
-pub mod untyped;
 
 // annotations
 pub mod annotation;
 pub mod noted;
+pub mod noted_file;
 
-// laws
-pub mod laws;
-
-pub use c_type_rules::{Fault, TypeFault};
+pub use c_expression_rules::{Fault, TypeFault};
 pub use checked::{ProgramFault, Typed};
-pub use noted::type_annotations;
+pub use noted_file::type_annotations;
 pub use program::type_program;

@@ -1,73 +1,81 @@
-//! Parameters (C99 6.7.5.3), which stand in the scope of the function's body.
+//! Parameters (C99 6.7.5.3): those of a body stand in its scope, and those of a heading in a scope that ends with it.
 
-ghost use Rattle.std.specs.Prelude.{◌≡◌, IfErr, OnOk, map};
+ghost use Rattle.std.specs.Prelude.{◌≡◌, OnOk, map};
 ghost use Rattle.c_syntax.specs.Statements.{plain_decl};
-ghost use Rattle.c_model.specs.ProgramTyping.{typed_parameter, with_parameter, with_parameters};
-ghost use Rattle.c_type_rules.specs.Answers.{Answers, IsRefusal};
-ghost use Rattle.c_type_rules.specs.Scopes.{plain_scopes};
-ghost use Rattle.c_typing.specs.Functions.{checked_parameters};
-ghost use Rattle.c_typing.specs.Scopes.{at_file};
+ghost use Rattle.c_model.specs.ExpressionTyping.{inner};
+ghost use Rattle.c_model.specs.DeclarationTyping.{typed_parameter};
+ghost use Rattle.c_model.specs.UnitTyping.{typed_parameters, with_parameter, with_parameters};
+ghost use Rattle.c_expression_rules.specs.Answers.{Answers};
+ghost use Rattle.c_expression_rules.specs.Sights.{plain_sight};
 
-use crate::declaration::{declarable, declare};
+use c_declaration_rules::declaration::type_parameter;
+use c_expression_rules::fault::TypeFault;
+use c_expression_rules::sight::{Sight, enter, leave, with_object};
 use c_syntax::Decl;
-use c_type_rules::conversion::is_object_type;
-use c_type_rules::fault::{TypeFault, no_type};
-use c_type_rules::scope::Scopes;
 use std::alloc::{AllocError, Global};
 
-/// A parameter is an object, whose name, where it has one, is new in its scope and none of the library's.
-fn check_parameter(scopes: &Scopes, d: &Decl) -> Result<(), TypeFault>
-    ensures checked { Answers (λ _. plain_decl d.now) (typed_parameter (plain_scopes scopes.now) (plain_decl d.now)) result }
-    ensures sure { IfErr result IsRefusal }
-{
-    if d.named {
-        declarable(scopes, d)
-    } else if is_object_type(&d.ctype) {
-        Ok(())
-    } else {
-        Err(no_type(d.place))
-    }
-}
-
 /// Brings a parameter in sight, where it has a name.
-fn see_parameter(alloc: Global, scopes: &mut Scopes, d: &Decl) -> Result<(), AllocError>
-    ensures seen { OnOk result (plain_scopes scopes.new ≡ with_parameter (plain_scopes scopes.old) (plain_decl d.now)) }
-    ensures file { at_file (plain_scopes scopes.new) ≡ at_file (plain_scopes scopes.old) }
+fn see_parameter(alloc: Global, sight: &mut Sight, d: &Decl) -> Result<(), AllocError>
+    ensures { OnOk result (plain_sight sight.new ≡ with_parameter (plain_sight sight.old) (plain_decl d.now)) }
 {
     if d.named {
-        declare(alloc, scopes, d)
+        with_object(alloc, sight, d)
     } else {
         Ok(())
     }
 }
 
-/// Checks parameters, and brings each in sight of those after it.
-pub fn check_parameters(
-    alloc: Global,
-    scopes: &mut Scopes,
-    params: &[Decl],
-) -> Result<(), TypeFault>
-    ensures checked { Answers (λ _. tt) (checked_parameters (plain_scopes scopes.old) (map plain_decl params.now)) result }
-    ensures behind { OnOk result (plain_scopes scopes.new ≡ with_parameters (plain_scopes scopes.old) (map plain_decl params.now)) }
-    ensures file { at_file (plain_scopes scopes.new) ≡ at_file (plain_scopes scopes.old) }
+/// Brings parameters in sight.
+pub fn see_parameters(alloc: Global, sight: &mut Sight, params: &[Decl]) -> Result<(), AllocError>
+    ensures { OnOk result (plain_sight sight.new ≡ with_parameters (plain_sight sight.old) (map plain_decl params.now)) }
 {
     let mut rest = params;
     'turn: while let [d, after @ ..] = rest {
-        check_parameter(scopes, d)?;
-        see_parameter(alloc, scopes, d)?;
+        see_parameter(alloc, sight, d)?;
         rest = after;
     }
     Ok(())
 }
 
-/// Brings parameters in sight.
-pub fn see_parameters(alloc: Global, scopes: &mut Scopes, params: &[Decl]) -> Result<(), AllocError>
-    ensures { OnOk result (plain_scopes scopes.new ≡ with_parameters (plain_scopes scopes.old) (map plain_decl params.now)) }
+/// Types a parameter, and brings it in sight.
+fn type_next(alloc: Global, sight: &mut Sight, defined: bool, d: &mut Decl) -> Result<(), TypeFault>
+    ensures typed { Answers (λ _. plain_decl d.new) (typed_parameter (plain_sight sight.old) defined (plain_decl d.old)) result }
+    ensures behind { OnOk result (plain_sight sight.new ≡ with_parameter (plain_sight sight.old) (plain_decl d.new)) }
 {
-    let mut rest = params;
-    'turn: while let [d, after @ ..] = rest {
-        see_parameter(alloc, scopes, d)?;
-        rest = after;
+    type_parameter(alloc, sight, defined, d)?;
+    see_parameter(alloc, sight, d)?;
+    Ok(())
+}
+
+/// Types parameters, each in sight of those after it.
+fn type_each(
+    alloc: Global,
+    sight: &mut Sight,
+    defined: bool,
+    params: &mut Vec<Decl>,
+) -> Result<(), TypeFault>
+    ensures typed { Answers (λ _. map plain_decl params.new.items) (typed_parameters (plain_sight sight.old) defined (map plain_decl params.old.items)) result }
+    ensures behind { OnOk result (plain_sight sight.new ≡ with_parameters (plain_sight sight.old) (map plain_decl params.new.items)) }
+{
+    for i in 0..params.len() {
+        type_next(alloc, sight, defined, &mut params[i])?;
     }
+    Ok(())
+}
+
+/// Types the parameters of a heading, whose scope ends with it.
+pub fn type_parameters(
+    alloc: Global,
+    sight: &mut Sight,
+    defined: bool,
+    params: &mut Vec<Decl>,
+) -> Result<(), TypeFault>
+    ensures typed { Answers (λ _. map plain_decl params.new.items)
+        (typed_parameters (inner (plain_sight sight.old)) defined (map plain_decl params.old.items)) result }
+    ensures same { OnOk result (plain_sight sight.new ≡ plain_sight sight.old) }
+{
+    let mark = enter(sight);
+    type_each(alloc, sight, defined, params)?;
+    leave(sight, mark);
     Ok(())
 }

@@ -1,24 +1,27 @@
-//! Statements (C99 6.8).
+//! Declarations in blocks, and statements (C99 6.7, 6.8).
 
-ghost use Rattle.std.specs.Prelude.{◌≡◌, IfErr, OnOk, option_map};
+ghost use Rattle.std.specs.Prelude.{◌≡◌, IfErr, OnOk, Some, map, option_map, true};
 ghost use Rattle.c_syntax.specs.Ctypes.{plain_type};
 ghost use Rattle.c_syntax.specs.Expressions.{plain_expr};
-ghost use Rattle.c_syntax.specs.Statements.{Break, Continue, Return, plain_item, plain_items, plain_stmt, plain_stmt_kind};
-ghost use Rattle.c_model.specs.Checked.{Good, where_so};
-ghost use Rattle.c_model.specs.Typing.{behind, behind_first, condition, in_loop, inner, no_type, returned, typed};
-ghost use Rattle.c_model.specs.Typing.{typed_condition, typed_else, typed_first, typed_item, typed_items, typed_maybe, typed_statement};
-ghost use Rattle.c_type_rules.specs.Answers.{Answers, IsRefusal};
-ghost use Rattle.c_type_rules.specs.Scopes.{plain_scopes};
-ghost use Rattle.c_typing.specs.Scopes.{at_file, behind_items};
+ghost use Rattle.c_syntax.specs.Statements.{Break, Continue, Return, plain_decl, plain_item, plain_items, plain_stmt, plain_stmt_kind};
+ghost use Rattle.c_model.specs.Checked.{Good, one_part, where_so};
+ghost use Rattle.c_model.specs.ExpressionTyping.{decayed_of, inner, no_type, typed, with_objects};
+ghost use Rattle.c_model.specs.StatementTyping.{behind, behind_first, condition, in_loop, returned, typed_condition, typed_declarations};
+ghost use Rattle.c_model.specs.StatementTyping.{typed_else, typed_first, typed_item, typed_items, typed_maybe, typed_statement};
+ghost use Rattle.c_expression_rules.specs.Answers.{Answers, IsRefusal};
+ghost use Rattle.c_expression_rules.specs.Constants.{has_small_sizes};
+ghost use Rattle.c_expression_rules.specs.Sights.{plain_sight};
+ghost use Rattle.c_typing.specs.Blocks.{behind_items};
 ghost use Rattle.c_typing.specs.Trees.{plain_around, plain_else_part, plain_for_first};
 
-use crate::declaration::type_declarations;
-use c_syntax::{CType, Expr, Item, Place, Stmt, StmtKind};
-use c_type_rules::conversion::{is_assigned, is_scalar};
-use c_type_rules::expression::type_expr;
-use c_type_rules::fault::{TypeFault, no_type};
-use c_type_rules::operator::in_type;
-use c_type_rules::scope::{Scopes, enter, leave};
+use c_declaration_rules::declaration::type_variable;
+use c_expression_rules::assignment::is_assigned;
+use c_expression_rules::conversion::{is_scalar, is_void};
+use c_expression_rules::expression::{type_expr, type_value};
+use c_expression_rules::fault::{TypeFault, no_type};
+use c_expression_rules::operator::in_type;
+use c_expression_rules::sight::{Sight, enter, leave};
+use c_syntax::{CType, Decl, Expr, Item, Place, Stmt, StmtKind};
 use std::alloc::Global;
 
 /// Where a statement stands: what its function gives, and whether it is inside a loop.
@@ -49,60 +52,78 @@ fn condition(e: &Expr) -> Result<(), TypeFault>
     }
 }
 
-fn type_condition(alloc: Global, scopes: &Scopes, e: &mut Expr) -> Result<(), TypeFault>
-    ensures { Answers (λ _. plain_expr e.new) (typed_condition (plain_scopes scopes.now) (plain_expr e.old)) result }
+fn type_condition(alloc: Global, sight: &Sight, e: &mut Expr) -> Result<(), TypeFault>
+    ensures { Answers (λ _. plain_expr e.new) (typed_condition (plain_sight sight.now) (plain_expr e.old)) result }
 {
-    type_expr(alloc, scopes, e)?;
+    type_value(alloc, sight, e)?;
     condition(e)
 }
 
 /// A condition that may be left out.
-fn type_some_condition(
-    alloc: Global,
-    scopes: &Scopes,
-    e: &mut Option<Expr>,
-) -> Result<(), TypeFault>
-    ensures { Answers (λ _. option_map plain_expr e.new) (typed_maybe (typed_condition (plain_scopes scopes.now)) (option_map plain_expr e.old)) result }
+fn type_some_condition(alloc: Global, sight: &Sight, e: &mut Option<Expr>) -> Result<(), TypeFault>
+    ensures { Answers (λ _. option_map plain_expr e.new) (typed_maybe (typed_condition (plain_sight sight.now)) (option_map plain_expr e.old)) result }
 {
     match e {
         None => Ok(()),
-        Some(e) => type_condition(alloc, scopes, e),
+        Some(e) => type_condition(alloc, sight, e),
     }
 }
 
 /// An expression that may be left out.
-fn type_some(alloc: Global, scopes: &Scopes, e: &mut Option<Expr>) -> Result<(), TypeFault>
-    ensures { Answers (λ _. option_map plain_expr e.new) (typed_maybe (typed (plain_scopes scopes.now)) (option_map plain_expr e.old)) result }
+fn type_some(alloc: Global, sight: &Sight, e: &mut Option<Expr>) -> Result<(), TypeFault>
+    ensures { Answers (λ _. option_map plain_expr e.new) (typed_maybe (typed (plain_sight sight.now)) (option_map plain_expr e.old)) result }
 {
     match e {
         None => Ok(()),
-        Some(e) => type_expr(alloc, scopes, e),
+        Some(e) => type_expr(alloc, sight, e),
     }
 }
 
-/// `return` has an expression exactly in a function that isn't void (C99 6.8.6.4).
-fn returned(
+/// The value that `return` gives (C99 6.8.6.4).
+fn return_value(
     alloc: Global,
+    sight: &Sight,
+    place: Place,
+    ctype: &CType,
+    e: &mut Expr,
+) -> Result<(), TypeFault>
+    requires { has_small_sizes (plain_sight sight.now).structs (plain_expr e.old) ≡ true }
+    ensures { Answers (λ _. Return place (Some (plain_expr e.new)))
+        (returned (plain_sight sight.now) place (plain_type ctype.now) (Some (plain_expr e.old))) result }
+{
+    if is_void(ctype) {
+        return Err(no_type(place));
+    }
+    if !is_assigned(sight, e, ctype) {
+        return Err(no_type(place));
+    }
+    in_type(alloc, ctype, e)?;
+    Ok(())
+}
+
+/// `return` has an expression exactly in a function that isn't void (C99 6.8.6.4).
+fn type_return(
+    alloc: Global,
+    sight: &Sight,
     place: Place,
     ctype: &CType,
     e: &mut Option<Expr>,
 ) -> Result<(), TypeFault>
-    ensures { Answers (λ _. Return place (option_map plain_expr e.new)) (returned place (plain_type ctype.now) (option_map plain_expr e.old)) result }
+    ensures { Answers (λ _. Return place (option_map plain_expr e.new))
+        (one_part (typed_maybe (λ e. decayed_of (typed (plain_sight sight.now) e)) (option_map plain_expr e.old))
+        (returned (plain_sight sight.now) place (plain_type ctype.now))) result }
 {
     match e {
         None => {
-            if matches!(ctype, CType::Void) {
+            if is_void(ctype) {
                 Ok(())
             } else {
                 Err(no_type(place))
             }
         }
         Some(e) => {
-            if !is_assigned(&e.ctype, ctype) {
-                return Err(no_type(place));
-            }
-            in_type(alloc, ctype, e)?;
-            Ok(())
+            type_value(alloc, sight, e)?;
+            return_value(alloc, sight, place, ctype, e)
         }
     }
 }
@@ -120,122 +141,129 @@ fn jump(place: Place, around: &Around<'_>) -> Result<(), TypeFault>
     }
 }
 
+/// Types declarations, each in sight behind its declarator.
+fn type_declarations(
+    alloc: Global,
+    sight: &mut Sight,
+    list: &mut Vec<Decl>,
+) -> Result<(), TypeFault>
+    ensures typed { Answers (λ _. map plain_decl list.new.items) (typed_declarations (plain_sight sight.old) (map plain_decl list.old.items)) result }
+    ensures behind { OnOk result (plain_sight sight.new ≡ with_objects (plain_sight sight.old) (map plain_decl list.new.items)) }
+{
+    for i in 0..list.len() {
+        type_variable(alloc, sight, &mut list[i])?;
+    }
+    Ok(())
+}
+
 /// Types a statement, or gives its first fault. What was in sight before is in sight after it.
 #[cycle(statement)]
 pub fn type_statement(
     alloc: Global,
-    scopes: &mut Scopes,
+    sight: &mut Sight,
     around: &Around<'_>,
     s: &mut Stmt,
 ) -> Result<(), TypeFault>
-    ensures typed { Answers (λ _. plain_stmt s.new) (typed_statement (plain_scopes scopes.old) (plain_around around.now) (plain_stmt s.old)) result }
-    ensures same { OnOk result (plain_scopes scopes.new ≡ plain_scopes scopes.old) }
-    ensures file { at_file (plain_scopes scopes.new) ≡ at_file (plain_scopes scopes.old) }
+    ensures typed { Answers (λ _. plain_stmt s.new) (typed_statement (plain_sight sight.old) (plain_around around.now) (plain_stmt s.old)) result }
+    ensures same { OnOk result (plain_sight sight.new ≡ plain_sight sight.old) }
 {
     let place = s.place;
-    type_kind(alloc, scopes, around, place, &mut s.kind)
+    type_kind(alloc, sight, around, place, &mut s.kind)
 }
 
 #[cycle(statement)]
 fn type_kind(
     alloc: Global,
-    scopes: &mut Scopes,
+    sight: &mut Sight,
     around: &Around<'_>,
     place: Place,
     kind: &mut StmtKind,
 ) -> Result<(), TypeFault>
     ensures typed { Answers (λ _. plain_stmt_kind place kind.new)
-        (typed_statement (plain_scopes scopes.old) (plain_around around.now) (plain_stmt_kind place kind.old)) result }
-    ensures same { OnOk result (plain_scopes scopes.new ≡ plain_scopes scopes.old) }
-    ensures file { at_file (plain_scopes scopes.new) ≡ at_file (plain_scopes scopes.old) }
+        (typed_statement (plain_sight sight.old) (plain_around around.now) (plain_stmt_kind place kind.old)) result }
+    ensures same { OnOk result (plain_sight sight.new ≡ plain_sight sight.old) }
 {
     match kind {
         StmtKind::Empty => Ok(()),
-        StmtKind::Eval(e) => type_expr(alloc, scopes, e),
-        StmtKind::Block(items) => type_block(alloc, scopes, around, items),
+        StmtKind::Eval(e) => type_expr(alloc, sight, e),
+        StmtKind::Block(items) => type_block(alloc, sight, around, items),
         StmtKind::If(e, a, b) => {
-            type_condition(alloc, scopes, e)?;
-            type_statement(alloc, scopes, around, a)?;
-            type_else(alloc, scopes, around, b)
+            type_condition(alloc, sight, e)?;
+            type_statement(alloc, sight, around, a)?;
+            type_else(alloc, sight, around, b)
         }
         StmtKind::While(_, e, a) => {
-            type_condition(alloc, scopes, e)?;
+            type_condition(alloc, sight, e)?;
             let inside = in_loop(around);
-            type_statement(alloc, scopes, &inside, a)
+            type_statement(alloc, sight, &inside, a)
         }
         StmtKind::Do(a, e) => {
             let inside = in_loop(around);
-            type_statement(alloc, scopes, &inside, a)?;
-            type_condition(alloc, scopes, e)
+            type_statement(alloc, sight, &inside, a)?;
+            type_condition(alloc, sight, e)
         }
         StmtKind::For(_, first, e, step, a) => {
-            let mark = enter(scopes);
-            type_first(alloc, scopes, around, first)?;
-            type_some_condition(alloc, scopes, e)?;
-            type_some(alloc, scopes, step)?;
+            let mark = enter(sight);
+            type_first(alloc, sight, around, first)?;
+            type_some_condition(alloc, sight, e)?;
+            type_some(alloc, sight, step)?;
             let inside = in_loop(around);
-            type_statement(alloc, scopes, &inside, a)?;
-            leave(scopes, mark);
+            type_statement(alloc, sight, &inside, a)?;
+            leave(sight, mark);
             Ok(())
         }
         StmtKind::Break => jump(place, around),
         StmtKind::Continue => jump(place, around),
-        StmtKind::Return(e) => {
-            type_some(alloc, scopes, e)?;
-            returned(alloc, place, around.result, e)
-        }
+        StmtKind::Return(e) => type_return(alloc, sight, place, around.result, e),
     }
 }
 
 #[cycle(statement)]
 fn type_else(
     alloc: Global,
-    scopes: &mut Scopes,
+    sight: &mut Sight,
     around: &Around<'_>,
     b: &mut Option<Stmt>,
 ) -> Result<(), TypeFault>
-    ensures typed { Answers (λ _. plain_else_part b.new) (typed_else (plain_scopes scopes.old) (plain_around around.now) (plain_else_part b.old)) result }
-    ensures same { OnOk result (plain_scopes scopes.new ≡ plain_scopes scopes.old) }
-    ensures file { at_file (plain_scopes scopes.new) ≡ at_file (plain_scopes scopes.old) }
+    ensures typed { Answers (λ _. plain_else_part b.new) (typed_else (plain_sight sight.old) (plain_around around.now) (plain_else_part b.old)) result }
+    ensures same { OnOk result (plain_sight sight.new ≡ plain_sight sight.old) }
 {
     match b {
         None => Ok(()),
-        Some(a) => type_statement(alloc, scopes, around, a),
+        Some(a) => type_statement(alloc, sight, around, a),
     }
 }
 
 #[cycle(statement)]
 fn type_first(
     alloc: Global,
-    scopes: &mut Scopes,
+    sight: &mut Sight,
     around: &Around<'_>,
     first: &mut Option<Item>,
 ) -> Result<(), TypeFault>
     ensures typed { Answers (λ _. plain_for_first first.new)
-        (typed_first (plain_scopes scopes.old) (plain_around around.now) (plain_for_first first.old)) result }
-    ensures behind { OnOk result (plain_scopes scopes.new ≡ behind_first (plain_scopes scopes.old) (plain_for_first first.new)) }
-    ensures file { at_file (plain_scopes scopes.new) ≡ at_file (plain_scopes scopes.old) }
+        (typed_first (plain_sight sight.old) (plain_around around.now) (plain_for_first first.old)) result }
+    ensures behind { OnOk result (plain_sight sight.new ≡ behind_first (plain_sight sight.old) (plain_for_first first.new)) }
 {
     match first {
         None => Ok(()),
-        Some(i) => type_item(alloc, scopes, around, i),
+        Some(i) => type_item(alloc, sight, around, i),
     }
 }
 
 #[cycle(statement)]
 fn type_item(
     alloc: Global,
-    scopes: &mut Scopes,
+    sight: &mut Sight,
     around: &Around<'_>,
     item: &mut Item,
 ) -> Result<(), TypeFault>
-    ensures typed { Answers (λ _. plain_item item.new) (typed_item (plain_scopes scopes.old) (plain_around around.now) (plain_item item.old)) result }
-    ensures behind { OnOk result (plain_scopes scopes.new ≡ behind (plain_scopes scopes.old) (plain_item item.new)) }
-    ensures file { at_file (plain_scopes scopes.new) ≡ at_file (plain_scopes scopes.old) }
+    ensures typed { Answers (λ _. plain_item item.new) (typed_item (plain_sight sight.old) (plain_around around.now) (plain_item item.old)) result }
+    ensures behind { OnOk result (plain_sight sight.new ≡ behind (plain_sight sight.old) (plain_item item.new)) }
 {
     match item {
-        Item::Declare(list) => type_declarations(alloc, scopes, list),
-        Item::Run(a) => type_statement(alloc, scopes, around, a),
+        Item::Declare(list) => type_declarations(alloc, sight, list),
+        Item::Run(a) => type_statement(alloc, sight, around, a),
         Item::Asserts(_) => Ok(()),
     }
 }
@@ -244,17 +272,16 @@ fn type_item(
 #[cycle(statement)]
 pub fn type_items(
     alloc: Global,
-    scopes: &mut Scopes,
+    sight: &mut Sight,
     around: &Around<'_>,
     items: &mut Vec<Item>,
 ) -> Result<(), TypeFault>
     ensures typed { Answers (λ _. plain_items items.new.items)
-        (typed_items (plain_scopes scopes.old) (plain_around around.now) (plain_items items.old.items)) result }
-    ensures behind { OnOk result (plain_scopes scopes.new ≡ behind_items (plain_scopes scopes.old) (plain_items items.new.items)) }
-    ensures file { at_file (plain_scopes scopes.new) ≡ at_file (plain_scopes scopes.old) }
+        (typed_items (plain_sight sight.old) (plain_around around.now) (plain_items items.old.items)) result }
+    ensures behind { OnOk result (plain_sight sight.new ≡ behind_items (plain_sight sight.old) (plain_items items.new.items)) }
 {
     for i in 0..items.len() {
-        type_item(alloc, scopes, around, &mut items[i])?;
+        type_item(alloc, sight, around, &mut items[i])?;
     }
     Ok(())
 }
@@ -263,17 +290,16 @@ pub fn type_items(
 #[cycle(statement)]
 fn type_block(
     alloc: Global,
-    scopes: &mut Scopes,
+    sight: &mut Sight,
     around: &Around<'_>,
     items: &mut Vec<Item>,
 ) -> Result<(), TypeFault>
     ensures typed { Answers (λ _. plain_items items.new.items)
-        (typed_items (inner (plain_scopes scopes.old)) (plain_around around.now) (plain_items items.old.items)) result }
-    ensures same { OnOk result (plain_scopes scopes.new ≡ plain_scopes scopes.old) }
-    ensures file { at_file (plain_scopes scopes.new) ≡ at_file (plain_scopes scopes.old) }
+        (typed_items (inner (plain_sight sight.old)) (plain_around around.now) (plain_items items.old.items)) result }
+    ensures same { OnOk result (plain_sight sight.new ≡ plain_sight sight.old) }
 {
-    let mark = enter(scopes);
-    type_items(alloc, scopes, around, items)?;
-    leave(scopes, mark);
+    let mark = enter(sight);
+    type_items(alloc, sight, around, items)?;
+    leave(sight, mark);
     Ok(())
 }

@@ -1,15 +1,15 @@
 use Rattle.std.proofs.Common.{◌≡◌, rules}
 use Rattle.c_syntax.specs.declared.annotation.TermKind as term
 use Rattle.c_syntax.specs.Annotations.{plain_term}
-use Rattle.c_model.specs.ProgramTyping.{typed_term}
-use Rattle.c_type_rules.specs.Answers.{Answers}
-use Rattle.c_type_rules.specs.Scopes.{plain_scopes}
+use Rattle.c_model.specs.AnnotationTyping.{typed_term}
+use Rattle.c_expression_rules.specs.Answers.{Answers}
+use Rattle.c_expression_rules.specs.Sights.{plain_sight}
 use Rattle.c_typing.proofs.Chains.{binary_in_place}
 use Rattle.c_typing.proofs.annotation.+term.Goals as goal
 
 pub returns-in-Binary : goal.returns-in-Binary
 returns-in-Binary t c =
-    let s = plain_scopes c.args.scopes.now in
+    let s = plain_sight c.args.sight.now in
     let is : c.args.t.now.kind.value ≡ term.Binary c.in-Binary._op c.in-Binary.a c.in-Binary.b = search rules in
     let ha : Answers (λ (u : Unit {0}). plain_term c.type_term-first.new.t) (typed_term s (plain_term c.in-Binary.a)) c.type_term-first.result = search rules in
     let hb : Answers (λ (u : Unit {0}). plain_term c.type_term-second.new.t) (typed_term s (plain_term c.in-Binary.b)) c.type_term-second.result = search rules in

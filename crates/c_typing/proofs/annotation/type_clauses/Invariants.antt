@@ -1,8 +1,8 @@
 use Rattle.std.proofs.Common.{◌≡◌, ◌≤◌, drop, length, map, take}
 use Rattle.c_syntax.specs.Annotations.{plain_annot}
-use Rattle.c_model.specs.ProgramTyping.{typed_annotations}
-use Rattle.c_type_rules.specs.Scopes.{plain_scopes}
-use Rattle.c_type_rules.proofs.InPlace.{Unvisited}
+use Rattle.c_model.specs.AnnotationTyping.{typed_annotations}
+use Rattle.c_expression_rules.specs.Sights.{plain_sight}
+use Rattle.c_expression_rules.proofs.InPlace.{Unvisited}
 use Rattle.c_typing.proofs.Lists.{behind_parts}
 use Rattle.c_typing.proofs.annotation.type_clauses.Given as goal
 
@@ -10,5 +10,5 @@ abbrev pub invariant-loop-i : goal.invariant-loop-i
 invariant-loop-i l = record {
   unvisited : Unvisited l.annots.items l.initial.annots.items l.i;
   within : l.i ≤ length l.annots.items;
-  typed : typed_annotations (plain_scopes l.scopes) (map plain_annot l.initial.annots.items) ≡ behind_parts (map plain_annot (take l.i l.annots.items)) (typed_annotations (plain_scopes l.scopes) (map plain_annot (drop l.i l.initial.annots.items)));
+  typed : typed_annotations (plain_sight l.sight) (map plain_annot l.initial.annots.items) ≡ behind_parts (map plain_annot (take l.i l.annots.items)) (typed_annotations (plain_sight l.sight) (map plain_annot (drop l.i l.initial.annots.items)));
 }

@@ -1,12 +1,12 @@
 use Rattle.std.proofs.Common.{◌+◌, ◌<◌, rules, arith, length, slice_set, take}
-use Rattle.c_type_rules.specs.Scopes.{plain_scopes}
+use Rattle.c_expression_rules.specs.Sights.{plain_sight}
 use Rattle.c_typing.proofs.Chains.{links_step}
-use Rattle.c_type_rules.proofs.InPlace.{done, seen, unvisited_step, within_step}
+use Rattle.c_expression_rules.proofs.InPlace.{done, seen, unvisited_step, within_step}
 use Rattle.c_typing.proofs.annotation.type_links.Goals as goal
 
 pub loop-i-preserved : goal.loop-i-preserved
 loop-i-preserved c =
-    let s = plain_scopes c.args.scopes.now in
+    let s = plain_sight c.args.sight.now in
     let old = c.args.links.now.items in
     let cur = c.loop-i.links.items in
     let i = c.loop-i.i in

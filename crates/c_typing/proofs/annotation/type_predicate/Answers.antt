@@ -1,15 +1,15 @@
 use Rattle.std.proofs.Common.{◌≡◌, rules}
 use Rattle.c_syntax.specs.declared.annotation.PredKind.TheVariants as code
 use Rattle.c_syntax.specs.Annotations.{plain_term, plain_links}
-use Rattle.c_model.specs.ProgramTyping.{typed_term, typed_links}
-use Rattle.c_type_rules.specs.Answers.{Answers}
-use Rattle.c_type_rules.specs.Scopes.{plain_scopes}
+use Rattle.c_model.specs.AnnotationTyping.{typed_term, typed_links}
+use Rattle.c_expression_rules.specs.Answers.{Answers}
+use Rattle.c_expression_rules.specs.Sights.{plain_sight}
 use Rattle.c_typing.proofs.Chains.{chain_of, chain_in_place}
 use Rattle.c_typing.proofs.annotation.type_predicate.Goals as goal
 
 pub returns : goal.returns
 returns c =
-    let s = plain_scopes c.args.scopes.now in
+    let s = plain_sight c.args.sight.now in
     let x = chain_of c.args.p.now.kind.value in
     let is : c.args.p.now.kind.value ≡ code.Chain x.term x.links = x.is in
     let ha : Answers (λ (u : Unit {0}). plain_term c.type_term-first.new.t) (typed_term s (plain_term x.term)) c.type_term-first.result = search (rules, is) in

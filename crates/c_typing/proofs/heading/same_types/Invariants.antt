@@ -1,7 +1,7 @@
 use Rattle.std.proofs.Common.{◌≡◌, length, map}
 use Rattle.c_syntax.specs.Ctypes.{plain_type}
 use Rattle.c_syntax.specs.Statements.{plain_decl}
-use Rattle.c_model.specs.ProgramTyping.{same_types, types_of}
+use Rattle.c_model.specs.UnitTyping.{same_types, types_of}
 use Rattle.c_typing.proofs.heading.same_types.Given as goal
 
 abbrev pub invariant-turn : goal.invariant-turn

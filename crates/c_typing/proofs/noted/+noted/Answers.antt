@@ -1,28 +1,29 @@
 use Rattle.std.proofs.Common.{◌≡◌, ◌+◌, ◌<◌, ◌≤◌, rules, ap, ◌∙◌, arith, drop, length, slice_set, take}
 use Rattle.c_model.specs.Checked.{Good}
-use Rattle.c_model.specs.Typing.{behind_first, inner}
-use Rattle.c_model.specs.ProgramTyping.{noted_items}
-use Rattle.c_type_rules.specs.Answers.{Answers}
+use Rattle.c_model.specs.ExpressionTyping.{inner}
+use Rattle.c_model.specs.StatementTyping.{behind_first}
+use Rattle.c_model.specs.AnnotationTyping.{noted_items}
+use Rattle.c_expression_rules.specs.Answers.{Answers}
 use Rattle.c_typing.specs.Trees.{plain_for_first}
 use Rattle.c_syntax.specs.Statements.{plain_items}
-use Rattle.c_type_rules.specs.Scopes.{plain_scopes}
+use Rattle.c_expression_rules.specs.Sights.{plain_sight}
 use Rattle.c_typing.proofs.Blocks.{sight_more}
-use Rattle.c_type_rules.proofs.InPlace.{all_done, done, left, none_left, unvisited_step, within_step}
+use Rattle.c_expression_rules.proofs.InPlace.{all_done, done, left, none_left, unvisited_step, within_step}
 use Rattle.c_typing.proofs.NotedStatements.{block_done, block_in_place, block_more}
 use Rattle.c_typing.proofs.Statements.{block_left, for_left}
 use Rattle.c_typing.proofs.noted.+noted.Goals as goal
 
 pub note_block-returns-clause-same : goal.note_block-returns-clause-same
 note_block-returns-clause-same t c =
-    block_left (plain_scopes c.args.scopes.now) (plain_scopes c.enter-mark.new.scopes) (plain_scopes c.note_items.new.scopes) (plain_scopes c.leave.new.scopes) c.enter-mark.result.count
+    block_left (plain_sight c.args.sight.now) (plain_sight c.enter-mark.new.sight) (plain_sight c.note_items.new.sight) (plain_sight c.leave.new.sight) c.enter-mark.result.count
     c.enter-mark.result.innermost c.enter-mark.ensures.inner (ap (λ m. m.count) c.enter-mark.ensures.mark) (ap (λ m. m.innermost) c.enter-mark.ensures.mark) c.leave.ensures
     (plain_items c.note_items.new.items.items) c.in_ok-note_items.ensures.behind
 
 pub note_items-loop-i-preserved : goal.note_items-loop-i-preserved
 note_items-loop-i-preserved t c =
-    let s = plain_scopes c.args.scopes.now in
-    let u = plain_scopes c.loop-i.scopes in
-    let u' = plain_scopes c.note_item.new.scopes in
+    let s = plain_sight c.args.sight.now in
+    let u = plain_sight c.loop-i.sight in
+    let u' = plain_sight c.note_item.new.sight in
     let old = c.args.items.now.items in
     let cur = c.loop-i.items.items in
     let i = c.loop-i.i in
@@ -45,22 +46,22 @@ note_items-returns-clause-noted t c =
     let i = c.loop-i.i in
     let long : length cur ≡ length old = c.loop-i.invariant.unvisited.0 in
     let past : length old ≤ i = search (rules, arith) in
-    block_done (noted_items (plain_scopes c.args.scopes.now) (plain_items old)) (plain_scopes c.loop-i.scopes) (take i cur) (drop i old) c.loop-i.invariant.noted (none_left old i past)
+    block_done (noted_items (plain_sight c.args.sight.now) (plain_items old)) (plain_sight c.loop-i.sight) (take i cur) (drop i old) c.loop-i.invariant.noted (none_left old i past)
     ∙ ap (λ zs. Good (plain_items zs)) (all_done cur i (omega (arith, past, long)))
 
 pub note_kind-returns-in-Block-clause-noted : goal.note_kind-returns-in-Block-clause-noted
 note_kind-returns-in-Block-clause-noted t c = λ at.
-    let s = plain_scopes c.args.scopes.now in
+    let s = plain_sight c.args.sight.now in
     let h : Answers (λ (u : Unit {0}). plain_items c.note_block.new.items.items) (noted_items (inner s) (plain_items c.in-Block.items.items)) c.note_block.result = search rules in
     let whole = block_in_place s at c.args.kind.now c.in-Block.items c.note_block.new.items c.note_block.result c.in-Block.is h in
     search (rules, whole)
 
 pub note_kind-returns-in_ok-note_statement-in-For-clause-same : goal.note_kind-returns-in_ok-note_statement-in-For-clause-same
 note_kind-returns-in_ok-note_statement-in-For-clause-same t c =
-    let sight : plain_scopes c.see_first.new.scopes ≡ behind_first (plain_scopes c.enter-mark.new.scopes) (plain_for_first c.in-For.first) = search rules in
-    for_left (plain_scopes c.args.scopes.now) (plain_scopes c.enter-mark.new.scopes) (plain_scopes c.note_statement-in-For.new.scopes) (plain_scopes c.leave.new.scopes) c.enter-mark.result.count
+    let sight : plain_sight c.see_first.new.sight ≡ behind_first (plain_sight c.enter-mark.new.sight) (plain_for_first c.in-For.first) = search rules in
+    for_left (plain_sight c.args.sight.now) (plain_sight c.enter-mark.new.sight) (plain_sight c.note_statement-in-For.new.sight) (plain_sight c.leave.new.sight) c.enter-mark.result.count
     c.enter-mark.result.innermost c.enter-mark.ensures.inner (ap (λ m. m.count) c.enter-mark.ensures.mark) (ap (λ m. m.innermost) c.enter-mark.ensures.mark) c.leave.ensures
-    c.in-For.first (plain_scopes c.see_first.new.scopes) c.in_ok-note_statement-in-For.ensures.same sight
+    c.in-For.first (plain_sight c.see_first.new.sight) c.in_ok-note_statement-in-For.ensures.same sight
 
 pub note_statement-returns-clause-noted : goal.note_statement-returns-clause-noted
 note_statement-returns-clause-noted t c =

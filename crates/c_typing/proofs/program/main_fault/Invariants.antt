@@ -1,6 +1,6 @@
 use Rattle.std.proofs.Common.{◌≡◌, map, drop}
 use Rattle.c_syntax.specs.Programs.{plain_func}
-use Rattle.c_model.specs.ProgramTyping.{main_fault}
+use Rattle.c_model.specs.UnitTyping.{main_fault}
 use Rattle.c_typing.proofs.program.main_fault.Given as goal
 
 abbrev pub invariant-loop-f : goal.invariant-loop-f

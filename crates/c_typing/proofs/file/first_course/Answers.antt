@@ -1,0 +1,38 @@
+use Rattle.std.proofs.Common.{rules, ◌≡◌, ◌∙◌, ap, sym, map, nat_eq, replicate, length, [], None}
+use Rattle.std.proofs.lemmas.List.{length-map}
+use Rattle.indexmap.specs.IndexMap.{get}
+use Rattle.c_syntax.specs.Programs.{plain_layout, plain_text, plain_program}
+use Rattle.c_expression_rules.specs.Entities.{plain_entities}
+use Rattle.c_expression_rules.specs.Signatures.{plain_signature}
+use Rattle.c_expression_rules.specs.Sights.{plain_type_name}
+use Rattle.c_typing.proofs.file.first_course.Goals as goal
+
+pub returns-clause-first : goal.returns-clause-first
+returns-clause-first c =
+    let p = plain_program c.args.program.now in
+    let names : c.replace.result.items ≡ p.names = search rules in
+    let texts : map plain_text c.replace-2.result.items ≡ p.texts = search rules in
+    let functions : map plain_signature c.new-3.result.signatures.items ≡ [] = search rules in
+    let entities : plain_entities c.new-4.result ≡ [] = search rules in
+    let types : map plain_type_name c.new-5.result.items ≡ [] = search rules in
+    let structs : map plain_layout c.replace-3.result.items ≡ p.structs = search rules in
+    let levels : c.in_ok-levels.levels.items ≡ replicate (length p.structs) 0 = c.in_ok-levels.ensures ∙ ap (λ n. replicate n 0) (ap length c.deref.ensures.value ∙ sym (length-map c.args.program.now.structs.items plain_layout)) in
+    let enums : c.new-7.result.items ≡ [] = search rules in
+    let tags : c.new-8.result.items ≡ [] = search rules in
+    let numbers : get nat_eq c.new-9.result ≡ (λ x. None) = search rules in
+    λ i. record {
+      sight = record {
+        names = names i;
+        texts = texts i;
+        functions = functions i;
+        entities = entities i;
+        innermost = 0;
+        types = types i;
+        structs = structs i;
+        levels = levels i;
+        enum_tags = c.args.enum_tags.items;
+        enums = enums i;
+      };
+      tags = tags i;
+      names = numbers i;
+    }

@@ -1,0 +1,11 @@
+use Rattle.std.proofs.Common.{◌≡◌, length, map}
+use Rattle.c_syntax.specs.Statements.{plain_decl}
+use Rattle.c_model.specs.ExpressionTyping.{with_objects}
+use Rattle.c_expression_rules.specs.Sights.{plain_sight}
+use Rattle.c_typing.proofs.noted.see_objects.Given as goal
+
+abbrev pub invariant-turn : goal.invariant-turn
+invariant-turn l = with_objects (plain_sight l.sight) (map plain_decl l.rest) ≡ with_objects (plain_sight l.initial.sight) (map plain_decl l.list)
+
+abbrev pub decreases-turn : goal.decreases-turn
+decreases-turn l = length l.rest

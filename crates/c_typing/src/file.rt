@@ -1,0 +1,141 @@
+//! Names and types of a file (C99 6.2.1, 6.9).
+
+ghost use Rattle.std.specs.Prelude.{◌≡◌, IfOk, OnOk, length, map, nat_eq, replicate};
+ghost use Rattle.indexmap.specs.IndexMap.{get};
+ghost use Rattle.c_syntax.specs.Programs.{plain_enum, plain_program};
+ghost use Rattle.c_model.specs.UnitTyping.{tags_of, typed_unit};
+ghost use Rattle.c_expression_rules.specs.Answers.{Answers};
+ghost use Rattle.c_expression_rules.specs.Sights.{plain_sight};
+ghost use Rattle.c_typing.specs.Files.{Finished, all_kept, course_at, first_in, items_in_turn, plain_course, plain_file_item, with_sight, without_sight};
+
+use crate::heading::{Callee, denoted};
+use crate::item::{Course, FileItem, type_item};
+use crate::order::{put_items, take_items};
+use c_expression_rules::entities::Entities;
+use c_expression_rules::fault::TypeFault;
+use c_expression_rules::sight::Sight;
+use c_expression_rules::signature::Functions;
+use c_syntax::{EnumDef, Layout, Program};
+use indexmap::IndexMap;
+use std::alloc::{AllocError, Global};
+use std::mem::replace;
+
+/// The tags of enums.
+pub fn tags_of(alloc: Global, enums: &[EnumDef]) -> Result<Vec<u32>, AllocError>
+    ensures { IfOk result (λ v. v.items ≡ tags_of (map plain_enum enums.now)) }
+{
+    let mut tags = Vec::new(alloc);
+    let mut rest = enums;
+    'turn: while let [e, after @ ..] = rest {
+        if let Some(x) = e.tag {
+            tags.push(x)?;
+        }
+        rest = after;
+    }
+    Ok(tags)
+}
+
+/// No level of each struct.
+fn no_levels(alloc: Global, structs: &[Layout]) -> Result<Vec<u32>, AllocError>
+    ensures { IfOk result (λ v. v.items ≡ replicate (length structs.now) 0) }
+{
+    let mut levels = Vec::new(alloc);
+    let mut rest = structs;
+    'turn: while let [_, after @ ..] = rest {
+        levels.push(0)?;
+        rest = after;
+    }
+    Ok(levels)
+}
+
+/// What is known before the first item. The file's names, strings and structs move into what is in sight.
+pub fn first_course(
+    alloc: Global,
+    program: &mut Program,
+    enum_tags: Vec<u32>,
+) -> Result<Course, AllocError>
+    ensures first { IfOk result (λ c. plain_course c ≡ course_at (first_in (plain_program program.old) enum_tags.items)) }
+    ensures left { OnOk result (plain_program program.new ≡ without_sight (plain_program program.old)) }
+{
+    let levels = no_levels(alloc, &program.structs)?;
+    let sight = Sight {
+        names: replace(&mut program.names, Vec::new(alloc)),
+        texts: replace(&mut program.texts, Vec::new(alloc)),
+        functions: Functions::new(alloc),
+        entities: Entities::new(alloc),
+        innermost: 0,
+        types: Vec::new(alloc),
+        structs: replace(&mut program.structs, Vec::new(alloc)),
+        levels,
+        enum_tags,
+        enums: Vec::new(alloc),
+    };
+    Ok(Course {
+        sight,
+        tags: Vec::new(alloc),
+        names: IndexMap::new(alloc),
+    })
+}
+
+/// Gives a file its names, strings and structs back.
+fn give_back(program: &mut Program, course: Course)
+    ensures { plain_program program.new ≡ with_sight (plain_program program.old) (plain_sight course.sight) }
+{
+    let Course { sight, .. } = course;
+    let Sight {
+        names,
+        texts,
+        structs,
+        ..
+    } = sight;
+    program.names = names;
+    program.texts = texts;
+    program.structs = structs;
+}
+
+/// Types items in turn, by what each name of a function denotes.
+fn type_each(
+    alloc: Global,
+    numbers: &IndexMap<u32, Callee>,
+    course: &mut Course,
+    items: &mut Vec<FileItem>,
+) -> Result<(), TypeFault>
+    ensures { Answers (λ _. (plain_course course.new, all_kept (map plain_file_item items.new.items)))
+        (items_in_turn (get nat_eq numbers.now) (plain_course course.old) (map plain_file_item items.old.items)) result }
+{
+    for i in 0..items.len() {
+        type_item(alloc, numbers, course, &mut items[i])?;
+    }
+    Ok(())
+}
+
+/// Gives a file what is typed of it, where no item is refused.
+pub fn finish(
+    program: &mut Program,
+    course: Course,
+    items: Vec<FileItem>,
+    typed: Result<(), TypeFault>,
+) -> Result<(), TypeFault>
+    ensures { Finished typed (plain_program program.old) (plain_sight course.sight) (map plain_file_item items.items) (plain_program program.new) result }
+{
+    match typed {
+        Err(fault) => Err(fault),
+        Ok(()) => {
+            give_back(program, course);
+            put_items(program, items)?;
+            Ok(())
+        }
+    }
+}
+
+/// Types a file: what it declares, in the order of the text.
+pub fn type_unit(alloc: Global, program: &mut Program) -> Result<(), TypeFault>
+    ensures { Answers (λ _. plain_program program.new) (typed_unit (plain_program program.old)) result }
+{
+    let numbers = denoted(alloc, &program.funcs)?;
+    let tags = tags_of(alloc, &program.enums)?;
+    let mut items = take_items(alloc, program)?;
+    let mut course = first_course(alloc, program, tags)?;
+    let typed = type_each(alloc, &numbers, &mut course, &mut items);
+    finish(program, course, items, typed)
+}
